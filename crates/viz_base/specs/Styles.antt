@@ -1,0 +1,67 @@
+use Rattle.std.specs.Prelude.{ℤ, pos, negsuc, ◌^◌, Bool, true, false, nat_le, ◌&&◌, unsigned_abs, List, [], ◌∷◌, ◌++◌, Option, IsTrue}
+use Rattle.std.specs.List.{list_all}
+use Rattle.std.specs.Option.{option_to_list}
+use Rattle.viz_base.specs.declared.lengths.Length.{Length}
+use Rattle.viz_base.specs.declared.lengths.Length.TheVariants as length
+use Rattle.viz_base.specs.declared.lengths.Sides.{Sides}
+use Rattle.viz_base.specs.declared.lengths.Size.{Size}
+use Rattle.viz_base.specs.declared.lengths.Size.TheVariants as size
+use Rattle.viz_base.specs.declared.lengths.LineHeight.{LineHeight}
+use Rattle.viz_base.specs.declared.lengths.LineHeight.TheVariants as line
+use Rattle.viz_base.specs.declared.lengths.Valign.{Valign}
+use Rattle.viz_base.specs.declared.lengths.Valign.TheVariants as valign
+
+-- a percentage is at most 2^40 millionths of a hundredth in size
+abbrev pub is_bounded : Length → Bool
+is_bounded length.Auto = true
+is_bounded (length.Px c) = true
+is_bounded (length.Em k node) = true
+is_bounded (length.Pct p) = nat_le (unsigned_abs p) (2 ^ 40)
+
+-- a length other than `auto`
+abbrev pub is_fixed : Length → Bool
+is_fixed length.Auto = false
+is_fixed (length.Px c) = true
+is_fixed (length.Em k node) = true
+is_fixed (length.Pct p) = true
+
+abbrev pub is_nonnegative : ℤ → Bool
+is_nonnegative (pos n) = true
+is_nonnegative (negsuc n) = false
+
+abbrev pub sides_of : Sides Length → List Length
+sides_of s = s.top ∷ s.right ∷ s.bottom ∷ s.left ∷ []
+
+-- a raise is a length other than `auto`
+abbrev pub is_good_valign : Valign → Bool
+is_good_valign valign.Baseline = true
+is_good_valign valign.Sub = true
+is_good_valign valign.Super = true
+is_good_valign valign.Middle = true
+is_good_valign (valign.Raise raise) = is_fixed raise && is_bounded raise
+
+-- a fraction has a denominator, and no number of a font size is negative
+abbrev pub is_good_size : Size → Bool
+is_good_size size.Same = true
+is_good_size (size.Default num den) = is_nonnegative num && nat_le 1 den
+is_good_size (size.Px c) = is_nonnegative c
+is_good_size (size.Parent num den) = is_nonnegative num && nat_le 1 den
+
+-- the same of a line height
+abbrev pub is_good_line : LineHeight → Bool
+is_good_line (line.Own num den) = is_nonnegative num && nat_le 1 den
+is_good_line (line.Px c) = is_nonnegative c
+is_good_line (line.OfNode node num den) = is_nonnegative num && nat_le 1 den
+
+-- the facts that a style keeps
+pub record IsStyle (width min_width : Length) (max_width : Option Length) (height min_height : Length) (max_height : Option Length)
+    (margin padding border : Sides Length) (size : Size) (line : LineHeight) (valign : Valign) : Type 0 where
+  pub percentages : IsTrue (list_all is_bounded (width ∷ min_width ∷ height ∷ min_height ∷ [])
+      && (list_all is_bounded (option_to_list max_width ++ option_to_list max_height)
+      && list_all is_bounded (sides_of margin ++ (sides_of padding ++ sides_of border))))
+  pub fixed : IsTrue (list_all is_fixed (min_width ∷ min_height ∷ [])
+      && (list_all is_fixed (option_to_list max_width ++ option_to_list max_height)
+      && list_all is_fixed (sides_of padding ++ sides_of border)))
+  pub size_good : IsTrue (is_good_size size)
+  pub line_good : IsTrue (is_good_line line)
+  pub valign_good : IsTrue (is_good_valign valign)
