@@ -6,7 +6,7 @@ use Rattle.viz_base.specs.declared.renderings.Quad.{Quad}
 use Rattle.viz_base.specs.declared.renderings.Placed.{Placed}
 use Rattle.viz_base.specs.declared.renderings.Rendering.{Rendering}
 use Rattle.viz_base.specs.declared.trees.Kind.{Kind}
-use Rattle.viz_base.specs.declared.trees.Kind.TheVariants as kind
+use Rattle.viz_base.specs.declared.trees.Kind.TheVariants as of_kind
 
 -- a number in decimal, after a space
 abbrev pub spaced : ℤ → List ℕ
@@ -23,15 +23,15 @@ print_line word p =
 
 -- a forced break has no line
 abbrev pub print_kind : Kind → Placed ℤ → List ℕ
-print_kind kind.Block p = print_line (codes "block") p
-print_kind kind.Anon p = print_line (codes "anon") p
-print_kind kind.Float p = print_line (codes "float") p
-print_kind kind.Atomic p = print_line (codes "atomic") p
-print_kind kind.Replaced p = print_line (codes "replaced") p
-print_kind kind.Inline p = print_line (codes "inline") p
-print_kind kind.Chars p = print_line (codes "text") p
-print_kind kind.Line p = print_line (codes "line") p
-print_kind kind.Break p = []
+print_kind of_kind.Block p = print_line (codes "block") p
+print_kind of_kind.Anon p = print_line (codes "anon") p
+print_kind of_kind.Float p = print_line (codes "float") p
+print_kind of_kind.Atomic p = print_line (codes "atomic") p
+print_kind of_kind.Replaced p = print_line (codes "replaced") p
+print_kind of_kind.Inline p = print_line (codes "inline") p
+print_kind of_kind.Chars p = print_line (codes "text") p
+print_kind of_kind.Line p = print_line (codes "line") p
+print_kind of_kind.Break p = []
 
 abbrev pub print_box : Placed ℤ → List ℕ
 print_box p = print_kind p.kind p

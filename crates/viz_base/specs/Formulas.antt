@@ -5,14 +5,14 @@ use Rattle.viz_base.specs.declared.formulas.Formula.TheFolds.{fold-Formula}
 use Rattle.viz_base.specs.declared.formulas.Term.{Term}
 use Rattle.viz_base.specs.declared.formulas.Summand.{Summand}
 use Rattle.viz_base.specs.declared.formulas.Edge.{Edge}
-use Rattle.viz_base.specs.declared.formulas.Edge.TheVariants as edge
+use Rattle.viz_base.specs.declared.formulas.Edge.TheVariants as of_edge
 use Rattle.std.specs.List.{list_all}
 
 -- ---- names
 
 -- a name is bound where it is below the number of quantifiers around it
 abbrev pub edge_is_bound : ℕ → Edge → Bool
-edge_is_bound depth (edge.Name name ring face) = nat_lt name depth
+edge_is_bound depth (of_edge.Name name ring face) = nat_lt name depth
 edge_is_bound depth _ = true
 
 abbrev pub term_is_bound : ℕ → Term → Bool
@@ -39,10 +39,10 @@ is_bound_in = fold-Formula (ℕ → Bool) bound_step
 
 -- how large an edge may be
 abbrev pub edge_most : Edge → ℕ
-edge_most edge.One = 1
-edge_most (edge.Name name ring face) = 2 ^ 70
-edge_most edge.ViewWidth = 2 ^ 38
-edge_most edge.ViewHeight = 2 ^ 38
+edge_most of_edge.One = 1
+edge_most (of_edge.Name name ring face) = 2 ^ 70
+edge_most of_edge.ViewWidth = 2 ^ 38
+edge_most of_edge.ViewHeight = 2 ^ 38
 
 abbrev pub summand_most : Summand → ℕ
 summand_most s = unsigned_abs s.times * edge_most s.edge

@@ -2,7 +2,7 @@ use Rattle.std.specs.Prelude.{◌≡◌, ℕ, ◌^◌, ◌≤◌, Bool, true, na
 use Rattle.std.specs.Str.{chars}
 use Rattle.viz_base.specs.declared.worlds.Rect.{Rect}
 use Rattle.viz_base.specs.declared.lengths.Length.{Length}
-use Rattle.viz_base.specs.declared.lengths.Length.TheVariants as length
+use Rattle.viz_base.specs.declared.lengths.Length.TheVariants as of_length
 use Rattle.viz_base.specs.declared.styles.Style.{Style}
 use Rattle.viz_base.specs.declared.trees.BoxNode.{BoxNode}
 use Rattle.viz_base.specs.declared.formulas.Formula.{Formula}
@@ -19,7 +19,7 @@ pub record IsRange (range : Rect) : Type 0 where
 
 -- an absolute length of at most 2^20 units
 abbrev pub is_low : Length → Bool
-is_low (length.Px c) = nat_le (unsigned_abs c) (2 ^ 20)
+is_low (of_length.Px c) = nat_le (unsigned_abs c) (2 ^ 20)
 is_low _ = true
 
 -- the facts that a job keeps

@@ -2,28 +2,28 @@ use Rattle.std.specs.Prelude.{ℤ, pos, negsuc, ◌^◌, Bool, true, false, nat_
 use Rattle.std.specs.List.{list_all}
 use Rattle.std.specs.Option.{option_to_list}
 use Rattle.viz_base.specs.declared.lengths.Length.{Length}
-use Rattle.viz_base.specs.declared.lengths.Length.TheVariants as length
+use Rattle.viz_base.specs.declared.lengths.Length.TheVariants as of_length
 use Rattle.viz_base.specs.declared.lengths.Sides.{Sides}
 use Rattle.viz_base.specs.declared.lengths.Size.{Size}
-use Rattle.viz_base.specs.declared.lengths.Size.TheVariants as size
+use Rattle.viz_base.specs.declared.lengths.Size.TheVariants as of_size
 use Rattle.viz_base.specs.declared.lengths.LineHeight.{LineHeight}
-use Rattle.viz_base.specs.declared.lengths.LineHeight.TheVariants as line
+use Rattle.viz_base.specs.declared.lengths.LineHeight.TheVariants as of_line
 use Rattle.viz_base.specs.declared.lengths.Valign.{Valign}
-use Rattle.viz_base.specs.declared.lengths.Valign.TheVariants as valign
+use Rattle.viz_base.specs.declared.lengths.Valign.TheVariants as of_valign
 
 -- a percentage is at most 2^40 millionths of a hundredth in size
 abbrev pub is_bounded : Length → Bool
-is_bounded length.Auto = true
-is_bounded (length.Px c) = true
-is_bounded (length.Em k node) = true
-is_bounded (length.Pct p) = nat_le (unsigned_abs p) (2 ^ 40)
+is_bounded of_length.Auto = true
+is_bounded (of_length.Px c) = true
+is_bounded (of_length.Em k node) = true
+is_bounded (of_length.Pct p) = nat_le (unsigned_abs p) (2 ^ 40)
 
 -- a length other than `auto`
 abbrev pub is_fixed : Length → Bool
-is_fixed length.Auto = false
-is_fixed (length.Px c) = true
-is_fixed (length.Em k node) = true
-is_fixed (length.Pct p) = true
+is_fixed of_length.Auto = false
+is_fixed (of_length.Px c) = true
+is_fixed (of_length.Em k node) = true
+is_fixed (of_length.Pct p) = true
 
 abbrev pub is_nonnegative : ℤ → Bool
 is_nonnegative (pos n) = true
@@ -34,24 +34,24 @@ sides_of s = s.top ∷ s.right ∷ s.bottom ∷ s.left ∷ []
 
 -- a raise is a length other than `auto`
 abbrev pub is_good_valign : Valign → Bool
-is_good_valign valign.Baseline = true
-is_good_valign valign.Sub = true
-is_good_valign valign.Super = true
-is_good_valign valign.Middle = true
-is_good_valign (valign.Raise raise) = is_fixed raise && is_bounded raise
+is_good_valign of_valign.Baseline = true
+is_good_valign of_valign.Sub = true
+is_good_valign of_valign.Super = true
+is_good_valign of_valign.Middle = true
+is_good_valign (of_valign.Raise raise) = is_fixed raise && is_bounded raise
 
 -- a fraction has a denominator, and no number of a font size is negative
 abbrev pub is_good_size : Size → Bool
-is_good_size size.Same = true
-is_good_size (size.Default num den) = is_nonnegative num && nat_le 1 den
-is_good_size (size.Px c) = is_nonnegative c
-is_good_size (size.Parent num den) = is_nonnegative num && nat_le 1 den
+is_good_size of_size.Same = true
+is_good_size (of_size.Default num den) = is_nonnegative num && nat_le 1 den
+is_good_size (of_size.Px c) = is_nonnegative c
+is_good_size (of_size.Parent num den) = is_nonnegative num && nat_le 1 den
 
 -- the same of a line height
 abbrev pub is_good_line : LineHeight → Bool
-is_good_line (line.Own num den) = is_nonnegative num && nat_le 1 den
-is_good_line (line.Px c) = is_nonnegative c
-is_good_line (line.OfNode node num den) = is_nonnegative num && nat_le 1 den
+is_good_line (of_line.Own num den) = is_nonnegative num && nat_le 1 den
+is_good_line (of_line.Px c) = is_nonnegative c
+is_good_line (of_line.OfNode node num den) = is_nonnegative num && nat_le 1 den
 
 -- the facts that a style keeps
 pub record IsStyle (width min_width : Length) (max_width : Option Length) (height min_height : Length) (max_height : Option Length)

@@ -5,45 +5,45 @@ use Rattle.std.specs.Str.{chars}
 use Rattle.viz_base.specs.Styles.{sides_of}
 use Rattle.viz_base.specs.declared.fonts.Font.{Font}
 use Rattle.viz_base.specs.declared.lengths.Length.{Length}
-use Rattle.viz_base.specs.declared.lengths.Length.TheVariants as length
+use Rattle.viz_base.specs.declared.lengths.Length.TheVariants as of_length
 use Rattle.viz_base.specs.declared.lengths.LineHeight.{LineHeight}
-use Rattle.viz_base.specs.declared.lengths.LineHeight.TheVariants as line
+use Rattle.viz_base.specs.declared.lengths.LineHeight.TheVariants as of_line
 use Rattle.viz_base.specs.declared.lengths.Size.{Size}
-use Rattle.viz_base.specs.declared.lengths.Size.TheVariants as size
+use Rattle.viz_base.specs.declared.lengths.Size.TheVariants as of_size
 use Rattle.viz_base.specs.declared.lengths.Valign.{Valign}
-use Rattle.viz_base.specs.declared.lengths.Valign.TheVariants as valign
+use Rattle.viz_base.specs.declared.lengths.Valign.TheVariants as of_valign
 use Rattle.viz_base.specs.declared.styles.Style.{Style}
 use Rattle.viz_base.specs.declared.trees.Kind.{Kind}
-use Rattle.viz_base.specs.declared.trees.Kind.TheVariants as kind
+use Rattle.viz_base.specs.declared.trees.Kind.TheVariants as of_kind
 use Rattle.viz_base.specs.declared.trees.BoxNode.{BoxNode}
 
 -- ---- kinds of boxes
 
 abbrev pub is_line : Kind → Bool
-is_line kind.Line = true
+is_line of_kind.Line = true
 is_line _ = false
 
 abbrev pub is_replaced : Kind → Bool
-is_replaced kind.Replaced = true
+is_replaced of_kind.Replaced = true
 is_replaced _ = false
 
 -- boxes that hold no other
 abbrev pub is_leaf : Kind → Bool
-is_leaf kind.Chars = true
-is_leaf kind.Break = true
-is_leaf kind.Replaced = true
+is_leaf of_kind.Chars = true
+is_leaf of_kind.Break = true
+is_leaf of_kind.Replaced = true
 is_leaf _ = false
 
 abbrev pub is_inline : Kind → Bool
-is_inline kind.Inline = true
+is_inline of_kind.Inline = true
 is_inline _ = false
 
 abbrev pub is_chars : Kind → Bool
-is_chars kind.Chars = true
+is_chars of_kind.Chars = true
 is_chars _ = false
 
 abbrev pub is_anon : Kind → Bool
-is_anon kind.Anon = true
+is_anon of_kind.Anon = true
 is_anon _ = false
 
 -- ---- boxes
@@ -56,8 +56,8 @@ abbrev pub is_floated : List Style → BoxNode → Bool
 is_floated styles b = by_kind b.kind
   where
     by_kind : Kind → Bool
-    by_kind kind.Float = true
-    by_kind kind.Replaced = option_map_or floats (slice_get styles b.node) false
+    by_kind of_kind.Float = true
+    by_kind of_kind.Replaced = option_map_or floats (slice_get styles b.node) false
     by_kind _ = false
 
 -- inline-level (CSS 2.1, 9.2.2)
@@ -65,11 +65,11 @@ abbrev pub is_inline_level : BoxNode → Bool
 is_inline_level b = by_kind b.kind
   where
     by_kind : Kind → Bool
-    by_kind kind.Inline = true
-    by_kind kind.Chars = true
-    by_kind kind.Break = true
-    by_kind kind.Atomic = true
-    by_kind kind.Replaced = not b.block_level
+    by_kind of_kind.Inline = true
+    by_kind of_kind.Chars = true
+    by_kind of_kind.Break = true
+    by_kind of_kind.Atomic = true
+    by_kind of_kind.Replaced = not b.block_level
     by_kind _ = false
 
 abbrev pub is_block_or_anon : BoxNode → Bool
@@ -104,15 +104,15 @@ holds_one_sort styles boxes b =
 -- ---- nodes
 
 abbrev pub length_nodes : Length → List ℕ
-length_nodes (length.Em k node) = node ∷ []
+length_nodes (of_length.Em k node) = node ∷ []
 length_nodes _ = []
 
 abbrev pub line_nodes : LineHeight → List ℕ
-line_nodes (line.OfNode node num den) = node ∷ []
+line_nodes (of_line.OfNode node num den) = node ∷ []
 line_nodes _ = []
 
 abbrev pub valign_nodes : Valign → List ℕ
-valign_nodes (valign.Raise raise) = length_nodes raise
+valign_nodes (of_valign.Raise raise) = length_nodes raise
 valign_nodes _ = []
 
 abbrev pub maximum_nodes : Option Length → List ℕ
@@ -138,7 +138,7 @@ abbrev pub has_box : List BoxNode → ℕ → Bool
 has_box boxes node = list_any (λ b. b.node == node) boxes
 
 abbrev pub is_same_size : Size → Bool
-is_same_size size.Same = true
+is_same_size of_size.Same = true
 is_same_size _ = false
 
 -- the computed values of two styles are the same, but for the font sizes
