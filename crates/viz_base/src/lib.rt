@@ -10,8 +10,10 @@ mod lists;
 mod memory;
 mod numbers;
 mod renderings;
+mod sheets;
 mod styles;
 mod texts;
+mod tokens;
 mod trees;
 mod worlds;
 
@@ -20,11 +22,46 @@ pub use fonts::Font;
 pub use formulas::{Edge, Face, Formula, Ring, Set, Sign, Summand, Term};
 pub use jobs::Job;
 pub use lengths::{Length, LineHeight, Sides, Size, Valign};
-pub use lists::List;
+pub use lists::{List, Text8};
 pub use memory::Mem;
 pub use numbers::floor_div;
 pub use renderings::{Placed, Quad, Rendering};
+pub use sheets::{Decl, Rule, Sheet};
 pub use styles::{Align, Clear, Display, Side, Style};
 pub use texts::Text;
+pub use tokens::{Token, TokenKind};
 pub use trees::{BoxNode, BoxTree, Kind};
 pub use worlds::{Rect, World};
+
+#[cfg(test)]
+mod tests {
+    use super::*;
+    use std::test::Fail;
+
+    #[test]
+    fn floors(rt: HostRuntime) {
+        for (a, d, floor) in [(7, 2, 3), (-7, 2, -4), (-8, 2, -4), (0, 5, 0), (-1, 64, -1)] {
+            assert_eq!(rt; floor_div(a, d), floor, "{a} by {d}");
+        }
+    }
+
+    #[test]
+    fn holds_values(rt: HostRuntime) -> Result<(), Fail> {
+        let mut list = List::from_slice(rt.alloc(), &[3u32, 1, 2])?;
+        list.push(9)?;
+        list.truncate(2);
+        assert_eq!(rt; list.as_slice(), [3, 1].as_slice());
+        assert_eq!(rt; list.get(1).copied(), Some(1));
+        let mut text = Text::from_text(rt.alloc(), "ab")?;
+        text.push('é')?;
+        text.push_str("!")?;
+        assert_eq!(rt; text.as_str(), "abé!");
+        assert_eq!(rt; text.clone()?.len(), 5);
+        let formula = Formula::Not(Boxed::new(rt.alloc(), Formula::Const(true))?);
+        let Formula::Not(inner) = formula else {
+            return Ok(());
+        };
+        assert_eq!(rt; inner.into_inner(), Formula::Const(true));
+        Ok(())
+    }
+}

@@ -13,6 +13,9 @@ pub struct List<T> {
     items: Vec<T>,
 }
 
+/// Bytes that need not be text.
+pub type Text8 = List<u8>;
+
 impl<T> Model for List<T> {
     ghost use Rattle.std.specs.Prelude.{List as Seq};
     ghost use Rattle.std.specs.Coded.{coded_list};
