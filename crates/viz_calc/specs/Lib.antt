@@ -1,0 +1,4 @@
+pub mod World
+pub mod State
+pub mod Run
+pub mod Plain
