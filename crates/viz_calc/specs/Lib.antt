@@ -2,3 +2,4 @@ pub mod World
 pub mod State
 pub mod Run
 pub mod Plain
+pub mod Renderings
