@@ -1,0 +1,4 @@
+mod PlainLemmas
+mod Floors
+pub mod Runs
+pub mod Smalls

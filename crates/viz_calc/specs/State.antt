@@ -1,0 +1,66 @@
+use Rattle.std.specs.Prelude.{◌≡◌, ◌-◌, ◌<◌, ◌≤◌, ◌⊎◌, ◌^◌, ℕ, ℤ, Bool, false, IsTrue, unsigned_abs, List, [], ◌∷◌, Result, IfErr}
+use Rattle.viz_calc.specs.World.{Reading}
+use Rattle.viz_base.specs.declared.worlds.World.{World}
+use Rattle.viz_calc.specs.declared.calc.Halt.{Halt}
+use Rattle.viz_calc.specs.declared.calc.Halt.TheVariants.{Mem, Coeff, Open}
+
+-- what a calc is, for a proof
+pub record State : Type 0 where
+  pub is_open : Reading → Bool
+  pub lean : Bool
+  pub coeffs : ℕ
+  pub opens : ℕ
+
+-- the number has this value at each reading that is open
+abbrev pub Stands : State → (Reading → ℤ) → (Reading → ℤ) → Type 0
+Stands s n f = (e : Reading) → IsTrue (s.is_open e) → n e ≡ f e
+
+-- the world is open: it has a reading that is
+pub record IsOpenWorld (s : State) (w : World) : Type 0 where
+  pub reading : Reading
+  pub world : reading.world ≡ w
+  pub is_open : IsTrue (s.is_open reading)
+
+-- no world was closed
+pub record KeepsWorlds (old new : State) : Type 0 where
+  pub keeps : (w : World) → IsOpenWorld old w → IsOpenWorld new w
+
+-- nothing that was known is lost
+pub record Grows (old new : State) : Type 0 where
+  pub closes : (e : Reading) → IsTrue (new.is_open e) → IsTrue (old.is_open e)
+  pub lean : new.lean ≡ old.lean
+  pub coeffs : old.coeffs ≤ new.coeffs
+  pub opens : old.opens ≤ new.opens
+
+-- a count rose, or stands at its end
+abbrev pub Rose : ℕ → ℕ → Type 0
+Rose old new = (old < new) ⊎ (new ≡ 2 ^ 64 - 1)
+
+-- the number is at most 2^100 in size
+abbrev pub IsSmall : ℤ → Type 0
+IsSmall z = unsigned_abs z ≤ 2 ^ 100
+
+-- each of these is
+abbrev pub AllSmall : List ℤ → Type 0
+AllSmall [] = Unit {0}
+AllSmall (z ∷ zs) = IsSmall z × AllSmall zs
+
+-- at each open reading these are at most 2^100 in size
+abbrev pub Fits : State → (Reading → List ℤ) → Type 0
+Fits s parts = (e : Reading) → IsTrue (s.is_open e) → AllSmall (parts e)
+
+-- why a call may halt, given that what it computes fits
+abbrev pub Cause : State → State → Type 0 → Halt → Type 0
+Cause old new fits Mem = old.lean ≡ false
+Cause old new fits Coeff = fits → Rose old.coeffs new.coeffs
+Cause old new fits Open = Rose old.opens new.opens
+
+-- the same, where memory may run out at any time
+abbrev pub CauseButMem : State → State → Type 0 → Halt → Type 0
+CauseButMem old new fits Mem = Unit {0}
+CauseButMem old new fits Coeff = fits → Rose old.coeffs new.coeffs
+CauseButMem old new fits Open = Rose old.opens new.opens
+
+-- the answer is not `Open`: only a comparison can be left open
+abbrev pub IsDecided : {A : Type 0} → Result A Halt → Type 0
+IsDecided r = IfErr r (λ h. h ≡ Open → ⊥)
