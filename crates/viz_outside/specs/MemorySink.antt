@@ -24,12 +24,12 @@ fails_next s piece = (nat_le s.room (length s.bytes) && nat_lt 0 (length piece))
 
 -- what the next call answers
 abbrev pub answer_of : SinkState → List ℕ → Result ℕ SinkFailed
-answer_of s piece = if fails_next s piece then Err (record { }) else Ok (share s piece)
+answer_of s piece = if fails_next s piece then Err (record {}) else Ok (share s piece)
 
 -- what the next call leaves
 abbrev pub after_write : SinkState → List ℕ → SinkState
 after_write s piece = record s {
   bytes = if fails_next s piece then s.bytes else s.bytes ++ take (share s piece) piece;
   calls = raised s.calls;
-  faults = if fails_next s piece then raised s.faults else s.faults
+  faults = if fails_next s piece then raised s.faults else s.faults;
 }

@@ -72,11 +72,7 @@ fn read_within<F: Read>(alloc: Global, file: &mut F, cap: usize) -> Result<Loade
     Err(ShelfFault::Failed)
 }
 
-fn read_file<R: Files + AllocGlobal>(
-    rt: &R,
-    name: &str,
-    cap: usize,
-) -> Result<Loaded, ShelfFault>
+fn read_file<R: Files + AllocGlobal>(rt: &R, name: &str, cap: usize) -> Result<Loaded, ShelfFault>
     ensures { IfOk result (λ loaded. length (bytes_of loaded) ≤ cap) }
 {
     match fs::open(rt, name) {

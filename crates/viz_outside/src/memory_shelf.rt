@@ -3,7 +3,7 @@ ghost use Rattle.std.specs.List.{list_any};
 ghost use Rattle.viz_outside.specs.declared.shelf.ShelfFault.TheVariants.{Mem, Failed};
 ghost use Rattle.viz_outside.specs.Fault.{Rose};
 ghost use Rattle.viz_outside.specs.Shelf.{bytes_of, loaded_of};
-ghost use Rattle.viz_outside.specs.MemoryShelf.{ShelfState, bytes_at, file_of, answer_of, after_load, is_sure};
+ghost use Rattle.viz_outside.specs.MemoryShelf.{ShelfState, bytes_at, file_of, answer_at, answer_of, counted, Answers, after_load, is_sure};
 
 use crate::calls::lists_call;
 use crate::{Loaded, Shelf, ShelfFault};
@@ -55,7 +55,7 @@ fn find<'a>(files: &'a [(Text, Text8)], name: &str) -> Option<&'a [u8]>
 
 // A copy of what the file of the name gives.
 fn copy(files: &List<(Text, Text8)>, name: &str, cap: usize) -> Result<Loaded, ShelfFault>
-    ensures { (result ≡ Err Mem) ⊎ (result ≡ file_of files.now name.now cap) }
+    ensures { Answers result (file_of files.now name.now cap) }
 {
     match find(files.as_slice(), name) {
         None => Err(ShelfFault::Failed),
@@ -67,6 +67,32 @@ fn copy(files: &List<(Text, Text8)>, name: &str, cap: usize) -> Result<Loaded, S
     }
 }
 
+// What the call of this number answers.
+fn call(
+    files: &List<(Text, Text8)>,
+    fails: &[u32],
+    number: u64,
+    name: &str,
+    cap: usize,
+) -> Result<Loaded, ShelfFault>
+    ensures { Answers result (answer_at files.now fails.now number name.now cap) }
+{
+    if lists_call(fails, number) {
+        return Err(ShelfFault::Failed);
+    }
+    copy(files, name, cap)
+}
+
+// The count of faults after an answer.
+fn counted(faults: u64, answer: &Result<Loaded, ShelfFault>) -> u64
+    ensures { result ≡ counted faults answer.now }
+{
+    match answer {
+        Err(ShelfFault::Failed) => faults.saturating_add(1),
+        _ => faults,
+    }
+}
+
 impl Shelf for MemShelf {
     ghost files = { λ s. Some (bytes_at s.files) };
 
@@ -75,19 +101,17 @@ impl Shelf for MemShelf {
     ghost sure = { is_sure };
 
     fn load(&mut self, name: &str, cap: usize) -> Result<Loaded, ShelfFault>
-        ensures answer { (result ≡ Err Mem) ⊎ (result ≡ answer_of self.old name.now cap) }
+        ensures answer { Answers result (answer_of self.old name.now cap) }
         ensures after { self.new ≡ after_load self.old name.now cap }
+        ensures counts { self.old.faults ≤ self.new.faults }
+        ensures sure_loads { IsTrue (is_sure self.old name.now) → ¬ IsErrOf result Failed }
+        ensures sure_counts { IsTrue (is_sure self.old name.now) → self.new.faults ≡ self.old.faults }
+        ensures stays_sure { (other : List ℕ) → IsTrue (is_sure self.old other) → IsTrue (is_sure self.new other) }
     {
         let number = self.calls;
+        let answer = call(&self.files, self.fails.as_slice(), number, name, cap);
         self.calls = number.saturating_add(1);
-        let answer = if lists_call(self.fails.as_slice(), number) {
-            Err(ShelfFault::Failed)
-        } else {
-            copy(&self.files, name, cap)
-        };
-        if let Err(ShelfFault::Failed) = answer {
-            self.faults = self.faults.saturating_add(1);
-        }
+        self.faults = counted(self.faults, &answer);
         answer
     }
 }

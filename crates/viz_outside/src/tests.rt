@@ -1,11 +1,16 @@
-use crate::{FileShelf, Loaded, MemShelf, MemSink, OutSink, Shelf, ShelfFault, Sink, SinkFailed, write_all};
+use crate::{
+    FileShelf, Loaded, MemShelf, MemSink, OutSink, Shelf, ShelfFault, Sink, SinkFailed, write_all,
+};
 use std::alloc::{AllocError, Global};
 use std::fs;
 use viz_base::{List, Text, Text8};
 
 fn two_files(alloc: Global) -> Result<List<(Text, Text8)>, AllocError> {
     let mut files = List::new(alloc);
-    files.push((Text::from_text(alloc, "a")?, List::from_slice(alloc, b"one")?))?;
+    files.push((
+        Text::from_text(alloc, "a")?,
+        List::from_slice(alloc, b"one")?,
+    ))?;
     files.push((Text::from_text(alloc, "b")?, List::new(alloc)))?;
     Ok(files)
 }
