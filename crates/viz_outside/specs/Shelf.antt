@@ -1,11 +1,7 @@
 -- What a load gives of a file.
-use Rattle.std.specs.Prelude.{ℕ, List, [], Option, length, nat_le, if◌then◌else◌}
+use Rattle.std.specs.Prelude.{ℕ, List, [], length, nat_le, if◌then◌else◌}
 use Rattle.viz_outside.specs.declared.shelf.Loaded.{Loaded}
 use Rattle.viz_outside.specs.declared.shelf.Loaded.TheVariants.{Whole, Longer}
-
--- files by name
-abbrev pub Files : Type 0
-Files = List ℕ → Option (List ℕ)
 
 -- all the bytes of a file, where they are at most cap, and else that it is longer
 abbrev pub loaded_of : ℕ → List ℕ → Loaded

@@ -1,26 +1,36 @@
-ghost use Rattle.std.specs.Prelude.{◌≡◌, ◌≤◌, ◌+◌, ◌<◌, IfOk, None, false, length, vec_len};
+ghost use Rattle.std.specs.Prelude.{◌≡◌, ◌≤◌, IfOk, None, false, length};
 ghost use Rattle.viz_outside.specs.Shelf.{bytes_of};
 
 use crate::{Loaded, Shelf, ShelfFault};
 use std::alloc::Global;
 use std::fs;
 use std::io::{self, ErrorKind, Read};
+use std::marker::Model;
 use std::rt::Files;
 use viz_base::List;
 
 const CHUNK: usize = 4096;
 
 /// The files of the system, by their paths. What they hold is told by no contract, and none is sure to load.
+/// Contracts see the count of its faults.
 #[derive(Drop)]
 pub struct FileShelf<R> {
     rt: R,
     faults: u64,
 }
 
+impl<R> Model for FileShelf<R> {
+    ghost use Rattle.std.specs.Prelude.{ℕ};
+
+    ghost Value = { ℕ };
+
+    ghost view = { λ s. s.faults };
+}
+
 impl<R> FileShelf<R> {
     /// The files that the runtime sees, with no fault so far.
     pub fn new(rt: R) -> Self
-        ensures { result.faults ≡ 0 }
+        ensures { result ≡ 0 }
     {
         FileShelf { rt, faults: 0 }
     }
@@ -49,7 +59,11 @@ fn fault_of(error: &io::Error) -> ShelfFault {
 }
 
 // Reads to the end, or one byte past `cap`, which shows that there are more.
-fn read_within<F: Read>(alloc: Global, file: &mut F, cap: usize) -> Result<Loaded, ShelfFault>
+pub(crate) fn read_within<F: Read>(
+    alloc: Global,
+    file: &mut F,
+    cap: usize,
+) -> Result<Loaded, ShelfFault>
     ensures { IfOk result (λ loaded. length (bytes_of loaded) ≤ cap) }
 {
     let mut bytes = Vec::new(alloc);
@@ -84,7 +98,7 @@ fn read_file<R: Files + AllocGlobal>(rt: &R, name: &str, cap: usize) -> Result<L
 impl<R: Files + AllocGlobal> Shelf for FileShelf<R> {
     ghost files = { λ _. None };
 
-    ghost faults = { λ s. s.faults };
+    ghost faults = { λ s. s };
 
     ghost sure = { λ _ _. false };
 

@@ -1,9 +1,6 @@
-ghost use Rattle.std.specs.Prelude.{◌≡◌, ◌≤◌, ◌⊎◌, ◌==◌, [], ℕ, List, IfOk, IfSome, IsErrOf, IsTrue, Some, Err, length, option_map, option_copied};
-ghost use Rattle.std.specs.List.{list_any};
-ghost use Rattle.viz_outside.specs.declared.shelf.ShelfFault.TheVariants.{Mem, Failed};
-ghost use Rattle.viz_outside.specs.Fault.{Rose};
-ghost use Rattle.viz_outside.specs.Shelf.{bytes_of, loaded_of};
-ghost use Rattle.viz_outside.specs.MemoryShelf.{ShelfState, bytes_at, file_of, answer_at, answer_of, counted, Answers, after_load, is_sure};
+ghost use Rattle.std.specs.Prelude.{◌≡◌, ◌≤◌, ℕ, List, IsErrOf, IsTrue, Some, option_map};
+ghost use Rattle.viz_outside.specs.declared.shelf.ShelfFault.TheVariants.{Failed};
+ghost use Rattle.viz_outside.specs.MemoryShelf.{bytes_at, file_of, answer_at, answer_of, counted, Answers, after_load, is_sure};
 
 use crate::calls::lists_call;
 use crate::{Loaded, Shelf, ShelfFault};

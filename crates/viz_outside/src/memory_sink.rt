@@ -1,8 +1,6 @@
-ghost use Rattle.std.specs.Prelude.{◌≡◌, ◌≤◌, ◌<◌, ◌==◌, [], ℕ, List, IfOk, OnErr, Some, Ok, length, take, vec_len, vec_capacity};
-ghost use Rattle.std.specs.List.{list_any};
+ghost use Rattle.std.specs.Prelude.{◌≡◌, ◌≤◌, ◌<◌, [], IfOk, Some, Ok, length};
 ghost use Rattle.viz_outside.specs.Fault.{Rose};
-ghost use Rattle.viz_outside.specs.Sink.{grown};
-ghost use Rattle.viz_outside.specs.MemorySink.{SinkState, answer_of, after_write};
+ghost use Rattle.viz_outside.specs.MemorySink.{answer_of, after_write};
 
 use crate::calls::lists_call;
 use crate::{Sink, SinkFailed};

@@ -1,20 +1,28 @@
-ghost use Rattle.std.specs.Prelude.{◌≡◌, ◌≤◌, ◌<◌, IfOk, None, length};
-ghost use Rattle.viz_outside.specs.Fault.{raised};
+ghost use Rattle.std.specs.Prelude.{◌≡◌, ◌≤◌, None, length};
 
 use crate::{Sink, SinkFailed};
 use std::io::{ErrorKind, Print};
+use std::marker::Model;
 
-/// Standard output. What it has taken is told by no contract.
+/// Standard output. What it has taken is told by no contract. Contracts see the count of its faults.
 #[derive(Drop)]
 pub struct OutSink<R> {
     rt: R,
     faults: u64,
 }
 
+impl<R> Model for OutSink<R> {
+    ghost use Rattle.std.specs.Prelude.{ℕ};
+
+    ghost Value = { ℕ };
+
+    ghost view = { λ s. s.faults };
+}
+
 impl<R> OutSink<R> {
     /// The standard output of the runtime, with no fault so far.
     pub fn new(rt: R) -> Self
-        ensures { result.faults ≡ 0 }
+        ensures { result ≡ 0 }
     {
         OutSink { rt, faults: 0 }
     }
@@ -42,7 +50,7 @@ fn put<R: Print>(rt: &R, bytes: &[u8]) -> usize
 impl<R: Print> Sink for OutSink<R> {
     ghost written = { λ _. None };
 
-    ghost faults = { λ s. s.faults };
+    ghost faults = { λ s. s };
 
     fn write(&mut self, bytes: &[u8]) -> Result<usize, SinkFailed> {
         let taken = put(&self.rt, bytes);

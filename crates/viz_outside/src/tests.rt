@@ -1,8 +1,14 @@
+ghost use Rattle.std.specs.Prelude.{◌≤◌, IfOk};
+
+use crate::file_shelf::read_within;
 use crate::{
     FileShelf, Loaded, MemShelf, MemSink, OutSink, Shelf, ShelfFault, Sink, SinkFailed, write_all,
 };
 use std::alloc::{AllocError, Global};
+use std::cell::Cell;
+use std::fmt::Display;
 use std::fs;
+use std::io::{self, ErrorKind, Print, Read};
 use viz_base::{List, Text, Text8};
 
 fn two_files(alloc: Global) -> Result<List<(Text, Text8)>, AllocError> {
@@ -19,7 +25,7 @@ fn whole(alloc: Global, bytes: &[u8]) -> Result<Loaded, AllocError> {
     Ok(Loaded::Whole(List::from_slice(alloc, bytes)?))
 }
 
-/// Loads through the trait alone, as callers do.
+// Loads through the trait alone, as callers do.
 fn ask<F: Shelf>(shelf: &mut F, name: &str, cap: usize) -> Result<Loaded, ShelfFault> {
     shelf.load(name, cap)
 }
@@ -54,6 +60,50 @@ fn bytes_in_memory(rt: HostRuntime) -> Result<(), AllocError> {
     Ok(())
 }
 
+// A reader and an output that are cut short and interrupted, and then fail: one answer a call.
+#[derive(Drop)]
+struct Fitful {
+    calls: Cell<u32>,
+}
+
+impl Fitful {
+    fn answer(&self, len: usize) -> io::Result<usize>
+        ensures { IfOk result (λ n. n ≤ len) }
+    {
+        let call = self.calls.get();
+        self.calls.set(call.saturating_add(1));
+        match call {
+            0 | 2 => Err(ErrorKind::Interrupted.into()),
+            1 | 3 => Ok(len.min(2)),
+            _ => Err(ErrorKind::BrokenPipe.into()),
+        }
+    }
+}
+
+impl Read for Fitful {
+    fn read(&mut self, buf: &mut [u8]) -> io::Result<usize> {
+        self.answer(buf.len())
+    }
+}
+
+impl Print for Fitful {
+    fn print<D: Display + Drop>(&self, _value: D) -> io::Result<()> {
+        Ok(())
+    }
+
+    fn println<D: Display + Drop>(&self, _value: D) -> io::Result<()> {
+        Ok(())
+    }
+
+    fn write_all(&self, _bytes: &[u8]) -> io::Result<()> {
+        Ok(())
+    }
+
+    fn write_some(&self, bytes: &[u8]) -> io::Result<usize> {
+        self.answer(bytes.len())
+    }
+}
+
 #[test]
 fn files_of_the_system(rt: HostRuntime) -> Result<(), AllocError> {
     let alloc = rt.alloc();
@@ -64,6 +114,14 @@ fn files_of_the_system(rt: HostRuntime) -> Result<(), AllocError> {
     assert!(rt; ask(&mut shelf, name, 4) == Ok(Loaded::Longer));
     assert!(rt; fs::remove_file(&rt, name).is_ok());
     assert!(rt; ask(&mut shelf, name, 5) == Err(ShelfFault::Failed));
+    let mut fitful = Fitful {
+        calls: Cell::new(0),
+    };
+    assert!(rt; read_within(alloc, &mut fitful, 3) == Ok(Loaded::Longer));
+    let mut fitful = Fitful {
+        calls: Cell::new(0),
+    };
+    assert!(rt; read_within(alloc, &mut fitful, 4) == Err(ShelfFault::Failed));
     Ok(())
 }
 
@@ -71,5 +129,11 @@ fn files_of_the_system(rt: HostRuntime) -> Result<(), AllocError> {
 fn standard_output(rt: HostRuntime) -> Result<(), AllocError> {
     let mut sink = OutSink::new(rt.clone()?);
     assert!(rt; write_all(&mut sink, b"written to the standard output\n") == Ok(()));
+    let mut sink = OutSink::new(Fitful {
+        calls: Cell::new(0),
+    });
+    assert!(rt; sink.write(b"") == Ok(0));
+    assert!(rt; sink.write(b"abcde") == Ok(4));
+    assert!(rt; sink.write(b"e") == Err(SinkFailed));
     Ok(())
 }
