@@ -1,4 +1,4 @@
-use Rattle.std.proofs.Common.{◌≤◌, ◌-◌, length, take, drop, arith, length-drop, length-take}
+use Rattle.std.proofs.Common.{arith, length-drop}
 use Rattle.std.proofs.lemmas.List.{take_rest}
 use Rattle.viz_outside.proofs.SinkLemmas.{grown-further}
 use Rattle.viz_outside.proofs.sink.write_all.Goals as goal

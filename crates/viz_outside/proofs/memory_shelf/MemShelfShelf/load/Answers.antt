@@ -1,5 +1,4 @@
-use Rattle.std.proofs.Common.{◌≡◌, ◌&&◌, true, is_some, refl, arith}
-use Rattle.std.specs.List.{list_all}
+use Rattle.std.proofs.Common.{refl, arith}
 use Rattle.viz_outside.specs.MemoryShelf.{ShelfState}
 use Rattle.viz_outside.proofs.CallLemmas.{sure_gives, not_failed, not_counted, stays_sure}
 use Rattle.viz_outside.proofs.memory_shelf.MemShelfShelf.load.Goals as goal
