@@ -1,0 +1,5 @@
+pub mod Fault
+pub mod Shelf
+pub mod Sink
+pub mod MemoryShelf
+pub mod MemorySink
