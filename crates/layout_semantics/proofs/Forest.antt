@@ -22,7 +22,7 @@ pub record IsForest (boxes : List BoxNode) : Type 0 where
   pub kids : (at : ℕ) → AllByRecursion (IsKid boxes at) (kids_of boxes at)
   pub rising : (at : ℕ) → IsTrue (ascends at (kids_of boxes at))
 
-both : (a b : Bool) → IsTrue (a && b) → IsTrue a × IsTrue b
+pub both : (a b : Bool) → IsTrue (a && b) → IsTrue a × IsTrue b
 both true b t = (refl, t)
 both false b t = absurd (cc)
 
