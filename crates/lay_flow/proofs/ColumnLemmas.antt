@@ -12,7 +12,8 @@ use Rattle.layout_semantics.proofs.Orders.{document_order-is}
 use Rattle.lay_flow.specs.Walks.{stacked, walk}
 use Rattle.lay_flow.specs.Columns.{AreInside, AllInside, column_walk, pending, column_weight, weight}
 use Rattle.lay_flow.specs.declared.engine.Column.{Column}
-use Rattle.lay_flow.proofs.WalkLemmas.{walk-is, forest}
+use Rattle.lay_flow.proofs.WalkLemmas.{walk-is}
+use Rattle.layout_semantics.proofs.Pages.{forest}
 
 -- ---- places
 

@@ -10,7 +10,7 @@ use Rattle.layout_semantics.specs.Blocks.{top_of}
 use Rattle.layout_semantics.specs.Limits.{IsSmallPage}
 use Rattle.layout_semantics.proofs.Sizes.{height_low, top_low, bottom_low}
 use Rattle.lay_flow.specs.Walks.{block_parts, layout_parts, pair}
-use Rattle.lay_flow.proofs.WalkLemmas.{forest}
+use Rattle.layout_semantics.proofs.Pages.{forest}
 
 block_fits : (tree : BoxTree) (w : World) (at : ℕ) → IsSmallPage tree → w.w ≤ 16384 → AllSmall (block_parts tree w (pair at (top_of tree at)))
 block_fits tree w at small narrow =

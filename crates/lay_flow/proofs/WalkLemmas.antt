@@ -1,6 +1,5 @@
-use Rattle.std.proofs.Common.{◌≡◌, ℕ, zero, suc, ◌+◌, ◌<◌, ◌≤◌, ℤ, pos, ◌+ℤ◌, List, [], ◌∷◌, ◌++◌, length, map, None, Some, Option, slice_get, refl, sym, ap, ◌∙◌, arith, append_assoc}
+use Rattle.std.proofs.Common.{◌≡◌, ℕ, zero, suc, ◌+◌, ◌<◌, ◌≤◌, ℤ, pos, ◌+ℤ◌, List, [], ◌∷◌, ◌++◌, length, map, None, refl, sym, ap, ◌∙◌, arith, append_assoc}
 use Rattle.std.specs.List.{flat_map, AllByRecursion}
-use Rattle.std.specs.Option.{option_and_then}
 use Rattle.std.proofs.lemmas.Int.{ints}
 use Rattle.std.proofs.lemmas.List.{map-append, append-nil}
 use Rattle.std.proofs.lemmas.List.Folds.{flat_map-map}
@@ -9,7 +8,8 @@ use Rattle.viz_base.specs.declared.trees.BoxTree.{BoxTree}
 use Rattle.viz_base.specs.declared.worlds.World.{World}
 use Rattle.layout_semantics.specs.Order.{kids_of, order_to, document_order, roots, page_order}
 use Rattle.layout_semantics.specs.Blocks.{height_of, heights, parent_of, top_of, placed_block}
-use Rattle.layout_semantics.proofs.Forest.{IsForest, IsKid, IsForest-from}
+use Rattle.layout_semantics.proofs.Forest.{IsForest, IsKid}
+use Rattle.layout_semantics.proofs.Pages.{forest, root-alone}
 use Rattle.layout_semantics.proofs.Tops.{IsSettled, IsSettled-root, IsSettled-kid, top_of-root, heights-append, kid-top}
 use Rattle.lay_flow.specs.Walks.{stacked, walk_to, walk, block_at, block_parts, layout_parts}
 
@@ -71,16 +71,6 @@ walk-order tree t r = by_boxes tree.boxes refl
     by_boxes (b ∷ bs) e =
         let root = walk_to-order (length tree.boxes) tree 0 (pos 0) t (IsSettled-root tree 0 r) (sym (top_of-root tree 0 r)) in
         simp append-nil root
-
-root-alone : (tree : BoxTree) → parent_of tree.boxes 0 ≡ None
-root-alone tree = by_box (slice_get tree.boxes 0) refl
-  where
-    by_box : (o : Option BoxNode) → slice_get tree.boxes 0 ≡ o → option_and_then (λ (b : BoxNode). b.parent) o ≡ None
-    by_box None e = refl
-    by_box (Some b) e = tree.ok.root b e
-
-pub forest : (tree : BoxTree) → IsForest tree.boxes
-forest tree = IsForest-from tree.boxes tree.styles tree.fonts tree.parents tree.ok
 
 map-place : (tree : BoxTree) (w : World) (xs : List ℕ) → map (block_at tree w) (map (place_of tree) xs) ≡ map (placed_block tree w) xs
 map-place tree w [] = refl

@@ -1,5 +1,4 @@
-use Rattle.std.proofs.Common.{◌≡◌, ℕ, zero, suc, ◌+◌, ◌*◌, ◌^◌, ◌<◌, ◌≤◌, Bool, true, false, nat_lt, nat_le, ℤ, pos, ◌+ℤ◌, unsigned_abs, List, [], ◌∷◌, length, filter, slice_get, Option, None, Some, IsTrue, cond, refl, sym, ap, ◌∙◌, arith}
-use Rattle.std.specs.Prelude.{◌&&◌}
+use Rattle.std.proofs.Common.{◌≡◌, ℕ, zero, suc, ◌+◌, ◌*◌, ◌^◌, ◌<◌, ◌≤◌, Bool, true, false, nat_lt, ℤ, pos, ◌+ℤ◌, unsigned_abs, List, [], ◌∷◌, length, filter, slice_get, Option, None, Some, IsTrue, cond, refl, arith}
 use Rattle.std.specs.List.{AllByRecursion}
 use Rattle.std.specs.Option.{option_map_or, option_and_then}
 use Rattle.std.proofs.lemmas.Bool.Decides.{nat_tests}
@@ -12,7 +11,7 @@ use Rattle.viz_base.specs.declared.styles.Style.{Style}
 use Rattle.viz_base.specs.declared.trees.BoxNode.{BoxNode}
 use Rattle.viz_base.specs.declared.trees.BoxTree.{BoxTree}
 use Rattle.layout_semantics.specs.Order.{kids_of}
-use Rattle.layout_semantics.specs.Blocks.{absolute, height_of, heights, earlier, parent_of, style_of, top_to, top_of, bottom_of}
+use Rattle.layout_semantics.specs.Blocks.{absolute, height_of, heights, earlier, parent_of, top_to, top_of, bottom_of}
 use Rattle.layout_semantics.specs.Limits.{IsSmallPage}
 use Rattle.layout_semantics.proofs.Forest.{IsForest, IsKid, both}
 

@@ -2,6 +2,7 @@
 #![tactic(auto)]
 
 mod bounds;
+mod laws;
 mod order;
 
 pub use bounds::{edges_are_bounded, the_page_of_a_job_is_small};
