@@ -22,7 +22,7 @@ pub record IsForest (boxes : List BoxNode) : Type 0 where
   pub kids : (at : ℕ) → AllByRecursion (IsKid boxes at) (kids_of boxes at)
   pub rising : (at : ℕ) → IsTrue (ascends at (kids_of boxes at))
 
-both : (a b : Bool) → IsTrue (a && b) → IsTrue a × IsTrue b
+pub both : (a b : Bool) → IsTrue (a && b) → IsTrue a × IsTrue b
 both true b t = (refl, t)
 both false b t = absurd (cc)
 
@@ -96,3 +96,13 @@ filter-before low (d ∷ done) k ks r =
 pub Each-append_right : (P : ℕ → Type 0) (xs ys : List ℕ) → AllByRecursion P (xs ++ ys) → AllByRecursion P ys
 Each-append_right P [] ys a = a
 Each-append_right P (x ∷ xs) ys a = Each-append_right P xs ys a.1
+
+pub ascends-each : (low : ℕ) (ks : List ℕ) → IsTrue (ascends low ks) → AllByRecursion (λ k. low < k) ks
+ascends-each low ks r = from_below low low ks (λ k l. l) r
+  where
+    from_below : (base low : ℕ) (ks : List ℕ) → ((k : ℕ) → low < k → base < k) → IsTrue (ascends low ks) → AllByRecursion (λ k. base < k) ks
+    from_below base low [] above r = tt
+    from_below base low (k ∷ ks) above r =
+        let parts = both (nat_lt low k) (ascends k ks) r in
+        let first : low < k = grind (arith, nat_tests, parts.0) in
+        (above k first, from_below base k ks (λ j l. above j (omega arith)) parts.1)

@@ -1,3 +1,5 @@
 pub mod Forest
 pub mod Orders
 pub mod Tops
+pub mod Sizes
+pub mod Pages

@@ -1,4 +1,4 @@
-mod PlainLemmas
+pub mod PlainLemmas
 mod Floors
 pub mod Runs
 pub mod Smalls

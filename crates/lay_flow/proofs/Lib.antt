@@ -1,0 +1,4 @@
+pub mod TreeReads
+pub mod WalkLemmas
+pub mod ColumnLemmas
+pub mod Fitting
