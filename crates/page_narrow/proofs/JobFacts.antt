@@ -1,12 +1,11 @@
 -- The facts that a job keeps.
-use Rattle.std.proofs.Common.{◌≡◌, ℕ, zero, suc, pos, ◌+◌, ◌*◌, ◌^◌, ◌<◌, ◌≤◌, true, false, Bool, List, [], ◌∷◌, length, Option, Some, None, option_map, option_and_then, Result, Ok, Err, refl, sym, ap, ◌∙◌, arith, leb, eqb, cond, subst, IsTrue, lit≤, rules}
-use Rattle.std.specs.Prelude.{map, slice_get, ◌&&◌, sum_by, codes, bytes_eq, unsigned_abs}
+use Rattle.std.proofs.Common.{◌≡◌, ℕ, zero, suc, ◌+◌, ◌*◌, ◌^◌, ◌≤◌, true, false, Bool, List, [], ◌∷◌, length, Option, Some, None, option_map, option_and_then, refl, ap, ◌∙◌, arith, leb, cond, subst, IsTrue, lit≤, rules}
+use Rattle.std.specs.Prelude.{map, slice_get, ◌&&◌, sum_by, codes, bytes_eq}
 use Rattle.std.specs.List.{fold}
 use Rattle.std.specs.Str.{chars}
 use Rattle.std.proofs.lemmas.Str.{chars-nil}
 use Rattle.std.proofs.lemmas.Option.{same_Some}
 use Rattle.std.proofs.lemmas.Bool.Decides.{nat_tests}
-use Rattle.std.proofs.lemmas.Grind.{common_steps}
 use Rattle.serde_json.specs.Data.{Data}
 use Rattle.serde_json.specs.Find.{get, at, as_str}
 use Rattle.viz_base.specs.Jobs.{IsRange, IsJob, is_low}
@@ -113,14 +112,15 @@ height_at-good d n e = height_good (number_at (codes "height") d) n e
 pub page_job : (range : Rect) (height : ℕ) (es : List Found) (f : Formula) → IsRange range → (1 ≤ height) × (height ≤ 16384) → IsPage es
     → IsTrue (is_bound_in f 0) → IsTrue (has_small_terms f) → IsJob range height (blocks_of es) (map style_of es) f
 page_job range height es f good h page bound small = record {
-    in_range = good;
-    height_least = h.0;
-    height_most = h.1;
-    few_boxes = omega (arith, length-blocks_from es 0 es, page.few);
-    few_characters = omega (arith, no_characters es 0 es);
-    low = low_heights 0 es page.fit;
-    bound = bound;
-    small_terms = small }
+  in_range = good;
+  height_least = h.0;
+  height_most = h.1;
+  few_boxes = omega (arith, length-blocks_from es 0 es, page.few);
+  few_characters = omega (arith, no_characters es 0 es);
+  low = low_heights 0 es page.fit;
+  bound = bound;
+  small_terms = small;
+}
 
 pub same_job : (range : Rect) (height : ℕ) (bs bs' : List BoxNode) (ss ss' : List Style) (f : Formula)
     → bs ≡ bs' → ss ≡ ss' → IsJob range height bs ss f → IsJob range height bs' ss' f

@@ -1,15 +1,14 @@
 -- The elements of a page form a page.
-use Rattle.std.proofs.Common.{◌≡◌, ℕ, zero, suc, ◌+◌, ◌-◌, ◌*◌, ◌<◌, ◌≤◌, true, false, Bool, List, [], ◌∷◌, ◌++◌, length, Option, Some, None, option_map, option_and_then, refl, sym, ap, ◌∙◌, arith, append_assoc, ltb, leb, cond, subst, ⊎_elim, inl, inr}
+use Rattle.std.proofs.Common.{◌≡◌, ℕ, zero, suc, ◌+◌, ◌-◌, ◌*◌, ◌<◌, ◌≤◌, true, false, Bool, List, [], ◌∷◌, ◌++◌, length, Option, Some, None, option_map, option_and_then, refl, sym, ◌∙◌, arith, leb, cond, subst, inl, inr}
 use Rattle.std.specs.Prelude.{codes, ◌&&◌}
 use Rattle.std.proofs.lemmas.Bool.{cases_lt}
-use Rattle.std.proofs.lemmas.Bool.Decides.{Decides-ltb, nat_tests}
-use Rattle.std.proofs.lemmas.Option.{option_and_then_some}
+use Rattle.std.proofs.lemmas.Bool.Decides.{nat_tests}
 use Rattle.std.specs.Char.{is_ascii_digit}
 use Rattle.std.proofs.Math.ListN.{length-append}
 use Rattle.serde_json.specs.Data.{Data, Items, no_items, item}
 use Rattle.serde_json.specs.Find.{get, as_str}
 use Rattle.page_narrow.specs.declared.page.Found.{Found}
-use Rattle.page_narrow.specs.Values.{digits_within, decimal_within, is_plain, has_members, count_of, has_text, after, before}
+use Rattle.page_narrow.specs.Values.{digits_within, decimal_within, is_plain, after, before}
 use Rattle.page_narrow.specs.Elements.{height_of, attributes_height, declared_height, children_of, all_found, found_in, page_of, IsFollowedBy, Misses}
 use Rattle.page_narrow.specs.declared.faults.NarrowFault.{NarrowFault}
 use Rattle.page_narrow.specs.Pages.{IsBefore, AreFit, IsPage}
@@ -106,7 +105,6 @@ sound_head at h parent (Some xs) before low s es e =
     let same : first ∷ xs ≡ es = cc in
     subst (Sound at) same (((before, low), t.0), omega (arith, t.1))
 
-
 sound_open : (at : ℕ) (parent : Option ℕ) (read : ℕ → Data → Option (List Found)) → IsBefore at parent → at < 4096
     → ((n : ℕ) (d : Data) → at < n → AreSound n (read n d))
     → (heights : Option ℕ) → Within 16384 heights → (kids : Option Items)
@@ -123,9 +121,10 @@ pub found_in-sound : (levels : ℕ) (parent : Option ℕ) (at : ℕ) (d : Data) 
 found_in-sound zero parent at d before es e = let none = found_in-zero parent at d in cc
 found_in-sound (suc levels) parent at d before es e =
     elim (cases_lt at 4096) [
-      inl few ↦ sound_open at parent (found_in levels (Some at)) before few (λ n c above. found_in-sound levels (Some at) n c above)
-        (height_of d) (height_of-within d) (children_of d) es (sym (found_open levels parent at d few) ∙ e)
-    | inr full ↦ let none = full_none levels parent at d full in cc ]
+      | inl few ↦ sound_open at parent (found_in levels (Some at)) before few (λ n c above. found_in-sound levels (Some at) n c above)
+          (height_of d) (height_of-within d) (children_of d) es (sym (found_open levels parent at d few) ∙ e)
+      | inr full ↦ let none = full_none levels parent at d full in cc
+    ]
 
 pub page_of-is_page : (d : Data) (es : List Found) → page_of d ≡ Some es → IsPage es
 unfolding page_of

@@ -1,5 +1,5 @@
 -- The boxes and styles of a page are a box tree.
-use Rattle.std.proofs.Common.{◌≡◌, ℕ, zero, suc, ◌+◌, ◌<◌, ◌≤◌, true, false, Bool, List, [], ◌∷◌, length, Option, Some, None, option_map, refl, sym, ap, ◌∙◌, arith, add-zero, ltb, eqb, cond, subst, IsTrue, lit≤, lit<}
+use Rattle.std.proofs.Common.{◌≡◌, ℕ, zero, suc, ◌+◌, ◌<◌, ◌≤◌, true, false, Bool, List, [], ◌∷◌, length, Option, Some, None, refl, sym, ap, ◌∙◌, arith, add-zero, ltb, eqb, cond, subst, lit<}
 use Rattle.std.specs.Prelude.{map, slice_get, ◌&&◌, ◌||◌}
 use Rattle.std.specs.Option.{option_map_or}
 use Rattle.std.specs.List.{list_all, list_any}
@@ -15,7 +15,6 @@ use Rattle.viz_base.specs.declared.styles.Style.{Style}
 use Rattle.page_narrow.specs.declared.page.Found.{Found}
 use Rattle.page_narrow.specs.Pages.{IsBefore, AreFit, IsPage}
 use Rattle.page_narrow.specs.Boxes.{is_in, kids_from, block_at, blocks_from, blocks_of, style_of, parent_of, square}
-use Rattle.page_narrow.proofs.TreeLemmas.{length-blocks_from}
 
 -- ---- places
 
@@ -107,7 +106,7 @@ pub all_kids : (test : ℕ → Bool) (n at : ℕ) (xs : List Found)
 all_kids test n at [] h = refl
 all_kids test n at (x ∷ xs) h =
     all_step test at (is_in n x.parent) (kids_from n (at + 1) xs) (λ e. ap test (sym (add-zero at)) ∙ h 0 x refl e)
-      (all_kids test n (at + 1) xs (λ k e there inside. let same : (at + 1) + k ≡ at + suc k = omega arith in ap test same ∙ h (suc k) e there inside))
+    (all_kids test n (at + 1) xs (λ k e there inside. let same : (at + 1) + k ≡ at + suc k = omega arith in ap test same ∙ h (suc k) e there inside))
 
 -- ---- boxes of nodes
 
@@ -158,21 +157,22 @@ no_chars = omega (arith, ap length chars-nil)
 box_is_good : (es : List Found) (at : ℕ) (e : Found) → IsPage es → slice_get es at ≡ Some e
     → IsBoxAt (blocks_of es) (length (map style_of es)) (map style_of es) at (block_at es at e)
 box_is_good es at e page there = record {
-    node = omega (arith, length_map style_of es, slice_get_within es at e there);
-    no_line = refl;
-    size = refl;
-    leaf = refl;
-    characters = no_chars;
-    ascending = ascends-kids at 0 es page.fit;
-    named = all_kids (box_passes (is_kid_of at) (blocks_of es)) at 0 es
+  node = omega (arith, length_map style_of es, slice_get_within es at e there);
+  no_line = refl;
+  size = refl;
+  leaf = refl;
+  characters = no_chars;
+  ascending = ascends-kids at 0 es page.fit;
+  named = all_kids (box_passes (is_kid_of at) (blocks_of es)) at 0 es
       (λ k x h inside. ap (λ o. option_map_or (is_kid_of at) o false) (shifted k x h) ∙ inside);
-    one_sort = or_true (list_all (box_passes (is_inline_content (map style_of es)) (blocks_of es)) (kids_from at 0 es)) _
+  one_sort = or_true (list_all (box_passes (is_inline_content (map style_of es)) (blocks_of es)) (kids_from at 0 es)) _
       (all_kids (box_passes (is_block_content (map style_of es)) (blocks_of es)) at 0 es
-      (λ k x h inside. ap (λ o. option_map_or (is_block_content (map style_of es)) o false) (shifted k x h))) }
+      (λ k x h inside. ap (λ o. option_map_or (is_block_content (map style_of es)) o false) (shifted k x h)));
+}
   where
     shifted : (k : ℕ) (x : Found) → slice_get es k ≡ Some x → slice_get (blocks_of es) (0 + k) ≡ Some (block_at es k x)
     shifted k x h = let z : 0 + k ≡ k = omega arith in
-      ap (λ n. slice_get (blocks_of es) n) z ∙ (block_get es 0 k es x h ∙ ap (λ n. Some (block_at es n x)) z)
+        ap (λ n. slice_get (blocks_of es) n) z ∙ (block_get es 0 k es x h ∙ ap (λ n. Some (block_at es n x)) z)
 
 each_box : (es : List Found) → IsPage es → (at : ℕ) (b : BoxNode) → slice_get (blocks_of es) at ≡ Some b
     → IsBoxAt (blocks_of es) (length (map style_of es)) (map style_of es) at b
@@ -194,18 +194,19 @@ no_text es at b h t =
 
 pub page_tree : (es : List Found) → IsPage es → IsBoxTree (blocks_of es) (map style_of es) (square ∷ []) (map parent_of es)
 page_tree es page = record {
-    root = λ b h. (let r = block_from es 0 0 es b h in ap (λ (x : BoxNode). x.parent) r.is ∙ no_parent r.element.parent (element_fit 0 0 es r.element page.fit r.there));
-    each = each_box es page;
-    fonts_there = λ node s h. (let r = style_from es node s h in subst (λ (x : Style). x.font < 1) r.2 (lit< tt));
-    nodes_there = λ node s h. (let r = style_from es node s h in
+  root = λ b h. (let r = block_from es 0 0 es b h in ap (λ (x : BoxNode). x.parent) r.is ∙ no_parent r.element.parent (element_fit 0 0 es r.element page.fit r.there));
+  each = each_box es page;
+  fonts_there = λ node s h. (let r = style_from es node s h in subst (λ (x : Style). x.font < 1) r.2 (lit< tt));
+  nodes_there = λ node s h. (let r = style_from es node s h in
       subst (λ (x : Style). list_all (λ n. ltb n (length (map style_of es))) (named_nodes x) ≡ true) r.2 (refl));
-    one_parent_each = length_map parent_of es ∙ sym (length_map style_of es);
-    parents_before = λ node p h. (let t = parent_from 0 node p es page.fit h in omega (arith, t.0));
-    parents_boxed = λ node p has h. (let t = parent_from 0 node p es page.fit h in has_box-blocks es p (omega (arith, t.0, t.1)));
-    names_boxed = λ node s has h. (let r = style_from es node s h in
+  one_parent_each = length_map parent_of es ∙ sym (length_map style_of es);
+  parents_before = λ node p h. (let t = parent_from 0 node p es page.fit h in omega (arith, t.0));
+  parents_boxed = λ node p has h. (let t = parent_from 0 node p es page.fit h in has_box-blocks es p (omega (arith, t.0, t.1)));
+  names_boxed = λ node s has h. (let r = style_from es node s h in
       subst (λ (x : Style). list_all (has_box (blocks_of es)) (named_nodes x) ≡ true) r.2 (refl));
-    texts_alike = λ at b p s t h text up sh th. absurd (no_text es at b h text);
-    texts_same_size = λ at b s h text sh. absurd (no_text es at b h text) }
+  texts_alike = λ at b p s t h text up sh th. absurd (no_text es at b h text);
+  texts_same_size = λ at b s h text sh. absurd (no_text es at b h text);
+}
 
 -- the same of equal lists
 pub same_tree : (bs bs' : List BoxNode) (ss ss' : List Style) (fs fs' : List Font) (ps ps' : List (Option ℕ))

@@ -1,19 +1,13 @@
 -- The boxes of a page, one after another, and the facts that a box tree keeps.
-use Rattle.std.proofs.Common.{◌≡◌, ℕ, zero, suc, ◌+◌, ◌-◌, ◌<◌, ◌≤◌, true, false, Bool, not, List, [], ◌∷◌, ◌++◌, length, Option, Some, None, option_map, refl, sym, ap, ◌∙◌, arith, append_assoc, append-nil, add-zero, ltb, leb, eqb, cond, subst, get_or, set, take, IsTrue, lit≤}
-use Rattle.std.specs.Prelude.{map, slice_get, ◌&&◌, ◌||◌, is_none}
-use Rattle.std.specs.Option.{option_map_or}
-use Rattle.std.specs.List.{list_all, list_any}
-use Rattle.std.proofs.lemmas.Bool.{false≢true}
+use Rattle.std.proofs.Common.{◌≡◌, ℕ, zero, suc, ◌+◌, ◌<◌, ◌≤◌, true, false, Bool, List, [], ◌∷◌, ◌++◌, length, Option, Some, None, refl, sym, ap, ◌∙◌, arith, append-nil, add-zero, eqb, cond, subst, get_or, set, take}
+use Rattle.std.specs.Prelude.{map}
 use Rattle.std.proofs.lemmas.Bool.Decides.{nat_tests}
-use Rattle.std.proofs.lemmas.Option.{slice_get-map, slice_get_within}
 use Rattle.std.proofs.lemmas.Grind.{common_steps}
-use Rattle.std.proofs.lemmas.List.{length-map, map-append, length-take-le}
-use Rattle.viz_base.specs.Trees.{ascends, box_passes, is_kid_of, is_block_content, is_inline_content, holds_one_sort, has_box, named_nodes, IsBoxAt, IsBoxTree}
+use Rattle.std.proofs.lemmas.List.{map-append, length-take-le}
 use Rattle.viz_base.specs.declared.trees.BoxNode.{BoxNode}
-use Rattle.viz_base.specs.declared.styles.Style.{Style}
 use Rattle.page_narrow.specs.declared.page.Found.{Found}
 use Rattle.page_narrow.specs.Pages.{IsBefore, AreFit, IsPage}
-use Rattle.page_narrow.specs.Boxes.{is_in, kids_from, block_at, blocks_from, blocks_of, style_of, parent_of, square, with_kid_at, with_kid, new_block, with_block}
+use Rattle.page_narrow.specs.Boxes.{is_in, kids_from, block_at, blocks_from, blocks_of, with_kid_at, with_kid, new_block, with_block}
 
 -- ---- one more element
 
@@ -30,7 +24,7 @@ kids_from-push n at [] e = one_more at (is_in n e.parent)
 kids_from-push n at (x ∷ xs) e =
     let same : (at + 1) + length xs ≡ at + suc (length xs) = omega arith in
     put_first at (is_in n x.parent) (kids_from n (at + 1) (xs ++ e ∷ [])) (kids_from n (at + 1) xs) (cond (is_in n e.parent) ((at + suc (length xs)) ∷ []) [])
-      (kids_from-push n (at + 1) xs e ∙ ap (λ k. kids_from n (at + 1) xs ++ cond (is_in n e.parent) (k ∷ []) []) same)
+    (kids_from-push n (at + 1) xs e ∙ ap (λ k. kids_from n (at + 1) xs ++ cond (is_in n e.parent) (k ∷ []) []) same)
 
 not_in : (n at : ℕ) (parent : Option ℕ) → IsBefore at parent → at ≤ n → is_in n parent ≡ false
 not_in n at None before le = refl
@@ -67,7 +61,7 @@ blocks_from-push : (all : List Found) (e : Found) (at : ℕ) (xs : List Found)
 blocks_from-push all e at [] = refl
 blocks_from-push all e at (x ∷ xs) =
     let head : block_at (all ++ e ∷ []) at x ≡ grown e.parent (length all) at (block_at all at x) =
-      ap (λ (ks : List ℕ). record (block_at all at x) { kids = ks }) (kids_from-push at 0 all e ∙ same_place (is_in at e.parent) (kids_from at 0 all) (length all)) in
+    ap (λ (ks : List ℕ). record (block_at all at x) { kids = ks }) (kids_from-push at 0 all e ∙ same_place (is_in at e.parent) (kids_from at 0 all) (length all)) in
     ap (λ b. b ∷ blocks_from (all ++ e ∷ []) (at + 1) xs) head ∙ ap (λ bs. grown e.parent (length all) at (block_at all at x) ∷ bs) (blocks_from-push all e (at + 1) xs)
   where
     same_place : (c : Bool) (ks : List ℕ) (n : ℕ) → ks ++ cond c ((0 + n) ∷ []) [] ≡ ks ++ cond c (n ∷ []) []
@@ -116,10 +110,10 @@ pub blocks_of-push : (es : List Found) (e : Found) → AreFit 0 es → IsBefore 
 blocks_of-push es e fit before =
     let n = length es in
     let front : with_kid e.parent n (blocks_of es) ≡ blocks_from (es ++ e ∷ []) 0 es =
-      sym (blocks_from-push es e 0 es ∙ all_grown-is e.parent n (blocks_of es)) in
+    sym (blocks_from-push es e 0 es ∙ all_grown-is e.parent n (blocks_of es)) in
     let no_kids : kids_from n 0 (es ++ e ∷ []) ≡ [] =
-      kids_from-push n 0 es e ∙ (ap (λ ks. ks ++ cond (is_in n e.parent) ((0 + n) ∷ []) []) (kids_from-none n 0 es fit (omega arith))
-      ∙ ap (λ c. cond c ((0 + n) ∷ []) []) (not_in n n e.parent before (omega arith))) in
+    kids_from-push n 0 es e ∙ (ap (λ ks. ks ++ cond (is_in n e.parent) ((0 + n) ∷ []) []) (kids_from-none n 0 es fit (omega arith))
+    ∙ ap (λ c. cond c ((0 + n) ∷ []) []) (not_in n n e.parent before (omega arith))) in
     let last : new_block n e ≡ block_at (es ++ e ∷ []) n e = ap (λ (ks : List ℕ). record (new_block n e) { kids = ks }) (sym no_kids) in
     let zero_plus : n ≡ 0 + n = omega arith in
     ap (λ k. with_kid e.parent k (blocks_of es) ++ new_block k e ∷ []) (length-blocks_from es 0 es)

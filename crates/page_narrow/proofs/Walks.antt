@@ -9,7 +9,7 @@ use Rattle.serde_json.specs.View.{view, items_view}
 use Rattle.std.proofs.lemmas.Bool.{false≢true}
 use Rattle.std.proofs.lemmas.Bool.Decides.{Decides-ltb}
 use Rattle.std.proofs.Math.ListN.{length-append}
-use Rattle.serde_json.specs.Data.{Data, Items, no_items, item}
+use Rattle.serde_json.specs.Data.{Data, Items, item}
 use Rattle.page_narrow.specs.declared.page.Found.{Found}
 use Rattle.page_narrow.specs.Elements.{height_of, children_of, all_found, found_in, Misses}
 
@@ -55,8 +55,8 @@ found_in-zero parent at d = refl
 
 pub found_open : (levels : ℕ) (parent : Option ℕ) (at : ℕ) (d : Data) → at < 4096
     → found_in (suc levels) parent at d ≡ option_and_then (λ height. option_and_then (λ kids.
-      option_map (λ es. record { parent = parent; height = height } ∷ es) (all_found (found_in levels (Some at)) (at + 1) kids))
-      (children_of d)) (height_of d)
+    option_map (λ es. record { parent = parent; height = height } ∷ es) (all_found (found_in levels (Some at)) (at + 1) kids))
+    (children_of d)) (height_of d)
 unfolding found_in
 found_open levels parent at d h = rw ((Decides-ltb at 4096).1 h)
 
@@ -72,8 +72,8 @@ pub found_in-no_height : (levels : ℕ) (parent : Option ℕ) (at : ℕ) (d : Da
 found_in-no_height zero parent at d h e = found_in-zero parent at d
 found_in-no_height (suc levels) parent at d h e = found_open levels parent at d h
     ∙ ap (option_and_then (λ height. option_and_then (λ kids.
-      option_map (λ es. record { parent = parent; height = height } ∷ es) (all_found (found_in levels (Some at)) (at + 1) kids))
-      (children_of d))) e
+    option_map (λ es. record { parent = parent; height = height } ∷ es) (all_found (found_in levels (Some at)) (at + 1) kids))
+    (children_of d))) e
 
 and_then_none : {A B : Type 0} (o : Option A) → option_and_then (λ (x : A). let n : Option B = None in n) o ≡ None
 and_then_none None = refl
@@ -83,8 +83,8 @@ pub found_in-no_children : (levels : ℕ) (parent : Option ℕ) (at : ℕ) (d : 
 found_in-no_children zero parent at d h e = found_in-zero parent at d
 found_in-no_children (suc levels) parent at d h e = found_open levels parent at d h
     ∙ (ap (λ o. option_and_then (λ height. option_and_then (λ kids.
-      option_map (λ es. record { parent = parent; height = height } ∷ es) (all_found (found_in levels (Some at)) (at + 1) kids))
-      o) (height_of d)) e ∙ and_then_none (height_of d))
+    option_map (λ es. record { parent = parent; height = height } ∷ es) (all_found (found_in levels (Some at)) (at + 1) kids))
+    o) (height_of d)) e ∙ and_then_none (height_of d))
 
 -- an element with what is in it
 pub found_step : (levels : ℕ) (parent : Option ℕ) (old mid : List Found) (d : Data) (h : ℕ) (kids : Items) → levels ≢ 0 → length old < 4096
@@ -98,8 +98,8 @@ found_step (suc levels) parent old mid d h kids some few eh ek em =
     let long : length mid ≡ at + 1 = ap length em ∙ length-append old (e ∷ []) in
     let opened = found_open levels parent at d few in
     let by_height = ap (option_and_then (λ height. option_and_then (λ ks.
-      option_map (λ es. record { parent = parent; height = height } ∷ es) (all_found (found_in levels (Some at)) (at + 1) ks))
-      (children_of d))) eh in
+    option_map (λ es. record { parent = parent; height = height } ∷ es) (all_found (found_in levels (Some at)) (at + 1) ks))
+    (children_of d))) eh in
     let by_kids = ap (option_and_then (λ ks. option_map (λ es. e ∷ es) (all_found (found_in levels (Some at)) (at + 1) ks))) ek in
     ap (option_map (λ es. old ++ es)) (opened ∙ (by_height ∙ by_kids))
     ∙ (both_appended old (e ∷ []) (all_found (found_in levels (Some at)) (at + 1) kids)

@@ -1,4 +1,4 @@
-use Rattle.std.specs.Prelude.{ℕ, ℤ, pos, ◌*◌, List, [], ◌∷◌, bytes_eq, Option, Some, None, option_map, option_and_then, if◌then◌else◌, codes, true}
+use Rattle.std.specs.Prelude.{ℕ, pos, ◌*◌, List, [], ◌∷◌, bytes_eq, Option, Some, None, option_map, option_and_then, if◌then◌else◌, codes, true}
 use Rattle.viz_base.specs.declared.trees.Kind.TheVariants.{Block}
 use Rattle.viz_base.specs.declared.formulas.Formula.{Formula}
 use Rattle.viz_base.specs.declared.formulas.Formula.TheVariants.{Const, Forall, Cmp}
@@ -7,7 +7,6 @@ use Rattle.viz_base.specs.declared.formulas.Sign.{Sign}
 use Rattle.viz_base.specs.declared.formulas.Sign.TheVariants.{Lt, Le, Eq, Ne, Ge, Gt}
 use Rattle.viz_base.specs.declared.formulas.Term.{Term}
 use Rattle.viz_base.specs.declared.formulas.Summand.{Summand}
-use Rattle.viz_base.specs.declared.formulas.Edge.{Edge}
 use Rattle.viz_base.specs.declared.formulas.Edge.TheVariants.{One, Name, ViewWidth, ViewHeight}
 use Rattle.viz_base.specs.declared.formulas.Ring.TheVariants.{Border}
 use Rattle.viz_base.specs.declared.formulas.Face.{Face}

@@ -1,4 +1,4 @@
-use Rattle.std.specs.Prelude.{ℕ, zero, suc, pos, length, ◌++◌, ◌+◌, ◌*◌, Bool, true, false, ◌==◌, List, [], ◌∷◌, map, Option, Some, None, is_none, IsTrue, refl, if◌then◌else◌, codes}
+use Rattle.std.specs.Prelude.{ℕ, zero, suc, pos, length, ◌++◌, ◌+◌, ◌*◌, Bool, true, false, ◌==◌, List, [], ◌∷◌, Option, Some, None, is_none, IsTrue, refl, if◌then◌else◌, codes}
 use Rattle.std.specs.Option.{option_map_or}
 use Rattle.std.proofs.Common.{lit≤}
 use Rattle.viz_base.specs.Fonts.{IsFont}
@@ -32,8 +32,16 @@ kids_from node at (e ∷ es) = if is_in node e.parent then at ∷ kids_from node
 
 -- the block box of an element among all (CSS 2.1, 9.2.1); the root starts a block formatting context
 abbrev pub block_at : List Found → ℕ → Found → BoxNode
-block_at all at e = record { kind = kind.Block; node = at; parent = e.parent; kids = kids_from at 0 all;
-    chars = []; size = None; context = is_none e.parent; block_level = true }
+block_at all at e = record {
+  kind = kind.Block;
+  node = at;
+  parent = e.parent;
+  kids = kids_from at 0 all;
+  chars = [];
+  size = None;
+  context = is_none e.parent;
+  block_level = true;
+}
 
 -- the boxes of these elements among all, the first being at `at`
 abbrev pub blocks_from : List Found → ℕ → List Found → List BoxNode
@@ -67,9 +75,28 @@ style_is_good e = record { percentages = refl; fixed = refl; size_good = size_is
 
 -- the computed values of an element: its display is block, its height is given, and all else is initial or inherited (CSS 2.1, 6.1.2)
 abbrev pub style_of : Found → Style
-style_of e = record { display = display.Block; float = None; clear = clear.Nothing; clips = false; width = Auto; min_width = no_length; max_width = None;
-    height = Px (pos (64 * e.height)); min_height = no_length; max_height = None; margin = no_sides; padding = no_sides; border = no_sides;
-    size = font_size_of e.parent; font = 0; line = Own (pos 6) 5; valign = Baseline; align = align.Left; wraps = true; ok = style_is_good e }
+style_of e = record {
+  display = display.Block;
+  float = None;
+  clear = clear.Nothing;
+  clips = false;
+  width = Auto;
+  min_width = no_length;
+  max_width = None;
+  height = Px (pos (64 * e.height));
+  min_height = no_length;
+  max_height = None;
+  margin = no_sides;
+  padding = no_sides;
+  border = no_sides;
+  size = font_size_of e.parent;
+  font = 0;
+  line = Own (pos 6) 5;
+  valign = Baseline;
+  align = align.Left;
+  wraps = true;
+  ok = style_is_good e;
+}
 
 abbrev pub parent_of : Found → Option ℕ
 parent_of e = e.parent

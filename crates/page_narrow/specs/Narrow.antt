@@ -14,7 +14,7 @@ use Rattle.viz_base.specs.declared.jobs.Job.{Job}
 use Rattle.page_narrow.specs.declared.faults.NarrowFault.{NarrowFault}
 use Rattle.page_narrow.specs.declared.faults.NarrowFault.TheVariants as fault
 use Rattle.page_narrow.specs.declared.page.Found.{Found}
-use Rattle.page_narrow.specs.Values.{has_items, has_members, count_of, number_at, has_number, is_text, has_text, ends_at, range_of}
+use Rattle.page_narrow.specs.Values.{has_items, has_members, count_of, number_at, has_number, is_text, has_text, ends_at}
 use Rattle.page_narrow.specs.Assertion.{assertion_of}
 use Rattle.page_narrow.specs.Elements.{page_of, Misses}
 use Rattle.page_narrow.specs.Boxes.{blocks_of, style_of, parent_of, square}
@@ -76,12 +76,28 @@ pub record Parts : Type 0 where
   pub formula : Formula
 
 abbrev pub parts_of : Job → Parts
-parts_of job = record { digest = job.digest; range = job.range; height = job.height; boxes = job.tree.boxes;
-    styles = job.tree.styles; fonts = job.tree.fonts; parents = job.tree.parents; formula = job.formula }
+parts_of job = record {
+  digest = job.digest;
+  range = job.range;
+  height = job.height;
+  boxes = job.tree.boxes;
+  styles = job.tree.styles;
+  fonts = job.tree.fonts;
+  parents = job.tree.parents;
+  formula = job.formula;
+}
 
 abbrev pub parts_with : List ℕ → Rect → ℕ → Formula → List Found → Parts
-parts_with digest range height formula es = record { digest = digest; range = range; height = height; boxes = blocks_of es;
-    styles = map style_of es; fonts = square ∷ []; parents = map parent_of es; formula = formula }
+parts_with digest range height formula es = record {
+  digest = digest;
+  range = range;
+  height = height;
+  boxes = blocks_of es;
+  styles = map style_of es;
+  fonts = square ∷ [];
+  parents = map parent_of es;
+  formula = formula;
+}
 
 -- the job that a value in the narrow form is
 abbrev pub job_in : List ℕ → Data → Option Parts

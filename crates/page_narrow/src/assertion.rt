@@ -1,6 +1,5 @@
 //! The assertions of the narrow form.
-ghost use Rattle.std.specs.Prelude.{◌≡◌, ◌≤◌, ◌<◌, ◌^◌, pos, codes, option_map, IfSome, IfOk, IsTrue, MatchResult, Some, unsigned_abs};
-ghost use Rattle.viz_base.specs.Formulas.{is_bound_in, has_small_terms};
+ghost use Rattle.std.specs.Prelude.{◌≡◌, codes, option_map, IfOk, MatchResult, Some};
 ghost use Rattle.page_narrow.specs.Values.{before};
 ghost use Rattle.page_narrow.specs.Assertion.{side_of, sign_of, number_term, right_side, term_of, comparison, compared, compared_in, assertion_of};
 ghost use Rattle.page_narrow.specs.Elements.{Misses};

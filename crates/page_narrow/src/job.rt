@@ -7,7 +7,9 @@ ghost use Rattle.page_narrow.specs.Narrow.{is_square, are_fonts, are_sheets, is_
 
 use crate::NarrowFault;
 use crate::assertion::assertion_of;
-use crate::members::{count_of, ends_at, has_items, has_members, has_number, has_text, is_text, number_at};
+use crate::members::{
+    count_of, ends_at, has_items, has_members, has_number, has_text, is_text, number_at,
+};
 use crate::page::{Found, page_of};
 use crate::tree::tree_of;
 use serde_json::Value;

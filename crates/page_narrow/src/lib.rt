@@ -13,9 +13,8 @@ mod page;
 mod texts;
 mod tree;
 
-pub use faults::NarrowFault;
-
 use crate::job::job_of;
+pub use faults::NarrowFault;
 use serde_json::Value;
 use sha2::{Digest, Sha256};
 use std::alloc::Global;
@@ -44,4 +43,40 @@ pub fn read_narrow(alloc: Global, bytes: &[u8]) -> Result<Job, NarrowFault>
 {
     let value = value_of(alloc, bytes)?;
     job_of(alloc, Sha256::digest(bytes), &value)
+}
+
+#[cfg(test)]
+mod tests {
+    use super::*;
+
+    const PAGE: &str =
+        r#"{"vizlog":1,"widths":[320,400],"sizes":[16,16],"height":600,"fonts":[{"name":"Square","upem":1000,"ascent":800,"descent":200,"default":500,"advances":[]}],"css":["body{margin:0}"],"page":{"tag":"div","attrs":{"style":"height:30px"},"children":[{"tag":"div","attrs":{"style":"height:10px"}},{"tag":"div","attrs":{"style":"height:20px"}}]},"assert":"forall b in block: b.right <= 399px"}"#;
+
+    #[test]
+    fn reads_a_page(rt: HostRuntime) {
+        match read_narrow(rt.alloc(), PAGE.as_bytes()) {
+            Ok(job) => {
+                let boxes = job.tree.boxes.len();
+                assert_eq!(rt; boxes, 3);
+                let fonts = job.tree.fonts.len();
+                assert_eq!(rt; fonts, 1);
+            }
+            Err(_) => assert!(rt; false, "a page is read"),
+        }
+    }
+
+    #[test]
+    fn names_refusals(rt: HostRuntime) {
+        let table = [
+            ("{", NarrowFault::NotJson),
+            ("1e999", NarrowFault::NotJson),
+            ("{}", NarrowFault::NotYet),
+        ];
+        for (text, want) in table {
+            match read_narrow(rt.alloc(), text.as_bytes()) {
+                Ok(_) => assert!(rt; false, "{text}"),
+                Err(fault) => assert!(rt; fault == want, "{text}"),
+            }
+        }
+    }
 }

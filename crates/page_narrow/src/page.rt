@@ -69,7 +69,12 @@ fn children_of(value: &Value) -> Option<&[Value]>
 }
 
 /// Adds an element and all in it.
-fn add_element(found: &mut List<Found>, levels: u32, parent: Option<u32>, value: &Value) -> Result<(), NarrowFault>
+fn add_element(
+    found: &mut List<Found>,
+    levels: u32,
+    parent: Option<u32>,
+    value: &Value,
+) -> Result<(), NarrowFault>
     ensures { MatchResult result
         (λ _. IsFollowedBy found.old (found_in levels parent (length found.old) (view value.now)) found.new)
         (λ e. Misses e (found_in levels parent (length found.old) (view value.now))) }

@@ -5,7 +5,10 @@ ghost use Rattle.page_narrow.specs.Boxes.{with_kid_at, with_kid, with_block, blo
 
 use crate::page::Found;
 use std::alloc::{AllocError, Global};
-use viz_base::{Align, BoxNode, BoxTree, Clear, Display, Font, Kind, Length, LineHeight, List, Sides, Size, Style, Text, Valign};
+use viz_base::{
+    Align, BoxNode, BoxTree, Clear, Display, Font, Kind, Length, LineHeight, List, Sides, Size,
+    Style, Text, Valign,
+};
 
 /// The same length at each side.
 fn sides_of(length: Length) -> Sides<Length>

@@ -13,7 +13,9 @@ invariant_of-result c =
     let es = c.as_slice.result.now in
     let page = subst IsPage (sym c.as_slice.ensures) c.in_ok-page.ensures.page in
     let good : IsGood f = assertion_at-good d f c.in_ok-formula.ensures in
-    record { ok = same_job c.in-Some.range c.in-Some-height_at.height (blocks_of es) _ (map style_of es) _ f
-      (sym c.in_ok-tree.ensures.boxes) (sym c.in_ok-tree.ensures.styles)
-      (page_job c.in-Some.range c.in-Some-height_at.height es f (rect_at-good d c.in-Some.range (search rules))
-        (height_at-good d c.in-Some-height_at.height (search rules)) page good.bound good.small) }
+    record {
+      ok = same_job c.in-Some.range c.in-Some-height_at.height (blocks_of es) _ (map style_of es) _ f
+          (sym c.in_ok-tree.ensures.boxes) (sym c.in_ok-tree.ensures.styles)
+          (page_job c.in-Some.range c.in-Some-height_at.height es f (rect_at-good d c.in-Some.range (search rules))
+          (height_at-good d c.in-Some-height_at.height (search rules)) page good.bound good.small);
+    }

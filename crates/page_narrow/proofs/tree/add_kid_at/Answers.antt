@@ -1,4 +1,4 @@
-use Rattle.std.proofs.Common.{ap, ◌∙◌, sym, slice_set, rules, arith}
+use Rattle.std.proofs.Common.{ap, ◌∙◌, slice_set, arith}
 use Rattle.page_narrow.proofs.TreeLemmas.{set-with_kid_at}
 use Rattle.page_narrow.proofs.tree.add_kid_at.Goals as goal
 

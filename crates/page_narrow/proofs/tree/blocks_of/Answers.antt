@@ -1,4 +1,4 @@
-use Rattle.std.proofs.Common.{◌+◌, ◌≡◌, length, ap, ◌∙◌, sym, subst, arith}
+use Rattle.std.proofs.Common.{◌+◌, ◌≡◌, length, ap, ◌∙◌, subst, arith}
 use Rattle.page_narrow.specs.Pages.{IsBefore}
 use Rattle.page_narrow.specs.Boxes.{with_block}
 use Rattle.page_narrow.proofs.TreeLemmas.{blocks_next, length-blocks_take, fit_at, element_of, element_is}

@@ -1,4 +1,4 @@
-use Rattle.std.proofs.Common.{ap, ◌∙◌, ◌++◌, ◌∷◌, [], sym}
+use Rattle.std.proofs.Common.{ap, ◌∙◌, ◌++◌, ◌∷◌, []}
 use Rattle.page_narrow.specs.Boxes.{style_of}
 use Rattle.page_narrow.proofs.TreeLemmas.{map_next, element_of, element_is}
 use Rattle.page_narrow.proofs.tree.styles_of.Goals as goal
