@@ -8,14 +8,14 @@ use Rattle.viz_base.specs.declared.lengths.Length.{Length}
 use Rattle.viz_base.specs.declared.lengths.Length.TheVariants.{Auto, Px}
 use Rattle.viz_base.specs.declared.lengths.Sides.{Sides}
 use Rattle.viz_base.specs.declared.lengths.Size.{Size}
-use Rattle.viz_base.specs.declared.lengths.Size.TheVariants as size
+use Rattle.viz_base.specs.declared.lengths.Size.TheVariants as of_size
 use Rattle.viz_base.specs.declared.lengths.LineHeight.TheVariants.{Own}
 use Rattle.viz_base.specs.declared.lengths.Valign.TheVariants.{Baseline}
 use Rattle.viz_base.specs.declared.styles.Style.{Style}
-use Rattle.viz_base.specs.declared.styles.Display.TheVariants as display
-use Rattle.viz_base.specs.declared.styles.Clear.TheVariants as clear
-use Rattle.viz_base.specs.declared.styles.Align.TheVariants as align
-use Rattle.viz_base.specs.declared.trees.Kind.TheVariants as kind
+use Rattle.viz_base.specs.declared.styles.Display.TheVariants as of_display
+use Rattle.viz_base.specs.declared.styles.Clear.TheVariants as of_clear
+use Rattle.viz_base.specs.declared.styles.Align.TheVariants as of_align
+use Rattle.viz_base.specs.declared.trees.Kind.TheVariants as of_kind
 use Rattle.viz_base.specs.declared.trees.BoxNode.{BoxNode}
 use Rattle.page_narrow.specs.declared.page.Found.{Found}
 
@@ -33,7 +33,7 @@ kids_from node at (e ∷ es) = if is_in node e.parent then at ∷ kids_from node
 -- the block box of an element among all (CSS 2.1, 9.2.1); the root starts a block formatting context
 abbrev pub block_at : List Found → ℕ → Found → BoxNode
 block_at all at e = record {
-  kind = kind.Block;
+  kind = of_kind.Block;
   node = at;
   parent = e.parent;
   kids = kids_from at 0 all;
@@ -62,8 +62,8 @@ no_sides = record { top = no_length; right = no_length; bottom = no_length; left
 
 -- the root has the default font size, and others inherit it
 abbrev pub font_size_of : Option ℕ → Size
-font_size_of None = size.Default (pos 1) 1
-font_size_of (Some parent) = size.Same
+font_size_of None = of_size.Default (pos 1) 1
+font_size_of (Some parent) = of_size.Same
 
 abbrev pub size_is_good : (parent : Option ℕ) → IsTrue (is_good_size (font_size_of parent))
 size_is_good None = refl
@@ -76,9 +76,9 @@ style_is_good e = record { percentages = refl; fixed = refl; size_good = size_is
 -- the computed values of an element: its display is block, its height is given, and all else is initial or inherited (CSS 2.1, 6.1.2)
 abbrev pub style_of : Found → Style
 style_of e = record {
-  display = display.Block;
+  display = of_display.Block;
   float = None;
-  clear = clear.Nothing;
+  clear = of_clear.Nothing;
   clips = false;
   width = Auto;
   min_width = no_length;
@@ -93,7 +93,7 @@ style_of e = record {
   font = 0;
   line = Own (pos 6) 5;
   valign = Baseline;
-  align = align.Left;
+  align = of_align.Left;
   wraps = true;
   ok = style_is_good e;
 }
@@ -124,7 +124,7 @@ with_kid (Some place) kid bs = with_kid_at place kid bs
 
 -- a box without kids
 abbrev pub new_block : ℕ → Found → BoxNode
-new_block at e = record { kind = kind.Block; node = at; parent = e.parent; kids = []; chars = []; size = None; context = is_none e.parent; block_level = true }
+new_block at e = record { kind = of_kind.Block; node = at; parent = e.parent; kids = []; chars = []; size = None; context = is_none e.parent; block_level = true }
 
 -- the box of the element that comes next, and its place in its parent's box
 abbrev pub with_block : List BoxNode → Found → List BoxNode

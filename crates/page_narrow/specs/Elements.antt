@@ -2,7 +2,7 @@ use Rattle.std.specs.Prelude.{◌≡◌, ℕ, zero, suc, ◌+◌, ◌&&◌, List
 use Rattle.serde_json.specs.Data.{Data, Items, no_items, item}
 use Rattle.serde_json.specs.Find.{get, as_array, as_str}
 use Rattle.page_narrow.specs.declared.faults.NarrowFault.{NarrowFault}
-use Rattle.page_narrow.specs.declared.faults.NarrowFault.TheVariants as fault
+use Rattle.page_narrow.specs.declared.faults.NarrowFault.TheVariants as of_fault
 use Rattle.page_narrow.specs.declared.page.Found.{Found}
 use Rattle.page_narrow.specs.Values.{after, before, decimal_within, has_members, count_of, has_text}
 
@@ -53,6 +53,6 @@ IsFollowedBy old answer new = option_map (λ es. old ++ es) answer ≡ Some new
 
 -- the fault, where memory is not the reason, is that there is no answer
 abbrev pub Misses : {A : Type 0} → NarrowFault → Option A → Type 0
-Misses fault.Mem answer = Unit {0}
-Misses fault.NotJson answer = ⊥
-Misses fault.NotYet answer = answer ≡ None
+Misses of_fault.Mem answer = Unit {0}
+Misses of_fault.NotJson answer = ⊥
+Misses of_fault.NotYet answer = answer ≡ None

@@ -12,7 +12,7 @@ use Rattle.viz_base.specs.declared.trees.BoxNode.{BoxNode}
 use Rattle.viz_base.specs.declared.formulas.Formula.{Formula}
 use Rattle.viz_base.specs.declared.jobs.Job.{Job}
 use Rattle.page_narrow.specs.declared.faults.NarrowFault.{NarrowFault}
-use Rattle.page_narrow.specs.declared.faults.NarrowFault.TheVariants as fault
+use Rattle.page_narrow.specs.declared.faults.NarrowFault.TheVariants as of_fault
 use Rattle.page_narrow.specs.declared.page.Found.{Found}
 use Rattle.page_narrow.specs.Values.{has_items, has_members, count_of, number_at, has_number, is_text, has_text, ends_at}
 use Rattle.page_narrow.specs.Assertion.{assertion_of}
@@ -112,9 +112,9 @@ value_of bytes = if is_utf8 bytes then read bytes else None
 
 -- reading the value fails: memory ran out, or there is none
 abbrev pub FailsToRead : NarrowFault → Option Data → Type 0
-FailsToRead fault.Mem value = Unit {0}
-FailsToRead fault.NotJson value = value ≡ None
-FailsToRead fault.NotYet value = ⊥
+FailsToRead of_fault.Mem value = Unit {0}
+FailsToRead of_fault.NotJson value = value ≡ None
+FailsToRead of_fault.NotYet value = ⊥
 
 -- why bytes are no job
 pub data Refusal : Type 0 where
@@ -132,9 +132,9 @@ narrow_job bytes = judged (sha256 bytes) (value_of bytes)
 
 -- the fault is for the reason that it names; want of memory has none
 abbrev pub Fails : NarrowFault → Result Parts Refusal → Type 0
-Fails fault.Mem answer = Unit {0}
-Fails fault.NotJson answer = answer ≡ Err not_json
-Fails fault.NotYet answer = answer ≡ Err not_yet
+Fails of_fault.Mem answer = Unit {0}
+Fails of_fault.NotJson answer = answer ≡ Err not_json
+Fails of_fault.NotYet answer = answer ≡ Err not_yet
 
 -- a value is the job, or no job, unless memory ran out
 abbrev pub GivesParts : Result Job NarrowFault → Option Parts → Type 0
