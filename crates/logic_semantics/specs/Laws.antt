@@ -1,9 +1,9 @@
 use Rattle.std.specs.Prelude.{◌≡◌, ℕ, ◌<◌, ◌≤◌, Bool, ◌↔◌, ◌⊎◌, true, false, List, [], ◌∷◌, IsTrue}
 use Rattle.viz_base.specs.declared.worlds.World.{World}
 use Rattle.viz_base.specs.declared.worlds.Rect.{Rect}
-use Rattle.viz_base.specs.declared.trees.Kind.TheVariants as kind
+use Rattle.viz_base.specs.declared.trees.Kind.TheVariants as of_kind
 use Rattle.viz_base.specs.declared.formulas.Set.{Set}
-use Rattle.viz_base.specs.declared.formulas.Set.TheVariants as set
+use Rattle.viz_base.specs.declared.formulas.Set.TheVariants as of_set
 use Rattle.viz_base.specs.declared.formulas.Sign.{Sign}
 use Rattle.viz_base.specs.declared.formulas.Term.{Term}
 use Rattle.viz_base.specs.declared.formulas.Formula.{Formula}
@@ -96,8 +96,8 @@ pub record OthersBlameNone : Type 0 where
 -- anonymous boxes, lines, texts and forced breaks are members of no set of nodes
 abbrev pub NodesAreElements : Type 0
 NodesAreElements = (nodes : List ℕ) (node : ℕ)
-    → (is_member (set.Nodes nodes) kind.Anon node ≡ false) × (is_member (set.Nodes nodes) kind.Line node ≡ false)
-    × (is_member (set.Nodes nodes) kind.Chars node ≡ false) × (is_member (set.Nodes nodes) kind.Break node ≡ false)
+    → (is_member (of_set.Nodes nodes) of_kind.Anon node ≡ false) × (is_member (of_set.Nodes nodes) of_kind.Line node ≡ false)
+    × (is_member (of_set.Nodes nodes) of_kind.Chars node ≡ false) × (is_member (of_set.Nodes nodes) of_kind.Break node ≡ false)
 
 -- ---- ranges
 

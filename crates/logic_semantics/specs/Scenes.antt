@@ -3,9 +3,9 @@ use Rattle.std.specs.List.{list_any, range_with_len}
 use Rattle.std.specs.Option.{option_map_or}
 use Rattle.viz_base.specs.declared.worlds.World.{World}
 use Rattle.viz_base.specs.declared.trees.Kind.{Kind}
-use Rattle.viz_base.specs.declared.trees.Kind.TheVariants as kind
+use Rattle.viz_base.specs.declared.trees.Kind.TheVariants as of_kind
 use Rattle.viz_base.specs.declared.formulas.Set.{Set}
-use Rattle.viz_base.specs.declared.formulas.Set.TheVariants as set
+use Rattle.viz_base.specs.declared.formulas.Set.TheVariants as of_set
 use Rattle.viz_base.specs.declared.renderings.Placed.{Placed}
 use Rattle.viz_base.specs.declared.renderings.Rendering.{Rendering}
 
@@ -22,31 +22,31 @@ scene_of r world height = record { boxes = r.boxes; width = pos (64 * world.w); 
 -- ---- members of sets
 
 abbrev pub is_kind : Kind → Kind → Bool
-is_kind kind.Block kind.Block = true
-is_kind kind.Anon kind.Anon = true
-is_kind kind.Float kind.Float = true
-is_kind kind.Atomic kind.Atomic = true
-is_kind kind.Replaced kind.Replaced = true
-is_kind kind.Inline kind.Inline = true
-is_kind kind.Chars kind.Chars = true
-is_kind kind.Line kind.Line = true
-is_kind kind.Break kind.Break = true
+is_kind of_kind.Block of_kind.Block = true
+is_kind of_kind.Anon of_kind.Anon = true
+is_kind of_kind.Float of_kind.Float = true
+is_kind of_kind.Atomic of_kind.Atomic = true
+is_kind of_kind.Replaced of_kind.Replaced = true
+is_kind of_kind.Inline of_kind.Inline = true
+is_kind of_kind.Chars of_kind.Chars = true
+is_kind of_kind.Line of_kind.Line = true
+is_kind of_kind.Break of_kind.Break = true
 is_kind _ _ = false
 
 -- the boxes of elements: neither anonymous boxes, nor lines, nor texts (CSS 2.1, 9.2)
 abbrev pub is_of_element : Kind → Bool
-is_of_element kind.Block = true
-is_of_element kind.Float = true
-is_of_element kind.Atomic = true
-is_of_element kind.Replaced = true
-is_of_element kind.Inline = true
+is_of_element of_kind.Block = true
+is_of_element of_kind.Float = true
+is_of_element of_kind.Atomic = true
+is_of_element of_kind.Replaced = true
+is_of_element of_kind.Inline = true
 is_of_element _ = false
 
 -- whether a box of this kind that comes from this node is a member of the set
 abbrev pub is_member : Set → Kind → ℕ → Bool
-is_member (set.Of wanted) kind node = is_kind kind wanted
-is_member set.Every kind node = true
-is_member (set.Nodes nodes) kind node = is_of_element kind && list_any (λ n. n == node) nodes
+is_member (of_set.Of wanted) kind node = is_kind kind wanted
+is_member of_set.Every kind node = true
+is_member (of_set.Nodes nodes) kind node = is_of_element kind && list_any (λ n. n == node) nodes
 
 -- whether the box at this place of a rendering is
 abbrev pub is_member_at : {N : Type 0} → Set → List (Placed N) → ℕ → Bool
