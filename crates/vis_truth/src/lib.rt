@@ -1,0 +1,11 @@
+//! Truth of formulas on renderings, over any arithmetic, and blame of false ones.
+#![tactic(auto)]
+
+mod boxes;
+pub mod engine;
+mod names;
+mod terms;
+mod verdicts;
+
+pub use names::Names;
+pub use verdicts::{truth, truth_in};
