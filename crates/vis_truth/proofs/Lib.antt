@@ -2,3 +2,5 @@ pub mod Runs
 pub mod Edges
 pub mod Witnesses
 pub mod Bounds
+pub mod Blamed
+pub mod PlainScenes

@@ -25,8 +25,8 @@ pub fn truth<C: Calc>(
     ensures cause { IfErr result (Cause (C.state calc.old) (C.state calc.new) (IsTame (C.state calc.old).is_open C.at r.now f.now)) }
 {
     let mut latch = Latch::new(calc);
-    let yes = engine::truth(&mut latch, f, r, height);
-    latch.finish(yes)
+    let whole = engine::truth(&mut latch, f, r, height);
+    latch.finish(whole)
 }
 
 /// The same for a part of a formula, where the names around it stand for these places.
