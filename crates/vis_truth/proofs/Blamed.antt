@@ -1,18 +1,14 @@
-use Rattle.std.proofs.Common.{◌≡◌, ℕ, zero, suc, ◌+◌, ◌<◌, ◌≤◌, ℤ, Bool, true, false, not, ◌&&◌, ◌||◌, List, [], ◌∷◌, filter, map, take, length, cond, Option, Some, None, unwrap_or, refl, ap, sym, ◌∙◌, arith, rules}
+use Rattle.std.proofs.Common.{◌≡◌, ℕ, zero, suc, ◌+◌, ◌<◌, Bool, true, false, not, ◌&&◌, ◌||◌, List, [], ◌∷◌, filter, take, length, Option, Some, None, unwrap_or, refl, ap, ◌∙◌, arith}
 use denote.Hole.Carrier.{roll}
 use Rattle.std.specs.Option.{is_none}
 use Rattle.std.specs.List.{find, list_any, range_with_len}
-use Rattle.std.proofs.lemmas.List.{take_all}
-use Rattle.std.proofs.lemmas.List.FromFn.{length-range_with_len}
 use Rattle.viz_base.specs.declared.formulas.Set.{Set}
 use Rattle.viz_base.specs.declared.formulas.Formula.{Formula}
 use Rattle.viz_base.specs.declared.formulas.Formula.TheVariants.{Forall, Implies, And}
 use Rattle.viz_base.specs.declared.formulas.Formula.TheOpen.{Formula-F}
 use Rattle.viz_base.specs.declared.formulas.Formula.TheViews.{roll-Formula}
 use Rattle.viz_base.specs.declared.formulas.Formula.TheFolds.{ind-Formula}
-use Rattle.viz_base.specs.declared.renderings.Rendering.{Rendering}
-use Rattle.viz_base.specs.declared.worlds.World.{World}
-use Rattle.logic_semantics.specs.Scenes.{Scene, scene_of, is_member_at}
+use Rattle.logic_semantics.specs.Scenes.{Scene, is_member_at}
 use Rattle.logic_semantics.specs.Truth.{truth_in}
 use Rattle.logic_semantics.specs.Blame.{with_member, first_wrong, wrong_where, finding_in, blame_in}
 use Rattle.logic_semantics.proofs.Findings.{blame-Const, blame-Exists, blame-Or, blame-Not, blame-Cmp, blame-Overlap, blame-Same, none_is_true, finding-Forall, finding-Implies}

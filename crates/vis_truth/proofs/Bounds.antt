@@ -1,4 +1,4 @@
-use Rattle.std.proofs.Common.{◌≡◌, ℕ, suc, ◌+◌, ◌*◌, ◌<◌, ◌≤◌, ◌^◌, ℤ, pos, ◌+ℤ◌, ◌*ℤ◌, unsigned_abs, Bool, true, false, ◌&&◌, nat_le, List, [], ◌∷◌, map, fold, length, slice_get, Option, Some, None, IsTrue, refl, ap, sym, ◌∙◌, rules, arith}
+use Rattle.std.proofs.Common.{◌≡◌, ℕ, ◌+◌, ◌*◌, ◌<◌, ◌≤◌, ◌^◌, ℤ, pos, ◌+ℤ◌, unsigned_abs, Bool, true, false, ◌&&◌, List, [], ◌∷◌, slice_get, Option, Some, None, refl, sym, ◌∙◌, rules, arith}
 use Rattle.std.specs.Prelude.{sum_by}
 use Rattle.std.specs.Option.{option_map_or}
 use Rattle.std.proofs.Math.Nat.{mul-le-mul_left}
@@ -14,7 +14,6 @@ use Rattle.viz_base.specs.declared.formulas.Face.TheVariants as of_face
 use Rattle.viz_base.specs.declared.formulas.Sign.{Sign}
 use Rattle.viz_base.specs.declared.formulas.Summand.{Summand}
 use Rattle.viz_base.specs.declared.formulas.Term.{Term}
-use Rattle.viz_base.specs.declared.formulas.Formula.{Formula}
 use Rattle.viz_base.specs.declared.formulas.Formula.TheVariants.{Cmp}
 use Rattle.viz_base.specs.declared.formulas.Formula.TheViews.{the_lemmas}
 use Rattle.viz_base.specs.declared.formulas.Formula.TheFolds.{fold-roll-Formula, fold_out-Formula}
@@ -23,11 +22,11 @@ use Rattle.viz_base.specs.declared.renderings.Quad.{Quad}
 use Rattle.viz_base.specs.declared.renderings.Rendering.{Rendering}
 use Rattle.viz_base.specs.Formulas.{edge_most, summand_most, term_is_small, has_small_terms}
 use Rattle.viz_calc.specs.World.{Reading}
-use Rattle.viz_calc.specs.State.{AllSmall, IsSmall}
+use Rattle.viz_calc.specs.State.{AllSmall}
 use Rattle.viz_calc.specs.Renderings.{rendering_at}
 use Rattle.logic_semantics.specs.Scenes.{Scene, named, box_at}
 use Rattle.logic_semantics.specs.Terms.{ring_of, face_of, edge_value, summand_value}
-use Rattle.vis_truth.specs.Scenes.{scene_at, sum_parts, term_parts, IsBoundedQuad, IsBoundedBox, IsBoundedRendering, IsBoundedAt, IsTame}
+use Rattle.vis_truth.specs.Scenes.{scene_at, sum_parts, term_parts, IsBoundedQuad, IsBoundedBox, IsBoundedAt}
 
 abs-sum : (a b : ℤ) → unsigned_abs (a +ℤ b) ≤ unsigned_abs a + unsigned_abs b
 abs-sum a b = omega (arith, ints)

@@ -1,5 +1,4 @@
-use Rattle.std.proofs.Common.{◌≡◌, ℕ, ◌<◌, ◌^◌, ℤ, Bool, true, false, List, [], ◌∷◌, map, IsTrue, refl, ap, sym, subst, ◌∙◌, arith, inl, inr, ◌-◌}
-use Rattle.std.specs.Prelude.{◌⊎◌}
+use Rattle.std.proofs.Common.{◌≡◌, ◌<◌, ◌^◌, ℤ, List, [], ◌∷◌, map, IsTrue, refl, ap, sym, subst, arith, inl, inr}
 use Rattle.std.proofs.lemmas.Bool.Decides.{nat_tests}
 use Rattle.viz_base.specs.declared.formulas.Formula.{Formula}
 use Rattle.viz_base.specs.declared.worlds.World.{World}
@@ -7,13 +6,12 @@ use Rattle.viz_base.specs.declared.renderings.Placed.{Placed}
 use Rattle.viz_base.specs.declared.renderings.Rendering.{Rendering}
 use Rattle.viz_base.specs.Formulas.{has_small_terms}
 use Rattle.viz_calc.specs.World.{Reading}
-use Rattle.viz_calc.specs.State.{State, Rose, Cause, Grows}
+use Rattle.viz_calc.specs.State.{Rose, Cause, Grows}
 use Rattle.viz_calc.specs.Plain.{plain_state, plain_reading}
 use Rattle.viz_calc.specs.Renderings.{placed_at, rendering_at}
 use Rattle.viz_calc.specs.declared.calc.Halt.{Halt}
 use Rattle.viz_calc.specs.declared.calc.Halt.TheVariants.{Mem, Coeff, Open}
-use Rattle.logic_semantics.specs.Scenes.{scene_of}
-use Rattle.vis_truth.specs.Scenes.{scene_at, IsBoundedRendering, IsTame}
+use Rattle.vis_truth.specs.Scenes.{IsBoundedRendering, IsTame}
 
 pub reading-open : (w : World) → IsTrue ((plain_state w).is_open (plain_reading w))
 reading-open w = grind (arith, nat_tests)

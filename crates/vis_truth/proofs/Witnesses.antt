@@ -1,4 +1,4 @@
-use Rattle.std.proofs.Common.{◌≡◌, ℕ, suc, ◌+◌, ◌<◌, ◌≤◌, ℤ, Bool, true, false, not, ◌&&◌, ◌||◌, List, [], ◌∷◌, map, take, length, slice_get, get_or, Option, Some, None, refl, ap, sym, ◌∙◌, rules, arith, zero-add}
+use Rattle.std.proofs.Common.{◌≡◌, ℕ, suc, ◌+◌, ◌<◌, ◌≤◌, ℤ, Bool, true, false, not, ◌&&◌, ◌||◌, List, [], ◌∷◌, map, take, length, slice_get, Option, Some, None, refl, ap, sym, ◌∙◌, rules, arith, zero-add}
 use Rattle.std.specs.Option.{option_map, option_map_or}
 use Rattle.std.specs.List.{list_all, list_any, range_with_len}
 use Rattle.std.specs.Borrow.{Bor}
@@ -13,12 +13,12 @@ use Rattle.viz_base.specs.declared.renderings.Placed.{Placed}
 use Rattle.viz_base.specs.declared.renderings.Rendering.{Rendering}
 use Rattle.viz_calc.specs.World.{Reading}
 use Rattle.viz_calc.specs.Renderings.{placed_at}
-use Rattle.logic_semantics.specs.Scenes.{Scene, is_member, is_member_at, members}
+use Rattle.logic_semantics.specs.Scenes.{is_member, is_member_at}
 use Rattle.logic_semantics.specs.Truth.{truth_in}
 use Rattle.logic_semantics.proofs.Members.{list_all-filter, list_any-filter}
 use Rattle.logic_semantics.proofs.Meanings.{truth-Forall, truth-Exists}
 use Rattle.vis_truth.specs.Names.{places_of}
-use Rattle.vis_truth.specs.Scenes.{scene_at, agrees, is_witness}
+use Rattle.vis_truth.specs.Scenes.{scene_at, is_witness}
 use Rattle.vis_truth.specs.declared.names.Names.{Names}
 use Rattle.vis_truth.specs.declared.names.Names.TheVariants.{Inner}
 use Rattle.vis_truth.specs.declared.names.Names.TheViews.{the_lemmas}

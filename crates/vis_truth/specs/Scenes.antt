@@ -6,10 +6,8 @@ use Rattle.viz_base.specs.declared.formulas.Term.{Term}
 use Rattle.viz_base.specs.declared.renderings.Quad.{Quad}
 use Rattle.viz_base.specs.declared.renderings.Placed.{Placed}
 use Rattle.viz_base.specs.declared.renderings.Rendering.{Rendering}
-use Rattle.viz_base.specs.Formulas.{has_small_terms, term_is_small}
+use Rattle.viz_base.specs.Formulas.{has_small_terms}
 use Rattle.viz_calc.specs.World.{Reading}
-use Rattle.viz_calc.specs.Run.{Run}
-use Rattle.viz_calc.specs.State.{State}
 use Rattle.viz_calc.specs.Renderings.{rendering_at}
 use Rattle.logic_semantics.specs.Scenes.{Scene, scene_of, is_member_at}
 use Rattle.logic_semantics.specs.Truth.{truth_in}

@@ -1,7 +1,6 @@
-use Rattle.std.proofs.Common.{◌≡◌, ◌++◌, ℕ, true, false, [], ◌∷◌, List, Some, None, append_assoc, ap, sym, ◌∙◌, length, arith, refl, ◌<◌, ◌^◌}
+use Rattle.std.proofs.Common.{◌≡◌, ◌++◌, ℕ, false, [], ◌∷◌, List, append_assoc, ap, sym, ◌∙◌, length}
 use Rattle.std.specs.List.{find, range_with_len}
 use Rattle.std.proofs.lemmas.Result.{on_ok_weaker}
-use Rattle.viz_base.specs.declared.formulas.Formula.{Formula}
 use Rattle.logic_semantics.specs.Scenes.{scene_of}
 use Rattle.logic_semantics.specs.Truth.{truth_in}
 use Rattle.logic_semantics.specs.Blame.{blame_in}

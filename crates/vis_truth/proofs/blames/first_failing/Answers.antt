@@ -1,4 +1,4 @@
-use Rattle.std.proofs.Common.{◌≡◌, false, length, sym, ◌∙◌, arith}
+use Rattle.std.proofs.Common.{false, length, sym, ◌∙◌, arith}
 use Rattle.std.specs.List.{range_with_len}
 use Rattle.logic_semantics.specs.Scenes.{scene_of}
 use Rattle.vis_truth.specs.Names.{places_of}

@@ -1,6 +1,5 @@
-use Rattle.std.proofs.Common.{◌≡◌, ℕ, ◌<◌, ◌≤◌, ◌^◌, Bool, true, false, not, ◌&&◌, [], ◌∷◌, List, length, ap, sym, ◌∙◌, subst, IsTrue, arith}
+use Rattle.std.proofs.Common.{◌≡◌, ◌<◌, ◌^◌, true, false, not, ◌&&◌, ◌∷◌, length, ap, sym, ◌∙◌, subst, arith}
 use Rattle.std.specs.List.{list_any, range_with_len}
-use Rattle.viz_calc.specs.World.{Reading}
 use Rattle.viz_base.specs.Formulas.{has_small_terms}
 use Rattle.logic_semantics.specs.Truth.{truth_in}
 use Rattle.vis_truth.specs.Names.{places_of}

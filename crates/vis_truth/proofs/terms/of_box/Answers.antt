@@ -1,6 +1,5 @@
-use Rattle.std.proofs.Common.{◌≡◌, ℤ, ◌*ℤ◌, pos, [], ◌∷◌, List, ap, sym, ◌∙◌, IsTrue, subst}
+use Rattle.std.proofs.Common.{◌*ℤ◌, [], ◌∷◌, ap, sym, ◌∙◌, subst}
 use Rattle.std.proofs.Math.IntN.{*ℤ-zero}
-use Rattle.viz_calc.specs.World.{Reading}
 use Rattle.viz_calc.specs.State.{AllSmall}
 use Rattle.viz_calc.specs.Run.{Fits}
 use Rattle.logic_semantics.specs.Terms.{face_of, edge_value}

@@ -1,9 +1,7 @@
-use Rattle.std.proofs.Common.{◌≡◌, ◌<◌, ℕ, ℤ, ◌+ℤ◌, ◌+◌, pos, [], ◌∷◌, List, ap, sym, ◌∙◌, IsTrue, subst, fold, map, drop, get_or, length, arith}
+use Rattle.std.proofs.Common.{◌≡◌, ◌<◌, ℕ, ℤ, ◌+ℤ◌, ◌+◌, [], ◌∷◌, List, ap, sym, ◌∙◌, subst, fold, map, drop, get_or, length}
 use Rattle.std.proofs.lemmas.List.{at_drop_more}
 use Rattle.viz_base.specs.declared.formulas.Summand.{Summand}
-use Rattle.viz_calc.specs.World.{Reading}
 use Rattle.viz_calc.specs.State.{AllSmall}
-use Rattle.viz_calc.specs.Run.{Fits}
 use Rattle.logic_semantics.specs.Scenes.{Scene}
 use Rattle.logic_semantics.specs.Terms.{summand_value, edge_value}
 use Rattle.vis_truth.specs.Names.{places_of}

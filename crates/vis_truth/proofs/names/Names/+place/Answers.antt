@@ -1,4 +1,4 @@
-use Rattle.std.proofs.Common.{◌≡◌, refl, ℕ, zero, suc, ◌-◌, ◌∷◌, List, Option, slice_get, rules, ap, sym, ◌∙◌, arith}
+use Rattle.std.proofs.Common.{◌≡◌, refl, ℕ, zero, suc, ◌-◌, ◌∷◌, List, slice_get, rules, ap, sym, ◌∙◌, arith}
 use Rattle.vis_truth.specs.Names.{places_of}
 use Rattle.vis_truth.specs.declared.names.Names.{Names}
 use Rattle.vis_truth.specs.declared.names.Names.TheVariants.{Inner}
