@@ -1,0 +1,23 @@
+use Rattle.std.specs.Prelude.{ℕ, ◌≤◌, Bool, IsTrue}
+use Rattle.viz_base.specs.declared.worlds.World.{World}
+use Rattle.viz_base.specs.declared.worlds.Rect.{Rect}
+use Rattle.viz_base.specs.declared.formulas.Formula.{Formula}
+use Rattle.viz_base.specs.declared.renderings.Rendering.{Rendering}
+use Rattle.std.specs.Prelude.{ℤ}
+use Rattle.logic_semantics.specs.Scenes.{scene_of}
+use Rattle.logic_semantics.specs.Truth.{truth}
+
+-- the world is in the range, both ends of both sides included
+pub record IsInRange (range : Rect) (world : World) : Type 0 where
+  pub width_least : range.wl ≤ world.w
+  pub width_most : world.w ≤ range.wh
+  pub size_least : range.sl ≤ world.s
+  pub size_most : world.s ≤ range.sh
+
+-- the formula's truth at a world, on what this gives as the rendering there
+abbrev pub holds_at : (World → Rendering ℤ) → ℕ → Formula → World → Bool
+holds_at rendering_of height f world = truth (scene_of (rendering_of world) world height) f
+
+-- the formula is true at each world of the range
+abbrev pub Holds : (World → Rendering ℤ) → Rect → ℕ → Formula → Type 0
+Holds rendering_of range height f = (world : World) → IsInRange range world → IsTrue (holds_at rendering_of height f world)

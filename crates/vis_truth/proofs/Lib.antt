@@ -1,0 +1,6 @@
+pub mod Runs
+pub mod Edges
+pub mod Witnesses
+pub mod Bounds
+pub mod Blamed
+pub mod PlainScenes

@@ -1,0 +1,226 @@
+ghost use Rattle.std.specs.Prelude.{fold, map, ◌≡◌, ◌*◌, ◌+ℤ◌, ◌*ℤ◌, ℤ, pos, ⊤, IsTrue, [], ◌∷◌, ◌++◌, Some, None};
+ghost use Rattle.std.specs.Ordering.{int_eq};
+ghost use Rattle.std.specs.Int.RustNames.{int_lt, int_le};
+ghost use Rattle.std.specs.Option.{option_copied};
+ghost use Rattle.viz_calc.specs.World.{Reading};
+ghost use Rattle.viz_calc.specs.Run.{Stands, Goes, Blames, Fits};
+ghost use Rattle.viz_calc.specs.Renderings.{quad_at};
+ghost use Rattle.logic_semantics.specs.Scenes.{named};
+ghost use Rattle.logic_semantics.specs.Terms.{edge_value, summand_value, term_value, compares, do_overlap, boxes_overlap};
+ghost use Rattle.vis_truth.specs.Names.{places_of};
+ghost use Rattle.vis_truth.specs.Scenes.{scene_at, sum_parts, term_parts};
+
+use crate::boxes::{face_of, find, ring_of};
+use crate::names::Names;
+use viz_base::{Edge, Face, Quad, Rendering, Ring, Sign, Summand, Term};
+use viz_calc::Steady;
+
+/// 0.
+fn zero<S: Steady>(calc: &mut S) -> S::Num
+    ensures goes { Goes (S.run calc.old) (S.run calc.new) }
+    ensures value { Stands (S.run calc.new) (S.at result) (λ e. pos 0) }
+    ensures cause { Blames (S.run calc.old) (S.run calc.new) (Fits (S.run calc.old) (λ e. pos 0 ∷ [])) }
+{
+    calc.lit(0)
+}
+
+/// A number as often as a summand has it.
+fn multiple<S: Steady>(calc: &mut S, s: &Summand, n: &S::Num) -> S::Num
+    ensures goes { Goes (S.run calc.old) (S.run calc.new) }
+    ensures value { Stands (S.run calc.new) (S.at result) (λ e. s.now.times *ℤ S.at n.now e) }
+    ensures cause { Blames (S.run calc.old) (S.run calc.new) (Fits (S.run calc.old) (λ e. (s.now.times *ℤ S.at n.now e) ∷ [])) }
+{
+    calc.scale_floor(n, s.times, 1)
+}
+
+/// The viewport's height.
+fn view_height<S: Steady>(calc: &mut S, height: u32) -> S::Num
+    ensures goes { Goes (S.run calc.old) (S.run calc.new) }
+    ensures value { Stands (S.run calc.new) (S.at result) (λ e. pos (64 * height)) }
+    ensures cause { Blames (S.run calc.old) (S.run calc.new) (Fits (S.run calc.old) (λ e. pos (64 * height) ∷ [])) }
+{
+    calc.lit(i128::from(64 * u64::from(height)))
+}
+
+/// One unit as often as a summand has it.
+fn units<S: Steady>(calc: &mut S, s: &Summand) -> S::Num
+    ensures goes { Goes (S.run calc.old) (S.run calc.new) }
+    ensures value { Stands (S.run calc.new) (S.at result) (λ e. s.now.times *ℤ pos 1) }
+    ensures cause { Blames (S.run calc.old) (S.run calc.new) (Fits (S.run calc.old) (λ e. (s.now.times *ℤ pos 1) ∷ [])) }
+{
+    calc.lit(i128::from(s.times))
+}
+
+/// An edge of the box that a name stands for, as often as a summand has it.
+fn of_box<S: Steady>(
+    calc: &mut S,
+    r: &Rendering<S::Num>,
+    names: &Names<'_>,
+    s: &Summand,
+    name: u32,
+    ring: Ring,
+    face: Face,
+) -> S::Num
+    ensures goes { Goes (S.run calc.old) (S.run calc.new) }
+    ensures value { Stands (S.run calc.new) (S.at result)
+        (λ e. s.now.times *ℤ edge_value (scene_at S.at r.now 0 e) (places_of names.now) (Edge.Name name ring face)) }
+    ensures cause { Blames (S.run calc.old) (S.run calc.new) (Fits (S.run calc.old)
+        (λ e. (s.now.times *ℤ edge_value (scene_at S.at r.now 0 e) (places_of names.now) (Edge.Name name ring face)) ∷ [])) }
+{
+    match find(r, names, name) {
+        Some(b) => multiple(calc, s, face_of(ring_of(b, ring), face)),
+        None => zero(calc),
+    }
+}
+
+/// A summand of a term.
+fn summand<S: Steady>(
+    calc: &mut S,
+    r: &Rendering<S::Num>,
+    height: u32,
+    names: &Names<'_>,
+    s: &Summand,
+) -> S::Num
+    ensures goes { Goes (S.run calc.old) (S.run calc.new) }
+    ensures value { Stands (S.run calc.new) (S.at result) (λ e. summand_value (scene_at S.at r.now height e) (places_of names.now) s.now) }
+    ensures cause { Blames (S.run calc.old) (S.run calc.new) (Fits (S.run calc.old)
+        (λ e. edge_value (scene_at S.at r.now height e) (places_of names.now) s.now.edge
+        ∷ summand_value (scene_at S.at r.now height e) (places_of names.now) s.now ∷ [])) }
+{
+    match s.edge {
+        Edge::One => units(calc, s),
+        Edge::Name(name, ring, face) => of_box(calc, r, names, s, name, ring, face),
+        Edge::ViewWidth => {
+            let width = calc.width();
+            multiple(calc, s, &width)
+        }
+        Edge::ViewHeight => {
+            let view = view_height(calc, height);
+            multiple(calc, s, &view)
+        }
+    }
+}
+
+/// The sum of summands.
+fn total<S: Steady>(
+    calc: &mut S,
+    r: &Rendering<S::Num>,
+    height: u32,
+    names: &Names<'_>,
+    parts: &[Summand],
+) -> S::Num
+    ensures goes { Goes (S.run calc.old) (S.run calc.new) }
+    ensures value { Stands (S.run calc.new) (S.at result)
+        (λ e. fold ◌+ℤ◌ (pos 0) (map (summand_value (scene_at S.at r.now height e) (places_of names.now)) parts.now)) }
+    ensures cause { Blames (S.run calc.old) (S.run calc.new) (Fits (S.run calc.old)
+        (λ e. pos 0 ∷ sum_parts (scene_at S.at r.now height e) (places_of names.now) (pos 0) parts.now)) }
+{
+    let mut sum = zero(calc);
+    for s in parts {
+        let value = summand(calc, r, height, names, s);
+        sum = calc.add(&sum, &value);
+    }
+    sum
+}
+
+/// The value of a term.
+pub fn term<S: Steady>(
+    calc: &mut S,
+    r: &Rendering<S::Num>,
+    height: u32,
+    names: &Names<'_>,
+    t: &Term,
+) -> S::Num
+    ensures goes { Goes (S.run calc.old) (S.run calc.new) }
+    ensures value { Stands (S.run calc.new) (S.at result) (λ e. term_value (scene_at S.at r.now height e) (places_of names.now) t.now) }
+    ensures cause { Blames (S.run calc.old) (S.run calc.new) (Fits (S.run calc.old) (λ e. term_parts (scene_at S.at r.now height e) (places_of names.now) t.now)) }
+{
+    total(calc, r, height, names, t.parts.as_slice())
+}
+
+/// Whether two numbers are equal.
+fn equal<S: Steady>(calc: &mut S, a: &S::Num, b: &S::Num) -> bool
+    ensures goes { Goes (S.run calc.old) (S.run calc.new) }
+    ensures value { (e : Reading) → IsTrue ((S.run calc.new).is_open e) → result ≡ int_eq (S.at a.now e) (S.at b.now e) }
+    ensures cause { Blames (S.run calc.old) (S.run calc.new) ⊤ }
+{
+    calc.le(a, b) && calc.le(b, a)
+}
+
+/// Whether a number is less than another.
+fn less<S: Steady>(calc: &mut S, a: &S::Num, b: &S::Num) -> bool
+    ensures goes { Goes (S.run calc.old) (S.run calc.new) }
+    ensures value { (e : Reading) → IsTrue ((S.run calc.new).is_open e) → result ≡ int_lt (S.at a.now e) (S.at b.now e) }
+    ensures cause { Blames (S.run calc.old) (S.run calc.new) ⊤ }
+{
+    !calc.le(b, a)
+}
+
+/// Whether a comparison is true of two numbers.
+pub fn compare<S: Steady>(calc: &mut S, a: &S::Num, sign: Sign, b: &S::Num) -> bool
+    ensures goes { Goes (S.run calc.old) (S.run calc.new) }
+    ensures value { (e : Reading) → IsTrue ((S.run calc.new).is_open e) → result ≡ compares sign (S.at a.now e) (S.at b.now e) }
+    ensures cause { Blames (S.run calc.old) (S.run calc.new) ⊤ }
+{
+    match sign {
+        Sign::Lt => less(calc, a, b),
+        Sign::Le => calc.le(a, b),
+        Sign::Eq => equal(calc, a, b),
+        Sign::Ne => !equal(calc, a, b),
+        Sign::Ge => calc.le(b, a),
+        Sign::Gt => less(calc, b, a),
+    }
+}
+
+/// Whether a comparison is true of the values of two terms.
+pub fn comparison<S: Steady>(
+    calc: &mut S,
+    r: &Rendering<S::Num>,
+    height: u32,
+    names: &Names<'_>,
+    left: &Term,
+    sign: Sign,
+    right: &Term,
+) -> bool
+    ensures goes { Goes (S.run calc.old) (S.run calc.new) }
+    ensures value { (e : Reading) → IsTrue ((S.run calc.new).is_open e)
+        → result ≡ compares sign (term_value (scene_at S.at r.now height e) (places_of names.now) left.now) (term_value (scene_at S.at r.now height e) (places_of names.now) right.now) }
+    ensures cause { Blames (S.run calc.old) (S.run calc.new)
+        (Fits (S.run calc.old) (λ e. term_parts (scene_at S.at r.now height e) (places_of names.now) left.now)
+        × Fits (S.run calc.old) (λ e. term_parts (scene_at S.at r.now height e) (places_of names.now) right.now)) }
+{
+    let left = term(calc, r, height, names, left);
+    let right = term(calc, r, height, names, right);
+    compare(calc, &left, sign, &right)
+}
+
+/// Whether two rectangles overlap.
+fn quads_overlap<S: Steady>(calc: &mut S, a: &Quad<S::Num>, b: &Quad<S::Num>) -> bool
+    ensures goes { Goes (S.run calc.old) (S.run calc.new) }
+    ensures value { (e : Reading) → IsTrue ((S.run calc.new).is_open e) → result ≡ do_overlap (quad_at S.at a.now e) (quad_at S.at b.now e) }
+    ensures cause { Blames (S.run calc.old) (S.run calc.new) ⊤ }
+{
+    less(calc, &a.left, &b.right)
+        && less(calc, &b.left, &a.right)
+        && less(calc, &a.top, &b.bottom)
+        && less(calc, &b.top, &a.bottom)
+}
+
+/// Whether the border rectangles of the boxes that two names stand for overlap.
+pub fn overlap<S: Steady>(
+    calc: &mut S,
+    r: &Rendering<S::Num>,
+    names: &Names<'_>,
+    a: u32,
+    b: u32,
+) -> bool
+    ensures goes { Goes (S.run calc.old) (S.run calc.new) }
+    ensures value { (e : Reading) → IsTrue ((S.run calc.new).is_open e)
+        → result ≡ boxes_overlap (named (scene_at S.at r.now 0 e).boxes (places_of names.now) a) (named (scene_at S.at r.now 0 e).boxes (places_of names.now) b) }
+    ensures cause { Blames (S.run calc.old) (S.run calc.new) ⊤ }
+{
+    match (find(r, names, a), find(r, names, b)) {
+        (Some(a), Some(b)) => quads_overlap(calc, &a.border, &b.border),
+        _ => false,
+    }
+}

@@ -1,0 +1,48 @@
+ghost use Rattle.std.specs.Prelude.{◌≡◌, IsTrue, IfOk, IfErr};
+ghost use Rattle.viz_calc.specs.World.{Reading};
+ghost use Rattle.viz_calc.specs.State.{Grows, Cause};
+ghost use Rattle.logic_semantics.specs.Truth.{truth, truth_in};
+ghost use Rattle.vis_truth.specs.Names.{places_of};
+ghost use Rattle.vis_truth.specs.Scenes.{scene_at, IsTame};
+
+use crate::engine;
+use crate::names::Names;
+use viz_base::{Formula, Rendering};
+use viz_calc::{Calc, Halt, Latch};
+
+/// Whether a formula is true of a rendering, the viewport being so many whole pixels high.
+///
+/// It takes no memory of its own. `Halt::Coeff` comes only where the calc's count of such faults rose, if the boxes'
+/// edges are at most 2^70 in size and the formula's terms are small; `Halt::Open` only where the calc's own count rose.
+pub fn truth<C: Calc>(
+    calc: &mut C,
+    f: &Formula,
+    r: &Rendering<C::Num>,
+    height: u32,
+) -> Result<bool, Halt>
+    ensures grows { Grows (C.state calc.old) (C.state calc.new) }
+    ensures value { IfOk result (λ yes. (e : Reading) → IsTrue ((C.state calc.new).is_open e) → yes ≡ truth (scene_at C.at r.now height e) f.now) }
+    ensures cause { IfErr result (Cause (C.state calc.old) (C.state calc.new) (IsTame (C.state calc.old).is_open C.at r.now f.now)) }
+{
+    let mut latch = Latch::new(calc);
+    let whole = engine::truth(&mut latch, f, r, height);
+    latch.finish(whole)
+}
+
+/// The same for a part of a formula, where the names around it stand for these places.
+pub fn truth_in<C: Calc>(
+    calc: &mut C,
+    f: &Formula,
+    r: &Rendering<C::Num>,
+    height: u32,
+    names: &Names<'_>,
+) -> Result<bool, Halt>
+    ensures grows { Grows (C.state calc.old) (C.state calc.new) }
+    ensures value { IfOk result (λ yes. (e : Reading) → IsTrue ((C.state calc.new).is_open e)
+        → yes ≡ truth_in (scene_at C.at r.now height e) f.now (places_of names.now)) }
+    ensures cause { IfErr result (Cause (C.state calc.old) (C.state calc.new) (IsTame (C.state calc.old).is_open C.at r.now f.now)) }
+{
+    let mut latch = Latch::new(calc);
+    let yes = engine::holds(&mut latch, f, r, height, names);
+    latch.finish(yes)
+}
