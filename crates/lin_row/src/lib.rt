@@ -1,0 +1,8 @@
+//! Rows: linear forms over whole numbers, exact in `i128`. A row claims that its form is at least 0.
+#![tactic(auto)]
+
+mod row;
+mod terms;
+
+pub use row::{Row, RowFault};
+pub use terms::Terms;
