@@ -95,6 +95,7 @@ impl<'a> Cursor<'a> {
     fn number_on(&mut self, most: u128, number: u128) -> Result<u128, Stop>
         requires { number ≤ most }
         ensures gives { Gives result (number_on most number self.old.rest.now) self.new.rest.now }
+        ensures least { IfOk result (λ n. number ≤ n) }
         ensures bound { IfOk result (λ n. n ≤ most) }
     {
         let mut number = number;
@@ -116,6 +117,7 @@ impl<'a> Cursor<'a> {
     fn numeral(&mut self, most: u128) -> Result<u128, Stop>
         requires { 9 ≤ most }
         ensures gives { Gives result (numeral most self.old.rest.now) self.new.rest.now }
+        ensures above_zero { IfOk result (λ n. 0 < n) }
         ensures bound { IfOk result (λ n. n ≤ most) }
     {
         match self.rest.split_first() {

@@ -1,6 +1,6 @@
 ghost use Rattle.std.specs.Prelude.{◌≡◌, ◌+◌, ◌<◌, ◌≤◌, ◌^◌, MatchResult};
 ghost use Rattle.cert_text.specs.Read.{Gives, read_row, read_node};
-ghost use Rattle.cert_text.specs.Whole.{read_whole};
+ghost use Rattle.cert_text.specs.Whole.{read_front, read_whole};
 ghost use Rattle.cert_text.specs.Grammar.{CertText};
 ghost use Rattle.cert_text.specs.Fault.{IsFault};
 
@@ -31,15 +31,23 @@ pub fn read_cert(alloc: Global, bytes: &[u8]) -> Result<Cert, CertFault>
 fn read_whole(alloc: Global, cursor: &mut Cursor) -> Result<Cert, Stop>
     ensures { Gives result (read_whole cursor.old.rest.now) cursor.new.rest.now }
 {
+    let cert = read_front(alloc, cursor)?;
+    if cursor.rest.is_empty() {
+        Ok(cert)
+    } else {
+        Err(Stop::Refused)
+    }
+}
+
+/// A certificate, whatever is behind it.
+fn read_front(alloc: Global, cursor: &mut Cursor) -> Result<Cert, Stop>
+    ensures { Gives result (read_front cursor.old.rest.now) cursor.new.rest.now }
+{
     cursor.word(b"vizlog-cert 1\njob ")?;
     let job = cursor.digest()?;
     cursor.word(b"\n")?;
     let root = read_node(alloc, cursor, MOST_LEVELS)?;
-    if cursor.rest.is_empty() {
-        Ok(Cert { job, root })
-    } else {
-        Err(Stop::Refused)
-    }
+    Ok(Cert { job, root })
 }
 
 /// A row of one variable, 0 or 1, with the coefficient 1 or -1.
@@ -53,6 +61,7 @@ fn read_row(alloc: Global, cursor: &mut Cursor) -> Result<Row, Stop>
 }
 
 /// A node below which at most `levels` splits stand one in another.
+#[tactic(auto, unfolding(crate::specs::Read::read_node))]
 fn read_node(alloc: Global, cursor: &mut Cursor, levels: u16) -> Result<CertNode, Stop>
     ensures { Gives result (read_node levels cursor.old.rest.now) cursor.new.rest.now }
 {
