@@ -5,3 +5,4 @@ pub mod Ints
 pub mod Language
 pub mod Nodes
 pub mod Numbers
+pub mod Spelled

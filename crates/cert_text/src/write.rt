@@ -1,4 +1,5 @@
 ghost use Rattle.std.specs.Prelude.{◌≡◌, ◌++◌, ℕ, List, IfOk, OnOk};
+ghost use Rattle.hex.specs.Hex.{encode_lower};
 ghost use Rattle.cert_text.specs.Grammar.{CertText};
 ghost use Rattle.cert_text.specs.Write.{int_bytes, term_bytes, row_bytes, node_bytes, cert_bytes};
 
@@ -21,13 +22,21 @@ pub fn write_cert(alloc: Global, cert: &Cert) -> Result<Vec<u8>, Mem>
 fn push_cert(text: &mut Vec<u8>, cert: &Cert) -> Result<(), AllocError>
     ensures { OnOk result (text.new.items ≡ text.old.items ++ cert_bytes cert.now) }
 {
-    let mut digits = [0; 64];
-    let _ = hex::encode_to_slice(&cert.job[..], &mut digits);
+    let digits = digits_of(&cert.job);
     text.extend_from_slice(b"vizlog-cert 1\njob ")?;
-    text.extend_from_slice(&digits[..])?;
+    text.extend_from_slice(&digits)?;
     text.extend_from_slice(b"\n")?;
     push_node(text, &cert.root)?;
     Ok(())
+}
+
+/// 32 bytes in hex, with lower case letters.
+fn digits_of(job: &[u8; 32]) -> [u8; 64]
+    ensures { result ≡ encode_lower job.now }
+{
+    let mut digits = [0; 64];
+    let _ = hex::encode_to_slice(job.as_slice(), &mut digits);
+    digits
 }
 
 fn push_int(text: &mut Vec<u8>, number: i128) -> Result<(), AllocError>
