@@ -1,9 +1,8 @@
-use Rattle.std.proofs.Common.{◌≡◌, ◌-◌, ◌-ℤ◌, neg_ℤ, pos, negsuc, ◌∙◌, sym, ap, true, refl, rules, arith, to_z, of_z, FitsSigned, to_z-of_z}
+use Rattle.std.proofs.Common.{◌≡◌, ◌-ℤ◌, neg_ℤ, pos, negsuc, ◌∙◌, sym, true, refl, rules, arith, to_z, of_z, FitsSigned, to_z-of_z}
 use Rattle.std.specs.Int.{w128}
 use Rattle.std.proofs.lemmas.Int.{ints}
 use Rattle.lin_row.proofs.Opposites.{canonical_opposites, told_opposites, not_told_opposites, and_false, in_i128-fit}
 use Rattle.lin_row.specs.Number.{in_i128}
-use Rattle.lin_row.specs.Form.{Form, terms_fit, opposites, denied}
 use Rattle.lin_row.proofs.row.Row.negate.Goals as goal
 
 pub invariant_of-result : goal.invariant_of-result
