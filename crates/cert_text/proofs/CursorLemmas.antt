@@ -1,5 +1,5 @@
 -- What the loops of the cursor leave behind.
-use Rattle.std.proofs.Common.{◌≡◌, ℕ, suc, ◌+◌, ◌-◌, ◌*◌, ◌<◌, List, [], ◌∷◌, ◌++◌, length, take, drop, get_or, Ok, Err, refl, sym, ◌∙◌, ap, subst, arith, append_assoc, drop-cons}
+use Rattle.std.proofs.Common.{◌≡◌, ℕ, suc, ◌+◌, ◌*◌, ◌<◌, List, [], ◌∷◌, ◌++◌, length, drop, Ok, Err, refl, sym, ap, arith, append_assoc, drop-cons}
 use Rattle.cert_text.specs.declared.cursor.Stop.{Stop}
 use Rattle.cert_text.specs.declared.cursor.Stop.TheVariants.{Mem, Refused}
 use Rattle.cert_text.specs.Read.{Answer, Gives, ◌>>=◌, after_word, read_hex, read_bytes}

@@ -1,13 +1,12 @@
 -- Reading a digest: 32 bytes of two hex digits each.
-use Rattle.std.proofs.Common.{◌≡◌, ℕ, zero, suc, ◌+◌, ◌-◌, ◌*◌, ◌/◌, ◌%◌, ◌<◌, ◌≤◌, ◌==◌, ◌&&◌, nat_lt, nat_le, Bool, true, false, cond, List, [], ◌∷◌, ◌++◌, length, slice_index, Option, Some, None, Ok, Err, refl, sym, ◌∙◌, ap, subst, arith, inl, inr}
+use Rattle.std.proofs.Common.{◌≡◌, ℕ, zero, suc, ◌+◌, ◌-◌, ◌*◌, ◌/◌, ◌%◌, ◌<◌, ◌≤◌, ◌&&◌, nat_lt, nat_le, Bool, true, false, cond, List, [], ◌∷◌, length, slice_index, Option, Some, None, refl, sym, ◌∙◌, ap, subst, arith}
 use Rattle.std.specs.List.{AllByRecursion}
 use Rattle.std.proofs.lemmas.List.{append-nil}
 use Rattle.std.proofs.lemmas.Bool.Decides.{nat_tests}
 use Rattle.std.proofs.lemmas.Option.{same_Some}
 use Rattle.hex.specs.Hex.{lower_digits, encode_with, encode_lower}
-use Rattle.cert_text.specs.Grammar.{DigestText}
-use Rattle.cert_text.specs.Read.{Answer, ◌>>=◌, lower_value, answer_hex, read_hex, read_bytes}
-use Rattle.cert_text.proofs.Language.{Lang, Agree, Leaves, IsPlain, IsRefused, IsRead, Some_text, Dep, Done, read_dep, read_same, read_done, plain_dep, plain_done, some_dep, some_done}
+use Rattle.cert_text.specs.Read.{lower_value, answer_hex, read_hex, read_bytes}
+use Rattle.cert_text.proofs.Language.{Lang, Agree, Leaves, IsPlain, IsRead, Some_text, Dep, Done, read_dep, read_same, read_done, plain_dep, plain_done, some_dep, some_done}
 
 -- the digit at each place of the table
 lower_code : ℕ → ℕ
@@ -84,13 +83,13 @@ HexText v t = (v < 16) × (t ≡ slice_index lower_digits v ∷ [])
 hex_by : (o : Option ℕ) (c : ℕ) (cs : List ℕ) → lower_value c ≡ o → IsRead HexText (c ∷ cs) (answer_hex o c cs)
 hex_by (Some v) c cs is = let at = value_at c v is in record { read = c ∷ []; whole = refl; is_text = (at.0, ap (λ x. x ∷ []) (sym at.1)) }
 hex_by None c cs is = record {
-    read = [];
-    whole = refl;
-    value = 0;
-    more = 48 ∷ [];
-    begins = (omega arith, refl);
-    leaves = λ v t h. subst (λ x. Leaves x [] (c ∷ cs)) (sym h.1) (λ same. let told : Some v ≡ None = sym (at_value v h.0) ∙ ap lower_value same ∙ is in absurd (cc));
-  }
+  read = [];
+  whole = refl;
+  value = 0;
+  more = 48 ∷ [];
+  begins = (omega arith, refl);
+  leaves = λ v t h. subst (λ x. Leaves x [] (c ∷ cs)) (sym h.1) (λ same. let told : Some v ≡ None = sym (at_value v h.0) ∙ ap lower_value same ∙ is in absurd (cc));
+}
 
 pub read_hex-right : (text : List ℕ) → IsRead HexText text (read_hex text)
 read_hex-right [] = record { read = []; whole = refl; value = 0; more = 48 ∷ []; begins = (omega arith, refl); leaves = λ v t h. subst (λ x. Leaves x [] []) (sym h.1) tt }
@@ -99,7 +98,7 @@ read_hex-right (c ∷ cs) = hex_by (lower_value c) c cs refl
 plain_hex : IsPlain HexText
 plain_hex v w s t h k =
     subst (λ x. Agree (v ≡ w) x t) (sym h.1) (subst (λ y. Agree (v ≡ w) (slice_index lower_digits v ∷ []) y) (sym k.1) (λ same.
-      same_Some v w (sym (at_value v h.0) ∙ ap lower_value same ∙ at_value w k.0)))
+    same_Some v w (sym (at_value v h.0) ∙ ap lower_value same ∙ at_value w k.0)))
 
 some_hex : Some_text HexText
 some_hex = record { value = 0; text = 48 ∷ []; is_text = (omega arith, refl) }
@@ -168,8 +167,8 @@ unfolding encode_with
 some_bytes zero = record { value = []; text = []; is_text = (refl, tt, refl) }
 some_bytes (suc k) =
     let s = some_dep HexText (λ high. Dep HexText (λ low. Dep (BytesText k) (λ others. Done ((16 * high + low) ∷ others)))) some_hex
-      (λ high. some_dep HexText (λ low. Dep (BytesText k) (λ others. Done ((16 * high + low) ∷ others))) some_hex
-      (λ low. some_dep (BytesText k) (λ others. Done ((16 * high + low) ∷ others)) (some_bytes k) (λ others. some_done ((16 * high + low) ∷ others)))) in
+    (λ high. some_dep HexText (λ low. Dep (BytesText k) (λ others. Done ((16 * high + low) ∷ others))) some_hex
+    (λ low. some_dep (BytesText k) (λ others. Done ((16 * high + low) ∷ others)) (some_bytes k) (λ others. some_done ((16 * high + low) ∷ others)))) in
     record { value = s.value; text = s.text; is_text = from_pair k s.value s.text s.is_text }
 
 pub plain_bytes : (k : ℕ) → IsPlain (BytesText k)
@@ -179,21 +178,21 @@ plain_bytes zero v w s t h k =
     subst (λ x. Agree (v ≡ w) x t) (sym a.1) (subst (λ y. Agree (v ≡ w) [] y) (sym b.1) (a.0 ∙ sym b.0))
 plain_bytes (suc n) v w s t h k =
     plain_dep HexText (λ high. Dep HexText (λ low. Dep (BytesText n) (λ others. Done ((16 * high + low) ∷ others)))) plain_hex
-      (λ high. plain_dep HexText (λ low. Dep (BytesText n) (λ others. Done ((16 * high + low) ∷ others))) plain_hex
-      (λ low. plain_dep (BytesText n) (λ others. Done ((16 * high + low) ∷ others)) (plain_bytes n) (λ others. plain_done ((16 * high + low) ∷ others))))
-      v w s t (pair_from n v s h) (pair_from n w t k)
+    (λ high. plain_dep HexText (λ low. Dep (BytesText n) (λ others. Done ((16 * high + low) ∷ others))) plain_hex
+    (λ low. plain_dep (BytesText n) (λ others. Done ((16 * high + low) ∷ others)) (plain_bytes n) (λ others. plain_done ((16 * high + low) ∷ others))))
+    v w s t (pair_from n v s h) (pair_from n w t k)
 
 pub read_bytes-right : (k : ℕ) (text : List ℕ) → IsRead (BytesText k) text (read_bytes k text)
 unfolding read_bytes encode_with
 read_bytes-right zero text = record { read = []; whole = refl; is_text = (refl, tt, refl) }
 read_bytes-right (suc k) text =
     read_same (Pair k) (BytesText (suc k)) text _ (from_pair k) (pair_from k)
-      (read_dep HexText (λ high. Dep HexText (λ low. Dep (BytesText k) (λ others. Done ((16 * high + low) ∷ others)))) text (read_hex text) _ plain_hex
-        (λ high. some_dep HexText (λ low. Dep (BytesText k) (λ others. Done ((16 * high + low) ∷ others))) some_hex
-          (λ low. some_dep (BytesText k) (λ others. Done ((16 * high + low) ∷ others)) (some_bytes k) (λ others. some_done ((16 * high + low) ∷ others))))
-        (read_hex-right text)
-        (λ high mid. read_dep HexText (λ low. Dep (BytesText k) (λ others. Done ((16 * high + low) ∷ others))) mid (read_hex mid) _ plain_hex
-          (λ low. some_dep (BytesText k) (λ others. Done ((16 * high + low) ∷ others)) (some_bytes k) (λ others. some_done ((16 * high + low) ∷ others)))
-          (read_hex-right mid)
-          (λ low end. read_dep (BytesText k) (λ others. Done ((16 * high + low) ∷ others)) end (read_bytes k end) _ (plain_bytes k)
-            (λ others. some_done ((16 * high + low) ∷ others)) (read_bytes-right k end) (λ others last. read_done ((16 * high + low) ∷ others) last))))
+    (read_dep HexText (λ high. Dep HexText (λ low. Dep (BytesText k) (λ others. Done ((16 * high + low) ∷ others)))) text (read_hex text) _ plain_hex
+    (λ high. some_dep HexText (λ low. Dep (BytesText k) (λ others. Done ((16 * high + low) ∷ others))) some_hex
+    (λ low. some_dep (BytesText k) (λ others. Done ((16 * high + low) ∷ others)) (some_bytes k) (λ others. some_done ((16 * high + low) ∷ others))))
+    (read_hex-right text)
+    (λ high mid. read_dep HexText (λ low. Dep (BytesText k) (λ others. Done ((16 * high + low) ∷ others))) mid (read_hex mid) _ plain_hex
+    (λ low. some_dep (BytesText k) (λ others. Done ((16 * high + low) ∷ others)) (some_bytes k) (λ others. some_done ((16 * high + low) ∷ others)))
+    (read_hex-right mid)
+    (λ low end. read_dep (BytesText k) (λ others. Done ((16 * high + low) ∷ others)) end (read_bytes k end) _ (plain_bytes k)
+    (λ others. some_done ((16 * high + low) ∷ others)) (read_bytes-right k end) (λ others last. read_done ((16 * high + low) ∷ others) last))))

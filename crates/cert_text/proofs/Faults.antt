@@ -1,9 +1,9 @@
 -- What a whole reading says of the bytes: the one certificate that they spell, or how far they could be one's text.
-use Rattle.std.proofs.Common.{◌≡◌, ℕ, zero, suc, ◌+◌, ◌-◌, ◌<◌, ◌≤◌, List, [], ◌∷◌, ◌++◌, length, take, Result, Ok, Err, refl, sym, ◌∙◌, ap, subst, arith, append_assoc, length-append, inl, inr}
+use Rattle.std.proofs.Common.{◌≡◌, ℕ, zero, suc, ◌-◌, ◌≤◌, List, [], ◌∷◌, ◌++◌, length, take, Result, Ok, Err, refl, sym, ◌∙◌, ap, subst, arith, length-append}
 use Rattle.std.proofs.lemmas.List.{append-nil}
 use Rattle.cert_text.specs.declared.certificate.Cert.{Cert}
 use Rattle.cert_text.specs.Grammar.{CertText}
-use Rattle.cert_text.specs.Fault.{BeginsText, IsNoText}
+use Rattle.cert_text.specs.Fault.{IsNoText}
 use Rattle.cert_text.specs.Read.{Answer, ◌>>=◌}
 use Rattle.cert_text.specs.Whole.{at_end, read_front, read_whole}
 use Rattle.cert_text.proofs.Language.{Agree, Leaves, IsRefused, IsTaken, IsRead, agree_begins}
@@ -72,7 +72,7 @@ stuck_behind : (text : List ℕ) (v : Cert) (x : ℕ) (xs : List ℕ) → IsTake
 stuck_behind text v x xs h =
     stuck_at text h.read (x ∷ xs) h.whole (record {
       no_text = λ cert t.
-        let none : x ∷ xs ≡ [] = (agree_begins (v ≡ cert) h.read (x ∷ xs) (plain_cert v cert h.read (h.read ++ x ∷ xs) h.is_text t)).0 in absurd (cc);
+          let none : x ∷ xs ≡ [] = (agree_begins (v ≡ cert) h.read (x ∷ xs) (plain_cert v cert h.read (h.read ++ x ∷ xs) h.is_text t)).0 in absurd (cc);
       within = omega (arith, length-append h.read (x ∷ xs));
       begins = (v, [], rw (take_front, append-nil) h.is_text);
       longest = λ n le b. agree_bound (v ≡ b.0) n h.read (x ∷ xs) b.1 le (plain_cert v b.0 h.read (take n (h.read ++ x ∷ xs) ++ b.1) h.is_text b.2);

@@ -1,10 +1,10 @@
 -- Reading whole numbers with their signs, the two variables and the two coefficients.
-use Rattle.std.proofs.Common.{◌≡◌, ◌≢◌, ℕ, zero, suc, ◌+◌, ◌-◌, ◌*◌, ◌^◌, ◌<◌, ◌≤◌, ◌==◌, ◌||◌, ℤ, pos, negsuc, Bool, true, false, cond, List, [], ◌∷◌, ◌++◌, Ok, Err, refl, sym, ◌∙◌, ap, subst, arith, codes, inl, inr, ◌⊎◌, lit≤}
+use Rattle.std.proofs.Common.{◌≡◌, ℕ, zero, suc, ◌-◌, ◌^◌, ◌<◌, ◌≤◌, ◌==◌, ◌||◌, ℤ, pos, negsuc, Bool, true, false, cond, List, [], ◌∷◌, ◌++◌, Ok, Err, refl, sym, ◌∙◌, ap, subst, arith, codes, inl, inr, lit≤}
 use Rattle.std.proofs.lemmas.Bool.{false≢true}
 use Rattle.std.proofs.lemmas.Bool.Decides.{nat_tests}
 use Rattle.cert_text.specs.Grammar.{NumeralText, IntText, VariableText, UnitText}
 use Rattle.cert_text.specs.Read.{Answer, ◌>>=◌, after_word, begins, numeral, negative, read_int, read_variable, read_unit}
-use Rattle.cert_text.proofs.Language.{Lang, Agree, Leaves, IsPlain, IsRefused, IsTaken, IsRead, Some_text, agree_map, agree_same, leaves_first, Word, read_word}
+use Rattle.cert_text.proofs.Language.{Agree, Leaves, IsPlain, IsRefused, IsRead, Some_text, agree_map, agree_same, leaves_first, Word, read_word}
 use Rattle.cert_text.proofs.Numbers.{NumeralSpace, numeral_above, read_numeral, numeral_agree}
 
 -- a whole number, and a space
@@ -42,55 +42,55 @@ int_above (suc n) t above h le = (h, omega arith)
 
 read_below : (cs : List ℕ) (r : Answer ℕ) → IsRead (NumeralSpace (2 ^ 127)) cs r → IsRead IntSpace (45 ∷ cs) (r >>= λ size. Ok (negative size.0, size.1))
 read_below cs (Ok r) h = record {
-    read = 45 ∷ h.read;
-    whole = ap (λ t. 45 ∷ t) h.whole;
-    is_text = record { text = 45 ∷ h.is_text.text; int_text = int_below r.0 h.is_text.text (numeral_above r.0 h.is_text.text h.is_text.numeral_text) h.is_text.numeral_text h.is_text.bound; whole = ap (λ t. 45 ∷ t) h.is_text.whole };
-  }
+  read = 45 ∷ h.read;
+  whole = ap (λ t. 45 ∷ t) h.whole;
+  is_text = record { text = 45 ∷ h.is_text.text; int_text = int_below r.0 h.is_text.text (numeral_above r.0 h.is_text.text h.is_text.numeral_text) h.is_text.numeral_text h.is_text.bound; whole = ap (λ t. 45 ∷ t) h.is_text.whole };
+}
 read_below cs (Err rest) h = record {
-    read = 45 ∷ h.read;
-    whole = ap (λ t. 45 ∷ t) h.whole;
-    value = negative h.value;
-    more = h.more;
-    begins = record { text = 45 ∷ h.begins.text; int_text = int_below h.value h.begins.text (numeral_above h.value h.begins.text h.begins.numeral_text) h.begins.numeral_text h.begins.bound; whole = ap (λ t. 45 ∷ t) h.begins.whole };
-    leaves = int_leaves (45 ∷ h.read) rest (λ same. absurd (omega arith))
+  read = 45 ∷ h.read;
+  whole = ap (λ t. 45 ∷ t) h.whole;
+  value = negative h.value;
+  more = h.more;
+  begins = record { text = 45 ∷ h.begins.text; int_text = int_below h.value h.begins.text (numeral_above h.value h.begins.text h.begins.numeral_text) h.begins.numeral_text h.begins.bound; whole = ap (λ t. 45 ∷ t) h.begins.whole };
+  leaves = int_leaves (45 ∷ h.read) rest (λ same. absurd (omega arith))
       (λ n t is lt. numeral_leaves 45 h.read rest t (suc n) is (λ le. omega arith))
       (λ n t is lt same. h.leaves (suc n) (t ++ 32 ∷ []) (record { text = t; numeral_text = is; bound = omega arith; whole = refl }));
-  }
+}
 
 read_zero : (cs : List ℕ) (r : Answer (Unit {0})) → IsRead (Word (codes " ")) cs r → IsRead IntSpace (48 ∷ cs) (r >>= λ after. Ok (pos 0, after.1))
 read_zero cs (Ok r) h = record {
-    read = 48 ∷ h.read;
-    whole = ap (λ t. 48 ∷ t) h.whole;
-    is_text = record { text = codes "0"; int_text = refl; whole = ap (λ t. 48 ∷ t) h.is_text };
-  }
+  read = 48 ∷ h.read;
+  whole = ap (λ t. 48 ∷ t) h.whole;
+  is_text = record { text = codes "0"; int_text = refl; whole = ap (λ t. 48 ∷ t) h.is_text };
+}
 read_zero cs (Err rest) h = record {
-    read = 48 ∷ h.read;
-    whole = ap (λ t. 48 ∷ t) h.whole;
-    value = pos 0;
-    more = h.more;
-    begins = record { text = codes "0"; int_text = refl; whole = ap (λ t. 48 ∷ t) h.begins };
-    leaves = int_leaves (48 ∷ h.read) rest (λ same. h.leaves tt (32 ∷ []) refl)
+  read = 48 ∷ h.read;
+  whole = ap (λ t. 48 ∷ t) h.whole;
+  value = pos 0;
+  more = h.more;
+  begins = record { text = codes "0"; int_text = refl; whole = ap (λ t. 48 ∷ t) h.begins };
+  leaves = int_leaves (48 ∷ h.read) rest (λ same. h.leaves tt (32 ∷ []) refl)
       (λ n t is lt. numeral_leaves 48 h.read rest t (suc n) is (λ le. omega arith))
       (λ n t is lt same. absurd (omega arith));
-  }
+}
 
 read_above : (text : List ℕ) (r : Answer ℕ) → (begins 45 text ≡ true → ⊥) → (begins 48 text ≡ true → ⊥) → IsRead (NumeralSpace (2 ^ 127 - 1)) text r
     → IsRead IntSpace text (r >>= λ size. Ok (pos size.0, size.1))
 read_above text (Ok r) dash none h = record {
-    read = h.read;
-    whole = h.whole;
-    is_text = record { text = h.is_text.text; int_text = int_above r.0 h.is_text.text (numeral_above r.0 h.is_text.text h.is_text.numeral_text) h.is_text.numeral_text h.is_text.bound; whole = h.is_text.whole };
-  }
+  read = h.read;
+  whole = h.whole;
+  is_text = record { text = h.is_text.text; int_text = int_above r.0 h.is_text.text (numeral_above r.0 h.is_text.text h.is_text.numeral_text) h.is_text.numeral_text h.is_text.bound; whole = h.is_text.whole };
+}
 read_above text (Err rest) dash none h = record {
-    read = h.read;
-    whole = h.whole;
-    value = pos h.value;
-    more = h.more;
-    begins = record { text = h.begins.text; int_text = int_above h.value h.begins.text (numeral_above h.value h.begins.text h.begins.numeral_text) h.begins.numeral_text h.begins.bound; whole = h.begins.whole };
-    leaves = int_leaves h.read rest (leaves_first 48 (32 ∷ []) h.read rest (λ e. none (subst (λ x. begins 48 x ≡ true) (sym h.whole) e)))
+  read = h.read;
+  whole = h.whole;
+  value = pos h.value;
+  more = h.more;
+  begins = record { text = h.begins.text; int_text = int_above h.value h.begins.text (numeral_above h.value h.begins.text h.begins.numeral_text) h.begins.numeral_text h.begins.bound; whole = h.begins.whole };
+  leaves = int_leaves h.read rest (leaves_first 48 (32 ∷ []) h.read rest (λ e. none (subst (λ x. begins 48 x ≡ true) (sym h.whole) e)))
       (λ n t is lt. h.leaves (suc n) (t ++ 32 ∷ []) (record { text = t; numeral_text = is; bound = omega arith; whole = refl }))
       (λ n t is lt. leaves_first 45 (t ++ 32 ∷ []) h.read rest (λ e. dash (subst (λ x. begins 45 x ≡ true) (sym h.whole) e)));
-  }
+}
 
 int_by : (b d : Bool) (c : ℕ) (cs : List ℕ) → c == 45 ≡ b → c == 48 ≡ d → (b ≡ true → c ≡ 45) → (d ≡ true → c ≡ 48)
     → IsRead IntSpace (c ∷ cs) (cond b (numeral (2 ^ 127) cs >>= λ size. Ok (negative size.0, size.1)) (cond d (after_word (codes " ") cs >>= λ after. Ok (pos 0, after.1)) (numeral (2 ^ 127 - 1) (c ∷ cs) >>= λ size. Ok (pos size.0, size.1))))
@@ -100,13 +100,13 @@ int_by false false c cs eb ed dash none = read_above (c ∷ cs) (numeral (2 ^ 12
 
 some_int : (text : List ℕ) → text ≡ [] → IsRefused IntSpace text text
 some_int text e = record {
-    read = [];
-    whole = refl;
-    value = pos 0;
-    more = 48 ∷ 32 ∷ [];
-    begins = record { text = codes "0"; int_text = refl; whole = refl };
-    leaves = subst (λ x. (v : ℤ) (t : List ℕ) → IntSpace v t → Leaves t [] x) (sym e) (int_leaves [] [] tt (λ n t is lt. subst (λ x. Leaves (x ++ 32 ∷ []) [] []) (sym is.whole) tt) (λ n t is lt. tt));
-  }
+  read = [];
+  whole = refl;
+  value = pos 0;
+  more = 48 ∷ 32 ∷ [];
+  begins = record { text = codes "0"; int_text = refl; whole = refl };
+  leaves = subst (λ x. (v : ℤ) (t : List ℕ) → IntSpace v t → Leaves t [] x) (sym e) (int_leaves [] [] tt (λ n t is lt. subst (λ x. Leaves (x ++ 32 ∷ []) [] []) (sym is.whole) tt) (λ n t is lt. tt));
+}
 
 pub read_int-right : (text : List ℕ) → IsRead IntSpace text (read_int text)
 read_int-right [] = some_int [] refl
@@ -118,8 +118,10 @@ plain_int v w s t h k =
   where
     numeral_other : (P : Type 0) (c : ℕ) (u : List ℕ) (n : ℕ) (x : List ℕ) → NumeralText n x → c < 49 → Agree P (c ∷ u) (x ++ 32 ∷ [])
     numeral_other P c u n x is lt = subst (λ y. Agree P (c ∷ u) (y ++ 32 ∷ [])) (sym is.whole) (λ same. absurd (omega (arith, is.above_zero)))
+
     other_numeral : (P : Type 0) (c : ℕ) (u : List ℕ) (n : ℕ) (x : List ℕ) → NumeralText n x → c < 49 → Agree P (x ++ 32 ∷ []) (c ∷ u)
     other_numeral P c u n x is lt = subst (λ y. Agree P (y ++ 32 ∷ []) (c ∷ u)) (sym is.whole) (λ same. absurd (omega (arith, is.above_zero)))
+
     by_ints : (v w : ℤ) (s t : List ℕ) → IntText v s → IntText w t → Agree (v ≡ w) (s ++ 32 ∷ []) (t ++ 32 ∷ [])
     by_ints (pos zero) (pos zero) s t a b = subst (λ x. Agree (pos zero ≡ pos zero) (x ++ 32 ∷ []) (t ++ 32 ∷ [])) (sym a) (subst (λ y. Agree (pos zero ≡ pos zero) (codes "0 ") (y ++ 32 ∷ [])) (sym b) (agree_same (codes "0 ") refl))
     by_ints (pos zero) (pos (suc n)) s t a b = subst (λ x. Agree (pos zero ≡ pos (suc n)) (x ++ 32 ∷ []) (t ++ 32 ∷ [])) (sym a) (numeral_other _ 48 (32 ∷ []) (suc n) t b.0 (omega arith))
@@ -130,7 +132,7 @@ plain_int v w s t h k =
     by_ints (negsuc m) (pos zero) s t a b = subst (λ x. Agree (negsuc m ≡ pos zero) (x ++ 32 ∷ []) (t ++ 32 ∷ [])) (sym a.1) (subst (λ y. Agree (negsuc m ≡ pos zero) (45 ∷ (a.0 ++ 32 ∷ [])) (y ++ 32 ∷ [])) (sym b) (λ same. absurd (omega arith)))
     by_ints (negsuc m) (pos (suc n)) s t a b = subst (λ x. Agree (negsuc m ≡ pos (suc n)) (x ++ 32 ∷ []) (t ++ 32 ∷ [])) (sym a.1) (numeral_other _ 45 (a.0 ++ 32 ∷ []) (suc n) t b.0 (omega arith))
     by_ints (negsuc m) (negsuc n) s t a b = subst (λ x. Agree (negsuc m ≡ negsuc n) (x ++ 32 ∷ []) (t ++ 32 ∷ [])) (sym a.1) (subst (λ y. Agree (negsuc m ≡ negsuc n) (45 ∷ (a.0 ++ 32 ∷ [])) (y ++ 32 ∷ [])) (sym b.1) (λ same.
-      agree_map (suc m ≡ suc n) (negsuc m ≡ negsuc n) (a.0 ++ 32 ∷ []) (b.0 ++ 32 ∷ []) (λ e. let f : m ≡ n = omega arith in ap negsuc f) (numeral_agree (suc m) (suc n) a.0 b.0 a.2 b.2)))
+        agree_map (suc m ≡ suc n) (negsuc m ≡ negsuc n) (a.0 ++ 32 ∷ []) (b.0 ++ 32 ∷ []) (λ e. let f : m ≡ n = omega arith in ap negsuc f) (numeral_agree (suc m) (suc n) a.0 b.0 a.2 b.2)))
 
 -- ---- the variable 0 or 1, and a colon
 
@@ -148,43 +150,43 @@ variable_leaves read rest zero_leaves one_leaves x t h = subst (λ y. Leaves y r
 
 variable_zero : (cs : List ℕ) (r : Answer (Unit {0})) → IsRead (Word (codes ":")) cs r → IsRead VariableColon (48 ∷ cs) (r >>= λ after. Ok (48 - 48, after.1))
 variable_zero cs (Ok r) h = record {
-    read = 48 ∷ h.read;
-    whole = ap (λ t. 48 ∷ t) h.whole;
-    is_text = record { variable = codes "0"; variable_text = inl (refl, refl); whole = ap (λ t. 48 ∷ t) h.is_text };
-  }
+  read = 48 ∷ h.read;
+  whole = ap (λ t. 48 ∷ t) h.whole;
+  is_text = record { variable = codes "0"; variable_text = inl (refl, refl); whole = ap (λ t. 48 ∷ t) h.is_text };
+}
 variable_zero cs (Err rest) h = record {
-    read = 48 ∷ h.read;
-    whole = ap (λ t. 48 ∷ t) h.whole;
-    value = 0;
-    more = h.more;
-    begins = record { variable = codes "0"; variable_text = inl (refl, refl); whole = ap (λ t. 48 ∷ t) h.begins };
-    leaves = variable_leaves (48 ∷ h.read) rest (λ same. h.leaves tt (codes ":") refl) (λ same. absurd (omega arith));
-  }
+  read = 48 ∷ h.read;
+  whole = ap (λ t. 48 ∷ t) h.whole;
+  value = 0;
+  more = h.more;
+  begins = record { variable = codes "0"; variable_text = inl (refl, refl); whole = ap (λ t. 48 ∷ t) h.begins };
+  leaves = variable_leaves (48 ∷ h.read) rest (λ same. h.leaves tt (codes ":") refl) (λ same. absurd (omega arith));
+}
 
 variable_one : (cs : List ℕ) (r : Answer (Unit {0})) → IsRead (Word (codes ":")) cs r → IsRead VariableColon (49 ∷ cs) (r >>= λ after. Ok (49 - 48, after.1))
 variable_one cs (Ok r) h = record {
-    read = 49 ∷ h.read;
-    whole = ap (λ t. 49 ∷ t) h.whole;
-    is_text = record { variable = codes "1"; variable_text = inr (refl, refl); whole = ap (λ t. 49 ∷ t) h.is_text };
-  }
+  read = 49 ∷ h.read;
+  whole = ap (λ t. 49 ∷ t) h.whole;
+  is_text = record { variable = codes "1"; variable_text = inr (refl, refl); whole = ap (λ t. 49 ∷ t) h.is_text };
+}
 variable_one cs (Err rest) h = record {
-    read = 49 ∷ h.read;
-    whole = ap (λ t. 49 ∷ t) h.whole;
-    value = 1;
-    more = h.more;
-    begins = record { variable = codes "1"; variable_text = inr (refl, refl); whole = ap (λ t. 49 ∷ t) h.begins };
-    leaves = variable_leaves (49 ∷ h.read) rest (λ same. absurd (omega arith)) (λ same. h.leaves tt (codes ":") refl);
-  }
+  read = 49 ∷ h.read;
+  whole = ap (λ t. 49 ∷ t) h.whole;
+  value = 1;
+  more = h.more;
+  begins = record { variable = codes "1"; variable_text = inr (refl, refl); whole = ap (λ t. 49 ∷ t) h.begins };
+  leaves = variable_leaves (49 ∷ h.read) rest (λ same. absurd (omega arith)) (λ same. h.leaves tt (codes ":") refl);
+}
 
 variable_refused : (text : List ℕ) → (begins 48 text ≡ true → ⊥) → (begins 49 text ≡ true → ⊥) → IsRefused VariableColon text text
 variable_refused text zero_first one_first = record {
-    read = [];
-    whole = refl;
-    value = 0;
-    more = codes "0:";
-    begins = record { variable = codes "0"; variable_text = inl (refl, refl); whole = refl };
-    leaves = variable_leaves [] text (leaves_first 48 (codes ":") [] text zero_first) (leaves_first 49 (codes ":") [] text one_first);
-  }
+  read = [];
+  whole = refl;
+  value = 0;
+  more = codes "0:";
+  begins = record { variable = codes "0"; variable_text = inl (refl, refl); whole = refl };
+  leaves = variable_leaves [] text (leaves_first 48 (codes ":") [] text zero_first) (leaves_first 49 (codes ":") [] text one_first);
+}
 
 variable_by : (b d : Bool) (c : ℕ) (cs : List ℕ) → (c == 48) ≡ b → (c == 49) ≡ d → (b ≡ true → c ≡ 48) → (d ≡ true → c ≡ 49)
     → IsRead VariableColon (c ∷ cs) (cond (b || d) (after_word (codes ":") cs >>= λ after. Ok (c - 48, after.1)) (Err (c ∷ cs)))
@@ -218,24 +220,24 @@ unit_leaves read rest above below c t (inr is) = subst (λ y. Leaves y read rest
 unit_below : (cs : List ℕ) (r : Answer (Unit {0})) → IsRead (Word (codes "1")) cs r → IsRead UnitText (45 ∷ cs) (r >>= λ after. Ok (negsuc 0, after.1))
 unit_below cs (Ok r) h = record { read = 45 ∷ h.read; whole = ap (λ t. 45 ∷ t) h.whole; is_text = inr (refl, ap (λ t. 45 ∷ t) h.is_text) }
 unit_below cs (Err rest) h = record {
-    read = 45 ∷ h.read;
-    whole = ap (λ t. 45 ∷ t) h.whole;
-    value = negsuc 0;
-    more = h.more;
-    begins = inr (refl, ap (λ t. 45 ∷ t) h.begins);
-    leaves = unit_leaves (45 ∷ h.read) rest (λ same. absurd (omega arith)) (λ same. h.leaves tt (codes "1") refl);
-  }
+  read = 45 ∷ h.read;
+  whole = ap (λ t. 45 ∷ t) h.whole;
+  value = negsuc 0;
+  more = h.more;
+  begins = inr (refl, ap (λ t. 45 ∷ t) h.begins);
+  leaves = unit_leaves (45 ∷ h.read) rest (λ same. absurd (omega arith)) (λ same. h.leaves tt (codes "1") refl);
+}
 
 unit_above : (text : List ℕ) (r : Answer (Unit {0})) → (begins 45 text ≡ true → ⊥) → IsRead (Word (codes "1")) text r → IsRead UnitText text (r >>= λ after. Ok (pos 1, after.1))
 unit_above text (Ok r) dash h = record { read = h.read; whole = h.whole; is_text = inl (refl, h.is_text) }
 unit_above text (Err rest) dash h = record {
-    read = h.read;
-    whole = h.whole;
-    value = pos 1;
-    more = h.more;
-    begins = inl (refl, h.begins);
-    leaves = unit_leaves h.read rest (h.leaves tt (codes "1") refl) (leaves_first 45 (codes "1") h.read rest (λ e. dash (subst (λ x. begins 45 x ≡ true) (sym h.whole) e)));
-  }
+  read = h.read;
+  whole = h.whole;
+  value = pos 1;
+  more = h.more;
+  begins = inl (refl, h.begins);
+  leaves = unit_leaves h.read rest (h.leaves tt (codes "1") refl) (leaves_first 45 (codes "1") h.read rest (λ e. dash (subst (λ x. begins 45 x ≡ true) (sym h.whole) e)));
+}
 
 unit_by : (b : Bool) (c : ℕ) (cs : List ℕ) → (c == 45) ≡ b → (b ≡ true → c ≡ 45)
     → IsRead UnitText (c ∷ cs) (cond b (after_word (codes "1") cs >>= λ after. Ok (negsuc 0, after.1)) (after_word (codes "1") (c ∷ cs) >>= λ after. Ok (pos 1, after.1)))

@@ -1,10 +1,10 @@
 -- Reading whole numbers: each answer is right for the numbers' texts with a space behind them.
-use Rattle.std.proofs.Common.{◌≡◌, ◌≢◌, ℕ, zero, suc, ◌+◌, ◌-◌, ◌*◌, ◌^◌, ◌<◌, ◌≤◌, ◌==◌, ◌&&◌, nat_le, ℤ, pos, negsuc, Bool, true, false, cond, List, [], ◌∷◌, ◌++◌, Ok, Err, refl, sym, ◌∙◌, ap, subst, arith, codes}
+use Rattle.std.proofs.Common.{◌≡◌, ◌≢◌, ℕ, ◌+◌, ◌-◌, ◌*◌, ◌<◌, ◌≤◌, ◌==◌, ◌&&◌, nat_le, Bool, true, false, cond, List, [], ◌∷◌, ◌++◌, Ok, Err, refl, sym, ◌∙◌, ap, subst, arith}
 use Rattle.std.specs.List.{AllByRecursion}
 use Rattle.std.proofs.lemmas.Bool.Decides.{nat_tests}
-use Rattle.cert_text.specs.Grammar.{IsDigit, number_after, NumeralText, IntText}
-use Rattle.cert_text.specs.Read.{Answer, ◌>>=◌, after_word, begins, number_on, numeral, negative, read_int}
-use Rattle.cert_text.proofs.Language.{Lang, Agree, Leaves, IsPlain, IsRefused, IsTaken, IsRead, Some_text, agree_map, agree_same, leaves_first, Word, read_word}
+use Rattle.cert_text.specs.Grammar.{IsDigit, number_after, NumeralText}
+use Rattle.cert_text.specs.Read.{Answer, number_on, numeral}
+use Rattle.cert_text.proofs.Language.{Agree, Leaves, IsRefused, IsRead, agree_map}
 
 -- digits that go on with n, and a space
 pub record NumberOn (most n v : ℕ) (t : List ℕ) : Type 0 where
@@ -31,18 +31,18 @@ ends_early (d ∷ ds) = tt
 
 number_more : (most n c : ℕ) (cs : List ℕ) (r : Answer ℕ) → IsDigit c → IsRead (NumberOn most (10 * n + (c - 48))) cs r → IsRead (NumberOn most n) (c ∷ cs) r
 number_more most n c cs (Ok r) digit h = record {
-    read = c ∷ h.read;
-    whole = ap (λ t. c ∷ t) h.whole;
-    is_text = record { others = c ∷ h.is_text.others; whole = ap (λ t. c ∷ t) h.is_text.whole; digits = (digit, h.is_text.digits); value = h.is_text.value; bound = h.is_text.bound };
-  }
+  read = c ∷ h.read;
+  whole = ap (λ t. c ∷ t) h.whole;
+  is_text = record { others = c ∷ h.is_text.others; whole = ap (λ t. c ∷ t) h.is_text.whole; digits = (digit, h.is_text.digits); value = h.is_text.value; bound = h.is_text.bound };
+}
 number_more most n c cs (Err rest) digit h = record {
-    read = c ∷ h.read;
-    whole = ap (λ t. c ∷ t) h.whole;
-    value = h.value;
-    more = h.more;
-    begins = record { others = c ∷ h.begins.others; whole = ap (λ t. c ∷ t) h.begins.whole; digits = (digit, h.begins.digits); value = h.begins.value; bound = h.begins.bound };
-    leaves = λ v t k. subst (λ x. Leaves x (c ∷ h.read) rest) (sym k.whole) (goes_on v k.others k.digits k.value k.bound);
-  }
+  read = c ∷ h.read;
+  whole = ap (λ t. c ∷ t) h.whole;
+  value = h.value;
+  more = h.more;
+  begins = record { others = c ∷ h.begins.others; whole = ap (λ t. c ∷ t) h.begins.whole; digits = (digit, h.begins.digits); value = h.begins.value; bound = h.begins.bound };
+  leaves = λ v t k. subst (λ x. Leaves x (c ∷ h.read) rest) (sym k.whole) (goes_on v k.others k.digits k.value k.bound);
+}
   where
     goes_on : (v : ℕ) (ds : List ℕ) → AllByRecursion IsDigit ds → number_after n ds ≡ v → v ≤ most → Leaves (ds ++ 32 ∷ []) (c ∷ h.read) rest
     goes_on v [] ds value bound = λ same. absurd (omega (arith, digit))
@@ -51,13 +51,13 @@ number_more most n c cs (Err rest) digit h = record {
 
 number_refused : (most n : ℕ) (text : List ℕ) → n ≤ most → ((v : ℕ) (ds : List ℕ) → AllByRecursion IsDigit ds → number_after n ds ≡ v → v ≤ most → Leaves (ds ++ 32 ∷ []) [] text) → IsRefused (NumberOn most n) text text
 number_refused most n text le h = record {
-    read = [];
-    whole = refl;
-    value = n;
-    more = 32 ∷ [];
-    begins = record { others = []; whole = refl; digits = tt; value = refl; bound = le };
-    leaves = λ v t k. subst (λ x. Leaves x [] text) (sym k.whole) (h v k.others k.digits k.value k.bound);
-  }
+  read = [];
+  whole = refl;
+  value = n;
+  more = 32 ∷ [];
+  begins = record { others = []; whole = refl; digits = tt; value = refl; bound = le };
+  leaves = λ v t k. subst (λ x. Leaves x [] text) (sym k.whole) (h v k.others k.digits k.value k.bound);
+}
 
 number_by : (b : Bool) (most n c : ℕ) (cs : List ℕ) → n ≤ most → c ≢ 32 → (b ≡ true → IsDigit c × (10 * n + (c - 48) ≤ most)) → (b ≡ false → IsDigit c → 10 * n + (c - 48) ≤ most → ⊥)
     → (10 * n + (c - 48) ≤ most → IsRead (NumberOn most (10 * n + (c - 48))) cs (number_on most (10 * n + (c - 48)) cs))
@@ -76,17 +76,17 @@ number_by false most n c cs le other met unmet h = number_refused most n (c ∷ 
 
 number_space : (b : Bool) (most n c : ℕ) (cs : List ℕ) (r : Answer ℕ) → n ≤ most → (b ≡ true → c ≡ 32) → (b ≡ false → IsRead (NumberOn most n) (c ∷ cs) r) → IsRead (NumberOn most n) (c ∷ cs) (cond b (Ok (n, cs)) r)
 number_space true most n c cs r le met unmet = record {
-    read = c ∷ [];
-    whole = refl;
-    is_text = record { others = []; whole = ap (λ x. x ∷ []) (met refl); digits = tt; value = refl; bound = le };
-  }
+  read = c ∷ [];
+  whole = refl;
+  is_text = record { others = []; whole = ap (λ x. x ∷ []) (met refl); digits = tt; value = refl; bound = le };
+}
 number_space false most n c cs r le met unmet = unmet refl
 
 pub read_number : (most n : ℕ) (text : List ℕ) → n ≤ most → IsRead (NumberOn most n) text (number_on most n text)
 read_number most n [] le = number_refused most n [] le (λ v ds digits value bound. ends_early ds)
 read_number most n (c ∷ cs) le =
     number_space (c == 32) most n c cs _ le (λ h. grind (arith, nat_tests)) (λ h.
-      number_by (nat_le 48 c && nat_le c 57 && nat_le (10 * n + (c - 48)) most) most n c cs le (λ e. grind (arith, nat_tests)) (λ b. grind (arith, nat_tests)) (λ b digit small. grind (arith, nat_tests)) (λ small. read_number most (10 * n + (c - 48)) cs small))
+    number_by (nat_le 48 c && nat_le c 57 && nat_le (10 * n + (c - 48)) most) most n c cs le (λ e. grind (arith, nat_tests)) (λ b. grind (arith, nat_tests)) (λ b digit small. grind (arith, nat_tests)) (λ small. read_number most (10 * n + (c - 48)) cs small))
 
 -- ---- numbers above 0
 
@@ -101,29 +101,29 @@ numeral_above v t h = omega (arith, number_after-ge (h.first - 48) h.others, h.a
 
 numeral_refused : (most : ℕ) (text : List ℕ) → 9 ≤ most → ((c : ℕ) (ds : List ℕ) → 49 ≤ c → c ≤ 57 → Leaves (c ∷ ds) [] text) → IsRefused (NumeralSpace most) text text
 numeral_refused most text le h = record {
-    read = [];
-    whole = refl;
-    value = 1;
-    more = 49 ∷ 32 ∷ [];
-    begins = record { text = 49 ∷ []; numeral_text = record { first = 49; others = []; whole = refl; above_zero = (omega arith, omega arith); digits = tt; value = refl }; bound = omega arith; whole = refl };
-    leaves = λ v t k. subst (λ x. Leaves x [] text) (sym (k.whole ∙ ap (λ x. x ++ 32 ∷ []) k.numeral_text.whole)) (h k.numeral_text.first (k.numeral_text.others ++ 32 ∷ []) k.numeral_text.above_zero.0 k.numeral_text.above_zero.1);
-  }
+  read = [];
+  whole = refl;
+  value = 1;
+  more = 49 ∷ 32 ∷ [];
+  begins = record { text = 49 ∷ []; numeral_text = record { first = 49; others = []; whole = refl; above_zero = (omega arith, omega arith); digits = tt; value = refl }; bound = omega arith; whole = refl };
+  leaves = λ v t k. subst (λ x. Leaves x [] text) (sym (k.whole ∙ ap (λ x. x ++ 32 ∷ []) k.numeral_text.whole)) (h k.numeral_text.first (k.numeral_text.others ++ 32 ∷ []) k.numeral_text.above_zero.0 k.numeral_text.above_zero.1);
+}
 
 numeral_first : (most c : ℕ) (cs : List ℕ) (r : Answer ℕ) → 49 ≤ c → c ≤ 57 → IsRead (NumberOn most (c - 48)) cs r → IsRead (NumeralSpace most) (c ∷ cs) r
 numeral_first most c cs (Ok r) low high h = record {
-    read = c ∷ h.read;
-    whole = ap (λ t. c ∷ t) h.whole;
-    is_text = record { text = c ∷ h.is_text.others; numeral_text = record { first = c; others = h.is_text.others; whole = refl; above_zero = (low, high); digits = h.is_text.digits; value = h.is_text.value }; bound = h.is_text.bound; whole = ap (λ t. c ∷ t) h.is_text.whole };
-  }
+  read = c ∷ h.read;
+  whole = ap (λ t. c ∷ t) h.whole;
+  is_text = record { text = c ∷ h.is_text.others; numeral_text = record { first = c; others = h.is_text.others; whole = refl; above_zero = (low, high); digits = h.is_text.digits; value = h.is_text.value }; bound = h.is_text.bound; whole = ap (λ t. c ∷ t) h.is_text.whole };
+}
 numeral_first most c cs (Err rest) low high h = record {
-    read = c ∷ h.read;
-    whole = ap (λ t. c ∷ t) h.whole;
-    value = h.value;
-    more = h.more;
-    begins = record { text = c ∷ h.begins.others; numeral_text = record { first = c; others = h.begins.others; whole = refl; above_zero = (low, high); digits = h.begins.digits; value = h.begins.value }; bound = h.begins.bound; whole = ap (λ t. c ∷ t) h.begins.whole };
-    leaves = λ v t k. subst (λ x. Leaves x (c ∷ h.read) rest) (sym (k.whole ∙ ap (λ x. x ++ 32 ∷ []) k.numeral_text.whole)) (λ same.
+  read = c ∷ h.read;
+  whole = ap (λ t. c ∷ t) h.whole;
+  value = h.value;
+  more = h.more;
+  begins = record { text = c ∷ h.begins.others; numeral_text = record { first = c; others = h.begins.others; whole = refl; above_zero = (low, high); digits = h.begins.digits; value = h.begins.value }; bound = h.begins.bound; whole = ap (λ t. c ∷ t) h.begins.whole };
+  leaves = λ v t k. subst (λ x. Leaves x (c ∷ h.read) rest) (sym (k.whole ∙ ap (λ x. x ++ 32 ∷ []) k.numeral_text.whole)) (λ same.
       h.leaves v (k.numeral_text.others ++ 32 ∷ []) (record { others = k.numeral_text.others; whole = refl; digits = k.numeral_text.digits; value = subst (λ x. number_after (x - 48) k.numeral_text.others ≡ v) same k.numeral_text.value; bound = k.bound }));
-  }
+}
 
 numeral_by : (b : Bool) (most c : ℕ) (cs : List ℕ) → 9 ≤ most → (b ≡ true → (49 ≤ c) × (c ≤ 57)) → (b ≡ false → 49 ≤ c → c ≤ 57 → ⊥) → IsRead (NumeralSpace most) (c ∷ cs) (cond b (number_on most (c - 48) cs) (Err (c ∷ cs)))
 numeral_by true most c cs le met unmet = let digit = met refl in numeral_first most c cs (number_on most (c - 48) cs) digit.0 digit.1 (read_number most (c - 48) cs (omega arith))
@@ -136,5 +136,5 @@ read_numeral most (c ∷ cs) le = numeral_by (nat_le 49 c && nat_le c 57) most c
 pub numeral_agree : (v w : ℕ) (s t : List ℕ) → NumeralText v s → NumeralText w t → Agree (v ≡ w) (s ++ 32 ∷ []) (t ++ 32 ∷ [])
 numeral_agree v w s t h k =
     subst (λ x. Agree (v ≡ w) (x ++ 32 ∷ []) (t ++ 32 ∷ [])) (sym h.whole) (subst (λ y. Agree (v ≡ w) (h.first ∷ (h.others ++ 32 ∷ [])) (y ++ 32 ∷ [])) (sym k.whole) (λ same.
-      agree_map (number_after (h.first - 48) h.others ≡ number_after (h.first - 48) k.others) (v ≡ w) (h.others ++ 32 ∷ []) (k.others ++ 32 ∷ [])
-        (λ e. sym h.value ∙ e ∙ ap (λ x. number_after (x - 48) k.others) same ∙ k.value) (spaced_agree (h.first - 48) h.others k.others h.digits k.digits)))
+    agree_map (number_after (h.first - 48) h.others ≡ number_after (h.first - 48) k.others) (v ≡ w) (h.others ++ 32 ∷ []) (k.others ++ 32 ∷ [])
+    (λ e. sym h.value ∙ e ∙ ap (λ x. number_after (x - 48) k.others) same ∙ k.value) (spaced_agree (h.first - 48) h.others k.others h.digits k.digits)))

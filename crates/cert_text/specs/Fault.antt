@@ -1,5 +1,5 @@
 -- Why bytes are no certificate's text, and how far they could be one's.
-use Rattle.std.specs.Prelude.{◌≡◌, ℕ, ◌≤◌, List, ◌++◌, length, take}
+use Rattle.std.specs.Prelude.{ℕ, ◌≤◌, List, ◌++◌, length, take}
 use Rattle.cert_text.specs.declared.certificate.Cert.{Cert}
 use Rattle.cert_text.specs.declared.certificate.CertFault.{CertFault}
 use Rattle.cert_text.specs.declared.certificate.CertFault.TheVariants.{Mem, Grammar}

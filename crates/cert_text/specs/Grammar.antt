@@ -61,10 +61,10 @@ pub record RowText (row : Form) (text : List ℕ) : Type 0 where
 pub data NodeText : ℕ → CertNode → List ℕ → Type 0 where
   grid : {depth : ℕ} {node : CertNode} {text : List ℕ} → node ≡ Grid → text ≡ codes "grid\n" → NodeText depth node text
   split : {depth : ℕ} {node : CertNode} {text : List ℕ} (row : Form) (first second : CertNode) (row_text first_text second_text : List ℕ)
-    → depth < 512 → node ≡ Split row first second
-    → text ≡ concat (codes "split " ∷ row_text ∷ codes "\n" ∷ first_text ∷ second_text ∷ [])
-    → RowText row row_text → NodeText (depth + 1) first first_text → NodeText (depth + 1) second second_text
-    → NodeText depth node text
+      → depth < 512 → node ≡ Split row first second
+      → text ≡ concat (codes "split " ∷ row_text ∷ codes "\n" ∷ first_text ∷ second_text ∷ [])
+      → RowText row row_text → NodeText (depth + 1) first first_text → NodeText (depth + 1) second second_text
+      → NodeText depth node text
 
 -- 32 bytes, two hex digits each
 abbrev pub DigestText : List ℕ → List ℕ → Type 0

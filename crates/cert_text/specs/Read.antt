@@ -107,5 +107,5 @@ read_node zero text = read_grid text
 read_node (suc levels) text =
     if begins 115 text
     then (after_word (codes "split ") text >>= λ start. read_row start.1 >>= λ row. after_word (codes "\n") row.1 >>= λ line.
-      read_node levels line.1 >>= λ first. read_node levels first.1 >>= λ second. Ok (Split row.0 first.0 second.0, second.1))
+    read_node levels line.1 >>= λ first. read_node levels first.1 >>= λ second. Ok (Split row.0 first.0 second.0, second.1))
     else read_grid text

@@ -1,7 +1,6 @@
 -- Reading a whole certificate.
-use Rattle.std.specs.Prelude.{ℕ, List, [], ◌∷◌, codes, Result, Ok, Err}
+use Rattle.std.specs.Prelude.{ℕ, List, [], ◌∷◌, codes, Ok, Err}
 use Rattle.cert_text.specs.declared.certificate.Cert.{Cert}
-use Rattle.cert_text.specs.declared.certificate.CertNode.{CertNode}
 use Rattle.cert_text.specs.Read.{Answer, ◌>>=◌, after_word, read_bytes, read_node}
 
 -- the value, if nothing follows
@@ -13,7 +12,7 @@ at_end value (c ∷ cs) = Err (c ∷ cs)
 abbrev pub read_front : List ℕ → Answer Cert
 read_front text =
     after_word (codes "vizlog-cert 1\njob ") text >>= λ start. read_bytes 32 start.1 >>= λ job. after_word (codes "\n") job.1 >>= λ line.
-      read_node 512 line.1 >>= λ root. Ok (record { job = job.0; root = root.0 }, root.1)
+    read_node 512 line.1 >>= λ root. Ok (record { job = job.0; root = root.0 }, root.1)
 
 abbrev pub read_whole : List ℕ → Answer Cert
 read_whole text = read_front text >>= λ cert. at_end cert.0 cert.1

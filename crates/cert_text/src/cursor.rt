@@ -45,7 +45,9 @@ fn with_digit(most: u128, number: u128, byte: u8) -> Option<u128>
     if !byte.is_ascii_digit() {
         return None;
     }
-    let next = number.checked_mul(10)?.checked_add(u128::from(byte - b'0'))?;
+    let next = number
+        .checked_mul(10)?
+        .checked_add(u128::from(byte - b'0'))?;
     (next <= most).then_some(next)
 }
 

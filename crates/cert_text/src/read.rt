@@ -74,9 +74,5 @@ fn read_node(alloc: Global, cursor: &mut Cursor, levels: u16) -> Result<CertNode
     cursor.word(b"\n")?;
     let first = read_node(alloc, cursor, levels - 1)?;
     let second = read_node(alloc, cursor, levels - 1)?;
-    Ok(CertNode::Split(
-        row,
-        Boxed::new(alloc, first)?,
-        Boxed::new(alloc, second)?,
-    ))
+    Ok(CertNode::Split(row, Boxed::new(alloc, first)?, Boxed::new(alloc, second)?))
 }

@@ -27,11 +27,20 @@ fn places(rt: HostRuntime) -> Result<(), Fail> {
         ("split 07 0:1", Some(90)),
         ("grid\n\n", Some(88)),
         ("split -0 0:1\n", Some(90)),
-        ("split 170141183460469231731687303715884105728 0:1\n", Some(127)),
-        ("split -170141183460469231731687303715884105729 0:1\n", Some(128)),
+        (
+            "split 170141183460469231731687303715884105728 0:1\n",
+            Some(127),
+        ),
+        (
+            "split -170141183460469231731687303715884105729 0:1\n",
+            Some(128),
+        ),
         ("split 0 0:1\ngrid\ngrid\ngrid\n", Some(105)),
         ("grid\n", None),
-        ("split -170141183460469231731687303715884105728 1:-1\ngrid\nsplit 7 0:1\ngrid\ngrid\n", None),
+        (
+            "split -170141183460469231731687303715884105728 1:-1\ngrid\nsplit 7 0:1\ngrid\ngrid\n",
+            None,
+        ),
     ] {
         assert!(rt; place(&rt, node)? == wanted);
     }

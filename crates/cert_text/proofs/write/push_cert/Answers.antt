@@ -8,4 +8,4 @@ pub returns : goal.returns
 returns c =
     let digits = rw c.digits_of-digits.ensures at c.in_ok-extend_from_slice-2.ensures.items in
     pushed_four c.args.text.now.items _ _ _ c.push_node.new.text.items (codes "vizlog-cert 1\njob ") (encode_lower c.args.cert.now.job) (codes "\n") (node_bytes c.args.cert.now.root)
-      c.in_ok-extend_from_slice.ensures.items digits c.in_ok-extend_from_slice-3.ensures.items c.in_ok-push_node.ensures
+    c.in_ok-extend_from_slice.ensures.items digits c.in_ok-extend_from_slice-3.ensures.items c.in_ok-push_node.ensures

@@ -1,4 +1,4 @@
-use Rattle.std.proofs.Common.{◌≡◌, ℕ, ◌+◌, ◌-◌, ◌*◌, ◌<◌, List, Ok, Err, length, take, refl, sym, ◌∙◌, ap, arith, add-one, subst, ◌≤◌, ◌++◌, []}
+use Rattle.std.proofs.Common.{◌≡◌, ℕ, ◌+◌, ◌-◌, ◌*◌, ◌<◌, List, Ok, length, take, refl, sym, ◌∙◌, arith, add-one, subst, ◌≤◌, ◌++◌, []}
 use Rattle.std.proofs.lemmas.List.{take_more_set, take_all, append-nil, length-set}
 use Rattle.std.proofs.lemmas.Result.{err_from_is_err_and}
 use Rattle.cert_text.specs.Read.{read_hex, read_bytes}

@@ -1,4 +1,4 @@
-use Rattle.std.proofs.Common.{◌≡◌, ◌∙◌, length, arith, None, MatchOption}
+use Rattle.std.proofs.Common.{◌∙◌}
 use Rattle.cert_text.proofs.CursorLemmas.{word_ended}
 use Rattle.cert_text.proofs.cursor.Cursor.word.Goals as goal
 
