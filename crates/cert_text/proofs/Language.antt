@@ -1,6 +1,6 @@
 -- Languages: relations between values and texts. How far a text can be begun, and how parts that are read one after
 -- another make a whole.
-use Rattle.std.proofs.Common.{◌≡◌, ℕ, suc, ◌==◌, Bool, true, false, cond, List, [], ◌∷◌, ◌++◌, Result, Ok, Err, refl, sym, ◌∙◌, ap, subst, arith, append_assoc}
+use Rattle.std.proofs.Common.{◌≡◌, ℕ, suc, ◌==◌, Bool, true, false, cond, List, [], ◌∷◌, ◌++◌, Result, Ok, Err, refl, sym, ◌∙◌, ap, subst, arith, append_assoc, rules}
 use Rattle.cert_text.specs.Read.{Answer, ◌>>=◌, after_word, begins}
 
 -- the values' texts
@@ -101,8 +101,8 @@ leaves_back P (c ∷ s) (d ∷ t) u read rest h k = λ e. leaves_back P s t u re
 -- a text that begins with c leaves one that does not
 pub leaves_first : (c : ℕ) (t read rest : List ℕ) → (begins c (read ++ rest) ≡ true → ⊥) → Leaves (c ∷ t) read rest
 leaves_first c t [] [] h = tt
-leaves_first c t [] (d ∷ rest) h = λ e. h (search (arith, Rattle.std.proofs.Common.rules))
-leaves_first c t (d ∷ read) rest h = λ e. absurd (h (search (arith, Rattle.std.proofs.Common.rules)))
+leaves_first c t [] (d ∷ rest) h = λ e. h (search (arith, rules))
+leaves_first c t (d ∷ read) rest h = λ e. absurd (h (search (arith, rules)))
 
 -- ---- one part after another
 

@@ -7,6 +7,7 @@ use viz_base::Boxed;
 pub struct Cert {
     /// SHA-256 of the job's bytes.
     pub job: [u8; 32],
+    /// How the whole range is decided.
     pub root: CertNode,
 }
 

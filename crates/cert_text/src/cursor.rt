@@ -6,13 +6,16 @@ use std::alloc::AllocError;
 /// What is left to read of a text. Where a call refuses, it stands at the first byte that can't follow.
 #[derive(Drop)]
 pub struct Cursor<'a> {
+    /// The bytes that are left.
     pub rest: &'a [u8],
 }
 
 /// Why reading stops.
 #[derive(Clone, Copy)]
 pub enum Stop {
+    /// Want of memory.
     Mem,
+    /// The next byte can't stand here.
     Refused,
 }
 

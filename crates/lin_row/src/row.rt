@@ -10,7 +10,9 @@ use thiserror::Error;
 /// than 0. It claims that the form is at least 0.
 #[derive(Debug, Drop)]
 pub struct Row {
+    /// The constant.
     pub k: i128,
+    /// The variables' numbers with their coefficients.
     pub terms: Terms,
 }
 
@@ -52,7 +54,7 @@ impl Row {
     ghost use Rattle.lin_row.specs.Form.{denied};
     ghost use Rattle.lin_row.specs.Exact.{IsExact};
 
-    /// A row of one term.
+    /// A row of one term, whose coefficient is other than 0. The only fault is want of memory.
     pub fn of_term(
         alloc: Global,
         k: i128,
