@@ -1,0 +1,198 @@
+-- Reading a digest: 32 bytes of two hex digits each.
+use Rattle.std.proofs.Common.{◌≡◌, ℕ, zero, suc, ◌+◌, ◌-◌, ◌*◌, ◌/◌, ◌%◌, ◌<◌, ◌≤◌, ◌&&◌, nat_lt, nat_le, Bool, true, false, cond, List, [], ◌∷◌, length, slice_index, Option, Some, None, refl, sym, ◌∙◌, ap, subst, arith}
+use Rattle.std.specs.List.{AllByRecursion}
+use Rattle.std.proofs.lemmas.List.{append-nil}
+use Rattle.std.proofs.lemmas.Bool.Decides.{nat_tests}
+use Rattle.std.proofs.lemmas.Option.{same_Some}
+use Rattle.hex.specs.Hex.{lower_digits, encode_with, encode_lower}
+use Rattle.cert_text.specs.Read.{lower_value, answer_hex, read_hex, read_bytes}
+use Rattle.cert_text.proofs.Language.{Lang, Agree, Leaves, IsPlain, IsRead, Some_text, Dep, Done, read_dep, read_same, read_done, plain_dep, plain_done, some_dep, some_done}
+
+-- the digit at each place of the table
+lower_code : ℕ → ℕ
+lower_code v = cond (nat_lt v 10) (48 + v) (87 + v)
+
+lower_at : (v : ℕ) → v < 16 → slice_index lower_digits v ≡ lower_code v
+unfolding lower_code
+lower_at zero lt = refl
+lower_at (suc zero) lt = refl
+lower_at (suc (suc zero)) lt = refl
+lower_at (suc (suc (suc zero))) lt = refl
+lower_at (suc (suc (suc (suc zero)))) lt = refl
+lower_at (suc (suc (suc (suc (suc zero))))) lt = refl
+lower_at (suc (suc (suc (suc (suc (suc zero)))))) lt = refl
+lower_at (suc (suc (suc (suc (suc (suc (suc zero))))))) lt = refl
+lower_at (suc (suc (suc (suc (suc (suc (suc (suc zero)))))))) lt = refl
+lower_at (suc (suc (suc (suc (suc (suc (suc (suc (suc zero))))))))) lt = refl
+lower_at (suc (suc (suc (suc (suc (suc (suc (suc (suc (suc zero)))))))))) lt = refl
+lower_at (suc (suc (suc (suc (suc (suc (suc (suc (suc (suc (suc zero))))))))))) lt = refl
+lower_at (suc (suc (suc (suc (suc (suc (suc (suc (suc (suc (suc (suc zero)))))))))))) lt = refl
+lower_at (suc (suc (suc (suc (suc (suc (suc (suc (suc (suc (suc (suc (suc zero))))))))))))) lt = refl
+lower_at (suc (suc (suc (suc (suc (suc (suc (suc (suc (suc (suc (suc (suc (suc zero)))))))))))))) lt = refl
+lower_at (suc (suc (suc (suc (suc (suc (suc (suc (suc (suc (suc (suc (suc (suc (suc zero))))))))))))))) lt = refl
+lower_at (suc (suc (suc (suc (suc (suc (suc (suc (suc (suc (suc (suc (suc (suc (suc (suc n)))))))))))))))) lt = absurd (omega arith)
+
+at_value : (v : ℕ) → v < 16 → lower_value (slice_index lower_digits v) ≡ Some v
+at_value zero lt = refl
+at_value (suc zero) lt = refl
+at_value (suc (suc zero)) lt = refl
+at_value (suc (suc (suc zero))) lt = refl
+at_value (suc (suc (suc (suc zero)))) lt = refl
+at_value (suc (suc (suc (suc (suc zero))))) lt = refl
+at_value (suc (suc (suc (suc (suc (suc zero)))))) lt = refl
+at_value (suc (suc (suc (suc (suc (suc (suc zero))))))) lt = refl
+at_value (suc (suc (suc (suc (suc (suc (suc (suc zero)))))))) lt = refl
+at_value (suc (suc (suc (suc (suc (suc (suc (suc (suc zero))))))))) lt = refl
+at_value (suc (suc (suc (suc (suc (suc (suc (suc (suc (suc zero)))))))))) lt = refl
+at_value (suc (suc (suc (suc (suc (suc (suc (suc (suc (suc (suc zero))))))))))) lt = refl
+at_value (suc (suc (suc (suc (suc (suc (suc (suc (suc (suc (suc (suc zero)))))))))))) lt = refl
+at_value (suc (suc (suc (suc (suc (suc (suc (suc (suc (suc (suc (suc (suc zero))))))))))))) lt = refl
+at_value (suc (suc (suc (suc (suc (suc (suc (suc (suc (suc (suc (suc (suc (suc zero)))))))))))))) lt = refl
+at_value (suc (suc (suc (suc (suc (suc (suc (suc (suc (suc (suc (suc (suc (suc (suc zero))))))))))))))) lt = refl
+at_value (suc (suc (suc (suc (suc (suc (suc (suc (suc (suc (suc (suc (suc (suc (suc (suc n)))))))))))))))) lt = absurd (omega arith)
+
+code_low : (v : ℕ) → v < 10 → lower_code v ≡ 48 + v
+unfolding lower_code
+code_low v lt = grind (arith, nat_tests)
+
+code_high : (v : ℕ) → 10 ≤ v → lower_code v ≡ 87 + v
+unfolding lower_code
+code_high v le = grind (arith, nat_tests)
+
+value_by : (a b : Bool) (c v : ℕ) → (a ≡ true → (48 ≤ c) × (c ≤ 57)) → (b ≡ true → (97 ≤ c) × (c ≤ 102)) → cond a (Some (c - 48)) (cond b (Some (c - 97 + 10)) None) ≡ Some v
+    → (v < 16) × (slice_index lower_digits v ≡ c)
+value_by true b c v low high is =
+    let same : c - 48 ≡ v = same_Some (c - 48) v is in
+    let bound = low refl in
+    let small : v < 16 = omega arith in
+    (small, lower_at v small ∙ code_low v (omega arith) ∙ omega arith)
+value_by false true c v low high is =
+    let same : c - 97 + 10 ≡ v = same_Some (c - 97 + 10) v is in
+    let bound = high refl in
+    let small : v < 16 = omega arith in
+    (small, lower_at v small ∙ code_high v (omega arith) ∙ omega arith)
+value_by false false c v low high is = absurd (cc)
+
+value_at : (c v : ℕ) → lower_value c ≡ Some v → (v < 16) × (slice_index lower_digits v ≡ c)
+value_at c v is = value_by (nat_le 48 c && nat_le c 57) (nat_le 97 c && nat_le c 102) c v (λ h. grind (arith, nat_tests)) (λ h. grind (arith, nat_tests)) is
+
+-- one digit
+abbrev pub HexText : Lang ℕ
+HexText v t = (v < 16) × (t ≡ slice_index lower_digits v ∷ [])
+
+hex_by : (o : Option ℕ) (c : ℕ) (cs : List ℕ) → lower_value c ≡ o → IsRead HexText (c ∷ cs) (answer_hex o c cs)
+hex_by (Some v) c cs is = let at = value_at c v is in record { read = c ∷ []; whole = refl; is_text = (at.0, ap (λ x. x ∷ []) (sym at.1)) }
+hex_by None c cs is = record {
+  read = [];
+  whole = refl;
+  value = 0;
+  more = 48 ∷ [];
+  begins = (omega arith, refl);
+  leaves = λ v t h. subst (λ x. Leaves x [] (c ∷ cs)) (sym h.1) (λ same. let told : Some v ≡ None = sym (at_value v h.0) ∙ ap lower_value same ∙ is in absurd (cc));
+}
+
+pub read_hex-right : (text : List ℕ) → IsRead HexText text (read_hex text)
+read_hex-right [] = record { read = []; whole = refl; value = 0; more = 48 ∷ []; begins = (omega arith, refl); leaves = λ v t h. subst (λ x. Leaves x [] []) (sym h.1) tt }
+read_hex-right (c ∷ cs) = hex_by (lower_value c) c cs refl
+
+plain_hex : IsPlain HexText
+plain_hex v w s t h k =
+    subst (λ x. Agree (v ≡ w) x t) (sym h.1) (subst (λ y. Agree (v ≡ w) (slice_index lower_digits v ∷ []) y) (sym k.1) (λ same.
+    same_Some v w (sym (at_value v h.0) ∙ ap lower_value same ∙ at_value w k.0)))
+
+some_hex : Some_text HexText
+some_hex = record { value = 0; text = 48 ∷ []; is_text = (omega arith, refl) }
+
+-- bytes, two digits each
+abbrev pub BytesText : ℕ → Lang (List ℕ)
+BytesText k job t = (length job ≡ k) × AllByRecursion (λ b. b < 256) job × (t ≡ encode_lower job)
+
+abbrev Pair : ℕ → Lang (List ℕ)
+Pair k = Dep HexText (λ high. Dep HexText (λ low. Dep (BytesText k) (λ others. Done ((16 * high + low) ∷ others))))
+
+pub from_pair : (k : ℕ) (job t : List ℕ) → Pair k job t → BytesText (suc k) job t
+unfolding encode_with
+from_pair k job t h =
+    let high = h.first in
+    let l = h.back_text in
+    let low = l.first in
+    let o = l.back_text in
+    let others = o.first in
+    let high_small = h.first_text.0 in
+    let low_small = l.first_text.0 in
+    let top : (16 * high + low) / 16 ≡ high = omega arith in
+    let bottom : (16 * high + low) % 16 ≡ low = omega arith in
+    let text : t ≡ encode_lower ((16 * high + low) ∷ others) = h.whole ∙ rw (h.first_text.1, l.whole, l.first_text.1, o.whole, o.first_text.2, o.back_text.1, top, bottom) (ap (λ x. slice_index lower_digits high ∷ slice_index lower_digits low ∷ x) (append-nil (encode_lower others))) in
+    subst (λ j. BytesText (suc k) j t) (sym o.back_text.0) (ap suc o.first_text.0, (omega arith, o.first_text.1), text)
+
+pair_from : (k : ℕ) (job t : List ℕ) → BytesText (suc k) job t → Pair k job t
+unfolding encode_with
+pair_from k [] t h = absurd (omega (arith, h.0))
+pair_from k (b ∷ others) t h =
+    let small : b < 256 = h.1.0 in
+    let high_small : b / 16 < 16 = omega arith in
+    let low_small : b % 16 < 16 = omega arith in
+    let same : b ≡ 16 * (b / 16) + b % 16 = omega arith in
+    let sized : length others ≡ k = omega (arith, h.0) in
+    record {
+      first = b / 16;
+      front = slice_index lower_digits (b / 16) ∷ [];
+      back = slice_index lower_digits (b % 16) ∷ encode_lower others;
+      whole = h.2;
+      first_text = (high_small, refl);
+      back_text = record {
+        first = b % 16;
+        front = slice_index lower_digits (b % 16) ∷ [];
+        back = encode_lower others;
+        whole = refl;
+        first_text = (low_small, refl);
+        back_text = record {
+          first = others;
+          front = encode_lower others;
+          back = [];
+          whole = sym (append-nil (encode_lower others));
+          first_text = (sized, h.1.1, refl);
+          back_text = (ap (λ x. x ∷ others) same, refl);
+        };
+      };
+    }
+
+nothing : (job t : List ℕ) → BytesText 0 job t → (job ≡ []) × (t ≡ [])
+unfolding encode_with
+nothing [] t h = (refl, h.2)
+nothing (b ∷ others) t h = absurd (omega (arith, h.0))
+
+pub some_bytes : (k : ℕ) → Some_text (BytesText k)
+unfolding encode_with
+some_bytes zero = record { value = []; text = []; is_text = (refl, tt, refl) }
+some_bytes (suc k) =
+    let s = some_dep HexText (λ high. Dep HexText (λ low. Dep (BytesText k) (λ others. Done ((16 * high + low) ∷ others)))) some_hex
+    (λ high. some_dep HexText (λ low. Dep (BytesText k) (λ others. Done ((16 * high + low) ∷ others))) some_hex
+    (λ low. some_dep (BytesText k) (λ others. Done ((16 * high + low) ∷ others)) (some_bytes k) (λ others. some_done ((16 * high + low) ∷ others)))) in
+    record { value = s.value; text = s.text; is_text = from_pair k s.value s.text s.is_text }
+
+pub plain_bytes : (k : ℕ) → IsPlain (BytesText k)
+plain_bytes zero v w s t h k =
+    let a = nothing v s h in
+    let b = nothing w t k in
+    subst (λ x. Agree (v ≡ w) x t) (sym a.1) (subst (λ y. Agree (v ≡ w) [] y) (sym b.1) (a.0 ∙ sym b.0))
+plain_bytes (suc n) v w s t h k =
+    plain_dep HexText (λ high. Dep HexText (λ low. Dep (BytesText n) (λ others. Done ((16 * high + low) ∷ others)))) plain_hex
+    (λ high. plain_dep HexText (λ low. Dep (BytesText n) (λ others. Done ((16 * high + low) ∷ others))) plain_hex
+    (λ low. plain_dep (BytesText n) (λ others. Done ((16 * high + low) ∷ others)) (plain_bytes n) (λ others. plain_done ((16 * high + low) ∷ others))))
+    v w s t (pair_from n v s h) (pair_from n w t k)
+
+pub read_bytes-right : (k : ℕ) (text : List ℕ) → IsRead (BytesText k) text (read_bytes k text)
+unfolding read_bytes encode_with
+read_bytes-right zero text = record { read = []; whole = refl; is_text = (refl, tt, refl) }
+read_bytes-right (suc k) text =
+    read_same (Pair k) (BytesText (suc k)) text _ (from_pair k) (pair_from k)
+    (read_dep HexText (λ high. Dep HexText (λ low. Dep (BytesText k) (λ others. Done ((16 * high + low) ∷ others)))) text (read_hex text) _ plain_hex
+    (λ high. some_dep HexText (λ low. Dep (BytesText k) (λ others. Done ((16 * high + low) ∷ others))) some_hex
+    (λ low. some_dep (BytesText k) (λ others. Done ((16 * high + low) ∷ others)) (some_bytes k) (λ others. some_done ((16 * high + low) ∷ others))))
+    (read_hex-right text)
+    (λ high mid. read_dep HexText (λ low. Dep (BytesText k) (λ others. Done ((16 * high + low) ∷ others))) mid (read_hex mid) _ plain_hex
+    (λ low. some_dep (BytesText k) (λ others. Done ((16 * high + low) ∷ others)) (some_bytes k) (λ others. some_done ((16 * high + low) ∷ others)))
+    (read_hex-right mid)
+    (λ low end. read_dep (BytesText k) (λ others. Done ((16 * high + low) ∷ others)) end (read_bytes k end) _ (plain_bytes k)
+    (λ others. some_done ((16 * high + low) ∷ others)) (read_bytes-right k end) (λ others last. read_done ((16 * high + low) ∷ others) last))))

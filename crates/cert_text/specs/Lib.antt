@@ -1,0 +1,5 @@
+pub mod Fault
+pub mod Grammar
+pub mod Read
+pub mod Whole
+pub mod Write

@@ -1,0 +1,33 @@
+use lin_row::Row;
+use thiserror::Error;
+use viz_base::Boxed;
+
+/// Why a page's assertion holds at every world of its range.
+#[derive(Debug, Drop)]
+pub struct Cert {
+    /// SHA-256 of the job's bytes.
+    pub job: [u8; 32],
+    /// How the whole range is decided.
+    pub root: CertNode,
+}
+
+/// A part of the range, and how it is decided there.
+#[derive(Debug, Drop)]
+pub enum CertNode {
+    /// The row is at least 0 in the first part, and below 0 in the second.
+    Split(Row, Boxed<CertNode>, Boxed<CertNode>),
+    /// Each world of the part is laid out by itself.
+    Grid,
+}
+
+/// Why bytes are read as no certificate.
+#[derive(Clone, Copy, Debug, PartialEq, Eq, Error)]
+pub enum CertFault {
+    /// Want of memory.
+    #[error("out of memory")]
+    Mem,
+    /// The bytes are no certificate's text. The number is the length of their longest prefix that
+    /// is a prefix of some certificate's text.
+    #[error("no certificate: byte {0}")]
+    Grammar(u64),
+}

@@ -1,0 +1,3 @@
+pub mod Opposites
+pub mod Values
+pub mod Whole

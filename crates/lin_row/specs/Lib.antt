@@ -1,0 +1,3 @@
+pub mod Exact
+pub mod Form
+pub mod Number
