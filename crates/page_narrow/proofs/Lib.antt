@@ -5,3 +5,4 @@ pub mod TreeLemmas
 pub mod TreeFacts
 pub mod JobFacts
 pub mod Bytes
+pub mod ReadyLemmas

@@ -1,7 +1,8 @@
 //! Job files in the narrow form: nested blocks of fixed heights, and one comparison to prove of them.
 #![tactic(auto)]
 
-ghost use Rattle.std.specs.Prelude.{◌≡◌, IfOk, IfErr, MatchResult, Some};
+ghost use Rattle.std.specs.Prelude.{◌≡◌, IfOk, IsTrue, MatchResult, Some};
+ghost use Rattle.layout_semantics.specs.Ready.{ready};
 ghost use Rattle.page_narrow.specs.Narrow.{narrow_job, value_of, Gives, FailsToRead};
 ghost use Rattle.serde_json.specs.View.{view};
 
@@ -39,7 +40,9 @@ fn value_of(alloc: Global, bytes: &[u8]) -> Result<Value, NarrowFault>
 /// The job that the bytes of a job file in the narrow form are. `NotJson` where the bytes are no JSON
 /// text, nesting at most 127 deep; `NotYet` where their value is not in the narrow form.
 pub fn read_narrow(alloc: Global, bytes: &[u8]) -> Result<Job, NarrowFault>
-    ensures { Gives result (narrow_job bytes.now) }
+    ensures gives { Gives result (narrow_job bytes.now) }
+    // Its page is one that can be laid out.
+    ensures laid_out { IfOk result (λ job. IsTrue (ready job.tree)) }
 {
     let value = value_of(alloc, bytes)?;
     job_of(alloc, Sha256::digest(bytes), &value)
