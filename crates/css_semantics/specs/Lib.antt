@@ -1,0 +1,5 @@
+pub mod TokensLetters
+pub mod TokensMacros
+pub mod TokensTable
+pub mod TokensUnescaped
+pub mod Tokens
