@@ -1,0 +1,11 @@
+pub mod Reading
+pub mod Rows
+pub mod Words
+pub mod Quotes
+pub mod Forward
+pub mod Found
+pub mod WordsFound
+pub mod QuotesFound
+pub mod Table
+pub mod Munch
+pub mod TextLemmas

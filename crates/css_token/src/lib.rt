@@ -1,0 +1,8 @@
+//! Tokens of style sheets (CSS 2.1, 4.1.1), one at a time or all of a text, and what they say without escapes.
+#![tactic(auto)]
+
+mod letters;
+mod scan;
+mod states;
+
+pub use scan::next;
