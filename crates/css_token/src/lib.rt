@@ -1,8 +1,12 @@
 //! Tokens of style sheets (CSS 2.1, 4.1.1), one at a time or all of a text, and what they say without escapes.
 #![tactic(auto)]
 
+mod escapes;
 mod letters;
 mod scan;
 mod states;
 
+
+pub use escapes::unescape;
 pub use scan::next;
+
