@@ -1,7 +1,7 @@
 -- The tokens of a text (CSS 2.1, 4.1.1): pieces that join to the text, each the longest at its place that some kind has,
 -- and of the first such kind in the table.
 use Rattle.std.specs.Prelude.{◌≡◌, ℕ, ◌+◌, ◌≤◌, List, [], ◌∷◌, ◌++◌, length, map, drop, encode_utf8_all}
-use Rattle.std.specs.Str.{IsCharBoundary, chars}
+use Rattle.std.specs.Str.{IsCharBoundary, IsUtf8, chars}
 use Rattle.viz_base.specs.declared.tokens.TokenKind.{TokenKind}
 use Rattle.viz_base.specs.declared.tokens.Token.{Token}
 use Rattle.css_semantics.specs.TokensTable.{Matches, row_of}
@@ -19,6 +19,7 @@ pub record IsToken (text : List ℕ) (at : ℕ) (t : Token) : Type 0 where
   pub place : t.at ≡ at
   pub rest : List ℕ
   pub whole : drop at text ≡ t.text.now ++ rest
+  pub utf8 : IsUtf8 t.text.now
   pub longest : IsLongest (chars (drop at text)) t.kind (chars t.text.now) (chars rest)
   pub boundary : IsCharBoundary text (at + length t.text.now)
 

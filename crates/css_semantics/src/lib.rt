@@ -1,2 +1,6 @@
-//! What the tokens of a style sheet are (CSS 2.1, 4.1): definitions that the contracts of other crates cite.
+//! What the tokens of a style sheet are (CSS 2.1, 4.1): definitions that the contracts of other crates cite, and their laws.
 #![tactic(auto)]
+
+mod laws;
+
+pub use laws::{tokens_are_unique, tokens_join};

@@ -9,3 +9,4 @@ pub mod QuotesFound
 pub mod Table
 pub mod Munch
 pub mod TextLemmas
+pub mod SequenceLemmas

@@ -40,6 +40,7 @@ token_by text front rest at t m e le u v w place taken =
       place = place;
       rest = rest;
       whole = parts;
+      utf8 = w;
       longest = subst (λ f. IsLongest (chars f) t.kind (chars t.text.now) (chars rest)) e (subst (λ p. IsLongest (chars front) t.kind p (chars rest)) letters m.is);
       boundary = end_is_boundary text t.text.now rest at le parts v;
     }

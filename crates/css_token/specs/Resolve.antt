@@ -1,5 +1,5 @@
 -- Escapes resolved one character at a time.
-use Rattle.std.specs.Prelude.{ℕ, ◌==◌, ◌<◌, List, [], ◌∷◌, ◌++◌, if◌then◌else◌}
+use Rattle.std.specs.Prelude.{ℕ, ◌==◌, ◌<◌, List, [], ◌∷◌, if◌then◌else◌}
 use Rattle.css_semantics.specs.TokensLetters.{is_space}
 use Rattle.css_semantics.specs.TokensUnescaped.{Extent, resolved, escaped, numbered, returned, open_extent, marked_extent, address_extent}
 use Rattle.css_token.specs.declared.escapes.Ending.{Ending}

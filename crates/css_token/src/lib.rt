@@ -4,9 +4,9 @@
 mod escapes;
 mod letters;
 mod scan;
+mod sequence;
 mod states;
-
 
 pub use escapes::unescape;
 pub use scan::next;
-
+pub use sequence::{tokens, tokens_exist};

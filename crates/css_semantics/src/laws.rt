@@ -1,0 +1,13 @@
+ghost use Rattle.std.specs.Prelude.{◌≡◌, List, flat_map};
+ghost use Rattle.std.specs.Str.{chars};
+ghost use Rattle.css_semantics.specs.Tokens.{ArePieces, Piece};
+
+/// A law: no text has two lists of tokens (CSS 2.1, 4.1.1).
+pub fn tokens_are_unique(text: &str)
+    ensures { (first second : List Piece) → ArePieces 0 (chars text.now) first → ArePieces 0 (chars text.now) second → first ≡ second }
+{}
+
+/// A law: the tokens of a text join to it.
+pub fn tokens_join(text: &str)
+    ensures { (pieces : List Piece) → ArePieces 0 (chars text.now) pieces → flat_map (λ p. p.bytes) pieces ≡ text.now }
+{}
