@@ -6,6 +6,8 @@ mod letters;
 mod scan;
 mod sequence;
 mod states;
+#[cfg(test)]
+mod tests;
 
 pub use escapes::unescape;
 pub use scan::next;
