@@ -2,4 +2,5 @@ pub mod TokensLetters
 pub mod TokensMacros
 pub mod TokensTable
 pub mod TokensUnescaped
+pub mod TokensEscapes
 pub mod Tokens

@@ -1,6 +1,8 @@
 ghost use Rattle.std.specs.Prelude.{◌≡◌, List, flat_map};
 ghost use Rattle.std.specs.Str.{chars};
 ghost use Rattle.css_semantics.specs.Tokens.{ArePieces, Piece};
+ghost use Rattle.css_semantics.specs.TokensEscapes.{ResolvesEscapes};
+ghost use Rattle.css_semantics.specs.TokensUnescaped.{Extent};
 
 /// A law: no text has two lists of tokens (CSS 2.1, 4.1.1).
 pub fn tokens_are_unique(text: &str)
@@ -10,4 +12,9 @@ pub fn tokens_are_unique(text: &str)
 /// A law: the tokens of a text join to it.
 pub fn tokens_join(text: &str)
     ensures { (pieces : List Piece) → ArePieces 0 (chars text.now) pieces → flat_map (λ p. p.bytes) pieces ≡ text.now }
+{}
+
+/// A law: what each escape in a text gives (CSS 2.1, 4.1.3).
+pub fn escapes_resolve()
+    ensures { (extent : Extent) → ResolvesEscapes extent }
 {}

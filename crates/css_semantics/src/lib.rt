@@ -3,4 +3,4 @@
 
 mod laws;
 
-pub use laws::{tokens_are_unique, tokens_join};
+pub use laws::{escapes_resolve, tokens_are_unique, tokens_join};
