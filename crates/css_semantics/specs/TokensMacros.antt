@@ -36,8 +36,8 @@ abbrev pub Each : (ℕ → Bool) → List ℕ → Type 0
 Each test = AllByRecursion (λ c. IsTrue (test c))
 
 -- one or more of them
-abbrev pub Some1 : (ℕ → Bool) → List ℕ → Type 0
-Some1 test piece = (0 < length piece) × Each test piece
+abbrev pub OneOrMore : (ℕ → Bool) → List ℕ → Type 0
+OneOrMore test piece = (0 < length piece) × Each test piece
 
 -- one to six of them
 abbrev pub UpToSix : (ℕ → Bool) → List ℕ → Type 0
@@ -91,7 +91,7 @@ IsName = Then IsNameChar (Many IsNameChar)
 
 -- num: digits, or any digits, a point and one or more digits
 abbrev pub IsNum : List ℕ → Type 0
-IsNum piece = Some1 is_digit piece ⊎ Then (Each is_digit) (Then (Mark 46) (Some1 is_digit)) piece
+IsNum piece = OneOrMore is_digit piece ⊎ Then (Each is_digit) (Then (Mark 46) (OneOrMore is_digit)) piece
 
 -- what may stand in a string within this quote: a character, a backslash with the end of a line, an escape
 abbrev pub IsQuoted : ℕ → List ℕ → Type 0

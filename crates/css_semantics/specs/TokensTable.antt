@@ -3,7 +3,7 @@ use Rattle.std.specs.Prelude.{◌≡◌, ℕ, ◌⊎◌, List, [], ◌∷◌, le
 use Rattle.viz_base.specs.declared.tokens.TokenKind.{TokenKind}
 use Rattle.viz_base.specs.declared.tokens.TokenKind.TheVariants.{Ident, AtKeyword, Str, BadString, BadUri, BadComment, Hash, Number, Percentage, Dimension, Uri, UnicodeRange, Cdo, Cdc, Colon, Semicolon, LeftBrace, RightBrace, LeftParen, RightParen, LeftBracket, RightBracket, Space, Comment, Function, Includes, DashMatch, Delim}
 use Rattle.css_semantics.specs.TokensLetters.{is_space, is_hex, is_u, is_r, is_l, is_range}
-use Rattle.css_semantics.specs.TokensMacros.{One, Mark, Then, Maybe, Some1, UpToSix, IsWhite, IsIdent, IsName, IsNum, IsString, IsBadString, IsUrl, IsOpen}
+use Rattle.css_semantics.specs.TokensMacros.{One, Mark, Then, Maybe, OneOrMore, UpToSix, IsWhite, IsIdent, IsName, IsNum, IsString, IsBadString, IsUrl, IsOpen}
 
 -- `url(`, its letters in either case
 abbrev pub IsUrlOpening : List ℕ → Type 0
@@ -47,7 +47,7 @@ Matches LeftParen piece = Mark 40 piece
 Matches RightParen piece = Mark 41 piece
 Matches LeftBracket piece = Mark 91 piece
 Matches RightBracket piece = Mark 93 piece
-Matches Space piece = Some1 is_space piece
+Matches Space piece = OneOrMore is_space piece
 Matches Comment piece = Then IsCommentStart (Then IsOpen IsCommentEnd) piece
 Matches Function piece = Then IsIdent (Mark 40) piece
 Matches Includes piece = piece ≡ 126 ∷ 61 ∷ []

@@ -8,7 +8,8 @@ use Rattle.css_semantics.specs.TokensLetters.{within, is_digit, is_hex, is_newli
 abbrev pub hex_value : ℕ → ℕ
 hex_value c = if is_digit c then c - 48 else (if within 97 102 c then c - 87 else c - 55)
 
--- the character that an escape by number gives: U+FFFD for 0, a surrogate and what is past U+10FFFF
+-- the character that an escape by number gives: U+FFFD for 0, a surrogate and what is past U+10FFFF, in this project's own
+-- reading
 abbrev pub scalar : ℕ → ℕ
 scalar n = if n == 0 || within 0xD800 0xDFFF n || nat_lt 0x10FFFF n then 0xFFFD else n
 

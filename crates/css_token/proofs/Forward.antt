@@ -5,7 +5,7 @@ use Rattle.std.proofs.lemmas.List.{append-nil}
 use Rattle.viz_base.specs.declared.tokens.TokenKind.{TokenKind}
 use Rattle.viz_base.specs.declared.tokens.TokenKind.TheVariants.{Ident, AtKeyword, Str, BadString, BadUri, BadComment, Hash, Number, Percentage, Dimension, Uri, UnicodeRange, Cdo, Cdc, Colon, Semicolon, LeftBrace, RightBrace, LeftParen, RightParen, LeftBracket, RightBracket, Space, Comment, Function, Includes, DashMatch, Delim}
 use Rattle.css_semantics.specs.TokensLetters.{is_hex, is_space, is_start, is_u, is_range}
-use Rattle.css_semantics.specs.TokensMacros.{One, Mark, Then, Maybe, Each, Some1, UpToSix, IsIdent, IsName, IsNum}
+use Rattle.css_semantics.specs.TokensMacros.{One, Mark, Then, Maybe, Each, OneOrMore, UpToSix, IsIdent, IsName, IsNum}
 use Rattle.css_semantics.specs.TokensTable.{Matches, row_of}
 use Rattle.css_token.specs.declared.states.State.{State}
 use Rattle.css_token.specs.declared.states.State.TheVariants.{Begin, At, HashMark, Spaces, UPlus, RangeFirst, RangeDash, RangeSecond}
@@ -88,7 +88,7 @@ spaces_on : (piece : List ℕ) → Each is_space piece → reads Spaces piece �
 spaces_on [] each = refl
 spaces_on (c ∷ piece) each = rw each.0 (spaces_on piece each.1)
 
-space_reads : (piece : List ℕ) → Some1 is_space piece → reads Begin piece ≡ Some Space
+space_reads : (piece : List ℕ) → OneOrMore is_space piece → reads Begin piece ≡ Some Space
 space_reads [] some = absurd (omega (arith, some.0))
 space_reads (c ∷ piece) some = let n = space_first c some.1.0 in rw (n.0, n.1, n.2, some.1.0) (spaces_on piece some.1.1)
 

@@ -6,7 +6,7 @@ use Rattle.std.proofs.lemmas.List.{append_assoc}
 use Rattle.viz_base.specs.declared.tokens.TokenKind.{TokenKind}
 use Rattle.viz_base.specs.declared.tokens.TokenKind.TheVariants.{Ident, BadUri, Number, Percentage, Function}
 use Rattle.css_semantics.specs.TokensLetters.{is_digit, is_space, is_start, is_name, is_u, is_r, is_l}
-use Rattle.css_semantics.specs.TokensMacros.{Then, Many, Each, Some1, IsStart, IsNameChar, IsIdent, IsName, IsNum}
+use Rattle.css_semantics.specs.TokensMacros.{Then, Many, Each, OneOrMore, IsStart, IsNameChar, IsIdent, IsName, IsNum}
 use Rattle.css_semantics.specs.TokensTable.{row_of}
 use Rattle.css_token.specs.declared.states.Row.{Row}
 use Rattle.css_token.specs.declared.states.Row.TheVariants.{Word, AtWord, Name, Measure}
@@ -132,11 +132,11 @@ digits_fraction : (piece t : List ℕ) → Each is_digit piece → reads Fractio
 digits_fraction [] t each = refl
 digits_fraction (c ∷ piece) t each = rw each.0 (digits_fraction piece t each.1)
 
-run_whole : (piece t : List ℕ) → Some1 is_digit piece → reads Begin (piece ++ t) ≡ reads Whole t
+run_whole : (piece t : List ℕ) → OneOrMore is_digit piece → reads Begin (piece ++ t) ≡ reads Whole t
 run_whole [] t some = absurd (omega (arith, some.0))
 run_whole (c ∷ piece) t some = rw (first_digit c some.1.0) (digits_whole piece t some.1.1)
 
-run_fraction : (piece t : List ℕ) → Some1 is_digit piece → reads Point (piece ++ t) ≡ reads Fraction t
+run_fraction : (piece t : List ℕ) → OneOrMore is_digit piece → reads Point (piece ++ t) ≡ reads Fraction t
 run_fraction [] t some = absurd (omega (arith, some.0))
 run_fraction (c ∷ piece) t some = rw some.1.0 (digits_fraction piece t some.1.1)
 

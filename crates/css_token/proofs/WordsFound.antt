@@ -7,7 +7,7 @@ use Rattle.std.proofs.lemmas.List.{append_assoc, append-nil}
 use Rattle.viz_base.specs.declared.tokens.TokenKind.{TokenKind}
 use Rattle.viz_base.specs.declared.tokens.TokenKind.TheVariants.{Ident, AtKeyword, Hash, Number, Percentage, Dimension, UnicodeRange, Cdc, Function}
 use Rattle.css_semantics.specs.TokensLetters.{is_digit, is_hex, is_start, is_name, is_u, is_r, is_l, is_range}
-use Rattle.css_semantics.specs.TokensMacros.{Mark, Then, Maybe, Each, Some1, UpToSix, IsEscape, IsStart, IsNameChar, IsIdent, IsName, IsNum}
+use Rattle.css_semantics.specs.TokensMacros.{Mark, Then, Maybe, Each, OneOrMore, UpToSix, IsEscape, IsStart, IsNameChar, IsIdent, IsName, IsNum}
 use Rattle.css_semantics.specs.TokensTable.{Matches}
 use Rattle.css_token.specs.declared.states.Row.{Row}
 use Rattle.css_token.specs.declared.states.Row.TheVariants.{Word, AtWord, Name, Measure}
@@ -229,10 +229,10 @@ record NumFound (k : TokenKind) (p : List ℕ) : Type 0 where
   pub num : List ℕ
   pub rest : List ℕ
   pub whole : p ≡ num ++ rest
-  pub is : Each is_digit num ⊎ Then (Each is_digit) (Then (Mark 46) (Some1 is_digit)) num
+  pub is : Each is_digit num ⊎ Then (Each is_digit) (Then (Mark 46) (OneOrMore is_digit)) num
   pub unit : UnitFound k rest
 
-point_more : (c : ℕ) (num : List ℕ) → is_digit c ≡ true → Each is_digit num ⊎ Then (Each is_digit) (Then (Mark 46) (Some1 is_digit)) num → Each is_digit (c ∷ num) ⊎ Then (Each is_digit) (Then (Mark 46) (Some1 is_digit)) (c ∷ num)
+point_more : (c : ℕ) (num : List ℕ) → is_digit c ≡ true → Each is_digit num ⊎ Then (Each is_digit) (Then (Mark 46) (OneOrMore is_digit)) num → Each is_digit (c ∷ num) ⊎ Then (Each is_digit) (Then (Mark 46) (OneOrMore is_digit)) (c ∷ num)
 point_more c num e (inl each) = inl (e, each)
 point_more c num e (inr t) = inr (record { front = c ∷ t.front; back = t.back; whole = ap (λ x. c ∷ x) t.whole; first = (e, t.first); second = t.second })
 
@@ -263,7 +263,7 @@ num_matches k p num rest whole is (inl e) = rw e.1 (subst IsNum (sym (whole ∙ 
 num_matches k p num rest whole is (inr (inl e)) = rw e.1 (record { front = num; back = rest; whole = whole; first = is; second = e.0 })
 num_matches k p num rest whole is (inr (inr e)) = rw e.1 (record { front = num; back = rest; whole = whole; first = is; second = e.0 })
 
-is_num : (c : ℕ) (num : List ℕ) → Each is_digit (c ∷ num) ⊎ Then (Each is_digit) (Then (Mark 46) (Some1 is_digit)) (c ∷ num) → IsNum (c ∷ num)
+is_num : (c : ℕ) (num : List ℕ) → Each is_digit (c ∷ num) ⊎ Then (Each is_digit) (Then (Mark 46) (OneOrMore is_digit)) (c ∷ num) → IsNum (c ∷ num)
 is_num c num (inl each) = inl (omega arith, each)
 is_num c num (inr t) = inr t
 
