@@ -1,2 +1,5 @@
 pub mod PieceLemmas
 pub mod EscapeLemmas
+pub mod Gathering
+pub mod Tails
+pub mod Reading

@@ -2,5 +2,7 @@
 #![tactic(auto)]
 
 mod laws;
+mod statements;
 
 pub use laws::{escapes_resolve, tokens_are_unique, tokens_join};
+pub use statements::Statement;
