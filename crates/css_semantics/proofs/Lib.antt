@@ -3,3 +3,8 @@ pub mod EscapeLemmas
 pub mod Gathering
 pub mod Tails
 pub mod Reading
+pub mod Pairs
+pub mod Stretches
+pub mod Values
+pub mod Items
+pub mod Declarations

@@ -6,3 +6,4 @@ pub mod TokensEscapes
 pub mod Tokens
 pub mod SheetsMarks
 pub mod SheetsReading
+pub mod SheetsGrammar
