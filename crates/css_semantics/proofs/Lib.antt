@@ -8,3 +8,5 @@ pub mod Stretches
 pub mod Values
 pub mod Items
 pub mod Declarations
+pub mod Rules
+pub mod Answers
