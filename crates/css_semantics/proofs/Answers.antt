@@ -1,5 +1,5 @@
 -- Statements have exactly one answer, the one that reading them gives.
-use Rattle.std.proofs.Common.{◌≡◌, ℕ, ◌<◌, ◌≤◌, Bool, true, false, cond, not, ◌||◌, List, [], ◌∷◌, ◌++◌, length, Option, Some, None, Result, Ok, Err, refl, sym, ◌∙◌, ap, subst, ◌⊎◌, inl, inr, arith, append_assoc, nat_lt}
+use Rattle.std.proofs.Common.{◌≡◌, ℕ, ◌<◌, ◌≤◌, Bool, true, false, cond, not, ◌||◌, List, [], ◌∷◌, ◌++◌, length, Result, Ok, Err, refl, sym, ◌∙◌, ap, subst, ◌⊎◌, inl, inr, arith, append_assoc, nat_lt}
 use Rattle.std.specs.List.{list_any}
 use Rattle.std.proofs.lemmas.List.{append-nil}
 use Rattle.std.proofs.lemmas.Bool.Decides.{nat_tests}
@@ -8,7 +8,7 @@ use Rattle.viz_base.specs.declared.sheets.Rule.{Rule}
 use Rattle.css_semantics.specs.declared.statements.Statement.{Statement}
 use Rattle.css_semantics.specs.declared.statements.Statement.TheVariants.{Ruleset, Import, Page, MediaQuery, Media}
 use Rattle.css_semantics.specs.SheetsReading.{Refusal, import_at, media_at, too_many, capped, with_statement, if_ok, read_on, sheet_of, statements, closed_by_end}
-use Rattle.css_semantics.specs.SheetsGrammar.{rules_of, ends_imports, is_refused, IsAccepted, IsFirstRefused, IsAnswer, refused_import, refused_query, too_long, rules_are, IsSheet, AreStatements}
+use Rattle.css_semantics.specs.SheetsGrammar.{rules_of, ends_imports, is_refused, IsAccepted, IsFirstRefused, IsAnswer, refused_import, refused_query, too_long, rules_are, IsSheet}
 use Rattle.css_semantics.proofs.Pairs.{by_bool}
 use Rattle.css_semantics.proofs.Rules.{are_statements, statements_are}
 

@@ -1,5 +1,5 @@
 -- A list of tokens is a declaration exactly where it is read as one.
-use Rattle.std.proofs.Common.{◌≡◌, ℕ, ◌+◌, suc, Bool, true, false, cond, not, ◌&&◌, List, [], ◌∷◌, ◌++◌, length, take, drop, Option, Some, None, refl, sym, ◌∙◌, ap, subst, arith}
+use Rattle.std.proofs.Common.{◌≡◌, ℕ, ◌+◌, suc, Bool, true, false, cond, not, ◌&&◌, List, [], ◌∷◌, ◌++◌, take, drop, Option, Some, None, refl, sym, ◌∙◌, ap, subst, arith}
 use Rattle.std.specs.List.{list_all, prefix_len}
 use Rattle.std.specs.Option.{option_to_list}
 use Rattle.std.proofs.lemmas.List.{take-append-drop}
@@ -9,7 +9,7 @@ use Rattle.viz_base.specs.declared.tokens.TokenKind.TheVariants.{Colon}
 use Rattle.viz_base.specs.declared.sheets.Decl.{Decl}
 use Rattle.css_semantics.specs.SheetsMarks.{is_ident, is_at_keyword, is_colon, is_gap, ends_declaration}
 use Rattle.css_semantics.specs.SheetsReading.{goes_on, is_value, before_important, declared_at, declared, declaration, trim_start, is_blank, declaration_item, after_declaration, declarations, front, behind, after_at_rule}
-use Rattle.css_semantics.specs.SheetsGrammar.{IsStretch, IsDeclaration, DeclarationItem, blank, at_rule, well_formed, malformed, AreDeclarations}
+use Rattle.css_semantics.specs.SheetsGrammar.{IsDeclaration, DeclarationItem, blank, at_rule, well_formed, malformed, AreDeclarations}
 use Rattle.css_semantics.proofs.Pairs.{by_bool}
 use Rattle.css_semantics.proofs.Stretches.{is_stretch, stretch_front, stretch_behind}
 use Rattle.css_semantics.proofs.Values.{standing_goes, goes_standing}
@@ -89,10 +89,13 @@ declared_is name [] d h = absurd (no_some d h)
 declared_is name (c ∷ v) d h =
     by_bool (is_colon c.kind && is_value v)
     (λ e. record {
-      colon = c; value = v; whole = refl;
+      colon = c;
+      value = v;
+      whole = refl;
       parted = both_first (is_colon c.kind) _ e;
       is = both_second (is_colon c.kind) _ e;
-      gives = sym (same_some _ d (sym (ap (λ b. cond b (Some (declared_at name v (before_important v))) None) e) ∙ h)) })
+      gives = sym (same_some _ d (sym (ap (λ b. cond b (Some (declared_at name v (before_important v))) None) e) ∙ h));
+    })
     (λ e. absurd (no_some d (sym (ap (λ b. cond b (Some (declared_at name v (before_important v))) None) e) ∙ h)))
 
 pub read_declaration : (piece : List Token) (d : Decl) → declaration piece ≡ Some d → IsDeclaration piece d
@@ -100,16 +103,20 @@ read_declaration [] d h = absurd (no_some d h)
 read_declaration (t ∷ ts) d h =
     by_bool (is_ident t.kind)
     (λ e.
-      let k = declared_is t (trim_start is_gap ts) d (sym (ap (λ b. cond b (declared t (trim_start is_gap ts)) None) e) ∙ h) in
-      record {
-        name = t; gap = take (prefix_len gap_token ts) ts; colon = k.colon; value = k.value;
-        whole = ap (λ x. t ∷ x) (sym (take-append-drop (prefix_len gap_token ts) ts) ∙ ap (λ x. take (prefix_len gap_token ts) ts ++ x) k.whole);
-        named = e;
-        blank = gap_front ts;
-        parted = k.parted;
-        standing = goes_standing k.value (both_first (goes_on [] k.value) _ k.is);
-        some = not_true _ (both_second (goes_on [] k.value) _ k.is);
-        gives = k.gives })
+    let k = declared_is t (trim_start is_gap ts) d (sym (ap (λ b. cond b (declared t (trim_start is_gap ts)) None) e) ∙ h) in
+    record {
+      name = t;
+      gap = take (prefix_len gap_token ts) ts;
+      colon = k.colon;
+      value = k.value;
+      whole = ap (λ x. t ∷ x) (sym (take-append-drop (prefix_len gap_token ts) ts) ∙ ap (λ x. take (prefix_len gap_token ts) ts ++ x) k.whole);
+      named = e;
+      blank = gap_front ts;
+      parted = k.parted;
+      standing = goes_standing k.value (both_first (goes_on [] k.value) _ k.is);
+      some = not_true _ (both_second (goes_on [] k.value) _ k.is);
+      gives = k.gives;
+    })
     (λ e. absurd (no_some d (sym (ap (λ b. cond b (declared t (trim_start is_gap ts)) None) e) ∙ h)))
 
 -- ---- items
@@ -151,12 +158,14 @@ none_of (Some d) h = absurd (h d refl)
 takes_only : TakesOnly DeclarationItem declaration_item after_declaration
 takes_only t ts xs rest (blank e) = (sym (item_is t ts true _ e refl), sym (after_is t ts true _ e refl))
 takes_only t ts xs rest (at_rule {prelude = prelude} {block = block} e f h) = (sym (item_is t ts false true e f), at_rule_after ts prelude block rest h ∙ sym (after_is t ts false true e f))
-takes_only t ts xs rest (well_formed {piece = piece} {d = d} e f h k) =
-    (sym (item_is t ts false false e f ∙ ap (λ x. option_to_list (declaration x)) (sym (stretch_front ends_declaration (t ∷ ts) piece rest h)) ∙ ap option_to_list (declaration_read piece d k)),
-     stretch_behind ends_declaration (t ∷ ts) piece rest h ∙ sym (after_is t ts false false e f))
-takes_only t ts xs rest (malformed {piece = piece} e f h k) =
-    (none_of (declaration piece) (λ d r. k d (read_declaration piece d r)) ∙ ap (λ x. option_to_list (declaration x)) (stretch_front ends_declaration (t ∷ ts) piece rest h) ∙ sym (item_is t ts false false e f),
-     stretch_behind ends_declaration (t ∷ ts) piece rest h ∙ sym (after_is t ts false false e f))
+takes_only t ts xs rest (well_formed {piece = piece} {d = d} e f h k) = (
+  sym (item_is t ts false false e f ∙ ap (λ x. option_to_list (declaration x)) (sym (stretch_front ends_declaration (t ∷ ts) piece rest h)) ∙ ap option_to_list (declaration_read piece d k)),
+  stretch_behind ends_declaration (t ∷ ts) piece rest h ∙ sym (after_is t ts false false e f),
+)
+takes_only t ts xs rest (malformed {piece = piece} e f h k) = (
+  none_of (declaration piece) (λ d r. k d (read_declaration piece d r)) ∙ ap (λ x. option_to_list (declaration x)) (stretch_front ends_declaration (t ∷ ts) piece rest h) ∙ sym (item_is t ts false false e f),
+  stretch_behind ends_declaration (t ∷ ts) piece rest h ∙ sym (after_is t ts false false e f),
+)
 
 pub are_declarations : (ts : List Token) → AreDeclarations ts (declarations ts)
 are_declarations ts = listed DeclarationItem declaration_item after_declaration declaration_tails takes ts

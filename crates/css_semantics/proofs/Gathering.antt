@@ -1,5 +1,5 @@
 -- Lists that are read one item after another.
-use Rattle.std.proofs.Common.{◌≡◌, ℕ, zero, suc, ◌+◌, ◌-◌, ◌<◌, ◌≤◌, List, [], ◌∷◌, ◌++◌, length, take, drop, refl, sym, ◌∙◌, ap, subst, ◌⊎◌, inl, inr, arith, length-drop, append_assoc, Option, Some, None}
+use Rattle.std.proofs.Common.{◌≡◌, ℕ, zero, suc, ◌+◌, ◌-◌, ◌<◌, ◌≤◌, List, [], ◌∷◌, ◌++◌, length, take, drop, refl, sym, ◌∙◌, ap, subst, inl, inr, arith, length-drop, append_assoc, Option, Some, None}
 use Rattle.std.specs.Option.{option_to_list}
 use Rattle.std.proofs.Math.Seq.{drop-nil}
 use Rattle.std.proofs.lemmas.List.{drop_all, append-nil}
@@ -46,8 +46,9 @@ length-tail r ts h = omega (arith, ap length h.1, length-drop h.0 ts)
 
 drop_back : (n : ℕ) (ts : List Token) → drop (length ts - length (drop n ts)) ts ≡ drop n ts
 drop_back n ts = elim (cases_lt n (length ts)) [
-    inl h ↦ ap (λ k. drop k ts) (omega (arith, length-drop n ts))
-  | inr h ↦ drop_all _ ts (omega (arith, length-drop n ts)) ∙ sym (drop_all n ts h) ]
+  | inl h ↦ ap (λ k. drop k ts) (omega (arith, length-drop n ts))
+  | inr h ↦ drop_all _ ts (omega (arith, length-drop n ts)) ∙ sym (drop_all n ts h)
+]
 
 pub tail_is : (r ts : List Token) → IsTail r ts → drop (length ts - length r) ts ≡ r
 tail_is r ts h = subst (λ x. drop (length ts - length x) ts ≡ x) (sym h.1) (drop_back h.0 ts)

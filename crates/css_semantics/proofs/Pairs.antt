@@ -1,5 +1,5 @@
 -- All pairs are matched exactly where no mark is awaited behind the tokens.
-use Rattle.std.proofs.Common.{◌≡◌, ℕ, Bool, true, false, cond, List, [], ◌∷◌, ◌++◌, Option, Some, None, refl, sym, ◌∙◌, ap, subst, append_assoc}
+use Rattle.std.proofs.Common.{◌≡◌, Bool, true, false, cond, List, [], ◌∷◌, ◌++◌, Option, Some, None, refl, sym, ◌∙◌, ap, subst, append_assoc}
 use Rattle.viz_base.specs.declared.tokens.Token.{Token}
 use Rattle.viz_base.specs.declared.tokens.TokenKind.{TokenKind}
 use Rattle.viz_base.specs.declared.tokens.TokenKind.TheVariants.{RightBrace, RightParen, RightBracket}
@@ -80,10 +80,15 @@ closing_single (m ∷ marks) t p e same fails h =
 closing_pair : (marks : List TokenKind) (t : Token) (p : List Token) (m : TokenKind) → closing_mark t.kind ≡ Some m → Closing (m ∷ marks) p → Closing marks (t ∷ p)
 closing_pair [] t p m e h = pair m h.0 h.1 h.2 h.3 e h.4 h.5 h.6
 closing_pair (k ∷ marks) t p m e h =
-    let rest = h.6 in
-    (t ∷ (h.0 ++ h.1 ∷ rest.0), rest.1, rest.2,
-     ap (λ x. t ∷ x) (h.3 ∙ ap (λ x. h.0 ++ h.1 ∷ x) rest.3 ∙ sym (append_assoc h.0 (h.1 ∷ rest.0) (rest.1 ∷ rest.2))),
-     pair m h.0 h.1 rest.0 refl e h.4 h.5 rest.4, rest.5, rest.6)
+    let rest = h.6 in (
+      t ∷ (h.0 ++ h.1 ∷ rest.0),
+      rest.1,
+      rest.2,
+      ap (λ x. t ∷ x) (h.3 ∙ ap (λ x. h.0 ++ h.1 ∷ x) rest.3 ∙ sym (append_assoc h.0 (h.1 ∷ rest.0) (rest.1 ∷ rest.2))),
+      pair m h.0 h.1 rest.0 refl e h.4 h.5 rest.4,
+      rest.5,
+      rest.6,
+    )
 
 closing_mark_first : (m : TokenKind) (marks : List TokenKind) (t : Token) (p : List Token) → is_mark m t.kind ≡ true → Closing marks p → Closing (m ∷ marks) (t ∷ p)
 closing_mark_first m marks t p e h = ([], t, p, refl, nothing, e, h)
@@ -101,7 +106,7 @@ closing_passed (m ∷ marks) t p e ih h =
     by_bool (is_mark m t.kind)
     (λ yes1. closing_mark_first m marks t p yes1 (ih marks (sym (ap (λ b. marks_after (cond b marks (m ∷ marks)) p) yes1) ∙ h)))
     (λ no1. closing_single (m ∷ marks) t p e (ap (λ b. cond b marks (m ∷ marks)) no1) (λ k ks same. subst (λ x. is_mark x t.kind ≡ false) (head_of m k marks ks same) no1)
-      (ih (m ∷ marks) (sym (ap (λ b. marks_after (cond b marks (m ∷ marks)) p) no1) ∙ h)))
+    (ih (m ∷ marks) (sym (ap (λ b. marks_after (cond b marks (m ∷ marks)) p) no1) ∙ h)))
 
 closing : (p : List Token) (marks : List TokenKind) → marks_after marks p ≡ [] → Closing marks p
 closing [] [] h = nothing

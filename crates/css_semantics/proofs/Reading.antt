@@ -1,12 +1,12 @@
 -- Steps of the reading of statements and of media lists.
-use Rattle.std.proofs.Common.{◌≡◌, ℕ, ◌<◌, ◌≤◌, ◌-◌, ◌||◌, Bool, true, false, List, [], ◌∷◌, ◌++◌, length, drop, Option, Some, None, Result, Ok, Err, refl, sym, ◌∙◌, ap, arith}
+use Rattle.std.proofs.Common.{◌≡◌, ◌<◌, ◌-◌, ◌||◌, Bool, true, false, List, [], ◌∷◌, ◌++◌, length, drop, Option, Some, None, Ok, refl, ap, arith}
 use Rattle.std.specs.Option.{option_to_list}
 use Rattle.std.specs.List.{list_any}
 use Rattle.viz_base.specs.declared.tokens.Token.{Token}
 use Rattle.viz_base.specs.declared.sheets.Rule.{Rule}
 use Rattle.css_semantics.specs.declared.statements.Statement.{Statement}
 use Rattle.css_semantics.specs.SheetsMarks.{ends_entry}
-use Rattle.css_semantics.specs.SheetsReading.{Refusal, if_ok, with_statement, read_on, at_head, entry_item, after_entry, front, behind, entries, gathered, is_screen}
+use Rattle.css_semantics.specs.SheetsReading.{if_ok, with_statement, read_on, at_head, entry_item, after_entry, front, behind, entries, gathered, is_screen}
 
 pub read_none : (early : Bool) (rules : List Rule) (o : Option Statement) (ss : List Statement) → o ≡ None → read_on early rules (option_to_list o ++ ss) ≡ read_on early rules ss
 read_none early rules o ss e = ap (λ p. read_on early rules (option_to_list p ++ ss)) e

@@ -1,15 +1,14 @@
 -- Rulesets, media lists and the statements of a sheet have exactly one reading.
-use Rattle.std.proofs.Common.{◌≡◌, ℕ, Bool, true, false, cond, ◌||◌, List, [], ◌∷◌, ◌++◌, map, drop, Option, Some, None, option_map, refl, sym, ◌∙◌, ap, subst, codes}
+use Rattle.std.proofs.Common.{◌≡◌, ℕ, Bool, true, false, cond, ◌||◌, List, [], ◌∷◌, map, drop, Option, Some, None, option_map, refl, sym, ◌∙◌, ap, subst, codes}
 use Rattle.std.specs.List.{list_all, list_any}
 use Rattle.std.specs.Option.{option_to_list}
 use Rattle.viz_base.specs.declared.tokens.Token.{Token}
-use Rattle.viz_base.specs.declared.sheets.Decl.{Decl}
 use Rattle.viz_base.specs.declared.sheets.Rule.{Rule}
 use Rattle.css_semantics.specs.declared.statements.Statement.{Statement}
 use Rattle.css_semantics.specs.declared.statements.Statement.TheVariants.{Ruleset, Import, Page, MediaQuery, Media}
 use Rattle.css_semantics.specs.SheetsMarks.{is_at_keyword, is_gap, is_space, is_word, has_paren, ends_prelude, ends_selector, ends_block, ends_entry}
-use Rattle.css_semantics.specs.SheetsReading.{start_of, extent, trimmed, rule_of, ruleset_of, block_rule, after_selector, after_ruleset, after_block, rule_item, after_rule, rules_in, entry_item, after_entry, entries, is_screen, holds, media_of, at_rule, is_between, statement_item, after_statement, statements, in_block, front, behind, after_at_rule}
-use Rattle.css_semantics.specs.SheetsGrammar.{IsStretch, IsBlock, IsAtRule, Listed, AreDeclarations, RulesetAt, ruleset_with, unfinished, RuleItem, blank_rule, dropped_at_rule, kept_rule, AreRules, EntryItem, entry, HasMedium, every_medium, screen_medium, AtStatement, an_import, a_page, a_query, held_media, other_media, unknown, StatementItem, between, at_statement, rule_statement, AreStatements}
+use Rattle.css_semantics.specs.SheetsReading.{start_of, extent, trimmed, rule_of, ruleset_of, block_rule, after_selector, after_ruleset, rule_item, after_rule, rules_in, entry_item, after_entry, entries, is_screen, holds, media_of, at_rule, is_between, statement_item, after_statement, statements, in_block, front, behind, after_at_rule}
+use Rattle.css_semantics.specs.SheetsGrammar.{IsStretch, Listed, RulesetAt, ruleset_with, unfinished, RuleItem, blank_rule, dropped_at_rule, kept_rule, AreRules, EntryItem, entry, HasMedium, every_medium, screen_medium, AtStatement, an_import, a_page, a_query, held_media, other_media, unknown, StatementItem, between, at_statement, rule_statement, AreStatements}
 use Rattle.css_semantics.proofs.Pairs.{by_bool}
 use Rattle.css_semantics.proofs.Stretches.{is_stretch, stretch_front, stretch_behind}
 use Rattle.css_semantics.proofs.Items.{Takes, TakesOnly, listed, listed_only, is_block, block_front, block_after, is_at_rule, at_rule_prelude, at_rule_block, at_rule_after}
@@ -30,10 +29,11 @@ ruleset_is (ruleset_with {ts = ts} {selector = selector} {after = after} {block 
     let f = stretch_front ends_selector ts selector (brace ∷ after) h in
     let g = stretch_behind ends_selector ts selector (brace ∷ after) h in
     let made : rule ≡ rule_of (trimmed is_space selector) brace.at (front ends_block after) =
-      e ∙ ap (λ x. record { at = start_of brace.at (trimmed is_space selector); len = extent (trimmed is_space selector); decls = x }) (declarations_are d)
-      ∙ ap (λ x. rule_of (trimmed is_space selector) brace.at x) (block_front after block rest b) in
-    (ap (λ x. x ∷ []) made ∙ ap (λ x. option_to_list (ruleset_of x (brace ∷ after))) f ∙ ap (λ x. option_to_list (ruleset_of (front ends_selector ts) x)) g,
-     block_after after block rest b ∙ ap after_selector g)
+    e ∙ ap (λ x. record { at = start_of brace.at (trimmed is_space selector); len = extent (trimmed is_space selector); decls = x }) (declarations_are d)
+    ∙ ap (λ x. rule_of (trimmed is_space selector) brace.at x) (block_front after block rest b) in (
+      ap (λ x. x ∷ []) made ∙ ap (λ x. option_to_list (ruleset_of x (brace ∷ after))) f ∙ ap (λ x. option_to_list (ruleset_of (front ends_selector ts) x)) g,
+      block_after after block rest b ∙ ap after_selector g,
+    )
 ruleset_is (unfinished {ts = ts} {selector = selector} h) =
     let g = stretch_behind ends_selector ts selector [] h in
     (ap (λ x. option_to_list (ruleset_of (front ends_selector ts) x)) g, ap after_selector g)
@@ -52,8 +52,8 @@ rule_takes t ts =
     by_bool (is_gap t.kind)
     (λ e. rule_from t ts _ _ (blank_rule e) (rule_is t ts true _ e refl) (after_rule_is t ts true _ e refl))
     (λ e. by_bool (is_at_keyword t.kind)
-      (λ f. rule_from t ts _ _ (dropped_at_rule e f (is_at_rule ts)) (rule_is t ts false true e f) (after_rule_is t ts false true e f))
-      (λ f. rule_from t ts _ _ (kept_rule e f (is_ruleset (t ∷ ts))) (rule_is t ts false false e f) (after_rule_is t ts false false e f)))
+    (λ f. rule_from t ts _ _ (dropped_at_rule e f (is_at_rule ts)) (rule_is t ts false true e f) (after_rule_is t ts false true e f))
+    (λ f. rule_from t ts _ _ (kept_rule e f (is_ruleset (t ∷ ts))) (rule_is t ts false false e f) (after_rule_is t ts false false e f)))
 
 rule_only : TakesOnly RuleItem rule_item after_rule
 rule_only t ts xs rest (blank_rule e) = (sym (rule_is t ts true _ e refl), sym (after_rule_is t ts true _ e refl))
@@ -137,18 +137,18 @@ media_said t ts e f g =
     by_bool (list_any (λ u. has_paren u.kind) prelude)
     (λ q. subst (λ x. Said t ts (x ∷ [])) (sym (media_is t.at prelude block true _ q refl)) (a_query e f g q))
     (λ q. by_bool (holds prelude)
-      (λ h. subst (λ x. Said t ts (x ∷ [])) (sym (media_is t.at prelude block false true q h)) (held_media e f g q (holds_medium prelude h) (are_rules block)))
-      (λ h. subst (λ x. Said t ts (x ∷ [])) (sym (media_is t.at prelude block false false q h)) (other_media e f g q (λ k. true_false (medium_holds k) h))))
+    (λ h. subst (λ x. Said t ts (x ∷ [])) (sym (media_is t.at prelude block false true q h)) (held_media e f g q (holds_medium prelude h) (are_rules block)))
+    (λ h. subst (λ x. Said t ts (x ∷ [])) (sym (media_is t.at prelude block false false q h)) (other_media e f g q (λ k. true_false (medium_holds k) h))))
 
 at_said : (t : Token) (ts : List Token) → Said t ts (option_to_list (at_rule t ts))
 at_said t ts =
     by_bool (is_word (codes "import") t)
     (λ e. said_from t ts (Some (Import t.at)) (an_import e) (at_is t ts true _ _ e refl refl))
     (λ e. by_bool (is_word (codes "page") t)
-      (λ f. said_from t ts (Some Page) (a_page e f) (at_is t ts false true _ e f refl))
-      (λ f. by_bool (is_word (codes "media") t)
-        (λ g. said_from t ts _ (media_said t ts e f g) (at_is t ts false false true e f g))
-        (λ g. said_from t ts None (unknown e f g) (at_is t ts false false false e f g))))
+    (λ f. said_from t ts (Some Page) (a_page e f) (at_is t ts false true _ e f refl))
+    (λ f. by_bool (is_word (codes "media") t)
+    (λ g. said_from t ts _ (media_said t ts e f g) (at_is t ts false false true e f g))
+    (λ g. said_from t ts None (unknown e f g) (at_is t ts false false false e f g))))
 
 said_is : (t : Token) (ts : List Token) (said : List Statement) → Said t ts said → said ≡ option_to_list (at_rule t ts)
 said_is t ts said (an_import e) = sym (ap option_to_list (at_is t ts true _ _ e refl refl))
@@ -187,18 +187,20 @@ statement_takes t ts =
     by_bool (is_between t.kind)
     (λ e. statement_from t ts _ _ (between e) (statement_is t ts true _ e refl) (after_statement_is t ts true _ e refl))
     (λ e. by_bool (is_at_keyword t.kind)
-      (λ f. statement_from t ts _ _ (at_statement e f (is_at_rule ts) (at_said t ts)) (statement_is t ts false true e f) (after_statement_is t ts false true e f))
-      (λ f. statement_from t ts _ _ (rule_statement e f (is_ruleset (t ∷ ts))) (statement_is t ts false false e f ∙ sym (rulesets (block_rule (t ∷ ts)))) (after_statement_is t ts false false e f)))
+    (λ f. statement_from t ts _ _ (at_statement e f (is_at_rule ts) (at_said t ts)) (statement_is t ts false true e f) (after_statement_is t ts false true e f))
+    (λ f. statement_from t ts _ _ (rule_statement e f (is_ruleset (t ∷ ts))) (statement_is t ts false false e f ∙ sym (rulesets (block_rule (t ∷ ts)))) (after_statement_is t ts false false e f)))
 
 statement_only : TakesOnly StatementItem statement_item after_statement
 statement_only t ts xs rest (between e) = (sym (statement_is t ts true _ e refl), sym (after_statement_is t ts true _ e refl))
-statement_only t ts xs rest (at_statement {prelude = prelude} {block = block} e f h k) =
-    (said_is t ts xs (subst (λ x. AtStatement t x (in_block (behind ends_prelude ts)) xs) (at_rule_prelude ts prelude block rest h) (subst (λ x. AtStatement t prelude x xs) (at_rule_block ts prelude block rest h) k))
-       ∙ sym (statement_is t ts false true e f),
-     at_rule_after ts prelude block rest h ∙ sym (after_statement_is t ts false true e f))
-statement_only t ts xs rest (rule_statement {rules = rules} e f h) =
-    (ap (map Ruleset) (ruleset_is h).0 ∙ rulesets (block_rule (t ∷ ts)) ∙ sym (statement_is t ts false false e f),
-     (ruleset_is h).1 ∙ sym (after_statement_is t ts false false e f))
+statement_only t ts xs rest (at_statement {prelude = prelude} {block = block} e f h k) = (
+  said_is t ts xs (subst (λ x. AtStatement t x (in_block (behind ends_prelude ts)) xs) (at_rule_prelude ts prelude block rest h) (subst (λ x. AtStatement t prelude x xs) (at_rule_block ts prelude block rest h) k))
+      ∙ sym (statement_is t ts false true e f),
+  at_rule_after ts prelude block rest h ∙ sym (after_statement_is t ts false true e f),
+)
+statement_only t ts xs rest (rule_statement {rules = rules} e f h) = (
+  ap (map Ruleset) (ruleset_is h).0 ∙ rulesets (block_rule (t ∷ ts)) ∙ sym (statement_is t ts false false e f),
+  (ruleset_is h).1 ∙ sym (after_statement_is t ts false false e f),
+)
 
 pub are_statements : (ts : List Token) → AreStatements ts (statements ts)
 are_statements ts = listed StatementItem statement_item after_statement statement_tails statement_takes ts

@@ -1,5 +1,5 @@
 -- Each list of tokens has exactly one stretch of each sort.
-use Rattle.std.proofs.Common.{◌≡◌, ℕ, suc, ◌+◌, ◌<◌, ◌≤◌, Bool, true, false, cond, ◌&&◌, List, [], ◌∷◌, ◌++◌, length, take, drop, Option, Some, None, refl, sym, ◌∙◌, ap, subst, ◌⊎◌, inl, inr, arith, length-append, length-take, length-drop}
+use Rattle.std.proofs.Common.{◌≡◌, ℕ, suc, ◌+◌, ◌≤◌, Bool, true, false, cond, ◌&&◌, List, [], ◌∷◌, ◌++◌, length, take, drop, None, refl, sym, ◌∙◌, ap, subst, ◌⊎◌, inl, inr, arith, length-append, length-take, length-drop}
 use Rattle.std.proofs.lemmas.List.{take-append-drop}
 use Rattle.std.proofs.Math.Seq.{take-append_seam, drop-append_seam}
 use Rattle.viz_base.specs.declared.tokens.Token.{Token}
@@ -71,15 +71,16 @@ is_stretch stop ts =
       ends = ends_of stop ts n (stops_there stop ts []);
       shortest = λ p t r whole matched e.
           let small : n ≤ length p = subst (λ x. stretch_len stop [] x ≤ length p) (sym whole) (least stop p [] t r (paired_marks matched []) e) in
-          omega (arith, length-take n ts) }
+          omega (arith, length-take n ts);
+    }
 
 -- ---- and no other
 
 -- the front is as long as the one that is read
 same_len : (stop : Token → Bool) (ts f r : List Token) (n : ℕ) → ts ≡ f ++ r → Stops stop [] ts n
-  → ((p : List Token) (t : Token) (q : List Token) → ts ≡ p ++ t ∷ q → Paired None p → stop t ≡ true → length f ≤ length p)
-  → ((p : List Token) (t : Token) (q : List Token) → ts ≡ p ++ t ∷ q → Paired None p → stop t ≡ true → n ≤ length p)
-  → ((r ≡ []) ⊎ EndsAt stop f r) → n ≤ length ts → n ≡ length f
+    → ((p : List Token) (t : Token) (q : List Token) → ts ≡ p ++ t ∷ q → Paired None p → stop t ≡ true → length f ≤ length p)
+    → ((p : List Token) (t : Token) (q : List Token) → ts ≡ p ++ t ∷ q → Paired None p → stop t ≡ true → n ≤ length p)
+    → ((r ≡ []) ⊎ EndsAt stop f r) → n ≤ length ts → n ≡ length f
 same_len stop ts f r n whole (inl none) shortest least_n (inl empty) within =
     omega (arith, ap length whole, length-append f r, ap length empty, ap length none, length-drop n ts)
 same_len stop ts f r n whole (inr h) shortest least_n (inl empty) within =

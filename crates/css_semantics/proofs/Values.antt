@@ -1,5 +1,5 @@
 -- The tokens in the grammar of values are those at which the reading of values goes on to the end.
-use Rattle.std.proofs.Common.{◌≡◌, ℕ, Bool, true, false, cond, not, ◌&&◌, ◌||◌, List, [], ◌∷◌, ◌++◌, Option, Some, None, refl, sym, ◌∙◌, ap, subst, ◌⊎◌, inl, inr, append_assoc}
+use Rattle.std.proofs.Common.{◌≡◌, Bool, true, false, cond, ◌||◌, List, [], ◌∷◌, ◌++◌, Option, Some, None, refl, sym, ◌∙◌, ap, ◌⊎◌, inl, inr, append_assoc}
 use Rattle.std.specs.Option.{option_to_list}
 use Rattle.viz_base.specs.declared.tokens.Token.{Token}
 use Rattle.viz_base.specs.declared.tokens.TokenKind.{TokenKind}
@@ -109,9 +109,15 @@ open_closed : (marks : List TokenKind) (t : Token) (p : List Token) (m : TokenKi
 open_closed [] t p m inner close rest e f whole standing g h = closed_pair m inner close rest whole e f standing g h
 open_closed (k ∷ marks) t p m inner close rest e f whole standing g (inl h) = inl (closed_pair m inner close rest whole e f standing g h)
 open_closed (k ∷ marks) t p m inner close rest e f whole standing g (inr h) =
-    inr (t ∷ (inner ++ close ∷ h.0), h.1, h.2,
-     ap (λ x. t ∷ x) (whole ∙ ap (λ x. inner ++ close ∷ x) h.3 ∙ sym (append_assoc inner (close ∷ h.0) (h.1 ∷ h.2))),
-     closed_pair m inner close h.0 refl e f standing g h.4, h.5, h.6)
+    inr (
+      t ∷ (inner ++ close ∷ h.0),
+      h.1,
+      h.2,
+      ap (λ x. t ∷ x) (whole ∙ ap (λ x. inner ++ close ∷ x) h.3 ∙ sym (append_assoc inner (close ∷ h.0) (h.1 ∷ h.2))),
+      closed_pair m inner close h.0 refl e f standing g h.4,
+      h.5,
+      h.6,
+    )
 
 open_opened : (marks : List TokenKind) (t : Token) (p : List Token) (m : TokenKind) → closing_mark t.kind ≡ Some m → is_bad t.kind ≡ false → Open (m ∷ marks) p → Open marks (t ∷ p)
 open_opened marks t p m e f (inl h) = open_whole marks t p m e f h
@@ -135,15 +141,15 @@ goes_open [] marks h = open_none marks
 goes_open (t ∷ p) marks h =
     by_option (closing_mark t.kind)
     (λ e. by_bool (is_closing t.kind)
-      (λ f. open_closing marks t p (ap (λ o. value_opened o t.kind marks) e ∙ ap (λ b. cond b (value_closed t.kind marks) (cond (may_stand marks t.kind) (Some marks) None)) f) (goes_open p) h)
-      (λ f.
-        let step = ap (λ o. value_opened o t.kind marks) e ∙ ap (λ b. cond b (value_closed t.kind marks) (cond (may_stand marks t.kind) (Some marks) None)) f in
-        by_bool (may_stand marks t.kind)
-        (λ g. open_stands marks t p e f g (goes_open p marks (sym (goes t p _ _ (step ∙ ap (λ b. cond b (Some marks) None) g)) ∙ h)))
-        (λ g. absurd (stopped _ _ (step ∙ ap (λ b. cond b (Some marks) None) g) h))))
+    (λ f. open_closing marks t p (ap (λ o. value_opened o t.kind marks) e ∙ ap (λ b. cond b (value_closed t.kind marks) (cond (may_stand marks t.kind) (Some marks) None)) f) (goes_open p) h)
+    (λ f.
+    let step = ap (λ o. value_opened o t.kind marks) e ∙ ap (λ b. cond b (value_closed t.kind marks) (cond (may_stand marks t.kind) (Some marks) None)) f in
+    by_bool (may_stand marks t.kind)
+    (λ g. open_stands marks t p e f g (goes_open p marks (sym (goes t p _ _ (step ∙ ap (λ b. cond b (Some marks) None) g)) ∙ h)))
+    (λ g. absurd (stopped _ _ (step ∙ ap (λ b. cond b (Some marks) None) g) h))))
     (λ m e. by_bool (is_bad t.kind)
-      (λ f. absurd (stopped _ _ (ap (λ o. value_opened o t.kind marks) e ∙ ap (λ b. cond b None (Some (m ∷ marks))) f) h))
-      (λ f. open_opened marks t p m e f (goes_open p (m ∷ marks) (sym (goes t p _ _ (step_opens marks t.kind m e f)) ∙ h))))
+    (λ f. absurd (stopped _ _ (ap (λ o. value_opened o t.kind marks) e ∙ ap (λ b. cond b None (Some (m ∷ marks))) f) h))
+    (λ f. open_opened marks t p m e f (goes_open p (m ∷ marks) (sym (goes t p _ _ (step_opens marks t.kind m e f)) ∙ h))))
 
 pub standing_goes : (p : List Token) → Standing false None p → goes_on [] p ≡ true
 standing_goes p h = goes_to_end h []

@@ -1,5 +1,5 @@
 -- Which answer of `read_sheet` stands for which answer of the definition. Want of memory is free.
-use Rattle.std.specs.Prelude.{◌≡◌, ℕ, List, Result, Ok, Err}
+use Rattle.std.specs.Prelude.{◌≡◌, List, Result, Ok, Err}
 use Rattle.viz_base.specs.declared.sheets.Rule.{Rule}
 use Rattle.viz_base.specs.declared.sheets.Sheet.{Sheet}
 use Rattle.css_semantics.specs.SheetsReading.{Refusal, import_at, media_at, too_many}

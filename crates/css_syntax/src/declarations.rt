@@ -2,15 +2,14 @@ ghost use Rattle.std.specs.Prelude.{◌≡◌, [], None, Some, IfOk, MatchOption
 ghost use Rattle.std.specs.Option.{option_to_list};
 ghost use Rattle.css_semantics.specs.SheetsReading.{after_declaration, at_head, before_important, before_last, before_trimmed, decl_of, declaration, declaration_item, declarations, declared, goes_on, is_blank, is_value};
 
-use std::alloc::Global;
-use viz_base::{Decl, List, Mem, Text, Token, TokenKind};
-
 use crate::kinds::{is_at_keyword, is_colon, is_gap, is_ident, is_semicolon};
 use crate::marks::Marks;
 use crate::slices::{Class, extent, is_all_gap, place, start_of, trim, trim_end, trim_start};
 use crate::stretches::{Stop, after_at_rule, is_character, split};
 use crate::words::is_word;
 use css_token::unescape;
+use std::alloc::Global;
+use viz_base::{Decl, List, Mem, Text, Token, TokenKind};
 
 /// Whether the tokens are in the grammar of a value, but for being none (CSS 2.1, 4.1.1).
 fn goes_on(alloc: Global, tokens: &[Token<'_>]) -> Result<bool, Mem>
@@ -44,7 +43,10 @@ fn before_bang<'a>(tokens: &'a [Token<'a>]) -> Option<(&'a [Token<'a>], usize)>
 }
 
 /// What stands before `!important`, and the place of its `!`.
-fn before_important<'a>(alloc: Global, tokens: &'a [Token<'a>]) -> Result<Option<(&'a [Token<'a>], usize)>, Mem>
+fn before_important<'a>(
+    alloc: Global,
+    tokens: &'a [Token<'a>],
+) -> Result<Option<(&'a [Token<'a>], usize)>, Mem>
     ensures { IfOk result (λ found. MatchOption found (before_important tokens.now ≡ None) (λ p. before_important tokens.now ≡ Some (p.0.now, p.1))) }
 {
     let tokens = trim_end(tokens, Class::Gap);
@@ -59,7 +61,13 @@ fn before_important<'a>(alloc: Global, tokens: &'a [Token<'a>]) -> Result<Option
 }
 
 /// The declaration of a property with these tokens as its value.
-fn decl_of(alloc: Global, name: &Token<'_>, value: &[Token<'_>], at: usize, important: bool) -> Result<Decl, Mem>
+fn decl_of(
+    alloc: Global,
+    name: &Token<'_>,
+    value: &[Token<'_>],
+    at: usize,
+    important: bool,
+) -> Result<Decl, Mem>
     ensures { IfOk result (λ d. d ≡ decl_of name.now value.now at important) }
 {
     Ok(Decl {
@@ -71,7 +79,11 @@ fn decl_of(alloc: Global, name: &Token<'_>, value: &[Token<'_>], at: usize, impo
 }
 
 /// The declaration whose colon begins the tokens, if a value follows.
-fn declared<'a>(alloc: Global, name: &Token<'_>, tokens: &'a [Token<'a>]) -> Result<Option<Decl>, Mem>
+fn declared<'a>(
+    alloc: Global,
+    name: &Token<'_>,
+    tokens: &'a [Token<'a>],
+) -> Result<Option<Decl>, Mem>
     ensures { IfOk result (λ d. d ≡ declared name.now tokens.now) }
 {
     let Some((colon, body)) = tokens.split_first() else {
@@ -92,13 +104,20 @@ fn declaration<'a>(alloc: Global, tokens: &'a [Token<'a>]) -> Result<Option<Decl
     ensures { IfOk result (λ d. d ≡ declaration tokens.now) }
 {
     match tokens.split_first() {
-        Some((name, after)) if is_ident(name.kind) => declared(alloc, name, trim_start(after, Class::Gap)),
+        Some((name, after)) if is_ident(name.kind) => declared(
+            alloc,
+            name,
+            trim_start(after, Class::Gap),
+        ),
         _ => Ok(None),
     }
 }
 
 /// What begins the tokens where a declaration may stand, and what follows it.
-fn declaration_item<'a>(alloc: Global, tokens: &'a [Token<'a>]) -> Result<(Option<Decl>, &'a [Token<'a>]), Mem>
+fn declaration_item<'a>(
+    alloc: Global,
+    tokens: &'a [Token<'a>],
+) -> Result<(Option<Decl>, &'a [Token<'a>]), Mem>
     ensures { IfOk result (λ p. (option_to_list p.0 ≡ at_head declaration_item tokens.now) × (p.1.now ≡ at_head after_declaration tokens.now)) }
 {
     let Some((first, after)) = tokens.split_first() else {

@@ -9,7 +9,9 @@ pub fn closing_mark(kind: TokenKind) -> Option<TokenKind>
     ensures { result ≡ closing_mark kind }
 {
     match kind {
-        TokenKind::LeftParen | TokenKind::Function | TokenKind::BadUri => Some(TokenKind::RightParen),
+        TokenKind::LeftParen | TokenKind::Function | TokenKind::BadUri => Some(
+            TokenKind::RightParen,
+        ),
         TokenKind::LeftBracket => Some(TokenKind::RightBracket),
         TokenKind::LeftBrace => Some(TokenKind::RightBrace),
         _ => None,
@@ -31,7 +33,10 @@ pub fn is_mark(mark: TokenKind, kind: TokenKind) -> bool
 pub fn is_closing(kind: TokenKind) -> bool
     ensures { result ≡ is_closing kind }
 {
-    matches!(kind, TokenKind::RightParen | TokenKind::RightBracket | TokenKind::RightBrace)
+    matches!(
+        kind,
+        TokenKind::RightParen | TokenKind::RightBracket | TokenKind::RightBrace
+    )
 }
 
 pub fn is_ident(kind: TokenKind) -> bool
@@ -80,7 +85,10 @@ pub fn is_space(kind: TokenKind) -> bool
 pub fn is_gap(kind: TokenKind) -> bool
     ensures { result ≡ is_gap kind }
 {
-    matches!(kind, TokenKind::Space | TokenKind::Comment | TokenKind::BadComment)
+    matches!(
+        kind,
+        TokenKind::Space | TokenKind::Comment | TokenKind::BadComment
+    )
 }
 
 pub fn is_bad(kind: TokenKind) -> bool
@@ -93,5 +101,8 @@ pub fn is_bad(kind: TokenKind) -> bool
 pub fn has_paren(kind: TokenKind) -> bool
     ensures { result ≡ has_paren kind }
 {
-    matches!(kind, TokenKind::LeftParen | TokenKind::Function | TokenKind::Uri | TokenKind::BadUri)
+    matches!(
+        kind,
+        TokenKind::LeftParen | TokenKind::Function | TokenKind::Uri | TokenKind::BadUri
+    )
 }

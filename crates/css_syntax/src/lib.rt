@@ -10,6 +10,8 @@ mod sheets;
 mod slices;
 mod statements;
 mod stretches;
+#[cfg(test)]
+mod tests;
 mod words;
 
 pub use sheets::{SheetFault, read_declarations, read_sheet};

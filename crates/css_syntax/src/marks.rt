@@ -1,11 +1,10 @@
 ghost use Rattle.std.specs.Prelude.{◌≡◌, [], None, Some, if◌then◌else◌, IfOk, OnOk, OnErr};
 ghost use Rattle.css_semantics.specs.SheetsReading.{awaited, is_none, may_stand, value_closed, value_step};
 
+use crate::kinds::{closing_mark, is_bad, is_closing, is_comment_mark, is_mark, is_semicolon};
 use std::alloc::Global;
 use std::marker::Model;
 use viz_base::{Mem, TokenKind};
-
-use crate::kinds::{closing_mark, is_bad, is_closing, is_comment_mark, is_mark, is_semicolon};
 
 /// The closing marks that are still awaited, which contracts see with the innermost first.
 #[derive(Drop)]
@@ -57,7 +56,8 @@ impl Marks {
         ensures { result ≡ may_stand self.now kind }
     {
         match self.items.last() {
-            Some(mark) => !is_bad(kind) && (!matches!(mark, TokenKind::RightBrace) || !is_comment_mark(kind)),
+            Some(mark) => !is_bad(kind)
+                && (!matches!(mark, TokenKind::RightBrace) || !is_comment_mark(kind)),
             None => !is_bad(kind) && !is_comment_mark(kind) && !is_semicolon(kind),
         }
     }

@@ -2,20 +2,22 @@ ghost use Rattle.std.specs.Prelude.{◌≡◌, [], IfOk};
 ghost use Rattle.std.specs.List.{list_any};
 ghost use Rattle.css_semantics.specs.SheetsReading.{entries, holds, is_screen};
 
-use std::alloc::Global;
-use viz_base::{Mem, Token};
-
 use crate::kinds::is_ident;
 use crate::slices::{Class, is_all_gap, trim};
 use crate::stretches::{Stop, skip_first, split};
 use crate::words::is_word;
+use std::alloc::Global;
+use viz_base::{Mem, Token};
 
 /// Whether an entry of a media list is the single word `all` or `screen`.
 fn is_screen<'a>(alloc: Global, entry: &'a [Token<'a>]) -> Result<bool, Mem>
     ensures { IfOk result (λ yes. yes ≡ is_screen entry.now) }
 {
     match trim(entry, Class::Gap) {
-        [word] => Ok(is_ident(word.kind) && (is_word(alloc, word, "all")? || is_word(alloc, word, "screen")?)),
+        [word] => Ok(
+            is_ident(word.kind)
+                && (is_word(alloc, word, "all")? || is_word(alloc, word, "screen")?),
+        ),
         _ => Ok(false),
     }
 }

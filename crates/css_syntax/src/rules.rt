@@ -2,16 +2,20 @@ ghost use Rattle.std.specs.Prelude.{◌≡◌, [], None, Some, IfOk, MatchOption
 ghost use Rattle.std.specs.Option.{option_to_list};
 ghost use Rattle.css_semantics.specs.SheetsReading.{after_rule, after_ruleset, at_head, block_rule, rule_item, rule_of, rules_in};
 
-use std::alloc::Global;
-use viz_base::{List, Mem, Rule, Token};
-
 use crate::declarations::declarations;
 use crate::kinds::{is_at_keyword, is_gap};
 use crate::slices::{Class, extent, place, start_of, trim};
 use crate::stretches::{Stop, after_at_rule, after_block, split};
+use std::alloc::Global;
+use viz_base::{List, Mem, Rule, Token};
 
 /// The rule with this selector and the block whose `{`, at this place, stands before the tokens.
-fn rule_of<'a>(alloc: Global, selector: &[Token<'_>], at: usize, block: &'a [Token<'a>]) -> Result<Rule, Mem>
+fn rule_of<'a>(
+    alloc: Global,
+    selector: &[Token<'_>],
+    at: usize,
+    block: &'a [Token<'a>],
+) -> Result<Rule, Mem>
     ensures { IfOk result (λ rule. rule ≡ rule_of selector.now at block.now) }
 {
     Ok(Rule {
@@ -22,7 +26,10 @@ fn rule_of<'a>(alloc: Global, selector: &[Token<'_>], at: usize, block: &'a [Tok
 }
 
 /// The ruleset at the head of the tokens, if its block comes, and what follows it.
-pub fn block_rule<'a>(alloc: Global, tokens: &'a [Token<'a>]) -> Result<(Option<Rule>, &'a [Token<'a>]), Mem>
+pub fn block_rule<'a>(
+    alloc: Global,
+    tokens: &'a [Token<'a>],
+) -> Result<(Option<Rule>, &'a [Token<'a>]), Mem>
     ensures { IfOk result (λ p. (p.0 ≡ block_rule tokens.now) × (p.1.now ≡ after_ruleset tokens.now)) }
 {
     let (selector, rest) = split(alloc, tokens, Stop::Selector)?;
@@ -35,7 +42,10 @@ pub fn block_rule<'a>(alloc: Global, tokens: &'a [Token<'a>]) -> Result<(Option<
 }
 
 /// What begins the tokens in a block of `@media`, and what follows it.
-fn rule_item<'a>(alloc: Global, tokens: &'a [Token<'a>]) -> Result<(Option<Rule>, &'a [Token<'a>]), Mem>
+fn rule_item<'a>(
+    alloc: Global,
+    tokens: &'a [Token<'a>],
+) -> Result<(Option<Rule>, &'a [Token<'a>]), Mem>
     ensures { IfOk result (λ p. (option_to_list p.0 ≡ at_head rule_item tokens.now) × (p.1.now ≡ at_head after_rule tokens.now)) }
 {
     let Some((first, after)) = tokens.split_first() else {

@@ -1,17 +1,15 @@
-ghost use Rattle.std.specs.Prelude.{◌≡◌, [], true, List as Seq, Ok, IfOk, MatchResult};
-ghost use Rattle.css_semantics.specs.Tokens.{AreTokens};
-ghost use Rattle.css_semantics.specs.SheetsReading.{closed_by_end, closed_kind, declarations, read_on, sheet_of, statements, with_statement};
-ghost use Rattle.viz_base.specs.declared.tokens.Token.{Token as Piece};
+ghost use Rattle.std.specs.Prelude.{◌≡◌, [], true, Ok, IfOk, MatchResult};
+ghost use Rattle.css_semantics.specs.SheetsReading.{closed_by_end, closed_kind, read_on, statements, with_statement};
+ghost use Rattle.css_semantics.specs.SheetsGrammar.{AreDeclarationsOf, IsSheetOf};
 ghost use Rattle.css_syntax.specs.Faults.{Fails, Gives, GivesOf};
-
-use std::alloc::{AllocError, AllocFailed, Global};
-use thiserror::Error;
-use css_semantics::Statement;
-use css_token::tokens;
-use viz_base::{Decl, List, Mem, Rule, Sheet, Token, TokenKind};
 
 use crate::declarations::declarations;
 use crate::statements::statement_item;
+use css_semantics::Statement;
+use css_token::tokens;
+use std::alloc::{AllocError, AllocFailed, Global};
+use thiserror::Error;
+use viz_base::{Decl, List, Mem, Rule, Sheet, Token, TokenKind};
 
 /// Why a text is refused as a style sheet. Places are in bytes of the text.
 #[derive(Clone, Copy, Debug, PartialEq, Eq, Error)]
@@ -144,20 +142,28 @@ fn read_rules<'a>(alloc: Global, tokens: &'a [Token<'a>]) -> Result<Sheet, Sheet
     })
 }
 
-/// The style sheet that a text spells.
+/// The style sheet that a text spells, with all error recovery (CSS 2.1, 4.1 and 4.2): the rulesets that apply to the
+/// medium `screen`, those of which the selector alone is at fault too, and their declarations, of which the property or the
+/// value alone may be at fault. Places and lengths are in bytes of the text, which is shorter than `2^32` bytes.
+///
+/// `Import` and `MediaQuery` for the first statement that is refused, at the place of its keyword; `TooManyRules` for more
+/// than 8,192 rules where none is refused; `Mem` for want of memory alone.
 pub fn read_sheet(alloc: Global, text: &str) -> Result<Sheet, SheetFault>
-    ensures { GivesOf result (λ answer. (ts : Seq Piece) × AreTokens text.now ts × (answer ≡ sheet_of ts)) }
+    ensures { GivesOf result (IsSheetOf text.now) }
 {
-    let mut tokens = tokens(alloc, text)?;
+    let mut tokens = tokens(alloc, text)?.into_vec();
     close_by_end(&mut tokens);
     read_rules(alloc, tokens.as_slice())
 }
 
-/// The declarations of a style attribute.
+/// The declarations of a style attribute, read as what stands in a block (CSS 2.1, 4.1.8 and 4.2). Places and lengths are
+/// in bytes of the text, which is shorter than `2^32` bytes.
+///
+/// `Mem` for want of memory alone.
 pub fn read_declarations(alloc: Global, text: &str) -> Result<List<Decl>, Mem>
-    ensures { IfOk result (λ decls. (ts : Seq Piece) × AreTokens text.now ts × (decls ≡ declarations (closed_by_end ts))) }
+    ensures { IfOk result (AreDeclarationsOf text.now) }
 {
-    let mut tokens = tokens(alloc, text)?;
+    let mut tokens = tokens(alloc, text)?.into_vec();
     close_by_end(&mut tokens);
     declarations(alloc, tokens.as_slice())
 }

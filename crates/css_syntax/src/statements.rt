@@ -4,16 +4,15 @@ ghost use Rattle.std.specs.Option.{option_to_list};
 ghost use Rattle.css_semantics.specs.SheetsMarks.{has_paren};
 ghost use Rattle.css_semantics.specs.SheetsReading.{after_statement, at_head, at_rule, holds, in_block, media_of, rules_in, statement_item};
 
-use std::alloc::Global;
-use css_semantics::Statement;
-use viz_base::{List, Mem, Rule, Token};
-
 use crate::kinds::{has_paren, is_at_keyword, is_comment_mark, is_gap, is_left_brace};
 use crate::media::holds;
 use crate::rules::{block_rule, rules_in};
 use crate::slices::place;
 use crate::stretches::{Stop, after_at_rule, split};
 use crate::words::is_word;
+use css_semantics::Statement;
+use std::alloc::Global;
+use viz_base::{List, Mem, Rule, Token};
 
 /// What stands in the block that begins the tokens, or nothing.
 fn in_block<'a>(alloc: Global, tokens: &'a [Token<'a>]) -> Result<&'a [Token<'a>], Mem>
@@ -36,7 +35,11 @@ fn has_query(tokens: &[Token<'_>]) -> bool
 }
 
 /// The rules of a block where its media list has the medium, else none.
-fn held_rules<'a>(alloc: Global, list: &'a [Token<'a>], block: &'a [Token<'a>]) -> Result<List<Rule>, Mem>
+fn held_rules<'a>(
+    alloc: Global,
+    list: &'a [Token<'a>],
+    block: &'a [Token<'a>],
+) -> Result<List<Rule>, Mem>
     ensures { IfOk result (λ rules. rules ≡ (if holds list.now then rules_in block.now else [])) }
 {
     if holds(alloc, list)? {
@@ -47,7 +50,12 @@ fn held_rules<'a>(alloc: Global, list: &'a [Token<'a>], block: &'a [Token<'a>]) 
 }
 
 /// The `@media` at this place, with its prelude and its block.
-fn media_of<'a>(alloc: Global, at: usize, prelude: &'a [Token<'a>], block: &'a [Token<'a>]) -> Result<Statement, Mem>
+fn media_of<'a>(
+    alloc: Global,
+    at: usize,
+    prelude: &'a [Token<'a>],
+    block: &'a [Token<'a>],
+) -> Result<Statement, Mem>
     ensures { IfOk result (λ statement. statement ≡ media_of at prelude.now block.now) }
 {
     if has_query(prelude) {
@@ -58,7 +66,11 @@ fn media_of<'a>(alloc: Global, at: usize, prelude: &'a [Token<'a>], block: &'a [
 }
 
 /// What the at-rule with this keyword says of the sheet.
-fn at_rule<'a>(alloc: Global, keyword: &Token<'_>, after: &'a [Token<'a>]) -> Result<Option<Statement>, Mem>
+fn at_rule<'a>(
+    alloc: Global,
+    keyword: &Token<'_>,
+    after: &'a [Token<'a>],
+) -> Result<Option<Statement>, Mem>
     ensures { IfOk result (λ statement. statement ≡ at_rule keyword.now after.now) }
 {
     if is_word(alloc, keyword, "import")? {
@@ -75,7 +87,10 @@ fn at_rule<'a>(alloc: Global, keyword: &Token<'_>, after: &'a [Token<'a>]) -> Re
 }
 
 /// The statement at the head of the tokens, and what follows it.
-pub fn statement_item<'a>(alloc: Global, tokens: &'a [Token<'a>]) -> Result<(Option<Statement>, &'a [Token<'a>]), Mem>
+pub fn statement_item<'a>(
+    alloc: Global,
+    tokens: &'a [Token<'a>],
+) -> Result<(Option<Statement>, &'a [Token<'a>]), Mem>
     ensures { IfOk result (λ p. (option_to_list p.0 ≡ at_head statement_item tokens.now) × (p.1.now ≡ at_head after_statement tokens.now)) }
 {
     let Some((first, after)) = tokens.split_first() else {

@@ -3,11 +3,10 @@ ghost use Rattle.css_semantics.specs.SheetsMarks.{is_character};
 ghost use Rattle.css_semantics.specs.SheetsReading.{after_at_rule, after_block, after_prelude, behind, front, stretch_len};
 ghost use Rattle.css_syntax.specs.Classes.{stops};
 
-use std::alloc::Global;
-use viz_base::{Mem, Token, TokenKind};
-
 use crate::kinds::{is_left_brace, is_semicolon};
 use crate::marks::Marks;
+use std::alloc::Global;
+use viz_base::{Mem, Token, TokenKind};
 
 /// What a stretch of tokens is, by which it is known where it ends.
 #[derive(Clone, Copy)]
@@ -58,7 +57,11 @@ fn stretch_len(alloc: Global, tokens: &[Token<'_>], stop: Stop) -> Result<usize,
 }
 
 /// The stretch at the front of the tokens, and what stands behind it.
-pub fn split<'a>(alloc: Global, tokens: &'a [Token<'a>], stop: Stop) -> Result<(&'a [Token<'a>], &'a [Token<'a>]), Mem>
+pub fn split<'a>(
+    alloc: Global,
+    tokens: &'a [Token<'a>],
+    stop: Stop,
+) -> Result<(&'a [Token<'a>], &'a [Token<'a>]), Mem>
     ensures { IfOk result (λ p. (p.0.now ≡ front (stops stop) tokens.now) × (p.1.now ≡ behind (stops stop) tokens.now)) }
 {
     let len = stretch_len(alloc, tokens, stop)?;

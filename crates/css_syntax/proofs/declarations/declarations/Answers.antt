@@ -16,6 +16,7 @@ pub loop-at-preserved : goal.loop-at-preserved
 loop-at-preserved c =
     let all = c.args.tokens.now in
     let more : c.match-decl.decls ≡ c.loop-at.decls ++ option_to_list c.in_ok-decl.decl = elim c.match-decl.branch [
-        in-Some+in_ok-push w ↦ pushed_some _ _ _ _ w.in-Some.is (w.decls-is ∙ (w.in_ok-push.ensures).ok)
-      | in_default w ↦ pushed_none _ _ _ w.in_default.is w.decls-is ] in
+      | in-Some+in_ok-push w ↦ pushed_some _ _ _ _ w.in-Some.is (w.decls-is ∙ (w.in_ok-push.ensures).ok)
+      | in_default w ↦ pushed_none _ _ _ w.in_default.is w.decls-is
+    ] in
     gathered_more _ _ _ _ _ _ c.loop-at.invariant (turn_gathered after_declaration declaration_tails all c.loop-at.at _ (c.in_ok-decl.ensures).1 declaration_item _ (c.in_ok-decl.ensures).0) more

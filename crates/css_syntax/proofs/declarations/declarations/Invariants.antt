@@ -1,4 +1,4 @@
-use Rattle.std.proofs.Common.{length, ◌-◌, ◌≡◌, ◌≤◌, ◌++◌, drop}
+use Rattle.std.proofs.Common.{length, ◌-◌, ◌≡◌, ◌++◌, drop}
 use Rattle.css_semantics.specs.SheetsReading.{declarations}
 use Rattle.css_syntax.proofs.declarations.declarations.Given as goal
 

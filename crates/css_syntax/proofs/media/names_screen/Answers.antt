@@ -1,4 +1,4 @@
-use Rattle.std.proofs.Common.{◌≡◌, ◌<◌, ◌-◌, [], ◌∷◌, length, take, drop, false, true, ap, sym, ◌∙◌, subst, arith, length-drop}
+use Rattle.std.proofs.Common.{◌≡◌, ◌<◌, ◌-◌, [], ◌∷◌, length, take, drop, false, true, ap, sym, ◌∙◌, arith, length-drop}
 use Rattle.std.specs.List.{list_any}
 use Rattle.css_semantics.specs.SheetsMarks.{ends_entry}
 use Rattle.css_semantics.specs.SheetsReading.{after_entry, at_head, entries, entry_item, front, is_screen}

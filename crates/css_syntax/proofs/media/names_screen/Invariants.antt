@@ -1,4 +1,4 @@
-use Rattle.std.proofs.Common.{length, ◌-◌, ◌≡◌, ◌≤◌, ◌++◌, drop}
+use Rattle.std.proofs.Common.{length, ◌-◌, ◌≡◌, drop}
 use Rattle.std.specs.List.{list_any}
 use Rattle.css_semantics.specs.SheetsReading.{entries, is_screen}
 use Rattle.css_syntax.proofs.media.names_screen.Given as goal

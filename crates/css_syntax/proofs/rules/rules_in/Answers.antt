@@ -16,6 +16,7 @@ pub loop-at-preserved : goal.loop-at-preserved
 loop-at-preserved c =
     let all = c.args.tokens.now in
     let more : c.match-rule.rules ≡ c.loop-at.rules ++ option_to_list c.in_ok-rule.rule = elim c.match-rule.branch [
-        in-Some+in_ok-push w ↦ pushed_some _ _ _ _ w.in-Some.is (w.rules-is ∙ (w.in_ok-push.ensures).ok)
-      | in_default w ↦ pushed_none _ _ _ w.in_default.is w.rules-is ] in
+      | in-Some+in_ok-push w ↦ pushed_some _ _ _ _ w.in-Some.is (w.rules-is ∙ (w.in_ok-push.ensures).ok)
+      | in_default w ↦ pushed_none _ _ _ w.in_default.is w.rules-is
+    ] in
     gathered_more _ _ _ _ _ _ c.loop-at.invariant (turn_gathered after_rule rule_tails all c.loop-at.at _ (c.in_ok-rule.ensures).1 rule_item _ (c.in_ok-rule.ensures).0) more

@@ -1,4 +1,4 @@
-use Rattle.std.proofs.Common.{length, ◌-◌, ◌≡◌, ◌≤◌, ◌++◌, drop}
+use Rattle.std.proofs.Common.{length, ◌-◌, ◌≡◌, ◌++◌, drop}
 use Rattle.css_semantics.specs.SheetsReading.{rules_in}
 use Rattle.css_syntax.proofs.rules.rules_in.Given as goal
 

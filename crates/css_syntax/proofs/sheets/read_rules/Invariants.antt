@@ -1,4 +1,4 @@
-use Rattle.std.proofs.Common.{length, ◌-◌, ◌≡◌, ◌≤◌, ◌++◌, drop, [], true}
+use Rattle.std.proofs.Common.{length, ◌-◌, ◌≡◌, drop, [], true}
 use Rattle.css_semantics.specs.SheetsReading.{read_on, statements}
 use Rattle.css_syntax.proofs.sheets.read_rules.Given as goal
 
