@@ -1,2 +1,12 @@
 pub mod PieceLemmas
 pub mod EscapeLemmas
+pub mod Gathering
+pub mod Tails
+pub mod Reading
+pub mod Pairs
+pub mod Stretches
+pub mod Values
+pub mod Items
+pub mod Declarations
+pub mod Rules
+pub mod Answers

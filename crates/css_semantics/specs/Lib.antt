@@ -4,3 +4,6 @@ pub mod TokensTable
 pub mod TokensUnescaped
 pub mod TokensEscapes
 pub mod Tokens
+pub mod SheetsMarks
+pub mod SheetsReading
+pub mod SheetsGrammar

@@ -1,0 +1,208 @@
+-- The grammar of sheets over lists of tokens, with all that error recovery drops (CSS 2.1, 4.1.1, 4.1.5 to 4.1.8, 4.2, 6.3
+-- and 7.2.1). What is kept and what is dropped are stretches, each the shortest that ends where its rule says with all
+-- pairs of brackets matched.
+use Rattle.std.specs.Prelude.{◌≡◌, ℕ, ◌<◌, ◌≤◌, Bool, true, false, not, ◌⊎◌, List, [], ◌∷◌, ◌++◌, length, map, drop, Option, Some, None, Result, Ok, Err, codes}
+use Rattle.std.specs.Option.{option_to_list}
+use Rattle.std.specs.List.{list_any, list_all}
+use Rattle.viz_base.specs.declared.tokens.Token.{Token}
+use Rattle.viz_base.specs.declared.tokens.TokenKind.{TokenKind}
+use Rattle.viz_base.specs.declared.sheets.Decl.{Decl}
+use Rattle.viz_base.specs.declared.sheets.Rule.{Rule}
+use Rattle.css_semantics.specs.declared.statements.Statement.{Statement}
+use Rattle.css_semantics.specs.declared.statements.Statement.TheVariants.{Ruleset, Import, Page, MediaQuery, Media}
+use Rattle.css_semantics.specs.Tokens.{AreTokens}
+use Rattle.css_semantics.specs.SheetsMarks.{closing_mark, is_mark, is_ident, is_at_keyword, is_colon, is_left_brace, is_space, is_gap, is_bad, has_paren, is_word, ends_prelude, ends_selector, ends_block, ends_declaration, ends_entry}
+use Rattle.css_semantics.specs.SheetsReading.{Refusal, import_at, media_at, too_many, is_closing, may_stand, before_important, declared_at, start_of, extent, trimmed, is_blank, is_between, is_screen, closed_by_end}
+
+-- ---- stretches
+
+abbrev pub is_awaited : Option TokenKind → TokenKind → Bool
+is_awaited None kind = false
+is_awaited (Some mark) kind = is_mark mark kind
+
+-- Tokens in which all pairs are matched: what opens a pair stands with its own closing mark and with what is between them.
+-- Within a pair its closing mark ends it, and any other closing mark stands for itself, as each does outside all pairs.
+pub data Paired : Option TokenKind → List Token → Type 0 where
+  nothing : {within : Option TokenKind} → Paired within []
+  single : {within : Option TokenKind} {t : Token} {ts : List Token} → closing_mark t.kind ≡ None → is_awaited within t.kind ≡ false → Paired within ts → Paired within (t ∷ ts)
+  pair : {within : Option TokenKind} {opener : Token} {ts : List Token} (mark : TokenKind) (inner : List Token) (close : Token) (rest : List Token) → ts ≡ inner ++ close ∷ rest → closing_mark opener.kind ≡ Some mark → Paired (Some mark) inner → is_mark mark close.kind ≡ true → Paired within rest → Paired within (opener ∷ ts)
+
+-- the rest begins with a token that ends the stretch, and all pairs before it are matched
+pub record EndsAt (stop : Token → Bool) (front rest : List Token) : Type 0 where
+  pub at : Token
+  pub after : List Token
+  pub is : rest ≡ at ∷ after
+  pub matched : Paired None front
+  pub stops : stop at ≡ true
+
+-- The shortest front of the tokens with all pairs matched behind which a token stands that ends it; where there is none,
+-- the end of the text closes what is open, and all the tokens are the stretch.
+pub record IsStretch (stop : Token → Bool) (ts front rest : List Token) : Type 0 where
+  pub whole : ts ≡ front ++ rest
+  pub ends : (rest ≡ []) ⊎ EndsAt stop front rest
+  pub shortest : (p : List Token) (t : Token) (r : List Token) → ts ≡ p ++ t ∷ r → Paired None p → stop t ≡ true → length front ≤ length p
+
+-- what stands in the block whose `{` is before the tokens, and what follows its `}`
+pub record IsBlock (ts block rest : List Token) : Type 0 where
+  pub closing : List Token
+  pub stretch : IsStretch ends_block ts block closing
+  pub past : rest ≡ drop 1 closing
+
+-- An at-rule behind its prelude: the text ends, or a `;` comes, or a block.
+pub data IsBody : List Token → List Token → List Token → Type 0 where
+  at_end : IsBody [] [] []
+  at_semicolon : {t : Token} {ts : List Token} → is_left_brace t.kind ≡ false → IsBody (t ∷ ts) [] ts
+  at_block : {t : Token} {ts block rest : List Token} → is_left_brace t.kind ≡ true → IsBlock ts block rest → IsBody (t ∷ ts) block rest
+
+-- An at-rule behind its keyword: its prelude, what stands in its block if it has one, and what follows it.
+pub record IsAtRule (ts prelude block rest : List Token) : Type 0 where
+  pub body : List Token
+  pub stretch : IsStretch ends_prelude ts prelude body
+  pub rule : IsBody body block rest
+
+-- ---- one item after another
+
+-- The tokens are items, one after another, and these are what they give, joined. One item is what `One` takes from the
+-- front of the tokens, with what it gives and the rest.
+pub data Listed {A : Type 0} (One : List Token → List A → List Token → Type 0) : List Token → List A → Type 0 where
+  done : Listed One [] []
+  more : {t : Token} {ts rest : List Token} {xs ys : List A} → One (t ∷ ts) xs rest → Listed One rest ys → Listed One (t ∷ ts) (xs ++ ys)
+
+-- ---- declarations
+
+-- Tokens that are in the grammar of values (CSS 2.1, 4.1.1: value, any, block, unused) but for being none. `closed` says
+-- that all pairs in them are closed, as they are but for those that the end of the text closes.
+pub data Standing : Bool → Option TokenKind → List Token → Type 0 where
+  nothing_more : {closed : Bool} {within : Option TokenKind} → Standing closed within []
+  stands : {closed : Bool} {within : Option TokenKind} {t : Token} {ts : List Token} → closing_mark t.kind ≡ None → is_closing t.kind ≡ false → may_stand (option_to_list within) t.kind ≡ true → Standing closed within ts → Standing closed within (t ∷ ts)
+  closed_pair : {closed : Bool} {within : Option TokenKind} {opener : Token} {ts : List Token} (mark : TokenKind) (inner : List Token) (close : Token) (rest : List Token) → ts ≡ inner ++ close ∷ rest → closing_mark opener.kind ≡ Some mark → is_bad opener.kind ≡ false → Standing true (Some mark) inner → is_mark mark close.kind ≡ true → Standing closed within rest → Standing closed within (opener ∷ ts)
+  open_pair : {within : Option TokenKind} {opener : Token} {inner : List Token} (mark : TokenKind) → closing_mark opener.kind ≡ Some mark → is_bad opener.kind ≡ false → Standing false (Some mark) inner → Standing false within (opener ∷ inner)
+
+-- A declaration: a name, a colon and a value, which isn't white space and comments alone.
+pub record IsDeclaration (piece : List Token) (d : Decl) : Type 0 where
+  pub name : Token
+  pub gap : List Token
+  pub colon : Token
+  pub value : List Token
+  pub whole : piece ≡ name ∷ (gap ++ colon ∷ value)
+  pub named : is_ident name.kind ≡ true
+  pub blank : list_all (λ t. is_gap t.kind) gap ≡ true
+  pub parted : is_colon colon.kind ≡ true
+  pub standing : Standing false None value
+  pub some : list_all (λ t. is_gap t.kind) value ≡ false
+  pub gives : d ≡ declared_at name value (before_important value)
+
+-- What stands where a declaration may: white space, a comment or a `;`; an at-rule, which is dropped; a declaration; or
+-- what is dropped up to the next `;` since it is none.
+pub data DeclarationItem : List Token → List Decl → List Token → Type 0 where
+  blank : {t : Token} {ts : List Token} → is_blank t.kind ≡ true → DeclarationItem (t ∷ ts) [] ts
+  at_rule : {t : Token} {ts prelude block rest : List Token} → is_blank t.kind ≡ false → is_at_keyword t.kind ≡ true → IsAtRule ts prelude block rest → DeclarationItem (t ∷ ts) [] rest
+  well_formed : {t : Token} {ts piece rest : List Token} {d : Decl} → is_blank t.kind ≡ false → is_at_keyword t.kind ≡ false → IsStretch ends_declaration (t ∷ ts) piece rest → IsDeclaration piece d → DeclarationItem (t ∷ ts) (d ∷ []) rest
+  malformed : {t : Token} {ts piece rest : List Token} → is_blank t.kind ≡ false → is_at_keyword t.kind ≡ false → IsStretch ends_declaration (t ∷ ts) piece rest → ((d : Decl) → IsDeclaration piece d → ⊥) → DeclarationItem (t ∷ ts) [] rest
+
+-- the declarations of a block
+abbrev pub AreDeclarations : List Token → List Decl → Type 0
+AreDeclarations = Listed DeclarationItem
+
+-- ---- rulesets
+
+-- A ruleset: a selector, which may be anything, and a block. Without a block it is none.
+pub data RulesetAt : List Token → List Rule → List Token → Type 0 where
+  ruleset_with : {ts selector after block rest : List Token} {brace : Token} {decls : List Decl} {rule : Rule} → IsStretch ends_selector ts selector (brace ∷ after) → IsBlock after block rest → AreDeclarations block decls → rule ≡ record { at = start_of brace.at (trimmed is_space selector); len = extent (trimmed is_space selector); decls = decls } → RulesetAt ts (rule ∷ []) rest
+  unfinished : {ts selector : List Token} → IsStretch ends_selector ts selector [] → RulesetAt ts [] []
+
+-- What stands in a block of `@media`: at-rules in it are dropped.
+pub data RuleItem : List Token → List Rule → List Token → Type 0 where
+  blank_rule : {t : Token} {ts : List Token} → is_gap t.kind ≡ true → RuleItem (t ∷ ts) [] ts
+  dropped_at_rule : {t : Token} {ts prelude block rest : List Token} → is_gap t.kind ≡ false → is_at_keyword t.kind ≡ true → IsAtRule ts prelude block rest → RuleItem (t ∷ ts) [] rest
+  kept_rule : {t : Token} {ts rest : List Token} {rules : List Rule} → is_gap t.kind ≡ false → is_at_keyword t.kind ≡ false → RulesetAt (t ∷ ts) rules rest → RuleItem (t ∷ ts) rules rest
+
+-- the rules of such a block
+abbrev pub AreRules : List Token → List Rule → Type 0
+AreRules = Listed RuleItem
+
+-- ---- media lists
+
+-- an entry of a media list, and what follows its comma
+pub data EntryItem : List Token → List (List Token) → List Token → Type 0 where
+  entry : {t : Token} {ts piece comma rest : List Token} → IsStretch ends_entry (t ∷ ts) piece comma → rest ≡ drop 1 comma → EntryItem (t ∷ ts) (piece ∷ []) rest
+
+-- The list has the medium of the page: it has no entry, or one that is the single word `all` or `screen`.
+pub data HasMedium : List Token → Type 0 where
+  every_medium : {prelude : List Token} → list_all (λ t. is_gap t.kind) prelude ≡ true → HasMedium prelude
+  screen_medium : {prelude : List Token} {entries : List (List Token)} → Listed EntryItem prelude entries → list_any is_screen entries ≡ true → HasMedium prelude
+
+-- ---- statements
+
+-- What an at-rule of a sheet says: its keyword, its prelude and what stands in its block.
+pub data AtStatement : Token → List Token → List Token → List Statement → Type 0 where
+  an_import : {t : Token} {prelude block : List Token} → is_word (codes "import") t ≡ true → AtStatement t prelude block (Import t.at ∷ [])
+  a_page : {t : Token} {prelude block : List Token} → is_word (codes "import") t ≡ false → is_word (codes "page") t ≡ true → AtStatement t prelude block (Page ∷ [])
+  a_query : {t : Token} {prelude block : List Token} → is_word (codes "import") t ≡ false → is_word (codes "page") t ≡ false → is_word (codes "media") t ≡ true → list_any (λ u. has_paren u.kind) prelude ≡ true → AtStatement t prelude block (MediaQuery t.at ∷ [])
+  held_media : {t : Token} {prelude block : List Token} {rules : List Rule} → is_word (codes "import") t ≡ false → is_word (codes "page") t ≡ false → is_word (codes "media") t ≡ true → list_any (λ u. has_paren u.kind) prelude ≡ false → HasMedium prelude → AreRules block rules → AtStatement t prelude block (Media rules ∷ [])
+  other_media : {t : Token} {prelude block : List Token} → is_word (codes "import") t ≡ false → is_word (codes "page") t ≡ false → is_word (codes "media") t ≡ true → list_any (λ u. has_paren u.kind) prelude ≡ false → (HasMedium prelude → ⊥) → AtStatement t prelude block (Media [] ∷ [])
+  unknown : {t : Token} {prelude block : List Token} → is_word (codes "import") t ≡ false → is_word (codes "page") t ≡ false → is_word (codes "media") t ≡ false → AtStatement t prelude block []
+
+-- What stands in a sheet: white space, a comment, `<!--` or `-->`; an at-rule; a ruleset.
+pub data StatementItem : List Token → List Statement → List Token → Type 0 where
+  between : {t : Token} {ts : List Token} → is_between t.kind ≡ true → StatementItem (t ∷ ts) [] ts
+  at_statement : {t : Token} {ts prelude block rest : List Token} {said : List Statement} → is_between t.kind ≡ false → is_at_keyword t.kind ≡ true → IsAtRule ts prelude block rest → AtStatement t prelude block said → StatementItem (t ∷ ts) said rest
+  rule_statement : {t : Token} {ts rest : List Token} {rules : List Rule} → is_between t.kind ≡ false → is_at_keyword t.kind ≡ false → RulesetAt (t ∷ ts) rules rest → StatementItem (t ∷ ts) (map Ruleset rules) rest
+
+abbrev pub AreStatements : List Token → List Statement → Type 0
+AreStatements = Listed StatementItem
+
+-- ---- the sheet
+
+-- the rules that statements hold, in order
+abbrev pub rules_of : List Statement → List Rule
+rules_of [] = []
+rules_of (Ruleset rule ∷ ss) = rule ∷ rules_of ss
+rules_of (Media rules ∷ ss) = rules ++ rules_of ss
+rules_of (Import place ∷ ss) = rules_of ss
+rules_of (Page ∷ ss) = rules_of ss
+rules_of (MediaQuery place ∷ ss) = rules_of ss
+
+-- an `@import` behind such a statement is dropped (this project's own reading of CSS 2.1, 4.1.5)
+abbrev pub ends_imports : Statement → Bool
+ends_imports (Import place) = false
+ends_imports _ = true
+
+-- whether a statement is refused behind these
+abbrev pub is_refused : List Statement → Statement → Bool
+is_refused before (Import place) = not (list_any ends_imports before)
+is_refused before (MediaQuery place) = true
+is_refused before _ = false
+
+-- no statement is refused
+abbrev pub IsAccepted : List Statement → Type 0
+IsAccepted ss = (before : List Statement) (s : Statement) (after : List Statement) → ss ≡ before ++ s ∷ after → is_refused before s ≡ false
+
+-- the first statement that is refused
+pub record IsFirstRefused (ss : List Statement) (s : Statement) : Type 0 where
+  pub before : List Statement
+  pub after : List Statement
+  pub whole : ss ≡ before ++ s ∷ after
+  pub refused : is_refused before s ≡ true
+  pub first : IsAccepted before
+
+-- The answer of a sheet: the first statement that is refused, more than 8,192 rules, or the rules.
+pub data IsAnswer (ss : List Statement) : Result (List Rule) Refusal → Type 0 where
+  refused_import : {place : ℕ} → IsFirstRefused ss (Import place) → IsAnswer ss (Err (import_at place))
+  refused_query : {place : ℕ} → IsFirstRefused ss (MediaQuery place) → IsAnswer ss (Err (media_at place))
+  too_long : IsAccepted ss → 8192 < length (rules_of ss) → IsAnswer ss (Err too_many)
+  rules_are : IsAccepted ss → length (rules_of ss) ≤ 8192 → IsAnswer ss (Ok (rules_of ss))
+
+-- what the tokens of a sheet spell
+pub record IsSheet (tokens : List Token) (answer : Result (List Rule) Refusal) : Type 0 where
+  pub statements : List Statement
+  pub read : AreStatements (closed_by_end tokens) statements
+  pub gives : IsAnswer statements answer
+
+-- what a text spells
+abbrev pub IsSheetOf : List ℕ → Result (List Rule) Refusal → Type 0
+IsSheetOf text answer = (tokens : List Token) × AreTokens text tokens × IsSheet tokens answer
+
+-- the declarations that the text of a style attribute spells
+abbrev pub AreDeclarationsOf : List ℕ → List Decl → Type 0
+AreDeclarationsOf text decls = (tokens : List Token) × AreTokens text tokens × AreDeclarations (closed_by_end tokens) decls

@@ -1,0 +1,24 @@
+ghost use Rattle.std.specs.Prelude.{◌≡◌, List as Seq, Bool, Result};
+ghost use Rattle.viz_base.specs.declared.tokens.Token.{Token};
+ghost use Rattle.viz_base.specs.declared.sheets.Decl.{Decl};
+ghost use Rattle.viz_base.specs.declared.sheets.Rule.{Rule};
+ghost use Rattle.css_semantics.specs.SheetsReading.{Refusal};
+ghost use Rattle.css_semantics.specs.SheetsGrammar.{AreDeclarations, IsSheet, IsStretch};
+
+/// Law: for each test of what ends a stretch, each list of tokens falls in exactly one way into a stretch and a rest.
+pub fn one_stretch()
+    ensures exists { (stop : Token → Bool) (ts : Seq Token) → (front : Seq Token) × (rest : Seq Token) × IsStretch stop ts front rest }
+    ensures unique { (stop : Token → Bool) (ts f g r s : Seq Token) → IsStretch stop ts f r → IsStretch stop ts g s → (f ≡ g) × (r ≡ s) }
+{}
+
+/// Law: each list of tokens has exactly one list of declarations.
+pub fn one_list_of_declarations()
+    ensures exists { (ts : Seq Token) → (ds : Seq Decl) × AreDeclarations ts ds }
+    ensures unique { (ts : Seq Token) (ds es : Seq Decl) → AreDeclarations ts ds → AreDeclarations ts es → ds ≡ es }
+{}
+
+/// Law: each list of tokens spells exactly one sheet, or is refused in exactly one way.
+pub fn one_sheet()
+    ensures exists { (ts : Seq Token) → (answer : Result (Seq Rule) Refusal) × IsSheet ts answer }
+    ensures unique { (ts : Seq Token) (a b : Result (Seq Rule) Refusal) → IsSheet ts a → IsSheet ts b → a ≡ b }
+{}

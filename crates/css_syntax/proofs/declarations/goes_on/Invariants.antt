@@ -1,0 +1,6 @@
+use Rattle.std.proofs.Common.{◌≡◌, [], drop}
+use Rattle.css_semantics.specs.SheetsReading.{goes_on}
+use Rattle.css_syntax.proofs.declarations.goes_on.Given as goal
+
+abbrev pub invariant-loop-token : goal.invariant-loop-token
+invariant-loop-token l = goes_on l.marks (drop l.token-index l.tokens) ≡ goes_on [] l.tokens

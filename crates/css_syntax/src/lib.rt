@@ -1,0 +1,17 @@
+//! Style sheets and style attributes, with all error recovery of CSS 2.1, 4.1 and 4.2.
+#![tactic(auto)]
+
+mod declarations;
+mod kinds;
+mod marks;
+mod media;
+mod rules;
+mod sheets;
+mod slices;
+mod statements;
+mod stretches;
+#[cfg(test)]
+mod tests;
+mod words;
+
+pub use sheets::{SheetFault, read_declarations, read_sheet};

@@ -1,0 +1,77 @@
+ghost use Rattle.std.specs.Prelude.{◌≡◌, [], None, Some, IfOk, MatchOption};
+ghost use Rattle.std.specs.Option.{option_to_list};
+ghost use Rattle.css_semantics.specs.SheetsReading.{after_rule, after_ruleset, at_head, block_rule, rule_item, rule_of, rules_in};
+
+use crate::declarations::declarations;
+use crate::kinds::{is_at_keyword, is_gap};
+use crate::slices::{Class, extent, place, start_of, trim};
+use crate::stretches::{Stop, after_at_rule, after_block, split};
+use std::alloc::Global;
+use viz_base::{List, Mem, Rule, Token};
+
+/// The rule with this selector and the block whose `{`, at this place, stands before the tokens.
+fn rule_of<'a>(
+    alloc: Global,
+    selector: &[Token<'_>],
+    at: usize,
+    block: &'a [Token<'a>],
+) -> Result<Rule, Mem>
+    ensures { IfOk result (λ rule. rule ≡ rule_of selector.now at block.now) }
+{
+    Ok(Rule {
+        at: place(start_of(selector, at))?,
+        len: place(extent(selector)?)?,
+        decls: declarations(alloc, block)?,
+    })
+}
+
+/// The ruleset at the head of the tokens, if its block comes, and what follows it.
+pub fn block_rule<'a>(
+    alloc: Global,
+    tokens: &'a [Token<'a>],
+) -> Result<(Option<Rule>, &'a [Token<'a>]), Mem>
+    ensures { IfOk result (λ p. (p.0 ≡ block_rule tokens.now) × (p.1.now ≡ after_ruleset tokens.now)) }
+{
+    let (selector, rest) = split(alloc, tokens, Stop::Selector)?;
+    let Some((brace, after)) = rest.split_first() else {
+        return Ok((None, rest));
+    };
+    let (block, _) = split(alloc, after, Stop::Block)?;
+    let rule = rule_of(alloc, trim(selector, Class::Space), brace.at, block)?;
+    Ok((Some(rule), after_block(alloc, after)?))
+}
+
+/// What begins the tokens in a block of `@media`, and what follows it.
+fn rule_item<'a>(
+    alloc: Global,
+    tokens: &'a [Token<'a>],
+) -> Result<(Option<Rule>, &'a [Token<'a>]), Mem>
+    ensures { IfOk result (λ p. (option_to_list p.0 ≡ at_head rule_item tokens.now) × (p.1.now ≡ at_head after_rule tokens.now)) }
+{
+    let Some((first, after)) = tokens.split_first() else {
+        return Ok((None, tokens));
+    };
+    if is_gap(first.kind) {
+        return Ok((None, after));
+    }
+    if is_at_keyword(first.kind) {
+        return Ok((None, after_at_rule(alloc, after)?));
+    }
+    block_rule(alloc, tokens)
+}
+
+/// The rules of a block of `@media`.
+pub fn rules_in<'a>(alloc: Global, tokens: &'a [Token<'a>]) -> Result<List<Rule>, Mem>
+    ensures { IfOk result (λ rules. rules ≡ rules_in tokens.now) }
+{
+    let mut rules = List::new(alloc);
+    let mut at = 0;
+    while at < tokens.len() {
+        let (rule, rest) = rule_item(alloc, &tokens[at..])?;
+        if let Some(rule) = rule {
+            rules.push(rule)?;
+        }
+        at = tokens.len() - rest.len();
+    }
+    Ok(rules)
+}

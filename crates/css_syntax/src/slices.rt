@@ -1,0 +1,100 @@
+ghost use Rattle.std.specs.Prelude.{◌≡◌, ◌-◌, ◌≤◌, length, IfOk};
+ghost use Rattle.std.specs.List.{list_all, prefix_len, suffix_len};
+ghost use Rattle.css_semantics.specs.SheetsMarks.{is_gap};
+ghost use Rattle.css_semantics.specs.SheetsReading.{extent, start_of, trim_end, trim_start, trimmed};
+ghost use Rattle.css_syntax.specs.Classes.{class_has};
+
+use crate::kinds::{is_gap, is_space};
+use viz_base::{Mem, Token, TokenKind};
+
+/// What is cut from the ends of a stretch.
+#[derive(Clone, Copy)]
+pub enum Class {
+    Space,
+    /// White space and comments.
+    Gap,
+}
+
+pub fn class_has(class: Class, kind: TokenKind) -> bool
+    ensures { result ≡ class_has class kind }
+{
+    match class {
+        Class::Space => is_space(kind),
+        Class::Gap => is_gap(kind),
+    }
+}
+
+/// How many tokens at the front are of the class.
+fn front_len(tokens: &[Token<'_>], class: Class) -> usize
+    ensures is { result ≡ prefix_len (λ t. class_has class t.kind) tokens.now }
+    ensures within { result ≤ length tokens.now }
+{
+    for (at, token) in tokens.iter().enumerate() {
+        if !class_has(class, token.kind) {
+            return at;
+        }
+    }
+    tokens.len()
+}
+
+/// Where the tokens of the class at the end begin.
+fn end_start(tokens: &[Token<'_>], class: Class) -> usize
+    ensures is { result ≡ length tokens.now - suffix_len (λ t. class_has class t.kind) tokens.now }
+    ensures within { result ≤ length tokens.now }
+{
+    let mut end = tokens.len();
+    while end > 0 && class_has(class, tokens[end - 1].kind) {
+        end -= 1;
+    }
+    end
+}
+
+pub fn trim_start<'a>(tokens: &'a [Token<'a>], class: Class) -> &'a [Token<'a>]
+    ensures { result.now ≡ trim_start (class_has class) tokens.now }
+{
+    &tokens[front_len(tokens, class)..]
+}
+
+pub fn trim_end<'a>(tokens: &'a [Token<'a>], class: Class) -> &'a [Token<'a>]
+    ensures { result.now ≡ trim_end (class_has class) tokens.now }
+{
+    &tokens[..end_start(tokens, class)]
+}
+
+/// Whether the tokens are white space and comments alone.
+pub fn is_all_gap(tokens: &[Token<'_>]) -> bool
+    ensures { result ≡ list_all (λ t. is_gap t.kind) tokens.now }
+{
+    tokens.iter().all(|token| is_gap(token.kind))
+}
+
+pub fn trim<'a>(tokens: &'a [Token<'a>], class: Class) -> &'a [Token<'a>]
+    ensures { result.now ≡ trimmed (class_has class) tokens.now }
+{
+    trim_end(trim_start(tokens, class), class)
+}
+
+/// A place or a length in a text. In a text of `2^32` bytes and more it may not fit, which counts as want of memory.
+pub fn place(at: usize) -> Result<u32, Mem>
+    ensures { IfOk result (λ n. n ≡ at) }
+{
+    u32::try_from(at).map_err(|_| Mem)
+}
+
+/// Where the first of the tokens stands, or the place where there is none.
+pub fn start_of(tokens: &[Token<'_>], at: usize) -> usize
+    ensures { result ≡ start_of at tokens.now }
+{
+    tokens.first().map_or(at, |token| token.at)
+}
+
+/// How many bytes the tokens span.
+pub fn extent(tokens: &[Token<'_>]) -> Result<usize, Mem>
+    ensures { IfOk result (λ n. n ≡ extent tokens.now) }
+{
+    let Some(last) = tokens.last() else {
+        return Ok(0);
+    };
+    let end = last.at.checked_add(last.text.len()).ok_or(Mem)?;
+    Ok(end.saturating_sub(start_of(tokens, 0)))
+}

@@ -1,0 +1,107 @@
+ghost use Rattle.std.specs.Prelude.{◌≡◌, [], IfOk, if◌then◌else◌};
+ghost use Rattle.std.specs.List.{list_any};
+ghost use Rattle.std.specs.Option.{option_to_list};
+ghost use Rattle.css_semantics.specs.SheetsMarks.{has_paren};
+ghost use Rattle.css_semantics.specs.SheetsReading.{after_statement, at_head, at_rule, holds, in_block, media_of, rules_in, statement_item};
+
+use crate::kinds::{has_paren, is_at_keyword, is_comment_mark, is_gap, is_left_brace};
+use crate::media::holds;
+use crate::rules::{block_rule, rules_in};
+use crate::slices::place;
+use crate::stretches::{Stop, after_at_rule, split};
+use crate::words::is_word;
+use css_semantics::Statement;
+use std::alloc::Global;
+use viz_base::{List, Mem, Rule, Token};
+
+/// What stands in the block that begins the tokens, or nothing.
+fn in_block<'a>(alloc: Global, tokens: &'a [Token<'a>]) -> Result<&'a [Token<'a>], Mem>
+    ensures { IfOk result (λ block. block.now ≡ in_block tokens.now) }
+{
+    match tokens.split_first() {
+        Some((first, after)) if is_left_brace(first.kind) => {
+            let (block, _) = split(alloc, after, Stop::Block)?;
+            Ok(block)
+        }
+        _ => Ok(&tokens[..0]),
+    }
+}
+
+/// Whether a `(` stands in the tokens.
+fn has_query(tokens: &[Token<'_>]) -> bool
+    ensures { result ≡ list_any (λ t. has_paren t.kind) tokens.now }
+{
+    tokens.iter().any(|token| has_paren(token.kind))
+}
+
+/// The rules of a block where its media list has the medium, else none.
+fn held_rules<'a>(
+    alloc: Global,
+    list: &'a [Token<'a>],
+    block: &'a [Token<'a>],
+) -> Result<List<Rule>, Mem>
+    ensures { IfOk result (λ rules. rules ≡ (if holds list.now then rules_in block.now else [])) }
+{
+    if holds(alloc, list)? {
+        rules_in(alloc, block)
+    } else {
+        Ok(List::new(alloc))
+    }
+}
+
+/// The `@media` at this place, with its prelude and its block.
+fn media_of<'a>(
+    alloc: Global,
+    at: usize,
+    prelude: &'a [Token<'a>],
+    block: &'a [Token<'a>],
+) -> Result<Statement, Mem>
+    ensures { IfOk result (λ statement. statement ≡ media_of at prelude.now block.now) }
+{
+    if has_query(prelude) {
+        Ok(Statement::MediaQuery(place(at)?))
+    } else {
+        Ok(Statement::Media(held_rules(alloc, prelude, block)?))
+    }
+}
+
+/// What the at-rule with this keyword says of the sheet.
+fn at_rule<'a>(
+    alloc: Global,
+    keyword: &Token<'_>,
+    after: &'a [Token<'a>],
+) -> Result<Option<Statement>, Mem>
+    ensures { IfOk result (λ statement. statement ≡ at_rule keyword.now after.now) }
+{
+    if is_word(alloc, keyword, "import")? {
+        return Ok(Some(Statement::Import(place(keyword.at)?)));
+    }
+    if is_word(alloc, keyword, "page")? {
+        return Ok(Some(Statement::Page));
+    }
+    if is_word(alloc, keyword, "media")? {
+        let (prelude, rest) = split(alloc, after, Stop::Prelude)?;
+        return Ok(Some(media_of(alloc, keyword.at, prelude, in_block(alloc, rest)?)?));
+    }
+    Ok(None)
+}
+
+/// The statement at the head of the tokens, and what follows it.
+pub fn statement_item<'a>(
+    alloc: Global,
+    tokens: &'a [Token<'a>],
+) -> Result<(Option<Statement>, &'a [Token<'a>]), Mem>
+    ensures { IfOk result (λ p. (option_to_list p.0 ≡ at_head statement_item tokens.now) × (p.1.now ≡ at_head after_statement tokens.now)) }
+{
+    let Some((first, after)) = tokens.split_first() else {
+        return Ok((None, tokens));
+    };
+    if is_gap(first.kind) || is_comment_mark(first.kind) {
+        return Ok((None, after));
+    }
+    if is_at_keyword(first.kind) {
+        return Ok((at_rule(alloc, first, after)?, after_at_rule(alloc, after)?));
+    }
+    let (rule, rest) = block_rule(alloc, tokens)?;
+    Ok((rule.map(Statement::Ruleset), rest))
+}
