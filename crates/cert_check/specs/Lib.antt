@@ -1,0 +1,7 @@
+pub mod Paths
+pub mod Rectangles
+pub mod Nodes
+pub mod Right
+pub mod Verdicts
+pub mod Laws
+pub mod Walk

@@ -1,0 +1,13 @@
+//! Checks a certificate against its job. What is accepted holds, whoever made the certificate.
+#![tactic(auto)]
+
+mod cuts;
+mod laws;
+mod verdicts;
+mod walk;
+mod worlds;
+
+pub use laws::{one_grid_each, one_verdict_each, rectangles_are_paths, right_holds};
+pub use verdicts::{Reject, Verdict};
+pub use walk::check;
+pub use worlds::{first_untrue, holds_at};
