@@ -1,5 +1,5 @@
 #!/usr/bin/env python3
-"""Measures `vizlog lay` on pages of nested and stacked blocks: seconds and peak memory, by the number of elements.
+"""Measures `vizlog lay` on pages of nested and stacked blocks: processor time and peak memory, by the number of elements.
 
 The growth from 512 to 4,096 elements is to be at most linear within noise (a ratio of times below 10),
 and the peak memory below 200 MB. Run it at the top: bench/lay.py
@@ -9,11 +9,10 @@ import os
 import pathlib
 import subprocess
 import tempfile
-import time
 
 TOP = pathlib.Path(__file__).resolve().parent.parent
 SIZES = (512, 1024, 2048, 4096)
-RUNS = 15
+RUNS = 40
 DEPTH = 58
 
 
@@ -44,13 +43,12 @@ def job(count):
 
 
 def measure(program, path):
-    """The least of some runs, in seconds, and the peak in MB."""
+    """The least processor time of some runs, in seconds, and the peak in MB."""
     best, peak = None, 0
     for _ in range(RUNS):
-        start = time.perf_counter()
         child = subprocess.Popen([str(program), "lay", path, "320", "16"], stdout=subprocess.DEVNULL)
         _, status, usage = os.wait4(child.pid, 0)
-        took = time.perf_counter() - start
+        took = usage.ru_utime + usage.ru_stime
         assert os.waitstatus_to_exitcode(status) == 0, "lay did not end with 0"
         best = took if best is None else min(best, took)
         peak = max(peak, usage.ru_maxrss / 1024)
