@@ -8,7 +8,7 @@ use super::*;
 use cert_text::{Cert, CertNode};
 use lin_row::Row;
 use std::alloc::{AllocError, Global};
-use viz_base::{Boxed, BoxTree, Edge, Formula, Job, List, Mem, Rect, Sign, Summand, Term, World};
+use viz_base::{BoxTree, Boxed, Edge, Formula, Job, List, Mem, Rect, Sign, Summand, Term, World};
 
 /// The boxes of an empty page.
 fn no_boxes(alloc: Global) -> BoxTree
