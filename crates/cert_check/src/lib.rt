@@ -8,7 +8,9 @@ mod walk;
 mod worlds;
 
 pub use cuts::{Cut, cut_of, part_of, world_count};
-pub use laws::{one_grid_each, one_verdict_each, rectangles_are_paths, right_holds};
+pub use laws::{
+    no_more_nodes_than_bytes, one_grid_each, one_verdict_each, rectangles_are_paths, right_holds,
+};
 pub use verdicts::{Reject, Verdict};
 pub use walk::check;
 pub use worlds::{first_untrue, holds_at};
