@@ -5,3 +5,4 @@ pub mod Walks
 pub mod Grids
 pub mod Causes
 pub mod Bounded
+pub mod Texts

@@ -1,3 +1,7 @@
+ghost use Rattle.std.specs.Prelude.{◌≤◌, ℕ, List, length};
+ghost use Rattle.cert_text.specs.declared.certificate.Cert.{Cert};
+ghost use Rattle.cert_text.specs.Grammar.{CertText};
+ghost use Rattle.cert_check.specs.Nodes.{nodes_of};
 ghost use Rattle.cert_check.specs.Laws.{OneGrid, RightHolds, OneVerdict, UnitIsUnitRow, RectangleIsPath};
 
 /// Each world lies on the path of exactly one grid.
@@ -19,4 +23,9 @@ pub fn one_verdict_each()
 pub fn rectangles_are_paths()
     ensures unit { UnitIsUnitRow }
     ensures rectangle { RectangleIsPath }
+{}
+
+/// A certificate's text has at least as many bytes as the certificate has nodes.
+pub fn no_more_nodes_than_bytes()
+    ensures { (cert : Cert) (text : List ℕ) → CertText cert text → length (nodes_of cert) ≤ length text }
 {}
