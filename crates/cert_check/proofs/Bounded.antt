@@ -1,17 +1,15 @@
 -- The rendering of a job's page is bounded.
-use Rattle.std.proofs.Common.{◌≡◌, ℕ, zero, suc, ◌+◌, ◌*◌, ◌^◌, ◌<◌, ◌≤◌, ℤ, pos, unsigned_abs, List, [], ◌∷◌, map, Some, refl, sym, subst, arith}
+use Rattle.std.proofs.Common.{◌≡◌, ℕ, zero, suc, ◌≤◌, ℤ, List, [], ◌∷◌, map, Some, subst, arith}
 use Rattle.std.specs.Prelude.{slice_get}
-use Rattle.std.proofs.lemmas.Int.{ints}
 use Rattle.std.proofs.lemmas.Option.{same_Some}
 use Rattle.viz_base.specs.declared.worlds.World.{World}
 use Rattle.viz_base.specs.declared.jobs.Job.{Job}
-use Rattle.viz_base.specs.declared.trees.BoxTree.{BoxTree}
 use Rattle.viz_base.specs.declared.renderings.Placed.{Placed}
 use Rattle.layout_semantics.specs.Order.{page_order}
 use Rattle.layout_semantics.specs.Blocks.{top_of, bottom_of, placed_block, rectangle}
 use Rattle.layout_semantics.specs.Rendering.{rendering}
 use Rattle.layout_semantics.specs.Limits.{IsSmallPage}
-use Rattle.layout_semantics.proofs.Forest.{IsForest, IsForest-from}
+use Rattle.layout_semantics.proofs.Forest.{IsForest-from}
 use Rattle.layout_semantics.proofs.Sizes.{top_low, bottom_low}
 use Rattle.logic_semantics.specs.Ranges.{IsInRange}
 use Rattle.vis_truth.specs.Scenes.{IsBoundedQuad, IsBoundedBox, IsBoundedRendering}

@@ -1,32 +1,28 @@
 -- From the walk over a certificate to its verdict.
-use Rattle.std.proofs.Common.{◌≡◌, ℕ, zero, suc, ◌+◌, ◌<◌, ◌≤◌, Bool, true, false, not, nat_eq, nat_lt, List, [], ◌∷◌, length, Option, Some, None, Ok, Err, refl, sym, ap, subst, ◌∙◌, arith, inl, inr, IsTrue}
-use Rattle.std.specs.Prelude.{◌⊎◌, ◌↔◌, slice_get, Result, IfOk}
+use Rattle.std.proofs.Common.{◌≡◌, ℕ, zero, suc, ◌+◌, ◌<◌, Bool, true, false, not, nat_eq, nat_lt, List, [], ◌∷◌, Some, Ok, Err, refl, sym, ap, subst, ◌∙◌, arith, inl, inr}
+use Rattle.std.specs.Prelude.{slice_get}
 use Rattle.std.specs.Cmp.Lexicographic.{pointwise, same_text}
 use Rattle.std.proofs.lemmas.Bool.Decides.{nat_tests}
 use Rattle.std.proofs.lemmas.Option.{same_Some}
-use Rattle.viz_base.specs.Jobs.{IsRange}
 use Rattle.viz_base.specs.declared.worlds.World.{World}
-use Rattle.viz_base.specs.declared.worlds.Rect.{Rect}
 use Rattle.viz_base.specs.declared.jobs.Job.{Job}
 use Rattle.cert_text.specs.declared.certificate.Cert.{Cert}
 use Rattle.cert_check.specs.declared.verdicts.Verdict.{Verdict}
 use Rattle.cert_check.specs.declared.verdicts.Verdict.TheVariants.{Accepted, Rejected}
 use Rattle.cert_check.specs.declared.verdicts.Reject.{Reject}
 use Rattle.cert_check.specs.declared.verdicts.Reject.TheVariants.{OtherJob, Shape, Untrue}
-use Rattle.cert_check.specs.declared.walk.Stop.{Stop}
 use Rattle.cert_check.specs.declared.walk.Stop.TheVariants as of_stop
-use Rattle.cert_check.specs.Paths.{Path, IsOnPath}
-use Rattle.cert_check.specs.Nodes.{Decision, by_worlds, Node, nodes_from, nodes_of}
-use Rattle.cert_check.specs.Right.{is_true_at, has_shape, IsTrueOn, DecidesTruly, IsGood, Holds, Right}
+use Rattle.cert_check.specs.Paths.{Path}
+use Rattle.cert_check.specs.Nodes.{by_worlds, Node, nodes_of}
+use Rattle.cert_check.specs.Right.{is_true_at, has_shape, DecidesTruly, IsGood, Right}
 use Rattle.cert_check.specs.Verdicts.{IsBefore, IsFirstUntrue, IsReached, IsBadShape, IsUntrue, IsCause, IsVerdict}
 use Rattle.cert_check.specs.Walk.{Answer, Gives, walk}
 use Rattle.cert_check.proofs.Parts.{whole_part}
 use Rattle.cert_check.proofs.Walks.{AllGood, IsBad, Rejects, Tells, walk_tells}
-use Rattle.cert_check.proofs.Grids.{right_holds}
 
 -- ---- lists of nodes by number
 
-good_at : (job : Job) (nodes : List Node) → AllGood job nodes → (n : ℕ) (node : Node) → slice_get nodes n ≡ Some node → IsGood job node
+pub good_at : (job : Job) (nodes : List Node) → AllGood job nodes → (n : ℕ) (node : Node) → slice_get nodes n ≡ Some node → IsGood job node
 good_at job [] h n node is = absurd (cc)
 good_at job (x ∷ xs) h zero node is = subst (λ y. IsGood job y) (same_Some x node is) h.0
 good_at job (x ∷ xs) h (suc n) node is = good_at job xs h.1 n node is
@@ -42,22 +38,22 @@ record IsFirstBad (job : Job) (nodes : List Node) (n : ℕ) (reject : Reject) : 
 first_bad : (job : Job) (nodes : List Node) (n : ℕ) (reject : Reject) → Rejects job nodes n reject → IsFirstBad job nodes n reject
 first_bad job [] n reject h = absurd h
 first_bad job (x ∷ xs) n reject (inl bad) = record {
-    place = 0;
-    node = x;
-    is_node = refl;
-    before = λ k other lt is. absurd (omega arith);
-    bad = let same : n ≡ n + 0 = omega arith in subst (λ m. IsBad job m x reject) same bad;
-  }
+  place = 0;
+  node = x;
+  is_node = refl;
+  before = λ k other lt is. absurd (omega arith);
+  bad = let same : n ≡ n + 0 = omega arith in subst (λ m. IsBad job m x reject) same bad;
+}
 first_bad job (x ∷ xs) n reject (inr h) = further (first_bad job xs (n + 1) reject h.1)
   where
     further : IsFirstBad job xs (n + 1) reject → IsFirstBad job (x ∷ xs) n reject
     further rest = record {
-        place = suc rest.place;
-        node = rest.node;
-        is_node = rest.is_node;
-        before = before;
-        bad = let same : n + 1 + rest.place ≡ n + suc rest.place = omega arith in subst (λ m. IsBad job m rest.node reject) same rest.bad;
-      }
+      place = suc rest.place;
+      node = rest.node;
+      is_node = rest.is_node;
+      before = before;
+      bad = let same : n + 1 + rest.place ≡ n + suc rest.place = omega arith in subst (λ m. IsBad job m rest.node reject) same rest.bad;
+    }
       where
         before : (k : ℕ) (other : Node) → k < suc rest.place → slice_get (x ∷ xs) k ≡ Some other → IsGood job other
         before zero other lt is = subst (λ y. IsGood job y) (same_Some x other is) h.0
@@ -86,7 +82,7 @@ told_verdict job cert same (Err reject) h = cause_of job cert reject same (first
 pub walk_verdict : (job : Job) (cert : Cert) → cert.job ≡ job.digest → IsVerdict job cert (verdict_of (walk job cert.root 0 (Some job.range)))
 walk_verdict job cert same =
     told_verdict job cert same (walk job cert.root 0 (Some job.range))
-      (walk_tells job cert.root [] 0 (Some job.range) refl (whole_part job.range (record { widths = job.ok.in_range.widths; sizes = job.ok.in_range.sizes })))
+    (walk_tells job cert.root [] 0 (Some job.range) refl (whole_part job.range (record { widths = job.ok.in_range.widths; sizes = job.ok.in_range.sizes })))
 
 pub accepts : (job : Job) (cert : Cert) (m : ℕ) → cert.job ≡ job.digest → Gives (Ok m) (walk job cert.root 0 (Some job.range)) → Right job cert
 accepts job cert m same given = subst (λ a. IsVerdict job cert (verdict_of a)) given (walk_verdict job cert same)

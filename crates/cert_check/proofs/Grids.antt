@@ -1,5 +1,5 @@
 -- Each world lies on the path of exactly one grid.
-use Rattle.std.proofs.Common.{◌≡◌, ℕ, zero, suc, ◌+◌, ℤ, pos, negsuc, ◌≤ℤ◌, ◌<ℤ◌, Bool, true, false, List, [], ◌∷◌, ◌++◌, Some, refl, sym, ap, subst, ◌∙◌, arith, inl, inr, IsTrue}
+use Rattle.std.proofs.Common.{◌≡◌, ℕ, zero, suc, ℤ, pos, negsuc, true, false, List, [], ◌∷◌, ◌++◌, Some, refl, sym, ap, subst, arith, inl, inr}
 use Rattle.std.specs.Prelude.{◌⊎◌, slice_get}
 use Rattle.std.specs.List.{AllByRecursion}
 use Rattle.std.proofs.lemmas.Int.{ints}
@@ -9,8 +9,8 @@ use Rattle.viz_base.specs.declared.jobs.Job.{Job}
 use Rattle.lin_row.specs.Form.{Form, value}
 use Rattle.cert_text.specs.declared.certificate.Cert.{Cert}
 use Rattle.cert_text.specs.declared.certificate.CertNode.{CertNode}
-use Rattle.cert_check.specs.Paths.{variables, Turn, Path, IsOnSide, Takes, IsOnPath}
-use Rattle.cert_check.specs.Nodes.{Decision, by_row, by_worlds, Node, nodes_from, nodes_of}
+use Rattle.cert_check.specs.Paths.{variables, Path, IsOnSide, IsOnPath}
+use Rattle.cert_check.specs.Nodes.{by_row, by_worlds, Node, nodes_from, nodes_of}
 use Rattle.cert_check.specs.Right.{Holds, DecidesTruly, Right}
 use Rattle.cert_check.specs.Laws.{IsGridOf}
 use Rattle.cert_check.proofs.Trees.{grid_node, split_node, by_nodes, nodes-grid, nodes-split}
@@ -48,20 +48,24 @@ abbrev HasOne : World → CertNode → Type 0
 HasOne world node = (path : Path) → (IsOnPath world path → OneOf world (nodes_from node path)) × ((IsOnPath world path → ⊥) → NoneOf world (nodes_from node path))
 
 grid_one : (world : World) → HasOne world grid_node
-grid_one world path =
-    (λ on. rw nodes-grid (inl (record { grid = refl; on_path = on }, tt)),
-     λ off. rw nodes-grid ((λ h. off h.on_path), tt))
+grid_one world path = (
+  λ on. rw nodes-grid (inl (record { grid = refl; on_path = on }, tt)),
+  λ off. rw nodes-grid ((λ h. off h.on_path), tt),
+)
 
 sides : (v : ℤ) → (IsOnSide true v × (IsOnSide false v → ⊥)) ⊎ (IsOnSide false v × (IsOnSide true v → ⊥))
 sides (pos n) = inl (omega (arith, ints), λ h. absurd (omega (arith, ints)))
 sides (negsuc n) = inr (omega (arith, ints), λ h. absurd (omega (arith, ints)))
 
 split_one : (world : World) (row : Form) (first second : CertNode) → HasOne world first → HasOne world second → HasOne world (split_node row first second)
-split_one world row first second one two path =
-    (λ on. rw nodes-split (inr (no_split world path row, by_side on (sides (value row (variables world))))),
-     λ off. rw nodes-split (no_split world path row,
-       none_append world (nodes_from first (record { row = row; first = true } ∷ path)) (nodes_from second (record { row = row; first = false } ∷ path))
-         ((one (record { row = row; first = true } ∷ path)).1 (λ h. off h.1)) ((two (record { row = row; first = false } ∷ path)).1 (λ h. off h.1))))
+split_one world row first second one two path = (
+  λ on. rw nodes-split (inr (no_split world path row, by_side on (sides (value row (variables world))))),
+  λ off. rw nodes-split (
+    no_split world path row,
+    none_append world (nodes_from first (record { row = row; first = true } ∷ path)) (nodes_from second (record { row = row; first = false } ∷ path))
+        ((one (record { row = row; first = true } ∷ path)).1 (λ h. off h.1)) ((two (record { row = row; first = false } ∷ path)).1 (λ h. off h.1)),
+  ),
+)
   where
     by_side : IsOnPath world path → (IsOnSide true (value row (variables world)) × (IsOnSide false (value row (variables world)) → ⊥)) ⊎ (IsOnSide false (value row (variables world)) × (IsOnSide true (value row (variables world)) → ⊥))
         → OneOf world (nodes_from first (record { row = row; first = true } ∷ path) ++ nodes_from second (record { row = row; first = false } ∷ path))
@@ -104,10 +108,13 @@ one_at world (x ∷ xs) (inr h) = further (one_at world xs h.1)
 pub one_grid : (cert : Cert) (world : World) → (n : ℕ) × (IsGridOf cert world n × ((m : ℕ) → IsGridOf cert world m → m ≡ n))
 one_grid cert world =
     let one = one_at world (nodes_of cert) ((has_one world cert.root []).0 tt) in
-    let at = one.1.0 in
-    (one.0,
-     (record { node = at.node; is_node = at.is_node; grid = at.takes_in.grid; on_path = at.takes_in.on_path },
-      λ m h. one.1.1 m (record { node = h.node; is_node = h.is_node; takes_in = record { grid = h.grid; on_path = h.on_path } })))
+    let at = one.1.0 in (
+      one.0,
+      (
+        record { node = at.node; is_node = at.is_node; grid = at.takes_in.grid; on_path = at.takes_in.on_path },
+        λ m h. one.1.1 m (record { node = h.node; is_node = h.is_node; takes_in = record { grid = h.grid; on_path = h.on_path } }),
+      ),
+    )
 
 pub right_holds : (job : Job) (cert : Cert) → Right job cert → Holds job
 right_holds job cert right world in_range =

@@ -1,5 +1,5 @@
 -- What cutting leaves of a side, of a rectangle and of a range.
-use Rattle.std.proofs.Common.{◌≡◌, ℕ, zero, suc, ◌+◌, ◌*◌, ◌<◌, ◌≤◌, ◌==◌, ℤ, pos, negsuc, neg_ℤ, ◌+ℤ◌, ◌-ℤ◌, ◌*ℤ◌, ◌≤ℤ◌, ◌<ℤ◌, Bool, true, false, cond, nat_lt, nat_le, List, [], ◌∷◌, min, max, Option, Some, None, refl, sym, ap, subst, ◌∙◌, arith, inl, inr, IsTrue}
+use Rattle.std.proofs.Common.{◌≡◌, ℕ, zero, suc, ◌+◌, ◌<◌, ◌≤◌, ◌==◌, ℤ, pos, negsuc, neg_ℤ, ◌+ℤ◌, ◌-ℤ◌, ◌*ℤ◌, ◌≤ℤ◌, ◌<ℤ◌, Bool, true, false, cond, nat_lt, nat_le, [], ◌∷◌, min, max, Option, Some, None, refl, sym, subst, arith, inl, inr, IsTrue}
 use Rattle.std.specs.Prelude.{◌⊎◌, ◌↔◌, IfSome}
 use Rattle.std.specs.Ordering.{int_eq}
 use Rattle.std.specs.Option.{option_map, option_and_then}
@@ -10,13 +10,13 @@ use Rattle.std.specs.Option.{is_some}
 use Rattle.viz_base.specs.declared.worlds.World.{World}
 use Rattle.viz_base.specs.declared.worlds.Rect.{Rect}
 use Rattle.logic_semantics.specs.Ranges.{IsInRange}
-use Rattle.lin_row.specs.Form.{Form, Terms, terms_value, value}
+use Rattle.lin_row.specs.Form.{Form, Terms, value}
 use Rattle.cert_check.specs.declared.cuts.Cut.{Cut}
 use Rattle.cert_check.specs.declared.cuts.Side.{Side}
-use Rattle.cert_check.specs.Paths.{variables, Turn, Path, IsOnSide, Takes, IsOnPath}
+use Rattle.cert_check.specs.Paths.{variables, Path, IsOnSide, Takes}
 use Rattle.cert_check.specs.Rectangles.{coefficient_cut, terms_cut, cut_of, at_most, above, cut_side, side_of, with_side, same, part_of, turned, rectangle, is_unit}
 use Rattle.cert_check.specs.Laws.{IsProper, HasUnits, IsPartOn, IsUnitRow}
-use Rattle.cert_check.specs.Walk.{IsWithin}
+use Rattle.cert_check.specs.Rectangles.{IsWithin}
 
 -- ---- sides
 
@@ -117,17 +117,19 @@ PartIs r P (Some part) = IsProper part × ((world : World) → IsInRange part wo
 
 widths_part : (r : Rect) (Q : ℕ → Type 0) → IsProper r → (side : Option Side) → SideIs (side_of 0 r) Q side → PartIs r (λ world. Q world.w) (option_map (with_side 0 r) side)
 widths_part r Q proper None h = λ world i q. h world.w (i.width_least, i.width_most) q
-widths_part r Q proper (Some side) h =
-    (record { widths = h.0; sizes = proper.sizes },
-     λ world i. let at = h.1 world.w (i.width_least, i.width_most) in (record { width_least = at.0.0; width_most = at.0.1; size_least = i.size_least; size_most = i.size_most }, at.1),
-     λ world i q. let at = h.2 world.w (i.width_least, i.width_most) q in record { width_least = at.0; width_most = at.1; size_least = i.size_least; size_most = i.size_most })
+widths_part r Q proper (Some side) h = (
+  record { widths = h.0; sizes = proper.sizes },
+  λ world i. let at = h.1 world.w (i.width_least, i.width_most) in (record { width_least = at.0.0; width_most = at.0.1; size_least = i.size_least; size_most = i.size_most }, at.1),
+  λ world i q. let at = h.2 world.w (i.width_least, i.width_most) q in record { width_least = at.0; width_most = at.1; size_least = i.size_least; size_most = i.size_most },
+)
 
 sizes_part : (r : Rect) (Q : ℕ → Type 0) → IsProper r → (side : Option Side) → SideIs (side_of 1 r) Q side → PartIs r (λ world. Q world.s) (option_map (with_side 1 r) side)
 sizes_part r Q proper None h = λ world i q. h world.s (i.size_least, i.size_most) q
-sizes_part r Q proper (Some side) h =
-    (record { widths = proper.widths; sizes = h.0 },
-     λ world i. let at = h.1 world.s (i.size_least, i.size_most) in (record { width_least = i.width_least; width_most = i.width_most; size_least = at.0.0; size_most = at.0.1 }, at.1),
-     λ world i q. let at = h.2 world.s (i.size_least, i.size_most) q in record { width_least = i.width_least; width_most = i.width_most; size_least = at.0; size_most = at.1 })
+sizes_part r Q proper (Some side) h = (
+  record { widths = proper.widths; sizes = h.0 },
+  λ world i. let at = h.1 world.s (i.size_least, i.size_most) in (record { width_least = i.width_least; width_most = i.width_most; size_least = at.0.0; size_most = at.0.1 }, at.1),
+  λ world i q. let at = h.2 world.s (i.size_least, i.size_most) q in record { width_least = i.width_least; width_most = i.width_most; size_least = at.0; size_most = at.1 },
+)
 
 variable_part : (x : ℕ) (rising first : Bool) (b : ℤ) (r : Rect) → IsProper r → x < 2
     → PartIs r (λ world. IsOnSide first (past rising b (variables world x))) (part_of (record { variable = x; rising = rising; bound = b }) first r)
@@ -145,9 +147,9 @@ pub part_of-is : (row : Form) (cut : Cut) (first : Bool) (r : Rect) → IsProper
 part_of-is row cut first r proper is =
     let known = cut_of-is row cut is in
     alike r (λ world. IsOnSide first (past cut.rising cut.bound (variables world cut.variable))) (λ world. Takes world (record { row = row; first = first }))
-      (λ world h. subst (λ v. IsOnSide first v) (sym (known.past_bound (variables world))) h)
-      (λ world h. subst (λ v. IsOnSide first v) (known.past_bound (variables world)) h)
-      (part_of cut first r) (variable_part cut.variable cut.rising first cut.bound r proper known.declared)
+    (λ world h. subst (λ v. IsOnSide first v) (sym (known.past_bound (variables world))) h)
+    (λ world h. subst (λ v. IsOnSide first v) (known.past_bound (variables world)) h)
+    (part_of cut first r) (variable_part cut.variable cut.rising first cut.bound r proper known.declared)
 
 -- ---- parts of a range
 

@@ -1,6 +1,5 @@
 -- Induction over the nodes of a certificate, and its folds at each form of node.
-use Rattle.std.proofs.Common.{◌≡◌, ℕ, ◌+◌, true, false, List, [], ◌∷◌, ◌++◌, Option, subst, refl, rules}
-use Rattle.viz_base.specs.declared.worlds.Rect.{Rect}
+use Rattle.std.proofs.Common.{◌≡◌, ℕ, ◌+◌, List, subst, rules}
 use Rattle.viz_base.specs.declared.jobs.Job.{Job}
 use Rattle.lin_row.specs.Form.{Form}
 use Rattle.cert_text.specs.declared.certificate.CertNode.{CertNode}
@@ -9,9 +8,9 @@ use Rattle.cert_text.specs.declared.certificate.CertNode.TheViews.{the_lemmas, r
 use Rattle.cert_text.specs.declared.certificate.CertNode.TheVariants.{Split}
 use Rattle.cert_text.specs.declared.certificate.CertNode.TheFolds.{ind-CertNode, map-CertNode, fold-roll-CertNode, fold_out-CertNode}
 use Rattle.cert_check.specs.Paths.{Path}
-use Rattle.cert_check.specs.Nodes.{by_row, by_worlds, Node, nodes_step, nodes_from}
+use Rattle.cert_check.specs.Nodes.{Node, nodes_step, nodes_from}
 use Rattle.cert_check.specs.Rectangles.{cut_of}
-use Rattle.cert_check.specs.Walk.{Answer, Walk, grid_walk, split_walk, walk_step, walk, count_step, node_count}
+use Rattle.cert_check.specs.Walk.{Walk, grid_walk, split_walk, walk_step, walk, count_step, node_count}
 
 abbrev pub grid_node : CertNode
 grid_node = roll-CertNode CertNode-F.Grid

@@ -1,9 +1,9 @@
 -- What the walk over a certificate finds.
-use Rattle.std.proofs.Common.{◌≡◌, ℕ, zero, suc, ◌+◌, ◌-◌, ◌<◌, ◌≤◌, Bool, true, false, nat_le, cond, List, [], ◌∷◌, ◌++◌, length, Option, Some, None, Ok, Err, refl, sym, ap, subst, ◌∙◌, arith, inl, inr, IsTrue}
-use Rattle.std.specs.Prelude.{◌⊎◌, slice_get, Result}
+use Rattle.std.proofs.Common.{◌≡◌, ℕ, ◌+◌, ◌-◌, Bool, true, false, nat_le, List, [], ◌∷◌, ◌++◌, length, Option, Some, None, Ok, Err, refl, sym, ap, subst, arith, inl, inr, IsTrue}
+use Rattle.viz_base.specs.declared.memory.Mem.{Mem}
+use Rattle.std.specs.Prelude.{IfOk, Result, ◌⊎◌}
 use Rattle.std.specs.List.{AllByRecursion}
-use Rattle.std.specs.Option.{option_and_then, is_some}
-use Rattle.std.proofs.lemmas.Bool.Decides.{nat_tests}
+use Rattle.std.specs.Option.{option_and_then, is_some, MatchOption}
 use Rattle.std.proofs.lemmas.Option.{same_Some}
 use Rattle.viz_base.specs.declared.worlds.World.{World}
 use Rattle.viz_base.specs.declared.worlds.Rect.{Rect}
@@ -14,13 +14,13 @@ use Rattle.cert_text.specs.declared.certificate.CertNode.{CertNode}
 use Rattle.cert_check.specs.declared.cuts.Cut.{Cut}
 use Rattle.cert_check.specs.declared.verdicts.Reject.{Reject}
 use Rattle.cert_check.specs.declared.verdicts.Reject.TheVariants.{OtherJob, Shape, Untrue}
-use Rattle.cert_check.specs.Paths.{Turn, Path, IsOnPath}
-use Rattle.cert_check.specs.Rectangles.{world_count, cut_of, part_of, turned, rectangle, is_unit}
-use Rattle.cert_check.specs.Nodes.{Decision, by_row, by_worlds, Node, nodes_from}
-use Rattle.cert_check.specs.Right.{is_true_at, is_small, has_shape, IsTrueOn, DecidesTruly, IsGood}
-use Rattle.cert_check.specs.Verdicts.{IsBefore, IsFirstUntrue}
+use Rattle.cert_check.specs.Paths.{Path}
+use Rattle.cert_check.specs.Rectangles.{world_count, cut_of, part_of, rectangle}
+use Rattle.cert_check.specs.Nodes.{by_row, by_worlds, Node, nodes_from}
+use Rattle.cert_check.specs.Right.{is_true_at, is_small, has_shape, IsGood}
+use Rattle.cert_check.specs.Verdicts.{IsBefore, IsFirstUntrue, IsTrueIn, IsFirstUntrueIn}
 use Rattle.cert_check.specs.Laws.{IsPartOn}
-use Rattle.cert_check.specs.Walk.{Answer, ◌>>=◌, seek, unless_true, untrue_at, untrue_of_width, first_untrue, rejects_world, small_walk, grid_walk, split_walk, walk, node_count}
+use Rattle.cert_check.specs.Walk.{Answer, ◌>>=◌, unless_true, untrue_at, untrue_of_width, first_untrue, rejects_world, small_walk, grid_walk, split_walk, walk, node_count}
 use Rattle.cert_check.proofs.Trees.{grid_node, split_node, by_nodes, nodes-grid, nodes-split, walk-grid, walk-split, count-grid, count-split}
 use Rattle.cert_check.proofs.Parts.{child_part}
 use Rattle.cert_check.proofs.Seeks.{IsFound, seek-none, seek-found}
@@ -47,12 +47,7 @@ all_true job r none world i =
     let size : untrue_at job world.w world.s ≡ None = seek-none (untrue_at job world.w) r.sl (r.sh + 1 - r.sl) width world.s i.size_least (omega arith) in
     true_there job world.w world.s size
 
-pub record IsFirstIn (job : Job) (r : Rect) (world : World) : Type 0 where
-  pub in_rect : IsInRange r world
-  pub untrue : is_true_at job world ≡ false
-  pub first : (other : World) → IsBefore other world → IsInRange r other → IsTrue (is_true_at job other)
-
-pub first_false : (job : Job) (r : Rect) (world : World) → first_untrue job r ≡ Some world → IsFirstIn job r world
+pub first_false : (job : Job) (r : Rect) (world : World) → first_untrue job r ≡ Some world → IsFirstUntrueIn job r world
 first_false job r world some =
     let width = seek-found (untrue_of_width job r) r.wl (r.wh + 1 - r.wl) world some in
     let size = seek-found (untrue_at job width.place) r.sl (r.sh + 1 - r.sl) world width.is in
@@ -60,7 +55,7 @@ first_false job r world some =
     let same_w : world.w ≡ width.place = ap (λ (x : World). x.w) at.0 in
     let same_s : world.s ≡ size.place = ap (λ (x : World). x.s) at.0 in
     record {
-      in_rect = record { width_least = omega arith; width_most = omega arith; size_least = omega arith; size_most = omega arith };
+      in_rectangle = record { width_least = omega arith; width_most = omega arith; size_least = omega arith; size_most = omega arith };
       untrue = at.1;
       first = λ other before i. by_order other i before;
     }
@@ -86,6 +81,15 @@ first_false job r world some =
         let none : untrue_at job width.place other.s ≡ None = size.none_before other.s i.size_least (omega arith) in
         true_there job other.w other.s (subst (λ w. untrue_at job w other.s ≡ None) as_wide none)
 
+found_means : (job : Job) (r : Rect) (found : Option World) → found ≡ first_untrue job r → MatchOption found (IsTrueIn job r) (IsFirstUntrueIn job r)
+found_means job r None is = all_true job r (sym is)
+found_means job r (Some world) is = first_false job r world (sym is)
+
+pub answer_means : (job : Job) (r : Rect) (answer : Result (Option World) Mem) → IfOk answer (λ found. found ≡ first_untrue job r)
+    → IfOk answer (λ found. MatchOption found (IsTrueIn job r) (IsFirstUntrueIn job r))
+answer_means job r (Ok found) is = found_means job r found is
+answer_means job r (Err fault) is = tt
+
 -- ---- the nodes of a list, numbered from n on
 
 abbrev pub AllGood : Job → List Node → Type 0
@@ -102,7 +106,7 @@ abbrev pub Rejects : Job → List Node → ℕ → Reject → Type 0
 Rejects job [] n reject = ⊥
 Rejects job (x ∷ xs) n reject = IsBad job n x reject ⊎ (IsGood job x × Rejects job xs (n + 1) reject)
 
-good_append : (job : Job) (xs ys : List Node) → AllGood job xs → AllGood job ys → AllGood job (xs ++ ys)
+pub good_append : (job : Job) (xs ys : List Node) → AllGood job xs → AllGood job ys → AllGood job (xs ++ ys)
 good_append job [] ys h k = k
 good_append job (x ∷ xs) ys h k = (h.0, good_append job xs ys h.1 k)
 
@@ -132,12 +136,17 @@ small_grid job n path r is part small None none =
     ((record { shaped = subst (λ o. is_small o ≡ true) is small; decides = λ world i on. all_true job r none world ((part.1 world).1 (i, on)) }, tt), omega arith)
 small_grid job n path r is part small (Some world) some =
     let first = first_false job r world some in
-    inl (refl, subst (λ o. is_small o ≡ true) is small, refl, record {
-      in_range = ((part.1 world).0 first.in_rect).0;
-      on_path = ((part.1 world).0 first.in_rect).1;
-      untrue = first.untrue;
-      first = λ other before i on. first.first other before ((part.1 other).1 (i, on));
-    })
+    inl (
+      refl,
+      subst (λ o. is_small o ≡ true) is small,
+      refl,
+      record {
+        in_range = ((part.1 world).0 first.in_rectangle).0;
+        on_path = ((part.1 world).0 first.in_rectangle).1;
+        untrue = first.untrue;
+        first = λ other before i on. first.first other before ((part.1 other).1 (i, on));
+      },
+    )
 
 some_grid : (job : Job) (n : ℕ) (path : Path) (r : Rect) → Some r ≡ rectangle job.range path → IsPartOn job.range path (Some r)
     → (b : Bool) → nat_le (world_count r) 64 ≡ b → Tells job (record { path = path; decision = by_worlds } ∷ []) n (small_walk b job n r)
@@ -176,16 +185,16 @@ split_walk_tells job row first second one two path n part is of_path = rw (nodes
   where
     by_cut : (o : Option Cut) → cut_of row ≡ o
         → Tells job (record { path = path; decision = by_row row } ∷ (nodes_from first (record { row = row; first = true } ∷ path) ++ nodes_from second (record { row = row; first = false } ∷ path))) n
-            (split_walk o (walk job first) (walk job second) n part)
+        (split_walk o (walk job first) (walk job second) n part)
     by_cut None e = inl (refl, ap is_some e)
     by_cut (Some cut) e =
         then_second job (record { path = path; decision = by_row row })
-          (nodes_from first (record { row = row; first = true } ∷ path)) (nodes_from second (record { row = row; first = false } ∷ path)) n
-          (record { shaped = ap is_some e; decides = tt })
-          (walk job first (n + 1) (option_and_then (part_of cut true) part))
-          (one (record { row = row; first = true } ∷ path) (n + 1) (option_and_then (part_of cut true) part) (below job.range path row cut true part e is) (child_part job.range path row cut true part e of_path))
-          (λ m. walk job second m (option_and_then (part_of cut false) part))
-          (λ m. two (record { row = row; first = false } ∷ path) m (option_and_then (part_of cut false) part) (below job.range path row cut false part e is) (child_part job.range path row cut false part e of_path))
+        (nodes_from first (record { row = row; first = true } ∷ path)) (nodes_from second (record { row = row; first = false } ∷ path)) n
+        (record { shaped = ap is_some e; decides = tt })
+        (walk job first (n + 1) (option_and_then (part_of cut true) part))
+        (one (record { row = row; first = true } ∷ path) (n + 1) (option_and_then (part_of cut true) part) (below job.range path row cut true part e is) (child_part job.range path row cut true part e of_path))
+        (λ m. walk job second m (option_and_then (part_of cut false) part))
+        (λ m. two (record { row = row; first = false } ∷ path) m (option_and_then (part_of cut false) part) (below job.range path row cut false part e is) (child_part job.range path row cut false part e of_path))
 
 pub walk_tells : (job : Job) (node : CertNode) → WalkTells job node
 walk_tells job = by_nodes (WalkTells job) (grid_walk_tells job) (split_walk_tells job)
@@ -202,8 +211,12 @@ count_is = by_nodes (λ node. (path : Path) → length (nodes_from node path) �
         → (path : Path) → length (nodes_from (split_node row first second) path) ≡ node_count (split_node row first second)
     split row first second one two path =
         rw (nodes-split, count-split)
-          (omega (arith, length_append (nodes_from first (record { row = row; first = true } ∷ path)) (nodes_from second (record { row = row; first = false } ∷ path)),
-            one (record { row = row; first = true } ∷ path), two (record { row = row; first = false } ∷ path)))
+        (omega (
+          arith,
+          length_append (nodes_from first (record { row = row; first = true } ∷ path)) (nodes_from second (record { row = row; first = false } ∷ path)),
+          one (record { row = row; first = true } ∷ path),
+          two (record { row = row; first = false } ∷ path),
+        ))
 
 -- ---- steps of the loops
 

@@ -5,7 +5,7 @@ use Rattle.cert_text.specs.declared.certificate.Cert.{Cert}
 use Rattle.cert_text.specs.declared.certificate.CertNode.{CertNode}
 use Rattle.cert_text.specs.declared.certificate.CertNode.TheOpen.{CertNode-F}
 use Rattle.cert_text.specs.declared.certificate.CertNode.TheFolds.{fold-CertNode}
-use Rattle.cert_check.specs.Paths.{Turn, Path}
+use Rattle.cert_check.specs.Paths.{Path}
 
 -- how a node decides its part of the range: by a split's row, or world by world
 pub data Decision : Type 0 where

@@ -1,16 +1,23 @@
 -- The rectangle that unit splits leave of a range.
-use Rattle.std.specs.Prelude.{ℕ, ◌+◌, ◌-◌, ◌*◌, ◌==◌, ℤ, pos, negsuc, neg_ℤ, ◌-ℤ◌, Bool, true, false, nat_lt, nat_le, List, [], ◌∷◌, min, max, Option, Some, None, is_some, if◌then◌else◌}
+use Rattle.std.specs.Prelude.{ℕ, ◌+◌, ◌-◌, ◌*◌, ◌≤◌, ◌==◌, ℤ, pos, negsuc, neg_ℤ, ◌-ℤ◌, Bool, true, false, nat_lt, nat_le, [], ◌∷◌, min, max, Option, Some, None, is_some, if◌then◌else◌}
 use Rattle.std.specs.Ordering.{int_eq}
 use Rattle.std.specs.Option.{option_map, option_and_then}
 use Rattle.viz_base.specs.declared.worlds.Rect.{Rect}
 use Rattle.lin_row.specs.Form.{Form, Terms}
 use Rattle.cert_check.specs.declared.cuts.Cut.{Cut}
 use Rattle.cert_check.specs.declared.cuts.Side.{Side}
-use Rattle.cert_check.specs.Paths.{Turn, Path}
+use Rattle.cert_check.specs.Paths.{Path}
 
 -- how many worlds a rectangle has that has one
 abbrev pub world_count : Rect → ℕ
 world_count r = (r.wh + 1 - r.wl) * (r.sh + 1 - r.sl)
+
+-- each world of the inner rectangle is one of the outer
+pub record IsWithin (outer inner : Rect) : Type 0 where
+  pub width_least : outer.wl ≤ inner.wl
+  pub width_most : inner.wh ≤ outer.wh
+  pub size_least : outer.sl ≤ inner.sl
+  pub size_most : inner.sh ≤ outer.sh
 
 -- ---- unit rows: those with one variable, 0 or 1, and the coefficient 1 or -1
 

@@ -1,5 +1,5 @@
 -- What a certificate has to be.
-use Rattle.std.specs.Prelude.{◌≡◌, ℕ, ◌≤◌, Bool, ℤ, nat_le, Option, Some, None, true, IsTrue, slice_get}
+use Rattle.std.specs.Prelude.{◌≡◌, ℕ, Bool, ℤ, nat_le, Option, Some, None, true, IsTrue, slice_get}
 use Rattle.viz_base.specs.declared.worlds.World.{World}
 use Rattle.viz_base.specs.declared.worlds.Rect.{Rect}
 use Rattle.viz_base.specs.declared.jobs.Job.{Job}

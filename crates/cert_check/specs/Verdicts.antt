@@ -1,6 +1,7 @@
 -- The causes of verdicts.
 use Rattle.std.specs.Prelude.{◌≡◌, ◌≢◌, ◌⊎◌, ℕ, ◌<◌, false, true, IsTrue, Some, slice_get}
 use Rattle.viz_base.specs.declared.worlds.World.{World}
+use Rattle.viz_base.specs.declared.worlds.Rect.{Rect}
 use Rattle.viz_base.specs.declared.jobs.Job.{Job}
 use Rattle.logic_semantics.specs.Ranges.{IsInRange}
 use Rattle.cert_text.specs.declared.certificate.Cert.{Cert}
@@ -22,6 +23,16 @@ pub record IsFirstUntrue (job : Job) (path : Path) (world : World) : Type 0 wher
   pub on_path : IsOnPath world path
   pub untrue : is_true_at job world ≡ false
   pub first : (other : World) → IsBefore other world → IsInRange job.range other → IsOnPath other path → IsTrue (is_true_at job other)
+
+-- the formula is true at each world of a rectangle
+abbrev pub IsTrueIn : Job → Rect → Type 0
+IsTrueIn job r = (world : World) → IsInRange r world → IsTrue (is_true_at job world)
+
+-- the first world of a rectangle at which it is false
+pub record IsFirstUntrueIn (job : Job) (r : Rect) (world : World) : Type 0 where
+  pub in_rectangle : IsInRange r world
+  pub untrue : is_true_at job world ≡ false
+  pub first : (other : World) → IsBefore other world → IsInRange r other → IsTrue (is_true_at job other)
 
 -- the certificate names the job's digest, this is its node of this number, and each node before it is good
 pub record IsReached (job : Job) (cert : Cert) (n : ℕ) (node : Node) : Type 0 where

@@ -1,28 +1,19 @@
 -- The walk over a certificate, one function for each part of it.
-use Rattle.std.specs.Prelude.{◌≡◌, ℕ, zero, suc, ◌+◌, ◌-◌, ◌≤◌, Bool, true, false, nat_le, Option, Some, None, Result, Ok, Err}
+use Rattle.std.specs.Prelude.{◌≡◌, ℕ, zero, suc, ◌+◌, ◌-◌, Bool, true, false, nat_le, Option, Some, None, Result, Ok, Err}
 use Rattle.std.specs.Option.{option_and_then}
 use Rattle.viz_base.specs.declared.worlds.World.{World}
 use Rattle.viz_base.specs.declared.worlds.Rect.{Rect}
 use Rattle.viz_base.specs.declared.jobs.Job.{Job}
-use Rattle.lin_row.specs.Form.{Form}
-use Rattle.cert_text.specs.declared.certificate.Cert.{Cert}
 use Rattle.cert_text.specs.declared.certificate.CertNode.{CertNode}
 use Rattle.cert_text.specs.declared.certificate.CertNode.TheOpen.{CertNode-F}
 use Rattle.cert_text.specs.declared.certificate.CertNode.TheFolds.{fold-CertNode}
 use Rattle.cert_check.specs.declared.cuts.Cut.{Cut}
 use Rattle.cert_check.specs.declared.verdicts.Reject.{Reject}
-use Rattle.cert_check.specs.declared.verdicts.Reject.TheVariants.{OtherJob, Shape, Untrue}
+use Rattle.cert_check.specs.declared.verdicts.Reject.TheVariants.{Shape, Untrue}
 use Rattle.cert_check.specs.declared.walk.Stop.{Stop}
 use Rattle.cert_check.specs.declared.walk.Stop.TheVariants.{Mem, Rejected}
 use Rattle.cert_check.specs.Rectangles.{world_count, cut_of, part_of}
 use Rattle.cert_check.specs.Right.{is_true_at}
-
--- each world of the inner rectangle is one of the outer
-pub record IsWithin (outer inner : Rect) : Type 0 where
-  pub width_least : outer.wl ≤ inner.wl
-  pub width_most : inner.wh ≤ outer.wh
-  pub size_least : outer.sl ≤ inner.sl
-  pub size_most : inner.sh ≤ outer.sh
 
 -- ---- the first world of a rectangle at which the formula is false
 

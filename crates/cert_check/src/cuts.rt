@@ -1,9 +1,20 @@
-ghost use Rattle.std.specs.Prelude.{◌≡◌, ◌<◌, ◌≤◌, Some, None, IfSome, OnSome};
+ghost use Rattle.std.specs.Prelude.{◌≡◌, ◌^◌, ◌<◌, ◌≤◌, Some, None, IfSome, OnSome};
 ghost use Rattle.std.specs.Option.{option_map};
-ghost use Rattle.cert_check.specs.Rectangles.{coefficient_cut, cut_of, at_most, above, cut_side, side_of, with_side, part_of, same};
+ghost use Rattle.cert_check.specs.Rectangles.{world_count, coefficient_cut, cut_of, at_most, above, cut_side, side_of, with_side, part_of, same};
 
 use lin_row::Row;
 use viz_base::Rect;
+
+/// How many worlds a rectangle has whose least width and size are not above the greatest.
+pub fn world_count(rect: Rect) -> u64
+    requires widths { rect.wh < 2 ^ 31 }
+    requires sizes { rect.sh < 2 ^ 31 }
+    ensures { result ≡ world_count rect }
+{
+    let widths = (u64::from(rect.wh) + 1).saturating_sub(u64::from(rect.wl));
+    let sizes = (u64::from(rect.sh) + 1).saturating_sub(u64::from(rect.sl));
+    widths * sizes
+}
 
 /// Where a unit row is at least 0: where its variable is above a bound, or at most that.
 #[derive(Clone, Copy, Debug)]

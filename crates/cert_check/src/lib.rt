@@ -7,7 +7,11 @@ mod verdicts;
 mod walk;
 mod worlds;
 
+pub use cuts::{Cut, cut_of, part_of, world_count};
 pub use laws::{one_grid_each, one_verdict_each, rectangles_are_paths, right_holds};
 pub use verdicts::{Reject, Verdict};
 pub use walk::check;
 pub use worlds::{first_untrue, holds_at};
+
+#[cfg(test)]
+mod tests;

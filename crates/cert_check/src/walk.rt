@@ -6,11 +6,12 @@ ghost use Rattle.cert_check.specs.Rectangles.{world_count, part_of};
 ghost use Rattle.cert_check.specs.Right.{Holds, Right};
 ghost use Rattle.cert_check.specs.Verdicts.{IsVerdict};
 ghost use Rattle.cert_check.specs.declared.verdicts.Verdict.TheVariants.{Accepted};
-ghost use Rattle.cert_check.specs.Walk.{IsWithin, Gives, grid_walk, walk, node_count};
+ghost use Rattle.cert_check.specs.Rectangles.{IsWithin};
+ghost use Rattle.cert_check.specs.Walk.{Gives, grid_walk, walk, node_count};
 
-use crate::cuts::{Cut, cut_of, part_of};
+use crate::cuts::{Cut, cut_of, part_of, world_count};
 use crate::verdicts::{Reject, Verdict};
-use crate::worlds::first_untrue;
+use crate::worlds::find_untrue;
 use cert_text::{Cert, CertNode};
 use std::alloc::Global;
 use viz_base::{Job, Mem, Rect};
@@ -31,17 +32,6 @@ impl From<Mem> for Stop {
     fn from(_: Mem) -> Self {
         Stop::Mem
     }
-}
-
-/// How many worlds a rectangle has.
-fn world_count(rect: Rect) -> u64
-    requires widths { rect.wh < 2 ^ 31 }
-    requires sizes { rect.sh < 2 ^ 31 }
-    ensures { result ≡ world_count rect }
-{
-    let widths = (u64::from(rect.wh) + 1).saturating_sub(u64::from(rect.wl));
-    let sizes = (u64::from(rect.sh) + 1).saturating_sub(u64::from(rect.sl));
-    widths * sizes
 }
 
 /// The part of a part at which a split's row is at least 0, or below it.
@@ -65,7 +55,7 @@ fn check_grid(alloc: Global, job: &Job, number: u32, part: Option<Rect>) -> Resu
     if world_count(rect) > 64 {
         return Err(Stop::Rejected(Reject::Shape(number)));
     }
-    match first_untrue(alloc, job, rect)? {
+    match find_untrue(alloc, job, rect)? {
         Some(world) => Err(Stop::Rejected(Reject::Untrue(number, world))),
         None => Ok(number + 1),
     }
@@ -98,13 +88,7 @@ fn check_node(
                 number + 1,
                 child_part(cut, true, part),
             )?;
-            check_node(
-                alloc,
-                job,
-                second.get(),
-                next,
-                child_part(cut, false, part),
-            )
+            check_node(alloc, job, second.get(), next, child_part(cut, false, part))
         }
     }
 }

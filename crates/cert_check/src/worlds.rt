@@ -1,8 +1,10 @@
-ghost use Rattle.std.specs.Prelude.{◌≡◌, ◌+◌, ◌-◌, ◌≤◌, IsTrue, IfOk};
+ghost use Rattle.std.specs.Prelude.{◌≡◌, ◌+◌, ◌-◌, ◌≤◌, IsTrue, IfOk, MatchOption};
 ghost use Rattle.layout_semantics.specs.Ready.{ready};
 ghost use Rattle.logic_semantics.specs.Ranges.{IsInRange};
 ghost use Rattle.cert_check.specs.Right.{is_true_at};
-ghost use Rattle.cert_check.specs.Walk.{IsWithin, seek, untrue_at, untrue_of_width, first_untrue};
+ghost use Rattle.cert_check.specs.Verdicts.{IsTrueIn, IsFirstUntrueIn};
+ghost use Rattle.cert_check.specs.Rectangles.{IsWithin};
+ghost use Rattle.cert_check.specs.Walk.{seek, untrue_at, untrue_of_width, first_untrue};
 
 use lay_flow::render_at;
 use std::alloc::Global;
@@ -27,12 +29,7 @@ pub fn holds_at(alloc: Global, job: &Job, world: World) -> Result<bool, Mem>
 }
 
 /// The first world of a width at which the formula is false.
-fn first_untrue_of_width(
-    alloc: Global,
-    job: &Job,
-    rect: Rect,
-    w: u32,
-) -> Result<Option<World>, Mem>
+fn first_untrue_of_width(alloc: Global, job: &Job, rect: Rect, w: u32) -> Result<Option<World>, Mem>
     requires ready { IsTrue (ready job.now.tree) }
     requires within { IsWithin job.now.range rect }
     requires width_least { job.now.range.wl ≤ w }
@@ -48,8 +45,8 @@ fn first_untrue_of_width(
     Ok(None)
 }
 
-/// The first world of a rectangle, by width and then by size, at which the formula is false.
-pub fn first_untrue(alloc: Global, job: &Job, rect: Rect) -> Result<Option<World>, Mem>
+/// The first world of a rectangle, as the walk over its worlds finds it.
+pub(crate) fn find_untrue(alloc: Global, job: &Job, rect: Rect) -> Result<Option<World>, Mem>
     requires ready { IsTrue (ready job.now.tree) }
     requires within { IsWithin job.now.range rect }
     ensures { IfOk result (λ found. found ≡ first_untrue job.now rect) }
@@ -60,4 +57,14 @@ pub fn first_untrue(alloc: Global, job: &Job, rect: Rect) -> Result<Option<World
         }
     }
     Ok(None)
+}
+
+/// The first world of a rectangle in a job's range, by width and then by size, at which the formula is
+/// false; None where it is true at each. The only fault is want of memory.
+pub fn first_untrue(alloc: Global, job: &Job, rect: Rect) -> Result<Option<World>, Mem>
+    requires ready { IsTrue (ready job.now.tree) }
+    requires within { IsWithin job.now.range rect }
+    ensures { IfOk result (λ found. MatchOption found (IsTrueIn job.now rect) (IsFirstUntrueIn job.now rect)) }
+{
+    find_untrue(alloc, job, rect)
 }

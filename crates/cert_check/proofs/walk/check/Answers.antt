@@ -1,5 +1,4 @@
-use Rattle.std.proofs.Common.{◌≡◌, ◌<◌, ◌+◌, [], refl, sym, ap, arith, subst, Err, Some}
-use Rattle.cert_check.specs.Right.{Right}
+use Rattle.std.proofs.Common.{[], refl, arith, subst, Err, Some}
 use Rattle.cert_check.specs.Walk.{Gives, walk}
 use Rattle.cert_check.proofs.Walks.{count_is}
 use Rattle.cert_check.proofs.Causes.{accepts, rejects, cause_not_right, same_digest}

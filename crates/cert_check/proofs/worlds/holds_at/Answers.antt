@@ -5,7 +5,6 @@ use Rattle.logic_semantics.specs.Scenes.{scene_of}
 use Rattle.logic_semantics.specs.Truth.{truth}
 use Rattle.vis_truth.specs.Scenes.{IsBoundedRendering, IsTame, scene_at}
 use Rattle.vis_truth.proofs.PlainScenes.{never-halts, plain-tame, rendering-same, reading-open, world-stays}
-use Rattle.cert_check.specs.Right.{is_true_at}
 use Rattle.cert_check.proofs.Bounded.{bounded_rendering, narrow_world}
 use Rattle.cert_check.proofs.worlds.holds_at.Goals as goal
 
@@ -17,7 +16,7 @@ unreachable-requires c =
     let same = c.new-calc.ensures in
     let wide : c.new-calc.result.world.w < 2 ^ 32 = rw same (omega arith) in
     never-halts c.new-calc.result.world c.truth.new.calc.world (IsTame (plain_state c.new-calc.result.world).is_open (λ n e. n) c.in_ok-rendering.rendering job.formula)
-      c.in-Err.field-0 (plain-tame c.new-calc.result.world c.in_ok-rendering.rendering job.formula wide bounded job.ok.small_terms) (c.in-Err.ensures).cause
+    c.in-Err.field-0 (plain-tame c.new-calc.result.world c.in_ok-rendering.rendering job.formula wide bounded job.ok.small_terms) (c.in-Err.ensures).cause
 
 pub returns : goal.returns
 returns c =
@@ -27,7 +26,7 @@ returns c =
     let open_reading : IsTrue ((plain_state c.truth.new.calc.world).is_open e) = rw stays (reading-open c.new-calc.result.world) in
     let value : c.in-Ok.yes ≡ truth (scene_at (λ n e. n) c.in_ok-rendering.rendering job.height e) job.formula = (c.in-Ok.ensures).value e open_reading in
     let as_is : scene_at (λ n e. n) c.in_ok-rendering.rendering job.height e ≡ scene_of c.in_ok-rendering.rendering c.new-calc.result.world job.height
-      = ap (λ (r : Rendering ℤ). scene_of r c.new-calc.result.world job.height) (rendering-same e c.in_ok-rendering.rendering) in
+    = ap (λ (r : Rendering ℤ). scene_of r c.new-calc.result.world job.height) (rendering-same e c.in_ok-rendering.rendering) in
     value ∙ ap (λ s. truth s job.formula) as_is
-      ∙ ap (λ w. truth (scene_of c.in_ok-rendering.rendering w job.height) job.formula) c.new-calc.ensures
-      ∙ ap (λ r. truth (scene_of r c.args.world job.height) job.formula) (c.in_ok-rendering.ensures)
+    ∙ ap (λ w. truth (scene_of c.in_ok-rendering.rendering w job.height) job.formula) c.new-calc.ensures
+    ∙ ap (λ r. truth (scene_of r c.args.world job.height) job.formula) (c.in_ok-rendering.ensures)
