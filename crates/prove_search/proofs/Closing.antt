@@ -1,5 +1,5 @@
 -- What is found of a rectangle, from what is found of its halves.
-use Rattle.std.proofs.Common.{◌≡◌, ℕ, zero, suc, ◌+◌, ◌-◌, ◌*◌, ◌<◌, ◌≤◌, pos, negsuc, Bool, true, false, cond, nat_lt, nat_le, List, [], ◌∷◌, ◌++◌, length, max, Option, Some, None, Result, Ok, Err, refl, sym, ap, subst, ◌∙◌, arith, inl, inr, rules, codes, IsTrue, length-append}
+use Rattle.std.proofs.Common.{◌≡◌, ℕ, zero, suc, ◌+◌, ◌-◌, ◌*◌, ◌<◌, ◌≤◌, pos, Bool, true, false, nat_le, List, [], ◌∷◌, ◌++◌, length, max, Some, Result, Ok, Err, refl, sym, ap, subst, ◌∙◌, arith, inl, inr, rules, codes, IsTrue, length-append}
 use Rattle.std.specs.Prelude.{◌⊎◌, slice_get}
 use Rattle.std.specs.List.{AllByRecursion, concat}
 use Rattle.std.specs.Option.{is_some, option_and_then}
@@ -19,24 +19,23 @@ use Rattle.cert_text.specs.declared.certificate.CertNode.TheViews.{the_lemmas}
 use Rattle.cert_text.specs.declared.certificate.CertNode.TheFolds.{fold-roll-CertNode, fold_out-CertNode}
 use Rattle.cert_text.specs.Grammar.{NodeText, grid, split}
 use Rattle.cert_check.specs.declared.cuts.Cut.{Cut}
-use Rattle.cert_check.specs.Paths.{Turn, Path, IsOnPath}
-use Rattle.cert_check.specs.Rectangles.{world_count, cut_of, is_unit, part_of, turned, rectangle}
-use Rattle.cert_check.specs.Nodes.{by_row, by_worlds, Node, nodes_step, nodes_from}
+use Rattle.cert_check.specs.Paths.{Path}
+use Rattle.cert_check.specs.Rectangles.{world_count, IsWithin, cut_of, is_unit, part_of, turned, rectangle}
+use Rattle.cert_check.specs.Nodes.{by_worlds, nodes_step, nodes_from}
 use Rattle.cert_check.specs.Right.{is_true_at, is_small, IsGood}
+use Rattle.cert_check.specs.Verdicts.{IsTrueIn, IsFirstUntrueIn}
 use Rattle.cert_check.specs.Laws.{IsProper, HasUnits, IsPartOn}
-use Rattle.cert_check.specs.Walk.{IsWithin, first_untrue}
 use Rattle.cert_check.proofs.Parts.{rectangle_is_path}
 use Rattle.prove_search.specs.declared.halves.Halves.{Halves}
 use Rattle.prove_search.specs.declared.search.Closed.{Closed}
 use Rattle.prove_search.specs.declared.search.Stop.{Stop}
 use Rattle.prove_search.specs.declared.search.Stop.TheVariants.{Mem, Violated, Undecided}
-use Rattle.prove_search.specs.Outcomes.{grids_step, grid_count, IsViolation, IsUndecided}
+use Rattle.prove_search.specs.Outcomes.{grid_count, IsViolation}
 use Rattle.prove_search.specs.Finds.{HasLevels, IsClosed, IsFinding}
 use Rattle.viz_base.specs.Jobs.{IsRange}
 use Rattle.prove_search.specs.Halves.{halves_of}
 use Rattle.prove_search.proofs.Halving.{IsHalving, Shrinks, halves_are}
-use Rattle.prove_search.proofs.Texts.{split_row, HasRow, row_text}
-use Rattle.prove_search.proofs.Found.{none_untrue}
+use Rattle.prove_search.proofs.Texts.{split_row, row_text}
 
 -- ---- the folds at each form of node
 
@@ -65,7 +64,7 @@ all_at P (y ∷ ys) h (suc n) x is = all_at P ys h.1 n x is
 
 -- ---- a grid
 
-small_grid : (job : Job) (r : Rect) (path : Path) → IsProper job.range → world_count r ≤ 64 → ((world : World) → IsInRange r world → IsTrue (is_true_at job world))
+small_grid : (job : Job) (r : Rect) (path : Path) → IsProper job.range → world_count r ≤ 64 → IsTrueIn job r
     → HasUnits path → rectangle job.range path ≡ Some r → IsGood job (record { path = path; decision = by_worlds })
 small_grid job r path proper small holds units is =
     let part = subst (IsPartOn job.range path) is (rectangle_is_path job.range path proper units) in
@@ -75,7 +74,7 @@ small_grid job r path proper small holds units is =
       decides = λ world i on. holds world ((part.1 world).1 (i, on));
     }
 
-grid_is_good : (job : Job) (r : Rect) → IsProper job.range → world_count r ≤ 64 → ((world : World) → IsInRange r world → IsTrue (is_true_at job world))
+grid_is_good : (job : Job) (r : Rect) → IsProper job.range → world_count r ≤ 64 → IsTrueIn job r
     → (path : Path) → HasUnits path → rectangle job.range path ≡ Some r → AllByRecursion (IsGood job) (nodes_from Grid path)
 grid_is_good job r proper small holds path units is =
     subst (λ f. AllByRecursion (IsGood job) (f path)) (sym nodes-Grid) (small_grid job r path proper small holds units is, tt)
@@ -91,20 +90,23 @@ some_world r proper =
     let sizes = proper.sizes in
     worlds_above (r.wh + 1 - r.wl) (r.sh + 1 - r.sl) (omega arith) (omega arith)
 
-pub closes_grid : (job : Job) (r : Rect) (turns : ℕ) → IsProper job.range → IsProper r → world_count r ≤ 64 → 0 < turns → first_untrue job r ≡ None
+pub closes_grid : (job : Job) (r : Rect) (turns : ℕ) → IsProper job.range → IsProper r → world_count r ≤ 64 → 0 < turns → IsTrueIn job r
     → IsClosed job r turns (record { node = Grid; left = turns - 1 })
-closes_grid job r turns range proper small turn is =
+closes_grid job r turns range proper small turn holds =
     let some = some_world r proper in
     let one = grids-Grid in
     record {
-      good = grid_is_good job r range small (none_untrue job r is);
-      holds = none_untrue job r is;
+      good = grid_is_good job r range small holds;
+      holds = holds;
       few_grids = omega arith;
       few_turns = omega arith;
       text = codes "grid\n";
       spelled = λ levels depth has few. grid refl refl;
       short = omega arith;
     }
+
+pub violates : (job : Job) (r : Rect) (world : World) → IsFirstUntrueIn job r world → IsViolation job r world
+violates job r world h = record { in_range = h.in_rectangle; untrue = h.untrue }
 
 -- ---- what stops the search of a half
 
@@ -189,10 +191,9 @@ split_is_good job r h first second half good_first good_second path units is =
     let firsts = good_first first_path (unit, units) (child job r h.first row _ true path cut half.first_part is) in
     let seconds = good_second second_path (unit, units) (child job r h.second row _ false path cut half.second_part is) in
     subst (λ f. AllByRecursion (IsGood job) (f path)) (sym (nodes-Split row first second))
-      (record { shaped = unit; decides = tt }, all-append (IsGood job) (nodes_from first first_path) (nodes_from second second_path) firsts seconds)
+    (record { shaped = unit; decides = tt }, all-append (IsGood job) (nodes_from first first_path) (nodes_from second second_path) firsts seconds)
 
-covered : (job : Job) (r : Rect) (h : Halves) → IsHalving r h → ((world : World) → IsInRange h.first world → IsTrue (is_true_at job world)) → ((world : World) → IsInRange h.second world → IsTrue (is_true_at job world))
-    → (world : World) → IsInRange r world → IsTrue (is_true_at job world)
+covered : (job : Job) (r : Rect) (h : Halves) → IsHalving r h → IsTrueIn job h.first → IsTrueIn job h.second → IsTrueIn job r
 covered job r h half first second world i = by_half (half.covers world i)
   where
     by_half : IsInRange h.first world ⊎ IsInRange h.second world → IsTrue (is_true_at job world)
@@ -220,27 +221,27 @@ pub closes_split : (job : Job) (r : Rect) (h : Halves) (turns : ℕ) (first seco
     → IsClosed job r turns (record { node = node; left = second.left })
 closes_split job r h turns first second node half many turn bound f g is =
     subst (λ n. IsClosed job r turns (record { node = n; left = second.left })) (sym is)
-      (let row = row_text h.variable h.middle half.declared bound.0 bound.1 in
-       let count = half.count in
-       let spent = f.few_turns in
-       let spent_too = g.few_turns in
-       let some = some_world h.first half.first_proper in
-       let grids = grids-Split (split_row h.variable h.middle) first.node second.node in
-       let grids_first = f.few_grids in
-       let grids_second = g.few_grids in
-       record {
-         good = split_is_good job r h first.node second.node half f.good g.good;
-         holds = covered job r h half f.holds g.holds;
-         few_grids = omega arith;
-         few_turns = omega arith;
-         text = concat (codes "split " ∷ row.text ∷ codes "\n" ∷ f.text ∷ g.text ∷ []);
-         spelled = λ levels depth has few.
-             let below = split_text (split_row h.variable h.middle) first.node second.node depth levels h.first h.second row.text f.text g.text (half.levels levels has) few f.spelled g.spelled tt in
-             split (split_row h.variable h.middle) first.node second.node row.text f.text g.text below.0 refl refl row.spelled below.1 below.2;
-         short =
-             let bound = short_split (world_count r) (world_count h.first) (world_count h.second) (length f.text) (length g.text) (length row.text) many count half.first_third half.second_third row.short f.short g.short in
-             simp length-append (omega arith);
-       })
+    (let row = row_text h.variable h.middle half.declared bound.0 bound.1 in
+    let count = half.count in
+    let spent = f.few_turns in
+    let spent_too = g.few_turns in
+    let some = some_world h.first half.first_proper in
+    let grids = grids-Split (split_row h.variable h.middle) first.node second.node in
+    let grids_first = f.few_grids in
+    let grids_second = g.few_grids in
+    record {
+      good = split_is_good job r h first.node second.node half f.good g.good;
+      holds = covered job r h half f.holds g.holds;
+      few_grids = omega arith;
+      few_turns = omega arith;
+      text = concat (codes "split " ∷ row.text ∷ codes "\n" ∷ f.text ∷ g.text ∷ []);
+      spelled = λ levels depth has few.
+          let below = split_text (split_row h.variable h.middle) first.node second.node depth levels h.first h.second row.text f.text g.text (half.levels levels has) few f.spelled g.spelled tt in
+          split (split_row h.variable h.middle) first.node second.node row.text f.text g.text below.0 refl refl row.spelled below.1 below.2;
+      short =
+          let bound = short_split (world_count r) (world_count h.first) (world_count h.second) (length f.text) (length g.text) (length row.text) many count half.first_third half.second_third row.short f.short g.short in
+          simp length-append (omega arith);
+    })
 
 -- ---- the parts that the search goes through
 

@@ -6,10 +6,8 @@ use Rattle.std.proofs.lemmas.Bool.Decides.{nat_tests}
 use Rattle.viz_base.specs.declared.worlds.World.{World}
 use Rattle.viz_base.specs.declared.worlds.Rect.{Rect}
 use Rattle.logic_semantics.specs.Ranges.{IsInRange}
-use Rattle.cert_check.specs.declared.cuts.Cut.{Cut}
-use Rattle.cert_check.specs.Rectangles.{world_count, part_of}
+use Rattle.cert_check.specs.Rectangles.{world_count, IsWithin, part_of}
 use Rattle.cert_check.specs.Laws.{IsProper}
-use Rattle.cert_check.specs.Walk.{IsWithin}
 use Rattle.prove_search.specs.declared.halves.Halves.{Halves}
 use Rattle.prove_search.specs.Halves.{middle, halves_at_width, halves_at_size, halves_of}
 use Rattle.prove_search.specs.Finds.{HasLevels}

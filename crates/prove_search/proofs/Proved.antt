@@ -1,19 +1,18 @@
 -- The whole range.
-use Rattle.std.proofs.Common.{◌≡◌, ℕ, suc, ◌+◌, ◌-◌, ◌*◌, ◌^◌, ◌<◌, ◌≤◌, true, false, List, [], ◌∷◌, length, get_or, max, refl, sym, ap, ◌∙◌, arith, codes, length-append, lit≤, inl, inr}
+use Rattle.std.proofs.Common.{◌≡◌, ℕ, suc, ◌+◌, ◌-◌, ◌*◌, ◌<◌, ◌≤◌, List, [], ◌∷◌, length, get_or, refl, arith, codes, length-append, inl, inr}
 use Rattle.std.specs.Prelude.{◌⊎◌}
 use Rattle.std.specs.List.{AllByRecursion, concat}
 use Rattle.std.proofs.Math.Nat.{mul-le-mul_left}
-use Rattle.hex.specs.Hex.{lower_digits, encode_with, encode_lower}
+use Rattle.hex.specs.Hex.{lower_digits, encode_lower}
 use Rattle.hex.proofs.HexLemmas.{length-encode_with}
 use Rattle.viz_base.specs.Jobs.{IsRange}
 use Rattle.viz_base.specs.declared.worlds.World.{World}
 use Rattle.viz_base.specs.declared.worlds.Rect.{Rect}
 use Rattle.viz_base.specs.declared.jobs.Job.{Job}
 use Rattle.cert_text.specs.Grammar.{DigestText}
-use Rattle.cert_check.specs.Rectangles.{world_count}
+use Rattle.cert_check.specs.Rectangles.{world_count, IsWithin}
 use Rattle.cert_check.specs.Right.{Holds}
 use Rattle.cert_check.specs.Laws.{IsProper}
-use Rattle.cert_check.specs.Walk.{IsWithin}
 use Rattle.prove_search.specs.declared.search.Closed.{Closed}
 use Rattle.prove_search.specs.Outcomes.{IsProof, IsViolation, IsUndecided}
 use Rattle.prove_search.specs.Finds.{HasLevels, IsClosed}

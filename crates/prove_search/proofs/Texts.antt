@@ -1,5 +1,5 @@
 -- The text of a split's row.
-use Rattle.std.proofs.Common.{◌≡◌, ℕ, zero, suc, ◌+◌, ◌-◌, ◌*◌, ◌/◌, ◌%◌, ◌^◌, ◌<◌, ◌≤◌, pos, negsuc, Bool, true, false, nat_lt, List, [], ◌∷◌, ◌++◌, length, refl, ap, ◌∙◌, arith, inl, inr, codes, length-append}
+use Rattle.std.proofs.Common.{◌≡◌, ℕ, zero, suc, ◌+◌, ◌-◌, ◌*◌, ◌/◌, ◌%◌, ◌^◌, ◌<◌, ◌≤◌, pos, negsuc, Bool, true, false, nat_lt, List, [], ◌∷◌, ◌++◌, length, refl, ap, arith, inl, inr, codes, length-append}
 use Rattle.std.specs.Prelude.{◌⊎◌}
 use Rattle.std.specs.List.{AllByRecursion, concat}
 use Rattle.std.proofs.Math.Nat.{pow-succ'}
@@ -16,10 +16,10 @@ digits-append [] c h digit = (digit, tt)
 digits-append (d ∷ ds) c h digit = (h.0, digits-append ds c h.1 digit)
 
 -- a number has a numeral of at most k digits
-record HasNumeral (k n : ℕ) : Type 0 where
-  text : List ℕ
-  spelled : NumeralText n text
-  short : length text ≤ k
+pub record HasNumeral (k n : ℕ) : Type 0 where
+  pub text : List ℕ
+  pub spelled : NumeralText n text
+  pub short : length text ≤ k
 
 one_digit : (k n : ℕ) → 1 ≤ n → n < 10 → HasNumeral (suc k) n
 one_digit k n low high = record {
@@ -53,7 +53,7 @@ numeral_by false k n e low high shorter =
     let large : 10 ≤ n = grind (arith, nat_tests) in
     more_digits k n (shorter (omega arith) (omega arith))
 
-numeral : (k n : ℕ) → 1 ≤ n → n < 10 ^ k → HasNumeral k n
+pub numeral : (k n : ℕ) → 1 ≤ n → n < 10 ^ k → HasNumeral k n
 numeral zero n low high = absurd (omega arith)
 numeral (suc k) n low high = numeral_by (nat_lt n 10) k n refl low high (λ l h. numeral k (n / 10) l h)
 
@@ -68,12 +68,12 @@ int_text (suc n) low high =
     let t = numeral 5 (suc n) low (omega arith) in
     record { text = t.text; spelled = (t.spelled, omega arith); short = t.short }
 
-record HasVariable (x : ℕ) : Type 0 where
-  text : List ℕ
-  spelled : VariableText x text
-  short : length text ≤ 1
+pub record HasVariable (x : ℕ) : Type 0 where
+  pub text : List ℕ
+  pub spelled : VariableText x text
+  pub short : length text ≤ 1
 
-variable_text : (x : ℕ) → (x ≡ 0) ⊎ (x ≡ 1) → HasVariable x
+pub variable_text : (x : ℕ) → (x ≡ 0) ⊎ (x ≡ 1) → HasVariable x
 variable_text x (inl e) = record { text = codes "0"; spelled = inl (e, refl); short = omega arith }
 variable_text x (inr e) = record { text = codes "1"; spelled = inr (e, refl); short = omega arith }
 

@@ -1,15 +1,14 @@
 -- What the search finds of a rectangle with so many turns.
-use Rattle.std.specs.Prelude.{◌≡◌, ℕ, ◌+◌, ◌-◌, ◌*◌, ◌^◌, ◌<◌, ◌≤◌, max, List, length, Some, IsTrue, Result, Ok, Err}
+use Rattle.std.specs.Prelude.{◌≡◌, ℕ, ◌+◌, ◌-◌, ◌*◌, ◌^◌, ◌≤◌, max, List, length, Some, Result, Ok, Err}
 use Rattle.std.specs.List.{AllByRecursion}
-use Rattle.viz_base.specs.declared.worlds.World.{World}
 use Rattle.viz_base.specs.declared.worlds.Rect.{Rect}
 use Rattle.viz_base.specs.declared.jobs.Job.{Job}
-use Rattle.logic_semantics.specs.Ranges.{IsInRange}
 use Rattle.cert_text.specs.Grammar.{NodeText}
 use Rattle.cert_check.specs.Paths.{Path}
 use Rattle.cert_check.specs.Rectangles.{world_count, rectangle}
 use Rattle.cert_check.specs.Nodes.{nodes_from}
-use Rattle.cert_check.specs.Right.{is_true_at, IsGood}
+use Rattle.cert_check.specs.Right.{IsGood}
+use Rattle.cert_check.specs.Verdicts.{IsTrueIn}
 use Rattle.cert_check.specs.Laws.{HasUnits}
 use Rattle.prove_search.specs.declared.search.Closed.{Closed}
 use Rattle.prove_search.specs.declared.search.Stop.{Stop}
@@ -27,7 +26,7 @@ pub record HasLevels (levels : ℕ) (r : Rect) : Type 0 where
 -- the node decides the rectangle, wherever it stands in a certificate; what it cost; and its text
 pub record IsClosed (job : Job) (r : Rect) (turns : ℕ) (closed : Closed) : Type 0 where
   pub good : (path : Path) → HasUnits path → rectangle job.range path ≡ Some r → AllByRecursion (IsGood job) (nodes_from closed.node path)
-  pub holds : (world : World) → IsInRange r world → IsTrue (is_true_at job world)
+  pub holds : IsTrueIn job r
   pub few_grids : grid_count closed.node + closed.left ≤ turns
   pub few_turns : turns + 1 ≤ closed.left + 2 * world_count r
   pub text : List ℕ

@@ -1,12 +1,6 @@
 -- The halves of a rectangle.
-use Rattle.std.specs.Prelude.{◌≡◌, ◌⊎◌, ℕ, suc, ◌+◌, ◌-◌, ◌*◌, ◌/◌, ◌^◌, ◌<◌, ◌≤◌, pos, true, false, nat_le, Some, if◌then◌else◌}
-use Rattle.viz_base.specs.declared.worlds.World.{World}
+use Rattle.std.specs.Prelude.{ℕ, ◌+◌, ◌-◌, ◌/◌, nat_le, if◌then◌else◌}
 use Rattle.viz_base.specs.declared.worlds.Rect.{Rect}
-use Rattle.logic_semantics.specs.Ranges.{IsInRange}
-use Rattle.cert_check.specs.declared.cuts.Cut.{Cut}
-use Rattle.cert_check.specs.Rectangles.{world_count, part_of}
-use Rattle.cert_check.specs.Laws.{IsProper}
-use Rattle.cert_check.specs.Walk.{IsWithin}
 use Rattle.prove_search.specs.declared.halves.Halves.{Halves}
 
 -- the number in the middle of others, the lower one of two

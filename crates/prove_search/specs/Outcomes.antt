@@ -9,10 +9,9 @@ use Rattle.cert_text.specs.declared.certificate.CertNode.{CertNode}
 use Rattle.cert_text.specs.declared.certificate.CertNode.TheOpen.{CertNode-F}
 use Rattle.cert_text.specs.declared.certificate.CertNode.TheFolds.{fold-CertNode}
 use Rattle.cert_text.specs.Grammar.{CertText}
-use Rattle.cert_check.specs.Rectangles.{world_count}
+use Rattle.cert_check.specs.Rectangles.{world_count, IsWithin}
 use Rattle.cert_check.specs.Right.{is_true_at, Holds, Right}
 use Rattle.cert_check.specs.Laws.{IsProper}
-use Rattle.cert_check.specs.Walk.{IsWithin}
 use Rattle.prove_search.specs.declared.outcome.Outcome.{Outcome}
 use Rattle.prove_search.specs.declared.outcome.Outcome.TheVariants.{Proved, Violated, Undecided}
 

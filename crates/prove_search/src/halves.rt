@@ -1,6 +1,5 @@
 ghost use Rattle.std.specs.Prelude.{◌≡◌, ◌+◌, ◌<◌, ◌≤◌, ◌^◌};
 ghost use Rattle.cert_check.specs.Laws.{IsProper};
-ghost use Rattle.cert_check.specs.Rectangles.{world_count};
 ghost use Rattle.prove_search.specs.Halves.{middle, halves_of};
 
 use viz_base::Rect;
@@ -14,17 +13,6 @@ pub struct Halves {
     pub middle: u32,
     pub first: Rect,
     pub second: Rect,
-}
-
-/// How many worlds a rectangle has that lies in the limits of a job's range.
-pub fn world_count(rect: Rect) -> u64
-    requires widths { rect.wh ≤ 16384 }
-    requires sizes { rect.sh ≤ 256 }
-    ensures { result ≡ world_count rect }
-{
-    let widths = (rect.wh + 1).saturating_sub(rect.wl);
-    let sizes = (rect.sh + 1).saturating_sub(rect.sl);
-    u64::from(widths) * u64::from(sizes)
 }
 
 /// The number in the middle of others, the lower one of two.

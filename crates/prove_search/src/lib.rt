@@ -2,9 +2,11 @@
 #![tactic(auto)]
 
 mod halves;
+mod laws;
 mod outcome;
 mod search;
 
+pub use laws::unit_certificates_have_texts;
 pub use outcome::Outcome;
 pub use search::prove;
 

@@ -4,16 +4,15 @@ ghost use Rattle.layout_semantics.specs.Ready.{ready};
 ghost use Rattle.hex.specs.Hex.{encode_lower};
 ghost use Rattle.cert_text.specs.Grammar.{DigestText};
 ghost use Rattle.cert_check.specs.Laws.{IsProper};
-ghost use Rattle.cert_check.specs.Rectangles.{world_count};
+ghost use Rattle.cert_check.specs.Rectangles.{world_count, IsWithin};
 ghost use Rattle.cert_check.specs.Right.{Holds};
-ghost use Rattle.cert_check.specs.Walk.{IsWithin};
 ghost use Rattle.cert_text.specs.declared.certificate.CertNode.TheVariants.{Split};
 ghost use Rattle.prove_search.specs.Finds.{IsFinding};
 ghost use Rattle.prove_search.specs.Outcomes.{IsOutcome, Decides};
 
-use crate::halves::{halves_of, world_count};
+use crate::halves::halves_of;
 use crate::outcome::Outcome;
-use cert_check::first_untrue;
+use cert_check::{first_untrue, world_count};
 use cert_text::{Cert, CertNode};
 use lin_row::Row;
 use std::alloc::Global;
@@ -97,7 +96,13 @@ fn decide(alloc: Global, job: &Job, rect: Rect, turns: u64) -> Result<Closed, St
     let halves = halves_of(rect);
     let first = decide(alloc, job, halves.first, turns - 1)?;
     let second = decide(alloc, job, halves.second, first.left)?;
-    let node = split(alloc, halves.variable, halves.middle, first.node, second.node)?;
+    let node = split(
+        alloc,
+        halves.variable,
+        halves.middle,
+        first.node,
+        second.node,
+    )?;
     Ok(Closed {
         node,
         left: second.left,

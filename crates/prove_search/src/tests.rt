@@ -4,7 +4,8 @@ use page_narrow::read_narrow;
 use std::test::Fail;
 use viz_base::{Rect, World};
 
-const FONTS: &str = r#"],"sizes":[16,16],"height":600,"fonts":[{"name":"Square","upem":1000,"ascent":800,"descent":200,"default":500,"advances":[]}],"css":["body{margin:0}"],"page":{"tag":"div","attrs":{"style":"height:30px"},"children":[{"tag":"div","attrs":{"style":"height:10px"}},{"tag":"div","attrs":{"style":"height:20px"}}]},"assert":""#;
+const FONTS: &str =
+    r#"],"sizes":[16,16],"height":600,"fonts":[{"name":"Square","upem":1000,"ascent":800,"descent":200,"default":500,"advances":[]}],"css":["body{margin:0}"],"page":{"tag":"div","attrs":{"style":"height:30px"},"children":[{"tag":"div","attrs":{"style":"height:10px"}},{"tag":"div","attrs":{"style":"height:20px"}}]},"assert":""#;
 
 /// What the search answers for a page of three blocks, at widths and for an assertion.
 fn outcome(rt: &HostRuntime, widths: &str, assertion: &str, turns: u64) -> Result<Outcome, Fail> {

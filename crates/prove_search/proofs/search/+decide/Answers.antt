@@ -27,7 +27,7 @@ returns-in_err-first t c =
     let many = subst (λ n. 64 < n) c.world_count.ensures c.if-world_count-le64.false in
     let half = halving_of r h c.requires.proper many c.halves_of-halves.ensures in
     passed_on c.args.job.now r c.args.turns c.from_residual.result c.in_err-first.field-0.0 c.from_residual.ensures
-      (stops_first c.args.job.now r h c.args.turns half many (omega arith) c.in_err-first.field-0.0 c.in_err-first.ensures)
+    (stops_first c.args.job.now r h c.args.turns half many (omega arith) c.in_err-first.field-0.0 c.in_err-first.ensures)
 
 pub returns-in_err-second : goal.returns-in_err-second
 returns-in_err-second t c =
@@ -36,7 +36,7 @@ returns-in_err-second t c =
     let many = subst (λ n. 64 < n) c.world_count.ensures c.if-world_count-le64.false in
     let half = halving_of r h c.requires.proper many c.halves_of-halves.ensures in
     passed_on c.args.job.now r c.args.turns c.from_residual-in_err-second.result c.in_err-second.field-0.0 c.from_residual-in_err-second.ensures
-      (stops_second c.args.job.now r h c.args.turns c.in_ok-first.first half many (omega arith) c.in_ok-first.ensures c.in_err-second.field-0.0 c.in_err-second.ensures)
+    (stops_second c.args.job.now r h c.args.turns c.in_ok-first.first half many (omega arith) c.in_ok-first.ensures c.in_err-second.field-0.0 c.in_err-second.ensures)
 
 pub returns : goal.returns
 returns t c =
@@ -46,4 +46,4 @@ returns t c =
     let many = subst (λ n. 64 < n) c.world_count.ensures c.if-world_count-le64.false in
     let half = halving_of r h c.requires.proper many c.halves_of-halves.ensures in
     closes_split job r h c.args.turns c.in_ok-first.first c.in_ok-second.second c.in_ok-node.node half many (omega arith)
-      (middle_bound job.range r h job.ok.in_range c.requires.within half) c.in_ok-first.ensures c.in_ok-second.ensures c.in_ok-node.ensures
+    (middle_bound job.range r h job.ok.in_range c.requires.within half) c.in_ok-first.ensures c.in_ok-second.ensures c.in_ok-node.ensures
