@@ -1,0 +1,178 @@
+-- The halves of a rectangle: they lie within it, cover it, and each has at least a third of its worlds.
+use Rattle.std.proofs.Common.{◌≡◌, ℕ, zero, suc, ◌+◌, ◌-◌, ◌*◌, ◌/◌, ◌^◌, ◌<◌, ◌≤◌, pos, Bool, true, false, cond, nat_lt, nat_le, min, max, Some, refl, sym, ap, ◌∙◌, arith, inl, inr}
+use Rattle.std.specs.Prelude.{◌⊎◌}
+use Rattle.std.proofs.Math.Nat.{add-mul, mul-add, mul-le-mul_left, pow-succ'}
+use Rattle.std.proofs.lemmas.Bool.Decides.{nat_tests}
+use Rattle.viz_base.specs.declared.worlds.World.{World}
+use Rattle.viz_base.specs.declared.worlds.Rect.{Rect}
+use Rattle.logic_semantics.specs.Ranges.{IsInRange}
+use Rattle.cert_check.specs.Rectangles.{world_count, IsWithin, part_of}
+use Rattle.cert_check.specs.Laws.{IsProper}
+use Rattle.prove_search.specs.declared.halves.Halves.{Halves}
+use Rattle.prove_search.specs.Halves.{middle, halves_at_width, halves_at_size, halves_of}
+use Rattle.prove_search.specs.Finds.{HasLevels}
+
+-- a number in the middle of others
+pub record IsMiddle (l u m : ℕ) : Type 0 where
+  pub low : l ≤ m
+  pub high : m < u
+  pub count : (m + 1 - l) + (u + 1 - (m + 1)) ≡ u + 1 - l
+  pub first_third : u + 1 - l ≤ 3 * (m + 1 - l)
+  pub second_third : u + 1 - l ≤ 3 * (u + 1 - (m + 1))
+  pub first_half : 2 * (m + 1 - l) ≤ (u + 1 - l) + 1
+  pub second_half : 2 * (u + 1 - (m + 1)) ≤ u + 1 - l
+
+middle_by : (l u m q : ℕ) → l < u → m ≡ l + q → 2 * q ≤ u - l → u - l ≤ 2 * q + 1 → IsMiddle l u m
+middle_by l u m q lt is low high = record {
+  low = omega arith;
+  high = omega arith;
+  count = omega arith;
+  first_third = omega arith;
+  second_third = omega arith;
+  first_half = omega arith;
+  second_half = omega arith;
+}
+
+pub middle_is : (l u : ℕ) → l < u → IsMiddle l u (middle l u)
+middle_is l u lt = middle_by l u (middle l u) ((u - l) / 2) lt refl (omega arith) (omega arith)
+
+-- the halves have a halving less to go
+pub record Shrinks (levels : ℕ) (first second : Rect) : Type 0 where
+  pub less : ℕ
+  pub step : levels ≡ suc less
+  pub first_has : HasLevels less first
+  pub second_has : HasLevels less second
+
+pub record IsHalving (r : Rect) (h : Halves) : Type 0 where
+  pub declared : (h.variable ≡ 0) ⊎ (h.variable ≡ 1)
+  pub first_part : part_of (record { variable = h.variable; rising = false; bound = pos h.middle }) true r ≡ Some h.first
+  pub second_part : part_of (record { variable = h.variable; rising = false; bound = pos h.middle }) false r ≡ Some h.second
+  pub first_proper : IsProper h.first
+  pub second_proper : IsProper h.second
+  pub first_within : IsWithin r h.first
+  pub second_within : IsWithin r h.second
+  pub covers : (world : World) → IsInRange r world → IsInRange h.first world ⊎ IsInRange h.second world
+  pub count : world_count h.first + world_count h.second ≡ world_count r
+  pub first_third : world_count r ≤ 3 * world_count h.first
+  pub second_third : world_count r ≤ 3 * world_count h.second
+  pub levels : (levels : ℕ) → HasLevels levels r → Shrinks levels h.first h.second
+  pub bound : 1 ≤ r.wl → 1 ≤ r.sl → r.wh ≤ 16384 → r.sh ≤ 16384 → (1 ≤ h.middle) × (h.middle ≤ 16384)
+
+below_or_above : (x m : ℕ) → (x ≤ m) ⊎ (m + 1 ≤ x)
+below_or_above x m = by_test (nat_le x m) refl
+  where
+    by_test : (b : Bool) → nat_le x m ≡ b → (x ≤ m) ⊎ (m + 1 ≤ x)
+    by_test true e = inl (grind (arith, nat_tests))
+    by_test false e = inr (grind (arith, nat_tests))
+
+width_shrinks : (r : Rect) (m : ℕ) → IsMiddle r.wl r.wh m → (levels i j : ℕ) → i + j ≡ levels → r.wh + 1 - r.wl ≤ 2 ^ i → r.sh + 1 - r.sl ≤ 2 ^ j
+    → Shrinks levels (halves_at_width r m).first (halves_at_width r m).second
+width_shrinks r m mid levels zero j whole widths sizes = let low = mid.low in let high = mid.high in absurd (omega arith)
+width_shrinks r m mid levels (suc i) j whole widths sizes =
+    let twice : 2 ^ suc i ≡ 2 * 2 ^ i = pow-succ' 2 i in
+    let a = mid.first_half in
+    let b = mid.second_half in
+    record {
+      less = i + j;
+      step = omega arith;
+      first_has = record { of_width = i; of_size = j; whole = refl; widths = omega arith; sizes = sizes };
+      second_has = record { of_width = i; of_size = j; whole = refl; widths = omega arith; sizes = sizes };
+    }
+
+size_shrinks : (r : Rect) (m : ℕ) → IsMiddle r.sl r.sh m → (levels i j : ℕ) → i + j ≡ levels → r.wh + 1 - r.wl ≤ 2 ^ i → r.sh + 1 - r.sl ≤ 2 ^ j
+    → Shrinks levels (halves_at_size r m).first (halves_at_size r m).second
+size_shrinks r m mid levels i zero whole widths sizes = let low = mid.low in let high = mid.high in absurd (omega arith)
+size_shrinks r m mid levels i (suc j) whole widths sizes =
+    let twice : 2 ^ suc j ≡ 2 * 2 ^ j = pow-succ' 2 j in
+    let a = mid.first_half in
+    let b = mid.second_half in
+    record {
+      less = i + j;
+      step = omega arith;
+      first_has = record { of_width = i; of_size = j; whole = refl; widths = widths; sizes = omega arith };
+      second_has = record { of_width = i; of_size = j; whole = refl; widths = widths; sizes = omega arith };
+    }
+
+third : (c a s : ℕ) → c ≤ 3 * a → c * s ≤ 3 * (a * s)
+third c a s le = omega (arith, mul-le-mul_left s le)
+
+third_across : (c a s : ℕ) → c ≤ 3 * a → s * c ≤ 3 * (s * a)
+third_across c a s le = omega (arith, mul-le-mul_left s le)
+
+at_width : (r : Rect) (m : ℕ) → IsProper r → IsMiddle r.wl r.wh m → IsHalving r (halves_at_width r m)
+at_width r m proper mid =
+    let low = mid.low in
+    let high = mid.high in
+    let s = r.sh + 1 - r.sl in
+    let a = m + 1 - r.wl in
+    let b = r.wh + 1 - (m + 1) in
+    record {
+      declared = inl refl;
+      first_part = let e : nat_le r.wl m ≡ true = grind (arith, nat_tests) in let f : min m r.wh ≡ m = omega arith in rw (e, f) refl;
+      second_part = let e : nat_lt m r.wh ≡ true = grind (arith, nat_tests) in let f : max (m + 1) r.wl ≡ m + 1 = omega arith in rw (e, f) refl;
+      first_proper = record { widths = low; sizes = proper.sizes };
+      second_proper = record { widths = omega arith; sizes = proper.sizes };
+      first_within = record { width_least = omega arith; width_most = omega arith; size_least = omega arith; size_most = omega arith };
+      second_within = record { width_least = omega arith; width_most = omega arith; size_least = omega arith; size_most = omega arith };
+      covers = λ world i. place world i (below_or_above world.w m);
+      count = sym (add-mul a b s) ∙ ap (λ n. n * s) mid.count;
+      first_third = third (r.wh + 1 - r.wl) a s mid.first_third;
+      second_third = third (r.wh + 1 - r.wl) b s mid.second_third;
+      levels = λ levels h. width_shrinks r m mid levels h.of_width h.of_size h.whole h.widths h.sizes;
+      bound = λ wl sl wh sh. (omega arith, omega arith);
+    }
+  where
+    place : (world : World) → IsInRange r world → (world.w ≤ m) ⊎ (m + 1 ≤ world.w) → IsInRange (halves_at_width r m).first world ⊎ IsInRange (halves_at_width r m).second world
+    place world i (inl le) = inl (record { width_least = i.width_least; width_most = le; size_least = i.size_least; size_most = i.size_most })
+    place world i (inr le) = inr (record { width_least = le; width_most = i.width_most; size_least = i.size_least; size_most = i.size_most })
+
+at_size : (r : Rect) (m : ℕ) → IsProper r → IsMiddle r.sl r.sh m → IsHalving r (halves_at_size r m)
+at_size r m proper mid =
+    let low = mid.low in
+    let high = mid.high in
+    let w = r.wh + 1 - r.wl in
+    let a = m + 1 - r.sl in
+    let b = r.sh + 1 - (m + 1) in
+    record {
+      declared = inr refl;
+      first_part = let e : nat_le r.sl m ≡ true = grind (arith, nat_tests) in let f : min m r.sh ≡ m = omega arith in rw (e, f) refl;
+      second_part = let e : nat_lt m r.sh ≡ true = grind (arith, nat_tests) in let f : max (m + 1) r.sl ≡ m + 1 = omega arith in rw (e, f) refl;
+      first_proper = record { widths = proper.widths; sizes = low };
+      second_proper = record { widths = proper.widths; sizes = omega arith };
+      first_within = record { width_least = omega arith; width_most = omega arith; size_least = omega arith; size_most = omega arith };
+      second_within = record { width_least = omega arith; width_most = omega arith; size_least = omega arith; size_most = omega arith };
+      covers = λ world i. place world i (below_or_above world.s m);
+      count = sym (mul-add w a b) ∙ ap (λ n. w * n) mid.count;
+      first_third = third_across (r.sh + 1 - r.sl) a w mid.first_third;
+      second_third = third_across (r.sh + 1 - r.sl) b w mid.second_third;
+      levels = λ levels h. size_shrinks r m mid levels h.of_width h.of_size h.whole h.widths h.sizes;
+      bound = λ wl sl wh sh. (omega arith, omega arith);
+    }
+  where
+    place : (world : World) → IsInRange r world → (world.s ≤ m) ⊎ (m + 1 ≤ world.s) → IsInRange (halves_at_size r m).first world ⊎ IsInRange (halves_at_size r m).second world
+    place world i (inl le) = inl (record { width_least = i.width_least; width_most = i.width_most; size_least = i.size_least; size_most = le })
+    place world i (inr le) = inr (record { width_least = i.width_least; width_most = i.width_most; size_least = le; size_most = i.size_most })
+
+-- the longer side of many worlds has two numbers
+long_side : (c s : ℕ) → s ≤ c → 64 < c * s → 2 ≤ c
+long_side zero s le many = absurd (omega arith)
+long_side (suc zero) s le many = absurd (omega arith)
+long_side (suc (suc c)) s le many = omega arith
+
+pub halves_are : (r : Rect) → IsProper r → 64 < world_count r → IsHalving r (halves_of r)
+halves_are r proper many = by_test (nat_le (r.sh - r.sl) (r.wh - r.wl)) refl
+  where
+    by_test : (b : Bool) → nat_le (r.sh - r.sl) (r.wh - r.wl) ≡ b → IsHalving r (cond b (halves_at_width r (middle r.wl r.wh)) (halves_at_size r (middle r.sl r.sh)))
+    by_test true e =
+        let le : r.sh - r.sl ≤ r.wh - r.wl = grind (arith, nat_tests) in
+        let widths = proper.widths in
+        let sizes = proper.sizes in
+        let long = long_side (r.wh + 1 - r.wl) (r.sh + 1 - r.sl) (omega arith) many in
+        at_width r (middle r.wl r.wh) proper (middle_is r.wl r.wh (omega arith))
+    by_test false e =
+        let lt : r.wh - r.wl < r.sh - r.sl = grind (arith, nat_tests) in
+        let widths = proper.widths in
+        let sizes = proper.sizes in
+        let across : 64 < (r.sh + 1 - r.sl) * (r.wh + 1 - r.wl) = omega (arith, many) in
+        let long = long_side (r.sh + 1 - r.sl) (r.wh + 1 - r.wl) (omega arith) across in
+        at_size r (middle r.sl r.sh) proper (middle_is r.sl r.sh (omega arith))

@@ -1,0 +1,5 @@
+pub mod Halving
+pub mod Texts
+pub mod Closing
+pub mod Proved
+pub mod Units

@@ -1,0 +1,4 @@
+pub mod Halves
+pub mod Outcomes
+pub mod Finds
+pub mod Laws

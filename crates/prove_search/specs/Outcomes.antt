@@ -1,0 +1,58 @@
+-- What the answers of a search mean.
+use Rattle.std.specs.Prelude.{◌≡◌, ◌⊎◌, ℕ, ◌+◌, ◌-◌, ◌*◌, ◌^◌, ◌<◌, ◌≤◌, false, List, length}
+use Rattle.viz_base.specs.declared.worlds.World.{World}
+use Rattle.viz_base.specs.declared.worlds.Rect.{Rect}
+use Rattle.viz_base.specs.declared.jobs.Job.{Job}
+use Rattle.logic_semantics.specs.Ranges.{IsInRange}
+use Rattle.cert_text.specs.declared.certificate.Cert.{Cert}
+use Rattle.cert_text.specs.declared.certificate.CertNode.{CertNode}
+use Rattle.cert_text.specs.declared.certificate.CertNode.TheOpen.{CertNode-F}
+use Rattle.cert_text.specs.declared.certificate.CertNode.TheFolds.{fold-CertNode}
+use Rattle.cert_text.specs.Grammar.{CertText}
+use Rattle.cert_check.specs.Rectangles.{world_count, IsWithin}
+use Rattle.cert_check.specs.Right.{is_true_at, Holds, Right}
+use Rattle.cert_check.specs.Laws.{IsProper}
+use Rattle.prove_search.specs.declared.outcome.Outcome.{Outcome}
+use Rattle.prove_search.specs.declared.outcome.Outcome.TheVariants.{Proved, Violated, Undecided}
+
+-- how many grids a node has
+abbrev pub grids_step : CertNode-F ℕ → ℕ
+grids_step CertNode-F.Grid = 1
+grids_step (CertNode-F.Split row first second) = first + second
+
+abbrev pub grid_count : CertNode → ℕ
+grid_count = fold-CertNode ℕ grids_step
+
+-- the certificate is right for the job, which holds; it has at most as many grids as there were turns, and
+-- a text of at most 64 MiB
+pub record IsProof (job : Job) (turns : ℕ) (cert : Cert) : Type 0 where
+  pub right : Right job cert
+  pub holds : Holds job
+  pub few : grid_count cert.root ≤ turns
+  pub text : List ℕ
+  pub spelled : CertText cert text
+  pub short : length text ≤ 2 ^ 26
+
+-- a world of the rectangle at which the formula is false
+pub record IsViolation (job : Job) (r : Rect) (world : World) : Type 0 where
+  pub in_range : IsInRange r world
+  pub untrue : is_true_at job world ≡ false
+
+-- A part of the rectangle, with at least one world, that so many turns left open: there were none, and then it is
+-- the whole, or there were fewer than two a world less one, of more than 64 worlds.
+pub record IsUndecided (r : Rect) (turns : ℕ) (part : Rect) : Type 0 where
+  pub proper : IsProper part
+  pub within : IsWithin r part
+  pub cause : (turns ≡ 0) ⊎ ((64 < world_count r) × (turns < 2 * world_count r - 1))
+  pub whole : turns ≡ 0 → part ≡ r
+
+abbrev pub IsOutcome : Job → ℕ → Outcome → Type 0
+IsOutcome job turns (Proved cert) = IsProof job turns cert
+IsOutcome job turns (Violated world) = IsViolation job job.range world
+IsOutcome job turns (Undecided part) = IsUndecided job.range turns part
+
+-- proved, and the fact holds, or violated, and it does not
+abbrev pub Decides : Outcome → Type 0 → Type 0
+Decides (Proved cert) P = P
+Decides (Violated world) P = P → ⊥
+Decides (Undecided part) P = ⊥

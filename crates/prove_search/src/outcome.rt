@@ -1,0 +1,13 @@
+use cert_text::Cert;
+use viz_base::{Rect, World};
+
+/// What was found of a job.
+#[derive(Debug, Drop)]
+pub enum Outcome {
+    /// The job holds, and this certificate is right for it.
+    Proved(Cert),
+    /// The formula is false of the rendering at this world of the range.
+    Violated(World),
+    /// The turns did not do; this part of the range is open yet.
+    Undecided(Rect),
+}

@@ -1,0 +1,140 @@
+ghost use Rattle.std.specs.Prelude.{◌≡◌, ◌*◌, ◌+◌, ◌<◌, ◌≤◌, []};
+ghost use Rattle.std.specs.Prelude.{pos, negsuc, ◌∷◌, IsTrue, IfOk};
+ghost use Rattle.layout_semantics.specs.Ready.{ready};
+ghost use Rattle.hex.specs.Hex.{encode_lower};
+ghost use Rattle.cert_text.specs.Grammar.{DigestText};
+ghost use Rattle.cert_check.specs.Laws.{IsProper};
+ghost use Rattle.cert_check.specs.Rectangles.{world_count, IsWithin};
+ghost use Rattle.cert_check.specs.Right.{Holds};
+ghost use Rattle.cert_text.specs.declared.certificate.CertNode.TheVariants.{Split};
+ghost use Rattle.prove_search.specs.Finds.{IsFinding};
+ghost use Rattle.prove_search.specs.Outcomes.{IsOutcome, Decides};
+
+use crate::halves::halves_of;
+use crate::outcome::Outcome;
+use cert_check::{first_untrue, world_count};
+use cert_text::{Cert, CertNode};
+use lin_row::Row;
+use std::alloc::Global;
+use viz_base::{Boxed, Job, Mem, Rect, World};
+
+/// A rectangle that is decided: the formula is true at each of its worlds.
+#[derive(Drop)]
+pub struct Closed {
+    pub node: CertNode,
+    /// The turns that are left.
+    pub left: u64,
+}
+
+/// Why a rectangle is not closed.
+#[derive(Drop)]
+pub enum Stop {
+    Mem,
+    Violated(World),
+    Undecided(Rect),
+}
+
+impl From<Mem> for Stop {
+    ghost use Rattle.std.specs.Prelude.{◌≡◌};
+    ghost use Rattle.prove_search.specs.declared.search.Stop.TheVariants.{Mem};
+
+    ghost from_gives = { λ _ stop. stop ≡ Mem };
+
+    fn from(_: Mem) -> Self {
+        Stop::Mem
+    }
+}
+
+/// Goes through a rectangle's worlds in one turn.
+fn close(alloc: Global, job: &Job, rect: Rect, turns: u64) -> Result<Closed, Stop>
+    requires ready { IsTrue (ready job.now.tree) }
+    requires within { IsWithin job.now.range rect }
+    requires proper { IsProper rect }
+    requires small { world_count rect ≤ 64 }
+    requires turn { 0 < turns }
+    ensures { IsFinding job.now rect turns result }
+{
+    match first_untrue(alloc, job, rect)? {
+        Some(world) => Err(Stop::Violated(world)),
+        None => Ok(Closed {
+            node: CertNode::Grid,
+            left: turns - 1,
+        }),
+    }
+}
+
+/// The node that is decided by the first where a variable is at most the middle, and by the second where it is above.
+fn split(
+    alloc: Global,
+    variable: u32,
+    middle: u32,
+    first: CertNode,
+    second: CertNode,
+) -> Result<CertNode, Mem>
+    ensures { IfOk result
+        (λ node. node ≡ Split (record { k = pos middle; terms = (variable, negsuc 0) ∷ [] }) first second) }
+{
+    let row = Row::of_term(alloc, i128::from(middle), variable, -1)?;
+    let first = Boxed::new(alloc, first)?;
+    let second = Boxed::new(alloc, second)?;
+    Ok(CertNode::Split(row, first, second))
+}
+
+/// Decides a rectangle: one of at most 64 worlds in one turn, a greater one by its halves after a turn for the split.
+fn decide(alloc: Global, job: &Job, rect: Rect, turns: u64) -> Result<Closed, Stop>
+    requires ready { IsTrue (ready job.now.tree) }
+    requires within { IsWithin job.now.range rect }
+    requires proper { IsProper rect }
+    ensures { IsFinding job.now rect turns result }
+{
+    if turns == 0 {
+        return Err(Stop::Undecided(rect));
+    }
+    if world_count(rect) <= 64 {
+        return close(alloc, job, rect, turns);
+    }
+    let halves = halves_of(rect);
+    let first = decide(alloc, job, halves.first, turns - 1)?;
+    let second = decide(alloc, job, halves.second, first.left)?;
+    let node = split(
+        alloc,
+        halves.variable,
+        halves.middle,
+        first.node,
+        second.node,
+    )?;
+    Ok(Closed {
+        node,
+        left: second.left,
+    })
+}
+
+/// The certificate that names a job by its digest and decides its whole range by a node. A digest has a spelling.
+fn certificate(digest: &[u8; 32], root: CertNode) -> Cert
+    ensures parts { result ≡ record { job = digest.now; root = root } }
+    ensures spelled { DigestText digest.now (encode_lower digest.now) }
+{
+    // This read tells that they are bytes.
+    let _bytes = digest.as_slice();
+    Cert { job: *digest, root }
+}
+
+/// Searches for a certificate of a job, or for a world of its range at which its formula is false.
+///
+/// A turn takes one part of the range that is open yet, the whole range first. A part of at most 64 worlds
+/// is gone through, a greater one is halved on its longer side. With R worlds in the range,
+/// `2 * R - 1` turns decide, and one does where R is at most 64. Each world takes at most one layout of the page
+/// and one truth of the formula. The only fault is want of memory.
+pub fn prove(alloc: Global, job: &Job, turns: u64) -> Result<Outcome, Mem>
+    requires { IsTrue (ready job.now.tree) }
+    ensures outcome { IfOk result (IsOutcome job.now turns) }
+    ensures decides { IfOk result
+        (λ outcome. 2 * world_count job.now.range ≤ turns + 1 → Decides outcome (Holds job.now)) }
+{
+    match decide(alloc, job, job.range, turns) {
+        Ok(closed) => Ok(Outcome::Proved(certificate(&job.digest, closed.node))),
+        Err(Stop::Violated(world)) => Ok(Outcome::Violated(world)),
+        Err(Stop::Undecided(rect)) => Ok(Outcome::Undecided(rect)),
+        Err(Stop::Mem) => Err(Mem),
+    }
+}
