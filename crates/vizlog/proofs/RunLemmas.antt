@@ -1,12 +1,14 @@
 -- What a load tells of a job file.
-use Rattle.std.proofs.Common.{◌≡◌, ◌∷◌, [], ℕ, ◌+◌, ◌<◌, List, Bool, true, false, Option, Some, None, IfSome, option_map, length, codes, nat_le, replicate, arith, refl, sym, ap, zero, suc, get_or, map}
+use Rattle.std.proofs.Common.{◌≡◌, ◌∷◌, [], ℕ, ◌+◌, ◌<◌, List, Bool, true, false, Option, Some, None, IfSome, option_map, length, codes, nat_le, replicate, arith, refl, sym, ap, IsTrue, zero, suc, get_or, map}
 use Rattle.std.proofs.lemmas.List.{length-replicate}
 use Rattle.std.proofs.lemmas.Bool.Decides.{nat_tests}
-use Rattle.viz_outside.specs.declared.shelf.Loaded.TheVariants.{Longer}
+use Rattle.viz_outside.specs.declared.shelf.Loaded.{Loaded}
+use Rattle.viz_outside.specs.declared.shelf.Loaded.TheVariants.{Whole, Longer}
 use Rattle.viz_outside.specs.Shelf.{loaded_of}
-use Rattle.vizlog.specs.Run.{Files, IsTooLong, job_most}
-use Rattle.viz_base.specs.declared.worlds.World.{World}
-use Rattle.vizlog.specs.Words.{word_at, AsksInPlace}
+use Rattle.vizlog.specs.Files.{Files, MayHold, IsTooLong, job_most, IsTooLongCert, cert_most}
+use Rattle.vizlog.specs.Words.{word_at, Asks, AsksInPlace}
+use Rattle.vizlog.specs.declared.words.Command.{Command}
+use Rattle.vizlog.specs.declared.words.Command.TheVariants as asks_for
 
 a_longer_list : (n : ℕ) → (bytes : List ℕ) × (n < length bytes)
 a_longer_list n = (replicate (n + 1) 0, omega (arith, length-replicate {A = ℕ} (n + 1) 0))
@@ -19,10 +21,16 @@ of_file : (cap : ℕ) (o : Option (List ℕ)) → option_map (loaded_of cap) o �
 of_file cap None h = absurd (cc)
 of_file cap (Some bytes) h = let same : loaded_of cap bytes ≡ Longer = cc in (bytes, refl, is_longer cap bytes (nat_le (length bytes) cap) refl same)
 
--- what was not given whole is too long
+-- what was not given whole is longer
+pub longer : (files : Files) (name : List ℕ) (most : ℕ) → IfSome files (λ held. option_map (loaded_of most) (held name) ≡ Some Longer) → (bytes : List ℕ) × MayHold files name bytes × (most < length bytes)
+longer None name most h = let some = a_longer_list most in (some.0, tt, some.1)
+longer (Some held) name most h = let found = of_file most (held name) h in (found.0, found.1, found.2)
+
 pub too_long : (files : Files) (name output : List ℕ) → IfSome files (λ held. option_map (loaded_of job_most) (held name) ≡ Some Longer) → output ≡ codes "job-refused too-long\n" → IsTooLong files name output
-too_long None name output h e = let some = a_longer_list job_most in record { bytes = some.0; told = tt; long = some.1; line = e }
-too_long (Some held) name output h e = let found = of_file job_most (held name) h in record { bytes = found.0; told = found.1; long = found.2; line = e }
+too_long files name output h e = let found = longer files name job_most h in record { bytes = found.0; told = found.1; long = found.2; line = e }
+
+pub too_long_cert : (files : Files) (name output : List ℕ) → IfSome files (λ held. option_map (loaded_of cert_most) (held name) ≡ Some Longer) → output ≡ codes "rejected too-long\n" → IsTooLongCert files name output
+too_long_cert files name output h e = let found = longer files name cert_most h in record { bytes = found.0; told = found.1; long = found.2; line = e }
 
 -- ---- words
 
@@ -32,8 +40,15 @@ word_is f [] k x h e = absurd (omega arith)
 word_is f (y ∷ ys) zero x h e = ap f (sym e)
 word_is f (y ∷ ys) (suc k) x h e = word_is f ys k x (omega arith) e
 
--- words that ask for a command are at least two
-pub asks_two : {X : Type 0} (f : X → List ℕ) (xs : List X) (c : World) → AsksInPlace (map f xs) c → 1 < length xs
-asks_two f [] v asks = let same = asks.words_are in absurd (cc)
-asks_two f (x ∷ []) v asks = let same = asks.words_are in absurd (cc)
-asks_two f (x ∷ y ∷ ys) c asks = omega arith
+-- words that ask for a command are at least three
+pub asks_three : {X : Type 0} (f : X → List ℕ) (xs : List X) (c : Command) → AsksInPlace (map f xs) c → 2 < length xs
+asks_three f [] (asks_for.Lay v) asks = let same = asks.words_are in absurd (cc)
+asks_three f [] (asks_for.Prove n) asks = let same = asks.words_are in absurd (cc)
+asks_three f [] asks_for.Check asks = let same = asks.words_are in absurd (cc)
+asks_three f (x ∷ []) (asks_for.Lay v) asks = let same = asks.words_are in absurd (cc)
+asks_three f (x ∷ []) (asks_for.Prove n) asks = let same = asks.words_are in absurd (cc)
+asks_three f (x ∷ []) asks_for.Check asks = let same = asks.words_are in absurd (cc)
+asks_three f (x ∷ y ∷ []) (asks_for.Lay v) asks = let same = asks.words_are in absurd (cc)
+asks_three f (x ∷ y ∷ []) (asks_for.Prove n) asks = let same = asks.words_are in absurd (cc)
+asks_three f (x ∷ y ∷ []) asks_for.Check asks = let same = asks.words_are in absurd (cc)
+asks_three f (x ∷ y ∷ z ∷ zs) c asks = omega arith

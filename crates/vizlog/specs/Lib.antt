@@ -1,3 +1,6 @@
 pub mod Words
-pub mod Run
+pub mod Lines
 pub mod Files
+pub mod Replies
+pub mod Loads
+pub mod Run

@@ -1,12 +1,17 @@
-//! A verifier of page layout: lays a page out at a viewport width and default font size, box by box.
+//! A verifier of page layout: lays a page out box by box, proves or refutes its assertion over a range, and checks certificates.
 #![tactic(auto)]
 
+mod files;
+mod lines;
+mod replies;
 mod run;
+mod status;
 #[cfg(test)]
 mod tests;
 mod words;
 
-use crate::run::{Status, run};
+use crate::run::run;
+use crate::status::Status;
 use std::process::ExitCode;
 use std::{env, io};
 use viz_outside::{FileShelf, OutSink};

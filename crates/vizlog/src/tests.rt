@@ -18,63 +18,66 @@ const FLAT_BOX: &str = "block 0 m 0 0 64 0 b 0 0 64 0 p 0 0 64 0 c 0 0 64 0\n";
 const FALSE: &str =
     r#"{"vizlog":1,"widths":[320,320],"sizes":[16,16],"height":600,"fonts":[{"name":"Square","upem":1000,"ascent":800,"descent":200,"default":500}],"page":{"tag":"div","attrs":{"style":"height:0px"}},"assert":"false"}"#;
 
-/// A shelf with one file J, of which these calls fail.
-fn shelf_of(alloc: Global, file: &str, fails: &[u32]) -> Result<MemShelf, Fail> {
+const NARROW: &str =
+    r#"{"vizlog":1,"widths":[320,400],"sizes":[16,16],"height":600,"fonts":[{"name":"Square","upem":1000,"ascent":800,"descent":200,"default":500}],"page":{"tag":"div","attrs":{"style":"height:30px"},"children":[{"tag":"div","attrs":{"style":"height:10px"}},{"tag":"div","attrs":{"style":"height:20px"}}]},"assert":"forall b in block: b.right <= 25536"}"#;
+
+const WIDE_BOXES: &str =
+    "violated 400 16\nblame 0\nblock 0 m 0 0 25600 1920 b 0 0 25600 1920 p 0 0 25600 1920 c 0 0 25600 1920\nblock 1 m 0 0 25600 640 b 0 0 25600 640 p 0 0 25600 640 c 0 0 25600 640\nblock 2 m 0 640 25600 1920 b 0 640 25600 1920 p 0 640 25600 1920 c 0 640 25600 1920\n";
+
+const NESTED_GRID: &str =
+    "vizlog-cert 1\njob 125c2a31625423c89e552b97b77e8c39521f86c1ecf497ca51254ef245ea4d8e\ngrid\n";
+
+const NARROW_GRID: &str =
+    "vizlog-cert 1\njob ae2490e0ac382b463fa541b9eb5e4899a25212c25780fca3dde259f66a32e4a1\ngrid\n";
+
+const NARROW_SPLIT: &str =
+    "vizlog-cert 1\njob ae2490e0ac382b463fa541b9eb5e4899a25212c25780fca3dde259f66a32e4a1\nsplit -360 0:1\ngrid\ngrid\n";
+
+const ZERO_SPLIT: &str =
+    "vizlog-cert 1\njob 0000000000000000000000000000000000000000000000000000000000000000\nsplit -360 0:1\ngrid\ngrid\n";
+
+/// A shelf with a job file J and a certificate file C, of which these calls fail.
+fn shelf_of(alloc: Global, job: &str, cert: &str, fails: &[u32]) -> Result<MemShelf, Fail> {
     let mut files = List::new(alloc);
-    files.push((
-        Text::from_text(alloc, "J")?,
-        List::from_slice(alloc, file.as_bytes())?,
-    ))?;
+    for (name, text) in [("J", job), ("C", cert)] {
+        files.push((
+            Text::from_text(alloc, name)?,
+            List::from_slice(alloc, text.as_bytes())?,
+        ))?;
+    }
     Ok(MemShelf::new(files, List::from_slice(alloc, fails)?))
 }
 
-/// The status and the output of a run, on words that spaces part.
+/// The status of a run, on words that spaces part.
 fn ran(
     alloc: Global,
     words: &str,
-    file: &str,
-    fails: &[u32],
+    mut shelf: MemShelf,
     sink: &mut MemSink,
 ) -> Result<Status, Fail> {
     let mut list = Vec::new(alloc);
     for word in words.split(' ') {
         list.push(String::from_str(alloc, word)?)?;
     }
-    let mut shelf = shelf_of(alloc, file, fails)?;
     Ok(run(alloc, list.as_slice(), &mut shelf, sink))
 }
 
-#[test]
-fn answers(rt: HostRuntime) -> Result<(), Fail> {
-    let table = [
-        ("lay J 320 16", NESTED, Status::Done, NESTED_BOXES),
-        ("lay J 1 1", FLAT, Status::Done, FLAT_BOX),
-        (
-            "lay J 320 16",
-            "{",
-            Status::JobRefused,
-            "job-refused not-json\n",
-        ),
-        (
-            "lay J 320 16",
-            FALSE,
-            Status::JobRefused,
-            "job-refused not-yet\n",
-        ),
-        ("lay J 0 16", NESTED, Status::Usage, "usage\n"),
-        ("lay J 320 257", NESTED, Status::Usage, "usage\n"),
-        ("lay J 0320 16", NESTED, Status::Usage, "usage\n"),
-        ("lay J +320 16", NESTED, Status::Usage, "usage\n"),
-        ("lay  320 16", NESTED, Status::Usage, "usage\n"),
-        ("lie J 320 16", NESTED, Status::Usage, "usage\n"),
-        ("lay J 320", NESTED, Status::Usage, "usage\n"),
-        ("lay K 320 16", NESTED, Status::ReadFault, "read-fault\n"),
-    ];
-    for (words, file, status, output) in table {
+/// Words, a job file, a certificate file, the status and the output.
+type Row = (
+    &'static str,
+    &'static str,
+    &'static str,
+    Status,
+    &'static str,
+);
+
+fn check_rows(rt: &HostRuntime, rows: &[Row]) -> Result<(), Fail> {
+    for (words, job, cert, status, output) in rows {
         let mut sink = MemSink::new(rt.alloc(), 7, 4096, List::new(rt.alloc()))?;
+        let shelf = shelf_of(rt.alloc(), job, cert, &[])?;
         assert_eq!(rt;
-            ran(rt.alloc(), words, file, &[], &mut sink)?,
-            status,
+            ran(rt.alloc(), words, shelf, &mut sink)?,
+            *status,
             "{words}"
         );
         assert_eq!(rt; sink.written(), output.as_bytes(), "{words}");
@@ -83,16 +86,121 @@ fn answers(rt: HostRuntime) -> Result<(), Fail> {
 }
 
 #[test]
+fn lays(rt: HostRuntime) -> Result<(), Fail> {
+    check_rows(
+        &rt,
+        &[
+            ("lay J 320 16", NESTED, "", Status::Done, NESTED_BOXES),
+            ("lay J 1 1", FLAT, "", Status::Done, FLAT_BOX),
+            (
+                "lay J 320 16",
+                "{",
+                "",
+                Status::JobRefused,
+                "job-refused not-json\n",
+            ),
+            (
+                "lay J 320 16",
+                FALSE,
+                "",
+                Status::JobRefused,
+                "job-refused not-yet\n",
+            ),
+            ("lay J 0 16", NESTED, "", Status::Usage, "usage\n"),
+            ("lay J 320 257", NESTED, "", Status::Usage, "usage\n"),
+            ("lay J 0320 16", NESTED, "", Status::Usage, "usage\n"),
+            ("lay J +320 16", NESTED, "", Status::Usage, "usage\n"),
+            ("lay  320 16", NESTED, "", Status::Usage, "usage\n"),
+            ("lie J 320 16", NESTED, "", Status::Usage, "usage\n"),
+            ("lay J 320", NESTED, "", Status::Usage, "usage\n"),
+            (
+                "lay K 320 16",
+                NESTED,
+                "",
+                Status::ReadFault,
+                "read-fault\n",
+            ),
+        ],
+    )
+}
+
+#[test]
+fn proves_and_checks(rt: HostRuntime) -> Result<(), Fail> {
+    check_rows(
+        &rt,
+        &[
+            ("prove J 1", NESTED, "", Status::Done, NESTED_GRID),
+            ("prove J 161", NARROW, "", Status::Violated, WIDE_BOXES),
+            (
+                "prove J 0",
+                NARROW,
+                "",
+                Status::Undecided,
+                "undecided 320 400 16 16\n",
+            ),
+            ("prove J 01", NARROW, "", Status::Usage, "usage\n"),
+            ("prove J", NARROW, "", Status::Usage, "usage\n"),
+            ("check J C", NESTED, NESTED_GRID, Status::Done, "accepted\n"),
+            (
+                "check J C",
+                NARROW,
+                NARROW_GRID,
+                Status::CertRefused,
+                "rejected shape 0\n",
+            ),
+            (
+                "check J C",
+                NARROW,
+                NARROW_SPLIT,
+                Status::CertRefused,
+                "rejected untrue 1 400 16\n",
+            ),
+            (
+                "check J C",
+                NARROW,
+                ZERO_SPLIT,
+                Status::CertRefused,
+                "rejected other-job\n",
+            ),
+            (
+                "check J C",
+                NARROW,
+                "vizlog-cert 2",
+                Status::CertRefused,
+                "rejected grammar 12\n",
+            ),
+            ("check J K", NARROW, "", Status::ReadFault, "read-fault\n"),
+            (
+                "check K C",
+                NARROW,
+                NARROW_GRID,
+                Status::ReadFault,
+                "read-fault\n",
+            ),
+            (
+                "check J C",
+                "{",
+                NARROW_GRID,
+                Status::JobRefused,
+                "job-refused not-json\n",
+            ),
+        ],
+    )
+}
+
+#[test]
 fn faults(rt: HostRuntime) -> Result<(), Fail> {
     let mut sink = MemSink::new(rt.alloc(), 64, 4096, List::new(rt.alloc()))?;
+    let shelf = shelf_of(rt.alloc(), NESTED, "", &[0])?;
     assert_eq!(rt;
-        ran(rt.alloc(), "lay J 320 16", NESTED, &[0], &mut sink)?,
+        ran(rt.alloc(), "lay J 320 16", shelf, &mut sink)?,
         Status::ReadFault
     );
     assert_eq!(rt; sink.written(), b"read-fault\n".as_slice());
     let mut sink = MemSink::new(rt.alloc(), 64, 4096, List::from_slice(rt.alloc(), &[1])?)?;
+    let shelf = shelf_of(rt.alloc(), NESTED, "", &[])?;
     assert_eq!(rt;
-        ran(rt.alloc(), "lay J 320 16", NESTED, &[], &mut sink)?,
+        ran(rt.alloc(), "lay J 320 16", shelf, &mut sink)?,
         Status::WriteFault
     );
     let (front, _) = NESTED_BOXES.as_bytes().split_at(64);

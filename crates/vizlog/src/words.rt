@@ -4,6 +4,17 @@ ghost use Rattle.vizlog.specs.Words.{Asks, AskNothing, IsWorld, AsksInPlace};
 use itoa::Buffer;
 use viz_base::World;
 
+/// What the words ask for. The job's name is the second word, and that of a certificate the third.
+#[derive(Clone, Copy, Debug, PartialEq, Eq)]
+pub enum Command {
+    /// The rendering at a world.
+    Lay(World),
+    /// A certificate, within so many turns.
+    Prove(u64),
+    /// The verdict on a certificate.
+    Check,
+}
+
 /// The number that a word spells in decimal, without sign or leading zero.
 fn number_of(word: &str) -> Option<u64>
     ensures { MatchOption result ((n : ℕ) → n < 2 ^ 64 → word.now ≢ decimal n) (λ n. word.now ≡ decimal n) }
@@ -53,8 +64,8 @@ fn world_of(width: &str, size: &str) -> Option<World>
     Some(World { w, s })
 }
 
-/// The world that four words ask for: `lay JOB W S`.
-fn lay_of(verb: &str, job: &str, width: &str, size: &str) -> Option<World>
+/// What four words ask for: `lay JOB W S`.
+fn lay_of(verb: &str, job: &str, width: &str, size: &str) -> Option<Command>
     ensures { MatchOption result (AskNothing (verb.now ∷ job.now ∷ width.now ∷ size.now ∷ []))
         (AsksInPlace (verb.now ∷ job.now ∷ width.now ∷ size.now ∷ [])) }
 {
@@ -63,7 +74,7 @@ fn lay_of(verb: &str, job: &str, width: &str, size: &str) -> Option<World>
     }
     if verb == "lay" {
         match world_of(width, size) {
-            Some(world) => Some(world),
+            Some(world) => Some(Command::Lay(world)),
             None => None,
         }
     } else {
@@ -71,8 +82,36 @@ fn lay_of(verb: &str, job: &str, width: &str, size: &str) -> Option<World>
     }
 }
 
-/// The world that the words ask for, if they are `lay JOB W S`. It takes no memory.
-pub fn asked_world(words: &[String]) -> Option<World>
+/// What `prove JOB TURNS` asks for.
+fn prove_of(job: &str, turns: &str) -> Option<Command>
+    ensures { MatchOption result (AskNothing (codes "prove" ∷ job.now ∷ turns.now ∷ []))
+        (AsksInPlace (codes "prove" ∷ job.now ∷ turns.now ∷ [])) }
+{
+    if job.is_empty() {
+        return None;
+    }
+    match number_of(turns) {
+        Some(turns) => Some(Command::Prove(turns)),
+        None => None,
+    }
+}
+
+/// What three words ask for: `prove JOB TURNS` or `check JOB CERT`.
+fn prove_or_check_of(verb: &str, job: &str, last: &str) -> Option<Command>
+    ensures { MatchOption result (AskNothing (verb.now ∷ job.now ∷ last.now ∷ []))
+        (AsksInPlace (verb.now ∷ job.now ∷ last.now ∷ [])) }
+{
+    if verb == "prove" {
+        return prove_of(job, last);
+    }
+    if verb != "check" || job.is_empty() || last.is_empty() {
+        return None;
+    }
+    Some(Command::Check)
+}
+
+/// What the words ask for, if they are of a form. It takes no memory.
+pub fn command_of(words: &[String]) -> Option<Command>
     ensures { MatchOption result (AskNothing (map string_bytes words.now)) (AsksInPlace (map string_bytes words.now)) }
 {
     match words {
@@ -82,6 +121,7 @@ pub fn asked_world(words: &[String]) -> Option<World>
             width.as_str(),
             size.as_str(),
         ),
+        [verb, job, last] => prove_or_check_of(verb.as_str(), job.as_str(), last.as_str()),
         _ => None,
     }
 }
