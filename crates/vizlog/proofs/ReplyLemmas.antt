@@ -1,5 +1,5 @@
 -- Replies by what was found.
-use Rattle.std.proofs.Common.{◌≡◌, ◌≢◌, ◌⊎◌, inl, inr, ℕ, ℤ, subst, ◌+◌, ◌<◌, ◌≤◌, ◌^◌, List, [], ◌∷◌, ◌++◌, length, codes, refl, sym, arith}
+use Rattle.std.proofs.Common.{◌≡◌, ◌≢◌, inl, inr, ℕ, ℤ, subst, ◌<◌, ◌≤◌, ◌^◌, List, [], ◌∷◌, ◌++◌, length, codes, refl, sym, arith}
 use Rattle.std.specs.List.{flat_map}
 use Rattle.viz_base.specs.declared.worlds.World.{World}
 use Rattle.viz_base.specs.declared.renderings.Rendering.{Rendering}
@@ -22,9 +22,9 @@ use Rattle.vizlog.specs.declared.status.Status.{Status}
 use Rattle.vizlog.specs.declared.status.Status.TheVariants as ends
 use Rattle.vizlog.specs.declared.words.Command.{Command}
 use Rattle.vizlog.specs.declared.words.Command.TheVariants as asks_for
-use Rattle.vizlog.specs.Files.{Files, HoldsJob, HoldsCert, cert_most}
+use Rattle.vizlog.specs.Files.{Files, HoldsJob, HoldsCert}
 use Rattle.vizlog.specs.Replies.{IsReply, IsNoJob, violation_text}
-use Rattle.vizlog.specs.Loads.{IsVerdictReply, IsPrintable, IsOutcomeReply, IsProveReply, IsCheckReply, IsCertMissing}
+use Rattle.vizlog.specs.Loads.{IsPrintable, IsOutcomeReply, IsProveReply, IsCheckReply, IsCertMissing}
 
 -- ---- certificates that were read
 

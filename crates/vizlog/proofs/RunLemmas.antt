@@ -1,12 +1,11 @@
 -- What a load tells of a job file.
-use Rattle.std.proofs.Common.{◌≡◌, ◌∷◌, [], ℕ, ◌+◌, ◌<◌, List, Bool, true, false, Option, Some, None, IfSome, option_map, length, codes, nat_le, replicate, arith, refl, sym, ap, IsTrue, zero, suc, get_or, map}
+use Rattle.std.proofs.Common.{◌≡◌, ◌∷◌, [], ℕ, ◌+◌, ◌<◌, List, Bool, true, false, Option, Some, None, IfSome, option_map, length, codes, nat_le, replicate, arith, refl, sym, ap, zero, suc, get_or, map}
 use Rattle.std.proofs.lemmas.List.{length-replicate}
 use Rattle.std.proofs.lemmas.Bool.Decides.{nat_tests}
-use Rattle.viz_outside.specs.declared.shelf.Loaded.{Loaded}
-use Rattle.viz_outside.specs.declared.shelf.Loaded.TheVariants.{Whole, Longer}
+use Rattle.viz_outside.specs.declared.shelf.Loaded.TheVariants.{Longer}
 use Rattle.viz_outside.specs.Shelf.{loaded_of}
 use Rattle.vizlog.specs.Files.{Files, MayHold, IsTooLong, job_most, IsTooLongCert, cert_most}
-use Rattle.vizlog.specs.Words.{word_at, Asks, AsksInPlace}
+use Rattle.vizlog.specs.Words.{word_at, AsksInPlace}
 use Rattle.vizlog.specs.declared.words.Command.{Command}
 use Rattle.vizlog.specs.declared.words.Command.TheVariants as asks_for
 

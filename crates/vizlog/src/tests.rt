@@ -1,5 +1,7 @@
-use crate::run::{Status, run};
+use crate::run::run;
+use crate::status::Status;
 use std::alloc::Global;
+use std::process::Abort;
 use std::test::Fail;
 use viz_base::{List, Text};
 use viz_outside::{MemShelf, MemSink};
@@ -71,15 +73,11 @@ type Row = (
     &'static str,
 );
 
-fn check_rows(rt: &HostRuntime, rows: &[Row]) -> Result<(), Fail> {
+fn check_rows(rt: &impl Abort, alloc: Global, rows: &[Row]) -> Result<(), Fail> {
     for (words, job, cert, status, output) in rows {
-        let mut sink = MemSink::new(rt.alloc(), 7, 4096, List::new(rt.alloc()))?;
-        let shelf = shelf_of(rt.alloc(), job, cert, &[])?;
-        assert_eq!(rt;
-            ran(rt.alloc(), words, shelf, &mut sink)?,
-            *status,
-            "{words}"
-        );
+        let mut sink = MemSink::new(alloc, 7, 4096, List::new(alloc))?;
+        let shelf = shelf_of(alloc, job, cert, &[])?;
+        assert_eq!(rt; ran(alloc, words, shelf, &mut sink)?, *status, "{words}");
         assert_eq!(rt; sink.written(), output.as_bytes(), "{words}");
     }
     Ok(())
@@ -89,6 +87,7 @@ fn check_rows(rt: &HostRuntime, rows: &[Row]) -> Result<(), Fail> {
 fn lays(rt: HostRuntime) -> Result<(), Fail> {
     check_rows(
         &rt,
+        rt.alloc(),
         &[
             ("lay J 320 16", NESTED, "", Status::Done, NESTED_BOXES),
             ("lay J 1 1", FLAT, "", Status::Done, FLAT_BOX),
@@ -128,6 +127,7 @@ fn lays(rt: HostRuntime) -> Result<(), Fail> {
 fn proves_and_checks(rt: HostRuntime) -> Result<(), Fail> {
     check_rows(
         &rt,
+        rt.alloc(),
         &[
             ("prove J 1", NESTED, "", Status::Done, NESTED_GRID),
             ("prove J 161", NARROW, "", Status::Violated, WIDE_BOXES),
