@@ -13,7 +13,7 @@ import tempfile
 TOP = pathlib.Path(__file__).resolve().parent.parent
 BOXES = (3, 100)
 WORLDS = (4096, 8192, 16384)
-RUNS = 5
+RUNS = 40
 
 
 def element(height, children=()):
