@@ -4,3 +4,4 @@ pub mod Files
 pub mod Replies
 pub mod Loads
 pub mod Run
+pub mod Headline

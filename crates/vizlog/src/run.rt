@@ -1,8 +1,9 @@
-ghost use Rattle.std.specs.Prelude.{◌≡◌, ◌≢◌, ◌⊎◌, IfOk, IsTrue, map, string_bytes};
+ghost use Rattle.std.specs.Prelude.{◌≡◌, ◌≢◌, ◌⊎◌, ℕ, IfOk, IsTrue, map, string_bytes};
 ghost use Rattle.viz_outside.specs.Fault.{Rose};
 ghost use Rattle.vizlog.specs.Words.{IsWithin, AsksInPlace, word_at};
 ghost use Rattle.vizlog.specs.Replies.{IsReply};
 ghost use Rattle.vizlog.specs.Run.{Delivers, IsObeyed, IsOutcome};
+ghost use Rattle.vizlog.specs.Headline.{IsTrueEverywhere, IsFalseSomewhere};
 ghost use Rattle.vizlog.specs.declared.words.Command.{Command};
 
 use crate::files::{JobFile, load_job};
@@ -70,13 +71,8 @@ fn obey<F: Shelf, K: Sink>(
     }
 }
 
-/// Runs the program on its words, over a shelf of files and a sink for its output.
-pub fn run<F: Shelf, K: Sink>(
-    alloc: Global,
-    words: &[String],
-    shelf: &mut F,
-    sink: &mut K,
-) -> Status
+/// What `run` does, with its outcome alone.
+fn answer<F: Shelf, K: Sink>(alloc: Global, words: &[String], shelf: &mut F, sink: &mut K) -> Status
     // The words are of no form, or the reply to the command that they ask for is written.
     ensures outcome { IsOutcome (F.files shelf.old) (map string_bytes words.now) (K.written sink.old) (K.written sink.new)
         (K.faults sink.old) (K.faults sink.new) result }
@@ -97,4 +93,31 @@ pub fn run<F: Shelf, K: Sink>(
         ),
         None => deliver(sink, Status::Usage, b"usage\n"),
     }
+}
+
+/// Runs the program on its words, over a shelf of files and a sink for its output.
+pub fn run<F: Shelf, K: Sink>(
+    alloc: Global,
+    words: &[String],
+    shelf: &mut F,
+    sink: &mut K,
+) -> Status
+    // Where `check` accepts, the job's assertion is true of the CSS 2.1 rendering at every world of its range.
+    ensures accepted { result ≡ Status.Done → AsksInPlace (map string_bytes words.now) Command.Check
+        → IsTrueEverywhere (F.files shelf.old) (word_at (map string_bytes words.now) 1) }
+    // So it is where `prove` says that it is proved,
+    ensures proved { (turns : ℕ) → result ≡ Status.Done → AsksInPlace (map string_bytes words.now) (Command.Prove turns)
+        → IsTrueEverywhere (F.files shelf.old) (word_at (map string_bytes words.now) 1) }
+    // and where a run says Violated, the assertion is false at a world of the range.
+    ensures violated { result ≡ Status.Violated → IsFalseSomewhere (F.files shelf.old) (word_at (map string_bytes words.now) 1) }
+    // The words are of no form, or the reply to the command that they ask for is written.
+    ensures outcome { IsOutcome (F.files shelf.old) (map string_bytes words.now) (K.written sink.old) (K.written sink.new)
+        (K.faults sink.old) (K.faults sink.new) result }
+    ensures read_fault { result ≡ Status.ReadFault → Rose (F.faults shelf.old) (F.faults shelf.new) }
+    ensures sure { IsTrue (F.sure shelf.old (word_at (map string_bytes words.now) 1))
+        → (AsksInPlace (map string_bytes words.now) Command.Check → IsTrue (F.sure shelf.old (word_at (map string_bytes words.now) 2)))
+        → result ≢ Status.ReadFault }
+    ensures write_fault { result ≡ Status.WriteFault → Rose (K.faults sink.old) (K.faults sink.new) }
+{
+    answer(alloc, words, shelf, sink)
 }
