@@ -3,7 +3,7 @@ use Rattle.std.specs.Prelude.{ℕ, Bool, true, false, not, ◌||◌, ◌==◌, L
 use Rattle.std.specs.Option.{option_map_or}
 use Rattle.viz_base.specs.declared.trees.Kind.{Kind}
 use Rattle.viz_base.specs.declared.trees.Kind.TheVariants as of_kind
-use Rattle.layout_semantics.specs.Lists.{chosen}
+use Rattle.layout_semantics.specs.Lists.{chosen, one_if}
 use Rattle.layout_semantics.specs.Parts.{Part, Level}
 
 -- What stands in the inline content of a block container. Inline boxes and floats are no such things: white space
@@ -51,25 +51,34 @@ keeps_white (Thing.letter node c) = not (is_white c)
 keeps_white Thing.atom = true
 keeps_white Thing.edge = false
 
--- what stays of a thing, by the thing before it: white space stays as one space
-abbrev pub stays : Thing → Thing → List (ℕ × ℕ)
+-- what stays of a thing, by the thing before it: white space stays as a space
+abbrev pub stays : Thing → Thing → List Thing
 stays before (Thing.letter node c) =
-    if not (is_white c) then (node, c) ∷ [] else (if keeps_white before then (node, 32) ∷ [] else [])
-stays before Thing.atom = []
-stays before Thing.edge = []
+    if not (is_white c) then Thing.letter node c ∷ []
+    else (if keeps_white before then Thing.letter node 32 ∷ [] else [])
+stays before Thing.atom = Thing.atom ∷ []
+stays before Thing.edge = Thing.edge ∷ []
 
--- The characters that stay, each with its node. A run of white space stays as its first character, a space; a run after
--- which nothing stands stays too; a run with which the inline content starts, and one after a forced line break, goes.
-abbrev pub kept : List Thing → List (ℕ × ℕ)
-kept things = flat_map (λ (pair : Thing × Thing). stays pair.0 pair.1) (zip (Thing.edge ∷ things) things)
+-- The things of a block container without the white space that goes: of a run of white space its first character stays,
+-- as a space; but a run with which the content starts, and one after a forced line break or a block, goes whole. White
+-- space at the end of the content stays.
+abbrev pub collapsed_things : List Thing → List Thing
+collapsed_things things = flat_map (λ (pair : Thing × Thing). stays pair.0 pair.1) (zip (Thing.edge ∷ things) things)
 
--- those of one text
-abbrev pub kept_of : ℕ → List (ℕ × ℕ) → List ℕ
-kept_of node letters = map (λ (l : ℕ × ℕ). l.1) (chosen (λ (l : ℕ × ℕ). l.0 == node) letters)
+-- the characters of the text of a node
+abbrev pub letter_of : ℕ → Thing → List ℕ
+letter_of node (Thing.letter from c) = one_if (from == node) c
+letter_of node Thing.atom = []
+letter_of node Thing.edge = []
 
--- a part with the characters that stay of it
+abbrev pub letters_of : ℕ → List Thing → List ℕ
+letters_of node things = flat_map (letter_of node) things
+
+-- a part with the characters that stay of its text
 abbrev pub collapsed_part : List Part → Part → Part
-collapsed_part parts p = record p { text = option_map_or (λ c. kept_of p.node (kept (things_in parts c))) p.container [] }
+collapsed_part parts p = record p {
+    text = option_map_or (λ c. letters_of p.node (collapsed_things (things_in parts c))) p.container []
+  }
 
 -- a text of which nothing stays makes no box
 abbrev pub is_bare : Part → Bool
