@@ -47,6 +47,9 @@ tree_style_at clip styles entry =
 abbrev pub tree_styles : List Node → List Style → List Style
 tree_styles nodes styles = flat_map (tree_style_at (viewport_clip nodes styles) styles) (enumerate_from 0 nodes)
 
+abbrev pub tree_parents : List Node → List (Option ℕ)
+tree_parents nodes = map (λ (n : Node). n.parent) nodes
+
 -- ---- anonymous block boxes (CSS 2.1, 9.2.1.1)
 
 abbrev pub is_block_level : Level → Bool

@@ -9,4 +9,5 @@ pub mod Parts
 pub mod WhiteSpace
 pub mod BoxTrees
 pub mod Directions
+pub mod Reaches
 pub mod Refusals
