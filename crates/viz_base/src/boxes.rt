@@ -18,12 +18,14 @@ impl<T> Model for Boxed<T> {
 }
 
 impl<T> Boxed<T> {
+    /// The value.
     pub fn get(&self) -> &T
         ensures { result.now ≡ self.now }
     {
         &self.inner
     }
 
+    /// The value, out of its box.
     pub fn into_inner(self) -> T
         ensures { result ≡ self }
     {
@@ -33,6 +35,7 @@ impl<T> Boxed<T> {
 }
 
 impl<T: Drop> Boxed<T> {
+    /// A value in a box of its own; fails for want of memory alone.
     pub fn new(alloc: Global, value: T) -> Result<Self, AllocError>
         ensures { IfOk result (λ b. b ≡ value) }
     {

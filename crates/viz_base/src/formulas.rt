@@ -13,7 +13,8 @@ pub enum Formula {
     And(Boxed<Formula>, Boxed<Formula>),
     Not(Boxed<Formula>),
     Cmp(Term, Sign, Term),
-    /// The border rectangles of two members have an inner point in common.
+    /// Each of the border rectangles of two members begins before the other ends, from left to right and from
+    /// top to bottom.
     Overlap(u32, u32),
     /// Two names stand for one member of the rendering.
     Same(u32, u32),

@@ -28,6 +28,7 @@ impl<T> Model for List<T> {
 }
 
 impl<T> List<T> {
+    /// A list of nothing, which takes no memory.
     pub fn new(alloc: Global) -> Self
         ensures { result ≡ [] }
     {
@@ -41,24 +42,28 @@ impl<T> List<T> {
         *self.items.allocator()
     }
 
+    /// The number of its items.
     pub fn len(&self) -> usize
         ensures { result ≡ length self.now }
     {
         self.items.len()
     }
 
+    /// Whether it has no item.
     pub fn is_empty(&self) -> bool
         ensures { IsTrue result ↔ (self.now ≡ []) }
     {
         self.items.is_empty()
     }
 
+    /// Its items as a slice.
     pub fn as_slice(&self) -> &[T]
         ensures { result.now ≡ self.now }
     {
         self.items.as_slice()
     }
 
+    /// The item at a place, from 0; none past the end.
     pub fn get(&self, at: usize) -> Option<&T>
         ensures value { option_copied result ≡ slice_get self.now at }
         ensures within { OnSome result (at < length self.now) }
@@ -66,6 +71,7 @@ impl<T> List<T> {
         self.items.get(at)
     }
 
+    /// Runs over its items from first to last.
     pub fn iter(&self) -> Iter<'_, T>
         ensures rest { iter_rest result ≡ self.now }
         ensures runs { EveryRun (iter_steps {A = T}) (λ p. ItemsMapTo p (λ y. y.now) (iter_rest p.from)) }
@@ -73,6 +79,7 @@ impl<T> List<T> {
         self.items.as_slice().iter()
     }
 
+    /// Its items as a vector.
     pub fn into_vec(self) -> Vec<T>
         ensures { result.items ≡ self }
     {
@@ -82,6 +89,7 @@ impl<T> List<T> {
 }
 
 impl<T: Copy> List<T> {
+    /// A list of the items of a slice; fails for want of memory alone.
     pub fn from_slice(alloc: Global, items: &[T]) -> Result<Self, AllocError>
         ensures { IfOk result (λ l. l ≡ items.now) }
     {
@@ -92,12 +100,14 @@ impl<T: Copy> List<T> {
 }
 
 impl<T: Drop> List<T> {
+    /// Keeps the first `len` items.
     pub fn truncate(&mut self, len: usize)
         ensures { self.new ≡ take len self.old }
     {
         self.items.truncate(len);
     }
 
+    /// Adds an item at the end; fails for want of memory alone, and the list is then as before.
     pub fn push(&mut self, item: T) -> Result<(), AllocError>
         ensures ok { OnOk result (self.new ≡ self.old ++ item ∷ []) }
         ensures err { OnErr result (self.new ≡ self.old) }

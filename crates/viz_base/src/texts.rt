@@ -21,6 +21,7 @@ impl Model for Text {
 }
 
 impl Text {
+    /// A text without a character, which takes no memory.
     pub fn new(alloc: Global) -> Self
         ensures { result ≡ [] }
     {
@@ -29,6 +30,7 @@ impl Text {
         }
     }
 
+    /// A text of its own; fails for want of memory alone.
     pub fn from_text(alloc: Global, text: &str) -> Result<Self, AllocError>
         ensures { IfOk result (λ t. t ≡ text.now) }
     {
@@ -37,18 +39,21 @@ impl Text {
         })
     }
 
+    /// The number of its bytes.
     pub fn len(&self) -> usize
         ensures { result ≡ length self.now }
     {
         self.inner.len()
     }
 
+    /// Its characters as a slice.
     pub fn as_str(&self) -> &str
         ensures { result.now ≡ self.now }
     {
         self.inner.as_str()
     }
 
+    /// Adds a character at the end; fails for want of memory alone, and the text is then as before.
     pub fn push(&mut self, letter: char) -> Result<(), AllocError>
         ensures ok { OnOk result (self.new ≡ self.old ++ encode_utf8 letter) }
         ensures err { OnErr result (self.new ≡ self.old) }
@@ -56,6 +61,7 @@ impl Text {
         self.inner.push(letter)
     }
 
+    /// Adds the characters of a text at the end; fails for want of memory alone, and the text is then as before.
     pub fn push_str(&mut self, text: &str) -> Result<(), AllocError>
         ensures ok { OnOk result (self.new ≡ self.old ++ text.now) }
         ensures err { OnErr result (self.new ≡ self.old) }
@@ -63,6 +69,7 @@ impl Text {
         self.inner.push_str(text)
     }
 
+    /// Its characters as a string.
     pub fn into_string(self) -> String
         ensures { string_bytes result ≡ self }
     {

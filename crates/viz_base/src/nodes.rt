@@ -1,0 +1,32 @@
+use crate::{List, Text};
+
+/// An element or a text, with the place of the element that it is in.
+#[derive(Debug, Drop)]
+pub struct Node {
+    pub parent: Option<u32>,
+    pub body: Body,
+}
+
+/// What a node is.
+#[derive(Debug, Drop)]
+pub enum Body {
+    Element(Element),
+    /// A text, with its characters.
+    Chars(Text),
+}
+
+/// An element. Its tag and the names of its attributes are in lower case.
+#[derive(Debug, Drop)]
+pub struct Element {
+    pub tag: Text,
+    pub attrs: List<Attr>,
+    /// The intrinsic width and height of a replaced element, in whole pixels.
+    pub size: Option<(u32, u32)>,
+}
+
+/// An attribute.
+#[derive(Debug, Drop)]
+pub struct Attr {
+    pub name: Text,
+    pub value: Text,
+}
