@@ -11,3 +11,10 @@ pub mod BoxTrees
 pub mod Directions
 pub mod Reaches
 pub mod Refusals
+pub mod Extremes
+pub mod Floats
+pub mod Margins
+pub mod Fonts
+pub mod Lengths
+pub mod DefiniteHeights
+pub mod Replaced
