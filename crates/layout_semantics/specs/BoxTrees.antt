@@ -1,5 +1,5 @@
 -- The box tree of a page and its styles (CSS 2.1, 9.2).
-use Rattle.std.specs.Prelude.{ℕ, ◌+◌, Bool, true, false, not, ◌&&◌, ◌||◌, ◌==◌, nat_lt, List, [], ◌∷◌, ◌++◌, map, length, find, flat_map, Option, Some, None, option_map, option_to_list, slice_get, slice_index, if◌then◌else◌, encode_utf8_all, codes}
+use Rattle.std.specs.Prelude.{sum, unwrap_or, option_and_then, ℕ, ◌+◌, Bool, true, false, not, ◌&&◌, ◌||◌, ◌==◌, nat_lt, List, [], ◌∷◌, map, find, flat_map, Option, Some, None, option_map, option_to_list, slice_get, slice_index, if◌then◌else◌, encode_utf8_all, codes}
 use Rattle.std.specs.List.{list_any, enumerate_from}
 use Rattle.std.specs.Option.{option_map_or}
 use Rattle.viz_base.specs.Pages.{is_element}
@@ -8,7 +8,7 @@ use Rattle.viz_base.specs.declared.styles.Style.{Style}
 use Rattle.viz_base.specs.declared.trees.BoxNode.{BoxNode}
 use Rattle.viz_base.specs.declared.trees.Kind.TheVariants as of_kind
 use Rattle.layout_semantics.specs.Elements.{has_tag, node_passes}
-use Rattle.layout_semantics.specs.Lists.{chosen}
+use Rattle.layout_semantics.specs.Lists.{chosen, one_if}
 use Rattle.layout_semantics.specs.Parts.{Part, Level, shown_parts}
 use Rattle.layout_semantics.specs.WhiteSpace.{is_in, collapsed}
 
@@ -86,73 +86,99 @@ needs_box = list_any (λ (p : Part). not (is_floated_level p.level))
 abbrev pub wrapped_in : List Part → List (List Part)
 wrapped_in kids = if list_any is_block_part kids then chosen needs_box (runs_of kids) else []
 
--- the nodes of each run that an anonymous block box holds
-abbrev pub wrapped : List Part → List (List ℕ)
-wrapped parts = flat_map (λ (p : Part). map (map (λ (k : Part). k.node)) (wrapped_in (parts_in parts p.node))) parts
+abbrev pub nodes_of : List Part → List ℕ
+nodes_of run = map (λ (p : Part). p.node) run
+
+abbrev pub has_node : ℕ → List ℕ → Bool
+has_node node run = list_any (λ k. k == node) run
+
+-- the nodes of the run around a part that an anonymous block box holds, if one holds it
+abbrev pub run_around : List Part → Part → Option (List ℕ)
+run_around parts p = option_and_then (λ parent. find (has_node p.node) (map nodes_of (wrapped_in (parts_in parts parent)))) p.parent
+
+-- a part and that run
+pub record Item : Type 0 where
+  pub part : Part
+  pub run : Option (List ℕ)
+
+abbrev pub items_of : List Part → List Item
+items_of parts = map (λ p. record { part = p; run = run_around parts p }) parts
+
+-- ---- places
 
 abbrev pub first_of : List ℕ → ℕ
 first_of run = slice_index run 0
 
-abbrev pub run_with : List (List ℕ) → ℕ → Option (List ℕ)
-run_with runs node = find (list_any (λ k. k == node)) runs
+-- an anonymous block box begins with this part
+abbrev pub begins_run : Item → Bool
+begins_run item = option_map_or (λ run. first_of run == item.part.node) item.run false
 
-abbrev pub begins_run : List (List ℕ) → ℕ → Bool
-begins_run runs node = list_any (λ run. first_of run == node) runs
+-- the anonymous block box that begins with it, if one does, and its own box
+abbrev pub box_count : Item → ℕ
+box_count item = if begins_run item then 2 else 1
 
--- ---- places
+abbrev pub is_before : ℕ → Item → Bool
+is_before node item = nat_lt item.part.node node
 
--- how many boxes come before a node's own and before the anonymous block box that begins at it
-abbrev pub boxes_before : List Part → List (List ℕ) → ℕ → ℕ
-boxes_before parts runs node =
-    length (chosen (λ (p : Part). nat_lt p.node node) parts) + length (chosen (λ run. nat_lt (first_of run) node) runs)
+-- The places of boxes are those in document order, an anonymous block box directly before the first box in it. How many
+-- boxes come before those of a node:
+abbrev pub boxes_before : List Item → ℕ → ℕ
+boxes_before items node = sum (map box_count (chosen (is_before node) items))
 
--- boxes stand in document order, an anonymous block box before the first box in it: a box's place is the number of
--- boxes before it
-abbrev pub anonymous_place : List Part → List (List ℕ) → List ℕ → ℕ
-anonymous_place parts runs run = boxes_before parts runs (first_of run)
+-- the place of the anonymous block box that begins with a node's box
+abbrev pub anonymous_place : List Item → ℕ → ℕ
+anonymous_place items node = boxes_before items node
 
-abbrev pub own_place : List Part → List (List ℕ) → ℕ → ℕ
-own_place parts runs node = boxes_before parts runs node + (if begins_run runs node then 1 else 0)
+abbrev pub begins_at : List Item → ℕ → Bool
+begins_at items node = list_any (λ (item : Item). item.part.node == node && begins_run item) items
+
+-- the place of a node's own box
+abbrev pub own_place : List Item → ℕ → ℕ
+own_place items node = boxes_before items node + (if begins_at items node then 1 else 0)
 
 -- the place of the box that a part is directly in
-abbrev pub outer_place : List Part → List (List ℕ) → Part → Option ℕ
-outer_place parts runs p = by_run (run_with runs p.node)
+abbrev pub outer_place : List Item → Item → Option ℕ
+outer_place items item = by_run item.run
   where
     by_run : Option (List ℕ) → Option ℕ
-    by_run (Some run) = Some (anonymous_place parts runs run)
-    by_run None = option_map (own_place parts runs) p.parent
+    by_run (Some run) = Some (anonymous_place items (first_of run))
+    by_run None = option_map (own_place items) item.part.parent
 
--- the places of the boxes directly in a node's box: those of its parts, or of the anonymous block boxes around them
-abbrev pub kid_places : List Part → List (List ℕ) → ℕ → List ℕ
-kid_places parts runs node = flat_map place (parts_in parts node)
+-- the place of the box directly in a node's box that is a part's or the anonymous block box that begins with it
+abbrev pub kid_place : List Item → Item → List ℕ
+kid_place items item = by_run item.run
   where
-    by_run : Part → Option (List ℕ) → List ℕ
-    by_run p (Some run) = if first_of run == p.node then anonymous_place parts runs run ∷ [] else []
-    by_run p None = own_place parts runs p.node ∷ []
-    place : Part → List ℕ
-    place p = by_run p (run_with runs p.node)
+    by_run : Option (List ℕ) → List ℕ
+    by_run (Some run) = one_if (first_of run == item.part.node) (anonymous_place items item.part.node)
+    by_run None = own_place items item.part.node ∷ []
+
+abbrev pub items_in : List Item → ℕ → List Item
+items_in items node = chosen (λ (item : Item). is_in node item.part.parent) items
+
+abbrev pub kid_places : List Item → ℕ → List ℕ
+kid_places items node = flat_map (kid_place items) (items_in items node)
 
 -- ---- boxes
 
-abbrev pub own_box : List Part → List (List ℕ) → Part → BoxNode
-own_box parts runs p = record {
-    kind = p.kind;
-    node = p.node;
-    parent = outer_place parts runs p;
-    kids = kid_places parts runs p.node;
-    chars = encode_utf8_all p.text;
-    size = p.size;
-    context = p.context;
-    block_level = is_block_level p.level || is_floated_level p.level
+abbrev pub own_box : List Item → Item → BoxNode
+own_box items item = record {
+    kind = item.part.kind;
+    node = item.part.node;
+    parent = outer_place items item;
+    kids = kid_places items item.part.node;
+    chars = encode_utf8_all item.part.text;
+    size = item.part.size;
+    context = item.part.context;
+    block_level = is_block_level item.part.level || is_floated_level item.part.level
   }
 
--- the anonymous block box of a run in a node's box
-abbrev pub anonymous_box : List Part → List (List ℕ) → List ℕ → ℕ → BoxNode
-anonymous_box parts runs run node = record {
+-- the anonymous block box of a run that begins with a part; its node is that of the element around it
+abbrev pub anonymous_box : List Item → Part → List ℕ → BoxNode
+anonymous_box items p run = record {
     kind = of_kind.Anon;
-    node = node;
-    parent = Some (own_place parts runs node);
-    kids = map (own_place parts runs) run;
+    node = unwrap_or p.parent 0;
+    parent = option_map (own_place items) p.parent;
+    kids = map (own_place items) run;
     chars = [];
     size = None;
     context = false;
@@ -160,16 +186,15 @@ anonymous_box parts runs run node = record {
   }
 
 -- a part's box, after the anonymous block box that begins with it
-abbrev pub boxes_at : List Part → List (List ℕ) → Part → List BoxNode
-boxes_at parts runs p =
-    flat_map (λ run. map (anonymous_box parts runs run) (option_to_list p.parent)) (chosen (λ run. first_of run == p.node) runs)
-    ++ (own_box parts runs p ∷ [])
+abbrev pub boxes_at : List Item → Item → List BoxNode
+boxes_at items item = by_run (begins_run item) item.run
+  where
+    by_run : Bool → Option (List ℕ) → List BoxNode
+    by_run true (Some run) = anonymous_box items item.part run ∷ own_box items item ∷ []
+    by_run _ _ = own_box items item ∷ []
 
-abbrev pub boxes_with : List Part → List (List ℕ) → List BoxNode
-boxes_with parts runs = flat_map (boxes_at parts runs) parts
-
-abbrev pub boxes_of_parts : List Part → List BoxNode
-boxes_of_parts parts = boxes_with parts (wrapped parts)
+abbrev pub boxes_of : List Item → List BoxNode
+boxes_of items = flat_map (boxes_at items) items
 
 -- the parts of a page whose styles are those of the tree
 abbrev pub page_parts : List Node → List Style → List Part
@@ -177,4 +202,4 @@ page_parts nodes styles = collapsed (shown_parts nodes (tree_styles nodes styles
 
 -- the boxes of a page and the styles of its nodes, in document order, a container before its content
 abbrev pub page_boxes : List Node → List Style → List BoxNode
-page_boxes nodes styles = boxes_of_parts (page_parts nodes styles)
+page_boxes nodes styles = boxes_of (items_of (page_parts nodes styles))
