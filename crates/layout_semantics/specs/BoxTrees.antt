@@ -186,12 +186,12 @@ anonymous_box items p run = record {
   }
 
 -- a part's box, after the anonymous block box that begins with it
+abbrev pub with_anonymous : List Item → Item → (begins : Bool) → Option (List ℕ) → List BoxNode
+with_anonymous items item true (Some run) = anonymous_box items item.part run ∷ own_box items item ∷ []
+with_anonymous items item _ _ = own_box items item ∷ []
+
 abbrev pub boxes_at : List Item → Item → List BoxNode
-boxes_at items item = by_run (begins_run item) item.run
-  where
-    by_run : Bool → Option (List ℕ) → List BoxNode
-    by_run true (Some run) = anonymous_box items item.part run ∷ own_box items item ∷ []
-    by_run _ _ = own_box items item ∷ []
+boxes_at items item = with_anonymous items item (begins_run item) item.run
 
 abbrev pub boxes_of : List Item → List BoxNode
 boxes_of items = flat_map (boxes_at items) items

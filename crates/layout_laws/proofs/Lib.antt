@@ -1,0 +1,5 @@
+pub mod Members
+pub mod Places
+pub mod Kids
+pub mod Nesting
+pub mod Runs
