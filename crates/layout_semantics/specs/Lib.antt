@@ -10,3 +10,7 @@ pub mod Fonts
 pub mod Lengths
 pub mod DefiniteHeights
 pub mod Replaced
+pub mod InlineContent
+pub mod Stretches
+pub mod Preferred
+pub mod Horizontal
