@@ -16,7 +16,7 @@ use Rattle.viz_base.specs.declared.worlds.World.{World}
 use Rattle.layout_semantics.specs.Blocks.{kind_of}
 use Rattle.layout_semantics.specs.Lengths.{used, used_unless_auto, maximum, own, nothing, margins, borders, paddings}
 use Rattle.layout_semantics.specs.Replaced.{replaced_size}
-use Rattle.layout_semantics.specs.InlineContent.{is_floated, is_inline_level}
+use Rattle.layout_semantics.specs.InlineContent.{is_floated_at, is_inline_level_at}
 use Rattle.layout_semantics.specs.Preferred.{preferred}
 
 -- ---- the seven terms (CSS 2.1, 10.3.3)
@@ -112,7 +112,7 @@ pub data Placing : Type 0 where
   replaced_shrunk : Placing
 
 abbrev pub placing_of : BoxTree → ℕ → Placing
-placing_of tree at = by_kind (kind_of tree at) (is_floated tree at) (is_inline_level tree at)
+placing_of tree at = by_kind (kind_of tree at) (is_floated_at tree at) (is_inline_level_at tree at)
   where
     by_kind : Kind → Bool → Bool → Placing
     by_kind of_kind.Replaced false false = replaced_block

@@ -14,3 +14,5 @@ pub mod InlineContent
 pub mod Stretches
 pub mod Preferred
 pub mod Horizontal
+pub mod LineHeights
+pub mod LineFilling

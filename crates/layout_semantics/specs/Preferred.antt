@@ -16,7 +16,7 @@ use Rattle.layout_semantics.specs.Blocks.{kind_of, node_of}
 use Rattle.layout_semantics.specs.Fonts.{text_width}
 use Rattle.layout_semantics.specs.Lengths.{used_if_absolute, maximum, held, total, own, nothing, margins, borders, paddings}
 use Rattle.layout_semantics.specs.Replaced.{preferred_replaced}
-use Rattle.layout_semantics.specs.InlineContent.{Item, start, finish, word, space, atomic, forced, float, content, holds_inline, is_floated, inner_boxes, float_boxes, start_edges, end_edges}
+use Rattle.layout_semantics.specs.InlineContent.{Item, start, finish, word, space, atomic, forced, float, content, holds_inline, is_floated_at, inner_boxes, float_boxes, start_edges, end_edges}
 use Rattle.layout_semantics.specs.Stretches.{stretches, pieces, what_stays}
 
 -- ---- a box in the preferred widths of its container
@@ -121,7 +121,7 @@ abbrev pub with_most : List (ℕ × Preferred ℤ) → List (ℕ × ℤ)
 with_most boxes = map (λ entry. (entry.0, (entry.1).most)) boxes
 
 abbrev pub as_children : BoxTree → List (ℕ × ℤ) → List Child
-as_children tree boxes = map (λ entry. of_flow (is_floated tree entry.0) entry.1) boxes
+as_children tree boxes = map (λ entry. of_flow (is_floated_at tree entry.0) entry.1) boxes
   where
     of_flow : Bool → ℤ → Child
     of_flow true x = floated x
@@ -154,7 +154,7 @@ unfoldable pub preferred_to : ℕ → BoxTree → World → ℕ → Preferred �
 preferred_to zero tree w at = record { least = pos 0; most = pos 0 }
 preferred_to (suc levels) tree w at = elim (inside_of tree at)
     [ a_replaced ↦ record { least = preferred_replaced tree w at; most = preferred_replaced tree w at }
-    | inline_content ↦ preferred_inline tree w (map (λ k. (k, outer_preferred tree w k (preferred_to levels tree w k))) (inner_boxes (content tree at))) (content tree at)
+    | inline_content ↦ preferred_inline tree w (map (λ k. (k, outer_preferred tree w k (preferred_to levels tree w k))) (inner_boxes tree at)) (content tree at)
     | blocks ↦ preferred_blocks tree (map (λ k. (k, outer_preferred tree w k (preferred_to levels tree w k))) (kids_of tree.boxes at)) ]
 
 -- the preferred widths of what is in a box; a page has no more levels than boxes
