@@ -1,9 +1,7 @@
 -- The used values of widths and horizontal margins (CSS 2.1, 10.3, 10.4).
-use Rattle.std.specs.Prelude.{ℕ, ℤ, pos, ◌+ℤ◌, ◌-ℤ◌, int_lt, int_le, Bool, true, false, Option, Some, None}
+use Rattle.std.specs.Prelude.{ℕ, ℤ, pos, ◌+ℤ◌, ◌-ℤ◌, int_le, Bool, true, false, Option, Some, None}
 use Rattle.std.specs.Int.{int_max, int_min}
-use Rattle.std.specs.Option.{option_map_or}
 use Rattle.viz_base.specs.Numbers.{floor_of}
-use Rattle.viz_base.specs.declared.layouts.Extent.{Extent}
 use Rattle.viz_base.specs.declared.layouts.Preferred.{Preferred}
 use Rattle.viz_base.specs.declared.layouts.Widths.{Widths}
 use Rattle.viz_base.specs.declared.lengths.Length.{Length}
@@ -24,9 +22,14 @@ use Rattle.layout_semantics.specs.Preferred.{preferred}
 -- the terms of a box around so wide a content, automatic margins being 0; percentages are of the containing block's width
 abbrev pub terms_around : BoxTree → World → ℕ → ℤ → ℤ → Widths ℤ
 terms_around tree w at cb width = record {
-  margin_left = used tree w (margins tree at).left cb; border_left = used tree w (borders tree at).left cb; padding_left = used tree w (paddings tree at).left cb;
+  margin_left = used tree w (margins tree at).left cb;
+  border_left = used tree w (borders tree at).left cb;
+  padding_left = used tree w (paddings tree at).left cb;
   content = width;
-  padding_right = used tree w (paddings tree at).right cb; border_right = used tree w (borders tree at).right cb; margin_right = used tree w (margins tree at).right cb }
+  padding_right = used tree w (paddings tree at).right cb;
+  border_right = used tree w (borders tree at).right cb;
+  margin_right = used tree w (margins tree at).right cb;
+}
 
 abbrev pub sum_of : Widths ℤ → ℤ
 sum_of t = t.margin_left +ℤ (t.border_left +ℤ (t.padding_left +ℤ (t.content +ℤ (t.padding_right +ℤ (t.border_right +ℤ t.margin_right)))))
@@ -99,8 +102,8 @@ at_least terms least t = again_unless (int_le least t.content) terms least t
 abbrev pub held_terms : BoxTree → World → ℕ → ℤ → (Option ℤ → Widths ℤ) → Widths ℤ
 held_terms tree w at cb terms =
     at_least terms (used tree w (own tree at (λ (s : Style). s.min_width) nothing) cb)
-      (at_most terms (maximum (λ length. used_unless_auto tree w length cb) (own tree at (λ (s : Style). s.max_width) None))
-        (terms (used_unless_auto tree w (own tree at (λ (s : Style). s.width) of_length.Auto) cb)))
+    (at_most terms (maximum (λ length. used_unless_auto tree w length cb) (own tree at (λ (s : Style). s.max_width) None))
+    (terms (used_unless_auto tree w (own tree at (λ (s : Style). s.width) of_length.Auto) cb)))
 
 -- ---- a box
 
@@ -123,8 +126,9 @@ placing_of tree at = by_kind (kind_of tree at) (is_floated_at tree at) (is_inlin
 
 -- the used values of a box in a containing block of width `cb`, in a viewport of so many pixels height
 abbrev pub widths : BoxTree → World → ℕ → ℕ → ℤ → Widths ℤ
-widths tree w viewport at cb = elim (placing_of tree at)
-    [ block_flow ↦ held_terms tree w at cb (block_terms tree w at cb)
-    | shrunk ↦ held_terms tree w at cb (shrunk_terms tree w at cb)
-    | replaced_block ↦ fixed_terms tree w at cb (replaced_size tree w viewport at cb).width
-    | replaced_shrunk ↦ terms_around tree w at cb (replaced_size tree w viewport at cb).width ]
+widths tree w viewport at cb = elim (placing_of tree at) [
+  | block_flow ↦ held_terms tree w at cb (block_terms tree w at cb)
+  | shrunk ↦ held_terms tree w at cb (shrunk_terms tree w at cb)
+  | replaced_block ↦ fixed_terms tree w at cb (replaced_size tree w viewport at cb).width
+  | replaced_shrunk ↦ terms_around tree w at cb (replaced_size tree w viewport at cb).width
+]

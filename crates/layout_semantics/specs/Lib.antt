@@ -16,3 +16,5 @@ pub mod Preferred
 pub mod Horizontal
 pub mod LineHeights
 pub mod LineFilling
+pub mod Fragments
+pub mod Lines

@@ -1,5 +1,5 @@
 -- How much of its content a line holds, and where the floats met on it stand (CSS 2.1, 9.4.2, 9.5).
-use Rattle.std.specs.Prelude.{ℕ, zero, suc, ◌-◌, ℤ, pos, ◌+ℤ◌, ◌-ℤ◌, int_le, int_lt, Bool, true, false, not, ◌&&◌, ◌||◌, List, [], ◌∷◌, ◌++◌, map, length, take, drop, filter, fold, slice_index_or, nat_eq, ◌==◌, Option, None, unwrap_or}
+use Rattle.std.specs.Prelude.{ℕ, zero, suc, ◌-◌, ℤ, pos, ◌+ℤ◌, ◌-ℤ◌, int_le, Bool, true, false, not, ◌&&◌, ◌||◌, List, [], ◌∷◌, ◌++◌, map, length, take, drop, filter, fold, slice_index_or, ◌==◌, None, unwrap_or}
 use Rattle.std.specs.List.{flat_map, list_any, range_with_len, prefix_len, before_first}
 use Rattle.std.specs.Option.{option_map_or, option_to_list}
 use Rattle.std.specs.Ordering.{int_eq}
@@ -8,7 +8,6 @@ use Rattle.viz_base.specs.declared.layouts.Extent.{Extent}
 use Rattle.viz_base.specs.declared.layouts.Inner.{Inner}
 use Rattle.viz_base.specs.declared.layouts.Spot.{Spot}
 use Rattle.viz_base.specs.declared.lengths.Length.{Length}
-use Rattle.viz_base.specs.declared.styles.Clear.{Clear}
 use Rattle.viz_base.specs.declared.styles.Clear.TheVariants as of_clear
 use Rattle.viz_base.specs.declared.styles.Side.{Side}
 use Rattle.viz_base.specs.declared.styles.Side.TheVariants as of_side
@@ -126,6 +125,7 @@ meet c line held met at = at_spot (float_spot c met.floats line.least line.top a
   where
     by_room : Spot ℤ → Met → Met
     by_room spot placed = elim ((length met.waiting == 0) && int_eq spot.y line.top && fits held (band_at placed.floats c.cb line.top line.tall)) [ true ↦ placed | false ↦ record met { waiting = met.waiting ++ at ∷ [] } ]
+
     at_spot : Spot ℤ → Met
     at_spot spot = by_room spot (with_float c met at spot)
 

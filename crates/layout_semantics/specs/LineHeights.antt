@@ -67,10 +67,11 @@ raise c node parent e (of_valign.Raise length) = used c.tree c.world length (lin
 
 unfoldable pub shift_to : ℕ → InlineContext → ℕ → LineExtent → ℤ
 shift_to zero c at e = pos 0
-shift_to (suc levels) c at e = elim (at == c.container)
-    [ true ↦ pos 0
-    | false ↦ option_map_or (λ parent. raise c (node_of c.tree at) (node_of c.tree parent) e (own c.tree at (λ (s : Style). s.valign) of_valign.Baseline)
-        +ℤ shift_to levels c parent (inline_extent c.tree c.world (node_of c.tree parent))) (parent_of c.tree.boxes at) (pos 0) ]
+shift_to (suc levels) c at e = elim (at == c.container) [
+  | true ↦ pos 0
+  | false ↦ option_map_or (λ parent. raise c (node_of c.tree at) (node_of c.tree parent) e (own c.tree at (λ (s : Style). s.valign) of_valign.Baseline)
+      +ℤ shift_to levels c parent (inline_extent c.tree c.world (node_of c.tree parent))) (parent_of c.tree.boxes at) (pos 0)
+]
 
 -- how far the baseline of a box is above that of its line: its own raise and those of the inline boxes around it
 abbrev pub shift : InlineContext → ℕ → LineExtent → ℤ
@@ -88,6 +89,7 @@ extent_in_line c at = shifted (box_extent c at)
   where
     by : LineExtent → ℤ → LineExtent
     by e up = record { above = e.above +ℤ up; below = e.below -ℤ up }
+
     shifted : LineExtent → LineExtent
     shifted e = by e (shift c at e)
 
@@ -99,7 +101,8 @@ strut c = inline_extent c.tree c.world (node_of c.tree c.container)
 abbrev pub line_extent : InlineContext → List ℕ → LineExtent
 line_extent c boxes = record {
   above = greatest_from (strut c).above (map (λ at. (extent_in_line c at).above) boxes);
-  below = greatest_from (strut c).below (map (λ at. (extent_in_line c at).below) boxes) }
+  below = greatest_from (strut c).below (map (λ at. (extent_in_line c at).below) boxes);
+}
 
 -- the inline boxes that start among the items, and the atomic boxes
 abbrev pub extended_boxes : List Item → List ℕ

@@ -1,7 +1,6 @@
 -- Preferred widths (CSS 2.1, 10.3.5), which the standard leaves open: our own reading.
-use Rattle.std.specs.Prelude.{ℕ, zero, suc, ◌==◌, ℤ, pos, ◌+ℤ◌, Bool, true, false, List, [], ◌∷◌, ◌++◌, map, length, Option, None, unwrap_or, find, filter_map, Some}
-use Rattle.std.specs.List.{flat_map}
-use Rattle.std.specs.Option.{option_map_or, option_map}
+use Rattle.std.specs.Prelude.{ℕ, zero, suc, ◌==◌, ℤ, pos, ◌+ℤ◌, Bool, true, false, List, [], ◌∷◌, ◌++◌, map, length, None, unwrap_or, find}
+use Rattle.std.specs.Option.{option_map_or}
 use Rattle.viz_base.specs.declared.layouts.Preferred.{Preferred}
 use Rattle.viz_base.specs.declared.lengths.Length.{Length}
 use Rattle.viz_base.specs.declared.lengths.Length.TheVariants as of_length
@@ -14,7 +13,7 @@ use Rattle.layout_semantics.specs.Extremes.{greatest_from}
 use Rattle.layout_semantics.specs.Order.{kids_of}
 use Rattle.layout_semantics.specs.Blocks.{kind_of, node_of}
 use Rattle.layout_semantics.specs.Fonts.{text_width}
-use Rattle.layout_semantics.specs.Lengths.{used_if_absolute, maximum, held, total, own, nothing, margins, borders, paddings}
+use Rattle.layout_semantics.specs.Lengths.{used_if_absolute, maximum, held, total, own, nothing}
 use Rattle.layout_semantics.specs.Replaced.{preferred_replaced}
 use Rattle.layout_semantics.specs.InlineContent.{Item, start, finish, word, space, atomic, forced, float, content, holds_inline, is_floated_at, inner_boxes, float_boxes, start_edges, end_edges}
 use Rattle.layout_semantics.specs.Stretches.{stretches, pieces, what_stays}
@@ -33,7 +32,7 @@ outer_edges tree w at = total (map (absolute_part tree w) (start_edges tree at +
 abbrev pub held_absolute : BoxTree → World → ℕ → ℤ → ℤ
 held_absolute tree w at width =
     held (maximum (used_if_absolute tree w) (own tree at (λ (s : Style). s.max_width) None))
-      (absolute_part tree w (own tree at (λ (s : Style). s.min_width) nothing)) width
+    (absolute_part tree w (own tree at (λ (s : Style). s.min_width) nothing)) width
 
 -- with its width, or where that is `auto` or a percentage with its own preferred one, and its edges
 abbrev pub outer_width : BoxTree → World → ℕ → ℤ → ℤ
@@ -152,10 +151,11 @@ inside_of tree at = by_kind (kind_of tree at) (holds_inline tree at)
 -- down to so many levels
 unfoldable pub preferred_to : ℕ → BoxTree → World → ℕ → Preferred ℤ
 preferred_to zero tree w at = record { least = pos 0; most = pos 0 }
-preferred_to (suc levels) tree w at = elim (inside_of tree at)
-    [ a_replaced ↦ record { least = preferred_replaced tree w at; most = preferred_replaced tree w at }
-    | inline_content ↦ preferred_inline tree w (map (λ k. (k, outer_preferred tree w k (preferred_to levels tree w k))) (inner_boxes tree at)) (content tree at)
-    | blocks ↦ preferred_blocks tree (map (λ k. (k, outer_preferred tree w k (preferred_to levels tree w k))) (kids_of tree.boxes at)) ]
+preferred_to (suc levels) tree w at = elim (inside_of tree at) [
+  | a_replaced ↦ record { least = preferred_replaced tree w at; most = preferred_replaced tree w at }
+  | inline_content ↦ preferred_inline tree w (map (λ k. (k, outer_preferred tree w k (preferred_to levels tree w k))) (inner_boxes tree at)) (content tree at)
+  | blocks ↦ preferred_blocks tree (map (λ k. (k, outer_preferred tree w k (preferred_to levels tree w k))) (kids_of tree.boxes at))
+]
 
 -- the preferred widths of what is in a box; a page has no more levels than boxes
 abbrev pub preferred : BoxTree → World → ℕ → Preferred ℤ
