@@ -1,6 +1,5 @@
-use Rattle.std.specs.Prelude.{ℤ, ◌+ℤ◌, ◌-ℤ◌, pos, Bool, true, false, not, cond, ◌&&◌, ◌||◌, int_le, int_lt, List, [], ◌∷◌, ◌++◌, map, filter, find, Option, Some, None, unwrap_or, ◌≡◌, IsTrue}
-use Rattle.std.specs.Int.{int_max, int_min}
-use Rattle.std.specs.List.{list_all, list_any}
+use Rattle.std.specs.Prelude.{ℤ, ◌+ℤ◌, ◌-ℤ◌, Bool, true, false, not, cond, ◌&&◌, ◌||◌, int_le, int_lt, List, [], ◌∷◌, map, filter, Option, Some, None}
+use Rattle.std.specs.List.{list_all}
 use Rattle.viz_base.specs.declared.layouts.Band.{Band}
 use Rattle.viz_base.specs.declared.layouts.Extent.{Extent}
 use Rattle.viz_base.specs.declared.layouts.Spot.{Spot}
@@ -101,8 +100,8 @@ abbrev pub float_at : List FloatBox → Side → Extent ℤ → Band ℤ → ℤ
 float_at floats side size cb top =
     let high = highest_top floats top in
     highest_of
-        (farthest_at floats side size.width cb (below_all floats high))
-        (filter (is_allowed floats side size.width cb top) (map (farthest_at floats side size.width cb) (candidate_tops floats high)))
+    (farthest_at floats side size.width cb (below_all floats high))
+    (filter (is_allowed floats side size.width cb top) (map (farthest_at floats side size.width cb) (candidate_tops floats high)))
 
 -- ---- bands (CSS 2.1, 9.5)
 

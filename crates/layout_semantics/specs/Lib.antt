@@ -6,3 +6,11 @@ pub mod Limits
 pub mod Extremes
 pub mod Floats
 pub mod Margins
+pub mod Fonts
+pub mod Lengths
+pub mod DefiniteHeights
+pub mod Replaced
+pub mod InlineContent
+pub mod Stretches
+pub mod Preferred
+pub mod Horizontal
