@@ -24,9 +24,14 @@ use Rattle.layout_semantics.specs.Preferred.{preferred}
 -- the terms of a box around so wide a content, automatic margins being 0; percentages are of the containing block's width
 abbrev pub terms_around : BoxTree → World → ℕ → ℤ → ℤ → Widths ℤ
 terms_around tree w at cb width = record {
-  margin_left = used tree w (margins tree at).left cb; border_left = used tree w (borders tree at).left cb; padding_left = used tree w (paddings tree at).left cb;
+  margin_left = used tree w (margins tree at).left cb;
+  border_left = used tree w (borders tree at).left cb;
+  padding_left = used tree w (paddings tree at).left cb;
   content = width;
-  padding_right = used tree w (paddings tree at).right cb; border_right = used tree w (borders tree at).right cb; margin_right = used tree w (margins tree at).right cb }
+  padding_right = used tree w (paddings tree at).right cb;
+  border_right = used tree w (borders tree at).right cb;
+  margin_right = used tree w (margins tree at).right cb;
+}
 
 abbrev pub sum_of : Widths ℤ → ℤ
 sum_of t = t.margin_left +ℤ (t.border_left +ℤ (t.padding_left +ℤ (t.content +ℤ (t.padding_right +ℤ (t.border_right +ℤ t.margin_right)))))
@@ -99,8 +104,8 @@ at_least terms least t = again_unless (int_le least t.content) terms least t
 abbrev pub held_terms : BoxTree → World → ℕ → ℤ → (Option ℤ → Widths ℤ) → Widths ℤ
 held_terms tree w at cb terms =
     at_least terms (used tree w (own tree at (λ (s : Style). s.min_width) nothing) cb)
-      (at_most terms (maximum (λ length. used_unless_auto tree w length cb) (own tree at (λ (s : Style). s.max_width) None))
-        (terms (used_unless_auto tree w (own tree at (λ (s : Style). s.width) of_length.Auto) cb)))
+    (at_most terms (maximum (λ length. used_unless_auto tree w length cb) (own tree at (λ (s : Style). s.max_width) None))
+    (terms (used_unless_auto tree w (own tree at (λ (s : Style). s.width) of_length.Auto) cb)))
 
 -- ---- a box
 
@@ -123,8 +128,9 @@ placing_of tree at = by_kind (kind_of tree at) (is_floated tree at) (is_inline_l
 
 -- the used values of a box in a containing block of width `cb`, in a viewport of so many pixels height
 abbrev pub widths : BoxTree → World → ℕ → ℕ → ℤ → Widths ℤ
-widths tree w viewport at cb = elim (placing_of tree at)
-    [ block_flow ↦ held_terms tree w at cb (block_terms tree w at cb)
-    | shrunk ↦ held_terms tree w at cb (shrunk_terms tree w at cb)
-    | replaced_block ↦ fixed_terms tree w at cb (replaced_size tree w viewport at cb).width
-    | replaced_shrunk ↦ terms_around tree w at cb (replaced_size tree w viewport at cb).width ]
+widths tree w viewport at cb = elim (placing_of tree at) [
+  | block_flow ↦ held_terms tree w at cb (block_terms tree w at cb)
+  | shrunk ↦ held_terms tree w at cb (shrunk_terms tree w at cb)
+  | replaced_block ↦ fixed_terms tree w at cb (replaced_size tree w viewport at cb).width
+  | replaced_shrunk ↦ terms_around tree w at cb (replaced_size tree w viewport at cb).width
+]

@@ -14,3 +14,11 @@ pub mod InlineContent
 pub mod Stretches
 pub mod Preferred
 pub mod Horizontal
+pub mod Stub
+pub mod Verticals
+pub mod FlowBoxes
+pub mod Leads
+pub mod Clearance
+pub mod Rectangles
+pub mod Flow
+pub mod Page

@@ -33,7 +33,7 @@ outer_edges tree w at = total (map (absolute_part tree w) (start_edges tree at +
 abbrev pub held_absolute : BoxTree → World → ℕ → ℤ → ℤ
 held_absolute tree w at width =
     held (maximum (used_if_absolute tree w) (own tree at (λ (s : Style). s.max_width) None))
-      (absolute_part tree w (own tree at (λ (s : Style). s.min_width) nothing)) width
+    (absolute_part tree w (own tree at (λ (s : Style). s.min_width) nothing)) width
 
 -- with its width, or where that is `auto` or a percentage with its own preferred one, and its edges
 abbrev pub outer_width : BoxTree → World → ℕ → ℤ → ℤ
@@ -152,10 +152,11 @@ inside_of tree at = by_kind (kind_of tree at) (holds_inline tree at)
 -- down to so many levels
 unfoldable pub preferred_to : ℕ → BoxTree → World → ℕ → Preferred ℤ
 preferred_to zero tree w at = record { least = pos 0; most = pos 0 }
-preferred_to (suc levels) tree w at = elim (inside_of tree at)
-    [ a_replaced ↦ record { least = preferred_replaced tree w at; most = preferred_replaced tree w at }
-    | inline_content ↦ preferred_inline tree w (map (λ k. (k, outer_preferred tree w k (preferred_to levels tree w k))) (inner_boxes (content tree at))) (content tree at)
-    | blocks ↦ preferred_blocks tree (map (λ k. (k, outer_preferred tree w k (preferred_to levels tree w k))) (kids_of tree.boxes at)) ]
+preferred_to (suc levels) tree w at = elim (inside_of tree at) [
+  | a_replaced ↦ record { least = preferred_replaced tree w at; most = preferred_replaced tree w at }
+  | inline_content ↦ preferred_inline tree w (map (λ k. (k, outer_preferred tree w k (preferred_to levels tree w k))) (inner_boxes (content tree at))) (content tree at)
+  | blocks ↦ preferred_blocks tree (map (λ k. (k, outer_preferred tree w k (preferred_to levels tree w k))) (kids_of tree.boxes at))
+]
 
 -- the preferred widths of what is in a box; a page has no more levels than boxes
 abbrev pub preferred : BoxTree → World → ℕ → Preferred ℤ

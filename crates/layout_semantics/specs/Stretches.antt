@@ -41,7 +41,7 @@ is_forced _ = false
 abbrev pub may_part : BoxTree → Item → Item → Bool
 may_part tree before after = is_forced before
     || (not (is_wrapping_space tree after) && not (is_forced after)
-        && (is_wrapping_space tree before || is_wrapping_atomic tree before || is_wrapping_atomic tree after))
+    && (is_wrapping_space tree before || is_wrapping_atomic tree before || is_wrapping_atomic tree after))
 
 -- ---- where the break stands
 
