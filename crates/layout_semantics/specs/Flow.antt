@@ -1,20 +1,18 @@
 -- Normal flow with floats in it (CSS 2.1, 9.4.1, 9.5 and 10.6). Where boxes that collapse through, clearance and floats between
 -- adjoining margins meet, this is our own reading of 8.3.1 and 9.5.2.
-use Rattle.std.specs.Prelude.{ℕ, zero, suc, ℤ, pos, ◌+ℤ◌, ◌-ℤ◌, Bool, true, false, not, ◌&&◌, ◌||◌, ◌==◌, cond, List, [], ◌∷◌, ◌++◌, map, fold, length, unwrap_or, Option, Some, None}
+use Rattle.std.specs.Prelude.{ℕ, zero, suc, ℤ, pos, ◌+ℤ◌, ◌-ℤ◌, Bool, true, false, ◌&&◌, ◌||◌, ◌==◌, cond, List, [], ◌∷◌, ◌++◌, map, fold, length, unwrap_or, Option, Some, None}
 use Rattle.std.specs.Int.{int_max, int_min}
-use Rattle.std.specs.Option.{option_map, option_map_or, option_or}
+use Rattle.std.specs.Option.{option_map_or, option_or}
 use Rattle.std.specs.List.{flat_map}
 use Rattle.viz_base.specs.declared.layouts.Band.{Band}
 use Rattle.viz_base.specs.declared.layouts.Extent.{Extent}
 use Rattle.viz_base.specs.declared.layouts.Inner.{Inner}
-use Rattle.viz_base.specs.declared.layouts.Spot.{Spot}
 use Rattle.viz_base.specs.declared.layouts.Widths.{Widths}
 use Rattle.viz_base.specs.declared.renderings.Placed.{Placed}
 use Rattle.viz_base.specs.Trees.{is_line}
 use Rattle.viz_base.specs.declared.styles.Style.{Style}
 use Rattle.viz_base.specs.declared.trees.BoxTree.{BoxTree}
 use Rattle.viz_base.specs.declared.worlds.World.{World}
-use Rattle.layout_semantics.specs.Blocks.{kind_of, node_of}
 use Rattle.layout_semantics.specs.Extremes.{greatest_from}
 use Rattle.layout_semantics.specs.Floats.{FloatBox}
 use Rattle.layout_semantics.specs.Margins.{collapsed}
@@ -27,8 +25,9 @@ use Rattle.layout_semantics.specs.Lengths.{own}
 use Rattle.layout_semantics.specs.DefiniteHeights.{given_height, held_height}
 use Rattle.layout_semantics.specs.Replaced.{replaced_size}
 use Rattle.layout_semantics.specs.Horizontal.{widths}
-use Rattle.layout_semantics.specs.InlineContent.{is_floated, has_line, content, inner_boxes}
-use Rattle.layout_semantics.specs.Stub.{lines, LineEntry, here, goes, LineFlow}
+use Rattle.layout_semantics.specs.InlineContent.{is_floated_at, has_line, inner_boxes}
+use Rattle.layout_semantics.specs.Fragments.{Entry, here, goes}
+use Rattle.layout_semantics.specs.Lines.{LineList, lines}
 
 -- ---- how far the flow of a block container has come
 
@@ -259,7 +258,7 @@ module _ (tree : BoxTree) (w : World) (height : ℕ) where
         by_reached r = by_laid r (laid cb p b r)
 
     abbrev pub child : Band ℤ → ℤ → Progress → ℕ → Progress
-    child cb top p k = by_sort (is_floated tree k)
+    child cb top p k = by_sort (is_floated_at tree k)
       where
         by_sort : Bool → Progress
         by_sort true = float_child cb top p k
@@ -280,20 +279,20 @@ module _ (tree : BoxTree) (w : World) (height : ℕ) where
         by_baseline a _ _ = sized a.size a.size.height
 
         by_alone : Alone → Inner ℤ
-        by_alone a = by_baseline a (is_floated tree k || is_replaced_at tree k || own tree k (λ (s : Style). s.clips) false) a.baseline
+        by_alone a = by_baseline a (is_floated_at tree k || is_replaced_at tree k || own tree k (λ (s : Style). s.clips) false) a.baseline
 
-    abbrev pub entry_boxes : Band ℤ → LineEntry → List (Placed ℤ)
+    abbrev pub entry_boxes : Band ℤ → Entry → List (Placed ℤ)
     entry_boxes cb (here p) = p ∷ []
     entry_boxes cb (goes k at) = shifted at (alone k (across cb)).boxes
 
-    abbrev pub line_tops : LineEntry → List ℤ
+    abbrev pub line_tops : Entry → List ℤ
     line_tops (here p) = cond (is_line p.kind) (p.margin.top ∷ []) []
     line_tops (goes k at) = []
 
     abbrev pub line_content : ℕ → Band ℤ → ℤ → Progress → Progress
-    line_content b cb top p = by_lines (lines tree w b (map (inner_size cb) (inner_boxes (content tree b))) cb top (unwrap_or p.least top) p.floats)
+    line_content b cb top p = by_lines (lines tree w b (map (inner_size cb) (inner_boxes tree b)) cb top (unwrap_or p.least top) p.floats)
       where
-        by_lines : LineFlow → Progress
+        by_lines : LineList → Progress
         by_lines l = record {
           standing = below l.bottom [] false;
           floats = l.floats;

@@ -17,7 +17,7 @@ use Rattle.layout_semantics.specs.Order.{kids_of}
 use Rattle.layout_semantics.specs.Lengths.{own, nothing, borders, paddings}
 use Rattle.layout_semantics.specs.DefiniteHeights.{definite_height, height_around}
 use Rattle.layout_semantics.specs.Horizontal.{widths}
-use Rattle.layout_semantics.specs.InlineContent.{is_floated, is_zero, has_line, holds_inline, content, float_boxes}
+use Rattle.layout_semantics.specs.InlineContent.{is_floated_at, is_zero, has_line, holds_inline, content, float_boxes}
 
 abbrev pub is_replaced_at : BoxTree → ℕ → Bool
 is_replaced_at tree b = is_replaced (kind_of tree b)
@@ -34,7 +34,7 @@ is_block_level_at tree b = option_map_or (λ (x : BoxNode). x.block_level) (slic
 -- an in-flow block that starts a context, and an in-flow block-level replaced box, are treated as `clear: both`, so that
 -- they overlap no float (our own reading; 9.5 allows to place them below)
 abbrev pub stands_clear_of_floats : BoxTree → ℕ → Bool
-stands_clear_of_floats tree b = (is_context_root tree b || is_replaced_at tree b) && is_block_level_at tree b && not (is_floated tree b)
+stands_clear_of_floats tree b = (is_context_root tree b || is_replaced_at tree b) && is_block_level_at tree b && not (is_floated_at tree b)
 
 -- `clear` as it works on a box in flow; on the root it has no effect
 abbrev pub clear_of : BoxTree → ℕ → Clear

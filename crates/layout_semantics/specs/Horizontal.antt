@@ -1,9 +1,7 @@
 -- The used values of widths and horizontal margins (CSS 2.1, 10.3, 10.4).
-use Rattle.std.specs.Prelude.{ℕ, ℤ, pos, ◌+ℤ◌, ◌-ℤ◌, int_lt, int_le, Bool, true, false, Option, Some, None}
+use Rattle.std.specs.Prelude.{ℕ, ℤ, pos, ◌+ℤ◌, ◌-ℤ◌, int_le, Bool, true, false, Option, Some, None}
 use Rattle.std.specs.Int.{int_max, int_min}
-use Rattle.std.specs.Option.{option_map_or}
 use Rattle.viz_base.specs.Numbers.{floor_of}
-use Rattle.viz_base.specs.declared.layouts.Extent.{Extent}
 use Rattle.viz_base.specs.declared.layouts.Preferred.{Preferred}
 use Rattle.viz_base.specs.declared.layouts.Widths.{Widths}
 use Rattle.viz_base.specs.declared.lengths.Length.{Length}
@@ -16,7 +14,7 @@ use Rattle.viz_base.specs.declared.worlds.World.{World}
 use Rattle.layout_semantics.specs.Blocks.{kind_of}
 use Rattle.layout_semantics.specs.Lengths.{used, used_unless_auto, maximum, own, nothing, margins, borders, paddings}
 use Rattle.layout_semantics.specs.Replaced.{replaced_size}
-use Rattle.layout_semantics.specs.InlineContent.{is_floated, is_inline_level}
+use Rattle.layout_semantics.specs.InlineContent.{is_floated_at, is_inline_level_at}
 use Rattle.layout_semantics.specs.Preferred.{preferred}
 
 -- ---- the seven terms (CSS 2.1, 10.3.3)
@@ -117,7 +115,7 @@ pub data Placing : Type 0 where
   replaced_shrunk : Placing
 
 abbrev pub placing_of : BoxTree → ℕ → Placing
-placing_of tree at = by_kind (kind_of tree at) (is_floated tree at) (is_inline_level tree at)
+placing_of tree at = by_kind (kind_of tree at) (is_floated_at tree at) (is_inline_level_at tree at)
   where
     by_kind : Kind → Bool → Bool → Placing
     by_kind of_kind.Replaced false false = replaced_block

@@ -1,13 +1,12 @@
 -- Inline content as a list (CSS 2.1, 9.2.2, 9.4.2).
 use Rattle.std.specs.Ordering.{int_eq}
-use Rattle.std.specs.Prelude.{ℕ, ℤ, pos, zero, suc, ◌==◌, Bool, true, false, ◌&&◌, ◌||◌, not, List, [], ◌∷◌, ◌++◌, length, slice_get, Option, Some, None}
+use Rattle.std.specs.Prelude.{ℕ, pos, zero, suc, ◌==◌, Bool, true, false, ◌&&◌, not, List, [], ◌∷◌, ◌++◌, length, slice_get}
 use Rattle.std.specs.List.{flat_map, list_any, list_all}
 use Rattle.std.specs.Option.{option_map_or}
 use Rattle.std.specs.Str.{chars}
-use Rattle.viz_base.specs.Trees.{is_floated as is_floated_box, is_inline_level as is_inline_level_box, box_passes}
+use Rattle.viz_base.specs.Trees.{is_floated, is_inline_level, box_passes}
 use Rattle.viz_base.specs.declared.lengths.Length.{Length}
 use Rattle.viz_base.specs.declared.lengths.Length.TheVariants as of_length
-use Rattle.viz_base.specs.declared.lengths.Sides.{Sides}
 use Rattle.viz_base.specs.declared.trees.BoxNode.{BoxNode}
 use Rattle.viz_base.specs.declared.trees.BoxTree.{BoxTree}
 use Rattle.viz_base.specs.declared.trees.Kind.{Kind}
@@ -19,15 +18,15 @@ use Rattle.layout_semantics.specs.Lengths.{margins, borders, paddings}
 -- ---- sorts of boxes
 
 -- a float (CSS 2.1, 9.5)
-abbrev pub is_floated : BoxTree → ℕ → Bool
-is_floated tree at = box_passes (is_floated_box tree.styles) tree.boxes at
+abbrev pub is_floated_at : BoxTree → ℕ → Bool
+is_floated_at tree at = box_passes (is_floated tree.styles) tree.boxes at
 
-abbrev pub is_inline_level : BoxTree → ℕ → Bool
-is_inline_level tree at = box_passes is_inline_level_box tree.boxes at && not (is_floated tree at)
+abbrev pub is_inline_level_at : BoxTree → ℕ → Bool
+is_inline_level_at tree at = box_passes is_inline_level tree.boxes at && not (is_floated_at tree at)
 
 -- a block container holds inline content, or else blocks (CSS 2.1, 9.2.1)
 abbrev pub holds_inline : BoxTree → ℕ → Bool
-holds_inline tree at = list_any (is_inline_level tree) (kids_of tree.boxes at)
+holds_inline tree at = list_any (is_inline_level_at tree) (kids_of tree.boxes at)
 
 -- ---- items
 
@@ -77,7 +76,7 @@ pub data Sort : Type 0 where
   an_inline : Sort
 
 abbrev pub sort_of : BoxTree → ℕ → Sort
-sort_of tree at = by_float (is_floated tree at) (kind_of tree at)
+sort_of tree at = by_float (is_floated_at tree at) (kind_of tree at)
   where
     by_float : Bool → Kind → Sort
     by_float true kind = a_float
@@ -108,13 +107,16 @@ float_boxes items = flat_map of_item items
     of_item _ = []
 
 -- the floats and atomic boxes, in order
-abbrev pub inner_boxes : List Item → List ℕ
-inner_boxes items = flat_map of_item items
+abbrev pub inner_items : List Item → List ℕ
+inner_items items = flat_map of_item items
   where
     of_item : Item → List ℕ
     of_item (float at) = at ∷ []
     of_item (atomic at) = at ∷ []
     of_item _ = []
+
+abbrev pub inner_boxes : BoxTree → ℕ → List ℕ
+inner_boxes tree at = inner_items (content tree at)
 
 -- ---- lines that exist (CSS 2.1, 9.4.2)
 

@@ -10,9 +10,9 @@ use Rattle.viz_base.specs.declared.styles.Clear.TheVariants as of_clear
 use Rattle.viz_base.specs.declared.trees.BoxTree.{BoxTree}
 use Rattle.viz_base.specs.declared.worlds.World.{World}
 use Rattle.layout_semantics.specs.Order.{page_order}
-use Rattle.layout_semantics.specs.Verticals.{Verticals, verticals}
+use Rattle.layout_semantics.specs.Verticals.{verticals}
 use Rattle.layout_semantics.specs.FlowBoxes.{clear_of, is_open_above, may_collapse_through, flow_children, across, content_band}
-use Rattle.layout_semantics.specs.InlineContent.{is_floated, has_line}
+use Rattle.layout_semantics.specs.InlineContent.{is_floated_at, has_line}
 
 -- a float between adjoining margins, with its containing block
 pub record Waiting : Type 0 where
@@ -70,7 +70,7 @@ module _ (tree : BoxTree) (w : World) (height : ℕ) where
 
   -- a float waits; any other child adds its own lead, and its bottom margin where that goes through
   abbrev pub child_lead : (ℕ → Leading) → Band ℤ → ℕ → Leading
-  child_lead lead cb k = by_sort (is_floated tree k)
+  child_lead lead cb k = by_sort (is_floated_at tree k)
     where
       by_sort : Bool → Leading
       by_sort true = record { margins = []; waiting = record { at = k; cb = cb } ∷ []; end = of_end.Through; cb = cb }

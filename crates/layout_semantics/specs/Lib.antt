@@ -14,7 +14,10 @@ pub mod InlineContent
 pub mod Stretches
 pub mod Preferred
 pub mod Horizontal
-pub mod Stub
+pub mod LineHeights
+pub mod LineFilling
+pub mod Fragments
+pub mod Lines
 pub mod Verticals
 pub mod FlowBoxes
 pub mod Leads

@@ -1,7 +1,6 @@
 -- Preferred widths (CSS 2.1, 10.3.5), which the standard leaves open: our own reading.
-use Rattle.std.specs.Prelude.{ℕ, zero, suc, ◌==◌, ℤ, pos, ◌+ℤ◌, Bool, true, false, List, [], ◌∷◌, ◌++◌, map, length, Option, None, unwrap_or, find, filter_map, Some}
-use Rattle.std.specs.List.{flat_map}
-use Rattle.std.specs.Option.{option_map_or, option_map}
+use Rattle.std.specs.Prelude.{ℕ, zero, suc, ◌==◌, ℤ, pos, ◌+ℤ◌, Bool, true, false, List, [], ◌∷◌, ◌++◌, map, length, None, unwrap_or, find}
+use Rattle.std.specs.Option.{option_map_or}
 use Rattle.viz_base.specs.declared.layouts.Preferred.{Preferred}
 use Rattle.viz_base.specs.declared.lengths.Length.{Length}
 use Rattle.viz_base.specs.declared.lengths.Length.TheVariants as of_length
@@ -14,9 +13,9 @@ use Rattle.layout_semantics.specs.Extremes.{greatest_from}
 use Rattle.layout_semantics.specs.Order.{kids_of}
 use Rattle.layout_semantics.specs.Blocks.{kind_of, node_of}
 use Rattle.layout_semantics.specs.Fonts.{text_width}
-use Rattle.layout_semantics.specs.Lengths.{used_if_absolute, maximum, held, total, own, nothing, margins, borders, paddings}
+use Rattle.layout_semantics.specs.Lengths.{used_if_absolute, maximum, held, total, own, nothing}
 use Rattle.layout_semantics.specs.Replaced.{preferred_replaced}
-use Rattle.layout_semantics.specs.InlineContent.{Item, start, finish, word, space, atomic, forced, float, content, holds_inline, is_floated, inner_boxes, float_boxes, start_edges, end_edges}
+use Rattle.layout_semantics.specs.InlineContent.{Item, start, finish, word, space, atomic, forced, float, content, holds_inline, is_floated_at, inner_boxes, float_boxes, start_edges, end_edges}
 use Rattle.layout_semantics.specs.Stretches.{stretches, pieces, what_stays}
 
 -- ---- a box in the preferred widths of its container
@@ -121,7 +120,7 @@ abbrev pub with_most : List (ℕ × Preferred ℤ) → List (ℕ × ℤ)
 with_most boxes = map (λ entry. (entry.0, (entry.1).most)) boxes
 
 abbrev pub as_children : BoxTree → List (ℕ × ℤ) → List Child
-as_children tree boxes = map (λ entry. of_flow (is_floated tree entry.0) entry.1) boxes
+as_children tree boxes = map (λ entry. of_flow (is_floated_at tree entry.0) entry.1) boxes
   where
     of_flow : Bool → ℤ → Child
     of_flow true x = floated x
@@ -154,7 +153,7 @@ unfoldable pub preferred_to : ℕ → BoxTree → World → ℕ → Preferred �
 preferred_to zero tree w at = record { least = pos 0; most = pos 0 }
 preferred_to (suc levels) tree w at = elim (inside_of tree at) [
   | a_replaced ↦ record { least = preferred_replaced tree w at; most = preferred_replaced tree w at }
-  | inline_content ↦ preferred_inline tree w (map (λ k. (k, outer_preferred tree w k (preferred_to levels tree w k))) (inner_boxes (content tree at))) (content tree at)
+  | inline_content ↦ preferred_inline tree w (map (λ k. (k, outer_preferred tree w k (preferred_to levels tree w k))) (inner_boxes tree at)) (content tree at)
   | blocks ↦ preferred_blocks tree (map (λ k. (k, outer_preferred tree w k (preferred_to levels tree w k))) (kids_of tree.boxes at))
 ]
 

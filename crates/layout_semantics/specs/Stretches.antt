@@ -1,11 +1,11 @@
 -- Where lines may break (CSS 2.1, 9.4.2, 16.6): our own reading of what the standard leaves open.
-use Rattle.std.specs.Prelude.{ℕ, ◌==◌, Bool, true, false, not, ◌&&◌, ◌||◌, nat_le, cond, List, [], ◌∷◌, ◌++◌, length, drop, reverse, Option, Some, None, find, slice_get}
+use Rattle.std.specs.Prelude.{ℕ, ◌==◌, Bool, true, false, not, ◌&&◌, ◌||◌, nat_le, cond, List, [], ◌∷◌, ◌++◌, length, drop, reverse, Option, Some, None, find}
 use Rattle.std.specs.List.{list_all, list_any, onto_first, before_first, last_or}
-use Rattle.std.specs.Option.{option_map_or, option_and_then}
+use Rattle.std.specs.Option.{option_map_or}
 use Rattle.viz_base.specs.declared.styles.Style.{Style}
 use Rattle.viz_base.specs.declared.trees.BoxTree.{BoxTree}
 use Rattle.layout_semantics.specs.Blocks.{parent_of, style_of}
-use Rattle.layout_semantics.specs.InlineContent.{Item, start, finish, word, space, atomic, forced, float}
+use Rattle.layout_semantics.specs.InlineContent.{Item, start, finish, word, space, atomic, forced}
 
 -- ---- things and opportunities
 
