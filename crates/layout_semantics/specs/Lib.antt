@@ -18,3 +18,10 @@ pub mod LineHeights
 pub mod LineFilling
 pub mod Fragments
 pub mod Lines
+pub mod Verticals
+pub mod FlowBoxes
+pub mod Leads
+pub mod Clearance
+pub mod Rectangles
+pub mod Flow
+pub mod Page
