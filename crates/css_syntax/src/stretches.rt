@@ -23,6 +23,7 @@ pub enum Stop {
     Entry,
 }
 
+/// Whether the token is this character by itself.
 pub fn is_character(token: &Token<'_>, letter: u8) -> bool
     ensures { result ≡ is_character letter token.now }
 {
@@ -68,6 +69,7 @@ pub fn split<'a>(
     Ok(tokens.split_at(len))
 }
 
+/// What follows the first token.
 pub fn skip_first<'a>(tokens: &'a [Token<'a>]) -> &'a [Token<'a>]
     ensures { result.now ≡ drop 1 tokens.now }
 {

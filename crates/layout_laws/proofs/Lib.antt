@@ -3,3 +3,5 @@ pub mod Places
 pub mod Kids
 pub mod Nesting
 pub mod Runs
+pub mod Prefixes
+pub mod Greatest
