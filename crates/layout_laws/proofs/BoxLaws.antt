@@ -25,7 +25,7 @@ ascending nodes styles page at = by_box (slice_get (page_boxes nodes styles) at)
     by_box None e = refl
     by_box (Some b) e = kids_ascend (items_of (page_parts nodes styles)) (page_arranged nodes styles page) at b e
 
-in_from : (xs : List ℕ) (x : ℕ) → Contains xs x → In x xs
+pub in_from : (xs : List ℕ) (x : ℕ) → Contains xs x → In x xs
 in_from [] x h = absurd (omega (arith, h.1))
 in_from (y ∷ xs) x h = by_place h.0 h.1 h.2 (λ g. in_from xs x g)
   where

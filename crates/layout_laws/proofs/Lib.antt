@@ -8,5 +8,6 @@ pub mod Above
 pub mod PageParts
 pub mod BoxLaws
 pub mod BoxFacts
+pub mod BoxContent
 pub mod Prefixes
 pub mod Greatest

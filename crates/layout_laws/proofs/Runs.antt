@@ -162,7 +162,7 @@ rises_items : (parts : List Part) (low : ℕ) (ps : List Part) → Rises low (ma
 rises_items parts low [] r = tt
 rises_items parts low (p ∷ ps) r = (r.0, rises_items parts (suc p.node) ps r.1)
 
-is_in_some : (n : ℕ) (o : Option ℕ) → is_in n o ≡ true → o ≡ Some n
+pub is_in_some : (n : ℕ) (o : Option ℕ) → is_in n o ≡ true → o ≡ Some n
 is_in_some n None t = absurd (cc)
 is_in_some n (Some m) t = ap Some (eqb-true m n t)
 
