@@ -13,6 +13,14 @@ page, `tree`, `height` (px), `w`, `s` and `cases`:
   fonts      [node, font size, line height, ascent, descent], and `words`: [node, text, width]
   widths     [box, containing width, [margin, border, padding, content, padding, border, margin]]
   preferred  [box, least, most]
+  lead       [box, containing width, box before which none is cleared or null, margins, floats, end]
+Others have no `cases`; floats are a list of [side, left, top, right, bottom]:
+  float_at   `floats`, `side`, `size`, `cb`, `top`, `spot`
+  band       `floats`, `cb`, `y`, `h`, `band`
+  bottom     `floats`, `clear`, `bottom`
+  collapsed  `margins`, `pos`, `neg`, `value`
+  resolve    a page, `e` (an edge), `run` (margins), `b` (a box), `cb`, `floats`, `least`, `lead` (margins), `cleared` (a box), `edge`
+A line of trees.jsonl has a `tree`, its `height`, and `worlds`: `w`, `s` and `boxes`, each of them kind, node and the edges of four rectangles.
 A tree has `boxes`, `styles`, `fonts` and `parents`, the members of BoxTree; members with their initial values are left out (STYLE and BOX
 below). A length is "Auto", ["Px", units], ["Em", millionths, node] or ["Pct", millionths]; of four sides the order is top, right, bottom, left.
 """
@@ -176,15 +184,93 @@ def preferred_laws(case):
         yield law(f"preferred (tree page ok) {world(case)} {at}", record({"least": number(least), "most": number(most)}))
 
 
+# ---- laws of floats, margins and flow
+
+
+def float_box(given):
+    side, left, top, right, bottom = given
+    return record({"side": variant("side", side), "box": quad((left, top, right, bottom))})
+
+
+def quad(edges):
+    return record(dict(zip(("left", "top", "right", "bottom"), map(number, edges))))
+
+
+def floats(given):
+    return sequence(map(float_box, given))
+
+
+def band(given):
+    return record({"left": number(given[0]), "right": number(given[1])})
+
+
+def numbers(given):
+    return sequence(map(number, given))
+
+
+def place_laws(case):
+    size = record({"width": number(case["size"][0]), "height": number(case["size"][1])})
+    spot = record({"x": number(case["spot"][0]), "y": number(case["spot"][1])})
+    yield f"float_at {floats(case['floats'])} {variant('side', case['side'])} ({size}) ({band(case['cb'])}) {number(case['top'])} ≡ {spot}"
+
+
+def band_laws(case):
+    yield f"band_at {floats(case['floats'])} ({band(case['cb'])}) {number(case['y'])} {number(case['h'])} ≡ {band(case['band'])}"
+
+
+def bottom_laws(case):
+    yield f"lowest_bottom {variant('clear', case['clear'])} {floats(case['floats'])} ≡ {perhaps(case['bottom'], number)}"
+
+
+def collapsed_laws(case):
+    yield f"collapsed {numbers(case['margins'])} ≡ {number(case['value'])}"
+    yield f"greatest_from (pos 0) {numbers(case['margins'])} ≡ {number(case['pos'])}"
+    yield f"least_from (pos 0) {numbers(case['margins'])} ≡ {number(case['neg'])}"
+
+
+def lead_laws(case):
+    for at, around, past, margins, waiting, end in case["cases"]:
+        passed = "none_passed" if past is None else f"(is_up_to (tree page ok) {past})"
+        lead = f"lead (tree page ok) {world(case)} {case['height']} {passed} ({band((0, around))}) {at}"
+        yield law(f"({lead}).margins", numbers(margins))
+        yield law(f"map (λ (f : Waiting). f.at) ({lead}).waiting", sequence(map(str, waiting)))
+        yield law(f"({lead}).end", variant("end", [end[0]] + list(map(str, end[1:]))))
+
+
+def resolve_laws(case):
+    page = f"(tree page ok) {world(case)} {case['height']}"
+    edge = f"(λ more. {number(case['e'])} +ℤ collapsed ({numbers(case['run'])} ++ more))"
+    cleared = "None" if case["cleared"] is None else f"(Some ({case['cleared']}, {number(case['edge'])}))"
+    yield law(f"resolve {page} (waiting_size {page} (flow_to {page} {len(case['tree']['boxes'])})) {edge} ({band(case['cb'])}) {floats(case['floats'])} {perhaps(case['least'], number)} {case['b']} none_passed",
+              record({"margins": numbers(case["lead"]), "cleared": cleared}))
+
+
+def placed(given):
+    return record({"kind": variant("kind", given[0]), "node": given[1], "margin": quad(given[2:6]), "border": quad(given[6:10]),
+                   "padding": quad(given[10:14]), "content": quad(given[14:18])})
+
+
+def render_laws(case):
+    for at in case["worlds"]:
+        yield law(f"page_rendering (tree page ok) {world(at)} {case['height']}", record({"boxes": sequence(map(placed, at["boxes"]))}))
+
+
 # the laws of a case, and the definitions that they name, by module
 CALLS = {
     "used": (used_laws, {"Lengths": ["used"]}),
     "fonts": (font_laws, {"Fonts": ["font_size", "line_height", "ascent", "descent", "text_width"]}),
     "widths": (width_laws, {"Horizontal": ["widths"]}),
     "preferred": (preferred_laws, {"Preferred": ["preferred"]}),
+    "float_at": (place_laws, {"Floats": ["float_at"]}),
+    "band": (band_laws, {"Floats": ["band_at"]}),
+    "bottom": (bottom_laws, {"Floats": ["lowest_bottom"]}),
+    "collapsed": (collapsed_laws, {"Margins": ["collapsed"], "Extremes": ["greatest_from", "least_from"]}),
+    "lead": (lead_laws, {"Leads": ["Waiting", "lead", "none_passed", "is_up_to"]}),
+    "resolve": (resolve_laws, {"Clearance": ["resolve"], "Flow": ["waiting_size"], "Leads": ["none_passed"], "Margins": ["collapsed"]}),
+    "render": (render_laws, {"Page": ["page_rendering"]}),
 }
 
-HEAD = """use Rattle.std.proofs.Common.{◌≡◌, ℕ, ℤ, pos, negsuc, List, [], ◌∷◌, Option, Some, None, refl, true, false}
+HEAD = """use Rattle.std.proofs.Common.{◌≡◌, ℕ, ℤ, pos, negsuc, ◌+ℤ◌, List, [], ◌∷◌, ◌++◌, map, Option, Some, None, refl, true, false}
 use Rattle.std.specs.Str.{chars}
 use Rattle.viz_base.specs.declared.lengths.Length.TheVariants as of_length
 use Rattle.viz_base.specs.declared.lengths.LineHeight.TheVariants as of_line
@@ -195,6 +281,7 @@ use Rattle.viz_base.specs.declared.styles.Clear.TheVariants as of_clear
 use Rattle.viz_base.specs.declared.styles.Align.TheVariants as of_align
 use Rattle.viz_base.specs.declared.styles.Side.TheVariants as of_side
 use Rattle.viz_base.specs.declared.trees.Kind.TheVariants as of_kind
+use Rattle.viz_base.specs.declared.layouts.LeadEnd.TheVariants as of_end
 use Rattle.viz_base.specs.declared.trees.BoxNode.{BoxNode}
 use Rattle.viz_base.specs.declared.worlds.World.{World}
 use Rattle.vectors.proofs.Plain.{PlainStyle, PlainFont, PlainTree, TreeKeeps, tree}
