@@ -1,0 +1,4 @@
+//! Laws of the layout that layout_semantics defines: what holds of all pages, said without the definitions' recursions.
+#![tactic(auto)]
+
+mod lines;

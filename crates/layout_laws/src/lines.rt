@@ -1,0 +1,20 @@
+ghost use Rattle.std.specs.Prelude.{ℕ, ◌≤◌, ◌≤ℤ◌, List, length, IsTrue, Contains};
+ghost use Rattle.std.specs.List.{AllByRecursion};
+ghost use Rattle.layout_semantics.specs.InlineContent.{content};
+ghost use Rattle.layout_semantics.specs.LineHeights.{InlineContext, extended_boxes, line_extent, height_of_extent, tallest};
+ghost use Rattle.layout_semantics.specs.LineFilling.{Line, may_hold, stretches_held};
+
+/// A line holds one stretch at least, and else the most such that the first two, three and so on up to all of them may stand on it
+/// (CSS 2.1, 9.4.2).
+pub fn a_line_holds_the_longest_beginning_that_fits()
+    ensures one { (c : InlineContext) (line : Line) → 1 ≤ stretches_held c line }
+    ensures each_fits { (c : InlineContext) (line : Line) (k : ℕ) → 2 ≤ k → k ≤ stretches_held c line → IsTrue (may_hold c line k) }
+    ensures within { (c : InlineContext) (line : Line) → 1 ≤ length line.parts → stretches_held c line ≤ length line.parts }
+    ensures longest { (c : InlineContext) (line : Line) (n : ℕ) → n ≤ length line.parts → ((k : ℕ) → 2 ≤ k → k ≤ n → IsTrue (may_hold c line k)) → n ≤ stretches_held c line }
+{}
+
+/// Whichever boxes of its container's content stand on a line, it is no higher than the tallest line, in whose height the floats
+/// beside a line are looked for.
+pub fn no_line_is_higher_than_the_tallest()
+    ensures { (c : InlineContext) (boxes : List ℕ) → AllByRecursion (Contains (extended_boxes (content c.tree c.container))) boxes → height_of_extent (line_extent c boxes) ≤ℤ tallest c }
+{}
