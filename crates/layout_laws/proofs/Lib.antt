@@ -1,2 +1,7 @@
+pub mod Members
+pub mod Places
+pub mod Kids
+pub mod Nesting
+pub mod Runs
 pub mod Prefixes
 pub mod Greatest
