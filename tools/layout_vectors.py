@@ -13,6 +13,14 @@ page, `tree`, `height` (px), `w`, `s` and `cases`:
   fonts      [node, font size, line height, ascent, descent], and `words`: [node, text, width]
   widths     [box, containing width, [margin, border, padding, content, padding, border, margin]]
   preferred  [box, least, most]
+  lead       [box, containing width, box before which none is cleared or null, margins, floats, end]
+Others have no `cases`; floats are a list of [side, left, top, right, bottom]:
+  float_at   `floats`, `side`, `size`, `cb`, `top`, `spot`
+  band       `floats`, `cb`, `y`, `h`, `band`
+  bottom     `floats`, `clear`, `bottom`
+  collapsed  `margins`, `pos`, `neg`, `value`
+  resolve    a page, `e` (an edge), `run` (margins), `b` (a box), `cb`, `floats`, `least`, `lead` (margins), `cleared` (a box), `edge`
+A line of trees.jsonl has a `tree`, its `height`, and `worlds`: `w`, `s` and `boxes`, each of them kind, node and the edges of four rectangles.
 A tree has `boxes`, `styles`, `fonts` and `parents`, the members of BoxTree; members with their initial values are left out (STYLE and BOX
 below). A line of boxes.jsonl has a `page`, an element {"tag", "attrs", "size", "children"} whose children are elements and texts, `css`,
 `fonts` (names) and `boxes` and `styles`, or in their place `fault` with the refusal and its numbers. A length is "Auto", ["Px", units], ["Em", millionths, node] or ["Pct", millionths]; of four sides the order is top, right, bottom, left.
@@ -180,6 +188,75 @@ def preferred_laws(case):
         yield law(f"preferred (tree page ok) {world(case)} {at}", record({"least": number(least), "most": number(most)}))
 
 
+# ---- laws of floats, margins and flow
+
+
+def float_box(given):
+    side, left, top, right, bottom = given
+    return record({"side": variant("side", side), "box": quad((left, top, right, bottom))})
+
+
+def quad(edges):
+    return record(dict(zip(("left", "top", "right", "bottom"), map(number, edges))))
+
+
+def floats(given):
+    return sequence(map(float_box, given))
+
+
+def band(given):
+    return record({"left": number(given[0]), "right": number(given[1])})
+
+
+def numbers(given):
+    return sequence(map(number, given))
+
+
+def place_laws(case):
+    size = record({"width": number(case["size"][0]), "height": number(case["size"][1])})
+    spot = record({"x": number(case["spot"][0]), "y": number(case["spot"][1])})
+    yield f"float_at {floats(case['floats'])} {variant('side', case['side'])} ({size}) ({band(case['cb'])}) {number(case['top'])} ≡ {spot}"
+
+
+def band_laws(case):
+    yield f"band_at {floats(case['floats'])} ({band(case['cb'])}) {number(case['y'])} {number(case['h'])} ≡ {band(case['band'])}"
+
+
+def bottom_laws(case):
+    yield f"lowest_bottom {variant('clear', case['clear'])} {floats(case['floats'])} ≡ {perhaps(case['bottom'], number)}"
+
+
+def collapsed_laws(case):
+    yield f"collapsed {numbers(case['margins'])} ≡ {number(case['value'])}"
+    yield f"greatest_from (pos 0) {numbers(case['margins'])} ≡ {number(case['pos'])}"
+    yield f"least_from (pos 0) {numbers(case['margins'])} ≡ {number(case['neg'])}"
+
+
+def lead_laws(case):
+    for at, around, past, margins, waiting, end in case["cases"]:
+        passed = "none_passed" if past is None else f"(is_up_to (tree page ok) {past})"
+        lead = f"lead (tree page ok) {world(case)} {case['height']} {passed} ({band((0, around))}) {at}"
+        yield law(f"({lead}).margins", numbers(margins))
+        yield law(f"map (λ (f : Waiting). f.at) ({lead}).waiting", sequence(map(str, waiting)))
+        yield law(f"({lead}).end", variant("end", [end[0]] + list(map(str, end[1:]))))
+
+
+def resolve_laws(case):
+    page = f"(tree page ok) {world(case)} {case['height']}"
+    edge = f"(λ more. {number(case['e'])} +ℤ collapsed ({numbers(case['run'])} ++ more))"
+    cleared = "None" if case["cleared"] is None else f"(Some ({case['cleared']}, {number(case['edge'])}))"
+    yield law(f"resolve {page} (waiting_size {page} (flow_to {page} {len(case['tree']['boxes'])})) {edge} ({band(case['cb'])}) {floats(case['floats'])} {perhaps(case['least'], number)} {case['b']} none_passed",
+              record({"margins": numbers(case["lead"]), "cleared": cleared}))
+
+
+def placed(given):
+    return record({"kind": variant("kind", given[0]), "node": given[1], "margin": quad(given[2:6]), "border": quad(given[6:10]),
+                   "padding": quad(given[10:14]), "content": quad(given[14:18])})
+
+
+def render_laws(case):
+    for at in case["worlds"]:
+        yield law(f"page_rendering (tree page ok) {world(at)} {case['height']}", record({"boxes": sequence(map(placed, at["boxes"]))}))
 # ---- box trees of pages
 
 
@@ -242,10 +319,17 @@ CALLS = {
     "fonts": (font_laws, {"Fonts": ["font_size", "line_height", "ascent", "descent", "text_width"]}),
     "widths": (width_laws, {"Horizontal": ["widths"]}),
     "preferred": (preferred_laws, {"Preferred": ["preferred"]}),
+    "float_at": (place_laws, {"Floats": ["float_at"]}),
+    "band": (band_laws, {"Floats": ["band_at"]}),
+    "bottom": (bottom_laws, {"Floats": ["lowest_bottom"]}),
+    "collapsed": (collapsed_laws, {"Margins": ["collapsed"], "Extremes": ["greatest_from", "least_from"]}),
+    "lead": (lead_laws, {"Leads": ["Waiting", "lead", "none_passed", "is_up_to"]}),
+    "resolve": (resolve_laws, {"Clearance": ["resolve"], "Flow": ["waiting_size"], "Leads": ["none_passed"], "Margins": ["collapsed"]}),
+    "render": (render_laws, {"Page": ["page_rendering"]}),
     "boxes": (box_laws, {"BoxTrees": ["page_boxes", "tree_styles"], "Refusals": ["page_refusal", "BoxRefusal"]}),
 }
 
-HEAD = """use Rattle.std.proofs.Common.{◌≡◌, ℕ, ℤ, pos, negsuc, List, [], ◌∷◌, Option, Some, None, refl, true, false}
+HEAD = """use Rattle.std.proofs.Common.{◌≡◌, ℕ, ℤ, pos, negsuc, ◌+ℤ◌, List, [], ◌∷◌, ◌++◌, map, Option, Some, None, refl, true, false}
 use Rattle.std.specs.Str.{chars}
 use Rattle.viz_base.specs.declared.lengths.Length.TheVariants as of_length
 use Rattle.viz_base.specs.declared.lengths.LineHeight.TheVariants as of_line
@@ -256,104 +340,12 @@ use Rattle.viz_base.specs.declared.styles.Clear.TheVariants as of_clear
 use Rattle.viz_base.specs.declared.styles.Align.TheVariants as of_align
 use Rattle.viz_base.specs.declared.styles.Side.TheVariants as of_side
 use Rattle.viz_base.specs.declared.trees.Kind.TheVariants as of_kind
+use Rattle.viz_base.specs.declared.layouts.LeadEnd.TheVariants as of_end
 use Rattle.viz_base.specs.declared.trees.BoxNode.{BoxNode}
 use Rattle.viz_base.specs.declared.nodes.Body.TheVariants as of_body
 use Rattle.viz_base.specs.declared.nodes.Node.{Node}
 use Rattle.viz_base.specs.declared.worlds.World.{World}
-use Rattle.vectors.proofs.Plain.{PlainStyle, PlainFont, PlainTree, TreeKeeps, StylesKeep, FontsKeep, tree, styles, fonts}
-"""
-
-PLAIN = """-- Pages without the facts that their types keep: a law of a page holds whatever the proofs of these are.
-use Rattle.std.proofs.Common.{ℕ, ℤ, Bool, List, [], ◌∷◌, Option}
-use Rattle.viz_base.specs.declared.fonts.Font.{Font}
-use Rattle.viz_base.specs.declared.lengths.Length.{Length}
-use Rattle.viz_base.specs.declared.lengths.LineHeight.{LineHeight}
-use Rattle.viz_base.specs.declared.lengths.Sides.{Sides}
-use Rattle.viz_base.specs.declared.lengths.Size.{Size}
-use Rattle.viz_base.specs.declared.lengths.Valign.{Valign}
-use Rattle.viz_base.specs.declared.styles.Align.{Align}
-use Rattle.viz_base.specs.declared.styles.Clear.{Clear}
-use Rattle.viz_base.specs.declared.styles.Display.{Display}
-use Rattle.viz_base.specs.declared.styles.Side.{Side}
-use Rattle.viz_base.specs.declared.styles.Style.{Style}
-use Rattle.viz_base.specs.declared.trees.BoxTree.{BoxTree}
-use Rattle.viz_base.specs.declared.trees.BoxNode.{BoxNode}
-use Rattle.viz_base.specs.Styles.{IsStyle}
-use Rattle.viz_base.specs.Fonts.{IsFont}
-use Rattle.viz_base.specs.Trees.{IsBoxTree}
-
-pub record PlainStyle : Type 0 where
-  pub display : Display
-  pub float : Option Side
-  pub clear : Clear
-  pub clips : Bool
-  pub width : Length
-  pub min_width : Length
-  pub max_width : Option Length
-  pub height : Length
-  pub min_height : Length
-  pub max_height : Option Length
-  pub margin : Sides Length
-  pub padding : Sides Length
-  pub border : Sides Length
-  pub size : Size
-  pub font : ℕ
-  pub line : LineHeight
-  pub valign : Valign
-  pub align : Align
-  pub wraps : Bool
-
-abbrev pub StyleKeeps : PlainStyle → Type 0
-StyleKeeps s = IsStyle s.width s.min_width s.max_width s.height s.min_height s.max_height s.margin s.padding s.border s.size s.line s.valign
-
-abbrev pub style : (s : PlainStyle) → StyleKeeps s → Style
-style s ok = record { display = s.display; float = s.float; clear = s.clear; clips = s.clips; width = s.width; min_width = s.min_width;
-  max_width = s.max_width; height = s.height; min_height = s.min_height; max_height = s.max_height; margin = s.margin; padding = s.padding;
-  border = s.border; size = s.size; font = s.font; line = s.line; valign = s.valign; align = s.align; wraps = s.wraps; ok = ok }
-
-abbrev pub StylesKeep : List PlainStyle → Type 0
-StylesKeep [] = Unit {0}
-StylesKeep (s ∷ ss) = StyleKeeps s × StylesKeep ss
-
-abbrev pub styles : (ss : List PlainStyle) → StylesKeep ss → List Style
-styles [] ok = []
-styles (s ∷ ss) ok = style s ok.0 ∷ styles ss ok.1
-
-pub record PlainFont : Type 0 where
-  pub name : List ℕ
-  pub upem : ℕ
-  pub ascent : ℕ
-  pub descent : ℕ
-  pub other : ℕ
-  pub advances : List (ℕ × ℕ)
-
-abbrev pub FontKeeps : PlainFont → Type 0
-FontKeeps f = IsFont f.upem f.ascent f.descent f.other f.advances
-
-abbrev pub font : (f : PlainFont) → FontKeeps f → Font
-font f ok = record { name = f.name; upem = f.upem; ascent = f.ascent; descent = f.descent; other = f.other; advances = f.advances; ok = ok }
-
-abbrev pub FontsKeep : List PlainFont → Type 0
-FontsKeep [] = Unit {0}
-FontsKeep (f ∷ fs) = FontKeeps f × FontsKeep fs
-
-abbrev pub fonts : (fs : List PlainFont) → FontsKeep fs → List Font
-fonts [] ok = []
-fonts (f ∷ fs) ok = font f ok.0 ∷ fonts fs ok.1
-
-pub record PlainTree : Type 0 where
-  pub boxes : List BoxNode
-  pub styles : List PlainStyle
-  pub fonts : List PlainFont
-  pub parents : List (Option ℕ)
-
-pub record TreeKeeps (t : PlainTree) : Type 0 where
-  pub of_styles : StylesKeep t.styles
-  pub of_fonts : FontsKeep t.fonts
-  pub whole : IsBoxTree t.boxes (styles t.styles of_styles) (fonts t.fonts of_fonts) t.parents
-
-abbrev pub tree : (t : PlainTree) → TreeKeeps t → BoxTree
-tree t ok = record { boxes = t.boxes; styles = styles t.styles ok.of_styles; fonts = fonts t.fonts ok.of_fonts; parents = t.parents; ok = ok.whole }
+use Rattle.layout_semantics.specs.PlainPages.{PlainStyle, PlainFont, PlainTree, TreeKeeps, StylesKeep, FontsKeep, tree, styles, fonts}
 """
 
 SOURCE = """//! Cases of layout.
@@ -418,11 +410,10 @@ def run_batch(scratch, batch):
     if proofs.exists():
         shutil.rmtree(proofs)
     proofs.mkdir(parents=True)
-    (proofs / "Plain.antt").write_text(PLAIN)
     for at, case in batch:
         make, named = CALLS[case["call"]]
         (proofs / f"Line{at}.antt").write_text(case_file(case, list(make(case)), named))
-    (proofs / "Lib.antt").write_text("pub mod Plain\n" + "".join(f"pub mod Line{at}\n" for at, _ in batch))
+    (proofs / "Lib.antt").write_text("".join(f"pub mod Line{at}\n" for at, _ in batch))
     run = subprocess.run(["rt", "check"], cwd=scratch / "crates/vectors", capture_output=True, text=True)
     said = run.stdout + run.stderr
     wrong = {}

@@ -35,9 +35,9 @@ viewport_clip nodes styles =
 -- the root does not float (CSS 2.1, 9.7), and overflow that goes to the viewport is used there alone
 abbrev pub tree_style : (is_root gives_clip : Bool) → Style → Style
 tree_style is_root gives_clip s = record s {
-    float = if is_root then None else s.float;
-    clips = not gives_clip && s.clips
-  }
+  float = if is_root then None else s.float;
+  clips = not gives_clip && s.clips;
+}
 
 abbrev pub tree_style_of : Option ℕ → (ℕ × Node) × Style → Style
 tree_style_of clip styled = tree_style (styled_element styled.0.0 styled.0.1 == 0) (is_in (styled_element styled.0.0 styled.0.1) clip) styled.1
@@ -160,28 +160,28 @@ kid_places items node = flat_map (kid_place items) (items_in items node)
 
 abbrev pub own_box : List Item → Item → BoxNode
 own_box items item = record {
-    kind = item.part.kind;
-    node = item.part.node;
-    parent = outer_place items item;
-    kids = kid_places items item.part.node;
-    chars = encode_utf8_all item.part.text;
-    size = item.part.size;
-    context = item.part.context;
-    block_level = is_block_level item.part.level || is_floated_level item.part.level
-  }
+  kind = item.part.kind;
+  node = item.part.node;
+  parent = outer_place items item;
+  kids = kid_places items item.part.node;
+  chars = encode_utf8_all item.part.text;
+  size = item.part.size;
+  context = item.part.context;
+  block_level = is_block_level item.part.level || is_floated_level item.part.level;
+}
 
 -- the anonymous block box of a run that begins with a part; its node is that of the element around it
 abbrev pub anonymous_box : List Item → Part → List ℕ → BoxNode
 anonymous_box items p run = record {
-    kind = of_kind.Anon;
-    node = unwrap_or p.parent 0;
-    parent = option_map (own_place items) p.parent;
-    kids = map (own_place items) run;
-    chars = [];
-    size = None;
-    context = false;
-    block_level = true
-  }
+  kind = of_kind.Anon;
+  node = unwrap_or p.parent 0;
+  parent = option_map (own_place items) p.parent;
+  kids = map (own_place items) run;
+  chars = [];
+  size = None;
+  context = false;
+  block_level = true;
+}
 
 -- a part's box, after the anonymous block box that begins with it
 abbrev pub with_anonymous : List Item → Item → (begins : Bool) → Option (List ℕ) → List BoxNode

@@ -78,8 +78,8 @@ letters_of node things = flat_map (letter_of node) things
 -- a part with the characters that stay of its text
 abbrev pub collapsed_part : List Part → Part → Part
 collapsed_part parts p = record p {
-    text = option_map_or (λ c. letters_of p.node (collapsed_things (things_in parts c))) p.container []
-  }
+  text = option_map_or (λ c. letters_of p.node (collapsed_things (things_in parts c))) p.container [];
+}
 
 -- a text of which nothing stays makes no box
 abbrev pub is_bare : Part → Bool
