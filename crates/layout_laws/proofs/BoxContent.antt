@@ -1,10 +1,10 @@
 -- Which nodes have boxes, and which boxes hold none.
-use Rattle.std.proofs.Common.{◌≡◌, ℕ, zero, suc, ◌<◌, ◌≤◌, Bool, true, false, not, ◌==◌, ◌&&◌, ◌||◌, List, [], ◌∷◌, flat_map, length, get_or, Contains, Option, Some, None, slice_get, IsTrue, refl, sym, ◌∙◌, ap, subst, arith, if◌then◌else◌, eqb-true}
+use Rattle.std.proofs.Common.{◌≡◌, ℕ, zero, suc, ◌<◌, Bool, true, false, not, ◌==◌, ◌||◌, List, [], ◌∷◌, flat_map, length, get_or, Contains, Option, Some, None, slice_get, refl, sym, ◌∙◌, ap, subst, arith, if◌then◌else◌}
 use Rattle.std.specs.Prelude.{unwrap_or}
 use Rattle.std.specs.List.{list_all}
 use Rattle.std.specs.Option.{option_map_or}
 use Rattle.std.proofs.lemmas.Option.{slice_get_within}
-use Rattle.viz_base.specs.Pages.{IsPage, is_element, is_element_at}
+use Rattle.viz_base.specs.Pages.{IsPage, is_element}
 use Rattle.viz_base.specs.Trees.{is_leaf}
 use Rattle.viz_base.specs.declared.nodes.Body.{Body}
 use Rattle.viz_base.specs.declared.nodes.Body.TheVariants as of_body
@@ -18,13 +18,13 @@ use Rattle.viz_base.specs.declared.trees.Kind.TheVariants as of_kind
 use Rattle.layout_semantics.specs.Elements.{is_break, is_replaced, is_closed, is_hidden, is_shown, node_passes, parent_of, ancestors, upwards}
 use Rattle.layout_semantics.specs.Parts.{Part, Level, kind_of_node, level_kind, level_of, inline_kind}
 use Rattle.layout_semantics.specs.WhiteSpace.{is_in}
-use Rattle.layout_semantics.specs.BoxTrees.{Item, kid_place, kid_places, items_in, items_of, own_box, page_parts, page_boxes, tree_styles}
+use Rattle.layout_semantics.specs.BoxTrees.{Item, kid_place, items_in, items_of, page_parts, page_boxes, tree_styles}
 use Rattle.layout_laws.proofs.Members.{In, from_chosen}
 use Rattle.layout_laws.proofs.Places.{node_of}
 use Rattle.layout_laws.proofs.Nesting.{IsBoxOf}
 use Rattle.layout_laws.proofs.Above.{and_parts, not_or, parent_is, parent_shown}
 use Rattle.layout_laws.proofs.Runs.{is_in_some, run_parent}
-use Rattle.layout_laws.proofs.PageParts.{IsPagePart, part_parent, slice_some}
+use Rattle.layout_laws.proofs.PageParts.{part_parent, slice_some}
 use Rattle.layout_laws.proofs.BoxLaws.{in_from}
 use Rattle.layout_laws.proofs.BoxFacts.{item_known, page_box_is, hidden_alike}
 
@@ -55,6 +55,7 @@ inline_leaf (of_body.Element element) d e l = by_display d l
     by_break : (t : Bool) (k : Kind) → is_leaf k ≡ false → is_leaf (if t then of_kind.Break else k) ≡ true → t ≡ true
     by_break true k n l = refl
     by_break false k n l = absurd (cc)
+
     by_display : (d : Display) → is_leaf (inline_kind (of_body.Element element) d) ≡ true → is_break (of_body.Element element) ≡ true
     by_display of_display.Hidden l = by_break (is_break (of_body.Element element)) of_kind.Inline refl l
     by_display of_display.Block l = by_break (is_break (of_body.Element element)) of_kind.Inline refl l
@@ -72,6 +73,7 @@ leaf_is_closed body is_root s e l = by_replaced (is_replaced body) refl (by_leve
     by_level Level.block l = absurd (cc)
     by_level Level.floated l = absurd (cc)
     by_level Level.inline l = or_left (is_break body) (is_replaced body) (inline_leaf body s.display e l)
+
     by_replaced : (r : Bool) → is_replaced body ≡ r → (is_leaf (level_kind (level_of is_root body s) body s.display) ≡ true → is_closed body ≡ true)
         → is_leaf (if r then of_kind.Replaced else level_kind (level_of is_root body s) body s.display) ≡ true → is_closed body ≡ true
     by_replaced true r again l = or_right (is_break body) (is_replaced body) r
@@ -129,7 +131,7 @@ module _ (nodes : List Node) (styles : List Style) (page : IsPage nodes) where
       let shown = box_shown at b e in
       let parts = and_parts (not (is_hidden (tree_styles nodes styles) b.node)) (list_all (λ above. not (is_hidden (tree_styles nodes styles) above || node_passes is_closed nodes above)) (ancestors nodes b.node)) shown.0 in
       not_or (is_hidden (tree_styles nodes styles) above) (node_passes is_closed nodes above)
-        (all_at (λ above. not (is_hidden (tree_styles nodes styles) above || node_passes is_closed nodes above)) (ancestors nodes b.node) above parts.1 h)
+      (all_at (λ above. not (is_hidden (tree_styles nodes styles) above || node_passes is_closed nodes above)) (ancestors nodes b.node) above parts.1 h)
 
   pub above_not_closed : (at : ℕ) (b : BoxNode) (above : ℕ) → slice_get (page_boxes nodes styles) at ≡ Some b → Contains (ancestors nodes b.node) above → node_passes is_closed nodes above ≡ false
   above_not_closed at b above e h = (above_open at b above e h).1

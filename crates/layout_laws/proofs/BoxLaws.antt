@@ -1,5 +1,5 @@
 -- The laws of boxes, of a page.
-use Rattle.std.proofs.Common.{◌≡◌, ℕ, zero, suc, ◌<◌, ◌≤◌, Bool, true, false, List, [], ◌∷◌, length, get_or, Contains, Option, Some, None, option_and_then, slice_get, IsTrue, refl, sym, ◌∙◌, ap, subst, arith}
+use Rattle.std.proofs.Common.{◌≡◌, ℕ, zero, suc, ◌<◌, List, [], ◌∷◌, length, get_or, Contains, Option, Some, None, option_and_then, slice_get, IsTrue, refl, ◌∙◌, ap, subst, arith}
 use Rattle.std.specs.Option.{option_map_or}
 use Rattle.viz_base.specs.Pages.{IsPage}
 use Rattle.viz_base.specs.Trees.{ascends}
@@ -8,7 +8,7 @@ use Rattle.viz_base.specs.declared.styles.Style.{Style}
 use Rattle.viz_base.specs.declared.trees.BoxNode.{BoxNode}
 use Rattle.layout_semantics.specs.Blocks.{parent_of}
 use Rattle.layout_semantics.specs.Order.{kids_of}
-use Rattle.layout_semantics.specs.BoxTrees.{Item, page_boxes, page_parts, tree_styles, items_of, boxes_of}
+use Rattle.layout_semantics.specs.BoxTrees.{page_boxes, page_parts, tree_styles, items_of}
 use Rattle.layout_laws.proofs.Members.{In}
 use Rattle.layout_laws.proofs.Kids.{IsArranged}
 use Rattle.layout_laws.proofs.Nesting.{kids_ascend, kids_place}

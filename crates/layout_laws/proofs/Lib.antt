@@ -9,5 +9,6 @@ pub mod PageParts
 pub mod BoxLaws
 pub mod BoxFacts
 pub mod BoxContent
+pub mod Collapsing
 pub mod Prefixes
 pub mod Greatest
