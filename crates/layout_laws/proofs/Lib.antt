@@ -10,5 +10,6 @@ pub mod BoxLaws
 pub mod BoxFacts
 pub mod BoxContent
 pub mod Collapsing
+pub mod TextLengths
 pub mod Prefixes
 pub mod Greatest
