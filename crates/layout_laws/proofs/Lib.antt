@@ -11,5 +11,6 @@ pub mod BoxFacts
 pub mod BoxContent
 pub mod Collapsing
 pub mod TextLengths
+pub mod Sorts
 pub mod Prefixes
 pub mod Greatest
