@@ -12,5 +12,6 @@ pub mod BoxContent
 pub mod Collapsing
 pub mod TextLengths
 pub mod Sorts
+pub mod TreeFacts
 pub mod Prefixes
 pub mod Greatest

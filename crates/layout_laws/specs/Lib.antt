@@ -1,2 +1,3 @@
 pub mod Greatest
 pub mod Spaces
+pub mod Styled
