@@ -1,5 +1,5 @@
 -- What the boxes in a box are: inline content alone, or blocks and floats alone.
-use Rattle.std.proofs.Common.{◌≡◌, ℕ, zero, suc, ◌<◌, ◌≤◌, Bool, true, false, not, ◌==◌, ◌&&◌, ◌||◌, List, [], ◌∷◌, map, find, flat_map, Option, Some, None, is_some, option_map, option_and_then, slice_get, IsTrue, refl, sym, ◌∙◌, ap, subst, arith, ◌⊎◌, inl, inr, if◌then◌else◌, eq-eqb, eqb-true}
+use Rattle.std.proofs.Common.{◌≡◌, ℕ, Bool, true, false, not, ◌==◌, ◌&&◌, ◌||◌, List, [], ◌∷◌, map, find, Option, Some, None, is_some, option_and_then, slice_get, refl, sym, ◌∙◌, ap, subst, if◌then◌else◌, eq-eqb, eqb-true}
 use Rattle.std.specs.List.{list_any, list_all}
 use Rattle.std.specs.Option.{option_map_or}
 use Rattle.viz_base.specs.Pages.{IsPage}
@@ -14,18 +14,18 @@ use Rattle.viz_base.specs.declared.styles.Style.{Style}
 use Rattle.viz_base.specs.declared.trees.BoxNode.{BoxNode}
 use Rattle.viz_base.specs.declared.trees.Kind.{Kind}
 use Rattle.viz_base.specs.declared.trees.Kind.TheVariants as of_kind
-use Rattle.layout_semantics.specs.Lists.{chosen, one_if}
+use Rattle.layout_semantics.specs.Lists.{chosen}
 use Rattle.layout_semantics.specs.Elements.{is_break, is_replaced}
 use Rattle.layout_semantics.specs.Parts.{Part, Level, kind_of_node, level_kind, inline_kind, level_of, style_level, display_level}
 use Rattle.layout_semantics.specs.WhiteSpace.{is_in}
 use Rattle.layout_semantics.specs.BoxTrees.{Item, boxes_before, own_place, first_of, has_node, nodes_of, kid_place, kid_places, items_in, items_of, own_box, anonymous_box, boxes_of, run_around, parts_in, runs_of, wrapped_in, with_part, needs_box, is_block_part, is_block_level, is_floated_level, page_parts, page_boxes, tree_styles}
 use Rattle.layout_semantics.specs.Refusals.{blocks_in_inlines, is_inline_box}
-use Rattle.layout_laws.proofs.Members.{In, Rises, from_map, to_map, from_chosen, to_chosen, from_flat_map, from_one_if, rises_chosen, any_in, any_from, any_none, all_from, unique_in}
+use Rattle.layout_laws.proofs.Members.{In, from_map, to_map, from_chosen, to_chosen, from_flat_map, from_one_if, rises_chosen, any_in, any_from, any_none, all_from, unique_in}
 use Rattle.layout_laws.proofs.Places.{node_of}
 use Rattle.layout_laws.proofs.Kids.{IsArranged, own_box_at, anonymous_box_at}
 use Rattle.layout_laws.proofs.Nesting.{IsBoxOf}
-use Rattle.layout_laws.proofs.Runs.{AreParts, find_run, found_in, from_runs, is_in_some, rises_wrapped, run_parent}
-use Rattle.layout_laws.proofs.PageParts.{IsPagePart, page_rises}
+use Rattle.layout_laws.proofs.Runs.{find_run, found_in, from_runs, is_in_some, rises_wrapped, run_parent}
+use Rattle.layout_laws.proofs.PageParts.{page_rises}
 use Rattle.layout_laws.proofs.BoxLaws.{page_arranged}
 use Rattle.layout_laws.proofs.BoxFacts.{item_known, item_part, page_box_is}
 
@@ -38,12 +38,14 @@ inline_sort c body d e = by_replaced (is_replaced body)
     by_break : (b : Bool) (k : Kind) → is_inline_level (record c { kind = k }) ≡ true → is_inline_level (record c { kind = if b then of_kind.Break else k }) ≡ true
     by_break true k h = refl
     by_break false k h = h
+
     by_body : (body : Body) (d : Display) → is_inline_level (record c { kind = inline_kind body d }) ≡ true
     by_body (of_body.Chars text) d = refl
     by_body (of_body.Element element) of_display.Hidden = by_break (is_break (of_body.Element element)) of_kind.Inline refl
     by_body (of_body.Element element) of_display.Block = by_break (is_break (of_body.Element element)) of_kind.Inline refl
     by_body (of_body.Element element) of_display.Inline = by_break (is_break (of_body.Element element)) of_kind.Inline refl
     by_body (of_body.Element element) of_display.InlineBlock = by_break (is_break (of_body.Element element)) of_kind.Atomic refl
+
     by_replaced : (b : Bool) → is_inline_level (record c { kind = if b then of_kind.Replaced else inline_kind body d }) ≡ true
     by_replaced true = ap not e
     by_replaced false = by_body body d
@@ -131,11 +133,14 @@ no_block_in_runs (p ∷ ps) run y i j = by_level p.level refl (runs_of ps) run i
   where
     level_is : (l : Level) → p.level ≡ l → is_block_level l ≡ false → is_block_level p.level ≡ false
     level_is l e n = ap is_block_level e ∙ n
+
     in_longer : (z : Part) (r : List Part) → is_block_level p.level ≡ false → In z (p ∷ r) → (In z r → is_block_level z.level ≡ false) → is_block_level z.level ≡ false
     in_longer _ r n In.here again = n
     in_longer z r n (In.there k) again = again k
+
     in_none : In y [] → is_block_level y.level ≡ false
     in_none h = elim h [ ]
+
     by_level : (l : Level) → p.level ≡ l → (runs : List (List Part)) (run : List Part) → In run (with_part l p runs) → In y run → ((r : List Part) → In r runs → In y r → is_block_level y.level ≡ false) → is_block_level y.level ≡ false
     by_level Level.block e runs _ In.here j again = in_none j
     by_level Level.block e runs run (In.there k) j again = again run k j
@@ -197,7 +202,7 @@ module _ (nodes : List Node) (styles : List Style) (page : IsPage nodes) where
       let level : y.part.level ≡ level_of (y.part.node == 0) k.entry.body k.style = ap (λ (p : Part). p.level) k.is in
       let kind : y.part.kind ≡ kind_of_node (y.part.node == 0) k.entry.body k.style = ap (λ (p : Part). p.kind) k.is in
       inline_content (tree_styles nodes styles) (own_box (items_of (page_parts nodes styles)) y) y.part.level (y.part.node == 0) k.entry.body k.style k.style_is level
-        (kind ∙ ap (λ (l : Level). if is_replaced k.entry.body then of_kind.Replaced else level_kind l k.entry.body k.style.display) (sym level)) refl n
+      (kind ∙ ap (λ (l : Level). if is_replaced k.entry.body then of_kind.Replaced else level_kind l k.entry.body k.style.display) (sym level)) refl n
 
   -- with a block among its siblings, a part in no run is a block or a float
   block_beside : (y : Item) (n : ℕ) → In y (items_of (page_parts nodes styles)) → y.part.parent ≡ Some n → y.run ≡ None → list_any is_block_part (parts_in (page_parts nodes styles) n) ≡ true
@@ -241,34 +246,36 @@ module _ (nodes : List Node) (styles : List Style) (page : IsPage nodes) where
       → list_all (box_passes (is_inline_content (tree_styles nodes styles)) (page_boxes nodes styles)) (map (own_place (items_of (page_parts nodes styles))) run) ≡ true
   anonymous_sort x run i e =
       all_from (box_passes (is_inline_content (tree_styles nodes styles)) (page_boxes nodes styles)) (map (own_place (items_of (page_parts nodes styles))) run)
-        (λ place j.
-          let from = from_map (own_place (items_of (page_parts nodes styles))) run place j in
-          let arranged = page_arranged nodes styles page in
-          let m = (arranged.runs x run i e).members from.0 from.1 in
-          let place_is : own_place (items_of (page_parts nodes styles)) (node_of m.item) ≡ place = ap (own_place (items_of (page_parts nodes styles))) m.node ∙ from.2 in
-          passes_at (is_inline_content (tree_styles nodes styles)) (page_boxes nodes styles) place (own_box (items_of (page_parts nodes styles)) m.item)
-            (ap (slice_get (page_boxes nodes styles)) (sym place_is) ∙ own_box_at (items_of (page_parts nodes styles)) arranged m.item m.inside)
-            (own_inline_content m.item m.inside (run_no_block m.item run m.inside m.run_is)))
+      (λ place j.
+      let from = from_map (own_place (items_of (page_parts nodes styles))) run place j in
+      let arranged = page_arranged nodes styles page in
+      let m = (arranged.runs x run i e).members from.0 from.1 in
+      let place_is : own_place (items_of (page_parts nodes styles)) (node_of m.item) ≡ place = ap (own_place (items_of (page_parts nodes styles))) m.node ∙ from.2 in
+      passes_at (is_inline_content (tree_styles nodes styles)) (page_boxes nodes styles) place (own_box (items_of (page_parts nodes styles)) m.item)
+      (ap (slice_get (page_boxes nodes styles)) (sym place_is) ∙ own_box_at (items_of (page_parts nodes styles)) arranged m.item m.inside)
+      (own_inline_content m.item m.inside (run_no_block m.item run m.inside m.run_is)))
 
   -- without a block among its parts, a node's box holds inline content
   inline_kids : (n : ℕ) → list_any is_block_part (parts_in (page_parts nodes styles) n) ≡ false
       → list_all (box_passes (is_inline_content (tree_styles nodes styles)) (page_boxes nodes styles)) (kid_places (items_of (page_parts nodes styles)) n) ≡ true
   inline_kids n none =
       all_from (box_passes (is_inline_content (tree_styles nodes styles)) (page_boxes nodes styles)) (kid_places (items_of (page_parts nodes styles)) n)
-        (λ k j. by_kid k (kid_box (items_of (page_parts nodes styles)) (page_arranged nodes styles page) n k j) (from_flat_map (kid_place (items_of (page_parts nodes styles))) (items_in (items_of (page_parts nodes styles)) n) k j))
+      (λ k j. by_kid k (kid_box (items_of (page_parts nodes styles)) (page_arranged nodes styles page) n k j) (from_flat_map (kid_place (items_of (page_parts nodes styles))) (items_in (items_of (page_parts nodes styles)) n) k j))
     where
       no_run : (y : Item) → In y (items_in (items_of (page_parts nodes styles)) n) → y.run ≡ None
       no_run y j =
           let c = from_chosen (λ (item : Item). is_in n item.part.parent) (items_of (page_parts nodes styles)) y j in
           run_in y n c.0 (is_in_some n y.part.parent c.1) ∙ ap (λ (b : Bool). find (has_node (node_of y)) (map nodes_of (if b then chosen needs_box (runs_of (parts_in (page_parts nodes styles) n)) else []))) none
+
       by_item : (p : Part) (run : Option (List ℕ)) (k : ℕ) → run ≡ None → In (record { part = p; run = run }) (items_of (page_parts nodes styles)) → p.parent ≡ Some n → In k (kid_place (items_of (page_parts nodes styles)) (record { part = p; run = run }))
           → box_passes (is_inline_content (tree_styles nodes styles)) (page_boxes nodes styles) k ≡ true
       by_item p (Some run) k e i up j = absurd (cc)
       by_item p None _ e i up In.here =
           passes_at (is_inline_content (tree_styles nodes styles)) (page_boxes nodes styles) (own_place (items_of (page_parts nodes styles)) p.node) (own_box (items_of (page_parts nodes styles)) (record { part = p; run = None }))
-            (own_box_at (items_of (page_parts nodes styles)) (page_arranged nodes styles page) (record { part = p; run = None }) i)
-            (own_inline_content (record { part = p; run = None }) i (any_none is_block_part (parts_in (page_parts nodes styles) n) p none (kid_part (record { part = p; run = None }) n i up)))
+          (own_box_at (items_of (page_parts nodes styles)) (page_arranged nodes styles page) (record { part = p; run = None }) i)
+          (own_inline_content (record { part = p; run = None }) i (any_none is_block_part (parts_in (page_parts nodes styles) n) p none (kid_part (record { part = p; run = None }) n i up)))
       by_item p None k e i up (In.there j) = elim j [ ]
+
       by_kid : (k : ℕ) → IsKidBox (items_of (page_parts nodes styles)) n k → (y : Item) × In y (items_in (items_of (page_parts nodes styles)) n) × In k (kid_place (items_of (page_parts nodes styles)) y)
           → box_passes (is_inline_content (tree_styles nodes styles)) (page_boxes nodes styles) k ≡ true
       by_kid k box f =
@@ -280,10 +287,11 @@ module _ (nodes : List Node) (styles : List Style) (page : IsPage nodes) where
       → list_all (box_passes (is_block_content (tree_styles nodes styles)) (page_boxes nodes styles)) (kid_places (items_of (page_parts nodes styles)) n) ≡ true
   block_kids n some =
       all_from (box_passes (is_block_content (tree_styles nodes styles)) (page_boxes nodes styles)) (kid_places (items_of (page_parts nodes styles)) n)
-        (λ k j. by_kid k (kid_box (items_of (page_parts nodes styles)) (page_arranged nodes styles page) n k j))
+      (λ k j. by_kid k (kid_box (items_of (page_parts nodes styles)) (page_arranged nodes styles page) n k j))
     where
       block_level : (c : BoxNode) → c.block_level ≡ true → is_block_content (tree_styles nodes styles) c ≡ true
       block_level c e = or_second (is_floated (tree_styles nodes styles) c) (is_block_or_anon c) (or_first c.block_level (is_anon c.kind) e)
+
       by_kid : (k : ℕ) → IsKidBox (items_of (page_parts nodes styles)) n k → box_passes (is_block_content (tree_styles nodes styles)) (page_boxes nodes styles) k ≡ true
       by_kid k (IsKidBox.own y i up none at) = passes_at (is_block_content (tree_styles nodes styles)) (page_boxes nodes styles) k (own_box (items_of (page_parts nodes styles)) y) at (block_level (own_box (items_of (page_parts nodes styles)) y) (block_beside y n i up none some))
       by_kid k (IsKidBox.anonymous y run at) = passes_at (is_block_content (tree_styles nodes styles)) (page_boxes nodes styles) k (anonymous_box (items_of (page_parts nodes styles)) y.part run) at (block_level (anonymous_box (items_of (page_parts nodes styles)) y.part run) refl)
@@ -308,6 +316,7 @@ module _ (nodes : List Node) (styles : List Style) (page : IsPage nodes) where
       by_any x i false s = or_first (list_all (box_passes (is_inline_content (tree_styles nodes styles)) (page_boxes nodes styles)) (kid_places (items_of (page_parts nodes styles)) (node_of x))) (not (is_inline x.part.kind) && list_all (box_passes (is_block_content (tree_styles nodes styles)) (page_boxes nodes styles)) (kid_places (items_of (page_parts nodes styles)) (node_of x))) (inline_kids (node_of x) s)
       by_any x i true s = or_second (list_all (box_passes (is_inline_content (tree_styles nodes styles)) (page_boxes nodes styles)) (kid_places (items_of (page_parts nodes styles)) (node_of x))) (not (is_inline x.part.kind) && list_all (box_passes (is_block_content (tree_styles nodes styles)) (page_boxes nodes styles)) (kid_places (items_of (page_parts nodes styles)) (node_of x)))
           (ap (λ b. not b && list_all (box_passes (is_block_content (tree_styles nodes styles)) (page_boxes nodes styles)) (kid_places (items_of (page_parts nodes styles)) (node_of x))) (inline_has_no_block none x i s) ∙ block_kids (node_of x) s)
+
       by_box : IsBoxOf (items_of (page_parts nodes styles)) at b → holds_one_sort (tree_styles nodes styles) (page_boxes nodes styles) b ≡ true
       by_box (IsBoxOf.own x i p s) = subst (λ (c : BoxNode). holds_one_sort (tree_styles nodes styles) (page_boxes nodes styles) c ≡ true) (sym s) (by_any x i (list_any is_block_part (parts_in (page_parts nodes styles) (node_of x))) refl)
       by_box (IsBoxOf.anonymous x run i r t p s) = subst (λ (c : BoxNode). holds_one_sort (tree_styles nodes styles) (page_boxes nodes styles) c ≡ true) (sym s)

@@ -1,12 +1,14 @@
 ghost use Rattle.std.specs.Prelude.{◌≡◌, ◌<◌, slice_get, Some, ℕ, false, IsTrue, Contains, is_some, []};
-ghost use Rattle.viz_base.specs.Trees.{ascends, is_replaced, is_leaf, is_anon};
+ghost use Rattle.viz_base.specs.Trees.{IsBoxTree, ascends, is_replaced, is_leaf, is_anon};
 ghost use Rattle.viz_base.specs.declared.trees.BoxNode.{BoxNode};
 ghost use Rattle.layout_semantics.specs.Blocks.{parent_of};
 ghost use Rattle.layout_semantics.specs.Elements.{ancestors, is_closed, is_hidden, node_passes};
 ghost use Rattle.layout_semantics.specs.Order.{kids_of};
-ghost use Rattle.layout_semantics.specs.BoxTrees.{page_boxes};
+ghost use Rattle.layout_semantics.specs.BoxTrees.{page_boxes, page_parts, tree_parents, tree_styles};
+ghost use Rattle.layout_semantics.specs.Refusals.{blocks_in_inlines};
+ghost use Rattle.layout_laws.specs.Styled.{AreStylesOf};
 
-use viz_base::{List, Page, Style};
+use viz_base::{Font, List, Page, Style};
 
 /// Boxes stand in document order (CSS 2.1, 3.1): a box before the boxes in it, and these in ascending order.
 pub fn a_box_comes_before_its_content(page: &Page, styles: &List<Style>, at: usize)
@@ -50,4 +52,12 @@ pub fn replaced_boxes_alone_have_a_size(page: &Page, styles: &List<Style>, at: u
 /// Text boxes, forced line breaks and replaced boxes hold no boxes.
 pub fn leaves_hold_no_box(page: &Page, styles: &List<Style>, at: usize)
     ensures { (b : BoxNode) → slice_get (page_boxes page.now.nodes styles.now) at ≡ Some b → IsTrue (is_leaf b.kind) → b.kids ≡ [] }
+{}
+
+/// Where no block-level box in normal flow is in an inline box, the boxes of a page and its styles are a box tree: each
+/// fact of `BoxTree` holds.
+pub fn the_boxes_of_a_page_are_a_tree(page: &Page, styles: &List<Style>, fonts: &List<Font>)
+    requires styled { AreStylesOf page.now.nodes styles.now fonts.now }
+    requires no_block_in_inlines { blocks_in_inlines (page_parts page.now.nodes styles.now) ≡ [] }
+    ensures { IsBoxTree (page_boxes page.now.nodes styles.now) (tree_styles page.now.nodes styles.now) fonts.now (tree_parents page.now.nodes) }
 {}
