@@ -3,5 +3,10 @@ pub mod Places
 pub mod Kids
 pub mod Nesting
 pub mod Runs
+pub mod Shown
+pub mod Above
+pub mod PageParts
+pub mod BoxLaws
+pub mod BoxFacts
 pub mod Prefixes
 pub mod Greatest

@@ -1,5 +1,5 @@
 -- The box tree of a page and its styles (CSS 2.1, 9.2).
-use Rattle.std.specs.Prelude.{sum, unwrap_or, option_and_then, ℕ, ◌+◌, Bool, true, false, not, ◌&&◌, ◌||◌, ◌==◌, nat_lt, List, [], ◌∷◌, map, find, flat_map, Option, Some, None, option_map, option_to_list, slice_get, slice_index, if◌then◌else◌, encode_utf8_all, codes}
+use Rattle.std.specs.Prelude.{zip, sum, unwrap_or, option_and_then, ℕ, ◌+◌, Bool, true, false, not, ◌&&◌, ◌||◌, ◌==◌, nat_lt, List, [], ◌∷◌, map, find, flat_map, Option, Some, None, option_map, slice_get, slice_index, if◌then◌else◌, encode_utf8_all, codes}
 use Rattle.std.specs.List.{list_any, enumerate_from}
 use Rattle.std.specs.Option.{option_map_or}
 use Rattle.viz_base.specs.Pages.{is_element}
@@ -39,13 +39,11 @@ tree_style is_root gives_clip s = record s {
   clips = not gives_clip && s.clips;
 }
 
-abbrev pub tree_style_at : Option ℕ → List Style → ℕ × Node → List Style
-tree_style_at clip styles entry =
-    map (tree_style (styled_element entry.0 entry.1 == 0) (is_in (styled_element entry.0 entry.1) clip))
-    (option_to_list (slice_get styles entry.0))
+abbrev pub tree_style_of : Option ℕ → (ℕ × Node) × Style → Style
+tree_style_of clip styled = tree_style (styled_element styled.0.0 styled.0.1 == 0) (is_in (styled_element styled.0.0 styled.0.1) clip) styled.1
 
 abbrev pub tree_styles : List Node → List Style → List Style
-tree_styles nodes styles = flat_map (tree_style_at (viewport_clip nodes styles) styles) (enumerate_from 0 nodes)
+tree_styles nodes styles = map (tree_style_of (viewport_clip nodes styles)) (zip (enumerate_from 0 nodes) styles)
 
 abbrev pub tree_parents : List Node → List (Option ℕ)
 tree_parents nodes = map (λ (n : Node). n.parent) nodes
