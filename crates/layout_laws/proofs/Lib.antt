@@ -1,2 +1,4 @@
 pub mod Prefixes
 pub mod Greatest
+pub mod Levels
+pub mod PreferredWidths
