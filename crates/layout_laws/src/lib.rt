@@ -1,5 +1,6 @@
 //! Laws of the layout that layout_semantics defines: what holds of all pages, said without the definitions' recursions.
 #![tactic(auto)]
 
+mod boxes;
 mod lines;
 mod widths;
