@@ -7,3 +7,4 @@ pub mod Prefixes
 pub mod Greatest
 pub mod Levels
 pub mod PreferredWidths
+pub mod HorizontalTerms

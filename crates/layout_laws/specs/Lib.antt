@@ -1,2 +1,3 @@
 pub mod Greatest
 pub mod Outer
+pub mod Terms

@@ -1,7 +1,10 @@
-ghost use Rattle.std.specs.Prelude.{◌≡◌, ◌<◌, length};
+ghost use Rattle.std.specs.Prelude.{◌≡◌, ◌<◌, ℤ, ◌≤ℤ◌, length};
+ghost use Rattle.viz_base.specs.declared.layouts.Preferred.{Preferred};
+ghost use Rattle.layout_semantics.specs.Horizontal.{widths, sum_of, placing_of, block_flow, shrunk, block_terms, shrunk_terms, shrink_to_fit};
 ghost use Rattle.layout_semantics.specs.Preferred.{preferred, inside_of, inline_content, blocks, a_replaced};
 ghost use Rattle.layout_semantics.specs.Replaced.{preferred_replaced};
 ghost use Rattle.layout_laws.specs.Greatest.{IsGreatestOf};
+ghost use Rattle.layout_laws.specs.Terms.{IsInFlowBlock, own_width, held_width};
 ghost use Rattle.layout_laws.specs.Outer.{unbreakable_widths, piece_widths, child_least_widths, child_most_widths};
 
 use viz_base::{BoxTree, World};
@@ -30,4 +33,24 @@ pub fn preferred_widths_of_a_replaced_box(tree: &BoxTree, world: World, at: usiz
     requires replaced { inside_of tree.now at ≡ a_replaced }
     ensures least { (preferred tree.now world at).least ≡ preferred_replaced tree.now world at }
     ensures most { (preferred tree.now world at).most ≡ preferred_replaced tree.now world at }
+{}
+
+/// The seven terms of a block in normal flow add up to the width of its containing block (CSS 2.1, 10.3.3, 10.3.4).
+pub fn the_terms_of_a_block_add_up(tree: &BoxTree, world: World, height: u32, at: usize)
+    ensures { (cb : ℤ) → IsInFlowBlock tree.now at → sum_of (widths tree.now world height at cb) ≡ cb }
+{}
+
+/// The used width of a box that isn't replaced is the one that its own `width` gives, but no more than its maximum, and then no less than
+/// its minimum (CSS 2.1, 10.4).
+pub fn used_widths_are_held(tree: &BoxTree, world: World, height: u32, at: usize)
+    ensures block { (cb : ℤ) → placing_of tree.now at ≡ block_flow → (widths tree.now world height at cb).content ≡ held_width tree.now world at cb (block_terms tree.now world at cb (own_width tree.now world at cb)).content }
+    ensures shrunk { (cb : ℤ) → placing_of tree.now at ≡ shrunk → (widths tree.now world height at cb).content ≡ held_width tree.now world at cb (shrunk_terms tree.now world at cb (own_width tree.now world at cb)).content }
+{}
+
+/// The width that a float or an inline-block shrinks to is what is left of the containing block where that lies between its preferred
+/// widths (CSS 2.1, 10.3.5).
+pub fn a_width_shrinks_to_fit()
+    ensures least { (p : Preferred ℤ) (room : ℤ) → p.least ≤ℤ p.most → p.least ≤ℤ shrink_to_fit p room }
+    ensures most { (p : Preferred ℤ) (room : ℤ) → shrink_to_fit p room ≤ℤ p.most }
+    ensures between { (p : Preferred ℤ) (room : ℤ) → p.least ≤ℤ room → room ≤ℤ p.most → shrink_to_fit p room ≡ room }
 {}
