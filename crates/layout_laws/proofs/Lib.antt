@@ -8,3 +8,4 @@ pub mod Greatest
 pub mod Levels
 pub mod PreferredWidths
 pub mod HorizontalTerms
+pub mod FontSizes
