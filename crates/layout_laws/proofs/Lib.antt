@@ -9,3 +9,4 @@ pub mod Levels
 pub mod PreferredWidths
 pub mod HorizontalTerms
 pub mod FontSizes
+pub mod LineTops
