@@ -13,8 +13,17 @@ page, `tree`, `height` (px), `w`, `s` and `cases`:
   fonts      [node, font size, line height, ascent, descent], and `words`: [node, text, width]
   widths     [box, containing width, [margin, border, padding, content, padding, border, margin]]
   preferred  [box, least, most]
+  lead       [box, containing width, box before which none is cleared or null, margins, floats, end]
+Others have no `cases`; floats are a list of [side, left, top, right, bottom]:
+  float_at   `floats`, `side`, `size`, `cb`, `top`, `spot`
+  band       `floats`, `cb`, `y`, `h`, `band`
+  bottom     `floats`, `clear`, `bottom`
+  collapsed  `margins`, `pos`, `neg`, `value`
+  resolve    a page, `e` (an edge), `run` (margins), `b` (a box), `cb`, `floats`, `least`, `lead` (margins), `cleared` (a box), `edge`
+A line of trees.jsonl has a `tree`, its `height`, and `worlds`: `w`, `s` and `boxes`, each of them kind, node and the edges of four rectangles.
 A tree has `boxes`, `styles`, `fonts` and `parents`, the members of BoxTree; members with their initial values are left out (STYLE and BOX
-below). A length is "Auto", ["Px", units], ["Em", millionths, node] or ["Pct", millionths]; of four sides the order is top, right, bottom, left.
+below). A line of boxes.jsonl has a `page`, an element {"tag", "attrs", "size", "children"} whose children are elements and texts, `css`,
+`fonts` (names) and `boxes` and `styles`, or in their place `fault` with the refusal and its numbers. A length is "Auto", ["Px", units], ["Em", millionths, node] or ["Pct", millionths]; of four sides the order is top, right, bottom, left.
 """
 import argparse
 import json
@@ -23,6 +32,9 @@ import re
 import shutil
 import subprocess
 import sys
+
+sys.dont_write_bytecode = True
+import refused_styles  # noqa: E402
 
 TOP = pathlib.Path(__file__).resolve().parent.parent
 ZERO = ["Px", 0]
@@ -176,15 +188,148 @@ def preferred_laws(case):
         yield law(f"preferred (tree page ok) {world(case)} {at}", record({"least": number(least), "most": number(most)}))
 
 
+# ---- laws of floats, margins and flow
+
+
+def float_box(given):
+    side, left, top, right, bottom = given
+    return record({"side": variant("side", side), "box": quad((left, top, right, bottom))})
+
+
+def quad(edges):
+    return record(dict(zip(("left", "top", "right", "bottom"), map(number, edges))))
+
+
+def floats(given):
+    return sequence(map(float_box, given))
+
+
+def band(given):
+    return record({"left": number(given[0]), "right": number(given[1])})
+
+
+def numbers(given):
+    return sequence(map(number, given))
+
+
+def place_laws(case):
+    size = record({"width": number(case["size"][0]), "height": number(case["size"][1])})
+    spot = record({"x": number(case["spot"][0]), "y": number(case["spot"][1])})
+    yield f"float_at {floats(case['floats'])} {variant('side', case['side'])} ({size}) ({band(case['cb'])}) {number(case['top'])} ≡ {spot}"
+
+
+def band_laws(case):
+    yield f"band_at {floats(case['floats'])} ({band(case['cb'])}) {number(case['y'])} {number(case['h'])} ≡ {band(case['band'])}"
+
+
+def bottom_laws(case):
+    yield f"lowest_bottom {variant('clear', case['clear'])} {floats(case['floats'])} ≡ {perhaps(case['bottom'], number)}"
+
+
+def collapsed_laws(case):
+    yield f"collapsed {numbers(case['margins'])} ≡ {number(case['value'])}"
+    yield f"greatest_from (pos 0) {numbers(case['margins'])} ≡ {number(case['pos'])}"
+    yield f"least_from (pos 0) {numbers(case['margins'])} ≡ {number(case['neg'])}"
+
+
+def lead_laws(case):
+    for at, around, past, margins, waiting, end in case["cases"]:
+        passed = "none_passed" if past is None else f"(is_up_to (tree page ok) {past})"
+        lead = f"lead (tree page ok) {world(case)} {case['height']} {passed} ({band((0, around))}) {at}"
+        yield law(f"({lead}).margins", numbers(margins))
+        yield law(f"map (λ (f : Waiting). f.at) ({lead}).waiting", sequence(map(str, waiting)))
+        yield law(f"({lead}).end", variant("end", [end[0]] + list(map(str, end[1:]))))
+
+
+def resolve_laws(case):
+    page = f"(tree page ok) {world(case)} {case['height']}"
+    edge = f"(λ more. {number(case['e'])} +ℤ collapsed ({numbers(case['run'])} ++ more))"
+    cleared = "None" if case["cleared"] is None else f"(Some ({case['cleared']}, {number(case['edge'])}))"
+    yield law(f"resolve {page} (waiting_size {page} (flow_to {page} {len(case['tree']['boxes'])})) {edge} ({band(case['cb'])}) {floats(case['floats'])} {perhaps(case['least'], number)} {case['b']} none_passed",
+              record({"margins": numbers(case["lead"]), "cleared": cleared}))
+
+
+def placed(given):
+    return record({"kind": variant("kind", given[0]), "node": given[1], "margin": quad(given[2:6]), "border": quad(given[6:10]),
+                   "padding": quad(given[10:14]), "content": quad(given[14:18])})
+
+
+def render_laws(case):
+    for at in case["worlds"]:
+        yield law(f"page_rendering (tree page ok) {world(at)} {case['height']}", record({"boxes": sequence(map(placed, at["boxes"]))}))
+# ---- box trees of pages
+
+
+def nodes_of(page):
+    """The nodes in document order: the number of the parent, the element, or the text."""
+    found = []
+
+    def walk(node, parent):
+        at = len(found)
+        found.append((parent, node))
+        for child in [] if isinstance(node, str) else node.get("children", []):
+            walk(child, at)
+
+    walk(page, None)
+    return found
+
+
+def body(node):
+    if isinstance(node, str):
+        return f"of_body.Chars {text(node)}"
+    attrs = sequence(record({"name": text(name.lower()), "value": text(value)}) for name, value in node.get("attrs", {}).items())
+    size_of = perhaps(node.get("size"), lambda pair: f"({pair[0]}, {pair[1]})")
+    return f"of_body.Element ({record({'tag': text(node['tag'].lower()), 'attrs': attrs, 'size': size_of})})"
+
+
+def square(name):
+    return {"name": name, "upem": 1000, "ascent": 800, "descent": 200, "other": 500, "advances": []}
+
+
+def document(case):
+    given = case["styles"] if "styles" in case else refused_styles.styles_of(case["page"], case["css"])
+    nodes = sequence(record({"parent": perhaps(parent, str), "body": body(node)}) for parent, node in nodes_of(case["page"]))
+    return f"""abbrev page_nodes : List Node
+page_nodes = {nodes}
+
+abbrev page_styles : List PlainStyle
+page_styles = {sequence(map(style, given))}
+
+abbrev page_fonts : List PlainFont
+page_fonts = {sequence(font(square(name)) for name in case["fonts"])}
+"""
+
+
+REFUSALS = {"BlockInInline": "block_in_inline", "RightToLeft": "right_to_left", "TooManyBoxes": "too_many_boxes", "Reach": "reach"}
+
+
+def box_laws(case):
+    for_all = "(ok : StylesKeep page_styles × FontsKeep page_fonts) →"
+    name, *numbers = case.get("fault", "none").split()
+    refusal = "None" if name == "none" else f"Some ({' '.join(['BoxRefusal.' + REFUSALS[name]] + numbers)})"
+    yield f"{for_all} page_refusal page_nodes (styles page_styles ok.0) (fonts page_fonts ok.1) ≡ {refusal}"
+    if "boxes" in case:
+        yield f"{for_all} page_boxes page_nodes (styles page_styles ok.0) ≡ {sequence(map(box, case['boxes']))}"
+        yield f"{for_all} tree_styles page_nodes (styles page_styles ok.0) ≡ styles page_styles ok.0"
+
+
 # the laws of a case, and the definitions that they name, by module
 CALLS = {
     "used": (used_laws, {"Lengths": ["used"]}),
     "fonts": (font_laws, {"Fonts": ["font_size", "line_height", "ascent", "descent", "text_width"]}),
     "widths": (width_laws, {"Horizontal": ["widths"]}),
     "preferred": (preferred_laws, {"Preferred": ["preferred"]}),
+    "float_at": (place_laws, {"Floats": ["float_at"]}),
+    "band": (band_laws, {"Floats": ["band_at"]}),
+    "bottom": (bottom_laws, {"Floats": ["lowest_bottom"]}),
+    "collapsed": (collapsed_laws, {"Margins": ["collapsed"], "Extremes": ["greatest_from", "least_from"]}),
+    "lead": (lead_laws, {"Leads": ["Waiting", "lead", "none_passed", "is_up_to"]}),
+    "resolve": (resolve_laws, {"Clearance": ["resolve"], "Flow": ["waiting_size"], "Leads": ["none_passed"], "Margins": ["collapsed"]}),
+    "render": (render_laws, {"Page": ["page_rendering"]}),
+    "boxes": (box_laws, {"BoxTrees": ["page_boxes", "tree_styles"], "Refusals": ["page_refusal", "BoxRefusal"]}),
 }
 
-HEAD = """use Rattle.std.proofs.Common.{◌≡◌, ℕ, ℤ, pos, negsuc, List, [], ◌∷◌, Option, Some, None, refl, true, false}
+HEAD = """use Rattle.std.proofs.Common.{◌≡◌, ℕ, ℤ, pos, negsuc, ◌+ℤ◌, List, [], ◌∷◌, ◌++◌, map, Option, Some, None, refl, true, false}
 use Rattle.std.specs.Str.{chars}
 use Rattle.viz_base.specs.declared.lengths.Length.TheVariants as of_length
 use Rattle.viz_base.specs.declared.lengths.LineHeight.TheVariants as of_line
@@ -195,9 +340,12 @@ use Rattle.viz_base.specs.declared.styles.Clear.TheVariants as of_clear
 use Rattle.viz_base.specs.declared.styles.Align.TheVariants as of_align
 use Rattle.viz_base.specs.declared.styles.Side.TheVariants as of_side
 use Rattle.viz_base.specs.declared.trees.Kind.TheVariants as of_kind
+use Rattle.viz_base.specs.declared.layouts.LeadEnd.TheVariants as of_end
 use Rattle.viz_base.specs.declared.trees.BoxNode.{BoxNode}
+use Rattle.viz_base.specs.declared.nodes.Body.TheVariants as of_body
+use Rattle.viz_base.specs.declared.nodes.Node.{Node}
 use Rattle.viz_base.specs.declared.worlds.World.{World}
-use Rattle.vectors.proofs.Plain.{PlainStyle, PlainFont, PlainTree, TreeKeeps, tree}
+use Rattle.vectors.proofs.Plain.{PlainStyle, PlainFont, PlainTree, TreeKeeps, StylesKeep, FontsKeep, tree, styles, fonts}
 """
 
 PLAIN = """-- Pages without the facts that their types keep: a law of a page holds whatever the proofs of these are.
@@ -325,7 +473,9 @@ def case_file(case, laws, named):
     out = [HEAD + "".join(f"use Rattle.layout_semantics.specs.{module}.{{{', '.join(names)}}}\n" for module, names in uses.items())]
     if "tree" in case:
         out.append(page(case["tree"]))
-    every = " ".join(["chars"] + [name for names in unfolded.values() for name in names])
+    if "page" in case:
+        out.append(document(case))
+    every = " ".join(["chars", "lib.Utf8.encode"] + [name for names in unfolded.values() for name in names])
     for at, statement in enumerate(laws):
         out.append(f"case{at} : {statement}\nunfolding {every}\ncase{at}{' ok' if statement.startswith('(ok') else ''} = refl\n")
     return "\n".join(out)
@@ -382,7 +532,7 @@ def main():
     cases = []
     for at, told in enumerate((given.vectors / given.file).read_text().splitlines()):
         case = json.loads(told)
-        case.setdefault("call", "render")
+        case.setdefault("call", "boxes" if "page" in case else "render")
         if case["call"] in (given.call or CALLS) and given.first <= at < given.to:
             cases.append((at, case))
     agree = 0

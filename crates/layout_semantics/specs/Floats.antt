@@ -83,25 +83,21 @@ farthest_at floats side width cb y = by_side side (beside (filter (is_next_to y)
 abbrev pub highest_top : List FloatBox → ℤ → ℤ
 highest_top floats top = greatest_from top (map (λ (f : FloatBox). f.box.top) floats)
 
--- only below a float's bottom is there more room: the highest allowed place has its top at the highest top or at such a bottom
+-- only below a float's bottom is there more room, so a float is at the highest top or at such a bottom
 abbrev pub candidate_tops : List FloatBox → ℤ → List ℤ
 candidate_tops floats high = high ∷ filter (int_lt high) (map (λ (f : FloatBox). f.box.bottom) floats)
-
--- the highest place of these, the first of them being counted where none is higher
-abbrev pub highest_of : Spot ℤ → List (Spot ℤ) → Spot ℤ
-highest_of best [] = best
-highest_of best (at ∷ rest) = highest_of (cond (int_lt at.y best.y) at best) rest
 
 -- below all floats every place is free
 abbrev pub below_all : List FloatBox → ℤ → ℤ
 below_all floats high = greatest_from high (map (λ (f : FloatBox). f.box.bottom) floats)
 
+-- the highest of these tops at which the place farthest to its side is allowed
+abbrev pub highest_free : List FloatBox → Side → ℤ → Band ℤ → ℤ → ℤ → ℤ
+highest_free floats side width cb top high =
+    least_from (below_all floats high) (filter (λ y. is_allowed floats side width cb top (farthest_at floats side width cb y)) (candidate_tops floats high))
+
 abbrev pub float_at : List FloatBox → Side → Extent ℤ → Band ℤ → ℤ → Spot ℤ
-float_at floats side size cb top =
-    let high = highest_top floats top in
-    highest_of
-    (farthest_at floats side size.width cb (below_all floats high))
-    (filter (is_allowed floats side size.width cb top) (map (farthest_at floats side size.width cb) (candidate_tops floats high)))
+float_at floats side size cb top = farthest_at floats side size.width cb (highest_free floats side size.width cb top (highest_top floats top))
 
 -- ---- bands (CSS 2.1, 9.5)
 
