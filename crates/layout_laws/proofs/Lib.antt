@@ -10,3 +10,8 @@ pub mod BoxLaws
 pub mod BoxFacts
 pub mod Prefixes
 pub mod Greatest
+pub mod Levels
+pub mod PreferredWidths
+pub mod HorizontalTerms
+pub mod FontSizes
+pub mod LineTops

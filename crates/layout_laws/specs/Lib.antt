@@ -1,1 +1,4 @@
 pub mod Greatest
+pub mod Outer
+pub mod Terms
+pub mod Standing

@@ -2,4 +2,6 @@
 #![tactic(auto)]
 
 mod boxes;
+mod fonts;
 mod lines;
+mod widths;
