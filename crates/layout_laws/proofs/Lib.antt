@@ -1,2 +1,5 @@
 pub mod Prefixes
 pub mod Greatest
+pub mod Among
+pub mod Extremes
+pub mod FloatPlaces

@@ -1,4 +1,5 @@
 //! Laws of the layout that layout_semantics defines: what holds of all pages, said without the definitions' recursions.
 #![tactic(auto)]
 
+mod floats;
 mod lines;

@@ -1,0 +1,130 @@
+-- Which places of floats are allowed, and which is the highest.
+use Rattle.std.proofs.Common.{◌≡◌, ◌↔◌, ℤ, ◌+ℤ◌, ◌-ℤ◌, ◌≤ℤ◌, ◌<ℤ◌, Bool, true, false, not, cond, ◌&&◌, ◌||◌, int_le, int_lt, IsTrue, List, [], ◌∷◌, Contains, map, filter, refl, sym, ap, ◌∙◌, subst, inl, inr, ◌⊎◌, arith}
+use Rattle.std.specs.List.{list_all}
+use Rattle.std.proofs.lemmas.Int.{ints, clamps}
+use Rattle.viz_base.specs.declared.layouts.Band.{Band}
+use Rattle.viz_base.specs.declared.layouts.Spot.{Spot}
+use Rattle.viz_base.specs.declared.styles.Side.{Side}
+use Rattle.viz_base.specs.declared.styles.Side.TheVariants as of_side
+use Rattle.layout_semantics.specs.Extremes.{greatest_from, least_from}
+use Rattle.layout_semantics.specs.Floats.{FloatBox, is_left, left_ones, right_ones, beside, is_next_to, fits_beside, is_inside, is_allowed, farthest_at, highest_top, candidate_tops, below_all, highest_free}
+use Rattle.layout_laws.specs.FloatRules.{IsNextTo, IsLowEnough, LeftObeys, RightObeys, ObeysRules}
+use Rattle.layout_laws.proofs.Among.{Among, among, contains, passes, all_pass, filtered, filters, image, source}
+use Rattle.layout_laws.proofs.Extremes.{below_greatest, start_below_greatest, greatest_at_most, greatest_is_one, above_least, start_above_least, least_at_least, least_is_one}
+
+-- ---- truths
+
+le : (x y : ℤ) → IsTrue (int_le x y) → x ≤ℤ y
+le x y h = grind (arith, ints)
+
+is_le : (x y : ℤ) → x ≤ℤ y → IsTrue (int_le x y)
+is_le x y h = grind (arith, ints)
+
+lt : (x y : ℤ) → IsTrue (int_lt x y) → x <ℤ y
+lt x y h = grind (arith, ints)
+
+is_lt : (x y : ℤ) → x <ℤ y → IsTrue (int_lt x y)
+is_lt x y h = grind (arith, ints)
+
+left_of : (a b : Bool) → IsTrue (a && b) → IsTrue a
+left_of true b h = refl
+left_of false b h = h
+
+right_of : (a b : Bool) → IsTrue (a && b) → IsTrue b
+right_of true b h = h
+right_of false b h = absurd (cc)
+
+both_of : (a b : Bool) → IsTrue a → IsTrue b → IsTrue (a && b)
+both_of true b h k = k
+both_of false b h k = h
+
+-- where the premise holds, so does the conclusion
+implied : (a b : Bool) → IsTrue a → IsTrue (not a || b) → IsTrue b
+implied true b h k = k
+implied false b h k = absurd (cc)
+
+implies : (a b : Bool) → (IsTrue a → IsTrue b) → IsTrue (not a || b)
+implies true b h = h refl
+implies false b h = refl
+
+on_true : (c x y : Bool) → IsTrue c → IsTrue (cond c x y) → IsTrue x
+on_true true x y t h = h
+on_true false x y t h = absurd (cc)
+
+on_false : (c x y : Bool) → c ≡ false → IsTrue (cond c x y) → IsTrue y
+on_false true x y t h = absurd (cc)
+on_false false x y t h = h
+
+by_cond : (c x y : Bool) → (IsTrue c → IsTrue x) → (c ≡ false → IsTrue y) → IsTrue (cond c x y)
+by_cond true x y h k = h refl
+by_cond false x y h k = k refl
+
+-- ---- the rules
+
+next_to : (y : ℤ) (f : FloatBox) → IsNextTo y f → IsTrue (is_next_to y f)
+next_to y f n = both_of (int_le f.box.top y) (int_lt y f.box.bottom) (is_le f.box.top y n.from) (is_lt y f.box.bottom n.to)
+
+is_next : (y : ℤ) (f : FloatBox) → IsTrue (is_next_to y f) → IsNextTo y f
+is_next y f h = record { from = le f.box.top y (left_of (int_le f.box.top y) (int_lt y f.box.bottom) h); to = lt y f.box.bottom (right_of (int_le f.box.top y) (int_lt y f.box.bottom) h) }
+
+module _ (floats : List FloatBox) (width : ℤ) (cb : Band ℤ) (top : ℤ) (at : Spot ℤ) where
+
+  low : Bool
+  low = int_le top at.y
+
+  tops : Bool
+  tops = list_all (λ (f : FloatBox). int_le f.box.top at.y) floats
+
+  fits : Side → FloatBox → Bool
+  fits side f = not (is_next_to at.y f) || fits_beside side cb at.x (at.x +ℤ width) f
+
+  within : Side → Bool
+  within side = is_inside side cb at.x (at.x +ℤ width)
+
+  all_fit : Side → Bool
+  all_fit side = list_all (fits side) floats
+
+  pub fits_next : (side : Side) → IsTrue (is_allowed floats side width cb top at) → (f : FloatBox) → Among floats f → IsTrue (is_next_to at.y f) → IsTrue (fits_beside side cb at.x (at.x +ℤ width) f)
+  unfolding low tops fits within all_fit
+  fits_next side h f i n = implied (is_next_to at.y f) (fits_beside side cb at.x (at.x +ℤ width) f) n
+      (passes (fits side) floats f (right_of (low && tops && within side) (all_fit side) h) i)
+
+  pub is_low_enough : (side : Side) → IsTrue (is_allowed floats side width cb top at) → IsLowEnough floats top at
+  unfolding low tops fits within all_fit
+  is_low_enough side h = record
+      { below_top = le top at.y (left_of low tops (left_of (low && tops) (within side) (left_of (low && tops && within side) (all_fit side) h)))
+      ; below_floats = λ f i. le f.box.top at.y (passes (λ (f : FloatBox). int_le f.box.top at.y) floats f (right_of low tops (left_of (low && tops) (within side) (left_of (low && tops && within side) (all_fit side) h))) (among floats f i)) }
+
+  pub inside : (side : Side) → IsTrue (is_allowed floats side width cb top at) → IsTrue (is_inside side cb at.x (at.x +ℤ width))
+  unfolding low tops fits within all_fit
+  inside side h = right_of (low && tops) (within side) (left_of (low && tops && within side) (all_fit side) h)
+
+  pub to_rules : (side : Side) → IsTrue (is_allowed floats side width cb top at) → ObeysRules floats side width cb top at
+  to_rules of_side.Left h = record
+      { low_enough = is_low_enough of_side.Left h
+      ; inside = le cb.left at.x (inside of_side.Left h)
+      ; right_of_left_ones = λ f i l n. le f.box.right at.x (left_of (int_le f.box.right at.x) (int_le (at.x +ℤ width) cb.right) (on_true (is_left f) _ (int_le (at.x +ℤ width) f.box.left) l (fits_next of_side.Left h f (among floats f i) (next_to at.y f n))))
+      ; left_of_right_ones = λ f i l n. le (at.x +ℤ width) f.box.left (on_false (is_left f) (int_le f.box.right at.x && int_le (at.x +ℤ width) cb.right) _ l (fits_next of_side.Left h f (among floats f i) (next_to at.y f n)))
+      ; not_sticking_out = λ f i l n. le (at.x +ℤ width) cb.right (right_of (int_le f.box.right at.x) (int_le (at.x +ℤ width) cb.right) (on_true (is_left f) _ (int_le (at.x +ℤ width) f.box.left) l (fits_next of_side.Left h f (among floats f i) (next_to at.y f n)))) }
+  to_rules of_side.Right h = record
+      { low_enough = is_low_enough of_side.Right h
+      ; inside = le (at.x +ℤ width) cb.right (inside of_side.Right h)
+      ; left_of_right_ones = λ f i l n. le (at.x +ℤ width) f.box.left (left_of (int_le (at.x +ℤ width) f.box.left) (int_le cb.left at.x) (on_false (is_left f) (int_le f.box.right at.x) _ l (fits_next of_side.Right h f (among floats f i) (next_to at.y f n))))
+      ; right_of_left_ones = λ f i l n. le f.box.right at.x (on_true (is_left f) _ (int_le (at.x +ℤ width) f.box.left && int_le cb.left at.x) l (fits_next of_side.Right h f (among floats f i) (next_to at.y f n)))
+      ; not_sticking_out = λ f i l n. le cb.left at.x (right_of (int_le (at.x +ℤ width) f.box.left) (int_le cb.left at.x) (on_false (is_left f) (int_le f.box.right at.x) _ l (fits_next of_side.Right h f (among floats f i) (next_to at.y f n)))) }
+
+  pub allowed : (side : Side) → IsLowEnough floats top at → IsTrue (is_inside side cb at.x (at.x +ℤ width))
+      → ((f : FloatBox) → Among floats f → IsTrue (is_next_to at.y f) → IsTrue (fits_beside side cb at.x (at.x +ℤ width) f)) → IsTrue (is_allowed floats side width cb top at)
+  unfolding low tops fits within all_fit
+  allowed side lo ins each = both_of (low && tops && within side) (all_fit side)
+      (both_of (low && tops) (within side)
+        (both_of low tops (is_le top at.y lo.below_top) (all_pass (λ (f : FloatBox). int_le f.box.top at.y) floats (λ f i. is_le f.box.top at.y (lo.below_floats f (contains floats f i))))) ins)
+      (all_pass (fits side) floats (λ f i. implies (is_next_to at.y f) (fits_beside side cb at.x (at.x +ℤ width) f) (each f i)))
+
+  pub of_rules : (side : Side) → ObeysRules floats side width cb top at → IsTrue (is_allowed floats side width cb top at)
+  of_rules of_side.Left h = allowed of_side.Left h.low_enough (is_le cb.left at.x h.inside) (λ f i n. by_cond (is_left f) _ _
+      (λ l. both_of (int_le f.box.right at.x) (int_le (at.x +ℤ width) cb.right) (is_le f.box.right at.x (h.right_of_left_ones f (contains floats f i) l (is_next at.y f n))) (is_le (at.x +ℤ width) cb.right (h.not_sticking_out f (contains floats f i) l (is_next at.y f n))))
+      (λ r. is_le (at.x +ℤ width) f.box.left (h.left_of_right_ones f (contains floats f i) r (is_next at.y f n))))
+  of_rules of_side.Right h = allowed of_side.Right h.low_enough (is_le (at.x +ℤ width) cb.right h.inside) (λ f i n. by_cond (is_left f) _ _
+      (λ l. is_le f.box.right at.x (h.right_of_left_ones f (contains floats f i) l (is_next at.y f n)))
+      (λ r. both_of (int_le (at.x +ℤ width) f.box.left) (int_le cb.left at.x) (is_le (at.x +ℤ width) f.box.left (h.left_of_right_ones f (contains floats f i) r (is_next at.y f n))) (is_le cb.left at.x (h.not_sticking_out f (contains floats f i) r (is_next at.y f n)))))
