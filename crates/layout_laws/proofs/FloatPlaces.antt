@@ -128,3 +128,111 @@ module _ (floats : List FloatBox) (width : ℤ) (cb : Band ℤ) (top : ℤ) (at 
   of_rules of_side.Right h = allowed of_side.Right h.low_enough (is_le (at.x +ℤ width) cb.right h.inside) (λ f i n. by_cond (is_left f) _ _
       (λ l. is_le f.box.right at.x (h.right_of_left_ones f (contains floats f i) l (is_next at.y f n)))
       (λ r. both_of (int_le (at.x +ℤ width) f.box.left) (int_le cb.left at.x) (is_le (at.x +ℤ width) f.box.left (h.left_of_right_ones f (contains floats f i) r (is_next at.y f n))) (is_le cb.left at.x (h.not_sticking_out f (contains floats f i) r (is_next at.y f n)))))
+
+-- ---- the place farthest to its side
+
+module _ (floats : List FloatBox) (cb : Band ℤ) (y : ℤ) where
+
+  abbrev near : List FloatBox
+  near = filter (is_next_to y) floats
+
+  rights : (x : ℤ) → Among (map (λ (f : FloatBox). f.box.right) (left_ones near)) x → (f : FloatBox) × Among floats f × IsTrue (is_next_to y f) × IsTrue (is_left f) × (f.box.right ≡ x)
+  rights x i =
+      let s = source (λ (f : FloatBox). f.box.right) (left_ones near) x i in
+      let l = filtered is_left near s.0 s.1 in
+      let n = filtered (is_next_to y) floats s.0 l.0 in
+      (s.0, n.0, n.1, l.1, s.2)
+
+  lefts : (x : ℤ) → Among (map (λ (f : FloatBox). f.box.left) (right_ones near)) x → (f : FloatBox) × Among floats f × IsTrue (is_next_to y f) × (is_left f ≡ false) × (f.box.left ≡ x)
+  lefts x i =
+      let s = source (λ (f : FloatBox). f.box.left) (right_ones near) x i in
+      let l = filtered (λ f. not (is_left f)) near s.0 s.1 in
+      let n = filtered (is_next_to y) floats s.0 l.0 in
+      (s.0, n.0, n.1, denied (is_left s.0) l.1, s.2)
+    where
+      denied : (b : Bool) → IsTrue (not b) → b ≡ false
+      denied true h = absurd (cc)
+      denied false h = refl
+
+  pub room_after : (f : FloatBox) → Among floats f → IsTrue (is_next_to y f) → IsTrue (is_left f) → f.box.right ≤ℤ (beside near cb).left
+  room_after f i n l = below_greatest cb.left (map (λ (f : FloatBox). f.box.right) (left_ones near)) f.box.right (image (λ (f : FloatBox). f.box.right) (left_ones near) f (filters is_left near f (filters (is_next_to y) floats f i n) l))
+
+  pub room_before : (f : FloatBox) → Among floats f → IsTrue (is_next_to y f) → is_left f ≡ false → (beside near cb).right ≤ℤ f.box.left
+  room_before f i n l = above_least cb.right (map (λ (f : FloatBox). f.box.left) (right_ones near)) f.box.left (image (λ (f : FloatBox). f.box.left) (right_ones near) f (filters (λ f. not (is_left f)) near f (filters (is_next_to y) floats f i n) (ap not l)))
+
+  module _ (width : ℤ) (top : ℤ) (at : Spot ℤ) (as_near : (f : FloatBox) → Among floats f → IsTrue (is_next_to y f) → IsNextTo at.y f) where
+
+    pub not_before : LeftObeys floats width cb top at → (beside near cb).left ≤ℤ at.x
+    not_before h = greatest_at_most cb.left (map (λ (f : FloatBox). f.box.right) (left_ones near)) at.x h.inside
+        (λ x i. let f = rights x i in subst (λ (z : ℤ). z ≤ℤ at.x) f.4 (h.right_of_left_ones f.0 (contains floats f.0 f.1) f.3 (as_near f.0 f.1 f.2)))
+
+    pub not_after : RightObeys floats width cb top at → (at.x +ℤ width) ≤ℤ (beside near cb).right
+    not_after h = least_at_least cb.right (map (λ (f : FloatBox). f.box.left) (right_ones near)) (at.x +ℤ width) h.inside
+        (λ x i. let f = lefts x i in subst (λ (z : ℤ). (at.x +ℤ width) ≤ℤ z) f.4 (h.left_of_right_ones f.0 (contains floats f.0 f.1) f.3 (as_near f.0 f.1 f.2)))
+
+    -- where some place is allowed beside as many floats, so is the farthest one
+    pub farthest_obeys : (side : Side) → IsLowEnough floats top (farthest_at floats side width cb y) → ObeysRules floats side width cb top at → ObeysRules floats side width cb top (farthest_at floats side width cb y)
+    farthest_obeys of_side.Left lo h =
+        let far = not_before h in record
+        { low_enough = lo
+        ; inside = start_below_greatest cb.left (map (λ (f : FloatBox). f.box.right) (left_ones near))
+        ; right_of_left_ones = λ f i l n. room_after f (among floats f i) (next_to y f n) l
+        ; left_of_right_ones = λ f i l n. let t = h.left_of_right_ones f i l (as_near f (among floats f i) (next_to y f n)) in omega (arith, ints)
+        ; not_sticking_out = λ f i l n. let t = h.not_sticking_out f i l (as_near f (among floats f i) (next_to y f n)) in omega (arith, ints) }
+    farthest_obeys of_side.Right lo h =
+        let far = not_after h in record
+        { low_enough = lo
+        ; inside = let t = start_above_least cb.right (map (λ (f : FloatBox). f.box.left) (right_ones near)) in omega (arith, ints)
+        ; left_of_right_ones = λ f i l n. let t = room_before f (among floats f i) (next_to y f n) l in omega (arith, ints)
+        ; right_of_left_ones = λ f i l n. let t = h.right_of_left_ones f i l (as_near f (among floats f i) (next_to y f n)) in omega (arith, ints)
+        ; not_sticking_out = λ f i l n. let t = h.not_sticking_out f i l (as_near f (among floats f i) (next_to y f n)) in omega (arith, ints) }
+
+  -- where no float is near, it is allowed
+  pub free_obeys : (width : ℤ) (top : ℤ) (none : (f : FloatBox) → Among floats f → IsTrue (is_next_to y f) → ⊥) → (side : Side) → IsLowEnough floats top (farthest_at floats side width cb y) → ObeysRules floats side width cb top (farthest_at floats side width cb y)
+  free_obeys width top none of_side.Left lo = record
+      { low_enough = lo
+      ; inside = start_below_greatest cb.left (map (λ (f : FloatBox). f.box.right) (left_ones near))
+      ; right_of_left_ones = λ f i l n. absurd (none f (among floats f i) (next_to y f n))
+      ; left_of_right_ones = λ f i l n. absurd (none f (among floats f i) (next_to y f n))
+      ; not_sticking_out = λ f i l n. absurd (none f (among floats f i) (next_to y f n)) }
+  free_obeys width top none of_side.Right lo = record
+      { low_enough = lo
+      ; inside = let t = start_above_least cb.right (map (λ (f : FloatBox). f.box.left) (right_ones near)) in omega (arith, ints)
+      ; left_of_right_ones = λ f i l n. absurd (none f (among floats f i) (next_to y f n))
+      ; right_of_left_ones = λ f i l n. absurd (none f (among floats f i) (next_to y f n))
+      ; not_sticking_out = λ f i l n. absurd (none f (among floats f i) (next_to y f n)) }
+
+-- ---- the highest place
+
+module _ (floats : List FloatBox) (width : ℤ) (cb : Band ℤ) (top : ℤ) where
+
+  abbrev high : ℤ
+  high = highest_top floats top
+
+  abbrev bottoms : List ℤ
+  bottoms = map (λ (f : FloatBox). f.box.bottom) floats
+
+  abbrev free : Side → ℤ → Bool
+  free side y = is_allowed floats side width cb top (farthest_at floats side width cb y)
+
+  below_high : (f : FloatBox) → Among floats f → f.box.top ≤ℤ high
+  below_high f i = below_greatest top (map (λ (f : FloatBox). f.box.top) floats) f.box.top (image (λ (f : FloatBox). f.box.top) floats f i)
+
+  low_from : (side : Side) (y : ℤ) → high ≤ℤ y → IsLowEnough floats top (farthest_at floats side width cb y)
+  low_from of_side.Left y h = record { below_top = let t = start_below_greatest top (map (λ (f : FloatBox). f.box.top) floats) in omega (arith, ints); below_floats = λ f i. let t = below_high f (among floats f i) in omega (arith, ints) }
+  low_from of_side.Right y h = record { below_top = let t = start_below_greatest top (map (λ (f : FloatBox). f.box.top) floats) in omega (arith, ints); below_floats = λ f i. let t = below_high f (among floats f i) in omega (arith, ints) }
+
+  below_all_obeys : (side : Side) → ObeysRules floats side width cb top (farthest_at floats side width cb (below_all floats high))
+  below_all_obeys side = free_obeys floats cb (below_all floats high) width top none side (low_from side (below_all floats high) (start_below_greatest high bottoms))
+    where
+      none : (f : FloatBox) → Among floats f → IsTrue (is_next_to (below_all floats high) f) → ⊥
+      none f i n = let b = below_greatest high bottoms f.box.bottom (image (λ (f : FloatBox). f.box.bottom) floats f i) in let t = (is_next (below_all floats high) f n).to in omega (arith, ints)
+
+  pub highest_obeys : (side : Side) → ObeysRules floats side width cb top (farthest_at floats side width cb (highest_free floats side width cb top high))
+  highest_obeys side = by (least_is_one (below_all floats high) (filter (free side) (candidate_tops floats high)))
+    where
+      by : ((highest_free floats side width cb top high ≡ below_all floats high) ⊎ Among (filter (free side) (candidate_tops floats high)) (highest_free floats side width cb top high))
+          → ObeysRules floats side width cb top (farthest_at floats side width cb (highest_free floats side width cb top high))
+      by (inl e) = subst (λ (y : ℤ). ObeysRules floats side width cb top (farthest_at floats side width cb y)) (sym e) (below_all_obeys side)
+      by (inr i) = to_rules floats width cb top (farthest_at floats side width cb (highest_free floats side width cb top high)) side
+          (filtered (free side) (candidate_tops floats high) (highest_free floats side width cb top high) i).1
