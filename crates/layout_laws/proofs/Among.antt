@@ -1,5 +1,5 @@
 -- Members of lists, by recursion on the list, and what filters and images have of them.
-use Rattle.std.proofs.Common.{◌≡◌, ℕ, zero, suc, ◌<◌, Bool, true, false, cond, ◌&&◌, IsTrue, List, [], ◌∷◌, length, slice_index_or, Contains, map, filter, refl, sym, ap, subst, inl, inr, ◌⊎◌, arith}
+use Rattle.std.proofs.Common.{◌≡◌, zero, suc, Bool, true, false, cond, ◌&&◌, IsTrue, List, [], ◌∷◌, Contains, map, filter, refl, sym, ap, subst, inl, inr, ◌⊎◌, arith}
 use Rattle.std.specs.List.{list_all}
 
 abbrev pub Among : {A : Type 0} → List A → A → Type 0
