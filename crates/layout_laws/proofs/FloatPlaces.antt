@@ -1,5 +1,5 @@
 -- Which places of floats are allowed, and which is the highest.
-use Rattle.std.proofs.Common.{◌≡◌, ℤ, ◌+ℤ◌, ◌≤ℤ◌, ◌<ℤ◌, Bool, true, false, not, cond, ◌&&◌, ◌||◌, int_le, int_lt, IsTrue, List, map, filter, refl, sym, ap, subst, inl, inr, ◌⊎◌, arith}
+use Rattle.std.proofs.Common.{◌≡◌, ℤ, ◌+ℤ◌, ◌≤ℤ◌, Bool, true, false, not, ◌&&◌, ◌||◌, int_le, int_lt, IsTrue, List, map, filter, refl, sym, subst, inl, inr, ◌⊎◌, arith}
 use Rattle.std.specs.List.{list_all}
 use Rattle.std.proofs.lemmas.Int.{ints}
 use Rattle.viz_base.specs.declared.layouts.Band.{Band}
@@ -9,55 +9,10 @@ use Rattle.viz_base.specs.declared.styles.Side.TheVariants as of_side
 use Rattle.layout_semantics.specs.Extremes.{greatest_from}
 use Rattle.layout_semantics.specs.Floats.{FloatBox, is_left, left_ones, right_ones, beside, is_next_to, fits_beside, is_inside, is_allowed, farthest_at, highest_top, candidate_tops, below_all, highest_free}
 use Rattle.layout_laws.specs.FloatRules.{IsNextTo, IsLowEnough, LeftObeys, RightObeys, ObeysRules, IsNoFarther}
+use Rattle.layout_laws.proofs.Beside.{rights, lefts, room_after, room_before}
+use Rattle.layout_laws.proofs.Truths.{le, is_le, lt, is_lt, left_of, right_of, both_of, implied, implies, on_true, on_false, by_cond}
 use Rattle.layout_laws.proofs.Among.{Among, among, contains, passes, all_pass, filtered, filters, image, source}
 use Rattle.layout_laws.proofs.Extremes.{below_greatest, start_below_greatest, greatest_at_most, greatest_is_one, above_least, start_above_least, least_at_least, least_is_one}
-
--- ---- truths
-
-le : (x y : ℤ) → IsTrue (int_le x y) → x ≤ℤ y
-le x y h = grind (arith, ints)
-
-is_le : (x y : ℤ) → x ≤ℤ y → IsTrue (int_le x y)
-is_le x y h = grind (arith, ints)
-
-lt : (x y : ℤ) → IsTrue (int_lt x y) → x <ℤ y
-lt x y h = grind (arith, ints)
-
-is_lt : (x y : ℤ) → x <ℤ y → IsTrue (int_lt x y)
-is_lt x y h = grind (arith, ints)
-
-left_of : (a b : Bool) → IsTrue (a && b) → IsTrue a
-left_of true b h = refl
-left_of false b h = h
-
-right_of : (a b : Bool) → IsTrue (a && b) → IsTrue b
-right_of true b h = h
-right_of false b h = absurd (cc)
-
-both_of : (a b : Bool) → IsTrue a → IsTrue b → IsTrue (a && b)
-both_of true b h k = k
-both_of false b h k = h
-
--- where the premise holds, so does the conclusion
-implied : (a b : Bool) → IsTrue a → IsTrue (not a || b) → IsTrue b
-implied true b h k = k
-implied false b h k = absurd (cc)
-
-implies : (a b : Bool) → (IsTrue a → IsTrue b) → IsTrue (not a || b)
-implies true b h = h refl
-implies false b h = refl
-
-on_true : (c x y : Bool) → IsTrue c → IsTrue (cond c x y) → IsTrue x
-on_true true x y t h = h
-on_true false x y t h = absurd (cc)
-
-on_false : (c x y : Bool) → c ≡ false → IsTrue (cond c x y) → IsTrue y
-on_false true x y t h = absurd (cc)
-on_false false x y t h = h
-
-by_cond : (c x y : Bool) → (IsTrue c → IsTrue x) → (c ≡ false → IsTrue y) → IsTrue (cond c x y)
-by_cond true x y h k = h refl
-by_cond false x y h k = k refl
 
 -- ---- the rules
 
@@ -137,38 +92,14 @@ module _ (floats : List FloatBox) (cb : Band ℤ) (y : ℤ) where
   abbrev near : List FloatBox
   near = filter (is_next_to y) floats
 
-  rights : (x : ℤ) → Among (map (λ (f : FloatBox). f.box.right) (left_ones near)) x → (f : FloatBox) × Among floats f × IsTrue (is_next_to y f) × IsTrue (is_left f) × (f.box.right ≡ x)
-  rights x i =
-      let s = source (λ (f : FloatBox). f.box.right) (left_ones near) x i in
-      let l = filtered is_left near s.0 s.1 in
-      let n = filtered (is_next_to y) floats s.0 l.0 in
-      (s.0, n.0, n.1, l.1, s.2)
-
-  lefts : (x : ℤ) → Among (map (λ (f : FloatBox). f.box.left) (right_ones near)) x → (f : FloatBox) × Among floats f × IsTrue (is_next_to y f) × (is_left f ≡ false) × (f.box.left ≡ x)
-  lefts x i =
-      let s = source (λ (f : FloatBox). f.box.left) (right_ones near) x i in
-      let l = filtered (λ f. not (is_left f)) near s.0 s.1 in
-      let n = filtered (is_next_to y) floats s.0 l.0 in
-      (s.0, n.0, n.1, denied (is_left s.0) l.1, s.2)
-    where
-      denied : (b : Bool) → IsTrue (not b) → b ≡ false
-      denied true h = absurd (cc)
-      denied false h = refl
-
-  pub room_after : (f : FloatBox) → Among floats f → IsTrue (is_next_to y f) → IsTrue (is_left f) → f.box.right ≤ℤ (beside near cb).left
-  room_after f i n l = below_greatest cb.left (map (λ (f : FloatBox). f.box.right) (left_ones near)) f.box.right (image (λ (f : FloatBox). f.box.right) (left_ones near) f (filters is_left near f (filters (is_next_to y) floats f i n) l))
-
-  pub room_before : (f : FloatBox) → Among floats f → IsTrue (is_next_to y f) → is_left f ≡ false → (beside near cb).right ≤ℤ f.box.left
-  room_before f i n l = above_least cb.right (map (λ (f : FloatBox). f.box.left) (right_ones near)) f.box.left (image (λ (f : FloatBox). f.box.left) (right_ones near) f (filters (λ f. not (is_left f)) near f (filters (is_next_to y) floats f i n) (ap not l)))
-
   module _ (width : ℤ) (top : ℤ) (at : Spot ℤ) (as_near : (f : FloatBox) → Among floats f → IsTrue (is_next_to y f) → IsNextTo at.y f) where
     pub not_before : LeftObeys floats width cb top at → (beside near cb).left ≤ℤ at.x
     not_before h = greatest_at_most cb.left (map (λ (f : FloatBox). f.box.right) (left_ones near)) at.x h.inside
-        (λ x i. let f = rights x i in subst (λ (z : ℤ). z ≤ℤ at.x) f.4 (h.right_of_left_ones f.0 (contains floats f.0 f.1) f.3 (as_near f.0 f.1 f.2)))
+        (λ x i. let f = rights floats cb (is_next_to y) x i in subst (λ (z : ℤ). z ≤ℤ at.x) f.4 (h.right_of_left_ones f.0 (contains floats f.0 f.1) f.3 (as_near f.0 f.1 f.2)))
 
     pub not_after : RightObeys floats width cb top at → (at.x +ℤ width) ≤ℤ (beside near cb).right
     not_after h = least_at_least cb.right (map (λ (f : FloatBox). f.box.left) (right_ones near)) (at.x +ℤ width) h.inside
-        (λ x i. let f = lefts x i in subst (λ (z : ℤ). (at.x +ℤ width) ≤ℤ z) f.4 (h.left_of_right_ones f.0 (contains floats f.0 f.1) f.3 (as_near f.0 f.1 f.2)))
+        (λ x i. let f = lefts floats cb (is_next_to y) x i in subst (λ (z : ℤ). (at.x +ℤ width) ≤ℤ z) f.4 (h.left_of_right_ones f.0 (contains floats f.0 f.1) f.3 (as_near f.0 f.1 f.2)))
 
     -- where some place is allowed beside as many floats, so is the farthest one
     pub farthest_obeys : (side : Side) → IsLowEnough floats top (farthest_at floats side width cb y) → ObeysRules floats side width cb top at → ObeysRules floats side width cb top (farthest_at floats side width cb y)
@@ -176,7 +107,7 @@ module _ (floats : List FloatBox) (cb : Band ℤ) (y : ℤ) where
         let far = not_before h in record {
           low_enough = lo;
           inside = start_below_greatest cb.left (map (λ (f : FloatBox). f.box.right) (left_ones near));
-          right_of_left_ones = λ f i l n. room_after f (among floats f i) (next_to y f n) l;
+          right_of_left_ones = λ f i l n. room_after floats cb (is_next_to y) f (among floats f i) (next_to y f n) l;
           left_of_right_ones = λ f i l n. let t = h.left_of_right_ones f i l (as_near f (among floats f i) (next_to y f n)) in omega (arith, ints);
           not_sticking_out = λ f i l n. let t = h.not_sticking_out f i l (as_near f (among floats f i) (next_to y f n)) in omega (arith, ints);
         }
@@ -184,7 +115,7 @@ module _ (floats : List FloatBox) (cb : Band ℤ) (y : ℤ) where
         let far = not_after h in record {
           low_enough = lo;
           inside = let t = start_above_least cb.right (map (λ (f : FloatBox). f.box.left) (right_ones near)) in omega (arith, ints);
-          left_of_right_ones = λ f i l n. let t = room_before f (among floats f i) (next_to y f n) l in omega (arith, ints);
+          left_of_right_ones = λ f i l n. let t = room_before floats cb (is_next_to y) f (among floats f i) (next_to y f n) l in omega (arith, ints);
           right_of_left_ones = λ f i l n. let t = h.right_of_left_ones f i l (as_near f (among floats f i) (next_to y f n)) in omega (arith, ints);
           not_sticking_out = λ f i l n. let t = h.not_sticking_out f i l (as_near f (among floats f i) (next_to y f n)) in omega (arith, ints);
         }

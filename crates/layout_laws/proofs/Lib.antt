@@ -3,3 +3,7 @@ pub mod Greatest
 pub mod Among
 pub mod Extremes
 pub mod FloatPlaces
+pub mod Beside
+pub mod Truths
+pub mod Bands
+pub mod Collapsed

@@ -3,3 +3,4 @@
 
 mod floats;
 mod lines;
+mod margins;
