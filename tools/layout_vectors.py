@@ -22,7 +22,8 @@ Others have no `cases`; floats are a list of [side, left, top, right, bottom]:
   resolve    a page, `e` (an edge), `run` (margins), `b` (a box), `cb`, `floats`, `least`, `lead` (margins), `cleared` (a box), `edge`
 A line of trees.jsonl has a `tree`, its `height`, and `worlds`: `w`, `s` and `boxes`, each of them kind, node and the edges of four rectangles.
 A tree has `boxes`, `styles`, `fonts` and `parents`, the members of BoxTree; members with their initial values are left out (STYLE and BOX
-below). A length is "Auto", ["Px", units], ["Em", millionths, node] or ["Pct", millionths]; of four sides the order is top, right, bottom, left.
+below). A line of boxes.jsonl has a `page`, an element {"tag", "attrs", "size", "children"} whose children are elements and texts, `css`,
+`fonts` (names) and `boxes` and `styles`, or in their place `fault` with the refusal and its numbers. A length is "Auto", ["Px", units], ["Em", millionths, node] or ["Pct", millionths]; of four sides the order is top, right, bottom, left.
 """
 import argparse
 import json
@@ -31,6 +32,9 @@ import re
 import shutil
 import subprocess
 import sys
+
+sys.dont_write_bytecode = True
+import refused_styles  # noqa: E402
 
 TOP = pathlib.Path(__file__).resolve().parent.parent
 ZERO = ["Px", 0]
@@ -253,6 +257,60 @@ def placed(given):
 def render_laws(case):
     for at in case["worlds"]:
         yield law(f"page_rendering (tree page ok) {world(at)} {case['height']}", record({"boxes": sequence(map(placed, at["boxes"]))}))
+# ---- box trees of pages
+
+
+def nodes_of(page):
+    """The nodes in document order: the number of the parent, the element, or the text."""
+    found = []
+
+    def walk(node, parent):
+        at = len(found)
+        found.append((parent, node))
+        for child in [] if isinstance(node, str) else node.get("children", []):
+            walk(child, at)
+
+    walk(page, None)
+    return found
+
+
+def body(node):
+    if isinstance(node, str):
+        return f"of_body.Chars {text(node)}"
+    attrs = sequence(record({"name": text(name.lower()), "value": text(value)}) for name, value in node.get("attrs", {}).items())
+    size_of = perhaps(node.get("size"), lambda pair: f"({pair[0]}, {pair[1]})")
+    return f"of_body.Element ({record({'tag': text(node['tag'].lower()), 'attrs': attrs, 'size': size_of})})"
+
+
+def square(name):
+    return {"name": name, "upem": 1000, "ascent": 800, "descent": 200, "other": 500, "advances": []}
+
+
+def document(case):
+    given = case["styles"] if "styles" in case else refused_styles.styles_of(case["page"], case["css"])
+    nodes = sequence(record({"parent": perhaps(parent, str), "body": body(node)}) for parent, node in nodes_of(case["page"]))
+    return f"""abbrev page_nodes : List Node
+page_nodes = {nodes}
+
+abbrev page_styles : List PlainStyle
+page_styles = {sequence(map(style, given))}
+
+abbrev page_fonts : List PlainFont
+page_fonts = {sequence(font(square(name)) for name in case["fonts"])}
+"""
+
+
+REFUSALS = {"BlockInInline": "block_in_inline", "RightToLeft": "right_to_left", "TooManyBoxes": "too_many_boxes", "Reach": "reach"}
+
+
+def box_laws(case):
+    for_all = "(ok : StylesKeep page_styles × FontsKeep page_fonts) →"
+    name, *numbers = case.get("fault", "none").split()
+    refusal = "None" if name == "none" else f"Some ({' '.join(['BoxRefusal.' + REFUSALS[name]] + numbers)})"
+    yield f"{for_all} page_refusal page_nodes (styles page_styles ok.0) (fonts page_fonts ok.1) ≡ {refusal}"
+    if "boxes" in case:
+        yield f"{for_all} page_boxes page_nodes (styles page_styles ok.0) ≡ {sequence(map(box, case['boxes']))}"
+        yield f"{for_all} tree_styles page_nodes (styles page_styles ok.0) ≡ styles page_styles ok.0"
 
 
 # the laws of a case, and the definitions that they name, by module
@@ -268,6 +326,7 @@ CALLS = {
     "lead": (lead_laws, {"Leads": ["Waiting", "lead", "none_passed", "is_up_to"]}),
     "resolve": (resolve_laws, {"Clearance": ["resolve"], "Flow": ["waiting_size"], "Leads": ["none_passed"], "Margins": ["collapsed"]}),
     "render": (render_laws, {"Page": ["page_rendering"]}),
+    "boxes": (box_laws, {"BoxTrees": ["page_boxes", "tree_styles"], "Refusals": ["page_refusal", "BoxRefusal"]}),
 }
 
 HEAD = """use Rattle.std.proofs.Common.{◌≡◌, ℕ, ℤ, pos, negsuc, ◌+ℤ◌, List, [], ◌∷◌, ◌++◌, map, Option, Some, None, refl, true, false}
@@ -283,8 +342,10 @@ use Rattle.viz_base.specs.declared.styles.Side.TheVariants as of_side
 use Rattle.viz_base.specs.declared.trees.Kind.TheVariants as of_kind
 use Rattle.viz_base.specs.declared.layouts.LeadEnd.TheVariants as of_end
 use Rattle.viz_base.specs.declared.trees.BoxNode.{BoxNode}
+use Rattle.viz_base.specs.declared.nodes.Body.TheVariants as of_body
+use Rattle.viz_base.specs.declared.nodes.Node.{Node}
 use Rattle.viz_base.specs.declared.worlds.World.{World}
-use Rattle.vectors.proofs.Plain.{PlainStyle, PlainFont, PlainTree, TreeKeeps, tree}
+use Rattle.vectors.proofs.Plain.{PlainStyle, PlainFont, PlainTree, TreeKeeps, StylesKeep, FontsKeep, tree, styles, fonts}
 """
 
 PLAIN = """-- Pages without the facts that their types keep: a law of a page holds whatever the proofs of these are.
@@ -412,7 +473,9 @@ def case_file(case, laws, named):
     out = [HEAD + "".join(f"use Rattle.layout_semantics.specs.{module}.{{{', '.join(names)}}}\n" for module, names in uses.items())]
     if "tree" in case:
         out.append(page(case["tree"]))
-    every = " ".join(["chars"] + [name for names in unfolded.values() for name in names])
+    if "page" in case:
+        out.append(document(case))
+    every = " ".join(["chars", "lib.Utf8.encode"] + [name for names in unfolded.values() for name in names])
     for at, statement in enumerate(laws):
         out.append(f"case{at} : {statement}\nunfolding {every}\ncase{at}{' ok' if statement.startswith('(ok') else ''} = refl\n")
     return "\n".join(out)
@@ -469,7 +532,7 @@ def main():
     cases = []
     for at, told in enumerate((given.vectors / given.file).read_text().splitlines()):
         case = json.loads(told)
-        case.setdefault("call", "render")
+        case.setdefault("call", "boxes" if "page" in case else "render")
         if case["call"] in (given.call or CALLS) and given.first <= at < given.to:
             cases.append((at, case))
     agree = 0

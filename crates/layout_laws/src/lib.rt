@@ -1,6 +1,7 @@
 //! Laws of the layout that layout_semantics defines: what holds of all pages, said without the definitions' recursions.
 #![tactic(auto)]
 
+mod boxes;
 mod floats;
 mod lines;
 mod margins;

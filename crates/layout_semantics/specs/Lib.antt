@@ -3,6 +3,14 @@ pub mod Blocks
 pub mod Rendering
 pub mod Ready
 pub mod Limits
+pub mod Lists
+pub mod Elements
+pub mod Parts
+pub mod WhiteSpace
+pub mod BoxTrees
+pub mod Directions
+pub mod Reaches
+pub mod Refusals
 pub mod Extremes
 pub mod Floats
 pub mod Margins
