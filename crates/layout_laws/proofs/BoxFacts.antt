@@ -51,6 +51,7 @@ level_not_replaced Level.inline (of_body.Element element) d = by_display d
     by_break : (t : Bool) (k : Kind) → is_replaced_kind k ≡ false → is_replaced_kind (if t then of_kind.Break else k) ≡ false
     by_break true k e = refl
     by_break false k e = e
+
     by_display : (d : Display) → is_replaced_kind (inline_kind (of_body.Element element) d) ≡ false
     by_display of_display.Hidden = by_break (is_break (of_body.Element element)) of_kind.Inline refl
     by_display of_display.Block = by_break (is_break (of_body.Element element)) of_kind.Inline refl
@@ -143,4 +144,4 @@ module _ (nodes : List Node) (styles : List Style) (page : IsPage nodes) where
       by_box (IsBoxOf.own x i p s) =
           let k = item_known x i in
           subst (λ (c : BoxNode). is_some c.size ≡ is_replaced_kind c.kind) (sym s)
-            (subst (λ (q : Part). is_some q.size ≡ is_replaced_kind q.kind) (sym k.is) (sized k.entry.body (x.part.node == 0) k.style (intrinsic_size k.entry.body)))
+          (subst (λ (q : Part). is_some q.size ≡ is_replaced_kind q.kind) (sym k.is) (sized k.entry.body (x.part.node == 0) k.style (intrinsic_size k.entry.body)))

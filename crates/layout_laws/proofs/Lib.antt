@@ -15,3 +15,10 @@ pub mod PreferredWidths
 pub mod HorizontalTerms
 pub mod FontSizes
 pub mod LineTops
+pub mod Among
+pub mod Extremes
+pub mod FloatPlaces
+pub mod Beside
+pub mod Truths
+pub mod Bands
+pub mod Collapsed

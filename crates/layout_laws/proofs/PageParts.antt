@@ -23,7 +23,6 @@ use Rattle.layout_laws.proofs.Runs.{AreParts, PartHasParent}
 
 -- ---- kinds
 
-
 -- a test that the kinds of elements pass, each for a cause
 pub element_kind : (test : Kind → Bool) (b : Bool) (element : _) (is_root : Bool) (s : Style)
     → test of_kind.Replaced ≡ b → test of_kind.Block ≡ b → test of_kind.Float ≡ b → test of_kind.Break ≡ b → test of_kind.Atomic ≡ b → test of_kind.Inline ≡ b
@@ -34,15 +33,18 @@ element_kind test b element is_root s replaced block float break atomic inline =
     by_break : (t : Bool) (k : Kind) → test k ≡ b → test (if t then of_kind.Break else k) ≡ b
     by_break true k e = break
     by_break false k e = e
+
     by_display : (d : Display) → test (inline_kind (of_body.Element element) d) ≡ b
     by_display of_display.Hidden = by_break (is_break (of_body.Element element)) of_kind.Inline inline
     by_display of_display.Block = by_break (is_break (of_body.Element element)) of_kind.Inline inline
     by_display of_display.Inline = by_break (is_break (of_body.Element element)) of_kind.Inline inline
     by_display of_display.InlineBlock = by_break (is_break (of_body.Element element)) of_kind.Atomic atomic
+
     by_level : (l : Level) → test (level_kind l (of_body.Element element) s.display) ≡ b
     by_level Level.block = block
     by_level Level.floated = float
     by_level Level.inline = by_display s.display
+
     by_replaced : (r : Bool) → test (level_kind (level_of is_root (of_body.Element element) s) (of_body.Element element) s.display) ≡ b
         → test (if r then of_kind.Replaced else level_kind (level_of is_root (of_body.Element element) s) (of_body.Element element) s.display) ≡ b
     by_replaced true e = replaced
@@ -78,7 +80,7 @@ module _ (nodes : List Node) (styles : List Style) where
       let known = from_shown nodes styles from.0 from.1 in
       let node : from.0.node ≡ p.node = ap (λ (q : Part). q.node) from.2 in
       let shape : record (part_of nodes styles from.0.node known.entry known.style) { text = p.text } ≡ p =
-          ap (λ (q : Part). record q { text = p.text }) (sym known.is) ∙ (ap (λ (t : List ℕ). record from.0 { text = t }) (sym (ap (λ (q : Part). q.text) from.2)) ∙ from.2) in
+      ap (λ (q : Part). record q { text = p.text }) (sym known.is) ∙ (ap (λ (t : List ℕ). record from.0 { text = t }) (sym (ap (λ (q : Part). q.text) from.2)) ∙ from.2) in
       record {
         entry = known.entry;
         style = known.style;
@@ -96,7 +98,7 @@ module _ (nodes : List Node) (styles : List Style) where
   pub page_rises : Rises 0 (map (λ (p : Part). p.node) (collapsed (shown_parts nodes styles)))
   page_rises =
       rises_chosen (λ (p : Part). p.node) (λ p. not (is_bare p)) 0 (map (collapsed_part (shown_parts nodes styles)) (shown_parts nodes styles))
-        (rises_same (shown_parts nodes styles) (shown_parts nodes styles) 0 (shown_rise nodes styles))
+      (rises_same (shown_parts nodes styles) (shown_parts nodes styles) 0 (shown_rise nodes styles))
 
   -- an element that is shown has a part
   pub to_page : (at : ℕ) (n : Node) (s : Style) → slice_get nodes at ≡ Some n → slice_get styles at ≡ Some s → is_shown nodes styles at ≡ true → is_element n.body ≡ true
@@ -127,16 +129,16 @@ module _ (nodes : List Node) (styles : List Style) (page : IsPage nodes) where
 
   pub parts_of_page : AreParts (collapsed (shown_parts nodes styles))
   parts_of_page = record {
-      rises = page_rises nodes styles;
-      parents = λ p q i e.
-          let known = from_page nodes styles p i in
-          let up = part_parent p known ∙ e in
-          let above = parent_is nodes page p.node q up in
-          let here = slice_get_within nodes p.node known.entry known.node_is in
-          let styled = slice_get_within styles p.node known.style known.style_is in
-          let there = element_at nodes q (slice_get nodes q) refl above.1 in
-          let style = slice_some styles q (omega (arith, above.0, styled)) in
-          let shown = parent_shown nodes page styles p.node q here up known.shown in
-          let parent = to_page nodes styles q there.0 style.0 there.1 style.1 shown.0 there.2 in
-          record { before = above.0; parent = parent.0; inside = parent.1; node = parent.2 };
-    }
+    rises = page_rises nodes styles;
+    parents = λ p q i e.
+        let known = from_page nodes styles p i in
+        let up = part_parent p known ∙ e in
+        let above = parent_is nodes page p.node q up in
+        let here = slice_get_within nodes p.node known.entry known.node_is in
+        let styled = slice_get_within styles p.node known.style known.style_is in
+        let there = element_at nodes q (slice_get nodes q) refl above.1 in
+        let style = slice_some styles q (omega (arith, above.0, styled)) in
+        let shown = parent_shown nodes page styles p.node q here up known.shown in
+        let parent = to_page nodes styles q there.0 style.0 there.1 style.1 shown.0 there.2 in
+        record { before = above.0; parent = parent.0; inside = parent.1; node = parent.2 };
+  }

@@ -85,8 +85,8 @@ pub to_shown : (nodes : List Node) (styles : List Style) (at : ℕ) (n : Node) (
 to_shown nodes styles at n s e t h =
     let none : 0 + at ≡ at = omega arith in
     to_filter_map (shown_part nodes styles) (enumerate_from 0 nodes) (at, n) (part_of nodes styles at n s)
-      (subst (λ k. In (k, n) (enumerate_from 0 nodes)) none (to_enumerate 0 at nodes n e))
-      (ap (λ b. if b then option_map (part_of nodes styles at n) (slice_get styles at) else None) h ∙ ap (option_map (part_of nodes styles at n)) t)
+    (subst (λ k. In (k, n) (enumerate_from 0 nodes)) none (to_enumerate 0 at nodes n e))
+    (ap (λ b. if b then option_map (part_of nodes styles at n) (slice_get styles at) else None) h ∙ ap (option_map (part_of nodes styles at n)) t)
 
 -- their nodes ascend
 shown_node : (nodes : List Node) (styles : List Style) (at : ℕ) (n : Node) (p : Part) → shown_part nodes styles (at, n) ≡ Some p → p.node ≡ at

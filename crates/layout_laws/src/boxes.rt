@@ -20,7 +20,12 @@ pub fn the_boxes_in_a_box_name_it(page: &Page, styles: &List<Style>, at: usize, 
 {}
 
 /// Boxes stand in the order of their nodes, but for anonymous block boxes; so no node has two boxes.
-pub fn boxes_stand_in_the_order_of_their_nodes(page: &Page, styles: &List<Style>, first: usize, second: usize)
+pub fn boxes_stand_in_the_order_of_their_nodes(
+    page: &Page,
+    styles: &List<Style>,
+    first: usize,
+    second: usize,
+)
     requires order { first < second }
     ensures { (a b : BoxNode) → slice_get (page_boxes page.now.nodes styles.now) first ≡ Some a → slice_get (page_boxes page.now.nodes styles.now) second ≡ Some b
         → is_anon a.kind ≡ false → is_anon b.kind ≡ false → a.node < b.node }

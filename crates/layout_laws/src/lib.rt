@@ -5,3 +5,5 @@ mod boxes;
 mod fonts;
 mod lines;
 mod widths;
+mod floats;
+mod margins;
