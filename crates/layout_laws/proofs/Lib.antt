@@ -15,3 +15,15 @@ pub mod Sorts
 pub mod TreeFacts
 pub mod Prefixes
 pub mod Greatest
+pub mod Levels
+pub mod PreferredWidths
+pub mod HorizontalTerms
+pub mod FontSizes
+pub mod LineTops
+pub mod Among
+pub mod Extremes
+pub mod FloatPlaces
+pub mod Beside
+pub mod Truths
+pub mod Bands
+pub mod Collapsed

@@ -1,3 +1,9 @@
 pub mod Greatest
 pub mod Spaces
 pub mod Styled
+pub mod Outer
+pub mod Terms
+pub mod Standing
+pub mod FloatRules
+pub mod Margins
+pub mod Bands

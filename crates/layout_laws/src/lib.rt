@@ -2,5 +2,9 @@
 #![tactic(auto)]
 
 mod boxes;
+mod fonts;
 mod lines;
 mod spaces;
+mod widths;
+mod floats;
+mod margins;
