@@ -13,6 +13,7 @@ pub mod Collapsing
 pub mod TextLengths
 pub mod Sorts
 pub mod TreeFacts
+pub mod Whole
 pub mod Prefixes
 pub mod Greatest
 pub mod Levels

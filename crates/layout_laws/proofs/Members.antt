@@ -151,3 +151,17 @@ unique_in f low (x ∷ xs) _ _ r In.here In.here e = refl
 unique_in f low (x ∷ xs) _ y r In.here (In.there j) e = let above = rises_from (suc (f x)) (map f xs) (f y) r.1 (to_map f xs y j) in absurd (omega (arith, above, e))
 unique_in f low (y ∷ xs) x _ r (In.there i) In.here e = let above = rises_from (suc (f y)) (map f xs) (f x) r.1 (to_map f xs x i) in absurd (omega (arith, above, e))
 unique_in f low (z ∷ xs) x y r (In.there i) (In.there j) e = unique_in f (suc (f z)) xs x y r.1 i j e
+
+pub to_append_left : {A : Type 0} (xs ys : List A) (x : A) → In x xs → In x (xs ++ ys)
+to_append_left [] ys x i = elim i [ ]
+to_append_left (z ∷ xs) ys _ In.here = In.here
+to_append_left (z ∷ xs) ys x (In.there i) = In.there (to_append_left xs ys x i)
+
+pub to_append_right : {A : Type 0} (xs ys : List A) (x : A) → In x ys → In x (xs ++ ys)
+to_append_right [] ys x i = i
+to_append_right (z ∷ xs) ys x i = In.there (to_append_right xs ys x i)
+
+pub to_flat_map : {A B : Type 0} (f : A → List B) (xs : List A) (x : A) (b : B) → In x xs → In b (f x) → In b (flat_map f xs)
+to_flat_map f [] x b i j = elim i [ ]
+to_flat_map f (x ∷ xs) _ b In.here j = to_append_left (f x) (flat_map f xs) b j
+to_flat_map f (z ∷ xs) x b (In.there i) j = to_append_right (f z) (flat_map f xs) b (to_flat_map f xs x b i j)

@@ -189,7 +189,7 @@ module _ (nodes : List Node) (styles : List Style) (page : IsPage nodes) where
       let from = from_map (λ p. record { part = p; run = run_around (page_parts nodes styles) p }) (page_parts nodes styles) x i in
       sym (ap (λ (y : Item). y.run) from.2) ∙ ap (λ (y : Item). run_around (page_parts nodes styles) y.part) from.2
 
-  run_in : (x : Item) (n : ℕ) → In x (items_of (page_parts nodes styles)) → x.part.parent ≡ Some n → x.run ≡ find (has_node (node_of x)) (map nodes_of (wrapped_in (parts_in (page_parts nodes styles) n)))
+  pub run_in : (x : Item) (n : ℕ) → In x (items_of (page_parts nodes styles)) → x.part.parent ≡ Some n → x.run ≡ find (has_node (node_of x)) (map nodes_of (wrapped_in (parts_in (page_parts nodes styles) n)))
   run_in x n i e = item_run x i ∙ ap (option_and_then (λ parent. find (has_node (node_of x)) (map nodes_of (wrapped_in (parts_in (page_parts nodes styles) parent))))) e
 
   kid_part : (y : Item) (n : ℕ) → In y (items_of (page_parts nodes styles)) → y.part.parent ≡ Some n → In y.part (parts_in (page_parts nodes styles) n)
