@@ -117,7 +117,7 @@ module _ (items : List Item) (arranged : IsArranged items) where
       let least : 1 ≤ box_count up.parent = one_at_least _ in
       omega (arith, o, least)
 
-  no_parent : (x : Item) → In x items → boxes_before items (node_of x) ≡ 0 → x.part.parent ≡ None
+  pub no_parent : (x : Item) → In x items → boxes_before items (node_of x) ≡ 0 → x.part.parent ≡ None
   no_parent x i z = by_parent x.part.parent refl
     where
       by_parent : (o : Option ℕ) → x.part.parent ≡ o → o ≡ None
@@ -125,7 +125,7 @@ module _ (items : List Item) (arranged : IsArranged items) where
       by_parent (Some q) e = absurd (let l = after_parents x q i e in omega (arith, l, z))
 
 module _ (nodes : List Node) (styles : List Style) (page : IsPage nodes) where
-  root_alone : (b : BoxNode) → slice_get (page_boxes nodes styles) 0 ≡ Some b → b.parent ≡ None
+  pub root_alone : (b : BoxNode) → slice_get (page_boxes nodes styles) 0 ≡ Some b → b.parent ≡ None
   root_alone b e = by_box (page_box_is nodes styles page 0 b e)
     where
       by_run : (x : Item) → In x (items_of (page_parts nodes styles)) → x.part.parent ≡ None → (o : Option (List ℕ)) → x.run ≡ o → o ≡ None
@@ -179,7 +179,7 @@ module _ (nodes : List Node) (styles : List Style) (page : IsPage nodes) where
       let place = in_slice (page_boxes nodes styles) there.0 there.1 in
       subst (λ n. (is_shown nodes (tree_styles nodes styles) n ≡ true) × (n < length nodes)) (eqb-true there.0.node node there.2) (box_shown nodes styles page place.0 there.0 place.1)
 
-  shown_boxed : (at : ℕ) (n : Node) (s : Style) → slice_get nodes at ≡ Some n → slice_get (tree_styles nodes styles) at ≡ Some s → is_shown nodes (tree_styles nodes styles) at ≡ true → is_element n.body ≡ true → has_box (page_boxes nodes styles) at ≡ true
+  pub shown_boxed : (at : ℕ) (n : Node) (s : Style) → slice_get nodes at ≡ Some n → slice_get (tree_styles nodes styles) at ≡ Some s → is_shown nodes (tree_styles nodes styles) at ≡ true → is_element n.body ≡ true → has_box (page_boxes nodes styles) at ≡ true
   shown_boxed at n s e f h element =
       let p = to_page nodes (tree_styles nodes styles) at n s e f h element in
       let i = to_map (λ p. record { part = p; run = run_around (page_parts nodes styles) p }) (page_parts nodes styles) p.0 p.1 in
@@ -188,7 +188,7 @@ module _ (nodes : List Node) (styles : List Style) (page : IsPage nodes) where
       (slice_in (page_boxes nodes styles) (own_place (items_of (page_parts nodes styles)) p.0.node) (own_box (items_of (page_parts nodes styles)) (record { part = p.0; run = run_around (page_parts nodes styles) p.0 })) x)
       (eq-eqb p.0.node at p.2)
 
-  element_of : (q : ℕ) (o : Option Node) → slice_get nodes q ≡ o → option_map_or (λ (n : Node). is_element n.body) o false ≡ true → (n : Node) × (slice_get nodes q ≡ Some n) × (is_element n.body ≡ true)
+  pub element_of : (q : ℕ) (o : Option Node) → slice_get nodes q ≡ o → option_map_or (λ (n : Node). is_element n.body) o false ≡ true → (n : Node) × (slice_get nodes q ≡ Some n) × (is_element n.body ≡ true)
   element_of q None e t = absurd (cc)
   element_of q (Some n) e t = (n, e, t)
 

@@ -1,11 +1,10 @@
 -- Each box is in the box that it names, so each is on the page; and each shown element has a box.
-use Rattle.std.proofs.Common.{◌≡◌, ℕ, zero, suc, ◌+◌, ◌<◌, ◌≤◌, Bool, true, false, not, ◌==◌, ◌&&◌, ◌||◌, List, [], ◌∷◌, map, find, length, get_or, Contains, Option, Some, None, option_map, option_and_then, slice_get, encode_utf8_all, IsTrue, refl, sym, ◌∙◌, ap, subst, arith, ◌⊎◌, inl, inr, if◌then◌else◌, eq-eqb, eqb-true, ltb-true, nat_lt}
-use Rattle.std.specs.Prelude.{unwrap_or}
-use Rattle.std.specs.List.{list_any, list_all}
+use Rattle.std.proofs.Common.{◌≡◌, ◌≢◌, ℕ, zero, suc, ◌+◌, ◌<◌, Bool, true, false, not, ◌==◌, ◌&&◌, ◌||◌, List, [], ◌∷◌, map, length, Contains, Option, Some, None, option_map, option_and_then, slice_get, encode_utf8_all, IsTrue, refl, sym, ◌∙◌, ap, subst, arith, if◌then◌else◌, eq-eqb, eqb-true, ltb-true, nat_lt}
+use Rattle.std.specs.List.{list_all}
 use Rattle.std.specs.Option.{option_map_or}
 use Rattle.std.specs.Str.{chars}
 use Rattle.std.proofs.lemmas.Option.{slice_get_within}
-use Rattle.viz_base.specs.Pages.{IsPage, is_element, is_element_at, parent_fits}
+use Rattle.viz_base.specs.Pages.{IsPage, is_element_at, parent_fits}
 use Rattle.viz_base.specs.Trees.{ascends, has_box, is_chars}
 use Rattle.viz_base.specs.declared.nodes.Node.{Node}
 use Rattle.viz_base.specs.declared.styles.Style.{Style}
@@ -16,17 +15,20 @@ use Rattle.layout_semantics.specs.Order.{kids_of, roots, IsOnPage}
 use Rattle.layout_semantics.specs.Elements.{is_closed, is_hidden, is_shown, node_passes, ancestors, parent_of}
 use Rattle.layout_semantics.specs.Lists.{one_if}
 use Rattle.layout_semantics.specs.Parts.{Part, Level, level_of, is_context, kind_of_node}
-use Rattle.layout_semantics.specs.WhiteSpace.{is_in, is_bare}
-use Rattle.layout_semantics.specs.BoxTrees.{Item, boxes_before, own_place, outer_place, first_of, has_node, nodes_of, kid_place, kid_places, items_in, items_of, own_box, anonymous_box, boxes_of, begins_run, run_around, parts_in, wrapped_in, page_parts, page_boxes, tree_styles}
-use Rattle.layout_laws.proofs.Members.{In, from_map, to_map, from_chosen, to_chosen, to_flat_map, any_in, any_from, all_in}
+use Rattle.layout_semantics.specs.WhiteSpace.{is_in}
+use Rattle.layout_semantics.specs.BoxTrees.{Item, boxes_before, own_place, outer_place, first_of, has_node, nodes_of, kid_place, kid_places, items_in, items_of, own_box, anonymous_box, begins_run, parts_in, wrapped_in, page_parts, page_boxes, tree_styles, tree_style_of, viewport_clip, is_block_level, is_floated_level}
+use Rattle.layout_laws.proofs.Members.{In, to_map, to_chosen, to_flat_map, any_in}
 use Rattle.layout_laws.proofs.Places.{node_of, before_none}
-use Rattle.layout_laws.proofs.Kids.{IsArranged, HasParent, own_box_at, anonymous_box_at, own_place_is, own_place_from}
+use Rattle.layout_laws.proofs.Kids.{own_box_at, anonymous_box_at, own_place_is, own_place_from}
 use Rattle.layout_laws.proofs.Nesting.{IsBoxOf}
-use Rattle.layout_laws.proofs.Above.{and_parts}
+use Rattle.layout_laws.proofs.Above.{and_parts, parent_is}
 use Rattle.layout_laws.proofs.Runs.{run_parent, found_in}
-use Rattle.layout_laws.proofs.PageParts.{IsPagePart, part_parent, slice_some}
-use Rattle.layout_laws.proofs.BoxLaws.{page_arranged, ascending, in_from}
-use Rattle.layout_laws.proofs.BoxFacts.{item_known, page_box_is, hidden_alike}
+use Rattle.layout_laws.proofs.PageParts.{slice_some}
+use Rattle.layout_laws.proofs.BoxLaws.{page_arranged, ascending}
+use Rattle.layout_laws.proofs.BoxFacts.{item_known, page_box_is, hidden_alike, tree_style_at}
+use Rattle.layout_laws.proofs.BoxContent.{upwards_within}
+use Rattle.layout_laws.proofs.TextLengths.{length_encoded}
+use Rattle.layout_laws.proofs.TreeFacts.{element_of, no_parent, shown_boxed}
 use Rattle.layout_laws.proofs.Sorts.{run_in}
 
 -- ---- lists
@@ -54,10 +56,11 @@ module _ (nodes : List Node) (styles : List Style) (page : IsPage nodes) where
       let arranged = page_arranged nodes styles page in
       let up = arranged.parents y q i e in
       let kid = to_chosen (λ (item : Item). is_in q item.part.parent) (items_of (page_parts nodes styles)) y i (ap (is_in q) e ∙ eq-eqb q q refl) in
-      let there = to_flat_map (kid_place (items_of (page_parts nodes styles))) (items_in (items_of (page_parts nodes styles)) q) y k kid j in
-      (own_box (items_of (page_parts nodes styles)) up.parent,
+      let there = to_flat_map (kid_place (items_of (page_parts nodes styles))) (items_in (items_of (page_parts nodes styles)) q) y k kid j in (
+        own_box (items_of (page_parts nodes styles)) up.parent,
         ap (λ n. slice_get (page_boxes nodes styles) (own_place (items_of (page_parts nodes styles)) n)) (sym up.node) ∙ own_box_at (items_of (page_parts nodes styles)) arranged up.parent up.inside,
-        subst (λ n. In k (kid_places (items_of (page_parts nodes styles)) n)) (sym up.node) there)
+        subst (λ n. In k (kid_places (items_of (page_parts nodes styles)) n)) (sym up.node) there,
+      )
 
   some_same : {x y : ℕ} → Some x ≡ Some y → x ≡ y
   some_same e = cc
@@ -76,10 +79,11 @@ module _ (nodes : List Node) (styles : List Style) (page : IsPage nodes) where
       let arranged = page_arranged nodes styles page in
       let known = arranged.runs (record { part = p; run = Some run }) run i refl in
       let first = known.members (first_of run) known.first_in in
-      let place : boxes_before (items_of (page_parts nodes styles)) (node_of first.item) ≡ at = ap (boxes_before (items_of (page_parts nodes styles))) first.node ∙ some_same e in
-      (anonymous_box (items_of (page_parts nodes styles)) first.item.part run,
+      let place : boxes_before (items_of (page_parts nodes styles)) (node_of first.item) ≡ at = ap (boxes_before (items_of (page_parts nodes styles))) first.node ∙ some_same e in (
+        anonymous_box (items_of (page_parts nodes styles)) first.item.part run,
         ap (slice_get (page_boxes nodes styles)) (sym place) ∙ anonymous_box_at (items_of (page_parts nodes styles)) arranged first.item run first.inside first.run_is (eq-eqb (first_of run) (node_of first.item) (sym first.node)),
-        to_map (own_place (items_of (page_parts nodes styles))) run p.node (in_its_run (record { part = p; run = Some run }) run i refl))
+        to_map (own_place (items_of (page_parts nodes styles))) run p.node (in_its_run (record { part = p; run = Some run }) run i refl),
+      )
 
   begin_place : (p : Part) (o : Option (List ℕ)) (run : List ℕ) → o ≡ Some run → (first_of run == p.node) ≡ true → In (boxes_before (items_of (page_parts nodes styles)) p.node) (kid_place (items_of (page_parts nodes styles)) (record { part = p; run = o }))
   begin_place p None run e t = absurd (cc)
@@ -87,9 +91,11 @@ module _ (nodes : List Node) (styles : List Style) (page : IsPage nodes) where
     where
       run_same : {x y : List ℕ} → Some x ≡ Some y → x ≡ y
       run_same e = cc
+
       one : (b : Bool) → b ≡ true → In (boxes_before (items_of (page_parts nodes styles)) p.node) (one_if b (boxes_before (items_of (page_parts nodes styles)) p.node))
       one true e = In.here
       one false e = absurd (cc)
+
       by_same : r ≡ run → In (boxes_before (items_of (page_parts nodes styles)) p.node) (kid_place (items_of (page_parts nodes styles)) (record { part = p; run = Some r }))
       by_same s = one (first_of r == p.node) (ap (λ (l : List ℕ). first_of l == p.node) s ∙ t)
 
@@ -176,6 +182,7 @@ module _ (nodes : List Node) (styles : List Style) (page : IsPage nodes) where
       roots_first : (boxes : List BoxNode) → 0 < length boxes → Contains (roots boxes) 0
       roots_first [] l = absurd (omega (arith, l))
       roots_first (b ∷ bs) l = (0, omega arith, refl)
+
       by_parent : (c : BoxNode) → slice_get (page_boxes nodes styles) k ≡ Some c → (o : Option ℕ) → c.parent ≡ o → ((j : ℕ) → j < n → j < length (page_boxes nodes styles) → IsOnPage (page_boxes nodes styles) j) → IsOnPage (page_boxes nodes styles) k
       by_parent c e None up again =
           let first = first_alone k c e up in
@@ -185,8 +192,75 @@ module _ (nodes : List Node) (styles : List Style) (page : IsPage nodes) where
           let kids : In k (kids_of (page_boxes nodes styles) at) = subst (λ (o : Option BoxNode). In k (option_map_or (λ (b : BoxNode). b.kids) o [])) (sym there.1) there.2 in
           let below = ascends_above at (kids_of (page_boxes nodes styles) at) k (ascending nodes styles page at) kids in
           IsOnPage.inside at k (again at (omega (arith, below, l)) (omega (arith, below, h))) (contains_from (kids_of (page_boxes nodes styles) at) k kids)
+
       by_box : (c : BoxNode) × (slice_get (page_boxes nodes styles) k ≡ Some c) → ((j : ℕ) → j < n → j < length (page_boxes nodes styles) → IsOnPage (page_boxes nodes styles) j) → IsOnPage (page_boxes nodes styles) k
       by_box f again = by_parent f.0 f.1 f.0.parent refl again
 
   pub on_page : (k : ℕ) → k < length (page_boxes nodes styles) → IsOnPage (page_boxes nodes styles) k
   on_page k h = on_page_to (suc k) k (omega arith) h
+
+-- ---- which nodes have boxes
+
+all_same : (f g : ℕ → Bool) (xs : List ℕ) → ((x : ℕ) → In x xs → f x ≡ g x) → list_all f xs ≡ list_all g xs
+all_same f g [] h = refl
+all_same f g (x ∷ xs) h = let here = h x In.here in let rest = all_same f g xs (λ y i. h y (In.there i)) in ap (λ b. b && list_all f xs) here ∙ ap (λ b. g x && b) rest
+
+module _ (nodes : List Node) (styles : List Style) (page : IsPage nodes) where
+  hidden_same : (at : ℕ) → at < length nodes → is_hidden (tree_styles nodes styles) at ≡ is_hidden styles at
+  hidden_same at l = let n = slice_some nodes at l in hidden_alike nodes styles at n.0 n.1
+
+  shown_same : (at : ℕ) → at < length nodes → is_shown nodes (tree_styles nodes styles) at ≡ is_shown nodes styles at
+  shown_same at l =
+      let above = all_same (λ a. not (is_hidden (tree_styles nodes styles) a || node_passes is_closed nodes a)) (λ a. not (is_hidden styles a || node_passes is_closed nodes a)) (ancestors nodes at)
+      (λ a i.
+      let within = upwards_within (length nodes) nodes page (parent_of nodes at) a (λ q p. let below = (parent_is nodes page at q p).0 in omega (arith, below, l)) i in
+      ap (λ b. not (b || node_passes is_closed nodes a)) (hidden_same a within)) in
+      ap (λ b. not b && list_all (λ a. not (is_hidden (tree_styles nodes styles) a || node_passes is_closed nodes a)) (ancestors nodes at)) (hidden_same at l)
+      ∙ ap (λ b. not (is_hidden styles at) && b) above
+
+  pub element_boxed : (at : ℕ) → at < length styles → is_element_at nodes at ≡ true → is_shown nodes styles at ≡ true → has_box (page_boxes nodes styles) at ≡ true
+  element_boxed at l e h =
+      let n = element_of nodes styles page at (slice_get nodes at) refl e in
+      let s = slice_some styles at l in
+      let given : slice_get (tree_styles nodes styles) at ≡ Some (tree_style_of (viewport_clip nodes styles) ((at, n.0), s.0)) =
+      tree_style_at nodes styles at n.0 n.1 ∙ ap (λ (o : Option Style). option_map (tree_style_of (viewport_clip nodes styles)) (option_map (λ (s : Style). ((at, n.0), s)) o)) s.1 in
+      shown_boxed nodes styles page at n.0 (tree_style_of (viewport_clip nodes styles) ((at, n.0), s.0)) n.1 given (shown_same at (slice_get_within nodes at n.0 n.1) ∙ h) n.2
+
+  -- ---- texts
+
+  pub text_not_empty : (at : ℕ) (b : BoxNode) → slice_get (page_boxes nodes styles) at ≡ Some b → is_chars b.kind ≡ true → b.chars ≢ []
+  text_not_empty at b e c empty = by_box (page_box_is nodes styles page at b e)
+    where
+      by_bare : (k : Bool) (n : ℕ) → k ≡ true → (k && n == 0) ≡ false → n ≡ 0 → ⊥
+      by_bare k n t f z = let g : (k && n == 0) ≡ true = ap (λ b. b && n == 0) t ∙ eq-eqb n 0 z in cc
+
+      by_box : IsBoxOf (items_of (page_parts nodes styles)) at b → ⊥
+      by_box (IsBoxOf.anonymous x run i r t p s) = let k : is_chars of_kind.Anon ≡ is_chars b.kind = ap (λ (c : BoxNode). is_chars c.kind) (sym s) in cc
+      by_box (IsBoxOf.own x i p s) =
+          let k = item_known nodes styles page x i in
+          let kind : is_chars x.part.kind ≡ true = ap (λ (c : BoxNode). is_chars c.kind) (sym s) ∙ c in
+          let bytes : encode_utf8_all x.part.text ≡ [] = ap (λ (c : BoxNode). c.chars) (sym s) ∙ empty in
+          let none : length x.part.text ≡ 0 = sym (length_encoded x.part.text) ∙ (ap (λ (bs : List ℕ). length (chars bs)) bytes ∙ length_encoded []) in
+          by_bare (is_chars x.part.kind) (length x.part.text) kind k.not_bare none
+
+  -- ---- the root
+
+  pub root_box : (b : BoxNode) → slice_get (page_boxes nodes styles) 0 ≡ Some b → (b.node ≡ 0) × (b.context ≡ true) × (b.block_level ≡ true)
+  root_box b e = by_box (page_box_is nodes styles page 0 b e)
+    where
+      by_box : IsBoxOf (items_of (page_parts nodes styles)) 0 b → (b.node ≡ 0) × (b.context ≡ true) × (b.block_level ≡ true)
+      by_box (IsBoxOf.own x i p s) =
+          let arranged = page_arranged nodes styles page in
+          let from = own_place_from (items_of (page_parts nodes styles)) arranged x i in
+          let none = no_parent (items_of (page_parts nodes styles)) arranged x i (omega (arith, from, p)) in
+          let k = item_known nodes styles page x i in
+          let node = root_node nodes styles page x i none in
+          let root : (node_of x == 0) ≡ true = eq-eqb (node_of x) 0 node in
+          let level : x.part.level ≡ Level.block = ap (λ (p : Part). p.level) k.is ∙ ap (λ (t : Bool). level_of t k.entry.body k.style) root in
+          let context : x.part.context ≡ true = ap (λ (p : Part). p.context) k.is ∙ ap (λ (t : Bool). is_context t (level_of t k.entry.body k.style) (kind_of_node t k.entry.body k.style) k.style) root in
+          (ap (λ (c : BoxNode). c.node) s ∙ node, ap (λ (c : BoxNode). c.context) s ∙ context, ap (λ (c : BoxNode). c.block_level) s ∙ ap (λ (l : Level). is_block_level l || is_floated_level l) level)
+      by_box (IsBoxOf.anonymous x run i r t p s) =
+          let arranged = page_arranged nodes styles page in
+          let parent = run_parent (page_parts nodes styles) x run i r in
+          let none = no_parent (items_of (page_parts nodes styles)) arranged x i (omega (arith, p)) in
+          absurd (let q = parent.1 in cc)

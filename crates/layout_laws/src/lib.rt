@@ -2,9 +2,9 @@
 #![tactic(auto)]
 
 mod boxes;
+mod floats;
 mod fonts;
 mod lines;
+mod margins;
 mod spaces;
 mod widths;
-mod floats;
-mod margins;
