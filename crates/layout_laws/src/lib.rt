@@ -6,5 +6,6 @@ mod floats;
 mod fonts;
 mod lines;
 mod margins;
+mod reaches;
 mod spaces;
 mod widths;
