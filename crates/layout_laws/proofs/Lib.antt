@@ -15,6 +15,7 @@ pub mod Sorts
 pub mod TreeFacts
 pub mod Whole
 pub mod Reaching
+pub mod Separated
 pub mod Prefixes
 pub mod Greatest
 pub mod Levels
