@@ -101,7 +101,7 @@ slice_in (y ∷ xs) (suc k) x e = In.there (slice_in xs k x e)
 
 -- ---- the root
 
-one_at_least : (b : Bool) → 1 ≤ (if b then 2 else 1)
+pub one_at_least : (b : Bool) → 1 ≤ (if b then 2 else 1)
 one_at_least true = omega arith
 one_at_least false = omega arith
 
