@@ -10,3 +10,4 @@ pub mod PreferredWidths
 pub mod HorizontalTerms
 pub mod FontSizes
 pub mod LineTops
+pub mod Cuts

@@ -2,3 +2,4 @@ pub mod Greatest
 pub mod Outer
 pub mod Terms
 pub mod Standing
+pub mod Parts

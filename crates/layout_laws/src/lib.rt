@@ -4,4 +4,5 @@
 mod boxes;
 mod fonts;
 mod lines;
+mod stretches;
 mod widths;
