@@ -11,3 +11,4 @@ pub mod HorizontalTerms
 pub mod FontSizes
 pub mod LineTops
 pub mod Cuts
+pub mod ChildWidths

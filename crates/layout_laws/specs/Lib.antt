@@ -3,3 +3,4 @@ pub mod Outer
 pub mod Terms
 pub mod Standing
 pub mod Parts
+pub mod FloatRuns
