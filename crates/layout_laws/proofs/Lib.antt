@@ -3,6 +3,11 @@ pub mod Places
 pub mod Kids
 pub mod Nesting
 pub mod Runs
+pub mod Shown
+pub mod Above
+pub mod PageParts
+pub mod BoxLaws
+pub mod BoxFacts
 pub mod Prefixes
 pub mod Greatest
 pub mod Levels
@@ -12,3 +17,10 @@ pub mod FontSizes
 pub mod LineTops
 pub mod Cuts
 pub mod ChildWidths
+pub mod Among
+pub mod Extremes
+pub mod FloatPlaces
+pub mod Beside
+pub mod Truths
+pub mod Bands
+pub mod Collapsed

@@ -4,3 +4,6 @@ pub mod Terms
 pub mod Standing
 pub mod Parts
 pub mod FloatRuns
+pub mod FloatRules
+pub mod Margins
+pub mod Bands

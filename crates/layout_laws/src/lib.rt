@@ -6,3 +6,5 @@ mod fonts;
 mod lines;
 mod stretches;
 mod widths;
+mod floats;
+mod margins;
