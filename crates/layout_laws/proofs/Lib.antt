@@ -8,6 +8,8 @@ pub mod Above
 pub mod PageParts
 pub mod BoxLaws
 pub mod BoxFacts
+pub mod BoxContent
+pub mod Collapsing
 pub mod Prefixes
 pub mod Greatest
 pub mod Levels

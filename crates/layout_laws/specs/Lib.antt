@@ -7,3 +7,4 @@ pub mod FloatRuns
 pub mod FloatRules
 pub mod Margins
 pub mod Bands
+pub mod Spaces

@@ -8,3 +8,4 @@ mod stretches;
 mod widths;
 mod floats;
 mod margins;
+mod spaces;
