@@ -26,3 +26,6 @@ pub mod Beside
 pub mod Truths
 pub mod Bands
 pub mod Collapsed
+pub mod LineEntries
+pub mod LineFloats
+pub mod LineStates

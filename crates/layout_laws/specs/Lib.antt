@@ -8,3 +8,4 @@ pub mod FloatRules
 pub mod Margins
 pub mod Bands
 pub mod Spaces
+pub mod LineStacks

@@ -2,10 +2,10 @@
 #![tactic(auto)]
 
 mod boxes;
+mod floats;
 mod fonts;
 mod lines;
-mod stretches;
-mod widths;
-mod floats;
 mod margins;
 mod spaces;
+mod stretches;
+mod widths;
