@@ -29,3 +29,5 @@ pub mod Collapsed
 pub mod LineEntries
 pub mod LineFloats
 pub mod LineStates
+pub mod Upward
+pub mod LineSteps

@@ -6,6 +6,7 @@ mod floats;
 mod fonts;
 mod lines;
 mod margins;
+mod recursions;
 mod spaces;
 mod stretches;
 mod widths;
