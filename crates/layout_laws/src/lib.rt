@@ -2,8 +2,9 @@
 #![tactic(auto)]
 
 mod boxes;
+mod floats;
 mod fonts;
 mod lines;
-mod widths;
-mod floats;
 mod margins;
+mod spaces;
+mod widths;
