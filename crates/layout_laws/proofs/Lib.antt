@@ -21,6 +21,8 @@ pub mod PreferredWidths
 pub mod HorizontalTerms
 pub mod FontSizes
 pub mod LineTops
+pub mod Cuts
+pub mod ChildWidths
 pub mod Among
 pub mod Extremes
 pub mod FloatPlaces
@@ -28,3 +30,6 @@ pub mod Beside
 pub mod Truths
 pub mod Bands
 pub mod Collapsed
+pub mod LineEntries
+pub mod LineFloats
+pub mod LineStates

@@ -4,6 +4,10 @@ pub mod Styled
 pub mod Outer
 pub mod Terms
 pub mod Standing
+pub mod Parts
+pub mod FloatRuns
 pub mod FloatRules
 pub mod Margins
 pub mod Bands
+pub mod Spaces
+pub mod LineStacks

@@ -7,4 +7,5 @@ mod fonts;
 mod lines;
 mod margins;
 mod spaces;
+mod stretches;
 mod widths;
