@@ -22,3 +22,5 @@ pub mod Beside
 pub mod Truths
 pub mod Bands
 pub mod Collapsed
+pub mod Apart
+pub mod LowestBottoms

@@ -5,3 +5,4 @@ pub mod Standing
 pub mod FloatRules
 pub mod Margins
 pub mod Bands
+pub mod Clearance

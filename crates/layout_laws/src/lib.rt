@@ -5,5 +5,6 @@ mod boxes;
 mod fonts;
 mod lines;
 mod widths;
+mod clearance;
 mod floats;
 mod margins;
