@@ -19,7 +19,6 @@ use Rattle.layout_laws.proofs.Among.{Among, among, contains, filtered, filters, 
 use Rattle.layout_laws.proofs.Extremes.{below_greatest, start_below_greatest, greatest_is_one}
 
 module _ (clear : Clear) (floats : List FloatBox) where
-
   abbrev relevant : List FloatBox
   relevant = filter (is_relevant clear) floats
 
@@ -46,15 +45,18 @@ module _ (clear : Clear) (floats : List FloatBox) where
       by false t = refl
 
   when_some : (g : FloatBox) (gs : List FloatBox) → relevant ≡ g ∷ gs → IsLowestBottom clear floats (greatest_from g.box.bottom (map bottom gs))
-  when_some g gs e = record
-      { bound = λ f i r. of_member f (image bottom (g ∷ gs) f (subst (λ (fs : List FloatBox). Among fs f) e (named f i r)))
-      ; reached = to_member (greatest_is_one g.box.bottom (map bottom gs)) }
+  when_some g gs e = record {
+    bound = λ f i r. of_member f (image bottom (g ∷ gs) f (subst (λ (fs : List FloatBox). Among fs f) e (named f i r)));
+    reached = to_member (greatest_is_one g.box.bottom (map bottom gs));
+  }
     where
       of_member : (f : FloatBox) → Among (map bottom (g ∷ gs)) f.box.bottom → f.box.bottom ≤ℤ greatest_from g.box.bottom (map bottom gs)
       of_member f (inl same) = let t = start_below_greatest g.box.bottom (map bottom gs) in omega (arith, ints, same)
       of_member f (inr i) = below_greatest g.box.bottom (map bottom gs) f.box.bottom i
+
       of_named : (f : FloatBox) → Among (g ∷ gs) f → (f.box.bottom ≡ greatest_from g.box.bottom (map bottom gs)) → (f : FloatBox) × Contains floats f × IsTrue (is_relevant clear f) × (f.box.bottom ≡ greatest_from g.box.bottom (map bottom gs))
       of_named f i same = let r = filtered (is_relevant clear) floats f (subst (λ (fs : List FloatBox). Among fs f) (sym e) i) in (f, contains floats f r.0, r.1, same)
+
       to_member : ((greatest_from g.box.bottom (map bottom gs) ≡ g.box.bottom) ⊎ Among (map bottom gs) (greatest_from g.box.bottom (map bottom gs)))
           → (f : FloatBox) × Contains floats f × IsTrue (is_relevant clear f) × (f.box.bottom ≡ greatest_from g.box.bottom (map bottom gs))
       to_member (inl same) = of_named g (inl refl) (sym same)
@@ -89,7 +91,6 @@ kept tree size (g ∷ gs) floats least y f i = kept tree size gs (with_float tre
 -- ---- a cleared box
 
 module _ (tree : BoxTree) (w : World) (height : ℕ) (size : Waiting → Extent ℤ) (edge : List ℤ → ℤ) (cb : Band ℤ) (floats : List FloatBox) (least : Option ℤ) (b : ℕ) (d : ℕ) (y : ℤ) where
-
   abbrev Stands : Type 0
   Stands = (f : FloatBox) → Contains floats f → IsTrue (is_relevant (clear_of tree d) f) → f.box.bottom ≤ℤ y
 
@@ -113,9 +114,11 @@ module _ (tree : BoxTree) (w : World) (height : ℕ) (size : Waiting → Extent 
       cleared_here at same e f i r =
           let t = subst (λ (z : ℕ). edge_of found z ≡ y) same e in
           let l = below_floats found f i r in omega (arith, ints, t)
+
       by_clearance : (at : ℕ) (c : Bool) → found.end ≡ of_end.Cleared at → is_cleared tree w height size edge cb floats least b found at ≡ c → (resolve_step tree w height size edge cb floats least b go_on found).cleared ≡ Some (d, y) → Stands
       by_clearance at true e c h = let k = rw (e, c) at h in let t = ends (Some (at, edge_of found at)) k in cleared_here at t.0 t.1
       by_clearance at false e c h = rest at (rw (e, c) at h)
+
       by_end : (end : LeadEnd) → found.end ≡ end → (resolve_step tree w height size edge cb floats least b go_on found).cleared ≡ Some (d, y) → Stands
       by_end of_end.Through e h = absurd (ends None (rw e at h))
       by_end (of_end.Solid at) e h = absurd (ends None (rw e at h))

@@ -2,9 +2,9 @@
 #![tactic(auto)]
 
 mod boxes;
-mod fonts;
-mod lines;
-mod widths;
 mod clearance;
 mod floats;
+mod fonts;
+mod lines;
 mod margins;
+mod widths;

@@ -1,4 +1,4 @@
-use Rattle.layout_semantics.specs.Floats.{float_at, highest_top}
+use Rattle.layout_semantics.specs.Floats.{float_at}
 use Rattle.layout_laws.proofs.FloatPlaces.{highest_obeys}
 use Rattle.layout_laws.proofs.Apart.{apart}
 use Rattle.layout_laws.proofs.floats.a_float_overlaps_no_earlier_one.Goals as goal
