@@ -8,6 +8,12 @@ pub mod Above
 pub mod PageParts
 pub mod BoxLaws
 pub mod BoxFacts
+pub mod BoxContent
+pub mod Collapsing
+pub mod TextLengths
+pub mod Sorts
+pub mod TreeFacts
+pub mod Whole
 pub mod Prefixes
 pub mod Greatest
 pub mod Levels

@@ -1,4 +1,6 @@
 pub mod Greatest
+pub mod Spaces
+pub mod Styled
 pub mod Outer
 pub mod Terms
 pub mod Standing

@@ -7,4 +7,5 @@ mod floats;
 mod fonts;
 mod lines;
 mod margins;
+mod spaces;
 mod widths;
