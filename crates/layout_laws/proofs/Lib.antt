@@ -33,3 +33,5 @@ pub mod Collapsed
 pub mod LineEntries
 pub mod LineFloats
 pub mod LineStates
+pub mod Apart
+pub mod LowestBottoms

@@ -11,3 +11,4 @@ pub mod Margins
 pub mod Bands
 pub mod Spaces
 pub mod LineStacks
+pub mod Clearance
