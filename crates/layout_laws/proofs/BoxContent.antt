@@ -85,7 +85,7 @@ leaf_is_closed body is_root s e l = by_replaced (is_replaced body) refl (by_leve
 
 -- ---- what is above a node
 
-upwards_within : (more : ℕ) (nodes : List Node) (page : IsPage nodes) (o : Option ℕ) (above : ℕ) → ((q : ℕ) → o ≡ Some q → q < length nodes) → In above (upwards more nodes o) → above < length nodes
+pub upwards_within : (more : ℕ) (nodes : List Node) (page : IsPage nodes) (o : Option ℕ) (above : ℕ) → ((q : ℕ) → o ≡ Some q → q < length nodes) → In above (upwards more nodes o) → above < length nodes
 upwards_within zero nodes page o above f i = elim i [ ]
 upwards_within (suc more) nodes page None above f i = elim i [ ]
 upwards_within (suc more) nodes page (Some q) _ f In.here = f q refl

@@ -10,6 +10,10 @@ pub mod BoxLaws
 pub mod BoxFacts
 pub mod BoxContent
 pub mod Collapsing
+pub mod TextLengths
+pub mod Sorts
+pub mod TreeFacts
+pub mod Whole
 pub mod Prefixes
 pub mod Greatest
 pub mod Levels
@@ -31,3 +35,5 @@ pub mod LineFloats
 pub mod LineStates
 pub mod Upward
 pub mod LineSteps
+pub mod Apart
+pub mod LowestBottoms

@@ -70,6 +70,9 @@ is_not : (b : Bool) → not b ≡ true → b ≡ false
 is_not true e = absurd (cc)
 is_not false e = refl
 
+part_shape : (parts : List Part) (q r p : Part) → q ≡ r → collapsed_part parts q ≡ p → p ≡ record r { text = p.text }
+part_shape parts q r p e f = sym f ∙ (ap (λ (t : List ℕ). record q { text = t }) (ap (λ (o : Part). o.text) f) ∙ ap (λ (o : Part). record o { text = p.text }) e)
+
 module _ (nodes : List Node) (styles : List Style) where
   pub from_page : (p : Part) → In p (collapsed (shown_parts nodes styles)) → IsPagePart nodes styles p
   from_page p i =
@@ -78,15 +81,14 @@ module _ (nodes : List Node) (styles : List Style) where
       let from = from_map (collapsed_part all) all p kept.0 in
       let known = from_shown nodes styles from.0 from.1 in
       let node : from.0.node ≡ p.node = ap (λ (q : Part). q.node) from.2 in
-      let shape : record (part_of nodes styles from.0.node known.entry known.style) { text = p.text } ≡ p =
-      ap (λ (q : Part). record q { text = p.text }) (sym known.is) ∙ (ap (λ (t : List ℕ). record from.0 { text = t }) (sym (ap (λ (q : Part). q.text) from.2)) ∙ from.2) in
+      let shape = part_shape all from.0 (part_of nodes styles from.0.node known.entry known.style) p known.is from.2 in
       record {
         entry = known.entry;
         style = known.style;
         node_is = subst (λ k. slice_get nodes k ≡ Some known.entry) node known.node_is;
         style_is = subst (λ k. slice_get styles k ≡ Some known.style) node known.style_is;
         shown = subst (λ k. is_shown nodes styles k ≡ true) node known.shown;
-        is = subst (λ k. p ≡ record (part_of nodes styles k known.entry known.style) { text = p.text }) node (sym shape);
+        is = subst (λ k. p ≡ record (part_of nodes styles k known.entry known.style) { text = p.text }) node shape;
         not_bare = is_not (is_bare p) kept.1;
       }
 

@@ -1,4 +1,6 @@
 pub mod Greatest
+pub mod Spaces
+pub mod Styled
 pub mod Outer
 pub mod Terms
 pub mod Standing
@@ -10,3 +12,4 @@ pub mod Bands
 pub mod Spaces
 pub mod LineStacks
 pub mod Nested
+pub mod Clearance

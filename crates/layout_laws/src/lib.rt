@@ -2,6 +2,7 @@
 #![tactic(auto)]
 
 mod boxes;
+mod clearance;
 mod floats;
 mod fonts;
 mod lines;
