@@ -9,7 +9,6 @@ pub mod FloatRuns
 pub mod FloatRules
 pub mod Margins
 pub mod Bands
-pub mod Spaces
 pub mod LineStacks
 pub mod Nested
 pub mod Clearance

@@ -4,10 +4,10 @@
 mod boxes;
 mod clearance;
 mod floats;
-mod fonts;
-mod lines;
+pub mod fonts;
+pub mod lines;
 mod margins;
-mod recursions;
+pub mod recursions;
 mod spaces;
-mod stretches;
-mod widths;
+pub mod stretches;
+pub mod widths;
