@@ -14,6 +14,7 @@ pub mod TextLengths
 pub mod Sorts
 pub mod TreeFacts
 pub mod Whole
+pub mod Reaching
 pub mod Prefixes
 pub mod Greatest
 pub mod Levels

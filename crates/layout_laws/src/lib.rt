@@ -8,6 +8,7 @@ pub mod fonts;
 pub mod lines;
 mod margins;
 pub mod recursions;
+mod reaches;
 mod spaces;
 pub mod stretches;
 pub mod widths;
