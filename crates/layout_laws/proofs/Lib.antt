@@ -30,3 +30,4 @@ pub mod Bands
 pub mod Collapsed
 pub mod Apart
 pub mod LowestBottoms
+pub mod PlacedFloats

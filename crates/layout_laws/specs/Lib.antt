@@ -8,3 +8,4 @@ pub mod FloatRules
 pub mod Margins
 pub mod Bands
 pub mod Clearance
+pub mod PlacedFloats

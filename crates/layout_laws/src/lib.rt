@@ -3,6 +3,7 @@
 
 mod boxes;
 mod clearance;
+mod contexts;
 mod floats;
 mod fonts;
 mod lines;
