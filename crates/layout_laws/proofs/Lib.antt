@@ -31,3 +31,4 @@ pub mod Collapsed
 pub mod Apart
 pub mod LowestBottoms
 pub mod PlacedFloats
+pub mod FlowFloats
