@@ -32,3 +32,4 @@ pub mod Apart
 pub mod LowestBottoms
 pub mod PlacedFloats
 pub mod FlowFloats
+pub mod ContextHeights

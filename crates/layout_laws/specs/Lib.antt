@@ -9,3 +9,4 @@ pub mod Margins
 pub mod Bands
 pub mod Clearance
 pub mod PlacedFloats
+pub mod Heights

@@ -6,6 +6,7 @@ mod clearance;
 mod contexts;
 mod floats;
 mod fonts;
+mod heights;
 mod lines;
 mod margins;
 mod spaces;
