@@ -21,6 +21,8 @@ pub mod PreferredWidths
 pub mod HorizontalTerms
 pub mod FontSizes
 pub mod LineTops
+pub mod Cuts
+pub mod ChildWidths
 pub mod Among
 pub mod Extremes
 pub mod FloatPlaces
@@ -28,6 +30,9 @@ pub mod Beside
 pub mod Truths
 pub mod Bands
 pub mod Collapsed
+pub mod LineEntries
+pub mod LineFloats
+pub mod LineStates
 pub mod Apart
 pub mod LowestBottoms
 pub mod PlacedFloats

@@ -4,9 +4,13 @@ pub mod Styled
 pub mod Outer
 pub mod Terms
 pub mod Standing
+pub mod Parts
+pub mod FloatRuns
 pub mod FloatRules
 pub mod Margins
 pub mod Bands
+pub mod Spaces
+pub mod LineStacks
 pub mod Clearance
 pub mod PlacedFloats
 pub mod Heights

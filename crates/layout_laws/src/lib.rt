@@ -10,4 +10,5 @@ mod heights;
 mod lines;
 mod margins;
 mod spaces;
+mod stretches;
 mod widths;
