@@ -33,6 +33,8 @@ pub mod Collapsed
 pub mod LineEntries
 pub mod LineFloats
 pub mod LineStates
+pub mod Upward
+pub mod LineSteps
 pub mod Apart
 pub mod LowestBottoms
 pub mod PlacedFloats

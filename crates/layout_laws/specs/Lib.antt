@@ -9,8 +9,8 @@ pub mod FloatRuns
 pub mod FloatRules
 pub mod Margins
 pub mod Bands
-pub mod Spaces
 pub mod LineStacks
+pub mod Nested
 pub mod Clearance
 pub mod PlacedFloats
 pub mod Heights
