@@ -38,3 +38,6 @@ pub mod Upward
 pub mod LineSteps
 pub mod Apart
 pub mod LowestBottoms
+pub mod PlacedFloats
+pub mod FlowFloats
+pub mod ContextHeights

@@ -12,3 +12,5 @@ pub mod Bands
 pub mod LineStacks
 pub mod Nested
 pub mod Clearance
+pub mod PlacedFloats
+pub mod Heights

@@ -3,7 +3,11 @@
 
 mod boxes;
 mod clearance;
+mod contexts;
 mod floats;
+mod fonts;
+mod heights;
+mod lines;
 pub mod fonts;
 pub mod lines;
 mod margins;
