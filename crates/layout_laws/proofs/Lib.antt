@@ -23,6 +23,8 @@ pub mod PreferredWidths
 pub mod HorizontalTerms
 pub mod FontSizes
 pub mod LineTops
+pub mod Cuts
+pub mod ChildWidths
 pub mod Among
 pub mod Extremes
 pub mod FloatPlaces
@@ -30,3 +32,13 @@ pub mod Beside
 pub mod Truths
 pub mod Bands
 pub mod Collapsed
+pub mod LineEntries
+pub mod LineFloats
+pub mod LineStates
+pub mod Upward
+pub mod LineSteps
+pub mod Apart
+pub mod LowestBottoms
+pub mod PlacedFloats
+pub mod FlowFloats
+pub mod ContextHeights

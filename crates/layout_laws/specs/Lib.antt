@@ -4,7 +4,14 @@ pub mod Styled
 pub mod Outer
 pub mod Terms
 pub mod Standing
+pub mod Parts
+pub mod FloatRuns
 pub mod FloatRules
 pub mod Margins
 pub mod Bands
 pub mod Apart
+pub mod LineStacks
+pub mod Nested
+pub mod Clearance
+pub mod PlacedFloats
+pub mod Heights

@@ -1,5 +1,5 @@
 -- The box tree of a page and its styles (CSS 2.1, 9.2).
-use Rattle.std.specs.Prelude.{ℕ, ◌+◌, ◌==◌, nat_lt, Bool, true, false, not, ◌&&◌, ◌||◌, List, [], ◌∷◌, map, zip, sum, find, flat_map, Option, Some, None, option_map, option_and_then, unwrap_or, slice_get, slice_index, if◌then◌else◌, encode_utf8_all, codes}
+use Rattle.std.specs.Prelude.{zip, sum, unwrap_or, option_and_then, ℕ, ◌+◌, Bool, true, false, not, ◌&&◌, ◌||◌, ◌==◌, nat_lt, List, [], ◌∷◌, map, find, flat_map, Option, Some, None, option_map, slice_get, slice_index, if◌then◌else◌, encode_utf8_all, codes}
 use Rattle.std.specs.List.{list_any, enumerate_from}
 use Rattle.std.specs.Option.{option_map_or}
 use Rattle.viz_base.specs.Pages.{is_element}
