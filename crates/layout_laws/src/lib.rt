@@ -1,17 +1,15 @@
 //! Laws of the layout that layout_semantics defines: what holds of all pages, said without the definitions' recursions.
 #![tactic(auto)]
 
-mod boxes;
-mod clearance;
-mod contexts;
-mod floats;
-mod fonts;
-mod heights;
-mod lines;
+pub mod boxes;
+pub mod clearance;
+pub mod contexts;
+pub mod floats;
 pub mod fonts;
+pub mod heights;
 pub mod lines;
-mod margins;
+pub mod margins;
 pub mod recursions;
-mod spaces;
+pub mod spaces;
 pub mod stretches;
 pub mod widths;
