@@ -1,0 +1,11 @@
+//! Groups of selectors, what they match and how specific they are (CSS 2.1, chapter 5 and 6.4.3).
+#![tactic(auto)]
+
+mod acts;
+mod faults;
+mod names;
+mod reading;
+mod steps;
+mod terminals;
+
+pub use faults::SelFault;
