@@ -4,8 +4,10 @@
 mod acts;
 mod faults;
 mod names;
+mod read;
 mod reading;
 mod steps;
 mod terminals;
 
 pub use faults::SelFault;
+pub use read::read_selector;
