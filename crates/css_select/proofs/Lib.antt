@@ -1,0 +1,4 @@
+pub mod Following
+pub mod Held
+pub mod Sound
+pub mod Kept

@@ -4,7 +4,7 @@ use Rattle.viz_base.specs.declared.groups.Selector.{Selector}
 use Rattle.viz_base.specs.declared.selectors.Compound.{Compound}
 use Rattle.viz_base.specs.declared.selectors.Join.{Join}
 use Rattle.viz_base.specs.declared.tokens.Token.{Token}
-use Rattle.css_semantics.specs.SelectorGrammar.{IsBadAt, IsUnsupportedAt}
+use Rattle.css_semantics.specs.SelectorGrammar.{IsBadAt, IsGroupOf, IsUnsupportedAt}
 use Rattle.css_select.specs.declared.faults.SelFault.{SelFault}
 use Rattle.css_select.specs.declared.faults.SelFault.TheVariants.{Mem, Bad, Unsupported}
 use Rattle.css_select.specs.Machine.{State, parts_of, initial, run, ended, may_end}
@@ -44,3 +44,9 @@ abbrev pub IsFault : SelFault → List ℕ → Type 0
 IsFault Mem text = Unit {0}
 IsFault (Bad place) text = IsBadAt text place
 IsFault (Unsupported place) text = IsUnsupportedAt text place
+
+-- what a text is: a group of selectors, one with refused selectors, or none
+abbrev pub IsReading : List ℕ → Verdict → Type 0
+IsReading text (group_is group) = IsGroupOf text group
+IsReading text (unsupported_at place) = IsUnsupportedAt text place
+IsReading text (bad_at place) = IsBadAt text place

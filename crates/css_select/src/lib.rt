@@ -3,6 +3,7 @@
 
 mod acts;
 mod faults;
+mod laws;
 mod names;
 mod read;
 mod reading;
@@ -10,4 +11,5 @@ mod steps;
 mod terminals;
 
 pub use faults::SelFault;
+pub use laws::one_reading;
 pub use read::read_selector;

@@ -77,7 +77,7 @@ pub record IsCompound (ts : List Token) (c : Compound) (refused : List ℕ) : Ty
 pub data IsCombinator : List Token → Join → Type 0 where
   descendant : {t : Token} {more : List Token} → terminal t ≡ a.Space → IsGap more → IsCombinator (t ∷ more) Descendant
   child : (t : Token) (before after : List Token) → IsGap before → terminal t ≡ a.Greater → IsGap after → IsCombinator (before ++ t ∷ after) Child
-  next : (t : Token) (before after : List Token) → IsGap before → terminal t ≡ a.Plus → IsGap after → IsCombinator (before ++ t ∷ after) Next
+  adjacent : (t : Token) (before after : List Token) → IsGap before → terminal t ≡ a.Plus → IsGap after → IsCombinator (before ++ t ∷ after) Next
 
 -- what stands in a selector before one of its simple selectors, and how that is joined to it
 pub data IsFront : List Token → List (Join × Compound) → Join → List ℕ → Type 0 where
