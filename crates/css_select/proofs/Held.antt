@@ -12,7 +12,7 @@ use Rattle.css_semantics.specs.declared.terminals.Terminal.TheVariants as a
 use Rattle.css_semantics.specs.declared.terminals.Comparison.{Comparison}
 use Rattle.css_semantics.specs.SelectorTerminals.{terminal, name_of, says, comparison, compared, is_value}
 use Rattle.css_semantics.specs.SheetsMarks.{text_of}
-use Rattle.css_semantics.specs.SelectorGrammar.{IsGap, IsTest, AreTests, no_test, one_more, IsHead, nothing, IsBody, IsCompound, IsCombinator, descendant, child, adjacent, IsFront, at_start, behind, IsLast, plain, with_element, IsSelectorText, selector, AreEarlier, none_earlier, one_later, IsGroup, selectors}
+use Rattle.css_semantics.specs.SelectorGrammar.{IsGap, IsTest, AreTests, no_test, one_more, IsHead, nothing, IsBody, IsCompound, IsCombinator, descendant, child, adjacent, IsFront, at_start, further, IsLast, plain, with_element, IsSelectorText, selector, AreEarlier, none_earlier, one_later, IsGroup, selectors}
 use Rattle.css_select.specs.declared.reading.Place.{Place}
 use Rattle.css_select.specs.declared.reading.Place.TheVariants.{Fresh, Compound as InCompound, Gap, Dot, Colon, Language, LanguageEnd, Element, Bracket, Name, Sign, Value}
 use Rattle.css_select.specs.Machine.{State, empty, or_first}

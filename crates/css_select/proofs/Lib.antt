@@ -2,3 +2,4 @@ pub mod Following
 pub mod Held
 pub mod Sound
 pub mod Kept
+pub mod Complete

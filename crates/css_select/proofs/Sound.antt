@@ -15,7 +15,7 @@ use Rattle.css_semantics.specs.declared.terminals.Terminal.{Terminal}
 use Rattle.css_semantics.specs.declared.terminals.Terminal.TheVariants as a
 use Rattle.css_semantics.specs.SelectorTerminals.{terminal, name_of, says, pseudo, comparison, compared, is_value}
 use Rattle.css_semantics.specs.SheetsMarks.{text_of}
-use Rattle.css_semantics.specs.SelectorGrammar.{IsGap, IsTest, id, class, has, compares, pseudo_class, language, AreTests, no_test, one_more, IsHead, nothing, star, tag, IsBody, IsCompound, IsCombinator, descendant, child, adjacent, IsFront, at_start, behind, IsLast, plain, with_element, IsSelectorText, selector, AreEarlier, none_earlier, one_later, IsGroup, selectors}
+use Rattle.css_semantics.specs.SelectorGrammar.{IsGap, IsTest, id, class, has, compares, pseudo_class, language, AreTests, no_test, one_more, IsHead, nothing, star, tag, IsBody, IsCompound, IsCombinator, descendant, child, adjacent, IsFront, at_start, further, IsLast, plain, with_element, IsSelectorText, selector, AreEarlier, none_earlier, one_later, IsGroup, selectors}
 use Rattle.css_select.specs.declared.reading.Place.{Place}
 use Rattle.css_select.specs.declared.reading.Place.TheVariants.{Fresh, Compound as InCompound, Gap, Dot, Colon, Language, LanguageEnd, Element, Bracket, Name, Sign, Value}
 use Rattle.css_select.specs.Machine.{State, initial, at, empty, ended, joined, may_end, or_first, refused, tagged, tested, step, step_at, step_bracket, step_closing, step_colon, step_compound, step_dot, step_element, step_fresh, step_function, step_gap, step_language, step_language_end, step_name, step_operand, step_pseudo, step_sign, step_test, step_value}
@@ -58,7 +58,7 @@ space_by at_start group earlier gap refused e g t k = record {
   is_front = at_start;
   all = refl;
 }
-space_by (behind ts piece white {refused = refs} {others = others} f c j) group earlier gap refused e g t k = record {
+space_by (further ts piece white {refused = refs} {others = others} f c j) group earlier gap refused e g t k = record {
   earlier = earlier;
   gap = gap;
   front = ts ++ (piece ++ (white ++ t ∷ []));
@@ -67,7 +67,7 @@ space_by (behind ts piece white {refused = refs} {others = others} f c j) group 
   whole = simp append_assoc;
   are_earlier = e;
   is_gap = g;
-  is_front = behind ts piece (white ++ t ∷ []) f c (combinator_more t j k);
+  is_front = further ts piece (white ++ t ∷ []) f c (combinator_more t j k);
   all = refl;
 }
 
@@ -177,7 +177,7 @@ some_joined ts gap how h k =
         whole = ap (λ x. x ++ gap) m.whole ∙ ap (λ x. (x ++ m.body) ++ gap) b.whole ∙ simp append_assoc;
         are_earlier = b.are_earlier;
         is_gap = b.is_gap;
-        is_front = behind b.front m.body gap b.is_front (some_compound h) k;
+        is_front = further b.front m.body gap b.is_front (some_compound h) k;
         all = ap (λ x. x ++ m.refused_body) b.all ∙ append_assoc b.refused_earlier b.refused_front m.refused_body;
       };
       none = refl;

@@ -82,7 +82,7 @@ pub data IsCombinator : List Token → Join → Type 0 where
 -- what stands in a selector before one of its simple selectors, and how that is joined to it
 pub data IsFront : List Token → List (Join × Compound) → Join → List ℕ → Type 0 where
   at_start : IsFront [] [] First []
-  behind : (ts piece gap : List Token) {parts : List (Join × Compound)} {join next : Join} {c : Compound} {refused others : List ℕ}
+  further : (ts piece gap : List Token) {parts : List (Join × Compound)} {join next : Join} {c : Compound} {refused others : List ℕ}
       → IsFront ts parts join refused → IsCompound piece c others → IsCombinator gap next
       → IsFront (ts ++ (piece ++ gap)) (parts ++ (join, c) ∷ []) next (refused ++ others)
 
