@@ -1,10 +1,10 @@
 -- What reading all tokens says of a text, and which answer of the code stands for it. Want of memory is free.
-use Rattle.std.specs.Prelude.{◌≡◌, ℕ, List, map, Option, Some, None, Result, Ok, Err, if◌then◌else◌}
+use Rattle.std.specs.Prelude.{◌≡◌, ℕ, List, [], ◌∷◌, map, Option, Some, None, Result, Ok, Err, if◌then◌else◌}
 use Rattle.viz_base.specs.declared.groups.Selector.{Selector}
 use Rattle.viz_base.specs.declared.selectors.Compound.{Compound}
 use Rattle.viz_base.specs.declared.selectors.Join.{Join}
 use Rattle.viz_base.specs.declared.tokens.Token.{Token}
-use Rattle.css_semantics.specs.SelectorGrammar.{IsBadAt, IsGroupOf, IsUnsupportedAt}
+use Rattle.css_semantics.specs.SelectorGrammar.{IsBadAt, IsGroup, IsNoGroup, IsUnsupportedAt}
 use Rattle.css_select.specs.declared.faults.SelFault.{SelFault}
 use Rattle.css_select.specs.declared.faults.SelFault.TheVariants.{Mem, Bad, Unsupported}
 use Rattle.css_select.specs.Machine.{State, parts_of, initial, run, ended, may_end}
@@ -45,8 +45,8 @@ IsFault Mem text = Unit {0}
 IsFault (Bad place) text = IsBadAt text place
 IsFault (Unsupported place) text = IsUnsupportedAt text place
 
--- what a text is: a group of selectors, one with refused selectors, or none
-abbrev pub IsReading : List ℕ → Verdict → Type 0
-IsReading text (group_is group) = IsGroupOf text group
-IsReading text (unsupported_at place) = IsUnsupportedAt text place
-IsReading text (bad_at place) = IsBadAt text place
+-- what tokens are, a text that ends at a place having them: a group of selectors, one with refused selectors, or none
+abbrev pub IsReading : ℕ → List Token → Verdict → Type 0
+IsReading end ts (group_is group) = IsGroup ts group []
+IsReading end ts (unsupported_at place) = (group : List (List (Join × Compound))) × (others : List ℕ) × IsGroup ts group (place ∷ others)
+IsReading end ts (bad_at place) = IsNoGroup ts end place

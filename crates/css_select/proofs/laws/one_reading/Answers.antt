@@ -1,7 +1,5 @@
-use Rattle.css_select.proofs.Following.{leads_on}
-use Rattle.css_select.proofs.Kept.{step_reads}
-use Rattle.css_select.proofs.Complete.{follow_group}
+use Rattle.css_select.proofs.Exact.{one_reading, some_reading}
 use Rattle.css_select.proofs.laws.one_reading.Goals as goal
 
 pub returns : goal.returns
-returns c = ?
+returns c = record { exists = some_reading c.args._text; unique = one_reading c.args._text }
