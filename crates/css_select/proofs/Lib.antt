@@ -10,3 +10,4 @@ pub mod Words
 pub mod Passing
 pub mod Nodes
 pub mod Tries
+pub mod Counting
