@@ -11,3 +11,5 @@ pub mod Passing
 pub mod Nodes
 pub mod Tries
 pub mod Counting
+pub mod Sizes
+pub mod Lengths
