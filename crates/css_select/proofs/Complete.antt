@@ -356,10 +356,10 @@ follow_last (with_element ts {c = c} {refused = others} colon name h k m p) grou
     let there = st Element group parts join c (or_first (or_all first others) colon.at) in
     let all : or_first (or_all first others) colon.at ≡ or_all first (others ++ colon.at ∷ []) = or_append first others (colon.at ∷ []) in
     let read : follow (st Fresh group parts join empty first) ((ts ++ colon ∷ name ∷ []) ++ gap) ≡ Ok there =
-      ap (follow (st Fresh group parts join empty first)) (append_assoc ts (colon ∷ name ∷ []) gap) ∙ b.is (colon ∷ name ∷ gap)
-      ∙ on (st b.place group parts join c (or_all first others)) colon (at s (Colon colon.at)) (name ∷ gap) (b.can_go.enters colon a.Colon refl k)
-      ∙ on (at s (Colon colon.at)) name there gap (ap (step_at (Colon colon.at) s name) m ∙ ap (step_pseudo s colon.at name) p)
-      ∙ ap (follow there) (sym (append-nil gap)) ∙ stays there (λ v e. ap (step_at Element (st Fresh group parts join c (or_first (or_all first others) colon.at)) v) e) gap [] g in record {
+    ap (follow (st Fresh group parts join empty first)) (append_assoc ts (colon ∷ name ∷ []) gap) ∙ b.is (colon ∷ name ∷ gap)
+    ∙ on (st b.place group parts join c (or_all first others)) colon (at s (Colon colon.at)) (name ∷ gap) (b.can_go.enters colon a.Colon refl k)
+    ∙ on (at s (Colon colon.at)) name there gap (ap (step_at (Colon colon.at) s name) m ∙ ap (step_pseudo s colon.at name) p)
+    ∙ ap (follow there) (sym (append-nil gap)) ∙ stays there (λ v e. ap (step_at Element (st Fresh group parts join c (or_first (or_all first others) colon.at)) v) e) gap [] g in record {
       place = Element;
       is = read ∙ ap (λ x. Ok (st Element group parts join c x)) all;
       ends = refl;

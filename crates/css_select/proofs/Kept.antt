@@ -98,7 +98,7 @@ reads_pseudo s ts t place (Some of_pseudo.Element) next k p h e =
     let m = h.held in
     let colon = h.shape.0 in
     let more : or_first s.refused place ≡ first_of (m.refused_before ++ (m.refused_body ++ colon.at ∷ [])) =
-      ap (λ r. or_first r place) m.is_first ∙ sym (first_more (m.refused_before ++ m.refused_body) place) ∙ ap first_of (append_assoc m.refused_before m.refused_body (place ∷ [])) ∙ ap (λ x. first_of (m.refused_before ++ (m.refused_body ++ x ∷ []))) (sym h.shape.3) in
+    ap (λ r. or_first r place) m.is_first ∙ sym (first_more (m.refused_before ++ m.refused_body) place) ∙ ap first_of (append_assoc m.refused_before m.refused_body (place ∷ [])) ∙ ap (λ x. first_of (m.refused_before ++ (m.refused_body ++ x ∷ []))) (sym h.shape.3) in
     got (refused (at s Fresh) place Element) next (ts ++ t ∷ []) e (record {
       before = m.before;
       last = m.body ++ colon ∷ t ∷ [];
@@ -146,7 +146,7 @@ reads_language_end s ts t place a.Space next k h e =
     (open_more s ts t h (record { front = o.front; name = o.name; after = o.after ++ t ∷ []; whole = ap (λ x. x ++ t ∷ []) o.whole ∙ append_assoc o.front (o.name ∷ o.after) (t ∷ []); is_open = o.is_open; is_name = o.is_name; is_gap = gap_more o.after t o.is_gap k }))
 reads_language_end s ts t place a.RightParen next k h e =
     let held = held_test s.group s.parts s.join s.compound s.refused h.front (h.piece ++ t ∷ []) [] (place ∷ []) h.held (language_test h.piece t place h.shape k) (omega (arith, length-append h.piece (t ∷ [])))
-      (or_first s.refused place) (λ xs q. ap (λ r. or_first r place) q ∙ sym (first_more xs place)) in
+    (or_first s.refused place) (λ xs q. ap (λ r. or_first r place) q ∙ sym (first_more xs place)) in
     got (refused (at s Fresh) place InCompound) next (ts ++ t ∷ []) e
     (subst (IsSome s.group s.parts s.join s.compound (or_first s.refused place)) (sym (append_assoc h.front h.piece (t ∷ [])) ∙ ap (λ x. x ++ t ∷ []) (sym h.whole))
     (subst (λ x. IsSome s.group s.parts s.join (record { tag = s.compound.tag; tests = x }) (or_first s.refused place) (h.front ++ (h.piece ++ t ∷ []))) (append-nil s.compound.tests) held))
@@ -219,8 +219,8 @@ compared_test piece t test h k =
     let b = n.is_open in
     let test_is : compared h.how (name_of n.token) (text_of h.token) ≡ test = ap (λ x. compared h.how x (text_of h.token)) n.is ∙ h.is in
     let whole : piece ++ t ∷ [] ≡ b.opening ∷ (b.before ++ n.token ∷ (n.after ++ o.sign ∷ (o.after ++ h.token ∷ (h.after ++ t ∷ [])))) =
-      ap (λ x. x ++ t ∷ []) h.whole ∙ ap (λ x. (x ++ h.token ∷ h.after) ++ t ∷ []) o.whole ∙ ap (λ x. ((x ++ o.sign ∷ o.after) ++ h.token ∷ h.after) ++ t ∷ []) n.whole
-      ∙ ap (λ x. (((x ++ n.token ∷ n.after) ++ o.sign ∷ o.after) ++ h.token ∷ h.after) ++ t ∷ []) b.whole ∙ simp append_assoc in
+    ap (λ x. x ++ t ∷ []) h.whole ∙ ap (λ x. (x ++ h.token ∷ h.after) ++ t ∷ []) o.whole ∙ ap (λ x. ((x ++ o.sign ∷ o.after) ++ h.token ∷ h.after) ++ t ∷ []) n.whole
+    ∙ ap (λ x. (((x ++ n.token ∷ n.after) ++ o.sign ∷ o.after) ++ h.token ∷ h.after) ++ t ∷ []) b.whole ∙ simp append_assoc in
     subst (λ x. IsTest x (test ∷ []) []) (sym whole)
     (subst (λ x. IsTest (b.opening ∷ (b.before ++ n.token ∷ (n.after ++ o.sign ∷ (o.after ++ h.token ∷ (h.after ++ t ∷ []))))) (x ∷ []) []) test_is
     (compares b.opening n.token o.sign h.token t b.before n.after o.after h.after h.how b.is_opening b.is_gap n.is_name n.is_gap o.is_sign o.is_gap h.is_value h.is_gap k))

@@ -104,3 +104,6 @@ same_around_by nodes p s n top h k (inr a) = further k a
 -- children of one element have the same elements around them
 pub same_around : (nodes : List Node) (p s n top : ℕ) → IsParent nodes p s → IsParent nodes p n → IsAncestor nodes top s → IsAncestor nodes top n
 same_around nodes p s n top h k a = same_around_by nodes p s n top h k (ancestor_cases nodes top p s h a)
+
+pub false_true : {P : Type 0} → false ≡ true → P
+false_true e = absurd (cc)

@@ -47,9 +47,9 @@ passes_any p (x ∷ before) one after e = ap (λ b. p x || b) (passes_any p befo
 
 attribute_is : (e : Element) (test : Test) (name : List ℕ) (P : List ℕ → Type 0) → ((a : Attr) → Decides (attribute_passes test a) (IsSameName name a.name × P a.value)) → Decides (list_any (attribute_passes test) e.attrs) (HasAttribute e name P)
 attribute_is e test name P each = (
-      (λ h. let k = any_passes (attribute_passes test) e.attrs h in let m = (each k.one).0 k.passes in record { attribute = k.one; before = k.before; after = k.after; among = k.whole; named = m.0; passes = m.1 }),
-      (λ h. ap (list_any (attribute_passes test)) h.among ∙ passes_any (attribute_passes test) h.before h.attribute h.after ((each h.attribute).1 (h.named, h.passes))),
-    )
+  (λ h. let k = any_passes (attribute_passes test) e.attrs h in let m = (each k.one).0 k.passes in record { attribute = k.one; before = k.before; after = k.after; among = k.whole; named = m.0; passes = m.1 }),
+  (λ h. ap (list_any (attribute_passes test)) h.among ∙ passes_any (attribute_passes test) h.before h.attribute h.after ((each h.attribute).1 (h.named, h.passes))),
+)
 
 words_are : (text word : List ℕ) → Decides (has_word text word) (IsWordOf text word)
 words_are text word = (word_of text word, of_word text word)
@@ -110,13 +110,13 @@ passes_default nodes n e test r f l is = Decides-at r (list_any (attribute_passe
 pub passes_link : (nodes : List Node) (n : ℕ) (e : Element) (test : Test) (s r : Bool) (tag : List ℕ) → test ≡ Link → tag ≡ e.tag → s ≡ same_name (codes "a") tag → s ≡ true → r ≡ list_any (attribute_passes test) e.attrs → Decides r (Passes nodes n e test)
 passes_link nodes n e test s r tag is same named yes_named found =
     let both : r ≡ (same_name (codes "a") e.tag && list_any (attribute_passes Link) e.attrs) =
-      found ∙ ap (λ t. list_any (attribute_passes t) e.attrs) is ∙ ap (λ b. b && list_any (attribute_passes Link) e.attrs) (sym yes_named ∙ named ∙ ap (same_name (codes "a")) same) in
+    found ∙ ap (λ t. list_any (attribute_passes t) e.attrs) is ∙ ap (λ b. b && list_any (attribute_passes Link) e.attrs) (sym yes_named ∙ named ∙ ap (same_name (codes "a")) same) in
     subst (λ t. Decides r (Passes nodes n e t)) (sym is) (Decides-at r (same_name (codes "a") e.tag && list_any (attribute_passes Link) e.attrs) both (link_passes e))
 
 pub passes_other : (nodes : List Node) (n : ℕ) (e : Element) (test : Test) (s : Bool) (tag : List ℕ) → test ≡ Link → tag ≡ e.tag → s ≡ same_name (codes "a") tag → s ≡ false → Decides s (Passes nodes n e test)
 passes_other nodes n e test s tag is same named not_named =
     let both : s ≡ (same_name (codes "a") e.tag && list_any (attribute_passes Link) e.attrs) =
-      not_named ∙ ap (λ b. b && list_any (attribute_passes Link) e.attrs) (sym not_named ∙ named ∙ ap (same_name (codes "a")) same) in
+    not_named ∙ ap (λ b. b && list_any (attribute_passes Link) e.attrs) (sym not_named ∙ named ∙ ap (same_name (codes "a")) same) in
     subst (λ t. Decides s (Passes nodes n e t)) (sym is) (Decides-at s (same_name (codes "a") e.tag && list_any (attribute_passes Link) e.attrs) both (link_passes e))
 
 pub tag_is : (e : Element) (asked : Option (List ℕ)) (name given own : List ℕ) (r : Bool) → asked ≡ Some name → given ≡ name → own ≡ e.tag → r ≡ same_name given own → Decides r (HasTag e asked)

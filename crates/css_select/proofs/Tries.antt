@@ -79,5 +79,5 @@ around_out nodes ps n k p Hopeless f left around q h = none_left nodes ps n k p 
 pub at_parts : (nodes : List Node) (parts before : List (Join × Compound)) (last : Join × Compound) (n : ℕ) (o : Outcome) (join : Join) → parts ≡ before ++ last ∷ [] → last.0 ≡ join → IsOutcome nodes ((join, last.1) ∷ reverse before) n o → IsOutcome nodes (reverse parts) n o
 at_parts nodes parts before last n o join e is h =
     let whole : (join, last.1) ∷ reverse before ≡ reverse parts =
-      sym (ap (λ j. (j, last.1) ∷ reverse before) is) ∙ sym (reverse-append before (last ∷ [])) ∙ ap reverse (sym e) in
+    sym (ap (λ j. (j, last.1) ∷ reverse before) is) ∙ sym (reverse-append before (last ∷ [])) ∙ ap reverse (sym e) in
     subst (λ ps. IsOutcome nodes ps n o) whole h

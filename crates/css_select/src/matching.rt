@@ -114,5 +114,8 @@ fn match_around(page: &Page, parts: &[(Join, Compound)], node: u32) -> Outcome
 pub fn matches(selector: &Selector, page: &Page, node: u32) -> bool
     ensures { IsTrue result ↔ Match selector.now.parts page.now.nodes node }
 {
-    matches!(match_parts(page, selector.parts.as_slice(), node), Outcome::Found)
+    matches!(
+        match_parts(page, selector.parts.as_slice(), node),
+        Outcome::Found
+    )
 }

@@ -48,11 +48,7 @@ fn finish(alloc: Global, reading: Reading, end: u32) -> Result<List<Selector>, S
     Ok(group)
 }
 
-fn read_tokens(
-    alloc: Global,
-    tokens: &[Token<'_>],
-    end: u32,
-) -> Result<List<Selector>, SelFault>
+fn read_tokens(alloc: Global, tokens: &[Token<'_>], end: u32) -> Result<List<Selector>, SelFault>
     ensures { Says result (verdict_of end tokens.now) }
 {
     let reading = run(alloc, tokens)?;

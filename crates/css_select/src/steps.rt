@@ -93,12 +93,7 @@ fn step_gap(
         Terminal::Greater => Ok(reading.joined(alloc, Join::Child)?),
         Terminal::Plus => Ok(reading.joined(alloc, Join::Next)?),
         Terminal::Comma => Ok(reading.ended(alloc)?),
-        sign => step_fresh(
-            alloc,
-            reading.joined(alloc, Join::Descendant)?,
-            token,
-            sign,
-        ),
+        sign => step_fresh(alloc, reading.joined(alloc, Join::Descendant)?, token, sign),
     }
 }
 

@@ -6,7 +6,12 @@ use std::alloc::{AllocError, Global};
 use std::test::Fail;
 use viz_base::{Attr, Body, Element, Join, List, Node, Page, Selector, Test, Text};
 
-fn push_attribute(out: &mut String, name: &Text, sign: &str, value: &Text) -> Result<(), AllocError> {
+fn push_attribute(
+    out: &mut String,
+    name: &Text,
+    sign: &str,
+    value: &Text,
+) -> Result<(), AllocError> {
     out.push_str("[")?;
     out.push_str(name.as_str())?;
     out.push_str(sign)?;
@@ -102,10 +107,7 @@ fn counts(rt: HostRuntime) -> Result<(), Fail> {
             let spec = specificity(selector);
             let shown = format!(in alloc;
                 "{} {} {} {}",
-                spec.style,
-                spec.ids,
-                spec.attrs,
-                spec.types
+                spec.style, spec.ids, spec.attrs, spec.types
             )?;
             out.push_str(shown.as_str())?;
         }

@@ -50,11 +50,11 @@ pub fn previous_sibling(page: &Page, node: u32) -> Option<u32>
 pub fn is_first_child(page: &Page, node: u32) -> bool
     ensures { IsTrue result ↔ IsFirstChild page.now.nodes node }
 {
-    match parent_of(page, node) {
-        Some(parent) => match last_child_before(page, parent, node) {
-            Some(_) => false,
-            None => true,
-        },
-        None => false,
+    let Some(parent) = parent_of(page, node) else {
+        return false;
+    };
+    match last_child_before(page, parent, node) {
+        Some(_) => false,
+        None => true,
     }
 }

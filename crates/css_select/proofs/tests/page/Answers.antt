@@ -43,5 +43,5 @@ invariant_of-result c =
     let y = c.in_ok-node-2.field-0 in
     let z = c.in_ok-node-3.field-0 in
     let whole : c.push-3.new.self ≡ x ∷ y ∷ z ∷ [] =
-      c.in_ok-push-3.ensures.ok ∙ ap (λ l. l ++ z ∷ []) (c.in_ok-push-2.ensures.ok ∙ ap (λ l. l ++ y ∷ []) (c.in_ok-push.ensures.ok ∙ ap (λ l. l ++ x ∷ []) c.new-nodes.ensures)) in
+    c.in_ok-push-3.ensures.ok ∙ ap (λ l. l ++ z ∷ []) (c.in_ok-push-2.ensures.ok ∙ ap (λ l. l ++ y ∷ []) (c.in_ok-push.ensures.ok ∙ ap (λ l. l ++ x ∷ []) c.new-nodes.ensures)) in
     record { ok = subst IsPage (sym whole) (three x y z (c.in_ok-node.ensures).1 (c.in_ok-node-2.ensures).1 (c.in_ok-node-3.ensures).1 (c.in_ok-node.ensures).0 (c.in_ok-node-2.ensures).0 (c.in_ok-node-3.ensures).0) }
