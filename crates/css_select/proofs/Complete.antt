@@ -1,7 +1,6 @@
 -- Tokens of the grammar are read to where the grammar says.
-use Rattle.std.proofs.Common.{◌≡◌, ℕ, ◌+◌, ◌<◌, ◌⊎◌, inl, inr, Bool, true, false, List, [], ◌∷◌, ◌++◌, length, Option, Some, None, Result, Ok, Err, refl, sym, ◌∙◌, ap, subst, arith, append_assoc, length-append}
+use Rattle.std.proofs.Common.{◌≡◌, ℕ, ◌<◌, Bool, true, false, List, [], ◌∷◌, ◌++◌, length, Option, Some, None, Ok, refl, sym, ◌∙◌, ap, subst, arith, append_assoc}
 use Rattle.std.proofs.lemmas.List.{append-nil}
-use Rattle.std.specs.Prelude.{codes}
 use Rattle.viz_base.specs.declared.selectors.Compound.{Compound}
 use Rattle.viz_base.specs.declared.selectors.Join.{Join}
 use Rattle.viz_base.specs.declared.selectors.Join.TheVariants.{First, Descendant, Child, Next}
@@ -11,12 +10,12 @@ use Rattle.viz_base.specs.declared.tokens.Token.{Token}
 use Rattle.css_semantics.specs.declared.terminals.Comparison.{Comparison}
 use Rattle.css_semantics.specs.declared.terminals.Terminal.{Terminal}
 use Rattle.css_semantics.specs.declared.terminals.Terminal.TheVariants as a
-use Rattle.css_semantics.specs.SelectorTerminals.{terminal, name_of, says, pseudo, comparison, compared, is_value}
+use Rattle.css_semantics.specs.SelectorTerminals.{terminal, name_of, comparison, compared, is_value}
 use Rattle.css_semantics.specs.SheetsMarks.{text_of}
 use Rattle.css_semantics.specs.SelectorGrammar.{IsGap, IsTest, id, class, has, compares, pseudo_class, language, AreTests, no_test, one_more, IsHead, nothing, star, tag, IsBody, IsCompound, IsCombinator, descendant, child, adjacent, IsFront, at_start, further, IsLast, plain, with_element, IsSelectorText, selector, AreEarlier, none_earlier, one_later, IsGroup, selectors}
 use Rattle.css_select.specs.declared.reading.Place.{Place}
 use Rattle.css_select.specs.declared.reading.Place.TheVariants.{Fresh, Compound as InCompound, Gap, Dot, Colon, Language, LanguageEnd, Element, Bracket, Name, Sign, Value}
-use Rattle.css_select.specs.Machine.{State, initial, at, empty, ended, joined, may_end, or_first, refused as refused_at, tagged, tested, then_run, step, step_at, step_fresh, step_function, step_gap, step_name, step_pseudo, step_sign, step_test, step_value}
+use Rattle.css_select.specs.Machine.{State, initial, at, empty, ended, joined, may_end, or_first, refused as refused_at, tested, then_run, step, step_at, step_fresh, step_function, step_gap, step_name, step_pseudo, step_sign, step_test, step_value}
 use Rattle.css_select.proofs.Following.{follow, follow_on}
 use Rattle.css_select.proofs.Held.{Part, first_of}
 

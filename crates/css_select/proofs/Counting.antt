@@ -1,5 +1,5 @@
 -- Counts of a selector's tests are within its size.
-use Rattle.std.proofs.Common.{◌≡◌, ℕ, ◌+◌, ◌<◌, ◌≤◌, ◌^◌, Bool, List, length, take, get_or, sym, ◌∙◌, ap, arith, Fits, w32}
+use Rattle.std.proofs.Common.{◌≡◌, ℕ, ◌+◌, ◌<◌, ◌^◌, Bool, List, length, take, get_or, ◌∙◌, ap, arith, Fits, w32}
 use Rattle.std.specs.List.{count_by, sum_by}
 use Rattle.std.proofs.lemmas.List.Sums.{count_by-le-length, sum_by_more_le, sum_by-le-sum_by}
 use Rattle.viz_base.specs.declared.selectors.Compound.{Compound}

@@ -4,15 +4,14 @@ use Rattle.std.proofs.lemmas.List.{append-nil}
 use denote.Bor.{Bor}
 use Rattle.viz_base.specs.declared.selectors.Compound.{Compound}
 use Rattle.viz_base.specs.declared.selectors.Join.{Join}
-use Rattle.viz_base.specs.declared.selectors.Join.TheVariants.{First}
 use Rattle.viz_base.specs.declared.tokens.Token.{Token}
 use Rattle.css_semantics.specs.SheetsReading.{start_of}
 use Rattle.css_semantics.specs.SelectorTerminals.{without_comments}
 use Rattle.css_semantics.specs.SelectorGrammar.{at_start, none_earlier, IsGroup, BeginsGroup, IsNoGroup}
 use Rattle.css_select.specs.declared.reading.Place.{Place}
-use Rattle.css_select.specs.declared.reading.Place.TheVariants.{Fresh, Compound as InCompound, Gap, Dot, Colon, Language, LanguageEnd, Element, Bracket, Name, Sign, Value}
-use Rattle.css_select.specs.Machine.{State, initial, empty, ended, may_end, run, step, then_run}
-use Rattle.css_select.specs.Verdicts.{Verdict, group_is, unsupported_at, bad_at, judged, finished, verdict, verdict_of, IsReading}
+use Rattle.css_select.specs.declared.reading.Place.TheVariants.{Compound as InCompound, Gap, Element}
+use Rattle.css_select.specs.Machine.{State, initial, ended, may_end, step, then_run}
+use Rattle.css_select.specs.Verdicts.{Verdict, group_is, unsupported_at, bad_at, judged, verdict, verdict_of, IsReading}
 use Rattle.css_select.proofs.Following.{follow, follow_on, run_follow, leads_on}
 use Rattle.css_select.proofs.Held.{Part, first_of, ReadsAt, Reads}
 use Rattle.css_select.proofs.Sound.{IsFinal, some_final, spaced_final, ended_final, final_group}

@@ -1,5 +1,5 @@
 -- A step that fails gives the place of its token.
-use Rattle.std.proofs.Common.{◌≡◌, ℕ, Bool, true, false, List, Option, Some, None, Result, Ok, Err, refl, sym}
+use Rattle.std.proofs.Common.{◌≡◌, ℕ, Bool, true, false, List, Option, Some, None, Result, Ok, Err, refl}
 use Rattle.std.specs.Prelude.{codes}
 use Rattle.viz_base.specs.declared.selectors.Join.TheVariants.{Descendant}
 use Rattle.viz_base.specs.declared.selectors.Test.{Test}

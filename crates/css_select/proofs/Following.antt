@@ -1,23 +1,19 @@
 -- Reading on behind tokens that are read, comments left out.
-use Rattle.std.proofs.Common.{◌≡◌, ℕ, ◌+◌, Bool, true, false, cond, List, [], ◌∷◌, ◌++◌, length, Option, Some, None, Result, Ok, Err, refl, sym, ◌∙◌, ap, subst, arith, append_assoc}
+use Rattle.std.proofs.Common.{◌≡◌, ℕ, Bool, true, false, cond, List, [], ◌∷◌, ◌++◌, Some, None, Result, Ok, Err, refl, ◌∙◌, ap}
 use Rattle.std.specs.Prelude.{codes}
 use Rattle.std.specs.Str.{chars}
 use denote.Bor.{Bor}
 use lib.Utf8.{encode}
-use Rattle.viz_base.specs.declared.selectors.Compound.{Compound}
-use Rattle.viz_base.specs.declared.selectors.Join.{Join}
 use Rattle.viz_base.specs.declared.tokens.Token.{Token}
 use Rattle.viz_base.specs.declared.tokens.TokenKind.{TokenKind}
 use Rattle.viz_base.specs.declared.tokens.TokenKind.TheVariants as of_kind
-use Rattle.css_semantics.specs.declared.terminals.Terminal.{Terminal}
-use Rattle.css_semantics.specs.declared.terminals.Terminal.TheVariants as a
-use Rattle.css_semantics.specs.SelectorTerminals.{terminal, is_comment, without_comments, name_of, says, pseudo, compared}
+use Rattle.css_semantics.specs.SelectorTerminals.{is_comment, without_comments, name_of, says, pseudo, compared}
 use Rattle.css_semantics.specs.SheetsMarks.{text_of}
 use Rattle.css_select.specs.declared.reading.Place.{Place}
 use Rattle.css_select.specs.declared.reading.Place.TheVariants.{Fresh, Compound as InCompound, Gap, Dot, Colon, Language, LanguageEnd, Element, Bracket, Name, Sign, Value}
 use Rattle.css_semantics.specs.declared.terminals.Pseudo.TheVariants as of_pseudo
 use Rattle.viz_base.specs.declared.selectors.Test.TheVariants as of_test
-use Rattle.css_select.specs.Machine.{State, initial, run, step, step_pseudo, at, tagged, tested, refused, then_run, may_end}
+use Rattle.css_select.specs.Machine.{State, run, step, step_pseudo, at, tagged, tested, refused, then_run, may_end}
 
 abbrev pub follow : State → List Token → Result State ℕ
 follow s [] = Ok s

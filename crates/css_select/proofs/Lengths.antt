@@ -1,25 +1,23 @@
 -- The tokens of a text are no longer than the text, and each has a byte.
-use Rattle.std.proofs.Common.{◌≡◌, ℕ, ◌+◌, ◌<◌, ◌≤◌, ◌^◌, ◌⊎◌, inl, inr, Bool, true, false, cond, List, [], ◌∷◌, ◌++◌, length, map, Option, Some, None, refl, sym, ◌∙◌, ap, subst, arith, length-append}
+use Rattle.std.proofs.Common.{◌≡◌, ℕ, ◌+◌, ◌<◌, ◌≤◌, ◌^◌, inl, inr, Bool, true, false, cond, List, [], ◌∷◌, length, map, refl, sym, ◌∙◌, ap, subst, arith, length-append}
 use Rattle.std.specs.Prelude.{encode_utf8_all, flat_map}
 use Rattle.std.specs.Char.{encode_utf8}
 use Rattle.std.specs.Str.{IsUtf8, bytes_eq, chars}
-use Rattle.std.specs.List.{All, AllByRecursion, slice_index_or}
+use Rattle.std.specs.List.{All, AllByRecursion}
 use Rattle.std.proofs.lemmas.Str.{encodes-chars, length-encode, len_utf8_bounds}
 use Rattle.std.proofs.lemmas.List.Elements.{All-from_recursion}
 use Rattle.css_semantics.specs.TokensMacros.{IsNameChar}
 use Rattle.viz_base.specs.declared.groups.Selector.{Selector}
-use Rattle.viz_base.specs.declared.selectors.Compound.{Compound}
-use Rattle.viz_base.specs.declared.selectors.Join.{Join}
 use Rattle.viz_base.specs.declared.tokens.Token.{Token}
 use Rattle.viz_base.specs.declared.tokens.TokenKind.{TokenKind}
 use Rattle.viz_base.specs.declared.tokens.TokenKind.TheVariants as of_kind
 use Rattle.css_semantics.specs.declared.terminals.Terminal.{Terminal}
 use Rattle.css_semantics.specs.declared.terminals.Terminal.TheVariants as a
-use Rattle.css_semantics.specs.Tokens.{ArePieces, AreTokens, IsLongest, Piece, piece_of}
+use Rattle.css_semantics.specs.Tokens.{ArePieces, AreTokens, Piece, piece_of}
 use Rattle.css_semantics.specs.TokensTable.{Matches}
 use Rattle.css_semantics.specs.SelectorGrammar.{IsGroupOf}
-use Rattle.css_semantics.specs.SelectorTerminals.{terminal, terminal_of, terminal_of_character, is_comment, without_comments}
-use Rattle.css_semantics.specs.Specificity.{IsCountable, size_of}
+use Rattle.css_semantics.specs.SelectorTerminals.{terminal_of, terminal_of_character, is_comment, without_comments}
+use Rattle.css_semantics.specs.Specificity.{IsCountable}
 use Rattle.css_semantics.proofs.PieceLemmas.{some, pieces_join}
 use Rattle.css_select.specs.Machine.{parts_of}
 use Rattle.css_select.proofs.Sizes.{bytes, IsFull, AreFull, AreWithin, group_size}

@@ -1,5 +1,5 @@
 -- Parents and siblings of a page's nodes.
-use Rattle.std.proofs.Common.{◌≡◌, ℕ, ◌+◌, ◌<◌, ◌≤◌, ◌⊎◌, inl, inr, Bool, true, false, ◌&&◌, ◌==◌, ◌≢◌, ◌-◌, List, [], ◌∷◌, Option, Some, None, refl, sym, ◌∙◌, ap, subst, arith}
+use Rattle.std.proofs.Common.{◌≡◌, ℕ, ◌<◌, ◌≤◌, ◌⊎◌, inl, inr, Bool, true, false, ◌&&◌, ◌==◌, ◌≢◌, ◌-◌, List, Option, Some, None, refl, sym, ◌∙◌, ap, subst, arith}
 use Rattle.std.specs.Prelude.{MatchOption, slice_get, IsTrue, nat_lt}
 use Rattle.viz_base.specs.declared.nodes.Node.{Node}
 use Rattle.viz_base.specs.Pages.{IsPage, is_element_at, parent_fits}

@@ -1,25 +1,15 @@
 -- Each step keeps what the tokens are, and where a group may end they are one.
-use Rattle.std.proofs.Common.{◌≡◌, ℕ, ◌+◌, ◌<◌, Bool, true, false, List, [], ◌∷◌, ◌++◌, length, Option, Some, None, Result, Ok, Err, refl, sym, ◌∙◌, ap, subst, arith, append_assoc, length-append}
+use Rattle.std.proofs.Common.{◌≡◌, ℕ, List, [], ◌∷◌, ◌++◌, Option, refl, sym, ◌∙◌, ap, subst, arith, append_assoc}
 use Rattle.std.proofs.lemmas.List.{append-nil}
-use Rattle.std.specs.Prelude.{codes}
 use Rattle.viz_base.specs.declared.selectors.Compound.{Compound}
 use Rattle.viz_base.specs.declared.selectors.Join.{Join}
 use Rattle.viz_base.specs.declared.selectors.Join.TheVariants.{First, Descendant, Child, Next}
-use Rattle.viz_base.specs.declared.selectors.Test.{Test}
-use Rattle.viz_base.specs.declared.selectors.Test.TheVariants as of_test
 use Rattle.viz_base.specs.declared.tokens.Token.{Token}
-use Rattle.css_semantics.specs.declared.terminals.Comparison.{Comparison}
-use Rattle.css_semantics.specs.declared.terminals.Pseudo.{Pseudo}
-use Rattle.css_semantics.specs.declared.terminals.Pseudo.TheVariants as of_pseudo
-use Rattle.css_semantics.specs.declared.terminals.Terminal.{Terminal}
 use Rattle.css_semantics.specs.declared.terminals.Terminal.TheVariants as a
-use Rattle.css_semantics.specs.SelectorTerminals.{terminal, name_of, says, pseudo, comparison, compared, is_value}
-use Rattle.css_semantics.specs.SheetsMarks.{text_of}
-use Rattle.css_semantics.specs.SelectorGrammar.{IsGap, IsTest, id, class, has, compares, pseudo_class, language, AreTests, no_test, one_more, IsHead, nothing, star, tag, IsBody, IsCompound, IsCombinator, descendant, child, adjacent, IsFront, at_start, further, IsLast, plain, with_element, IsSelectorText, selector, AreEarlier, none_earlier, one_later, IsGroup, selectors}
-use Rattle.css_select.specs.declared.reading.Place.{Place}
-use Rattle.css_select.specs.declared.reading.Place.TheVariants.{Fresh, Compound as InCompound, Gap, Dot, Colon, Language, LanguageEnd, Element, Bracket, Name, Sign, Value}
-use Rattle.css_select.specs.Machine.{State, initial, at, empty, ended, joined, may_end, or_first, refused, tagged, tested, step, step_at, step_bracket, step_closing, step_colon, step_compound, step_dot, step_element, step_fresh, step_function, step_gap, step_language, step_language_end, step_name, step_operand, step_pseudo, step_sign, step_test, step_value}
-use Rattle.css_select.proofs.Held.{Part, first_of, first_more, IsBefore, IsHeld, IsSome, IsFresh, IsSpaced, IsEnded, IsOpen, DotOnly, ColonOnly, LanguageOpen, LanguageClosing, BracketOpen, NameRead, SignRead, ValueRead, ReadsAt, Reads, gap_more, held_test}
+use Rattle.css_semantics.specs.SelectorTerminals.{terminal}
+use Rattle.css_semantics.specs.SelectorGrammar.{IsGap, AreTests, no_test, IsHead, nothing, IsBody, IsCompound, IsCombinator, descendant, child, adjacent, IsFront, at_start, further, IsLast, plain, IsSelectorText, selector, AreEarlier, one_later, IsGroup, selectors}
+use Rattle.css_select.specs.Machine.{empty, refused}
+use Rattle.css_select.proofs.Held.{Part, first_of, IsBefore, IsHeld, IsSome, IsFresh, IsSpaced, IsEnded, gap_more}
 
 -- ---- before a simple selector
 

@@ -1,10 +1,10 @@
 -- Which names are identifiers.
-use Rattle.std.proofs.Common.{◌≡◌, ℕ, ◌+◌, ◌<◌, ◌⊎◌, inl, inr, ◌↔◌, ◌==◌, nat_le, Bool, true, false, cond, ◌&&◌, ◌||◌, List, [], ◌∷◌, ◌++◌, length, drop, refl, sym, ◌∙◌, ap, subst, arith}
+use Rattle.std.proofs.Common.{◌≡◌, ℕ, inl, inr, ◌↔◌, ◌==◌, Bool, true, false, cond, ◌||◌, List, [], ◌∷◌, ◌++◌, drop, refl, sym, ◌∙◌, ap, subst, arith}
 use Rattle.std.proofs.lemmas.Bool.Decides.{nat_tests}
 use Rattle.std.specs.List.{AllByRecursion, concat}
 use Rattle.viz_base.specs.declared.tokens.TokenKind.TheVariants.{Hash}
 use Rattle.css_semantics.specs.TokensLetters.{is_start, is_name}
-use Rattle.css_semantics.specs.TokensMacros.{One, Mark, Then, Maybe, Many, IsEscape, IsStart, IsNameChar, IsIdent, IsName}
+use Rattle.css_semantics.specs.TokensMacros.{Mark, Then, Maybe, Many, IsEscape, IsStart, IsNameChar, IsIdent}
 use Rattle.css_semantics.specs.TokensTable.{Matches}
 use Rattle.css_semantics.specs.SelectorTerminals.{begins_identifier, begins_plain}
 

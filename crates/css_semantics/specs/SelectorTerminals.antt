@@ -1,5 +1,5 @@
 -- What tokens are in the grammar of selectors, and what names in selectors say.
-use Rattle.std.specs.Prelude.{ℕ, ◌==◌, Bool, true, false, not, ◌&&◌, ◌||◌, List, [], ◌∷◌, map, drop, Option, Some, None, if◌then◌else◌, codes}
+use Rattle.std.specs.Prelude.{ℕ, ◌==◌, Bool, true, false, ◌||◌, List, [], ◌∷◌, map, drop, Option, Some, None, if◌then◌else◌, codes}
 use Rattle.std.specs.Str.{bytes_eq, chars}
 use Rattle.std.specs.Char.{to_ascii_lowercase}
 use Rattle.viz_base.specs.declared.tokens.Token.{Token}

@@ -1,4 +1,4 @@
-use Rattle.std.proofs.Common.{ℕ, ◌-◌, ◌<◌, ◌≤◌}
+use Rattle.std.proofs.Common.{ℕ, ◌<◌, ◌≤◌}
 use Rattle.css_semantics.specs.Matching.{IsChildElement}
 use Rattle.css_select.proofs.tree.last_child_before.Given as goal
 
