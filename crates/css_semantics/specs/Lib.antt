@@ -7,3 +7,7 @@ pub mod Tokens
 pub mod SheetsMarks
 pub mod SheetsReading
 pub mod SheetsGrammar
+pub mod SelectorTerminals
+pub mod SelectorGrammar
+pub mod Matching
+pub mod Specificity

@@ -1,7 +1,11 @@
-ghost use Rattle.std.specs.Prelude.{◌≡◌, List, flat_map};
+ghost use Rattle.std.specs.Prelude.{◌≡◌, ◌↔◌, ℕ, List, drop, flat_map, IsTrue};
 ghost use Rattle.std.specs.Str.{chars};
+ghost use Rattle.viz_base.specs.declared.tokens.TokenKind.TheVariants.{Hash};
+ghost use Rattle.css_semantics.specs.SelectorTerminals.{begins_identifier};
 ghost use Rattle.css_semantics.specs.Tokens.{ArePieces, Piece};
 ghost use Rattle.css_semantics.specs.TokensEscapes.{ResolvesEscapes};
+ghost use Rattle.css_semantics.specs.TokensMacros.{IsIdent};
+ghost use Rattle.css_semantics.specs.TokensTable.{Matches};
 ghost use Rattle.css_semantics.specs.TokensUnescaped.{Extent};
 
 /// A law: no text has two lists of tokens (CSS 2.1, 4.1.1).
@@ -17,4 +21,9 @@ pub fn tokens_join(text: &str)
 /// A law: what each escape in a text gives (CSS 2.1, 4.1.3).
 pub fn escapes_resolve()
     ensures { (extent : Extent) → ResolvesEscapes extent }
+{}
+
+/// A law: a selector takes the name behind a `#` exactly where it is an identifier (CSS 2.1, 5.9).
+pub fn ids_are_identifiers()
+    ensures { (text : List ℕ) → Matches Hash text → IsTrue (begins_identifier (drop 1 text)) ↔ IsIdent (drop 1 text) }
 {}

@@ -5,7 +5,9 @@
 mod laws;
 mod sheets;
 mod statements;
+mod terminals;
 
-pub use laws::{escapes_resolve, tokens_are_unique, tokens_join};
+pub use laws::{escapes_resolve, ids_are_identifiers, tokens_are_unique, tokens_join};
 pub use sheets::{one_list_of_declarations, one_sheet, one_stretch};
 pub use statements::Statement;
+pub use terminals::{Comparison, Pseudo, Terminal};

@@ -1,0 +1,15 @@
+pub mod Following
+pub mod Held
+pub mod Sound
+pub mod Kept
+pub mod Complete
+pub mod Faulty
+pub mod Exact
+pub mod Answers
+pub mod Words
+pub mod Passing
+pub mod Nodes
+pub mod Tries
+pub mod Counting
+pub mod Sizes
+pub mod Lengths

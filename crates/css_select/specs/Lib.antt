@@ -1,0 +1,7 @@
+pub mod Chains
+pub mod Machine
+pub mod Gives
+pub mod Verdicts
+pub mod Attributes
+pub mod Outcomes
+pub mod Trees

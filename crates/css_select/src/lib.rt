@@ -1,0 +1,23 @@
+//! Groups of selectors, what they match and how specific they are (CSS 2.1, chapter 5 and 6.4.3).
+#![tactic(auto)]
+
+mod acts;
+mod attributes;
+mod counts;
+mod faults;
+mod laws;
+mod matching;
+mod names;
+mod read;
+mod reading;
+mod steps;
+mod terminals;
+#[cfg(test)]
+mod tests;
+mod tree;
+
+pub use counts::specificity;
+pub use faults::SelFault;
+pub use laws::one_reading;
+pub use matching::matches;
+pub use read::read_selector;
