@@ -15,6 +15,7 @@ pub enum Class {
     Gap,
 }
 
+/// Whether tokens of this kind are of the class.
 pub fn class_has(class: Class, kind: TokenKind) -> bool
     ensures { result ≡ class_has class kind }
 {
@@ -49,12 +50,14 @@ fn end_start(tokens: &[Token<'_>], class: Class) -> usize
     end
 }
 
+/// The tokens without those of the class at the start.
 pub fn trim_start<'a>(tokens: &'a [Token<'a>], class: Class) -> &'a [Token<'a>]
     ensures { result.now ≡ trim_start (class_has class) tokens.now }
 {
     &tokens[front_len(tokens, class)..]
 }
 
+/// The tokens without those of the class at the end.
 pub fn trim_end<'a>(tokens: &'a [Token<'a>], class: Class) -> &'a [Token<'a>]
     ensures { result.now ≡ trim_end (class_has class) tokens.now }
 {
@@ -68,6 +71,7 @@ pub fn is_all_gap(tokens: &[Token<'_>]) -> bool
     tokens.iter().all(|token| is_gap(token.kind))
 }
 
+/// The tokens without those of the class at both ends.
 pub fn trim<'a>(tokens: &'a [Token<'a>], class: Class) -> &'a [Token<'a>]
     ensures { result.now ≡ trimmed (class_has class) tokens.now }
 {

@@ -61,6 +61,7 @@ pub fn split<'a>(
     Ok(tokens.split_at(len))
 }
 
+/// What follows the first token.
 pub fn skip_first<'a>(tokens: &'a [Token<'a>]) -> &'a [Token<'a>]
     ensures { result.now ≡ drop 1 tokens.now }
 {

@@ -30,6 +30,7 @@ pub fn is_mark(mark: TokenKind, kind: TokenKind) -> bool
     }
 }
 
+/// Whether a token of this kind closes a pair.
 pub fn is_closing(kind: TokenKind) -> bool
     ensures { result ≡ is_closing kind }
 {
@@ -39,42 +40,49 @@ pub fn is_closing(kind: TokenKind) -> bool
     )
 }
 
+/// Whether a token of this kind is an identifier.
 pub fn is_ident(kind: TokenKind) -> bool
     ensures { result ≡ is_ident kind }
 {
     matches!(kind, TokenKind::Ident)
 }
 
+/// Whether a token of this kind is an at-keyword.
 pub fn is_at_keyword(kind: TokenKind) -> bool
     ensures { result ≡ is_at_keyword kind }
 {
     matches!(kind, TokenKind::AtKeyword)
 }
 
+/// Whether a token of this kind is a `:`.
 pub fn is_colon(kind: TokenKind) -> bool
     ensures { result ≡ is_colon kind }
 {
     matches!(kind, TokenKind::Colon)
 }
 
+/// Whether a token of this kind is a `;`.
 pub fn is_semicolon(kind: TokenKind) -> bool
     ensures { result ≡ is_semicolon kind }
 {
     matches!(kind, TokenKind::Semicolon)
 }
 
+/// Whether a token of this kind is a `{`.
 pub fn is_left_brace(kind: TokenKind) -> bool
     ensures { result ≡ is_left_brace kind }
 {
     matches!(kind, TokenKind::LeftBrace)
 }
 
+/// Whether a token of this kind is `<!--` or `-->`.
 pub fn is_comment_mark(kind: TokenKind) -> bool
     ensures { result ≡ is_comment_mark kind }
 {
     matches!(kind, TokenKind::Cdo | TokenKind::Cdc)
 }
 
+/// Whether a token of this kind is white space.
 pub fn is_space(kind: TokenKind) -> bool
     ensures { result ≡ is_space kind }
 {
@@ -91,6 +99,7 @@ pub fn is_gap(kind: TokenKind) -> bool
     )
 }
 
+/// Whether a token of this kind is a string or an address that is malformed (CSS 2.1, 4.1.1).
 pub fn is_bad(kind: TokenKind) -> bool
     ensures { result ≡ is_bad kind }
 {

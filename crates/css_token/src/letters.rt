@@ -11,12 +11,14 @@ pub fn split_char(text: &str) -> Option<(char, &str)>
     Some((first, chars.as_str()))
 }
 
+/// Whether it is a decimal digit.
 pub fn is_digit(letter: char) -> bool
     ensures { result ≡ is_digit letter }
 {
     letter.is_ascii_digit()
 }
 
+/// Whether it is a hex digit.
 pub fn is_hex(letter: char) -> bool
     ensures { result ≡ is_hex letter }
 {
@@ -30,6 +32,7 @@ pub fn is_newline(letter: char) -> bool
     matches!(letter, '\n' | '\r' | '\u{c}')
 }
 
+/// Whether it is white space (CSS 2.1, 4.1.1).
 pub fn is_space(letter: char) -> bool
     ensures { result ≡ is_space letter }
 {
@@ -64,18 +67,21 @@ pub fn is_url(letter: char) -> bool
     matches!(letter, '!' | '#'..='&' | '*'..='[' | ']'..='~' | '\u{a0}'..)
 }
 
+/// Whether it is a `u`, in any case.
 pub fn is_u(letter: char) -> bool
     ensures { result ≡ is_u letter }
 {
     matches!(letter, 'u' | 'U')
 }
 
+/// Whether it is an `r`, in any case.
 pub fn is_r(letter: char) -> bool
     ensures { result ≡ is_r letter }
 {
     matches!(letter, 'r' | 'R')
 }
 
+/// Whether it is an `l`, in any case.
 pub fn is_l(letter: char) -> bool
     ensures { result ≡ is_l letter }
 {

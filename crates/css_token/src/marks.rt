@@ -22,6 +22,7 @@ impl Model for Marks {
 }
 
 impl Marks {
+    /// No marks, which takes no memory.
     pub fn new(alloc: Global) -> Self
         ensures { result ≡ [] }
     {
@@ -30,6 +31,7 @@ impl Marks {
         }
     }
 
+    /// Whether no pair is open.
     pub fn is_none(&self) -> bool
         ensures { result ≡ is_none self.now }
     {

@@ -2,10 +2,12 @@
 #![tactic(auto)]
 
 mod boxes;
+mod decimals;
 mod fonts;
 mod formulas;
 mod groups;
 mod jobs;
+mod layouts;
 mod lengths;
 mod lists;
 mod memory;
@@ -23,10 +25,12 @@ mod trees;
 mod worlds;
 
 pub use boxes::Boxed;
+pub use decimals::read_decimal;
 pub use fonts::Font;
 pub use formulas::{Edge, Face, Formula, Ring, Set, Sign, Summand, Term};
 pub use groups::Selector;
 pub use jobs::Job;
+pub use layouts::{Band, Extent, Inner, Lead, LeadEnd, Lines, Preferred, Spot, Widths};
 pub use lengths::{Length, LineHeight, Sides, Size, Valign};
 pub use lists::{List, Text8};
 pub use memory::Mem;
@@ -52,6 +56,24 @@ mod tests {
     fn floors(rt: HostRuntime) {
         for (a, d, floor) in [(7, 2, 3), (-7, 2, -4), (-8, 2, -4), (0, 5, 0), (-1, 64, -1)] {
             assert_eq!(rt; floor_div(a, d), floor, "{a} by {d}");
+        }
+    }
+
+    #[test]
+    fn reads_decimals(rt: HostRuntime) {
+        let cases: [(&[u8], Option<i64>); 9] = [
+            (b"0", Some(0)),
+            (b"007", Some(7_000_000)),
+            (b"1.5", Some(1_500_000)),
+            (b".0000019", Some(1)),
+            (b"1099511.627776", Some(1_099_511_627_776)),
+            (b"1099511.627777", None),
+            (b"1.", None),
+            (b"-1", None),
+            (b"", None),
+        ];
+        for (text, millionths) in cases {
+            assert_eq!(rt; read_decimal(text), millionths);
         }
     }
 

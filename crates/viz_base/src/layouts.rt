@@ -1,0 +1,87 @@
+use crate::{List, Placed};
+
+/// The outer size of a box, in units of 1/64 px.
+#[derive(Clone, Copy, Debug, PartialEq, Eq)]
+pub struct Extent<N> {
+    pub width: N,
+    pub height: N,
+}
+
+/// The stretch between two vertical edges, in units of 1/64 px.
+#[derive(Clone, Copy, Debug, PartialEq, Eq)]
+pub struct Band<N> {
+    pub left: N,
+    pub right: N,
+}
+
+/// The place of a box's upper left corner, in units of 1/64 px.
+#[derive(Clone, Copy, Debug, PartialEq, Eq)]
+pub struct Spot<N> {
+    pub x: N,
+    pub y: N,
+}
+
+/// The used horizontal terms of a box, in units of 1/64 px (CSS 2.1, 10.3.3).
+#[derive(Clone, Copy, Debug, PartialEq, Eq)]
+pub struct Widths<N> {
+    pub margin_left: N,
+    pub border_left: N,
+    pub padding_left: N,
+    pub content: N,
+    pub padding_right: N,
+    pub border_right: N,
+    pub margin_right: N,
+}
+
+/// The preferred widths of a box, in units of 1/64 px (CSS 2.1, 10.3.5).
+#[derive(Clone, Copy, Debug, PartialEq, Eq)]
+pub struct Preferred<N> {
+    /// The preferred minimum width.
+    pub least: N,
+    /// The preferred width.
+    pub most: N,
+}
+
+/// The outer size of a float or of an atomic inline-level box, in units of 1/64 px.
+#[derive(Clone, Copy, Debug, PartialEq, Eq)]
+pub struct Inner<N> {
+    /// The place of the box in its tree.
+    pub b: u32,
+    pub width: N,
+    /// From its outer top to its baseline; the height of a float.
+    pub above: N,
+    /// From its baseline to its outer bottom; 0 of a float.
+    pub below: N,
+}
+
+/// The lines of a block container, in units of 1/64 px (CSS 2.1, 9.4.2).
+#[derive(Debug, Drop)]
+pub struct Lines<N> {
+    /// The lines and the fragments on them.
+    pub boxes: List<Placed<N>>,
+    /// The bottom of the last line.
+    pub bottom: N,
+    /// The baseline of the last line.
+    pub baseline: Option<N>,
+    /// The places of the floats and the atomic inline-level boxes.
+    pub spots: List<Spot<N>>,
+}
+
+/// Where the margins that adjoin a box's top end (CSS 2.1, 8.3.1).
+#[derive(Clone, Copy, Debug, PartialEq, Eq)]
+pub enum LeadEnd {
+    /// The box's own bottom margin adjoins them.
+    Through,
+    /// At the content, the border or the padding of this box.
+    Solid(u32),
+    /// At this box, which has `clear`.
+    Cleared(u32),
+}
+
+/// The margins that adjoin a box's top, with the floats between them (CSS 2.1, 8.3.1).
+#[derive(Debug, Drop)]
+pub struct Lead {
+    pub end: LeadEnd,
+    /// The places of the floats in their tree.
+    pub waiting: List<u32>,
+}
