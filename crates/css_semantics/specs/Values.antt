@@ -1,13 +1,15 @@
 -- What the value of a declaration says by the table of properties.
-use Rattle.std.specs.Prelude.{ℕ, ℤ, pos, negsuc, ◌+◌, ◌==◌, Bool, true, false, ◌||◌, List, [], ◌∷◌, ◌++◌, map, Option, Some, None, Result, Ok, Err, option_map, if◌then◌else◌, codes, int_div}
-use Rattle.std.specs.List.{list_any}
+use Rattle.std.specs.Prelude.{ℕ, ℤ, pos, negsuc, ◌==◌, Bool, true, false, List, [], ◌∷◌, ◌++◌, Option, Some, None, Result, Ok, Err, option_map, if◌then◌else◌, codes, int_div}
+use Rattle.std.specs.List.{list_any, position}
 use Rattle.viz_base.specs.declared.settings.Prop.{Prop}
 use Rattle.viz_base.specs.declared.settings.Value.{Value}
 use Rattle.viz_base.specs.declared.settings.Value.TheVariants as value
 use Rattle.viz_base.specs.declared.settings.Setting.{Setting}
 use Rattle.css_semantics.specs.declared.parts.Part.{Part}
 use Rattle.css_semantics.specs.declared.parts.Part.TheVariants as part
-use Rattle.css_semantics.specs.Properties.{Takes, nothing, all, not_negative, zero_alone, same_name, row}
+use Rattle.css_semantics.specs.declared.parts.Takes.{Takes}
+use Rattle.css_semantics.specs.declared.parts.Takes.TheVariants.{Nothing, All, NotNegative, ZeroAlone}
+use Rattle.css_semantics.specs.Properties.{same_name, row}
 
 -- Why a declaration gives no setting: it is dropped (CSS 2.1, 4.2), or it is refused by name.
 pub data Refusal : Type 0 where
@@ -23,17 +25,13 @@ setting p v = record { prop = p; value = v }
 
 -- ---- one part
 
--- the place of a keyword among those of a property
-abbrev pub place_of : List ℕ → List (List ℕ) → Option ℕ
-place_of word [] = None
-place_of word (w ∷ ws) = if same_name word w then Some 0 else option_map (λ n. n + 1) (place_of word ws)
-
 abbrev pub placed : Prop → List ℕ → Option ℕ → Result Value Refusal
 placed p word (Some place) = Ok (value.Word place)
 placed p word None = if list_any (same_name word) (row p).refused then Err (unsupported p) else Err ignored
 
+-- a keyword by its place among those of the property
 abbrev pub word_value : Prop → List ℕ → Result Value Refusal
-word_value p word = placed p word (place_of word (row p).words)
+word_value p word = placed p word (position (same_name word) (row p).words)
 
 abbrev pub is_negative : ℤ → Bool
 is_negative (pos n) = false
@@ -46,14 +44,14 @@ is_zero (negsuc n) = false
 -- A value that a number gives, judged by what the property takes. Whether it is negative is asked of the number as it is
 -- written, and whether it is zero of what it comes to.
 abbrev pub judged : Prop → Takes → ℤ → ℤ → Value → Result Value Refusal
-judged p nothing written n v = Err ignored
-judged p all written n v = Ok v
-judged p not_negative written n v = if is_negative written then Err ignored else Ok v
-judged p zero_alone written n v = if is_zero n then Ok v else Err (unsupported p)
+judged p Nothing written n v = Err ignored
+judged p All written n v = Ok v
+judged p NotNegative written n v = if is_negative written then Err ignored else Ok v
+judged p ZeroAlone written n v = if is_zero n then Ok v else Err (unsupported p)
 
 -- A number without a unit is a length where it is zero and the property takes no numbers (CSS 2.1, 4.3.2).
 abbrev pub number_value : Prop → Takes → ℤ → Result Value Refusal
-number_value p nothing n = if is_zero n then judged p (row p).lengths n n (value.Px n) else Err ignored
+number_value p Nothing n = if is_zero n then judged p (row p).lengths n n (value.Px n) else Err ignored
 number_value p takes n = judged p takes n n (value.Number n)
 
 -- `1ex` is half an `em`, and an odd count of millionths loses its last one (our own reading).

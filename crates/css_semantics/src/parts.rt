@@ -42,3 +42,14 @@ pub enum Shorthand {
     Font,
     ListStyle,
 }
+
+/// Which amounts of a kind a property takes.
+#[derive(Clone, Copy, Debug, PartialEq, Eq)]
+pub enum Takes {
+    Nothing,
+    All,
+    /// All but those below zero.
+    NotNegative,
+    /// Zero alone: any other is refused by name.
+    ZeroAlone,
+}

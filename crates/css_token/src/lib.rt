@@ -16,6 +16,7 @@ mod tests;
 
 pub use closing::close_by_end;
 pub use escapes::unescape;
+pub use letters::split_char;
 pub use marks::Marks;
 pub use matching::{is_character, is_word};
 pub use scan::next;
