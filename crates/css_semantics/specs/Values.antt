@@ -9,12 +9,9 @@ use Rattle.css_semantics.specs.declared.parts.Part.{Part}
 use Rattle.css_semantics.specs.declared.parts.Part.TheVariants as part
 use Rattle.css_semantics.specs.declared.parts.Takes.{Takes}
 use Rattle.css_semantics.specs.declared.parts.Takes.TheVariants.{Nothing, All, NotNegative, ZeroAlone}
+pub use Rattle.css_semantics.specs.declared.parts.Refusal.{Refusal}
+pub use Rattle.css_semantics.specs.declared.parts.Refusal.TheVariants.{Ignored as ignored, Unsupported as unsupported}
 use Rattle.css_semantics.specs.Properties.{same_name, row}
-
--- Why a declaration gives no setting: it is dropped (CSS 2.1, 4.2), or it is refused by name.
-pub data Refusal : Type 0 where
-  ignored : Refusal
-  unsupported : Prop → Refusal
 
 abbrev pub then_on : {A B : Type 0} → Result A Refusal → (A → Result B Refusal) → Result B Refusal
 then_on (Ok x) f = f x

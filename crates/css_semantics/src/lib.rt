@@ -8,6 +8,6 @@ mod sheets;
 mod statements;
 
 pub use laws::{escapes_resolve, tokens_are_unique, tokens_join};
-pub use parts::{Part, Shorthand, Takes};
+pub use parts::{Part, Refusal, Shorthand, Takes};
 pub use sheets::{one_list_of_declarations, one_sheet, one_stretch};
 pub use statements::Statement;
