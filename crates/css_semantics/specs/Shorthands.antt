@@ -11,10 +11,12 @@ use Rattle.css_semantics.specs.declared.parts.Part.{Part}
 use Rattle.css_semantics.specs.declared.parts.Part.TheVariants as part
 use Rattle.css_semantics.specs.declared.parts.Shorthand.{Shorthand}
 use Rattle.css_semantics.specs.declared.parts.Shorthand.TheVariants.{Margin, Padding, BorderWidth, BorderStyle, Border, BorderTop, BorderRight, BorderBottom, BorderLeft, Font, ListStyle}
+use Rattle.css_semantics.specs.declared.parts.Refusal.{Refusal}
+use Rattle.css_semantics.specs.declared.parts.Refusal.TheVariants.{Ignored, Unsupported}
 use Rattle.css_semantics.specs.Tokens.{AreTokens}
 use Rattle.css_semantics.specs.Properties.{same_name, row, property_named}
 use Rattle.css_semantics.specs.ValuesParts.{parts}
-use Rattle.css_semantics.specs.Values.{Refusal, ignored, unsupported, then_on, setting, part_value, families, is_keyword, is_inherit, longhand}
+use Rattle.css_semantics.specs.Values.{then_on, setting, part_value, families, is_keyword, is_inherit, longhand}
 
 -- ---- the shorthands
 
@@ -54,7 +56,7 @@ spread f (a ∷ []) = f a a a a
 spread f (a ∷ b ∷ []) = f a b a b
 spread f (a ∷ b ∷ c ∷ []) = f a b c b
 spread f (a ∷ b ∷ c ∷ d ∷ []) = f a b c d
-spread f _ = Err ignored
+spread f _ = Err Ignored
 
 -- the settings by which properties inherit
 abbrev pub inherited : List Prop → List Setting
@@ -108,7 +110,7 @@ written_lines widths styles ps =
 abbrev pub lines : List Prop → List Prop → List Part → Result (List Setting) Refusal
 lines widths styles ps =
     if is_inherit ps then Ok (inherited widths ++ inherited styles)
-    else (if is_line ps then written_lines widths styles ps else Err ignored)
+    else (if is_line ps then written_lines widths styles ps else Err Ignored)
 
 -- ---- font (CSS 2.1, 15.8)
 
@@ -150,7 +152,7 @@ abbrev pub font_names : List Part → Option (List (List ℕ))
 font_names ps = if is_inherit ps then None else families ps
 
 abbrev pub named_font : Value → Value → Option (List (List ℕ)) → Result (List Setting) Refusal
-named_font size height None = Err ignored
+named_font size height None = Err Ignored
 named_font size height (Some names) = Ok (font_settings size names height)
 
 abbrev pub sized_font : Result Value Refusal → Result Value Refusal → List Part → Result (List Setting) Refusal
@@ -167,14 +169,14 @@ font_behind size ps None = sized_font (part_value FontSize size) (Ok (row LineHe
 font_behind size ps (Some p) = sized_font (part_value FontSize size) (part_value LineHeight p.0) p.1
 
 abbrev pub font_from_size : List Part → Result (List Setting) Refusal
-font_from_size [] = Err ignored
+font_from_size [] = Err Ignored
 font_from_size (size ∷ ps) = font_behind size ps (height_behind ps)
 
 abbrev pub front_len : List Part → ℕ
 front_len ps = prefix_len is_before_size ps
 
 abbrev pub written_font : List Part → Result (List Setting) Refusal
-written_font ps = if is_front (take (front_len ps) ps) then font_from_size (drop (front_len ps) ps) else Err ignored
+written_font ps = if is_front (take (front_len ps) ps) then font_from_size (drop (front_len ps) ps) else Err Ignored
 
 abbrev pub system_words : List (List ℕ)
 system_words = codes "caption" ∷ codes "icon" ∷ codes "menu" ∷ codes "message-box" ∷ codes "small-caption" ∷ codes "status-bar" ∷ []
@@ -194,7 +196,7 @@ font ps = if is_inherit ps then Ok (inherited (FontSize ∷ FontFamily ∷ LineH
 
 -- Its one word that has an effect on layout is refused by name; nothing else in it is looked at (our own reading).
 abbrev pub list_style : List Part → Result (List Setting) Refusal
-list_style ps = Err (if list_any (is_keyword (codes "inside")) ps then unsupported ListStylePosition else ignored)
+list_style ps = Err (if list_any (is_keyword (codes "inside")) ps then Unsupported ListStylePosition else Ignored)
 
 -- ---- declarations
 
@@ -213,7 +215,7 @@ shorthand ListStyle ps = list_style ps
 
 -- an unknown property is dropped
 abbrev pub shorthand_or_none : Option Shorthand → List Part → Result (List Setting) Refusal
-shorthand_or_none None ps = Err ignored
+shorthand_or_none None ps = Err Ignored
 shorthand_or_none (Some s) ps = shorthand s ps
 
 abbrev pub longhand_or : Option Prop → Option Shorthand → List Part → Result (List Setting) Refusal

@@ -9,8 +9,8 @@ use Rattle.css_semantics.specs.declared.parts.Part.{Part}
 use Rattle.css_semantics.specs.declared.parts.Part.TheVariants as part
 use Rattle.css_semantics.specs.declared.parts.Takes.{Takes}
 use Rattle.css_semantics.specs.declared.parts.Takes.TheVariants.{Nothing, All, NotNegative, ZeroAlone}
-pub use Rattle.css_semantics.specs.declared.parts.Refusal.{Refusal}
-pub use Rattle.css_semantics.specs.declared.parts.Refusal.TheVariants.{Ignored as ignored, Unsupported as unsupported}
+use Rattle.css_semantics.specs.declared.parts.Refusal.{Refusal}
+use Rattle.css_semantics.specs.declared.parts.Refusal.TheVariants.{Ignored, Unsupported}
 use Rattle.css_semantics.specs.Properties.{same_name, row}
 
 abbrev pub then_on : {A B : Type 0} → Result A Refusal → (A → Result B Refusal) → Result B Refusal
@@ -24,7 +24,7 @@ setting p v = record { prop = p; value = v }
 
 abbrev pub placed : Prop → List ℕ → Option ℕ → Result Value Refusal
 placed p word (Some place) = Ok (value.Word place)
-placed p word None = if list_any (same_name word) (row p).refused then Err (unsupported p) else Err ignored
+placed p word None = if list_any (same_name word) (row p).refused then Err (Unsupported p) else Err Ignored
 
 -- a keyword by its place among those of the property
 abbrev pub word_value : Prop → List ℕ → Result Value Refusal
@@ -41,14 +41,14 @@ is_zero (negsuc n) = false
 -- A value that a number gives, judged by what the property takes. Whether it is negative is asked of the number as it is
 -- written, and whether it is zero of what it comes to.
 abbrev pub judged : Prop → Takes → ℤ → ℤ → Value → Result Value Refusal
-judged p Nothing written n v = Err ignored
+judged p Nothing written n v = Err Ignored
 judged p All written n v = Ok v
-judged p NotNegative written n v = if is_negative written then Err ignored else Ok v
-judged p ZeroAlone written n v = if is_zero n then Ok v else Err (unsupported p)
+judged p NotNegative written n v = if is_negative written then Err Ignored else Ok v
+judged p ZeroAlone written n v = if is_zero n then Ok v else Err (Unsupported p)
 
 -- A number without a unit is a length where it is zero and the property takes no numbers (CSS 2.1, 4.3.2).
 abbrev pub number_value : Prop → Takes → ℤ → Result Value Refusal
-number_value p Nothing n = if is_zero n then judged p (row p).lengths n n (value.Px n) else Err ignored
+number_value p Nothing n = if is_zero n then judged p (row p).lengths n n (value.Px n) else Err Ignored
 number_value p takes n = judged p takes n n (value.Number n)
 
 -- `1ex` is half an `em`, and an odd count of millionths loses its last one (our own reading).
@@ -63,11 +63,11 @@ part_value p (part.Percentage n) = judged p (row p).percentages n n (value.Pct n
 part_value p (part.Px n) = judged p (row p).lengths n n (value.Px n)
 part_value p (part.Em n) = judged p (row p).lengths n n (value.Em n)
 part_value p (part.Ex n) = judged p (row p).lengths n (half n) (value.Em (half n))
-part_value p (part.Quoted text) = Err ignored
-part_value p part.Comma = Err ignored
-part_value p part.Solidus = Err ignored
-part_value p part.Colour = Err ignored
-part_value p part.Other = Err ignored
+part_value p (part.Quoted text) = Err Ignored
+part_value p part.Comma = Err Ignored
+part_value p part.Solidus = Err Ignored
+part_value p part.Colour = Err Ignored
+part_value p part.Other = Err Ignored
 
 -- ---- names of font families (CSS 2.1, 15.3)
 
@@ -104,12 +104,12 @@ is_inherit (p ∷ []) = is_keyword (codes "inherit") p
 is_inherit _ = false
 
 abbrev pub families_of : Option (List (List ℕ)) → Result Value Refusal
-families_of None = Err ignored
+families_of None = Err Ignored
 families_of (Some names) = Ok (value.Names names)
 
 abbrev pub one_part : Prop → List Part → Result Value Refusal
 one_part p (a ∷ []) = part_value p a
-one_part p _ = Err ignored
+one_part p _ = Err Ignored
 
 abbrev pub whole_value : Prop → List Part → Result Value Refusal
 whole_value p ps = if is_inherit ps then Ok value.Inherit else (if (row p).families then families_of (families ps) else one_part p ps)

@@ -39,8 +39,12 @@ abbrev pub numeral_of : List ℕ → List ℕ
 numeral_of text = take (prefix_len is_numeral text) text
 
 -- what follows them, by its characters and after escapes
+abbrev pub behind_numeral : List ℕ → List ℕ
+behind_numeral [] = []
+behind_numeral (c ∷ cs) = if is_numeral c then behind_numeral cs else c ∷ cs
+
 abbrev pub unit_of : List ℕ → List ℕ
-unit_of letters = encode_utf8_all (resolved open_extent (drop (prefix_len is_numeral letters) letters))
+unit_of letters = encode_utf8_all (resolved open_extent (behind_numeral letters))
 
 abbrev pub signed : Bool → ℕ → ℤ
 signed negative n = if negative then neg_ℤ (pos n) else pos n

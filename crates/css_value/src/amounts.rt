@@ -1,11 +1,10 @@
-ghost use Rattle.std.specs.Prelude.{◌≡◌, ◌≤◌, ◌*ℤ◌, ◌≤ℤ◌, ◌<ℤ◌, ◌^◌, pos, neg_ℤ, take, drop, length, IfOk, IfSome};
-ghost use Rattle.std.specs.List.{prefix_len};
+ghost use Rattle.std.specs.Prelude.{◌≡◌, ◌≤◌, ◌*ℤ◌, ◌≤ℤ◌, ◌<ℤ◌, ◌^◌, pos, neg_ℤ, IfOk, IfSome};
 ghost use Rattle.std.specs.Int.{int_div_euclid};
 ghost use Rattle.std.specs.Option.{option_map};
 ghost use Rattle.std.specs.Str.{chars};
 ghost use Rattle.viz_base.specs.Decimals.{decimal_of};
 ghost use Rattle.viz_base.specs.Numbers.{floor_of};
-ghost use Rattle.css_semantics.specs.ValuesParts.{amount_in, amount_of, counted, is_numeral, length_of, numeral_of, signed, unit_of};
+ghost use Rattle.css_semantics.specs.ValuesParts.{amount_in, amount_of, behind_numeral, counted, is_numeral, length_of, numeral_of, signed, unit_of};
 
 use crate::names::same_name;
 use css_semantics::Part;
@@ -39,7 +38,7 @@ fn numeral_of(text: &[u8]) -> &[u8]
 
 /// What follows the digits and the point.
 fn behind_numeral(text: &str) -> &str
-    ensures { chars result.now ≡ drop (prefix_len is_numeral (chars text.now)) (chars text.now) }
+    ensures { chars result.now ≡ behind_numeral (chars text.now) }
 {
     let mut rest = text;
     while let Some((letter, after)) = split_char(rest) {

@@ -1,5 +1,7 @@
-ghost use Rattle.std.specs.Prelude.{◌≡◌, IfOk};
+ghost use Rattle.std.specs.Prelude.{◌≡◌, ◌∷◌, List as Seq, IfOk};
+ghost use Rattle.css_semantics.specs.declared.parts.Part.{Part};
 ghost use Rattle.css_semantics.specs.Values.{families};
+ghost use Rattle.css_value.specs.Families.{names_after, names_from, with_front};
 
 use css_semantics::Part;
 use std::alloc::Global;
@@ -45,7 +47,9 @@ fn next(
     names: &mut List<Text>,
     before: Before,
     part: &Part,
-) -> Result<Option<Before>, Mem> {
+) -> Result<Option<Before>, Mem>
+    ensures { IfOk result (λ after. (ps : Seq Part) → with_front names.old (names_from before (part.now ∷ ps)) ≡ names_after names.new after ps) }
+{
     match (before, part) {
         (Before::Comma, Part::Quoted(name)) => {
             names.push(Text::from_text(alloc, name.as_str())?)?;

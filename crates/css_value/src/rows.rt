@@ -1,5 +1,6 @@
 ghost use Rattle.std.specs.Prelude.{◌≡◌, ◌<◌, map, length};
-ghost use Rattle.css_semantics.specs.Properties.{properties, property_named, row, same_name};
+ghost use Rattle.css_semantics.specs.Properties.{property_named, row, same_name};
+ghost use Rattle.css_value.specs.Rows.{filled};
 
 use crate::names::same_name;
 use css_semantics::Takes;
@@ -77,57 +78,27 @@ const PROPERTIES: [Prop; 39] = [
     Prop::ListStylePosition,
 ];
 
-/// A property with keywords alone.
-const fn keywords(
-    name: &'static str,
-    words: &'static [&'static str],
-    refused: &'static [&'static str],
-) -> TableRow {
-    TableRow {
-        name,
-        words,
-        refused,
-        lengths: Takes::Nothing,
-        percentages: Takes::Nothing,
-        numbers: Takes::Nothing,
-        families: false,
-    }
-}
-
-/// A property with amounts.
-const fn measured(
-    name: &'static str,
-    words: &'static [&'static str],
-    lengths: Takes,
-    percentages: Takes,
-) -> TableRow {
-    TableRow {
-        name,
-        words,
-        refused: &[],
-        lengths,
-        percentages,
-        numbers: Takes::Nothing,
-        families: false,
-    }
-}
+/// A row of a property that takes nothing.
+const EMPTY: TableRow = TableRow {
+    name: "",
+    words: &[],
+    refused: &[],
+    lengths: Takes::Nothing,
+    percentages: Takes::Nothing,
+    numbers: Takes::Nothing,
+    families: false,
+};
 
 /// The row of a property in the table.
-pub fn row(prop: Prop) -> TableRow
-    ensures name { result.name.now ≡ (row prop).name }
-    ensures words { map (λ w. w.now) result.words.now ≡ (row prop).words }
+fn table(prop: Prop) -> TableRow
+    ensures is { filled prop result ≡ row prop }
     ensures few { length result.words.now < 256 }
-    ensures refused { map (λ w. w.now) result.refused.now ≡ (row prop).refused }
-    ensures lengths { result.lengths ≡ (row prop).lengths }
-    ensures percentages { result.percentages ≡ (row prop).percentages }
-    ensures numbers { result.numbers ≡ (row prop).numbers }
-    ensures families { result.families ≡ (row prop).families }
 {
     match prop {
-        Prop::Display => keywords(
-            "display",
-            &["none", "block", "inline", "inline-block", "list-item"],
-            &[
+        Prop::Display => TableRow {
+            name: "display",
+            words: &["none", "block", "inline", "inline-block", "list-item"],
+            refused: &[
                 "table",
                 "inline-table",
                 "table-row",
@@ -139,128 +110,255 @@ pub fn row(prop: Prop) -> TableRow
                 "table-cell",
                 "table-caption",
             ],
-        ),
-        Prop::Position => keywords("position", &["static"], &["relative", "absolute", "fixed"]),
-        Prop::Float => keywords("float", &["none", "left", "right"], &[]),
-        Prop::Clear => keywords("clear", &["none", "left", "right", "both"], &[]),
-        Prop::Overflow => keywords("overflow", &["visible", "hidden", "scroll", "auto"], &[]),
-        Prop::Direction => keywords("direction", &["ltr"], &["rtl"]),
-        Prop::Width => measured("width", &["auto"], Takes::NotNegative, Takes::NotNegative),
-        Prop::Height => measured("height", &["auto"], Takes::NotNegative, Takes::NotNegative),
-        Prop::MinWidth => measured("min-width", &[], Takes::NotNegative, Takes::NotNegative),
-        Prop::MinHeight => measured("min-height", &[], Takes::NotNegative, Takes::NotNegative),
-        Prop::MaxWidth => measured(
-            "max-width",
-            &["none"],
-            Takes::NotNegative,
-            Takes::NotNegative,
-        ),
-        Prop::MaxHeight => measured(
-            "max-height",
-            &["none"],
-            Takes::NotNegative,
-            Takes::NotNegative,
-        ),
-        Prop::MarginTop => measured("margin-top", &["auto"], Takes::All, Takes::All),
-        Prop::MarginRight => measured("margin-right", &["auto"], Takes::All, Takes::All),
-        Prop::MarginBottom => measured("margin-bottom", &["auto"], Takes::All, Takes::All),
-        Prop::MarginLeft => measured("margin-left", &["auto"], Takes::All, Takes::All),
-        Prop::PaddingTop => measured("padding-top", &[], Takes::NotNegative, Takes::NotNegative),
-        Prop::PaddingRight => measured(
-            "padding-right",
-            &[],
-            Takes::NotNegative,
-            Takes::NotNegative,
-        ),
-        Prop::PaddingBottom => measured(
-            "padding-bottom",
-            &[],
-            Takes::NotNegative,
-            Takes::NotNegative,
-        ),
-        Prop::PaddingLeft => measured("padding-left", &[], Takes::NotNegative, Takes::NotNegative),
-        Prop::BorderTopWidth => measured(
-            "border-top-width",
-            LINE_WIDTHS,
-            Takes::NotNegative,
-            Takes::Nothing,
-        ),
-        Prop::BorderRightWidth => measured(
-            "border-right-width",
-            LINE_WIDTHS,
-            Takes::NotNegative,
-            Takes::Nothing,
-        ),
-        Prop::BorderBottomWidth => measured(
-            "border-bottom-width",
-            LINE_WIDTHS,
-            Takes::NotNegative,
-            Takes::Nothing,
-        ),
-        Prop::BorderLeftWidth => measured(
-            "border-left-width",
-            LINE_WIDTHS,
-            Takes::NotNegative,
-            Takes::Nothing,
-        ),
-        Prop::BorderTopStyle => keywords("border-top-style", LINE_STYLES, &[]),
-        Prop::BorderRightStyle => keywords("border-right-style", LINE_STYLES, &[]),
-        Prop::BorderBottomStyle => keywords("border-bottom-style", LINE_STYLES, &[]),
-        Prop::BorderLeftStyle => keywords("border-left-style", LINE_STYLES, &[]),
-        Prop::FontSize => measured(
-            "font-size",
-            SIZE_WORDS,
-            Takes::NotNegative,
-            Takes::NotNegative,
-        ),
+            ..EMPTY
+        },
+        Prop::Position => TableRow {
+            name: "position",
+            words: &["static"],
+            refused: &["relative", "absolute", "fixed"],
+            ..EMPTY
+        },
+        Prop::Float => TableRow {
+            name: "float",
+            words: &["none", "left", "right"],
+            ..EMPTY
+        },
+        Prop::Clear => TableRow {
+            name: "clear",
+            words: &["none", "left", "right", "both"],
+            ..EMPTY
+        },
+        Prop::Overflow => TableRow {
+            name: "overflow",
+            words: &["visible", "hidden", "scroll", "auto"],
+            ..EMPTY
+        },
+        Prop::Direction => TableRow {
+            name: "direction",
+            words: &["ltr"],
+            refused: &["rtl"],
+            ..EMPTY
+        },
+        Prop::Width => TableRow {
+            name: "width",
+            words: &["auto"],
+            lengths: Takes::NotNegative,
+            percentages: Takes::NotNegative,
+            ..EMPTY
+        },
+        Prop::Height => TableRow {
+            name: "height",
+            words: &["auto"],
+            lengths: Takes::NotNegative,
+            percentages: Takes::NotNegative,
+            ..EMPTY
+        },
+        Prop::MinWidth => TableRow {
+            name: "min-width",
+            lengths: Takes::NotNegative,
+            percentages: Takes::NotNegative,
+            ..EMPTY
+        },
+        Prop::MinHeight => TableRow {
+            name: "min-height",
+            lengths: Takes::NotNegative,
+            percentages: Takes::NotNegative,
+            ..EMPTY
+        },
+        Prop::MaxWidth => TableRow {
+            name: "max-width",
+            words: &["none"],
+            lengths: Takes::NotNegative,
+            percentages: Takes::NotNegative,
+            ..EMPTY
+        },
+        Prop::MaxHeight => TableRow {
+            name: "max-height",
+            words: &["none"],
+            lengths: Takes::NotNegative,
+            percentages: Takes::NotNegative,
+            ..EMPTY
+        },
+        Prop::MarginTop => TableRow {
+            name: "margin-top",
+            words: &["auto"],
+            lengths: Takes::All,
+            percentages: Takes::All,
+            ..EMPTY
+        },
+        Prop::MarginRight => TableRow {
+            name: "margin-right",
+            words: &["auto"],
+            lengths: Takes::All,
+            percentages: Takes::All,
+            ..EMPTY
+        },
+        Prop::MarginBottom => TableRow {
+            name: "margin-bottom",
+            words: &["auto"],
+            lengths: Takes::All,
+            percentages: Takes::All,
+            ..EMPTY
+        },
+        Prop::MarginLeft => TableRow {
+            name: "margin-left",
+            words: &["auto"],
+            lengths: Takes::All,
+            percentages: Takes::All,
+            ..EMPTY
+        },
+        Prop::PaddingTop => TableRow {
+            name: "padding-top",
+            lengths: Takes::NotNegative,
+            percentages: Takes::NotNegative,
+            ..EMPTY
+        },
+        Prop::PaddingRight => TableRow {
+            name: "padding-right",
+            lengths: Takes::NotNegative,
+            percentages: Takes::NotNegative,
+            ..EMPTY
+        },
+        Prop::PaddingBottom => TableRow {
+            name: "padding-bottom",
+            lengths: Takes::NotNegative,
+            percentages: Takes::NotNegative,
+            ..EMPTY
+        },
+        Prop::PaddingLeft => TableRow {
+            name: "padding-left",
+            lengths: Takes::NotNegative,
+            percentages: Takes::NotNegative,
+            ..EMPTY
+        },
+        Prop::BorderTopWidth => TableRow {
+            name: "border-top-width",
+            words: LINE_WIDTHS,
+            lengths: Takes::NotNegative,
+            ..EMPTY
+        },
+        Prop::BorderRightWidth => TableRow {
+            name: "border-right-width",
+            words: LINE_WIDTHS,
+            lengths: Takes::NotNegative,
+            ..EMPTY
+        },
+        Prop::BorderBottomWidth => TableRow {
+            name: "border-bottom-width",
+            words: LINE_WIDTHS,
+            lengths: Takes::NotNegative,
+            ..EMPTY
+        },
+        Prop::BorderLeftWidth => TableRow {
+            name: "border-left-width",
+            words: LINE_WIDTHS,
+            lengths: Takes::NotNegative,
+            ..EMPTY
+        },
+        Prop::BorderTopStyle => TableRow {
+            name: "border-top-style",
+            words: LINE_STYLES,
+            ..EMPTY
+        },
+        Prop::BorderRightStyle => TableRow {
+            name: "border-right-style",
+            words: LINE_STYLES,
+            ..EMPTY
+        },
+        Prop::BorderBottomStyle => TableRow {
+            name: "border-bottom-style",
+            words: LINE_STYLES,
+            ..EMPTY
+        },
+        Prop::BorderLeftStyle => TableRow {
+            name: "border-left-style",
+            words: LINE_STYLES,
+            ..EMPTY
+        },
+        Prop::FontSize => TableRow {
+            name: "font-size",
+            words: SIZE_WORDS,
+            lengths: Takes::NotNegative,
+            percentages: Takes::NotNegative,
+            ..EMPTY
+        },
         Prop::FontFamily => TableRow {
+            name: "font-family",
             families: true,
-            ..measured("font-family", &[], Takes::Nothing, Takes::Nothing)
+            ..EMPTY
         },
         Prop::LineHeight => TableRow {
+            name: "line-height",
+            words: &["normal"],
             numbers: Takes::NotNegative,
-            ..measured(
-                "line-height",
-                &["normal"],
-                Takes::NotNegative,
-                Takes::NotNegative,
-            )
+            lengths: Takes::NotNegative,
+            percentages: Takes::NotNegative,
+            ..EMPTY
         },
         Prop::VerticalAlign => TableRow {
+            name: "vertical-align",
+            words: &["baseline", "sub", "super", "middle"],
             refused: &["top", "bottom", "text-top", "text-bottom"],
-            ..measured(
-                "vertical-align",
-                &["baseline", "sub", "super", "middle"],
-                Takes::All,
-                Takes::All,
-            )
+            lengths: Takes::All,
+            percentages: Takes::All,
+            ..EMPTY
         },
-        Prop::TextAlign => keywords("text-align", &["left", "right", "center", "justify"], &[]),
-        Prop::WhiteSpace => keywords(
-            "white-space",
-            &["normal", "nowrap"],
-            &["pre", "pre-wrap", "pre-line"],
-        ),
-        Prop::TextIndent => measured("text-indent", &[], Takes::ZeroAlone, Takes::ZeroAlone),
-        Prop::LetterSpacing => measured(
-            "letter-spacing",
-            &["normal"],
-            Takes::ZeroAlone,
-            Takes::Nothing,
-        ),
-        Prop::WordSpacing => measured(
-            "word-spacing",
-            &["normal"],
-            Takes::ZeroAlone,
-            Takes::Nothing,
-        ),
-        Prop::TextTransform => keywords(
-            "text-transform",
-            &["none"],
-            &["capitalize", "uppercase", "lowercase"],
-        ),
-        Prop::ListStylePosition => keywords("list-style-position", &["outside"], &["inside"]),
+        Prop::TextAlign => TableRow {
+            name: "text-align",
+            words: &["left", "right", "center", "justify"],
+            ..EMPTY
+        },
+        Prop::WhiteSpace => TableRow {
+            name: "white-space",
+            words: &["normal", "nowrap"],
+            refused: &["pre", "pre-wrap", "pre-line"],
+            ..EMPTY
+        },
+        Prop::TextIndent => TableRow {
+            name: "text-indent",
+            lengths: Takes::ZeroAlone,
+            percentages: Takes::ZeroAlone,
+            ..EMPTY
+        },
+        Prop::LetterSpacing => TableRow {
+            name: "letter-spacing",
+            words: &["normal"],
+            lengths: Takes::ZeroAlone,
+            ..EMPTY
+        },
+        Prop::WordSpacing => TableRow {
+            name: "word-spacing",
+            words: &["normal"],
+            lengths: Takes::ZeroAlone,
+            ..EMPTY
+        },
+        Prop::TextTransform => TableRow {
+            name: "text-transform",
+            words: &["none"],
+            refused: &["capitalize", "uppercase", "lowercase"],
+            ..EMPTY
+        },
+        Prop::ListStylePosition => TableRow {
+            name: "list-style-position",
+            words: &["outside"],
+            refused: &["inside"],
+            ..EMPTY
+        },
     }
+}
+
+/// What a property takes.
+pub fn row(prop: Prop) -> TableRow
+    ensures name { result.name.now ≡ (row prop).name }
+    ensures words { map (λ w. w.now) result.words.now ≡ (row prop).words }
+    ensures few { length result.words.now < 256 }
+    ensures refused { map (λ w. w.now) result.refused.now ≡ (row prop).refused }
+    ensures lengths { result.lengths ≡ (row prop).lengths }
+    ensures percentages { result.percentages ≡ (row prop).percentages }
+    ensures numbers { result.numbers ≡ (row prop).numbers }
+    ensures families { result.families ≡ (row prop).families }
+{
+    table(prop)
 }
 
 fn is_named(name: &str, prop: Prop) -> bool
