@@ -22,13 +22,10 @@ opener_tail None t ts = tail_if (is_sign t) (after_sign ts) ts ts (λ _. sign_ta
 pub part_tails : HasTails after_part
 part_tails t ts = opener_tail (closing_mark t.kind) t ts
 
-true_not_false : false ≡ true → ⊥
-true_not_false e = elim e [ ]
-
 pub stretch_none : (marks : List TokenKind) (ts : List Token) → is_none marks ≡ true → stretch_len (λ t. true) marks ts ≡ 0
 stretch_none [] [] e = refl
 stretch_none [] (t ∷ ts) e = refl
-stretch_none (m ∷ ms) ts e = absurd (true_not_false e)
+stretch_none (m ∷ ms) ts e = cc
 
 pub counted_some : (negative : Bool) (t : Token) (o : Option ℕ) (n : ℤ) → option_map (signed negative) o ≡ Some n → counted negative t o ≡ amount_in t.kind n (unit_of (chars t.text.now))
 counted_some negative t None n e = cc
