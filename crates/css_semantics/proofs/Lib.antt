@@ -10,3 +10,5 @@ pub mod Items
 pub mod Declarations
 pub mod Rules
 pub mod Answers
+pub mod OrderLemmas
+pub mod TableLemmas

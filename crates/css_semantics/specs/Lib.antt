@@ -11,3 +11,4 @@ pub mod Properties
 pub mod ValuesParts
 pub mod Values
 pub mod Shorthands
+pub mod ValuesLaws
