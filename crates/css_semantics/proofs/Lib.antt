@@ -12,3 +12,4 @@ pub mod Rules
 pub mod Answers
 pub mod OrderLemmas
 pub mod TableLemmas
+pub mod OneAnswer

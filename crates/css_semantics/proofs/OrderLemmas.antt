@@ -1,19 +1,17 @@
 -- The settings of declarations in the order of the table.
-use Rattle.std.proofs.Common.{◌≡◌, ℕ, zero, suc, ◌+◌, Bool, true, false, cond, List, [], ◌∷◌, ◌++◌, map, take, drop, Option, Some, None, Result, Ok, Err, refl, sym, ap, ◌∙◌, subst}
+use Rattle.std.proofs.Common.{◌≡◌, ℕ, zero, suc, Bool, true, false, cond, List, [], ◌∷◌, ◌++◌, take, drop, Option, Some, None, Result, Ok, Err, refl, sym, ap, ◌∙◌, subst}
 use Rattle.viz_base.specs.declared.settings.Prop.{Prop}
 use Rattle.viz_base.specs.declared.settings.Prop.TheVariants.{Display, Position, Float, Clear, Overflow, Direction, Width, Height, MinWidth, MinHeight, MaxWidth, MaxHeight, MarginTop, MarginRight, MarginBottom, MarginLeft, PaddingTop, PaddingRight, PaddingBottom, PaddingLeft, BorderTopWidth, BorderRightWidth, BorderBottomWidth, BorderLeftWidth, BorderTopStyle, BorderRightStyle, BorderBottomStyle, BorderLeftStyle, FontSize, FontFamily, LineHeight, VerticalAlign, TextAlign, WhiteSpace, TextIndent, LetterSpacing, WordSpacing, TextTransform, ListStylePosition}
 use Rattle.viz_base.specs.declared.settings.Value.{Value}
-use Rattle.viz_base.specs.declared.settings.Value.TheVariants.{Inherit}
 use Rattle.viz_base.specs.declared.settings.Setting.{Setting}
 use Rattle.css_semantics.specs.declared.parts.Part.{Part}
-use Rattle.css_semantics.specs.declared.parts.Part.TheVariants as part
 use Rattle.css_semantics.specs.declared.parts.Refusal.{Refusal}
 use Rattle.css_semantics.specs.declared.parts.Refusal.TheVariants.{Ignored}
 use Rattle.css_semantics.specs.declared.parts.Shorthand.{Shorthand}
 use Rattle.css_semantics.specs.declared.parts.Shorthand.TheVariants.{Margin, Padding, BorderWidth, BorderStyle, Border, BorderTop, BorderRight, BorderBottom, BorderLeft, Font, ListStyle}
-use Rattle.css_semantics.specs.Properties.{properties, property_named, row}
+use Rattle.css_semantics.specs.Properties.{properties, row}
 use Rattle.css_semantics.specs.Values.{then_on, setting, longhand, whole_value, part_value, is_inherit}
-use Rattle.css_semantics.specs.Shorthands.{declared, shorthand, shorthand_or_none, longhand_or, shorthand_named, sides, four, spread, inherited, lines, written_lines, each_line, joined, value_or, is_line, is_line_width, is_line_style, font, is_system, system_font, written_font, font_from_size, font_behind, height_behind, sized_font, named_font, font_names, is_front, front_len}
+use Rattle.css_semantics.specs.Shorthands.{shorthand, shorthand_or_none, longhand_or, sides, four, spread, inherited, lines, each_line, joined, value_or, is_line, is_line_width, is_line_style, font, is_system, system_font, written_font, font_from_size, font_behind, height_behind, sized_font, named_font, font_names, is_front, front_len}
 use Rattle.css_semantics.specs.ValuesLaws.{IsAmong, none, taken, passed, props, longhands}
 
 -- settings that have these properties, where there are any
@@ -76,8 +74,8 @@ both_sets ps qs (Err refusal) s h k = tt
 lines_set : (ws ss : List Prop) (ps : List Part) → Sets (ws ++ ss) (lines ws ss ps)
 lines_set ws ss ps =
     sets_if _ (is_inherit ps) _ _
-      (props_append (inherited ws) (inherited ss) ∙ ap (λ x. x ++ props (inherited ss)) (inherited_sets ws) ∙ ap (λ x. ws ++ x) (inherited_sets ss))
-      (sets_if _ (is_line ps) _ _ (both_sets ws ss _ _ (each_sets is_line_width _ ps ws) (each_sets is_line_style _ ps ss)) tt)
+    (props_append (inherited ws) (inherited ss) ∙ ap (λ x. x ++ props (inherited ss)) (inherited_sets ws) ∙ ap (λ x. ws ++ x) (inherited_sets ss))
+    (sets_if _ (is_line ps) _ _ (both_sets ws ss _ _ (each_sets is_line_width _ ps ws) (each_sets is_line_style _ ps ss)) tt)
 
 abbrev font_props : List Prop
 font_props = FontSize ∷ FontFamily ∷ LineHeight ∷ []
@@ -103,7 +101,7 @@ written_sets ps = sets_if font_props (is_front (take (front_len ps) ps)) (font_f
 font_sets : (ps : List Part) → Sets font_props (font ps)
 font_sets ps =
     sets_if font_props (is_inherit ps) (Ok (inherited font_props)) (cond (is_system ps) (Ok system_font) (written_font ps)) refl
-      (sets_if font_props (is_system ps) (Ok system_font) (written_font ps) refl (written_sets ps))
+    (sets_if font_props (is_system ps) (Ok system_font) (written_font ps) refl (written_sets ps))
 
 pub shorthand_sets : (s : Shorthand) (ps : List Part) → Sets (longhands s) (shorthand s ps)
 shorthand_sets Margin ps = sides_sets _ _ _ _ ps

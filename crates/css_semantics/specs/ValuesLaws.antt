@@ -1,5 +1,5 @@
 -- Laws of values, in terms of the table of properties and of what each shorthand is short for.
-use Rattle.std.specs.Prelude.{◌≡◌, ℕ, ℤ, pos, ◌<◌, ◌≤ℤ◌, List, [], ◌∷◌, map, length, Result, Ok, false}
+use Rattle.std.specs.Prelude.{◌≡◌, ℤ, pos, ◌<◌, ◌≤ℤ◌, List, [], ◌∷◌, map, length, Ok, false}
 use Rattle.viz_base.specs.declared.settings.Prop.{Prop}
 use Rattle.viz_base.specs.declared.settings.Prop.TheVariants.{MarginTop, MarginRight, MarginBottom, MarginLeft, PaddingTop, PaddingRight, PaddingBottom, PaddingLeft, BorderTopWidth, BorderRightWidth, BorderBottomWidth, BorderLeftWidth, BorderTopStyle, BorderRightStyle, BorderBottomStyle, BorderLeftStyle, FontSize, FontFamily, LineHeight}
 use Rattle.viz_base.specs.declared.settings.Value.{Value}
@@ -10,9 +10,9 @@ use Rattle.css_semantics.specs.declared.parts.Takes.{Takes}
 use Rattle.css_semantics.specs.declared.parts.Takes.TheVariants.{Nothing, All, NotNegative, ZeroAlone}
 use Rattle.css_semantics.specs.declared.parts.Shorthand.{Shorthand}
 use Rattle.css_semantics.specs.declared.parts.Shorthand.TheVariants.{Margin, Padding, BorderWidth, BorderStyle, Border, BorderTop, BorderRight, BorderBottom, BorderLeft, Font, ListStyle}
-use Rattle.css_semantics.specs.Properties.{Row, row, properties}
-use Rattle.css_semantics.specs.Values.{part_value, longhand, setting, is_inherit}
-use Rattle.css_semantics.specs.Shorthands.{declared, shorthand, sides}
+use Rattle.css_semantics.specs.Properties.{Row}
+use Rattle.css_semantics.specs.Values.{part_value, setting, is_inherit}
+use Rattle.css_semantics.specs.Shorthands.{sides}
 
 -- ---- order
 

@@ -12,4 +12,4 @@ pub use laws::{escapes_resolve, tokens_are_unique, tokens_join};
 pub use parts::{Part, Refusal, Shorthand, Takes};
 pub use sheets::{one_list_of_declarations, one_sheet, one_stretch};
 pub use statements::Statement;
-pub use value_laws::{fewer_sides, settings_in_order, values_by_the_table};
+pub use value_laws::{fewer_sides, one_answer, settings_in_order, values_by_the_table};

@@ -1,12 +1,13 @@
-ghost use Rattle.std.specs.Prelude.{◌≡◌, ℕ, [], ◌∷◌, List as Seq, Ok};
+ghost use Rattle.std.specs.Prelude.{◌≡◌, ℕ, [], ◌∷◌, List as Seq, Ok, Result};
 ghost use Rattle.viz_base.specs.declared.settings.Prop.{Prop};
 ghost use Rattle.viz_base.specs.declared.settings.Value.{Value};
 ghost use Rattle.viz_base.specs.declared.settings.Setting.{Setting};
 ghost use Rattle.css_semantics.specs.declared.parts.Part.{Part};
+ghost use Rattle.css_semantics.specs.declared.parts.Refusal.{Refusal};
 ghost use Rattle.css_semantics.specs.declared.parts.Shorthand.{Shorthand};
 ghost use Rattle.css_semantics.specs.Properties.{properties, row};
 ghost use Rattle.css_semantics.specs.Values.{longhand, part_value};
-ghost use Rattle.css_semantics.specs.Shorthands.{declared, shorthand};
+ghost use Rattle.css_semantics.specs.Shorthands.{Says, declared, shorthand};
 ghost use Rattle.css_semantics.specs.ValuesLaws.{FewerSides, HasValue, IsAmong, longhands, props};
 
 /// A law: a declaration sets its own property alone, or all that it is short for, in the order of the table of properties,
@@ -26,4 +27,9 @@ pub fn values_by_the_table()
 /// A law: what one, two, three and four values of a shorthand for four sides stand for (CSS 2.1, 8.3).
 pub fn fewer_sides()
     ensures { (top right bottom left : Prop) → FewerSides top right bottom left }
+{}
+
+/// A law: no name and text have two answers.
+pub fn one_answer()
+    ensures { (name text : Seq ℕ) (a b : Result (Seq Setting) Refusal) → Says name text a → Says name text b → a ≡ b }
 {}

@@ -7,5 +7,5 @@ pub returns : goal.returns
 returns c = record {
   alone = λ p ps settings e. sets_ok _ _ settings (longhand_sets p ps) e;
   whole = λ s ps settings e. sets_ok _ _ settings (shorthand_sets s ps) e;
-  ordered = λ name ps settings e. declared_among (property_named name) (shorthand_named name) ps settings e
+  ordered = λ name ps settings e. declared_among (property_named name) (shorthand_named name) ps settings e;
 }
