@@ -1,4 +1,4 @@
-use Rattle.std.proofs.Common.{rules, arith, sym, subst, take-append-drop, pos,  refl, ap, ◌∙◌, ◌≡◌, ◌≤◌, ◌^◌, ◌+◌, ◌-◌, ◌*◌, ℕ, Bool, true, false, List, [], ◌∷◌, ◌++◌, length, take, drop, replicate, Option, Some, None}
+use Rattle.std.proofs.Common.{rules, arith, sym, subst, take-append-drop, pos, refl, ap, ◌∙◌, ◌≡◌, ◌≤◌, ◌^◌, ◌+◌, ◌-◌, ◌*◌, ℕ, Bool, true, false, List, [], ◌∷◌, ◌++◌, length, take, drop, replicate, Option, Some, None}
 use Rattle.std.proofs.lemmas.Bool.{false≢true}
 use Rattle.std.proofs.lemmas.Bool.Decides.{nat_tests}
 use Rattle.std.proofs.lemmas.List.{drop-replicate, take_min}
@@ -28,7 +28,7 @@ reads : (n : ℕ) (cs : List ℕ) → read_digits (min n (2 ^ 40 + 1)) cs ≡ he
 reads n [] = refl
 reads n (c ∷ cs) = by_bool (is_ascii_digit c)
     (λ yes. rw (yes, step_is n (c - 48)) (subst (λ d. read_digits (min (n * 10 + d) (2 ^ 40 + 1)) cs ≡ cond (true && list_all is_ascii_digit cs)
-        (Some (min (digits_value_after 10 (n * 10 + digit_value c) cs) (2 ^ 40 + 1))) None) (digit_is c yes) (reads (n * 10 + digit_value c) cs)))
+    (Some (min (digits_value_after 10 (n * 10 + digit_value c) cs) (2 ^ 40 + 1))) None) (digit_is c yes) (reads (n * 10 + digit_value c) cs)))
     (λ no. rw no refl)
 
 reads_more : (n : ℕ) (xs ys : List ℕ) → option_and_then (λ m. read_digits m ys) (read_digits n xs) ≡ read_digits n (xs ++ ys)
@@ -76,12 +76,12 @@ number_is : (w f : List ℕ) → number_of w f
 unfolding value_of
 number_is w f = by_bool (list_all is_ascii_digit f)
     (λ yes. rw yes (
-        ap (λ front. option_and_then (λ n. option_and_then (λ m. read_digits m (drop (min (length f) 6) (replicate 6 48))) (read_digits n front)) (read_digits 0 w)) (front_is f)
-        ∙ ap (λ back. option_and_then (λ n. option_and_then (λ m. read_digits m back) (read_digits n (take 6 f))) (read_digits 0 w)) (zeros_is (length f))
-        ∙ reads_twice (read_digits 0 w) (take 6 f) (drop (length f) (replicate 6 48))
-        ∙ reads_more 0 w (six_digits f)
-        ∙ reads 0 (w ++ six_digits f)
-        ∙ ap (λ b. cond b (Some (min (value_of w f) (2 ^ 40 + 1))) None) (list_all-append is_ascii_digit w (six_digits f) ∙ and_true (six_are_digits f yes))))
+    ap (λ front. option_and_then (λ n. option_and_then (λ m. read_digits m (drop (min (length f) 6) (replicate 6 48))) (read_digits n front)) (read_digits 0 w)) (front_is f)
+    ∙ ap (λ back. option_and_then (λ n. option_and_then (λ m. read_digits m back) (read_digits n (take 6 f))) (read_digits 0 w)) (zeros_is (length f))
+    ∙ reads_twice (read_digits 0 w) (take 6 f) (drop (length f) (replicate 6 48))
+    ∙ reads_more 0 w (six_digits f)
+    ∙ reads 0 (w ++ six_digits f)
+    ∙ ap (λ b. cond b (Some (min (value_of w f) (2 ^ 40 + 1))) None) (list_all-append is_ascii_digit w (six_digits f) ∙ and_true (six_are_digits f yes))))
     (λ no. rw no refl)
   where
     and_true : {a b : Bool} → b ≡ true → (a && b) ≡ a
@@ -97,8 +97,8 @@ within_is : (v : ℕ) → within (Some (min v (2 ^ 40 + 1))) ≡ cond (nat_le v 
 unfolding within
 within_is v = by_bool (nat_le v (2 ^ 40))
     (λ yes. let is : min v (2 ^ 40 + 1) ≡ v = grind (arith, nat_tests) in
-        let other : (v == 2 ^ 40 + 1) ≡ false = grind (arith, nat_tests) in
-        rw (is, yes, other) refl)
+    let other : (v == 2 ^ 40 + 1) ≡ false = grind (arith, nat_tests) in
+    rw (is, yes, other) refl)
     (λ no. let is : min v (2 ^ 40 + 1) ≡ 2 ^ 40 + 1 = grind (arith, nat_tests) in rw (is, no) refl)
 
 cases : (w f b : Bool) (v : ℕ) → within (cond b (cond f (cond w (Some (min v (2 ^ 40 + 1))) None) None) None)

@@ -37,14 +37,14 @@ read_digits n (c ∷ cs) = cond (is_ascii_digit c) (read_digits (min (n * 10 + (
 abbrev pub number_parts : List ℕ → Option (List ℕ × List ℕ)
 number_parts text =
     cond (option_map_or (λ at. nat_lt 0 (length (after_first is_point text))) (position is_point text) (nat_lt 0 (length text)))
-      (Some (before_first is_point text, after_first is_point text)) None
+    (Some (before_first is_point text, after_first is_point text)) None
 
 -- the number of millionths, held at the first one past the bound
 abbrev pub number_of : List ℕ → List ℕ → Option ℕ
 number_of whole fraction =
     cond (list_all is_ascii_digit fraction)
-      (option_and_then (λ n. option_and_then (λ m. read_digits m (drop (min (length fraction) 6) (replicate 6 48)))
-          (read_digits n (take (min (length fraction) 6) fraction))) (read_digits 0 whole)) None
+    (option_and_then (λ n. option_and_then (λ m. read_digits m (drop (min (length fraction) 6) (replicate 6 48)))
+    (read_digits n (take (min (length fraction) 6) fraction))) (read_digits 0 whole)) None
 
 abbrev pub number_read : List ℕ → Option ℕ
 number_read text = option_and_then (λ (p : List ℕ × List ℕ). number_of p.0 p.1) (number_parts text)

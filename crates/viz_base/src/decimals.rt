@@ -13,7 +13,11 @@ pub fn read_decimal(text: &[u8]) -> Option<i64>
     ensures { result ≡ option_map pos (decimal_of text.now) }
 {
     let value = number(text)?;
-    if value == PAST { None } else { Some(value as i64) }
+    if value == PAST {
+        None
+    } else {
+        Some(value as i64)
+    }
 }
 
 /// The number of millionths, `PAST` where it is greater; none where the text is no NUMBER.

@@ -1,0 +1,16 @@
+pub mod Greatest
+pub mod Spaces
+pub mod Styled
+pub mod Outer
+pub mod Terms
+pub mod Standing
+pub mod Parts
+pub mod FloatRuns
+pub mod FloatRules
+pub mod Margins
+pub mod Bands
+pub mod LineStacks
+pub mod Nested
+pub mod Clearance
+pub mod PlacedFloats
+pub mod Heights

@@ -1,0 +1,16 @@
+//! Laws of the layout that layout_semantics defines: what holds of all pages, said without the definitions' recursions.
+#![tactic(auto)]
+
+pub mod boxes;
+pub mod clearance;
+pub mod contexts;
+pub mod floats;
+pub mod fonts;
+pub mod heights;
+pub mod lines;
+pub mod margins;
+pub mod reaches;
+pub mod recursions;
+pub mod spaces;
+pub mod stretches;
+pub mod widths;

@@ -1,0 +1,92 @@
+-- Clearance (CSS 2.1, 9.5.2). The hypothetical place of a box with `clear`, the places of floats between adjoining margins and
+-- what becomes of the margins are our own reading of 8.3.1 and 9.5.2.
+use Rattle.std.specs.Prelude.{ℕ, zero, suc, ℤ, Bool, true, false, List, [], ◌∷◌, ◌++◌, int_lt, length, Option, Some, None}
+use Rattle.std.specs.Option.{option_map_or, option_to_list}
+use Rattle.viz_base.specs.declared.layouts.Band.{Band}
+use Rattle.viz_base.specs.declared.layouts.Extent.{Extent}
+use Rattle.viz_base.specs.declared.layouts.LeadEnd.{LeadEnd}
+use Rattle.viz_base.specs.declared.layouts.LeadEnd.TheVariants as of_end
+use Rattle.viz_base.specs.declared.layouts.Spot.{Spot}
+use Rattle.viz_base.specs.declared.styles.Clear.TheVariants as of_clear
+use Rattle.viz_base.specs.declared.styles.Side.{Side}
+use Rattle.viz_base.specs.declared.styles.Side.TheVariants as of_side
+use Rattle.viz_base.specs.declared.styles.Style.{Style}
+use Rattle.viz_base.specs.declared.trees.BoxTree.{BoxTree}
+use Rattle.viz_base.specs.declared.worlds.World.{World}
+use Rattle.layout_semantics.specs.Extremes.{greatest_from}
+use Rattle.layout_semantics.specs.Floats.{FloatBox, placed_float, float_at, lowest_bottom}
+use Rattle.layout_semantics.specs.Leads.{Waiting, Leading, is_up_to, lead}
+use Rattle.layout_semantics.specs.FlowBoxes.{clear_of}
+use Rattle.layout_semantics.specs.Lengths.{own}
+
+-- the side of a floated box
+abbrev pub side_of : BoxTree → ℕ → Side
+side_of tree f = by_float (own tree f (λ (s : Style). s.float) None)
+  where
+    by_float : Option Side → Side
+    by_float None = of_side.Left
+    by_float (Some side) = side
+
+-- the highest top that a float may have whose place is at y: not above the outer top of an earlier block or the top of an
+-- earlier line of its context (9.5.1, rules 5 and 6), of which `least` is the greatest, nor above the outer bottoms of the
+-- earlier floats that its own `clear` names (9.5.2)
+abbrev pub float_top : BoxTree → ℕ → List FloatBox → Option ℤ → ℤ → ℤ
+float_top tree f floats least y = greatest_from y (option_to_list least ++ option_to_list (lowest_bottom (own tree f (λ (s : Style). s.clear) of_clear.Nothing) floats))
+
+abbrev pub float_spot : BoxTree → ℕ → Extent ℤ → Band ℤ → List FloatBox → Option ℤ → ℤ → Spot ℤ
+float_spot tree f size cb floats least y = float_at floats (side_of tree f) size cb (float_top tree f floats least y)
+
+-- the floats of the context after one that is placed
+abbrev pub with_float : BoxTree → ℕ → Extent ℤ → Band ℤ → List FloatBox → Option ℤ → ℤ → List FloatBox
+with_float tree f size cb floats least y = floats ++ placed_float (side_of tree f) size (float_spot tree f size cb floats least y) ∷ []
+
+-- after all floats that wait are placed, one after another, where the run of margins between which they stand ends at y
+abbrev pub with_waiting : BoxTree → (Waiting → Extent ℤ) → List Waiting → List FloatBox → Option ℤ → ℤ → List FloatBox
+with_waiting tree size [] floats least y = floats
+with_waiting tree size (f ∷ fs) floats least y = with_waiting tree size fs (with_float tree f.at (size f) f.cb floats least y) least y
+
+-- the margins of the box's lead that join the run, and the box of the lead that is cleared, with its border edge, if there is one
+pub record Resolved : Type 0 where
+  pub margins : List ℤ
+  pub cleared : Option (ℕ × ℤ)
+
+module _ (tree : BoxTree) (w : World) (height : ℕ) where
+  -- Where a box that comes next stands. `edge` gives the border edge that ends the run together with so many margins more.
+  -- The lead goes on to its first box with `clear`. Its hypothetical border edge counts the margins before it, its own top
+  -- margin and its leading descendants' up to the next box with `clear`. Floats that wait are tried at that edge. Where the
+  -- edge is above the outer bottom of a float that `clear` names, the box is cleared: its border edge is put at the lowest
+  -- such bottom, the floats that wait then standing where the run ends without the box's margins. Else it counts as not
+  -- cleared, and the lead goes on through it.
+  module _ (size : Waiting → Extent ℤ) (edge : List ℤ → ℤ) (cb : Band ℤ) (floats : List FloatBox) (least : Option ℤ) (b : ℕ) where
+    abbrev pub hypothetical_edge : Leading → ℕ → ℤ
+    hypothetical_edge found d = edge (found.margins ++ (lead tree w height (is_up_to tree d) found.cb d).margins)
+
+    -- the lowest outer bottom of the floats that the `clear` of a box names, those that wait being placed at y
+    abbrev pub bottom_to_clear : Leading → ℕ → ℤ → Option ℤ
+    bottom_to_clear found d y = lowest_bottom (clear_of tree d) (with_waiting tree size found.waiting floats least y)
+
+    abbrev pub is_cleared : Leading → ℕ → Bool
+    is_cleared found d = option_map_or (int_lt (hypothetical_edge found d)) (bottom_to_clear found d (hypothetical_edge found d)) false
+
+    abbrev pub cleared_edge : Leading → ℕ → ℤ
+    cleared_edge found d = option_map_or (λ bottom. bottom) (bottom_to_clear found d (edge found.margins)) (edge found.margins)
+
+    abbrev pub resolve_step : (ℕ → Resolved) → Leading → Resolved
+    resolve_step go_on found = by_end found.end
+      where
+        by_clearance : ℕ → Bool → Resolved
+        by_clearance d true = record { margins = found.margins; cleared = Some (d, cleared_edge found d) }
+        by_clearance d false = go_on d
+
+        by_end : LeadEnd → Resolved
+        by_end (of_end.Cleared d) = by_clearance d (is_cleared found d)
+        by_end _ = record { margins = found.margins; cleared = None }
+
+    -- so many boxes being left that may be passed
+    unfoldable pub resolve_to : ℕ → (ℕ → Bool) → Resolved
+    resolve_to zero passed = record { margins = []; cleared = None }
+    resolve_to (suc left) passed = resolve_step (λ d. resolve_to left (is_up_to tree d)) (lead tree w height passed cb b)
+
+    -- where the boxes that pass the test count as not cleared from the first
+    abbrev pub resolve : (ℕ → Bool) → Resolved
+    resolve passed = resolve_to (suc (length tree.boxes)) passed

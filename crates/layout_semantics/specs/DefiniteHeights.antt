@@ -1,0 +1,64 @@
+-- Heights that are known before layout, and what percentages of heights are of (CSS 2.1, 10.5, 10.7).
+use Rattle.std.specs.Prelude.{ℕ, zero, suc, ◌*◌, Bool, true, false, ℤ, pos, Option, Some, None, option_and_then, option_map, unwrap_or}
+use Rattle.std.specs.Option.{option_map_or}
+use Rattle.viz_base.specs.declared.lengths.Length.{Length}
+use Rattle.viz_base.specs.declared.lengths.Length.TheVariants as of_length
+use Rattle.viz_base.specs.declared.styles.Style.{Style}
+use Rattle.viz_base.specs.declared.trees.BoxTree.{BoxTree}
+use Rattle.viz_base.specs.declared.trees.Kind.{Kind}
+use Rattle.viz_base.specs.declared.trees.Kind.TheVariants as of_kind
+use Rattle.viz_base.specs.declared.worlds.World.{World}
+use Rattle.layout_semantics.specs.Blocks.{kind_of, parent_of}
+use Rattle.layout_semantics.specs.Fonts.{fraction}
+use Rattle.layout_semantics.specs.Lengths.{used, maximum, held, own, nothing}
+
+-- ---- the containing block of a percentage height
+
+-- an inline box is no containing block, and an anonymous block is passed over (CSS 2.1, 9.2.1.1)
+abbrev pub is_passed_over : Kind → Bool
+is_passed_over of_kind.Inline = true
+is_passed_over of_kind.Anon = true
+is_passed_over _ = false
+
+unfoldable pub container_to : ℕ → BoxTree → ℕ → Option ℕ
+container_to zero tree at = None
+container_to (suc levels) tree at = option_and_then (λ parent. elim (is_passed_over (kind_of tree parent)) [ true ↦ container_to levels tree parent | false ↦ Some parent ]) (parent_of tree.boxes at)
+
+-- the box whose height percentages are of; nothing of the root, whose containing block is the viewport (CSS 2.1, 10.1).
+-- A box's number is greater than its parent's
+abbrev pub percentage_container : BoxTree → ℕ → Option ℕ
+percentage_container tree at = container_to (suc at) tree at
+
+-- ---- definite heights
+
+-- a height where the containing block's is `around`: nothing of `auto`, and of a percentage of no definite height
+abbrev pub height_around : BoxTree → World → Option ℤ → Length → Option ℤ
+height_around tree w around of_length.Auto = None
+height_around tree w around (of_length.Pct p) = option_map (fraction p 100000000) around
+height_around tree w around length = Some (used tree w length (pos 0))
+
+-- a height after the box's maximum and minimum; a percentage of no definite height is no maximum, and a minimum of 0
+abbrev pub held_around : BoxTree → World → Option ℤ → ℕ → ℤ → ℤ
+held_around tree w around at height =
+    held (maximum (height_around tree w around) (own tree at (λ (s : Style). s.max_height) None))
+    (unwrap_or (height_around tree w around (own tree at (λ (s : Style). s.min_height) nothing)) (pos 0)) height
+
+abbrev pub own_height_around : BoxTree → World → Option ℤ → ℕ → Option ℤ
+own_height_around tree w around at = option_map (held_around tree w around at) (height_around tree w around (own tree at (λ (s : Style). s.height) of_length.Auto))
+
+unfoldable pub definite_height_to : ℕ → BoxTree → World → ℕ → ℕ → Option ℤ
+definite_height_to zero tree w viewport at = None
+definite_height_to (suc levels) tree w viewport at =
+    option_map_or (λ container. own_height_around tree w (definite_height_to levels tree w viewport container) container) (percentage_container tree at) (Some (pos (64 * viewport)))
+
+-- the height that percentages of a box's heights are of, where it is definite: that of the viewport, of so many pixels, an absolute
+-- height, or a percentage of a definite one
+abbrev pub definite_height : BoxTree → World → ℕ → ℕ → Option ℤ
+definite_height tree w viewport at = definite_height_to (suc at) tree w viewport at
+
+-- the height that a box's own property gives, and a height after its maximum and minimum
+abbrev pub given_height : BoxTree → World → ℕ → ℕ → Option ℤ
+given_height tree w viewport at = height_around tree w (definite_height tree w viewport at) (own tree at (λ (s : Style). s.height) of_length.Auto)
+
+abbrev pub held_height : BoxTree → World → ℕ → ℕ → ℤ → ℤ
+held_height tree w viewport at height = held_around tree w (definite_height tree w viewport at) at height

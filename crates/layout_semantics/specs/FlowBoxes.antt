@@ -1,0 +1,110 @@
+-- The sorts of boxes that normal flow, margins and clearance tell apart (CSS 2.1, 8.3.1, 9.4.1, 9.5.2).
+use Rattle.std.specs.Prelude.{ℕ, ℤ, ◌+ℤ◌, ◌-ℤ◌, Bool, true, false, not, ◌&&◌, ◌||◌, is_none, List, slice_get}
+use Rattle.std.specs.Option.{option_map_or}
+use Rattle.viz_base.specs.Trees.{is_replaced}
+use Rattle.viz_base.specs.declared.layouts.Band.{Band}
+use Rattle.viz_base.specs.declared.layouts.Widths.{Widths}
+use Rattle.viz_base.specs.declared.lengths.Length.{Length}
+use Rattle.viz_base.specs.declared.lengths.Length.TheVariants as of_length
+use Rattle.viz_base.specs.declared.styles.Clear.{Clear}
+use Rattle.viz_base.specs.declared.styles.Clear.TheVariants as of_clear
+use Rattle.viz_base.specs.declared.styles.Style.{Style}
+use Rattle.viz_base.specs.declared.trees.BoxNode.{BoxNode}
+use Rattle.viz_base.specs.declared.trees.BoxTree.{BoxTree}
+use Rattle.viz_base.specs.declared.worlds.World.{World}
+use Rattle.layout_semantics.specs.Blocks.{kind_of, parent_of}
+use Rattle.layout_semantics.specs.Order.{kids_of}
+use Rattle.layout_semantics.specs.Lengths.{own, nothing, borders, paddings}
+use Rattle.layout_semantics.specs.DefiniteHeights.{definite_height, height_around}
+use Rattle.layout_semantics.specs.Horizontal.{widths}
+use Rattle.layout_semantics.specs.InlineContent.{is_floated_at, is_zero, has_line, holds_inline, content, float_boxes}
+
+abbrev pub is_replaced_at : BoxTree → ℕ → Bool
+is_replaced_at tree b = is_replaced (kind_of tree b)
+
+-- it starts a block formatting context, and is not replaced (9.4.1)
+abbrev pub is_context_root : BoxTree → ℕ → Bool
+is_context_root tree b = option_map_or (λ (x : BoxNode). not (is_replaced x.kind) && x.context) (slice_get tree.boxes b) false
+
+abbrev pub is_block_level_at : BoxTree → ℕ → Bool
+is_block_level_at tree b = option_map_or (λ (x : BoxNode). x.block_level) (slice_get tree.boxes b) false
+
+-- ---- clear (9.5.2)
+
+-- an in-flow block that starts a context, and an in-flow block-level replaced box, are treated as `clear: both`, so that
+-- they overlap no float (our own reading; 9.5 allows to place them below)
+abbrev pub stands_clear_of_floats : BoxTree → ℕ → Bool
+stands_clear_of_floats tree b = (is_context_root tree b || is_replaced_at tree b) && is_block_level_at tree b && not (is_floated_at tree b)
+
+-- `clear` as it works on a box in flow; on the root it has no effect
+abbrev pub clear_of : BoxTree → ℕ → Clear
+clear_of tree b = by_place (is_none (parent_of tree.boxes b)) (stands_clear_of_floats tree b)
+  where
+    by_place : Bool → Bool → Clear
+    by_place true any = of_clear.Nothing
+    by_place false true = of_clear.Both
+    by_place false false = own tree b (λ (s : Style). s.clear) of_clear.Nothing
+
+-- ---- what parts margins (8.3.1), by computed values: zero means a computed value of zero (our own reading)
+
+-- no border and no padding above the content, and no context of its own, part its top margin from its first child's
+abbrev pub is_open_above : BoxTree → ℕ → Bool
+is_open_above tree b = not (is_context_root tree b) && not (is_replaced_at tree b)
+    && is_zero (borders tree b).top && is_zero (paddings tree b).top
+
+abbrev pub is_open_below : BoxTree → ℕ → Bool
+is_open_below tree b = not (is_context_root tree b) && not (is_replaced_at tree b)
+    && is_zero (borders tree b).bottom && is_zero (paddings tree b).bottom
+
+abbrev pub own_height : BoxTree → ℕ → Length
+own_height tree b = own tree b (λ (s : Style). s.height) of_length.Auto
+
+abbrev pub least_height : BoxTree → ℕ → Length
+least_height tree b = own tree b (λ (s : Style). s.min_height) nothing
+
+-- ---- content
+
+-- what normal flow has of a container without lines: its block-level boxes and floats, or the floats in its inline content
+abbrev pub flow_children : BoxTree → ℕ → List ℕ
+flow_children tree b = by_sort (holds_inline tree b)
+  where
+    by_sort : Bool → List ℕ
+    by_sort true = float_boxes (content tree b)
+    by_sort false = kids_of tree.boxes b
+
+-- ---- containing blocks (10.1)
+
+-- the width of a containing block
+abbrev pub across : Band ℤ → ℤ
+across cb = cb.right -ℤ cb.left
+
+-- from the left to the right edge of the content of a box whose margin edge is at `left`
+abbrev pub content_from : ℤ → Widths ℤ → Band ℤ
+content_from left x = from (left +ℤ x.margin_left +ℤ x.border_left +ℤ x.padding_left)
+  where
+    from : ℤ → Band ℤ
+    from edge = record { left = edge; right = edge +ℤ x.content }
+
+module _ (tree : BoxTree) (w : World) (height : ℕ) where
+  -- a percentage of a height that is not definite counts as auto, and as no minimum (10.5, 10.7)
+  abbrev pub has_auto : ℕ → Length → Bool
+  has_auto b length = is_none (height_around tree w (definite_height tree w height b) length)
+
+  abbrev pub has_auto_height : ℕ → Bool
+  has_auto_height b = has_auto b (own_height tree b)
+
+  abbrev pub has_no_minimum : ℕ → Bool
+  has_no_minimum b = has_auto b (least_height tree b) || is_zero (least_height tree b)
+
+  -- a block whose own top and bottom margins adjoin, where all its in-flow children collapse through too
+  abbrev pub may_collapse_through : ℕ → Bool
+  may_collapse_through b = is_open_above tree b && is_open_below tree b && has_no_minimum b
+      && (has_auto_height b || is_zero (own_height tree b)) && not (has_line tree b)
+
+  -- a block whose bottom margin adjoins its last in-flow child's
+  abbrev pub joins_last_child : ℕ → Bool
+  joins_last_child b = is_open_below tree b && has_auto_height b && has_no_minimum b
+
+  -- of a box in a containing block
+  abbrev pub content_band : Band ℤ → ℕ → Band ℤ
+  content_band cb b = content_from cb.left (widths tree w height b (across cb))

@@ -1,0 +1,150 @@
+-- The boxes of a line (CSS 2.1, 8.6, 9.4.2, 10.6.1).
+use Rattle.std.specs.Prelude.{ℕ, ◌==◌, ℤ, pos, ◌+ℤ◌, ◌-ℤ◌, Bool, false, cond, List, [], ◌∷◌, ◌++◌, map, filter, find, is_some, Option, Some}
+use Rattle.std.specs.List.{list_any, last_or}
+use Rattle.std.specs.Option.{option_map_or}
+use Rattle.viz_base.specs.declared.layouts.Spot.{Spot}
+use Rattle.viz_base.specs.declared.lengths.Sides.{Sides}
+use Rattle.viz_base.specs.declared.lengths.Length.{Length}
+use Rattle.viz_base.specs.declared.renderings.Placed.{Placed}
+use Rattle.viz_base.specs.declared.renderings.Quad.{Quad}
+use Rattle.viz_base.specs.declared.trees.Kind.TheVariants as of_kind
+use Rattle.layout_semantics.specs.Blocks.{node_of, parent_of, plain_box}
+use Rattle.layout_semantics.specs.Fonts.{ascent, descent}
+use Rattle.layout_semantics.specs.Lengths.{used, margins, borders, paddings}
+use Rattle.layout_semantics.specs.InlineContent.{Item, start, finish, word, space, atomic, forced, float}
+use Rattle.layout_semantics.specs.LineHeights.{InlineContext, box_extent, shift, inline_shift}
+use Rattle.layout_semantics.specs.LineFilling.{item_width, band_width}
+
+-- an entry of the rendering of a container's lines: a line or a fragment, or the place of a float or an atomic box with the outer top left corner there
+pub data Entry : Type 0 where
+  here : Placed ℤ → Entry
+  goes : ℕ → Spot ℤ → Entry
+
+-- ---- items side by side
+
+pub record ItemPlace : Type 0 where
+  pub item : Item
+  pub left : ℤ
+  pub right : ℤ
+
+-- items one after another from x on
+abbrev pub set_out : InlineContext → ℤ → List Item → List ItemPlace
+set_out c x [] = []
+set_out c x (i ∷ items) = record { item = i; left = x; right = x +ℤ item_width c i } ∷ set_out c (x +ℤ item_width c i) items
+
+abbrev pub is_start_of : ℕ → ItemPlace → Bool
+is_start_of at p = by_item p.item
+  where
+    by_item : Item → Bool
+    by_item (start other) = other == at
+    by_item _ = false
+
+abbrev pub is_end_of : ℕ → ItemPlace → Bool
+is_end_of at p = by_item p.item
+  where
+    by_item : Item → Bool
+    by_item (finish other) = other == at
+    by_item _ = false
+
+abbrev pub is_text_of : ℕ → ItemPlace → Bool
+is_text_of at p = by_item p.item
+  where
+    by_item : Item → Bool
+    by_item (word other text) = other == at
+    by_item (space other) = other == at
+    by_item _ = false
+
+-- ---- a line with its items in their places
+
+pub record SetLine : Type 0 where
+  -- the line's baseline
+  pub baseline : ℤ
+  -- the left and the right edge of its content
+  pub left : ℤ
+  pub right : ℤ
+  pub places : List ItemPlace
+  -- where its floats stand
+  pub spots : List (ℕ × Spot ℤ)
+
+-- the content of a fragment reaches from the ascent to the descent of its font (CSS 2.1, 10.6.1)
+abbrev pub text_area : InlineContext → ℕ → ℤ → ℤ → ℤ → Quad ℤ
+text_area c node baseline left right = record { left = left; top = baseline -ℤ ascent c.tree c.world node; right = right; bottom = baseline +ℤ descent c.tree c.world node }
+
+-- ---- text
+
+-- a text box is raised as the box that it is in: its own style repeats that box's
+abbrev pub text_baseline : InlineContext → SetLine → ℕ → ℤ
+text_baseline c line at = line.baseline -ℤ option_map_or (inline_shift c) (parent_of c.tree.boxes at) (pos 0)
+
+-- the piece of a text on the line, from the first to the last of its words and spaces that stay
+abbrev pub text_fragment : InlineContext → SetLine → ℕ → List ItemPlace → List Entry
+text_fragment c line at [] = []
+text_fragment c line at (p ∷ ps) = here (plain_box of_kind.Chars (node_of c.tree at) (text_area c (node_of c.tree at) (text_baseline c line at) p.left (option_map_or (λ (q : ItemPlace). q.right) (last_or (Some p) ps) p.right))) ∷ []
+
+-- ---- inline boxes
+
+-- a rectangle with edges around it
+abbrev pub grown : Quad ℤ → Quad ℤ → Quad ℤ
+grown q e = record { left = q.left -ℤ e.left; top = q.top -ℤ e.top; right = q.right +ℤ e.right; bottom = q.bottom +ℤ e.bottom }
+
+-- the used edges of a fragment of an inline box: the left ones where the box starts, the right ones where it ends (CSS 2.1, 8.6)
+abbrev pub fragment_edges : InlineContext → (starts ends : Bool) → Sides Length → Quad ℤ
+fragment_edges c starts ends sides = record { left = cond starts (of_side sides.left) (pos 0); top = of_side sides.top; right = cond ends (of_side sides.right) (pos 0); bottom = of_side sides.bottom }
+  where
+    of_side : Length → ℤ
+    of_side length = used c.tree c.world length (band_width c.cb)
+
+-- the four rectangles around a fragment's content
+abbrev pub around : InlineContext → ℕ → (starts ends : Bool) → Quad ℤ → Placed ℤ
+around c at starts ends area = from_padding (grown area (fragment_edges c starts ends (paddings c.tree at)))
+  where
+    from_border : Quad ℤ → Quad ℤ → Placed ℤ
+    from_border padding border = record { kind = of_kind.Inline; node = node_of c.tree at; margin = grown border (fragment_edges c starts ends (margins c.tree at)); border = border; padding = padding; content = area }
+
+    from_padding : Quad ℤ → Placed ℤ
+    from_padding padding = from_border padding (grown padding (fragment_edges c starts ends (borders c.tree at)))
+
+-- the fragment of an inline box: from its start, or the line's content where it starts before, to its end, or the end of the line's content
+abbrev pub inline_fragment : InlineContext → SetLine → ℕ → Entry
+inline_fragment c line at = here (of_ends (find (is_start_of at) line.places) (find (is_end_of at) line.places))
+  where
+    of_ends : Option ItemPlace → Option ItemPlace → Placed ℤ
+    of_ends first last = around c at (is_some first) (is_some last)
+        (text_area c (node_of c.tree at) (line.baseline -ℤ inline_shift c at) (option_map_or (λ (p : ItemPlace). p.right) first line.left) (option_map_or (λ (p : ItemPlace). p.left) last line.right))
+
+-- ---- atomic boxes and floats
+
+-- an atomic box stands with its own baseline raised over the line's
+abbrev pub atomic_entry : InlineContext → SetLine → ℕ → ℤ → Entry
+atomic_entry c line at left = goes at (record { x = left; y = (line.baseline -ℤ shift c at (box_extent c at)) -ℤ (box_extent c at).above })
+
+abbrev pub float_entry : List (ℕ × Spot ℤ) → ℕ → List Entry
+float_entry spots at = option_map_or (λ entry. goes at entry.1 ∷ []) (find (λ entry. entry.0 == at) spots) []
+
+-- ---- the entries of a line after its own
+
+-- a text's piece stands where the first of its items that stay does
+abbrev pub text_entry : InlineContext → SetLine → List ItemPlace → ℕ → List Entry
+text_entry c line before at = cond (list_any (is_text_of at) before) [] (text_fragment c line at (filter (is_text_of at) line.places))
+
+-- the entries of an item, where these stand before it on the line
+abbrev pub item_entries : InlineContext → SetLine → List ItemPlace → ItemPlace → List Entry
+item_entries c line before p = by_item p.item
+  where
+    by_item : Item → List Entry
+    by_item (start at) = inline_fragment c line at ∷ []
+    by_item (finish at) = []
+    by_item (word at text) = text_entry c line before at
+    by_item (space at) = text_entry c line before at
+    by_item (atomic at) = atomic_entry c line at p.left ∷ []
+    by_item (forced at) = []
+    by_item (float at) = float_entry line.spots at
+
+-- of the items in their order
+abbrev pub entries_after : InlineContext → SetLine → List ItemPlace → List ItemPlace → List Entry
+entries_after c line before [] = []
+entries_after c line before (p ∷ ps) = item_entries c line before p ++ entries_after c line (before ++ p ∷ []) ps
+
+-- the inline boxes that are open at the line's start, outermost first, and then its content in document order
+abbrev pub line_entries : InlineContext → SetLine → List ℕ → List Entry
+line_entries c line opened = map (inline_fragment c line) opened ++ entries_after c line [] line.places

@@ -1,0 +1,145 @@
+-- How much of its content a line holds, and where the floats met on it stand (CSS 2.1, 9.4.2, 9.5).
+use Rattle.std.specs.Prelude.{ℕ, zero, suc, ◌-◌, ℤ, pos, ◌+ℤ◌, ◌-ℤ◌, int_le, Bool, true, false, not, ◌&&◌, ◌||◌, List, [], ◌∷◌, ◌++◌, map, length, take, drop, filter, fold, slice_index_or, ◌==◌, None, unwrap_or}
+use Rattle.std.specs.List.{flat_map, list_any, range_with_len, prefix_len, before_first}
+use Rattle.std.specs.Option.{option_map_or, option_to_list}
+use Rattle.std.specs.Ordering.{int_eq}
+use Rattle.viz_base.specs.declared.layouts.Band.{Band}
+use Rattle.viz_base.specs.declared.layouts.Extent.{Extent}
+use Rattle.viz_base.specs.declared.layouts.Inner.{Inner}
+use Rattle.viz_base.specs.declared.layouts.Spot.{Spot}
+use Rattle.viz_base.specs.declared.lengths.Length.{Length}
+use Rattle.viz_base.specs.declared.styles.Clear.TheVariants as of_clear
+use Rattle.viz_base.specs.declared.styles.Side.{Side}
+use Rattle.viz_base.specs.declared.styles.Side.TheVariants as of_side
+use Rattle.viz_base.specs.declared.styles.Style.{Style}
+use Rattle.viz_base.specs.declared.trees.BoxTree.{BoxTree}
+use Rattle.layout_semantics.specs.Extremes.{greatest_from, least_from}
+use Rattle.layout_semantics.specs.Blocks.{node_of}
+use Rattle.layout_semantics.specs.Fonts.{text_width}
+use Rattle.layout_semantics.specs.Lengths.{used, total, own}
+use Rattle.layout_semantics.specs.Floats.{FloatBox, placed_float, float_at, band_at, meets, candidate_tops, lowest_bottom}
+use Rattle.layout_semantics.specs.InlineContent.{Item, start, finish, word, space, atomic, forced, float, float_boxes, start_edges, end_edges, makes_line}
+use Rattle.layout_semantics.specs.Stretches.{is_forced, what_stays}
+use Rattle.layout_semantics.specs.LineHeights.{InlineContext, inner_of}
+
+-- ---- widths
+
+abbrev pub band_width : Band ℤ → ℤ
+band_width room = room.right -ℤ room.left
+
+abbrev pub used_edges : InlineContext → List Length → ℤ
+used_edges c edges = total (map (λ edge. used c.tree c.world edge (band_width c.cb)) edges)
+
+-- what an item takes of a line: a word and a space their advances, an atomic box its margin box, the start and the end of an inline box its
+-- margin, border and padding there
+abbrev pub item_width : InlineContext → Item → ℤ
+item_width c (word at text) = text_width c.tree c.world (node_of c.tree at) text
+item_width c (space at) = text_width c.tree c.world (node_of c.tree at) (32 ∷ [])
+item_width c (atomic at) = option_map_or (λ (i : Inner ℤ). i.width) (inner_of c at) (pos 0)
+item_width c (start at) = used_edges c (start_edges c.tree at)
+item_width c (finish at) = used_edges c (end_edges c.tree at)
+item_width c (forced at) = pos 0
+item_width c (float at) = pos 0
+
+-- what a line takes, without the spaces at its ends
+abbrev pub width_held : InlineContext → List Item → ℤ
+width_held c items = total (map (item_width c) (what_stays items))
+
+abbrev pub fits : ℤ → Band ℤ → Bool
+fits width room = int_le width (band_width room)
+
+-- ---- floats
+
+-- floats that were placed, with the list that they then stand in, and those that wait for the line's bottom
+pub record Met : Type 0 where
+  pub spots : List (ℕ × Spot ℤ)
+  pub floats : List FloatBox
+  pub waiting : List ℕ
+
+abbrev pub side_of : BoxTree → ℕ → Side
+side_of tree at = unwrap_or (own tree at (λ (s : Style). s.float) None) of_side.Left
+
+abbrev pub float_size : InlineContext → ℕ → Extent ℤ
+float_size c at = option_map_or (λ (i : Inner ℤ). record { width = i.width; height = i.above +ℤ i.below }) (inner_of c at) (record { width = pos 0; height = pos 0 })
+
+-- the highest top that a float may have: not above y nor `least`, nor above the floats that it clears (CSS 2.1, 9.5.1, 9.5.2)
+abbrev pub top_allowed : InlineContext → List FloatBox → ℤ → ℤ → ℕ → ℤ
+top_allowed c floats least y at = greatest_from y (least ∷ option_to_list (lowest_bottom (own c.tree at (λ (s : Style). s.clear) of_clear.Nothing) floats))
+
+abbrev pub float_spot : InlineContext → List FloatBox → ℤ → ℤ → ℕ → Spot ℤ
+float_spot c floats least y at = float_at floats (side_of c.tree at) (float_size c at) c.cb (top_allowed c floats least y at)
+
+abbrev pub with_float : InlineContext → Met → ℕ → Spot ℤ → Met
+with_float c met at spot = record met { spots = met.spots ++ (at, spot) ∷ []; floats = met.floats ++ placed_float (side_of c.tree at) (float_size c at) spot ∷ [] }
+
+-- floats placed one after another, each from y on
+abbrev pub place_each : InlineContext → ℤ → ℤ → Met → List ℕ → Met
+place_each c least y met boxes = fold (λ (now : Met) at. with_float c now at (float_spot c now.floats least y at)) met boxes
+
+-- ---- the top of a line
+
+abbrev pub meets_none : List FloatBox → ℤ → ℤ → Bool
+meets_none floats y height = not (list_any (meets y height) floats)
+
+abbrev pub least_or : ℤ → List ℤ → ℤ
+least_or y [] = y
+least_or y (x ∷ xs) = least_from x xs
+
+-- the highest place from y on where so wide a stretch fits beside the floats, or no float is met; only below a float's bottom is there more room
+abbrev pub line_top : InlineContext → List FloatBox → ℤ → ℤ → ℤ → ℤ
+line_top c floats y tall width = least_or y (filter (λ top. fits width (band_at floats c.cb top tall) || meets_none floats top tall) (candidate_tops floats y))
+
+-- ---- what a line holds
+
+-- a line to be filled: its top, the height of the tallest line, the highest top of its floats, the floats that stand before its first
+-- stretch, and the stretches that are left
+pub record Line : Type 0 where
+  pub top : ℤ
+  pub tall : ℤ
+  pub least : ℤ
+  pub before : Met
+  pub parts : List (List Item)
+
+abbrev pub joined : List (List Item) → List Item
+joined parts = flat_map (λ part. part) parts
+
+abbrev pub first_items : Line → ℕ → List Item
+first_items line n = joined (take n line.parts)
+
+-- what stands before the first item that makes the line exist, and what stands from there on
+abbrev pub before_line : BoxTree → List Item → List Item
+before_line tree items = before_first (makes_line tree) items
+
+abbrev pub from_line_on : BoxTree → List Item → List Item
+from_line_on tree items = drop (length (before_line tree items)) items
+
+-- the floats met at the end of a stretch: in the first one those before anything on the line are placed before
+abbrev pub floats_met : BoxTree → ℕ → List Item → List ℕ
+floats_met tree zero items = float_boxes (from_line_on tree items)
+floats_met tree (suc n) items = float_boxes items
+
+-- a float met where the line holds so much already is placed at the line's top where it may stand there and leaves that much room; else, and
+-- where an earlier float waits, it waits (our own reading)
+abbrev pub meet : InlineContext → Line → ℤ → Met → ℕ → Met
+meet c line held met at = at_spot (float_spot c met.floats line.least line.top at)
+  where
+    by_room : Spot ℤ → Met → Met
+    by_room spot placed = elim ((length met.waiting == 0) && int_eq spot.y line.top && fits held (band_at placed.floats c.cb line.top line.tall)) [ true ↦ placed | false ↦ record met { waiting = met.waiting ++ at ∷ [] } ]
+
+    at_spot : Spot ℤ → Met
+    at_spot spot = by_room spot (with_float c met at spot)
+
+-- the floats met in the first n stretches, and those before
+abbrev pub met_after : InlineContext → Line → ℕ → Met
+met_after c line zero = line.before
+met_after c line (suc n) = fold (meet c line (width_held c (first_items line (suc n)))) (met_after c line n) (floats_met c.tree n (slice_index_or line.parts n []))
+
+-- the first k stretches fit beside the floats met in those before the last, and no forced break stands before it
+abbrev pub may_hold : InlineContext → Line → ℕ → Bool
+may_hold c line k =
+    fits (width_held c (first_items line k)) (band_at (met_after c line (k - 1)).floats c.cb line.top line.tall)
+    && not (list_any is_forced (first_items line (k - 1)))
+
+-- a line holds the longest list of stretches such that each of its beginnings of two and more may stand on it; the first stretch it holds in any case
+abbrev pub stretches_held : InlineContext → Line → ℕ
+stretches_held c line = suc (prefix_len (may_hold c line) (range_with_len 2 (length line.parts - 1)))

@@ -1,0 +1,148 @@
+-- The lines of a block container (CSS 2.1, 9.4.2, 9.5, 10.8, 16.2).
+use Rattle.std.specs.Prelude.{ℕ, zero, suc, ◌==◌, ℤ, pos, ◌+ℤ◌, ◌-ℤ◌, Bool, true, false, not, List, [], ◌∷◌, ◌++◌, length, drop, filter, fold, Option, Some, None}
+use Rattle.std.specs.Int.{int_max}
+use Rattle.std.specs.List.{flat_map, list_any}
+use Rattle.viz_base.specs.Numbers.{floor_of}
+use Rattle.viz_base.specs.declared.layouts.Band.{Band}
+use Rattle.viz_base.specs.declared.layouts.Inner.{Inner}
+use Rattle.viz_base.specs.declared.styles.Align.{Align}
+use Rattle.viz_base.specs.declared.styles.Align.TheVariants as of_align
+use Rattle.viz_base.specs.declared.styles.Style.{Style}
+use Rattle.viz_base.specs.declared.trees.BoxTree.{BoxTree}
+use Rattle.viz_base.specs.declared.trees.Kind.TheVariants as of_kind
+use Rattle.viz_base.specs.declared.worlds.World.{World}
+use Rattle.std.specs.Option.{option_map_or}
+use Rattle.layout_semantics.specs.Blocks.{node_of, plain_box, style_of}
+use Rattle.layout_semantics.specs.Floats.{FloatBox, band_at}
+use Rattle.layout_semantics.specs.InlineContent.{Item, start, finish, content, float_boxes, makes_line}
+use Rattle.layout_semantics.specs.Stretches.{stretches, what_stays}
+use Rattle.layout_semantics.specs.LineHeights.{InlineContext, LineExtent, height_of_extent, line_extent, extended_boxes, tallest}
+use Rattle.layout_semantics.specs.LineFilling.{Met, Line, band_width, width_held, place_each, line_top, before_line, met_after, first_items, stretches_held}
+use Rattle.layout_semantics.specs.Fragments.{Entry, here, set_out, SetLine, line_entries, float_entry}
+
+-- ---- between lines
+
+-- what the lines so far leave: where the next one begins, the highest top that its floats may have, the floats of the context, the inline boxes
+-- that are open, outermost first, the last line's baseline, and the entries
+pub record SoFar : Type 0 where
+  pub y : ℤ
+  pub least : ℤ
+  pub floats : List FloatBox
+  pub opened : List ℕ
+  pub baseline : Option ℤ
+  pub entries : List Entry
+
+-- the inline boxes that are open after an item
+abbrev pub opened_after : List ℕ → Item → List ℕ
+opened_after opened (start at) = opened ++ at ∷ []
+opened_after opened (finish at) = filter (λ other. not (other == at)) opened
+opened_after opened _ = opened
+
+-- ---- the next line
+
+-- its floats that stand before anything on it are placed first, from where it begins; then its top is found
+abbrev pub next_line : InlineContext → ℤ → SoFar → List Item → List (List Item) → Line
+next_line c tall now first parts = at_top (place_each c now.least now.y (record { spots = []; floats = now.floats; waiting = [] }) (float_boxes (before_line c.tree first)))
+  where
+    at_top : Met → Line
+    at_top met = record { top = line_top c met.floats now.y tall (width_held c first); tall = tall; least = now.least; before = met; parts = parts }
+
+-- ---- a line that exists
+
+-- how far a line's content is moved to the right, where there is room (CSS 2.1, 16.2); in the middle by half the room, rounded down (our own reading)
+abbrev pub aligned : Align → ℤ → ℤ
+aligned of_align.Left room = pos 0
+aligned of_align.Right room = int_max (pos 0) room
+aligned of_align.Center room = floor_of (int_max (pos 0) room) 2
+
+abbrev pub align_of : BoxTree → ℕ → Align
+align_of tree at = option_map_or (λ (s : Style). s.align) (style_of tree at) of_align.Left
+
+-- a line box: from edge to edge of what the floats leave, and from its highest to its lowest box
+abbrev pub line_box : InlineContext → Band ℤ → ℤ → ℤ → Entry
+line_box c room top bottom = here (plain_box of_kind.Line (node_of c.tree c.container) (record { left = room.left; top = top; right = room.right; bottom = bottom }))
+
+-- the line with its content set out in the room that its floats leave
+abbrev pub content_left : InlineContext → Band ℤ → ℤ → ℤ
+content_left c room held = room.left +ℤ aligned (align_of c.tree c.container) (band_width room -ℤ held)
+
+abbrev pub set_line : InlineContext → ℤ → ℤ → ℤ → List Item → Met → SetLine
+set_line c baseline left held items late = record { baseline = baseline; left = left; right = left +ℤ held; places = set_out c left (what_stays items); spots = late.spots }
+
+-- the line holds the items, and the floats were met that don't wait; those that wait are placed from its bottom on
+abbrev pub after_line : InlineContext → SoFar → Line → List Item → Met → SoFar
+after_line c now line items met = with_extent (line_extent c (now.opened ++ extended_boxes items))
+  where
+    finished : LineExtent → Band ℤ → Met → SoFar
+    finished e room late = record {
+      y = line.top +ℤ height_of_extent e;
+      least = int_max now.least line.top;
+      floats = late.floats;
+      opened = fold opened_after now.opened items;
+      baseline = Some (line.top +ℤ e.above);
+      entries = now.entries ++ (line_box c room line.top (line.top +ℤ height_of_extent e)
+          ∷ line_entries c (set_line c (line.top +ℤ e.above) (content_left c room (width_held c items)) (width_held c items) items late) now.opened);
+    }
+
+    with_extent : LineExtent → SoFar
+    with_extent e = finished e (band_at met.floats c.cb line.top line.tall)
+        (place_each c (int_max now.least line.top) (line.top +ℤ height_of_extent e) (record met { waiting = [] }) met.waiting)
+
+-- ---- a line that doesn't exist
+
+-- it has no height and no entry; its floats are placed from where it would begin (CSS 2.1, 9.4.2)
+abbrev pub after_no_line : InlineContext → SoFar → List Item → SoFar
+after_no_line c now items = with_floats (place_each c now.least now.y (record { spots = []; floats = now.floats; waiting = [] }) (float_boxes items))
+  where
+    with_floats : Met → SoFar
+    with_floats met = record now { floats = met.floats; opened = fold opened_after now.opened items; entries = now.entries ++ flat_map (float_entry met.spots) (float_boxes items) }
+
+-- ---- all lines
+
+abbrev pub after_stretches : InlineContext → SoFar → Line → ℕ → SoFar
+after_stretches c now line n = by_existence (list_any (makes_line c.tree) (first_items line n))
+  where
+    by_existence : Bool → SoFar
+    by_existence true = after_line c now line (first_items line n) (met_after c line n)
+    by_existence false = after_no_line c now (first_items line n)
+
+-- what the next line leaves, and the stretches after it
+abbrev pub after_next : InlineContext → ℤ → SoFar → List Item → List (List Item) → SoFar × List (List Item)
+after_next c tall now first parts = with_line (next_line c tall now first parts)
+  where
+    with_count : Line → ℕ → SoFar × List (List Item)
+    with_count line n = (after_stretches c now line n, drop n parts)
+
+    with_line : Line → SoFar × List (List Item)
+    with_line line = with_count line (stretches_held c line)
+
+abbrev pub go_on : (SoFar → List (List Item) → SoFar) → SoFar × List (List Item) → SoFar
+go_on rest next = rest next.0 next.1
+
+-- the lines of these stretches, at most so many
+unfoldable pub lines_to : ℕ → InlineContext → ℤ → SoFar → List (List Item) → SoFar
+lines_to zero c tall now parts = now
+lines_to (suc lines) c tall now [] = now
+lines_to (suc lines) c tall now (first ∷ parts) = go_on (lines_to lines c tall) (after_next c tall now first (first ∷ parts))
+
+-- the lines of a block container, with their floats and their last baseline
+pub record LineList : Type 0 where
+  pub entries : List Entry
+  pub bottom : ℤ
+  pub baseline : Option ℤ
+  pub floats : List FloatBox
+
+-- from y on, in a block formatting context with these floats, none of the lines' floats having its top above `least`; each line holds one
+-- stretch at least, so there are no more lines than stretches
+abbrev pub lines_in : InlineContext → ℤ → ℤ → List FloatBox → LineList
+lines_in c y least floats = listed (lines_of (stretches c.tree (content c.tree c.container)))
+  where
+    lines_of : List (List Item) → SoFar
+    lines_of parts = lines_to (length parts) c (tallest c) (record { y = y; least = least; floats = floats; opened = []; baseline = None; entries = [] }) parts
+
+    listed : SoFar → LineList
+    listed end = record { entries = end.entries; bottom = end.y; baseline = end.baseline; floats = end.floats }
+
+-- of a box of a tree, the outer sizes of its floats and atomic boxes being `inner`
+abbrev pub lines : BoxTree → World → ℕ → List (Inner ℤ) → Band ℤ → ℤ → ℤ → List FloatBox → LineList
+lines tree w at inner cb y least floats = lines_in (record { tree = tree; world = w; container = at; inner = inner; cb = cb }) y least floats
