@@ -11,3 +11,6 @@ pub mod Declarations
 pub mod Rules
 pub mod Answers
 pub mod Names
+pub mod OrderLemmas
+pub mod TableLemmas
+pub mod OneAnswer

@@ -11,3 +11,8 @@ pub mod SelectorTerminals
 pub mod SelectorGrammar
 pub mod Matching
 pub mod Specificity
+pub mod Properties
+pub mod ValuesParts
+pub mod Values
+pub mod Shorthands
+pub mod ValuesLaws

@@ -1,13 +1,22 @@
-//! What the tokens of a style sheet are and what they spell (CSS 2.1, 4.1 and 4.2): definitions that the contracts of other
-//! crates cite, and their laws.
+//! What the tokens of a style sheet are and what they spell (CSS 2.1, 4.1 and 4.2), what a selector matches (chapter 5), what
+//! the value of a declaration says, and which declaration wins (6.4): definitions that the contracts of other crates cite,
+//! and their laws.
 #![tactic(auto)]
 
+mod claims;
 mod laws;
+mod parts;
 mod sheets;
 mod statements;
 mod terminals;
+mod value_laws;
+mod winners;
 
+pub use claims::{Claim, Origin, Ranked, Ruleset, Standing, Weight};
 pub use laws::{escapes_resolve, ids_are_identifiers, tokens_are_unique, tokens_join};
+pub use parts::{Part, Refusal, Shorthand, Takes};
 pub use sheets::{one_list_of_declarations, one_sheet, one_stretch};
 pub use statements::Statement;
 pub use terminals::{Comparison, Pseudo, Terminal};
+pub use value_laws::{fewer_sides, one_answer, settings_in_order, values_by_the_table};
+pub use winners::{one_specificity, one_winner};
