@@ -7,3 +7,7 @@ pub mod Tokens
 pub mod SheetsMarks
 pub mod SheetsReading
 pub mod SheetsGrammar
+pub mod Properties
+pub mod ValuesParts
+pub mod Values
+pub mod Shorthands

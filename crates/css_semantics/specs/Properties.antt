@@ -1,0 +1,136 @@
+-- The table of the properties that have an effect on layout: what each takes, its initial value, and whether it inherits.
+use Rattle.std.specs.Prelude.{ℕ, ℤ, pos, ◌==◌, Bool, true, false, List, [], ◌∷◌, ◌++◌, map, Option, Some, None, option_map, if◌then◌else◌, codes}
+use Rattle.std.specs.List.{find}
+use Rattle.std.specs.Str.{bytes_eq}
+use Rattle.std.specs.Char.{to_ascii_lowercase}
+use Prim.Native.String.{String}
+use Rattle.viz_base.specs.declared.settings.Prop.{Prop}
+use Rattle.viz_base.specs.declared.settings.Prop.TheVariants.{Display, Position, Float, Clear, Overflow, Direction, Width, Height, MinWidth, MinHeight, MaxWidth, MaxHeight, MarginTop, MarginRight, MarginBottom, MarginLeft, PaddingTop, PaddingRight, PaddingBottom, PaddingLeft, BorderTopWidth, BorderRightWidth, BorderBottomWidth, BorderLeftWidth, BorderTopStyle, BorderRightStyle, BorderBottomStyle, BorderLeftStyle, FontSize, FontFamily, LineHeight, VerticalAlign, TextAlign, WhiteSpace, TextIndent, LetterSpacing, WordSpacing, TextTransform, ListStylePosition}
+use Rattle.viz_base.specs.declared.settings.Value.{Value}
+use Rattle.viz_base.specs.declared.settings.Value.TheVariants.{Word, Px, Names}
+
+-- ---- names
+
+-- two names in any ASCII case (CSS 2.1, 4.1.3)
+abbrev pub same_name : List ℕ → List ℕ → Bool
+same_name a b = bytes_eq (map to_ascii_lowercase a) (map to_ascii_lowercase b)
+
+-- the words between the spaces of a text
+abbrev pub before_words : ℕ → List (List ℕ) → List (List ℕ)
+before_words c [] = (c ∷ []) ∷ []
+before_words c (w ∷ ws) = (c ∷ w) ∷ ws
+
+abbrev pub each_word : List ℕ → List (List ℕ)
+each_word [] = [] ∷ []
+each_word (c ∷ cs) = if c == 32 then [] ∷ each_word cs else before_words c (each_word cs)
+
+-- ---- rows
+
+-- which amounts of a kind a property takes
+pub data Takes : Type 0 where
+  nothing : Takes
+  all : Takes
+  -- all but those below zero
+  not_negative : Takes
+  -- zero alone: any other is refused by name
+  zero_alone : Takes
+
+pub record Row : Type 0 where
+  pub name : List ℕ
+  -- the keywords that are accepted, in the order in which their places are counted
+  pub words : List (List ℕ)
+  -- the keywords that are refused by name
+  pub refused : List (List ℕ)
+  pub lengths : Takes
+  pub percentages : Takes
+  -- numbers without a unit
+  pub numbers : Takes
+  -- whether the value is a list of names of font families
+  pub families : Bool
+  pub initial : Value
+  pub inherits : Bool
+
+-- Each property also takes `inherit` (CSS 2.1, 6.2.1).
+
+-- a property with keywords alone
+abbrev pub keywords : String → List (List ℕ) → List (List ℕ) → ℕ → Bool → Row
+keywords name words refused initial inherits = record { name = codes name; words = words; refused = refused; lengths = nothing; percentages = nothing; numbers = nothing; families = false; initial = Word initial; inherits = inherits }
+
+-- one with amounts, which doesn't inherit
+abbrev pub measured : String → List (List ℕ) → Takes → Takes → Value → Row
+measured name words lengths percentages initial = record { name = codes name; words = words; refused = []; lengths = lengths; percentages = percentages; numbers = nothing; families = false; initial = initial; inherits = false }
+
+abbrev pub line_styles : List (List ℕ)
+line_styles = each_word (codes "none hidden dotted dashed solid double groove ridge inset outset")
+
+abbrev pub line_widths : List (List ℕ)
+line_widths = each_word (codes "thin medium thick")
+
+abbrev pub size_words : List (List ℕ)
+size_words = each_word (codes "xx-small x-small small medium large x-large xx-large larger smaller")
+
+abbrev pub table_words : List (List ℕ)
+table_words = each_word (codes "table inline-table table-row table-row-group table-header-group table-footer-group table-column table-column-group table-cell table-caption")
+
+abbrev pub zero : Value
+zero = Px (pos 0)
+
+-- The rows of the properties of CSS 2.1, 8.3 to 8.5, 9.2.4, 9.3.1, 9.5, 9.10, 10.2 to 10.8, 11.1.1, 12.5, 15.3, 15.7 and
+-- 16.1 to 16.6. What is refused by name is this project's own choice.
+abbrev pub row : Prop → Row
+row Display = keywords "display" (each_word (codes "none block inline inline-block list-item")) table_words 2 false
+row Position = keywords "position" (each_word (codes "static")) (each_word (codes "relative absolute fixed")) 0 false
+row Float = keywords "float" (each_word (codes "none left right")) [] 0 false
+row Clear = keywords "clear" (each_word (codes "none left right both")) [] 0 false
+row Overflow = keywords "overflow" (each_word (codes "visible hidden scroll auto")) [] 0 false
+row Direction = keywords "direction" (each_word (codes "ltr")) (each_word (codes "rtl")) 0 true
+row Width = measured "width" (each_word (codes "auto")) not_negative not_negative (Word 0)
+row Height = measured "height" (each_word (codes "auto")) not_negative not_negative (Word 0)
+row MinWidth = measured "min-width" [] not_negative not_negative zero
+row MinHeight = measured "min-height" [] not_negative not_negative zero
+row MaxWidth = measured "max-width" (each_word (codes "none")) not_negative not_negative (Word 0)
+row MaxHeight = measured "max-height" (each_word (codes "none")) not_negative not_negative (Word 0)
+row MarginTop = measured "margin-top" (each_word (codes "auto")) all all zero
+row MarginRight = measured "margin-right" (each_word (codes "auto")) all all zero
+row MarginBottom = measured "margin-bottom" (each_word (codes "auto")) all all zero
+row MarginLeft = measured "margin-left" (each_word (codes "auto")) all all zero
+row PaddingTop = measured "padding-top" [] not_negative not_negative zero
+row PaddingRight = measured "padding-right" [] not_negative not_negative zero
+row PaddingBottom = measured "padding-bottom" [] not_negative not_negative zero
+row PaddingLeft = measured "padding-left" [] not_negative not_negative zero
+row BorderTopWidth = measured "border-top-width" line_widths not_negative nothing (Word 1)
+row BorderRightWidth = measured "border-right-width" line_widths not_negative nothing (Word 1)
+row BorderBottomWidth = measured "border-bottom-width" line_widths not_negative nothing (Word 1)
+row BorderLeftWidth = measured "border-left-width" line_widths not_negative nothing (Word 1)
+row BorderTopStyle = keywords "border-top-style" line_styles [] 0 false
+row BorderRightStyle = keywords "border-right-style" line_styles [] 0 false
+row BorderBottomStyle = keywords "border-bottom-style" line_styles [] 0 false
+row BorderLeftStyle = keywords "border-left-style" line_styles [] 0 false
+row FontSize = record (measured "font-size" size_words not_negative not_negative (Word 3)) { inherits = true }
+-- the initial value names no family: the first font of the job follows
+row FontFamily = record (measured "font-family" [] nothing nothing (Names [])) { families = true; inherits = true }
+row LineHeight = record (measured "line-height" (each_word (codes "normal")) not_negative not_negative (Word 0)) { numbers = not_negative; inherits = true }
+row VerticalAlign = record (measured "vertical-align" (each_word (codes "baseline sub super middle")) all all (Word 0)) { refused = each_word (codes "top bottom text-top text-bottom") }
+row TextAlign = keywords "text-align" (each_word (codes "left right center justify")) [] 0 true
+row WhiteSpace = keywords "white-space" (each_word (codes "normal nowrap")) (each_word (codes "pre pre-wrap pre-line")) 0 true
+row TextIndent = record (measured "text-indent" [] zero_alone zero_alone zero) { inherits = true }
+row LetterSpacing = record (measured "letter-spacing" (each_word (codes "normal")) zero_alone nothing (Word 0)) { inherits = true }
+row WordSpacing = record (measured "word-spacing" (each_word (codes "normal")) zero_alone nothing (Word 0)) { inherits = true }
+row TextTransform = keywords "text-transform" (each_word (codes "none")) (each_word (codes "capitalize uppercase lowercase")) 0 true
+row ListStylePosition = keywords "list-style-position" (each_word (codes "outside")) (each_word (codes "inside")) 0 true
+
+-- the properties in the order of the table
+abbrev pub properties : List Prop
+properties =
+    Display ∷ Position ∷ Float ∷ Clear ∷ Overflow ∷ Direction
+    ∷ Width ∷ Height ∷ MinWidth ∷ MinHeight ∷ MaxWidth ∷ MaxHeight
+    ∷ MarginTop ∷ MarginRight ∷ MarginBottom ∷ MarginLeft
+    ∷ PaddingTop ∷ PaddingRight ∷ PaddingBottom ∷ PaddingLeft
+    ∷ BorderTopWidth ∷ BorderRightWidth ∷ BorderBottomWidth ∷ BorderLeftWidth
+    ∷ BorderTopStyle ∷ BorderRightStyle ∷ BorderBottomStyle ∷ BorderLeftStyle
+    ∷ FontSize ∷ FontFamily ∷ LineHeight ∷ VerticalAlign ∷ TextAlign ∷ WhiteSpace
+    ∷ TextIndent ∷ LetterSpacing ∷ WordSpacing ∷ TextTransform ∷ ListStylePosition ∷ []
+
+-- the property of this name
+abbrev pub property_named : List ℕ → Option Prop
+property_named name = find (λ p. same_name name (row p).name) properties

@@ -1,0 +1,124 @@
+-- What the value of a declaration says by the table of properties.
+use Rattle.std.specs.Prelude.{ℕ, ℤ, pos, negsuc, ◌+◌, ◌==◌, Bool, true, false, ◌||◌, List, [], ◌∷◌, ◌++◌, map, Option, Some, None, Result, Ok, Err, option_map, if◌then◌else◌, codes, int_div}
+use Rattle.std.specs.List.{list_any}
+use Rattle.viz_base.specs.declared.settings.Prop.{Prop}
+use Rattle.viz_base.specs.declared.settings.Value.{Value}
+use Rattle.viz_base.specs.declared.settings.Value.TheVariants as value
+use Rattle.viz_base.specs.declared.settings.Setting.{Setting}
+use Rattle.css_semantics.specs.declared.parts.Part.{Part}
+use Rattle.css_semantics.specs.declared.parts.Part.TheVariants as part
+use Rattle.css_semantics.specs.Properties.{Takes, nothing, all, not_negative, zero_alone, same_name, row}
+
+-- Why a declaration gives no setting: it is dropped (CSS 2.1, 4.2), or it is refused by name.
+pub data Refusal : Type 0 where
+  ignored : Refusal
+  unsupported : Prop → Refusal
+
+abbrev pub then_on : {A B : Type 0} → Result A Refusal → (A → Result B Refusal) → Result B Refusal
+then_on (Ok x) f = f x
+then_on (Err refusal) f = Err refusal
+
+abbrev pub setting : Prop → Value → Setting
+setting p v = record { prop = p; value = v }
+
+-- ---- one part
+
+-- the place of a keyword among those of a property
+abbrev pub place_of : List ℕ → List (List ℕ) → Option ℕ
+place_of word [] = None
+place_of word (w ∷ ws) = if same_name word w then Some 0 else option_map (λ n. n + 1) (place_of word ws)
+
+abbrev pub placed : Prop → List ℕ → Option ℕ → Result Value Refusal
+placed p word (Some place) = Ok (value.Word place)
+placed p word None = if list_any (same_name word) (row p).refused then Err (unsupported p) else Err ignored
+
+abbrev pub word_value : Prop → List ℕ → Result Value Refusal
+word_value p word = placed p word (place_of word (row p).words)
+
+abbrev pub is_negative : ℤ → Bool
+is_negative (pos n) = false
+is_negative (negsuc n) = true
+
+abbrev pub is_zero : ℤ → Bool
+is_zero (pos n) = n == 0
+is_zero (negsuc n) = false
+
+-- A value that a number gives, judged by what the property takes. Whether it is negative is asked of the number as it is
+-- written, and whether it is zero of what it comes to.
+abbrev pub judged : Prop → Takes → ℤ → ℤ → Value → Result Value Refusal
+judged p nothing written n v = Err ignored
+judged p all written n v = Ok v
+judged p not_negative written n v = if is_negative written then Err ignored else Ok v
+judged p zero_alone written n v = if is_zero n then Ok v else Err (unsupported p)
+
+-- A number without a unit is a length where it is zero and the property takes no numbers (CSS 2.1, 4.3.2).
+abbrev pub number_value : Prop → Takes → ℤ → Result Value Refusal
+number_value p nothing n = if is_zero n then judged p (row p).lengths n n (value.Px n) else Err ignored
+number_value p takes n = judged p takes n n (value.Number n)
+
+-- `1ex` is half an `em`, and an odd count of millionths loses its last one (our own reading).
+abbrev pub half : ℤ → ℤ
+half n = int_div n (pos 2)
+
+-- the value that a part gives a property
+abbrev pub part_value : Prop → Part → Result Value Refusal
+part_value p (part.Word word) = word_value p word
+part_value p (part.Number n) = number_value p (row p).numbers n
+part_value p (part.Percentage n) = judged p (row p).percentages n n (value.Pct n)
+part_value p (part.Px n) = judged p (row p).lengths n n (value.Px n)
+part_value p (part.Em n) = judged p (row p).lengths n n (value.Em n)
+part_value p (part.Ex n) = judged p (row p).lengths n (half n) (value.Em (half n))
+part_value p (part.Quoted text) = Err ignored
+part_value p part.Comma = Err ignored
+part_value p part.Solidus = Err ignored
+part_value p part.Colour = Err ignored
+part_value p part.Other = Err ignored
+
+-- ---- names of font families (CSS 2.1, 15.3)
+
+abbrev pub with_name : List ℕ → Option (List (List ℕ)) → Option (List (List ℕ))
+with_name name names = option_map (λ ns. name ∷ ns) names
+
+abbrev mutual
+  -- Names with commas between them. A name is a string, or identifiers, which are joined by a space.
+  pub families : List Part → Option (List (List ℕ))
+  families (part.Quoted name ∷ ps) = with_name name (after_family ps)
+  families (part.Word name ∷ ps) = family_from name ps
+  families _ = None
+
+  pub after_family : List Part → Option (List (List ℕ))
+  after_family [] = Some []
+  after_family (part.Comma ∷ ps) = families ps
+  after_family _ = None
+
+  pub family_from : List ℕ → List Part → Option (List (List ℕ))
+  family_from name [] = Some (name ∷ [])
+  family_from name (part.Comma ∷ ps) = with_name name (families ps)
+  family_from name (part.Word more ∷ ps) = family_from (name ++ 32 ∷ more) ps
+  family_from name _ = None
+
+-- ---- whole values
+
+-- whether a part is this word
+abbrev pub is_keyword : List ℕ → Part → Bool
+is_keyword word (part.Word w) = same_name w word
+is_keyword word _ = false
+
+abbrev pub is_inherit : List Part → Bool
+is_inherit (p ∷ []) = is_keyword (codes "inherit") p
+is_inherit _ = false
+
+abbrev pub families_of : Option (List (List ℕ)) → Result Value Refusal
+families_of None = Err ignored
+families_of (Some names) = Ok (value.Names names)
+
+abbrev pub one_part : Prop → List Part → Result Value Refusal
+one_part p (a ∷ []) = part_value p a
+one_part p _ = Err ignored
+
+abbrev pub whole_value : Prop → List Part → Result Value Refusal
+whole_value p ps = if is_inherit ps then Ok value.Inherit else (if (row p).families then families_of (families ps) else one_part p ps)
+
+-- what the value of a property of the table gives
+abbrev pub longhand : Prop → List Part → Result (List Setting) Refusal
+longhand p ps = then_on (whole_value p ps) (λ v. Ok (setting p v ∷ []))

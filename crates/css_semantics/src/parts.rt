@@ -1,0 +1,44 @@
+use viz_base::Text;
+
+/// A part of the value of a declaration (CSS 2.1, 4.3 and 1.4.2.1).
+#[derive(Debug, Drop, PartialEq, Eq)]
+pub enum Part {
+    /// An identifier, after escapes.
+    Word(Text),
+    /// What a string says.
+    Quoted(Text),
+    /// A number without a unit, in millionths.
+    Number(i64),
+    /// A percentage, in millionths.
+    Percentage(i64),
+    /// An absolute length, in units of 1/64 px.
+    Px(i64),
+    /// A length in millionths of an `em`.
+    Em(i64),
+    /// A length in millionths of an `ex`.
+    Ex(i64),
+    /// A comma.
+    Comma,
+    /// A `/`.
+    Solidus,
+    /// What can be a colour alone: a `#` with a name, or a function with matched brackets.
+    Colour,
+    /// What no property of the table takes.
+    Other,
+}
+
+/// The shorthand properties (CSS 2.1, 1.4.3).
+#[derive(Clone, Copy, Debug, PartialEq, Eq)]
+pub enum Shorthand {
+    Margin,
+    Padding,
+    BorderWidth,
+    BorderStyle,
+    Border,
+    BorderTop,
+    BorderRight,
+    BorderBottom,
+    BorderLeft,
+    Font,
+    ListStyle,
+}
