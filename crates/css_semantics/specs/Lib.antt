@@ -11,3 +11,5 @@ pub mod Properties
 pub mod ValuesParts
 pub mod Values
 pub mod Shorthands
+pub mod CascadeOrder
+pub mod CascadeNodes

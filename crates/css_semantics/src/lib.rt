@@ -2,11 +2,13 @@
 //! says: definitions that the contracts of other crates cite, and their laws.
 #![tactic(auto)]
 
+mod claims;
 mod laws;
 mod parts;
 mod sheets;
 mod statements;
 
+pub use claims::{Claim, Origin, Ranked, Ruleset, Standing, Weight};
 pub use laws::{escapes_resolve, tokens_are_unique, tokens_join};
 pub use parts::{Part, Shorthand};
 pub use sheets::{one_list_of_declarations, one_sheet, one_stretch};
