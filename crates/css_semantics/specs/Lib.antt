@@ -11,5 +11,12 @@ pub mod Properties
 pub mod ValuesParts
 pub mod Values
 pub mod Shorthands
+pub mod SelectorTerminals
+pub mod SelectorGrammar
+pub mod Matching
+pub mod Specificity
+pub mod DefaultSheet
 pub mod CascadeOrder
+pub mod CascadeReading
 pub mod CascadeNodes
+pub mod Cascade

@@ -7,9 +7,11 @@ mod laws;
 mod parts;
 mod sheets;
 mod statements;
+mod terminals;
 
 pub use claims::{Claim, Origin, Ranked, Ruleset, Standing, Weight};
 pub use laws::{escapes_resolve, tokens_are_unique, tokens_join};
 pub use parts::{Part, Shorthand};
 pub use sheets::{one_list_of_declarations, one_sheet, one_stretch};
 pub use statements::Statement;
+pub use terminals::{Comparison, Pseudo, Terminal};

@@ -1,0 +1,40 @@
+-- How specific a selector is (CSS 2.1, 6.4.3).
+use Rattle.std.specs.Prelude.{ℕ, ◌+◌, ◌<◌, ◌^◌, Bool, true, false, not, List, length, map, sum, Option, Some, None}
+use Rattle.std.specs.List.{count_by}
+use Rattle.viz_base.specs.declared.selectors.Compound.{Compound}
+use Rattle.viz_base.specs.declared.selectors.Join.{Join}
+use Rattle.viz_base.specs.declared.selectors.Spec.{Spec}
+use Rattle.viz_base.specs.declared.selectors.Test.{Test}
+use Rattle.viz_base.specs.declared.selectors.Test.TheVariants as of_test
+
+abbrev pub is_id : Test → Bool
+is_id (of_test.Id value) = true
+is_id _ = false
+
+abbrev pub has_tag : Option (List ℕ) → Bool
+has_tag None = false
+has_tag (Some tag) = true
+
+-- the ids in a selector
+abbrev pub ids : List (Join × Compound) → ℕ
+ids parts = sum (map (λ p. count_by is_id p.1.tests) parts)
+
+-- its attributes, classes and pseudo-classes: all its other tests
+abbrev pub others : List (Join × Compound) → ℕ
+others parts = sum (map (λ p. count_by (λ test. not (is_id test)) p.1.tests) parts)
+
+-- its tags
+abbrev pub tags : List (Join × Compound) → ℕ
+tags parts = count_by (λ p. has_tag p.1.tag) parts
+
+-- no selector is a style attribute
+abbrev pub spec_of : List (Join × Compound) → Spec
+spec_of parts = record { style = 0; ids = ids parts; attrs = others parts; types = tags parts }
+
+-- the simple selectors and the tests of a selector together
+abbrev pub size_of : List (Join × Compound) → ℕ
+size_of parts = length parts + sum (map (λ p. length p.1.tests) parts)
+
+-- they are so few that a u32 counts them
+abbrev pub IsCountable : List (Join × Compound) → Type 0
+IsCountable parts = size_of parts < 2 ^ 32
