@@ -1,1 +1,6 @@
 pub mod Winners
+pub mod Reaching
+pub mod Rulesets
+pub mod Matchings
+pub mod Applies
+pub mod Walks

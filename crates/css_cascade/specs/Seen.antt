@@ -1,7 +1,8 @@
 -- What the code's references stand for, and its loops.
 use Rattle.std.specs.Prelude.{List, [], ◌∷◌, map, Option, Some, None, option_map, if◌then◌else◌}
+use Rattle.std.specs.declared.cmp.Ordering.{Ordering}
 use Rattle.viz_base.specs.declared.settings.Prop.{Prop}
-use Rattle.css_semantics.specs.CascadeOrder.{Applied, applied, later_of, cascade_cmp, is_prop}
+use Rattle.css_semantics.specs.CascadeOrder.{Applied, applied, greatest, greatest_from, later_of, cascade_cmp, is_prop}
 use Rattle.css_cascade.specs.declared.order.Applied.{Applied as Held}
 
 -- what applies to a node, apart from where it lies in memory
@@ -19,3 +20,8 @@ winner_with p best a = if is_prop a.claim.prop p then Some (later_or best a) els
 abbrev pub winner_on : Prop → Option Applied → List Applied → Option Applied
 winner_on p best [] = best
 winner_on p best (a ∷ all) = winner_on p (winner_with p best a) all
+
+-- the greatest so far and of the rest
+abbrev pub greatest_on : {A : Type 0} → (A → A → Ordering) → Option A → List A → Option A
+greatest_on cmp None xs = greatest cmp xs
+greatest_on cmp (Some best) xs = Some (greatest_from cmp best xs)

@@ -1,10 +1,18 @@
 ghost use Rattle.std.specs.Prelude.{◌≡◌, ◌++◌, map, flat_map, option_map, IfOk};
+ghost use Rattle.std.specs.List.{list_any};
 ghost use Rattle.std.specs.Option.{option_to_list};
 ghost use Rattle.css_semantics.specs.CascadeNodes.{around_root, first_refused, has_size, hides, is_above_zero, is_hidden, is_limit, is_refused, is_replaced, sets_limit, sets_max_height, sets_min_height, sets_min_width, set_by, settings_by, settings_of, standing_around, standing_of};
 
 use css_semantics::{Claim, Standing};
 use std::alloc::Global;
 use viz_base::{Body, List, Mem, Prop, Setting, Value};
+
+/// A number of a node or of a sheet. Of `2^32` and more it may not fit, which counts as want of memory.
+pub fn number(at: usize) -> Result<u32, Mem>
+    ensures { IfOk result (λ n. n ≡ at) }
+{
+    u32::try_from(at).map_err(|_| Mem)
+}
 
 /// What the root takes: nothing around it hides it, and `inherit` is the initial value there.
 const AROUND_ROOT: Standing = Standing {
@@ -109,11 +117,22 @@ fn hides(claim: &Claim) -> bool
     claim.prop == Prop::Display && matches!(claim.value, Some(Value::Word(0)))
 }
 
+fn has_hiding(winners: &[&Claim]) -> bool
+    ensures { result ≡ list_any hides (map (λ c. c.now) winners.now) }
+{
+    for winner in winners {
+        if hides(winner) {
+            return true;
+        }
+    }
+    false
+}
+
 /// Whether a node with these winners is hidden (CSS 2.1, 9.2.4).
 pub fn is_hidden(outer: Standing, winners: &[&Claim]) -> bool
     ensures { result ≡ is_hidden outer (map (λ c. c.now) winners.now) }
 {
-    outer.hidden || winners.iter().any(|winner| hides(winner))
+    outer.hidden || has_hiding(winners)
 }
 
 /// A value of its own.
@@ -170,15 +189,33 @@ pub fn settings_of(
     Ok(settings)
 }
 
+fn has_min_width(outer: Standing, settings: &[Setting]) -> bool
+    ensures { result ≡ list_any (λ s. sets_min_width outer s.prop s.value) settings.now }
+{
+    settings.iter().any(|s| sets_min_width(outer, s.prop, &s.value))
+}
+
+fn has_min_height(outer: Standing, settings: &[Setting]) -> bool
+    ensures { result ≡ list_any (λ s. sets_min_height outer s.prop s.value) settings.now }
+{
+    settings.iter().any(|s| sets_min_height(outer, s.prop, &s.value))
+}
+
+fn has_max_height(outer: Standing, settings: &[Setting]) -> bool
+    ensures { result ≡ list_any (λ s. sets_max_height outer s.prop s.value) settings.now }
+{
+    settings.iter().any(|s| sets_max_height(outer, s.prop, &s.value))
+}
+
 /// What those inside a node take from it.
-pub fn standing_of(outer: Standing, hidden: bool, settings: &List<Setting>) -> Standing
+pub fn standing_of(outer: Standing, hidden: bool, settings: &[Setting]) -> Standing
     ensures { result ≡ standing_of outer hidden settings.now }
 {
     Standing {
         hidden,
-        min_width: settings.iter().any(|s| sets_min_width(outer, s.prop, &s.value)),
-        min_height: settings.iter().any(|s| sets_min_height(outer, s.prop, &s.value)),
-        max_height: settings.iter().any(|s| sets_max_height(outer, s.prop, &s.value)),
+        min_width: has_min_width(outer, settings),
+        min_height: has_min_height(outer, settings),
+        max_height: has_max_height(outer, settings),
     }
 }
 

@@ -10,3 +10,4 @@ pub mod Items
 pub mod Declarations
 pub mod Rules
 pub mod Answers
+pub mod Greatest

@@ -6,7 +6,7 @@ use Rattle.std.specs.Ordering.{nat_cmp, on, then_cmp, is_gt, is_lt}
 use Rattle.std.specs.declared.cmp.Ordering.{Ordering}
 use Rattle.viz_base.specs.declared.selectors.Spec.{Spec}
 use Rattle.viz_base.specs.declared.settings.Prop.{Prop}
-use Rattle.viz_base.specs.declared.settings.Prop.TheVariants as of_prop
+use Rattle.viz_base.specs.declared.settings.Prop.TheVariants as prop
 use Rattle.css_semantics.specs.declared.claims.Claim.{Claim}
 use Rattle.css_semantics.specs.declared.claims.Weight.{Weight}
 use Rattle.css_semantics.specs.declared.claims.Weight.TheVariants as of_weight
@@ -64,49 +64,58 @@ cascade_cmp = then_cmp (on (λ a. weight_number a.claim.weight) nat_cmp) (on (λ
 
 -- the place of a property in the table
 abbrev pub place_of : Prop → ℕ
-place_of of_prop.Display = 0
-place_of of_prop.Position = 1
-place_of of_prop.Float = 2
-place_of of_prop.Clear = 3
-place_of of_prop.Overflow = 4
-place_of of_prop.Direction = 5
-place_of of_prop.Width = 6
-place_of of_prop.Height = 7
-place_of of_prop.MinWidth = 8
-place_of of_prop.MinHeight = 9
-place_of of_prop.MaxWidth = 10
-place_of of_prop.MaxHeight = 11
-place_of of_prop.MarginTop = 12
-place_of of_prop.MarginRight = 13
-place_of of_prop.MarginBottom = 14
-place_of of_prop.MarginLeft = 15
-place_of of_prop.PaddingTop = 16
-place_of of_prop.PaddingRight = 17
-place_of of_prop.PaddingBottom = 18
-place_of of_prop.PaddingLeft = 19
-place_of of_prop.BorderTopWidth = 20
-place_of of_prop.BorderRightWidth = 21
-place_of of_prop.BorderBottomWidth = 22
-place_of of_prop.BorderLeftWidth = 23
-place_of of_prop.BorderTopStyle = 24
-place_of of_prop.BorderRightStyle = 25
-place_of of_prop.BorderBottomStyle = 26
-place_of of_prop.BorderLeftStyle = 27
-place_of of_prop.FontSize = 28
-place_of of_prop.FontFamily = 29
-place_of of_prop.LineHeight = 30
-place_of of_prop.VerticalAlign = 31
-place_of of_prop.TextAlign = 32
-place_of of_prop.WhiteSpace = 33
-place_of of_prop.TextIndent = 34
-place_of of_prop.LetterSpacing = 35
-place_of of_prop.WordSpacing = 36
-place_of of_prop.TextTransform = 37
-place_of of_prop.ListStylePosition = 38
+place_of prop.Display = 0
+place_of prop.Position = 1
+place_of prop.Float = 2
+place_of prop.Clear = 3
+place_of prop.Overflow = 4
+place_of prop.Direction = 5
+place_of prop.Width = 6
+place_of prop.Height = 7
+place_of prop.MinWidth = 8
+place_of prop.MinHeight = 9
+place_of prop.MaxWidth = 10
+place_of prop.MaxHeight = 11
+place_of prop.MarginTop = 12
+place_of prop.MarginRight = 13
+place_of prop.MarginBottom = 14
+place_of prop.MarginLeft = 15
+place_of prop.PaddingTop = 16
+place_of prop.PaddingRight = 17
+place_of prop.PaddingBottom = 18
+place_of prop.PaddingLeft = 19
+place_of prop.BorderTopWidth = 20
+place_of prop.BorderRightWidth = 21
+place_of prop.BorderBottomWidth = 22
+place_of prop.BorderLeftWidth = 23
+place_of prop.BorderTopStyle = 24
+place_of prop.BorderRightStyle = 25
+place_of prop.BorderBottomStyle = 26
+place_of prop.BorderLeftStyle = 27
+place_of prop.FontSize = 28
+place_of prop.FontFamily = 29
+place_of prop.LineHeight = 30
+place_of prop.VerticalAlign = 31
+place_of prop.TextAlign = 32
+place_of prop.WhiteSpace = 33
+place_of prop.TextIndent = 34
+place_of prop.LetterSpacing = 35
+place_of prop.WordSpacing = 36
+place_of prop.TextTransform = 37
+place_of prop.ListStylePosition = 38
 
 abbrev pub is_prop : Prop → Prop → Bool
 is_prop p q = place_of p == place_of q
 
--- the winner for a property among the settings that apply, in order
+-- the settings of a property, of all that apply to a node in order
+abbrev pub of_prop : Prop → List Applied → List Applied
+of_prop p all = filter (λ a. is_prop a.claim.prop p) all
+
+-- the winner among them
 abbrev pub winner_of : Prop → List Applied → Option Applied
-winner_of p all = greatest cascade_cmp (filter (λ a. is_prop a.claim.prop p) all)
+winner_of p all = greatest cascade_cmp (of_prop p all)
+
+-- One of them before which none is greater by weight and specificity, and behind which each is less. Greater by weight,
+-- specificity and place is so none but itself.
+abbrev pub IsWinner : Prop → List Applied → Applied → Type 0
+IsWinner p all a = IsGreatest cascade_cmp (of_prop p all) a

@@ -109,7 +109,7 @@ unsupported_at (of_origin.Style node) at = Ok []
 
 -- A ruleset, or none where its selector can't be read (CSS 2.1, 4.1.7), or the place of its first refused selector.
 pub data IsRuleset (origin : Origin) (text : List ℕ) (rule : Rule) : Result (List Ruleset) Refused → Type 0 where
-  read : {selector : List ℕ} {selectors : List Parts} {ruleset : Ruleset} → IsSlice text rule.at rule.len selector → IsGroupOf selector selectors → IsRanked ruleset.group selectors → AreClaimed origin text rule.decls ruleset.claims → IsRuleset origin text rule (Ok (ruleset ∷ []))
+  read : {selector : List ℕ} {selectors : List Parts} {one : Ruleset} → IsSlice text rule.at rule.len selector → IsGroupOf selector selectors → IsRanked one.group selectors → AreClaimed origin text rule.decls one.claims → IsRuleset origin text rule (Ok (one ∷ []))
   bad : {selector : List ℕ} {at : ℕ} → IsSlice text rule.at rule.len selector → IsBadAt selector at → IsRuleset origin text rule (Ok [])
   not_supported : {selector : List ℕ} {at : ℕ} → IsSlice text rule.at rule.len selector → IsUnsupportedAt selector at → IsRuleset origin text rule (unsupported_at origin (rule.at + at))
   nothing_there : IsNoSlice text rule.at rule.len → IsRuleset origin text rule (Ok [])
@@ -165,8 +165,8 @@ all_applied None claims = []
 all_applied (Some s) claims = map (applied s) claims
 
 -- What a ruleset says applies with the specificity of the most specific of its selectors that match (CSS 2.1, 5.2.1 and 6.4.3).
-pub data AppliesTo (nodes : List Node) (n : ℕ) (ruleset : Ruleset) : Result (List Applied) Refused → Type 0 where
-  applies : {specs : List Spec} → Matching nodes n ruleset.group specs → AppliesTo nodes n ruleset (Ok (all_applied (greatest spec_cmp specs) ruleset.claims))
+pub data AppliesTo (nodes : List Node) (n : ℕ) (one : Ruleset) : Result (List Applied) Refused → Type 0 where
+  applies : {specs : List Spec} → Matching nodes n one.group specs → AppliesTo nodes n one (Ok (all_applied (greatest spec_cmp specs) one.claims))
 
 -- All settings that apply to a node, in order: those of the rulesets and those of its style attribute. To a text none does.
 pub data AreApplied (nodes : List Node) (rulesets : List Ruleset) (n : ℕ) : Body → List Applied → Type 0 where

@@ -8,6 +8,7 @@ mod parts;
 mod sheets;
 mod statements;
 mod terminals;
+mod winners;
 
 pub use claims::{Claim, Origin, Ranked, Ruleset, Standing, Weight};
 pub use laws::{escapes_resolve, tokens_are_unique, tokens_join};
@@ -15,3 +16,4 @@ pub use parts::{Part, Shorthand};
 pub use sheets::{one_list_of_declarations, one_sheet, one_stretch};
 pub use statements::Statement;
 pub use terminals::{Comparison, Pseudo, Terminal};
+pub use winners::{one_specificity, one_winner};
