@@ -22,9 +22,9 @@ use Rattle.css_semantics.specs.declared.terminals.Terminal.TheVariants as a
 use Rattle.css_semantics.specs.declared.terminals.Comparison.{Comparison}
 use Rattle.css_semantics.specs.declared.terminals.Pseudo.TheVariants as of_pseudo
 use Rattle.css_semantics.specs.Tokens.{AreTokens}
-use Rattle.css_semantics.specs.SheetsMarks.{text_of, is_word}
+use Rattle.css_semantics.specs.SheetsMarks.{text_of}
 use Rattle.css_semantics.specs.SheetsReading.{start_of}
-use Rattle.css_semantics.specs.SelectorTerminals.{terminal, without_comments, name_of, pseudo, comparison, compared, is_value}
+use Rattle.css_semantics.specs.SelectorTerminals.{terminal, without_comments, name_of, says, pseudo, comparison, compared, is_value}
 
 -- white space, as much as there is
 abbrev pub IsGap : List Token → Type 0
@@ -41,10 +41,10 @@ pub data IsTest : List Token → List Test → List ℕ → Type 0 where
       → terminal opening ≡ a.LeftBracket → IsGap before → terminal name ≡ a.Ident → IsGap after → comparison (terminal sign) ≡ Some how
       → IsGap between → is_value (terminal value) ≡ true → IsGap behind → terminal closing ≡ a.RightBracket
       → IsTest (opening ∷ (before ++ name ∷ (after ++ sign ∷ (between ++ value ∷ (behind ++ closing ∷ []))))) (compared how (name_of name) (text_of value) ∷ []) []
-  pseudo_class : {colon name : Token} {test : Test} → terminal colon ≡ a.Colon → terminal name ≡ a.Ident → pseudo name ≡ Some (of_pseudo.Class test)
+  pseudo_class : {colon name : Token} {test : Test} → terminal colon ≡ a.Colon → terminal name ≡ a.Ident → pseudo (text_of name) ≡ Some (of_pseudo.Class test)
       → IsTest (colon ∷ name ∷ []) (test ∷ []) []
   language : (colon function name closing : Token) (before after : List Token)
-      → terminal colon ≡ a.Colon → terminal function ≡ a.Function → is_word (codes "lang") function ≡ true
+      → terminal colon ≡ a.Colon → terminal function ≡ a.Function → says (codes "lang") (text_of function) ≡ true
       → IsGap before → terminal name ≡ a.Ident → IsGap after → terminal closing ≡ a.RightParen
       → IsTest (colon ∷ function ∷ (before ++ name ∷ (after ++ closing ∷ []))) [] (colon.at ∷ [])
 
@@ -77,12 +77,12 @@ pub record IsCompound (ts : List Token) (c : Compound) (refused : List ℕ) : Ty
 pub data IsCombinator : List Token → Join → Type 0 where
   descendant : {t : Token} {more : List Token} → terminal t ≡ a.Space → IsGap more → IsCombinator (t ∷ more) Descendant
   child : (t : Token) (before after : List Token) → IsGap before → terminal t ≡ a.Greater → IsGap after → IsCombinator (before ++ t ∷ after) Child
-  next : (t : Token) (before after : List Token) → IsGap before → terminal t ≡ a.Plus → IsGap after → IsCombinator (before ++ t ∷ after) Next
+  adjacent : (t : Token) (before after : List Token) → IsGap before → terminal t ≡ a.Plus → IsGap after → IsCombinator (before ++ t ∷ after) Next
 
 -- what stands in a selector before one of its simple selectors, and how that is joined to it
 pub data IsFront : List Token → List (Join × Compound) → Join → List ℕ → Type 0 where
   at_start : IsFront [] [] First []
-  behind : (ts piece gap : List Token) {parts : List (Join × Compound)} {join next : Join} {c : Compound} {refused others : List ℕ}
+  further : (ts piece gap : List Token) {parts : List (Join × Compound)} {join next : Join} {c : Compound} {refused others : List ℕ}
       → IsFront ts parts join refused → IsCompound piece c others → IsCombinator gap next
       → IsFront (ts ++ (piece ++ gap)) (parts ++ (join, c) ∷ []) next (refused ++ others)
 
@@ -90,7 +90,7 @@ pub data IsFront : List Token → List (Join × Compound) → Join → List ℕ 
 pub data IsLast : List Token → Compound → List ℕ → Type 0 where
   plain : {ts : List Token} {c : Compound} {refused : List ℕ} → IsCompound ts c refused → IsLast ts c refused
   with_element : (ts : List Token) {c : Compound} {refused : List ℕ} (colon name : Token)
-      → IsBody ts c refused → terminal colon ≡ a.Colon → terminal name ≡ a.Ident → pseudo name ≡ Some of_pseudo.Element
+      → IsBody ts c refused → terminal colon ≡ a.Colon → terminal name ≡ a.Ident → pseudo (text_of name) ≡ Some of_pseudo.Element
       → IsLast (ts ++ colon ∷ name ∷ []) c (refused ++ colon.at ∷ [])
 
 -- a selector with white space around it

@@ -14,7 +14,7 @@ use Rattle.css_semantics.specs.declared.terminals.Comparison.TheVariants as of_c
 use Rattle.css_semantics.specs.declared.terminals.Pseudo.{Pseudo}
 use Rattle.css_semantics.specs.declared.terminals.Pseudo.TheVariants as of_pseudo
 use Rattle.css_semantics.specs.TokensLetters.{is_start}
-use Rattle.css_semantics.specs.SheetsMarks.{text_of, is_word}
+use Rattle.css_semantics.specs.SheetsMarks.{text_of}
 
 -- ---- terminals
 
@@ -78,13 +78,17 @@ without_comments (t ∷ ts) = if is_comment t.kind then without_comments ts else
 unfoldable pub name_of : Token → List ℕ
 name_of t = map to_ascii_lowercase (text_of t)
 
--- what an identifier behind a colon says, in any ASCII case (CSS 2.1, 5.10)
-abbrev pub pseudo : Token → Option Pseudo
-pseudo t =
-    if is_word (codes "first-child") t then Some (of_pseudo.Class of_test.FirstChild)
-    else (if is_word (codes "link") t then Some (of_pseudo.Class of_test.Link)
-    else (if is_word (codes "visited") t || is_word (codes "hover") t || is_word (codes "active") t || is_word (codes "focus") t then Some (of_pseudo.Class of_test.Never)
-    else (if is_word (codes "first-line") t || is_word (codes "first-letter") t || is_word (codes "before") t || is_word (codes "after") t then Some of_pseudo.Element
+-- whether a text is the word, in any ASCII case
+unfoldable pub says : List ℕ → List ℕ → Bool
+says word text = bytes_eq (map to_ascii_lowercase text) (map to_ascii_lowercase word)
+
+-- what a name behind a colon says, after escapes (CSS 2.1, 5.10 to 5.12)
+abbrev pub pseudo : List ℕ → Option Pseudo
+pseudo text =
+    if says (codes "first-child") text then Some (of_pseudo.Class of_test.FirstChild)
+    else (if says (codes "link") text then Some (of_pseudo.Class of_test.Link)
+    else (if says (codes "visited") text || says (codes "hover") text || says (codes "active") text || says (codes "focus") text then Some (of_pseudo.Class of_test.Never)
+    else (if says (codes "first-line") text || says (codes "first-letter") text || says (codes "before") text || says (codes "after") text then Some of_pseudo.Element
     else None)))
 
 -- how a terminal between an attribute's name and its value compares

@@ -1,0 +1,86 @@
+-- Reading on behind tokens that are read, comments left out.
+use Rattle.std.proofs.Common.{◌≡◌, ℕ, ◌+◌, Bool, true, false, cond, List, [], ◌∷◌, ◌++◌, length, Option, Some, None, Result, Ok, Err, refl, sym, ◌∙◌, ap, subst, arith, append_assoc}
+use Rattle.std.specs.Prelude.{codes}
+use Rattle.std.specs.Str.{chars}
+use denote.Bor.{Bor}
+use lib.Utf8.{encode}
+use Rattle.viz_base.specs.declared.selectors.Compound.{Compound}
+use Rattle.viz_base.specs.declared.selectors.Join.{Join}
+use Rattle.viz_base.specs.declared.tokens.Token.{Token}
+use Rattle.viz_base.specs.declared.tokens.TokenKind.{TokenKind}
+use Rattle.viz_base.specs.declared.tokens.TokenKind.TheVariants as of_kind
+use Rattle.css_semantics.specs.declared.terminals.Terminal.{Terminal}
+use Rattle.css_semantics.specs.declared.terminals.Terminal.TheVariants as a
+use Rattle.css_semantics.specs.SelectorTerminals.{terminal, is_comment, without_comments, name_of, says, pseudo, compared}
+use Rattle.css_semantics.specs.SheetsMarks.{text_of}
+use Rattle.css_select.specs.declared.reading.Place.{Place}
+use Rattle.css_select.specs.declared.reading.Place.TheVariants.{Fresh, Compound as InCompound, Gap, Dot, Colon, Language, LanguageEnd, Element, Bracket, Name, Sign, Value}
+use Rattle.css_semantics.specs.declared.terminals.Pseudo.TheVariants as of_pseudo
+use Rattle.viz_base.specs.declared.selectors.Test.TheVariants as of_test
+use Rattle.css_select.specs.Machine.{State, initial, run, step, step_pseudo, at, tagged, tested, refused, then_run, may_end}
+
+abbrev pub follow : State → List Token → Result State ℕ
+follow s [] = Ok s
+follow s (t ∷ ts) = then_run (step s t) (λ next. follow next ts)
+
+then_same : (r : Result State ℕ) (f g : State → Result State ℕ) → ((s : State) → f s ≡ g s) → then_run r f ≡ then_run r g
+then_same (Ok s) f g h = h s
+then_same (Err place) f g h = refl
+
+run_by : (b : Bool) (s : State) (t : Token) (ts : List Token) → ((next : State) → run next ts ≡ follow next (without_comments ts))
+    → cond b (run s ts) (then_run (step s t) (λ next. run next ts)) ≡ follow s (cond b (without_comments ts) (t ∷ without_comments ts))
+run_by true s t ts h = h s
+run_by false s t ts h = then_same (step s t) (λ next. run next ts) (λ next. follow next (without_comments ts)) h
+
+pub run_follow : (s : State) (ts : List Token) → run s ts ≡ follow s (without_comments ts)
+run_follow s [] = refl
+run_follow s (t ∷ ts) = run_by (is_comment t.kind) s t ts (λ next. run_follow next ts)
+
+append_by : (r : Result State ℕ) (ts us : List Token) → ((s : State) → follow s (ts ++ us) ≡ then_run (follow s ts) (λ next. follow next us))
+    → then_run r (λ next. follow next (ts ++ us)) ≡ then_run (then_run r (λ next. follow next ts)) (λ next. follow next us)
+append_by (Ok s) ts us h = h s
+append_by (Err place) ts us h = refl
+
+pub follow_append : (s : State) (ts us : List Token) → follow s (ts ++ us) ≡ then_run (follow s ts) (λ next. follow next us)
+follow_append s [] us = refl
+follow_append s (t ∷ ts) us = append_by (step s t) ts us (λ next. follow_append next ts us)
+
+pub follow_on : (s next : State) (ts us : List Token) → follow s ts ≡ Ok next → follow s (ts ++ us) ≡ follow next us
+follow_on s next ts us e = follow_append s ts us ∙ ap (λ r. then_run r (λ n. follow n us)) e
+
+-- ---- every place leads on to the end of a group
+
+-- a token that says a text
+abbrev pub made : Bor (List ℕ) → TokenKind → List ℕ → Token
+made b kind text = record { kind = kind; at = 0; text = record b { now = text } }
+
+-- tokens that lead on to where a group may end
+pub record LeadsOn (s : State) : Type 0 where
+  pub more : List Token
+  pub next : State
+  pub follows : follow s more ≡ Ok next
+  pub ends : may_end next.place ≡ true
+
+link_is : (b : Bor (List ℕ)) → pseudo (text_of (made b of_kind.Ident (codes "link"))) ≡ Some (of_pseudo.Class of_test.Link)
+unfolding says text_of chars encode
+link_is b = refl
+
+leads_at : (b : Bor (List ℕ)) (place : Place) (s : State) → s.place ≡ place → LeadsOn s
+leads_at b Fresh s e = record { more = made b of_kind.Delim (codes "*") ∷ []; next = tagged s None; follows = rw e refl; ends = refl }
+leads_at b InCompound s e = record { more = []; next = s; follows = refl; ends = rw e refl }
+leads_at b Gap s e = record { more = []; next = s; follows = refl; ends = rw e refl }
+leads_at b Dot s e = record { more = made b of_kind.Ident (codes "a") ∷ []; next = tested s (of_test.Class (text_of (made b of_kind.Ident (codes "a")))); follows = rw e refl; ends = refl }
+leads_at b (Colon colon) s e =
+    let link = made b of_kind.Ident (codes "link") in
+    let follows : follow s (link ∷ []) ≡ Ok (tested s of_test.Link) = rw e (ap (λ r. then_run r (λ next. follow next [])) (ap (step_pseudo (at s Fresh) colon link) (link_is b))) in
+    record { more = link ∷ []; next = tested s of_test.Link; follows = follows; ends = refl }
+leads_at b (Language colon) s e = record { more = made b of_kind.Ident (codes "a") ∷ made b of_kind.RightParen (codes ")") ∷ []; next = refused s colon InCompound; follows = rw e refl; ends = refl }
+leads_at b (LanguageEnd colon) s e = record { more = made b of_kind.RightParen (codes ")") ∷ []; next = refused s colon InCompound; follows = rw e refl; ends = refl }
+leads_at b Element s e = record { more = []; next = s; follows = refl; ends = rw e refl }
+leads_at b Bracket s e = record { more = made b of_kind.Ident (codes "a") ∷ made b of_kind.RightBracket (codes "]") ∷ []; next = tested s (of_test.Has (name_of (made b of_kind.Ident (codes "a")))); follows = rw e refl; ends = refl }
+leads_at b (Name name) s e = record { more = made b of_kind.RightBracket (codes "]") ∷ []; next = tested s (of_test.Has name); follows = rw e refl; ends = refl }
+leads_at b (Sign name how) s e = record { more = made b of_kind.Ident (codes "a") ∷ made b of_kind.RightBracket (codes "]") ∷ []; next = tested s (compared how name (text_of (made b of_kind.Ident (codes "a")))); follows = rw e refl; ends = refl }
+leads_at b (Value test) s e = record { more = made b of_kind.RightBracket (codes "]") ∷ []; next = tested s test; follows = rw e refl; ends = refl }
+
+pub leads_on : (b : Bor (List ℕ)) (s : State) → LeadsOn s
+leads_on b s = leads_at b s.place s refl

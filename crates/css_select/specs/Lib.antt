@@ -1,0 +1,4 @@
+pub mod Chains
+pub mod Machine
+pub mod Gives
+pub mod Verdicts

@@ -1,0 +1,49 @@
+use std::alloc::{AllocError, AllocFailed};
+use thiserror::Error;
+use viz_base::Mem;
+
+/// Why a text is refused as a group of selectors. Places are in bytes of the text.
+#[derive(Clone, Copy, Debug, PartialEq, Eq, Error)]
+pub enum SelFault {
+    #[error("out of memory")]
+    Mem,
+    /// The place of the first token that no group of selectors can have there, or the text's length.
+    #[error("bad selector at {0}")]
+    Bad(u32),
+    /// The place of the colon of the first `:lang()`, `:first-line`, `:first-letter`, `:before` or `:after`.
+    #[error("unsupported selector at {0}")]
+    Unsupported(u32),
+}
+
+impl From<Mem> for SelFault {
+    ghost use Rattle.std.specs.Prelude.{◌≡◌};
+    ghost use Rattle.css_select.specs.declared.faults.SelFault.TheVariants.{Mem};
+
+    ghost from_gives = { λ _ fault. fault ≡ Mem };
+
+    fn from(_: Mem) -> Self {
+        SelFault::Mem
+    }
+}
+
+impl From<AllocError> for SelFault {
+    ghost use Rattle.std.specs.Prelude.{◌≡◌};
+    ghost use Rattle.css_select.specs.declared.faults.SelFault.TheVariants.{Mem};
+
+    ghost from_gives = { λ _ fault. fault ≡ Mem };
+
+    fn from(_: AllocError) -> Self {
+        SelFault::Mem
+    }
+}
+
+impl<T: Drop> From<AllocFailed<T>> for SelFault {
+    ghost use Rattle.std.specs.Prelude.{◌≡◌};
+    ghost use Rattle.css_select.specs.declared.faults.SelFault.TheVariants.{Mem};
+
+    ghost from_gives = { λ _ fault. fault ≡ Mem };
+
+    fn from(_: AllocFailed<T>) -> Self {
+        SelFault::Mem
+    }
+}

@@ -1,0 +1,115 @@
+ghost use Rattle.std.specs.Prelude.{◌≡◌, IfOk, codes, map, ◌||◌};
+ghost use Rattle.std.specs.Char.{to_ascii_lowercase};
+ghost use Rattle.css_semantics.specs.SheetsMarks.{text_of};
+ghost use Rattle.css_semantics.specs.SelectorTerminals.{comparison, compared, is_value, name_of, pseudo, says};
+
+use css_semantics::{Comparison, Pseudo, Terminal};
+use css_token::unescape;
+use std::alloc::Global;
+use viz_base::{Mem, Test, Text, Token};
+
+/// Whether a text is the word, in any ASCII case.
+#[tactic(auto, unfolding(css_semantics::specs::SelectorTerminals::says))]
+fn says(text: &str, word: &str) -> bool
+    ensures { result ≡ says word.now text.now }
+{
+    text.eq_ignore_ascii_case(word)
+}
+
+/// The name of a type or an attribute, after escapes, in lower case.
+#[tactic(auto, unfolding(css_semantics::specs::SelectorTerminals::name_of, css_semantics::specs::SheetsMarks::text_of))]
+pub fn name_of(alloc: Global, token: &Token<'_>) -> Result<Text, Mem>
+    ensures { IfOk result (λ name. name ≡ name_of token.now) }
+{
+    let said = unescape(alloc, token)?;
+    Ok(Text::from(said.as_str().to_ascii_lowercase(alloc)?))
+}
+
+/// Whether it is a word that matches nothing.
+fn is_never(text: &str) -> bool
+    ensures { result ≡ (says (codes "visited") text.now || says (codes "hover") text.now || says (codes "active") text.now || says (codes "focus") text.now) }
+{
+    says(text, "visited") || says(text, "hover") || says(text, "active") || says(text, "focus")
+}
+
+/// Whether it is a pseudo-element.
+fn is_element(text: &str) -> bool
+    ensures { result ≡ (says (codes "first-line") text.now || says (codes "first-letter") text.now || says (codes "before") text.now || says (codes "after") text.now) }
+{
+    says(text, "first-line")
+        || says(text, "first-letter")
+        || says(text, "before")
+        || says(text, "after")
+}
+
+fn pseudo_of(text: &str) -> Option<Pseudo>
+    ensures { result ≡ pseudo text.now }
+{
+    if says(text, "first-child") {
+        Some(Pseudo::Class(Test::FirstChild))
+    } else if says(text, "link") {
+        Some(Pseudo::Class(Test::Link))
+    } else if is_never(text) {
+        Some(Pseudo::Class(Test::Never))
+    } else if is_element(text) {
+        Some(Pseudo::Element)
+    } else {
+        None
+    }
+}
+
+/// What an identifier behind a colon says.
+#[tactic(auto, unfolding(css_semantics::specs::SheetsMarks::text_of))]
+pub fn pseudo(alloc: Global, token: &Token<'_>) -> Result<Option<Pseudo>, Mem>
+    ensures { IfOk result (λ said. said ≡ pseudo (text_of token.now)) }
+{
+    let said = unescape(alloc, token)?;
+    Ok(pseudo_of(said.as_str()))
+}
+
+/// Whether a function is `lang(`.
+#[tactic(auto, unfolding(css_semantics::specs::SheetsMarks::text_of))]
+pub fn is_lang(alloc: Global, token: &Token<'_>) -> Result<bool, Mem>
+    ensures { IfOk result (λ yes. yes ≡ says (codes "lang") (text_of token.now)) }
+{
+    let said = unescape(alloc, token)?;
+    Ok(says(said.as_str(), "lang"))
+}
+
+/// What a token says, after escapes.
+#[tactic(auto, unfolding(css_semantics::specs::SheetsMarks::text_of))]
+pub fn text_of(alloc: Global, token: &Token<'_>) -> Result<Text, Mem>
+    ensures { IfOk result (λ text. text ≡ text_of token.now) }
+{
+    unescape(alloc, token)
+}
+
+/// How a sign between an attribute's name and its value compares them.
+pub fn comparison(sign: Terminal) -> Option<Comparison>
+    ensures { result ≡ comparison sign }
+{
+    match sign {
+        Terminal::Equal => Some(Comparison::Equals),
+        Terminal::Includes => Some(Comparison::Word),
+        Terminal::DashMatch => Some(Comparison::Dash),
+        _ => None,
+    }
+}
+
+/// The test of an attribute against a value.
+pub fn compared(how: Comparison, name: Text, value: Text) -> Test
+    ensures { result ≡ compared how name value }
+{
+    match how {
+        Comparison::Equals => Test::Equals(name, value),
+        Comparison::Word => Test::Word(name, value),
+        Comparison::Dash => Test::Dash(name, value),
+    }
+}
+
+/// Whether it may stand there as a value.
+pub fn is_value(terminal: Terminal) -> bool
+    ensures { result ≡ is_value terminal }
+{
+    matches!(terminal, Terminal::Ident | Terminal::Str)
+}

@@ -1,0 +1,72 @@
+ghost use Rattle.std.specs.Prelude.{◌≡◌, map, IfOk, MatchResult};
+ghost use Rattle.css_semantics.specs.SelectorGrammar.{IsGroupOf};
+ghost use Rattle.css_select.specs.Gives.{Gives};
+ghost use Rattle.css_select.specs.Machine.{initial, may_end, parts_of, run, state_of};
+ghost use Rattle.css_select.specs.Verdicts.{IsFault, Says, finished, verdict_of};
+
+use crate::faults::SelFault;
+use crate::reading::{Place, Reading};
+use crate::steps::{place, step};
+use crate::terminals::is_comment;
+use css_token::tokens;
+use std::alloc::Global;
+use viz_base::{List, Selector, Token};
+
+/// Reads all tokens.
+fn run(alloc: Global, tokens: &[Token<'_>]) -> Result<Reading, SelFault>
+    ensures { Gives result (run initial tokens.now) }
+{
+    let mut reading = Reading::new(alloc);
+    for token in tokens {
+        if !is_comment(token.kind) {
+            reading = step(alloc, reading, token)?;
+        }
+    }
+    Ok(reading)
+}
+
+/// Whether a group may end at a place.
+fn may_end(place: &Place) -> bool
+    ensures { result ≡ may_end place.now }
+{
+    matches!(place, Place::Compound | Place::Gap | Place::Element)
+}
+
+/// What is read, where the text ends.
+fn finish(alloc: Global, reading: Reading, end: u32) -> Result<List<Selector>, SelFault>
+    ensures { Says result (finished end (state_of reading)) }
+{
+    if !may_end(&reading.place) {
+        return Err(SelFault::Bad(end));
+    }
+    if let Some(at) = reading.refused {
+        return Err(SelFault::Unsupported(at));
+    }
+    let Reading { group, .. } = reading.ended(alloc)?;
+    Ok(group)
+}
+
+fn read_tokens(
+    alloc: Global,
+    tokens: &[Token<'_>],
+    end: u32,
+) -> Result<List<Selector>, SelFault>
+    ensures { Says result (verdict_of end tokens.now) }
+{
+    let reading = run(alloc, tokens)?;
+    finish(alloc, reading, end)
+}
+
+/// The group of selectors that a text spells (CSS 2.1, chapter 5 and appendix G.1).
+///
+/// `Bad` where it spells none, even with the selectors that are refused (`:lang()`, and at a selector's end `:first-line`,
+/// `:first-letter`, `:before` and `:after`), at the first token that no such group can have there, or at the text's end;
+/// `Unsupported` where it spells one with these alone, at the colon of the first of them; `Mem` for want of memory, as
+/// which a text of `2^32` bytes and more counts.
+pub fn read_selector(alloc: Global, text: &str) -> Result<List<Selector>, SelFault>
+    ensures { MatchResult result (λ group. IsGroupOf text.now (map parts_of group)) (λ fault. IsFault fault text.now) }
+{
+    let end = place(text.len())?;
+    let tokens = tokens(alloc, text)?;
+    read_tokens(alloc, tokens.as_slice(), end)
+}
