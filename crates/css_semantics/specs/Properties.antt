@@ -1,5 +1,5 @@
 -- The table of the properties that have an effect on layout: what each takes, its initial value, and whether it inherits.
-use Rattle.std.specs.Prelude.{ℕ, ℤ, pos, ◌==◌, Bool, true, false, List, [], ◌∷◌, ◌++◌, map, Option, Some, None, option_map, if◌then◌else◌, codes}
+use Rattle.std.specs.Prelude.{ℕ, pos, ◌==◌, Bool, true, false, List, [], ◌∷◌, map, Option, if◌then◌else◌, codes}
 use Rattle.std.specs.List.{find}
 use Rattle.std.specs.Str.{bytes_eq}
 use Rattle.std.specs.Char.{to_ascii_lowercase}
@@ -8,6 +8,8 @@ use Rattle.viz_base.specs.declared.settings.Prop.{Prop}
 use Rattle.viz_base.specs.declared.settings.Prop.TheVariants.{Display, Position, Float, Clear, Overflow, Direction, Width, Height, MinWidth, MinHeight, MaxWidth, MaxHeight, MarginTop, MarginRight, MarginBottom, MarginLeft, PaddingTop, PaddingRight, PaddingBottom, PaddingLeft, BorderTopWidth, BorderRightWidth, BorderBottomWidth, BorderLeftWidth, BorderTopStyle, BorderRightStyle, BorderBottomStyle, BorderLeftStyle, FontSize, FontFamily, LineHeight, VerticalAlign, TextAlign, WhiteSpace, TextIndent, LetterSpacing, WordSpacing, TextTransform, ListStylePosition}
 use Rattle.viz_base.specs.declared.settings.Value.{Value}
 use Rattle.viz_base.specs.declared.settings.Value.TheVariants.{Word, Px, Names}
+use Rattle.css_semantics.specs.declared.parts.Takes.{Takes}
+use Rattle.css_semantics.specs.declared.parts.Takes.TheVariants.{Nothing, All, NotNegative, ZeroAlone}
 
 -- ---- names
 
@@ -15,25 +17,16 @@ use Rattle.viz_base.specs.declared.settings.Value.TheVariants.{Word, Px, Names}
 abbrev pub same_name : List ℕ → List ℕ → Bool
 same_name a b = bytes_eq (map to_ascii_lowercase a) (map to_ascii_lowercase b)
 
--- the words between the spaces of a text
 abbrev pub before_words : ℕ → List (List ℕ) → List (List ℕ)
 before_words c [] = (c ∷ []) ∷ []
 before_words c (w ∷ ws) = (c ∷ w) ∷ ws
 
+-- the words of a text, between which single spaces stand
 abbrev pub each_word : List ℕ → List (List ℕ)
 each_word [] = [] ∷ []
 each_word (c ∷ cs) = if c == 32 then [] ∷ each_word cs else before_words c (each_word cs)
 
 -- ---- rows
-
--- which amounts of a kind a property takes
-pub data Takes : Type 0 where
-  nothing : Takes
-  all : Takes
-  -- all but those below zero
-  not_negative : Takes
-  -- zero alone: any other is refused by name
-  zero_alone : Takes
 
 pub record Row : Type 0 where
   pub name : List ℕ
@@ -41,9 +34,9 @@ pub record Row : Type 0 where
   pub words : List (List ℕ)
   -- the keywords that are refused by name
   pub refused : List (List ℕ)
+  -- which lengths, percentages and numbers without a unit it takes
   pub lengths : Takes
   pub percentages : Takes
-  -- numbers without a unit
   pub numbers : Takes
   -- whether the value is a list of names of font families
   pub families : Bool
@@ -54,11 +47,11 @@ pub record Row : Type 0 where
 
 -- a property with keywords alone
 abbrev pub keywords : String → List (List ℕ) → List (List ℕ) → ℕ → Bool → Row
-keywords name words refused initial inherits = record { name = codes name; words = words; refused = refused; lengths = nothing; percentages = nothing; numbers = nothing; families = false; initial = Word initial; inherits = inherits }
+keywords name words refused initial inherits = record { name = codes name; words = words; refused = refused; lengths = Nothing; percentages = Nothing; numbers = Nothing; families = false; initial = Word initial; inherits = inherits }
 
 -- one with amounts, which doesn't inherit
 abbrev pub measured : String → List (List ℕ) → Takes → Takes → Value → Row
-measured name words lengths percentages initial = record { name = codes name; words = words; refused = []; lengths = lengths; percentages = percentages; numbers = nothing; families = false; initial = initial; inherits = false }
+measured name words lengths percentages initial = record { name = codes name; words = words; refused = []; lengths = lengths; percentages = percentages; numbers = Nothing; families = false; initial = initial; inherits = false }
 
 abbrev pub line_styles : List (List ℕ)
 line_styles = each_word (codes "none hidden dotted dashed solid double groove ridge inset outset")
@@ -84,38 +77,38 @@ row Float = keywords "float" (each_word (codes "none left right")) [] 0 false
 row Clear = keywords "clear" (each_word (codes "none left right both")) [] 0 false
 row Overflow = keywords "overflow" (each_word (codes "visible hidden scroll auto")) [] 0 false
 row Direction = keywords "direction" (each_word (codes "ltr")) (each_word (codes "rtl")) 0 true
-row Width = measured "width" (each_word (codes "auto")) not_negative not_negative (Word 0)
-row Height = measured "height" (each_word (codes "auto")) not_negative not_negative (Word 0)
-row MinWidth = measured "min-width" [] not_negative not_negative zero
-row MinHeight = measured "min-height" [] not_negative not_negative zero
-row MaxWidth = measured "max-width" (each_word (codes "none")) not_negative not_negative (Word 0)
-row MaxHeight = measured "max-height" (each_word (codes "none")) not_negative not_negative (Word 0)
-row MarginTop = measured "margin-top" (each_word (codes "auto")) all all zero
-row MarginRight = measured "margin-right" (each_word (codes "auto")) all all zero
-row MarginBottom = measured "margin-bottom" (each_word (codes "auto")) all all zero
-row MarginLeft = measured "margin-left" (each_word (codes "auto")) all all zero
-row PaddingTop = measured "padding-top" [] not_negative not_negative zero
-row PaddingRight = measured "padding-right" [] not_negative not_negative zero
-row PaddingBottom = measured "padding-bottom" [] not_negative not_negative zero
-row PaddingLeft = measured "padding-left" [] not_negative not_negative zero
-row BorderTopWidth = measured "border-top-width" line_widths not_negative nothing (Word 1)
-row BorderRightWidth = measured "border-right-width" line_widths not_negative nothing (Word 1)
-row BorderBottomWidth = measured "border-bottom-width" line_widths not_negative nothing (Word 1)
-row BorderLeftWidth = measured "border-left-width" line_widths not_negative nothing (Word 1)
+row Width = measured "width" (each_word (codes "auto")) NotNegative NotNegative (Word 0)
+row Height = measured "height" (each_word (codes "auto")) NotNegative NotNegative (Word 0)
+row MinWidth = measured "min-width" [] NotNegative NotNegative zero
+row MinHeight = measured "min-height" [] NotNegative NotNegative zero
+row MaxWidth = measured "max-width" (each_word (codes "none")) NotNegative NotNegative (Word 0)
+row MaxHeight = measured "max-height" (each_word (codes "none")) NotNegative NotNegative (Word 0)
+row MarginTop = measured "margin-top" (each_word (codes "auto")) All All zero
+row MarginRight = measured "margin-right" (each_word (codes "auto")) All All zero
+row MarginBottom = measured "margin-bottom" (each_word (codes "auto")) All All zero
+row MarginLeft = measured "margin-left" (each_word (codes "auto")) All All zero
+row PaddingTop = measured "padding-top" [] NotNegative NotNegative zero
+row PaddingRight = measured "padding-right" [] NotNegative NotNegative zero
+row PaddingBottom = measured "padding-bottom" [] NotNegative NotNegative zero
+row PaddingLeft = measured "padding-left" [] NotNegative NotNegative zero
+row BorderTopWidth = measured "border-top-width" line_widths NotNegative Nothing (Word 1)
+row BorderRightWidth = measured "border-right-width" line_widths NotNegative Nothing (Word 1)
+row BorderBottomWidth = measured "border-bottom-width" line_widths NotNegative Nothing (Word 1)
+row BorderLeftWidth = measured "border-left-width" line_widths NotNegative Nothing (Word 1)
 row BorderTopStyle = keywords "border-top-style" line_styles [] 0 false
 row BorderRightStyle = keywords "border-right-style" line_styles [] 0 false
 row BorderBottomStyle = keywords "border-bottom-style" line_styles [] 0 false
 row BorderLeftStyle = keywords "border-left-style" line_styles [] 0 false
-row FontSize = record (measured "font-size" size_words not_negative not_negative (Word 3)) { inherits = true }
+row FontSize = record (measured "font-size" size_words NotNegative NotNegative (Word 3)) { inherits = true }
 -- the initial value names no family: the first font of the job follows
-row FontFamily = record (measured "font-family" [] nothing nothing (Names [])) { families = true; inherits = true }
-row LineHeight = record (measured "line-height" (each_word (codes "normal")) not_negative not_negative (Word 0)) { numbers = not_negative; inherits = true }
-row VerticalAlign = record (measured "vertical-align" (each_word (codes "baseline sub super middle")) all all (Word 0)) { refused = each_word (codes "top bottom text-top text-bottom") }
+row FontFamily = record (measured "font-family" [] Nothing Nothing (Names [])) { families = true; inherits = true }
+row LineHeight = record (measured "line-height" (each_word (codes "normal")) NotNegative NotNegative (Word 0)) { numbers = NotNegative; inherits = true }
+row VerticalAlign = record (measured "vertical-align" (each_word (codes "baseline sub super middle")) All All (Word 0)) { refused = each_word (codes "top bottom text-top text-bottom") }
 row TextAlign = keywords "text-align" (each_word (codes "left right center justify")) [] 0 true
 row WhiteSpace = keywords "white-space" (each_word (codes "normal nowrap")) (each_word (codes "pre pre-wrap pre-line")) 0 true
-row TextIndent = record (measured "text-indent" [] zero_alone zero_alone zero) { inherits = true }
-row LetterSpacing = record (measured "letter-spacing" (each_word (codes "normal")) zero_alone nothing (Word 0)) { inherits = true }
-row WordSpacing = record (measured "word-spacing" (each_word (codes "normal")) zero_alone nothing (Word 0)) { inherits = true }
+row TextIndent = record (measured "text-indent" [] ZeroAlone ZeroAlone zero) { inherits = true }
+row LetterSpacing = record (measured "letter-spacing" (each_word (codes "normal")) ZeroAlone Nothing (Word 0)) { inherits = true }
+row WordSpacing = record (measured "word-spacing" (each_word (codes "normal")) ZeroAlone Nothing (Word 0)) { inherits = true }
 row TextTransform = keywords "text-transform" (each_word (codes "none")) (each_word (codes "capitalize uppercase lowercase")) 0 true
 row ListStylePosition = keywords "list-style-position" (each_word (codes "outside")) (each_word (codes "inside")) 0 true
 

@@ -1,5 +1,5 @@
 -- What the value of a declaration says, shorthand properties included (CSS 2.1, 1.4.3).
-use Rattle.std.specs.Prelude.{◌≡◌, ℕ, ℤ, pos, negsuc, ◌%◌, ◌*◌, ◌==◌, nat_le, Bool, true, false, not, ◌&&◌, ◌||◌, List, [], ◌∷◌, ◌++◌, map, length, take, drop, Option, Some, None, Result, Ok, Err, if◌then◌else◌, codes, is_ok}
+use Rattle.std.specs.Prelude.{◌≡◌, ℕ, ℤ, pos, negsuc, ◌%◌, ◌==◌, nat_le, Bool, true, false, not, ◌&&◌, ◌||◌, List, [], ◌∷◌, ◌++◌, map, length, take, drop, Option, Some, None, Result, Ok, Err, if◌then◌else◌, codes, is_ok}
 use Rattle.std.specs.List.{list_any, list_all, count_by, find, prefix_len}
 use Rattle.viz_base.specs.declared.tokens.Token.{Token}
 use Rattle.viz_base.specs.declared.settings.Prop.{Prop}
@@ -11,10 +11,12 @@ use Rattle.css_semantics.specs.declared.parts.Part.{Part}
 use Rattle.css_semantics.specs.declared.parts.Part.TheVariants as part
 use Rattle.css_semantics.specs.declared.parts.Shorthand.{Shorthand}
 use Rattle.css_semantics.specs.declared.parts.Shorthand.TheVariants.{Margin, Padding, BorderWidth, BorderStyle, Border, BorderTop, BorderRight, BorderBottom, BorderLeft, Font, ListStyle}
+use Rattle.css_semantics.specs.declared.parts.Refusal.{Refusal}
+use Rattle.css_semantics.specs.declared.parts.Refusal.TheVariants.{Ignored, Unsupported}
 use Rattle.css_semantics.specs.Tokens.{AreTokens}
 use Rattle.css_semantics.specs.Properties.{same_name, row, property_named}
 use Rattle.css_semantics.specs.ValuesParts.{parts}
-use Rattle.css_semantics.specs.Values.{Refusal, ignored, unsupported, then_on, setting, part_value, families, is_keyword, is_inherit, longhand}
+use Rattle.css_semantics.specs.Values.{then_on, setting, part_value, families, is_keyword, is_inherit, longhand}
 
 -- ---- the shorthands
 
@@ -54,13 +56,14 @@ spread f (a ∷ []) = f a a a a
 spread f (a ∷ b ∷ []) = f a b a b
 spread f (a ∷ b ∷ c ∷ []) = f a b c b
 spread f (a ∷ b ∷ c ∷ d ∷ []) = f a b c d
-spread f _ = Err ignored
+spread f _ = Err Ignored
 
-abbrev pub inherited : List Prop → Result (List Setting) Refusal
-inherited ps = Ok (map (λ p. setting p Inherit) ps)
+-- the settings by which properties inherit
+abbrev pub inherited : List Prop → List Setting
+inherited ps = map (λ p. setting p Inherit) ps
 
 abbrev pub sides : Prop → Prop → Prop → Prop → List Part → Result (List Setting) Refusal
-sides top right bottom left ps = if is_inherit ps then inherited (top ∷ right ∷ bottom ∷ left ∷ []) else spread (four top right bottom left) ps
+sides top right bottom left ps = if is_inherit ps then Ok (inherited (top ∷ right ∷ bottom ∷ left ∷ [])) else spread (four top right bottom left) ps
 
 -- ---- borders (CSS 2.1, 8.5.4)
 
@@ -86,21 +89,28 @@ is_at_most_one test ps = nat_le (count_by test ps) 1
 abbrev pub is_line : List Part → Bool
 is_line ps = not (nat_le (length ps) 0) && list_all is_line_part ps && is_at_most_one is_line_width ps && is_at_most_one is_line_style ps && is_at_most_one is_colour ps
 
--- the value of the part that there is, or the initial value
-abbrev pub value_or_initial : Prop → Option Part → Result Value Refusal
-value_or_initial p None = Ok (row p).initial
-value_or_initial p (Some a) = part_value p a
+-- the value of the part that there is, or a value in its place
+abbrev pub value_or : Value → Prop → Option Part → Result Value Refusal
+value_or v p None = Ok v
+value_or v p (Some a) = part_value p a
 
 -- a setting of each of these properties from the part that passes the test
-abbrev pub each_line : (Part → Bool) → List Part → List Prop → Result (List Setting) Refusal
-each_line test ps [] = Ok []
-each_line test ps (p ∷ more) = then_on (value_or_initial p (find test ps)) (λ v. then_on (each_line test ps more) (λ settings. Ok (setting p v ∷ settings)))
+abbrev pub each_line : (Part → Bool) → Value → List Part → List Prop → Result (List Setting) Refusal
+each_line test v ps [] = Ok []
+each_line test v ps (p ∷ more) = then_on (value_or v p (find test ps)) (λ u. then_on (each_line test v ps more) (λ settings. Ok (setting p u ∷ settings)))
+
+abbrev pub joined : List Setting → Result (List Setting) Refusal → Result (List Setting) Refusal
+joined settings more = then_on more (λ ms. Ok (settings ++ ms))
+
+-- a width or a style that is missing is the initial one, `medium` or `none`, of all sides
+abbrev pub written_lines : List Prop → List Prop → List Part → Result (List Setting) Refusal
+written_lines widths styles ps =
+    then_on (each_line is_line_width (row BorderTopWidth).initial ps widths) (λ ws. joined ws (each_line is_line_style (row BorderTopStyle).initial ps styles))
 
 abbrev pub lines : List Prop → List Prop → List Part → Result (List Setting) Refusal
 lines widths styles ps =
-    if is_inherit ps then inherited (widths ++ styles)
-    else (if is_line ps then then_on (each_line is_line_width ps widths) (λ ws. then_on (each_line is_line_style ps styles) (λ ss. Ok (ws ++ ss)))
-    else Err ignored)
+    if is_inherit ps then Ok (inherited widths ++ inherited styles)
+    else (if is_line ps then written_lines widths styles ps else Err Ignored)
 
 -- ---- font (CSS 2.1, 15.8)
 
@@ -142,26 +152,31 @@ abbrev pub font_names : List Part → Option (List (List ℕ))
 font_names ps = if is_inherit ps then None else families ps
 
 abbrev pub named_font : Value → Value → Option (List (List ℕ)) → Result (List Setting) Refusal
-named_font size height None = Err ignored
+named_font size height None = Err Ignored
 named_font size height (Some names) = Ok (font_settings size names height)
 
 abbrev pub sized_font : Result Value Refusal → Result Value Refusal → List Part → Result (List Setting) Refusal
 sized_font size height ps = then_on size (λ s. then_on height (λ h. named_font s h (font_names ps)))
 
--- from the size on: the size, a line height behind a `/` or the initial one, and the family
-abbrev pub font_behind : Part → List Part → Result (List Setting) Refusal
-font_behind size (part.Solidus ∷ height ∷ ps) = sized_font (part_value FontSize size) (part_value LineHeight height) ps
-font_behind size ps = sized_font (part_value FontSize size) (Ok (row LineHeight).initial) ps
+-- the line height behind a `/`, and what follows it
+abbrev pub height_behind : List Part → Option (Part × List Part)
+height_behind (part.Solidus ∷ height ∷ ps) = Some (height, ps)
+height_behind ps = None
+
+-- behind the size: a line height or the initial one, and the family
+abbrev pub font_behind : Part → List Part → Option (Part × List Part) → Result (List Setting) Refusal
+font_behind size ps None = sized_font (part_value FontSize size) (Ok (row LineHeight).initial) ps
+font_behind size ps (Some p) = sized_font (part_value FontSize size) (part_value LineHeight p.0) p.1
 
 abbrev pub font_from_size : List Part → Result (List Setting) Refusal
-font_from_size [] = Err ignored
-font_from_size (size ∷ ps) = font_behind size ps
+font_from_size [] = Err Ignored
+font_from_size (size ∷ ps) = font_behind size ps (height_behind ps)
 
 abbrev pub front_len : List Part → ℕ
 front_len ps = prefix_len is_before_size ps
 
 abbrev pub written_font : List Part → Result (List Setting) Refusal
-written_font ps = if is_front (take (front_len ps) ps) then font_from_size (drop (front_len ps) ps) else Err ignored
+written_font ps = if is_front (take (front_len ps) ps) then font_from_size (drop (front_len ps) ps) else Err Ignored
 
 abbrev pub system_words : List (List ℕ)
 system_words = codes "caption" ∷ codes "icon" ∷ codes "menu" ∷ codes "message-box" ∷ codes "small-caption" ∷ codes "status-bar" ∷ []
@@ -175,13 +190,13 @@ abbrev pub system_font : List Setting
 system_font = map (λ p. setting p (row p).initial) (FontSize ∷ FontFamily ∷ LineHeight ∷ [])
 
 abbrev pub font : List Part → Result (List Setting) Refusal
-font ps = if is_inherit ps then inherited (FontSize ∷ FontFamily ∷ LineHeight ∷ []) else (if is_system ps then Ok system_font else written_font ps)
+font ps = if is_inherit ps then Ok (inherited (FontSize ∷ FontFamily ∷ LineHeight ∷ [])) else (if is_system ps then Ok system_font else written_font ps)
 
 -- ---- list-style (CSS 2.1, 12.5.1)
 
 -- Its one word that has an effect on layout is refused by name; nothing else in it is looked at (our own reading).
 abbrev pub list_style : List Part → Result (List Setting) Refusal
-list_style ps = Err (if list_any (is_keyword (codes "inside")) ps then unsupported ListStylePosition else ignored)
+list_style ps = Err (if list_any (is_keyword (codes "inside")) ps then Unsupported ListStylePosition else Ignored)
 
 -- ---- declarations
 
@@ -200,7 +215,7 @@ shorthand ListStyle ps = list_style ps
 
 -- an unknown property is dropped
 abbrev pub shorthand_or_none : Option Shorthand → List Part → Result (List Setting) Refusal
-shorthand_or_none None ps = Err ignored
+shorthand_or_none None ps = Err Ignored
 shorthand_or_none (Some s) ps = shorthand s ps
 
 abbrev pub longhand_or : Option Prop → Option Shorthand → List Part → Result (List Setting) Refusal

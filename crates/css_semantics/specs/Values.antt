@@ -1,18 +1,17 @@
 -- What the value of a declaration says by the table of properties.
-use Rattle.std.specs.Prelude.{ℕ, ℤ, pos, negsuc, ◌+◌, ◌==◌, Bool, true, false, ◌||◌, List, [], ◌∷◌, ◌++◌, map, Option, Some, None, Result, Ok, Err, option_map, if◌then◌else◌, codes, int_div}
-use Rattle.std.specs.List.{list_any}
+use Rattle.std.specs.Prelude.{ℕ, ℤ, pos, negsuc, ◌==◌, Bool, true, false, List, [], ◌∷◌, ◌++◌, Option, Some, None, Result, Ok, Err, option_map, if◌then◌else◌, codes, int_div}
+use Rattle.std.specs.List.{list_any, position}
 use Rattle.viz_base.specs.declared.settings.Prop.{Prop}
 use Rattle.viz_base.specs.declared.settings.Value.{Value}
 use Rattle.viz_base.specs.declared.settings.Value.TheVariants as value
 use Rattle.viz_base.specs.declared.settings.Setting.{Setting}
 use Rattle.css_semantics.specs.declared.parts.Part.{Part}
 use Rattle.css_semantics.specs.declared.parts.Part.TheVariants as part
-use Rattle.css_semantics.specs.Properties.{Takes, nothing, all, not_negative, zero_alone, same_name, row}
-
--- Why a declaration gives no setting: it is dropped (CSS 2.1, 4.2), or it is refused by name.
-pub data Refusal : Type 0 where
-  ignored : Refusal
-  unsupported : Prop → Refusal
+use Rattle.css_semantics.specs.declared.parts.Takes.{Takes}
+use Rattle.css_semantics.specs.declared.parts.Takes.TheVariants.{Nothing, All, NotNegative, ZeroAlone}
+use Rattle.css_semantics.specs.declared.parts.Refusal.{Refusal}
+use Rattle.css_semantics.specs.declared.parts.Refusal.TheVariants.{Ignored, Unsupported}
+use Rattle.css_semantics.specs.Properties.{same_name, row}
 
 abbrev pub then_on : {A B : Type 0} → Result A Refusal → (A → Result B Refusal) → Result B Refusal
 then_on (Ok x) f = f x
@@ -23,17 +22,13 @@ setting p v = record { prop = p; value = v }
 
 -- ---- one part
 
--- the place of a keyword among those of a property
-abbrev pub place_of : List ℕ → List (List ℕ) → Option ℕ
-place_of word [] = None
-place_of word (w ∷ ws) = if same_name word w then Some 0 else option_map (λ n. n + 1) (place_of word ws)
-
 abbrev pub placed : Prop → List ℕ → Option ℕ → Result Value Refusal
 placed p word (Some place) = Ok (value.Word place)
-placed p word None = if list_any (same_name word) (row p).refused then Err (unsupported p) else Err ignored
+placed p word None = if list_any (same_name word) (row p).refused then Err (Unsupported p) else Err Ignored
 
+-- a keyword by its place among those of the property
 abbrev pub word_value : Prop → List ℕ → Result Value Refusal
-word_value p word = placed p word (place_of word (row p).words)
+word_value p word = placed p word (position (same_name word) (row p).words)
 
 abbrev pub is_negative : ℤ → Bool
 is_negative (pos n) = false
@@ -46,14 +41,14 @@ is_zero (negsuc n) = false
 -- A value that a number gives, judged by what the property takes. Whether it is negative is asked of the number as it is
 -- written, and whether it is zero of what it comes to.
 abbrev pub judged : Prop → Takes → ℤ → ℤ → Value → Result Value Refusal
-judged p nothing written n v = Err ignored
-judged p all written n v = Ok v
-judged p not_negative written n v = if is_negative written then Err ignored else Ok v
-judged p zero_alone written n v = if is_zero n then Ok v else Err (unsupported p)
+judged p Nothing written n v = Err Ignored
+judged p All written n v = Ok v
+judged p NotNegative written n v = if is_negative written then Err Ignored else Ok v
+judged p ZeroAlone written n v = if is_zero n then Ok v else Err (Unsupported p)
 
 -- A number without a unit is a length where it is zero and the property takes no numbers (CSS 2.1, 4.3.2).
 abbrev pub number_value : Prop → Takes → ℤ → Result Value Refusal
-number_value p nothing n = if is_zero n then judged p (row p).lengths n n (value.Px n) else Err ignored
+number_value p Nothing n = if is_zero n then judged p (row p).lengths n n (value.Px n) else Err Ignored
 number_value p takes n = judged p takes n n (value.Number n)
 
 -- `1ex` is half an `em`, and an odd count of millionths loses its last one (our own reading).
@@ -68,11 +63,11 @@ part_value p (part.Percentage n) = judged p (row p).percentages n n (value.Pct n
 part_value p (part.Px n) = judged p (row p).lengths n n (value.Px n)
 part_value p (part.Em n) = judged p (row p).lengths n n (value.Em n)
 part_value p (part.Ex n) = judged p (row p).lengths n (half n) (value.Em (half n))
-part_value p (part.Quoted text) = Err ignored
-part_value p part.Comma = Err ignored
-part_value p part.Solidus = Err ignored
-part_value p part.Colour = Err ignored
-part_value p part.Other = Err ignored
+part_value p (part.Quoted text) = Err Ignored
+part_value p part.Comma = Err Ignored
+part_value p part.Solidus = Err Ignored
+part_value p part.Colour = Err Ignored
+part_value p part.Other = Err Ignored
 
 -- ---- names of font families (CSS 2.1, 15.3)
 
@@ -109,12 +104,12 @@ is_inherit (p ∷ []) = is_keyword (codes "inherit") p
 is_inherit _ = false
 
 abbrev pub families_of : Option (List (List ℕ)) → Result Value Refusal
-families_of None = Err ignored
+families_of None = Err Ignored
 families_of (Some names) = Ok (value.Names names)
 
 abbrev pub one_part : Prop → List Part → Result Value Refusal
 one_part p (a ∷ []) = part_value p a
-one_part p _ = Err ignored
+one_part p _ = Err Ignored
 
 abbrev pub whole_value : Prop → List Part → Result Value Refusal
 whole_value p ps = if is_inherit ps then Ok value.Inherit else (if (row p).families then families_of (families ps) else one_part p ps)

@@ -1,6 +1,6 @@
 -- The parts of a value, of which the grammars of the properties are made (CSS 2.1, 4.1.1 and 4.3).
 use Rattle.std.specs.Prelude.{ℕ, ℤ, pos, neg_ℤ, ◌*ℤ◌, ◌==◌, Bool, true, false, ◌||◌, List, [], ◌∷◌, take, drop, Option, Some, None, if◌then◌else◌, codes, encode_utf8_all}
-use Rattle.std.specs.List.{list_all, prefix_len}
+use Rattle.std.specs.List.{prefix_len}
 use Rattle.std.specs.Str.{chars}
 use Rattle.viz_base.specs.Decimals.{decimal_of}
 use Rattle.viz_base.specs.Numbers.{floor_of}
@@ -34,12 +34,17 @@ length_of n unit =
 abbrev pub is_numeral : ℕ → Bool
 is_numeral c = is_digit c || c == 46
 
--- of a number, a percentage or a dimension the digits and the point, and what follows them, after escapes
+-- the digits and the point of a number, a percentage or a dimension, by its bytes
 abbrev pub numeral_of : List ℕ → List ℕ
 numeral_of text = take (prefix_len is_numeral text) text
 
+-- what follows them, by its characters and after escapes
+abbrev pub behind_numeral : List ℕ → List ℕ
+behind_numeral [] = []
+behind_numeral (c ∷ cs) = if is_numeral c then behind_numeral cs else c ∷ cs
+
 abbrev pub unit_of : List ℕ → List ℕ
-unit_of text = encode_utf8_all (resolved open_extent (chars (drop (prefix_len is_numeral text) text)))
+unit_of letters = encode_utf8_all (resolved open_extent (behind_numeral letters))
 
 abbrev pub signed : Bool → ℕ → ℤ
 signed negative n = if negative then neg_ℤ (pos n) else pos n
@@ -52,7 +57,7 @@ amount_in _ n unit = length_of n unit
 -- an amount of more than `2^40` millionths is illegal, as a part that no property takes
 abbrev pub counted : Bool → Token → Option ℕ → Part
 counted negative t None = part.Other
-counted negative t (Some n) = amount_in t.kind (signed negative n) (unit_of t.text.now)
+counted negative t (Some n) = amount_in t.kind (signed negative n) (unit_of (chars t.text.now))
 
 abbrev pub amount_of : Bool → Token → Part
 amount_of negative t = counted negative t (decimal_of (numeral_of t.text.now))

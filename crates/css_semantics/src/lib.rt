@@ -12,7 +12,7 @@ mod winners;
 
 pub use claims::{Claim, Origin, Ranked, Ruleset, Standing, Weight};
 pub use laws::{escapes_resolve, tokens_are_unique, tokens_join};
-pub use parts::{Part, Shorthand};
+pub use parts::{Part, Refusal, Shorthand, Takes};
 pub use sheets::{one_list_of_declarations, one_sheet, one_stretch};
 pub use statements::Statement;
 pub use terminals::{Comparison, Pseudo, Terminal};

@@ -1,4 +1,4 @@
-use viz_base::Text;
+use viz_base::{Prop, Text};
 
 /// A part of the value of a declaration (CSS 2.1, 4.3 and 1.4.2.1).
 #[derive(Debug, Drop, PartialEq, Eq)]
@@ -41,4 +41,24 @@ pub enum Shorthand {
     BorderLeft,
     Font,
     ListStyle,
+}
+
+/// Which amounts of a kind a property takes.
+#[derive(Clone, Copy, Debug, PartialEq, Eq)]
+pub enum Takes {
+    Nothing,
+    All,
+    /// All but those below zero.
+    NotNegative,
+    /// Zero alone: any other is refused by name.
+    ZeroAlone,
+}
+
+/// Why a declaration gives no setting.
+#[derive(Clone, Copy, Debug, PartialEq, Eq)]
+pub enum Refusal {
+    /// The property is unknown, or its value is illegal: the declaration is dropped (CSS 2.1, 4.2).
+    Ignored,
+    /// The value of this property is refused by name.
+    Unsupported(Prop),
 }

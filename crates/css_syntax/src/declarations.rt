@@ -2,12 +2,10 @@ ghost use Rattle.std.specs.Prelude.{◌≡◌, [], None, Some, IfOk, MatchOption
 ghost use Rattle.std.specs.Option.{option_to_list};
 ghost use Rattle.css_semantics.specs.SheetsReading.{after_declaration, at_head, before_important, before_last, before_trimmed, decl_of, declaration, declaration_item, declarations, declared, goes_on, is_blank, is_value};
 
-use crate::kinds::{is_at_keyword, is_colon, is_gap, is_ident, is_semicolon};
-use crate::marks::Marks;
 use crate::slices::{Class, extent, is_all_gap, place, start_of, trim, trim_end, trim_start};
-use crate::stretches::{Stop, after_at_rule, is_character, split};
-use crate::words::is_word;
-use css_token::unescape;
+use crate::stretches::{Stop, after_at_rule, split};
+use css_token::kinds::{is_at_keyword, is_colon, is_gap, is_ident, is_semicolon};
+use css_token::{Marks, is_character, is_word, unescape};
 use std::alloc::Global;
 use viz_base::{Decl, List, Mem, Text, Token, TokenKind};
 

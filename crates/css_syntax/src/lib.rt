@@ -2,8 +2,6 @@
 #![tactic(auto)]
 
 mod declarations;
-mod kinds;
-mod marks;
 mod media;
 mod rules;
 mod sheets;
@@ -12,6 +10,5 @@ mod statements;
 mod stretches;
 #[cfg(test)]
 mod tests;
-mod words;
 
 pub use sheets::{SheetFault, read_declarations, read_sheet};

@@ -2,10 +2,10 @@ ghost use Rattle.std.specs.Prelude.{◌≡◌, [], IfOk};
 ghost use Rattle.std.specs.List.{list_any};
 ghost use Rattle.css_semantics.specs.SheetsReading.{entries, holds, is_screen};
 
-use crate::kinds::is_ident;
 use crate::slices::{Class, is_all_gap, trim};
 use crate::stretches::{Stop, skip_first, split};
-use crate::words::is_word;
+use css_token::is_word;
+use css_token::kinds::is_ident;
 use std::alloc::Global;
 use viz_base::{Mem, Token};
 

@@ -3,9 +3,9 @@ ghost use Rattle.std.specs.Option.{option_to_list};
 ghost use Rattle.css_semantics.specs.SheetsReading.{after_rule, after_ruleset, at_head, block_rule, rule_item, rule_of, rules_in};
 
 use crate::declarations::declarations;
-use crate::kinds::{is_at_keyword, is_gap};
 use crate::slices::{Class, extent, place, start_of, trim};
 use crate::stretches::{Stop, after_at_rule, after_block, split};
+use css_token::kinds::{is_at_keyword, is_gap};
 use std::alloc::Global;
 use viz_base::{List, Mem, Rule, Token};
 

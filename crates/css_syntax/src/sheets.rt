@@ -1,15 +1,15 @@
 ghost use Rattle.std.specs.Prelude.{◌≡◌, [], true, Ok, IfOk, MatchResult};
-ghost use Rattle.css_semantics.specs.SheetsReading.{closed_by_end, closed_kind, read_on, statements, with_statement};
+ghost use Rattle.css_semantics.specs.SheetsReading.{read_on, statements, with_statement};
 ghost use Rattle.css_semantics.specs.SheetsGrammar.{AreDeclarationsOf, IsSheetOf};
 ghost use Rattle.css_syntax.specs.Faults.{Fails, Gives, GivesOf};
 
 use crate::declarations::declarations;
 use crate::statements::statement_item;
 use css_semantics::Statement;
-use css_token::tokens;
+use css_token::{close_by_end, tokens};
 use std::alloc::{AllocError, AllocFailed, Global};
 use thiserror::Error;
-use viz_base::{Decl, List, Mem, Rule, Sheet, Token, TokenKind};
+use viz_base::{Decl, List, Mem, Rule, Sheet, Token};
 
 /// Why a text is refused as a style sheet. Places are in bytes of the text.
 #[derive(Clone, Copy, Debug, PartialEq, Eq, Error)]
@@ -57,31 +57,6 @@ impl<T: Drop> From<AllocFailed<T>> for SheetFault {
 
     fn from(_: AllocFailed<T>) -> Self {
         SheetFault::Mem
-    }
-}
-
-fn closed_kind(kind: TokenKind) -> TokenKind
-    ensures { result ≡ closed_kind kind }
-{
-    match kind {
-        TokenKind::BadString => TokenKind::Str,
-        TokenKind::BadUri => TokenKind::Uri,
-        kind => kind,
-    }
-}
-
-/// Closes a string or an address that is open at the end of the text (CSS 2.1, 4.2).
-fn close_by_end(tokens: &mut Vec<Token<'_>>)
-    ensures { tokens.new.items ≡ closed_by_end tokens.old.items }
-{
-    let len = tokens.len();
-    if len > 0 {
-        let Token { kind, at, text } = tokens[len - 1];
-        tokens[len - 1] = Token {
-            kind: closed_kind(kind),
-            at,
-            text,
-        };
     }
 }
 

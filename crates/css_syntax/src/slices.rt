@@ -4,7 +4,7 @@ ghost use Rattle.css_semantics.specs.SheetsMarks.{is_gap};
 ghost use Rattle.css_semantics.specs.SheetsReading.{extent, start_of, trim_end, trim_start, trimmed};
 ghost use Rattle.css_syntax.specs.Classes.{class_has};
 
-use crate::kinds::{is_gap, is_space};
+use css_token::kinds::{is_gap, is_space};
 use viz_base::{Mem, Token, TokenKind};
 
 /// What is cut from the ends of a stretch.

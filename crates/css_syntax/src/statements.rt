@@ -4,13 +4,13 @@ ghost use Rattle.std.specs.Option.{option_to_list};
 ghost use Rattle.css_semantics.specs.SheetsMarks.{has_paren};
 ghost use Rattle.css_semantics.specs.SheetsReading.{after_statement, at_head, at_rule, holds, in_block, media_of, rules_in, statement_item};
 
-use crate::kinds::{has_paren, is_at_keyword, is_comment_mark, is_gap, is_left_brace};
 use crate::media::holds;
 use crate::rules::{block_rule, rules_in};
 use crate::slices::place;
 use crate::stretches::{Stop, after_at_rule, split};
-use crate::words::is_word;
 use css_semantics::Statement;
+use css_token::is_word;
+use css_token::kinds::{has_paren, is_at_keyword, is_comment_mark, is_gap, is_left_brace};
 use std::alloc::Global;
 use viz_base::{List, Mem, Rule, Token};
 

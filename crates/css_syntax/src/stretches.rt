@@ -1,10 +1,9 @@
 ghost use Rattle.std.specs.Prelude.{◌≡◌, ◌≤◌, [], drop, length, IfOk};
-ghost use Rattle.css_semantics.specs.SheetsMarks.{is_character};
 ghost use Rattle.css_semantics.specs.SheetsReading.{after_at_rule, after_block, after_prelude, behind, front, stretch_len};
 ghost use Rattle.css_syntax.specs.Classes.{stops};
 
-use crate::kinds::{is_left_brace, is_semicolon};
-use crate::marks::Marks;
+use css_token::kinds::{is_left_brace, is_semicolon};
+use css_token::{Marks, is_character};
 use std::alloc::Global;
 use viz_base::{Mem, Token, TokenKind};
 
@@ -21,13 +20,6 @@ pub enum Stop {
     Declaration,
     /// An entry of a media list: before its `,`.
     Entry,
-}
-
-/// Whether the token is this character by itself.
-pub fn is_character(token: &Token<'_>, letter: u8) -> bool
-    ensures { result ≡ is_character letter token.now }
-{
-    matches!(token.kind, TokenKind::Delim) && token.text.as_bytes() == [letter].as_slice()
 }
 
 fn stops(stop: Stop, token: &Token<'_>) -> bool

@@ -4,7 +4,7 @@ use Rattle.std.proofs.lemmas.Bool.Decides.{same_from_decides}
 use Rattle.std.proofs.lemmas.Slice.Eq.{bytes_eq-Decides}
 use Rattle.css_semantics.specs.SheetsMarks.{is_word, text_of}
 use Rattle.css_semantics.specs.TokensUnescaped.{unescaped}
-use Rattle.css_syntax.proofs.words.is_word.Goals as goal
+use Rattle.css_token.proofs.matching.is_word.Goals as goal
 
 pub returns : goal.returns
 unfolding is_word text_of

@@ -1,0 +1,5 @@
+pub mod Classes
+pub mod Families
+pub mod Faults
+pub mod Refusals
+pub mod Rows

@@ -1,0 +1,129 @@
+ghost use Rattle.std.specs.Prelude.{◌≡◌, ◌≤◌, ◌*ℤ◌, ◌≤ℤ◌, ◌<ℤ◌, ◌^◌, pos, neg_ℤ, IfOk, IfSome};
+ghost use Rattle.std.specs.Int.{int_div_euclid};
+ghost use Rattle.std.specs.Option.{option_map};
+ghost use Rattle.std.specs.Str.{chars};
+ghost use Rattle.viz_base.specs.Decimals.{decimal_of};
+ghost use Rattle.viz_base.specs.Numbers.{floor_of};
+ghost use Rattle.css_semantics.specs.ValuesParts.{amount_in, amount_of, behind_numeral, counted, is_numeral, length_of, numeral_of, signed, unit_of};
+
+use crate::names::same_name;
+use css_semantics::Part;
+use css_token::{split_char, unescape};
+use std::alloc::Global;
+use viz_base::{Mem, Text, Token, TokenKind, read_decimal};
+
+fn is_numeral_byte(byte: u8) -> bool
+    ensures { result ≡ is_numeral byte }
+{
+    byte.is_ascii_digit() || byte == b'.'
+}
+
+fn is_numeral(letter: char) -> bool
+    ensures { result ≡ is_numeral letter }
+{
+    matches!(letter, '0'..='9' | '.')
+}
+
+/// The digits and the point at the front.
+fn numeral_of(text: &[u8]) -> &[u8]
+    ensures { result.now ≡ numeral_of text.now }
+{
+    for at in 0..text.len() {
+        if !is_numeral_byte(text[at]) {
+            return &text[..at];
+        }
+    }
+    text
+}
+
+/// What follows the digits and the point.
+fn behind_numeral(text: &str) -> &str
+    ensures { chars result.now ≡ behind_numeral (chars text.now) }
+{
+    let mut rest = text;
+    while let Some((letter, after)) = split_char(rest) {
+        if !is_numeral(letter) {
+            return rest;
+        }
+        rest = after;
+    }
+    rest
+}
+
+/// The unit of an amount, after escapes.
+fn unit_of(alloc: Global, token: &Token<'_>) -> Result<Text, Mem>
+    ensures { IfOk result (λ unit. unit ≡ unit_of (chars token.now.text.now)) }
+{
+    let unit = Token {
+        kind: TokenKind::Ident,
+        at: token.at,
+        text: behind_numeral(token.text),
+    };
+    unescape(alloc, &unit)
+}
+
+/// `n * times / parts`, rounded towards minus infinity.
+fn scaled(n: i64, times: i64, parts: i64) -> i64
+    requires low { neg_ℤ (pos (2 ^ 40)) ≤ℤ n }
+    requires high { n ≤ℤ pos (2 ^ 40) }
+    requires few { (pos 0 ≤ℤ times) }
+    requires small { times ≤ℤ pos (2 ^ 20) }
+    requires some { pos 0 <ℤ parts }
+    ensures { result ≡ int_div_euclid (n *ℤ times) parts }
+{
+    (n * times).div_euclid(parts)
+}
+
+/// A length of so many millionths of a unit, an absolute one by its floor in 1/64 px.
+fn length_of(n: i64, unit: &str) -> Part
+    requires low { neg_ℤ (pos (2 ^ 40)) ≤ℤ n }
+    requires high { n ≤ℤ pos (2 ^ 40) }
+    ensures { result ≡ length_of n unit.now }
+{
+    if same_name(unit, "px") {
+        Part::Px(scaled(n, 64, 1_000_000))
+    } else if same_name(unit, "in") {
+        Part::Px(scaled(n, 6144, 1_000_000))
+    } else if same_name(unit, "cm") {
+        Part::Px(scaled(n, 614_400, 254_000_000))
+    } else if same_name(unit, "mm") {
+        Part::Px(scaled(n, 61_440, 254_000_000))
+    } else if same_name(unit, "pt") {
+        Part::Px(scaled(n, 6144, 72_000_000))
+    } else if same_name(unit, "pc") {
+        Part::Px(scaled(n, 73_728, 72_000_000))
+    } else if same_name(unit, "em") {
+        Part::Em(n)
+    } else if same_name(unit, "ex") {
+        Part::Ex(n)
+    } else {
+        Part::Other
+    }
+}
+
+/// A count of millionths with its sign; none where it is past the bound.
+fn signed_count(negative: bool, token: &Token<'_>) -> Option<i64>
+    ensures value { result ≡ option_map (signed negative) (decimal_of (numeral_of token.now.text.now)) }
+    ensures low { IfSome result (λ n. neg_ℤ (pos (2 ^ 40)) ≤ℤ n) }
+    ensures high { IfSome result (λ n. n ≤ℤ pos (2 ^ 40)) }
+{
+    let n = read_decimal(numeral_of(token.text.as_bytes()))?;
+    if negative { Some(-n) } else { Some(n) }
+}
+
+/// The amount of a token that is a number, a percentage or a dimension.
+pub fn amount_of(alloc: Global, negative: bool, token: &Token<'_>) -> Result<Part, Mem>
+    ensures { IfOk result (λ part. part ≡ amount_of negative token.now) }
+{
+    let Some(n) = signed_count(negative, token) else {
+        return Ok(Part::Other);
+    };
+    match token.kind {
+        TokenKind::Number => Ok(Part::Number(n)),
+        TokenKind::Percentage => Ok(Part::Percentage(n)),
+        _ => {
+            let unit = unit_of(alloc, token)?;
+            Ok(length_of(n, unit.as_str()))
+        }
+    }
+}

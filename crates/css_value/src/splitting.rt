@@ -1,0 +1,136 @@
+ghost use Rattle.std.specs.Prelude.{◌≡◌, ◌≤◌, [], ◌∷◌, length, IfOk};
+ghost use Rattle.std.specs.Option.{option_to_list};
+ghost use Rattle.css_semantics.specs.SheetsReading.{at_head, closed_by_end, gathered};
+ghost use Rattle.css_semantics.specs.Tokens.{AreTokens};
+ghost use Rattle.css_semantics.specs.ValuesParts.{after_part, after_sign, delim_part, is_amount, is_minus, is_sign, part_item, part_of, parts, signed_part};
+
+use crate::amounts::amount_of;
+use crate::brackets::{bracket_len, function_part};
+use css_semantics::Part;
+use css_token::kinds::{closing_mark, is_gap};
+use css_token::{is_character, unescape};
+use std::alloc::Global;
+use viz_base::{List, Mem, Token, TokenKind};
+
+fn is_amount(kind: TokenKind) -> bool
+    ensures { result ≡ is_amount kind }
+{
+    matches!(
+        kind,
+        TokenKind::Number | TokenKind::Percentage | TokenKind::Dimension
+    )
+}
+
+fn is_minus(token: &Token<'_>) -> bool
+    ensures { result ≡ is_minus token.now }
+{
+    is_character(token, b'-')
+}
+
+fn is_sign(token: &Token<'_>) -> bool
+    ensures { result ≡ is_sign token.now }
+{
+    is_character(token, b'+') || is_minus(token)
+}
+
+/// The part that begins with a sign.
+fn signed_part(alloc: Global, sign: &Token<'_>, after: &[Token<'_>]) -> Result<Part, Mem>
+    ensures { IfOk result (λ part. part ≡ signed_part sign.now after.now) }
+{
+    match after.split_first() {
+        Some((token, _)) if is_amount(token.kind) => amount_of(alloc, is_minus(sign), token),
+        _ => Ok(Part::Other),
+    }
+}
+
+fn delim_part(alloc: Global, token: &Token<'_>, after: &[Token<'_>]) -> Result<Part, Mem>
+    ensures { IfOk result (λ part. part ≡ delim_part token.now after.now) }
+{
+    if is_character(token, b',') {
+        Ok(Part::Comma)
+    } else if is_character(token, b'/') {
+        Ok(Part::Solidus)
+    } else if is_sign(token) {
+        signed_part(alloc, token, after)
+    } else {
+        Ok(Part::Other)
+    }
+}
+
+/// The part that begins with a token.
+fn part_of(alloc: Global, token: &Token<'_>, after: &[Token<'_>]) -> Result<Part, Mem>
+    ensures { IfOk result (λ part. part ≡ part_of token.now.kind token.now after.now) }
+{
+    match token.kind {
+        TokenKind::Ident => Ok(Part::Word(unescape(alloc, token)?)),
+        TokenKind::Str => Ok(Part::Quoted(unescape(alloc, token)?)),
+        TokenKind::Number | TokenKind::Percentage | TokenKind::Dimension => {
+            amount_of(alloc, false, token)
+        }
+        TokenKind::Hash => Ok(Part::Colour),
+        TokenKind::Function => function_part(alloc, after),
+        TokenKind::Delim => delim_part(alloc, token, after),
+        _ => Ok(Part::Other),
+    }
+}
+
+/// What follows a sign, without the amount that belongs to it.
+fn after_sign<'a>(tokens: &'a [Token<'a>]) -> &'a [Token<'a>]
+    ensures { result.now ≡ after_sign tokens.now }
+{
+    match tokens.split_first() {
+        Some((token, after)) if is_amount(token.kind) => after,
+        _ => tokens,
+    }
+}
+
+/// What follows the part that begins with a token.
+fn after_part<'a>(
+    alloc: Global,
+    token: &Token<'_>,
+    after: &'a [Token<'a>],
+) -> Result<&'a [Token<'a>], Mem>
+    ensures { IfOk result (λ rest. rest.now ≡ after_part token.now after.now) }
+{
+    if closing_mark(token.kind).is_some() {
+        let len = bracket_len(alloc, token.kind, after)?;
+        Ok(&after[len..])
+    } else if is_sign(token) {
+        Ok(after_sign(after))
+    } else {
+        Ok(after)
+    }
+}
+
+/// The part that begins the tokens, if it isn't white space or a comment, and what follows.
+fn part_item<'a>(
+    alloc: Global,
+    tokens: &'a [Token<'a>],
+) -> Result<(Option<Part>, &'a [Token<'a>]), Mem>
+    ensures { IfOk result (λ p. (option_to_list p.0 ≡ at_head part_item tokens.now) × (p.1.now ≡ at_head after_part tokens.now)) }
+{
+    let Some((token, after)) = tokens.split_first() else {
+        return Ok((None, tokens));
+    };
+    let rest = after_part(alloc, token, after)?;
+    if is_gap(token.kind) {
+        return Ok((None, rest));
+    }
+    Ok((Some(part_of(alloc, token, after)?), rest))
+}
+
+/// The parts of a value, of whose tokens the last is closed by the end of the text.
+pub fn split<'a>(alloc: Global, tokens: &'a [Token<'a>]) -> Result<List<Part>, Mem>
+    ensures { IfOk result (λ parts. parts ≡ gathered part_item after_part 0 tokens.now) }
+{
+    let mut parts = List::new(alloc);
+    let mut at = 0;
+    while at < tokens.len() {
+        let (part, rest) = part_item(alloc, &tokens[at..])?;
+        if let Some(part) = part {
+            parts.push(part)?;
+        }
+        at = tokens.len() - rest.len();
+    }
+    Ok(parts)
+}
