@@ -4,3 +4,4 @@ pub mod Rulesets
 pub mod Matchings
 pub mod Applies
 pub mod Walks
+pub mod OneNode

@@ -11,7 +11,7 @@ use Rattle.viz_base.specs.declared.sheets.Sheet.{Sheet}
 use Rattle.css_semantics.specs.declared.claims.Origin.{Origin}
 use Rattle.css_semantics.specs.declared.claims.Ruleset.{Ruleset}
 use Rattle.css_semantics.specs.CascadeReading.{AreRulesets, Each, IsRuleset, IsSlice, Refused, sheet_origin}
-use Rattle.css_semantics.specs.Cascade.{IsCascade, Refusal, refused_selector}
+use Rattle.css_semantics.specs.Cascade.{IsCascade, Fault, refused_selector}
 use Rattle.css_cascade.specs.declared.faults.CascadeFault.{CascadeFault}
 use Rattle.css_cascade.specs.declared.faults.CascadeFault.TheVariants.{Mem, Selector as SelectorAt, Value}
 use Rattle.css_select.specs.declared.faults.SelFault.{SelFault}
@@ -53,7 +53,7 @@ refused_page nodes texts sheets Mem h = h
 refused_page nodes texts sheets (SelectorAt s at) h = refused_selector h
 refused_page nodes texts sheets (Value n p source) h = absurd h
 
-pub gives_on : (r : Result Cascaded CascadeFault) (P Q : Result (List (List Setting)) Refusal → Type 0) → ((a : Result (List (List Setting)) Refusal) → P a → Q a) → GivesOf r P → GivesOf r Q
+pub gives_on : (r : Result Cascaded CascadeFault) (P Q : Result (List (List Setting)) Fault → Type 0) → ((a : Result (List (List Setting)) Fault) → P a → Q a) → GivesOf r P → GivesOf r Q
 gives_on (Ok c) P Q f h = f _ h
 gives_on (Err Mem) P Q f h = h
 gives_on (Err (SelectorAt s at)) P Q f h = f _ h

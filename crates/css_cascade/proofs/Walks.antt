@@ -5,14 +5,14 @@ use Rattle.viz_base.specs.declared.settings.Setting.{Setting}
 use Rattle.css_semantics.specs.declared.claims.Claim.{Claim}
 use Rattle.css_semantics.specs.declared.claims.Ruleset.{Ruleset}
 use Rattle.css_semantics.specs.declared.claims.Standing.{Standing}
-use Rattle.css_semantics.specs.Cascade.{ComesTo, Goes, Refusal, value_at}
+use Rattle.css_semantics.specs.Cascade.{ComesTo, Goes, Fault, value_at}
 use Rattle.css_cascade.specs.declared.faults.CascadeFault.{CascadeFault}
 use Rattle.css_cascade.specs.declared.faults.CascadeFault.TheVariants.{Mem, Selector, Value}
 use Rattle.css_cascade.specs.Faults.{FailsOf, Judges}
 use Rattle.css_cascade.proofs.Reaching.{drop_at, drop_all}
 
 abbrev Answer : Type 0
-Answer = Result (List (List Setting)) Refusal
+Answer = Result (List (List Setting)) Fault
 
 pub record ReachedNodes (nodes : List Node) (rulesets : List Ruleset) (at : ℕ) (standings : List Standing) (winners : List (List Setting)) : Type 0 where
   pub count : length winners ≡ at

@@ -9,17 +9,17 @@ use Rattle.css_semantics.specs.declared.claims.Standing.{Standing}
 use Rattle.css_semantics.specs.CascadeReading.{Refused, unsupported_at}
 use Rattle.css_select.specs.declared.faults.SelFault.{SelFault}
 use Rattle.css_select.specs.declared.faults.SelFault.TheVariants as of_selector
-use Rattle.css_semantics.specs.Cascade.{Refusal, selector_at, value_at}
+use Rattle.css_semantics.specs.Cascade.{Fault, selector_at, value_at}
 use Rattle.css_cascade.specs.declared.faults.CascadeFault.{CascadeFault}
 use Rattle.css_cascade.specs.declared.faults.CascadeFault.TheVariants.{Mem, Selector, Value}
 
 -- what an answer says where `Answer` says which answers of the definition a page has
-abbrev pub FailsOf : CascadeFault → (Result (List (List Setting)) Refusal → Type 0) → Type 0
+abbrev pub FailsOf : CascadeFault → (Result (List (List Setting)) Fault → Type 0) → Type 0
 FailsOf Mem Answer = Unit {0}
 FailsOf (Selector sheet at) Answer = Answer (Err (selector_at sheet at))
 FailsOf (Value node p source) Answer = Answer (Err (value_at node p source))
 
-abbrev pub GivesOf : Result Cascaded CascadeFault → (Result (List (List Setting)) Refusal → Type 0) → Type 0
+abbrev pub GivesOf : Result Cascaded CascadeFault → (Result (List (List Setting)) Fault → Type 0) → Type 0
 GivesOf (Ok c) Answer = Answer (Ok c.winners)
 GivesOf (Err fault) Answer = FailsOf fault Answer
 

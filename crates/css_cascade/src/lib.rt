@@ -8,6 +8,8 @@ mod faults;
 mod nodes;
 mod order;
 mod reading;
+#[cfg(test)]
+mod tests;
 
 pub use cascading::cascade;
 pub use defaults::default_sheet;

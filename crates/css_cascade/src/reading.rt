@@ -3,7 +3,7 @@ ghost use Rattle.std.specs.List.{AllByRecursion};
 ghost use Rattle.std.specs.Option.{option_to_list};
 ghost use Rattle.std.specs.Prelude.{List as Seq, Result, None};
 ghost use Rattle.viz_base.specs.declared.settings.Setting.{Setting};
-ghost use Rattle.css_semantics.specs.Values.{Refusal};
+ghost use Rattle.css_semantics.specs.declared.parts.Refusal.{Refusal};
 ghost use Rattle.css_semantics.specs.Shorthands.{Says};
 ghost use Rattle.css_semantics.specs.Specificity.{IsCountable};
 ghost use Rattle.css_semantics.specs.CascadeReading.{AreClaimed, AreRulesets, Each, IsClaimed, IsNoSlice, IsRanked, IsRuleset, IsSlice, claim_of, claims_of, sheet_origin, source_of, unsupported_at, weight_of};

@@ -25,12 +25,13 @@ use Rattle.css_semantics.specs.declared.claims.Ranked.{Ranked}
 use Rattle.css_semantics.specs.declared.claims.Ruleset.{Ruleset}
 use Rattle.css_semantics.specs.declared.claims.Weight.{Weight}
 use Rattle.css_semantics.specs.declared.claims.Weight.TheVariants as of_weight
+use Rattle.css_semantics.specs.declared.parts.Refusal.{Refusal}
+use Rattle.css_semantics.specs.declared.parts.Refusal.TheVariants as refusal
 use Rattle.css_semantics.specs.SheetsGrammar.{AreDeclarationsOf}
 use Rattle.css_semantics.specs.SelectorGrammar.{IsGroupOf, IsUnsupportedAt, IsBadAt}
 use Rattle.css_semantics.specs.Matching.{Match}
 use Rattle.css_semantics.specs.Specificity.{spec_of}
 use Rattle.css_semantics.specs.Properties.{same_name}
-use Rattle.css_semantics.specs.Values.{Refusal, ignored, unsupported}
 use Rattle.css_semantics.specs.Shorthands.{Says}
 use Rattle.css_semantics.specs.CascadeOrder.{Applied, applied, greatest, spec_cmp, style_spec}
 
@@ -74,8 +75,8 @@ claim_of origin d p v = record { prop = p; value = v; weight = weight_of origin 
 -- What a declaration says of each property: nothing where it is dropped; of a value that is refused by name, that it is.
 abbrev pub claims_of : Origin → Decl → Result (List Setting) Refusal → List Claim
 claims_of origin d (Ok settings) = map (λ s. claim_of origin d s.prop (Some s.value)) settings
-claims_of origin d (Err ignored) = []
-claims_of origin d (Err (unsupported p)) = claim_of origin d p None ∷ []
+claims_of origin d (Err refusal.Ignored) = []
+claims_of origin d (Err (refusal.Unsupported p)) = claim_of origin d p None ∷ []
 
 -- where a ruleset is refused: the author's sheet, and the place in it
 abbrev pub Refused : Type 0
