@@ -6,3 +6,7 @@ pub mod Complete
 pub mod Faulty
 pub mod Exact
 pub mod Answers
+pub mod Words
+pub mod Passing
+pub mod Nodes
+pub mod Tries

@@ -2,3 +2,6 @@ pub mod Chains
 pub mod Machine
 pub mod Gives
 pub mod Verdicts
+pub mod Attributes
+pub mod Outcomes
+pub mod Trees

@@ -2,14 +2,21 @@
 #![tactic(auto)]
 
 mod acts;
+mod attributes;
+mod counts;
 mod faults;
 mod laws;
+mod matching;
 mod names;
 mod read;
 mod reading;
+
 mod steps;
 mod terminals;
+mod tree;
 
 pub use faults::SelFault;
 pub use laws::one_reading;
+pub use matching::matches;
 pub use read::read_selector;
+pub use counts::specificity;

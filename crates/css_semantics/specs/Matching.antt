@@ -1,6 +1,6 @@
 -- Which elements of a page a selector matches (CSS 2.1, chapter 5).
 use Rattle.std.specs.Prelude.{◌≡◌, ℕ, ◌<◌, Bool, true, false, List, [], ◌∷◌, ◌++◌, map, reverse, slice_get, Option, Some, None, ◌⊎◌, codes}
-use Rattle.std.specs.List.{AllByRecursion, Contains}
+use Rattle.std.specs.List.{AllByRecursion}
 use Rattle.std.specs.Char.{to_ascii_lowercase}
 use Rattle.viz_base.specs.declared.nodes.Attr.{Attr}
 use Rattle.viz_base.specs.declared.nodes.Body.TheVariants as of_body
@@ -55,7 +55,9 @@ IsSameName a b = map to_ascii_lowercase a ≡ map to_ascii_lowercase b
 -- the element has an attribute of this name whose value passes
 pub record HasAttribute (e : Element) (name : List ℕ) (Passes : List ℕ → Type 0) : Type 0 where
   pub attribute : Attr
-  pub among : Contains e.attrs attribute
+  pub before : List Attr
+  pub after : List Attr
+  pub among : e.attrs ≡ before ++ attribute ∷ after
   pub named : IsSameName name attribute.name
   pub passes : Passes attribute.value
 

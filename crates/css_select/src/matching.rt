@@ -1,0 +1,120 @@
+ghost use Rattle.std.specs.Prelude.{◌≡◌, ◌↔◌, reverse, IsTrue};
+ghost use Rattle.std.specs.List.{AllByRecursion};
+ghost use Rattle.viz_base.specs.Pages.{is_element_at};
+ghost use Rattle.css_semantics.specs.Matching.{HasTag, Match, MatchesCompound, Passes};
+ghost use Rattle.css_select.specs.Outcomes.{IsOutcome, IsOutcomeAround};
+
+use crate::attributes::{same_name, some_attribute};
+use crate::tree::{is_first_child, parent_of, previous_sibling};
+use viz_base::{Body, Compound, Element, Join, Page, Selector, Test, Text};
+
+/// Whether an element passes a test.
+fn passes(page: &Page, node: u32, element: &Element, test: &Test) -> bool
+    ensures { IsTrue result ↔ Passes page.now.nodes node element.now test.now }
+{
+    match test {
+        Test::FirstChild => is_first_child(page, node),
+        Test::Link => same_name("a", element.tag.as_str()) && some_attribute(element, test),
+        _ => some_attribute(element, test),
+    }
+}
+
+/// Whether an element passes all tests.
+fn passes_all(page: &Page, node: u32, element: &Element, tests: &[Test]) -> bool
+    ensures { IsTrue result ↔ AllByRecursion (Passes page.now.nodes node element.now) tests.now }
+{
+    for test in tests {
+        if !passes(page, node, element, test) {
+            return false;
+        }
+    }
+    true
+}
+
+/// Whether an element has the tag that is asked for, if one is.
+fn has_tag(element: &Element, tag: &Option<Text>) -> bool
+    ensures { IsTrue result ↔ HasTag element.now tag.now }
+{
+    match tag {
+        Some(tag) => same_name(tag.as_str(), element.tag.as_str()),
+        None => true,
+    }
+}
+
+/// Whether a simple selector matches a node.
+fn matches_compound(page: &Page, compound: &Compound, node: u32) -> bool
+    ensures { IsTrue result ↔ MatchesCompound page.now.nodes compound.now node }
+{
+    let Some(found) = page.nodes.get(node as usize) else {
+        return false;
+    };
+    match &found.body {
+        Body::Element(element) => {
+            has_tag(element, &compound.tag)
+                && passes_all(page, node, element, compound.tests.as_slice())
+        }
+        Body::Chars(_) => false,
+    }
+}
+
+/// How far matching the simple selectors of a selector came at a node.
+#[derive(Clone, Copy, Debug)]
+enum Outcome {
+    /// They match.
+    Found,
+    /// They don't.
+    Failed,
+    /// They don't, nor at any node above: each element around the place where an element was looked for failed, and these
+    /// are all that another try would find.
+    Hopeless,
+}
+
+/// Matches the simple selectors at a node, the last of them first.
+#[cycle(matching)]
+fn match_parts(page: &Page, parts: &[(Join, Compound)], node: u32) -> Outcome
+    ensures { IsOutcome page.now.nodes (reverse parts.now) node result }
+{
+    let Some(((join, compound), before)) = parts.split_last() else {
+        return Outcome::Found;
+    };
+    if !matches_compound(page, compound, node) {
+        return Outcome::Failed;
+    }
+    match join {
+        Join::First => Outcome::Found,
+        Join::Descendant => match_around(page, before, node),
+        Join::Child => match parent_of(page, node) {
+            Some(parent) => match_parts(page, before, parent),
+            None => Outcome::Failed,
+        },
+        Join::Next => match previous_sibling(page, node) {
+            Some(sibling) => match_parts(page, before, sibling),
+            None => Outcome::Failed,
+        },
+    }
+}
+
+/// Matches them at the elements around a node, the nearest first. Behind one from which the search came to an end without
+/// an element, the others need no try.
+#[cycle(matching)]
+fn match_around(page: &Page, parts: &[(Join, Compound)], node: u32) -> Outcome
+    ensures { IsOutcomeAround page.now.nodes (reverse parts.now) node result }
+{
+    let mut at = node;
+    while let Some(parent) = parent_of(page, at) {
+        match match_parts(page, parts, parent) {
+            Outcome::Failed => at = parent,
+            outcome => return outcome,
+        }
+    }
+    Outcome::Hopeless
+}
+
+/// Whether a selector matches an element of a page (CSS 2.1, chapter 5), in time linear in the depth of the page for each
+/// simple selector, and in its siblings where one looks at them.
+pub fn matches(selector: &Selector, page: &Page, node: u32) -> bool
+    requires { IsTrue (is_element_at page.now.nodes node) }
+    ensures { IsTrue result ↔ Match selector.now.parts page.now.nodes node }
+{
+    matches!(match_parts(page, selector.parts.as_slice(), node), Outcome::Found)
+}
