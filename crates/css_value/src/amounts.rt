@@ -111,6 +111,19 @@ fn signed_count(negative: bool, token: &Token<'_>) -> Option<i64>
     if negative { Some(-n) } else { Some(n) }
 }
 
+/// An amount of so many millionths, by the kind of its token.
+fn amount_in(kind: TokenKind, n: i64, unit: &str) -> Part
+    requires low { neg_ℤ (pos (2 ^ 40)) ≤ℤ n }
+    requires high { n ≤ℤ pos (2 ^ 40) }
+    ensures { result ≡ amount_in kind n unit.now }
+{
+    match kind {
+        TokenKind::Number => Part::Number(n),
+        TokenKind::Percentage => Part::Percentage(n),
+        _ => length_of(n, unit),
+    }
+}
+
 /// The amount of a token that is a number, a percentage or a dimension.
 pub fn amount_of(alloc: Global, negative: bool, token: &Token<'_>) -> Result<Part, Mem>
     ensures { IfOk result (λ part. part ≡ amount_of negative token.now) }
@@ -118,12 +131,6 @@ pub fn amount_of(alloc: Global, negative: bool, token: &Token<'_>) -> Result<Par
     let Some(n) = signed_count(negative, token) else {
         return Ok(Part::Other);
     };
-    match token.kind {
-        TokenKind::Number => Ok(Part::Number(n)),
-        TokenKind::Percentage => Ok(Part::Percentage(n)),
-        _ => {
-            let unit = unit_of(alloc, token)?;
-            Ok(length_of(n, unit.as_str()))
-        }
-    }
+    let unit = unit_of(alloc, token)?;
+    Ok(amount_in(token.kind, n, unit.as_str()))
 }

@@ -127,14 +127,10 @@ fn list_style(parts: &[Part]) -> Result<List<Setting>, ValueFault>
 }
 
 /// What the value of a shorthand gives.
-fn shorthand(
-    alloc: Global,
-    shorthand: Shorthand,
-    parts: &[Part],
-) -> Result<List<Setting>, ValueFault>
-    ensures { Gives result (shorthand shorthand parts.now) }
+fn shorthand(alloc: Global, known: Shorthand, parts: &[Part]) -> Result<List<Setting>, ValueFault>
+    ensures { Gives result (shorthand known parts.now) }
 {
-    match shorthand {
+    match known {
         Shorthand::Margin => four_sides(alloc, MARGINS, parts),
         Shorthand::Padding => four_sides(alloc, PADDINGS, parts),
         Shorthand::BorderWidth => four_sides(alloc, WIDTHS, parts),

@@ -20,6 +20,7 @@ enum Before {
 
 /// The names of font families that the parts are (CSS 2.1, 15.3): strings, and identifiers joined by a space, with commas
 /// between them; none where they are no such list.
+#[tactic(auto, using(crate::proofs::FamilyLemmas::with_front_nil, crate::proofs::FamilyLemmas::with_front_push))]
 pub fn families(alloc: Global, parts: &[Part]) -> Result<Option<List<Text>>, Mem>
     ensures { IfOk result (λ names. names ≡ families parts.now) }
 {
@@ -42,6 +43,7 @@ pub fn families(alloc: Global, parts: &[Part]) -> Result<Option<List<Text>>, Mem
 }
 
 /// Goes past a part, if it may stand there.
+#[tactic(auto, using(crate::proofs::FamilyLemmas::with_front_push))]
 fn next(
     alloc: Global,
     names: &mut List<Text>,

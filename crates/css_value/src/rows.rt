@@ -1,4 +1,5 @@
 ghost use Rattle.std.specs.Prelude.{◌≡◌, ◌<◌, map, length};
+ghost use Rattle.std.specs.List.{find};
 ghost use Rattle.css_semantics.specs.Properties.{property_named, row, same_name};
 ghost use Rattle.css_value.specs.Rows.{filled};
 
@@ -367,14 +368,21 @@ fn is_named(name: &str, prop: Prop) -> bool
     same_name(name, row(prop).name)
 }
 
-/// The property of this name, in any ASCII case; none where the table has none.
-pub fn property_named(name: &str) -> Option<Prop>
-    ensures { result ≡ property_named name.now }
+/// The first of the properties that has this name.
+fn first_named(name: &str, props: &[Prop]) -> Option<Prop>
+    ensures { result ≡ find (λ p. same_name name.now (row p).name) props.now }
 {
-    for prop in PROPERTIES.as_slice() {
+    for prop in props {
         if is_named(name, *prop) {
             return Some(*prop);
         }
     }
     None
+}
+
+/// The property of this name, in any ASCII case; none where the table has none.
+pub fn property_named(name: &str) -> Option<Prop>
+    ensures { result ≡ property_named name.now }
+{
+    first_named(name, &PROPERTIES)
 }

@@ -75,17 +75,14 @@ fn spread(alloc: Global, sides: Sides, parts: &[Part]) -> Result<List<Setting>, 
 }
 
 /// What the value of a shorthand for four sides gives (CSS 2.1, 8.3, 8.4, 8.5.1 and 8.5.3).
-pub fn four_sides(alloc: Global, sides: Sides, parts: &[Part]) -> Result<List<Setting>, ValueFault>
-    ensures { Gives result (sides sides.top sides.right sides.bottom sides.left parts.now) }
+pub fn four_sides(alloc: Global, on: Sides, parts: &[Part]) -> Result<List<Setting>, ValueFault>
+    ensures { Gives result (sides on.top on.right on.bottom on.left parts.now) }
 {
     if is_inherit(parts) {
         let mut settings = List::new(alloc);
-        inherit(
-            &mut settings,
-            &[sides.top, sides.right, sides.bottom, sides.left],
-        )?;
+        inherit(&mut settings, &[on.top, on.right, on.bottom, on.left])?;
         Ok(settings)
     } else {
-        spread(alloc, sides, parts)
+        spread(alloc, on, parts)
     }
 }

@@ -1,7 +1,7 @@
 ghost use Rattle.std.specs.Prelude.{◌≡◌, ◌≤◌, [], ◌∷◌, length, IfOk};
 ghost use Rattle.std.specs.Option.{option_to_list};
-ghost use Rattle.css_semantics.specs.SheetsReading.{at_head, closed_by_end, gathered};
-ghost use Rattle.css_semantics.specs.Tokens.{AreTokens};
+ghost use Rattle.css_semantics.specs.SheetsMarks.{text_of};
+ghost use Rattle.css_semantics.specs.SheetsReading.{at_head, gathered};
 ghost use Rattle.css_semantics.specs.ValuesParts.{after_part, after_sign, delim_part, is_amount, is_minus, is_sign, part_item, part_of, parts, signed_part};
 
 use crate::amounts::amount_of;
@@ -10,7 +10,7 @@ use css_semantics::Part;
 use css_token::kinds::{closing_mark, is_gap};
 use css_token::{is_character, unescape};
 use std::alloc::Global;
-use viz_base::{List, Mem, Token, TokenKind};
+use viz_base::{List, Mem, Text, Token, TokenKind};
 
 fn is_amount(kind: TokenKind) -> bool
     ensures { result ≡ is_amount kind }
@@ -57,13 +57,21 @@ fn delim_part(alloc: Global, token: &Token<'_>, after: &[Token<'_>]) -> Result<P
     }
 }
 
+/// What a token says, after escapes.
+#[tactic(auto, unfolding(css_semantics::specs::SheetsMarks::text_of))]
+fn said(alloc: Global, token: &Token<'_>) -> Result<Text, Mem>
+    ensures { IfOk result (λ text. text ≡ text_of token.now) }
+{
+    unescape(alloc, token)
+}
+
 /// The part that begins with a token.
 fn part_of(alloc: Global, token: &Token<'_>, after: &[Token<'_>]) -> Result<Part, Mem>
     ensures { IfOk result (λ part. part ≡ part_of token.now.kind token.now after.now) }
 {
     match token.kind {
-        TokenKind::Ident => Ok(Part::Word(unescape(alloc, token)?)),
-        TokenKind::Str => Ok(Part::Quoted(unescape(alloc, token)?)),
+        TokenKind::Ident => Ok(Part::Word(said(alloc, token)?)),
+        TokenKind::Str => Ok(Part::Quoted(said(alloc, token)?)),
         TokenKind::Number | TokenKind::Percentage | TokenKind::Dimension => {
             amount_of(alloc, false, token)
         }
@@ -78,10 +86,12 @@ fn part_of(alloc: Global, token: &Token<'_>, after: &[Token<'_>]) -> Result<Part
 fn after_sign<'a>(tokens: &'a [Token<'a>]) -> &'a [Token<'a>]
     ensures { result.now ≡ after_sign tokens.now }
 {
-    match tokens.split_first() {
-        Some((token, after)) if is_amount(token.kind) => after,
-        _ => tokens,
+    if let Some((token, after)) = tokens.split_first() {
+        if is_amount(token.kind) {
+            return after;
+        }
     }
+    tokens
 }
 
 /// What follows the part that begins with a token.

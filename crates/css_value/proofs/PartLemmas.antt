@@ -1,0 +1,32 @@
+-- Parts of a value.
+use Rattle.std.proofs.Common.{◌≡◌, ℕ, ℤ, Bool, true, false, List, [], ◌∷◌, Option, Some, None, refl, sym, ap, ◌∙◌, drop}
+use Rattle.std.specs.Option.{option_map}
+use Rattle.std.specs.Str.{chars}
+use Rattle.viz_base.specs.declared.tokens.Token.{Token}
+use Rattle.viz_base.specs.declared.tokens.TokenKind.{TokenKind}
+use Rattle.css_semantics.specs.SheetsMarks.{closing_mark}
+use Rattle.css_semantics.specs.SheetsReading.{is_none, stretch_len}
+use Rattle.css_semantics.specs.ValuesParts.{amount_in, after_opener, after_part, after_sign, bracket_len, counted, is_amount, is_sign, signed, unit_of}
+use Rattle.css_semantics.proofs.Gathering.{IsTail, HasTails, tail_all, tail_tail}
+use Rattle.css_semantics.proofs.Tails.{tail_if}
+
+sign_tail : (ts : List Token) → IsTail (after_sign ts) ts
+sign_tail [] = tail_all []
+sign_tail (t ∷ ts) = tail_if (is_amount t.kind) ts (t ∷ ts) (t ∷ ts) (λ _. tail_tail t ts (t ∷ ts) (tail_all (t ∷ ts))) (λ _. tail_all (t ∷ ts))
+
+opener_tail : (o : Option TokenKind) (t : Token) (ts : List Token) → IsTail (after_opener o t ts) ts
+opener_tail (Some mark) t ts = (bracket_len mark ts, refl)
+opener_tail None t ts = tail_if (is_sign t) (after_sign ts) ts ts (λ _. sign_tail ts) (λ _. tail_all ts)
+
+-- what follows a part is an end of the tokens behind its first
+pub part_tails : HasTails after_part
+part_tails t ts = opener_tail (closing_mark t.kind) t ts
+
+pub stretch_none : (marks : List TokenKind) (ts : List Token) → is_none marks ≡ true → stretch_len (λ t. true) marks ts ≡ 0
+stretch_none [] [] e = refl
+stretch_none [] (t ∷ ts) e = refl
+stretch_none (m ∷ ms) ts e = cc
+
+pub counted_some : (negative : Bool) (t : Token) (o : Option ℕ) (n : ℤ) → option_map (signed negative) o ≡ Some n → counted negative t o ≡ amount_in t.kind n (unit_of (chars t.text.now))
+counted_some negative t None n e = cc
+counted_some negative t (Some m) n e = cc

@@ -1,7 +1,0 @@
-use Rattle.std.proofs.Common.{◌≡◌, drop}
-use Rattle.std.specs.List.{find}
-use Rattle.css_semantics.specs.Properties.{properties, row, same_name}
-use Rattle.css_value.proofs.rows.property_named.Given as goal
-
-abbrev pub invariant-loop-prop : goal.invariant-loop-prop
-invariant-loop-prop l = find (λ p. same_name l.name (row p).name) (drop l.prop-index properties) ≡ find (λ p. same_name l.name (row p).name) properties
