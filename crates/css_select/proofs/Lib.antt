@@ -10,3 +10,6 @@ pub mod Words
 pub mod Passing
 pub mod Nodes
 pub mod Tries
+pub mod Counting
+pub mod Sizes
+pub mod Lengths

@@ -1,8 +1,8 @@
-ghost use Rattle.std.specs.Prelude.{◌≡◌, ◌+◌, ◌<◌, ◌≤◌, ◌^◌, not, length};
+ghost use Rattle.std.specs.Prelude.{◌≡◌, ◌+◌, ◌<◌, ◌≤◌, ◌^◌, length};
 ghost use Rattle.std.specs.List.{count_by};
-ghost use Rattle.css_semantics.specs.Specificity.{IsCountable, has_tag, is_id, spec_of};
+ghost use Rattle.css_semantics.specs.Specificity.{IsCountable, ids, is_id, is_other, others, spec_of, tags};
 
-use viz_base::{Selector, Spec, Test};
+use viz_base::{Compound, Join, Selector, Spec, Test};
 
 fn is_id(test: &Test) -> bool
     ensures { result ≡ is_id test.now }
@@ -11,7 +11,7 @@ fn is_id(test: &Test) -> bool
 }
 
 /// The number of ids among tests.
-fn ids(tests: &[Test]) -> u32
+fn ids_among(tests: &[Test]) -> u32
     requires { length tests.now < 2 ^ 32 }
     ensures { result ≡ count_by is_id tests.now }
 {
@@ -24,24 +24,68 @@ fn ids(tests: &[Test]) -> u32
     count
 }
 
+/// The number of the other tests.
+fn others_among(tests: &[Test]) -> u32
+    requires { length tests.now < 2 ^ 32 }
+    ensures { result ≡ count_by is_other tests.now }
+{
+    let mut count = 0;
+    for test in tests {
+        if !is_id(test) {
+            count += 1;
+        }
+    }
+    count
+}
+
+/// The number of ids in a selector.
+fn ids(parts: &[(Join, Compound)]) -> u32
+    requires { IsCountable parts.now }
+    ensures { result ≡ ids parts.now }
+{
+    let mut count = 0;
+    for (_, compound) in parts {
+        count += ids_among(compound.tests.as_slice());
+    }
+    count
+}
+
+/// The number of the other tests in a selector.
+fn others(parts: &[(Join, Compound)]) -> u32
+    requires { IsCountable parts.now }
+    ensures { result ≡ others parts.now }
+{
+    let mut count = 0;
+    for (_, compound) in parts {
+        count += others_among(compound.tests.as_slice());
+    }
+    count
+}
+
+/// The number of tags in a selector.
+fn tags(parts: &[(Join, Compound)]) -> u32
+    requires { IsCountable parts.now }
+    ensures { result ≡ tags parts.now }
+{
+    let mut count = 0;
+    for (_, compound) in parts {
+        if compound.tag.is_some() {
+            count += 1;
+        }
+    }
+    count
+}
+
 /// How specific a selector is (CSS 2.1, 6.4.3).
 pub fn specificity(selector: &Selector) -> Spec
     requires { IsCountable selector.now.parts }
     ensures { result ≡ spec_of selector.now.parts }
 {
-    let mut spec = Spec {
+    let parts = selector.parts.as_slice();
+    Spec {
         style: 0,
-        ids: 0,
-        attrs: 0,
-        types: 0,
-    };
-    for (_, compound) in selector.parts.as_slice() {
-        let ids = ids(compound.tests.as_slice());
-        spec.ids += ids;
-        spec.attrs += compound.tests.len() as u32 - ids;
-        if compound.tag.is_some() {
-            spec.types += 1;
-        }
+        ids: ids(parts),
+        attrs: others(parts),
+        types: tags(parts),
     }
-    spec
 }

@@ -10,13 +10,12 @@ mod matching;
 mod names;
 mod read;
 mod reading;
-
 mod steps;
 mod terminals;
 mod tree;
 
+pub use counts::specificity;
 pub use faults::SelFault;
 pub use laws::one_reading;
 pub use matching::matches;
 pub use read::read_selector;
-pub use counts::specificity;

@@ -1,6 +1,5 @@
 ghost use Rattle.std.specs.Prelude.{◌≡◌, ◌↔◌, reverse, IsTrue};
 ghost use Rattle.std.specs.List.{AllByRecursion};
-ghost use Rattle.viz_base.specs.Pages.{is_element_at};
 ghost use Rattle.css_semantics.specs.Matching.{HasTag, Match, MatchesCompound, Passes};
 ghost use Rattle.css_select.specs.Outcomes.{IsOutcome, IsOutcomeAround};
 
@@ -110,10 +109,9 @@ fn match_around(page: &Page, parts: &[(Join, Compound)], node: u32) -> Outcome
     Outcome::Hopeless
 }
 
-/// Whether a selector matches an element of a page (CSS 2.1, chapter 5), in time linear in the depth of the page for each
+/// Whether a selector matches a node of a page, which is an element then (CSS 2.1, chapter 5), in time linear in the depth of the page for each
 /// simple selector, and in its siblings where one looks at them.
 pub fn matches(selector: &Selector, page: &Page, node: u32) -> bool
-    requires { IsTrue (is_element_at page.now.nodes node) }
     ensures { IsTrue result ↔ Match selector.now.parts page.now.nodes node }
 {
     matches!(match_parts(page, selector.parts.as_slice(), node), Outcome::Found)

@@ -1,5 +1,7 @@
 ghost use Rattle.std.specs.Prelude.{◌≡◌, map, IfOk, MatchResult};
+ghost use Rattle.std.specs.List.{All};
 ghost use Rattle.css_semantics.specs.SelectorGrammar.{IsGroupOf};
+ghost use Rattle.css_semantics.specs.Specificity.{IsCountable};
 ghost use Rattle.css_select.specs.Gives.{Gives};
 ghost use Rattle.css_select.specs.Machine.{initial, may_end, parts_of, run, state_of};
 ghost use Rattle.css_select.specs.Verdicts.{IsFault, Says, finished, verdict_of};
@@ -64,7 +66,8 @@ fn read_tokens(
 /// `Unsupported` where it spells one with these alone, at the colon of the first of them; `Mem` for want of memory, as
 /// which a text of `2^32` bytes and more counts.
 pub fn read_selector(alloc: Global, text: &str) -> Result<List<Selector>, SelFault>
-    ensures { MatchResult result (λ group. IsGroupOf text.now (map parts_of group)) (λ fault. IsFault fault text.now) }
+    ensures answer { MatchResult result (λ group. IsGroupOf text.now (map parts_of group)) (λ fault. IsFault fault text.now) }
+    ensures countable { IfOk result (All (λ s. IsCountable s.parts)) }
 {
     let end = place(text.len())?;
     let tokens = tokens(alloc, text)?;

@@ -1,4 +1,4 @@
-ghost use Rattle.std.specs.Prelude.{◌≡◌, codes, Err, IfOk};
+ghost use Rattle.std.specs.Prelude.{◌≡◌, ◌<◌, ◌^◌, codes, Err, IfOk};
 ghost use Rattle.css_semantics.specs.SheetsMarks.{text_of};
 ghost use Rattle.css_semantics.specs.SelectorTerminals.{comparison, is_value, says, pseudo};
 ghost use Rattle.css_select.specs.Gives.{Fails, Gives};
@@ -14,7 +14,8 @@ use viz_base::{Join, Mem, Test, Text, Token};
 
 /// A place of the text. In a text of `2^32` bytes and more it may not fit, which counts as want of memory.
 pub fn place(at: usize) -> Result<u32, Mem>
-    ensures { IfOk result (λ n. n ≡ at) }
+    ensures is { IfOk result (λ n. n ≡ at) }
+    ensures small { IfOk result (λ n. n < 2 ^ 32) }
 {
     u32::try_from(at).map_err(|_| Mem)
 }

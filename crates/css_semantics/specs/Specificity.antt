@@ -1,6 +1,6 @@
 -- How specific a selector is (CSS 2.1, 6.4.3).
-use Rattle.std.specs.Prelude.{ℕ, ◌+◌, ◌<◌, ◌^◌, Bool, true, false, not, List, length, map, sum, Option, Some, None}
-use Rattle.std.specs.List.{count_by}
+use Rattle.std.specs.Prelude.{ℕ, ◌+◌, ◌<◌, ◌^◌, Bool, true, false, not, List, length, Option, Some, None}
+use Rattle.std.specs.List.{count_by, sum_by}
 use Rattle.viz_base.specs.declared.selectors.Compound.{Compound}
 use Rattle.viz_base.specs.declared.selectors.Join.{Join}
 use Rattle.viz_base.specs.declared.selectors.Spec.{Spec}
@@ -11,17 +11,20 @@ abbrev pub is_id : Test → Bool
 is_id (of_test.Id value) = true
 is_id _ = false
 
+abbrev pub is_other : Test → Bool
+is_other test = not (is_id test)
+
 abbrev pub has_tag : Option (List ℕ) → Bool
 has_tag None = false
 has_tag (Some tag) = true
 
 -- the ids in a selector
 abbrev pub ids : List (Join × Compound) → ℕ
-ids parts = sum (map (λ p. count_by is_id p.1.tests) parts)
+ids parts = sum_by (λ p. count_by is_id p.1.tests) parts
 
 -- its attributes, classes and pseudo-classes: all its other tests
 abbrev pub others : List (Join × Compound) → ℕ
-others parts = sum (map (λ p. count_by (λ test. not (is_id test)) p.1.tests) parts)
+others parts = sum_by (λ p. count_by is_other p.1.tests) parts
 
 -- its tags
 abbrev pub tags : List (Join × Compound) → ℕ
@@ -33,7 +36,7 @@ spec_of parts = record { style = 0; ids = ids parts; attrs = others parts; types
 
 -- the simple selectors and the tests of a selector together
 abbrev pub size_of : List (Join × Compound) → ℕ
-size_of parts = length parts + sum (map (λ p. length p.1.tests) parts)
+size_of parts = length parts + sum_by (λ p. length p.1.tests) parts
 
 -- they are so few that a u32 counts them
 abbrev pub IsCountable : List (Join × Compound) → Type 0

@@ -1,0 +1,8 @@
+use Rattle.css_semantics.specs.Specificity.{is_other}
+use Rattle.css_select.proofs.Counting.{sum_fits}
+use Rattle.css_select.proofs.counts.others.Goals as goal
+
+pub overflow_add-count : goal.overflow_add-count
+overflow_add-count c =
+    sum_fits is_other c.args.parts.now c.loop-compound.compound-index c.loop-compound-item.result c.as_slice.result.now c.loop-compound.count c.others_among-count.result c.requires c.loop-compound-test.true c.loop-compound-item.is c.loop-compound.invariant c.as_slice.ensures
+    c.others_among-count.ensures
