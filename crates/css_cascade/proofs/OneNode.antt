@@ -1,5 +1,5 @@
 -- A page of one element.
-use Rattle.std.proofs.Common.{◌≡◌, ℕ, ◌≤◌, zero, suc, List, [], ◌∷◌, length, Some, None, slice_get, refl, subst, arith, IsTrue}
+use Rattle.std.proofs.Common.{◌≡◌, ℕ, ◌≤◌, zero, suc, List, [], ◌∷◌, length, Some, None, slice_get, refl, subst, lit≤, IsTrue}
 use Rattle.std.specs.Str.{chars}
 use Rattle.viz_base.specs.declared.nodes.Body.TheVariants as of_body
 use Rattle.viz_base.specs.declared.nodes.Element.{Element}
@@ -17,9 +17,16 @@ only : (e : Element) (at : ℕ) (n : Node) → slice_get (root e ∷ []) at ≡ 
 only e zero n is = (refl, cc)
 only e (suc at) n is = absurd (none_past at n is)
 
+no_letters : chars [] ≡ []
+unfolding chars
+no_letters = refl
+
+few_letters : length (chars []) ≤ 262144
+few_letters = rw no_letters (lit≤ tt)
+
 pub one_node : (e : Element) → IsPage (root e ∷ [])
 one_node e = record {
   root = refl;
   parents = λ at n is. let h = only e at n is in subst (λ m. IsTrue (parent_fits (root e ∷ []) at m.parent)) h.1 (rw h.0 refl);
-  texts = λ at n is. let h = only e at n is in subst (λ m. length (chars (text_of m.body)) ≤ 262144) h.1 (omega arith);
+  texts = λ at n is. let h = only e at n is in subst (λ m. length (chars (text_of m.body)) ≤ 262144) h.1 few_letters;
 }

@@ -16,7 +16,7 @@ use Rattle.css_cascade.specs.declared.faults.CascadeFault.{CascadeFault}
 use Rattle.css_cascade.specs.declared.faults.CascadeFault.TheVariants.{Mem, Selector as SelectorAt, Value}
 use Rattle.css_select.specs.declared.faults.SelFault.{SelFault}
 use Rattle.css_select.specs.declared.faults.SelFault.TheVariants as of_selector
-use Rattle.css_select.specs.Faults.{IsFault}
+use Rattle.css_select.specs.Verdicts.{IsFault}
 use Rattle.css_cascade.specs.Faults.{FailsOf, GivesOf, IsUnread, Reads}
 use Rattle.css_cascade.proofs.Reaching.{Reached, ReachedSheets, reached_refusal, sheets_refusal}
 
