@@ -14,3 +14,4 @@ pub mod Names
 pub mod OrderLemmas
 pub mod TableLemmas
 pub mod OneAnswer
+pub mod Greatest

@@ -16,3 +16,8 @@ pub mod ValuesParts
 pub mod Values
 pub mod Shorthands
 pub mod ValuesLaws
+pub mod DefaultSheet
+pub mod CascadeOrder
+pub mod CascadeReading
+pub mod CascadeNodes
+pub mod Cascade

@@ -1,0 +1,40 @@
+-- What a ruleset says that applies.
+use Rattle.std.proofs.Common.{◌≡◌, ℕ, Bool, List, map, Option, Result, Ok, Err, OnOk, MatchResult, sym, subst}
+use Rattle.viz_base.specs.declared.nodes.Node.{Node}
+use Rattle.viz_base.specs.declared.selectors.Spec.{Spec}
+use Rattle.viz_base.specs.declared.settings.Setting.{Setting}
+use Rattle.viz_base.specs.declared.sheets.Decl.{Decl}
+use Rattle.css_semantics.specs.declared.claims.Claim.{Claim}
+use Rattle.css_semantics.specs.declared.claims.Origin.TheVariants as of_origin
+use Rattle.css_semantics.specs.declared.claims.Standing.{Standing}
+use Rattle.css_semantics.specs.SheetsGrammar.{AreDeclarationsOf}
+use Rattle.css_semantics.specs.declared.claims.Ruleset.{Ruleset}
+use Rattle.css_semantics.specs.CascadeOrder.{Applied, greatest, spec_cmp}
+use Rattle.css_semantics.specs.CascadeReading.{AppliesTo, AreApplied, AreClaimed, Matching, all_applied, applies}
+use Rattle.css_semantics.specs.CascadeNodes.{is_replaced, judged, standing_around, winners_of}
+use Rattle.css_semantics.specs.Cascade.{ComesTo, comes_to}
+use Rattle.css_cascade.specs.declared.faults.CascadeFault.{CascadeFault}
+use Rattle.css_cascade.specs.declared.faults.CascadeFault.TheVariants.{Mem, Selector, Value}
+use Rattle.css_cascade.specs.Faults.{Judges}
+
+pub applies_as : (nodes : List Node) (n : ℕ) (one : Ruleset) (found : Option Spec) (specs : List Spec) → Matching nodes n one.group specs → found ≡ greatest spec_cmp specs → AppliesTo nodes n one (Ok (all_applied found one.claims))
+applies_as nodes n one found specs m e = subst (λ o. AppliesTo nodes n one (Ok (all_applied o one.claims))) (sym e) (applies m)
+
+pub on_ok : {T E : Type 0} (r : Result T E) {P Q : Type 0} → (P → Q) → OnOk r P → OnOk r Q
+on_ok (Ok x) f h = f h
+on_ok (Err e) f h = h
+
+pub styled_as : (node : ℕ) (text : List ℕ) (decls : List Decl) → AreDeclarationsOf text decls → (claims : List Claim) → AreClaimed (of_origin.Style node) text decls claims → (ds : List Decl) × AreDeclarationsOf text ds × AreClaimed (of_origin.Style node) text ds claims
+styled_as node text decls d claims h = (decls, d, h)
+
+-- what a node comes to by the code is what it comes to
+pub comes : (nodes : List Node) (rulesets : List Ruleset) (standings : List Standing) (n : ℕ) (node : Node) (replaced : Bool) (outer : Standing) (all xs : List Applied) → AreApplied nodes rulesets n node.body all → replaced ≡ is_replaced node.body → outer ≡ standing_around standings node.parent → xs ≡ all → ComesTo nodes rulesets standings n node (judged replaced outer (winners_of xs))
+comes nodes rulesets standings n node replaced outer all xs applied r o same = rw (r, o, same) (comes_to applied)
+
+pub comes_by : (nodes : List Node) (rulesets : List Ruleset) (standings : List Standing) (n : ℕ) (node : Node) (answer : Result (List Setting × Standing) Claim) → ComesTo nodes rulesets standings n node answer → (r : Result (List Setting × Standing) CascadeFault)
+    → MatchResult r (λ p. answer ≡ Ok (p.0, p.1)) (λ fault. Judges n fault (λ a. a ≡ answer))
+    → MatchResult r (λ p. ComesTo nodes rulesets standings n node (Ok (p.0, p.1))) (λ fault. Judges n fault (ComesTo nodes rulesets standings n node))
+comes_by nodes rulesets standings n node answer is (Ok p) h = subst (ComesTo nodes rulesets standings n node) h is
+comes_by nodes rulesets standings n node answer is (Err Mem) h = h
+comes_by nodes rulesets standings n node answer is (Err (Selector s at)) h = h
+comes_by nodes rulesets standings n node answer is (Err (Value m p source)) h = (h.0, h.1, h.2, h.3, subst (ComesTo nodes rulesets standings n node) (sym h.4) is)

@@ -1,0 +1,27 @@
+-- What the code's references stand for, and its loops.
+use Rattle.std.specs.Prelude.{List, [], ◌∷◌, map, Option, Some, None, option_map, if◌then◌else◌}
+use Rattle.std.specs.declared.cmp.Ordering.{Ordering}
+use Rattle.viz_base.specs.declared.settings.Prop.{Prop}
+use Rattle.css_semantics.specs.CascadeOrder.{Applied, applied, greatest, greatest_from, later_of, cascade_cmp, is_prop}
+use Rattle.css_cascade.specs.declared.order.Applied.{Applied as Held}
+
+-- what applies to a node, apart from where it lies in memory
+abbrev pub seen : Held → Applied
+seen a = applied a.spec a.claim.now
+
+-- the winner so far behind one more setting
+abbrev pub later_or : Option Applied → Applied → Applied
+later_or None a = a
+later_or (Some best) a = later_of cascade_cmp best a
+
+abbrev pub winner_with : Prop → Option Applied → Applied → Option Applied
+winner_with p best a = if is_prop a.claim.prop p then Some (later_or best a) else best
+
+abbrev pub winner_on : Prop → Option Applied → List Applied → Option Applied
+winner_on p best [] = best
+winner_on p best (a ∷ all) = winner_on p (winner_with p best a) all
+
+-- the greatest so far and of the rest
+abbrev pub greatest_on : {A : Type 0} → (A → A → Ordering) → Option A → List A → Option A
+greatest_on cmp None xs = greatest cmp xs
+greatest_on cmp (Some best) xs = Some (greatest_from cmp best xs)

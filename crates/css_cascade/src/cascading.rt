@@ -1,0 +1,108 @@
+ghost use Rattle.std.specs.Prelude.{◌≡◌, [], map, slice_get, MatchResult, Ok, Some, length};
+ghost use Rattle.css_semantics.specs.Cascade.{ComesTo, Goes, IsCascade};
+ghost use Rattle.css_semantics.specs.CascadeNodes.{judged, winners_of};
+ghost use Rattle.css_cascade.specs.Faults.{GivesOf, Judges};
+ghost use Rattle.css_cascade.specs.Seen.{seen};
+
+use crate::applying::{STYLE, applied, push_applied, styled};
+use crate::faults::CascadeFault;
+use crate::nodes::{first_refused, is_hidden, is_replaced, number, settings_of, standing_around, standing_of};
+use crate::order::{Applied, winners};
+use crate::reading::read_rulesets;
+use css_semantics::{Ruleset, Standing};
+use std::alloc::Global;
+use viz_base::{Body, Cascaded, List, Node, Page, Setting, Sheet, Text};
+
+/// What a node comes to to which these settings apply.
+fn judge(
+    alloc: Global,
+    node: u32,
+    replaced: bool,
+    outer: Standing,
+    all: &[Applied<'_>],
+) -> Result<(List<Setting>, Standing), CascadeFault>
+    ensures { MatchResult result (λ p. judged replaced outer (winners_of (map seen all.now)) ≡ Ok (p.0, p.1)) (λ fault. Judges node fault (λ answer. answer ≡ judged replaced outer (winners_of (map seen all.now)))) }
+{
+    let winners = winners(alloc, all)?;
+    let hidden = is_hidden(outer, &winners);
+    if !hidden {
+        if let Some(claim) = first_refused(replaced, outer, &winners) {
+            return Err(CascadeFault::Value(node, claim.prop, claim.source));
+        }
+    }
+    let settings = settings_of(alloc, replaced, outer, &winners)?;
+    let standing = standing_of(outer, hidden, settings.as_slice());
+    Ok((settings, standing))
+}
+
+/// What a node comes to, behind the nodes before it.
+fn come_to(
+    alloc: Global,
+    page: &Page,
+    rulesets: &[Ruleset],
+    standings: &[Standing],
+    at: u32,
+    node: &Node,
+) -> Result<(List<Setting>, Standing), CascadeFault>
+    requires { slice_get page.now.nodes at ≡ Some node.now }
+    ensures { MatchResult result (λ p. ComesTo page.now.nodes rulesets.now standings.now at node.now (Ok (p.0, p.1))) (λ fault. Judges at fault (ComesTo page.now.nodes rulesets.now standings.now at node.now)) }
+{
+    let outer = standing_around(standings, node.parent);
+    let replaced = is_replaced(&node.body);
+    match &node.body {
+        Body::Element(element) => {
+            let style = styled(alloc, at, element.attrs.as_slice())?;
+            let mut all = applied(alloc, rulesets, page, at)?;
+            push_applied(&mut all, STYLE, style.as_slice())?;
+            judge(alloc, at, replaced, outer, &all)
+        }
+        Body::Chars(_) => judge(alloc, at, replaced, outer, &[]),
+    }
+}
+
+/// The settings of each node.
+fn cascade_nodes(
+    alloc: Global,
+    page: &Page,
+    rulesets: &[Ruleset],
+) -> Result<Cascaded, CascadeFault>
+    ensures { GivesOf result (Goes page.now.nodes rulesets.now [] [] page.now.nodes) }
+{
+    let mut standings = Vec::new(alloc);
+    let mut winners = List::new(alloc);
+    let nodes = page.nodes.as_slice();
+    for at in 0..nodes.len() {
+        let number = number(at)?;
+        let (settings, standing) = come_to(
+            alloc,
+            page,
+            rulesets,
+            standings.as_slice(),
+            number,
+            &nodes[at],
+        )?;
+        standings.push(standing)?;
+        winners.push(settings)?;
+    }
+    Ok(Cascaded { winners })
+}
+
+/// What wins at each node of a page for each property, of the declarations of the sheets and of the style attributes
+/// (CSS 2.1, 6.4): for each node a list in the order of the table of properties, without what no declaration sets and
+/// without what is refused and refuses nothing. The first sheet is the default one, and those behind it the author's.
+///
+/// `Selector` for the first selector in an author's sheet that is refused by name, at its place in the sheet; `Value`, where
+/// no selector is refused, for the first node that isn't hidden at which a refused value wins, and there for the first
+/// property in the order of the table; `Mem` for want of memory alone.
+pub fn cascade(
+    alloc: Global,
+    page: &Page,
+    texts: &[Text],
+    sheets: &[Sheet],
+) -> Result<Cascaded, CascadeFault>
+    requires { length texts.now ≡ length sheets.now }
+    ensures { GivesOf result (IsCascade page.now.nodes texts.now sheets.now) }
+{
+    let rulesets = read_rulesets(alloc, texts, sheets)?;
+    cascade_nodes(alloc, page, &rulesets)
+}

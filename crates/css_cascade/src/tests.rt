@@ -1,0 +1,69 @@
+use crate::{cascade, default_sheet};
+use css_syntax::read_sheet;
+use std::alloc::{AllocError, Global};
+use std::test::Fail;
+use viz_base::{Attr, Body, Cascaded, Element, List, Node, Page, Prop, Text};
+
+/// A page of one `div` of class `a`, with this style attribute.
+fn page(alloc: Global, style: &str) -> Result<Page, AllocError> {
+    let mut attrs = List::new(alloc);
+    for (name, value) in [("class", "a"), ("style", style)] {
+        attrs.push(Attr {
+            name: Text::from_text(alloc, name)?,
+            value: Text::from_text(alloc, value)?,
+        })?;
+    }
+    let mut nodes = List::new(alloc);
+    nodes.push(Node {
+        parent: None,
+        body: Body::Element(Element {
+            tag: Text::from_text(alloc, "div")?,
+            attrs,
+            size: None,
+        }),
+    })?;
+    Ok(Page { nodes })
+}
+
+/// The height that wins at the root.
+fn height(alloc: Global, cascaded: &Cascaded) -> Result<String, AllocError> {
+    if let Some(settings) = cascaded.winners.get(0) {
+        for setting in settings.as_slice() {
+            if setting.prop == Prop::Height {
+                return format!(in alloc; "{:?}", setting.value);
+            }
+        }
+    }
+    String::from_str(alloc, "none")
+}
+
+/// The height that wins for a `div` with this sheet of an author and this style attribute, or what refuses the page.
+fn shown(alloc: Global, css: &str, style: &str) -> Result<String, AllocError> {
+    let page = page(alloc, style)?;
+    let texts = [Text::from_text(alloc, default_sheet())?, Text::from_text(alloc, css)?];
+    match (read_sheet(alloc, default_sheet()), read_sheet(alloc, css)) {
+        (Ok(default), Ok(author)) => match cascade(alloc, &page, &texts, &[default, author]) {
+            Ok(cascaded) => height(alloc, &cascaded),
+            Err(fault) => format!(in alloc; "{fault}"),
+        },
+        _ => String::from_str(alloc, "no sheet"),
+    }
+}
+
+#[test]
+fn cascades(rt: HostRuntime) -> Result<(), Fail> {
+    let alloc = rt.alloc();
+    for (css, style, expected) in [
+        (".a{height:10px}div{height:20px}", "", "Px(640)"),
+        ("div{height:20px!important}.a{height:10px}", "", "Px(1280)"),
+        ("div{height:1px}div{height:2px}", "", "Px(128)"),
+        ("div.a{height:1px}", "height:3px", "Px(192)"),
+        ("div.a,p{height:1px}&{height:2px}", "", "Px(64)"),
+        ("p , a:lang(x){}", "height:table", "unsupported selector in sheet 0 at 5"),
+        ("div{position:fixed}", "", "unsupported value at node 0: Position"),
+        ("div{position:fixed}", "display:none;height:1px", "Px(64)"),
+    ] {
+        assert_eq!(rt; shown(alloc, css, style)?.as_str(), expected, "{css} {style}");
+    }
+    Ok(())
+}

@@ -1,0 +1,18 @@
+ghost use Rattle.std.specs.Prelude.{◌≡◌, ◌↔◌, List as Seq, [], Some, None};
+ghost use Rattle.viz_base.specs.declared.settings.Prop.{Prop};
+ghost use Rattle.viz_base.specs.declared.selectors.Spec.{Spec};
+ghost use Rattle.css_semantics.specs.CascadeOrder.{Applied, IsGreatest, IsWinner, greatest, of_prop, spec_cmp, winner_of};
+
+/// Law: of the settings of a property that apply to a node, the winner is the one before which none is greater by weight
+/// and specificity and behind which each is less; there is exactly one where there is a setting (CSS 2.1, 6.4.1).
+pub fn one_winner()
+    ensures winner { (p : Prop) (all : Seq Applied) (a : Applied) → (winner_of p all ≡ Some a) ↔ IsWinner p all a }
+    ensures none { (p : Prop) (all : Seq Applied) → (winner_of p all ≡ None) ↔ (of_prop p all ≡ []) }
+{}
+
+/// Law: the specificity by which a ruleset applies is one of those of its selectors that match, and none of them is
+/// greater; there is one where a selector matches (CSS 2.1, 6.4.3).
+pub fn one_specificity()
+    ensures greatest { (specs : Seq Spec) (s : Spec) → (greatest spec_cmp specs ≡ Some s) ↔ IsGreatest spec_cmp specs s }
+    ensures none { (specs : Seq Spec) → (greatest spec_cmp specs ≡ None) ↔ (specs ≡ []) }
+{}
