@@ -55,10 +55,6 @@ own_of items p (Some run) = own_with items (record { part = p; run = Some run })
 
 -- ---- the place of a node's own box
 
-
-
-
-
 none_begins : (low : ℕ) (xs : List Item) (n : ℕ) → Rises low (map node_of xs) → n < low → begins_at xs n ≡ false
 none_begins low [] n r l = refl
 none_begins low (x ∷ xs) n r l =

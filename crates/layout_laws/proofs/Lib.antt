@@ -5,3 +5,4 @@ pub mod Nesting
 pub mod Runs
 pub mod Prefixes
 pub mod Greatest
+pub mod Flowing

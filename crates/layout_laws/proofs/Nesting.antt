@@ -47,9 +47,9 @@ module _ (items : List Item) (arranged : IsArranged items) where
   rise_in low n (y ∷ ys) r f =
       let here = f y In.here in
       let rest = rise_in (boxes_before items (node_of y) + box_count y) (suc (node_of y)) ys r.1
-          (λ z i. let there = f z (In.there i) in
-              let after = rises_from (suc (node_of y)) (map node_of ys) (node_of z) r.1 (to_map node_of ys z i) in
-              (there.0, order items arranged y z here.0 there.0 after)) in
+      (λ z i. let there = f z (In.there i) in
+      let after = rises_from (suc (node_of y)) (map node_of ys) (node_of z) r.1 (to_map node_of ys z i) in
+      (there.0, order items arranged y z here.0 there.0 after)) in
       rises_lower low (boxes_before items (node_of y)) (kid_place items y ++ flat_map (kid_place items) ys) here.1 (rise_at y.part y.run (flat_map (kid_place items) ys) here.0 rest)
 
   -- the parts in a node's box stand after it
@@ -64,8 +64,8 @@ module _ (items : List Item) (arranged : IsArranged items) where
   pub own_kids_rise : (x : Item) → In x items → Rises (suc (own_place items (node_of x))) (kid_places items (node_of x))
   own_kids_rise x i =
       rise_in (suc (own_place items (node_of x))) 0 (items_in items (node_of x))
-        (rises_chosen node_of (λ (item : Item). is_in (node_of x) item.part.parent) 0 items arranged.rises)
-        (λ y j. after_parent x y i j)
+      (rises_chosen node_of (λ (item : Item). is_in (node_of x) item.part.parent) 0 items arranged.rises)
+      (λ y j. after_parent x y i j)
 
   kid_at : (p : Part) (run : Option (List ℕ)) (k : ℕ) → In (record { part = p; run = run }) items → In k (kid_place items (record { part = p; run = run })) → IsKidPlace items (record { part = p; run = run }) k
   kid_at p None _ i In.here = record { box = own_box items (record { part = p; run = None }); at_box = own_box_at items arranged (record { part = p; run = None }) i; parent = refl }
@@ -108,9 +108,11 @@ module _ (items : List Item) (arranged : IsArranged items) where
   members_rise : (run : List ℕ) (low n : ℕ) (ks : List ℕ) → Rises n ks → ((k : ℕ) → In k ks → IsMember items run k × (low ≤ own_place items k)) → Rises low (map (own_place items) ks)
   members_rise run low n [] r f = tt
   members_rise run low n (k ∷ ks) r f =
-      let here = f k In.here in
-      (here.1, members_rise run (suc (own_place items k)) (suc k) ks r.1
-        (λ j i. let there = f j (In.there i) in (there.0, members_order run k j here.0 there.0 (rises_from (suc k) ks j r.1 i))))
+      let here = f k In.here in (
+        here.1,
+        members_rise run (suc (own_place items k)) (suc k) ks r.1
+            (λ j i. let there = f j (In.there i) in (there.0, members_order run k j here.0 there.0 (rises_from (suc k) ks j r.1 i))),
+      )
 
   -- each place in a run is after that of the anonymous block box
   after_anonymous : (x : Item) (run : List ℕ) → In x items → x.run ≡ Some run → (first_of run == node_of x) ≡ true → (k : ℕ) → In k run → suc (boxes_before items (node_of x)) ≤ own_place items k
@@ -154,6 +156,7 @@ module _ (items : List Item) (arranged : IsArranged items) where
       outer_part : (p : Part) (o : Option (List ℕ)) (run : List ℕ) → o ≡ Some run → outer_place items (record { part = p; run = o }) ≡ Some (boxes_before items (first_of run))
       outer_part p None run e = absurd (cc)
       outer_part p (Some r) run e = let same : r ≡ run = cc in ap (λ l. Some (boxes_before items (first_of l))) same
+
       outer_by_run : (y : Item) (run : List ℕ) → y.run ≡ Some run → outer_place items y ≡ Some (boxes_before items (first_of run))
       outer_by_run y run e = outer_part y.part y.run run e
 

@@ -78,13 +78,12 @@ found_in {A} test (y ∷ ys) x e = by_test (test y) refl e (λ f. found_in test 
   where
     same : Some y ≡ Some x → y ≡ x
     same e = cc
+
     by_test : (b : Bool) → test y ≡ b → (if b then Some y else find test ys) ≡ Some x → (find test ys ≡ Some x → In x ys × (test x ≡ true)) → In x (y ∷ ys) × (test x ≡ true)
     by_test true t f again = (subst (λ (z : A). In z (y ∷ ys)) (same f) In.here, subst (λ (z : A). test z ≡ true) (same f) t)
     by_test false t f again = let r = again f in (In.there r.0, r.1)
 
 -- ---- the runs between block-level boxes
-
-
 
 rises_with : (low : ℕ) (l : Level) (p : Part) (runs : List (List Part)) → low ≤ p.node → Rises (suc p.node) (flat_map (λ run. run) (map nodes_of runs)) → Rises low (flat_map (λ run. run) (map nodes_of (with_part l p runs)))
 rises_with low Level.block p runs l r = rises_lower low (suc p.node) (flat_map (λ run. run) (map nodes_of runs)) (omega (arith, l)) r
@@ -157,7 +156,6 @@ pub record AreParts (parts : List Part) : Type 0 where
   pub rises : Rises 0 (map (λ (p : Part). p.node) parts)
   pub parents : (p : Part) (q : ℕ) → In p parts → p.parent ≡ Some q → PartHasParent parts p q
 
-
 rises_items : (parts : List Part) (low : ℕ) (ps : List Part) → Rises low (map (λ (p : Part). p.node) ps) → Rises low (map node_of (map (λ p. record { part = p; run = run_around parts p }) ps))
 rises_items parts low [] r = tt
 rises_items parts low (p ∷ ps) r = (r.0, rises_items parts (suc p.node) ps r.1)
@@ -167,7 +165,6 @@ is_in_some n None t = absurd (cc)
 is_in_some n (Some m) t = ap Some (eqb-true m n t)
 
 module _ (parts : List Part) (known : AreParts parts) where
-
   -- the run around a part, from its siblings
   run_of_parent : (p : Part) (q : ℕ) → p.parent ≡ Some q → run_around parts p ≡ find (has_node p.node) (map nodes_of (wrapped_in (parts_in parts q)))
   run_of_parent p q e = ap (option_and_then (λ parent. find (has_node p.node) (map nodes_of (wrapped_in (parts_in parts parent))))) e
@@ -203,19 +200,19 @@ module _ (parts : List Part) (known : AreParts parts) where
 
   pub items_arranged : IsArranged (items_of parts)
   items_arranged = record {
-      rises = rises_items parts 0 parts known.rises;
-      parents = λ x q i e.
-          let from = from_map (λ p. record { part = p; run = run_around parts p }) parts x i in
-          let up = known.parents from.0 q from.1 (ap (λ (y : Item). y.part.parent) from.2 ∙ e) in
-          record {
-            before = subst (λ n. q < n) (ap node_of from.2) up.before;
-            parent = record { part = up.parent; run = run_around parts up.parent };
-            inside = to_map (λ p. record { part = p; run = run_around parts p }) parts up.parent up.inside;
-            node = up.node;
-          };
-      runs = λ x run i e.
-          let from = from_map (λ p. record { part = p; run = run_around parts p }) parts x i in
-          let around = ap (λ (y : Item). y.run) from.2 ∙ e in
-          let up = run_has_parent from.0 from.0.parent run around in
-          is_run from.0 up.0 run up.1 around;
-    }
+    rises = rises_items parts 0 parts known.rises;
+    parents = λ x q i e.
+        let from = from_map (λ p. record { part = p; run = run_around parts p }) parts x i in
+        let up = known.parents from.0 q from.1 (ap (λ (y : Item). y.part.parent) from.2 ∙ e) in
+        record {
+          before = subst (λ n. q < n) (ap node_of from.2) up.before;
+          parent = record { part = up.parent; run = run_around parts up.parent };
+          inside = to_map (λ p. record { part = p; run = run_around parts p }) parts up.parent up.inside;
+          node = up.node;
+        };
+    runs = λ x run i e.
+        let from = from_map (λ p. record { part = p; run = run_around parts p }) parts x i in
+        let around = ap (λ (y : Item). y.run) from.2 ∙ e in
+        let up = run_has_parent from.0 from.0.parent run around in
+        is_run from.0 up.0 run up.1 around;
+  }
