@@ -1,9 +1,8 @@
 -- What normal flow adds to a rendering: of each box that it reaches, the box and what is in it, in document order.
-use Rattle.std.proofs.Common.{◌≡◌, ℕ, zero, IsTrue, ◌||◌, not, ◌==◌, suc, ◌+◌, ◌<◌, ◌≤◌, ℤ, ◌+ℤ◌, Bool, true, false, List, [], ◌∷◌, ◌++◌, length, flat_map, fold, map, refl, sym, ap, ◌∙◌, subst, arith, append_assoc, append-nil, eqb-true, Option, None, Some, slice_get}
+use Rattle.std.proofs.Common.{◌≡◌, ℕ, IsTrue, ◌||◌, not, ◌==◌, ◌+◌, ◌<◌, ◌≤◌, ℤ, ◌+ℤ◌, Bool, true, false, List, [], ◌∷◌, ◌++◌, length, flat_map, fold, refl, sym, ap, ◌∙◌, arith, append_assoc, append-nil, eqb-true, Option, None, Some, slice_get}
 use Rattle.std.specs.Option.{option_map_or}
 use Rattle.std.specs.List.{AllByRecursion}
 use Rattle.std.proofs.lemmas.Grind.{flat_map-append}
-use Rattle.std.proofs.lemmas.Bool.Decides.{nat_tests}
 use Rattle.viz_base.specs.declared.layouts.Band.{Band}
 use Rattle.viz_base.specs.declared.layouts.Spot.{Spot}
 use Rattle.viz_base.specs.declared.renderings.Placed.{Placed}
@@ -19,10 +18,9 @@ use Rattle.layout_semantics.specs.Blocks.{kind_of}
 use Rattle.layout_semantics.specs.Rectangles.{Frame, content_top, shifted}
 use Rattle.layout_semantics.specs.Verticals.{verticals}
 use Rattle.layout_semantics.specs.Horizontal.{widths}
-use Rattle.layout_semantics.specs.FlowBoxes.{across, is_replaced_at, is_context_root, is_open_above, content_from, flow_children}
-use Rattle.layout_semantics.specs.InlineContent.{is_floated_at, has_line}
-use Rattle.layout_semantics.specs.Flow.{Standing, at_top, below, Progress, Laid, Reached, Cleared, Alone, alone, float_child, laid_replaced, laid_context, laid_block, laid, fresh, opened, flow_child, child, reached}
-use Rattle.layout_semantics.proofs.Forest.{IsForest, IsKid}
+use Rattle.layout_semantics.specs.FlowBoxes.{across, is_replaced_at, is_context_root, is_open_above, content_from}
+use Rattle.layout_semantics.specs.InlineContent.{is_floated_at}
+use Rattle.layout_semantics.specs.Flow.{Standing, at_top, below, Progress, Reached, Cleared, alone, float_child, laid_block, laid, fresh, opened, flow_child, child, reached}
 use Rattle.layout_semantics.proofs.Pages.{forest}
 use Rattle.layout_semantics.proofs.Orders.{document_order-is}
 use Rattle.layout_laws.specs.Entries.{named_by, name_of}

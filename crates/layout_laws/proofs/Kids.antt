@@ -1,12 +1,11 @@
 -- Boxes and the boxes in them: each stands after the one that holds it, in ascending order, and names it.
-use Rattle.std.proofs.Common.{◌≡◌, ℕ, zero, suc, ◌+◌, ◌<◌, ◌≤◌, Bool, true, false, nat_lt, ◌==◌, ◌&&◌, ◌||◌, List, [], ◌∷◌, ◌++◌, map, flat_map, length, Option, Some, None, option_map, slice_get, IsTrue, refl, sym, ◌∙◌, ap, subst, arith, ◌⊎◌, inl, inr, zero-add, if◌then◌else◌, lt-ltb, eq-eqb, ne_eqb, eqb-true}
+use Rattle.std.proofs.Common.{◌≡◌, ℕ, suc, ◌+◌, ◌<◌, ◌≤◌, Bool, true, false, ◌==◌, ◌&&◌, ◌||◌, List, [], ◌∷◌, map, length, Option, Some, None, slice_get, refl, sym, ◌∙◌, ap, subst, arith, if◌then◌else◌, eq-eqb, ne_eqb}
 use Rattle.std.specs.Option.{option_map_or}
-use Rattle.std.specs.List.{list_any}
 use Rattle.viz_base.specs.declared.trees.BoxNode.{BoxNode}
 use Rattle.layout_semantics.specs.Parts.{Part}
-use Rattle.layout_semantics.specs.BoxTrees.{Item, box_count, boxes_before, begins_run, begins_at, own_place, first_of, outer_place, kid_place, kid_places, items_in, own_box, anonymous_box, with_anonymous, boxes_at, boxes_of}
-use Rattle.layout_laws.proofs.Members.{In, Rises, rises_from, rises_lower, to_map, from_map, from_chosen, rises_chosen}
-use Rattle.layout_laws.proofs.Places.{node_of, box_at, before_later, before_first, before_none, Found, found}
+use Rattle.layout_semantics.specs.BoxTrees.{Item, box_count, boxes_before, begins_run, begins_at, own_place, first_of, own_box, anonymous_box, with_anonymous, boxes_at, boxes_of}
+use Rattle.layout_laws.proofs.Members.{In, Rises, rises_from, to_map}
+use Rattle.layout_laws.proofs.Places.{node_of, box_at, before_later, before_first, before_none}
 
 -- ---- what is known of the items of a page
 

@@ -6,3 +6,4 @@ pub mod Runs
 pub mod Prefixes
 pub mod Greatest
 pub mod Flowing
+pub mod Entries

@@ -1,5 +1,5 @@
 -- Boxes and the boxes in them: each stands after the one that holds it, in ascending order, and names it.
-use Rattle.std.proofs.Common.{◌≡◌, ℕ, zero, suc, ◌+◌, ◌<◌, ◌≤◌, Bool, true, false, nat_lt, ◌==◌, ◌&&◌, ◌||◌, List, [], ◌∷◌, ◌++◌, map, flat_map, length, Option, Some, None, option_map, slice_get, IsTrue, refl, sym, ◌∙◌, ap, subst, arith, ◌⊎◌, inl, inr, if◌then◌else◌, lt-ltb, eq-eqb, eqb-true}
+use Rattle.std.proofs.Common.{◌≡◌, ℕ, zero, suc, ◌+◌, ◌<◌, ◌≤◌, Bool, true, false, ◌==◌, List, [], ◌∷◌, ◌++◌, map, flat_map, Option, Some, None, option_map, slice_get, IsTrue, refl, sym, ◌∙◌, ap, subst, arith, if◌then◌else◌, lt-ltb, eq-eqb, eqb-true}
 use Rattle.std.specs.List.{list_all}
 use Rattle.std.specs.Option.{option_map_or}
 use Rattle.viz_base.specs.Trees.{ascends, box_passes, is_kid_of}
@@ -9,8 +9,8 @@ use Rattle.layout_semantics.specs.Parts.{Part}
 use Rattle.layout_semantics.specs.WhiteSpace.{is_in}
 use Rattle.layout_semantics.specs.BoxTrees.{Item, box_count, boxes_before, begins_run, own_place, first_of, outer_place, kid_place, kid_places, items_in, own_box, anonymous_box, with_anonymous, boxes_at, boxes_of}
 use Rattle.layout_laws.proofs.Members.{In, Rises, rises_from, rises_lower, rises_chosen, to_map, from_map, from_chosen, from_flat_map, from_one_if}
-use Rattle.layout_laws.proofs.Places.{node_of, Found, found}
-use Rattle.layout_laws.proofs.Kids.{IsArranged, HasParent, IsMember, IsRun, counts, order, own_place_is, own_place_from, own_place_within, own_box_at, anonymous_box_at}
+use Rattle.layout_laws.proofs.Places.{node_of, found}
+use Rattle.layout_laws.proofs.Kids.{IsArranged, IsMember, counts, order, own_place_is, own_place_from, own_place_within, own_box_at, anonymous_box_at}
 
 -- ---- the kids of a node's own box
 

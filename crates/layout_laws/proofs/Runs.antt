@@ -1,13 +1,13 @@
 -- The runs of boxes that anonymous block boxes hold: the items of a page are arranged where its parts are.
-use Rattle.std.proofs.Common.{◌≡◌, ℕ, zero, suc, ◌<◌, ◌≤◌, Bool, true, false, ◌==◌, ◌||◌, List, [], ◌∷◌, ◌++◌, map, flat_map, find, Option, Some, None, option_and_then, refl, sym, ◌∙◌, ap, subst, arith, ◌⊎◌, inl, inr, if◌then◌else◌, eq-eqb, ne_eqb, eqb-true}
+use Rattle.std.proofs.Common.{◌≡◌, ℕ, suc, ◌<◌, ◌≤◌, Bool, true, false, ◌==◌, ◌||◌, List, [], ◌∷◌, ◌++◌, map, flat_map, find, Option, Some, None, option_and_then, refl, sym, ◌∙◌, ap, subst, arith, ◌⊎◌, inl, inr, if◌then◌else◌, eq-eqb, ne_eqb, eqb-true}
 use Rattle.std.specs.List.{list_any}
 use Rattle.layout_semantics.specs.Lists.{chosen, one_if}
 use Rattle.layout_semantics.specs.Parts.{Part, Level}
 use Rattle.layout_semantics.specs.WhiteSpace.{is_in}
 use Rattle.layout_semantics.specs.BoxTrees.{Item, items_of, run_around, first_of, has_node, nodes_of, parts_in, wrapped_in, runs_of, with_part, needs_box, is_block_part}
-use Rattle.layout_laws.proofs.Members.{In, Rises, rises_from, rises_lower, rises_chosen, to_map, from_map, from_chosen, from_append}
+use Rattle.layout_laws.proofs.Members.{In, Rises, rises_from, rises_lower, rises_chosen, to_map, from_map, from_chosen}
 use Rattle.layout_laws.proofs.Places.{node_of}
-use Rattle.layout_laws.proofs.Kids.{IsArranged, HasParent, IsMember, IsRun}
+use Rattle.layout_laws.proofs.Kids.{IsArranged, IsRun}
 
 -- ---- ascending lists of lists
 

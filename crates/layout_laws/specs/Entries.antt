@@ -1,5 +1,5 @@
 -- What a rendering's entries are of.
-use Rattle.std.specs.Prelude.{ℕ, ℤ, ◌||◌, not, Bool, true, false}
+use Rattle.std.specs.Prelude.{ℕ, ℤ, ◌||◌, not, Bool}
 use Rattle.std.specs.List.{list_all}
 use Rattle.viz_base.specs.Trees.{is_floated, is_inline_level}
 use Rattle.viz_base.specs.declared.renderings.Placed.{Placed}

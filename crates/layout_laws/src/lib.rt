@@ -2,4 +2,5 @@
 #![tactic(auto)]
 
 mod boxes;
+mod flow;
 mod lines;
