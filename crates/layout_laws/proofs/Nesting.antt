@@ -232,3 +232,6 @@ module _ (items : List Item) (arranged : IsArranged items) where
 
   pub kids_name : (at : ℕ) (b : BoxNode) → slice_get (boxes_of items) at ≡ Some b → IsTrue (list_all (box_passes (is_kid_of at) (boxes_of items)) b.kids)
   kids_name at b e = named_all (boxes_of items) at b.kids (λ k i. naming_kids at b (box_is items arranged at b e) k i)
+
+  pub kids_place : (at : ℕ) (b : BoxNode) → slice_get (boxes_of items) at ≡ Some b → (k : ℕ) → In k b.kids → (c : BoxNode) × (slice_get (boxes_of items) k ≡ Some c) × (c.parent ≡ Some at)
+  kids_place at b e k i = naming_kids at b (box_is items arranged at b e) k i

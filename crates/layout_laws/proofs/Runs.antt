@@ -216,3 +216,17 @@ module _ (parts : List Part) (known : AreParts parts) where
         let up = run_has_parent from.0 from.0.parent run around in
         is_run from.0 up.0 run up.1 around;
   }
+<<<<<<< HEAD
+=======
+
+-- the element that a part in a run is in
+pub run_parent : (parts : List Part) (x : Item) (run : List ℕ) → In x (items_of parts) → x.run ≡ Some run → (q : ℕ) × (x.part.parent ≡ Some q)
+run_parent parts x run i e =
+    let from = from_map (λ p. record { part = p; run = run_around parts p }) parts x i in
+    let up = by_parent from.0 from.0.parent (ap (λ (y : Item). y.run) from.2 ∙ e) in
+    (up.0, ap (λ (y : Item). y.part.parent) (sym from.2) ∙ up.1)
+  where
+    by_parent : (p : Part) (o : Option ℕ) → option_and_then (λ parent. find (has_node p.node) (map nodes_of (wrapped_in (parts_in parts parent)))) o ≡ Some run → (q : ℕ) × (o ≡ Some q)
+    by_parent p None e = absurd (cc)
+    by_parent p (Some q) e = (q, refl)
+>>>>>>> 0131b0af66842f900a4eea2e6f3fba341b8599d3

@@ -3,4 +3,8 @@
 
 mod boxes;
 mod flow;
+mod fonts;
 mod lines;
+mod widths;
+mod floats;
+mod margins;

@@ -1,8 +1,10 @@
-ghost use Rattle.std.specs.Prelude.{ℕ, ◌≤◌, ◌≤ℤ◌, List, length, IsTrue, Contains};
+ghost use Rattle.std.specs.Prelude.{◌≡◌, ℕ, ◌≤◌, ℤ, ◌≤ℤ◌, ◌<ℤ◌, false, List, length, IsTrue, Contains};
 ghost use Rattle.std.specs.List.{AllByRecursion};
+ghost use Rattle.layout_laws.specs.Standing.{may_stand};
+ghost use Rattle.layout_semantics.specs.Floats.{FloatBox};
 ghost use Rattle.layout_semantics.specs.InlineContent.{content};
 ghost use Rattle.layout_semantics.specs.LineHeights.{InlineContext, extended_boxes, line_extent, height_of_extent, tallest};
-ghost use Rattle.layout_semantics.specs.LineFilling.{Line, may_hold, stretches_held};
+ghost use Rattle.layout_semantics.specs.LineFilling.{Line, may_hold, stretches_held, line_top};
 
 /// A line holds one stretch at least, and else the most such that the first two, three and so on up to all of them may stand on it
 /// (CSS 2.1, 9.4.2).
@@ -17,4 +19,12 @@ pub fn a_line_holds_the_longest_beginning_that_fits()
 /// beside a line are looked for.
 pub fn no_line_is_higher_than_the_tallest()
     ensures { (c : InlineContext) (boxes : List ℕ) → AllByRecursion (Contains (extended_boxes (content c.tree c.container))) boxes → height_of_extent (line_extent c boxes) ≤ℤ tallest c }
+{}
+
+/// A line stands at the highest top, from where it begins, at which its first stretch fits beside the floats or no float is met
+/// (CSS 2.1, 9.5).
+pub fn a_line_stands_as_high_as_its_first_stretch_fits()
+    ensures below { (c : InlineContext) (floats : List FloatBox) (y tall width : ℤ) → y ≤ℤ line_top c floats y tall width }
+    ensures stands { (c : InlineContext) (floats : List FloatBox) (y tall width : ℤ) → IsTrue (may_stand c floats tall width (line_top c floats y tall width)) }
+    ensures highest { (c : InlineContext) (floats : List FloatBox) (y tall width top : ℤ) → y ≤ℤ top → top <ℤ line_top c floats y tall width → may_stand c floats tall width top ≡ false }
 {}

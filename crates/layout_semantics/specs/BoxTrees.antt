@@ -1,5 +1,5 @@
 -- The box tree of a page and its styles (CSS 2.1, 9.2).
-use Rattle.std.specs.Prelude.{sum, unwrap_or, option_and_then, ℕ, ◌+◌, Bool, true, false, not, ◌&&◌, ◌||◌, ◌==◌, nat_lt, List, [], ◌∷◌, map, find, flat_map, Option, Some, None, option_map, option_to_list, slice_get, slice_index, if◌then◌else◌, encode_utf8_all, codes}
+use Rattle.std.specs.Prelude.{zip, sum, unwrap_or, option_and_then, ℕ, ◌+◌, Bool, true, false, not, ◌&&◌, ◌||◌, ◌==◌, nat_lt, List, [], ◌∷◌, map, find, flat_map, Option, Some, None, option_map, slice_get, slice_index, if◌then◌else◌, encode_utf8_all, codes}
 use Rattle.std.specs.List.{list_any, enumerate_from}
 use Rattle.std.specs.Option.{option_map_or}
 use Rattle.viz_base.specs.Pages.{is_element}
@@ -35,17 +35,15 @@ viewport_clip nodes styles =
 -- the root does not float (CSS 2.1, 9.7), and overflow that goes to the viewport is used there alone
 abbrev pub tree_style : (is_root gives_clip : Bool) → Style → Style
 tree_style is_root gives_clip s = record s {
-    float = if is_root then None else s.float;
-    clips = not gives_clip && s.clips
-  }
+  float = if is_root then None else s.float;
+  clips = not gives_clip && s.clips;
+}
 
-abbrev pub tree_style_at : Option ℕ → List Style → ℕ × Node → List Style
-tree_style_at clip styles entry =
-    map (tree_style (styled_element entry.0 entry.1 == 0) (is_in (styled_element entry.0 entry.1) clip))
-        (option_to_list (slice_get styles entry.0))
+abbrev pub tree_style_of : Option ℕ → (ℕ × Node) × Style → Style
+tree_style_of clip styled = tree_style (styled_element styled.0.0 styled.0.1 == 0) (is_in (styled_element styled.0.0 styled.0.1) clip) styled.1
 
 abbrev pub tree_styles : List Node → List Style → List Style
-tree_styles nodes styles = flat_map (tree_style_at (viewport_clip nodes styles) styles) (enumerate_from 0 nodes)
+tree_styles nodes styles = map (tree_style_of (viewport_clip nodes styles)) (zip (enumerate_from 0 nodes) styles)
 
 abbrev pub tree_parents : List Node → List (Option ℕ)
 tree_parents nodes = map (λ (n : Node). n.parent) nodes
@@ -162,28 +160,28 @@ kid_places items node = flat_map (kid_place items) (items_in items node)
 
 abbrev pub own_box : List Item → Item → BoxNode
 own_box items item = record {
-    kind = item.part.kind;
-    node = item.part.node;
-    parent = outer_place items item;
-    kids = kid_places items item.part.node;
-    chars = encode_utf8_all item.part.text;
-    size = item.part.size;
-    context = item.part.context;
-    block_level = is_block_level item.part.level || is_floated_level item.part.level
-  }
+  kind = item.part.kind;
+  node = item.part.node;
+  parent = outer_place items item;
+  kids = kid_places items item.part.node;
+  chars = encode_utf8_all item.part.text;
+  size = item.part.size;
+  context = item.part.context;
+  block_level = is_block_level item.part.level || is_floated_level item.part.level;
+}
 
 -- the anonymous block box of a run that begins with a part; its node is that of the element around it
 abbrev pub anonymous_box : List Item → Part → List ℕ → BoxNode
 anonymous_box items p run = record {
-    kind = of_kind.Anon;
-    node = unwrap_or p.parent 0;
-    parent = option_map (own_place items) p.parent;
-    kids = map (own_place items) run;
-    chars = [];
-    size = None;
-    context = false;
-    block_level = true
-  }
+  kind = of_kind.Anon;
+  node = unwrap_or p.parent 0;
+  parent = option_map (own_place items) p.parent;
+  kids = map (own_place items) run;
+  chars = [];
+  size = None;
+  context = false;
+  block_level = true;
+}
 
 -- a part's box, after the anonymous block box that begins with it
 abbrev pub with_anonymous : List Item → Item → (begins : Bool) → Option (List ℕ) → List BoxNode

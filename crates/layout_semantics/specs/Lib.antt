@@ -33,3 +33,5 @@ pub mod Clearance
 pub mod Rectangles
 pub mod Flow
 pub mod Page
+pub mod PlainPages
+pub mod Examples

@@ -103,15 +103,15 @@ container_of nodes styles at = find (λ above. not (is_inline_at nodes styles ab
 
 abbrev pub part_of : List Node → List Style → ℕ → Node → Style → Part
 part_of nodes styles at n s = record {
-    node = at;
-    parent = n.parent;
-    container = container_of nodes styles at;
-    kind = kind_of_node (at == 0) n.body s;
-    level = level_of (at == 0) n.body s;
-    text = chars (text_of n.body);
-    size = if is_replaced n.body then Some (intrinsic_size n.body) else None;
-    context = is_context (at == 0) (level_of (at == 0) n.body s) (kind_of_node (at == 0) n.body s) s
-  }
+  node = at;
+  parent = n.parent;
+  container = container_of nodes styles at;
+  kind = kind_of_node (at == 0) n.body s;
+  level = level_of (at == 0) n.body s;
+  text = chars (text_of n.body);
+  size = if is_replaced n.body then Some (intrinsic_size n.body) else None;
+  context = is_context (at == 0) (level_of (at == 0) n.body s) (kind_of_node (at == 0) n.body s) s;
+}
 
 -- the part of a node that makes a box
 abbrev pub shown_part : List Node → List Style → ℕ × Node → Option Part

@@ -64,7 +64,6 @@ abbrev pub box_growth : List Style → BoxNode → ℕ
 box_growth styles b = if is_of_element b.kind then option_map_or growth (slice_get styles b.node) whole else whole
 
 module _ (styles : List Style) (parents : List (Option ℕ)) (fonts : List Font) where
-
   -- an absolute length or one in em, without its sign
   abbrev pub extent : Length → ℕ
   extent of_length.Auto = 0
@@ -132,4 +131,4 @@ module _ (styles : List Style) (parents : List (Option ℕ)) (fonts : List Font)
   abbrev pub beyond_reach : List BoxNode → Option ℕ
   beyond_reach boxes =
       option_and_then (node_of_place boxes)
-        (option_or (position passes_most (sums (2 ^ 21) (box_extents boxes))) (position passes_most (reaches boxes)))
+      (option_or (position passes_most (sums (2 ^ 21) (box_extents boxes))) (position passes_most (reaches boxes)))

@@ -49,4 +49,4 @@ refusal_of parts boxes far = first_refusal (blocks_in_inlines parts) (right_to_l
 abbrev pub page_refusal : List Node → List Style → List Font → Option BoxRefusal
 page_refusal nodes styles fonts =
     refusal_of (page_parts nodes styles) (page_boxes nodes styles)
-      (beyond_reach (tree_styles nodes styles) (tree_parents nodes) fonts (page_boxes nodes styles))
+    (beyond_reach (tree_styles nodes styles) (tree_parents nodes) fonts (page_boxes nodes styles))

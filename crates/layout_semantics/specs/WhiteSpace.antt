@@ -1,6 +1,7 @@
 -- White space of inline content (CSS 2.1, 16.6.1 and 9.2.2.1): which characters of which text stay.
-use Rattle.std.specs.Prelude.{ℕ, Bool, true, false, not, ◌||◌, ◌==◌, List, [], ◌∷◌, map, flat_map, zip, Option, if◌then◌else◌}
+use Rattle.std.specs.Prelude.{ℕ, Bool, true, false, not, ◌&&◌, ◌||◌, length, ◌==◌, List, [], ◌∷◌, map, flat_map, zip, Option, if◌then◌else◌}
 use Rattle.std.specs.Option.{option_map_or}
+use Rattle.viz_base.specs.Trees.{is_chars}
 use Rattle.viz_base.specs.declared.trees.Kind.{Kind}
 use Rattle.viz_base.specs.declared.trees.Kind.TheVariants as of_kind
 use Rattle.layout_semantics.specs.Lists.{chosen, one_if}
@@ -77,16 +78,12 @@ letters_of node things = flat_map (letter_of node) things
 -- a part with the characters that stay of its text
 abbrev pub collapsed_part : List Part → Part → Part
 collapsed_part parts p = record p {
-    text = option_map_or (λ c. letters_of p.node (collapsed_things (things_in parts c))) p.container []
-  }
+  text = option_map_or (λ c. letters_of p.node (collapsed_things (things_in parts c))) p.container [];
+}
 
 -- a text of which nothing stays makes no box
 abbrev pub is_bare : Part → Bool
-is_bare p = by_kind p.kind p.text
-  where
-    by_kind : Kind → List ℕ → Bool
-    by_kind of_kind.Chars [] = true
-    by_kind _ _ = false
+is_bare p = is_chars p.kind && length p.text == 0
 
 abbrev pub collapsed : List Part → List Part
 collapsed parts = chosen (λ p. not (is_bare p)) (map (collapsed_part parts) parts)

@@ -2,6 +2,7 @@
 #![tactic(auto)]
 
 mod bounds;
+pub mod examples;
 mod laws;
 mod order;
 

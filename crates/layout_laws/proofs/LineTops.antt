@@ -1,0 +1,316 @@
+use Rattle.std.proofs.Common.{◌≡◌, ℤ, ◌+ℤ◌, ◌≤ℤ◌, ◌<ℤ◌, Bool, true, false, not, cond, int_lt, int_le, IsTrue, List, [], ◌∷◌, map, filter, refl, arith}
+use Rattle.std.specs.Prelude.{◌&&◌, ◌||◌}
+use Rattle.std.specs.Int.{int_max, int_min}
+use Rattle.std.specs.List.{AllByRecursion, list_any}
+use Rattle.std.proofs.lemmas.Int.{ints, clamps}
+use Rattle.viz_base.specs.declared.layouts.Band.{Band}
+use Rattle.layout_semantics.specs.Extremes.{greatest_from, least_from}
+use Rattle.layout_semantics.specs.Floats.{FloatBox, is_left, meets, band_at, candidate_tops}
+use Rattle.layout_semantics.specs.LineHeights.{InlineContext}
+use Rattle.layout_semantics.specs.LineFilling.{fits, band_width, meets_none, least_or, line_top}
+use Rattle.layout_laws.specs.Standing.{may_stand}
+use Rattle.layout_laws.proofs.Greatest.{greatest_from-start, greatest_from-bound, greatest_from-least}
+use Rattle.layout_laws.proofs.Levels.{All-implied}
+
+-- ---- extremes of lists
+
+int_max-any : (P : ℤ → Type 0) (x y : ℤ) → P x → P y → P (int_max x y)
+int_max-any P x y a b = by (int_lt y x)
+  where
+    by : (t : Bool) → P (cond t x y)
+    by true = a
+    by false = b
+
+int_min-any : (P : ℤ → Type 0) (x y : ℤ) → P x → P y → P (int_min x y)
+int_min-any P x y a b = by (int_lt y x)
+  where
+    by : (t : Bool) → P (cond t y x)
+    by true = b
+    by false = a
+
+-- what holds of a number and of each of a list holds of the greatest and of the least of them
+greatest_from-any : (P : ℤ → Type 0) (a : ℤ) (xs : List ℤ) → P a → AllByRecursion P xs → P (greatest_from a xs)
+greatest_from-any P a [] one all = one
+greatest_from-any P a (x ∷ xs) one all = int_max-any P x (greatest_from a xs) all.0 (greatest_from-any P a xs one all.1)
+
+least_from-any : (P : ℤ → Type 0) (a : ℤ) (xs : List ℤ) → P a → AllByRecursion P xs → P (least_from a xs)
+least_from-any P a [] one all = one
+least_from-any P a (x ∷ xs) one all = int_min-any P x (least_from a xs) all.0 (least_from-any P a xs one all.1)
+
+least_from-start : (a : ℤ) (xs : List ℤ) → least_from a xs ≤ℤ a
+least_from-start a [] = omega (arith, ints)
+least_from-start a (x ∷ xs) = let rest = least_from-start a xs in omega (arith, ints, clamps)
+
+above-fewer : (m n : ℤ) (xs : List ℤ) → m ≤ℤ n → AllByRecursion (λ x. n ≤ℤ x) xs → AllByRecursion (λ x. m ≤ℤ x) xs
+above-fewer m n xs l a = All-implied (λ x. n ≤ℤ x) (λ x. m ≤ℤ x) xs (λ x h. omega (arith, ints)) a
+
+least_from-bound : (a : ℤ) (xs : List ℤ) → AllByRecursion (λ x. least_from a xs ≤ℤ x) xs
+least_from-bound a [] = tt
+least_from-bound a (x ∷ xs) = (omega (arith, ints, clamps), above-fewer (int_min x (least_from a xs)) (least_from a xs) xs (omega (arith, ints, clamps)) (least_from-bound a xs))
+
+-- ---- filters
+
+filter-implied : {A : Type 0} (P Q : A → Type 0) (q : A → Bool) (xs : List A) → ((x : A) → P x → IsTrue (q x) → Q x) → AllByRecursion P xs → AllByRecursion Q (filter q xs)
+filter-implied P Q q [] f a = tt
+filter-implied {A} P Q q (x ∷ xs) f a = by (q x) refl (filter-implied P Q q xs f a.1)
+  where
+    by : (b : Bool) → q x ≡ b → AllByRecursion Q (filter q xs) → AllByRecursion Q (cond b (x ∷ filter q xs) (filter q xs))
+    by true e rest = (f x a.0 e, rest)
+    by false e rest = rest
+
+filter-all : {A : Type 0} (P : A → Type 0) (q : A → Bool) (xs : List A) → AllByRecursion P (filter q xs) → AllByRecursion (λ x. IsTrue (q x) → P x) xs
+filter-all P q [] a = tt
+filter-all {A} P q (x ∷ xs) a = by (q x) a (λ rest. filter-all P q xs rest)
+  where
+    by : (b : Bool) → AllByRecursion P (cond b (x ∷ filter q xs) (filter q xs)) → (AllByRecursion P (filter q xs) → AllByRecursion (λ x. IsTrue (q x) → P x) xs) → (IsTrue b → P x) × AllByRecursion (λ x. IsTrue (q x) → P x) xs
+    by true a again = (λ t. a.0, again a.1)
+    by false a again = (λ t. absurd (cc), again a)
+
+trivial : {A : Type 0} (xs : List A) → AllByRecursion (λ x. Unit {0}) xs
+trivial [] = tt
+trivial (x ∷ xs) = (tt, trivial xs)
+
+filter-passes : {A : Type 0} (q : A → Bool) (xs : List A) → AllByRecursion (λ x. IsTrue (q x)) (filter q xs)
+filter-passes q xs = filter-implied (λ x. Unit {0}) (λ x. IsTrue (q x)) q xs (λ x u t. t) (trivial xs)
+
+All-map : {A B : Type 0} (P : B → Type 0) (f : A → B) (xs : List A) → AllByRecursion P (map f xs) → AllByRecursion (λ x. P (f x)) xs
+All-map P f [] a = tt
+All-map P f (x ∷ xs) a = (a.0, All-map P f xs a.1)
+
+All-to_map : {A B : Type 0} (P : B → Type 0) (f : A → B) (xs : List A) → AllByRecursion (λ x. P (f x)) xs → AllByRecursion P (map f xs)
+All-to_map P f [] a = tt
+All-to_map P f (x ∷ xs) a = (a.0, All-to_map P f xs a.1)
+
+All-both : {A : Type 0} (P Q : A → Type 0) (xs : List A) → AllByRecursion P xs → AllByRecursion Q xs → AllByRecursion (λ x. P x × Q x) xs
+All-both P Q [] a b = tt
+All-both P Q (x ∷ xs) a b = ((a.0, b.0), All-both P Q xs a.1 b.1)
+
+-- what holds of the images of those that pass two tests holds of the images of those that pass fewer
+fewer : {A : Type 0} (P : ℤ → Type 0) (f : A → ℤ) (p q side : A → Bool) (xs : List A) → AllByRecursion (λ x. IsTrue (p x) → IsTrue (q x)) xs
+    → AllByRecursion P (map f (filter side (filter q xs))) → AllByRecursion P (map f (filter side (filter p xs)))
+fewer P f p q side xs i a =
+    let more = filter-all (λ x. IsTrue (side x) → P (f x)) q xs (filter-all (λ x. P (f x)) side (filter q xs) (All-map P f (filter side (filter q xs)) a)) in
+    let both = All-both (λ x. IsTrue (p x) → IsTrue (q x)) (λ x. IsTrue (q x) → IsTrue (side x) → P (f x)) xs i more in
+    All-to_map P f (filter side (filter p xs))
+    (filter-implied (λ x. IsTrue (side x) → P (f x)) (λ x. P (f x)) side (filter p xs) (λ x h t. h t)
+    (filter-implied (λ x. (IsTrue (p x) → IsTrue (q x)) × (IsTrue (q x) → IsTrue (side x) → P (f x))) (λ x. IsTrue (side x) → P (f x)) p xs (λ x h t. h.1 (h.0 t)) both))
+
+greatest-fewer : {A : Type 0} (f : A → ℤ) (a : ℤ) (p q side : A → Bool) (xs : List A) → AllByRecursion (λ x. IsTrue (p x) → IsTrue (q x)) xs
+    → greatest_from a (map f (filter side (filter p xs))) ≤ℤ greatest_from a (map f (filter side (filter q xs)))
+greatest-fewer f a p q side xs i =
+    let m = greatest_from a (map f (filter side (filter q xs))) in
+    greatest_from-least a (map f (filter side (filter p xs))) m (greatest_from-start a (map f (filter side (filter q xs)))) (fewer (λ x. x ≤ℤ m) f p q side xs i (greatest_from-bound a (map f (filter side (filter q xs)))))
+
+least_from-greatest : (a : ℤ) (xs : List ℤ) (m : ℤ) → m ≤ℤ a → AllByRecursion (λ x. m ≤ℤ x) xs → m ≤ℤ least_from a xs
+least_from-greatest a [] m l all = l
+least_from-greatest a (x ∷ xs) m l all = let rest = least_from-greatest a xs m l all.1 in omega (arith, ints, clamps, all.0)
+
+least-fewer : {A : Type 0} (f : A → ℤ) (a : ℤ) (p q side : A → Bool) (xs : List A) → AllByRecursion (λ x. IsTrue (p x) → IsTrue (q x)) xs
+    → least_from a (map f (filter side (filter q xs))) ≤ℤ least_from a (map f (filter side (filter p xs)))
+least-fewer f a p q side xs i =
+    let m = least_from a (map f (filter side (filter q xs))) in
+    least_from-greatest a (map f (filter side (filter p xs))) m (least_from-start a (map f (filter side (filter q xs)))) (fewer (λ x. m ≤ℤ x) f p q side xs i (least_from-bound a (map f (filter side (filter q xs)))))
+
+any-fewer : {A : Type 0} (p q : A → Bool) (xs : List A) → AllByRecursion (λ x. IsTrue (p x) → IsTrue (q x)) xs → IsTrue (not (list_any q xs)) → IsTrue (not (list_any p xs))
+any-fewer p q [] i none = refl
+any-fewer p q (x ∷ xs) i none = by (p x) (q x) i.0 none (λ rest. any-fewer p q xs i.1 rest)
+  where
+    by : (b c : Bool) → (IsTrue b → IsTrue c) → IsTrue (not (c || list_any q xs)) → (IsTrue (not (list_any q xs)) → IsTrue (not (list_any p xs))) → IsTrue (not (b || list_any p xs))
+    by true true i none again = absurd (cc)
+    by true false i none again = absurd (let no = i refl in cc)
+    by false true i none again = absurd (cc)
+    by false false i none again = again none
+
+-- ---- a line beside floats
+
+abbrev MeetsMore : ℤ → ℤ → ℤ → FloatBox → Type 0
+MeetsMore tall a b f = IsTrue (meets a tall f) → IsTrue (meets b tall f)
+
+either_of : {Z : Type 0} (x y : Bool) → IsTrue (x || y) → (IsTrue x → Z) → (IsTrue y → Z) → Z
+either_of true y t f g = f refl
+either_of false y t f g = g t
+
+or-left : (x y : Bool) → IsTrue x → IsTrue (x || y)
+or-left true y t = refl
+or-left false y t = absurd (cc)
+
+or-right : (x y : Bool) → IsTrue y → IsTrue (x || y)
+or-right true y t = refl
+or-right false y t = t
+
+fits-more : (width : ℤ) (narrow wide : Band ℤ) → IsTrue (fits width narrow) → band_width narrow ≤ℤ band_width wide → IsTrue (fits width wide)
+fits-more width narrow wide t l = by (int_le width (band_width wide)) refl
+  where
+    by : (b : Bool) → int_le width (band_width wide) ≡ b → IsTrue b
+    by true e = refl
+    by false e = absurd (omega (arith, ints))
+
+wider : (c : InlineContext) (floats : List FloatBox) (tall a b : ℤ) → AllByRecursion (MeetsMore tall a b) floats → band_width (band_at floats c.cb b tall) ≤ℤ band_width (band_at floats c.cb a tall)
+wider c floats tall a b i =
+    let left = greatest-fewer (λ (f : FloatBox). f.box.right) c.cb.left (meets a tall) (meets b tall) is_left floats i in
+    let right = least-fewer (λ (f : FloatBox). f.box.left) c.cb.right (meets a tall) (meets b tall) (λ f. not (is_left f)) floats i in
+    omega (arith, ints)
+
+-- beside fewer floats there is more room
+may_stand-fewer : (c : InlineContext) (floats : List FloatBox) (tall width a b : ℤ) → AllByRecursion (MeetsMore tall a b) floats → IsTrue (may_stand c floats tall width b) → IsTrue (may_stand c floats tall width a)
+may_stand-fewer c floats tall width a b i t =
+    either_of (fits width (band_at floats c.cb b tall)) (meets_none floats b tall) t
+    (λ roomy. or-left (fits width (band_at floats c.cb a tall)) (meets_none floats a tall) (fits-more width (band_at floats c.cb b tall) (band_at floats c.cb a tall) roomy (wider c floats tall a b i)))
+    (λ none. or-right (fits width (band_at floats c.cb a tall)) (meets_none floats a tall) (any-fewer (meets a tall) (meets b tall) floats i none))
+
+-- ---- the top found
+
+abbrev below : ℤ → List FloatBox → List ℤ
+below y floats = filter (int_lt y) (map (λ (f : FloatBox). f.box.bottom) floats)
+
+yes-lt : (a b : ℤ) → a <ℤ b → IsTrue (int_lt a b)
+yes-lt a b l = by (int_lt a b) refl
+  where
+    by : (t : Bool) → int_lt a b ≡ t → IsTrue t
+    by true e = refl
+    by false e = absurd (omega (arith, ints))
+
+no-lt : (a b : ℤ) → b ≤ℤ a → int_lt a b ≡ false
+no-lt a b l = by (int_lt a b) refl
+  where
+    by : (t : Bool) → int_lt a b ≡ t → t ≡ false
+    by true e = absurd (omega (arith, ints))
+    by false e = refl
+
+and-false : (x z : Bool) → (x && z && false) ≡ false
+and-false true true = refl
+and-false true false = refl
+and-false false z = refl
+
+apart : (f : FloatBox) (tall t : ℤ) → f.box.bottom ≤ℤ t → meets t tall f ≡ false
+apart f tall t l = rw (no-lt t f.box.bottom l) (and-false (int_lt f.box.top f.box.bottom) (int_lt f.box.top (t +ℤ tall)))
+
+none-met : (floats : List FloatBox) (tall t : ℤ) → AllByRecursion (λ (f : FloatBox). f.box.bottom ≤ℤ t) floats → IsTrue (not (list_any (meets t tall) floats))
+none-met [] tall t a = refl
+none-met (f ∷ fs) tall t a = rw (apart f tall t a.0) (none-met fs tall t a.1)
+
+-- below the bottoms of all floats none is met
+last-free : (c : InlineContext) (floats : List FloatBox) (tall width t : ℤ) → AllByRecursion (λ (f : FloatBox). f.box.bottom ≤ℤ t) floats → IsTrue (may_stand c floats tall width t)
+last-free c floats tall width t a = or-right (fits width (band_at floats c.cb t tall)) (meets_none floats t tall) (none-met floats tall t a)
+
+least_or-any : (P : ℤ → Type 0) (y : ℤ) (xs : List ℤ) → (xs ≡ [] → P y) → AllByRecursion P xs → P (least_or y xs)
+least_or-any P y [] f a = f refl
+least_or-any P y (x ∷ xs) f a = least_from-any P x xs a.0 a.1
+
+least_or-bound : (y : ℤ) (xs : List ℤ) → AllByRecursion (λ x. least_or y xs ≤ℤ x) xs
+least_or-bound y [] = tt
+least_or-bound y (x ∷ xs) = (least_from-start x xs, least_from-bound x xs)
+
+filter-none : {A : Type 0} (p : A → Bool) (xs : List A) → filter p xs ≡ [] → AllByRecursion (λ x. p x ≡ false) xs
+filter-none p [] e = tt
+filter-none {A} p (x ∷ xs) e = by (p x) e (λ rest. filter-none p xs rest)
+  where
+    by : (b : Bool) → cond b (x ∷ filter p xs) (filter p xs) ≡ [] → (filter p xs ≡ [] → AllByRecursion (λ x. p x ≡ false) xs) → (b ≡ false) × AllByRecursion (λ x. p x ≡ false) xs
+    by true e again = absurd (cc)
+    by false e again = (refl, again e)
+
+-- of the floats whose bottom is not above y, and at most t
+bottoms-within : (floats : List FloatBox) (y : ℤ) (q : ℤ → Bool) (m : ℤ) → AllByRecursion (λ x. x ≤ℤ m) (filter q (below y floats))
+    → AllByRecursion (λ (f : FloatBox). IsTrue (int_lt y f.box.bottom) → IsTrue (q f.box.bottom) → f.box.bottom ≤ℤ m) floats
+bottoms-within floats y q m a =
+    All-map (λ b. IsTrue (int_lt y b) → IsTrue (q b) → b ≤ℤ m) (λ (f : FloatBox). f.box.bottom) floats
+    (filter-all (λ b. IsTrue (q b) → b ≤ℤ m) (int_lt y) (map (λ (f : FloatBox). f.box.bottom) floats) (filter-all (λ b. b ≤ℤ m) q (below y floats) a))
+
+lowest : (floats : List FloatBox) (y : ℤ) → AllByRecursion (λ (f : FloatBox). f.box.bottom ≤ℤ greatest_from y (below y floats)) floats
+lowest floats y =
+    let m = greatest_from y (below y floats) in
+    let start = greatest_from-start y (below y floats) in
+    let each = All-map (λ b. IsTrue (int_lt y b) → b ≤ℤ m) (λ (f : FloatBox). f.box.bottom) floats (filter-all (λ b. b ≤ℤ m) (int_lt y) (map (λ (f : FloatBox). f.box.bottom) floats) (greatest_from-bound y (below y floats))) in
+    All-implied (λ (f : FloatBox). IsTrue (int_lt y f.box.bottom) → f.box.bottom ≤ℤ m) (λ (f : FloatBox). f.box.bottom ≤ℤ m) floats (λ f h. by f.box.bottom m start h) each
+  where
+    by : (b m : ℤ) → y ≤ℤ m → (IsTrue (int_lt y b) → b ≤ℤ m) → b ≤ℤ m
+    by b m start h = by_test (int_lt y b) refl h
+      where
+        by_test : (t : Bool) → int_lt y b ≡ t → (IsTrue t → b ≤ℤ m) → b ≤ℤ m
+        by_test true e h = h refl
+        by_test false e h = omega (arith, ints)
+
+-- there is a top at which the line may stand
+some-top : (c : InlineContext) (floats : List FloatBox) (y tall width : ℤ) → filter (may_stand c floats tall width) (candidate_tops floats y) ≡ [] → ⊥
+some-top c floats y tall width e =
+    let none = filter-none (may_stand c floats tall width) (candidate_tops floats y) e in
+    let last = greatest_from y (below y floats) in
+    let no = greatest_from-any (λ t. may_stand c floats tall width t ≡ false) y (below y floats) none.0 none.1 in
+    let yes = last-free c floats tall width last (lowest floats y) in
+    clash (may_stand c floats tall width last) yes no
+  where
+    clash : (b : Bool) → IsTrue b → b ≡ false → ⊥
+    clash b t f = cc
+
+-- the top isn't above y, and the line may stand there
+pub line_top-stands : (c : InlineContext) (floats : List FloatBox) (y tall width : ℤ) → (y ≤ℤ line_top c floats y tall width) × IsTrue (may_stand c floats tall width (line_top c floats y tall width))
+line_top-stands c floats y tall width =
+    let ok = may_stand c floats tall width in
+    let below_y = filter-implied (λ b. IsTrue (int_lt y b)) (λ b. (y ≤ℤ b) × IsTrue (ok b)) ok (below y floats) (λ b l t. (lower b l, t)) (filter-passes (int_lt y) (map (λ (f : FloatBox). f.box.bottom) floats)) in
+    least_or-any (λ b. (y ≤ℤ b) × IsTrue (ok b)) y (filter ok (candidate_tops floats y)) (λ e. absurd (some-top c floats y tall width e)) (with_first (ok y) refl below_y)
+  where
+    lower : (b : ℤ) → IsTrue (int_lt y b) → y ≤ℤ b
+    lower b t = omega (arith, ints)
+
+    with_first : (b : Bool) → may_stand c floats tall width y ≡ b → AllByRecursion (λ b. (y ≤ℤ b) × IsTrue (may_stand c floats tall width b)) (filter (may_stand c floats tall width) (below y floats))
+        → AllByRecursion (λ b. (y ≤ℤ b) × IsTrue (may_stand c floats tall width b)) (cond b (y ∷ filter (may_stand c floats tall width) (below y floats)) (filter (may_stand c floats tall width) (below y floats)))
+    with_first true e rest = ((omega (arith, ints), e), rest)
+    with_first false e rest = rest
+
+-- ---- no higher top
+
+and-first : (x y : Bool) → IsTrue (x && y) → IsTrue x
+and-first true y t = refl
+and-first false y t = absurd (cc)
+
+and-second : (x y : Bool) → IsTrue (x && y) → IsTrue y
+and-second true y t = t
+and-second false y t = absurd (cc)
+
+and-both : (x y : Bool) → IsTrue x → IsTrue y → IsTrue (x && y)
+and-both true y a b = b
+and-both false y a b = absurd (cc)
+
+-- a float met at a lower top that is not above its bottom is met at the higher one
+met-later : (tall y a b : ℤ) (f : FloatBox) → y ≤ℤ a → a ≤ℤ b → (IsTrue (int_lt y f.box.bottom) → IsTrue (int_le f.box.bottom b) → f.box.bottom ≤ℤ a) → MeetsMore tall a b f
+met-later tall y a b f low order h m =
+    let front = and-first (int_lt f.box.top f.box.bottom && int_lt f.box.top (a +ℤ tall)) (int_lt a f.box.bottom) m in
+    let ends = and-second (int_lt f.box.top f.box.bottom && int_lt f.box.top (a +ℤ tall)) (int_lt a f.box.bottom) m in
+    let high = and-first (int_lt f.box.top f.box.bottom) (int_lt f.box.top (a +ℤ tall)) front in
+    let starts = and-second (int_lt f.box.top f.box.bottom) (int_lt f.box.top (a +ℤ tall)) front in
+    and-both (int_lt f.box.top f.box.bottom && int_lt f.box.top (b +ℤ tall)) (int_lt b f.box.bottom)
+    (and-both (int_lt f.box.top f.box.bottom) (int_lt f.box.top (b +ℤ tall)) high (yes-lt f.box.top (b +ℤ tall) (omega (arith, ints))))
+    (past (int_lt b f.box.bottom) refl (yes-lt y f.box.bottom (omega (arith, ints))) ends)
+  where
+    past : (t : Bool) → int_lt b f.box.bottom ≡ t → IsTrue (int_lt y f.box.bottom) → IsTrue (int_lt a f.box.bottom) → IsTrue t
+    past true e l k = refl
+    past false e l k = absurd (let under = h l (yes-le (omega (arith, ints))) in omega (arith, ints))
+      where
+        yes-le : f.box.bottom ≤ℤ b → IsTrue (int_le f.box.bottom b)
+        yes-le l = by (int_le f.box.bottom b) refl
+          where
+            by : (s : Bool) → int_le f.box.bottom b ≡ s → IsTrue s
+            by true e = refl
+            by false e = absurd (omega (arith, ints))
+
+pub line_top-highest : (c : InlineContext) (floats : List FloatBox) (y tall width t : ℤ) → y ≤ℤ t → t <ℤ line_top c floats y tall width → may_stand c floats tall width t ≡ false
+line_top-highest c floats y tall width t low high = by (may_stand c floats tall width t) refl
+  where
+    not_above : IsTrue (may_stand c floats tall width t) → line_top c floats y tall width ≤ℤ t
+    not_above stands =
+        let ok = may_stand c floats tall width in
+        let top = line_top c floats y tall width in
+        let within = filter (λ b. int_le b t) (below y floats) in
+        let near = greatest_from y within in
+        let order = greatest_from-least y within t low (All-implied (λ b. IsTrue (int_le b t)) (λ b. b ≤ℤ t) within (λ b l. omega (arith, ints)) (filter-passes (λ b. int_le b t) (below y floats))) in
+        let start = greatest_from-start y within in
+        let more = All-implied (λ (f : FloatBox). IsTrue (int_lt y f.box.bottom) → IsTrue (int_le f.box.bottom t) → f.box.bottom ≤ℤ near) (MeetsMore tall near t) floats
+        (λ f h. met-later tall y near t f start order h) (bottoms-within floats y (λ b. int_le b t) near (greatest_from-bound y within)) in
+        let near_stands = may_stand-fewer c floats tall width near t more stands in
+        let each = filter-all (λ b. top ≤ℤ b) ok (candidate_tops floats y) (least_or-bound y (filter ok (candidate_tops floats y))) in
+        let no_higher = greatest_from-any (λ b. IsTrue (ok b) → top ≤ℤ b) y within each.0 (filter-implied (λ b. IsTrue (ok b) → top ≤ℤ b) (λ b. IsTrue (ok b) → top ≤ℤ b) (λ b. int_le b t) (below y floats) (λ b h l. h) each.1) near_stands in
+        omega (arith, ints)
+
+    by : (b : Bool) → may_stand c floats tall width t ≡ b → b ≡ false
+    by true e = absurd (let l = not_above e in omega (arith, ints))
+    by false e = refl
