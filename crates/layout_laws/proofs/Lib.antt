@@ -24,3 +24,4 @@ pub mod Beside
 pub mod Truths
 pub mod Bands
 pub mod Collapsed
+pub mod PlainLeads
