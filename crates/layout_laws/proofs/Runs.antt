@@ -1,13 +1,13 @@
 -- The runs of boxes that anonymous block boxes hold: the items of a page are arranged where its parts are.
-use Rattle.std.proofs.Common.{◌≡◌, ℕ, suc, ◌<◌, ◌≤◌, Bool, true, false, ◌==◌, ◌||◌, List, [], ◌∷◌, ◌++◌, map, flat_map, find, Option, Some, None, option_and_then, refl, sym, ◌∙◌, ap, subst, arith, ◌⊎◌, inl, inr, if◌then◌else◌, eq-eqb, ne_eqb, eqb-true}
+use Rattle.std.proofs.Common.{◌≡◌, ℕ, zero, suc, ◌<◌, ◌≤◌, Bool, true, false, ◌==◌, ◌||◌, List, [], ◌∷◌, ◌++◌, map, flat_map, find, Option, Some, None, option_and_then, refl, sym, ◌∙◌, ap, subst, arith, ◌⊎◌, inl, inr, if◌then◌else◌, eq-eqb, ne_eqb, eqb-true}
 use Rattle.std.specs.List.{list_any}
 use Rattle.layout_semantics.specs.Lists.{chosen, one_if}
 use Rattle.layout_semantics.specs.Parts.{Part, Level}
 use Rattle.layout_semantics.specs.WhiteSpace.{is_in}
 use Rattle.layout_semantics.specs.BoxTrees.{Item, items_of, run_around, first_of, has_node, nodes_of, parts_in, wrapped_in, runs_of, with_part, needs_box, is_block_part}
-use Rattle.layout_laws.proofs.Members.{In, Rises, rises_from, rises_lower, rises_chosen, to_map, from_map, from_chosen}
+use Rattle.layout_laws.proofs.Members.{In, Rises, rises_from, rises_lower, rises_chosen, to_map, from_map, from_chosen, from_append}
 use Rattle.layout_laws.proofs.Places.{node_of}
-use Rattle.layout_laws.proofs.Kids.{IsArranged, IsRun}
+use Rattle.layout_laws.proofs.Kids.{IsArranged, HasParent, IsMember, IsRun}
 
 -- ---- ascending lists of lists
 
@@ -216,8 +216,6 @@ module _ (parts : List Part) (known : AreParts parts) where
         let up = run_has_parent from.0 from.0.parent run around in
         is_run from.0 up.0 run up.1 around;
   }
-<<<<<<< HEAD
-=======
 
 -- the element that a part in a run is in
 pub run_parent : (parts : List Part) (x : Item) (run : List ℕ) → In x (items_of parts) → x.run ≡ Some run → (q : ℕ) × (x.part.parent ≡ Some q)
@@ -229,4 +227,3 @@ run_parent parts x run i e =
     by_parent : (p : Part) (o : Option ℕ) → option_and_then (λ parent. find (has_node p.node) (map nodes_of (wrapped_in (parts_in parts parent)))) o ≡ Some run → (q : ℕ) × (o ≡ Some q)
     by_parent p None e = absurd (cc)
     by_parent p (Some q) e = (q, refl)
->>>>>>> 0131b0af66842f900a4eea2e6f3fba341b8599d3
