@@ -2,9 +2,9 @@
 #![tactic(auto)]
 
 mod boxes;
+mod floats;
 mod flow;
 mod fonts;
 mod lines;
-mod widths;
-mod floats;
 mod margins;
+mod widths;
