@@ -25,3 +25,4 @@ pub mod Truths
 pub mod Bands
 pub mod Collapsed
 pub mod PlainLeads
+pub mod PlainLevels
