@@ -74,20 +74,7 @@ passes test (y ∷ ys) zero x t e = subst (λ z. IsTrue (test z)) (some_same y x
     some_same y x e = cc
 passes test (y ∷ ys) (suc i) x t e = passes test ys i x (both (test y) (list_all test ys) t).1 e
 
-module _ (tree : BoxTree) (alone : IsTrue (holds_blocks_alone tree)) where
-  no_inline : (k : ℕ) → is_inline_level_at tree k ≡ false
-  no_inline k = by_box (slice_get tree.boxes k) refl
-    where
-      by_test : (floated inline : Bool) → IsTrue (floated || not inline) → (inline && not floated) ≡ false
-      by_test true true t = refl
-      by_test true false t = refl
-      by_test false true t = absurd (cc)
-      by_test false false t = refl
-
-      by_box : (o : Option BoxNode) → slice_get tree.boxes k ≡ o → (option_map_or is_inline_level o false && not (option_map_or (is_floated tree.styles) o false)) ≡ false
-      by_box None e = refl
-      by_box (Some b) e = by_test (is_floated tree.styles b) (is_inline_level b) (passes (λ (b : BoxNode). is_floated tree.styles b || not (is_inline_level b)) tree.boxes k b alone e)
-
+module _ (tree : BoxTree) (no_inline : (k : ℕ) → is_inline_level_at tree k ≡ false) where
   none_inline : (ks : List ℕ) → list_any (is_inline_level_at tree) ks ≡ false
   none_inline [] = refl
   none_inline (k ∷ ks) = ap (λ c. c || list_any (is_inline_level_at tree) ks) (no_inline k) ∙ none_inline ks
@@ -117,8 +104,27 @@ module _ (tree : BoxTree) (alone : IsTrue (holds_blocks_alone tree)) where
       different : true ≡ false → ⊥
       different e = grind arith
 
-  pub blocks-entries : (w : World) (height : ℕ) → map named_by (page_rendering tree w height).boxes ≡ map (name_of tree) (page_order tree.boxes)
-  blocks-entries w height =
+  pub no_inline-entries : (w : World) (height : ℕ) → map named_by (page_rendering tree w height).boxes ≡ map (name_of tree) (page_order tree.boxes)
+  no_inline-entries w height =
       sym (flat_map_single named_by (page_rendering tree w height).boxes)
       ∙ (page-entries tree w height (λ kind. true) (lines_none w height (λ kind. true)) (λ b l e. flows w height (λ kind. true) b)
       ∙ flat_map_single (name_of tree) (page_order tree.boxes))
+
+-- ---- blocks and floats alone
+
+module _ (tree : BoxTree) (alone : IsTrue (holds_blocks_alone tree)) where
+  no_inline : (k : ℕ) → is_inline_level_at tree k ≡ false
+  no_inline k = by_box (slice_get tree.boxes k) refl
+    where
+      by_test : (floated inline : Bool) → IsTrue (floated || not inline) → (inline && not floated) ≡ false
+      by_test true true t = refl
+      by_test true false t = refl
+      by_test false true t = absurd (cc)
+      by_test false false t = refl
+
+      by_box : (o : Option BoxNode) → slice_get tree.boxes k ≡ o → (option_map_or is_inline_level o false && not (option_map_or (is_floated tree.styles) o false)) ≡ false
+      by_box None e = refl
+      by_box (Some b) e = by_test (is_floated tree.styles b) (is_inline_level b) (passes (λ (b : BoxNode). is_floated tree.styles b || not (is_inline_level b)) tree.boxes k b alone e)
+
+  pub blocks-entries : (w : World) (height : ℕ) → map named_by (page_rendering tree w height).boxes ≡ map (name_of tree) (page_order tree.boxes)
+  blocks-entries w height = no_inline-entries tree no_inline w height

@@ -26,3 +26,4 @@ pub mod Bands
 pub mod Collapsed
 pub mod PlainLeads
 pub mod PlainLevels
+pub mod PlainSteps
