@@ -13,10 +13,12 @@ use Rattle.layout_semantics.specs.FlowBoxes.{is_replaced_at, is_context_root, is
 use Rattle.layout_semantics.specs.InlineContent.{is_floated_at, is_zero, has_line}
 use Rattle.layout_semantics.specs.Lengths.{borders, paddings}
 use Rattle.layout_semantics.specs.Leads.{bottom_margin}
-use Rattle.layout_semantics.specs.Flow.{Standing, at_top, below, Progress, fresh, opened, Reached, Laid, reached, laid, flow_child, joined_run, is_at_top, content_height, context_height, block_height}
+use Rattle.layout_semantics.specs.Flow.{Standing, at_top, below, Progress, fresh, opened, Reached, Laid, reached, laid, child, flow_child, standing_after, flow_to, joined_run, is_at_top, content_height, context_height, block_height}
+use Rattle.layout_semantics.proofs.Forest.{IsKid}
+use Rattle.layout_semantics.proofs.Pages.{forest}
 use Rattle.layout_laws.specs.PlainFlow.{HasPlainBlocks, leading, all_margins, collapses, after_child, trailing}
 use Rattle.layout_laws.proofs.Flowing.{frame_of}
-use Rattle.layout_laws.proofs.Entries.{no_lines}
+use Rattle.layout_laws.proofs.Entries.{no_lines, holds_none}
 use Rattle.layout_laws.proofs.PlainLeads.{resolve-plain}
 use Rattle.layout_laws.proofs.PlainLevels.{collapses-is, trailing-is, box_margins}
 
@@ -40,6 +42,13 @@ passed_by (below edge run stuck) margins = below edge (run ++ margins) stuck
 abbrev pub plainly_reached : ℤ → Reached
 plainly_reached y = record { top = y; clears = false; cleared = None }
 
+module _ (tree : BoxTree) (w : World) (height : ℕ) where
+  -- how far the boxes of a block have come: the margins since the last that does not collapse through, and whether there is none
+  pub record Follows (s : Standing) (run : List ℤ) (t : Bool) : Type 0 where
+    pub top : is_at_top tree w height s ≡ t
+    pub joined : is_at_top tree w height s ≡ false → joined_run tree w height true s ≡ run
+    pub is_plain : IsPlain s
+
 -- ---- what parts margins
 
 no_second : (a c d : Bool) → (not a && not true && c && d) ≡ false
@@ -58,6 +67,18 @@ both_ways t true a m e f = ap (λ c. c && m) e ∙ flip a m
     flip false true = refl
     flip false false = refl
 both_ways t false a m e f = ap (λ c. c && m) e ∙ ap (λ c. c && a) (sym (f refl))
+
+and_true : (t : Bool) → (t && true) ≡ t
+and_true true = refl
+and_true false = refl
+
+and_false : (t : Bool) → (t && false) ≡ false
+and_false true = refl
+and_false false = refl
+
+and_assoc : (a b c : Bool) → ((a && b) && c) ≡ (a && (b && c))
+and_assoc true b c = refl
+and_assoc false b c = refl
 
 -- a block that does not collapse through has a child that does not, where its bottom margin may join its last child's
 parted : (o ob nm au z hl a : Bool) → hl ≡ false → (ob && au && nm) ≡ true → ((o && ob && nm && (au || z) && not hl) && a) ≡ false → (o && a) ≡ false
@@ -124,6 +145,9 @@ module _ (tree : BoxTree) (w : World) (height : ℕ) (inside : ℕ → Band ℤ 
   abbrev pub entry_in : Band ℤ → Progress → ℕ → Frame → Placed ℤ
   entry_in cb p k f = placed_box tree k f (inner_height cb p k f (is_replaced_at tree k) (is_context_root tree k))
 
+  abbrev pub entry_of : Band ℤ → Progress → ℕ → Placed ℤ
+  entry_of cb p k = entry_in cb p k (frame_of tree w height cb k (reached tree w height inside cb p k))
+
 module _ (tree : BoxTree) (w : World) (height : ℕ) (plain : HasPlainBlocks tree) where
   module _ (inside : ℕ → Band ℤ → ℤ → Progress → Progress) where
     pub reached-plain : (cb : Band ℤ) (p : Progress) (k : ℕ) → IsPlain p.standing → reached tree w height inside cb p k ≡ plainly_reached (edge_after p.standing (leading tree w height cb k))
@@ -135,12 +159,12 @@ module _ (tree : BoxTree) (w : World) (height : ℕ) (plain : HasPlainBlocks tre
         by_standing (below edge run stuck) e i = rw (e, resolve-plain tree w height plain.no_clear _ _ _ _ _ k _)
 
   -- what the content of a block leaves
-  record Ends (cb : Band ℤ) (b : ℕ) (opens : Bool) (end : Progress) : Type 0 where
-    floats : end.floats ≡ []
-    top : is_at_top tree w height end.standing ≡ (opens && list_all (collapses tree w height) (kids_of tree.boxes b))
-    run : is_at_top tree w height end.standing ≡ false → joined_run tree w height true end.standing ≡ fold (after_child tree w height (trailing tree w height) cb) [] (kids_of tree.boxes b)
+  pub record Ends (cb : Band ℤ) (b : ℕ) (opens : Bool) (end : Progress) : Type 0 where
+    pub floats : end.floats ≡ []
+    pub top : is_at_top tree w height end.standing ≡ (opens && list_all (collapses tree w height) (kids_of tree.boxes b))
+    pub run : is_at_top tree w height end.standing ≡ false → joined_run tree w height true end.standing ≡ fold (after_child tree w height (trailing tree w height) cb) [] (kids_of tree.boxes b)
 
-  abbrev Behaves : (ℕ → Band ℤ → ℤ → Progress → Progress) → ℕ → Type 0
+  abbrev pub Behaves : (ℕ → Band ℤ → ℤ → Progress → Progress) → ℕ → Type 0
   Behaves inside levels = (b : ℕ) (cb : Band ℤ) (top y : ℤ) (p : Progress) (opens : Bool) → b < length tree.boxes → length tree.boxes ≤ levels + b
       → p.floats ≡ [] → p.standing ≡ started y top opens → Ends cb b opens (inside b cb top p)
 
@@ -193,3 +217,92 @@ module _ (tree : BoxTree) (w : World) (height : ℕ) (plain : HasPlainBlocks tre
             joins true g c = ap (λ (own : List ℤ). own ++ bottom_margin tree w height cb k ∷ []) (ends.run (ends.top
                 ∙ parted (is_open_above tree k) (is_open_below tree k) (has_no_minimum tree w height k) (has_auto_height tree w height k) (is_zero (own_height tree k)) (has_line tree k) (list_all (collapses tree w height) (kids_of tree.boxes k))
                 (no_lines tree plain.no_inline k) g (sym (collapses-is tree w height k l) ∙ c)))
+
+    -- ---- after a box
+
+    child-flows : (cb : Band ℤ) (top : ℤ) (p : Progress) (k : ℕ) → child tree w height inside cb top p k ≡ flow_child tree w height inside cb p k
+    child-flows cb top p k = rw (plain.no_float k)
+
+    after-through : (cb : Band ℤ) (s : Standing) (k : ℕ) (y : ℤ) (l : Laid) → l.through ≡ true → standing_after tree w height inside cb s k (plainly_reached y) l ≡ passed_by s (all_margins tree w height cb k)
+    after-through cb (at_top top cleared) k y l e = rw e
+    after-through cb (below edge run stuck) k y l e = rw e
+
+    after-other : (cb : Band ℤ) (s : Standing) (k : ℕ) (y : ℤ) (l : Laid) → l.through ≡ false → standing_after tree w height inside cb s k (plainly_reached y) l ≡ below l.bottom l.margins false
+    after-other cb s k y l e = rw e
+
+    pub record IsStep (cb : Band ℤ) (top : ℤ) (p : Progress) (k : ℕ) : Type 0 where
+      pub floats : (child tree w height inside cb top p k).floats ≡ []
+      pub passed : collapses tree w height k ≡ true → (child tree w height inside cb top p k).standing ≡ passed_by p.standing (all_margins tree w height cb k)
+      pub stands : collapses tree w height k ≡ false → (child tree w height inside cb top p k).standing ≡ below (entry_of tree w height inside cb p k).border.bottom (trailing tree w height cb k) false
+
+    pub step : (cb : Band ℤ) (top : ℤ) (p : Progress) (k : ℕ) → k < length tree.boxes → length tree.boxes ≤ levels + k → p.floats ≡ [] → IsPlain p.standing → IsStep cb top p k
+    step cb top p k l m none i =
+        record {
+          floats = rw (plain.no_float k, here) own.floats;
+          passed = λ e. rw (plain.no_float k, here) (after-through cb p.standing k y (laid tree w height inside cb p k (plainly_reached y)) (own.through ∙ e));
+          stands = λ e. rw (plain.no_float k, here) (after-other cb p.standing k y (laid tree w height inside cb p k (plainly_reached y)) (own.through ∙ e)
+              ∙ (ap (λ (bottom : ℤ). below bottom (laid tree w height inside cb p k (plainly_reached y)).margins false) own.bottom
+              ∙ ap (λ (run : List ℤ). below (entry_in tree w height inside cb p k (frame_of tree w height cb k (plainly_reached y))).border.bottom run false) (own.margins e)));
+        }
+      where
+        y : ℤ
+        y = edge_after p.standing (leading tree w height cb k)
+
+        here : reached tree w height inside cb p k ≡ plainly_reached y
+        here = reached-plain inside cb p k i
+
+        own : IsLaid inside cb p k y
+        own = laid-is cb p k y l m none
+
+    -- ---- after all boxes of a block
+
+    follows-passed : (s : Standing) (run more : List ℤ) (t : Bool) → Follows tree w height s run t → Follows tree w height (passed_by s more) (run ++ more) (t && true)
+    follows-passed (at_top y cleared) run more t f = record { top = f.top ∙ sym (and_true t); joined = λ e. absurd (cc); is_plain = f.is_plain }
+    follows-passed (below edge own false) run more t f = record { top = f.top ∙ sym (and_true t); joined = λ e. ap (λ (l : List ℤ). l ++ more) (f.joined refl); is_plain = refl }
+    follows-passed (below edge own true) run more t f = let stuck = f.is_plain in absurd (cc)
+
+    follows-child : (cb : Band ℤ) (top : ℤ) (p : Progress) (k : ℕ) (run : List ℤ) (t : Bool) → IsStep cb top p k → Follows tree w height p.standing run t
+        → Follows tree w height (child tree w height inside cb top p k).standing (after_child tree w height (trailing tree w height) cb run k) (t && collapses tree w height k)
+    follows-child cb top p k run t s f = by_sort (collapses tree w height k) refl
+      where
+        by_sort : (c : Bool) → collapses tree w height k ≡ c → Follows tree w height (child tree w height inside cb top p k).standing (after_child tree w height (trailing tree w height) cb run k) (t && collapses tree w height k)
+        by_sort true e = rw (s.passed e, e) (follows-passed p.standing run (all_margins tree w height cb k) t f)
+        by_sort false e = rw (s.stands e, e) (record { top = sym (and_false t); joined = λ g. refl; is_plain = refl })
+
+    pub record HasEnded (cb : Band ℤ) (ks : List ℕ) (run : List ℤ) (t : Bool) (end : Progress) : Type 0 where
+      floats : end.floats ≡ []
+      follows : Follows tree w height end.standing (fold (after_child tree w height (trailing tree w height) cb) run ks) (t && list_all (collapses tree w height) ks)
+
+    children-ended : (cb : Band ℤ) (top : ℤ) (ks : List ℕ) (p : Progress) (run : List ℤ) (t : Bool) → AllByRecursion (λ k. (k < length tree.boxes) × (length tree.boxes ≤ levels + k)) ks → p.floats ≡ [] → Follows tree w height p.standing run t
+        → HasEnded cb ks run t (fold (child tree w height inside cb top) p ks)
+    children-ended cb top [] p run t a none f = record { floats = none; follows = rw (and_true t) f }
+    children-ended cb top (k ∷ ks) p run t a none f =
+        let s = step cb top p k a.0.0 a.0.1 none f.is_plain in
+        let rest = children-ended cb top ks (child tree w height inside cb top p k) (after_child tree w height (trailing tree w height) cb run k) (t && collapses tree w height k) a.1 s.floats (follows-child cb top p k run t s f) in
+        record { floats = rest.floats; follows = rw (and_assoc t (collapses tree w height k) (list_all (collapses tree w height) ks)) at rest.follows }
+
+  -- ---- all levels
+
+  reached_all : (n levels b : ℕ) (ks : List ℕ) → n ≤ suc levels + b → AllByRecursion (IsKid tree.boxes b) ks → n ≡ length tree.boxes → AllByRecursion (λ k. (k < length tree.boxes) × (length tree.boxes ≤ levels + k)) ks
+  reached_all n levels b [] l a e = tt
+  reached_all n levels b (k ∷ ks) l a e = let after = a.0.after in ((a.0.within, omega arith), reached_all n levels b ks l a.1 e)
+
+  pub kids_reached : (levels b : ℕ) → length tree.boxes ≤ suc levels + b → AllByRecursion (λ k. (k < length tree.boxes) × (length tree.boxes ≤ levels + k)) (kids_of tree.boxes b)
+  kids_reached levels b l = reached_all (length tree.boxes) levels b (kids_of tree.boxes b) l ((forest tree).kids b) refl
+
+  -- the content of a box in this flow
+  pub flow-is : (levels b : ℕ) (cb : Band ℤ) (top : ℤ) (p : Progress) → flow_to tree w height (suc levels) b cb top p ≡ fold (child tree w height (flow_to tree w height levels) cb top) p (kids_of tree.boxes b)
+  unfolding flow_to
+  flow-is levels b cb top p = rw (no_lines tree plain.no_inline b, holds_none tree plain.no_inline b)
+
+  pub flow-behaves : (levels : ℕ) → Behaves (flow_to tree w height levels) levels
+  flow-behaves zero b cb top y p opens l m none start = absurd (omega arith)
+  flow-behaves (suc levels) b cb top y p opens l m none start =
+      rw (flow-is levels b cb top p) (
+      let from = begin opens in
+      let ended = children-ended (flow_to tree w height levels) levels (flow-behaves levels) cb top (kids_of tree.boxes b) p [] opens (kids_reached levels b m) none (rw (← start) at from) in
+      record { floats = ended.floats; top = ended.follows.top; run = ended.follows.joined })
+    where
+      begin : (o : Bool) → Follows tree w height (started y top o) [] o
+      begin true = record { top = refl; joined = λ e. absurd (cc); is_plain = refl }
+      begin false = record { top = refl; joined = λ e. refl; is_plain = refl }
