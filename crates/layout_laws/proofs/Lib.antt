@@ -27,3 +27,4 @@ pub mod Collapsed
 pub mod PlainLeads
 pub mod PlainLevels
 pub mod PlainSteps
+pub mod PlainTraces

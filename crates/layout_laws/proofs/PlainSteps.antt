@@ -101,7 +101,7 @@ module _ (tree : BoxTree) (w : World) (height : ℕ) where
   replaced-below : (k : ℕ) → is_replaced_at tree k ≡ true → is_open_below tree k ≡ false
   replaced-below k e = ap (λ r. not (is_context_root tree k) && not r && is_zero (borders tree k).bottom && is_zero (paddings tree k).bottom) e ∙ no_second (is_context_root tree k) (is_zero (borders tree k).bottom) (is_zero (paddings tree k).bottom)
 
-  context-above : (k : ℕ) → is_context_root tree k ≡ true → is_open_above tree k ≡ false
+  pub context-above : (k : ℕ) → is_context_root tree k ≡ true → is_open_above tree k ≡ false
   context-above k e = ap (λ c. not c && not (is_replaced_at tree k) && is_zero (borders tree k).top && is_zero (paddings tree k).top) e
 
   context-below : (k : ℕ) → is_context_root tree k ≡ true → is_open_below tree k ≡ false
