@@ -28,3 +28,4 @@ pub mod PlainLeads
 pub mod PlainLevels
 pub mod PlainSteps
 pub mod PlainTraces
+pub mod PlainLaws

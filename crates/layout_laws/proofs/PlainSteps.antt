@@ -1,5 +1,5 @@
 -- The steps of normal flow without floats and clearance: where a block is reached, and where the next one stands after it.
-use Rattle.std.proofs.Common.{◌≡◌, ℕ, zero, suc, ◌+◌, ◌<◌, ◌≤◌, ℤ, ◌+ℤ◌, Bool, true, false, not, ◌&&◌, ◌||◌, List, [], ◌∷◌, ◌++◌, length, fold, refl, sym, ap, ◌∙◌, arith, append-nil, Option, None, Some}
+use Rattle.std.proofs.Common.{◌≡◌, ℕ, zero, suc, ◌+◌, ◌<◌, ◌≤◌, ℤ, ◌+ℤ◌, Bool, true, false, not, ◌&&◌, ◌||◌, List, [], ◌∷◌, ◌++◌, length, fold, refl, sym, ap, ◌∙◌, subst, arith, append-nil, Option, None, Some}
 use Rattle.std.specs.List.{list_all, AllByRecursion}
 use Rattle.viz_base.specs.declared.layouts.Band.{Band}
 use Rattle.viz_base.specs.declared.trees.BoxTree.{BoxTree}
@@ -253,6 +253,17 @@ module _ (tree : BoxTree) (w : World) (height : ℕ) (plain : HasPlainBlocks tre
 
         own : IsLaid inside cb p k y
         own = laid-is cb p k y l m none
+
+    pub plain-after : (cb : Band ℤ) (top : ℤ) (p : Progress) (k : ℕ) → IsPlain p.standing → IsStep cb top p k → IsPlain (child tree w height inside cb top p k).standing
+    plain-after cb top p k i s = by_sort (collapses tree w height k) refl
+      where
+        kept : (s : Standing) (m : List ℤ) → IsPlain s → IsPlain (passed_by s m)
+        kept (at_top y cleared) m i = i
+        kept (below edge run stuck) m i = i
+
+        by_sort : (c : Bool) → collapses tree w height k ≡ c → IsPlain (child tree w height inside cb top p k).standing
+        by_sort true e = subst IsPlain (sym (s.passed e)) (kept p.standing (all_margins tree w height cb k) i)
+        by_sort false e = subst IsPlain (sym (s.stands e)) refl
 
     -- ---- after all boxes of a block
 

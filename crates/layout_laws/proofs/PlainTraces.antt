@@ -16,7 +16,7 @@ use Rattle.layout_semantics.proofs.Pages.{forest}
 use Rattle.layout_semantics.proofs.Orders.{document_order-is}
 use Rattle.layout_laws.specs.PlainFlow.{HasPlainBlocks, leading, all_margins, collapses, trailing}
 use Rattle.layout_laws.proofs.Flowing.{frame_of, replaced_holds_none}
-use Rattle.layout_laws.proofs.PlainSteps.{IsPlain, edge_after, passed_by, plainly_reached, started, inner_start, inner, inner_height, entry_in, entry_of, reached-plain, Behaves, IsStep, step, kids_reached, flow-is, flow-behaves, context-above}
+use Rattle.layout_laws.proofs.PlainSteps.{IsPlain, edge_after, passed_by, plainly_reached, started, inner_start, inner, inner_height, entry_in, entry_of, reached-plain, Behaves, IsStep, step, plain-after, kids_reached, flow-is, flow-behaves, context-above}
 
 -- a way to trace the content of a box
 abbrev pub Tracing : Type 0
@@ -111,17 +111,6 @@ module _ (tree : BoxTree) (w : World) (height : ℕ) where
 
     -- ---- a child
 
-    plain-after : (cb : Band ℤ) (top : ℤ) (p : Progress) (k : ℕ) → IsPlain p.standing → IsStep tree w height plain inside levels behaves cb top p k → IsPlain (child tree w height inside cb top p k).standing
-    plain-after cb top p k i s = by_sort (collapses tree w height k) refl
-      where
-        kept : (s : Standing) (m : List ℤ) → IsPlain s → IsPlain (passed_by s m)
-        kept (at_top y cleared) m i = i
-        kept (below edge run stuck) m i = i
-
-        by_sort : (c : Bool) → collapses tree w height k ≡ c → IsPlain (child tree w height inside cb top p k).standing
-        by_sort true e = subst IsPlain (sym (s.passed e)) (kept p.standing (all_margins tree w height cb k) i)
-        by_sort false e = subst IsPlain (sym (s.stands e)) refl
-
     child-traced : (cb : Band ℤ) (top : ℤ) (p : Progress) (k : ℕ) → k < length tree.boxes → length tree.boxes ≤ levels + k → p.floats ≡ [] → IsPlain p.standing
         → (child tree w height inside cb top p k).boxes ≡ p.boxes ++ entries_in (child_trace inside traced cb p k)
     child-traced cb top p k l m none i = rw (plain.no_float k, reached-plain tree w height plain inside cb p k i) (laid-traced cb p k (edge_after p.standing (leading tree w height cb k)) l m none)
@@ -133,21 +122,21 @@ module _ (tree : BoxTree) (w : World) (height : ℕ) where
 
     -- ---- all children
 
-    abbrev Reached-kids : List ℕ → Type 0
+    abbrev pub Reached-kids : List ℕ → Type 0
     Reached-kids ks = AllByRecursion (λ k. (k < length tree.boxes) × (length tree.boxes ≤ levels + k)) ks
 
-    children-traced : (cb : Band ℤ) (top : ℤ) (ks : List ℕ) (p : Progress) → Reached-kids ks → p.floats ≡ [] → IsPlain p.standing
+    pub children-traced : (cb : Band ℤ) (top : ℤ) (ks : List ℕ) (p : Progress) → Reached-kids ks → p.floats ≡ [] → IsPlain p.standing
         → (fold (child tree w height inside cb top) p ks).boxes ≡ p.boxes ++ entries_in (children_trace inside traced cb top p ks)
     children-traced cb top [] p a none i = sym (append-nil p.boxes)
     children-traced cb top (k ∷ ks) p a none i =
         let s = step tree w height plain inside levels behaves cb top p k a.0.0 a.0.1 none i in
         let next = child tree w height inside cb top p k in
-        children-traced cb top ks next a.1 s.floats (plain-after cb top p k i s)
+        children-traced cb top ks next a.1 s.floats (plain-after tree w height plain inside levels behaves cb top p k i s)
         ∙ (ap (λ (l : List (Placed ℤ)). l ++ entries_in (children_trace inside traced cb top next ks)) (child-traced cb top p k a.0.0 a.0.1 none i)
         ∙ (append_assoc p.boxes (entries_in (child_trace inside traced cb p k)) (entries_in (children_trace inside traced cb top next ks))
         ∙ ap (λ (l : List (Placed ℤ)). p.boxes ++ l) (sym (map-append (λ (e : ℕ × Placed ℤ). e.1) (child_trace inside traced cb p k) (children_trace inside traced cb top next ks)))))
 
-    children-ordered : (cb : Band ℤ) (top : ℤ) (ks : List ℕ) (p : Progress) → Reached-kids ks → p.floats ≡ [] → IsPlain p.standing
+    pub children-ordered : (cb : Band ℤ) (top : ℤ) (ks : List ℕ) (p : Progress) → Reached-kids ks → p.floats ≡ [] → IsPlain p.standing
         → boxes_in (children_trace inside traced cb top p ks) ≡ flat_map (document_order tree.boxes) ks
     children-ordered cb top [] p a none i = refl
     children-ordered cb top (k ∷ ks) p a none i =
@@ -155,4 +144,4 @@ module _ (tree : BoxTree) (w : World) (height : ℕ) where
         let next = child tree w height inside cb top p k in
         map-append (λ (e : ℕ × Placed ℤ). e.0) (child_trace inside traced cb p k) (children_trace inside traced cb top next ks)
         ∙ (ap (λ (l : List ℕ). l ++ boxes_in (children_trace inside traced cb top next ks)) (child-ordered cb p k a.0.0 a.0.1 none)
-        ∙ ap (λ (l : List ℕ). document_order tree.boxes k ++ l) (children-ordered cb top ks next a.1 s.floats (plain-after cb top p k i s)))
+        ∙ ap (λ (l : List ℕ). document_order tree.boxes k ++ l) (children-ordered cb top ks next a.1 s.floats (plain-after tree w height plain inside levels behaves cb top p k i s)))

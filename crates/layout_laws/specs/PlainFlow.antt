@@ -1,14 +1,26 @@
 -- Normal flow of blocks without floats and clearance: the margins that adjoin (CSS 2.1, 8.3.1, 9.4.1).
-use Rattle.std.specs.Prelude.{◌≡◌, ℕ, zero, suc, ℤ, Bool, true, false, ◌&&◌, List, [], ◌∷◌, ◌++◌, length, fold}
+use Rattle.std.specs.Prelude.{◌≡◌, ℕ, zero, suc, ℤ, Bool, true, false, ◌&&◌, List, [], ◌∷◌, ◌++◌, length, fold, slice_get, Some}
 use Rattle.std.specs.List.{list_all, flat_map}
 use Rattle.viz_base.specs.declared.layouts.Band.{Band}
 use Rattle.viz_base.specs.declared.styles.Clear.TheVariants as of_clear
 use Rattle.viz_base.specs.declared.trees.BoxTree.{BoxTree}
 use Rattle.viz_base.specs.declared.worlds.World.{World}
-use Rattle.layout_semantics.specs.Order.{kids_of}
+use Rattle.viz_base.specs.declared.renderings.Placed.{Placed}
+use Rattle.layout_semantics.specs.Order.{kids_of, page_order}
+use Rattle.layout_semantics.specs.Page.{page_rendering}
 use Rattle.layout_semantics.specs.FlowBoxes.{clear_of, may_collapse_through, joins_last_child, content_band}
 use Rattle.layout_semantics.specs.InlineContent.{is_floated_at, is_inline_level_at}
 use Rattle.layout_semantics.specs.Leads.{all_passed, lead, bottom_margin}
+
+-- the content of an entry from its left to its right edge: the containing block of the blocks in it (10.1)
+abbrev pub content_of : Placed ℤ → Band ℤ
+content_of p = record { left = p.content.left; right = p.content.right }
+
+-- an entry of a page at its box's place in document order
+pub record IsEntryOf (tree : BoxTree) (w : World) (height : ℕ) (b : ℕ) (p : Placed ℤ) : Type 0 where
+  pub place : ℕ
+  pub box : slice_get (page_order tree.boxes) place ≡ Some b
+  pub entry : slice_get (page_rendering tree w height).boxes place ≡ Some p
 
 -- no box is inline-level, none floats, and none is cleared or placed as if it were (9.5.2)
 pub record HasPlainBlocks (tree : BoxTree) : Type 0 where
