@@ -10,13 +10,13 @@ use Rattle.viz_base.specs.declared.renderings.Placed.{Placed}
 use Rattle.layout_semantics.specs.Order.{kids_of}
 use Rattle.layout_semantics.specs.Margins.{collapsed}
 use Rattle.layout_semantics.specs.Rectangles.{Frame, content_top, placed_box}
-use Rattle.layout_semantics.specs.FlowBoxes.{is_context_root, is_open_above, content_from}
+use Rattle.layout_semantics.specs.FlowBoxes.{is_replaced_at, is_context_root, is_open_above, content_from}
 use Rattle.layout_semantics.specs.Flow.{Standing, at_top, below, Progress, Reached, reached, child, flow_to}
 use Rattle.layout_semantics.proofs.Forest.{both}
 use Rattle.layout_laws.specs.PlainFlow.{HasPlainBlocks, content_of, leading, all_margins, collapses, trailing}
 use Rattle.layout_laws.proofs.Members.{In, from_append}
 use Rattle.layout_laws.proofs.Flowing.{frame_of}
-use Rattle.layout_laws.proofs.PlainSteps.{IsPlain, edge_after, passed_by, started, inner_start, entry_of, reached-plain, Behaves, IsStep, step, plain-after, kids_reached, flow-is, flow-behaves}
+use Rattle.layout_laws.proofs.PlainSteps.{IsPlain, edge_after, passed_by, started, inner_start, inner_height, entry_of, reached-plain, Behaves, IsStep, step, plain-after, kids_reached, flow-is, flow-behaves}
 use Rattle.layout_laws.proofs.PlainTraces.{Tracing, content_trace, child_trace, children_trace, children_trace-append, trace_to, IsTrace, AreTraced, inner-floats, inner-standing, children-traced, children-ordered}
 
 -- ---- members
@@ -118,14 +118,14 @@ module _ (tree : BoxTree) (w : World) (height : ℕ) where
           by_sort true = refl
           by_sort false = refl
 
-      all : List (ℕ × Placed ℤ)
+      abbrev all : List (ℕ × Placed ℤ)
       all = children_trace tree w height inside traced cb top p (kids_of tree.boxes b)
 
       after : List ℕ → Progress
       after ks = fold (child tree w height inside cb top) p ks
 
       in-all : (pre : List ℕ) (c : ℕ) (post : List ℕ) → kids_of tree.boxes b ≡ pre ++ c ∷ post → In (c, entry_of tree w height inside cb (after pre) c) all
-      unfolding all after
+      unfolding after
       in-all pre c post e = subst (λ (ks : List ℕ). In (c, entry_of tree w height inside cb (after pre) c) (children_trace tree w height inside traced cb top p ks)) (sym e) (in-trace cb top p pre c post)
 
       reach-left : (pre post : List ℕ) → kids_of tree.boxes b ≡ pre ++ post → AllByRecursion Reach pre
@@ -163,7 +163,7 @@ module _ (tree : BoxTree) (w : World) (height : ℕ) where
           ∙ (ap (λ (s : Standing). edge_after s (leading tree w height cb c)) stands
           ∙ ap (λ (l : List ℤ). (entry_of tree w height inside cb (after before) u).border.bottom +ℤ collapsed l) (append_assoc (trailing tree w height cb u) (flat_map (all_margins tree w height cb) passed) (leading tree w height cb c))))
 
-      kids-stand : KidsStand all b cb top y opens
+      pub kids-stand : KidsStand all b cb top y opens
       kids-stand = record {
         first = λ passed c post e t. (entry_of tree w height inside cb (after passed) c, in-all passed c post e, first-stands passed c post e t);
         next = λ before u passed c post e n t. (
@@ -174,3 +174,96 @@ module _ (tree : BoxTree) (w : World) (height : ℕ) where
           next-stands before u passed c post e n t,
         );
       }
+
+    -- ---- the boxes in them
+
+    -- a box's rectangles and its frame
+    content-band : (k : ℕ) (cb : Band ℤ) (r : Reached) (h : ℤ) → content_from cb.left (frame_of tree w height cb k r).x ≡ content_of (placed_box tree k (frame_of tree w height cb k r) h)
+    content-band k cb r h = same_band _ _ _ _ (omega (arith, ints)) (omega (arith, ints))
+      where
+        same_band : (a b c d : ℤ) → a ≡ c → b ≡ d → ◌≡◌ {A = Band ℤ} (record { left = a; right = b }) (record { left = c; right = d })
+        same_band a b c d e f = cc
+
+    content-edge : (k : ℕ) (cb : Band ℤ) (r : Reached) (h : ℤ) → content_top (frame_of tree w height cb k r) ≡ (placed_box tree k (frame_of tree w height cb k r) h).content.top
+    content-edge k cb r h = omega (arith, ints)
+
+    abbrev framed : Band ℤ → Progress → ℕ → Frame
+    framed cb p k = frame_of tree w height cb k (reached tree w height inside cb p k)
+
+    content-stands : (cb : Band ℤ) (p : Progress) (k : ℕ) → Reach k → p.floats ≡ []
+        → KidsStand (content_trace tree w height inside traced cb p k (framed cb p k)) k (content_of (entry_of tree w height inside cb p k)) (entry_of tree w height inside cb p k).content.top (entry_of tree w height inside cb p k).border.top (is_open_above tree k)
+        × EachStands (content_trace tree w height inside traced cb p k (framed cb p k))
+    content-stands cb p k r none =
+        let f = framed cb p k in
+        let own = stand k (content_from cb.left f.x) (content_top f) f.corner.y (inner_start tree w height inside p k f (is_context_root tree k)) (is_open_above tree k) r.0 r.1 (inner-floats tree w height inside p k f (is_context_root tree k) none) (inner-standing tree w height inside p k f) in (
+          subst (λ (t : ℤ). KidsStand (content_trace tree w height inside traced cb p k f) k (content_of (entry_of tree w height inside cb p k)) t f.corner.y (is_open_above tree k)) (content-edge k cb (reached tree w height inside cb p k) (inner_height tree w height inside cb p k f (is_replaced_at tree k) (is_context_root tree k)))
+              (subst (λ (band : Band ℤ). KidsStand (content_trace tree w height inside traced cb p k f) k band (content_top f) f.corner.y (is_open_above tree k)) (content-band k cb (reached tree w height inside cb p k) (inner_height tree w height inside cb p k f (is_replaced_at tree k) (is_context_root tree k))) own.0),
+          own.1,
+        )
+
+    child-each : (cb : Band ℤ) (p : Progress) (k : ℕ) → Reach k → p.floats ≡ [] → EachStands (child_trace tree w height inside traced cb p k)
+    child-each cb p k r none a q i = by_part (from_cons (a, q) (k, entry_of tree w height inside cb p k) content i)
+      where
+        content : List (ℕ × Placed ℤ)
+        content = content_trace tree w height inside traced cb p k (framed cb p k)
+
+        own : KidsStand content k (content_of (entry_of tree w height inside cb p k)) (entry_of tree w height inside cb p k).content.top (entry_of tree w height inside cb p k).border.top (is_open_above tree k) × EachStands content
+        own = content-stands cb p k r none
+
+        stands_as : ℕ × Placed ℤ → Type 0
+        stands_as e = KidsStand (child_trace tree w height inside traced cb p k) e.0 (content_of e.1) e.1.content.top e.1.border.top (is_open_above tree e.0)
+
+        by_part : (◌≡◌ {A = ℕ × Placed ℤ} (a, q) (k, entry_of tree w height inside cb p k)) ⊎ In (a, q) content → stands_as (a, q)
+        by_part (inl same) = subst stands_as (sym same) (stand-more content (child_trace tree w height inside traced cb p k) k _ _ _ (is_open_above tree k) (λ e j. In.there j) own.0)
+        by_part (inr j) = stand-more content (child_trace tree w height inside traced cb p k) a _ _ _ (is_open_above tree a) (λ e h. In.there h) (own.1 a q j)
+
+    children-each : (cb : Band ℤ) (top : ℤ) (ks : List ℕ) (p : Progress) → AllByRecursion Reach ks → p.floats ≡ [] → IsPlain p.standing → EachStands (children_trace tree w height inside traced cb top p ks)
+    children-each cb top [] p r none i a q j = elim j [ ]
+    children-each cb top (k ∷ ks) p r none i a q j =
+        let s = step tree w height plain inside levels behaves cb top p k r.0.0 r.0.1 none i in
+        let next = child tree w height inside cb top p k in
+        by_part (from_append (child_trace tree w height inside traced cb p k) (children_trace tree w height inside traced cb top next ks) (a, q) j)
+        (children-each cb top ks next r.1 s.floats (plain-after tree w height plain inside levels behaves cb top p k i s))
+      where
+        first : List (ℕ × Placed ℤ)
+        first = child_trace tree w height inside traced cb p k
+
+        rest : List (ℕ × Placed ℤ)
+        rest = children_trace tree w height inside traced cb top (child tree w height inside cb top p k) ks
+
+        by_part : In (a, q) first ⊎ In (a, q) rest → EachStands rest → KidsStand (first ++ rest) a (content_of q) q.content.top q.border.top (is_open_above tree a)
+        by_part (inl h) again = stand-more first (first ++ rest) a _ _ _ (is_open_above tree a) (λ e g. in_left e first rest g) (child-each cb p k r.0 none a q h)
+        by_part (inr h) again = stand-more rest (first ++ rest) a _ _ _ (is_open_above tree a) (λ e g. in_right e first rest g) (again a q h)
+
+  -- ---- all levels
+
+  module _ (plain : HasPlainBlocks tree) where
+    started-plain : (y top : ℤ) (o : Bool) → IsPlain (started y top o)
+    started-plain y top true = refl
+    started-plain y top false = refl
+
+    pub flow-traced : (levels : ℕ) → AreTraced tree w height (flow_to tree w height levels) (trace_to tree w height levels) levels
+    unfolding trace_to
+    flow-traced zero b cb top y p opens l m none start = absurd (omega arith)
+    flow-traced (suc levels) b cb top y p opens l m none start =
+        let i = subst IsPlain (sym start) (started-plain y top opens) in
+        let inside = flow_to tree w height levels in
+        let traced = trace_to tree w height levels in
+        let kids = kids_of tree.boxes b in
+        let reach = kids_reached tree w height plain levels b m in
+        record {
+          boxes = ap (λ (q : Progress). q.boxes) (flow-is tree w height plain levels b cb top p) ∙ children-traced tree w height plain inside traced levels (flow-behaves tree w height plain levels) (flow-traced levels) cb top kids p reach none i;
+          order = children-ordered tree w height plain inside traced levels (flow-behaves tree w height plain levels) (flow-traced levels) cb top kids p reach none i;
+        }
+
+    pub flow-stands : (levels : ℕ) → AllStand (flow_to tree w height levels) (trace_to tree w height levels) levels
+    unfolding trace_to
+    flow-stands zero b cb top y p opens l m none start = absurd (omega arith)
+    flow-stands (suc levels) b cb top y p opens l m none start =
+        let i = subst IsPlain (sym start) (started-plain y top opens) in
+        let inside = flow_to tree w height levels in
+        let traced = trace_to tree w height levels in
+        let reach = kids_reached tree w height plain levels b m in (
+          kids-stand plain inside traced levels (flow-behaves tree w height plain levels) (flow-stands levels) b cb top y p opens reach none start,
+          children-each plain inside traced levels (flow-behaves tree w height plain levels) (flow-stands levels) cb top (kids_of tree.boxes b) p reach none i,
+        )
