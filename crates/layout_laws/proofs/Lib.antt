@@ -29,3 +29,4 @@ pub mod PlainLevels
 pub mod PlainSteps
 pub mod PlainTraces
 pub mod PlainLaws
+pub mod PlainPage

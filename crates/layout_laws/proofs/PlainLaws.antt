@@ -21,7 +21,7 @@ use Rattle.layout_laws.proofs.PlainTraces.{Tracing, content_trace, child_trace, 
 
 -- ---- members
 
-in_left : {A : Type 0} (x : A) (xs ys : List A) → In x xs → In x (xs ++ ys)
+pub in_left : {A : Type 0} (x : A) (xs ys : List A) → In x xs → In x (xs ++ ys)
 in_left x [] ys i = elim i [ ]
 in_left _ (x ∷ xs) ys In.here = In.here
 in_left x (y ∷ xs) ys (In.there i) = In.there (in_left x xs ys i)
@@ -30,7 +30,7 @@ in_right : {A : Type 0} (x : A) (xs ys : List A) → In x ys → In x (xs ++ ys)
 in_right x [] ys i = i
 in_right x (y ∷ xs) ys i = In.there (in_right x xs ys i)
 
-from_cons : {A : Type 0} (x y : A) (xs : List A) → In x (y ∷ xs) → (x ≡ y) ⊎ In x xs
+pub from_cons : {A : Type 0} (x y : A) (xs : List A) → In x (y ∷ xs) → (x ≡ y) ⊎ In x xs
 from_cons x _ xs In.here = inl refl
 from_cons x y xs (In.there i) = inr i
 
@@ -64,7 +64,7 @@ module _ (tree : BoxTree) (w : World) (height : ℕ) where
         × (p.border.top ≡ q.border.bottom +ℤ collapsed (trailing tree w height cb u ++ (flat_map (all_margins tree w height cb) passed ++ leading tree w height cb c)))
 
   -- in a longer trace
-  stand-more : (trace more : List (ℕ × Placed ℤ)) (b : ℕ) (cb : Band ℤ) (top y : ℤ) (opens : Bool) → ((e : ℕ × Placed ℤ) → In e trace → In e more) → KidsStand trace b cb top y opens → KidsStand more b cb top y opens
+  pub stand-more : (trace more : List (ℕ × Placed ℤ)) (b : ℕ) (cb : Band ℤ) (top y : ℤ) (opens : Bool) → ((e : ℕ × Placed ℤ) → In e trace → In e more) → KidsStand trace b cb top y opens → KidsStand more b cb top y opens
   stand-more trace more b cb top y opens f k = record {
     first = λ passed c after e t. let r = k.first passed c after e t in (r.0, f (c, r.0) r.1, r.2);
     next = λ before u passed c after e n t. let r = k.next before u passed c after e n t in (r.0, r.1, f (u, r.0) r.2, f (c, r.1) r.3, r.4);

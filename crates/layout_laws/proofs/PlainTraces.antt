@@ -75,7 +75,7 @@ module _ (tree : BoxTree) (w : World) (height : ℕ) where
   inner-boxes inside p k f true = refl
   inner-boxes inside p k f false = refl
 
-  map_none : (trace : List (ℕ × Placed ℤ)) → boxes_in trace ≡ [] → trace ≡ []
+  pub map_none : (trace : List (ℕ × Placed ℤ)) → boxes_in trace ≡ [] → trace ≡ []
   map_none [] e = refl
   map_none (e ∷ es) g = absurd (cc)
 
