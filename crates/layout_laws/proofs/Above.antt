@@ -1,11 +1,7 @@
 -- What a shown node is in is shown too, and takes boxes.
-use Rattle.std.proofs.Common.{◌≡◌, ℕ, zero, suc, ◌<◌, ◌≤◌, Bool, true, false, not, nat_lt, ◌==◌, ◌&&◌, ◌||◌, List, [], ◌∷◌, map, length, Option, Some, None, option_map, option_and_then, slice_get, IsTrue, refl, sym, ◌∙◌, ap, subst, arith, if◌then◌else◌, ltb-true}
+use Rattle.std.proofs.Common.{◌≡◌, ℕ, zero, suc, ◌<◌, ◌≤◌, Bool, true, false, not, nat_lt, ◌&&◌, ◌||◌, List, ◌∷◌, length, Option, Some, None, option_and_then, slice_get, IsTrue, refl, sym, ◌∙◌, ap, subst, arith, ltb-true}
 use Rattle.std.specs.List.{list_all}
-use Rattle.std.specs.Option.{option_map_or}
-use Rattle.std.proofs.lemmas.Option.{slice_get_within}
-use Rattle.viz_base.specs.Pages.{IsPage, parent_fits, is_element, is_element_at}
-use Rattle.viz_base.specs.declared.nodes.Body.{Body}
-use Rattle.viz_base.specs.declared.nodes.Body.TheVariants as of_body
+use Rattle.viz_base.specs.Pages.{IsPage, parent_fits, is_element_at}
 use Rattle.viz_base.specs.declared.nodes.Node.{Node}
 use Rattle.viz_base.specs.declared.styles.Style.{Style}
 use Rattle.layout_semantics.specs.Elements.{is_closed, is_hidden, is_shown, node_passes, parent_of, ancestors, upwards}

@@ -1,10 +1,10 @@
 -- What each box of a page is, by the part that it comes from.
-use Rattle.std.proofs.Common.{◌≡◌, ℕ, zero, suc, ◌+◌, ◌<◌, ◌≤◌, Bool, true, false, not, ◌==◌, ◌&&◌, ◌||◌, List, [], ◌∷◌, ◌++◌, map, flat_map, length, get_or, zip, Contains, Option, Some, None, is_some, option_map, option_and_then, slice_get, IsTrue, refl, sym, ◌∙◌, ap, subst, arith, ◌⊎◌, inl, inr, if◌then◌else◌, eq-or-lt_of_le, eqb-true, nat_lt, ltb-true, ltb-false, ap₂}
-use Rattle.std.specs.List.{list_all, enumerate_from}
+use Rattle.std.proofs.Common.{◌≡◌, ℕ, zero, suc, ◌+◌, ◌<◌, Bool, true, false, ◌==◌, List, [], ◌∷◌, zip, Option, Some, None, is_some, option_map, slice_get, refl, sym, ◌∙◌, ap, subst, arith, ◌⊎◌, inl, inr, if◌then◌else◌, eq-or-lt_of_le, nat_lt, ltb-true, ltb-false, ap₂}
+use Rattle.std.specs.List.{enumerate_from}
 use Rattle.std.specs.Option.{option_map_or}
-use Rattle.std.proofs.lemmas.Option.{slice_get_within, slice_get-map}
-use Rattle.viz_base.specs.Pages.{IsPage, is_element}
-use Rattle.viz_base.specs.Trees.{is_anon, is_leaf, is_chars, is_line, is_replaced as is_replaced_kind}
+use Rattle.std.proofs.lemmas.Option.{slice_get-map}
+use Rattle.viz_base.specs.Pages.{IsPage}
+use Rattle.viz_base.specs.Trees.{is_anon, is_line, is_replaced as is_replaced_kind}
 use Rattle.viz_base.specs.declared.nodes.Body.{Body}
 use Rattle.viz_base.specs.declared.nodes.Body.TheVariants as of_body
 use Rattle.viz_base.specs.declared.nodes.Node.{Node}
@@ -14,16 +14,14 @@ use Rattle.viz_base.specs.declared.styles.Display.TheVariants as of_display
 use Rattle.viz_base.specs.declared.trees.BoxNode.{BoxNode}
 use Rattle.viz_base.specs.declared.trees.Kind.{Kind}
 use Rattle.viz_base.specs.declared.trees.Kind.TheVariants as of_kind
-use Rattle.layout_semantics.specs.Elements.{is_break, is_replaced, is_closed, is_hidden, is_shown, is_none_display, intrinsic_size, node_passes, parent_of, ancestors}
-use Rattle.layout_semantics.specs.Parts.{Part, Level, kind_of_node, level_kind, level_of, inline_kind, part_of, shown_parts}
-use Rattle.layout_semantics.specs.WhiteSpace.{collapsed, is_in}
-use Rattle.layout_semantics.specs.BoxTrees.{Item, run_around, first_of, boxes_before, own_place, own_box, anonymous_box, kid_places, items_in, items_of, boxes_of, page_parts, page_boxes, tree_styles, tree_style, tree_style_of, viewport_clip, styled_element}
-use Rattle.layout_laws.proofs.Members.{In, Rises, rises_from, from_map, from_chosen, from_flat_map}
+use Rattle.layout_semantics.specs.Elements.{is_break, is_replaced, is_hidden, is_none_display, intrinsic_size}
+use Rattle.layout_semantics.specs.Parts.{Part, Level, kind_of_node, level_kind, level_of, inline_kind}
+use Rattle.layout_semantics.specs.BoxTrees.{Item, run_around, own_place, items_of, page_parts, page_boxes, tree_styles, tree_style_of, viewport_clip}
+use Rattle.layout_laws.proofs.Members.{In, from_map}
 use Rattle.layout_laws.proofs.Places.{node_of}
 use Rattle.layout_laws.proofs.Kids.{IsArranged, order, own_place_from, own_place_within}
 use Rattle.layout_laws.proofs.Nesting.{IsBoxOf, box_is}
-use Rattle.layout_laws.proofs.Above.{and_parts, not_or, parent_shown}
-use Rattle.layout_laws.proofs.PageParts.{IsPagePart, from_page, element_kind, part_parent}
+use Rattle.layout_laws.proofs.PageParts.{IsPagePart, from_page, element_kind}
 use Rattle.layout_laws.proofs.BoxLaws.{page_arranged}
 
 -- ---- kinds

@@ -1,5 +1,5 @@
 -- The laws of boxes, of a page.
-use Rattle.std.proofs.Common.{◌≡◌, ℕ, zero, suc, ◌<◌, ◌≤◌, Bool, true, false, List, [], ◌∷◌, length, get_or, Contains, Option, Some, None, option_and_then, slice_get, IsTrue, refl, sym, ◌∙◌, ap, subst, arith}
+use Rattle.std.proofs.Common.{◌≡◌, ℕ, zero, suc, ◌<◌, List, [], ◌∷◌, length, get_or, Contains, Option, Some, None, option_and_then, slice_get, IsTrue, refl, ◌∙◌, ap, subst, arith}
 use Rattle.std.specs.Option.{option_map_or}
 use Rattle.viz_base.specs.Pages.{IsPage}
 use Rattle.viz_base.specs.Trees.{ascends}
@@ -8,7 +8,7 @@ use Rattle.viz_base.specs.declared.styles.Style.{Style}
 use Rattle.viz_base.specs.declared.trees.BoxNode.{BoxNode}
 use Rattle.layout_semantics.specs.Blocks.{parent_of}
 use Rattle.layout_semantics.specs.Order.{kids_of}
-use Rattle.layout_semantics.specs.BoxTrees.{Item, page_boxes, page_parts, tree_styles, items_of, boxes_of}
+use Rattle.layout_semantics.specs.BoxTrees.{page_boxes, page_parts, tree_styles, items_of}
 use Rattle.layout_laws.proofs.Members.{In}
 use Rattle.layout_laws.proofs.Kids.{IsArranged}
 use Rattle.layout_laws.proofs.Nesting.{kids_ascend, kids_place}
@@ -25,7 +25,7 @@ ascending nodes styles page at = by_box (slice_get (page_boxes nodes styles) at)
     by_box None e = refl
     by_box (Some b) e = kids_ascend (items_of (page_parts nodes styles)) (page_arranged nodes styles page) at b e
 
-in_from : (xs : List ℕ) (x : ℕ) → Contains xs x → In x xs
+pub in_from : (xs : List ℕ) (x : ℕ) → Contains xs x → In x xs
 in_from [] x h = absurd (omega (arith, h.1))
 in_from (y ∷ xs) x h = by_place h.0 h.1 h.2 (λ g. in_from xs x g)
   where

@@ -8,6 +8,12 @@ pub mod Above
 pub mod PageParts
 pub mod BoxLaws
 pub mod BoxFacts
+pub mod BoxContent
+pub mod Collapsing
+pub mod TextLengths
+pub mod Sorts
+pub mod TreeFacts
+pub mod Whole
 pub mod Prefixes
 pub mod Greatest
 pub mod Flowing
@@ -17,6 +23,8 @@ pub mod PreferredWidths
 pub mod HorizontalTerms
 pub mod FontSizes
 pub mod LineTops
+pub mod Cuts
+pub mod ChildWidths
 pub mod Among
 pub mod Extremes
 pub mod FloatPlaces
@@ -30,3 +38,8 @@ pub mod PlainSteps
 pub mod PlainTraces
 pub mod PlainLaws
 pub mod PlainPage
+pub mod LineEntries
+pub mod LineFloats
+pub mod LineStates
+pub mod Apart
+pub mod LowestBottoms

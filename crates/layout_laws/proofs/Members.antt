@@ -1,5 +1,6 @@
 -- Lemmas on elements of lists and on ascending lists.
-use Rattle.std.proofs.Common.{flat_map, ◌≡◌, ℕ, suc, ◌≤◌, Bool, true, false, List, [], ◌∷◌, ◌++◌, map, refl, sym, ◌∙◌, ap, subst, arith, ◌⊎◌, inl, inr}
+use Rattle.std.proofs.Common.{◌≡◌, ℕ, suc, ◌≤◌, Bool, true, false, ◌&&◌, ◌||◌, List, [], ◌∷◌, ◌++◌, map, flat_map, refl, sym, ◌∙◌, ap, subst, arith, ◌⊎◌, inl, inr}
+use Rattle.std.specs.List.{list_any, list_all}
 use Rattle.std.specs.Prelude.{⊤}
 use Rattle.layout_semantics.specs.Lists.{chosen, one_if}
 
@@ -93,3 +94,74 @@ pub from_one_if : {A : Type 0} (t : Bool) (a x : A) → In x (one_if t a) → (x
 from_one_if true a _ In.here = (refl, refl)
 from_one_if true a x (In.there i) = elim i [ ]
 from_one_if false a x i = elim i [ ]
+
+-- ---- tests of all elements and of some
+
+pub any_in : {A : Type 0} (test : A → Bool) (xs : List A) → list_any test xs ≡ true → (x : A) × In x xs × (test x ≡ true)
+any_in test [] e = absurd (cc)
+any_in {A} test (x ∷ xs) e = by_test (test x) refl e (λ f. any_in test xs f)
+  where
+    by_test : (b : Bool) → test x ≡ b → (b || list_any test xs) ≡ true → (list_any test xs ≡ true → (y : A) × In y xs × (test y ≡ true)) → (y : A) × In y (x ∷ xs) × (test y ≡ true)
+    by_test true t f again = (x, In.here, t)
+    by_test false t f again = let r = again f in (r.0, In.there r.1, r.2)
+
+pub any_from : {A : Type 0} (test : A → Bool) (xs : List A) (x : A) → In x xs → test x ≡ true → list_any test xs ≡ true
+any_from test [] x i t = elim i [ ]
+any_from test (x ∷ xs) _ In.here t = ap (λ b. b || list_any test xs) t
+any_from test (y ∷ xs) x (In.there i) t = or_true (test y) (list_any test xs) (any_from test xs x i t)
+  where
+    or_true : (a b : Bool) → b ≡ true → (a || b) ≡ true
+    or_true true b e = refl
+    or_true false b e = e
+
+pub any_none : {A : Type 0} (test : A → Bool) (xs : List A) (x : A) → list_any test xs ≡ false → In x xs → test x ≡ false
+any_none test [] x e i = elim i [ ]
+any_none test (x ∷ xs) _ e In.here = (or_parts (test x) (list_any test xs) e).0
+  where
+    or_parts : (a b : Bool) → (a || b) ≡ false → (a ≡ false) × (b ≡ false)
+    or_parts true b e = absurd (cc)
+    or_parts false b e = (refl, e)
+any_none test (y ∷ xs) x e (In.there i) = any_none test xs x (or_parts (test y) (list_any test xs) e).1 i
+  where
+    or_parts : (a b : Bool) → (a || b) ≡ false → (a ≡ false) × (b ≡ false)
+    or_parts true b e = absurd (cc)
+    or_parts false b e = (refl, e)
+
+pub all_from : {A : Type 0} (test : A → Bool) (xs : List A) → ((x : A) → In x xs → test x ≡ true) → list_all test xs ≡ true
+all_from test [] f = refl
+all_from test (x ∷ xs) f = ap (λ b. b && list_all test xs) (f x In.here) ∙ all_from test xs (λ y i. f y (In.there i))
+
+pub all_in : {A : Type 0} (test : A → Bool) (xs : List A) (x : A) → list_all test xs ≡ true → In x xs → test x ≡ true
+all_in test [] x e i = elim i [ ]
+all_in test (x ∷ xs) _ e In.here = (and_both (test x) (list_all test xs) e).0
+  where
+    and_both : (a b : Bool) → (a && b) ≡ true → (a ≡ true) × (b ≡ true)
+    and_both true b e = (refl, e)
+    and_both false b e = absurd (cc)
+all_in test (y ∷ xs) x e (In.there i) = all_in test xs x (and_both (test y) (list_all test xs) e).1 i
+  where
+    and_both : (a b : Bool) → (a && b) ≡ true → (a ≡ true) × (b ≡ true)
+    and_both true b e = (refl, e)
+    and_both false b e = absurd (cc)
+
+-- elements with the same number in a list that ascends are the same
+pub unique_in : {A : Type 0} (f : A → ℕ) (low : ℕ) (xs : List A) (x y : A) → Rises low (map f xs) → In x xs → In y xs → f x ≡ f y → x ≡ y
+unique_in f low [] x y r i j e = elim i [ ]
+unique_in f low (x ∷ xs) _ _ r In.here In.here e = refl
+unique_in f low (x ∷ xs) _ y r In.here (In.there j) e = let above = rises_from (suc (f x)) (map f xs) (f y) r.1 (to_map f xs y j) in absurd (omega (arith, above, e))
+unique_in f low (y ∷ xs) x _ r (In.there i) In.here e = let above = rises_from (suc (f y)) (map f xs) (f x) r.1 (to_map f xs x i) in absurd (omega (arith, above, e))
+unique_in f low (z ∷ xs) x y r (In.there i) (In.there j) e = unique_in f (suc (f z)) xs x y r.1 i j e
+
+pub to_append_left : {A : Type 0} (xs ys : List A) (x : A) → In x xs → In x (xs ++ ys)
+to_append_left [] ys x i = elim i [ ]
+to_append_left (z ∷ xs) ys _ In.here = In.here
+to_append_left (z ∷ xs) ys x (In.there i) = In.there (to_append_left xs ys x i)
+
+pub to_append_right : {A : Type 0} (xs ys : List A) (x : A) → In x ys → In x (xs ++ ys)
+to_append_right [] ys x i = i
+to_append_right (z ∷ xs) ys x i = In.there (to_append_right xs ys x i)
+
+pub to_flat_map : {A B : Type 0} (f : A → List B) (xs : List A) (x : A) (b : B) → In x xs → In b (f x) → In b (flat_map f xs)
+to_flat_map f [] x b i j = elim i [ ]
+to_flat_map f (x ∷ xs) _ b In.here j = to_append_left (f x) (flat_map f xs) b j
+to_flat_map f (z ∷ xs) x b (In.there i) j = to_append_right (f z) (flat_map f xs) b (to_flat_map f xs x b i j)

@@ -1,9 +1,9 @@
 -- The parts of a page, after white space has gone: what each one is, and that they are arranged.
-use Rattle.std.proofs.Common.{◌≡◌, ℕ, zero, suc, ◌<◌, ◌≤◌, Bool, true, false, not, ◌==◌, ◌&&◌, List, [], ◌∷◌, map, length, Option, Some, None, option_and_then, slice_get, IsTrue, refl, sym, ◌∙◌, ap, subst, arith, if◌then◌else◌}
+use Rattle.std.proofs.Common.{◌≡◌, ℕ, zero, suc, ◌<◌, Bool, true, false, not, ◌==◌, ◌&&◌, List, [], ◌∷◌, map, length, Option, Some, None, option_and_then, slice_get, refl, sym, ◌∙◌, ap, subst, arith, if◌then◌else◌}
 use Rattle.std.specs.Option.{option_map_or}
 use Rattle.std.proofs.lemmas.Option.{slice_get_within}
-use Rattle.viz_base.specs.Pages.{IsPage, is_element, is_element_at}
-use Rattle.viz_base.specs.Trees.{is_chars, is_line, is_leaf}
+use Rattle.viz_base.specs.Pages.{IsPage, is_element}
+use Rattle.viz_base.specs.Trees.{is_chars}
 use Rattle.viz_base.specs.declared.nodes.Body.{Body}
 use Rattle.viz_base.specs.declared.nodes.Body.TheVariants as of_body
 use Rattle.viz_base.specs.declared.nodes.Node.{Node}
@@ -12,14 +12,13 @@ use Rattle.viz_base.specs.declared.styles.Display.TheVariants as of_display
 use Rattle.viz_base.specs.declared.styles.Style.{Style}
 use Rattle.viz_base.specs.declared.trees.Kind.{Kind}
 use Rattle.viz_base.specs.declared.trees.Kind.TheVariants as of_kind
-use Rattle.layout_semantics.specs.Lists.{chosen}
 use Rattle.layout_semantics.specs.Elements.{is_break, is_replaced, is_shown, parent_of}
 use Rattle.layout_semantics.specs.Parts.{Part, Level, kind_of_node, level_kind, inline_kind, level_of, part_of, shown_parts}
 use Rattle.layout_semantics.specs.WhiteSpace.{collapsed, collapsed_part, is_bare}
 use Rattle.layout_laws.proofs.Members.{In, Rises, rises_chosen, to_map, from_map, from_chosen, to_chosen}
-use Rattle.layout_laws.proofs.Shown.{IsShownPart, from_shown, to_shown, shown_rise}
+use Rattle.layout_laws.proofs.Shown.{from_shown, to_shown, shown_rise}
 use Rattle.layout_laws.proofs.Above.{parent_is, parent_shown}
-use Rattle.layout_laws.proofs.Runs.{AreParts, PartHasParent}
+use Rattle.layout_laws.proofs.Runs.{AreParts}
 
 -- ---- kinds
 
@@ -71,6 +70,9 @@ is_not : (b : Bool) → not b ≡ true → b ≡ false
 is_not true e = absurd (cc)
 is_not false e = refl
 
+part_shape : (parts : List Part) (q r p : Part) → q ≡ r → collapsed_part parts q ≡ p → p ≡ record r { text = p.text }
+part_shape parts q r p e f = sym f ∙ (ap (λ (t : List ℕ). record q { text = t }) (ap (λ (o : Part). o.text) f) ∙ ap (λ (o : Part). record o { text = p.text }) e)
+
 module _ (nodes : List Node) (styles : List Style) where
   pub from_page : (p : Part) → In p (collapsed (shown_parts nodes styles)) → IsPagePart nodes styles p
   from_page p i =
@@ -79,15 +81,14 @@ module _ (nodes : List Node) (styles : List Style) where
       let from = from_map (collapsed_part all) all p kept.0 in
       let known = from_shown nodes styles from.0 from.1 in
       let node : from.0.node ≡ p.node = ap (λ (q : Part). q.node) from.2 in
-      let shape : record (part_of nodes styles from.0.node known.entry known.style) { text = p.text } ≡ p =
-      ap (λ (q : Part). record q { text = p.text }) (sym known.is) ∙ (ap (λ (t : List ℕ). record from.0 { text = t }) (sym (ap (λ (q : Part). q.text) from.2)) ∙ from.2) in
+      let shape = part_shape all from.0 (part_of nodes styles from.0.node known.entry known.style) p known.is from.2 in
       record {
         entry = known.entry;
         style = known.style;
         node_is = subst (λ k. slice_get nodes k ≡ Some known.entry) node known.node_is;
         style_is = subst (λ k. slice_get styles k ≡ Some known.style) node known.style_is;
         shown = subst (λ k. is_shown nodes styles k ≡ true) node known.shown;
-        is = subst (λ k. p ≡ record (part_of nodes styles k known.entry known.style) { text = p.text }) node (sym shape);
+        is = subst (λ k. p ≡ record (part_of nodes styles k known.entry known.style) { text = p.text }) node shape;
         not_bare = is_not (is_bare p) kept.1;
       }
 

@@ -1,13 +1,13 @@
 -- The runs of boxes that anonymous block boxes hold: the items of a page are arranged where its parts are.
-use Rattle.std.proofs.Common.{◌≡◌, ℕ, zero, suc, ◌<◌, ◌≤◌, Bool, true, false, ◌==◌, ◌||◌, List, [], ◌∷◌, ◌++◌, map, flat_map, find, Option, Some, None, option_and_then, refl, sym, ◌∙◌, ap, subst, arith, ◌⊎◌, inl, inr, if◌then◌else◌, eq-eqb, ne_eqb, eqb-true}
+use Rattle.std.proofs.Common.{◌≡◌, ℕ, suc, ◌<◌, ◌≤◌, Bool, true, false, ◌==◌, ◌||◌, List, [], ◌∷◌, ◌++◌, map, flat_map, find, Option, Some, None, option_and_then, refl, sym, ◌∙◌, ap, subst, arith, ◌⊎◌, inl, inr, if◌then◌else◌, eq-eqb, ne_eqb, eqb-true}
 use Rattle.std.specs.List.{list_any}
 use Rattle.layout_semantics.specs.Lists.{chosen, one_if}
 use Rattle.layout_semantics.specs.Parts.{Part, Level}
 use Rattle.layout_semantics.specs.WhiteSpace.{is_in}
 use Rattle.layout_semantics.specs.BoxTrees.{Item, items_of, run_around, first_of, has_node, nodes_of, parts_in, wrapped_in, runs_of, with_part, needs_box, is_block_part}
-use Rattle.layout_laws.proofs.Members.{In, Rises, rises_from, rises_lower, rises_chosen, to_map, from_map, from_chosen, from_append}
+use Rattle.layout_laws.proofs.Members.{In, Rises, rises_from, rises_lower, rises_chosen, to_map, from_map, from_chosen}
 use Rattle.layout_laws.proofs.Places.{node_of}
-use Rattle.layout_laws.proofs.Kids.{IsArranged, HasParent, IsMember, IsRun}
+use Rattle.layout_laws.proofs.Kids.{IsArranged, IsRun}
 
 -- ---- ascending lists of lists
 
@@ -65,7 +65,7 @@ has_no_later_node (a ∷ run) k f =
     ap (λ b. b || has_node k run) other ∙ has_no_later_node run k (λ b i. f b (In.there i))
 
 -- the run that has a node is found
-find_run : (low : ℕ) (runs : List (List ℕ)) (run : List ℕ) (k : ℕ) → Rises low (flat_map (λ run. run) runs) → In run runs → In k run → find (has_node k) runs ≡ Some run
+pub find_run : (low : ℕ) (runs : List (List ℕ)) (run : List ℕ) (k : ℕ) → Rises low (flat_map (λ run. run) runs) → In run runs → In k run → find (has_node k) runs ≡ Some run
 find_run low [] run k r i j = elim i [ ]
 find_run low (run ∷ runs) _ k r In.here j = ap (λ b. if b then Some run else find (has_node k) runs) (has_its_node run k j)
 find_run low (other ∷ runs) run k r (In.there i) j =
@@ -105,7 +105,7 @@ rises_fewer test low (run ∷ runs) r = by_test (test run) (λ h s. rises_fewer 
     by_test true again = rises_swap low (nodes_of run) (flat_map (λ run. run) (map nodes_of runs)) (flat_map (λ run. run) (map nodes_of (chosen test runs))) r again
     by_test false again = again low (rises_right low (nodes_of run) (flat_map (λ run. run) (map nodes_of runs)) r)
 
-rises_wrapped : (low : ℕ) (kids : List Part) → Rises low (map (λ (p : Part). p.node) kids) → Rises low (flat_map (λ run. run) (map nodes_of (wrapped_in kids)))
+pub rises_wrapped : (low : ℕ) (kids : List Part) → Rises low (map (λ (p : Part). p.node) kids) → Rises low (flat_map (λ run. run) (map nodes_of (wrapped_in kids)))
 rises_wrapped low kids r = by_test (list_any is_block_part kids)
   where
     by_test : (b : Bool) → Rises low (flat_map (λ run. run) (map nodes_of (if b then chosen needs_box (runs_of kids) else [])))
@@ -128,7 +128,7 @@ from_with Level.inline p (r ∷ runs) _ _ In.here In.here = inl refl
 from_with Level.inline p (r ∷ runs) _ y In.here (In.there j) = inr (r, In.here, j)
 from_with Level.inline p (r ∷ runs) run y (In.there i) j = inr (run, In.there i, j)
 
-from_runs : (kids : List Part) (run : List Part) (y : Part) → In run (runs_of kids) → In y run → In y kids
+pub from_runs : (kids : List Part) (run : List Part) (y : Part) → In run (runs_of kids) → In y run → In y kids
 from_runs [] _ y In.here j = elim j [ ]
 from_runs [] run y (In.there i) j = elim i [ ]
 from_runs (p ∷ ps) run y i j = by_part (from_with p.level p (runs_of ps) run y i j) (λ r k h. from_runs ps r y k h)
@@ -160,7 +160,7 @@ rises_items : (parts : List Part) (low : ℕ) (ps : List Part) → Rises low (ma
 rises_items parts low [] r = tt
 rises_items parts low (p ∷ ps) r = (r.0, rises_items parts (suc p.node) ps r.1)
 
-is_in_some : (n : ℕ) (o : Option ℕ) → is_in n o ≡ true → o ≡ Some n
+pub is_in_some : (n : ℕ) (o : Option ℕ) → is_in n o ≡ true → o ≡ Some n
 is_in_some n None t = absurd (cc)
 is_in_some n (Some m) t = ap Some (eqb-true m n t)
 

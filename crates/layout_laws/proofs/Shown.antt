@@ -1,16 +1,11 @@
 -- The parts of a page: which nodes have one, and that what they are in has one too.
-use Rattle.std.proofs.Common.{◌≡◌, ℕ, zero, suc, ◌+◌, ◌-◌, ◌<◌, ◌≤◌, Bool, true, false, not, nat_lt, ◌==◌, ◌&&◌, ◌||◌, List, [], ◌∷◌, map, length, filter_map, Option, Some, None, option_map, slice_get, chars, IsTrue, refl, sym, ◌∙◌, ap, subst, arith, ◌⊎◌, inl, inr, if◌then◌else◌, ltb-true, add-one}
-use Rattle.std.specs.List.{list_all, enumerate_from, cons_option}
-use Rattle.std.specs.Option.{option_map_or}
-use Rattle.std.proofs.lemmas.Option.{slice_get_within}
-use Rattle.viz_base.specs.Pages.{IsPage, parent_fits, is_element, is_element_at}
-use Rattle.viz_base.specs.declared.nodes.Body.{Body}
+use Rattle.std.proofs.Common.{◌≡◌, ℕ, zero, suc, ◌+◌, Bool, true, false, List, [], ◌∷◌, map, filter_map, Option, Some, None, option_map, slice_get, refl, sym, ◌∙◌, ap, subst, arith, if◌then◌else◌, add-one}
+use Rattle.std.specs.List.{enumerate_from, cons_option}
 use Rattle.viz_base.specs.declared.nodes.Node.{Node}
 use Rattle.viz_base.specs.declared.styles.Style.{Style}
-use Rattle.layout_semantics.specs.Lists.{chosen, one_if}
-use Rattle.layout_semantics.specs.Elements.{is_closed, is_hidden, is_shown, node_passes, parent_of, ancestors, upwards}
-use Rattle.layout_semantics.specs.Parts.{Part, Level, part_of, shown_part, shown_parts}
-use Rattle.layout_laws.proofs.Members.{In, Rises, rises_from, rises_lower}
+use Rattle.layout_semantics.specs.Elements.{is_shown}
+use Rattle.layout_semantics.specs.Parts.{Part, part_of, shown_part, shown_parts}
+use Rattle.layout_laws.proofs.Members.{In, Rises, rises_lower}
 
 -- ---- lists
 

@@ -1,9 +1,16 @@
 pub mod Greatest
 pub mod Entries
+pub mod Spaces
+pub mod Styled
 pub mod Outer
 pub mod Terms
 pub mod Standing
+pub mod Parts
+pub mod FloatRuns
 pub mod FloatRules
 pub mod Margins
 pub mod Bands
 pub mod PlainFlow
+pub mod Spaces
+pub mod LineStacks
+pub mod Clearance

@@ -1,12 +1,15 @@
-ghost use Rattle.std.specs.Prelude.{◌≡◌, ◌<◌, slice_get, Some, ℕ, false, IsTrue, Contains, is_some, []};
-ghost use Rattle.viz_base.specs.Trees.{ascends, is_replaced, is_leaf, is_anon};
+ghost use Rattle.std.specs.Prelude.{◌≡◌, ◌≢◌, ◌<◌, ℕ, true, false, IsTrue, [], length, slice_get, Contains, Some, is_some};
+ghost use Rattle.viz_base.specs.Pages.{is_element_at};
+ghost use Rattle.viz_base.specs.Trees.{IsBoxTree, ascends, has_box, is_anon, is_chars, is_leaf, is_replaced};
 ghost use Rattle.viz_base.specs.declared.trees.BoxNode.{BoxNode};
 ghost use Rattle.layout_semantics.specs.Blocks.{parent_of};
-ghost use Rattle.layout_semantics.specs.Elements.{ancestors, is_closed, is_hidden, node_passes};
-ghost use Rattle.layout_semantics.specs.Order.{kids_of};
-ghost use Rattle.layout_semantics.specs.BoxTrees.{page_boxes};
+ghost use Rattle.layout_semantics.specs.Elements.{ancestors, is_closed, is_hidden, is_shown, node_passes};
+ghost use Rattle.layout_semantics.specs.Order.{kids_of, IsOnPage};
+ghost use Rattle.layout_semantics.specs.BoxTrees.{page_boxes, page_parts, tree_parents, tree_styles};
+ghost use Rattle.layout_semantics.specs.Refusals.{blocks_in_inlines};
+ghost use Rattle.layout_laws.specs.Styled.{AreStylesOf};
 
-use viz_base::{List, Page, Style};
+use viz_base::{Font, List, Page, Style};
 
 /// Boxes stand in document order (CSS 2.1, 3.1): a box before the boxes in it, and these in ascending order.
 pub fn a_box_comes_before_its_content(page: &Page, styles: &List<Style>, at: usize)
@@ -17,6 +20,31 @@ pub fn a_box_comes_before_its_content(page: &Page, styles: &List<Style>, at: usi
 pub fn the_boxes_in_a_box_name_it(page: &Page, styles: &List<Style>, at: usize, kid: usize)
     requires inside { Contains (kids_of (page_boxes page.now.nodes styles.now) at) kid }
     ensures { parent_of (page_boxes page.now.nodes styles.now) kid ≡ Some at }
+{}
+
+/// A box that names another is one of the boxes in it.
+pub fn each_box_is_in_the_box_that_it_names(
+    page: &Page,
+    styles: &List<Style>,
+    at: usize,
+    kid: usize,
+)
+    requires names { parent_of (page_boxes page.now.nodes styles.now) kid ≡ Some at }
+    ensures { Contains (kids_of (page_boxes page.now.nodes styles.now) at) kid }
+{}
+
+/// Each box is the root's, or in a box that is on the page.
+pub fn each_box_is_on_the_page(page: &Page, styles: &List<Style>, at: usize)
+    requires within { at < length (page_boxes page.now.nodes styles.now) }
+    ensures { IsOnPage (page_boxes page.now.nodes styles.now) at }
+{}
+
+/// The first box is the root's: a block in normal flow, whatever the style says, that starts a block formatting context
+/// (CSS 2.1, 9.4.1 and 9.7).
+pub fn the_first_box_is_the_roots(page: &Page, styles: &List<Style>)
+    ensures node { (b : BoxNode) → slice_get (page_boxes page.now.nodes styles.now) 0 ≡ Some b → b.node ≡ 0 }
+    ensures context { (b : BoxNode) → slice_get (page_boxes page.now.nodes styles.now) 0 ≡ Some b → b.context ≡ true }
+    ensures block { (b : BoxNode) → slice_get (page_boxes page.now.nodes styles.now) 0 ≡ Some b → b.block_level ≡ true }
 {}
 
 /// Boxes stand in the order of their nodes, but for anonymous block boxes; so no node has two boxes.
@@ -42,6 +70,19 @@ pub fn no_content_of_a_replaced_element_has_a_box(page: &Page, styles: &List<Sty
     ensures { (b : BoxNode) (above : ℕ) → slice_get (page_boxes page.now.nodes styles.now) at ≡ Some b → Contains (ancestors page.now.nodes b.node) above → node_passes is_closed page.now.nodes above ≡ false }
 {}
 
+/// An element that is shown has a box: neither it nor what it is in is hidden, and it is in no replaced element and no `br`.
+pub fn each_shown_element_has_a_box(page: &Page, styles: &List<Style>, node: usize)
+    requires element { IsTrue (is_element_at page.now.nodes node) }
+    requires styled { node < length styles.now }
+    requires shown { IsTrue (is_shown page.now.nodes styles.now node) }
+    ensures { IsTrue (has_box (page_boxes page.now.nodes styles.now) node) }
+{}
+
+/// A text box has characters.
+pub fn no_text_box_is_empty(page: &Page, styles: &List<Style>, at: usize)
+    ensures { (b : BoxNode) → slice_get (page_boxes page.now.nodes styles.now) at ≡ Some b → IsTrue (is_chars b.kind) → b.chars ≢ [] }
+{}
+
 /// A box has an intrinsic size exactly where it is replaced (CSS 2.1, 3.1).
 pub fn replaced_boxes_alone_have_a_size(page: &Page, styles: &List<Style>, at: usize)
     ensures { (b : BoxNode) → slice_get (page_boxes page.now.nodes styles.now) at ≡ Some b → is_some b.size ≡ is_replaced b.kind }
@@ -50,4 +91,12 @@ pub fn replaced_boxes_alone_have_a_size(page: &Page, styles: &List<Style>, at: u
 /// Text boxes, forced line breaks and replaced boxes hold no boxes.
 pub fn leaves_hold_no_box(page: &Page, styles: &List<Style>, at: usize)
     ensures { (b : BoxNode) → slice_get (page_boxes page.now.nodes styles.now) at ≡ Some b → IsTrue (is_leaf b.kind) → b.kids ≡ [] }
+{}
+
+/// Where no block-level box in normal flow is in an inline box, the boxes of a page and its styles are a box tree: each
+/// fact of `BoxTree` holds.
+pub fn the_boxes_of_a_page_are_a_tree(page: &Page, styles: &List<Style>, fonts: &List<Font>)
+    requires styled { AreStylesOf page.now.nodes styles.now fonts.now }
+    requires no_block_in_inlines { blocks_in_inlines (page_parts page.now.nodes styles.now) ≡ [] }
+    ensures { IsBoxTree (page_boxes page.now.nodes styles.now) (tree_styles page.now.nodes styles.now) fonts.now (tree_parents page.now.nodes) }
 {}

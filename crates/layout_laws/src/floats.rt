@@ -1,5 +1,6 @@
-ghost use Rattle.std.specs.Prelude.{◌≡◌, ◌↔◌, ℤ, ◌≤ℤ◌, List, [], IsTrue};
+ghost use Rattle.std.specs.Prelude.{◌≡◌, ◌↔◌, ℤ, ◌≤ℤ◌, List, [], Contains, IsTrue};
 ghost use Rattle.layout_laws.specs.Bands.{IsLeftOver};
+ghost use Rattle.layout_laws.specs.Clearance.{IsApart};
 ghost use Rattle.viz_base.specs.declared.layouts.Band.{Band};
 ghost use Rattle.viz_base.specs.declared.layouts.Extent.{Extent};
 ghost use Rattle.viz_base.specs.declared.layouts.Spot.{Spot};
@@ -35,4 +36,9 @@ pub fn a_band_is_what_floats_leave()
 /// Without floats it is the whole containing block.
 pub fn a_band_without_floats_is_the_containing_block()
     ensures { (cb : Band ℤ) (y h : ℤ) → band_at [] cb y h ≡ cb }
+{}
+
+/// A float's outer box overlaps no earlier float's of its context.
+pub fn a_float_overlaps_no_earlier_one()
+    ensures { (floats : List FloatBox) (side : Side) (size : Extent ℤ) (cb : Band ℤ) (top : ℤ) (f : FloatBox) → Contains floats f → IsApart size (float_at floats side size cb top) f.box }
 {}

@@ -1,6 +1,9 @@
-ghost use Rattle.std.specs.Prelude.{◌≡◌, ℕ, ◌≤◌, ℤ, ◌≤ℤ◌, ◌<ℤ◌, false, List, length, IsTrue, Contains};
+ghost use Rattle.std.specs.Prelude.{◌≡◌, ℕ, ◌≤◌, ℤ, ◌+ℤ◌, ◌≤ℤ◌, ◌<ℤ◌, false, List, length, IsTrue, Contains};
 ghost use Rattle.std.specs.List.{AllByRecursion};
+ghost use Rattle.layout_laws.specs.LineStacks.{IsStack, HasMoreFloats, line_rectangles};
 ghost use Rattle.layout_laws.specs.Standing.{may_stand};
+ghost use Rattle.viz_base.specs.declared.renderings.Quad.{Quad};
+ghost use Rattle.layout_semantics.specs.Lines.{lines_in};
 ghost use Rattle.layout_semantics.specs.Floats.{FloatBox};
 ghost use Rattle.layout_semantics.specs.InlineContent.{content};
 ghost use Rattle.layout_semantics.specs.LineHeights.{InlineContext, extended_boxes, line_extent, height_of_extent, tallest};
@@ -27,4 +30,21 @@ pub fn a_line_stands_as_high_as_its_first_stretch_fits()
     ensures below { (c : InlineContext) (floats : List FloatBox) (y tall width : ℤ) → y ≤ℤ line_top c floats y tall width }
     ensures stands { (c : InlineContext) (floats : List FloatBox) (y tall width : ℤ) → IsTrue (may_stand c floats tall width (line_top c floats y tall width)) }
     ensures highest { (c : InlineContext) (floats : List FloatBox) (y tall width top : ℤ) → y ≤ℤ top → top <ℤ line_top c floats y tall width → may_stand c floats tall width top ≡ false }
+{}
+
+/// The line boxes of a block container stand one below the other from where they begin, and end at the bottom that the lines are said to
+/// have (CSS 2.1, 9.4.2).
+pub fn lines_stand_one_below_the_other()
+    ensures { (c : InlineContext) (y least : ℤ) (floats : List FloatBox) → IsStack y (line_rectangles (lines_in c y least floats).entries) (lines_in c y least floats).bottom }
+{}
+
+/// Each of them is no higher than the tallest line.
+pub fn each_line_is_no_higher_than_the_tallest()
+    ensures { (c : InlineContext) (y least : ℤ) (floats : List FloatBox) → AllByRecursion (λ (q : Quad ℤ). q.bottom ≤ℤ (q.top +ℤ tallest c)) (line_rectangles (lines_in c y least floats).entries) }
+{}
+
+/// The floats of lines come after those that were there, and none of them has its top above what the earlier content of the context asks
+/// (CSS 2.1, 9.5.1, rules 5 and 6).
+pub fn no_float_of_a_line_is_above_earlier_content()
+    ensures { (c : InlineContext) (y least : ℤ) (floats : List FloatBox) → HasMoreFloats least floats (lines_in c y least floats).floats }
 {}

@@ -1,9 +1,10 @@
-ghost use Rattle.std.specs.Prelude.{◌≡◌, ◌<◌, ℤ, ◌≤ℤ◌, length};
+ghost use Rattle.std.specs.Prelude.{◌≡◌, ◌<◌, ◌↔◌, ℤ, ◌≤ℤ◌, List, length, Contains};
 ghost use Rattle.viz_base.specs.declared.layouts.Preferred.{Preferred};
 ghost use Rattle.layout_semantics.specs.Horizontal.{widths, sum_of, placing_of, block_flow, shrunk, block_terms, shrunk_terms, shrink_to_fit};
-ghost use Rattle.layout_semantics.specs.Preferred.{preferred, inside_of, inline_content, blocks, a_replaced};
+ghost use Rattle.layout_semantics.specs.Preferred.{Child, block_widths, preferred, inside_of, inline_content, blocks, a_replaced};
 ghost use Rattle.layout_semantics.specs.Replaced.{preferred_replaced};
 ghost use Rattle.layout_laws.specs.Greatest.{IsGreatestOf};
+ghost use Rattle.layout_laws.specs.FloatRuns.{IsChildWidth};
 ghost use Rattle.layout_laws.specs.Terms.{IsInFlowBlock, own_width, held_width};
 ghost use Rattle.layout_laws.specs.Outer.{unbreakable_widths, piece_widths, child_least_widths, child_most_widths};
 
@@ -53,4 +54,10 @@ pub fn a_width_shrinks_to_fit()
     ensures least { (p : Preferred ℤ) (room : ℤ) → p.least ≤ℤ p.most → p.least ≤ℤ shrink_to_fit p room }
     ensures most { (p : Preferred ℤ) (room : ℤ) → shrink_to_fit p room ≤ℤ p.most }
     ensures between { (p : Preferred ℤ) (room : ℤ) → p.least ≤ℤ room → room ≤ℤ p.most → shrink_to_fit p room ≡ room }
+{}
+
+/// Among the children of a box, the widths that its preferred width is the greatest of are those of the children in normal flow and the sums
+/// of floats that follow one another (CSS 2.1, 10.3.5; our own reading).
+pub fn child_widths_are_of_children_and_runs_of_floats()
+    ensures { (children : List Child) (width : ℤ) → Contains (block_widths children) width ↔ IsChildWidth children width }
 {}
