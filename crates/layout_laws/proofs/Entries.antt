@@ -66,7 +66,7 @@ module _ (tree : BoxTree) (w : World) (height : ℕ) (counts : Kind → Bool) (l
 
 -- ---- a page of blocks and floats alone
 
-passes : {A : Type 0} (test : A → Bool) (xs : List A) (i : ℕ) (x : A) → IsTrue (list_all test xs) → slice_get xs i ≡ Some x → IsTrue (test x)
+pub passes : {A : Type 0} (test : A → Bool) (xs : List A) (i : ℕ) (x : A) → IsTrue (list_all test xs) → slice_get xs i ≡ Some x → IsTrue (test x)
 passes test [] i x t e = absurd (cc)
 passes test (y ∷ ys) zero x t e = subst (λ z. IsTrue (test z)) (some_same y x e) (both (test y) (list_all test ys) t).0
   where

@@ -43,3 +43,4 @@ pub mod LineFloats
 pub mod LineStates
 pub mod Apart
 pub mod LowestBottoms
+pub mod ReadyBoxes

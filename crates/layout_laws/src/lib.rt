@@ -2,13 +2,9 @@
 #![tactic(auto)]
 
 mod boxes;
-mod floats;
-mod flow;
-mod fonts;
-mod lines;
-mod margins;
 mod clearance;
 mod floats;
+mod flow;
 mod fonts;
 mod lines;
 mod margins;
