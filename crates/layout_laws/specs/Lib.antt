@@ -11,6 +11,5 @@ pub mod FloatRules
 pub mod Margins
 pub mod Bands
 pub mod PlainFlow
-pub mod Spaces
 pub mod LineStacks
 pub mod Clearance
