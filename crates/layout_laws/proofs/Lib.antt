@@ -44,3 +44,4 @@ pub mod LineStates
 pub mod Apart
 pub mod LowestBottoms
 pub mod ReadyBoxes
+pub mod ReadyTerms
