@@ -45,3 +45,4 @@ pub mod Apart
 pub mod LowestBottoms
 pub mod ReadyBoxes
 pub mod ReadyTerms
+pub mod ReadyLeads

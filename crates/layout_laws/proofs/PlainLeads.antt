@@ -31,7 +31,7 @@ module _ (tree : BoxTree) (w : World) (height : ℕ) where
       by_end (of_end.Cleared d) g = absurd (different (sym (ap ends_cleared g) ∙ e))
 
   -- a child's lead from its own
-  abbrev child_from : Band ℤ → ℕ → Leading → Bool → Leading
+  abbrev pub child_from : Band ℤ → ℕ → Leading → Bool → Leading
   child_from cb k own true = record { margins = []; waiting = record { at = k; cb = cb } ∷ []; end = of_end.Through; cb = cb }
   child_from cb k own false = followed_by tree w height own (through tree w height cb (bottom_margin tree w height cb k ∷ []))
 
@@ -57,11 +57,11 @@ module _ (tree : BoxTree) (w : World) (height : ℕ) where
         ∙ ap (followed_by tree w height (child_lead tree w height one cb k)) (children-same cb ks)
 
   -- a lead from its children's, of a box that is not cleared
-  abbrev last_of : Band ℤ → ℕ → Bool → Leading
+  abbrev pub last_of : Band ℤ → ℕ → Bool → Leading
   last_of cb b true = through tree w height cb []
   last_of cb b false = record { margins = []; waiting = []; end = of_end.Solid b; cb = cb }
 
-  abbrev box_from : Band ℤ → ℕ → Leading → Bool → Leading
+  abbrev pub box_from : Band ℤ → ℕ → Leading → Bool → Leading
   box_from cb b children false = record { margins = top_margin tree w height cb b ∷ []; waiting = []; end = of_end.Solid b; cb = cb }
   box_from cb b children true = followed_by tree w height (through tree w height cb (top_margin tree w height cb b ∷ [])) (followed_by tree w height children (last_of cb b (may_collapse_through tree w height b)))
 
