@@ -46,3 +46,4 @@ pub mod LowestBottoms
 pub mod ReadyBoxes
 pub mod ReadyTerms
 pub mod ReadyLeads
+pub mod ReadyFlow
