@@ -25,6 +25,7 @@ use Rattle.layout_semantics.proofs.Orders.{document_order-is}
 use Rattle.layout_semantics.proofs.Tops.{IsSettled, IsSettled-kid, kid-top, heights-append}
 use Rattle.layout_laws.proofs.Flowing.{frame_of}
 use Rattle.layout_laws.proofs.PlainSteps.{plainly_reached}
+use Rattle.layout_laws.proofs.Truths.{right_of}
 use Rattle.layout_laws.proofs.ReadyBoxes.{IsReady}
 use Rattle.layout_laws.proofs.ReadyTerms.{plain_widths, plain_verticals, not_replaced, ready-verticals, ready-widths, ready-height, ready-joins, ready-collapses}
 use Rattle.layout_laws.proofs.ReadyLeads.{AllZero, zero-append, collapsed-zero, IsUncleared, bottom-zero, lead-null, resolved-null}
@@ -164,3 +165,63 @@ module _ (tree : BoxTree) (w : World) (height : ℕ) where
             zeros = (refl, tt);
             flat = λ t. absurd (cc);
           }
+
+      abbrev begun : ℤ → Bool → Standing
+      begun y true = at_top y None
+      begun y false = below (content_top (plain_frame y)) [] false
+
+      begun-so-far : (p : Progress) (k : ℕ) (y : ℤ) (opens : Bool) → p.floats ≡ [] → y ≡ top_of tree k → IsSoFar (opened tree w height inside p (plain_frame y) (begun y opens)) (top_of tree k)
+      begun-so-far p k y true none e = record { floats = none; zero_run = refl; next = e }
+      begun-so-far p k y false none e = record { floats = none; zero_run = tt; next = edge-is y ∙ e }
+
+      block-laid : (p : Progress) (k : ℕ) (y : ℤ) → k < length tree.boxes → length tree.boxes ≤ levels + k → IsSettled tree k → p.floats ≡ [] → y ≡ top_of tree k → IsLaid p k (laid_block tree w height inside page_band p k None (plain_frame y))
+      block-laid p k y l m s none e =
+          record {
+            floats = rw (band-is y) own.floats;
+            boxes = rw (band-is y) (placed-after p k y _ _ l e high own.boxes);
+            bottom = rw (band-is y) (bottom-is k y _ e high);
+            zeros = rw (band-is y) (zero-append (joined_run tree w height (joins_last_child tree w height k) end.standing) (pos 0 ∷ []) (subst AllZero (sym (ap (λ j. joined_run tree w height j end.standing) (ready-joins tree w height k (ready k l)) ∙ joined_none end.standing)) tt) (refl, tt));
+            flat = λ t. ready-collapses tree w height k (ready k l) (right_of _ (may_collapse_through tree w height k) t);
+          }
+        where
+          start : Progress
+          start = opened tree w height inside p (plain_frame y) (begun y (is_open_above tree k))
+
+          end : Progress
+          end = inside k page_band (content_top (plain_frame y)) start
+
+          own : IsFilled inside k (content_top (plain_frame y)) start
+          own = filled k y start l m s (begun-so-far p k y (is_open_above tree k) none e)
+
+          high : content_height tree w height k (block_height tree w height (joins_last_child tree w height k) (content_top (plain_frame y)) end.standing) ≡ height_of tree k
+          high = ready-height tree w height k (ready k l) (block_height tree w height (joins_last_child tree w height k) (content_top (plain_frame y)) end.standing)
+
+      laid-is : (p : Progress) (k : ℕ) (y : ℤ) → k < length tree.boxes → length tree.boxes ≤ levels + k → IsSettled tree k → p.floats ≡ [] → y ≡ top_of tree k → IsLaid p k (laid tree w height inside page_band p k (plainly_reached y))
+      laid-is p k y l m s none e = subst (IsLaid p k) (sym (laid-sort p k y l)) (by_sort (is_context_root tree k))
+        where
+          by_sort : (c : Bool) → IsLaid p k (laid_sort p k (plain_frame y) false c)
+          by_sort true = context-laid p k y l m s none e
+          by_sort false = block-laid p k y l m s none e
+
+      -- ---- after a box
+
+      after-standing : (s : Standing) (k : ℕ) (y : ℤ) (l : Laid) → k < length tree.boxes → IsZero s → base s ≡ y → (t : Bool) → l.through ≡ t → AllZero l.margins → l.bottom ≡ y +ℤ height_of tree k → (IsTrue t → height_of tree k ≡ pos 0)
+          → IsZero (standing_after tree w height inside page_band s k (plainly_reached y) l) × (base (standing_after tree w height inside page_band s k (plainly_reached y) l) ≡ y +ℤ height_of tree k)
+      after-standing s k y l m z n false e zeros bottom flat = rw e (zeros, bottom)
+      after-standing (at_top top cleared) k y l m z n true e zeros bottom flat = let none = flat refl in rw e (z, omega (arith, ints, none, n))
+      after-standing (below edge run stuck) k y l m z n true e zeros bottom flat =
+          let none = flat refl in
+          let own = zero-append (lead tree w height all_passed page_band k).margins (bottom_margin tree w height page_band k ∷ []) (lead-null tree w height ready no_float within (length tree.boxes) all_passed page_band k m).zeros (bottom-zero tree w height ready no_float within page_band k m, tt) in
+          rw e (zero-append run _ z own, omega (arith, ints, none, n))
+
+      -- a child is placed, and the next one is reached below it
+      record IsNext (p next : Progress) (k : ℕ) : Type 0 where
+        so_far : IsSoFar next (top_of tree k +ℤ height_of tree k)
+        boxes : next.boxes ≡ p.boxes ++ map (placed_block tree w) (document_order tree.boxes k)
+
+      child-is : (top : ℤ) (p : Progress) (k : ℕ) → k < length tree.boxes → length tree.boxes ≤ levels + k → IsSettled tree k → IsSoFar p (top_of tree k) → IsNext p (child tree w height inside page_band top p k) k
+      child-is top p k l m s so =
+          let here = reached-is p k (top_of tree k) l so in
+          let own = laid-is p k (top_of tree k) l m s so.floats refl in
+          let after = after-standing p.standing k (top_of tree k) (laid tree w height inside page_band p k (plainly_reached (top_of tree k))) l so.zero_run so.next (laid tree w height inside page_band p k (plainly_reached (top_of tree k))).through refl own.zeros own.bottom own.flat in
+          rw (no_float k, here) (record { so_far = record { floats = own.floats; zero_run = after.0; next = after.1 }; boxes = own.boxes })
