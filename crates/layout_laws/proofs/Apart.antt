@@ -1,4 +1,4 @@
-use Rattle.std.proofs.Common.{◌≡◌, ℤ, ◌+ℤ◌, ◌≤ℤ◌, Bool, true, false, int_le, List, Contains, refl, inl, inr, ◌⊎◌, arith}
+use Rattle.std.proofs.Common.{◌≡◌, ℤ, ◌+ℤ◌, ◌≤ℤ◌, Bool, true, false, int_le, List, Contains, refl, inl, inr, arith}
 use Rattle.std.proofs.lemmas.Int.{ints}
 use Rattle.viz_base.specs.declared.layouts.Band.{Band}
 use Rattle.viz_base.specs.declared.layouts.Extent.{Extent}
@@ -7,7 +7,7 @@ use Rattle.viz_base.specs.declared.styles.Side.{Side}
 use Rattle.viz_base.specs.declared.styles.Side.TheVariants as of_side
 use Rattle.layout_semantics.specs.Floats.{FloatBox, is_left}
 use Rattle.layout_laws.specs.Clearance.{IsApart}
-use Rattle.layout_laws.specs.FloatRules.{IsNextTo, IsLowEnough, ObeysRules}
+use Rattle.layout_laws.specs.FloatRules.{IsNextTo, ObeysRules}
 
 -- a place that obeys the rules is apart from each earlier float
 pub apart : (floats : List FloatBox) (size : Extent ℤ) (cb : Band ℤ) (top : ℤ) (at : Spot ℤ) (side : Side) → ObeysRules floats side size.width cb top at → (f : FloatBox) → Contains floats f → IsApart size at f.box

@@ -1,5 +1,5 @@
 -- The lowest bottom of floats, and where a cleared box stands.
-use Rattle.std.proofs.Common.{◌≡◌, ℕ, zero, suc, ℤ, ◌≤ℤ◌, Bool, true, false, not, IsTrue, List, [], ◌∷◌, ◌++◌, map, filter, length, int_lt, Contains, Option, Some, None, MatchOption, refl, sym, ap, ◌∙◌, subst, inl, inr, ◌⊎◌, arith}
+use Rattle.std.proofs.Common.{◌≡◌, ℕ, zero, suc, ℤ, ◌≤ℤ◌, Bool, true, false, IsTrue, List, [], ◌∷◌, ◌++◌, map, filter, Contains, Option, Some, None, MatchOption, refl, sym, subst, inl, inr, ◌⊎◌, arith}
 use Rattle.std.specs.Option.{option_map_or}
 use Rattle.std.proofs.lemmas.Int.{ints}
 use Rattle.viz_base.specs.declared.layouts.Band.{Band}
@@ -13,7 +13,7 @@ use Rattle.layout_semantics.specs.Extremes.{greatest_from}
 use Rattle.layout_semantics.specs.Floats.{FloatBox, is_relevant, lowest_bottom}
 use Rattle.layout_semantics.specs.FlowBoxes.{clear_of}
 use Rattle.layout_semantics.specs.Leads.{Waiting, Leading, is_up_to, lead}
-use Rattle.layout_semantics.specs.Clearance.{Resolved, with_waiting, with_float, bottom_to_clear, is_cleared, cleared_edge, resolve_step, resolve_to, resolve, float_spot, side_of}
+use Rattle.layout_semantics.specs.Clearance.{Resolved, with_waiting, with_float, is_cleared, cleared_edge, resolve_step, resolve_to}
 use Rattle.layout_laws.specs.Clearance.{IsLowestBottom}
 use Rattle.layout_laws.proofs.Among.{Among, among, contains, filtered, filters, image, source}
 use Rattle.layout_laws.proofs.Extremes.{below_greatest, start_below_greatest, greatest_is_one}

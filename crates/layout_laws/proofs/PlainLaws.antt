@@ -1,5 +1,5 @@
 -- Where the blocks of a page stand in normal flow without floats and clearance.
-use Rattle.std.proofs.Common.{◌≡◌, ℕ, zero, suc, ◌+◌, ◌<◌, ◌≤◌, ℤ, pos, ◌+ℤ◌, Bool, true, false, ◌&&◌, ◌⊎◌, inl, inr, IsTrue, List, [], ◌∷◌, ◌++◌, map, flat_map, length, fold, refl, sym, ap, ◌∙◌, subst, arith, append-nil, append_assoc, Option, None, Some}
+use Rattle.std.proofs.Common.{◌≡◌, ℕ, zero, suc, ◌+◌, ◌<◌, ◌≤◌, ℤ, ◌+ℤ◌, Bool, true, false, ◌⊎◌, inl, inr, IsTrue, List, [], ◌∷◌, ◌++◌, flat_map, length, fold, refl, sym, ap, ◌∙◌, subst, arith, append-nil, append_assoc}
 use Rattle.std.specs.List.{list_all, AllByRecursion}
 use Rattle.std.proofs.lemmas.Grind.{fold-append}
 use Rattle.std.proofs.lemmas.Int.{ints}
@@ -16,8 +16,8 @@ use Rattle.layout_semantics.proofs.Forest.{both}
 use Rattle.layout_laws.specs.PlainFlow.{HasPlainBlocks, content_of, leading, all_margins, collapses, trailing}
 use Rattle.layout_laws.proofs.Members.{In, from_append}
 use Rattle.layout_laws.proofs.Flowing.{frame_of}
-use Rattle.layout_laws.proofs.PlainSteps.{IsPlain, edge_after, passed_by, started, inner_start, inner_height, entry_of, reached-plain, Behaves, IsStep, step, plain-after, kids_reached, flow-is, flow-behaves}
-use Rattle.layout_laws.proofs.PlainTraces.{Tracing, content_trace, child_trace, children_trace, children_trace-append, trace_to, IsTrace, AreTraced, inner-floats, inner-standing, children-traced, children-ordered}
+use Rattle.layout_laws.proofs.PlainSteps.{IsPlain, edge_after, passed_by, started, inner_start, inner_height, entry_of, reached-plain, Behaves, step, plain-after, kids_reached, flow-is, flow-behaves}
+use Rattle.layout_laws.proofs.PlainTraces.{Tracing, content_trace, child_trace, children_trace, children_trace-append, trace_to, AreTraced, inner-floats, inner-standing, children-traced, children-ordered}
 
 -- ---- members
 

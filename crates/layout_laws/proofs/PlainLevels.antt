@@ -1,5 +1,5 @@
 -- The levels of a page are enough: a block that collapses through, and the margins that adjoin its bottom, from its children's.
-use Rattle.std.proofs.Common.{◌≡◌, ℕ, zero, suc, ◌+◌, ◌<◌, ◌≤◌, ℤ, Bool, true, false, ◌&&◌, List, [], ◌∷◌, ◌++◌, length, fold, refl, sym, ap, ◌∙◌, arith}
+use Rattle.std.proofs.Common.{◌≡◌, ℕ, zero, suc, ◌+◌, ◌<◌, ◌≤◌, ℤ, Bool, true, false, ◌&&◌, List, [], ◌∷◌, ◌++◌, length, fold, refl, ap, ◌∙◌, arith}
 use Rattle.std.specs.List.{list_all, AllByRecursion}
 use Rattle.viz_base.specs.declared.layouts.Band.{Band}
 use Rattle.viz_base.specs.declared.trees.BoxTree.{BoxTree}
@@ -9,7 +9,7 @@ use Rattle.layout_semantics.specs.FlowBoxes.{may_collapse_through, joins_last_ch
 use Rattle.layout_semantics.specs.Leads.{bottom_margin}
 use Rattle.layout_semantics.proofs.Forest.{IsKid}
 use Rattle.layout_semantics.proofs.Pages.{forest}
-use Rattle.layout_laws.specs.PlainFlow.{all_margins, collapses_to, collapses, after_child, trailing_step, trailing_to, trailing}
+use Rattle.layout_laws.specs.PlainFlow.{all_margins, collapses_to, collapses, after_child, trailing_to, trailing}
 
 list_all-same : (f g : ℕ → Bool) (P : ℕ → Type 0) (ks : List ℕ) → AllByRecursion P ks → ((k : ℕ) → P k → f k ≡ g k) → list_all f ks ≡ list_all g ks
 list_all-same f g P [] a e = refl

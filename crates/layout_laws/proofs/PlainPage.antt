@@ -1,5 +1,5 @@
 -- Where the blocks of a whole page stand in normal flow without floats and clearance.
-use Rattle.std.proofs.Common.{◌≡◌, ℕ, zero, suc, ◌+◌, ◌<◌, ◌≤◌, ◌*◌, ℤ, pos, ◌+ℤ◌, Bool, true, false, ◌⊎◌, inl, inr, IsTrue, List, [], ◌∷◌, ◌++◌, map, flat_map, length, fold, slice_get, refl, sym, ap, ◌∙◌, subst, arith, append-nil, Option, None, Some}
+use Rattle.std.proofs.Common.{◌≡◌, ℕ, zero, suc, ◌<◌, ◌*◌, ℤ, pos, ◌+ℤ◌, Bool, true, false, ◌⊎◌, inl, inr, IsTrue, List, [], ◌∷◌, ◌++◌, map, flat_map, length, slice_get, refl, sym, ap, ◌∙◌, subst, arith, append-nil, Option, Some}
 use Rattle.std.specs.List.{list_all}
 use Rattle.std.specs.Option.{option_map_or}
 use Rattle.std.proofs.lemmas.Bool.{cases_order}
@@ -27,7 +27,7 @@ use Rattle.layout_laws.proofs.Members.{In}
 use Rattle.layout_laws.proofs.Flowing.{replaced_holds_none}
 use Rattle.layout_laws.proofs.PlainSteps.{edge_after, passed_by, started}
 use Rattle.layout_laws.proofs.PlainTraces.{boxes_in, entries_in, trace_to, IsTrace, map_none}
-use Rattle.layout_laws.proofs.PlainLaws.{KidsStand, EachStands, AllStand, stand-more, from_cons, flow-traced, flow-stands}
+use Rattle.layout_laws.proofs.PlainLaws.{KidsStand, EachStands, stand-more, from_cons, flow-traced, flow-stands}
 
 -- ---- places in lists
 

@@ -1,5 +1,5 @@
 -- The steps of normal flow without floats and clearance: where a block is reached, and where the next one stands after it.
-use Rattle.std.proofs.Common.{◌≡◌, ℕ, zero, suc, ◌+◌, ◌<◌, ◌≤◌, ℤ, ◌+ℤ◌, Bool, true, false, not, ◌&&◌, ◌||◌, List, [], ◌∷◌, ◌++◌, length, fold, refl, sym, ap, ◌∙◌, subst, arith, append-nil, Option, None, Some}
+use Rattle.std.proofs.Common.{◌≡◌, ℕ, zero, suc, ◌+◌, ◌<◌, ◌≤◌, ℤ, ◌+ℤ◌, Bool, true, false, not, ◌&&◌, ◌||◌, List, [], ◌∷◌, ◌++◌, length, fold, refl, sym, ap, ◌∙◌, subst, arith, None, Some}
 use Rattle.std.specs.List.{list_all, AllByRecursion}
 use Rattle.viz_base.specs.declared.layouts.Band.{Band}
 use Rattle.viz_base.specs.declared.trees.BoxTree.{BoxTree}
@@ -9,8 +9,8 @@ use Rattle.layout_semantics.specs.Order.{kids_of}
 use Rattle.layout_semantics.specs.Margins.{collapsed}
 use Rattle.layout_semantics.specs.Rectangles.{Frame, content_top, placed_box}
 use Rattle.layout_semantics.specs.Replaced.{replaced_size}
-use Rattle.layout_semantics.specs.FlowBoxes.{is_replaced_at, is_context_root, is_open_above, is_open_below, may_collapse_through, joins_last_child, has_auto_height, has_no_minimum, own_height, flow_children, across, content_from, content_band}
-use Rattle.layout_semantics.specs.InlineContent.{is_floated_at, is_zero, has_line}
+use Rattle.layout_semantics.specs.FlowBoxes.{is_replaced_at, is_context_root, is_open_above, is_open_below, may_collapse_through, joins_last_child, has_auto_height, has_no_minimum, own_height, across, content_from, content_band}
+use Rattle.layout_semantics.specs.InlineContent.{is_zero, has_line}
 use Rattle.layout_semantics.specs.Lengths.{borders, paddings}
 use Rattle.layout_semantics.specs.Leads.{bottom_margin}
 use Rattle.layout_semantics.specs.Flow.{Standing, at_top, below, Progress, fresh, opened, Reached, Laid, reached, laid, child, flow_child, standing_after, flow_to, joined_run, is_at_top, content_height, context_height, block_height}

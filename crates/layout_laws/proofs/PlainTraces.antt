@@ -1,22 +1,20 @@
 -- The boxes of a page with their entries, as normal flow without floats and clearance reaches them.
-use Rattle.std.proofs.Common.{◌≡◌, ℕ, zero, suc, ◌+◌, ◌<◌, ◌≤◌, ℤ, pos, ◌+ℤ◌, Bool, true, false, ◌&&◌, IsTrue, List, [], ◌∷◌, ◌++◌, map, flat_map, length, fold, refl, sym, ap, ◌∙◌, subst, arith, append-nil, append_assoc, Option, None, Some}
-use Rattle.std.specs.List.{list_all, AllByRecursion}
+use Rattle.std.proofs.Common.{◌≡◌, ℕ, zero, suc, ◌+◌, ◌<◌, ◌≤◌, ℤ, Bool, true, false, List, [], ◌∷◌, ◌++◌, map, flat_map, length, fold, refl, sym, ap, ◌∙◌, subst, append-nil, append_assoc}
+use Rattle.std.specs.List.{AllByRecursion}
 use Rattle.std.proofs.lemmas.List.{map-append}
-use Rattle.std.proofs.lemmas.Int.{ints}
 use Rattle.viz_base.specs.declared.layouts.Band.{Band}
 use Rattle.viz_base.specs.declared.trees.BoxTree.{BoxTree}
 use Rattle.viz_base.specs.declared.worlds.World.{World}
 use Rattle.viz_base.specs.declared.renderings.Placed.{Placed}
 use Rattle.layout_semantics.specs.Order.{kids_of, document_order}
-use Rattle.layout_semantics.specs.Margins.{collapsed}
 use Rattle.layout_semantics.specs.Rectangles.{Frame, content_top, placed_box}
 use Rattle.layout_semantics.specs.FlowBoxes.{is_replaced_at, is_context_root, is_open_above, content_from}
-use Rattle.layout_semantics.specs.Flow.{Standing, at_top, below, Progress, Reached, reached, laid, child, flow_child, flow_to}
+use Rattle.layout_semantics.specs.Flow.{Progress, reached, laid, child, flow_to}
 use Rattle.layout_semantics.proofs.Pages.{forest}
 use Rattle.layout_semantics.proofs.Orders.{document_order-is}
-use Rattle.layout_laws.specs.PlainFlow.{HasPlainBlocks, leading, all_margins, collapses, trailing}
+use Rattle.layout_laws.specs.PlainFlow.{HasPlainBlocks, leading}
 use Rattle.layout_laws.proofs.Flowing.{frame_of, replaced_holds_none}
-use Rattle.layout_laws.proofs.PlainSteps.{IsPlain, edge_after, passed_by, plainly_reached, started, inner_start, inner, inner_height, entry_in, entry_of, reached-plain, Behaves, IsStep, step, plain-after, kids_reached, flow-is, flow-behaves, context-above}
+use Rattle.layout_laws.proofs.PlainSteps.{IsPlain, edge_after, plainly_reached, started, inner_start, inner, inner_height, entry_in, entry_of, reached-plain, Behaves, step, plain-after, context-above}
 
 -- a way to trace the content of a box
 abbrev pub Tracing : Type 0

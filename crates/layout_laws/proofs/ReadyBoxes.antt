@@ -1,20 +1,17 @@
 -- What the styles of the pages that are laid out without floats, margins and borders say of their boxes.
-use Rattle.std.proofs.Common.{◌≡◌, ℕ, zero, suc, ◌+◌, ◌<◌, ◌≤◌, ◌*◌, ℤ, pos, ◌+ℤ◌, Bool, true, false, not, ◌&&◌, ◌==◌, IsTrue, List, [], ◌∷◌, length, slice_get, refl, sym, ap, ◌∙◌, subst, arith, Option, None, Some, eqb-true}
+use Rattle.std.proofs.Common.{◌≡◌, ℕ, zero, suc, ◌<◌, ℤ, pos, Bool, true, false, not, ◌&&◌, IsTrue, List, [], ◌∷◌, length, slice_get, refl, sym, ap, ◌∙◌, arith, Option, None, Some, eqb-true}
 use Rattle.std.specs.List.{list_all}
 use Rattle.std.specs.Option.{option_map_or, option_and_then}
 use Rattle.std.specs.Prelude.{is_none}
-use Rattle.std.proofs.lemmas.Int.{ints, clamps}
 use Rattle.viz_base.specs.Styles.{sides_of}
 use Rattle.viz_base.specs.declared.lengths.Length.{Length}
 use Rattle.viz_base.specs.declared.lengths.Length.TheVariants as of_length
 use Rattle.viz_base.specs.declared.lengths.Sides.{Sides}
-use Rattle.viz_base.specs.declared.layouts.Widths.{Widths}
 use Rattle.viz_base.specs.declared.styles.Style.{Style}
 use Rattle.viz_base.specs.declared.trees.BoxNode.{BoxNode}
 use Rattle.viz_base.specs.declared.trees.BoxTree.{BoxTree}
 use Rattle.viz_base.specs.declared.trees.Kind.{Kind}
 use Rattle.viz_base.specs.declared.trees.Kind.TheVariants as of_kind
-use Rattle.viz_base.specs.declared.worlds.World.{World}
 use Rattle.layout_semantics.specs.Blocks.{kind_of, style_of, height_of, absolute}
 use Rattle.layout_semantics.specs.Ready.{ready, is_ready_box, is_ready_style, is_block, is_auto, is_extent, is_zero, clears_nothing}
 use Rattle.layout_semantics.specs.Lengths.{own_style, own, margins, borders, paddings, nothing, no_sides}
@@ -90,7 +87,7 @@ no_maximum : (o : Option Length) → IsTrue (is_none o) → o ≡ None
 no_maximum None t = refl
 no_maximum (Some l) t = absurd (cc)
 
-block_kind : (k : Kind) → IsTrue (is_block k) → k ≡ of_kind.Block
+pub block_kind : (k : Kind) → IsTrue (is_block k) → k ≡ of_kind.Block
 block_kind of_kind.Block t = refl
 block_kind _ t = absurd (cc)
 

@@ -1,34 +1,43 @@
 -- On pages of blocks of fixed heights without margins, borders, paddings and floats, normal flow stacks the blocks.
-use Rattle.std.proofs.Common.{◌≡◌, ℕ, zero, suc, ◌+◌, ◌*◌, ◌<◌, ◌≤◌, ℤ, pos, ◌+ℤ◌, ◌-ℤ◌, Bool, true, false, not, ◌&&◌, IsTrue, List, [], ◌∷◌, ◌++◌, map, flat_map, fold, length, refl, sym, ap, ◌∙◌, subst, arith, append-nil, append_assoc, Option, None, Some}
+use Rattle.std.proofs.Common.{◌≡◌, ℕ, zero, suc, ◌+◌, ◌*◌, ◌<◌, ◌≤◌, ℤ, pos, ◌+ℤ◌, Bool, true, false, not, ◌&&◌, IsTrue, List, [], ◌∷◌, ◌++◌, map, flat_map, fold, length, refl, sym, ap, ◌∙◌, subst, arith, append-nil, append_assoc, slice_get, Option, None, Some}
 use Rattle.std.specs.List.{AllByRecursion}
 use Rattle.std.proofs.lemmas.List.{map-append}
-use Rattle.std.proofs.lemmas.Int.{ints, clamps}
+use Rattle.std.proofs.lemmas.Int.{ints}
 use Rattle.viz_base.specs.declared.layouts.Band.{Band}
 use Rattle.viz_base.specs.declared.layouts.Widths.{Widths}
 use Rattle.viz_base.specs.declared.trees.BoxTree.{BoxTree}
+use Rattle.viz_base.specs.declared.trees.Kind.TheVariants as of_kind
+use Rattle.viz_base.specs.Trees.{is_floated, is_inline_level}
+use Rattle.std.specs.Option.{option_map_or}
 use Rattle.viz_base.specs.declared.worlds.World.{World}
 use Rattle.viz_base.specs.declared.renderings.Placed.{Placed}
 use Rattle.viz_base.specs.declared.renderings.Quad.{Quad}
-use Rattle.layout_semantics.specs.Order.{kids_of, document_order}
+use Rattle.viz_base.specs.declared.renderings.Rendering.{Rendering}
+use Rattle.viz_base.specs.declared.trees.BoxNode.{BoxNode}
+use Rattle.layout_semantics.specs.Rendering.{rendering}
+use Rattle.layout_semantics.specs.Ready.{ready, is_block, is_ready_box, is_ready_style}
+use Rattle.layout_semantics.specs.Page.{page_rendering}
+use Rattle.layout_semantics.specs.Order.{kids_of, document_order, roots}
 use Rattle.layout_semantics.specs.Blocks.{kind_of, node_of, height_of, heights, top_of, bottom_of, placed_block, plain_box, rectangle}
 use Rattle.layout_semantics.specs.Margins.{collapsed}
 use Rattle.layout_semantics.specs.Rectangles.{Frame, content_top, placed_box}
 use Rattle.layout_semantics.specs.Verticals.{Verticals, verticals}
 use Rattle.layout_semantics.specs.Horizontal.{widths}
-use Rattle.layout_semantics.specs.FlowBoxes.{is_replaced_at, is_context_root, is_open_above, may_collapse_through, joins_last_child, flow_children, across, content_from}
+use Rattle.layout_semantics.specs.FlowBoxes.{is_context_root, is_open_above, may_collapse_through, joins_last_child, flow_children, across, content_from}
 use Rattle.layout_semantics.specs.InlineContent.{is_floated_at, is_inline_level_at}
 use Rattle.layout_semantics.specs.Leads.{bottom_margin, lead, all_passed, none_passed}
-use Rattle.layout_semantics.specs.Flow.{Standing, at_top, below, Progress, Reached, Laid, fresh, opened, reached, reached_at, laid, laid_replaced, laid_context, laid_block, flow_child, child, standing_after, joined_run, is_at_top, content_height, context_height, block_height, waiting_size}
-use Rattle.layout_semantics.proofs.Forest.{IsForest, IsKid}
-use Rattle.layout_semantics.proofs.Pages.{forest}
+use Rattle.layout_semantics.specs.Flow.{Standing, at_top, below, Progress, Laid, fresh, opened, reached, laid, laid_replaced, laid_context, laid_block, child, standing_after, joined_run, content_height, context_height, block_height, waiting_size, flow_to, whole_alone}
+use Rattle.layout_semantics.proofs.Forest.{IsKid, both}
+use Rattle.layout_semantics.proofs.Pages.{forest, root-alone}
 use Rattle.layout_semantics.proofs.Orders.{document_order-is}
-use Rattle.layout_semantics.proofs.Tops.{IsSettled, IsSettled-kid, kid-top, heights-append}
+use Rattle.layout_semantics.proofs.Tops.{IsSettled, IsSettled-root, IsSettled-kid, top_of-root, kid-top, heights-append}
+use Rattle.layout_laws.proofs.Entries.{no_lines, holds_none, all_flow, passes}
 use Rattle.layout_laws.proofs.Flowing.{frame_of}
 use Rattle.layout_laws.proofs.PlainSteps.{plainly_reached}
 use Rattle.layout_laws.proofs.Truths.{right_of}
-use Rattle.layout_laws.proofs.ReadyBoxes.{IsReady}
+use Rattle.layout_laws.proofs.ReadyBoxes.{IsReady, block_kind, ready-box}
 use Rattle.layout_laws.proofs.ReadyTerms.{plain_widths, plain_verticals, not_replaced, ready-verticals, ready-widths, ready-height, ready-joins, ready-collapses}
-use Rattle.layout_laws.proofs.ReadyLeads.{AllZero, zero-append, collapsed-zero, IsUncleared, bottom-zero, lead-null, resolved-null}
+use Rattle.layout_laws.proofs.ReadyLeads.{AllZero, zero-append, collapsed-zero, bottom-zero, lead-null, resolved-null}
 
 -- where the next block stands, where no margin is other than 0
 abbrev pub base : Standing → ℤ
@@ -225,3 +234,123 @@ module _ (tree : BoxTree) (w : World) (height : ℕ) where
           let own = laid-is p k (top_of tree k) l m s so.floats refl in
           let after = after-standing p.standing k (top_of tree k) (laid tree w height inside page_band p k (plainly_reached (top_of tree k))) l so.zero_run so.next (laid tree w height inside page_band p k (plainly_reached (top_of tree k))).through refl own.zeros own.bottom own.flat in
           rw (no_float k, here) (record { so_far = record { floats = own.floats; zero_run = after.0; next = after.1 }; boxes = own.boxes })
+
+      -- ---- after all boxes of a block
+
+      record AreNext (p next : Progress) (ks : List ℕ) : Type 0 where
+        floats : next.floats ≡ []
+        boxes : next.boxes ≡ p.boxes ++ map (placed_block tree w) (flat_map (document_order tree.boxes) ks)
+
+      children-are : (b : ℕ) (top : ℤ) (ks done : List ℕ) (p : Progress) → kids_of tree.boxes b ≡ done ++ ks → IsSettled tree b → length tree.boxes ≤ suc levels + b → IsSoFar p (top_of tree b +ℤ heights tree done)
+          → AreNext p (fold (child tree w height inside page_band top) p ks) ks
+      children-are b top [] done p e s m so = record { floats = so.floats; boxes = sym (append-nil p.boxes) }
+      children-are b top (k ∷ ks) done p e s m so =
+          let kid = kid-top tree b done k ks (forest tree) s e in
+          let past = (kid.0).after in
+          let one = child-is top p k (kid.0).within (omega arith) (IsSettled-kid tree b k kid.0 s) (subst (IsSoFar p) (sym kid.1) so) in
+          let more = heights-append tree done (k ∷ []) in
+          let below_it : top_of tree k +ℤ height_of tree k ≡ top_of tree b +ℤ heights tree (done ++ k ∷ []) = omega (arith, ints, kid.1, more) in
+          let rest = children-are b top ks (done ++ k ∷ []) (child tree w height inside page_band top p k) (e ∙ sym (append_assoc done (k ∷ []) ks)) s m (subst (IsSoFar (child tree w height inside page_band top p k)) below_it one.so_far) in
+          record {
+            floats = rest.floats;
+            boxes = rest.boxes
+                ∙ (ap (λ (l : List (Placed ℤ)). l ++ map (placed_block tree w) (flat_map (document_order tree.boxes) ks)) one.boxes
+                ∙ (append_assoc p.boxes (map (placed_block tree w) (document_order tree.boxes k)) (map (placed_block tree w) (flat_map (document_order tree.boxes) ks))
+                ∙ ap (λ (l : List (Placed ℤ)). p.boxes ++ l) (sym (map-append (placed_block tree w) (document_order tree.boxes k) (flat_map (document_order tree.boxes) ks)))));
+          }
+
+    -- ---- all levels
+
+    module _ (no_inline : (k : ℕ) → is_inline_level_at tree k ≡ false) where
+      flow-is : (levels b : ℕ) (cb : Band ℤ) (top : ℤ) (p : Progress) → flow_to tree w height (suc levels) b cb top p ≡ fold (child tree w height (flow_to tree w height levels) cb top) p (kids_of tree.boxes b)
+      unfolding flow_to
+      flow-is levels b cb top p = rw (no_lines tree no_inline b, holds_none tree no_inline b)
+
+      flow-fills : (levels : ℕ) → Fills (flow_to tree w height levels) levels
+      flow-fills zero b top p l m s so = absurd (omega arith)
+      flow-fills (suc levels) b top p l m s so =
+          let start : top_of tree b ≡ top_of tree b +ℤ heights tree [] = omega (arith, ints) in
+          let all = children-are (flow_to tree w height levels) levels (flow-fills levels) b top (kids_of tree.boxes b) [] p refl s m (subst (IsSoFar p) start so) in
+          record {
+            floats = ap (λ (q : Progress). q.floats) (flow-is levels b page_band top p) ∙ all.floats;
+            boxes = ap (λ (q : Progress). q.boxes) (flow-is levels b page_band top p) ∙ all.boxes;
+          }
+
+      -- ---- the page
+
+      root_boxes : Frame → List (Placed ℤ)
+      root_boxes f =
+          placed_box tree 0 f (content_height tree w height 0 (context_height tree w height (content_top f) (flow_to tree w height (length tree.boxes) 0 (content_from (pos 0) f.x) (content_top f) (fresh (content_top f)))))
+          ∷ (flow_to tree w height (length tree.boxes) 0 (content_from (pos 0) f.x) (content_top f) (fresh (content_top f))).boxes
+
+      root-frame : 0 < length tree.boxes → ◌≡◌ {A = Frame} (record { x = widths tree w height 0 room; v = verticals tree w 0 room; corner = record { x = (widths tree w height 0 room).margin_left; y = (verticals tree w 0 room).margin_top } }) (plain_frame (pos 0))
+      root-frame l =
+          ap (λ (x : Widths ℤ). framed x (verticals tree w 0 room)) (ready-widths tree w height 0 (ready 0 l) (64 * w.w))
+          ∙ ap (framed (plain_widths room)) (ready-verticals tree w height 0 (ready 0 l) room)
+        where
+          framed : Widths ℤ → Verticals → Frame
+          framed x v = record { x = x; v = v; corner = record { x = x.margin_left; y = v.margin_top } }
+
+      root-is : 0 < length tree.boxes → root_boxes (plain_frame (pos 0)) ≡ map (placed_block tree w) (document_order tree.boxes 0)
+      unfolding root_boxes
+      root-is l =
+          let top = top_of-root tree 0 (root-alone tree) in
+          let s = IsSettled-root tree 0 (root-alone tree) in
+          let filled = flow-fills (length tree.boxes) 0 (content_top (plain_frame (pos 0))) (fresh (content_top (plain_frame (pos 0)))) l (omega arith) s (record { floats = refl; zero_run = tt; next = omega (arith, ints, top) }) in
+          let high = ready-height tree w height 0 (ready 0 l) (context_height tree w height (content_top (plain_frame (pos 0))) (flow_to tree w height (length tree.boxes) 0 page_band (content_top (plain_frame (pos 0))) (fresh (content_top (plain_frame (pos 0)))))) in
+          rw (band-is (pos 0)) (
+          ap (λ (b : Placed ℤ). b ∷ (flow_to tree w height (length tree.boxes) 0 page_band (content_top (plain_frame (pos 0))) (fresh (content_top (plain_frame (pos 0))))).boxes) (placed-is 0 (pos 0) _ (sym top) high)
+          ∙ (ap (λ (l : List (Placed ℤ)). placed_block tree w 0 ∷ l) filled.boxes
+          ∙ sym (ap (map (placed_block tree w)) (document_order-is tree.boxes 0 (forest tree) l))))
+
+      whole-is : 0 < length tree.boxes → (whole_alone tree w height 0 (pos (64 * w.w))).boxes ≡ map (placed_block tree w) (document_order tree.boxes 0)
+      unfolding root_boxes
+      whole-is l = opened_root l ∙ (ap root_boxes (root-frame l) ∙ root-is l)
+        where
+          opened_root : 0 < length tree.boxes → (whole_alone tree w height 0 (pos (64 * w.w))).boxes ≡ root_boxes (record { x = widths tree w height 0 room; v = verticals tree w 0 room; corner = record { x = (widths tree w height 0 room).margin_left; y = (verticals tree w 0 room).margin_top } })
+          opened_root l = rw (not_replaced tree w height 0 (ready 0 l))
+
+      abbrev rendered : List BoxNode → Rendering ℤ
+      rendered [] = record { boxes = [] }
+      rendered (root ∷ rest) = record { boxes = (whole_alone tree w height 0 (pos (64 * w.w))).boxes }
+
+      rendered-is : (bs : List BoxNode) → bs ≡ tree.boxes → rendered bs ≡ record { boxes = map (placed_block tree w) (flat_map (document_order tree.boxes) (roots bs)) }
+      rendered-is [] e = refl
+      rendered-is (root ∷ rest) e =
+          let some : length (root ∷ rest) ≡ length tree.boxes = ap length e in
+          ap (λ (l : List (Placed ℤ)). made l) (whole-is (omega arith) ∙ sym (ap (map (placed_block tree w)) (append-nil (document_order tree.boxes 0))))
+        where
+          made : List (Placed ℤ) → Rendering ℤ
+          made l = record { boxes = l }
+
+      pub page-is : page_rendering tree w height ≡ rendering tree w height
+      page-is = rendered-is tree.boxes refl
+
+-- ---- pages whose styles are such
+
+module _ (tree : BoxTree) (is_ready : IsTrue (ready tree)) where
+  block_sorts : (k : ℕ) → (is_floated_at tree k ≡ false) × (is_inline_level_at tree k ≡ false)
+  block_sorts k = by_box (slice_get tree.boxes k) refl
+    where
+      by_kind : (b : BoxNode) → b.kind ≡ of_kind.Block → (is_floated tree.styles b ≡ false) × ((is_inline_level b && not (is_floated tree.styles b)) ≡ false)
+      by_kind b e = (rw e, rw e)
+
+      by_box : (o : Option BoxNode) → slice_get tree.boxes k ≡ o → (option_map_or (is_floated tree.styles) o false ≡ false) × ((option_map_or is_inline_level o false && not (option_map_or (is_floated tree.styles) o false)) ≡ false)
+      by_box None e = (refl, refl)
+      by_box (Some b) e = by_kind b (block_kind b.kind (both (is_block b.kind) (option_map_or is_ready_style (slice_get tree.styles b.node) false) (passes (is_ready_box tree.styles) tree.boxes k b is_ready e)).0)
+
+  no_float_at : (k : ℕ) → is_floated_at tree k ≡ false
+  no_float_at k = (block_sorts k).0
+
+  no_inline_at : (k : ℕ) → is_inline_level_at tree k ≡ false
+  no_inline_at k = (block_sorts k).1
+
+  kids_within : (b : ℕ) (ks : List ℕ) → AllByRecursion (IsKid tree.boxes b) ks → AllByRecursion (λ k. k < length tree.boxes) ks
+  kids_within b [] a = tt
+  kids_within b (k ∷ ks) a = (a.0.within, kids_within b ks a.1)
+
+  flow_within : (b : ℕ) → AllByRecursion (λ k. k < length tree.boxes) (flow_children tree b)
+  flow_within b = subst (AllByRecursion (λ k. k < length tree.boxes)) (sym (all_flow tree no_inline_at b)) (kids_within b (kids_of tree.boxes b) ((forest tree).kids b))
+
+  pub ready-page : (w : World) (height : ℕ) → page_rendering tree w height ≡ rendering tree w height
+  ready-page w height = page-is tree w height (ready-box tree is_ready) no_float_at flow_within no_inline_at

@@ -1,7 +1,6 @@
 -- Leads on pages without margins and floats: all margins are 0, no float waits, and nothing is cleared.
-use Rattle.std.proofs.Common.{◌≡◌, ℕ, zero, suc, ◌<◌, ℤ, pos, ◌+ℤ◌, int_lt, Bool, true, false, not, ◌&&◌, List, [], ◌∷◌, ◌++◌, length, refl, sym, ap, ◌∙◌, arith, Option, None, Some}
+use Rattle.std.proofs.Common.{◌≡◌, ℕ, zero, suc, ◌<◌, ℤ, pos, Bool, true, false, not, ◌&&◌, List, [], ◌∷◌, ◌++◌, length, refl, ap, ◌∙◌, arith, Option, None}
 use Rattle.std.specs.List.{AllByRecursion}
-use Rattle.std.specs.Option.{option_map_or}
 use Rattle.std.proofs.lemmas.Int.{ints, clamps}
 use Rattle.viz_base.specs.declared.layouts.Band.{Band}
 use Rattle.viz_base.specs.declared.layouts.Extent.{Extent}
@@ -9,16 +8,15 @@ use Rattle.viz_base.specs.declared.layouts.LeadEnd.{LeadEnd}
 use Rattle.viz_base.specs.declared.layouts.LeadEnd.TheVariants as of_end
 use Rattle.viz_base.specs.declared.trees.BoxTree.{BoxTree}
 use Rattle.viz_base.specs.declared.worlds.World.{World}
-use Rattle.layout_semantics.specs.Order.{kids_of}
 use Rattle.layout_semantics.specs.Extremes.{greatest_from, least_from}
 use Rattle.layout_semantics.specs.Margins.{collapsed}
 use Rattle.layout_semantics.specs.Floats.{FloatBox}
 use Rattle.layout_semantics.specs.FlowBoxes.{clear_of, is_open_above, may_collapse_through, flow_children, content_band, across}
 use Rattle.layout_semantics.specs.InlineContent.{is_floated_at, has_line}
-use Rattle.layout_semantics.specs.Leads.{Waiting, Leading, clears_something, top_margin, bottom_margin, followed_by, through, child_lead, children_lead, lead_step, lead_to, lead, is_up_to}
+use Rattle.layout_semantics.specs.Leads.{Waiting, Leading, clears_something, top_margin, bottom_margin, followed_by, through, child_lead, children_lead, lead_to, lead, is_up_to}
 use Rattle.layout_semantics.specs.Verticals.{Verticals}
-use Rattle.layout_semantics.specs.Clearance.{Resolved, resolve, resolve_to, resolve_step, is_cleared, bottom_to_clear}
-use Rattle.layout_laws.proofs.PlainLeads.{child_from, box_from, last_of}
+use Rattle.layout_semantics.specs.Clearance.{Resolved, resolve, resolve_to, resolve_step, is_cleared}
+use Rattle.layout_laws.proofs.PlainLeads.{box_from, last_of}
 use Rattle.layout_laws.proofs.ReadyBoxes.{IsReady}
 use Rattle.layout_laws.proofs.ReadyTerms.{ready-verticals}
 

@@ -1,19 +1,12 @@
 -- The used terms of blocks of fixed heights without margins, borders and paddings.
-use Rattle.std.proofs.Common.{◌≡◌, ℕ, zero, suc, ◌+◌, ◌<◌, ◌≤◌, ◌*◌, ℤ, pos, ◌+ℤ◌, ◌-ℤ◌, int_le, Bool, true, false, not, ◌&&◌, ◌||◌, IsTrue, List, [], ◌∷◌, length, slice_get, refl, sym, ap, ◌∙◌, subst, arith, Option, None, Some, cond}
+use Rattle.std.proofs.Common.{◌≡◌, ℕ, ℤ, pos, ◌-ℤ◌, int_le, Bool, true, false, not, ◌&&◌, ◌||◌, IsTrue, refl, sym, ap, ◌∙◌, arith}
 use Rattle.std.specs.Int.{int_max}
-use Rattle.std.specs.Option.{option_map_or}
 use Rattle.std.proofs.lemmas.Int.{ints, clamps}
-use Rattle.viz_base.specs.Trees.{is_floated, is_inline_level}
 use Rattle.viz_base.specs.declared.layouts.Widths.{Widths}
-use Rattle.viz_base.specs.declared.lengths.Length.{Length}
-use Rattle.viz_base.specs.declared.lengths.Length.TheVariants as of_length
-use Rattle.viz_base.specs.declared.trees.BoxNode.{BoxNode}
 use Rattle.viz_base.specs.declared.trees.BoxTree.{BoxTree}
-use Rattle.viz_base.specs.declared.trees.Kind.{Kind}
-use Rattle.viz_base.specs.declared.trees.Kind.TheVariants as of_kind
 use Rattle.viz_base.specs.declared.worlds.World.{World}
-use Rattle.layout_semantics.specs.Blocks.{kind_of, height_of}
-use Rattle.layout_semantics.specs.InlineContent.{is_floated_at, is_inline_level_at, is_zero}
+use Rattle.layout_semantics.specs.Blocks.{height_of}
+use Rattle.layout_semantics.specs.InlineContent.{is_zero}
 use Rattle.layout_semantics.specs.Horizontal.{widths, placing_of, block_flow, held_terms, block_terms, auto_terms, terms_around, sum_of, available, with_margins, again_unless, at_least}
 use Rattle.layout_semantics.specs.Verticals.{Verticals, verticals}
 use Rattle.layout_semantics.specs.FlowBoxes.{is_replaced_at, may_collapse_through, joins_last_child, has_auto_height, has_no_minimum, own_height, is_open_above, is_open_below}

@@ -1,6 +1,6 @@
 -- Normal flow of blocks without floats and clearance: the margins that adjoin (CSS 2.1, 8.3.1, 9.4.1).
 use Rattle.std.specs.Prelude.{◌≡◌, ℕ, zero, suc, ℤ, Bool, true, false, ◌&&◌, List, [], ◌∷◌, ◌++◌, length, fold, slice_get, Some}
-use Rattle.std.specs.List.{list_all, flat_map}
+use Rattle.std.specs.List.{list_all}
 use Rattle.viz_base.specs.declared.layouts.Band.{Band}
 use Rattle.viz_base.specs.declared.styles.Clear.TheVariants as of_clear
 use Rattle.viz_base.specs.declared.trees.BoxTree.{BoxTree}
