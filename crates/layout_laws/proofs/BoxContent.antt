@@ -42,7 +42,7 @@ all_at test (y ∷ ys) x all h = by_place h.0 h.1 h.2 (and_parts (test y) (list_
     by_place zero l e both again = subst (λ z. test z ≡ true) e both.0
     by_place (suc k) l e both again = again both.1 (k, omega (arith, l), e)
 
-is_not : (b : Bool) → not b ≡ true → b ≡ false
+pub is_not : (b : Bool) → not b ≡ true → b ≡ false
 is_not true e = absurd (cc)
 is_not false e = refl
 

@@ -8,8 +8,8 @@ use Rattle.viz_base.specs.declared.trees.BoxTree.{BoxTree}
 use Rattle.viz_base.specs.declared.worlds.World.{World}
 use Rattle.layout_semantics.specs.Order.{kids_of}
 use Rattle.layout_semantics.specs.InlineContent.{Item, start, finish, word, space, atomic, forced, float, Sort, a_float, an_atomic, a_break, a_text, an_inline, sort_of, text_of, text_items, letter_before, character_before, items_to, content, box_of, inner_items, inner_boxes}
-use Rattle.layout_semantics.specs.Replaced.{preferred_replaced}
-use Rattle.layout_semantics.specs.Preferred.{Inside, a_replaced, inline_content, blocks, inside_of, outer_preferred, preferred_inline, preferred_blocks, preferred_to, preferred}
+use Rattle.layout_semantics.specs.Preferred.{inside_of, outer_preferred, preferred_to, preferred}
+use Rattle.layout_laws.specs.Nested.{items_of_sort, box_items, preferred_of_sort}
 use Rattle.layout_semantics.proofs.Forest.{IsForest, IsKid}
 
 -- ---- lists
@@ -61,10 +61,7 @@ text-from boxes at (c ∷ cs) l = by (c == 32) (text_items at cs) (text-from box
     by true items a = (record { from = omega arith; within = l }, a)
     by false items a = before items a
 
-abbrev of_sort : BoxTree → ℕ → List Item → Sort → List Item
-of_sort tree at inside s = elim s [ a_float ↦ float at ∷ [] | an_atomic ↦ atomic at ∷ [] | a_break ↦ forced at ∷ [] | a_text ↦ text_items at (text_of tree at) | an_inline ↦ start at ∷ (inside ++ finish at ∷ []) ]
-
-sort-from : (tree : BoxTree) (at : ℕ) (inside : List Item) (s : Sort) → at < length tree.boxes → ItemsFrom tree.boxes at inside → ItemsFrom tree.boxes at (of_sort tree at inside s)
+sort-from : (tree : BoxTree) (at : ℕ) (inside : List Item) (s : Sort) → at < length tree.boxes → ItemsFrom tree.boxes at inside → ItemsFrom tree.boxes at (items_of_sort tree at inside s)
 sort-from tree at inside a_float l a = (record { from = omega arith; within = l }, tt)
 sort-from tree at inside an_atomic l a = (record { from = omega arith; within = l }, tt)
 sort-from tree at inside a_break l a = (record { from = omega arith; within = l }, tt)
@@ -122,17 +119,10 @@ unfolding items_to
 items-enough zero m tree at t l rn rm = absurd (omega arith)
 items-enough (suc n) zero tree at t l rn rm = absurd (omega arith)
 items-enough (suc n) (suc m) tree at t l rn rm =
-    ap (λ inside. of_sort tree at inside (sort_of tree at))
+    ap (λ inside. items_of_sort tree at inside (sort_of tree at))
     (flat_map-same (items_to n tree) (items_to m tree) (kids_of tree.boxes at)
     (All-implied (IsFrom tree.boxes (suc at)) (λ k. items_to n tree k ≡ items_to m tree k) (kids_of tree.boxes at)
     (λ k f. items-enough n m tree k t f.within (let up = f.from in omega arith) (let up = f.from in omega arith)) (kids-within tree at t)))
-
-abbrev pub of_inside : BoxTree → World → ℕ → List (ℕ × Preferred ℤ) → List (ℕ × Preferred ℤ) → Inside → Preferred ℤ
-of_inside tree w at inner kids s = elim s [
-  | a_replaced ↦ record { least = preferred_replaced tree w at; most = preferred_replaced tree w at }
-  | inline_content ↦ preferred_inline tree w inner (content tree at)
-  | blocks ↦ preferred_blocks tree kids
-]
 
 -- the outer preferred widths of boxes, where this gives what is in them
 abbrev pub outer_by : BoxTree → World → (ℕ → Preferred ℤ) → ℕ → ℕ × Preferred ℤ
@@ -149,11 +139,21 @@ preferred-enough (suc n) (suc m) tree w at t l rn rm =
     (All-implied (IsFrom tree.boxes (suc at)) (λ k. outer_by tree w (preferred_to n tree w) k ≡ outer_by tree w (preferred_to m tree w) k) (inner_boxes tree at) same (inner_boxes-from tree at t)) in
     let kids = map-same (outer_by tree w (preferred_to n tree w)) (outer_by tree w (preferred_to m tree w)) (kids_of tree.boxes at)
     (All-implied (IsFrom tree.boxes (suc at)) (λ k. outer_by tree w (preferred_to n tree w) k ≡ outer_by tree w (preferred_to m tree w) k) (kids_of tree.boxes at) same (kids-within tree at t)) in
-    ap (λ i. of_inside tree w at i (map (outer_by tree w (preferred_to n tree w)) (kids_of tree.boxes at)) (inside_of tree at)) inner
-    ∙ ap (λ k. of_inside tree w at (map (outer_by tree w (preferred_to m tree w)) (inner_boxes tree at)) k (inside_of tree at)) kids
+    ap (λ i. preferred_of_sort tree w at i (map (outer_by tree w (preferred_to n tree w)) (kids_of tree.boxes at)) (inside_of tree at)) inner
+    ∙ ap (λ k. preferred_of_sort tree w at (map (outer_by tree w (preferred_to m tree w)) (inner_boxes tree at)) k (inside_of tree at)) kids
 
 -- the preferred widths of a box by those of the boxes in it
 pub preferred-by-inside : (tree : BoxTree) (w : World) (at : ℕ) → IsForest tree.boxes → at < length tree.boxes
-    → preferred tree w at ≡ of_inside tree w at (map (outer_by tree w (preferred tree w)) (inner_boxes tree at)) (map (outer_by tree w (preferred tree w)) (kids_of tree.boxes at)) (inside_of tree at)
+    → preferred tree w at ≡ preferred_of_sort tree w at (map (outer_by tree w (preferred tree w)) (inner_boxes tree at)) (map (outer_by tree w (preferred tree w)) (kids_of tree.boxes at)) (inside_of tree at)
 unfolding preferred_to
 preferred-by-inside tree w at t l = preferred-enough (length tree.boxes) (suc (length tree.boxes)) tree w at t l (omega arith) (omega arith)
+
+-- ---- one level further on
+
+-- inline content, box by box
+pub content-by-boxes : (tree : BoxTree) (at : ℕ) → IsForest tree.boxes → content tree at ≡ flat_map (box_items tree) (kids_of tree.boxes at)
+unfolding items_to
+content-by-boxes tree at t =
+    flat_map-same (items_to (length tree.boxes) tree) (box_items tree) (kids_of tree.boxes at)
+    (All-implied (IsFrom tree.boxes (suc at)) (λ k. items_to (length tree.boxes) tree k ≡ box_items tree k) (kids_of tree.boxes at)
+    (λ k f. items-enough (length tree.boxes) (suc (length tree.boxes)) tree k t f.within (omega arith) (omega arith)) (kids-within tree at t))

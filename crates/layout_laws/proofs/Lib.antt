@@ -14,6 +14,8 @@ pub mod TextLengths
 pub mod Sorts
 pub mod TreeFacts
 pub mod Whole
+pub mod Reaching
+pub mod Separated
 pub mod Prefixes
 pub mod Greatest
 pub mod Flowing
@@ -41,9 +43,14 @@ pub mod PlainPage
 pub mod LineEntries
 pub mod LineFloats
 pub mod LineStates
+pub mod Upward
+pub mod LineSteps
 pub mod Apart
 pub mod LowestBottoms
 pub mod ReadyBoxes
 pub mod ReadyTerms
 pub mod ReadyLeads
 pub mod ReadyFlow
+pub mod PlacedFloats
+pub mod FlowFloats
+pub mod ContextHeights

@@ -10,15 +10,16 @@ use Rattle.layout_semantics.proofs.Forest.{IsForest-from}
 use Rattle.layout_laws.specs.Greatest.{IsGreatestOf}
 use Rattle.layout_laws.specs.Outer.{outer_widths, unbreakable_widths, piece_widths, child_least_widths, child_most_widths}
 use Rattle.layout_laws.proofs.Greatest.{greatest-is}
-use Rattle.layout_laws.proofs.Levels.{preferred-by-inside, of_inside}
+use Rattle.layout_laws.proofs.Levels.{preferred-by-inside}
+use Rattle.layout_laws.specs.Nested.{preferred_of_sort}
 
-by_sort : (tree : BoxTree) (w : World) (at : ℕ) → at < length tree.boxes
-    → preferred tree w at ≡ of_inside tree w at (outer_widths tree w (inner_boxes tree at)) (outer_widths tree w (kids_of tree.boxes at)) (inside_of tree at)
+pub by_sort : (tree : BoxTree) (w : World) (at : ℕ) → at < length tree.boxes
+    → preferred tree w at ≡ preferred_of_sort tree w at (outer_widths tree w (inner_boxes tree at)) (outer_widths tree w (kids_of tree.boxes at)) (inside_of tree at)
 by_sort tree w at l = preferred-by-inside tree w at (IsForest-from tree.boxes tree.styles tree.fonts tree.parents tree.ok) l
 
 with_sort : (tree : BoxTree) (w : World) (at : ℕ) (s : Inside) → at < length tree.boxes → inside_of tree at ≡ s
-    → preferred tree w at ≡ of_inside tree w at (outer_widths tree w (inner_boxes tree at)) (outer_widths tree w (kids_of tree.boxes at)) s
-with_sort tree w at s l e = by_sort tree w at l ∙ ap (of_inside tree w at (outer_widths tree w (inner_boxes tree at)) (outer_widths tree w (kids_of tree.boxes at))) e
+    → preferred tree w at ≡ preferred_of_sort tree w at (outer_widths tree w (inner_boxes tree at)) (outer_widths tree w (kids_of tree.boxes at)) s
+with_sort tree w at s l e = by_sort tree w at l ∙ ap (preferred_of_sort tree w at (outer_widths tree w (inner_boxes tree at)) (outer_widths tree w (kids_of tree.boxes at))) e
 
 pub inline-widths : (tree : BoxTree) (w : World) (at : ℕ) → at < length tree.boxes → inside_of tree at ≡ inline_content
     → IsGreatestOf (unbreakable_widths tree w at) (preferred tree w at).least × IsGreatestOf (piece_widths tree w at) (preferred tree w at).most

@@ -97,6 +97,12 @@ inline_content styles c Level.floated is_root body s e v k b n =
 inline_content styles c Level.inline is_root body s e v k b n =
     or_second (is_floated styles c) (is_inline_level c) (subst (λ (kind : Kind). is_inline_level (record c { kind = kind }) ≡ true) (sym k) (inline_sort c body s.display b))
 
+inline_level : (c : BoxNode) (l : Level) (body : Body) (d : Display) → is_block_level l ≡ false → is_floated_level l ≡ false
+    → c.kind ≡ (if is_replaced body then of_kind.Replaced else level_kind l body d) → c.block_level ≡ (is_block_level l || is_floated_level l) → is_inline_level c ≡ true
+inline_level c Level.block body d n f k b = absurd (cc)
+inline_level c Level.floated body d n f k b = absurd (cc)
+inline_level c Level.inline body d n f k b = subst (λ (kind : Kind). is_inline_level (record c { kind = kind }) ≡ true) (sym k) (inline_sort c body d b)
+
 -- ---- runs
 
 not_true : (b : Bool) → (b ≡ true → ⊥) → b ≡ false
@@ -204,6 +210,15 @@ module _ (nodes : List Node) (styles : List Style) (page : IsPage nodes) where
       inline_content (tree_styles nodes styles) (own_box (items_of (page_parts nodes styles)) y) y.part.level (y.part.node == 0) k.entry.body k.style k.style_is level
       (kind ∙ ap (λ (l : Level). if is_replaced k.entry.body then of_kind.Replaced else level_kind l k.entry.body k.style.display) (sym level)) refl n
 
+  -- one that does not float either is inline-level
+  pub own_inline_level : (y : Item) → In y (items_of (page_parts nodes styles)) → is_block_level y.part.level ≡ false → is_floated_level y.part.level ≡ false → is_inline_level (own_box (items_of (page_parts nodes styles)) y) ≡ true
+  own_inline_level y i n f =
+      let k = item_known nodes styles page y i in
+      let level : y.part.level ≡ level_of (y.part.node == 0) k.entry.body k.style = ap (λ (p : Part). p.level) k.is in
+      let kind : y.part.kind ≡ kind_of_node (y.part.node == 0) k.entry.body k.style = ap (λ (p : Part). p.kind) k.is in
+      inline_level (own_box (items_of (page_parts nodes styles)) y) y.part.level k.entry.body k.style.display n f
+      (kind ∙ ap (λ (l : Level). if is_replaced k.entry.body then of_kind.Replaced else level_kind l k.entry.body k.style.display) (sym level)) refl
+
   -- with a block among its siblings, a part in no run is a block or a float
   block_beside : (y : Item) (n : ℕ) → In y (items_of (page_parts nodes styles)) → y.part.parent ≡ Some n → y.run ≡ None → list_any is_block_part (parts_in (page_parts nodes styles) n) ≡ true
       → (is_block_level y.part.level || is_floated_level y.part.level) ≡ true
@@ -222,7 +237,7 @@ module _ (nodes : List Node) (styles : List Style) (page : IsPage nodes) where
           absurd (cc)
 
   -- the parts in a run are no blocks
-  run_no_block : (x : Item) (run : List ℕ) → In x (items_of (page_parts nodes styles)) → x.run ≡ Some run → is_block_level x.part.level ≡ false
+  pub run_no_block : (x : Item) (run : List ℕ) → In x (items_of (page_parts nodes styles)) → x.run ≡ Some run → is_block_level x.part.level ≡ false
   run_no_block x run i e =
       let parent = run_parent (page_parts nodes styles) x run i e in
       let kids = parts_in (page_parts nodes styles) parent.0 in

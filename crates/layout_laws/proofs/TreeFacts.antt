@@ -39,11 +39,11 @@ length_zip [] (y ∷ ys) e = absurd (omega (arith, e))
 length_zip (x ∷ xs) [] e = absurd (omega (arith, e))
 length_zip (x ∷ xs) (y ∷ ys) e = ap suc (length_zip xs ys (omega (arith, e)))
 
-length_enumerated : {A : Type 0} (k : ℕ) (xs : List A) → length (enumerate_from k xs) ≡ length xs
+pub length_enumerated : {A : Type 0} (k : ℕ) (xs : List A) → length (enumerate_from k xs) ≡ length xs
 length_enumerated k [] = refl
 length_enumerated k (x ∷ xs) = ap suc (length_enumerated (k + 1) xs)
 
-length_mapped : {A B : Type 0} (f : A → B) (xs : List A) → length (map f xs) ≡ length xs
+pub length_mapped : {A B : Type 0} (f : A → B) (xs : List A) → length (map f xs) ≡ length xs
 length_mapped f [] = refl
 length_mapped f (x ∷ xs) = ap suc (length_mapped f xs)
 
@@ -94,14 +94,14 @@ in_slice [] x i = elim i [ ]
 in_slice (x ∷ xs) _ In.here = (0, refl)
 in_slice (y ∷ xs) x (In.there i) = let r = in_slice xs x i in (suc r.0, r.1)
 
-slice_in : {A : Type 0} (xs : List A) (k : ℕ) (x : A) → slice_get xs k ≡ Some x → In x xs
+pub slice_in : {A : Type 0} (xs : List A) (k : ℕ) (x : A) → slice_get xs k ≡ Some x → In x xs
 slice_in [] k x e = absurd (cc)
 slice_in {A} (y ∷ xs) zero x e = let same : y ≡ x = cc in subst (λ (z : A). In z (y ∷ xs)) same In.here
 slice_in (y ∷ xs) (suc k) x e = In.there (slice_in xs k x e)
 
 -- ---- the root
 
-one_at_least : (b : Bool) → 1 ≤ (if b then 2 else 1)
+pub one_at_least : (b : Bool) → 1 ≤ (if b then 2 else 1)
 one_at_least true = omega arith
 one_at_least false = omega arith
 

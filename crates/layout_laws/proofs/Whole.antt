@@ -33,7 +33,7 @@ use Rattle.layout_laws.proofs.Sorts.{run_in}
 
 -- ---- lists
 
-contains_from : (xs : List ℕ) (x : ℕ) → In x xs → Contains xs x
+pub contains_from : (xs : List ℕ) (x : ℕ) → In x xs → Contains xs x
 contains_from [] x i = elim i [ ]
 contains_from (x ∷ xs) _ In.here = (0, omega arith, refl)
 contains_from (y ∷ xs) x (In.there i) = let r = contains_from xs x i in let l = r.1 in (suc r.0, omega (arith, l), r.2)

@@ -11,5 +11,9 @@ pub mod FloatRules
 pub mod Margins
 pub mod Bands
 pub mod PlainFlow
+pub mod Apart
 pub mod LineStacks
+pub mod Nested
 pub mod Clearance
+pub mod PlacedFloats
+pub mod Heights

@@ -1,12 +1,13 @@
 ghost use Rattle.std.specs.Prelude.{◌≡◌, ◌≢◌, ◌<◌, ℕ, true, false, IsTrue, [], length, slice_get, Contains, Some, is_some};
 ghost use Rattle.viz_base.specs.Pages.{is_element_at};
-ghost use Rattle.viz_base.specs.Trees.{IsBoxTree, ascends, has_box, is_anon, is_chars, is_leaf, is_replaced};
+ghost use Rattle.viz_base.specs.Trees.{IsBoxTree, ascends, has_box, is_anon, is_chars, is_inline_level, is_leaf, is_replaced};
 ghost use Rattle.viz_base.specs.declared.trees.BoxNode.{BoxNode};
 ghost use Rattle.layout_semantics.specs.Blocks.{parent_of};
 ghost use Rattle.layout_semantics.specs.Elements.{ancestors, is_closed, is_hidden, is_shown, node_passes};
 ghost use Rattle.layout_semantics.specs.Order.{kids_of, IsOnPage};
 ghost use Rattle.layout_semantics.specs.BoxTrees.{page_boxes, page_parts, tree_parents, tree_styles};
 ghost use Rattle.layout_semantics.specs.Refusals.{blocks_in_inlines};
+ghost use Rattle.layout_laws.specs.Apart.{IsBlockBetween};
 ghost use Rattle.layout_laws.specs.Styled.{AreStylesOf};
 
 use viz_base::{Font, List, Page, Style};
@@ -91,6 +92,27 @@ pub fn replaced_boxes_alone_have_a_size(page: &Page, styles: &List<Style>, at: u
 /// Text boxes, forced line breaks and replaced boxes hold no boxes.
 pub fn leaves_hold_no_box(page: &Page, styles: &List<Style>, at: usize)
     ensures { (b : BoxNode) → slice_get (page_boxes page.now.nodes styles.now) at ≡ Some b → IsTrue (is_leaf b.kind) → b.kids ≡ [] }
+{}
+
+/// An anonymous block box holds an inline-level box: floats alone get none (CSS 2.1, 9.2.1.1).
+pub fn an_anonymous_block_holds_an_inline_level_box(page: &Page, styles: &List<Style>, at: usize)
+    ensures { (b : BoxNode) → slice_get (page_boxes page.now.nodes styles.now) at ≡ Some b → is_anon b.kind ≡ true
+        → (k : ℕ) × (c : BoxNode) × Contains b.kids k × (slice_get (page_boxes page.now.nodes styles.now) k ≡ Some c) × (is_inline_level c ≡ true) }
+{}
+
+/// Anonymous block boxes hold whole runs: between two of them in one box stands a block-level box in normal flow
+/// (CSS 2.1, 9.2.1.1).
+pub fn a_block_stands_between_two_anonymous_blocks(
+    page: &Page,
+    styles: &List<Style>,
+    at: usize,
+    first: usize,
+    second: usize,
+)
+    requires { first < second }
+    ensures { (b c d : BoxNode) → slice_get (page_boxes page.now.nodes styles.now) at ≡ Some b → Contains b.kids first → Contains b.kids second
+        → slice_get (page_boxes page.now.nodes styles.now) first ≡ Some c → slice_get (page_boxes page.now.nodes styles.now) second ≡ Some d → is_anon c.kind ≡ true → is_anon d.kind ≡ true
+        → IsBlockBetween (tree_styles page.now.nodes styles.now) (page_boxes page.now.nodes styles.now) b.kids first second }
 {}
 
 /// Where no block-level box in normal flow is in an inline box, the boxes of a page and its styles are a box tree: each

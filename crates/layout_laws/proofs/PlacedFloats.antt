@@ -1,0 +1,132 @@
+-- Floats are placed one after another by the rules, in lines and in flow.
+use Rattle.std.proofs.Common.{◌≡◌, ℕ, zero, suc, ◌<◌, ℤ, ◌+ℤ◌, ◌≤ℤ◌, Bool, true, false, ◌&&◌, ◌==◌, List, [], ◌∷◌, ◌++◌, length, drop, fold, slice_get, slice_index_or, Option, Some, None, MatchOption, refl, ap, subst, inl, inr, ◌⊎◌, arith}
+use Rattle.std.specs.List.{list_any}
+use Rattle.std.specs.Option.{option_map_or}
+use Rattle.std.specs.Ordering.{int_eq}
+use Rattle.std.specs.Int.{int_max}
+use Rattle.viz_base.specs.declared.layouts.Band.{Band}
+use Rattle.viz_base.specs.declared.layouts.Extent.{Extent}
+use Rattle.viz_base.specs.declared.styles.Side.{Side}
+use Rattle.viz_base.specs.declared.styles.Side.TheVariants as of_side
+use Rattle.layout_semantics.specs.Floats.{FloatBox, placed_float, float_at, band_at}
+use Rattle.layout_semantics.specs.InlineContent.{Item, content, float_boxes, makes_line}
+use Rattle.layout_semantics.specs.Stretches.{stretches}
+use Rattle.layout_semantics.specs.LineHeights.{InlineContext, line_extent, height_of_extent, extended_boxes, tallest}
+use Rattle.layout_semantics.specs.LineFilling.{Met, Line, side_of, float_size, top_allowed, float_spot, with_float, place_each, fits, meet, met_after, floats_met, first_items, width_held, stretches_held, before_line}
+use Rattle.layout_semantics.specs.Lines.{SoFar, next_line, after_line, after_no_line, after_stretches, lines_to, lines_in}
+use Rattle.layout_laws.specs.FloatRules.{ObeysRules}
+use Rattle.layout_laws.proofs.Among.{Among, contains}
+use Rattle.layout_laws.proofs.Apart.{apart}
+use Rattle.layout_laws.proofs.FloatPlaces.{highest_obeys}
+use Rattle.layout_laws.specs.PlacedFloats.{ArePlacedAfter, none, next, IsClearOf, AreClear}
+
+-- ---- lines
+
+module _ (c : InlineContext) (before : List FloatBox) where
+  abbrev Placed : List FloatBox → Type 0
+  Placed floats = ArePlacedAfter before floats
+
+  one : (met : Met) (least y : ℤ) (at : ℕ) → Placed met.floats → Placed (with_float c met at (float_spot c met.floats least y at)).floats
+  one met least y at h = next met.floats (side_of c.tree at) (float_size c at) c.cb (top_allowed c met.floats least y at) h
+
+  each : (least y : ℤ) (met : Met) (boxes : List ℕ) → Placed met.floats → Placed (place_each c least y met boxes).floats
+  each least y met [] h = h
+  each least y met (at ∷ boxes) h = each least y (with_float c met at (float_spot c met.floats least y at)) boxes (one met least y at h)
+
+  module _ (line : Line) where
+    meet_one : (held : ℤ) (met : Met) (at : ℕ) → Placed met.floats → Placed (meet c line held met at).floats
+    meet_one held met at h =
+        let spot = float_spot c met.floats line.least line.top at in
+        by ((length met.waiting == 0) && int_eq spot.y line.top && fits held (band_at (with_float c met at spot).floats c.cb line.top line.tall)) (one met line.least line.top at h)
+      where
+        by : (b : Bool) → Placed (with_float c met at (float_spot c met.floats line.least line.top at)).floats
+            → Placed (elim b as (λ (x : Bool). Met) [ true ↦ with_float c met at (float_spot c met.floats line.least line.top at) | false ↦ record met { waiting = met.waiting ++ at ∷ [] } ]).floats
+        by true placed = placed
+        by false placed = h
+
+    meet_all : (held : ℤ) (met : Met) (boxes : List ℕ) → Placed met.floats → Placed (fold (meet c line held) met boxes).floats
+    meet_all held met [] h = h
+    meet_all held met (at ∷ boxes) h = meet_all held (meet c line held met at) boxes (meet_one held met at h)
+
+    met_placed : (n : ℕ) → Placed line.before.floats → Placed (met_after c line n).floats
+    met_placed zero h = h
+    met_placed (suc n) h = meet_all (width_held c (first_items line (suc n))) (met_after c line n) (floats_met c.tree n (slice_index_or line.parts n [])) (met_placed n h)
+
+    after_placed : (now : SoFar) (n : ℕ) → Placed now.floats → Placed line.before.floats → Placed (after_stretches c now line n).floats
+    after_placed now n h b = by (list_any (makes_line c.tree) (first_items line n))
+        (let items = first_items line n in let met = met_after c line n in
+        each (int_max now.least line.top) (line.top +ℤ height_of_extent (line_extent c (now.opened ++ extended_boxes items))) (record met { waiting = [] }) met.waiting (met_placed n b))
+        (each now.least now.y (record { spots = []; floats = now.floats; waiting = [] }) (float_boxes (first_items line n)) h)
+      where
+        by : (b : Bool) → Placed (after_line c now line (first_items line n) (met_after c line n)).floats → Placed (after_no_line c now (first_items line n)).floats
+            → Placed (elim b as (λ (x : Bool). SoFar) [ true ↦ after_line c now line (first_items line n) (met_after c line n) | false ↦ after_no_line c now (first_items line n) ]).floats
+        by true there not_there = there
+        by false there not_there = not_there
+
+  lines_placed : (lines : ℕ) (now : SoFar) (parts : List (List Item)) → Placed now.floats → Placed (lines_to lines c (tallest c) now parts).floats
+  unfolding lines_to
+  lines_placed zero now parts h = h
+  lines_placed (suc lines) now [] h = h
+  lines_placed (suc lines) now (first ∷ parts) h =
+      let line = next_line c (tallest c) now first (first ∷ parts) in
+      let n = stretches_held c line in
+      lines_placed lines (after_stretches c now line n) (drop n (first ∷ parts))
+      (after_placed line now n h (each now.least now.y (record { spots = []; floats = now.floats; waiting = [] }) (float_boxes (before_line c.tree first)) h))
+
+pub of_lines : (c : InlineContext) (y least : ℤ) (floats : List FloatBox) → ArePlacedAfter floats (lines_in c y least floats).floats
+of_lines c y least floats = lines_placed c floats (length (stretches c.tree (content c.tree c.container))) (record { y = y; least = least; floats = floats; opened = []; baseline = None; entries = [] }) (stretches c.tree (content c.tree c.container)) none
+
+-- ---- floats that are placed so are clear of those before them
+
+none_some : {A : Type 0} {x : A} → None ≡ Some x → ⊥
+none_some {A} e = subst (λ (o : Option A). MatchOption o (Unit {0}) (λ y. ⊥)) e tt
+
+some_same : {A : Type 0} (x y : A) → Some x ≡ Some y → x ≡ y
+some_same {A} x y e = ap (λ (o : Option A). option_map_or (λ v. v) o x) e
+
+get_among : (xs : List FloatBox) (i : ℕ) (f : FloatBox) → slice_get xs i ≡ Some f → Among xs f
+get_among [] i f e = absurd (none_some e)
+get_among (x ∷ xs) zero f e = inl (some_same x f e)
+get_among (x ∷ xs) (suc i) f e = inr (get_among xs i f e)
+
+get_below : (xs : List FloatBox) (i : ℕ) (f : FloatBox) → slice_get xs i ≡ Some f → i < length xs
+get_below [] i f e = absurd (none_some e)
+get_below (x ∷ xs) zero f e = omega arith
+get_below (x ∷ xs) (suc i) f e = let rest = get_below xs i f e in omega arith
+
+get_append : (xs : List FloatBox) (x : FloatBox) (i : ℕ) (f : FloatBox) → slice_get (xs ++ x ∷ []) i ≡ Some f → (slice_get xs i ≡ Some f) ⊎ ((i ≡ length xs) × (x ≡ f))
+get_append [] x zero f e = inr (refl, some_same x f e)
+get_append [] x (suc i) f e = absurd (none_some e)
+get_append (y ∷ xs) x zero f e = inl e
+get_append (y ∷ xs) x (suc i) f e = by (get_append xs x i f e)
+  where
+    by : ((slice_get xs i ≡ Some f) ⊎ ((i ≡ length xs) × (x ≡ f))) → (slice_get xs i ≡ Some f) ⊎ ((suc i ≡ length (y ∷ xs)) × (x ≡ f))
+    by (inl g) = inl g
+    by (inr g) = inr (ap suc g.0, g.1)
+
+-- a float at its place is clear of each earlier one
+clear_of_each : (floats : List FloatBox) (side : Side) (size : Extent ℤ) (cb : Band ℤ) (top : ℤ) (f : FloatBox) → Among floats f → IsClearOf (placed_float side size (float_at floats side size cb top)) f
+clear_of_each floats side size cb top f i = record {
+  apart = apart floats size cb top (float_at floats side size cb top) side obeys f (contains floats f i);
+  not_above = low side obeys;
+}
+  where
+    obeys : ObeysRules floats side size.width cb top (float_at floats side size cb top)
+    obeys = highest_obeys floats size.width cb top side
+
+    low : (s : Side) → ObeysRules floats s size.width cb top (float_at floats side size cb top) → f.box.top ≤ℤ (float_at floats side size cb top).y
+    low of_side.Left o = o.low_enough.below_floats f (contains floats f i)
+    low of_side.Right o = o.low_enough.below_floats f (contains floats f i)
+
+clear_more : (floats : List FloatBox) (g : FloatBox) → AreClear floats → ((f : FloatBox) → Among floats f → IsClearOf g f) → AreClear (floats ++ g ∷ [])
+clear_more floats g h each i j a b l ea eb = by (get_append floats g j b eb) (get_append floats g i a ea)
+  where
+    by : ((slice_get floats j ≡ Some b) ⊎ ((j ≡ length floats) × (g ≡ b))) → ((slice_get floats i ≡ Some a) ⊎ ((i ≡ length floats) × (g ≡ a))) → IsClearOf b a
+    by (inl eb) (inl ea) = h i j a b l ea eb
+    by (inl eb) (inr ea) = absurd (let t = get_below floats j b eb in omega (arith, ea.0))
+    by (inr eb) (inl ea) = subst (λ (z : FloatBox). IsClearOf z a) eb.1 (each a (get_among floats i a ea))
+    by (inr eb) (inr ea) = absurd (omega (arith, ea.0, eb.0))
+
+pub are_clear : (floats : List FloatBox) → ArePlacedAfter [] floats → AreClear floats
+are_clear floats none = λ i j a b l ea eb. absurd (none_some ea)
+are_clear floats (next before side size cb top h) = clear_more before (placed_float side size (float_at before side size cb top)) (are_clear before h) (clear_of_each before side size cb top)

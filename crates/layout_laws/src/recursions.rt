@@ -1,0 +1,47 @@
+ghost use Rattle.std.specs.Prelude.{◌≡◌, ◌<◌, ℕ, List, [], ◌∷◌, length};
+ghost use Rattle.std.specs.List.{flat_map};
+ghost use Rattle.layout_semantics.specs.Order.{kids_of, IsOnPage};
+ghost use Rattle.layout_semantics.specs.DefiniteHeights.{percentage_container, definite_height};
+ghost use Rattle.layout_semantics.specs.InlineContent.{Item, content};
+ghost use Rattle.layout_semantics.specs.Preferred.{preferred};
+ghost use Rattle.layout_semantics.specs.LineHeights.{InlineContext, LineExtent, shift, tallest};
+ghost use Rattle.layout_semantics.specs.Lines.{SoFar, after_next};
+ghost use Rattle.layout_laws.specs.Nested.{box_items, preferred_by_inside, container_by_parent, definite_height_by_container, shift_by_parent, lines_of};
+
+use viz_base::{BoxTree, World};
+
+/// Inline content is that of the boxes in a box, one after another; an inline box has its own between its start and its end
+/// (CSS 2.1, 9.4.2).
+pub fn inline_content_box_by_box(tree: &BoxTree, at: usize)
+    ensures { content tree.now at ≡ flat_map (box_items tree.now) (kids_of tree.now.boxes at) }
+{}
+
+/// The preferred widths of a box come from the outer ones of the boxes in it (CSS 2.1, 10.3.5; our own reading).
+pub fn preferred_widths_come_from_inside(tree: &BoxTree, world: World, at: usize)
+    requires within { at < length tree.now.boxes }
+    ensures { preferred tree.now world at ≡ preferred_by_inside tree.now world at }
+{}
+
+/// The box whose height percentages are of is the parent, but an inline box and an anonymous block are passed over (CSS 2.1, 9.2.1.1, 10.5).
+pub fn percentages_of_heights_are_of_the_container(tree: &BoxTree, at: usize)
+    requires on_page { IsOnPage tree.now.boxes at }
+    ensures { percentage_container tree.now at ≡ container_by_parent tree.now at }
+{}
+
+/// A definite height is the container's own, where that is one, in turn by the definite height around it; the viewport's is definite
+/// (CSS 2.1, 10.5).
+pub fn a_definite_height_is_the_containers(tree: &BoxTree, world: World, height: u32, at: usize)
+    requires on_page { IsOnPage tree.now.boxes at }
+    ensures { definite_height tree.now world height at ≡ definite_height_by_container tree.now world height at }
+{}
+
+/// A box of a line is raised by its own `vertical-align` and as the inline box around it is (CSS 2.1, 10.8.1).
+pub fn raises_add_up()
+    ensures { (c : InlineContext) (at : ℕ) (e : LineExtent) → IsOnPage c.tree.boxes at → shift c at e ≡ shift_by_parent c at e }
+{}
+
+/// Lines follow one another until no stretch is left.
+pub fn lines_go_on_to_the_last_stretch()
+    ensures done { (c : InlineContext) (now : SoFar) → lines_of c now [] ≡ now }
+    ensures next { (c : InlineContext) (now : SoFar) (first : List Item) (parts : List (List Item)) → lines_of c now (first ∷ parts) ≡ lines_of c (after_next c (tallest c) now first (first ∷ parts)).0 (after_next c (tallest c) now first (first ∷ parts)).1 }
+{}
