@@ -54,3 +54,5 @@ pub mod ReadyFlow
 pub mod PlacedFloats
 pub mod FlowFloats
 pub mod ContextHeights
+pub mod WholeItems
+pub mod WholeFloats
