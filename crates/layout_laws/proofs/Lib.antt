@@ -56,3 +56,4 @@ pub mod FlowFloats
 pub mod ContextHeights
 pub mod WholeItems
 pub mod WholeFloats
+pub mod WholeLines
