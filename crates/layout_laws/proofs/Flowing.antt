@@ -39,7 +39,7 @@ replaced_holds_none tree b e = by_box (slice_get tree.boxes b) refl e
     by_box (Some x) e t = by_kind x.kind x.kids t (tree.ok.each b x e).leaf
 
 -- lists of lists of lists
-flat_map-twice : {A B C : Type 0} (f : A → List B) (g : B → List C) (xs : List A) → flat_map g (flat_map f xs) ≡ flat_map (λ x. flat_map g (f x)) xs
+pub flat_map-twice : {A B C : Type 0} (f : A → List B) (g : B → List C) (xs : List A) → flat_map g (flat_map f xs) ≡ flat_map (λ x. flat_map g (f x)) xs
 flat_map-twice f g [] = refl
 flat_map-twice {A} {B} {C} f g (x ∷ xs) = flat_map-append g (f x) (flat_map f xs) ∙ ap (λ (l : List C). flat_map g (f x) ++ l) (flat_map-twice f g xs)
 

@@ -57,3 +57,4 @@ pub mod ContextHeights
 pub mod WholeItems
 pub mod WholeFloats
 pub mod WholeLines
+pub mod WholePage
