@@ -1,12 +1,11 @@
 -- The floats in lines: each of them is placed, at once or below the line.
-use Rattle.std.proofs.Common.{◌≡◌, ℕ, zero, suc, ◌+◌, ◌-◌, ◌<◌, ◌≤◌, ℤ, Bool, true, false, ◌||◌, ◌&&◌, ◌==◌, ◌⊎◌, inl, inr, List, [], ◌∷◌, ◌++◌, length, take, drop, fold, flat_map, slice_index_or, refl, sym, ap, ◌∙◌, subst, arith, append-nil, append_assoc, eqb-true, eq-eqb}
-use Rattle.std.specs.List.{list_any, AllByRecursion, before_first, position_or_len}
+use Rattle.std.proofs.Common.{◌≡◌, ℕ, zero, suc, ◌<◌, ◌≤◌, ℤ, Bool, true, false, ◌||◌, ◌&&◌, ◌==◌, ◌⊎◌, inl, inr, List, [], ◌∷◌, ◌++◌, length, take, drop, fold, flat_map, slice_index_or, refl, sym, ap, ◌∙◌, subst, arith, append-nil, append_assoc, eqb-true, eq-eqb}
+use Rattle.std.specs.List.{list_any, AllByRecursion, position_or_len}
 use Rattle.std.specs.Ordering.{int_eq}
 use Rattle.std.proofs.lemmas.Grind.{flat_map-append}
-use Rattle.std.proofs.lemmas.List.{take-append-drop}
 use Rattle.viz_base.specs.declared.layouts.Spot.{Spot}
 use Rattle.viz_base.specs.declared.trees.BoxTree.{BoxTree}
-use Rattle.layout_semantics.specs.InlineContent.{Item, float_boxes, makes_line}
+use Rattle.layout_semantics.specs.InlineContent.{Item, makes_line}
 use Rattle.layout_semantics.specs.Floats.{band_at}
 use Rattle.layout_semantics.specs.LineHeights.{InlineContext}
 use Rattle.layout_semantics.specs.LineFilling.{Met, Line, float_spot, with_float, place_each, fits, meet, met_after, floats_met, first_items, joined, before_line, from_line_on, width_held}

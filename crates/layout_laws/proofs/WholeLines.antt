@@ -1,5 +1,5 @@
 -- The entries of lines: besides lines and fragments, each float and each atomic box of the content once, in order.
-use Rattle.std.proofs.Common.{◌≡◌, ℕ, zero, suc, ◌+◌, ◌-◌, ◌<◌, ◌≤◌, ℤ, ◌+ℤ◌, Bool, true, false, ◌||◌, ◌==◌, cond, List, [], ◌∷◌, ◌++◌, map, filter, length, take, drop, flat_map, length-drop, refl, sym, ap, ◌∙◌, subst, arith, append-nil, append_assoc, Option, None, Some}
+use Rattle.std.proofs.Common.{◌≡◌, ℕ, zero, suc, ◌-◌, ◌≤◌, ℤ, ◌+ℤ◌, Bool, true, false, ◌||◌, ◌==◌, cond, List, [], ◌∷◌, ◌++◌, map, filter, length, take, drop, flat_map, length-drop, refl, sym, ap, ◌∙◌, subst, arith, append-nil, append_assoc, None, Some}
 use Rattle.std.specs.Prelude.{find}
 use Rattle.std.specs.List.{list_any, AllByRecursion, prefix_len, range_with_len}
 use Rattle.std.specs.Int.{int_max}
@@ -9,7 +9,6 @@ use Rattle.std.proofs.lemmas.List.{take-append-drop}
 use Rattle.viz_base.specs.declared.layouts.Band.{Band}
 use Rattle.viz_base.specs.declared.layouts.Inner.{Inner}
 use Rattle.viz_base.specs.declared.layouts.Spot.{Spot}
-use Rattle.viz_base.specs.declared.renderings.Placed.{Placed}
 use Rattle.viz_base.specs.declared.trees.BoxTree.{BoxTree}
 use Rattle.viz_base.specs.declared.trees.Kind.{Kind}
 use Rattle.viz_base.specs.declared.worlds.World.{World}
@@ -19,8 +18,8 @@ use Rattle.layout_semantics.specs.InlineContent.{Item, start, finish, word, spac
 use Rattle.layout_semantics.specs.Stretches.{stretches, is_break, what_stays}
 use Rattle.layout_semantics.specs.LineHeights.{InlineContext, line_extent, extended_boxes, height_of_extent, tallest}
 use Rattle.layout_semantics.specs.LineFilling.{Met, Line, item_width, width_held, place_each, joined, first_items, before_line, met_after, may_hold, stretches_held}
-use Rattle.layout_semantics.specs.Fragments.{Entry, here, goes, ItemPlace, SetLine, set_out, is_text_of, text_fragment, text_entry, inline_fragment, item_entries, entries_after, line_entries, float_entry, atomic_entry}
-use Rattle.layout_semantics.specs.Lines.{SoFar, LineList, next_line, line_box, content_left, set_line, after_line, after_no_line, after_stretches, after_next, lines_to, lines_in, lines}
+use Rattle.layout_semantics.specs.Fragments.{Entry, here, goes, ItemPlace, SetLine, set_out, is_text_of, text_fragment, text_entry, inline_fragment, entries_after, line_entries, float_entry, atomic_entry}
+use Rattle.layout_semantics.specs.Lines.{SoFar, next_line, line_box, content_left, set_line, after_line, after_no_line, after_stretches, lines_to, lines}
 use Rattle.layout_laws.specs.Entries.{named_by, is_whole}
 use Rattle.layout_laws.proofs.Prefixes.{prefix-within}
 use Rattle.layout_laws.proofs.Cuts.{cut-joined}

@@ -1,16 +1,25 @@
-ghost use Rattle.std.specs.Prelude.{◌≡◌, ◌⊎◌, ◌<◌, ◌+ℤ◌, ℕ, ℤ, List, ◌∷◌, ◌++◌, map, IsTrue, true, false};
+ghost use Rattle.std.specs.Prelude.{◌≡◌, ◌⊎◌, ◌<◌, ◌+ℤ◌, ℕ, ℤ, List, ◌∷◌, ◌++◌, map, filter, IsTrue, true, false};
 ghost use Rattle.std.specs.List.{list_all, flat_map};
 ghost use Rattle.viz_base.specs.declared.renderings.Placed.{Placed};
+ghost use Rattle.layout_semantics.specs.Blocks.{kind_of};
 ghost use Rattle.layout_semantics.specs.Order.{kids_of, page_order};
 ghost use Rattle.layout_semantics.specs.FlowBoxes.{is_open_above};
 ghost use Rattle.layout_semantics.specs.Margins.{collapsed};
 ghost use Rattle.layout_semantics.specs.Page.{page_rendering};
 ghost use Rattle.layout_semantics.specs.Ready.{ready};
 ghost use Rattle.layout_semantics.specs.Rendering.{rendering};
-ghost use Rattle.layout_laws.specs.Entries.{named_by, name_of, holds_blocks_alone};
+ghost use Rattle.layout_laws.specs.Entries.{named_by, name_of, holds_blocks_alone, is_whole};
 ghost use Rattle.layout_laws.specs.PlainFlow.{HasPlainBlocks, IsEntryOf, content_of, leading, all_margins, collapses, trailing};
 
 use viz_base::{BoxTree, World};
+
+/// Whatever the page, each of its boxes has one entry, in document order, but for inline boxes and texts, which are cut at the ends of
+/// lines, and forced breaks; the other entries are those of lines and of the pieces of inline boxes and texts (CSS 2.1, 9.2.1, 9.2.2, 9.4,
+/// 9.5).
+pub fn each_whole_box_has_one_entry(tree: &BoxTree, world: World, height: u32)
+    ensures { map named_by (filter (λ (p : Placed ℤ). is_whole p.kind) (page_rendering tree.now world height).boxes)
+        ≡ map (name_of tree.now) (filter (λ k. is_whole (kind_of tree.now k)) (page_order tree.now.boxes)) }
+{}
 
 /// A page whose boxes are blocks and floats has one entry for each of them, in document order (CSS 2.1, 9.2.1, 9.4.1, 9.5).
 pub fn each_box_has_one_entry(tree: &BoxTree, world: World, height: u32)
