@@ -18,6 +18,8 @@ pub mod Reaching
 pub mod Separated
 pub mod Prefixes
 pub mod Greatest
+pub mod Flowing
+pub mod Entries
 pub mod Levels
 pub mod PreferredWidths
 pub mod HorizontalTerms
@@ -32,6 +34,12 @@ pub mod Beside
 pub mod Truths
 pub mod Bands
 pub mod Collapsed
+pub mod PlainLeads
+pub mod PlainLevels
+pub mod PlainSteps
+pub mod PlainTraces
+pub mod PlainLaws
+pub mod PlainPage
 pub mod LineEntries
 pub mod LineFloats
 pub mod LineStates
@@ -39,6 +47,14 @@ pub mod Upward
 pub mod LineSteps
 pub mod Apart
 pub mod LowestBottoms
+pub mod ReadyBoxes
+pub mod ReadyTerms
+pub mod ReadyLeads
+pub mod ReadyFlow
 pub mod PlacedFloats
 pub mod FlowFloats
 pub mod ContextHeights
+pub mod WholeItems
+pub mod WholeFloats
+pub mod WholeLines
+pub mod WholePage

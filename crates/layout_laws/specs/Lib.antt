@@ -1,4 +1,5 @@
 pub mod Greatest
+pub mod Entries
 pub mod Spaces
 pub mod Styled
 pub mod Outer
@@ -9,6 +10,7 @@ pub mod FloatRuns
 pub mod FloatRules
 pub mod Margins
 pub mod Bands
+pub mod PlainFlow
 pub mod Apart
 pub mod LineStacks
 pub mod Nested

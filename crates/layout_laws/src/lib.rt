@@ -5,6 +5,7 @@ pub mod boxes;
 pub mod clearance;
 pub mod contexts;
 pub mod floats;
+pub mod flow;
 pub mod fonts;
 pub mod heights;
 pub mod lines;

@@ -1,0 +1,269 @@
+-- Where the blocks of a page stand in normal flow without floats and clearance.
+use Rattle.std.proofs.Common.{◌≡◌, ℕ, zero, suc, ◌+◌, ◌<◌, ◌≤◌, ℤ, ◌+ℤ◌, Bool, true, false, ◌⊎◌, inl, inr, IsTrue, List, [], ◌∷◌, ◌++◌, flat_map, length, fold, refl, sym, ap, ◌∙◌, subst, arith, append-nil, append_assoc}
+use Rattle.std.specs.List.{list_all, AllByRecursion}
+use Rattle.std.proofs.lemmas.Grind.{fold-append}
+use Rattle.std.proofs.lemmas.Int.{ints}
+use Rattle.viz_base.specs.declared.layouts.Band.{Band}
+use Rattle.viz_base.specs.declared.trees.BoxTree.{BoxTree}
+use Rattle.viz_base.specs.declared.worlds.World.{World}
+use Rattle.viz_base.specs.declared.renderings.Placed.{Placed}
+use Rattle.layout_semantics.specs.Order.{kids_of}
+use Rattle.layout_semantics.specs.Margins.{collapsed}
+use Rattle.layout_semantics.specs.Rectangles.{Frame, content_top, placed_box}
+use Rattle.layout_semantics.specs.FlowBoxes.{is_replaced_at, is_context_root, is_open_above, content_from}
+use Rattle.layout_semantics.specs.Flow.{Standing, at_top, below, Progress, Reached, reached, child, flow_to}
+use Rattle.layout_semantics.proofs.Forest.{both}
+use Rattle.layout_laws.specs.PlainFlow.{HasPlainBlocks, content_of, leading, all_margins, collapses, trailing}
+use Rattle.layout_laws.proofs.Members.{In, from_append}
+use Rattle.layout_laws.proofs.Flowing.{frame_of}
+use Rattle.layout_laws.proofs.PlainSteps.{IsPlain, edge_after, passed_by, started, inner_start, inner_height, entry_of, reached-plain, Behaves, step, plain-after, kids_reached, flow-is, flow-behaves}
+use Rattle.layout_laws.proofs.PlainTraces.{Tracing, content_trace, child_trace, children_trace, children_trace-append, trace_to, AreTraced, inner-floats, inner-standing, children-traced, children-ordered}
+
+-- ---- members
+
+pub in_left : {A : Type 0} (x : A) (xs ys : List A) → In x xs → In x (xs ++ ys)
+in_left x [] ys i = elim i [ ]
+in_left _ (x ∷ xs) ys In.here = In.here
+in_left x (y ∷ xs) ys (In.there i) = In.there (in_left x xs ys i)
+
+in_right : {A : Type 0} (x : A) (xs ys : List A) → In x ys → In x (xs ++ ys)
+in_right x [] ys i = i
+in_right x (y ∷ xs) ys i = In.there (in_right x xs ys i)
+
+pub from_cons : {A : Type 0} (x y : A) (xs : List A) → In x (y ∷ xs) → (x ≡ y) ⊎ In x xs
+from_cons x _ xs In.here = inl refl
+from_cons x y xs (In.there i) = inr i
+
+all_left : (P : ℕ → Type 0) (xs ys : List ℕ) → AllByRecursion P (xs ++ ys) → AllByRecursion P xs
+all_left P [] ys a = tt
+all_left P (x ∷ xs) ys a = (a.0, all_left P xs ys a.1)
+
+all_right : (P : ℕ → Type 0) (xs ys : List ℕ) → AllByRecursion P (xs ++ ys) → AllByRecursion P ys
+all_right P [] ys a = a
+all_right P (x ∷ xs) ys a = all_right P xs ys a.1
+
+-- ---- passing boxes that collapse through
+
+passed-none : (s : Standing) → passed_by s [] ≡ s
+passed-none (at_top y cleared) = refl
+passed-none (below edge run stuck) = ap (λ (l : List ℤ). below edge l stuck) (append-nil run)
+
+passed-twice : (s : Standing) (m n : List ℤ) → passed_by (passed_by s m) n ≡ passed_by s (m ++ n)
+passed-twice (at_top y cleared) m n = refl
+passed-twice (below edge run stuck) m n = ap (λ (l : List ℤ). below edge l stuck) (append_assoc run m n)
+
+-- ---- the laws of one box's children
+
+module _ (tree : BoxTree) (w : World) (height : ℕ) where
+  pub record KidsStand (trace : List (ℕ × Placed ℤ)) (b : ℕ) (cb : Band ℤ) (top y : ℤ) (opens : Bool) : Type 0 where
+    pub first : (passed : List ℕ) (c : ℕ) (after : List ℕ) → kids_of tree.boxes b ≡ passed ++ c ∷ after → IsTrue (list_all (collapses tree w height) passed)
+        → (p : Placed ℤ) × In (c, p) trace × (p.border.top ≡ edge_after (passed_by (started y top opens) (flat_map (all_margins tree w height cb) passed)) (leading tree w height cb c))
+    pub next : (before : List ℕ) (u : ℕ) (passed : List ℕ) (c : ℕ) (after : List ℕ) → kids_of tree.boxes b ≡ before ++ u ∷ (passed ++ c ∷ after)
+        → collapses tree w height u ≡ false → IsTrue (list_all (collapses tree w height) passed)
+        → (q : Placed ℤ) × (p : Placed ℤ) × In (u, q) trace × In (c, p) trace
+        × (p.border.top ≡ q.border.bottom +ℤ collapsed (trailing tree w height cb u ++ (flat_map (all_margins tree w height cb) passed ++ leading tree w height cb c)))
+
+  -- in a longer trace
+  pub stand-more : (trace more : List (ℕ × Placed ℤ)) (b : ℕ) (cb : Band ℤ) (top y : ℤ) (opens : Bool) → ((e : ℕ × Placed ℤ) → In e trace → In e more) → KidsStand trace b cb top y opens → KidsStand more b cb top y opens
+  stand-more trace more b cb top y opens f k = record {
+    first = λ passed c after e t. let r = k.first passed c after e t in (r.0, f (c, r.0) r.1, r.2);
+    next = λ before u passed c after e n t. let r = k.next before u passed c after e n t in (r.0, r.1, f (u, r.0) r.2, f (c, r.1) r.3, r.4);
+  }
+
+  abbrev pub EachStands : List (ℕ × Placed ℤ) → Type 0
+  EachStands trace = (a : ℕ) (p : Placed ℤ) → In (a, p) trace → KidsStand trace a (content_of p) p.content.top p.border.top (is_open_above tree a)
+
+  abbrev pub AllStand : (ℕ → Band ℤ → ℤ → Progress → Progress) → Tracing → ℕ → Type 0
+  AllStand inside traced levels = (b : ℕ) (cb : Band ℤ) (top y : ℤ) (p : Progress) (opens : Bool) → b < length tree.boxes → length tree.boxes ≤ levels + b
+      → p.floats ≡ [] → p.standing ≡ started y top opens → KidsStand (traced b cb top p) b cb top y opens × EachStands (traced b cb top p)
+
+  module _ (plain : HasPlainBlocks tree) (inside : ℕ → Band ℤ → ℤ → Progress → Progress) (traced : Tracing) (levels : ℕ) (behaves : Behaves tree w height plain inside levels) (stand : AllStand inside traced levels) where
+    abbrev Reach : ℕ → Type 0
+    Reach k = (k < length tree.boxes) × (length tree.boxes ≤ levels + k)
+
+    kept : (cb : Band ℤ) (top : ℤ) (ks : List ℕ) (p : Progress) → AllByRecursion Reach ks → p.floats ≡ [] → IsPlain p.standing
+        → ((fold (child tree w height inside cb top) p ks).floats ≡ []) × IsPlain (fold (child tree w height inside cb top) p ks).standing
+    kept cb top [] p a none i = (none, i)
+    kept cb top (k ∷ ks) p a none i =
+        let s = step tree w height plain inside levels behaves cb top p k a.0.0 a.0.1 none i in
+        kept cb top ks (child tree w height inside cb top p k) a.1 s.floats (plain-after tree w height plain inside levels behaves cb top p k i s)
+
+    passed-all : (cb : Band ℤ) (top : ℤ) (ks : List ℕ) (p : Progress) → AllByRecursion Reach ks → p.floats ≡ [] → IsPlain p.standing → IsTrue (list_all (collapses tree w height) ks)
+        → (fold (child tree w height inside cb top) p ks).standing ≡ passed_by p.standing (flat_map (all_margins tree w height cb) ks)
+    passed-all cb top [] p a none i t = sym (passed-none p.standing)
+    passed-all cb top (k ∷ ks) p a none i t =
+        let s = step tree w height plain inside levels behaves cb top p k a.0.0 a.0.1 none i in
+        let tests = both (collapses tree w height k) (list_all (collapses tree w height) ks) t in
+        let next = child tree w height inside cb top p k in
+        passed-all cb top ks next a.1 s.floats (plain-after tree w height plain inside levels behaves cb top p k i s) tests.1
+        ∙ (ap (λ (s : Standing). passed_by s (flat_map (all_margins tree w height cb) ks)) (s.passed tests.0)
+        ∙ passed-twice p.standing (all_margins tree w height cb k) (flat_map (all_margins tree w height cb) ks))
+
+    in-trace : (cb : Band ℤ) (top : ℤ) (p : Progress) (pre : List ℕ) (c : ℕ) (post : List ℕ)
+        → In (c, entry_of tree w height inside cb (fold (child tree w height inside cb top) p pre) c) (children_trace tree w height inside traced cb top p (pre ++ c ∷ post))
+    in-trace cb top p pre c post =
+        subst (λ (l : List (ℕ × Placed ℤ)). In (c, entry_of tree w height inside cb (fold (child tree w height inside cb top) p pre) c) l) (sym (children_trace-append tree w height inside traced cb top p pre (c ∷ post)))
+        (in_right _ (children_trace tree w height inside traced cb top p pre) _ In.here)
+
+    entry-top : (cb : Band ℤ) (p : Progress) (c : ℕ) → IsPlain p.standing → (entry_of tree w height inside cb p c).border.top ≡ edge_after p.standing (leading tree w height cb c)
+    entry-top cb p c i = ap (λ (r : Reached). r.top) (reached-plain tree w height plain inside cb p c i)
+
+    -- ---- the children of one box
+
+    module _ (b : ℕ) (cb : Band ℤ) (top y : ℤ) (p : Progress) (opens : Bool) (reach : AllByRecursion Reach (kids_of tree.boxes b)) (none : p.floats ≡ []) (start : p.standing ≡ started y top opens) where
+      start-plain : IsPlain p.standing
+      start-plain = subst IsPlain (sym start) (by_sort opens)
+        where
+          by_sort : (o : Bool) → IsPlain (started y top o)
+          by_sort true = refl
+          by_sort false = refl
+
+      abbrev all : List (ℕ × Placed ℤ)
+      all = children_trace tree w height inside traced cb top p (kids_of tree.boxes b)
+
+      after : List ℕ → Progress
+      after ks = fold (child tree w height inside cb top) p ks
+
+      in-all : (pre : List ℕ) (c : ℕ) (post : List ℕ) → kids_of tree.boxes b ≡ pre ++ c ∷ post → In (c, entry_of tree w height inside cb (after pre) c) all
+      unfolding after
+      in-all pre c post e = subst (λ (ks : List ℕ). In (c, entry_of tree w height inside cb (after pre) c) (children_trace tree w height inside traced cb top p ks)) (sym e) (in-trace cb top p pre c post)
+
+      reach-left : (pre post : List ℕ) → kids_of tree.boxes b ≡ pre ++ post → AllByRecursion Reach pre
+      reach-left pre post e = all_left Reach pre post (subst (AllByRecursion Reach) e reach)
+
+      reach-right : (pre post : List ℕ) → kids_of tree.boxes b ≡ pre ++ post → AllByRecursion Reach post
+      reach-right pre post e = all_right Reach pre post (subst (AllByRecursion Reach) e reach)
+
+      first-stands : (passed : List ℕ) (c : ℕ) (post : List ℕ) → kids_of tree.boxes b ≡ passed ++ c ∷ post → IsTrue (list_all (collapses tree w height) passed)
+          → (entry_of tree w height inside cb (after passed) c).border.top ≡ edge_after (passed_by (started y top opens) (flat_map (all_margins tree w height cb) passed)) (leading tree w height cb c)
+      unfolding after
+      first-stands passed c post e t =
+          let r = reach-left passed (c ∷ post) e in
+          entry-top cb (after passed) c (kept cb top passed p r none start-plain).1
+          ∙ ap (λ (s : Standing). edge_after s (leading tree w height cb c)) (passed-all cb top passed p r none start-plain t ∙ ap (λ (s : Standing). passed_by s (flat_map (all_margins tree w height cb) passed)) start)
+
+      next-stands : (before : List ℕ) (u : ℕ) (passed : List ℕ) (c : ℕ) (post : List ℕ) → kids_of tree.boxes b ≡ before ++ u ∷ (passed ++ c ∷ post)
+          → collapses tree w height u ≡ false → IsTrue (list_all (collapses tree w height) passed)
+          → (entry_of tree w height inside cb (after (before ++ u ∷ passed)) c).border.top
+          ≡ (entry_of tree w height inside cb (after before) u).border.bottom +ℤ collapsed (trailing tree w height cb u ++ (flat_map (all_margins tree w height cb) passed ++ leading tree w height cb c))
+      unfolding after
+      next-stands before u passed c post e n t =
+          let ra = reach-left before (u ∷ (passed ++ c ∷ post)) e in
+          let rb = reach-right before (u ∷ (passed ++ c ∷ post)) e in
+          let rc = all_left Reach passed (c ∷ post) rb.1 in
+          let k = kept cb top before p ra none start-plain in
+          let s = step tree w height plain inside levels behaves cb top (after before) u rb.0.0 rb.0.1 k.0 k.1 in
+          let i = plain-after tree w height plain inside levels behaves cb top (after before) u k.1 s in
+          let mid = child tree w height inside cb top (after before) u in
+          let split = fold-append (child tree w height inside cb top) p before (u ∷ passed) in
+          let here = kept cb top passed mid rc s.floats i in
+          let stands = passed-all cb top passed mid rc s.floats i t ∙ ap (λ (s : Standing). passed_by s (flat_map (all_margins tree w height cb) passed)) (s.stands n) in
+          ap (λ (q : Progress). (entry_of tree w height inside cb q c).border.top) split
+          ∙ (entry-top cb (fold (child tree w height inside cb top) mid passed) c here.1
+          ∙ (ap (λ (s : Standing). edge_after s (leading tree w height cb c)) stands
+          ∙ ap (λ (l : List ℤ). (entry_of tree w height inside cb (after before) u).border.bottom +ℤ collapsed l) (append_assoc (trailing tree w height cb u) (flat_map (all_margins tree w height cb) passed) (leading tree w height cb c))))
+
+      pub kids-stand : KidsStand all b cb top y opens
+      kids-stand = record {
+        first = λ passed c post e t. (entry_of tree w height inside cb (after passed) c, in-all passed c post e, first-stands passed c post e t);
+        next = λ before u passed c post e n t. (
+          entry_of tree w height inside cb (after before) u,
+          entry_of tree w height inside cb (after (before ++ u ∷ passed)) c,
+          in-all before u (passed ++ c ∷ post) e,
+          in-all (before ++ u ∷ passed) c post (e ∙ sym (append_assoc before (u ∷ passed) (c ∷ post))),
+          next-stands before u passed c post e n t,
+        );
+      }
+
+    -- ---- the boxes in them
+
+    -- a box's rectangles and its frame
+    content-band : (k : ℕ) (cb : Band ℤ) (r : Reached) (h : ℤ) → content_from cb.left (frame_of tree w height cb k r).x ≡ content_of (placed_box tree k (frame_of tree w height cb k r) h)
+    content-band k cb r h = same_band _ _ _ _ (omega (arith, ints)) (omega (arith, ints))
+      where
+        same_band : (a b c d : ℤ) → a ≡ c → b ≡ d → ◌≡◌ {A = Band ℤ} (record { left = a; right = b }) (record { left = c; right = d })
+        same_band a b c d e f = cc
+
+    content-edge : (k : ℕ) (cb : Band ℤ) (r : Reached) (h : ℤ) → content_top (frame_of tree w height cb k r) ≡ (placed_box tree k (frame_of tree w height cb k r) h).content.top
+    content-edge k cb r h = omega (arith, ints)
+
+    abbrev framed : Band ℤ → Progress → ℕ → Frame
+    framed cb p k = frame_of tree w height cb k (reached tree w height inside cb p k)
+
+    content-stands : (cb : Band ℤ) (p : Progress) (k : ℕ) → Reach k → p.floats ≡ []
+        → KidsStand (content_trace tree w height inside traced cb p k (framed cb p k)) k (content_of (entry_of tree w height inside cb p k)) (entry_of tree w height inside cb p k).content.top (entry_of tree w height inside cb p k).border.top (is_open_above tree k)
+        × EachStands (content_trace tree w height inside traced cb p k (framed cb p k))
+    content-stands cb p k r none =
+        let f = framed cb p k in
+        let own = stand k (content_from cb.left f.x) (content_top f) f.corner.y (inner_start tree w height inside p k f (is_context_root tree k)) (is_open_above tree k) r.0 r.1 (inner-floats tree w height inside p k f (is_context_root tree k) none) (inner-standing tree w height inside p k f) in (
+          subst (λ (t : ℤ). KidsStand (content_trace tree w height inside traced cb p k f) k (content_of (entry_of tree w height inside cb p k)) t f.corner.y (is_open_above tree k)) (content-edge k cb (reached tree w height inside cb p k) (inner_height tree w height inside cb p k f (is_replaced_at tree k) (is_context_root tree k)))
+              (subst (λ (band : Band ℤ). KidsStand (content_trace tree w height inside traced cb p k f) k band (content_top f) f.corner.y (is_open_above tree k)) (content-band k cb (reached tree w height inside cb p k) (inner_height tree w height inside cb p k f (is_replaced_at tree k) (is_context_root tree k))) own.0),
+          own.1,
+        )
+
+    child-each : (cb : Band ℤ) (p : Progress) (k : ℕ) → Reach k → p.floats ≡ [] → EachStands (child_trace tree w height inside traced cb p k)
+    child-each cb p k r none a q i = by_part (from_cons (a, q) (k, entry_of tree w height inside cb p k) content i)
+      where
+        content : List (ℕ × Placed ℤ)
+        content = content_trace tree w height inside traced cb p k (framed cb p k)
+
+        own : KidsStand content k (content_of (entry_of tree w height inside cb p k)) (entry_of tree w height inside cb p k).content.top (entry_of tree w height inside cb p k).border.top (is_open_above tree k) × EachStands content
+        own = content-stands cb p k r none
+
+        stands_as : ℕ × Placed ℤ → Type 0
+        stands_as e = KidsStand (child_trace tree w height inside traced cb p k) e.0 (content_of e.1) e.1.content.top e.1.border.top (is_open_above tree e.0)
+
+        by_part : (◌≡◌ {A = ℕ × Placed ℤ} (a, q) (k, entry_of tree w height inside cb p k)) ⊎ In (a, q) content → stands_as (a, q)
+        by_part (inl same) = subst stands_as (sym same) (stand-more content (child_trace tree w height inside traced cb p k) k _ _ _ (is_open_above tree k) (λ e j. In.there j) own.0)
+        by_part (inr j) = stand-more content (child_trace tree w height inside traced cb p k) a _ _ _ (is_open_above tree a) (λ e h. In.there h) (own.1 a q j)
+
+    children-each : (cb : Band ℤ) (top : ℤ) (ks : List ℕ) (p : Progress) → AllByRecursion Reach ks → p.floats ≡ [] → IsPlain p.standing → EachStands (children_trace tree w height inside traced cb top p ks)
+    children-each cb top [] p r none i a q j = elim j [ ]
+    children-each cb top (k ∷ ks) p r none i a q j =
+        let s = step tree w height plain inside levels behaves cb top p k r.0.0 r.0.1 none i in
+        let next = child tree w height inside cb top p k in
+        by_part (from_append (child_trace tree w height inside traced cb p k) (children_trace tree w height inside traced cb top next ks) (a, q) j)
+        (children-each cb top ks next r.1 s.floats (plain-after tree w height plain inside levels behaves cb top p k i s))
+      where
+        first : List (ℕ × Placed ℤ)
+        first = child_trace tree w height inside traced cb p k
+
+        rest : List (ℕ × Placed ℤ)
+        rest = children_trace tree w height inside traced cb top (child tree w height inside cb top p k) ks
+
+        by_part : In (a, q) first ⊎ In (a, q) rest → EachStands rest → KidsStand (first ++ rest) a (content_of q) q.content.top q.border.top (is_open_above tree a)
+        by_part (inl h) again = stand-more first (first ++ rest) a _ _ _ (is_open_above tree a) (λ e g. in_left e first rest g) (child-each cb p k r.0 none a q h)
+        by_part (inr h) again = stand-more rest (first ++ rest) a _ _ _ (is_open_above tree a) (λ e g. in_right e first rest g) (again a q h)
+
+  -- ---- all levels
+
+  module _ (plain : HasPlainBlocks tree) where
+    started-plain : (y top : ℤ) (o : Bool) → IsPlain (started y top o)
+    started-plain y top true = refl
+    started-plain y top false = refl
+
+    pub flow-traced : (levels : ℕ) → AreTraced tree w height (flow_to tree w height levels) (trace_to tree w height levels) levels
+    unfolding trace_to
+    flow-traced zero b cb top y p opens l m none start = absurd (omega arith)
+    flow-traced (suc levels) b cb top y p opens l m none start =
+        let i = subst IsPlain (sym start) (started-plain y top opens) in
+        let inside = flow_to tree w height levels in
+        let traced = trace_to tree w height levels in
+        let kids = kids_of tree.boxes b in
+        let reach = kids_reached tree w height plain levels b m in
+        record {
+          boxes = ap (λ (q : Progress). q.boxes) (flow-is tree w height plain levels b cb top p) ∙ children-traced tree w height plain inside traced levels (flow-behaves tree w height plain levels) (flow-traced levels) cb top kids p reach none i;
+          order = children-ordered tree w height plain inside traced levels (flow-behaves tree w height plain levels) (flow-traced levels) cb top kids p reach none i;
+        }
+
+    pub flow-stands : (levels : ℕ) → AllStand (flow_to tree w height levels) (trace_to tree w height levels) levels
+    unfolding trace_to
+    flow-stands zero b cb top y p opens l m none start = absurd (omega arith)
+    flow-stands (suc levels) b cb top y p opens l m none start =
+        let i = subst IsPlain (sym start) (started-plain y top opens) in
+        let inside = flow_to tree w height levels in
+        let traced = trace_to tree w height levels in
+        let reach = kids_reached tree w height plain levels b m in (
+          kids-stand plain inside traced levels (flow-behaves tree w height plain levels) (flow-stands levels) b cb top y p opens reach none start,
+          children-each plain inside traced levels (flow-behaves tree w height plain levels) (flow-stands levels) cb top (kids_of tree.boxes b) p reach none i,
+        )
