@@ -103,10 +103,11 @@ first_refused replaced outer (c ∷ cs) = if is_refused replaced outer c then So
 -- what those inside the node take from it
 abbrev pub standing_of : Standing → Bool → List Setting → Standing
 standing_of outer hidden settings = record {
-    hidden = hidden;
-    min_width = list_any (λ s. sets_min_width outer s.prop s.value) settings;
-    min_height = list_any (λ s. sets_min_height outer s.prop s.value) settings;
-    max_height = list_any (λ s. sets_max_height outer s.prop s.value) settings }
+  hidden = hidden;
+  min_width = list_any (λ s. sets_min_width outer s.prop s.value) settings;
+  min_height = list_any (λ s. sets_min_height outer s.prop s.value) settings;
+  max_height = list_any (λ s. sets_max_height outer s.prop s.value) settings;
+}
 
 -- the root's: nothing around it hides it, and `inherit` is the initial value there
 abbrev pub around_root : Standing
