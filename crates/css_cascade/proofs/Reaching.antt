@@ -69,7 +69,7 @@ before_others o t [] rest _ ys answer nothing e h = let same : [] ≡ ys = cc in
 before_others o t (r ∷ rs) rest _ ys answer (joined {ys = us} {zs = vs} g k) e h =
     let same : us ++ vs ≡ ys = cc in
     subst (λ zs. Each Rulesets (placed o t r ∷ (map (placed o t) rs ++ rest)) (behind zs answer)) same
-        (subst (Each Rulesets (placed o t r ∷ (map (placed o t) rs ++ rest))) (behind_both us vs answer) (one_more us (behind vs answer) g (before_others o t rs rest (Ok vs) vs answer k refl h)))
+    (subst (Each Rulesets (placed o t r ∷ (map (placed o t) rs ++ rest))) (behind_both us vs answer) (one_more us (behind vs answer) g (before_others o t rs rest (Ok vs) vs answer k refl h)))
 before_others o t (r ∷ rs) rest _ ys answer (refused g) e h = cc
 before_others o t (r ∷ rs) rest _ ys answer (refused_behind g k) e h = cc
 

@@ -6,7 +6,9 @@ ghost use Rattle.css_cascade.specs.Seen.{seen};
 
 use crate::applying::{STYLE, applied, push_applied, styled};
 use crate::faults::CascadeFault;
-use crate::nodes::{first_refused, is_hidden, is_replaced, number, settings_of, standing_around, standing_of};
+use crate::nodes::{
+    first_refused, is_hidden, is_replaced, number, settings_of, standing_around, standing_of,
+};
 use crate::order::{Applied, winners};
 use crate::reading::read_rulesets;
 use css_semantics::{Ruleset, Standing};
@@ -61,11 +63,7 @@ fn come_to(
 }
 
 /// The settings of each node.
-fn cascade_nodes(
-    alloc: Global,
-    page: &Page,
-    rulesets: &[Ruleset],
-) -> Result<Cascaded, CascadeFault>
+fn cascade_nodes(alloc: Global, page: &Page, rulesets: &[Ruleset]) -> Result<Cascaded, CascadeFault>
     ensures { GivesOf result (Goes page.now.nodes rulesets.now [] [] page.now.nodes) }
 {
     let mut standings = Vec::new(alloc);

@@ -192,19 +192,25 @@ pub fn settings_of(
 fn has_min_width(outer: Standing, settings: &[Setting]) -> bool
     ensures { result ≡ list_any (λ s. sets_min_width outer s.prop s.value) settings.now }
 {
-    settings.iter().any(|s| sets_min_width(outer, s.prop, &s.value))
+    settings
+        .iter()
+        .any(|s| sets_min_width(outer, s.prop, &s.value))
 }
 
 fn has_min_height(outer: Standing, settings: &[Setting]) -> bool
     ensures { result ≡ list_any (λ s. sets_min_height outer s.prop s.value) settings.now }
 {
-    settings.iter().any(|s| sets_min_height(outer, s.prop, &s.value))
+    settings
+        .iter()
+        .any(|s| sets_min_height(outer, s.prop, &s.value))
 }
 
 fn has_max_height(outer: Standing, settings: &[Setting]) -> bool
     ensures { result ≡ list_any (λ s. sets_max_height outer s.prop s.value) settings.now }
 {
-    settings.iter().any(|s| sets_max_height(outer, s.prop, &s.value))
+    settings
+        .iter()
+        .any(|s| sets_max_height(outer, s.prop, &s.value))
 }
 
 /// What those inside a node take from it.
@@ -224,7 +230,10 @@ pub fn standing_around(standings: &[Standing], parent: Option<u32>) -> Standing
     ensures { result ≡ standing_around standings.now parent }
 {
     match parent {
-        Some(parent) => standings.get(parent as usize).copied().unwrap_or(AROUND_ROOT),
+        Some(parent) => standings
+            .get(parent as usize)
+            .copied()
+            .unwrap_or(AROUND_ROOT),
         None => AROUND_ROOT,
     }
 }

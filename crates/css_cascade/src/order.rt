@@ -63,7 +63,9 @@ pub fn spec_cmp(a: Spec, b: Spec) -> Ordering
     ensures { result ≡ spec_cmp a b }
 {
     a.style.cmp(&b.style).then(
-        a.ids.cmp(&b.ids).then(a.attrs.cmp(&b.attrs).then(a.types.cmp(&b.types))),
+        a.ids
+            .cmp(&b.ids)
+            .then(a.attrs.cmp(&b.attrs).then(a.types.cmp(&b.types))),
     )
 }
 
@@ -81,14 +83,20 @@ fn weight_number(weight: Weight) -> u8
 fn cascade_cmp(a: Applied<'_>, b: Applied<'_>) -> Ordering
     ensures { result ≡ cascade_cmp (seen a.entry) (seen b.entry) }
 {
-    weight_number(a.claim.weight).cmp(&weight_number(b.claim.weight)).then(spec_cmp(a.spec, b.spec))
+    weight_number(a.claim.weight)
+        .cmp(&weight_number(b.claim.weight))
+        .then(spec_cmp(a.spec, b.spec))
 }
 
 /// Of two the later, unless the earlier is greater.
 fn later_of<'a>(earlier: Applied<'a>, later: Applied<'a>) -> Applied<'a>
     ensures { seen result ≡ later_of cascade_cmp (seen earlier.entry) (seen later.entry) }
 {
-    if cascade_cmp(earlier, later).is_gt() { earlier } else { later }
+    if cascade_cmp(earlier, later).is_gt() {
+        earlier
+    } else {
+        later
+    }
 }
 
 /// The winner for a property behind one more setting.

@@ -82,12 +82,7 @@ fn claims_for(
 }
 
 /// That a declaration's value is refused by name.
-fn refused_claim(
-    alloc: Global,
-    origin: Origin,
-    decl: &Decl,
-    prop: Prop,
-) -> Result<List<Claim>, Mem>
+fn refused_claim(alloc: Global, origin: Origin, decl: &Decl, prop: Prop) -> Result<List<Claim>, Mem>
     ensures { IfOk result (λ claims. claims ≡ claim_of origin decl.now prop None ∷ []) }
 {
     let mut claims = List::new(alloc);
@@ -108,12 +103,7 @@ fn said(alloc: Global, origin: Origin, decl: &Decl, value: &str) -> Result<List<
 }
 
 /// What a declaration says.
-fn claims_by(
-    alloc: Global,
-    origin: Origin,
-    text: &str,
-    decl: &Decl,
-) -> Result<List<Claim>, Mem>
+fn claims_by(alloc: Global, origin: Origin, text: &str, decl: &Decl) -> Result<List<Claim>, Mem>
     ensures { IfOk result (λ claims. IsClaimed origin text.now decl.now (Ok claims)) }
 {
     match slice(text, decl.at, decl.len) {

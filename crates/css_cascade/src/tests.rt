@@ -40,7 +40,10 @@ fn height(alloc: Global, cascaded: &Cascaded) -> Result<String, AllocError> {
 /// The height that wins for a `div` with this sheet of an author and this style attribute, or what refuses the page.
 fn shown(alloc: Global, css: &str, style: &str) -> Result<String, AllocError> {
     let page = page(alloc, style)?;
-    let texts = [Text::from_text(alloc, default_sheet())?, Text::from_text(alloc, css)?];
+    let texts = [
+        Text::from_text(alloc, default_sheet())?,
+        Text::from_text(alloc, css)?,
+    ];
     match (read_sheet(alloc, default_sheet()), read_sheet(alloc, css)) {
         (Ok(default), Ok(author)) => match cascade(alloc, &page, &texts, &[default, author]) {
             Ok(cascaded) => height(alloc, &cascaded),
@@ -59,11 +62,23 @@ fn cascades(rt: HostRuntime) -> Result<(), Fail> {
         ("div{height:1px}div{height:2px}", "", "Px(128)"),
         ("div.a{height:1px}", "height:3px", "Px(192)"),
         ("div.a,p{height:1px}&{height:2px}", "", "Px(64)"),
-        ("p , a:lang(x){}", "height:table", "unsupported selector in sheet 0 at 5"),
-        ("div{position:fixed}", "", "unsupported value at node 0: Position"),
+        (
+            "p , a:lang(x){}",
+            "height:table",
+            "unsupported selector in sheet 0 at 5",
+        ),
+        (
+            "div{position:fixed}",
+            "",
+            "unsupported value at node 0: Position",
+        ),
         ("div{position:fixed}", "display:none;height:1px", "Px(64)"),
     ] {
-        assert_eq!(rt; shown(alloc, css, style)?.as_str(), expected, "{css} {style}");
+        assert_eq!(rt;
+            shown(alloc, css, style)?.as_str(),
+            expected,
+            "{css} {style}"
+        );
     }
     Ok(())
 }

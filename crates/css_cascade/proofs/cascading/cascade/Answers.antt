@@ -7,7 +7,7 @@ use Rattle.css_cascade.proofs.cascading.cascade.Goals as goal
 pub returns-in_err-rulesets : goal.returns-in_err-rulesets
 returns-in_err-rulesets c =
     let k : FailsOf c.in_err-rulesets.field-0.0 (IsCascade c.args.page.now.nodes c.args.texts.now c.args.sheets.now) =
-      refused_page _ _ _ c.in_err-rulesets.field-0.0 c.in_err-rulesets.ensures in
+    refused_page _ _ _ c.in_err-rulesets.field-0.0 c.in_err-rulesets.ensures in
     search rules
 
 pub returns : goal.returns

@@ -13,8 +13,8 @@ returns-in_err-rulesets_in c =
     let m : c.loop-at.at < length c.args.sheets.now = omega arith in
     let l : c.loop-at.at < length c.args.texts.now = omega arith in
     let k : Reads c.in_err-rulesets_in.field-0.0 (AreRulesets c.args.texts.now c.args.sheets.now) =
-      reads_sheets _ _ c.loop-at.at c.loop-at.rulesets.items c.index-texts-at.result c.index-sheets-at.result c.in_err-rulesets_in.field-0.0 c.in_ok-origin.origin c.as_str.result.now c.as_slice-rules.result.now
-      l c.index-texts-at.is m c.index-sheets-at.is c.loop-at.invariant c.in_ok-origin.ensures c.as_str.ensures (c.as_slice-rules.ensures ∙ ap (λ s. s.rules) (sym c.index-sheets-at.is)) c.in_err-rulesets_in.ensures in
+    reads_sheets _ _ c.loop-at.at c.loop-at.rulesets.items c.index-texts-at.result c.index-sheets-at.result c.in_err-rulesets_in.field-0.0 c.in_ok-origin.origin c.as_str.result.now c.as_slice-rules.result.now
+    l c.index-texts-at.is m c.index-sheets-at.is c.loop-at.invariant c.in_ok-origin.ensures c.as_str.ensures (c.as_slice-rules.ensures ∙ ap (λ s. s.rules) (sym c.index-sheets-at.is)) c.in_err-rulesets_in.ensures in
     search rules
 
 pub loop-at-preserved : goal.loop-at-preserved

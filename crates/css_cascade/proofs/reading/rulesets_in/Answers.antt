@@ -9,7 +9,7 @@ use Rattle.css_cascade.proofs.reading.rulesets_in.Goals as goal
 pub returns-in_err-ruleset_at : goal.returns-in_err-ruleset_at
 returns-in_err-ruleset_at c =
     let k : Reads c.in_err-ruleset_at.field-0.0 (Each (IsRuleset c.args.origin c.args.text.now) c.args.rules.now) =
-      reads_refusal _ _ _ _ c.rule-item.result c.in_err-ruleset_at.field-0.0 c.loop-rule-test.true c.rule-item.is c.loop-rule.invariant c.in_err-ruleset_at.ensures in
+    reads_refusal _ _ _ _ c.rule-item.result c.in_err-ruleset_at.field-0.0 c.loop-rule-test.true c.rule-item.is c.loop-rule.invariant c.in_err-ruleset_at.ensures in
     search rules
 
 pub loop-rule-preserved : goal.loop-rule-preserved
