@@ -105,6 +105,7 @@ pub fn terminal(token: &Token<'_>) -> Terminal
     }
 }
 
+/// Whether a token of this kind is a comment.
 pub fn is_comment(kind: TokenKind) -> bool
     ensures { result ≡ is_comment kind }
 {
