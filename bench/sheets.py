@@ -5,13 +5,11 @@ An ordinary sheet, and the texts that are worst for a reader of tokens and brack
 be linear within noise (a ratio of times below 16, where the longer takes at least 20 ms). Run it at the top: bench/sheets.py FOLDER.
 The program is proved and built in FOLDER where it is not there yet, which takes some minutes.
 """
-import os
 import pathlib
-import shutil
-import subprocess
 import sys
 
-TOP = pathlib.Path(__file__).resolve().parent.parent
+from programs import TOP, built, measure
+
 CRATES = {"viz_base": "thiserror", "css_semantics": "viz_base", "css_token": "viz_base css_semantics",
           "css_syntax": "viz_base css_semantics css_token thiserror", "read_sheet": "viz_base css_syntax"}
 TEXTS = [("", "p{margin:0 auto}\n"), ("", "p{a:b}@media print{q{c:d}}\n"), ("", "("), ("", "{"), ("", "/*"), ("", "\\"),
@@ -20,39 +18,13 @@ SIZES = (1 << 17, 1 << 18, 1 << 19, 1 << 20)
 RUNS = 7
 
 
-def built(folder):
-    program = folder / "crates/read_sheet/out/read_sheet"
-    if not program.exists():
-        (folder / "crates/read_sheet/src").mkdir(parents=True, exist_ok=True)
-        for name in CRATES:
-            if name != "read_sheet":
-                shutil.copytree(TOP / "crates" / name, folder / "crates" / name, dirs_exist_ok=True)
-        shutil.copy(TOP / "bench/read_sheet.txt", folder / "crates/read_sheet/src/main.rt")
-        shutil.copy(TOP / "HANDLES", folder / "HANDLES")
-        (folder / "crates.txt").write_text("".join(f"{name}: {below}\n" for name, below in CRATES.items()))
-        subprocess.run(["git", "init", "-q", str(folder)], check=True)
-        subprocess.run(["rt", "run"], cwd=folder / "crates/read_sheet", check=True, stdout=subprocess.DEVNULL)
-    return str(program)
-
-
-def measure(words):
-    """The least processor time of some runs, in seconds."""
-    best = None
-    for _ in range(RUNS):
-        child = subprocess.Popen(words, stdout=subprocess.DEVNULL)
-        _, status, usage = os.wait4(child.pid, 0)
-        assert os.waitstatus_to_exitcode(status) == 0, "the status is not 0"
-        took = usage.ru_utime + usage.ru_stime
-        best = took if best is None else min(best, took)
-    return best
-
-
 def main():
     if len(sys.argv) != 2:
         sys.exit(__doc__)
-    program = built(pathlib.Path(sys.argv[1]).resolve())
+    source = (TOP / "bench/read_sheet.txt").read_text()
+    program = built(pathlib.Path(sys.argv[1]).resolve(), "read_sheet", CRATES, {"src/main.rt": source})
     for head, part in TEXTS:
-        times = [measure([program, head, part, str(size // len(part))]) for size in SIZES]
+        times = [measure([program, head, part, str(size // len(part))], RUNS) for size in SIZES]
         ratio = times[-1] / times[0]
         shown = ", ".join(f"{time * 1000:7.1f}" for time in times)
         print(f"{head + part + '..'!r:40} {shown} ms, growth {ratio:5.2f}")
