@@ -1,7 +1,8 @@
 -- Reading a digest: 32 bytes of two hex digits each.
-use Rattle.std.proofs.Common.{◌≡◌, ℕ, zero, suc, ◌+◌, ◌-◌, ◌*◌, ◌/◌, ◌%◌, ◌<◌, ◌≤◌, ◌&&◌, nat_lt, nat_le, Bool, true, false, cond, List, [], ◌∷◌, length, slice_index, Option, Some, None, refl, sym, ◌∙◌, ap, subst, arith}
+use Rattle.std.proofs.Common.{◌≡◌, ℕ, zero, suc, ◌+◌, ◌-◌, ◌*◌, ◌/◌, ◌%◌, ◌<◌, ◌≤◌, ◌&&◌, ◌==◌, nat_lt, nat_le, Bool, true, false, cond, List, [], ◌∷◌, length, slice_index, Option, Some, None, refl, sym, ◌∙◌, ap, subst, arith}
 use Rattle.std.specs.List.{AllByRecursion}
 use Rattle.std.proofs.lemmas.List.{append-nil}
+use Rattle.std.proofs.lemmas.Bool.{agree_below_at, eqb-true}
 use Rattle.std.proofs.lemmas.Bool.Decides.{nat_tests}
 use Rattle.std.proofs.lemmas.Option.{same_Some}
 use Rattle.hex.specs.Hex.{lower_digits, encode_with, encode_lower}
@@ -14,42 +15,19 @@ lower_code v = cond (nat_lt v 10) (48 + v) (87 + v)
 
 lower_at : (v : ℕ) → v < 16 → slice_index lower_digits v ≡ lower_code v
 unfolding lower_code
-lower_at zero lt = refl
-lower_at (suc zero) lt = refl
-lower_at (suc (suc zero)) lt = refl
-lower_at (suc (suc (suc zero))) lt = refl
-lower_at (suc (suc (suc (suc zero)))) lt = refl
-lower_at (suc (suc (suc (suc (suc zero))))) lt = refl
-lower_at (suc (suc (suc (suc (suc (suc zero)))))) lt = refl
-lower_at (suc (suc (suc (suc (suc (suc (suc zero))))))) lt = refl
-lower_at (suc (suc (suc (suc (suc (suc (suc (suc zero)))))))) lt = refl
-lower_at (suc (suc (suc (suc (suc (suc (suc (suc (suc zero))))))))) lt = refl
-lower_at (suc (suc (suc (suc (suc (suc (suc (suc (suc (suc zero)))))))))) lt = refl
-lower_at (suc (suc (suc (suc (suc (suc (suc (suc (suc (suc (suc zero))))))))))) lt = refl
-lower_at (suc (suc (suc (suc (suc (suc (suc (suc (suc (suc (suc (suc zero)))))))))))) lt = refl
-lower_at (suc (suc (suc (suc (suc (suc (suc (suc (suc (suc (suc (suc (suc zero))))))))))))) lt = refl
-lower_at (suc (suc (suc (suc (suc (suc (suc (suc (suc (suc (suc (suc (suc (suc zero)))))))))))))) lt = refl
-lower_at (suc (suc (suc (suc (suc (suc (suc (suc (suc (suc (suc (suc (suc (suc (suc zero))))))))))))))) lt = refl
-lower_at (suc (suc (suc (suc (suc (suc (suc (suc (suc (suc (suc (suc (suc (suc (suc (suc n)))))))))))))))) lt = absurd (omega arith)
+lower_at v lt = eqb-true (slice_index lower_digits v) (lower_code v) (agree_below_at (λ k. slice_index lower_digits k == lower_code k) (λ k. true) 16 v refl lt)
 
+-- a digit's value, or a number that no digit has
 at_value : (v : ℕ) → v < 16 → lower_value (slice_index lower_digits v) ≡ Some v
-at_value zero lt = refl
-at_value (suc zero) lt = refl
-at_value (suc (suc zero)) lt = refl
-at_value (suc (suc (suc zero))) lt = refl
-at_value (suc (suc (suc (suc zero)))) lt = refl
-at_value (suc (suc (suc (suc (suc zero))))) lt = refl
-at_value (suc (suc (suc (suc (suc (suc zero)))))) lt = refl
-at_value (suc (suc (suc (suc (suc (suc (suc zero))))))) lt = refl
-at_value (suc (suc (suc (suc (suc (suc (suc (suc zero)))))))) lt = refl
-at_value (suc (suc (suc (suc (suc (suc (suc (suc (suc zero))))))))) lt = refl
-at_value (suc (suc (suc (suc (suc (suc (suc (suc (suc (suc zero)))))))))) lt = refl
-at_value (suc (suc (suc (suc (suc (suc (suc (suc (suc (suc (suc zero))))))))))) lt = refl
-at_value (suc (suc (suc (suc (suc (suc (suc (suc (suc (suc (suc (suc zero)))))))))))) lt = refl
-at_value (suc (suc (suc (suc (suc (suc (suc (suc (suc (suc (suc (suc (suc zero))))))))))))) lt = refl
-at_value (suc (suc (suc (suc (suc (suc (suc (suc (suc (suc (suc (suc (suc (suc zero)))))))))))))) lt = refl
-at_value (suc (suc (suc (suc (suc (suc (suc (suc (suc (suc (suc (suc (suc (suc (suc zero))))))))))))))) lt = refl
-at_value (suc (suc (suc (suc (suc (suc (suc (suc (suc (suc (suc (suc (suc (suc (suc (suc n)))))))))))))))) lt = absurd (omega arith)
+at_value v lt = told (lower_value (slice_index lower_digits v)) (agree_below_at (λ k. tells (lower_value (slice_index lower_digits k)) k) (λ k. true) 16 v refl lt)
+  where
+    tells : Option ℕ → ℕ → Bool
+    tells None k = false
+    tells (Some n) k = n == k
+
+    told : (o : Option ℕ) → tells o v ≡ true → o ≡ Some v
+    told None e = absurd (cc)
+    told (Some n) e = ap Some (eqb-true n v e)
 
 code_low : (v : ℕ) → v < 10 → lower_code v ≡ 48 + v
 unfolding lower_code
@@ -107,8 +85,15 @@ some_hex = record { value = 0; text = 48 ∷ []; is_text = (omega arith, refl) }
 abbrev pub BytesText : ℕ → Lang (List ℕ)
 BytesText k job t = (length job ≡ k) × AllByRecursion (λ b. b < 256) job × (t ≡ encode_lower job)
 
+-- the other bytes behind two digits, the second digit with them, and all
+abbrev Others : ℕ → ℕ → ℕ → Lang (List ℕ)
+Others k high low = Dep (BytesText k) (λ others. Done ((16 * high + low) ∷ others))
+
+abbrev Low : ℕ → ℕ → Lang (List ℕ)
+Low k high = Dep HexText (Others k high)
+
 abbrev Pair : ℕ → Lang (List ℕ)
-Pair k = Dep HexText (λ high. Dep HexText (λ low. Dep (BytesText k) (λ others. Done ((16 * high + low) ∷ others))))
+Pair k = Dep HexText (Low k)
 
 pub from_pair : (k : ℕ) (job t : List ℕ) → Pair k job t → BytesText (suc k) job t
 unfolding encode_with
@@ -162,13 +147,17 @@ unfolding encode_with
 nothing [] t h = (refl, h.2)
 nothing (b ∷ others) t h = absurd (omega (arith, h.0))
 
+some_others : (k high low : ℕ) → Some_text (BytesText k) → Some_text (Others k high low)
+some_others k high low some = some_dep (BytesText k) (λ others. Done ((16 * high + low) ∷ others)) some (λ others. some_done ((16 * high + low) ∷ others))
+
+some_low : (k high : ℕ) → Some_text (BytesText k) → Some_text (Low k high)
+some_low k high some = some_dep HexText (Others k high) some_hex (λ low. some_others k high low some)
+
 pub some_bytes : (k : ℕ) → Some_text (BytesText k)
 unfolding encode_with
 some_bytes zero = record { value = []; text = []; is_text = (refl, tt, refl) }
 some_bytes (suc k) =
-    let s = some_dep HexText (λ high. Dep HexText (λ low. Dep (BytesText k) (λ others. Done ((16 * high + low) ∷ others)))) some_hex
-    (λ high. some_dep HexText (λ low. Dep (BytesText k) (λ others. Done ((16 * high + low) ∷ others))) some_hex
-    (λ low. some_dep (BytesText k) (λ others. Done ((16 * high + low) ∷ others)) (some_bytes k) (λ others. some_done ((16 * high + low) ∷ others)))) in
+    let s = some_dep HexText (Low k) some_hex (λ high. some_low k high (some_bytes k)) in
     record { value = s.value; text = s.text; is_text = from_pair k s.value s.text s.is_text }
 
 pub plain_bytes : (k : ℕ) → IsPlain (BytesText k)
@@ -177,8 +166,7 @@ plain_bytes zero v w s t h k =
     let b = nothing w t k in
     subst (λ x. Agree (v ≡ w) x t) (sym a.1) (subst (λ y. Agree (v ≡ w) [] y) (sym b.1) (a.0 ∙ sym b.0))
 plain_bytes (suc n) v w s t h k =
-    plain_dep HexText (λ high. Dep HexText (λ low. Dep (BytesText n) (λ others. Done ((16 * high + low) ∷ others)))) plain_hex
-    (λ high. plain_dep HexText (λ low. Dep (BytesText n) (λ others. Done ((16 * high + low) ∷ others))) plain_hex
+    plain_dep HexText (Low n) plain_hex (λ high. plain_dep HexText (Others n high) plain_hex
     (λ low. plain_dep (BytesText n) (λ others. Done ((16 * high + low) ∷ others)) (plain_bytes n) (λ others. plain_done ((16 * high + low) ∷ others))))
     v w s t (pair_from n v s h) (pair_from n w t k)
 
@@ -187,12 +175,7 @@ unfolding read_bytes encode_with
 read_bytes-right zero text = record { read = []; whole = refl; is_text = (refl, tt, refl) }
 read_bytes-right (suc k) text =
     read_same (Pair k) (BytesText (suc k)) text _ (from_pair k) (pair_from k)
-    (read_dep HexText (λ high. Dep HexText (λ low. Dep (BytesText k) (λ others. Done ((16 * high + low) ∷ others)))) text (read_hex text) _ plain_hex
-    (λ high. some_dep HexText (λ low. Dep (BytesText k) (λ others. Done ((16 * high + low) ∷ others))) some_hex
-    (λ low. some_dep (BytesText k) (λ others. Done ((16 * high + low) ∷ others)) (some_bytes k) (λ others. some_done ((16 * high + low) ∷ others))))
-    (read_hex-right text)
-    (λ high mid. read_dep HexText (λ low. Dep (BytesText k) (λ others. Done ((16 * high + low) ∷ others))) mid (read_hex mid) _ plain_hex
-    (λ low. some_dep (BytesText k) (λ others. Done ((16 * high + low) ∷ others)) (some_bytes k) (λ others. some_done ((16 * high + low) ∷ others)))
-    (read_hex-right mid)
+    (read_dep HexText (Low k) text (read_hex text) _ plain_hex (λ high. some_low k high (some_bytes k)) (read_hex-right text)
+    (λ high mid. read_dep HexText (Others k high) mid (read_hex mid) _ plain_hex (λ low. some_others k high low (some_bytes k)) (read_hex-right mid)
     (λ low end. read_dep (BytesText k) (λ others. Done ((16 * high + low) ∷ others)) end (read_bytes k end) _ (plain_bytes k)
     (λ others. some_done ((16 * high + low) ∷ others)) (read_bytes-right k end) (λ others last. read_done ((16 * high + low) ∷ others) last))))

@@ -1,6 +1,6 @@
 -- Languages: relations between values and texts. How far a text can be begun, and how parts that are read one after
 -- another make a whole.
-use Rattle.std.proofs.Common.{◌≡◌, ℕ, suc, ◌==◌, Bool, true, false, cond, List, [], ◌∷◌, ◌++◌, Result, Ok, Err, refl, sym, ◌∙◌, ap, subst, arith, append_assoc, rules}
+use Rattle.std.proofs.Common.{◌≡◌, ℕ, ◌==◌, Bool, true, false, cond, List, [], ◌∷◌, ◌++◌, Ok, Err, refl, sym, ◌∙◌, ap, subst, arith, append_assoc, rules}
 use Rattle.cert_text.specs.Read.{Answer, ◌>>=◌, after_word, begins}
 
 -- the values' texts

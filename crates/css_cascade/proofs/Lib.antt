@@ -5,3 +5,4 @@ pub mod Matchings
 pub mod Applies
 pub mod Walks
 pub mod OneNode
+pub mod Slots

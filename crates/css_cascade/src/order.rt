@@ -1,7 +1,8 @@
-ghost use Rattle.std.specs.Prelude.{◌≡◌, ◌++◌, map, flat_map, option_map, IfOk};
-ghost use Rattle.css_semantics.specs.CascadeOrder.{cascade_cmp, later_of, spec_cmp, weight_number, winner_of};
-ghost use Rattle.css_semantics.specs.CascadeNodes.{winners_for, winners_of};
-ghost use Rattle.css_cascade.specs.Seen.{later_or, seen, winner_on, winner_with};
+ghost use Rattle.std.specs.Prelude.{◌≡◌, ◌<◌, ◌++◌, map, flat_map, length, option_map, None, IfOk};
+ghost use Rattle.css_semantics.specs.CascadeOrder.{cascade_cmp, later_of, place_of, spec_cmp, weight_number, winner_of};
+ghost use Rattle.css_semantics.specs.CascadeNodes.{winners_of};
+ghost use Rattle.css_semantics.specs.Properties.{properties};
+ghost use Rattle.css_cascade.specs.Seen.{claims_in, kept, later_or, seen};
 
 use css_semantics::{Claim, Weight};
 use std::alloc::Global;
@@ -15,48 +16,53 @@ pub struct Applied<'a> {
     pub claim: &'a Claim,
 }
 
-/// The properties in the order of the table.
-const PROPERTIES: [Prop; 39] = [
-    Prop::Display,
-    Prop::Position,
-    Prop::Float,
-    Prop::Clear,
-    Prop::Overflow,
-    Prop::Direction,
-    Prop::Width,
-    Prop::Height,
-    Prop::MinWidth,
-    Prop::MinHeight,
-    Prop::MaxWidth,
-    Prop::MaxHeight,
-    Prop::MarginTop,
-    Prop::MarginRight,
-    Prop::MarginBottom,
-    Prop::MarginLeft,
-    Prop::PaddingTop,
-    Prop::PaddingRight,
-    Prop::PaddingBottom,
-    Prop::PaddingLeft,
-    Prop::BorderTopWidth,
-    Prop::BorderRightWidth,
-    Prop::BorderBottomWidth,
-    Prop::BorderLeftWidth,
-    Prop::BorderTopStyle,
-    Prop::BorderRightStyle,
-    Prop::BorderBottomStyle,
-    Prop::BorderLeftStyle,
-    Prop::FontSize,
-    Prop::FontFamily,
-    Prop::LineHeight,
-    Prop::VerticalAlign,
-    Prop::TextAlign,
-    Prop::WhiteSpace,
-    Prop::TextIndent,
-    Prop::LetterSpacing,
-    Prop::WordSpacing,
-    Prop::TextTransform,
-    Prop::ListStylePosition,
-];
+/// The place of a property in the table.
+fn place_of(prop: Prop) -> usize
+    ensures place { result ≡ place_of prop }
+    ensures within { result < 39 }
+{
+    match prop {
+        Prop::Display => 0,
+        Prop::Position => 1,
+        Prop::Float => 2,
+        Prop::Clear => 3,
+        Prop::Overflow => 4,
+        Prop::Direction => 5,
+        Prop::Width => 6,
+        Prop::Height => 7,
+        Prop::MinWidth => 8,
+        Prop::MinHeight => 9,
+        Prop::MaxWidth => 10,
+        Prop::MaxHeight => 11,
+        Prop::MarginTop => 12,
+        Prop::MarginRight => 13,
+        Prop::MarginBottom => 14,
+        Prop::MarginLeft => 15,
+        Prop::PaddingTop => 16,
+        Prop::PaddingRight => 17,
+        Prop::PaddingBottom => 18,
+        Prop::PaddingLeft => 19,
+        Prop::BorderTopWidth => 20,
+        Prop::BorderRightWidth => 21,
+        Prop::BorderBottomWidth => 22,
+        Prop::BorderLeftWidth => 23,
+        Prop::BorderTopStyle => 24,
+        Prop::BorderRightStyle => 25,
+        Prop::BorderBottomStyle => 26,
+        Prop::BorderLeftStyle => 27,
+        Prop::FontSize => 28,
+        Prop::FontFamily => 29,
+        Prop::LineHeight => 30,
+        Prop::VerticalAlign => 31,
+        Prop::TextAlign => 32,
+        Prop::WhiteSpace => 33,
+        Prop::TextIndent => 34,
+        Prop::LetterSpacing => 35,
+        Prop::WordSpacing => 36,
+        Prop::TextTransform => 37,
+        Prop::ListStylePosition => 38,
+    }
+}
 
 /// Which of two specificities is greater (CSS 2.1, 6.4.3).
 pub fn spec_cmp(a: Spec, b: Spec) -> Ordering
@@ -99,40 +105,55 @@ fn later_of<'a>(earlier: Applied<'a>, later: Applied<'a>) -> Applied<'a>
     }
 }
 
-/// The winner for a property behind one more setting.
-fn winner_with<'a>(prop: Prop, best: Option<Applied<'a>>, next: Applied<'a>) -> Option<Applied<'a>>
-    ensures { option_map seen result ≡ winner_with prop (option_map seen best.entry) (seen next.entry) }
+/// The winner for the property of a setting, behind it.
+fn later_or<'a>(best: Option<Applied<'a>>, next: Applied<'a>) -> Applied<'a>
+    ensures { seen result ≡ later_or (option_map seen best.entry) (seen next.entry) }
 {
-    if next.claim.prop != prop {
-        return best;
-    }
     match best {
-        Some(found) => Some(later_of(found, next)),
-        None => Some(next),
+        Some(found) => later_of(found, next),
+        None => next,
     }
 }
 
-/// The winner for a property among the settings that apply to a node, in order.
-fn winner<'a>(prop: Prop, all: &[Applied<'a>]) -> Option<Applied<'a>>
-    ensures { option_map seen result ≡ winner_of prop (map seen all.now) }
+/// Keeps the winner of each property, at its place in the table, behind one more setting.
+fn keep<'a>(best: &mut Vec<Option<Applied<'a>>>, next: Applied<'a>)
+    requires { length best.old.items ≡ 39 }
+    ensures len { length best.new.items ≡ 39 }
+    ensures kept { map (option_map seen) best.new.items ≡ kept (map (option_map seen) best.old.items) (seen next.entry) }
 {
-    let mut best = None;
-    for next in all {
-        best = winner_with(prop, best, *next);
-    }
-    best
+    let at = place_of(next.claim.prop);
+    best[at] = Some(later_or(best[at], next));
 }
 
-fn winners_among<'a>(
-    alloc: Global,
-    props: &[Prop],
-    all: &[Applied<'a>],
-) -> Result<Vec<&'a Claim>, Mem>
-    ensures { IfOk result (λ winners. map (λ c. c.now) winners.items ≡ flat_map (λ p. winners_for p (map seen all.now)) props.now) }
+/// No winner of any property.
+fn no_winners<'a>(alloc: Global) -> Result<Vec<Option<Applied<'a>>>, Mem>
+    ensures len { IfOk result (λ best. length best.items ≡ 39) }
+    ensures none { IfOk result (λ best. map (option_map seen) best.items ≡ map (λ p. None) properties) }
+{
+    let mut best = Vec::new(alloc);
+    for _slot in 0..39u32 {
+        best.push(None)?;
+    }
+    Ok(best)
+}
+
+/// The winner of each property that has one, by the place of the property in the table.
+fn best_of<'a>(alloc: Global, all: &[Applied<'a>]) -> Result<Vec<Option<Applied<'a>>>, Mem>
+    ensures { IfOk result (λ best. map (option_map seen) best.items ≡ map (λ p. winner_of p (map seen all.now)) properties) }
+{
+    let mut best = no_winners(alloc)?;
+    for next in all {
+        keep(&mut best, *next);
+    }
+    Ok(best)
+}
+
+fn claims_among<'a>(alloc: Global, best: &[Option<Applied<'a>>]) -> Result<Vec<&'a Claim>, Mem>
+    ensures { IfOk result (λ winners. map (λ c. c.now) winners.items ≡ flat_map claims_in (map (option_map seen) best.now)) }
 {
     let mut winners = Vec::new(alloc);
-    for prop in props {
-        if let Some(winner) = winner(*prop, all) {
+    for slot in best {
+        if let Some(winner) = *slot {
             winners.push(winner.claim)?;
         }
     }
@@ -143,5 +164,6 @@ fn winners_among<'a>(
 pub fn winners<'a>(alloc: Global, all: &[Applied<'a>]) -> Result<Vec<&'a Claim>, Mem>
     ensures { IfOk result (λ winners. map (λ c. c.now) winners.items ≡ winners_of (map seen all.now)) }
 {
-    winners_among(alloc, &PROPERTIES, all)
+    let best = best_of(alloc, all)?;
+    claims_among(alloc, best.as_slice())
 }

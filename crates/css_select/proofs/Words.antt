@@ -1,5 +1,6 @@
 -- Words of texts, and what the front of a text is.
 use Rattle.std.proofs.Common.{◌≡◌, ℕ, ◌⊎◌, inl, inr, Bool, true, false, not, ◌&&◌, ◌||◌, ◌==◌, cond, List, [], ◌∷◌, ◌++◌, Option, Some, None, refl, sym, ◌∙◌, ap, subst, arith}
+use Rattle.std.proofs.lemmas.Bool.{and_parts, or_left, or_right, or_cases, not-true}
 use Rattle.std.proofs.lemmas.List.{append-nil}
 use Rattle.std.specs.Prelude.{MatchOption}
 use Rattle.std.specs.List.{AllByRecursion, list_any}
@@ -65,22 +66,6 @@ record IsFound (start : Bool) (word text : List ℕ) : Type 0 where
   starts : StartsBehind start before
   ends : BeginsWhite after
 
-and_parts : (a b : Bool) → (a && b) ≡ true → (a ≡ true) × (b ≡ true)
-and_parts true b e = (refl, e)
-and_parts false b e = absurd (cc)
-
-or_first : (a b : Bool) → a ≡ true → (a || b) ≡ true
-or_first true b e = refl
-or_first false b e = absurd (cc)
-
-or_second : (a b : Bool) → b ≡ true → (a || b) ≡ true
-or_second true b e = refl
-or_second false b e = e
-
-or_parts : (a b : Bool) → (a || b) ≡ true → (a ≡ true) ⊎ (b ≡ true)
-or_parts true b e = inl refl
-or_parts false b e = inr e
-
 found_here : (start : Bool) (word text : List ℕ) → (start && begins_word word text) ≡ true → IsFound start word text
 found_here start word text e =
     let h = and_parts start (begins_word word text) e in
@@ -96,7 +81,7 @@ found_cases start word c cs (inr e) h = found_later start word c cs (h e)
 
 is_found : (start : Bool) (word text : List ℕ) → found start word text ≡ true → IsFound start word text
 is_found start word [] e = absurd (cc)
-is_found start word (c ∷ cs) e = found_cases start word c cs (or_parts (start && begins_word word (c ∷ cs)) (found (is_space c) word cs) e) (λ f. is_found (is_space c) word cs f)
+is_found start word (c ∷ cs) e = found_cases start word c cs (or_cases (start && begins_word word (c ∷ cs)) (found (is_space c) word cs) e) (λ f. is_found (is_space c) word cs f)
 
 word_at : (word after text : List ℕ) → text ≡ word ++ after → BeginsWhite after → begins_word word text ≡ true
 word_at word after text e h = ap (begins_word word) e ∙ ap ends_white (behind_append word after) ∙ ends_by after h
@@ -107,11 +92,11 @@ found_at start (v ∷ vs) [] after [] some e s w = absurd (cc)
 found_at start word (b ∷ bs) after [] some e s w = absurd (cc)
 found_at start word [] after (c ∷ cs) some e s w =
     let here : (start && begins_word word (c ∷ cs)) ≡ true = ap (λ x. x && begins_word word (c ∷ cs)) s ∙ word_at word after (c ∷ cs) e w in
-    or_first (start && begins_word word (c ∷ cs)) (found (is_space c) word cs) here
+    or_left (start && begins_word word (c ∷ cs)) (found (is_space c) word cs) here
 found_at start word (b ∷ bs) after (c ∷ cs) some e s w =
     let same : c ≡ b = cc in
     let tail : cs ≡ bs ++ (word ++ after) = cc in
-    or_second (start && begins_word word (c ∷ cs)) (found (is_space c) word cs) (found_at (is_space c) word bs after cs some tail (subst (λ x. StartsBehind (is_space x) bs) (sym same) s) w)
+    or_right (start && begins_word word (c ∷ cs)) (found (is_space c) word cs) (found_at (is_space c) word bs after cs some tail (subst (λ x. StartsBehind (is_space x) bs) (sym same) s) w)
 
 -- white space or nothing is before it
 ends_before : (c : ℕ) (cs : List ℕ) → StartsBehind (is_space c) cs → (front : List ℕ) × (d : ℕ) × (c ∷ cs ≡ front ++ d ∷ []) × (is_space d ≡ true)
@@ -138,10 +123,6 @@ all_solid : (word : List ℕ) → AllByRecursion (λ c. is_space c ≡ false) wo
 all_solid [] h = refl
 all_solid (c ∷ cs) h = ap (λ b. b || list_any is_space cs) h.0 ∙ all_solid cs h.1
 
-not_true : (b : Bool) → not b ≡ true → b ≡ false
-not_true true e = absurd (cc)
-not_true false e = refl
-
 some_of : (word : List ℕ) → not (is_nothing word) ≡ true → word ≡ [] → ⊥
 some_of [] e f = absurd (cc)
 some_of (c ∷ cs) e f = absurd (cc)
@@ -151,7 +132,7 @@ of_some [] h = absurd (h refl)
 of_some (c ∷ cs) h = refl
 
 is_solid_is : (word : List ℕ) → is_solid word ≡ true → (word ≡ [] → ⊥) × AllByRecursion (λ c. is_space c ≡ false) word
-is_solid_is word e = let h = and_parts (not (is_nothing word)) (not (list_any is_space word)) e in (some_of word h.0, solid_all word (not_true (list_any is_space word) h.1))
+is_solid_is word e = let h = and_parts (not (is_nothing word)) (not (list_any is_space word)) e in (some_of word h.0, solid_all word (not-true (list_any is_space word) h.1))
 
 solid_is : (word : List ℕ) → (word ≡ [] → ⊥) → AllByRecursion (λ c. is_space c ≡ false) word → is_solid word ≡ true
 solid_is word some h = ap (λ b. b && not (list_any is_space word)) (of_some word some) ∙ ap not (all_solid word h)

@@ -1,77 +1,77 @@
-use Rattle.std.proofs.Common.{◌≡◌, zero, suc, ℤ, ◌≤ℤ◌, Bool, true, false, cond, int_lt, List, [], ◌∷◌, Contains, map, refl, sym, ◌∙◌, subst, inl, inr, ◌⊎◌, arith}
-use Rattle.std.specs.Int.{int_max}
+-- The greatest and the least of a number and of a list, where facts are said of all members of the list.
+use Rattle.std.proofs.Common.{◌≡◌, ℤ, ◌≤ℤ◌, Bool, IsTrue, List, [], ◌∷◌, Contains, map, filter, refl, sym, subst, inl, inr, ◌⊎◌}
 use Rattle.std.specs.List.{AllByRecursion}
-use Rattle.std.proofs.lemmas.Int.{ints, clamps}
-use Rattle.layout_semantics.specs.Extremes.{greatest_from}
+use Rattle.layout_semantics.specs.Extremes.{greatest_from, least_from}
 use Rattle.layout_semantics.specs.Preferred.{greatest}
 use Rattle.layout_laws.specs.Greatest.{IsGreatestOf}
+use Rattle.layout_laws.proofs.Among.{Among, among, contains, filtered, filters, image, source}
+use Rattle.layout_laws.proofs.Extremes.{below_greatest, start_below_greatest, greatest_at_most, greatest_is_one, above_least, start_above_least, least_at_least, least_is_one}
 
--- ---- members of lists
+-- ---- all members
 
-pub Contains-first : {A : Type 0} (x : A) (xs : List A) → Contains (x ∷ xs) x
-Contains-first x xs = (0, omega arith, refl)
+pub all_from : {A : Type 0} (P : A → Type 0) (xs : List A) → ((x : A) → Among xs x → P x) → AllByRecursion P xs
+all_from P [] each = tt
+all_from P (x ∷ xs) each = (each x (inl refl), all_from P xs (λ y i. each y (inr i)))
 
-pub Contains-later : {A : Type 0} (y : A) (xs : List A) (x : A) → Contains xs x → Contains (y ∷ xs) x
-Contains-later y xs x i = (suc i.0, omega (arith, i.1), i.2)
+pub all_at : {A : Type 0} (P : A → Type 0) (xs : List A) (x : A) → AllByRecursion P xs → Among xs x → P x
+all_at P [] x a i = elim i [ ]
+all_at P (y ∷ ys) x a (inl e) = subst P e a.0
+all_at P (y ∷ ys) x a (inr i) = all_at P ys x a.1 i
 
 pub All-at : {A : Type 0} (P : A → Type 0) (xs : List A) (x : A) → AllByRecursion P xs → Contains xs x → P x
-All-at P [] x a i = absurd (omega (arith, i.1))
-All-at P (y ∷ ys) x a (zero, l, e) = subst P e a.0
-All-at P (y ∷ ys) x a (suc k, l, e) = All-at P ys x a.1 (k, omega (arith, l), e)
+All-at P xs x a i = all_at P xs x a (among xs x i)
 
--- ---- bounds
+pub filter-implied : {A : Type 0} (P Q : A → Type 0) (q : A → Bool) (xs : List A) → ((x : A) → P x → IsTrue (q x) → Q x) → AllByRecursion P xs → AllByRecursion Q (filter q xs)
+filter-implied P Q q xs f a = all_from Q (filter q xs) (λ x i. let h = filtered q xs x i in f x (all_at P xs x a h.0) h.1)
 
-pub bound-more : (m n : ℤ) (xs : List ℤ) → m ≤ℤ n → AllByRecursion (λ x. x ≤ℤ m) xs → AllByRecursion (λ x. x ≤ℤ n) xs
-bound-more m n [] l a = tt
-bound-more m n (x ∷ xs) l a = (omega (arith, ints, a.0), bound-more m n xs l a.1)
+pub filter-all : {A : Type 0} (P : A → Type 0) (q : A → Bool) (xs : List A) → AllByRecursion P (filter q xs) → AllByRecursion (λ x. IsTrue (q x) → P x) xs
+filter-all P q xs a = all_from (λ x. IsTrue (q x) → P x) xs (λ x i t. all_at P (filter q xs) x a (filters q xs x i t))
 
-pub greatest_from-start : (a : ℤ) (xs : List ℤ) → a ≤ℤ greatest_from a xs
-greatest_from-start a [] = omega (arith, ints)
-greatest_from-start a (x ∷ xs) = let rest = greatest_from-start a xs in omega (arith, ints, clamps)
+pub filter-passes : {A : Type 0} (q : A → Bool) (xs : List A) → AllByRecursion (λ x. IsTrue (q x)) (filter q xs)
+filter-passes q xs = all_from (λ x. IsTrue (q x)) (filter q xs) (λ x i. (filtered q xs x i).1)
+
+pub All-map : {A B : Type 0} (P : B → Type 0) (f : A → B) (xs : List A) → AllByRecursion P (map f xs) → AllByRecursion (λ x. P (f x)) xs
+All-map P f xs a = all_from (λ x. P (f x)) xs (λ x i. all_at P (map f xs) (f x) a (image f xs x i))
+
+-- ---- the greatest and the least
 
 pub greatest_from-bound : (a : ℤ) (xs : List ℤ) → AllByRecursion (λ x. x ≤ℤ greatest_from a xs) xs
-greatest_from-bound a [] = tt
-greatest_from-bound a (x ∷ xs) = (omega (arith, ints, clamps), bound-more (greatest_from a xs) (int_max x (greatest_from a xs)) xs (omega (arith, ints, clamps)) (greatest_from-bound a xs))
+greatest_from-bound a xs = all_from (λ x. x ≤ℤ greatest_from a xs) xs (below_greatest a xs)
 
--- ---- it is reached
+pub least_from-bound : (a : ℤ) (xs : List ℤ) → AllByRecursion (λ x. least_from a xs ≤ℤ x) xs
+least_from-bound a xs = all_from (λ x. least_from a xs ≤ℤ x) xs (above_least a xs)
 
-either : (x y : ℤ) (b : Bool) → int_lt y x ≡ b → (cond b x y ≡ x) ⊎ (cond b x y ≡ y)
-either x y true e = inl refl
-either x y false e = inr refl
+pub greatest_from-least : (a : ℤ) (xs : List ℤ) (m : ℤ) → a ≤ℤ m → AllByRecursion (λ x. x ≤ℤ m) xs → greatest_from a xs ≤ℤ m
+greatest_from-least a xs m l all = greatest_at_most a xs m l (λ x i. all_at (λ x. x ≤ℤ m) xs x all i)
 
-pub greatest_from-reached : (a : ℤ) (xs : List ℤ) → (greatest_from a xs ≡ a) ⊎ Contains xs (greatest_from a xs)
-greatest_from-reached a [] = inl refl
-greatest_from-reached a (x ∷ xs) = by (either x (greatest_from a xs) (int_lt (greatest_from a xs) x) refl) (greatest_from-reached a xs)
-  where
-    by : ((int_max x (greatest_from a xs) ≡ x) ⊎ (int_max x (greatest_from a xs) ≡ greatest_from a xs)) → ((greatest_from a xs ≡ a) ⊎ Contains xs (greatest_from a xs))
-        → (int_max x (greatest_from a xs) ≡ a) ⊎ Contains (x ∷ xs) (int_max x (greatest_from a xs))
-    by (inl e) rest = inr (subst (λ m. Contains (x ∷ xs) m) (sym e) (Contains-first x xs))
-    by (inr e) (inl same) = inl (e ∙ same)
-    by (inr e) (inr i) = inr (subst (λ m. Contains (x ∷ xs) m) (sym e) (Contains-later x xs (greatest_from a xs) i))
+-- what holds of a number and of each of a list holds of the greatest and of the least of them
+by_one : (P : ℤ → Type 0) (a m : ℤ) (xs : List ℤ) → (m ≡ a) ⊎ Among xs m → P a → AllByRecursion P xs → P m
+by_one P a m xs (inl e) one all = subst P (sym e) one
+by_one P a m xs (inr i) one all = all_at P xs m all i
+
+pub greatest_from-any : (P : ℤ → Type 0) (a : ℤ) (xs : List ℤ) → P a → AllByRecursion P xs → P (greatest_from a xs)
+greatest_from-any P a xs = by_one P a (greatest_from a xs) xs (greatest_is_one a xs)
+
+pub least_from-any : (P : ℤ → Type 0) (a : ℤ) (xs : List ℤ) → P a → AllByRecursion P xs → P (least_from a xs)
+least_from-any P a xs = by_one P a (least_from a xs) xs (least_is_one a xs)
 
 pub greatest-is : (xs : List ℤ) → IsGreatestOf xs (greatest xs)
 greatest-is [] = record { bound = tt; reached = inl (refl, refl) }
-greatest-is (x ∷ xs) = record { bound = (greatest_from-start x xs, greatest_from-bound x xs); reached = inr (by (greatest_from-reached x xs)) }
+greatest-is (x ∷ xs) = record { bound = (start_below_greatest x xs, greatest_from-bound x xs); reached = inr (contains (x ∷ xs) (greatest_from x xs) (by (greatest_is_one x xs))) }
   where
-    by : ((greatest_from x xs ≡ x) ⊎ Contains xs (greatest_from x xs)) → Contains (x ∷ xs) (greatest_from x xs)
-    by (inl e) = subst (λ m. Contains (x ∷ xs) m) (sym e) (Contains-first x xs)
-    by (inr i) = Contains-later x xs (greatest_from x xs) i
+    by : (greatest_from x xs ≡ x) ⊎ Among xs (greatest_from x xs) → Among (x ∷ xs) (greatest_from x xs)
+    by (inl e) = inl (sym e)
+    by (inr i) = inr i
 
--- ---- the greatest of some members
+-- ---- of fewer members
 
-pub greatest_from-least : (a : ℤ) (xs : List ℤ) (m : ℤ) → a ≤ℤ m → AllByRecursion (λ x. x ≤ℤ m) xs → greatest_from a xs ≤ℤ m
-greatest_from-least a [] m l all = l
-greatest_from-least a (x ∷ xs) m l all = let rest = greatest_from-least a xs m l all.1 in omega (arith, ints, clamps, all.0)
+pub greatest-subset : (a : ℤ) (xs ys : List ℤ) → ((x : ℤ) → Among xs x → Among ys x) → greatest_from a xs ≤ℤ greatest_from a ys
+greatest-subset a xs ys f = greatest_at_most a xs (greatest_from a ys) (start_below_greatest a ys) (λ x i. below_greatest a ys x (f x i))
 
-bound-image : {A : Type 0} (f : A → ℤ) (m : ℤ) (all : List A) (x : A) → AllByRecursion (λ x. x ≤ℤ m) (map f all) → Contains all x → f x ≤ℤ m
-bound-image f m [] x b i = absurd (omega (arith, i.1))
-bound-image f m (y ∷ ys) x b (zero, l, e) = subst (λ z. f z ≤ℤ m) e b.0
-bound-image f m (y ∷ ys) x b (suc k, l, e) = bound-image f m ys x b.1 (k, omega (arith, l), e)
-
-bound-map : {A : Type 0} (f : A → ℤ) (m : ℤ) (all : List A) (xs : List A) → AllByRecursion (λ x. x ≤ℤ m) (map f all) → AllByRecursion (Contains all) xs → AllByRecursion (λ x. x ≤ℤ m) (map f xs)
-bound-map f m all [] b i = tt
-bound-map f m all (x ∷ xs) b i = (bound-image f m all x b i.0, bound-map f m all xs b i.1)
+pub least-subset : (a : ℤ) (xs ys : List ℤ) → ((x : ℤ) → Among xs x → Among ys x) → least_from a ys ≤ℤ least_from a xs
+least-subset a xs ys f = least_at_least a xs (least_from a ys) (start_above_least a ys) (λ x i. above_least a ys x (f x i))
 
 -- a list of members has no greater one
 pub greatest_from-fewer : {A : Type 0} (f : A → ℤ) (a : ℤ) (all xs : List A) → AllByRecursion (Contains all) xs → greatest_from a (map f xs) ≤ℤ greatest_from a (map f all)
-greatest_from-fewer f a all xs i = greatest_from-least a (map f xs) (greatest_from a (map f all)) (greatest_from-start a (map f all)) (bound-map f (greatest_from a (map f all)) all xs (greatest_from-bound a (map f all)) i)
+greatest_from-fewer f a all xs i = greatest-subset a (map f xs) (map f all)
+    (λ y j. let s = source f xs y j in subst (Among (map f all)) s.2 (image f all s.0 (among all s.0 (all_at (Contains all) xs s.0 i s.1))))

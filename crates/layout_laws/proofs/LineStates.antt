@@ -13,8 +13,9 @@ use Rattle.layout_semantics.specs.LineFilling.{Met, Line, joined, first_items, p
 use Rattle.layout_semantics.specs.Fragments.{Entry, float_entry, line_entries}
 use Rattle.layout_semantics.specs.Lines.{SoFar, opened_after, next_line, after_line, after_no_line, after_stretches, lines_to, lines_in, lines, line_box, set_line, content_left}
 use Rattle.layout_laws.specs.LineStacks.{line_rectangles, IsStack, HasMoreFloats}
-use Rattle.layout_laws.proofs.Greatest.{greatest_from-fewer, Contains-first, Contains-later}
-use Rattle.layout_laws.proofs.Levels.{All-append, All-implied}
+use Rattle.layout_laws.proofs.Among.{contains}
+use Rattle.layout_laws.proofs.Greatest.{all_from, greatest_from-fewer}
+use Rattle.layout_laws.proofs.Levels.{All-append}
 use Rattle.layout_laws.proofs.Cuts.{cut-joined}
 use Rattle.layout_laws.proofs.LineTops.{line_top-stands}
 use Rattle.layout_laws.proofs.LineEntries.{rectangles-append, entries-none, floats-none}
@@ -36,8 +37,7 @@ height-most c boxes each =
     omega (arith, ints, clamps)
 
 members : (xs : List ℕ) → AllByRecursion (Contains xs) xs
-members [] = tt
-members (x ∷ xs) = (Contains-first x xs, All-implied (Contains xs) (Contains (x ∷ xs)) xs (λ y i. Contains-later x xs y i) (members xs))
+members xs = all_from (Contains xs) xs (contains xs)
 
 extended-append : (xs ys : List Item) → extended_boxes (xs ++ ys) ≡ extended_boxes xs ++ extended_boxes ys
 extended-append [] ys = refl

@@ -1,115 +1,37 @@
-use Rattle.std.proofs.Common.{◌≡◌, ℤ, ◌+ℤ◌, ◌≤ℤ◌, ◌<ℤ◌, Bool, true, false, not, cond, int_lt, int_le, IsTrue, List, [], ◌∷◌, map, filter, refl, arith}
+use Rattle.std.proofs.Common.{◌≡◌, ℤ, ◌+ℤ◌, ◌≤ℤ◌, ◌<ℤ◌, Bool, true, false, not, cond, int_lt, int_le, IsTrue, List, [], ◌∷◌, map, filter, refl, subst, arith}
 use Rattle.std.specs.Prelude.{◌&&◌, ◌||◌}
-use Rattle.std.specs.Int.{int_max, int_min}
 use Rattle.std.specs.List.{AllByRecursion, list_any}
-use Rattle.std.proofs.lemmas.Int.{ints, clamps}
+use Rattle.std.proofs.lemmas.Int.{ints}
 use Rattle.viz_base.specs.declared.layouts.Band.{Band}
 use Rattle.layout_semantics.specs.Extremes.{greatest_from, least_from}
 use Rattle.layout_semantics.specs.Floats.{FloatBox, is_left, meets, band_at, candidate_tops}
 use Rattle.layout_semantics.specs.LineHeights.{InlineContext}
 use Rattle.layout_semantics.specs.LineFilling.{fits, band_width, meets_none, least_or, line_top}
 use Rattle.layout_laws.specs.Standing.{may_stand}
-use Rattle.layout_laws.proofs.Greatest.{greatest_from-start, greatest_from-bound, greatest_from-least}
+use Rattle.layout_laws.proofs.Among.{Among, filtered, filters, image, source}
+use Rattle.layout_laws.proofs.Extremes.{start_below_greatest, start_above_least}
+use Rattle.layout_laws.proofs.Greatest.{all_at, filter-implied, filter-all, filter-passes, All-map, greatest-subset, least-subset, greatest_from-any, least_from-any, greatest_from-bound, least_from-bound, greatest_from-least}
 use Rattle.layout_laws.proofs.Levels.{All-implied}
 
--- ---- extremes of lists
+-- ---- lists of fewer members
 
-int_max-any : (P : ℤ → Type 0) (x y : ℤ) → P x → P y → P (int_max x y)
-int_max-any P x y a b = by (int_lt y x)
-  where
-    by : (t : Bool) → P (cond t x y)
-    by true = a
-    by false = b
-
-int_min-any : (P : ℤ → Type 0) (x y : ℤ) → P x → P y → P (int_min x y)
-int_min-any P x y a b = by (int_lt y x)
-  where
-    by : (t : Bool) → P (cond t y x)
-    by true = b
-    by false = a
-
--- what holds of a number and of each of a list holds of the greatest and of the least of them
-greatest_from-any : (P : ℤ → Type 0) (a : ℤ) (xs : List ℤ) → P a → AllByRecursion P xs → P (greatest_from a xs)
-greatest_from-any P a [] one all = one
-greatest_from-any P a (x ∷ xs) one all = int_max-any P x (greatest_from a xs) all.0 (greatest_from-any P a xs one all.1)
-
-least_from-any : (P : ℤ → Type 0) (a : ℤ) (xs : List ℤ) → P a → AllByRecursion P xs → P (least_from a xs)
-least_from-any P a [] one all = one
-least_from-any P a (x ∷ xs) one all = int_min-any P x (least_from a xs) all.0 (least_from-any P a xs one all.1)
-
-least_from-start : (a : ℤ) (xs : List ℤ) → least_from a xs ≤ℤ a
-least_from-start a [] = omega (arith, ints)
-least_from-start a (x ∷ xs) = let rest = least_from-start a xs in omega (arith, ints, clamps)
-
-above-fewer : (m n : ℤ) (xs : List ℤ) → m ≤ℤ n → AllByRecursion (λ x. n ≤ℤ x) xs → AllByRecursion (λ x. m ≤ℤ x) xs
-above-fewer m n xs l a = All-implied (λ x. n ≤ℤ x) (λ x. m ≤ℤ x) xs (λ x h. omega (arith, ints)) a
-
-least_from-bound : (a : ℤ) (xs : List ℤ) → AllByRecursion (λ x. least_from a xs ≤ℤ x) xs
-least_from-bound a [] = tt
-least_from-bound a (x ∷ xs) = (omega (arith, ints, clamps), above-fewer (int_min x (least_from a xs)) (least_from a xs) xs (omega (arith, ints, clamps)) (least_from-bound a xs))
-
--- ---- filters
-
-filter-implied : {A : Type 0} (P Q : A → Type 0) (q : A → Bool) (xs : List A) → ((x : A) → P x → IsTrue (q x) → Q x) → AllByRecursion P xs → AllByRecursion Q (filter q xs)
-filter-implied P Q q [] f a = tt
-filter-implied {A} P Q q (x ∷ xs) f a = by (q x) refl (filter-implied P Q q xs f a.1)
-  where
-    by : (b : Bool) → q x ≡ b → AllByRecursion Q (filter q xs) → AllByRecursion Q (cond b (x ∷ filter q xs) (filter q xs))
-    by true e rest = (f x a.0 e, rest)
-    by false e rest = rest
-
-filter-all : {A : Type 0} (P : A → Type 0) (q : A → Bool) (xs : List A) → AllByRecursion P (filter q xs) → AllByRecursion (λ x. IsTrue (q x) → P x) xs
-filter-all P q [] a = tt
-filter-all {A} P q (x ∷ xs) a = by (q x) a (λ rest. filter-all P q xs rest)
-  where
-    by : (b : Bool) → AllByRecursion P (cond b (x ∷ filter q xs) (filter q xs)) → (AllByRecursion P (filter q xs) → AllByRecursion (λ x. IsTrue (q x) → P x) xs) → (IsTrue b → P x) × AllByRecursion (λ x. IsTrue (q x) → P x) xs
-    by true a again = (λ t. a.0, again a.1)
-    by false a again = (λ t. absurd (cc), again a)
-
-trivial : {A : Type 0} (xs : List A) → AllByRecursion (λ x. Unit {0}) xs
-trivial [] = tt
-trivial (x ∷ xs) = (tt, trivial xs)
-
-filter-passes : {A : Type 0} (q : A → Bool) (xs : List A) → AllByRecursion (λ x. IsTrue (q x)) (filter q xs)
-filter-passes q xs = filter-implied (λ x. Unit {0}) (λ x. IsTrue (q x)) q xs (λ x u t. t) (trivial xs)
-
-All-map : {A B : Type 0} (P : B → Type 0) (f : A → B) (xs : List A) → AllByRecursion P (map f xs) → AllByRecursion (λ x. P (f x)) xs
-All-map P f [] a = tt
-All-map P f (x ∷ xs) a = (a.0, All-map P f xs a.1)
-
-All-to_map : {A B : Type 0} (P : B → Type 0) (f : A → B) (xs : List A) → AllByRecursion (λ x. P (f x)) xs → AllByRecursion P (map f xs)
-All-to_map P f [] a = tt
-All-to_map P f (x ∷ xs) a = (a.0, All-to_map P f xs a.1)
-
-All-both : {A : Type 0} (P Q : A → Type 0) (xs : List A) → AllByRecursion P xs → AllByRecursion Q xs → AllByRecursion (λ x. P x × Q x) xs
-All-both P Q [] a b = tt
-All-both P Q (x ∷ xs) a b = ((a.0, b.0), All-both P Q xs a.1 b.1)
-
--- what holds of the images of those that pass two tests holds of the images of those that pass fewer
-fewer : {A : Type 0} (P : ℤ → Type 0) (f : A → ℤ) (p q side : A → Bool) (xs : List A) → AllByRecursion (λ x. IsTrue (p x) → IsTrue (q x)) xs
-    → AllByRecursion P (map f (filter side (filter q xs))) → AllByRecursion P (map f (filter side (filter p xs)))
-fewer P f p q side xs i a =
-    let more = filter-all (λ x. IsTrue (side x) → P (f x)) q xs (filter-all (λ x. P (f x)) side (filter q xs) (All-map P f (filter side (filter q xs)) a)) in
-    let both = All-both (λ x. IsTrue (p x) → IsTrue (q x)) (λ x. IsTrue (q x) → IsTrue (side x) → P (f x)) xs i more in
-    All-to_map P f (filter side (filter p xs))
-    (filter-implied (λ x. IsTrue (side x) → P (f x)) (λ x. P (f x)) side (filter p xs) (λ x h t. h t)
-    (filter-implied (λ x. (IsTrue (p x) → IsTrue (q x)) × (IsTrue (q x) → IsTrue (side x) → P (f x))) (λ x. IsTrue (side x) → P (f x)) p xs (λ x h t. h.1 (h.0 t)) both))
+-- an image of one that passes two tests is an image of one that passes wider ones
+kept_among : {A : Type 0} (f : A → ℤ) (p q side : A → Bool) (xs : List A) → AllByRecursion (λ x. IsTrue (p x) → IsTrue (q x)) xs
+    → (y : ℤ) → Among (map f (filter side (filter p xs))) y → Among (map f (filter side (filter q xs))) y
+kept_among f p q side xs i y j =
+    let s = source f (filter side (filter p xs)) y j in
+    let t = filtered side (filter p xs) s.0 s.1 in
+    let u = filtered p xs s.0 t.0 in
+    let stays = filters q xs s.0 u.0 (all_at (λ x. IsTrue (p x) → IsTrue (q x)) xs s.0 i u.0 u.1) in
+    subst (Among (map f (filter side (filter q xs)))) s.2 (image f (filter side (filter q xs)) s.0 (filters side (filter q xs) s.0 stays t.1))
 
 greatest-fewer : {A : Type 0} (f : A → ℤ) (a : ℤ) (p q side : A → Bool) (xs : List A) → AllByRecursion (λ x. IsTrue (p x) → IsTrue (q x)) xs
     → greatest_from a (map f (filter side (filter p xs))) ≤ℤ greatest_from a (map f (filter side (filter q xs)))
-greatest-fewer f a p q side xs i =
-    let m = greatest_from a (map f (filter side (filter q xs))) in
-    greatest_from-least a (map f (filter side (filter p xs))) m (greatest_from-start a (map f (filter side (filter q xs)))) (fewer (λ x. x ≤ℤ m) f p q side xs i (greatest_from-bound a (map f (filter side (filter q xs)))))
-
-least_from-greatest : (a : ℤ) (xs : List ℤ) (m : ℤ) → m ≤ℤ a → AllByRecursion (λ x. m ≤ℤ x) xs → m ≤ℤ least_from a xs
-least_from-greatest a [] m l all = l
-least_from-greatest a (x ∷ xs) m l all = let rest = least_from-greatest a xs m l all.1 in omega (arith, ints, clamps, all.0)
+greatest-fewer f a p q side xs i = greatest-subset a (map f (filter side (filter p xs))) (map f (filter side (filter q xs))) (kept_among f p q side xs i)
 
 least-fewer : {A : Type 0} (f : A → ℤ) (a : ℤ) (p q side : A → Bool) (xs : List A) → AllByRecursion (λ x. IsTrue (p x) → IsTrue (q x)) xs
     → least_from a (map f (filter side (filter q xs))) ≤ℤ least_from a (map f (filter side (filter p xs)))
-least-fewer f a p q side xs i =
-    let m = least_from a (map f (filter side (filter q xs))) in
-    least_from-greatest a (map f (filter side (filter p xs))) m (least_from-start a (map f (filter side (filter q xs)))) (fewer (λ x. m ≤ℤ x) f p q side xs i (least_from-bound a (map f (filter side (filter q xs)))))
+least-fewer f a p q side xs i = least-subset a (map f (filter side (filter p xs))) (map f (filter side (filter q xs))) (kept_among f p q side xs i)
 
 any-fewer : {A : Type 0} (p q : A → Bool) (xs : List A) → AllByRecursion (λ x. IsTrue (p x) → IsTrue (q x)) xs → IsTrue (not (list_any q xs)) → IsTrue (not (list_any p xs))
 any-fewer p q [] i none = refl
@@ -199,7 +121,7 @@ least_or-any P y (x ∷ xs) f a = least_from-any P x xs a.0 a.1
 
 least_or-bound : (y : ℤ) (xs : List ℤ) → AllByRecursion (λ x. least_or y xs ≤ℤ x) xs
 least_or-bound y [] = tt
-least_or-bound y (x ∷ xs) = (least_from-start x xs, least_from-bound x xs)
+least_or-bound y (x ∷ xs) = (start_above_least x xs, least_from-bound x xs)
 
 filter-none : {A : Type 0} (p : A → Bool) (xs : List A) → filter p xs ≡ [] → AllByRecursion (λ x. p x ≡ false) xs
 filter-none p [] e = tt
@@ -219,7 +141,7 @@ bottoms-within floats y q m a =
 lowest : (floats : List FloatBox) (y : ℤ) → AllByRecursion (λ (f : FloatBox). f.box.bottom ≤ℤ greatest_from y (below y floats)) floats
 lowest floats y =
     let m = greatest_from y (below y floats) in
-    let start = greatest_from-start y (below y floats) in
+    let start = start_below_greatest y (below y floats) in
     let each = All-map (λ b. IsTrue (int_lt y b) → b ≤ℤ m) (λ (f : FloatBox). f.box.bottom) floats (filter-all (λ b. b ≤ℤ m) (int_lt y) (map (λ (f : FloatBox). f.box.bottom) floats) (greatest_from-bound y (below y floats))) in
     All-implied (λ (f : FloatBox). IsTrue (int_lt y f.box.bottom) → f.box.bottom ≤ℤ m) (λ (f : FloatBox). f.box.bottom ≤ℤ m) floats (λ f h. by f.box.bottom m start h) each
   where
@@ -303,7 +225,7 @@ line_top-highest c floats y tall width t low high = by (may_stand c floats tall 
         let within = filter (λ b. int_le b t) (below y floats) in
         let near = greatest_from y within in
         let order = greatest_from-least y within t low (All-implied (λ b. IsTrue (int_le b t)) (λ b. b ≤ℤ t) within (λ b l. omega (arith, ints)) (filter-passes (λ b. int_le b t) (below y floats))) in
-        let start = greatest_from-start y within in
+        let start = start_below_greatest y within in
         let more = All-implied (λ (f : FloatBox). IsTrue (int_lt y f.box.bottom) → IsTrue (int_le f.box.bottom t) → f.box.bottom ≤ℤ near) (MeetsMore tall near t) floats
         (λ f h. met-later tall y near t f start order h) (bottoms-within floats y (λ b. int_le b t) near (greatest_from-bound y within)) in
         let near_stands = may_stand-fewer c floats tall width near t more stands in

@@ -1,5 +1,5 @@
 -- Replies by what was found.
-use Rattle.std.proofs.Common.{◌≡◌, ◌≢◌, inl, inr, ℕ, ℤ, subst, ◌<◌, ◌≤◌, ◌^◌, List, [], ◌∷◌, ◌++◌, length, codes, refl, sym, arith}
+use Rattle.std.proofs.Common.{◌≡◌, inl, inr, ℕ, ℤ, subst, ◌<◌, ◌≤◌, ◌^◌, List, [], ◌∷◌, ◌++◌, length, codes, refl, sym, arith}
 use Rattle.std.specs.List.{flat_map}
 use Rattle.viz_base.specs.declared.worlds.World.{World}
 use Rattle.viz_base.specs.declared.renderings.Rendering.{Rendering}
@@ -14,17 +14,16 @@ use Rattle.cert_text.specs.declared.certificate.Cert.{Cert}
 use Rattle.cert_check.specs.Nodes.{nodes_of}
 use Rattle.cert_check.specs.declared.verdicts.Verdict.TheVariants.{Accepted, Rejected}
 use Rattle.cert_check.proofs.Texts.{few}
-use Rattle.cert_check.proofs.Bounded.{narrow_world, bounded_rendering}
+use Rattle.cert_check.proofs.Bounded.{bounded_rendering}
 use Rattle.prove_search.specs.Outcomes.{IsOutcome}
 use Rattle.prove_search.specs.declared.outcome.Outcome.{Outcome}
 use Rattle.prove_search.specs.declared.outcome.Outcome.TheVariants as found
 use Rattle.vizlog.specs.declared.status.Status.{Status}
 use Rattle.vizlog.specs.declared.status.Status.TheVariants as ends
-use Rattle.vizlog.specs.declared.words.Command.{Command}
 use Rattle.vizlog.specs.declared.words.Command.TheVariants as asks_for
 use Rattle.vizlog.specs.Files.{Files, HoldsJob, HoldsCert}
-use Rattle.vizlog.specs.Replies.{IsReply, IsNoJob, violation_text}
-use Rattle.vizlog.specs.Loads.{IsPrintable, IsOutcomeReply, IsProveReply, IsCheckReply, IsCertMissing}
+use Rattle.vizlog.specs.Replies.{IsReply, violation_text}
+use Rattle.vizlog.specs.Loads.{IsOutcomeReply, IsProveReply, IsCheckReply, IsCertMissing}
 
 -- ---- certificates that were read
 
@@ -51,12 +50,6 @@ violation_is job world r blamed boxes output same whom text lines =
 
 -- ---- searches
 
--- what was found has a text, or a world of the range
-pub printable : (job : Job) (turns : ℕ) (outcome : Outcome) → IsOutcome job turns outcome → IsPrintable outcome
-printable job turns (found.Proved cert) is = (is.text, is.spelled)
-printable job turns (found.Violated world) is = narrow_world job world is.in_range
-printable job turns (found.Undecided part) is = tt
-
 of_outcome : (files : Files) (name cert : List ℕ) (job : Job) (turns : ℕ) (outcome : Outcome) (status : Status) (output : List ℕ) → HoldsJob files name job
     → IsOutcome job turns outcome → IsOutcomeReply job outcome status output → IsReply files (asks_for.Prove turns) name cert status output
 of_outcome files name cert job turns (found.Proved proof) status output held is reply = rw reply.0 (record { job = job; held = held; cert = proof; proof = is; text = reply.1 })
@@ -67,14 +60,6 @@ pub proves : (files : Files) (name cert : List ℕ) (job : Job) (turns : ℕ) (s
     → IsProveReply job turns status output → IsReply files (asks_for.Prove turns) name cert status output
 proves files name cert job turns status output held reply = of_outcome files name cert job turns reply.0 status output held reply.1 reply.2
 
-outcome_faults : (job : Job) (outcome : Outcome) (status : Status) (output : List ℕ) → IsOutcomeReply job outcome status output → (status ≢ ends.ReadFault) × (status ≢ ends.WriteFault)
-outcome_faults job (found.Proved proof) status output reply = ((λ e. absurd (let same = reply.0 in cc)), (λ e. absurd (let same = reply.0 in cc)))
-outcome_faults job (found.Violated world) status output reply = ((λ e. absurd (let same = reply.0 in cc)), (λ e. absurd (let same = reply.0 in cc)))
-outcome_faults job (found.Undecided part) status output reply = ((λ e. absurd (let same = reply.0 in cc)), (λ e. absurd (let same = reply.0 in cc)))
-
-pub prove_faults : (job : Job) (turns : ℕ) (status : Status) (output : List ℕ) → IsProveReply job turns status output → (status ≢ ends.ReadFault) × (status ≢ ends.WriteFault)
-prove_faults job turns status output reply = outcome_faults job reply.0 status output reply.2
-
 -- ---- verdicts
 
 pub checks : (files : Files) (name cert_name : List ℕ) (job : Job) (cert : Cert) (status : Status) (output : List ℕ) → HoldsJob files name job → HoldsCert files cert_name cert
@@ -83,10 +68,6 @@ checks files name cert_name job cert status output held cert_held (Accepted, ver
     rw reply.0 (record { job = job; held = held; cert = cert; cert_held = cert_held; right = verdict; holds = holds refl; text = reply.1 })
 checks files name cert_name job cert status output held cert_held (Rejected reject, verdict, holds, reply) =
     rw reply.0 (record { job = job; held = held; why = inr (inr (record { cert = cert; cert_held = cert_held; reject = reject; cause = verdict; text = reply.1 })) })
-
-pub check_faults : (job : Job) (cert : Cert) (status : Status) (output : List ℕ) → IsCheckReply job cert status output → (status ≢ ends.ReadFault) × (status ≢ ends.WriteFault)
-check_faults job cert status output (Accepted, verdict, holds, reply) = ((λ e. absurd (let same = reply.0 in cc)), (λ e. absurd (let same = reply.0 in cc)))
-check_faults job cert status output (Rejected reject, verdict, holds, reply) = ((λ e. absurd (let same = reply.0 in cc)), (λ e. absurd (let same = reply.0 in cc)))
 
 -- a certificate file of which there is none
 pub missing : (files : Files) (name cert_name : List ℕ) (job : Job) (status : Status) (output : List ℕ) → HoldsJob files name job
@@ -101,30 +82,3 @@ missing files name cert_name job ends.WriteFault output held reply = absurd (rep
 missing files name cert_name job ends.JobRefused output held reply = absurd (reply)
 missing files name cert_name job ends.Undecided output held reply = absurd (reply)
 missing files name cert_name job ends.Memory output held reply = absurd (reply)
-
-pub missing_writes : (files : Files) (name : List ℕ) (status : Status) (output : List ℕ) → IsCertMissing files name status output → status ≢ ends.WriteFault
-missing_writes files name ends.WriteFault output reply e = reply
-missing_writes files name ends.ReadFault output reply e = absurd (cc)
-missing_writes files name ends.CertRefused output reply e = absurd (cc)
-missing_writes files name ends.Done output reply e = reply
-missing_writes files name ends.Violated output reply e = reply
-missing_writes files name ends.Usage output reply e = reply
-missing_writes files name ends.JobRefused output reply e = reply
-missing_writes files name ends.Undecided output reply e = reply
-missing_writes files name ends.Memory output reply e = reply
-
--- a job file of which there is none
-pub no_job : (files : Files) (c : Command) (name cert : List ℕ) (status : Status) (output : List ℕ) → IsNoJob files name status output → IsReply files c name cert status output
-no_job files (asks_for.Lay world) name cert ends.ReadFault output reply = reply
-no_job files (asks_for.Lay world) name cert ends.JobRefused output reply = reply
-no_job files (asks_for.Prove turns) name cert ends.ReadFault output reply = reply
-no_job files (asks_for.Prove turns) name cert ends.JobRefused output reply = reply
-no_job files asks_for.Check name cert ends.ReadFault output reply = reply
-no_job files asks_for.Check name cert ends.JobRefused output reply = reply
-no_job files c name cert ends.Done output reply = absurd (reply)
-no_job files c name cert ends.Violated output reply = absurd (reply)
-no_job files c name cert ends.Usage output reply = absurd (reply)
-no_job files c name cert ends.WriteFault output reply = absurd (reply)
-no_job files c name cert ends.Undecided output reply = absurd (reply)
-no_job files c name cert ends.Memory output reply = absurd (reply)
-no_job files c name cert ends.CertRefused output reply = absurd (reply)

@@ -1,13 +1,10 @@
 -- What a load tells of a job file.
-use Rattle.std.proofs.Common.{◌≡◌, ◌∷◌, [], ℕ, ◌+◌, ◌<◌, List, Bool, true, false, Option, Some, None, IfSome, option_map, length, codes, nat_le, replicate, arith, refl, sym, ap, zero, suc, get_or, map}
+use Rattle.std.proofs.Common.{◌≡◌, ℕ, ◌+◌, ◌<◌, List, Bool, true, false, Option, Some, None, IfSome, option_map, length, codes, nat_le, replicate, arith, refl}
 use Rattle.std.proofs.lemmas.List.{length-replicate}
 use Rattle.std.proofs.lemmas.Bool.Decides.{nat_tests}
 use Rattle.viz_outside.specs.declared.shelf.Loaded.TheVariants.{Longer}
 use Rattle.viz_outside.specs.Shelf.{loaded_of}
 use Rattle.vizlog.specs.Files.{Files, MayHold, IsTooLong, job_most, IsTooLongCert, cert_most}
-use Rattle.vizlog.specs.Words.{word_at, AsksInPlace}
-use Rattle.vizlog.specs.declared.words.Command.{Command}
-use Rattle.vizlog.specs.declared.words.Command.TheVariants as asks_for
 
 a_longer_list : (n : ℕ) → (bytes : List ℕ) × (n < length bytes)
 a_longer_list n = (replicate (n + 1) 0, omega (arith, length-replicate {A = ℕ} (n + 1) 0))
@@ -32,22 +29,3 @@ pub too_long_cert : (files : Files) (name output : List ℕ) → IfSome files (�
 too_long_cert files name output h e = let found = longer files name cert_most h in record { bytes = found.0; told = found.1; long = found.2; line = e }
 
 -- ---- words
-
--- a word at its place
-pub word_is : {X : Type 0} (f : X → List ℕ) (xs : List X) (k : ℕ) (x : X) → k < length xs → x ≡ get_or xs k x → word_at (map f xs) k ≡ f x
-word_is f [] k x h e = absurd (omega arith)
-word_is f (y ∷ ys) zero x h e = ap f (sym e)
-word_is f (y ∷ ys) (suc k) x h e = word_is f ys k x (omega arith) e
-
--- words that ask for a command are at least three
-pub asks_three : {X : Type 0} (f : X → List ℕ) (xs : List X) (c : Command) → AsksInPlace (map f xs) c → 2 < length xs
-asks_three f [] (asks_for.Lay v) asks = let same = asks.words_are in absurd (cc)
-asks_three f [] (asks_for.Prove n) asks = let same = asks.words_are in absurd (cc)
-asks_three f [] asks_for.Check asks = let same = asks.words_are in absurd (cc)
-asks_three f (x ∷ []) (asks_for.Lay v) asks = let same = asks.words_are in absurd (cc)
-asks_three f (x ∷ []) (asks_for.Prove n) asks = let same = asks.words_are in absurd (cc)
-asks_three f (x ∷ []) asks_for.Check asks = let same = asks.words_are in absurd (cc)
-asks_three f (x ∷ y ∷ []) (asks_for.Lay v) asks = let same = asks.words_are in absurd (cc)
-asks_three f (x ∷ y ∷ []) (asks_for.Prove n) asks = let same = asks.words_are in absurd (cc)
-asks_three f (x ∷ y ∷ []) asks_for.Check asks = let same = asks.words_are in absurd (cc)
-asks_three f (x ∷ y ∷ z ∷ zs) c asks = omega arith

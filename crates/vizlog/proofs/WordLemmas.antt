@@ -1,6 +1,6 @@
 -- A number that was printed is read back.
 use Rattle.std.proofs.Common.{◌≡◌, ◌≢◌, ℕ, ◌<◌, ◌^◌, List, [], ◌∷◌, length, codes, ◌≤◌, ◌&&◌, nat_le, cond, Option, Some, None, MatchOption, refl, Bool, true, false, ◌==◌, get_or, map, arith, Result, Ok, decimal, ap, sym, ◌∙◌}
-use Rattle.vizlog.specs.Words.{AskNothing, AsksInPlace, IsWorld}
+use Rattle.vizlog.specs.Words.{AsksInPlace, IsWorld}
 use Rattle.vizlog.specs.declared.words.Command.TheVariants as asks_for
 use Rattle.viz_base.specs.declared.worlds.World.{World}
 use Rattle.std.specs.Str.Parse.{AllDigits, digits_value, ParsesUnsigned}
@@ -20,34 +20,6 @@ parsed word n r small e p =
 
 -- ---- words of no form
 
--- four words that ask for nothing
-pub nothing_4 : (verb job width size : List ℕ) → ((v : World) → IsWorld v → verb ≡ codes "lay" → job ≢ [] → width ≡ decimal v.w → size ≡ decimal v.s → ⊥) → AskNothing (verb ∷ job ∷ width ∷ size ∷ [])
-nothing_4 verb job width size never (asks_for.Lay v) j k asks =
-    let same = asks.words_are in
-    let named : job ≡ j = cc in
-    never v asks.within (cc) (λ e. asks.job_named (sym named ∙ e)) (cc) (cc)
-nothing_4 verb job width size never (asks_for.Prove turns) j k asks = let same = asks.words_are in absurd (cc)
-nothing_4 verb job width size never asks_for.Check j k asks = let same = asks.words_are in absurd (cc)
-
--- three words that ask for nothing
-pub nothing_3 : (verb job last : List ℕ) → ((n : ℕ) → n < 2 ^ 64 → verb ≡ codes "prove" → job ≢ [] → last ≡ decimal n → ⊥) → (verb ≡ codes "check" → job ≢ [] → last ≢ [] → ⊥) → AskNothing (verb ∷ job ∷ last ∷ [])
-nothing_3 verb job last no_prove no_check (asks_for.Lay v) j k asks = let same = asks.words_are in absurd (cc)
-nothing_3 verb job last no_prove no_check (asks_for.Prove n) j k asks =
-    let same = asks.words_are in
-    let named : job ≡ j = cc in
-    no_prove n asks.within (cc) (λ e. asks.job_named (sym named ∙ e)) (cc)
-nothing_3 verb job last no_prove no_check asks_for.Check j k asks =
-    let same = asks.words_are in
-    let named : job ≡ j = cc in
-    let other : last ≡ k = cc in
-    no_check (cc) (λ e. asks.job_named (sym named ∙ e)) (λ e. asks.cert_named (sym other ∙ e))
-
--- words that are neither three nor four
-pub nothing_else : (words : List (List ℕ)) → length words ≢ 4 → length words ≢ 3 → AskNothing words
-nothing_else words four three (asks_for.Lay v) j k asks = four (ap length asks.words_are)
-nothing_else words four three (asks_for.Prove n) j k asks = three (ap length asks.words_are)
-nothing_else words four three asks_for.Check j k asks = three (ap length asks.words_are)
-
 -- ---- words that are there
 
 pub not_empty : (xs : List ℕ) → (length xs == 0) ≡ false → xs ≢ []
@@ -65,13 +37,6 @@ words_4 f (x ∷ y ∷ []) a b c d len p q r s = absurd (omega arith)
 words_4 f (x ∷ y ∷ z ∷ []) a b c d len p q r s = absurd (omega arith)
 words_4 f (x ∷ y ∷ z ∷ w ∷ []) a b c d len p q r s = cc
 words_4 f (x ∷ y ∷ z ∷ w ∷ v ∷ rest) a b c d len p q r s = absurd (omega arith)
-
-pub words_3 : {X : Type 0} (f : X → List ℕ) (xs : List X) (a b c : X) → length xs ≡ 3 → a ≡ get_or xs 0 a → b ≡ get_or xs 1 b → c ≡ get_or xs 2 c → map f xs ≡ f a ∷ f b ∷ f c ∷ []
-words_3 f [] a b c len p q r = absurd (omega arith)
-words_3 f (x ∷ []) a b c len p q r = absurd (omega arith)
-words_3 f (x ∷ y ∷ []) a b c len p q r = absurd (omega arith)
-words_3 f (x ∷ y ∷ z ∷ []) a b c len p q r = cc
-words_3 f (x ∷ y ∷ z ∷ w ∷ rest) a b c len p q r = absurd (omega arith)
 
 pub asks_lay : (verb job width size : List ℕ) (v : World) → IsWorld v → verb ≡ codes "lay" → job ≢ [] → width ≡ decimal v.w → size ≡ decimal v.s → AsksInPlace (verb ∷ job ∷ width ∷ size ∷ []) (asks_for.Lay v)
 asks_lay verb job width size v within lay named w s =
