@@ -1,12 +1,12 @@
 -- The greatest of a list is what the definition of the cascading order computes, and there is one alone.
-use Rattle.std.proofs.Common.{◌≡◌, Bool, true, false, List, [], ◌∷◌, ◌++◌, filter, Option, Some, None, refl, sym, ◌∙◌, ap, subst, append_assoc}
+use Rattle.std.proofs.Common.{◌≡◌, Bool, true, false, List, [], ◌∷◌, ◌++◌, Option, Some, None, refl, sym, ◌∙◌, ap, subst, append_assoc}
 use Rattle.std.specs.Cmp.{IsTotalOrder}
 use Rattle.std.specs.List.{AllByRecursion}
 use Rattle.std.specs.Ordering.{is_gt, is_lt, ordering_reverse}
 use Rattle.std.specs.declared.cmp.Ordering.{Ordering}
 use Rattle.std.specs.declared.cmp.Ordering.TheVariants.{Less, Equal, Greater}
 use Rattle.std.proofs.lemmas.Cmp.{upto, then_total, on_total, nat_cmp_total}
-use Rattle.css_semantics.specs.CascadeOrder.{Applied, IsGreatest, cascade_cmp, greatest, greatest_from, later_of, spec_cmp, weight_number}
+use Rattle.css_semantics.specs.CascadeOrder.{IsGreatest, cascade_cmp, greatest, greatest_from, later_of, spec_cmp, weight_number}
 
 -- ---- the orders
 

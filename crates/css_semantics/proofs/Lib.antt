@@ -15,3 +15,4 @@ pub mod OrderLemmas
 pub mod TableLemmas
 pub mod OneAnswer
 pub mod Greatest
+pub mod Overriding

@@ -1,10 +1,9 @@
 -- What the winners at a node come to: its settings, or a value that is refused by name (CSS 2.1, 6.1 and 6.4).
-use Rattle.std.specs.Prelude.{◌≡◌, ℕ, ◌==◌, ℤ, pos, negsuc, Bool, true, false, not, ◌&&◌, ◌||◌, List, [], ◌∷◌, map, Option, Some, None, Result, Ok, Err, slice_get, if◌then◌else◌, codes}
+use Rattle.std.specs.Prelude.{ℕ, ◌==◌, ℤ, pos, negsuc, Bool, true, false, not, ◌&&◌, ◌||◌, List, [], ◌∷◌, map, Option, Some, None, Result, Ok, Err, slice_get, if◌then◌else◌, codes}
 use Rattle.std.specs.List.{list_any, flat_map}
 use Rattle.std.specs.Option.{option_to_list}
 use Rattle.viz_base.specs.declared.nodes.Body.{Body}
 use Rattle.viz_base.specs.declared.nodes.Body.TheVariants as of_body
-use Rattle.viz_base.specs.declared.nodes.Element.{Element}
 use Rattle.viz_base.specs.declared.settings.Prop.{Prop}
 use Rattle.viz_base.specs.declared.settings.Prop.TheVariants as of_prop
 use Rattle.viz_base.specs.declared.settings.Setting.{Setting}

@@ -1,6 +1,6 @@
 -- What the declarations of style sheets and of style attributes say of each property, in order, and which of it applies to a
 -- node (CSS 2.1, 4.1.7, 4.1.8, 6.4).
-use Rattle.std.specs.Prelude.{◌≡◌, ℕ, ◌+◌, zero, suc, Bool, true, false, List, [], ◌∷◌, ◌++◌, map, Option, Some, None, Result, Ok, Err, slice_range, if◌then◌else◌, codes}
+use Rattle.std.specs.Prelude.{◌≡◌, ℕ, ◌+◌, zero, suc, Bool, List, [], ◌∷◌, ◌++◌, map, Option, Some, None, Result, Ok, Err, slice_range, if◌then◌else◌, codes}
 use Rattle.std.specs.Str.{IsCharBoundary}
 use Rattle.viz_base.specs.declared.nodes.Attr.{Attr}
 use Rattle.viz_base.specs.declared.nodes.Body.{Body}

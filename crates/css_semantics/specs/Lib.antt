@@ -21,3 +21,4 @@ pub mod CascadeOrder
 pub mod CascadeReading
 pub mod CascadeNodes
 pub mod Cascade
+pub mod CascadeLaws

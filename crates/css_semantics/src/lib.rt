@@ -19,4 +19,4 @@ pub use sheets::{one_list_of_declarations, one_sheet, one_stretch};
 pub use statements::Statement;
 pub use terminals::{Comparison, Pseudo, Terminal};
 pub use value_laws::{fewer_sides, one_answer, settings_in_order, values_by_the_table};
-pub use winners::{one_specificity, one_winner};
+pub use winners::{hidden_inside, important_overrides, one_specificity, one_winner};

@@ -1,4 +1,9 @@
-ghost use Rattle.std.specs.Prelude.{◌≡◌, ◌↔◌, List as Seq, [], Some, None};
+ghost use Rattle.std.specs.Prelude.{◌≡◌, ◌↔◌, Bool, true, false, List as Seq, [], Some, None};
+ghost use Rattle.viz_base.specs.declared.sheets.Decl.{Decl};
+ghost use Rattle.css_semantics.specs.declared.claims.Claim.{Claim};
+ghost use Rattle.css_semantics.specs.declared.claims.Origin.{Origin};
+ghost use Rattle.css_semantics.specs.declared.claims.Standing.{Standing};
+ghost use Rattle.css_semantics.specs.CascadeLaws.{Hides, IsImportant, Overrides, is_author};
 ghost use Rattle.viz_base.specs.declared.settings.Prop.{Prop};
 ghost use Rattle.viz_base.specs.declared.selectors.Spec.{Spec};
 ghost use Rattle.css_semantics.specs.CascadeOrder.{Applied, IsGreatest, IsWinner, greatest, of_prop, spec_cmp, winner_of};
@@ -15,4 +20,17 @@ pub fn one_winner()
 pub fn one_specificity()
     ensures greatest { (specs : Seq Spec) (s : Spec) → (greatest spec_cmp specs ≡ Some s) ↔ IsGreatest spec_cmp specs s }
     ensures none { (specs : Seq Spec) → (greatest spec_cmp specs ≡ None) ↔ (specs ≡ []) }
+{}
+
+/// Law: an author's `!important` declaration overrides one that isn't, and each of the author's overrides each of the
+/// default sheet, even one that is `!important` there (CSS 2.1, 6.4.1 and 6.4.2).
+pub fn important_overrides()
+    ensures normal { (o q : Origin) (d e : Decl) → IsImportant o d → e.important ≡ false → Overrides o d q e }
+    ensures default { (o q : Origin) (d e : Decl) → is_author o ≡ true → is_author q ≡ false → Overrides o d q e }
+{}
+
+/// Law: a node inside a hidden one is hidden whatever wins at it, and so is one at which `display: none` wins; no other is
+/// (CSS 2.1, 9.2.4).
+pub fn hidden_inside()
+    ensures { (replaced : Bool) (outer : Standing) (winners : Seq Claim) → Hides replaced outer winners }
 {}
