@@ -234,7 +234,7 @@ def collapsed_laws(case):
 
 def lead_laws(case):
     for at, around, past, margins, waiting, end in case["cases"]:
-        passed = "none_passed" if past is None else f"(is_up_to (tree page ok) {past})"
+        passed = "none_passed" if past is None else f"(is_up_to {past})"
         lead = f"lead (tree page ok) {world(case)} {case['height']} {passed} ({band((0, around))}) {at}"
         yield law(f"({lead}).margins", numbers(margins))
         yield law(f"map (λ (f : Waiting). f.at) ({lead}).waiting", sequence(map(str, waiting)))

@@ -127,4 +127,4 @@ module _ (tree : BoxTree) (w : World) (height : ℕ) (size : Waiting → Extent 
   pub stands : (left : ℕ) (passed : ℕ → Bool) → (resolve_to tree w height size edge cb floats least b left passed).cleared ≡ Some (d, y) → Stands
   unfolding resolve_to
   stands zero passed h = absurd (ends None h)
-  stands (suc left) passed h = step (λ at. resolve_to tree w height size edge cb floats least b left (is_up_to tree at)) (λ at k. stands left (is_up_to tree at) k) (lead tree w height passed cb b) h
+  stands (suc left) passed h = step (λ at. resolve_to tree w height size edge cb floats least b left (is_up_to at)) (λ at k. stands left (is_up_to at) k) (lead tree w height passed cb b) h

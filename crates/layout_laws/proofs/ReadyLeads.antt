@@ -114,10 +114,10 @@ module _ (tree : BoxTree) (w : World) (height : ℕ) where
       resolve-null (suc left) passed =
           let found = lead tree w height passed cb b in
           let null = lead-null (length tree.boxes) passed cb b l in
-          by_end found.end refl null (λ d. resolve-null left (is_up_to tree d))
+          by_end found.end refl null (λ d. resolve-null left (is_up_to d))
         where
-          by_end : (end : LeadEnd) → (lead tree w height passed cb b).end ≡ end → IsNull (lead tree w height passed cb b) → ((d : ℕ) → IsUncleared (resolve_to tree w height size edge cb floats least b left (is_up_to tree d)))
-              → IsUncleared (resolve_step tree w height size edge cb floats least b (λ d. resolve_to tree w height size edge cb floats least b left (is_up_to tree d)) (lead tree w height passed cb b))
+          by_end : (end : LeadEnd) → (lead tree w height passed cb b).end ≡ end → IsNull (lead tree w height passed cb b) → ((d : ℕ) → IsUncleared (resolve_to tree w height size edge cb floats least b left (is_up_to d)))
+              → IsUncleared (resolve_step tree w height size edge cb floats least b (λ d. resolve_to tree w height size edge cb floats least b left (is_up_to d)) (lead tree w height passed cb b))
           by_end of_end.Through g n again = rw g (record { zeros = n.zeros; none = refl })
           by_end (of_end.Solid d) g n again = rw g (record { zeros = n.zeros; none = refl })
           by_end (of_end.Cleared d) g n again = rw (g, not_cleared (lead tree w height passed cb b) d n.none) (again d)

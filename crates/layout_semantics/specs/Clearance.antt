@@ -59,7 +59,7 @@ module _ (tree : BoxTree) (w : World) (height : ℕ) where
   -- cleared, and the lead goes on through it.
   module _ (size : Waiting → Extent ℤ) (edge : List ℤ → ℤ) (cb : Band ℤ) (floats : List FloatBox) (least : Option ℤ) (b : ℕ) where
     abbrev pub hypothetical_edge : Leading → ℕ → ℤ
-    hypothetical_edge found d = edge (found.margins ++ (lead tree w height (is_up_to tree d) found.cb d).margins)
+    hypothetical_edge found d = edge (found.margins ++ (lead tree w height (is_up_to d) found.cb d).margins)
 
     -- the lowest outer bottom of the floats that the `clear` of a box names, those that wait being placed at y
     abbrev pub bottom_to_clear : Leading → ℕ → ℤ → Option ℤ
@@ -85,7 +85,7 @@ module _ (tree : BoxTree) (w : World) (height : ℕ) where
     -- so many boxes being left that may be passed
     unfoldable pub resolve_to : ℕ → (ℕ → Bool) → Resolved
     resolve_to zero passed = record { margins = []; cleared = None }
-    resolve_to (suc left) passed = resolve_step (λ d. resolve_to left (is_up_to tree d)) (lead tree w height passed cb b)
+    resolve_to (suc left) passed = resolve_step (λ d. resolve_to left (is_up_to d)) (lead tree w height passed cb b)
 
     -- where the boxes that pass the test count as not cleared from the first
     abbrev pub resolve : (ℕ → Bool) → Resolved

@@ -158,7 +158,7 @@ module _ (tree : BoxTree) (w : World) (height : ℕ) where
     reached_at cb p b y (Some cleared) = by_match (cleared.0 == b)
       where
         opened : Resolved
-        opened = resolve tree w height waiting_size (λ more. cleared.1) cb p.floats p.least b (is_up_to tree b)
+        opened = resolve tree w height waiting_size (λ more. cleared.1) cb p.floats p.least b (is_up_to b)
 
         by_match : Bool → Reached
         by_match true = record { top = cleared.1; clears = true; cleared = opened.cleared }

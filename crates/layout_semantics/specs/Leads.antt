@@ -1,7 +1,6 @@
 -- The margins that adjoin the top of a box, going forward (CSS 2.1, 8.3.1). Where floats, clearance and margins that collapse
 -- through meet, the standard leaves much open, and this is our own reading of 8.3.1 and 9.5.2.
-use Rattle.std.specs.Prelude.{ℕ, zero, suc, ℤ, Bool, true, false, cond, not, ◌&&◌, ◌==◌, List, [], ◌∷◌, ◌++◌, length}
-use Rattle.std.specs.List.{list_any}
+use Rattle.std.specs.Prelude.{ℕ, zero, suc, ℤ, Bool, true, false, not, ◌&&◌, nat_le, List, [], ◌∷◌, ◌++◌, length}
 use Rattle.viz_base.specs.declared.layouts.Band.{Band}
 use Rattle.viz_base.specs.declared.layouts.LeadEnd.{LeadEnd}
 use Rattle.viz_base.specs.declared.layouts.LeadEnd.TheVariants as of_end
@@ -9,7 +8,6 @@ use Rattle.viz_base.specs.declared.styles.Clear.{Clear}
 use Rattle.viz_base.specs.declared.styles.Clear.TheVariants as of_clear
 use Rattle.viz_base.specs.declared.trees.BoxTree.{BoxTree}
 use Rattle.viz_base.specs.declared.worlds.World.{World}
-use Rattle.layout_semantics.specs.Order.{page_order}
 use Rattle.layout_semantics.specs.Verticals.{verticals}
 use Rattle.layout_semantics.specs.FlowBoxes.{clear_of, is_open_above, may_collapse_through, flow_children, across, content_band}
 use Rattle.layout_semantics.specs.InlineContent.{is_floated_at, has_line}
@@ -28,14 +26,9 @@ pub record Leading : Type 0 where
 
 -- ---- boxes that count as not cleared
 
--- the list up to an item, that item too
-abbrev pub up_to : ℕ → List ℕ → List ℕ
-up_to past [] = []
-up_to past (x ∷ xs) = x ∷ cond (x == past) [] (up_to past xs)
-
--- a box that stands at or before another in document order
-abbrev pub is_up_to : BoxTree → ℕ → ℕ → Bool
-is_up_to tree past b = list_any (λ x. x == b) (up_to past (page_order tree.boxes))
+-- a box that stands at or before another in document order, in which the boxes of a tree are numbered
+abbrev pub is_up_to : ℕ → ℕ → Bool
+is_up_to past b = nat_le b past
 
 abbrev pub none_passed : ℕ → Bool
 none_passed b = false
