@@ -237,7 +237,7 @@ def lead_laws(case):
         passed = "none_passed" if past is None else f"(is_up_to {past})"
         lead = f"lead (tree page ok) {world(case)} {case['height']} {passed} ({band((0, around))}) {at}"
         yield law(f"({lead}).margins", numbers(margins))
-        yield law(f"map (λ (f : Waiting). f.at) ({lead}).waiting", sequence(map(str, waiting)))
+        yield law(f"map (λ (f : Waiting ℤ). f.at) ({lead}).waiting", sequence(map(str, waiting)))
         yield law(f"({lead}).end", variant("end", [end[0]] + list(map(str, end[1:]))))
 
 
@@ -245,7 +245,7 @@ def resolve_laws(case):
     page = f"(tree page ok) {world(case)} {case['height']}"
     edge = f"(λ more. {number(case['e'])} +ℤ collapsed ({numbers(case['run'])} ++ more))"
     cleared = "None" if case["cleared"] is None else f"(Some ({case['cleared']}, {number(case['edge'])}))"
-    yield law(f"resolve {page} (waiting_size {page} (flow_to {page} {len(case['tree']['boxes'])})) {edge} ({band(case['cb'])}) {floats(case['floats'])} {perhaps(case['least'], number)} {case['b']} none_passed",
+    yield law(f"resolve {page} (waiting_size {page} (flow {page})) {edge} ({band(case['cb'])}) {floats(case['floats'])} {perhaps(case['least'], number)} {case['b']} none_passed",
               record({"margins": numbers(case["lead"]), "cleared": cleared}))
 
 
@@ -323,8 +323,8 @@ CALLS = {
     "band": (band_laws, {"Floats": ["band_at"]}),
     "bottom": (bottom_laws, {"Floats": ["lowest_bottom"]}),
     "collapsed": (collapsed_laws, {"Margins": ["collapsed"], "Extremes": ["greatest_from", "least_from"]}),
-    "lead": (lead_laws, {"Leads": ["Waiting", "lead", "none_passed", "is_up_to"]}),
-    "resolve": (resolve_laws, {"Clearance": ["resolve"], "Flow": ["waiting_size"], "Leads": ["none_passed"], "Margins": ["collapsed"]}),
+    "lead": (lead_laws, {"Leads": ["lead", "none_passed", "is_up_to"]}),
+    "resolve": (resolve_laws, {"Clearance": ["resolve"], "Flow": ["flow", "waiting_size"], "Leads": ["none_passed"], "Margins": ["collapsed"]}),
     "render": (render_laws, {"Page": ["page_rendering"]}),
     "boxes": (box_laws, {"BoxTrees": ["page_boxes", "tree_styles"], "Refusals": ["page_refusal", "BoxRefusal"]}),
 }
@@ -341,6 +341,7 @@ use Rattle.viz_base.specs.declared.styles.Align.TheVariants as of_align
 use Rattle.viz_base.specs.declared.styles.Side.TheVariants as of_side
 use Rattle.viz_base.specs.declared.trees.Kind.TheVariants as of_kind
 use Rattle.viz_base.specs.declared.layouts.LeadEnd.TheVariants as of_end
+use Rattle.viz_base.specs.declared.layouts.Waiting.{Waiting}
 use Rattle.viz_base.specs.declared.trees.BoxNode.{BoxNode}
 use Rattle.viz_base.specs.declared.nodes.Body.TheVariants as of_body
 use Rattle.viz_base.specs.declared.nodes.Node.{Node}

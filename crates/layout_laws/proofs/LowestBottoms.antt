@@ -6,13 +6,14 @@ use Rattle.viz_base.specs.declared.layouts.Band.{Band}
 use Rattle.viz_base.specs.declared.layouts.Extent.{Extent}
 use Rattle.viz_base.specs.declared.layouts.LeadEnd.{LeadEnd}
 use Rattle.viz_base.specs.declared.layouts.LeadEnd.TheVariants as of_end
+use Rattle.viz_base.specs.declared.layouts.Waiting.{Waiting}
 use Rattle.viz_base.specs.declared.styles.Clear.{Clear}
 use Rattle.viz_base.specs.declared.trees.BoxTree.{BoxTree}
 use Rattle.viz_base.specs.declared.worlds.World.{World}
 use Rattle.layout_semantics.specs.Extremes.{greatest_from}
 use Rattle.layout_semantics.specs.Floats.{FloatBox, is_relevant, lowest_bottom}
 use Rattle.layout_semantics.specs.FlowBoxes.{clear_of}
-use Rattle.layout_semantics.specs.Leads.{Waiting, Leading, is_up_to, lead}
+use Rattle.layout_semantics.specs.Leads.{Leading, is_up_to, lead}
 use Rattle.layout_semantics.specs.Clearance.{Resolved, with_waiting, with_float, is_cleared, cleared_edge, resolve_step, resolve_to}
 use Rattle.layout_laws.specs.Clearance.{IsLowestBottom}
 use Rattle.layout_laws.proofs.Among.{Among, among, contains, filtered, filters, image, source}
@@ -84,13 +85,13 @@ among_before [] ys x i = elim i [ ]
 among_before (y ∷ xs) ys x (inl e) = inl e
 among_before (y ∷ xs) ys x (inr i) = inr (among_before xs ys x i)
 
-kept : (tree : BoxTree) (size : Waiting → Extent ℤ) (fs : List Waiting) (floats : List FloatBox) (least : Option ℤ) (y : ℤ) (f : FloatBox) → Among floats f → Among (with_waiting tree size fs floats least y) f
+kept : (tree : BoxTree) (size : Waiting ℤ → Extent ℤ) (fs : List (Waiting ℤ)) (floats : List FloatBox) (least : Option ℤ) (y : ℤ) (f : FloatBox) → Among floats f → Among (with_waiting tree size fs floats least y) f
 kept tree size [] floats least y f i = i
 kept tree size (g ∷ gs) floats least y f i = kept tree size gs (with_float tree g.at (size g) g.cb floats least y) least y f (among_before floats _ f i)
 
 -- ---- a cleared box
 
-module _ (tree : BoxTree) (w : World) (height : ℕ) (size : Waiting → Extent ℤ) (edge : List ℤ → ℤ) (cb : Band ℤ) (floats : List FloatBox) (least : Option ℤ) (b : ℕ) (d : ℕ) (y : ℤ) where
+module _ (tree : BoxTree) (w : World) (height : ℕ) (size : Waiting ℤ → Extent ℤ) (edge : List ℤ → ℤ) (cb : Band ℤ) (floats : List FloatBox) (least : Option ℤ) (b : ℕ) (d : ℕ) (y : ℤ) where
   abbrev Stands : Type 0
   Stands = (f : FloatBox) → Contains floats f → IsTrue (is_relevant (clear_of tree d) f) → f.box.bottom ≤ℤ y
 

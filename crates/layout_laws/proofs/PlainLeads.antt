@@ -4,13 +4,14 @@ use Rattle.viz_base.specs.declared.layouts.Band.{Band}
 use Rattle.viz_base.specs.declared.layouts.Extent.{Extent}
 use Rattle.viz_base.specs.declared.layouts.LeadEnd.{LeadEnd}
 use Rattle.viz_base.specs.declared.layouts.LeadEnd.TheVariants as of_end
+use Rattle.viz_base.specs.declared.layouts.Waiting.{Waiting}
 use Rattle.viz_base.specs.declared.styles.Clear.TheVariants as of_clear
 use Rattle.viz_base.specs.declared.trees.BoxTree.{BoxTree}
 use Rattle.viz_base.specs.declared.worlds.World.{World}
 use Rattle.layout_semantics.specs.Floats.{FloatBox}
 use Rattle.layout_semantics.specs.FlowBoxes.{clear_of, is_open_above, may_collapse_through, flow_children, content_band}
 use Rattle.layout_semantics.specs.InlineContent.{is_floated_at, has_line}
-use Rattle.layout_semantics.specs.Leads.{Waiting, Leading, top_margin, bottom_margin, followed_by, through, child_lead, children_lead, lead_step, lead_to, lead, all_passed}
+use Rattle.layout_semantics.specs.Leads.{Leading, top_margin, bottom_margin, followed_by, through, child_lead, children_lead, lead_step, lead_to, lead, all_passed}
 use Rattle.layout_semantics.specs.Clearance.{Resolved, resolve, resolve_to}
 
 abbrev pub ends_cleared : LeadEnd → Bool
@@ -99,7 +100,7 @@ module _ (tree : BoxTree) (w : World) (height : ℕ) where
         (children-same go one (λ k. lead-plain levels passed band k) (λ k. lead-same levels passed band k) band (flow_children tree b))
         ∙ sym (step-is (lead_to tree w height levels all_passed) all_passed cb b))
 
-    pub resolve-plain : (size : Waiting → Extent ℤ) (edge : List ℤ → ℤ) (cb : Band ℤ) (floats : List FloatBox) (least : Option ℤ) (b : ℕ) (passed : ℕ → Bool)
+    pub resolve-plain : (size : Waiting ℤ → Extent ℤ) (edge : List ℤ → ℤ) (cb : Band ℤ) (floats : List FloatBox) (least : Option ℤ) (b : ℕ) (passed : ℕ → Bool)
         → resolve tree w height size edge cb floats least b passed ≡ record { margins = (lead tree w height all_passed cb b).margins; cleared = None }
     unfolding resolve_to
     resolve-plain size edge cb floats least b passed =

@@ -6,6 +6,7 @@ use Rattle.viz_base.specs.declared.layouts.Band.{Band}
 use Rattle.viz_base.specs.declared.layouts.Extent.{Extent}
 use Rattle.viz_base.specs.declared.layouts.LeadEnd.{LeadEnd}
 use Rattle.viz_base.specs.declared.layouts.LeadEnd.TheVariants as of_end
+use Rattle.viz_base.specs.declared.layouts.Waiting.{Waiting}
 use Rattle.viz_base.specs.declared.trees.BoxTree.{BoxTree}
 use Rattle.viz_base.specs.declared.worlds.World.{World}
 use Rattle.layout_semantics.specs.Extremes.{greatest_from, least_from}
@@ -13,7 +14,7 @@ use Rattle.layout_semantics.specs.Margins.{collapsed}
 use Rattle.layout_semantics.specs.Floats.{FloatBox}
 use Rattle.layout_semantics.specs.FlowBoxes.{clear_of, is_open_above, may_collapse_through, flow_children, content_band, across}
 use Rattle.layout_semantics.specs.InlineContent.{is_floated_at, has_line}
-use Rattle.layout_semantics.specs.Leads.{Waiting, Leading, clears_something, top_margin, bottom_margin, followed_by, through, child_lead, children_lead, lead_to, lead, is_up_to}
+use Rattle.layout_semantics.specs.Leads.{Leading, clears_something, top_margin, bottom_margin, followed_by, through, child_lead, children_lead, lead_to, lead, is_up_to}
 use Rattle.layout_semantics.specs.Verticals.{Verticals}
 use Rattle.layout_semantics.specs.Clearance.{Resolved, resolve, resolve_to, resolve_step, is_cleared}
 use Rattle.layout_laws.proofs.PlainLeads.{box_from, last_of}
@@ -52,7 +53,7 @@ module _ (tree : BoxTree) (w : World) (height : ℕ) where
   followed-null first rest a b = by_end first.end refl
     where
       both_none : first.waiting ++ rest.waiting ≡ []
-      both_none = ap (λ (l : List Waiting). l ++ rest.waiting) a.none ∙ b.none
+      both_none = ap (λ (l : List (Waiting ℤ)). l ++ rest.waiting) a.none ∙ b.none
 
       by_end : (end : LeadEnd) → first.end ≡ end → IsNull (followed_by tree w height first rest)
       by_end of_end.Through g = rw g (record { zeros = zero-append first.margins rest.margins a.zeros b.zeros; none = both_none })
@@ -104,7 +105,7 @@ module _ (tree : BoxTree) (w : World) (height : ℕ) where
       pub zeros : AllZero r.margins
       pub none : r.cleared ≡ None
 
-    module _ (size : Waiting → Extent ℤ) (edge : List ℤ → ℤ) (cb : Band ℤ) (floats : List FloatBox) (least : Option ℤ) (b : ℕ) (l : b < length tree.boxes) (no_floats : floats ≡ []) where
+    module _ (size : Waiting ℤ → Extent ℤ) (edge : List ℤ → ℤ) (cb : Band ℤ) (floats : List FloatBox) (least : Option ℤ) (b : ℕ) (l : b < length tree.boxes) (no_floats : floats ≡ []) where
       not_cleared : (found : Leading) (d : ℕ) → found.waiting ≡ [] → is_cleared tree w height size edge cb floats least b found d ≡ false
       not_cleared found d e = rw (e, no_floats)
 

@@ -1,13 +1,13 @@
 ghost use Rattle.std.specs.Prelude.{◌≡◌, ℕ, ℤ, ◌≤ℤ◌, Bool, false, List, Contains, IsTrue, Some, MatchOption};
 ghost use Rattle.viz_base.specs.declared.layouts.Band.{Band};
 ghost use Rattle.viz_base.specs.declared.layouts.Extent.{Extent};
+ghost use Rattle.viz_base.specs.declared.layouts.Waiting.{Waiting};
 ghost use Rattle.viz_base.specs.declared.styles.Clear.{Clear};
 ghost use Rattle.viz_base.specs.declared.trees.BoxTree.{BoxTree as Tree};
 ghost use Rattle.viz_base.specs.declared.worlds.World.{World};
 ghost use Rattle.std.specs.Prelude.{Option};
 ghost use Rattle.layout_semantics.specs.Floats.{FloatBox, is_relevant, lowest_bottom};
 ghost use Rattle.layout_semantics.specs.FlowBoxes.{clear_of};
-ghost use Rattle.layout_semantics.specs.Leads.{Waiting};
 ghost use Rattle.layout_semantics.specs.Clearance.{resolve};
 ghost use Rattle.layout_laws.specs.Clearance.{IsLowestBottom};
 
@@ -19,7 +19,7 @@ pub fn clear_looks_at_the_lowest_bottom()
 
 /// A box that is cleared stands below each earlier float that its `clear` names (CSS 2.1, 9.5.2).
 pub fn a_cleared_box_stands_below_the_floats()
-    ensures { (tree : Tree) (w : World) (height : ℕ) (size : Waiting → Extent ℤ) (edge : List ℤ → ℤ) (cb : Band ℤ) (floats : List FloatBox) (least : Option ℤ) (b : ℕ) (passed : ℕ → Bool) (d : ℕ) (y : ℤ)
+    ensures { (tree : Tree) (w : World) (height : ℕ) (size : Waiting ℤ → Extent ℤ) (edge : List ℤ → ℤ) (cb : Band ℤ) (floats : List FloatBox) (least : Option ℤ) (b : ℕ) (passed : ℕ → Bool) (d : ℕ) (y : ℤ)
         → (resolve tree w height size edge cb floats least b passed).cleared ≡ Some (d, y)
         → (f : FloatBox) → Contains floats f → IsTrue (is_relevant (clear_of tree d) f) → f.box.bottom ≤ℤ y }
 {}

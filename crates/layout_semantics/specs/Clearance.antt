@@ -7,6 +7,7 @@ use Rattle.viz_base.specs.declared.layouts.Extent.{Extent}
 use Rattle.viz_base.specs.declared.layouts.LeadEnd.{LeadEnd}
 use Rattle.viz_base.specs.declared.layouts.LeadEnd.TheVariants as of_end
 use Rattle.viz_base.specs.declared.layouts.Spot.{Spot}
+use Rattle.viz_base.specs.declared.layouts.Waiting.{Waiting}
 use Rattle.viz_base.specs.declared.styles.Clear.TheVariants as of_clear
 use Rattle.viz_base.specs.declared.styles.Side.{Side}
 use Rattle.viz_base.specs.declared.styles.Side.TheVariants as of_side
@@ -15,7 +16,7 @@ use Rattle.viz_base.specs.declared.trees.BoxTree.{BoxTree}
 use Rattle.viz_base.specs.declared.worlds.World.{World}
 use Rattle.layout_semantics.specs.Extremes.{greatest_from}
 use Rattle.layout_semantics.specs.Floats.{FloatBox, placed_float, float_at, lowest_bottom}
-use Rattle.layout_semantics.specs.Leads.{Waiting, Leading, is_up_to, lead}
+use Rattle.layout_semantics.specs.Leads.{Leading, is_up_to, lead}
 use Rattle.layout_semantics.specs.FlowBoxes.{clear_of}
 use Rattle.layout_semantics.specs.Lengths.{own}
 
@@ -41,7 +42,7 @@ abbrev pub with_float : BoxTree → ℕ → Extent ℤ → Band ℤ → List Flo
 with_float tree f size cb floats least y = floats ++ placed_float (side_of tree f) size (float_spot tree f size cb floats least y) ∷ []
 
 -- after all floats that wait are placed, one after another, where the run of margins between which they stand ends at y
-abbrev pub with_waiting : BoxTree → (Waiting → Extent ℤ) → List Waiting → List FloatBox → Option ℤ → ℤ → List FloatBox
+abbrev pub with_waiting : BoxTree → (Waiting ℤ → Extent ℤ) → List (Waiting ℤ) → List FloatBox → Option ℤ → ℤ → List FloatBox
 with_waiting tree size [] floats least y = floats
 with_waiting tree size (f ∷ fs) floats least y = with_waiting tree size fs (with_float tree f.at (size f) f.cb floats least y) least y
 
@@ -57,7 +58,7 @@ module _ (tree : BoxTree) (w : World) (height : ℕ) where
   -- edge is above the outer bottom of a float that `clear` names, the box is cleared: its border edge is put at the lowest
   -- such bottom, the floats that wait then standing where the run ends without the box's margins. Else it counts as not
   -- cleared, and the lead goes on through it.
-  module _ (size : Waiting → Extent ℤ) (edge : List ℤ → ℤ) (cb : Band ℤ) (floats : List FloatBox) (least : Option ℤ) (b : ℕ) where
+  module _ (size : Waiting ℤ → Extent ℤ) (edge : List ℤ → ℤ) (cb : Band ℤ) (floats : List FloatBox) (least : Option ℤ) (b : ℕ) where
     abbrev pub hypothetical_edge : Leading → ℕ → ℤ
     hypothetical_edge found d = edge (found.margins ++ (lead tree w height (is_up_to d) found.cb d).margins)
 

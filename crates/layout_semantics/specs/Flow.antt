@@ -7,6 +7,7 @@ use Rattle.std.specs.List.{flat_map}
 use Rattle.viz_base.specs.declared.layouts.Band.{Band}
 use Rattle.viz_base.specs.declared.layouts.Extent.{Extent}
 use Rattle.viz_base.specs.declared.layouts.Inner.{Inner}
+use Rattle.viz_base.specs.declared.layouts.Waiting.{Waiting}
 use Rattle.viz_base.specs.declared.layouts.Widths.{Widths}
 use Rattle.viz_base.specs.declared.renderings.Placed.{Placed}
 use Rattle.viz_base.specs.Trees.{is_line}
@@ -19,7 +20,7 @@ use Rattle.layout_semantics.specs.Margins.{collapsed}
 use Rattle.layout_semantics.specs.Verticals.{Verticals, verticals}
 use Rattle.layout_semantics.specs.Rectangles.{Frame, content_top, placed_box, shifted, outer_extent}
 use Rattle.layout_semantics.specs.FlowBoxes.{is_replaced_at, is_context_root, is_open_above, may_collapse_through, joins_last_child, flow_children, across, content_from}
-use Rattle.layout_semantics.specs.Leads.{Waiting, none_passed, all_passed, is_up_to, lead, bottom_margin}
+use Rattle.layout_semantics.specs.Leads.{none_passed, all_passed, is_up_to, lead, bottom_margin}
 use Rattle.layout_semantics.specs.Clearance.{Resolved, float_spot, with_float, resolve}
 use Rattle.layout_semantics.specs.Lengths.{own}
 use Rattle.layout_semantics.specs.DefiniteHeights.{given_height, held_height}
@@ -136,7 +137,7 @@ module _ (tree : BoxTree) (w : World) (height : ℕ) where
         by_frame : Frame → Alone
         by_frame f = by_sort f (is_replaced_at tree b)
 
-    abbrev pub waiting_size : Waiting → Extent ℤ
+    abbrev pub waiting_size : Waiting ℤ → Extent ℤ
     waiting_size f = (alone f.at (across f.cb)).size
 
     -- a float stands as an empty block would that collapses through, and not above its container's content top
@@ -316,6 +317,10 @@ module _ (tree : BoxTree) (w : World) (height : ℕ) where
   flow_to zero b cb top p = p
   flow_to (suc levels) b cb top p = flow_step (flow_to levels) b cb top p
 
+  -- the content of a box in a containing block, from a content top and how far the flow has come: a page has no more levels than boxes
+  abbrev pub flow : ℕ → Band ℤ → ℤ → Progress → Progress
+  flow = flow_to (length tree.boxes)
+
   -- a box that starts a context, at the top left of coordinates of its own
   abbrev pub whole_alone : ℕ → ℤ → Alone
-  whole_alone b room = alone (flow_to (length tree.boxes)) b room
+  whole_alone b room = alone flow b room

@@ -4,6 +4,7 @@ use Rattle.std.specs.Prelude.{ℕ, zero, suc, ℤ, Bool, true, false, not, ◌&&
 use Rattle.viz_base.specs.declared.layouts.Band.{Band}
 use Rattle.viz_base.specs.declared.layouts.LeadEnd.{LeadEnd}
 use Rattle.viz_base.specs.declared.layouts.LeadEnd.TheVariants as of_end
+use Rattle.viz_base.specs.declared.layouts.Waiting.{Waiting}
 use Rattle.viz_base.specs.declared.styles.Clear.{Clear}
 use Rattle.viz_base.specs.declared.styles.Clear.TheVariants as of_clear
 use Rattle.viz_base.specs.declared.trees.BoxTree.{BoxTree}
@@ -12,15 +13,11 @@ use Rattle.layout_semantics.specs.Verticals.{verticals}
 use Rattle.layout_semantics.specs.FlowBoxes.{clear_of, is_open_above, may_collapse_through, flow_children, across, content_band}
 use Rattle.layout_semantics.specs.InlineContent.{is_floated_at, has_line}
 
--- a float between adjoining margins, with its containing block
-pub record Waiting : Type 0 where
-  pub at : ℕ
-  pub cb : Band ℤ
-
--- the margins, the floats between them, where they end, and the containing block of the box at which they end
+-- the margins, the floats between them with their containing blocks, where they end, and the containing block of the box at
+-- which they end
 pub record Leading : Type 0 where
   pub margins : List ℤ
-  pub waiting : List Waiting
+  pub waiting : List (Waiting ℤ)
   pub end : LeadEnd
   pub cb : Band ℤ
 

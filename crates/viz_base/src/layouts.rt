@@ -78,10 +78,21 @@ pub enum LeadEnd {
     Cleared(u32),
 }
 
+/// A float between margins that adjoin (CSS 2.1, 8.3.1, 9.5).
+#[derive(Clone, Copy, Debug, PartialEq, Eq)]
+pub struct Waiting<N> {
+    /// The place of the float in its tree.
+    pub at: u32,
+    /// Its containing block.
+    pub cb: Band<N>,
+}
+
 /// The margins that adjoin a box's top, with the floats between them (CSS 2.1, 8.3.1).
 #[derive(Debug, Drop)]
-pub struct Lead {
+pub struct Lead<N> {
     pub end: LeadEnd,
-    /// The places of the floats in their tree.
-    pub waiting: List<u32>,
+    /// The containing block of the box at which they end.
+    pub cb: Band<N>,
+    /// The floats in document order.
+    pub waiting: List<Waiting<N>>,
 }
