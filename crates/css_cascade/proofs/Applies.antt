@@ -11,7 +11,8 @@ use Rattle.css_semantics.specs.SheetsGrammar.{AreDeclarationsOf}
 use Rattle.css_semantics.specs.declared.claims.Ruleset.{Ruleset}
 use Rattle.css_semantics.specs.CascadeOrder.{Applied, greatest, spec_cmp}
 use Rattle.css_semantics.specs.CascadeReading.{AppliesTo, AreApplied, AreClaimed, Matching, all_applied, applies}
-use Rattle.css_semantics.specs.CascadeNodes.{is_replaced, judged, standing_around, winners_of}
+use Rattle.viz_base.specs.Pages.{is_replaced}
+use Rattle.css_semantics.specs.CascadeNodes.{judged, standing_around, winners_of}
 use Rattle.css_semantics.specs.Cascade.{ComesTo, comes_to}
 use Rattle.css_cascade.specs.declared.faults.CascadeFault.{CascadeFault}
 use Rattle.css_cascade.specs.declared.faults.CascadeFault.TheVariants.{Mem, Selector, Value}

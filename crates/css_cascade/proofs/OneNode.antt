@@ -4,7 +4,7 @@ use Rattle.std.specs.Str.{chars}
 use Rattle.viz_base.specs.declared.nodes.Body.TheVariants as of_body
 use Rattle.viz_base.specs.declared.nodes.Element.{Element}
 use Rattle.viz_base.specs.declared.nodes.Node.{Node}
-use Rattle.viz_base.specs.Pages.{IsPage, parent_fits, text_of}
+use Rattle.viz_base.specs.Pages.{IsPage, has_lower_names, parent_fits, text_of}
 
 abbrev pub root : Element → Node
 root e = record { parent = None; body = of_body.Element e }
@@ -24,9 +24,10 @@ no_letters = refl
 few_letters : length (chars []) ≤ 262144
 few_letters = rw no_letters (lit≤ tt)
 
-pub one_node : (e : Element) → IsPage (root e ∷ [])
-one_node e = record {
+pub one_node : (e : Element) → IsTrue (has_lower_names (of_body.Element e)) → IsPage (root e ∷ [])
+one_node e lower = record {
   root = refl;
   parents = λ at n is. let h = only e at n is in subst (λ m. IsTrue (parent_fits (root e ∷ []) at m.parent)) h.1 (rw h.0 refl);
   texts = λ at n is. let h = only e at n is in subst (λ m. length (chars (text_of m.body)) ≤ 262144) h.1 few_letters;
+  names = λ at n is. subst (λ m. IsTrue (has_lower_names m.body)) (only e at n is).1 lower;
 }

@@ -1,7 +1,8 @@
 ghost use Rattle.std.specs.Prelude.{◌≡◌, ◌++◌, map, flat_map, option_map, IfOk};
 ghost use Rattle.std.specs.List.{list_any};
 ghost use Rattle.std.specs.Option.{option_to_list};
-ghost use Rattle.css_semantics.specs.CascadeNodes.{around_root, first_refused, has_size, hides, is_above_zero, is_hidden, is_limit, is_refused, is_replaced, sets_limit, sets_max_height, sets_min_height, sets_min_width, set_by, settings_by, settings_of, standing_around, standing_of};
+ghost use Rattle.viz_base.specs.Pages.{is_replaced};
+ghost use Rattle.css_semantics.specs.CascadeNodes.{around_root, first_refused, hides, is_above_zero, is_hidden, is_limit, is_refused, sets_limit, sets_max_height, sets_min_height, sets_min_width, set_by, settings_by, settings_of, standing_around, standing_of};
 
 use css_semantics::{Claim, Standing};
 use std::alloc::Global;
@@ -29,8 +30,7 @@ pub fn is_replaced(body: &Body) -> bool
     match body {
         Body::Element(element) => {
             let tag = element.tag.as_str();
-            (element.size.is_some() || tag.eq_ignore_ascii_case("img"))
-                && !tag.eq_ignore_ascii_case("br")
+            tag == "img" || (element.size.is_some() && tag != "br")
         }
         Body::Chars(_) => false,
     }

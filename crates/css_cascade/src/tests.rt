@@ -1,26 +1,43 @@
+ghost use Rattle.std.specs.Prelude.{◌≡◌, IfOk, IsTrue};
+ghost use Rattle.viz_base.specs.Pages.{has_lower_names, is_lower};
+ghost use Rattle.viz_base.specs.declared.nodes.Body.TheVariants as of_body;
+
 use crate::{cascade, default_sheet};
 use css_syntax::read_sheet;
 use std::alloc::{AllocError, Global};
 use std::test::Fail;
 use viz_base::{Attr, Body, Cascaded, Element, List, Node, Page, Prop, Text};
 
-/// A page of one `div` of class `a`, with this style attribute.
-fn page(alloc: Global, style: &str) -> Result<Page, AllocError> {
+fn attribute(alloc: Global, name: &str, value: &str) -> Result<Attr, AllocError>
+    requires { IsTrue (is_lower name.now) }
+    ensures { IfOk result (λ a. IsTrue (is_lower a.name)) }
+{
+    Ok(Attr {
+        name: Text::from_text(alloc, name)?,
+        value: Text::from_text(alloc, value)?,
+    })
+}
+
+/// A `div` of class `a`, with this style attribute.
+fn element(alloc: Global, style: &str) -> Result<Element, AllocError>
+    ensures { IfOk result (λ e. IsTrue (has_lower_names (of_body.Element e))) }
+{
     let mut attrs = List::new(alloc);
-    for (name, value) in [("class", "a"), ("style", style)] {
-        attrs.push(Attr {
-            name: Text::from_text(alloc, name)?,
-            value: Text::from_text(alloc, value)?,
-        })?;
-    }
+    attrs.push(attribute(alloc, "class", "a")?)?;
+    attrs.push(attribute(alloc, "style", style)?)?;
+    Ok(Element {
+        tag: Text::from_text(alloc, "div")?,
+        attrs,
+        size: None,
+    })
+}
+
+/// A page of that element alone.
+fn page(alloc: Global, style: &str) -> Result<Page, AllocError> {
     let mut nodes = List::new(alloc);
     nodes.push(Node {
         parent: None,
-        body: Body::Element(Element {
-            tag: Text::from_text(alloc, "div")?,
-            attrs,
-            size: None,
-        }),
+        body: Body::Element(element(alloc, style)?),
     })?;
     Ok(Page { nodes })
 }

@@ -1,5 +1,5 @@
 ghost use Rattle.std.specs.Prelude.{◌≡◌, IfOk, IsTrue};
-ghost use Rattle.viz_base.specs.Pages.{is_element};
+ghost use Rattle.viz_base.specs.Pages.{has_lower_names, is_element, is_lower};
 
 use crate::{matches, read_selector, specificity};
 use std::alloc::{AllocError, Global};
@@ -116,7 +116,9 @@ fn counts(rt: HostRuntime) -> Result<(), Fail> {
     Ok(())
 }
 
-fn attribute(alloc: Global, name: &str, value: &str) -> Result<Attr, AllocError> {
+fn attribute(alloc: Global, name: &str, value: &str) -> Result<Attr, AllocError>
+    ensures { IfOk result (λ a. a.name ≡ name.now) }
+{
     Ok(Attr {
         name: Text::from_text(alloc, name)?,
         value: Text::from_text(alloc, value)?,
@@ -125,7 +127,8 @@ fn attribute(alloc: Global, name: &str, value: &str) -> Result<Attr, AllocError>
 
 /// An element with a class.
 fn node(alloc: Global, parent: Option<u32>, tag: &str, class: &str) -> Result<Node, AllocError>
-    ensures { IfOk result (λ n. (n.parent ≡ parent) × IsTrue (is_element n.body)) }
+    requires { IsTrue (is_lower tag.now) }
+    ensures { IfOk result (λ n. (n.parent ≡ parent) × IsTrue (is_element n.body) × IsTrue (has_lower_names n.body)) }
 {
     let mut attrs = List::new(alloc);
     attrs.push(attribute(alloc, "class", class)?)?;

@@ -10,7 +10,8 @@ use Rattle.css_semantics.specs.declared.claims.Ruleset.{Ruleset}
 use Rattle.css_semantics.specs.declared.claims.Standing.{Standing}
 use Rattle.css_semantics.specs.CascadeOrder.{Applied}
 use Rattle.css_semantics.specs.CascadeReading.{AreApplied, AreRulesets}
-use Rattle.css_semantics.specs.CascadeNodes.{is_replaced, judged, standing_around, winners_of}
+use Rattle.viz_base.specs.Pages.{is_replaced}
+use Rattle.css_semantics.specs.CascadeNodes.{judged, standing_around, winners_of}
 
 -- what refuses a page
 pub data Fault : Type 0 where

@@ -1,9 +1,7 @@
 -- What the winners at a node come to: its settings, or a value that is refused by name (CSS 2.1, 6.1 and 6.4).
-use Rattle.std.specs.Prelude.{ℕ, ◌==◌, ℤ, pos, negsuc, Bool, true, false, not, ◌&&◌, ◌||◌, List, [], ◌∷◌, map, Option, Some, None, Result, Ok, Err, slice_get, if◌then◌else◌, codes}
+use Rattle.std.specs.Prelude.{ℕ, ◌==◌, ℤ, pos, negsuc, Bool, true, false, not, ◌&&◌, ◌||◌, List, [], ◌∷◌, map, Option, Some, None, Result, Ok, Err, slice_get, if◌then◌else◌}
 use Rattle.std.specs.List.{list_any, flat_map}
 use Rattle.std.specs.Option.{option_to_list}
-use Rattle.viz_base.specs.declared.nodes.Body.{Body}
-use Rattle.viz_base.specs.declared.nodes.Body.TheVariants as of_body
 use Rattle.viz_base.specs.declared.settings.Prop.{Prop}
 use Rattle.viz_base.specs.declared.settings.Prop.TheVariants as of_prop
 use Rattle.viz_base.specs.declared.settings.Setting.{Setting}
@@ -12,7 +10,7 @@ use Rattle.viz_base.specs.declared.settings.Value.TheVariants as of_value
 use Rattle.css_semantics.specs.declared.claims.Claim.{Claim}
 use Rattle.css_semantics.specs.declared.claims.Standing.{Standing}
 use Rattle.css_semantics.specs.CascadeOrder.{Applied, winner_of, is_prop}
-use Rattle.css_semantics.specs.Properties.{properties, same_name}
+use Rattle.css_semantics.specs.Properties.{properties}
 
 -- ---- winners
 
@@ -24,15 +22,6 @@ abbrev pub winners_of : List Applied → List Claim
 winners_of all = flat_map (λ p. winners_for p all) properties
 
 -- ---- what is refused
-
--- An `img`, and each other element with a size of its own but for `br`, is replaced (CSS 2.1, 3.1; our own reading).
-abbrev pub has_size : Option (ℕ × ℕ) → Bool
-has_size None = false
-has_size (Some size) = true
-
-abbrev pub is_replaced : Body → Bool
-is_replaced (of_body.Element e) = (has_size e.size || same_name e.tag (codes "img")) && not (same_name e.tag (codes "br"))
-is_replaced (of_body.Chars text) = false
 
 abbrev pub is_zero : ℤ → Bool
 is_zero (pos n) = n == 0

@@ -3,7 +3,7 @@ use Rattle.std.proofs.Common.{◌≡◌, ℕ, zero, suc, ◌+◌, ◌<◌, Bool,
 use Rattle.std.specs.List.{enumerate_from}
 use Rattle.std.specs.Option.{option_map_or}
 use Rattle.std.proofs.lemmas.Option.{slice_get-map}
-use Rattle.viz_base.specs.Pages.{IsPage}
+use Rattle.viz_base.specs.Pages.{IsPage, is_break, is_replaced}
 use Rattle.viz_base.specs.Trees.{is_anon, is_line, is_replaced as is_replaced_kind}
 use Rattle.viz_base.specs.declared.nodes.Body.{Body}
 use Rattle.viz_base.specs.declared.nodes.Body.TheVariants as of_body
@@ -14,7 +14,7 @@ use Rattle.viz_base.specs.declared.styles.Display.TheVariants as of_display
 use Rattle.viz_base.specs.declared.trees.BoxNode.{BoxNode}
 use Rattle.viz_base.specs.declared.trees.Kind.{Kind}
 use Rattle.viz_base.specs.declared.trees.Kind.TheVariants as of_kind
-use Rattle.layout_semantics.specs.Elements.{is_break, is_replaced, is_hidden, is_none_display, intrinsic_size}
+use Rattle.layout_semantics.specs.Elements.{is_hidden, is_none_display, intrinsic_size}
 use Rattle.layout_semantics.specs.Parts.{Part, Level, kind_of_node, level_kind, level_of, inline_kind}
 use Rattle.layout_semantics.specs.BoxTrees.{Item, run_around, own_place, items_of, page_parts, page_boxes, tree_styles, tree_style_of, viewport_clip}
 use Rattle.layout_laws.proofs.Members.{In, from_map}

@@ -2,7 +2,7 @@
 use Rattle.std.proofs.Common.{◌≡◌, ℕ, zero, suc, ◌<◌, Bool, true, false, not, ◌==◌, ◌&&◌, List, [], ◌∷◌, map, length, Option, Some, None, option_and_then, slice_get, refl, sym, ◌∙◌, ap, subst, arith, if◌then◌else◌}
 use Rattle.std.specs.Option.{option_map_or}
 use Rattle.std.proofs.lemmas.Option.{slice_get_within}
-use Rattle.viz_base.specs.Pages.{IsPage, is_element}
+use Rattle.viz_base.specs.Pages.{IsPage, is_element, is_break, is_replaced}
 use Rattle.viz_base.specs.Trees.{is_chars}
 use Rattle.viz_base.specs.declared.nodes.Body.{Body}
 use Rattle.viz_base.specs.declared.nodes.Body.TheVariants as of_body
@@ -12,7 +12,7 @@ use Rattle.viz_base.specs.declared.styles.Display.TheVariants as of_display
 use Rattle.viz_base.specs.declared.styles.Style.{Style}
 use Rattle.viz_base.specs.declared.trees.Kind.{Kind}
 use Rattle.viz_base.specs.declared.trees.Kind.TheVariants as of_kind
-use Rattle.layout_semantics.specs.Elements.{is_break, is_replaced, is_shown, parent_of}
+use Rattle.layout_semantics.specs.Elements.{is_shown, parent_of}
 use Rattle.layout_semantics.specs.Parts.{Part, Level, kind_of_node, level_kind, inline_kind, level_of, part_of, shown_parts}
 use Rattle.layout_semantics.specs.WhiteSpace.{collapsed, collapsed_part, is_bare}
 use Rattle.layout_laws.proofs.Members.{In, Rises, rises_chosen, to_map, from_map, from_chosen, to_chosen}

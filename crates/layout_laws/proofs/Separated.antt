@@ -2,7 +2,7 @@
 use Rattle.std.proofs.Common.{◌≡◌, ℕ, suc, ◌<◌, Bool, true, false, not, ◌==◌, ◌||◌, List, [], ◌∷◌, map, Contains, Option, Some, None, is_some, slice_get, refl, sym, ◌∙◌, ap, subst, arith, ◌⊎◌, inl, inr, if◌then◌else◌, eqb-true, eq-eqb, ne_eqb, nat_lt, ltb-true, ltb-false, eq-or-lt_of_le}
 use Rattle.std.specs.List.{list_any}
 use Rattle.std.specs.Option.{option_map_or}
-use Rattle.viz_base.specs.Pages.{IsPage}
+use Rattle.viz_base.specs.Pages.{IsPage, is_break, is_replaced}
 use Rattle.viz_base.specs.Trees.{floats, is_anon, is_floated, is_inline_level}
 use Rattle.viz_base.specs.declared.nodes.Body.{Body}
 use Rattle.viz_base.specs.declared.nodes.Body.TheVariants as of_body
@@ -13,7 +13,6 @@ use Rattle.viz_base.specs.declared.trees.BoxNode.{BoxNode}
 use Rattle.viz_base.specs.declared.trees.Kind.{Kind}
 use Rattle.viz_base.specs.declared.trees.Kind.TheVariants as of_kind
 use Rattle.layout_semantics.specs.Lists.{chosen}
-use Rattle.layout_semantics.specs.Elements.{is_break, is_replaced}
 use Rattle.layout_semantics.specs.Parts.{Part, Level, kind_of_node, level_kind, level_of, style_level, display_level}
 use Rattle.layout_semantics.specs.WhiteSpace.{is_in}
 use Rattle.layout_semantics.specs.BoxTrees.{Item, boxes_before, begins_run, own_place, first_of, has_node, nodes_of, kid_place, kid_places, items_in, items_of, own_box, run_around, parts_in, runs_of, wrapped_in, with_part, needs_box, is_block_part, is_block_level, is_floated_level, page_parts, page_boxes, tree_styles}

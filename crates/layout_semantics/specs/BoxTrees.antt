@@ -2,12 +2,12 @@
 use Rattle.std.specs.Prelude.{zip, sum, unwrap_or, option_and_then, ℕ, ◌+◌, Bool, true, false, not, ◌&&◌, ◌||◌, ◌==◌, nat_lt, List, [], ◌∷◌, map, find, flat_map, Option, Some, None, option_map, slice_get, slice_index, if◌then◌else◌, encode_utf8_all, codes}
 use Rattle.std.specs.List.{list_any, enumerate_from}
 use Rattle.std.specs.Option.{option_map_or}
-use Rattle.viz_base.specs.Pages.{is_element}
+use Rattle.viz_base.specs.Pages.{is_element, has_tag}
 use Rattle.viz_base.specs.declared.nodes.Node.{Node}
 use Rattle.viz_base.specs.declared.styles.Style.{Style}
 use Rattle.viz_base.specs.declared.trees.BoxNode.{BoxNode}
 use Rattle.viz_base.specs.declared.trees.Kind.TheVariants as of_kind
-use Rattle.layout_semantics.specs.Elements.{has_tag, node_passes}
+use Rattle.layout_semantics.specs.Elements.{node_passes}
 use Rattle.layout_semantics.specs.Lists.{chosen, one_if}
 use Rattle.layout_semantics.specs.Parts.{Part, Level, shown_parts}
 use Rattle.layout_semantics.specs.WhiteSpace.{is_in, collapsed}

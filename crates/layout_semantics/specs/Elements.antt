@@ -1,5 +1,5 @@
--- Which nodes of a page make boxes, and which elements are forced line breaks or replaced (CSS 2.1, 3.1 and 9.2.4).
-use Rattle.std.specs.Prelude.{ℕ, zero, suc, Bool, true, false, not, ◌&&◌, ◌||◌, List, [], ◌∷◌, length, slice_get, Option, Some, None, is_some, unwrap_or, option_and_then, bytes_eq, codes}
+-- Which nodes of a page make boxes (CSS 2.1, 9.2.4), and the intrinsic sizes of elements.
+use Rattle.std.specs.Prelude.{ℕ, zero, suc, Bool, true, false, not, ◌&&◌, ◌||◌, List, [], ◌∷◌, length, slice_get, Option, Some, None, unwrap_or, option_and_then}
 use Rattle.std.specs.List.{list_all}
 use Rattle.std.specs.Option.{option_map_or}
 use Rattle.viz_base.specs.declared.nodes.Body.{Body}
@@ -8,25 +8,9 @@ use Rattle.viz_base.specs.declared.nodes.Node.{Node}
 use Rattle.viz_base.specs.declared.styles.Display.{Display}
 use Rattle.viz_base.specs.declared.styles.Display.TheVariants as of_display
 use Rattle.viz_base.specs.declared.styles.Style.{Style}
+use Rattle.viz_base.specs.Pages.{is_break, is_replaced}
 
 -- ---- elements
-
--- an element with this tag
-abbrev pub has_tag : List ℕ → Body → Bool
-has_tag tag (of_body.Element element) = bytes_eq element.tag tag
-has_tag tag (of_body.Chars text) = false
-
--- `br`, which forces a line break
-abbrev pub is_break : Body → Bool
-is_break = has_tag (codes "br")
-
-abbrev pub is_sized : Body → Bool
-is_sized (of_body.Element element) = is_some element.size
-is_sized (of_body.Chars text) = false
-
--- a replaced element (CSS 2.1, 3.1): each `img`, and any other element but `br` that has intrinsic sizes
-abbrev pub is_replaced : Body → Bool
-is_replaced body = has_tag (codes "img") body || (is_sized body && not (is_break body))
 
 -- intrinsic width and height, in whole pixels; those of an `img` without them are 0, in our own reading
 abbrev pub intrinsic_size : Body → ℕ × ℕ

@@ -3,7 +3,7 @@
 use Rattle.std.specs.Prelude.{ℕ, Bool, true, false, not, ◌||◌, ◌==◌, List, slice_get, Option, Some, None, option_map, find, filter_map, chars, if◌then◌else◌}
 use Rattle.std.specs.List.{enumerate_from}
 use Rattle.std.specs.Option.{option_map_or}
-use Rattle.viz_base.specs.Pages.{text_of}
+use Rattle.viz_base.specs.Pages.{text_of, is_break, is_replaced}
 use Rattle.viz_base.specs.Trees.{is_inline}
 use Rattle.viz_base.specs.declared.nodes.Body.{Body}
 use Rattle.viz_base.specs.declared.nodes.Body.TheVariants as of_body
@@ -13,7 +13,7 @@ use Rattle.viz_base.specs.declared.styles.Display.TheVariants as of_display
 use Rattle.viz_base.specs.declared.styles.Style.{Style}
 use Rattle.viz_base.specs.declared.trees.Kind.{Kind}
 use Rattle.viz_base.specs.declared.trees.Kind.TheVariants as of_kind
-use Rattle.layout_semantics.specs.Elements.{is_break, is_replaced, intrinsic_size, ancestors, is_shown}
+use Rattle.layout_semantics.specs.Elements.{intrinsic_size, ancestors, is_shown}
 
 -- how a box takes part in layout: block-level in normal flow, floated, or inline-level (CSS 2.1, 9.2 and 9.5)
 pub data Level : Type 0 where

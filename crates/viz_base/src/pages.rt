@@ -7,6 +7,6 @@ use crate::{List, Node};
 pub struct Page {
     pub nodes: List<Node>,
     /// The root is an element and alone has no parent, each other node's parent is an element before it,
-    /// and no text has more than 262,144 characters.
+    /// no text has more than 262,144 characters, and tags and names of attributes are in ASCII lower case.
     pub ghost ok: { IsPage nodes },
 }
