@@ -3,13 +3,12 @@ use Rattle.std.proofs.Common.{◌≡◌, ℕ, zero, suc, ℤ, Bool, true, false,
 use Rattle.viz_base.specs.declared.layouts.Band.{Band}
 use Rattle.viz_base.specs.declared.trees.BoxTree.{BoxTree}
 use Rattle.viz_base.specs.declared.worlds.World.{World}
-use Rattle.layout_semantics.specs.Floats.{FloatBox}
+use Rattle.layout_semantics.specs.Floats.{FloatBox, floating}
 use Rattle.layout_semantics.specs.InlineContent.{is_floated_at, has_line, inner_boxes}
 use Rattle.layout_semantics.specs.FlowBoxes.{is_replaced_at, is_context_root, flow_children, across}
-use Rattle.layout_semantics.specs.Clearance.{side_of}
 use Rattle.layout_semantics.specs.Flow.{Progress, Reached, alone, float_child, laid, reached, child, inner_size, flow_step, flow_to}
 use Rattle.layout_laws.specs.PlacedFloats.{ArePlacedAfter, none, next}
-use Rattle.layout_laws.proofs.PlacedFloats.{of_lines}
+use Rattle.layout_laws.proofs.PlacedFloats.{of_lines, float_next}
 
 -- two steps
 pub both : (a b : List FloatBox) (c : List FloatBox) → ArePlacedAfter a b → ArePlacedAfter b c → ArePlacedAfter a c
@@ -19,7 +18,7 @@ both a b c h (next floats side size cb top k) = next floats side size cb top (bo
 module _ (tree : BoxTree) (w : World) (height : ℕ) (inside : ℕ → Band ℤ → ℤ → Progress → Progress)
     (grows : (b : ℕ) (cb : Band ℤ) (top : ℤ) (p : Progress) → ArePlacedAfter p.floats (inside b cb top p).floats) where
   of_float : (cb : Band ℤ) (top : ℤ) (p : Progress) (f : ℕ) → ArePlacedAfter p.floats (float_child tree w height inside cb top p f).floats
-  of_float cb top p f = next p.floats (side_of tree f) (alone tree w height inside f (across cb)).size cb _ none
+  of_float cb top p f = float_next (floating tree f (alone tree w height inside f (across cb)).size cb) p.floats p.floats p.least _ none
 
   of_block : (cb : Band ℤ) (p : Progress) (b : ℕ) (r : Reached) → ArePlacedAfter p.floats (laid tree w height inside cb p b r).after.floats
   of_block cb p b r = by (is_replaced_at tree b) (is_context_root tree b) refl refl

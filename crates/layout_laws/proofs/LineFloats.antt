@@ -1,18 +1,14 @@
-use Rattle.std.proofs.Common.{◌≡◌, ℕ, zero, suc, ℤ, ◌≤ℤ◌, Bool, true, false, List, [], ◌∷◌, ◌++◌, length, fold, slice_index_or, refl, sym, ◌∙◌, ap, append_assoc, arith}
-use Rattle.std.specs.Prelude.{◌&&◌, ◌==◌}
+use Rattle.std.proofs.Common.{◌≡◌, ℕ, zero, suc, ℤ, ◌≤ℤ◌, Bool, true, false, List, [], ◌∷◌, ◌++◌, fold, slice_index_or, refl, sym, ◌∙◌, ap, append_assoc, arith}
+use Rattle.std.specs.Prelude.{Some, cond}
 use Rattle.std.specs.Option.{option_to_list}
-use Rattle.std.specs.Ordering.{int_eq}
 use Rattle.std.proofs.lemmas.Int.{ints}
 use Rattle.viz_base.specs.declared.layouts.Band.{Band}
 use Rattle.viz_base.specs.declared.layouts.Spot.{Spot}
-use Rattle.viz_base.specs.declared.styles.Clear.TheVariants as of_clear
 use Rattle.viz_base.specs.declared.styles.Side.{Side}
 use Rattle.viz_base.specs.declared.styles.Side.TheVariants as of_side
-use Rattle.viz_base.specs.declared.styles.Style.{Style}
-use Rattle.layout_semantics.specs.Lengths.{own}
-use Rattle.layout_semantics.specs.Floats.{FloatBox, placed_float, band_at, lowest_bottom}
+use Rattle.layout_semantics.specs.Floats.{FloatBox, placed_float, lowest_bottom, float_top}
 use Rattle.layout_semantics.specs.LineHeights.{InlineContext}
-use Rattle.layout_semantics.specs.LineFilling.{Met, Line, side_of, float_size, top_allowed, float_spot, with_float, place_each, fits, meet, met_after, floats_met, first_items, width_held}
+use Rattle.layout_semantics.specs.LineFilling.{Met, Line, line_float, line_spot, with_spot, place_each, stands_at_once, meet, met_after, floats_met, first_items, width_held}
 use Rattle.layout_laws.specs.FloatRules.{ObeysRules}
 use Rattle.layout_laws.specs.LineStacks.{HasMoreFloats}
 use Rattle.layout_laws.proofs.FloatPlaces.{highest_obeys}
@@ -41,34 +37,35 @@ low-of : (side : Side) (floats : List FloatBox) (width : ℤ) (cb : Band ℤ) (t
 low-of of_side.Left floats width cb top at o = o.low_enough.below_top
 low-of of_side.Right floats width cb top at o = o.low_enough.below_top
 
-pub spot-low : (c : InlineContext) (floats : List FloatBox) (least y : ℤ) (at : ℕ) → least ≤ℤ (float_spot c floats least y at).y
+pub spot-low : (c : InlineContext) (floats : List FloatBox) (least y : ℤ) (at : ℕ) → least ≤ℤ (line_spot c floats least y at).y
 spot-low c floats least y at =
-    let cleared = option_to_list (lowest_bottom (own c.tree at (λ (s : Style). s.clear) of_clear.Nothing) floats) in
-    let top = top_allowed c floats least y at in
-    let below = low-of (side_of c.tree at) floats (float_size c at).width c.cb top (float_spot c floats least y at) (highest_obeys floats (float_size c at).width c.cb top (side_of c.tree at)) in
+    let f = line_float c at in
+    let cleared = option_to_list (lowest_bottom f.clear floats) in
+    let top = float_top f floats (Some least) y in
+    let below = low-of f.side floats f.size.width f.cb top (line_spot c floats least y at) (highest_obeys floats f.size.width f.cb top f.side) in
     let above = (greatest_from-bound y (least ∷ cleared)).0 in
     omega (arith, ints)
 
 -- ---- floats placed, and met
 
-with-more : (c : InlineContext) (m : ℤ) (before : List FloatBox) (met : Met) (at : ℕ) (spot : Spot ℤ) → HasMoreFloats m before met.floats → m ≤ℤ spot.y → HasMoreFloats m before (with_float c met at spot).floats
-with-more c m before met at spot h l = more-one m before met.floats (placed_float (side_of c.tree at) (float_size c at) spot) h l
+with-more : (c : InlineContext) (m : ℤ) (before : List FloatBox) (met : Met) (at : ℕ) (spot : Spot ℤ) → HasMoreFloats m before met.floats → m ≤ℤ spot.y → HasMoreFloats m before (with_spot c met at spot).floats
+with-more c m before met at spot h l = more-one m before met.floats (placed_float (line_float c at).side (line_float c at).size spot) h l
 
 pub each-more : (c : InlineContext) (m least y : ℤ) (before : List FloatBox) (met : Met) (boxes : List ℕ) → m ≤ℤ least → HasMoreFloats m before met.floats → HasMoreFloats m before (place_each c least y met boxes).floats
 each-more c m least y before met [] l h = h
 each-more c m least y before met (at ∷ boxes) l h =
-    let spot = float_spot c met.floats least y at in
+    let spot = line_spot c met.floats least y at in
     let low = spot-low c met.floats least y at in
-    each-more c m least y before (with_float c met at spot) boxes l (with-more c m before met at spot h (omega (arith, ints)))
+    each-more c m least y before (with_spot c met at spot) boxes l (with-more c m before met at spot h (omega (arith, ints)))
 
 meet-more : (c : InlineContext) (m : ℤ) (line : Line) (held : ℤ) (before : List FloatBox) (met : Met) (at : ℕ) → m ≤ℤ line.least → HasMoreFloats m before met.floats → HasMoreFloats m before (meet c line held met at).floats
 meet-more c m line held before met at l h =
-    let spot = float_spot c met.floats line.least line.top at in
+    let spot = line_spot c met.floats line.least line.top at in
     let low = spot-low c met.floats line.least line.top at in
-    by ((length met.waiting == 0) && int_eq spot.y line.top && fits held (band_at (with_float c met at spot).floats c.cb line.top line.tall)) (with-more c m before met at spot h (omega (arith, ints)))
+    by (stands_at_once c line held met at spot) (with-more c m before met at spot h (omega (arith, ints)))
   where
-    by : (b : Bool) → HasMoreFloats m before (with_float c met at (float_spot c met.floats line.least line.top at)).floats
-        → HasMoreFloats m before (elim b as (λ (x : Bool). Met) [ true ↦ with_float c met at (float_spot c met.floats line.least line.top at) | false ↦ record met { waiting = met.waiting ++ at ∷ [] } ]).floats
+    by : (b : Bool) → HasMoreFloats m before (with_spot c met at (line_spot c met.floats line.least line.top at)).floats
+        → HasMoreFloats m before (cond b (with_spot c met at (line_spot c met.floats line.least line.top at)) (record met { waiting = met.waiting ++ at ∷ [] })).floats
     by true placed = placed
     by false placed = h
 

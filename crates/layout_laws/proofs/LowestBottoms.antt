@@ -11,10 +11,10 @@ use Rattle.viz_base.specs.declared.styles.Clear.{Clear}
 use Rattle.viz_base.specs.declared.trees.BoxTree.{BoxTree}
 use Rattle.viz_base.specs.declared.worlds.World.{World}
 use Rattle.layout_semantics.specs.Extremes.{greatest_from}
-use Rattle.layout_semantics.specs.Floats.{FloatBox, is_relevant, lowest_bottom}
+use Rattle.layout_semantics.specs.Floats.{FloatBox, is_relevant, lowest_bottom, floating, with_float}
 use Rattle.layout_semantics.specs.FlowBoxes.{clear_of}
 use Rattle.layout_semantics.specs.Leads.{Leading, is_up_to, lead}
-use Rattle.layout_semantics.specs.Clearance.{Resolved, with_waiting, with_float, is_cleared, cleared_edge, resolve_step, resolve_to}
+use Rattle.layout_semantics.specs.Clearance.{Resolved, with_waiting, is_cleared, cleared_edge, resolve_step, resolve_to}
 use Rattle.layout_laws.specs.Clearance.{IsLowestBottom}
 use Rattle.layout_laws.proofs.Among.{Among, among, contains, filtered, filters, image, source}
 use Rattle.layout_laws.proofs.Extremes.{below_greatest, start_below_greatest, greatest_is_one}
@@ -87,7 +87,7 @@ among_before (y ∷ xs) ys x (inr i) = inr (among_before xs ys x i)
 
 kept : (tree : BoxTree) (size : Waiting ℤ → Extent ℤ) (fs : List (Waiting ℤ)) (floats : List FloatBox) (least : Option ℤ) (y : ℤ) (f : FloatBox) → Among floats f → Among (with_waiting tree size fs floats least y) f
 kept tree size [] floats least y f i = i
-kept tree size (g ∷ gs) floats least y f i = kept tree size gs (with_float tree g.at (size g) g.cb floats least y) least y f (among_before floats _ f i)
+kept tree size (g ∷ gs) floats least y f i = kept tree size gs (with_float (floating tree g.at (size g) g.cb) floats least y) least y f (among_before floats _ f i)
 
 -- ---- a cleared box
 

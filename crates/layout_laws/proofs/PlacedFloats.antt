@@ -1,18 +1,17 @@
 -- Floats are placed one after another by the rules, in lines and in flow.
-use Rattle.std.proofs.Common.{◌≡◌, ℕ, zero, suc, ◌<◌, ℤ, ◌+ℤ◌, ◌≤ℤ◌, Bool, true, false, ◌&&◌, ◌==◌, List, [], ◌∷◌, ◌++◌, length, drop, fold, slice_get, slice_index_or, Option, Some, None, MatchOption, refl, ap, subst, inl, inr, ◌⊎◌, arith}
+use Rattle.std.proofs.Common.{◌≡◌, ℕ, zero, suc, ◌<◌, ℤ, ◌+ℤ◌, ◌≤ℤ◌, Bool, true, false, cond, List, [], ◌∷◌, ◌++◌, length, drop, fold, slice_get, slice_index_or, Option, Some, None, MatchOption, refl, ap, subst, inl, inr, ◌⊎◌, arith}
 use Rattle.std.specs.List.{list_any}
 use Rattle.std.specs.Option.{option_map_or}
-use Rattle.std.specs.Ordering.{int_eq}
 use Rattle.std.specs.Int.{int_max}
 use Rattle.viz_base.specs.declared.layouts.Band.{Band}
 use Rattle.viz_base.specs.declared.layouts.Extent.{Extent}
 use Rattle.viz_base.specs.declared.styles.Side.{Side}
 use Rattle.viz_base.specs.declared.styles.Side.TheVariants as of_side
-use Rattle.layout_semantics.specs.Floats.{FloatBox, placed_float, float_at, band_at}
+use Rattle.layout_semantics.specs.Floats.{FloatBox, Floating, float_top, with_float, placed_float, float_at}
 use Rattle.layout_semantics.specs.InlineContent.{Item, content, float_boxes, makes_line}
 use Rattle.layout_semantics.specs.Stretches.{stretches}
 use Rattle.layout_semantics.specs.LineHeights.{InlineContext, line_extent, height_of_extent, extended_boxes, tallest}
-use Rattle.layout_semantics.specs.LineFilling.{Met, Line, side_of, float_size, top_allowed, float_spot, with_float, place_each, fits, meet, met_after, floats_met, first_items, width_held, stretches_held, before_line}
+use Rattle.layout_semantics.specs.LineFilling.{Met, Line, line_float, line_spot, with_spot, place_each, stands_at_once, meet, met_after, floats_met, first_items, width_held, stretches_held, before_line}
 use Rattle.layout_semantics.specs.Lines.{SoFar, next_line, after_line, after_no_line, after_stretches, lines_to, lines_in}
 use Rattle.layout_laws.specs.FloatRules.{ObeysRules}
 use Rattle.layout_laws.proofs.Among.{Among, contains}
@@ -20,27 +19,31 @@ use Rattle.layout_laws.proofs.Apart.{apart}
 use Rattle.layout_laws.proofs.FloatPlaces.{highest_obeys}
 use Rattle.layout_laws.specs.PlacedFloats.{ArePlacedAfter, none, next, IsClearOf, AreClear}
 
+-- a float that comes next is placed after those before it
+pub float_next : (f : Floating) (before floats : List FloatBox) (least : Option ℤ) (y : ℤ) → ArePlacedAfter before floats → ArePlacedAfter before (with_float f floats least y)
+float_next f before floats least y h = next floats f.side f.size f.cb (float_top f floats least y) h
+
 -- ---- lines
 
 module _ (c : InlineContext) (before : List FloatBox) where
   abbrev Placed : List FloatBox → Type 0
   Placed floats = ArePlacedAfter before floats
 
-  one : (met : Met) (least y : ℤ) (at : ℕ) → Placed met.floats → Placed (with_float c met at (float_spot c met.floats least y at)).floats
-  one met least y at h = next met.floats (side_of c.tree at) (float_size c at) c.cb (top_allowed c met.floats least y at) h
+  one : (met : Met) (least y : ℤ) (at : ℕ) → Placed met.floats → Placed (with_spot c met at (line_spot c met.floats least y at)).floats
+  one met least y at h = float_next (line_float c at) before met.floats (Some least) y h
 
   each : (least y : ℤ) (met : Met) (boxes : List ℕ) → Placed met.floats → Placed (place_each c least y met boxes).floats
   each least y met [] h = h
-  each least y met (at ∷ boxes) h = each least y (with_float c met at (float_spot c met.floats least y at)) boxes (one met least y at h)
+  each least y met (at ∷ boxes) h = each least y (with_spot c met at (line_spot c met.floats least y at)) boxes (one met least y at h)
 
   module _ (line : Line) where
     meet_one : (held : ℤ) (met : Met) (at : ℕ) → Placed met.floats → Placed (meet c line held met at).floats
     meet_one held met at h =
-        let spot = float_spot c met.floats line.least line.top at in
-        by ((length met.waiting == 0) && int_eq spot.y line.top && fits held (band_at (with_float c met at spot).floats c.cb line.top line.tall)) (one met line.least line.top at h)
+        let spot = line_spot c met.floats line.least line.top at in
+        by (stands_at_once c line held met at spot) (one met line.least line.top at h)
       where
-        by : (b : Bool) → Placed (with_float c met at (float_spot c met.floats line.least line.top at)).floats
-            → Placed (elim b as (λ (x : Bool). Met) [ true ↦ with_float c met at (float_spot c met.floats line.least line.top at) | false ↦ record met { waiting = met.waiting ++ at ∷ [] } ]).floats
+        by : (b : Bool) → Placed (with_spot c met at (line_spot c met.floats line.least line.top at)).floats
+            → Placed (cond b (with_spot c met at (line_spot c met.floats line.least line.top at)) (record met { waiting = met.waiting ++ at ∷ [] })).floats
         by true placed = placed
         by false placed = h
 

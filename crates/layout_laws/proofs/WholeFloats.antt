@@ -1,14 +1,12 @@
 -- The floats in lines: each of them is placed, at once or below the line.
-use Rattle.std.proofs.Common.{◌≡◌, ℕ, zero, suc, ◌<◌, ◌≤◌, ℤ, Bool, true, false, ◌||◌, ◌&&◌, ◌==◌, ◌⊎◌, inl, inr, List, [], ◌∷◌, ◌++◌, length, take, drop, fold, flat_map, slice_index_or, refl, sym, ap, ◌∙◌, subst, arith, append-nil, append_assoc, eqb-true, eq-eqb}
+use Rattle.std.proofs.Common.{◌≡◌, ℕ, zero, suc, ◌<◌, ◌≤◌, ℤ, Bool, true, false, cond, ◌||◌, ◌==◌, ◌⊎◌, inl, inr, List, [], ◌∷◌, ◌++◌, length, take, drop, fold, flat_map, slice_index_or, refl, sym, ap, ◌∙◌, subst, arith, append-nil, append_assoc, eqb-true, eq-eqb}
 use Rattle.std.specs.List.{list_any, AllByRecursion, position_or_len}
-use Rattle.std.specs.Ordering.{int_eq}
 use Rattle.std.proofs.lemmas.Grind.{flat_map-append}
 use Rattle.viz_base.specs.declared.layouts.Spot.{Spot}
 use Rattle.viz_base.specs.declared.trees.BoxTree.{BoxTree}
 use Rattle.layout_semantics.specs.InlineContent.{Item, makes_line}
-use Rattle.layout_semantics.specs.Floats.{band_at}
 use Rattle.layout_semantics.specs.LineHeights.{InlineContext}
-use Rattle.layout_semantics.specs.LineFilling.{Met, Line, float_spot, with_float, place_each, fits, meet, met_after, floats_met, first_items, joined, before_line, from_line_on, width_held}
+use Rattle.layout_semantics.specs.LineFilling.{Met, Line, line_spot, with_spot, place_each, stands_at_once, meet, met_after, floats_met, first_items, joined, before_line, from_line_on, width_held}
 use Rattle.layout_laws.proofs.WholeItems.{float_of}
 
 -- ---- found in lists
@@ -53,13 +51,13 @@ all-both P (x ∷ xs) ys a b = (a.0, all-both P xs ys a.1 b)
 
 place-keeps : (c : InlineContext) (least y : ℤ) (met : Met) (ks : List ℕ) (x : ℕ) → Has met.spots x → Has (place_each c least y met ks).spots x
 place-keeps c least y met [] x h = h
-place-keeps c least y met (k ∷ ks) x h = place-keeps c least y (with_float c met k (float_spot c met.floats least y k)) ks x (any-left (λ (e : ℕ × Spot ℤ). e.0 == x) met.spots ((k, float_spot c met.floats least y k) ∷ []) h)
+place-keeps c least y met (k ∷ ks) x h = place-keeps c least y (with_spot c met k (line_spot c met.floats least y k)) ks x (any-left (λ (e : ℕ × Spot ℤ). e.0 == x) met.spots ((k, line_spot c met.floats least y k) ∷ []) h)
 
 pub place-all : (c : InlineContext) (least y : ℤ) (met : Met) (ks : List ℕ) → AllByRecursion (Has (place_each c least y met ks).spots) ks
 place-all c least y met [] = tt
 place-all c least y met (k ∷ ks) =
-    let spot = float_spot c met.floats least y k in
-    (place-keeps c least y (with_float c met k spot) ks k (has-last met.spots k spot), place-all c least y (with_float c met k spot) ks)
+    let spot = line_spot c met.floats least y k in
+    (place-keeps c least y (with_spot c met k spot) ks k (has-last met.spots k spot), place-all c least y (with_spot c met k spot) ks)
 
 -- ---- floats met on a line
 
@@ -68,8 +66,7 @@ Covered met at = Has met.spots at ⊎ Waits met.waiting at
 
 -- placed at once, or waiting
 abbrev met_as : InlineContext → Met → ℕ → Spot ℤ → Bool → Met
-met_as c met at spot true = with_float c met at spot
-met_as c met at spot false = record met { waiting = met.waiting ++ at ∷ [] }
+met_as c met at spot at_once = cond at_once (with_spot c met at spot) (record met { waiting = met.waiting ++ at ∷ [] })
 
 as-covers : (c : InlineContext) (met : Met) (at : ℕ) (spot : Spot ℤ) (b : Bool) → Covered (met_as c met at spot b) at
 as-covers c met at spot true = inl (has-last met.spots at spot)
@@ -82,14 +79,13 @@ as-keeps c met at spot false x (inl h) = inl h
 as-keeps c met at spot false x (inr h) = inr (any-left (λ k. k == x) met.waiting (at ∷ []) h)
 
 abbrev goes_now : InlineContext → Line → ℤ → Met → ℕ → Bool
-goes_now c line held met at =
-    (length met.waiting == 0) && int_eq (float_spot c met.floats line.least line.top at).y line.top && fits held (band_at (with_float c met at (float_spot c met.floats line.least line.top at)).floats c.cb line.top line.tall)
+goes_now c line held met at = stands_at_once c line held met at (line_spot c met.floats line.least line.top at)
 
 meet-covers : (c : InlineContext) (line : Line) (held : ℤ) (met : Met) (at : ℕ) → Covered (meet c line held met at) at
-meet-covers c line held met at = as-covers c met at (float_spot c met.floats line.least line.top at) (goes_now c line held met at)
+meet-covers c line held met at = as-covers c met at (line_spot c met.floats line.least line.top at) (goes_now c line held met at)
 
 meet-keeps : (c : InlineContext) (line : Line) (held : ℤ) (met : Met) (at x : ℕ) → Covered met x → Covered (meet c line held met at) x
-meet-keeps c line held met at x h = as-keeps c met at (float_spot c met.floats line.least line.top at) (goes_now c line held met at) x h
+meet-keeps c line held met at x h = as-keeps c met at (line_spot c met.floats line.least line.top at) (goes_now c line held met at) x h
 
 meets-keep : (c : InlineContext) (line : Line) (held : ℤ) (met : Met) (ks : List ℕ) (x : ℕ) → Covered met x → Covered (fold (meet c line held) met ks) x
 meets-keep c line held met [] x h = h

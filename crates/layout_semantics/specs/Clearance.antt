@@ -1,50 +1,22 @@
 -- Clearance (CSS 2.1, 9.5.2). The hypothetical place of a box with `clear`, the places of floats between adjoining margins and
 -- what becomes of the margins are our own reading of 8.3.1 and 9.5.2.
 use Rattle.std.specs.Prelude.{ℕ, zero, suc, ℤ, Bool, true, false, List, [], ◌∷◌, ◌++◌, int_lt, length, Option, Some, None}
-use Rattle.std.specs.Option.{option_map_or, option_to_list}
+use Rattle.std.specs.Option.{option_map_or}
 use Rattle.viz_base.specs.declared.layouts.Band.{Band}
 use Rattle.viz_base.specs.declared.layouts.Extent.{Extent}
 use Rattle.viz_base.specs.declared.layouts.LeadEnd.{LeadEnd}
 use Rattle.viz_base.specs.declared.layouts.LeadEnd.TheVariants as of_end
-use Rattle.viz_base.specs.declared.layouts.Spot.{Spot}
 use Rattle.viz_base.specs.declared.layouts.Waiting.{Waiting}
-use Rattle.viz_base.specs.declared.styles.Clear.TheVariants as of_clear
-use Rattle.viz_base.specs.declared.styles.Side.{Side}
-use Rattle.viz_base.specs.declared.styles.Side.TheVariants as of_side
-use Rattle.viz_base.specs.declared.styles.Style.{Style}
 use Rattle.viz_base.specs.declared.trees.BoxTree.{BoxTree}
 use Rattle.viz_base.specs.declared.worlds.World.{World}
-use Rattle.layout_semantics.specs.Extremes.{greatest_from}
-use Rattle.layout_semantics.specs.Floats.{FloatBox, placed_float, float_at, lowest_bottom}
+use Rattle.layout_semantics.specs.Floats.{FloatBox, lowest_bottom, floating, with_float}
 use Rattle.layout_semantics.specs.Leads.{Leading, is_up_to, lead}
 use Rattle.layout_semantics.specs.FlowBoxes.{clear_of}
-use Rattle.layout_semantics.specs.Lengths.{own}
-
--- the side of a floated box
-abbrev pub side_of : BoxTree → ℕ → Side
-side_of tree f = by_float (own tree f (λ (s : Style). s.float) None)
-  where
-    by_float : Option Side → Side
-    by_float None = of_side.Left
-    by_float (Some side) = side
-
--- the highest top that a float may have whose place is at y: not above the outer top of an earlier block or the top of an
--- earlier line of its context (9.5.1, rules 5 and 6), of which `least` is the greatest, nor above the outer bottoms of the
--- earlier floats that its own `clear` names (9.5.2)
-abbrev pub float_top : BoxTree → ℕ → List FloatBox → Option ℤ → ℤ → ℤ
-float_top tree f floats least y = greatest_from y (option_to_list least ++ option_to_list (lowest_bottom (own tree f (λ (s : Style). s.clear) of_clear.Nothing) floats))
-
-abbrev pub float_spot : BoxTree → ℕ → Extent ℤ → Band ℤ → List FloatBox → Option ℤ → ℤ → Spot ℤ
-float_spot tree f size cb floats least y = float_at floats (side_of tree f) size cb (float_top tree f floats least y)
-
--- the floats of the context after one that is placed
-abbrev pub with_float : BoxTree → ℕ → Extent ℤ → Band ℤ → List FloatBox → Option ℤ → ℤ → List FloatBox
-with_float tree f size cb floats least y = floats ++ placed_float (side_of tree f) size (float_spot tree f size cb floats least y) ∷ []
 
 -- after all floats that wait are placed, one after another, where the run of margins between which they stand ends at y
 abbrev pub with_waiting : BoxTree → (Waiting ℤ → Extent ℤ) → List (Waiting ℤ) → List FloatBox → Option ℤ → ℤ → List FloatBox
 with_waiting tree size [] floats least y = floats
-with_waiting tree size (f ∷ fs) floats least y = with_waiting tree size fs (with_float tree f.at (size f) f.cb floats least y) least y
+with_waiting tree size (f ∷ fs) floats least y = with_waiting tree size fs (with_float (floating tree f.at (size f) f.cb) floats least y) least y
 
 -- the margins of the box's lead that join the run, and the box of the lead that is cleared, with its border edge, if there is one
 pub record Resolved : Type 0 where

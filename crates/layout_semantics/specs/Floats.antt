@@ -1,5 +1,6 @@
-use Rattle.std.specs.Prelude.{ℤ, ◌+ℤ◌, ◌-ℤ◌, Bool, true, false, not, cond, ◌&&◌, ◌||◌, int_le, int_lt, List, [], ◌∷◌, map, filter, Option, Some, None}
+use Rattle.std.specs.Prelude.{ℤ, ◌+ℤ◌, ◌-ℤ◌, Bool, true, false, not, cond, ◌&&◌, ◌||◌, int_le, int_lt, ℕ, List, [], ◌∷◌, ◌++◌, map, filter, Option, Some, None, unwrap_or}
 use Rattle.std.specs.List.{list_all}
+use Rattle.std.specs.Option.{option_to_list}
 use Rattle.viz_base.specs.declared.layouts.Band.{Band}
 use Rattle.viz_base.specs.declared.layouts.Extent.{Extent}
 use Rattle.viz_base.specs.declared.layouts.Spot.{Spot}
@@ -8,7 +9,10 @@ use Rattle.viz_base.specs.declared.styles.Clear.{Clear}
 use Rattle.viz_base.specs.declared.styles.Clear.TheVariants as of_clear
 use Rattle.viz_base.specs.declared.styles.Side.{Side}
 use Rattle.viz_base.specs.declared.styles.Side.TheVariants as of_side
+use Rattle.viz_base.specs.declared.styles.Style.{Style}
+use Rattle.viz_base.specs.declared.trees.BoxTree.{BoxTree}
 use Rattle.layout_semantics.specs.Extremes.{greatest_from, least_from}
+use Rattle.layout_semantics.specs.Lengths.{own}
 
 -- a float of a block formatting context: its side, and its outer box, which goes to its margin edges (CSS 2.1, 9.5)
 pub record FloatBox : Type 0 where
@@ -124,3 +128,37 @@ lowest_bottom clear floats = lowest (map (λ (f : FloatBox). f.box.bottom) (filt
     lowest : List ℤ → Option ℤ
     lowest [] = None
     lowest (b ∷ bs) = Some (greatest_from b bs)
+
+-- ---- a float is placed (CSS 2.1, 9.5.1, 9.5.2)
+
+-- a float that comes next: its side, its own `clear`, its outer size and the edges of its containing block
+pub record Floating : Type 0 where
+  pub side : Side
+  pub clear : Clear
+  pub size : Extent ℤ
+  pub cb : Band ℤ
+
+-- a floated box of a tree, of this outer size and in this containing block
+abbrev pub floating : BoxTree → ℕ → Extent ℤ → Band ℤ → Floating
+floating tree at size cb = record {
+  side = unwrap_or (own tree at (λ (s : Style). s.float) None) of_side.Left;
+  clear = own tree at (λ (s : Style). s.clear) of_clear.Nothing;
+  size = size;
+  cb = cb;
+}
+
+-- the highest top that it may have where it comes at y: not above the outer top of an earlier block or the top of an earlier
+-- line of its context (rules 5 and 6), of which `least` is the greatest, nor above the outer bottoms of the earlier floats that
+-- its `clear` names
+abbrev pub float_top : Floating → List FloatBox → Option ℤ → ℤ → ℤ
+float_top f floats least y = greatest_from y (option_to_list least ++ option_to_list (lowest_bottom f.clear floats))
+
+abbrev pub float_spot : Floating → List FloatBox → Option ℤ → ℤ → Spot ℤ
+float_spot f floats least y = float_at floats f.side f.size f.cb (float_top f floats least y)
+
+-- the floats of the context after it, where it stands at this place
+abbrev pub with_float_at : Floating → List FloatBox → Spot ℤ → List FloatBox
+with_float_at f floats spot = floats ++ placed_float f.side f.size spot ∷ []
+
+abbrev pub with_float : Floating → List FloatBox → Option ℤ → ℤ → List FloatBox
+with_float f floats least y = with_float_at f floats (float_spot f floats least y)

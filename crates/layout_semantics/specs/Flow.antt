@@ -15,13 +15,13 @@ use Rattle.viz_base.specs.declared.styles.Style.{Style}
 use Rattle.viz_base.specs.declared.trees.BoxTree.{BoxTree}
 use Rattle.viz_base.specs.declared.worlds.World.{World}
 use Rattle.layout_semantics.specs.Extremes.{greatest_from}
-use Rattle.layout_semantics.specs.Floats.{FloatBox}
+use Rattle.layout_semantics.specs.Floats.{FloatBox, floating, float_spot, with_float}
 use Rattle.layout_semantics.specs.Margins.{collapsed}
 use Rattle.layout_semantics.specs.Verticals.{Verticals, verticals}
 use Rattle.layout_semantics.specs.Rectangles.{Frame, content_top, placed_box, shifted, outer_extent}
 use Rattle.layout_semantics.specs.FlowBoxes.{is_replaced_at, is_context_root, is_open_above, may_collapse_through, joins_last_child, flow_children, across, content_from}
 use Rattle.layout_semantics.specs.Leads.{none_passed, all_passed, is_up_to, lead, bottom_margin}
-use Rattle.layout_semantics.specs.Clearance.{Resolved, float_spot, with_float, resolve}
+use Rattle.layout_semantics.specs.Clearance.{Resolved, resolve}
 use Rattle.layout_semantics.specs.Lengths.{own}
 use Rattle.layout_semantics.specs.DefiniteHeights.{given_height, held_height}
 use Rattle.layout_semantics.specs.Replaced.{replaced_size}
@@ -146,8 +146,8 @@ module _ (tree : BoxTree) (w : World) (height : ℕ) where
       where
         placed : Alone → ℤ → Progress
         placed a y = record p {
-          floats = with_float tree f a.size cb p.floats p.least y;
-          boxes = p.boxes ++ shifted (float_spot tree f a.size cb p.floats p.least y) a.boxes;
+          floats = with_float (floating tree f a.size cb) p.floats p.least y;
+          boxes = p.boxes ++ shifted (float_spot (floating tree f a.size cb) p.floats p.least y) a.boxes;
         }
 
     -- ---- boxes in flow

@@ -1,23 +1,19 @@
 -- How much of its content a line holds, and where the floats met on it stand (CSS 2.1, 9.4.2, 9.5).
-use Rattle.std.specs.Prelude.{ℕ, zero, suc, ◌-◌, ℤ, pos, ◌+ℤ◌, ◌-ℤ◌, int_le, Bool, true, false, not, ◌&&◌, ◌||◌, List, [], ◌∷◌, ◌++◌, map, length, take, drop, filter, fold, slice_index_or, ◌==◌, None, unwrap_or}
+use Rattle.std.specs.Prelude.{ℕ, zero, suc, ◌-◌, ℤ, pos, ◌+ℤ◌, ◌-ℤ◌, int_le, Bool, not, cond, ◌&&◌, ◌||◌, List, [], ◌∷◌, ◌++◌, map, length, take, drop, filter, fold, slice_index_or, ◌==◌, Some}
 use Rattle.std.specs.List.{flat_map, list_any, range_with_len, prefix_len, before_first}
-use Rattle.std.specs.Option.{option_map_or, option_to_list}
+use Rattle.std.specs.Option.{option_map_or}
 use Rattle.std.specs.Ordering.{int_eq}
 use Rattle.viz_base.specs.declared.layouts.Band.{Band}
 use Rattle.viz_base.specs.declared.layouts.Extent.{Extent}
 use Rattle.viz_base.specs.declared.layouts.Inner.{Inner}
 use Rattle.viz_base.specs.declared.layouts.Spot.{Spot}
 use Rattle.viz_base.specs.declared.lengths.Length.{Length}
-use Rattle.viz_base.specs.declared.styles.Clear.TheVariants as of_clear
-use Rattle.viz_base.specs.declared.styles.Side.{Side}
-use Rattle.viz_base.specs.declared.styles.Side.TheVariants as of_side
-use Rattle.viz_base.specs.declared.styles.Style.{Style}
 use Rattle.viz_base.specs.declared.trees.BoxTree.{BoxTree}
-use Rattle.layout_semantics.specs.Extremes.{greatest_from, least_from}
+use Rattle.layout_semantics.specs.Extremes.{least_from}
 use Rattle.layout_semantics.specs.Blocks.{node_of}
 use Rattle.layout_semantics.specs.Fonts.{text_width}
-use Rattle.layout_semantics.specs.Lengths.{used, total, own}
-use Rattle.layout_semantics.specs.Floats.{FloatBox, placed_float, float_at, band_at, meets, candidate_tops, lowest_bottom}
+use Rattle.layout_semantics.specs.Lengths.{used, total}
+use Rattle.layout_semantics.specs.Floats.{FloatBox, Floating, floating, float_spot, with_float_at, band_at, meets, candidate_tops}
 use Rattle.layout_semantics.specs.InlineContent.{Item, start, finish, word, space, atomic, forced, float, float_boxes, start_edges, end_edges, makes_line}
 use Rattle.layout_semantics.specs.Stretches.{is_forced, what_stays}
 use Rattle.layout_semantics.specs.LineHeights.{InlineContext, inner_of}
@@ -56,25 +52,22 @@ pub record Met : Type 0 where
   pub floats : List FloatBox
   pub waiting : List ℕ
 
-abbrev pub side_of : BoxTree → ℕ → Side
-side_of tree at = unwrap_or (own tree at (λ (s : Style). s.float) None) of_side.Left
-
 abbrev pub float_size : InlineContext → ℕ → Extent ℤ
 float_size c at = option_map_or (λ (i : Inner ℤ). record { width = i.width; height = i.above +ℤ i.below }) (inner_of c at) (record { width = pos 0; height = pos 0 })
 
--- the highest top that a float may have: not above y nor `least`, nor above the floats that it clears (CSS 2.1, 9.5.1, 9.5.2)
-abbrev pub top_allowed : InlineContext → List FloatBox → ℤ → ℤ → ℕ → ℤ
-top_allowed c floats least y at = greatest_from y (least ∷ option_to_list (lowest_bottom (own c.tree at (λ (s : Style). s.clear) of_clear.Nothing) floats))
+abbrev pub line_float : InlineContext → ℕ → Floating
+line_float c at = floating c.tree at (float_size c at) c.cb
 
-abbrev pub float_spot : InlineContext → List FloatBox → ℤ → ℤ → ℕ → Spot ℤ
-float_spot c floats least y at = float_at floats (side_of c.tree at) (float_size c at) c.cb (top_allowed c floats least y at)
+-- where a float stands that comes at y, none of the lines' floats having its top above `least`
+abbrev pub line_spot : InlineContext → List FloatBox → ℤ → ℤ → ℕ → Spot ℤ
+line_spot c floats least y at = float_spot (line_float c at) floats (Some least) y
 
-abbrev pub with_float : InlineContext → Met → ℕ → Spot ℤ → Met
-with_float c met at spot = record met { spots = met.spots ++ (at, spot) ∷ []; floats = met.floats ++ placed_float (side_of c.tree at) (float_size c at) spot ∷ [] }
+abbrev pub with_spot : InlineContext → Met → ℕ → Spot ℤ → Met
+with_spot c met at spot = record met { spots = met.spots ++ (at, spot) ∷ []; floats = with_float_at (line_float c at) met.floats spot }
 
 -- floats placed one after another, each from y on
 abbrev pub place_each : InlineContext → ℤ → ℤ → Met → List ℕ → Met
-place_each c least y met boxes = fold (λ (now : Met) at. with_float c now at (float_spot c now.floats least y at)) met boxes
+place_each c least y met boxes = fold (λ (now : Met) at. with_spot c now at (line_spot c now.floats least y at)) met boxes
 
 -- ---- the top of a line
 
@@ -118,16 +111,20 @@ abbrev pub floats_met : BoxTree → ℕ → List Item → List ℕ
 floats_met tree zero items = float_boxes (from_line_on tree items)
 floats_met tree (suc n) items = float_boxes items
 
--- a float met where the line holds so much already is placed at the line's top where it may stand there and leaves that much room; else, and
--- where an earlier float waits, it waits (our own reading)
-abbrev pub meet : InlineContext → Line → ℤ → Met → ℕ → Met
-meet c line held met at = at_spot (float_spot c met.floats line.least line.top at)
-  where
-    by_room : Spot ℤ → Met → Met
-    by_room spot placed = elim ((length met.waiting == 0) && int_eq spot.y line.top && fits held (band_at placed.floats c.cb line.top line.tall)) [ true ↦ placed | false ↦ record met { waiting = met.waiting ++ at ∷ [] } ]
+-- a float met where the line holds so much already stands at once where none before it waits, its place is at the line's top, and the line
+-- still has so much room beside it (our own reading)
+abbrev pub stands_at_once : InlineContext → Line → ℤ → Met → ℕ → Spot ℤ → Bool
+stands_at_once c line held met at spot =
+    (length met.waiting == 0)
+    && int_eq spot.y line.top
+    && fits held (band_at (with_float_at (line_float c at) met.floats spot) c.cb line.top line.tall)
 
-    at_spot : Spot ℤ → Met
-    at_spot spot = by_room spot (with_float c met at spot)
+-- else it waits
+abbrev pub met_at : InlineContext → Line → ℤ → Met → ℕ → Spot ℤ → Met
+met_at c line held met at spot = cond (stands_at_once c line held met at spot) (with_spot c met at spot) (record met { waiting = met.waiting ++ at ∷ [] })
+
+abbrev pub meet : InlineContext → Line → ℤ → Met → ℕ → Met
+meet c line held met at = met_at c line held met at (line_spot c met.floats line.least line.top at)
 
 -- the floats met in the first n stretches, and those before
 abbrev pub met_after : InlineContext → Line → ℕ → Met
