@@ -35,6 +35,8 @@ pub mod Truths
 pub mod Bands
 pub mod Collapsed
 pub mod PlainLeads
+pub mod LeadLevels
+pub mod FlowLevels
 pub mod PlainLevels
 pub mod PlainSteps
 pub mod PlainTraces

@@ -63,11 +63,11 @@ module _ (tree : BoxTree) (w : World) (height : ℕ) where
 
   abbrev pub box_from : Band ℤ → ℕ → Leading → Bool → Leading
   box_from cb b children false = record { margins = top_margin tree w height cb b ∷ []; waiting = []; end = of_end.Solid b; cb = cb }
-  box_from cb b children true = followed_by tree w height (through tree w height cb (top_margin tree w height cb b ∷ [])) (followed_by tree w height children (last_of cb b (may_collapse_through tree w height b)))
+  box_from cb b children true = followed_by tree w height (through tree w height cb (top_margin tree w height cb b ∷ [])) (followed_by tree w height children (last_of cb b (may_collapse_through tree b)))
 
   box-plain : (cb : Band ℤ) (b : ℕ) (children : Leading) (opens : Bool) → ends_cleared children.end ≡ false → ends_cleared (box_from cb b children opens).end ≡ false
   box-plain cb b children false e = refl
-  box-plain cb b children true e = followed-plain children (last_of cb b (may_collapse_through tree w height b)) e (by_last (may_collapse_through tree w height b))
+  box-plain cb b children true e = followed-plain children (last_of cb b (may_collapse_through tree b)) e (by_last (may_collapse_through tree b))
     where
       by_last : (last : Bool) → ends_cleared (last_of cb b last).end ≡ false
       by_last true = refl

@@ -21,11 +21,11 @@ module _ (tree : BoxTree) (w : World) (height : ℕ) where
   collapses_to-enough zero m b h p q = absurd (omega arith)
   collapses_to-enough (suc n) zero b h p q = absurd (omega arith)
   collapses_to-enough (suc n) (suc m) b h p q =
-      ap (λ c. may_collapse_through tree w height b && c)
+      ap (λ c. may_collapse_through tree b && c)
       (list_all-same (collapses_to tree w height n) (collapses_to tree w height m) (IsKid tree.boxes b) (kids_of tree.boxes b) ((forest tree).kids b)
       (λ k i. let after = i.after in collapses_to-enough n m k i.within (omega arith) (omega arith)))
 
-  pub collapses-is : (b : ℕ) → b < length tree.boxes → collapses tree w height b ≡ (may_collapse_through tree w height b && list_all (collapses tree w height) (kids_of tree.boxes b))
+  pub collapses-is : (b : ℕ) → b < length tree.boxes → collapses tree w height b ≡ (may_collapse_through tree b && list_all (collapses tree w height) (kids_of tree.boxes b))
   unfolding collapses_to
   collapses-is b h = collapses_to-enough (length tree.boxes) (suc (length tree.boxes)) b h (omega arith) (omega arith)
 
@@ -51,10 +51,10 @@ module _ (tree : BoxTree) (w : World) (height : ℕ) where
   trailing_to-enough zero m cb b h p q = absurd (omega arith)
   trailing_to-enough (suc n) zero cb b h p q = absurd (omega arith)
   trailing_to-enough (suc n) (suc m) cb b h p q =
-      ap (λ (run : List ℤ). box_margins cb b run (joins_last_child tree w height b))
+      ap (λ (run : List ℤ). box_margins cb b run (joins_last_child tree b))
       (fold-same (trailing_to tree w height n) (trailing_to tree w height m) (content_band tree w height cb b) (IsKid tree.boxes b) (kids_of tree.boxes b) [] ((forest tree).kids b)
       (λ k i. let after = i.after in trailing_to-enough n m (content_band tree w height cb b) k i.within (omega arith) (omega arith)))
 
-  pub trailing-is : (cb : Band ℤ) (b : ℕ) → b < length tree.boxes → trailing tree w height cb b ≡ box_margins cb b (fold (after_child tree w height (trailing tree w height) (content_band tree w height cb b)) [] (kids_of tree.boxes b)) (joins_last_child tree w height b)
+  pub trailing-is : (cb : Band ℤ) (b : ℕ) → b < length tree.boxes → trailing tree w height cb b ≡ box_margins cb b (fold (after_child tree w height (trailing tree w height) (content_band tree w height cb b)) [] (kids_of tree.boxes b)) (joins_last_child tree b)
   unfolding trailing_to
   trailing-is cb b h = trailing_to-enough (length tree.boxes) (suc (length tree.boxes)) cb b h (omega arith) (omega arith)

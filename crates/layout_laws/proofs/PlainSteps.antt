@@ -9,7 +9,8 @@ use Rattle.layout_semantics.specs.Order.{kids_of}
 use Rattle.layout_semantics.specs.Margins.{collapsed}
 use Rattle.layout_semantics.specs.Rectangles.{Frame, content_top, placed_box}
 use Rattle.layout_semantics.specs.Replaced.{replaced_size}
-use Rattle.layout_semantics.specs.FlowBoxes.{is_replaced_at, is_context_root, is_open_above, is_open_below, may_collapse_through, joins_last_child, has_auto_height, has_no_minimum, own_height, across, content_from, content_band}
+use Rattle.layout_semantics.specs.FlowBoxes.{is_replaced_at, is_context_root, is_open_above, is_open_below, may_collapse_through, joins_last_child, across, content_from, content_band}
+use Rattle.layout_semantics.specs.DefiniteHeights.{has_auto_height, has_no_minimum, own_height}
 use Rattle.layout_semantics.specs.InlineContent.{is_zero, has_line}
 use Rattle.layout_semantics.specs.Lengths.{borders, paddings}
 use Rattle.layout_semantics.specs.Leads.{bottom_margin}
@@ -107,11 +108,11 @@ module _ (tree : BoxTree) (w : World) (height : ℕ) where
   context-below : (k : ℕ) → is_context_root tree k ≡ true → is_open_below tree k ≡ false
   context-below k e = ap (λ c. not c && not (is_replaced_at tree k) && is_zero (borders tree k).bottom && is_zero (paddings tree k).bottom) e
 
-  closed-stays : (k : ℕ) → is_open_above tree k ≡ false → may_collapse_through tree w height k ≡ false
-  closed-stays k e = ap (λ o. o && is_open_below tree k && has_no_minimum tree w height k && (has_auto_height tree w height k || is_zero (own_height tree k)) && not (has_line tree k)) e
+  closed-stays : (k : ℕ) → is_open_above tree k ≡ false → may_collapse_through tree k ≡ false
+  closed-stays k e = ap (λ o. o && is_open_below tree k && has_no_minimum tree k && (has_auto_height tree k || is_zero (own_height tree k)) && not (has_line tree k)) e
 
-  closed-parts : (k : ℕ) → is_open_below tree k ≡ false → joins_last_child tree w height k ≡ false
-  closed-parts k e = ap (λ o. o && has_auto_height tree w height k && has_no_minimum tree w height k) e
+  closed-parts : (k : ℕ) → is_open_below tree k ≡ false → joins_last_child tree k ≡ false
+  closed-parts k e = ap (λ o. o && has_auto_height tree k && has_no_minimum tree k) e
 
   closed-collapses : (k : ℕ) → k < length tree.boxes → is_open_above tree k ≡ false → collapses tree w height k ≡ false
   closed-collapses k l e = collapses-is tree w height k l ∙ ap (λ m. m && list_all (collapses tree w height) (kids_of tree.boxes k)) (closed-stays k e)
@@ -139,7 +140,7 @@ module _ (tree : BoxTree) (w : World) (height : ℕ) (inside : ℕ → Band ℤ 
   abbrev pub inner_height : Band ℤ → Progress → ℕ → Frame → (replaced context : Bool) → ℤ
   inner_height cb p k f true context = (replaced_size tree w height k (across cb)).height
   inner_height cb p k f false true = content_height tree w height k (context_height tree w height (content_top f) (inner cb p k f true))
-  inner_height cb p k f false false = content_height tree w height k (block_height tree w height (joins_last_child tree w height k) (content_top f) (inner cb p k f false).standing)
+  inner_height cb p k f false false = content_height tree w height k (block_height tree w height (joins_last_child tree k) (content_top f) (inner cb p k f false).standing)
 
   -- its entry
   abbrev pub entry_in : Band ℤ → Progress → ℕ → Frame → Placed ℤ
@@ -194,8 +195,8 @@ module _ (tree : BoxTree) (w : World) (height : ℕ) (plain : HasPlainBlocks tre
         }
         by_sort false false e f = record {
           floats = rw (e, f) ends.floats;
-          through = rw (e, f) (both_ways (is_at_top tree w height end.standing) (is_open_above tree k) (list_all (collapses tree w height) (kids_of tree.boxes k)) (may_collapse_through tree w height k) ends.top (closed-stays tree w height k) ∙ sym (collapses-is tree w height k l));
-          margins = λ c. rw (e, f) (joins (joins_last_child tree w height k) refl c ∙ sym (trailing-is tree w height cb k l));
+          through = rw (e, f) (both_ways (is_at_top tree w height end.standing) (is_open_above tree k) (list_all (collapses tree w height) (kids_of tree.boxes k)) (may_collapse_through tree k) ends.top (closed-stays tree w height k) ∙ sym (collapses-is tree w height k l));
+          margins = λ c. rw (e, f) (joins (joins_last_child tree k) refl c ∙ sym (trailing-is tree w height cb k l));
           bottom = rw (e, f);
         }
           where
@@ -211,11 +212,11 @@ module _ (tree : BoxTree) (w : World) (height : ℕ) (plain : HasPlainBlocks tre
             run : List ℤ
             run = fold (after_child tree w height (trailing tree w height) (content_band tree w height cb k)) [] (kids_of tree.boxes k)
 
-            joins : (j : Bool) → joins_last_child tree w height k ≡ j → collapses tree w height k ≡ false
+            joins : (j : Bool) → joins_last_child tree k ≡ j → collapses tree w height k ≡ false
                 → joined_run tree w height j end.standing ++ bottom_margin tree w height cb k ∷ [] ≡ box_margins tree w height cb k run j
             joins false g c = ap (λ (own : List ℤ). own ++ bottom_margin tree w height cb k ∷ []) (joined_none tree w height end.standing)
             joins true g c = ap (λ (own : List ℤ). own ++ bottom_margin tree w height cb k ∷ []) (ends.run (ends.top
-                ∙ parted (is_open_above tree k) (is_open_below tree k) (has_no_minimum tree w height k) (has_auto_height tree w height k) (is_zero (own_height tree k)) (has_line tree k) (list_all (collapses tree w height) (kids_of tree.boxes k))
+                ∙ parted (is_open_above tree k) (is_open_below tree k) (has_no_minimum tree k) (has_auto_height tree k) (is_zero (own_height tree k)) (has_line tree k) (list_all (collapses tree w height) (kids_of tree.boxes k))
                 (no_lines tree plain.no_inline k) g (sym (collapses-is tree w height k l) ∙ c)))
 
     -- ---- after a box

@@ -189,8 +189,8 @@ module _ (tree : BoxTree) (w : World) (height : ℕ) where
             floats = rw (band-is y) own.floats;
             boxes = rw (band-is y) (placed-after p k y _ _ l e high own.boxes);
             bottom = rw (band-is y) (bottom-is k y _ e high);
-            zeros = rw (band-is y) (zero-append (joined_run tree w height (joins_last_child tree w height k) end.standing) (pos 0 ∷ []) (subst AllZero (sym (ap (λ j. joined_run tree w height j end.standing) (ready-joins tree w height k (ready k l)) ∙ joined_none end.standing)) tt) (refl, tt));
-            flat = λ t. ready-collapses tree w height k (ready k l) (right_of _ (may_collapse_through tree w height k) t);
+            zeros = rw (band-is y) (zero-append (joined_run tree w height (joins_last_child tree k) end.standing) (pos 0 ∷ []) (subst AllZero (sym (ap (λ j. joined_run tree w height j end.standing) (ready-joins tree w height k (ready k l)) ∙ joined_none end.standing)) tt) (refl, tt));
+            flat = λ t. ready-collapses tree w height k (ready k l) (right_of _ (may_collapse_through tree k) t);
           }
         where
           start : Progress
@@ -202,8 +202,8 @@ module _ (tree : BoxTree) (w : World) (height : ℕ) where
           own : IsFilled inside k (content_top (plain_frame y)) start
           own = filled k y start l m s (begun-so-far p k y (is_open_above tree k) none e)
 
-          high : content_height tree w height k (block_height tree w height (joins_last_child tree w height k) (content_top (plain_frame y)) end.standing) ≡ height_of tree k
-          high = ready-height tree w height k (ready k l) (block_height tree w height (joins_last_child tree w height k) (content_top (plain_frame y)) end.standing)
+          high : content_height tree w height k (block_height tree w height (joins_last_child tree k) (content_top (plain_frame y)) end.standing) ≡ height_of tree k
+          high = ready-height tree w height k (ready k l) (block_height tree w height (joins_last_child tree k) (content_top (plain_frame y)) end.standing)
 
       laid-is : (p : Progress) (k : ℕ) (y : ℤ) → k < length tree.boxes → length tree.boxes ≤ levels + k → IsSettled tree k → p.floats ≡ [] → y ≡ top_of tree k → IsLaid p k (laid tree w height inside page_band p k (plainly_reached y))
       laid-is p k y l m s none e = subst (IsLaid p k) (sym (laid-sort p k y l)) (by_sort (is_context_root tree k))

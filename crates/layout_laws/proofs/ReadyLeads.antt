@@ -82,9 +82,9 @@ module _ (tree : BoxTree) (w : World) (height : ℕ) where
     step-null cb b children opens true l n = record { zeros = tt; none = refl }
     step-null cb b children false false l n = record { zeros = (top-zero cb b l, tt); none = refl }
     step-null cb b children true false l n =
-        followed-null (through tree w height cb (top_margin tree w height cb b ∷ [])) (followed_by tree w height children (last_of tree w height cb b (may_collapse_through tree w height b)))
+        followed-null (through tree w height cb (top_margin tree w height cb b ∷ [])) (followed_by tree w height children (last_of tree w height cb b (may_collapse_through tree b)))
         (record { zeros = (top-zero cb b l, tt); none = refl })
-        (followed-null children (last_of tree w height cb b (may_collapse_through tree w height b)) n (by_last (may_collapse_through tree w height b)))
+        (followed-null children (last_of tree w height cb b (may_collapse_through tree b)) n (by_last (may_collapse_through tree b)))
       where
         by_last : (last : Bool) → IsNull (last_of tree w height cb b last)
         by_last true = record { zeros = tt; none = refl }

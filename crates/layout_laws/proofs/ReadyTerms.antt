@@ -9,7 +9,8 @@ use Rattle.layout_semantics.specs.Blocks.{height_of}
 use Rattle.layout_semantics.specs.InlineContent.{is_zero}
 use Rattle.layout_semantics.specs.Horizontal.{widths, placing_of, block_flow, held_terms, block_terms, auto_terms, terms_around, sum_of, available, with_margins, again_unless, at_least}
 use Rattle.layout_semantics.specs.Verticals.{Verticals, verticals}
-use Rattle.layout_semantics.specs.FlowBoxes.{is_replaced_at, may_collapse_through, joins_last_child, has_auto_height, has_no_minimum, own_height, is_open_above, is_open_below}
+use Rattle.layout_semantics.specs.FlowBoxes.{is_replaced_at, may_collapse_through, joins_last_child, is_open_above, is_open_below}
+use Rattle.layout_semantics.specs.DefiniteHeights.{has_auto_height, has_no_minimum, own_height}
 use Rattle.layout_semantics.specs.InlineContent.{has_line}
 use Rattle.layout_semantics.specs.Flow.{content_height}
 use Rattle.layout_laws.proofs.ReadyBoxes.{IsReady}
@@ -71,11 +72,11 @@ module _ (tree : BoxTree) (w : World) (height : ℕ) (k : ℕ) (r : IsReady tree
   pub ready-height : (auto : ℤ) → content_height tree w height k auto ≡ height_of tree k
   ready-height auto = rw (r.height, r.max_height, r.min_height) (ap (λ (h : ℤ). int_max h (pos 0)) (r.high).1 ∙ (held_is (r.high).0 ∙ sym (r.high).1))
 
-  auto_height : has_auto_height tree w height k ≡ false
+  auto_height : has_auto_height tree k ≡ false
   auto_height = rw r.height
 
-  pub ready-joins : joins_last_child tree w height k ≡ false
-  ready-joins = ap (λ a. is_open_below tree k && a && has_no_minimum tree w height k) auto_height ∙ between (is_open_below tree k) (has_no_minimum tree w height k)
+  pub ready-joins : joins_last_child tree k ≡ false
+  ready-joins = ap (λ a. is_open_below tree k && a && has_no_minimum tree k) auto_height ∙ between (is_open_below tree k) (has_no_minimum tree k)
     where
       between : (a b : Bool) → (a && false && b) ≡ false
       between true b = refl
@@ -84,9 +85,9 @@ module _ (tree : BoxTree) (w : World) (height : ℕ) (k : ℕ) (r : IsReady tree
   zero_height : is_zero (own_height tree k) ≡ int_eq (height_of tree k) (pos 0)
   zero_height = rw r.height
 
-  pub ready-collapses : IsTrue (may_collapse_through tree w height k) → height_of tree k ≡ pos 0
+  pub ready-collapses : IsTrue (may_collapse_through tree k) → height_of tree k ≡ pos 0
   ready-collapses t =
-      let z = tested (is_open_above tree k) (is_open_below tree k) (has_no_minimum tree w height k) (has_auto_height tree w height k) (is_zero (own_height tree k)) (has_line tree k) auto_height t in
+      let z = tested (is_open_above tree k) (is_open_below tree k) (has_no_minimum tree k) (has_auto_height tree k) (is_zero (own_height tree k)) (has_line tree k) auto_height t in
       (Decides-int_eq (height_of tree k) (pos 0)).0 (sym zero_height ∙ z)
     where
       tested : (o ob nm au z hl : Bool) → au ≡ false → (o && ob && nm && (au || z) && not hl) ≡ true → z ≡ true

@@ -41,7 +41,7 @@ module _ (tree : BoxTree) (w : World) (height : ℕ) where
   -- so many levels
   unfoldable pub collapses_to : ℕ → ℕ → Bool
   collapses_to zero b = false
-  collapses_to (suc levels) b = may_collapse_through tree w height b && list_all (collapses_to levels) (kids_of tree.boxes b)
+  collapses_to (suc levels) b = may_collapse_through tree b && list_all (collapses_to levels) (kids_of tree.boxes b)
 
   -- a page has no more levels than boxes
   abbrev pub collapses : ℕ → Bool
@@ -59,7 +59,7 @@ module _ (tree : BoxTree) (w : World) (height : ℕ) where
   -- the margins that adjoin the bottom of a block that does not collapse through: those of its last children, where its own
   -- bottom margin joins them, and its own
   abbrev pub trailing_step : (Band ℤ → ℕ → List ℤ) → Band ℤ → ℕ → List ℤ
-  trailing_step trailing cb b = by_sort (joins_last_child tree w height b)
+  trailing_step trailing cb b = by_sort (joins_last_child tree b)
     where
       by_sort : Bool → List ℤ
       by_sort true = fold (after_child trailing (content_band tree w height cb b)) [] (kids_of tree.boxes b) ++ bottom_margin tree w height cb b ∷ []

@@ -1,11 +1,18 @@
-ghost use Rattle.std.specs.Prelude.{◌≡◌, ◌<◌, ℕ, List, [], ◌∷◌, length};
+ghost use Rattle.std.specs.Prelude.{◌≡◌, ◌<◌, ℕ, ℤ, Bool, List, [], ◌∷◌, length, Option};
 ghost use Rattle.std.specs.List.{flat_map};
+ghost use Rattle.viz_base.specs.declared.layouts.Band.{Band};
+ghost use Rattle.viz_base.specs.declared.layouts.Extent.{Extent};
+ghost use Rattle.viz_base.specs.declared.layouts.Waiting.{Waiting};
 ghost use Rattle.layout_semantics.specs.Order.{kids_of, IsOnPage};
 ghost use Rattle.layout_semantics.specs.DefiniteHeights.{percentage_container, definite_height};
 ghost use Rattle.layout_semantics.specs.InlineContent.{Item, content};
 ghost use Rattle.layout_semantics.specs.Preferred.{preferred};
 ghost use Rattle.layout_semantics.specs.LineHeights.{InlineContext, LineExtent, shift, tallest};
 ghost use Rattle.layout_semantics.specs.Lines.{SoFar, after_next};
+ghost use Rattle.layout_semantics.specs.Floats.{FloatBox};
+ghost use Rattle.layout_semantics.specs.Leads.{is_up_to, lead, lead_step};
+ghost use Rattle.layout_semantics.specs.Clearance.{resolve, resolve_step};
+ghost use Rattle.layout_semantics.specs.Flow.{Progress, flow, flow_step};
 ghost use Rattle.layout_laws.specs.Nested.{box_items, preferred_by_inside, container_by_parent, definite_height_by_container, shift_by_parent, lines_of};
 
 use viz_base::{BoxTree, World};
@@ -38,6 +45,35 @@ pub fn a_definite_height_is_the_containers(tree: &BoxTree, world: World, height:
 /// A box of a line is raised by its own `vertical-align` and as the inline box around it is (CSS 2.1, 10.8.1).
 pub fn raises_add_up()
     ensures { (c : InlineContext) (at : ℕ) (e : LineExtent) → IsOnPage c.tree.boxes at → shift c at e ≡ shift_by_parent c at e }
+{}
+
+/// The lead of a box, from those of the boxes in it: more levels would change nothing (CSS 2.1, 8.3.1).
+pub fn a_lead_comes_from_inside(tree: &BoxTree, world: World, height: u32, at: usize)
+    requires within { at < length tree.now.boxes }
+    ensures { (passed : ℕ → Bool) (cb : Band ℤ) → lead tree.now world height passed cb at
+        ≡ lead_step tree.now world height (lead tree.now world height passed) passed cb at }
+{}
+
+/// Where a box stands: a box of its lead that has `clear` and is not cleared is passed, and the lead goes on, as often as there is one
+/// (CSS 2.1, 9.5.2).
+pub fn a_lead_goes_on_through_what_is_not_cleared(
+    tree: &BoxTree,
+    world: World,
+    height: u32,
+    at: usize,
+)
+    requires within { at < length tree.now.boxes }
+    ensures { (size : Waiting ℤ → Extent ℤ) (edge : List ℤ → ℤ) (cb : Band ℤ) (floats : List FloatBox) (least : Option ℤ) (passed : ℕ → Bool)
+        → resolve tree.now world height size edge cb floats least at passed
+        ≡ resolve_step tree.now world height size edge cb floats least at
+        (λ d. resolve tree.now world height size edge cb floats least at (is_up_to d)) (lead tree.now world height passed cb at) }
+{}
+
+/// The flow of what is in a box, by that of what is in later boxes: more levels would change nothing (CSS 2.1, 9.4).
+pub fn a_flow_comes_from_inside(tree: &BoxTree, world: World, height: u32, at: usize)
+    requires within { at < length tree.now.boxes }
+    ensures { (cb : Band ℤ) (top : ℤ) (p : Progress) → flow tree.now world height at cb top p
+        ≡ flow_step tree.now world height (flow tree.now world height) at cb top p }
 {}
 
 /// Lines follow one another until no stretch is left.

@@ -1,5 +1,5 @@
 -- Heights that are known before layout, and what percentages of heights are of (CSS 2.1, 10.5, 10.7).
-use Rattle.std.specs.Prelude.{ℕ, zero, suc, ◌*◌, Bool, true, false, ℤ, pos, Option, Some, None, option_and_then, option_map, unwrap_or}
+use Rattle.std.specs.Prelude.{ℕ, zero, suc, ◌*◌, Bool, true, false, not, ◌||◌, ℤ, pos, Option, Some, None, option_and_then, option_map, unwrap_or}
 use Rattle.std.specs.Option.{option_map_or}
 use Rattle.viz_base.specs.declared.lengths.Length.{Length}
 use Rattle.viz_base.specs.declared.lengths.Length.TheVariants as of_length
@@ -10,6 +10,7 @@ use Rattle.viz_base.specs.declared.trees.Kind.TheVariants as of_kind
 use Rattle.viz_base.specs.declared.worlds.World.{World}
 use Rattle.layout_semantics.specs.Blocks.{kind_of, parent_of}
 use Rattle.layout_semantics.specs.Fonts.{fraction}
+use Rattle.layout_semantics.specs.InlineContent.{is_zero}
 use Rattle.layout_semantics.specs.Lengths.{used, maximum, held, own, nothing}
 
 -- ---- the containing block of a percentage height
@@ -29,6 +30,38 @@ container_to (suc levels) tree at = option_and_then (λ parent. elim (is_passed_
 abbrev pub percentage_container : BoxTree → ℕ → Option ℕ
 percentage_container tree at = container_to (suc at) tree at
 
+-- ---- which heights are definite, whatever the world
+
+abbrev pub own_height : BoxTree → ℕ → Length
+own_height tree at = own tree at (λ (s : Style). s.height) of_length.Auto
+
+abbrev pub least_height : BoxTree → ℕ → Length
+least_height tree at = own tree at (λ (s : Style). s.min_height) nothing
+
+-- a percentage of a height that is not definite counts as auto, and as no minimum (10.5, 10.7)
+abbrev pub counts_as_auto : (definite : Bool) → Length → Bool
+counts_as_auto definite of_length.Auto = true
+counts_as_auto definite (of_length.Pct p) = not definite
+counts_as_auto definite length = false
+
+unfoldable pub is_definite_to : ℕ → BoxTree → ℕ → Bool
+is_definite_to zero tree at = false
+is_definite_to (suc levels) tree at =
+    option_map_or (λ container. not (counts_as_auto (is_definite_to levels tree container) (own_height tree container))) (percentage_container tree at) true
+
+-- the height that percentages of a box's heights are of is definite: that of the viewport, an absolute height, or a percentage of
+-- a definite one
+abbrev pub is_definite : BoxTree → ℕ → Bool
+is_definite tree at = is_definite_to (suc at) tree at
+
+-- the height of a box is auto
+abbrev pub has_auto_height : BoxTree → ℕ → Bool
+has_auto_height tree at = counts_as_auto (is_definite tree at) (own_height tree at)
+
+-- it has no minimum height, or a computed one of zero
+abbrev pub has_no_minimum : BoxTree → ℕ → Bool
+has_no_minimum tree at = counts_as_auto (is_definite tree at) (least_height tree at) || is_zero (least_height tree at)
+
 -- ---- definite heights
 
 -- a height where the containing block's is `around`: nothing of `auto`, and of a percentage of no definite height
@@ -41,10 +74,10 @@ height_around tree w around length = Some (used tree w length (pos 0))
 abbrev pub held_around : BoxTree → World → Option ℤ → ℕ → ℤ → ℤ
 held_around tree w around at height =
     held (maximum (height_around tree w around) (own tree at (λ (s : Style). s.max_height) None))
-    (unwrap_or (height_around tree w around (own tree at (λ (s : Style). s.min_height) nothing)) (pos 0)) height
+    (unwrap_or (height_around tree w around (least_height tree at)) (pos 0)) height
 
 abbrev pub own_height_around : BoxTree → World → Option ℤ → ℕ → Option ℤ
-own_height_around tree w around at = option_map (held_around tree w around at) (height_around tree w around (own tree at (λ (s : Style). s.height) of_length.Auto))
+own_height_around tree w around at = option_map (held_around tree w around at) (height_around tree w around (own_height tree at))
 
 unfoldable pub definite_height_to : ℕ → BoxTree → World → ℕ → ℕ → Option ℤ
 definite_height_to zero tree w viewport at = None
@@ -58,7 +91,7 @@ definite_height tree w viewport at = definite_height_to (suc at) tree w viewport
 
 -- the height that a box's own property gives, and a height after its maximum and minimum
 abbrev pub given_height : BoxTree → World → ℕ → ℕ → Option ℤ
-given_height tree w viewport at = height_around tree w (definite_height tree w viewport at) (own tree at (λ (s : Style). s.height) of_length.Auto)
+given_height tree w viewport at = height_around tree w (definite_height tree w viewport at) (own_height tree at)
 
 abbrev pub held_height : BoxTree → World → ℕ → ℕ → ℤ → ℤ
 held_height tree w viewport at height = held_around tree w (definite_height tree w viewport at) at height

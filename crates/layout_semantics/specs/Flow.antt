@@ -140,15 +140,16 @@ module _ (tree : BoxTree) (w : World) (height : ℕ) where
     abbrev pub waiting_size : Waiting ℤ → Extent ℤ
     waiting_size f = (alone f.at (across f.cb)).size
 
+    -- a float that is laid out, and whose place is at y, among the floats of the context
+    abbrev pub after_float : Band ℤ → Progress → ℕ → ℤ → Alone → Progress
+    after_float cb p f y a = record p {
+      floats = with_float (floating tree f a.size cb) p.floats p.least y;
+      boxes = p.boxes ++ shifted (float_spot (floating tree f a.size cb) p.floats p.least y) a.boxes;
+    }
+
     -- a float stands as an empty block would that collapses through, and not above its container's content top
     abbrev pub float_child : Band ℤ → ℤ → Progress → ℕ → Progress
-    float_child cb top p f = placed (alone f (across cb)) (int_max top (next_edge p.standing))
-      where
-        placed : Alone → ℤ → Progress
-        placed a y = record p {
-          floats = with_float (floating tree f a.size cb) p.floats p.least y;
-          boxes = p.boxes ++ shifted (float_spot (floating tree f a.size cb) p.floats p.least y) a.boxes;
-        }
+    float_child cb top p f = after_float cb p f (int_max top (next_edge p.standing)) (alone f (across cb))
 
     -- ---- boxes in flow
 
@@ -210,7 +211,7 @@ module _ (tree : BoxTree) (w : World) (height : ℕ) where
 
     -- any other block goes on with the context, and is at its top where its own lead went into its children
     abbrev pub laid_block : Band ℤ → Progress → ℕ → Cleared → Frame → Laid
-    laid_block cb p b cleared f = by_content (joins_last_child tree w height b)
+    laid_block cb p b cleared f = by_content (joins_last_child tree b)
         (inside b (content_from cb.left f.x) (content_top f) (opened p f (start (is_open_above tree b))))
       where
         start : Bool → Standing
@@ -218,7 +219,7 @@ module _ (tree : BoxTree) (w : World) (height : ℕ) where
         start false = below (content_top f) [] false
 
         by_content : Bool → Progress → Laid
-        by_content joins end = closed p f (is_at_top end.standing && may_collapse_through tree w height b) (joined_run joins end.standing) end
+        by_content joins end = closed p f (is_at_top end.standing && may_collapse_through tree b) (joined_run joins end.standing) end
             (placed_box tree b f (content_height b (block_height joins (content_top f) end.standing)))
 
     abbrev pub laid : Band ℤ → Progress → ℕ → Reached → Laid
@@ -290,17 +291,18 @@ module _ (tree : BoxTree) (w : World) (height : ℕ) where
     line_tops (here p) = cond (is_line p.kind) (p.margin.top ∷ []) []
     line_tops (goes k at) = []
 
+    -- the context after the lines of a box
+    abbrev pub after_lines : Band ℤ → Progress → LineList → Progress
+    after_lines cb p l = record {
+      standing = below l.bottom [] false;
+      floats = l.floats;
+      baseline = l.baseline;
+      least = fold raised p.least (flat_map line_tops l.entries);
+      boxes = p.boxes ++ flat_map (entry_boxes cb) l.entries;
+    }
+
     abbrev pub line_content : ℕ → Band ℤ → ℤ → Progress → Progress
-    line_content b cb top p = by_lines (lines tree w b (map (inner_size cb) (inner_boxes tree b)) cb top (unwrap_or p.least top) p.floats)
-      where
-        by_lines : LineList → Progress
-        by_lines l = record {
-          standing = below l.bottom [] false;
-          floats = l.floats;
-          baseline = l.baseline;
-          least = fold raised p.least (flat_map line_tops l.entries);
-          boxes = p.boxes ++ flat_map (entry_boxes cb) l.entries;
-        }
+    line_content b cb top p = after_lines cb p (lines tree w b (map (inner_size cb) (inner_boxes tree b)) cb top (unwrap_or p.least top) p.floats)
 
     -- ---- the content of a block container (9.4): its lines; or, where it has none, its blocks one below the other, with the floats
     -- between them

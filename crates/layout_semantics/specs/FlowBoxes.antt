@@ -4,8 +4,6 @@ use Rattle.std.specs.Option.{option_map_or}
 use Rattle.viz_base.specs.Trees.{is_replaced}
 use Rattle.viz_base.specs.declared.layouts.Band.{Band}
 use Rattle.viz_base.specs.declared.layouts.Widths.{Widths}
-use Rattle.viz_base.specs.declared.lengths.Length.{Length}
-use Rattle.viz_base.specs.declared.lengths.Length.TheVariants as of_length
 use Rattle.viz_base.specs.declared.styles.Clear.{Clear}
 use Rattle.viz_base.specs.declared.styles.Clear.TheVariants as of_clear
 use Rattle.viz_base.specs.declared.styles.Style.{Style}
@@ -14,8 +12,8 @@ use Rattle.viz_base.specs.declared.trees.BoxTree.{BoxTree}
 use Rattle.viz_base.specs.declared.worlds.World.{World}
 use Rattle.layout_semantics.specs.Blocks.{kind_of, parent_of}
 use Rattle.layout_semantics.specs.Order.{kids_of}
-use Rattle.layout_semantics.specs.Lengths.{own, nothing, borders, paddings}
-use Rattle.layout_semantics.specs.DefiniteHeights.{definite_height, height_around}
+use Rattle.layout_semantics.specs.Lengths.{own, borders, paddings}
+use Rattle.layout_semantics.specs.DefiniteHeights.{own_height, has_auto_height, has_no_minimum}
 use Rattle.layout_semantics.specs.Horizontal.{widths}
 use Rattle.layout_semantics.specs.InlineContent.{is_floated_at, is_zero, has_line, holds_inline, content, float_boxes}
 
@@ -56,12 +54,6 @@ abbrev pub is_open_below : BoxTree → ℕ → Bool
 is_open_below tree b = not (is_context_root tree b) && not (is_replaced_at tree b)
     && is_zero (borders tree b).bottom && is_zero (paddings tree b).bottom
 
-abbrev pub own_height : BoxTree → ℕ → Length
-own_height tree b = own tree b (λ (s : Style). s.height) of_length.Auto
-
-abbrev pub least_height : BoxTree → ℕ → Length
-least_height tree b = own tree b (λ (s : Style). s.min_height) nothing
-
 -- ---- content
 
 -- what normal flow has of a container without lines: its block-level boxes and floats, or the floats in its inline content
@@ -71,6 +63,17 @@ flow_children tree b = by_sort (holds_inline tree b)
     by_sort : Bool → List ℕ
     by_sort true = float_boxes (content tree b)
     by_sort false = kids_of tree.boxes b
+
+-- ---- blocks whose margins adjoin those in them (8.3.1)
+
+-- a block whose own top and bottom margins adjoin, where all its in-flow children collapse through too
+abbrev pub may_collapse_through : BoxTree → ℕ → Bool
+may_collapse_through tree b = is_open_above tree b && is_open_below tree b && has_no_minimum tree b
+    && (has_auto_height tree b || is_zero (own_height tree b)) && not (has_line tree b)
+
+-- a block whose bottom margin adjoins its last in-flow child's
+abbrev pub joins_last_child : BoxTree → ℕ → Bool
+joins_last_child tree b = is_open_below tree b && has_auto_height tree b && has_no_minimum tree b
 
 -- ---- containing blocks (10.1)
 
@@ -85,26 +88,6 @@ content_from left x = from (left +ℤ x.margin_left +ℤ x.border_left +ℤ x.pa
     from : ℤ → Band ℤ
     from edge = record { left = edge; right = edge +ℤ x.content }
 
-module _ (tree : BoxTree) (w : World) (height : ℕ) where
-  -- a percentage of a height that is not definite counts as auto, and as no minimum (10.5, 10.7)
-  abbrev pub has_auto : ℕ → Length → Bool
-  has_auto b length = is_none (height_around tree w (definite_height tree w height b) length)
-
-  abbrev pub has_auto_height : ℕ → Bool
-  has_auto_height b = has_auto b (own_height tree b)
-
-  abbrev pub has_no_minimum : ℕ → Bool
-  has_no_minimum b = has_auto b (least_height tree b) || is_zero (least_height tree b)
-
-  -- a block whose own top and bottom margins adjoin, where all its in-flow children collapse through too
-  abbrev pub may_collapse_through : ℕ → Bool
-  may_collapse_through b = is_open_above tree b && is_open_below tree b && has_no_minimum b
-      && (has_auto_height b || is_zero (own_height tree b)) && not (has_line tree b)
-
-  -- a block whose bottom margin adjoins its last in-flow child's
-  abbrev pub joins_last_child : ℕ → Bool
-  joins_last_child b = is_open_below tree b && has_auto_height b && has_no_minimum b
-
-  -- of a box in a containing block
-  abbrev pub content_band : Band ℤ → ℕ → Band ℤ
-  content_band cb b = content_from cb.left (widths tree w height b (across cb))
+-- of a box in a containing block
+abbrev pub content_band : BoxTree → World → ℕ → Band ℤ → ℕ → Band ℤ
+content_band tree w height cb b = content_from cb.left (widths tree w height b (across cb))

@@ -87,7 +87,7 @@ module _ (tree : BoxTree) (w : World) (height : ℕ) where
 
       by_top : Bool → Leading
       by_top false = stop (of_end.Solid b) (top_margin cb b ∷ [])
-      by_top true = followed_by (through cb (top_margin cb b ∷ [])) (followed_by (children (content_band tree w height cb b)) (last (may_collapse_through tree w height b)))
+      by_top true = followed_by (through cb (top_margin cb b ∷ [])) (followed_by (children (content_band tree w height cb b)) (last (may_collapse_through tree b)))
 
       by_clear : Bool → Leading
       by_clear true = stop (of_end.Cleared b) []
