@@ -26,6 +26,7 @@ pub mod HorizontalTerms
 pub mod FontSizes
 pub mod LineTops
 pub mod Cuts
+pub mod Breaks
 pub mod ChildWidths
 pub mod Among
 pub mod Extremes

@@ -7,7 +7,7 @@ use Rattle.viz_base.specs.declared.layouts.Band.{Band}
 use Rattle.viz_base.specs.declared.renderings.Quad.{Quad}
 use Rattle.layout_semantics.specs.Floats.{FloatBox, band_at}
 use Rattle.layout_semantics.specs.InlineContent.{Item, start, finish, word, space, atomic, forced, float, content, float_boxes, makes_line}
-use Rattle.layout_semantics.specs.Stretches.{stretches, is_break}
+use Rattle.layout_semantics.specs.Stretches.{stretches, is_break, may_part}
 use Rattle.layout_semantics.specs.LineHeights.{InlineContext, height_of_extent, line_extent, extended_boxes, extent_in_line, strut, tallest}
 use Rattle.layout_semantics.specs.LineFilling.{Met, Line, joined, first_items, place_each, met_after, stretches_held, width_held, before_line}
 use Rattle.layout_semantics.specs.Fragments.{Entry, float_entry, line_entries}
@@ -63,7 +63,7 @@ parts-of c (part ∷ parts) a = let both = All-first (Contains (all_boxes c)) (e
 stretches-of : (c : InlineContext) → PartsOf c (stretches c.tree (content c.tree c.container))
 stretches-of c =
     let items = content c.tree c.container in
-    parts-of c (stretches c.tree items) (subst (λ l. OfContent c (extended_boxes l)) (sym (cut-joined (is_break c.tree) [] items)) (members (all_boxes c)))
+    parts-of c (stretches c.tree items) (subst (λ l. OfContent c (extended_boxes l)) (sym (cut-joined (is_break (may_part c.tree)) [] items)) (members (all_boxes c)))
 
 taken-of : (c : InlineContext) (n : ℕ) (parts : List (List Item)) → PartsOf c parts → OfContent c (extended_boxes (joined (take n parts)))
 taken-of c zero parts a = tt

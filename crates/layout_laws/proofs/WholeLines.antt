@@ -15,7 +15,7 @@ use Rattle.viz_base.specs.declared.worlds.World.{World}
 use Rattle.layout_semantics.specs.Lists.{one_if}
 use Rattle.layout_semantics.specs.Floats.{FloatBox, band_at}
 use Rattle.layout_semantics.specs.InlineContent.{Item, start, finish, word, space, atomic, forced, float, content, float_boxes, makes_line}
-use Rattle.layout_semantics.specs.Stretches.{stretches, is_break, what_stays}
+use Rattle.layout_semantics.specs.Stretches.{stretches, is_break, may_part, what_stays}
 use Rattle.layout_semantics.specs.LineHeights.{InlineContext, line_extent, extended_boxes, height_of_extent, tallest}
 use Rattle.layout_semantics.specs.LineFilling.{Met, Line, item_width, width_held, place_each, joined, first_items, before_line, met_after, may_hold, stretches_held}
 use Rattle.layout_semantics.specs.Fragments.{Entry, here, goes, ItemPlace, SetLine, set_out, is_text_of, text_fragment, text_entry, inline_fragment, entries_after, line_entries, float_entry, atomic_entry}
@@ -172,4 +172,4 @@ module _ (of_box : ℕ → List (Kind × ℕ)) where
       let c : InlineContext = record { tree = tree; world = w; container = b; inner = inner; cb = cb } in
       let parts = stretches tree (content tree b) in
       let first : SoFar = record { y = y; least = least; floats = floats; opened = []; baseline = None; entries = [] } in
-      lines-shown (length parts) c first parts (omega arith) ∙ ap all_inner (cut-joined (is_break tree) [] (content tree b))
+      lines-shown (length parts) c first parts (omega arith) ∙ ap all_inner (cut-joined (is_break (may_part tree)) [] (content tree b))

@@ -21,7 +21,7 @@ unbreakable_widths tree w at =
 -- the widths of the pieces between forced breaks, each with its floats
 abbrev pub piece_widths : BoxTree → World → ℕ → List ℤ
 piece_widths tree w at = map (λ piece. preferred_stretch tree w (with_most (outer_widths tree w (inner_boxes tree at))) piece
-    +ℤ total (preferred_floats (with_most (outer_widths tree w (inner_boxes tree at))) piece)) (pieces tree (content tree at))
+    +ℤ total (preferred_floats (with_most (outer_widths tree w (inner_boxes tree at))) piece)) (pieces (content tree at))
 
 -- of a box's children: their preferred minimum widths, floats' too
 abbrev pub child_least_widths : BoxTree → World → ℕ → List ℤ

@@ -2,7 +2,7 @@ ghost use Rattle.std.specs.Prelude.{◌≡◌, ◌<◌, ◌↔◌, ◌&&◌, tru
 ghost use Rattle.std.specs.List.{AllByRecursion};
 ghost use Rattle.std.specs.Option.{option_map_or};
 ghost use Rattle.layout_semantics.specs.InlineContent.{Item};
-ghost use Rattle.layout_semantics.specs.Stretches.{stretches, pieces, is_break, is_thing, is_forced};
+ghost use Rattle.layout_semantics.specs.Stretches.{stretches, pieces, is_break, may_part, is_thing, is_forced};
 ghost use Rattle.layout_semantics.specs.LineFilling.{joined};
 ghost use Rattle.layout_laws.specs.Parts.{IsFull, EndsAPart};
 
@@ -13,12 +13,12 @@ use viz_base::BoxTree;
 pub fn stretches_end_where_lines_may_break(tree: &BoxTree)
     ensures whole { (items : List Item) → joined (stretches tree.now items) ≡ items }
     ensures full { (items : List Item) → AllByRecursion IsFull (stretches tree.now items) }
-    ensures ends { (before after : List Item) → 0 < length before → 0 < length after → (is_break tree.now (reverse before) after ≡ true) ↔ EndsAPart (stretches tree.now (before ++ after)) before }
+    ensures ends { (before after : List Item) → 0 < length before → 0 < length after → (is_break (may_part tree.now) (reverse before) after ≡ true) ↔ EndsAPart (stretches tree.now (before ++ after)) before }
 {}
 
 /// So are the pieces between forced breaks, which end where lines may break after a forced break.
 pub fn pieces_end_after_forced_breaks(tree: &BoxTree)
-    ensures whole { (items : List Item) → joined (pieces tree.now items) ≡ items }
-    ensures full { (items : List Item) → AllByRecursion IsFull (pieces tree.now items) }
-    ensures ends { (before after : List Item) → 0 < length before → 0 < length after → ((is_break tree.now (reverse before) after && option_map_or is_forced (find is_thing (reverse before)) false) ≡ true) ↔ EndsAPart (pieces tree.now (before ++ after)) before }
+    ensures whole { (items : List Item) → joined (pieces items) ≡ items }
+    ensures full { (items : List Item) → AllByRecursion IsFull (pieces items) }
+    ensures ends { (before after : List Item) → 0 < length before → 0 < length after → ((is_break (may_part tree.now) (reverse before) after && option_map_or is_forced (find is_thing (reverse before)) false) ≡ true) ↔ EndsAPart (pieces (before ++ after)) before }
 {}

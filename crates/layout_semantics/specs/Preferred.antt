@@ -28,7 +28,7 @@ absolute_part tree w length = unwrap_or (used_if_absolute tree w length) (pos 0)
 abbrev pub outer_edges : BoxTree → World → ℕ → ℤ
 outer_edges tree w at = total (map (absolute_part tree w) (start_edges tree at ++ end_edges tree at))
 
--- a width between an absolute minimum and maximum; those that are percentages count as none
+-- a width between its minimum and its maximum; a percentage counts 0 as a minimum, and as a maximum none
 abbrev pub held_absolute : BoxTree → World → ℕ → ℤ → ℤ
 held_absolute tree w at width =
     held (maximum (used_if_absolute tree w) (own tree at (λ (s : Style). s.max_width) None))
@@ -108,7 +108,7 @@ least_inline tree w inner items = greatest (map (preferred_stretch tree w inner)
 
 -- the widest piece between forced breaks, with the floats in it
 abbrev pub most_inline : BoxTree → World → List (ℕ × ℤ) → List Item → ℤ
-most_inline tree w inner items = greatest (map (λ piece. preferred_stretch tree w inner piece +ℤ total (preferred_floats inner piece)) (pieces tree items))
+most_inline tree w inner items = greatest (map (λ piece. preferred_stretch tree w inner piece +ℤ total (preferred_floats inner piece)) (pieces items))
 
 -- ---- a box
 

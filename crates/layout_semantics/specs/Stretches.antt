@@ -35,13 +35,29 @@ abbrev pub is_forced : Item → Bool
 is_forced (forced at) = true
 is_forced _ = false
 
--- whether a line may break between a thing and the one that follows it: after a forced break, after a space at which it may, beside an
--- atomic box where it may; but not before a space at which it may break, since that one goes with what is before it, nor before a forced
--- break, which ends the line of what is before it
-abbrev pub may_part : BoxTree → Item → Item → Bool
-may_part tree before after = is_forced before
-    || (not (is_wrapping_space tree after) && not (is_forced after)
-    && (is_wrapping_space tree before || is_wrapping_atomic tree before || is_wrapping_atomic tree after))
+abbrev pub is_space : Item → Bool
+is_space (space at) = true
+is_space _ = false
+
+-- directly behind an atomic box that lets lines break there, or behind a space that follows one
+abbrev pub is_behind_atomic : BoxTree → Option Item → Item → Bool
+is_behind_atomic tree before (space at) = option_map_or (is_wrapping_atomic tree) before false
+is_behind_atomic tree before first = is_wrapping_atomic tree first
+
+-- a test of whether two things that follow one another may be parted, given the thing before them too, if there is one
+abbrev pub Parting : Type 0
+Parting = (before : Option Item) → (first next : Item) → Bool
+
+-- a line may break behind a space at which it may, behind an atomic box where it may, and before one; but not before a space, which goes
+-- with what is before it, nor before a forced break, which ends the line of what is before it
+abbrev pub may_part : BoxTree → Parting
+may_part tree before first next =
+    not (is_space next) && not (is_forced next)
+    && (is_wrapping_space tree first || is_behind_atomic tree before first || is_wrapping_atomic tree next)
+
+-- where only forced breaks part
+abbrev pub never : Parting
+never before first next = false
 
 -- ---- where the break stands
 
@@ -80,15 +96,21 @@ abbrev pub is_after_its_ends : List Item → List Item → Bool
 is_after_its_ends since [] = false
 is_after_its_ends since (i ∷ after) = list_all is_end since && not (is_end i)
 
--- whether a break that may be taken stands between what is before, nearest first, and what is after
-abbrev pub is_break : BoxTree → List Item → List Item → Bool
-is_break tree back after = by_thing (find is_thing back) (find is_thing after) (reverse (until_thing back))
+-- the thing before the nearest one
+abbrev pub thing_before : List Item → Option Item
+thing_before [] = None
+thing_before (i ∷ back) = cond (is_thing i) (find is_thing back) (thing_before back)
+
+-- whether a break stands between what is before, nearest first, and what is after: after each forced break, and between two other things
+-- that may be parted
+abbrev pub is_break : Parting → List Item → List Item → Bool
+is_break may_be_parted back after = by_things (find is_thing back) (find is_thing after) (reverse (until_thing back))
   where
-    by_thing : Option Item → Option Item → List Item → Bool
-    by_thing None next since = false
-    by_thing (Some (forced at)) next since = is_after_its_ends since after
-    by_thing (Some thing) None since = false
-    by_thing (Some thing) (Some next) since = may_part tree thing next && is_after_last_end since (closed_run (since ++ until_thing after))
+    by_things : Option Item → Option Item → List Item → Bool
+    by_things None next since = false
+    by_things (Some (forced at)) next since = is_after_its_ends since after
+    by_things (Some first) None since = false
+    by_things (Some first) (Some next) since = may_be_parted (thing_before back) first next && is_after_last_end since (closed_run (since ++ until_thing after))
 
 -- ---- the content in parts
 
@@ -103,11 +125,11 @@ cut_where test back (i ∷ items) = joined (test (i ∷ back) items) (cut_where 
 
 -- the stretches that no line may break
 abbrev pub stretches : BoxTree → List Item → List (List Item)
-stretches tree items = cut_where (is_break tree) [] items
+stretches tree items = cut_where (is_break (may_part tree)) [] items
 
 -- the pieces between forced breaks
-abbrev pub pieces : BoxTree → List Item → List (List Item)
-pieces tree items = cut_where (λ back after. is_break tree back after && option_map_or is_forced (find is_thing back) false) [] items
+abbrev pub pieces : List Item → List (List Item)
+pieces items = cut_where (is_break never) [] items
 
 -- ---- spaces at the ends of a line
 

@@ -1,15 +1,17 @@
-use Rattle.std.proofs.Common.{[], false}
-use Rattle.std.specs.Prelude.{◌&&◌, find}
-use Rattle.std.specs.Option.{option_map_or}
-use Rattle.layout_semantics.specs.Stretches.{is_break, is_forced, is_thing}
+use Rattle.std.proofs.Common.{◌≡◌, [], true, reverse, ◌++◌, ◌↔◌, subst}
+use Rattle.layout_semantics.specs.Stretches.{is_break, never, pieces}
+use Rattle.layout_laws.specs.Parts.{EndsAPart}
 use Rattle.layout_laws.proofs.Cuts.{cut-joined, cut-full, ends-reversed}
+use Rattle.layout_laws.proofs.Breaks.{never-same}
 use Rattle.layout_laws.proofs.stretches.pieces_end_after_forced_breaks.Goals as goal
 
 pub returns-clause-whole : goal.returns-clause-whole
-returns-clause-whole c items = cut-joined (λ back after. is_break c.args.tree.now back after && option_map_or is_forced (find is_thing back) false) [] items
+returns-clause-whole c items = cut-joined (is_break never) [] items
 
 pub returns-clause-full : goal.returns-clause-full
-returns-clause-full c items = cut-full (λ back after. is_break c.args.tree.now back after && option_map_or is_forced (find is_thing back) false) [] items
+returns-clause-full c items = cut-full (is_break never) [] items
 
 pub returns-clause-ends : goal.returns-clause-ends
-returns-clause-ends c before after some more = ends-reversed (λ back after. is_break c.args.tree.now back after && option_map_or is_forced (find is_thing back) false) before after some more
+returns-clause-ends c before after some more =
+    subst (λ b. (b ≡ true) ↔ EndsAPart (pieces (before ++ after)) before) (never-same c.args.tree.now (reverse before) after)
+    (ends-reversed (is_break never) before after some more)
