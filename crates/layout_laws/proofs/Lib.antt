@@ -38,6 +38,7 @@ pub mod Collapsed
 pub mod PlainLeads
 pub mod LeadLevels
 pub mod FlowLevels
+pub mod Definite
 pub mod PlainLevels
 pub mod PlainSteps
 pub mod PlainTraces

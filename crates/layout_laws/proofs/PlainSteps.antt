@@ -109,9 +109,11 @@ module _ (tree : BoxTree) (w : World) (height : ℕ) where
   context-below k e = ap (λ c. not c && not (is_replaced_at tree k) && is_zero (borders tree k).bottom && is_zero (paddings tree k).bottom) e
 
   closed-stays : (k : ℕ) → is_open_above tree k ≡ false → may_collapse_through tree k ≡ false
+  unfolding may_collapse_through
   closed-stays k e = ap (λ o. o && is_open_below tree k && has_no_minimum tree k && (has_auto_height tree k || is_zero (own_height tree k)) && not (has_line tree k)) e
 
   closed-parts : (k : ℕ) → is_open_below tree k ≡ false → joins_last_child tree k ≡ false
+  unfolding joins_last_child
   closed-parts k e = ap (λ o. o && has_auto_height tree k && has_no_minimum tree k) e
 
   closed-collapses : (k : ℕ) → k < length tree.boxes → is_open_above tree k ≡ false → collapses tree w height k ≡ false
@@ -178,6 +180,7 @@ module _ (tree : BoxTree) (w : World) (height : ℕ) (plain : HasPlainBlocks tre
 
   module _ (inside : ℕ → Band ℤ → ℤ → Progress → Progress) (levels : ℕ) (behaves : Behaves inside levels) where
     laid-is : (cb : Band ℤ) (p : Progress) (k : ℕ) (y : ℤ) → k < length tree.boxes → length tree.boxes ≤ levels + k → p.floats ≡ [] → IsLaid inside cb p k y
+    unfolding joins_last_child may_collapse_through
     laid-is cb p k y l m none = by_sort (is_replaced_at tree k) (is_context_root tree k) refl refl
       where
         by_sort : (replaced context : Bool) → is_replaced_at tree k ≡ replaced → is_context_root tree k ≡ context → IsLaid inside cb p k y

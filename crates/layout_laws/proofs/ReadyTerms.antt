@@ -33,6 +33,7 @@ module _ (tree : BoxTree) (w : World) (height : ℕ) (k : ℕ) (r : IsReady tree
   not_replaced = rw r.kind
 
   pub ready-verticals : (across : ℤ) → verticals tree w k across ≡ plain_verticals
+  unfolding verticals
   ready-verticals across = rw (r.margin, r.border, r.padding)
 
   block_placed : placing_of tree k ≡ block_flow
@@ -76,6 +77,7 @@ module _ (tree : BoxTree) (w : World) (height : ℕ) (k : ℕ) (r : IsReady tree
   auto_height = rw r.height
 
   pub ready-joins : joins_last_child tree k ≡ false
+  unfolding joins_last_child
   ready-joins = ap (λ a. is_open_below tree k && a && has_no_minimum tree k) auto_height ∙ between (is_open_below tree k) (has_no_minimum tree k)
     where
       between : (a b : Bool) → (a && false && b) ≡ false
@@ -86,6 +88,7 @@ module _ (tree : BoxTree) (w : World) (height : ℕ) (k : ℕ) (r : IsReady tree
   zero_height = rw r.height
 
   pub ready-collapses : IsTrue (may_collapse_through tree k) → height_of tree k ≡ pos 0
+  unfolding may_collapse_through
   ready-collapses t =
       let z = tested (is_open_above tree k) (is_open_below tree k) (has_no_minimum tree k) (has_auto_height tree k) (is_zero (own_height tree k)) (has_line tree k) auto_height t in
       (Decides-int_eq (height_of tree k) (pos 0)).0 (sym zero_height ∙ z)

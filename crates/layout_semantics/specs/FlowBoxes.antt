@@ -67,12 +67,12 @@ flow_children tree b = by_sort (holds_inline tree b)
 -- ---- blocks whose margins adjoin those in them (8.3.1)
 
 -- a block whose own top and bottom margins adjoin, where all its in-flow children collapse through too
-abbrev pub may_collapse_through : BoxTree → ℕ → Bool
+unfoldable pub may_collapse_through : BoxTree → ℕ → Bool
 may_collapse_through tree b = is_open_above tree b && is_open_below tree b && has_no_minimum tree b
     && (has_auto_height tree b || is_zero (own_height tree b)) && not (has_line tree b)
 
 -- a block whose bottom margin adjoins its last in-flow child's
-abbrev pub joins_last_child : BoxTree → ℕ → Bool
+unfoldable pub joins_last_child : BoxTree → ℕ → Bool
 joins_last_child tree b = is_open_below tree b && has_auto_height tree b && has_no_minimum tree b
 
 -- ---- containing blocks (10.1)

@@ -17,7 +17,7 @@ pub record Verticals : Type 0 where
 
 -- a percentage of a margin or padding, a vertical one too, is of the containing block's width, here `across` (8.3, 8.4);
 -- an auto margin above or below is 0 (10.6.2, 10.6.3)
-abbrev pub verticals : BoxTree → World → ℕ → ℤ → Verticals
+unfoldable pub verticals : BoxTree → World → ℕ → ℤ → Verticals
 verticals tree w b across = by_sides (margins tree b) (borders tree b) (paddings tree b)
   where
     by_sides : Sides Length → Sides Length → Sides Length → Verticals

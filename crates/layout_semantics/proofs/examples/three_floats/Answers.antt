@@ -2,7 +2,8 @@ use Rattle.std.proofs.Common.{refl}
 use Rattle.std.specs.Str.{chars}
 use Rattle.layout_semantics.specs.Blocks.{top_to}
 use Rattle.layout_semantics.specs.Clearance.{resolve_to}
-use Rattle.layout_semantics.specs.DefiniteHeights.{container_to, definite_height_to}
+use Rattle.layout_semantics.specs.DefiniteHeights.{container_to, is_definite_to, definite_height_to}
+use Rattle.layout_semantics.specs.FlowBoxes.{may_collapse_through, joins_last_child}
 use Rattle.layout_semantics.specs.Flow.{flow_to}
 use Rattle.layout_semantics.specs.Fonts.{font_size_to}
 use Rattle.layout_semantics.specs.InlineContent.{items_to}
@@ -11,8 +12,9 @@ use Rattle.layout_semantics.specs.LineHeights.{shift_to}
 use Rattle.layout_semantics.specs.Lines.{lines_to}
 use Rattle.layout_semantics.specs.Order.{order_to}
 use Rattle.layout_semantics.specs.Preferred.{preferred_to}
+use Rattle.layout_semantics.specs.Verticals.{verticals}
 use Rattle.layout_semantics.proofs.examples.three_floats.Goals as goal
 
 pub returns : goal.returns
-unfolding chars lib.Utf8.encode top_to resolve_to container_to definite_height_to flow_to font_size_to items_to lead_to shift_to lines_to order_to preferred_to
+unfolding chars lib.Utf8.encode top_to resolve_to container_to is_definite_to definite_height_to may_collapse_through joins_last_child verticals flow_to font_size_to items_to lead_to shift_to lines_to order_to preferred_to
 returns c = λ ok. refl
