@@ -21,6 +21,7 @@ of_placing tree w viewport at cb p = elim p [
 ]
 
 pub widths-placed : (tree : BoxTree) (w : World) (viewport at : ℕ) (cb : ℤ) (p : Placing) → placing_of tree at ≡ p → widths tree w viewport at cb ≡ of_placing tree w viewport at cb p
+unfolding widths
 widths-placed tree w viewport at cb p e = ap (of_placing tree w viewport at cb) e
 
 -- ---- the sum

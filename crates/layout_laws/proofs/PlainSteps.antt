@@ -97,15 +97,19 @@ module _ (tree : BoxTree) (w : World) (height : ℕ) where
   joined_none (below edge run stuck) = refl
 
   replaced-above : (k : ℕ) → is_replaced_at tree k ≡ true → is_open_above tree k ≡ false
+  unfolding is_open_above
   replaced-above k e = ap (λ r. not (is_context_root tree k) && not r && is_zero (borders tree k).top && is_zero (paddings tree k).top) e ∙ no_second (is_context_root tree k) (is_zero (borders tree k).top) (is_zero (paddings tree k).top)
 
   replaced-below : (k : ℕ) → is_replaced_at tree k ≡ true → is_open_below tree k ≡ false
+  unfolding is_open_below
   replaced-below k e = ap (λ r. not (is_context_root tree k) && not r && is_zero (borders tree k).bottom && is_zero (paddings tree k).bottom) e ∙ no_second (is_context_root tree k) (is_zero (borders tree k).bottom) (is_zero (paddings tree k).bottom)
 
   pub context-above : (k : ℕ) → is_context_root tree k ≡ true → is_open_above tree k ≡ false
+  unfolding is_open_above
   context-above k e = ap (λ c. not c && not (is_replaced_at tree k) && is_zero (borders tree k).top && is_zero (paddings tree k).top) e
 
   context-below : (k : ℕ) → is_context_root tree k ≡ true → is_open_below tree k ≡ false
+  unfolding is_open_below
   context-below k e = ap (λ c. not c && not (is_replaced_at tree k) && is_zero (borders tree k).bottom && is_zero (paddings tree k).bottom) e
 
   closed-stays : (k : ℕ) → is_open_above tree k ≡ false → may_collapse_through tree k ≡ false

@@ -65,6 +65,7 @@ module _ (tree : BoxTree) (w : World) (height : ℕ) (k : ℕ) (r : IsReady tree
       by_test false e = absurd (cc)
 
   pub ready-widths : (n : ℕ) → widths tree w height k (pos n) ≡ plain_widths (pos n)
+  unfolding widths
   ready-widths n = rw (block_placed, widths) (held_terms_are n)
 
   held_is : (c : ℕ) → int_max (pos c) (pos 0) ≡ pos c

@@ -35,7 +35,7 @@ abbrev pub stands_clear_of_floats : BoxTree → ℕ → Bool
 stands_clear_of_floats tree b = (is_context_root tree b || is_replaced_at tree b) && is_block_level_at tree b && not (is_floated_at tree b)
 
 -- `clear` as it works on a box in flow; on the root it has no effect
-abbrev pub clear_of : BoxTree → ℕ → Clear
+unfoldable pub clear_of : BoxTree → ℕ → Clear
 clear_of tree b = by_place (is_none (parent_of tree.boxes b)) (stands_clear_of_floats tree b)
   where
     by_place : Bool → Bool → Clear
@@ -46,11 +46,11 @@ clear_of tree b = by_place (is_none (parent_of tree.boxes b)) (stands_clear_of_f
 -- ---- what parts margins (8.3.1), by computed values: zero means a computed value of zero (our own reading)
 
 -- no border and no padding above the content, and no context of its own, part its top margin from its first child's
-abbrev pub is_open_above : BoxTree → ℕ → Bool
+unfoldable pub is_open_above : BoxTree → ℕ → Bool
 is_open_above tree b = not (is_context_root tree b) && not (is_replaced_at tree b)
     && is_zero (borders tree b).top && is_zero (paddings tree b).top
 
-abbrev pub is_open_below : BoxTree → ℕ → Bool
+unfoldable pub is_open_below : BoxTree → ℕ → Bool
 is_open_below tree b = not (is_context_root tree b) && not (is_replaced_at tree b)
     && is_zero (borders tree b).bottom && is_zero (paddings tree b).bottom
 

@@ -125,7 +125,7 @@ placing_of tree at = by_kind (kind_of tree at) (is_floated_at tree at) (is_inlin
     by_kind _ _ _ = block_flow
 
 -- the used values of a box in a containing block of width `cb`, in a viewport of so many pixels height
-abbrev pub widths : BoxTree → World → ℕ → ℕ → ℤ → Widths ℤ
+unfoldable pub widths : BoxTree → World → ℕ → ℕ → ℤ → Widths ℤ
 widths tree w viewport at cb = elim (placing_of tree at) [
   | block_flow ↦ held_terms tree w at cb (block_terms tree w at cb)
   | shrunk ↦ held_terms tree w at cb (shrunk_terms tree w at cb)
