@@ -4,7 +4,7 @@ ghost use Rattle.viz_base.specs.declared.selectors.Spec.{Spec};
 ghost use Rattle.css_semantics.specs.CascadeOrder.{Applied as AppliedClaim, applied, greatest, spec_cmp, style_spec};
 ghost use Rattle.viz_base.specs.declared.sheets.Decl.{Decl};
 ghost use Rattle.css_semantics.specs.declared.claims.Origin.TheVariants as of_origin;
-ghost use Rattle.css_semantics.specs.Properties.{same_name};
+ghost use Rattle.css_semantics.specs.Names.{same_name};
 ghost use Rattle.css_semantics.specs.SheetsGrammar.{AreDeclarationsOf};
 ghost use Rattle.css_semantics.specs.CascadeReading.{AppliesTo, AreClaimed, Each, IsStyled, Matching, style_of};
 ghost use Rattle.css_cascade.specs.Seen.{seen, greatest_on};
@@ -14,6 +14,7 @@ use crate::reading::claims_in;
 use css_select::matches;
 use css_semantics::{Claim, Origin, Ranked, Ruleset};
 use css_syntax::read_declarations;
+use css_token::same_name;
 use std::alloc::{AllocError, Global};
 use viz_base::{Attr, List, Mem, Page, Spec};
 
@@ -99,7 +100,7 @@ pub fn applied<'a>(
 fn is_style(attr: &Attr) -> bool
     ensures { result ≡ same_name attr.now.name (codes "style") }
 {
-    attr.name.as_str().eq_ignore_ascii_case("style")
+    same_name(attr.name.as_str(), "style")
 }
 
 /// The value of the first attribute `style`.

@@ -9,7 +9,8 @@ use Rattle.css_semantics.specs.declared.terminals.Pseudo.{Pseudo}
 use Rattle.css_semantics.specs.declared.terminals.Pseudo.TheVariants as of_pseudo
 use Rattle.css_semantics.specs.declared.terminals.Terminal.{Terminal}
 use Rattle.css_semantics.specs.declared.terminals.Terminal.TheVariants as a
-use Rattle.css_semantics.specs.SelectorTerminals.{terminal, says, pseudo, comparison, is_value}
+use Rattle.css_semantics.specs.Names.{same_name}
+use Rattle.css_semantics.specs.SelectorTerminals.{terminal, pseudo, comparison, is_value}
 use Rattle.css_semantics.specs.SheetsMarks.{text_of}
 use Rattle.css_select.specs.declared.reading.Place.{Place}
 use Rattle.css_select.specs.declared.reading.Place.TheVariants.{Fresh, Compound as InCompound, Gap, Dot, Colon, Language, LanguageEnd, Element, Bracket, Name, Sign, Value}
@@ -62,7 +63,7 @@ function_fails s place t false = refl
 
 colon_fails : (s : State) (place : ℕ) (t : Token) (sign : Terminal) → FailsAt t.at (step_colon s place t sign)
 colon_fails s place t a.Ident = pseudo_fails s place t (pseudo (text_of t))
-colon_fails s place t a.Function = function_fails s place t (says (codes "lang") (text_of t))
+colon_fails s place t a.Function = function_fails s place t (same_name (text_of t) (codes "lang"))
 colon_fails s place t sign = refl
 
 language_fails : (s : State) (place : ℕ) (t : Token) (sign : Terminal) → FailsAt t.at (step_language s place t sign)

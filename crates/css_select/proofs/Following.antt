@@ -7,7 +7,7 @@ use lib.Utf8.{encode}
 use Rattle.viz_base.specs.declared.tokens.Token.{Token}
 use Rattle.viz_base.specs.declared.tokens.TokenKind.{TokenKind}
 use Rattle.viz_base.specs.declared.tokens.TokenKind.TheVariants as of_kind
-use Rattle.css_semantics.specs.SelectorTerminals.{is_comment, without_comments, name_of, says, pseudo, compared}
+use Rattle.css_semantics.specs.SelectorTerminals.{is_comment, without_comments, name_of, pseudo, compared}
 use Rattle.css_semantics.specs.SheetsMarks.{text_of}
 use Rattle.css_select.specs.declared.reading.Place.{Place}
 use Rattle.css_select.specs.declared.reading.Place.TheVariants.{Fresh, Compound as InCompound, Gap, Dot, Colon, Language, LanguageEnd, Element, Bracket, Name, Sign, Value}
@@ -58,7 +58,7 @@ pub record LeadsOn (s : State) : Type 0 where
   pub ends : may_end next.place ≡ true
 
 link_is : (b : Bor (List ℕ)) → pseudo (text_of (made b of_kind.Ident (codes "link"))) ≡ Some (of_pseudo.Class of_test.Link)
-unfolding says text_of chars encode
+unfolding text_of chars encode
 link_is b = refl
 
 leads_at : (b : Bor (List ℕ)) (place : Place) (s : State) → s.place ≡ place → LeadsOn s

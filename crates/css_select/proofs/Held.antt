@@ -7,7 +7,8 @@ use Rattle.viz_base.specs.declared.selectors.Test.{Test}
 use Rattle.viz_base.specs.declared.tokens.Token.{Token}
 use Rattle.css_semantics.specs.declared.terminals.Terminal.TheVariants as a
 use Rattle.css_semantics.specs.declared.terminals.Comparison.{Comparison}
-use Rattle.css_semantics.specs.SelectorTerminals.{terminal, name_of, says, comparison, compared, is_value}
+use Rattle.css_semantics.specs.Names.{same_name}
+use Rattle.css_semantics.specs.SelectorTerminals.{terminal, name_of, comparison, compared, is_value}
 use Rattle.css_semantics.specs.SheetsMarks.{text_of}
 use Rattle.css_semantics.specs.SelectorGrammar.{IsGap, IsTest, one_more, IsBody, IsFront, IsLast, AreEarlier}
 use Rattle.css_select.specs.declared.reading.Place.{Place}
@@ -110,7 +111,7 @@ pub record LanguageOpen (place : ℕ) (piece : List Token) : Type 0 where
   pub is_colon : terminal colon ≡ a.Colon
   pub is_at : colon.at ≡ place
   pub is_function : terminal function ≡ a.Function
-  pub is_lang : says (codes "lang") (text_of function) ≡ true
+  pub is_lang : same_name (text_of function) (codes "lang") ≡ true
   pub is_gap : IsGap before
 
 pub record LanguageClosing (place : ℕ) (piece : List Token) : Type 0 where

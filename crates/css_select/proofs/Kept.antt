@@ -11,7 +11,8 @@ use Rattle.css_semantics.specs.declared.terminals.Pseudo.{Pseudo}
 use Rattle.css_semantics.specs.declared.terminals.Pseudo.TheVariants as of_pseudo
 use Rattle.css_semantics.specs.declared.terminals.Terminal.{Terminal}
 use Rattle.css_semantics.specs.declared.terminals.Terminal.TheVariants as a
-use Rattle.css_semantics.specs.SelectorTerminals.{terminal, name_of, says, pseudo, comparison, compared, is_value}
+use Rattle.css_semantics.specs.Names.{same_name}
+use Rattle.css_semantics.specs.SelectorTerminals.{terminal, name_of, pseudo, comparison, compared, is_value}
 use Rattle.css_semantics.specs.SheetsMarks.{text_of}
 use Rattle.css_semantics.specs.SelectorGrammar.{IsTest, id, class, has, compares, pseudo_class, language, star, tag, child, adjacent, with_element}
 use Rattle.css_select.specs.declared.reading.Place.{Place}
@@ -110,7 +111,7 @@ reads_pseudo s ts t place (Some of_pseudo.Element) next k p h e =
       is_first = more;
     })
 
-reads_function : (s : State) (ts : List Token) (t : Token) (place : ℕ) (yes : Bool) (next : State) → terminal t ≡ a.Function → says (codes "lang") (text_of t) ≡ yes → IsOpen (ColonOnly place) s.group s.parts s.join s.compound s.refused ts
+reads_function : (s : State) (ts : List Token) (t : Token) (place : ℕ) (yes : Bool) (next : State) → terminal t ≡ a.Function → same_name (text_of t) (codes "lang") ≡ yes → IsOpen (ColonOnly place) s.group s.parts s.join s.compound s.refused ts
     → step_function (at s Fresh) place t yes ≡ Ok next → Reads next (ts ++ t ∷ [])
 reads_function s ts t place true next k p h e =
     got (at s (Language place)) next (ts ++ t ∷ []) e
@@ -119,7 +120,7 @@ reads_function s ts t place false next k p h e = never t.at next e
 
 reads_colon : (s : State) (ts : List Token) (t : Token) (place : ℕ) (sign : Terminal) (next : State) → terminal t ≡ sign → IsOpen (ColonOnly place) s.group s.parts s.join s.compound s.refused ts → step_colon (at s Fresh) place t sign ≡ Ok next → Reads next (ts ++ t ∷ [])
 reads_colon s ts t place a.Ident next k h e = reads_pseudo s ts t place (pseudo (text_of t)) next k refl h e
-reads_colon s ts t place a.Function next k h e = reads_function s ts t place (says (codes "lang") (text_of t)) next k refl h e
+reads_colon s ts t place a.Function next k h e = reads_function s ts t place (same_name (text_of t) (codes "lang")) next k refl h e
 reads_colon s ts t place sign next k h e = never t.at next e
 
 reads_language : (s : State) (ts : List Token) (t : Token) (place : ℕ) (sign : Terminal) (next : State) → terminal t ≡ sign → IsOpen (LanguageOpen place) s.group s.parts s.join s.compound s.refused ts → step_language (at s Fresh) place t sign ≡ Ok next → Reads next (ts ++ t ∷ [])

@@ -1,24 +1,23 @@
 -- Tests of attributes, from what they compute to what they ask for.
-use Rattle.std.proofs.Common.{◌≡◌, ℕ, Bool, true, false, ◌&&◌, ◌||◌, List, [], ◌∷◌, ◌++◌, map, Option, Some, refl, sym, ◌∙◌, ap, subst}
+use Rattle.std.proofs.Common.{◌≡◌, ℕ, Bool, true, false, ◌&&◌, ◌||◌, List, [], ◌∷◌, ◌++◌, Option, Some, refl, sym, ◌∙◌, ap, subst}
 use Rattle.std.specs.Prelude.{codes}
 use Rattle.std.specs.Bool.{Decides}
 use Rattle.std.proofs.lemmas.Bool.Decides.{Decides-and, Decides-at}
 use Rattle.std.proofs.lemmas.Slice.Eq.{bytes_eq-Decides}
 use Rattle.std.specs.List.{list_any}
 use Rattle.std.specs.Str.{bytes_eq}
-use Rattle.std.specs.Char.{to_ascii_lowercase}
 use Rattle.viz_base.specs.declared.nodes.Attr.{Attr}
 use Rattle.viz_base.specs.declared.nodes.Element.{Element}
 use Rattle.viz_base.specs.declared.nodes.Node.{Node}
 use Rattle.viz_base.specs.declared.selectors.Test.{Test}
 use Rattle.viz_base.specs.declared.selectors.Test.TheVariants.{Id, Class, Has, Equals, Word, Dash, FirstChild, Link, Never}
-use Rattle.css_semantics.specs.Matching.{HasAttribute, HasTag, IsSameName, IsWordOf, IsDashed, Passes}
-use Rattle.css_select.specs.Attributes.{attribute_passes, has_word, is_dashed, same_name}
+use Rattle.css_semantics.specs.Names.{same_name}
+use Rattle.css_semantics.specs.Matching.{HasAttribute, HasTag, IsWordOf, IsDashed, Passes}
+use Rattle.css_select.specs.Attributes.{attribute_passes, has_word, is_dashed}
 use Rattle.css_select.proofs.Words.{word_of, of_word, dashed_of, of_dashed}
 
-pub same_names : (a b : List ℕ) → Decides (same_name a b) (IsSameName a b)
-unfolding same_name
-same_names a b = bytes_eq-Decides (map to_ascii_lowercase a) (map to_ascii_lowercase b)
+pub same_names : (a b : List ℕ) → Decides (same_name a b) (same_name a b ≡ true)
+same_names a b = ((λ h. h), (λ h. h))
 
 -- ---- some attribute
 
@@ -45,7 +44,7 @@ passes_any : (p : Attr → Bool) (before : List Attr) (one : Attr) (after : List
 passes_any p [] one after e = ap (λ b. b || list_any p after) e
 passes_any p (x ∷ before) one after e = ap (λ b. p x || b) (passes_any p before one after e) ∙ or_true (p x)
 
-attribute_is : (e : Element) (test : Test) (name : List ℕ) (P : List ℕ → Type 0) → ((a : Attr) → Decides (attribute_passes test a) (IsSameName name a.name × P a.value)) → Decides (list_any (attribute_passes test) e.attrs) (HasAttribute e name P)
+attribute_is : (e : Element) (test : Test) (name : List ℕ) (P : List ℕ → Type 0) → ((a : Attr) → Decides (attribute_passes test a) ((same_name name a.name ≡ true) × P a.value)) → Decides (list_any (attribute_passes test) e.attrs) (HasAttribute e name P)
 attribute_is e test name P each = (
   (λ h. let k = any_passes (attribute_passes test) e.attrs h in let m = (each k.one).0 k.passes in record { attribute = k.one; before = k.before; after = k.after; among = k.whole; named = m.0; passes = m.1 }),
   (λ h. ap (list_any (attribute_passes test)) h.among ∙ passes_any (attribute_passes test) h.before h.attribute h.after ((each h.attribute).1 (h.named, h.passes))),
@@ -67,7 +66,7 @@ pub class_is : (e : Element) (word : List ℕ) → Decides (list_any (attribute_
 class_is e word = attribute_is e (Class word) (codes "class") (λ v. IsWordOf v word) (λ a. Decides-and (same_name (codes "class") a.name) (has_word a.value word) (same_names (codes "class") a.name) (words_are a.value word))
 
 pub has_is : (e : Element) (name : List ℕ) → Decides (list_any (attribute_passes (Has name)) e.attrs) (HasAttribute e name (λ v. Unit {0}))
-has_is e name = attribute_is e (Has name) name (λ v. Unit {0}) (λ a. alone (same_name name a.name) (IsSameName name a.name) (same_names name a.name))
+has_is e name = attribute_is e (Has name) name (λ v. Unit {0}) (λ a. alone (same_name name a.name) (same_name name a.name ≡ true) (same_names name a.name))
 
 pub equals_is : (e : Element) (name value : List ℕ) → Decides (list_any (attribute_passes (Equals name value)) e.attrs) (HasAttribute e name (λ v. v ≡ value))
 equals_is e name value = attribute_is e (Equals name value) name (λ v. v ≡ value) (λ a. Decides-and (same_name name a.name) (bytes_eq a.value value) (same_names name a.name) (bytes_eq-Decides a.value value))
@@ -79,9 +78,9 @@ pub dash_is : (e : Element) (name value : List ℕ) → Decides (list_any (attri
 dash_is e name value = attribute_is e (Dash name value) name (λ v. IsDashed v value) (λ a. Decides-and (same_name name a.name) (is_dashed a.value value) (same_names name a.name) (dashes_are a.value value))
 
 link_is : (e : Element) → Decides (list_any (attribute_passes Link) e.attrs) (HasAttribute e (codes "href") (λ v. Unit {0}))
-link_is e = attribute_is e Link (codes "href") (λ v. Unit {0}) (λ a. alone (same_name (codes "href") a.name) (IsSameName (codes "href") a.name) (same_names (codes "href") a.name))
+link_is e = attribute_is e Link (codes "href") (λ v. Unit {0}) (λ a. alone (same_name (codes "href") a.name) (same_name (codes "href") a.name ≡ true) (same_names (codes "href") a.name))
 
-pub link_passes : (e : Element) → Decides (same_name (codes "a") e.tag && list_any (attribute_passes Link) e.attrs) (IsSameName (codes "a") e.tag × HasAttribute e (codes "href") (λ v. Unit {0}))
+pub link_passes : (e : Element) → Decides (same_name (codes "a") e.tag && list_any (attribute_passes Link) e.attrs) ((same_name (codes "a") e.tag ≡ true) × HasAttribute e (codes "href") (λ v. Unit {0}))
 link_passes e = Decides-and (same_name (codes "a") e.tag) (list_any (attribute_passes Link) e.attrs) (same_names (codes "a") e.tag) (link_is e)
 
 none_passes : (xs : List Attr) → list_any (attribute_passes Never) xs ≡ false

@@ -12,7 +12,8 @@ use Rattle.css_semantics.specs.declared.terminals.Pseudo.{Pseudo}
 use Rattle.css_semantics.specs.declared.terminals.Pseudo.TheVariants as of_pseudo
 use Rattle.css_semantics.specs.declared.terminals.Terminal.{Terminal}
 use Rattle.css_semantics.specs.declared.terminals.Terminal.TheVariants as a
-use Rattle.css_semantics.specs.SelectorTerminals.{terminal, is_comment, name_of, says, pseudo, comparison, compared, is_value}
+use Rattle.css_semantics.specs.Names.{same_name}
+use Rattle.css_semantics.specs.SelectorTerminals.{terminal, is_comment, name_of, pseudo, comparison, compared, is_value}
 use Rattle.css_semantics.specs.SheetsMarks.{text_of}
 use Rattle.css_select.specs.declared.reading.Place.{Place}
 use Rattle.css_select.specs.declared.reading.Place.TheVariants.{Fresh, Compound as InCompound, Gap, Dot, Colon, Language, LanguageEnd, Element, Bracket, Name, Sign, Value}
@@ -118,7 +119,7 @@ step_function s colon t false = Err t.at
 
 abbrev pub step_colon : State → ℕ → Token → Terminal → Result State ℕ
 step_colon s colon t a.Ident = step_pseudo s colon t (pseudo (text_of t))
-step_colon s colon t a.Function = step_function s colon t (says (codes "lang") (text_of t))
+step_colon s colon t a.Function = step_function s colon t (same_name (text_of t) (codes "lang"))
 step_colon s colon t _ = Err t.at
 
 abbrev pub step_language : State → ℕ → Token → Terminal → Result State ℕ

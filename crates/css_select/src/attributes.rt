@@ -1,17 +1,10 @@
 ghost use Rattle.std.specs.Prelude.{◌≡◌, None, Some, MatchOption, true};
 ghost use Rattle.std.specs.List.{list_any};
 ghost use Rattle.css_semantics.specs.TokensLetters.{is_space};
-ghost use Rattle.css_select.specs.Attributes.{attribute_passes, begins_word, behind, found, has_word, is_dashed, is_solid, same_name};
+ghost use Rattle.css_select.specs.Attributes.{attribute_passes, begins_word, behind, found, has_word, is_dashed, is_solid};
 
+use css_token::same_name;
 use viz_base::{Attr, Element, Test};
-
-/// Whether names are the same without ASCII case.
-#[tactic(auto, unfolding(crate::specs::Attributes::same_name))]
-pub fn same_name(a: &str, b: &str) -> bool
-    ensures { result ≡ same_name a.now b.now }
-{
-    a.eq_ignore_ascii_case(b)
-}
 
 fn is_space(byte: u8) -> bool
     ensures { result ≡ is_space byte }

@@ -3,8 +3,9 @@ ghost use Rattle.std.specs.List.{AllByRecursion};
 ghost use Rattle.css_semantics.specs.Matching.{HasTag, Match, MatchesCompound, Passes};
 ghost use Rattle.css_select.specs.Outcomes.{IsOutcome, IsOutcomeAround};
 
-use crate::attributes::{same_name, some_attribute};
+use crate::attributes::some_attribute;
 use crate::tree::{is_first_child, parent_of, previous_sibling};
+use css_token::same_name;
 use viz_base::{Body, Compound, Element, Join, Page, Selector, Test, Text};
 
 /// Whether an element passes a test.

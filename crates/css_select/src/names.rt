@@ -1,20 +1,13 @@
 ghost use Rattle.std.specs.Prelude.{◌≡◌, IfOk, codes, map, ◌||◌};
 ghost use Rattle.std.specs.Char.{to_ascii_lowercase};
+ghost use Rattle.css_semantics.specs.Names.{same_name};
 ghost use Rattle.css_semantics.specs.SheetsMarks.{text_of};
-ghost use Rattle.css_semantics.specs.SelectorTerminals.{comparison, compared, is_value, name_of, pseudo, says};
+ghost use Rattle.css_semantics.specs.SelectorTerminals.{comparison, compared, is_value, name_of, pseudo};
 
 use css_semantics::{Comparison, Pseudo, Terminal};
-use css_token::unescape;
+use css_token::{same_name, unescape};
 use std::alloc::Global;
 use viz_base::{Mem, Test, Text, Token};
-
-/// Whether a text is the word, in any ASCII case.
-#[tactic(auto, unfolding(css_semantics::specs::SelectorTerminals::says))]
-fn says(text: &str, word: &str) -> bool
-    ensures { result ≡ says word.now text.now }
-{
-    text.eq_ignore_ascii_case(word)
-}
 
 /// The name of a type or an attribute, after escapes, in lower case.
 #[tactic(auto, unfolding(css_semantics::specs::SelectorTerminals::name_of, css_semantics::specs::SheetsMarks::text_of))]
@@ -27,27 +20,30 @@ pub fn name_of(alloc: Global, token: &Token<'_>) -> Result<Text, Mem>
 
 /// Whether it is a word that matches nothing.
 fn is_never(text: &str) -> bool
-    ensures { result ≡ (says (codes "visited") text.now || says (codes "hover") text.now || says (codes "active") text.now || says (codes "focus") text.now) }
+    ensures { result ≡ (same_name text.now (codes "visited") || same_name text.now (codes "hover") || same_name text.now (codes "active") || same_name text.now (codes "focus")) }
 {
-    says(text, "visited") || says(text, "hover") || says(text, "active") || says(text, "focus")
+    same_name(text, "visited")
+        || same_name(text, "hover")
+        || same_name(text, "active")
+        || same_name(text, "focus")
 }
 
 /// Whether it is a pseudo-element.
 fn is_element(text: &str) -> bool
-    ensures { result ≡ (says (codes "first-line") text.now || says (codes "first-letter") text.now || says (codes "before") text.now || says (codes "after") text.now) }
+    ensures { result ≡ (same_name text.now (codes "first-line") || same_name text.now (codes "first-letter") || same_name text.now (codes "before") || same_name text.now (codes "after")) }
 {
-    says(text, "first-line")
-        || says(text, "first-letter")
-        || says(text, "before")
-        || says(text, "after")
+    same_name(text, "first-line")
+        || same_name(text, "first-letter")
+        || same_name(text, "before")
+        || same_name(text, "after")
 }
 
 fn pseudo_of(text: &str) -> Option<Pseudo>
     ensures { result ≡ pseudo text.now }
 {
-    if says(text, "first-child") {
+    if same_name(text, "first-child") {
         Some(Pseudo::Class(Test::FirstChild))
-    } else if says(text, "link") {
+    } else if same_name(text, "link") {
         Some(Pseudo::Class(Test::Link))
     } else if is_never(text) {
         Some(Pseudo::Class(Test::Never))
@@ -70,10 +66,10 @@ pub fn pseudo(alloc: Global, token: &Token<'_>) -> Result<Option<Pseudo>, Mem>
 /// Whether a function is `lang(`.
 #[tactic(auto, unfolding(css_semantics::specs::SheetsMarks::text_of))]
 pub fn is_lang(alloc: Global, token: &Token<'_>) -> Result<bool, Mem>
-    ensures { IfOk result (λ yes. yes ≡ says (codes "lang") (text_of token.now)) }
+    ensures { IfOk result (λ yes. yes ≡ same_name (text_of token.now) (codes "lang")) }
 {
     let said = unescape(alloc, token)?;
-    Ok(says(said.as_str(), "lang"))
+    Ok(same_name(said.as_str(), "lang"))
 }
 
 /// What a token says, after escapes.

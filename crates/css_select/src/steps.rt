@@ -1,6 +1,7 @@
 ghost use Rattle.std.specs.Prelude.{◌≡◌, ◌<◌, ◌^◌, codes, Err, IfOk};
 ghost use Rattle.css_semantics.specs.SheetsMarks.{text_of};
-ghost use Rattle.css_semantics.specs.SelectorTerminals.{comparison, is_value, says, pseudo};
+ghost use Rattle.css_semantics.specs.Names.{same_name};
+ghost use Rattle.css_semantics.specs.SelectorTerminals.{comparison, is_value, pseudo};
 ghost use Rattle.css_select.specs.Gives.{Fails, Gives};
 ghost use Rattle.css_select.specs.Machine.{state_of, step, step_at, step_bracket, step_closing, step_colon, step_compound, step_dot, step_element, step_fresh, step_gap, step_language, step_language_end, step_name, step_function, step_pseudo, step_sign, step_test, step_value};
 
@@ -132,7 +133,7 @@ fn step_function_behind_colon(
     colon: u32,
     token: &Token<'_>,
 ) -> Result<Reading, SelFault>
-    ensures { Gives result (step_function (state_of reading) colon token.now (says (codes "lang") (text_of token.now))) }
+    ensures { Gives result (step_function (state_of reading) colon token.now (same_name (text_of token.now) (codes "lang"))) }
 {
     if is_lang(alloc, token)? {
         Ok(reading.at(Place::Language(colon)))

@@ -12,7 +12,8 @@ use Rattle.css_semantics.specs.declared.parts.Refusal.{Refusal}
 use Rattle.css_semantics.specs.declared.parts.Refusal.TheVariants.{Ignored, Unsupported}
 use Rattle.css_semantics.specs.declared.parts.Takes.{Takes}
 use Rattle.css_semantics.specs.declared.parts.Takes.TheVariants.{Nothing, All, NotNegative, ZeroAlone}
-use Rattle.css_semantics.specs.Properties.{row, same_name}
+use Rattle.css_semantics.specs.Names.{same_name}
+use Rattle.css_semantics.specs.Properties.{row}
 use Rattle.css_semantics.specs.Values.{half, is_negative, is_zero, judged, number_value, part_value, placed}
 use Rattle.css_semantics.specs.ValuesLaws.{Admits, HasValue}
 

@@ -31,7 +31,7 @@ use Rattle.css_semantics.specs.SheetsGrammar.{AreDeclarationsOf}
 use Rattle.css_semantics.specs.SelectorGrammar.{IsGroupOf, IsUnsupportedAt, IsBadAt}
 use Rattle.css_semantics.specs.Matching.{Match}
 use Rattle.css_semantics.specs.Specificity.{spec_of}
-use Rattle.css_semantics.specs.Properties.{same_name}
+use Rattle.css_semantics.specs.Names.{same_name}
 use Rattle.css_semantics.specs.Shorthands.{Says}
 use Rattle.css_semantics.specs.CascadeOrder.{Applied, applied, greatest, spec_cmp, style_spec}
 

@@ -1,3 +1,4 @@
+pub mod Names
 pub mod TokensLetters
 pub mod TokensMacros
 pub mod TokensTable

@@ -1,7 +1,6 @@
 -- Which elements of a page a selector matches (CSS 2.1, chapter 5).
-use Rattle.std.specs.Prelude.{◌≡◌, ℕ, ◌<◌, true, false, List, [], ◌∷◌, ◌++◌, map, reverse, slice_get, Option, Some, None, ◌⊎◌, codes}
+use Rattle.std.specs.Prelude.{◌≡◌, ℕ, ◌<◌, true, false, List, [], ◌∷◌, ◌++◌, reverse, slice_get, Option, Some, None, ◌⊎◌, codes}
 use Rattle.std.specs.List.{AllByRecursion}
-use Rattle.std.specs.Char.{to_ascii_lowercase}
 use Rattle.viz_base.specs.declared.nodes.Attr.{Attr}
 use Rattle.viz_base.specs.declared.nodes.Body.TheVariants as of_body
 use Rattle.viz_base.specs.declared.nodes.Element.{Element}
@@ -11,6 +10,7 @@ use Rattle.viz_base.specs.declared.selectors.Join.{Join}
 use Rattle.viz_base.specs.declared.selectors.Join.TheVariants.{First, Descendant, Child, Next}
 use Rattle.viz_base.specs.declared.selectors.Test.{Test}
 use Rattle.viz_base.specs.declared.selectors.Test.TheVariants.{Id, Class, Has, Equals, Word, Dash, FirstChild, Link, Never}
+use Rattle.css_semantics.specs.Names.{same_name}
 use Rattle.css_semantics.specs.TokensLetters.{is_space}
 
 -- ---- the tree
@@ -48,17 +48,13 @@ pub record IsFirstChild (nodes : List Node) (n : ℕ) : Type 0 where
 
 -- ---- attributes
 
--- names are the same without ASCII case
-abbrev pub IsSameName : List ℕ → List ℕ → Type 0
-IsSameName a b = map to_ascii_lowercase a ≡ map to_ascii_lowercase b
-
 -- the element has an attribute of this name whose value passes
 pub record HasAttribute (e : Element) (name : List ℕ) (Passes : List ℕ → Type 0) : Type 0 where
   pub attribute : Attr
   pub before : List Attr
   pub after : List Attr
   pub among : e.attrs ≡ before ++ attribute ∷ after
-  pub named : IsSameName name attribute.name
+  pub named : same_name name attribute.name ≡ true
   pub passes : Passes attribute.value
 
 -- nothing, or what ends with white space
@@ -95,13 +91,13 @@ Passes nodes n e (Equals name value) = HasAttribute e name (λ v. v ≡ value)
 Passes nodes n e (Word name word) = HasAttribute e name (λ v. IsWordOf v word)
 Passes nodes n e (Dash name value) = HasAttribute e name (λ v. IsDashed v value)
 Passes nodes n e FirstChild = IsFirstChild nodes n
-Passes nodes n e Link = IsSameName (codes "a") e.tag × HasAttribute e (codes "href") (λ v. Unit {0})
+Passes nodes n e Link = (same_name (codes "a") e.tag ≡ true) × HasAttribute e (codes "href") (λ v. Unit {0})
 Passes nodes n e Never = ⊥
 
 -- the element has the tag that is asked for, if one is
 abbrev pub HasTag : Element → Option (List ℕ) → Type 0
 HasTag e None = Unit {0}
-HasTag e (Some tag) = IsSameName tag e.tag
+HasTag e (Some tag) = same_name tag e.tag ≡ true
 
 -- a simple selector matches a node: an element with the tag that passes each test (CSS 2.1, 5.2)
 pub record MatchesCompound (nodes : List Node) (c : Compound) (n : ℕ) : Type 0 where

@@ -1,8 +1,6 @@
 -- The table of the properties that have an effect on layout: what each takes, its initial value, and whether it inherits.
-use Rattle.std.specs.Prelude.{ℕ, pos, ◌==◌, Bool, true, false, List, [], ◌∷◌, map, Option, if◌then◌else◌, codes}
+use Rattle.std.specs.Prelude.{ℕ, pos, ◌==◌, Bool, true, false, List, [], ◌∷◌, Option, if◌then◌else◌, codes}
 use Rattle.std.specs.List.{find}
-use Rattle.std.specs.Str.{bytes_eq}
-use Rattle.std.specs.Char.{to_ascii_lowercase}
 use Prim.Native.String.{String}
 use Rattle.viz_base.specs.declared.settings.Prop.{Prop}
 use Rattle.viz_base.specs.declared.settings.Prop.TheVariants.{Display, Position, Float, Clear, Overflow, Direction, Width, Height, MinWidth, MinHeight, MaxWidth, MaxHeight, MarginTop, MarginRight, MarginBottom, MarginLeft, PaddingTop, PaddingRight, PaddingBottom, PaddingLeft, BorderTopWidth, BorderRightWidth, BorderBottomWidth, BorderLeftWidth, BorderTopStyle, BorderRightStyle, BorderBottomStyle, BorderLeftStyle, FontSize, FontFamily, LineHeight, VerticalAlign, TextAlign, WhiteSpace, TextIndent, LetterSpacing, WordSpacing, TextTransform, ListStylePosition}
@@ -10,12 +8,9 @@ use Rattle.viz_base.specs.declared.settings.Value.{Value}
 use Rattle.viz_base.specs.declared.settings.Value.TheVariants.{Word, Px, Names}
 use Rattle.css_semantics.specs.declared.parts.Takes.{Takes}
 use Rattle.css_semantics.specs.declared.parts.Takes.TheVariants.{Nothing, All, NotNegative, ZeroAlone}
+use Rattle.css_semantics.specs.Names.{same_name}
 
 -- ---- names
-
--- two names in any ASCII case (CSS 2.1, 4.1.3)
-abbrev pub same_name : List ℕ → List ℕ → Bool
-same_name a b = bytes_eq (map to_ascii_lowercase a) (map to_ascii_lowercase b)
 
 abbrev pub before_words : ℕ → List (List ℕ) → List (List ℕ)
 before_words c [] = (c ∷ []) ∷ []

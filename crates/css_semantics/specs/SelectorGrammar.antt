@@ -24,7 +24,8 @@ use Rattle.css_semantics.specs.declared.terminals.Pseudo.TheVariants as of_pseud
 use Rattle.css_semantics.specs.Tokens.{AreTokens}
 use Rattle.css_semantics.specs.SheetsMarks.{text_of}
 use Rattle.css_semantics.specs.SheetsReading.{start_of}
-use Rattle.css_semantics.specs.SelectorTerminals.{terminal, without_comments, name_of, says, pseudo, comparison, compared, is_value}
+use Rattle.css_semantics.specs.Names.{same_name}
+use Rattle.css_semantics.specs.SelectorTerminals.{terminal, without_comments, name_of, pseudo, comparison, compared, is_value}
 
 -- white space, as much as there is
 abbrev pub IsGap : List Token → Type 0
@@ -44,7 +45,7 @@ pub data IsTest : List Token → List Test → List ℕ → Type 0 where
   pseudo_class : {colon name : Token} {test : Test} → terminal colon ≡ a.Colon → terminal name ≡ a.Ident → pseudo (text_of name) ≡ Some (of_pseudo.Class test)
       → IsTest (colon ∷ name ∷ []) (test ∷ []) []
   language : (colon function name closing : Token) (before after : List Token)
-      → terminal colon ≡ a.Colon → terminal function ≡ a.Function → says (codes "lang") (text_of function) ≡ true
+      → terminal colon ≡ a.Colon → terminal function ≡ a.Function → same_name (text_of function) (codes "lang") ≡ true
       → IsGap before → terminal name ≡ a.Ident → IsGap after → terminal closing ≡ a.RightParen
       → IsTest (colon ∷ function ∷ (before ++ name ∷ (after ++ closing ∷ []))) [] (colon.at ∷ [])
 

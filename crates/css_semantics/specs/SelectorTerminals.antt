@@ -14,6 +14,7 @@ use Rattle.css_semantics.specs.declared.terminals.Comparison.TheVariants as of_c
 use Rattle.css_semantics.specs.declared.terminals.Pseudo.{Pseudo}
 use Rattle.css_semantics.specs.declared.terminals.Pseudo.TheVariants as of_pseudo
 use Rattle.css_semantics.specs.TokensLetters.{is_start}
+use Rattle.css_semantics.specs.Names.{same_name}
 use Rattle.css_semantics.specs.SheetsMarks.{text_of}
 
 -- ---- terminals
@@ -78,17 +79,13 @@ without_comments (t ∷ ts) = if is_comment t.kind then without_comments ts else
 unfoldable pub name_of : Token → List ℕ
 name_of t = map to_ascii_lowercase (text_of t)
 
--- whether a text is the word, in any ASCII case
-unfoldable pub says : List ℕ → List ℕ → Bool
-says word text = bytes_eq (map to_ascii_lowercase text) (map to_ascii_lowercase word)
-
 -- what a name behind a colon says, after escapes (CSS 2.1, 5.10 to 5.12)
 abbrev pub pseudo : List ℕ → Option Pseudo
 pseudo text =
-    if says (codes "first-child") text then Some (of_pseudo.Class of_test.FirstChild)
-    else (if says (codes "link") text then Some (of_pseudo.Class of_test.Link)
-    else (if says (codes "visited") text || says (codes "hover") text || says (codes "active") text || says (codes "focus") text then Some (of_pseudo.Class of_test.Never)
-    else (if says (codes "first-line") text || says (codes "first-letter") text || says (codes "before") text || says (codes "after") text then Some of_pseudo.Element
+    if same_name text (codes "first-child") then Some (of_pseudo.Class of_test.FirstChild)
+    else (if same_name text (codes "link") then Some (of_pseudo.Class of_test.Link)
+    else (if same_name text (codes "visited") || same_name text (codes "hover") || same_name text (codes "active") || same_name text (codes "focus") then Some (of_pseudo.Class of_test.Never)
+    else (if same_name text (codes "first-line") || same_name text (codes "first-letter") || same_name text (codes "before") || same_name text (codes "after") then Some of_pseudo.Element
     else None)))
 
 -- how a terminal between an attribute's name and its value compares

@@ -1,10 +1,10 @@
 -- Tests on the tokens of a sheet.
-use Rattle.std.specs.Prelude.{ℕ, Bool, true, false, ◌&&◌, ◌||◌, List, [], ◌∷◌, map, Option, Some, None, encode_utf8_all}
+use Rattle.std.specs.Prelude.{ℕ, Bool, true, false, ◌&&◌, ◌||◌, List, [], ◌∷◌, Option, Some, None, encode_utf8_all}
 use Rattle.std.specs.Str.{bytes_eq, chars}
-use Rattle.std.specs.Char.{to_ascii_lowercase}
 use Rattle.viz_base.specs.declared.tokens.Token.{Token}
 use Rattle.viz_base.specs.declared.tokens.TokenKind.{TokenKind}
 use Rattle.viz_base.specs.declared.tokens.TokenKind.TheVariants.{Ident, AtKeyword, BadString, BadUri, BadComment, Uri, Cdo, Cdc, Colon, Semicolon, LeftBrace, RightBrace, LeftParen, RightParen, LeftBracket, RightBracket, Space, Comment, Function, Delim}
+use Rattle.css_semantics.specs.Names.{same_name}
 use Rattle.css_semantics.specs.TokensUnescaped.{unescaped}
 
 -- ---- brackets
@@ -115,7 +115,7 @@ text_of t = encode_utf8_all (unescaped t.kind (chars t.text.now))
 
 -- whether it says this word, in any ASCII case
 unfoldable pub is_word : List ℕ → Token → Bool
-is_word word t = bytes_eq (map to_ascii_lowercase (text_of t)) (map to_ascii_lowercase word)
+is_word word t = same_name (text_of t) word
 
 -- ---- where a stretch of tokens may end
 

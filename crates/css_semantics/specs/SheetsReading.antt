@@ -146,8 +146,18 @@ before_word ts (Some t) = if is_ident t.kind && is_word (codes "important") t th
 abbrev pub before_trimmed : List Token → Option (List Token × ℕ)
 before_trimmed ts = before_word ts (slice_get ts (length ts - 1))
 
+-- the marks that are still awaited behind these tokens, the innermost first
+abbrev pub still_awaited : List TokenKind → List Token → List TokenKind
+still_awaited marks [] = marks
+still_awaited marks (t ∷ ts) = still_awaited (awaited t.kind marks) ts
+
+-- no bracket that is opened in these tokens is still open behind them
+abbrev pub is_closed : List Token → Bool
+is_closed ts = is_none (still_awaited [] ts)
+
+-- `!important` counts where it stands in no bracket, also in none that only the end of the text closes (CSS 2.1, 4.2 and 6.4.2)
 abbrev pub before_important : List Token → Option (List Token × ℕ)
-before_important ts = before_trimmed (trim_end is_gap ts)
+before_important ts = if is_closed ts then before_trimmed (trim_end is_gap ts) else None
 
 -- the declaration of a property with these tokens as value, or this place where there are none
 abbrev pub decl_of : Token → List Token → ℕ → Bool → Decl

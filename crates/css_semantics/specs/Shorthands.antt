@@ -14,7 +14,8 @@ use Rattle.css_semantics.specs.declared.parts.Shorthand.TheVariants.{Margin, Pad
 use Rattle.css_semantics.specs.declared.parts.Refusal.{Refusal}
 use Rattle.css_semantics.specs.declared.parts.Refusal.TheVariants.{Ignored, Unsupported}
 use Rattle.css_semantics.specs.Tokens.{AreTokens}
-use Rattle.css_semantics.specs.Properties.{same_name, row, property_named}
+use Rattle.css_semantics.specs.Names.{same_name}
+use Rattle.css_semantics.specs.Properties.{row, property_named}
 use Rattle.css_semantics.specs.ValuesParts.{parts}
 use Rattle.css_semantics.specs.Values.{then_on, setting, part_value, families, is_keyword, is_inherit, longhand}
 

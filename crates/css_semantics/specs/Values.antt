@@ -11,7 +11,8 @@ use Rattle.css_semantics.specs.declared.parts.Takes.{Takes}
 use Rattle.css_semantics.specs.declared.parts.Takes.TheVariants.{Nothing, All, NotNegative, ZeroAlone}
 use Rattle.css_semantics.specs.declared.parts.Refusal.{Refusal}
 use Rattle.css_semantics.specs.declared.parts.Refusal.TheVariants.{Ignored, Unsupported}
-use Rattle.css_semantics.specs.Properties.{same_name, row}
+use Rattle.css_semantics.specs.Names.{same_name}
+use Rattle.css_semantics.specs.Properties.{row}
 
 abbrev pub then_on : {A B : Type 0} → Result A Refusal → (A → Result B Refusal) → Result B Refusal
 then_on (Ok x) f = f x

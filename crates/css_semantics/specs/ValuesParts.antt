@@ -13,7 +13,7 @@ use Rattle.css_semantics.specs.TokensLetters.{is_digit}
 use Rattle.css_semantics.specs.TokensUnescaped.{open_extent, resolved}
 use Rattle.css_semantics.specs.SheetsMarks.{closing_mark, is_gap, is_character, is_comma, text_of}
 use Rattle.css_semantics.specs.SheetsReading.{gathered, goes_on, stretch_len, closed_by_end}
-use Rattle.css_semantics.specs.Properties.{same_name}
+use Rattle.css_semantics.specs.Names.{same_name}
 
 -- ---- amounts
 

@@ -1,6 +1,6 @@
 ghost use Rattle.std.specs.Prelude.{◌≡◌, [], None, Some, IfOk, MatchOption};
 ghost use Rattle.std.specs.Option.{option_to_list};
-ghost use Rattle.css_semantics.specs.SheetsReading.{after_declaration, at_head, before_important, before_last, before_trimmed, decl_of, declaration, declaration_item, declarations, declared, goes_on, is_blank, is_value};
+ghost use Rattle.css_semantics.specs.SheetsReading.{after_declaration, at_head, before_important, before_last, before_trimmed, decl_of, declaration, declaration_item, declarations, declared, goes_on, is_blank, is_closed, is_value};
 
 use crate::slices::{Class, extent, is_all_gap, place, start_of, trim, trim_end, trim_start};
 use crate::stretches::{Stop, after_at_rule, split};
@@ -40,6 +40,17 @@ fn before_bang<'a>(tokens: &'a [Token<'a>]) -> Option<(&'a [Token<'a>], usize)>
     }
 }
 
+/// Whether no bracket that is opened in the tokens is still open behind them.
+fn is_closed(alloc: Global, tokens: &[Token<'_>]) -> Result<bool, Mem>
+    ensures { IfOk result (λ yes. yes ≡ is_closed tokens.now) }
+{
+    let mut marks = Marks::new(alloc);
+    for token in tokens {
+        marks.pass(token.kind)?;
+    }
+    Ok(marks.is_none())
+}
+
 /// What stands before `!important`, and the place of its `!`.
 fn before_important<'a>(
     alloc: Global,
@@ -47,6 +58,9 @@ fn before_important<'a>(
 ) -> Result<Option<(&'a [Token<'a>], usize)>, Mem>
     ensures { IfOk result (λ found. MatchOption found (before_important tokens.now ≡ None) (λ p. before_important tokens.now ≡ Some (p.0.now, p.1))) }
 {
+    if !is_closed(alloc, tokens)? {
+        return Ok(None);
+    }
     let tokens = trim_end(tokens, Class::Gap);
     let Some(last) = tokens.last() else {
         return Ok(None);

@@ -18,6 +18,6 @@ pub use closing::close_by_end;
 pub use escapes::unescape;
 pub use letters::split_char;
 pub use marks::Marks;
-pub use matching::{is_character, is_word};
+pub use matching::{is_character, is_word, same_name};
 pub use scan::next;
 pub use sequence::{tokens, tokens_exist};

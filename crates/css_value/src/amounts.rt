@@ -6,9 +6,8 @@ ghost use Rattle.viz_base.specs.Decimals.{decimal_of};
 ghost use Rattle.viz_base.specs.Numbers.{floor_of};
 ghost use Rattle.css_semantics.specs.ValuesParts.{amount_in, amount_of, behind_numeral, counted, is_numeral, length_of, numeral_of, signed, unit_of};
 
-use crate::names::same_name;
 use css_semantics::Part;
-use css_token::{split_char, unescape};
+use css_token::{same_name, split_char, unescape};
 use std::alloc::Global;
 use viz_base::{Mem, Text, Token, TokenKind, read_decimal};
 

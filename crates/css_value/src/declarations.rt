@@ -2,19 +2,19 @@ ghost use Rattle.std.specs.Prelude.{◌≡◌, codes};
 ghost use Rattle.std.specs.List.{list_any};
 ghost use Rattle.css_semantics.specs.Values.{is_keyword};
 ghost use Rattle.css_semantics.specs.Shorthands.{Says, declared, list_style, longhand_or, shorthand, shorthand_name, shorthand_named};
-ghost use Rattle.css_semantics.specs.Properties.{property_named, same_name};
+ghost use Rattle.css_semantics.specs.Names.{same_name};
+ghost use Rattle.css_semantics.specs.Properties.{property_named};
 ghost use Rattle.css_value.specs.Faults.{Fails, Gives, GivesOf};
 
 use crate::fault::ValueFault;
 use crate::fonts::font;
 use crate::lines::lines;
-use crate::names::same_name;
 use crate::rows::property_named;
 use crate::sides::{Sides, four_sides};
 use crate::splitting::split;
 use crate::values::{is_keyword, longhand};
 use css_semantics::{Part, Shorthand};
-use css_token::{close_by_end, tokens};
+use css_token::{close_by_end, same_name, tokens};
 use std::alloc::Global;
 use viz_base::{List, Prop, Setting};
 

@@ -1,13 +1,8 @@
 ghost use Rattle.std.specs.Prelude.{◌≡◌, ◌<◌, map, length, IfSome};
 ghost use Rattle.std.specs.List.{list_any, position};
-ghost use Rattle.css_semantics.specs.Properties.{same_name};
+ghost use Rattle.css_semantics.specs.Names.{same_name};
 
-/// Whether two names are the same in any ASCII case.
-pub fn same_name(left: &str, right: &str) -> bool
-    ensures { result ≡ same_name left.now right.now }
-{
-    left.eq_ignore_ascii_case(right)
-}
+use css_token::same_name;
 
 /// Whether the word is one of these.
 pub fn is_among(words: &[&str], word: &str) -> bool

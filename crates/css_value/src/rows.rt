@@ -1,10 +1,11 @@
 ghost use Rattle.std.specs.Prelude.{◌≡◌, ◌<◌, map, length};
 ghost use Rattle.std.specs.List.{find};
-ghost use Rattle.css_semantics.specs.Properties.{property_named, row, same_name};
+ghost use Rattle.css_semantics.specs.Names.{same_name};
+ghost use Rattle.css_semantics.specs.Properties.{property_named, row};
 ghost use Rattle.css_value.specs.Rows.{filled};
 
-use crate::names::same_name;
 use css_semantics::Takes;
+use css_token::same_name;
 use viz_base::Prop;
 
 /// What a property takes, beside `inherit`.

@@ -4,9 +4,10 @@ ghost use Rattle.css_value.specs.Faults.{Fails, Gives};
 
 use crate::families::families;
 use crate::fault::ValueFault;
-use crate::names::{is_among, place_among, same_name};
+use crate::names::{is_among, place_among};
 use crate::rows::row;
 use css_semantics::{Part, Refusal, Takes};
+use css_token::same_name;
 use std::alloc::Global;
 use viz_base::{List, Prop, Setting, Value};
 

@@ -1,6 +1,6 @@
 use Rattle.std.proofs.Common.{◌≡◌, drop}
 use Rattle.std.specs.List.{find}
-use Rattle.css_semantics.specs.Properties.{same_name}
+use Rattle.css_semantics.specs.Names.{same_name}
 use Rattle.css_semantics.specs.Shorthands.{shorthand_name, shorthands}
 use Rattle.css_value.proofs.declarations.shorthand_named.Given as goal
 

@@ -1,6 +1,6 @@
 use Rattle.std.proofs.Common.{◌≡◌, map, drop}
 use Rattle.std.specs.List.{list_any}
-use Rattle.css_semantics.specs.Properties.{same_name}
+use Rattle.css_semantics.specs.Names.{same_name}
 use Rattle.css_value.proofs.names.is_among.Given as goal
 
 abbrev pub invariant-loop-known : goal.invariant-loop-known

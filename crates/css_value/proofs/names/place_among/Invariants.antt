@@ -1,7 +1,7 @@
 use Rattle.std.proofs.Common.{◌≡◌, ◌+◌, drop, map}
 use Rattle.std.specs.List.{position}
 use Rattle.std.specs.Option.{option_map}
-use Rattle.css_semantics.specs.Properties.{same_name}
+use Rattle.css_semantics.specs.Names.{same_name}
 use Rattle.css_value.proofs.names.place_among.Given as goal
 
 abbrev pub invariant-loop-at : goal.invariant-loop-at
