@@ -3,6 +3,8 @@ use Rattle.std.proofs.Common.{◌≡◌, ℕ, zero, suc, ◌+◌, ◌<◌, ◌�
 use Rattle.std.specs.Int.{int_max}
 use Rattle.std.specs.List.{AllByRecursion}
 use Rattle.std.proofs.lemmas.Bool.Decides.{nat_tests}
+use Rattle.viz_base.specs.declared.layouts.Entry.{Entry}
+use Rattle.viz_base.specs.declared.layouts.Entry.TheVariants as of_entry
 use Rattle.viz_base.specs.declared.layouts.Band.{Band}
 use Rattle.viz_base.specs.declared.layouts.Extent.{Extent}
 use Rattle.viz_base.specs.declared.layouts.Inner.{Inner}
@@ -21,7 +23,6 @@ use Rattle.layout_semantics.specs.Verticals.{verticals}
 use Rattle.layout_semantics.specs.Horizontal.{widths}
 use Rattle.layout_semantics.specs.FlowBoxes.{across, is_replaced_at, is_context_root, is_open_above, flow_children, content_from}
 use Rattle.layout_semantics.specs.InlineContent.{is_floated_at, has_line, inner_boxes}
-use Rattle.layout_semantics.specs.Fragments.{Entry, here, goes}
 use Rattle.layout_semantics.specs.Lines.{LineList, lines}
 use Rattle.layout_semantics.specs.Leads.{Leading, is_up_to, none_passed, lead}
 use Rattle.layout_semantics.specs.Clearance.{Resolved, with_waiting, is_cleared, cleared_edge, resolve_step, resolve_to, resolve}
@@ -204,9 +205,9 @@ module _ (tree : BoxTree) (w : World) (height : ℕ) (f g : Inside) (b : ℕ)
   inner-same : (cb : Band ℤ) (k : ℕ) → Late k → inner_size tree w height f cb k ≡ inner_size tree w height g cb k
   inner-same cb k h = rw (alone-same k (across cb) h) refl
 
-  abbrev LateEntry : Entry → Type 0
-  LateEntry (here p) = Unit {0}
-  LateEntry (goes k at) = Late k
+  abbrev LateEntry : Entry ℤ → Type 0
+  LateEntry (of_entry.Here p) = Unit {0}
+  LateEntry (of_entry.Goes k at) = Late k
 
   abbrev LateName : Kind × ℕ → Type 0
   LateName x = Late x.1
@@ -218,15 +219,15 @@ module _ (tree : BoxTree) (w : World) (height : ℕ) (f g : Inside) (b : ℕ)
   names-late [] a = tt
   names-late (k ∷ ks) a = (a.0, names-late ks a.1)
 
-  entries-late : (es : List Entry) → AllByRecursion LateName (flat_map (shown of_box) es) → AllByRecursion LateEntry es
+  entries-late : (es : List (Entry ℤ)) → AllByRecursion LateName (flat_map (shown of_box) es) → AllByRecursion LateEntry es
   entries-late [] a = tt
-  entries-late (here p ∷ es) a = (tt, entries-late es (all_right LateName (shown of_box (here p)) (flat_map (shown of_box) es) a))
-  entries-late (goes k at ∷ es) a = (a.0, entries-late es a.1)
+  entries-late (of_entry.Here p ∷ es) a = (tt, entries-late es (all_right LateName (shown of_box (of_entry.Here p)) (flat_map (shown of_box) es) a))
+  entries-late (of_entry.Goes k at ∷ es) a = (a.0, entries-late es a.1)
 
-  boxes-same : (cb : Band ℤ) (es : List Entry) → AllByRecursion LateEntry es → flat_map (entry_boxes tree w height f cb) es ≡ flat_map (entry_boxes tree w height g cb) es
+  boxes-same : (cb : Band ℤ) (es : List (Entry ℤ)) → AllByRecursion LateEntry es → flat_map (entry_boxes tree w height f cb) es ≡ flat_map (entry_boxes tree w height g cb) es
   boxes-same cb [] a = refl
-  boxes-same cb (here p ∷ es) a = ap (λ (l : List (Placed ℤ)). p ∷ l) (boxes-same cb es a.1)
-  boxes-same cb (goes k at ∷ es) a =
+  boxes-same cb (of_entry.Here p ∷ es) a = ap (λ (l : List (Placed ℤ)). p ∷ l) (boxes-same cb es a.1)
+  boxes-same cb (of_entry.Goes k at ∷ es) a =
       ap (λ (x : Alone). shifted at x.boxes ++ flat_map (entry_boxes tree w height f cb) es) (alone-same k (across cb) a.0)
       ∙ ap (λ (l : List (Placed ℤ)). shifted at (alone tree w height g k (across cb)).boxes ++ l) (boxes-same cb es a.1)
 

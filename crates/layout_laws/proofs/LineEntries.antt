@@ -2,22 +2,24 @@ use Rattle.std.proofs.Common.{◌≡◌, ℕ, ℤ, Bool, true, false, cond, List
 use Rattle.std.specs.Prelude.{Option, Some, None, find, ◌==◌}
 use Rattle.std.specs.List.{flat_map, list_any}
 use Rattle.std.specs.Option.{option_map_or}
+use Rattle.viz_base.specs.declared.layouts.Entry.{Entry}
+use Rattle.viz_base.specs.declared.layouts.Entry.TheVariants as of_entry
 use Rattle.viz_base.specs.declared.layouts.Spot.{Spot}
 use Rattle.layout_semantics.specs.InlineContent.{Item, start, finish, word, space, atomic, forced, float}
 use Rattle.layout_semantics.specs.LineHeights.{InlineContext}
-use Rattle.layout_semantics.specs.Fragments.{Entry, goes, ItemPlace, SetLine, is_text_of, text_fragment, text_entry, inline_fragment, item_entries, entries_after, line_entries, float_entry, atomic_entry}
+use Rattle.layout_semantics.specs.Fragments.{ItemPlace, SetLine, is_text_of, text_fragment, text_entry, inline_fragment, item_entries, entries_after, line_entries, float_entry, atomic_entry}
 use Rattle.layout_laws.specs.LineStacks.{line_rectangle, line_rectangles}
 
-abbrev of_item : InlineContext → SetLine → List ItemPlace → ℤ → Item → List Entry
+abbrev of_item : InlineContext → SetLine → List ItemPlace → ℤ → Item → List (Entry ℤ)
 of_item c line before left i = elim i [ start at ↦ inline_fragment c line at ∷ [] | finish at ↦ [] | word at text ↦ text_entry c line before at | space at ↦ text_entry c line before at | atomic at ↦ atomic_entry c line at left ∷ [] | forced at ↦ [] | float at ↦ float_entry line.spots at ]
 
 -- ---- line boxes among entries
 
-pub rectangles-append : (xs ys : List Entry) → line_rectangles (xs ++ ys) ≡ line_rectangles xs ++ line_rectangles ys
+pub rectangles-append : (xs ys : List (Entry ℤ)) → line_rectangles (xs ++ ys) ≡ line_rectangles xs ++ line_rectangles ys
 rectangles-append [] ys = refl
 rectangles-append (x ∷ xs) ys = ap (λ l. line_rectangle x ++ l) (rectangles-append xs ys) ∙ sym (append_assoc (line_rectangle x) (line_rectangles xs) (line_rectangles ys))
 
-none-append : (xs ys : List Entry) → line_rectangles xs ≡ [] → line_rectangles ys ≡ [] → line_rectangles (xs ++ ys) ≡ []
+none-append : (xs ys : List (Entry ℤ)) → line_rectangles xs ≡ [] → line_rectangles ys ≡ [] → line_rectangles (xs ++ ys) ≡ []
 none-append xs ys e f = rectangles-append xs ys ∙ ap (λ l. l ++ line_rectangles ys) e ∙ f
 
 fragments-none : (c : InlineContext) (line : SetLine) (opened : List ℕ) → line_rectangles (map (inline_fragment c line) opened) ≡ []
@@ -38,7 +40,7 @@ text_entry-none c line before at = by (list_any (is_text_of at) before)
 pub float-none : (spots : List (ℕ × Spot ℤ)) (at : ℕ) → line_rectangles (float_entry spots at) ≡ []
 float-none spots at = by (find (λ entry. entry.0 == at) spots)
   where
-    by : (o : Option (ℕ × Spot ℤ)) → line_rectangles (option_map_or (λ entry. goes at entry.1 ∷ []) o []) ≡ []
+    by : (o : Option (ℕ × Spot ℤ)) → line_rectangles (option_map_or (λ entry. of_entry.Goes at entry.1 ∷ []) o []) ≡ []
     by None = refl
     by (Some entry) = refl
 

@@ -3,6 +3,7 @@ use Rattle.std.specs.Prelude.{◌==◌}
 use Rattle.std.specs.Int.{int_max}
 use Rattle.std.specs.List.{AllByRecursion, list_any, flat_map}
 use Rattle.std.proofs.lemmas.Int.{ints, clamps}
+use Rattle.viz_base.specs.declared.layouts.Entry.{Entry}
 use Rattle.viz_base.specs.declared.layouts.Band.{Band}
 use Rattle.viz_base.specs.declared.renderings.Quad.{Quad}
 use Rattle.layout_semantics.specs.Floats.{FloatBox, band_at}
@@ -10,7 +11,7 @@ use Rattle.layout_semantics.specs.InlineContent.{Item, start, finish, word, spac
 use Rattle.layout_semantics.specs.Stretches.{stretches, is_break, may_part}
 use Rattle.layout_semantics.specs.LineHeights.{InlineContext, height_of_extent, line_extent, extended_boxes, extent_in_line, strut, tallest}
 use Rattle.layout_semantics.specs.LineFilling.{Met, Line, joined, first_items, place_each, met_after, stretches_held, width_held, before_line}
-use Rattle.layout_semantics.specs.Fragments.{Entry, float_entry, line_entries}
+use Rattle.layout_semantics.specs.Fragments.{float_entry, line_entries}
 use Rattle.layout_semantics.specs.Lines.{SoFar, opened_after, next_line, after_line, after_no_line, after_stretches, lines_to, lines_in, lines, line_box, set_line, content_left}
 use Rattle.layout_laws.specs.LineStacks.{line_rectangles, IsStack, HasMoreFloats}
 use Rattle.layout_laws.proofs.Among.{contains}
@@ -112,7 +113,7 @@ record Holds (c : InlineContext) (y least : ℤ) (floats : List FloatBox) (now :
   more : HasMoreFloats least floats now.floats
 
 -- a line box and its fragments among the entries
-line-rectangles : (c : InlineContext) (entries rest : List Entry) (room : Band ℤ) (top bottom : ℤ) → line_rectangles rest ≡ []
+line-rectangles : (c : InlineContext) (entries rest : List (Entry ℤ)) (room : Band ℤ) (top bottom : ℤ) → line_rectangles rest ≡ []
     → line_rectangles (entries ++ line_box c room top bottom ∷ rest) ≡ line_rectangles entries ++ (record { left = room.left; top = top; right = room.right; bottom = bottom }) ∷ []
 line-rectangles c entries rest room top bottom none =
     rectangles-append entries (line_box c room top bottom ∷ rest)
@@ -143,7 +144,7 @@ append-nothing : (xs : List (Quad ℤ)) → xs ++ [] ≡ xs
 append-nothing [] = refl
 append-nothing (x ∷ xs) = ap (λ l. x ∷ l) (append-nothing xs)
 
-append-none : (entries rest : List Entry) → line_rectangles rest ≡ [] → line_rectangles (entries ++ rest) ≡ line_rectangles entries
+append-none : (entries rest : List (Entry ℤ)) → line_rectangles rest ≡ [] → line_rectangles (entries ++ rest) ≡ line_rectangles entries
 append-none entries rest none = rectangles-append entries rest ∙ ap (λ l. line_rectangles entries ++ l) none ∙ append-nothing (line_rectangles entries)
 
 after_no_line-holds : (c : InlineContext) (y least : ℤ) (floats : List FloatBox) (now : SoFar) (items : List Item)

@@ -6,6 +6,8 @@ use Rattle.std.specs.Int.{int_max}
 use Rattle.std.specs.Option.{option_map_or}
 use Rattle.std.proofs.lemmas.Grind.{flat_map-append}
 use Rattle.std.proofs.lemmas.List.{take-append-drop}
+use Rattle.viz_base.specs.declared.layouts.Entry.{Entry}
+use Rattle.viz_base.specs.declared.layouts.Entry.TheVariants as of_entry
 use Rattle.viz_base.specs.declared.layouts.Band.{Band}
 use Rattle.viz_base.specs.declared.layouts.Inner.{Inner}
 use Rattle.viz_base.specs.declared.layouts.Spot.{Spot}
@@ -18,7 +20,7 @@ use Rattle.layout_semantics.specs.InlineContent.{Item, start, finish, word, spac
 use Rattle.layout_semantics.specs.Stretches.{stretches, is_break, may_part, what_stays}
 use Rattle.layout_semantics.specs.LineHeights.{InlineContext, line_extent, extended_boxes, height_of_extent, tallest}
 use Rattle.layout_semantics.specs.LineFilling.{Met, Line, item_width, width_held, place_each, joined, first_items, before_line, met_after, may_hold, stretches_held}
-use Rattle.layout_semantics.specs.Fragments.{Entry, here, goes, ItemPlace, SetLine, set_out, is_text_of, text_fragment, text_entry, inline_fragment, entries_after, line_entries, float_entry, atomic_entry}
+use Rattle.layout_semantics.specs.Fragments.{ItemPlace, SetLine, set_out, is_text_of, text_fragment, text_entry, inline_fragment, entries_after, line_entries, float_entry, atomic_entry}
 use Rattle.layout_semantics.specs.Lines.{SoFar, next_line, line_box, content_left, set_line, after_line, after_no_line, after_stretches, lines_to, lines}
 use Rattle.layout_laws.specs.Entries.{named_by, is_whole}
 use Rattle.layout_laws.proofs.Prefixes.{prefix-within}
@@ -28,17 +30,17 @@ use Rattle.layout_laws.proofs.WholeFloats.{Has, place-all, met-covers, late-has}
 
 module _ (of_box : ℕ → List (Kind × ℕ)) where
   -- what an entry shows: itself where it is whole, and else what its box does
-  abbrev pub shown : Entry → List (Kind × ℕ)
-  shown (here p) = one_if (is_whole p.kind) (named_by p)
-  shown (goes at spot) = of_box at
+  abbrev pub shown : Entry ℤ → List (Kind × ℕ)
+  shown (of_entry.Here p) = one_if (is_whole p.kind) (named_by p)
+  shown (of_entry.Goes at spot) = of_box at
 
-  abbrev pub all_shown : List Entry → List (Kind × ℕ)
+  abbrev pub all_shown : List (Entry ℤ) → List (Kind × ℕ)
   all_shown entries = flat_map shown entries
 
   abbrev pub all_inner : List Item → List (Kind × ℕ)
   all_inner items = flat_map of_box (flat_map inner_of items)
 
-  abbrev of_item : InlineContext → SetLine → List ItemPlace → ℤ → Item → List Entry
+  abbrev of_item : InlineContext → SetLine → List ItemPlace → ℤ → Item → List (Entry ℤ)
   of_item c line before left i = elim i [ start at ↦ inline_fragment c line at ∷ [] | finish at ↦ [] | word at text ↦ text_entry c line before at | space at ↦ text_entry c line before at | atomic at ↦ atomic_entry c line at left ∷ [] | forced at ↦ [] | float at ↦ float_entry line.spots at ]
 
   fragments-shown : (c : InlineContext) (line : SetLine) (opened : List ℕ) → all_shown (map (inline_fragment c line) opened) ≡ []
@@ -61,7 +63,7 @@ module _ (of_box : ℕ → List (Kind × ℕ)) where
   float-shown (e ∷ es) at h = by (e.0 == at) h (λ g. float-shown es at g)
     where
       by : (b : Bool) → (b || list_any (λ (e : ℕ × Spot ℤ). e.0 == at) es) ≡ true → (Has es at → all_shown (float_entry es at) ≡ of_box at)
-          → all_shown (option_map_or (λ entry. goes at entry.1 ∷ []) (cond b (Some e) (find (λ (entry : ℕ × Spot ℤ). entry.0 == at) es)) []) ≡ of_box at
+          → all_shown (option_map_or (λ entry. of_entry.Goes at entry.1 ∷ []) (cond b (Some e) (find (λ (entry : ℕ × Spot ℤ). entry.0 == at) es)) []) ≡ of_box at
       by true h again = append-nil (of_box at)
       by false h again = again h
 
@@ -82,7 +84,7 @@ module _ (of_box : ℕ → List (Kind × ℕ)) where
   all_right P [] ys a = a
   all_right P (x ∷ xs) ys a = all_right P xs ys a.1
 
-  both-shown : (xs ys : List Entry) (a b : List (Kind × ℕ)) → all_shown xs ≡ a → all_shown ys ≡ b → all_shown (xs ++ ys) ≡ a ++ b
+  both-shown : (xs ys : List (Entry ℤ)) (a b : List (Kind × ℕ)) → all_shown xs ≡ a → all_shown ys ≡ b → all_shown (xs ++ ys) ≡ a ++ b
   both-shown xs ys a b e f = flat_map-append shown xs ys ∙ (ap (λ (l : List (Kind × ℕ)). l ++ all_shown ys) e ∙ ap (λ (l : List (Kind × ℕ)). a ++ l) f)
 
   places-shown : (c : InlineContext) (line : SetLine) (before : List ItemPlace) (x : ℤ) (items : List Item) → AllByRecursion (Has line.spots) (flat_map float_of items) → all_shown (entries_after c line before (set_out c x items)) ≡ all_inner items

@@ -3,6 +3,8 @@ use Rattle.std.proofs.Common.{◌≡◌, ℕ, zero, suc, ◌+◌, ◌<◌, ◌�
 use Rattle.std.specs.List.{list_any, AllByRecursion}
 use Rattle.std.specs.Option.{option_map_or}
 use Rattle.std.proofs.lemmas.Grind.{flat_map-append}
+use Rattle.viz_base.specs.declared.layouts.Entry.{Entry}
+use Rattle.viz_base.specs.declared.layouts.Entry.TheVariants as of_entry
 use Rattle.viz_base.specs.Trees.{is_leaf}
 use Rattle.viz_base.specs.declared.layouts.Band.{Band}
 use Rattle.viz_base.specs.declared.renderings.Placed.{Placed}
@@ -16,7 +18,6 @@ use Rattle.layout_semantics.specs.Order.{kids_of, page_order}
 use Rattle.layout_semantics.specs.Blocks.{kind_of}
 use Rattle.layout_semantics.specs.FlowBoxes.{across}
 use Rattle.layout_semantics.specs.InlineContent.{Item, start, finish, word, atomic, forced, float, Sort, a_float, an_atomic, a_break, a_text, an_inline, sort_of, text_of, text_items, character_before, letter_before, items_to, content, float_boxes, inner_boxes, is_floated_at, holds_inline, has_line, makes_line}
-use Rattle.layout_semantics.specs.Fragments.{Entry, here, goes}
 use Rattle.layout_semantics.specs.Lines.{LineList, lines}
 use Rattle.layout_semantics.specs.Flow.{Progress, alone, entry_boxes, inner_size, line_content}
 use Rattle.layout_semantics.specs.Page.{page_rendering}
@@ -213,11 +214,11 @@ module _ (tree : BoxTree) (w : World) (height : ℕ) where
     abbrev one_alone : Band ℤ → ℕ → List (Kind × ℕ)
     one_alone cb k = entries tree w height is_whole (alone tree w height inside k (across cb)).boxes
 
-    entry-shown : (cb : Band ℤ) (e : Entry) → entries tree w height is_whole (entry_boxes tree w height inside cb e) ≡ shown (one_alone cb) e
-    entry-shown cb (here p) = append-nil (one_if (is_whole p.kind) (named_by p))
-    entry-shown cb (goes k spot) = entries-shifted tree w height is_whole spot (alone tree w height inside k (across cb)).boxes
+    entry-shown : (cb : Band ℤ) (e : Entry ℤ) → entries tree w height is_whole (entry_boxes tree w height inside cb e) ≡ shown (one_alone cb) e
+    entry-shown cb (of_entry.Here p) = append-nil (one_if (is_whole p.kind) (named_by p))
+    entry-shown cb (of_entry.Goes k spot) = entries-shifted tree w height is_whole spot (alone tree w height inside k (across cb)).boxes
 
-    entries-shown : (cb : Band ℤ) (es : List Entry) → entries tree w height is_whole (flat_map (entry_boxes tree w height inside cb) es) ≡ flat_map (shown (one_alone cb)) es
+    entries-shown : (cb : Band ℤ) (es : List (Entry ℤ)) → entries tree w height is_whole (flat_map (entry_boxes tree w height inside cb) es) ≡ flat_map (shown (one_alone cb)) es
     entries-shown cb [] = refl
     entries-shown cb (e ∷ es) =
         flat_map-append (of_entry tree w height is_whole) (entry_boxes tree w height inside cb e) (flat_map (entry_boxes tree w height inside cb) es)

@@ -4,6 +4,8 @@ use Rattle.std.specs.Prelude.{ℕ, zero, suc, ℤ, pos, ◌+ℤ◌, ◌-ℤ◌, 
 use Rattle.std.specs.Int.{int_max, int_min}
 use Rattle.std.specs.Option.{option_map_or, option_or}
 use Rattle.std.specs.List.{flat_map}
+use Rattle.viz_base.specs.declared.layouts.Entry.{Entry}
+use Rattle.viz_base.specs.declared.layouts.Entry.TheVariants as of_entry
 use Rattle.viz_base.specs.declared.layouts.Band.{Band}
 use Rattle.viz_base.specs.declared.layouts.Extent.{Extent}
 use Rattle.viz_base.specs.declared.layouts.Inner.{Inner}
@@ -27,7 +29,6 @@ use Rattle.layout_semantics.specs.DefiniteHeights.{given_height, held_height}
 use Rattle.layout_semantics.specs.Replaced.{replaced_size}
 use Rattle.layout_semantics.specs.Horizontal.{widths}
 use Rattle.layout_semantics.specs.InlineContent.{is_floated_at, has_line, inner_boxes}
-use Rattle.layout_semantics.specs.Fragments.{Entry, here, goes}
 use Rattle.layout_semantics.specs.Lines.{LineList, lines}
 
 -- ---- how far the flow of a block container has come
@@ -283,13 +284,13 @@ module _ (tree : BoxTree) (w : World) (height : ℕ) where
         by_alone : Alone → Inner ℤ
         by_alone a = by_baseline a (is_floated_at tree k || is_replaced_at tree k || own tree k (λ (s : Style). s.clips) false) a.baseline
 
-    abbrev pub entry_boxes : Band ℤ → Entry → List (Placed ℤ)
-    entry_boxes cb (here p) = p ∷ []
-    entry_boxes cb (goes k at) = shifted at (alone k (across cb)).boxes
+    abbrev pub entry_boxes : Band ℤ → Entry ℤ → List (Placed ℤ)
+    entry_boxes cb (of_entry.Here p) = p ∷ []
+    entry_boxes cb (of_entry.Goes k at) = shifted at (alone k (across cb)).boxes
 
-    abbrev pub line_tops : Entry → List ℤ
-    line_tops (here p) = cond (is_line p.kind) (p.margin.top ∷ []) []
-    line_tops (goes k at) = []
+    abbrev pub line_tops : Entry ℤ → List ℤ
+    line_tops (of_entry.Here p) = cond (is_line p.kind) (p.margin.top ∷ []) []
+    line_tops (of_entry.Goes k at) = []
 
     -- the context after the lines of a box
     abbrev pub after_lines : Band ℤ → Progress → LineList → Progress

@@ -2,6 +2,8 @@
 use Rattle.std.specs.Prelude.{ℕ, ◌==◌, ℤ, pos, ◌+ℤ◌, ◌-ℤ◌, Bool, false, cond, List, [], ◌∷◌, ◌++◌, map, filter, find, is_some, Option, Some}
 use Rattle.std.specs.List.{list_any, last_or}
 use Rattle.std.specs.Option.{option_map_or}
+use Rattle.viz_base.specs.declared.layouts.Entry.{Entry}
+use Rattle.viz_base.specs.declared.layouts.Entry.TheVariants as of_entry
 use Rattle.viz_base.specs.declared.layouts.Spot.{Spot}
 use Rattle.viz_base.specs.declared.lengths.Sides.{Sides}
 use Rattle.viz_base.specs.declared.lengths.Length.{Length}
@@ -14,11 +16,6 @@ use Rattle.layout_semantics.specs.Lengths.{used, margins, borders, paddings}
 use Rattle.layout_semantics.specs.InlineContent.{Item, start, finish, word, space, atomic, forced, float}
 use Rattle.layout_semantics.specs.LineHeights.{InlineContext, box_extent, shift, inline_shift}
 use Rattle.layout_semantics.specs.LineFilling.{item_width, band_width}
-
--- an entry of the rendering of a container's lines: a line or a fragment, or the place of a float or an atomic box with the outer top left corner there
-pub data Entry : Type 0 where
-  here : Placed ℤ → Entry
-  goes : ℕ → Spot ℤ → Entry
 
 -- ---- items side by side
 
@@ -77,9 +74,9 @@ abbrev pub text_baseline : InlineContext → SetLine → ℕ → ℤ
 text_baseline c line at = line.baseline -ℤ option_map_or (inline_shift c) (parent_of c.tree.boxes at) (pos 0)
 
 -- the piece of a text on the line, from the first to the last of its words and spaces that stay
-abbrev pub text_fragment : InlineContext → SetLine → ℕ → List ItemPlace → List Entry
+abbrev pub text_fragment : InlineContext → SetLine → ℕ → List ItemPlace → List (Entry ℤ)
 text_fragment c line at [] = []
-text_fragment c line at (p ∷ ps) = here (plain_box of_kind.Chars (node_of c.tree at) (text_area c (node_of c.tree at) (text_baseline c line at) p.left (option_map_or (λ (q : ItemPlace). q.right) (last_or (Some p) ps) p.right))) ∷ []
+text_fragment c line at (p ∷ ps) = of_entry.Here (plain_box of_kind.Chars (node_of c.tree at) (text_area c (node_of c.tree at) (text_baseline c line at) p.left (option_map_or (λ (q : ItemPlace). q.right) (last_or (Some p) ps) p.right))) ∷ []
 
 -- ---- inline boxes
 
@@ -105,8 +102,8 @@ around c at starts ends area = from_padding (grown area (fragment_edges c starts
     from_padding padding = from_border padding (grown padding (fragment_edges c starts ends (borders c.tree at)))
 
 -- the fragment of an inline box: from its start, or the line's content where it starts before, to its end, or the end of the line's content
-abbrev pub inline_fragment : InlineContext → SetLine → ℕ → Entry
-inline_fragment c line at = here (of_ends (find (is_start_of at) line.places) (find (is_end_of at) line.places))
+abbrev pub inline_fragment : InlineContext → SetLine → ℕ → Entry ℤ
+inline_fragment c line at = of_entry.Here (of_ends (find (is_start_of at) line.places) (find (is_end_of at) line.places))
   where
     of_ends : Option ItemPlace → Option ItemPlace → Placed ℤ
     of_ends first last = around c at (is_some first) (is_some last)
@@ -115,23 +112,23 @@ inline_fragment c line at = here (of_ends (find (is_start_of at) line.places) (f
 -- ---- atomic boxes and floats
 
 -- an atomic box stands with its own baseline raised over the line's
-abbrev pub atomic_entry : InlineContext → SetLine → ℕ → ℤ → Entry
-atomic_entry c line at left = goes at (record { x = left; y = (line.baseline -ℤ shift c at (box_extent c at)) -ℤ (box_extent c at).above })
+abbrev pub atomic_entry : InlineContext → SetLine → ℕ → ℤ → Entry ℤ
+atomic_entry c line at left = of_entry.Goes at (record { x = left; y = (line.baseline -ℤ shift c at (box_extent c at)) -ℤ (box_extent c at).above })
 
-abbrev pub float_entry : List (ℕ × Spot ℤ) → ℕ → List Entry
-float_entry spots at = option_map_or (λ entry. goes at entry.1 ∷ []) (find (λ entry. entry.0 == at) spots) []
+abbrev pub float_entry : List (ℕ × Spot ℤ) → ℕ → List (Entry ℤ)
+float_entry spots at = option_map_or (λ entry. of_entry.Goes at entry.1 ∷ []) (find (λ entry. entry.0 == at) spots) []
 
 -- ---- the entries of a line after its own
 
 -- a text's piece stands where the first of its items that stay does
-abbrev pub text_entry : InlineContext → SetLine → List ItemPlace → ℕ → List Entry
+abbrev pub text_entry : InlineContext → SetLine → List ItemPlace → ℕ → List (Entry ℤ)
 text_entry c line before at = cond (list_any (is_text_of at) before) [] (text_fragment c line at (filter (is_text_of at) line.places))
 
 -- the entries of an item, where these stand before it on the line
-abbrev pub item_entries : InlineContext → SetLine → List ItemPlace → ItemPlace → List Entry
+abbrev pub item_entries : InlineContext → SetLine → List ItemPlace → ItemPlace → List (Entry ℤ)
 item_entries c line before p = by_item p.item
   where
-    by_item : Item → List Entry
+    by_item : Item → List (Entry ℤ)
     by_item (start at) = inline_fragment c line at ∷ []
     by_item (finish at) = []
     by_item (word at text) = text_entry c line before at
@@ -141,10 +138,10 @@ item_entries c line before p = by_item p.item
     by_item (float at) = float_entry line.spots at
 
 -- of the items in their order
-abbrev pub entries_after : InlineContext → SetLine → List ItemPlace → List ItemPlace → List Entry
+abbrev pub entries_after : InlineContext → SetLine → List ItemPlace → List ItemPlace → List (Entry ℤ)
 entries_after c line before [] = []
 entries_after c line before (p ∷ ps) = item_entries c line before p ++ entries_after c line (before ++ p ∷ []) ps
 
 -- the inline boxes that are open at the line's start, outermost first, and then its content in document order
-abbrev pub line_entries : InlineContext → SetLine → List ℕ → List Entry
+abbrev pub line_entries : InlineContext → SetLine → List ℕ → List (Entry ℤ)
 line_entries c line opened = map (inline_fragment c line) opened ++ entries_after c line [] line.places

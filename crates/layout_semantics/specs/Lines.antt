@@ -2,6 +2,8 @@
 use Rattle.std.specs.Prelude.{ℕ, zero, suc, ◌==◌, ℤ, pos, ◌+ℤ◌, ◌-ℤ◌, Bool, true, false, not, List, [], ◌∷◌, ◌++◌, length, drop, filter, fold, Option, Some, None}
 use Rattle.std.specs.Int.{int_max}
 use Rattle.std.specs.List.{flat_map, list_any}
+use Rattle.viz_base.specs.declared.layouts.Entry.{Entry}
+use Rattle.viz_base.specs.declared.layouts.Entry.TheVariants as of_entry
 use Rattle.viz_base.specs.Numbers.{floor_of}
 use Rattle.viz_base.specs.declared.layouts.Band.{Band}
 use Rattle.viz_base.specs.declared.layouts.Inner.{Inner}
@@ -18,7 +20,7 @@ use Rattle.layout_semantics.specs.InlineContent.{Item, start, finish, content, f
 use Rattle.layout_semantics.specs.Stretches.{stretches, what_stays}
 use Rattle.layout_semantics.specs.LineHeights.{InlineContext, LineExtent, height_of_extent, line_extent, extended_boxes, tallest}
 use Rattle.layout_semantics.specs.LineFilling.{Met, Line, band_width, width_held, place_each, line_top, before_line, met_after, first_items, stretches_held}
-use Rattle.layout_semantics.specs.Fragments.{Entry, here, set_out, SetLine, line_entries, float_entry}
+use Rattle.layout_semantics.specs.Fragments.{set_out, SetLine, line_entries, float_entry}
 
 -- ---- between lines
 
@@ -30,7 +32,7 @@ pub record SoFar : Type 0 where
   pub floats : List FloatBox
   pub opened : List ℕ
   pub baseline : Option ℤ
-  pub entries : List Entry
+  pub entries : List (Entry ℤ)
 
 -- the inline boxes that are open after an item
 abbrev pub opened_after : List ℕ → Item → List ℕ
@@ -59,8 +61,8 @@ abbrev pub align_of : BoxTree → ℕ → Align
 align_of tree at = option_map_or (λ (s : Style). s.align) (style_of tree at) of_align.Left
 
 -- a line box: from edge to edge of what the floats leave, and from its highest to its lowest box
-abbrev pub line_box : InlineContext → Band ℤ → ℤ → ℤ → Entry
-line_box c room top bottom = here (plain_box of_kind.Line (node_of c.tree c.container) (record { left = room.left; top = top; right = room.right; bottom = bottom }))
+abbrev pub line_box : InlineContext → Band ℤ → ℤ → ℤ → Entry ℤ
+line_box c room top bottom = of_entry.Here (plain_box of_kind.Line (node_of c.tree c.container) (record { left = room.left; top = top; right = room.right; bottom = bottom }))
 
 -- the line with its content set out in the room that its floats leave
 abbrev pub content_left : InlineContext → Band ℤ → ℤ → ℤ
@@ -127,7 +129,7 @@ lines_to (suc lines) c tall now (first ∷ parts) = go_on (lines_to lines c tall
 
 -- the lines of a block container, with their floats and their last baseline
 pub record LineList : Type 0 where
-  pub entries : List Entry
+  pub entries : List (Entry ℤ)
   pub bottom : ℤ
   pub baseline : Option ℤ
   pub floats : List FloatBox

@@ -54,17 +54,24 @@ pub struct Inner<N> {
     pub below: N,
 }
 
+/// What a block container's lines add to the rendering (CSS 2.1, 9.4.2).
+#[derive(Clone, Copy, Debug, PartialEq, Eq)]
+pub enum Entry<N> {
+    /// A line, or the piece of an inline box or of a text on one.
+    Here(Placed<N>),
+    /// The float or atomic inline-level box at this place of the tree, with its content, its outer corner moved to this spot.
+    Goes(u32, Spot<N>),
+}
+
 /// The lines of a block container, in units of 1/64 px (CSS 2.1, 9.4.2).
 #[derive(Debug, Drop)]
 pub struct Lines<N> {
-    /// The lines and the fragments on them.
-    pub boxes: List<Placed<N>>,
+    /// Each line, then what is on it in document order; floats where no line exists too.
+    pub entries: List<Entry<N>>,
     /// The bottom of the last line.
     pub bottom: N,
     /// The baseline of the last line.
     pub baseline: Option<N>,
-    /// The places of the floats and the atomic inline-level boxes.
-    pub spots: List<Spot<N>>,
 }
 
 /// Where the margins that adjoin a box's top end (CSS 2.1, 8.3.1).

@@ -30,7 +30,9 @@ pub use fonts::Font;
 pub use formulas::{Edge, Face, Formula, Ring, Set, Sign, Summand, Term};
 pub use groups::Selector;
 pub use jobs::Job;
-pub use layouts::{Band, Extent, Inner, Lead, LeadEnd, Lines, Preferred, Spot, Waiting, Widths};
+pub use layouts::{
+    Band, Entry, Extent, Inner, Lead, LeadEnd, Lines, Preferred, Spot, Waiting, Widths,
+};
 pub use lengths::{Length, LineHeight, Sides, Size, Valign};
 pub use lists::{List, Text8};
 pub use memory::Mem;
