@@ -1,5 +1,5 @@
 -- Whether a height is definite is told by the tree alone.
-use Rattle.std.proofs.Common.{◌≡◌, ℕ, zero, suc, ℤ, Bool, true, false, not, is_some, is_none, option_map, Option, None, Some, refl, ap, ◌∙◌}
+use Rattle.std.proofs.Common.{◌≡◌, ℕ, zero, suc, ℤ, not, is_some, is_none, option_map, Option, None, Some, refl, ap, ◌∙◌}
 use Rattle.viz_base.specs.declared.lengths.Length.{Length}
 use Rattle.viz_base.specs.declared.lengths.Length.TheVariants as of_length
 use Rattle.viz_base.specs.declared.trees.BoxTree.{BoxTree}

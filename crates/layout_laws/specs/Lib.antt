@@ -2,6 +2,7 @@ pub mod Greatest
 pub mod Entries
 pub mod Spaces
 pub mod Styled
+pub mod Viewport
 pub mod Outer
 pub mod Terms
 pub mod Standing

@@ -1,14 +1,15 @@
-ghost use Rattle.std.specs.Prelude.{◌≡◌, ◌≢◌, ◌<◌, ℕ, true, false, IsTrue, [], length, slice_get, Contains, Some, is_some};
-ghost use Rattle.viz_base.specs.Pages.{is_element_at};
+ghost use Rattle.std.specs.Prelude.{◌≡◌, ◌≢◌, ◌<◌, ℕ, true, false, IsTrue, [], length, slice_get, Contains, Some, is_some, codes};
+ghost use Rattle.viz_base.specs.Pages.{has_tag, is_element_at};
 ghost use Rattle.viz_base.specs.Trees.{IsBoxTree, ascends, has_box, is_anon, is_chars, is_inline_level, is_leaf, is_replaced};
 ghost use Rattle.viz_base.specs.declared.trees.BoxNode.{BoxNode};
 ghost use Rattle.layout_semantics.specs.Blocks.{parent_of};
 ghost use Rattle.layout_semantics.specs.Elements.{ancestors, is_closed, is_hidden, is_shown, node_passes};
 ghost use Rattle.layout_semantics.specs.Order.{kids_of, IsOnPage};
-ghost use Rattle.layout_semantics.specs.BoxTrees.{page_boxes, page_parts, tree_parents, tree_styles};
+ghost use Rattle.layout_semantics.specs.BoxTrees.{clips_at, page_boxes, page_parts, tree_parents, tree_styles};
 ghost use Rattle.layout_semantics.specs.Refusals.{blocks_in_inlines};
 ghost use Rattle.layout_laws.specs.Apart.{IsBlockBetween};
 ghost use Rattle.layout_laws.specs.Styled.{AreStylesOf};
+ghost use Rattle.layout_laws.specs.Viewport.{IsFirstBody};
 
 use viz_base::{Font, List, Page, Style};
 
@@ -121,4 +122,19 @@ pub fn the_boxes_of_a_page_are_a_tree(page: &Page, styles: &List<Style>, fonts: 
     requires styled { AreStylesOf page.now.nodes styles.now fonts.now }
     requires no_block_in_inlines { blocks_in_inlines (page_parts page.now.nodes styles.now) ≡ [] }
     ensures { IsBoxTree (page_boxes page.now.nodes styles.now) (tree_styles page.now.nodes styles.now) fonts.now (tree_parents page.now.nodes) }
+{}
+
+/// The overflow of the first `body` in an `html` whose own is visible goes to the viewport, and its box does not clip (CSS 2.1, 11.1.1).
+pub fn the_overflow_of_body_goes_to_the_viewport(page: &Page, styles: &List<Style>, at: usize)
+    requires html { IsTrue (node_passes (has_tag (codes "html")) page.now.nodes 0) }
+    requires visible { clips_at styles.now 0 ≡ false }
+    requires first { IsFirstBody page.now.nodes at }
+    ensures { clips_at (tree_styles page.now.nodes styles.now) at ≡ false }
+{}
+
+/// Where the root's own overflow is not visible, that goes to the viewport, and each other element clips as its style says (CSS 2.1, 11.1.1).
+pub fn the_overflow_of_html_goes_before_that_of_body(page: &Page, styles: &List<Style>, at: usize)
+    requires element { IsTrue (is_element_at page.now.nodes at) }
+    requires clips { clips_at styles.now 0 ≡ true }
+    ensures { clips_at (tree_styles page.now.nodes styles.now) at ≡ clips_at styles.now at }
 {}

@@ -24,13 +24,11 @@ pub record Resolved : Type 0 where
   pub cleared : Option (ℕ × ℤ)
 
 module _ (tree : BoxTree) (w : World) (height : ℕ) where
-  -- Where a box that comes next stands. `edge` gives the border edge that ends the run together with so many margins more.
-  -- The lead goes on to its first box with `clear`. Its hypothetical border edge counts the margins before it, its own top
-  -- margin and its leading descendants' up to the next box with `clear`. Floats that wait are tried at that edge. Where the
-  -- edge is above the outer bottom of a float that `clear` names, the box is cleared: its border edge is put at the lowest
-  -- such bottom, the floats that wait then standing where the run ends without the box's margins. Else it counts as not
-  -- cleared, and the lead goes on through it.
+  -- Where a box that comes next stands, by its lead: `edge` gives the border edge that ends the run together with so many margins more,
+  -- and `size` the outer sizes of the floats that wait.
   module _ (size : Waiting ℤ → Extent ℤ) (edge : List ℤ → ℤ) (cb : Band ℤ) (floats : List FloatBox) (least : Option ℤ) (b : ℕ) where
+    -- A lead was found that ends at a box d with `clear`. Its border edge if it were not cleared: after the margins before it, its own
+    -- top margin and its leading descendants' up to the next box with `clear`.
     abbrev pub hypothetical_edge : Leading → ℕ → ℤ
     hypothetical_edge found d = edge (found.margins ++ (lead tree w height (is_up_to d) found.cb d).margins)
 
@@ -38,12 +36,16 @@ module _ (tree : BoxTree) (w : World) (height : ℕ) where
     abbrev pub bottom_to_clear : Leading → ℕ → ℤ → Option ℤ
     bottom_to_clear found d y = lowest_bottom (clear_of tree d) (with_waiting tree size found.waiting floats least y)
 
+    -- d is cleared where that edge is above such a bottom, the floats that wait being tried at that edge
     abbrev pub is_cleared : Leading → ℕ → Bool
     is_cleared found d = option_map_or (int_lt (hypothetical_edge found d)) (bottom_to_clear found d (hypothetical_edge found d)) false
 
+    -- its border edge is then the lowest such bottom, the floats that wait standing where the run ends without d's margins
     abbrev pub cleared_edge : Leading → ℕ → ℤ
     cleared_edge found d = option_map_or (λ bottom. bottom) (bottom_to_clear found d (edge found.margins)) (edge found.margins)
 
+    -- a lead that ends at a box with `clear` ends there where that one is cleared; else it counts as not cleared, and the lead goes on
+    -- through it; any other lead joins the run as it is
     abbrev pub resolve_step : (ℕ → Resolved) → Leading → Resolved
     resolve_step go_on found = by_end found.end
       where

@@ -154,8 +154,8 @@ module _ (tree : BoxTree) (w : World) (height : ℕ) where
 
     -- ---- boxes in flow
 
-    -- where the box stands whose lead has this cleared box, everything before that one standing at y; a cleared box's own
-    -- lead is still open, and goes on from its border edge
+    -- Where a box is reached, given the cleared box of its lead, if there is one, and y, at which all before that one stands: at y;
+    -- but the cleared box itself is reached at its border edge, and its own lead goes on from there.
     abbrev pub reached_at : Band ℤ → Progress → ℕ → ℤ → Cleared → Reached
     reached_at cb p b y None = record { top = y; clears = false; cleared = None }
     reached_at cb p b y (Some cleared) = by_match (cleared.0 == b)
@@ -167,6 +167,7 @@ module _ (tree : BoxTree) (w : World) (height : ℕ) where
         by_match true = record { top = cleared.1; clears = true; cleared = opened.cleared }
         by_match false = record { top = y; clears = false; cleared = Some cleared }
 
+    -- a box in flow that comes next: at the top it is reached at the content top, below where the run ends with the margins of its lead
     abbrev pub reached : Band ℤ → Progress → ℕ → Reached
     reached cb p b = by_standing p.standing
       where
@@ -178,8 +179,8 @@ module _ (tree : BoxTree) (w : World) (height : ℕ) where
         by_standing (below edge run stuck) = by_resolved edge run
             (resolve tree w height waiting_size (λ more. edge +ℤ collapsed (run ++ more)) cb p.floats p.least b none_passed)
 
-    -- the context as a box that is opened leaves it: the greatest outer top, the outer top of a block being the lesser of the
-    -- tops of its margin and border boxes
+    -- the context as a box that is opened leaves it: its outer top counts, which is the higher of the tops of its margin and border
+    -- boxes (our own reading of 9.5.1, rule 5)
     abbrev pub opened : Progress → Frame → Standing → Progress
     opened p f standing = record {
       standing = standing;
@@ -234,8 +235,9 @@ module _ (tree : BoxTree) (w : World) (height : ℕ) where
         by_sort f false true = laid_context cb p b f
         by_sort f false false = laid_block cb p b r.cleared f
 
-    -- where the next child stands after this one: below it; or, after one that collapses through, with its lead and its bottom
-    -- margin in the run, which begins anew and is stuck where that one is cleared
+    -- Where the next child stands after this one. One that does not collapse through ends the run, and its own bottom margins begin
+    -- another at its bottom. All margins of one that does, its lead and its bottom margin, join the run; where it is cleared they are
+    -- a new run, which begins so that this box stands at its end without its bottom margin, and is stuck. At the top nothing changes.
     abbrev pub standing_after : Band ℤ → Standing → ℕ → Reached → Laid → Standing
     standing_after cb before b r l = by_sort l.through r.clears before
       where

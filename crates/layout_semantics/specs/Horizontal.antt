@@ -34,7 +34,7 @@ terms_around tree w at cb width = record {
 abbrev pub sum_of : Widths ℤ → ℤ
 sum_of t = t.margin_left +ℤ (t.border_left +ℤ (t.padding_left +ℤ (t.content +ℤ (t.padding_right +ℤ (t.border_right +ℤ t.margin_right)))))
 
--- what the containing block leaves for the content
+-- what the containing block leaves for the content, and no less than 0 (our own reading)
 abbrev pub available : BoxTree → World → ℕ → ℤ → ℤ
 available tree w at cb = int_max (pos 0) (cb -ℤ sum_of (terms_around tree w at cb (pos 0)))
 

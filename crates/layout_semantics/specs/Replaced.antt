@@ -17,6 +17,7 @@ abbrev pub intrinsic : BoxTree → ℕ → ℕ × ℕ
 intrinsic tree at = unwrap_or (option_and_then (λ (b : BoxNode). b.size) (slice_get tree.boxes at)) (0, 0)
 
 -- one size where the other is given, by the ratio of the intrinsic ones; the intrinsic one where the ratio has a 0
+-- (our own reading)
 abbrev pub by_ratio : ℤ → ℕ → ℕ → ℤ
 by_ratio given zero wanted = pos (64 * wanted)
 by_ratio given (suc n) wanted = fraction (pos wanted) (suc n) given
