@@ -1,5 +1,5 @@
 -- The entries of lines: besides lines and fragments, each float and each atomic box of the content once, in order.
-use Rattle.std.proofs.Common.{◌≡◌, ℕ, zero, suc, ◌-◌, ◌≤◌, ℤ, ◌+ℤ◌, Bool, true, false, ◌||◌, ◌==◌, cond, List, [], ◌∷◌, ◌++◌, map, filter, length, take, drop, flat_map, length-drop, refl, sym, ap, ◌∙◌, subst, arith, append-nil, append_assoc, None, Some}
+use Rattle.std.proofs.Common.{◌≡◌, ℕ, zero, suc, ◌-◌, ◌≤◌, ℤ, ◌+ℤ◌, Bool, true, false, ◌||◌, ◌==◌, cond, List, [], ◌∷◌, ◌++◌, length, take, drop, flat_map, length-drop, refl, sym, ap, ◌∙◌, subst, arith, append-nil, append_assoc, Option, None, Some}
 use Rattle.std.specs.Prelude.{find}
 use Rattle.std.specs.List.{list_any, AllByRecursion, prefix_len, range_with_len}
 use Rattle.std.specs.Int.{int_max}
@@ -20,7 +20,7 @@ use Rattle.layout_semantics.specs.InlineContent.{Item, start, finish, word, spac
 use Rattle.layout_semantics.specs.Stretches.{stretches, is_break, may_part, what_stays}
 use Rattle.layout_semantics.specs.LineHeights.{InlineContext, line_extent, extended_boxes, height_of_extent, tallest}
 use Rattle.layout_semantics.specs.LineFilling.{Met, Line, item_width, width_held, place_each, joined, first_items, before_line, met_after, may_hold, stretches_held}
-use Rattle.layout_semantics.specs.Fragments.{ItemPlace, SetLine, set_out, is_text_of, text_fragment, text_entry, inline_fragment, entries_after, line_entries, float_entry, atomic_entry}
+use Rattle.layout_semantics.specs.Fragments.{ItemPlace, SetLine, set_out, is_text_of, text_fragment, text_right, text_entry, inline_fragment, opened_entries, entries_after, line_entries, float_entry, atomic_entry}
 use Rattle.layout_semantics.specs.Lines.{SoFar, next_line, line_box, content_left, set_line, after_line, after_no_line, after_stretches, lines_to, lines}
 use Rattle.layout_laws.specs.Entries.{named_by, is_whole}
 use Rattle.layout_laws.proofs.Prefixes.{prefix-within}
@@ -40,23 +40,19 @@ module _ (of_box : ℕ → List (Kind × ℕ)) where
   abbrev pub all_inner : List Item → List (Kind × ℕ)
   all_inner items = flat_map of_box (flat_map inner_of items)
 
-  abbrev of_item : InlineContext → SetLine → List ItemPlace → ℤ → Item → List (Entry ℤ)
-  of_item c line before left i = elim i [ start at ↦ inline_fragment c line at ∷ [] | finish at ↦ [] | word at text ↦ text_entry c line before at | space at ↦ text_entry c line before at | atomic at ↦ atomic_entry c line at left ∷ [] | forced at ↦ [] | float at ↦ float_entry line.spots at ]
+  abbrev of_item : InlineContext → SetLine → Option ItemPlace → ItemPlace → List ItemPlace → Item → List (Entry ℤ)
+  of_item c line before p after i = elim i [ start at ↦ inline_fragment c line at (Some p.right) after ∷ [] | finish at ↦ [] | word at text ↦ text_entry c line at before p after | space at ↦ text_entry c line at before p after | atomic at ↦ atomic_entry c line at p.left ∷ [] | forced at ↦ [] | float at ↦ float_entry line.spots at ]
 
-  fragments-shown : (c : InlineContext) (line : SetLine) (opened : List ℕ) → all_shown (map (inline_fragment c line) opened) ≡ []
+  fragments-shown : (c : InlineContext) (line : SetLine) (opened : List ℕ) → all_shown (opened_entries c line opened) ≡ []
   fragments-shown c line [] = refl
   fragments-shown c line (at ∷ opened) = fragments-shown c line opened
 
-  text-shown : (c : InlineContext) (line : SetLine) (at : ℕ) (ps : List ItemPlace) → all_shown (text_fragment c line at ps) ≡ []
-  text-shown c line at [] = refl
-  text-shown c line at (p ∷ ps) = refl
-
-  text_entry-shown : (c : InlineContext) (line : SetLine) (before : List ItemPlace) (at : ℕ) → all_shown (text_entry c line before at) ≡ []
-  text_entry-shown c line before at = by (list_any (is_text_of at) before)
+  text-shown : (c : InlineContext) (line : SetLine) (at : ℕ) (before : Option ItemPlace) (p : ItemPlace) (after : List ItemPlace) → all_shown (text_entry c line at before p after) ≡ []
+  text-shown c line at before p after = by (option_map_or (is_text_of at) before false)
     where
-      by : (b : Bool) → all_shown (cond b [] (text_fragment c line at (filter (is_text_of at) line.places))) ≡ []
+      by : (b : Bool) → all_shown (cond b [] (text_fragment c line at p.left (text_right at p.right after) ∷ [])) ≡ []
       by true = refl
-      by false = text-shown c line at (filter (is_text_of at) line.places)
+      by false = refl
 
   float-shown : (spots : List (ℕ × Spot ℤ)) (at : ℕ) → Has spots at → all_shown (float_entry spots at) ≡ of_box at
   float-shown [] at h = absurd (cc)
@@ -67,14 +63,15 @@ module _ (of_box : ℕ → List (Kind × ℕ)) where
       by true h again = append-nil (of_box at)
       by false h again = again h
 
-  item-shown : (c : InlineContext) (line : SetLine) (before : List ItemPlace) (left : ℤ) (i : Item) → AllByRecursion (Has line.spots) (float_of i) → all_shown (of_item c line before left i) ≡ flat_map of_box (inner_of i)
-  item-shown c line before left (start at) h = refl
-  item-shown c line before left (finish at) h = refl
-  item-shown c line before left (word at text) h = text_entry-shown c line before at
-  item-shown c line before left (space at) h = text_entry-shown c line before at
-  item-shown c line before left (atomic at) h = refl
-  item-shown c line before left (forced at) h = refl
-  item-shown c line before left (float at) h = float-shown line.spots at h.0 ∙ sym (append-nil (of_box at))
+  item-shown : (c : InlineContext) (line : SetLine) (before : Option ItemPlace) (p : ItemPlace) (after : List ItemPlace) (i : Item) → AllByRecursion (Has line.spots) (float_of i)
+      → all_shown (of_item c line before p after i) ≡ flat_map of_box (inner_of i)
+  item-shown c line before p after (start at) h = refl
+  item-shown c line before p after (finish at) h = refl
+  item-shown c line before p after (word at text) h = text-shown c line at before p after
+  item-shown c line before p after (space at) h = text-shown c line at before p after
+  item-shown c line before p after (atomic at) h = refl
+  item-shown c line before p after (forced at) h = refl
+  item-shown c line before p after (float at) h = float-shown line.spots at h.0 ∙ sym (append-nil (of_box at))
 
   all_left : (P : ℕ → Type 0) (xs ys : List ℕ) → AllByRecursion P (xs ++ ys) → AllByRecursion P xs
   all_left P [] ys a = tt
@@ -87,22 +84,24 @@ module _ (of_box : ℕ → List (Kind × ℕ)) where
   both-shown : (xs ys : List (Entry ℤ)) (a b : List (Kind × ℕ)) → all_shown xs ≡ a → all_shown ys ≡ b → all_shown (xs ++ ys) ≡ a ++ b
   both-shown xs ys a b e f = flat_map-append shown xs ys ∙ (ap (λ (l : List (Kind × ℕ)). l ++ all_shown ys) e ∙ ap (λ (l : List (Kind × ℕ)). a ++ l) f)
 
-  places-shown : (c : InlineContext) (line : SetLine) (before : List ItemPlace) (x : ℤ) (items : List Item) → AllByRecursion (Has line.spots) (flat_map float_of items) → all_shown (entries_after c line before (set_out c x items)) ≡ all_inner items
+  places-shown : (c : InlineContext) (line : SetLine) (before : Option ItemPlace) (x : ℤ) (items : List Item) → AllByRecursion (Has line.spots) (flat_map float_of items)
+      → all_shown (entries_after c line before (set_out c x items)) ≡ all_inner items
   places-shown c line before x [] h = refl
   places-shown c line before x (i ∷ items) h =
       let p : ItemPlace = record { item = i; left = x; right = x +ℤ item_width c i } in
-      both-shown (of_item c line before x i) (entries_after c line (before ++ p ∷ []) (set_out c (x +ℤ item_width c i) items)) (flat_map of_box (inner_of i)) (all_inner items)
-      (item-shown c line before x i (all_left (Has line.spots) (float_of i) (flat_map float_of items) h))
-      (places-shown c line (before ++ p ∷ []) (x +ℤ item_width c i) items (all_right (Has line.spots) (float_of i) (flat_map float_of items) h))
+      let after : List ItemPlace = set_out c (x +ℤ item_width c i) items in
+      both-shown (of_item c line before p after i) (entries_after c line (Some p) after) (flat_map of_box (inner_of i)) (all_inner items)
+      (item-shown c line before p after i (all_left (Has line.spots) (float_of i) (flat_map float_of items) h))
+      (places-shown c line (Some p) (x +ℤ item_width c i) items (all_right (Has line.spots) (float_of i) (flat_map float_of items) h))
       ∙ sym (flat_map-append of_box (inner_of i) (flat_map inner_of items))
 
   line-shown : (c : InlineContext) (baseline left held : ℤ) (items : List Item) (late : Met) (opened : List ℕ) → AllByRecursion (Has late.spots) (flat_map float_of items)
       → all_shown (line_entries c (set_line c baseline left held items late) opened) ≡ all_inner items
   line-shown c baseline left held items late opened h =
       let line = set_line c baseline left held items late in
-      both-shown (map (inline_fragment c line) opened) (entries_after c line [] line.places) [] (all_inner items)
+      both-shown (opened_entries c line opened) (entries_after c line None line.places) [] (all_inner items)
       (fragments-shown c line opened)
-      (places-shown c line [] left (what_stays items) (subst (AllByRecursion (Has late.spots)) (sym (floats-stay items)) h) ∙ ap (flat_map of_box) (inner-stay items))
+      (places-shown c line None left (what_stays items) (subst (AllByRecursion (Has late.spots)) (sym (floats-stay items)) h) ∙ ap (flat_map of_box) (inner-stay items))
 
   -- ---- after a line
 

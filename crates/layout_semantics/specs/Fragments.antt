@@ -1,6 +1,5 @@
 -- The boxes of a line (CSS 2.1, 8.6, 9.4.2, 10.6.1).
-use Rattle.std.specs.Prelude.{ℕ, ◌==◌, ℤ, pos, ◌+ℤ◌, ◌-ℤ◌, Bool, false, cond, List, [], ◌∷◌, ◌++◌, map, filter, find, is_some, Option, Some}
-use Rattle.std.specs.List.{list_any, last_or}
+use Rattle.std.specs.Prelude.{ℕ, ◌==◌, ℤ, pos, ◌+ℤ◌, ◌-ℤ◌, Bool, false, cond, List, [], ◌∷◌, ◌++◌, map, find, is_some, unwrap_or, Option, None, Some}
 use Rattle.std.specs.Option.{option_map_or}
 use Rattle.viz_base.specs.declared.layouts.Entry.{Entry}
 use Rattle.viz_base.specs.declared.layouts.Entry.TheVariants as of_entry
@@ -28,13 +27,6 @@ pub record ItemPlace : Type 0 where
 abbrev pub set_out : InlineContext → ℤ → List Item → List ItemPlace
 set_out c x [] = []
 set_out c x (i ∷ items) = record { item = i; left = x; right = x +ℤ item_width c i } ∷ set_out c (x +ℤ item_width c i) items
-
-abbrev pub is_start_of : ℕ → ItemPlace → Bool
-is_start_of at p = by_item p.item
-  where
-    by_item : Item → Bool
-    by_item (start other) = other == at
-    by_item _ = false
 
 abbrev pub is_end_of : ℕ → ItemPlace → Bool
 is_end_of at p = by_item p.item
@@ -73,10 +65,17 @@ text_area c node baseline left right = record { left = left; top = baseline -ℤ
 abbrev pub text_baseline : InlineContext → SetLine → ℕ → ℤ
 text_baseline c line at = line.baseline -ℤ option_map_or (inline_shift c) (parent_of c.tree.boxes at) (pos 0)
 
--- the piece of a text on the line, from the first to the last of its words and spaces that stay
-abbrev pub text_fragment : InlineContext → SetLine → ℕ → List ItemPlace → List (Entry ℤ)
-text_fragment c line at [] = []
-text_fragment c line at (p ∷ ps) = of_entry.Here (plain_box of_kind.Chars (node_of c.tree at) (text_area c (node_of c.tree at) (text_baseline c line at) p.left (option_map_or (λ (q : ItemPlace). q.right) (last_or (Some p) ps) p.right))) ∷ []
+abbrev pub text_fragment : InlineContext → SetLine → ℕ → (left right : ℤ) → Entry ℤ
+text_fragment c line at left right = of_entry.Here (plain_box of_kind.Chars (node_of c.tree at) (text_area c (node_of c.tree at) (text_baseline c line at) left right))
+
+-- where the piece of a text ends whose last item so far ends here, by what follows on the line
+abbrev pub text_right : ℕ → ℤ → List ItemPlace → ℤ
+text_right at right [] = right
+text_right at right (p ∷ after) = cond (is_text_of at p) (text_right at p.right after) right
+
+-- the piece of a text on the line has an entry at the first of its words and spaces that stay: where the item before is not of that text
+abbrev pub text_entry : InlineContext → SetLine → ℕ → (before : Option ItemPlace) → ItemPlace → (after : List ItemPlace) → List (Entry ℤ)
+text_entry c line at before p after = cond (option_map_or (is_text_of at) before false) [] (text_fragment c line at p.left (text_right at p.right after) ∷ [])
 
 -- ---- inline boxes
 
@@ -101,13 +100,14 @@ around c at starts ends area = from_padding (grown area (fragment_edges c starts
     from_padding : Quad ℤ → Placed ℤ
     from_padding padding = from_border padding (grown padding (fragment_edges c starts ends (borders c.tree at)))
 
--- the fragment of an inline box: from its start, or the line's content where it starts before, to its end, or the end of the line's content
-abbrev pub inline_fragment : InlineContext → SetLine → ℕ → Entry ℤ
-inline_fragment c line at = of_entry.Here (of_ends (find (is_start_of at) line.places) (find (is_end_of at) line.places))
+-- the fragment of an inline box: from its start, where that is on the line, else from the left of the line's content; up to its end in what
+-- follows, where that is on the line, else to the right of the content
+abbrev pub inline_fragment : InlineContext → SetLine → ℕ → (start_right : Option ℤ) → (after : List ItemPlace) → Entry ℤ
+inline_fragment c line at start_right after = of_entry.Here (up_to (find (is_end_of at) after))
   where
-    of_ends : Option ItemPlace → Option ItemPlace → Placed ℤ
-    of_ends first last = around c at (is_some first) (is_some last)
-        (text_area c (node_of c.tree at) (line.baseline -ℤ inline_shift c at) (option_map_or (λ (p : ItemPlace). p.right) first line.left) (option_map_or (λ (p : ItemPlace). p.left) last line.right))
+    up_to : Option ItemPlace → Placed ℤ
+    up_to last = around c at (is_some start_right) (is_some last)
+        (text_area c (node_of c.tree at) (line.baseline -ℤ inline_shift c at) (unwrap_or start_right line.left) (option_map_or (λ (p : ItemPlace). p.left) last line.right))
 
 -- ---- atomic boxes and floats
 
@@ -120,28 +120,28 @@ float_entry spots at = option_map_or (λ entry. of_entry.Goes at entry.1 ∷ [])
 
 -- ---- the entries of a line after its own
 
--- a text's piece stands where the first of its items that stay does
-abbrev pub text_entry : InlineContext → SetLine → List ItemPlace → ℕ → List (Entry ℤ)
-text_entry c line before at = cond (list_any (is_text_of at) before) [] (text_fragment c line at (filter (is_text_of at) line.places))
-
--- the entries of an item, where these stand before it on the line
-abbrev pub item_entries : InlineContext → SetLine → List ItemPlace → ItemPlace → List (Entry ℤ)
-item_entries c line before p = by_item p.item
+-- the entries of an item, by the item before it on the line and by those after it
+abbrev pub item_entries : InlineContext → SetLine → (before : Option ItemPlace) → ItemPlace → (after : List ItemPlace) → List (Entry ℤ)
+item_entries c line before p after = by_item p.item
   where
     by_item : Item → List (Entry ℤ)
-    by_item (start at) = inline_fragment c line at ∷ []
+    by_item (start at) = inline_fragment c line at (Some p.right) after ∷ []
     by_item (finish at) = []
-    by_item (word at text) = text_entry c line before at
-    by_item (space at) = text_entry c line before at
+    by_item (word at text) = text_entry c line at before p after
+    by_item (space at) = text_entry c line at before p after
     by_item (atomic at) = atomic_entry c line at p.left ∷ []
     by_item (forced at) = []
     by_item (float at) = float_entry line.spots at
 
 -- of the items in their order
-abbrev pub entries_after : InlineContext → SetLine → List ItemPlace → List ItemPlace → List (Entry ℤ)
+abbrev pub entries_after : InlineContext → SetLine → (before : Option ItemPlace) → List ItemPlace → List (Entry ℤ)
 entries_after c line before [] = []
-entries_after c line before (p ∷ ps) = item_entries c line before p ++ entries_after c line (before ++ p ∷ []) ps
+entries_after c line before (p ∷ after) = item_entries c line before p after ++ entries_after c line (Some p) after
 
--- the inline boxes that are open at the line's start, outermost first, and then its content in document order
+-- of the inline boxes that are open at the line's start, outermost first
+abbrev pub opened_entries : InlineContext → SetLine → List ℕ → List (Entry ℤ)
+opened_entries c line opened = map (λ at. inline_fragment c line at None line.places) opened
+
+-- and then of its content in document order
 abbrev pub line_entries : InlineContext → SetLine → List ℕ → List (Entry ℤ)
-line_entries c line opened = map (inline_fragment c line) opened ++ entries_after c line [] line.places
+line_entries c line opened = opened_entries c line opened ++ entries_after c line None line.places
