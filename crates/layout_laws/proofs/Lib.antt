@@ -8,6 +8,7 @@ pub mod Above
 pub mod PageParts
 pub mod BoxLaws
 pub mod BoxFacts
+pub mod Rooms
 pub mod Viewport
 pub mod BoxContent
 pub mod Collapsing

@@ -1,5 +1,6 @@
-ghost use Rattle.std.specs.Prelude.{◌≡◌, ◌<◌, ℕ, ℤ, Bool, List, [], ◌∷◌, length, Option};
+ghost use Rattle.std.specs.Prelude.{◌≡◌, ◌<◌, ℕ, ℤ, Bool, List, [], ◌∷◌, length, Option, Contains, false};
 ghost use Rattle.std.specs.List.{flat_map};
+ghost use Rattle.viz_base.specs.Trees.{is_inline};
 ghost use Rattle.viz_base.specs.declared.layouts.Band.{Band};
 ghost use Rattle.viz_base.specs.declared.layouts.Extent.{Extent};
 ghost use Rattle.viz_base.specs.declared.layouts.Waiting.{Waiting};
@@ -9,6 +10,8 @@ ghost use Rattle.layout_semantics.specs.InlineContent.{Item, content};
 ghost use Rattle.layout_semantics.specs.Preferred.{preferred};
 ghost use Rattle.layout_semantics.specs.LineHeights.{InlineContext, LineExtent, shift, tallest};
 ghost use Rattle.layout_semantics.specs.Lines.{SoFar, after_next};
+ghost use Rattle.layout_semantics.specs.Blocks.{kind_of};
+ghost use Rattle.layout_semantics.specs.FlowBoxes.{across, content_band, room, room_inside};
 ghost use Rattle.layout_semantics.specs.Floats.{FloatBox};
 ghost use Rattle.layout_semantics.specs.Leads.{is_up_to, lead, lead_step};
 ghost use Rattle.layout_semantics.specs.Clearance.{resolve, resolve_step};
@@ -45,6 +48,33 @@ pub fn a_definite_height_is_the_containers(tree: &BoxTree, world: World, height:
 /// A box of a line is raised by its own `vertical-align` and as the inline box around it is (CSS 2.1, 10.8.1).
 pub fn raises_add_up()
     ensures { (c : InlineContext) (at : ℕ) (e : LineExtent) → IsOnPage c.tree.boxes at → shift c at e ≡ shift_by_parent c at e }
+{}
+
+/// The containing block of a box in another is as wide as the content of that one, an inline box being none (CSS 2.1, 10.1).
+pub fn the_room_of_a_box_is_its_containers_content(
+    tree: &BoxTree,
+    world: World,
+    height: u32,
+    at: usize,
+    kid: usize,
+)
+    requires on_page { IsOnPage tree.now.boxes at }
+    requires inside { Contains (kids_of tree.now.boxes at) kid }
+    ensures { room tree.now world height kid ≡ room_inside tree.now world height at (room tree.now world height at) }
+{}
+
+/// The band that the flow of a box gives those in it is as wide as their containing block, where its own is (CSS 2.1, 9.4.1, 10.1).
+pub fn a_band_is_as_wide_as_the_containing_block(
+    tree: &BoxTree,
+    world: World,
+    height: u32,
+    at: usize,
+    kid: usize,
+)
+    requires on_page { IsOnPage tree.now.boxes at }
+    requires inside { Contains (kids_of tree.now.boxes at) kid }
+    requires container { is_inline (kind_of tree.now at) ≡ false }
+    ensures { (cb : Band ℤ) → across cb ≡ room tree.now world height at → across (content_band tree.now world height cb at) ≡ room tree.now world height kid }
 {}
 
 /// The lead of a box, from those of the boxes in it: more levels would change nothing (CSS 2.1, 8.3.1).

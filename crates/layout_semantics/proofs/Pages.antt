@@ -24,7 +24,7 @@ forest tree = IsForest-from tree.boxes tree.styles tree.fonts tree.parents tree.
 
 -- ---- members
 
-Each-contains : (P : ℕ → Type 0) (ks : List ℕ) (k : ℕ) → AllByRecursion P ks → Contains ks k → P k
+pub Each-contains : (P : ℕ → Type 0) (ks : List ℕ) (k : ℕ) → AllByRecursion P ks → Contains ks k → P k
 Each-contains P [] k a (i, l, e) = absurd (omega arith)
 Each-contains P (j ∷ ks) k a (zero, l, e) = subst P e a.0
 Each-contains P (j ∷ ks) k a (suc i, l, e) = Each-contains P ks k a.1 (i, omega arith, e)
@@ -94,7 +94,7 @@ order_to-kid (suc n) boxes at x kid t l c k =
         in_flat_map (order_to n boxes) (kids_of boxes at) found.0 kid found.1 (again found.0 (omega arith) found.2)
 
 -- the root is the first box
-root_place : (boxes : List BoxNode) (at : ℕ) → Contains (roots boxes) at → (0 ≡ at) × (0 < length boxes)
+pub root_place : (boxes : List BoxNode) (at : ℕ) → Contains (roots boxes) at → (0 ≡ at) × (0 < length boxes)
 root_place [] at (i, l, e) = absurd (omega arith)
 root_place (b ∷ bs) at (zero, l, e) = (e, omega arith)
 root_place (b ∷ bs) at (suc i, l, e) = absurd (omega arith)

@@ -1,7 +1,7 @@
 -- The sorts of boxes that normal flow, margins and clearance tell apart (CSS 2.1, 8.3.1, 9.4.1, 9.5.2).
-use Rattle.std.specs.Prelude.{ℕ, ℤ, ◌+ℤ◌, ◌-ℤ◌, Bool, true, false, not, ◌&&◌, ◌||◌, is_none, List, slice_get}
+use Rattle.std.specs.Prelude.{ℕ, zero, suc, ◌*◌, ℤ, pos, cond, ◌+ℤ◌, ◌-ℤ◌, Bool, true, false, not, ◌&&◌, ◌||◌, is_none, List, slice_get}
 use Rattle.std.specs.Option.{option_map_or}
-use Rattle.viz_base.specs.Trees.{is_replaced}
+use Rattle.viz_base.specs.Trees.{is_inline, is_replaced}
 use Rattle.viz_base.specs.declared.layouts.Band.{Band}
 use Rattle.viz_base.specs.declared.layouts.Widths.{Widths}
 use Rattle.viz_base.specs.declared.styles.Clear.{Clear}
@@ -91,3 +91,18 @@ content_from left x = from (left +ℤ x.margin_left +ℤ x.border_left +ℤ x.pa
 -- of a box in a containing block
 abbrev pub content_band : BoxTree → World → ℕ → Band ℤ → ℕ → Band ℤ
 content_band tree w height cb b = content_from cb.left (widths tree w height b (across cb))
+
+-- ---- the width of a box's containing block, from the root down (10.1)
+
+-- inside a box whose own containing block is `around` wide: an inline box is no containing block
+abbrev pub room_inside : BoxTree → World → ℕ → ℕ → ℤ → ℤ
+room_inside tree w height b around = cond (is_inline (kind_of tree b)) around (widths tree w height b around).content
+
+unfoldable pub room_to : ℕ → BoxTree → World → ℕ → ℕ → ℤ
+room_to zero tree w height b = pos (64 * w.w)
+room_to (suc levels) tree w height b =
+    option_map_or (λ parent. room_inside tree w height parent (room_to levels tree w height parent)) (parent_of tree.boxes b) (pos (64 * w.w))
+
+-- the root's is the viewport; a box's number is greater than its parent's
+abbrev pub room : BoxTree → World → ℕ → ℕ → ℤ
+room tree w height b = room_to (suc b) tree w height b
