@@ -1,7 +1,8 @@
-ghost use Rattle.std.specs.Prelude.{◌≡◌, ◌<◌, ◌^◌, codes, Err, IfOk};
+ghost use Rattle.std.specs.Prelude.{◌≡◌, ◌<◌, ◌≤◌, ◌^◌, codes, Err, IfOk, MatchResult};
 ghost use Rattle.css_semantics.specs.SheetsMarks.{text_of};
 ghost use Rattle.css_semantics.specs.Names.{same_name};
 ghost use Rattle.css_semantics.specs.SelectorTerminals.{comparison, is_value, pseudo};
+ghost use Rattle.css_select.specs.declared.faults.SelFault.TheVariants.{Bad};
 ghost use Rattle.css_select.specs.Gives.{Fails, Gives};
 ghost use Rattle.css_select.specs.Machine.{state_of, step, step_at, step_bracket, step_closing, step_colon, step_compound, step_dot, step_element, step_fresh, step_gap, step_language, step_language_end, step_name, step_function, step_pseudo, step_sign, step_test, step_value};
 
@@ -15,7 +16,7 @@ use viz_base::{Join, Mem, Test, Text, Token};
 
 /// A place of the text. In a text of `2^32` bytes and more it may not fit, which counts as want of memory.
 pub fn place(at: usize) -> Result<u32, Mem>
-    ensures is { IfOk result (λ n. n ≡ at) }
+    ensures is { MatchResult result (λ n. n ≡ at) (λ _. 2 ^ 32 ≤ at) }
     ensures small { IfOk result (λ n. n < 2 ^ 32) }
 {
     u32::try_from(at).map_err(|_| Mem)
@@ -23,7 +24,8 @@ pub fn place(at: usize) -> Result<u32, Mem>
 
 /// The fault of a token that can't stand where it stands.
 fn bad(token: &Token<'_>) -> SelFault
-    ensures { Fails result (Err token.now.at) }
+    ensures fails { Fails result (Err token.now.at) }
+    ensures named { token.now.at < 2 ^ 32 → result ≡ Bad token.now.at }
 {
     match place(token.at) {
         Ok(at) => SelFault::Bad(at),

@@ -12,6 +12,7 @@ pub mod SelectorTerminals
 pub mod SelectorGrammar
 pub mod Matching
 pub mod Specificity
+pub mod SelectorLaws
 pub mod Properties
 pub mod ValuesParts
 pub mod Values

@@ -6,6 +6,7 @@
 mod claims;
 mod laws;
 mod parts;
+mod selectors;
 mod sheets;
 mod statements;
 mod terminals;
@@ -15,6 +16,7 @@ mod winners;
 pub use claims::{Claim, Origin, Ranked, Ruleset, Standing, Weight};
 pub use laws::{escapes_resolve, ids_are_identifiers, tokens_are_unique, tokens_join};
 pub use parts::{Part, Refusal, Shorthand, Takes};
+pub use selectors::{joins_say_where, specificity_counts, specificity_order};
 pub use sheets::{one_list_of_declarations, one_sheet, one_stretch};
 pub use statements::Statement;
 pub use terminals::{Comparison, Pseudo, Terminal};

@@ -1,7 +1,8 @@
 ghost use Rattle.std.specs.Prelude.{◌≡◌, [], true, Ok, IfOk, MatchResult};
+ghost use Rattle.viz_base.specs.Answers.{FailsWith, Gives, GivesOneOf};
 ghost use Rattle.css_semantics.specs.SheetsReading.{read_on, statements, with_statement};
 ghost use Rattle.css_semantics.specs.SheetsGrammar.{AreDeclarationsOf, IsSheetOf};
-ghost use Rattle.css_syntax.specs.Faults.{Fails, Gives, GivesOf};
+ghost use Rattle.css_syntax.specs.Faults.{refusal_of, rules_in};
 
 use crate::declarations::declarations;
 use crate::statements::statement_item;
@@ -70,7 +71,7 @@ struct Reading {
 impl Reading {
     /// Goes past a statement, unless it is refused.
     fn take(&mut self, statement: Statement) -> Result<(), SheetFault>
-        ensures { MatchResult result (λ _. with_statement self.old.early self.old.rules.items statement ≡ Ok (self.new.early, self.new.rules.items)) (λ fault. Fails fault (with_statement self.old.early self.old.rules.items statement)) }
+        ensures { MatchResult result (λ _. with_statement self.old.early self.old.rules.items statement ≡ Ok (self.new.early, self.new.rules.items)) (λ fault. FailsWith (refusal_of fault) (λ given. with_statement self.old.early self.old.rules.items statement ≡ given)) }
     {
         match statement {
             Statement::Ruleset(rule) => {
@@ -95,7 +96,7 @@ impl Reading {
 
 /// The rules that the tokens hold.
 fn read_rules<'a>(alloc: Global, tokens: &'a [Token<'a>]) -> Result<Sheet, SheetFault>
-    ensures { Gives result (read_on true [] (statements tokens.now)) }
+    ensures { Gives rules_in refusal_of result (read_on true [] (statements tokens.now)) }
 {
     let mut reading = Reading {
         rules: Vec::new(alloc),
@@ -124,7 +125,7 @@ fn read_rules<'a>(alloc: Global, tokens: &'a [Token<'a>]) -> Result<Sheet, Sheet
 /// `Import` and `MediaQuery` for the first statement that is refused, at the place of its keyword; `TooManyRules` for more
 /// than 8,192 rules where none is refused; `Mem` for want of memory alone.
 pub fn read_sheet(alloc: Global, text: &str) -> Result<Sheet, SheetFault>
-    ensures { GivesOf result (IsSheetOf text.now) }
+    ensures { GivesOneOf rules_in refusal_of result (IsSheetOf text.now) }
 {
     let mut tokens = tokens(alloc, text)?.into_vec();
     close_by_end(&mut tokens);

@@ -1,7 +1,7 @@
-ghost use Rattle.std.specs.Prelude.{◌≡◌, ◌-◌, ◌≤◌, length, IfOk};
+ghost use Rattle.std.specs.Prelude.{◌≡◌, ◌-◌, ◌≤◌, ◌^◌, length, slice_get, MatchResult};
 ghost use Rattle.std.specs.List.{list_all, prefix_len, suffix_len};
 ghost use Rattle.css_semantics.specs.SheetsMarks.{is_gap};
-ghost use Rattle.css_semantics.specs.SheetsReading.{extent, start_of, trim_end, trim_start, trimmed};
+ghost use Rattle.css_semantics.specs.SheetsReading.{end_of, extent, start_of, trim_end, trim_start, trimmed};
 ghost use Rattle.css_syntax.specs.Classes.{class_has};
 
 use css_token::kinds::{is_gap, is_space};
@@ -80,7 +80,7 @@ pub fn trim<'a>(tokens: &'a [Token<'a>], class: Class) -> &'a [Token<'a>]
 
 /// A place or a length in a text. In a text of `2^32` bytes and more it may not fit, which counts as want of memory.
 pub fn place(at: usize) -> Result<u32, Mem>
-    ensures { IfOk result (λ n. n ≡ at) }
+    ensures { MatchResult result (λ n. n ≡ at) (λ _. 2 ^ 32 ≤ at) }
 {
     u32::try_from(at).map_err(|_| Mem)
 }
@@ -92,9 +92,9 @@ pub fn start_of(tokens: &[Token<'_>], at: usize) -> usize
     tokens.first().map_or(at, |token| token.at)
 }
 
-/// How many bytes the tokens span.
+/// How many bytes the tokens span. Where they end past `2^64`, which counts as want of memory, as no text does.
 pub fn extent(tokens: &[Token<'_>]) -> Result<usize, Mem>
-    ensures { IfOk result (λ n. n ≡ extent tokens.now) }
+    ensures { MatchResult result (λ n. n ≡ extent tokens.now) (λ _. 2 ^ 64 ≤ end_of (slice_get tokens.now (length tokens.now - 1))) }
 {
     let Some(last) = tokens.last() else {
         return Ok(0);
