@@ -1,6 +1,6 @@
 -- Pages whose renderings are worked out by hand, at a viewport of 320px and a default font size of 16px: in `body`, without
 -- margins, in `html`. Each letter of the font is half an em wide, its ascent is 0.8em and its descent 0.2em.
-use Rattle.std.specs.Prelude.{ℕ, ℤ, pos, true, false, List, [], ◌∷◌, map, replicate, Option, Some, None, codes}
+use Rattle.std.specs.Prelude.{ℕ, ◌*◌, ℤ, pos, true, false, List, [], ◌∷◌, map, flat_map, replicate, Option, Some, None, codes}
 use Rattle.viz_base.specs.declared.lengths.Length.{Length}
 use Rattle.viz_base.specs.declared.lengths.Length.TheVariants as of_length
 use Rattle.viz_base.specs.declared.lengths.LineHeight.TheVariants as of_line
@@ -27,6 +27,13 @@ sides top right bottom left = record { top = top; right = right; bottom = bottom
 
 abbrev pub none_on_sides : Sides Length
 none_on_sides = sides nothing nothing nothing nothing
+
+-- so many pixels
+abbrev pub px : ℕ → Length
+px n = of_length.Px (pos (64 * n))
+
+abbrev pub percent : ℕ → Length
+percent n = of_length.Pct (pos (1000000 * n))
 
 -- a block with initial values
 abbrev pub block_style : PlainStyle
@@ -108,6 +115,10 @@ edges left top right bottom = record { left = pos left; top = pos top; right = p
 -- the border rectangles of a page's rendering
 abbrev pub border_boxes : (t : PlainTree) → TreeKeeps t → List (Quad ℤ)
 border_boxes t ok = map (λ (p : Placed ℤ). p.border) (page_rendering (tree t ok) (record { w = 320; s = 16 }) 600).boxes
+
+-- the margin, border, padding and content rectangles
+abbrev pub rectangles : (t : PlainTree) → TreeKeeps t → List (Quad ℤ)
+rectangles t ok = flat_map (λ (p : Placed ℤ). p.margin ∷ p.border ∷ p.padding ∷ p.content ∷ []) (page_rendering (tree t ok) (record { w = 320; s = 16 }) 600).boxes
 
 -- ---- pages
 

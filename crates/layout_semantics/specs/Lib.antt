@@ -35,3 +35,7 @@ pub mod Flow
 pub mod Page
 pub mod PlainPages
 pub mod Examples
+pub mod ExampleFloats
+pub mod ExampleSizes
+pub mod ExampleMargins
+pub mod ExampleLines

@@ -2,6 +2,10 @@
 #![tactic(auto)]
 
 mod bounds;
+pub mod example_floats;
+pub mod example_lines;
+pub mod example_margins;
+pub mod example_sizes;
 pub mod examples;
 mod laws;
 mod order;
