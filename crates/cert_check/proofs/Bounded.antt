@@ -1,16 +1,18 @@
 -- The rendering of a job's page is bounded.
-use Rattle.std.proofs.Common.{◌≡◌, ℕ, zero, suc, ◌≤◌, ℤ, List, [], ◌∷◌, map, Some, subst, arith}
+use Rattle.std.proofs.Common.{◌≡◌, ℕ, zero, suc, ◌≤◌, ℤ, List, [], ◌∷◌, map, Some, IsTrue, subst, arith}
 use Rattle.std.specs.Prelude.{slice_get}
 use Rattle.std.proofs.lemmas.Option.{same_Some}
 use Rattle.viz_base.specs.declared.worlds.World.{World}
 use Rattle.viz_base.specs.declared.jobs.Job.{Job}
 use Rattle.viz_base.specs.declared.renderings.Placed.{Placed}
 use Rattle.layout_semantics.specs.Order.{page_order}
-use Rattle.layout_semantics.specs.Blocks.{top_of, bottom_of, placed_block, rectangle}
-use Rattle.layout_semantics.specs.Rendering.{rendering}
-use Rattle.layout_semantics.specs.Limits.{IsSmallPage}
+use Rattle.layout_semantics.specs.Page.{page_rendering}
+use Rattle.layout_semantics.specs.Ready.{ready}
 use Rattle.layout_semantics.proofs.Forest.{IsForest-from}
-use Rattle.layout_semantics.proofs.Sizes.{top_low, bottom_low}
+use Rattle.lay_flow.specs.Limits.{IsSmallPage}
+use Rattle.lay_flow.specs.steps.Stack.{top_of, bottom_of, placed_block, rectangle}
+use Rattle.lay_flow.proofs.ReadyFlow.{ready-page}
+use Rattle.lay_flow.proofs.Sizes.{top_low, bottom_low}
 use Rattle.logic_semantics.specs.Ranges.{IsInRange}
 use Rattle.vis_truth.specs.Scenes.{IsBoundedQuad, IsBoundedBox, IsBoundedRendering}
 
@@ -30,8 +32,9 @@ bounded_at job world narrow [] place b is = absurd (cc)
 bounded_at job world narrow (at ∷ ats) zero b is = subst (λ x. IsBoundedBox x) (same_Some (placed_block job.tree world at) b is) (bounded_block job world at narrow)
 bounded_at job world narrow (at ∷ ats) (suc place) b is = bounded_at job world narrow ats place b is
 
-pub bounded_rendering : (job : Job) (world : World) → world.w ≤ 16384 → IsBoundedRendering (rendering job.tree world job.height)
-bounded_rendering job world narrow = record { each = bounded_at job world narrow (page_order job.tree.boxes) }
+pub bounded_rendering : (job : Job) (world : World) → IsTrue (ready job.tree) → world.w ≤ 16384 → IsBoundedRendering (page_rendering job.tree world job.height)
+bounded_rendering job world is_ready narrow =
+    rw (ready-page job.tree is_ready world job.height) (record { each = bounded_at job world narrow (page_order job.tree.boxes) })
 
 -- the widths of a job's range
 pub narrow_world : (job : Job) (world : World) → IsInRange job.range world → world.w ≤ 16384

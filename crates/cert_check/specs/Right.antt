@@ -4,7 +4,7 @@ use Rattle.viz_base.specs.declared.worlds.World.{World}
 use Rattle.viz_base.specs.declared.worlds.Rect.{Rect}
 use Rattle.viz_base.specs.declared.jobs.Job.{Job}
 use Rattle.viz_base.specs.declared.renderings.Rendering.{Rendering}
-use Rattle.layout_semantics.specs.Rendering.{rendering}
+use Rattle.layout_semantics.specs.Page.{page_rendering}
 use Rattle.logic_semantics.specs.Ranges.{IsInRange, holds_at}
 use Rattle.logic_semantics.specs.Ranges.{Holds as HoldsOver}
 use Rattle.cert_text.specs.declared.certificate.Cert.{Cert}
@@ -14,7 +14,7 @@ use Rattle.cert_check.specs.Nodes.{Decision, by_row, by_worlds, Node, nodes_of}
 
 -- the rendering of a job's page at a world
 abbrev pub rendering_of : Job → World → Rendering ℤ
-rendering_of job world = rendering job.tree world job.height
+rendering_of job world = page_rendering job.tree world job.height
 
 -- the truth of a job's formula at a world
 abbrev pub is_true_at : Job → World → Bool

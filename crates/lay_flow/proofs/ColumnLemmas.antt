@@ -6,11 +6,11 @@ use Rattle.viz_base.specs.declared.trees.BoxNode.{BoxNode}
 use Rattle.viz_base.specs.declared.trees.BoxTree.{BoxTree}
 use Rattle.viz_calc.specs.World.{Reading}
 use Rattle.layout_semantics.specs.Order.{kids_of, document_order, roots}
-use Rattle.layout_semantics.specs.Blocks.{height_of}
+use Rattle.lay_flow.specs.steps.Stack.{height_of}
 use Rattle.layout_semantics.proofs.Forest.{IsKid}
 use Rattle.layout_semantics.proofs.Orders.{document_order-is}
-use Rattle.lay_flow.specs.Walks.{stacked, walk}
-use Rattle.lay_flow.specs.Columns.{AreInside, AllInside, column_walk, pending, column_weight, weight}
+use Rattle.lay_flow.specs.steps.Walks.{stacked, walk}
+use Rattle.lay_flow.specs.steps.Columns.{AreInside, AllInside, column_walk, pending, column_weight, weight}
 use Rattle.lay_flow.specs.declared.engine.Column.{Column}
 use Rattle.lay_flow.proofs.WalkLemmas.{walk-is}
 use Rattle.layout_semantics.proofs.Pages.{forest}

@@ -6,10 +6,10 @@ use Rattle.viz_base.specs.declared.worlds.World.{World}
 use Rattle.viz_calc.specs.State.{AllSmall}
 use Rattle.viz_calc.proofs.Smalls.{AllSmall-append}
 use Rattle.layout_semantics.specs.Order.{page_order}
-use Rattle.layout_semantics.specs.Blocks.{top_of}
-use Rattle.layout_semantics.specs.Limits.{IsSmallPage}
-use Rattle.layout_semantics.proofs.Sizes.{height_low, top_low, bottom_low}
-use Rattle.lay_flow.specs.Walks.{block_parts, layout_parts, pair}
+use Rattle.lay_flow.specs.steps.Stack.{top_of}
+use Rattle.lay_flow.specs.Limits.{IsSmallPage}
+use Rattle.lay_flow.proofs.Sizes.{height_low, top_low, bottom_low}
+use Rattle.lay_flow.specs.steps.Walks.{block_parts, layout_parts, pair}
 use Rattle.layout_semantics.proofs.Pages.{forest}
 
 block_fits : (tree : BoxTree) (w : World) (at : ℕ) → IsSmallPage tree → w.w ≤ 16384 → AllSmall (block_parts tree w (pair at (top_of tree at)))

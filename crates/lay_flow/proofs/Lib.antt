@@ -2,3 +2,9 @@ pub mod TreeReads
 pub mod WalkLemmas
 pub mod ColumnLemmas
 pub mod Fitting
+pub mod Tops
+pub mod Sizes
+pub mod ReadyBoxes
+pub mod ReadyTerms
+pub mod ReadyLeads
+pub mod ReadyFlow

@@ -6,7 +6,8 @@ use Rattle.viz_base.specs.declared.trees.BoxNode.{BoxNode}
 use Rattle.viz_base.specs.declared.trees.BoxTree.{BoxTree}
 use Rattle.viz_base.specs.declared.trees.Kind.TheVariants as of_kind
 use Rattle.layout_semantics.specs.Order.{kids_of}
-use Rattle.layout_semantics.specs.Blocks.{absolute, height_of, kind_of, node_of}
+use Rattle.layout_semantics.specs.Blocks.{kind_of, node_of}
+use Rattle.lay_flow.specs.steps.Stack.{absolute, height_of}
 
 -- a box at its place
 pub box_at : (tree : BoxTree) (at : ℕ) (b : BoxNode) → at < length tree.boxes → b ≡ get_or tree.boxes at b → slice_get tree.boxes at ≡ Some b

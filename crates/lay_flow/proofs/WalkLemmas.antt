@@ -7,11 +7,12 @@ use Rattle.viz_base.specs.declared.trees.BoxNode.{BoxNode}
 use Rattle.viz_base.specs.declared.trees.BoxTree.{BoxTree}
 use Rattle.viz_base.specs.declared.worlds.World.{World}
 use Rattle.layout_semantics.specs.Order.{kids_of, order_to, document_order, roots, page_order}
-use Rattle.layout_semantics.specs.Blocks.{height_of, heights, parent_of, top_of, placed_block}
+use Rattle.layout_semantics.specs.Blocks.{parent_of}
+use Rattle.lay_flow.specs.steps.Stack.{height_of, heights, top_of, placed_block}
 use Rattle.layout_semantics.proofs.Forest.{IsForest, IsKid}
 use Rattle.layout_semantics.proofs.Pages.{forest, root-alone}
-use Rattle.layout_semantics.proofs.Tops.{IsSettled, IsSettled-root, IsSettled-kid, top_of-root, heights-append, kid-top}
-use Rattle.lay_flow.specs.Walks.{stacked, walk_to, walk, block_at, block_parts, layout_parts}
+use Rattle.lay_flow.proofs.Tops.{IsSettled, IsSettled-root, IsSettled-kid, top_of-root, heights-append, kid-top}
+use Rattle.lay_flow.specs.steps.Walks.{stacked, walk_to, walk, block_at, block_parts, layout_parts}
 
 stacked-same : (R S : ℕ → ℤ → List (ℕ × ℤ)) (height : ℕ → ℤ) (P : ℕ → Type 0) (ks : List ℕ) (y : ℤ) → AllByRecursion P ks → ((k : ℕ) (z : ℤ) → P k → R k z ≡ S k z) → stacked R height ks y ≡ stacked S height ks y
 stacked-same R S height P [] y a e = refl

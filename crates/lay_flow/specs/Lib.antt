@@ -1,3 +1,2 @@
-pub mod Walks
-pub mod Columns
+pub mod steps
 pub mod Limits

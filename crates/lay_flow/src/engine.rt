@@ -3,14 +3,15 @@ ghost use Rattle.viz_calc.specs.World.{Reading};
 ghost use Rattle.viz_calc.specs.State.{AllSmall};
 ghost use Rattle.viz_calc.specs.Run.{Stands, Goes, Fits, Blames, BlamesButMem};
 ghost use Rattle.viz_calc.specs.Renderings.{quad_at, placed_at, rendering_at};
-ghost use Rattle.layout_semantics.specs.Blocks.{absolute, height_of, rectangle, plain_box};
-ghost use Rattle.layout_semantics.specs.Rendering.{rendering};
+ghost use Rattle.layout_semantics.specs.Blocks.{plain_box};
+ghost use Rattle.lay_flow.specs.steps.Stack.{absolute, height_of, rectangle, stack};
+ghost use Rattle.layout_semantics.specs.Page.{page_rendering};
 ghost use Rattle.layout_semantics.specs.Ready.{ready};
 ghost use Rattle.std.specs.List.{flat_map};
 ghost use Rattle.layout_semantics.specs.Order.{kids_of, roots};
 ghost use Rattle.lay_flow.specs.Limits.{IsWithinLimits};
-ghost use Rattle.lay_flow.specs.Columns.{AreInside, AllInside, column_walk, pending, column_weight, weight};
-ghost use Rattle.lay_flow.specs.Walks.{block_at, block_parts, rectangle_parts, layout_parts, pair};
+ghost use Rattle.lay_flow.specs.steps.Columns.{AreInside, AllInside, column_walk, pending, column_weight, weight};
+ghost use Rattle.lay_flow.specs.steps.Walks.{block_at, block_parts, rectangle_parts, layout_parts, pair};
 
 use std::alloc::Global;
 use viz_base::{BoxTree, Kind, Length, List, Placed, Quad, Rendering};
@@ -203,18 +204,10 @@ fn advance<'a, S: Steady>(
     push(calc, columns, Column { boxes: kids, top });
 }
 
-/// The rendering of a page in a viewport of a height in pixels, at each reading that is open at the end.
-///
-/// Lengths are in 1/64 px.
-pub fn render<S: Steady>(
-    alloc: Global,
-    calc: &mut S,
-    tree: &BoxTree,
-    height: u32,
-) -> Rendering<S::Num>
-    requires { IsTrue (ready tree.now) }
+/// Places all blocks of a page, one below the other.
+fn stack_up<S: Steady>(alloc: Global, calc: &mut S, tree: &BoxTree) -> Rendering<S::Num>
     ensures goes { Goes (S.run calc.old) (S.run calc.new) }
-    ensures value { (e : Reading) → IsTrue ((S.run calc.new).is_open e) → rendering_at S.at result e ≡ rendering tree.now e.world height }
+    ensures value { (e : Reading) → IsTrue ((S.run calc.new).is_open e) → rendering_at S.at result e ≡ stack tree.now e.world }
     ensures cause { BlamesButMem (S.run calc.old) (S.run calc.new) (IsWithinLimits tree.now (S.run calc.old).is_open) }
 {
     let mut out = List::new(alloc);
@@ -232,4 +225,21 @@ pub fn render<S: Steady>(
         advance(calc, tree, column, &mut columns, &mut out);
     }
     Rendering { boxes: out }
+}
+
+/// The rendering of a page in a viewport of a height in pixels, at each reading that is open at the end.
+///
+/// Lengths are in 1/64 px.
+pub fn render<S: Steady>(
+    alloc: Global,
+    calc: &mut S,
+    tree: &BoxTree,
+    height: u32,
+) -> Rendering<S::Num>
+    requires { IsTrue (ready tree.now) }
+    ensures goes { Goes (S.run calc.old) (S.run calc.new) }
+    ensures value { (e : Reading) → IsTrue ((S.run calc.new).is_open e) → rendering_at S.at result e ≡ page_rendering tree.now e.world height }
+    ensures cause { BlamesButMem (S.run calc.old) (S.run calc.new) (IsWithinLimits tree.now (S.run calc.old).is_open) }
+{
+    stack_up(alloc, calc, tree)
 }

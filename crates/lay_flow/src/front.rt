@@ -1,15 +1,14 @@
 ghost use Rattle.std.specs.Prelude.{◌≡◌, ◌≤◌, IsTrue, IfOk, IfErr};
 ghost use Rattle.viz_calc.specs.World.{Reading};
-ghost use Rattle.viz_calc.specs.State.{Grows, CauseButMem};
+ghost use Rattle.viz_calc.specs.State.{Grows, AreOpen, CauseButMem};
 ghost use Rattle.viz_calc.specs.Renderings.{rendering_at};
-ghost use Rattle.layout_semantics.specs.Rendering.{rendering};
+ghost use Rattle.layout_semantics.specs.Page.{page_rendering};
 ghost use Rattle.layout_semantics.specs.Ready.{ready};
-ghost use Rattle.layout_semantics.specs.Limits.{IsSmallPage};
-ghost use Rattle.lay_flow.specs.Limits.{IsWithinLimits};
+ghost use Rattle.lay_flow.specs.Limits.{IsSmallPage, IsWithinLimits};
 
 use crate::engine;
 use std::alloc::Global;
-use viz_base::{BoxTree, Mem, Rendering, World};
+use viz_base::{BoxTree, Job, Mem, Rendering, World};
 use viz_calc::{Calc, Halt, Latch, Plain};
 
 /// The rendering of a page in a viewport of a height in pixels, at each world that is open at the end.
@@ -24,7 +23,8 @@ pub fn render<C: Calc>(
 ) -> Result<Rendering<C::Num>, Halt>
     requires { IsTrue (ready tree.now) }
     ensures grows { Grows (C.state calc.old) (C.state calc.new) }
-    ensures value { IfOk result (λ r. (e : Reading) → IsTrue ((C.state calc.new).is_open e) → rendering_at C.at r e ≡ rendering tree.now e.world height) }
+    ensures value { IfOk result (λ r. (e : Reading) → IsTrue ((C.state calc.new).is_open e) → rendering_at C.at r e ≡ page_rendering tree.now e.world height) }
+    ensures kept { AreOpen (C.state calc.old).kept (C.state calc.new) }
     ensures cause { IfErr result (CauseButMem (C.state calc.old) (C.state calc.new) (IsWithinLimits tree.now (C.state calc.old).is_open)) }
 {
     let mut latch = Latch::new(calc);
@@ -43,7 +43,7 @@ pub fn render_at(
     requires ready { IsTrue (ready tree.now) }
     requires small { IsSmallPage tree.now }
     requires narrow { world.w ≤ 16384 }
-    ensures { IfOk result (λ r. r ≡ rendering tree.now world height) }
+    ensures { IfOk result (λ r. r ≡ page_rendering tree.now world height) }
 {
     let mut calc = Plain::new(world);
     match render(alloc, &mut calc, tree, height) {
@@ -52,3 +52,8 @@ pub fn render_at(
         Err(Halt::Coeff | Halt::Open) => unreachable!(),
     }
 }
+
+/// The page of a job is small.
+pub fn the_page_of_a_job_is_small(job: &Job)
+    ensures { IsSmallPage job.now.tree }
+{}

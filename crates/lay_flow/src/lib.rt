@@ -8,7 +8,7 @@ pub mod engine;
 mod front;
 
 pub use coverage::ready;
-pub use front::{render, render_at};
+pub use front::{render, render_at, the_page_of_a_job_is_small};
 
 #[cfg(test)]
 mod tests {

@@ -1,7 +1,7 @@
 -- The entries of a page are those of its boxes in document order.
 use Rattle.std.proofs.Common.{◌≡◌, ℕ, zero, suc, ◌+◌, ◌<◌, ◌≤◌, ℤ, pos, ◌*◌, Bool, true, false, not, ◌||◌, ◌&&◌, IsTrue, List, [], ◌∷◌, ◌++◌, length, flat_map, map, refl, sym, ap, ◌∙◌, subst, arith, append-nil, Option, None, Some, slice_get}
 use Rattle.std.specs.Option.{option_map_or}
-use Rattle.std.specs.List.{AllByRecursion, list_all, list_any}
+use Rattle.std.specs.List.{AllByRecursion}
 use Rattle.std.proofs.lemmas.List.Concat.{flat_map_single}
 use Rattle.viz_base.specs.Trees.{is_floated, is_inline_level}
 use Rattle.viz_base.specs.declared.layouts.Band.{Band}
@@ -12,10 +12,11 @@ use Rattle.viz_base.specs.declared.trees.Kind.{Kind}
 use Rattle.viz_base.specs.declared.worlds.World.{World}
 use Rattle.layout_semantics.specs.Order.{kids_of, document_order, roots, page_order}
 use Rattle.layout_semantics.specs.FlowBoxes.{flow_children}
-use Rattle.layout_semantics.specs.InlineContent.{has_line, holds_inline, is_inline_level_at, makes_line, content}
+use Rattle.layout_semantics.specs.InlineContent.{has_line, is_inline_level_at}
 use Rattle.layout_semantics.specs.Flow.{Progress, flow_to, flow_step, whole_alone, line_content}
 use Rattle.layout_semantics.specs.Page.{page_rendering}
-use Rattle.layout_semantics.proofs.Forest.{IsKid, both}
+use Rattle.layout_semantics.proofs.BlocksAlone.{no_lines, all_flow, passes}
+use Rattle.layout_semantics.proofs.Forest.{IsKid}
 use Rattle.layout_semantics.proofs.Pages.{forest}
 use Rattle.layout_laws.specs.Entries.{named_by, name_of, holds_blocks_alone}
 use Rattle.layout_laws.proofs.Flowing.{Fills, entries, of_box, all_of, alone-entries, children-entries}
@@ -66,40 +67,19 @@ module _ (tree : BoxTree) (w : World) (height : ℕ) (counts : Kind → Bool) (l
 
 -- ---- a page of blocks and floats alone
 
-pub passes : {A : Type 0} (test : A → Bool) (xs : List A) (i : ℕ) (x : A) → IsTrue (list_all test xs) → slice_get xs i ≡ Some x → IsTrue (test x)
-passes test [] i x t e = absurd (cc)
-passes test (y ∷ ys) zero x t e = subst (λ z. IsTrue (test z)) (some_same y x e) (both (test y) (list_all test ys) t).0
-  where
-    some_same : {A : Type 0} (y x : A) → Some y ≡ Some x → y ≡ x
-    some_same y x e = cc
-passes test (y ∷ ys) (suc i) x t e = passes test ys i x (both (test y) (list_all test ys) t).1 e
-
 module _ (tree : BoxTree) (no_inline : (k : ℕ) → is_inline_level_at tree k ≡ false) where
-  none_inline : (ks : List ℕ) → list_any (is_inline_level_at tree) ks ≡ false
-  none_inline [] = refl
-  none_inline (k ∷ ks) = ap (λ c. c || list_any (is_inline_level_at tree) ks) (no_inline k) ∙ none_inline ks
-
-  pub holds_none : (b : ℕ) → holds_inline tree b ≡ false
-  holds_none b = none_inline (kids_of tree.boxes b)
-
-  pub no_lines : (b : ℕ) → has_line tree b ≡ false
-  no_lines b = ap (λ c. c && list_any (makes_line tree) (content tree b)) (holds_none b)
-
-  pub all_flow : (b : ℕ) → flow_children tree b ≡ kids_of tree.boxes b
-  all_flow b = rw (holds_none b)
-
   within : (b : ℕ) (ks : List ℕ) → AllByRecursion (IsKid tree.boxes b) ks → AllByRecursion (λ k. (b < k) × (k < length tree.boxes)) ks
   within b [] a = tt
   within b (k ∷ ks) a = ((a.0.after, a.0.within), within b ks a.1)
 
   flows : (w : World) (height : ℕ) (counts : Kind → Bool) (b : ℕ) → IsFlow tree w height counts b
   flows w height counts b = record {
-    same = ap (flat_map (all_of tree w height counts)) (all_flow b);
-    inside = subst (AllByRecursion (λ k. (b < k) × (k < length tree.boxes))) (sym (all_flow b)) (within b (kids_of tree.boxes b) ((forest tree).kids b));
+    same = ap (flat_map (all_of tree w height counts)) (all_flow tree no_inline b);
+    inside = subst (AllByRecursion (λ k. (b < k) × (k < length tree.boxes))) (sym (all_flow tree no_inline b)) (within b (kids_of tree.boxes b) ((forest tree).kids b));
   }
 
   lines_none : (w : World) (height : ℕ) (counts : Kind → Bool) → LinesFill tree w height counts
-  lines_none w height counts inside levels fills b cb top p l m e = absurd (let none = no_lines b in let no : true ≡ false = cc in different no)
+  lines_none w height counts inside levels fills b cb top p l m e = absurd (let none = no_lines tree no_inline b in let no : true ≡ false = cc in different no)
     where
       different : true ≡ false → ⊥
       different e = grind arith

@@ -53,10 +53,6 @@ pub mod Upward
 pub mod LineSteps
 pub mod Apart
 pub mod LowestBottoms
-pub mod ReadyBoxes
-pub mod ReadyTerms
-pub mod ReadyLeads
-pub mod ReadyFlow
 pub mod PlacedFloats
 pub mod FlowFloats
 pub mod ContextHeights

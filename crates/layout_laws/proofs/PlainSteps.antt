@@ -19,7 +19,7 @@ use Rattle.layout_semantics.proofs.Forest.{IsKid}
 use Rattle.layout_semantics.proofs.Pages.{forest}
 use Rattle.layout_laws.specs.PlainFlow.{HasPlainBlocks, leading, all_margins, collapses, after_child, trailing}
 use Rattle.layout_laws.proofs.Flowing.{frame_of}
-use Rattle.layout_laws.proofs.Entries.{no_lines, holds_none}
+use Rattle.layout_semantics.proofs.BlocksAlone.{no_lines, holds_none}
 use Rattle.layout_laws.proofs.PlainLeads.{resolve-plain}
 use Rattle.layout_laws.proofs.PlainLevels.{collapses-is, trailing-is, box_margins}
 

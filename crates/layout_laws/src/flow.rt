@@ -6,8 +6,6 @@ ghost use Rattle.layout_semantics.specs.Order.{kids_of, page_order};
 ghost use Rattle.layout_semantics.specs.FlowBoxes.{is_open_above};
 ghost use Rattle.layout_semantics.specs.Margins.{collapsed};
 ghost use Rattle.layout_semantics.specs.Page.{page_rendering};
-ghost use Rattle.layout_semantics.specs.Ready.{ready};
-ghost use Rattle.layout_semantics.specs.Rendering.{rendering};
 ghost use Rattle.layout_laws.specs.Entries.{named_by, name_of, holds_blocks_alone, is_whole};
 ghost use Rattle.layout_laws.specs.PlainFlow.{HasPlainBlocks, IsEntryOf, content_of, leading, all_margins, collapses, trailing};
 
@@ -61,11 +59,4 @@ pub fn a_first_block_shares_its_parents_top(tree: &BoxTree, world: World, height
         → kids_of tree.now.boxes a ≡ passed ++ c ∷ after → IsTrue (list_all (collapses tree.now world height) passed)
         → 0 < a → is_open_above tree.now a ≡ true
         → lower.border.top ≡ outer.border.top }
-{}
-
-/// A page of blocks of fixed heights without margins, borders, paddings, floats and `clear` is a stack of blocks: each is as wide as the
-/// viewport and stands below its parent's top by the heights of the blocks before it (CSS 2.1, 9.4.1, 10.3.3, 10.6.3).
-pub fn a_plain_page_is_a_stack_of_blocks(tree: &BoxTree, world: World, height: u32)
-    requires { IsTrue (ready tree.now) }
-    ensures { page_rendering tree.now world height ≡ rendering tree.now world height }
 {}

@@ -1,5 +1,4 @@
 pub mod Forest
 pub mod Orders
-pub mod Tops
-pub mod Sizes
 pub mod Pages
+pub mod BlocksAlone

@@ -1,16 +1,14 @@
-use Rattle.std.proofs.Common.{◌≡◌, ℕ, zero, suc, ◌+◌, ◌<◌, ◌≤◌, ◌⊎◌, inl, inr, List, [], ◌∷◌, ◌++◌, length, Option, None, Some, slice_get, Contains, get_or, refl, sym, ap, ◌∙◌, subst, arith, append_assoc, pos, ◌+ℤ◌, IsTrue, nat_lt}
+use Rattle.std.proofs.Common.{◌≡◌, ℕ, zero, suc, ◌+◌, ◌<◌, ◌≤◌, ◌⊎◌, inl, inr, List, [], ◌∷◌, ◌++◌, length, Option, None, Some, slice_get, Contains, get_or, refl, sym, ap, ◌∙◌, subst, arith, IsTrue, nat_lt}
 use Rattle.std.specs.List.{flat_map, AllByRecursion}
 use Rattle.std.specs.Option.{option_and_then}
 use Rattle.std.proofs.lemmas.List.Elements.{Contains-append_left, Contains-append_right, Contains-append_cases}
 use Rattle.std.proofs.lemmas.Option.{slice_get-get_or}
-use Rattle.std.proofs.lemmas.Int.{ints}
 use Rattle.viz_base.specs.Trees.{ascends}
 use Rattle.viz_base.specs.declared.trees.BoxNode.{BoxNode}
 use Rattle.viz_base.specs.declared.trees.BoxTree.{BoxTree}
 use Rattle.layout_semantics.specs.Order.{kids_of, order_to, document_order, roots, page_order, IsOnPage}
-use Rattle.layout_semantics.specs.Blocks.{parent_of, top_of, height_of}
+use Rattle.layout_semantics.specs.Blocks.{parent_of}
 use Rattle.layout_semantics.proofs.Forest.{IsForest, IsKid, IsForest-from, both, ascends-each}
-use Rattle.layout_semantics.proofs.Tops.{IsSettled, IsSettled-root, IsSettled-kid, top_of-root, kid-top, heights-append}
 
 pub root-alone : (tree : BoxTree) → parent_of tree.boxes 0 ≡ None
 root-alone tree = by_box (slice_get tree.boxes 0) refl
@@ -111,47 +109,6 @@ page_placed boxes x t (IsOnPage.root at c) =
 page_placed boxes x t (IsOnPage.inside at kid p k) =
     let found = from_flat_map (document_order boxes) (roots boxes) at (page_placed boxes at t p) in
     in_flat_map (document_order boxes) (roots boxes) found.0 kid found.1 (order_to-kid (length boxes) boxes found.0 at kid t (omega arith) found.2 k)
-
--- ---- upper edges on the page
-
-pub settled : (tree : BoxTree) (at : ℕ) → IsOnPage tree.boxes at → IsSettled tree at
-settled tree at (IsOnPage.root at' c) =
-    subst (IsSettled tree) (root_place tree.boxes at' c).0 (IsSettled-root tree 0 (root-alone tree))
-settled tree at (IsOnPage.inside up kid p k) =
-    IsSettled-kid tree up kid (Each-contains (IsKid tree.boxes up) (kids_of tree.boxes up) kid ((forest tree).kids up) k) (settled tree up p)
-
--- two boxes next to one another
-next_to : (ks : List ℕ) (i a b : ℕ) → slice_get ks i ≡ Some a → slice_get ks (suc i) ≡ Some b → (done : List ℕ) × (rest : List ℕ) × (ks ≡ done ++ a ∷ (b ∷ rest))
-next_to [] i a b e f = absurd (cc)
-next_to (x ∷ []) zero a b e f = absurd (cc)
-next_to (x ∷ (y ∷ ks)) zero a b e f = ([], ks, cc)
-next_to (x ∷ ks) (suc i) a b e f =
-    let later = next_to ks i a b e f in
-    (x ∷ later.0, later.1, ap (λ (l : List ℕ). x ∷ l) later.2)
-
-pub later-top : (tree : BoxTree) (at i a b : ℕ) → IsOnPage tree.boxes at → slice_get (kids_of tree.boxes at) i ≡ Some a → slice_get (kids_of tree.boxes at) (suc i) ≡ Some b → top_of tree b ≡ top_of tree a +ℤ height_of tree a
-later-top tree at i a b p e f =
-    let split = next_to (kids_of tree.boxes at) i a b e f in
-    let s = settled tree at p in
-    let upper = (kid-top tree at split.0 a (b ∷ split.1) (forest tree) s split.2).1 in
-    let regroup = split.2 ∙ sym (append_assoc split.0 (a ∷ []) (b ∷ split.1)) in
-    let lower = (kid-top tree at (split.0 ++ a ∷ []) b split.1 (forest tree) s regroup).1 in
-    let more = heights-append tree split.0 (a ∷ []) in
-    omega (arith, ints)
-
-pub first-top : (tree : BoxTree) (at a : ℕ) → IsOnPage tree.boxes at → slice_get (kids_of tree.boxes at) 0 ≡ Some a → top_of tree a ≡ top_of tree at
-first-top tree at a p e = by_kids (kids_of tree.boxes at) refl
-  where
-    by_kids : (ks : List ℕ) → kids_of tree.boxes at ≡ ks → top_of tree a ≡ top_of tree at
-    by_kids [] f = absurd (let none = ap (λ l. slice_get l 0) f in cc)
-    by_kids (k ∷ ks) f =
-        let own = ap (λ l. slice_get l 0) f in
-        let same : k ≡ a = cc in
-        let upper = (kid-top tree at [] k ks (forest tree) (settled tree at p) f).1 in
-        subst (λ z. top_of tree z ≡ top_of tree at) same (omega (arith, ints))
-
-pub root-top : (tree : BoxTree) → top_of tree 0 ≡ pos 0
-root-top tree = top_of-root tree 0 (root-alone tree)
 
 -- ---- no box twice
 

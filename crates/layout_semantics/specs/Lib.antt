@@ -1,8 +1,6 @@
 pub mod Order
 pub mod Blocks
-pub mod Rendering
 pub mod Ready
-pub mod Limits
 pub mod Lists
 pub mod Elements
 pub mod Parts

@@ -1,8 +1,6 @@
 ghost use Rattle.std.specs.Prelude.{◌≡◌, ◌<◌, ◌≤◌, ◌∷◌, length};
 ghost use Rattle.std.specs.List.{flat_map};
 ghost use Rattle.layout_semantics.specs.Order.{document_order, order_to, kids_of};
-ghost use Rattle.layout_semantics.specs.Rendering.{rendering};
-ghost use Rattle.layout_semantics.specs.Ready.{ready};
 
 use viz_base::BoxTree;
 

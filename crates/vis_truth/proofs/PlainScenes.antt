@@ -6,18 +6,12 @@ use Rattle.viz_base.specs.declared.renderings.Placed.{Placed}
 use Rattle.viz_base.specs.declared.renderings.Rendering.{Rendering}
 use Rattle.viz_base.specs.Formulas.{has_small_terms}
 use Rattle.viz_calc.specs.World.{Reading}
-use Rattle.viz_calc.specs.State.{Rose, Cause, Grows}
-use Rattle.viz_calc.specs.Plain.{plain_state, plain_reading}
+use Rattle.viz_calc.specs.State.{Rose, Cause}
+use Rattle.viz_calc.specs.Plain.{plain_state}
 use Rattle.viz_calc.specs.Renderings.{placed_at, rendering_at}
 use Rattle.viz_calc.specs.declared.calc.Halt.{Halt}
 use Rattle.viz_calc.specs.declared.calc.Halt.TheVariants.{Mem, Coeff, Open}
 use Rattle.vis_truth.specs.Scenes.{IsBoundedRendering, IsTame}
-
-pub reading-open : (w : World) → IsTrue ((plain_state w).is_open (plain_reading w))
-reading-open w = grind (arith, nat_tests)
-
-pub world-stays : (old new : World) → Grows (plain_state old) (plain_state new) → new ≡ old
-world-stays old new g = let o = g.closes (plain_reading new) (reading-open new) in grind (arith, nat_tests)
 
 boxes-same : (e : Reading) (boxes : List (Placed ℤ)) → map (λ p. placed_at (λ n e. n) p e) boxes ≡ boxes
 boxes-same e [] = refl

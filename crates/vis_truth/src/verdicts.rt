@@ -1,6 +1,6 @@
 ghost use Rattle.std.specs.Prelude.{◌≡◌, IsTrue, IfOk, IfErr};
 ghost use Rattle.viz_calc.specs.World.{Reading};
-ghost use Rattle.viz_calc.specs.State.{Grows, Cause};
+ghost use Rattle.viz_calc.specs.State.{Grows, AreOpen, Cause};
 ghost use Rattle.logic_semantics.specs.Truth.{truth, truth_in};
 ghost use Rattle.vis_truth.specs.Names.{places_of};
 ghost use Rattle.vis_truth.specs.Scenes.{scene_at, IsTame};
@@ -22,6 +22,7 @@ pub fn truth<C: Calc>(
 ) -> Result<bool, Halt>
     ensures grows { Grows (C.state calc.old) (C.state calc.new) }
     ensures value { IfOk result (λ yes. (e : Reading) → IsTrue ((C.state calc.new).is_open e) → yes ≡ truth (scene_at C.at r.now height e) f.now) }
+    ensures kept { AreOpen (C.state calc.old).kept (C.state calc.new) }
     ensures cause { IfErr result (Cause (C.state calc.old) (C.state calc.new) (IsTame (C.state calc.old).is_open C.at r.now f.now)) }
 {
     let mut latch = Latch::new(calc);
@@ -40,6 +41,7 @@ pub fn truth_in<C: Calc>(
     ensures grows { Grows (C.state calc.old) (C.state calc.new) }
     ensures value { IfOk result (λ yes. (e : Reading) → IsTrue ((C.state calc.new).is_open e)
         → yes ≡ truth_in (scene_at C.at r.now height e) f.now (places_of names.now)) }
+    ensures kept { AreOpen (C.state calc.old).kept (C.state calc.new) }
     ensures cause { IfErr result (Cause (C.state calc.old) (C.state calc.new) (IsTame (C.state calc.old).is_open C.at r.now f.now)) }
 {
     let mut latch = Latch::new(calc);

@@ -3,7 +3,7 @@ use Rattle.std.proofs.lemmas.Bool.Decides.{nat_tests}
 use Rattle.viz_base.specs.declared.worlds.World.{World}
 use Rattle.viz_calc.specs.declared.calc.Halt.{Halt}
 use Rattle.viz_calc.specs.declared.calc.Halt.TheVariants.{Mem, Coeff, Open}
-use Rattle.viz_calc.specs.State.{Cause, Fits, Grows}
+use Rattle.viz_calc.specs.State.{IsOpenWorld, Cause, Fits, Grows}
 use Rattle.viz_calc.specs.Plain.{plain_state, plain_reading, fitted}
 
 pub open_reading : (w : World) → IsTrue ((plain_state w).is_open (plain_reading w))
@@ -27,3 +27,7 @@ fitted_past z h = grind (arith, nat_tests)
 -- a world that still has its reading open is the same
 pub world-stays : (old new : World) → Grows (plain_state old) (plain_state new) → new ≡ old
 world-stays old new g = let o = g.closes (plain_reading new) (open_reading new) in grind (arith, nat_tests)
+
+-- the world that it keeps is open
+pub kept_open : (w v : World) → IsTrue ((plain_state w).kept.worlds v) → IsOpenWorld (plain_state w) v
+kept_open w v t = record { reading = plain_reading v; world = refl; is_open = t }

@@ -9,6 +9,7 @@ Goes-then a b c g h = record {
   lean = h.lean ∙ g.lean;
   coeffs = let first = g.coeffs in let later = h.coeffs in omega arith;
   opens = let first = g.opens in let later = h.opens in omega arith;
+  kept = h.kept ∙ g.kept;
   lender = h.lender ∙ g.lender;
 }
 

@@ -1,7 +1,7 @@
 use Rattle.std.specs.Prelude.{◌≡◌, ◌≤◌, ◌⊎◌, ℕ, ℤ, Bool, false, IsTrue, List, Option, Some, None}
 use Rattle.std.specs.Borrow.{GName}
 use Rattle.viz_calc.specs.World.{Reading}
-use Rattle.viz_calc.specs.State.{State, Rose, AllSmall}
+use Rattle.viz_calc.specs.State.{State, Kept, Rose, AllSmall}
 use Rattle.viz_calc.specs.declared.calc.Halt.{Halt}
 use Rattle.viz_calc.specs.declared.calc.Halt.TheVariants.{Mem, Coeff, Open}
 
@@ -12,6 +12,7 @@ pub record Run : Type 0 where
   pub lean : Bool
   pub coeffs : ℕ
   pub opens : ℕ
+  pub kept : Kept
   pub halt : Option Halt
   pub lender : GName
 
@@ -26,6 +27,7 @@ pub record Goes (old new : Run) : Type 0 where
   pub lean : new.lean ≡ old.lean
   pub coeffs : old.coeffs ≤ new.coeffs
   pub opens : old.opens ≤ new.opens
+  pub kept : new.kept ≡ old.kept
   pub lender : new.lender ≡ old.lender
 
 -- at each open reading these are at most 2^100 in size
@@ -56,6 +58,7 @@ run_of s halt name = record {
   lean = s.lean;
   coeffs = s.coeffs;
   opens = s.opens;
+  kept = s.kept;
   halt = halt;
   lender = name;
 }

@@ -4,12 +4,19 @@ use Rattle.viz_base.specs.declared.worlds.World.{World}
 use Rattle.viz_calc.specs.declared.calc.Halt.{Halt}
 use Rattle.viz_calc.specs.declared.calc.Halt.TheVariants.{Mem, Coeff, Open}
 
+-- worlds that a calc keeps, with its counts of faults when it began to
+pub record Kept : Type 0 where
+  pub worlds : World → Bool
+  pub coeffs : ℕ
+  pub opens : ℕ
+
 -- what a calc is, for a proof
 pub record State : Type 0 where
   pub is_open : Reading → Bool
   pub lean : Bool
   pub coeffs : ℕ
   pub opens : ℕ
+  pub kept : Kept
 
 -- the number has this value at each reading that is open
 abbrev pub Stands : State → (Reading → ℤ) → (Reading → ℤ) → Type 0
@@ -25,16 +32,21 @@ pub record IsOpenWorld (s : State) (w : World) : Type 0 where
 pub record KeepsWorlds (old new : State) : Type 0 where
   pub keeps : (w : World) → IsOpenWorld old w → IsOpenWorld new w
 
--- nothing that was known is lost
+-- a count rose, or stands at its end
+abbrev pub Rose : ℕ → ℕ → Type 0
+Rose old new = (old < new) ⊎ (new ≡ 2 ^ 64 - 1)
+
+-- nothing that was known is lost, and the same worlds are kept
 pub record Grows (old new : State) : Type 0 where
   pub closes : (e : Reading) → IsTrue (new.is_open e) → IsTrue (old.is_open e)
   pub lean : new.lean ≡ old.lean
   pub coeffs : old.coeffs ≤ new.coeffs
   pub opens : old.opens ≤ new.opens
+  pub kept : new.kept ≡ old.kept
 
--- a count rose, or stands at its end
-abbrev pub Rose : ℕ → ℕ → Type 0
-Rose old new = (old < new) ⊎ (new ≡ 2 ^ 64 - 1)
+-- each of these worlds is open, unless a fault was counted since they are kept
+abbrev pub AreOpen : Kept → State → Type 0
+AreOpen kept s = (w : World) → IsTrue (kept.worlds w) → IsOpenWorld s w ⊎ (Rose kept.coeffs s.coeffs ⊎ Rose kept.opens s.opens)
 
 -- the number is at most 2^100 in size
 abbrev pub IsSmall : ℤ → Type 0

@@ -2,7 +2,7 @@ ghost use Rattle.std.specs.Prelude.{◌≡◌, ◌≤◌, ℕ, ◌*◌, ℤ, ⊤
 ghost use Rattle.std.specs.Int.{int_div_euclid};
 ghost use Rattle.std.specs.Int.RustNames.{int_le};
 ghost use Rattle.viz_calc.specs.World.{Reading};
-ghost use Rattle.viz_calc.specs.State.{State, Stands, Grows, KeepsWorlds, Fits, Cause, IsDecided};
+ghost use Rattle.viz_calc.specs.State.{State, Stands, Grows, KeepsWorlds, AreOpen, Fits, Cause, IsDecided};
 
 use std::alloc::{AllocError, AllocFailed};
 use thiserror::Error;
@@ -58,7 +58,8 @@ impl From<Mem> for Halt {
 /// Arithmetic on the numbers of a layout, in 1/64 px, exact at each reading that is open.
 ///
 /// Readings are closed by comparisons and new floor terms, and never opened again. Each call but
-/// `le` leaves each open world open.
+/// `le` leaves each open world open. The worlds that it keeps stay open, also over `le`, until it
+/// counts a fault.
 pub trait Calc {
     type Num: Drop;
 
@@ -134,4 +135,7 @@ pub trait Calc {
         ensures grows { Grows (state self.old) (state self.new) }
         ensures value { IfOk result (λ r. (e : Reading) → IsTrue ((state self.new).is_open e) → r ≡ int_le (at a.now e) (at b.now e)) }
         ensures cause { IfErr result (Cause (state self.old) (state self.new) ⊤) };
+
+    /// At any time each world that it keeps is open, unless it counted a fault since it keeps them.
+    ghost keeps: { (c : Self) → AreOpen (state c).kept (state c) };
 }

@@ -129,6 +129,10 @@ impl<'a, C: Calc> Steady for Latch<'a, C> {
         }
     }
 
+    fn is_halted(&self) -> bool {
+        self.halt.is_some()
+    }
+
     fn stop(&mut self) {
         if self.halt.is_none() {
             self.halt = Some(Halt::Mem);

@@ -8,7 +8,9 @@ mod steady;
 
 pub use calc::{Calc, Halt};
 pub use latch::Latch;
-pub use plain::{Plain, plain_is_at_one_world, plain_never_blames, plain_stays};
+pub use plain::{
+    Plain, plain_is_at_one_world, plain_keeps_its_world, plain_never_blames, plain_stays,
+};
 pub use steady::Steady;
 
 #[cfg(test)]

@@ -2,7 +2,8 @@ ghost use Rattle.std.specs.Prelude.{◌≡◌, ◌*◌, ◌^◌, ◌≤◌, ◌+
 ghost use Rattle.std.specs.Int.{int_div_euclid};
 ghost use Rattle.std.specs.Int.RustNames.{int_le};
 ghost use Rattle.viz_calc.specs.World.{Reading};
-ghost use Rattle.viz_calc.specs.State.{Stands, Grows, KeepsWorlds, Fits, Cause, CauseButMem, IsDecided};
+ghost use Rattle.viz_base.specs.declared.worlds.World.{World};
+ghost use Rattle.viz_calc.specs.State.{Stands, Grows, KeepsWorlds, IsOpenWorld, Fits, Cause, CauseButMem, IsDecided};
 ghost use Rattle.viz_calc.specs.Plain.{plain_state, plain_reading, fitted};
 ghost use Rattle.viz_calc.specs.declared.calc.Halt.TheVariants.{Mem};
 
@@ -179,6 +180,10 @@ impl Calc for Plain {
     {
         Ok(*a <= *b)
     }
+
+    ghost use Rattle.std.proofs.Common.{inl, refl};
+
+    ghost keeps = { λ p w t. inl (record { reading = plain_reading w; world = refl; is_open = t }) };
 }
 
 // ---- laws of the plain calc, for those who call generic code with it
@@ -187,6 +192,12 @@ impl Calc for Plain {
 pub fn plain_is_at_one_world(calc: &Plain)
     ensures is_open { IsTrue ((plain_state calc.now.world).is_open (plain_reading calc.now.world)) }
     ensures alone { (e : Reading) → IsTrue ((plain_state calc.now.world).is_open e) → e.world ≡ calc.now.world }
+{}
+
+/// It keeps its world, which is open.
+pub fn plain_keeps_its_world(calc: &Plain)
+    ensures kept { IsTrue ((plain_state calc.now.world).kept.worlds calc.now.world) }
+    ensures open { (w : World) → IsTrue ((plain_state calc.now.world).kept.worlds w) → IsOpenWorld (plain_state calc.now.world) w }
 {}
 
 /// A plain calc that lost nothing is as it was.

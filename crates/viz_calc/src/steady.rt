@@ -1,4 +1,4 @@
-ghost use Rattle.std.specs.Prelude.{◌≡◌, false, ◌≤◌, ℕ, ◌*◌, ℤ, ⊤, pos, ◌+ℤ◌, ◌-ℤ◌, ◌*ℤ◌, IsTrue, [], ◌∷◌, Some, None};
+ghost use Rattle.std.specs.Prelude.{◌≡◌, false, ◌≤◌, ℕ, ◌*◌, ℤ, ⊤, pos, ◌+ℤ◌, ◌-ℤ◌, ◌*ℤ◌, IsTrue, [], ◌∷◌, Some, None, is_some};
 ghost use Rattle.std.specs.Int.{int_div_euclid};
 ghost use Rattle.std.specs.Int.RustNames.{int_le};
 ghost use Rattle.viz_calc.specs.World.{Reading};
@@ -64,6 +64,10 @@ pub trait Steady {
         ensures goes { Goes (run self.old) (run self.new) }
         ensures value { (e : Reading) → IsTrue ((run self.new).is_open e) → result ≡ int_le (at a.now e) (at b.now e) }
         ensures cause { Blames (run self.old) (run self.new) ⊤ };
+
+    /// Whether it is halted. From then on a call may leave its arguments as they are.
+    fn is_halted(&self) -> bool
+        ensures { result ≡ is_some (run self.now).halt };
 
     /// Halts for want of memory, unless it is halted.
     fn stop(&mut self)

@@ -1,9 +1,10 @@
 -- Replies by what was found.
-use Rattle.std.proofs.Common.{◌≡◌, inl, inr, ℕ, ℤ, subst, ◌<◌, ◌≤◌, ◌^◌, List, [], ◌∷◌, ◌++◌, length, codes, refl, sym, arith}
+use Rattle.std.proofs.Common.{◌≡◌, IsTrue, inl, inr, ℕ, ℤ, subst, ◌<◌, ◌≤◌, ◌^◌, List, [], ◌∷◌, ◌++◌, length, codes, refl, sym, arith}
 use Rattle.std.specs.List.{flat_map}
 use Rattle.viz_base.specs.declared.worlds.World.{World}
 use Rattle.viz_base.specs.declared.renderings.Rendering.{Rendering}
-use Rattle.layout_semantics.specs.Rendering.{rendering}
+use Rattle.layout_semantics.specs.Page.{page_rendering}
+use Rattle.layout_semantics.specs.Ready.{ready}
 use Rattle.lay_print.specs.Print.{printed}
 use Rattle.logic_semantics.specs.Scenes.{scene_of}
 use Rattle.logic_semantics.specs.Blame.{blame}
@@ -36,10 +37,10 @@ few_nodes files name cert held =
 
 -- ---- violations
 
-pub bounded : (job : Job) (world : World) (r : Rendering ℤ) → world.w ≤ 16384 → r ≡ rendering job.tree world job.height → IsBoundedRendering r
-bounded job world r narrow e = subst (λ x. IsBoundedRendering x) (sym e) (bounded_rendering job world narrow)
+pub bounded : (job : Job) (world : World) (r : Rendering ℤ) → IsTrue (ready job.tree) → world.w ≤ 16384 → r ≡ page_rendering job.tree world job.height → IsBoundedRendering r
+bounded job world r is_ready narrow e = subst (λ x. IsBoundedRendering x) (sym e) (bounded_rendering job world is_ready narrow)
 
-pub violation_is : (job : Job) (world : World) (r : Rendering ℤ) (blamed : List ℕ) (boxes output : List ℕ) → r ≡ rendering job.tree world job.height
+pub violation_is : (job : Job) (world : World) (r : Rendering ℤ) (blamed : List ℕ) (boxes output : List ℕ) → r ≡ page_rendering job.tree world job.height
     → blamed ≡ blame (scene_of r world job.height) job.formula → boxes ≡ printed r
     → output ≡ numbered (codes "violated") (world.w ∷ world.s ∷ []) ++ (flat_map (λ place. numbered (codes "blame") (place ∷ [])) blamed ++ boxes)
     → output ≡ violation_text job world

@@ -4,7 +4,7 @@ use Rattle.std.specs.List.{flat_map}
 use Rattle.viz_base.specs.declared.jobs.Job.{Job}
 use Rattle.viz_base.specs.declared.worlds.World.{World}
 use Rattle.viz_base.specs.declared.worlds.Rect.{Rect}
-use Rattle.layout_semantics.specs.Rendering.{rendering}
+use Rattle.layout_semantics.specs.Page.{page_rendering}
 use Rattle.lay_print.specs.Print.{printed}
 use Rattle.logic_semantics.specs.Scenes.{scene_of}
 use Rattle.logic_semantics.specs.Blame.{blame}
@@ -28,7 +28,7 @@ use Rattle.vizlog.specs.Files.{Files, HoldsJob, IsRefused, IsTooLong, HoldsCert,
 pub record IsLaid (files : Files) (name : List ℕ) (world : World) (output : List ℕ) : Type 0 where
   pub job : Job
   pub held : HoldsJob files name job
-  pub text : output ≡ printed (rendering job.tree world job.height)
+  pub text : output ≡ printed (page_rendering job.tree world job.height)
 
 -- ---- prove
 

@@ -1,7 +1,7 @@
 ghost use Rattle.std.specs.Prelude.{◌≡◌, ◌≢◌, ◌≤◌, ◌<◌, ◌^◌, ℕ, List, [], ◌∷◌, ◌++◌, codes, length, IfOk, IsTrue};
 ghost use Rattle.std.specs.List.{flat_map};
 ghost use Rattle.viz_outside.specs.Fault.{Rose};
-ghost use Rattle.layout_semantics.specs.Rendering.{rendering};
+ghost use Rattle.layout_semantics.specs.Page.{page_rendering};
 ghost use Rattle.layout_semantics.specs.Ready.{ready as is_ready};
 ghost use Rattle.lay_print.specs.Print.{printed};
 ghost use Rattle.cert_check.specs.Nodes.{nodes_of};
@@ -31,7 +31,7 @@ use viz_outside::Shelf;
 fn laid(alloc: Global, job: &Job, world: World) -> Result<Reply, Mem>
     requires ready { IsTrue (is_ready job.now.tree) }
     requires narrow { world.w ≤ 16384 }
-    ensures { IfOk result (λ r. (r.status ≡ Status.Done) × (r.output.items ≡ printed (rendering job.now.tree world job.now.height))) }
+    ensures { IfOk result (λ r. (r.status ≡ Status.Done) × (r.output.items ≡ printed (page_rendering job.now.tree world job.now.height))) }
 {
     let rendering = render_at(alloc, world, &job.tree, job.height)?;
     Ok(Reply {

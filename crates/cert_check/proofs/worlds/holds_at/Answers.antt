@@ -4,7 +4,8 @@ use Rattle.viz_calc.specs.Plain.{plain_state, plain_reading}
 use Rattle.logic_semantics.specs.Scenes.{scene_of}
 use Rattle.logic_semantics.specs.Truth.{truth}
 use Rattle.vis_truth.specs.Scenes.{IsBoundedRendering, IsTame, scene_at}
-use Rattle.vis_truth.proofs.PlainScenes.{never-halts, plain-tame, rendering-same, reading-open, world-stays}
+use Rattle.viz_calc.proofs.PlainLemmas.{open_reading, world-stays}
+use Rattle.vis_truth.proofs.PlainScenes.{never-halts, plain-tame, rendering-same}
 use Rattle.cert_check.proofs.Bounded.{bounded_rendering, narrow_world}
 use Rattle.cert_check.proofs.worlds.holds_at.Goals as goal
 
@@ -12,7 +13,7 @@ pub unreachable-requires : goal.unreachable-requires
 unreachable-requires c =
     let job = c.args.job.now in
     let narrow = narrow_world job c.args.world c.requires.in_range in
-    let bounded : IsBoundedRendering c.in_ok-rendering.rendering = subst (λ r. IsBoundedRendering r) (sym (c.in_ok-rendering.ensures)) (bounded_rendering job c.args.world narrow) in
+    let bounded : IsBoundedRendering c.in_ok-rendering.rendering = subst (λ r. IsBoundedRendering r) (sym (c.in_ok-rendering.ensures)) (bounded_rendering job c.args.world c.requires.ready narrow) in
     let same = c.new-calc.ensures in
     let wide : c.new-calc.result.world.w < 2 ^ 32 = rw same (omega arith) in
     never-halts c.new-calc.result.world c.truth.new.calc.world (IsTame (plain_state c.new-calc.result.world).is_open (λ n e. n) c.in_ok-rendering.rendering job.formula)
@@ -23,8 +24,8 @@ returns c =
     let job = c.args.job.now in
     let e = plain_reading c.new-calc.result.world in
     let stays = world-stays c.new-calc.result.world c.truth.new.calc.world (c.in-Ok.ensures).grows in
-    let open_reading : IsTrue ((plain_state c.truth.new.calc.world).is_open e) = rw stays (reading-open c.new-calc.result.world) in
-    let value : c.in-Ok.yes ≡ truth (scene_at (λ n e. n) c.in_ok-rendering.rendering job.height e) job.formula = (c.in-Ok.ensures).value e open_reading in
+    let is_open : IsTrue ((plain_state c.truth.new.calc.world).is_open e) = rw stays (open_reading c.new-calc.result.world) in
+    let value : c.in-Ok.yes ≡ truth (scene_at (λ n e. n) c.in_ok-rendering.rendering job.height e) job.formula = (c.in-Ok.ensures).value e is_open in
     let as_is : scene_at (λ n e. n) c.in_ok-rendering.rendering job.height e ≡ scene_of c.in_ok-rendering.rendering c.new-calc.result.world job.height
     = ap (λ (r : Rendering ℤ). scene_of r c.new-calc.result.world job.height) (rendering-same e c.in_ok-rendering.rendering) in
     value ∙ ap (λ s. truth s job.formula) as_is

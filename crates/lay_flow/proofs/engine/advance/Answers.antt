@@ -4,8 +4,8 @@ use Rattle.viz_calc.specs.Run.{Fits, BlamesButMem}
 use Rattle.viz_calc.proofs.Runs.{BlamesButMem-then}
 use Rattle.std.specs.List.{flat_map}
 use Rattle.viz_calc.specs.State.{AllSmall}
-use Rattle.lay_flow.specs.Walks.{block_at, block_parts, pair}
-use Rattle.lay_flow.specs.Columns.{AreInside, column_walk}
+use Rattle.lay_flow.specs.steps.Walks.{block_at, block_parts, pair}
+use Rattle.lay_flow.specs.steps.Columns.{AreInside, column_walk}
 use Rattle.lay_flow.proofs.ColumnLemmas.{column-step, pending-step, moved, weight-step, AllInside-pushed, AreInside-kids}
 use Rattle.viz_calc.proofs.Smalls.{AllSmall-left, AllSmall-right}
 use Rattle.lay_flow.proofs.engine.advance.Goals as goal

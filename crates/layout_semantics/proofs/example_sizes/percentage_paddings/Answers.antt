@@ -1,6 +1,5 @@
 use Rattle.std.proofs.Common.{refl}
 use Rattle.std.specs.Str.{chars}
-use Rattle.layout_semantics.specs.Blocks.{top_to}
 use Rattle.layout_semantics.specs.Clearance.{resolve_to}
 use Rattle.layout_semantics.specs.DefiniteHeights.{container_to, is_definite_to, definite_height_to}
 use Rattle.layout_semantics.specs.FlowBoxes.{clear_of, is_open_above, is_open_below, may_collapse_through, joins_last_child}
@@ -17,5 +16,5 @@ use Rattle.layout_semantics.specs.Verticals.{verticals}
 use Rattle.layout_semantics.proofs.example_sizes.percentage_paddings.Goals as goal
 
 pub returns : goal.returns
-unfolding chars lib.Utf8.encode top_to resolve_to container_to is_definite_to definite_height_to clear_of is_open_above is_open_below widths may_collapse_through joins_last_child verticals flow_to font_size_to items_to lead_to shift_to lines_to order_to preferred_to
+unfolding chars lib.Utf8.encode resolve_to container_to is_definite_to definite_height_to clear_of is_open_above is_open_below widths may_collapse_through joins_last_child verticals flow_to font_size_to items_to lead_to shift_to lines_to order_to preferred_to
 returns c = λ ok. refl

@@ -4,7 +4,8 @@ use Rattle.viz_calc.specs.Plain.{plain_state, plain_reading}
 use Rattle.logic_semantics.specs.Scenes.{scene_of}
 use Rattle.logic_semantics.specs.Truth.{truth_in}
 use Rattle.vis_truth.specs.Names.{places_of}
-use Rattle.vis_truth.proofs.PlainScenes.{reading-open, world-stays, rendering-same, never-halts, plain-tame}
+use Rattle.viz_calc.proofs.PlainLemmas.{open_reading, world-stays}
+use Rattle.vis_truth.proofs.PlainScenes.{never-halts, plain-tame, rendering-same}
 use Rattle.vis_truth.proofs.blames.holds.Goals as goal
 
 pub unreachable-requires : goal.unreachable-requires
@@ -17,6 +18,6 @@ unreachable-requires c =
 pub returns : goal.returns
 returns c =
     let same = world-stays c.new-calc.result.world c.truth_in.new.calc.world c.in-Ok.ensures.grows ∙ c.new-calc.ensures in
-    let now = subst (λ (w : World). IsTrue ((plain_state w).is_open (plain_reading c.args.world))) (sym same) (reading-open c.args.world) in
+    let now = subst (λ (w : World). IsTrue ((plain_state w).is_open (plain_reading c.args.world))) (sym same) (open_reading c.args.world) in
     c.in-Ok.ensures.value (plain_reading c.args.world) now
     ∙ ap (λ r. truth_in (scene_of r c.args.world c.args.height) c.args.f.now (places_of c.args.names.now)) (rendering-same (plain_reading c.args.world) c.args.r.now)

@@ -6,7 +6,7 @@ use Rattle.logic_semantics.specs.Scenes.{Scene}
 use Rattle.logic_semantics.specs.Terms.{summand_value, edge_value}
 use Rattle.vis_truth.specs.Names.{places_of}
 use Rattle.vis_truth.specs.Scenes.{scene_at, sum_parts}
-use Rattle.vis_truth.proofs.Runs.{Goes-then, Blames-then}
+use Rattle.viz_calc.proofs.Runs.{Goes-then, Blames-then}
 use Rattle.vis_truth.proofs.terms.total.Goals as goal
 
 -- the sum that goes on with one more summand

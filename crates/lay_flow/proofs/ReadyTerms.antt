@@ -5,7 +5,7 @@ use Rattle.std.proofs.lemmas.Int.{ints, clamps}
 use Rattle.viz_base.specs.declared.layouts.Widths.{Widths}
 use Rattle.viz_base.specs.declared.trees.BoxTree.{BoxTree}
 use Rattle.viz_base.specs.declared.worlds.World.{World}
-use Rattle.layout_semantics.specs.Blocks.{height_of}
+use Rattle.lay_flow.specs.steps.Stack.{height_of}
 use Rattle.layout_semantics.specs.InlineContent.{is_zero}
 use Rattle.layout_semantics.specs.Horizontal.{widths, placing_of, block_flow, held_terms, block_terms, auto_terms, terms_around, sum_of, available, with_margins, again_unless, at_least}
 use Rattle.layout_semantics.specs.Verticals.{Verticals, verticals}
@@ -13,8 +13,7 @@ use Rattle.layout_semantics.specs.FlowBoxes.{is_replaced_at, may_collapse_throug
 use Rattle.layout_semantics.specs.DefiniteHeights.{has_auto_height, has_no_minimum, own_height}
 use Rattle.layout_semantics.specs.InlineContent.{has_line}
 use Rattle.layout_semantics.specs.Flow.{content_height}
-use Rattle.layout_laws.proofs.ReadyBoxes.{IsReady}
-use Rattle.layout_laws.proofs.Truths.{is_le}
+use Rattle.lay_flow.proofs.ReadyBoxes.{IsReady}
 use Rattle.std.specs.Ordering.{int_eq}
 use Rattle.std.proofs.lemmas.Bool.Decides.{Decides-int_eq}
 
@@ -58,7 +57,7 @@ module _ (tree : BoxTree) (w : World) (height : ℕ) (k : ℕ) (r : IsReady tree
   held_terms_are n =
       rw (r.width, r.max_width, r.min_width) (
       ap (at_least (block_terms tree w k (pos n)) (pos 0)) (auto_is n)
-      ∙ by_test (int_le (pos 0) (pos n)) (is_le (pos 0) (pos n) (omega (arith, ints))))
+      ∙ by_test (int_le (pos 0) (pos n)) (grind (arith, ints)))
     where
       by_test : (b : Bool) → b ≡ true → again_unless b (block_terms tree w k (pos n)) (pos 0) (plain_widths (pos n)) ≡ plain_widths (pos n)
       by_test true e = refl

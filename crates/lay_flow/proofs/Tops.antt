@@ -5,7 +5,8 @@ use Rattle.std.proofs.lemmas.Int.{ints}
 use Rattle.viz_base.specs.Trees.{ascends}
 use Rattle.viz_base.specs.declared.trees.BoxTree.{BoxTree}
 use Rattle.layout_semantics.specs.Order.{kids_of}
-use Rattle.layout_semantics.specs.Blocks.{heights, earlier, parent_of, top_to, top_of}
+use Rattle.layout_semantics.specs.Blocks.{parent_of}
+use Rattle.lay_flow.specs.steps.Stack.{heights, earlier, top_to, top_of}
 use Rattle.layout_semantics.proofs.Forest.{IsForest, IsKid, filter-before, Each-append_right}
 
 -- ---- upper edges

@@ -17,9 +17,8 @@ use Rattle.layout_semantics.specs.InlineContent.{is_floated_at, has_line}
 use Rattle.layout_semantics.specs.Leads.{Leading, clears_something, top_margin, bottom_margin, followed_by, through, child_lead, children_lead, lead_to, lead, is_up_to}
 use Rattle.layout_semantics.specs.Verticals.{Verticals}
 use Rattle.layout_semantics.specs.Clearance.{Resolved, resolve, resolve_to, resolve_step, is_cleared}
-use Rattle.layout_laws.proofs.PlainLeads.{box_from, last_of}
-use Rattle.layout_laws.proofs.ReadyBoxes.{IsReady}
-use Rattle.layout_laws.proofs.ReadyTerms.{ready-verticals}
+use Rattle.lay_flow.proofs.ReadyBoxes.{IsReady}
+use Rattle.lay_flow.proofs.ReadyTerms.{ready-verticals}
 
 -- ---- lists of zeros
 
@@ -73,20 +72,28 @@ module _ (tree : BoxTree) (w : World) (height : ℕ) where
         (rw (no_float k) (followed-null (go k) (through tree w height cb (bottom_margin tree w height cb k ∷ [])) (n k a.0) (record { zeros = (bottom-zero cb k a.0, tt); none = refl })))
         (children-null go cb ks a.1 n)
 
-    -- a lead from its children's
+    -- what a box ends its lead with where its children's goes through, and its lead from theirs
+    abbrev last_of : Band ℤ → ℕ → Bool → Leading
+    last_of cb b true = through tree w height cb []
+    last_of cb b false = record { margins = []; waiting = []; end = of_end.Solid b; cb = cb }
+
+    abbrev box_from : Band ℤ → ℕ → Leading → Bool → Leading
+    box_from cb b children false = record { margins = top_margin tree w height cb b ∷ []; waiting = []; end = of_end.Solid b; cb = cb }
+    box_from cb b children true = followed_by tree w height (through tree w height cb (top_margin tree w height cb b ∷ [])) (followed_by tree w height children (last_of cb b (may_collapse_through tree b)))
+
     abbrev step_from : Band ℤ → ℕ → Leading → Bool → (clears : Bool) → Leading
     step_from cb b children opens true = record { margins = []; waiting = []; end = of_end.Cleared b; cb = cb }
-    step_from cb b children opens false = box_from tree w height cb b children opens
+    step_from cb b children opens false = box_from cb b children opens
 
     step-null : (cb : Band ℤ) (b : ℕ) (children : Leading) (opens clears : Bool) → b < length tree.boxes → IsNull children → IsNull (step_from cb b children opens clears)
     step-null cb b children opens true l n = record { zeros = tt; none = refl }
     step-null cb b children false false l n = record { zeros = (top-zero cb b l, tt); none = refl }
     step-null cb b children true false l n =
-        followed-null (through tree w height cb (top_margin tree w height cb b ∷ [])) (followed_by tree w height children (last_of tree w height cb b (may_collapse_through tree b)))
+        followed-null (through tree w height cb (top_margin tree w height cb b ∷ [])) (followed_by tree w height children (last_of cb b (may_collapse_through tree b)))
         (record { zeros = (top-zero cb b l, tt); none = refl })
-        (followed-null children (last_of tree w height cb b (may_collapse_through tree b)) n (by_last (may_collapse_through tree b)))
+        (followed-null children (last_of cb b (may_collapse_through tree b)) n (by_last (may_collapse_through tree b)))
       where
-        by_last : (last : Bool) → IsNull (last_of tree w height cb b last)
+        by_last : (last : Bool) → IsNull (last_of cb b last)
         by_last true = record { zeros = tt; none = refl }
         by_last false = record { zeros = tt; none = refl }
 

@@ -12,11 +12,12 @@ use Rattle.viz_base.specs.declared.trees.BoxNode.{BoxNode}
 use Rattle.viz_base.specs.declared.trees.BoxTree.{BoxTree}
 use Rattle.viz_base.specs.declared.trees.Kind.{Kind}
 use Rattle.viz_base.specs.declared.trees.Kind.TheVariants as of_kind
-use Rattle.layout_semantics.specs.Blocks.{kind_of, style_of, height_of, absolute}
+use Rattle.layout_semantics.specs.Blocks.{kind_of, style_of}
+use Rattle.lay_flow.specs.steps.Stack.{height_of, absolute}
 use Rattle.layout_semantics.specs.Ready.{ready, is_ready_box, is_ready_style, is_block, is_auto, is_extent, is_zero, clears_nothing}
 use Rattle.layout_semantics.specs.Lengths.{own_style, own, margins, borders, paddings, nothing, no_sides}
 use Rattle.layout_semantics.proofs.Forest.{both}
-use Rattle.layout_laws.proofs.Entries.{passes}
+use Rattle.layout_semantics.proofs.BlocksAlone.{passes}
 
 -- a box with such a style
 pub record IsReady (tree : BoxTree) (k : ℕ) : Type 0 where

@@ -14,11 +14,11 @@ use Rattle.viz_base.specs.declared.renderings.Placed.{Placed}
 use Rattle.viz_base.specs.declared.renderings.Quad.{Quad}
 use Rattle.viz_base.specs.declared.renderings.Rendering.{Rendering}
 use Rattle.viz_base.specs.declared.trees.BoxNode.{BoxNode}
-use Rattle.layout_semantics.specs.Rendering.{rendering}
 use Rattle.layout_semantics.specs.Ready.{ready, is_block, is_ready_box, is_ready_style}
 use Rattle.layout_semantics.specs.Page.{page_rendering}
 use Rattle.layout_semantics.specs.Order.{kids_of, document_order, roots}
-use Rattle.layout_semantics.specs.Blocks.{kind_of, node_of, height_of, heights, top_of, bottom_of, placed_block, plain_box, rectangle}
+use Rattle.layout_semantics.specs.Blocks.{kind_of, node_of, plain_box}
+use Rattle.lay_flow.specs.steps.Stack.{stack, height_of, heights, top_of, bottom_of, placed_block, rectangle}
 use Rattle.layout_semantics.specs.Margins.{collapsed}
 use Rattle.layout_semantics.specs.Rectangles.{Frame, content_top, placed_box}
 use Rattle.layout_semantics.specs.Verticals.{Verticals, verticals}
@@ -26,18 +26,15 @@ use Rattle.layout_semantics.specs.Horizontal.{widths}
 use Rattle.layout_semantics.specs.FlowBoxes.{is_context_root, is_open_above, may_collapse_through, joins_last_child, flow_children, across, content_from}
 use Rattle.layout_semantics.specs.InlineContent.{is_floated_at, is_inline_level_at}
 use Rattle.layout_semantics.specs.Leads.{bottom_margin, lead, all_passed, none_passed}
-use Rattle.layout_semantics.specs.Flow.{Standing, at_top, below, Progress, Laid, fresh, opened, reached, laid, laid_replaced, laid_context, laid_block, child, standing_after, joined_run, content_height, context_height, block_height, waiting_size, flow_to, whole_alone}
+use Rattle.layout_semantics.specs.Flow.{Standing, at_top, below, Reached, Progress, Laid, fresh, opened, reached, laid, laid_replaced, laid_context, laid_block, child, standing_after, joined_run, content_height, context_height, block_height, waiting_size, flow_to, whole_alone}
 use Rattle.layout_semantics.proofs.Forest.{IsKid, both}
 use Rattle.layout_semantics.proofs.Pages.{forest, root-alone}
 use Rattle.layout_semantics.proofs.Orders.{document_order-is}
-use Rattle.layout_semantics.proofs.Tops.{IsSettled, IsSettled-root, IsSettled-kid, top_of-root, kid-top, heights-append}
-use Rattle.layout_laws.proofs.Entries.{no_lines, holds_none, all_flow, passes}
-use Rattle.layout_laws.proofs.Flowing.{frame_of}
-use Rattle.layout_laws.proofs.PlainSteps.{plainly_reached}
-use Rattle.layout_laws.proofs.Truths.{right_of}
-use Rattle.layout_laws.proofs.ReadyBoxes.{IsReady, block_kind, ready-box}
-use Rattle.layout_laws.proofs.ReadyTerms.{plain_widths, plain_verticals, not_replaced, ready-verticals, ready-widths, ready-height, ready-joins, ready-collapses}
-use Rattle.layout_laws.proofs.ReadyLeads.{AllZero, zero-append, collapsed-zero, bottom-zero, lead-null, resolved-null}
+use Rattle.lay_flow.proofs.Tops.{IsSettled, IsSettled-root, IsSettled-kid, top_of-root, kid-top, heights-append}
+use Rattle.layout_semantics.proofs.BlocksAlone.{no_lines, holds_none, all_flow, passes}
+use Rattle.lay_flow.proofs.ReadyBoxes.{IsReady, block_kind, ready-box}
+use Rattle.lay_flow.proofs.ReadyTerms.{plain_widths, plain_verticals, not_replaced, ready-verticals, ready-widths, ready-height, ready-joins, ready-collapses}
+use Rattle.lay_flow.proofs.ReadyLeads.{AllZero, zero-append, collapsed-zero, bottom-zero, lead-null, resolved-null}
 
 -- where the next block stands, where no margin is other than 0
 abbrev pub base : Standing → ℤ
@@ -53,7 +50,19 @@ pub record IsSoFar (p : Progress) (edge : ℤ) : Type 0 where
   pub zero_run : IsZero p.standing
   pub next : base p.standing ≡ edge
 
+-- a box that is reached at an edge, with no clearance
+abbrev pub plainly_reached : ℤ → Reached
+plainly_reached y = record { top = y; clears = false; cleared = None }
+
 module _ (tree : BoxTree) (w : World) (height : ℕ) where
+  -- its frame
+  abbrev pub frame_of : Band ℤ → ℕ → Reached → Frame
+  frame_of cb k r = record {
+    x = widths tree w height k (across cb);
+    v = verticals tree w k (across cb);
+    corner = record { x = cb.left +ℤ (widths tree w height k (across cb)).margin_left; y = r.top };
+  }
+
   abbrev pub room : ℤ
   room = pos (64 * w.w)
 
@@ -92,7 +101,7 @@ module _ (tree : BoxTree) (w : World) (height : ℕ) where
     across-is : across page_band ≡ room
     across-is = omega (arith, ints)
 
-    frame-is : (k : ℕ) (y : ℤ) → k < length tree.boxes → frame_of tree w height page_band k (plainly_reached y) ≡ plain_frame y
+    frame-is : (k : ℕ) (y : ℤ) → k < length tree.boxes → frame_of page_band k (plainly_reached y) ≡ plain_frame y
     frame-is k y l =
         ap (λ (x : Widths ℤ). framed x (verticals tree w k (across page_band))) (ap (widths tree w height k) across-is ∙ ready-widths tree w height k (ready k l) (64 * w.w))
         ∙ (ap (λ (v : Verticals). framed (plain_widths room) v) (ready-verticals tree w height k (ready k l) (across page_band)) ∙ moved _ (omega (arith, ints)))
@@ -138,7 +147,7 @@ module _ (tree : BoxTree) (w : World) (height : ℕ) where
 
       laid-sort : (p : Progress) (k : ℕ) (y : ℤ) → k < length tree.boxes → laid tree w height inside page_band p k (plainly_reached y) ≡ laid_sort p k (plain_frame y) false (is_context_root tree k)
       laid-sort p k y l =
-          ap (λ r. laid_sort p k (frame_of tree w height page_band k (plainly_reached y)) r (is_context_root tree k)) (not_replaced tree w height k (ready k l))
+          ap (λ r. laid_sort p k (frame_of page_band k (plainly_reached y)) r (is_context_root tree k)) (not_replaced tree w height k (ready k l))
           ∙ ap (λ (f : Frame). laid_sort p k f false (is_context_root tree k)) (frame-is k y l)
 
       -- its content
@@ -190,7 +199,7 @@ module _ (tree : BoxTree) (w : World) (height : ℕ) where
             boxes = rw (band-is y) (placed-after p k y _ _ l e high own.boxes);
             bottom = rw (band-is y) (bottom-is k y _ e high);
             zeros = rw (band-is y) (zero-append (joined_run tree w height (joins_last_child tree k) end.standing) (pos 0 ∷ []) (subst AllZero (sym (ap (λ j. joined_run tree w height j end.standing) (ready-joins tree w height k (ready k l)) ∙ joined_none end.standing)) tt) (refl, tt));
-            flat = λ t. ready-collapses tree w height k (ready k l) (right_of _ (may_collapse_through tree k) t);
+            flat = λ t. ready-collapses tree w height k (ready k l) (both _ (may_collapse_through tree k) t).1;
           }
         where
           start : Progress
@@ -323,7 +332,7 @@ module _ (tree : BoxTree) (w : World) (height : ℕ) where
           made : List (Placed ℤ) → Rendering ℤ
           made l = record { boxes = l }
 
-      pub page-is : page_rendering tree w height ≡ rendering tree w height
+      pub page-is : page_rendering tree w height ≡ stack tree w
       page-is = rendered-is tree.boxes refl
 
 -- ---- pages whose styles are such
@@ -352,5 +361,5 @@ module _ (tree : BoxTree) (is_ready : IsTrue (ready tree)) where
   flow_within : (b : ℕ) → AllByRecursion (λ k. k < length tree.boxes) (flow_children tree b)
   flow_within b = subst (AllByRecursion (λ k. k < length tree.boxes)) (sym (all_flow tree no_inline_at b)) (kids_within b (kids_of tree.boxes b) ((forest tree).kids b))
 
-  pub ready-page : (w : World) (height : ℕ) → page_rendering tree w height ≡ rendering tree w height
+  pub ready-page : (w : World) (height : ℕ) → page_rendering tree w height ≡ stack tree w
   ready-page w height = page-is tree w height (ready-box tree is_ready) no_float_at flow_within no_inline_at

@@ -5,10 +5,10 @@ use Rattle.viz_calc.specs.State.{AllSmall}
 use Rattle.viz_calc.specs.Run.{Goes, Fits, BlamesButMem}
 use Rattle.viz_calc.specs.Renderings.{placed_at}
 use Rattle.layout_semantics.specs.Order.{page_order}
-use Rattle.layout_semantics.specs.Blocks.{placed_block}
-use Rattle.lay_flow.specs.Columns.{AllInside, pending, weight}
-use Rattle.lay_flow.specs.Walks.{block_at, block_parts, layout_parts}
-use Rattle.lay_flow.proofs.engine.render.Given as goal
+use Rattle.lay_flow.specs.steps.Stack.{placed_block}
+use Rattle.lay_flow.specs.steps.Columns.{AllInside, pending, weight}
+use Rattle.lay_flow.specs.steps.Walks.{block_at, block_parts, layout_parts}
+use Rattle.lay_flow.proofs.engine.stack_up.Given as goal
 
 -- the boxes so far, with those that are left, are all of the page
 abbrev pub invariant-loop-column : goal.invariant-loop-column

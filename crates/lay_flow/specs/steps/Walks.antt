@@ -4,7 +4,8 @@ use Rattle.viz_base.specs.declared.renderings.Placed.{Placed}
 use Rattle.viz_base.specs.declared.trees.BoxTree.{BoxTree}
 use Rattle.viz_base.specs.declared.worlds.World.{World}
 use Rattle.layout_semantics.specs.Order.{kids_of, page_order}
-use Rattle.layout_semantics.specs.Blocks.{height_of, kind_of, node_of, top_of, rectangle, plain_box}
+use Rattle.layout_semantics.specs.Blocks.{kind_of, node_of, plain_box}
+use Rattle.lay_flow.specs.steps.Stack.{height_of, top_of, rectangle}
 
 -- a box and its upper edge
 abbrev pub pair : ℕ → ℤ → ℕ × ℤ

@@ -3,8 +3,8 @@ use Rattle.std.specs.List.{flat_map}
 use Rattle.viz_base.specs.declared.trees.BoxTree.{BoxTree}
 use Rattle.viz_calc.specs.World.{Reading}
 use Rattle.layout_semantics.specs.Order.{document_order}
-use Rattle.layout_semantics.specs.Blocks.{height_of}
-use Rattle.lay_flow.specs.Walks.{stacked, walk}
+use Rattle.lay_flow.specs.steps.Stack.{height_of}
+use Rattle.lay_flow.specs.steps.Walks.{stacked, walk}
 use Rattle.lay_flow.specs.declared.engine.Column.{Column}
 
 -- places that have a box, of so many

@@ -11,8 +11,9 @@ use Rattle.viz_base.specs.declared.styles.Style.{Style}
 use Rattle.viz_base.specs.declared.trees.BoxNode.{BoxNode}
 use Rattle.viz_base.specs.declared.trees.BoxTree.{BoxTree}
 use Rattle.layout_semantics.specs.Order.{kids_of}
-use Rattle.layout_semantics.specs.Blocks.{absolute, height_of, heights, earlier, parent_of, top_to, top_of, bottom_of}
-use Rattle.layout_semantics.specs.Limits.{IsSmallPage}
+use Rattle.layout_semantics.specs.Blocks.{parent_of}
+use Rattle.lay_flow.specs.steps.Stack.{absolute, height_of, heights, earlier, top_to, top_of, bottom_of}
+use Rattle.lay_flow.specs.Limits.{IsSmallPage}
 use Rattle.layout_semantics.proofs.Forest.{IsForest, IsKid, both}
 
 -- ---- heights
