@@ -16,7 +16,7 @@ use Rattle.cert_check.specs.Paths.{Path}
 use Rattle.cert_check.specs.Nodes.{by_worlds, Node, nodes_of}
 use Rattle.cert_check.specs.Right.{is_true_at, has_shape, DecidesTruly, IsGood, Right}
 use Rattle.cert_check.specs.Verdicts.{IsBefore, IsFirstUntrue, IsReached, IsBadShape, IsUntrue, IsCause, IsVerdict}
-use Rattle.cert_check.specs.Walk.{Answer, Gives, walk}
+use Rattle.cert_check.specs.steps.Walk.{Answer, GivesNumber, walk}
 use Rattle.cert_check.proofs.Parts.{whole_part}
 use Rattle.cert_check.proofs.Walks.{AllGood, IsBad, Rejects, Tells, walk_tells}
 
@@ -84,10 +84,10 @@ walk_verdict job cert same =
     told_verdict job cert same (walk job cert.root 0 (Some job.range))
     (walk_tells job cert.root [] 0 (Some job.range) refl (whole_part job.range (record { widths = job.ok.in_range.widths; sizes = job.ok.in_range.sizes })))
 
-pub accepts : (job : Job) (cert : Cert) (m : ℕ) → cert.job ≡ job.digest → Gives (Ok m) (walk job cert.root 0 (Some job.range)) → Right job cert
+pub accepts : (job : Job) (cert : Cert) (m : ℕ) → cert.job ≡ job.digest → GivesNumber (Ok m) (walk job cert.root 0 (Some job.range)) → Right job cert
 accepts job cert m same given = subst (λ a. IsVerdict job cert (verdict_of a)) given (walk_verdict job cert same)
 
-pub rejects : (job : Job) (cert : Cert) (reject : Reject) → cert.job ≡ job.digest → Gives (Err (of_stop.Rejected reject)) (walk job cert.root 0 (Some job.range)) → IsCause job cert reject
+pub rejects : (job : Job) (cert : Cert) (reject : Reject) → cert.job ≡ job.digest → GivesNumber (Err (of_stop.Rejected reject)) (walk job cert.root 0 (Some job.range)) → IsCause job cert reject
 rejects job cert reject same given = subst (λ a. IsVerdict job cert (verdict_of a)) given (walk_verdict job cert same)
 
 -- ---- one verdict

@@ -9,7 +9,8 @@ use Rattle.viz_base.specs.declared.jobs.Job.{Job}
 use Rattle.lin_row.specs.Form.{Form, value}
 use Rattle.cert_text.specs.declared.certificate.Cert.{Cert}
 use Rattle.cert_text.specs.declared.certificate.CertNode.{CertNode}
-use Rattle.cert_check.specs.Paths.{variables, Path, IsOnSide, IsOnPath}
+use Rattle.cert_check.specs.Paths.{values_along, split, Path, IsUnder, IsOn}
+use Rattle.cert_check.specs.declared.cuts.Child.TheVariants.{First, Second}
 use Rattle.cert_check.specs.Nodes.{by_row, by_worlds, Node, nodes_from, nodes_of}
 use Rattle.cert_check.specs.Right.{Holds, DecidesTruly, Right}
 use Rattle.cert_check.specs.Laws.{IsGridOf}
@@ -18,7 +19,7 @@ use Rattle.cert_check.proofs.Trees.{grid_node, split_node, by_nodes, nodes-grid,
 -- the node is a grid on whose path the world lies
 pub record Takes_in (world : World) (node : Node) : Type 0 where
   pub grid : node.decision ≡ by_worlds
-  pub on_path : IsOnPath world node.path
+  pub on_path : IsOn node.path world
 
 abbrev NoneOf : World → List Node → Type 0
 NoneOf world = AllByRecursion (λ (node : Node). Takes_in world node → ⊥)
@@ -45,7 +46,7 @@ no_split world path row h = absurd (cc (h.grid))
 
 -- a node has one grid for a world that comes to it, and none for another
 abbrev HasOne : World → CertNode → Type 0
-HasOne world node = (path : Path) → (IsOnPath world path → OneOf world (nodes_from node path)) × ((IsOnPath world path → ⊥) → NoneOf world (nodes_from node path))
+HasOne world node = (path : Path) → (IsOn path world → OneOf world (nodes_from node path)) × ((IsOn path world → ⊥) → NoneOf world (nodes_from node path))
 
 grid_one : (world : World) → HasOne world grid_node
 grid_one world path = (
@@ -53,26 +54,26 @@ grid_one world path = (
   λ off. rw nodes-grid ((λ h. off h.on_path), tt),
 )
 
-sides : (v : ℤ) → (IsOnSide true v × (IsOnSide false v → ⊥)) ⊎ (IsOnSide false v × (IsOnSide true v → ⊥))
+sides : (v : ℤ) → (IsUnder First v × (IsUnder Second v → ⊥)) ⊎ (IsUnder Second v × (IsUnder First v → ⊥))
 sides (pos n) = inl (omega (arith, ints), λ h. absurd (omega (arith, ints)))
 sides (negsuc n) = inr (omega (arith, ints), λ h. absurd (omega (arith, ints)))
 
 split_one : (world : World) (row : Form) (first second : CertNode) → HasOne world first → HasOne world second → HasOne world (split_node row first second)
 split_one world row first second one two path = (
-  λ on. rw nodes-split (inr (no_split world path row, by_side on (sides (value row (variables world))))),
+  λ on. rw nodes-split (inr (no_split world path row, by_side on (sides (value row (values_along world path))))),
   λ off. rw nodes-split (
     no_split world path row,
-    none_append world (nodes_from first (record { row = row; first = true } ∷ path)) (nodes_from second (record { row = row; first = false } ∷ path))
-        ((one (record { row = row; first = true } ∷ path)).1 (λ h. off h.1)) ((two (record { row = row; first = false } ∷ path)).1 (λ h. off h.1)),
+    none_append world (nodes_from first (split row First ∷ path)) (nodes_from second (split row Second ∷ path))
+        ((one (split row First ∷ path)).1 (λ h. off h.1)) ((two (split row Second ∷ path)).1 (λ h. off h.1)),
   ),
 )
   where
-    by_side : IsOnPath world path → (IsOnSide true (value row (variables world)) × (IsOnSide false (value row (variables world)) → ⊥)) ⊎ (IsOnSide false (value row (variables world)) × (IsOnSide true (value row (variables world)) → ⊥))
-        → OneOf world (nodes_from first (record { row = row; first = true } ∷ path) ++ nodes_from second (record { row = row; first = false } ∷ path))
-    by_side on (inl h) = one_first world (nodes_from first (record { row = row; first = true } ∷ path)) (nodes_from second (record { row = row; first = false } ∷ path))
-        ((one (record { row = row; first = true } ∷ path)).0 (h.0, on)) ((two (record { row = row; first = false } ∷ path)).1 (λ o. h.1 o.0))
-    by_side on (inr h) = one_second world (nodes_from first (record { row = row; first = true } ∷ path)) (nodes_from second (record { row = row; first = false } ∷ path))
-        ((one (record { row = row; first = true } ∷ path)).1 (λ o. h.1 o.0)) ((two (record { row = row; first = false } ∷ path)).0 (h.0, on))
+    by_side : IsOn path world → (IsUnder First (value row (values_along world path)) × (IsUnder Second (value row (values_along world path)) → ⊥)) ⊎ (IsUnder Second (value row (values_along world path)) × (IsUnder First (value row (values_along world path)) → ⊥))
+        → OneOf world (nodes_from first (split row First ∷ path) ++ nodes_from second (split row Second ∷ path))
+    by_side on (inl h) = one_first world (nodes_from first (split row First ∷ path)) (nodes_from second (split row Second ∷ path))
+        ((one (split row First ∷ path)).0 (h.0, on)) ((two (split row Second ∷ path)).1 (λ o. h.1 o.0))
+    by_side on (inr h) = one_second world (nodes_from first (split row First ∷ path)) (nodes_from second (split row Second ∷ path))
+        ((one (split row First ∷ path)).1 (λ o. h.1 o.0)) ((two (split row Second ∷ path)).0 (h.0, on))
 
 has_one : (world : World) (node : CertNode) → HasOne world node
 has_one world = by_nodes (HasOne world) (grid_one world) (split_one world)

@@ -8,7 +8,7 @@ use Rattle.cert_text.specs.declared.certificate.CertNode.TheViews.{the_lemmas}
 use Rattle.cert_text.specs.declared.certificate.CertNode.TheFolds.{fold-roll-CertNode, fold_out-CertNode}
 use Rattle.cert_text.specs.Grammar.{NodeText, grid, split, CertText}
 use Rattle.cert_check.specs.Nodes.{nodes_of}
-use Rattle.cert_check.specs.Walk.{node_count}
+use Rattle.cert_check.specs.steps.Walk.{node_count}
 use Rattle.cert_check.proofs.Trees.{count-Split}
 use Rattle.cert_check.proofs.Walks.{count_is}
 

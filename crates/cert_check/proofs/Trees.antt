@@ -10,7 +10,7 @@ use Rattle.cert_text.specs.declared.certificate.CertNode.TheFolds.{ind-CertNode,
 use Rattle.cert_check.specs.Paths.{Path}
 use Rattle.cert_check.specs.Nodes.{Node, nodes_step, nodes_from}
 use Rattle.cert_check.specs.Rectangles.{cut_of}
-use Rattle.cert_check.specs.Walk.{Walk, grid_walk, split_walk, walk_step, walk, count_step, node_count}
+use Rattle.cert_check.specs.steps.Walk.{Walk, grid_walk, split_walk, walk_step, walk, count_step, node_count}
 
 abbrev pub grid_node : CertNode
 grid_node = roll-CertNode CertNode-F.Grid

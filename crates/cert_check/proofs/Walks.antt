@@ -1,5 +1,5 @@
 -- What the walk over a certificate finds.
-use Rattle.std.proofs.Common.{◌≡◌, ℕ, ◌+◌, ◌-◌, Bool, true, false, nat_le, List, [], ◌∷◌, ◌++◌, length, Option, Some, None, Ok, Err, refl, sym, ap, subst, arith, inl, inr, IsTrue}
+use Rattle.std.proofs.Common.{◌≡◌, ℕ, ◌+◌, ◌-◌, Bool, true, false, nat_le, List, [], ◌∷◌, ◌++◌, length, Option, Some, None, Ok, Err, refl, sym, ap, ◌∙◌, subst, arith, inl, inr, IsTrue}
 use Rattle.viz_base.specs.declared.memory.Mem.{Mem}
 use Rattle.std.specs.Prelude.{IfOk, Result, ◌⊎◌}
 use Rattle.std.specs.List.{AllByRecursion}
@@ -14,13 +14,15 @@ use Rattle.cert_text.specs.declared.certificate.CertNode.{CertNode}
 use Rattle.cert_check.specs.declared.cuts.Cut.{Cut}
 use Rattle.cert_check.specs.declared.verdicts.Reject.{Reject}
 use Rattle.cert_check.specs.declared.verdicts.Reject.TheVariants.{OtherJob, Shape, Untrue}
-use Rattle.cert_check.specs.Paths.{Path}
-use Rattle.cert_check.specs.Rectangles.{world_count, cut_of, part_of, rectangle}
+use Rattle.cert_check.specs.declared.cuts.Child.{Child}
+use Rattle.cert_check.specs.declared.cuts.Child.TheVariants.{First, Second}
+use Rattle.cert_check.specs.Paths.{split, Path}
+use Rattle.cert_check.specs.Rectangles.{world_count, cut_of, part_of, cut_at, rectangle}
 use Rattle.cert_check.specs.Nodes.{by_row, by_worlds, Node, nodes_from}
 use Rattle.cert_check.specs.Right.{is_true_at, is_small, has_shape, IsGood}
 use Rattle.cert_check.specs.Verdicts.{IsBefore, IsFirstUntrue, IsTrueIn, IsFirstUntrueIn}
 use Rattle.cert_check.specs.Laws.{IsPartOn}
-use Rattle.cert_check.specs.Walk.{Answer, ◌>>=◌, unless_true, untrue_at, untrue_of_width, first_untrue, rejects_world, small_walk, grid_walk, split_walk, walk, node_count}
+use Rattle.cert_check.specs.steps.Walk.{Answer, ◌>>=◌, unless_true, untrue_at, untrue_of_width, first_untrue, rejects_world, small_walk, grid_walk, split_walk, walk, node_count}
 use Rattle.cert_check.proofs.Trees.{grid_node, split_node, by_nodes, nodes-grid, nodes-split, walk-grid, walk-split, count-grid, count-split}
 use Rattle.cert_check.proofs.Parts.{child_part}
 use Rattle.cert_check.proofs.Seeks.{IsFound, seek-none, seek-found}
@@ -176,25 +178,26 @@ WalkTells job node = (path : Path) (n : ℕ) (part : Option Rect) → part ≡ r
 grid_walk_tells : (job : Job) → WalkTells job grid_node
 grid_walk_tells job path n part is of_path = rw (nodes-grid, walk-grid) (grid_tells job n path part is of_path)
 
-below : (range : Rect) (path : Path) (row : Form) (cut : Cut) (first : Bool) (part : Option Rect) → cut_of row ≡ Some cut → part ≡ rectangle range path
-    → option_and_then (part_of cut first) part ≡ rectangle range (record { row = row; first = first } ∷ path)
-below range path row cut first part is e = rw (is, e) refl
+below : (range : Rect) (path : Path) (row : Form) (cut : Cut) (child : Child) (part : Option Rect) → cut_of row ≡ Some cut → part ≡ rectangle range path
+    → option_and_then (part_of cut child) part ≡ rectangle range (split row child ∷ path)
+below range path row cut child part is e =
+    ap (λ p. option_and_then (part_of cut child) p) e ∙ ap (λ o. option_and_then (cut_at o child) (rectangle range path)) (sym is)
 
 split_walk_tells : (job : Job) (row : Form) (first second : CertNode) → WalkTells job first → WalkTells job second → WalkTells job (split_node row first second)
 split_walk_tells job row first second one two path n part is of_path = rw (nodes-split, walk-split) (by_cut (cut_of row) refl)
   where
     by_cut : (o : Option Cut) → cut_of row ≡ o
-        → Tells job (record { path = path; decision = by_row row } ∷ (nodes_from first (record { row = row; first = true } ∷ path) ++ nodes_from second (record { row = row; first = false } ∷ path))) n
+        → Tells job (record { path = path; decision = by_row row } ∷ (nodes_from first (split row First ∷ path) ++ nodes_from second (split row Second ∷ path))) n
         (split_walk o (walk job first) (walk job second) n part)
     by_cut None e = inl (refl, ap is_some e)
     by_cut (Some cut) e =
         then_second job (record { path = path; decision = by_row row })
-        (nodes_from first (record { row = row; first = true } ∷ path)) (nodes_from second (record { row = row; first = false } ∷ path)) n
+        (nodes_from first (split row First ∷ path)) (nodes_from second (split row Second ∷ path)) n
         (record { shaped = ap is_some e; decides = tt })
-        (walk job first (n + 1) (option_and_then (part_of cut true) part))
-        (one (record { row = row; first = true } ∷ path) (n + 1) (option_and_then (part_of cut true) part) (below job.range path row cut true part e is) (child_part job.range path row cut true part e of_path))
-        (λ m. walk job second m (option_and_then (part_of cut false) part))
-        (λ m. two (record { row = row; first = false } ∷ path) m (option_and_then (part_of cut false) part) (below job.range path row cut false part e is) (child_part job.range path row cut false part e of_path))
+        (walk job first (n + 1) (option_and_then (part_of cut First) part))
+        (one (split row First ∷ path) (n + 1) (option_and_then (part_of cut First) part) (below job.range path row cut First part e is) (child_part job.range path row cut First part e of_path))
+        (λ m. walk job second m (option_and_then (part_of cut Second) part))
+        (λ m. two (split row Second ∷ path) m (option_and_then (part_of cut Second) part) (below job.range path row cut Second part e is) (child_part job.range path row cut Second part e of_path))
 
 pub walk_tells : (job : Job) (node : CertNode) → WalkTells job node
 walk_tells job = by_nodes (WalkTells job) (grid_walk_tells job) (split_walk_tells job)
@@ -202,20 +205,20 @@ walk_tells job = by_nodes (WalkTells job) (grid_walk_tells job) (split_walk_tell
 -- ---- how many nodes there are
 
 pub count_is : (node : CertNode) (path : Path) → length (nodes_from node path) ≡ node_count node
-count_is = by_nodes (λ node. (path : Path) → length (nodes_from node path) ≡ node_count node) grid split
+count_is = by_nodes (λ node. (path : Path) → length (nodes_from node path) ≡ node_count node) of_grid of_split
   where
-    grid : (path : Path) → length (nodes_from grid_node path) ≡ node_count grid_node
-    grid path = rw (nodes-grid, count-grid) refl
+    of_grid : (path : Path) → length (nodes_from grid_node path) ≡ node_count grid_node
+    of_grid path = rw (nodes-grid, count-grid) refl
 
-    split : (row : Form) (first second : CertNode) → ((path : Path) → length (nodes_from first path) ≡ node_count first) → ((path : Path) → length (nodes_from second path) ≡ node_count second)
+    of_split : (row : Form) (first second : CertNode) → ((path : Path) → length (nodes_from first path) ≡ node_count first) → ((path : Path) → length (nodes_from second path) ≡ node_count second)
         → (path : Path) → length (nodes_from (split_node row first second) path) ≡ node_count (split_node row first second)
-    split row first second one two path =
+    of_split row first second one two path =
         rw (nodes-split, count-split)
         (omega (
           arith,
-          length_append (nodes_from first (record { row = row; first = true } ∷ path)) (nodes_from second (record { row = row; first = false } ∷ path)),
-          one (record { row = row; first = true } ∷ path),
-          two (record { row = row; first = false } ∷ path),
+          length_append (nodes_from first (split row First ∷ path)) (nodes_from second (split row Second ∷ path)),
+          one (split row First ∷ path),
+          two (split row Second ∷ path),
         ))
 
 -- ---- steps of the loops

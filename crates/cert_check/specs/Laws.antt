@@ -1,14 +1,15 @@
 -- Laws over certificates.
-use Rattle.std.specs.Prelude.{◌≡◌, ◌↔◌, ◌⊎◌, ℕ, ◌<◌, ◌≤◌, ℤ, pos, negsuc, [], ◌∷◌, Option, Some, None, IsTrue, slice_get}
+use Rattle.std.specs.Prelude.{◌≡◌, ◌↔◌, ◌⊎◌, ℕ, ◌≤◌, ℤ, Bool, pos, negsuc, [], ◌∷◌, Option, Some, None, IsTrue, slice_get}
 use Rattle.std.specs.List.{AllByRecursion}
 use Rattle.viz_base.specs.declared.worlds.World.{World}
+use Rattle.viz_base.specs.declared.worlds.Axis.{Axis}
 use Rattle.viz_base.specs.declared.worlds.Rect.{Rect}
 use Rattle.viz_base.specs.declared.jobs.Job.{Job}
 use Rattle.logic_semantics.specs.Ranges.{IsInRange}
 use Rattle.lin_row.specs.Form.{Form}
 use Rattle.cert_text.specs.declared.certificate.Cert.{Cert}
 use Rattle.cert_check.specs.declared.verdicts.Verdict.{Verdict}
-use Rattle.cert_check.specs.Paths.{Turn, Path, IsOnPath}
+use Rattle.cert_check.specs.Paths.{variable_of, Step, split, Path, IsOn}
 use Rattle.cert_check.specs.Rectangles.{is_unit, rectangle}
 use Rattle.cert_check.specs.Nodes.{by_worlds, Node, nodes_of}
 use Rattle.cert_check.specs.Right.{Holds, Right}
@@ -19,7 +20,7 @@ pub record IsGridOf (cert : Cert) (world : World) (n : ℕ) : Type 0 where
   pub node : Node
   pub is_node : slice_get (nodes_of cert) n ≡ Some node
   pub grid : node.decision ≡ by_worlds
-  pub on_path : IsOnPath world node.path
+  pub on_path : IsOn node.path world
 
 -- each world lies on the path of exactly one grid
 abbrev pub OneGrid : Type 0
@@ -33,12 +34,11 @@ RightHolds = (job : Job) (cert : Cert) → Right job cert → Holds job
 abbrev pub OneVerdict : Type 0
 OneVerdict = (job : Job) (cert : Cert) (first second : Verdict) → IsVerdict job cert first → IsVerdict job cert second → first ≡ second
 
--- a row with one variable, 0 or 1, and the coefficient 1 or -1
+-- a row with one variable, which stands for an axis, and the coefficient 1 or -1
 pub record IsUnitRow (row : Form) : Type 0 where
-  pub variable : ℕ
+  pub axis : Axis
   pub coefficient : ℤ
-  pub terms : row.terms ≡ (variable, coefficient) ∷ []
-  pub declared : variable < 2
+  pub terms : row.terms ≡ (variable_of axis, coefficient) ∷ []
   pub unit : (coefficient ≡ pos 1) ⊎ (coefficient ≡ negsuc 0)
 
 abbrev pub UnitIsUnitRow : Type 0
@@ -49,13 +49,16 @@ pub record IsProper (r : Rect) : Type 0 where
   pub widths : r.wl ≤ r.wh
   pub sizes : r.sl ≤ r.sh
 
+abbrev pub is_unit_step : Step → Bool
+is_unit_step (split row child) = is_unit row
+
 abbrev pub HasUnits : Path → Type 0
-HasUnits = AllByRecursion (λ (turn : Turn). IsTrue (is_unit turn.row))
+HasUnits = AllByRecursion (λ (step : Step). IsTrue (is_unit_step step))
 
 -- the worlds of this part are those of the range on the path
 abbrev pub IsPartOn : Rect → Path → Option Rect → Type 0
-IsPartOn range path (Some r) = IsProper r × ((world : World) → IsInRange r world ↔ (IsInRange range world × IsOnPath world path))
-IsPartOn range path None = (world : World) → IsInRange range world → IsOnPath world path → ⊥
+IsPartOn range path (Some r) = IsProper r × ((world : World) → IsInRange r world ↔ (IsInRange range world × IsOn path world))
+IsPartOn range path None = (world : World) → IsInRange range world → IsOn path world → ⊥
 
 -- where each split above is a unit split, the rectangle has just the worlds of the range on the path
 abbrev pub RectangleIsPath : Type 0

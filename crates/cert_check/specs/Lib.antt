@@ -4,4 +4,4 @@ pub mod Nodes
 pub mod Right
 pub mod Verdicts
 pub mod Laws
-pub mod Walk
+pub mod steps

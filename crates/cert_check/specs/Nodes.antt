@@ -1,11 +1,12 @@
 -- The nodes of a certificate.
-use Rattle.std.specs.Prelude.{true, false, List, [], ◌∷◌, ◌++◌}
+use Rattle.std.specs.Prelude.{List, [], ◌∷◌, ◌++◌}
 use Rattle.lin_row.specs.Form.{Form}
 use Rattle.cert_text.specs.declared.certificate.Cert.{Cert}
 use Rattle.cert_text.specs.declared.certificate.CertNode.{CertNode}
 use Rattle.cert_text.specs.declared.certificate.CertNode.TheOpen.{CertNode-F}
 use Rattle.cert_text.specs.declared.certificate.CertNode.TheFolds.{fold-CertNode}
-use Rattle.cert_check.specs.Paths.{Path}
+use Rattle.cert_check.specs.declared.cuts.Child.TheVariants.{First, Second}
+use Rattle.cert_check.specs.Paths.{split, Path}
 
 -- how a node decides its part of the range: by a split's row, or world by world
 pub data Decision : Type 0 where
@@ -20,7 +21,7 @@ pub record Node : Type 0 where
 abbrev pub nodes_step : CertNode-F (Path → List Node) → Path → List Node
 nodes_step (CertNode-F.Split row first second) path =
     record { path = path; decision = by_row row }
-    ∷ (first (record { row = row; first = true } ∷ path) ++ second (record { row = row; first = false } ∷ path))
+    ∷ (first (split row First ∷ path) ++ second (split row Second ∷ path))
 nodes_step CertNode-F.Grid path = record { path = path; decision = by_worlds } ∷ []
 
 -- a node on a path and all below it, in preorder: each before its first child's, and these before its second child's

@@ -1,12 +1,18 @@
 -- The rectangle that unit splits leave of a range.
-use Rattle.std.specs.Prelude.{ℕ, ◌+◌, ◌-◌, ◌*◌, ◌≤◌, ◌==◌, ℤ, pos, negsuc, neg_ℤ, ◌-ℤ◌, Bool, true, false, nat_lt, nat_le, [], ◌∷◌, min, max, Option, Some, None, is_some, if◌then◌else◌}
+use Rattle.std.specs.Prelude.{ℕ, ◌+◌, ◌-◌, ◌*◌, ◌≤◌, ℤ, pos, negsuc, neg_ℤ, ◌-ℤ◌, Bool, nat_lt, nat_le, [], ◌∷◌, min, max, Option, Some, None, is_some, if◌then◌else◌}
 use Rattle.std.specs.Ordering.{int_eq}
 use Rattle.std.specs.Option.{option_map, option_and_then}
 use Rattle.viz_base.specs.declared.worlds.Rect.{Rect}
+use Rattle.viz_base.specs.declared.worlds.Axis.{Axis}
+use Rattle.viz_base.specs.declared.worlds.Span.{Span}
+use Rattle.viz_base.specs.Worlds.{side_of, with_side}
 use Rattle.lin_row.specs.Form.{Form, Terms}
+use Rattle.cert_check.specs.declared.cuts.Child.{Child}
+use Rattle.cert_check.specs.declared.cuts.Child.TheVariants.{First, Second}
+use Rattle.cert_check.specs.declared.cuts.Opens.{Opens}
+use Rattle.cert_check.specs.declared.cuts.Opens.TheVariants.{Above, UpTo}
 use Rattle.cert_check.specs.declared.cuts.Cut.{Cut}
-use Rattle.cert_check.specs.declared.cuts.Side.{Side}
-use Rattle.cert_check.specs.Paths.{Path}
+use Rattle.cert_check.specs.Paths.{axis_of, Step, split, Path}
 
 -- how many worlds a rectangle has that has one
 abbrev pub world_count : Rect → ℕ
@@ -19,18 +25,18 @@ pub record IsWithin (outer inner : Rect) : Type 0 where
   pub size_least : outer.sl ≤ inner.sl
   pub size_most : inner.sh ≤ outer.sh
 
--- ---- unit rows: those with one variable, 0 or 1, and the coefficient 1 or -1
+-- ---- unit rows: those with one variable, which stands for an axis, and the coefficient 1 or -1
 
 -- `k + x` is at least 0 exactly where x is above `-k - 1`, and `k - x` where x is at most k
-abbrev pub coefficient_cut : ℤ → ℕ → ℤ → Option Cut
-coefficient_cut k x c =
-    if int_eq c (pos 1) then Some (record { variable = x; rising = true; bound = neg_ℤ k -ℤ pos 1 })
-    else if int_eq c (negsuc 0) then Some (record { variable = x; rising = false; bound = k })
+abbrev pub coefficient_cut : ℤ → Axis → ℤ → Option Cut
+coefficient_cut k axis c =
+    if int_eq c (pos 1) then Some (record { axis = axis; opens = Above; bound = neg_ℤ k -ℤ pos 1 })
+    else if int_eq c (negsuc 0) then Some (record { axis = axis; opens = UpTo; bound = k })
     else None
 
 abbrev pub terms_cut : ℤ → Terms → Option Cut
 terms_cut k [] = None
-terms_cut k (t ∷ []) = if nat_lt t.0 2 then coefficient_cut k t.0 t.1 else None
+terms_cut k (t ∷ []) = option_and_then (λ axis. coefficient_cut k axis t.1) (axis_of t.0)
 terms_cut k (t ∷ u ∷ ts) = None
 
 -- where a unit row is at least 0; None of another row
@@ -43,43 +49,38 @@ is_unit row = is_some (cut_of row)
 -- ---- cutting
 
 -- the numbers of a side that are at most the bound
-abbrev pub at_most : ℤ → Side → Option Side
+abbrev pub at_most : ℤ → Span → Option Span
 at_most (pos b) side = if nat_le side.least b then Some (record { least = side.least; most = min b side.most }) else None
 at_most (negsuc b) side = None
 
 -- those that are above it
-abbrev pub above : ℤ → Side → Option Side
+abbrev pub above : ℤ → Span → Option Span
 above (pos b) side = if nat_lt b side.most then Some (record { least = max (b + 1) side.least; most = side.most }) else None
 above (negsuc b) side = Some side
 
-abbrev pub cut_side : Bool → ℤ → Side → Option Side
-cut_side true bound side = above bound side
-cut_side false bound side = at_most bound side
+abbrev pub cut_side : Opens → ℤ → Span → Option Span
+cut_side Above bound side = above bound side
+cut_side UpTo bound side = at_most bound side
 
--- a rectangle's widths, for the variable 0, or its sizes
-abbrev pub side_of : ℕ → Rect → Side
-side_of x r = if x == 0 then (record { least = r.wl; most = r.wh }) else (record { least = r.sl; most = r.sh })
+-- on which side of a cut's bound a child's worlds are
+abbrev pub toward : Child → Opens → Opens
+toward First opens = opens
+toward Second Above = UpTo
+toward Second UpTo = Above
 
-abbrev pub with_side : ℕ → Rect → Side → Rect
-with_side x r side =
-    if x == 0 then (record { wl = side.least; wh = side.most; sl = r.sl; sh = r.sh })
-    else (record { wl = r.wl; wh = r.wh; sl = side.least; sh = side.most })
+-- the worlds of a rectangle that lie under a child of a split by a unit row
+abbrev pub part_of : Cut → Child → Rect → Option Rect
+part_of cut child r = option_map (with_side cut.axis r) (cut_side (toward child cut.opens) cut.bound (side_of cut.axis r))
 
--- whether the numbers above the bound are taken
-abbrev pub same : Bool → Bool → Bool
-same true b = b
-same false true = false
-same false false = true
+abbrev pub cut_at : Option Cut → Child → Rect → Option Rect
+cut_at (Some cut) child r = part_of cut child r
+cut_at None child r = Some r
 
--- the worlds of a rectangle that take a turn at a unit row
-abbrev pub part_of : Cut → Bool → Rect → Option Rect
-part_of cut first r = option_map (with_side cut.variable r) (cut_side (same first cut.rising) cut.bound (side_of cut.variable r))
-
-abbrev pub turned : Option Cut → Bool → Rect → Option Rect
-turned (Some cut) first r = part_of cut first r
-turned None first r = Some r
+-- what a step leaves of a rectangle: a split by another row than a unit row leaves it whole
+abbrev pub past_step : Step → Rect → Option Rect
+past_step (split row child) r = cut_at (cut_of row) child r
 
 -- the range cut by the unit splits of a path; None where no world is left
 abbrev pub rectangle : Rect → Path → Option Rect
 rectangle range [] = Some range
-rectangle range (turn ∷ outer) = option_and_then (turned (cut_of turn.row) turn.first) (rectangle range outer)
+rectangle range (step ∷ outer) = option_and_then (past_step step) (rectangle range outer)

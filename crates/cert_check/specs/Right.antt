@@ -8,7 +8,7 @@ use Rattle.layout_semantics.specs.Page.{page_rendering}
 use Rattle.logic_semantics.specs.Ranges.{IsInRange, holds_at}
 use Rattle.logic_semantics.specs.Ranges.{Holds as HoldsOver}
 use Rattle.cert_text.specs.declared.certificate.Cert.{Cert}
-use Rattle.cert_check.specs.Paths.{Path, IsOnPath}
+use Rattle.cert_check.specs.Paths.{Path, IsOn}
 use Rattle.cert_check.specs.Rectangles.{world_count, is_unit, rectangle}
 use Rattle.cert_check.specs.Nodes.{Decision, by_row, by_worlds, Node, nodes_of}
 
@@ -41,7 +41,7 @@ has_shape range node = decision_shaped range node.path node.decision
 
 -- the formula is true at each world of the range on the path
 abbrev pub IsTrueOn : Job → Path → Type 0
-IsTrueOn job path = (world : World) → IsInRange job.range world → IsOnPath world path → IsTrue (is_true_at job world)
+IsTrueOn job path = (world : World) → IsInRange job.range world → IsOn path world → IsTrue (is_true_at job world)
 
 abbrev pub DecidesTruly : Job → Path → Decision → Type 0
 DecidesTruly job path (by_row row) = Unit {0}

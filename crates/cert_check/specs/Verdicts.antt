@@ -9,7 +9,7 @@ use Rattle.cert_check.specs.declared.verdicts.Verdict.{Verdict}
 use Rattle.cert_check.specs.declared.verdicts.Verdict.TheVariants.{Accepted, Rejected}
 use Rattle.cert_check.specs.declared.verdicts.Reject.{Reject}
 use Rattle.cert_check.specs.declared.verdicts.Reject.TheVariants.{OtherJob, Shape, Untrue}
-use Rattle.cert_check.specs.Paths.{Path, IsOnPath}
+use Rattle.cert_check.specs.Paths.{Path, IsOn}
 use Rattle.cert_check.specs.Nodes.{by_worlds, Node, nodes_of}
 use Rattle.cert_check.specs.Right.{is_true_at, has_shape, IsGood, Right}
 
@@ -20,9 +20,9 @@ IsBefore a b = (a.w < b.w) ⊎ ((a.w ≡ b.w) × (a.s < b.s))
 -- the first world of the range on the path at which the formula is false
 pub record IsFirstUntrue (job : Job) (path : Path) (world : World) : Type 0 where
   pub in_range : IsInRange job.range world
-  pub on_path : IsOnPath world path
+  pub on_path : IsOn path world
   pub untrue : is_true_at job world ≡ false
-  pub first : (other : World) → IsBefore other world → IsInRange job.range other → IsOnPath other path → IsTrue (is_true_at job other)
+  pub first : (other : World) → IsBefore other world → IsInRange job.range other → IsOn path other → IsTrue (is_true_at job other)
 
 -- the formula is true at each world of a rectangle
 abbrev pub IsTrueIn : Job → Rect → Type 0

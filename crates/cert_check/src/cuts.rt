@@ -1,9 +1,11 @@
 ghost use Rattle.std.specs.Prelude.{◌≡◌, ◌^◌, ◌<◌, ◌≤◌, Some, None, IfSome, OnSome};
 ghost use Rattle.std.specs.Option.{option_map};
-ghost use Rattle.cert_check.specs.Rectangles.{world_count, coefficient_cut, cut_of, at_most, above, cut_side, side_of, with_side, part_of, same};
+ghost use Rattle.viz_base.specs.Worlds.{side_of, with_side};
+ghost use Rattle.cert_check.specs.Paths.{axis_of, variable_of};
+ghost use Rattle.cert_check.specs.Rectangles.{world_count, coefficient_cut, cut_of, at_most, above, cut_side, toward, part_of};
 
 use lin_row::Row;
-use viz_base::Rect;
+use viz_base::{Axis, Rect, Span};
 
 /// How many worlds a rectangle has whose least width and size are not above the greatest.
 pub fn world_count(rect: Rect) -> u64
@@ -16,36 +18,69 @@ pub fn world_count(rect: Rect) -> u64
     widths * sizes
 }
 
-/// Where a unit row is at least 0: where its variable is above a bound, or at most that.
+/// One of a split's two children.
+#[derive(Clone, Copy, Debug)]
+pub enum Child {
+    /// The one where the split's row is at least 0.
+    First,
+    /// The one where it is below 0.
+    Second,
+}
+
+/// Which numbers a cut takes.
+#[derive(Clone, Copy, Debug)]
+pub enum Opens {
+    /// Those above its bound.
+    Above,
+    /// Those that are at most its bound.
+    UpTo,
+}
+
+/// Where a unit row is at least 0: at the numbers of one axis on one side of a bound.
 #[derive(Clone, Copy, Debug)]
 pub struct Cut {
-    /// 0 for the width, 1 for the default font size.
-    pub variable: u32,
-    /// Whether it is above the bound.
-    pub rising: bool,
+    /// The axis of the row's variable.
+    pub axis: Axis,
+    /// On which side of the bound.
+    pub opens: Opens,
+    /// The bound, any number of `i128`.
     pub bound: i128,
 }
 
-/// The whole numbers from one to another.
-#[derive(Clone, Copy, Debug)]
-pub struct Side {
-    pub least: u32,
-    pub most: u32,
+/// The axis that a variable of a row stands for.
+pub fn axis_of(variable: u32) -> Option<Axis>
+    ensures { result ≡ axis_of variable }
+{
+    match variable {
+        0 => Some(Axis::Width),
+        1 => Some(Axis::Size),
+        _ => None,
+    }
 }
 
-/// Where `k + coefficient * variable` is at least 0, the coefficient being 1 or -1.
-fn coefficient_cut(k: i128, variable: u32, coefficient: i128) -> Option<Cut>
-    ensures { result ≡ coefficient_cut k variable coefficient }
+/// The variable that stands for an axis.
+pub fn variable_of(axis: Axis) -> u32
+    ensures { result ≡ variable_of axis }
+{
+    match axis {
+        Axis::Width => 0,
+        Axis::Size => 1,
+    }
+}
+
+/// Where `k + coefficient * number` is at least 0 for the number on the axis, the coefficient being 1 or -1.
+fn coefficient_cut(k: i128, axis: Axis, coefficient: i128) -> Option<Cut>
+    ensures { result ≡ coefficient_cut k axis coefficient }
 {
     match coefficient {
         1 => Some(Cut {
-            variable,
-            rising: true,
+            axis,
+            opens: Opens::Above,
             bound: -1 - k,
         }),
         -1 => Some(Cut {
-            variable,
-            rising: false,
+            axis,
+            opens: Opens::UpTo,
             bound: k,
         }),
         _ => None,
@@ -57,13 +92,13 @@ pub fn cut_of(row: &Row) -> Option<Cut>
     ensures { result ≡ cut_of row.now }
 {
     match row.terms.as_slice() {
-        [term] if term.0 < 2 => coefficient_cut(row.k, term.0, term.1),
+        [term] => coefficient_cut(row.k, axis_of(term.0)?, term.1),
         _ => None,
     }
 }
 
 /// The numbers of a side that are at most the bound.
-fn at_most(bound: i128, side: Side) -> Option<Side>
+fn at_most(bound: i128, side: Span) -> Option<Span>
     ensures { result ≡ at_most bound side }
 {
     if bound < i128::from(side.least) {
@@ -74,14 +109,14 @@ fn at_most(bound: i128, side: Side) -> Option<Side>
     } else {
         side.most
     };
-    Some(Side {
+    Some(Span {
         least: side.least,
         most,
     })
 }
 
 /// The numbers of a side that are above the bound.
-fn above(bound: i128, side: Side) -> Option<Side>
+fn above(bound: i128, side: Span) -> Option<Span>
     ensures { result ≡ above bound side }
 {
     if i128::from(side.most) <= bound {
@@ -92,65 +127,37 @@ fn above(bound: i128, side: Side) -> Option<Side>
     } else {
         side.least
     };
-    Some(Side {
+    Some(Span {
         least,
         most: side.most,
     })
 }
 
-fn cut_side(rising: bool, bound: i128, side: Side) -> Option<Side>
-    ensures { result ≡ cut_side rising bound side }
+/// The numbers of a side that a cut takes.
+fn cut_side(opens: Opens, bound: i128, side: Span) -> Option<Span>
+    ensures { result ≡ cut_side opens bound side }
 {
-    if rising {
-        above(bound, side)
-    } else {
-        at_most(bound, side)
+    match opens {
+        Opens::Above => above(bound, side),
+        Opens::UpTo => at_most(bound, side),
     }
 }
 
-/// A rectangle's widths, for the variable 0, or its sizes.
-fn side_of(variable: u32, rect: Rect) -> Side
-    ensures { result ≡ side_of variable rect }
+/// On which side of a cut's bound a child's worlds are.
+fn toward(child: Child, opens: Opens) -> Opens
+    ensures { result ≡ toward child opens }
 {
-    if variable == 0 {
-        Side {
-            least: rect.wl,
-            most: rect.wh,
-        }
-    } else {
-        Side {
-            least: rect.sl,
-            most: rect.sh,
-        }
+    match (child, opens) {
+        (Child::First, opens) => opens,
+        (Child::Second, Opens::Above) => Opens::UpTo,
+        (Child::Second, Opens::UpTo) => Opens::Above,
     }
 }
 
-/// The rectangle with other widths, for the variable 0, or with other sizes.
-fn with_side(variable: u32, rect: Rect, side: Side) -> Rect
-    ensures { result ≡ with_side variable rect side }
+/// The worlds of a rectangle that lie under a child of a split; None where there are none.
+pub fn part_of(cut: Cut, child: Child, rect: Rect) -> Option<Rect>
+    ensures { result ≡ part_of cut child rect }
 {
-    if variable == 0 {
-        Rect {
-            wl: side.least,
-            wh: side.most,
-            sl: rect.sl,
-            sh: rect.sh,
-        }
-    } else {
-        Rect {
-            wl: rect.wl,
-            wh: rect.wh,
-            sl: side.least,
-            sh: side.most,
-        }
-    }
-}
-
-/// The worlds of a rectangle at which a split's row is at least 0, or below it; None where there are none.
-pub fn part_of(cut: Cut, first: bool, rect: Rect) -> Option<Rect>
-    ensures { result ≡ part_of cut first rect }
-{
-    let side = side_of(cut.variable, rect);
-    let side = cut_side(first == cut.rising, cut.bound, side)?;
-    Some(with_side(cut.variable, rect, side))
+    let side = cut_side(toward(child, cut.opens), cut.bound, rect.side(cut.axis))?;
+    Some(rect.with_side(cut.axis, side))
 }

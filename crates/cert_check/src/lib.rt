@@ -7,7 +7,7 @@ mod verdicts;
 mod walk;
 mod worlds;
 
-pub use cuts::{Cut, cut_of, part_of, world_count};
+pub use cuts::{Child, Cut, Opens, axis_of, cut_of, part_of, variable_of, world_count};
 pub use laws::{
     no_more_nodes_than_bytes, one_grid_each, one_verdict_each, rectangles_are_paths, right_holds,
 };

@@ -7,9 +7,9 @@ ghost use Rattle.cert_check.specs.Right.{Holds, Right};
 ghost use Rattle.cert_check.specs.Verdicts.{IsVerdict};
 ghost use Rattle.cert_check.specs.declared.verdicts.Verdict.TheVariants.{Accepted};
 ghost use Rattle.cert_check.specs.Rectangles.{IsWithin};
-ghost use Rattle.cert_check.specs.Walk.{Gives, grid_walk, walk, node_count};
+ghost use Rattle.cert_check.specs.steps.Walk.{GivesNumber, grid_walk, walk, node_count};
 
-use crate::cuts::{Cut, cut_of, part_of, world_count};
+use crate::cuts::{Child, Cut, cut_of, part_of, world_count};
 use crate::verdicts::{Reject, Verdict};
 use crate::worlds::find_untrue;
 use cert_text::{Cert, CertNode};
@@ -34,11 +34,11 @@ impl From<Mem> for Stop {
     }
 }
 
-/// The part of a part at which a split's row is at least 0, or below it.
-fn child_part(cut: Cut, first: bool, part: Option<Rect>) -> Option<Rect>
-    ensures { result ≡ option_and_then (part_of cut first) part }
+/// The part of a part that lies under a child of a split.
+fn child_part(cut: Cut, child: Child, part: Option<Rect>) -> Option<Rect>
+    ensures { result ≡ option_and_then (part_of cut child) part }
 {
-    part_of(cut, first, part?)
+    part_of(cut, child, part?)
 }
 
 /// Goes through a grid's worlds, and gives the number of the node after it.
@@ -46,7 +46,7 @@ fn check_grid(alloc: Global, job: &Job, number: u32, part: Option<Rect>) -> Resu
     requires ready { IsTrue (ready job.now.tree) }
     requires few { number + 1 < 2 ^ 32 }
     requires within { IfSome part (IsWithin job.now.range) }
-    ensures gives { Gives result (grid_walk job.now number part) }
+    ensures gives { GivesNumber result (grid_walk job.now number part) }
     ensures next { IfOk result (λ next. next ≡ number + 1) }
 {
     let Some(rect) = part else {
@@ -72,7 +72,7 @@ fn check_node(
     requires ready { IsTrue (ready job.now.tree) }
     requires few { number + node_count node.now < 2 ^ 32 }
     requires within { IfSome part (IsWithin job.now.range) }
-    ensures gives { Gives result (walk job.now node.now number part) }
+    ensures gives { GivesNumber result (walk job.now node.now number part) }
     ensures next { IfOk result (λ next. next ≡ number + node_count node.now) }
 {
     match node {
@@ -86,9 +86,15 @@ fn check_node(
                 job,
                 first.get(),
                 number + 1,
-                child_part(cut, true, part),
+                child_part(cut, Child::First, part),
             )?;
-            check_node(alloc, job, second.get(), next, child_part(cut, false, part))
+            check_node(
+                alloc,
+                job,
+                second.get(),
+                next,
+                child_part(cut, Child::Second, part),
+            )
         }
     }
 }

@@ -4,7 +4,7 @@ ghost use Rattle.logic_semantics.specs.Ranges.{IsInRange};
 ghost use Rattle.cert_check.specs.Right.{is_true_at};
 ghost use Rattle.cert_check.specs.Verdicts.{IsTrueIn, IsFirstUntrueIn};
 ghost use Rattle.cert_check.specs.Rectangles.{IsWithin};
-ghost use Rattle.cert_check.specs.Walk.{seek, untrue_at, untrue_of_width, first_untrue};
+ghost use Rattle.cert_check.specs.steps.Walk.{seek, untrue_at, untrue_of_width, first_untrue};
 
 use lay_flow::render_at;
 use std::alloc::Global;

@@ -8,6 +8,8 @@ use Rattle.std.proofs.lemmas.Bool.{false≢true}
 use Rattle.std.proofs.lemmas.Bool.Decides.{nat_tests}
 use Rattle.std.proofs.lemmas.Option.{same_Some}
 use Rattle.viz_base.specs.declared.worlds.World.{World}
+use Rattle.viz_base.specs.declared.worlds.Axis.{Axis}
+use Rattle.viz_base.specs.declared.worlds.Axis.TheVariants.{Width, Size}
 use Rattle.viz_base.specs.declared.worlds.Rect.{Rect}
 use Rattle.viz_base.specs.declared.jobs.Job.{Job}
 use Rattle.logic_semantics.specs.Ranges.{IsInRange}
@@ -19,8 +21,12 @@ use Rattle.cert_text.specs.declared.certificate.CertNode.TheViews.{the_lemmas}
 use Rattle.cert_text.specs.declared.certificate.CertNode.TheFolds.{fold-roll-CertNode, fold_out-CertNode}
 use Rattle.cert_text.specs.Grammar.{NodeText, grid, split}
 use Rattle.cert_check.specs.declared.cuts.Cut.{Cut}
+use Rattle.cert_check.specs.declared.cuts.Child.{Child}
+use Rattle.cert_check.specs.declared.cuts.Child.TheVariants.{First, Second}
+use Rattle.cert_check.specs.declared.cuts.Opens.TheVariants.{UpTo}
+use Rattle.cert_check.specs.Paths as step
 use Rattle.cert_check.specs.Paths.{Path}
-use Rattle.cert_check.specs.Rectangles.{world_count, IsWithin, cut_of, is_unit, part_of, turned, rectangle}
+use Rattle.cert_check.specs.Rectangles.{world_count, IsWithin, cut_of, is_unit, part_of, cut_at, rectangle}
 use Rattle.cert_check.specs.Nodes.{by_worlds, nodes_step, nodes_from}
 use Rattle.cert_check.specs.Right.{is_true_at, is_small, IsGood}
 use Rattle.cert_check.specs.Verdicts.{IsTrueIn, IsFirstUntrueIn}
@@ -169,27 +175,27 @@ stops_second job r h turns first half many turn closed (Undecided part) is =
 
 -- ---- a split
 
-split_cut : (x m : ℕ) → (x ≡ 0) ⊎ (x ≡ 1) → cut_of (split_row x m) ≡ Some (record { variable = x; rising = false; bound = pos m })
-split_cut x m (inl e) = rw e refl
-split_cut x m (inr e) = rw e refl
+split_cut : (axis : Axis) (m : ℕ) → cut_of (split_row axis m) ≡ Some (record { axis = axis; opens = UpTo; bound = pos m })
+split_cut Width m = refl
+split_cut Size m = refl
 
-child : (job : Job) (r half : Rect) (row : Form) (cut : Cut) (first : Bool) (path : Path) → cut_of row ≡ Some cut → part_of cut first r ≡ Some half → rectangle job.range path ≡ Some r
-    → rectangle job.range (record { row = row; first = first } ∷ path) ≡ Some half
-child job r half row cut first path is part whole =
-    ap (λ o. option_and_then (turned (cut_of row) first) o) whole ∙ ap (λ o. turned o first r) is ∙ part
+child : (job : Job) (r half : Rect) (row : Form) (cut : Cut) (under : Child) (path : Path) → cut_of row ≡ Some cut → part_of cut under r ≡ Some half → rectangle job.range path ≡ Some r
+    → rectangle job.range (step.split row under ∷ path) ≡ Some half
+child job r half row cut under path is part whole =
+    ap (λ o. option_and_then (cut_at (cut_of row) under) o) whole ∙ ap (λ o. cut_at o under r) is ∙ part
 
 split_is_good : (job : Job) (r : Rect) (h : Halves) (first second : CertNode) → IsHalving r h
     → ((path : Path) → HasUnits path → rectangle job.range path ≡ Some h.first → AllByRecursion (IsGood job) (nodes_from first path))
     → ((path : Path) → HasUnits path → rectangle job.range path ≡ Some h.second → AllByRecursion (IsGood job) (nodes_from second path))
-    → (path : Path) → HasUnits path → rectangle job.range path ≡ Some r → AllByRecursion (IsGood job) (nodes_from (Split (split_row h.variable h.middle) first second) path)
+    → (path : Path) → HasUnits path → rectangle job.range path ≡ Some r → AllByRecursion (IsGood job) (nodes_from (Split (split_row h.axis h.middle) first second) path)
 split_is_good job r h first second half good_first good_second path units is =
-    let row = split_row h.variable h.middle in
-    let cut = split_cut h.variable h.middle half.declared in
+    let row = split_row h.axis h.middle in
+    let cut = split_cut h.axis h.middle in
     let unit : is_unit row ≡ true = ap is_some cut in
-    let first_path : Path = record { row = row; first = true } ∷ path in
-    let second_path : Path = record { row = row; first = false } ∷ path in
-    let firsts = good_first first_path (unit, units) (child job r h.first row _ true path cut half.first_part is) in
-    let seconds = good_second second_path (unit, units) (child job r h.second row _ false path cut half.second_part is) in
+    let first_path : Path = step.split row First ∷ path in
+    let second_path : Path = step.split row Second ∷ path in
+    let firsts = good_first first_path (unit, units) (child job r h.first row _ First path cut half.first_part is) in
+    let seconds = good_second second_path (unit, units) (child job r h.second row _ Second path cut half.second_part is) in
     subst (λ f. AllByRecursion (IsGood job) (f path)) (sym (nodes-Split row first second))
     (record { shaped = unit; decides = tt }, all-append (IsGood job) (nodes_from first first_path) (nodes_from second second_path) firsts seconds)
 
@@ -217,16 +223,16 @@ short_split n a b i j k many sum third_a third_b row first second =
     omega arith
 
 pub closes_split : (job : Job) (r : Rect) (h : Halves) (turns : ℕ) (first second : Closed) (node : CertNode) → IsHalving r h → 64 < world_count r → 0 < turns → (1 ≤ h.middle) × (h.middle ≤ 16384)
-    → IsClosed job h.first (turns - 1) first → IsClosed job h.second first.left second → node ≡ Split (split_row h.variable h.middle) first.node second.node
+    → IsClosed job h.first (turns - 1) first → IsClosed job h.second first.left second → node ≡ Split (split_row h.axis h.middle) first.node second.node
     → IsClosed job r turns (record { node = node; left = second.left })
 closes_split job r h turns first second node half many turn bound f g is =
     subst (λ n. IsClosed job r turns (record { node = n; left = second.left })) (sym is)
-    (let row = row_text h.variable h.middle half.declared bound.0 bound.1 in
+    (let row = row_text h.axis h.middle bound.0 bound.1 in
     let count = half.count in
     let spent = f.few_turns in
     let spent_too = g.few_turns in
     let some = some_world h.first half.first_proper in
-    let grids = grids-Split (split_row h.variable h.middle) first.node second.node in
+    let grids = grids-Split (split_row h.axis h.middle) first.node second.node in
     let grids_first = f.few_grids in
     let grids_second = g.few_grids in
     record {
@@ -236,8 +242,8 @@ closes_split job r h turns first second node half many turn bound f g is =
       few_turns = omega arith;
       text = concat (codes "split " ∷ row.text ∷ codes "\n" ∷ f.text ∷ g.text ∷ []);
       spelled = λ levels depth has few.
-          let below = split_text (split_row h.variable h.middle) first.node second.node depth levels h.first h.second row.text f.text g.text (half.levels levels has) few f.spelled g.spelled tt in
-          split (split_row h.variable h.middle) first.node second.node row.text f.text g.text below.0 refl refl row.spelled below.1 below.2;
+          let below = split_text (split_row h.axis h.middle) first.node second.node depth levels h.first h.second row.text f.text g.text (half.levels levels has) few f.spelled g.spelled tt in
+          split (split_row h.axis h.middle) first.node second.node row.text f.text g.text below.0 refl refl row.spelled below.1 below.2;
       short =
           let bound = short_split (world_count r) (world_count h.first) (world_count h.second) (length f.text) (length g.text) (length row.text) many count half.first_third half.second_third row.short f.short g.short in
           simp length-append (omega arith);

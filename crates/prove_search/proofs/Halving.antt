@@ -4,12 +4,16 @@ use Rattle.std.specs.Prelude.{◌⊎◌}
 use Rattle.std.proofs.Math.Nat.{add-mul, mul-add, mul-le-mul_left, pow-succ'}
 use Rattle.std.proofs.lemmas.Bool.Decides.{nat_tests}
 use Rattle.viz_base.specs.declared.worlds.World.{World}
+use Rattle.viz_base.specs.declared.worlds.Axis.{Axis}
+use Rattle.viz_base.specs.declared.worlds.Axis.TheVariants.{Width, Size}
 use Rattle.viz_base.specs.declared.worlds.Rect.{Rect}
 use Rattle.logic_semantics.specs.Ranges.{IsInRange}
 use Rattle.cert_check.specs.Rectangles.{world_count, IsWithin, part_of}
+use Rattle.cert_check.specs.declared.cuts.Child.TheVariants.{First, Second}
+use Rattle.cert_check.specs.declared.cuts.Opens.TheVariants.{UpTo}
 use Rattle.cert_check.specs.Laws.{IsProper}
 use Rattle.prove_search.specs.declared.halves.Halves.{Halves}
-use Rattle.prove_search.specs.Halves.{middle, halves_at_width, halves_at_size, halves_of}
+use Rattle.prove_search.specs.Halves.{middle, halves_at, halved_on, halves_of}
 use Rattle.prove_search.specs.Finds.{HasLevels}
 
 -- a number in the middle of others
@@ -44,9 +48,8 @@ pub record Shrinks (levels : ℕ) (first second : Rect) : Type 0 where
   pub second_has : HasLevels less second
 
 pub record IsHalving (r : Rect) (h : Halves) : Type 0 where
-  pub declared : (h.variable ≡ 0) ⊎ (h.variable ≡ 1)
-  pub first_part : part_of (record { variable = h.variable; rising = false; bound = pos h.middle }) true r ≡ Some h.first
-  pub second_part : part_of (record { variable = h.variable; rising = false; bound = pos h.middle }) false r ≡ Some h.second
+  pub first_part : part_of (record { axis = h.axis; opens = UpTo; bound = pos h.middle }) First r ≡ Some h.first
+  pub second_part : part_of (record { axis = h.axis; opens = UpTo; bound = pos h.middle }) Second r ≡ Some h.second
   pub first_proper : IsProper h.first
   pub second_proper : IsProper h.second
   pub first_within : IsWithin r h.first
@@ -66,7 +69,7 @@ below_or_above x m = by_test (nat_le x m) refl
     by_test false e = inr (grind (arith, nat_tests))
 
 width_shrinks : (r : Rect) (m : ℕ) → IsMiddle r.wl r.wh m → (levels i j : ℕ) → i + j ≡ levels → r.wh + 1 - r.wl ≤ 2 ^ i → r.sh + 1 - r.sl ≤ 2 ^ j
-    → Shrinks levels (halves_at_width r m).first (halves_at_width r m).second
+    → Shrinks levels (halves_at Width r m).first (halves_at Width r m).second
 width_shrinks r m mid levels zero j whole widths sizes = let low = mid.low in let high = mid.high in absurd (omega arith)
 width_shrinks r m mid levels (suc i) j whole widths sizes =
     let twice : 2 ^ suc i ≡ 2 * 2 ^ i = pow-succ' 2 i in
@@ -80,7 +83,7 @@ width_shrinks r m mid levels (suc i) j whole widths sizes =
     }
 
 size_shrinks : (r : Rect) (m : ℕ) → IsMiddle r.sl r.sh m → (levels i j : ℕ) → i + j ≡ levels → r.wh + 1 - r.wl ≤ 2 ^ i → r.sh + 1 - r.sl ≤ 2 ^ j
-    → Shrinks levels (halves_at_size r m).first (halves_at_size r m).second
+    → Shrinks levels (halves_at Size r m).first (halves_at Size r m).second
 size_shrinks r m mid levels i zero whole widths sizes = let low = mid.low in let high = mid.high in absurd (omega arith)
 size_shrinks r m mid levels i (suc j) whole widths sizes =
     let twice : 2 ^ suc j ≡ 2 * 2 ^ j = pow-succ' 2 j in
@@ -99,7 +102,7 @@ third c a s le = omega (arith, mul-le-mul_left s le)
 third_across : (c a s : ℕ) → c ≤ 3 * a → s * c ≤ 3 * (s * a)
 third_across c a s le = omega (arith, mul-le-mul_left s le)
 
-at_width : (r : Rect) (m : ℕ) → IsProper r → IsMiddle r.wl r.wh m → IsHalving r (halves_at_width r m)
+at_width : (r : Rect) (m : ℕ) → IsProper r → IsMiddle r.wl r.wh m → IsHalving r (halves_at Width r m)
 at_width r m proper mid =
     let low = mid.low in
     let high = mid.high in
@@ -107,7 +110,6 @@ at_width r m proper mid =
     let a = m + 1 - r.wl in
     let b = r.wh + 1 - (m + 1) in
     record {
-      declared = inl refl;
       first_part = let e : nat_le r.wl m ≡ true = grind (arith, nat_tests) in let f : min m r.wh ≡ m = omega arith in rw (e, f) refl;
       second_part = let e : nat_lt m r.wh ≡ true = grind (arith, nat_tests) in let f : max (m + 1) r.wl ≡ m + 1 = omega arith in rw (e, f) refl;
       first_proper = record { widths = low; sizes = proper.sizes };
@@ -122,11 +124,11 @@ at_width r m proper mid =
       bound = λ wl sl wh sh. (omega arith, omega arith);
     }
   where
-    place : (world : World) → IsInRange r world → (world.w ≤ m) ⊎ (m + 1 ≤ world.w) → IsInRange (halves_at_width r m).first world ⊎ IsInRange (halves_at_width r m).second world
+    place : (world : World) → IsInRange r world → (world.w ≤ m) ⊎ (m + 1 ≤ world.w) → IsInRange (halves_at Width r m).first world ⊎ IsInRange (halves_at Width r m).second world
     place world i (inl le) = inl (record { width_least = i.width_least; width_most = le; size_least = i.size_least; size_most = i.size_most })
     place world i (inr le) = inr (record { width_least = le; width_most = i.width_most; size_least = i.size_least; size_most = i.size_most })
 
-at_size : (r : Rect) (m : ℕ) → IsProper r → IsMiddle r.sl r.sh m → IsHalving r (halves_at_size r m)
+at_size : (r : Rect) (m : ℕ) → IsProper r → IsMiddle r.sl r.sh m → IsHalving r (halves_at Size r m)
 at_size r m proper mid =
     let low = mid.low in
     let high = mid.high in
@@ -134,7 +136,6 @@ at_size r m proper mid =
     let a = m + 1 - r.sl in
     let b = r.sh + 1 - (m + 1) in
     record {
-      declared = inr refl;
       first_part = let e : nat_le r.sl m ≡ true = grind (arith, nat_tests) in let f : min m r.sh ≡ m = omega arith in rw (e, f) refl;
       second_part = let e : nat_lt m r.sh ≡ true = grind (arith, nat_tests) in let f : max (m + 1) r.sl ≡ m + 1 = omega arith in rw (e, f) refl;
       first_proper = record { widths = proper.widths; sizes = low };
@@ -149,7 +150,7 @@ at_size r m proper mid =
       bound = λ wl sl wh sh. (omega arith, omega arith);
     }
   where
-    place : (world : World) → IsInRange r world → (world.s ≤ m) ⊎ (m + 1 ≤ world.s) → IsInRange (halves_at_size r m).first world ⊎ IsInRange (halves_at_size r m).second world
+    place : (world : World) → IsInRange r world → (world.s ≤ m) ⊎ (m + 1 ≤ world.s) → IsInRange (halves_at Size r m).first world ⊎ IsInRange (halves_at Size r m).second world
     place world i (inl le) = inl (record { width_least = i.width_least; width_most = i.width_most; size_least = i.size_least; size_most = le })
     place world i (inr le) = inr (record { width_least = i.width_least; width_most = i.width_most; size_least = le; size_most = i.size_most })
 
@@ -162,7 +163,7 @@ long_side (suc (suc c)) s le many = omega arith
 pub halves_are : (r : Rect) → IsProper r → 64 < world_count r → IsHalving r (halves_of r)
 halves_are r proper many = by_test (nat_le (r.sh - r.sl) (r.wh - r.wl)) refl
   where
-    by_test : (b : Bool) → nat_le (r.sh - r.sl) (r.wh - r.wl) ≡ b → IsHalving r (cond b (halves_at_width r (middle r.wl r.wh)) (halves_at_size r (middle r.sl r.sh)))
+    by_test : (b : Bool) → nat_le (r.sh - r.sl) (r.wh - r.wl) ≡ b → IsHalving r (halved_on (cond b Width Size) r)
     by_test true e =
         let le : r.sh - r.sl ≤ r.wh - r.wl = grind (arith, nat_tests) in
         let widths = proper.widths in

@@ -4,7 +4,10 @@ use Rattle.std.specs.Prelude.{◌⊎◌}
 use Rattle.std.specs.List.{AllByRecursion, concat}
 use Rattle.std.proofs.Math.Nat.{pow-succ'}
 use Rattle.std.proofs.lemmas.Bool.Decides.{nat_tests}
+use Rattle.viz_base.specs.declared.worlds.Axis.{Axis}
+use Rattle.viz_base.specs.declared.worlds.Axis.TheVariants.{Width, Size}
 use Rattle.lin_row.specs.Form.{Form}
+use Rattle.cert_check.specs.Paths.{variable_of}
 use Rattle.cert_text.specs.Grammar.{IsDigit, number_after, NumeralText, IntText, VariableText, RowText}
 
 number_after-append : (n : ℕ) (ds : List ℕ) (c : ℕ) → number_after n (ds ++ c ∷ []) ≡ 10 * number_after n ds + (c - 48)
@@ -73,30 +76,30 @@ pub record HasVariable (x : ℕ) : Type 0 where
   pub spelled : VariableText x text
   pub short : length text ≤ 1
 
-pub variable_text : (x : ℕ) → (x ≡ 0) ⊎ (x ≡ 1) → HasVariable x
-variable_text x (inl e) = record { text = codes "0"; spelled = inl (e, refl); short = omega arith }
-variable_text x (inr e) = record { text = codes "1"; spelled = inr (e, refl); short = omega arith }
+pub variable_text : (axis : Axis) → HasVariable (variable_of axis)
+variable_text Width = record { text = codes "0"; spelled = inl (refl, refl); short = omega arith }
+variable_text Size = record { text = codes "1"; spelled = inr (refl, refl); short = omega arith }
 
-abbrev pub split_row : ℕ → ℕ → Form
-split_row x m = record { k = pos m; terms = (x, negsuc 0) ∷ [] }
+abbrev pub split_row : Axis → ℕ → Form
+split_row axis m = record { k = pos m; terms = (variable_of axis, negsuc 0) ∷ [] }
 
 -- the row of a split has a text of at most 10 bytes
-pub record HasRow (x m : ℕ) : Type 0 where
+pub record HasRow (axis : Axis) (m : ℕ) : Type 0 where
   pub text : List ℕ
-  pub spelled : RowText (split_row x m) text
+  pub spelled : RowText (split_row axis m) text
   pub short : length text ≤ 10
 
-pub row_text : (x m : ℕ) → (x ≡ 0) ⊎ (x ≡ 1) → 1 ≤ m → m ≤ 16384 → HasRow x m
-row_text x m declared low high =
+pub row_text : (axis : Axis) (m : ℕ) → 1 ≤ m → m ≤ 16384 → HasRow axis m
+row_text axis m low high =
     let i = int_text m low high in
-    let v = variable_text x declared in
+    let v = variable_text axis in
     let i_short = i.short in
     let v_short = v.short in
     record {
       text = concat (i.text ∷ codes " " ∷ v.text ∷ codes ":" ∷ codes "-1" ∷ []);
       spelled = record {
         k = pos m;
-        x = x;
+        x = variable_of axis;
         c = negsuc 0;
         int = i.text;
         variable = v.text;

@@ -2,6 +2,7 @@
 use Rattle.std.proofs.Common.{◌≡◌, ℕ, zero, suc, ◌+◌, ◌^◌, ◌<◌, ◌≤◌, ℤ, pos, negsuc, max, Bool, true, false, ◌&&◌, List, [], ◌∷◌, refl, sym, ap, ◌∙◌, arith, inl, inr, rules, codes, lit≤, IsTrue}
 use Rattle.std.specs.Prelude.{◌⊎◌}
 use Rattle.std.specs.List.{concat}
+use Rattle.std.proofs.lemmas.Bool.{and_parts}
 use Rattle.std.proofs.lemmas.Bool.Decides.{nat_tests}
 use Rattle.hex.specs.Hex.{encode_lower}
 use Rattle.lin_row.specs.Form.{Form}
@@ -12,15 +13,12 @@ use Rattle.cert_text.specs.declared.certificate.CertNode.TheViews.{the_lemmas}
 use Rattle.cert_text.specs.declared.certificate.CertNode.TheFolds.{fold-roll-CertNode}
 use Rattle.cert_text.specs.Grammar.{IntText, UnitText, RowText, NodeText, grid, split}
 use Rattle.cert_check.specs.Rectangles.{is_unit}
+use Rattle.cert_check.specs.Paths.{variable_of}
 use Rattle.cert_check.specs.Laws.{IsUnitRow}
 use Rattle.cert_check.proofs.Parts.{unit_is_unit_row}
 use Rattle.cert_check.proofs.Trees.{grid_node, split_node, by_nodes}
 use Rattle.prove_search.specs.Laws.{units_step, has_units, depth_step, depth_of, UnitsHaveTexts}
 use Rattle.prove_search.proofs.Texts.{numeral, variable_text}
-
-both : (a b : Bool) → a && b ≡ true → (a ≡ true) × (b ≡ true)
-both true b h = (refl, h)
-both false b h = absurd (cc)
 
 units-split : (row : Form) (first second : CertNode) → has_units (split_node row first second) ≡ (is_unit row && in_i128 row.k) && (has_units first && has_units second)
 units-split row first second = fold-roll-CertNode Bool units_step (CertNode-F.Split row first second)
@@ -53,11 +51,6 @@ unit_text : (c : ℤ) → (c ≡ pos 1) ⊎ (c ≡ negsuc 0) → HasUnit c
 unit_text c (inl e) = record { text = codes "1"; spelled = inl (e, refl) }
 unit_text c (inr e) = record { text = codes "-1"; spelled = inr (e, refl) }
 
-zero_or_one : (x : ℕ) → x < 2 → (x ≡ 0) ⊎ (x ≡ 1)
-zero_or_one zero lt = inl refl
-zero_or_one (suc zero) lt = inr refl
-zero_or_one (suc (suc x)) lt = absurd (omega arith)
-
 record HasRow (row : Form) : Type 0 where
   text : List ℕ
   spelled : RowText row text
@@ -65,13 +58,13 @@ record HasRow (row : Form) : Type 0 where
 row_text : (row : Form) → IsUnitRow row → in_i128 row.k ≡ true → HasRow row
 row_text row h fits =
     let i = int_text row.k fits in
-    let v = variable_text h.variable (zero_or_one h.variable h.declared) in
+    let v = variable_text h.axis in
     let u = unit_text h.coefficient h.unit in
     record {
       text = concat (i.text ∷ codes " " ∷ v.text ∷ codes ":" ∷ u.text ∷ []);
       spelled = record {
         k = row.k;
-        x = h.variable;
+        x = variable_of h.axis;
         c = h.coefficient;
         int = i.text;
         variable = v.text;
@@ -95,9 +88,9 @@ grid_has units depth few = (codes "grid\n", grid (search (rules, the_lemmas)) re
 
 split_has : (row : Form) (first second : CertNode) → HasNode first → HasNode second → HasNode (split_node row first second)
 split_has row first second f g units depth few =
-    let parts = both (is_unit row && in_i128 row.k) (has_units first && has_units second) (sym (units-split row first second) ∙ units) in
-    let own = both (is_unit row) (in_i128 row.k) parts.0 in
-    let others = both (has_units first) (has_units second) parts.1 in
+    let parts = and_parts (is_unit row && in_i128 row.k) (has_units first && has_units second) (sym (units-split row first second) ∙ units) in
+    let own = and_parts (is_unit row) (in_i128 row.k) parts.0 in
+    let others = and_parts (has_units first) (has_units second) parts.1 in
     let levels = depth-split row first second in
     let r = row_text row ((unit_is_unit_row row).0 own.0) own.1 in
     let a = f others.0 (depth + 1) (omega arith) in

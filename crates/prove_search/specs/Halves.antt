@@ -1,30 +1,38 @@
 -- The halves of a rectangle.
 use Rattle.std.specs.Prelude.{ℕ, ◌+◌, ◌-◌, ◌/◌, nat_le, if◌then◌else◌}
+use Rattle.viz_base.specs.declared.worlds.Axis.{Axis}
+use Rattle.viz_base.specs.declared.worlds.Axis.TheVariants.{Width, Size}
+use Rattle.viz_base.specs.declared.worlds.Span.{Span}
 use Rattle.viz_base.specs.declared.worlds.Rect.{Rect}
+use Rattle.viz_base.specs.Worlds.{side_of, with_side}
 use Rattle.prove_search.specs.declared.halves.Halves.{Halves}
 
 -- the number in the middle of others, the lower one of two
 abbrev pub middle : ℕ → ℕ → ℕ
 middle least most = least + (most - least) / 2
 
-abbrev pub halves_at_width : Rect → ℕ → Halves
-halves_at_width r m = record {
-  variable = 0;
+-- the numbers of a side up to one, and those above it
+abbrev pub up_to : Span → ℕ → Span
+up_to side m = record { least = side.least; most = m }
+
+abbrev pub above : Span → ℕ → Span
+above side m = record { least = m + 1; most = side.most }
+
+abbrev pub halves_at : Axis → Rect → ℕ → Halves
+halves_at axis r m = record {
+  axis = axis;
   middle = m;
-  first = record { wl = r.wl; wh = m; sl = r.sl; sh = r.sh };
-  second = record { wl = m + 1; wh = r.wh; sl = r.sl; sh = r.sh };
+  first = with_side axis r (up_to (side_of axis r) m);
+  second = with_side axis r (above (side_of axis r) m);
 }
 
-abbrev pub halves_at_size : Rect → ℕ → Halves
-halves_at_size r m = record {
-  variable = 1;
-  middle = m;
-  first = record { wl = r.wl; wh = r.wh; sl = r.sl; sh = m };
-  second = record { wl = r.wl; wh = r.wh; sl = m + 1; sh = r.sh };
-}
+-- the axis on which there are more worlds in a row; of two with as many the width
+abbrev pub longer_axis : Rect → Axis
+longer_axis r = if nat_le (r.sh - r.sl) (r.wh - r.wl) then Width else Size
 
--- on the longer side, in worlds; of two that are as long the widths
+abbrev pub halved_on : Axis → Rect → Halves
+halved_on axis r = halves_at axis r (middle (side_of axis r).least (side_of axis r).most)
+
+-- on the longer side
 abbrev pub halves_of : Rect → Halves
-halves_of r =
-    if nat_le (r.sh - r.sl) (r.wh - r.wl) then halves_at_width r (middle r.wl r.wh)
-    else halves_at_size r (middle r.sl r.sh)
+halves_of r = halved_on (longer_axis r) r

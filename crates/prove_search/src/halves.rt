@@ -1,17 +1,19 @@
 ghost use Rattle.std.specs.Prelude.{◌≡◌, ◌+◌, ◌<◌, ◌≤◌, ◌^◌};
 ghost use Rattle.cert_check.specs.Laws.{IsProper};
-ghost use Rattle.prove_search.specs.Halves.{middle, halves_of};
+ghost use Rattle.prove_search.specs.Halves.{middle, longer_axis, halves_at, halves_of};
 
-use viz_base::Rect;
+use viz_base::{Axis, Rect, Span};
 
-/// A rectangle in two: the worlds at which a variable is at most the middle, and those at which it is above.
+/// A rectangle in two: the worlds that are at most the middle on an axis, and those that are above it.
 #[derive(Drop)]
 pub struct Halves {
-    /// 0 for the width, 1 for the default font size.
-    pub variable: u32,
+    /// The axis that is halved.
+    pub axis: Axis,
     /// In whole pixels.
     pub middle: u32,
+    /// The worlds at most the middle.
     pub first: Rect,
+    /// The worlds above it.
     pub second: Rect,
 }
 
@@ -24,6 +26,40 @@ fn middle(least: u32, most: u32) -> u32
     least + (most - least) / 2
 }
 
+/// The axis on which a rectangle has more numbers; of two that have as many the width.
+fn longer_axis(rect: Rect) -> Axis
+    requires proper { IsProper rect }
+    ensures { result ≡ longer_axis rect }
+{
+    if rect.sh - rect.sl <= rect.wh - rect.wl {
+        Axis::Width
+    } else {
+        Axis::Size
+    }
+}
+
+/// A rectangle in two on an axis.
+fn halves_at(axis: Axis, rect: Rect, middle: u32) -> Halves
+    requires { middle < 2 ^ 31 }
+    ensures { result ≡ halves_at axis rect middle }
+{
+    let side = rect.side(axis);
+    let first = Span {
+        least: side.least,
+        most: middle,
+    };
+    let second = Span {
+        least: middle + 1,
+        most: side.most,
+    };
+    Halves {
+        axis,
+        middle,
+        first: rect.with_side(axis, first),
+        second: rect.with_side(axis, second),
+    }
+}
+
 /// The halves of a rectangle on its longer side, in worlds; of two that are as long the widths'.
 pub fn halves_of(rect: Rect) -> Halves
     requires proper { IsProper rect }
@@ -31,41 +67,7 @@ pub fn halves_of(rect: Rect) -> Halves
     requires sizes { rect.sh < 2 ^ 31 }
     ensures { result ≡ halves_of rect }
 {
-    if rect.sh - rect.sl <= rect.wh - rect.wl {
-        let middle = middle(rect.wl, rect.wh);
-        Halves {
-            variable: 0,
-            middle,
-            first: Rect {
-                wl: rect.wl,
-                wh: middle,
-                sl: rect.sl,
-                sh: rect.sh,
-            },
-            second: Rect {
-                wl: middle + 1,
-                wh: rect.wh,
-                sl: rect.sl,
-                sh: rect.sh,
-            },
-        }
-    } else {
-        let middle = middle(rect.sl, rect.sh);
-        Halves {
-            variable: 1,
-            middle,
-            first: Rect {
-                wl: rect.wl,
-                wh: rect.wh,
-                sl: rect.sl,
-                sh: middle,
-            },
-            second: Rect {
-                wl: rect.wl,
-                wh: rect.wh,
-                sl: middle + 1,
-                sh: rect.sh,
-            },
-        }
-    }
+    let axis = longer_axis(rect);
+    let side = rect.side(axis);
+    halves_at(axis, rect, middle(side.least, side.most))
 }

@@ -3,6 +3,7 @@ ghost use Rattle.std.specs.Prelude.{pos, negsuc, ◌∷◌, IsTrue, IfOk};
 ghost use Rattle.layout_semantics.specs.Ready.{ready};
 ghost use Rattle.hex.specs.Hex.{encode_lower};
 ghost use Rattle.cert_text.specs.Grammar.{DigestText};
+ghost use Rattle.cert_check.specs.Paths.{variable_of};
 ghost use Rattle.cert_check.specs.Laws.{IsProper};
 ghost use Rattle.cert_check.specs.Rectangles.{world_count, IsWithin};
 ghost use Rattle.cert_check.specs.Right.{Holds};
@@ -12,11 +13,11 @@ ghost use Rattle.prove_search.specs.Outcomes.{IsOutcome, Decides};
 
 use crate::halves::halves_of;
 use crate::outcome::Outcome;
-use cert_check::{first_untrue, world_count};
+use cert_check::{first_untrue, variable_of, world_count};
 use cert_text::{Cert, CertNode};
 use lin_row::Row;
 use std::alloc::Global;
-use viz_base::{Boxed, Job, Mem, Rect, World};
+use viz_base::{Axis, Boxed, Job, Mem, Rect, World};
 
 /// A rectangle that is decided: the formula is true at each of its worlds.
 #[derive(Drop)]
@@ -63,18 +64,18 @@ fn close(alloc: Global, job: &Job, rect: Rect, turns: u64) -> Result<Closed, Sto
     }
 }
 
-/// The node that is decided by the first where a variable is at most the middle, and by the second where it is above.
+/// The node that is decided by the first where a world is at most the middle on an axis, and by the second where it is above.
 fn split(
     alloc: Global,
-    variable: u32,
+    axis: Axis,
     middle: u32,
     first: CertNode,
     second: CertNode,
 ) -> Result<CertNode, Mem>
     ensures { IfOk result
-        (λ node. node ≡ Split (record { k = pos middle; terms = (variable, negsuc 0) ∷ [] }) first second) }
+        (λ node. node ≡ Split (record { k = pos middle; terms = (variable_of axis, negsuc 0) ∷ [] }) first second) }
 {
-    let row = Row::of_term(alloc, i128::from(middle), variable, -1)?;
+    let row = Row::of_term(alloc, i128::from(middle), variable_of(axis), -1)?;
     let first = Boxed::new(alloc, first)?;
     let second = Boxed::new(alloc, second)?;
     Ok(CertNode::Split(row, first, second))
@@ -98,7 +99,7 @@ fn decide(alloc: Global, job: &Job, rect: Rect, turns: u64) -> Result<Closed, St
     let second = decide(alloc, job, halves.second, first.left)?;
     let node = split(
         alloc,
-        halves.variable,
+        halves.axis,
         halves.middle,
         first.node,
         second.node,

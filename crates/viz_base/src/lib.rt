@@ -47,7 +47,7 @@ pub use styles::{Align, Clear, Display, Side, Style};
 pub use texts::Text;
 pub use tokens::{Token, TokenKind};
 pub use trees::{BoxNode, BoxTree, Kind};
-pub use worlds::{Rect, World};
+pub use worlds::{Axis, Rect, Span, World};
 
 #[cfg(test)]
 mod tests {

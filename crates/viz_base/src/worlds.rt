@@ -1,3 +1,6 @@
+ghost use Rattle.std.specs.Prelude.{◌≡◌};
+ghost use Rattle.viz_base.specs.Worlds.{side_of, with_side};
+
 /// What a page is laid out for: the viewport's width and the default font size, in whole CSS pixels.
 #[derive(Clone, Copy, Debug, PartialEq, Eq)]
 pub struct World {
@@ -5,6 +8,24 @@ pub struct World {
     pub w: u32,
     /// Default font size in pixels, the size that `font-size: medium` has.
     pub s: u32,
+}
+
+/// One of the numbers that a world consists of.
+#[derive(Clone, Copy, Debug, PartialEq, Eq)]
+pub enum Axis {
+    /// The viewport's width.
+    Width,
+    /// The default font size.
+    Size,
+}
+
+/// The whole numbers from one to another, both included.
+#[derive(Clone, Copy, Debug, PartialEq, Eq)]
+pub struct Span {
+    /// The first of them.
+    pub least: u32,
+    /// The last of them.
+    pub most: u32,
 }
 
 /// A rectangle of worlds, both ends of both ranges included.
@@ -18,4 +39,42 @@ pub struct Rect {
     pub sl: u32,
     /// The greatest default font size in pixels.
     pub sh: u32,
+}
+
+impl Rect {
+    /// The numbers that the rectangle's worlds have on an axis.
+    pub fn side(self, axis: Axis) -> Span
+        ensures { result ≡ side_of axis self }
+    {
+        match axis {
+            Axis::Width => Span {
+                least: self.wl,
+                most: self.wh,
+            },
+            Axis::Size => Span {
+                least: self.sl,
+                most: self.sh,
+            },
+        }
+    }
+
+    /// The rectangle with other numbers on an axis.
+    pub fn with_side(self, axis: Axis, side: Span) -> Rect
+        ensures { result ≡ with_side axis self side }
+    {
+        match axis {
+            Axis::Width => Rect {
+                wl: side.least,
+                wh: side.most,
+                sl: self.sl,
+                sh: self.sh,
+            },
+            Axis::Size => Rect {
+                wl: self.wl,
+                wh: self.wh,
+                sl: side.least,
+                sh: side.most,
+            },
+        }
+    }
 }

@@ -1,7 +1,8 @@
 use Rattle.std.proofs.Common.{◌≡◌, ◌+◌, subst, sym, ap, ◌∙◌, arith}
-use Rattle.std.specs.Prelude.{IfSome, true, false}
+use Rattle.std.specs.Prelude.{IfSome}
+use Rattle.cert_check.specs.declared.cuts.Child.TheVariants.{First, Second}
 use Rattle.cert_check.specs.Rectangles.{IsWithin}
-use Rattle.cert_check.specs.Walk.{node_count}
+use Rattle.cert_check.specs.steps.Walk.{node_count}
 use Rattle.cert_check.proofs.Parts.{child_within}
 use Rattle.cert_check.proofs.Trees.{count-Split}
 use Rattle.cert_check.proofs.walk.+check_node.Goals as goal
@@ -16,7 +17,7 @@ check_node-requires t c =
         c.requires.ready,
         (
           omega arith,
-          subst (λ o. IfSome o (IsWithin job.range)) (sym c.child_part.ensures) (child_within c.in-Some.cut true job.range c.args.part c.requires.within),
+          subst (λ o. IfSome o (IsWithin job.range)) (sym c.child_part.ensures) (child_within c.in-Some.cut First job.range c.args.part c.requires.within),
         ),
       ),
     )
@@ -33,7 +34,7 @@ check_node-requires-in-Split t c =
         c.requires.ready,
         (
           omega arith,
-          subst (λ o. IfSome o (IsWithin job.range)) (sym c.child_part-in-Split.ensures) (child_within c.in-Some.cut false job.range c.args.part c.requires.within),
+          subst (λ o. IfSome o (IsWithin job.range)) (sym c.child_part-in-Split.ensures) (child_within c.in-Some.cut Second job.range c.args.part c.requires.within),
         ),
       ),
     )

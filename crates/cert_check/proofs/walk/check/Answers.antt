@@ -1,5 +1,5 @@
 use Rattle.std.proofs.Common.{[], refl, arith, subst, Err, Some}
-use Rattle.cert_check.specs.Walk.{Gives, walk}
+use Rattle.cert_check.specs.steps.Walk.{GivesNumber, walk}
 use Rattle.cert_check.proofs.Walks.{count_is}
 use Rattle.cert_check.proofs.Causes.{accepts, rejects, cause_not_right, same_digest}
 use Rattle.cert_check.proofs.Grids.{right_holds}
@@ -19,7 +19,7 @@ returns-in-Ok-clause-holds c = λ e. right_holds c.args.job.now c.args.cert.now 
 
 pub returns-in-Err-Rejected-clause-verdict : goal.returns-in-Err-Rejected-clause-verdict
 returns-in-Err-Rejected-clause-verdict c = rejects c.args.job.now c.args.cert.now c.in-Err-Rejected.reject (same_digest c.args.cert.now.job c.args.job.now.digest c.if-ne.ensures)
-    (subst (λ s. Gives (Err s) (walk c.args.job.now c.args.cert.now.root 0 (Some c.args.job.now.range))) c.in-Err-Rejected.field-0-is (c.in-Err-Rejected.ensures).gives)
+    (subst (λ s. GivesNumber (Err s) (walk c.args.job.now c.args.cert.now.root 0 (Some c.args.job.now.range))) c.in-Err-Rejected.field-0-is (c.in-Err-Rejected.ensures).gives)
 
 pub returns-in-Err-Rejected-clause-accepted : goal.returns-in-Err-Rejected-clause-accepted
 returns-in-Err-Rejected-clause-accepted c =

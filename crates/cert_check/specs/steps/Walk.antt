@@ -1,5 +1,5 @@
 -- The walk over a certificate, one function for each part of it.
-use Rattle.std.specs.Prelude.{◌≡◌, ℕ, zero, suc, ◌+◌, ◌-◌, Bool, true, false, nat_le, Option, Some, None, Result, Ok, Err}
+use Rattle.std.specs.Prelude.{ℕ, zero, suc, ◌+◌, ◌-◌, Bool, true, false, nat_le, Option, Some, None, Result, Ok, Err}
 use Rattle.std.specs.Option.{option_and_then}
 use Rattle.viz_base.specs.declared.worlds.World.{World}
 use Rattle.viz_base.specs.declared.worlds.Rect.{Rect}
@@ -7,6 +7,8 @@ use Rattle.viz_base.specs.declared.jobs.Job.{Job}
 use Rattle.cert_text.specs.declared.certificate.CertNode.{CertNode}
 use Rattle.cert_text.specs.declared.certificate.CertNode.TheOpen.{CertNode-F}
 use Rattle.cert_text.specs.declared.certificate.CertNode.TheFolds.{fold-CertNode}
+use Rattle.viz_base.specs.Answers.{Gives}
+use Rattle.cert_check.specs.declared.cuts.Child.TheVariants.{First, Second}
 use Rattle.cert_check.specs.declared.cuts.Cut.{Cut}
 use Rattle.cert_check.specs.declared.verdicts.Reject.{Reject}
 use Rattle.cert_check.specs.declared.verdicts.Reject.TheVariants.{Shape, Untrue}
@@ -49,11 +51,14 @@ abbrev pub ◌>>=◌ : Answer → (ℕ → Answer) → Answer
 (Ok n) >>= f = f n
 (Err reject) >>= f = Err reject
 
--- a call gave the answer; want of memory says nothing
-abbrev pub Gives : Result ℕ Stop → Answer → Type 0
-Gives (Ok n) answer = answer ≡ Ok n
-Gives (Err Mem) answer = Unit {0}
-Gives (Err (Rejected reject)) answer = answer ≡ Err reject
+-- why the walk was refused, if it was not for want of memory
+abbrev pub refusal_of : Stop → Option Reject
+refusal_of Mem = None
+refusal_of (Rejected reject) = Some reject
+
+-- a call gave the answer
+abbrev pub GivesNumber : Result ℕ Stop → Answer → Type 0
+GivesNumber = Gives (λ n. n) refusal_of
 
 abbrev pub rejects_world : ℕ → Option World → Answer
 rejects_world n (Some world) = Err (Untrue n world)
@@ -72,7 +77,7 @@ Walk = ℕ → Option Rect → Answer
 
 abbrev pub split_walk : Option Cut → Walk → Walk → Walk
 split_walk (Some cut) first second n part =
-    first (n + 1) (option_and_then (part_of cut true) part) >>= λ m. second m (option_and_then (part_of cut false) part)
+    first (n + 1) (option_and_then (part_of cut First) part) >>= λ m. second m (option_and_then (part_of cut Second) part)
 split_walk None first second n part = Err (Shape n)
 
 abbrev pub walk_step : Job → CertNode-F Walk → Walk

@@ -1,0 +1,22 @@
+-- Worlds and rectangles of worlds by axis.
+use Rattle.std.specs.Prelude.{ℕ}
+use Rattle.viz_base.specs.declared.worlds.World.{World}
+use Rattle.viz_base.specs.declared.worlds.Axis.{Axis}
+use Rattle.viz_base.specs.declared.worlds.Axis.TheVariants.{Width, Size}
+use Rattle.viz_base.specs.declared.worlds.Span.{Span}
+use Rattle.viz_base.specs.declared.worlds.Rect.{Rect}
+
+-- the number that a world has on an axis
+abbrev pub along : Axis → World → ℕ
+along Width world = world.w
+along Size world = world.s
+
+-- the numbers that a rectangle's worlds have on an axis
+abbrev pub side_of : Axis → Rect → Span
+side_of Width r = record { least = r.wl; most = r.wh }
+side_of Size r = record { least = r.sl; most = r.sh }
+
+-- the rectangle with other numbers on an axis
+abbrev pub with_side : Axis → Rect → Span → Rect
+with_side Width r side = record { wl = side.least; wh = side.most; sl = r.sl; sh = r.sh }
+with_side Size r side = record { wl = r.wl; wh = r.wh; sl = side.least; sh = side.most }
