@@ -1,7 +1,7 @@
 use Rattle.std.proofs.Common.{◌≡◌, ℕ, zero, suc, ◌+◌, ◌<◌, ◌≤◌, Bool, true, false, not, ◌&&◌, ◌||◌, List, [], ◌∷◌, filter, cond, length, refl, ap, sym, ◌∙◌, arith}
 use Rattle.std.specs.List.{list_all, list_any, range_with_len}
 use Rattle.std.proofs.lemmas.Option.{slice_get_past}
-use Rattle.std.proofs.lemmas.Bool.{cases_lt}
+use Rattle.std.proofs.lemmas.Bool.{and_parts, cases_lt, or_cases}
 use Rattle.std.specs.Prelude.{◌⊎◌}
 use Rattle.std.proofs.Common.{inl, inr}
 use Rattle.viz_base.specs.declared.formulas.Set.{Set}
@@ -26,15 +26,6 @@ list_any-filter p q (x ∷ xs) =
 
 -- ---- tests of the numbers of a range
 
-and_parts : (a b : Bool) → (a && b) ≡ true → (a ≡ true) × (b ≡ true)
-and_parts true true h = (refl, refl)
-and_parts true false h = absurd (cc)
-and_parts false b h = absurd (cc)
-
-or_parts : (a b : Bool) → (a || b) ≡ true → (a ≡ true) ⊎ (b ≡ true)
-or_parts true b h = inl refl
-or_parts false b h = inr h
-
 pub each_of_range : (p : ℕ → Bool) (a n : ℕ) → list_all p (range_with_len a n) ≡ true → (m : ℕ) → a ≤ m → m < a + n → p m ≡ true
 each_of_range p a zero h m low high = absurd (omega arith)
 each_of_range p a (suc n) h m low high =
@@ -52,7 +43,7 @@ range_of_each p a (suc n) h =
 
 pub some_of_range : (p : ℕ → Bool) (a n : ℕ) → list_any p (range_with_len a n) ≡ true → (m : ℕ) × ((m < a + n) × (p m ≡ true))
 some_of_range p a zero h = absurd (cc)
-some_of_range p a (suc n) h = by_cases (or_parts (p a) (list_any p (range_with_len (a + 1) n)) h) (some_of_range p (a + 1) n)
+some_of_range p a (suc n) h = by_cases (or_cases (p a) (list_any p (range_with_len (a + 1) n)) h) (some_of_range p (a + 1) n)
   where
     by_cases : (p a ≡ true) ⊎ (list_any p (range_with_len (a + 1) n) ≡ true) → (list_any p (range_with_len (a + 1) n) ≡ true → (m : ℕ) × ((m < a + 1 + n) × (p m ≡ true))) → (m : ℕ) × ((m < a + suc n) × (p m ≡ true))
     by_cases (inl here) later = (a, (omega arith, here))

@@ -1,15 +1,23 @@
-use Rattle.std.specs.Prelude.{◌≡◌, ℕ, ◌<◌, ◌≤◌, Bool, ◌↔◌, ◌⊎◌, true, false, List, [], ◌∷◌, IsTrue}
+use Rattle.std.specs.Prelude.{◌≡◌, ◌≢◌, ℕ, ◌*◌, ◌<◌, ◌≤◌, ℤ, pos, ◌≤ℤ◌, ◌<ℤ◌, Bool, ◌↔◌, ◌⊎◌, true, false, List, [], ◌∷◌, IsTrue, Option, Some, slice_get}
 use Rattle.viz_base.specs.declared.worlds.World.{World}
 use Rattle.viz_base.specs.declared.worlds.Rect.{Rect}
 use Rattle.viz_base.specs.declared.trees.Kind.TheVariants as of_kind
 use Rattle.viz_base.specs.declared.formulas.Set.{Set}
 use Rattle.viz_base.specs.declared.formulas.Set.TheVariants as of_set
 use Rattle.viz_base.specs.declared.formulas.Sign.{Sign}
+use Rattle.viz_base.specs.declared.formulas.Sign.TheVariants.{Lt, Le, Eq, Ne, Ge, Gt}
+use Rattle.viz_base.specs.declared.formulas.Edge.TheVariants.{Name, ViewWidth, ViewHeight}
+use Rattle.viz_base.specs.declared.formulas.Ring.{Ring}
+use Rattle.viz_base.specs.declared.formulas.Ring.TheVariants.{Margin, Border, Padding, Content}
+use Rattle.viz_base.specs.declared.formulas.Face.TheVariants.{Left, Top, Right, Bottom}
+use Rattle.viz_base.specs.declared.renderings.Quad.{Quad}
+use Rattle.viz_base.specs.declared.renderings.Placed.{Placed}
+use Rattle.viz_base.specs.declared.renderings.Rendering.{Rendering}
 use Rattle.viz_base.specs.declared.formulas.Term.{Term}
 use Rattle.viz_base.specs.declared.formulas.Formula.{Formula}
 use Rattle.viz_base.specs.declared.formulas.Formula.TheVariants.{Const, Forall, Exists, Implies, Or, And, Not, Cmp, Overlap, Same}
-use Rattle.logic_semantics.specs.Scenes.{Scene, is_member, is_member_at}
-use Rattle.logic_semantics.specs.Terms.{compares, term_value}
+use Rattle.logic_semantics.specs.Scenes.{Scene, scene_of, is_member, is_member_at, named}
+use Rattle.logic_semantics.specs.Terms.{compares, edge_value, term_value}
 use Rattle.logic_semantics.specs.Truth.{truth_in}
 use Rattle.logic_semantics.specs.Blame.{blame_in}
 use Rattle.logic_semantics.specs.Ranges.{IsInRange}
@@ -51,6 +59,67 @@ ConstIsValue = (scene : Scene) (names : List ℕ) → (truth_in scene (Const tru
 abbrev pub CmpCompares : Type 0
 CmpCompares = (scene : Scene) (left right : Term) (sign : Sign) (names : List ℕ)
     → truth_in scene (Cmp left sign right) names ≡ compares sign (term_value scene names left) (term_value scene names right)
+
+-- what each sign says of two numbers
+abbrev pub IsRelated : Sign → ℤ → ℤ → Type 0
+IsRelated Lt x y = x <ℤ y
+IsRelated Le x y = x ≤ℤ y
+IsRelated Eq x y = x ≡ y
+IsRelated Ne x y = x ≢ y
+IsRelated Ge x y = y ≤ℤ x
+IsRelated Gt x y = y <ℤ x
+
+-- a comparison is true exactly where its terms are related as its sign says
+abbrev pub CmpIsItsSign : Type 0
+CmpIsItsSign = (scene : Scene) (left right : Term) (sign : Sign) (names : List ℕ)
+    → IsTrue (truth_in scene (Cmp left sign right) names) ↔ IsRelated sign (term_value scene names left) (term_value scene names right)
+
+-- two names are the same exactly where they stand for one place
+abbrev pub SameIsOnePlace : Type 0
+SameIsOnePlace = (scene : Scene) (a b : ℕ) (names : List ℕ)
+    → IsTrue (truth_in scene (Same a b) names) ↔ ((place : ℕ) × ((slice_get names a ≡ Some place) × (slice_get names b ≡ Some place)))
+
+-- the square of one unit whose upper left corner is this point lies in the rectangle
+pub record HasCell (q : Quad ℤ) (x y : ℤ) : Type 0 where
+  pub left : q.left ≤ℤ x
+  pub right : x <ℤ q.right
+  pub top : q.top ≤ℤ y
+  pub bottom : y <ℤ q.bottom
+
+abbrev pub HasSomeCell : Quad ℤ → Type 0
+HasSomeCell q = (x y : ℤ) × HasCell q x y
+
+-- two boxes whose border rectangles are not empty overlap exactly where these have a square of one unit in common; so
+-- boxes that only touch do not
+abbrev pub OverlapIsCommonCell : Type 0
+OverlapIsCommonCell = (scene : Scene) (a b : ℕ) (names : List ℕ) (first second : Placed ℤ)
+    → named scene.boxes names a ≡ Some first → named scene.boxes names b ≡ Some second
+    → HasSomeCell first.border → HasSomeCell second.border
+    → IsTrue (truth_in scene (Overlap a b) names) ↔ ((x y : ℤ) × (HasCell first.border x y × HasCell second.border x y))
+
+-- ---- edges
+
+-- the edges of a ring of the box that a name stands for have the values of these
+pub record HasEdges (scene : Scene) (names : List ℕ) (name : ℕ) (ring : Ring) (q : Quad ℤ) : Type 0 where
+  pub left : edge_value scene names (Name name ring Left) ≡ q.left
+  pub top : edge_value scene names (Name name ring Top) ≡ q.top
+  pub right : edge_value scene names (Name name ring Right) ≡ q.right
+  pub bottom : edge_value scene names (Name name ring Bottom) ≡ q.bottom
+
+-- each edge is that of its ring of the box
+pub record HasRings (scene : Scene) (names : List ℕ) (name : ℕ) (box : Placed ℤ) : Type 0 where
+  pub margin : HasEdges scene names name Margin box.margin
+  pub border : HasEdges scene names name Border box.border
+  pub padding : HasEdges scene names name Padding box.padding
+  pub content : HasEdges scene names name Content box.content
+
+abbrev pub EdgesAreOfTheirBox : Type 0
+EdgesAreOfTheirBox = (scene : Scene) (names : List ℕ) (name : ℕ) (box : Placed ℤ) → named scene.boxes names name ≡ Some box → HasRings scene names name box
+
+-- the viewport's edges are the world's width and the height, in units of 1/64 px
+abbrev pub ViewportIsTheWorlds : Type 0
+ViewportIsTheWorlds = (r : Rendering ℤ) (world : World) (height : ℕ) (names : List ℕ)
+    → (edge_value (scene_of r world height) names ViewWidth ≡ pos (64 * world.w)) × (edge_value (scene_of r world height) names ViewHeight ≡ pos (64 * height))
 
 -- ---- blame
 

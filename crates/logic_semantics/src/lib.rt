@@ -1,7 +1,7 @@
 //! What formulas over renderings mean: truth, blame, and what it is to hold over a range of worlds.
 #![tactic(auto)]
 
-ghost use Rattle.logic_semantics.specs.Laws.{ForallIsEach, ExistsIsSome, NotIsNot, AndIsBoth, OrIsEither, ImpliesIsIf, ConstIsValue, CmpCompares, TrueBlamesNone, ForallBlamesFirst, AndBlamesFirst, ImpliesBlamesConclusion, OthersBlameNone, NodesAreElements, RangeIsItsBounds};
+ghost use Rattle.logic_semantics.specs.Laws.{ForallIsEach, ExistsIsSome, NotIsNot, AndIsBoth, OrIsEither, ImpliesIsIf, ConstIsValue, CmpCompares, CmpIsItsSign, SameIsOnePlace, OverlapIsCommonCell, EdgesAreOfTheirBox, ViewportIsTheWorlds, TrueBlamesNone, ForallBlamesFirst, AndBlamesFirst, ImpliesBlamesConclusion, OthersBlameNone, NodesAreElements, RangeIsItsBounds};
 
 /// Quantifiers: `forall` is true exactly where each member of its set makes its body true, `exists` exactly where some
 /// member does.
@@ -18,10 +18,19 @@ pub fn truth_of_connectives()
     ensures implies_is_if { ImpliesIsIf }
 {}
 
-/// `true`, `false` and comparisons.
+/// `true`, `false`, comparisons, and what it is for two boxes to be the same or to overlap.
 pub fn truth_of_atoms()
     ensures constants { ConstIsValue }
     ensures comparisons { CmpCompares }
+    ensures signs { CmpIsItsSign }
+    ensures sames { SameIsOnePlace }
+    ensures overlaps { OverlapIsCommonCell }
+{}
+
+/// The values of edges: those of the box that a name stands for, and those of the viewport.
+pub fn values_of_edges()
+    ensures boxes { EdgesAreOfTheirBox }
+    ensures viewport { ViewportIsTheWorlds }
 {}
 
 /// Whom a false formula blames.
