@@ -2,7 +2,7 @@
 use Rattle.std.proofs.Common.{◌≡◌, ℕ, suc, ◌+◌, ◌*◌, ◌<◌, List, [], ◌∷◌, ◌++◌, length, drop, Ok, Err, refl, sym, ap, arith, append_assoc, drop-cons}
 use Rattle.cert_text.specs.declared.cursor.Stop.{Stop}
 use Rattle.cert_text.specs.declared.cursor.Stop.TheVariants.{Mem, Refused}
-use Rattle.cert_text.specs.Read.{Answer, Gives, ◌>>=◌, after_word, read_hex, read_bytes}
+use Rattle.cert_text.specs.steps.Read.{Answer, Reads, ◌>>=◌, after_word, read_hex, read_bytes}
 
 -- the text ends within the word
 pub word_ended : (word text : List ℕ) (i : ℕ) → i < length word → length text ≡ 0 → after_word (drop i word) text ≡ Err text
@@ -10,7 +10,7 @@ word_ended word [] i lt none = rw (drop-cons word i 0 lt) refl
 word_ended word (c ∷ cs) i lt none = absurd (omega arith)
 
 -- where a part is refused, so is the whole
-pub gives_err : {A B : Type 0} (stop : Stop) (part : Answer A) (whole : Answer B) (left : List ℕ) → ((e : List ℕ) → part ≡ Err e → whole ≡ Err e) → Gives {A = A} (Err stop) part left → Gives {A = B} (Err stop) whole left
+pub gives_err : {A B : Type 0} (stop : Stop) (part : Answer A) (whole : Answer B) (left : List ℕ) → ((e : List ℕ) → part ≡ Err e → whole ≡ Err e) → Reads {A = A} (Err stop) part left → Reads {A = B} (Err stop) whole left
 gives_err Mem part whole left h given = tt
 gives_err Refused part whole left h given = h left given
 

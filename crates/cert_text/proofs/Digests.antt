@@ -6,7 +6,7 @@ use Rattle.std.proofs.lemmas.Bool.{agree_below_at, eqb-true}
 use Rattle.std.proofs.lemmas.Bool.Decides.{nat_tests}
 use Rattle.std.proofs.lemmas.Option.{same_Some}
 use Rattle.hex.specs.Hex.{lower_digits, encode_with, encode_lower}
-use Rattle.cert_text.specs.Read.{lower_value, answer_hex, read_hex, read_bytes}
+use Rattle.cert_text.specs.steps.Read.{lower_value, answer_hex, read_hex, read_bytes}
 use Rattle.cert_text.proofs.Language.{Lang, Agree, Leaves, IsPlain, IsRead, Some_text, Dep, Done, read_dep, read_same, read_done, plain_dep, plain_done, some_dep, some_done}
 
 -- the digit at each place of the table

@@ -4,8 +4,8 @@ use Rattle.std.proofs.lemmas.List.{append-nil}
 use Rattle.cert_text.specs.declared.certificate.Cert.{Cert}
 use Rattle.cert_text.specs.Grammar.{CertText}
 use Rattle.cert_text.specs.Fault.{IsNoText}
-use Rattle.cert_text.specs.Read.{Answer, ◌>>=◌}
-use Rattle.cert_text.specs.Whole.{at_end, read_front, read_whole}
+use Rattle.cert_text.specs.steps.Read.{Answer, ◌>>=◌}
+use Rattle.cert_text.specs.steps.Whole.{at_end, read_front, read_whole}
 use Rattle.cert_text.proofs.Language.{Agree, Leaves, IsRefused, IsTaken, IsRead, agree_begins}
 use Rattle.cert_text.proofs.Nodes.{plain_cert, read_front-right}
 

@@ -3,7 +3,7 @@ use Rattle.std.proofs.Common.{◌≡◌, ℕ, zero, suc, ◌-◌, ◌^◌, ◌<�
 use Rattle.std.proofs.lemmas.Bool.{false≢true}
 use Rattle.std.proofs.lemmas.Bool.Decides.{nat_tests}
 use Rattle.cert_text.specs.Grammar.{NumeralText, IntText, VariableText, UnitText}
-use Rattle.cert_text.specs.Read.{Answer, ◌>>=◌, after_word, begins, numeral, negative, read_int, read_variable, read_unit}
+use Rattle.cert_text.specs.steps.Read.{Answer, ◌>>=◌, after_word, begins, numeral, negative, read_int, read_variable, read_unit}
 use Rattle.cert_text.proofs.Language.{Agree, Leaves, IsPlain, IsRefused, IsRead, Some_text, agree_map, agree_same, leaves_first, Word, read_word}
 use Rattle.cert_text.proofs.Numbers.{NumeralSpace, numeral_above, read_numeral, numeral_agree}
 

@@ -1,7 +1,7 @@
 -- Languages: relations between values and texts. How far a text can be begun, and how parts that are read one after
 -- another make a whole.
 use Rattle.std.proofs.Common.{◌≡◌, ℕ, ◌==◌, Bool, true, false, cond, List, [], ◌∷◌, ◌++◌, Ok, Err, refl, sym, ◌∙◌, ap, subst, arith, append_assoc, rules}
-use Rattle.cert_text.specs.Read.{Answer, ◌>>=◌, after_word, begins}
+use Rattle.cert_text.specs.steps.Read.{Answer, ◌>>=◌, after_word, begins}
 
 -- the values' texts
 abbrev pub Lang : Type 0 → Type 1

@@ -7,8 +7,8 @@ use Rattle.cert_text.specs.declared.certificate.Cert.{Cert}
 use Rattle.cert_text.specs.declared.certificate.CertNode.{CertNode}
 use Rattle.cert_text.specs.declared.certificate.CertNode.TheVariants.{Grid, Split}
 use Rattle.cert_text.specs.Grammar.{UnitText, RowText, NodeText, grid, split, DigestText, CertText}
-use Rattle.cert_text.specs.Read.{Answer, ◌>>=◌, after_word, begins, one_term, read_int, read_variable, read_unit, read_row, read_grid, read_node, read_bytes}
-use Rattle.cert_text.specs.Whole.{read_front}
+use Rattle.cert_text.specs.steps.Read.{Answer, ◌>>=◌, after_word, begins, one_term, read_int, read_variable, read_unit, read_row, read_grid, read_node, read_bytes}
+use Rattle.cert_text.specs.steps.Whole.{read_front}
 use Rattle.cert_text.proofs.Language.{Lang, Agree, Leaves, IsPlain, IsRead, Some_text, Dep, Done, Word, agree_append, agree_same, leaves_first, read_dep, read_same, read_done, plain_dep, plain_done, some_dep, some_done, read_word, plain_word, some_word}
 use Rattle.cert_text.proofs.Ints.{IntSpace, VariableColon, read_int-right, plain_int, read_variable-right, plain_variable, some_variable, read_unit-right, plain_unit, some_unit}
 use Rattle.cert_text.proofs.Digests.{BytesText, read_bytes-right, plain_bytes, some_bytes}

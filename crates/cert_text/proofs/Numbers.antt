@@ -3,7 +3,7 @@ use Rattle.std.proofs.Common.{◌≡◌, ◌≢◌, ℕ, ◌+◌, ◌-◌, ◌*�
 use Rattle.std.specs.List.{AllByRecursion}
 use Rattle.std.proofs.lemmas.Bool.Decides.{nat_tests}
 use Rattle.cert_text.specs.Grammar.{IsDigit, number_after, NumeralText}
-use Rattle.cert_text.specs.Read.{Answer, number_on, numeral}
+use Rattle.cert_text.specs.steps.Read.{Answer, number_on, numeral}
 use Rattle.cert_text.proofs.Language.{Agree, Leaves, IsRefused, IsRead, agree_map}
 
 -- digits that go on with n, and a space

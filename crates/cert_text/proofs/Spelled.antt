@@ -11,8 +11,8 @@ use Rattle.cert_text.specs.declared.certificate.CertNode.TheVariants.{Grid, Spli
 use Rattle.cert_text.specs.declared.certificate.CertNode.TheViews.{the_lemmas}
 use Rattle.cert_text.specs.declared.certificate.CertNode.TheFolds.{fold-roll-CertNode, fold_out-CertNode}
 use Rattle.cert_text.specs.Grammar.{IsDigit, number_after, NumeralText, IntText, VariableText, UnitText, RowText, NodeText, grid, split, CertText}
-use Rattle.cert_text.specs.Read.{one_term}
-use Rattle.cert_text.specs.Write.{int_bytes, term_bytes, row_bytes, node_bytes, cert_bytes}
+use Rattle.cert_text.specs.steps.Read.{one_term}
+use Rattle.cert_text.specs.steps.Write.{int_bytes, term_bytes, row_bytes, node_bytes, cert_bytes}
 use Rattle.cert_text.proofs.Numbers.{number_after-ge}
 
 numeral_on : (n : ℕ) (ds others : List ℕ) → 1 ≤ n → decimal n ≡ ds → AllByRecursion IsDigit others → number_after n others < 10 ^ 64 → decimal (number_after n others) ≡ ds ++ others

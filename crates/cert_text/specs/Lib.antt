@@ -1,5 +1,3 @@
 pub mod Fault
 pub mod Grammar
-pub mod Read
-pub mod Whole
-pub mod Write
+pub mod steps

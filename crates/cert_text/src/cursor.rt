@@ -1,5 +1,5 @@
 ghost use Rattle.std.specs.Prelude.{◌≡◌, ◌<◌, ◌≤◌, ◌^◌, IfOk};
-ghost use Rattle.cert_text.specs.Read.{Gives, after_word, lower_value, read_hex, read_bytes, with_digit, number_on, negative, numeral, read_int, read_variable, read_unit, begins};
+ghost use Rattle.cert_text.specs.steps.Read.{Reads, after_word, lower_value, read_hex, read_bytes, with_digit, number_on, negative, numeral, read_int, read_variable, read_unit, begins};
 
 use std::alloc::AllocError;
 
@@ -57,7 +57,7 @@ fn with_digit(most: u128, number: u128, byte: u8) -> Option<u128>
 impl<'a> Cursor<'a> {
     /// Takes a word.
     pub fn word(&mut self, word: &[u8]) -> Result<(), Stop>
-        ensures { Gives result (after_word word.now self.old.rest.now) self.new.rest.now }
+        ensures { Reads result (after_word word.now self.old.rest.now) self.new.rest.now }
     {
         for wanted in word {
             match self.rest.split_first() {
@@ -70,7 +70,7 @@ impl<'a> Cursor<'a> {
 
     /// Takes a digit in base 16, with lower case letters.
     fn hex(&mut self) -> Result<u8, Stop>
-        ensures gives { Gives result (read_hex self.old.rest.now) self.new.rest.now }
+        ensures gives { Reads result (read_hex self.old.rest.now) self.new.rest.now }
         ensures small { IfOk result (λ digit. digit < 16) }
     {
         let Some((byte, rest)) = self.rest.split_first() else {
@@ -85,7 +85,7 @@ impl<'a> Cursor<'a> {
 
     /// Takes 64 such digits, two a byte.
     pub fn digest(&mut self) -> Result<[u8; 32], Stop>
-        ensures { Gives result (read_bytes 32 self.old.rest.now) self.new.rest.now }
+        ensures { Reads result (read_bytes 32 self.old.rest.now) self.new.rest.now }
     {
         let mut digest = [0; 32];
         for i in 0..32 {
@@ -99,7 +99,7 @@ impl<'a> Cursor<'a> {
     /// Takes the digits that go on with a number, at most `most`, and the space behind them.
     fn number_on(&mut self, most: u128, number: u128) -> Result<u128, Stop>
         requires { number ≤ most }
-        ensures gives { Gives result (number_on most number self.old.rest.now) self.new.rest.now }
+        ensures gives { Reads result (number_on most number self.old.rest.now) self.new.rest.now }
         ensures least { IfOk result (λ n. number ≤ n) }
         ensures bound { IfOk result (λ n. n ≤ most) }
     {
@@ -121,7 +121,7 @@ impl<'a> Cursor<'a> {
     /// Takes a number from 1 to `most`, without leading zeros, and the space behind it.
     fn numeral(&mut self, most: u128) -> Result<u128, Stop>
         requires { 9 ≤ most }
-        ensures gives { Gives result (numeral most self.old.rest.now) self.new.rest.now }
+        ensures gives { Reads result (numeral most self.old.rest.now) self.new.rest.now }
         ensures above_zero { IfOk result (λ n. 0 < n) }
         ensures bound { IfOk result (λ n. n ≤ most) }
     {
@@ -136,7 +136,7 @@ impl<'a> Cursor<'a> {
 
     /// Takes a whole number of `i128`, and the space behind it.
     pub fn int(&mut self) -> Result<i128, Stop>
-        ensures { Gives result (read_int self.old.rest.now) self.new.rest.now }
+        ensures { Reads result (read_int self.old.rest.now) self.new.rest.now }
     {
         match self.rest.split_first() {
             Some((b'-', rest)) => {
@@ -158,7 +158,7 @@ impl<'a> Cursor<'a> {
 
     /// Takes the variable 0 or 1 and the colon behind it.
     pub fn variable(&mut self) -> Result<u32, Stop>
-        ensures { Gives result (read_variable self.old.rest.now) self.new.rest.now }
+        ensures { Reads result (read_variable self.old.rest.now) self.new.rest.now }
     {
         match self.rest.split_first() {
             Some((byte, rest)) if matches!(*byte, b'0' | b'1') => {
@@ -172,7 +172,7 @@ impl<'a> Cursor<'a> {
 
     /// Takes the coefficient 1 or -1.
     pub fn unit(&mut self) -> Result<i128, Stop>
-        ensures { Gives result (read_unit self.old.rest.now) self.new.rest.now }
+        ensures { Reads result (read_unit self.old.rest.now) self.new.rest.now }
     {
         match self.rest.split_first() {
             Some((b'-', rest)) => {

@@ -1,6 +1,6 @@
 ghost use Rattle.std.specs.Prelude.{◌≡◌, ◌+◌, ◌<◌, ◌≤◌, ◌^◌, MatchResult};
-ghost use Rattle.cert_text.specs.Read.{Gives, read_row, read_node};
-ghost use Rattle.cert_text.specs.Whole.{read_front, read_whole};
+ghost use Rattle.cert_text.specs.steps.Read.{Reads, read_row, read_node};
+ghost use Rattle.cert_text.specs.steps.Whole.{read_front, read_whole};
 ghost use Rattle.cert_text.specs.Grammar.{CertText};
 ghost use Rattle.cert_text.specs.Fault.{IsFault};
 
@@ -29,7 +29,7 @@ pub fn read_cert(alloc: Global, bytes: &[u8]) -> Result<Cert, CertFault>
 
 /// A certificate with nothing behind it.
 fn read_whole(alloc: Global, cursor: &mut Cursor) -> Result<Cert, Stop>
-    ensures { Gives result (read_whole cursor.old.rest.now) cursor.new.rest.now }
+    ensures { Reads result (read_whole cursor.old.rest.now) cursor.new.rest.now }
 {
     let cert = read_front(alloc, cursor)?;
     if cursor.rest.is_empty() {
@@ -41,7 +41,7 @@ fn read_whole(alloc: Global, cursor: &mut Cursor) -> Result<Cert, Stop>
 
 /// A certificate, whatever is behind it.
 fn read_front(alloc: Global, cursor: &mut Cursor) -> Result<Cert, Stop>
-    ensures { Gives result (read_front cursor.old.rest.now) cursor.new.rest.now }
+    ensures { Reads result (read_front cursor.old.rest.now) cursor.new.rest.now }
 {
     cursor.word(b"vizlog-cert 1\njob ")?;
     let job = cursor.digest()?;
@@ -52,7 +52,7 @@ fn read_front(alloc: Global, cursor: &mut Cursor) -> Result<Cert, Stop>
 
 /// A row of one variable, 0 or 1, with the coefficient 1 or -1.
 fn read_row(alloc: Global, cursor: &mut Cursor) -> Result<Row, Stop>
-    ensures { Gives result (read_row cursor.old.rest.now) cursor.new.rest.now }
+    ensures { Reads result (read_row cursor.old.rest.now) cursor.new.rest.now }
 {
     let k = cursor.int()?;
     let variable = cursor.variable()?;
@@ -61,9 +61,9 @@ fn read_row(alloc: Global, cursor: &mut Cursor) -> Result<Row, Stop>
 }
 
 /// A node below which at most `levels` splits stand one in another.
-#[tactic(auto, unfolding(crate::specs::Read::read_node))]
+#[tactic(auto, unfolding(crate::specs::steps::Read::read_node))]
 fn read_node(alloc: Global, cursor: &mut Cursor, levels: u16) -> Result<CertNode, Stop>
-    ensures { Gives result (read_node levels cursor.old.rest.now) cursor.new.rest.now }
+    ensures { Reads result (read_node levels cursor.old.rest.now) cursor.new.rest.now }
 {
     if levels == 0 || !cursor.begins(b's') {
         cursor.word(b"grid\n")?;

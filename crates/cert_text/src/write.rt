@@ -1,7 +1,7 @@
 ghost use Rattle.std.specs.Prelude.{◌≡◌, ◌++◌, ℕ, List, IfOk, OnOk};
 ghost use Rattle.hex.specs.Hex.{encode_lower};
 ghost use Rattle.cert_text.specs.Grammar.{CertText};
-ghost use Rattle.cert_text.specs.Write.{int_bytes, term_bytes, row_bytes, node_bytes, cert_bytes};
+ghost use Rattle.cert_text.specs.steps.Write.{int_bytes, term_bytes, row_bytes, node_bytes, cert_bytes};
 
 use crate::certificate::{Cert, CertNode};
 use itoa::Buffer;

@@ -97,13 +97,7 @@ fn decide(alloc: Global, job: &Job, rect: Rect, turns: u64) -> Result<Closed, St
     let halves = halves_of(rect);
     let first = decide(alloc, job, halves.first, turns - 1)?;
     let second = decide(alloc, job, halves.second, first.left)?;
-    let node = split(
-        alloc,
-        halves.axis,
-        halves.middle,
-        first.node,
-        second.node,
-    )?;
+    let node = split(alloc, halves.axis, halves.middle, first.node, second.node)?;
     Ok(Closed {
         node,
         left: second.left,

@@ -1,6 +1,6 @@
 use Rattle.std.proofs.Common.{codes}
 use Rattle.hex.specs.Hex.{encode_lower}
-use Rattle.cert_text.specs.Write.{node_bytes}
+use Rattle.cert_text.specs.steps.Write.{node_bytes}
 use Rattle.cert_text.proofs.Spelled.{pushed_four}
 use Rattle.cert_text.proofs.write.push_cert.Goals as goal
 

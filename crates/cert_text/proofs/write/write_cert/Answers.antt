@@ -1,6 +1,6 @@
 use Rattle.std.proofs.Common.{◌≡◌, subst, sym, ◌∙◌, List, ℕ}
 use Rattle.cert_text.specs.Grammar.{CertText}
-use Rattle.cert_text.specs.Write.{cert_bytes}
+use Rattle.cert_text.specs.steps.Write.{cert_bytes}
 use Rattle.cert_text.proofs.Spelled.{cert_spelled}
 use Rattle.cert_text.proofs.write.write_cert.Goals as goal
 

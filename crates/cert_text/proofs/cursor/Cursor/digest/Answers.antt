@@ -1,7 +1,7 @@
 use Rattle.std.proofs.Common.{◌≡◌, ℕ, ◌+◌, ◌-◌, ◌*◌, ◌<◌, List, Ok, length, take, refl, sym, ◌∙◌, arith, add-one, subst, ◌≤◌, ◌++◌, []}
 use Rattle.std.proofs.lemmas.List.{take_more_set, take_all, append-nil, length-set}
 use Rattle.std.proofs.lemmas.Result.{err_from_is_err_and}
-use Rattle.cert_text.specs.Read.{read_hex, read_bytes}
+use Rattle.cert_text.specs.steps.Read.{read_hex, read_bytes}
 use Rattle.cert_text.proofs.CursorLemmas.{put_front, put_front-none, gives_err, refused_high, refused_low, read_byte, read_bytes-none}
 use Rattle.cert_text.proofs.cursor.Cursor.digest.Goals as goal
 

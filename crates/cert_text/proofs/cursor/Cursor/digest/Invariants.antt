@@ -1,5 +1,5 @@
 use Rattle.std.proofs.Common.{◌≡◌, ◌-◌, length, take}
-use Rattle.cert_text.specs.Read.{read_bytes}
+use Rattle.cert_text.specs.steps.Read.{read_bytes}
 use Rattle.cert_text.proofs.CursorLemmas.{put_front}
 use Rattle.cert_text.proofs.cursor.Cursor.digest.Given as goal
 

@@ -1,5 +1,5 @@
 use Rattle.std.proofs.Common.{◌≡◌, ◌≤◌, length}
-use Rattle.cert_text.specs.Read.{number_on}
+use Rattle.cert_text.specs.steps.Read.{number_on}
 use Rattle.cert_text.proofs.cursor.Cursor.number_on.Given as goal
 
 abbrev pub invariant-loop-byte : goal.invariant-loop-byte

@@ -1,5 +1,5 @@
 use Rattle.std.proofs.Common.{◌≡◌, drop}
-use Rattle.cert_text.specs.Read.{after_word}
+use Rattle.cert_text.specs.steps.Read.{after_word}
 use Rattle.cert_text.proofs.cursor.Cursor.word.Given as goal
 
 abbrev pub invariant-loop-wanted : goal.invariant-loop-wanted

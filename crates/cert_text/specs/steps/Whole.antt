@@ -1,7 +1,7 @@
 -- Reading a whole certificate.
 use Rattle.std.specs.Prelude.{ℕ, List, [], ◌∷◌, codes, Ok, Err}
 use Rattle.cert_text.specs.declared.certificate.Cert.{Cert}
-use Rattle.cert_text.specs.Read.{Answer, ◌>>=◌, after_word, read_bytes, read_node}
+use Rattle.cert_text.specs.steps.Read.{Answer, ◌>>=◌, after_word, read_bytes, read_node}
 
 -- the value, if nothing follows
 abbrev pub at_end : {A : Type 0} → A → List ℕ → Answer A

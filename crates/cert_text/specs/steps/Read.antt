@@ -1,6 +1,7 @@
 -- Reading from the front of a text, one function for each part of the grammar. Each gives the part's value and what
 -- follows it, or else the text from the first byte on that can't stand where it stands.
-use Rattle.std.specs.Prelude.{◌≡◌, ℕ, zero, suc, ◌+◌, ◌-◌, ◌*◌, ◌^◌, ◌==◌, nat_le, ℤ, pos, negsuc, Bool, false, ◌&&◌, ◌||◌, List, [], ◌∷◌, codes, Option, Some, None, Result, Ok, Err, if◌then◌else◌}
+use Rattle.std.specs.Prelude.{ℕ, zero, suc, ◌+◌, ◌-◌, ◌*◌, ◌^◌, ◌==◌, nat_le, ℤ, pos, negsuc, Bool, false, ◌&&◌, ◌||◌, List, [], ◌∷◌, codes, Option, Some, None, Result, Ok, Err, if◌then◌else◌}
+use Rattle.viz_base.specs.Answers.{Gives}
 use Rattle.lin_row.specs.Form.{Form}
 use Rattle.cert_text.specs.declared.cursor.Stop.{Stop}
 use Rattle.cert_text.specs.declared.cursor.Stop.TheVariants.{Mem, Refused}
@@ -15,11 +16,14 @@ abbrev pub ◌>>=◌ : {A B E : Type 0} → Result A E → (A → Result B E) �
 (Ok x) >>= f = f x
 (Err e) >>= f = Err e
 
--- a call gave the answer, and left what follows; want of memory says nothing
-abbrev pub Gives : {A : Type 0} → Result A Stop → Answer A → List ℕ → Type 0
-Gives (Ok value) answer left = answer ≡ Ok (value, left)
-Gives (Err Mem) answer left = Unit {0}
-Gives (Err Refused) answer left = answer ≡ Err left
+-- the bytes at which reading stopped, if it stopped at any
+abbrev pub refused_at : List ℕ → Stop → Option (List ℕ)
+refused_at left Mem = None
+refused_at left Refused = Some left
+
+-- a call gave the answer, and left what follows
+abbrev pub Reads : {A : Type 0} → Result A Stop → Answer A → List ℕ → Type 0
+Reads result answer left = Gives (λ value. (value, left)) (refused_at left) result answer
 
 abbrev pub after_word : List ℕ → List ℕ → Answer (Unit {0})
 after_word [] text = Ok (tt, text)

@@ -1,0 +1,3 @@
+pub mod Read
+pub mod Whole
+pub mod Write
