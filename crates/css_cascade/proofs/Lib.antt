@@ -6,3 +6,4 @@ pub mod Applies
 pub mod Walks
 pub mod OneNode
 pub mod Slots
+pub mod Orders

@@ -17,7 +17,8 @@ use Rattle.css_cascade.specs.declared.faults.CascadeFault.TheVariants.{Mem, Sele
 use Rattle.css_select.specs.declared.faults.SelFault.{SelFault}
 use Rattle.css_select.specs.declared.faults.SelFault.TheVariants as of_selector
 use Rattle.css_select.specs.Verdicts.{IsFault}
-use Rattle.css_cascade.specs.Faults.{FailsOf, GivesOf, IsUnread, Reads}
+use Rattle.viz_base.specs.Answers.{FailsWith, GivesOneOf}
+use Rattle.css_cascade.specs.Faults.{IsUnread, Reads, refusal_of}
 use Rattle.css_cascade.proofs.Reaching.{Reached, ReachedSheets, reached_refusal, sheets_refusal}
 
 -- a fault says the same of two readings of which the first refuses where the second does
@@ -48,12 +49,12 @@ pub reads_sheets : (texts : List (List ℕ)) (sheets : List Sheet) (at : ℕ) (i
     → o ≡ sheet_origin at → u ≡ t → rules ≡ s.rules → Reads fault (Each (IsRuleset o u) rules) → Reads fault (AreRulesets texts sheets)
 reads_sheets texts sheets at items t s fault o u rules l e m f r same text all h = reads_on fault (Each (IsRuleset o u) rules) (AreRulesets texts sheets) (λ x k. sheets_refusal texts sheets at items t s x l e m f r (each_at (Err x) same text all k)) h
 
-pub refused_page : (nodes : List Node) (texts : List (List ℕ)) (sheets : List Sheet) (fault : CascadeFault) → Reads fault (AreRulesets texts sheets) → FailsOf fault (IsCascade nodes texts sheets)
+pub refused_page : (nodes : List Node) (texts : List (List ℕ)) (sheets : List Sheet) (fault : CascadeFault) → Reads fault (AreRulesets texts sheets) → FailsWith (refusal_of fault) (IsCascade nodes texts sheets)
 refused_page nodes texts sheets Mem h = h
 refused_page nodes texts sheets (SelectorAt s at) h = refused_selector h
 refused_page nodes texts sheets (Value n p source) h = absurd h
 
-pub gives_on : (r : Result Cascaded CascadeFault) (P Q : Result (List (List Setting)) Fault → Type 0) → ((a : Result (List (List Setting)) Fault) → P a → Q a) → GivesOf r P → GivesOf r Q
+pub gives_on : (r : Result Cascaded CascadeFault) (P Q : Result (List (List Setting)) Fault → Type 0) → ((a : Result (List (List Setting)) Fault) → P a → Q a) → GivesOneOf (λ c. c.winners) refusal_of r P → GivesOneOf (λ c. c.winners) refusal_of r Q
 gives_on (Ok c) P Q f h = f _ h
 gives_on (Err Mem) P Q f h = h
 gives_on (Err (SelectorAt s at)) P Q f h = f _ h

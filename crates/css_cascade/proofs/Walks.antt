@@ -8,7 +8,8 @@ use Rattle.css_semantics.specs.declared.claims.Standing.{Standing}
 use Rattle.css_semantics.specs.Cascade.{ComesTo, Goes, Fault, value_at}
 use Rattle.css_cascade.specs.declared.faults.CascadeFault.{CascadeFault}
 use Rattle.css_cascade.specs.declared.faults.CascadeFault.TheVariants.{Mem, Selector, Value}
-use Rattle.css_cascade.specs.Faults.{FailsOf, Judges}
+use Rattle.viz_base.specs.Answers.{FailsWith}
+use Rattle.css_cascade.specs.Faults.{Judges, refusal_of}
 use Rattle.css_cascade.proofs.Reaching.{drop_at, drop_all}
 
 abbrev Answer : Type 0
@@ -33,7 +34,7 @@ refused_node nodes rulesets at standings winners node c l e r h =
     (subst (λ n. Goes nodes rulesets standings winners (node ∷ drop (at + 1) nodes) (Err (value_at n c.prop c.source))) r.count
     (Goes.refuses (subst (λ n. ComesTo nodes rulesets standings n node (Err c)) (sym r.count) h))))
 
-pub nodes_refusal : (nodes : List Node) (rulesets : List Ruleset) (at : ℕ) (standings : List Standing) (winners : List (List Setting)) (node : Node) (fault : CascadeFault) → at < length nodes → node ≡ get_or nodes at node → ReachedNodes nodes rulesets at standings winners → Judges at fault (ComesTo nodes rulesets standings at node) → FailsOf fault (Goes nodes rulesets [] [] nodes)
+pub nodes_refusal : (nodes : List Node) (rulesets : List Ruleset) (at : ℕ) (standings : List Standing) (winners : List (List Setting)) (node : Node) (fault : CascadeFault) → at < length nodes → node ≡ get_or nodes at node → ReachedNodes nodes rulesets at standings winners → Judges at fault (ComesTo nodes rulesets standings at node) → FailsWith (refusal_of fault) (Goes nodes rulesets [] [] nodes)
 nodes_refusal nodes rulesets at standings winners node Mem l e r h = h
 nodes_refusal nodes rulesets at standings winners node (Selector s place) l e r h = absurd h
 nodes_refusal nodes rulesets at standings winners node (Value n p source) l e r h =

@@ -1,7 +1,9 @@
-ghost use Rattle.std.specs.Prelude.{◌≡◌, [], map, slice_get, MatchResult, Ok, Some, length};
+ghost use Rattle.std.specs.Prelude.{◌≡◌, [], map, slice_get, IfOk, MatchResult, Ok, Some, length};
 ghost use Rattle.css_semantics.specs.Cascade.{ComesTo, Goes, IsCascade};
 ghost use Rattle.css_semantics.specs.CascadeNodes.{judged, winners_of};
-ghost use Rattle.css_cascade.specs.Faults.{GivesOf, Judges};
+ghost use Rattle.viz_base.specs.Answers.{GivesOneOf};
+ghost use Rattle.css_cascade.specs.Faults.{Judges, refusal_of};
+ghost use Rattle.css_cascade.specs.Lists.{AreInOrder};
 ghost use Rattle.css_cascade.specs.Seen.{seen};
 
 use crate::applying::{STYLE, applied, push_applied, styled};
@@ -64,7 +66,7 @@ fn come_to(
 
 /// The settings of each node.
 fn cascade_nodes(alloc: Global, page: &Page, rulesets: &[Ruleset]) -> Result<Cascaded, CascadeFault>
-    ensures { GivesOf result (Goes page.now.nodes rulesets.now [] [] page.now.nodes) }
+    ensures { GivesOneOf (λ c. c.winners) refusal_of result (Goes page.now.nodes rulesets.now [] [] page.now.nodes) }
 {
     let mut standings = Vec::new(alloc);
     let mut winners = List::new(alloc);
@@ -99,7 +101,8 @@ pub fn cascade(
     sheets: &[Sheet],
 ) -> Result<Cascaded, CascadeFault>
     requires { length texts.now ≡ length sheets.now }
-    ensures { GivesOf result (IsCascade page.now.nodes texts.now sheets.now) }
+    ensures given { GivesOneOf (λ c. c.winners) refusal_of result (IsCascade page.now.nodes texts.now sheets.now) }
+    ensures lists { IfOk result (λ c. AreInOrder page.now.nodes c.winners) }
 {
     let rulesets = read_rulesets(alloc, texts, sheets)?;
     cascade_nodes(alloc, page, &rulesets)

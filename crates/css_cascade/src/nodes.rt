@@ -1,4 +1,4 @@
-ghost use Rattle.std.specs.Prelude.{◌≡◌, ◌++◌, map, flat_map, option_map, IfOk};
+ghost use Rattle.std.specs.Prelude.{◌≡◌, ◌≤◌, ◌^◌, ◌++◌, map, flat_map, option_map, IfOk, MatchResult};
 ghost use Rattle.std.specs.List.{list_any};
 ghost use Rattle.std.specs.Option.{option_to_list};
 ghost use Rattle.viz_base.specs.Pages.{is_replaced};
@@ -10,7 +10,7 @@ use viz_base::{Body, List, Mem, Prop, Setting, Value};
 
 /// A number of a node or of a sheet. Of `2^32` and more it may not fit, which counts as want of memory.
 pub fn number(at: usize) -> Result<u32, Mem>
-    ensures { IfOk result (λ n. n ≡ at) }
+    ensures { MatchResult result (λ n. n ≡ at) (λ _. 2 ^ 32 ≤ at) }
 {
     u32::try_from(at).map_err(|_| Mem)
 }

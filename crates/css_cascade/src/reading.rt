@@ -1,4 +1,4 @@
-ghost use Rattle.std.specs.Prelude.{◌≡◌, ◌+◌, ◌∷◌, ◌++◌, [], map, length, IfOk, MatchOption, MatchResult, Ok, OnOk, Some};
+ghost use Rattle.std.specs.Prelude.{◌≡◌, ◌+◌, ◌^◌, ◌≤◌, ◌<◌, ◌∷◌, ◌++◌, [], map, length, IfErr, IfOk, MatchOption, MatchResult, Ok, OnOk, Some};
 ghost use Rattle.std.specs.List.{AllByRecursion};
 ghost use Rattle.std.specs.Option.{option_to_list};
 ghost use Rattle.std.specs.Prelude.{List as Seq, Result, None};
@@ -8,7 +8,7 @@ ghost use Rattle.css_semantics.specs.Shorthands.{Says};
 ghost use Rattle.css_semantics.specs.Specificity.{IsCountable};
 ghost use Rattle.css_semantics.specs.CascadeReading.{AreClaimed, AreRulesets, Each, IsClaimed, IsNoSlice, IsRanked, IsRuleset, IsSlice, claim_of, claims_of, sheet_origin, source_of, unsupported_at, weight_of};
 ghost use Rattle.css_select.specs.Machine.{parts_of};
-ghost use Rattle.css_cascade.specs.Faults.{IsUnread, Reads};
+ghost use Rattle.css_cascade.specs.Faults.{IsSpent, IsUnread, Reads};
 
 use crate::faults::CascadeFault;
 use crate::nodes::number;
@@ -143,7 +143,8 @@ fn ranked(alloc: Global, selectors: List<Selector>) -> Result<List<Ranked>, Mem>
 
 /// What a selector that is refused by name comes to, at this place of its ruleset.
 fn unsupported_at(origin: Origin, rule: u32, at: u32) -> Result<Option<Ruleset>, CascadeFault>
-    ensures { MatchResult result (λ found. unsupported_at origin (rule + at) ≡ Ok (option_to_list found)) (λ fault. Reads fault (λ answer. answer ≡ unsupported_at origin (rule + at))) }
+    ensures is { MatchResult result (λ found. unsupported_at origin (rule + at) ≡ Ok (option_to_list found)) (λ fault. Reads fault (λ answer. answer ≡ unsupported_at origin (rule + at))) }
+    ensures room { IfErr result (λ fault. fault ≡ CascadeFault.Mem → 2 ^ 32 ≤ rule + at) }
 {
     match origin {
         Origin::Author(sheet) => {
@@ -156,7 +157,8 @@ fn unsupported_at(origin: Origin, rule: u32, at: u32) -> Result<Option<Ruleset>,
 
 /// What a rule comes to, at this place, of which the selector can't be read.
 fn unread(origin: Origin, rule: u32, fault: SelFault) -> Result<Option<Ruleset>, CascadeFault>
-    ensures { MatchResult result (λ found. IsUnread origin rule fault (Ok (option_to_list found))) (λ answered. Reads answered (IsUnread origin rule fault)) }
+    ensures is { MatchResult result (λ found. IsUnread origin rule fault (Ok (option_to_list found))) (λ answered. Reads answered (IsUnread origin rule fault)) }
+    ensures room { IfErr result (λ answered. answered ≡ CascadeFault.Mem → IsSpent rule fault) }
 {
     match fault {
         SelFault::Bad(_) => Ok(None),
@@ -240,7 +242,7 @@ fn rulesets_in(
 
 /// Where the sheet of this number stands: the first is the default one.
 fn sheet_origin(at: usize) -> Result<Origin, Mem>
-    ensures { IfOk result (λ origin. origin ≡ sheet_origin at) }
+    ensures { MatchResult result (λ origin. origin ≡ sheet_origin at) (λ _. 2 ^ 32 < at) }
 {
     match at.checked_sub(1) {
         Some(sheet) => Ok(Origin::Author(number(sheet)?)),

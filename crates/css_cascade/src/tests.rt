@@ -80,6 +80,11 @@ fn cascades(rt: HostRuntime) -> Result<(), Fail> {
         ("div.a{height:1px}", "height:3px", "Px(192)"),
         ("div.a,p{height:1px}&{height:2px}", "", "Px(64)"),
         (
+            "&{height:9px}div{colour:red;height:2px;height:-1px}",
+            "",
+            "Px(128)",
+        ),
+        (
             "p , a:lang(x){}",
             "height:table",
             "unsupported selector in sheet 0 at 5",

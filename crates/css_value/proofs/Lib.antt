@@ -1,2 +1,3 @@
 pub mod FamilyLemmas
 pub mod PartLemmas
+pub mod GrammarLemmas

@@ -1,5 +1,5 @@
 -- What a list of names of font families goes on to be.
-use Rattle.std.specs.Prelude.{ℕ, List, [], ◌∷◌, ◌++◌, Option, Some, None, option_map}
+use Rattle.std.specs.Prelude.{ℕ, List, ◌++◌, Option, Some, None, option_map}
 use Rattle.css_semantics.specs.declared.parts.Part.{Part}
 use Rattle.css_semantics.specs.Values.{families, after_family, family_from}
 use Rattle.css_value.specs.declared.families.Before.{Before}

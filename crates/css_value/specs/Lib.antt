@@ -3,3 +3,4 @@ pub mod Families
 pub mod Faults
 pub mod Refusals
 pub mod Rows
+pub mod Grammars

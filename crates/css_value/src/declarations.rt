@@ -4,7 +4,8 @@ ghost use Rattle.css_semantics.specs.Values.{is_keyword};
 ghost use Rattle.css_semantics.specs.Shorthands.{Says, declared, list_style, longhand_or, shorthand, shorthand_name, shorthand_named};
 ghost use Rattle.css_semantics.specs.Names.{same_name};
 ghost use Rattle.css_semantics.specs.Properties.{property_named};
-ghost use Rattle.css_value.specs.Faults.{Fails, Gives, GivesOf};
+ghost use Rattle.viz_base.specs.Answers.{Gives, GivesOneOf};
+ghost use Rattle.css_value.specs.Faults.{refusal_of};
 
 use crate::fault::ValueFault;
 use crate::fonts::font;
@@ -117,7 +118,7 @@ fn names_inside(parts: &[Part]) -> bool
 
 /// Why `list-style` gives no setting (CSS 2.1, 12.5.1).
 fn list_style(parts: &[Part]) -> Result<List<Setting>, ValueFault>
-    ensures { Gives result (list_style parts.now) }
+    ensures { Gives (λ x. x) refusal_of result (list_style parts.now) }
 {
     if names_inside(parts) {
         Err(ValueFault::Unsupported(Prop::ListStylePosition))
@@ -128,7 +129,7 @@ fn list_style(parts: &[Part]) -> Result<List<Setting>, ValueFault>
 
 /// What the value of a shorthand gives.
 fn shorthand(alloc: Global, known: Shorthand, parts: &[Part]) -> Result<List<Setting>, ValueFault>
-    ensures { Gives result (shorthand known parts.now) }
+    ensures { Gives (λ x. x) refusal_of result (shorthand known parts.now) }
 {
     match known {
         Shorthand::Margin => four_sides(alloc, MARGINS, parts),
@@ -167,7 +168,7 @@ fn shorthand(alloc: Global, known: Shorthand, parts: &[Part]) -> Result<List<Set
 
 /// What a declaration of this name with these parts as its value gives.
 fn declared(alloc: Global, name: &str, parts: &[Part]) -> Result<List<Setting>, ValueFault>
-    ensures { Gives result (declared name.now parts.now) }
+    ensures { Gives (λ x. x) refusal_of result (declared name.now parts.now) }
 {
     if let Some(prop) = property_named(name) {
         longhand(alloc, prop, parts)
@@ -185,7 +186,7 @@ fn declared(alloc: Global, name: &str, parts: &[Part]) -> Result<List<Setting>, 
 /// `Ignored` where the declaration is dropped, since the property is unknown or the value illegal; `Unsupported` where the
 /// value is one that the property refuses by name; `Mem` for want of memory alone.
 pub fn read_declaration(alloc: Global, name: &str, value: &str) -> Result<List<Setting>, ValueFault>
-    ensures { GivesOf result (Says name.now value.now) }
+    ensures { GivesOneOf (λ x. x) refusal_of result (Says name.now value.now) }
 {
     let mut tokens = tokens(alloc, value)?.into_vec();
     close_by_end(&mut tokens);

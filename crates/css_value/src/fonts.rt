@@ -1,7 +1,8 @@
 ghost use Rattle.std.specs.Prelude.{◌≡◌, ◌≤◌, None, Some, Ok, length, MatchOption};
 ghost use Rattle.std.specs.List.{prefix_len};
 ghost use Rattle.css_semantics.specs.Shorthands.{font, font_from_size, font_names, front_len, height_behind, is_before_size, is_front, is_system, named_font, system_font, written_font};
-ghost use Rattle.css_value.specs.Faults.{Fails, Gives};
+ghost use Rattle.viz_base.specs.Answers.{Gives};
+ghost use Rattle.css_value.specs.Faults.{refusal_of};
 
 use crate::classes::{Class, class_has, is_at_most_one};
 use crate::families::families;
@@ -52,7 +53,7 @@ fn named_font(
     height: Value,
     parts: &[Part],
 ) -> Result<List<Setting>, ValueFault>
-    ensures { Gives result (named_font size height (font_names parts.now)) }
+    ensures { Gives (λ x. x) refusal_of result (named_font size height (font_names parts.now)) }
 {
     if is_inherit(parts) {
         return Err(ValueFault::Ignored);
@@ -78,7 +79,7 @@ fn height_behind(parts: &[Part]) -> Option<(&Part, &[Part])>
 }
 
 fn font_from_size(alloc: Global, parts: &[Part]) -> Result<List<Setting>, ValueFault>
-    ensures { Gives result (font_from_size parts.now) }
+    ensures { Gives (λ x. x) refusal_of result (font_from_size parts.now) }
 {
     let Some((size, after)) = parts.split_first() else {
         return Err(ValueFault::Ignored);
@@ -94,7 +95,7 @@ fn font_from_size(alloc: Global, parts: &[Part]) -> Result<List<Setting>, ValueF
 }
 
 fn written_font(alloc: Global, parts: &[Part]) -> Result<List<Setting>, ValueFault>
-    ensures { Gives result (written_font parts.now) }
+    ensures { Gives (λ x. x) refusal_of result (written_font parts.now) }
 {
     let (front, rest) = parts.split_at(front_len(parts));
     if is_front(front) {
@@ -122,7 +123,7 @@ fn is_system(parts: &[Part]) -> bool
 }
 
 fn system_font(alloc: Global) -> Result<List<Setting>, ValueFault>
-    ensures { Gives result (Ok system_font) }
+    ensures { Gives (λ x. x) refusal_of result (Ok system_font) }
 {
     let mut settings = List::new(alloc);
     set(&mut settings, Prop::FontSize, Value::Word(3))?;
@@ -137,7 +138,7 @@ fn system_font(alloc: Global) -> Result<List<Setting>, ValueFault>
 
 /// What the value of `font` gives (CSS 2.1, 15.8).
 pub fn font(alloc: Global, parts: &[Part]) -> Result<List<Setting>, ValueFault>
-    ensures { Gives result (font parts.now) }
+    ensures { Gives (λ x. x) refusal_of result (font parts.now) }
 {
     if is_inherit(parts) {
         let mut settings = List::new(alloc);

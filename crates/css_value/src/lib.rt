@@ -8,6 +8,7 @@ mod declarations;
 mod families;
 mod fault;
 mod fonts;
+mod laws;
 mod lines;
 mod names;
 mod rows;
@@ -19,3 +20,4 @@ mod values;
 
 pub use declarations::read_declaration;
 pub use fault::ValueFault;
+pub use laws::shorthands_by_grammar;

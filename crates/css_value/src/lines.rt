@@ -1,10 +1,11 @@
-ghost use Rattle.std.specs.Prelude.{◌≡◌, MatchResult, Ok};
+ghost use Rattle.std.specs.Prelude.{◌≡◌, IfErr, Ok, OnOk};
 ghost use Rattle.std.specs.List.{find, list_all};
 ghost use Rattle.viz_base.specs.declared.settings.Value.TheVariants.{Word};
 ghost use Rattle.css_semantics.specs.Values.{then_on};
 ghost use Rattle.css_semantics.specs.Shorthands.{each_line, is_line, is_line_part, joined, lines, value_or, written_lines};
-ghost use Rattle.css_value.specs.Classes.{class_has};
-ghost use Rattle.css_value.specs.Faults.{Fails, Gives};
+ghost use Rattle.css_value.specs.Classes.{class_has, set_by};
+ghost use Rattle.viz_base.specs.Answers.{Gives};
+ghost use Rattle.css_value.specs.Faults.{Fails, refusal_of};
 
 use crate::classes::{Class, class_has, find, is_at_most_one};
 use crate::fault::ValueFault;
@@ -57,7 +58,8 @@ fn set_lines(
     parts: &[Part],
     props: &[Prop],
 ) -> Result<(), ValueFault>
-    ensures { MatchResult result (λ _. joined settings.old (each_line (class_has class) (Word place) parts.now props.now) ≡ Ok settings.new) (λ fault. Fails fault (joined settings.old (each_line (class_has class) (Word place) parts.now props.now))) }
+    ensures ok { OnOk result (joined settings.old (set_by class place parts.now props.now) ≡ Ok settings.new) }
+    ensures fault { IfErr result (λ fault. Fails fault (joined settings.old (set_by class place parts.now props.now))) }
 {
     for prop in props {
         let value = line_value(class, place, *prop, parts)?;
@@ -72,7 +74,7 @@ fn written_lines(
     styles: &[Prop],
     parts: &[Part],
 ) -> Result<List<Setting>, ValueFault>
-    ensures { Gives result (written_lines widths.now styles.now parts.now) }
+    ensures { Gives (λ x. x) refusal_of result (written_lines widths.now styles.now parts.now) }
 {
     let mut settings = List::new(alloc);
     set_lines(&mut settings, Class::LineWidth, 1, parts, widths)?;
@@ -87,7 +89,7 @@ pub fn lines(
     styles: &[Prop],
     parts: &[Part],
 ) -> Result<List<Setting>, ValueFault>
-    ensures { Gives result (lines widths.now styles.now parts.now) }
+    ensures { Gives (λ x. x) refusal_of result (lines widths.now styles.now parts.now) }
 {
     if is_inherit(parts) {
         let mut settings = List::new(alloc);

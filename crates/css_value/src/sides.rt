@@ -1,7 +1,8 @@
 ghost use Rattle.std.specs.Prelude.{◌≡◌, [], ◌∷◌, ◌++◌, OnOk, IfErr};
 ghost use Rattle.css_semantics.specs.Values.{part_value, setting};
 ghost use Rattle.css_semantics.specs.Shorthands.{four, inherited, sides, spread};
-ghost use Rattle.css_value.specs.Faults.{Fails, Gives};
+ghost use Rattle.viz_base.specs.Answers.{Gives};
+ghost use Rattle.css_value.specs.Faults.{refusal_of};
 ghost use Rattle.css_value.specs.declared.fault.ValueFault.TheVariants.{Mem};
 
 use crate::fault::ValueFault;
@@ -48,7 +49,7 @@ fn four(
     bottom: &Part,
     left: &Part,
 ) -> Result<List<Setting>, ValueFault>
-    ensures { Gives result (four sides.top sides.right sides.bottom sides.left top.now right.now bottom.now left.now) }
+    ensures { Gives (λ x. x) refusal_of result (four sides.top sides.right sides.bottom sides.left top.now right.now bottom.now left.now) }
 {
     let top = part_value(sides.top, top)?;
     let right = part_value(sides.right, right)?;
@@ -63,7 +64,7 @@ fn four(
 }
 
 fn spread(alloc: Global, sides: Sides, parts: &[Part]) -> Result<List<Setting>, ValueFault>
-    ensures { Gives result (spread (four sides.top sides.right sides.bottom sides.left) parts.now) }
+    ensures { Gives (λ x. x) refusal_of result (spread (four sides.top sides.right sides.bottom sides.left) parts.now) }
 {
     match parts {
         [all] => four(alloc, sides, all, all, all, all),
@@ -76,7 +77,7 @@ fn spread(alloc: Global, sides: Sides, parts: &[Part]) -> Result<List<Setting>, 
 
 /// What the value of a shorthand for four sides gives (CSS 2.1, 8.3, 8.4, 8.5.1 and 8.5.3).
 pub fn four_sides(alloc: Global, on: Sides, parts: &[Part]) -> Result<List<Setting>, ValueFault>
-    ensures { Gives result (sides on.top on.right on.bottom on.left parts.now) }
+    ensures { Gives (λ x. x) refusal_of result (sides on.top on.right on.bottom on.left parts.now) }
 {
     if is_inherit(parts) {
         let mut settings = List::new(alloc);

@@ -64,6 +64,12 @@ fn reads_values(rt: HostRuntime) -> Result<(), Fail> {
             "a  b, 'c d' ,e",
             "FontFamily <a b><c d><e>; ",
         ),
+        // 65 parts
+        (
+            "font-family",
+            "a,b,c,d,e,f,g,h,i,j,k,l,m,n,o,p,q,r,s,t,u,v,w,x,y,z,A,B,C,D,E,F,G",
+            "FontFamily <a><b><c><d><e><f><g><h><i><j><k><l><m><n><o><p><q><r><s><t><u><v><w><x><y><z><A><B><C><D><E><F><G>; ",
+        ),
         (
             "margin",
             "1px 2% auto",

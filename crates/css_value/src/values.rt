@@ -1,6 +1,7 @@
 ghost use Rattle.std.specs.Prelude.{◌≡◌};
 ghost use Rattle.css_semantics.specs.Values.{half, is_inherit, is_keyword, is_negative, is_zero, judged, longhand, number_value, one_part, part_value, setting, whole_value, word_value};
-ghost use Rattle.css_value.specs.Faults.{Fails, Gives};
+ghost use Rattle.viz_base.specs.Answers.{Gives};
+ghost use Rattle.css_value.specs.Faults.{refusal_of};
 
 use crate::families::families;
 use crate::fault::ValueFault;
@@ -131,7 +132,7 @@ fn one_part(prop: Prop, parts: &[Part]) -> Result<Value, Refusal>
 }
 
 fn whole_value(alloc: Global, prop: Prop, parts: &[Part]) -> Result<Value, ValueFault>
-    ensures { Gives result (whole_value prop parts.now) }
+    ensures { Gives (λ x. x) refusal_of result (whole_value prop parts.now) }
 {
     if is_inherit(parts) {
         Ok(Value::Inherit)
@@ -147,7 +148,7 @@ fn whole_value(alloc: Global, prop: Prop, parts: &[Part]) -> Result<Value, Value
 
 /// What the value of a property of the table gives.
 pub fn longhand(alloc: Global, prop: Prop, parts: &[Part]) -> Result<List<Setting>, ValueFault>
-    ensures { Gives result (longhand prop parts.now) }
+    ensures { Gives (λ x. x) refusal_of result (longhand prop parts.now) }
 {
     let value = whole_value(alloc, prop, parts)?;
     let mut settings = List::new(alloc);

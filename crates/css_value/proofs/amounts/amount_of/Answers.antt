@@ -1,4 +1,4 @@
-use Rattle.std.proofs.Common.{◌≡◌, ℤ, List, ℕ, rules, sym, ◌∙◌, ap, w64, FitsSigned, to_z, of_z, to_z-of_z}
+use Rattle.std.proofs.Common.{◌≡◌, rules, sym, ◌∙◌, ap, w64, FitsSigned, to_z, of_z, to_z-of_z}
 use Rattle.std.specs.Str.{chars}
 use Rattle.css_semantics.specs.ValuesParts.{amount_in, unit_of, numeral_of}
 use Rattle.viz_base.specs.Decimals.{decimal_of}

@@ -1,4 +1,4 @@
-use Rattle.std.proofs.Common.{◌≡◌, arith, drop, ◌∙◌, sym}
+use Rattle.std.proofs.Common.{arith, drop, ◌∙◌, sym}
 use Rattle.css_value.proofs.PartLemmas.{stretch_none}
 use Rattle.css_value.proofs.brackets.bracket_len.Goals as goal
 

@@ -1,0 +1,176 @@
+-- The winners at the nodes: one list for each, and in it each property at most once, in the order of the table.
+use Rattle.std.proofs.Common.{◌≡◌, ℕ, ◌+◌, Bool, true, false, cond, ◌&&◌, ◌==◌, List, [], ◌∷◌, ◌++◌, map, filter, length, slice_get, Option, Some, None, Result, Ok, Err, refl, sym, ap, ◌∙◌, subst, arith, length-append}
+use Rattle.std.specs.Prelude.{IfOk, flat_map}
+use Rattle.std.specs.List.{AllByRecursion, list_all}
+use Rattle.std.specs.Option.{option_to_list}
+use Rattle.std.specs.Ordering.{is_gt}
+use Rattle.std.proofs.lemmas.Bool.Decides.{nat_tests}
+use Rattle.viz_base.specs.Answers.{GivesOneOf}
+use Rattle.viz_base.specs.declared.nodes.Node.{Node}
+use Rattle.viz_base.specs.declared.settings.Cascaded.{Cascaded}
+use Rattle.viz_base.specs.declared.settings.Prop.{Prop}
+use Rattle.viz_base.specs.declared.settings.Prop.TheVariants as prop
+use Rattle.viz_base.specs.declared.settings.Setting.{Setting}
+use Rattle.viz_base.specs.declared.settings.Value.{Value}
+use Rattle.viz_base.specs.declared.sheets.Sheet.{Sheet}
+use Rattle.css_semantics.specs.declared.claims.Claim.{Claim}
+use Rattle.css_semantics.specs.declared.claims.Ruleset.{Ruleset}
+use Rattle.css_semantics.specs.declared.claims.Standing.{Standing}
+use Rattle.css_semantics.specs.Cascade.{ComesTo, Fault, Goes, IsCascade, comes_to}
+use Rattle.css_semantics.specs.CascadeNodes.{first_refused, is_hidden, is_refused, judged, node_outcome, refused_at, set_by, settings_by, settings_of, winners_for, winners_of}
+use Rattle.css_semantics.specs.CascadeOrder.{Applied, cascade_cmp, greatest, greatest_from, is_prop, later_of, of_prop, place_of, winner_of}
+use Rattle.css_semantics.specs.Properties.{properties}
+use Rattle.css_semantics.specs.ValuesLaws.{IsAmong, none, passed, props, taken}
+use Rattle.css_semantics.proofs.Pairs.{by_bool}
+use Rattle.css_cascade.specs.declared.faults.CascadeFault.{CascadeFault}
+use Rattle.css_cascade.specs.Faults.{refusal_of}
+use Rattle.css_cascade.specs.Lists.{AreInOrder, IsInOrder}
+
+-- ---- the property of a winner
+
+at_place : (p : Prop) → slice_get properties (place_of p) ≡ Some p
+at_place prop.Display = refl
+at_place prop.Position = refl
+at_place prop.Float = refl
+at_place prop.Clear = refl
+at_place prop.Overflow = refl
+at_place prop.Direction = refl
+at_place prop.Width = refl
+at_place prop.Height = refl
+at_place prop.MinWidth = refl
+at_place prop.MinHeight = refl
+at_place prop.MaxWidth = refl
+at_place prop.MaxHeight = refl
+at_place prop.MarginTop = refl
+at_place prop.MarginRight = refl
+at_place prop.MarginBottom = refl
+at_place prop.MarginLeft = refl
+at_place prop.PaddingTop = refl
+at_place prop.PaddingRight = refl
+at_place prop.PaddingBottom = refl
+at_place prop.PaddingLeft = refl
+at_place prop.BorderTopWidth = refl
+at_place prop.BorderRightWidth = refl
+at_place prop.BorderBottomWidth = refl
+at_place prop.BorderLeftWidth = refl
+at_place prop.BorderTopStyle = refl
+at_place prop.BorderRightStyle = refl
+at_place prop.BorderBottomStyle = refl
+at_place prop.BorderLeftStyle = refl
+at_place prop.FontSize = refl
+at_place prop.FontFamily = refl
+at_place prop.LineHeight = refl
+at_place prop.VerticalAlign = refl
+at_place prop.TextAlign = refl
+at_place prop.WhiteSpace = refl
+at_place prop.TextIndent = refl
+at_place prop.LetterSpacing = refl
+at_place prop.WordSpacing = refl
+at_place prop.TextTransform = refl
+at_place prop.ListStylePosition = refl
+
+same_some : (p q : Prop) → Some p ≡ Some q → p ≡ q
+same_some p q e = cc
+
+same_place : (m n : ℕ) → (m == n) ≡ true → m ≡ n
+same_place m n e = grind (arith, nat_tests)
+
+same_prop : (q p : Prop) → is_prop q p ≡ true → q ≡ p
+same_prop q p e = same_some q p (sym (at_place q) ∙ ap (slice_get properties) (same_place (place_of q) (place_of p) e) ∙ at_place p)
+
+abbrev is_of : Prop → Applied → Bool
+is_of p a = is_prop a.claim.prop p
+
+all_pass : (p : Prop) (all : List Applied) → list_all (is_of p) (filter (is_of p) all) ≡ true
+all_pass p [] = refl
+all_pass p (a ∷ all) =
+    by_bool (is_of p a)
+    (λ t. subst (λ b. list_all (is_of p) (cond b (a ∷ filter (is_of p) all) (filter (is_of p) all)) ≡ true) (sym t) (ap (λ b. b && list_all (is_of p) (filter (is_of p) all)) t ∙ all_pass p all))
+    (λ f. subst (λ b. list_all (is_of p) (cond b (a ∷ filter (is_of p) all) (filter (is_of p) all)) ≡ true) (sym f) (all_pass p all))
+
+both : (a b : Bool) → (a && b) ≡ true → (a ≡ true) × (b ≡ true)
+both true b e = (refl, e)
+both false b e = cc
+
+one_of_two : (p : Prop) (b : Bool) (x y : Applied) → is_of p x ≡ true → is_of p y ≡ true → is_of p (cond b x y) ≡ true
+one_of_two p true x y e f = e
+one_of_two p false x y e f = f
+
+from_passes : (p : Prop) (best : Applied) (all : List Applied) → is_of p best ≡ true → list_all (is_of p) all ≡ true → is_of p (greatest_from cascade_cmp best all) ≡ true
+from_passes p best [] e f = e
+from_passes p best (a ∷ all) e f =
+    let h = both (is_of p a) (list_all (is_of p) all) f in
+    from_passes p (later_of cascade_cmp best a) all (one_of_two p (is_gt (cascade_cmp best a)) best a e h.0) h.1
+
+abbrev HasProp : Prop → Option Applied → Type 0
+HasProp p None = Unit {0}
+HasProp p (Some a) = a.claim.prop ≡ p
+
+greatest_passes : (p : Prop) (all : List Applied) → list_all (is_of p) all ≡ true → HasProp p (greatest cascade_cmp all)
+greatest_passes p [] e = tt
+greatest_passes p (a ∷ all) e =
+    let h = both (is_of p a) (list_all (is_of p) all) e in
+    same_prop (greatest_from cascade_cmp a all).claim.prop p (from_passes p a all h.0 h.1)
+
+winner_has : (p : Prop) (all : List Applied) → HasProp p (winner_of p all)
+winner_has p all = greatest_passes p (of_prop p all) (all_pass p all)
+
+-- ---- the settings of one node
+
+value_among : (p : Prop) (c : Prop) (v : Option Value) (rest : List Setting) (ps : List Prop) → c ≡ p → IsAmong (props rest) ps → IsAmong (props (set_by c v ++ rest)) (p ∷ ps)
+value_among p c None rest ps e h = passed h
+value_among p c (Some v) rest ps e h = subst (λ q. IsAmong (q ∷ props rest) (p ∷ ps)) (sym e) (taken h)
+
+either_among : (b : Bool) (p : Prop) (c : Claim) (rest : List Setting) (ps : List Prop) → c.prop ≡ p → IsAmong (props rest) ps → IsAmong (props (cond b [] (set_by c.prop c.value) ++ rest)) (p ∷ ps)
+either_among true p c rest ps e h = passed h
+either_among false p c rest ps e h = value_among p c.prop c.value rest ps e h
+
+one_among : (replaced : Bool) (outer : Standing) (p : Prop) (o : Option Applied) (rest : List Claim) (ps : List Prop) → HasProp p o → IsAmong (props (settings_of replaced outer rest)) ps → IsAmong (props (settings_of replaced outer (map (λ a. a.claim) (option_to_list o) ++ rest))) (p ∷ ps)
+one_among replaced outer p None rest ps e h = passed h
+one_among replaced outer p (Some a) rest ps e h = either_among (is_refused replaced outer a.claim) p a.claim (settings_of replaced outer rest) ps e h
+
+each_among : (replaced : Bool) (outer : Standing) (all : List Applied) (ps : List Prop) → IsAmong (props (settings_of replaced outer (flat_map (λ p. winners_for p all) ps))) ps
+each_among replaced outer all [] = none
+each_among replaced outer all (p ∷ ps) = one_among replaced outer p (winner_of p all) (flat_map (λ q. winners_for q all) ps) ps (winner_has p all) (each_among replaced outer all ps)
+
+abbrev OutcomeInOrder : Result (List Setting × Standing) Claim → Type 0
+OutcomeInOrder (Ok come) = IsInOrder come.0
+OutcomeInOrder (Err c) = Unit {0}
+
+outcome_in_order : (outer : Standing) (hidden : Bool) (settings : List Setting) (c : Option Claim) → IsInOrder settings → OutcomeInOrder (node_outcome outer hidden settings c)
+outcome_in_order outer hidden settings (Some c) h = tt
+outcome_in_order outer hidden settings None h = h
+
+judged_in_order : (replaced : Bool) (outer : Standing) (all : List Applied) → OutcomeInOrder (judged replaced outer (winners_of all))
+judged_in_order replaced outer all =
+    outcome_in_order outer (is_hidden outer (winners_of all)) (settings_of replaced outer (winners_of all))
+    (refused_at (is_hidden outer (winners_of all)) (first_refused replaced outer (winners_of all))) (each_among replaced outer all properties)
+
+node_in_order : {nodes : List Node} {rulesets : List Ruleset} {standings : List Standing} {n : ℕ} {node : Node} {r : Result (List Setting × Standing) Claim} → ComesTo nodes rulesets standings n node r → OutcomeInOrder r
+node_in_order (comes_to {all = all} h) = judged_in_order _ _ all
+
+-- ---- the lists of all nodes
+
+all_push : (xs : List (List Setting)) (x : List Setting) → AllByRecursion IsInOrder xs → IsInOrder x → AllByRecursion IsInOrder (xs ++ x ∷ [])
+all_push [] x h k = (k, tt)
+all_push (y ∷ xs) x h k = (h.0, all_push xs x h.1 k)
+
+abbrev Lists : ℕ → Result (List (List Setting)) Fault → Type 0
+Lists n (Ok all) = (length all ≡ n) × AllByRecursion IsInOrder all
+Lists n (Err fault) = Unit {0}
+
+goes_lists : {nodes : List Node} {rulesets : List Ruleset} {standings : List Standing} {winners : List (List Setting)} {rest : List Node} {answer : Result (List (List Setting)) Fault} → Goes nodes rulesets standings winners rest answer → AllByRecursion IsInOrder winners → (n : ℕ) → n ≡ length winners + length rest → Lists n answer
+goes_lists Goes.ends h n e = (let l = e in omega arith, h)
+goes_lists (Goes.refuses come) h n e = tt
+goes_lists (Goes.goes_on {winners = winners} {node = node} {rest = rest} {settings = settings} come more) h n e =
+    goes_lists more (all_push winners settings h (node_in_order come)) n
+    (let l : length (winners ++ settings ∷ []) ≡ length winners + 1 = length-append winners (settings ∷ []) in omega arith)
+
+cascade_lists : (nodes : List Node) (texts : List (List ℕ)) (sheets : List Sheet) (all : List (List Setting)) → IsCascade nodes texts sheets (Ok all) → AreInOrder nodes all
+cascade_lists nodes texts sheets all (IsCascade.cascaded r goes) =
+    let l : Lists (length nodes) (Ok all) = goes_lists goes tt (length nodes) (omega arith) in
+    record { each = l.0; ordered = l.1 }
+
+pub lists_on : (r : Result Cascaded CascadeFault) (nodes : List Node) (texts : List (List ℕ)) (sheets : List Sheet) → GivesOneOf (λ c. c.winners) refusal_of r (IsCascade nodes texts sheets) → IfOk r (λ c. AreInOrder nodes c.winners)
+lists_on (Ok c) nodes texts sheets h = cascade_lists nodes texts sheets c.winners h
+lists_on (Err fault) nodes texts sheets h = tt
