@@ -7,7 +7,7 @@ ghost use Rattle.css_semantics.specs.declared.parts.Refusal.{Refusal};
 ghost use Rattle.css_semantics.specs.Shorthands.{Says};
 ghost use Rattle.css_semantics.specs.Specificity.{IsCountable};
 ghost use Rattle.css_semantics.specs.CascadeReading.{AreClaimed, AreRulesets, Each, IsClaimed, IsNoSlice, IsRanked, IsRuleset, IsSlice, claim_of, claims_of, sheet_origin, source_of, unsupported_at, weight_of};
-ghost use Rattle.css_select.specs.Machine.{parts_of};
+ghost use Rattle.css_select.specs.steps.Machine.{parts_of};
 ghost use Rattle.css_cascade.specs.Faults.{IsSpent, IsUnread, Reads};
 
 use crate::faults::CascadeFault;

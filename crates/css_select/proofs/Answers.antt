@@ -13,7 +13,7 @@ use Rattle.css_semantics.specs.SelectorTerminals.{without_comments}
 use Rattle.css_semantics.specs.SelectorGrammar.{IsGroupOf}
 use Rattle.css_select.specs.declared.faults.SelFault.{SelFault}
 use Rattle.css_select.specs.declared.faults.SelFault.TheVariants.{Mem, Bad, Unsupported}
-use Rattle.css_select.specs.Machine.{parts_of}
+use Rattle.css_select.specs.steps.Machine.{parts_of}
 use Rattle.css_select.specs.Verdicts.{bad_at, Says, Faults, IsFault, IsReading, verdict_of}
 use Rattle.css_select.proofs.Exact.{reads_all}
 

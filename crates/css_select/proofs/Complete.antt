@@ -15,7 +15,7 @@ use Rattle.css_semantics.specs.SheetsMarks.{text_of}
 use Rattle.css_semantics.specs.SelectorGrammar.{IsGap, IsTest, id, class, has, compares, pseudo_class, language, AreTests, no_test, one_more, IsHead, nothing, star, tag, IsBody, IsCompound, IsCombinator, descendant, child, adjacent, IsFront, at_start, further, IsLast, plain, with_element, IsSelectorText, selector, AreEarlier, none_earlier, one_later, IsGroup, selectors}
 use Rattle.css_select.specs.declared.reading.Place.{Place}
 use Rattle.css_select.specs.declared.reading.Place.TheVariants.{Fresh, Compound as InCompound, Gap, Dot, Colon, Language, LanguageEnd, Element, Bracket, Name, Sign, Value}
-use Rattle.css_select.specs.Machine.{State, initial, at, empty, ended, joined, may_end, or_first, refused as refused_at, tested, then_run, step, step_at, step_fresh, step_function, step_gap, step_name, step_pseudo, step_sign, step_test, step_value}
+use Rattle.css_select.specs.steps.Machine.{State, initial, at, empty, ended, joined, may_end, or_first, refused as refused_at, tested, then_run, step, step_at, step_fresh, step_function, step_gap, step_name, step_pseudo, step_sign, step_test, step_value}
 use Rattle.css_select.proofs.Following.{follow, follow_on}
 use Rattle.css_select.proofs.Held.{Part, first_of}
 

@@ -10,7 +10,7 @@ use Rattle.css_semantics.specs.SelectorTerminals.{without_comments}
 use Rattle.css_semantics.specs.SelectorGrammar.{at_start, none_earlier, IsGroup, BeginsGroup, IsNoGroup}
 use Rattle.css_select.specs.declared.reading.Place.{Place}
 use Rattle.css_select.specs.declared.reading.Place.TheVariants.{Compound as InCompound, Gap, Element}
-use Rattle.css_select.specs.Machine.{State, initial, ended, may_end, step, then_run}
+use Rattle.css_select.specs.steps.Machine.{State, initial, ended, may_end, step, then_run}
 use Rattle.css_select.specs.Verdicts.{Verdict, group_is, unsupported_at, bad_at, judged, verdict, verdict_of, IsReading}
 use Rattle.css_select.proofs.Following.{follow, follow_on, run_follow, leads_on}
 use Rattle.css_select.proofs.Held.{Part, first_of, ReadsAt, Reads}

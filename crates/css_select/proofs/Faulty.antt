@@ -14,7 +14,7 @@ use Rattle.css_semantics.specs.SelectorTerminals.{terminal, pseudo, comparison, 
 use Rattle.css_semantics.specs.SheetsMarks.{text_of}
 use Rattle.css_select.specs.declared.reading.Place.{Place}
 use Rattle.css_select.specs.declared.reading.Place.TheVariants.{Fresh, Compound as InCompound, Gap, Dot, Colon, Language, LanguageEnd, Element, Bracket, Name, Sign, Value}
-use Rattle.css_select.specs.Machine.{State, at, joined, step, step_at, step_bracket, step_closing, step_colon, step_compound, step_dot, step_element, step_fresh, step_function, step_gap, step_language, step_language_end, step_name, step_operand, step_pseudo, step_sign, step_test, step_value}
+use Rattle.css_select.specs.steps.Machine.{State, at, joined, step, step_at, step_bracket, step_closing, step_colon, step_compound, step_dot, step_element, step_fresh, step_function, step_gap, step_language, step_language_end, step_name, step_operand, step_pseudo, step_sign, step_test, step_value}
 
 -- where an answer fails, it is at the place
 abbrev FailsAt : ℕ → Result State ℕ → Type 0

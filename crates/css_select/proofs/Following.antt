@@ -13,7 +13,7 @@ use Rattle.css_select.specs.declared.reading.Place.{Place}
 use Rattle.css_select.specs.declared.reading.Place.TheVariants.{Fresh, Compound as InCompound, Gap, Dot, Colon, Language, LanguageEnd, Element, Bracket, Name, Sign, Value}
 use Rattle.css_semantics.specs.declared.terminals.Pseudo.TheVariants as of_pseudo
 use Rattle.viz_base.specs.declared.selectors.Test.TheVariants as of_test
-use Rattle.css_select.specs.Machine.{State, run, step, step_pseudo, at, tagged, tested, refused, then_run, may_end}
+use Rattle.css_select.specs.steps.Machine.{State, run, step, step_pseudo, at, tagged, tested, refused, then_run, may_end}
 
 abbrev pub follow : State → List Token → Result State ℕ
 follow s [] = Ok s

@@ -13,7 +13,7 @@ use Rattle.css_semantics.specs.SheetsMarks.{text_of}
 use Rattle.css_semantics.specs.SelectorGrammar.{IsGap, IsTest, one_more, IsBody, IsFront, IsLast, AreEarlier}
 use Rattle.css_select.specs.declared.reading.Place.{Place}
 use Rattle.css_select.specs.declared.reading.Place.TheVariants.{Fresh, Compound as InCompound, Gap, Dot, Colon, Language, LanguageEnd, Element, Bracket, Name, Sign, Value}
-use Rattle.css_select.specs.Machine.{State, empty, or_first}
+use Rattle.css_select.specs.steps.Machine.{State, empty, or_first}
 
 abbrev pub Part : Type 0
 Part = Join × Compound

@@ -19,7 +19,7 @@ use Rattle.css_semantics.specs.SelectorGrammar.{IsGroupOf}
 use Rattle.css_semantics.specs.SelectorTerminals.{terminal_of, terminal_of_character, is_comment, without_comments}
 use Rattle.css_semantics.specs.Specificity.{IsCountable}
 use Rattle.css_semantics.proofs.PieceLemmas.{some, pieces_join}
-use Rattle.css_select.specs.Machine.{parts_of}
+use Rattle.css_select.specs.steps.Machine.{parts_of}
 use Rattle.css_select.proofs.Sizes.{bytes, IsFull, AreFull, AreWithin, group_size}
 
 -- ---- a token has a byte, and an id two

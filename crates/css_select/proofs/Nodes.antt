@@ -4,7 +4,7 @@ use Rattle.std.specs.Prelude.{MatchOption, slice_get, IsTrue, nat_lt}
 use Rattle.viz_base.specs.declared.nodes.Node.{Node}
 use Rattle.viz_base.specs.Pages.{IsPage, is_element_at, parent_fits}
 use Rattle.css_semantics.specs.Matching.{IsParent, IsAncestor, parent, further, IsChildElement, IsFirstChild, IsPrevious}
-use Rattle.css_select.specs.Trees.{IsLastChildBefore, NoChildBefore}
+use Rattle.css_select.specs.steps.Trees.{IsLastChildBefore, NoChildBefore}
 use Rattle.std.specs.Bool.{Decides}
 use Rattle.std.proofs.lemmas.Bool.Decides.{Decides-eqb, Decides-ltb}
 

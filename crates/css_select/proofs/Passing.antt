@@ -13,7 +13,7 @@ use Rattle.viz_base.specs.declared.selectors.Test.{Test}
 use Rattle.viz_base.specs.declared.selectors.Test.TheVariants.{Id, Class, Has, Equals, Word, Dash, FirstChild, Link, Never}
 use Rattle.css_semantics.specs.Names.{same_name}
 use Rattle.css_semantics.specs.Matching.{HasAttribute, HasTag, IsWordOf, IsDashed, Passes}
-use Rattle.css_select.specs.Attributes.{attribute_passes, has_word, is_dashed}
+use Rattle.css_select.specs.steps.Attributes.{attribute_passes, has_word, is_dashed}
 use Rattle.css_select.proofs.Words.{word_of, of_word, dashed_of, of_dashed}
 
 pub same_names : (a b : List ℕ) → Decides (same_name a b) (same_name a b ≡ true)

@@ -8,7 +8,7 @@ use Rattle.viz_base.specs.declared.tokens.Token.{Token}
 use Rattle.css_semantics.specs.declared.terminals.Terminal.TheVariants as a
 use Rattle.css_semantics.specs.SelectorTerminals.{terminal}
 use Rattle.css_semantics.specs.SelectorGrammar.{IsGap, AreTests, no_test, IsHead, nothing, IsBody, IsCompound, IsCombinator, descendant, child, adjacent, IsFront, at_start, further, IsLast, plain, IsSelectorText, selector, AreEarlier, one_later, IsGroup, selectors}
-use Rattle.css_select.specs.Machine.{empty, refused}
+use Rattle.css_select.specs.steps.Machine.{empty, refused}
 use Rattle.css_select.proofs.Held.{Part, first_of, IsBefore, IsHeld, IsSome, IsFresh, IsSpaced, IsEnded, gap_more}
 
 -- ---- before a simple selector

@@ -8,7 +8,7 @@ use Rattle.viz_base.specs.declared.selectors.Join.TheVariants.{First, Descendant
 use Rattle.css_semantics.specs.Matching.{IsAncestor, parent, further, IsParent, IsPrevious, MatchesCompound, MatchesParts}
 use Rattle.css_select.specs.declared.matching.Outcome.{Outcome}
 use Rattle.css_select.specs.declared.matching.Outcome.TheVariants.{Found, Failed, Hopeless}
-use Rattle.css_select.specs.Outcomes.{IsAbove, IsOutcome, IsOutcomeAround, NoneAround}
+use Rattle.css_select.specs.steps.Outcomes.{IsAbove, IsOutcome, IsOutcomeAround, NoneAround}
 use Rattle.css_select.proofs.Nodes.{one_parent, one_previous, ancestor_cases, ancestor_trans, same_around}
 
 compound_of : (nodes : List Node) (join : Join) (c : Compound) (ps : List (Join × Compound)) (n : ℕ) → MatchesParts nodes ((join, c) ∷ ps) n → MatchesCompound nodes c n

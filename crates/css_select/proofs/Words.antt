@@ -7,7 +7,7 @@ use Rattle.std.specs.List.{AllByRecursion, list_any}
 use denote.Bor.{Bor}
 use Rattle.css_semantics.specs.TokensLetters.{is_space}
 use Rattle.css_semantics.specs.Matching.{EndsWhite, BeginsWhite, IsWordOf, IsDashed}
-use Rattle.css_select.specs.Attributes.{behind, ends_white, begins_word, found, is_nothing, is_solid, has_word, ends_dash, is_dashed}
+use Rattle.css_select.specs.steps.Attributes.{behind, ends_white, begins_word, found, is_nothing, is_solid, has_word, ends_dash, is_dashed}
 
 by_bool : {P : Type 0} (b : Bool) → (b ≡ true → P) → (b ≡ false → P) → P
 by_bool true yes_case no_case = yes_case refl

@@ -1,7 +1,2 @@
-pub mod Chains
-pub mod Machine
-pub mod Gives
+pub mod steps
 pub mod Verdicts
-pub mod Attributes
-pub mod Outcomes
-pub mod Trees

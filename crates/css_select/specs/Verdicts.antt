@@ -7,7 +7,7 @@ use Rattle.viz_base.specs.declared.tokens.Token.{Token}
 use Rattle.css_semantics.specs.SelectorGrammar.{IsBadAt, IsGroup, IsNoGroup, IsUnsupportedAt}
 use Rattle.css_select.specs.declared.faults.SelFault.{SelFault}
 use Rattle.css_select.specs.declared.faults.SelFault.TheVariants.{Mem, Bad, Unsupported}
-use Rattle.css_select.specs.Machine.{State, parts_of, initial, run, ended, may_end}
+use Rattle.css_select.specs.steps.Machine.{State, parts_of, initial, run, ended, may_end}
 
 pub data Verdict : Type 0 where
   group_is : List (List (Join × Compound)) → Verdict

@@ -1,7 +1,7 @@
 ghost use Rattle.std.specs.Prelude.{◌≡◌, ◌++◌, [], ◌∷◌, IfOk, false};
 ghost use Rattle.viz_base.specs.Selectors.{is_first};
 ghost use Rattle.viz_base.specs.declared.selectors.Join.TheVariants.{First};
-ghost use Rattle.css_select.specs.Machine.{at, empty, ended, initial, joined, refused, state_of, tagged, tested};
+ghost use Rattle.css_select.specs.steps.Machine.{at, empty, ended, initial, joined, refused, state_of, tagged, tested};
 
 use crate::reading::{Chain, Place, Reading};
 use std::alloc::Global;

@@ -1,7 +1,7 @@
 ghost use Rattle.std.specs.Prelude.{◌≡◌, None, Some, MatchOption, true};
 ghost use Rattle.std.specs.List.{list_any};
 ghost use Rattle.css_semantics.specs.TokensLetters.{is_space};
-ghost use Rattle.css_select.specs.Attributes.{attribute_passes, begins_word, behind, found, has_word, is_dashed, is_solid};
+ghost use Rattle.css_select.specs.steps.Attributes.{attribute_passes, begins_word, behind, found, has_word, is_dashed, is_solid};
 
 use css_token::same_name;
 use viz_base::{Attr, Element, Test};

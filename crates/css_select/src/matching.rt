@@ -1,7 +1,7 @@
 ghost use Rattle.std.specs.Prelude.{◌≡◌, ◌↔◌, reverse, IsTrue};
 ghost use Rattle.std.specs.List.{AllByRecursion};
 ghost use Rattle.css_semantics.specs.Matching.{HasTag, Match, MatchesCompound, Passes};
-ghost use Rattle.css_select.specs.Outcomes.{IsOutcome, IsOutcomeAround};
+ghost use Rattle.css_select.specs.steps.Outcomes.{IsOutcome, IsOutcomeAround};
 
 use crate::attributes::some_attribute;
 use crate::tree::{is_first_child, parent_of, previous_sibling};

@@ -2,8 +2,8 @@ ghost use Rattle.std.specs.Prelude.{◌≡◌, map, IfOk, MatchResult};
 ghost use Rattle.std.specs.List.{All};
 ghost use Rattle.css_semantics.specs.SelectorGrammar.{IsGroupOf};
 ghost use Rattle.css_semantics.specs.Specificity.{IsCountable};
-ghost use Rattle.css_select.specs.Gives.{Gives};
-ghost use Rattle.css_select.specs.Machine.{initial, may_end, parts_of, run, state_of};
+ghost use Rattle.css_select.specs.steps.Gives.{Gives};
+ghost use Rattle.css_select.specs.steps.Machine.{initial, may_end, parts_of, run, state_of};
 ghost use Rattle.css_select.specs.Verdicts.{IsFault, Says, finished, verdict_of};
 
 use crate::faults::SelFault;

@@ -1,4 +1,4 @@
-ghost use Rattle.css_select.specs.Chains.{IsChain};
+ghost use Rattle.css_select.specs.steps.Chains.{IsChain};
 
 use css_semantics::Comparison;
 use viz_base::{Compound, Join, List, Selector, Test, Text};

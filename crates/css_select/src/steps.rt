@@ -3,8 +3,8 @@ ghost use Rattle.css_semantics.specs.SheetsMarks.{text_of};
 ghost use Rattle.css_semantics.specs.Names.{same_name};
 ghost use Rattle.css_semantics.specs.SelectorTerminals.{comparison, is_value, pseudo};
 ghost use Rattle.css_select.specs.declared.faults.SelFault.TheVariants.{Bad};
-ghost use Rattle.css_select.specs.Gives.{Fails, Gives};
-ghost use Rattle.css_select.specs.Machine.{state_of, step, step_at, step_bracket, step_closing, step_colon, step_compound, step_dot, step_element, step_fresh, step_gap, step_language, step_language_end, step_name, step_function, step_pseudo, step_sign, step_test, step_value};
+ghost use Rattle.css_select.specs.steps.Gives.{Fails, Gives};
+ghost use Rattle.css_select.specs.steps.Machine.{state_of, step, step_at, step_bracket, step_closing, step_colon, step_compound, step_dot, step_element, step_fresh, step_gap, step_language, step_language_end, step_name, step_function, step_pseudo, step_sign, step_test, step_value};
 
 use crate::faults::SelFault;
 use crate::names::{compared, comparison, is_lang, is_value, name_of, pseudo, text_of};

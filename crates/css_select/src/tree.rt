@@ -1,6 +1,6 @@
 ghost use Rattle.std.specs.Prelude.{◌≡◌, ◌<◌, ◌↔◌, ℕ, IsTrue, MatchOption};
 ghost use Rattle.css_semantics.specs.Matching.{IsChildElement, IsFirstChild, IsParent, IsPrevious};
-ghost use Rattle.css_select.specs.Trees.{IsLastChildBefore, NoChildBefore};
+ghost use Rattle.css_select.specs.steps.Trees.{IsLastChildBefore, NoChildBefore};
 
 use viz_base::{Body, Page};
 

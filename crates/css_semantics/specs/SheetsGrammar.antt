@@ -106,9 +106,16 @@ AreDeclarations = Listed DeclarationItem
 
 -- ---- rulesets
 
+-- the rule of a selector without white space at its ends, which is at this place where it is empty
+abbrev pub rule_with : ℕ → List Token → List Decl → Rule
+rule_with place selector decls = record { at = start_of place selector; len = extent selector; decls = decls }
+
 -- A ruleset: a selector, which may be anything, and a block. Without a block it is none.
 pub data RulesetAt : List Token → List Rule → List Token → Type 0 where
-  ruleset_with : {ts selector after block rest : List Token} {brace : Token} {decls : List Decl} {rule : Rule} → IsStretch ends_selector ts selector (brace ∷ after) → IsBlock after block rest → AreDeclarations block decls → rule ≡ record { at = start_of brace.at (trimmed is_space selector); len = extent (trimmed is_space selector); decls = decls } → RulesetAt ts (rule ∷ []) rest
+  ruleset_with : {ts selector after block rest : List Token} {brace : Token} {decls : List Decl} {rule : Rule}
+      → IsStretch ends_selector ts selector (brace ∷ after) → IsBlock after block rest → AreDeclarations block decls
+      → rule ≡ rule_with brace.at (trimmed is_space selector) decls
+      → RulesetAt ts (rule ∷ []) rest
   unfinished : {ts selector : List Token} → IsStretch ends_selector ts selector [] → RulesetAt ts [] []
 
 -- What stands in a block of `@media`: at-rules in it are dropped.

@@ -1,8 +1,9 @@
-ghost use Rattle.std.specs.Prelude.{◌≡◌, [], true, Ok, IfOk, MatchResult};
-ghost use Rattle.viz_base.specs.Answers.{FailsWith, Gives, GivesOneOf};
+ghost use Rattle.std.specs.Prelude.{◌≡◌, [], true, Ok, IfOk, OnOk};
+ghost use Rattle.std.specs.Result.{IfErr};
+ghost use Rattle.viz_base.specs.Answers.{Gives, GivesOneOf};
 ghost use Rattle.css_semantics.specs.SheetsReading.{read_on, statements, with_statement};
 ghost use Rattle.css_semantics.specs.SheetsGrammar.{AreDeclarationsOf, IsSheetOf};
-ghost use Rattle.css_syntax.specs.Faults.{refusal_of, rules_in};
+ghost use Rattle.css_syntax.specs.Faults.{Refuses, refusal_of, rules_in};
 
 use crate::declarations::declarations;
 use crate::statements::statement_item;
@@ -71,7 +72,8 @@ struct Reading {
 impl Reading {
     /// Goes past a statement, unless it is refused.
     fn take(&mut self, statement: Statement) -> Result<(), SheetFault>
-        ensures { MatchResult result (λ _. with_statement self.old.early self.old.rules.items statement ≡ Ok (self.new.early, self.new.rules.items)) (λ fault. FailsWith (refusal_of fault) (λ given. with_statement self.old.early self.old.rules.items statement ≡ given)) }
+        ensures ok { OnOk result (with_statement self.old.early self.old.rules.items statement ≡ Ok (self.new.early, self.new.rules.items)) }
+        ensures err { IfErr result (λ fault. Refuses fault (with_statement self.old.early self.old.rules.items statement)) }
     {
         match statement {
             Statement::Ruleset(rule) => {

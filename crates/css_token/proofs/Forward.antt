@@ -11,7 +11,7 @@ use Rattle.css_token.specs.declared.states.State.{State}
 use Rattle.css_token.specs.declared.states.State.TheVariants.{Begin, At, HashMark, Spaces, UPlus, RangeFirst, RangeDash, RangeSecond}
 use Rattle.css_token.specs.declared.states.Row.{Row}
 use Rattle.css_token.specs.declared.states.Row.TheVariants.{AtWord, Name, Measure}
-use Rattle.css_token.specs.Scan.{kind_in_row}
+use Rattle.css_token.specs.steps.Scan.{kind_in_row}
 use Rattle.css_token.proofs.Reading.{reads}
 use Rattle.css_token.proofs.Rows.{Passed, ready_kind}
 use Rattle.css_token.proofs.Words.{at_passes, hash_passes, num_counts, number_reads, measure_passes, ident_spells, wordy_kind, wordy_open}

@@ -12,7 +12,7 @@ use Rattle.css_token.specs.declared.states.Row.{Row}
 use Rattle.css_token.specs.declared.states.Going.TheVariants.{Plain, Backslash, Digits, Return}
 use Rattle.css_token.specs.declared.states.State.{State}
 use Rattle.css_token.specs.declared.states.State.TheVariants.{End, Within}
-use Rattle.css_token.specs.Scan.{goes_on, holds_lines, kind_in_row, step_end, step_plain}
+use Rattle.css_token.specs.steps.Scan.{goes_on, holds_lines, kind_in_row, step_end, step_plain}
 use Rattle.css_token.proofs.Reading.{reads, no_kind}
 use Rattle.css_token.proofs.Rows.{by_bool, eq_true, and_left, InRow}
 

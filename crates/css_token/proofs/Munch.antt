@@ -6,7 +6,7 @@ use Rattle.viz_base.specs.declared.tokens.TokenKind.TheVariants.{Ident, AtKeywor
 use Rattle.css_semantics.specs.TokensTable.{Matches, row_of}
 use Rattle.css_semantics.specs.Tokens.{IsLongest}
 use Rattle.css_token.specs.declared.states.State.TheVariants.{Begin}
-use Rattle.css_token.specs.Scan.{Cut, cut_of}
+use Rattle.css_token.specs.steps.Scan.{Cut, cut_of}
 use Rattle.css_token.proofs.Reading.{reads, Taken, Kept, outcome, no_kind}
 use Rattle.css_token.proofs.Forward.{reached}
 use Rattle.css_token.proofs.Table.{found}

@@ -16,7 +16,7 @@ use Rattle.css_token.specs.declared.states.Going.{Going}
 use Rattle.css_token.specs.declared.states.Going.TheVariants.{Plain, Backslash, Digits, Return}
 use Rattle.css_token.specs.declared.states.State.{State}
 use Rattle.css_token.specs.declared.states.State.TheVariants.{Begin, Within, AddressStart, AddressEnd, InComment, Star}
-use Rattle.css_token.specs.Scan.{mark_of, step}
+use Rattle.css_token.specs.steps.Scan.{mark_of, step}
 use Rattle.css_token.proofs.Reading.{reads}
 use Rattle.css_token.proofs.Rows.{by_bool, eq_true, and_false_left, apart, InRow, Ready, Passed, escape_passes, then_passes, units_pass, many_passes, each_to, ready_kind}
 

@@ -14,7 +14,7 @@ use Rattle.css_token.specs.declared.states.Quote.{Quote}
 use Rattle.css_token.specs.declared.states.Quote.TheVariants.{Double, Single}
 use Rattle.css_token.specs.declared.states.Going.TheVariants.{Plain}
 use Rattle.css_token.specs.declared.states.State.TheVariants.{End, Within, Solidus, InComment, Star, Spaces, AddressStart, AddressEnd}
-use Rattle.css_token.specs.Scan.{mark_of, step_plain}
+use Rattle.css_token.specs.steps.Scan.{mark_of, step_plain}
 use Rattle.css_token.proofs.Reading.{reads, no_kind}
 use Rattle.css_token.proofs.Rows.{by_bool, eq_true, InRow, each_to}
 use Rattle.css_token.proofs.Found.{RowEnd, found_plain, end_reads, same_kind, choose}

@@ -3,7 +3,7 @@ use Rattle.std.proofs.Common.{◌≡◌, ℕ, ◌+◌, ◌≤◌, List, [], ◌�
 use Rattle.std.specs.Option.{option_map_or, option_and_then}
 use Rattle.viz_base.specs.declared.tokens.TokenKind.{TokenKind}
 use Rattle.css_token.specs.declared.states.State.{State}
-use Rattle.css_token.specs.Scan.{kind_of, step, Cut, better, longest}
+use Rattle.css_token.specs.steps.Scan.{kind_of, step, Cut, better, longest}
 
 -- of which kind a text is that is read from a state on
 abbrev pub reads : State → List ℕ → Option TokenKind

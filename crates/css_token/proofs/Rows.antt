@@ -12,7 +12,7 @@ use Rattle.css_token.specs.declared.states.Going.{Going}
 use Rattle.css_token.specs.declared.states.Going.TheVariants.{Plain, Backslash, Digits, Return}
 use Rattle.css_token.specs.declared.states.State.{State}
 use Rattle.css_token.specs.declared.states.State.TheVariants.{Within}
-use Rattle.css_token.specs.Scan.{mark_of, goes_on, holds_lines, kind_in_row, kind_of_row, step, step_plain, step_row}
+use Rattle.css_token.specs.steps.Scan.{mark_of, goes_on, holds_lines, kind_in_row, kind_of_row, step, step_plain, step_row}
 use Rattle.css_token.proofs.Reading.{reads}
 
 -- ---- tests

@@ -7,7 +7,7 @@ use Rattle.std.proofs.Math.Seq.{drop-append_seam}
 use Rattle.std.proofs.lemmas.Str.{encodes-chars, chars-nil}
 use Rattle.viz_base.specs.declared.tokens.Token.{Token}
 use Rattle.css_semantics.specs.Tokens.{IsToken, Piece, piece_of, ArePieces}
-use Rattle.css_token.specs.Scan.{cut_of}
+use Rattle.css_token.specs.steps.Scan.{cut_of}
 use Rattle.css_token.proofs.Munch.{munched, some_matches}
 
 -- the pieces behind a place complete those before it

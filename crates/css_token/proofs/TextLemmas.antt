@@ -7,7 +7,7 @@ use lib.Utf8.{encodes}
 use Rattle.viz_base.specs.declared.tokens.TokenKind.{TokenKind}
 use Rattle.viz_base.specs.declared.tokens.Token.{Token}
 use Rattle.css_semantics.specs.Tokens.{IsLongest, IsToken}
-use Rattle.css_token.specs.Scan.{cut_of}
+use Rattle.css_token.specs.steps.Scan.{cut_of}
 use Rattle.css_token.proofs.Munch.{Munched, munched}
 
 -- a text of which the characters end in those of another ends in the other

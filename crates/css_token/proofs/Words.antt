@@ -14,7 +14,7 @@ use Rattle.css_token.specs.declared.states.Going.{Going}
 use Rattle.css_token.specs.declared.states.Going.TheVariants.{Plain, Backslash, Digits, Return}
 use Rattle.css_token.specs.declared.states.State.{State}
 use Rattle.css_token.specs.declared.states.State.TheVariants.{Begin, Within, U, Ur, Url, Dash, At, AtDash, HashMark, Whole, Point, Fraction, NumberDash}
-use Rattle.css_token.specs.Scan.{kind_of, step}
+use Rattle.css_token.specs.steps.Scan.{kind_of, step}
 use Rattle.css_token.proofs.Reading.{reads}
 use Rattle.css_token.proofs.Rows.{by_bool, apart, InRow, Ready, Passed, plain_steps, unit_passes, escape_passes, then_passes, many_passes, ready_kind}
 

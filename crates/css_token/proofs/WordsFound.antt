@@ -12,7 +12,7 @@ use Rattle.css_semantics.specs.TokensTable.{Matches}
 use Rattle.css_token.specs.declared.states.Row.{Row}
 use Rattle.css_token.specs.declared.states.Row.TheVariants.{Word, AtWord, Name, Measure}
 use Rattle.css_token.specs.declared.states.State.TheVariants.{U, Ur, Url, UPlus, RangeFirst, RangeDash, RangeSecond, Dash, DashDash, At, AtDash, HashMark, Whole, Point, Fraction, NumberDash, AddressStart}
-use Rattle.css_token.specs.Scan.{holds_lines, step_plain, step_start, step_unit}
+use Rattle.css_token.specs.steps.Scan.{holds_lines, step_plain, step_start, step_unit}
 use Rattle.css_token.proofs.Reading.{reads, no_kind}
 use Rattle.css_token.proofs.Rows.{by_bool, eq_true, and_left, apart, InRow, each_to}
 use Rattle.css_token.proofs.Found.{ReadsFrom, RowEnd, RowRest, one_more, found_plain, found_slash, end_reads, same_kind, choose}

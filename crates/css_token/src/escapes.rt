@@ -2,7 +2,7 @@ ghost use Rattle.std.specs.Prelude.{◌≡◌, ℕ, ◌<◌, true, ◌++◌, Lis
 ghost use Rattle.std.specs.Str.{chars};
 ghost use Rattle.css_semantics.specs.TokensLetters.{is_hex};
 ghost use Rattle.css_semantics.specs.TokensUnescaped.{address, hex_value, quoted, resolved, scalar, unescaped, without_white};
-ghost use Rattle.css_token.specs.Resolve.{IsSmall, above_digits, after_number, extent_of, resolved_in};
+ghost use Rattle.css_token.specs.steps.Resolve.{IsSmall, above_digits, after_number, extent_of, resolved_in};
 
 use crate::letters::{is_digit, is_hex, is_newline, is_space, split_char};
 use std::alloc::Global;

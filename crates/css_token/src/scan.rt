@@ -1,7 +1,7 @@
 ghost use Rattle.std.specs.Prelude.{◌≡◌, ◌<◌, [], MatchOption, drop, length};
 ghost use Rattle.std.specs.Str.{IsCharBoundary, chars};
 ghost use Rattle.css_semantics.specs.Tokens.{IsToken};
-ghost use Rattle.css_token.specs.Scan.{cut_of, longest};
+ghost use Rattle.css_token.specs.steps.Scan.{cut_of, longest};
 
 use crate::letters::split_char;
 use crate::states::{State, kind_of, step};

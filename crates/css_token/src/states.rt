@@ -1,5 +1,5 @@
 ghost use Rattle.std.specs.Prelude.{◌≡◌, Some};
-ghost use Rattle.css_token.specs.Scan.{goes_on, holds_lines, kind_in_row, kind_of, kind_of_row, mark_of, step, step_begin, step_end, step_line, step_mark, step_plain, step_row, step_sign, step_start, step_unit};
+ghost use Rattle.css_token.specs.steps.Scan.{goes_on, holds_lines, kind_in_row, kind_of, kind_of_row, mark_of, step, step_begin, step_end, step_line, step_mark, step_plain, step_row, step_sign, step_start, step_unit};
 
 use crate::letters::{
     is_digit, is_hex, is_l, is_name, is_newline, is_quoted, is_r, is_range, is_space, is_start,

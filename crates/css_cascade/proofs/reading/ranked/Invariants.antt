@@ -2,7 +2,7 @@ use Rattle.std.proofs.Common.{◌≡◌, ◌++◌, map}
 use Rattle.std.specs.List.{AllByRecursion}
 use Rattle.css_semantics.specs.Specificity.{IsCountable, spec_of}
 use Rattle.css_semantics.specs.CascadeReading.{parts_and_spec}
-use Rattle.css_select.specs.Machine.{parts_of}
+use Rattle.css_select.specs.steps.Machine.{parts_of}
 use Rattle.css_cascade.proofs.reading.ranked.Given as goal
 
 abbrev pub invariant-loop-selector : goal.invariant-loop-selector

@@ -1,5 +1,5 @@
 use Rattle.std.proofs.Common.{◌≡◌, drop, true}
-use Rattle.css_select.specs.Attributes.{found}
+use Rattle.css_select.specs.steps.Attributes.{found}
 use Rattle.css_select.proofs.attributes.found.Given as goal
 
 abbrev pub invariant-loop-at : goal.invariant-loop-at

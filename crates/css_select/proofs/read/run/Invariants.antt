@@ -1,5 +1,5 @@
 use Rattle.std.proofs.Common.{◌≡◌, drop}
-use Rattle.css_select.specs.Machine.{initial, run, state_of}
+use Rattle.css_select.specs.steps.Machine.{initial, run, state_of}
 use Rattle.css_select.proofs.read.run.Given as goal
 
 abbrev pub invariant-loop-token : goal.invariant-loop-token

@@ -20,7 +20,7 @@ loop-at-preserved c =
     let cut = turn_gathered after_statement statement_tails all c.loop-at.at _ (c.in_ok-statement.ensures).1 statement_item _ (c.in_ok-statement.ensures).0 in
     let ss = statements (drop (length all - length c.in_ok-statement.rest.now) all) in
     elim c.match-statement.branch [
-      | in-Some+in_ok-take w ↦ ap (λ x. read_on x.early x.rules.items ss) w.reading-is ∙ sym (read_goes early rules w.in-Some.statement ss _ _ w.in_ok-take.ensures)
+      | in-Some+in_ok-take w ↦ ap (λ x. read_on x.early x.rules.items ss) w.reading-is ∙ sym (read_goes early rules w.in-Some.statement ss _ _ w.in_ok-take.ensures.ok)
           ∙ sym (read_some early rules _ w.in-Some.statement ss w.in-Some.is) ∙ ap (read_on early rules) (sym cut) ∙ c.loop-at.invariant
       | in_default w ↦ ap (λ x. read_on x.early x.rules.items ss) w.reading-is ∙ sym (read_none early rules _ ss w.in_default.is) ∙ ap (read_on early rules) (sym cut) ∙ c.loop-at.invariant
     ]

@@ -4,7 +4,7 @@ use denote.Shadow.{shadow}
 use Rattle.std.specs.Str.{chars}
 use Rattle.std.specs.Prelude.{encode_utf8_all}
 use Rattle.css_semantics.specs.TokensUnescaped.{resolved}
-use Rattle.css_token.specs.Resolve.{IsSmall, extent_of, resolved_in}
+use Rattle.css_token.specs.steps.Resolve.{IsSmall, extent_of, resolved_in}
 use Rattle.css_token.proofs.escapes.resolve.Given as goal
 
 abbrev pub invariant-loop-letter : goal.invariant-loop-letter

@@ -2,7 +2,7 @@ use Rattle.std.proofs.Common.{◌≡◌, length}
 use denote.Text.{Utf8}
 use denote.Shadow.{shadow}
 use Rattle.std.specs.Str.{chars}
-use Rattle.css_token.specs.Scan.{longest}
+use Rattle.css_token.specs.steps.Scan.{longest}
 use Rattle.css_token.proofs.scan.longest.Given as goal
 
 abbrev pub invariant-loop-letter : goal.invariant-loop-letter

@@ -3,7 +3,7 @@ use Rattle.std.specs.Prelude.{◌≡◌, ℕ, Result, Ok, Err}
 use Rattle.css_select.specs.declared.faults.SelFault.{SelFault}
 use Rattle.css_select.specs.declared.faults.SelFault.TheVariants.{Mem, Bad, Unsupported}
 use Rattle.css_select.specs.declared.reading.Reading.{Reading}
-use Rattle.css_select.specs.Machine.{State, state_of}
+use Rattle.css_select.specs.steps.Machine.{State, state_of}
 
 abbrev pub Fails : SelFault → Result State ℕ → Type 0
 Fails Mem answer = Unit {0}
