@@ -1,0 +1,73 @@
+use crate::faults::Fault;
+use crate::json::{list_at, listed};
+use crate::pages::page_at;
+use crate::values;
+use css_cascade::{CascadeFault, cascade, default_sheet};
+use css_syntax::read_sheet;
+use serde_json::Value;
+use std::alloc::Global;
+use viz_base::{Cascaded, Page, Setting, Sheet, Source, Text};
+
+fn push_winners(
+    alloc: Global,
+    found: &mut Vec<String>,
+    node: usize,
+    settings: &[Setting],
+) -> Result<(), Fault> {
+    for setting in settings {
+        let value = values::value(alloc, &setting.value)?;
+        found.push(format!(in alloc; "[{node},\"{:?}\",{value}]", setting.prop)?)?;
+    }
+    Ok(())
+}
+
+/// What wins: node, property, value.
+fn winners(alloc: Global, cascaded: &Cascaded) -> Result<String, Fault> {
+    let mut found = Vec::new(alloc);
+    for (node, settings) in cascaded.winners.as_slice().iter().enumerate() {
+        push_winners(alloc, &mut found, node, settings.as_slice())?;
+    }
+    Ok(listed(alloc, found.as_slice())?)
+}
+
+/// Where a value stands.
+fn source(alloc: Global, source: Source) -> Result<String, Fault> {
+    Ok(match source {
+        Source::Default { at, len } => format!(in alloc; "Default {at} {len}")?,
+        Source::Author { sheet, at, len } => format!(in alloc; "Author {sheet} {at} {len}")?,
+        Source::Style { node, at, len } => format!(in alloc; "Style {node} {at} {len}")?,
+    })
+}
+
+/// What wins on a page with these sheets, the default one first, or what refuses it.
+fn cascaded(alloc: Global, page: &Page, texts: &[Text]) -> Result<String, Fault> {
+    let mut sheets: Vec<Sheet> = Vec::new(alloc);
+    for text in texts {
+        sheets.push(read_sheet(alloc, text.as_str()).map_err(|_| Fault::NoCase)?)?;
+    }
+    if sheets.len() != texts.len() {
+        return Err(Fault::NoCase);
+    }
+    match cascade(alloc, page, texts, sheets.as_slice()) {
+        Ok(cascaded) => winners(alloc, &cascaded),
+        Err(CascadeFault::Selector(sheet, at)) => {
+            Ok(format!(in alloc; "\"Selector {sheet} {at}\"")?)
+        }
+        Err(CascadeFault::Value(node, prop, place)) => {
+            let place = source(alloc, place)?;
+            Ok(format!(in alloc; "\"Value {node} {prop:?} {place}\"")?)
+        }
+        Err(CascadeFault::Mem) => Err(Fault::Mem),
+    }
+}
+
+/// What wins at each node of a page with these sheets of an author.
+pub fn answer(alloc: Global, case: &Value) -> Result<String, Fault> {
+    let page = page_at(alloc, case, 1)?;
+    let mut texts = Vec::new(alloc);
+    texts.push(Text::from_text(alloc, default_sheet())?)?;
+    for text in list_at(case, 2)? {
+        texts.push(Text::from_text(alloc, text.as_str().ok_or(Fault::NoCase)?)?)?;
+    }
+    cascaded(alloc, &page, texts.as_slice())
+}

@@ -1,0 +1,137 @@
+use crate::faults::Fault;
+use crate::json::{at, integer_at, list_at, number_at, text_at};
+use crate::selectors::matched_nodes;
+use serde_json::Value;
+use std::alloc::Global;
+use viz_base::{Boxed, Edge, Face, Formula, Kind, List, Page, Ring, Set, Sign, Summand, Term};
+
+/// The kind of a box of this name.
+pub fn kind(name: &str) -> Result<Kind, Fault> {
+    Ok(match name {
+        "Block" => Kind::Block,
+        "Anon" => Kind::Anon,
+        "Float" => Kind::Float,
+        "Atomic" => Kind::Atomic,
+        "Replaced" => Kind::Replaced,
+        "Inline" => Kind::Inline,
+        "Chars" => Kind::Chars,
+        "Line" => Kind::Line,
+        "Break" => Kind::Break,
+        _ => return Err(Fault::NoCase),
+    })
+}
+
+fn sign(name: &str) -> Result<Sign, Fault> {
+    Ok(match name {
+        "Lt" => Sign::Lt,
+        "Le" => Sign::Le,
+        "Eq" => Sign::Eq,
+        "Ne" => Sign::Ne,
+        "Ge" => Sign::Ge,
+        "Gt" => Sign::Gt,
+        _ => return Err(Fault::NoCase),
+    })
+}
+
+fn ring(name: &str) -> Result<Ring, Fault> {
+    Ok(match name {
+        "Margin" => Ring::Margin,
+        "Border" => Ring::Border,
+        "Padding" => Ring::Padding,
+        "Content" => Ring::Content,
+        _ => return Err(Fault::NoCase),
+    })
+}
+
+fn face(name: &str) -> Result<Face, Fault> {
+    Ok(match name {
+        "Left" => Face::Left,
+        "Top" => Face::Top,
+        "Right" => Face::Right,
+        "Bottom" => Face::Bottom,
+        _ => return Err(Fault::NoCase),
+    })
+}
+
+fn edge(value: &Value) -> Result<Edge, Fault> {
+    Ok(match text_at(value, 0)? {
+        "One" => Edge::One,
+        "ViewWidth" => Edge::ViewWidth,
+        "ViewHeight" => Edge::ViewHeight,
+        "Name" => Edge::Name(
+            number_at(value, 1)?,
+            ring(text_at(value, 2)?)?,
+            face(text_at(value, 3)?)?,
+        ),
+        _ => return Err(Fault::NoCase),
+    })
+}
+
+/// A sum: for each part how often, and of what edge.
+fn term(alloc: Global, parts: &[Value]) -> Result<Term, Fault> {
+    let mut sum = List::new(alloc);
+    for part in parts {
+        sum.push(Summand {
+            times: integer_at(part, 0)?,
+            edge: edge(at(part, 1)?)?,
+        })?;
+    }
+    Ok(Term { parts: sum })
+}
+
+/// A set; one of a selector has the nodes of the page that it matches.
+fn set(alloc: Global, page: &Page, value: &Value) -> Result<Set, Fault> {
+    Ok(match text_at(value, 0)? {
+        "Of" => Set::Of(kind(text_at(value, 1)?)?),
+        "Every" => Set::Every,
+        "Nodes" => Set::Nodes(matched_nodes(alloc, page, text_at(value, 1)?)?),
+        _ => return Err(Fault::NoCase),
+    })
+}
+
+fn popped(alloc: Global, stack: &mut Vec<Formula>) -> Result<Boxed<Formula>, Fault> {
+    let top = stack.pop().ok_or(Fault::NoCase)?;
+    Ok(Boxed::new(alloc, top)?)
+}
+
+/// What a step makes of the formulas that the earlier steps made.
+fn made(
+    alloc: Global,
+    page: &Page,
+    step: &Value,
+    stack: &mut Vec<Formula>,
+) -> Result<Formula, Fault> {
+    Ok(match text_at(step, 0)? {
+        "Const" => Formula::Const(at(step, 1)?.as_bool().ok_or(Fault::NoCase)?),
+        "Overlap" => Formula::Overlap(number_at(step, 1)?, number_at(step, 2)?),
+        "Same" => Formula::Same(number_at(step, 1)?, number_at(step, 2)?),
+        "Cmp" => Formula::Cmp(
+            term(alloc, list_at(step, 1)?)?,
+            sign(text_at(step, 2)?)?,
+            term(alloc, list_at(step, 3)?)?,
+        ),
+        "Not" => Formula::Not(popped(alloc, stack)?),
+        "Forall" => Formula::Forall(set(alloc, page, at(step, 1)?)?, popped(alloc, stack)?),
+        "Exists" => Formula::Exists(set(alloc, page, at(step, 1)?)?, popped(alloc, stack)?),
+        name => {
+            let second = popped(alloc, stack)?;
+            let first = popped(alloc, stack)?;
+            match name {
+                "Implies" => Formula::Implies(first, second),
+                "Or" => Formula::Or(first, second),
+                "And" => Formula::And(first, second),
+                _ => return Err(Fault::NoCase),
+            }
+        }
+    })
+}
+
+/// The formula that steps make, a part before what it is a part of.
+pub fn formula(alloc: Global, page: &Page, steps: &[Value]) -> Result<Formula, Fault> {
+    let mut stack = Vec::new(alloc);
+    for step in steps {
+        let formula = made(alloc, page, step, &mut stack)?;
+        stack.push(formula)?;
+    }
+    stack.pop().ok_or(Fault::NoCase)
+}

@@ -1,0 +1,115 @@
+ghost use Rattle.std.specs.Prelude.{◌≡◌, ◌<◌, ◌≤◌, IsTrue, Some, length, slice_get};
+ghost use Rattle.std.specs.Str.{chars};
+ghost use Rattle.viz_base.specs.Pages.{IsPage, is_element_at, parent_fits, text_of};
+
+use crate::faults::Fault;
+use crate::json::{at, list_at, number_at, text_at};
+use serde_json::Value;
+use std::alloc::Global;
+use viz_base::{Attr, Body, Element, List, Node, Page, Text};
+
+/// Whether there is an element at the place.
+fn is_element_at(nodes: &[Node], at: usize) -> bool
+    ensures { result ≡ is_element_at nodes.now at }
+{
+    match nodes.get(at) {
+        Some(node) => matches!(&node.body, Body::Element(_)),
+        None => false,
+    }
+}
+
+/// Whether a node at this place may have this parent.
+fn parent_fits(nodes: &[Node], at: usize, parent: Option<u32>) -> bool
+    ensures { result ≡ parent_fits nodes.now at parent }
+{
+    match parent {
+        None => at == 0,
+        Some(parent) => {
+            let parent = parent as usize;
+            parent < at && is_element_at(nodes, parent)
+        }
+    }
+}
+
+/// Whether the text is short enough.
+fn is_short(body: &Body) -> bool
+    ensures { IsTrue result → length (chars (text_of body.now)) ≤ 262144 }
+{
+    match body {
+        Body::Element(_) => true,
+        Body::Chars(text) => text.as_str().chars().count() <= 262_144,
+    }
+}
+
+/// Whether the nodes are those of a page.
+fn is_page(nodes: &[Node]) -> bool
+    ensures { IsTrue result → IsPage nodes.now }
+{
+    for (at, node) in nodes.iter().enumerate() {
+        if !parent_fits(nodes, at, node.parent) || !is_short(&node.body) {
+            return false;
+        }
+    }
+    is_element_at(nodes, 0)
+}
+
+/// A page of these nodes.
+fn page_of(nodes: List<Node>) -> Result<Page, Fault> {
+    if is_page(nodes.as_slice()) {
+        Ok(Page { nodes })
+    } else {
+        Err(Fault::NoCase)
+    }
+}
+
+fn attribute(alloc: Global, value: &Value) -> Result<Attr, Fault> {
+    Ok(Attr {
+        name: Text::from_text(alloc, text_at(value, 0)?)?,
+        value: Text::from_text(alloc, text_at(value, 1)?)?,
+    })
+}
+
+/// The intrinsic width and height of a replaced element, in pixels, or null.
+fn size(value: &Value) -> Result<Option<(u32, u32)>, Fault> {
+    if value.is_null() {
+        Ok(None)
+    } else {
+        Ok(Some((number_at(value, 0)?, number_at(value, 1)?)))
+    }
+}
+
+fn element(alloc: Global, value: &Value) -> Result<Element, Fault> {
+    let mut attrs = List::new(alloc);
+    for one in list_at(value, 2)? {
+        attrs.push(attribute(alloc, one)?)?;
+    }
+    Ok(Element {
+        tag: Text::from_text(alloc, text_at(value, 1)?)?,
+        attrs,
+        size: size(at(value, 3)?)?,
+    })
+}
+
+/// A node: its parent or null, and then its text, or its tag, its attributes and its size.
+fn node(alloc: Global, value: &Value) -> Result<Node, Fault> {
+    let parent = if at(value, 0)?.is_null() {
+        None
+    } else {
+        Some(number_at(value, 0)?)
+    };
+    let body = if value.get(2).is_some() {
+        Body::Element(element(alloc, value)?)
+    } else {
+        Body::Chars(Text::from_text(alloc, text_at(value, 1)?)?)
+    };
+    Ok(Node { parent, body })
+}
+
+/// The page whose nodes stand at a place of a case.
+pub fn page_at(alloc: Global, case: &Value, place: usize) -> Result<Page, Fault> {
+    let mut nodes = List::new(alloc);
+    for value in list_at(case, place)? {
+        nodes.push(node(alloc, value)?)?;
+    }
+    page_of(nodes)
+}

@@ -1,0 +1,120 @@
+use crate::faults::Fault;
+use crate::json::{list_at, listed, quoted};
+use crate::pages::page_at;
+use css_select::{SelFault, matches, read_selector, specificity};
+use serde_json::Value;
+use std::alloc::Global;
+use viz_base::{Compound, List, Page, Selector, Test};
+
+/// A test with its texts.
+fn named(alloc: Global, name: &str, texts: &[&str]) -> Result<String, Fault> {
+    let mut parts = Vec::new(alloc);
+    parts.push(quoted(alloc, name)?)?;
+    for text in texts {
+        parts.push(quoted(alloc, text)?)?;
+    }
+    Ok(listed(alloc, parts.as_slice())?)
+}
+
+fn test(alloc: Global, test: &Test) -> Result<String, Fault> {
+    match test {
+        Test::Id(id) => named(alloc, "Id", &[id.as_str()]),
+        Test::Class(class) => named(alloc, "Class", &[class.as_str()]),
+        Test::Has(name) => named(alloc, "Has", &[name.as_str()]),
+        Test::Equals(name, value) => named(alloc, "Equals", &[name.as_str(), value.as_str()]),
+        Test::Word(name, word) => named(alloc, "Word", &[name.as_str(), word.as_str()]),
+        Test::Dash(name, value) => named(alloc, "Dash", &[name.as_str(), value.as_str()]),
+        Test::FirstChild => named(alloc, "FirstChild", &[]),
+        Test::Link => named(alloc, "Link", &[]),
+        Test::Never => named(alloc, "Never", &[]),
+    }
+}
+
+/// A compound: its tag or null, and its tests.
+fn compound(alloc: Global, compound: &Compound) -> Result<String, Fault> {
+    let tag = match &compound.tag {
+        Some(tag) => quoted(alloc, tag.as_str())?,
+        None => String::from_str(alloc, "null")?,
+    };
+    let mut tests = Vec::new(alloc);
+    for one in compound.tests.as_slice() {
+        tests.push(test(alloc, one)?)?;
+    }
+    let tests = listed(alloc, tests.as_slice())?;
+    Ok(format!(in alloc; "{tag},{tests}")?)
+}
+
+/// A selector: its compounds, each with how it is joined, and its specificity.
+fn selector(alloc: Global, selector: &Selector) -> Result<String, Fault> {
+    let mut parts = Vec::new(alloc);
+    for (join, one) in selector.parts.as_slice() {
+        let one = compound(alloc, one)?;
+        parts.push(format!(in alloc; "[\"{join:?}\",{one}]")?)?;
+    }
+    let parts = listed(alloc, parts.as_slice())?;
+    let spec = specificity(selector);
+    Ok(format!(in alloc;
+        "[{parts},[{},{},{},{}]]",
+        spec.style, spec.ids, spec.attrs, spec.types
+    )?)
+}
+
+/// The group of selectors that a text spells, or why it is none.
+pub fn group(alloc: Global, text: &str) -> Result<String, Fault> {
+    match read_selector(alloc, text) {
+        Ok(group) => {
+            let mut found = Vec::new(alloc);
+            for one in group.as_slice() {
+                found.push(selector(alloc, one)?)?;
+            }
+            Ok(listed(alloc, found.as_slice())?)
+        }
+        Err(SelFault::Bad(at)) => Ok(format!(in alloc; "\"Bad {at}\"")?),
+        Err(SelFault::Unsupported(at)) => Ok(format!(in alloc; "\"Unsupported {at}\"")?),
+        Err(SelFault::Mem) => Err(Fault::Mem),
+    }
+}
+
+/// Whether one of the selectors matches the node.
+fn one_matches(group: &[Selector], page: &Page, node: u32) -> bool {
+    for selector in group {
+        if matches(selector, page, node) {
+            return true;
+        }
+    }
+    false
+}
+
+/// The nodes that a group of selectors matches, in document order.
+pub fn matched_nodes(alloc: Global, page: &Page, text: &str) -> Result<List<u32>, Fault> {
+    let group = read_selector(alloc, text).map_err(|_| Fault::NoCase)?;
+    let mut found = List::new(alloc);
+    for at in 0..page.nodes.len() {
+        let node = u32::try_from(at).map_err(|_| Fault::NoCase)?;
+        if one_matches(group.as_slice(), page, node) {
+            found.push(node)?;
+        }
+    }
+    Ok(found)
+}
+
+/// A list of numbers.
+pub fn numbers(alloc: Global, numbers: &[u32]) -> Result<String, Fault> {
+    let mut found = Vec::new(alloc);
+    for number in numbers {
+        found.push(format!(in alloc; "{number}")?)?;
+    }
+    Ok(listed(alloc, found.as_slice())?)
+}
+
+/// For each of the groups of selectors the nodes of the page that it matches.
+pub fn matched(alloc: Global, case: &Value) -> Result<String, Fault> {
+    let page = page_at(alloc, case, 1)?;
+    let mut found = Vec::new(alloc);
+    for text in list_at(case, 2)? {
+        let text = text.as_str().ok_or(Fault::NoCase)?;
+        let nodes = matched_nodes(alloc, &page, text)?;
+        found.push(numbers(alloc, nodes.as_slice())?)?;
+    }
+    Ok(listed(alloc, found.as_slice())?)
+}

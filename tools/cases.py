@@ -1,0 +1,252 @@
+#!/usr/bin/env python3
+"""Writes the table of outside cases that the crate `cases` runs, from a folder of cases.
+
+    tools/cases.py FOLDER
+
+FOLDER has files of JSON Lines, each named after a call: decimals, tokens, sheets, declarations, selectors, matches, values, cascade and
+truths. What is called goes to crates/cases/stdin and what it must give to crates/cases/stdout, a line of JSON each. A page goes flat: its
+nodes in document order, each with its parent's place; a formula as steps, each part before what it is a part of.
+"""
+import json
+import pathlib
+import re
+import sys
+
+TOP = pathlib.Path(__file__).resolve().parent.parent
+
+
+def compact(value):
+    return json.dumps(value, ensure_ascii=False, separators=(",", ":"))
+
+
+# ---- pages
+
+def nodes_of(element):
+    nodes = []
+
+    def walk(node, parent):
+        at = len(nodes)
+        if isinstance(node, str):
+            nodes.append([parent, node])
+            return
+        attrs = [[name.lower(), value] for name, value in node.get("attrs", {}).items()]
+        nodes.append([parent, node["tag"].lower(), attrs, node.get("size")])
+        for child in node.get("children", []):
+            walk(child, at)
+
+    walk(element, None)
+    return nodes
+
+
+# ---- formulas
+
+TOKEN = re.compile(r'[ \t\n]*(?:([a-z][a-z0-9]*)|(\d+)(px)?|"([^"]*)"|(<=|<|>=|>|!=|=|\(|\)|,|:|\.|\+|-|\*))')
+KINDS = {"block": "Block", "anon": "Anon", "float": "Float", "atomic": "Atomic", "replaced": "Replaced", "inline": "Inline", "text": "Chars",
+         "line": "Line"}
+SIGNS = {"<": "Lt", "<=": "Le", "=": "Eq", "!=": "Ne", ">=": "Ge", ">": "Gt"}
+
+
+class Formulas:
+    """Reads a formula as steps; names are the number of quantifiers between them and their own."""
+
+    def __init__(self, text):
+        self.tokens, self.at, self.steps, self.names = [], 0, [], []
+        place = 0
+        while text[place:].strip(" \t\n"):
+            found = TOKEN.match(text, place)
+            word, digits, px, string, mark = found.groups()
+            if word is not None:
+                self.tokens.append(("word", word))
+            elif digits is not None:
+                self.tokens.append(("number", int(digits) * (64 if px else 1)))
+            elif string is not None:
+                self.tokens.append(("string", string))
+            else:
+                self.tokens.append(("mark", mark))
+            place = found.end()
+        self.tokens.append(("end", None))
+
+    def peek(self):
+        return self.tokens[self.at]
+
+    def take(self, value=None):
+        kind, found = self.tokens[self.at]
+        assert value is None or found == value, (value, found)
+        self.at += 1
+        return found
+
+    def formula(self):
+        if self.peek() in (("word", "forall"), ("word", "exists")):
+            quantifier = self.take().capitalize()
+            name = self.take()
+            self.take("in")
+            kind, value = self.peek()
+            self.at += 1
+            members = ["Nodes", value] if kind == "string" else ["Every"] if value == "box" else ["Of", KINDS[value]]
+            self.take(":")
+            self.names.insert(0, name)
+            self.formula()
+            self.names.pop(0)
+            self.steps.append([quantifier, members])
+            return
+        self.alternatives()
+        if self.peek() == ("word", "implies"):
+            self.take()
+            self.formula()
+            self.steps.append(["Implies"])
+
+    def alternatives(self):
+        self.together()
+        while self.peek() == ("word", "or"):
+            self.take()
+            self.together()
+            self.steps.append(["Or"])
+
+    def together(self):
+        self.unary()
+        while self.peek() == ("word", "and"):
+            self.take()
+            self.unary()
+            self.steps.append(["And"])
+
+    def unary(self):
+        if self.peek() == ("word", "not"):
+            self.take()
+            self.unary()
+            self.steps.append(["Not"])
+        elif self.peek() == ("mark", "("):
+            self.take()
+            self.formula()
+            self.take(")")
+        else:
+            self.atom()
+
+    def atom(self):
+        kind, value = self.peek()
+        if kind == "word" and value in ("true", "false"):
+            self.take()
+            self.steps.append(["Const", value == "true"])
+        elif kind == "word" and value in ("overlap", "same"):
+            self.take()
+            self.take("(")
+            first = self.names.index(self.take())
+            self.take(",")
+            second = self.names.index(self.take())
+            self.take(")")
+            self.steps.append([value.capitalize(), first, second])
+        else:
+            left = self.term()
+            sign = SIGNS[self.take()]
+            self.steps.append(["Cmp", left, sign, self.term()])
+
+    def term(self):
+        times, parts = 1, []
+        if self.peek() == ("mark", "-"):
+            self.take()
+            times = -1
+        while True:
+            kind, value = self.peek()
+            if kind == "number":
+                self.take()
+                if self.peek() == ("mark", "*"):
+                    self.take()
+                    parts.append([times * value, self.edge()])
+                else:
+                    parts.append([times * value, ["One"]])
+            else:
+                parts.append([times, self.edge()])
+            if self.peek() not in (("mark", "+"), ("mark", "-")):
+                return parts
+            times = 1 if self.take() == "+" else -1
+
+    def edge(self):
+        name = self.take()
+        self.take(".")
+        face = self.take()
+        if name == "view":
+            return ["ViewWidth"] if face == "width" else ["ViewHeight"]
+        ring = "border"
+        if self.peek() == ("mark", "."):
+            self.take()
+            ring, face = face, self.take()
+        return ["Name", self.names.index(name), ring.capitalize(), face.capitalize()]
+
+
+def steps_of(text):
+    reader = Formulas(text)
+    reader.formula()
+    assert reader.peek()[0] == "end"
+    return reader.steps
+
+
+# ---- cases: what is called, and what it must give
+
+def fault(case):
+    return " ".join(case["fault"].split()) if isinstance(case["fault"], str) else case["fault"]
+
+
+def without_keyword(value):
+    return value[:2] if value[0] == "Word" else value
+
+
+def tokens(case):
+    return [case["text"]], case["tokens"]
+
+
+def sheets(case):
+    return [case["text"]], fault(case) if "fault" in case else [rule["selector"] + [rule["decls"]] for rule in case["sheet"]]
+
+
+def declarations(case):
+    return [case["text"]], case["decls"]
+
+
+def selectors(case):
+    if "fault" in case:
+        return [case["text"]], fault(case)
+    group = [[[[join, one["tag"], one["tests"]] for join, one in selector], spec] for selector, spec in zip(case["group"], case["spec"])]
+    return [case["text"]], group
+
+
+def matches(case):
+    return [nodes_of(case["page"]), [selector for selector, _ in case["cases"]]], [nodes for _, nodes in case["cases"]]
+
+
+def decimals(case):
+    return [case["text"]], case["millionths"]
+
+
+def values(case):
+    if "fault" in case:
+        return [case["name"], case["value"]], fault(case)
+    return [case["name"], case["value"]], [[prop, without_keyword(value)] for prop, value in case["settings"]]
+
+
+def cascade(case):
+    given = [nodes_of(case["page"]), case["css"]]
+    if "fault" in case:
+        return given, fault(case)
+    return given, [[node, prop, without_keyword(value)] for node, prop, value in case["winners"]]
+
+
+def truths(case):
+    given = [nodes_of(case["page"]), steps_of(case["formula"]), case["w"], case["s"], case["height"], case["boxes"]]
+    return given, case["truth"]
+
+
+CALLS = [decimals, tokens, sheets, declarations, selectors, matches, values, cascade, truths]
+
+
+def main():
+    folder = pathlib.Path(sys.argv[1])
+    crate = TOP / "crates/cases"
+    with open(crate / "stdin", "w", encoding="utf-8", newline="") as given, open(crate / "stdout", "w", encoding="utf-8", newline="") as wanted:
+        for call in CALLS:
+            lines = (folder / f"{call.__name__}.jsonl").read_text(encoding="utf-8").split("\n")
+            for line in filter(None, lines):
+                arguments, answer = call(json.loads(line))
+                given.write(compact([call.__name__] + arguments) + "\n")
+                wanted.write(compact(answer) + "\n")
+
+
+main()
