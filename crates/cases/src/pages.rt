@@ -1,11 +1,13 @@
-ghost use Rattle.std.specs.Prelude.{◌≡◌, ◌<◌, ◌≤◌, IsTrue, Some, length, slice_get};
+ghost use Rattle.std.specs.Prelude.{◌≡◌, ◌≤◌, IsTrue, IfOk, length};
 ghost use Rattle.std.specs.Str.{chars};
-ghost use Rattle.viz_base.specs.Pages.{IsPage, is_element_at, parent_fits, text_of};
+ghost use Rattle.std.specs.List.{list_all};
+ghost use Rattle.viz_base.specs.Pages.{IsPage, has_lower_names, is_element_at, is_lower, parent_fits, text_of};
+ghost use Rattle.viz_base.specs.declared.nodes.Attr.{Attr};
 
 use crate::faults::Fault;
 use crate::json::{at, list_at, number_at, text_at};
 use serde_json::Value;
-use std::alloc::Global;
+use std::alloc::{AllocError, Global};
 use viz_base::{Attr, Body, Element, List, Node, Page, Text};
 
 /// Whether there is an element at the place.
@@ -41,21 +43,55 @@ fn is_short(body: &Body) -> bool
     }
 }
 
+/// Whether the name is in ASCII lower case.
+fn is_lower(alloc: Global, name: &str) -> Result<bool, AllocError>
+    ensures { IfOk result (λ yes. yes ≡ is_lower name.now) }
+{
+    Ok(name.to_ascii_lowercase(alloc)?.as_str() == name)
+}
+
+/// Whether the names of all attributes are.
+fn are_lower(alloc: Global, attrs: &[Attr]) -> Result<bool, AllocError>
+    ensures { IfOk result (λ yes. IsTrue yes → IsTrue (list_all (λ (a : Attr). is_lower a.name) attrs.now)) }
+{
+    for attr in attrs {
+        if !is_lower(alloc, attr.name.as_str())? {
+            return Ok(false);
+        }
+    }
+    Ok(true)
+}
+
+/// Whether an element's tag and the names of its attributes are in lower case.
+fn has_lower_names(alloc: Global, body: &Body) -> Result<bool, AllocError>
+    ensures { IfOk result (λ yes. IsTrue yes → IsTrue (has_lower_names body.now)) }
+{
+    match body {
+        Body::Element(element) => Ok(
+            is_lower(alloc, element.tag.as_str())? && are_lower(alloc, element.attrs.as_slice())?,
+        ),
+        Body::Chars(_) => Ok(true),
+    }
+}
+
 /// Whether the nodes are those of a page.
-fn is_page(nodes: &[Node]) -> bool
-    ensures { IsTrue result → IsPage nodes.now }
+fn is_page(alloc: Global, nodes: &[Node]) -> Result<bool, AllocError>
+    ensures { IfOk result (λ yes. IsTrue yes → IsPage nodes.now) }
 {
     for (at, node) in nodes.iter().enumerate() {
         if !parent_fits(nodes, at, node.parent) || !is_short(&node.body) {
-            return false;
+            return Ok(false);
+        }
+        if !has_lower_names(alloc, &node.body)? {
+            return Ok(false);
         }
     }
-    is_element_at(nodes, 0)
+    Ok(is_element_at(nodes, 0))
 }
 
 /// A page of these nodes.
-fn page_of(nodes: List<Node>) -> Result<Page, Fault> {
-    if is_page(nodes.as_slice()) {
+fn page_of(alloc: Global, nodes: List<Node>) -> Result<Page, Fault> {
+    if is_page(alloc, nodes.as_slice())? {
         Ok(Page { nodes })
     } else {
         Err(Fault::NoCase)
@@ -111,5 +147,5 @@ pub fn page_at(alloc: Global, case: &Value, place: usize) -> Result<Page, Fault>
     for value in list_at(case, place)? {
         nodes.push(node(alloc, value)?)?;
     }
-    page_of(nodes)
+    page_of(alloc, nodes)
 }
