@@ -33,13 +33,20 @@ fn parent_fits(nodes: &[Node], at: usize, parent: Option<u32>) -> bool
     }
 }
 
+/// How many characters a text has.
+fn count_of(text: &str) -> usize
+    ensures { result ≡ length (chars text.now) }
+{
+    text.chars().count()
+}
+
 /// Whether the text is short enough.
 fn is_short(body: &Body) -> bool
     ensures { IsTrue result → length (chars (text_of body.now)) ≤ 262144 }
 {
     match body {
         Body::Element(_) => true,
-        Body::Chars(text) => text.as_str().chars().count() <= 262_144,
+        Body::Chars(text) => count_of(text.as_str()) <= 262_144,
     }
 }
 

@@ -1,3 +1,5 @@
+ghost use Rattle.css_semantics.specs.Specificity.{IsCountable};
+
 use crate::faults::Fault;
 use crate::json::{list_at, listed, quoted};
 use crate::pages::page_at;
@@ -45,7 +47,9 @@ fn compound(alloc: Global, compound: &Compound) -> Result<String, Fault> {
 }
 
 /// A selector: its compounds, each with how it is joined, and its specificity.
-fn selector(alloc: Global, selector: &Selector) -> Result<String, Fault> {
+fn selector(alloc: Global, selector: &Selector) -> Result<String, Fault>
+    requires { IsCountable selector.now.parts }
+{
     let mut parts = Vec::new(alloc);
     for (join, one) in selector.parts.as_slice() {
         let one = compound(alloc, one)?;
