@@ -1,8 +1,8 @@
 -- Floats are placed one after another by the rules, in lines and in flow.
-use Rattle.std.proofs.Common.{◌≡◌, ℕ, zero, suc, ◌<◌, ℤ, ◌+ℤ◌, ◌≤ℤ◌, Bool, true, false, cond, List, [], ◌∷◌, ◌++◌, length, drop, fold, slice_get, slice_index_or, Option, Some, None, MatchOption, refl, ap, subst, inl, inr, ◌⊎◌, arith}
+use Rattle.std.proofs.Common.{◌≡◌, ℕ, zero, suc, ◌<◌, ℤ, ◌+ℤ◌, ◌≤ℤ◌, Bool, true, false, cond, List, [], ◌∷◌, ◌++◌, length, drop, fold, slice_get, slice_index_or, Option, Some, None, refl, ap, subst, inl, inr, ◌⊎◌, arith}
 use Rattle.std.specs.List.{list_any}
-use Rattle.std.specs.Option.{option_map_or}
 use Rattle.std.specs.Int.{int_max}
+use Rattle.std.proofs.lemmas.Option.{none-some, same_Some}
 use Rattle.viz_base.specs.declared.layouts.Band.{Band}
 use Rattle.viz_base.specs.declared.layouts.Extent.{Extent}
 use Rattle.viz_base.specs.declared.styles.Side.{Side}
@@ -81,25 +81,19 @@ of_lines c y least floats = lines_placed c floats (length (stretches c.tree (con
 
 -- ---- floats that are placed so are clear of those before them
 
-none_some : {A : Type 0} {x : A} → None ≡ Some x → ⊥
-none_some {A} e = subst (λ (o : Option A). MatchOption o (Unit {0}) (λ y. ⊥)) e tt
-
-some_same : {A : Type 0} (x y : A) → Some x ≡ Some y → x ≡ y
-some_same {A} x y e = ap (λ (o : Option A). option_map_or (λ v. v) o x) e
-
 get_among : (xs : List FloatBox) (i : ℕ) (f : FloatBox) → slice_get xs i ≡ Some f → Among xs f
-get_among [] i f e = absurd (none_some e)
-get_among (x ∷ xs) zero f e = inl (some_same x f e)
+get_among [] i f e = absurd (none-some f e)
+get_among (x ∷ xs) zero f e = inl (same_Some x f e)
 get_among (x ∷ xs) (suc i) f e = inr (get_among xs i f e)
 
 get_below : (xs : List FloatBox) (i : ℕ) (f : FloatBox) → slice_get xs i ≡ Some f → i < length xs
-get_below [] i f e = absurd (none_some e)
+get_below [] i f e = absurd (none-some f e)
 get_below (x ∷ xs) zero f e = omega arith
 get_below (x ∷ xs) (suc i) f e = let rest = get_below xs i f e in omega arith
 
 get_append : (xs : List FloatBox) (x : FloatBox) (i : ℕ) (f : FloatBox) → slice_get (xs ++ x ∷ []) i ≡ Some f → (slice_get xs i ≡ Some f) ⊎ ((i ≡ length xs) × (x ≡ f))
-get_append [] x zero f e = inr (refl, some_same x f e)
-get_append [] x (suc i) f e = absurd (none_some e)
+get_append [] x zero f e = inr (refl, same_Some x f e)
+get_append [] x (suc i) f e = absurd (none-some f e)
 get_append (y ∷ xs) x zero f e = inl e
 get_append (y ∷ xs) x (suc i) f e = by (get_append xs x i f e)
   where
@@ -131,5 +125,5 @@ clear_more floats g h each i j a b l ea eb = by (get_append floats g j b eb) (ge
     by (inr eb) (inr ea) = absurd (omega (arith, ea.0, eb.0))
 
 pub are_clear : (floats : List FloatBox) → ArePlacedAfter [] floats → AreClear floats
-are_clear floats none = λ i j a b l ea eb. absurd (none_some ea)
+are_clear floats none = λ i j a b l ea eb. absurd (none-some a ea)
 are_clear floats (next before side size cb top h) = clear_more before (placed_float side size (float_at before side size cb top)) (are_clear before h) (clear_of_each before side size cb top)

@@ -2,6 +2,7 @@
 use Rattle.std.proofs.Common.{◌≡◌, ℕ, zero, suc, ◌<◌, ◌≤◌, ℤ, Bool, true, false, cond, ◌||◌, ◌==◌, ◌⊎◌, inl, inr, List, [], ◌∷◌, ◌++◌, length, take, drop, fold, flat_map, slice_index_or, refl, sym, ap, ◌∙◌, subst, arith, append-nil, append_assoc, eqb-true, eq-eqb}
 use Rattle.std.specs.List.{list_any, AllByRecursion, position_or_len}
 use Rattle.std.proofs.lemmas.Grind.{flat_map-append}
+use Rattle.std.proofs.lemmas.Bool.{or_right}
 use Rattle.viz_base.specs.declared.layouts.Spot.{Spot}
 use Rattle.viz_base.specs.declared.trees.BoxTree.{BoxTree}
 use Rattle.layout_semantics.specs.InlineContent.{Item, makes_line}
@@ -17,10 +18,6 @@ Has spots at = list_any (λ (e : ℕ × Spot ℤ). e.0 == at) spots ≡ true
 abbrev pub Waits : List ℕ → ℕ → Type 0
 Waits waiting at = list_any (λ k. k == at) waiting ≡ true
 
-or_true : (a b : Bool) → b ≡ true → (a || b) ≡ true
-or_true true b e = refl
-or_true false b e = e
-
 any-left : {A : Type 0} (test : A → Bool) (xs ys : List A) → list_any test xs ≡ true → list_any test (xs ++ ys) ≡ true
 any-left test [] ys e = absurd (cc)
 any-left test (x ∷ xs) ys e = by (test x) e (any-left test xs ys)
@@ -31,7 +28,7 @@ any-left test (x ∷ xs) ys e = by (test x) e (any-left test xs ys)
 
 any-right : {A : Type 0} (test : A → Bool) (xs ys : List A) → list_any test ys ≡ true → list_any test (xs ++ ys) ≡ true
 any-right test [] ys e = e
-any-right test (x ∷ xs) ys e = or_true (test x) (list_any test (xs ++ ys)) (any-right test xs ys e)
+any-right test (x ∷ xs) ys e = or_right (test x) (list_any test (xs ++ ys)) (any-right test xs ys e)
 
 has-last : (spots : List (ℕ × Spot ℤ)) (at : ℕ) (spot : Spot ℤ) → Has (spots ++ (at, spot) ∷ []) at
 has-last spots at spot = any-right (λ (e : ℕ × Spot ℤ). e.0 == at) spots ((at, spot) ∷ []) (ap (λ b. b || false) (eq-eqb at at refl))

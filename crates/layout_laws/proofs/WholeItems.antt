@@ -3,6 +3,7 @@ use Rattle.std.proofs.Common.{◌≡◌, ℕ, Bool, true, false, ◌||◌, List,
 use Rattle.std.specs.List.{list_any}
 use Rattle.std.proofs.lemmas.Grind.{flat_map-append}
 use Rattle.std.proofs.lemmas.List.{reverse-append}
+use Rattle.std.proofs.lemmas.List.{reverse-reverse}
 use Rattle.viz_base.specs.declared.trees.BoxTree.{BoxTree}
 use Rattle.layout_semantics.specs.InlineContent.{Item, start, finish, word, space, atomic, forced, float, inner_items, float_boxes, makes_line}
 use Rattle.layout_semantics.specs.Stretches.{without_leading, what_stays}
@@ -26,10 +27,6 @@ floats-is items = refl
 
 reverse-cons : {A : Type 0} (x : A) (xs : List A) → reverse (x ∷ xs) ≡ reverse xs ++ x ∷ []
 reverse-cons x xs = reverse-append (x ∷ []) xs
-
-reverse-twice : {A : Type 0} (xs : List A) → reverse (reverse xs) ≡ xs
-reverse-twice [] = refl
-reverse-twice {A} (x ∷ xs) = ap reverse (reverse-cons x xs) ∙ (reverse-append (reverse xs) (x ∷ []) ∙ ap (λ (l : List A). x ∷ l) (reverse-twice xs))
 
 module _ (f : Item → List ℕ) (short : (i : Item) → reverse (f i) ≡ f i) (none : (at : ℕ) → f (space at) ≡ []) where
   flat_map-reverse : (items : List Item) → flat_map f (reverse items) ≡ reverse (flat_map f items)
@@ -55,7 +52,7 @@ module _ (f : Item → List ℕ) (short : (i : Item) → reverse (f i) ≡ f i) 
   stays-kept items =
       flat_map-reverse (without_leading (reverse (without_leading items)))
       ∙ (ap reverse (leading-kept (reverse (without_leading items)) ∙ flat_map-reverse (without_leading items))
-      ∙ (reverse-twice (flat_map f (without_leading items)) ∙ leading-kept items))
+      ∙ (reverse-reverse (flat_map f (without_leading items)) ∙ leading-kept items))
 
 inner-short : (i : Item) → reverse (inner_of i) ≡ inner_of i
 inner-short (start at) = refl
