@@ -35,6 +35,14 @@ impl From<AllocError> for ShelfFault {
     }
 }
 
+impl From<viz_base::Mem> for ShelfFault {
+    ghost from_gives = { λ _ fault. fault ≡ Mem };
+
+    fn from(_: viz_base::Mem) -> Self {
+        ShelfFault::Mem
+    }
+}
+
 /// Named files that can be loaded.
 pub trait Shelf {
     /// The files by name, where the shelf tells them.

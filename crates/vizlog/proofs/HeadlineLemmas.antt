@@ -1,26 +1,25 @@
 -- What the outcome of a run tells of a job's assertion.
-use Rattle.std.proofs.Common.{◌≡◌, inl, inr, ℕ, List, Option, codes, get_or, arith, ap, sym, ◌∙◌}
-use Rattle.viz_base.specs.declared.worlds.World.{World}
+use Rattle.std.proofs.Common.{◌≡◌, inl, inr, ℕ, List, Bor, Bool, IsTrue, codes, get_or, arith, ap, refl, sym, ◌∙◌}
+use Rattle.viz_replies.specs.declared.reply.Answer.{Answer}
+use Rattle.viz_replies.specs.declared.reply.Answer.TheVariants as gives
+use Rattle.viz_replies.specs.Headline.{IsTrueEverywhere, IsFalseWherePrinted}
+use Rattle.viz_replies.proofs.HeadlineLemmas.{accepts, proves_true, violates}
 use Rattle.vizlog.specs.declared.status.Status.{Status}
 use Rattle.vizlog.specs.declared.status.Status.TheVariants as ends
 use Rattle.vizlog.specs.declared.words.Command.{Command}
 use Rattle.vizlog.specs.declared.words.Command.TheVariants as asks_for
-use Rattle.vizlog.specs.Words.{AsksInPlace, word_at}
+use Rattle.vizlog.specs.Words.{Asks, word_at, job_name}
 use Rattle.vizlog.specs.Files.{Files}
-use Rattle.vizlog.specs.Replies.{IsReply}
-use Rattle.vizlog.specs.Run.{Delivers, IsObeyed, IsOutcome}
-use Rattle.vizlog.specs.Headline.{IsTrueEverywhere, IsFalseSomewhere}
+use Rattle.vizlog.specs.Run.{IsReplyOn, IsReplied, Sunk, IsWritten, Obeys, IsOutcome}
+use Rattle.vizlog.specs.Headline.{IsTrueOfFile, IsFalseOfFile}
+use Rattle.vizlog.specs.steps.Loads.{IsSureCert}
 
--- ---- verbs
+-- ---- words
 
-verb_lay : (words : List (List ℕ)) (v : World) → AsksInPlace words (asks_for.Lay v) → word_at words 0 ≡ codes "lay"
-verb_lay words v asks = ap (λ ws. word_at ws 0) asks.words_are
-
-verb_prove : (words : List (List ℕ)) (n : ℕ) → AsksInPlace words (asks_for.Prove n) → word_at words 0 ≡ codes "prove"
-verb_prove words n asks = ap (λ ws. word_at ws 0) asks.words_are
-
-verb_check : (words : List (List ℕ)) → AsksInPlace words asks_for.Check → word_at words 0 ≡ codes "check"
-verb_check words asks = ap (λ ws. word_at ws 0) asks.words_are
+verb_of : Command → List ℕ
+verb_of (asks_for.Lay job screen) = codes "lay"
+verb_of (asks_for.Prove job turns) = codes "prove"
+verb_of (asks_for.Check job cert) = codes "check"
 
 lay_check : (word : List ℕ) → word ≡ codes "lay" → word ≡ codes "check" → ⊥
 lay_check word a b = absurd (cc)
@@ -37,60 +36,98 @@ first_letter word = get_or word 0 0
 prove_check : (word : List ℕ) → word ≡ codes "prove" → word ≡ codes "check" → ⊥
 prove_check word a b = p_not_c (first_letter word) (ap first_letter a) (ap first_letter b)
 
+-- the second word is the job's name
+pub job_word : (words : List (List ℕ)) (c : Command) → Asks words c → word_at words 1 ≡ job_name c
+job_word words (asks_for.Lay job screen) asks = ap (λ ws. word_at ws 1) asks.words_are
+job_word words (asks_for.Prove job turns) asks = ap (λ ws. word_at ws 1) asks.words_are
+job_word words (asks_for.Check job cert) asks = ap (λ ws. word_at ws 1) asks.words_are
+
+-- the third word of `check` is the certificate's
+pub cert_word : (sure : List ℕ → Bool) (words : List (List ℕ)) (c : Command) → Asks words c → IsTrue (sure (word_at words 2)) → IsSureCert sure c
+cert_word sure words (asks_for.Lay job screen) asks is = tt
+cert_word sure words (asks_for.Prove job turns) asks is = tt
+cert_word sure words (asks_for.Check job cert) asks is = let third = ap (λ ws. word_at ws 2) asks.words_are in rw third at is
+
+-- what is sure stays so
+pub sure_later : (old new : List ℕ → Bool) (c : Command) → ((name : List ℕ) → IsTrue (old name) → IsTrue (new name)) → IsSureCert old c → IsSureCert new c
+sure_later old new (asks_for.Lay job screen) stays is = tt
+sure_later old new (asks_for.Prove job turns) stays is = tt
+sure_later old new (asks_for.Check job cert) stays is = stays cert.now is
+
 -- ---- replies
 
-checks_reply : (files : Files) (c : Command) (words : List (List ℕ)) (j k output : List ℕ) → AsksInPlace words c → AsksInPlace words asks_for.Check
-    → IsReply files c j k ends.Done output → IsTrueEverywhere files j
-checks_reply files (asks_for.Lay v) words j k output this that reply = absurd (lay_check (word_at words 0) (verb_lay words v this) (verb_check words that))
-checks_reply files (asks_for.Prove n) words j k output this that reply = absurd (prove_check (word_at words 0) (verb_prove words n this) (verb_check words that))
-checks_reply files asks_for.Check words j k output this that reply = record { job = reply.job; held = reply.held; holds = reply.holds }
+accepted_on : (files : Files) (job cert : Bor (List ℕ)) (bytes output : List ℕ) → IsReplyOn files (asks_for.Check job cert) bytes gives.Done output
+    → IsTrueEverywhere bytes
+accepted_on files job cert bytes output (inl refusal) = absurd (let other = refusal.refused in cc)
+accepted_on files job cert bytes output (inr (question, asked, reply)) =
+    accepts bytes asked.0 question gives.Done output (inl reply) asked.2 refl
 
-proves_reply : (files : Files) (c : Command) (turns : ℕ) (words : List (List ℕ)) (j k output : List ℕ) → AsksInPlace words c → AsksInPlace words (asks_for.Prove turns)
-    → IsReply files c j k ends.Done output → IsTrueEverywhere files j
-proves_reply files (asks_for.Lay v) turns words j k output this that reply = absurd (lay_prove (word_at words 0) (verb_lay words v this) (verb_prove words turns that))
-proves_reply files (asks_for.Prove n) turns words j k output this that reply = record { job = reply.job; held = reply.held; holds = reply.proof.holds }
-proves_reply files asks_for.Check turns words j k output this that reply = absurd (prove_check (word_at words 0) (verb_prove words turns that) (verb_check words this))
+proved_on : (files : Files) (job : Bor (List ℕ)) (turns : ℕ) (bytes output : List ℕ) → IsReplyOn files (asks_for.Prove job turns) bytes gives.Done output
+    → IsTrueEverywhere bytes
+proved_on files job turns bytes output (inl refusal) = absurd (let other = refusal.refused in cc)
+proved_on files job turns bytes output (inr (question, asked, reply)) =
+    proves_true bytes turns question gives.Done output (inl reply) asked refl
 
-violates_reply : (files : Files) (c : Command) (j k output : List ℕ) → IsReply files c j k ends.Violated output → IsFalseSomewhere files j
-violates_reply files (asks_for.Lay v) j k output reply = absurd (reply)
-violates_reply files (asks_for.Prove n) j k output reply =
-    record { job = reply.job; held = reply.held; world = reply.world; in_range = reply.violation.in_range; untrue = reply.violation.untrue }
-violates_reply files asks_for.Check j k output reply = absurd (reply)
+violated_on : (files : Files) (c : Command) (bytes output : List ℕ) → IsReplyOn files c bytes gives.Violated output → IsFalseWherePrinted bytes output
+violated_on files c bytes output (inl refusal) = absurd (let other = refusal.refused in cc)
+violated_on files c bytes output (inr (question, asked, reply)) = violates bytes question gives.Violated output (inl reply) refl
 
--- ---- commands that were obeyed
+checks_reply : (files : Files) (c : Command) (words : List (List ℕ)) (output : List ℕ) → Asks words c → word_at words 0 ≡ codes "check"
+    → IsReplied files c gives.Done output → IsTrueOfFile files (word_at words 1)
+checks_reply files (asks_for.Lay job screen) words output asks verb reply = absurd (lay_check (word_at words 0) (ap (λ ws. word_at ws 0) asks.words_are) verb)
+checks_reply files (asks_for.Prove job turns) words output asks verb reply = absurd (prove_check (word_at words 0) (ap (λ ws. word_at ws 0) asks.words_are) verb)
+checks_reply files (asks_for.Check job cert) words output asks verb reply =
+    let name = job_word words (asks_for.Check job cert) asks in
+    rw name (record { bytes = reply.bytes; told = reply.told; holds = accepted_on files job cert reply.bytes output reply.reply })
 
--- a run that ends with a status that neither want of memory nor a sink gives ends with a reply of that status
-replied : (files : Files) (c : Command) (j k : List ℕ) (old new : Option (List ℕ)) (fo fn : ℕ) (result wanted : Status) → IsObeyed files c j k old new fo fn result
-    → result ≡ wanted → (wanted ≡ ends.Memory → ⊥) → (wanted ≡ ends.WriteFault → ⊥) → (output : List ℕ) × IsReply files c j k wanted output
-replied files c j k old new fo fn result wanted (inl memory) is no_memory no_fault = absurd (no_memory (sym is ∙ memory.0))
-replied files c j k old new fo fn result wanted (inr (status, output, reply, inl whole)) is no_memory no_fault =
-    let same : status ≡ wanted = sym (whole.0) ∙ is in
-    (output, rw same at reply)
-replied files c j k old new fo fn result wanted (inr (status, output, reply, inr part)) is no_memory no_fault = absurd (no_fault (sym is ∙ part.0))
+proves_reply : (files : Files) (c : Command) (words : List (List ℕ)) (output : List ℕ) → Asks words c → word_at words 0 ≡ codes "prove"
+    → IsReplied files c gives.Done output → IsTrueOfFile files (word_at words 1)
+proves_reply files (asks_for.Lay job screen) words output asks verb reply = absurd (lay_prove (word_at words 0) (ap (λ ws. word_at ws 0) asks.words_are) verb)
+proves_reply files (asks_for.Check job cert) words output asks verb reply = absurd (prove_check (word_at words 0) verb (ap (λ ws. word_at ws 0) asks.words_are))
+proves_reply files (asks_for.Prove job turns) words output asks verb reply =
+    let name = job_word words (asks_for.Prove job turns) asks in
+    rw name (record { bytes = reply.bytes; told = reply.told; holds = proved_on files job turns reply.bytes output reply.reply })
 
 -- ---- runs
 
-pub accepts : (files : Files) (words : List (List ℕ)) (old new : Option (List ℕ)) (fo fn : ℕ) (result : Status) → IsOutcome files words old new fo fn result
-    → result ≡ ends.Done → AsksInPlace words asks_for.Check → IsTrueEverywhere files (word_at words 1)
-accepts files words old new fo fn result (inl nothing) is asks = absurd (nothing.0 asks_for.Check (word_at words 1) (word_at words 2) asks)
-accepts files words old new fo fn result (inr (c, asked, obeyed)) is asks =
-    let reply = replied files c (word_at words 1) (word_at words 2) old new fo fn result ends.Done obeyed is (λ e. absurd (cc)) (λ e. absurd (cc)) in
-    checks_reply files c words (word_at words 1) (word_at words 2) reply.0 asked asks reply.1
+-- a run that ends with an answer wrote the output that goes with it
+replied : {S : Type 0} (files : Files) (c : Command) (sink : Sunk S) (result : Status) (wanted : Answer) → Obeys files c sink result
+    → result ≡ ends.Replied wanted → (output : List ℕ) × IsReplied files c wanted output × IsWritten sink output
+replied files c sink result wanted (inl (answer, output, reply, inl (ended, written))) is =
+    let same : answer ≡ wanted = cc in
+    (output, rw same at reply, written)
+replied files c sink result wanted (inl (answer, output, reply, inr (ended, cut))) is = absurd (cc)
+replied files c sink result wanted (inr (inl (file, unread, inl (ended, written)))) is = absurd (cc)
+replied files c sink result wanted (inr (inl (file, unread, inr (ended, cut)))) is = absurd (cc)
+replied files c sink result wanted (inr (inr (ended, same))) is = absurd (cc)
 
-pub proves_true : (files : Files) (words : List (List ℕ)) (old new : Option (List ℕ)) (fo fn : ℕ) (result : Status) → IsOutcome files words old new fo fn result
-    → (turns : ℕ) → result ≡ ends.Done → AsksInPlace words (asks_for.Prove turns) → IsTrueEverywhere files (word_at words 1)
-proves_true files words old new fo fn result (inl nothing) turns is asks = absurd (nothing.0 (asks_for.Prove turns) (word_at words 1) (word_at words 2) asks)
-proves_true files words old new fo fn result (inr (c, asked, obeyed)) turns is asks =
-    let reply = replied files c (word_at words 1) (word_at words 2) old new fo fn result ends.Done obeyed is (λ e. absurd (cc)) (λ e. absurd (cc)) in
-    proves_reply files c turns words (word_at words 1) (word_at words 2) reply.0 asked asks reply.1
+pub run_accepts : {S : Type 0} (files : Files) (words : List (List ℕ)) (sink : Sunk S) (result : Status) → IsOutcome files words sink result
+    → result ≡ ends.Replied gives.Done → word_at words 0 ≡ codes "check" → IsTrueOfFile files (word_at words 1)
+run_accepts files words sink result (inl (nothing, inl (ended, written))) is verb = absurd (cc)
+run_accepts files words sink result (inl (nothing, inr (ended, cut))) is verb = absurd (cc)
+run_accepts files words sink result (inr (c, asks, obeyed)) is verb =
+    let reply = replied files c sink result gives.Done obeyed is in
+    checks_reply files c words reply.0 asks verb reply.1
 
-usage_or_fault : (old new : Option (List ℕ)) (fo fn : ℕ) (result : Status) → Delivers old new fo fn result ends.Usage (codes "usage\n") → result ≡ ends.Violated → ⊥
-usage_or_fault old new fo fn result (inl whole) is = let other = whole.0 in absurd (cc)
-usage_or_fault old new fo fn result (inr part) is = let other = part.0 in absurd (cc)
+pub run_proves : {S : Type 0} (files : Files) (words : List (List ℕ)) (sink : Sunk S) (result : Status) → IsOutcome files words sink result
+    → result ≡ ends.Replied gives.Done → word_at words 0 ≡ codes "prove" → IsTrueOfFile files (word_at words 1)
+run_proves files words sink result (inl (nothing, inl (ended, written))) is verb = absurd (cc)
+run_proves files words sink result (inl (nothing, inr (ended, cut))) is verb = absurd (cc)
+run_proves files words sink result (inr (c, asks, obeyed)) is verb =
+    let reply = replied files c sink result gives.Done obeyed is in
+    proves_reply files c words reply.0 asks verb reply.1
 
-pub violates : (files : Files) (words : List (List ℕ)) (old new : Option (List ℕ)) (fo fn : ℕ) (result : Status) → IsOutcome files words old new fo fn result
-    → result ≡ ends.Violated → IsFalseSomewhere files (word_at words 1)
-violates files words old new fo fn result (inl nothing) is = absurd (usage_or_fault old new fo fn result nothing.1 is)
-violates files words old new fo fn result (inr (c, asked, obeyed)) is =
-    let reply = replied files c (word_at words 1) (word_at words 2) old new fo fn result ends.Violated obeyed is (λ e. absurd (cc)) (λ e. absurd (cc)) in
-    violates_reply files c (word_at words 1) (word_at words 2) reply.0 reply.1
+pub run_violates : {S : Type 0} (files : Files) (words : List (List ℕ)) (sink : Sunk S) (result : Status) → IsOutcome files words sink result
+    → result ≡ ends.Replied gives.Violated → IsFalseOfFile files (word_at words 1) (sink.written sink.old) (sink.written sink.new)
+run_violates files words sink result (inl (nothing, inl (ended, written))) is = absurd (cc)
+run_violates files words sink result (inl (nothing, inr (ended, cut))) is = absurd (cc)
+run_violates files words sink result (inr (c, asks, obeyed)) is =
+    let reply = replied files c sink result gives.Violated obeyed is in
+    let name = job_word words c asks in
+    rw name (record {
+      bytes = reply.1.bytes;
+      told = reply.1.told;
+      output = reply.0;
+      untrue = violated_on files c reply.1.bytes reply.0 reply.1.reply;
+      written = reply.2.whole;
+    })

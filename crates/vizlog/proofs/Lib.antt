@@ -1,4 +1,3 @@
 pub mod WordLemmas
 pub mod RunLemmas
-pub mod ReplyLemmas
 pub mod HeadlineLemmas

@@ -1,8 +1,8 @@
 -- A number that was printed is read back.
-use Rattle.std.proofs.Common.{◌≡◌, ◌≢◌, ℕ, ◌<◌, ◌^◌, List, [], ◌∷◌, length, codes, ◌≤◌, ◌&&◌, nat_le, cond, Option, Some, None, MatchOption, refl, Bool, true, false, ◌==◌, get_or, map, arith, Result, Ok, decimal, ap, sym, ◌∙◌}
-use Rattle.vizlog.specs.Words.{AsksInPlace, IsWorld}
+use Rattle.std.proofs.Common.{◌≡◌, ◌≢◌, ℕ, ◌<◌, ◌^◌, List, [], ◌∷◌, length, codes, ◌≤◌, ◌&&◌, nat_le, cond, Option, Some, None, MatchOption, refl, Bool, true, false, ◌==◌, get_or, map, arith, Result, Ok, decimal, ap, sym, ◌∙◌, Bor}
+use Rattle.vizlog.specs.Words.{Asks, IsWorld}
 use Rattle.vizlog.specs.declared.words.Command.TheVariants as asks_for
-use Rattle.viz_base.specs.declared.worlds.World.{World}
+use Rattle.viz_replies.specs.declared.question.Screen.{Screen}
 use Rattle.std.specs.Str.Parse.{AllDigits, digits_value, ParsesUnsigned}
 use Rattle.std.proofs.lemmas.Str.Parse.{IsNumeralModel, numerals_by_value, tells_digits, parse_gives}
 use Rattle.std.proofs.lemmas.Bool.{false≢true}
@@ -18,16 +18,11 @@ parsed word n r small e p =
     let value = digits_value-decimal own n small in
     parse_gives own 64 (decimal n) r q (digits_decimal own n small) (decimal_nonempty n small) (rw value small) ∙ ap Ok value
 
--- ---- words of no form
-
 -- ---- words that are there
 
 pub not_empty : (xs : List ℕ) → (length xs == 0) ≡ false → xs ≢ []
 not_empty [] e h = false≢true (sym e)
 not_empty (x ∷ xs) e h = absurd (cc)
-
-pub printed_not_empty : (xs : List ℕ) (n : ℕ) → n < 2 ^ 64 → xs ≡ decimal n → xs ≢ []
-printed_not_empty xs n small e h = let some = decimal_nonempty n small in let none = ap length (sym e ∙ h) in omega arith
 
 -- the words of a list of four, and of three
 pub words_4 : {X : Type 0} (f : X → List ℕ) (xs : List X) (a b c d : X) → length xs ≡ 4 → a ≡ get_or xs 0 a → b ≡ get_or xs 1 b → c ≡ get_or xs 2 c → d ≡ get_or xs 3 d → map f xs ≡ f a ∷ f b ∷ f c ∷ f d ∷ []
@@ -38,13 +33,13 @@ words_4 f (x ∷ y ∷ z ∷ []) a b c d len p q r s = absurd (omega arith)
 words_4 f (x ∷ y ∷ z ∷ w ∷ []) a b c d len p q r s = cc
 words_4 f (x ∷ y ∷ z ∷ w ∷ v ∷ rest) a b c d len p q r s = absurd (omega arith)
 
-pub asks_lay : (verb job width size : List ℕ) (v : World) → IsWorld v → verb ≡ codes "lay" → job ≢ [] → width ≡ decimal v.w → size ≡ decimal v.s → AsksInPlace (verb ∷ job ∷ width ∷ size ∷ []) (asks_for.Lay v)
-asks_lay verb job width size v within lay named w s =
-    let small : v.w < 2 ^ 64 = omega (arith, within.width_most) in
-    record { words_are = cc; within = within; job_named = named; cert_named = printed_not_empty width v.w small w }
+pub asks_lay : (verb width size : List ℕ) (job : Bor (List ℕ)) (screen : Screen) → IsWorld screen.world → verb ≡ codes "lay" → job.now ≢ []
+    → width ≡ decimal screen.world.w → size ≡ decimal screen.world.s → Asks (verb ∷ job.now ∷ width ∷ size ∷ []) (asks_for.Lay job screen)
+asks_lay verb width size job screen within lay named w s = record { words_are = cc; proper = (named, within) }
 
-pub asks_prove : (job turns : List ℕ) (n : ℕ) → n < 2 ^ 64 → job ≢ [] → turns ≡ decimal n → AsksInPlace (codes "prove" ∷ job ∷ turns ∷ []) (asks_for.Prove n)
-asks_prove job turns n small named is = record { words_are = cc; within = small; job_named = named; cert_named = printed_not_empty turns n small is }
+pub asks_prove : (turns : List ℕ) (job : Bor (List ℕ)) (n : ℕ) → n < 2 ^ 64 → job.now ≢ [] → turns ≡ decimal n
+    → Asks (codes "prove" ∷ job.now ∷ turns ∷ []) (asks_for.Prove job n)
+asks_prove turns job n small named is = record { words_are = cc; proper = (named, small) }
 
 -- ---- numbers within limits
 

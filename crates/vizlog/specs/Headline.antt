@@ -1,21 +1,19 @@
--- What a run tells of a job's assertion.
-use Rattle.std.specs.Prelude.{◌≡◌, ℕ, List, false}
-use Rattle.viz_base.specs.declared.jobs.Job.{Job}
-use Rattle.viz_base.specs.declared.worlds.World.{World}
-use Rattle.logic_semantics.specs.Ranges.{IsInRange}
-use Rattle.cert_check.specs.Right.{Holds, is_true_at}
-use Rattle.vizlog.specs.Files.{Files, HoldsJob}
+-- What a run tells of the assertion of a job file.
+use Rattle.std.specs.Prelude.{◌≡◌, ℕ, List, Option}
+use Rattle.viz_outside.specs.Sink.{grown}
+use Rattle.viz_replies.specs.Headline.{IsTrueEverywhere, IsFalseWherePrinted}
+use Rattle.vizlog.specs.Files.{Files, MayHold}
 
--- the file's job holds: at each world of its range its assertion is true of the page's rendering (CSS 2.1)
-pub record IsTrueEverywhere (files : Files) (name : List ℕ) : Type 0 where
-  pub job : Job
-  pub held : HoldsJob files name job
-  pub holds : Holds job
+-- the assertion of the file's job is true at every world of its range
+pub record IsTrueOfFile (files : Files) (name : List ℕ) : Type 0 where
+  pub bytes : List ℕ
+  pub told : MayHold files name bytes
+  pub holds : IsTrueEverywhere bytes
 
--- at a world of the range of the file's job its assertion is false of the page's rendering
-pub record IsFalseSomewhere (files : Files) (name : List ℕ) : Type 0 where
-  pub job : Job
-  pub held : HoldsJob files name job
-  pub world : World
-  pub in_range : IsInRange job.range world
-  pub untrue : is_true_at job world ≡ false
+-- the assertion of the file's job is false at a world of its range, which was written with the boxes there
+pub record IsFalseOfFile (files : Files) (name : List ℕ) (old new : Option (List ℕ)) : Type 0 where
+  pub bytes : List ℕ
+  pub told : MayHold files name bytes
+  pub output : List ℕ
+  pub untrue : IsFalseWherePrinted bytes output
+  pub written : new ≡ grown old output

@@ -2,8 +2,6 @@
 #![tactic(auto)]
 
 mod files;
-mod lines;
-mod replies;
 mod run;
 mod status;
 #[cfg(test)]

@@ -1,25 +1,24 @@
-ghost use Rattle.std.specs.Prelude.{◌≡◌, ◌≢◌, ◌⊎◌, ℕ, IfOk, IsTrue, map, string_bytes};
+ghost use Rattle.std.specs.Prelude.{◌≡◌, ◌≢◌, codes, IsTrue, map, string_bytes};
 ghost use Rattle.viz_outside.specs.Fault.{Rose};
-ghost use Rattle.vizlog.specs.Words.{IsWithin, AsksInPlace, word_at};
-ghost use Rattle.vizlog.specs.Replies.{IsReply};
-ghost use Rattle.vizlog.specs.Run.{Delivers, IsObeyed, IsOutcome};
-ghost use Rattle.vizlog.specs.Headline.{IsTrueEverywhere, IsFalseSomewhere};
-ghost use Rattle.vizlog.specs.declared.words.Command.{Command};
+ghost use Rattle.vizlog.specs.Words.{word_at, job_name};
+ghost use Rattle.vizlog.specs.Run.{Delivers, Obeys, IsOutcome};
+ghost use Rattle.vizlog.specs.steps.Loads.{IsSureCert};
+ghost use Rattle.vizlog.specs.Headline.{IsTrueOfFile, IsFalseOfFile};
+ghost use Rattle.vizlog.specs.declared.status.File.{File};
 
-use crate::files::{JobFile, load_job};
-use crate::replies::reply_about;
-use crate::status::{Reply, Status};
+use crate::files::{NoReply, reply_over};
+use crate::status::Status;
 use crate::words::{Command, command_of};
 use std::alloc::Global;
-use viz_base::Mem;
 use viz_outside::{Shelf, Sink, write_all};
+use viz_replies::Answer;
 
 /// Writes the whole output, if the sink doesn't fail.
 fn deliver<K: Sink>(sink: &mut K, status: Status, output: &[u8]) -> Status
     requires { status ≢ Status.WriteFault }
+    ensures delivers { Delivers (record { written = K.written; faults = K.faults; old = sink.old; new = sink.new })
+        result status output.now }
     ensures write_fault { result ≡ Status.WriteFault → Rose (K.faults sink.old) (K.faults sink.new) }
-    ensures kept { (result ≡ status) ⊎ (result ≡ Status.WriteFault) }
-    ensures delivers { Delivers (K.written sink.old) (K.written sink.new) (K.faults sink.old) (K.faults sink.new) result status output.now }
 {
     match write_all(sink, output) {
         Ok(()) => status,
@@ -27,70 +26,34 @@ fn deliver<K: Sink>(sink: &mut K, status: Status, output: &[u8]) -> Status
     }
 }
 
-/// What is replied to a command.
-fn reply_to<F: Shelf>(
-    alloc: Global,
-    command: Command,
-    name: &str,
-    cert: &str,
-    shelf: &mut F,
-) -> Result<Reply, Mem>
-    requires { IsWithin command }
-    ensures reply { IfOk result (λ r. IsReply (F.files shelf.old) command name.now cert.now r.status r.output.items) }
-    ensures no_write_fault { IfOk result (λ r. r.status ≢ Status.WriteFault) }
-    ensures unread { IfOk result (λ r. r.status ≡ Status.ReadFault → Rose (F.faults shelf.old) (F.faults shelf.new)) }
-    ensures sure { IsTrue (F.sure shelf.old name.now) → (command ≡ Command.Check → IsTrue (F.sure shelf.old cert.now))
-        → IfOk result (λ r. r.status ≢ Status.ReadFault) }
-{
-    match load_job(alloc, name, shelf)? {
-        JobFile::Read(job) => reply_about(alloc, command, &job, cert, shelf),
-        JobFile::Missing(reply) => Ok(reply),
-    }
-}
-
 /// Replies to a command, if there is memory.
-fn obey<F: Shelf, K: Sink>(
-    alloc: Global,
-    command: Command,
-    name: &str,
-    cert: &str,
-    shelf: &mut F,
-    sink: &mut K,
-) -> Status
-    requires { IsWithin command }
-    ensures outcome { IsObeyed (F.files shelf.old) command name.now cert.now (K.written sink.old) (K.written sink.new)
-        (K.faults sink.old) (K.faults sink.new) result }
-    ensures read_fault { result ≡ Status.ReadFault → Rose (F.faults shelf.old) (F.faults shelf.new) }
-    ensures sure { IsTrue (F.sure shelf.old name.now) → (command ≡ Command.Check → IsTrue (F.sure shelf.old cert.now))
-        → result ≢ Status.ReadFault }
+fn obey<F: Shelf, K: Sink>(alloc: Global, command: Command, shelf: &mut F, sink: &mut K) -> Status
+    ensures outcome { Obeys (F.files shelf.old) command.entry
+        (record { written = K.written; faults = K.faults; old = sink.old; new = sink.new }) result }
+    ensures read_fault { (file : File) → result ≡ Status.ReadFault file → Rose (F.faults shelf.old) (F.faults shelf.new) }
+    ensures sure_job { IsTrue (F.sure shelf.old (job_name command.entry)) → result ≢ Status.ReadFault File.Job }
+    ensures sure_cert { IsSureCert (F.sure shelf.old) command.entry → result ≢ Status.ReadFault File.Certificate }
     ensures write_fault { result ≡ Status.WriteFault → Rose (K.faults sink.old) (K.faults sink.new) }
 {
-    match reply_to(alloc, command, name, cert, shelf) {
-        Ok(reply) => deliver(sink, reply.status, reply.output.as_slice()),
-        Err(Mem) => Status::Memory,
+    match reply_over(alloc, command, shelf) {
+        Ok(reply) => deliver(sink, Status::Replied(reply.answer), reply.output.as_slice()),
+        Err(NoReply::Unread(file)) => deliver(sink, Status::ReadFault(file), b"read-fault\n"),
+        Err(NoReply::Mem) => Status::Memory,
     }
 }
 
 /// What `run` does, with its outcome alone.
 fn answer<F: Shelf, K: Sink>(alloc: Global, words: &[String], shelf: &mut F, sink: &mut K) -> Status
-    // The words are of no form, or the reply to the command that they ask for is written.
-    ensures outcome { IsOutcome (F.files shelf.old) (map string_bytes words.now) (K.written sink.old) (K.written sink.new)
-        (K.faults sink.old) (K.faults sink.new) result }
-    ensures read_fault { result ≡ Status.ReadFault → Rose (F.faults shelf.old) (F.faults shelf.new) }
-    ensures sure { IsTrue (F.sure shelf.old (word_at (map string_bytes words.now) 1))
-        → (AsksInPlace (map string_bytes words.now) Command.Check → IsTrue (F.sure shelf.old (word_at (map string_bytes words.now) 2)))
-        → result ≢ Status.ReadFault }
+    ensures outcome { IsOutcome (F.files shelf.old) (map string_bytes words.now)
+        (record { written = K.written; faults = K.faults; old = sink.old; new = sink.new }) result }
+    ensures read_fault { (file : File) → result ≡ Status.ReadFault file → Rose (F.faults shelf.old) (F.faults shelf.new) }
+    ensures sure_job { IsTrue (F.sure shelf.old (word_at (map string_bytes words.now) 1)) → result ≢ Status.ReadFault File.Job }
+    ensures sure_cert { IsTrue (F.sure shelf.old (word_at (map string_bytes words.now) 2))
+        → result ≢ Status.ReadFault File.Certificate }
     ensures write_fault { result ≡ Status.WriteFault → Rose (K.faults sink.old) (K.faults sink.new) }
 {
     match command_of(words) {
-        Some(command) => obey(
-            alloc,
-            command,
-            words[1].as_str(),
-            words[2].as_str(),
-            shelf,
-            sink,
-        ),
+        Some(command) => obey(alloc, command, shelf, sink),
         None => deliver(sink, Status::Usage, b"usage\n"),
     }
 }
@@ -103,20 +66,21 @@ pub fn run<F: Shelf, K: Sink>(
     sink: &mut K,
 ) -> Status
     // Where `check` accepts, the job's assertion is true of the CSS 2.1 rendering at every world of its range.
-    ensures accepted { result ≡ Status.Done → AsksInPlace (map string_bytes words.now) Command.Check
-        → IsTrueEverywhere (F.files shelf.old) (word_at (map string_bytes words.now) 1) }
+    ensures accepted { result ≡ Status.Replied Answer.Done → word_at (map string_bytes words.now) 0 ≡ codes "check"
+        → IsTrueOfFile (F.files shelf.old) (word_at (map string_bytes words.now) 1) }
     // So it is where `prove` says that it is proved,
-    ensures proved { (turns : ℕ) → result ≡ Status.Done → AsksInPlace (map string_bytes words.now) (Command.Prove turns)
-        → IsTrueEverywhere (F.files shelf.old) (word_at (map string_bytes words.now) 1) }
-    // and where a run says Violated, the assertion is false at a world of the range.
-    ensures violated { result ≡ Status.Violated → IsFalseSomewhere (F.files shelf.old) (word_at (map string_bytes words.now) 1) }
+    ensures proved { result ≡ Status.Replied Answer.Done → word_at (map string_bytes words.now) 0 ≡ codes "prove"
+        → IsTrueOfFile (F.files shelf.old) (word_at (map string_bytes words.now) 1) }
+    // and where a run says Violated, the assertion is false at the world of the range that is written.
+    ensures violated { result ≡ Status.Replied Answer.Violated
+        → IsFalseOfFile (F.files shelf.old) (word_at (map string_bytes words.now) 1) (K.written sink.old) (K.written sink.new) }
     // The words are of no form, or the reply to the command that they ask for is written.
-    ensures outcome { IsOutcome (F.files shelf.old) (map string_bytes words.now) (K.written sink.old) (K.written sink.new)
-        (K.faults sink.old) (K.faults sink.new) result }
-    ensures read_fault { result ≡ Status.ReadFault → Rose (F.faults shelf.old) (F.faults shelf.new) }
-    ensures sure { IsTrue (F.sure shelf.old (word_at (map string_bytes words.now) 1))
-        → (AsksInPlace (map string_bytes words.now) Command.Check → IsTrue (F.sure shelf.old (word_at (map string_bytes words.now) 2)))
-        → result ≢ Status.ReadFault }
+    ensures outcome { IsOutcome (F.files shelf.old) (map string_bytes words.now)
+        (record { written = K.written; faults = K.faults; old = sink.old; new = sink.new }) result }
+    ensures read_fault { (file : File) → result ≡ Status.ReadFault file → Rose (F.faults shelf.old) (F.faults shelf.new) }
+    ensures sure_job { IsTrue (F.sure shelf.old (word_at (map string_bytes words.now) 1)) → result ≢ Status.ReadFault File.Job }
+    ensures sure_cert { IsTrue (F.sure shelf.old (word_at (map string_bytes words.now) 2))
+        → result ≢ Status.ReadFault File.Certificate }
     ensures write_fault { result ≡ Status.WriteFault → Rose (K.faults sink.old) (K.faults sink.new) }
 {
     answer(alloc, words, shelf, sink)

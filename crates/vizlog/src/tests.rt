@@ -1,10 +1,11 @@
 use crate::run::run;
-use crate::status::Status;
+use crate::status::{File, Status};
 use std::alloc::Global;
 use std::process::Abort;
 use std::test::Fail;
 use viz_base::{List, Text};
 use viz_outside::{MemShelf, MemSink};
+use viz_replies::Answer;
 
 const NESTED: &str =
     r#"{"vizlog":1,"widths":[320,320],"sizes":[16,16],"height":600,"fonts":[{"name":"Square","upem":1000,"ascent":800,"descent":200,"default":500,"advances":[]}],"css":["body{margin:0}"],"page":{"tag":"div","attrs":{"style":"height:30px"},"children":[{"tag":"div","attrs":{"style":"height:10px"}},{"tag":"div","attrs":{"style":"height:20px"}}]},"assert":"true"}"#;
@@ -89,20 +90,32 @@ fn lays(rt: HostRuntime) -> Result<(), Fail> {
         &rt,
         rt.alloc(),
         &[
-            ("lay J 320 16", NESTED, "", Status::Done, NESTED_BOXES),
-            ("lay J 1 1", FLAT, "", Status::Done, FLAT_BOX),
+            (
+                "lay J 320 16",
+                NESTED,
+                "",
+                Status::Replied(Answer::Done),
+                NESTED_BOXES,
+            ),
+            (
+                "lay J 1 1",
+                FLAT,
+                "",
+                Status::Replied(Answer::Done),
+                FLAT_BOX,
+            ),
             (
                 "lay J 320 16",
                 "{",
                 "",
-                Status::JobRefused,
+                Status::Replied(Answer::JobRefused),
                 "job-refused not-json\n",
             ),
             (
                 "lay J 320 16",
                 FALSE,
                 "",
-                Status::JobRefused,
+                Status::Replied(Answer::JobRefused),
                 "job-refused not-yet\n",
             ),
             ("lay J 0 16", NESTED, "", Status::Usage, "usage\n"),
@@ -116,7 +129,7 @@ fn lays(rt: HostRuntime) -> Result<(), Fail> {
                 "lay K 320 16",
                 NESTED,
                 "",
-                Status::ReadFault,
+                Status::ReadFault(File::Job),
                 "read-fault\n",
             ),
         ],
@@ -129,59 +142,90 @@ fn proves_and_checks(rt: HostRuntime) -> Result<(), Fail> {
         &rt,
         rt.alloc(),
         &[
-            ("prove J 1", NESTED, "", Status::Done, NESTED_GRID),
-            ("prove J 161", NARROW, "", Status::Violated, WIDE_BOXES),
+            (
+                "prove J 1",
+                NESTED,
+                "",
+                Status::Replied(Answer::Done),
+                NESTED_GRID,
+            ),
+            (
+                "prove J 161",
+                NARROW,
+                "",
+                Status::Replied(Answer::Violated),
+                WIDE_BOXES,
+            ),
             (
                 "prove J 0",
                 NARROW,
                 "",
-                Status::Undecided,
+                Status::Replied(Answer::Undecided),
                 "undecided 320 400 16 16\n",
             ),
             ("prove J 01", NARROW, "", Status::Usage, "usage\n"),
             ("prove J", NARROW, "", Status::Usage, "usage\n"),
-            ("check J C", NESTED, NESTED_GRID, Status::Done, "accepted\n"),
+            (
+                "check J C",
+                NESTED,
+                NESTED_GRID,
+                Status::Replied(Answer::Done),
+                "accepted\n",
+            ),
             (
                 "check J C",
                 NARROW,
                 NARROW_GRID,
-                Status::CertRefused,
+                Status::Replied(Answer::CertRefused),
                 "rejected shape 0\n",
             ),
             (
                 "check J C",
                 NARROW,
                 NARROW_SPLIT,
-                Status::CertRefused,
+                Status::Replied(Answer::CertRefused),
                 "rejected untrue 1 400 16\n",
             ),
             (
                 "check J C",
                 NARROW,
                 ZERO_SPLIT,
-                Status::CertRefused,
+                Status::Replied(Answer::CertRefused),
                 "rejected other-job\n",
             ),
             (
                 "check J C",
                 NARROW,
                 "vizlog-cert 2",
-                Status::CertRefused,
+                Status::Replied(Answer::CertRefused),
                 "rejected grammar 12\n",
             ),
-            ("check J K", NARROW, "", Status::ReadFault, "read-fault\n"),
+            (
+                "check J K",
+                NARROW,
+                "",
+                Status::ReadFault(File::Certificate),
+                "read-fault\n",
+            ),
+            (
+                "check J K",
+                "{",
+                "",
+                Status::Replied(Answer::JobRefused),
+                "job-refused not-json\n",
+            ),
             (
                 "check K C",
                 NARROW,
                 NARROW_GRID,
-                Status::ReadFault,
+                Status::ReadFault(File::Job),
                 "read-fault\n",
             ),
             (
                 "check J C",
                 "{",
                 NARROW_GRID,
-                Status::JobRefused,
+                Status::Replied(Answer::JobRefused),
                 "job-refused not-json\n",
             ),
         ],
@@ -194,7 +238,7 @@ fn faults(rt: HostRuntime) -> Result<(), Fail> {
     let shelf = shelf_of(rt.alloc(), NESTED, "", &[0])?;
     assert_eq!(rt;
         ran(rt.alloc(), "lay J 320 16", shelf, &mut sink)?,
-        Status::ReadFault
+        Status::ReadFault(File::Job)
     );
     assert_eq!(rt; sink.written(), b"read-fault\n".as_slice());
     let mut sink = MemSink::new(rt.alloc(), 64, 4096, List::from_slice(rt.alloc(), &[1])?)?;

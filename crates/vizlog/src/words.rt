@@ -1,18 +1,19 @@
 ghost use Rattle.std.specs.Prelude.{◌≡◌, ◌≢◌, ℕ, [], ◌∷◌, ◌<◌, ◌≤◌, ◌^◌, MatchOption, Some, None, nat_le, ◌&&◌, if◌then◌else◌, map, length, decimal, codes, string_bytes};
-ghost use Rattle.vizlog.specs.Words.{Asks, AskNothing, IsWorld, AsksInPlace};
+ghost use Rattle.vizlog.specs.Words.{Asks, AskNothing, IsWorld, job_name};
 
 use itoa::Buffer;
 use viz_base::World;
+use viz_replies::Screen;
 
-/// What the words ask for. The job's name is the second word, and that of a certificate the third.
-#[derive(Clone, Copy, Debug, PartialEq, Eq)]
-pub enum Command {
-    /// The rendering at a world.
-    Lay(World),
-    /// A certificate, within so many turns.
-    Prove(u64),
-    /// The verdict on a certificate.
-    Check,
+/// What the words ask for, with the names of its files.
+#[derive(Clone, Copy, Debug)]
+pub enum Command<'a> {
+    /// The rendering of a job's page at a world.
+    Lay { job: &'a str, screen: Screen },
+    /// A certificate for a job, within so many turns.
+    Prove { job: &'a str, turns: u64 },
+    /// The verdict on a certificate for a job.
+    Check { job: &'a str, cert: &'a str },
 }
 
 /// The number that a word spells in decimal, without sign or leading zero.
@@ -65,16 +66,19 @@ fn world_of(width: &str, size: &str) -> Option<World>
 }
 
 /// What four words ask for: `lay JOB W S`.
-fn lay_of(verb: &str, job: &str, width: &str, size: &str) -> Option<Command>
+fn lay_of<'a>(verb: &str, job: &'a str, width: &str, size: &str) -> Option<Command<'a>>
     ensures { MatchOption result (AskNothing (verb.now ∷ job.now ∷ width.now ∷ size.now ∷ []))
-        (AsksInPlace (verb.now ∷ job.now ∷ width.now ∷ size.now ∷ [])) }
+        (Asks (verb.now ∷ job.now ∷ width.now ∷ size.now ∷ [])) }
 {
     if job.is_empty() {
         return None;
     }
     if verb == "lay" {
         match world_of(width, size) {
-            Some(world) => Some(Command::Lay(world)),
+            Some(world) => Some(Command::Lay {
+                job,
+                screen: Screen { world },
+            }),
             None => None,
         }
     } else {
@@ -83,23 +87,23 @@ fn lay_of(verb: &str, job: &str, width: &str, size: &str) -> Option<Command>
 }
 
 /// What `prove JOB TURNS` asks for.
-fn prove_of(job: &str, turns: &str) -> Option<Command>
+fn prove_of<'a>(job: &'a str, turns: &str) -> Option<Command<'a>>
     ensures { MatchOption result (AskNothing (codes "prove" ∷ job.now ∷ turns.now ∷ []))
-        (AsksInPlace (codes "prove" ∷ job.now ∷ turns.now ∷ [])) }
+        (Asks (codes "prove" ∷ job.now ∷ turns.now ∷ [])) }
 {
     if job.is_empty() {
         return None;
     }
     match number_of(turns) {
-        Some(turns) => Some(Command::Prove(turns)),
+        Some(turns) => Some(Command::Prove { job, turns }),
         None => None,
     }
 }
 
 /// What three words ask for: `prove JOB TURNS` or `check JOB CERT`.
-fn prove_or_check_of(verb: &str, job: &str, last: &str) -> Option<Command>
+fn prove_or_check_of<'a>(verb: &str, job: &'a str, last: &'a str) -> Option<Command<'a>>
     ensures { MatchOption result (AskNothing (verb.now ∷ job.now ∷ last.now ∷ []))
-        (AsksInPlace (verb.now ∷ job.now ∷ last.now ∷ [])) }
+        (Asks (verb.now ∷ job.now ∷ last.now ∷ [])) }
 {
     if verb == "prove" {
         return prove_of(job, last);
@@ -107,12 +111,12 @@ fn prove_or_check_of(verb: &str, job: &str, last: &str) -> Option<Command>
     if verb != "check" || job.is_empty() || last.is_empty() {
         return None;
     }
-    Some(Command::Check)
+    Some(Command::Check { job, cert: last })
 }
 
 /// What the words ask for, if they are of a form. It takes no memory.
-pub fn command_of(words: &[String]) -> Option<Command>
-    ensures { MatchOption result (AskNothing (map string_bytes words.now)) (AsksInPlace (map string_bytes words.now)) }
+pub fn command_of(words: &[String]) -> Option<Command<'_>>
+    ensures { MatchOption result (AskNothing (map string_bytes words.now)) (Asks (map string_bytes words.now)) }
 {
     match words {
         [verb, job, width, size] => lay_of(
@@ -123,5 +127,18 @@ pub fn command_of(words: &[String]) -> Option<Command>
         ),
         [verb, job, last] => prove_or_check_of(verb.as_str(), job.as_str(), last.as_str()),
         _ => None,
+    }
+}
+
+impl<'a> Command<'a> {
+    /// The name of the job file.
+    pub fn job(self) -> &'a str
+        ensures { result.now ≡ job_name self.entry }
+    {
+        match self {
+            Command::Lay { job, .. } => job,
+            Command::Prove { job, .. } => job,
+            Command::Check { job, .. } => job,
+        }
     }
 }

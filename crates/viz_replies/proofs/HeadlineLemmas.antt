@@ -1,0 +1,47 @@
+-- What a reply tells of a job's assertion.
+use Rattle.std.proofs.Common.{◌≡◌, inl, inr, ℕ, List}
+use Rattle.viz_base.specs.declared.jobs.Job.{Job}
+use Rattle.viz_replies.specs.declared.reply.Answer.{Answer}
+use Rattle.viz_replies.specs.declared.reply.Answer.TheVariants as ends
+use Rattle.viz_replies.specs.declared.question.Question.{Question}
+use Rattle.viz_replies.specs.declared.question.Question.TheVariants as asks
+use Rattle.viz_replies.specs.Jobs.{SpellsJob}
+use Rattle.viz_replies.specs.Replies.{IsReplyAbout, IsReplyOnJob, IsReply}
+use Rattle.viz_replies.specs.Headline.{IsTrueEverywhere, IsFalseWherePrinted}
+
+-- a reply with an answer other than a refusal is about the job that the bytes spell
+on_job : (bytes : List ℕ) (question : Question) (answer wanted : Answer) (output : List ℕ) → IsReply bytes question answer output
+    → answer ≡ wanted → (wanted ≡ ends.JobRefused → ⊥) → IsReplyOnJob bytes question wanted output
+on_job bytes question answer wanted output (inl reply) is other = rw is at reply
+on_job bytes question answer wanted output (inr refusal) is other = absurd (other (let same = refusal.refused in cc))
+
+pub accepts : (bytes cert : List ℕ) (question : Question) (answer : Answer) (output : List ℕ) → IsReply bytes question answer output
+    → question ≡ asks.Check cert → answer ≡ ends.Done → IsTrueEverywhere bytes
+accepts bytes cert question answer output reply asked is =
+    let found = on_job bytes (asks.Check cert) answer ends.Done output (rw asked at reply) is (λ e. absurd (cc)) in
+    record { job = found.job; spelled = found.spelled; holds = found.reply.holds }
+
+pub proves_true : (bytes : List ℕ) (turns : ℕ) (question : Question) (answer : Answer) (output : List ℕ) → IsReply bytes question answer output
+    → question ≡ asks.Prove turns → answer ≡ ends.Done → IsTrueEverywhere bytes
+proves_true bytes turns question answer output reply asked is =
+    let found = on_job bytes (asks.Prove turns) answer ends.Done output (rw asked at reply) is (λ e. absurd (cc)) in
+    record { job = found.job; spelled = found.spelled; holds = found.reply.proof.holds }
+
+false_there : (bytes : List ℕ) (job : Job) (question : Question) (output : List ℕ) → SpellsJob bytes job
+    → IsReplyAbout job question ends.Violated output → IsFalseWherePrinted bytes output
+false_there bytes job (asks.Lay screen) output spelled reply = absurd reply
+false_there bytes job (asks.Prove turns) output spelled reply = record {
+  job = job;
+  spelled = spelled;
+  world = reply.world;
+  in_range = reply.violation.in_range;
+  untrue = reply.violation.untrue;
+  printed = reply.text;
+}
+false_there bytes job (asks.Check cert) output spelled reply = absurd reply
+
+pub violates : (bytes : List ℕ) (question : Question) (answer : Answer) (output : List ℕ) → IsReply bytes question answer output
+    → answer ≡ ends.Violated → IsFalseWherePrinted bytes output
+violates bytes question answer output reply is =
+    let found = on_job bytes question answer ends.Violated output reply is (λ e. absurd (cc)) in
+    false_there bytes found.job question output found.spelled found.reply

@@ -1,0 +1,76 @@
+-- Replies by what was found.
+use Rattle.std.proofs.Common.{◌≡◌, inl, inr, ℕ, ℤ, subst, ◌<◌, ◌≤◌, ◌^◌, List, [], ◌∷◌, ◌++◌, length, codes, refl, sym, arith, IsTrue}
+use Rattle.std.specs.List.{flat_map}
+use Rattle.viz_base.specs.declared.worlds.World.{World}
+use Rattle.viz_base.specs.declared.renderings.Rendering.{Rendering}
+use Rattle.viz_base.specs.declared.jobs.Job.{Job}
+use Rattle.layout_semantics.specs.Ready.{ready}
+use Rattle.lay_print.specs.Print.{printed}
+use Rattle.logic_semantics.specs.Scenes.{scene_of}
+use Rattle.logic_semantics.specs.Blame.{blame}
+use Rattle.vis_truth.specs.Scenes.{IsBoundedRendering}
+use Rattle.cert_text.specs.declared.certificate.Cert.{Cert}
+use Rattle.cert_check.specs.Nodes.{nodes_of}
+use Rattle.cert_check.specs.Right.{rendering_of}
+use Rattle.cert_check.specs.declared.verdicts.Verdict.TheVariants.{Accepted, Rejected}
+use Rattle.cert_check.proofs.Texts.{few}
+use Rattle.cert_check.proofs.Bounded.{bounded_rendering}
+use Rattle.prove_search.specs.Outcomes.{IsOutcome}
+use Rattle.prove_search.specs.declared.outcome.Outcome.{Outcome}
+use Rattle.prove_search.specs.declared.outcome.Outcome.TheVariants as found
+use Rattle.viz_replies.specs.declared.reply.Answer.{Answer}
+use Rattle.viz_replies.specs.declared.reply.Answer.TheVariants as ends
+use Rattle.viz_replies.specs.declared.question.Question.TheVariants as asks
+use Rattle.viz_replies.specs.Lines.{numbered}
+use Rattle.viz_replies.specs.Certificates.{SpellsCert, IsNoCert}
+use Rattle.viz_replies.specs.Replies.{IsReplyAbout, violation_text}
+use Rattle.viz_replies.specs.steps.Answers.{IsOutcomeReply, IsProveReply, IsVerdictOn}
+
+-- ---- certificates that were read
+
+-- a certificate of at most 64 MiB has few nodes
+pub few_nodes : (bytes : List ℕ) (cert : Cert) → SpellsCert bytes cert → length (nodes_of cert) < 2 ^ 32
+few_nodes bytes cert held =
+    let below = few cert bytes held.spelled in
+    let short = held.short in
+    omega arith
+
+-- ---- violations
+
+pub bounded : (job : Job) (world : World) (r : Rendering ℤ) → IsTrue (ready job.tree) → world.w ≤ 16384 → r ≡ rendering_of job world → IsBoundedRendering r
+bounded job world r is_ready narrow e = subst (λ x. IsBoundedRendering x) (sym e) (bounded_rendering job world is_ready narrow)
+
+pub violation_is : (job : Job) (world : World) (r : Rendering ℤ) (blamed : List ℕ) (boxes output : List ℕ) → r ≡ rendering_of job world
+    → blamed ≡ blame (scene_of r world job.height) job.formula → boxes ≡ printed r
+    → output ≡ numbered (codes "violated") (world.w ∷ world.s ∷ []) ++ (flat_map (λ place. numbered (codes "blame") (place ∷ [])) blamed ++ boxes)
+    → output ≡ violation_text job world
+violation_is job world r blamed boxes output same whom text lines =
+    let whom' = rw same at whom in
+    let text' = rw same at text in
+    rw text' at (rw whom' at lines)
+
+-- ---- searches
+
+of_outcome : (job : Job) (turns : ℕ) (outcome : Outcome) (answer : Answer) (output : List ℕ) → IsOutcome job turns outcome
+    → IsOutcomeReply job outcome answer output → IsReplyAbout job (asks.Prove turns) answer output
+of_outcome job turns (found.Proved proof) answer output is reply = rw reply.0 (record { cert = proof; proof = is; text = reply.1 })
+of_outcome job turns (found.Violated world) answer output is reply = rw reply.0 (record { world = world; violation = is; text = reply.1 })
+of_outcome job turns (found.Undecided part) answer output is reply = rw reply.0 (record { part = part; undecided = is; text = reply.1 })
+
+pub proves : (job : Job) (turns : ℕ) (answer : Answer) (output : List ℕ) → IsProveReply job turns answer output
+    → IsReplyAbout job (asks.Prove turns) answer output
+proves job turns answer output reply = of_outcome job turns reply.0 answer output reply.1 reply.2
+
+-- ---- verdicts
+
+pub checks : (job : Job) (bytes : List ℕ) (cert : Cert) (answer : Answer) (output : List ℕ) → SpellsCert bytes cert
+    → IsVerdictOn job cert answer output → IsReplyAbout job (asks.Check bytes) answer output
+checks job bytes cert answer output spelled (Accepted, verdict, holds, reply) =
+    rw reply.0 (record { cert = cert; spelled = spelled; right = verdict; holds = holds refl; text = reply.1 })
+checks job bytes cert answer output spelled (Rejected reject, verdict, holds, reply) =
+    rw reply.0 (inr (record { cert = cert; spelled = spelled; reject = reject; cause = verdict; text = reply.1 }))
+
+-- bytes that spell no certificate
+pub refuses : (job : Job) (bytes : List ℕ) (answer : Answer) (output : List ℕ) → (answer ≡ ends.CertRefused) × IsNoCert bytes output
+    → IsReplyAbout job (asks.Check bytes) answer output
+refuses job bytes answer output reply = rw reply.0 (inl reply.1)

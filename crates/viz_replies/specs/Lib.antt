@@ -1,0 +1,6 @@
+pub mod Lines
+pub mod Jobs
+pub mod Certificates
+pub mod Replies
+pub mod Headline
+pub mod steps

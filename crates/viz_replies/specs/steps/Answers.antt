@@ -1,0 +1,75 @@
+-- What the parts of a reply come to.
+use Rattle.std.specs.Prelude.{◌≡◌, ℕ, ◌≤◌, List, [], ◌∷◌, codes, IsTrue}
+use Rattle.viz_base.specs.declared.jobs.Job.{Job}
+use Rattle.layout_semantics.specs.Ready.{ready}
+use Rattle.cert_text.specs.declared.certificate.Cert.{Cert}
+use Rattle.cert_text.specs.declared.certificate.CertFault.{CertFault}
+use Rattle.cert_text.specs.declared.certificate.CertFault.TheVariants as spells
+use Rattle.cert_text.specs.Grammar.{CertText}
+use Rattle.page_narrow.specs.Narrow.{not_json, not_yet}
+use Rattle.page_narrow.specs.declared.faults.NarrowFault.{NarrowFault}
+use Rattle.page_narrow.specs.declared.faults.NarrowFault.TheVariants as reads
+use Rattle.cert_check.specs.Right.{Holds}
+use Rattle.cert_check.specs.Verdicts.{IsVerdict}
+use Rattle.cert_check.specs.declared.verdicts.Verdict.{Verdict}
+use Rattle.cert_check.specs.declared.verdicts.Verdict.TheVariants.{Accepted, Rejected}
+use Rattle.prove_search.specs.Outcomes.{IsOutcome}
+use Rattle.prove_search.specs.declared.outcome.Outcome.{Outcome}
+use Rattle.prove_search.specs.declared.outcome.Outcome.TheVariants as found
+use Rattle.viz_replies.specs.declared.reply.Answer.{Answer}
+use Rattle.viz_replies.specs.declared.reply.Answer.TheVariants as ends
+use Rattle.viz_replies.specs.declared.jobs.JobRead.{JobRead}
+use Rattle.viz_replies.specs.declared.jobs.JobRead.TheVariants as of_job
+use Rattle.viz_replies.specs.declared.certs.CertRead.{CertRead}
+use Rattle.viz_replies.specs.declared.certs.CertRead.TheVariants as of_cert
+use Rattle.viz_replies.specs.Lines.{numbered}
+use Rattle.viz_replies.specs.Jobs.{SpellsJob, refusal_line}
+use Rattle.viz_replies.specs.Certificates.{SpellsCert, IsNoCert}
+use Rattle.viz_replies.specs.Replies.{IsRefusal, violation_text, open_line, reject_line}
+
+-- the line is that of the refusal that the reader's fault stands for; want of memory stands for none
+abbrev pub IsLineOf : NarrowFault → List ℕ → Type 0
+IsLineOf reads.Mem output = ⊥
+IsLineOf reads.NotJson output = output ≡ refusal_line not_json
+IsLineOf reads.NotYet output = output ≡ refusal_line not_yet
+
+-- the job that the bytes spell, whose page is one that can be laid out, or their refusal
+abbrev pub IsJobRead : List ℕ → JobRead → Type 0
+IsJobRead bytes (of_job.Read job) = SpellsJob bytes job × IsTrue (ready job.tree)
+IsJobRead bytes (of_job.Refused reply) = IsRefusal bytes reply.answer reply.output.items
+
+-- the line is that of the certificate reader's fault; want of memory has none
+abbrev pub IsLineOfCert : CertFault → List ℕ → Type 0
+IsLineOfCert spells.Mem output = ⊥
+IsLineOfCert (spells.Grammar place) output = output ≡ numbered (codes "rejected grammar") (place ∷ [])
+
+-- the certificate that the bytes spell, or their refusal
+abbrev pub IsCertRead : List ℕ → CertRead → Type 0
+IsCertRead bytes (of_cert.Read cert) = SpellsCert bytes cert
+IsCertRead bytes (of_cert.Refused reply) = (reply.answer ≡ ends.CertRefused) × IsNoCert bytes reply.output.items
+
+-- what is replied of a verdict
+abbrev pub IsVerdictReply : Verdict → Answer → List ℕ → Type 0
+IsVerdictReply Accepted answer output = (answer ≡ ends.Done) × (output ≡ codes "accepted\n")
+IsVerdictReply (Rejected reject) answer output = (answer ≡ ends.CertRefused) × (output ≡ reject_line reject)
+
+-- an outcome that has a text, or a world at which a page can be laid out
+abbrev pub IsPrintable : Outcome → Type 0
+IsPrintable (found.Proved cert) = (text : List ℕ) × CertText cert text
+IsPrintable (found.Violated world) = world.w ≤ 16384
+IsPrintable (found.Undecided part) = Unit {0}
+
+-- what is replied of a search
+abbrev pub IsOutcomeReply : Job → Outcome → Answer → List ℕ → Type 0
+IsOutcomeReply job (found.Proved cert) answer output = (answer ≡ ends.Done) × CertText cert output
+IsOutcomeReply job (found.Violated world) answer output = (answer ≡ ends.Violated) × (output ≡ violation_text job world)
+IsOutcomeReply job (found.Undecided part) answer output = (answer ≡ ends.Undecided) × (output ≡ open_line part)
+
+-- what is replied of a search of a job
+abbrev pub IsProveReply : Job → ℕ → Answer → List ℕ → Type 0
+IsProveReply job turns answer output = (outcome : Outcome) × IsOutcome job turns outcome × IsOutcomeReply job outcome answer output
+
+-- what is replied about a certificate that was read
+abbrev pub IsVerdictOn : Job → Cert → Answer → List ℕ → Type 0
+IsVerdictOn job cert answer output =
+    (verdict : Verdict) × IsVerdict job cert verdict × (verdict ≡ Accepted → Holds job) × IsVerdictReply verdict answer output

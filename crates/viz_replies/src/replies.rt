@@ -1,0 +1,188 @@
+ghost use Rattle.std.specs.Prelude.{◌≡◌, ◌≤◌, ◌<◌, ◌^◌, ℕ, List, [], ◌∷◌, ◌++◌, codes, length, IfOk, IsTrue};
+ghost use Rattle.std.specs.List.{flat_map};
+ghost use Rattle.layout_semantics.specs.Ready.{ready as is_ready};
+ghost use Rattle.cert_check.specs.Nodes.{nodes_of};
+ghost use Rattle.cert_text.specs.Grammar.{CertText};
+ghost use Rattle.viz_replies.specs.Lines.{numbered};
+ghost use Rattle.viz_replies.specs.Replies.{IsReplyAbout, boxes_text, violation_text, open_line, reject_line};
+ghost use Rattle.viz_replies.specs.steps.Answers.{IsVerdictReply, IsPrintable, IsOutcomeReply, IsProveReply, IsVerdictOn};
+ghost use Rattle.viz_replies.specs.declared.question.Question.{Question};
+
+use crate::certs::{CertRead, certificate_in};
+use crate::lines::{numbered_line, push_blamed, push_line};
+use crate::question::Question;
+use crate::reply::{Answer, Reply, line};
+use cert_check::{Reject, Verdict, check};
+use cert_text::{Cert, write_cert};
+use lay_flow::render_at;
+use lay_print::print;
+use prove_search::{Outcome, prove};
+use std::alloc::{AllocError, Global};
+use vis_truth::blame;
+use viz_base::{Job, Mem, Rect, World};
+
+/// What `lay` replies for a job.
+fn laid(alloc: Global, job: &Job, world: World) -> Result<Reply, Mem>
+    requires ready { IsTrue (is_ready job.now.tree) }
+    requires narrow { world.w ≤ 16384 }
+    ensures { IfOk result (λ r. (r.answer ≡ Answer.Done) × (r.output.items ≡ boxes_text job.now world)) }
+{
+    let rendering = render_at(alloc, world, &job.tree, job.height)?;
+    Ok(Reply {
+        answer: Answer::Done,
+        output: print(alloc, &rendering)?,
+    })
+}
+
+/// The lines of a violation: its world, whom the formula blames, and the boxes.
+fn violation_lines(
+    alloc: Global,
+    world: World,
+    blamed: &[u32],
+    boxes: &[u8],
+) -> Result<Vec<u8>, AllocError>
+    ensures { IfOk result (λ out. out.items ≡ numbered (codes "violated") (world.w ∷ world.s ∷ [])
+        ++ (flat_map (λ place. numbered (codes "blame") (place ∷ [])) blamed.now ++ boxes.now)) }
+{
+    let mut out = Vec::new(alloc);
+    push_line(
+        &mut out,
+        b"violated",
+        &[u64::from(world.w), u64::from(world.s)],
+    )?;
+    push_blamed(&mut out, blamed)?;
+    out.extend_from_slice(boxes)?;
+    Ok(out)
+}
+
+/// A world at which the formula is false.
+fn violation(alloc: Global, job: &Job, world: World) -> Result<Reply, Mem>
+    requires ready { IsTrue (is_ready job.now.tree) }
+    requires narrow { world.w ≤ 16384 }
+    ensures { IfOk result (λ r. (r.answer ≡ Answer.Violated) × (r.output.items ≡ violation_text job.now world)) }
+{
+    let rendering = render_at(alloc, world, &job.tree, job.height)?;
+    if u32::try_from(rendering.boxes.len()).is_err() {
+        return Err(Mem);
+    }
+    let blamed = blame(alloc, &job.formula, &rendering, &world, job.height)?;
+    let boxes = print(alloc, &rendering)?;
+    Ok(Reply {
+        answer: Answer::Violated,
+        output: violation_lines(alloc, world, blamed.as_slice(), boxes.as_slice())?,
+    })
+}
+
+/// A part of the range that is open yet.
+fn left_open(alloc: Global, part: Rect) -> Result<Reply, Mem>
+    ensures { IfOk result (λ r. (r.answer ≡ Answer.Undecided) × (r.output.items ≡ open_line part)) }
+{
+    numbered_line(
+        alloc,
+        Answer::Undecided,
+        b"undecided",
+        &[
+            u64::from(part.wl),
+            u64::from(part.wh),
+            u64::from(part.sl),
+            u64::from(part.sh),
+        ],
+    )
+}
+
+/// A certificate's text.
+fn certified(alloc: Global, cert: &Cert) -> Result<Reply, Mem>
+    requires { (text : List ℕ) × CertText cert.now text }
+    ensures { IfOk result (λ r. (r.answer ≡ Answer.Done) × CertText cert.now r.output.items) }
+{
+    Ok(Reply {
+        answer: Answer::Done,
+        output: write_cert(alloc, cert)?,
+    })
+}
+
+/// What is replied of a search.
+fn outcome_reply(alloc: Global, job: &Job, outcome: &Outcome) -> Result<Reply, Mem>
+    requires ready { IsTrue (is_ready job.now.tree) }
+    requires printable { IsPrintable outcome.now }
+    ensures { IfOk result (λ r. IsOutcomeReply job.now outcome.now r.answer r.output.items) }
+{
+    match outcome {
+        Outcome::Proved(cert) => certified(alloc, cert),
+        Outcome::Violated(world) => violation(alloc, job, *world),
+        Outcome::Undecided(part) => left_open(alloc, *part),
+    }
+}
+
+/// What `prove` replies for a job.
+fn searched(alloc: Global, job: &Job, turns: u64) -> Result<Reply, Mem>
+    requires ready { IsTrue (is_ready job.now.tree) }
+    ensures { IfOk result (λ r. IsProveReply job.now turns r.answer r.output.items) }
+{
+    let outcome = prove(alloc, job, turns)?;
+    outcome_reply(alloc, job, &outcome)
+}
+
+/// The line for a certificate that is wrong.
+fn rejection(alloc: Global, reject: &Reject) -> Result<Reply, Mem>
+    ensures { IfOk result (λ r. (r.answer ≡ Answer.CertRefused) × (r.output.items ≡ reject_line reject.now)) }
+{
+    match reject {
+        Reject::OtherJob => line(alloc, Answer::CertRefused, b"rejected other-job\n"),
+        Reject::Shape(node) => numbered_line(
+            alloc,
+            Answer::CertRefused,
+            b"rejected shape",
+            &[u64::from(*node)],
+        ),
+        Reject::Untrue(node, world) => numbered_line(
+            alloc,
+            Answer::CertRefused,
+            b"rejected untrue",
+            &[u64::from(*node), u64::from(world.w), u64::from(world.s)],
+        ),
+    }
+}
+
+/// What is replied of a verdict.
+fn verdict_reply(alloc: Global, verdict: &Verdict) -> Result<Reply, Mem>
+    ensures { IfOk result (λ r. IsVerdictReply verdict.now r.answer r.output.items) }
+{
+    match verdict {
+        Verdict::Accepted => line(alloc, Answer::Done, b"accepted\n"),
+        Verdict::Rejected(reject) => rejection(alloc, reject),
+    }
+}
+
+/// What `check` replies for a certificate that was read.
+fn judged(alloc: Global, job: &Job, cert: &Cert) -> Result<Reply, Mem>
+    requires ready { IsTrue (is_ready job.now.tree) }
+    requires few { length (nodes_of cert.now) < 2 ^ 32 }
+    ensures { IfOk result (λ r. IsVerdictOn job.now cert.now r.answer r.output.items) }
+{
+    let verdict = check(alloc, job, cert)?;
+    verdict_reply(alloc, &verdict)
+}
+
+/// What `check` replies for a job and the bytes of a certificate file.
+fn checked(alloc: Global, job: &Job, bytes: &[u8]) -> Result<Reply, Mem>
+    requires { IsTrue (is_ready job.now.tree) }
+    ensures { IfOk result (λ r. IsReplyAbout job.now (Question.Check bytes.now) r.answer r.output.items) }
+{
+    match certificate_in(alloc, bytes)? {
+        CertRead::Read(cert) => judged(alloc, job, &cert),
+        CertRead::Refused(reply) => Ok(reply),
+    }
+}
+
+/// What is replied to a question about a job.
+pub fn reply_about(alloc: Global, job: &Job, question: &Question) -> Result<Reply, Mem>
+    requires { IsTrue (is_ready job.now.tree) }
+    ensures { IfOk result (λ r. IsReplyAbout job.now question.now r.answer r.output.items) }
+{
+    match question {
+        Question::Lay(screen) => laid(alloc, job, screen.world),
+        Question::Prove(turns) => searched(alloc, job, *turns),
+        Question::Check(cert) => checked(alloc, job, cert.as_slice()),
+    }
+}

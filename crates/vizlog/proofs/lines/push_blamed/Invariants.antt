@@ -1,7 +1,0 @@
-use Rattle.std.proofs.Common.{◌≡◌, ◌++◌, ◌∷◌, [], codes, take}
-use Rattle.std.specs.List.{flat_map}
-use Rattle.vizlog.specs.Lines.{numbered}
-use Rattle.vizlog.proofs.lines.push_blamed.Given as goal
-
-abbrev pub invariant-loop-place : goal.invariant-loop-place
-invariant-loop-place l = l.out.items ≡ l.initial.out.items ++ flat_map (λ place. numbered (codes "blame") (place ∷ [])) (take l.place-index l.places)
