@@ -40,14 +40,21 @@ fn count_of(text: &str) -> usize
     text.chars().count()
 }
 
+/// The characters of a text node.
+fn text_of(body: &Body) -> &str
+    ensures { result.now ≡ text_of body.now }
+{
+    match body {
+        Body::Element(_) => "",
+        Body::Chars(text) => text.as_str(),
+    }
+}
+
 /// Whether the text is short enough.
 fn is_short(body: &Body) -> bool
     ensures { IsTrue result → length (chars (text_of body.now)) ≤ 262144 }
 {
-    match body {
-        Body::Element(_) => true,
-        Body::Chars(text) => count_of(text.as_str()) <= 262_144,
-    }
+    count_of(text_of(body)) <= 262_144
 }
 
 /// Whether the name is in ASCII lower case.
