@@ -4,7 +4,7 @@
     tools/cases.py FOLDER
 
 FOLDER has files of JSON Lines, each named after a call: decimals, tokens, sheets, declarations, selectors, matches, values, cascade and
-truths. What is called goes to crates/cases/stdin and what it must give to crates/cases/stdout, a line of JSON each. A page goes flat: its
+truths. Long cases come behind these. What is called goes to crates/cases/stdin and what it must give to crates/cases/stdout, a line of JSON each. A page goes flat: its
 nodes in document order, each with its parent's place; a formula as steps, each part before what it is a part of.
 """
 import json
@@ -234,6 +234,31 @@ def truths(case):
     return given, case["truth"]
 
 
+# ---- long cases, whose answers can be told without a reader
+
+def long_cases():
+    """What is called and what it must give, past the places and counts at which a narrow number would end."""
+    yield ["tokens", "a" * 70000], [["Ident", 0, 70000, "a" * 70000]]
+    rules = 8192
+    yield ["sheets", "p{}" * rules], [[3 * at, 1, []] for at in range(rules)]
+    yield ["sheets", "p{}" * (rules + 1)], "TooManyRules"
+    yield ["declarations", "/*" + "x" * 70000 + "*/a:b"], [["a", 70006, 1, False]]
+    yield ["selectors", "p" + ".a" * 300], [[[["First", "p", [["Class", "a"]] * 300]], [0, 0, 300, 1]]]
+    yield ["selectors", "a" * 70000 + "&"], "Bad 70000"
+    page = [[None, "html", [], None], [0, "body", [], None]] + [[1, "p", [["class", "a"]], None] for _ in range(1000)]
+    yield ["matches", page, ["p.a:first-child,body", "p+p"]], [[1, 2], list(range(3, 1002))]
+    block = ["Display", ["Word", 1]]
+    margins = [[side, ["Px", 64]] for side in ("MarginTop", "MarginRight", "MarginBottom", "MarginLeft")]
+    body = [[1] + setting for setting in [block] + [[side, ["Px", 0]] for side, _ in margins]]
+    paragraphs = [[node] + setting for node in range(2, 1002) for setting in [block] + margins]
+    yield ["cascade", page, ["body{margin:0}p{margin:0}", "p{unknown:1;width:-1px}&{}.a{margin:1px}"]], [[0] + block] + body + paragraphs
+    names = [f"n{at}" for at in range(70)]
+    yield ["values", "font-family", ",".join(names)], [["FontFamily", ["Names", names]]]
+    box = ["Block", 0] + [0, 0, 64, 64] * 4
+    steps = [["Cmp", [[1, ["Name", 0, "Border", "Right"]]] * 70, "Le", [[1, ["One"]]] * 4480], ["Forall", ["Of", "Block"]]]
+    yield ["truths", [[None, "html", [], None]], steps, 320, 16, 600, [box] * 300], True
+
+
 CALLS = [decimals, tokens, sheets, declarations, selectors, matches, values, cascade, truths]
 
 
@@ -247,6 +272,9 @@ def main():
                 arguments, answer = call(json.loads(line))
                 given.write(compact([call.__name__] + arguments) + "\n")
                 wanted.write(compact(answer) + "\n")
+        for called, answer in long_cases():
+            given.write(compact(called) + "\n")
+            wanted.write(compact(answer) + "\n")
 
 
 main()
