@@ -57,22 +57,27 @@ pub fn boxes_stand_in_the_order_of_their_nodes(
     second: usize,
 )
     requires order { first < second }
-    ensures { (a b : BoxNode) → slice_get (page_boxes page.now.nodes styles.now) first ≡ Some a → slice_get (page_boxes page.now.nodes styles.now) second ≡ Some b
+    ensures { (a b : BoxNode) → slice_get (page_boxes page.now.nodes styles.now) first ≡ Some a
+        → slice_get (page_boxes page.now.nodes styles.now) second ≡ Some b
         → is_anon a.kind ≡ false → is_anon b.kind ≡ false → a.node < b.node }
 {}
 
 /// A hidden node has no box, and neither has what is in it (CSS 2.1, 9.2.4).
 pub fn no_hidden_node_has_a_box(page: &Page, styles: &List<Style>, at: usize)
-    ensures own { (b : BoxNode) → slice_get (page_boxes page.now.nodes styles.now) at ≡ Some b → is_hidden styles.now b.node ≡ false }
-    ensures above { (b : BoxNode) (above : ℕ) → slice_get (page_boxes page.now.nodes styles.now) at ≡ Some b → Contains (ancestors page.now.nodes b.node) above → is_hidden styles.now above ≡ false }
+    ensures own { (b : BoxNode) → slice_get (page_boxes page.now.nodes styles.now) at ≡ Some b
+        → is_hidden styles.now b.node ≡ false }
+    ensures above { (b : BoxNode) (above : ℕ) → slice_get (page_boxes page.now.nodes styles.now) at ≡ Some b
+        → Contains (ancestors page.now.nodes b.node) above → is_hidden styles.now above ≡ false }
 {}
 
 /// The content of a replaced element and of a `br` has no box.
 pub fn no_content_of_a_replaced_element_has_a_box(page: &Page, styles: &List<Style>, at: usize)
-    ensures { (b : BoxNode) (above : ℕ) → slice_get (page_boxes page.now.nodes styles.now) at ≡ Some b → Contains (ancestors page.now.nodes b.node) above → node_passes is_closed page.now.nodes above ≡ false }
+    ensures { (b : BoxNode) (above : ℕ) → slice_get (page_boxes page.now.nodes styles.now) at ≡ Some b
+        → Contains (ancestors page.now.nodes b.node) above → node_passes is_closed page.now.nodes above ≡ false }
 {}
 
-/// An element that is shown has a box: neither it nor what it is in is hidden, and it is in no replaced element and no `br`.
+/// An element that is shown has a box: neither it nor what it is in is hidden, and it is in no replaced element and
+/// no `br`.
 pub fn each_shown_element_has_a_box(page: &Page, styles: &List<Style>, node: usize)
     requires element { IsTrue (is_element_at page.now.nodes node) }
     requires styled { node < length styles.now }
@@ -82,23 +87,27 @@ pub fn each_shown_element_has_a_box(page: &Page, styles: &List<Style>, node: usi
 
 /// A text box has characters.
 pub fn no_text_box_is_empty(page: &Page, styles: &List<Style>, at: usize)
-    ensures { (b : BoxNode) → slice_get (page_boxes page.now.nodes styles.now) at ≡ Some b → IsTrue (is_chars b.kind) → b.chars ≢ [] }
+    ensures { (b : BoxNode) → slice_get (page_boxes page.now.nodes styles.now) at ≡ Some b
+        → IsTrue (is_chars b.kind) → b.chars ≢ [] }
 {}
 
 /// A box has an intrinsic size exactly where it is replaced (CSS 2.1, 3.1).
 pub fn replaced_boxes_alone_have_a_size(page: &Page, styles: &List<Style>, at: usize)
-    ensures { (b : BoxNode) → slice_get (page_boxes page.now.nodes styles.now) at ≡ Some b → is_some b.size ≡ is_replaced b.kind }
+    ensures { (b : BoxNode) → slice_get (page_boxes page.now.nodes styles.now) at ≡ Some b
+        → is_some b.size ≡ is_replaced b.kind }
 {}
 
 /// Text boxes, forced line breaks and replaced boxes hold no boxes.
 pub fn leaves_hold_no_box(page: &Page, styles: &List<Style>, at: usize)
-    ensures { (b : BoxNode) → slice_get (page_boxes page.now.nodes styles.now) at ≡ Some b → IsTrue (is_leaf b.kind) → b.kids ≡ [] }
+    ensures { (b : BoxNode) → slice_get (page_boxes page.now.nodes styles.now) at ≡ Some b → IsTrue (is_leaf b.kind)
+        → b.kids ≡ [] }
 {}
 
 /// An anonymous block box holds an inline-level box: floats alone get none (CSS 2.1, 9.2.1.1).
 pub fn an_anonymous_block_holds_an_inline_level_box(page: &Page, styles: &List<Style>, at: usize)
     ensures { (b : BoxNode) → slice_get (page_boxes page.now.nodes styles.now) at ≡ Some b → is_anon b.kind ≡ true
-        → (k : ℕ) × (c : BoxNode) × Contains b.kids k × (slice_get (page_boxes page.now.nodes styles.now) k ≡ Some c) × (is_inline_level c ≡ true) }
+        → (k : ℕ) × (c : BoxNode) × Contains b.kids k
+        × (slice_get (page_boxes page.now.nodes styles.now) k ≡ Some c) × (is_inline_level c ≡ true) }
 {}
 
 /// Anonymous block boxes hold whole runs: between two of them in one box stands a block-level box in normal flow
@@ -111,9 +120,13 @@ pub fn a_block_stands_between_two_anonymous_blocks(
     second: usize,
 )
     requires { first < second }
-    ensures { (b c d : BoxNode) → slice_get (page_boxes page.now.nodes styles.now) at ≡ Some b → Contains b.kids first → Contains b.kids second
-        → slice_get (page_boxes page.now.nodes styles.now) first ≡ Some c → slice_get (page_boxes page.now.nodes styles.now) second ≡ Some d → is_anon c.kind ≡ true → is_anon d.kind ≡ true
-        → IsBlockBetween (tree_styles page.now.nodes styles.now) (page_boxes page.now.nodes styles.now) b.kids first second }
+    ensures { (b c d : BoxNode) → slice_get (page_boxes page.now.nodes styles.now) at ≡ Some b
+        → Contains b.kids first → Contains b.kids second
+        → slice_get (page_boxes page.now.nodes styles.now) first ≡ Some c
+        → slice_get (page_boxes page.now.nodes styles.now) second ≡ Some d → is_anon c.kind ≡ true
+        → is_anon d.kind ≡ true
+        → IsBlockBetween (tree_styles page.now.nodes styles.now)
+        (page_boxes page.now.nodes styles.now) b.kids first second }
 {}
 
 /// Where no block-level box in normal flow is in an inline box, the boxes of a page and its styles are a box tree: each
@@ -124,7 +137,8 @@ pub fn the_boxes_of_a_page_are_a_tree(page: &Page, styles: &List<Style>, fonts: 
     ensures { IsBoxTree (page_boxes page.now.nodes styles.now) (tree_styles page.now.nodes styles.now) fonts.now (tree_parents page.now.nodes) }
 {}
 
-/// The overflow of the first `body` in an `html` whose own is visible goes to the viewport, and its box does not clip (CSS 2.1, 11.1.1).
+/// The overflow of the first `body` in an `html` whose own is visible goes to the viewport, and its box does not clip
+/// (CSS 2.1, 11.1.1).
 pub fn the_overflow_of_body_goes_to_the_viewport(page: &Page, styles: &List<Style>, at: usize)
     requires html { IsTrue (node_passes (has_tag (codes "html")) page.now.nodes 0) }
     requires visible { clips_at styles.now 0 ≡ false }
@@ -132,7 +146,8 @@ pub fn the_overflow_of_body_goes_to_the_viewport(page: &Page, styles: &List<Styl
     ensures { clips_at (tree_styles page.now.nodes styles.now) at ≡ false }
 {}
 
-/// Where the root's own overflow is not visible, that goes to the viewport, and each other element clips as its style says (CSS 2.1, 11.1.1).
+/// Where the root's own overflow is not visible, that goes to the viewport, and each other element clips as its style
+/// says (CSS 2.1, 11.1.1).
 pub fn the_overflow_of_html_goes_before_that_of_body(page: &Page, styles: &List<Style>, at: usize)
     requires element { IsTrue (is_element_at page.now.nodes at) }
     requires clips { clips_at styles.now 0 ≡ true }

@@ -14,12 +14,15 @@ ghost use Rattle.layout_laws.specs.Clearance.{IsLowestBottom};
 /// What `clear` looks at: the lowest outer bottom of the floats that it names, and nothing exactly where there is none
 /// (CSS 2.1, 9.5.2).
 pub fn clear_looks_at_the_lowest_bottom()
-    ensures { (clear : Clear) (floats : List FloatBox) → MatchOption (lowest_bottom clear floats) ((f : FloatBox) → Contains floats f → is_relevant clear f ≡ false) (IsLowestBottom clear floats) }
+    ensures { (clear : Clear) (floats : List FloatBox)
+        → MatchOption (lowest_bottom clear floats)
+        ((f : FloatBox) → Contains floats f → is_relevant clear f ≡ false) (IsLowestBottom clear floats) }
 {}
 
 /// A box that is cleared stands below each earlier float that its `clear` names (CSS 2.1, 9.5.2).
 pub fn a_cleared_box_stands_below_the_floats()
-    ensures { (tree : Tree) (w : World) (height : ℕ) (size : Waiting ℤ → Extent ℤ) (edge : List ℤ → ℤ) (cb : Band ℤ) (floats : List FloatBox) (least : Option ℤ) (b : ℕ) (passed : ℕ → Bool) (d : ℕ) (y : ℤ)
+    ensures { (tree : Tree) (w : World) (height : ℕ) (size : Waiting ℤ → Extent ℤ) (edge : List ℤ → ℤ) (cb : Band ℤ)
+        (floats : List FloatBox) (least : Option ℤ) (b : ℕ) (passed : ℕ → Bool) (d : ℕ) (y : ℤ)
         → (resolve tree w height size edge cb floats least b passed).cleared ≡ Some (d, y)
         → (f : FloatBox) → Contains floats f → IsTrue (is_relevant (clear_of tree d) f) → f.box.bottom ≤ℤ y }
 {}

@@ -20,8 +20,8 @@ ghost use Rattle.layout_laws.specs.Nested.{box_items, preferred_by_inside, conta
 
 use viz_base::{BoxTree, World};
 
-/// Inline content is that of the boxes in a box, one after another; an inline box has its own between its start and its end
-/// (CSS 2.1, 9.4.2).
+/// Inline content is that of the boxes in a box, one after another; an inline box has its own between its start and
+/// its end (CSS 2.1, 9.4.2).
 pub fn inline_content_box_by_box(tree: &BoxTree, at: usize)
     ensures { content tree.now at ≡ flat_map (box_items tree.now) (kids_of tree.now.boxes at) }
 {}
@@ -32,14 +32,15 @@ pub fn preferred_widths_come_from_inside(tree: &BoxTree, world: World, at: usize
     ensures { preferred tree.now world at ≡ preferred_by_inside tree.now world at }
 {}
 
-/// The box whose height percentages are of is the parent, but an inline box and an anonymous block are passed over (CSS 2.1, 9.2.1.1, 10.5).
+/// The box whose height percentages are of is the parent, but an inline box and an anonymous block are passed over
+/// (CSS 2.1, 9.2.1.1, 10.5).
 pub fn percentages_of_heights_are_of_the_container(tree: &BoxTree, at: usize)
     requires on_page { IsOnPage tree.now.boxes at }
     ensures { percentage_container tree.now at ≡ container_by_parent tree.now at }
 {}
 
-/// A definite height is the container's own, where that is one, in turn by the definite height around it; the viewport's is definite
-/// (CSS 2.1, 10.5).
+/// A definite height is the container's own, where that is one, in turn by the definite height around it; the
+/// viewport's is definite (CSS 2.1, 10.5).
 pub fn a_definite_height_is_the_containers(tree: &BoxTree, world: World, height: u32, at: usize)
     requires on_page { IsOnPage tree.now.boxes at }
     ensures { definite_height tree.now world height at ≡ definite_height_by_container tree.now world height at }
@@ -47,10 +48,12 @@ pub fn a_definite_height_is_the_containers(tree: &BoxTree, world: World, height:
 
 /// A box of a line is raised by its own `vertical-align` and as the inline box around it is (CSS 2.1, 10.8.1).
 pub fn raises_add_up()
-    ensures { (c : InlineContext) (at : ℕ) (e : LineExtent) → IsOnPage c.tree.boxes at → shift c at e ≡ shift_by_parent c at e }
+    ensures { (c : InlineContext) (at : ℕ) (e : LineExtent) → IsOnPage c.tree.boxes at
+        → shift c at e ≡ shift_by_parent c at e }
 {}
 
-/// The containing block of a box in another is as wide as the content of that one, an inline box being none (CSS 2.1, 10.1).
+/// The containing block of a box in another is as wide as the content of that one, an inline box being none (CSS 2.1,
+/// 10.1).
 pub fn the_room_of_a_box_is_its_containers_content(
     tree: &BoxTree,
     world: World,
@@ -63,7 +66,8 @@ pub fn the_room_of_a_box_is_its_containers_content(
     ensures { room tree.now world height kid ≡ room_inside tree.now world height at (room tree.now world height at) }
 {}
 
-/// The band that the flow of a box gives those in it is as wide as their containing block, where its own is (CSS 2.1, 9.4.1, 10.1).
+/// The band that the flow of a box gives those in it is as wide as their containing block, where its own is (CSS 2.1,
+/// 9.4.1, 10.1).
 pub fn a_band_is_as_wide_as_the_containing_block(
     tree: &BoxTree,
     world: World,
@@ -74,7 +78,8 @@ pub fn a_band_is_as_wide_as_the_containing_block(
     requires on_page { IsOnPage tree.now.boxes at }
     requires inside { Contains (kids_of tree.now.boxes at) kid }
     requires container { is_inline (kind_of tree.now at) ≡ false }
-    ensures { (cb : Band ℤ) → across cb ≡ room tree.now world height at → across (content_band tree.now world height cb at) ≡ room tree.now world height kid }
+    ensures { (cb : Band ℤ) → across cb ≡ room tree.now world height at
+        → across (content_band tree.now world height cb at) ≡ room tree.now world height kid }
 {}
 
 /// The lead of a box, from those of the boxes in it: more levels would change nothing (CSS 2.1, 8.3.1).
@@ -84,8 +89,8 @@ pub fn a_lead_comes_from_inside(tree: &BoxTree, world: World, height: u32, at: u
         ≡ lead_step tree.now world height (lead tree.now world height passed) passed cb at }
 {}
 
-/// Where a box stands: a box of its lead that has `clear` and is not cleared is passed, and the lead goes on, as often as there is one
-/// (CSS 2.1, 9.5.2).
+/// Where a box stands: a box of its lead that has `clear` and is not cleared is passed, and the lead goes on, as
+/// often as there is one (CSS 2.1, 9.5.2).
 pub fn a_lead_goes_on_through_what_is_not_cleared(
     tree: &BoxTree,
     world: World,
@@ -93,10 +98,12 @@ pub fn a_lead_goes_on_through_what_is_not_cleared(
     at: usize,
 )
     requires within { at < length tree.now.boxes }
-    ensures { (size : Waiting ℤ → Extent ℤ) (edge : List ℤ → ℤ) (cb : Band ℤ) (floats : List FloatBox) (least : Option ℤ) (passed : ℕ → Bool)
+    ensures { (size : Waiting ℤ → Extent ℤ) (edge : List ℤ → ℤ) (cb : Band ℤ) (floats : List FloatBox)
+        (least : Option ℤ) (passed : ℕ → Bool)
         → resolve tree.now world height size edge cb floats least at passed
         ≡ resolve_step tree.now world height size edge cb floats least at
-        (λ d. resolve tree.now world height size edge cb floats least at (is_up_to d)) (lead tree.now world height passed cb at) }
+        (λ d. resolve tree.now world height size edge cb floats least at (is_up_to d))
+        (lead tree.now world height passed cb at) }
 {}
 
 /// The flow of what is in a box, by that of what is in later boxes: more levels would change nothing (CSS 2.1, 9.4).
@@ -109,5 +116,8 @@ pub fn a_flow_comes_from_inside(tree: &BoxTree, world: World, height: u32, at: u
 /// Lines follow one another until no stretch is left.
 pub fn lines_go_on_to_the_last_stretch()
     ensures done { (c : InlineContext) (now : SoFar) → lines_of c now [] ≡ now }
-    ensures next { (c : InlineContext) (now : SoFar) (first : List Item) (parts : List (List Item)) → lines_of c now (first ∷ parts) ≡ lines_of c (after_next c (tallest c) now first (first ∷ parts)).0 (after_next c (tallest c) now first (first ∷ parts)).1 }
+    ensures next { (c : InlineContext) (now : SoFar) (first : List Item) (parts : List (List Item))
+        → lines_of c now (first ∷ parts)
+        ≡ lines_of c (after_next c (tallest c) now first (first ∷ parts)).0
+        (after_next c (tallest c) now first (first ∷ parts)).1 }
 {}
