@@ -45,7 +45,7 @@ most-any : (P : Widths ℤ → Type 0) (terms : Option ℤ → Widths ℤ) (most
 most-any P terms None t all one = one
 most-any P terms (Some most) t all one = again-any P (int_le t.content most) terms most t all one
 
-held-any : (P : Widths ℤ → Type 0) (terms : Option ℤ → Widths ℤ) (most : Option ℤ) (least : ℤ) (o : Option ℤ) → ((o : Option ℤ) → P (terms o)) → P (at_least terms least (at_most terms most (terms o)))
+pub held-any : (P : Widths ℤ → Type 0) (terms : Option ℤ → Widths ℤ) (most : Option ℤ) (least : ℤ) (o : Option ℤ) → ((o : Option ℤ) → P (terms o)) → P (at_least terms least (at_most terms most (terms o)))
 held-any P terms most least o all = again-any P (int_le least (at_most terms most (terms o)).content) terms least (at_most terms most (terms o)) all (most-any P terms most (terms o) all (all o))
 
 pub block-sum : (tree : BoxTree) (w : World) (viewport at : ℕ) (cb : ℤ) → IsInFlowBlock tree at → sum_of (widths tree w viewport at cb) ≡ cb

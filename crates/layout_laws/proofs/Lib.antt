@@ -60,3 +60,4 @@ pub mod WholeItems
 pub mod WholeFloats
 pub mod WholeLines
 pub mod WholePage
+pub mod EdgeLaws

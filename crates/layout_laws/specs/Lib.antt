@@ -18,3 +18,4 @@ pub mod Nested
 pub mod Clearance
 pub mod PlacedFloats
 pub mod Heights
+pub mod Edges

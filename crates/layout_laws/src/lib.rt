@@ -4,14 +4,17 @@
 pub mod boxes;
 pub mod clearance;
 pub mod contexts;
+pub mod edges;
 pub mod floats;
 pub mod flow;
 pub mod fonts;
 pub mod heights;
 pub mod lines;
 pub mod margins;
+pub mod minima;
 pub mod reaches;
 pub mod recursions;
+pub mod sides;
 pub mod spaces;
 pub mod stretches;
 pub mod widths;
