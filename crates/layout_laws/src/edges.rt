@@ -15,13 +15,14 @@ ghost use Rattle.layout_laws.specs.Terms.{IsInFlowBlock};
 
 use viz_base::{BoxTree, World};
 
-/// The border rectangle of a box is its margin rectangle without the strips of its margins, and so on to the content rectangle, which is as
-/// wide and as high as the content (CSS 2.1, 8.1).
+/// The border rectangle of a box is its margin rectangle without the strips of its margins, and so on to the content
+/// rectangle, which is as wide and as high as the content (CSS 2.1, 8.1).
 pub fn rectangles_are_apart_by_the_edges()
     ensures { (tree : Tree) (b : ℕ) (f : Frame) (height : ℤ) → HasEdges f.x f.v height (placed_box tree b f height) }
 {}
 
-/// Two automatic margins of a block in normal flow are equally wide where there is room for them, but for 1/64 px (CSS 2.1, 10.3.3).
+/// Two automatic margins of a block in normal flow are equally wide where there is room for them, but for 1/64 px
+/// (CSS 2.1, 10.3.3).
 pub fn automatic_margins_are_equal(tree: &BoxTree, world: World, height: u32, at: usize)
     requires block { IsInFlowBlock tree.now at }
     requires left { (margins tree.now at).left ≡ of_length.Auto }
@@ -29,7 +30,8 @@ pub fn automatic_margins_are_equal(tree: &BoxTree, world: World, height: u32, at
     ensures no_wider { (cb : ℤ) → pos 0 ≤ℤ (widths tree.now world height at cb).margin_right
         → (widths tree.now world height at cb).margin_left ≤ℤ (widths tree.now world height at cb).margin_right }
     ensures no_narrower { (cb : ℤ) → pos 0 ≤ℤ (widths tree.now world height at cb).margin_right
-        → (widths tree.now world height at cb).margin_right ≤ℤ ((widths tree.now world height at cb).margin_left +ℤ pos 1) }
+        → (widths tree.now world height at cb).margin_right ≤ℤ
+        ((widths tree.now world height at cb).margin_left +ℤ pos 1) }
 {}
 
 /// A border or a padding above the content of a box parts its top margin from those in it (CSS 2.1, 8.3.1).

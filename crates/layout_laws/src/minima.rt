@@ -12,7 +12,8 @@ pub fn a_box_is_no_lower_than_its_minimum(tree: &BoxTree, world: World, height: 
     ensures { (auto : ℤ) → used_minimum tree.now world height at ≤ℤ content_height tree.now world height at auto }
 {}
 
-/// A minimum height that is not zero keeps the margins of a box apart, and its bottom margin from that of its last child (CSS 2.1, 8.3.1).
+/// A minimum height that is not zero keeps the margins of a box apart, and its bottom margin from that of its last
+/// child (CSS 2.1, 8.3.1).
 pub fn a_minimum_parts_margins(tree: &BoxTree, at: usize)
     requires minimum { (c : ℤ) × (c ≢ pos 0) × (least_height tree.now at ≡ of_length.Px c) }
     ensures through { may_collapse_through tree.now at ≡ false }
