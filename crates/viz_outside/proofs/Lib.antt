@@ -1,3 +1,4 @@
 pub mod CallLemmas
 pub mod FaultLemmas
 pub mod SinkLemmas
+pub mod ByteLemmas

@@ -1,5 +1,7 @@
-ghost use Rattle.std.specs.Prelude.{◌≡◌, ◌≤◌, IfOk, None, false, length};
-ghost use Rattle.viz_outside.specs.Shelf.{bytes_of};
+ghost use Rattle.std.specs.Prelude.{◌≡◌, ◌≤◌, IfOk, IfSome, None, false, length};
+ghost use Rattle.std.specs.IoError.{error_kind};
+ghost use Rattle.viz_outside.specs.declared.shelf.ShelfFault.TheVariants.{Mem};
+ghost use Rattle.viz_outside.specs.Shelf.{bytes_of, loaded_of};
 
 use crate::{Loaded, Shelf, ShelfFault};
 use std::alloc::Global;
@@ -8,8 +10,6 @@ use std::io::{self, ErrorKind, Read};
 use std::marker::Model;
 use std::rt::Files;
 use viz_base::List;
-
-const CHUNK: usize = 4096;
 
 /// The files of the system, by their paths. What they hold is told by no contract, and none is sure to load.
 /// Contracts see the count of its faults.
@@ -36,61 +36,49 @@ impl<R> FileShelf<R> {
     }
 }
 
-// One read that goes on after an interruption.
-fn read_some<F: Read>(file: &mut F, buffer: &mut [u8]) -> io::Result<usize>
-    ensures { IfOk result (λ n. n ≤ length buffer.new) }
+// Want of memory is no fault of the files, and nothing else is want of memory.
+fn fault_of(error: &io::Error) -> ShelfFault
+    ensures { result ≡ Mem → error_kind error.now ≡ ErrorKind.OutOfMemory }
 {
-    for _ in 0..u64::MAX {
-        match file.read(buffer) {
-            Err(error) if error.kind() == ErrorKind::Interrupted => {}
-            answer => return answer,
-        }
-    }
-    Err(ErrorKind::Interrupted.into())
-}
-
-// Want of memory is no fault of the files.
-fn fault_of(error: &io::Error) -> ShelfFault {
-    if error.kind() == ErrorKind::OutOfMemory {
-        ShelfFault::Mem
-    } else {
-        ShelfFault::Failed
+    match error.kind() {
+        ErrorKind::OutOfMemory => ShelfFault::Mem,
+        _ => ShelfFault::Failed,
     }
 }
 
-// Reads to the end, or one byte past `cap`, which shows that there are more.
-pub(crate) fn read_within<F: Read>(
+// What is left of a reader's bytes, where they are at most `cap`. One byte more shows that there are more.
+pub(crate) fn read_within<F: Read + Drop>(
     alloc: Global,
-    file: &mut F,
+    file: F,
     cap: usize,
 ) -> Result<Loaded, ShelfFault>
-    ensures { IfOk result (λ loaded. length (bytes_of loaded) ≤ cap) }
+    ensures capped { IfOk result (λ loaded. length (bytes_of loaded) ≤ cap) }
+    ensures told { IfOk result (λ loaded. IfSome (F.remaining file) (λ held. loaded ≡ loaded_of cap held)) }
 {
     let mut bytes = Vec::new(alloc);
-    let mut buffer = [0u8; CHUNK];
-    for _ in 0..u64::MAX {
-        let left = cap - bytes.len();
-        let want = left.saturating_add(1).min(CHUNK);
-        let got = match read_some(file, &mut buffer[..want]) {
-            Ok(got) => got,
-            Err(error) => return Err(fault_of(&error)),
-        };
-        if got == 0 {
-            return Ok(Loaded::Whole(List::from(bytes)));
-        }
-        if got > left {
-            return Ok(Loaded::Longer);
-        }
-        bytes.extend_from_slice(&buffer[..got])?;
+    let mut front = file.take((cap as u64).saturating_add(1));
+    match front.read_to_end(&mut bytes) {
+        Ok(_) => Ok(within(bytes, cap)),
+        Err(error) => Err(fault_of(&error)),
     }
-    Err(ShelfFault::Failed)
+}
+
+// The bytes, where they are at most `cap`.
+fn within(bytes: Vec<u8>, cap: usize) -> Loaded
+    ensures { result ≡ loaded_of cap bytes.items }
+{
+    if bytes.len() <= cap {
+        Loaded::Whole(List::from(bytes))
+    } else {
+        Loaded::Longer
+    }
 }
 
 fn read_file<R: Files + AllocGlobal>(rt: &R, name: &str, cap: usize) -> Result<Loaded, ShelfFault>
     ensures { IfOk result (λ loaded. length (bytes_of loaded) ≤ cap) }
 {
     match fs::open(rt, name) {
-        Ok(mut file) => read_within(rt.alloc(), &mut file, cap),
+        Ok(file) => read_within(rt.alloc(), file, cap),
         Err(error) => Err(fault_of(&error)),
     }
 }

@@ -1,7 +1,8 @@
-ghost use Rattle.std.specs.Prelude.{◌≡◌, ◌≤◌, None, length};
+ghost use Rattle.std.specs.Prelude.{◌≡◌, ◌≤◌, IfSome, None, length, take, unwrap_or};
+ghost use Rattle.std.specs.Io.KnownBytes.{Appends};
 
 use crate::{Sink, SinkFailed};
-use std::io::{ErrorKind, Print};
+use std::io::{self, ErrorKind, Print, Write};
 use std::marker::Model;
 
 /// Standard output. What it has taken is told by no contract. Contracts see the count of its faults.
@@ -28,20 +29,33 @@ impl<R> OutSink<R> {
     }
 }
 
+// How many bytes one call takes, 0 where it is interrupted. There is none where it takes nothing or fails.
+#[tactic(auto, using(crate::proofs::ByteLemmas::appends_nothing))]
+fn write_some<W: Write>(to: &mut W, bytes: &[u8]) -> Option<usize>
+    ensures within { IfSome result (λ taken. taken ≤ length bytes.now) }
+    ensures written { Appends (W.contents to.old) (W.contents to.new) (take (unwrap_or result 0) bytes.now) }
+{
+    match to.write(bytes) {
+        Ok(0) => None,
+        Ok(taken) => Some(taken),
+        Err(error) if error.kind() == ErrorKind::Interrupted => Some(0),
+        Err(_) => None,
+    }
+}
+
 // Writes all the bytes, or as many as can be written before the first failure that is no interruption.
-fn put<R: Print>(rt: &R, bytes: &[u8]) -> usize
-    ensures { result ≤ length bytes.now }
+pub(crate) fn put<W: Write>(to: &mut W, bytes: &[u8]) -> usize
+    ensures within { result ≤ length bytes.now }
+    ensures written { Appends (W.contents to.old) (W.contents to.new) (take result bytes.now) }
 {
     let mut done = 0;
     for _ in 0..u64::MAX {
         if done == bytes.len() {
-            break;
+            return done;
         }
-        match rt.write_some(&bytes[done..]) {
-            Ok(0) => break,
-            Ok(taken) => done += taken,
-            Err(error) if error.kind() == ErrorKind::Interrupted => {}
-            Err(_) => break,
+        match write_some(to, &bytes[done..]) {
+            Some(taken) => done += taken,
+            None => return done,
         }
     }
     done
@@ -53,7 +67,7 @@ impl<R: Print> Sink for OutSink<R> {
     ghost faults = { λ s. s };
 
     fn write(&mut self, bytes: &[u8]) -> Result<usize, SinkFailed> {
-        let taken = put(&self.rt, bytes);
+        let taken = put(&mut io::writer(&self.rt), bytes);
         if taken == 0 && !bytes.is_empty() {
             self.faults = self.faults.saturating_add(1);
             return Err(SinkFailed);

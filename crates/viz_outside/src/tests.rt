@@ -1,6 +1,7 @@
 ghost use Rattle.std.specs.Prelude.{◌≤◌, IfOk};
 
 use crate::file_shelf::read_within;
+use crate::out_sink::put;
 use crate::{
     FileShelf, Loaded, MemShelf, MemSink, OutSink, Shelf, ShelfFault, Sink, SinkFailed, write_all,
 };
@@ -8,7 +9,7 @@ use std::alloc::{AllocError, Global};
 use std::cell::Cell;
 use std::fmt::Display;
 use std::fs;
-use std::io::{self, ErrorKind, Print, Read};
+use std::io::{self, ErrorKind, Print, Read, Write};
 use viz_base::{List, Text, Text8};
 
 fn two_files(alloc: Global) -> Result<List<(Text, Text8)>, AllocError> {
@@ -135,5 +136,53 @@ fn standard_output(rt: HostRuntime) -> Result<(), AllocError> {
     assert!(rt; sink.write(b"") == Ok(0));
     assert!(rt; sink.write(b"abcde") == Ok(4));
     assert!(rt; sink.write(b"e") == Err(SinkFailed));
+    Ok(())
+}
+
+// A reader that gives two bytes a call.
+#[derive(Drop)]
+struct Drip {
+    left: &'static [u8],
+}
+
+impl Read for Drip {
+    fn read(&mut self, buf: &mut [u8]) -> io::Result<usize> {
+        let some = self.left.len().min(buf.len()).min(2);
+        buf[..some].copy_from_slice(&self.left[..some]);
+        self.left = &self.left[some..];
+        Ok(some)
+    }
+}
+
+// A writer that takes two bytes a call.
+#[derive(Drop)]
+struct Slow {
+    taken: Vec<u8>,
+}
+
+impl Write for Slow {
+    fn write(&mut self, buf: &[u8]) -> io::Result<usize> {
+        let some = buf.len().min(2);
+        self.taken.extend_from_slice(&buf[..some])?;
+        Ok(some)
+    }
+
+    fn flush(&mut self) -> io::Result<()> {
+        Ok(())
+    }
+}
+
+#[test]
+fn piece_by_piece(rt: HostRuntime) -> Result<(), AllocError> {
+    let alloc = rt.alloc();
+    let drip = Drip { left: b"seventh" };
+    assert!(rt; read_within(alloc, drip, 7) == Ok(whole(alloc, b"seventh")?));
+    let drip = Drip { left: b"seventh" };
+    assert!(rt; read_within(alloc, drip, 6) == Ok(Loaded::Longer));
+    let mut slow = Slow {
+        taken: Vec::new(alloc),
+    };
+    assert!(rt; put(&mut slow, b"seventh") == 7);
+    assert!(rt; slow.taken.as_slice() == b"seventh".as_slice());
     Ok(())
 }
