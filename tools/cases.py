@@ -4,8 +4,9 @@
     tools/cases.py FOLDER
 
 FOLDER has files of JSON Lines, each named after a call: decimals, tokens, sheets, declarations, selectors, matches, values, cascade and
-truths. Long cases come behind these. What is called goes to crates/cases/stdin and what it must give to crates/cases/stdout, a line of JSON each. A page goes flat: its
-nodes in document order, each with its parent's place; a formula as steps, each part before what it is a part of.
+truths; and in jobs/ and certs/ jobs and certificates with what the program replies. Long cases come behind these. What is called goes to
+crates/cases/stdin and what it must give to crates/cases/stdout, a line of JSON each. A page goes flat: its nodes in document order, each
+with its parent's place; a formula as steps, each part before what it is a part of.
 """
 import json
 import pathlib
@@ -234,6 +235,37 @@ def truths(case):
     return given, case["truth"]
 
 
+# ---- jobs and certificates that the program reads today: nested blocks of fixed heights, splits at one width or size, and grids
+
+ANSWERS = {"0": "Done", "1": "Violated", "5": "JobRefused", "6": "Undecided", "8": "CertRefused"}
+TODAY = re.compile(r"(vizlog-cert 1|job [0-9a-f]{64}|grid|split -?\d+ [01]:-?1)")
+
+
+def replies(path):
+    """The words of each run of a file of outputs, with what is replied."""
+    for words, output, status in re.findall(r"^== ([a-z].*)\n((?:(?!== ).*\n)*)== status (\d)$", path.read_text(encoding="utf-8"), re.M):
+        if words.split()[0] != "status":
+            yield words.split(), [ANSWERS[status], output]
+
+
+def jobs(folder):
+    rows = [json.loads(line) for line in (folder / "jobs/index.jsonl").read_text().split("\n") if line]
+    for row in rows:
+        text = (folder / f"jobs/{row['job']}.json").read_text(encoding="utf-8")
+        if row["ready"] == "R1" and '"assert":"false"' not in text:
+            for (_, width, size), reply in replies(folder / f"jobs/{row['job']}.out"):
+                yield ["lay", text, int(width), int(size)], reply
+
+
+def certificates(folder):
+    for name in ("003",):
+        job = (folder / f"certs/{name}.json").read_text(encoding="utf-8")
+        for (_, number), reply in replies(folder / f"certs/{name}.out"):
+            text = (folder / f"certs/{name}-{number}.cert").read_text(encoding="utf-8")
+            if all(TODAY.fullmatch(line) for line in text.rstrip("\n").split("\n")):
+                yield ["check", job, text], reply
+
+
 # ---- long cases, whose answers can be told without a reader
 
 def long_cases():
@@ -272,7 +304,7 @@ def main():
                 arguments, answer = call(json.loads(line))
                 given.write(compact([call.__name__] + arguments) + "\n")
                 wanted.write(compact(answer) + "\n")
-        for called, answer in long_cases():
+        for called, answer in [*jobs(folder), *certificates(folder), *long_cases()]:
             given.write(compact(called) + "\n")
             wanted.write(compact(answer) + "\n")
 

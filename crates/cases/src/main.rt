@@ -6,6 +6,7 @@ mod faults;
 mod formulas;
 mod json;
 mod pages;
+mod replies;
 mod selectors;
 mod sheets;
 mod tokens;
@@ -39,6 +40,8 @@ fn answer(alloc: Global, line: &str) -> Result<String, Fault> {
         "values" => values::answer(alloc, text_at(&case, 1)?, text_at(&case, 2)?),
         "cascade" => cascades::answer(alloc, &case),
         "truths" => truths::answer(alloc, &case),
+        "lay" => replies::laid(alloc, &case),
+        "check" => replies::checked(alloc, &case),
         _ => Err(Fault::NoCase),
     }
 }
