@@ -7,7 +7,7 @@ use crate::pages::page_at;
 use serde_json::Value;
 use std::alloc::Global;
 use vis_truth::truth;
-use viz_base::{List, Placed, Quad, Rendering, World};
+use viz_base::{Formula, List, Placed, Quad, Rendering, World};
 use viz_calc::Plain;
 
 /// The rectangle whose edges stand at a place and behind it.
@@ -42,18 +42,38 @@ fn rendering(alloc: Global, values: &[Value]) -> Result<Rendering<i128>, Fault> 
     Ok(Rendering { boxes })
 }
 
+/// The formula whose steps a case has, for its page.
+fn formula_of(alloc: Global, case: &Value) -> Result<Formula, Fault> {
+    let page = page_at(alloc, case, 1)?;
+    formula(alloc, &page, list_at(case, 2)?)
+}
+
+/// Whether the formula is true of the rendering at the world.
+fn holds(
+    formula: &Formula,
+    rendering: &Rendering<i128>,
+    world: World,
+    height: u32,
+) -> Result<bool, Fault> {
+    let mut calc = Plain::new(world);
+    match truth(&mut calc, formula, rendering, height) {
+        Ok(yes) => Ok(yes),
+        Err(_) => Err(Fault::NoCase),
+    }
+}
+
+/// Whether a case's formula is true of its rendering, at its world and height of the viewport.
+fn judged(alloc: Global, case: &Value) -> Result<bool, Fault> {
+    let w = number_at(case, 3)?;
+    let s = number_at(case, 4)?;
+    let height = number_at(case, 5)?;
+    let rendering = rendering(alloc, list_at(case, 6)?)?;
+    let formula = formula_of(alloc, case)?;
+    holds(&formula, &rendering, World { w, s }, height)
+}
+
 /// Whether the formula is true of the rendering at the world.
 pub fn answer(alloc: Global, case: &Value) -> Result<String, Fault> {
-    let page = page_at(alloc, case, 1)?;
-    let formula = formula(alloc, &page, list_at(case, 2)?)?;
-    let rendering = rendering(alloc, list_at(case, 6)?)?;
-    let world = World {
-        w: number_at(case, 3)?,
-        s: number_at(case, 4)?,
-    };
-    let mut calc = Plain::new(world);
-    let yes = truth(&mut calc, &formula, &rendering, number_at(case, 5)?).map_err(
-        |_| Fault::NoCase,
-    )?;
+    let yes = judged(alloc, case)?;
     Ok(format!(in alloc; "{yes}")?)
 }
