@@ -13,6 +13,6 @@ pub struct Job {
     pub height: u32,
     pub tree: BoxTree,
     pub formula: Formula,
-    /// Range and height are within the limits, the tree's lengths are bounded, and so are the formula's terms.
-    pub ghost ok: { IsJob range height tree.boxes tree.styles formula },
+    /// Range and height are within the limits, no box reaches too far, and the formula's terms are bounded.
+    pub ghost ok: { IsJob range height tree.boxes tree.styles tree.fonts tree.parents formula },
 }

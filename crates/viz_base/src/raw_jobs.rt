@@ -1,0 +1,48 @@
+use crate::{Font, List, Page, Rect, Text};
+
+/// What a job file says, within all limits, before its style sheets and its assertion are read.
+#[derive(Debug, Drop)]
+pub struct RawJob {
+    /// The worlds.
+    pub range: Rect,
+    /// The viewport's height in whole pixels.
+    pub height: u32,
+    /// The fonts, at least one; the first stands for families that no font has as its name.
+    pub fonts: List<Font>,
+    /// The texts of the author's style sheets, in their order.
+    pub css: List<Text>,
+    pub page: Page,
+    /// The text of the assertion.
+    pub formula: Text,
+}
+
+/// The parts of a job file, in the order in which they are looked at.
+#[derive(Clone, Copy, Debug, PartialEq, Eq)]
+pub enum Part {
+    /// The file's value and its member `vizlog`.
+    Top,
+    Widths,
+    Sizes,
+    Height,
+    Fonts,
+    Css,
+    Page,
+    Assert,
+}
+
+/// What a job file has a limited number of, in the order in which they are counted.
+#[derive(Clone, Copy, Debug, PartialEq, Eq)]
+pub enum Which {
+    Elements,
+    /// Elements inside one another, the root being 1.
+    Depth,
+    /// Characters of all texts.
+    Text,
+    /// Bytes of style sheets and style attributes.
+    Css,
+    Fonts,
+    /// Advances of all fonts together.
+    Advances,
+    /// Bytes of the assertion.
+    Formula,
+}
