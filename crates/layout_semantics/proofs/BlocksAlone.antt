@@ -1,5 +1,5 @@
 -- Pages without inline-level boxes: no box has lines, and all boxes in a box are in its flow.
-use Rattle.std.proofs.Common.{◌≡◌, ℕ, zero, suc, Bool, true, false, ◌&&◌, ◌||◌, IsTrue, List, [], ◌∷◌, refl, ap, ◌∙◌, subst, slice_get, Some}
+use Rattle.std.proofs.Common.{◌≡◌, ℕ, zero, suc, Bool, false, ◌&&◌, ◌||◌, IsTrue, List, [], ◌∷◌, refl, ap, ◌∙◌, subst, slice_get, Some}
 use Rattle.std.specs.List.{list_all, list_any}
 use Rattle.viz_base.specs.declared.trees.BoxTree.{BoxTree}
 use Rattle.layout_semantics.specs.Order.{kids_of}

@@ -23,14 +23,14 @@ pub record Resolved : Type 0 where
   pub margins : List ℤ
   pub cleared : Option (ℕ × ℤ)
 
-module _ (tree : BoxTree) (w : World) (height : ℕ) where
+module _ (tree : BoxTree) (w : World) where
   -- Where a box that comes next stands, by its lead: `edge` gives the border edge that ends the run together with so many margins more,
   -- and `size` the outer sizes of the floats that wait.
   module _ (size : Waiting ℤ → Extent ℤ) (edge : List ℤ → ℤ) (cb : Band ℤ) (floats : List FloatBox) (least : Option ℤ) (b : ℕ) where
     -- A lead was found that ends at a box d with `clear`. Its border edge if it were not cleared: after the margins before it, its own
     -- top margin and its leading descendants' up to the next box with `clear`.
     abbrev pub hypothetical_edge : Leading → ℕ → ℤ
-    hypothetical_edge found d = edge (found.margins ++ (lead tree w height (is_up_to d) found.cb d).margins)
+    hypothetical_edge found d = edge (found.margins ++ (lead tree w (is_up_to d) found.cb d).margins)
 
     -- the lowest outer bottom of the floats that the `clear` of a box names, those that wait being placed at y
     abbrev pub bottom_to_clear : Leading → ℕ → ℤ → Option ℤ
@@ -60,7 +60,7 @@ module _ (tree : BoxTree) (w : World) (height : ℕ) where
     -- so many boxes being left that may be passed
     unfoldable pub resolve_to : ℕ → (ℕ → Bool) → Resolved
     resolve_to zero passed = record { margins = []; cleared = None }
-    resolve_to (suc left) passed = resolve_step (λ d. resolve_to left (is_up_to d)) (lead tree w height passed cb b)
+    resolve_to (suc left) passed = resolve_step (λ d. resolve_to left (is_up_to d)) (lead tree w passed cb b)
 
     -- where the boxes that pass the test count as not cleared from the first
     abbrev pub resolve : (ℕ → Bool) → Resolved

@@ -9,7 +9,7 @@ use Rattle.viz_base.specs.declared.trees.Kind.{Kind}
 use Rattle.viz_base.specs.declared.trees.Kind.TheVariants as of_kind
 use Rattle.viz_base.specs.declared.worlds.World.{World}
 use Rattle.layout_semantics.specs.Blocks.{kind_of, parent_of}
-use Rattle.layout_semantics.specs.Fonts.{fraction}
+use Rattle.viz_base.specs.FontSizes.{fraction}
 use Rattle.layout_semantics.specs.InlineContent.{is_zero}
 use Rattle.layout_semantics.specs.Lengths.{used, maximum, held, own, nothing}
 

@@ -16,6 +16,7 @@ use Rattle.viz_base.specs.Trees.{is_line}
 use Rattle.viz_base.specs.declared.styles.Style.{Style}
 use Rattle.viz_base.specs.declared.trees.BoxTree.{BoxTree}
 use Rattle.viz_base.specs.declared.worlds.World.{World}
+use Rattle.layout_semantics.specs.Lists.{table_of}
 use Rattle.layout_semantics.specs.Extremes.{greatest_from}
 use Rattle.layout_semantics.specs.Floats.{FloatBox, floating, float_spot, with_float}
 use Rattle.layout_semantics.specs.Margins.{collapsed}
@@ -161,7 +162,7 @@ module _ (tree : BoxTree) (w : World) (height : ℕ) where
     reached_at cb p b y (Some cleared) = by_match (cleared.0 == b)
       where
         opened : Resolved
-        opened = resolve tree w height waiting_size (λ more. cleared.1) cb p.floats p.least b (is_up_to b)
+        opened = resolve tree w waiting_size (λ more. cleared.1) cb p.floats p.least b (is_up_to b)
 
         by_match : Bool → Reached
         by_match true = record { top = cleared.1; clears = true; cleared = opened.cleared }
@@ -177,7 +178,7 @@ module _ (tree : BoxTree) (w : World) (height : ℕ) where
         by_standing : Standing → Reached
         by_standing (at_top y cleared) = reached_at cb p b y cleared
         by_standing (below edge run stuck) = by_resolved edge run
-            (resolve tree w height waiting_size (λ more. edge +ℤ collapsed (run ++ more)) cb p.floats p.least b none_passed)
+            (resolve tree w waiting_size (λ more. edge +ℤ collapsed (run ++ more)) cb p.floats p.least b none_passed)
 
     -- the context as a box that is opened leaves it: its outer top counts, which is the higher of the tops of its margin and border
     -- boxes (our own reading of 9.5.1, rule 5)
@@ -242,10 +243,10 @@ module _ (tree : BoxTree) (w : World) (height : ℕ) where
     standing_after cb before b r l = by_sort l.through r.clears before
       where
         whole_lead : List ℤ
-        whole_lead = (lead tree w height all_passed cb b).margins
+        whole_lead = (lead tree w all_passed cb b).margins
 
         own : List ℤ
-        own = whole_lead ++ bottom_margin tree w height cb b ∷ []
+        own = whole_lead ++ bottom_margin tree w cb b ∷ []
 
         by_sort : Bool → Bool → Standing → Standing
         by_sort false any s = below l.bottom l.margins false
@@ -305,7 +306,7 @@ module _ (tree : BoxTree) (w : World) (height : ℕ) where
     }
 
     abbrev pub line_content : ℕ → Band ℤ → ℤ → Progress → Progress
-    line_content b cb top p = after_lines cb p (lines tree w b (map (inner_size cb) (inner_boxes tree b)) cb top (unwrap_or p.least top) p.floats)
+    line_content b cb top p = after_lines cb p (lines tree w b (table_of (length tree.boxes) (map (λ k. (k, inner_size cb k)) (inner_boxes tree b))) cb top (unwrap_or p.least top) p.floats)
 
     -- ---- the content of a block container (9.4): its lines; or, where it has none, its blocks one below the other, with the floats
     -- between them

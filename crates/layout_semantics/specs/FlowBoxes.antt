@@ -14,7 +14,7 @@ use Rattle.layout_semantics.specs.Blocks.{kind_of, parent_of}
 use Rattle.layout_semantics.specs.Order.{kids_of}
 use Rattle.layout_semantics.specs.Lengths.{own, borders, paddings}
 use Rattle.layout_semantics.specs.DefiniteHeights.{own_height, has_auto_height, has_no_minimum}
-use Rattle.layout_semantics.specs.Horizontal.{widths}
+use Rattle.layout_semantics.specs.Horizontal.{flow_widths, widths}
 use Rattle.layout_semantics.specs.InlineContent.{is_floated_at, is_zero, has_line, holds_inline, content, float_boxes}
 
 abbrev pub is_replaced_at : BoxTree → ℕ → Bool
@@ -91,6 +91,10 @@ content_from left x = from (left +ℤ x.margin_left +ℤ x.border_left +ℤ x.pa
 -- of a box in a containing block
 abbrev pub content_band : BoxTree → World → ℕ → Band ℤ → ℕ → Band ℤ
 content_band tree w height cb b = content_from cb.left (widths tree w height b (across cb))
+
+-- of a block in normal flow that isn't replaced: the viewport's height does not matter to it
+abbrev pub block_band : BoxTree → World → Band ℤ → ℕ → Band ℤ
+block_band tree w cb b = content_from cb.left (flow_widths tree w b (across cb))
 
 -- ---- the width of a box's containing block, from the root down (10.1)
 

@@ -1,5 +1,5 @@
 -- The boxes of a line (CSS 2.1, 8.6, 9.4.2, 10.6.1).
-use Rattle.std.specs.Prelude.{ℕ, ◌==◌, ℤ, pos, ◌+ℤ◌, ◌-ℤ◌, Bool, false, cond, List, [], ◌∷◌, ◌++◌, map, find, is_some, unwrap_or, Option, None, Some}
+use Rattle.std.specs.Prelude.{ℕ, ◌==◌, ℤ, pos, ◌+ℤ◌, ◌-ℤ◌, Bool, false, cond, List, [], ◌∷◌, ◌++◌, map, take, drop, find, is_some, unwrap_or, Option, None, Some}
 use Rattle.std.specs.Option.{option_map_or}
 use Rattle.viz_base.specs.declared.layouts.Entry.{Entry}
 use Rattle.viz_base.specs.declared.layouts.Entry.TheVariants as of_entry
@@ -52,7 +52,7 @@ pub record SetLine : Type 0 where
   pub left : ℤ
   pub right : ℤ
   pub places : List ItemPlace
-  -- where its floats stand
+  -- where its floats stand, in their order
   pub spots : List (ℕ × Spot ℤ)
 
 -- the content of a fragment reaches from the ascent to the descent of its font (CSS 2.1, 10.6.1)
@@ -115,14 +115,15 @@ inline_fragment c line at start_right after = of_entry.Here (up_to (find (is_end
 abbrev pub atomic_entry : InlineContext → SetLine → ℕ → ℤ → Entry ℤ
 atomic_entry c line at left = of_entry.Goes at (record { x = left; y = (line.baseline -ℤ shift c at (box_extent c at)) -ℤ (box_extent c at).above })
 
-abbrev pub float_entry : List (ℕ × Spot ℤ) → ℕ → List (Entry ℤ)
-float_entry spots at = option_map_or (λ entry. of_entry.Goes at entry.1 ∷ []) (find (λ entry. entry.0 == at) spots) []
+-- floats go to where they stand
+abbrev pub float_entries : List (ℕ × Spot ℤ) → List (Entry ℤ)
+float_entries spots = map (λ entry. of_entry.Goes entry.0 entry.1) spots
 
 -- ---- the entries of a line after its own
 
--- the entries of an item, by the item before it on the line and by those after it
-abbrev pub item_entries : InlineContext → SetLine → (before : Option ItemPlace) → ItemPlace → (after : List ItemPlace) → List (Entry ℤ)
-item_entries c line before p after = by_item p.item
+-- the entries of an item, by the item before it on the line, by those after it, and by where the floats stand that are left
+abbrev pub item_entries : InlineContext → SetLine → (before : Option ItemPlace) → ItemPlace → (after : List ItemPlace) → List (ℕ × Spot ℤ) → List (Entry ℤ)
+item_entries c line before p after spots = by_item p.item
   where
     by_item : Item → List (Entry ℤ)
     by_item (start at) = inline_fragment c line at (Some p.right) after ∷ []
@@ -131,12 +132,17 @@ item_entries c line before p after = by_item p.item
     by_item (space at) = text_entry c line at before p after
     by_item (atomic at) = atomic_entry c line at p.left ∷ []
     by_item (forced at) = []
-    by_item (float at) = float_entry line.spots at
+    by_item (float at) = float_entries (take 1 spots)
+
+-- each float of a line takes the first place that is left
+abbrev pub spots_after : Item → List (ℕ × Spot ℤ) → List (ℕ × Spot ℤ)
+spots_after (float at) spots = drop 1 spots
+spots_after _ spots = spots
 
 -- of the items in their order
-abbrev pub entries_after : InlineContext → SetLine → (before : Option ItemPlace) → List ItemPlace → List (Entry ℤ)
-entries_after c line before [] = []
-entries_after c line before (p ∷ after) = item_entries c line before p after ++ entries_after c line (Some p) after
+abbrev pub entries_after : InlineContext → SetLine → (before : Option ItemPlace) → List ItemPlace → List (ℕ × Spot ℤ) → List (Entry ℤ)
+entries_after c line before [] spots = []
+entries_after c line before (p ∷ after) spots = item_entries c line before p after spots ++ entries_after c line (Some p) after (spots_after p.item spots)
 
 -- of the inline boxes that are open at the line's start, outermost first
 abbrev pub opened_entries : InlineContext → SetLine → List ℕ → List (Entry ℤ)
@@ -144,4 +150,4 @@ opened_entries c line opened = map (λ at. inline_fragment c line at None line.p
 
 -- and then of its content in document order
 abbrev pub line_entries : InlineContext → SetLine → List ℕ → List (Entry ℤ)
-line_entries c line opened = opened_entries c line opened ++ entries_after c line None line.places
+line_entries c line opened = opened_entries c line opened ++ entries_after c line None line.places line.spots

@@ -10,7 +10,7 @@ use Rattle.viz_base.specs.declared.styles.Clear.TheVariants as of_clear
 use Rattle.viz_base.specs.declared.trees.BoxTree.{BoxTree}
 use Rattle.viz_base.specs.declared.worlds.World.{World}
 use Rattle.layout_semantics.specs.Verticals.{verticals}
-use Rattle.layout_semantics.specs.FlowBoxes.{clear_of, is_open_above, may_collapse_through, flow_children, across, content_band}
+use Rattle.layout_semantics.specs.FlowBoxes.{clear_of, is_open_above, may_collapse_through, flow_children, across, block_band}
 use Rattle.layout_semantics.specs.InlineContent.{is_floated_at, has_line}
 
 -- the margins, the floats between them with their containing blocks, where they end, and the containing block of the box at
@@ -39,7 +39,7 @@ abbrev pub clears_something : Clear → Bool
 clears_something of_clear.Nothing = false
 clears_something _ = true
 
-module _ (tree : BoxTree) (w : World) (height : ℕ) where
+module _ (tree : BoxTree) (w : World) where
   abbrev pub top_margin : Band ℤ → ℕ → ℤ
   top_margin cb b = (verticals tree w b (across cb)).margin_top
 
@@ -87,7 +87,7 @@ module _ (tree : BoxTree) (w : World) (height : ℕ) where
 
       by_top : Bool → Leading
       by_top false = stop (of_end.Solid b) (top_margin cb b ∷ [])
-      by_top true = followed_by (through cb (top_margin cb b ∷ [])) (followed_by (children (content_band tree w height cb b)) (last (may_collapse_through tree b)))
+      by_top true = followed_by (through cb (top_margin cb b ∷ [])) (followed_by (children (block_band tree w cb b)) (last (may_collapse_through tree b)))
 
       by_clear : Bool → Leading
       by_clear true = stop (of_end.Cleared b) []

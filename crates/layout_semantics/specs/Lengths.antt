@@ -11,7 +11,7 @@ use Rattle.viz_base.specs.declared.trees.Kind.{Kind}
 use Rattle.viz_base.specs.declared.trees.Kind.TheVariants as of_kind
 use Rattle.viz_base.specs.declared.worlds.World.{World}
 use Rattle.layout_semantics.specs.Blocks.{kind_of, style_of}
-use Rattle.layout_semantics.specs.Fonts.{fraction, em_in}
+use Rattle.viz_base.specs.FontSizes.{fraction, em_in}
 
 -- ---- used lengths
 

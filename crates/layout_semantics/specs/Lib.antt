@@ -7,7 +7,6 @@ pub mod Parts
 pub mod WhiteSpace
 pub mod BoxTrees
 pub mod Directions
-pub mod Reaches
 pub mod Refusals
 pub mod Extremes
 pub mod Floats

@@ -1,5 +1,5 @@
 -- How much of its content a line holds, and where the floats met on it stand (CSS 2.1, 9.4.2, 9.5).
-use Rattle.std.specs.Prelude.{ℕ, zero, suc, ◌-◌, ℤ, pos, ◌+ℤ◌, ◌-ℤ◌, int_le, Bool, not, cond, ◌&&◌, ◌||◌, List, [], ◌∷◌, ◌++◌, map, length, take, drop, filter, fold, slice_index_or, ◌==◌, Some}
+use Rattle.std.specs.Prelude.{ℕ, zero, suc, ◌-◌, ℤ, pos, ◌+ℤ◌, ◌-ℤ◌, int_le, Bool, true, false, not, cond, ◌&&◌, ◌||◌, List, [], ◌∷◌, ◌++◌, map, length, take, drop, filter, fold, slice_index_or, Some}
 use Rattle.std.specs.List.{flat_map, list_any, range_with_len, prefix_len, before_first}
 use Rattle.std.specs.Option.{option_map_or}
 use Rattle.std.specs.Ordering.{int_eq}
@@ -46,7 +46,7 @@ fits width room = int_le width (band_width room)
 
 -- ---- floats
 
--- floats that were placed, with the list that they then stand in, and those that wait for the line's bottom
+-- floats that were placed, in their order, with the list that they then stand in, and those that wait for the line's bottom
 pub record Met : Type 0 where
   pub spots : List (ℕ × Spot ℤ)
   pub floats : List FloatBox
@@ -62,8 +62,12 @@ line_float c at = floating c.tree at (float_size c at) c.cb
 abbrev pub line_spot : InlineContext → List FloatBox → ℤ → ℤ → ℕ → Spot ℤ
 line_spot c floats least y at = float_spot (line_float c at) floats (Some least) y
 
+-- with one more of them placed, or waiting
 abbrev pub with_spot : InlineContext → Met → ℕ → Spot ℤ → Met
 with_spot c met at spot = record met { spots = met.spots ++ (at, spot) ∷ []; floats = with_float_at (line_float c at) met.floats spot }
+
+abbrev pub with_waiting : Met → ℕ → Met
+with_waiting met at = record met { waiting = met.waiting ++ at ∷ [] }
 
 -- floats placed one after another, each from y on
 abbrev pub place_each : InlineContext → ℤ → ℤ → Met → List ℕ → Met
@@ -111,20 +115,24 @@ abbrev pub floats_met : BoxTree → ℕ → List Item → List ℕ
 floats_met tree zero items = float_boxes (from_line_on tree items)
 floats_met tree (suc n) items = float_boxes items
 
--- a float met where the line holds so much already stands at once where none before it waits, its place is at the line's top, and the line
--- still has so much room beside it (our own reading)
-abbrev pub stands_at_once : InlineContext → Line → ℤ → Met → ℕ → Spot ℤ → Bool
-stands_at_once c line held met at spot =
-    (length met.waiting == 0)
-    && int_eq spot.y line.top
-    && fits held (band_at (with_float_at (line_float c at) met.floats spot) c.cb line.top line.tall)
+abbrev pub none_waits : Met → Bool
+none_waits met = none met.waiting
+  where
+    none : List ℕ → Bool
+    none [] = true
+    none (at ∷ waiting) = false
 
--- else it waits
-abbrev pub met_at : InlineContext → Line → ℤ → Met → ℕ → Spot ℤ → Met
-met_at c line held met at spot = cond (stands_at_once c line held met at spot) (with_spot c met at spot) (record met { waiting = met.waiting ++ at ∷ [] })
+-- a float's place is at the line's top, and beside it there is still room for what the line holds
+abbrev pub leaves_room : InlineContext → Line → ℤ → Met → ℕ → Spot ℤ → Bool
+leaves_room c line held met at spot = int_eq spot.y line.top && fits held (band_at (with_float_at (line_float c at) met.floats spot) c.cb line.top line.tall)
 
+-- a float that the line meets where it holds so much already stands in its place at once, where none before it waits and that leaves room;
+-- else it waits (our own reading)
 abbrev pub meet : InlineContext → Line → ℤ → Met → ℕ → Met
-meet c line held met at = met_at c line held met at (line_spot c met.floats line.least line.top at)
+meet c line held met at = with_place (line_spot c met.floats line.least line.top at)
+  where
+    with_place : Spot ℤ → Met
+    with_place spot = cond (none_waits met && leaves_room c line held met at spot) (with_spot c met at spot) (with_waiting met at)
 
 -- the floats met in the first n stretches, and those before
 abbrev pub met_after : InlineContext → Line → ℕ → Met

@@ -1,5 +1,5 @@
 -- Heights of inline boxes and of lines (CSS 2.1, 10.8).
-use Rattle.std.specs.Prelude.{ℕ, zero, suc, ◌==◌, ℤ, pos, ◌+ℤ◌, ◌-ℤ◌, neg_ℤ, true, false, List, [], ◌∷◌, map, find, Option}
+use Rattle.std.specs.Prelude.{ℕ, zero, suc, ◌==◌, ℤ, pos, ◌+ℤ◌, ◌-ℤ◌, neg_ℤ, true, false, List, [], ◌∷◌, map, slice_index_or, Option, None}
 use Rattle.std.specs.Int.{int_max}
 use Rattle.std.specs.List.{flat_map}
 use Rattle.std.specs.Option.{option_map_or}
@@ -19,16 +19,16 @@ use Rattle.layout_semantics.specs.InlineContent.{Item, start, atomic, content}
 
 -- ---- an inline formatting context (CSS 2.1, 9.4.2)
 
--- a block container with the edges of its content, and the outer sizes of the floats and atomic boxes in its lines
+-- a block container with the edges of its content, and a table by box number of the outer sizes of the floats and atomic boxes in its lines
 pub record InlineContext : Type 0 where
   pub tree : BoxTree
   pub world : World
   pub container : ℕ
-  pub inner : List (Inner ℤ)
+  pub inner : List (Option (Inner ℤ))
   pub cb : Band ℤ
 
 abbrev pub inner_of : InlineContext → ℕ → Option (Inner ℤ)
-inner_of c at = find (λ (i : Inner ℤ). i.b == at) c.inner
+inner_of c at = slice_index_or c.inner at None
 
 -- ---- above and below a baseline
 

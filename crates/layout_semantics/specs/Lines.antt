@@ -1,7 +1,7 @@
 -- The lines of a block container (CSS 2.1, 9.4.2, 9.5, 10.8, 16.2).
 use Rattle.std.specs.Prelude.{ℕ, zero, suc, ◌==◌, ℤ, pos, ◌+ℤ◌, ◌-ℤ◌, Bool, true, false, not, List, [], ◌∷◌, ◌++◌, length, drop, filter, fold, Option, Some, None}
 use Rattle.std.specs.Int.{int_max}
-use Rattle.std.specs.List.{flat_map, list_any}
+use Rattle.std.specs.List.{list_any}
 use Rattle.viz_base.specs.declared.layouts.Entry.{Entry}
 use Rattle.viz_base.specs.declared.layouts.Entry.TheVariants as of_entry
 use Rattle.viz_base.specs.Numbers.{floor_of}
@@ -20,19 +20,27 @@ use Rattle.layout_semantics.specs.InlineContent.{Item, start, finish, content, f
 use Rattle.layout_semantics.specs.Stretches.{stretches, what_stays}
 use Rattle.layout_semantics.specs.LineHeights.{InlineContext, LineExtent, height_of_extent, line_extent, extended_boxes, tallest}
 use Rattle.layout_semantics.specs.LineFilling.{Met, Line, band_width, width_held, place_each, line_top, before_line, met_after, first_items, stretches_held}
-use Rattle.layout_semantics.specs.Fragments.{set_out, SetLine, line_entries, float_entry}
+use Rattle.layout_semantics.specs.Fragments.{set_out, SetLine, line_entries, float_entries}
 
 -- ---- between lines
 
--- what the lines so far leave: where the next one begins, the highest top that its floats may have, the floats of the context, the inline boxes
--- that are open, outermost first, the last line's baseline, and the entries
+-- what lines leave to the next one: where it begins, the highest top that its floats may have, the floats of the context, the inline boxes
+-- that are open, outermost first, and the last line's baseline
 pub record SoFar : Type 0 where
   pub y : ℤ
   pub least : ℤ
   pub floats : List FloatBox
   pub opened : List ℕ
   pub baseline : Option ℤ
+
+-- lines that are laid out: what they leave, and their entries
+pub record LaidLines : Type 0 where
+  pub after : SoFar
   pub entries : List (Entry ℤ)
+
+-- lines, and then those after them
+abbrev pub followed : LaidLines → LaidLines → LaidLines
+followed first rest = record { after = rest.after; entries = first.entries ++ rest.entries }
 
 -- the inline boxes that are open after an item
 abbrev pub opened_after : List ℕ → Item → List ℕ
@@ -72,60 +80,71 @@ abbrev pub set_line : InlineContext → ℤ → ℤ → ℤ → List Item → Me
 set_line c baseline left held items late = record { baseline = baseline; left = left; right = left +ℤ held; places = set_out c left (what_stays items); spots = late.spots }
 
 -- the line holds the items, and the floats were met that don't wait; those that wait are placed from its bottom on
-abbrev pub after_line : InlineContext → SoFar → Line → List Item → Met → SoFar
-after_line c now line items met = with_extent (line_extent c (now.opened ++ extended_boxes items))
+abbrev pub laid_line : InlineContext → SoFar → Line → List Item → Met → LaidLines
+laid_line c now line items met = with_extent (line_extent c (now.opened ++ extended_boxes items))
   where
-    finished : LineExtent → Band ℤ → Met → SoFar
+    finished : LineExtent → Band ℤ → Met → LaidLines
     finished e room late = record {
-      y = line.top +ℤ height_of_extent e;
-      least = int_max now.least line.top;
-      floats = late.floats;
-      opened = fold opened_after now.opened items;
-      baseline = Some (line.top +ℤ e.above);
-      entries = now.entries ++ (line_box c room line.top (line.top +ℤ height_of_extent e)
-          ∷ line_entries c (set_line c (line.top +ℤ e.above) (content_left c room (width_held c items)) (width_held c items) items late) now.opened);
+      after = record {
+        y = line.top +ℤ height_of_extent e;
+        least = int_max now.least line.top;
+        floats = late.floats;
+        opened = fold opened_after now.opened items;
+        baseline = Some (line.top +ℤ e.above);
+      };
+      entries = line_box c room line.top (line.top +ℤ height_of_extent e)
+          ∷ line_entries c (set_line c (line.top +ℤ e.above) (content_left c room (width_held c items)) (width_held c items) items late) now.opened;
     }
 
-    with_extent : LineExtent → SoFar
+    with_extent : LineExtent → LaidLines
     with_extent e = finished e (band_at met.floats c.cb line.top line.tall)
         (place_each c (int_max now.least line.top) (line.top +ℤ height_of_extent e) (record met { waiting = [] }) met.waiting)
 
 -- ---- a line that doesn't exist
 
 -- it has no height and no entry; its floats are placed from where it would begin (CSS 2.1, 9.4.2)
-abbrev pub after_no_line : InlineContext → SoFar → List Item → SoFar
-after_no_line c now items = with_floats (place_each c now.least now.y (record { spots = []; floats = now.floats; waiting = [] }) (float_boxes items))
+abbrev pub laid_no_line : InlineContext → SoFar → List Item → LaidLines
+laid_no_line c now items = with_floats (place_each c now.least now.y (record { spots = []; floats = now.floats; waiting = [] }) (float_boxes items))
   where
-    with_floats : Met → SoFar
-    with_floats met = record now { floats = met.floats; opened = fold opened_after now.opened items; entries = now.entries ++ flat_map (float_entry met.spots) (float_boxes items) }
+    with_floats : Met → LaidLines
+    with_floats met = record { after = record now { floats = met.floats; opened = fold opened_after now.opened items }; entries = float_entries met.spots }
 
 -- ---- all lines
 
-abbrev pub after_stretches : InlineContext → SoFar → Line → ℕ → SoFar
-after_stretches c now line n = by_existence (list_any (makes_line c.tree) (first_items line n))
+-- the first n stretches of a line
+abbrev pub laid_stretches : InlineContext → SoFar → Line → ℕ → LaidLines
+laid_stretches c now line n = by_existence (list_any (makes_line c.tree) (first_items line n))
   where
-    by_existence : Bool → SoFar
-    by_existence true = after_line c now line (first_items line n) (met_after c line n)
-    by_existence false = after_no_line c now (first_items line n)
+    by_existence : Bool → LaidLines
+    by_existence true = laid_line c now line (first_items line n) (met_after c line n)
+    by_existence false = laid_no_line c now (first_items line n)
 
--- what the next line leaves, and the stretches after it
-abbrev pub after_next : InlineContext → ℤ → SoFar → List Item → List (List Item) → SoFar × List (List Item)
-after_next c tall now first parts = with_line (next_line c tall now first parts)
+-- the next line, and the stretches after it
+abbrev pub laid_next : InlineContext → ℤ → SoFar → List Item → List (List Item) → LaidLines × List (List Item)
+laid_next c tall now first parts = with_line (next_line c tall now first parts)
   where
-    with_count : Line → ℕ → SoFar × List (List Item)
-    with_count line n = (after_stretches c now line n, drop n parts)
+    with_count : Line → ℕ → LaidLines × List (List Item)
+    with_count line n = (laid_stretches c now line n, drop n parts)
 
-    with_line : Line → SoFar × List (List Item)
+    with_line : Line → LaidLines × List (List Item)
     with_line line = with_count line (stretches_held c line)
 
-abbrev pub go_on : (SoFar → List (List Item) → SoFar) → SoFar × List (List Item) → SoFar
-go_on rest next = rest next.0 next.1
+abbrev pub go_on : (SoFar → List (List Item) → LaidLines) → LaidLines × List (List Item) → LaidLines
+go_on rest next = followed next.0 (rest next.0.after next.1)
+
+-- where no stretch is left
+abbrev pub laid_none : SoFar → LaidLines
+laid_none now = record { after = now; entries = [] }
 
 -- the lines of these stretches, at most so many
-unfoldable pub lines_to : ℕ → InlineContext → ℤ → SoFar → List (List Item) → SoFar
-lines_to zero c tall now parts = now
-lines_to (suc lines) c tall now [] = now
-lines_to (suc lines) c tall now (first ∷ parts) = go_on (lines_to lines c tall) (after_next c tall now first (first ∷ parts))
+unfoldable pub lines_to : ℕ → InlineContext → ℤ → SoFar → List (List Item) → LaidLines
+lines_to zero c tall now parts = laid_none now
+lines_to (suc lines) c tall now [] = laid_none now
+lines_to (suc lines) c tall now (first ∷ parts) = go_on (lines_to lines c tall) (laid_next c tall now first (first ∷ parts))
+
+-- before the first line
+abbrev pub before_all : ℤ → ℤ → List FloatBox → SoFar
+before_all y least floats = record { y = y; least = least; floats = floats; opened = []; baseline = None }
 
 -- the lines of a block container, with their floats and their last baseline
 pub record LineList : Type 0 where
@@ -139,12 +158,12 @@ pub record LineList : Type 0 where
 abbrev pub lines_in : InlineContext → ℤ → ℤ → List FloatBox → LineList
 lines_in c y least floats = listed (lines_of (stretches c.tree (content c.tree c.container)))
   where
-    lines_of : List (List Item) → SoFar
-    lines_of parts = lines_to (length parts) c (tallest c) (record { y = y; least = least; floats = floats; opened = []; baseline = None; entries = [] }) parts
+    lines_of : List (List Item) → LaidLines
+    lines_of parts = lines_to (length parts) c (tallest c) (before_all y least floats) parts
 
-    listed : SoFar → LineList
-    listed end = record { entries = end.entries; bottom = end.y; baseline = end.baseline; floats = end.floats }
+    listed : LaidLines → LineList
+    listed laid = record { entries = laid.entries; bottom = laid.after.y; baseline = laid.after.baseline; floats = laid.after.floats }
 
--- of a box of a tree, the outer sizes of its floats and atomic boxes being `inner`
-abbrev pub lines : BoxTree → World → ℕ → List (Inner ℤ) → Band ℤ → ℤ → ℤ → List FloatBox → LineList
+-- of a box of a tree, the outer sizes of its floats and atomic boxes standing in the table `inner`
+abbrev pub lines : BoxTree → World → ℕ → List (Option (Inner ℤ)) → Band ℤ → ℤ → ℤ → List FloatBox → LineList
 lines tree w at inner cb y least floats = lines_in (record { tree = tree; world = w; container = at; inner = inner; cb = cb }) y least floats

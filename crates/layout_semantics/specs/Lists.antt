@@ -1,5 +1,5 @@
 -- Words on lists.
-use Rattle.std.specs.Prelude.{Bool, true, false, List, [], ◌∷◌, flat_map}
+use Rattle.std.specs.Prelude.{ℕ, Bool, true, false, List, [], ◌∷◌, flat_map, fold, replicate, slice_set, Option, Some, None}
 
 abbrev pub one_if : {A : Type 0} → Bool → A → List A
 one_if true a = a ∷ []
@@ -8,3 +8,7 @@ one_if false a = []
 -- the elements that pass a test, in order
 abbrev pub chosen : {A : Type 0} → (A → Bool) → List A → List A
 chosen test xs = flat_map (λ x. one_if (test x) x) xs
+
+-- a table with a place for each number below n, that holds what stands beside each of these numbers there
+abbrev pub table_of : {A : Type 0} → ℕ → List (ℕ × A) → List (Option A)
+table_of n entries = fold (λ table entry. slice_set table entry.0 (Some entry.1)) (replicate n None) entries

@@ -1,6 +1,5 @@
 -- Preferred widths (CSS 2.1, 10.3.5), which the standard leaves open: our own reading.
-use Rattle.std.specs.Prelude.{ℕ, zero, suc, ◌==◌, ℤ, pos, ◌+ℤ◌, Bool, true, false, List, [], ◌∷◌, ◌++◌, map, length, None, unwrap_or, find}
-use Rattle.std.specs.Option.{option_map_or}
+use Rattle.std.specs.Prelude.{ℕ, zero, suc, ℤ, pos, ◌+ℤ◌, Bool, true, false, List, [], ◌∷◌, ◌++◌, map, length, slice_index_or, Option, None, unwrap_or}
 use Rattle.viz_base.specs.declared.layouts.Preferred.{Preferred}
 use Rattle.viz_base.specs.declared.lengths.Length.{Length}
 use Rattle.viz_base.specs.declared.lengths.Length.TheVariants as of_length
@@ -9,6 +8,7 @@ use Rattle.viz_base.specs.declared.trees.BoxTree.{BoxTree}
 use Rattle.viz_base.specs.declared.trees.Kind.{Kind}
 use Rattle.viz_base.specs.declared.trees.Kind.TheVariants as of_kind
 use Rattle.viz_base.specs.declared.worlds.World.{World}
+use Rattle.layout_semantics.specs.Lists.{table_of}
 use Rattle.layout_semantics.specs.Extremes.{greatest_from}
 use Rattle.layout_semantics.specs.Order.{kids_of}
 use Rattle.layout_semantics.specs.Blocks.{kind_of, node_of}
@@ -81,12 +81,12 @@ block_widths (floated x ∷ children) = sums_from (pos 0) (leading_floats (float
 
 -- ---- inline content
 
--- of a float or an atomic box among those measured
-abbrev pub measured_width : List (ℕ × ℤ) → ℕ → ℤ
-measured_width inner at = option_map_or (λ entry. entry.1) (find (λ entry. entry.0 == at) inner) (pos 0)
+-- of a float or an atomic box, by the table of those measured
+abbrev pub measured_width : List (Option ℤ) → ℕ → ℤ
+measured_width inner at = unwrap_or (slice_index_or inner at None) (pos 0)
 
 -- an item of a line; a float takes no place among the others
-abbrev pub preferred_item : BoxTree → World → List (ℕ × ℤ) → Item → ℤ
+abbrev pub preferred_item : BoxTree → World → List (Option ℤ) → Item → ℤ
 preferred_item tree w inner (word at text) = text_width tree w (node_of tree at) text
 preferred_item tree w inner (space at) = text_width tree w (node_of tree at) (32 ∷ [])
 preferred_item tree w inner (atomic at) = measured_width inner at
@@ -96,18 +96,18 @@ preferred_item tree w inner (forced at) = pos 0
 preferred_item tree w inner (float at) = pos 0
 
 -- a stretch without the spaces at its ends
-abbrev pub preferred_stretch : BoxTree → World → List (ℕ × ℤ) → List Item → ℤ
+abbrev pub preferred_stretch : BoxTree → World → List (Option ℤ) → List Item → ℤ
 preferred_stretch tree w inner items = total (map (preferred_item tree w inner) (what_stays items))
 
-abbrev pub preferred_floats : List (ℕ × ℤ) → List Item → List ℤ
+abbrev pub preferred_floats : List (Option ℤ) → List Item → List ℤ
 preferred_floats inner items = map (measured_width inner) (float_boxes items)
 
 -- the widest stretch that no line may break, or float
-abbrev pub least_inline : BoxTree → World → List (ℕ × ℤ) → List Item → ℤ
+abbrev pub least_inline : BoxTree → World → List (Option ℤ) → List Item → ℤ
 least_inline tree w inner items = greatest (map (preferred_stretch tree w inner) (stretches tree items) ++ preferred_floats inner items)
 
 -- the widest piece between forced breaks, with the floats in it
-abbrev pub most_inline : BoxTree → World → List (ℕ × ℤ) → List Item → ℤ
+abbrev pub most_inline : BoxTree → World → List (Option ℤ) → List Item → ℤ
 most_inline tree w inner items = greatest (map (λ piece. preferred_stretch tree w inner piece +ℤ total (preferred_floats inner piece)) (pieces items))
 
 -- ---- a box
@@ -132,7 +132,10 @@ abbrev pub preferred_blocks : BoxTree → List (ℕ × Preferred ℤ) → Prefer
 preferred_blocks tree kids = record { least = greatest (map (λ entry. (entry.1).least) kids); most = greatest (block_widths (as_children tree (with_most kids))) }
 
 abbrev pub preferred_inline : BoxTree → World → List (ℕ × Preferred ℤ) → List Item → Preferred ℤ
-preferred_inline tree w inner items = record { least = least_inline tree w (with_least inner) items; most = most_inline tree w (with_most inner) items }
+preferred_inline tree w inner items = record {
+  least = least_inline tree w (table_of (length tree.boxes) (with_least inner)) items;
+  most = most_inline tree w (table_of (length tree.boxes) (with_most inner)) items;
+}
 
 -- what decides the preferred widths of a box
 pub data Inside : Type 0 where

@@ -11,7 +11,7 @@ use Rattle.layout_semantics.specs.Lists.{chosen}
 use Rattle.layout_semantics.specs.Directions.{is_right_to_left}
 use Rattle.layout_semantics.specs.Parts.{Part}
 use Rattle.layout_semantics.specs.BoxTrees.{is_block_part, page_parts, page_boxes, tree_styles, tree_parents}
-use Rattle.layout_semantics.specs.Reaches.{beyond_reach}
+use Rattle.viz_base.specs.Reaches.{beyond_reach}
 
 pub data BoxRefusal : Type 0 where
   -- a block-level box in normal flow that is directly in an inline box

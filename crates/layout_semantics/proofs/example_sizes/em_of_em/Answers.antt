@@ -5,7 +5,7 @@ use Rattle.layout_semantics.specs.DefiniteHeights.{container_to, is_definite_to,
 use Rattle.layout_semantics.specs.FlowBoxes.{clear_of, is_open_above, is_open_below, may_collapse_through, joins_last_child}
 use Rattle.layout_semantics.specs.Horizontal.{widths}
 use Rattle.layout_semantics.specs.Flow.{flow_to}
-use Rattle.layout_semantics.specs.Fonts.{font_size_to}
+use Rattle.viz_base.specs.FontSizes.{font_size_to}
 use Rattle.layout_semantics.specs.InlineContent.{items_to}
 use Rattle.layout_semantics.specs.Leads.{lead_to}
 use Rattle.layout_semantics.specs.LineHeights.{shift_to}
