@@ -1,16 +1,13 @@
 -- What a shown node is in is shown too, and takes boxes.
 use Rattle.std.proofs.Common.{◌≡◌, ℕ, zero, suc, ◌<◌, ◌≤◌, Bool, true, false, not, nat_lt, ◌&&◌, ◌||◌, List, ◌∷◌, length, Option, Some, None, option_and_then, slice_get, IsTrue, refl, sym, ◌∙◌, ap, subst, arith, ltb-true}
 use Rattle.std.specs.List.{list_all}
+use Rattle.std.proofs.lemmas.Bool.{and_parts}
 use Rattle.viz_base.specs.Pages.{IsPage, parent_fits, is_element_at}
 use Rattle.viz_base.specs.declared.nodes.Node.{Node}
 use Rattle.viz_base.specs.declared.styles.Style.{Style}
 use Rattle.layout_semantics.specs.Elements.{is_closed, is_hidden, is_shown, node_passes, parent_of, ancestors, upwards}
 
 -- ---- parents
-
-pub and_parts : (a b : Bool) → (a && b) ≡ true → (a ≡ true) × (b ≡ true)
-and_parts true b e = (refl, e)
-and_parts false b e = absurd (cc)
 
 pub not_or : (a b : Bool) → not (a || b) ≡ true → (a ≡ false) × (b ≡ false)
 not_or true b e = absurd (cc)

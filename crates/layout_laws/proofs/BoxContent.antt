@@ -4,6 +4,7 @@ use Rattle.std.specs.Prelude.{unwrap_or}
 use Rattle.std.specs.List.{list_all}
 use Rattle.std.specs.Option.{option_map_or}
 use Rattle.std.proofs.lemmas.Option.{slice_get_within}
+use Rattle.std.proofs.lemmas.Bool.{not-true, or_left, and_parts}
 use Rattle.viz_base.specs.Pages.{IsPage, is_element, is_break, is_replaced}
 use Rattle.viz_base.specs.Trees.{is_leaf}
 use Rattle.viz_base.specs.declared.nodes.Body.{Body}
@@ -22,7 +23,7 @@ use Rattle.layout_semantics.specs.BoxTrees.{Item, kid_place, items_in, items_of,
 use Rattle.layout_laws.proofs.Members.{In, from_chosen}
 use Rattle.layout_laws.proofs.Places.{node_of}
 use Rattle.layout_laws.proofs.Nesting.{IsBoxOf}
-use Rattle.layout_laws.proofs.Above.{and_parts, not_or, parent_is, parent_shown}
+use Rattle.layout_laws.proofs.Above.{not_or, parent_is, parent_shown}
 use Rattle.layout_laws.proofs.Runs.{is_in_some, run_parent}
 use Rattle.layout_laws.proofs.PageParts.{part_parent, slice_some}
 use Rattle.layout_laws.proofs.BoxLaws.{in_from}
@@ -42,10 +43,6 @@ all_at test (y ∷ ys) x all h = by_place h.0 h.1 h.2 (and_parts (test y) (list_
     by_place zero l e both again = subst (λ z. test z ≡ true) e both.0
     by_place (suc k) l e both again = again both.1 (k, omega (arith, l), e)
 
-pub is_not : (b : Bool) → not b ≡ true → b ≡ false
-is_not true e = absurd (cc)
-is_not false e = refl
-
 -- ---- leaves
 
 inline_leaf : (body : Body) (d : Display) → is_element body ≡ true → is_leaf (inline_kind body d) ≡ true → is_break body ≡ true
@@ -61,9 +58,6 @@ inline_leaf (of_body.Element element) d e l = by_display d l
     by_display of_display.Block l = by_break (is_break (of_body.Element element)) of_kind.Inline refl l
     by_display of_display.Inline l = by_break (is_break (of_body.Element element)) of_kind.Inline refl l
     by_display of_display.InlineBlock l = by_break (is_break (of_body.Element element)) of_kind.Atomic refl l
-
-or_left : (a b : Bool) → a ≡ true → (a || b) ≡ true
-or_left a b e = ap (λ c. c || b) e
 
 -- an element whose box is a leaf has no content
 leaf_is_closed : (body : Body) (is_root : Bool) (s : Style) → is_element body ≡ true → is_leaf (kind_of_node is_root body s) ≡ true → is_closed body ≡ true
@@ -124,7 +118,7 @@ module _ (nodes : List Node) (styles : List Style) (page : IsPage nodes) where
   node_not_hidden at b e =
       let shown = box_shown at b e in
       let parts = and_parts (not (is_hidden (tree_styles nodes styles) b.node)) (list_all (λ above. not (is_hidden (tree_styles nodes styles) above || node_passes is_closed nodes above)) (ancestors nodes b.node)) shown.0 in
-      hidden_in b.node shown.1 (is_not (is_hidden (tree_styles nodes styles) b.node) parts.0)
+      hidden_in b.node shown.1 (not-true (is_hidden (tree_styles nodes styles) b.node) parts.0)
 
   above_open : (at : ℕ) (b : BoxNode) (above : ℕ) → slice_get (page_boxes nodes styles) at ≡ Some b → Contains (ancestors nodes b.node) above → (is_hidden (tree_styles nodes styles) above ≡ false) × (node_passes is_closed nodes above ≡ false)
   above_open at b above e h =

@@ -1,6 +1,7 @@
 -- White space that stays when it collapses.
 use Rattle.std.proofs.Common.{◌≡◌, ℕ, zero, suc, ◌+◌, Bool, true, false, not, List, [], ◌∷◌, ◌++◌, flat_map, zip, Some, slice_get, refl, sym, ◌∙◌, ap, if◌then◌else◌, add-one}
 use Rattle.std.specs.Prelude.{⊤}
+use Rattle.std.proofs.lemmas.Bool.{false_from_ne_true}
 use Rattle.layout_semantics.specs.Lists.{one_if}
 use Rattle.layout_semantics.specs.WhiteSpace.{Thing, collapsed_things, keeps_white, stays, is_white}
 use Rattle.layout_laws.specs.Spaces.{is_space, others}
@@ -46,12 +47,8 @@ next_spaced before [] at a b s e f w = absurd (cc)
 next_spaced before (c ∷ rest) zero a b s e f w = let same : c ≡ a = cc in ap keeps_white (sym same) ∙ first_spaced c b rest s.1 f w
 next_spaced before (c ∷ rest) (suc at) a b s e f w = next_spaced c rest at a b s.1 e f w
 
-is_false : (b : Bool) → (b ≡ true → ⊥) → b ≡ false
-is_false true h = absurd (h refl)
-is_false false h = refl
-
 pub first_is_none : (things : List Thing) (a : Thing) → slice_get (collapsed_things things) 0 ≡ Some a → is_space a ≡ false
-first_is_none things a e = is_false (is_space a) (λ w. let k : keeps_white Thing.edge ≡ true = first_spaced Thing.edge a (collapsed_things things) (spaced things) e w in absurd (cc))
+first_is_none things a e = false_from_ne_true (is_space a) (λ w. let k : keeps_white Thing.edge ≡ true = first_spaced Thing.edge a (collapsed_things things) (spaced things) e w in absurd (cc))
 
 pub next_is_kept : (things : List Thing) (at : ℕ) (a b : Thing) → slice_get (collapsed_things things) at ≡ Some a → slice_get (collapsed_things things) (at + 1) ≡ Some b → is_space b ≡ true → keeps_white a ≡ true
 next_is_kept things at a b e f w = next_spaced Thing.edge (collapsed_things things) at a b (spaced things) e (ap (slice_get (collapsed_things things)) (sym (add-one at)) ∙ f) w

@@ -1,7 +1,7 @@
 -- The edges of boxes: rectangles, automatic margins, and what parts margins.
 use Rattle.std.specs.Int.{int_max}
 use Rattle.std.specs.Ordering.{int_eq}
-use Rattle.std.proofs.Common.{◌≡◌, ◌≢◌, ℕ, zero, suc, ◌<◌, ℤ, pos, negsuc, ◌+ℤ◌, ◌-ℤ◌, ◌≤ℤ◌, Bool, true, false, not, ◌&&◌, ◌||◌, int_le, List, [], ◌∷◌, length, Option, Some, None, refl, sym, ◌∙◌, ap, inl, inr, subst, arith}
+use Rattle.std.proofs.Common.{◌≡◌, ◌≢◌, ℕ, zero, suc, ◌<◌, ℤ, pos, negsuc, ◌+ℤ◌, ◌-ℤ◌, ◌≤ℤ◌, Bool, true, false, not, ◌&&◌, ◌||◌, int_le, [], ◌∷◌, length, Option, Some, None, refl, sym, ◌∙◌, ap, inl, inr, subst, arith}
 use Rattle.std.proofs.lemmas.Bool.Decides.{Decides-int_eq}
 use Rattle.std.proofs.lemmas.Int.{ints, clamps}
 use Rattle.viz_base.specs.Numbers.{floor_of}
@@ -18,7 +18,7 @@ use Rattle.layout_semantics.specs.DefiniteHeights.{counts_as_auto, has_auto_heig
 use Rattle.layout_semantics.specs.FlowBoxes.{clear_of, is_context_root, is_replaced_at, is_open_above, is_open_below, may_collapse_through, joins_last_child}
 use Rattle.layout_semantics.specs.Horizontal.{block_flow, replaced_block, widths, sum_of, terms_around, block_terms, fixed_terms, left_margin, with_margins, is_auto}
 use Rattle.layout_semantics.specs.InlineContent.{is_zero, has_line}
-use Rattle.layout_semantics.specs.Leads.{Leading, lead, lead_to, top_margin, clears_something}
+use Rattle.layout_semantics.specs.Leads.{lead, lead_to, top_margin}
 use Rattle.layout_semantics.specs.Lengths.{borders, paddings, margins, used}
 use Rattle.layout_semantics.specs.LineFilling.{band_width}
 use Rattle.layout_semantics.specs.Lines.{aligned}
@@ -112,18 +112,18 @@ closed_by_padding : (tree : BoxTree) (b : ℕ) → is_zero (paddings tree b).top
 unfolding is_open_above
 closed_by_padding tree b e = last_false (not (is_context_root tree b)) (not (is_replaced_at tree b)) (is_zero (borders tree b).top) (is_zero (paddings tree b).top) e
 
-parted : (tree : BoxTree) (w : World) (height levels : ℕ) (passed : ℕ → Bool) (cb : Band ℤ) (b : ℕ) → 0 < levels → clear_of tree b ≡ of_clear.Nothing → is_open_above tree b ≡ false
-    → (lead_to tree w height levels passed cb b).margins ≡ top_margin tree w height cb b ∷ []
+parted : (tree : BoxTree) (w : World) (levels : ℕ) (passed : ℕ → Bool) (cb : Band ℤ) (b : ℕ) → 0 < levels → clear_of tree b ≡ of_clear.Nothing → is_open_above tree b ≡ false
+    → (lead_to tree w levels passed cb b).margins ≡ top_margin tree w cb b ∷ []
 unfolding lead_to
-parted tree w height zero passed cb b l c o = absurd (omega arith)
-parted tree w height (suc levels) passed cb b l c o = rw c (rw o refl)
+parted tree w zero passed cb b l c o = absurd (omega arith)
+parted tree w (suc levels) passed cb b l c o = rw c (rw o refl)
 
-module _ (tree : BoxTree) (w : World) (height : ℕ) (b : ℕ) (within : b < length tree.boxes) (clear : clear_of tree b ≡ of_clear.Nothing) (passed : ℕ → Bool) (cb : Band ℤ) where
-  pub border-parts : is_zero (borders tree b).top ≡ false → (lead tree w height passed cb b).margins ≡ top_margin tree w height cb b ∷ []
-  border-parts e = parted tree w height (length tree.boxes) passed cb b (omega arith) clear (closed_by_border tree b e)
+module _ (tree : BoxTree) (w : World) (b : ℕ) (within : b < length tree.boxes) (clear : clear_of tree b ≡ of_clear.Nothing) (passed : ℕ → Bool) (cb : Band ℤ) where
+  pub border-parts : is_zero (borders tree b).top ≡ false → (lead tree w passed cb b).margins ≡ top_margin tree w cb b ∷ []
+  border-parts e = parted tree w (length tree.boxes) passed cb b (omega arith) clear (closed_by_border tree b e)
 
-  pub padding-parts : is_zero (paddings tree b).top ≡ false → (lead tree w height passed cb b).margins ≡ top_margin tree w height cb b ∷ []
-  padding-parts e = parted tree w height (length tree.boxes) passed cb b (omega arith) clear (closed_by_padding tree b e)
+  pub padding-parts : is_zero (paddings tree b).top ≡ false → (lead tree w passed cb b).margins ≡ top_margin tree w cb b ∷ []
+  padding-parts e = parted tree w (length tree.boxes) passed cb b (omega arith) clear (closed_by_padding tree b e)
 
 -- ---- minimum heights
 

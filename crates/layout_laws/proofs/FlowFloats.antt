@@ -1,8 +1,9 @@
 -- Floats are placed one after another by the rules, in normal flow.
-use Rattle.std.proofs.Common.{◌≡◌, ℕ, zero, suc, ℤ, Bool, true, false, List, [], ◌∷◌, fold, map, unwrap_or, refl}
+use Rattle.std.proofs.Common.{◌≡◌, ℕ, zero, suc, ℤ, Bool, true, false, List, [], ◌∷◌, fold, map, length, unwrap_or, refl}
 use Rattle.viz_base.specs.declared.layouts.Band.{Band}
 use Rattle.viz_base.specs.declared.trees.BoxTree.{BoxTree}
 use Rattle.viz_base.specs.declared.worlds.World.{World}
+use Rattle.layout_semantics.specs.Lists.{table_of}
 use Rattle.layout_semantics.specs.Floats.{FloatBox, floating}
 use Rattle.layout_semantics.specs.InlineContent.{is_floated_at, has_line, inner_boxes}
 use Rattle.layout_semantics.specs.FlowBoxes.{is_replaced_at, is_context_root, flow_children, across}
@@ -43,7 +44,7 @@ module _ (tree : BoxTree) (w : World) (height : ℕ) (inside : ℕ → Band ℤ 
   of_step b cb top p = by (has_line tree b) refl
     where
       by : (x : Bool) → has_line tree b ≡ x → ArePlacedAfter p.floats (flow_step tree w height inside b cb top p).floats
-      by true e = rw e (of_lines (record { tree = tree; world = w; container = b; inner = map (inner_size tree w height inside cb) (inner_boxes tree b); cb = cb }) top (unwrap_or p.least top) p.floats)
+      by true e = rw e (of_lines (record { tree = tree; world = w; container = b; inner = table_of (length tree.boxes) (map (λ k. (k, inner_size tree w height inside cb k)) (inner_boxes tree b)); cb = cb }) top (unwrap_or p.least top) p.floats)
       by false e = rw e (of_children cb top p (flow_children tree b))
 
 pub of_flow : (tree : BoxTree) (w : World) (height levels b : ℕ) (cb : Band ℤ) (top : ℤ) (p : Progress) → ArePlacedAfter p.floats (flow_to tree w height levels b cb top p).floats

@@ -16,6 +16,7 @@ use Rattle.viz_base.specs.declared.trees.BoxTree.{BoxTree}
 use Rattle.viz_base.specs.declared.trees.Kind.{Kind}
 use Rattle.viz_base.specs.declared.trees.Kind.TheVariants as of_kind
 use Rattle.viz_base.specs.declared.worlds.World.{World}
+use Rattle.layout_semantics.specs.Lists.{table_of}
 use Rattle.layout_semantics.specs.Floats.{FloatBox, floating, with_float}
 use Rattle.layout_semantics.specs.Margins.{collapsed}
 use Rattle.layout_semantics.specs.Rectangles.{Frame, content_top, shifted}
@@ -35,7 +36,7 @@ use Rattle.layout_laws.proofs.Flowing.{frame_of}
 
 -- ---- where a box stands, by the sizes of the floats that wait
 
-module _ (tree : BoxTree) (w : World) (height : ℕ) (one other : Waiting ℤ → Extent ℤ) (b : ℕ) (l : b < length tree.boxes)
+module _ (tree : BoxTree) (w : World) (one other : Waiting ℤ → Extent ℤ) (b : ℕ) (l : b < length tree.boxes)
     (same : (f : Waiting ℤ) → IsFrom tree.boxes (suc b) f.at → one f ≡ other f) where
   with_waiting-same : (fs : List (Waiting ℤ)) (floats : List FloatBox) (least : Option ℤ) (y : ℤ) → AllByRecursion (λ (f : Waiting ℤ). IsFrom tree.boxes (suc b) f.at) fs
       → with_waiting tree one fs floats least y ≡ with_waiting tree other fs floats least y
@@ -47,74 +48,74 @@ module _ (tree : BoxTree) (w : World) (height : ℕ) (one other : Waiting ℤ �
   module _ (edge : List ℤ → ℤ) (cb : Band ℤ) (floats : List FloatBox) (least : Option ℤ) where
     abbrev Same : ℕ → (ℕ → Bool) → Type 0
     Same n passed =
-        resolve_step tree w height one edge cb floats least b (λ d. resolve_to tree w height one edge cb floats least b n (is_up_to d)) (lead tree w height passed cb b)
-        ≡ resolve_step tree w height other edge cb floats least b (λ d. resolve_to tree w height other edge cb floats least b n (is_up_to d)) (lead tree w height passed cb b)
+        resolve_step tree w one edge cb floats least b (λ d. resolve_to tree w one edge cb floats least b n (is_up_to d)) (lead tree w passed cb b)
+        ≡ resolve_step tree w other edge cb floats least b (λ d. resolve_to tree w other edge cb floats least b n (is_up_to d)) (lead tree w passed cb b)
 
-    pub resolve-same : (n : ℕ) (passed : ℕ → Bool) → resolve_to tree w height one edge cb floats least b n passed ≡ resolve_to tree w height other edge cb floats least b n passed
+    pub resolve-same : (n : ℕ) (passed : ℕ → Bool) → resolve_to tree w one edge cb floats least b n passed ≡ resolve_to tree w other edge cb floats least b n passed
     unfolding resolve_to
     resolve-same zero passed = refl
     resolve-same (suc n) passed = by_end found.end refl (λ d. resolve-same n (is_up_to d))
       where
         found : Leading
-        found = lead tree w height passed cb b
+        found = lead tree w passed cb b
 
         waits : (y : ℤ) → with_waiting tree one found.waiting floats least y ≡ with_waiting tree other found.waiting floats least y
-        waits y = with_waiting-same found.waiting floats least y (lead-leads tree w height passed cb b l).waits
+        waits y = with_waiting-same found.waiting floats least y (lead-leads tree w passed cb b l).waits
 
-        cleared-same : (d : ℕ) → is_cleared tree w height one edge cb floats least b found d ≡ is_cleared tree w height other edge cb floats least b found d
+        cleared-same : (d : ℕ) → is_cleared tree w one edge cb floats least b found d ≡ is_cleared tree w other edge cb floats least b found d
         cleared-same d = rw (waits _) refl
 
-        edge-same : (d : ℕ) → cleared_edge tree w height one edge cb floats least b found d ≡ cleared_edge tree w height other edge cb floats least b found d
+        edge-same : (d : ℕ) → cleared_edge tree w one edge cb floats least b found d ≡ cleared_edge tree w other edge cb floats least b found d
         edge-same d = rw (waits _) refl
 
-        by_clearance : (d : ℕ) (c : Bool) → found.end ≡ of_end.Cleared d → is_cleared tree w height other edge cb floats least b found d ≡ c
-            → resolve_to tree w height one edge cb floats least b n (is_up_to d) ≡ resolve_to tree w height other edge cb floats least b n (is_up_to d) → Same n passed
+        by_clearance : (d : ℕ) (c : Bool) → found.end ≡ of_end.Cleared d → is_cleared tree w other edge cb floats least b found d ≡ c
+            → resolve_to tree w one edge cb floats least b n (is_up_to d) ≡ resolve_to tree w other edge cb floats least b n (is_up_to d) → Same n passed
         by_clearance d true e c again = rw (e, cleared-same d, c, edge-same d) refl
         by_clearance d false e c again = rw (e, cleared-same d, c) again
 
-        by_end : (end : LeadEnd) → found.end ≡ end → ((d : ℕ) → resolve_to tree w height one edge cb floats least b n (is_up_to d) ≡ resolve_to tree w height other edge cb floats least b n (is_up_to d)) → Same n passed
+        by_end : (end : LeadEnd) → found.end ≡ end → ((d : ℕ) → resolve_to tree w one edge cb floats least b n (is_up_to d) ≡ resolve_to tree w other edge cb floats least b n (is_up_to d)) → Same n passed
         by_end of_end.Through e again = rw e refl
         by_end (of_end.Solid d) e again = rw e refl
-        by_end (of_end.Cleared d) e again = by_clearance d (is_cleared tree w height other edge cb floats least b found d) e refl (again d)
+        by_end (of_end.Cleared d) e again = by_clearance d (is_cleared tree w other edge cb floats least b found d) e refl (again d)
 
 -- ---- levels enough to find where a box stands
 
-module _ (tree : BoxTree) (w : World) (height : ℕ) (size : Waiting ℤ → Extent ℤ) (edge : List ℤ → ℤ) (cb : Band ℤ) (floats : List FloatBox) (least : Option ℤ) (b : ℕ) (l : b < length tree.boxes) where
+module _ (tree : BoxTree) (w : World) (size : Waiting ℤ → Extent ℤ) (edge : List ℤ → ℤ) (cb : Band ℤ) (floats : List FloatBox) (least : Option ℤ) (b : ℕ) (l : b < length tree.boxes) where
   step-same : (go on : ℕ → Resolved) (passed : ℕ → Bool) → ((d : ℕ) → d < length tree.boxes → passed d ≡ false → go d ≡ on d)
-      → resolve_step tree w height size edge cb floats least b go (lead tree w height passed cb b) ≡ resolve_step tree w height size edge cb floats least b on (lead tree w height passed cb b)
+      → resolve_step tree w size edge cb floats least b go (lead tree w passed cb b) ≡ resolve_step tree w size edge cb floats least b on (lead tree w passed cb b)
   step-same go on passed same = by_end found.end refl
     where
       found : Leading
-      found = lead tree w height passed cb b
+      found = lead tree w passed cb b
 
-      by_clearance : (d : ℕ) (c : Bool) → found.end ≡ of_end.Cleared d → is_cleared tree w height size edge cb floats least b found d ≡ c → go d ≡ on d
-          → resolve_step tree w height size edge cb floats least b go found ≡ resolve_step tree w height size edge cb floats least b on found
+      by_clearance : (d : ℕ) (c : Bool) → found.end ≡ of_end.Cleared d → is_cleared tree w size edge cb floats least b found d ≡ c → go d ≡ on d
+          → resolve_step tree w size edge cb floats least b go found ≡ resolve_step tree w size edge cb floats least b on found
       by_clearance d true e c again = rw (e, c) refl
       by_clearance d false e c again = rw (e, c) again
 
-      by_end : (end : LeadEnd) → found.end ≡ end → resolve_step tree w height size edge cb floats least b go found ≡ resolve_step tree w height size edge cb floats least b on found
+      by_end : (end : LeadEnd) → found.end ≡ end → resolve_step tree w size edge cb floats least b go found ≡ resolve_step tree w size edge cb floats least b on found
       by_end of_end.Through e = rw e refl
       by_end (of_end.Solid d) e = rw e refl
       by_end (of_end.Cleared d) e =
-          let ends = subst (EndsWell tree w height passed) e (lead-leads tree w height passed cb b l).ends in
-          by_clearance d (is_cleared tree w height size edge cb floats least b found d) e refl (same d ends.0 ends.1)
+          let ends = subst (EndsWell tree w passed) e (lead-leads tree w passed cb b l).ends in
+          by_clearance d (is_cleared tree w size edge cb floats least b found d) e refl (same d ends.0 ends.1)
 
   resolve-enough : (n m d : ℕ) → d < length tree.boxes → length tree.boxes ≤ n + d → length tree.boxes ≤ m + d
-      → resolve_to tree w height size edge cb floats least b n (is_up_to d) ≡ resolve_to tree w height size edge cb floats least b m (is_up_to d)
+      → resolve_to tree w size edge cb floats least b n (is_up_to d) ≡ resolve_to tree w size edge cb floats least b m (is_up_to d)
   unfolding resolve_to
   resolve-enough zero m d k p q = absurd (omega arith)
   resolve-enough (suc n) zero d k p q = absurd (omega arith)
   resolve-enough (suc n) (suc m) d k p q =
-      step-same (λ e. resolve_to tree w height size edge cb floats least b n (is_up_to e)) (λ e. resolve_to tree w height size edge cb floats least b m (is_up_to e)) (is_up_to d)
+      step-same (λ e. resolve_to tree w size edge cb floats least b n (is_up_to e)) (λ e. resolve_to tree w size edge cb floats least b m (is_up_to e)) (is_up_to d)
       (λ e within past. let later = after e d past in resolve-enough n m e within (omega arith) (omega arith))
     where
       after : (e d : ℕ) → nat_le e d ≡ false → d < e
       after e d h = grind (arith, nat_tests)
 
-  pub resolve-is : (passed : ℕ → Bool) → resolve tree w height size edge cb floats least b passed ≡ resolve_step tree w height size edge cb floats least b (λ d. resolve tree w height size edge cb floats least b (is_up_to d)) (lead tree w height passed cb b)
+  pub resolve-is : (passed : ℕ → Bool) → resolve tree w size edge cb floats least b passed ≡ resolve_step tree w size edge cb floats least b (λ d. resolve tree w size edge cb floats least b (is_up_to d)) (lead tree w passed cb b)
   unfolding resolve_to
   resolve-is passed =
-      step-same (λ e. resolve_to tree w height size edge cb floats least b (length tree.boxes) (is_up_to e)) (λ e. resolve tree w height size edge cb floats least b (is_up_to e)) passed
+      step-same (λ e. resolve_to tree w size edge cb floats least b (length tree.boxes) (is_up_to e)) (λ e. resolve tree w size edge cb floats least b (is_up_to e)) passed
       (λ d within past. resolve-enough (length tree.boxes) (suc (length tree.boxes)) d within (omega arith) (omega arith))
 
 -- ---- the flow, by that of later boxes
@@ -148,11 +149,11 @@ module _ (tree : BoxTree) (w : World) (height : ℕ) (f g : Inside) (b : ℕ)
   size-same k h x i = ap (λ (a : Alone). a.size) (alone-same x.at (across x.cb) (record { from = let low = h.from in let high = i.from in omega arith; within = i.within }))
 
   abbrev stands : Inside → (List ℤ → ℤ) → Band ℤ → Progress → ℕ → (ℕ → Bool) → Resolved
-  stands inside edge cb p k passed = resolve tree w height (waiting_size tree w height inside) edge cb p.floats p.least k passed
+  stands inside edge cb p k passed = resolve tree w (waiting_size tree w height inside) edge cb p.floats p.least k passed
 
   stands-same : (edge : List ℤ → ℤ) (cb : Band ℤ) (p : Progress) (k : ℕ) (passed : ℕ → Bool) → Late k → stands f edge cb p k passed ≡ stands g edge cb p k passed
   stands-same edge cb p k passed h =
-      resolve-same tree w height (waiting_size tree w height f) (waiting_size tree w height g) k h.within (size-same k h) edge cb p.floats p.least (suc (length tree.boxes)) passed
+      resolve-same tree w (waiting_size tree w height f) (waiting_size tree w height g) k h.within (size-same k h) edge cb p.floats p.least (suc (length tree.boxes)) passed
 
   reached_at-same : (cb : Band ℤ) (p : Progress) (k : ℕ) (y : ℤ) (cleared : Cleared) → Late k → reached_at tree w height f cb p k y cleared ≡ reached_at tree w height g cb p k y cleared
   reached_at-same cb p k y None h = refl
@@ -231,16 +232,19 @@ module _ (tree : BoxTree) (w : World) (height : ℕ) (f g : Inside) (b : ℕ)
       ap (λ (x : Alone). shifted at x.boxes ++ flat_map (entry_boxes tree w height f cb) es) (alone-same k (across cb) a.0)
       ∙ ap (λ (l : List (Placed ℤ)). shifted at (alone tree w height g k (across cb)).boxes ++ l) (boxes-same cb es a.1)
 
-  abbrev set : Band ℤ → ℤ → Progress → List (Inner ℤ) → LineList
-  set cb top p inner = lines tree w b inner cb top (unwrap_or p.least top) p.floats
+  abbrev sized : (ℕ → Band ℤ → ℤ → Progress → Progress) → Band ℤ → ℕ → ℕ × Inner ℤ
+  sized inside cb k = (k, inner_size tree w height inside cb k)
+
+  abbrev set : Band ℤ → ℤ → Progress → List (ℕ × Inner ℤ) → LineList
+  set cb top p inner = lines tree w b (table_of (length tree.boxes) inner) cb top (unwrap_or p.least top) p.floats
 
   lines-same : (cb : Band ℤ) (top : ℤ) (p : Progress) → line_content tree w height f b cb top p ≡ line_content tree w height g b cb top p
   lines-same cb top p =
-      let inner = map (inner_size tree w height g cb) (inner_boxes tree b) in
+      let inner = map (sized g cb) (inner_boxes tree b) in
       let late = entries-late (set cb top p inner).entries
-      (subst (AllByRecursion LateName) (sym (content-shown of_box tree w b inner cb top (unwrap_or p.least top) p.floats)) (names-late (inner_boxes tree b) (inner_boxes-from tree b (forest tree)))) in
-      ap (λ (inner : List (Inner ℤ)). after_lines tree w height f cb p (set cb top p inner)) (map-same (inner_size tree w height f cb) (inner_size tree w height g cb) (inner_boxes tree b)
-      (All-implied Late (λ k. inner_size tree w height f cb k ≡ inner_size tree w height g cb k) (inner_boxes tree b) (λ k h. inner-same cb k h) (inner_boxes-from tree b (forest tree))))
+      (subst (AllByRecursion LateName) (sym (content-shown of_box tree w b (table_of (length tree.boxes) inner) cb top (unwrap_or p.least top) p.floats)) (names-late (inner_boxes tree b) (inner_boxes-from tree b (forest tree)))) in
+      ap (λ (inner : List (ℕ × Inner ℤ)). after_lines tree w height f cb p (set cb top p inner)) (map-same (sized f cb) (sized g cb) (inner_boxes tree b)
+      (All-implied Late (λ k. sized f cb k ≡ sized g cb k) (inner_boxes tree b) (λ k h. ap (λ (i : Inner ℤ). (k, i)) (inner-same cb k h)) (inner_boxes-from tree b (forest tree))))
       ∙ ap (λ (boxes : List (Placed ℤ)). record (after_lines tree w height g cb p (set cb top p inner)) { boxes = p.boxes ++ boxes }) (boxes-same cb (set cb top p inner).entries late)
 
   pub step-flow-same : (cb : Band ℤ) (top : ℤ) (p : Progress) → flow_step tree w height f b cb top p ≡ flow_step tree w height g b cb top p

@@ -1,7 +1,7 @@
 use Rattle.std.proofs.Common.{◌≡◌, ℕ, zero, suc, ◌<◌, ℤ, List, Option, Some, None, slice_get, refl, ◌∙◌, ap, arith}
 use Rattle.std.specs.Option.{option_map_or, option_and_then}
 use Rattle.viz_base.specs.declared.styles.Style.{Style}
-use Rattle.layout_semantics.specs.Fonts.{default_size, parent_in, computed_size, font_size_to, font_size_in}
+use Rattle.viz_base.specs.FontSizes.{default_size, parent_in, computed_size, font_size_to, font_size_in}
 
 -- each parent comes before its children
 abbrev pub ParentsBefore : List (Option ℕ) → Type 0

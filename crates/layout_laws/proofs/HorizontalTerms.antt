@@ -7,14 +7,14 @@ use Rattle.viz_base.specs.declared.trees.BoxTree.{BoxTree}
 use Rattle.viz_base.specs.declared.worlds.World.{World}
 use Rattle.layout_semantics.specs.Lengths.{held, margins}
 use Rattle.layout_semantics.specs.Replaced.{replaced_size}
-use Rattle.layout_semantics.specs.Horizontal.{Placing, block_flow, shrunk, replaced_block, replaced_shrunk, placing_of, widths, sum_of, with_margins, terms_around, block_terms, shrunk_terms, fixed_terms, held_terms, at_most, at_least, again_unless, available, left_margin, is_auto}
+use Rattle.layout_semantics.specs.Horizontal.{Placing, block_flow, shrunk, replaced_block, replaced_shrunk, placing_of, flow_widths, widths, sum_of, with_margins, terms_around, block_terms, shrunk_terms, fixed_terms, held_terms, at_most, at_least, again_unless, available, left_margin, is_auto}
 use Rattle.layout_laws.specs.Terms.{IsInFlowBlock, own_width, own_maximum, own_minimum, held_width}
 
 -- ---- by the placing of a box
 
 abbrev of_placing : BoxTree → World → ℕ → ℕ → ℤ → Placing → Widths ℤ
 of_placing tree w viewport at cb p = elim p [
-  | block_flow ↦ held_terms tree w at cb (block_terms tree w at cb)
+  | block_flow ↦ flow_widths tree w at cb
   | shrunk ↦ held_terms tree w at cb (shrunk_terms tree w at cb)
   | replaced_block ↦ fixed_terms tree w at cb (replaced_size tree w viewport at cb).width
   | replaced_shrunk ↦ terms_around tree w at cb (replaced_size tree w viewport at cb).width

@@ -87,11 +87,6 @@ items-from (suc n) tree at t l =
 pub content-from : (tree : BoxTree) (at : ℕ) → IsForest tree.boxes → ItemsFrom tree.boxes (suc at) (content tree at)
 content-from tree at t = kids-from tree at (items_to (length tree.boxes) tree) (kids_of tree.boxes at) (t.kids at) (λ k w. items-from (length tree.boxes) tree k t w)
 
-abbrev inner_item : Item → List ℕ
-inner_item (float at) = at ∷ []
-inner_item (atomic at) = at ∷ []
-inner_item _ = []
-
 inner-from : (boxes : List BoxNode) (low : ℕ) (items : List Item) → ItemsFrom boxes low items → AllByRecursion (IsFrom boxes low) (inner_items items)
 inner-from boxes low [] a = tt
 inner-from boxes low (start at ∷ items) a = inner-from boxes low items a.1

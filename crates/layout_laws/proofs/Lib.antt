@@ -61,3 +61,4 @@ pub mod WholeFloats
 pub mod WholeLines
 pub mod WholePage
 pub mod EdgeLaws
+pub mod TextTotals

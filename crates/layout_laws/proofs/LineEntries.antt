@@ -1,17 +1,15 @@
 use Rattle.std.proofs.Common.{◌≡◌, ℕ, ℤ, Bool, true, false, cond, List, [], ◌∷◌, ◌++◌, refl, sym, ◌∙◌, ap, append_assoc}
-use Rattle.std.specs.Prelude.{Option, Some, None, find, ◌==◌}
-use Rattle.std.specs.List.{flat_map}
+use Rattle.std.specs.Prelude.{Option, Some, None, take}
 use Rattle.std.specs.Option.{option_map_or}
 use Rattle.viz_base.specs.declared.layouts.Entry.{Entry}
-use Rattle.viz_base.specs.declared.layouts.Entry.TheVariants as of_entry
 use Rattle.viz_base.specs.declared.layouts.Spot.{Spot}
 use Rattle.layout_semantics.specs.InlineContent.{Item, start, finish, word, space, atomic, forced, float}
 use Rattle.layout_semantics.specs.LineHeights.{InlineContext}
-use Rattle.layout_semantics.specs.Fragments.{ItemPlace, SetLine, is_text_of, text_fragment, text_right, text_entry, inline_fragment, opened_entries, item_entries, entries_after, line_entries, float_entry, atomic_entry}
+use Rattle.layout_semantics.specs.Fragments.{ItemPlace, SetLine, is_text_of, text_fragment, text_right, text_entry, inline_fragment, opened_entries, item_entries, entries_after, line_entries, float_entries, spots_after, atomic_entry}
 use Rattle.layout_laws.specs.LineStacks.{line_rectangle, line_rectangles}
 
-abbrev of_item : InlineContext → SetLine → Option ItemPlace → ItemPlace → List ItemPlace → Item → List (Entry ℤ)
-of_item c line before p after i = elim i [ start at ↦ inline_fragment c line at (Some p.right) after ∷ [] | finish at ↦ [] | word at text ↦ text_entry c line at before p after | space at ↦ text_entry c line at before p after | atomic at ↦ atomic_entry c line at p.left ∷ [] | forced at ↦ [] | float at ↦ float_entry line.spots at ]
+abbrev of_item : InlineContext → SetLine → Option ItemPlace → ItemPlace → List ItemPlace → List (ℕ × Spot ℤ) → Item → List (Entry ℤ)
+of_item c line before p after spots i = elim i [ start at ↦ inline_fragment c line at (Some p.right) after ∷ [] | finish at ↦ [] | word at text ↦ text_entry c line at before p after | space at ↦ text_entry c line at before p after | atomic at ↦ atomic_entry c line at p.left ∷ [] | forced at ↦ [] | float at ↦ float_entries (take 1 spots) ]
 
 -- ---- line boxes among entries
 
@@ -33,30 +31,25 @@ text-none c line at before p after = by (option_map_or (is_text_of at) before fa
     by true = refl
     by false = refl
 
-pub float-none : (spots : List (ℕ × Spot ℤ)) (at : ℕ) → line_rectangles (float_entry spots at) ≡ []
-float-none spots at = by (find (λ entry. entry.0 == at) spots)
-  where
-    by : (o : Option (ℕ × Spot ℤ)) → line_rectangles (option_map_or (λ entry. of_entry.Goes at entry.1 ∷ []) o []) ≡ []
-    by None = refl
-    by (Some entry) = refl
+pub floats-none : (spots : List (ℕ × Spot ℤ)) → line_rectangles (float_entries spots) ≡ []
+floats-none [] = refl
+floats-none (spot ∷ spots) = floats-none spots
 
-item-none : (c : InlineContext) (line : SetLine) (before : Option ItemPlace) (p : ItemPlace) (after : List ItemPlace) (i : Item) → line_rectangles (of_item c line before p after i) ≡ []
-item-none c line before p after (start at) = refl
-item-none c line before p after (finish at) = refl
-item-none c line before p after (word at text) = text-none c line at before p after
-item-none c line before p after (space at) = text-none c line at before p after
-item-none c line before p after (atomic at) = refl
-item-none c line before p after (forced at) = refl
-item-none c line before p after (float at) = float-none line.spots at
+item-none : (c : InlineContext) (line : SetLine) (before : Option ItemPlace) (p : ItemPlace) (after : List ItemPlace) (spots : List (ℕ × Spot ℤ)) (i : Item) → line_rectangles (of_item c line before p after spots i) ≡ []
+item-none c line before p after spots (start at) = refl
+item-none c line before p after spots (finish at) = refl
+item-none c line before p after spots (word at text) = text-none c line at before p after
+item-none c line before p after spots (space at) = text-none c line at before p after
+item-none c line before p after spots (atomic at) = refl
+item-none c line before p after spots (forced at) = refl
+item-none c line before p after spots (float at) = floats-none (take 1 spots)
 
-places-none : (c : InlineContext) (line : SetLine) (before : Option ItemPlace) (ps : List ItemPlace) → line_rectangles (entries_after c line before ps) ≡ []
-places-none c line before [] = refl
-places-none c line before (p ∷ after) = none-append (item_entries c line before p after) (entries_after c line (Some p) after) (item-none c line before p after p.item) (places-none c line (Some p) after)
+places-none : (c : InlineContext) (line : SetLine) (before : Option ItemPlace) (ps : List ItemPlace) (spots : List (ℕ × Spot ℤ)) → line_rectangles (entries_after c line before ps spots) ≡ []
+places-none c line before [] spots = refl
+places-none c line before (p ∷ after) spots =
+    none-append (item_entries c line before p after spots) (entries_after c line (Some p) after (spots_after p.item spots))
+    (item-none c line before p after spots p.item) (places-none c line (Some p) after (spots_after p.item spots))
 
 -- a line's fragments are no line boxes
 pub entries-none : (c : InlineContext) (line : SetLine) (opened : List ℕ) → line_rectangles (line_entries c line opened) ≡ []
-entries-none c line opened = none-append (opened_entries c line opened) (entries_after c line None line.places) (fragments-none c line opened) (places-none c line None line.places)
-
-pub floats-none : (spots : List (ℕ × Spot ℤ)) (boxes : List ℕ) → line_rectangles (flat_map (float_entry spots) boxes) ≡ []
-floats-none spots [] = refl
-floats-none spots (at ∷ boxes) = none-append (float_entry spots at) (flat_map (float_entry spots) boxes) (float-none spots at) (floats-none spots boxes)
+entries-none c line opened = none-append (opened_entries c line opened) (entries_after c line None line.places line.spots) (fragments-none c line opened) (places-none c line None line.places line.spots)

@@ -1,5 +1,5 @@
 use Rattle.std.proofs.Common.{◌≡◌, ℕ, zero, suc, ℤ, ◌≤ℤ◌, Bool, true, false, List, [], ◌∷◌, ◌++◌, fold, slice_index_or, refl, sym, ◌∙◌, ap, append_assoc, arith}
-use Rattle.std.specs.Prelude.{Some, cond}
+use Rattle.std.specs.Prelude.{Some, cond, ◌&&◌}
 use Rattle.std.specs.Option.{option_to_list}
 use Rattle.std.proofs.lemmas.Int.{ints}
 use Rattle.viz_base.specs.declared.layouts.Band.{Band}
@@ -8,7 +8,7 @@ use Rattle.viz_base.specs.declared.styles.Side.{Side}
 use Rattle.viz_base.specs.declared.styles.Side.TheVariants as of_side
 use Rattle.layout_semantics.specs.Floats.{FloatBox, placed_float, lowest_bottom, float_top}
 use Rattle.layout_semantics.specs.LineHeights.{InlineContext}
-use Rattle.layout_semantics.specs.LineFilling.{Met, Line, line_float, line_spot, with_spot, place_each, stands_at_once, meet, met_after, floats_met, first_items, width_held}
+use Rattle.layout_semantics.specs.LineFilling.{Met, Line, line_float, line_spot, with_spot, with_waiting, place_each, none_waits, leaves_room, meet, met_after, floats_met, first_items, width_held}
 use Rattle.layout_laws.specs.FloatRules.{ObeysRules}
 use Rattle.layout_laws.specs.LineStacks.{HasMoreFloats}
 use Rattle.layout_laws.proofs.FloatPlaces.{highest_obeys}
@@ -62,10 +62,10 @@ meet-more : (c : InlineContext) (m : ℤ) (line : Line) (held : ℤ) (before : L
 meet-more c m line held before met at l h =
     let spot = line_spot c met.floats line.least line.top at in
     let low = spot-low c met.floats line.least line.top at in
-    by (stands_at_once c line held met at spot) (with-more c m before met at spot h (omega (arith, ints)))
+    by (none_waits met && leaves_room c line held met at spot) (with-more c m before met at spot h (omega (arith, ints)))
   where
     by : (b : Bool) → HasMoreFloats m before (with_spot c met at (line_spot c met.floats line.least line.top at)).floats
-        → HasMoreFloats m before (cond b (with_spot c met at (line_spot c met.floats line.least line.top at)) (record met { waiting = met.waiting ++ at ∷ [] })).floats
+        → HasMoreFloats m before (cond b (with_spot c met at (line_spot c met.floats line.least line.top at)) (with_waiting met at)).floats
     by true placed = placed
     by false placed = h
 

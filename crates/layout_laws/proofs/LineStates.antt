@@ -1,7 +1,7 @@
-use Rattle.std.proofs.Common.{◌≡◌, ℕ, zero, suc, ℤ, ◌+ℤ◌, ◌≤ℤ◌, Bool, true, false, not, List, [], ◌∷◌, ◌++◌, length, take, drop, filter, cond, fold, Contains, None, refl, sym, ◌∙◌, ap, subst, arith}
+use Rattle.std.proofs.Common.{◌≡◌, ℕ, zero, suc, ℤ, ◌+ℤ◌, ◌≤ℤ◌, Bool, true, false, not, List, [], ◌∷◌, ◌++◌, length, take, drop, filter, cond, fold, Contains, refl, sym, ◌∙◌, ap, subst, append_assoc, append-nil, arith}
 use Rattle.std.specs.Prelude.{◌==◌}
 use Rattle.std.specs.Int.{int_max}
-use Rattle.std.specs.List.{AllByRecursion, list_any, flat_map}
+use Rattle.std.specs.List.{AllByRecursion, list_any}
 use Rattle.std.proofs.lemmas.Int.{ints, clamps}
 use Rattle.viz_base.specs.declared.layouts.Entry.{Entry}
 use Rattle.viz_base.specs.declared.layouts.Band.{Band}
@@ -11,8 +11,8 @@ use Rattle.layout_semantics.specs.InlineContent.{Item, start, finish, word, spac
 use Rattle.layout_semantics.specs.Stretches.{stretches, is_break, may_part}
 use Rattle.layout_semantics.specs.LineHeights.{InlineContext, height_of_extent, line_extent, extended_boxes, extent_in_line, strut, tallest}
 use Rattle.layout_semantics.specs.LineFilling.{Met, Line, joined, first_items, place_each, met_after, stretches_held, width_held, before_line}
-use Rattle.layout_semantics.specs.Fragments.{float_entry, line_entries}
-use Rattle.layout_semantics.specs.Lines.{SoFar, opened_after, next_line, after_line, after_no_line, after_stretches, lines_to, lines_in, lines, line_box, set_line, content_left}
+use Rattle.layout_semantics.specs.Fragments.{float_entries, line_entries}
+use Rattle.layout_semantics.specs.Lines.{LaidLines, followed, laid_none, before_all, opened_after, next_line, laid_line, laid_no_line, laid_stretches, lines_to, lines_in, line_box, set_line, content_left}
 use Rattle.layout_laws.specs.LineStacks.{line_rectangles, IsStack, HasMoreFloats}
 use Rattle.layout_laws.proofs.Among.{contains}
 use Rattle.layout_laws.proofs.Greatest.{all_from, greatest_from-fewer}
@@ -105,12 +105,12 @@ stack-more y (p ∷ qs) end q s l = (s.0, stack-more p.bottom qs end q s.1 l)
 abbrev IsLowLine : InlineContext → Quad ℤ → Type 0
 IsLowLine c q = q.bottom ≤ℤ (q.top +ℤ tallest c)
 
-record Holds (c : InlineContext) (y least : ℤ) (floats : List FloatBox) (now : SoFar) : Type 0 where
-  stacked : IsStack y (line_rectangles now.entries) now.y
-  low : AllByRecursion (IsLowLine c) (line_rectangles now.entries)
-  opened : OfContent c now.opened
-  least_more : least ≤ℤ now.least
-  more : HasMoreFloats least floats now.floats
+record Holds (c : InlineContext) (y least : ℤ) (floats : List FloatBox) (l : LaidLines) : Type 0 where
+  stacked : IsStack y (line_rectangles l.entries) l.after.y
+  low : AllByRecursion (IsLowLine c) (line_rectangles l.entries)
+  opened : OfContent c l.after.opened
+  least_more : least ≤ℤ l.after.least
+  more : HasMoreFloats least floats l.after.floats
 
 -- a line box and its fragments among the entries
 line-rectangles : (c : InlineContext) (entries rest : List (Entry ℤ)) (room : Band ℤ) (top bottom : ℤ) → line_rectangles rest ≡ []
@@ -119,9 +119,10 @@ line-rectangles c entries rest room top bottom none =
     rectangles-append entries (line_box c room top bottom ∷ rest)
     ∙ ap (λ l. line_rectangles entries ++ (record { left = room.left; top = top; right = room.right; bottom = bottom }) ∷ l) none
 
-after_line-holds : (c : InlineContext) (y least : ℤ) (floats : List FloatBox) (now : SoFar) (line : Line) (items : List Item) (met : Met)
-    → Holds c y least floats now → now.y ≤ℤ line.top → OfContent c (extended_boxes items) → HasMoreFloats least floats met.floats → Holds c y least floats (after_line c now line items met)
-after_line-holds c y least floats now line items met h order of more =
+laid_line-holds : (c : InlineContext) (y least : ℤ) (floats : List FloatBox) (l : LaidLines) (line : Line) (items : List Item) (met : Met)
+    → Holds c y least floats l → l.after.y ≤ℤ line.top → OfContent c (extended_boxes items) → HasMoreFloats least floats met.floats → Holds c y least floats (followed l (laid_line c l.after line items met))
+laid_line-holds c y least floats l line items met h order of more =
+    let now = l.after in
     let boxes = All-append (Contains (all_boxes c)) now.opened (extended_boxes items) h.opened of in
     let e = line_extent c (now.opened ++ extended_boxes items) in
     let high = height-most c (now.opened ++ extended_boxes items) boxes in
@@ -130,11 +131,11 @@ after_line-holds c y least floats now line items met h order of more =
     let late = place_each c (int_max now.least line.top) bottom (record met { waiting = [] }) met.waiting in
     let set = set_line c (line.top +ℤ e.above) (content_left c room (width_held c items)) (width_held c items) items late in
     let q : Quad ℤ = record { left = room.left; top = line.top; right = room.right; bottom = bottom } in
-    let same = sym (line-rectangles c now.entries (line_entries c set now.opened) room line.top bottom (entries-none c set now.opened)) in
+    let same = sym (line-rectangles c l.entries (line_entries c set now.opened) room line.top bottom (entries-none c set now.opened)) in
     let known = h.least_more in
     record {
-      stacked = subst (λ qs. IsStack y qs bottom) same (stack-more y (line_rectangles now.entries) now.y q h.stacked order);
-      low = subst (λ qs. AllByRecursion (IsLowLine c) qs) same (All-append (IsLowLine c) (line_rectangles now.entries) (q ∷ []) h.low (omega (arith, ints), tt));
+      stacked = subst (λ qs. IsStack y qs bottom) same (stack-more y (line_rectangles l.entries) now.y q h.stacked order);
+      low = subst (λ qs. AllByRecursion (IsLowLine c) qs) same (All-append (IsLowLine c) (line_rectangles l.entries) (q ∷ []) h.low (omega (arith, ints), tt));
       opened = opened-of c now.opened items h.opened of;
       least_more = omega (arith, ints, clamps);
       more = each-more c least (int_max now.least line.top) bottom floats (record met { waiting = [] }) met.waiting (omega (arith, ints, clamps)) more;
@@ -147,11 +148,12 @@ append-nothing (x ∷ xs) = ap (λ l. x ∷ l) (append-nothing xs)
 append-none : (entries rest : List (Entry ℤ)) → line_rectangles rest ≡ [] → line_rectangles (entries ++ rest) ≡ line_rectangles entries
 append-none entries rest none = rectangles-append entries rest ∙ ap (λ l. line_rectangles entries ++ l) none ∙ append-nothing (line_rectangles entries)
 
-after_no_line-holds : (c : InlineContext) (y least : ℤ) (floats : List FloatBox) (now : SoFar) (items : List Item)
-    → Holds c y least floats now → OfContent c (extended_boxes items) → Holds c y least floats (after_no_line c now items)
-after_no_line-holds c y least floats now items h of =
+laid_no_line-holds : (c : InlineContext) (y least : ℤ) (floats : List FloatBox) (l : LaidLines) (items : List Item)
+    → Holds c y least floats l → OfContent c (extended_boxes items) → Holds c y least floats (followed l (laid_no_line c l.after items))
+laid_no_line-holds c y least floats l items h of =
+    let now = l.after in
     let met = place_each c now.least now.y (record { spots = []; floats = now.floats; waiting = [] }) (float_boxes items) in
-    let same = sym (append-none now.entries (flat_map (float_entry met.spots) (float_boxes items)) (floats-none met.spots (float_boxes items))) in
+    let same = sym (append-none l.entries (float_entries met.spots) (floats-none met.spots)) in
     record {
       stacked = subst (λ qs. IsStack y qs now.y) same h.stacked;
       low = subst (λ qs. AllByRecursion (IsLowLine c) qs) same h.low;
@@ -160,32 +162,36 @@ after_no_line-holds c y least floats now items h of =
       more = each-more c least now.least now.y floats (record { spots = []; floats = now.floats; waiting = [] }) (float_boxes items) h.least_more h.more;
     }
 
-after_stretches-holds : (c : InlineContext) (y least : ℤ) (floats : List FloatBox) (now : SoFar) (line : Line) (n : ℕ)
-    → Holds c y least floats now → now.y ≤ℤ line.top → least ≤ℤ line.least → PartsOf c line.parts → HasMoreFloats least floats line.before.floats → Holds c y least floats (after_stretches c now line n)
-after_stretches-holds c y least floats now line n h order low parts more = by (list_any (makes_line c.tree) (first_items line n))
-    (after_line-holds c y least floats now line (first_items line n) (met_after c line n) h order of (met-more c least line n floats low more))
-    (after_no_line-holds c y least floats now (first_items line n) h of)
+laid_stretches-holds : (c : InlineContext) (y least : ℤ) (floats : List FloatBox) (l : LaidLines) (line : Line) (n : ℕ)
+    → Holds c y least floats l → l.after.y ≤ℤ line.top → least ≤ℤ line.least → PartsOf c line.parts → HasMoreFloats least floats line.before.floats → Holds c y least floats (followed l (laid_stretches c l.after line n))
+laid_stretches-holds c y least floats l line n h order low parts more = by (list_any (makes_line c.tree) (first_items line n))
+    (laid_line-holds c y least floats l line (first_items line n) (met_after c line n) h order of (met-more c least line n floats low more))
+    (laid_no_line-holds c y least floats l (first_items line n) h of)
   where
     of : OfContent c (extended_boxes (first_items line n))
     of = taken-of c n line.parts parts
 
-    by : (b : Bool) → Holds c y least floats (after_line c now line (first_items line n) (met_after c line n)) → Holds c y least floats (after_no_line c now (first_items line n))
-        → Holds c y least floats (elim b as (λ (x : Bool). SoFar) [ true ↦ after_line c now line (first_items line n) (met_after c line n) | false ↦ after_no_line c now (first_items line n) ])
+    by : (b : Bool) → Holds c y least floats (followed l (laid_line c l.after line (first_items line n) (met_after c line n))) → Holds c y least floats (followed l (laid_no_line c l.after (first_items line n)))
+        → Holds c y least floats (followed l (elim b as (λ (x : Bool). LaidLines) [ true ↦ laid_line c l.after line (first_items line n) (met_after c line n) | false ↦ laid_no_line c l.after (first_items line n) ]))
     by true there none = there
     by false there none = none
 
-lines-hold : (lines : ℕ) (c : InlineContext) (y least : ℤ) (floats : List FloatBox) (now : SoFar) (parts : List (List Item))
-    → Holds c y least floats now → PartsOf c parts → Holds c y least floats (lines_to lines c (tallest c) now parts)
+lines-hold : (lines : ℕ) (c : InlineContext) (y least : ℤ) (floats : List FloatBox) (l : LaidLines) (parts : List (List Item))
+    → Holds c y least floats l → PartsOf c parts → Holds c y least floats (followed l (lines_to lines c (tallest c) l.after parts))
 unfolding lines_to
-lines-hold zero c y least floats now parts h of = h
-lines-hold (suc lines) c y least floats now [] h of = h
-lines-hold (suc lines) c y least floats now (first ∷ parts) h of =
+lines-hold zero c y least floats l parts h of = subst (λ es. Holds c y least floats (record { after = l.after; entries = es })) (sym (append-nil l.entries)) h
+lines-hold (suc lines) c y least floats l [] h of = subst (λ es. Holds c y least floats (record { after = l.after; entries = es })) (sym (append-nil l.entries)) h
+lines-hold (suc lines) c y least floats l (first ∷ parts) h of =
+    let now = l.after in
     let line = next_line c (tallest c) now first (first ∷ parts) in
     let n = stretches_held c line in
     let met = place_each c now.least now.y (record { spots = []; floats = now.floats; waiting = [] }) (float_boxes (before_line c.tree first)) in
     let more = each-more c least now.least now.y floats (record { spots = []; floats = now.floats; waiting = [] }) (float_boxes (before_line c.tree first)) h.least_more h.more in
-    let next = after_stretches-holds c y least floats now line n h (line_top-stands c met.floats now.y (tallest c) (width_held c first)).0 h.least_more of more in
-    lines-hold lines c y least floats (after_stretches c now line n) (drop n (first ∷ parts)) next (dropped-of c n (first ∷ parts) of)
+    let next = laid_stretches-holds c y least floats l line n h (line_top-stands c met.floats now.y (tallest c) (width_held c first)).0 h.least_more of more in
+    let one = laid_stretches c now line n in
+    let rest = lines_to lines c (tallest c) one.after (drop n (first ∷ parts)) in
+    subst (λ es. Holds c y least floats (record { after = rest.after; entries = es })) (append_assoc l.entries one.entries rest.entries)
+    (lines-hold lines c y least floats (followed l one) (drop n (first ∷ parts)) next (dropped-of c n (first ∷ parts) of))
 
 pub record LinesHold (c : InlineContext) (y least : ℤ) (floats : List FloatBox) : Type 0 where
   pub stacked : IsStack y (line_rectangles (lines_in c y least floats).entries) (lines_in c y least floats).bottom
@@ -195,6 +201,6 @@ pub record LinesHold (c : InlineContext) (y least : ℤ) (floats : List FloatBox
 pub lines-in-hold : (c : InlineContext) (y least : ℤ) (floats : List FloatBox) → LinesHold c y least floats
 lines-in-hold c y least floats =
     let parts = stretches c.tree (content c.tree c.container) in
-    let first : SoFar = record { y = y; least = least; floats = floats; opened = []; baseline = None; entries = [] } in
-    let h = lines-hold (length parts) c y least floats first parts (record { stacked = refl; low = tt; opened = tt; least_more = omega (arith, ints); more = more-none least floats }) (stretches-of c) in
+    let start = laid_none (before_all y least floats) in
+    let h = lines-hold (length parts) c y least floats start parts (record { stacked = refl; low = tt; opened = tt; least_more = omega (arith, ints); more = more-none least floats }) (stretches-of c) in
     record { stacked = h.stacked; low = h.low; more = h.more }

@@ -2,6 +2,7 @@
 use Rattle.std.proofs.Common.{◌≡◌, ℕ, zero, suc, ◌<◌, Bool, true, false, not, ◌==◌, ◌&&◌, List, [], ◌∷◌, map, length, Option, Some, None, option_and_then, slice_get, refl, sym, ◌∙◌, ap, subst, arith, if◌then◌else◌}
 use Rattle.std.specs.Option.{option_map_or}
 use Rattle.std.proofs.lemmas.Option.{slice_get_within}
+use Rattle.std.proofs.lemmas.Bool.{not-true}
 use Rattle.viz_base.specs.Pages.{IsPage, is_element, is_break, is_replaced}
 use Rattle.viz_base.specs.Trees.{is_chars}
 use Rattle.viz_base.specs.declared.nodes.Body.{Body}
@@ -66,10 +67,6 @@ pub record IsPagePart (nodes : List Node) (styles : List Style) (p : Part) : Typ
   pub is : p ≡ record (part_of nodes styles p.node entry style) { text = p.text }
   pub not_bare : is_bare p ≡ false
 
-is_not : (b : Bool) → not b ≡ true → b ≡ false
-is_not true e = absurd (cc)
-is_not false e = refl
-
 part_shape : (parts : List Part) (q r p : Part) → q ≡ r → collapsed_part parts q ≡ p → p ≡ record r { text = p.text }
 part_shape parts q r p e f = sym f ∙ (ap (λ (t : List ℕ). record q { text = t }) (ap (λ (o : Part). o.text) f) ∙ ap (λ (o : Part). record o { text = p.text }) e)
 
@@ -89,7 +86,7 @@ module _ (nodes : List Node) (styles : List Style) where
         style_is = subst (λ k. slice_get styles k ≡ Some known.style) node known.style_is;
         shown = subst (λ k. is_shown nodes styles k ≡ true) node known.shown;
         is = subst (λ k. p ≡ record (part_of nodes styles k known.entry known.style) { text = p.text }) node shape;
-        not_bare = is_not (is_bare p) kept.1;
+        not_bare = not-true (is_bare p) kept.1;
       }
 
   rises_same : (parts ps : List Part) (low : ℕ) → Rises low (map (λ (p : Part). p.node) ps) → Rises low (map (λ (p : Part). p.node) (map (collapsed_part parts) ps))

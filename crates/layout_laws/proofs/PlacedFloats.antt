@@ -1,5 +1,5 @@
 -- Floats are placed one after another by the rules, in lines and in flow.
-use Rattle.std.proofs.Common.{◌≡◌, ℕ, zero, suc, ◌<◌, ℤ, ◌+ℤ◌, ◌≤ℤ◌, Bool, true, false, cond, List, [], ◌∷◌, ◌++◌, length, drop, fold, slice_get, slice_index_or, Option, Some, None, refl, ap, subst, inl, inr, ◌⊎◌, arith}
+use Rattle.std.proofs.Common.{◌≡◌, ℕ, zero, suc, ◌<◌, ℤ, ◌+ℤ◌, ◌≤ℤ◌, Bool, true, false, cond, List, [], ◌∷◌, ◌++◌, length, drop, fold, slice_get, slice_index_or, ◌&&◌, Option, Some, refl, ap, subst, inl, inr, ◌⊎◌, arith}
 use Rattle.std.specs.List.{list_any}
 use Rattle.std.specs.Int.{int_max}
 use Rattle.std.proofs.lemmas.Option.{none-some, same_Some}
@@ -11,8 +11,8 @@ use Rattle.layout_semantics.specs.Floats.{FloatBox, Floating, float_top, with_fl
 use Rattle.layout_semantics.specs.InlineContent.{Item, content, float_boxes, makes_line}
 use Rattle.layout_semantics.specs.Stretches.{stretches}
 use Rattle.layout_semantics.specs.LineHeights.{InlineContext, line_extent, height_of_extent, extended_boxes, tallest}
-use Rattle.layout_semantics.specs.LineFilling.{Met, Line, line_float, line_spot, with_spot, place_each, stands_at_once, meet, met_after, floats_met, first_items, width_held, stretches_held, before_line}
-use Rattle.layout_semantics.specs.Lines.{SoFar, next_line, after_line, after_no_line, after_stretches, lines_to, lines_in}
+use Rattle.layout_semantics.specs.LineFilling.{Met, Line, line_float, line_spot, with_spot, with_waiting, place_each, none_waits, leaves_room, meet, met_after, floats_met, first_items, width_held, stretches_held, before_line}
+use Rattle.layout_semantics.specs.Lines.{SoFar, LaidLines, before_all, next_line, laid_line, laid_no_line, laid_stretches, lines_to, lines_in}
 use Rattle.layout_laws.specs.FloatRules.{ObeysRules}
 use Rattle.layout_laws.proofs.Among.{Among, contains}
 use Rattle.layout_laws.proofs.Apart.{apart}
@@ -40,10 +40,10 @@ module _ (c : InlineContext) (before : List FloatBox) where
     meet_one : (held : ℤ) (met : Met) (at : ℕ) → Placed met.floats → Placed (meet c line held met at).floats
     meet_one held met at h =
         let spot = line_spot c met.floats line.least line.top at in
-        by (stands_at_once c line held met at spot) (one met line.least line.top at h)
+        by (none_waits met && leaves_room c line held met at spot) (one met line.least line.top at h)
       where
         by : (b : Bool) → Placed (with_spot c met at (line_spot c met.floats line.least line.top at)).floats
-            → Placed (cond b (with_spot c met at (line_spot c met.floats line.least line.top at)) (record met { waiting = met.waiting ++ at ∷ [] })).floats
+            → Placed (cond b (with_spot c met at (line_spot c met.floats line.least line.top at)) (with_waiting met at)).floats
         by true placed = placed
         by false placed = h
 
@@ -55,29 +55,29 @@ module _ (c : InlineContext) (before : List FloatBox) where
     met_placed zero h = h
     met_placed (suc n) h = meet_all (width_held c (first_items line (suc n))) (met_after c line n) (floats_met c.tree n (slice_index_or line.parts n [])) (met_placed n h)
 
-    after_placed : (now : SoFar) (n : ℕ) → Placed now.floats → Placed line.before.floats → Placed (after_stretches c now line n).floats
+    after_placed : (now : SoFar) (n : ℕ) → Placed now.floats → Placed line.before.floats → Placed (laid_stretches c now line n).after.floats
     after_placed now n h b = by (list_any (makes_line c.tree) (first_items line n))
         (let items = first_items line n in let met = met_after c line n in
         each (int_max now.least line.top) (line.top +ℤ height_of_extent (line_extent c (now.opened ++ extended_boxes items))) (record met { waiting = [] }) met.waiting (met_placed n b))
         (each now.least now.y (record { spots = []; floats = now.floats; waiting = [] }) (float_boxes (first_items line n)) h)
       where
-        by : (b : Bool) → Placed (after_line c now line (first_items line n) (met_after c line n)).floats → Placed (after_no_line c now (first_items line n)).floats
-            → Placed (elim b as (λ (x : Bool). SoFar) [ true ↦ after_line c now line (first_items line n) (met_after c line n) | false ↦ after_no_line c now (first_items line n) ]).floats
+        by : (b : Bool) → Placed (laid_line c now line (first_items line n) (met_after c line n)).after.floats → Placed (laid_no_line c now (first_items line n)).after.floats
+            → Placed (elim b as (λ (x : Bool). LaidLines) [ true ↦ laid_line c now line (first_items line n) (met_after c line n) | false ↦ laid_no_line c now (first_items line n) ]).after.floats
         by true there not_there = there
         by false there not_there = not_there
 
-  lines_placed : (lines : ℕ) (now : SoFar) (parts : List (List Item)) → Placed now.floats → Placed (lines_to lines c (tallest c) now parts).floats
+  lines_placed : (lines : ℕ) (now : SoFar) (parts : List (List Item)) → Placed now.floats → Placed (lines_to lines c (tallest c) now parts).after.floats
   unfolding lines_to
   lines_placed zero now parts h = h
   lines_placed (suc lines) now [] h = h
   lines_placed (suc lines) now (first ∷ parts) h =
       let line = next_line c (tallest c) now first (first ∷ parts) in
       let n = stretches_held c line in
-      lines_placed lines (after_stretches c now line n) (drop n (first ∷ parts))
+      lines_placed lines (laid_stretches c now line n).after (drop n (first ∷ parts))
       (after_placed line now n h (each now.least now.y (record { spots = []; floats = now.floats; waiting = [] }) (float_boxes (before_line c.tree first)) h))
 
 pub of_lines : (c : InlineContext) (y least : ℤ) (floats : List FloatBox) → ArePlacedAfter floats (lines_in c y least floats).floats
-of_lines c y least floats = lines_placed c floats (length (stretches c.tree (content c.tree c.container))) (record { y = y; least = least; floats = floats; opened = []; baseline = None; entries = [] }) (stretches c.tree (content c.tree c.container)) none
+of_lines c y least floats = lines_placed c floats (length (stretches c.tree (content c.tree c.container))) (before_all y least floats) (stretches c.tree (content c.tree c.container)) none
 
 -- ---- floats that are placed so are clear of those before them
 

@@ -11,9 +11,6 @@ node_of item = item.part.node
 
 -- ---- how many boxes come before a node's
 
-part_before : ℕ → Item → ℕ
-part_before n x = if is_before n x then box_count x else 0
-
 sum_cons : (n : ℕ) (ns : List ℕ) → sum (n ∷ ns) ≡ n + sum ns
 sum_cons n ns = sum_by-cons (λ x. x) n ns
 

@@ -43,8 +43,8 @@ module _ (tree : BoxTree) (w : World) (height : ℕ) where
 
   -- from the margins after its children
   abbrev pub box_margins : Band ℤ → ℕ → List ℤ → Bool → List ℤ
-  box_margins cb b run true = run ++ bottom_margin tree w height cb b ∷ []
-  box_margins cb b run false = bottom_margin tree w height cb b ∷ []
+  box_margins cb b run true = run ++ bottom_margin tree w cb b ∷ []
+  box_margins cb b run false = bottom_margin tree w cb b ∷ []
 
   trailing_to-enough : (n m : ℕ) (cb : Band ℤ) (b : ℕ) → b < length tree.boxes → length tree.boxes ≤ n + b → length tree.boxes ≤ m + b → trailing_to tree w height n cb b ≡ trailing_to tree w height m cb b
   unfolding trailing_to

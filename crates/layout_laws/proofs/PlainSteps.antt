@@ -56,9 +56,6 @@ no_second : (a c d : Bool) → (not a && not true && c && d) ≡ false
 no_second true c d = refl
 no_second false c d = refl
 
-no_first : (b c d : Bool) → (not true && not b && c && d) ≡ false
-no_first b c d = refl
-
 both_ways : (t o a m : Bool) → t ≡ (o && a) → (o ≡ false → m ≡ false) → (t && m) ≡ (m && a)
 both_ways t true a m e f = ap (λ c. c && m) e ∙ flip a m
   where
@@ -123,7 +120,7 @@ module _ (tree : BoxTree) (w : World) (height : ℕ) where
   closed-collapses : (k : ℕ) → k < length tree.boxes → is_open_above tree k ≡ false → collapses tree w height k ≡ false
   closed-collapses k l e = collapses-is tree w height k l ∙ ap (λ m. m && list_all (collapses tree w height) (kids_of tree.boxes k)) (closed-stays k e)
 
-  closed-trailing : (cb : Band ℤ) (k : ℕ) → k < length tree.boxes → is_open_below tree k ≡ false → bottom_margin tree w height cb k ∷ [] ≡ trailing tree w height cb k
+  closed-trailing : (cb : Band ℤ) (k : ℕ) → k < length tree.boxes → is_open_below tree k ≡ false → bottom_margin tree w cb k ∷ [] ≡ trailing tree w height cb k
   closed-trailing cb k l e = sym (trailing-is tree w height cb k l ∙ ap (box_margins tree w height cb k (fold (after_child tree w height (trailing tree w height) (content_band tree w height cb k)) [] (kids_of tree.boxes k))) (closed-parts k e))
 
 -- ---- a box in flow
@@ -163,7 +160,7 @@ module _ (tree : BoxTree) (w : World) (height : ℕ) (plain : HasPlainBlocks tre
         by_standing : (s : Standing) → p.standing ≡ s → IsPlain s → reached tree w height inside cb p k ≡ plainly_reached (edge_after s (leading tree w height cb k))
         by_standing (at_top y None) e i = rw e
         by_standing (at_top y (Some c)) e i = absurd (cc)
-        by_standing (below edge run stuck) e i = rw (e, resolve-plain tree w height plain.no_clear _ _ _ _ _ k _)
+        by_standing (below edge run stuck) e i = rw (e, resolve-plain tree w plain.no_clear _ _ _ _ _ k _)
 
   -- what the content of a block leaves
   pub record Ends (cb : Band ℤ) (b : ℕ) (opens : Bool) (end : Progress) : Type 0 where
@@ -220,9 +217,9 @@ module _ (tree : BoxTree) (w : World) (height : ℕ) (plain : HasPlainBlocks tre
             run = fold (after_child tree w height (trailing tree w height) (content_band tree w height cb k)) [] (kids_of tree.boxes k)
 
             joins : (j : Bool) → joins_last_child tree k ≡ j → collapses tree w height k ≡ false
-                → joined_run tree w height j end.standing ++ bottom_margin tree w height cb k ∷ [] ≡ box_margins tree w height cb k run j
-            joins false g c = ap (λ (own : List ℤ). own ++ bottom_margin tree w height cb k ∷ []) (joined_none tree w height end.standing)
-            joins true g c = ap (λ (own : List ℤ). own ++ bottom_margin tree w height cb k ∷ []) (ends.run (ends.top
+                → joined_run tree w height j end.standing ++ bottom_margin tree w cb k ∷ [] ≡ box_margins tree w height cb k run j
+            joins false g c = ap (λ (own : List ℤ). own ++ bottom_margin tree w cb k ∷ []) (joined_none tree w height end.standing)
+            joins true g c = ap (λ (own : List ℤ). own ++ bottom_margin tree w cb k ∷ []) (ends.run (ends.top
                 ∙ parted (is_open_above tree k) (is_open_below tree k) (has_no_minimum tree k) (has_auto_height tree k) (is_zero (own_height tree k)) (has_line tree k) (list_all (collapses tree w height) (kids_of tree.boxes k))
                 (no_lines tree plain.no_inline k) g (sym (collapses-is tree w height k l) ∙ c)))
 

@@ -2,12 +2,12 @@
 use Rattle.std.proofs.Common.{◌≡◌, ℕ, zero, suc, ◌+◌, ◌-◌, ◌*◌, ◌^◌, ◌<◌, ◌≤◌, min, max, Bool, true, false, not, nat_lt, ◌==◌, ◌||◌, List, [], ◌∷◌, sum, position, length, Option, Some, None, option_map, option_and_then, slice_get, refl, ap, subst, arith, if◌then◌else◌, ltb-true, ltb-false, le-div_iff_mul-le, mul-le-mul_left}
 use Rattle.std.specs.List.{enumerate_from, prefix_len, position_or_len}
 use Rattle.std.specs.Option.{option_map_or, option_or}
-use Rattle.std.proofs.lemmas.Bool.{eqb-false}
+use Rattle.std.proofs.lemmas.Bool.{eqb-false, not-true}
 use Rattle.std.proofs.lemmas.List.Sums.{sum_by-cons}
 use Rattle.viz_base.specs.declared.fonts.Font.{Font}
 use Rattle.viz_base.specs.declared.styles.Style.{Style}
 use Rattle.viz_base.specs.declared.trees.BoxNode.{BoxNode}
-use Rattle.layout_semantics.specs.Reaches.{whole, quotient_up, is_of_element, ratio, growth, box_growth, own_extent, text_extent, box_extents, total_extent, reach_in, reach_to, reaches, sums, passes_most, node_of_place, beyond_reach}
+use Rattle.viz_base.specs.Reaches.{whole, quotient_up, is_of_element, ratio, growth, box_growth, own_extent, text_extent, box_extents, total_extent, reach_in, reach_to, reaches, sums, passes_most, node_of_place, beyond_reach}
 use Rattle.layout_laws.proofs.Members.{In}
 use Rattle.layout_laws.proofs.TreeFacts.{slice_in, length_mapped, length_enumerated}
 use Rattle.layout_laws.proofs.PageParts.{slice_some}
@@ -22,7 +22,7 @@ least_above zero b f g = absurd (f refl)
 least_above (suc a) zero f g = absurd (g refl)
 least_above (suc a) (suc b) f g = omega arith
 
-ratio_least : (size : Option (ℕ × ℕ)) → 1 ≤ ratio size
+pub ratio_least : (size : Option (ℕ × ℕ)) → 1 ≤ ratio size
 ratio_least None = omega arith
 ratio_least (Some size) = by_zero (size.0 == 0) refl (size.1 == 0) refl
   where
@@ -72,15 +72,11 @@ all_in_prefix test (y ∷ ys) x l i = by_test (test y) refl l (λ m j. all_in_pr
     by_test false e m again = absurd (omega (arith, m))
     by_test true e m again = in_first test y ys x e i (again (omega (arith, m)))
 
-not_false : (b : Bool) → not b ≡ true → b ≡ false
-not_false true e = absurd (cc)
-not_false false e = refl
-
 -- where no place passes, no element does
 none_passes : {A : Type 0} (test : A → Bool) (xs : List A) (x : A) → position test xs ≡ None → In x xs → test x ≡ false
 none_passes test xs x e i =
     let past = ltb-false (position_or_len test xs) (length xs) (cond_none (nat_lt (position_or_len test xs) (length xs)) (position_or_len test xs) e) in
-    not_false (test x) (all_in_prefix (λ y. not (test y)) xs x past i)
+    not-true (test x) (all_in_prefix (λ y. not (test y)) xs x past i)
 
 position_within : {A : Type 0} (test : A → Bool) (xs : List A) (k : ℕ) → position test xs ≡ Some k → k < length xs
 position_within test xs k e = by_test (nat_lt (position_or_len test xs) (length xs)) refl e

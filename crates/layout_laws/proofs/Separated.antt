@@ -1,5 +1,6 @@
 -- Anonymous block boxes: each holds an inline-level box, and between two of them in one box stands a block.
 use Rattle.std.proofs.Common.{◌≡◌, ℕ, suc, ◌<◌, Bool, true, false, not, ◌==◌, ◌||◌, List, [], ◌∷◌, map, Contains, Option, Some, None, is_some, slice_get, refl, sym, ◌∙◌, ap, subst, arith, ◌⊎◌, inl, inr, if◌then◌else◌, eqb-true, eq-eqb, ne_eqb, nat_lt, ltb-true, ltb-false, eq-or-lt_of_le}
+use Rattle.std.proofs.lemmas.Bool.{not-true}
 use Rattle.std.specs.List.{list_any}
 use Rattle.std.specs.Option.{option_map_or}
 use Rattle.viz_base.specs.Pages.{IsPage, is_break, is_replaced}
@@ -28,7 +29,6 @@ use Rattle.layout_laws.proofs.BoxFacts.{item_known, item_part, no_anon, page_box
 use Rattle.layout_laws.proofs.Sorts.{own_inline_level, run_in, run_no_block}
 use Rattle.layout_laws.proofs.TreeFacts.{one_at_least}
 use Rattle.layout_laws.proofs.Whole.{contains_from}
-use Rattle.layout_laws.proofs.BoxContent.{is_not}
 
 -- ---- runs in order
 
@@ -356,7 +356,7 @@ module _ (nodes : List Node) (styles : List Style) (page : IsPage nodes) where
       let z = any_in (λ (p : Part). not (is_floated_level p.level)) list.0 needs.1 in
       let in_run : In z.0.node run = subst (In z.0.node) list.2 (to_map (λ (p : Part). p.node) list.0 z.0 z.1) in
       let m = ((page_arranged nodes styles page).runs x run i r).members z.0.node in_run in
-      let here = inline_member run q list.0 z.0 m needs.0 z.1 (is_not (is_floated_level z.0.level) z.2) in
+      let here = inline_member run q list.0 z.0 m needs.0 z.1 (not-true (is_floated_level z.0.level) z.2) in
       (own_place (items_of (page_parts nodes styles)) z.0.node, own_box (items_of (page_parts nodes styles)) m.item, to_map (own_place (items_of (page_parts nodes styles))) run z.0.node in_run, here.0, here.1)
 
   -- an anonymous block box holds an inline-level box

@@ -2,6 +2,7 @@
 use Rattle.std.proofs.Common.{◌≡◌, ℕ, Bool, true, false, not, ◌==◌, ◌&&◌, ◌||◌, List, [], ◌∷◌, map, find, Option, Some, None, is_some, option_and_then, slice_get, refl, sym, ◌∙◌, ap, subst, if◌then◌else◌, eq-eqb, eqb-true}
 use Rattle.std.specs.List.{list_any, list_all}
 use Rattle.std.specs.Option.{option_map_or}
+use Rattle.std.proofs.lemmas.Bool.{or_left, or_right, false_from_ne_true}
 use Rattle.viz_base.specs.Pages.{IsPage, is_break, is_replaced}
 use Rattle.viz_base.specs.Trees.{box_passes, floats, is_anon, is_block_content, is_block_or_anon, is_floated, is_inline, is_inline_content, is_inline_level, holds_one_sort}
 use Rattle.viz_base.specs.declared.nodes.Body.{Body}
@@ -72,13 +73,6 @@ level_floats false (of_body.Element element) s e = by_break (is_break (of_body.E
     by_break true e = absurd (cc)
     by_break false e = style_floats s e
 
-or_first : (a b : Bool) → a ≡ true → (a || b) ≡ true
-or_first a b e = ap (λ c. c || b) e
-
-or_second : (a b : Bool) → b ≡ true → (a || b) ≡ true
-or_second true b e = refl
-or_second false b e = e
-
 -- a box whose level is floated or inline is inline content
 floated_sort : (styles : List Style) (c : BoxNode) (s : Style) (body : Body) (d : Display) → slice_get styles c.node ≡ Some s → floats s ≡ true → is_floated styles (record c { kind = if is_replaced body then of_kind.Replaced else of_kind.Float }) ≡ true
 floated_sort styles c s body d e f = by_replaced (is_replaced body)
@@ -92,9 +86,9 @@ inline_content : (styles : List Style) (c : BoxNode) (l : Level) (is_root : Bool
 inline_content styles c Level.block is_root body s e v k b n = absurd (cc)
 inline_content styles c Level.floated is_root body s e v k b n =
     let f = level_floats is_root body s (ap is_floated_level (sym v)) in
-    or_first (is_floated styles c) (is_inline_level c) (subst (λ (kind : Kind). is_floated styles (record c { kind = kind }) ≡ true) (sym k) (floated_sort styles c s body s.display e f))
+    or_left (is_floated styles c) (is_inline_level c) (subst (λ (kind : Kind). is_floated styles (record c { kind = kind }) ≡ true) (sym k) (floated_sort styles c s body s.display e f))
 inline_content styles c Level.inline is_root body s e v k b n =
-    or_second (is_floated styles c) (is_inline_level c) (subst (λ (kind : Kind). is_inline_level (record c { kind = kind }) ≡ true) (sym k) (inline_sort c body s.display b))
+    or_right (is_floated styles c) (is_inline_level c) (subst (λ (kind : Kind). is_inline_level (record c { kind = kind }) ≡ true) (sym k) (inline_sort c body s.display b))
 
 inline_level : (c : BoxNode) (l : Level) (body : Body) (d : Display) → is_block_level l ≡ false → is_floated_level l ≡ false
     → c.kind ≡ (if is_replaced body then of_kind.Replaced else level_kind l body d) → c.block_level ≡ (is_block_level l || is_floated_level l) → is_inline_level c ≡ true
@@ -103,10 +97,6 @@ inline_level c Level.floated body d n f k b = absurd (cc)
 inline_level c Level.inline body d n f k b = subst (λ (kind : Kind). is_inline_level (record c { kind = kind }) ≡ true) (sym k) (inline_sort c body d b)
 
 -- ---- runs
-
-not_true : (b : Bool) → (b ≡ true → ⊥) → b ≡ false
-not_true true h = absurd (h refl)
-not_true false h = refl
 
 -- a box that is no block is in one of the runs
 to_runs : (kids : List Part) (y : Part) → In y kids → is_block_level y.level ≡ false → (run : List Part) × In run (runs_of kids) × In y run
@@ -181,11 +171,6 @@ kid_box items arranged n k j =
 
 passes_at : (test : BoxNode → Bool) (boxes : List BoxNode) (k : ℕ) (c : BoxNode) → slice_get boxes k ≡ Some c → test c ≡ true → box_passes test boxes k ≡ true
 passes_at test boxes k c e t = ap (λ (o : Option BoxNode). option_map_or test o false) e ∙ t
-
-level_known : (l : Level) → is_block_level l ≡ false → (is_block_level l || is_floated_level l) ≡ true → is_floated_level l ≡ true
-level_known Level.block n b = absurd (cc)
-level_known Level.floated n b = refl
-level_known Level.inline n b = absurd (cc)
 
 module _ (nodes : List Node) (styles : List Style) (page : IsPage nodes) where
   -- the run of an item is that around its part
@@ -304,7 +289,7 @@ module _ (nodes : List Node) (styles : List Style) (page : IsPage nodes) where
       (λ k j. by_kid k (kid_box (items_of (page_parts nodes styles)) (page_arranged nodes styles page) n k j))
     where
       block_level : (c : BoxNode) → c.block_level ≡ true → is_block_content (tree_styles nodes styles) c ≡ true
-      block_level c e = or_second (is_floated (tree_styles nodes styles) c) (is_block_or_anon c) (or_first c.block_level (is_anon c.kind) e)
+      block_level c e = or_right (is_floated (tree_styles nodes styles) c) (is_block_or_anon c) (or_left c.block_level (is_anon c.kind) e)
 
       by_kid : (k : ℕ) → IsKidBox (items_of (page_parts nodes styles)) n k → box_passes (is_block_content (tree_styles nodes styles)) (page_boxes nodes styles) k ≡ true
       by_kid k (IsKidBox.own y i up none at) = passes_at (is_block_content (tree_styles nodes styles)) (page_boxes nodes styles) k (own_box (items_of (page_parts nodes styles)) y) at (block_level (own_box (items_of (page_parts nodes styles)) y) (block_beside y n i up none some))
@@ -312,7 +297,7 @@ module _ (nodes : List Node) (styles : List Style) (page : IsPage nodes) where
 
   -- an inline box holds no block, where the page is not refused
   inline_has_no_block : blocks_in_inlines (page_parts nodes styles) ≡ [] → (x : Item) → In x (items_of (page_parts nodes styles)) → list_any is_block_part (parts_in (page_parts nodes styles) (node_of x)) ≡ true → is_inline x.part.kind ≡ false
-  inline_has_no_block none x i some = not_true (is_inline x.part.kind) (λ inline.
+  inline_has_no_block none x i some = false_from_ne_true (is_inline x.part.kind) (λ inline.
       let z = any_in is_block_part (parts_in (page_parts nodes styles) (node_of x)) some in
       let kid = from_chosen (λ (p : Part). is_in (node_of x) p.parent) (page_parts nodes styles) z.0 z.1 in
       let box : is_inline_box (page_parts nodes styles) (node_of x) ≡ true = any_from (λ (p : Part). p.node == node_of x && is_inline p.kind) (page_parts nodes styles) x.part (item_part (page_parts nodes styles) x i) (ap (λ b. b && is_inline x.part.kind) (eq-eqb (node_of x) (node_of x) refl) ∙ inline) in
@@ -327,11 +312,11 @@ module _ (nodes : List Node) (styles : List Style) (page : IsPage nodes) where
   one_sort none at b e = by_box (page_box_is nodes styles page at b e)
     where
       by_any : (x : Item) → In x (items_of (page_parts nodes styles)) → (t : Bool) → list_any is_block_part (parts_in (page_parts nodes styles) (node_of x)) ≡ t → holds_one_sort (tree_styles nodes styles) (page_boxes nodes styles) (own_box (items_of (page_parts nodes styles)) x) ≡ true
-      by_any x i false s = or_first (list_all (box_passes (is_inline_content (tree_styles nodes styles)) (page_boxes nodes styles)) (kid_places (items_of (page_parts nodes styles)) (node_of x))) (not (is_inline x.part.kind) && list_all (box_passes (is_block_content (tree_styles nodes styles)) (page_boxes nodes styles)) (kid_places (items_of (page_parts nodes styles)) (node_of x))) (inline_kids (node_of x) s)
-      by_any x i true s = or_second (list_all (box_passes (is_inline_content (tree_styles nodes styles)) (page_boxes nodes styles)) (kid_places (items_of (page_parts nodes styles)) (node_of x))) (not (is_inline x.part.kind) && list_all (box_passes (is_block_content (tree_styles nodes styles)) (page_boxes nodes styles)) (kid_places (items_of (page_parts nodes styles)) (node_of x)))
+      by_any x i false s = or_left (list_all (box_passes (is_inline_content (tree_styles nodes styles)) (page_boxes nodes styles)) (kid_places (items_of (page_parts nodes styles)) (node_of x))) (not (is_inline x.part.kind) && list_all (box_passes (is_block_content (tree_styles nodes styles)) (page_boxes nodes styles)) (kid_places (items_of (page_parts nodes styles)) (node_of x))) (inline_kids (node_of x) s)
+      by_any x i true s = or_right (list_all (box_passes (is_inline_content (tree_styles nodes styles)) (page_boxes nodes styles)) (kid_places (items_of (page_parts nodes styles)) (node_of x))) (not (is_inline x.part.kind) && list_all (box_passes (is_block_content (tree_styles nodes styles)) (page_boxes nodes styles)) (kid_places (items_of (page_parts nodes styles)) (node_of x)))
           (ap (λ b. not b && list_all (box_passes (is_block_content (tree_styles nodes styles)) (page_boxes nodes styles)) (kid_places (items_of (page_parts nodes styles)) (node_of x))) (inline_has_no_block none x i s) ∙ block_kids (node_of x) s)
 
       by_box : IsBoxOf (items_of (page_parts nodes styles)) at b → holds_one_sort (tree_styles nodes styles) (page_boxes nodes styles) b ≡ true
       by_box (IsBoxOf.own x i p s) = subst (λ (c : BoxNode). holds_one_sort (tree_styles nodes styles) (page_boxes nodes styles) c ≡ true) (sym s) (by_any x i (list_any is_block_part (parts_in (page_parts nodes styles) (node_of x))) refl)
       by_box (IsBoxOf.anonymous x run i r t p s) = subst (λ (c : BoxNode). holds_one_sort (tree_styles nodes styles) (page_boxes nodes styles) c ≡ true) (sym s)
-          (or_first (list_all (box_passes (is_inline_content (tree_styles nodes styles)) (page_boxes nodes styles)) (map (own_place (items_of (page_parts nodes styles))) run)) (not (is_inline of_kind.Anon) && list_all (box_passes (is_block_content (tree_styles nodes styles)) (page_boxes nodes styles)) (map (own_place (items_of (page_parts nodes styles))) run)) (anonymous_sort x run i r))
+          (or_left (list_all (box_passes (is_inline_content (tree_styles nodes styles)) (page_boxes nodes styles)) (map (own_place (items_of (page_parts nodes styles))) run)) (not (is_inline of_kind.Anon) && list_all (box_passes (is_block_content (tree_styles nodes styles)) (page_boxes nodes styles)) (map (own_place (items_of (page_parts nodes styles))) run)) (anonymous_sort x run i r))

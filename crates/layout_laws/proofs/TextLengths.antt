@@ -157,7 +157,7 @@ module _ (node : ℕ) where
 -- ---- the texts of a page
 
 module _ (nodes : List Node) (styles : List Style) (page : IsPage nodes) where
-  collapsed_within : (p : Part) (o : Option ℕ) → In p (shown_parts nodes styles)
+  pub collapsed_within : (p : Part) (o : Option ℕ) → In p (shown_parts nodes styles)
       → length (option_map_or (λ c. letters_of p.node (collapsed_things (things_in (shown_parts nodes styles) c))) o []) ≤ length p.text
   collapsed_within p None i = omega arith
   collapsed_within p (Some c) i =

@@ -1,5 +1,6 @@
 -- Each box is in the box that it names, so each is on the page; and each shown element has a box.
 use Rattle.std.proofs.Common.{◌≡◌, ◌≢◌, ℕ, zero, suc, ◌+◌, ◌<◌, Bool, true, false, not, ◌==◌, ◌&&◌, ◌||◌, List, [], ◌∷◌, map, length, Contains, Option, Some, None, option_map, option_and_then, slice_get, encode_utf8_all, IsTrue, refl, sym, ◌∙◌, ap, subst, arith, if◌then◌else◌, eq-eqb, eqb-true, ltb-true, nat_lt}
+use Rattle.std.proofs.lemmas.Bool.{and_parts}
 use Rattle.std.specs.List.{list_all}
 use Rattle.std.specs.Option.{option_map_or}
 use Rattle.std.specs.Str.{chars}
@@ -21,7 +22,7 @@ use Rattle.layout_laws.proofs.Members.{In, to_map, to_chosen, to_flat_map, any_i
 use Rattle.layout_laws.proofs.Places.{node_of, before_none}
 use Rattle.layout_laws.proofs.Kids.{own_box_at, anonymous_box_at, own_place_is, own_place_from}
 use Rattle.layout_laws.proofs.Nesting.{IsBoxOf}
-use Rattle.layout_laws.proofs.Above.{and_parts, parent_is}
+use Rattle.layout_laws.proofs.Above.{parent_is}
 use Rattle.layout_laws.proofs.Runs.{run_parent, found_in}
 use Rattle.layout_laws.proofs.PageParts.{slice_some}
 use Rattle.layout_laws.proofs.BoxLaws.{page_arranged, ascending}

@@ -1,11 +1,12 @@
 -- The floats and atomic boxes among the items of inline content, with spaces left out.
-use Rattle.std.proofs.Common.{◌≡◌, ℕ, Bool, true, false, ◌||◌, List, [], ◌∷◌, ◌++◌, flat_map, reverse, refl, sym, ap, ◌∙◌, append-nil}
+use Rattle.std.proofs.Common.{◌≡◌, ℕ, false, List, [], ◌∷◌, ◌++◌, flat_map, reverse, refl, sym, ap, ◌∙◌, append-nil}
 use Rattle.std.specs.List.{list_any}
 use Rattle.std.proofs.lemmas.Grind.{flat_map-append}
 use Rattle.std.proofs.lemmas.List.{reverse-append}
 use Rattle.std.proofs.lemmas.List.{reverse-reverse}
+use Rattle.std.proofs.lemmas.Bool.{or_parts}
 use Rattle.viz_base.specs.declared.trees.BoxTree.{BoxTree}
-use Rattle.layout_semantics.specs.InlineContent.{Item, start, finish, word, space, atomic, forced, float, inner_items, float_boxes, makes_line}
+use Rattle.layout_semantics.specs.InlineContent.{Item, start, finish, word, space, atomic, forced, float, makes_line}
 use Rattle.layout_semantics.specs.Stretches.{without_leading, what_stays}
 
 abbrev pub inner_of : Item → List ℕ
@@ -16,12 +17,6 @@ inner_of _ = []
 abbrev pub float_of : Item → List ℕ
 float_of (float at) = at ∷ []
 float_of _ = []
-
-pub inner-is : (items : List Item) → inner_items items ≡ flat_map inner_of items
-inner-is items = refl
-
-pub floats-is : (items : List Item) → float_boxes items ≡ flat_map float_of items
-floats-is items = refl
 
 -- ---- lists backwards
 
@@ -80,13 +75,9 @@ floats-stay items = stays-kept float_of float-short (λ at. refl) items
 
 -- ---- where nothing makes a line, floats are all that stand in it
 
-or_none : (a b : Bool) → (a || b) ≡ false → (a ≡ false) × (b ≡ false)
-or_none true b e = absurd (cc)
-or_none false b e = (refl, e)
-
 pub floats-alone : (tree : BoxTree) (items : List Item) → list_any (makes_line tree) items ≡ false → flat_map inner_of items ≡ flat_map float_of items
 floats-alone tree [] e = refl
-floats-alone tree (i ∷ items) e = by_item i (or_none (makes_line tree i) (list_any (makes_line tree) items) e).0 (floats-alone tree items (or_none (makes_line tree i) (list_any (makes_line tree) items) e).1)
+floats-alone tree (i ∷ items) e = by_item i (or_parts (makes_line tree i) (list_any (makes_line tree) items) e).0 (floats-alone tree items (or_parts (makes_line tree i) (list_any (makes_line tree) items) e).1)
   where
     by_item : (i : Item) → makes_line tree i ≡ false → flat_map inner_of items ≡ flat_map float_of items → inner_of i ++ flat_map inner_of items ≡ float_of i ++ flat_map float_of items
     by_item (start at) n again = again

@@ -14,7 +14,7 @@ use Rattle.layout_semantics.specs.Replaced.{preferred_replaced}
 use Rattle.layout_semantics.specs.InlineContent.{Item, start, finish, atomic, forced, float, Sort, a_float, an_atomic, a_break, a_text, an_inline, sort_of, text_of, text_items, content, inner_boxes}
 use Rattle.layout_semantics.specs.Preferred.{Inside, a_replaced, inline_content, blocks, inside_of, preferred_inline, preferred_blocks}
 use Rattle.layout_semantics.specs.LineHeights.{InlineContext, LineExtent, inline_extent, raise, shift, tallest}
-use Rattle.layout_semantics.specs.Lines.{SoFar, lines_to}
+use Rattle.layout_semantics.specs.Lines.{SoFar, LaidLines, lines_to}
 use Rattle.layout_laws.specs.Outer.{outer_widths}
 
 -- a box in inline content: a float, an atomic box and a forced break are one item, a text its words and spaces, and an inline box its content between its start and its end
@@ -53,5 +53,5 @@ shift_by_parent c at e = elim (at == c.container) [
 ]
 
 -- the lines of so many stretches
-abbrev pub lines_of : InlineContext → SoFar → List (List Item) → SoFar
+abbrev pub lines_of : InlineContext → SoFar → List (List Item) → LaidLines
 lines_of c now parts = lines_to (length parts) c (tallest c) now parts

@@ -1,8 +1,9 @@
-use Rattle.std.specs.Prelude.{ℕ, ℤ, ◌+ℤ◌, List, ◌++◌, map}
+use Rattle.std.specs.Prelude.{ℕ, ℤ, ◌+ℤ◌, List, ◌++◌, map, length}
 use Rattle.viz_base.specs.declared.layouts.Preferred.{Preferred}
 use Rattle.viz_base.specs.declared.trees.BoxTree.{BoxTree}
 use Rattle.viz_base.specs.declared.worlds.World.{World}
 use Rattle.layout_semantics.specs.Order.{kids_of}
+use Rattle.layout_semantics.specs.Lists.{table_of}
 use Rattle.layout_semantics.specs.Lengths.{total}
 use Rattle.layout_semantics.specs.InlineContent.{content, inner_boxes}
 use Rattle.layout_semantics.specs.Stretches.{stretches, pieces}
@@ -15,13 +16,13 @@ outer_widths tree w boxes = map (λ k. (k, outer_preferred tree w k (preferred t
 -- of a box's inline content: the widths of the stretches that no line may break and of the floats
 abbrev pub unbreakable_widths : BoxTree → World → ℕ → List ℤ
 unbreakable_widths tree w at =
-    map (preferred_stretch tree w (with_least (outer_widths tree w (inner_boxes tree at)))) (stretches tree (content tree at))
-    ++ preferred_floats (with_least (outer_widths tree w (inner_boxes tree at))) (content tree at)
+    map (preferred_stretch tree w (table_of (length tree.boxes) (with_least (outer_widths tree w (inner_boxes tree at))))) (stretches tree (content tree at))
+    ++ preferred_floats (table_of (length tree.boxes) (with_least (outer_widths tree w (inner_boxes tree at)))) (content tree at)
 
 -- the widths of the pieces between forced breaks, each with its floats
 abbrev pub piece_widths : BoxTree → World → ℕ → List ℤ
-piece_widths tree w at = map (λ piece. preferred_stretch tree w (with_most (outer_widths tree w (inner_boxes tree at))) piece
-    +ℤ total (preferred_floats (with_most (outer_widths tree w (inner_boxes tree at))) piece)) (pieces (content tree at))
+piece_widths tree w at = map (λ piece. preferred_stretch tree w (table_of (length tree.boxes) (with_most (outer_widths tree w (inner_boxes tree at)))) piece
+    +ℤ total (preferred_floats (table_of (length tree.boxes) (with_most (outer_widths tree w (inner_boxes tree at)))) piece)) (pieces (content tree at))
 
 -- of a box's children: their preferred minimum widths, floats' too
 abbrev pub child_least_widths : BoxTree → World → ℕ → List ℤ

@@ -31,11 +31,11 @@ pub record HasPlainBlocks (tree : BoxTree) : Type 0 where
 module _ (tree : BoxTree) (w : World) (height : ℕ) where
   -- the margins that adjoin a block's top: its own, and those of its first children that do (8.3.1)
   abbrev pub leading : Band ℤ → ℕ → List ℤ
-  leading cb b = (lead tree w height all_passed cb b).margins
+  leading cb b = (lead tree w all_passed cb b).margins
 
   -- all margins of a block whose own top and bottom margins adjoin
   abbrev pub all_margins : Band ℤ → ℕ → List ℤ
-  all_margins cb b = leading cb b ++ bottom_margin tree w height cb b ∷ []
+  all_margins cb b = leading cb b ++ bottom_margin tree w cb b ∷ []
 
   -- a block collapses through where nothing of its own parts its top and bottom margins, and all of its children do, down to
   -- so many levels
@@ -62,8 +62,8 @@ module _ (tree : BoxTree) (w : World) (height : ℕ) where
   trailing_step trailing cb b = by_sort (joins_last_child tree b)
     where
       by_sort : Bool → List ℤ
-      by_sort true = fold (after_child trailing (content_band tree w height cb b)) [] (kids_of tree.boxes b) ++ bottom_margin tree w height cb b ∷ []
-      by_sort false = bottom_margin tree w height cb b ∷ []
+      by_sort true = fold (after_child trailing (content_band tree w height cb b)) [] (kids_of tree.boxes b) ++ bottom_margin tree w cb b ∷ []
+      by_sort false = bottom_margin tree w cb b ∷ []
 
   unfoldable pub trailing_to : ℕ → Band ℤ → ℕ → List ℤ
   trailing_to zero cb b = []

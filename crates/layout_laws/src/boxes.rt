@@ -1,5 +1,7 @@
-ghost use Rattle.std.specs.Prelude.{◌≡◌, ◌≢◌, ◌<◌, ℕ, true, false, IsTrue, [], length, slice_get, Contains, Some, is_some, codes};
-ghost use Rattle.viz_base.specs.Pages.{has_tag, is_element_at};
+ghost use Rattle.std.specs.Prelude.{◌≡◌, ◌≢◌, ◌<◌, ◌≤◌, ℕ, true, false, IsTrue, sum_by, [], length, slice_get, Contains, Some, is_some, codes};
+ghost use Rattle.viz_base.specs.Pages.{has_tag, is_element_at, text_of};
+ghost use Rattle.viz_base.specs.declared.nodes.Node.{Node};
+ghost use Rattle.std.specs.Str.{chars};
 ghost use Rattle.viz_base.specs.Trees.{IsBoxTree, ascends, has_box, is_anon, is_chars, is_inline_level, is_leaf, is_replaced};
 ghost use Rattle.viz_base.specs.declared.trees.BoxNode.{BoxNode};
 ghost use Rattle.layout_semantics.specs.Blocks.{parent_of};
@@ -85,6 +87,12 @@ pub fn each_shown_element_has_a_box(page: &Page, styles: &List<Style>, node: usi
     ensures { IsTrue (has_box (page_boxes page.now.nodes styles.now) node) }
 {}
 
+/// The texts of all boxes together have no more characters than the texts of the page.
+pub fn boxes_have_no_more_characters_than_the_page(page: &Page, styles: &List<Style>)
+    ensures { sum_by (λ (b : BoxNode). length (chars b.chars)) (page_boxes page.now.nodes styles.now)
+        ≤ sum_by (λ (n : Node). length (chars (text_of n.body))) page.now.nodes }
+{}
+
 /// A text box has characters.
 pub fn no_text_box_is_empty(page: &Page, styles: &List<Style>, at: usize)
     ensures { (b : BoxNode) → slice_get (page_boxes page.now.nodes styles.now) at ≡ Some b
@@ -134,7 +142,8 @@ pub fn a_block_stands_between_two_anonymous_blocks(
 pub fn the_boxes_of_a_page_are_a_tree(page: &Page, styles: &List<Style>, fonts: &List<Font>)
     requires styled { AreStylesOf page.now.nodes styles.now fonts.now }
     requires no_block_in_inlines { blocks_in_inlines (page_parts page.now.nodes styles.now) ≡ [] }
-    ensures { IsBoxTree (page_boxes page.now.nodes styles.now) (tree_styles page.now.nodes styles.now) fonts.now (tree_parents page.now.nodes) }
+    ensures { IsBoxTree (page_boxes page.now.nodes styles.now) (tree_styles page.now.nodes styles.now) fonts.now
+        (tree_parents page.now.nodes) }
 {}
 
 /// The overflow of the first `body` in an `html` whose own is visible goes to the viewport, and its box does not clip

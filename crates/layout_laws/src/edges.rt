@@ -35,11 +35,11 @@ pub fn automatic_margins_are_equal(tree: &BoxTree, world: World, height: u32, at
 {}
 
 /// A border or a padding above the content of a box parts its top margin from those in it (CSS 2.1, 8.3.1).
-pub fn an_edge_above_parts_margins(tree: &BoxTree, world: World, height: u32, at: usize)
+pub fn an_edge_above_parts_margins(tree: &BoxTree, world: World, at: usize)
     requires within { at < length tree.now.boxes }
     requires clear { clear_of tree.now at ≡ of_clear.Nothing }
     ensures border { (passed : ℕ → Bool) (cb : Band ℤ) → is_zero (borders tree.now at).top ≡ false
-        → (lead tree.now world height passed cb at).margins ≡ top_margin tree.now world height cb at ∷ [] }
+        → (lead tree.now world passed cb at).margins ≡ top_margin tree.now world cb at ∷ [] }
     ensures padding { (passed : ℕ → Bool) (cb : Band ℤ) → is_zero (paddings tree.now at).top ≡ false
-        → (lead tree.now world height passed cb at).margins ≡ top_margin tree.now world height cb at ∷ [] }
+        → (lead tree.now world passed cb at).margins ≡ top_margin tree.now world cb at ∷ [] }
 {}

@@ -1,7 +1,8 @@
 ghost use Rattle.std.specs.Prelude.{◌≡◌, slice_get, Some};
 ghost use Rattle.std.specs.Option.{option_map_or};
 ghost use Rattle.viz_base.specs.declared.styles.Style.{Style};
-ghost use Rattle.layout_semantics.specs.Fonts.{font_size, computed_size, parent_in, default_size};
+ghost use Rattle.viz_base.specs.FontSizes.{computed_size, parent_in, default_size};
+ghost use Rattle.layout_semantics.specs.Fonts.{font_size};
 
 use viz_base::{BoxTree, World};
 

@@ -1,6 +1,6 @@
 ghost use Rattle.std.specs.Prelude.{◌≡◌, ◌≤◌, ◌^◌, ◌+◌, ℕ, slice_get, Some, None};
 ghost use Rattle.viz_base.specs.declared.trees.BoxNode.{BoxNode};
-ghost use Rattle.layout_semantics.specs.Reaches.{beyond_reach, own_extent, reaches, reach_in, total_extent};
+ghost use Rattle.viz_base.specs.Reaches.{beyond_reach, own_extent, reaches, reach_in, total_extent};
 
 use viz_base::BoxTree;
 

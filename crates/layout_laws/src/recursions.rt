@@ -9,10 +9,11 @@ ghost use Rattle.layout_semantics.specs.DefiniteHeights.{percentage_container, d
 ghost use Rattle.layout_semantics.specs.InlineContent.{Item, content};
 ghost use Rattle.layout_semantics.specs.Preferred.{preferred};
 ghost use Rattle.layout_semantics.specs.LineHeights.{InlineContext, LineExtent, shift, tallest};
-ghost use Rattle.layout_semantics.specs.Lines.{SoFar, after_next};
+ghost use Rattle.layout_semantics.specs.Lines.{SoFar, laid_next, laid_none, go_on};
 ghost use Rattle.layout_semantics.specs.Blocks.{kind_of};
-ghost use Rattle.layout_semantics.specs.FlowBoxes.{across, content_band, room, room_inside};
+ghost use Rattle.layout_semantics.specs.FlowBoxes.{across, block_band, content_band, room, room_inside};
 ghost use Rattle.layout_semantics.specs.Floats.{FloatBox};
+ghost use Rattle.layout_semantics.specs.Horizontal.{placing_of, block_flow};
 ghost use Rattle.layout_semantics.specs.Leads.{is_up_to, lead, lead_step};
 ghost use Rattle.layout_semantics.specs.Clearance.{resolve, resolve_step};
 ghost use Rattle.layout_semantics.specs.Flow.{Progress, flow, flow_step};
@@ -82,28 +83,30 @@ pub fn a_band_is_as_wide_as_the_containing_block(
         → across (content_band tree.now world height cb at) ≡ room tree.now world height kid }
 {}
 
+/// The band that a block in normal flow, not replaced, gives those in it is the same at each height of the viewport
+/// (CSS 2.1, 10.1, 10.3.3).
+pub fn a_blocks_band_needs_no_height(tree: &BoxTree, world: World, height: u32, at: usize)
+    requires block { placing_of tree.now at ≡ block_flow }
+    ensures { (cb : Band ℤ) → block_band tree.now world cb at ≡ content_band tree.now world height cb at }
+{}
+
 /// The lead of a box, from those of the boxes in it: more levels would change nothing (CSS 2.1, 8.3.1).
-pub fn a_lead_comes_from_inside(tree: &BoxTree, world: World, height: u32, at: usize)
+pub fn a_lead_comes_from_inside(tree: &BoxTree, world: World, at: usize)
     requires within { at < length tree.now.boxes }
-    ensures { (passed : ℕ → Bool) (cb : Band ℤ) → lead tree.now world height passed cb at
-        ≡ lead_step tree.now world height (lead tree.now world height passed) passed cb at }
+    ensures { (passed : ℕ → Bool) (cb : Band ℤ) → lead tree.now world passed cb at
+        ≡ lead_step tree.now world (lead tree.now world passed) passed cb at }
 {}
 
 /// Where a box stands: a box of its lead that has `clear` and is not cleared is passed, and the lead goes on, as
 /// often as there is one (CSS 2.1, 9.5.2).
-pub fn a_lead_goes_on_through_what_is_not_cleared(
-    tree: &BoxTree,
-    world: World,
-    height: u32,
-    at: usize,
-)
+pub fn a_lead_goes_on_through_what_is_not_cleared(tree: &BoxTree, world: World, at: usize)
     requires within { at < length tree.now.boxes }
     ensures { (size : Waiting ℤ → Extent ℤ) (edge : List ℤ → ℤ) (cb : Band ℤ) (floats : List FloatBox)
         (least : Option ℤ) (passed : ℕ → Bool)
-        → resolve tree.now world height size edge cb floats least at passed
-        ≡ resolve_step tree.now world height size edge cb floats least at
-        (λ d. resolve tree.now world height size edge cb floats least at (is_up_to d))
-        (lead tree.now world height passed cb at) }
+        → resolve tree.now world size edge cb floats least at passed
+        ≡ resolve_step tree.now world size edge cb floats least at
+        (λ d. resolve tree.now world size edge cb floats least at (is_up_to d))
+        (lead tree.now world passed cb at) }
 {}
 
 /// The flow of what is in a box, by that of what is in later boxes: more levels would change nothing (CSS 2.1, 9.4).
@@ -115,9 +118,8 @@ pub fn a_flow_comes_from_inside(tree: &BoxTree, world: World, height: u32, at: u
 
 /// Lines follow one another until no stretch is left.
 pub fn lines_go_on_to_the_last_stretch()
-    ensures done { (c : InlineContext) (now : SoFar) → lines_of c now [] ≡ now }
+    ensures done { (c : InlineContext) (now : SoFar) → lines_of c now [] ≡ laid_none now }
     ensures next { (c : InlineContext) (now : SoFar) (first : List Item) (parts : List (List Item))
         → lines_of c now (first ∷ parts)
-        ≡ lines_of c (after_next c (tallest c) now first (first ∷ parts)).0
-        (after_next c (tallest c) now first (first ∷ parts)).1 }
+        ≡ go_on (lines_of c) (laid_next c (tallest c) now first (first ∷ parts)) }
 {}
