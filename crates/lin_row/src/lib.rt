@@ -2,10 +2,11 @@
 #![tactic(auto)]
 
 mod laws;
+mod merge;
 mod row;
 mod terms;
 
-pub use laws::denial_holds_elsewhere;
+pub use laws::{cut_holds_as_well, denial_holds_elsewhere, sum_of_values};
 pub use row::{Row, RowFault};
 pub use terms::Terms;
 

@@ -1,10 +1,13 @@
-ghost use Rattle.std.specs.Prelude.{◌≡◌, ◌≢◌, ◌+◌, ◌∷◌, [], pos, IfOk, MatchResult};
+ghost use Rattle.std.specs.Prelude.{◌≡◌, ◌≢◌, ◌<ℤ◌, ◌∷◌, [], pos, IfOk, IsTrue};
 ghost use Rattle.lin_row.specs.Form.{checked_terms, opposites};
+ghost use Rattle.lin_row.specs.Cut.{are_multiples, quotients};
 
+use crate::merge::{add_product, merged};
 use crate::terms::Terms;
 use std::alloc::{AllocError, Global};
 use std::marker::Model;
 use thiserror::Error;
+use viz_base::Mem;
 
 /// A linear form: a constant, and terms with strictly ascending variables and coefficients other
 /// than 0. It claims that the form is at least 0.
@@ -51,8 +54,19 @@ impl From<AllocError> for RowFault {
 }
 
 impl Row {
-    ghost use Rattle.lin_row.specs.Form.{denied};
+    ghost use Rattle.lin_row.specs.Form.{checked_form, denied, plus};
+    ghost use Rattle.lin_row.specs.Cut.{cut, divides};
     ghost use Rattle.lin_row.specs.Exact.{IsExact};
+
+    /// A row of a constant alone. Takes no memory.
+    pub fn constant(alloc: Global, k: i128) -> Self
+        ensures { result ≡ record { k = k; terms = [] } }
+    {
+        Row {
+            k,
+            terms: Terms::new(alloc),
+        }
+    }
 
     /// A row of one term, whose coefficient is other than 0. The only fault is want of memory.
     pub fn of_term(
@@ -83,6 +97,66 @@ impl Row {
             None => Err(RowFault::Coeff),
         }
     }
+
+    /// This row plus `m` times another. `Coeff` exactly where a number of that row is outside `i128`;
+    /// products and sums on the way to it may be.
+    pub fn add_scaled(&self, m: i128, other: &Row) -> Result<Row, RowFault>
+        ensures { IsExact result (plus self.now m other.now) }
+    {
+        self.sum_within(m, other)?.ok_or(RowFault::Coeff)
+    }
+
+    /// This row plus `m` times another, if each of its numbers is in `i128`.
+    fn sum_within(&self, m: i128, other: &Row) -> Result<Option<Row>, AllocError>
+        ensures { IfOk result (λ sum. sum ≡ checked_form (plus self.now m other.now)) }
+    {
+        let Some(k) = add_product(self.k, m, other.k) else {
+            return Ok(None);
+        };
+        let alloc = self.terms.allocator();
+        match merged(alloc, self.terms.as_slice(), m, other.terms.as_slice())? {
+            Some(terms) => Ok(Some(Row { k, terms })),
+            None => Ok(None),
+        }
+    }
+
+    /// Whether a number is at least 1 and divides each coefficient. Takes no memory.
+    pub fn divides(&self, d: i128) -> bool
+        ensures { result ≡ divides d self.now }
+    {
+        d >= 1 && are_multiples(d, self.terms.as_slice())
+    }
+
+    /// The row divided by a number that divides it, its constant rounded down.
+    pub fn cut(&self, d: i128) -> Result<Row, Mem>
+        requires { IsTrue (divides d self.now) }
+        ensures { IfOk result (λ row. row ≡ cut d self.now) }
+    {
+        Ok(Row {
+            k: self.k.div_euclid(d),
+            terms: divided(self.terms.allocator(), d, self.terms.as_slice())?,
+        })
+    }
+}
+
+/// Whether a number above 0 divides each coefficient.
+fn are_multiples(d: i128, terms: &[(u32, i128)]) -> bool
+    requires { pos 0 <ℤ d }
+    ensures { result ≡ are_multiples d terms.now }
+{
+    terms.iter().all(|term| term.1.rem_euclid(d) == 0)
+}
+
+/// The terms with each coefficient divided by a number above 0.
+fn divided(alloc: Global, d: i128, terms: &[(u32, i128)]) -> Result<Terms, AllocError>
+    requires { pos 0 <ℤ d }
+    ensures { IfOk result (λ ts. ts ≡ quotients d terms.now) }
+{
+    let mut quotients = Terms::new(alloc);
+    for term in terms {
+        quotients.push(term.0, term.1.div_euclid(d))?;
+    }
+    Ok(quotients)
 }
 
 /// The terms with their signs turned, if each coefficient is in `i128` then.

@@ -1,0 +1,13 @@
+-- What a refutation says of whole numbers.
+use Rattle.std.specs.Prelude.{◌≡◌, ℕ, ℤ, pos, ◌≤ℤ◌, List, Some, slice_get}
+use Rattle.lin_proof.specs.declared.derivation.Derivation.{Derivation}
+use Rattle.lin_row.specs.Form.{Form, value}
+use Rattle.lin_proof.specs.Derivations.{Refutes}
+
+-- the values of the variables make each form at least 0
+abbrev pub Meets : (ℕ → ℤ) → List Form → Type 0
+Meets v forms = (n : ℕ) (f : Form) → slice_get forms n ≡ Some f → pos 0 ≤ℤ value f v
+
+-- where a derivation refutes the facts, no values of the variables meet them all
+abbrev pub Law : Type 0
+Law = (facts : List Form) (variables : ℕ) (d : Derivation) → Refutes facts variables d → (v : ℕ → ℤ) → Meets v facts → ⊥

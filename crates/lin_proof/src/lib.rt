@@ -1,0 +1,16 @@
+//! Derivations: why no values of the variables meet a list of rows. Each line is checked in exact arithmetic.
+#![tactic(auto)]
+
+mod check;
+mod count;
+mod derivation;
+mod laws;
+mod steps;
+
+pub use check::{first_fault, refutes};
+pub use count::line_count;
+pub use derivation::{Answer, Branch, Derivation, Ending, Step};
+pub use laws::refutation_is_sound;
+
+#[cfg(test)]
+mod tests;
