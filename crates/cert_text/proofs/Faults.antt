@@ -10,29 +10,29 @@ use Rattle.cert_text.proofs.Language.{Agree, Leaves, IsRefused, IsTaken, IsRead,
 use Rattle.cert_text.proofs.Nodes.{plain_cert, read_front-right}
 
 -- no text leaves itself
-leaves_self : (read rest : List ℕ) → Leaves (read ++ rest) read rest → ⊥
+pub leaves_self : (read rest : List ℕ) → Leaves (read ++ rest) read rest → ⊥
 leaves_self [] [] h = h
 leaves_self [] (c ∷ rest) h = h refl
 leaves_self (c ∷ read) rest h = leaves_self read rest (h refl)
 
 -- a text that leaves another agrees with no more of it than was read
-leaves_bound : (n : ℕ) (read rest more : List ℕ) → n ≤ length (read ++ rest) → Leaves (take n (read ++ rest) ++ more) read rest → n ≤ length read
+pub leaves_bound : (n : ℕ) (read rest more : List ℕ) → n ≤ length (read ++ rest) → Leaves (take n (read ++ rest) ++ more) read rest → n ≤ length read
 leaves_bound zero read rest more le h = omega arith
 leaves_bound (suc n) [] [] more le h = absurd (omega arith)
 leaves_bound (suc n) [] (c ∷ rest) more le h = absurd (h refl)
 leaves_bound (suc n) (c ∷ read) rest more le h = let below = leaves_bound n read rest more (omega arith) (h refl) in omega arith
 
-agree_bound : (P : Type 0) (n : ℕ) (read rest more : List ℕ) → n ≤ length (read ++ rest) → Agree P read (take n (read ++ rest) ++ more) → n ≤ length read
+pub agree_bound : (P : Type 0) (n : ℕ) (read rest more : List ℕ) → n ≤ length (read ++ rest) → Agree P read (take n (read ++ rest) ++ more) → n ≤ length read
 agree_bound P zero read rest more le h = omega arith
 agree_bound P (suc n) [] [] more le h = absurd (omega arith)
 agree_bound P (suc n) [] (c ∷ rest) more le h = absurd h
 agree_bound P (suc n) (c ∷ read) rest more le h = let below = agree_bound P n read rest more (omega arith) (h refl) in omega arith
 
-take_front : (read rest : List ℕ) → take (length read) (read ++ rest) ≡ read
+pub take_front : (read rest : List ℕ) → take (length read) (read ++ rest) ≡ read
 take_front [] rest = refl
 take_front (c ∷ read) rest = ap (λ t. c ∷ t) (take_front read rest)
 
-same_Ok : {A E : Type 0} (x y : A) → ◌≡◌ {A = Result A E} (Ok x) (Ok y) → x ≡ y
+pub same_Ok : {A E : Type 0} (x y : A) → ◌≡◌ {A = Result A E} (Ok x) (Ok y) → x ≡ y
 same_Ok x y h = cc
 
 spelled_end : (text : List ℕ) (v c : Cert) (rest left : List ℕ) → IsTaken CertText text v rest → at_end v rest ≡ Ok (c, left) → CertText c text

@@ -1,8 +1,16 @@
+pub mod Certificates
 pub mod CursorLemmas
+pub mod Derivations
 pub mod Digests
 pub mod Faults
+pub mod Grammars
+pub mod HavingText
 pub mod Ints
 pub mod Language
+pub mod LoopLemmas
+pub mod Naturals
 pub mod Nodes
 pub mod Numbers
+pub mod Rows
 pub mod Spelled
+pub mod Whole

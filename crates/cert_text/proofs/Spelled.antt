@@ -28,7 +28,7 @@ numeral_on n ds (c ∷ cs) above is digits small =
     let step : decimal m ≡ ds ++ c ∷ [] = decimal_step_wide m large m_small ∙ rw (top, bottom, is) refl in
     numeral_on m (ds ++ c ∷ []) cs (omega arith) step digits.1 small ∙ append_assoc ds (c ∷ []) cs
 
-numeral_spelled : (n : ℕ) (t : List ℕ) → NumeralText n t → n < 10 ^ 64 → decimal n ≡ t
+pub numeral_spelled : (n : ℕ) (t : List ℕ) → NumeralText n t → n < 10 ^ 64 → decimal n ≡ t
 numeral_spelled n t h small =
     let one = h.above_zero in
     let code : 48 + (h.first - 48) ≡ h.first = omega arith in

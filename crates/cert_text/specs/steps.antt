@@ -1,3 +1,4 @@
 pub mod Read
 pub mod Whole
 pub mod Write
+pub mod full

@@ -42,7 +42,7 @@ fn hex_value(byte: u8) -> Option<u8>
 }
 
 /// The number with one digit more, where the byte is a digit and that number is at most `most`.
-fn with_digit(most: u128, number: u128, byte: u8) -> Option<u128>
+pub fn with_digit(most: u128, number: u128, byte: u8) -> Option<u128>
     ensures { result ≡ with_digit most number byte }
 {
     if !byte.is_ascii_digit() {
@@ -199,7 +199,7 @@ impl<'a> Cursor<'a> {
 }
 
 /// The number below 0 of this size.
-fn negative(size: u128) -> i128
+pub fn negative(size: u128) -> i128
     requires low { 0 < size }
     requires high { size ≤ 2 ^ 127 }
     ensures { result ≡ negative size }

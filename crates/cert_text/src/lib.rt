@@ -3,6 +3,7 @@
 
 mod certificate;
 mod cursor;
+pub mod full;
 mod laws;
 mod read;
 mod write;

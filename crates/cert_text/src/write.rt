@@ -31,7 +31,7 @@ fn push_cert(text: &mut Vec<u8>, cert: &Cert) -> Result<(), AllocError>
 }
 
 /// 32 bytes in hex, with lower case letters.
-fn digits_of(job: &[u8; 32]) -> [u8; 64]
+pub fn digits_of(job: &[u8; 32]) -> [u8; 64]
     ensures { result ≡ encode_lower job.now }
 {
     let mut digits = [0; 64];
@@ -39,7 +39,8 @@ fn digits_of(job: &[u8; 32]) -> [u8; 64]
     digits
 }
 
-fn push_int(text: &mut Vec<u8>, number: i128) -> Result<(), AllocError>
+/// A number in decimal digits.
+pub fn push_int(text: &mut Vec<u8>, number: i128) -> Result<(), AllocError>
     ensures { OnOk result (text.new.items ≡ text.old.items ++ int_bytes number) }
 {
     let mut buffer = Buffer::new();
@@ -56,7 +57,8 @@ fn push_term(text: &mut Vec<u8>, term: (u32, i128)) -> Result<(), AllocError>
     Ok(())
 }
 
-fn push_row(text: &mut Vec<u8>, row: &Row) -> Result<(), AllocError>
+/// A row: its constant, and its terms.
+pub fn push_row(text: &mut Vec<u8>, row: &Row) -> Result<(), AllocError>
     ensures { OnOk result (text.new.items ≡ text.old.items ++ row_bytes row.now) }
 {
     push_int(text, row.k)?;
