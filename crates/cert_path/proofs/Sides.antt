@@ -1,0 +1,202 @@
+-- The rectangle of a path has the worlds at which its unit splits are taken.
+use Rattle.std.proofs.Common.{◌≡◌, ℕ, ◌<◌, ◌==◌, ℤ, pos, negsuc, neg_ℤ, ◌+ℤ◌, ◌*ℤ◌, ◌≤ℤ◌, Bool, true, false, cond, [], ◌∷◌, refl, sym, ap, subst, arith, inl, inr, IsTrue}
+use Rattle.std.specs.Prelude.{◌⊎◌, ◌↔◌}
+use Rattle.std.specs.Ordering.{int_eq}
+use Rattle.std.specs.Int.{int_max, int_min}
+use Rattle.std.proofs.lemmas.Int.{ints, int_max_is, int_min_is}
+use Rattle.std.proofs.lemmas.Bool.Decides.{nat_tests, Decides-int_eq}
+use Rattle.viz_base.specs.declared.worlds.World.{World}
+use Rattle.viz_base.specs.declared.worlds.Rect.{Rect}
+use Rattle.logic_semantics.specs.Ranges.{IsInRange}
+use Rattle.lin_row.specs.Form.{Form, Terms, value, denied, opposites}
+use Rattle.lin_row.proofs.Values.{value-denied}
+use Rattle.lin_proof.specs.Derivations.{are_declared}
+use Rattle.cert_path.specs.Paths.{def, first, second, Path, values_at, values_along}
+use Rattle.cert_path.specs.Rectangles.{Side, Sides, cut_side, cut_sides, left_by_terms, left_by, rectangle}
+use Rattle.cert_path.specs.Laws.{IsOnSide, IsInside, IsUnit, UnitsAreTaken}
+use Rattle.cert_path.proofs.Values.{declared_local, axes_along}
+
+-- ---- unit rows
+
+abbrev IsOne : ℤ → Type 0
+IsOne c = (c ≡ pos 1) ⊎ (c ≡ negsuc 0)
+
+head_of : ℕ × ℤ → Terms → ℕ × ℤ
+head_of none [] = none
+head_of none (t ∷ ts) = t
+
+unit_parts : (k : ℤ) (t : ℕ × ℤ) → IsUnit (record { k = k; terms = t ∷ [] }) → (t.0 < 2) × IsOne t.1
+unfolding head_of
+unit_parts k t u =
+    let same : t ≡ (u.variable, u.coefficient) = ap (head_of t) u.terms in
+    (subst (λ (s : ℕ × ℤ). s.0 < 2) (sym same) u.axis, subst (λ (s : ℕ × ℤ). IsOne s.1) (sym same) u.unit)
+
+make_unit : (k : ℤ) (t : ℕ × ℤ) → t.0 < 2 → IsOne t.1 → IsUnit (record { k = k; terms = t ∷ [] })
+make_unit k t axis one = record { variable = t.0; coefficient = t.1; terms = refl; axis = axis; unit = one }
+
+opposite_one : (c : ℤ) → IsOne c → IsOne (neg_ℤ c)
+opposite_one c (inl e) = inr (ap neg_ℤ e)
+opposite_one c (inr e) = inl (ap neg_ℤ e)
+
+one_opposite : (c : ℤ) → IsOne (neg_ℤ c) → IsOne c
+one_opposite c (inl e) = inr (omega (arith, ints, e))
+one_opposite c (inr e) = inl (omega (arith, ints, e))
+
+-- a row is a unit row exactly where its denial is one
+unit_denied : (row : Form) → IsUnit row → IsUnit (denied row)
+unit_denied row u = record {
+  variable = u.variable;
+  coefficient = neg_ℤ u.coefficient;
+  terms = ap opposites u.terms;
+  axis = u.axis;
+  unit = opposite_one u.coefficient u.unit;
+}
+
+denied_unit_terms : (k m : ℤ) (ts : Terms) → IsUnit (record { k = m; terms = opposites ts }) → IsUnit (record { k = k; terms = ts })
+denied_unit_terms k m [] u = absurd (cc (u.terms))
+denied_unit_terms k m (t ∷ []) u = let parts = unit_parts m (t.0, neg_ℤ t.1) u in make_unit k t parts.0 (one_opposite t.1 parts.1)
+denied_unit_terms k m (t ∷ s ∷ ts) u = absurd (cc (u.terms))
+
+denied_unit : (row : Form) → IsUnit (denied row) → IsUnit row
+denied_unit row u = denied_unit_terms row.k (denied row).k row.terms u
+
+-- its value is that at the world, all along a path
+unit_value : (row : Form) → IsUnit row → (world : World) (path : Path) → value row (values_along world path) ≡ value row (values_at world)
+unit_value row u world path =
+    let less : IsTrue (are_declared 2 ((u.variable, u.coefficient) ∷ [])) = let axis = u.axis in grind (arith, nat_tests) in
+    declared_local 2 row (subst (λ ts. IsTrue (are_declared 2 ts)) (sym u.terms) less) (values_along world path) (values_at world) (axes_along world path)
+
+-- ---- sides
+
+rises : (k : ℤ) (side : Side) (n : ℕ) → IsOnSide (record { least = int_max (neg_ℤ k) side.least; most = side.most }) n ↔ (IsOnSide side n × (pos 0 ≤ℤ (k +ℤ (pos 1 *ℤ pos n +ℤ pos 0))))
+rises k side n =
+    let greatest = int_max_is (neg_ℤ k) side.least in (
+      λ h. ((omega (arith, ints, greatest, h.0), h.1), omega (arith, ints, greatest, h.0)),
+      λ h. (omega (arith, ints, greatest, h.0.0, h.1), h.0.1),
+    )
+
+falls : (k : ℤ) (side : Side) (n : ℕ) → IsOnSide (record { least = side.least; most = int_min k side.most }) n ↔ (IsOnSide side n × (pos 0 ≤ℤ (k +ℤ (negsuc 0 *ℤ pos n +ℤ pos 0))))
+falls k side n =
+    let least = int_min_is k side.most in (
+      λ h. ((h.0, omega (arith, ints, least, h.1)), omega (arith, ints, least, h.1)),
+      λ h. (h.0.0, omega (arith, ints, least, h.0.1, h.1)),
+    )
+
+-- what cutting a side keeps: the numbers at which the row is at least 0, where its coefficient is 1 or -1
+abbrev Kept : ℤ → ℤ → Side → ℕ → Type 0
+Kept k c side n = IsOnSide side n × (IsOne c → pos 0 ≤ℤ (k +ℤ (c *ℤ pos n +ℤ pos 0)))
+
+cut_side_is : (k c : ℤ) (side : Side) (n : ℕ) → IsOnSide (cut_side k c side) n ↔ Kept k c side n
+cut_side_is k c side n = by_test (int_eq c (pos 1)) refl (int_eq c (negsuc 0)) refl
+  where
+    by_test : (a : Bool) → int_eq c (pos 1) ≡ a → (b : Bool) → int_eq c (negsuc 0) ≡ b
+        → IsOnSide (cond a (record { least = int_max (neg_ℤ k) side.least; most = side.most }) (cond b (record { least = side.least; most = int_min k side.most }) side)) n ↔ Kept k c side n
+    by_test true e b f =
+        let one = (Decides-int_eq c (pos 1)).0 e in (
+          λ h. let all = (rises k side n).0 h in (all.0, λ u. subst (λ d. pos 0 ≤ℤ (k +ℤ (d *ℤ pos n +ℤ pos 0))) (sym one) all.1),
+          λ h. (rises k side n).1 (h.0, subst (λ d. pos 0 ≤ℤ (k +ℤ (d *ℤ pos n +ℤ pos 0))) one (h.1 (inl one))),
+        )
+    by_test false e true f =
+        let one = (Decides-int_eq c (negsuc 0)).0 f in (
+          λ h. let all = (falls k side n).0 h in (all.0, λ u. subst (λ d. pos 0 ≤ℤ (k +ℤ (d *ℤ pos n +ℤ pos 0))) (sym one) all.1),
+          λ h. (falls k side n).1 (h.0, subst (λ d. pos 0 ≤ℤ (k +ℤ (d *ℤ pos n +ℤ pos 0))) one (h.1 (inr one))),
+        )
+    by_test false e false f = (λ h. (h, none), λ h. h.0)
+      where
+        none : IsOne c → pos 0 ≤ℤ (k +ℤ (c *ℤ pos n +ℤ pos 0))
+        none (inl one) = absurd (cc (e, (Decides-int_eq c (pos 1)).1 one))
+        none (inr one) = absurd (cc (f, (Decides-int_eq c (negsuc 0)).1 one))
+
+-- ---- rectangles
+
+-- where the row is a unit row, it is at least 0 at the world
+abbrev Keeps : Form → World → Type 0
+Keeps row world = IsUnit row → pos 0 ≤ℤ value row (values_at world)
+
+-- a row of one term, by the values of its variable
+keeps_by : (k : ℤ) (t : ℕ × ℤ) (world : World) (n : ℕ) → t.0 < 2 → values_at world t.0 ≡ pos n
+    → (IsOne t.1 → pos 0 ≤ℤ (k +ℤ (t.1 *ℤ pos n +ℤ pos 0))) ↔ Keeps (record { k = k; terms = t ∷ [] }) world
+keeps_by k t world n less is = (
+  λ h u. subst (λ z. pos 0 ≤ℤ (k +ℤ (t.1 *ℤ z +ℤ pos 0))) (sym is) (h (unit_parts k t u).1),
+  λ h one. subst (λ z. pos 0 ≤ℤ (k +ℤ (t.1 *ℤ z +ℤ pos 0))) is (h (make_unit k t less one)),
+)
+
+term_is : (k : ℤ) (t : ℕ × ℤ) (sides : Sides) (world : World) → IsInside (cut_sides k t sides) world ↔ (IsInside sides world × Keeps (record { k = k; terms = t ∷ [] }) world)
+term_is k t sides world = by_test (t.0 == 0) refl (t.0 == 1) refl
+  where
+    by_test : (a : Bool) → (t.0 == 0) ≡ a → (b : Bool) → (t.0 == 1) ≡ b
+        → IsInside (cond a (record { widths = cut_side k t.1 sides.widths; sizes = sides.sizes }) (cond b (record { widths = sides.widths; sizes = cut_side k t.1 sides.sizes }) sides)) world
+        ↔ (IsInside sides world × Keeps (record { k = k; terms = t ∷ [] }) world)
+    by_test true e b f =
+        let zero : t.0 ≡ 0 = grind (arith, nat_tests) in
+        let keeps = keeps_by k t world world.w (omega arith) (ap (values_at world) zero) in
+        let cut = cut_side_is k t.1 sides.widths world.w in (
+          λ h. let all = cut.0 h.0 in ((all.0, h.1), keeps.0 all.1),
+          λ h. (cut.1 (h.0.0, keeps.1 h.1), h.0.1),
+        )
+    by_test false e true f =
+        let one : t.0 ≡ 1 = grind (arith, nat_tests) in
+        let keeps = keeps_by k t world world.s (omega arith) (ap (values_at world) one) in
+        let cut = cut_side_is k t.1 sides.sizes world.s in (
+          λ h. let all = cut.0 h.1 in ((h.0, all.0), keeps.0 all.1),
+          λ h. (h.0.0, cut.1 (h.0.1, keeps.1 h.1)),
+        )
+    by_test false e false f =
+        let other : (t.0 < 2) → ⊥ = λ less. absurd (grind (arith, nat_tests)) in
+        (λ h. (h, λ u. absurd (other (unit_parts k t u).0)), λ h. h.0)
+
+terms_is : (k : ℤ) (ts : Terms) (sides : Sides) (world : World) → IsInside (left_by_terms k ts sides) world ↔ (IsInside sides world × Keeps (record { k = k; terms = ts }) world)
+terms_is k [] sides world = (λ h. (h, λ u. absurd (cc (u.terms))), λ h. h.0)
+terms_is k (t ∷ []) sides world = term_is k t sides world
+terms_is k (t ∷ u ∷ ts) sides world = (λ h. (h, λ v. absurd (cc (v.terms))), λ h. h.0)
+
+left_by_is : (row : Form) (sides : Sides) (world : World) → IsInside (left_by row sides) world ↔ (IsInside sides world × Keeps row world)
+left_by_is row sides world = terms_is row.k row.terms sides world
+
+-- ---- paths
+
+pub rectangle_is_units : (range : Rect) (path : Path) (world : World) → IsInside (rectangle range path) world ↔ (IsInRange range world × UnitsAreTaken path world)
+rectangle_is_units range [] world = (
+  λ h. (
+    record {
+      width_least = omega (arith, ints, h.0.0);
+      width_most = omega (arith, ints, h.0.1);
+      size_least = omega (arith, ints, h.1.0);
+      size_most = omega (arith, ints, h.1.1);
+    },
+    tt,
+  ),
+  λ h.
+      let a = h.0.width_least in
+      let b = h.0.width_most in
+      let c = h.0.size_least in
+      let d = h.0.size_most in
+      ((omega (arith, ints), omega (arith, ints)), (omega (arith, ints), omega (arith, ints))),
+)
+rectangle_is_units range (def row d ∷ outer) world =
+    let above = rectangle_is_units range outer world in (
+      λ h. ((above.0 h).0, (tt, (above.0 h).1)),
+      λ h. above.1 (h.0, h.1.1),
+    )
+rectangle_is_units range (first row ∷ outer) world =
+    let above = rectangle_is_units range outer world in
+    let cut = left_by_is row (rectangle range outer) world in (
+      λ h. let parts = cut.0 h in
+          ((above.0 parts.0).0, (λ u. subst (λ z. pos 0 ≤ℤ z) (sym (unit_value row u world outer)) (parts.1 u), (above.0 parts.0).1)),
+      λ h. cut.1 (above.1 (h.0, h.1.1), λ u. subst (λ z. pos 0 ≤ℤ z) (unit_value row u world outer) (h.1.0 u)),
+    )
+rectangle_is_units range (second row ∷ outer) world =
+    let above = rectangle_is_units range outer world in
+    let cut = left_by_is (denied row) (rectangle range outer) world in (
+      λ h. let parts = cut.0 h in (
+        (above.0 parts.0).0,
+        (
+          λ u. omega (arith, ints, unit_value row u world outer, value-denied row (values_at world), parts.1 (unit_denied row u)),
+          (above.0 parts.0).1,
+        ),
+      ),
+      λ h. cut.1 (
+        above.1 (h.0, h.1.1),
+        λ u. let unit = denied_unit row u in omega (arith, ints, unit_value row unit world outer, value-denied row (values_at world), h.1.0 unit),
+      ),
+    )

@@ -1,0 +1,78 @@
+-- Paths: the steps from the root of a certificate down to a node, what the variables are along them, and the worlds
+-- that lie on them.
+use Rattle.std.specs.Prelude.{ℕ, ◌+◌, ◌==◌, ℤ, pos, ◌≤ℤ◌, ◌<ℤ◌, Bool, List, [], ◌∷◌, if◌then◌else◌, IsTrue, ⊤}
+use Rattle.std.specs.Int.{int_div_euclid}
+use Rattle.viz_base.specs.declared.worlds.World.{World}
+use Rattle.lin_row.specs.Form.{Form, value}
+use Rattle.lin_proof.specs.Derivations.{are_declared}
+
+-- a step from a node down to a child of it
+pub data Step : Type 0 where
+  -- below a def: the next variable is the row's value divided by the number and rounded down
+  def : Form → ℤ → Step
+  -- to the first child of a split: the row is at least 0
+  first : Form → Step
+  -- to the second child of a split: the row is below 0
+  second : Form → Step
+
+-- the steps from the root down to a node, the last of them in front
+abbrev pub Path : Type 0
+Path = List Step
+
+-- ---- variables: 0 is the viewport's width and 1 the default font size, in whole pixels; each def takes the next one
+
+-- how many variables are declared along a path
+abbrev pub variables : Path → ℕ
+variables [] = 2
+variables (def row d ∷ outer) = variables outer + 1
+variables (first row ∷ outer) = variables outer
+variables (second row ∷ outer) = variables outer
+
+-- the values v, but n for the variable x
+abbrev pub with_value : (ℕ → ℤ) → ℕ → ℤ → ℕ → ℤ
+with_value v x n y = if y == x then n else v y
+
+-- what the variables are where no floor is named; those that are not declared count 0
+abbrev pub values_at : World → ℕ → ℤ
+values_at world = with_value (with_value (λ x. pos 0) 0 (pos world.w)) 1 (pos world.s)
+
+-- the values v, but for the variable x the row's value divided by d and rounded down
+abbrev pub with_floor : Form → ℤ → (ℕ → ℤ) → ℕ → ℕ → ℤ
+with_floor row d v x = with_value v x (int_div_euclid (value row v) d)
+
+-- what the variables are along a path at a world
+abbrev pub values_along : World → Path → ℕ → ℤ
+values_along world [] = values_at world
+values_along world (def row d ∷ outer) = with_floor row d (values_along world outer) (variables outer)
+values_along world (first row ∷ outer) = values_along world outer
+values_along world (second row ∷ outer) = values_along world outer
+
+-- ---- worlds
+
+-- the step is taken where the variables have these values
+abbrev pub IsTaken : (ℕ → ℤ) → Step → Type 0
+IsTaken v (def row d) = ⊤
+IsTaken v (first row) = pos 0 ≤ℤ value row v
+IsTaken v (second row) = value row v <ℤ pos 0
+
+-- the world lies on the path: each step is taken there, by what the variables are along the steps above it
+abbrev pub IsOn : Path → World → Type 0
+IsOn [] world = ⊤
+IsOn (step ∷ outer) world = IsTaken (values_along world outer) step × IsOn outer world
+
+-- ---- declared rows
+
+-- the row has no other variables than those that are declared along the path
+abbrev pub is_declared : Path → Form → Bool
+is_declared path row = are_declared (variables path) row.terms
+
+-- below these steps it stands so: the step's row has no other variables, and a def's number is above 0
+abbrev pub IsSound : Path → Step → Type 0
+IsSound outer (def row d) = IsTrue (is_declared outer row) × (pos 0 <ℤ d)
+IsSound outer (first row) = IsTrue (is_declared outer row)
+IsSound outer (second row) = IsTrue (is_declared outer row)
+
+-- each step of the path stands so below those above it
+abbrev pub AreSound : Path → Type 0
+AreSound [] = ⊤
+AreSound (step ∷ outer) = IsSound outer step × AreSound outer

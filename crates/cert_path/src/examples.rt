@@ -1,0 +1,41 @@
+//! A path worked out by hand, and which nodes would be badly shaped there.
+
+ghost use Rattle.std.specs.Prelude.{◌≡◌, ◌*◌, pos, negsuc, true, false, []};
+ghost use Rattle.cert_path.specs.Examples.{range, world, width, path, path_facts, cut_to};
+ghost use Rattle.cert_path.specs.Facts.{row_of, facts};
+ghost use Rattle.cert_path.specs.Nodes.{names, splits, by_worlds};
+ghost use Rattle.cert_path.specs.Paths.{variables, values_along};
+ghost use Rattle.cert_path.specs.Rectangles.{rectangle, world_count};
+ghost use Rattle.cert_path.specs.Shapes.{is_shaped};
+
+/// Three variables are declared along the path, of which the floor of 500 by 3 is 166; its facts in order.
+pub fn a_path_by_hand()
+    ensures count { variables path ≡ 3 }
+    ensures width { values_along world path 0 ≡ pos 500 }
+    ensures size { values_along world path 1 ≡ pos 16 }
+    ensures floor { values_along world path 2 ≡ pos 166 }
+    ensures facts { facts range path ≡ path_facts }
+    ensures rectangle { world_count (rectangle range path) ≡ 1441 * 13 }
+{}
+
+/// Defs on that path: of another number than 3, of a sum with the floor, and the faults that a def can have.
+pub fn defs_by_hand()
+    ensures other_number { is_shaped range path (names width (pos 2)) ≡ true }
+    ensures of_floor { is_shaped range path (names (row_of (pos 1) (pos 1) 2) (pos 3)) ≡ true }
+    ensures same { is_shaped range path (names width (pos 3)) ≡ false }
+    ensures undeclared { is_shaped range path (names (row_of (pos 0) (pos 1) 3) (pos 3)) ≡ false }
+    ensures no_variable { is_shaped range path (names (record { k = pos 1; terms = [] }) (pos 3)) ≡ false }
+    ensures by_one { is_shaped range path (names (row_of (pos 0) (pos 0) 0) (pos 1)) ≡ false }
+    ensures constant { is_shaped range path (names (row_of (pos 5) (pos 1) 0) (pos 3)) ≡ false }
+    ensures coefficient { is_shaped range path (names (row_of (pos 0) (pos 3) 0) (pos 3)) ≡ false }
+    ensures below_zero { is_shaped range path (names (row_of (pos 0) (negsuc 0) 0) (pos 3)) ≡ false }
+{}
+
+/// Splits there, and grids of 64 and of 68 worlds.
+pub fn splits_and_grids_by_hand()
+    ensures of_floor { is_shaped range path (splits (row_of (negsuc 99) (pos 1) 2)) ≡ true }
+    ensures undeclared { is_shaped range path (splits (row_of (pos 0) (pos 1) 3)) ≡ false }
+    ensures no_variable { is_shaped range path (splits (record { k = pos 1; terms = [] })) ≡ false }
+    ensures small { is_shaped range (cut_to (pos 335)) by_worlds ≡ true }
+    ensures large { is_shaped range (cut_to (pos 336)) by_worlds ≡ false }
+{}

@@ -1,0 +1,20 @@
+//! What the facts of a path say.
+
+ghost use Rattle.cert_path.specs.Laws.{AnswersAreRight, FactsHold, FactsSayAll, RefutedIsEmpty};
+
+/// At each world of the range on a path all its facts are at least 0, and whole numbers that make them so are what the
+/// variables are along the path at such a world; each row of the path names declared variables alone.
+pub fn facts_say_what_a_path_says()
+    ensures hold { FactsHold }
+    ensures all { FactsSayAll }
+{}
+
+/// No world of the range is on a path whose facts a derivation refutes.
+pub fn a_refuted_part_is_empty()
+    ensures { RefutedIsEmpty }
+{}
+
+/// An answer whose denial is refuted is right at each world of the range on the path.
+pub fn an_answer_is_right_where_its_denial_is_refuted()
+    ensures { AnswersAreRight }
+{}

@@ -1,0 +1,7 @@
+//! Paths of certificates: what the variables are along them, which facts they give, and which worlds lie on them.
+#![tactic(auto)]
+
+pub mod examples;
+pub mod facts;
+pub mod nodes;
+pub mod shapes;
