@@ -1,5 +1,5 @@
 -- What a ruleset says that applies.
-use Rattle.std.proofs.Common.{◌≡◌, ℕ, Bool, List, map, Option, Result, Ok, Err, OnOk, MatchResult, sym, subst}
+use Rattle.std.proofs.Common.{◌≡◌, ℕ, Bool, List, Option, Result, Ok, Err, OnOk, MatchResult, sym, subst}
 use Rattle.viz_base.specs.declared.nodes.Node.{Node}
 use Rattle.viz_base.specs.declared.selectors.Spec.{Spec}
 use Rattle.viz_base.specs.declared.settings.Setting.{Setting}

@@ -7,3 +7,5 @@ pub mod Walks
 pub mod OneNode
 pub mod Slots
 pub mod Orders
+pub mod Claims
+pub mod Outcomes

@@ -1,5 +1,5 @@
 -- A page of one element.
-use Rattle.std.proofs.Common.{◌≡◌, ℕ, ◌≤◌, zero, suc, List, [], ◌∷◌, length, Some, None, slice_get, refl, subst, lit≤, IsTrue}
+use Rattle.std.proofs.Common.{◌≡◌, ℕ, ◌≤◌, zero, suc, [], ◌∷◌, length, Some, None, slice_get, refl, subst, lit≤, IsTrue}
 use Rattle.std.specs.Str.{chars}
 use Rattle.viz_base.specs.declared.nodes.Body.TheVariants as of_body
 use Rattle.viz_base.specs.declared.nodes.Element.{Element}

@@ -1,30 +1,25 @@
--- The winners at the nodes: one list for each, and in it each property at most once, in the order of the table.
-use Rattle.std.proofs.Common.{◌≡◌, ℕ, ◌+◌, Bool, true, false, cond, ◌&&◌, ◌==◌, List, [], ◌∷◌, ◌++◌, map, filter, length, slice_get, Option, Some, None, Result, Ok, Err, refl, sym, ap, ◌∙◌, subst, arith, length-append}
-use Rattle.std.specs.Prelude.{IfOk, flat_map}
-use Rattle.std.specs.List.{AllByRecursion, list_all}
+-- The settings of a node: each property at most once, in the order of the table.
+use Rattle.std.proofs.Common.{◌≡◌, ℕ, Bool, true, false, cond, ◌&&◌, ◌==◌, List, [], ◌∷◌, ◌++◌, map, filter, slice_get, Option, Some, None, Result, Ok, Err, refl, sym, ap, ◌∙◌, subst, arith}
+use Rattle.std.specs.Prelude.{flat_map}
+use Rattle.std.specs.List.{list_all}
 use Rattle.std.specs.Option.{option_to_list}
 use Rattle.std.specs.Ordering.{is_gt}
 use Rattle.std.proofs.lemmas.Bool.Decides.{nat_tests}
-use Rattle.viz_base.specs.Answers.{GivesOneOf}
 use Rattle.viz_base.specs.declared.nodes.Node.{Node}
-use Rattle.viz_base.specs.declared.settings.Cascaded.{Cascaded}
 use Rattle.viz_base.specs.declared.settings.Prop.{Prop}
 use Rattle.viz_base.specs.declared.settings.Prop.TheVariants as prop
 use Rattle.viz_base.specs.declared.settings.Setting.{Setting}
 use Rattle.viz_base.specs.declared.settings.Value.{Value}
-use Rattle.viz_base.specs.declared.sheets.Sheet.{Sheet}
 use Rattle.css_semantics.specs.declared.claims.Claim.{Claim}
 use Rattle.css_semantics.specs.declared.claims.Ruleset.{Ruleset}
 use Rattle.css_semantics.specs.declared.claims.Standing.{Standing}
-use Rattle.css_semantics.specs.Cascade.{ComesTo, Fault, Goes, IsCascade, comes_to}
-use Rattle.css_semantics.specs.CascadeNodes.{first_refused, is_hidden, is_refused, judged, node_outcome, refused_at, set_by, settings_by, settings_of, winners_for, winners_of}
+use Rattle.css_semantics.specs.Cascade.{ComesTo, comes_to}
+use Rattle.css_semantics.specs.CascadeNodes.{first_refused, is_hidden, is_refused, judged, node_outcome, refused_at, set_by, settings_of, winners_for, winners_of}
 use Rattle.css_semantics.specs.CascadeOrder.{Applied, cascade_cmp, greatest, greatest_from, is_prop, later_of, of_prop, place_of, winner_of}
 use Rattle.css_semantics.specs.Properties.{properties}
 use Rattle.css_semantics.specs.ValuesLaws.{IsAmong, none, passed, props, taken}
 use Rattle.css_semantics.proofs.Pairs.{by_bool}
-use Rattle.css_cascade.specs.declared.faults.CascadeFault.{CascadeFault}
-use Rattle.css_cascade.specs.Faults.{refusal_of}
-use Rattle.css_cascade.specs.Lists.{AreInOrder, IsInOrder}
+use Rattle.css_semantics.specs.Winners.{IsInOrder}
 
 -- ---- the property of a winner
 
@@ -133,7 +128,7 @@ each_among : (replaced : Bool) (outer : Standing) (all : List Applied) (ps : Lis
 each_among replaced outer all [] = none
 each_among replaced outer all (p ∷ ps) = one_among replaced outer p (winner_of p all) (flat_map (λ q. winners_for q all) ps) ps (winner_has p all) (each_among replaced outer all ps)
 
-abbrev OutcomeInOrder : Result (List Setting × Standing) Claim → Type 0
+abbrev pub OutcomeInOrder : Result (List Setting × Standing) Claim → Type 0
 OutcomeInOrder (Ok come) = IsInOrder come.0
 OutcomeInOrder (Err c) = Unit {0}
 
@@ -146,31 +141,5 @@ judged_in_order replaced outer all =
     outcome_in_order outer (is_hidden outer (winners_of all)) (settings_of replaced outer (winners_of all))
     (refused_at (is_hidden outer (winners_of all)) (first_refused replaced outer (winners_of all))) (each_among replaced outer all properties)
 
-node_in_order : {nodes : List Node} {rulesets : List Ruleset} {standings : List Standing} {n : ℕ} {node : Node} {r : Result (List Setting × Standing) Claim} → ComesTo nodes rulesets standings n node r → OutcomeInOrder r
+pub node_in_order : {nodes : List Node} {rulesets : List Ruleset} {standings : List Standing} {n : ℕ} {node : Node} {r : Result (List Setting × Standing) Claim} → ComesTo nodes rulesets standings n node r → OutcomeInOrder r
 node_in_order (comes_to {all = all} h) = judged_in_order _ _ all
-
--- ---- the lists of all nodes
-
-all_push : (xs : List (List Setting)) (x : List Setting) → AllByRecursion IsInOrder xs → IsInOrder x → AllByRecursion IsInOrder (xs ++ x ∷ [])
-all_push [] x h k = (k, tt)
-all_push (y ∷ xs) x h k = (h.0, all_push xs x h.1 k)
-
-abbrev Lists : ℕ → Result (List (List Setting)) Fault → Type 0
-Lists n (Ok all) = (length all ≡ n) × AllByRecursion IsInOrder all
-Lists n (Err fault) = Unit {0}
-
-goes_lists : {nodes : List Node} {rulesets : List Ruleset} {standings : List Standing} {winners : List (List Setting)} {rest : List Node} {answer : Result (List (List Setting)) Fault} → Goes nodes rulesets standings winners rest answer → AllByRecursion IsInOrder winners → (n : ℕ) → n ≡ length winners + length rest → Lists n answer
-goes_lists Goes.ends h n e = (let l = e in omega arith, h)
-goes_lists (Goes.refuses come) h n e = tt
-goes_lists (Goes.goes_on {winners = winners} {node = node} {rest = rest} {settings = settings} come more) h n e =
-    goes_lists more (all_push winners settings h (node_in_order come)) n
-    (let l : length (winners ++ settings ∷ []) ≡ length winners + 1 = length-append winners (settings ∷ []) in omega arith)
-
-cascade_lists : (nodes : List Node) (texts : List (List ℕ)) (sheets : List Sheet) (all : List (List Setting)) → IsCascade nodes texts sheets (Ok all) → AreInOrder nodes all
-cascade_lists nodes texts sheets all (IsCascade.cascaded r goes) =
-    let l : Lists (length nodes) (Ok all) = goes_lists goes tt (length nodes) (omega arith) in
-    record { each = l.0; ordered = l.1 }
-
-pub lists_on : (r : Result Cascaded CascadeFault) (nodes : List Node) (texts : List (List ℕ)) (sheets : List Sheet) → GivesOneOf (λ c. c.winners) refusal_of r (IsCascade nodes texts sheets) → IfOk r (λ c. AreInOrder nodes c.winners)
-lists_on (Ok c) nodes texts sheets h = cascade_lists nodes texts sheets c.winners h
-lists_on (Err fault) nodes texts sheets h = tt

@@ -1,10 +1,10 @@
 -- The winners kept by the places of their properties are the winners.
-use Rattle.std.proofs.Common.{◌≡◌, ℕ, Bool, true, false, List, [], ◌∷◌, ◌++◌, map, length, set, get_or, Option, Some, None, option_map, refl, sym, ap, ◌∙◌, cond}
+use Rattle.std.proofs.Common.{◌≡◌, List, [], ◌∷◌, ◌++◌, map, set, get_or, Option, Some, None, refl, ap, ◌∙◌}
 use Rattle.std.specs.Prelude.{if◌then◌else◌, flat_map}
 use Rattle.viz_base.specs.declared.settings.Prop.{Prop}
 use Rattle.viz_base.specs.declared.settings.Prop.TheVariants as prop
 use Rattle.css_semantics.specs.CascadeOrder.{Applied, is_prop, place_of, winner_of}
-use Rattle.css_semantics.specs.CascadeNodes.{winners_for, winners_of}
+use Rattle.css_semantics.specs.CascadeNodes.{winners_for}
 use Rattle.css_semantics.specs.Properties.{properties}
 use Rattle.css_cascade.specs.Seen.{claims_in, kept, kept_all, later_or, winner_on, winner_with}
 use Rattle.css_cascade.proofs.Winners.{winner_on_is}

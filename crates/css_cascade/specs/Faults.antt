@@ -1,5 +1,6 @@
 -- Which answer of the code stands for which answer of the definition.
-use Rattle.std.specs.Prelude.{◌≡◌, ℕ, ◌+◌, ◌^◌, ◌≤◌, List, [], Option, Some, None, Result, Ok, Err}
+use Rattle.std.specs.Prelude.{◌≡◌, ℕ, suc, ◌+◌, ◌^◌, ◌<◌, ◌≤◌, length, List, [], Option, Some, None, Result, Ok, Err}
+use Rattle.viz_base.specs.declared.nodes.Node.{Node}
 use Rattle.viz_base.specs.declared.settings.Setting.{Setting}
 use Rattle.css_semantics.specs.declared.claims.Claim.{Claim}
 use Rattle.css_semantics.specs.declared.claims.Origin.{Origin}
@@ -9,6 +10,7 @@ use Rattle.css_semantics.specs.CascadeReading.{Refused, unsupported_at}
 use Rattle.css_select.specs.declared.faults.SelFault.{SelFault}
 use Rattle.css_select.specs.declared.faults.SelFault.TheVariants as of_selector
 use Rattle.css_semantics.specs.Cascade.{Fault, selector_at, value_at}
+use Rattle.css_semantics.specs.Sources.{IsValueAt}
 use Rattle.css_cascade.specs.declared.faults.CascadeFault.{CascadeFault}
 use Rattle.css_cascade.specs.declared.faults.CascadeFault.TheVariants.{Mem, Selector, Value}
 
@@ -17,6 +19,11 @@ abbrev pub refusal_of : CascadeFault → Option Fault
 refusal_of Mem = None
 refusal_of (Selector sheet at) = Some (selector_at sheet at)
 refusal_of (Value node p source) = Some (value_at node p source)
+
+-- A refused selector stands in a sheet of an author, and a refused value of a node stands where its source says.
+abbrev pub IsPlaced : List Node → List (List ℕ) → Fault → Type 0
+IsPlaced nodes texts (selector_at sheet at) = suc sheet < length texts
+IsPlaced nodes texts (value_at n p source) = (n < length nodes) × ((value : List ℕ) × IsValueAt nodes texts source value)
 
 -- What reads sheets gives, where want of memory is free: only a selector refuses them.
 abbrev pub Reads : {B : Type 0} → CascadeFault → (Result (List B) Refused → Type 0) → Type 0

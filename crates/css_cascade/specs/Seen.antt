@@ -1,5 +1,5 @@
 -- What the code's references stand for, and its loops.
-use Rattle.std.specs.Prelude.{List, [], ◌∷◌, map, set, get_or, Option, Some, None, option_map, if◌then◌else◌}
+use Rattle.std.specs.Prelude.{List, [], ◌∷◌, map, set, get_or, Option, Some, None, if◌then◌else◌}
 use Rattle.std.specs.Option.{option_to_list}
 use Rattle.css_semantics.specs.declared.claims.Claim.{Claim}
 use Rattle.std.specs.declared.cmp.Ordering.{Ordering}

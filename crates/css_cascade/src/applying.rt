@@ -1,4 +1,5 @@
-ghost use Rattle.std.specs.Prelude.{◌≡◌, ◌++◌, ◌∷◌, [], map, IfOk, IsTrue, List as Seq, Ok, OnOk, None, Some, codes, option_map};
+ghost use Rattle.std.specs.Prelude.{◌≡◌, ◌++◌, ◌∷◌, [], map, IfOk, IsTrue, List as Seq, Ok, OnOk, None, Some, codes};
+ghost use Rattle.std.specs.Prelude.{option_map};
 ghost use Rattle.viz_base.specs.Pages.{is_element_at};
 ghost use Rattle.viz_base.specs.declared.selectors.Spec.{Spec};
 ghost use Rattle.css_semantics.specs.CascadeOrder.{Applied as AppliedClaim, applied, greatest, spec_cmp, style_spec};
@@ -104,7 +105,7 @@ fn is_style(attr: &Attr) -> bool
 }
 
 /// The value of the first attribute `style`.
-fn style_of(attrs: &[Attr]) -> Option<&str>
+pub fn style_of(attrs: &[Attr]) -> Option<&str>
     ensures { option_map (λ text. text.now) result ≡ style_of attrs.now }
 {
     for attr in attrs {

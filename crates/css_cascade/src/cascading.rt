@@ -1,9 +1,9 @@
-ghost use Rattle.std.specs.Prelude.{◌≡◌, [], map, slice_get, IfOk, MatchResult, Ok, Some, length};
+ghost use Rattle.std.specs.Prelude.{◌≡◌, [], map, slice_get, IfErr, IfOk, IfSome, MatchResult, Ok, Some, length};
 ghost use Rattle.css_semantics.specs.Cascade.{ComesTo, Goes, IsCascade};
 ghost use Rattle.css_semantics.specs.CascadeNodes.{judged, winners_of};
+ghost use Rattle.css_semantics.specs.Winners.{AreWinners};
 ghost use Rattle.viz_base.specs.Answers.{GivesOneOf};
-ghost use Rattle.css_cascade.specs.Faults.{Judges, refusal_of};
-ghost use Rattle.css_cascade.specs.Lists.{AreInOrder};
+ghost use Rattle.css_cascade.specs.Faults.{IsPlaced, Judges, refusal_of};
 ghost use Rattle.css_cascade.specs.Seen.{seen};
 
 use crate::applying::{STYLE, applied, push_applied, styled};
@@ -93,7 +93,8 @@ fn cascade_nodes(alloc: Global, page: &Page, rulesets: &[Ruleset]) -> Result<Cas
 ///
 /// `Selector` for the first selector in an author's sheet that is refused by name, at its place in the sheet; `Value`, where
 /// no selector is refused, for the first node that isn't hidden at which a refused value wins, and there for the first
-/// property in the order of the table; `Mem` for want of memory alone.
+/// property in the order of the table, with where the value stands in its text, at characters; `Mem` for want of memory
+/// alone.
 pub fn cascade(
     alloc: Global,
     page: &Page,
@@ -102,7 +103,8 @@ pub fn cascade(
 ) -> Result<Cascaded, CascadeFault>
     requires { length texts.now ≡ length sheets.now }
     ensures given { GivesOneOf (λ c. c.winners) refusal_of result (IsCascade page.now.nodes texts.now sheets.now) }
-    ensures lists { IfOk result (λ c. AreInOrder page.now.nodes c.winners) }
+    ensures lists { IfOk result (λ c. AreWinners page.now.nodes c.winners) }
+    ensures places { IfErr result (λ fault. IfSome (refusal_of fault) (IsPlaced page.now.nodes texts.now)) }
 {
     let rulesets = read_rulesets(alloc, texts, sheets)?;
     cascade_nodes(alloc, page, &rulesets)

@@ -8,9 +8,11 @@ mod faults;
 mod nodes;
 mod order;
 mod reading;
+mod sources;
 #[cfg(test)]
 mod tests;
 
 pub use cascading::cascade;
 pub use defaults::default_sheet;
 pub use faults::CascadeFault;
+pub use sources::value_text;

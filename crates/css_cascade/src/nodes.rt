@@ -2,7 +2,10 @@ ghost use Rattle.std.specs.Prelude.{◌≡◌, ◌≤◌, ◌^◌, ◌++◌, map
 ghost use Rattle.std.specs.List.{list_any};
 ghost use Rattle.std.specs.Option.{option_to_list};
 ghost use Rattle.viz_base.specs.Pages.{is_replaced};
-ghost use Rattle.css_semantics.specs.CascadeNodes.{around_root, first_refused, hides, is_above_zero, is_hidden, is_limit, is_refused, sets_limit, sets_max_height, sets_min_height, sets_min_width, set_by, settings_by, settings_of, standing_around, standing_of};
+ghost use Rattle.css_semantics.specs.CascadeNodes.{around_root, first_refused, hides, is_above_zero, is_hidden};
+ghost use Rattle.css_semantics.specs.CascadeNodes.{is_limit, is_refused, sets_limit, sets_max_height};
+ghost use Rattle.css_semantics.specs.CascadeNodes.{sets_min_height, sets_min_width, set_by, settings_by, settings_of};
+ghost use Rattle.css_semantics.specs.CascadeNodes.{standing_around, standing_of};
 
 use css_semantics::{Claim, Standing};
 use std::alloc::Global;

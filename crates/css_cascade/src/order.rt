@@ -16,52 +16,12 @@ pub struct Applied<'a> {
     pub claim: &'a Claim,
 }
 
-/// The place of a property in the table.
+/// The place of a property in the table, in the order of which the properties are declared.
 fn place_of(prop: Prop) -> usize
     ensures place { result ≡ place_of prop }
     ensures within { result < 39 }
 {
-    match prop {
-        Prop::Display => 0,
-        Prop::Position => 1,
-        Prop::Float => 2,
-        Prop::Clear => 3,
-        Prop::Overflow => 4,
-        Prop::Direction => 5,
-        Prop::Width => 6,
-        Prop::Height => 7,
-        Prop::MinWidth => 8,
-        Prop::MinHeight => 9,
-        Prop::MaxWidth => 10,
-        Prop::MaxHeight => 11,
-        Prop::MarginTop => 12,
-        Prop::MarginRight => 13,
-        Prop::MarginBottom => 14,
-        Prop::MarginLeft => 15,
-        Prop::PaddingTop => 16,
-        Prop::PaddingRight => 17,
-        Prop::PaddingBottom => 18,
-        Prop::PaddingLeft => 19,
-        Prop::BorderTopWidth => 20,
-        Prop::BorderRightWidth => 21,
-        Prop::BorderBottomWidth => 22,
-        Prop::BorderLeftWidth => 23,
-        Prop::BorderTopStyle => 24,
-        Prop::BorderRightStyle => 25,
-        Prop::BorderBottomStyle => 26,
-        Prop::BorderLeftStyle => 27,
-        Prop::FontSize => 28,
-        Prop::FontFamily => 29,
-        Prop::LineHeight => 30,
-        Prop::VerticalAlign => 31,
-        Prop::TextAlign => 32,
-        Prop::WhiteSpace => 33,
-        Prop::TextIndent => 34,
-        Prop::LetterSpacing => 35,
-        Prop::WordSpacing => 36,
-        Prop::TextTransform => 37,
-        Prop::ListStylePosition => 38,
-    }
+    prop as usize
 }
 
 /// Which of two specificities is greater (CSS 2.1, 6.4.3).

@@ -19,7 +19,7 @@ use std::alloc::{AllocError, Global};
 use viz_base::{Decl, List, Mem, Prop, Rule, Selector, Setting, Sheet, Source, Text, Value};
 
 /// A slice of a text, if it begins and ends at characters.
-fn slice(text: &str, at: u32, len: u32) -> Option<&str>
+pub fn slice(text: &str, at: u32, len: u32) -> Option<&str>
     ensures { MatchOption result (IsNoSlice text.now at len) (λ piece. IsSlice text.now at len piece.now) }
 {
     let start = at as usize;

@@ -2,7 +2,7 @@ ghost use Rattle.std.specs.Prelude.{◌≡◌, IfOk, IsTrue};
 ghost use Rattle.viz_base.specs.Pages.{has_lower_names, is_lower};
 ghost use Rattle.viz_base.specs.declared.nodes.Body.TheVariants as of_body;
 
-use crate::{cascade, default_sheet};
+use crate::{CascadeFault, cascade, default_sheet, value_text};
 use css_syntax::read_sheet;
 use std::alloc::{AllocError, Global};
 use std::test::Fail;
@@ -54,6 +54,22 @@ fn height(alloc: Global, cascaded: &Cascaded) -> Result<String, AllocError> {
     String::from_str(alloc, "none")
 }
 
+/// What refuses a page, with the value that is refused.
+fn refusal(
+    alloc: Global,
+    page: &Page,
+    texts: &[Text],
+    fault: CascadeFault,
+) -> Result<String, AllocError> {
+    match fault {
+        CascadeFault::Value(_, _, source) => {
+            let value = value_text(page, texts, source).unwrap_or("");
+            format!(in alloc; "{fault}: {value}")
+        }
+        _ => format!(in alloc; "{fault}"),
+    }
+}
+
 /// The height that wins for a `div` with this sheet of an author and this style attribute, or what refuses the page.
 fn shown(alloc: Global, css: &str, style: &str) -> Result<String, AllocError> {
     let page = page(alloc, style)?;
@@ -64,7 +80,7 @@ fn shown(alloc: Global, css: &str, style: &str) -> Result<String, AllocError> {
     match (read_sheet(alloc, default_sheet()), read_sheet(alloc, css)) {
         (Ok(default), Ok(author)) => match cascade(alloc, &page, &texts, &[default, author]) {
             Ok(cascaded) => height(alloc, &cascaded),
-            Err(fault) => format!(in alloc; "{fault}"),
+            Err(fault) => refusal(alloc, &page, &texts, fault),
         },
         _ => String::from_str(alloc, "no sheet"),
     }
@@ -92,7 +108,12 @@ fn cascades(rt: HostRuntime) -> Result<(), Fail> {
         (
             "div{position:fixed}",
             "",
-            "unsupported value at node 0: Position",
+            "unsupported value at node 0: Position: fixed",
+        ),
+        (
+            "",
+            "position: absolute ;",
+            "unsupported value at node 0: Position: absolute",
         ),
         ("div{position:fixed}", "display:none;height:1px", "Px(64)"),
     ] {

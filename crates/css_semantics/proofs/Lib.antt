@@ -13,6 +13,8 @@ pub mod Answers
 pub mod Names
 pub mod OrderLemmas
 pub mod TableLemmas
+pub mod Allowed
 pub mod OneAnswer
 pub mod Greatest
 pub mod Overriding
+pub mod Hiding

@@ -21,6 +21,10 @@ pub mod ValuesLaws
 pub mod DefaultSheet
 pub mod CascadeOrder
 pub mod CascadeReading
+pub mod Sources
 pub mod CascadeNodes
 pub mod Cascade
 pub mod CascadeLaws
+pub mod Winners
+pub mod Hidden
+pub mod ComputedValues

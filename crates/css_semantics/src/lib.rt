@@ -20,5 +20,9 @@ pub use selectors::{joins_say_where, specificity_counts, specificity_order};
 pub use sheets::{one_list_of_declarations, one_sheet, one_stretch};
 pub use statements::Statement;
 pub use terminals::{Comparison, Pseudo, Terminal};
-pub use value_laws::{fewer_sides, one_answer, settings_in_order, values_by_the_table};
-pub use winners::{hidden_inside, important_overrides, one_specificity, one_winner};
+pub use value_laws::{
+    fewer_sides, one_answer, settings_in_order, values_allowed, values_by_the_table,
+};
+pub use winners::{
+    hidden_by_display, hidden_inside, important_overrides, one_specificity, one_winner,
+};

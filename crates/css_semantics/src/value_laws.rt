@@ -8,6 +8,7 @@ ghost use Rattle.css_semantics.specs.declared.parts.Shorthand.{Shorthand};
 ghost use Rattle.css_semantics.specs.Properties.{properties, row};
 ghost use Rattle.css_semantics.specs.Values.{longhand, part_value};
 ghost use Rattle.css_semantics.specs.Shorthands.{Says, declared, shorthand};
+ghost use Rattle.css_semantics.specs.Winners.{AreAllowed};
 ghost use Rattle.css_semantics.specs.ValuesLaws.{FewerSides, HasValue, IsAmong, longhands, props};
 
 /// A law: a declaration sets its own property alone, or all that it is short for, in the order of the table of properties,
@@ -22,6 +23,12 @@ pub fn settings_in_order()
 /// only zero is accepted where it says that (CSS 2.1, 4.3.2).
 pub fn values_by_the_table()
     ensures { (p : Prop) (a : Part) (v : Value) → part_value p a ≡ Ok v → HasValue (row p) v }
+{}
+
+/// A law: each setting of a declaration is one that the property's row of the table allows: `inherit`, names of
+/// families where the row takes them, a percentage of at most 2^40 millionths (CSS 2.1, 4.3 and 6.2.1).
+pub fn values_allowed()
+    ensures { (name text : Seq ℕ) (settings : Seq Setting) → Says name text (Ok settings) → AreAllowed settings }
 {}
 
 /// A law: what one, two, three and four values of a shorthand for four sides stand for (CSS 2.1, 8.3).

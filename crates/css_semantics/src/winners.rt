@@ -2,7 +2,11 @@ ghost use Rattle.std.specs.Prelude.{◌≡◌, ◌↔◌, Bool, true, false, Lis
 ghost use Rattle.viz_base.specs.declared.sheets.Decl.{Decl};
 ghost use Rattle.css_semantics.specs.declared.claims.Claim.{Claim};
 ghost use Rattle.css_semantics.specs.declared.claims.Origin.{Origin};
+ghost use Rattle.css_semantics.specs.declared.claims.Ruleset.{Ruleset};
 ghost use Rattle.css_semantics.specs.declared.claims.Standing.{Standing};
+ghost use Rattle.css_semantics.specs.Hidden.{StandingsAgree};
+ghost use Rattle.viz_base.specs.Pages.{IsPage};
+ghost use Rattle.viz_base.specs.declared.nodes.Node.{Node};
 ghost use Rattle.css_semantics.specs.CascadeLaws.{Hides, IsImportant, Overrides, is_author};
 ghost use Rattle.viz_base.specs.declared.settings.Prop.{Prop};
 ghost use Rattle.viz_base.specs.declared.selectors.Spec.{Spec};
@@ -33,4 +37,10 @@ pub fn important_overrides()
 /// (CSS 2.1, 9.2.4).
 pub fn hidden_inside()
     ensures { (replaced : Bool) (outer : Standing) (winners : Seq Claim) → Hides replaced outer winners }
+{}
+
+/// Law: what the cascade takes for hidden, as it goes from node to node, is each node at which or around which
+/// `display: none` wins, and no other (CSS 2.1, 9.2.4).
+pub fn hidden_by_display()
+    ensures { (nodes : Seq Node) (rulesets : Seq Ruleset) → IsPage nodes → StandingsAgree nodes rulesets }
 {}

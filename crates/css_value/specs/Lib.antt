@@ -4,3 +4,4 @@ pub mod Faults
 pub mod Refusals
 pub mod Rows
 pub mod Grammars
+pub mod Initials

@@ -8,6 +8,7 @@ mod declarations;
 mod families;
 mod fault;
 mod fonts;
+mod initials;
 mod laws;
 mod lines;
 mod names;
@@ -20,4 +21,6 @@ mod values;
 
 pub use declarations::read_declaration;
 pub use fault::ValueFault;
+pub use initials::{Initial, inherits, initial_of};
 pub use laws::shorthands_by_grammar;
+pub use rows::{keyword_at, properties, property_name};

@@ -1,7 +1,7 @@
-ghost use Rattle.std.specs.Prelude.{◌≡◌, ◌<◌, map, length};
+ghost use Rattle.std.specs.Prelude.{◌≡◌, ◌<◌, map, length, option_map, slice_get};
 ghost use Rattle.std.specs.List.{find};
 ghost use Rattle.css_semantics.specs.Names.{same_name};
-ghost use Rattle.css_semantics.specs.Properties.{property_named, row};
+ghost use Rattle.css_semantics.specs.Properties.{properties, property_named, row};
 ghost use Rattle.css_value.specs.Rows.{filled};
 
 use css_semantics::Takes;
@@ -363,10 +363,31 @@ pub fn row(prop: Prop) -> TableRow
     table(prop)
 }
 
+/// The properties in the order of the table.
+pub fn properties() -> &'static [Prop]
+    ensures { result.now ≡ properties }
+{
+    &PROPERTIES
+}
+
+/// The name of a property, as it is printed.
+pub fn property_name(prop: Prop) -> &'static str
+    ensures { result.now ≡ (row prop).name }
+{
+    row(prop).name
+}
+
+/// The keyword at this place, from 0, among those that a property takes; none past the last.
+pub fn keyword_at(prop: Prop, place: u8) -> Option<&'static str>
+    ensures { option_map (λ word. word.now) result ≡ slice_get (row prop).words place }
+{
+    row(prop).words.get(place as usize).copied()
+}
+
 fn is_named(name: &str, prop: Prop) -> bool
     ensures { result ≡ same_name name.now (row prop).name }
 {
-    same_name(name, row(prop).name)
+    same_name(name, property_name(prop))
 }
 
 /// The first of the properties that has this name.
@@ -385,5 +406,5 @@ fn first_named(name: &str, props: &[Prop]) -> Option<Prop>
 pub fn property_named(name: &str) -> Option<Prop>
     ensures { result ≡ property_named name.now }
 {
-    first_named(name, &PROPERTIES)
+    first_named(name, properties())
 }

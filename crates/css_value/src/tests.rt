@@ -1,7 +1,9 @@
-use crate::read_declaration;
+use crate::{
+    Initial, inherits, initial_of, keyword_at, properties, property_name, read_declaration,
+};
 use std::alloc::{AllocError, Global};
 use std::test::Fail;
-use viz_base::{List, Setting, Value};
+use viz_base::{List, Prop, Setting, Value};
 
 fn push_value(alloc: Global, out: &mut String, value: &Value) -> Result<(), AllocError> {
     let shown = match value {
@@ -98,5 +100,21 @@ fn reads_values(rt: HostRuntime) -> Result<(), Fail> {
             "{name}: {value}"
         );
     }
+    Ok(())
+}
+
+#[test]
+fn columns(rt: HostRuntime) -> Result<(), Fail> {
+    assert_eq!(rt; properties().len(), 39);
+    assert_eq!(rt;
+        property_name(Prop::ListStylePosition),
+        "list-style-position"
+    );
+    assert_eq!(rt; keyword_at(Prop::Display, 3), Some("inline-block"));
+    assert_eq!(rt; keyword_at(Prop::Display, 5), None);
+    assert_eq!(rt; initial_of(Prop::BorderLeftWidth), Initial::Word(1));
+    assert_eq!(rt; initial_of(Prop::TextIndent), Initial::Zero);
+    assert!(rt; inherits(Prop::TextIndent));
+    assert!(rt; !inherits(Prop::VerticalAlign));
     Ok(())
 }

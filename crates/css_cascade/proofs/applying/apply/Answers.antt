@@ -1,4 +1,4 @@
-use Rattle.std.proofs.Common.{◌≡◌, ◌++◌, ◌∙◌, [], map, Some, None, sym, ap, subst}
+use Rattle.std.proofs.Common.{◌++◌, ◌∙◌, [], map, Some, None, sym, ap, subst}
 use Rattle.css_semantics.specs.CascadeOrder.{applied}
 use Rattle.css_semantics.specs.CascadeReading.{Matching}
 use Rattle.css_cascade.specs.Seen.{seen}

@@ -1,4 +1,3 @@
-use Rattle.std.proofs.Common.{drop}
 use Rattle.css_cascade.proofs.Matchings.{ReachedSpecs}
 use Rattle.css_cascade.proofs.applying.strongest.Given as goal
 

@@ -2,7 +2,7 @@ use Rattle.std.proofs.Common.{[], rules, subst}
 use Rattle.css_semantics.specs.Cascade.{Goes, IsCascade, cascaded}
 use Rattle.viz_base.specs.Answers.{FailsWith}
 use Rattle.css_cascade.specs.Faults.{refusal_of}
-use Rattle.css_cascade.proofs.Orders.{lists_on}
+use Rattle.css_cascade.proofs.Outcomes.{lists_on, places_on}
 use Rattle.css_cascade.proofs.Rulesets.{gives_on, refused_page}
 use Rattle.css_cascade.proofs.cascading.cascade.Goals as goal
 
@@ -18,7 +18,10 @@ returns-clause-given c = gives_on c.cascade_nodes.result (Goes c.args.page.now.n
     c.cascade_nodes.ensures
 
 pub returns-clause-lists : goal.returns-clause-lists
-returns-clause-lists c = lists_on c.cascade_nodes.result c.args.page.now.nodes c.args.texts.now c.args.sheets.now
-    (gives_on c.cascade_nodes.result (Goes c.args.page.now.nodes c.deref.result.now [] [] c.args.page.now.nodes) (IsCascade c.args.page.now.nodes c.args.texts.now c.args.sheets.now)
-    (λ a g. cascaded c.in_ok-rulesets.ensures (subst (λ rs. Goes c.args.page.now.nodes rs [] [] c.args.page.now.nodes a) c.deref.ensures.value g))
-    c.cascade_nodes.ensures)
+returns-clause-lists c = lists_on c.cascade_nodes.result c.args.page.now.nodes c.args.texts.now c.args.sheets.now (returns-clause-given c)
+
+pub returns-clause-places : goal.returns-clause-places
+returns-clause-places c = places_on c.cascade_nodes.result c.args.page.now.nodes c.args.texts.now c.args.sheets.now (returns-clause-given c)
+
+pub returns-in_err-rulesets-clause-places : goal.returns-in_err-rulesets-clause-places
+returns-in_err-rulesets-clause-places c = places_on c.from_residual.result c.args.page.now.nodes c.args.texts.now c.args.sheets.now (returns-in_err-rulesets-clause-given c)

@@ -1,4 +1,4 @@
-use Rattle.std.proofs.Common.{◌≡◌, ◌++◌, ◌∷◌, ◌<◌, ◌≤◌, ◌+◌, [], length, get_or, Ok, rules, sym, ap, subst, arith}
+use Rattle.std.proofs.Common.{◌≡◌, ◌++◌, ◌∷◌, ◌<◌, ◌≤◌, ◌+◌, [], length, get_or, Ok, rules, sym, subst}
 use Rattle.css_semantics.specs.Cascade.{ComesTo, Goes}
 use Rattle.viz_base.specs.Answers.{FailsWith}
 use Rattle.css_cascade.specs.Faults.{Judges, refusal_of}

@@ -1,4 +1,4 @@
-use Rattle.std.proofs.Common.{◌≡◌, map, ap, ◌∙◌, sym}
+use Rattle.std.proofs.Common.{map, ap, ◌∙◌}
 use Rattle.css_cascade.specs.Seen.{kept_all, seen}
 use Rattle.css_cascade.proofs.Slots.{slots_are}
 use Rattle.css_cascade.proofs.order.best_of.Goals as goal

@@ -1,4 +1,4 @@
-use Rattle.std.proofs.Common.{◌≡◌, map, drop, length, None}
+use Rattle.std.proofs.Common.{◌≡◌, map, drop, length}
 use Rattle.std.specs.Prelude.{option_map}
 use Rattle.css_semantics.specs.CascadeOrder.{winner_of}
 use Rattle.css_semantics.specs.Properties.{properties}

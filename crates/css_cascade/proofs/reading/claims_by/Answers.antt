@@ -1,6 +1,6 @@
 use Rattle.std.proofs.Common.{sym, subst, Ok}
 use Rattle.std.proofs.lemmas.Result.{IfOk-weaker}
-use Rattle.css_semantics.specs.CascadeReading.{IsClaimed, says, nothing_there}
+use Rattle.css_semantics.specs.CascadeReading.{IsClaimed, says}
 use Rattle.css_cascade.proofs.reading.claims_by.Goals as goal
 
 pub returns-in-Some : goal.returns-in-Some

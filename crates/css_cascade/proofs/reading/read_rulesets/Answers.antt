@@ -1,4 +1,4 @@
-use Rattle.std.proofs.Common.{◌≡◌, ◌++◌, ◌<◌, ◌≤◌, ◌+◌, length, Ok, rules, sym, ◌∙◌, ap, subst, arith}
+use Rattle.std.proofs.Common.{◌<◌, ◌≤◌, ◌+◌, length, Ok, rules, sym, ◌∙◌, ap, subst, arith}
 use Rattle.css_semantics.specs.CascadeReading.{AreRulesets}
 use Rattle.css_cascade.specs.Faults.{Reads}
 use Rattle.css_cascade.proofs.Reaching.{ReachedSheets, sheets_start, sheets_more, sheets_end}
