@@ -1,0 +1,17 @@
+pub mod Lists
+pub mod NodeSteps
+pub mod SpaceSteps
+pub mod Bounds
+pub mod RefusalSteps
+pub mod LeadRuns
+pub mod LeadSteps
+pub mod KidSteps
+pub mod PlaceSteps
+pub mod Capped
+pub mod FontSteps
+pub mod ExtentSteps
+pub mod ReachSteps
+pub mod PageSteps
+pub mod PageReach
+pub mod Together
+pub mod OnePage

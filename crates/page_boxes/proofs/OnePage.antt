@@ -1,0 +1,30 @@
+-- A page of one element.
+use Rattle.std.proofs.Common.{◌≡◌, ℕ, ◌≤◌, zero, suc, [], ◌∷◌, length, Some, None, slice_get, refl, subst, lit≤, IsTrue}
+use Rattle.std.specs.Str.{chars}
+use Rattle.std.proofs.lemmas.Str.{chars-nil}
+use Rattle.viz_base.specs.Pages.{IsPage, has_lower_names, parent_fits, text_of}
+use Rattle.viz_base.specs.declared.nodes.Body.TheVariants as of_body
+use Rattle.viz_base.specs.declared.nodes.Element.{Element}
+use Rattle.viz_base.specs.declared.nodes.Node.{Node}
+
+abbrev pub root : Element → Node
+root e = record { parent = None; body = of_body.Element e }
+
+none_past : {A : Type 0} (k : ℕ) (x : A) → slice_get [] k ≡ Some x → ⊥
+none_past zero x is = cc
+none_past (suc k) x is = cc
+
+only : {A : Type 0} (y : A) (at : ℕ) (x : A) → slice_get (y ∷ []) at ≡ Some x → (at ≡ 0) × (y ≡ x)
+only y zero x is = (refl, cc)
+only y (suc at) x is = absurd (none_past at x is)
+
+few_letters : length (chars []) ≤ 262144
+few_letters = rw chars-nil (lit≤ tt)
+
+pub one_node : (e : Element) → IsTrue (has_lower_names (of_body.Element e)) → IsPage (root e ∷ [])
+one_node e lower = record {
+  root = refl;
+  parents = λ at n is. let h = only (root e) at n is in subst (λ m. IsTrue (parent_fits (root e ∷ []) at m.parent)) h.1 (rw h.0 refl);
+  texts = λ at n is. let h = only (root e) at n is in subst (λ m. length (chars (text_of m.body)) ≤ 262144) h.1 few_letters;
+  names = λ at n is. subst (λ m. IsTrue (has_lower_names m.body)) (only (root e) at n is).1 lower;
+}

@@ -1,0 +1,48 @@
+-- What a job keeps of the boxes of its page.
+use Rattle.std.proofs.Common.{◌≡◌, ℕ, ◌≤◌, Bool, true, false, nat_lt, List, [], ◌∷◌, length, Option, Some, None, Ok, refl, subst, ltb-false}
+use Rattle.std.specs.Prelude.{sum_by}
+use Rattle.std.specs.Str.{chars}
+use Rattle.viz_base.specs.Pages.{IsPage}
+use Rattle.viz_base.specs.Reaches.{beyond_reach}
+use Rattle.viz_base.specs.declared.fonts.Font.{Font}
+use Rattle.viz_base.specs.declared.nodes.Node.{Node}
+use Rattle.viz_base.specs.declared.styles.Style.{Style}
+use Rattle.viz_base.specs.declared.trees.BoxNode.{BoxNode}
+use Rattle.layout_semantics.specs.BoxTrees.{page_boxes, page_parts, tree_parents, tree_styles}
+use Rattle.layout_semantics.specs.Parts.{Part}
+use Rattle.layout_semantics.specs.Refusals.{BoxRefusal, blocks_in_inlines, first_refusal, page_refusal, right_to_left_letters}
+use Rattle.layout_laws.proofs.TextTotals.{letters_within}
+use Rattle.page_json.specs.Jobs.{characters}
+use Rattle.page_boxes.specs.Trees.{TreeLists, page_tree, unless_refused}
+
+-- ---- trees within their limits
+
+pub record IsWithin (most : ℕ) (tree : TreeLists) : Type 0 where
+  pub few_boxes : length tree.boxes ≤ 16384
+  pub few_characters : sum_by (λ (b : BoxNode). length (chars b.chars)) tree.boxes ≤ most
+  pub reach : beyond_reach tree.styles tree.parents tree.fonts tree.boxes ≡ None
+
+unrefused : (parts : List Part) (letters : List (ℕ × ℕ)) (too_many : Bool) (far : Option ℕ) → first_refusal parts letters too_many far ≡ None → (too_many ≡ false) × (far ≡ None)
+unrefused (p ∷ ps) letters too_many far e = absurd (cc)
+unrefused [] (l ∷ ls) too_many far e = absurd (cc)
+unrefused [] [] true far e = absurd (cc)
+unrefused [] [] false None e = (refl, refl)
+unrefused [] [] false (Some node) e = absurd (cc)
+
+pub tree_within : (nodes : List Node) (styles : List Style) (fonts : List Font) (tree : TreeLists) → IsPage nodes → page_tree nodes styles fonts ≡ Ok tree → IsWithin (characters nodes) tree
+tree_within nodes styles fonts tree page e = by_refusal (page_refusal nodes styles fonts) refl e
+  where
+    far : Option ℕ
+    far = beyond_reach (tree_styles nodes styles) (tree_parents nodes) fonts (page_boxes nodes styles)
+
+    by_refusal : (o : Option BoxRefusal) → page_refusal nodes styles fonts ≡ o → unless_refused nodes styles fonts o ≡ Ok tree → IsWithin (characters nodes) tree
+    by_refusal (Some why) r f = absurd (cc)
+    by_refusal None r f =
+        let limits = unrefused (blocks_in_inlines (page_parts nodes styles)) (right_to_left_letters (page_parts nodes styles)) (nat_lt 16384 (length (page_boxes nodes styles))) far r in
+        let given : TreeLists = record { boxes = page_boxes nodes styles; styles = tree_styles nodes styles; fonts = fonts; parents = tree_parents nodes } in
+        let same : given ≡ tree = cc in
+        subst (IsWithin (characters nodes)) same (record {
+          few_boxes = ltb-false 16384 (length (page_boxes nodes styles)) limits.0;
+          few_characters = letters_within nodes styles page;
+          reach = limits.1;
+        })

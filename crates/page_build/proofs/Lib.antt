@@ -1,0 +1,4 @@
+pub mod AssertionFacts
+pub mod ReadSheets
+pub mod JobFacts
+pub mod Stages

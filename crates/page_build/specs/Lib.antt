@@ -1,0 +1,5 @@
+pub mod Numbers
+pub mod Assertion
+pub mod Sheets
+pub mod Refusals
+pub mod Jobs

@@ -1,0 +1,60 @@
+-- Which refusal of a job the refusal of a part of it is.
+use Rattle.std.specs.Prelude.{◌≡◌, ℕ, ◌&&◌, nat_le, List, map, take, if◌then◌else◌}
+use Rattle.viz_base.specs.declared.nodes.Node.{Node}
+use Rattle.css_semantics.specs.Cascade.{Fault, selector_at, value_at}
+use Rattle.css_semantics.specs.SheetsReading.{Refusal, import_at, media_at, too_many}
+use Rattle.css_semantics.specs.Sources.{IsValueAt}
+use Rattle.layout_semantics.specs.Refusals.{BoxRefusal}
+use Rattle.page_json.specs.declared.faults.JobFault.{JobFault}
+use Rattle.page_json.specs.declared.faults.JobFault.TheVariants as of_fault
+use Rattle.page_boxes.specs.declared.faults.BoxFault.{BoxFault}
+use Rattle.page_boxes.specs.declared.faults.BoxFault.TheVariants as of_box
+use Rattle.page_build.specs.Sheets.{IsFirstRefused}
+use Rattle.page_build.specs.declared.faults.JobRefusal.{JobRefusal}
+use Rattle.page_build.specs.declared.faults.JobRefusal.TheVariants.{Mem, NotJson, Shape, Limit, Range, Import, MediaQuery, TooManyRules, Selector, Value, BlockInInline, RightToLeft, TooManyBoxes, Reach}
+
+-- of its file
+abbrev pub of_file : JobFault → JobRefusal
+of_file of_fault.Mem = Mem
+of_file of_fault.NotJson = NotJson
+of_file (of_fault.Shape part place) = Shape part place
+of_file (of_fault.Limit which count) = Limit which count
+of_file of_fault.Range = Range
+
+-- of the author's sheet of this number
+abbrev pub of_sheet : ℕ → Refusal → JobRefusal
+of_sheet number (import_at place) = Import number place
+of_sheet number (media_at place) = MediaQuery number place
+of_sheet number too_many = TooManyRules number
+
+-- of the first of these texts that is refused as a sheet
+abbrev pub IsSheetRefusal : List (List ℕ) → JobRefusal → Type 0
+IsSheetRefusal css refusal = (number : ℕ) × (why : Refusal) × IsFirstRefused css number why × (refusal ≡ of_sheet number why)
+
+-- of its boxes
+abbrev pub of_boxes : BoxRefusal → JobRefusal
+of_boxes (BoxRefusal.block_in_inline node) = BlockInInline node
+of_boxes (BoxRefusal.right_to_left node letter) = RightToLeft node letter
+of_boxes BoxRefusal.too_many_boxes = TooManyBoxes
+of_boxes (BoxRefusal.reach node) = Reach node
+
+-- the same of what `build_boxes` answers
+abbrev pub of_box_fault : BoxFault → JobRefusal
+of_box_fault of_box.Mem = Mem
+of_box_fault (of_box.BlockInInline node) = BlockInInline node
+of_box_fault (of_box.RightToLeft node letter) = RightToLeft node letter
+of_box_fault of_box.TooManyBoxes = TooManyBoxes
+of_box_fault (of_box.Reach node) = Reach node
+
+-- a byte that can be printed, else `?`
+abbrev pub printable : ℕ → ℕ
+printable byte = if nat_le 32 byte && nat_le byte 126 then byte else 63
+
+-- the first 64 bytes of a value
+abbrev pub shown : List ℕ → List ℕ
+shown value = map printable (take 64 value)
+
+-- of its cascade: a value is shown as it stands in its text
+abbrev pub IsTold : List Node → List (List ℕ) → Fault → JobRefusal → Type 0
+IsTold nodes texts (selector_at sheet place) refusal = refusal ≡ Selector sheet place
+IsTold nodes texts (value_at node prop source) refusal = (value : List ℕ) × IsValueAt nodes texts source value × (refusal ≡ Value node prop (shown value))

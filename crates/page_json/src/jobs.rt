@@ -1,0 +1,180 @@
+//! What the members of a job file say.
+ghost use Rattle.std.specs.Prelude.{◌≡◌, ◌≤◌, codes, length, map, IfOk};
+ghost use Rattle.serde_json.specs.Find.{as_str, get};
+ghost use Rattle.serde_json.specs.View.{view};
+ghost use Rattle.viz_base.specs.Answers.{Gives};
+ghost use Rattle.page_json.specs.Values.{each_of, list_at, list_of, ◌of_member◌};
+ghost use Rattle.page_json.specs.Faults.{refusal_of, shaped_at};
+ghost use Rattle.page_json.specs.Fonts.{font_of};
+ghost use Rattle.page_json.specs.Documents.{node_of};
+ghost use Rattle.page_json.specs.Jobs.{fonts_of, sheets_of, page_of, parts_of};
+ghost use Rattle.page_json.specs.Pages.{IsDocument};
+ghost use Rattle.page_json.specs.Seen.{seen, all_measures, page_parts, parts_seen};
+
+use crate::JobFault;
+use crate::elements::body_of;
+use crate::fonts::font_of;
+use crate::places::{Place, depth_of, places_of};
+use crate::values::{list_at, list_of, number_of, pair_at, text_at, whole_at};
+use serde_json::Value;
+use std::alloc::{AllocError, Global};
+use viz_base::{Font, List, Node, Part, Text};
+
+/// All that the members say.
+#[derive(Drop)]
+pub(crate) struct Parts<'a> {
+    pub widths: (u64, u64),
+    pub sizes: (u64, u64),
+    pub height: u64,
+    pub fonts: List<Font>,
+    pub css: List<Text>,
+    pub page: Nodes,
+    pub formula: &'a str,
+}
+
+/// The nodes of a page, and how deep its elements nest.
+#[derive(Drop)]
+pub(crate) struct Nodes {
+    pub depth: u64,
+    pub nodes: List<Node>,
+}
+
+/// The fonts that values say, or the number of the first that is none.
+fn all_fonts(alloc: Global, values: &[Value]) -> Result<List<Font>, JobFault>
+    ensures gives { Gives all_measures refusal_of result
+        (shaped_at Part.Fonts (each_of font_of 0 (map view values.now))) }
+    ensures count { IfOk result (λ fonts. length fonts ≡ length values.now) }
+{
+    let mut fonts = List::new(alloc);
+    for (place, value) in values.iter().enumerate() {
+        match font_of(alloc, value)? {
+            Some(font) => fonts.push(font)?,
+            None => return Err(JobFault::Shape(Part::Fonts, number_of(place)?)),
+        }
+    }
+    Ok(fonts)
+}
+
+/// The fonts, at least one.
+fn fonts_of(alloc: Global, value: &Value) -> Result<List<Font>, JobFault>
+    ensures gives { Gives all_measures refusal_of result
+        (shaped_at Part.Fonts (fonts_of ((list_of of_member codes "fonts") (view value.now)))) }
+    ensures has_font { IfOk result (λ fonts. 1 ≤ length fonts) }
+{
+    let fault = JobFault::Shape(Part::Fonts, 0);
+    let Some(member) = value.get("fonts") else {
+        return Err(fault);
+    };
+    let Some(values) = list_of(member) else {
+        return Err(fault);
+    };
+    if values.is_empty() {
+        return Err(fault);
+    }
+    all_fonts(alloc, values)
+}
+
+/// The texts that values are, or the number of the first that is none.
+fn all_sheets(alloc: Global, values: &[Value]) -> Result<List<Text>, JobFault>
+    ensures { Gives (λ css. css) refusal_of result (shaped_at Part.Css (each_of as_str 0 (map view values.now))) }
+{
+    let mut sheets = List::new(alloc);
+    for (place, value) in values.iter().enumerate() {
+        match value.as_str() {
+            Some(text) => sheets.push(Text::from_text(alloc, text)?)?,
+            None => return Err(JobFault::Shape(Part::Css, number_of(place)?)),
+        }
+    }
+    Ok(sheets)
+}
+
+/// The texts of the style sheets.
+fn sheets_of(alloc: Global, value: &Value) -> Result<List<Text>, JobFault>
+    ensures { Gives (λ css. css) refusal_of result
+        (shaped_at Part.Css (sheets_of (list_at (codes "css") (view value.now)))) }
+{
+    match list_at(value, "css") {
+        Some(values) => all_sheets(alloc, values),
+        None => Err(JobFault::Shape(Part::Css, 0)),
+    }
+}
+
+/// The nodes at places, or the number of the first that is none.
+fn nodes_at(alloc: Global, places: &[Place<'_>]) -> Result<List<Node>, JobFault>
+    ensures { Gives (λ nodes. nodes) refusal_of result (shaped_at Part.Page (each_of node_of 0 (map seen places.now))) }
+{
+    let mut nodes = List::new(alloc);
+    for (at, place) in places.iter().enumerate() {
+        match body_of(alloc, place.value)? {
+            Some(body) => nodes.push(Node {
+                parent: place.parent,
+                body,
+            })?,
+            None => return Err(JobFault::Shape(Part::Page, number_of(at)?)),
+        }
+    }
+    Ok(nodes)
+}
+
+/// The nodes of the page with this root.
+fn page_in(alloc: Global, root: &Value) -> Result<Nodes, JobFault>
+    ensures gives { Gives page_parts refusal_of result (shaped_at Part.Page (page_of (Some (view root.now)))) }
+    ensures document { IfOk result (λ page. IsDocument page.nodes) }
+{
+    if root.is_string() {
+        return Err(JobFault::Shape(Part::Page, 0));
+    }
+    let places = places_of(alloc, root)?;
+    let nodes = nodes_at(alloc, places.as_slice())?;
+    Ok(Nodes {
+        depth: depth_of(places.as_slice()),
+        nodes,
+    })
+}
+
+/// The nodes of the page.
+fn page_of(alloc: Global, value: &Value) -> Result<Nodes, JobFault>
+    ensures gives { Gives page_parts refusal_of result
+        (shaped_at Part.Page (page_of (get (codes "page") (view value.now)))) }
+    ensures document { IfOk result (λ page. IsDocument page.nodes) }
+{
+    match value.get("page") {
+        Some(root) => page_in(alloc, root),
+        None => Err(JobFault::Shape(Part::Page, 0)),
+    }
+}
+
+/// What the members say, or the first that is missing, of another form or against a rule.
+pub(crate) fn parts_of(alloc: Global, value: &Value) -> Result<Parts<'_>, JobFault>
+    ensures gives { Gives parts_seen refusal_of result (parts_of (view value.now)) }
+    ensures document { IfOk result (λ parts. IsDocument parts.page.nodes) }
+    ensures has_font { IfOk result (λ parts. 1 ≤ length parts.fonts) }
+{
+    if whole_at(value, "vizlog") != Some(1) {
+        return Err(JobFault::Shape(Part::Top, 0));
+    }
+    let Some(widths) = pair_at(value, "widths") else {
+        return Err(JobFault::Shape(Part::Widths, 0));
+    };
+    let Some(sizes) = pair_at(value, "sizes") else {
+        return Err(JobFault::Shape(Part::Sizes, 0));
+    };
+    let Some(height) = whole_at(value, "height") else {
+        return Err(JobFault::Shape(Part::Height, 0));
+    };
+    let fonts = fonts_of(alloc, value)?;
+    let css = sheets_of(alloc, value)?;
+    let page = page_of(alloc, value)?;
+    let Some(formula) = text_at(value, "assert") else {
+        return Err(JobFault::Shape(Part::Assert, 0));
+    };
+    Ok(Parts {
+        widths,
+        sizes,
+        height,
+        fonts,
+        css,
+        page,
+        formula,
+    })
+}

@@ -1,0 +1,152 @@
+//! The limits of a job file.
+ghost use Rattle.std.specs.Prelude.{◌≡◌, ◌+◌, ◌≤◌, map, length, sum_by, IfOk, MatchResult, OnOk};
+ghost use Rattle.std.specs.Str.{chars};
+ghost use Rattle.viz_base.specs.Pages.{text_of};
+ghost use Rattle.viz_base.specs.Answers.{Gives};
+ghost use Rattle.page_json.specs.Faults.{refusal_of, within};
+ghost use Rattle.page_json.specs.Fonts.{measures_of};
+ghost use Rattle.page_json.specs.Jobs.{advances, are_ends, characters, elements, in_range, limited, sheet_bytes, style_bytes, style_bytes_in};
+ghost use Rattle.page_json.specs.Seen.{parts_seen};
+
+use crate::JobFault;
+use crate::jobs::Parts;
+use viz_base::{Attr, Body, Font, List, Node, Text, Which};
+
+/// The sum, where memory could hold so much.
+fn plus(total: u64, more: u64) -> Result<u64, JobFault>
+    ensures { MatchResult result (λ n. n ≡ total + more) (λ fault. fault ≡ JobFault.Mem) }
+{
+    match total.checked_add(more) {
+        Some(sum) => Ok(sum),
+        None => Err(JobFault::Mem),
+    }
+}
+
+/// The number of elements.
+fn elements(nodes: &[Node]) -> u64
+    ensures { result ≡ elements nodes.now }
+{
+    nodes
+        .iter()
+        .filter(|node| matches!(node.body, Body::Element(_)))
+        .count() as u64
+}
+
+/// The number of a text's characters.
+fn length_of(text: &str) -> usize
+    ensures { result ≡ length (chars text.now) }
+{
+    text.chars().count()
+}
+
+/// The characters of a text node.
+fn text_of(body: &Body) -> &str
+    ensures { result.now ≡ text_of body.now }
+{
+    match body {
+        Body::Element(_) => "",
+        Body::Chars(text) => text.as_str(),
+    }
+}
+
+/// The characters of all texts.
+fn characters(nodes: &[Node]) -> Result<u64, JobFault>
+    ensures { MatchResult result (λ n. n ≡ characters nodes.now) (λ fault. fault ≡ JobFault.Mem) }
+{
+    let mut total = 0;
+    for node in nodes {
+        total = plus(total, length_of(text_of(&node.body)) as u64)?;
+    }
+    Ok(total)
+}
+
+/// The bytes of the style attribute.
+fn style_bytes(attrs: &[Attr]) -> Result<u64, JobFault>
+    ensures { MatchResult result (λ n. n ≡ sum_by style_bytes_in attrs.now) (λ fault. fault ≡ JobFault.Mem) }
+{
+    let mut total = 0;
+    for attr in attrs {
+        if attr.name.as_str() == "style" {
+            total = plus(total, attr.value.len() as u64)?;
+        }
+    }
+    Ok(total)
+}
+
+/// The bytes of all sheets and style attributes.
+fn sheet_bytes(css: &[Text], nodes: &[Node]) -> Result<u64, JobFault>
+    ensures { MatchResult result (λ n. n ≡ sheet_bytes css.now nodes.now) (λ fault. fault ≡ JobFault.Mem) }
+{
+    let mut total = 0;
+    for sheet in css {
+        total = plus(total, sheet.len() as u64)?;
+    }
+    for node in nodes {
+        if let Body::Element(element) = &node.body {
+            total = plus(total, style_bytes(element.attrs.as_slice())?)?;
+        }
+    }
+    Ok(total)
+}
+
+/// The advances of all fonts.
+fn advances(fonts: &[Font]) -> Result<u64, JobFault>
+    ensures { MatchResult result (λ n. n ≡ advances (map measures_of fonts.now)) (λ fault. fault ≡ JobFault.Mem) }
+{
+    let mut total = 0;
+    for font in fonts {
+        total = plus(total, font.advances.len() as u64)?;
+    }
+    Ok(total)
+}
+
+/// The count, where it is at most `most`.
+fn within(which: Which, most: u64, count: u64) -> Result<u64, JobFault>
+    ensures value { result ≡ within which most count }
+    ensures most { IfOk result (λ n. (n ≡ count) × (n ≤ most)) }
+{
+    if count <= most {
+        Ok(count)
+    } else {
+        Err(JobFault::Limit(which, count))
+    }
+}
+
+/// Refuses the first count that is beyond its limit.
+pub(crate) fn limited(parts: &Parts<'_>) -> Result<u64, JobFault>
+    ensures gives { Gives (λ _. parts_seen parts.now) refusal_of result (limited (parts_seen parts.now)) }
+    ensures few_characters { OnOk result (characters parts.now.page.nodes ≤ 262144) }
+    ensures short_formula { OnOk result (length parts.now.formula.now ≤ 16384) }
+{
+    let nodes = parts.page.nodes.as_slice();
+    let fonts = parts.fonts.as_slice();
+    within(Which::Elements, 4096, elements(nodes))?;
+    within(Which::Depth, 60, parts.page.depth)?;
+    within(Which::Text, 262_144, characters(nodes)?)?;
+    within(
+        Which::Css,
+        1_048_576,
+        sheet_bytes(parts.css.as_slice(), nodes)?,
+    )?;
+    within(Which::Fonts, 64, fonts.len() as u64)?;
+    within(Which::Advances, 65_536, advances(fonts)?)?;
+    within(Which::Formula, 16_384, parts.formula.len() as u64)
+}
+
+/// Whether it goes from 1 or more to `most` or less, the first no greater than the second.
+fn are_ends(most: u64, ends: (u64, u64)) -> bool
+    ensures { result ≡ are_ends most ends }
+{
+    let (least, last) = ends;
+    1 <= least && least <= last && last <= most
+}
+
+/// Whether widths, sizes and the height are within their limits.
+pub(crate) fn in_range(parts: &Parts<'_>) -> bool
+    ensures { result ≡ in_range (parts_seen parts.now) }
+{
+    are_ends(16384, parts.widths)
+        && are_ends(256, parts.sizes)
+        && 1 <= parts.height
+        && parts.height <= 16384
+}

@@ -1,6 +1,0 @@
-pub mod Values
-pub mod Assertion
-pub mod Elements
-pub mod Pages
-pub mod Boxes
-pub mod Narrow

@@ -1,0 +1,28 @@
+use Rattle.std.specs.Option.{option_copied}
+use Rattle.css_semantics.specs.ComputedValues.{AreLengths}
+use Rattle.page_style.proofs.StyleFacts.{is_style}
+use Rattle.page_style.proofs.elements.element_style.Goals as goal
+
+pub invariant_of-result : goal.invariant_of-result
+invariant_of-result c =
+    let lengths : AreLengths c.args.node c.args.winners.now c.args.drawn (option_copied c.args.parent) c.width.result c.min_width.result c.max_width.result c.height.result c.min_height.result c.max_height.result c.margin.result c.padding.result c.border.result = record {
+      width_is = c.width.ensures;
+      min_width_is = c.min_width.ensures;
+      max_width_is = c.max_width.ensures;
+      height_is = c.height.ensures;
+      min_height_is = c.min_height.ensures;
+      max_height_is = c.max_height.ensures;
+      margin_top = c.margin.ensures.top;
+      margin_right = c.margin.ensures.right;
+      margin_bottom = c.margin.ensures.bottom;
+      margin_left = c.margin.ensures.left;
+      padding_top = c.padding.ensures.top;
+      padding_right = c.padding.ensures.right;
+      padding_bottom = c.padding.ensures.bottom;
+      padding_left = c.padding.ensures.left;
+      border_top = c.border.ensures.top;
+      border_right = c.border.ensures.right;
+      border_bottom = c.border.ensures.bottom;
+      border_left = c.border.ensures.left;
+    } in
+    record { ok = is_style c.args.node c.args.winners.now c.requires c.args.drawn (option_copied c.args.parent) _ _ _ _ _ _ _ _ _ _ _ _ lengths c.size.ensures c.line.ensures c.valign.ensures }

@@ -1,0 +1,9 @@
+use Rattle.std.proofs.Common.{rules}
+use Rattle.std.specs.Option.{option_copied}
+use Rattle.viz_base.specs.declared.settings.Prop.TheVariants.{MaxWidth}
+use Rattle.css_semantics.specs.ComputedValues.{maximum_of}
+use Rattle.page_style.proofs.Beside.{beside}
+use Rattle.page_style.proofs.lengths.max_width.Goals as goal
+
+pub returns : goal.returns
+returns c = beside MaxWidth (maximum_of c.args.node) (λ t. t.max_width) (option_copied c.args.parent) c.args.winners.now c.maximum.result c.map-parents.result c.maximum.ensures (search rules)

@@ -1,0 +1,9 @@
+use Rattle.std.proofs.Common.{rules}
+use Rattle.std.specs.Option.{option_copied}
+use Rattle.viz_base.specs.declared.settings.Prop.TheVariants.{PaddingLeft}
+use Rattle.css_semantics.specs.ComputedValues.{length_of}
+use Rattle.page_style.proofs.Beside.{beside}
+use Rattle.page_style.proofs.lengths.padding_left.Goals as goal
+
+pub returns : goal.returns
+returns c = beside PaddingLeft (length_of c.args.node) (λ t. t.padding.left) (option_copied c.args.parent) c.args.winners.now c.length.result c.map-parents.result c.length.ensures (search rules)

@@ -1,0 +1,8 @@
+use Rattle.std.proofs.Common.{◌≡◌, drop, option_map}
+use Rattle.std.specs.List.{find}
+use Rattle.viz_base.specs.declared.settings.Setting.{Setting}
+use Rattle.css_semantics.specs.ComputedValues.{winner}
+use Rattle.page_style.proofs.winners.winner.Given as goal
+
+abbrev pub invariant-loop-setting : goal.invariant-loop-setting
+invariant-loop-setting l = winner l.prop (drop l.setting-index l.winners) ≡ winner l.prop l.winners

@@ -1,0 +1,87 @@
+ghost use Rattle.std.specs.Prelude.{◌≡◌, ◌<◌, true, false, length, Some, IfOk};
+ghost use Rattle.std.specs.List.{AllByRecursion};
+ghost use Rattle.std.specs.Option.{option_copied};
+ghost use Rattle.viz_base.specs.Pages.{is_element};
+ghost use Rattle.viz_base.specs.declared.styles.Style.{Style};
+ghost use Rattle.css_semantics.specs.ComputedValues.{AreComputed, IsComputed, IsOfText, of_parent};
+ghost use Rattle.css_semantics.specs.Winners.{AreWinners, IsAllowed};
+ghost use Rattle.layout_laws.specs.Styled.{AreStylesOf};
+
+use crate::elements::{element_style, text_style};
+use crate::properties::drawn_borders;
+use std::alloc::Global;
+use viz_base::{Body, Cascaded, Font, List, Mem, Node, Page, Setting, Sides, Style};
+
+/// What is known of the parent of a node.
+fn of_parent<'a, T>(known: &'a [T], node: &Node) -> Option<&'a T>
+    ensures { option_copied result ≡ of_parent known.now node.now }
+{
+    match node.parent {
+        Some(parent) => known.get(parent as usize),
+        None => None,
+    }
+}
+
+/// The style of a node, beside its parent's.
+fn node_style(
+    fonts: &[Font],
+    at: u32,
+    node: &Node,
+    winners: &[Setting],
+    drawn: Sides<bool>,
+    parent: Option<&Style>,
+) -> Result<Style, Mem>
+    requires { AllByRecursion IsAllowed winners.now }
+    ensures element { IfOk result (λ s. is_element node.now.body ≡ true
+        → IsComputed fonts.now at winners.now drawn (option_copied parent.entry) s) }
+    ensures text { IfOk result (λ s. is_element node.now.body ≡ false
+        → (t : Style) → option_copied parent.entry ≡ Some t → IsOfText t s) }
+{
+    match (&node.body, parent) {
+        (Body::Chars(_), Some(parent)) => Ok(text_style(parent)),
+        _ => element_style(fonts, at, winners, drawn, parent),
+    }
+}
+
+/// A place as the number of a node. Of `2^32` and more it may not fit, which counts as want of memory.
+fn number(at: usize) -> Result<u32, Mem>
+    ensures { IfOk result (λ n. n ≡ at) }
+{
+    u32::try_from(at).map_err(|_| Mem)
+}
+
+/// The style of each node of a page, in the order of the nodes (CSS 2.1, 6.1 and 6.2). An element's is what wins there,
+/// what it inherits and what is initial, computed; a text's is its parent's with the size `Same`. Lengths are in units
+/// of 1/64 px. `Mem` for want of memory alone.
+pub fn compute(
+    alloc: Global,
+    page: &Page,
+    cascaded: &Cascaded,
+    fonts: &List<Font>,
+) -> Result<List<Style>, Mem>
+    requires fonts { 0 < length fonts.now }
+    requires winners { AreWinners page.now.nodes cascaded.now.winners }
+    ensures computed { IfOk result (AreComputed page.now.nodes cascaded.now.winners fonts.now) }
+    ensures fitting { IfOk result (λ styles. AreStylesOf page.now.nodes styles fonts.now) }
+{
+    let nodes = page.nodes.as_slice();
+    let winners = cascaded.winners.as_slice();
+    let mut drawn = Vec::new(alloc);
+    let mut styles = List::new(alloc);
+    for at in 0..nodes.len() {
+        let node = &nodes[at];
+        let settings = winners[at].as_slice();
+        let borders = drawn_borders(settings, of_parent(&drawn, node).copied());
+        let style = node_style(
+            fonts.as_slice(),
+            number(at)?,
+            node,
+            settings,
+            borders,
+            of_parent(styles.as_slice(), node),
+        )?;
+        drawn.push(borders)?;
+        styles.push(style)?;
+    }
+    Ok(styles)
+}

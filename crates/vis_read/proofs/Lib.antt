@@ -1,0 +1,6 @@
+mod Walks
+mod Complete
+mod Sound
+mod Finish
+mod Exact
+mod Bounds
