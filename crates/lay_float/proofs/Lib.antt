@@ -1,0 +1,10 @@
+pub mod Orders
+pub mod Loops
+pub mod Shelved
+pub mod Allowed
+pub mod Search
+pub mod Skipped
+pub mod Spots
+pub mod Rooms
+pub mod Highest
+pub mod Causes

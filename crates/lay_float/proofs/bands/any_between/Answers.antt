@@ -1,0 +1,20 @@
+use Rattle.std.proofs.Common.{◌∙◌}
+use Rattle.std.specs.Prelude.{⊤}
+use Rattle.viz_calc.proofs.Runs.{Goes-then, Blames-then}
+use Rattle.lay_float.specs.Readings.{box_at}
+use Rattle.lay_float.specs.steps.Bands.{meets_between}
+use Rattle.lay_float.proofs.Loops.{any-passed}
+use Rattle.lay_float.proofs.bands.any_between.Goals as goal
+
+pub loop-f-preserved : goal.loop-f-preserved
+loop-f-preserved g c =
+    let at = g.S.Steady.at in
+    let run = g.S.Steady.run in
+    record {
+      goes = Goes-then _ _ _ c.loop-f.invariant.goes c.meets_between.ensures.goes;
+      value = λ e o.
+          any-passed (meets_between (at c.args.y.now e) (at c.args.end.now e)) (λ f. box_at at f e) c.args.floats.now c.loop-f.f-index c.f-item.result c.loop-f-test.true c.f-item.is
+          (c.if-meets_between.ensures.value e o)
+          ∙ c.loop-f.invariant.value e (c.meets_between.ensures.goes.closes e o);
+      cause = Blames-then (run c.args.calc.now) (run c.loop-f.calc) (run c.meets_between.new.calc) ⊤ ⊤ c.loop-f.invariant.goes c.meets_between.ensures.goes c.loop-f.invariant.cause (λ t. t) c.meets_between.ensures.cause;
+    }

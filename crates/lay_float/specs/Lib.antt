@@ -1,0 +1,4 @@
+pub mod Readings
+pub mod Limits
+pub mod Places
+pub mod steps

@@ -1,0 +1,32 @@
+-- Numbers that are lent, at a reading.
+use Rattle.std.specs.Prelude.{ℤ, List, Option, option_map, IsTrue}
+use denote.Ref.{Bor}
+use Rattle.viz_base.specs.declared.layouts.Band.{Band}
+use Rattle.viz_base.specs.declared.styles.Side.{Side}
+use Rattle.viz_calc.specs.World.{Reading}
+use Rattle.viz_calc.specs.State.{IsSmall}
+use Rattle.viz_calc.specs.Run.{Run}
+use Rattle.lay_float.specs.Readings.{boxes_at, stretch_at}
+use Rattle.lay_float.specs.declared.floats.PlacedFloat.{PlacedFloat}
+use Rattle.lay_float.specs.steps.Shelves as steps
+use Rattle.lay_float.specs.steps.Shelves.{far_edge, shelf_on}
+use Rattle.lay_float.specs.declared.bands.Room.{Room}
+use Rattle.lay_float.specs.declared.shelves.Shelf.{Shelf}
+use Rattle.lay_float.specs.declared.shelves.Place.{Place}
+
+-- a number, where there is one
+abbrev pub lent_at : {N : Type 0} → (N → Reading → ℤ) → Option (Bor N) → Reading → Option ℤ
+lent_at at n e = option_map (λ n. at n.now e) n
+
+abbrev pub shelf_at : {N : Type 0} → (N → Reading → ℤ) → Shelf N → Reading → steps.Shelf
+shelf_at at s e = record { edge = at s.edge.now e; limit = lent_at at s.limit e; is_bounded = s.is_bounded }
+
+abbrev pub place_at : {N : Type 0} → (N → Reading → ℤ) → Place N → Reading → steps.Place
+place_at at p e = record { top = at p.top.now e; edge = at p.edge.now e }
+
+-- at whatever top a float stands, its other edge is at most 2^100 in size
+abbrev pub FitsAnywhere : {N : Type 0} → Run → (N → Reading → ℤ) → List (PlacedFloat N) → Side → Band N → N → Type 0
+FitsAnywhere s at floats side cb width = (e : Reading) → IsTrue (s.is_open e) → (y : ℤ) → IsSmall (far_edge side (shelf_on (boxes_at at floats e) side (stretch_at at cb e) y).edge (at width e))
+
+abbrev pub room_at : {N : Type 0} → (N → Reading → ℤ) → Room N → Reading → Band ℤ
+room_at at r e = record { left = at r.left.now e; right = at r.right.now e }

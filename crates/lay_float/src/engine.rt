@@ -1,0 +1,267 @@
+//! Floats over arithmetic that goes on after a halt, for crates whose own work is over such arithmetic too.
+ghost use Rattle.std.specs.Prelude.{◌≡◌, ◌+ℤ◌, ◌∷◌, [], ◌++◌, ⊤, IsTrue, is_some, map};
+ghost use Rattle.std.specs.List.{list_any};
+ghost use Rattle.viz_calc.specs.World.{Reading};
+ghost use Rattle.viz_calc.specs.Run.{Stands, Goes, Blames, BlamesButMem, Fits};
+ghost use Rattle.layout_semantics.specs.Floats.{FloatBox, placed_float, highest_top, highest_free, float_at, meets, band_at, is_relevant, lowest_bottom};
+ghost use Rattle.lay_float.specs.Limits.{AreHalf};
+ghost use Rattle.lay_float.specs.Places.{IsHighest};
+ghost use Rattle.lay_float.specs.Readings.{box_at, boxes_at, floats_at, extent_at, spot_at, stretch_at, option_at};
+ghost use Rattle.lay_float.specs.steps.Lent.{place_at};
+ghost use Rattle.lay_float.specs.steps.Shelves.{place_on, spot_on};
+
+use crate::bands::{any_between, room_between};
+use crate::extremes::larger;
+use crate::floats::{Floats, PlacedFloat};
+use crate::shelves::{Place, free_place, open_from};
+use std::alloc::Global;
+use viz_base::{Band, Clear, Extent, List, Quad, Side, Spot};
+use viz_calc::Steady;
+
+/// The highest top that the order of floats allows (CSS 2.1, 9.5.1, rules 4 to 6).
+fn highest_top<'a, S: Steady>(
+    calc: &mut S,
+    floats: &'a [PlacedFloat<S::Num>],
+    top: &'a S::Num,
+) -> &'a S::Num
+    ensures goes { Goes (S.run calc.old) (S.run calc.new) }
+    ensures value { Stands (S.run calc.new) (S.at result.now) (λ e. highest_top (boxes_at S.at floats.now e)
+        (S.at top.now e)) }
+    ensures cause { Blames (S.run calc.old) (S.run calc.new) ⊤ }
+{
+    let mut best = top;
+    for f in floats {
+        best = larger(calc, &f.outer.top, best);
+    }
+    best
+}
+
+/// The outer left upper corner of a float of this width that stands at a place.
+fn spot_on<S: Steady>(
+    calc: &mut S,
+    side: Side,
+    width: &S::Num,
+    place: &Place<'_, S::Num>,
+) -> Spot<S::Num>
+    ensures goes { Goes (S.run calc.old) (S.run calc.new) }
+    ensures value { (e : Reading) → IsTrue ((S.run calc.new).is_open e) → spot_at S.at result e
+        ≡ spot_on side (S.at width.now e) (place_at S.at place.now e) }
+    ensures cause { Blames (S.run calc.old) (S.run calc.new)
+        (Fits (S.run calc.old) (λ e. (spot_on side (S.at width.now e) (place_at S.at place.now e)).x
+        ∷ S.at place.now.top.now e ∷ [])) }
+{
+    let x = match side {
+        Side::Left => calc.copy(place.edge),
+        Side::Right => calc.sub(place.edge, width),
+    };
+    let y = calc.copy(place.top);
+    Spot { x, y }
+}
+
+/// The place of a float among earlier ones: the highest that the rules allow with its top not above `top`, and
+/// then the farthest to its side (CSS 2.1, 9.5.1).
+pub fn float_at<S: Steady>(
+    calc: &mut S,
+    floats: &[PlacedFloat<S::Num>],
+    side: Side,
+    size: &Extent<S::Num>,
+    cb: &Band<S::Num>,
+    top: &S::Num,
+) -> Spot<S::Num>
+    ensures goes { Goes (S.run calc.old) (S.run calc.new) }
+    ensures value { (e : Reading) → IsTrue ((S.run calc.new).is_open e)
+        → spot_at S.at result e ≡ float_at (boxes_at S.at floats.now e) side (extent_at S.at size.now e)
+        (stretch_at S.at cb.now e) (S.at top.now e) }
+    ensures cause { Blames (S.run calc.old) (S.run calc.new) ((e : Reading) → IsTrue ((S.run calc.old).is_open e)
+        → AreHalf (boxes_at S.at floats.now e) (S.at size.now.width e ∷ S.at cb.now.left e ∷ S.at cb.now.right e
+        ∷ S.at top.now e ∷ [])) }
+{
+    let high = highest_top(calc, floats, top);
+    let rest = open_from(calc, floats, high);
+    let place = free_place(calc, rest, side, &size.width, cb, high);
+    spot_on(calc, side, &size.width, &place)
+}
+
+/// The outer box of a float that stands at a place.
+fn outer_box<S: Steady>(
+    calc: &mut S,
+    side: Side,
+    size: &Extent<S::Num>,
+    spot: &Spot<S::Num>,
+) -> PlacedFloat<S::Num>
+    ensures goes { Goes (S.run calc.old) (S.run calc.new) }
+    ensures value { (e : Reading) → IsTrue ((S.run calc.new).is_open e)
+        → box_at S.at result e ≡ placed_float side (extent_at S.at size.now e) (spot_at S.at spot.now e) }
+    ensures cause { Blames (S.run calc.old) (S.run calc.new) (Fits (S.run calc.old) (λ e.
+        S.at spot.now.x e ∷ S.at spot.now.y e ∷ (S.at spot.now.x e +ℤ S.at size.now.width e) ∷
+        (S.at spot.now.y e +ℤ S.at size.now.height e) ∷ [])) }
+{
+    let left = calc.copy(&spot.x);
+    let top = calc.copy(&spot.y);
+    let right = calc.add(&spot.x, &size.width);
+    let bottom = calc.add(&spot.y, &size.height);
+    PlacedFloat {
+        side,
+        outer: Quad {
+            left,
+            top,
+            right,
+            bottom,
+        },
+    }
+}
+
+/// Puts a float after those that were placed before; after a halt the list is as it was.
+fn append<S: Steady>(calc: &mut S, floats: &mut Floats<S::Num>, placed: PlacedFloat<S::Num>)
+    ensures goes { Goes (S.run calc.old) (S.run calc.new) }
+    ensures value { (e : Reading) → IsTrue ((S.run calc.new).is_open e) → floats.new.placed
+        ≡ floats.old.placed ++ placed ∷ [] }
+    ensures halted { IsTrue (is_some (S.run calc.new).halt) → floats.new ≡ floats.old }
+    ensures cause { BlamesButMem (S.run calc.old) (S.run calc.new) ⊤ }
+{
+    if calc.is_halted() {
+        // nothing stands for anything any more, as `stop` says
+        calc.stop();
+        return;
+    }
+    match floats.placed.push(placed) {
+        Ok(()) => {}
+        Err(_) => calc.stop(),
+    }
+}
+
+/// Places a float after those that were placed before, and gives its place: the highest that the rules allow
+/// with its top not above `top`, and then the farthest to its side (CSS 2.1, 9.5.1). After a halt the list is
+/// as it was.
+pub fn place<S: Steady>(
+    calc: &mut S,
+    floats: &mut Floats<S::Num>,
+    side: Side,
+    size: &Extent<S::Num>,
+    cb: &Band<S::Num>,
+    top: &S::Num,
+) -> Spot<S::Num>
+    ensures goes { Goes (S.run calc.old) (S.run calc.new) }
+    ensures value { (e : Reading) → IsTrue ((S.run calc.new).is_open e)
+        → spot_at S.at result e ≡ float_at (floats_at S.at floats.old e) side (extent_at S.at size.now e)
+        (stretch_at S.at cb.now e) (S.at top.now e) }
+    ensures highest { (e : Reading) → IsTrue ((S.run calc.new).is_open e)
+        → IsHighest (floats_at S.at floats.old e) side (S.at size.now.width e) (stretch_at S.at cb.now e)
+        (S.at top.now e) (spot_at S.at result e) }
+    ensures appended { (e : Reading) → IsTrue ((S.run calc.new).is_open e)
+        → floats_at S.at floats.new e ≡ floats_at S.at floats.old e ++ placed_float side
+        (extent_at S.at size.now e) (spot_at S.at result e) ∷ [] }
+    ensures halted { IsTrue (is_some (S.run calc.new).halt) → floats.new ≡ floats.old }
+    ensures cause { BlamesButMem (S.run calc.old) (S.run calc.new) ((e : Reading) → IsTrue ((S.run calc.old).is_open e)
+        → AreHalf (floats_at S.at floats.old e) (S.at size.now.width e ∷ S.at size.now.height e ∷ S.at cb.now.left e
+        ∷ S.at cb.now.right e ∷ S.at top.now e ∷ [])) }
+{
+    let spot = float_at(calc, floats.placed.as_slice(), side, size, cb, top);
+    let placed = outer_box(calc, side, size, &spot);
+    append(calc, floats, placed);
+    spot
+}
+
+/// What floats leave of a containing block in the span of height `h` from `y` on; it may end before it begins
+/// (CSS 2.1, 9.5).
+pub fn band<S: Steady>(
+    calc: &mut S,
+    floats: &[PlacedFloat<S::Num>],
+    cb: &Band<S::Num>,
+    y: &S::Num,
+    h: &S::Num,
+) -> Band<S::Num>
+    ensures goes { Goes (S.run calc.old) (S.run calc.new) }
+    ensures value { (e : Reading) → IsTrue ((S.run calc.new).is_open e)
+        → stretch_at S.at result e ≡ band_at (boxes_at S.at floats.now e) (stretch_at S.at cb.now e) (S.at y.now e)
+        (S.at h.now e) }
+    ensures cause { Blames (S.run calc.old) (S.run calc.new) ((e : Reading) → IsTrue ((S.run calc.old).is_open e)
+        → AreHalf (boxes_at S.at floats.now e) (S.at cb.now.left e ∷ S.at cb.now.right e ∷ S.at y.now e ∷ S.at h.now e
+        ∷ [])) }
+{
+    let end = calc.add(y, h);
+    let room = room_between(calc, floats, cb, y, &end);
+    let left = calc.copy(room.left);
+    let right = calc.copy(room.right);
+    Band { left, right }
+}
+
+/// Whether any float meets the span of height `h` from `y` on. It is to be asked before whether a stretch fits
+/// beside floats.
+pub fn meets_any<S: Steady>(
+    calc: &mut S,
+    floats: &[PlacedFloat<S::Num>],
+    y: &S::Num,
+    h: &S::Num,
+) -> bool
+    ensures goes { Goes (S.run calc.old) (S.run calc.new) }
+    ensures value { (e : Reading) → IsTrue ((S.run calc.new).is_open e)
+        → result ≡ list_any (meets (S.at y.now e) (S.at h.now e)) (boxes_at S.at floats.now e) }
+    ensures cause { Blames (S.run calc.old) (S.run calc.new)
+        (Fits (S.run calc.old) (λ e. (S.at y.now e +ℤ S.at h.now e) ∷ [])) }
+{
+    let end = calc.add(y, h);
+    any_between(calc, floats, y, &end)
+}
+
+/// The lowest outer bottom of the floats that `clear` looks at; none exactly where it looks at none (CSS 2.1,
+/// 9.5.2).
+pub fn bottom<S: Steady>(
+    calc: &mut S,
+    floats: &[PlacedFloat<S::Num>],
+    clear: Clear,
+) -> Option<S::Num>
+    ensures goes { Goes (S.run calc.old) (S.run calc.new) }
+    ensures value { (e : Reading) → IsTrue ((S.run calc.new).is_open e) → option_at S.at result e
+        ≡ lowest_bottom clear (boxes_at S.at floats.now e) }
+    ensures some { (e : Reading) → is_some result ≡ list_any (is_relevant clear) (boxes_at S.at floats.now e) }
+    ensures cause { Blames (S.run calc.old) (S.run calc.new) ((e : Reading) → IsTrue ((S.run calc.old).is_open e)
+        → AreHalf (boxes_at S.at floats.now e) []) }
+{
+    match crate::bands::lowest_bottom(calc, floats, clear) {
+        Some(bottom) => Some(calc.copy(bottom)),
+        None => None,
+    }
+}
+
+/// The same float again.
+fn copy_float<S: Steady>(calc: &mut S, f: &PlacedFloat<S::Num>) -> PlacedFloat<S::Num>
+    ensures goes { Goes (S.run calc.old) (S.run calc.new) }
+    ensures value { (e : Reading) → IsTrue ((S.run calc.new).is_open e) → box_at S.at result e ≡ box_at S.at f.now e }
+    ensures cause { Blames (S.run calc.old) (S.run calc.new) (Fits (S.run calc.old) (λ e.
+        S.at f.now.outer.left e ∷ S.at f.now.outer.top e ∷ S.at f.now.outer.right e ∷ S.at f.now.outer.bottom e ∷ [])) }
+{
+    let left = calc.copy(&f.outer.left);
+    let top = calc.copy(&f.outer.top);
+    let right = calc.copy(&f.outer.right);
+    let bottom = calc.copy(&f.outer.bottom);
+    PlacedFloat {
+        side: f.side,
+        outer: Quad {
+            left,
+            top,
+            right,
+            bottom,
+        },
+    }
+}
+
+/// The same floats again.
+pub fn copy<S: Steady>(
+    alloc: Global,
+    calc: &mut S,
+    floats: &[PlacedFloat<S::Num>],
+) -> Floats<S::Num>
+    ensures goes { Goes (S.run calc.old) (S.run calc.new) }
+    ensures value { (e : Reading) → IsTrue ((S.run calc.new).is_open e) → floats_at S.at result e
+        ≡ boxes_at S.at floats.now e }
+    ensures cause { BlamesButMem (S.run calc.old) (S.run calc.new) ((e : Reading)
+        → IsTrue ((S.run calc.old).is_open e) → AreHalf (boxes_at S.at floats.now e) []) }
+{
+    let mut out = Floats::new(alloc);
+    for f in floats {
+        let copied = copy_float(calc, f);
+        append(calc, &mut out, copied);
+    }
+    out
+}

@@ -1,0 +1,63 @@
+ghost use Rattle.std.specs.Prelude.{◌≡◌, ⊤, IsTrue, true, is_some};
+ghost use Rattle.std.specs.Int.{int_max, int_min};
+ghost use Rattle.viz_calc.specs.World.{Reading};
+ghost use Rattle.viz_calc.specs.Run.{Stands, Goes, Blames};
+ghost use Rattle.lay_float.specs.steps.Lent.{lent_at};
+ghost use Rattle.lay_float.specs.steps.Shelves.{innermost, tighter};
+
+use viz_base::Side;
+use viz_calc::Steady;
+
+/// The greater of two numbers.
+pub fn larger<'a, S: Steady>(calc: &mut S, a: &'a S::Num, b: &'a S::Num) -> &'a S::Num
+    ensures goes { Goes (S.run calc.old) (S.run calc.new) }
+    ensures value { Stands (S.run calc.new) (S.at result.now) (λ e. int_max (S.at a.now e) (S.at b.now e)) }
+    ensures cause { Blames (S.run calc.old) (S.run calc.new) ⊤ }
+{
+    if calc.le(a, b) { b } else { a }
+}
+
+/// The lesser of two numbers.
+pub fn smaller<'a, S: Steady>(calc: &mut S, a: &'a S::Num, b: &'a S::Num) -> &'a S::Num
+    ensures goes { Goes (S.run calc.old) (S.run calc.new) }
+    ensures value { Stands (S.run calc.new) (S.at result.now) (λ e. int_min (S.at a.now e) (S.at b.now e)) }
+    ensures cause { Blames (S.run calc.old) (S.run calc.new) ⊤ }
+{
+    if calc.le(a, b) { a } else { b }
+}
+
+/// Of two edges that face the content from this side, the one that leaves less of it.
+pub fn innermost<'a, S: Steady>(
+    calc: &mut S,
+    side: Side,
+    a: &'a S::Num,
+    b: &'a S::Num,
+) -> &'a S::Num
+    ensures goes { Goes (S.run calc.old) (S.run calc.new) }
+    ensures value { Stands (S.run calc.new) (S.at result.now) (λ e. innermost side (S.at a.now e) (S.at b.now e)) }
+    ensures cause { Blames (S.run calc.old) (S.run calc.new) ⊤ }
+{
+    match side {
+        Side::Left => larger(calc, a, b),
+        Side::Right => smaller(calc, a, b),
+    }
+}
+
+/// An edge that leaves no more than the one before, if any.
+pub fn tighter<'a, S: Steady>(
+    calc: &mut S,
+    side: Side,
+    edge: &'a S::Num,
+    limit: Option<&'a S::Num>,
+) -> Option<&'a S::Num>
+    ensures goes { Goes (S.run calc.old) (S.run calc.new) }
+    ensures value { (e : Reading) → IsTrue ((S.run calc.new).is_open e) → lent_at S.at result e
+        ≡ tighter side (S.at edge.now e) (lent_at S.at limit.entry e) }
+    ensures some { is_some result ≡ true }
+    ensures cause { Blames (S.run calc.old) (S.run calc.new) ⊤ }
+{
+    match limit {
+        None => Some(edge),
+        Some(limit) => Some(innermost(calc, side, edge, limit)),
+    }
+}

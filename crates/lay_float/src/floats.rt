@@ -1,0 +1,31 @@
+ghost use Rattle.std.specs.Prelude.{◌≡◌, []};
+
+use std::alloc::Global;
+use viz_base::{List, Quad, Side};
+
+/// A float that is placed.
+#[derive(Debug, Drop)]
+pub struct PlacedFloat<N> {
+    /// The side to which it floats.
+    pub side: Side,
+    /// Its outer box, which goes to its margin edges, in units of 1/64 px.
+    pub outer: Quad<N>,
+}
+
+/// The floats of a block formatting context, in the order in which they were placed (CSS 2.1, 9.5).
+#[derive(Debug, Drop)]
+pub struct Floats<N> {
+    /// Their sides and outer boxes.
+    pub placed: List<PlacedFloat<N>>,
+}
+
+impl<N> Floats<N> {
+    /// No floats; it takes no memory.
+    pub fn new(alloc: Global) -> Self
+        ensures { result.placed ≡ [] }
+    {
+        Floats {
+            placed: List::new(alloc),
+        }
+    }
+}

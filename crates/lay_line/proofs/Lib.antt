@@ -1,0 +1,12 @@
+pub mod Lasts
+pub mod Ends
+pub mod Runs
+pub mod Cuts
+pub mod Marks
+pub mod Widths
+pub mod Measures
+pub mod Reaching
+pub mod FoundTops
+pub mod Fills
+pub mod Stands
+pub mod Lays

@@ -1,0 +1,33 @@
+-- Items of inline content as the code has them.
+use Rattle.std.specs.Prelude.{List, map}
+use Rattle.std.specs.Str.{chars}
+use Rattle.viz_base.specs.declared.trees.BoxTree.{BoxTree}
+use Rattle.layout_semantics.specs.InlineContent as content
+use Rattle.layout_semantics.specs.Stretches as stretches
+use Rattle.lay_line.specs.declared.breaks.Parting.{Parting}
+use Rattle.lay_line.specs.declared.breaks.Run.{Run}
+use Rattle.lay_line.specs.steps.Marks as steps
+use Rattle.lay_line.specs.declared.breaks.Parting.TheVariants as of_parting
+use Rattle.lay_line.specs.declared.items.Item.{Item}
+use Rattle.lay_line.specs.declared.items.Item.TheVariants as of_code
+
+abbrev pub item_of : Item → content.Item
+item_of (of_code.Start at) = content.start at
+item_of (of_code.Finish at) = content.finish at
+item_of (of_code.Word at text) = content.word at (chars text.now)
+item_of (of_code.Space at) = content.space at
+item_of (of_code.Atomic at) = content.atomic at
+item_of (of_code.Forced at) = content.forced at
+item_of (of_code.Float at) = content.float at
+
+abbrev pub items_of : List Item → List content.Item
+items_of items = map item_of items
+
+-- between which things content is parted
+abbrev pub parting_of : BoxTree → Parting → stretches.Parting
+parting_of tree of_parting.Lines = stretches.may_part tree
+parting_of tree of_parting.Never = stretches.never
+
+-- what is known of a run
+abbrev pub run_of : Run → steps.Run
+run_of r = record { starts = r.starts.items; last = r.last }

@@ -1,0 +1,4 @@
+pub mod Items
+pub mod Readings
+pub mod Ways
+pub mod steps

@@ -1,0 +1,136 @@
+//! What a line holds of its content, item by item.
+ghost use Rattle.std.specs.Prelude.{◌≡◌, IsTrue, pos, ◌∷◌, []};
+ghost use Rattle.viz_calc.specs.World.{Reading};
+ghost use Rattle.viz_calc.specs.Run.{Goes, Fits, Blames};
+ghost use Rattle.lay_line.specs.Items.{item_of};
+ghost use Rattle.lay_line.specs.Readings.{held_at, pieces_at};
+ghost use Rattle.lay_line.specs.steps.Held.{nothing_held, with_solid as solid_on, with_space as space_on, with_other as other_on, with_item as item_on};
+ghost use Rattle.lay_line.specs.Ways.{solid_way, space_way, other_way, item_way};
+ghost use Rattle.lay_line.specs.steps.Measured.{held_with};
+
+use crate::items::Item;
+use viz_calc::Steady;
+
+/// An item with the width that it takes, in units of 1/64 px.
+#[derive(Debug, Drop)]
+pub struct Piece<'a, N> {
+    pub item: Item<'a>,
+    pub width: N,
+}
+
+/// What a line holds so far, in units of 1/64 px.
+#[derive(Debug, Drop)]
+pub struct Held<N> {
+    /// Its width without the spaces at its ends.
+    pub width: N,
+    /// The width of the spaces since the last word or atomic box.
+    pub spaces: N,
+    /// Whether there was one.
+    pub begun: bool,
+}
+
+/// Nothing.
+pub fn nothing<S: Steady>(calc: &mut S) -> Held<S::Num>
+    ensures goes { Goes (S.run calc.old) (S.run calc.new) }
+    ensures value { (e : Reading) → IsTrue ((S.run calc.new).is_open e) → held_at S.at result e ≡ nothing_held }
+    ensures cause { Blames (S.run calc.old) (S.run calc.new) (Fits (S.run calc.old) (λ e. pos 0 ∷ [])) }
+{
+    let width = calc.lit(0);
+    let spaces = calc.lit(0);
+    Held {
+        width,
+        spaces,
+        begun: false,
+    }
+}
+
+/// With a word or an atomic box more.
+fn with_solid<S: Steady>(calc: &mut S, held: Held<S::Num>, width: &S::Num) -> Held<S::Num>
+    ensures goes { Goes (S.run calc.old) (S.run calc.new) }
+    ensures value { (e : Reading) → IsTrue ((S.run calc.new).is_open e)
+        → held_at S.at result e ≡ solid_on (S.at width.now e) (held_at S.at held e) }
+    ensures cause { Blames (S.run calc.old) (S.run calc.new)
+        (Fits (S.run calc.old) (λ e. solid_way (S.at width.now e) (held_at S.at held e))) }
+{
+    let before = calc.add(&held.width, &held.spaces);
+    let width = calc.add(&before, width);
+    let spaces = calc.lit(0);
+    Held {
+        width,
+        spaces,
+        begun: true,
+    }
+}
+
+/// With a space more.
+fn with_space<S: Steady>(calc: &mut S, held: Held<S::Num>, width: &S::Num) -> Held<S::Num>
+    ensures goes { Goes (S.run calc.old) (S.run calc.new) }
+    ensures value { (e : Reading) → IsTrue ((S.run calc.new).is_open e)
+        → held_at S.at result e ≡ space_on (S.at width.now e) (held_at S.at held e) }
+    ensures cause { Blames (S.run calc.old) (S.run calc.new)
+        (Fits (S.run calc.old) (λ e. space_way (S.at width.now e) (held_at S.at held e))) }
+{
+    let spaces = if held.begun {
+        calc.add(&held.spaces, width)
+    } else {
+        calc.lit(0)
+    };
+    Held {
+        width: held.width,
+        spaces,
+        begun: held.begun,
+    }
+}
+
+/// With the start or the end of an inline box more, or with what has no width.
+fn with_other<S: Steady>(calc: &mut S, held: Held<S::Num>, width: &S::Num) -> Held<S::Num>
+    ensures goes { Goes (S.run calc.old) (S.run calc.new) }
+    ensures value { (e : Reading) → IsTrue ((S.run calc.new).is_open e)
+        → held_at S.at result e ≡ other_on (S.at width.now e) (held_at S.at held e) }
+    ensures cause { Blames (S.run calc.old) (S.run calc.new)
+        (Fits (S.run calc.old) (λ e. other_way (S.at width.now e) (held_at S.at held e))) }
+{
+    let width = calc.add(&held.width, width);
+    Held {
+        width,
+        spaces: held.spaces,
+        begun: held.begun,
+    }
+}
+
+/// With an item more, which takes so much.
+pub fn with_item<S: Steady>(
+    calc: &mut S,
+    held: Held<S::Num>,
+    item: &Item,
+    width: &S::Num,
+) -> Held<S::Num>
+    ensures goes { Goes (S.run calc.old) (S.run calc.new) }
+    ensures value { (e : Reading) → IsTrue ((S.run calc.new).is_open e) → held_at S.at result e
+        ≡ item_on (λ i. S.at width.now e) (held_at S.at held e) (item_of item.now) }
+    ensures cause { Blames (S.run calc.old) (S.run calc.new)
+        (Fits (S.run calc.old) (λ e. item_way (S.at width.now e) (held_at S.at held e) (item_of item.now))) }
+{
+    match item {
+        Item::Word(..) | Item::Atomic(_) => with_solid(calc, held, width),
+        Item::Space(_) => with_space(calc, held, width),
+        _ => with_other(calc, held, width),
+    }
+}
+
+/// With some items more.
+pub fn with_pieces<S: Steady>(
+    calc: &mut S,
+    start: Held<S::Num>,
+    pieces: &[Piece<S::Num>],
+) -> Held<S::Num>
+    ensures goes { Goes (S.run calc.old) (S.run calc.new) }
+    ensures value { (e : Reading) → IsTrue ((S.run calc.new).is_open e) → held_at S.at result e
+        ≡ held_with (held_at S.at start e) (pieces_at S.at pieces.now e) }
+{
+    let mut held = start;
+    for piece in pieces {
+        held = with_item(calc, held, &piece.item, &piece.width);
+    }
+    held
+}

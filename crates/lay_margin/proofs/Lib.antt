@@ -1,0 +1,9 @@
+pub mod Kids
+pub mod KidSteps
+pub mod ContentLemmas
+pub mod Levels
+pub mod Definite
+pub mod Joined
+pub mod Blamed
+pub mod Fitted
+pub mod NestedTree

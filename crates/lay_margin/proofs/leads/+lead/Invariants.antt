@@ -1,0 +1,37 @@
+use Rattle.std.proofs.Common.{◌≡◌, ◌-◌, ◌+◌, ◌*◌, length, drop, IsTrue}
+use Rattle.viz_calc.specs.World.{Reading}
+use Rattle.viz_calc.specs.Run.{Goes, BlamesButMem}
+use Rattle.lay_margin.specs.Readings.{band_at, floats_at, passed_by}
+use Rattle.lay_margin.specs.Runs.{run_at}
+use Rattle.lay_margin.specs.Fitting.{KidsFit}
+use Rattle.lay_margin.specs.steps.Leads.{kids_going, kid_of, lead_of}
+use Rattle.lay_margin.proofs.leads.+lead.Given as goal
+
+abbrev pub decreases-kid : goal.decreases-kid
+decreases-kid g l = 5 * (length l.tree.now.boxes - l.k) + 4
+
+abbrev pub decreases-lead : goal.decreases-lead
+decreases-lead g l = 5 * (length l.tree.now.boxes - l.b) + 3
+
+abbrev pub decreases-inner : goal.decreases-inner
+decreases-inner g l = 5 * (length l.tree.now.boxes - l.b) + 2
+
+abbrev pub decreases-content : goal.decreases-content
+decreases-content g l = 5 * (length l.tree.now.boxes - l.b) + 1
+
+abbrev pub decreases-kids : goal.decreases-kids
+decreases-kids g l = 5 * (length l.tree.now.boxes - l.b)
+
+abbrev pub invariant-kids-loop-place : goal.invariant-kids-loop-place
+invariant-kids-loop-place g l =
+    let at = g.S.Steady.at in
+    let run = g.S.Steady.run in
+    record {
+      goes : Goes (run l.initial.calc) (run l.calc);
+      so_far : (e : Reading) → IsTrue ((run l.calc).is_open e)
+          → kids_going l.tree e.world (passed_by l.past) (kid_of l.tree e.world (passed_by l.past) (lead_of l.tree e.world (passed_by l.past) (band_at at l.band e)) (band_at at l.band e)) (band_at at l.band e)
+          (drop l.place-index l.boxes) (run_at at l.run e) (floats_at at l.waiting e)
+          ≡ kids_going l.tree e.world (passed_by l.past) (kid_of l.tree e.world (passed_by l.past) (lead_of l.tree e.world (passed_by l.past) (band_at at l.band e)) (band_at at l.band e)) (band_at at l.band e)
+          l.boxes (run_at at l.initial.run e) (floats_at at l.initial.waiting e);
+      cause : BlamesButMem (run l.initial.calc) (run l.calc) ((e : Reading) → IsTrue ((run l.initial.calc).is_open e) → KidsFit l.tree e.world (band_at at l.band e) l.boxes);
+    }

@@ -1,0 +1,5 @@
+use Rattle.lay_margin.proofs.Kids.{kid-at}
+use Rattle.lay_margin.proofs.trees.kids_at.Goals as goal
+
+pub returns-clause-each : goal.returns-clause-each
+returns-clause-each c = λ i l. kid-at c.args.tree.now c.args.b i c.kids_at.result.now c.kids_at.ensures l

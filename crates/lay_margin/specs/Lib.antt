@@ -1,0 +1,4 @@
+pub mod Runs
+pub mod Readings
+pub mod Fitting
+pub mod steps

@@ -1,0 +1,86 @@
+//! Runs of margins over any arithmetic that goes on after a halt.
+ghost use Rattle.std.specs.Prelude.{◌≡◌, ℤ, pos, ◌+ℤ◌, List, [], ◌∷◌, IsTrue};
+ghost use Rattle.std.specs.Int.{int_max, int_min};
+ghost use Rattle.viz_calc.specs.World.{Reading};
+ghost use Rattle.viz_calc.specs.Run.{Stands, Goes, Fits, Blames};
+ghost use Rattle.layout_semantics.specs.Margins.{collapsed};
+ghost use Rattle.lay_margin.specs.Runs.{run_at, no_run, IsRunOf, with_margin, collapse, joined_way, value_way};
+
+use crate::Run;
+use viz_calc::Steady;
+
+/// The number 0.
+fn zero<S: Steady>(calc: &mut S) -> S::Num
+    ensures goes { Goes (S.run calc.old) (S.run calc.new) }
+    ensures value { Stands (S.run calc.new) (S.at result) (λ e. pos 0) }
+    ensures cause { Blames (S.run calc.old) (S.run calc.new) (Fits (S.run calc.old) (λ e. pos 0 ∷ [])) }
+{
+    calc.lit(0)
+}
+
+/// The greater of two numbers.
+fn greater<S: Steady>(calc: &mut S, a: &S::Num, b: &S::Num) -> S::Num
+    ensures goes { Goes (S.run calc.old) (S.run calc.new) }
+    ensures value { Stands (S.run calc.new) (S.at result) (λ e. int_max (S.at a.now e) (S.at b.now e)) }
+    ensures cause { Blames (S.run calc.old) (S.run calc.new) (Fits (S.run calc.old)
+        (λ e. int_max (S.at a.now e) (S.at b.now e) ∷ [])) }
+{
+    if calc.le(b, a) {
+        calc.copy(a)
+    } else {
+        calc.copy(b)
+    }
+}
+
+/// The lesser of two numbers.
+fn lesser<S: Steady>(calc: &mut S, a: &S::Num, b: &S::Num) -> S::Num
+    ensures goes { Goes (S.run calc.old) (S.run calc.new) }
+    ensures value { Stands (S.run calc.new) (S.at result) (λ e. int_min (S.at a.now e) (S.at b.now e)) }
+    ensures cause { Blames (S.run calc.old) (S.run calc.new) (Fits (S.run calc.old)
+        (λ e. int_min (S.at a.now e) (S.at b.now e) ∷ [])) }
+{
+    if calc.le(a, b) {
+        calc.copy(a)
+    } else {
+        calc.copy(b)
+    }
+}
+
+/// The run of no margins.
+pub fn empty<S: Steady>(calc: &mut S) -> Run<S::Num>
+    ensures goes { Goes (S.run calc.old) (S.run calc.new) }
+    ensures exact { (e : Reading) → IsTrue ((S.run calc.new).is_open e) → run_at S.at result e ≡ no_run }
+    ensures value { (e : Reading) → IsTrue ((S.run calc.new).is_open e) → IsRunOf (run_at S.at result e) [] }
+    ensures cause { Blames (S.run calc.old) (S.run calc.new) (Fits (S.run calc.old) (λ e. pos 0 ∷ [])) }
+{
+    let pos = zero(calc);
+    let neg = zero(calc);
+    Run { pos, neg }
+}
+
+/// The run with one margin more.
+pub fn joined<S: Steady>(calc: &mut S, run: &Run<S::Num>, margin: &S::Num) -> Run<S::Num>
+    ensures goes { Goes (S.run calc.old) (S.run calc.new) }
+    ensures exact { (e : Reading) → IsTrue ((S.run calc.new).is_open e)
+        → run_at S.at result e ≡ with_margin (run_at S.at run.now e) (S.at margin.now e) }
+    ensures value { (e : Reading) → IsTrue ((S.run calc.new).is_open e) → (margins : List ℤ)
+        → IsRunOf (run_at S.at run.now e) margins → IsRunOf (run_at S.at result e) (S.at margin.now e ∷ margins) }
+    ensures cause { Blames (S.run calc.old) (S.run calc.new)
+        (Fits (S.run calc.old) (λ e. joined_way (run_at S.at run.now e) (S.at margin.now e))) }
+{
+    let pos = greater(calc, &run.pos, margin);
+    let neg = lesser(calc, &run.neg, margin);
+    Run { pos, neg }
+}
+
+/// The margin that a run's margins collapse to.
+pub fn value<S: Steady>(calc: &mut S, run: &Run<S::Num>) -> S::Num
+    ensures goes { Goes (S.run calc.old) (S.run calc.new) }
+    ensures exact { Stands (S.run calc.new) (S.at result) (λ e. collapse (run_at S.at run.now e)) }
+    ensures value { (e : Reading) → IsTrue ((S.run calc.new).is_open e) → (margins : List ℤ)
+        → IsRunOf (run_at S.at run.now e) margins → S.at result e ≡ collapsed margins }
+    ensures cause { Blames (S.run calc.old) (S.run calc.new) (Fits (S.run calc.old)
+        (λ e. value_way (run_at S.at run.now e))) }
+{
+    calc.add(&run.pos, &run.neg)
+}

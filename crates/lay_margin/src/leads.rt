@@ -1,0 +1,472 @@
+//! The margins that adjoin the top of a box, going forward (CSS 2.1, 8.3.1).
+ghost use Rattle.std.specs.Prelude.{◌≡◌, ◌<◌, ◌++◌, ◌∷◌, [], ℕ, ℤ, List as Seq, length, slice_index_or, false, IsTrue};
+ghost use Rattle.std.specs.Int.{int_max, int_min};
+ghost use Rattle.viz_calc.specs.World.{Reading};
+ghost use Rattle.viz_calc.specs.State.{AllSmall};
+ghost use Rattle.viz_calc.specs.Run.{Stands, Goes, Fits, Blames, BlamesButMem};
+ghost use Rattle.layout_semantics.specs.Lengths.{used as used_length, margins as margins_of};
+ghost use Rattle.layout_semantics.specs.InlineContent.{is_floated_at};
+ghost use Rattle.lay_margin.specs.Fitting.{edges, ends, content_way, MarginFits, InsideFits, LeadFits, KidsFit};
+ghost use Rattle.layout_semantics.specs.FlowBoxes.{across as width_of, content_from, flow_children};
+ghost use Rattle.lay_width.specs.Readings.{widths_at};
+ghost use Rattle.lay_margin.specs.Readings.{band_at, waiting_at, floats_at, passed_by};
+ghost use Rattle.layout_semantics.specs.Leads.{lead as landed};
+ghost use Rattle.lay_margin.specs.Runs.{run_at, with_margin, IsRunOf};
+ghost use Rattle.lay_margin.specs.steps.Leads.{going_at, joined_at, led_by, ended_at, closed_end, stops, margin_above, margin_below, inner_band, kid_going, lead_of, inner_of, content_of};
+
+use crate::Run;
+use crate::contents::{collapses_through, enters, floats_in, holds_inline};
+use crate::trees::{clears, kids_at};
+use lay_length::lengths::used;
+use lay_width::engine::block;
+use lay_width::properties::{floats_at, margins};
+use std::alloc::Global;
+use viz_base::{Band, BoxTree, Lead, LeadEnd, Length, List, Waiting, Widths};
+use viz_calc::Steady;
+
+/// Where margins end, and the containing block of the box at which they do.
+#[derive(Debug, Drop)]
+pub struct Ended<N> {
+    /// Where they end.
+    pub end: LeadEnd,
+    /// The containing block.
+    pub cb: Band<N>,
+}
+
+/// A band again.
+fn copy_band<S: Steady>(calc: &mut S, band: &Band<S::Num>) -> Band<S::Num>
+    ensures goes { Goes (S.run calc.old) (S.run calc.new) }
+    ensures value { (e : Reading) → IsTrue ((S.run calc.new).is_open e) → band_at S.at result e
+        ≡ band_at S.at band.now e }
+    ensures cause { Blames (S.run calc.old) (S.run calc.new) (Fits (S.run calc.old)
+        (λ e. edges (band_at S.at band.now e))) }
+{
+    let left = calc.copy(&band.left);
+    let right = calc.copy(&band.right);
+    Band { left, right }
+}
+
+/// An end in a containing block.
+fn end_at<S: Steady>(calc: &mut S, end: LeadEnd, cb: &Band<S::Num>) -> Ended<S::Num>
+    ensures goes { Goes (S.run calc.old) (S.run calc.new) }
+    ensures end { result.end ≡ end }
+    ensures value { (e : Reading) → IsTrue ((S.run calc.new).is_open e) → band_at S.at result.cb e
+        ≡ band_at S.at cb.now e }
+    ensures cause { Blames (S.run calc.old) (S.run calc.new) (Fits (S.run calc.old)
+        (λ e. edges (band_at S.at cb.now e))) }
+{
+    let cb = copy_band(calc, cb);
+    Ended { end, cb }
+}
+
+/// Raises a number to a margin.
+fn raise<S: Steady>(calc: &mut S, pos: &mut S::Num, margin: &S::Num)
+    ensures goes { Goes (S.run calc.old) (S.run calc.new) }
+    ensures value { Stands (S.run calc.new) (S.at pos.new) (λ e. int_max (S.at pos.old e) (S.at margin.now e)) }
+    ensures cause { Blames (S.run calc.old) (S.run calc.new) (Fits (S.run calc.old) (λ e. S.at margin.now e ∷ [])) }
+{
+    if calc.le(pos, margin) {
+        *pos = calc.copy(margin);
+    }
+}
+
+/// Lowers a number to a margin.
+fn lower<S: Steady>(calc: &mut S, neg: &mut S::Num, margin: &S::Num)
+    ensures goes { Goes (S.run calc.old) (S.run calc.new) }
+    ensures value { Stands (S.run calc.new) (S.at neg.new) (λ e. int_min (S.at neg.old e) (S.at margin.now e)) }
+    ensures cause { Blames (S.run calc.old) (S.run calc.new) (Fits (S.run calc.old) (λ e. S.at margin.now e ∷ [])) }
+{
+    if calc.le(margin, neg) {
+        *neg = calc.copy(margin);
+    }
+}
+
+/// Joins a margin to a run.
+fn join<S: Steady>(calc: &mut S, run: &mut Run<S::Num>, margin: &S::Num)
+    ensures goes { Goes (S.run calc.old) (S.run calc.new) }
+    ensures value { (e : Reading) → IsTrue ((S.run calc.new).is_open e)
+        → run_at S.at run.new e ≡ with_margin (run_at S.at run.old e) (S.at margin.now e) }
+    ensures cause { Blames (S.run calc.old) (S.run calc.new) (Fits (S.run calc.old) (λ e. S.at margin.now e ∷ [])) }
+{
+    raise(calc, &mut run.pos, margin);
+    lower(calc, &mut run.neg, margin);
+}
+
+/// Lets a float wait.
+fn wait<S: Steady>(calc: &mut S, cb: &Band<S::Num>, at: u32, waiting: &mut List<Waiting<S::Num>>)
+    ensures goes { Goes (S.run calc.old) (S.run calc.new) }
+    ensures value { (e : Reading) → IsTrue ((S.run calc.new).is_open e) → floats_at S.at waiting.new e
+        ≡ floats_at S.at waiting.old e ++ record { at = at; cb = band_at S.at cb.now e } ∷ [] }
+    ensures cause { BlamesButMem (S.run calc.old) (S.run calc.new) (Fits (S.run calc.old)
+        (λ e. edges (band_at S.at cb.now e))) }
+{
+    let cb = copy_band(calc, cb);
+    match waiting.push(Waiting { at, cb }) {
+        Ok(()) => {}
+        Err(_) => calc.stop(),
+    }
+}
+
+/// The width of a containing block.
+fn across<S: Steady>(calc: &mut S, cb: &Band<S::Num>) -> S::Num
+    ensures goes { Goes (S.run calc.old) (S.run calc.new) }
+    ensures value { Stands (S.run calc.new) (S.at result) (λ e. width_of (band_at S.at cb.now e)) }
+    ensures cause { Blames (S.run calc.old) (S.run calc.new) (Fits (S.run calc.old)
+        (λ e. width_of (band_at S.at cb.now e) ∷ [])) }
+{
+    calc.sub(&cb.right, &cb.left)
+}
+
+/// From the left to the right edge of the content of a box whose margin edge is at `left`.
+fn content_between<S: Steady>(calc: &mut S, left: &S::Num, terms: &Widths<S::Num>) -> Band<S::Num>
+    ensures goes { Goes (S.run calc.old) (S.run calc.new) }
+    ensures value { (e : Reading) → IsTrue ((S.run calc.new).is_open e) → band_at S.at result e
+        ≡ content_from (S.at left.now e) (widths_at S.at terms.now e) }
+    ensures cause { Blames (S.run calc.old) (S.run calc.new) (Fits (S.run calc.old)
+        (λ e. content_way (S.at left.now e) (widths_at S.at terms.now e))) }
+{
+    let edge = calc.add(left, &terms.margin_left);
+    let edge = calc.add(&edge, &terms.border_left);
+    let left = calc.add(&edge, &terms.padding_left);
+    let right = calc.add(&left, &terms.content);
+    Band { left, right }
+}
+
+#[tactic(auto, unfolding(crate::specs::steps::Leads::inner_band))]
+/// The containing block of the boxes in a block in normal flow (CSS 2.1, 10.1).
+fn band_inside<S: Steady>(calc: &mut S, tree: &BoxTree, cb: &Band<S::Num>, b: u32) -> Band<S::Num>
+    ensures goes { Goes (S.run calc.old) (S.run calc.new) }
+    ensures value { (e : Reading) → IsTrue ((S.run calc.new).is_open e) → band_at S.at result e
+        ≡ inner_band tree.now e.world (band_at S.at cb.now e) b }
+    ensures cause { Blames (S.run calc.old) (S.run calc.new) ((e : Reading) → IsTrue ((S.run calc.old).is_open e)
+        → InsideFits tree.now e.world (band_at S.at cb.now e) b) }
+{
+    let room = across(calc, cb);
+    let terms = block(calc, tree, b, &room);
+    content_between(calc, &cb.left, &terms)
+}
+
+/// The used value of a margin in a containing block.
+fn margin_in<S: Steady>(calc: &mut S, tree: &BoxTree, cb: &Band<S::Num>, length: &Length) -> S::Num
+    ensures goes { Goes (S.run calc.old) (S.run calc.new) }
+    ensures value { Stands (S.run calc.new) (S.at result)
+        (λ e. used_length tree.now e.world length.now (width_of (band_at S.at cb.now e))) }
+    ensures cause { Blames (S.run calc.old) (S.run calc.new) ((e : Reading) → IsTrue ((S.run calc.old).is_open e)
+        → MarginFits tree.now e.world length.now (band_at S.at cb.now e)) }
+{
+    let room = across(calc, cb);
+    used(calc, tree, length, &room)
+}
+
+#[tactic(auto, unfolding(crate::specs::steps::Leads::margin_above, layout_semantics::specs::Verticals::verticals))]
+/// Joins the used top margin of a box to a run.
+fn join_top<S: Steady>(
+    calc: &mut S,
+    tree: &BoxTree,
+    cb: &Band<S::Num>,
+    b: u32,
+    run: &mut Run<S::Num>,
+)
+    ensures goes { Goes (S.run calc.old) (S.run calc.new) }
+    ensures value { (e : Reading) → IsTrue ((S.run calc.new).is_open e) → run_at S.at run.new e
+        ≡ with_margin (run_at S.at run.old e) (margin_above tree.now e.world (band_at S.at cb.now e) b) }
+    ensures cause { Blames (S.run calc.old) (S.run calc.new) ((e : Reading) → IsTrue ((S.run calc.old).is_open e)
+        → MarginFits tree.now e.world (margins_of tree.now b).top (band_at S.at cb.now e)) }
+{
+    let margin = margin_in(calc, tree, cb, &margins(tree, b).top);
+    join(calc, run, &margin);
+}
+
+#[tactic(auto, unfolding(crate::specs::steps::Leads::margin_below, layout_semantics::specs::Verticals::verticals))]
+/// Joins its used bottom margin.
+fn join_bottom<S: Steady>(
+    calc: &mut S,
+    tree: &BoxTree,
+    cb: &Band<S::Num>,
+    b: u32,
+    run: &mut Run<S::Num>,
+)
+    ensures goes { Goes (S.run calc.old) (S.run calc.new) }
+    ensures value { (e : Reading) → IsTrue ((S.run calc.new).is_open e) → run_at S.at run.new e
+        ≡ with_margin (run_at S.at run.old e) (margin_below tree.now e.world (band_at S.at cb.now e) b) }
+    ensures cause { Blames (S.run calc.old) (S.run calc.new) ((e : Reading) → IsTrue ((S.run calc.old).is_open e)
+        → MarginFits tree.now e.world (margins_of tree.now b).bottom (band_at S.at cb.now e)) }
+{
+    let margin = margin_in(calc, tree, cb, &margins(tree, b).bottom);
+    join(calc, run, &margin);
+}
+
+/// Whether a box counts as not cleared.
+fn is_passed(past: Option<u32>, b: u32) -> bool
+    ensures { result ≡ passed_by past b }
+{
+    match past {
+        Some(past) => b <= past,
+        None => false,
+    }
+}
+
+#[tactic(auto, unfolding(crate::specs::steps::Leads::stops))]
+/// Whether the margins end at a box, since it has `clear`.
+fn stops_at(tree: &BoxTree, past: Option<u32>, b: u32) -> bool
+    ensures { result ≡ stops tree.now (passed_by past) b }
+{
+    clears(tree, b) && !is_passed(past, b)
+}
+
+#[cycle(lead)]
+/// Joins the margins that adjoin a box's top to a run, and adds the floats between them to those that wait. The box's
+/// own bottom margin is not among them; boxes up to `past` count as not cleared.
+pub fn lead<S: Steady>(
+    alloc: Global,
+    calc: &mut S,
+    tree: &BoxTree,
+    b: u32,
+    cb: &Band<S::Num>,
+    past: Option<u32>,
+    run: &mut Run<S::Num>,
+    waiting: &mut List<Waiting<S::Num>>,
+) -> Ended<S::Num>
+    requires { b < length tree.now.boxes }
+    ensures goes { Goes (S.run calc.old) (S.run calc.new) }
+    ensures value { (e : Reading) → IsTrue ((S.run calc.new).is_open e) → going_at S.at run.new waiting.new result e
+        ≡ lead_of tree.now e.world (passed_by past) (band_at S.at cb.now e) b (run_at S.at run.old e)
+        (floats_at S.at waiting.old e) }
+    ensures cause { BlamesButMem (S.run calc.old) (S.run calc.new) ((e : Reading) → IsTrue ((S.run calc.old).is_open e)
+        → LeadFits tree.now e.world (band_at S.at cb.now e) b) }
+{
+    if stops_at(tree, past, b) {
+        return end_at(calc, LeadEnd::Cleared(b), cb);
+    }
+    inner(alloc, calc, tree, b, cb, past, run, waiting)
+}
+
+#[cycle(lead)]
+/// The same of a box that counts as not cleared.
+fn inner<S: Steady>(
+    alloc: Global,
+    calc: &mut S,
+    tree: &BoxTree,
+    b: u32,
+    cb: &Band<S::Num>,
+    past: Option<u32>,
+    run: &mut Run<S::Num>,
+    waiting: &mut List<Waiting<S::Num>>,
+) -> Ended<S::Num>
+    requires { b < length tree.now.boxes }
+    ensures goes { Goes (S.run calc.old) (S.run calc.new) }
+    ensures value { (e : Reading) → IsTrue ((S.run calc.new).is_open e) → going_at S.at run.new waiting.new result e
+        ≡ inner_of tree.now e.world (passed_by past) (band_at S.at cb.now e) b (run_at S.at run.old e)
+        (floats_at S.at waiting.old e) }
+    ensures cause { BlamesButMem (S.run calc.old) (S.run calc.new) ((e : Reading) → IsTrue ((S.run calc.old).is_open e)
+        → LeadFits tree.now e.world (band_at S.at cb.now e) b) }
+{
+    join_top(calc, tree, cb, b, run);
+    if !enters(tree, b) {
+        return end_at(calc, LeadEnd::Solid(b), cb);
+    }
+    let band = band_inside(calc, tree, cb, b);
+    let inside = content(alloc, calc, tree, b, &band, past, run, waiting);
+    close(calc, tree, b, cb, inside)
+}
+
+/// Where the margins end, by where those in a box do.
+fn close<S: Steady>(
+    calc: &mut S,
+    tree: &BoxTree,
+    b: u32,
+    cb: &Band<S::Num>,
+    inside: Ended<S::Num>,
+) -> Ended<S::Num>
+    requires { b < length tree.now.boxes }
+    ensures goes { Goes (S.run calc.old) (S.run calc.new) }
+    ensures value { (e : Reading) → IsTrue ((S.run calc.new).is_open e) → ended_at S.at result e
+        ≡ closed_end tree.now b (band_at S.at cb.now e) (ended_at S.at inside e) }
+    ensures cause { Blames (S.run calc.old) (S.run calc.new) (Fits (S.run calc.old)
+        (λ e. edges (band_at S.at cb.now e))) }
+{
+    match inside.end {
+        LeadEnd::Through => {
+            if collapses_through(tree, b) {
+                end_at(calc, LeadEnd::Through, cb)
+            } else {
+                end_at(calc, LeadEnd::Solid(b), cb)
+            }
+        }
+        LeadEnd::Solid(_) | LeadEnd::Cleared(_) => inside,
+    }
+}
+
+#[cycle(lead)]
+/// The same of what is in the flow of a box.
+fn content<S: Steady>(
+    alloc: Global,
+    calc: &mut S,
+    tree: &BoxTree,
+    b: u32,
+    band: &Band<S::Num>,
+    past: Option<u32>,
+    run: &mut Run<S::Num>,
+    waiting: &mut List<Waiting<S::Num>>,
+) -> Ended<S::Num>
+    requires { b < length tree.now.boxes }
+    ensures goes { Goes (S.run calc.old) (S.run calc.new) }
+    ensures value { (e : Reading) → IsTrue ((S.run calc.new).is_open e) → going_at S.at run.new waiting.new result e
+        ≡ content_of tree.now e.world (passed_by past) (band_at S.at band.now e) (flow_children tree.now b)
+        (run_at S.at run.old e) (floats_at S.at waiting.old e) }
+    ensures cause { BlamesButMem (S.run calc.old) (S.run calc.new) ((e : Reading) → IsTrue ((S.run calc.old).is_open e)
+        → KidsFit tree.now e.world (band_at S.at band.now e) (flow_children tree.now b)) }
+{
+    if !holds_inline(tree, b) {
+        return kids(
+            alloc,
+            calc,
+            tree,
+            b,
+            kids_at(tree, b),
+            band,
+            past,
+            run,
+            waiting,
+        );
+    }
+    match floats_in(alloc, tree, b) {
+        Ok(floats) => kids(
+            alloc,
+            calc,
+            tree,
+            b,
+            floats.as_slice(),
+            band,
+            past,
+            run,
+            waiting,
+        ),
+        Err(_) => {
+            calc.stop();
+            end_at(calc, LeadEnd::Through, band)
+        }
+    }
+}
+
+#[cycle(lead)]
+#[tactic(auto, unfolding(crate::specs::steps::Leads::kid_of))]
+/// The same of boxes behind a box, one after another.
+fn kids<S: Steady>(
+    alloc: Global,
+    calc: &mut S,
+    tree: &BoxTree,
+    b: u32,
+    boxes: &[u32],
+    band: &Band<S::Num>,
+    past: Option<u32>,
+    run: &mut Run<S::Num>,
+    waiting: &mut List<Waiting<S::Num>>,
+) -> Ended<S::Num>
+    requires within { b < length tree.now.boxes }
+    requires behind { (i : ℕ) → i < length boxes.now
+        → (b < slice_index_or boxes.now i 0) × (slice_index_or boxes.now i 0 < length tree.now.boxes) }
+    ensures goes { Goes (S.run calc.old) (S.run calc.new) }
+    ensures value { (e : Reading) → IsTrue ((S.run calc.new).is_open e) → going_at S.at run.new waiting.new result e
+        ≡ content_of tree.now e.world (passed_by past) (band_at S.at band.now e) boxes.now
+        (run_at S.at run.old e) (floats_at S.at waiting.old e) }
+    ensures cause { BlamesButMem (S.run calc.old) (S.run calc.new) ((e : Reading) → IsTrue ((S.run calc.old).is_open e)
+        → KidsFit tree.now e.world (band_at S.at band.now e) boxes.now) }
+{
+    for place in boxes {
+        let end = kid(alloc, calc, tree, *place, band, past, run, waiting);
+        if !matches!(end.end, LeadEnd::Through) {
+            return end;
+        }
+    }
+    end_at(calc, LeadEnd::Through, band)
+}
+
+#[cycle(lead)]
+/// The same of one: a float waits, and after a lead that goes through the bottom margin follows.
+fn kid<S: Steady>(
+    alloc: Global,
+    calc: &mut S,
+    tree: &BoxTree,
+    k: u32,
+    band: &Band<S::Num>,
+    past: Option<u32>,
+    run: &mut Run<S::Num>,
+    waiting: &mut List<Waiting<S::Num>>,
+) -> Ended<S::Num>
+    requires { k < length tree.now.boxes }
+    ensures goes { Goes (S.run calc.old) (S.run calc.new) }
+    ensures value { (e : Reading) → IsTrue ((S.run calc.new).is_open e) → going_at S.at run.new waiting.new result e
+        ≡ kid_going tree.now e.world (passed_by past)
+        (lead_of tree.now e.world (passed_by past) (band_at S.at band.now e)) (band_at S.at band.now e) k
+        (run_at S.at run.old e) (floats_at S.at waiting.old e) }
+    ensures cause { BlamesButMem (S.run calc.old) (S.run calc.new) ((e : Reading) → IsTrue ((S.run calc.old).is_open e)
+        → AllSmall (edges (band_at S.at band.now e))
+        × (is_floated_at tree.now k ≡ false → LeadFits tree.now e.world (band_at S.at band.now e) k)) }
+{
+    if floats_at(tree, k) {
+        wait(calc, band, k, waiting);
+        return end_at(calc, LeadEnd::Through, band);
+    }
+    let end = lead(alloc, calc, tree, k, band, past, run, waiting);
+    if !matches!(end.end, LeadEnd::Through) {
+        return end;
+    }
+    join_bottom(calc, tree, band, k, run);
+    end_at(calc, LeadEnd::Through, band)
+}
+
+/// A lead, and the run with its margins.
+#[derive(Debug, Drop)]
+pub struct Joined<N> {
+    /// The lead.
+    pub lead: Lead<N>,
+    /// The run.
+    pub run: Run<N>,
+}
+
+/// A run again.
+fn copy_run<S: Steady>(calc: &mut S, run: &Run<S::Num>) -> Run<S::Num>
+    ensures goes { Goes (S.run calc.old) (S.run calc.new) }
+    ensures value { (e : Reading) → IsTrue ((S.run calc.new).is_open e)
+        → run_at S.at result e ≡ run_at S.at run.now e }
+    ensures cause { Blames (S.run calc.old) (S.run calc.new) (Fits (S.run calc.old)
+        (λ e. ends (run_at S.at run.now e))) }
+{
+    let pos = calc.copy(&run.pos);
+    let neg = calc.copy(&run.neg);
+    Run { pos, neg }
+}
+
+/// The margins that adjoin a box's top, with a run of theirs and those of this one.
+pub fn whole_lead<S: Steady>(
+    alloc: Global,
+    calc: &mut S,
+    tree: &BoxTree,
+    b: u32,
+    cb: &Band<S::Num>,
+    past: Option<u32>,
+    run: &Run<S::Num>,
+) -> Joined<S::Num>
+    requires { b < length tree.now.boxes }
+    ensures goes { Goes (S.run calc.old) (S.run calc.new) }
+    ensures value { (e : Reading) → IsTrue ((S.run calc.new).is_open e) → joined_at S.at result e
+        ≡ led_by (run_at S.at run.now e) [] (landed tree.now e.world (passed_by past) (band_at S.at cb.now e) b) }
+    ensures margins { (e : Reading) → IsTrue ((S.run calc.new).is_open e) → (margins : Seq ℤ)
+        → IsRunOf (run_at S.at run.now e) margins → IsRunOf (run_at S.at result.run e)
+        (margins ++ (landed tree.now e.world (passed_by past) (band_at S.at cb.now e) b).margins) }
+    ensures cause { BlamesButMem (S.run calc.old) (S.run calc.new) ((e : Reading) → IsTrue ((S.run calc.old).is_open e)
+        → AllSmall (ends (run_at S.at run.now e)) × LeadFits tree.now e.world (band_at S.at cb.now e) b) }
+{
+    let mut own = copy_run(calc, run);
+    let mut waiting = List::new(alloc);
+    let ended = lead(alloc, calc, tree, b, cb, past, &mut own, &mut waiting);
+    Joined {
+        lead: Lead {
+            end: ended.end,
+            cb: ended.cb,
+            waiting,
+        },
+        run: own,
+    }
+}

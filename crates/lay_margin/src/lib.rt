@@ -1,0 +1,14 @@
+//! Margins that adjoin and collapse, over any arithmetic (CSS 2.1, 8.3.1).
+#![tactic(auto)]
+
+mod contents;
+pub mod engine;
+mod front;
+pub mod leads;
+mod runs;
+#[cfg(test)]
+mod tests;
+mod trees;
+
+pub use front::lead;
+pub use runs::Run;

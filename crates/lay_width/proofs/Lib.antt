@@ -1,0 +1,2 @@
+pub mod HeldTerms
+pub mod Levels

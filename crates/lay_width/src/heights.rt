@@ -1,0 +1,168 @@
+//! Heights that are known before layout (CSS 2.1, 10.5).
+ghost use Rattle.std.specs.Prelude.{◌≡◌, pos, IsTrue, None, unwrap_or, [], ◌∷◌};
+ghost use Rattle.viz_base.specs.declared.styles.Style.{Style as StyleOf};
+ghost use Rattle.viz_calc.specs.World.{Reading};
+ghost use Rattle.viz_calc.specs.State.{AllSmall};
+ghost use Rattle.viz_calc.specs.Run.{Stands, Goes, Blames};
+ghost use Rattle.layout_semantics.specs.Lengths.{own, maximum};
+ghost use Rattle.layout_semantics.specs.DefiniteHeights.{is_passed_over, container_to, definite_height_to};
+ghost use Rattle.layout_semantics.specs.DefiniteHeights.{height_around as height_in, own_height_around as own_height_in, least_height as least_of};
+ghost use Rattle.layout_semantics.specs.DefiniteHeights.{given_height as given_height_of};
+ghost use Rattle.lay_width.specs.Readings.{option_at};
+ghost use Rattle.lay_width.specs.Fitting.{HeightFits, MostHeightFits, OwnHeightFits, DefiniteFits_to, GivenFits};
+
+use crate::limits::hold;
+use crate::properties::{kind_at, least_height, most_height, own_height, parent_at};
+use lay_length::fonts::size_part;
+use lay_length::lengths::{percentage, pixels, zero};
+use viz_base::{BoxTree, Kind, Length};
+use viz_calc::Steady;
+
+/// Whether percentages of heights are of no box of this kind: an inline box is no containing block, and an
+/// anonymous block is passed over (CSS 2.1, 9.2.1.1).
+fn passed_over(kind: Kind) -> bool
+    ensures { result ≡ is_passed_over kind }
+{
+    matches!(kind, Kind::Inline | Kind::Anon)
+}
+
+/// The box whose height percentages are of, up so many levels, where there is one.
+pub fn container(tree: &BoxTree, levels: u64, b: u32) -> Option<u32>
+    ensures { result ≡ container_to levels tree.now b }
+{
+    if levels == 0 {
+        return None;
+    }
+    let parent = parent_at(tree, b)?;
+    if passed_over(kind_at(tree, parent)) {
+        container(tree, levels - 1, parent)
+    } else {
+        Some(parent)
+    }
+}
+
+/// A height where the containing block's is `around`: nothing of `auto`, and of a percentage of no definite height.
+pub fn height_around<S: Steady>(
+    calc: &mut S,
+    tree: &BoxTree,
+    around: &Option<S::Num>,
+    length: &Length,
+) -> Option<S::Num>
+    ensures goes { Goes (S.run calc.old) (S.run calc.new) }
+    ensures value { (e : Reading) → IsTrue ((S.run calc.new).is_open e)
+        → option_at S.at result e ≡ height_in tree.now e.world (option_at S.at around.now e) length.now }
+    ensures cause { Blames (S.run calc.old) (S.run calc.new)
+        ((e : Reading) → IsTrue ((S.run calc.old).is_open e)
+        → HeightFits tree.now e.world (option_at S.at around.now e) length.now) }
+{
+    match (length, around) {
+        (Length::Auto, _) => None,
+        (Length::Px(units), _) => Some(pixels(calc, *units)),
+        (Length::Em { k, node }, _) => Some(size_part(calc, tree, *node, *k, 1_000_000)),
+        (Length::Pct(part), Some(whole)) => Some(percentage(calc, *part, whole)),
+        (Length::Pct(_), None) => None,
+    }
+}
+
+/// The maximum height of a box, where it has one.
+pub fn most_around<S: Steady>(
+    calc: &mut S,
+    tree: &BoxTree,
+    around: &Option<S::Num>,
+    b: u32,
+) -> Option<S::Num>
+    ensures goes { Goes (S.run calc.old) (S.run calc.new) }
+    ensures value { (e : Reading) → IsTrue ((S.run calc.new).is_open e) → option_at S.at result e
+        ≡ maximum (height_in tree.now e.world (option_at S.at around.now e)) (own tree.now b
+        (λ (s : StyleOf). s.max_height) None) }
+    ensures cause { Blames (S.run calc.old) (S.run calc.new) ((e : Reading) → IsTrue ((S.run calc.old).is_open e)
+        → MostHeightFits tree.now e.world (option_at S.at around.now e) (own tree.now b
+        (λ (s : StyleOf). s.max_height) None)) }
+{
+    match most_height(tree, b) {
+        Some(most) => height_around(calc, tree, around, &most),
+        None => None,
+    }
+}
+
+/// The minimum height of a box; a percentage of no definite height counts 0.
+pub fn least_around<S: Steady>(calc: &mut S, tree: &BoxTree, around: &Option<S::Num>, b: u32) -> S::Num
+    ensures goes { Goes (S.run calc.old) (S.run calc.new) }
+    ensures value { Stands (S.run calc.new) (S.at result)
+        (λ e. unwrap_or (height_in tree.now e.world (option_at S.at around.now e) (least_of tree.now b)) (pos 0)) }
+    ensures cause { Blames (S.run calc.old) (S.run calc.new) ((e : Reading) → IsTrue ((S.run calc.old).is_open e)
+        → HeightFits tree.now e.world (option_at S.at around.now e) (least_of tree.now b) × AllSmall (pos 0 ∷ [])) }
+{
+    match height_around(calc, tree, around, &least_height(tree, b)) {
+        Some(least) => least,
+        None => zero(calc),
+    }
+}
+
+/// The height that a box's own property gives, held by its maximum and its minimum.
+pub fn own_height_around<S: Steady>(
+    calc: &mut S,
+    tree: &BoxTree,
+    around: &Option<S::Num>,
+    b: u32,
+) -> Option<S::Num>
+    ensures goes { Goes (S.run calc.old) (S.run calc.new) }
+    ensures value { (e : Reading) → IsTrue ((S.run calc.new).is_open e)
+        → option_at S.at result e ≡ own_height_in tree.now e.world (option_at S.at around.now e) b }
+    ensures cause { Blames (S.run calc.old) (S.run calc.new)
+        ((e : Reading) → IsTrue ((S.run calc.old).is_open e)
+        → OwnHeightFits tree.now e.world (option_at S.at around.now e) b) }
+{
+    match height_around(calc, tree, around, &own_height(tree, b)) {
+        Some(height) => {
+            let most = most_around(calc, tree, around, b);
+            let least = least_around(calc, tree, around, b);
+            Some(hold(calc, most, least, height))
+        }
+        None => None,
+    }
+}
+
+/// The height that percentages of a box's heights are of, where it is definite, up so many levels; that of the
+/// viewport is so many pixels.
+fn definite_height<S: Steady>(
+    calc: &mut S,
+    tree: &BoxTree,
+    viewport: u32,
+    levels: u64,
+    b: u32,
+) -> Option<S::Num>
+    ensures goes { Goes (S.run calc.old) (S.run calc.new) }
+    ensures value { (e : Reading) → IsTrue ((S.run calc.new).is_open e)
+        → option_at S.at result e ≡ definite_height_to levels tree.now e.world viewport b }
+    ensures cause { Blames (S.run calc.old) (S.run calc.new)
+        ((e : Reading) → IsTrue ((S.run calc.old).is_open e) → DefiniteFits_to levels tree.now e.world viewport b) }
+{
+    if levels == 0 {
+        return None;
+    }
+    match container(tree, u64::from(b) + 1, b) {
+        Some(outer) => {
+            let around = definite_height(calc, tree, viewport, levels - 1, outer);
+            own_height_around(calc, tree, &around, outer)
+        }
+        None => Some(pixels(calc, 64 * i64::from(viewport))),
+    }
+}
+
+/// The height that a box's own property gives, where that is definite, in a viewport of so many pixels height.
+pub fn given_height<S: Steady>(
+    calc: &mut S,
+    tree: &BoxTree,
+    viewport: u32,
+    b: u32,
+) -> Option<S::Num>
+    ensures goes { Goes (S.run calc.old) (S.run calc.new) }
+    ensures value { (e : Reading) → IsTrue ((S.run calc.new).is_open e)
+        → option_at S.at result e ≡ given_height_of tree.now e.world viewport b }
+    ensures cause { Blames (S.run calc.old) (S.run calc.new)
+        ((e : Reading) → IsTrue ((S.run calc.old).is_open e) → GivenFits tree.now e.world viewport b) }
+{
+    let around = definite_height(calc, tree, viewport, u64::from(b) + 1, b);
+    height_around(calc, tree, &around, &own_height(tree, b))
+}
