@@ -8,3 +8,12 @@ pub mod ReadyBoxes
 pub mod ReadyTerms
 pub mod ReadyLeads
 pub mod ReadyFlow
+pub mod Definite
+pub mod Slots
+pub mod LeadSteps
+pub mod ContentSteps
+pub mod PageSteps
+pub mod BlockTrees
+pub mod BlockLeads
+pub mod BlockFlow
+pub mod BlockPageLaws

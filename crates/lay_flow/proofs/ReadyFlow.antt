@@ -128,7 +128,7 @@ module _ (tree : BoxTree) (w : World) (height : ℕ) where
           by_standing (at_top y None) e z n = rw e (ap plainly_reached n)
           by_standing (at_top y (Some c)) e z n = absurd (cc)
           by_standing (below from run stuck) e z n =
-              let un = resolved-null tree w height ready no_float within (waiting_size tree w height inside) (λ more. from +ℤ collapsed (run ++ more)) page_band p.floats p.least k l so.floats none_passed in
+              let un = resolved-null tree w ready no_float within (waiting_size tree w height inside) (λ more. from +ℤ collapsed (run ++ more)) page_band p.floats p.least k l so.floats none_passed in
               let zero_sum = collapsed-zero _ (zero-append run _ z un.zeros) in
               rw (e, un.none) (ap plainly_reached (omega (arith, ints, n, zero_sum)))
 
@@ -229,7 +229,7 @@ module _ (tree : BoxTree) (w : World) (height : ℕ) where
       after-standing (at_top top cleared) k y l m z n true e zeros bottom flat = let none = flat refl in rw e (z, omega (arith, ints, none, n))
       after-standing (below edge run stuck) k y l m z n true e zeros bottom flat =
           let none = flat refl in
-          let own = zero-append (lead tree w height all_passed page_band k).margins (bottom_margin tree w height page_band k ∷ []) (lead-null tree w height ready no_float within (length tree.boxes) all_passed page_band k m).zeros (bottom-zero tree w height ready no_float within page_band k m, tt) in
+          let own = zero-append (lead tree w all_passed page_band k).margins (bottom_margin tree w page_band k ∷ []) (lead-null tree w ready no_float within (length tree.boxes) all_passed page_band k m).zeros (bottom-zero tree w ready no_float within page_band k m, tt) in
           rw e (zero-append run _ z own, omega (arith, ints, none, n))
 
       -- a child is placed, and the next one is reached below it

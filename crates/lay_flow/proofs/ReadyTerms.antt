@@ -23,10 +23,6 @@ plain_widths room = record { margin_left = pos 0; border_left = pos 0; padding_l
 abbrev pub plain_verticals : Verticals
 plain_verticals = record { margin_top = pos 0; border_top = pos 0; padding_top = pos 0; padding_bottom = pos 0; border_bottom = pos 0; margin_bottom = pos 0 }
 
--- the terms of a block of width auto
-abbrev auto_widths : ℤ → ℤ → Widths ℤ
-auto_widths cb content = with_margins (plain_widths content) cb (pos 0)
-
 module _ (tree : BoxTree) (w : World) (height : ℕ) (k : ℕ) (r : IsReady tree k) where
   pub not_replaced : is_replaced_at tree k ≡ false
   not_replaced = rw r.kind

@@ -1,2 +1,4 @@
 pub mod steps
+pub mod BlockPages
+pub mod Fitting
 pub mod Limits

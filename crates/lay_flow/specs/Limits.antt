@@ -1,13 +1,12 @@
-use Rattle.std.specs.Prelude.{◌≡◌, ℕ, Bool, ◌≤◌, length, slice_get, Some, IsTrue}
-use Rattle.viz_base.specs.Jobs.{is_low}
-use Rattle.viz_base.specs.declared.styles.Style.{Style}
+use Rattle.std.specs.Prelude.{◌≡◌, Bool, ◌≤◌, length, None, IsTrue}
+use Rattle.viz_base.specs.Reaches.{beyond_reach}
 use Rattle.viz_base.specs.declared.trees.BoxTree.{BoxTree}
 use Rattle.viz_calc.specs.World.{Reading}
 
--- a page of at most 16,384 boxes, the absolute heights of at most 2^20 units each
+-- a page of at most 16,384 boxes, none of which reaches further than 2^40 units
 pub record IsSmallPage (tree : BoxTree) : Type 0 where
   pub few_boxes : length tree.boxes ≤ 16384
-  pub low : (node : ℕ) (s : Style) → slice_get tree.styles node ≡ Some s → IsTrue (is_low s.height)
+  pub reach : beyond_reach tree.styles tree.parents tree.fonts tree.boxes ≡ None
 
 -- a small page, in viewports of at most 16,384 pixels width
 pub record IsWithinLimits (tree : BoxTree) (is_open : Reading → Bool) : Type 0 where

@@ -206,6 +206,7 @@ fn advance<'a, S: Steady>(
 
 /// Places all blocks of a page, one below the other.
 fn stack_up<S: Steady>(alloc: Global, calc: &mut S, tree: &BoxTree) -> Rendering<S::Num>
+    requires { IsTrue (ready tree.now) }
     ensures goes { Goes (S.run calc.old) (S.run calc.new) }
     ensures value { (e : Reading) → IsTrue ((S.run calc.new).is_open e) → rendering_at S.at result e ≡ stack tree.now e.world }
     ensures cause { BlamesButMem (S.run calc.old) (S.run calc.new) (IsWithinLimits tree.now (S.run calc.old).is_open) }

@@ -3,9 +3,18 @@
 
 ghost use Rattle.std.specs.Prelude.{◌≡◌, []};
 
+pub mod block_pages;
+pub mod boxes;
 mod coverage;
 pub mod engine;
+pub mod frames;
 mod front;
+pub mod heights;
+pub mod leads;
+pub mod page;
+pub mod places;
+pub mod standing;
+pub mod walk;
 
 pub use coverage::ready;
 pub use front::{render, render_at, the_page_of_a_job_is_small};

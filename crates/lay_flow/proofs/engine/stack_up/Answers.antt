@@ -93,6 +93,6 @@ returns-clause-goes g c =
 
 pub returns-clause-cause : goal.returns-clause-cause
 returns-clause-cause g c = record {
-  coeff = λ limits. c.loop-column.invariant.cause.coeff (λ e o. layout_fits c.args.tree.now e.world limits.small (limits.narrow e o));
+  coeff = λ limits. c.loop-column.invariant.cause.coeff (λ e o. layout_fits c.args.tree.now e.world c.requires limits.small (limits.narrow e o));
   opens = c.loop-column.invariant.cause.opens;
 }

@@ -1,0 +1,14 @@
+use Rattle.std.proofs.Common.{ℤ, List, map, ap, sym, ◌∙◌}
+use Rattle.viz_base.specs.declared.renderings.Placed.{Placed}
+use Rattle.viz_base.specs.declared.renderings.Rendering.{Rendering}
+use Rattle.viz_calc.specs.Renderings.{placed_at}
+use Rattle.lay_flow.specs.steps.Readings.{boxes_at}
+use Rattle.lay_flow.proofs.BlockPageLaws.{page-same}
+use Rattle.lay_flow.proofs.page.render.Goals as goal
+
+pub returns-clause-value : goal.returns-clause-value
+unfolding boxes_at
+returns-clause-value g c = λ e o.
+    let at = g.S.Steady.at in
+    ap (λ (l : List (Placed ℤ)). let r : Rendering ℤ = record { boxes = l } in r)
+    (ap (map (λ p. placed_at at p e)) c.from-boxes.ensures ∙ c.boxes.ensures.value e o ∙ sym (page-same c.args.tree.now e.world c.args.height c.requires))

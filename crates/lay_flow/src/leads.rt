@@ -1,0 +1,82 @@
+//! The margins that adjoin the top of a box (CSS 2.1, 8.3.1).
+ghost use Rattle.std.specs.Prelude.{◌≡◌, ◌<◌, length, IsTrue};
+ghost use Rattle.viz_calc.specs.World.{Reading};
+ghost use Rattle.viz_calc.specs.Run.{Goes, Fits, Blames};
+ghost use Rattle.layout_semantics.specs.FlowBoxes.{content_from};
+ghost use Rattle.lay_margin.specs.Runs.{run_at};
+ghost use Rattle.lay_width.specs.Readings.{widths_at};
+ghost use Rattle.lay_width.specs.Fitting.{BlockFits};
+ghost use Rattle.lay_flow.specs.Fitting.{band_way};
+ghost use Rattle.lay_flow.specs.steps.Readings.{band_at};
+ghost use Rattle.lay_flow.specs.steps.Words.{widths_of};
+ghost use Rattle.lay_flow.specs.steps.Blocks.{led};
+
+use crate::boxes::{is_open_above, kids_at, may_collapse};
+use crate::heights::{across, bottom_margin, top_margin};
+use lay_margin::Run;
+use lay_margin::engine::joined;
+use viz_base::{Band, BoxTree, Widths};
+use viz_calc::Steady;
+
+#[tactic(auto, unfolding(crate::specs::steps::Words::widths_of))]
+/// The used widths of a block in normal flow in so wide a containing block (CSS 2.1, 10.3.3, 10.4).
+pub fn widths<S: Steady>(calc: &mut S, tree: &BoxTree, b: u32, room: &S::Num) -> Widths<S::Num>
+    ensures goes { Goes (S.run calc.old) (S.run calc.new) }
+    ensures value { (e : Reading) → IsTrue ((S.run calc.new).is_open e)
+        → widths_at S.at result e ≡ widths_of tree.now e.world b (S.at room.now e) }
+    ensures cause { Blames (S.run calc.old) (S.run calc.new)
+        ((e : Reading) → IsTrue ((S.run calc.old).is_open e)
+        → BlockFits tree.now e.world b (S.at room.now e)) }
+{
+    lay_width::engine::block(calc, tree, b, room)
+}
+
+/// From the left to the right edge of the content of a box whose margin edge is at `left`.
+pub fn content_band<S: Steady>(calc: &mut S, left: &S::Num, x: &Widths<S::Num>) -> Band<S::Num>
+    ensures goes { Goes (S.run calc.old) (S.run calc.new) }
+    ensures value { (e : Reading) → IsTrue ((S.run calc.new).is_open e)
+        → band_at S.at result e ≡ content_from (S.at left.now e) (widths_at S.at x.now e) }
+    ensures cause { Blames (S.run calc.old) (S.run calc.new)
+        (Fits (S.run calc.old) (λ e. band_way (S.at left.now e) (widths_at S.at x.now e))) }
+{
+    let edge = calc.add(left, &x.margin_left);
+    let edge = calc.add(&edge, &x.border_left);
+    let left = calc.add(&edge, &x.padding_left);
+    let right = calc.add(&left, &x.content);
+    Band { left, right }
+}
+
+#[tactic(auto, using(crate::proofs::LeadSteps::leads))]
+/// Joins the margins that adjoin a box's top to a run, and tells whether its own bottom margin adjoins them too.
+pub fn lead<S: Steady>(
+    calc: &mut S,
+    tree: &BoxTree,
+    cb: &Band<S::Num>,
+    b: u32,
+    run: &mut Run<S::Num>,
+) -> bool
+    requires { b < length tree.now.boxes }
+    ensures goes { Goes (S.run calc.old) (S.run calc.new) }
+    ensures run { (e : Reading) → IsTrue ((S.run calc.new).is_open e)
+        → run_at S.at run.new e ≡ (led tree.now e.world (band_at S.at cb.now e) b (run_at S.at run.old e)).run }
+    ensures through { (e : Reading) → IsTrue ((S.run calc.new).is_open e)
+        → result ≡ (led tree.now e.world (band_at S.at cb.now e) b (run_at S.at run.old e)).through }
+{
+    let room = across(calc, cb);
+    let margin = top_margin(calc, tree, b, &room);
+    *run = joined(calc, run, &margin);
+    if !is_open_above(tree, b) {
+        return false;
+    }
+    let x = widths(calc, tree, b, &room);
+    let band = content_band(calc, &cb.left, &x);
+    let inner = across(calc, &band);
+    for kid in kids_at(tree, b) {
+        if !lead(calc, tree, &band, *kid, run) {
+            return false;
+        }
+        let margin = bottom_margin(calc, tree, *kid, &inner);
+        *run = joined(calc, run, &margin);
+    }
+    may_collapse(tree, b)
+}
