@@ -10,7 +10,7 @@ use Rattle.viz_base.specs.declared.worlds.World.{World}
 use Rattle.viz_base.specs.declared.worlds.Rect.{Rect}
 use Rattle.viz_base.specs.declared.jobs.Job.{Job}
 use Rattle.cert_text.specs.Grammar.{DigestText}
-use Rattle.cert_check.specs.Rectangles.{world_count, IsWithin}
+use Rattle.cert_check.specs.Rectangles.{world_count}
 use Rattle.cert_check.specs.Right.{Holds}
 use Rattle.cert_check.specs.Laws.{IsProper}
 use Rattle.prove_search.specs.declared.search.Closed.{Closed}
@@ -20,9 +20,6 @@ use Rattle.prove_search.proofs.Closing.{all_at, some_world}
 
 pub range_is_proper : (range : Rect) → IsRange range → IsProper range
 range_is_proper range known = record { widths = known.widths; sizes = known.sizes }
-
-pub all_within : (r : Rect) → IsWithin r r
-all_within r = record { width_least = omega arith; width_most = omega arith; size_least = omega arith; size_most = omega arith }
 
 range_levels : (range : Rect) → IsRange range → HasLevels 22 range
 range_levels range known =
@@ -64,19 +61,6 @@ proves job turns closed known bytes h =
       };
       short = simp length-append (omega arith);
     }
-
-pub violated_untrue : (job : Job) (world : World) → IsViolation job job.range world → Holds job → ⊥
-violated_untrue job world v holds = let yes = holds world v.in_range in let no = v.untrue in absurd (cc)
-
-pub enough : (r part : Rect) (turns : ℕ) → IsProper r → IsUndecided r turns part → 2 * world_count r ≤ turns + 1 → ⊥
-enough r part turns proper u few = by_cause u.cause
-  where
-    by_cause : (turns ≡ 0) ⊎ ((64 < world_count r) × (turns < 2 * world_count r - 1)) → ⊥
-    by_cause (inl e) = let some = some_world r proper in absurd (omega arith)
-    by_cause (inr e) = let lt = e.1 in let many = e.0 in absurd (omega arith)
-
-pub undecided_all : (r : Rect) (turns : ℕ) → IsProper r → turns ≡ 0 → IsUndecided r turns r
-undecided_all r turns proper none = record { proper = proper; within = all_within r; cause = inl none; whole = λ e. refl }
 
 -- ---- digests
 

@@ -1,6 +1,7 @@
 use crate::{Outcome, prove};
 use cert_text::CertNode;
-use page_narrow::read_narrow;
+use lay_flow::ready;
+use page_build::build_job;
 use std::test::Fail;
 use viz_base::{Rect, World};
 
@@ -14,9 +15,12 @@ fn outcome(rt: &HostRuntime, widths: &str, assertion: &str, turns: u64) -> Resul
     text.push_str(FONTS)?;
     text.push_str(assertion)?;
     text.push_str(r#""}"#)?;
-    let Ok(job) = read_narrow(rt.alloc(), text.as_bytes()) else {
+    let Ok(job) = build_job(rt.alloc(), text.as_bytes()) else {
         return Err(Fail::new("no job"));
     };
+    if !ready(&job.tree) {
+        return Err(Fail::new("not laid out"));
+    }
     match prove(rt.alloc(), &job, turns) {
         Ok(outcome) => Ok(outcome),
         Err(_) => Err(Fail::new("out of memory")),

@@ -1,7 +1,17 @@
 -- What the bytes of a job file are.
-use Rattle.std.specs.Prelude.{◌≡◌, ◌⊎◌, ℕ, ◌≤◌, ◌<◌, List, Ok, Err, length, codes}
+use Rattle.std.specs.Prelude.{◌≡◌, ◌⊎◌, ℕ, ◌≤◌, ◌<◌, false, List, [], ◌∷◌, ◌++◌, length, codes}
 use Rattle.viz_base.specs.declared.jobs.Job.{Job}
-use Rattle.page_narrow.specs.Narrow.{narrow_job, parts_of, Refusal, not_json, not_yet}
+use Rattle.viz_base.specs.declared.raw_jobs.Part.{Part}
+use Rattle.viz_base.specs.declared.raw_jobs.Part.TheVariants as part
+use Rattle.viz_base.specs.declared.raw_jobs.Which.{Which}
+use Rattle.viz_base.specs.declared.raw_jobs.Which.TheVariants as which
+use Rattle.viz_base.specs.declared.settings.Prop.{Prop}
+use Rattle.css_semantics.specs.Properties.{row}
+use Rattle.layout_semantics.specs.Ready.{ready}
+use Rattle.page_build.specs.declared.faults.JobRefusal.{JobRefusal}
+use Rattle.page_build.specs.declared.faults.JobRefusal.TheVariants.{Mem, NotJson, Shape, Limit, Range, Import, MediaQuery, TooManyRules, Selector, Value, BlockInInline, RightToLeft, TooManyBoxes, Reach, NotYet}
+use Rattle.page_build.specs.Jobs.{IsJobOf, IsRefusedAs}
+use Rattle.viz_replies.specs.Lines.{spaced, numbered}
 
 -- a job file has at most 16 MiB
 abbrev pub job_most : ℕ
@@ -10,25 +20,80 @@ job_most = 16777216
 -- the bytes spell the job
 pub record SpellsJob (bytes : List ℕ) (job : Job) : Type 0 where
   pub short : length bytes ≤ job_most
-  pub read : narrow_job bytes ≡ Ok (parts_of job)
+  pub read : IsJobOf bytes job
 
--- the line for bytes that are refused
-abbrev pub refusal_line : Refusal → List ℕ
-refusal_line not_json = codes "job-refused not-json\n"
-refusal_line not_yet = codes "job-refused not-yet\n"
+-- ---- lines
 
--- the bytes are refused with this line
-pub record IsRefused (bytes output : List ℕ) : Type 0 where
-  pub short : length bytes ≤ job_most
-  pub refusal : Refusal
-  pub refused : narrow_job bytes ≡ Err refusal
-  pub line : output ≡ refusal_line refusal
+abbrev pub shape_words : Part → List ℕ
+shape_words part.Top = codes "job-refused shape top"
+shape_words part.Widths = codes "job-refused shape widths"
+shape_words part.Sizes = codes "job-refused shape sizes"
+shape_words part.Height = codes "job-refused shape height"
+shape_words part.Fonts = codes "job-refused shape fonts"
+shape_words part.Css = codes "job-refused shape css"
+shape_words part.Page = codes "job-refused shape page"
+shape_words part.Assert = codes "job-refused shape assert"
+
+abbrev pub limit_words : Which → List ℕ
+limit_words which.Elements = codes "job-refused limit elements"
+limit_words which.Depth = codes "job-refused limit depth"
+limit_words which.Text = codes "job-refused limit text"
+limit_words which.Css = codes "job-refused limit css"
+limit_words which.Fonts = codes "job-refused limit fonts"
+limit_words which.Advances = codes "job-refused limit advances"
+limit_words which.Formula = codes "job-refused limit formula"
+
+-- a node, the name of a property, and what is shown of its value
+abbrev pub value_line : ℕ → Prop → List ℕ → List ℕ
+value_line node prop value =
+    codes "job-refused unsupported-value" ++ (spaced node ++ (codes " " ++ ((row prop).name ++ (codes " " ++ (value ++ codes "\n")))))
+
+-- the line of a job whose page or assertion is not yet of a form that is judged
+abbrev pub not_yet_line : List ℕ
+not_yet_line = codes "job-refused not-yet\n"
+
+abbrev pub long_line : List ℕ
+long_line = codes "job-refused too-long\n"
+
+-- the line for bytes that are refused; want of memory has none
+abbrev pub refusal_line : JobRefusal → List ℕ
+refusal_line Mem = []
+refusal_line NotJson = codes "job-refused not-json\n"
+refusal_line (Shape p place) = numbered (shape_words p) (place ∷ [])
+refusal_line (Limit w count) = numbered (limit_words w) (count ∷ [])
+refusal_line Range = codes "job-refused range\n"
+refusal_line (Import sheet place) = numbered (codes "job-refused import") (sheet ∷ place ∷ [])
+refusal_line (MediaQuery sheet place) = numbered (codes "job-refused media-query") (sheet ∷ place ∷ [])
+refusal_line (TooManyRules sheet) = numbered (codes "job-refused too-many-rules") (sheet ∷ [])
+refusal_line (Selector sheet place) = numbered (codes "job-refused unsupported-selector") (sheet ∷ place ∷ [])
+refusal_line (Value node prop value) = value_line node prop value
+refusal_line (BlockInInline node) = numbered (codes "job-refused block-in-inline") (node ∷ [])
+refusal_line (RightToLeft node letter) = numbered (codes "job-refused right-to-left") (node ∷ letter ∷ [])
+refusal_line TooManyBoxes = codes "job-refused too-many-boxes\n"
+refusal_line (Reach node) = numbered (codes "job-refused reach") (node ∷ [])
+refusal_line NotYet = not_yet_line
+
+-- ---- no job
 
 -- the bytes are too many
 pub record IsTooLong (bytes output : List ℕ) : Type 0 where
   pub long : job_most < length bytes
-  pub line : output ≡ codes "job-refused too-long\n"
+  pub line : output ≡ long_line
 
--- the bytes spell no job, for the reason that the line gives
+-- the bytes are refused with this line
+pub record IsRefused (bytes output : List ℕ) : Type 0 where
+  pub short : length bytes ≤ job_most
+  pub refusal : JobRefusal
+  pub refused : IsRefusedAs bytes refusal
+  pub line : output ≡ refusal_line refusal
+
+-- the bytes spell a job, of which nothing refuses more than that its page is not yet laid out
+pub record IsNotYet (bytes output : List ℕ) : Type 0 where
+  pub job : Job
+  pub spelled : SpellsJob bytes job
+  pub unready : ready job.tree ≡ false
+  pub line : output ≡ not_yet_line
+
+-- the bytes spell no job that is judged, for the reason that the line gives
 abbrev pub IsNoJob : List ℕ → List ℕ → Type 0
-IsNoJob bytes output = IsTooLong bytes output ⊎ IsRefused bytes output
+IsNoJob bytes output = IsTooLong bytes output ⊎ (IsRefused bytes output ⊎ IsNotYet bytes output)

@@ -1,8 +1,11 @@
-ghost use Rattle.std.specs.Prelude.{◌≡◌, codes, IfOk};
-ghost use Rattle.viz_replies.specs.steps.Answers.{IsLineOf, IsJobRead};
+ghost use Rattle.std.specs.Prelude.{◌≡◌, IfOk};
+ghost use Rattle.viz_replies.specs.Jobs.{long_line, not_yet_line};
+ghost use Rattle.viz_replies.specs.steps.Answers.{IsJobRead};
 
+use crate::refusals::refusal;
 use crate::reply::{Answer, Reply, line};
-use page_narrow::{NarrowFault, read_narrow};
+use lay_flow::ready;
+use page_build::build_job;
 use std::alloc::Global;
 use viz_base::{Job, Mem};
 
@@ -10,40 +13,40 @@ use viz_base::{Job, Mem};
 #[derive(Drop)]
 pub enum JobRead {
     Read(Job),
-    /// They spell no job.
+    /// They spell no job, or one whose page is not laid out yet.
     Refused(Reply),
 }
 
 /// Job files of more bytes are refused.
 pub const JOB_MOST: usize = 16_777_216;
 
-/// The line for a job that is refused.
-fn refusal(alloc: Global, fault: NarrowFault) -> Result<Reply, Mem>
-    ensures { IfOk result (λ r. (r.answer ≡ Answer.JobRefused) × IsLineOf fault r.output.items) }
-{
-    match fault {
-        NarrowFault::Mem => Err(Mem),
-        NarrowFault::NotJson => line(alloc, Answer::JobRefused, b"job-refused not-json\n"),
-        NarrowFault::NotYet => line(alloc, Answer::JobRefused, b"job-refused not-yet\n"),
-    }
-}
-
 /// The reply about a job file of more than `JOB_MOST` bytes.
 pub fn long_job(alloc: Global) -> Result<Reply, Mem>
-    ensures { IfOk result (λ r. (r.answer ≡ Answer.JobRefused) × (r.output.items ≡ codes "job-refused too-long\n")) }
+    ensures { IfOk result (λ r. (r.answer ≡ Answer.JobRefused) × (r.output.items ≡ long_line)) }
 {
     line(alloc, Answer::JobRefused, b"job-refused too-long\n")
 }
 
-/// The job that the bytes of a job file spell, or the reply where they spell none.
+/// The reply about a job whose page is not laid out yet.
+fn not_yet(alloc: Global) -> Result<Reply, Mem>
+    ensures { IfOk result (λ r. (r.answer ≡ Answer.JobRefused) × (r.output.items ≡ not_yet_line)) }
+{
+    line(alloc, Answer::JobRefused, b"job-refused not-yet\n")
+}
+
+/// The job that the bytes of a job file spell, or the reply where they spell none whose page is laid out.
 pub fn read_job(alloc: Global, bytes: &[u8]) -> Result<JobRead, Mem>
     ensures { IfOk result (IsJobRead bytes.now) }
 {
     if bytes.len() > JOB_MOST {
         return Ok(JobRead::Refused(long_job(alloc)?));
     }
-    match read_narrow(alloc, bytes) {
-        Ok(job) => Ok(JobRead::Read(job)),
+    match build_job(alloc, bytes) {
+        Ok(job) => if ready(&job.tree) {
+            Ok(JobRead::Read(job))
+        } else {
+            Ok(JobRead::Refused(not_yet(alloc)?))
+        },
         Err(fault) => Ok(JobRead::Refused(refusal(alloc, fault)?)),
     }
 }

@@ -9,6 +9,7 @@ mod certs;
 mod jobs;
 mod lines;
 mod question;
+mod refusals;
 mod replies;
 mod reply;
 #[cfg(test)]

@@ -7,8 +7,16 @@ use itoa::Buffer;
 use std::alloc::{AllocError, Global};
 use viz_base::Mem;
 
+/// A word after a space.
+pub fn push_word(out: &mut Vec<u8>, word: &[u8]) -> Result<(), AllocError>
+    ensures { OnOk result (out.new.items ≡ out.old.items ++ (codes " " ++ word.now)) }
+{
+    out.extend_from_slice(b" ")?;
+    out.extend_from_slice(word)
+}
+
 /// A number after a space.
-fn push_number(out: &mut Vec<u8>, number: u64) -> Result<(), AllocError>
+pub fn push_number(out: &mut Vec<u8>, number: u64) -> Result<(), AllocError>
     ensures { OnOk result (out.new.items ≡ out.old.items ++ spaced number) }
 {
     let mut buffer = Buffer::new();

@@ -16,11 +16,6 @@ use Rattle.vizlog.specs.steps.Loads.{IsSureCert}
 
 -- ---- words
 
-verb_of : Command → List ℕ
-verb_of (asks_for.Lay job screen) = codes "lay"
-verb_of (asks_for.Prove job turns) = codes "prove"
-verb_of (asks_for.Check job cert) = codes "check"
-
 lay_check : (word : List ℕ) → word ≡ codes "lay" → word ≡ codes "check" → ⊥
 lay_check word a b = absurd (cc)
 
@@ -47,12 +42,6 @@ pub cert_word : (sure : List ℕ → Bool) (words : List (List ℕ)) (c : Comman
 cert_word sure words (asks_for.Lay job screen) asks is = tt
 cert_word sure words (asks_for.Prove job turns) asks is = tt
 cert_word sure words (asks_for.Check job cert) asks is = let third = ap (λ ws. word_at ws 2) asks.words_are in rw third at is
-
--- what is sure stays so
-pub sure_later : (old new : List ℕ → Bool) (c : Command) → ((name : List ℕ) → IsTrue (old name) → IsTrue (new name)) → IsSureCert old c → IsSureCert new c
-sure_later old new (asks_for.Lay job screen) stays is = tt
-sure_later old new (asks_for.Prove job turns) stays is = tt
-sure_later old new (asks_for.Check job cert) stays is = stays cert.now is
 
 -- ---- replies
 

@@ -1,5 +1,5 @@
 -- What a load tells of a file.
-use Rattle.std.proofs.Common.{◌≡◌, ℕ, ◌+◌, ◌<◌, ◌≤◌, List, Bool, true, false, Option, Some, None, IfSome, option_map, length, nat_le, replicate, arith, refl, inr, Bor}
+use Rattle.std.proofs.Common.{◌≡◌, ℕ, ◌+◌, ◌<◌, ◌≤◌, List, Bool, true, false, Option, Some, None, IfSome, option_map, length, nat_le, replicate, arith, refl, inl, inr, Bor}
 use Rattle.std.proofs.lemmas.List.{length-replicate}
 use Rattle.std.proofs.lemmas.Bool.Decides.{nat_tests}
 use Rattle.viz_outside.specs.declared.shelf.Loaded.TheVariants.{Whole, Longer}
@@ -8,6 +8,7 @@ use Rattle.viz_outside.specs.Fault.{Rose}
 use Rattle.viz_outside.proofs.FaultLemmas.{rose_within}
 use Rattle.viz_base.specs.declared.jobs.Job.{Job}
 use Rattle.viz_replies.specs.declared.reply.Answer.{Answer}
+use Rattle.viz_replies.specs.declared.reply.Reply.{Reply}
 use Rattle.viz_replies.specs.declared.jobs.JobRead.TheVariants as of_job
 use Rattle.vizlog.specs.declared.status.File.TheVariants as of_the
 use Rattle.vizlog.specs.declared.words.Command.{Command}
@@ -70,6 +71,10 @@ replied_about files c name job answer output same file reply = record {
   told = rw same at file.told;
   reply = inr (reply.0, reply.1, record { job = job; spelled = file.reads.0; reply = reply.2 });
 }
+
+pub replied_refused : (files : Files) (c : Command) (name : List ℕ) (reply : Reply) → name ≡ job_name c → IsJobFile files name (of_job.Refused reply)
+    → IsReplied files c reply.answer reply.output.items
+replied_refused files c name reply same file = record { bytes = file.bytes; told = rw same at file.told; reply = inl file.reads }
 
 -- a certificate file that could not be read is looked for where the job file spells a job
 pub cert_missed : (files : Files) (c : Command) (name : List ℕ) (job : Job) → name ≡ job_name c → IsJobFile files name (of_job.Read job)

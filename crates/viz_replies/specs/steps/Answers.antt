@@ -6,9 +6,6 @@ use Rattle.cert_text.specs.declared.certificate.Cert.{Cert}
 use Rattle.cert_text.specs.declared.certificate.CertFault.{CertFault}
 use Rattle.cert_text.specs.declared.certificate.CertFault.TheVariants as spells
 use Rattle.cert_text.specs.Grammar.{CertText}
-use Rattle.page_narrow.specs.Narrow.{not_json, not_yet}
-use Rattle.page_narrow.specs.declared.faults.NarrowFault.{NarrowFault}
-use Rattle.page_narrow.specs.declared.faults.NarrowFault.TheVariants as reads
 use Rattle.cert_check.specs.Right.{Holds}
 use Rattle.cert_check.specs.Verdicts.{IsVerdict}
 use Rattle.cert_check.specs.declared.verdicts.Verdict.{Verdict}
@@ -23,15 +20,9 @@ use Rattle.viz_replies.specs.declared.jobs.JobRead.TheVariants as of_job
 use Rattle.viz_replies.specs.declared.certs.CertRead.{CertRead}
 use Rattle.viz_replies.specs.declared.certs.CertRead.TheVariants as of_cert
 use Rattle.viz_replies.specs.Lines.{numbered}
-use Rattle.viz_replies.specs.Jobs.{SpellsJob, refusal_line}
+use Rattle.viz_replies.specs.Jobs.{SpellsJob}
 use Rattle.viz_replies.specs.Certificates.{SpellsCert, IsNoCert}
 use Rattle.viz_replies.specs.Replies.{IsRefusal, violation_text, open_line, reject_line}
-
--- the line is that of the refusal that the reader's fault stands for; want of memory stands for none
-abbrev pub IsLineOf : NarrowFault → List ℕ → Type 0
-IsLineOf reads.Mem output = ⊥
-IsLineOf reads.NotJson output = output ≡ refusal_line not_json
-IsLineOf reads.NotYet output = output ≡ refusal_line not_yet
 
 -- the job that the bytes spell, whose page is one that can be laid out, or their refusal
 abbrev pub IsJobRead : List ℕ → JobRead → Type 0
