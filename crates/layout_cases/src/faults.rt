@@ -1,0 +1,58 @@
+use std::alloc::{AllocError, AllocFailed};
+use std::io;
+use thiserror::Error;
+use viz_base::Mem;
+use viz_calc::Halt;
+
+/// Why the table could not be run.
+#[derive(Debug, Drop, Error)]
+pub enum Fault {
+    /// Want of memory.
+    #[error("out of memory")]
+    Mem,
+    /// A line is no case.
+    #[error("a line is no case")]
+    NoCase,
+    /// The input or the output failed.
+    #[error("input or output failed")]
+    Outside,
+}
+
+impl From<AllocError> for Fault {
+    fn from(_: AllocError) -> Self {
+        Fault::Mem
+    }
+}
+
+impl<T: Drop> From<AllocFailed<T>> for Fault {
+    fn from(_: AllocFailed<T>) -> Self {
+        Fault::Mem
+    }
+}
+
+impl From<Mem> for Fault {
+    fn from(_: Mem) -> Self {
+        Fault::Mem
+    }
+}
+
+impl From<io::Error> for Fault {
+    fn from(_: io::Error) -> Self {
+        Fault::Outside
+    }
+}
+
+impl From<serde_json::Error> for Fault {
+    fn from(_: serde_json::Error) -> Self {
+        Fault::NoCase
+    }
+}
+
+impl From<Halt> for Fault {
+    fn from(halt: Halt) -> Self {
+        match halt {
+            Halt::Mem => Fault::Mem,
+            Halt::Coeff | Halt::Open => Fault::NoCase,
+        }
+    }
+}

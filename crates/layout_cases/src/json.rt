@@ -1,0 +1,59 @@
+use crate::faults::Fault;
+use serde_json::Value;
+use std::alloc::{AllocError, Global};
+
+/// The member at a place of an array.
+pub fn at(value: &Value, place: usize) -> Result<&Value, Fault> {
+    value.get(place).ok_or(Fault::NoCase)
+}
+
+/// The text at a place of an array.
+pub fn text_at(value: &Value, place: usize) -> Result<&str, Fault> {
+    at(value, place)?.as_str().ok_or(Fault::NoCase)
+}
+
+/// A number of the layout, in 1/64 px.
+pub fn units(value: &Value) -> Result<i128, Fault> {
+    Ok(i128::from(value.as_i64().ok_or(Fault::NoCase)?))
+}
+
+/// The one at a place of an array.
+pub fn units_at(value: &Value, place: usize) -> Result<i128, Fault> {
+    units(at(value, place)?)
+}
+
+/// The number of 32 bits at a place of an array.
+pub fn number_at(value: &Value, place: usize) -> Result<u32, Fault> {
+    let number = at(value, place)?.as_u64().ok_or(Fault::NoCase)?;
+    u32::try_from(number).map_err(|_| Fault::NoCase)
+}
+
+/// The number of 128 bits that is written as a text at a place of an array.
+pub fn wide_at(value: &Value, place: usize) -> Result<i128, Fault> {
+    text_at(value, place)?
+        .parse::<i128>()
+        .map_err(|_| Fault::NoCase)
+}
+
+/// The members of the array at a place of an array.
+pub fn list_at(value: &Value, place: usize) -> Result<&[Value], Fault> {
+    Ok(
+        at(value, place)?
+            .as_array()
+            .ok_or(Fault::NoCase)?
+            .as_slice(),
+    )
+}
+
+/// A list of texts, as JSON writes one whose members these are.
+pub fn listed(alloc: Global, members: &[String]) -> Result<String, AllocError> {
+    let mut out = String::from_str(alloc, "[")?;
+    let mut separator = "";
+    for member in members {
+        out.push_str(separator)?;
+        out.push_str(member.as_str())?;
+        separator = ",";
+    }
+    out.push_str("]")?;
+    Ok(out)
+}
