@@ -4,7 +4,7 @@
     tools/cases.py FOLDER
 
 FOLDER has files of JSON Lines, each named after a call: decimals, tokens, sheets, declarations, selectors, matches, values, cascade and
-truths; and in jobs/ and certs/ jobs and certificates with what the program replies. Long cases come behind these. What is called goes to
+truths; in jobs/ and certs/ jobs and certificates with what the program replies; and refusals.jsonl, jobs that are refused. Long cases come behind these. What is called goes to
 crates/cases/stdin and what it must give to crates/cases/stdout, a line of JSON each. A page goes flat: its nodes in document order, each
 with its parent's place; a formula as steps, each part before what it is a part of.
 """
@@ -257,6 +257,16 @@ def jobs(folder):
                 yield ["lay", text, int(width), int(size)], reply
 
 
+def refusals(folder):
+    """Jobs that are refused, but for their assertions."""
+    for line in (folder / "refusals.jsonl").read_text(encoding="utf-8").split("\n"):
+        case = json.loads(line) if line else {"pieces": []}
+        text = "".join(piece * times for kind, piece, times in case["pieces"] if kind == "text" and len(piece) * times < 20000)
+        whole = all(kind == "text" and len(piece) * times < 20000 for kind, piece, times in case["pieces"]) and len(text) < 20000
+        if whole and "line" in case and "formula" not in case["line"]:
+            yield ["lay", text, case["w"], case["s"]], ["JobRefused", case["line"] + "\n"]
+
+
 def certificates(folder):
     for name in ("003",):
         job = (folder / f"certs/{name}.json").read_text(encoding="utf-8")
@@ -304,7 +314,7 @@ def main():
                 arguments, answer = call(json.loads(line))
                 given.write(compact([call.__name__] + arguments) + "\n")
                 wanted.write(compact(answer) + "\n")
-        for called, answer in [*jobs(folder), *certificates(folder), *long_cases()]:
+        for called, answer in [*jobs(folder), *refusals(folder), *certificates(folder), *long_cases()]:
             given.write(compact(called) + "\n")
             wanted.write(compact(answer) + "\n")
 

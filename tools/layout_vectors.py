@@ -235,7 +235,7 @@ def collapsed_laws(case):
 def lead_laws(case):
     for at, around, past, margins, waiting, end in case["cases"]:
         passed = "none_passed" if past is None else f"(is_up_to {past})"
-        lead = f"lead (tree page ok) {world(case)} {case['height']} {passed} ({band((0, around))}) {at}"
+        lead = f"lead (tree page ok) {world(case)} {passed} ({band((0, around))}) {at}"
         yield law(f"({lead}).margins", numbers(margins))
         yield law(f"map (λ (f : Waiting ℤ). f.at) ({lead}).waiting", sequence(map(str, waiting)))
         yield law(f"({lead}).end", variant("end", [end[0]] + list(map(str, end[1:]))))
@@ -245,7 +245,7 @@ def resolve_laws(case):
     page = f"(tree page ok) {world(case)} {case['height']}"
     edge = f"(λ more. {number(case['e'])} +ℤ collapsed ({numbers(case['run'])} ++ more))"
     cleared = "None" if case["cleared"] is None else f"(Some ({case['cleared']}, {number(case['edge'])}))"
-    yield law(f"resolve {page} (waiting_size {page} (flow {page})) {edge} ({band(case['cb'])}) {floats(case['floats'])} {perhaps(case['least'], number)} {case['b']} none_passed",
+    yield law(f"resolve (tree page ok) {world(case)} (waiting_size {page} (flow {page})) {edge} ({band(case['cb'])}) {floats(case['floats'])} {perhaps(case['least'], number)} {case['b']} none_passed",
               record({"margins": numbers(case["lead"]), "cleared": cleared}))
 
 

@@ -1,0 +1,229 @@
+"""Reads job files and what the program prints of them: renderings, violations, open parts and certificates. Not proved."""
+import hashlib
+import json
+import re
+from dataclasses import dataclass, field
+
+KINDS = ("block", "anon", "float", "atomic", "replaced", "inline", "text", "line")
+UNITS = 64
+
+
+class NoAnswer(Exception):
+    """Why a text is none of the answers that can be shown, as one line."""
+
+
+# ---- job files
+
+@dataclass
+class Node:
+    """A node of the page: its name as a selector, or its text."""
+    name: str
+    element: dict | None
+
+
+@dataclass
+class Job:
+    widths: tuple
+    sizes: tuple
+    height: int
+    rule: str
+    page: dict
+    css: list
+    nodes: list
+    digest: str
+
+    def worlds(self):
+        return (self.widths[1] - self.widths[0] + 1) * (self.sizes[1] - self.sizes[0] + 1)
+
+
+def name_of(element):
+    attrs = {name.lower(): value for name, value in element.get("attrs", {}).items()}
+    name = element["tag"].lower()
+    if attrs.get("id", "").strip():
+        name += "#" + attrs["id"].strip()
+    return name + "".join("." + it for it in attrs.get("class", "").split())
+
+
+def nodes_of(page):
+    """The nodes of a page in document order, elements and texts."""
+    nodes, open_nodes = [], [page]
+    while open_nodes:
+        node = open_nodes.pop()
+        if isinstance(node, str):
+            nodes.append(Node(f"“{' '.join(node.split())[:40]}”", None))
+        else:
+            nodes.append(Node(name_of(node), node))
+            open_nodes.extend(reversed(node.get("children", [])))
+    return nodes
+
+
+def job_of(text):
+    """A job file; the program itself judges it whole."""
+    try:
+        told = json.loads(text)
+        ends = [tuple(told[name]) for name in ("widths", "sizes")]
+        if not all(len(end) == 2 and all(isinstance(it, int) and it > 0 for it in end) and end[0] <= end[1] for end in ends):
+            raise ValueError
+        return Job(*ends, int(told["height"]), str(told["assert"]), told["page"], list(told.get("css", [])), nodes_of(told["page"]),
+                   hashlib.sha256(text.encode()).hexdigest())
+    except (ValueError, KeyError, TypeError, AttributeError, RecursionError):
+        raise NoAnswer("the job file is no job") from None
+
+
+# ---- renderings and violations
+
+@dataclass
+class Box:
+    """A box: its kind, its node, and four rectangles (left, top, right, bottom) in units, from the margin's to the content's."""
+    kind: str
+    node: int
+    margin: tuple
+    border: tuple
+    padding: tuple
+    content: tuple
+
+
+EDGES = r"(-?\d+) (-?\d+) (-?\d+) (-?\d+)"
+BOX = re.compile(rf"({'|'.join(KINDS)}) (\d+) m {EDGES} b {EDGES} p {EDGES} c {EDGES}", re.A)
+
+
+def box_of(line):
+    found = BOX.fullmatch(line)
+    if not found:
+        raise NoAnswer(f"no box: {line[:60]}")
+    numbers = [int(it) for it in found.groups()[2:]]
+    return Box(found[1], int(found[2]), *(tuple(numbers[at:at + 4]) for at in (0, 4, 8, 12)))
+
+
+@dataclass
+class Rendering:
+    """Boxes at a world, or at one that isn't told; with the places of those that are blamed."""
+    boxes: list
+    world: tuple | None = None
+    blamed: list = field(default_factory=list)
+    violated: bool = False
+
+
+@dataclass
+class Open:
+    """The part of the range that is open yet."""
+    widths: tuple
+    sizes: tuple
+
+
+# ---- certificates
+
+@dataclass
+class Region:
+    """A part of the range that a leaf, grid or void closes: a rectangle of worlds, both ends in, and the splits that cut it."""
+    kind: str
+    widths: tuple
+    sizes: tuple
+    cuts: list
+    by_defs: bool
+
+
+@dataclass
+class Proof:
+    regions: list
+    splits: int
+    defs: int
+
+
+def row_of(text):
+    head, *terms = text.split(" ")
+    return int(head), {int(name): int(times) for name, times in (it.split(":") for it in terms)}
+
+
+def halves(row, widths, sizes, cuts, by_defs):
+    """The two parts of a region that a split makes, as rectangles where one variable has the coefficient 1 or -1."""
+    constant, terms = row
+    for side in (True, False):
+        if len(terms) == 1 and set(terms) <= {0, 1} and abs(next(iter(terms.values()))) == 1:
+            name, times = next(iter(terms.items()))
+            low, high = (widths, sizes)[name]
+            # side: constant + times * x >= 0, or at most -1
+            if times == 1:
+                cut = (max(low, -constant), high) if side else (low, min(high, -constant - 1))
+            else:
+                cut = (low, min(high, constant)) if side else (max(low, constant + 1), high)
+            yield (cut, sizes, cuts, by_defs) if name == 0 else (widths, cut, cuts, by_defs)
+        elif set(terms) <= {0, 1}:
+            sign = 1 if side else -1
+            line = (sign * constant - (0 if side else 1), sign * terms.get(0, 0), sign * terms.get(1, 0))
+            yield widths, sizes, cuts + [line], by_defs
+        else:
+            yield widths, sizes, cuts, True
+
+
+def past_derivation(lines, at):
+    """The line after a derivation."""
+    wanted = 1
+    while wanted:
+        if lines[at] == "closed":
+            wanted -= 1
+        elif lines[at].startswith("case "):
+            wanted += 1
+        elif not lines[at].startswith(("fact ", "sum ", "cut ")):
+            raise NoAnswer(f"line {at + 1} of the certificate is no step: {lines[at][:60]}")
+        at += 1
+    return at
+
+
+def proof_of(lines, job):
+    """The parts of the range that a certificate closes. Its derivations are passed over: vizlog check judges them."""
+    proof, at, waiting = Proof([], 0, 0), 2, [(job.widths, job.sizes, [], False)]
+    try:
+        while waiting:
+            widths, sizes, cuts, by_defs = waiting.pop()
+            line, at = lines[at], at + 1
+            if line.startswith("def "):
+                proof.defs += 1
+                waiting.append((widths, sizes, cuts, by_defs))
+            elif line.startswith("split "):
+                proof.splits += 1
+                waiting.extend(reversed(list(halves(row_of(line[6:]), widths, sizes, cuts, by_defs))))
+            elif line in ("grid", "void", "leaf"):
+                if line == "void":
+                    at = past_derivation(lines, at)
+                while line == "leaf" and lines[at] != "end":
+                    if not lines[at].startswith(("yes ", "no ")):
+                        raise NoAnswer(f"line {at + 1} of the certificate is no answer: {lines[at][:60]}")
+                    at = past_derivation(lines, at + 1)
+                at += line == "leaf"
+                proof.regions.append(Region(line, widths, sizes, cuts, by_defs))
+            else:
+                raise NoAnswer(f"line {at} of the certificate is no node: {line[:60]}")
+    except (IndexError, ValueError):
+        raise NoAnswer(f"line {at + 1} of the certificate is cut off or has no such row") from None
+    if at != len(lines):
+        raise NoAnswer(f"line {at + 1} of the certificate is behind its end")
+    return proof
+
+
+def answer_of(text, job):
+    """A rendering, a violation, a part that is open, or a certificate; all else has no picture."""
+    lines = text.split("\n")
+    if lines and lines[-1] == "":
+        lines.pop()
+    if not lines:
+        return Rendering([])
+    if lines[0] == "vizlog-cert 1" and len(lines) > 1 and re.fullmatch("job [0-9a-f]{64}", lines[1]):
+        if lines[1][4:] != job.digest:
+            raise NoAnswer("the certificate is for another job")
+        return proof_of(lines, job)
+    found = re.fullmatch(r"undecided (\d+) (\d+) (\d+) (\d+)", lines[0], re.A)
+    if found and len(lines) == 1:
+        ends = [int(it) for it in found.groups()]
+        return Open(tuple(ends[:2]), tuple(ends[2:]))
+    found = re.fullmatch(r"violated (\d+) (\d+)", lines[0], re.A)
+    if found:
+        blamed = [int(it[6:]) for it in lines if re.fullmatch(r"blame \d+", it, re.A)]
+        answer = Rendering([box_of(it) for it in lines[1 + len(blamed):]], (int(found[1]), int(found[2])), blamed, True)
+    elif lines[0].split(" ")[0] in KINDS:
+        answer = Rendering([box_of(it) for it in lines])
+    else:
+        raise NoAnswer(f"no picture for the answer: {lines[0][:80]}")
+    if any(box.node >= len(job.nodes) for box in answer.boxes) or any(it >= len(answer.boxes) for it in answer.blamed):
+        raise NoAnswer("the answer is not of this job: it names a node or box that isn't there")
+    return answer
