@@ -86,7 +86,12 @@ pub fn most_around<S: Steady>(
 }
 
 /// The minimum height of a box; a percentage of no definite height counts 0.
-pub fn least_around<S: Steady>(calc: &mut S, tree: &BoxTree, around: &Option<S::Num>, b: u32) -> S::Num
+pub fn least_around<S: Steady>(
+    calc: &mut S,
+    tree: &BoxTree,
+    around: &Option<S::Num>,
+    b: u32,
+) -> S::Num
     ensures goes { Goes (S.run calc.old) (S.run calc.new) }
     ensures value { Stands (S.run calc.new) (S.at result)
         (λ e. unwrap_or (height_in tree.now e.world (option_at S.at around.now e) (least_of tree.now b)) (pos 0)) }
