@@ -291,11 +291,6 @@ nonzero_is (pos zero) h = absurd (omega (arith, h.0))
 nonzero_is (pos (suc n)) h = let lt : suc n < 2 ^ 127 = omega (arith, h.1) in let fits : in_i128 (pos (suc n)) ≡ true = grind (arith, nat_tests) in rw (int_eq-false (pos (suc n)) (λ e. absurd (cc)), fits) refl
 nonzero_is (negsuc n) h = let fits : in_i128 (negsuc n) ≡ true = grind (arith, nat_tests) in fits
 
-pub and_parts : (a b : Bool) → (a && b) ≡ true → (a ≡ true) × (b ≡ true)
-and_parts true true h = (refl, refl)
-and_parts true false h = absurd (false≢true h)
-and_parts false b h = absurd (false≢true h)
-
 is_nonzero_in : (k : ℤ) → is_nonzero k ≡ true → InRange 1 k
 is_nonzero_in (pos zero) h = absurd (false≢true h)
 is_nonzero_in (pos (suc n)) h = let p = and_parts (not (int_eq (pos (suc n)) (pos 0))) (in_i128 (pos (suc n))) h in let r = is_in (pos (suc n)) p.1 in (omega arith, r.1)

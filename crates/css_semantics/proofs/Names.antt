@@ -2,6 +2,7 @@
 use Rattle.std.proofs.Common.{◌≡◌, ℕ, inl, inr, ◌↔◌, ◌==◌, Bool, true, false, cond, ◌||◌, List, [], ◌∷◌, ◌++◌, drop, refl, sym, ◌∙◌, ap, subst, arith}
 use Rattle.std.proofs.lemmas.Bool.Decides.{nat_tests}
 use Rattle.std.specs.List.{AllByRecursion, concat}
+use Rattle.std.proofs.lemmas.Bool.{or_left}
 use Rattle.viz_base.specs.declared.tokens.TokenKind.TheVariants.{Hash}
 use Rattle.css_semantics.specs.TokensLetters.{is_start, is_name}
 use Rattle.css_semantics.specs.TokensMacros.{Mark, Then, Maybe, Many, IsEscape, IsStart, IsNameChar, IsIdent}
@@ -20,10 +21,6 @@ or_left : (a b : Bool) → b ≡ false → (a || b) ≡ true → a ≡ true
 or_left true b e f = refl
 or_left false b e f = absurd (cc)
 
-or_true : (a b : Bool) → a ≡ true → (a || b) ≡ true
-or_true true b e = refl
-or_true false b e = absurd (cc)
-
 -- ---- an identifier begins as one
 
 escape_first : (p : List ℕ) → IsEscape p → (rest : List ℕ) × (p ≡ 92 ∷ rest)
@@ -31,20 +28,16 @@ escape_first p (inl u) = (u.back, u.whole ∙ ap (λ x. x ++ u.back) u.first)
 escape_first p (inr u) = (u.back, u.whole ∙ ap (λ x. x ++ u.back) u.first)
 
 start_plain : (p : List ℕ) → IsStart p → (rest : List ℕ) → begins_plain (p ++ rest) ≡ true
-start_plain p (inl o) rest = ap (λ x. begins_plain (x ++ rest)) o.1 ∙ or_true (is_start o.0) (o.0 == 92) o.2
+start_plain p (inl o) rest = ap (λ x. begins_plain (x ++ rest)) o.1 ∙ or_left (is_start o.0) (o.0 == 92) o.2
 start_plain p (inr e) rest = let h = escape_first p e in ap (λ x. begins_plain (x ++ rest)) h.1
 
 cond_false : (b x y : Bool) → b ≡ false → cond b x y ≡ y
 cond_false true x y e = absurd (cc)
 cond_false false x y e = refl
 
-cond_true : (b x y : Bool) → b ≡ true → cond b x y ≡ x
-cond_true true x y e = refl
-cond_true false x y e = absurd (cc)
-
 start_begins : (p : List ℕ) → IsStart p → (rest : List ℕ) → begins_identifier (p ++ rest) ≡ true
 start_begins p (inl o) rest =
-    ap (λ x. begins_identifier (x ++ rest)) o.1 ∙ cond_false (o.0 == 45) (begins_plain rest) (is_start o.0 || o.0 == 92) (start_is_no_dash o.0 o.2) ∙ or_true (is_start o.0) (o.0 == 92) o.2
+    ap (λ x. begins_identifier (x ++ rest)) o.1 ∙ cond_false (o.0 == 45) (begins_plain rest) (is_start o.0 || o.0 == 92) (start_is_no_dash o.0 o.2) ∙ or_left (is_start o.0) (o.0 == 92) o.2
 start_begins p (inr e) rest = let h = escape_first p e in ap (λ x. begins_identifier (x ++ rest)) h.1
 
 ident_by : (dash start rest : List ℕ) → Maybe (Mark 45) dash → IsStart start → begins_identifier (dash ++ (start ++ rest)) ≡ true
