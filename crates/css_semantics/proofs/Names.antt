@@ -17,9 +17,9 @@ start_is_no_dash c e = grind (arith, nat_tests)
 name_is_no_backslash : (c : ℕ) → is_name c ≡ true → (c == 92) ≡ false
 name_is_no_backslash c e = grind (arith, nat_tests)
 
-or_left : (a b : Bool) → b ≡ false → (a || b) ≡ true → a ≡ true
-or_left true b e f = refl
-or_left false b e f = absurd (cc)
+first_of_two : (a b : Bool) → b ≡ false → (a || b) ≡ true → a ≡ true
+first_of_two true b e f = refl
+first_of_two false b e f = absurd (cc)
 
 -- ---- an identifier begins as one
 
@@ -52,7 +52,7 @@ ident_begins p h = ap begins_identifier (h.whole ∙ ap (λ x. h.front ++ x) h.s
 start_by : (p : List ℕ) (c : ℕ) (rest : List ℕ) → p ≡ c ∷ [] → is_name c ≡ true → begins_plain (p ++ rest) ≡ true → IsStart p
 start_by p c rest is n e =
     let plain : (is_start c || c == 92) ≡ true = ap (λ x. begins_plain (x ++ rest)) (sym is) ∙ e in
-    inl (c, is, or_left (is_start c) (c == 92) (name_is_no_backslash c n) plain)
+    inl (c, is, first_of_two (is_start c) (c == 92) (name_is_no_backslash c n) plain)
 
 start_of_char : (p rest : List ℕ) → IsNameChar p → begins_plain (p ++ rest) ≡ true → IsStart p
 start_of_char p rest (inl o) e = start_by p o.0 rest o.1 o.2 e
@@ -68,7 +68,7 @@ behind_dash rest m e = subst (Then IsStart (Many IsNameChar)) (sym m.whole) (aft
 dash_or : (b : Bool) (c : ℕ) (rest : List ℕ) → (c == 45) ≡ b → (b ≡ true → c ≡ 45) → is_name c ≡ true → Many IsNameChar rest → cond b (begins_plain rest) (is_start c || c == 92) ≡ true → IsIdent (c ∷ rest)
 dash_or true c rest is same n m e = record { front = c ∷ []; back = rest; whole = refl; first = inr (ap (λ x. x ∷ []) (same refl)); second = behind_dash rest m e }
 dash_or false c rest is same n m e =
-    record { front = []; back = c ∷ rest; whole = refl; first = inl refl; second = record { front = c ∷ []; back = rest; whole = refl; first = inl (c, refl, or_left (is_start c) (c == 92) (name_is_no_backslash c n) e); second = m } }
+    record { front = []; back = c ∷ rest; whole = refl; first = inl refl; second = record { front = c ∷ []; back = rest; whole = refl; first = inl (c, refl, first_of_two (is_start c) (c == 92) (name_is_no_backslash c n) e); second = m } }
 
 name_begins : (first rest : List ℕ) → IsNameChar first → Many IsNameChar rest → begins_identifier (first ++ rest) ≡ true → IsIdent (first ++ rest)
 name_begins first rest (inl o) m e =
