@@ -7,6 +7,7 @@ use Rattle.css_semantics.specs.Matching.{IsParent, IsAncestor, parent, further, 
 use Rattle.css_select.specs.steps.Trees.{IsLastChildBefore, NoChildBefore}
 use Rattle.std.specs.Bool.{Decides}
 use Rattle.std.proofs.lemmas.Bool.Decides.{Decides-eqb, Decides-ltb}
+use Rattle.std.proofs.lemmas.Option.{same_Some}
 
 and_first : (a b : Bool) → (a && b) ≡ true → a ≡ true
 and_first true b e = refl
