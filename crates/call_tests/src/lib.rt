@@ -20,6 +20,8 @@ mod collapsed_margins;
 #[cfg(test)]
 mod computed_styles;
 #[cfg(test)]
+mod empty_trees;
+#[cfg(test)]
 mod full_certificates;
 #[cfg(test)]
 mod judged_formulas;

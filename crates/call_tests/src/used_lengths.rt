@@ -1,20 +1,8 @@
+use crate::empty_trees::no_boxes;
 use lay_length::{ascent, descent, font_size, line_height, text_width, used};
-use std::alloc::Global;
 use std::test::Fail;
-use viz_base::{BoxTree, Length, List, World};
+use viz_base::{Length, World};
 use viz_calc::Plain;
-
-fn no_boxes(alloc: Global) -> BoxTree
-    ensures boxes { result.boxes ≡ [] }
-    ensures styles { result.styles ≡ [] }
-{
-    BoxTree {
-        boxes: List::new(alloc),
-        styles: List::new(alloc),
-        fonts: List::new(alloc),
-        parents: List::new(alloc),
-    }
-}
 
 #[test]
 fn measures_without_nodes(rt: HostRuntime) -> Result<(), Fail> {

@@ -1,20 +1,8 @@
+use crate::empty_trees::no_boxes;
 use lay_width::widths;
-use std::alloc::Global;
 use std::test::Fail;
-use viz_base::{BoxTree, List, Preferred, Widths, World};
+use viz_base::{Preferred, Widths, World};
 use viz_calc::Plain;
-
-fn no_boxes(alloc: Global) -> BoxTree
-    ensures boxes { result.boxes ≡ [] }
-    ensures styles { result.styles ≡ [] }
-{
-    BoxTree {
-        boxes: List::new(alloc),
-        styles: List::new(alloc),
-        fonts: List::new(alloc),
-        parents: List::new(alloc),
-    }
-}
 
 #[test]
 fn fills_the_containing_block(rt: HostRuntime) -> Result<(), Fail> {

@@ -1,8 +1,6 @@
 //! Used lengths, font sizes, line heights and the widths of texts, over any arithmetic.
 #![tactic(auto)]
 
-ghost use Rattle.std.specs.Prelude.{◌≡◌, []};
-
 pub mod fonts;
 mod front;
 pub mod lengths;

@@ -1,8 +1,6 @@
 //! The used widths and horizontal margins of boxes, over any arithmetic.
 #![tactic(auto)]
 
-ghost use Rattle.std.specs.Prelude.{◌≡◌, []};
-
 pub mod engine;
 mod front;
 pub mod heights;
