@@ -2,7 +2,7 @@
 """Measures `lay_float`: processor time, by the number of floats of one block formatting context.
 
 The floats are placed one after the other: in rows of four, in one column, and of changing sizes on both sides. Each is a case of the
-program `layout_cases`, so the time includes that of reading and writing a line. A float looks at each earlier one a bounded number of
+program `cases`, so the time includes that of reading and writing a line. A float looks at each earlier one a bounded number of
 times at each top that it tries, so the time may grow with the square of the count: from 250 floats to 1,000 by at most 16 within noise
 (a ratio of times below 32). Run it at the top: bench/floats.py
 """
@@ -11,7 +11,7 @@ import sys
 
 from programs import TOP, measure
 
-PROGRAM = TOP / "crates/layout_cases/out/layout_cases"
+PROGRAM = TOP / "crates/cases/out/cases"
 SIZES = (250, 500, 1000)
 RUNS = 5
 
@@ -31,7 +31,7 @@ def mixed(count):
 
 def main():
     if not PROGRAM.exists():
-        sys.exit(f"{PROGRAM.relative_to(TOP)} is not there: run .ci/run, or 'rt run' in crates/layout_cases")
+        sys.exit(f"{PROGRAM.relative_to(TOP)} is not there: run .ci/run, or 'rt run' in crates/cases")
     for floats in (rows, column, mixed):
         times = [measure([str(PROGRAM)], RUNS, json.dumps(["floats", floats(size)]) + "\n") for size in SIZES]
         ratio = times[-1] / times[0]

@@ -4,7 +4,8 @@
     tools/cases.py FOLDER
 
 FOLDER has files of JSON Lines, each named after a call: decimals, tokens, sheets, declarations, selectors, matches, values, cascade and
-truths; in jobs/ and certs/ jobs and certificates with what the program replies; and refusals.jsonl, jobs that are refused. Long cases come behind these. What is called goes to
+truths; in jobs/ and certs/ jobs and certificates with what the program replies; and refusals.jsonl, jobs that are refused. Long
+cases come behind these, and the cases of layout that tools/layout_cases.py reads. What is called goes to
 crates/cases/stdin and what it must give to crates/cases/stdout, a line of JSON each. A page goes flat: its nodes in document order, each
 with its parent's place; a formula as steps, each part before what it is a part of.
 """
@@ -12,6 +13,9 @@ import json
 import pathlib
 import re
 import sys
+
+sys.dont_write_bytecode = True
+import layout_cases  # noqa: E402
 
 TOP = pathlib.Path(__file__).resolve().parent.parent
 
@@ -314,7 +318,7 @@ def main():
                 arguments, answer = call(json.loads(line))
                 given.write(compact([call.__name__] + arguments) + "\n")
                 wanted.write(compact(answer) + "\n")
-        for called, answer in [*jobs(folder), *refusals(folder), *certificates(folder), *long_cases()]:
+        for called, answer in [*jobs(folder), *refusals(folder), *certificates(folder), *long_cases(), *layout_cases.cases(folder)]:
             given.write(compact(called) + "\n")
             wanted.write(compact(answer) + "\n")
 

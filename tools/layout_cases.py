@@ -1,23 +1,11 @@
-#!/usr/bin/env python3
-"""Writes the table of outside cases that the crate `layout_cases` runs, from a folder of cases.
+"""The part of the table of outside cases that tools/cases.py writes which is of layout, rows and derivations.
 
-    tools/layout_cases.py FOLDER
-
-FOLDER has files of JSON Lines: functions.jsonl, whose lines have a `call` (float_at, band, bottom, collapsed and others, which are left
-out), rows.jsonl, whose lines have one too (add_scaled, negate, divides, cut), and derivations.jsonl. What is called goes to
-crates/layout_cases/stdin and what it must give to crates/layout_cases/stdout, a line of JSON each. A row goes as its constant and its
+The folder has files of JSON Lines: functions.jsonl, whose lines have a `call` (float_at, band, bottom, collapsed and others, which are left
+out), rows.jsonl, whose lines have one too (add_scaled, negate, divides, cut), and derivations.jsonl. A row goes as its constant and its
 terms, numbers of more than 64 bits as texts; a derivation as a list of parts, each its steps and its end, which is null or a row: its two
 cases are the two latest parts that are not part of another.
 """
 import json
-import pathlib
-import sys
-
-TOP = pathlib.Path(__file__).resolve().parent.parent
-
-
-def compact(value):
-    return json.dumps(value, ensure_ascii=False, separators=(",", ":"))
 
 
 # ---- layout
@@ -100,14 +88,3 @@ def cases(folder):
                 arguments, answer = call(case)
                 yield [call.__name__] + arguments, answer
 
-
-def main():
-    folder = pathlib.Path(sys.argv[1])
-    crate = TOP / "crates/layout_cases"
-    with open(crate / "stdin", "w", encoding="utf-8", newline="") as given, open(crate / "stdout", "w", encoding="utf-8", newline="") as wanted:
-        for called, answer in cases(folder):
-            given.write(compact(called) + "\n")
-            wanted.write(compact(answer) + "\n")
-
-
-main()

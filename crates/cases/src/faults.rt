@@ -2,6 +2,7 @@ use std::alloc::{AllocError, AllocFailed};
 use std::io;
 use thiserror::Error;
 use viz_base::Mem;
+use viz_calc::Halt;
 
 /// Why the table could not be run.
 #[derive(Debug, Drop, Error)]
@@ -44,5 +45,14 @@ impl From<io::Error> for Fault {
 impl From<serde_json::Error> for Fault {
     fn from(_: serde_json::Error) -> Self {
         Fault::NoCase
+    }
+}
+
+impl From<Halt> for Fault {
+    fn from(halt: Halt) -> Self {
+        match halt {
+            Halt::Mem => Fault::Mem,
+            Halt::Coeff | Halt::Open => Fault::NoCase,
+        }
     }
 }

@@ -17,10 +17,27 @@ pub fn integer_at(value: &Value, place: usize) -> Result<i64, Fault> {
     at(value, place)?.as_i64().ok_or(Fault::NoCase)
 }
 
+/// A number of the layout, in 1/64 px.
+pub fn units(value: &Value) -> Result<i128, Fault> {
+    Ok(i128::from(value.as_i64().ok_or(Fault::NoCase)?))
+}
+
+/// The one at a place of an array.
+pub fn units_at(value: &Value, place: usize) -> Result<i128, Fault> {
+    units(at(value, place)?)
+}
+
 /// The number of 32 bits at a place of an array.
 pub fn number_at(value: &Value, place: usize) -> Result<u32, Fault> {
     let number = at(value, place)?.as_u64().ok_or(Fault::NoCase)?;
     u32::try_from(number).map_err(|_| Fault::NoCase)
+}
+
+/// The number of 128 bits that is written as a text at a place of an array.
+pub fn wide_at(value: &Value, place: usize) -> Result<i128, Fault> {
+    text_at(value, place)?
+        .parse::<i128>()
+        .map_err(|_| Fault::NoCase)
 }
 
 /// The members of the array at a place of an array.

@@ -2,11 +2,15 @@
 #![tactic(auto)]
 
 mod cascades;
+mod derivations;
 mod faults;
+mod floats;
 mod formulas;
 mod json;
+mod margins;
 mod pages;
 mod replies;
+mod rows;
 mod selectors;
 mod sheets;
 mod tokens;
@@ -27,6 +31,23 @@ fn decimal(alloc: Global, text: &str) -> Result<String, Fault> {
     }
 }
 
+/// The answer to a case of layout, of rows or of derivations.
+fn answer_below(alloc: Global, name: &str, case: &Value) -> Result<String, Fault> {
+    match name {
+        "float_at" => floats::place(alloc, case),
+        "floats" => floats::place_all(alloc, case),
+        "band" => floats::band(alloc, case),
+        "bottom" => floats::bottom(alloc, case),
+        "collapsed" => margins::collapsed(alloc, case),
+        "add_scaled" => rows::add_scaled(alloc, case),
+        "negate" => rows::negate(alloc, case),
+        "divides" => rows::divides(alloc, case),
+        "cut" => rows::cut(alloc, case),
+        "derivation" => derivations::judged(alloc, case),
+        _ => Err(Fault::NoCase),
+    }
+}
+
 /// The answer to a case: an array of the call's name and what it is called with.
 fn answer(alloc: Global, line: &str) -> Result<String, Fault> {
     let case = Value::from_str(alloc, line)?;
@@ -42,7 +63,7 @@ fn answer(alloc: Global, line: &str) -> Result<String, Fault> {
         "truths" => truths::answer(alloc, &case),
         "lay" => replies::laid(alloc, &case),
         "check" => replies::checked(alloc, &case),
-        _ => Err(Fault::NoCase),
+        name => answer_below(alloc, name, &case),
     }
 }
 

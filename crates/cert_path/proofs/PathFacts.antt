@@ -37,9 +37,6 @@ from_meets : (v : ℕ → ℤ) (fs : List Form) → Meets v fs → AllMeet v fs
 from_meets v [] h = tt
 from_meets v (f ∷ fs) h = (h zero f refl, from_meets v fs (λ n g is. h (suc n) g is))
 
-AllLocal : ℕ → List Form → Type 0
-AllLocal n = AllByRecursion (Local n)
-
 moved : (n : ℕ) (v w : ℕ → ℤ) → Agree n v w → (fs : List Form) → AllByRecursion (Local n) fs → AllMeet v fs → AllMeet w fs
 moved n v w same [] l h = tt
 moved n v w same (f ∷ fs) l h = (subst (λ z. pos 0 ≤ℤ z) (l.0 v w same) h.0, moved n v w same fs l.1 h.1)

@@ -2,7 +2,7 @@
 use Rattle.std.proofs.Common.{◌≡◌, ℕ, zero, suc, ◌-◌, ◌<◌, ◌==◌, ◌&&◌, nat_lt, ℤ, pos, Bool, true, false, inl, inr, List, [], ◌∷◌, ◌++◌, length, refl, sym, ◌∙◌, ap, subst, arith, append_assoc, codes, rules, lit<, length-append}
 use Rattle.std.specs.Fmt.{decimal}
 use Rattle.std.specs.List.{flat_map, concat, list_all, AllByRecursion}
-use Rattle.std.proofs.lemmas.Bool.{false≢true}
+use Rattle.std.proofs.lemmas.Bool.{false≢true, and_parts}
 use Rattle.std.proofs.lemmas.Bool.Decides.{nat_tests}
 use Rattle.std.proofs.lemmas.List.{append-nil}
 use Rattle.hex.specs.Hex.{encode_lower}
@@ -28,7 +28,7 @@ use Rattle.cert_text.proofs.Language.{Lang, Dep, Done, Word}
 use Rattle.cert_text.proofs.Digests.{BytesText, read_bytes-right, plain_bytes, some_bytes}
 use Rattle.cert_text.proofs.Grammars.{Grammar, Either, Avoids, Loop, Items, Turns, good_word, good_done, good_seq, good_same, good_either, good_loop, begins_word, avoids_word, avoids_either}
 use Rattle.cert_text.proofs.Naturals.{NaturalEnd, good_natural}
-use Rattle.cert_text.proofs.Rows.{lines, fit_times, and_parts, line_is, RowText, good_row}
+use Rattle.cert_text.proofs.Rows.{lines, fit_times, line_is, RowText, good_row}
 use Rattle.cert_text.proofs.Derivations.{Any, DerivationText, good_derivation, times_is, times_below}
 
 -- ---- answers

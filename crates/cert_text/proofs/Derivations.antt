@@ -2,7 +2,7 @@
 use Rattle.std.proofs.Common.{◌≡◌, ℕ, zero, suc, ◌-◌, ◌^◌, ◌<◌, ◌≤◌, ◌==◌, ◌&&◌, nat_lt, ℤ, pos, negsuc, Bool, true, false, cond, inl, inr, List, [], ◌∷◌, ◌++◌, length, refl, sym, ◌∙◌, ap, subst, arith, append_assoc, codes, rules, lit≤, lit<, length-append}
 use Rattle.std.specs.Fmt.{decimal}
 use Rattle.std.specs.List.{flat_map, concat, list_all}
-use Rattle.std.proofs.lemmas.Bool.{false≢true}
+use Rattle.std.proofs.lemmas.Bool.{false≢true, and_parts}
 use Rattle.std.proofs.lemmas.Bool.Decides.{nat_tests}
 use Rattle.std.proofs.lemmas.List.{append-nil}
 use Rattle.lin_row.specs.Form.{Form}
@@ -26,7 +26,7 @@ use Rattle.cert_text.specs.steps.full.Readers.{Reader, give, seq, either, loop}
 use Rattle.cert_text.proofs.Language.{Lang, Dep, Done, Word}
 use Rattle.cert_text.proofs.Grammars.{Grammar, Either, Loop, Items, Turns, good_word, good_done, good_seq, good_same, good_either, good_loop, begins_word, avoids_word, avoids_either}
 use Rattle.cert_text.proofs.Naturals.{NaturalEnd, NoDigits, good_natural}
-use Rattle.cert_text.proofs.Rows.{space_or_line, lines, colons, fit_num, fit_times, and_parts, num_is, num_below, colon_is, line_is, eq_ten, either_is, RowText, good_row}
+use Rattle.cert_text.proofs.Rows.{space_or_line, lines, colons, fit_num, fit_times, num_is, num_below, colon_is, line_is, eq_ten, either_is, RowText, good_row}
 
 -- ---- parts of sums
 
@@ -537,9 +537,6 @@ to_flat v t h = by_flag h.first.1 (steps_to 0 0 h.first.0 h.first.1 h.front h.fi
     by_flag : (b : Bool) → StepsText 0 h.first.0 b h.front → DerivationText 0 v t
     by_flag true s = closed_text 0 h.first.0 h.front h.back t v s h.whole h.back_text.0 h.back_text.1
     by_flag false s = absurd (omega (arith, s.deep refl))
-
-no_cases : (cases : ℕ) → cases ≡ 0 → nat_lt 0 cases ≡ true → ⊥
-no_cases cases none h = let lt : 0 < cases = grind (arith, nat_tests) in omega arith
 
 from_flat : (v : Derivation) (t : List ℕ) → DerivationText 0 v t → FlatParts v t
 unfolding FlatParts ending_word

@@ -10,10 +10,6 @@ abbrev pub put_items : {A B : Type 0} → List A → Answer (List A × B) → An
 put_items done (Ok r) = Ok ((done ++ r.0.0, r.0.1), r.1)
 put_items done (Err e) = Err e
 
-pub put_items-none : {A B : Type 0} (r : Answer (List A × B)) → put_items [] r ≡ r
-put_items-none (Ok r) = refl
-put_items-none (Err e) = refl
-
 put_items-push : {A B : Type 0} (done : List A) (a : A) (r : Answer (List A × B)) → put_items done (r >>= λ o. Ok ((a ∷ o.0.0, o.0.1), o.1)) ≡ put_items (done ++ a ∷ []) r
 put_items-push done a (Ok r) = ap (λ items. Ok ((items, r.0.1), r.1)) (sym (append_assoc done (a ∷ []) r.0.0))
 put_items-push done a (Err e) = refl

@@ -2,7 +2,7 @@
 use Rattle.std.proofs.Common.{◌≡◌, ℕ, zero, suc, ◌+◌, ◌-◌, ◌*◌, ◌/◌, ◌%◌, ◌^◌, ◌<◌, ◌≤◌, ◌==◌, ◌&&◌, ◌||◌, nat_le, ℤ, pos, negsuc, Bool, true, false, cond, ◌⊎◌, inl, inr, List, [], ◌∷◌, ◌++◌, Ok, Err, refl, sym, ◌∙◌, ap, subst, arith, codes, lit<}
 use Rattle.std.specs.Fmt.{decimal}
 use Rattle.std.specs.List.{AllByRecursion}
-use Rattle.std.proofs.lemmas.Bool.{false≢true}
+use Rattle.std.proofs.lemmas.Bool.{false≢true, and_parts}
 use Rattle.std.proofs.lemmas.Bool.Decides.{nat_tests}
 use Rattle.std.proofs.lemmas.Fmt.{decimal_digit, decimal_step_wide}
 use Rattle.std.proofs.lemmas.List.{append-nil}
@@ -48,11 +48,6 @@ spans_more n low high spans x ge le =
     let value : number_after n (s.0 ++ (48 + x % 10) ∷ []) ≡ x = number_push n s.0 (48 + x % 10) ∙ omega arith in
     (s.0 ++ (48 + x % 10) ∷ [], digits_push s.0 (48 + x % 10) s.1 code, value)
 
-both : (a b : Bool) → (a && b) ≡ true → (a ≡ true) × (b ≡ true)
-both true true h = (refl, refl)
-both true false h = absurd (false≢true h)
-both false b h = absurd (false≢true h)
-
 within_at : (n least most low high x : ℕ) → Spans n low high → low ≤ x → x ≤ high → least ≤ x → x ≤ most → Within least most n
 within_at n least most low high x spans a b c d =
     let s = spans x a b in
@@ -71,7 +66,7 @@ reached : (k n least most low high : ℕ) → reaches k least most low high ≡ 
 unfolding reaches
 reached zero n least most low high h spans lh am = absurd (false≢true h)
 reached (suc k) n least most low high h spans lh am =
-    let parts = both (nat_le low most) _ h in
+    let parts = and_parts (nat_le low most) _ h in
     let first = parts.0 in
     let lm : low ≤ most = grind (arith, nat_tests) in
     reached_by (nat_le least high) (reaches k least most (10 * low) (10 * high + 9)) k n least most low high refl parts.1 spans lh lm am
@@ -186,7 +181,7 @@ number_by : (b g : Bool) (ends : ℕ × ℕ) (least most n c : ℕ) (cs : List �
     → (IsDigit c → Within least most (10 * n + (c - 48)) → IsRead (NumberOn ends least most (10 * n + (c - 48))) cs (number_on ends least most (10 * n + (c - 48)) cs))
     → IsRead (NumberOn ends least most n) (c ∷ cs) (cond b (Ok ((n, c), cs)) (cond g (number_on ends least most (10 * n + (c - 48)) cs) (Err (c ∷ cs))))
 number_by true g ends least most n c cs nod one near above am w eb eg below =
-    let parts = both (is_one_of ends c) (nat_le least n) eb in
+    let parts = and_parts (is_one_of ends c) (nat_le least n) eb in
     let enough = parts.1 in
     let al : least ≤ n = grind (arith, nat_tests) in
     record {
@@ -326,7 +321,7 @@ first_refused ends least most text one bound am some h = record {
 first_by : (g : Bool) (ends : ℕ × ℕ) (least most c : ℕ) (cs : List ℕ) → NoDigits ends → is_one_of ends ends.0 ≡ true → Near least most → most ≤ 2 ^ 127 → least ≤ most → 1 ≤ most
     → (nat_le 49 c && goes_on least most 0 c) ≡ g → IsRead (FirstDigits ends least most) (c ∷ cs) (cond g (number_on ends least most (10 * 0 + (c - 48)) cs) (Err (c ∷ cs)))
 first_by true ends least most c cs nod one near bound am some eg =
-    let parts = both (nat_le 49 c) (goes_on least most 0 c) eg in
+    let parts = and_parts (nat_le 49 c) (goes_on least most 0 c) eg in
     let head = parts.0 in
     let low : 49 ≤ c = grind (arith, nat_tests) in
     let m = 10 * 0 + (c - 48) in

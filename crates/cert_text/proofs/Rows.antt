@@ -3,7 +3,7 @@ use Rattle.std.proofs.Common.{◌≡◌, ℕ, zero, suc, ◌+◌, ◌-◌, ◌^�
 use Rattle.std.specs.Fmt.{decimal}
 use Rattle.std.specs.List.{flat_map}
 use Rattle.std.specs.Ordering.{int_eq}
-use Rattle.std.proofs.lemmas.Bool.{false≢true}
+use Rattle.std.proofs.lemmas.Bool.{false≢true, and_parts}
 use Rattle.std.proofs.lemmas.Bool.Decides.{nat_tests}
 use Rattle.std.proofs.lemmas.List.{append-nil}
 use Rattle.lin_row.specs.Form.{Form, Terms, IsCanonical, IsAbove}
@@ -290,11 +290,6 @@ nonzero_is : (k : ℤ) → InRange 1 k → is_nonzero k ≡ true
 nonzero_is (pos zero) h = absurd (omega (arith, h.0))
 nonzero_is (pos (suc n)) h = let lt : suc n < 2 ^ 127 = omega (arith, h.1) in let fits : in_i128 (pos (suc n)) ≡ true = grind (arith, nat_tests) in rw (int_eq-false (pos (suc n)) (λ e. absurd (cc)), fits) refl
 nonzero_is (negsuc n) h = let fits : in_i128 (negsuc n) ≡ true = grind (arith, nat_tests) in fits
-
-pub and_parts : (a b : Bool) → (a && b) ≡ true → (a ≡ true) × (b ≡ true)
-and_parts true true h = (refl, refl)
-and_parts true false h = absurd (false≢true h)
-and_parts false b h = absurd (false≢true h)
 
 is_nonzero_in : (k : ℤ) → is_nonzero k ≡ true → InRange 1 k
 is_nonzero_in (pos zero) h = absurd (false≢true h)

@@ -13,6 +13,3 @@ pub use laws::{no_text_begins_another, one_certificate, one_spelling};
 pub use read::read_cert;
 pub use spelling::has_spelling;
 pub use write::write_cert;
-
-#[cfg(test)]
-mod tests;

@@ -12,6 +12,3 @@ pub use certificate::{Cert, CertFault, CertNode};
 pub use laws::{no_text_begins_another, one_certificate, one_spelling};
 pub use read::read_cert;
 pub use write::write_cert;
-
-#[cfg(test)]
-mod tests;

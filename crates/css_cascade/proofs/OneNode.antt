@@ -1,6 +1,7 @@
 -- A page of one element.
 use Rattle.std.proofs.Common.{◌≡◌, ℕ, ◌≤◌, zero, suc, [], ◌∷◌, length, Some, None, slice_get, refl, subst, lit≤, IsTrue}
 use Rattle.std.specs.Str.{chars}
+use Rattle.std.proofs.lemmas.Str.{chars-nil}
 use Rattle.viz_base.specs.declared.nodes.Body.TheVariants as of_body
 use Rattle.viz_base.specs.declared.nodes.Element.{Element}
 use Rattle.viz_base.specs.declared.nodes.Node.{Node}
@@ -17,12 +18,8 @@ only : (e : Element) (at : ℕ) (n : Node) → slice_get (root e ∷ []) at ≡ 
 only e zero n is = (refl, cc)
 only e (suc at) n is = absurd (none_past at n is)
 
-no_letters : chars [] ≡ []
-unfolding chars
-no_letters = refl
-
 few_letters : length (chars []) ≤ 262144
-few_letters = rw no_letters (lit≤ tt)
+few_letters = rw chars-nil (lit≤ tt)
 
 pub one_node : (e : Element) → IsTrue (has_lower_names (of_body.Element e)) → IsPage (root e ∷ [])
 one_node e lower = record {

@@ -5,6 +5,7 @@ use Rattle.std.specs.List.{list_all}
 use Rattle.std.specs.Option.{option_to_list}
 use Rattle.std.specs.Ordering.{is_gt}
 use Rattle.std.proofs.lemmas.Bool.Decides.{nat_tests}
+use Rattle.std.proofs.lemmas.Bool.{and_parts}
 use Rattle.viz_base.specs.declared.nodes.Node.{Node}
 use Rattle.viz_base.specs.declared.settings.Prop.{Prop}
 use Rattle.viz_base.specs.declared.settings.Prop.TheVariants as prop
@@ -83,10 +84,6 @@ all_pass p (a ∷ all) =
     (λ t. subst (λ b. list_all (is_of p) (cond b (a ∷ filter (is_of p) all) (filter (is_of p) all)) ≡ true) (sym t) (ap (λ b. b && list_all (is_of p) (filter (is_of p) all)) t ∙ all_pass p all))
     (λ f. subst (λ b. list_all (is_of p) (cond b (a ∷ filter (is_of p) all) (filter (is_of p) all)) ≡ true) (sym f) (all_pass p all))
 
-both : (a b : Bool) → (a && b) ≡ true → (a ≡ true) × (b ≡ true)
-both true b e = (refl, e)
-both false b e = cc
-
 one_of_two : (p : Prop) (b : Bool) (x y : Applied) → is_of p x ≡ true → is_of p y ≡ true → is_of p (cond b x y) ≡ true
 one_of_two p true x y e f = e
 one_of_two p false x y e f = f
@@ -94,7 +91,7 @@ one_of_two p false x y e f = f
 from_passes : (p : Prop) (best : Applied) (all : List Applied) → is_of p best ≡ true → list_all (is_of p) all ≡ true → is_of p (greatest_from cascade_cmp best all) ≡ true
 from_passes p best [] e f = e
 from_passes p best (a ∷ all) e f =
-    let h = both (is_of p a) (list_all (is_of p) all) f in
+    let h = and_parts (is_of p a) (list_all (is_of p) all) f in
     from_passes p (later_of cascade_cmp best a) all (one_of_two p (is_gt (cascade_cmp best a)) best a e h.0) h.1
 
 abbrev HasProp : Prop → Option Applied → Type 0
@@ -104,7 +101,7 @@ HasProp p (Some a) = a.claim.prop ≡ p
 greatest_passes : (p : Prop) (all : List Applied) → list_all (is_of p) all ≡ true → HasProp p (greatest cascade_cmp all)
 greatest_passes p [] e = tt
 greatest_passes p (a ∷ all) e =
-    let h = both (is_of p a) (list_all (is_of p) all) e in
+    let h = and_parts (is_of p a) (list_all (is_of p) all) e in
     same_prop (greatest_from cascade_cmp a all).claim.prop p (from_passes p a all h.0 h.1)
 
 winner_has : (p : Prop) (all : List Applied) → HasProp p (winner_of p all)

@@ -25,9 +25,6 @@ pub one_more : {A B E : Type 0} {Gives : A → Result (List B) E → Type 0} {x 
 one_more ys (Ok zs) g h = joined g h
 one_more ys (Err e) g h = refused_behind g h
 
-pub reached_start : {A B E : Type 0} (Gives : A → Result (List B) E → Type 0) (xs : List A) → Reached Gives xs 0 []
-reached_start Gives xs = record { goes = λ answer h. subst (Each Gives xs) (behind_nothing answer) h }
-
 pub drop_at : {A : Type 0} (xs : List A) (i : ℕ) (x : A) → i < length xs → x ≡ get_or xs i x → drop i xs ≡ x ∷ drop (i + 1) xs
 drop_at xs i x l e = rw add-one (subst (λ y. drop i xs ≡ y ∷ drop (suc i) xs) (sym e) (drop-cons xs i x l))
 

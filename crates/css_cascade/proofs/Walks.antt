@@ -19,9 +19,6 @@ pub record ReachedNodes (nodes : List Node) (rulesets : List Ruleset) (at : ℕ)
   pub count : length winners ≡ at
   pub goes : (answer : Answer) → Goes nodes rulesets standings winners (drop at nodes) answer → Goes nodes rulesets [] [] nodes answer
 
-pub nodes_start : (nodes : List Node) (rulesets : List Ruleset) → ReachedNodes nodes rulesets 0 [] []
-nodes_start nodes rulesets = record { count = refl; goes = λ answer h. h }
-
 pub nodes_more : (nodes : List Node) (rulesets : List Ruleset) (at : ℕ) (standings : List Standing) (winners : List (List Setting)) (node : Node) (settings : List Setting) (standing : Standing) → at < length nodes → node ≡ get_or nodes at node → ReachedNodes nodes rulesets at standings winners → ComesTo nodes rulesets standings at node (Ok (settings, standing)) → ReachedNodes nodes rulesets (at + 1) (standings ++ standing ∷ []) (winners ++ settings ∷ [])
 nodes_more nodes rulesets at standings winners node settings standing l e r h = record {
   count = simp length-append (ap (λ n. n + 1) r.count);

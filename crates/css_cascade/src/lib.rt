@@ -9,8 +9,6 @@ mod nodes;
 mod order;
 mod reading;
 mod sources;
-#[cfg(test)]
-mod tests;
 
 pub use cascading::cascade;
 pub use defaults::default_sheet;

@@ -172,9 +172,6 @@ test_begins (pseudo_class {colon = colon} {name = name} k m p) = record { first 
 test_begins (language colon function name closing before behind k f l g m e r) =
     record { first = colon; rest = function ∷ (before ++ name ∷ (behind ++ closing ∷ [])); whole = refl; starts = ap starts_compound k }
 
-begins_some : {ts : List Token} → Begins ts → 0 < length ts
-begins_some h = let e = ap length h.whole in omega arith
-
 tests_begin : {ts : List Token} {tests : List Test} {others : List ℕ} → AreTests ts tests others → 0 < length ts → Begins ts
 tests_begin no_test some = absurd (omega arith)
 tests_begin (one_more ts piece h t) some = begins_more ts piece (tests_begin h) (test_begins t)

@@ -7,6 +7,7 @@ use Rattle.css_semantics.specs.Matching.{IsParent, IsAncestor, parent, further, 
 use Rattle.css_select.specs.steps.Trees.{IsLastChildBefore, NoChildBefore}
 use Rattle.std.specs.Bool.{Decides}
 use Rattle.std.proofs.lemmas.Bool.Decides.{Decides-eqb, Decides-ltb}
+use Rattle.std.proofs.lemmas.Option.{same_Some}
 
 and_first : (a b : Bool) → (a && b) ≡ true → a ≡ true
 and_first true b e = refl
@@ -25,9 +26,6 @@ before_of o p n e h = subst (λ x. MatchOption x (Unit {0}) (λ q. q < n)) e h
 
 pub child_after : (nodes : List Node) → IsPage nodes → (p n : ℕ) → IsParent nodes p n → p < n
 child_after nodes page p n h = before_of h.0.parent p n h.2 (parent_before nodes page n h.0 h.1)
-
-same_Some : {A : Type 0} (x y : A) → Some x ≡ Some y → x ≡ y
-same_Some x y e = cc
 
 -- a node has one parent
 pub one_parent : (nodes : List Node) (p q n : ℕ) → IsParent nodes p n → IsParent nodes q n → p ≡ q

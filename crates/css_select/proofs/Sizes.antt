@@ -37,8 +37,6 @@ full_back [] us h = h
 full_back (t ∷ ts) us h = full_back ts us h.1
 
 -- tokens with others before them
-behind_some : (ts us : List Token) (n : ℕ) → n ≤ bytes us → n ≤ bytes (ts ++ us)
-behind_some ts us n h = omega (arith, bytes_append ts us)
 
 two_tokens : (first : Token) (ts : List Token) (second : Token) (us : List Token) → AreFull (first ∷ (ts ++ second ∷ us)) → 2 ≤ bytes (first ∷ (ts ++ second ∷ us))
 two_tokens first ts second us h =

@@ -11,20 +11,6 @@ use Rattle.css_select.specs.declared.matching.Outcome.TheVariants.{Found, Failed
 use Rattle.css_select.specs.steps.Outcomes.{IsAbove, IsOutcome, IsOutcomeAround, NoneAround}
 use Rattle.css_select.proofs.Nodes.{one_parent, one_previous, ancestor_cases, ancestor_trans, same_around}
 
-compound_of : (nodes : List Node) (join : Join) (c : Compound) (ps : List (Join × Compound)) (n : ℕ) → MatchesParts nodes ((join, c) ∷ ps) n → MatchesCompound nodes c n
-compound_of nodes First c ps n h = h
-compound_of nodes Descendant c ps n h = h.0
-compound_of nodes Child c ps n h = h.0
-compound_of nodes Next c ps n h = h.0
-
-pub out_failed : (nodes : List Node) (join : Join) (c : Compound) (ps : List (Join × Compound)) (n : ℕ) → (MatchesCompound nodes c n → ⊥) → IsOutcome nodes ((join, c) ∷ ps) n Failed
-out_failed nodes join c ps n h = λ k. h (compound_of nodes join c ps n k)
-
-pub out_descendant : (nodes : List Node) (c : Compound) (ps : List (Join × Compound)) (n : ℕ) (o : Outcome) → MatchesCompound nodes c n → IsOutcomeAround nodes ps n o → IsOutcome nodes ((Descendant, c) ∷ ps) n o
-out_descendant nodes c ps n Found m h = (m, (h.0, h.1, h.2))
-out_descendant nodes c ps n Failed m h = λ k. h k.1.0 k.1.1 k.1.2
-out_descendant nodes c ps n Hopeless m h = λ x above k. h k.1.0 (above k.1.0 k.1.1) k.1.2
-
 around_by : (nodes : List Node) (p q : ℕ) → (q ≡ p) ⊎ IsAncestor nodes q p → IsAbove nodes q p
 around_by nodes p q (inl e) = λ top a. subst (IsAncestor nodes top) e a
 around_by nodes p q (inr b) = λ top a. ancestor_trans nodes a b

@@ -12,8 +12,6 @@ mod read;
 mod reading;
 mod steps;
 mod terminals;
-#[cfg(test)]
-mod tests;
 mod tree;
 
 pub use counts::specificity;

@@ -3,6 +3,7 @@ use Rattle.std.proofs.Common.{◌≡◌, ℕ, ◌+◌, suc, Bool, true, false, c
 use Rattle.std.specs.List.{list_all, prefix_len}
 use Rattle.std.specs.Option.{option_to_list}
 use Rattle.std.proofs.lemmas.List.{take-append-drop}
+use Rattle.std.proofs.lemmas.Bool.{and_from, not-true}
 use Rattle.viz_base.specs.declared.tokens.Token.{Token}
 use Rattle.viz_base.specs.declared.tokens.TokenKind.{TokenKind}
 use Rattle.viz_base.specs.declared.tokens.TokenKind.TheVariants.{Colon}
@@ -19,10 +20,6 @@ use Rattle.css_semantics.proofs.Tails.{declaration_tails}
 abbrev gap_token : Token → Bool
 gap_token t = is_gap t.kind
 
-both : (a b : Bool) → a ≡ true → b ≡ true → (a && b) ≡ true
-both true b h k = k
-both false b h k = h
-
 both_first : (a b : Bool) → (a && b) ≡ true → a ≡ true
 both_first true b h = refl
 both_first false b h = cc
@@ -30,10 +27,6 @@ both_first false b h = cc
 both_second : (a b : Bool) → (a && b) ≡ true → b ≡ true
 both_second true b h = h
 both_second false b h = cc
-
-not_true : (b : Bool) → not b ≡ true → b ≡ false
-not_true true h = cc
-not_true false h = refl
 
 colon_no_gap : (kind : TokenKind) → is_colon kind ≡ true → is_gap kind ≡ false
 colon_no_gap Colon h = refl
@@ -54,18 +47,18 @@ gap_front : (ts : List Token) → list_all gap_token (take (prefix_len gap_token
 gap_front [] = refl
 gap_front (t ∷ ts) =
     by_bool (gap_token t)
-    (λ e. ap (λ b. list_all gap_token (take (cond b (1 + prefix_len gap_token ts) 0) (t ∷ ts))) e ∙ ap (λ n. list_all gap_token (take n (t ∷ ts))) (one_plus (prefix_len gap_token ts)) ∙ both (gap_token t) _ e (gap_front ts))
+    (λ e. ap (λ b. list_all gap_token (take (cond b (1 + prefix_len gap_token ts) 0) (t ∷ ts))) e ∙ ap (λ n. list_all gap_token (take n (t ∷ ts))) (one_plus (prefix_len gap_token ts)) ∙ and_from (gap_token t) _ e (gap_front ts))
     (λ e. ap (λ b. list_all gap_token (take (cond b (1 + prefix_len gap_token ts) 0) (t ∷ ts))) e)
 
 -- ---- a declaration is read
 
 pub declaration_read : (piece : List Token) (d : Decl) → IsDeclaration piece d → declaration piece ≡ Some d
 declaration_read piece d h =
-    let value : is_value h.value ≡ true = both (goes_on [] h.value) _ (standing_goes h.value h.standing) (ap not h.some) in
+    let value : is_value h.value ≡ true = and_from (goes_on [] h.value) _ (standing_goes h.value h.standing) (ap not h.some) in
     ap declaration h.whole
     ∙ ap (λ b. cond b (declared h.name (trim_start is_gap (h.gap ++ h.colon ∷ h.value))) None) h.named
     ∙ ap (declared h.name) (gap_len h.gap h.colon h.value h.blank (colon_no_gap h.colon.kind h.parted))
-    ∙ ap (λ b. cond b (Some (declared_at h.name h.value (before_important h.value))) None) (both (is_colon h.colon.kind) _ h.parted value)
+    ∙ ap (λ b. cond b (Some (declared_at h.name h.value (before_important h.value))) None) (and_from (is_colon h.colon.kind) _ h.parted value)
     ∙ ap Some (sym h.gives)
 
 -- ---- and what is read is one
@@ -114,7 +107,7 @@ read_declaration (t ∷ ts) d h =
       blank = gap_front ts;
       parted = k.parted;
       standing = goes_standing k.value (both_first (goes_on [] k.value) _ k.is);
-      some = not_true _ (both_second (goes_on [] k.value) _ k.is);
+      some = not-true _ (both_second (goes_on [] k.value) _ k.is);
       gives = k.gives;
     })
     (λ e. absurd (no_some d (sym (ap (λ b. cond b (declared t (trim_start is_gap ts)) None) e) ∙ h)))

@@ -1,6 +1,6 @@
 -- What each escape in a text gives.
 use Rattle.std.proofs.Common.{◌≡◌, ℕ, suc, ◌+◌, ◌-◌, ◌*◌, ◌==◌, nat_lt, ◌≤◌, Bool, true, false, not, ◌&&◌, List, [], ◌∷◌, ◌++◌, length, refl, sym, ◌∙◌, ap, ◌⊎◌, inl, inr, arith}
-use Rattle.std.proofs.lemmas.Bool.{false≢true}
+use Rattle.std.proofs.lemmas.Bool.{false≢true, and_parts, and_left, and_right, not-true}
 use Rattle.std.proofs.lemmas.Bool.Decides.{nat_tests}
 use Rattle.css_semantics.specs.TokensLetters.{is_hex, is_newline, is_space}
 use Rattle.css_semantics.specs.TokensMacros.{Each, IsNewline, IsOneWhite, is_escaped}
@@ -10,22 +10,6 @@ use Rattle.css_semantics.specs.TokensEscapes.{number_from, begins, IsWholeNumber
 by_bool : {P : Type 0} (b : Bool) → (b ≡ true → P) → (b ≡ false → P) → P
 by_bool true at_true at_false = at_true refl
 by_bool false at_true at_false = at_false refl
-
-and_false_left : (a b : Bool) → a ≡ false → (a && b) ≡ false
-and_false_left true b h = absurd (false≢true (sym h))
-and_false_left false b h = refl
-
-and_false_right : (a b : Bool) → b ≡ false → (a && b) ≡ false
-and_false_right true b h = h
-and_false_right false b h = refl
-
-and_true : (a b : Bool) → (a && b) ≡ true → (a ≡ true) × (b ≡ true)
-and_true true b h = (refl, h)
-and_true false b h = absurd (false≢true h)
-
-not_true : (a : Bool) → not a ≡ true → a ≡ false
-not_true true h = absurd (false≢true h)
-not_true false h = refl
 
 eq_true : (a b : ℕ) → (a == b) ≡ true → a ≡ b
 eq_true a b h = grind (arith, nat_tests)
@@ -48,15 +32,15 @@ returned_same e (c ∷ rest) h = rw h refl
 
 -- a number that nothing goes on with
 no_digit : (c left : ℕ) → (0 ≡ left) ⊎ (is_hex c ≡ false) → (is_hex c && nat_lt 0 left) ≡ false
-no_digit c left (inl e) = and_false_right (is_hex c) (nat_lt 0 left) (none_left left e)
-no_digit c left (inr e) = and_false_left (is_hex c) (nat_lt 0 left) e
+no_digit c left (inl e) = and_right (is_hex c) (nat_lt 0 left) (none_left left e)
+no_digit c left (inr e) = and_left (is_hex c) (nat_lt 0 left) e
 
 number_ends : (e : Extent) (left n : ℕ) (white rest : List ℕ) → IsOneWhite white → (white ≡ [] → (0 ≡ left) ⊎ (begins is_hex rest ≡ false)) → (white ≡ [] → begins is_space rest ≡ false) → (white ≡ 13 ∷ [] → begins (λ c. c == 10) rest ≡ false) → numbered e left n (white ++ rest) ≡ scalar n ∷ resolved e rest
 number_ends e left n white [] (inl none) digits space line = rw none refl
 number_ends e left n white (c ∷ rest) (inl none) digits space line =
     rw none (rw (no_digit c left (digits none), space none, no_return c (space none)) refl)
 number_ends e left n white rest (inr (inl w)) digits space line =
-    let over = and_false_left (is_hex w.0) (nat_lt 0 left) (space_not_hex w.0 w.2) in
+    let over = and_left (is_hex w.0) (nat_lt 0 left) (space_not_hex w.0 w.2) in
     by_bool (w.0 == 13)
     (λ r. let cr : white ≡ 13 ∷ [] = w.1 ∙ ap (λ x. x ∷ []) (eq_true w.0 13 r) in
     rw w.1 (rw (over, r) (ap (λ t. scalar n ∷ t) (returned_same e rest (line cr)))))
@@ -97,9 +81,9 @@ line_resolves e line rest (inr lines) whole = rw lines refl
 
 escaped_resolves : (e : Extent) (c : ℕ) (rest : List ℕ) → is_escaped c ≡ true → resolved e (92 ∷ c ∷ rest) ≡ c ∷ resolved e rest
 escaped_resolves e c rest h =
-    let tests = and_true (not (is_hex c)) (not (is_newline c)) h in
-    let newline = not_true (is_newline c) tests.1 in
-    rw (not_true (is_hex c) tests.0, newline, no_cr c newline) refl
+    let tests = and_parts (not (is_hex c)) (not (is_newline c)) h in
+    let newline = not-true (is_newline c) tests.1 in
+    rw (not-true (is_hex c) tests.0, newline, no_cr c newline) refl
   where
     no_cr : (c : ℕ) → is_newline c ≡ false → (c == 13) ≡ false
     no_cr c h = grind (arith, nat_tests)

@@ -27,10 +27,6 @@ start_long : (p : List ℕ) → IsStart p → 0 < length p
 start_long p (inl o) = mark_long o.0 p o.1
 start_long p (inr e) = escape_long p e
 
-name_long : (p : List ℕ) → IsNameChar p → 0 < length p
-name_long p (inl o) = mark_long o.0 p o.1
-name_long p (inr e) = escape_long p e
-
 ident_long : (p : List ℕ) → IsIdent p → 0 < length p
 ident_long p i = long_second _ _ p i (long_first _ _ i.back i.second (start_long i.second.front i.second.first))
 

@@ -2,6 +2,7 @@
 use Rattle.std.proofs.Common.{◌≡◌, ℕ, Bool, true, false, cond, ◌||◌, List, [], ◌∷◌, map, drop, Option, Some, None, option_map, refl, sym, ◌∙◌, ap, subst, codes}
 use Rattle.std.specs.List.{list_all, list_any}
 use Rattle.std.specs.Option.{option_to_list}
+use Rattle.std.proofs.lemmas.Bool.{or_left, or_right}
 use Rattle.viz_base.specs.declared.tokens.Token.{Token}
 use Rattle.viz_base.specs.declared.sheets.Rule.{Rule}
 use Rattle.css_semantics.specs.declared.statements.Statement.{Statement}
@@ -83,18 +84,10 @@ are_entries ts = listed EntryItem entry_item after_entry entry_tails entry_takes
 entries_are : {ts : List Token} {es : List (List Token)} → Listed EntryItem ts es → es ≡ entries ts
 entries_are h = listed_only EntryItem entry_item after_entry entry_tails entry_only h
 
-either_first : (a b : Bool) → a ≡ true → (a || b) ≡ true
-either_first true b h = refl
-either_first false b h = cc
-
-either_second : (a b : Bool) → b ≡ true → (a || b) ≡ true
-either_second true b h = refl
-either_second false b h = h
-
 medium_holds : {prelude : List Token} → HasMedium prelude → holds prelude ≡ true
-medium_holds (every_medium {prelude = prelude} h) = either_first (list_all (λ t. is_gap t.kind) prelude) _ h
+medium_holds (every_medium {prelude = prelude} h) = or_left (list_all (λ t. is_gap t.kind) prelude) _ h
 medium_holds (screen_medium {prelude = prelude} {entries = es} h e) =
-    either_second (list_all (λ t. is_gap t.kind) prelude) _ (sym (ap (list_any is_screen) (entries_are h)) ∙ e)
+    or_right (list_all (λ t. is_gap t.kind) prelude) _ (sym (ap (list_any is_screen) (entries_are h)) ∙ e)
 
 no_gap : (a b : Bool) → (a || b) ≡ true → a ≡ false → b ≡ true
 no_gap true b h e = cc

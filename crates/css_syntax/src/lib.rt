@@ -8,7 +8,5 @@ mod sheets;
 mod slices;
 mod statements;
 mod stretches;
-#[cfg(test)]
-mod tests;
 
 pub use sheets::{SheetFault, read_declarations, read_sheet};

@@ -5,6 +5,7 @@ use Rattle.std.specs.Option.{option_and_then}
 use Rattle.std.proofs.lemmas.Bool.Decides.{nat_tests}
 use Rattle.std.proofs.lemmas.List.{append_assoc}
 use Rattle.std.proofs.lemmas.Option.{same_Some}
+use Rattle.std.proofs.lemmas.Bool.{and_parts}
 use Rattle.viz_base.specs.declared.tokens.TokenKind.{TokenKind}
 use Rattle.css_semantics.specs.TokensLetters.{is_hex, is_newline, is_space}
 use Rattle.css_semantics.specs.TokensMacros.{Each, IsNewline, IsOneWhite}
@@ -14,7 +15,7 @@ use Rattle.css_token.specs.declared.states.State.{State}
 use Rattle.css_token.specs.declared.states.State.TheVariants.{End, Within}
 use Rattle.css_token.specs.steps.Scan.{goes_on, holds_lines, kind_in_row, step_end, step_plain}
 use Rattle.css_token.proofs.Reading.{reads, no_kind}
-use Rattle.css_token.proofs.Rows.{by_bool, eq_true, and_left, InRow}
+use Rattle.css_token.proofs.Rows.{by_bool, eq_true, InRow}
 
 -- a text is read from a state that may follow this step
 abbrev pub ReadsFrom : Option State → List ℕ → TokenKind → Type 0
@@ -166,7 +167,7 @@ mutual
   }
   found_digits (c ∷ p) left row k h =
       by_bool (is_hex c && nat_lt 0 left)
-      (λ e. let both = and_left (is_hex c) (nat_lt 0 left) e in
+      (λ e. let both = and_parts (is_hex c) (nat_lt 0 left) e in
       let some : 0 < left = grind (arith, nat_tests, both.1) in
       let d = found_digits p (left - 1) row k (rw e at h) in record {
         digits = c ∷ d.digits;

@@ -3,6 +3,7 @@ use Rattle.std.proofs.Common.{◌≡◌, ℕ, ◌==◌, true, false, nat_lt, Lis
 use Rattle.std.specs.List.{AllByRecursion, concat}
 use Rattle.std.proofs.lemmas.Bool.Decides.{nat_tests}
 use Rattle.std.proofs.lemmas.List.{append_assoc, append-nil}
+use Rattle.std.proofs.lemmas.Bool.{and_left}
 use Rattle.viz_base.specs.declared.tokens.TokenKind.{TokenKind}
 use Rattle.viz_base.specs.declared.tokens.TokenKind.TheVariants.{Str, BadString, BadUri, BadComment, Uri, Comment}
 use Rattle.css_semantics.specs.TokensLetters.{is_hex, is_space, is_url, is_u, is_r, is_l}
@@ -18,7 +19,7 @@ use Rattle.css_token.specs.declared.states.State.{State}
 use Rattle.css_token.specs.declared.states.State.TheVariants.{Begin, Within, AddressStart, AddressEnd, InComment, Star}
 use Rattle.css_token.specs.steps.Scan.{mark_of, step}
 use Rattle.css_token.proofs.Reading.{reads}
-use Rattle.css_token.proofs.Rows.{by_bool, eq_true, and_false_left, apart, InRow, Ready, Passed, escape_passes, then_passes, units_pass, many_passes, each_to, ready_kind}
+use Rattle.css_token.proofs.Rows.{by_bool, eq_true, apart, InRow, Ready, Passed, escape_passes, then_passes, units_pass, many_passes, each_to, ready_kind}
 
 -- ---- strings
 
@@ -129,7 +130,7 @@ row_white Plain c ready h =
 row_white Backslash c ready h = absurd ready
 row_white (Digits left) c ready h =
     let n = space_apart c h in
-    let over = and_false_left (is_hex c) (nat_lt 0 left) n.0 in
+    let over = and_left (is_hex c) (nat_lt 0 left) n.0 in
     by_bool (c == 13)
     (λ e. record { after = Within Address Return; closing = inl (Return, tt, refl); same = λ t. rw (over, e) refl })
     (λ e. record { after = Within Address Plain; closing = inl (Plain, tt, refl); same = λ t. rw (over, h, e) refl })

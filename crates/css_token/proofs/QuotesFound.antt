@@ -233,9 +233,6 @@ tail_of c d p q e = cc
 not_star : (c : ℕ) (p after : List ℕ) → (c == 42) ≡ false → c ∷ p ≡ 42 ∷ 47 ∷ after → ⊥
 not_star c p after n e = let same : c ≡ 42 = head_of c 42 p (47 ∷ after) e in false≢true (sym n ∙ rw same refl)
 
-not_solidus : (c : ℕ) (p after : List ℕ) → (c == 47) ≡ false → 42 ∷ c ∷ p ≡ 42 ∷ 47 ∷ after → ⊥
-not_solidus c p after n e = let same : c ≡ 47 = head_of c 47 p after (tail_of 42 42 (c ∷ p) (47 ∷ after) e) in false≢true (sym n ∙ rw same refl)
-
 -- the rest of a comment
 abbrev CommentRest : TokenKind → List ℕ → Type 0
 CommentRest k p = (IsOpen p × (k ≡ BadComment)) ⊎ (Then IsOpen (λ e. e ≡ 42 ∷ 47 ∷ []) p × (k ≡ Comment))

@@ -1,7 +1,7 @@
 -- Rows of characters and escapes: each of them leads the scanner on within the row.
 use Rattle.std.proofs.Common.{◌≡◌, ℕ, ◌-◌, ◌==◌, nat_lt, ◌≤◌, Bool, true, false, not, ◌&&◌, List, [], ◌∷◌, ◌++◌, length, Some, refl, sym, ◌∙◌, ap, subst, ◌⊎◌, inl, inr, arith}
 use Rattle.std.specs.List.{AllByRecursion, concat}
-use Rattle.std.proofs.lemmas.Bool.{false≢true}
+use Rattle.std.proofs.lemmas.Bool.{false≢true, and_parts, and_left, not-true}
 use Rattle.std.proofs.lemmas.Bool.Decides.{nat_tests}
 use Rattle.std.proofs.lemmas.List.{append_assoc}
 use Rattle.css_semantics.specs.TokensLetters.{is_hex, is_newline, is_space, is_name, is_quoted, is_url}
@@ -23,18 +23,6 @@ by_bool false at_true at_false = at_false refl
 
 pub eq_true : (a b : ℕ) → (a == b) ≡ true → a ≡ b
 eq_true a b h = grind (arith, nat_tests)
-
-pub and_left : (a b : Bool) → (a && b) ≡ true → (a ≡ true) × (b ≡ true)
-and_left true b h = (refl, h)
-and_left false b h = absurd (false≢true h)
-
-pub and_false_left : (a b : Bool) → a ≡ false → (a && b) ≡ false
-and_false_left true b h = absurd (false≢true (sym h))
-and_false_left false b h = refl
-
-pub not_true : (a : Bool) → not a ≡ true → a ≡ false
-not_true true h = absurd (false≢true h)
-not_true false h = refl
 
 space_not_hex : (c : ℕ) → is_space c ≡ true → is_hex c ≡ false
 space_not_hex c h = grind (arith, nat_tests)
@@ -117,7 +105,7 @@ ReadsOn row g piece = (after : Going) × Ready after × ((t : List ℕ) → read
 white_on : (row : Row) (left : ℕ) (white : List ℕ) → IsOneWhite white → ReadsOn row (Digits left) white
 white_on row left white (inl e) = (Digits left, tt, λ t. ap (λ w. reads (Within row (Digits left)) (w ++ t)) e)
 white_on row left white (inr (inl w)) =
-    let not_hex = and_false_left (is_hex w.0) (nat_lt 0 left) (space_not_hex w.0 w.2) in
+    let not_hex = and_left (is_hex w.0) (nat_lt 0 left) (space_not_hex w.0 w.2) in
     by_bool (w.0 == 13)
     (λ e. (Return, tt, λ t. ap (λ w. reads (Within row (Digits left)) (w ++ t)) w.1 ∙ rw (not_hex, e) refl))
     (λ e. (Plain, tt, λ t. ap (λ w. reads (Within row (Digits left)) (w ++ t)) w.1 ∙ rw (not_hex, w.2, e) refl))
@@ -138,8 +126,8 @@ hex_on row (d ∷ digits) white six one =
 
 escaped_on : (row : Row) (c : ℕ) (t : List ℕ) → is_escaped c ≡ true → reads (Within row Backslash) (c ∷ t) ≡ reads (Within row Plain) t
 escaped_on row c t h =
-    let tests = and_left (not (is_hex c)) (not (is_newline c)) h in
-    rw (not_true (is_hex c) tests.0, not_true (is_newline c) tests.1) refl
+    let tests = and_parts (not (is_hex c)) (not (is_newline c)) h in
+    rw (not-true (is_hex c) tests.0, not-true (is_newline c) tests.1) refl
 
 -- behind the backslash of an escape
 pub record EscapeTail (piece : List ℕ) : Type 0 where

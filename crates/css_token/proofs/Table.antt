@@ -86,9 +86,6 @@ signs_found k c p h =
     (λ m. by_bool (c == 124) (λ e. at_mark k c 124 p e (bar_found k p (rw (a, b, d, f, g, i, j, l, m, e) at h)))
     (λ n. marks_found k c p (rw (a, b, d, f, g, i, j, l, m, n) at h)))))))))))
 
-start_word : (c : ℕ) → is_start c ≡ true → step_start Word c ≡ Some (Within Word Plain)
-start_word c h = rw h refl
-
 pub found : (p : List ℕ) (k : TokenKind) → reads Begin p ≡ Some k → Matches k p
 found [] k h = absurd (no_kind k h)
 found (c ∷ p) k h =

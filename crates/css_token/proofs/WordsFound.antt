@@ -1,7 +1,7 @@
 -- Identifiers, names, numbers and ranges: what the scanner takes for one is one.
 use Rattle.std.proofs.Common.{◌≡◌, ℕ, ◌-◌, ◌==◌, nat_lt, ◌<◌, ◌≤◌, true, false, ◌&&◌, List, [], ◌∷◌, ◌++◌, length, Option, Some, refl, sym, ◌∙◌, ap, subst, ◌⊎◌, inl, inr, arith}
 use Rattle.std.specs.List.{AllByRecursion, concat}
-use Rattle.std.proofs.lemmas.Bool.{false≢true}
+use Rattle.std.proofs.lemmas.Bool.{false≢true, and_parts}
 use Rattle.std.proofs.lemmas.Bool.Decides.{nat_tests}
 use Rattle.std.proofs.lemmas.List.{append_assoc, append-nil}
 use Rattle.viz_base.specs.declared.tokens.TokenKind.{TokenKind}
@@ -14,7 +14,7 @@ use Rattle.css_token.specs.declared.states.Row.TheVariants.{Word, AtWord, Name, 
 use Rattle.css_token.specs.declared.states.State.TheVariants.{U, Ur, Url, UPlus, RangeFirst, RangeDash, RangeSecond, Dash, DashDash, At, AtDash, HashMark, Whole, Point, Fraction, NumberDash, AddressStart}
 use Rattle.css_token.specs.steps.Scan.{holds_lines, step_plain, step_start, step_unit}
 use Rattle.css_token.proofs.Reading.{reads, no_kind}
-use Rattle.css_token.proofs.Rows.{by_bool, eq_true, and_left, apart, InRow, each_to}
+use Rattle.css_token.proofs.Rows.{by_bool, eq_true, apart, InRow, each_to}
 use Rattle.css_token.proofs.Found.{ReadsFrom, RowEnd, RowRest, one_more, found_plain, found_slash, end_reads, same_kind, choose}
 
 -- ---- rows of names
@@ -287,7 +287,7 @@ range_second_found : (k : TokenKind) (left : ℕ) (p : List ℕ) → reads (Rang
 range_second_found k left [] h = (tt, omega arith, same_kind UnicodeRange k h)
 range_second_found k left (c ∷ p) h =
     by_bool (is_hex c && nat_lt 0 left)
-    (λ e. let both = and_left (is_hex c) (nat_lt 0 left) e in
+    (λ e. let both = and_parts (is_hex c) (nat_lt 0 left) e in
     let some : 0 < left = grind (arith, nat_tests, both.1) in
     let x = range_second_found k (left - 1) p (rw e at h) in ((both.0, x.0), omega (arith, x.1), x.2))
     (λ e. absurd (no_kind k (rw e at h)))
@@ -312,7 +312,7 @@ range_first_found : (k : TokenKind) (left : ℕ) (p : List ℕ) → reads (Range
 range_first_found k left [] h = record { digits = []; rest = []; whole = refl; each = tt; few = omega arith; second = inl refl; kind = same_kind UnicodeRange k h }
 range_first_found k left (c ∷ p) h =
     by_bool (is_range c && nat_lt 0 left)
-    (λ e. let both = and_left (is_range c) (nat_lt 0 left) e in
+    (λ e. let both = and_parts (is_range c) (nat_lt 0 left) e in
     let some : 0 < left = grind (arith, nat_tests, both.1) in
     let x = range_first_found k (left - 1) p (rw e at h) in
     record { digits = c ∷ x.digits; rest = x.rest; whole = ap (λ t. c ∷ t) x.whole; each = (both.0, x.each); few = omega (arith, x.few); second = x.second; kind = x.kind })

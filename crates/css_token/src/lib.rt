@@ -11,8 +11,6 @@ mod matching;
 mod scan;
 mod sequence;
 mod states;
-#[cfg(test)]
-mod tests;
 
 pub use closing::close_by_end;
 pub use escapes::unescape;

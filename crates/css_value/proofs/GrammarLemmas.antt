@@ -5,6 +5,7 @@ use Rattle.std.proofs.Math.Seq.{drop-append_seam, take-append_seam}
 use Rattle.std.proofs.lemmas.List.{take-append-drop}
 use Rattle.std.proofs.lemmas.List.Sums.{length-filter}
 use Rattle.std.proofs.lemmas.Bool.Decides.{nat_tests}
+use Rattle.std.proofs.lemmas.Bool.{and_parts}
 use Rattle.viz_base.specs.declared.settings.Prop.{Prop}
 use Rattle.viz_base.specs.declared.settings.Prop.TheVariants.{BorderTopWidth, BorderRightWidth, BorderBottomWidth, BorderLeftWidth, BorderTopStyle, BorderRightStyle, BorderBottomStyle, BorderLeftStyle, FontSize, FontFamily, LineHeight}
 use Rattle.viz_base.specs.declared.settings.Value.{Value}
@@ -49,10 +50,6 @@ then_ok (Err refusal) f y e = cc
 by_if : {P : Type 0} (b : Bool) (r s t : Settings) → cond b r s ≡ t → (b ≡ true → r ≡ t → P) → (b ≡ false → s ≡ t → P) → P
 by_if true r s t e h k = h refl e
 by_if false r s t e h k = k refl e
-
-both : (a b : Bool) → (a && b) ≡ true → (a ≡ true) × (b ≡ true)
-both true b e = (refl, e)
-both false b e = cc
 
 -- no refusal but that the declaration is dropped
 abbrev Mild : {A : Type 0} → Result A Refusal → Type 0
@@ -209,9 +206,9 @@ few_of kind ps e = subst (λ n. n ≤ 1) (sym (length-filter kind ps)) (at_most 
 -- a line has one width and one style at most
 line_few : (ps : List Part) → is_line ps ≡ true → (length (filter is_line_width ps) ≤ 1) × (length (filter is_line_style ps) ≤ 1)
 line_few ps e =
-    let colour = both _ (is_at_most_one is_colour ps) e in
-    let style = both _ (is_at_most_one is_line_style ps) colour.0 in
-    let width = both _ (is_at_most_one is_line_width ps) style.0 in
+    let colour = and_parts _ (is_at_most_one is_colour ps) e in
+    let style = and_parts _ (is_at_most_one is_line_style ps) colour.0 in
+    let width = and_parts _ (is_at_most_one is_line_width ps) style.0 in
     (few_of is_line_width ps width.1, few_of is_line_style ps style.1)
 
 abbrev BorderProps : List Prop → List Prop → Type 0
@@ -381,7 +378,7 @@ long_font size _ (a ∷ family) h names IsHeight.no_height n = tt
 stops : (front : List Part) (size : Part) (ps : List Part) → list_all is_before_size front ≡ true → is_before_size size ≡ false → front_len (front ++ size ∷ ps) ≡ length front
 stops [] size ps a e = ap (λ b. cond b (1 + front_len ps) 0) e
 stops (b ∷ front) size ps a e =
-    let h = both (is_before_size b) (list_all is_before_size front) a in
+    let h = and_parts (is_before_size b) (list_all is_before_size front) a in
     ap (λ x. cond x (1 + front_len (front ++ size ∷ ps)) 0) h.0 ∙ ap (λ n. 1 + n) (stops front size ps h.1 e) ∙ one_more (length front)
 
 no_height_in : (family : List Part) (names : List (List ℕ)) → font_names family ≡ Some names → height_behind family ≡ None

@@ -15,8 +15,6 @@ mod names;
 mod rows;
 mod sides;
 mod splitting;
-#[cfg(test)]
-mod tests;
 mod values;
 
 pub use declarations::read_declaration;

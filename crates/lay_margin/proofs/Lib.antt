@@ -6,4 +6,3 @@ pub mod Definite
 pub mod Joined
 pub mod Blamed
 pub mod Fitted
-pub mod NestedTree

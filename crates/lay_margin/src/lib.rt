@@ -6,8 +6,6 @@ pub mod engine;
 mod front;
 pub mod leads;
 mod runs;
-#[cfg(test)]
-mod tests;
 mod trees;
 
 pub use front::lead;

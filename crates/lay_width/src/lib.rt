@@ -1,8 +1,6 @@
 //! The used widths and horizontal margins of boxes, over any arithmetic.
 #![tactic(auto)]
 
-ghost use Rattle.std.specs.Prelude.{◌≡◌, []};
-
 pub mod engine;
 mod front;
 pub mod heights;
@@ -13,45 +11,3 @@ pub mod replaced;
 pub mod terms;
 
 pub use front::widths;
-
-#[cfg(test)]
-mod tests {
-    use crate::widths;
-    use std::alloc::Global;
-    use std::test::Fail;
-    use viz_base::{BoxTree, List, Preferred, Widths, World};
-    use viz_calc::Plain;
-
-    fn no_boxes(alloc: Global) -> BoxTree
-        ensures boxes { result.boxes ≡ [] }
-        ensures styles { result.styles ≡ [] }
-    {
-        BoxTree {
-            boxes: List::new(alloc),
-            styles: List::new(alloc),
-            fonts: List::new(alloc),
-            parents: List::new(alloc),
-        }
-    }
-
-    #[test]
-    fn fills_the_containing_block(rt: HostRuntime) -> Result<(), Fail> {
-        let tree = no_boxes(rt.alloc());
-        let mut calc = Plain::new(World { w: 320, s: 16 });
-        let none = Preferred { least: 0, most: 0 };
-        for cb in [0, 6400, 1 << 72] {
-            let terms = widths(&mut calc, &tree, u32::MAX, &cb, u32::MAX, &none)?;
-            let all = Widths {
-                margin_left: 0,
-                border_left: 0,
-                padding_left: 0,
-                content: cb,
-                padding_right: 0,
-                border_right: 0,
-                margin_right: 0,
-            };
-            assert_eq!(rt; terms, all);
-        }
-        Ok(())
-    }
-}

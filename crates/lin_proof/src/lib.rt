@@ -11,6 +11,3 @@ pub use check::{first_fault, refutes};
 pub use count::line_count;
 pub use derivation::{Answer, Branch, Derivation, Ending, Step};
 pub use laws::refutation_is_sound;
-
-#[cfg(test)]
-mod tests;

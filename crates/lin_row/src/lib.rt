@@ -9,6 +9,3 @@ mod terms;
 pub use laws::{cut_holds_as_well, denial_holds_elsewhere, sum_of_values};
 pub use row::{Row, RowFault};
 pub use terms::Terms;
-
-#[cfg(test)]
-mod tests;

@@ -16,8 +16,6 @@ mod refusals;
 mod spaces;
 mod styles;
 mod tables;
-#[cfg(test)]
-mod tests;
 
 pub use building::build_boxes;
 pub use faults::BoxFault;

@@ -8,8 +8,6 @@ mod formulas;
 mod numbers;
 mod sheets;
 mod styles;
-#[cfg(test)]
-mod tests;
 mod values;
 
 pub use building::build_job;

@@ -15,8 +15,6 @@ mod fonts;
 mod jobs;
 mod limits;
 mod places;
-#[cfg(test)]
-mod tests;
 mod values;
 
 use crate::jobs::{Parts, parts_of};

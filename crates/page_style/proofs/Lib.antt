@@ -4,4 +4,3 @@ pub mod BoxLengths
 pub mod StyleFacts
 pub mod Reaching
 pub mod Fitting
-mod OneElement

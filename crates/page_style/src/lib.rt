@@ -6,8 +6,6 @@ mod elements;
 mod families;
 mod lengths;
 mod properties;
-#[cfg(test)]
-mod tests;
 mod values;
 mod winners;
 

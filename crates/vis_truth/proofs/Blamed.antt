@@ -2,6 +2,7 @@ use Rattle.std.proofs.Common.{◌≡◌, ℕ, zero, suc, ◌+◌, ◌<◌, Bool,
 use denote.Hole.Carrier.{roll}
 use Rattle.std.specs.Option.{is_none}
 use Rattle.std.specs.List.{find, list_any, range_with_len}
+use Rattle.std.proofs.lemmas.Bool.{or_parts}
 use Rattle.viz_base.specs.declared.formulas.Set.{Set}
 use Rattle.viz_base.specs.declared.formulas.Formula.{Formula}
 use Rattle.viz_base.specs.declared.formulas.Formula.TheVariants.{Forall, Implies, And}
@@ -16,19 +17,15 @@ use Rattle.vis_truth.specs.Scenes.{is_witness}
 
 -- ---- the first number of a range that passes a test
 
-or_none : (a b : Bool) → (a || b) ≡ false → (a ≡ false) × (b ≡ false)
-or_none true b h = absurd (cc)
-or_none false b h = (refl, h)
-
 pub find-none : (p : ℕ → Bool) (xs : List ℕ) → list_any p xs ≡ false → find p xs ≡ None
 find-none p [] h = refl
-find-none p (x ∷ xs) h = let parts = or_none (p x) (list_any p xs) h in rw parts.0 (find-none p xs parts.1)
+find-none p (x ∷ xs) h = let parts = or_parts (p x) (list_any p xs) h in rw parts.0 (find-none p xs parts.1)
 
 find-from : (p : ℕ → Bool) (a n i : ℕ) → list_any p (take i (range_with_len a n)) ≡ false → i < n → p (a + i) ≡ true → find p (range_with_len a n) ≡ Some (a + i)
 find-from p a zero i before lt here = absurd (omega arith)
 find-from p a (suc n) zero before lt here = let same : a + 0 ≡ a = omega arith in rw same (let yes = rw same at here in rw yes refl)
 find-from p a (suc n) (suc i) before lt here =
-    let parts = or_none (p a) (list_any p (take i (range_with_len (a + 1) n))) before in
+    let parts = or_parts (p a) (list_any p (take i (range_with_len (a + 1) n))) before in
     let same : a + suc i ≡ (a + 1) + i = omega arith in
     rw (parts.0, same) (find-from p (a + 1) n i parts.1 (omega arith) (rw same at here))
 

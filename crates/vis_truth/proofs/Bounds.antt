@@ -5,6 +5,7 @@ use Rattle.std.proofs.Math.Nat.{mul-le-mul_left}
 use Rattle.std.proofs.lemmas.Int.{ints, unsigned_abs-mul}
 use Rattle.std.proofs.lemmas.Bool.Decides.{nat_tests}
 use Rattle.std.proofs.lemmas.List.Sums.{sum_by-cons}
+use Rattle.std.proofs.lemmas.Bool.{and_parts}
 use Rattle.viz_base.specs.declared.formulas.Edge.{Edge}
 use Rattle.viz_base.specs.declared.formulas.Edge.TheVariants as of_edge
 use Rattle.viz_base.specs.declared.formulas.Ring.{Ring}
@@ -85,11 +86,7 @@ term-small at r height e names t b h small =
     let le : sum_by summand_most t.parts ≤ 2 ^ 100 = grind (arith, nat_tests) in
     (omega arith, parts-small (scene_at at r height e) names (λ edge. edge-bounded at r height e names edge b h) t.parts (pos 0) (omega (arith, le)))
 
-both : (a b : Bool) → (a && b) ≡ true → (a ≡ true) × (b ≡ true)
-both true b h = (refl, h)
-both false b h = absurd (cc)
-
 pub small-Cmp : (left right : Term) (sign : Sign) → has_small_terms (Cmp left sign right) ≡ true → (term_is_small left ≡ true) × (term_is_small right ≡ true)
 small-Cmp left right sign h =
     let is : has_small_terms (Cmp left sign right) ≡ (term_is_small left && term_is_small right) = search (rules, the_lemmas, fold-roll-Formula, fold_out-Formula) in
-    both (term_is_small left) (term_is_small right) (sym is ∙ h)
+    and_parts (term_is_small left) (term_is_small right) (sym is ∙ h)

@@ -1,0 +1,2 @@
+mod NestedTree
+mod OneElement

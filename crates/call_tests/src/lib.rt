@@ -1,0 +1,47 @@
+//! Each public call on its happy path and at the limits of the profile: what no contract says, as that memory is found.
+#![tactic(auto)]
+
+#[cfg(test)]
+mod base_values;
+#[cfg(test)]
+mod built_boxes;
+#[cfg(test)]
+mod built_jobs;
+#[cfg(test)]
+mod calc_worlds;
+#[cfg(test)]
+mod cascade_winners;
+#[cfg(test)]
+mod certificate_texts;
+#[cfg(test)]
+mod checked_derivations;
+#[cfg(test)]
+mod collapsed_margins;
+#[cfg(test)]
+mod computed_styles;
+#[cfg(test)]
+mod empty_trees;
+#[cfg(test)]
+mod full_certificates;
+#[cfg(test)]
+mod judged_formulas;
+#[cfg(test)]
+mod placed_floats;
+#[cfg(test)]
+mod printed_boxes;
+#[cfg(test)]
+mod raw_jobs;
+#[cfg(test)]
+mod row_sums;
+#[cfg(test)]
+mod selector_texts;
+#[cfg(test)]
+mod sheet_texts;
+#[cfg(test)]
+mod token_texts;
+#[cfg(test)]
+mod used_lengths;
+#[cfg(test)]
+mod used_widths;
+#[cfg(test)]
+mod value_texts;
