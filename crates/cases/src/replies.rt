@@ -19,7 +19,7 @@ pub fn laid(alloc: Global, case: &Value) -> Result<String, Fault> {
         w: number_at(case, 2)?,
         s: number_at(case, 3)?,
     };
-    if world.w > 16384 {
+    if world.w > 16384 || world.s > 256 {
         return Err(Fault::NoCase);
     }
     answer(alloc, text_at(case, 1)?, &Question::Lay(Screen { world }))

@@ -1,5 +1,5 @@
 ghost use Rattle.std.specs.Prelude.{◌≡◌, ◌+◌, ◌-◌, ◌≤◌, IsTrue, IfOk, MatchOption};
-ghost use Rattle.layout_semantics.specs.Ready.{ready};
+ghost use Rattle.lay_flow.specs.BlockPages.{ready};
 ghost use Rattle.logic_semantics.specs.Ranges.{IsInRange};
 ghost use Rattle.cert_check.specs.Right.{is_true_at};
 ghost use Rattle.cert_check.specs.Verdicts.{IsTrueIn, IsFirstUntrueIn};

@@ -2,6 +2,9 @@
 use Rattle.std.specs.Prelude.{Bool, true, false, not, ◌&&◌, List, [], ◌∷◌, slice_get}
 use Rattle.std.specs.List.{list_all}
 use Rattle.std.specs.Option.{option_map_or}
+use Rattle.viz_base.specs.Styles.{sides_of}
+use Rattle.viz_base.specs.declared.lengths.Length.{Length}
+use Rattle.viz_base.specs.declared.lengths.Length.TheVariants as of_length
 use Rattle.viz_base.specs.declared.styles.Style.{Style}
 use Rattle.viz_base.specs.declared.trees.BoxNode.{BoxNode}
 use Rattle.viz_base.specs.declared.trees.BoxTree.{BoxTree}
@@ -24,3 +27,17 @@ is_block_page tree = by_boxes tree.boxes
     by_boxes : List BoxNode → Bool
     by_boxes [] = true
     by_boxes (root ∷ rest) = is_block root.kind && list_all (is_flow_block tree.styles) rest
+
+-- ---- the pages that are laid out
+
+abbrev pub is_no_percentage : Length → Bool
+is_no_percentage (of_length.Pct p) = false
+is_no_percentage _ = true
+
+-- no border is a percentage: CSS knows none (8.5.1)
+abbrev pub has_plain_border : Style → Bool
+has_plain_border s = list_all is_no_percentage (sides_of s.border)
+
+-- pages of blocks in normal flow
+abbrev pub ready : BoxTree → Bool
+ready tree = is_block_page tree && list_all has_plain_border tree.styles

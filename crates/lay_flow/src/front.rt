@@ -3,10 +3,10 @@ ghost use Rattle.viz_calc.specs.World.{Reading};
 ghost use Rattle.viz_calc.specs.State.{Grows, AreOpen, CauseButMem};
 ghost use Rattle.viz_calc.specs.Renderings.{rendering_at};
 ghost use Rattle.layout_semantics.specs.Page.{page_rendering};
-ghost use Rattle.layout_semantics.specs.Ready.{ready};
+ghost use Rattle.lay_flow.specs.BlockPages.{ready};
 ghost use Rattle.lay_flow.specs.Limits.{IsSmallPage, IsWithinLimits};
 
-use crate::engine;
+use crate::page;
 use std::alloc::Global;
 use viz_base::{BoxTree, Job, Mem, Rendering, World};
 use viz_calc::{Calc, Halt, Latch, Plain};
@@ -25,10 +25,10 @@ pub fn render<C: Calc>(
     ensures grows { Grows (C.state calc.old) (C.state calc.new) }
     ensures value { IfOk result (λ r. (e : Reading) → IsTrue ((C.state calc.new).is_open e) → rendering_at C.at r e ≡ page_rendering tree.now e.world height) }
     ensures kept { AreOpen (C.state calc.old).kept (C.state calc.new) }
-    ensures cause { IfErr result (CauseButMem (C.state calc.old) (C.state calc.new) (IsWithinLimits tree.now (C.state calc.old).is_open)) }
+    ensures cause { IfErr result (CauseButMem (C.state calc.old) (C.state calc.new) (IsWithinLimits tree.now height (C.state calc.old).is_open)) }
 {
     let mut latch = Latch::new(calc);
-    let rendering = engine::render(alloc, &mut latch, tree, height);
+    let rendering = page::render(alloc, &mut latch, tree, height);
     latch.finish(rendering)
 }
 
@@ -43,6 +43,8 @@ pub fn render_at(
     requires ready { IsTrue (ready tree.now) }
     requires small { IsSmallPage tree.now }
     requires narrow { world.w ≤ 16384 }
+    requires sized { world.s ≤ 256 }
+    requires low { height ≤ 16384 }
     ensures { IfOk result (λ r. r ≡ page_rendering tree.now world height) }
 {
     let mut calc = Plain::new(world);
@@ -53,7 +55,8 @@ pub fn render_at(
     }
 }
 
-/// The page of a job is small.
+/// The page of a job is small, and its viewport is no higher than 16,384 pixels.
 pub fn the_page_of_a_job_is_small(job: &Job)
-    ensures { IsSmallPage job.now.tree }
+    ensures page { IsSmallPage job.now.tree }
+    ensures viewport { job.now.height ≤ 16384 }
 {}

@@ -3,10 +3,8 @@
 
 ghost use Rattle.std.specs.Prelude.{◌≡◌, []};
 
-pub mod block_pages;
+mod block_pages;
 pub mod boxes;
-mod coverage;
-pub mod engine;
 pub mod frames;
 mod front;
 pub mod heights;
@@ -16,7 +14,7 @@ pub mod places;
 pub mod standing;
 pub mod walk;
 
-pub use coverage::ready;
+pub use block_pages::ready;
 pub use front::{render, render_at, the_page_of_a_job_is_small};
 
 #[cfg(test)]

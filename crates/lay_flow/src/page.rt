@@ -1,11 +1,13 @@
 //! A page of blocks in normal flow.
-ghost use Rattle.std.specs.Prelude.{◌≡◌, ◌<◌, ◌++◌, ◌*◌, pos, [], length, IsTrue, Some};
+ghost use Rattle.std.specs.Prelude.{◌≡◌, ◌<◌, ◌++◌, ◌∷◌, pos, [], length, IsTrue, Some};
 ghost use Rattle.viz_calc.specs.World.{Reading};
-ghost use Rattle.viz_calc.specs.Run.{Goes};
+ghost use Rattle.viz_calc.specs.Run.{Goes, Fits, Blames, BlamesButMem};
 ghost use Rattle.viz_calc.specs.Renderings.{rendering_at};
 ghost use Rattle.layout_semantics.specs.Page.{page_rendering};
 ghost use Rattle.lay_width.specs.Readings.{option_at};
-ghost use Rattle.lay_flow.specs.BlockPages.{is_block_page};
+ghost use Rattle.lay_flow.specs.BlockPages.{ready};
+ghost use Rattle.lay_flow.specs.FlowFitting.{AloneShapeFits, AloneFits, RootFits};
+ghost use Rattle.lay_flow.specs.Limits.{IsWithinLimits};
 ghost use Rattle.lay_flow.specs.steps.Readings.{frame_at, boxes_at, context_at};
 ghost use Rattle.lay_flow.specs.steps.Blocks.{alone_frame, alone as alone_of, fresh as fresh_at, page_boxes};
 
@@ -26,6 +28,9 @@ fn alone_shape<S: Steady>(calc: &mut S, tree: &BoxTree, b: u32, room: &S::Num) -
     ensures goes { Goes (S.run calc.old) (S.run calc.new) }
     ensures value { (e : Reading) → IsTrue ((S.run calc.new).is_open e)
         → frame_at S.at result e ≡ alone_frame tree.now e.world b (S.at room.now e) }
+    ensures cause { Blames (S.run calc.old) (S.run calc.new)
+        ((e : Reading) → IsTrue ((S.run calc.old).is_open e)
+        → AloneShapeFits tree.now e.world b (S.at room.now e)) }
 {
     let x = widths(calc, tree, b, room);
     let v = verticals(calc, tree, b, room);
@@ -43,6 +48,8 @@ fn fresh<S: Steady>(calc: &mut S, top: &S::Num) -> Context<S::Num>
     ensures goes { Goes (S.run calc.old) (S.run calc.new) }
     ensures value { (e : Reading) → IsTrue ((S.run calc.new).is_open e)
         → context_at S.at result e ≡ fresh_at (S.at top.now e) }
+    ensures cause { Blames (S.run calc.old) (S.run calc.new)
+        (Fits (S.run calc.old) (λ e. S.at top.now e ∷ pos 0 ∷ [])) }
 {
     let standing = below(calc, top);
     Context { standing }
@@ -63,6 +70,9 @@ fn alone<S: Steady>(
     ensures boxes { (e : Reading) → IsTrue ((S.run calc.new).is_open e) → boxes_at S.at out.new.items e
         ≡ boxes_at S.at out.old.items e
         ++ alone_of tree.now e.world b (S.at room.now e) (option_at S.at around.now e) }
+    ensures cause { BlamesButMem (S.run calc.old) (S.run calc.new)
+        ((e : Reading) → IsTrue ((S.run calc.old).is_open e)
+        → AloneFits tree.now e.world b (S.at room.now e) (option_at S.at around.now e)) }
 {
     let shape = alone_shape(calc, tree, b, room);
     let left = zero(calc);
@@ -80,17 +90,23 @@ fn root<S: Steady>(calc: &mut S, tree: &BoxTree, height: u32, out: &mut Vec<Plac
     ensures goes { Goes (S.run calc.old) (S.run calc.new) }
     ensures boxes { (e : Reading) → IsTrue ((S.run calc.new).is_open e)
         → boxes_at S.at out.new.items e ≡ boxes_at S.at out.old.items e ++ page_boxes tree.now e.world height }
+    ensures cause { BlamesButMem (S.run calc.old) (S.run calc.new)
+        ((e : Reading) → IsTrue ((S.run calc.old).is_open e) → RootFits tree.now e.world height) }
 {
     let room = calc.width();
-    let around = Some(pixels(calc, 64 * i64::from(height)));
+    let tall = pixels(calc, 64 * i64::from(height));
+    let around = Some(tall);
     alone(calc, tree, 0, &room, &around, out);
 }
 
 /// The boxes of a page in a viewport of so many pixels height.
 fn boxes<S: Steady>(alloc: Global, calc: &mut S, tree: &BoxTree, height: u32) -> Vec<Placed<S::Num>>
+    requires { IsTrue (ready tree.now) }
     ensures goes { Goes (S.run calc.old) (S.run calc.new) }
     ensures value { (e : Reading) → IsTrue ((S.run calc.new).is_open e)
         → boxes_at S.at result.items e ≡ page_boxes tree.now e.world height }
+    ensures cause { BlamesButMem (S.run calc.old) (S.run calc.new)
+        (IsWithinLimits tree.now height (S.run calc.old).is_open) }
 {
     let mut out = Vec::new(alloc);
     if !tree.boxes.is_empty() {
@@ -108,10 +124,12 @@ pub fn render<S: Steady>(
     tree: &BoxTree,
     height: u32,
 ) -> Rendering<S::Num>
-    requires { IsTrue (is_block_page tree.now) }
+    requires { IsTrue (ready tree.now) }
     ensures goes { Goes (S.run calc.old) (S.run calc.new) }
     ensures value { (e : Reading) → IsTrue ((S.run calc.new).is_open e)
         → rendering_at S.at result e ≡ page_rendering tree.now e.world height }
+    ensures cause { BlamesButMem (S.run calc.old) (S.run calc.new)
+        (IsWithinLimits tree.now height (S.run calc.old).is_open) }
 {
     let boxes = List::from(boxes(alloc, calc, tree, height));
     Rendering { boxes }

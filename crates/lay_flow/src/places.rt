@@ -9,6 +9,7 @@ ghost use Rattle.layout_semantics.specs.Rectangles.{placed_box, border_width as 
 ghost use Rattle.layout_semantics.specs.Rectangles.{inset as inset_by, outset as outset_by, around as around_box};
 ghost use Rattle.lay_width.specs.Readings.{widths_at, option_at};
 ghost use Rattle.lay_flow.specs.Fitting.{quad_way, width_way, tall_way, border_of, AroundFits, BorderFits, PlaceFits};
+ghost use Rattle.lay_flow.specs.FlowFitting.{ContentFits, ClosedFits, ContextContentFits, AloneClosedFits};
 ghost use Rattle.lay_flow.specs.steps.Readings.{verticals_at, frame_at, container_at, standing_at};
 ghost use Rattle.lay_flow.specs.steps.Words.{held_height as held_of};
 ghost use Rattle.lay_flow.specs.steps.Blocks.{block_height, context_height as tall_context};
@@ -214,6 +215,10 @@ fn block_content<S: Steady>(
     ensures value { Stands (S.run calc.new) (S.at result) (λ e. unwrap_or (option_at S.at inner.now.height e)
         (held_of tree.now e.world b (option_at S.at cb.now.height e)
         (block_height (joins_at tree.now b) (S.at inner.now.top e) (standing_at S.at end.now e)))) }
+    ensures cause { Blames (S.run calc.old) (S.run calc.new)
+        ((e : Reading) → IsTrue ((S.run calc.old).is_open e)
+        → ContentFits tree.now e.world (option_at S.at inner.now.height e) (option_at S.at cb.now.height e) b
+        (S.at inner.now.top e) (standing_at S.at end.now e)) }
 {
     match &inner.height {
         Some(height) => calc.copy(height),
@@ -239,6 +244,10 @@ pub fn closed_box<S: Steady>(
     ensures value { (e : Reading) → IsTrue ((S.run calc.new).is_open e) → placed_at S.at result e
         ≡ closed_of tree.now e.world (container_at S.at cb.now e) b (frame_at S.at shape.now e)
         (container_at S.at inner.now e) (standing_at S.at end.now e) }
+    ensures cause { Blames (S.run calc.old) (S.run calc.new)
+        ((e : Reading) → IsTrue ((S.run calc.old).is_open e)
+        → ClosedFits tree.now e.world (container_at S.at cb.now e) b (frame_at S.at shape.now e)
+        (container_at S.at inner.now e) (standing_at S.at end.now e)) }
 {
     let content = block_content(calc, tree, cb, b, inner, end);
     place(calc, tree, b, shape, &content)
@@ -257,6 +266,10 @@ fn context_content<S: Steady>(
     ensures value { Stands (S.run calc.new) (S.at result) (λ e. unwrap_or (option_at S.at inner.now.height e)
         (held_of tree.now e.world b (option_at S.at around.now e)
         (tall_context (S.at inner.now.top e) (standing_at S.at end.now e)))) }
+    ensures cause { Blames (S.run calc.old) (S.run calc.new)
+        ((e : Reading) → IsTrue ((S.run calc.old).is_open e)
+        → ContextContentFits tree.now e.world (option_at S.at inner.now.height e) (option_at S.at around.now e) b
+        (S.at inner.now.top e) (standing_at S.at end.now e)) }
 {
     match &inner.height {
         Some(height) => calc.copy(height),
@@ -282,6 +295,10 @@ pub fn alone_box<S: Steady>(
     ensures value { (e : Reading) → IsTrue ((S.run calc.new).is_open e) → placed_at S.at result e
         ≡ alone_of tree.now e.world (option_at S.at around.now e) b (frame_at S.at shape.now e)
         (container_at S.at inner.now e) (standing_at S.at end.now e) }
+    ensures cause { Blames (S.run calc.old) (S.run calc.new)
+        ((e : Reading) → IsTrue ((S.run calc.old).is_open e)
+        → AloneClosedFits tree.now e.world (option_at S.at around.now e) b (frame_at S.at shape.now e)
+        (container_at S.at inner.now e) (standing_at S.at end.now e)) }
 {
     let content = context_content(calc, tree, around, b, inner, end);
     place(calc, tree, b, shape, &content)

@@ -6,6 +6,7 @@ ghost use Rattle.layout_semantics.specs.Rectangles.{content_top as top_of_conten
 ghost use Rattle.lay_margin.specs.Runs.{run_at};
 ghost use Rattle.lay_width.specs.Readings.{option_at};
 ghost use Rattle.lay_flow.specs.Fitting.{top_way, height_way, edge_way};
+ghost use Rattle.lay_flow.specs.FlowFitting.{ReachFits};
 ghost use Rattle.lay_flow.specs.Fitting.{ShapeFits, ContainerFits, ContextFits, AfterFits};
 ghost use Rattle.lay_flow.specs.steps.Readings.{band_at, frame_at, container_at, standing_at, context_at};
 ghost use Rattle.lay_flow.specs.steps.Readings.{is_at_top as at_top, passed as passed_by};
@@ -124,6 +125,9 @@ pub fn reach<S: Steady>(
         (λ e. reached_at tree.now e.world (band_at S.at cb.now e) (standing_at S.at standing.now e) b) }
     ensures run { (e : Reading) → IsTrue ((S.run calc.new).is_open e) → run_at S.at result.run e
         ≡ own_run tree.now e.world (band_at S.at cb.now e) (standing_at S.at standing.now e) b }
+    ensures cause { Blames (S.run calc.old) (S.run calc.new)
+        ((e : Reading) → IsTrue ((S.run calc.old).is_open e)
+        → ReachFits tree.now e.world (band_at S.at cb.now e) (standing_at S.at standing.now e) b) }
 {
     match standing {
         Standing::AtTop(y) => {

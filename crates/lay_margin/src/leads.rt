@@ -82,7 +82,7 @@ fn lower<S: Steady>(calc: &mut S, neg: &mut S::Num, margin: &S::Num)
 }
 
 /// Joins a margin to a run.
-fn join<S: Steady>(calc: &mut S, run: &mut Run<S::Num>, margin: &S::Num)
+pub fn join<S: Steady>(calc: &mut S, run: &mut Run<S::Num>, margin: &S::Num)
     ensures goes { Goes (S.run calc.old) (S.run calc.new) }
     ensures value { (e : Reading) → IsTrue ((S.run calc.new).is_open e)
         → run_at S.at run.new e ≡ with_margin (run_at S.at run.old e) (S.at margin.now e) }

@@ -4,7 +4,7 @@ use Rattle.std.specs.List.{flat_map}
 use Rattle.viz_base.specs.declared.worlds.World.{World}
 use Rattle.viz_base.specs.declared.renderings.Rendering.{Rendering}
 use Rattle.viz_base.specs.declared.jobs.Job.{Job}
-use Rattle.layout_semantics.specs.Ready.{ready}
+use Rattle.lay_flow.specs.BlockPages.{ready}
 use Rattle.lay_print.specs.Print.{printed}
 use Rattle.logic_semantics.specs.Scenes.{scene_of}
 use Rattle.logic_semantics.specs.Blame.{blame}
@@ -37,8 +37,8 @@ few_nodes bytes cert held =
 
 -- ---- violations
 
-pub bounded : (job : Job) (world : World) (r : Rendering ℤ) → IsTrue (ready job.tree) → world.w ≤ 16384 → r ≡ rendering_of job world → IsBoundedRendering r
-bounded job world r is_ready narrow e = subst (λ x. IsBoundedRendering x) (sym e) (bounded_rendering job world is_ready narrow)
+pub bounded : (job : Job) (world : World) (r : Rendering ℤ) → IsTrue (ready job.tree) → world.w ≤ 16384 → world.s ≤ 256 → r ≡ rendering_of job world → IsBoundedRendering r
+bounded job world r is_ready narrow sized e = subst (λ x. IsBoundedRendering x) (sym e) (bounded_rendering job world is_ready narrow sized)
 
 pub violation_is : (job : Job) (world : World) (r : Rendering ℤ) (blamed : List ℕ) (boxes output : List ℕ) → r ≡ rendering_of job world
     → blamed ≡ blame (scene_of r world job.height) job.formula → boxes ≡ printed r

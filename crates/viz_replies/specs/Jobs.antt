@@ -7,7 +7,7 @@ use Rattle.viz_base.specs.declared.raw_jobs.Which.{Which}
 use Rattle.viz_base.specs.declared.raw_jobs.Which.TheVariants as which
 use Rattle.viz_base.specs.declared.settings.Prop.{Prop}
 use Rattle.css_semantics.specs.Properties.{row}
-use Rattle.layout_semantics.specs.Ready.{ready}
+use Rattle.lay_flow.specs.BlockPages.{ready}
 use Rattle.page_build.specs.declared.faults.JobRefusal.{JobRefusal}
 use Rattle.page_build.specs.declared.faults.JobRefusal.TheVariants.{Mem, NotJson, Shape, Limit, Range, Import, MediaQuery, TooManyRules, Selector, Value, BlockInInline, RightToLeft, TooManyBoxes, Reach, NotYet}
 use Rattle.page_build.specs.Jobs.{IsJobOf, IsRefusedAs}

@@ -1,6 +1,6 @@
 ghost use Rattle.std.specs.Prelude.{◌≡◌, ◌≤◌, ◌<◌, ◌^◌, ℕ, List, [], ◌∷◌, ◌++◌, codes, length, IfOk, IsTrue};
 ghost use Rattle.std.specs.List.{flat_map};
-ghost use Rattle.layout_semantics.specs.Ready.{ready as is_ready};
+ghost use Rattle.lay_flow.specs.BlockPages.{ready as is_ready};
 ghost use Rattle.cert_check.specs.Nodes.{nodes_of};
 ghost use Rattle.cert_text.specs.Grammar.{CertText};
 ghost use Rattle.viz_replies.specs.Lines.{numbered};
@@ -25,6 +25,7 @@ use viz_base::{Job, Mem, Rect, World};
 fn laid(alloc: Global, job: &Job, world: World) -> Result<Reply, Mem>
     requires ready { IsTrue (is_ready job.now.tree) }
     requires narrow { world.w ≤ 16384 }
+    requires sized { world.s ≤ 256 }
     ensures { IfOk result (λ r. (r.answer ≡ Answer.Done) × (r.output.items ≡ boxes_text job.now world)) }
 {
     let rendering = render_at(alloc, world, &job.tree, job.height)?;
@@ -59,6 +60,7 @@ fn violation_lines(
 fn violation(alloc: Global, job: &Job, world: World) -> Result<Reply, Mem>
     requires ready { IsTrue (is_ready job.now.tree) }
     requires narrow { world.w ≤ 16384 }
+    requires sized { world.s ≤ 256 }
     ensures { IfOk result (λ r. (r.answer ≡ Answer.Violated) × (r.output.items ≡ violation_text job.now world)) }
 {
     let rendering = render_at(alloc, world, &job.tree, job.height)?;

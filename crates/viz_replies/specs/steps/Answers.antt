@@ -1,7 +1,7 @@
 -- What the parts of a reply come to.
 use Rattle.std.specs.Prelude.{◌≡◌, ℕ, ◌≤◌, List, [], ◌∷◌, codes, IsTrue}
 use Rattle.viz_base.specs.declared.jobs.Job.{Job}
-use Rattle.layout_semantics.specs.Ready.{ready}
+use Rattle.lay_flow.specs.BlockPages.{ready}
 use Rattle.cert_text.specs.declared.certificate.Cert.{Cert}
 use Rattle.cert_text.specs.declared.certificate.CertFault.{CertFault}
 use Rattle.cert_text.specs.declared.certificate.CertFault.TheVariants as spells
@@ -47,7 +47,7 @@ IsVerdictReply (Rejected reject) answer output = (answer ≡ ends.CertRefused) �
 -- an outcome that has a text, or a world at which a page can be laid out
 abbrev pub IsPrintable : Outcome → Type 0
 IsPrintable (found.Proved cert) = (text : List ℕ) × CertText cert text
-IsPrintable (found.Violated world) = world.w ≤ 16384
+IsPrintable (found.Violated world) = (world.w ≤ 16384) × (world.s ≤ 256)
 IsPrintable (found.Undecided part) = Unit {0}
 
 -- what is replied of a search

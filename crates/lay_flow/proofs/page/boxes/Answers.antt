@@ -1,5 +1,7 @@
-use Rattle.std.proofs.Common.{◌≡◌, [], arith}
+use Rattle.std.proofs.Common.{◌≡◌, [], ◌<◌, length, arith}
 use Rattle.std.proofs.lemmas.Grind.{common_steps}
+use Rattle.lay_margin.proofs.Blamed.{ButMem-given}
+use Rattle.lay_flow.proofs.LowPage.{low-page, root-fits}
 use Rattle.lay_flow.proofs.PageSteps.{page-none}
 use Rattle.lay_flow.proofs.Slots.{no_boxes}
 use Rattle.lay_flow.proofs.page.boxes.Goals as goal
@@ -8,6 +10,15 @@ pub returns-then-not-is_empty-clause-value : goal.returns-then-not-is_empty-clau
 returns-then-not-is_empty-clause-value g c = λ e o.
     let none = no_boxes g.S.Steady.at e in
     grind (arith, common_steps)
+
+pub returns-then-not-is_empty-clause-cause : goal.returns-then-not-is_empty-clause-cause
+returns-then-not-is_empty-clause-cause g c =
+    let run = g.S.Steady.run in
+    let tree = c.args.tree.now in
+    let some : 0 < length tree.boxes = grind arith in
+    ButMem-given (run c.args.calc.now) (run c.root.new.calc) _ _
+    (λ limits e o. root-fits tree (low-page tree c.requires limits.small) e.world (limits.sized e o) c.args.height (limits.narrow e o) limits.low some)
+    c.root.ensures.cause
 
 pub returns-else-not-is_empty-clause-value : goal.returns-else-not-is_empty-clause-value
 returns-else-not-is_empty-clause-value g c = λ e o.

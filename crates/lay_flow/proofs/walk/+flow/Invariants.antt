@@ -1,7 +1,8 @@
 use Rattle.std.proofs.Common.{◌≡◌, ◌-◌, ◌+◌, ◌*◌, ◌++◌, length, drop, IsTrue}
 use Rattle.viz_calc.specs.World.{Reading}
-use Rattle.viz_calc.specs.Run.{Goes}
+use Rattle.viz_calc.specs.Run.{Goes, BlamesButMem}
 use Rattle.layout_semantics.specs.Order.{kids_of}
+use Rattle.lay_flow.specs.FlowFitting.{BlocksFit}
 use Rattle.lay_flow.specs.steps.Readings.{container_at, context_at, boxes_at}
 use Rattle.lay_flow.specs.steps.Blocks.{children, block_step, content}
 use Rattle.lay_flow.proofs.walk.+flow.Given as goal
@@ -26,4 +27,8 @@ invariant-content-loop-kid g l =
       boxes : (e : Reading) → IsTrue ((run l.calc).is_open e)
           → boxes_at at l.out.items e ++ (children (block_step l.tree e.world (content l.tree e.world) (container_at at l.cb e)) (context_at at l.context e) (drop l.kid-index (kids_of l.tree.boxes l.b))).boxes
           ≡ boxes_at at l.initial.out.items e ++ (children (block_step l.tree e.world (content l.tree e.world) (container_at at l.cb e)) (context_at at l.initial.context e) (kids_of l.tree.boxes l.b)).boxes;
+      left : ((e : Reading) → IsTrue ((run l.initial.calc).is_open e) → BlocksFit l.tree e.world (container_at at l.cb e) (context_at at l.initial.context e) (kids_of l.tree.boxes l.b))
+          → (e : Reading) → IsTrue ((run l.calc).is_open e) → BlocksFit l.tree e.world (container_at at l.cb e) (context_at at l.context e) (drop l.kid-index (kids_of l.tree.boxes l.b));
+      cause : BlamesButMem (run l.initial.calc) (run l.calc)
+          ((e : Reading) → IsTrue ((run l.initial.calc).is_open e) → BlocksFit l.tree e.world (container_at at l.cb e) (context_at at l.initial.context e) (kids_of l.tree.boxes l.b));
     }

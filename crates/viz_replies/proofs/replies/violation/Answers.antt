@@ -3,7 +3,7 @@ use Rattle.viz_replies.proofs.ReplyLemmas.{bounded, violation_is}
 use Rattle.viz_replies.proofs.replies.violation.Goals as goal
 
 pub blame-requires-clause-bounded : goal.blame-requires-clause-bounded
-blame-requires-clause-bounded c = bounded c.args.job.now c.args.world c.in_ok-rendering.rendering c.requires.ready c.requires.narrow c.in_ok-rendering.ensures
+blame-requires-clause-bounded c = bounded c.args.job.now c.args.world c.in_ok-rendering.rendering c.requires.ready c.requires.narrow c.requires.sized c.in_ok-rendering.ensures
 
 pub returns : goal.returns
 returns c =
