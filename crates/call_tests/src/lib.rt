@@ -14,6 +14,8 @@ mod cascade_winners;
 #[cfg(test)]
 mod certificate_texts;
 #[cfg(test)]
+mod checked_certificates;
+#[cfg(test)]
 mod checked_derivations;
 #[cfg(test)]
 mod collapsed_margins;
@@ -34,6 +36,8 @@ mod raw_jobs;
 #[cfg(test)]
 mod row_sums;
 #[cfg(test)]
+mod searched_proofs;
+#[cfg(test)]
 mod selector_texts;
 #[cfg(test)]
 mod sheet_texts;
@@ -45,3 +49,7 @@ mod used_lengths;
 mod used_widths;
 #[cfg(test)]
 mod value_texts;
+#[cfg(test)]
+mod whole_renderings;
+#[cfg(test)]
+mod whole_replies;

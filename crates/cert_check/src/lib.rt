@@ -14,6 +14,3 @@ pub use laws::{
 pub use verdicts::{Reject, Verdict};
 pub use walk::check;
 pub use worlds::{first_untrue, holds_at};
-
-#[cfg(test)]
-mod tests;

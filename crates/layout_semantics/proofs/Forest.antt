@@ -92,11 +92,6 @@ filter-before low (d ∷ done) k ks r =
     let before : nat_lt d k ≡ true = grind (arith, nat_tests) in
     rw before (ap (λ (l : List ℕ). d ∷ l) (filter-before d done k ks parts.1))
 
--- the second part of a list
-pub Each-append_right : (P : ℕ → Type 0) (xs ys : List ℕ) → AllByRecursion P (xs ++ ys) → AllByRecursion P ys
-Each-append_right P [] ys a = a
-Each-append_right P (x ∷ xs) ys a = Each-append_right P xs ys a.1
-
 pub ascends-each : (low : ℕ) (ks : List ℕ) → IsTrue (ascends low ks) → AllByRecursion (λ k. low < k) ks
 ascends-each low ks r = from_below low low ks (λ k l. l) r
   where

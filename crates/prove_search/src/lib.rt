@@ -9,6 +9,3 @@ mod search;
 pub use laws::unit_certificates_have_texts;
 pub use outcome::Outcome;
 pub use search::prove;
-
-#[cfg(test)]
-mod tests;

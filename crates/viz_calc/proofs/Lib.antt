@@ -1,4 +1,3 @@
 pub mod PlainLemmas
 mod Floors
 pub mod Runs
-pub mod Smalls

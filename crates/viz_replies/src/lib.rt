@@ -12,8 +12,6 @@ mod question;
 mod refusals;
 mod replies;
 mod reply;
-#[cfg(test)]
-mod tests;
 
 pub use certs::{CERT_MOST, long_certificate};
 pub use jobs::{JOB_MOST, JobRead, long_job, read_job};

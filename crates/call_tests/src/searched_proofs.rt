@@ -1,7 +1,7 @@
-use crate::{Outcome, prove};
 use cert_text::CertNode;
 use lay_flow::ready;
 use page_build::build_job;
+use prove_search::{Outcome, prove};
 use std::test::Fail;
 use viz_base::{Rect, World};
 

@@ -1,6 +1,6 @@
-use crate::{Answer, Question, Screen, reply_to};
 use std::test::Fail;
 use viz_base::{List, World};
+use viz_replies::{Answer, Question, Screen, reply_to};
 
 const JOB: &str =
     r#"{"vizlog":1,"widths":[320,320],"sizes":[16,16],"height":600,"fonts":[{"name":"Square","upem":1000,"ascent":800,"descent":200,"default":500}],"page":{"tag":"div","attrs":{"style":"height:0px"}},"assert":"true"}"#;

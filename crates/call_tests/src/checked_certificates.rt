@@ -4,24 +4,12 @@ ghost use Rattle.viz_base.specs.Formulas.{is_bound_in, has_small_terms};
 ghost use Rattle.lay_flow.specs.BlockPages.{ready};
 ghost use Rattle.cert_check.specs.Nodes.{nodes_of};
 
-use super::*;
+use crate::empty_trees::no_boxes;
+use cert_check::{Reject, Verdict, check, first_untrue, holds_at};
 use cert_text::{Cert, CertNode};
 use lin_row::Row;
 use std::alloc::{AllocError, Global};
-use viz_base::{BoxTree, Boxed, Edge, Formula, Job, List, Mem, Rect, Sign, Summand, Term, World};
-
-/// The boxes of an empty page.
-fn no_boxes(alloc: Global) -> BoxTree
-    ensures boxes { result.boxes ≡ [] }
-    ensures styles { result.styles ≡ [] }
-{
-    BoxTree {
-        boxes: List::new(alloc),
-        styles: List::new(alloc),
-        fonts: List::new(alloc),
-        parents: List::new(alloc),
-    }
-}
+use viz_base::{Boxed, Edge, Formula, Job, List, Mem, Rect, Sign, Summand, Term, World};
 
 /// The viewport is at most 399 px wide, or at most 400 px.
 fn at_most(alloc: Global, all: bool) -> Result<Formula, AllocError>
