@@ -12,6 +12,16 @@ pub struct Outside {
     pub conjunct: Option<Formula>,
 }
 
+/// What stands inside of which parentheses, and what is read of that.
+#[derive(Debug, Drop)]
+pub struct Closed {
+    /// None where no parenthesis is open.
+    pub parens: Option<Outside>,
+    pub frames: Stack<Frame>,
+    pub names: Stack<Text>,
+    pub value: Formula,
+}
+
 /// What a formula that is being read belongs to.
 #[derive(Debug, Drop)]
 pub enum Frame {
