@@ -118,7 +118,13 @@ fn refuses(rt: HostRuntime) -> Result<(), Fail> {
             "true",
             JobRefusal::Reach(3),
         ),
-        ("[320,320]", "[]", EMPTY, "a.left < 0", JobRefusal::Unbound(0)),
+        (
+            "[320,320]",
+            "[]",
+            EMPTY,
+            "a.left < 0",
+            JobRefusal::Unbound(0),
+        ),
         (
             "[320,320]",
             "[]",

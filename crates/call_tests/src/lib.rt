@@ -24,6 +24,8 @@ mod computed_styles;
 #[cfg(test)]
 mod empty_trees;
 #[cfg(test)]
+mod formula_texts;
+#[cfg(test)]
 mod full_certificates;
 #[cfg(test)]
 mod judged_formulas;

@@ -13,8 +13,6 @@ mod sets;
 mod stacks;
 mod steps;
 mod terms;
-#[cfg(test)]
-mod tests;
 mod tokens;
 mod words;
 

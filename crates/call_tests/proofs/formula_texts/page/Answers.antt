@@ -6,7 +6,7 @@ use Rattle.viz_base.specs.declared.nodes.Body.{Body}
 use Rattle.viz_base.specs.declared.nodes.Body.TheVariants as of_body
 use Rattle.viz_base.specs.declared.nodes.Node.{Node}
 use Rattle.viz_base.specs.Pages.{IsPage, is_element, parent_fits, text_of, has_lower_names}
-use Rattle.vis_read.proofs.tests.page.Goals as goal
+use Rattle.call_tests.proofs.formula_texts.page.Goals as goal
 
 small : (b : Body) → is_element b ≡ true → length (chars (text_of b)) ≤ 262144
 small (of_body.Element e) h = rw chars-nil (omega arith)

@@ -1,9 +1,9 @@
 ghost use Rattle.std.specs.Prelude.{◌≡◌, IfOk, IsTrue, None};
 ghost use Rattle.viz_base.specs.Pages.{has_lower_names, is_element};
 
-use crate::{FormulaFault, read_formula};
 use std::alloc::{AllocError, Global};
 use std::test::Fail;
+use vis_read::{FormulaFault, read_formula};
 use viz_base::{
     Body, Boxed, Edge, Element, Face, Formula, List, Mem, Node, Page, Ring, Set, Sign, Summand,
     Term, Text,
