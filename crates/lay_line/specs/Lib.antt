@@ -1,4 +1,5 @@
 pub mod Items
+pub mod Contexts
 pub mod Readings
 pub mod Ways
 pub mod steps
