@@ -1,6 +1,7 @@
 -- Places found from left to right.
-use Rattle.std.proofs.Common.{◌≡◌, ℕ, ◌+◌, ◌<◌, ◌≤◌, Bool, true, false, cond, List, [], ◌∷◌, drop, get_or, length, map, find, Option, Some, None, refl, sym, ap, ◌∙◌}
+use Rattle.std.proofs.Common.{◌≡◌, ℕ, zero, suc, ◌+◌, ◌<◌, ◌≤◌, Bool, true, false, cond, List, [], ◌∷◌, drop, get_or, length, map, find, Option, Some, None, refl, sym, subst, ap, ◌∙◌, arith}
 use Rattle.std.specs.Prelude.{ℤ}
+use Rattle.std.specs.List.{AllByRecursion}
 use Rattle.std.proofs.lemmas.List.{at_drop_more, at_drop_all}
 use Rattle.layout_semantics.specs.Fragments.{ItemPlace, is_text_of, text_right}
 
@@ -28,3 +29,14 @@ module _ {A : Type 0} (at : ℕ) (f : A → ItemPlace) (xs : List A) (k : ℕ) (
 
   pub right-later : (x : A) → k < length xs → x ≡ get_or xs k x → is_text_of at (f x) ≡ true → text_right at (f x).right (map f (drop (k + 1) xs)) ≡ text_right at right (map f (drop k xs))
   right-later x l is e = sym (right-step x l is ∙ ap (λ b. cond b (text_right at (f x).right (map f (drop (k + 1) xs))) right) e)
+
+-- ---- what holds of all that is left
+
+all-later-suc : {A B : Type 0} (P : B → Type 0) (f : A → B) (xs : List A) (k : ℕ) → AllByRecursion P (map f (drop k xs)) → AllByRecursion P (map f (drop (suc k) xs))
+all-later-suc P f [] zero a = tt
+all-later-suc P f [] (suc k) a = tt
+all-later-suc P f (x ∷ xs) zero a = a.1
+all-later-suc P f (x ∷ xs) (suc k) a = all-later-suc P f xs k a
+
+pub all-later : {A B : Type 0} (P : B → Type 0) (f : A → B) (xs : List A) (k : ℕ) → AllByRecursion P (map f (drop k xs)) → AllByRecursion P (map f (drop (k + 1) xs))
+all-later P f xs k a = let one : suc k ≡ k + 1 = omega arith in subst (λ n. AllByRecursion P (map f (drop n xs))) one (all-later-suc P f xs k a)

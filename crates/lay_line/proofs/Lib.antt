@@ -18,3 +18,5 @@ pub mod Lined
 pub mod Tables
 pub mod Found
 pub mod LoadSteps
+pub mod FloatSteps
+pub mod Entering

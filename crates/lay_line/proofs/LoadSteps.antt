@@ -4,7 +4,7 @@ use Rattle.std.specs.Prelude.{ℤ}
 use Rattle.viz_calc.specs.World.{Reading}
 use Rattle.layout_semantics.specs.InlineContent.{Item, float_boxes}
 use Rattle.layout_semantics.specs.LineHeights.{InlineContext}
-use Rattle.lay_line.specs.Items.{bare_of}
+use Rattle.lay_line.specs.Items.{item_of, bare_of}
 use Rattle.lay_line.specs.Readings.{pieces_at, parts_at}
 use Rattle.lay_line.specs.declared.held.Piece.{Piece}
 use Rattle.lay_line.specs.declared.stretches.Stretches.{Stretches}
@@ -15,7 +15,7 @@ use Rattle.lay_line.specs.steps.Meeting.{Slot}
 
 pub bare-same : {N : Type 0} (at : N → Reading → ℤ) (e : Reading) (ps : List (Piece N)) → bare (pieces_at at ps e) ≡ bare_of ps
 bare-same at e [] = refl
-bare-same at e (p ∷ ps) = ap (λ l. _ ∷ l) (bare-same at e ps)
+bare-same at e (p ∷ ps) = ap (λ l. item_of p.item ∷ l) (bare-same at e ps)
 
 pub parts-same : {N : Type 0} (at : N → Reading → ℤ) (e : Reading) (s : Stretches N) (parts : List (List (Piece N))) → parts_of s.pieces.now s.marks.now ≡ parts → parts_at at s e ≡ map (λ p. pieces_at at p e) parts
 parts-same at e s parts is = ap (map (λ p. pieces_at at p e)) is

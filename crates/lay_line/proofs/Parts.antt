@@ -120,14 +120,15 @@ pub part-cut : {A : Type 0} (xs : List A) (marks : List Bool) (n : ℕ) → mark
 part-cut [] marks n e l = absurd (omega arith)
 part-cut (x ∷ xs) [] n e l = absurd (cc)
 part-cut (x ∷ xs) (true ∷ marks) n e l = let is : 1 ≡ n = cc in subst (λ k. (x ∷ []) ∷ parts_of xs marks ≡ take k (x ∷ xs) ∷ parts_of (drop k (x ∷ xs)) (drop k (true ∷ marks))) is refl
-part-cut (x ∷ xs) (false ∷ marks) n e l = by (mark_from 0 marks) refl (sym (mark-next marks) ∙ e)
+part-cut (x ∷ xs) (false ∷ marks) n e l = by (mark_from 0 marks) refl (sym (mark-next marks) ∙ e) (λ m f k. part-cut xs marks m f k)
   where
-    by : (o : Option ℕ) → mark_from 0 marks ≡ o → option_map suc o ≡ Some n → onto_first x (parts_of xs marks) ≡ take n (x ∷ xs) ∷ parts_of (drop n (x ∷ xs)) (drop n (false ∷ marks))
-    by None f g = absurd (cc)
-    by (Some m) f g =
+    by : (o : Option ℕ) → mark_from 0 marks ≡ o → option_map suc o ≡ Some n → ((m : ℕ) → mark_from 0 marks ≡ Some m → m < length xs → parts_of xs marks ≡ take m xs ∷ parts_of (drop m xs) (drop m marks))
+        → onto_first x (parts_of xs marks) ≡ take n (x ∷ xs) ∷ parts_of (drop n (x ∷ xs)) (drop n (false ∷ marks))
+    by None f g again = absurd (cc)
+    by (Some m) f g again =
         let is : suc m ≡ n = cc in
         subst (λ k. onto_first x (parts_of xs marks) ≡ take k (x ∷ xs) ∷ parts_of (drop k (x ∷ xs)) (drop k (false ∷ marks))) is
-        (ap (onto_first x) (part-cut xs marks m f (omega (arith, is))))
+        (ap (onto_first x) (again m f (omega (arith, is))))
 
 pub first-cut : {A : Type 0} (xs : List A) (marks : List Bool) (n : ℕ) → mark_from 0 marks ≡ Some n → n < length xs → IsFirst xs marks (take n xs) (drop n xs) (drop n marks)
 first-cut xs marks n e l = record {
@@ -155,3 +156,7 @@ first-whole xs marks n k l p e f =
     drop-length : {A : Type 0} (xs : List A) → drop (length xs) xs ≡ []
     drop-length [] = refl
     drop-length (x ∷ xs) = drop-length xs
+
+pub first-moved : {A : Type 0} (xs : List A) (marks : List Bool) {a a' b b' : List A} {l l' : List Bool} → IsFirst xs marks a b l → a' ≡ a → b' ≡ b → l' ≡ l → IsFirst xs marks a' b' l'
+first-moved xs marks {a} {a'} {b} {b'} {l} {l'} f p q r =
+    subst (λ z. IsFirst xs marks z b' l') (sym p) (subst (λ z. IsFirst xs marks a z l') (sym q) (subst (λ z. IsFirst xs marks a b z) (sym r) f))

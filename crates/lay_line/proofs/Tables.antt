@@ -52,7 +52,7 @@ module _ {N : Type 0} (at : N → Reading → ℤ) (e : Reading) where
   unfolding width_in
   width-none c b s = ap (λ o. option_map_or (λ (i : Inner ℤ). i.width) o (pos 0)) (inner-is c b None s)
 
-  abbrev sized : ℤ → ℤ → Extent ℤ
+  abbrev pub sized : ℤ → ℤ → Extent ℤ
   sized x y = record { width = x; height = y }
 
   pub size-some : (c : Container N) (b : ℕ) (i : Inner N) → slice_index_or c.inner.now b None ≡ Some i → size_in (context_at at c e) b ≡ sized (at i.width e) (at i.above e +ℤ at i.below e)

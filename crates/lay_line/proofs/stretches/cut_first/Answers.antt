@@ -1,7 +1,7 @@
 use Rattle.std.proofs.Common.{◌≡◌, ◌<◌, length, Some, None, subst, sym, refl, ◌∙◌, ap, arith}
 use Rattle.std.proofs.lemmas.Bool.Decides.{nat_tests}
 use Rattle.lay_line.specs.steps.Loading.{IsFirst, mark_from}
-use Rattle.lay_line.proofs.Parts.{IsPast, first-cut, first-whole}
+use Rattle.lay_line.proofs.Parts.{IsPast, first-cut, first-whole, first-moved}
 use Rattle.lay_line.proofs.stretches.cut_first.Goals.{in_default-via-in-Some+else-n-stretches, in_default-via-in_default}
 use Rattle.lay_line.proofs.stretches.cut_first.Goals as goal
 
@@ -12,9 +12,7 @@ returns-in-Some g c =
     let n = c.in-Some.n in
     let found : mark_from 0 marks ≡ Some n = sym c.first_mark.ensures.value ∙ c.in-Some.is in
     let is = first-cut xs marks n found (omega arith) in
-    subst (λ l. IsFirst xs marks l c.split_at.result.1.now c.split_at-in-Some.result.1.now) (sym c.split_at.ensures.front)
-    (subst (λ l. IsFirst xs marks _ l c.split_at-in-Some.result.1.now) (sym c.split_at.ensures.back)
-    (subst (λ l. IsFirst xs marks _ _ l) (sym c.split_at-in-Some.ensures.back) is))
+    first-moved xs marks is c.split_at.ensures.front c.split_at.ensures.back c.split_at-in-Some.ensures.back
 
 pub returns-in_default : goal.returns-in_default
 returns-in_default g c =
@@ -30,6 +28,4 @@ returns-in_default g c =
           subst (λ o. IsPast o (length xs)) (sym found) tt
     ] in
     let is = first-whole xs marks (length xs) (length marks) some whole refl refl in
-    subst (λ l. IsFirst xs marks l c.split_at-in_default.result.1.now c.split_at-in_default-2.result.1.now) (sym c.split_at-in_default.ensures.front)
-    (subst (λ l. IsFirst xs marks _ l c.split_at-in_default-2.result.1.now) (sym c.split_at-in_default.ensures.back)
-    (subst (λ l. IsFirst xs marks _ _ l) (sym c.split_at-in_default-2.ensures.back) is))
+    first-moved xs marks is c.split_at-in_default.ensures.front c.split_at-in_default.ensures.back c.split_at-in_default-2.ensures.back
