@@ -13,7 +13,7 @@ ghost use Rattle.lay_line.specs.steps.Entries.{piece_in, item_in, items_in, open
 ghost use Rattle.lay_line.specs.steps.Lining.{entries_in};
 
 use crate::containers::Container;
-use crate::fragments::{SetLine, atomic_entry, inline_fragment, is_text_of, text_fragment, text_right};
+use crate::fragments::{SetLine, Span, atomic_entry, inline_fragment, is_text_of, text_fragment, text_right};
 use crate::items::Item;
 use crate::places::ItemPlace;
 use viz_base::{Entry, List, Spot};
@@ -46,7 +46,7 @@ pub struct Here<'p, 'a, N> {
 /// Whether the place before is of the same text.
 fn goes_on<N>(at: u32, before: Option<&ItemPlace<N>>) -> bool
     ensures { (read : N → Reading → ℤ) (e : Reading) → result
-        ≡ option_map_or (is_text_at at) (before_at read before e) false }
+        ≡ option_map_or (is_text_at at) (before_at read before.entry e) false }
 {
     match before {
         Some(place) => is_text_of(at, place),
@@ -134,7 +134,7 @@ pub fn add_floats<S: Steady>(
     }
 }
 
-#[tactic(auto, unfolding(crate::specs::steps::Entries::item_in, crate::specs::steps::Entries::piece_in, crate::specs::steps::Entries::fragment_in, crate::specs::steps::Entries::atomic_in))]
+#[tactic(auto, unfolding(crate::specs::steps::Entries::item_in, crate::specs::steps::Entries::piece_in, crate::specs::steps::Entries::from_in, crate::specs::steps::Entries::atomic_in))]
 /// Adds what an item of the line adds.
 fn add_item<S: Steady>(
     calc: &mut S,
@@ -151,8 +151,12 @@ fn add_item<S: Steady>(
 {
     match &here.place.item {
         Item::Start(at) => {
-            let start = Some(&here.place.right);
-            let entry = inline_fragment(calc, container, line, *at, start, here.after);
+            let span = Span {
+                starts: true,
+                left: &here.place.right,
+                after: here.after,
+            };
+            let entry = inline_fragment(calc, container, line, *at, &span);
             add_entry(calc, entries, entry);
         }
         Item::Word(at, _) => add_text(calc, container, line, *at, here, entries),
@@ -181,10 +185,10 @@ fn spots_behind<'p, N>(item: &Item, spots: &'p [(u32, Spot<N>)]) -> &'p [(u32, S
 }
 
 /// Adds what the items of a line add, in their order.
-fn add_items<S: Steady>(
+fn add_items<'p, 'a: 'p, S: Steady>(
     calc: &mut S,
     container: &Container<'_, S::Num>,
-    line: &SetLine<'_, '_, S::Num>,
+    line: &SetLine<'p, 'a, S::Num>,
     entries: &mut List<Entry<S::Num>>,
 )
     ensures goes { Goes (S.run calc.old) (S.run calc.new) }
@@ -194,8 +198,10 @@ fn add_items<S: Steady>(
 {
     let mut before = None;
     let mut spots = line.spots;
-    let mut places = line.places;
-    while let Some((place, after)) = places.split_first() {
+    let mut count = 0;
+    for place in line.places {
+        count += 1;
+        let (_, after) = line.places.split_at(count);
         let here = Here {
             before,
             place,
@@ -205,15 +211,14 @@ fn add_items<S: Steady>(
         add_item(calc, container, line, &here, entries);
         before = Some(place);
         spots = spots_behind(&place.item, spots);
-        places = after;
     }
 }
 
 /// Adds the pieces of the inline boxes that are open at the line's start.
-fn add_opened<S: Steady>(
+fn add_opened<'p, 'a: 'p, S: Steady>(
     calc: &mut S,
     container: &Container<'_, S::Num>,
-    line: &SetLine<'_, '_, S::Num>,
+    line: &SetLine<'p, 'a, S::Num>,
     opened: &[u32],
     entries: &mut List<Entry<S::Num>>,
 )
@@ -223,17 +228,22 @@ fn add_opened<S: Steady>(
         opened.now }
 {
     for at in opened {
-        let entry = inline_fragment(calc, container, line, *at, None, line.places);
+        let span = Span {
+            starts: false,
+            left: &line.left,
+            after: line.places,
+        };
+        let entry = inline_fragment(calc, container, line, *at, &span);
         add_entry(calc, entries, entry);
     }
 }
 
 /// Adds what is on a line: first the pieces of the inline boxes that are open at its start, outermost first, and then its
 /// content in document order.
-pub fn add_line_entries<S: Steady>(
+pub fn add_line_entries<'p, 'a: 'p, S: Steady>(
     calc: &mut S,
     container: &Container<'_, S::Num>,
-    line: &SetLine<'_, '_, S::Num>,
+    line: &SetLine<'p, 'a, S::Num>,
     opened: &[u32],
     entries: &mut List<Entry<S::Num>>,
 )

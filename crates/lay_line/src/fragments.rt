@@ -7,10 +7,9 @@ ghost use Rattle.viz_calc.specs.Run.{Stands, Goes};
 ghost use Rattle.layout_semantics.specs.Blocks.{parent_of, plain_box as plain_of};
 ghost use Rattle.layout_semantics.specs.Fragments.{is_end_of as ends_box, is_text_of as is_text_at, text_right as right_of, grown as grown_by};
 ghost use Rattle.layout_semantics.specs.Lengths.{used as used_length};
-ghost use Rattle.lay_float.specs.steps.Lent.{lent_at};
 ghost use Rattle.lay_line.specs.Contexts.{context_at};
 ghost use Rattle.lay_line.specs.Readings.{entry_at, place_at, places_at, set_line_at};
-ghost use Rattle.lay_line.specs.steps.Entries.{area_in, text_in, edges_in, around_in, fragment_in, atomic_in};
+ghost use Rattle.lay_line.specs.steps.Entries.{area_in, text_in, edges_in, around_in, from_in, atomic_in};
 ghost use Rattle.lay_line.specs.steps.Words.{inline_raised};
 
 use crate::containers::Container;
@@ -288,37 +287,43 @@ fn around<S: Steady>(
     }
 }
 
-#[tactic(auto, unfolding(crate::specs::Contexts::context_at, crate::specs::steps::Entries::area_in, crate::specs::steps::Entries::around_in, crate::specs::steps::Entries::fragment_in, crate::specs::steps::Words::inline_raised))]
-/// The fragment of an inline box: from its start, where that is on the line, up to its end in what follows, where that is
-/// on the line.
+/// What a fragment of an inline box goes over.
+#[derive(Drop)]
+pub struct Span<'l, 'p, 'a, N> {
+    /// Whether the box starts on the line.
+    pub starts: bool,
+    /// Its left edge, in units of 1/64 px.
+    pub left: &'l N,
+    /// What follows.
+    pub after: &'p [ItemPlace<'a, N>],
+}
+
+#[tactic(auto, unfolding(crate::specs::Contexts::context_at, crate::specs::steps::Entries::area_in, crate::specs::steps::Entries::around_in, crate::specs::steps::Entries::from_in, crate::specs::steps::Words::inline_raised))]
+/// The fragment of an inline box: from its left edge up to its end in what follows, where that is on the line, else to the
+/// right of the line's content.
 pub fn inline_fragment<S: Steady>(
     calc: &mut S,
     container: &Container<'_, S::Num>,
     line: &SetLine<'_, '_, S::Num>,
     at: u32,
-    start: Option<&S::Num>,
-    after: &[ItemPlace<S::Num>],
+    span: &Span<'_, '_, '_, S::Num>,
 ) -> Entry<S::Num>
     ensures goes { Goes (S.run calc.old) (S.run calc.new) }
     ensures value { (e : Reading) → IsTrue ((S.run calc.new).is_open e) → entry_at S.at result e
-        ≡ fragment_in (context_at S.at container.now e) (set_line_at S.at line.now e) at (lent_at S.at start.entry e)
-        (places_at S.at after.now e) }
+        ≡ from_in (context_at S.at container.now e) (set_line_at S.at line.now e) at span.now.starts
+        (S.at span.now.left.now e) (places_at S.at span.now.after.now e) }
 {
     let up = inline_shift(calc, container, at);
     let baseline = calc.sub(&line.baseline, &up);
     let node = node_at(container.tree, at);
-    let left = match start {
-        Some(left) => left,
-        None => &line.left,
-    };
-    match find_end(at, after) {
+    match find_end(at, span.after) {
         Some(last) => {
-            let area = text_area(calc, container, node, &baseline, left, &last.left);
-            Entry::Here(around(calc, container, at, start.is_some(), true, area))
+            let area = text_area(calc, container, node, &baseline, span.left, &last.left);
+            Entry::Here(around(calc, container, at, span.starts, true, area))
         }
         None => {
-            let area = text_area(calc, container, node, &baseline, left, &line.right);
-            Entry::Here(around(calc, container, at, start.is_some(), false, area))
+            let area = text_area(calc, container, node, &baseline, span.left, &line.right);
+            Entry::Here(around(calc, container, at, span.starts, false, area))
         }
     }
 }

@@ -12,6 +12,7 @@ pub mod held;
 pub mod inline_extents;
 pub mod items;
 mod laws;
+pub mod lining;
 pub mod loads;
 pub mod meeting;
 pub mod places;

@@ -14,6 +14,8 @@ pub struct Stretches<'p, 'a, N> {
 /// A stretch, and those behind it.
 #[derive(Clone, Copy, Debug)]
 pub struct Cut<'p, 'a, N> {
+    /// All that was cut.
+    pub pieces: &'p [Piece<'a, N>],
     pub first: &'p [Piece<'a, N>],
     pub rest: Stretches<'p, 'a, N>,
 }
@@ -36,7 +38,8 @@ fn first_mark(marks: &[bool]) -> Option<usize>
 /// The first stretch, and those behind it.
 pub fn cut_first<'p, 'a, N>(stretches: &Stretches<'p, 'a, N>) -> Option<Cut<'p, 'a, N>>
     ensures { MatchOption result (parts_of stretches.now.pieces.now stretches.now.marks.now ≡ [])
-        (λ c. IsFirst stretches.now.pieces.now stretches.now.marks.now c.first.now c.rest.pieces.now c.rest.marks.now) }
+        (λ c. IsFirst stretches.now.pieces.now stretches.now.marks.now c.first.now c.rest.pieces.now c.rest.marks.now
+        × (c.pieces.now ≡ stretches.now.pieces.now)) }
 {
     if stretches.pieces.is_empty() {
         return None;
@@ -46,6 +49,7 @@ pub fn cut_first<'p, 'a, N>(stretches: &Stretches<'p, 'a, N>) -> Option<Cut<'p, 
             let (first, pieces) = stretches.pieces.split_at(n);
             let (_, marks) = stretches.marks.split_at(n);
             Some(Cut {
+                pieces: stretches.pieces,
                 first,
                 rest: Stretches { pieces, marks },
             })
@@ -54,6 +58,7 @@ pub fn cut_first<'p, 'a, N>(stretches: &Stretches<'p, 'a, N>) -> Option<Cut<'p, 
             let (first, pieces) = stretches.pieces.split_at(stretches.pieces.len());
             let (_, marks) = stretches.marks.split_at(stretches.marks.len());
             Some(Cut {
+                pieces: stretches.pieces,
                 first,
                 rest: Stretches { pieces, marks },
             })

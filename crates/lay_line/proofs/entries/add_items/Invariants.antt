@@ -1,4 +1,4 @@
-use Rattle.std.proofs.Common.{◌≡◌, ◌++◌, length, None, IsTrue}
+use Rattle.std.proofs.Common.{◌≡◌, ◌++◌, drop, None, IsTrue}
 use Rattle.viz_calc.specs.World.{Reading}
 use Rattle.viz_calc.specs.Run.{Goes}
 use Rattle.lay_line.specs.Contexts.{context_at}
@@ -13,9 +13,7 @@ invariant-loop-place g l =
     record {
       goes : Goes (run l.initial.calc) (run l.calc);
       value : (e : Reading) → IsTrue ((run l.calc).is_open e)
-          → entries_at at l.entries e ++ items_in (context_at at l.container e) (set_line_at at l.line e) (before_at at l.before e) (places_at at l.places.now e) (spots_at at l.spots.now e)
+          → entries_at at l.entries e ++ items_in (context_at at l.container e) (set_line_at at l.line e) (before_at at l.before e) (places_at at (drop l.place-index l.line.places.now) e) (spots_at at l.spots e)
           ≡ entries_at at l.initial.entries e ++ items_in (context_at at l.container e) (set_line_at at l.line e) None (places_at at l.line.places.now e) (spots_at at l.line.spots.now e);
+      count : l.count ≡ l.place-index;
     }
-
-abbrev pub decreases-loop-place : goal.decreases-loop-place
-decreases-loop-place g l = length l.places.now

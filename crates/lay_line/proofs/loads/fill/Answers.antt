@@ -16,7 +16,7 @@ returns-then-not-takes_more-clause-value g c = λ e o.
     let o3 = c.copy_held-before.ensures.goes.closes e o2 in
     let held = c.with_pieces-held.ensures.value e o1 ∙ ap (λ h. held_with h (pieces_at at cut.first.now e)) (c.copy_held-before.ensures.value e o2) in
     takes-none (context_at at c.args.container.now e) (slot_at at c.args.slot.now e) (load_at at c.loop-cut.load e) (pieces_at at cut.first.now e) (parts_at at cut.rest e) (parts_at at c.loop-cut.rest e)
-    (held_at at c.with_pieces-held.result e) (parts-same at e c.loop-cut.rest _ c.in-Some.ensures.parts) held (c.if-not-takes_more.ensures.value e o)
+    (held_at at c.with_pieces-held.result e) (parts-same at e c.loop-cut.rest _ c.in-Some.ensures.0.parts) held (c.if-not-takes_more.ensures.value e o)
     ∙ c.loop-cut.invariant.value e o3
 
 pub loop-cut-preserved : goal.loop-cut-preserved
@@ -39,7 +39,7 @@ loop-cut-preserved g c =
           let held = c.with_pieces-held.ensures.value e o3 ∙ ap (λ h. held_with h (pieces_at at cut.first.now e)) (c.copy_held-before.ensures.value e o4) in
           takes-next (context_at at c.args.container.now e) (slot_at at c.args.slot.now e) (load_at at c.loop-cut.load e) (pieces_at at cut.first.now e) (parts_at at cut.rest e) (parts_at at c.loop-cut.rest e)
           (held_at at c.with_pieces-held.result e) (bare_of cut.first.now) c.as_slice.result.now (load_at at c.with_stretch-load.result e)
-          (parts-same at e c.loop-cut.rest _ c.in-Some.ensures.parts) held (c.if-not-takes_more.ensures.value e o2) (bare-same at e cut.first.now)
+          (parts-same at e c.loop-cut.rest _ c.in-Some.ensures.0.parts) held (c.if-not-takes_more.ensures.value e o2) (bare-same at e cut.first.now)
           (c.as_slice.ensures.value ∙ c.floats_of-floats.ensures.value e o1) (c.with_stretch-load.ensures.value e o)
           ∙ c.loop-cut.invariant.value e o5;
     }

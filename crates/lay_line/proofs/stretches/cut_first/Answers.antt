@@ -12,7 +12,7 @@ returns-in-Some g c =
     let n = c.in-Some.n in
     let found : mark_from 0 marks ≡ Some n = sym c.first_mark.ensures.value ∙ c.in-Some.is in
     let is = first-cut xs marks n found (omega arith) in
-    first-moved xs marks is c.split_at.ensures.front c.split_at.ensures.back c.split_at-in-Some.ensures.back
+    (first-moved xs marks is c.split_at.ensures.front c.split_at.ensures.back c.split_at-in-Some.ensures.back, refl)
 
 pub returns-in_default : goal.returns-in_default
 returns-in_default g c =
@@ -28,4 +28,4 @@ returns-in_default g c =
           subst (λ o. IsPast o (length xs)) (sym found) tt
     ] in
     let is = first-whole xs marks (length xs) (length marks) some whole refl refl in
-    first-moved xs marks is c.split_at-in_default.ensures.front c.split_at-in_default.ensures.back c.split_at-in_default-2.ensures.back
+    (first-moved xs marks is c.split_at-in_default.ensures.front c.split_at-in_default.ensures.back c.split_at-in_default-2.ensures.back, refl)
