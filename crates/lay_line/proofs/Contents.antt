@@ -8,7 +8,7 @@ use Rattle.std.specs.Char.{encode_utf8, len_utf8}
 use denote.Ref.{Bor}
 use Rattle.std.proofs.lemmas.List.{length-append}
 use Rattle.std.proofs.lemmas.Str.{chars-nil, chars-append, chars_from_encodes, encodes-chars, chars_past_char, encode_ascii, IsUtf8-take, IsUtf8-drop, IsCharBoundary-before_ascii}
-use Rattle.std.proofs.lemmas.Str.Pattern.{IsSplitOnceResult, split_parts, drop_at_char}
+use Rattle.std.proofs.lemmas.Str.Pattern.{IsSplitOnceResult, split_parts}
 use Rattle.viz_base.specs.declared.trees.BoxNode.{BoxNode}
 use Rattle.viz_base.specs.declared.trees.BoxTree.{BoxTree}
 use Rattle.viz_base.specs.declared.trees.Kind.{Kind}
@@ -73,7 +73,7 @@ cut-word bs x u s =
     let space_text : IsUtf8 (32 ∷ x.1.now) = subst IsUtf8 behind (IsUtf8-drop bs i u edge) in
     let rest_text : IsUtf8 x.1.now = subst IsUtf8 (ap (λ k. drop k bs) (sym here.ends) ∙ sym s.4) (IsUtf8-drop bs (i + len_utf8 32) u here.after) in
     let letters : chars bs ≡ chars x.0.now ++ 32 ∷ chars x.1.now = ap chars whole ∙ chars-append x.0.now (32 ∷ x.1.now) word_text
-        ∙ ap (λ l. chars x.0.now ++ l) (chars_past_char (32 ∷ x.1.now) x.1.now 32 space_text (ap (λ l. l ++ x.1.now) (sym (encode_ascii 32 (lit≤ tt))))) in
+    ∙ ap (λ l. chars x.0.now ++ l) (chars_past_char (32 ∷ x.1.now) x.1.now 32 space_text (ap (λ l. l ++ x.1.now) (sym (encode_ascii 32 (lit≤ tt))))) in
     let word_letters : finds.0.0 ≡ chars x.0.now = chars_from_encodes finds.0.0 x.0.now word_text (finds.0.1 ∙ sym front) in
     record {
       items = λ at. ap (text_items at) letters ∙ text-cut at (chars x.0.now) (chars x.1.now) (subst (NonePass (λ d. d == 32)) word_letters finds.0.2);

@@ -5,7 +5,7 @@ use Rattle.viz_base.specs.declared.layouts.Entry.{Entry}
 use Rattle.viz_base.specs.declared.layouts.Spot.{Spot}
 use Rattle.std.specs.Prelude.{ℤ}
 use Rattle.layout_semantics.specs.LineHeights.{InlineContext}
-use Rattle.layout_semantics.specs.Fragments.{ItemPlace, SetLine, item_entries, entries_after, opened_entries, spots_after}
+use Rattle.layout_semantics.specs.Fragments.{ItemPlace, SetLine, entries_after, opened_entries, spots_after}
 use Rattle.lay_line.specs.steps.Entries.{item_in, items_in, from_in, opened_in}
 use Rattle.lay_line.specs.steps.Lining.{entries_in}
 

@@ -1,32 +1,31 @@
 -- The lines of measured items are the lines.
-use Rattle.std.proofs.Common.{◌≡◌, ℕ, zero, suc, ◌+◌, ◌-◌, ◌≤◌, ℤ, ◌+ℤ◌, pos, Bool, true, false, cond, List, [], ◌∷◌, ◌++◌, map, flat_map, length, take, drop, fold, None, Some, refl, sym, ap, ◌∙◌, append_assoc, append-nil, arith}
+use Rattle.std.proofs.Common.{◌≡◌, ℕ, zero, suc, ◌≤◌, ℤ, ◌+ℤ◌, pos, Bool, true, false, cond, List, [], ◌∷◌, ◌++◌, map, flat_map, length, take, drop, fold, None, Some, refl, sym, ap, ◌∙◌, append_assoc, append-nil, arith}
 use Rattle.std.specs.Prelude.{◌&&◌}
 use Rattle.std.specs.Int.{int_max}
-use Rattle.std.proofs.lemmas.List.{length-append, length-map, length-drop}
+use Rattle.std.proofs.lemmas.List.{length-map, length-drop}
 use Rattle.layout_semantics.specs.Floats.{FloatBox, band_at}
 use Rattle.layout_semantics.specs.InlineContent.{Item, float_boxes, content}
 use Rattle.layout_semantics.specs.Stretches.{may_part}
 use Rattle.layout_semantics.specs.LineHeights.{InlineContext, LineExtent, height_of_extent, strut}
 use Rattle.layout_semantics.specs.LineFilling.{Met, Line, meet, place_each, line_spot, with_spot, with_waiting, none_waits, leaves_room, before_line, from_line_on, item_width, first_items}
-use Rattle.layout_semantics.specs.Fragments.{ItemPlace, line_entries, float_entries}
-use Rattle.layout_semantics.specs.Lines.{SoFar, LaidLines, LineList, before_all, followed, go_on, lines_in}
-use Rattle.lay_line.specs.steps.Cutting.{cut}
+use Rattle.layout_semantics.specs.Fragments.{ItemPlace, float_entries}
+use Rattle.layout_semantics.specs.Lines.{SoFar, LaidLines, LineList, before_all, followed, lines_in}
 use Rattle.lay_line.specs.steps.Filling.{Filled, with_stretch, first_filled, takes, past, filled, extent_at_start}
 use Rattle.lay_line.specs.steps.Held.{Held, nothing_held, with_items}
-use Rattle.lay_line.specs.steps.Laying.{tallest_of, none_met, left_of, line_from, line_added, laid, laid_empty, line_closed, line_step, laid_to, lines_by_steps}
-use Rattle.lay_line.specs.steps.Loading.{Load, bare, ahead, reaching_boxes, loaded, loading, tallest_by, parts_of}
+use Rattle.lay_line.specs.steps.Laying.{tallest_of, none_met, left_of, line_from, line_added, laid, laid_empty, line_step, laid_to}
+use Rattle.lay_line.specs.steps.Loading.{Load, bare, ahead, reaching_boxes, loaded, loading, tallest_by}
 use Rattle.lay_line.specs.steps.Lining.{no_floats, met_before, slot_for, first_load, left_in, places_of, entries_in, box_in, full_line, empty_line, ended_line, joined_parts, taken, next_in, going_on, laying, lined}
 use Rattle.lay_line.specs.steps.Marks.{marks, marked_parts}
-use Rattle.lay_line.specs.steps.Measured.{Measured, measured, held_with, rows, first_row}
+use Rattle.lay_line.specs.steps.Measured.{Measured, measured, rows, first_row}
 use Rattle.lay_line.specs.steps.Meeting.{Slot, placed_all}
 use Rattle.lay_line.specs.steps.Staying.{no_items, spanned, stand}
 use Rattle.lay_line.specs.steps.Words.{width_in, strut_in, room_in}
-use Rattle.lay_line.proofs.Fills.{state, line-filled}
+use Rattle.lay_line.proofs.Fills.{line-filled}
 use Rattle.lay_line.proofs.Lays.{lines-are}
 use Rattle.lay_line.proofs.Marks.{marks-same}
 use Rattle.lay_line.proofs.Measures.{held-same, row-same}
 use Rattle.lay_line.proofs.Parts.{measured-parts, bare-measured, measured-append, measured-joined, parts-few, taken-front, joined-split}
-use Rattle.lay_line.proofs.Passing.{slot_of, load_of, left_by, placed-same, reaching-same, start-same, loaded-same, loading-same, left-same, ahead-same, behind-same, top-same}
+use Rattle.lay_line.proofs.Passing.{slot_of, load_of, placed-same, reaching-same, start-same, loaded-same, loading-same, left-same, ahead-same, behind-same, top-same}
 
 -- ---- floats only grow
 
@@ -244,7 +243,7 @@ module _ (c : InlineContext) (tall : ℤ) (now : SoFar) (first : List Item) (res
       ∙ (ap (λ xs. (ended_line c now (slot_of line) (load_of full) xs, map m (drop full.count parts))) (items-same full.count)
       ∙ (ap (λ l. paired l (drop full.count parts)) (ended-same c now line full (first_items line full.count) full-grows)
       ∙ ap (λ k. paired (cond full.is_line (laid c now line full.met full.extent full.opened full.held.width (stand c (left_of c line full.met full.held.width) false k (first_items line full.count)))
-          (laid_empty c now full.opened (first_items line full.count))) (drop full.count parts)) (sym span-same))))))))
+      (laid_empty c now full.opened (first_items line full.count))) (drop full.count parts)) (sym span-same))))))))
     where
       of_loaded : Slot → Load × List (List Measured) → LaidLines × List (List Measured)
       of_loaded slot f = (ended_line c now slot f.0 (taken (joined_parts (map (measured w) parts)) (joined_parts f.1)), f.1)

@@ -1,5 +1,5 @@
 -- How much a line holds, one stretch further on.
-use Rattle.std.proofs.Common.{◌≡◌, ℕ, Bool, true, false, cond, List, [], ◌∷◌, map, refl, sym, ap, ◌∙◌}
+use Rattle.std.proofs.Common.{◌≡◌, ℕ, true, false, cond, List, [], ◌∷◌, map, refl, sym, ap, ◌∙◌}
 use Rattle.std.specs.Prelude.{ℤ}
 use Rattle.viz_calc.specs.World.{Reading}
 use Rattle.layout_semantics.specs.InlineContent.{Item, float_boxes}

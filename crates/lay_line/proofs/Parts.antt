@@ -1,7 +1,7 @@
 -- Lists in the parts that marks make.
-use Rattle.std.proofs.Common.{◌≡◌, ℕ, zero, suc, ◌+◌, ◌-◌, ◌≤◌, ◌<◌, ℤ, Bool, true, false, cond, List, [], ◌∷◌, ◌++◌, map, flat_map, length, take, drop, Option, Some, None, option_map, refl, sym, ap, ◌∙◌, append_assoc, append-nil, subst, arith}
+use Rattle.std.proofs.Common.{◌≡◌, ℕ, zero, suc, ◌+◌, ◌-◌, ◌≤◌, ◌<◌, ℤ, Bool, true, false, List, [], ◌∷◌, ◌++◌, map, flat_map, length, take, drop, Option, Some, None, option_map, refl, sym, ap, ◌∙◌, append_assoc, append-nil, subst, arith}
 use Rattle.std.specs.List.{onto_first}
-use Rattle.std.proofs.lemmas.List.{length-append, length-map, length-drop}
+use Rattle.std.proofs.lemmas.List.{length-append, length-drop}
 use Rattle.layout_semantics.specs.InlineContent.{Item}
 use Rattle.lay_line.specs.steps.Cutting.{parted}
 use Rattle.lay_line.specs.steps.Marks.{marked_parts}

@@ -1,22 +1,21 @@
 -- The steps over measured items are those over items.
-use Rattle.std.proofs.Common.{◌≡◌, ℕ, zero, suc, ◌+◌, ◌-◌, ◌≤◌, ◌<◌, ℤ, pos, Bool, true, false, not, cond, List, [], ◌∷◌, ◌++◌, map, flat_map, length, take, drop, fold, Option, Some, None, refl, sym, ap, ◌∙◌, append_assoc, arith}
+use Rattle.std.proofs.Common.{◌≡◌, ℕ, zero, suc, ◌+◌, ℤ, Bool, true, false, not, cond, List, [], ◌∷◌, map, length, take, drop, fold, Option, Some, None, refl, sym, ap, ◌∙◌, arith}
 use Rattle.std.specs.Prelude.{◌&&◌, ◌||◌, int_lt}
-use Rattle.std.specs.Int.{int_max, int_min}
+use Rattle.std.specs.Int.{int_min}
 use Rattle.std.specs.List.{list_any, before_first, prefix_len}
 use Rattle.std.proofs.lemmas.Int.{ints, clamps}
 use Rattle.layout_semantics.specs.Floats.{FloatBox, band_at, meets}
 use Rattle.layout_semantics.specs.InlineContent.{Item, start, finish, word, space, atomic, forced, float, float_boxes, makes_line}
-use Rattle.layout_semantics.specs.Stretches.{is_forced}
 use Rattle.layout_semantics.specs.LineHeights.{InlineContext, LineExtent, strut}
-use Rattle.layout_semantics.specs.LineFilling.{Met, Line, fits, meet, none_waits, leaves_room, line_spot, with_spot, with_waiting, place_each, meets_none, item_width, before_line, from_line_on}
-use Rattle.layout_semantics.specs.Lines.{SoFar, opened_after}
-use Rattle.lay_line.specs.steps.Held.{Held, nothing_held, with_items}
-use Rattle.lay_line.specs.steps.Filling.{Filled, with_stretch, first_filled, takes, past, filled, with_item_box, with_box, extent_at_start}
-use Rattle.lay_line.specs.steps.Loading.{Load, bare, with_reach, with_reach_of, extending, reaching, reaching_boxes, opened_by, has_forced, has_maker, loaded, takes_more, loading, ahead_by, ahead}
-use Rattle.lay_line.specs.steps.Measured.{Measured, measured, held_with}
+use Rattle.layout_semantics.specs.LineFilling.{Met, Line, fits, meet, none_waits, leaves_room, line_spot, with_spot, with_waiting, place_each, item_width, before_line, from_line_on}
+use Rattle.layout_semantics.specs.Lines.{opened_after}
+use Rattle.lay_line.specs.steps.Held.{Held, with_items}
+use Rattle.lay_line.specs.steps.Filling.{Filled, with_stretch, takes, past, filled, with_item_box, with_box, extent_at_start}
+use Rattle.lay_line.specs.steps.Loading.{Load, bare, with_reach, reaching, reaching_boxes, opened_by, has_forced, has_maker, loaded, takes_more, loading, ahead_by, ahead}
+use Rattle.lay_line.specs.steps.Measured.{Measured, measured}
 use Rattle.lay_line.specs.steps.Meeting.{Slot, placed_next, placed_all, met_next, met_all, stands_at, top_in}
-use Rattle.lay_line.specs.steps.Tops.{lower, with_top, with_float, top_or, may_stand, top_found}
-use Rattle.lay_line.specs.steps.Words.{width_in, reach_in, strut_in, makes, spot_in, floats_with, room_in}
+use Rattle.lay_line.specs.steps.Tops.{lower, with_float, top_or, may_stand, top_found}
+use Rattle.lay_line.specs.steps.Words.{reach_in, strut_in, makes, spot_in, floats_with, room_in}
 use Rattle.lay_line.proofs.Fills.{drop-next}
 use Rattle.lay_line.proofs.Measures.{held-same}
 use Rattle.lay_line.proofs.Parts.{bare-measured}

@@ -1,5 +1,5 @@
 -- A block container at a reading, part by part.
-use Rattle.std.proofs.Common.{◌≡◌, ◌==◌, ℕ, zero, suc, ℤ, pos, ◌+ℤ◌, ◌*ℤ◌, Bool, true, false, List, [], ◌∷◌, map, Option, Some, None, option_map, slice_index_or, refl, sym, ap, ◌∙◌, eq-eqb, ne_eqb, arith}
+use Rattle.std.proofs.Common.{◌≡◌, ◌==◌, ℕ, zero, suc, ℤ, pos, ◌+ℤ◌, ◌*ℤ◌, Bool, true, false, List, [], ◌∷◌, Option, Some, None, option_map, slice_index_or, refl, ap, ◌∙◌, eq-eqb, ne_eqb, arith}
 use Rattle.std.specs.Option.{option_map_or}
 use Rattle.std.proofs.lemmas.Int.{ints}
 use Rattle.viz_base.specs.FontSizes.{fraction}
@@ -8,7 +8,6 @@ use Rattle.viz_base.specs.declared.layouts.Extent.{Extent}
 use Rattle.viz_base.specs.declared.layouts.Inner.{Inner}
 use Rattle.viz_base.specs.declared.lengths.Valign.TheVariants as of_valign
 use Rattle.viz_base.specs.declared.styles.Style.{Style}
-use Rattle.viz_base.specs.declared.trees.BoxTree.{BoxTree}
 use Rattle.viz_calc.specs.World.{Reading}
 use Rattle.layout_semantics.specs.Blocks.{node_of, parent_of}
 use Rattle.layout_semantics.specs.InlineContent.{atomic}

@@ -1,6 +1,5 @@
 -- A block container at a reading.
 use Rattle.std.specs.Prelude.{ℤ, List, map, Option, option_map}
-use denote.Ref.{Bor}
 use Rattle.viz_base.specs.declared.layouts.Inner.{Inner}
 use Rattle.viz_calc.specs.World.{Reading}
 use Rattle.layout_semantics.specs.LineHeights.{InlineContext}

@@ -84,11 +84,7 @@ fn add_box<'a>(tree: &'a BoxTree, at: u32, items: &mut Vec<Item<'a>>) -> Result<
 
 #[cycle(walk)]
 /// Adds the inline content of a box.
-fn add_content<'a>(
-    tree: &'a BoxTree,
-    at: u32,
-    items: &mut Vec<Item<'a>>,
-) -> Result<(), AllocError>
+fn add_content<'a>(tree: &'a BoxTree, at: u32, items: &mut Vec<Item<'a>>) -> Result<(), AllocError>
     requires { at < length tree.now.boxes }
     ensures { OnOk result (items_of items.new.items ≡ items_of items.old.items ++ content_of tree.now at) }
 {

@@ -13,18 +13,16 @@ ghost use Rattle.lay_line.specs.steps.Entries.{piece_in, item_in, items_in, open
 ghost use Rattle.lay_line.specs.steps.Lining.{entries_in};
 
 use crate::containers::Container;
-use crate::fragments::{SetLine, Span, atomic_entry, inline_fragment, is_text_of, text_fragment, text_right};
+use crate::fragments::{
+    SetLine, Span, atomic_entry, inline_fragment, is_text_of, text_fragment, text_right,
+};
 use crate::items::Item;
 use crate::places::ItemPlace;
 use viz_base::{Entry, List, Spot};
 use viz_calc::Steady;
 
 /// An entry more.
-pub fn add_entry<S: Steady>(
-    calc: &mut S,
-    entries: &mut List<Entry<S::Num>>,
-    entry: Entry<S::Num>,
-)
+pub fn add_entry<S: Steady>(calc: &mut S, entries: &mut List<Entry<S::Num>>, entry: Entry<S::Num>)
     ensures goes { Goes (S.run calc.old) (S.run calc.new) }
     ensures value { (e : Reading) → IsTrue ((S.run calc.new).is_open e) → entries_at S.at entries.new e
         ≡ entries_at S.at entries.old e ++ entry_at S.at entry e ∷ [] }

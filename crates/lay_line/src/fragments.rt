@@ -16,8 +16,8 @@ use crate::containers::Container;
 use crate::items::Item;
 use crate::places::ItemPlace;
 use crate::shifts::{box_extent, inline_shift, shift};
-use crate::trees::node_at;
 use crate::sizes::band_width;
+use crate::trees::node_at;
 use lay_length::fonts::{ascent, descent};
 use lay_length::lengths::{used, zero};
 use lay_width::properties::{borders, margins, paddings, parent_at};
@@ -190,11 +190,7 @@ pub fn text_fragment<S: Steady>(
 }
 
 /// A rectangle with edges around it.
-fn grown<S: Steady>(
-    calc: &mut S,
-    quad: &Quad<S::Num>,
-    edges: &Quad<S::Num>,
-) -> Quad<S::Num>
+fn grown<S: Steady>(calc: &mut S, quad: &Quad<S::Num>, edges: &Quad<S::Num>) -> Quad<S::Num>
     ensures goes { Goes (S.run calc.old) (S.run calc.new) }
     ensures value { (e : Reading) → IsTrue ((S.run calc.new).is_open e) → quad_at S.at result e
         ≡ grown_by (quad_at S.at quad.now e) (quad_at S.at edges.now e) }

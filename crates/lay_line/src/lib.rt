@@ -17,7 +17,7 @@ pub mod loads;
 pub mod meeting;
 pub mod places;
 pub mod shifts;
+pub mod sizes;
 pub mod stretches;
 pub mod tops;
 pub mod trees;
-pub mod sizes;

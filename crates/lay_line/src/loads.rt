@@ -1,6 +1,5 @@
 //! How much a line holds, stretch by stretch (CSS 2.1, 9.4.2).
-ghost use Rattle.std.specs.Prelude.{◌≡◌, ◌++◌, ◌∷◌, [], not, ◌==◌, pos, filter, IsTrue, IfOk};
-ghost use Rattle.std.specs.Int.{int_max};
+ghost use Rattle.std.specs.Prelude.{◌≡◌, ◌≤◌, not, ◌==◌, pos, length, filter, IsTrue, IfOk};
 ghost use Rattle.std.specs.List.{list_any};
 ghost use Rattle.viz_calc.specs.World.{Reading};
 ghost use Rattle.viz_calc.specs.Run.{Stands, Goes};
@@ -220,7 +219,8 @@ fn has_maker<N>(tree: &BoxTree, pieces: &[Piece<N>]) -> bool
 
 /// How many pieces stand before the first that makes the line exist.
 pub fn ahead<N>(tree: &BoxTree, pieces: &[Piece<N>]) -> usize
-    ensures { result ≡ ahead_by (makes tree.now) (bare_of pieces.now) }
+    ensures value { result ≡ ahead_by (makes tree.now) (bare_of pieces.now) }
+    ensures within { result ≤ length pieces.now }
 {
     let mut count = 0;
     for piece in pieces {

@@ -17,8 +17,8 @@ use crate::containers::{Container, inner_of};
 use crate::extents::greater;
 use crate::held::Piece;
 use crate::items::Item;
-use crate::trees::{clear_at, side_at};
 use crate::sizes::band_width;
+use crate::trees::{clear_at, side_at};
 use lay_float::engine::{band, bottom, place};
 use lay_float::{Floats, PlacedFloat};
 use lay_length::lengths::zero;
@@ -50,11 +50,7 @@ pub struct Slot<N> {
 }
 
 /// The outer size of a float.
-fn float_size<S: Steady>(
-    calc: &mut S,
-    container: &Container<'_, S::Num>,
-    at: u32,
-) -> Extent<S::Num>
+fn float_size<S: Steady>(calc: &mut S, container: &Container<'_, S::Num>, at: u32) -> Extent<S::Num>
     ensures goes { Goes (S.run calc.old) (S.run calc.new) }
     ensures value { (e : Reading) → IsTrue ((S.run calc.new).is_open e) → extent_at S.at result e
         ≡ size_in (context_at S.at container.now e) at }
@@ -248,7 +244,14 @@ fn meet<S: Steady>(
     }
     let before = met.floats.placed.len();
     let spot = place_float(calc, container, &mut met.floats, at, &slot.least, &slot.top);
-    if leaves_room(calc, container, slot, held, met.floats.placed.as_slice(), &spot.y) {
+    if leaves_room(
+        calc,
+        container,
+        slot,
+        held,
+        met.floats.placed.as_slice(),
+        &spot.y,
+    ) {
         add_spot(calc, &mut met.spots, at, spot);
         return;
     }

@@ -127,11 +127,7 @@ pub fn shift<S: Steady>(
 
 #[tactic(auto, unfolding(crate::specs::Contexts::context_at, crate::specs::steps::Words::raised, crate::specs::steps::Words::inline_raised))]
 /// The same of an inline box.
-pub fn inline_shift<S: Steady>(
-    calc: &mut S,
-    container: &Container<'_, S::Num>,
-    at: u32,
-) -> S::Num
+pub fn inline_shift<S: Steady>(calc: &mut S, container: &Container<'_, S::Num>, at: u32) -> S::Num
     ensures goes { Goes (S.run calc.old) (S.run calc.new) }
     ensures value { Stands (S.run calc.new) (S.at result) (λ e. inline_raised (context_at S.at container.now e) at) }
 {

@@ -80,7 +80,13 @@ fn end_width<S: Steady>(calc: &mut S, container: &Container<'_, S::Num>, at: u32
     let margin = margins(container.tree, at);
     let border = borders(container.tree, at);
     let padding = paddings(container.tree, at);
-    edges_width(calc, container, &margin.right, &border.right, &padding.right)
+    edges_width(
+        calc,
+        container,
+        &margin.right,
+        &border.right,
+        &padding.right,
+    )
 }
 
 /// What an atomic box takes.
@@ -106,18 +112,19 @@ fn space_width<S: Steady>(calc: &mut S, tree: &BoxTree, at: u32) -> S::Num
 
 #[tactic(auto, unfolding(crate::specs::Contexts::context_at, crate::specs::steps::Words::width_in))]
 /// What an item takes of a line.
-fn item_width<S: Steady>(
-    calc: &mut S,
-    container: &Container<'_, S::Num>,
-    item: &Item,
-) -> S::Num
+fn item_width<S: Steady>(calc: &mut S, container: &Container<'_, S::Num>, item: &Item) -> S::Num
     requires { IsShort (item_of item.now) }
     ensures goes { Goes (S.run calc.old) (S.run calc.new) }
     ensures value { Stands (S.run calc.new) (S.at result)
         (λ e. width_in (context_at S.at container.now e) (item_of item.now)) }
 {
     match item {
-        Item::Word(at, text) => text_width(calc, container.tree, node_at(container.tree, *at), text),
+        Item::Word(at, text) => text_width(
+            calc,
+            container.tree,
+            node_at(container.tree, *at),
+            text,
+        ),
         Item::Space(at) => space_width(calc, container.tree, *at),
         Item::Atomic(at) => atomic_width(calc, container, *at),
         Item::Start(at) => start_width(calc, container, *at),

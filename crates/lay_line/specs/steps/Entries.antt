@@ -1,5 +1,5 @@
 -- The entries of a line, item by item.
-use Rattle.std.specs.Prelude.{ℕ, ℤ, ◌-ℤ◌, find, is_some, Bool, false, List, [], ◌∷◌, ◌++◌, Option, None, Some}
+use Rattle.std.specs.Prelude.{ℕ, ℤ, ◌-ℤ◌, find, is_some, Bool, false, List, [], ◌∷◌, ◌++◌, Option, Some}
 use Rattle.viz_base.specs.declared.layouts.Entry.{Entry}
 use Rattle.viz_base.specs.declared.layouts.Spot.{Spot}
 use Rattle.viz_base.specs.declared.renderings.Placed.{Placed}
@@ -10,7 +10,7 @@ use Rattle.layout_semantics.specs.LineHeights.{InlineContext, inline_shift}
 use Rattle.layout_semantics.specs.Blocks.{node_of}
 use Rattle.std.specs.Option.{option_map_or}
 use Rattle.viz_base.specs.declared.layouts.Entry.TheVariants as of_entry
-use Rattle.layout_semantics.specs.Fragments.{ItemPlace, SetLine, is_end_of, text_area, text_baseline, text_fragment, text_entry, fragment_edges, around, inline_fragment, atomic_entry, item_entries, spots_after}
+use Rattle.layout_semantics.specs.Fragments.{ItemPlace, SetLine, is_end_of, text_area, text_fragment, text_entry, fragment_edges, around, inline_fragment, atomic_entry, item_entries, spots_after}
 
 unfoldable pub area_in : InlineContext → ℕ → ℤ → ℤ → ℤ → Quad ℤ
 area_in c node baseline left right = text_area c node baseline left right

@@ -1,5 +1,5 @@
 -- Lines of measured items, one after another.
-use Rattle.std.specs.Prelude.{ℕ, zero, suc, ◌-◌, ℤ, ◌+ℤ◌, ◌-ℤ◌, Bool, false, cond, List, [], ◌∷◌, ◌++◌, map, take, drop, length, Option, Some, None}
+use Rattle.std.specs.Prelude.{ℕ, zero, suc, ◌-◌, ℤ, ◌+ℤ◌, Bool, false, cond, List, [], ◌∷◌, take, drop, length, Some}
 use Rattle.std.specs.Int.{int_max}
 use Rattle.std.specs.List.{flat_map}
 use Rattle.viz_base.specs.declared.layouts.Band.{Band}
@@ -7,7 +7,7 @@ use Rattle.viz_base.specs.declared.layouts.Entry.{Entry}
 use Rattle.viz_base.specs.declared.layouts.Spot.{Spot}
 use Rattle.layout_semantics.specs.Floats.{FloatBox}
 use Rattle.layout_semantics.specs.InlineContent.{Item, float_boxes}
-use Rattle.layout_semantics.specs.LineHeights.{InlineContext, LineExtent, height_of_extent}
+use Rattle.layout_semantics.specs.LineHeights.{InlineContext, height_of_extent}
 use Rattle.layout_semantics.specs.LineFilling.{Met}
 use Rattle.layout_semantics.specs.Fragments.{ItemPlace, SetLine, line_entries, float_entries}
 use Rattle.layout_semantics.specs.Lines.{SoFar, LaidLines, LineList, before_all, followed, laid_none, line_box, content_left}

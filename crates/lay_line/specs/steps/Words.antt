@@ -1,10 +1,8 @@
 -- Names for what the steps over measured items are made of.
-use Rattle.std.specs.Prelude.{ℕ, ℤ, Bool, List, not}
-use Rattle.std.specs.List.{list_any}
+use Rattle.std.specs.Prelude.{ℕ, ℤ, Bool, List}
 use Rattle.viz_base.specs.declared.layouts.Band.{Band}
 use Rattle.viz_base.specs.declared.layouts.Extent.{Extent}
 use Rattle.viz_base.specs.declared.layouts.Spot.{Spot}
-use Rattle.viz_base.specs.declared.lengths.Length.{Length}
 use Rattle.viz_base.specs.declared.lengths.Valign.{Valign}
 use Rattle.viz_base.specs.declared.trees.BoxTree.{BoxTree}
 use Rattle.layout_semantics.specs.Floats.{FloatBox, band_at}

@@ -1,6 +1,6 @@
-use Rattle.std.proofs.Common.{◌≡◌, Some, None, Option, arith}
+use Rattle.std.proofs.Common.{◌≡◌, Some, None, Option}
 use Rattle.std.specs.Prelude.{ℕ, List, MatchOption}
-use Rattle.std.specs.Str.{IsUtf8, chars}
+use Rattle.std.specs.Str.{chars}
 use denote.Ref.{Bor}
 use Rattle.std.proofs.lemmas.Str.Pattern.{IsSplitOnceResult}
 use Rattle.layout_semantics.specs.InlineContent.{text_items}

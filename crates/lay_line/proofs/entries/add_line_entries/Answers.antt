@@ -1,4 +1,4 @@
-use Rattle.std.proofs.Common.{◌≡◌, ◌++◌, None, append_assoc, ap, ◌∙◌}
+use Rattle.std.proofs.Common.{◌++◌, None, append_assoc, ap, ◌∙◌}
 use Rattle.lay_line.specs.Contexts.{context_at}
 use Rattle.lay_line.specs.Readings.{entries_at, places_at, spots_at, set_line_at}
 use Rattle.lay_line.specs.steps.Entries.{items_in, opened_in}

@@ -1,4 +1,4 @@
-use Rattle.std.proofs.Common.{◌≡◌, false, sym, ap, ◌∙◌}
+use Rattle.std.proofs.Common.{false, sym, ap, ◌∙◌}
 use Rattle.std.specs.Option.{option_map_or}
 use Rattle.layout_semantics.specs.Fragments.{is_text_of}
 use Rattle.lay_line.specs.Readings.{before_at}

@@ -1,7 +1,7 @@
-use Rattle.std.proofs.Common.{◌≡◌, sym, ◌∙◌, arith}
+use Rattle.std.proofs.Common.{sym, ◌∙◌}
 use Rattle.layout_semantics.specs.Fragments.{is_end_of}
 use Rattle.lay_line.specs.Readings.{place_at}
-use Rattle.lay_line.proofs.Found.{found-here, found-later, found-none}
+use Rattle.lay_line.proofs.Found.{found-here, found-later}
 use Rattle.lay_line.proofs.fragments.find_end.Goals as goal
 
 pub returns-then-is_end_of : goal.returns-then-is_end_of

@@ -1,5 +1,4 @@
 use Rattle.std.proofs.Common.{◌≡◌, true, false, sym, ◌∙◌, arith}
-use Rattle.layout_semantics.specs.Fragments.{is_text_of}
 use Rattle.lay_line.specs.Readings.{place_at}
 use Rattle.lay_line.proofs.Found.{right-here, right-later}
 use Rattle.lay_line.proofs.fragments.text_right.Goals as goal

@@ -1,4 +1,4 @@
-use Rattle.std.proofs.Common.{◌≡◌, ◌∷◌, [], arith, sym, ap, ◌∙◌}
+use Rattle.std.proofs.Common.{[], arith, ap, ◌∙◌}
 use Rattle.viz_calc.proofs.Runs.{Goes-then}
 use Rattle.lay_line.specs.Contexts.{context_at}
 use Rattle.lay_line.specs.Items.{bare_of}

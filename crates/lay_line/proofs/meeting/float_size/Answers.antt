@@ -1,4 +1,4 @@
-use Rattle.std.proofs.Common.{◌≡◌, ◌+ℤ◌, pos, sym, ap, ◌∙◌}
+use Rattle.std.proofs.Common.{pos, sym, ap, ◌∙◌}
 use Rattle.lay_line.proofs.Tables.{sized, size-some, size-none}
 use Rattle.lay_line.proofs.meeting.float_size.Goals as goal
 

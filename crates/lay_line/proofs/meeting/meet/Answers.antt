@@ -1,4 +1,4 @@
-use Rattle.std.proofs.Common.{◌≡◌, ◌++◌, ◌∷◌, [], false, List, length, sym, ap, ◌∙◌, arith}
+use Rattle.std.proofs.Common.{◌≡◌, ◌++◌, ◌∷◌, [], List, length, ap, ◌∙◌, arith}
 use Rattle.std.specs.Prelude.{ℕ, ◌==◌}
 use Rattle.std.specs.Prelude.{ℤ}
 use Rattle.viz_base.specs.declared.layouts.Spot.{Spot}
@@ -9,7 +9,6 @@ use Rattle.lay_line.specs.Contexts.{context_at}
 use Rattle.lay_line.specs.Readings.{met_at, slot_at, spots_at}
 use Rattle.lay_line.specs.steps.Meeting.{leaves}
 use Rattle.lay_line.proofs.FloatSteps.{back-to, none-is, waits-after}
-use Rattle.std.proofs.lemmas.Bool.Decides.{nat_tests}
 use Rattle.lay_line.proofs.meeting.meet.Goals as goal
 
 pub returns-clause-value : goal.returns-clause-value

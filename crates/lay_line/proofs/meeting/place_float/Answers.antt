@@ -1,5 +1,5 @@
-use Rattle.std.proofs.Common.{◌≡◌, sym, ap, ◌∙◌}
-use Rattle.layout_semantics.specs.Floats.{lowest_bottom, placed_float}
+use Rattle.std.proofs.Common.{ap, ◌∙◌}
+use Rattle.layout_semantics.specs.Floats.{lowest_bottom}
 use Rattle.lay_float.specs.Readings.{boxes_at, floats_at, extent_at, spot_at}
 use Rattle.lay_line.specs.Contexts.{context_at}
 use Rattle.lay_line.specs.steps.Meeting.{top_below}

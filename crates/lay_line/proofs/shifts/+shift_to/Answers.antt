@@ -44,11 +44,11 @@ returns-in-Some-clause-value g t c = λ e o.
     let node = c.node_at-node.ensures in
     let around = c.node_at-around.ensures in
     let own_one = c.raise-own.ensures.value e o3
-        ∙ (ap (λ n. raise_in ctx n c.node_at-around.result ext c.valign_at-valign.result) node
-        ∙ (ap (λ n. raise_in ctx (node_of tree b) n ext c.valign_at-valign.result) around
-        ∙ ap (λ v. raise_in ctx (node_of tree b) (node_of tree p) ext v) c.valign_at-valign.ensures)) in
+    ∙ (ap (λ n. raise_in ctx n c.node_at-around.result ext c.valign_at-valign.result) node
+    ∙ (ap (λ n. raise_in ctx (node_of tree b) n ext c.valign_at-valign.result) around
+    ∙ ap (λ v. raise_in ctx (node_of tree b) (node_of tree p) ext v) c.valign_at-valign.ensures)) in
     let above = c.shift_to-above.ensures.value e o1
-        ∙ ap (λ x. shift_to less ctx p x) (c.inline_extent-outer.ensures.value e o2 ∙ ap (λ n. inline_extent tree e.world n) around) in
+    ∙ ap (λ x. shift_to less ctx p x) (c.inline_extent-outer.ensures.value e o2 ∙ ap (λ n. inline_extent tree e.world n) around) in
     c.add.ensures.value e o
     ∙ (ap (λ x. x +ℤ at c.shift_to-above.result e) own_one
     ∙ (ap (λ x. raise_in ctx (node_of tree b) (node_of tree p) ext (own tree b (λ (s : Style). s.valign) of_valign.Baseline) +ℤ x) above

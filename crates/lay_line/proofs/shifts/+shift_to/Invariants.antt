@@ -1,4 +1,3 @@
-
 use Rattle.lay_line.proofs.shifts.+shift_to.Given as goal
 
 abbrev pub decreases-shift_to : goal.decreases-shift_to

@@ -1,4 +1,4 @@
-use Rattle.std.proofs.Common.{◌≡◌, sym, ap, ◌∙◌}
+use Rattle.std.proofs.Common.{sym, ap, ◌∙◌}
 use Rattle.layout_semantics.specs.LineHeights.{LineExtent, inline_extent}
 use Rattle.std.specs.Prelude.{ℤ}
 use Rattle.lay_line.proofs.Tables.{reach-some, reach-none}

@@ -1,4 +1,4 @@
-use Rattle.std.proofs.Common.{◌≡◌, ◌+ℤ◌, ◌-ℤ◌, ap, ◌∙◌}
+use Rattle.std.proofs.Common.{◌+ℤ◌, ◌-ℤ◌, ap, ◌∙◌}
 use Rattle.viz_base.specs.Numbers.{floor_of}
 use Rattle.layout_semantics.specs.Fonts.{font_size}
 use Rattle.lay_line.proofs.Tables.{one-part}

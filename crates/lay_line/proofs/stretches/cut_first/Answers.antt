@@ -1,6 +1,6 @@
-use Rattle.std.proofs.Common.{◌≡◌, ◌<◌, length, Some, None, subst, sym, refl, ◌∙◌, ap, arith}
+use Rattle.std.proofs.Common.{◌≡◌, ◌<◌, length, Some, None, subst, sym, refl, ◌∙◌, arith}
 use Rattle.std.proofs.lemmas.Bool.Decides.{nat_tests}
-use Rattle.lay_line.specs.steps.Loading.{IsFirst, mark_from}
+use Rattle.lay_line.specs.steps.Loading.{mark_from}
 use Rattle.lay_line.proofs.Parts.{IsPast, first-cut, first-whole, first-moved}
 use Rattle.lay_line.proofs.stretches.cut_first.Goals.{in_default-via-in-Some+else-n-stretches, in_default-via-in_default}
 use Rattle.lay_line.proofs.stretches.cut_first.Goals as goal
