@@ -30,7 +30,7 @@ index-at zero xs y d ys e = ap (λ l. slice_index_or l 0 d) e
 index-at (suc n) [] y d ys e = absurd (cc)
 index-at (suc n) (x ∷ xs) y d ys e = index-at n xs y d ys e
 
-drop-next : {A : Type 0} (n : ℕ) (xs : List A) (y : A) (ys : List A) → drop n xs ≡ y ∷ ys → drop (suc n) xs ≡ ys
+pub drop-next : {A : Type 0} (n : ℕ) (xs : List A) (y : A) (ys : List A) → drop n xs ≡ y ∷ ys → drop (suc n) xs ≡ ys
 drop-next zero xs y ys e = ap (drop 1) e
 drop-next (suc n) [] y ys e = absurd (cc)
 drop-next (suc n) (x ∷ xs) y ys e = drop-next n xs y ys e

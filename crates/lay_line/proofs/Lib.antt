@@ -1,3 +1,5 @@
+pub mod Kids
+pub mod Contents
 pub mod Lasts
 pub mod Ends
 pub mod Runs
@@ -10,3 +12,11 @@ pub mod FoundTops
 pub mod Fills
 pub mod Stands
 pub mod Lays
+pub mod Parts
+pub mod Passing
+pub mod Lined
+pub mod Tables
+pub mod Found
+pub mod LoadSteps
+pub mod FloatSteps
+pub mod Entering

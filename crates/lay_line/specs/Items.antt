@@ -8,6 +8,7 @@ use Rattle.lay_line.specs.declared.breaks.Parting.{Parting}
 use Rattle.lay_line.specs.declared.breaks.Run.{Run}
 use Rattle.lay_line.specs.steps.Marks as steps
 use Rattle.lay_line.specs.declared.breaks.Parting.TheVariants as of_parting
+use Rattle.lay_line.specs.declared.held.Piece.{Piece}
 use Rattle.lay_line.specs.declared.items.Item.{Item}
 use Rattle.lay_line.specs.declared.items.Item.TheVariants as of_code
 
@@ -31,3 +32,7 @@ parting_of tree of_parting.Never = stretches.never
 -- what is known of a run
 abbrev pub run_of : Run → steps.Run
 run_of r = record { starts = r.starts.items; last = r.last }
+
+-- the items of pieces
+abbrev pub bare_of : {N : Type 0} → List (Piece N) → List content.Item
+bare_of pieces = map (λ p. item_of p.item) pieces

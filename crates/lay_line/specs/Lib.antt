@@ -1,4 +1,6 @@
 pub mod Items
+pub mod Contexts
 pub mod Readings
+pub mod Lining
 pub mod Ways
 pub mod steps

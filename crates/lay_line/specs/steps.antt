@@ -1,3 +1,4 @@
+pub mod Content
 pub mod Held
 pub mod Measured
 pub mod Staying
@@ -6,3 +7,8 @@ pub mod Marks
 pub mod Tops
 pub mod Filling
 pub mod Laying
+pub mod Words
+pub mod Meeting
+pub mod Loading
+pub mod Entries
+pub mod Lining

@@ -17,7 +17,7 @@ pub struct LineExtent<N> {
 }
 
 /// The greater of two numbers.
-fn greater<S: Steady>(calc: &mut S, a: S::Num, b: S::Num) -> S::Num
+pub fn greater<S: Steady>(calc: &mut S, a: S::Num, b: S::Num) -> S::Num
     ensures goes { Goes (S.run calc.old) (S.run calc.new) }
     ensures value { Stands (S.run calc.new) (S.at result) (λ e. int_max (S.at a e) (S.at b e)) }
     ensures cause { Blames (S.run calc.old) (S.run calc.new) ⊤ }

@@ -26,7 +26,7 @@ fn leading<S: Steady>(calc: &mut S, tree: &BoxTree, node: u32) -> S::Num
 }
 
 /// The half of a number, rounded down.
-fn half<S: Steady>(calc: &mut S, whole: &S::Num) -> S::Num
+pub fn half<S: Steady>(calc: &mut S, whole: &S::Num) -> S::Num
     ensures goes { Goes (S.run calc.old) (S.run calc.new) }
     ensures value { Stands (S.run calc.new) (S.at result) (λ e. floor_of (S.at whole.now e) 2) }
 {

@@ -13,6 +13,9 @@ ghost use Rattle.lay_line.specs.steps.Marks.{marks, marked_parts};
 ghost use Rattle.lay_line.specs.steps.Measured.{measured, held_with, rows, first_row};
 ghost use Rattle.lay_line.specs.steps.Staying.{spanned, no_items};
 ghost use Rattle.lay_line.specs.steps.Laying.{lines_by_steps};
+ghost use Rattle.lay_line.specs.steps.Lining.{lined};
+ghost use Rattle.lay_line.specs.steps.Words.{width_in};
+ghost use Rattle.layout_semantics.specs.InlineContent.{content};
 
 /// The lines of one pass over the inline content are the lines of its block container (CSS 2.1, 9.4.2), whatever the
 /// page.
@@ -44,4 +47,11 @@ pub fn measured_items_stand_in_their_places()
     ensures { (c : InlineContext) (x : ℤ) (items : List Item)
         → (rows (first_row x (spanned no_items items).solid) (measured (item_width c) items)).places
         ≡ set_out c x (what_stays items) }
+{}
+
+/// The lines of measured items in the marked parts of the content, line by line, are the lines (CSS 2.1, 9.4.2).
+pub fn lines_of_measured_items_are_the_lines()
+    ensures { (c : InlineContext) (y least : ℤ) (floats : List FloatBox)
+        → lined c (content c.tree c.container) (measured (width_in c) (content c.tree c.container))
+        (marks (may_part c.tree) None None (content c.tree c.container)) y least floats ≡ lines_in c y least floats }
 {}

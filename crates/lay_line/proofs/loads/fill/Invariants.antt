@@ -1,0 +1,21 @@
+use Rattle.std.proofs.Common.{◌≡◌, length, IsTrue}
+use Rattle.viz_calc.specs.World.{Reading}
+use Rattle.viz_calc.specs.Run.{Goes}
+use Rattle.lay_line.specs.Contexts.{context_at}
+use Rattle.lay_line.specs.Readings.{slot_at, load_at, parts_at}
+use Rattle.lay_line.specs.steps.Loading.{loading}
+use Rattle.lay_line.proofs.loads.fill.Given as goal
+
+abbrev pub invariant-loop-cut : goal.invariant-loop-cut
+invariant-loop-cut g l =
+    let at = g.S.Steady.at in
+    let run = g.S.Steady.run in
+    record {
+      goes : Goes (run l.initial.calc) (run l.calc);
+      value : (e : Reading) → IsTrue ((run l.calc).is_open e)
+          → loading (context_at at l.container e) (slot_at at l.slot e) (load_at at l.load e) (parts_at at l.rest e)
+          ≡ loading (context_at at l.container e) (slot_at at l.slot e) (load_at at l.initial.load e) (parts_at at l.initial.rest e);
+    }
+
+abbrev pub decreases-loop-cut : goal.decreases-loop-cut
+decreases-loop-cut g l = length l.rest.pieces.now

@@ -1,0 +1,23 @@
+use Rattle.std.proofs.Common.{◌≡◌, ◌++◌, drop, IsTrue}
+use Rattle.viz_calc.specs.World.{Reading}
+use Rattle.viz_calc.specs.Run.{Goes}
+use Rattle.lay_line.specs.Contexts.{context_at}
+use Rattle.std.specs.List.{AllByRecursion}
+use Rattle.lay_line.specs.Items.{items_of}
+use Rattle.lay_line.specs.Readings.{pieces_at}
+use Rattle.lay_line.specs.steps.Content.{IsShort}
+use Rattle.lay_line.specs.steps.Measured.{measured}
+use Rattle.lay_line.specs.steps.Words.{width_in}
+use Rattle.lay_line.proofs.sizes.measure.Given as goal
+
+abbrev pub invariant-loop-item : goal.invariant-loop-item
+invariant-loop-item g l =
+    let at = g.S.Steady.at in
+    let run = g.S.Steady.run in
+    record {
+      goes : Goes (run l.initial.calc) (run l.calc);
+      value : (e : Reading) → IsTrue ((run l.calc).is_open e)
+          → pieces_at at l.pieces.items e ++ measured (width_in (context_at at l.container e)) (items_of (drop l.item-index l.items))
+          ≡ measured (width_in (context_at at l.container e)) (items_of l.items);
+      short : AllByRecursion IsShort (items_of (drop l.item-index l.items));
+    }

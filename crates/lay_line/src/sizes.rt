@@ -1,0 +1,169 @@
+//! What items take of a line (CSS 2.1, 9.4.2).
+ghost use Rattle.std.specs.Prelude.{◌≡◌, ◌+ℤ◌, ◌-ℤ◌, pos, ◌++◌, ◌∷◌, [], IsTrue};
+ghost use Rattle.std.specs.List.{AllByRecursion};
+ghost use Rattle.viz_calc.specs.World.{Reading};
+ghost use Rattle.viz_calc.specs.Run.{Stands, Goes};
+ghost use Rattle.layout_semantics.specs.Blocks.{node_of};
+ghost use Rattle.layout_semantics.specs.Fonts.{text_width as text_width_of};
+ghost use Rattle.layout_semantics.specs.InlineContent.{start, finish, atomic, start_edges, end_edges};
+ghost use Rattle.layout_semantics.specs.LineFilling.{band_width as width_of, used_edges};
+ghost use Rattle.lay_float.specs.Readings.{stretch_at};
+ghost use Rattle.lay_line.specs.Contexts.{context_at};
+ghost use Rattle.lay_line.specs.Items.{item_of, items_of};
+ghost use Rattle.lay_line.specs.Readings.{piece_at, pieces_at};
+ghost use Rattle.lay_line.specs.steps.Content.{IsShort};
+ghost use Rattle.lay_line.specs.steps.Measured.{measured};
+ghost use Rattle.lay_line.specs.steps.Words.{width_in};
+
+use crate::containers::{Container, inner_of};
+use crate::held::Piece;
+use crate::items::Item;
+use crate::trees::node_at;
+use lay_length::fonts::text_width;
+use lay_length::lengths::{used, zero};
+use lay_width::properties::{borders, margins, paddings};
+use std::alloc::Global;
+use viz_base::{Band, BoxTree, Length};
+use viz_calc::Steady;
+
+/// From edge to edge.
+pub fn band_width<S: Steady>(calc: &mut S, band: &Band<S::Num>) -> S::Num
+    ensures goes { Goes (S.run calc.old) (S.run calc.new) }
+    ensures value { Stands (S.run calc.new) (S.at result) (λ e. width_of (stretch_at S.at band.now e)) }
+{
+    calc.sub(&band.right, &band.left)
+}
+
+#[tactic(auto, unfolding(crate::specs::Contexts::context_at))]
+/// The used margin, border and padding at a side of an inline box.
+fn edges_width<S: Steady>(
+    calc: &mut S,
+    container: &Container<'_, S::Num>,
+    margin: &Length,
+    border: &Length,
+    padding: &Length,
+) -> S::Num
+    ensures goes { Goes (S.run calc.old) (S.run calc.new) }
+    ensures value { Stands (S.run calc.new) (S.at result) (λ e. used_edges (context_at S.at container.now e)
+        (margin.now ∷ border.now ∷ padding.now ∷ [])) }
+{
+    let room = band_width(calc, container.cb);
+    let none = zero(calc);
+    let padding = used(calc, container.tree, padding, &room);
+    let border = used(calc, container.tree, border, &room);
+    let margin = used(calc, container.tree, margin, &room);
+    let inner = calc.add(&padding, &none);
+    let both = calc.add(&border, &inner);
+    calc.add(&margin, &both)
+}
+
+#[tactic(auto, unfolding(crate::specs::Contexts::context_at, crate::specs::steps::Words::width_in))]
+/// What the start of an inline box takes.
+fn start_width<S: Steady>(calc: &mut S, container: &Container<'_, S::Num>, at: u32) -> S::Num
+    ensures goes { Goes (S.run calc.old) (S.run calc.new) }
+    ensures value { Stands (S.run calc.new) (S.at result)
+        (λ e. width_in (context_at S.at container.now e) (start at)) }
+{
+    let margin = margins(container.tree, at);
+    let border = borders(container.tree, at);
+    let padding = paddings(container.tree, at);
+    edges_width(calc, container, &margin.left, &border.left, &padding.left)
+}
+
+#[tactic(auto, unfolding(crate::specs::Contexts::context_at, crate::specs::steps::Words::width_in))]
+/// What its end takes.
+fn end_width<S: Steady>(calc: &mut S, container: &Container<'_, S::Num>, at: u32) -> S::Num
+    ensures goes { Goes (S.run calc.old) (S.run calc.new) }
+    ensures value { Stands (S.run calc.new) (S.at result)
+        (λ e. width_in (context_at S.at container.now e) (finish at)) }
+{
+    let margin = margins(container.tree, at);
+    let border = borders(container.tree, at);
+    let padding = paddings(container.tree, at);
+    edges_width(
+        calc,
+        container,
+        &margin.right,
+        &border.right,
+        &padding.right,
+    )
+}
+
+/// What an atomic box takes.
+fn atomic_width<S: Steady>(calc: &mut S, container: &Container<'_, S::Num>, at: u32) -> S::Num
+    ensures goes { Goes (S.run calc.old) (S.run calc.new) }
+    ensures value { Stands (S.run calc.new) (S.at result)
+        (λ e. width_in (context_at S.at container.now e) (atomic at)) }
+{
+    match inner_of(container, at) {
+        Some(inner) => calc.copy(&inner.width),
+        None => zero(calc),
+    }
+}
+
+/// What a space of a box takes.
+fn space_width<S: Steady>(calc: &mut S, tree: &BoxTree, at: u32) -> S::Num
+    ensures goes { Goes (S.run calc.old) (S.run calc.new) }
+    ensures value { Stands (S.run calc.new) (S.at result)
+        (λ e. text_width_of tree.now e.world (node_of tree.now at) (32 ∷ [])) }
+{
+    text_width(calc, tree, node_at(tree, at), " ")
+}
+
+#[tactic(auto, unfolding(crate::specs::Contexts::context_at, crate::specs::steps::Words::width_in))]
+/// What an item takes of a line.
+fn item_width<S: Steady>(calc: &mut S, container: &Container<'_, S::Num>, item: &Item) -> S::Num
+    requires { IsShort (item_of item.now) }
+    ensures goes { Goes (S.run calc.old) (S.run calc.new) }
+    ensures value { Stands (S.run calc.new) (S.at result)
+        (λ e. width_in (context_at S.at container.now e) (item_of item.now)) }
+{
+    match item {
+        Item::Word(at, text) => text_width(
+            calc,
+            container.tree,
+            node_at(container.tree, *at),
+            text,
+        ),
+        Item::Space(at) => space_width(calc, container.tree, *at),
+        Item::Atomic(at) => atomic_width(calc, container, *at),
+        Item::Start(at) => start_width(calc, container, *at),
+        Item::Finish(at) => end_width(calc, container, *at),
+        Item::Forced(_) | Item::Float(_) => zero(calc),
+    }
+}
+
+/// A piece more at the end.
+fn add_piece<'a, S: Steady>(
+    calc: &mut S,
+    pieces: &mut Vec<Piece<'a, S::Num>>,
+    piece: Piece<'a, S::Num>,
+)
+    ensures goes { Goes (S.run calc.old) (S.run calc.new) }
+    ensures value { (e : Reading) → IsTrue ((S.run calc.new).is_open e) → pieces_at S.at pieces.new.items e
+        ≡ pieces_at S.at pieces.old.items e ++ piece_at S.at piece.entry e ∷ [] }
+{
+    if pieces.push(piece).is_err() {
+        calc.stop();
+    }
+}
+
+/// Items with what each takes.
+pub fn measure<'a, S: Steady>(
+    alloc: Global,
+    calc: &mut S,
+    container: &Container<'_, S::Num>,
+    items: &[Item<'a>],
+) -> Vec<Piece<'a, S::Num>>
+    requires { AllByRecursion IsShort (items_of items.now) }
+    ensures goes { Goes (S.run calc.old) (S.run calc.new) }
+    ensures value { (e : Reading) → IsTrue ((S.run calc.new).is_open e) → pieces_at S.at result.items e
+        ≡ measured (width_in (context_at S.at container.now e)) (items_of items.now) }
+{
+    let mut pieces = Vec::new(alloc);
+    for item in items {
+        let width = item_width(calc, container, item);
+        add_piece(calc, &mut pieces, Piece { item: *item, width });
+    }
+    pieces
+}
