@@ -1,0 +1,402 @@
+-- The steps of the flow, one level of the tree at a time, are normal flow.
+use Rattle.std.proofs.Common.{◌≡◌, ℕ, zero, suc, ◌<◌, ◌*◌, ℤ, pos, ◌+ℤ◌, ◌-ℤ◌, Bool, true, false, ◌&&◌, ◌||◌, ◌==◌, IsTrue, List, [], ◌∷◌, ◌++◌, map, fold, flat_map, length, unwrap_or, Option, None, Some, refl, sym, ap, ◌∙◌, subst, arith, append_assoc, append-nil}
+use Rattle.std.proofs.Math.Path.{fun_ext}
+use Rattle.std.specs.Int.{int_max, int_min}
+use Rattle.std.specs.List.{AllByRecursion}
+use Rattle.std.specs.Option.{option_or}
+use Rattle.viz_base.specs.declared.layouts.Band.{Band}
+use Rattle.viz_base.specs.declared.layouts.Entry.{Entry}
+use Rattle.viz_base.specs.declared.layouts.Entry.TheVariants as of_entry
+use Rattle.viz_base.specs.declared.layouts.Extent.{Extent}
+use Rattle.viz_base.specs.declared.layouts.Inner.{Inner}
+use Rattle.viz_base.specs.declared.layouts.Waiting.{Waiting}
+use Rattle.viz_base.specs.declared.renderings.Placed.{Placed}
+use Rattle.viz_base.specs.declared.styles.Style.{Style}
+use Rattle.viz_base.specs.declared.trees.BoxTree.{BoxTree}
+use Rattle.viz_base.specs.declared.worlds.World.{World}
+use Rattle.layout_semantics.specs.Lists.{table_of}
+use Rattle.layout_semantics.specs.Extremes.{greatest_from, least_from}
+use Rattle.layout_semantics.specs.Floats.{FloatBox}
+use Rattle.layout_semantics.specs.Rectangles.{Frame, content_top, placed_box, shifted}
+use Rattle.layout_semantics.specs.FlowBoxes.{is_replaced_at, is_context_root, is_open_above, may_collapse_through, joins_last_child, flow_children, across, content_from}
+use Rattle.layout_semantics.specs.InlineContent.{is_floated_at, has_line, inner_boxes}
+use Rattle.layout_semantics.specs.Leads.{none_passed, all_passed, is_up_to, bottom_margin}
+use Rattle.layout_semantics.specs.Leads.{lead as landed_lead}
+use Rattle.layout_semantics.specs.Lengths.{own}
+use Rattle.layout_semantics.specs.LineHeights.{InlineContext}
+use Rattle.layout_semantics.specs.Lines.{LineList, lines_in}
+use Rattle.layout_semantics.specs.Clearance.{Resolved, resolve}
+use Rattle.layout_semantics.specs.Flow as landed
+use Rattle.layout_semantics.specs.Flow.{Cleared, Alone, Reached, Progress, raised, content_height}
+use Rattle.layout_laws.proofs.Levels.{IsFrom, All-implied}
+use Rattle.layout_laws.proofs.LeadLevels.{children-from}
+use Rattle.lay_line.proofs.Lays.{lines-are}
+use Rattle.lay_margin.specs.declared.runs.Run.{Run}
+use Rattle.lay_margin.specs.Runs.{IsRunOf, no_run, with_margin, collapse, joined_all}
+use Rattle.lay_margin.specs.steps.Leads.{Going, margin_below, lead_of}
+use Rattle.lay_margin.proofs.Joined.{joined-run, lead-joined}
+use Rattle.flow_steps.specs.Order.{is_before}
+use Rattle.flow_steps.specs.Runs.{Base, hangs, stands, run_of}
+use Rattle.flow_steps.specs.Forward.{Found, cleared_of, forward}
+use Rattle.flow_steps.specs.Flow.{Standing, at_top, below, Context, fresh, Step, step, next_edge, is_at_top, Laid, context_height, block_height, joined_run, line_tops, after_lines, followed, children, frame_at, corner_frame, context_box, block_box, whole, alone, size_of, float_placed, float_child, reached_at, reached, opened, closed, laid_replaced, laid_context, laid_block, laid, run_through, standing_after, flow_child, child, inner_of, inner_size, entry_boxes, line_content, content_step}
+use Rattle.flow_steps.proofs.Resolved.{IsFoundBy, none-prefix, up-prefix, resolve-found}
+
+-- ---- runs
+
+run-append : (margins more : List ℤ) → run_of (margins ++ more) ≡ joined_all (run_of margins) more
+run-append margins more =
+    let r = joined-run (run_of margins) margins more (record { greatest = refl; least = refl }) in
+    let g = r.greatest in
+    let l = r.least in
+    λ i. record { pos = sym g i; neg = sym l i }
+
+run-last : (margins : List ℤ) (m : ℤ) → run_of (margins ++ m ∷ []) ≡ with_margin (run_of margins) m
+run-last margins m = run-append margins (m ∷ [])
+
+-- ---- how far the flow has come
+
+abbrev pub squeezed : landed.Standing → Standing
+squeezed (landed.at_top y cleared) = at_top y cleared
+squeezed (landed.below edge run stuck) = below edge (run_of run) stuck
+
+abbrev pub context_of : Progress → Context
+context_of p = record { standing = squeezed p.standing; floats = p.floats; least = p.least; baseline = p.baseline }
+
+-- what a step leaves, by what it adds
+pub record Follows (before end : Progress) (q : Step) : Type 0 where
+  pub context : context_of end ≡ q.context
+  pub boxes : end.boxes ≡ before.boxes ++ q.boxes
+
+edge-same : (s : landed.Standing) → landed.next_edge s ≡ next_edge (squeezed s)
+edge-same (landed.at_top y cleared) = refl
+edge-same (landed.below edge run stuck) = refl
+
+module _ (tree : BoxTree) (w : World) (height : ℕ) where
+  top-same : (s : landed.Standing) → landed.is_at_top tree w height s ≡ is_at_top (squeezed s)
+  top-same (landed.at_top y cleared) = refl
+  top-same (landed.below edge run stuck) = refl
+
+  height-same : (j : Bool) (top : ℤ) (s : landed.Standing) → landed.block_height tree w height j top s ≡ block_height j top (squeezed s)
+  height-same true top (landed.at_top y cleared) = refl
+  height-same false top (landed.at_top y cleared) = refl
+  height-same true top (landed.below edge run true) = refl
+  height-same true top (landed.below edge run false) = refl
+  height-same false top (landed.below edge run stuck) = refl
+
+  joined-same : (j : Bool) (s : landed.Standing) → run_of (landed.joined_run tree w height j s) ≡ joined_run j (squeezed s)
+  joined-same true (landed.at_top y cleared) = refl
+  joined-same false (landed.at_top y cleared) = refl
+  joined-same true (landed.below edge run true) = refl
+  joined-same true (landed.below edge run false) = refl
+  joined-same false (landed.below edge run stuck) = refl
+
+  context-same : (top : ℤ) (p : Progress) → landed.context_height tree w height top p ≡ context_height top (context_of p)
+  context-same top p = ap (λ (e : ℤ). greatest_from (pos 0) (map (λ y. y -ℤ top) (e ∷ map (λ (f : FloatBox). f.box.bottom) p.floats))) (edge-same p.standing)
+
+  -- ---- one level: `inside` and `content` lay out what is in a box
+
+  module _ (inside : ℕ → Band ℤ → ℤ → Progress → Progress) (content : ℕ → Band ℤ → ℤ → Context → Step)
+      (again : (b : ℕ) (cb : Band ℤ) (top : ℤ) (p : Progress) → Follows p (inside b cb top p) (content b cb top (context_of p))) where
+    -- ---- boxes that are laid out in coordinates of their own
+
+    pub alone-same : (b : ℕ) (room : ℤ) → landed.alone tree w height inside b room ≡ alone tree w height content b room
+    alone-same b room = by (is_replaced_at tree b) refl
+      where
+        f : Frame
+        f = corner_frame tree w height b room
+
+        top : ℤ
+        top = content_top f
+
+        end : Progress
+        end = inside b (content_from (pos 0) f.x) top (landed.fresh top)
+
+        q : Step
+        q = content b (content_from (pos 0) f.x) top (fresh top)
+
+        by : (r : Bool) → is_replaced_at tree b ≡ r → landed.alone tree w height inside b room ≡ alone tree w height content b room
+        by true e = rw e refl
+        by false e =
+            let follows : Follows (landed.fresh top) end q = again b (content_from (pos 0) f.x) top (landed.fresh top) in
+            rw e (
+                ap (λ (h : ℤ). whole tree w height content (placed_box tree b f (content_height tree w height b h)) end.baseline end.boxes) (context-same top end)
+                ∙ ap (λ (c : Context). whole tree w height content (context_box tree w height b f c) c.baseline end.boxes) follows.context
+                ∙ ap (whole tree w height content (context_box tree w height b f q.context) q.context.baseline) follows.boxes)
+
+    size-same : landed.waiting_size tree w height inside ≡ size_of tree w height content
+    size-same = fun_ext (λ f. ap (λ (a : Alone). a.size) (alone-same f.at (across f.cb)))
+
+    -- ---- floats
+
+    float-follows : (cb : Band ℤ) (p : Progress) (k : ℕ) (y : ℤ) (a : Alone) → Follows p (landed.after_float tree w height inside cb p k y a) (float_placed tree w height content cb (context_of p) k y a)
+    float-follows cb p k y a = record { context = refl; boxes = refl }
+
+    float-agrees : (cb : Band ℤ) (top : ℤ) (p : Progress) (k : ℕ) → Follows p (landed.float_child tree w height inside cb top p k) (float_child tree w height content cb top (context_of p) k)
+    float-agrees cb top p k =
+        let y = int_max top (landed.next_edge p.standing) in
+        subst (λ (q : Step). Follows p (landed.float_child tree w height inside cb top p k) q)
+        (ap (λ (e : ℤ). float_placed tree w height content cb (context_of p) k (int_max top e) (landed.alone tree w height inside k (across cb))) (edge-same p.standing)
+        ∙ ap (float_placed tree w height content cb (context_of p) k (int_max top (next_edge (squeezed p.standing)))) (alone-same k (across cb)))
+        (float-follows cb p k y (landed.alone tree w height inside k (across cb)))
+
+    -- ---- where a box in flow is reached
+
+    module _ (k end : ℕ) (within : k < length tree.boxes) (order : IsTrue (is_before tree.boxes k end)) where
+      opened-same : (cb : Band ℤ) (p : Progress) (y : ℤ)
+          → (resolve tree w (landed.waiting_size tree w height inside) (λ more. y) cb p.floats p.least k (is_up_to k)).cleared
+          ≡ cleared_of (forward tree w (size_of tree w height content) (stands y) p.floats p.least (is_up_to k) cb k no_run).end
+      opened-same cb p y =
+          (resolve-found tree w (landed.waiting_size tree w height inside) (stands y) p.floats p.least (λ more. y) no_run (λ more. refl) cb k end within order (is_up_to k) (up-prefix k)).cleared
+          ∙ ap (λ (size : Waiting ℤ → Extent ℤ). cleared_of (forward tree w size (stands y) p.floats p.least (is_up_to k) cb k no_run).end) size-same
+
+      matched : ℤ → Cleared → ℕ × ℤ → Bool → Reached
+      matched y opened c true = record { top = c.1; clears = true; cleared = opened }
+      matched y opened c false = record { top = y; clears = false; cleared = Some c }
+
+      at-same : (cb : Band ℤ) (p : Progress) (y : ℤ) (cleared : Cleared) → landed.reached_at tree w height inside cb p k y cleared ≡ reached_at tree w height content cb (context_of p) k y cleared
+      at-same cb p y None = refl
+      at-same cb p y (Some c) = by (c.0 == k) refl
+        where
+          by : (m : Bool) → (c.0 == k) ≡ m → landed.reached_at tree w height inside cb p k y (Some c) ≡ reached_at tree w height content cb (context_of p) k y (Some c)
+          by true e = rw e (ap (λ (o : Cleared). let r : Reached = record { top = c.1; clears = true; cleared = o } in r) (opened-same cb p c.1))
+          by false e = rw e refl
+
+      reached-same : (cb : Band ℤ) (p : Progress) → landed.reached tree w height inside cb p k ≡ reached tree w height content cb (context_of p) k
+      reached-same cb p = by p.standing refl
+        where
+          s : Context
+          s = context_of p
+
+          by : (x : landed.Standing) → p.standing ≡ x → landed.reached tree w height inside cb p k ≡ reached tree w height content cb s k
+          by (landed.at_top y cleared) e = rw e (at-same cb p y cleared)
+          by (landed.below edge run stuck) e =
+              let size = landed.waiting_size tree w height inside in
+              let same = λ (more : List ℤ). ap (λ (r : Run ℤ). edge +ℤ collapse r) (run-append run more) in
+              let r = resolve tree w size (λ more. edge +ℤ (greatest_from (pos 0) (run ++ more) +ℤ least_from (pos 0) (run ++ more))) cb p.floats p.least k none_passed in
+              let found = resolve-found tree w size (hangs edge) p.floats p.least (λ more. edge +ℤ (greatest_from (pos 0) (run ++ more) +ℤ least_from (pos 0) (run ++ more))) (run_of run) same cb k end within order none_passed none-prefix in
+              rw e (at-same cb p (edge +ℤ collapse (run_of (run ++ r.margins))) r.cleared
+              ∙ ap (λ (c : Cleared). reached_at tree w height content cb s k (edge +ℤ collapse (run_of (run ++ r.margins))) c) found.cleared
+              ∙ ap (λ (x : Run ℤ). reached_at tree w height content cb s k (edge +ℤ collapse x) (cleared_of (forward tree w size (hangs edge) p.floats p.least none_passed cb k (run_of run)).end)) (run-append run r.margins ∙ found.run)
+              ∙ ap (λ (size : Waiting ℤ → Extent ℤ). let f = forward tree w size (hangs edge) p.floats p.least none_passed cb k (run_of run) in reached_at tree w height content cb s k (edge +ℤ collapse f.run) (cleared_of f.end)) size-same)
+
+    -- ---- a box in flow that is laid out
+
+    pub record LaidSame (p : Progress) (l : landed.Laid) (m : Laid) : Type 0 where
+      pub through : l.through ≡ m.through
+      pub bottom : l.bottom ≡ m.bottom
+      pub margins : run_of l.margins ≡ m.margins
+      pub after : Follows p l.after m.after
+
+    -- a box after its content
+    closed-same : (p : Progress) (f : Frame) (t s : Bool) (run : List ℤ) (own : Run ℤ) (end : Progress) (q : Step) (box placed : Placed ℤ)
+        → t ≡ s → run_of run ≡ own → context_of end ≡ q.context → end.boxes ≡ q.boxes → box ≡ placed
+        → LaidSame p (landed.closed tree w height inside p f t run end box) (closed tree w height content f s own q placed)
+    closed-same p f t s run own end q box placed e r c b x = record {
+      through = e;
+      bottom = ap (λ (z : Placed ℤ). z.border.bottom) x;
+      margins = run-last run f.v.margin_bottom ∙ ap (λ (o : Run ℤ). with_margin o f.v.margin_bottom) r;
+      after = record { context = c; boxes = ap (λ (z : Placed ℤ). p.boxes ++ z ∷ end.boxes) x ∙ ap (λ (l : List (Placed ℤ)). p.boxes ++ placed ∷ l) b };
+    }
+
+    started : Frame → Cleared → Bool → landed.Standing
+    started f cleared true = landed.at_top f.corner.y cleared
+    started f cleared false = landed.below (content_top f) [] false
+
+    begun : Frame → Cleared → Bool → Standing
+    begun f cleared true = at_top f.corner.y cleared
+    begun f cleared false = below (content_top f) no_run false
+
+    start-same : (f : Frame) (cleared : Cleared) (o : Bool) → squeezed (started f cleared o) ≡ begun f cleared o
+    unfolding started begun
+    start-same f cleared true = refl
+    start-same f cleared false = refl
+
+    block-same : (cb : Band ℤ) (p : Progress) (k : ℕ) (cleared : Cleared) (f : Frame)
+        → LaidSame p (landed.laid_block tree w height inside cb p k cleared f) (laid_block tree w height content cb (context_of p) k cleared f)
+    unfolding started begun
+    block-same cb p k cleared f = by (is_open_above tree k) refl
+      where
+        joins : Bool
+        joins = joins_last_child tree k
+
+        top : ℤ
+        top = content_top f
+
+        ends : (start : Progress) → start.boxes ≡ [] → LaidSame p
+            (let end = inside k (content_from cb.left f.x) top start in
+            landed.closed tree w height inside p f (landed.is_at_top tree w height end.standing && may_collapse_through tree k) (landed.joined_run tree w height joins end.standing) end
+            (placed_box tree k f (content_height tree w height k (landed.block_height tree w height joins top end.standing))))
+            (let q = content k (content_from cb.left f.x) top (context_of start) in
+            closed tree w height content f (is_at_top q.context.standing && may_collapse_through tree k) (joined_run joins q.context.standing) q (block_box tree w height k f q.context))
+        ends start none =
+            let end = inside k (content_from cb.left f.x) top start in
+            let q = content k (content_from cb.left f.x) top (context_of start) in
+            let follows : Follows start end q = again k (content_from cb.left f.x) top start in
+            closed-same p f (landed.is_at_top tree w height end.standing && may_collapse_through tree k) (is_at_top q.context.standing && may_collapse_through tree k)
+            (landed.joined_run tree w height joins end.standing) (joined_run joins q.context.standing) end q
+            (placed_box tree k f (content_height tree w height k (landed.block_height tree w height joins top end.standing))) (block_box tree w height k f q.context)
+            (ap (λ (b : Bool). b && may_collapse_through tree k) (top-same end.standing) ∙ ap (λ (c : Context). is_at_top c.standing && may_collapse_through tree k) follows.context)
+            (joined-same joins end.standing ∙ ap (λ (c : Context). joined_run joins c.standing) follows.context)
+            follows.context
+            (follows.boxes ∙ ap (λ (l : List (Placed ℤ)). l ++ q.boxes) none)
+            (ap (λ (h : ℤ). placed_box tree k f (content_height tree w height k h)) (height-same joins top end.standing) ∙ ap (block_box tree w height k f) follows.context)
+
+        by : (o : Bool) → is_open_above tree k ≡ o → LaidSame p (landed.laid_block tree w height inside cb p k cleared f) (laid_block tree w height content cb (context_of p) k cleared f)
+        by true e = rw e (ends (landed.opened tree w height inside p f (landed.at_top f.corner.y cleared)) refl)
+        by false e = rw e (ends (landed.opened tree w height inside p f (landed.below (content_top f) [] false)) refl)
+
+    root-same : (cb : Band ℤ) (p : Progress) (k : ℕ) (f : Frame)
+        → LaidSame p (landed.laid_context tree w height inside cb p k f) (laid_context tree w height content cb (context_of p) k f)
+    root-same cb p k f =
+        let top = content_top f in
+        let s = context_of p in
+        let end = inside k (content_from cb.left f.x) top (landed.fresh top) in
+        let q = content k (content_from cb.left f.x) top (fresh top) in
+        let follows : Follows (landed.fresh top) end q = again k (content_from cb.left f.x) top (landed.fresh top) in
+        closed-same p f false false [] no_run
+        (record (landed.opened tree w height inside p f end.standing) { baseline = option_or end.baseline p.baseline; boxes = end.boxes })
+        (step (record (opened tree w height content s f q.context.standing) { baseline = option_or q.context.baseline s.baseline }) q.boxes)
+        (placed_box tree k f (content_height tree w height k (landed.context_height tree w height top end))) (context_box tree w height k f q.context)
+        refl refl
+        (ap (λ (c : Context). let o : Context = record (opened tree w height content s f c.standing) { baseline = option_or c.baseline s.baseline } in o) follows.context)
+        follows.boxes
+        (ap (λ (h : ℤ). placed_box tree k f (content_height tree w height k h)) (context-same top end) ∙ ap (context_box tree w height k f) follows.context)
+
+    laid-same : (cb : Band ℤ) (p : Progress) (k : ℕ) (r : Reached) → LaidSame p (landed.laid tree w height inside cb p k r) (laid tree w height content cb (context_of p) k r)
+    laid-same cb p k r = by (is_replaced_at tree k) (is_context_root tree k) refl refl
+      where
+        f : Frame
+        f = frame_at tree w height k (across cb) cb.left r.top
+
+        by : (d c : Bool) → is_replaced_at tree k ≡ d → is_context_root tree k ≡ c → LaidSame p (landed.laid tree w height inside cb p k r) (laid tree w height content cb (context_of p) k r)
+        by true c d e = rw d (record { through = refl; bottom = refl; margins = run-last [] f.v.margin_bottom; after = record { context = refl; boxes = refl } })
+        by false true d e = rw (d, e) (root-same cb p k f)
+        by false false d e = rw (d, e) (block-same cb p k r.cleared f)
+
+    -- ---- where the next child stands
+
+    through-same : (cb : Band ℤ) (k : ℕ) (run : List ℤ) → run_of (run ++ (landed_lead tree w all_passed cb k).margins) ≡ run_through tree w height content cb k (run_of run)
+    through-same cb k run = run-append run (landed_lead tree w all_passed cb k).margins ∙ sym (ap (λ (g : Going). g.run) (lead-joined tree w all_passed cb k (run_of run) []))
+
+    standing-same : (cb : Band ℤ) (s : landed.Standing) (k : ℕ) (r : Reached) (p : Progress) (l : landed.Laid) (m : Laid) → LaidSame p l m
+        → squeezed (landed.standing_after tree w height inside cb s k r l) ≡ standing_after tree w height content cb (squeezed s) k r m
+    unfolding margin_below
+    standing-same cb s k r p l m same = by l.through r.clears s refl refl
+      where
+        lead : List ℤ
+        lead = (landed_lead tree w all_passed cb k).margins
+
+        mb : ℤ
+        mb = bottom_margin tree w cb k
+
+        by : (t c : Bool) (s : landed.Standing) → l.through ≡ t → r.clears ≡ c
+            → squeezed (landed.standing_after tree w height inside cb s k r l) ≡ standing_after tree w height content cb (squeezed s) k r m
+        by false c s e f =
+            let g = sym same.through ∙ e in
+            rw (e, g) (ap (λ (b : ℤ). below b (run_of l.margins) false) same.bottom ∙ ap (λ (x : Run ℤ). below m.bottom x false) same.margins)
+        by true true s e f =
+            let g = sym same.through ∙ e in
+            rw (e, g, f) (
+                ap (λ (x : Run ℤ). below (r.top -ℤ collapse (run_of lead)) x true) (run-last lead mb)
+                ∙ ap (λ (x : Run ℤ). below (r.top -ℤ collapse x) (with_margin x mb) true) (through-same cb k []))
+        by true false (landed.at_top y cleared) e f = let g = sym same.through ∙ e in rw (e, g, f) refl
+        by true false (landed.below edge run stuck) e f =
+            let g = sym same.through ∙ e in
+            rw (e, g, f) (ap (λ (x : Run ℤ). below edge x stuck)
+            (ap run_of (sym (append_assoc run lead (mb ∷ []))) ∙ run-last (run ++ lead) mb ∙ ap (λ (x : Run ℤ). with_margin x mb) (through-same cb k run)))
+
+    -- ---- children
+
+    child-agrees : (cb : Band ℤ) (top : ℤ) (p : Progress) (k end : ℕ) → k < length tree.boxes → IsTrue (is_before tree.boxes k end)
+        → Follows p (landed.child tree w height inside cb top p k) (child tree w height content cb top (context_of p) k)
+    child-agrees cb top p k end within order = by (is_floated_at tree k) refl
+      where
+        s : Context
+        s = context_of p
+
+        after : Reached → Progress
+        after r = record (landed.laid tree w height inside cb p k r).after { standing = landed.standing_after tree w height inside cb p.standing k r (landed.laid tree w height inside cb p k r) }
+
+        stepped : Reached → Step
+        stepped r = step (record (laid tree w height content cb s k r).after.context { standing = standing_after tree w height content cb s.standing k r (laid tree w height content cb s k r) }) (laid tree w height content cb s k r).after.boxes
+
+        agrees : (r : Reached) → Follows p (after r) (stepped r)
+        agrees r =
+            let same = laid-same cb p k r in
+            let m = laid tree w height content cb s k r in
+            let standing = standing-same cb p.standing k r p (landed.laid tree w height inside cb p k r) m same in
+            record {
+              context = ap (λ (x : Standing). let c : Context = record (context_of (landed.laid tree w height inside cb p k r).after) { standing = x } in c) standing
+                  ∙ ap (λ (c : Context). let d : Context = record c { standing = standing_after tree w height content cb s.standing k r m } in d) same.after.context;
+              boxes = same.after.boxes;
+            }
+
+        by : (f : Bool) → is_floated_at tree k ≡ f → Follows p (landed.child tree w height inside cb top p k) (child tree w height content cb top s k)
+        by true e = rw e (float-agrees cb top p k)
+        by false e =
+            let here = reached-same k end within order cb p in
+            rw e (subst (λ (q : Step). Follows p (after (landed.reached tree w height inside cb p k)) q) (ap stepped here) (agrees (landed.reached tree w height inside cb p k)))
+
+    abbrev IsPlaced : ℕ → ℕ → Type 0
+    IsPlaced end k = (k < length tree.boxes) × IsTrue (is_before tree.boxes k end)
+
+    children-agree : (cb : Band ℤ) (top : ℤ) (end : ℕ) (ks : List ℕ) (p : Progress) → AllByRecursion (IsPlaced end) ks
+        → Follows p (fold (landed.child tree w height inside cb top) p ks) (children (child tree w height content cb top) (context_of p) ks)
+    children-agree cb top end [] p a = record { context = refl; boxes = sym (append-nil p.boxes) }
+    children-agree cb top end (k ∷ ks) p a =
+        let go = child tree w height content cb top in
+        let next = landed.child tree w height inside cb top p k in
+        let q = go (context_of p) k in
+        let first : Follows p next q = child-agrees cb top p k end a.0.0 a.0.1 in
+        let rest : Follows next (fold (landed.child tree w height inside cb top) next ks) (children go (context_of next) ks) = children-agree cb top end ks next a.1 in
+        let moved = ap (λ (c : Context). children go c ks) first.context in
+        record {
+          context = rest.context ∙ ap (λ (t : Step). t.context) moved;
+          boxes = rest.boxes ∙ ap (λ (l : List (Placed ℤ)). l ++ (children go (context_of next) ks).boxes) first.boxes
+              ∙ append_assoc p.boxes q.boxes _ ∙ ap (λ (t : Step). p.boxes ++ (q.boxes ++ t.boxes)) moved;
+        }
+
+    -- ---- lines
+
+    inner-same : (cb : Band ℤ) (k : ℕ) → landed.inner_size tree w height inside cb k ≡ inner_size tree w height content cb k
+    inner-same cb k = rw (alone-same k (across cb)) refl
+
+    entry-same : (cb : Band ℤ) (e : Entry ℤ) → landed.entry_boxes tree w height inside cb e ≡ entry_boxes tree w height content cb e
+    entry-same cb (of_entry.Here p) = refl
+    entry-same cb (of_entry.Goes k at) = ap (λ (a : Alone). shifted at a.boxes) (alone-same k (across cb))
+
+    tops-same : (e : Entry ℤ) → landed.line_tops tree w height inside e ≡ line_tops e
+    tops-same (of_entry.Here p) = refl
+    tops-same (of_entry.Goes k at) = refl
+
+    abbrev in_context : ℕ → Band ℤ → List (ℕ × Inner ℤ) → InlineContext
+    in_context b cb inner = record { tree = tree; world = w; container = b; inner = table_of (length tree.boxes) inner; cb = cb }
+
+    lines-follow : (cb : Band ℤ) (p : Progress) (l : LineList) → Follows p (landed.after_lines tree w height inside cb p l) (step (after_lines (context_of p) l) (flat_map (entry_boxes tree w height content cb) l.entries))
+    lines-follow cb p l = record {
+      context = ap (λ (f : Entry ℤ → List ℤ). let c : Context = record { standing = below l.bottom no_run false; floats = l.floats; least = fold raised p.least (flat_map f l.entries); baseline = l.baseline } in c) (fun_ext tops-same);
+      boxes = ap (λ (f : Entry ℤ → List (Placed ℤ)). p.boxes ++ flat_map f l.entries) (fun_ext (λ e. entry-same cb e));
+    }
+
+    lines-agree : (b : ℕ) (cb : Band ℤ) (top : ℤ) (p : Progress) → Follows p (landed.line_content tree w height inside b cb top p) (line_content tree w height content b cb top (context_of p))
+    lines-agree b cb top p =
+        let least = unwrap_or p.least top in
+        let sized = λ (k : ℕ). let pair : ℕ × Inner ℤ = (k, landed.inner_size tree w height inside cb k) in pair in
+        let made = λ (k : ℕ). let pair : ℕ × Inner ℤ = (k, inner_size tree w height content cb k) in pair in
+        let inner : sized ≡ made = fun_ext (λ k. ap (λ (i : Inner ℤ). let pair : ℕ × Inner ℤ = (k, i) in pair) (inner-same cb k)) in
+        let q = λ (l : LineList). step (after_lines (context_of p) l) (flat_map (entry_boxes tree w height content cb) l.entries) in
+        subst (λ (t : Step). Follows p (landed.line_content tree w height inside b cb top p) t)
+        (ap (λ (f : ℕ → ℕ × Inner ℤ). q (lines_in (in_context b cb (map f (inner_boxes tree b))) top least p.floats)) inner
+        ∙ ap q (sym (lines-are (in_context b cb (map made (inner_boxes tree b))) top least p.floats)))
+        (lines-follow cb p (lines_in (in_context b cb (map sized (inner_boxes tree b))) top least p.floats))
+
+    -- ---- the content of a box
+
+    pub step-agrees : ((k : ℕ) → k < length tree.boxes → IsTrue (is_before tree.boxes k (length tree.boxes))) → (b : ℕ) (cb : Band ℤ) (top : ℤ) (p : Progress)
+        → Follows p (landed.flow_step tree w height inside b cb top p) (content_step tree w height content b cb top (context_of p))
+    step-agrees order b cb top p = by (has_line tree b) refl
+      where
+        by : (l : Bool) → has_line tree b ≡ l → Follows p (landed.flow_step tree w height inside b cb top p) (content_step tree w height content b cb top (context_of p))
+        by true e = rw e (lines-agree b cb top p)
+        by false e = rw e (children-agree cb top (length tree.boxes) (flow_children tree b) p
+            (All-implied (IsFrom tree.boxes (suc b)) (IsPlaced (length tree.boxes)) (flow_children tree b) (λ k f. (f.within, order k f.within)) (children-from tree b)))

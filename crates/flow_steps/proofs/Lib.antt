@@ -1,0 +1,5 @@
+pub mod LeadEnds
+pub mod Decided
+pub mod Resolved
+pub mod FlowSteps
+pub mod Pages
