@@ -26,6 +26,7 @@ use Rattle.layout_semantics.specs.Lengths.{own}
 use Rattle.layout_semantics.specs.LineHeights.{InlineContext}
 use Rattle.layout_semantics.specs.Lines.{LineList, lines_in}
 use Rattle.layout_semantics.specs.Clearance.{Resolved, resolve}
+use Rattle.layout_semantics.specs.Margins.{collapsed}
 use Rattle.layout_semantics.specs.Flow as landed
 use Rattle.layout_semantics.specs.Flow.{Cleared, Alone, Reached, Progress, raised, content_height}
 use Rattle.layout_laws.proofs.Levels.{IsFrom, All-implied}
@@ -38,12 +39,13 @@ use Rattle.lay_margin.proofs.Joined.{joined-run, lead-joined}
 use Rattle.flow_steps.specs.Order.{is_before}
 use Rattle.flow_steps.specs.Runs.{Base, hangs, stands, run_of}
 use Rattle.flow_steps.specs.Forward.{Found, cleared_of, forward}
+use Rattle.flow_steps.specs.Progress.{squeezed, context_of}
 use Rattle.flow_steps.specs.Flow.{Standing, at_top, below, Context, fresh, Step, step, next_edge, is_at_top, Laid, context_height, block_height, joined_run, line_tops, after_lines, followed, children, frame_at, corner_frame, context_box, block_box, whole, alone, size_of, float_placed, float_child, reached_at, reached, opened, closed, laid_replaced, laid_context, laid_block, laid, run_through, standing_after, flow_child, child, inner_of, inner_size, entry_boxes, line_content, content_step}
 use Rattle.flow_steps.proofs.Resolved.{IsFoundBy, none-prefix, up-prefix, resolve-found}
 
 -- ---- runs
 
-run-append : (margins more : List ℤ) → run_of (margins ++ more) ≡ joined_all (run_of margins) more
+pub run-append : (margins more : List ℤ) → run_of (margins ++ more) ≡ joined_all (run_of margins) more
 run-append margins more =
     let r = joined-run (run_of margins) margins more (record { greatest = refl; least = refl }) in
     let g = r.greatest in
@@ -55,13 +57,6 @@ run-last margins m = run-append margins (m ∷ [])
 
 -- ---- how far the flow has come
 
-abbrev pub squeezed : landed.Standing → Standing
-squeezed (landed.at_top y cleared) = at_top y cleared
-squeezed (landed.below edge run stuck) = below edge (run_of run) stuck
-
-abbrev pub context_of : Progress → Context
-context_of p = record { standing = squeezed p.standing; floats = p.floats; least = p.least; baseline = p.baseline }
-
 -- what a step leaves, by what it adds
 pub record Follows (before end : Progress) (q : Step) : Type 0 where
   pub context : context_of end ≡ q.context
@@ -70,6 +65,13 @@ pub record Follows (before end : Progress) (q : Step) : Type 0 where
 edge-same : (s : landed.Standing) → landed.next_edge s ≡ next_edge (squeezed s)
 edge-same (landed.at_top y cleared) = refl
 edge-same (landed.below edge run stuck) = refl
+
+-- a box that comes below a run of margins
+pub below-found : (tree : BoxTree) (w : World) (size : Waiting ℤ → Extent ℤ) (floats : List FloatBox) (least : Option ℤ) (k end : ℕ) → k < length tree.boxes → IsTrue (is_before tree.boxes k end)
+    → (cb : Band ℤ) (edge : ℤ) (run : List ℤ)
+    → IsFoundBy (run_of run) (resolve tree w size (λ more. edge +ℤ collapsed (run ++ more)) cb floats least k none_passed) (forward tree w size (hangs edge) floats least none_passed cb k (run_of run))
+below-found tree w size floats least k end within order cb edge run =
+    resolve-found tree w size (hangs edge) floats least (λ more. edge +ℤ collapsed (run ++ more)) (run_of run) (λ more. ap (λ (r : Run ℤ). edge +ℤ collapse r) (run-append run more)) cb k end within order none_passed none-prefix
 
 module _ (tree : BoxTree) (w : World) (height : ℕ) where
   top-same : (s : landed.Standing) → landed.is_at_top tree w height s ≡ is_at_top (squeezed s)
@@ -171,9 +173,8 @@ module _ (tree : BoxTree) (w : World) (height : ℕ) where
           by (landed.at_top y cleared) e = rw e (at-same cb p y cleared)
           by (landed.below edge run stuck) e =
               let size = landed.waiting_size tree w height inside in
-              let same = λ (more : List ℤ). ap (λ (r : Run ℤ). edge +ℤ collapse r) (run-append run more) in
-              let r = resolve tree w size (λ more. edge +ℤ (greatest_from (pos 0) (run ++ more) +ℤ least_from (pos 0) (run ++ more))) cb p.floats p.least k none_passed in
-              let found = resolve-found tree w size (hangs edge) p.floats p.least (λ more. edge +ℤ (greatest_from (pos 0) (run ++ more) +ℤ least_from (pos 0) (run ++ more))) (run_of run) same cb k end within order none_passed none-prefix in
+              let r = resolve tree w size (λ more. edge +ℤ collapsed (run ++ more)) cb p.floats p.least k none_passed in
+              let found = below-found tree w size p.floats p.least k end within order cb edge run in
               rw e (at-same cb p (edge +ℤ collapse (run_of (run ++ r.margins))) r.cleared
               ∙ ap (λ (c : Cleared). reached_at tree w height content cb s k (edge +ℤ collapse (run_of (run ++ r.margins))) c) found.cleared
               ∙ ap (λ (x : Run ℤ). reached_at tree w height content cb s k (edge +ℤ collapse x) (cleared_of (forward tree w size (hangs edge) p.floats p.least none_passed cb k (run_of run)).end)) (run-append run r.margins ∙ found.run)

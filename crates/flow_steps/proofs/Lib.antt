@@ -1,3 +1,4 @@
+pub mod LeadCases
 pub mod LeadEnds
 pub mod Decided
 pub mod Resolved

@@ -2,3 +2,4 @@ pub mod Order
 pub mod Runs
 pub mod Forward
 pub mod Flow
+pub mod Progress
