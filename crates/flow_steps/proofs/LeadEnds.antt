@@ -71,7 +71,7 @@ kids-order n tree low (k ∷ ks) end a t =
 
 -- ---- the floats of inline content float
 
-abbrev FloatsFloat : BoxTree → List Item → Type 0
+abbrev pub FloatsFloat : BoxTree → List Item → Type 0
 FloatsFloat tree items = AllByRecursion (λ k. is_floated_at tree k ≡ true) (float_boxes items)
 
 inline-order : (n : ℕ) (tree : BoxTree) (ks : List ℕ) (end : ℕ) → AllByRecursion (λ k. is_floated_at tree k ≡ true) ks → InOrder n tree ks end
@@ -114,14 +114,14 @@ each-floats : (tree : BoxTree) (f : ℕ → List Item) (ks : List ℕ) → ((k :
 each-floats tree f [] own = tt
 each-floats tree f (k ∷ ks) own = All-append (IsOwnFloat tree) (f k) (flat_map f ks) (own k) (each-floats tree f ks own)
 
-abbrev sort_by : Bool → Kind → Sort
+abbrev pub sort_by : Bool → Kind → Sort
 sort_by true kind = a_float
 sort_by false of_kind.Chars = a_text
 sort_by false of_kind.Break = a_break
 sort_by false of_kind.Inline = an_inline
 sort_by false _ = an_atomic
 
-sort-float : (f : Bool) (kind : Kind) → sort_by f kind ≡ a_float → f ≡ true
+pub sort-float : (f : Bool) (kind : Kind) → sort_by f kind ≡ a_float → f ≡ true
 sort-float true kind e = refl
 sort-float false of_kind.Chars e = absurd (cc)
 sort-float false of_kind.Break e = absurd (cc)
@@ -142,13 +142,16 @@ items-floats zero tree at = tt
 items-floats (suc n) tree at = sort-floats tree at (flat_map (items_to n tree) (kids_of tree.boxes at)) (sort_of tree at)
     (λ e. sort-float (is_floated_at tree at) (kind_of tree at) e) (each-floats tree (items_to n tree) (kids_of tree.boxes at) (λ k. items-floats n tree k))
 
+pub content-floats : (tree : BoxTree) (b : ℕ) → FloatsFloat tree (content tree b)
+content-floats tree b = floats-of tree (content tree b) (each-floats tree (items_to (length tree.boxes) tree) (kids_of tree.boxes b) (λ k. items-floats (length tree.boxes) tree k))
+
 -- ---- the children in the flow of a box stand one after another
 
 pub children-order : (n : ℕ) (tree : BoxTree) (b end : ℕ) → IsTrue (is_before_to (suc n) tree.boxes b end) → InOrder n tree (flow_children tree b) end
 children-order n tree b end t = by (holds_inline tree b) refl
   where
     by : (h : Bool) → holds_inline tree b ≡ h → InOrder n tree (flow_children tree b) end
-    by true e = rw e (inline-order n tree (float_boxes (content tree b)) end (floats-of tree (content tree b) (each-floats tree (items_to (length tree.boxes) tree) (kids_of tree.boxes b) (λ k. items-floats (length tree.boxes) tree k))))
+    by true e = rw e (inline-order n tree (float_boxes (content tree b)) end (content-floats tree b))
     by false e = rw e (kids-order n tree b (kids_of tree.boxes b) end ((forest tree).rising b) (kids-before n tree.boxes b end t))
 
 -- ---- where a lead ends

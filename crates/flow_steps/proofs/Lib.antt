@@ -4,3 +4,5 @@ pub mod Decided
 pub mod Resolved
 pub mod FlowSteps
 pub mod Pages
+pub mod Sizes
+pub mod Sound
