@@ -52,7 +52,7 @@ stops-passed tree p q b more e = by (clears_something (clear_of tree b)) (p b) (
     by true false n m e = absurd (cc)
     by false o n m e = refl
 
-stops-same : (tree : BoxTree) (p q : ℕ → Bool) (b : ℕ) → p b ≡ q b → stops tree p b ≡ stops tree q b
+pub stops-same : (tree : BoxTree) (p q : ℕ → Bool) (b : ℕ) → p b ≡ q b → stops tree p b ≡ stops tree q b
 unfolding stops
 stops-same tree p q b e = ap (λ (o : Bool). clears_something (clear_of tree b) && not o) e
 

@@ -2,7 +2,8 @@ pub mod LeadCases
 pub mod LeadEnds
 pub mod Decided
 pub mod Resolved
-pub mod FlowSteps
-pub mod Pages
+pub mod Passed
 pub mod Sizes
 pub mod Sound
+pub mod FlowSteps
+pub mod Tables

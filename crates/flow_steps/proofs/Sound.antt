@@ -128,6 +128,15 @@ open-whole tree k e = by (is_context_root tree k) (is_replaced_at tree k) (is_ze
     by true true x y z e = absurd (cc)
     by false true x y z e = absurd (cc)
 
+pub enters-no-line : (tree : BoxTree) (k : ℕ) → enters tree k ≡ true → has_line tree k ≡ false
+unfolding enters
+enters-no-line tree k e = by (is_open_above tree k) (has_line tree k) e
+  where
+    by : (o l : Bool) → (o && not l) ≡ true → l ≡ false
+    by o false e = refl
+    by true true e = absurd (cc)
+    by false true e = absurd (cc)
+
 module _ (tree : BoxTree) (w : World) (height : ℕ) where
   -- a box on the page that is a containing block, in one that is as wide as the tree says
   pub record IsSound (k : ℕ) (wide : ℤ) : Type 0 where

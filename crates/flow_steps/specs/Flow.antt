@@ -15,7 +15,6 @@ use Rattle.viz_base.specs.declared.layouts.Waiting.{Waiting}
 use Rattle.viz_base.specs.declared.layouts.Widths.{Widths}
 use Rattle.viz_base.specs.declared.renderings.Placed.{Placed}
 use Rattle.viz_base.specs.declared.styles.Style.{Style}
-use Rattle.viz_base.specs.declared.trees.BoxNode.{BoxNode}
 use Rattle.viz_base.specs.declared.trees.BoxTree.{BoxTree}
 use Rattle.viz_base.specs.declared.worlds.World.{World}
 use Rattle.layout_semantics.specs.Lists.{table_of}
@@ -24,7 +23,7 @@ use Rattle.layout_semantics.specs.Floats.{FloatBox, Floating, floating, float_sp
 use Rattle.layout_semantics.specs.Verticals.{Verticals, verticals}
 use Rattle.layout_semantics.specs.Rectangles.{Frame, content_top, placed_box, shifted, outer_extent}
 use Rattle.layout_semantics.specs.FlowBoxes.{is_replaced_at, is_context_root, is_open_above, may_collapse_through, joins_last_child, flow_children, across, content_from}
-use Rattle.layout_semantics.specs.Leads.{none_passed, all_passed, is_up_to}
+use Rattle.layout_semantics.specs.Leads.{none_passed, is_up_to}
 use Rattle.layout_semantics.specs.Lengths.{own}
 use Rattle.layout_semantics.specs.Replaced.{replaced_size}
 use Rattle.layout_semantics.specs.Horizontal.{widths}
@@ -157,8 +156,10 @@ module _ (tree : BoxTree) (w : World) (height : ℕ) where
         by_sort f true = whole (replaced_box b room f) None []
         by_sort f false = by_content f (content b (content_from (pos 0) f.x) (content_top f) (fresh (content_top f)))
 
+  -- `apart` holds the boxes that are laid out in coordinates of their own, by their numbers
+  module _ (content : ℕ → Band ℤ → ℤ → Context → Step) (apart : ℕ → Alone) where
     abbrev pub size_of : Waiting ℤ → Extent ℤ
-    size_of f = (alone f.at (across f.cb)).size
+    size_of f = (apart f.at).size
 
     -- ---- floats
 
@@ -173,7 +174,7 @@ module _ (tree : BoxTree) (w : World) (height : ℕ) where
         by_float f = by_spot f (float_spot f s.floats s.least y)
 
     abbrev pub float_child : Band ℤ → ℤ → Context → ℕ → Step
-    float_child cb top s k = float_placed cb s k (int_max top (next_edge s.standing)) (alone k (across cb))
+    float_child cb top s k = float_placed cb s k (int_max top (next_edge s.standing)) (apart k)
 
     -- ---- where a box in flow is reached
 
@@ -241,9 +242,9 @@ module _ (tree : BoxTree) (w : World) (height : ℕ) where
         by_sort f false true = laid_context cb s b f
         by_sort f false false = laid_block cb s b r.cleared f
 
-    -- a run with all of a box's lead and its bottom margin
+    -- a run with all of a box's lead, each box in it being passed
     abbrev pub run_through : Band ℤ → ℕ → Run ℤ → Run ℤ
-    run_through cb b run = (lead_of tree w all_passed cb b run []).run
+    run_through cb b run = (lead_of tree w (is_up_to (length tree.boxes)) cb b run []).run
 
     abbrev pub standing_after : Band ℤ → Standing → ℕ → Reached → Laid → Standing
     standing_after cb before b r l = by_sort l.through r.clears before
@@ -286,24 +287,24 @@ module _ (tree : BoxTree) (w : World) (height : ℕ) where
         by_baseline false (Some baseline) = sized baseline
         by_baseline _ _ = sized a.size.height
 
-    abbrev pub inner_size : Band ℤ → ℕ → Inner ℤ
-    inner_size cb k = inner_of k (alone k (across cb))
+    abbrev pub inner_size : ℕ → Inner ℤ
+    inner_size k = inner_of k (apart k)
 
-    abbrev pub entry_boxes : Band ℤ → Entry ℤ → List (Placed ℤ)
-    entry_boxes cb (of_entry.Here p) = p ∷ []
-    entry_boxes cb (of_entry.Goes k at) = shifted at (alone k (across cb)).boxes
+    abbrev pub entry_boxes : Entry ℤ → List (Placed ℤ)
+    entry_boxes (of_entry.Here p) = p ∷ []
+    entry_boxes (of_entry.Goes k at) = shifted at (apart k).boxes
 
     abbrev pub line_content : ℕ → Band ℤ → ℤ → Context → Step
     line_content b cb top s = by_lines (lines_by_steps (record {
       tree = tree;
       world = w;
       container = b;
-      inner = table_of (length tree.boxes) (map (λ k. (k, inner_size cb k)) (inner_boxes tree b));
+      inner = table_of (length tree.boxes) (map (λ k. (k, inner_size k)) (inner_boxes tree b));
       cb = cb;
     }) top (unwrap_or s.least top) s.floats)
       where
         by_lines : LineList → Step
-        by_lines l = step (after_lines s l) (flat_map (entry_boxes cb) l.entries)
+        by_lines l = step (after_lines s l) (flat_map entry_boxes l.entries)
 
     -- ---- the content of a block container (9.4)
 
@@ -314,18 +315,11 @@ module _ (tree : BoxTree) (w : World) (height : ℕ) where
         by_sort true = line_content b cb top s
         by_sort false = children (child cb top) s (flow_children tree b)
 
-  -- down to so many levels
-  unfoldable pub content_to : ℕ → ℕ → Band ℤ → ℤ → Context → Step
-  content_to zero b cb top s = step s []
-  content_to (suc levels) b cb top s = content_step (content_to levels) b cb top s
+  module _ (apart : ℕ → Alone) where
+    -- down to so many levels
+    unfoldable pub content_to : ℕ → ℕ → Band ℤ → ℤ → Context → Step
+    content_to zero b cb top s = step s []
+    content_to (suc levels) b cb top s = content_step (content_to levels) apart b cb top s
 
-  abbrev pub content_of : ℕ → Band ℤ → ℤ → Context → Step
-  content_of = content_to (length tree.boxes)
-
-  -- the root's containing block is the viewport (10.1)
-  abbrev pub page_boxes : List (Placed ℤ)
-  page_boxes = by_boxes tree.boxes
-    where
-      by_boxes : List BoxNode → List (Placed ℤ)
-      by_boxes [] = []
-      by_boxes (root ∷ rest) = (alone content_of 0 (pos (64 * w.w))).boxes
+    abbrev pub content_of : ℕ → Band ℤ → ℤ → Context → Step
+    content_of = content_to (length tree.boxes)

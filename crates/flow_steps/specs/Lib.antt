@@ -3,3 +3,4 @@ pub mod Runs
 pub mod Forward
 pub mod Flow
 pub mod Progress
+pub mod Tables

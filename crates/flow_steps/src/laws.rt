@@ -1,19 +1,25 @@
-ghost use Rattle.std.specs.Prelude.{◌≡◌, ◌<◌, ◌++◌, ◌+ℤ◌, ℕ, ℤ, IsTrue, List, [], length, Option};
+ghost use Rattle.std.specs.Prelude.{◌≡◌, ◌<◌, ◌++◌, ◌+ℤ◌, ℤ, false, IsTrue, List, length, Option};
+ghost use Rattle.std.specs.List.{AllByRecursion};
+ghost use Rattle.viz_base.specs.Trees.{is_inline};
 ghost use Rattle.viz_base.specs.declared.layouts.Band.{Band};
 ghost use Rattle.viz_base.specs.declared.layouts.Extent.{Extent};
 ghost use Rattle.viz_base.specs.declared.layouts.Waiting.{Waiting};
+ghost use Rattle.layout_semantics.specs.Blocks.{kind_of};
 ghost use Rattle.layout_semantics.specs.Clearance.{resolve};
 ghost use Rattle.layout_semantics.specs.Floats.{FloatBox};
 ghost use Rattle.layout_semantics.specs.Flow.{Progress, flow, whole_alone};
 ghost use Rattle.layout_semantics.specs.Leads.{is_up_to, none_passed};
 ghost use Rattle.layout_semantics.specs.Margins.{collapsed};
+ghost use Rattle.layout_semantics.specs.FlowBoxes.{room};
+ghost use Rattle.layout_semantics.specs.Order.{IsOnPage};
 ghost use Rattle.layout_semantics.specs.Page.{page_rendering};
 ghost use Rattle.lay_margin.specs.Runs.{no_run};
-ghost use Rattle.flow_steps.specs.Flow.{alone, content_of, page_boxes};
+ghost use Rattle.flow_steps.specs.Flow.{content_of};
 ghost use Rattle.flow_steps.specs.Forward.{cleared_of, forward};
 ghost use Rattle.flow_steps.specs.Order.{is_before, is_in_order};
 ghost use Rattle.flow_steps.specs.Progress.{context_of};
 ghost use Rattle.flow_steps.specs.Runs.{hangs, stands, run_of};
+ghost use Rattle.flow_steps.specs.Tables.{inside_of, laid_at, outside_of, page_boxes, table_to};
 
 use viz_base::{BoxTree, World};
 
@@ -36,24 +42,40 @@ pub fn clearance_is_decided_on_the_way(tree: &BoxTree, world: World, at: usize, 
         ≡ cleared_of (forward tree.now world size (stands y) floats least (is_up_to at) cb at no_run).end }
 {}
 
+/// What stands outside the flow of a block container, its floats and the atomic boxes of its lines, is laid out once, and
+/// the table holds it by its number as the flow lays it out (CSS 2.1, 9.2.2, 9.5).
+pub fn what_stands_outside_the_flow_is_laid_out_once(
+    tree: &BoxTree,
+    world: World,
+    height: u32,
+    at: usize,
+)
+    requires order { IsTrue (is_in_order tree.now) }
+    requires on_page { IsOnPage tree.now.boxes at }
+    requires container { is_inline (kind_of tree.now at) ≡ false }
+    ensures { AllByRecursion (λ k. whole_alone tree.now world height k (room tree.now world height k)
+        ≡ laid_at (table_to tree.now world height (length tree.now.boxes)) k) (outside_of tree.now at) }
+{}
+
 /// The steps through what is in a box add the boxes that the flow adds, and leave the context as it does (CSS 2.1, 9.4.1).
-pub fn the_steps_of_a_content_are_its_flow(tree: &BoxTree, world: World, height: u32)
+pub fn the_steps_of_a_content_are_its_flow(tree: &BoxTree, world: World, height: u32, at: usize)
     requires order { IsTrue (is_in_order tree.now) }
-    ensures context { (b : ℕ) (cb : Band ℤ) (top : ℤ) (p : Progress) → context_of (flow tree.now world height b cb top p)
-        ≡ (content_of tree.now world height b cb top (context_of p)).context }
-    ensures boxes { (b : ℕ) (cb : Band ℤ) (top : ℤ) (p : Progress) → (flow tree.now world height b cb top p).boxes
-        ≡ p.boxes ++ (content_of tree.now world height b cb top (context_of p)).boxes }
+    requires on_page { IsOnPage tree.now.boxes at }
+    requires container { is_inline (kind_of tree.now at) ≡ false }
+    ensures context { (left top : ℤ) (p : Progress) → context_of (flow tree.now world height at
+        (inside_of tree.now world height left at) top p) ≡ (content_of tree.now world height
+        (laid_at (table_to tree.now world height (length tree.now.boxes))) at
+        (inside_of tree.now world height left at) top (context_of p)).context }
+    ensures boxes { (left top : ℤ) (p : Progress) → (flow tree.now world height at
+        (inside_of tree.now world height left at) top p).boxes ≡ p.boxes ++ (content_of tree.now world height
+        (laid_at (table_to tree.now world height (length tree.now.boxes))) at
+        (inside_of tree.now world height left at) top (context_of p)).boxes }
 {}
 
-/// So do those of a box that is laid out in coordinates of its own: a float, an inline-block.
-pub fn the_steps_of_a_box_alone_lay_it_out(tree: &BoxTree, world: World, height: u32)
-    requires order { IsTrue (is_in_order tree.now) }
-    ensures { (b : ℕ) (room : ℤ) → whole_alone tree.now world height b room
-        ≡ alone tree.now world height (content_of tree.now world height) b room }
-{}
-
-/// The steps of a page are its rendering: the whole flow, with floats, clearance, contexts, replaced boxes and lines.
+/// The steps of a page are its rendering: the whole flow, with floats, clearance, contexts, replaced boxes and lines. Its
+/// boxes are numbered in document order, and its root is a block container.
 pub fn the_steps_of_a_page_are_its_rendering(tree: &BoxTree, world: World, height: u32)
     requires order { IsTrue (is_in_order tree.now) }
+    requires root { is_inline (kind_of tree.now 0) ≡ false }
     ensures { (page_rendering tree.now world height).boxes ≡ page_boxes tree.now world height }
 {}
