@@ -1,5 +1,5 @@
 -- Deciding on the way: up to the first box that is cleared, the way forward is the lead; a box that is not cleared counts as passed.
-use Rattle.std.proofs.Common.{◌≡◌, ℕ, zero, suc, ◌<◌, ◌≤◌, ℤ, Bool, true, false, not, ◌&&◌, nat_le, IsTrue, List, [], ◌∷◌, ◌++◌, length, Option, None, Some, refl, sym, ap, ◌∙◌, subst, arith}
+use Rattle.std.proofs.Common.{◌≡◌, ℕ, zero, suc, ◌<◌, ◌≤◌, ℤ, Bool, true, false, not, ◌&&◌, nat_le, IsTrue, List, [], ◌∷◌, ◌++◌, Option, None, Some, refl, sym, ap, ◌∙◌, subst, arith}
 use Rattle.std.specs.List.{AllByRecursion}
 use Rattle.std.proofs.lemmas.Bool.Decides.{nat_tests}
 use Rattle.viz_base.specs.declared.layouts.Band.{Band}
@@ -21,9 +21,9 @@ use Rattle.lay_margin.specs.steps.Leads.{Going, ending, through, going_on, passe
 use Rattle.lay_margin.specs.steps.Leads.{kid_of as lead_kid}
 use Rattle.flow_steps.specs.Order.{next_of, is_before_to}
 use Rattle.flow_steps.specs.Runs.{Base}
-use Rattle.flow_steps.specs.Forward.{End, goes_on, solid, cleared, Found, found, then_on, decided_found, closed_found, passed_box, kid_of, forward_to}
+use Rattle.flow_steps.specs.Forward.{goes_on, solid, Found, found, then_on, decided_found, closed_found, passed_box, kid_of, forward_to}
 use Rattle.flow_steps.proofs.LeadCases.{on-through, on-solid, on-cleared, kid-float, kid-flow, ended-through, ended-stops, ended-solid, ended-cleared, kids_lead, inner_lead, lead-stops, lead-solid, lead-inside, found-float, found-flow, closed-through, closed-stops, way_to, kids_way, inner_way, decision, entered, way-stops, way-enters}
-use Rattle.flow_steps.proofs.LeadEnds.{IsFirst, InOrder, children-order, stops-open, EndsBefore, ended-ends, kid-ends, kids-ends, lead-ends}
+use Rattle.flow_steps.proofs.LeadEnds.{InOrder, children-order, stops-open, EndsBefore, ended-ends, kid-ends, kids-ends, lead-ends}
 
 -- ---- boxes that are passed
 

@@ -1,7 +1,7 @@
 -- The steps of the flow, one level of the tree at a time, are normal flow.
-use Rattle.std.proofs.Common.{◌≡◌, ℕ, zero, suc, ◌<◌, ◌*◌, ℤ, pos, ◌+ℤ◌, ◌-ℤ◌, Bool, true, false, ◌&&◌, ◌||◌, ◌==◌, IsTrue, List, [], ◌∷◌, ◌++◌, map, filter, fold, flat_map, cond, ◌≤◌, length, unwrap_or, Option, None, Some, refl, sym, ap, ◌∙◌, subst, arith, append_assoc, append-nil}
+use Rattle.std.proofs.Common.{◌≡◌, ℕ, suc, ◌<◌, ℤ, pos, ◌+ℤ◌, ◌-ℤ◌, Bool, true, false, ◌&&◌, ◌==◌, IsTrue, List, [], ◌∷◌, ◌++◌, map, filter, fold, flat_map, cond, ◌≤◌, length, unwrap_or, Option, None, Some, refl, sym, ap, ◌∙◌, subst, arith, append_assoc, append-nil}
 use Rattle.std.proofs.Math.Path.{fun_ext}
-use Rattle.std.specs.Int.{int_max, int_min}
+use Rattle.std.specs.Int.{int_max}
 use Rattle.std.specs.List.{AllByRecursion}
 use Rattle.std.specs.Option.{option_or}
 use Rattle.viz_base.specs.declared.layouts.Band.{Band}
@@ -11,7 +11,6 @@ use Rattle.viz_base.specs.declared.layouts.Extent.{Extent}
 use Rattle.viz_base.specs.declared.layouts.Inner.{Inner}
 use Rattle.viz_base.specs.declared.layouts.Waiting.{Waiting}
 use Rattle.viz_base.specs.declared.renderings.Placed.{Placed}
-use Rattle.viz_base.specs.declared.styles.Style.{Style}
 use Rattle.viz_base.specs.declared.trees.BoxTree.{BoxTree}
 use Rattle.viz_base.specs.declared.trees.Kind.{Kind}
 use Rattle.viz_base.specs.declared.trees.Kind.TheVariants as of_kind
@@ -21,7 +20,7 @@ use Rattle.layout_semantics.specs.Blocks.{kind_of}
 use Rattle.layout_semantics.specs.Order.{IsOnPage}
 use Rattle.layout_semantics.specs.Horizontal.{widths}
 use Rattle.layout_semantics.specs.Lists.{table_of}
-use Rattle.layout_semantics.specs.Extremes.{greatest_from, least_from}
+use Rattle.layout_semantics.specs.Extremes.{greatest_from}
 use Rattle.layout_semantics.specs.Floats.{FloatBox}
 use Rattle.layout_semantics.specs.Rectangles.{Frame, content_top, placed_box, shifted}
 use Rattle.layout_semantics.specs.FlowBoxes.{is_replaced_at, is_context_root, is_open_above, may_collapse_through, joins_last_child, flow_children, across, content_from, room}
@@ -31,7 +30,7 @@ use Rattle.layout_semantics.specs.Leads.{lead as landed_lead}
 use Rattle.layout_semantics.specs.Lengths.{own}
 use Rattle.layout_semantics.specs.LineHeights.{InlineContext}
 use Rattle.layout_semantics.specs.Lines.{LineList, lines_in}
-use Rattle.layout_semantics.specs.Clearance.{Resolved, resolve}
+use Rattle.layout_semantics.specs.Clearance.{resolve}
 use Rattle.layout_semantics.specs.Margins.{collapsed}
 use Rattle.layout_semantics.specs.Flow as landed
 use Rattle.layout_semantics.specs.Flow.{Cleared, Alone, Reached, Progress, raised, content_height}
@@ -40,14 +39,14 @@ use Rattle.layout_laws.proofs.WholeLines.{shown, content-shown}
 use Rattle.layout_laws.proofs.LeadLevels.{children-from}
 use Rattle.lay_line.proofs.Lays.{lines-are}
 use Rattle.lay_margin.specs.declared.runs.Run.{Run}
-use Rattle.lay_margin.specs.Runs.{IsRunOf, no_run, with_margin, collapse, joined_all}
-use Rattle.lay_margin.specs.steps.Leads.{Going, enters, inner_band, margin_below, lead_of}
+use Rattle.lay_margin.specs.Runs.{no_run, with_margin, collapse, joined_all}
+use Rattle.lay_margin.specs.steps.Leads.{Going, enters, inner_band, margin_below}
 use Rattle.lay_margin.proofs.Joined.{joined-run, lead-joined}
 use Rattle.flow_steps.specs.Order.{is_before}
 use Rattle.flow_steps.specs.Runs.{Base, hangs, stands, run_of}
 use Rattle.flow_steps.specs.Forward.{Found, cleared_of, forward}
 use Rattle.flow_steps.specs.Progress.{squeezed, context_of}
-use Rattle.flow_steps.specs.Flow.{Standing, at_top, below, Context, fresh, Step, step, next_edge, is_at_top, Laid, context_height, block_height, joined_run, line_tops, after_lines, followed, children, frame_at, corner_frame, context_box, block_box, whole, alone, size_of, float_placed, float_child, reached_at, reached, opened, closed, laid_replaced, laid_context, laid_block, laid, run_through, standing_after, flow_child, child, inner_of, inner_size, entry_boxes, line_content, content_step}
+use Rattle.flow_steps.specs.Flow.{Standing, at_top, below, Context, fresh, Step, step, next_edge, is_at_top, Laid, context_height, block_height, joined_run, line_tops, after_lines, children, frame_at, corner_frame, context_box, block_box, whole, alone, size_of, float_placed, float_child, reached_at, reached, opened, closed, laid_context, laid_block, laid, run_through, standing_after, child, inner_size, entry_boxes, line_content, content_step}
 use Rattle.flow_steps.specs.Tables.{outside_of}
 use Rattle.flow_steps.proofs.Passed.{all-passed}
 use Rattle.flow_steps.proofs.Sizes.{sizes-alike}
@@ -134,9 +133,9 @@ module _ (tree : BoxTree) (w : World) (height : ℕ) where
       by false e =
           let follows : Follows (landed.fresh top) end q = again top in
           rw e (
-              ap (λ (h : ℤ). whole tree w height content (placed_box tree b f (content_height tree w height b h)) end.baseline end.boxes) (context-same top end)
-              ∙ ap (λ (c : Context). whole tree w height content (context_box tree w height b f c) c.baseline end.boxes) follows.context
-              ∙ ap (whole tree w height content (context_box tree w height b f q.context) q.context.baseline) follows.boxes)
+          ap (λ (h : ℤ). whole tree w height content (placed_box tree b f (content_height tree w height b h)) end.baseline end.boxes) (context-same top end)
+          ∙ ap (λ (c : Context). whole tree w height content (context_box tree w height b f c) c.baseline end.boxes) follows.context
+          ∙ ap (whole tree w height content (context_box tree w height b f q.context) q.context.baseline) follows.boxes)
 
   -- ---- one level: `inside` and `content` lay out what is in a box behind this one, and `apart` holds what stands outside the flow
 
@@ -378,8 +377,8 @@ module _ (tree : BoxTree) (w : World) (height : ℕ) where
         by true true s e f =
             let g = sym same.through ∙ e in
             rw (e, g, f) (
-                ap (λ (x : Run ℤ). below (r.top -ℤ collapse (run_of lead)) x true) (run-last lead mb)
-                ∙ ap (λ (x : Run ℤ). below (r.top -ℤ collapse x) (with_margin x mb) true) (through-same cb k [] within))
+            ap (λ (x : Run ℤ). below (r.top -ℤ collapse (run_of lead)) x true) (run-last lead mb)
+            ∙ ap (λ (x : Run ℤ). below (r.top -ℤ collapse x) (with_margin x mb) true) (through-same cb k [] within))
         by true false (landed.at_top y cleared) e f = let g = sym same.through ∙ e in rw (e, g, f) refl
         by true false (landed.below edge run stuck) e f =
             let g = sym same.through ∙ e in

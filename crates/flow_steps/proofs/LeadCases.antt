@@ -1,5 +1,5 @@
 -- The steps of a lead and of the way forward, case by case.
-use Rattle.std.proofs.Common.{◌≡◌, ℕ, zero, suc, ℤ, Bool, true, false, List, [], ◌∷◌, ◌++◌, Option, None, Some, refl, ap, ◌∙◌}
+use Rattle.std.proofs.Common.{◌≡◌, ℕ, suc, ℤ, Bool, true, false, List, [], ◌∷◌, ◌++◌, Option, refl, ap, ◌∙◌}
 use Rattle.viz_base.specs.declared.layouts.Band.{Band}
 use Rattle.viz_base.specs.declared.layouts.Extent.{Extent}
 use Rattle.viz_base.specs.declared.layouts.LeadEnd.{LeadEnd}
@@ -12,10 +12,10 @@ use Rattle.layout_semantics.specs.FlowBoxes.{may_collapse_through, flow_children
 use Rattle.layout_semantics.specs.InlineContent.{is_floated_at}
 use Rattle.lay_margin.specs.declared.runs.Run.{Run}
 use Rattle.lay_margin.specs.Runs.{with_margin}
-use Rattle.lay_margin.specs.steps.Leads.{Going, ending, through, going_on, passed_kid, kids_going, closed_end, ended_by, enters, stops, inner_band, margin_above, margin_below, lead_to}
+use Rattle.lay_margin.specs.steps.Leads.{Going, ending, through, going_on, passed_kid, kids_going, closed_end, ended_by, enters, stops, inner_band, margin_above, lead_to}
 use Rattle.lay_margin.specs.steps.Leads.{kid_of as lead_kid}
 use Rattle.flow_steps.specs.Runs.{Base}
-use Rattle.flow_steps.specs.Forward.{End, goes_on, solid, cleared, Found, found, then_on, decided_found, closed_found, inside_found, passed_box, kid_of, kids_found, decided, box_found, forward_to}
+use Rattle.flow_steps.specs.Forward.{End, goes_on, solid, cleared, Found, found, then_on, decided_found, closed_found, passed_box, kid_of, kids_found, decided, forward_to}
 
 -- ---- what goes on
 

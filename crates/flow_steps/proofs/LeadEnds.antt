@@ -1,5 +1,5 @@
 -- Where a lead ends: at a box that is not passed, and before the box that comes next.
-use Rattle.std.proofs.Common.{◌≡◌, ℕ, zero, suc, ◌<◌, ◌≤◌, ℤ, Bool, true, false, not, ◌&&◌, nat_lt, IsTrue, List, [], ◌∷◌, ◌++◌, length, refl, sym, ap, ◌∙◌, subst, arith}
+use Rattle.std.proofs.Common.{◌≡◌, ℕ, zero, suc, ◌<◌, ◌≤◌, ℤ, Bool, true, false, not, ◌&&◌, nat_lt, IsTrue, List, [], ◌∷◌, length, refl, sym, subst, arith}
 use Rattle.std.specs.Prelude.{◌==◌}
 use Rattle.std.specs.List.{flat_map, AllByRecursion}
 use Rattle.std.proofs.lemmas.Bool.Decides.{nat_tests}
@@ -24,7 +24,7 @@ use Rattle.layout_laws.specs.Nested.{items_of_sort}
 use Rattle.layout_laws.proofs.Levels.{All-implied, All-append}
 use Rattle.lay_margin.specs.declared.runs.Run.{Run}
 use Rattle.lay_margin.specs.Runs.{with_margin}
-use Rattle.lay_margin.specs.steps.Leads.{Going, ending, through, going_on, passed_kid, kid_going, kid_of, kids_going, closed_end, ended_by, enters, stops, inner_band, margin_above, margin_below, lead_to}
+use Rattle.lay_margin.specs.steps.Leads.{Going, through, going_on, kid_of, kids_going, ended_by, enters, stops, inner_band, margin_above, margin_below, lead_to}
 use Rattle.flow_steps.specs.Order.{next_of, each_before_next, is_before_to}
 use Rattle.flow_steps.proofs.LeadCases.{on-through, on-solid, on-cleared, kid-float, kid-flow, ended-through, ended-stops, ended-solid, ended-cleared, kids_lead, inner_lead, lead-stops, lead-solid, lead-inside}
 

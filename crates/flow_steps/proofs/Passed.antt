@@ -1,9 +1,8 @@
 -- A lead that passes all boxes of the tree.
-use Rattle.std.proofs.Common.{◌≡◌, ℕ, zero, suc, ◌<◌, ◌≤◌, ℤ, Bool, true, false, not, ◌&&◌, nat_le, List, [], ◌∷◌, ◌++◌, length, refl, sym, ap, ◌∙◌, arith}
+use Rattle.std.proofs.Common.{◌≡◌, ℕ, zero, suc, ◌<◌, ℤ, Bool, true, false, List, [], ◌∷◌, ◌++◌, length, refl, ap, ◌∙◌, arith}
 use Rattle.std.specs.List.{AllByRecursion}
 use Rattle.std.proofs.lemmas.Bool.Decides.{nat_tests}
 use Rattle.viz_base.specs.declared.layouts.Band.{Band}
-use Rattle.viz_base.specs.declared.layouts.LeadEnd.{LeadEnd}
 use Rattle.viz_base.specs.declared.layouts.LeadEnd.TheVariants as of_end
 use Rattle.viz_base.specs.declared.layouts.Waiting.{Waiting}
 use Rattle.viz_base.specs.declared.trees.BoxTree.{BoxTree}
@@ -15,7 +14,7 @@ use Rattle.layout_laws.proofs.Levels.{IsFrom}
 use Rattle.layout_laws.proofs.LeadLevels.{children-from}
 use Rattle.lay_margin.specs.declared.runs.Run.{Run}
 use Rattle.lay_margin.specs.Runs.{with_margin}
-use Rattle.lay_margin.specs.steps.Leads.{Going, ending, through, going_on, passed_kid, kids_going, kid_of, inside_going, enters, stops, inner_band, margin_above, lead_to, lead_of}
+use Rattle.lay_margin.specs.steps.Leads.{Going, ending, through, going_on, passed_kid, kid_of, inside_going, stops, inner_band, margin_above, lead_to, lead_of}
 use Rattle.flow_steps.proofs.LeadCases.{kids_lead, inner_lead}
 use Rattle.flow_steps.proofs.Decided.{stops-same}
 

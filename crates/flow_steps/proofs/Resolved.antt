@@ -1,10 +1,8 @@
 -- Deciding clearance on the way gives what the definition finds by trying leads that pass more and more boxes.
-use Rattle.std.proofs.Common.{◌≡◌, ℕ, zero, suc, ◌+◌, ◌<◌, ◌≤◌, ℤ, pos, ◌+ℤ◌, Bool, true, false, not, ◌&&◌, nat_le, int_lt, IsTrue, List, [], ◌∷◌, ◌++◌, length, Option, None, Some, refl, sym, ap, ◌∙◌, subst, arith}
+use Rattle.std.proofs.Common.{◌≡◌, ℕ, zero, suc, ◌+◌, ◌<◌, ◌≤◌, ℤ, Bool, true, false, int_lt, IsTrue, List, [], ◌∷◌, ◌++◌, length, Option, None, Some, refl, sym, ap, ◌∙◌, subst, arith}
 use Rattle.std.specs.Prelude.{unwrap_or}
-use Rattle.std.specs.Int.{int_max, int_min}
 use Rattle.std.specs.Option.{option_map_or}
 use Rattle.std.proofs.lemmas.Bool.Decides.{nat_tests}
-use Rattle.std.proofs.lemmas.Int.{ints, clamps}
 use Rattle.viz_base.specs.declared.layouts.Band.{Band}
 use Rattle.viz_base.specs.declared.layouts.Extent.{Extent}
 use Rattle.viz_base.specs.declared.layouts.LeadEnd.{LeadEnd}
@@ -21,11 +19,11 @@ use Rattle.layout_semantics.specs.Clearance as landed
 use Rattle.layout_laws.proofs.LeadLevels.{EndsWell, lead-leads}
 use Rattle.lay_margin.specs.declared.runs.Run.{Run}
 use Rattle.lay_margin.specs.Runs.{with_margin, joined_all}
-use Rattle.lay_margin.specs.steps.Leads.{Going, led_by, lead_of}
+use Rattle.lay_margin.specs.steps.Leads.{Going, led_by}
 use Rattle.lay_margin.proofs.Joined.{lead-joined}
 use Rattle.flow_steps.specs.Order.{is_before}
-use Rattle.flow_steps.specs.Runs.{Base, hangs, stands, edge_at}
-use Rattle.flow_steps.specs.Forward.{End, goes_on, solid, cleared, cleared_of, Found, found, decided_found, hypothetical_edge, bottom_to_clear, is_to_clear, clear_edge, decided, forward}
+use Rattle.flow_steps.specs.Runs.{Base, edge_at}
+use Rattle.flow_steps.specs.Forward.{goes_on, solid, cleared, cleared_of, Found, found, decided_found, hypothetical_edge, bottom_to_clear, is_to_clear, clear_edge, forward}
 use Rattle.flow_steps.proofs.Decided.{IsPrefix, way, way-through, way-solid, way-cleared, forward-way}
 
 joined-append : (r : Run ℤ) (xs ys : List ℤ) → joined_all r (xs ++ ys) ≡ joined_all (joined_all r xs) ys

@@ -1,12 +1,11 @@
 -- The table of boxes outside the flow holds each of them as it is laid out; with it the steps of a page are its rendering.
-use Rattle.std.proofs.Common.{◌≡◌, ◌≢◌, ℕ, zero, suc, ◌+◌, ◌-◌, ◌<◌, ◌≤◌, ◌⊎◌, inl, inr, ◌*◌, ℤ, pos, Bool, true, false, cond, IsTrue, Contains, List, [], ◌∷◌, filter, fold, length, get_or, set, replicate, Option, None, Some, refl, sym, ap, ◌∙◌, subst, arith}
+use Rattle.std.proofs.Common.{◌≡◌, ◌≢◌, ℕ, zero, suc, ◌+◌, ◌-◌, ◌<◌, ◌≤◌, inl, inr, ◌*◌, ℤ, pos, Bool, true, false, cond, IsTrue, Contains, List, [], ◌∷◌, filter, fold, length, set, Option, None, Some, refl, sym, ap, ◌∙◌, subst, arith}
 use Rattle.std.specs.Prelude.{unwrap_or}
 use Rattle.std.specs.List.{list_all, range_with_len, AllByRecursion}
 use Rattle.std.specs.Option.{option_map_or}
 use Rattle.std.proofs.lemmas.Bool.{cases_eq}
 use Rattle.std.proofs.lemmas.List.{get_or-set_same, get_or-set_other, length-set, length-replicate}
 use Rattle.viz_base.specs.Trees.{is_inline}
-use Rattle.viz_base.specs.declared.layouts.Band.{Band}
 use Rattle.viz_base.specs.declared.renderings.Placed.{Placed}
 use Rattle.viz_base.specs.declared.renderings.Rendering.{Rendering}
 use Rattle.viz_base.specs.declared.trees.BoxNode.{BoxNode}
@@ -25,10 +24,10 @@ use Rattle.layout_laws.proofs.Levels.{IsFrom, All-implied, inner_boxes-from}
 use Rattle.layout_laws.proofs.LeadLevels.{children-from}
 use Rattle.layout_laws.proofs.FlowLevels.{flow-is}
 use Rattle.flow_steps.specs.Order.{is_before, is_in_order}
-use Rattle.flow_steps.specs.Flow.{Step, alone, content_to, content_of}
+use Rattle.flow_steps.specs.Flow.{alone, content_to, content_of}
 use Rattle.flow_steps.specs.Progress.{context_of}
 use Rattle.flow_steps.specs.Tables.{outside_of, nothing_alone, laid_at, with_box, with_container, table_to, page_boxes}
-use Rattle.flow_steps.proofs.Sound.{IsSound, IsFlowKid, inner_boxes-sound, flow-sound}
+use Rattle.flow_steps.proofs.Sound.{IsSound, inner_boxes-sound, flow-sound}
 use Rattle.flow_steps.proofs.FlowSteps.{Follows, band_in, alone-same, step-agrees}
 
 -- ---- boxes in order
@@ -197,7 +196,7 @@ module _ (tree : BoxTree) (w : World) (height : ℕ) (order : IsTrue (is_in_orde
       whole : AllServed full b
       whole c l p i = elim (cases_eq c b) [
         | inl same ↦ subst (λ (x : ℕ). AllByRecursion (Served full) (outside_of tree x)) (sym same)
-          (all-right b (outside_of tree b) table f.long f.served (outside-later b) (outside-sound b (subst Sound same (own-sound c p i))))
+            (all-right b (outside_of tree b) table f.long f.served (outside-later b) (outside-sound b (subst Sound same (own-sound c p i))))
         | inr other ↦ let n : c ≢ b = other in still-served table full (suc b) more f.served c (omega arith) p i
       ]
 

@@ -1,6 +1,6 @@
 -- Normal flow with floats in it (CSS 2.1, 8.3.1, 9.4.1, 9.5, 10.6) in the steps of the engine: a run of margins is two numbers, which box is
 -- cleared is decided on the way, and a step gives the boxes that it adds.
-use Rattle.std.specs.Prelude.{ℕ, zero, suc, ◌*◌, ℤ, pos, ◌+ℤ◌, ◌-ℤ◌, Bool, true, false, ◌&&◌, ◌||◌, ◌==◌, cond, List, [], ◌∷◌, ◌++◌, map, fold, length, unwrap_or, Option, Some, None}
+use Rattle.std.specs.Prelude.{ℕ, zero, suc, ℤ, pos, ◌+ℤ◌, ◌-ℤ◌, Bool, true, false, ◌&&◌, ◌||◌, ◌==◌, cond, List, [], ◌∷◌, ◌++◌, map, fold, length, unwrap_or, Option, Some, None}
 use Rattle.std.specs.Int.{int_max, int_min}
 use Rattle.std.specs.Option.{option_or}
 use Rattle.std.specs.List.{flat_map}
@@ -28,7 +28,6 @@ use Rattle.layout_semantics.specs.Lengths.{own}
 use Rattle.layout_semantics.specs.Replaced.{replaced_size}
 use Rattle.layout_semantics.specs.Horizontal.{widths}
 use Rattle.layout_semantics.specs.InlineContent.{is_floated_at, has_line, inner_boxes}
-use Rattle.layout_semantics.specs.LineHeights.{InlineContext}
 use Rattle.layout_semantics.specs.Lines.{LineList}
 use Rattle.layout_semantics.specs.Flow.{Cleared, Alone, Reached, raised, content_height}
 use Rattle.lay_line.specs.steps.Laying.{lines_by_steps}

@@ -1,5 +1,5 @@
 -- Margins that adjoin, as two numbers (CSS 2.1, 8.3.1).
-use Rattle.std.specs.Prelude.{ℤ, pos, ◌+ℤ◌, Bool, List}
+use Rattle.std.specs.Prelude.{ℤ, pos, ◌+ℤ◌, List}
 use Rattle.layout_semantics.specs.Extremes.{greatest_from, least_from}
 use Rattle.lay_margin.specs.declared.runs.Run.{Run}
 use Rattle.lay_margin.specs.Runs.{collapse}

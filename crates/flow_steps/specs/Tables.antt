@@ -1,5 +1,5 @@
 -- The boxes of a page: each float and each atomic inline-level box is laid out once, and kept by its number.
-use Rattle.std.specs.Prelude.{ℕ, zero, suc, ◌-◌, ◌*◌, ℤ, pos, Bool, true, false, List, [], ◌∷◌, filter, fold, length, get_or, set, replicate, Option, Some, None, unwrap_or}
+use Rattle.std.specs.Prelude.{ℕ, zero, suc, ◌-◌, ◌*◌, ℤ, pos, true, false, List, [], ◌∷◌, filter, fold, length, get_or, set, replicate, Option, Some, None, unwrap_or}
 use Rattle.viz_base.specs.Trees.{is_inline}
 use Rattle.viz_base.specs.declared.layouts.Band.{Band}
 use Rattle.viz_base.specs.declared.renderings.Placed.{Placed}

@@ -1,11 +1,10 @@
-use Rattle.std.proofs.Common.{◌+ℤ◌, ◌++◌, ℤ, ◌∙◌, ap, refl}
+use Rattle.std.proofs.Common.{◌+ℤ◌, ◌++◌, ◌∙◌, refl}
 use Rattle.layout_semantics.specs.Margins.{collapsed}
 use Rattle.layout_semantics.specs.Leads.{is_up_to, none_passed}
 use Rattle.layout_semantics.specs.Clearance.{resolve}
-use Rattle.lay_margin.specs.declared.runs.Run.{Run}
-use Rattle.lay_margin.specs.Runs.{collapse, no_run}
-use Rattle.flow_steps.specs.Runs.{hangs, stands, run_of}
-use Rattle.flow_steps.proofs.Resolved.{none-prefix, up-prefix, resolve-found}
+use Rattle.lay_margin.specs.Runs.{no_run}
+use Rattle.flow_steps.specs.Runs.{stands}
+use Rattle.flow_steps.proofs.Resolved.{up-prefix, resolve-found}
 use Rattle.flow_steps.proofs.FlowSteps.{run-append, below-found}
 use Rattle.flow_steps.proofs.laws.clearance_is_decided_on_the_way.Goals as goal
 
