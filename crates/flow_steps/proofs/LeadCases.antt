@@ -98,9 +98,6 @@ module _ (tree : BoxTree) (w : World) (p : ℕ → Bool) where
 
 -- ---- the way forward
 
-pub on-goes : (f rest : Found) → f.end ≡ goes_on → then_on f rest ≡ rest
-on-goes f rest e = ap (λ (end : End). elim end as (λ _. Found) [ goes_on ↦ rest | solid ↦ f | cleared b edge ↦ f ]) e
-
 module _ (tree : BoxTree) (w : World) where
   abbrev found_by : (ℕ → Run ℤ → List (Waiting ℤ) → Found) → Band ℤ → ℕ → Run ℤ → List (Waiting ℤ) → Bool → Found
   found_by go cb k run ws f = elim f as (λ _. Found) [ true ↦ found run (ws ++ record { at = k; cb = cb } ∷ []) goes_on | false ↦ passed_box tree w cb k (go k run ws) ]
