@@ -15,7 +15,7 @@ use Rattle.lay_margin.specs.Runs.{with_margin}
 use Rattle.lay_margin.specs.steps.Leads.{Going, ending, through, going_on, passed_kid, kids_going, closed_end, ended_by, enters, stops, inner_band, margin_above, lead_to}
 use Rattle.lay_margin.specs.steps.Leads.{kid_of as lead_kid}
 use Rattle.flow_steps.specs.Runs.{Base}
-use Rattle.flow_steps.specs.Forward.{End, goes_on, solid, cleared, Found, found, then_on, decided_found, closed_found, passed_box, kid_of, kids_found, decided, forward_to}
+use Rattle.flow_steps.specs.Forward.{goes_on, solid, Found, found, decided_found, closed_found, passed_box, kid_of, kids_found, decided, forward_to}
 
 -- ---- what goes on
 

@@ -7,3 +7,4 @@ pub mod Sizes
 pub mod Sound
 pub mod FlowSteps
 pub mod Tables
+pub mod Levels

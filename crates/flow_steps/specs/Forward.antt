@@ -130,5 +130,8 @@ module _ (tree : BoxTree) (w : World) where
       forward_to zero cb b run waiting = found run waiting goes_on
       forward_to (suc levels) cb b run waiting = forward_step (forward_to levels) cb b run waiting
 
+      abbrev pub way : Band ℤ → ℕ → Run ℤ → List (Waiting ℤ) → Found
+      way cb b run waiting = forward_to (length tree.boxes) cb b run waiting
+
       abbrev pub forward : Band ℤ → ℕ → Run ℤ → Found
-      forward cb b run = forward_to (length tree.boxes) cb b run []
+      forward cb b run = way cb b run []

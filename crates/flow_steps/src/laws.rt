@@ -1,4 +1,4 @@
-ghost use Rattle.std.specs.Prelude.{◌≡◌, ◌<◌, ◌++◌, ◌+ℤ◌, ℤ, false, IsTrue, List, length, Option};
+ghost use Rattle.std.specs.Prelude.{◌≡◌, ◌<◌, ◌++◌, ◌+ℤ◌, ℕ, ℤ, Bool, false, IsTrue, List, length, Option};
 ghost use Rattle.std.specs.List.{AllByRecursion};
 ghost use Rattle.viz_base.specs.Trees.{is_inline};
 ghost use Rattle.viz_base.specs.declared.layouts.Band.{Band};
@@ -7,18 +7,19 @@ ghost use Rattle.viz_base.specs.declared.layouts.Waiting.{Waiting};
 ghost use Rattle.layout_semantics.specs.Blocks.{kind_of};
 ghost use Rattle.layout_semantics.specs.Clearance.{resolve};
 ghost use Rattle.layout_semantics.specs.Floats.{FloatBox};
-ghost use Rattle.layout_semantics.specs.Flow.{Progress, flow, whole_alone};
+ghost use Rattle.layout_semantics.specs.Flow.{Alone, Progress, flow, whole_alone};
 ghost use Rattle.layout_semantics.specs.Leads.{is_up_to, none_passed};
 ghost use Rattle.layout_semantics.specs.Margins.{collapsed};
 ghost use Rattle.layout_semantics.specs.FlowBoxes.{room};
 ghost use Rattle.layout_semantics.specs.Order.{IsOnPage};
 ghost use Rattle.layout_semantics.specs.Page.{page_rendering};
 ghost use Rattle.lay_margin.specs.Runs.{no_run};
-ghost use Rattle.flow_steps.specs.Flow.{content_of};
-ghost use Rattle.flow_steps.specs.Forward.{cleared_of, forward};
+ghost use Rattle.lay_margin.specs.declared.runs.Run.{Run};
+ghost use Rattle.flow_steps.specs.Flow.{Context, content_of, content_step};
+ghost use Rattle.flow_steps.specs.Forward.{cleared_of, forward, forward_step, way};
 ghost use Rattle.flow_steps.specs.Order.{is_before, is_in_order};
 ghost use Rattle.flow_steps.specs.Progress.{context_of};
-ghost use Rattle.flow_steps.specs.Runs.{hangs, stands, run_of};
+ghost use Rattle.flow_steps.specs.Runs.{Base, hangs, stands, run_of};
 ghost use Rattle.flow_steps.specs.Tables.{inside_of, laid_at, outside_of, page_boxes, table_to};
 
 use viz_base::{BoxTree, World};
@@ -40,6 +41,24 @@ pub fn clearance_is_decided_on_the_way(tree: &BoxTree, world: World, at: usize, 
     ensures opened { (size : Waiting ℤ → Extent ℤ) (y : ℤ) (cb : Band ℤ) (floats : List FloatBox) (least : Option ℤ)
         → (resolve tree.now world size (λ more. y) cb floats least at (is_up_to at)).cleared
         ≡ cleared_of (forward tree.now world size (stands y) floats least (is_up_to at) cb at no_run).end }
+{}
+
+/// The way forward from a box, by that of the boxes in it: more levels would change nothing.
+pub fn a_way_forward_comes_from_inside(tree: &BoxTree, world: World, at: usize)
+    requires within { at < length tree.now.boxes }
+    ensures { (size : Waiting ℤ → Extent ℤ) (base : Base) (floats : List FloatBox) (least : Option ℤ) (passed : ℕ → Bool)
+        (cb : Band ℤ) (run : Run ℤ) (waiting : List (Waiting ℤ))
+        → way tree.now world size base floats least passed cb at run waiting ≡ forward_step tree.now world size base
+        floats least passed (way tree.now world size base floats least passed) cb at run waiting }
+{}
+
+/// The steps through what is in a box, by those through what is in later boxes, whatever the table of boxes outside the
+/// flow holds.
+pub fn the_steps_of_a_content_come_from_inside(tree: &BoxTree, world: World, height: u32, at: usize)
+    requires within { at < length tree.now.boxes }
+    ensures { (apart : ℕ → Alone) (cb : Band ℤ) (top : ℤ) (s : Context)
+        → content_of tree.now world height apart at cb top s ≡ content_step tree.now world height
+        (content_of tree.now world height apart) apart at cb top s }
 {}
 
 /// What stands outside the flow of a block container, its floats and the atomic boxes of its lines, is laid out once, and
