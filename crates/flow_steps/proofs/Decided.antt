@@ -57,7 +57,7 @@ unfolding stops
 stops-same tree p q b e = ap (λ (o : Bool). clears_something (clear_of tree b) && not o) e
 
 -- the box itself is passed
-stops-not : (tree : BoxTree) (q : ℕ → Bool) (b : ℕ) → q b ≡ true → stops tree q b ≡ false
+pub stops-not : (tree : BoxTree) (q : ℕ → Bool) (b : ℕ) → q b ≡ true → stops tree q b ≡ false
 unfolding stops
 stops-not tree q b e = by (clears_something (clear_of tree b)) (q b) e
   where

@@ -8,3 +8,5 @@ pub mod Sound
 pub mod FlowSteps
 pub mod Tables
 pub mod Levels
+pub mod Through
+pub mod TopStays
