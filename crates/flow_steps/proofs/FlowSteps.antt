@@ -1,6 +1,8 @@
 -- The steps of the flow, one level of the tree at a time, are normal flow.
 use Rattle.std.proofs.Common.{◌≡◌, ℕ, suc, ◌<◌, ℤ, pos, ◌+ℤ◌, ◌-ℤ◌, Bool, true, false, ◌&&◌, ◌==◌, IsTrue, List, [], ◌∷◌, ◌++◌, map, filter, fold, flat_map, cond, ◌≤◌, length, unwrap_or, Option, None, Some, refl, sym, ap, ◌∙◌, subst, arith, append_assoc, append-nil}
 use Rattle.std.proofs.Math.Path.{fun_ext}
+use Rattle.std.specs.Prelude.{nat_le}
+use Rattle.std.proofs.lemmas.Bool.Decides.{nat_tests}
 use Rattle.std.specs.Int.{int_max}
 use Rattle.std.specs.List.{AllByRecursion}
 use Rattle.std.specs.Option.{option_or}
@@ -40,15 +42,18 @@ use Rattle.layout_laws.proofs.LeadLevels.{children-from}
 use Rattle.lay_line.proofs.Lays.{lines-are}
 use Rattle.lay_margin.specs.declared.runs.Run.{Run}
 use Rattle.lay_margin.specs.Runs.{no_run, with_margin, collapse, joined_all}
-use Rattle.lay_margin.specs.steps.Leads.{Going, enters, inner_band, margin_below}
+use Rattle.lay_margin.specs.steps.Leads.{Going, lead_of, enters, inner_band, margin_below}
 use Rattle.lay_margin.proofs.Joined.{joined-run, lead-joined}
 use Rattle.flow_steps.specs.Order.{is_before}
 use Rattle.flow_steps.specs.Runs.{Base, hangs, stands, run_of}
-use Rattle.flow_steps.specs.Forward.{Found, cleared_of, forward}
+use Rattle.flow_steps.specs.Forward.{Found, goes_on, cleared_of, forward}
 use Rattle.flow_steps.specs.Progress.{squeezed, context_of}
-use Rattle.flow_steps.specs.Flow.{Standing, at_top, below, Context, fresh, Step, step, next_edge, is_at_top, Laid, context_height, block_height, joined_run, line_tops, after_lines, children, frame_at, corner_frame, context_box, block_box, whole, alone, size_of, float_placed, float_child, reached_at, reached, opened, closed, laid_context, laid_block, laid, run_through, standing_after, child, inner_size, entry_boxes, line_content, content_step}
+use Rattle.flow_steps.specs.Flow.{Standing, at_top, below, Context, fresh, Step, step, next_edge, is_at_top, Laid, context_height, block_height, joined_run, line_tops, after_lines, children, frame_at, corner_frame, context_box, block_box, whole, alone, size_of, float_placed, float_child, reached_at, reached, opened, closed, laid_context, laid_block, laid, run_forward, own_run, standing_after, child, inner_size, entry_boxes, line_content, content_step}
 use Rattle.flow_steps.specs.Tables.{outside_of}
 use Rattle.flow_steps.proofs.Passed.{all-passed}
+use Rattle.flow_steps.proofs.Through.{way-on}
+use Rattle.flow_steps.proofs.TopStays.{IsOther, IsTopFree, at-cleared, reached-clears, goes-through}
+use Rattle.flow_steps.proofs.Decided.{stops-not}
 use Rattle.flow_steps.proofs.Sizes.{sizes-alike}
 use Rattle.flow_steps.proofs.Sound.{IsSound, IsFlowKid, enters-no-line, inner_boxes-sound, flow-sound, lead-sound}
 use Rattle.flow_steps.proofs.Resolved.{IsFoundBy, none-prefix, up-prefix, resolve-found}
@@ -141,7 +146,8 @@ module _ (tree : BoxTree) (w : World) (height : ℕ) where
 
   module _ (inside : ℕ → Band ℤ → ℤ → Progress → Progress) (content : ℕ → Band ℤ → ℤ → Context → Step) (apart : ℕ → Alone) (low : ℕ)
       (again : (k : ℕ) (left wide top : ℤ) (p : Progress) → suc low ≤ k → IsSound tree w height k wide → Follows p (inside k (band_in left k wide) top p) (content k (band_in left k wide) top (context_of p)))
-      (served : (c : ℕ) → low ≤ c → IsOnPage tree.boxes c → is_inline (kind_of tree c) ≡ false → AllByRecursion (λ k. landed.alone tree w height inside k (room tree w height k) ≡ apart k) (outside_of tree c)) where
+      (served : (c : ℕ) → low ≤ c → IsOnPage tree.boxes c → is_inline (kind_of tree c) ≡ false → AllByRecursion (λ k. landed.alone tree w height inside k (room tree w height k) ≡ apart k) (outside_of tree c))
+      (tops : (k : ℕ) → suc low ≤ k → k < length tree.boxes → IsTopFree tree w height apart content k) where
     abbrev IsServed : ℕ → Type 0
     IsServed k = landed.alone tree w height inside k (room tree w height k) ≡ apart k
 
@@ -355,35 +361,94 @@ module _ (tree : BoxTree) (w : World) (height : ℕ) where
 
     -- ---- where the next child stands
 
-    through-same : (cb : Band ℤ) (k : ℕ) (run : List ℤ) → k < length tree.boxes → run_of (run ++ (landed_lead tree w all_passed cb k).margins) ≡ run_through tree w height content apart cb k (run_of run)
-    through-same cb k run within = run-append run (landed_lead tree w all_passed cb k).margins ∙ sym (ap (λ (g : Going). g.run) (all-passed tree w cb k (run_of run) within ∙ lead-joined tree w all_passed cb k (run_of run) []))
+    -- all margins of a box's lead
+    lead_margins : Band ℤ → ℕ → List ℤ
+    lead_margins cb k = (landed_lead tree w all_passed cb k).margins
 
-    standing-same : (cb : Band ℤ) (s : landed.Standing) (k : ℕ) (r : Reached) (p : Progress) (l : landed.Laid) (m : Laid) → LaidSame p l m → k < length tree.boxes
-        → squeezed (landed.standing_after tree w height inside cb s k r l) ≡ standing_after tree w height content apart cb (squeezed s) k r m
-    unfolding margin_below
-    standing-same cb s k r p l m same within = by l.through r.clears s refl refl
+    through-same : (cb : Band ℤ) (k : ℕ) (run : List ℤ) → k < length tree.boxes → run_of (run ++ lead_margins cb k) ≡ (lead_of tree w (is_up_to (length tree.boxes)) cb k (run_of run) []).run
+    unfolding lead_margins
+    through-same cb k run within = run-append run (lead_margins cb k) ∙ sym (ap (λ (g : Going). g.run) (all-passed tree w cb k (run_of run) within ∙ lead-joined tree w all_passed cb k (run_of run) []))
+
+    -- a run with them
+    abbrev IsOwn : Band ℤ → ℕ → Bool → landed.Standing → Run ℤ → Type 0
+    IsOwn cb k true s own = run_of (lead_margins cb k) ≡ own
+    IsOwn cb k false (landed.at_top y cleared) own = Unit {0}
+    IsOwn cb k false (landed.below edge run stuck) own = run_of (run ++ lead_margins cb k) ≡ own
+
+    standing-same : (cb : Band ℤ) (s : landed.Standing) (k : ℕ) (own : Run ℤ) (r : Reached) (p : Progress) (l : landed.Laid) (m : Laid) → LaidSame p l m → (m.through ≡ true → IsOwn cb k r.clears s own)
+        → squeezed (landed.standing_after tree w height inside cb s k r l) ≡ standing_after tree w height content apart cb (squeezed s) k own r m
+    unfolding margin_below lead_margins
+    standing-same cb s k own r p l m same right = by l.through r.clears s refl refl right
       where
-        lead : List ℤ
-        lead = (landed_lead tree w all_passed cb k).margins
-
         mb : ℤ
         mb = bottom_margin tree w cb k
 
-        by : (t c : Bool) (s : landed.Standing) → l.through ≡ t → r.clears ≡ c
-            → squeezed (landed.standing_after tree w height inside cb s k r l) ≡ standing_after tree w height content apart cb (squeezed s) k r m
-        by false c s e f =
+        by : (t c : Bool) (s : landed.Standing) → l.through ≡ t → r.clears ≡ c → (m.through ≡ true → IsOwn cb k c s own)
+            → squeezed (landed.standing_after tree w height inside cb s k r l) ≡ standing_after tree w height content apart cb (squeezed s) k own r m
+        by false c s e f o =
             let g = sym same.through ∙ e in
             rw (e, g) (ap (λ (b : ℤ). below b (run_of l.margins) false) same.bottom ∙ ap (λ (x : Run ℤ). below m.bottom x false) same.margins)
-        by true true s e f =
+        by true true s e f o =
             let g = sym same.through ∙ e in
+            let joined = o g in
             rw (e, g, f) (
-            ap (λ (x : Run ℤ). below (r.top -ℤ collapse (run_of lead)) x true) (run-last lead mb)
-            ∙ ap (λ (x : Run ℤ). below (r.top -ℤ collapse x) (with_margin x mb) true) (through-same cb k [] within))
-        by true false (landed.at_top y cleared) e f = let g = sym same.through ∙ e in rw (e, g, f) refl
-        by true false (landed.below edge run stuck) e f =
+            ap (λ (x : Run ℤ). below (r.top -ℤ collapse (run_of (lead_margins cb k))) x true) (run-last (lead_margins cb k) mb)
+            ∙ ap (λ (x : Run ℤ). below (r.top -ℤ collapse x) (with_margin x mb) true) joined)
+        by true false (landed.at_top y cleared) e f o = let g = sym same.through ∙ e in rw (e, g, f) refl
+        by true false (landed.below edge run stuck) e f o =
             let g = sym same.through ∙ e in
+            let joined = o g in
             rw (e, g, f) (ap (λ (x : Run ℤ). below edge x stuck)
-            (ap run_of (sym (append_assoc run lead (mb ∷ []))) ∙ run-last (run ++ lead) mb ∙ ap (λ (x : Run ℤ). with_margin x mb) (through-same cb k run within)))
+            (ap run_of (sym (append_assoc run (lead_margins cb k) (mb ∷ []))) ∙ run-last (run ++ lead_margins cb k) mb ∙ ap (λ (x : Run ℤ). with_margin x mb) joined))
+
+    -- the run of the walk forward by which a box was reached has all of its lead, where the box collapses through
+    way-whole : (base : Base) (q : ℕ → Bool) (cb : Band ℤ) (s : Context) (k : ℕ) (run : List ℤ) → k < length tree.boxes
+        → (run_forward tree w height content apart base q cb s k (run_of run)).end ≡ goes_on → run_of (run ++ lead_margins cb k) ≡ (run_forward tree w height content apart base q cb s k (run_of run)).run
+    way-whole base q cb s k run within e =
+        through-same cb k run within
+        ∙ (way-on tree w (size_of tree w height content apart) base s.floats s.least q (is_up_to (length tree.boxes)) (λ k l. grind (arith, nat_tests)) (length tree.boxes) cb k (run_of run) [] within e).run
+
+    own-right : (cb : Band ℤ) (p : Progress) (k : ℕ) → k < length tree.boxes → suc low ≤ k
+        → (let r = reached tree w height content apart cb (context_of p) k in (laid tree w height content apart cb (context_of p) k r).through ≡ true
+        → IsOwn cb k r.clears p.standing (own_run tree w height content apart cb (context_of p) k r))
+    own-right cb p k within above h = by r.clears p.standing refl refl
+      where
+        s : Context
+        s = context_of p
+
+        r : Reached
+        r = reached tree w height content apart cb s k
+
+        size : Waiting ℤ → Extent ℤ
+        size = size_of tree w height content apart
+
+        by : (c : Bool) (x : landed.Standing) → r.clears ≡ c → p.standing ≡ x → IsOwn cb k c x (own_run tree w height content apart cb s k r)
+        by true x e f =
+            let itself : nat_le k k ≡ true = grind (arith, nat_tests) in
+            let not_stopped = stops-not tree (is_up_to k) k itself in
+            let on = goes-through tree w height apart content cb s k r (tops k above within) h size (stands r.top) s.floats s.least (is_up_to k) (length tree.boxes) no_run []
+            (reached-clears tree w height apart content cb s k e) (λ t. absurd (cc)) in
+            let own : own_run tree w height content apart cb s k r ≡ (run_forward tree w height content apart (stands r.top) (is_up_to k) cb s k no_run).run =
+            ap (λ (x : Bool). elim x as (λ _. Run ℤ) [
+              | true ↦ (run_forward tree w height content apart (stands r.top) (is_up_to k) cb s k no_run).run
+              | false ↦ elim s.standing as (λ _. Run ℤ) [ at_top y box ↦ no_run | below edge run stuck ↦ (run_forward tree w height content apart (hangs edge) none_passed cb s k run).run ]
+            ]) e in
+            way-whole (stands r.top) (is_up_to k) cb s k [] within on ∙ sym own
+        by false (landed.at_top y box) e f = tt
+        by false (landed.below edge run stuck) e f =
+            let g = run_forward tree w height content apart (hangs edge) none_passed cb s k (run_of run) in
+            let reach : r ≡ reached_at tree w height content apart cb s k (edge +ℤ collapse g.run) (cleared_of g.end) = rw f refl in
+            let clear = at-cleared tree w height apart content cb s k (edge +ℤ collapse g.run) (cleared_of g.end) (sym (ap (λ (x : Reached). x.clears) reach) ∙ e) in
+            let same : r.cleared ≡ cleared_of g.end = ap (λ (x : Reached). x.cleared) reach ∙ clear.0 in
+            let on = goes-through tree w height apart content cb s k r (tops k above within) h size (hangs edge) s.floats s.least none_passed (length tree.boxes) (run_of run) [] same
+            (λ t. subst (λ (c : Cleared). IsOther c k) (sym same) clear.1) in
+            let own : own_run tree w height content apart cb s k r ≡ g.run =
+            ap (λ (x : Bool). elim x as (λ _. Run ℤ) [
+              | true ↦ (run_forward tree w height content apart (stands r.top) (is_up_to k) cb s k no_run).run
+              | false ↦ elim s.standing as (λ _. Run ℤ) [ at_top y box ↦ no_run | below edge run stuck ↦ (run_forward tree w height content apart (hangs edge) none_passed cb s k run).run ]
+            ]) e
+            ∙ ap (λ (x : landed.Standing). elim (squeezed x) as (λ _. Run ℤ) [ at_top y box ↦ no_run | below edge run stuck ↦ (run_forward tree w height content apart (hangs edge) none_passed cb s k run).run ]) f in
+            way-whole (hangs edge) none_passed cb s k run within on ∙ sym own
 
     -- ---- children
 
@@ -406,16 +471,22 @@ module _ (tree : BoxTree) (w : World) (height : ℕ) where
         after r = record (landed.laid tree w height inside cb p k r).after { standing = landed.standing_after tree w height inside cb p.standing k r (landed.laid tree w height inside cb p k r) }
 
         stepped : Reached → Step
-        stepped r = step (record (laid tree w height content apart cb s k r).after.context { standing = standing_after tree w height content apart cb s.standing k r (laid tree w height content apart cb s k r) }) (laid tree w height content apart cb s k r).after.boxes
+        stepped r = step (record (laid tree w height content apart cb s k r).after.context { standing = standing_after tree w height content apart cb s.standing k (own_run tree w height content apart cb s k r) r (laid tree w height content apart cb s k r) }) (laid tree w height content apart cb s k r).after.boxes
 
-        agrees : (r : Reached) → Follows p (after r) (stepped r)
-        agrees r =
+        r : Reached
+        r = reached tree w height content apart cb s k
+
+        own : Run ℤ
+        own = own_run tree w height content apart cb s k r
+
+        agrees : Follows p (after r) (stepped r)
+        agrees =
             let same = laid-same cb p k r placed.above placed.kid.sound in
             let m = laid tree w height content apart cb s k r in
-            let standing = standing-same cb p.standing k r p (landed.laid tree w height inside cb p k r) m same placed.within in
+            let standing = standing-same cb p.standing k own r p (landed.laid tree w height inside cb p k r) m same (own-right cb p k placed.within placed.above) in
             record {
               context = ap (λ (x : Standing). let c : Context = record (context_of (landed.laid tree w height inside cb p k r).after) { standing = x } in c) standing
-                  ∙ ap (λ (c : Context). let d : Context = record c { standing = standing_after tree w height content apart cb s.standing k r m } in d) same.after.context;
+                  ∙ ap (λ (c : Context). let d : Context = record c { standing = standing_after tree w height content apart cb s.standing k own r m } in d) same.after.context;
               boxes = same.after.boxes;
             }
 
@@ -424,7 +495,7 @@ module _ (tree : BoxTree) (w : World) (height : ℕ) where
         by false e =
             let after_low = placed.above in
             let here = reached-same k end placed.within placed.order cb p (record { kid = placed.kid; flow = e; above = omega arith }) in
-            rw e (subst (λ (q : Step). Follows p (after (landed.reached tree w height inside cb p k)) q) (ap stepped here) (agrees (landed.reached tree w height inside cb p k)))
+            rw e (subst (λ (x : Progress). Follows p x (stepped r)) (sym (ap after here)) agrees)
 
     children-agree : (cb : Band ℤ) (top : ℤ) (end : ℕ) (ks : List ℕ) (p : Progress) → AllByRecursion (IsPlaced cb end) ks
         → Follows p (fold (landed.child tree w height inside cb top) p ks) (children (child tree w height content apart cb top) (context_of p) ks)

@@ -18,7 +18,7 @@ use Rattle.lay_margin.specs.Runs.{no_run, with_margin}
 use Rattle.lay_margin.specs.steps.Leads.{inner_band, margin_above}
 use Rattle.flow_steps.specs.Runs.{Base}
 use Rattle.flow_steps.specs.Forward.{Found, found, goes_on, then_on, inside_found, passed_box, kid_of, kids_found, box_found, forward_step, forward_to}
-use Rattle.flow_steps.specs.Flow.{at_top, below, Context, fresh, Step, step, followed, children, frame_at, reached, opened, Laid, laid, standing_after, child, content_step, content_to, content_of}
+use Rattle.flow_steps.specs.Flow.{at_top, below, Context, fresh, Step, step, followed, children, frame_at, reached, opened, Laid, laid, own_run, standing_after, child, content_step, content_to, content_of}
 
 -- ---- the way forward
 
@@ -74,7 +74,7 @@ module _ (tree : BoxTree) (w : World) (height : ℕ) (apart : ℕ → Alone) (f 
       by true e = rw e refl
       by false e =
           let r = reached tree w height g apart cb s k in
-          rw e (ap (λ (l : Laid). step (record l.after.context { standing = standing_after tree w height g apart cb s.standing k r l }) l.after.boxes) (laid-same cb s k r h))
+          rw e (ap (λ (l : Laid). step (record l.after.context { standing = standing_after tree w height g apart cb s.standing k (own_run tree w height g apart cb s k r) r l }) l.after.boxes) (laid-same cb s k r h))
 
   children-same : (cb : Band ℤ) (top : ℤ) (s : Context) (ks : List ℕ) → AllByRecursion (IsFrom tree.boxes (suc b)) ks
       → children (child tree w height f apart cb top) s ks ≡ children (child tree w height g apart cb top) s ks

@@ -5,8 +5,8 @@ pub mod Resolved
 pub mod Passed
 pub mod Sizes
 pub mod Sound
-pub mod FlowSteps
-pub mod Tables
 pub mod Levels
 pub mod Through
 pub mod TopStays
+pub mod FlowSteps
+pub mod Tables

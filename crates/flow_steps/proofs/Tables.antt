@@ -28,6 +28,7 @@ use Rattle.flow_steps.specs.Flow.{alone, content_to, content_of}
 use Rattle.flow_steps.specs.Progress.{context_of}
 use Rattle.flow_steps.specs.Tables.{outside_of, nothing_alone, laid_at, with_box, with_container, table_to, page_boxes}
 use Rattle.flow_steps.proofs.Sound.{IsSound, inner_boxes-sound, flow-sound}
+use Rattle.flow_steps.proofs.TopStays.{top-free}
 use Rattle.flow_steps.proofs.FlowSteps.{Follows, band_in, alone-same, step-agrees}
 
 -- ---- boxes in order
@@ -112,7 +113,8 @@ module _ (tree : BoxTree) (w : World) (height : ℕ) (order : IsTrue (is_in_orde
       (sym (flow-is tree w height b (band_in tree w height left b wide) top p (page-within tree b s.page)))
       (step-agrees tree w height (landed.flow tree w height) (content_to tree w height (laid_at table) n) (laid_at table) b
       (λ k left wide top p above sound. flow-agrees table low served n k left wide top p (omega arith) sound (omega arith))
-      (λ c above page block. served c (omega arith) page block) ordered left wide top p s)
+      (λ c above page block. served c (omega arith) page block)
+      (λ k above within. top-free tree w height (laid_at table) n k within (omega arith)) ordered left wide top p s)
 
   pub box-same : (table : List (Option Alone)) (low : ℕ) → AllServed table low → (k : ℕ) (wide : ℤ) → low ≤ k → IsSound tree w height k wide
       → landed.alone tree w height (landed.flow tree w height) k wide ≡ alone tree w height (content_of tree w height (laid_at table)) k wide

@@ -14,7 +14,7 @@ use Rattle.layout_laws.proofs.Levels.{IsFrom}
 use Rattle.layout_laws.proofs.LeadLevels.{children-from}
 use Rattle.lay_margin.specs.declared.runs.Run.{Run}
 use Rattle.lay_margin.specs.Runs.{with_margin}
-use Rattle.lay_margin.specs.steps.Leads.{Going, ending, through, going_on, passed_kid, ended_by, enters, stops, inner_band, margin_above, margin_below, lead_to}
+use Rattle.lay_margin.specs.steps.Leads.{Going, through, enters, stops, inner_band, margin_above, margin_below, lead_to}
 use Rattle.lay_margin.specs.steps.Leads.{kid_of as lead_kid}
 use Rattle.flow_steps.specs.Runs.{Base}
 use Rattle.flow_steps.specs.Forward.{End, goes_on, solid, cleared, Found, found, then_on, decided_found, closed_found, passed_box, kid_of, forward_to}

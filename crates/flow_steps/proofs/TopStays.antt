@@ -1,5 +1,5 @@
 -- A box that collapses through has a way forward that goes through: nothing in it stops the margins or is cleared.
-use Rattle.std.proofs.Common.{◌≡◌, ℕ, zero, suc, ◌+◌, ◌<◌, ◌≤◌, ℤ, Bool, true, false, ◌&&◌, ◌==◌, not, List, [], ◌∷◌, ◌++◌, length, Option, None, Some, refl, sym, ap, ◌∙◌, subst, arith}
+use Rattle.std.proofs.Common.{◌≡◌, ℕ, zero, suc, ◌+◌, ◌<◌, ◌≤◌, ℤ, ◌+ℤ◌, Bool, true, false, ◌&&◌, ◌==◌, List, [], ◌∷◌, length, Option, None, Some, refl, sym, ap, ◌∙◌, subst, arith}
 use Rattle.std.specs.List.{AllByRecursion}
 use Rattle.std.proofs.lemmas.Bool.Decides.{nat_tests}
 use Rattle.viz_base.specs.declared.layouts.Band.{Band}
@@ -12,14 +12,15 @@ use Rattle.layout_semantics.specs.Rectangles.{Frame, content_top}
 use Rattle.layout_semantics.specs.FlowBoxes.{is_replaced_at, is_context_root, is_open_above, may_collapse_through, flow_children, across, content_from}
 use Rattle.layout_semantics.specs.InlineContent.{is_floated_at, has_line}
 use Rattle.layout_semantics.specs.Flow.{Cleared, Alone, Reached}
+use Rattle.layout_semantics.specs.Leads.{none_passed, is_up_to}
 use Rattle.layout_laws.proofs.Levels.{IsFrom}
 use Rattle.layout_laws.proofs.LeadLevels.{children-from}
 use Rattle.lay_margin.specs.declared.runs.Run.{Run}
-use Rattle.lay_margin.specs.Runs.{no_run, with_margin}
+use Rattle.lay_margin.specs.Runs.{no_run, with_margin, collapse}
 use Rattle.lay_margin.specs.steps.Leads.{enters, stops, inner_band, margin_above, margin_below}
-use Rattle.flow_steps.specs.Runs.{Base}
-use Rattle.flow_steps.specs.Forward.{End, goes_on, solid, cleared, cleared_of, Found, found, then_on, decided_found, closed_found, passed_box, kid_of, forward_to}
-use Rattle.flow_steps.specs.Flow.{Standing, at_top, below, Context, Step, is_at_top, children, frame_at, reached_at, reached, opened, Laid, laid, standing_after, child, content_step, content_to}
+use Rattle.flow_steps.specs.Runs.{Base, hangs, stands}
+use Rattle.flow_steps.specs.Forward.{End, goes_on, solid, cleared, cleared_of, Found, found, then_on, decided_found, closed_found, kid_of, forward_to}
+use Rattle.flow_steps.specs.Flow.{Standing, at_top, below, Context, Step, is_at_top, children, frame_at, run_forward, reached_at, reached, opened, Laid, laid, own_run, standing_after, child, content_step, content_to}
 use Rattle.flow_steps.proofs.LeadCases.{found-float, found-flow, closed-through, way_to, kids_way, inner_way, decision, entered, way-stops, way-enters}
 
 -- ---- ends that a box at the top may have
@@ -95,12 +96,12 @@ module _ (tree : BoxTree) (w : World) (height : ℕ) (apart : ℕ → Alone) whe
   -- ---- one level
 
   module _ (content : ℕ → Band ℤ → ℤ → Context → Step) where
-    after-below : (cb : Band ℤ) (s : Standing) (k : ℕ) (r : Reached) (l : Laid)
-        → is_at_top (standing_after tree w height content apart cb s k r l) ≡ true → (l.through ≡ true) × (r.clears ≡ false) × (standing_after tree w height content apart cb s k r l ≡ s) × (is_at_top s ≡ true)
-    after-below cb s k r l h = by l.through r.clears s refl refl h
+    after-below : (cb : Band ℤ) (s : Standing) (k : ℕ) (own : Run ℤ) (r : Reached) (l : Laid)
+        → is_at_top (standing_after tree w height content apart cb s k own r l) ≡ true → (l.through ≡ true) × (r.clears ≡ false) × (standing_after tree w height content apart cb s k own r l ≡ s) × (is_at_top s ≡ true)
+    after-below cb s k own r l h = by l.through r.clears s refl refl h
       where
-        by : (t c : Bool) (s : Standing) → l.through ≡ t → r.clears ≡ c → is_at_top (standing_after tree w height content apart cb s k r l) ≡ true
-            → (l.through ≡ true) × (r.clears ≡ false) × (standing_after tree w height content apart cb s k r l ≡ s) × (is_at_top s ≡ true)
+        by : (t c : Bool) (s : Standing) → l.through ≡ t → r.clears ≡ c → is_at_top (standing_after tree w height content apart cb s k own r l) ≡ true
+            → (l.through ≡ true) × (r.clears ≡ false) × (standing_after tree w height content apart cb s k own r l ≡ s) × (is_at_top s ≡ true)
         by false c s e f h = absurd (let g = rw e at h in cc)
         by true true s e f h = absurd (let g = rw (e, f) at h in cc)
         by true false (at_top y box) e f h = (e, f, rw (e, f) refl, refl)
@@ -147,6 +148,34 @@ module _ (tree : BoxTree) (w : World) (height : ℕ) (apart : ℕ → Alone) whe
         by true e h = absurd (let g = rw e at h in cc)
         by false e h = (rw e refl, e)
 
+    at-clears : (cb : Band ℤ) (s : Context) (k : ℕ) (y : ℤ) (c : Cleared) → (reached_at tree w height content apart cb s k y c).clears ≡ true
+        → (reached_at tree w height content apart cb s k y c).cleared
+        ≡ cleared_of (run_forward tree w height content apart (stands (reached_at tree w height content apart cb s k y c).top) (is_up_to k) cb s k no_run).end
+    at-clears cb s k y None h = absurd (cc)
+    at-clears cb s k y (Some c) h = by (c.0 == k) refl
+      where
+        by : (m : Bool) → (c.0 == k) ≡ m → (reached_at tree w height content apart cb s k y (Some c)).cleared
+            ≡ cleared_of (run_forward tree w height content apart (stands (reached_at tree w height content apart cb s k y (Some c)).top) (is_up_to k) cb s k no_run).end
+        by true e = rw e refl
+        by false e = absurd (let g = rw e at h in cc)
+
+    pub reached-clears : (cb : Band ℤ) (s : Context) (k : ℕ) → (reached tree w height content apart cb s k).clears ≡ true
+        → (reached tree w height content apart cb s k).cleared
+        ≡ cleared_of (run_forward tree w height content apart (stands (reached tree w height content apart cb s k).top) (is_up_to k) cb s k no_run).end
+    reached-clears cb s k h = by s.standing refl
+      where
+        by : (x : Standing) → s.standing ≡ x → (reached tree w height content apart cb s k).cleared
+            ≡ cleared_of (run_forward tree w height content apart (stands (reached tree w height content apart cb s k).top) (is_up_to k) cb s k no_run).end
+        by (at_top y box) e =
+            let same : reached tree w height content apart cb s k ≡ reached_at tree w height content apart cb s k y box = rw e refl in
+            subst (λ (r : Reached). r.cleared ≡ cleared_of (run_forward tree w height content apart (stands r.top) (is_up_to k) cb s k no_run).end) (sym same)
+            (at-clears cb s k y box (sym (ap (λ (r : Reached). r.clears) same) ∙ h))
+        by (below edge run stuck) e =
+            let f = run_forward tree w height content apart (hangs edge) none_passed cb s k run in
+            let same : reached tree w height content apart cb s k ≡ reached_at tree w height content apart cb s k (edge +ℤ collapse f.run) (cleared_of f.end) = rw e refl in
+            subst (λ (r : Reached). r.cleared ≡ cleared_of (run_forward tree w height content apart (stands r.top) (is_up_to k) cb s k no_run).end) (sym same)
+            (at-clears cb s k (edge +ℤ collapse f.run) (cleared_of f.end) (sym (ap (λ (r : Reached). r.clears) same) ∙ h))
+
     -- ---- the children of a box, where the flow through each of them is free
 
     pub flow-through : (cb : Band ℤ) (top : ℤ) (s : Context) (k : ℕ) → is_floated_at tree k ≡ false → IsTop (child tree w height content apart cb top s k)
@@ -156,7 +185,7 @@ module _ (tree : BoxTree) (w : World) (height : ℕ) (apart : ℕ → Alone) whe
         let r = reached tree w height content apart cb s k in
         let l = laid tree w height content apart cb s k r in
         let g = rw f at h in
-        let a = after-below cb s.standing k r l g in
+        let a = after-below cb s.standing k (own_run tree w height content apart cb s k r) r l g in
         (a.0, a.1, rw f a.2, a.3)
 
     float-through : (cb : Band ℤ) (top : ℤ) (s : Context) (k : ℕ) → is_floated_at tree k ≡ true → (child tree w height content apart cb top s k).context.standing ≡ s.standing
@@ -176,7 +205,7 @@ module _ (tree : BoxTree) (w : World) (height : ℕ) (apart : ℕ → Alone) whe
     child-free : (cb : Band ℤ) (top : ℤ) (s : Context) (k : ℕ) (y : ℤ) (c : Cleared) → IsTopFree content k → s.standing ≡ at_top y c → IsTop (child tree w height content apart cb top s k)
         → ((child tree w height content apart cb top s k).context.standing ≡ at_top y c)
         × ((size : Waiting ℤ → Extent ℤ) (base : Base) (floats : List FloatBox) (least : Option ℤ) (p : ℕ → Bool) (m : ℕ) (band : Band ℤ) (run : Run ℤ) (ws : List (Waiting ℤ))
-          → Free c (kid_of tree w (way_to tree w size base floats least p m band) band run ws k))
+        → Free c (kid_of tree w (way_to tree w size base floats least p m band) band run ws k))
     child-free cb top s k y c free at h = by (is_floated_at tree k) refl
       where
         go : (Waiting ℤ → Extent ℤ) → Base → List FloatBox → Option ℤ → (ℕ → Bool) → ℕ → Band ℤ → ℕ → Run ℤ → List (Waiting ℤ) → Found
@@ -184,7 +213,7 @@ module _ (tree : BoxTree) (w : World) (height : ℕ) (apart : ℕ → Alone) whe
 
         by : (f : Bool) → is_floated_at tree k ≡ f → ((child tree w height content apart cb top s k).context.standing ≡ at_top y c)
             × ((size : Waiting ℤ → Extent ℤ) (base : Base) (floats : List FloatBox) (least : Option ℤ) (p : ℕ → Bool) (m : ℕ) (band : Band ℤ) (run : Run ℤ) (ws : List (Waiting ℤ))
-              → Free c (kid_of tree w (way_to tree w size base floats least p m band) band run ws k))
+            → Free c (kid_of tree w (way_to tree w size base floats least p m band) band run ws k))
         by true f = (
           float-through cb top s k f ∙ at,
           λ size base floats least p m band run ws. subst (Free c) (sym (found-float tree w (way_to tree w size base floats least p m band) band k run ws f)) tt,

@@ -33,7 +33,7 @@ use Rattle.layout_semantics.specs.Flow.{Cleared, Alone, Reached, raised, content
 use Rattle.lay_line.specs.steps.Laying.{lines_by_steps}
 use Rattle.lay_margin.specs.declared.runs.Run.{Run}
 use Rattle.lay_margin.specs.Runs.{no_run, with_margin, collapse}
-use Rattle.lay_margin.specs.steps.Leads.{margin_below, lead_of}
+use Rattle.lay_margin.specs.steps.Leads.{margin_below}
 use Rattle.flow_steps.specs.Runs.{Base, hangs, stands}
 use Rattle.flow_steps.specs.Forward.{Found, cleared_of, forward}
 
@@ -241,27 +241,30 @@ module _ (tree : BoxTree) (w : World) (height : ℕ) where
         by_sort f false true = laid_context cb s b f
         by_sort f false false = laid_block cb s b r.cleared f
 
-    -- a run with all of a box's lead, each box in it being passed
-    abbrev pub run_through : Band ℤ → ℕ → Run ℤ → Run ℤ
-    run_through cb b run = (lead_of tree w (is_up_to (length tree.boxes)) cb b run []).run
+    -- the run before a box that collapses through, with its lead joined: from the walk forward by which it was reached
+    abbrev pub own_run : Band ℤ → Context → ℕ → Reached → Run ℤ
+    own_run cb s b r = elim r.clears [
+      | true ↦ (run_forward (stands r.top) (is_up_to b) cb s b no_run).run
+      | false ↦ elim s.standing [ at_top y cleared ↦ no_run | below edge run stuck ↦ (run_forward (hangs edge) none_passed cb s b run).run ]
+    ]
 
-    abbrev pub standing_after : Band ℤ → Standing → ℕ → Reached → Laid → Standing
-    standing_after cb before b r l = by_sort l.through r.clears before
+    abbrev pub standing_after : Band ℤ → Standing → ℕ → Run ℤ → Reached → Laid → Standing
+    standing_after cb before b own r l = by_sort l.through r.clears before
       where
-        ended : Run ℤ → Run ℤ
-        ended run = with_margin run (margin_below tree w cb b)
+        ended : Run ℤ
+        ended = with_margin own (margin_below tree w cb b)
 
         by_sort : Bool → Bool → Standing → Standing
         by_sort false any s = below l.bottom l.margins false
-        by_sort true true s = below (r.top -ℤ collapse (run_through cb b no_run)) (ended (run_through cb b no_run)) true
+        by_sort true true s = below (r.top -ℤ collapse own) ended true
         by_sort true false (at_top y cleared) = at_top y cleared
-        by_sort true false (below edge run stuck) = below edge (ended (run_through cb b run)) stuck
+        by_sort true false (below edge run stuck) = below edge ended stuck
 
     abbrev pub flow_child : Band ℤ → Context → ℕ → Step
     flow_child cb s b = by_reached (reached cb s b)
       where
         by_laid : Reached → Laid → Step
-        by_laid r l = step (record l.after.context { standing = standing_after cb s.standing b r l }) l.after.boxes
+        by_laid r l = step (record l.after.context { standing = standing_after cb s.standing b (own_run cb s b r) r l }) l.after.boxes
 
         by_reached : Reached → Step
         by_reached r = by_laid r (laid cb s b r)
