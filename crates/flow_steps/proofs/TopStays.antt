@@ -48,9 +48,6 @@ closed-free tree w c b run ws goes_on m a = subst (Free c) (sym (closed-through 
 closed-free tree w c b run ws solid m a = a
 closed-free tree w c b run ws (cleared d y) m a = a
 
-not-true : (b : Bool) → b ≡ false → b ≡ true → ⊥
-not-true b e h = cc
-
 abbrev pub IsTop : Step → Type 0
 IsTop q = is_at_top q.context.standing ≡ true
 
@@ -281,7 +278,7 @@ module _ (tree : BoxTree) (w : World) (height : ℕ) (apart : ℕ → Alone) whe
   goes-free : (end : End) → IsFree (cleared_of end) end → end ≡ goes_on
   goes-free goes_on f = refl
   goes-free solid f = absurd f
-  goes-free (cleared d y) f = absurd (let itself : (d == d) ≡ true = grind (arith, nat_tests) in not-true (d == d) f itself)
+  goes-free (cleared d y) f = absurd (let itself : (d == d) ≡ true = grind (arith, nat_tests) in let other : (d == d) ≡ false = f in cc)
 
   -- a box reached where `f` was found on its way forward, its own clearance being decided on that way or before
   pub goes-through : (content : ℕ → Band ℤ → ℤ → Context → Step) (cb : Band ℤ) (s : Context) (k : ℕ) (r : Reached) → IsTopFree content k → (laid tree w height content apart cb s k r).through ≡ true

@@ -24,9 +24,9 @@ ghost use Rattle.flow_steps.specs.Tables.{inside_of, laid_at, outside_of, page_b
 
 use viz_base::{BoxTree, World};
 
-/// Which box of a lead is cleared, with its border edge, and which margins join the run before it: decided box by box on
-/// the way, it is what the definition finds by leads that pass more and more boxes (CSS 2.1, 8.3.1, 9.5.2). The boxes in
-/// the box stand before `end`, in document order.
+/// Which box of a lead is cleared, with its border edge, and which margins join the run before it: decided box by box
+/// on the way, it is what the definition finds by leads that pass more and more boxes (CSS 2.1, 8.3.1, 9.5.2). The
+/// boxes in the box stand before `end`, in document order.
 pub fn clearance_is_decided_on_the_way(tree: &BoxTree, world: World, at: usize, end: usize)
     requires within { at < length tree.now.boxes }
     requires order { IsTrue (is_before tree.now.boxes at end) }
@@ -46,8 +46,8 @@ pub fn clearance_is_decided_on_the_way(tree: &BoxTree, world: World, at: usize, 
 /// The way forward from a box, by that of the boxes in it: more levels would change nothing.
 pub fn a_way_forward_comes_from_inside(tree: &BoxTree, world: World, at: usize)
     requires within { at < length tree.now.boxes }
-    ensures { (size : Waiting ℤ → Extent ℤ) (base : Base) (floats : List FloatBox) (least : Option ℤ) (passed : ℕ → Bool)
-        (cb : Band ℤ) (run : Run ℤ) (waiting : List (Waiting ℤ))
+    ensures { (size : Waiting ℤ → Extent ℤ) (base : Base) (floats : List FloatBox) (least : Option ℤ)
+        (passed : ℕ → Bool) (cb : Band ℤ) (run : Run ℤ) (waiting : List (Waiting ℤ))
         → way tree.now world size base floats least passed cb at run waiting ≡ forward_step tree.now world size base
         floats least passed (way tree.now world size base floats least passed) cb at run waiting }
 {}
@@ -61,8 +61,8 @@ pub fn the_steps_of_a_content_come_from_inside(tree: &BoxTree, world: World, hei
         (content_of tree.now world height apart) apart at cb top s }
 {}
 
-/// What stands outside the flow of a block container, its floats and the atomic boxes of its lines, is laid out once, and
-/// the table holds it by its number as the flow lays it out (CSS 2.1, 9.2.2, 9.5).
+/// What stands outside the flow of a block container, its floats and the atomic boxes of its lines, is laid out once,
+/// and the table holds it by its number as the flow lays it out (CSS 2.1, 9.2.2, 9.5).
 pub fn what_stands_outside_the_flow_is_laid_out_once(
     tree: &BoxTree,
     world: World,
@@ -76,7 +76,8 @@ pub fn what_stands_outside_the_flow_is_laid_out_once(
         ≡ laid_at (table_to tree.now world height (length tree.now.boxes)) k) (outside_of tree.now at) }
 {}
 
-/// The steps through what is in a box add the boxes that the flow adds, and leave the context as it does (CSS 2.1, 9.4.1).
+/// The steps through what is in a box add the boxes that the flow adds, and leave the context as it does (CSS 2.1,
+/// 9.4.1).
 pub fn the_steps_of_a_content_are_its_flow(tree: &BoxTree, world: World, height: u32, at: usize)
     requires order { IsTrue (is_in_order tree.now) }
     requires on_page { IsOnPage tree.now.boxes at }
@@ -91,8 +92,8 @@ pub fn the_steps_of_a_content_are_its_flow(tree: &BoxTree, world: World, height:
         (inside_of tree.now world height left at) top (context_of p)).boxes }
 {}
 
-/// The steps of a page are its rendering: the whole flow, with floats, clearance, contexts, replaced boxes and lines. Its
-/// boxes are numbered in document order, and its root is a block container.
+/// The steps of a page are its rendering: the whole flow, with floats, clearance, contexts, replaced boxes and lines.
+/// Its boxes are numbered in document order, and its root is a block container.
 pub fn the_steps_of_a_page_are_its_rendering(tree: &BoxTree, world: World, height: u32)
     requires order { IsTrue (is_in_order tree.now) }
     requires root { is_inline (kind_of tree.now 0) ≡ false }
