@@ -1,0 +1,12 @@
+pub mod LeadCases
+pub mod LeadEnds
+pub mod Decided
+pub mod Resolved
+pub mod Passed
+pub mod Sizes
+pub mod Sound
+pub mod Levels
+pub mod Through
+pub mod TopStays
+pub mod FlowSteps
+pub mod Tables

@@ -1,0 +1,23 @@
+use Rattle.std.proofs.Common.{length, refl, arith}
+use Rattle.layout_semantics.specs.FlowBoxes.{room}
+use Rattle.flow_steps.specs.Tables.{table_to}
+use Rattle.flow_steps.proofs.Tables.{flow-agrees, table-served}
+use Rattle.flow_steps.proofs.laws.the_steps_of_a_content_are_its_flow.Goals as goal
+
+pub returns-clause-context : goal.returns-clause-context
+returns-clause-context c left top p =
+    let tree = c.args.tree.now in
+    let w = c.args.world in
+    let height = c.args.height in
+    let n = length tree.boxes in
+    (flow-agrees tree w height c.requires.order (table_to tree w height n) 0 (table-served tree w height c.requires.order) n c.args.at left (room tree w height c.args.at) top p (omega arith)
+    (record { page = c.requires.on_page; room = refl; block = c.requires.container }) (omega arith)).context
+
+pub returns-clause-boxes : goal.returns-clause-boxes
+returns-clause-boxes c left top p =
+    let tree = c.args.tree.now in
+    let w = c.args.world in
+    let height = c.args.height in
+    let n = length tree.boxes in
+    (flow-agrees tree w height c.requires.order (table_to tree w height n) 0 (table-served tree w height c.requires.order) n c.args.at left (room tree w height c.args.at) top p (omega arith)
+    (record { page = c.requires.on_page; room = refl; block = c.requires.container }) (omega arith)).boxes
