@@ -62,7 +62,8 @@ fn join_top<S: Steady>(
 )
     ensures goes { Goes (S.run calc.old) (S.run calc.new) }
     ensures value { (e : Reading) → IsTrue ((S.run calc.new).is_open e) → run_at S.at run.new e
-        ≡ with_margin (run_at S.at run.old e) (verticals tree.now e.world b (across_of (band_at S.at cb.now e))).margin_top }
+        ≡ with_margin (run_at S.at run.old e)
+        (verticals tree.now e.world b (across_of (band_at S.at cb.now e))).margin_top }
     ensures cause { Blames (S.run calc.old) (S.run calc.new)
         ((e : Reading) → IsTrue ((S.run calc.old).is_open e)
         → MarginFits tree.now e.world (margins_at tree.now b).top (band_at S.at cb.now e)) }

@@ -1,6 +1,5 @@
 pub mod Order
 pub mod Blocks
-pub mod Ready
 pub mod Lists
 pub mod Elements
 pub mod Parts
