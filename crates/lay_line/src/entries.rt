@@ -236,8 +236,8 @@ fn add_opened<'p, 'a: 'p, S: Steady>(
     }
 }
 
-/// Adds what is on a line: first the pieces of the inline boxes that are open at its start, outermost first, and then its
-/// content in document order.
+/// Adds what is on a line: first the pieces of the inline boxes that are open at its start, outermost first, and then
+/// its content in document order.
 pub fn add_line_entries<'p, 'a: 'p, S: Steady>(
     calc: &mut S,
     container: &Container<'_, S::Num>,

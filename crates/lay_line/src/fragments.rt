@@ -295,8 +295,8 @@ pub struct Span<'l, 'p, 'a, N> {
 }
 
 #[tactic(auto, unfolding(crate::specs::Contexts::context_at, crate::specs::steps::Entries::area_in, crate::specs::steps::Entries::around_in, crate::specs::steps::Entries::from_in, crate::specs::steps::Words::inline_raised))]
-/// The fragment of an inline box: from its left edge up to its end in what follows, where that is on the line, else to the
-/// right of the line's content.
+/// The fragment of an inline box: from its left edge up to its end in what follows, where that is on the line, else
+/// to the right of the line's content.
 pub fn inline_fragment<S: Steady>(
     calc: &mut S,
     container: &Container<'_, S::Num>,

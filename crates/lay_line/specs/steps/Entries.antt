@@ -10,7 +10,7 @@ use Rattle.layout_semantics.specs.LineHeights.{InlineContext, inline_shift}
 use Rattle.layout_semantics.specs.Blocks.{node_of}
 use Rattle.std.specs.Option.{option_map_or}
 use Rattle.viz_base.specs.declared.layouts.Entry.TheVariants as of_entry
-use Rattle.layout_semantics.specs.Fragments.{ItemPlace, SetLine, is_end_of, text_area, text_fragment, text_entry, fragment_edges, around, inline_fragment, atomic_entry, item_entries, spots_after}
+use Rattle.layout_semantics.specs.Fragments.{ItemPlace, SetLine, is_end_of, text_area, text_fragment, text_entry, fragment_edges, around, atomic_entry, item_entries, spots_after}
 
 unfoldable pub area_in : InlineContext → ℕ → ℤ → ℤ → ℤ → Quad ℤ
 area_in c node baseline left right = text_area c node baseline left right
@@ -34,9 +34,6 @@ from_in c line at starts left after = of_entry.Here (up_to (find (is_end_of at) 
     up_to : Option ItemPlace → Placed ℤ
     up_to last = around c at starts (is_some last)
         (text_area c (node_of c.tree at) (line.baseline -ℤ inline_shift c at) left (option_map_or (λ (p : ItemPlace). p.left) last line.right))
-
-unfoldable pub fragment_in : InlineContext → SetLine → ℕ → Option ℤ → List ItemPlace → Entry ℤ
-fragment_in c line at start after = inline_fragment c line at start after
 
 unfoldable pub atomic_in : InlineContext → SetLine → ℕ → ℤ → Entry ℤ
 atomic_in c line at left = atomic_entry c line at left
