@@ -5,17 +5,30 @@ use Rattle.viz_base.specs.declared.layouts.Entry.{Entry}
 use Rattle.viz_base.specs.declared.layouts.Spot.{Spot}
 use Rattle.std.specs.Prelude.{ℤ}
 use Rattle.layout_semantics.specs.LineHeights.{InlineContext}
-use Rattle.layout_semantics.specs.Fragments.{ItemPlace, SetLine, entries_after, opened_entries, spots_after}
-use Rattle.lay_line.specs.steps.Entries.{item_in, items_in, from_in, opened_in}
+use Rattle.layout_semantics.specs.Fragments.{ItemPlace, SetLine, item_entries, entries_after, opened_entries, spots_after}
+use Rattle.layout_semantics.specs.InlineContent.{Item, start, finish, word, space, atomic, forced, float}
+use Rattle.lay_line.specs.steps.Words.{own_reach, raised, inline_raised}
+use Rattle.lay_line.specs.steps.Entries.{area_in, text_in, piece_in, edges_in, around_in, from_in, atomic_in, item_in, items_in, opened_in}
 use Rattle.lay_line.specs.steps.Lining.{entries_in}
 
+item-same : (c : InlineContext) (line : SetLine) (before : Option ItemPlace) (p : ItemPlace) (after : List ItemPlace) (spots : List (ℕ × Spot ℤ)) (i : Item) → p.item ≡ i → item_in c line before p after spots ≡ item_entries c line before p after spots
+unfolding item_in piece_in text_in area_in from_in around_in edges_in atomic_in own_reach raised inline_raised
+item-same c line before p after spots (start at) e = rw e refl
+item-same c line before p after spots (finish at) e = rw e refl
+item-same c line before p after spots (word at text) e = rw e refl
+item-same c line before p after spots (space at) e = rw e refl
+item-same c line before p after spots (atomic at) e = rw e refl
+item-same c line before p after spots (forced at) e = rw e refl
+item-same c line before p after spots (float at) e = rw e refl
+
 items-same : (c : InlineContext) (line : SetLine) (before : Option ItemPlace) (ps : List ItemPlace) (spots : List (ℕ × Spot ℤ)) → items_in c line before ps spots ≡ entries_after c line before ps spots
-unfolding item_in
 items-same c line before [] spots = refl
-items-same c line before (p ∷ ps) spots = ap (λ l. item_in c line before p ps spots ++ l) (items-same c line (Some p) ps (spots_after p.item spots))
+items-same c line before (p ∷ ps) spots =
+    ap (λ l. l ++ items_in c line (Some p) ps (spots_after p.item spots)) (item-same c line before p ps spots p.item refl)
+    ∙ ap (λ l. item_entries c line before p ps spots ++ l) (items-same c line (Some p) ps (spots_after p.item spots))
 
 opened-same : (c : InlineContext) (line : SetLine) (opened : List ℕ) → opened_in c line opened ≡ opened_entries c line opened
-unfolding from_in
+unfolding from_in area_in around_in edges_in raised inline_raised
 opened-same c line [] = refl
 opened-same c line (at ∷ opened) = ap (λ l. from_in c line at false line.left line.places ∷ l) (opened-same c line opened)
 

@@ -37,17 +37,7 @@ module _ (w : Item → ℤ) where
   measured-joined [] = refl
   measured-joined (part ∷ parts) = ap (λ l. measured w part ++ l) (measured-joined parts) ∙ sym (measured-append part (flat_map (λ p. p) parts))
 
--- ---- the parts together
-
-joined-parted : {A : Type 0} (x : A) (b : Bool) (parts : List (List A)) → flat_map (λ part. part) (parted_by x b parts) ≡ x ∷ flat_map (λ part. part) parts
-joined-parted x true parts = refl
-joined-parted x false [] = refl
-joined-parted x false (part ∷ parts) = refl
-
-pub parts-joined : {A : Type 0} (xs : List A) (marks : List Bool) → flat_map (λ part. part) (parts_of xs marks) ≡ xs
-parts-joined [] marks = refl
-parts-joined (x ∷ xs) [] = joined-parted x false (parts_of xs []) ∙ ap (λ l. x ∷ l) (parts-joined xs [])
-parts-joined (x ∷ xs) (m ∷ marks) = joined-parted x m (parts_of xs marks) ∙ ap (λ l. x ∷ l) (parts-joined xs marks)
+-- ---- there are no more parts than items
 
 parted-few : {A : Type 0} (x : A) (b : Bool) (parts : List (List A)) → length (parted_by x b parts) ≤ suc (length parts)
 parted-few x true parts = omega arith

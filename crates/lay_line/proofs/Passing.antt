@@ -15,7 +15,7 @@ use Rattle.lay_line.specs.steps.Loading.{Load, bare, with_reach, reaching, reach
 use Rattle.lay_line.specs.steps.Measured.{Measured, measured}
 use Rattle.lay_line.specs.steps.Meeting.{Slot, placed_next, placed_all, met_next, met_all, stands_at, top_in}
 use Rattle.lay_line.specs.steps.Tops.{lower, with_float, top_or, may_stand, top_found}
-use Rattle.lay_line.specs.steps.Words.{reach_in, strut_in, makes, spot_in, floats_with, room_in}
+use Rattle.lay_line.specs.steps.Words.{own_reach, raised, reach_in, strut_in, makes, spot_in, floats_with, room_in}
 use Rattle.lay_line.proofs.Fills.{drop-next}
 use Rattle.lay_line.proofs.Measures.{held-same}
 use Rattle.lay_line.proofs.Parts.{bare-measured}
@@ -46,7 +46,7 @@ met-same c line held met (at ∷ boxes) = met-same c line held (met_next c (slot
 -- ---- heights and open boxes
 
 pub reaching-same : (c : InlineContext) (e : LineExtent) (items : List Item) → reaching c e items ≡ fold (with_item_box c) e items
-unfolding with_reach reach_in
+unfolding with_reach reach_in own_reach raised
 reaching-same c e [] = refl
 reaching-same c e (start at ∷ items) = reaching-same c (with_box c e at) items
 reaching-same c e (finish at ∷ items) = reaching-same c e items
@@ -57,7 +57,7 @@ reaching-same c e (forced at ∷ items) = reaching-same c e items
 reaching-same c e (float at ∷ items) = reaching-same c e items
 
 boxes-same : (c : InlineContext) (e : LineExtent) (boxes : List ℕ) → reaching_boxes c e boxes ≡ fold (with_box c) e boxes
-unfolding with_reach reach_in
+unfolding with_reach reach_in own_reach raised
 boxes-same c e [] = refl
 boxes-same c e (at ∷ boxes) = boxes-same c (with_box c e at) boxes
 

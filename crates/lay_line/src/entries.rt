@@ -52,7 +52,7 @@ fn goes_on<N>(at: u32, before: Option<&ItemPlace<N>>) -> bool
     }
 }
 
-#[tactic(auto, unfolding(crate::specs::steps::Entries::piece_in, crate::specs::steps::Entries::text_in))]
+#[tactic(auto, unfolding(crate::specs::steps::Entries::piece_in))]
 /// Adds a piece of a text at the first of its words and spaces.
 fn add_text<S: Steady>(
     calc: &mut S,
@@ -132,7 +132,7 @@ pub fn add_floats<S: Steady>(
     }
 }
 
-#[tactic(auto, unfolding(crate::specs::steps::Entries::item_in, crate::specs::steps::Entries::piece_in, crate::specs::steps::Entries::from_in, crate::specs::steps::Entries::atomic_in))]
+#[tactic(auto, unfolding(crate::specs::steps::Entries::item_in))]
 /// Adds what an item of the line adds.
 fn add_item<S: Steady>(
     calc: &mut S,
@@ -236,8 +236,8 @@ fn add_opened<'p, 'a: 'p, S: Steady>(
     }
 }
 
-/// Adds what is on a line: first the pieces of the inline boxes that are open at its start, outermost first, and then its
-/// content in document order.
+/// Adds what is on a line: first the pieces of the inline boxes that are open at its start, outermost first, and then
+/// its content in document order.
 pub fn add_line_entries<'p, 'a: 'p, S: Steady>(
     calc: &mut S,
     container: &Container<'_, S::Num>,

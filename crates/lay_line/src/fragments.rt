@@ -167,7 +167,7 @@ pub fn plain_box<S: Steady>(
     }
 }
 
-#[tactic(auto, unfolding(crate::specs::Contexts::context_at, crate::specs::steps::Entries::area_in, crate::specs::steps::Entries::text_in, crate::specs::steps::Words::inline_raised))]
+#[tactic(auto, unfolding(crate::specs::Contexts::context_at, crate::specs::steps::Entries::text_in))]
 /// A piece of a text, between its edges.
 pub fn text_fragment<S: Steady>(
     calc: &mut S,
@@ -252,7 +252,7 @@ fn fragment_edges<S: Steady>(
     }
 }
 
-#[tactic(auto, unfolding(crate::specs::Contexts::context_at, crate::specs::steps::Entries::edges_in, crate::specs::steps::Entries::around_in))]
+#[tactic(auto, unfolding(crate::specs::Contexts::context_at, crate::specs::steps::Entries::around_in))]
 /// The four rectangles around a fragment's content.
 fn around<S: Steady>(
     calc: &mut S,
@@ -294,9 +294,9 @@ pub struct Span<'l, 'p, 'a, N> {
     pub after: &'p [ItemPlace<'a, N>],
 }
 
-#[tactic(auto, unfolding(crate::specs::Contexts::context_at, crate::specs::steps::Entries::area_in, crate::specs::steps::Entries::around_in, crate::specs::steps::Entries::from_in, crate::specs::steps::Words::inline_raised))]
-/// The fragment of an inline box: from its left edge up to its end in what follows, where that is on the line, else to the
-/// right of the line's content.
+#[tactic(auto, unfolding(crate::specs::Contexts::context_at, crate::specs::steps::Entries::from_in))]
+/// The fragment of an inline box: from its left edge up to its end in what follows, where that is on the line, else
+/// to the right of the line's content.
 pub fn inline_fragment<S: Steady>(
     calc: &mut S,
     container: &Container<'_, S::Num>,
@@ -324,7 +324,7 @@ pub fn inline_fragment<S: Steady>(
     }
 }
 
-#[tactic(auto, unfolding(crate::specs::steps::Words::own_reach, crate::specs::steps::Words::raised, crate::specs::steps::Entries::atomic_in))]
+#[tactic(auto, unfolding(crate::specs::steps::Entries::atomic_in))]
 /// An atomic box stands with its own baseline raised over the line's.
 pub fn atomic_entry<S: Steady>(
     calc: &mut S,

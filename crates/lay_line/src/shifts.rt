@@ -125,7 +125,7 @@ pub fn shift<S: Steady>(
     shift_to(calc, container, u64::from(at) + 1, at, extent)
 }
 
-#[tactic(auto, unfolding(crate::specs::Contexts::context_at, crate::specs::steps::Words::raised, crate::specs::steps::Words::inline_raised))]
+#[tactic(auto, unfolding(crate::specs::Contexts::context_at, crate::specs::steps::Words::inline_raised))]
 /// The same of an inline box.
 pub fn inline_shift<S: Steady>(calc: &mut S, container: &Container<'_, S::Num>, at: u32) -> S::Num
     ensures goes { Goes (S.run calc.old) (S.run calc.new) }
@@ -155,7 +155,7 @@ pub fn box_extent<S: Steady>(
     }
 }
 
-#[tactic(auto, unfolding(crate::specs::steps::Words::reach_in, crate::specs::steps::Words::own_reach, crate::specs::steps::Words::raised))]
+#[tactic(auto, unfolding(crate::specs::steps::Words::reach_in))]
 /// How far a box reaches above and below the baseline of its line.
 pub fn reach<S: Steady>(
     calc: &mut S,

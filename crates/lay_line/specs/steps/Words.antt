@@ -1,5 +1,5 @@
 -- Names for what the steps over measured items are made of.
-use Rattle.std.specs.Prelude.{ℕ, ℤ, Bool, List}
+use Rattle.std.specs.Prelude.{ℕ, ℤ, Bool, List, ◌+ℤ◌, ◌-ℤ◌}
 use Rattle.viz_base.specs.declared.layouts.Band.{Band}
 use Rattle.viz_base.specs.declared.layouts.Extent.{Extent}
 use Rattle.viz_base.specs.declared.layouts.Spot.{Spot}
@@ -7,7 +7,8 @@ use Rattle.viz_base.specs.declared.lengths.Valign.{Valign}
 use Rattle.viz_base.specs.declared.trees.BoxTree.{BoxTree}
 use Rattle.layout_semantics.specs.Floats.{FloatBox, band_at}
 use Rattle.layout_semantics.specs.InlineContent.{Item, makes_line}
-use Rattle.layout_semantics.specs.LineHeights.{InlineContext, LineExtent, box_extent, raise, shift, inline_shift, extent_in_line, strut}
+use Rattle.layout_semantics.specs.LineHeights.{InlineContext, LineExtent, inline_extent, box_extent, raise, shift, strut}
+use Rattle.layout_semantics.specs.Blocks.{node_of}
 use Rattle.layout_semantics.specs.LineFilling.{item_width, float_size, line_spot, line_float}
 use Rattle.layout_semantics.specs.Floats.{with_float_at}
 
@@ -26,10 +27,10 @@ unfoldable pub raised : InlineContext → ℕ → LineExtent → ℤ
 raised c at e = shift c at e
 
 unfoldable pub inline_raised : InlineContext → ℕ → ℤ
-inline_raised c at = inline_shift c at
+inline_raised c at = raised c at (inline_extent c.tree c.world (node_of c.tree at))
 
 unfoldable pub reach_in : InlineContext → ℕ → LineExtent
-reach_in c at = extent_in_line c at
+reach_in c at = record { above = (own_reach c at).above +ℤ raised c at (own_reach c at); below = (own_reach c at).below -ℤ raised c at (own_reach c at) }
 
 unfoldable pub strut_in : InlineContext → LineExtent
 strut_in c = strut c
