@@ -68,7 +68,8 @@ fn check(
     line: u32,
 ) -> Result<u32, Fault>
     requires { line + lines_of d.now < 2 ^ 32 }
-    ensures gives { Gives result (check_derivation (facts.entry.first.now ++ facts.entry.later.now) vars d.now known.old line) }
+    ensures gives { let facts = facts.entry.first.now ++ facts.entry.later.now in
+        Gives result (check_derivation facts vars d.now known.old line) }
     ensures lines { IfOk result (λ next. next ≡ line + lines_of d.now) }
     ensures known { OnOk result (known.new ≡ known.old) }
 {
@@ -89,7 +90,8 @@ fn check_end(
     line: u32,
 ) -> Result<u32, Fault>
     requires { line + lines_in end.now < 2 ^ 32 }
-    ensures gives { Gives result (check_ending (facts.entry.first.now ++ facts.entry.later.now) vars end.now known.old line) }
+    ensures gives { let facts = facts.entry.first.now ++ facts.entry.later.now in
+        Gives result (check_ending facts vars end.now known.old line) }
     ensures lines { IfOk result (λ next. next ≡ line + lines_in end.now) }
     ensures known { OnOk result (known.new ≡ known.old) }
 {
@@ -110,7 +112,8 @@ fn check_cases(
     line: u32,
 ) -> Result<u32, Fault>
     requires { line + lines_under branch.now < 2 ^ 32 }
-    ensures gives { Gives result (check_branch (facts.entry.first.now ++ facts.entry.later.now) vars branch.now known.old line) }
+    ensures gives { let facts = facts.entry.first.now ++ facts.entry.later.now in
+        Gives result (check_branch facts vars branch.now known.old line) }
     ensures lines { IfOk result (λ next. next ≡ line + lines_under branch.now) }
     ensures known { OnOk result (known.new ≡ known.old) }
 {

@@ -130,7 +130,8 @@ pub fn run(
 ) -> Result<u32, Fault>
     requires { line + length steps.now < 2 ^ 32 }
     ensures gives { MatchResult result
-        (λ next. run_steps (facts.entry.first.now ++ facts.entry.later.now) known.old line steps.now ≡ Ok (known.new, next))
+        (λ next. run_steps (facts.entry.first.now ++ facts.entry.later.now) known.old line steps.now
+        ≡ Ok (known.new, next))
         (λ e. Fails e (run_steps (facts.entry.first.now ++ facts.entry.later.now) known.old line steps.now)) }
     ensures lines { IfOk result (λ next. next ≡ line + length steps.now) }
     ensures kept { OnOk result (take (length known.old) known.new ≡ known.old) }

@@ -83,16 +83,16 @@ known_row fs named f known local = record {
     both : (v : ℕ → ℤ) → are_met (fs ++ f ∷ []) v ≡ true → are_met fs v ≡ true
     both v met = (and_parts (are_met fs v) (are_met (f ∷ []) v) (sym (are_met-append fs (f ∷ []) v) ∙ met)).0
 
-known_range : (range : Rect) → AreKnown (range_facts range) []
+pub known_range : (range : Rect) → AreKnown (range_facts range) []
 known_range range = record {
   few = omega arith;
   declared = declared_append 2 (row_of (neg_ℤ (pos range.wl)) (pos 1) 0 ∷ row_of (pos range.wh) (negsuc 0) 0 ∷ []) (row_of (neg_ℤ (pos range.sl)) (pos 1) 1 ∷ row_of (pos range.sh) (negsuc 0) 1 ∷ [])
-  (declared_append 2 (row_of (neg_ℤ (pos range.wl)) (pos 1) 0 ∷ []) (row_of (pos range.wh) (negsuc 0) 0 ∷ [])
-  (declared_row 2 (row_of (neg_ℤ (pos range.wl)) (pos 1) 0) (row_local 2 (neg_ℤ (pos range.wl)) (pos 1) 0 (omega arith)))
-  (declared_row 2 (row_of (pos range.wh) (negsuc 0) 0) (row_local 2 (pos range.wh) (negsuc 0) 0 (omega arith))))
-  (declared_append 2 (row_of (neg_ℤ (pos range.sl)) (pos 1) 1 ∷ []) (row_of (pos range.sh) (negsuc 0) 1 ∷ [])
-  (declared_row 2 (row_of (neg_ℤ (pos range.sl)) (pos 1) 1) (row_local 2 (neg_ℤ (pos range.sl)) (pos 1) 1 (omega arith)))
-  (declared_row 2 (row_of (pos range.sh) (negsuc 0) 1) (row_local 2 (pos range.sh) (negsuc 0) 1 (omega arith))));
+      (declared_append 2 (row_of (neg_ℤ (pos range.wl)) (pos 1) 0 ∷ []) (row_of (pos range.wh) (negsuc 0) 0 ∷ [])
+      (declared_row 2 (row_of (neg_ℤ (pos range.wl)) (pos 1) 0) (row_local 2 (neg_ℤ (pos range.wl)) (pos 1) 0 (omega arith)))
+      (declared_row 2 (row_of (pos range.wh) (negsuc 0) 0) (row_local 2 (pos range.wh) (negsuc 0) 0 (omega arith))))
+      (declared_append 2 (row_of (neg_ℤ (pos range.sl)) (pos 1) 1 ∷ []) (row_of (pos range.sh) (negsuc 0) 1 ∷ [])
+      (declared_row 2 (row_of (neg_ℤ (pos range.sl)) (pos 1) 1) (row_local 2 (neg_ℤ (pos range.sl)) (pos 1) 1 (omega arith)))
+      (declared_row 2 (row_of (pos range.sh) (negsuc 0) 1) (row_local 2 (pos range.sh) (negsuc 0) 1 (omega arith))));
   floors = λ v met n f at. absurd (cc);
 }
 

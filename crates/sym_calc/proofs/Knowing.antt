@@ -149,6 +149,7 @@ met_floor facts named f known fits v w same is =
     let row = local_row x f fits w v same in
     let new = all_met w more (floor_holds f.row f.by x v w fits.1 row is) in
     are_met-append facts more w ∙ (λ i. old i && new i) ∙ and-true (are_met facts v)
+
 pub kept_floor : (facts : List Form) (named : List Floor) (f : Floor) → AreKnown facts named → FitsAt (length named + 2) f → (world : World)
     → are_met (facts ++ step_facts (length named + 2) (def f.row f.by)) (values_by (named ++ f ∷ []) world) ≡ are_met facts (values_by named world)
 kept_floor facts named f known fits world =

@@ -6,6 +6,7 @@ use Rattle.std.proofs.lemmas.Int.{ints}
 use Rattle.std.proofs.lemmas.List.{take_more}
 use Rattle.std.proofs.lemmas.Bool.Decides.{Decides-int_eq}
 use Rattle.lin_row.specs.Form.{Form, Terms, terms_value, value, put, plus, IsAbove, IsCanonical}
+use Rattle.lin_row.proofs.Sums.{IsAbove-put, IsCanonical-put}
 use Rattle.lin_row.proofs.Values.{terms_value-put, value-plus}
 use Rattle.lin_row.proofs.Whole.{distribute, distribute_left, associate, div_below}
 use Rattle.cert_path.specs.Facts.{row_of}
@@ -28,20 +29,6 @@ changed-append g (t ∷ ts) us = ap (put t.0 (g t.1)) (changed-append g ts us) �
 pub changed-more : (g : ℤ → ℤ) (ts : Terms) (i : ℕ) (t : ℕ × ℤ) → i < length ts
     → changed g (take (i + 1) ts) ≡ changed g (take i ts) ++ put (get_or ts i t).0 (g (get_or ts i t).1) []
 changed-more g ts i t less = ap (changed g) (take_more ts i t less) ∙ changed-append g (take i ts) (get_or ts i t ∷ [])
-
-IsAbove-put : (y x : ℕ) (c : ℤ) (ts : Terms) → y < x → IsAbove y ts → IsAbove y (put x c ts)
-IsAbove-put y x c ts less h = by_test (int_eq c (pos 0))
-  where
-    by_test : (b : Bool) → IsAbove y (cond b ts ((x, c) ∷ ts))
-    by_test true = h
-    by_test false = (less, h)
-
-IsCanonical-put : (x : ℕ) (c : ℤ) (ts : Terms) → IsAbove x ts → IsCanonical ts → IsCanonical (put x c ts)
-IsCanonical-put x c ts above h = by_test (int_eq c (pos 0)) (Decides-int_eq c (pos 0)).1
-  where
-    by_test : (b : Bool) → (c ≡ pos 0 → b ≡ true) → IsCanonical (cond b ts ((x, c) ∷ ts))
-    by_test true zero = h
-    by_test false zero = (above, λ e. let no = zero e in absurd (cc), h)
 
 IsAbove-changed : (g : ℤ → ℤ) (y : ℕ) (ts : Terms) → IsAbove y ts → IsAbove y (changed g ts)
 IsAbove-changed g y [] h = tt
@@ -117,7 +104,7 @@ floor_alone d f v above none =
     let r = int_rem_euclid f.k d in
     let rest : value (remainder d f) v ≡ r +ℤ pos 0 = ap (λ ts. r +ℤ terms_value ts v) none in
     let zero : int_div_euclid (value (remainder d f) v) d ≡ pos 0 =
-        ap (λ z. int_div_euclid z d) rest ∙ ap (λ z. int_div_euclid z d) (unit r) ∙ floor_of_remainder f.k d above in
+    ap (λ z. int_div_euclid z d) rest ∙ ap (λ z. int_div_euclid z d) (unit r) ∙ floor_of_remainder f.k d above in
     let all = floor_parts d f v above in
     omega (arith, ints, zero, all)
   where

@@ -7,9 +7,8 @@ use Rattle.std.proofs.lemmas.List.Quantifiers.{position-Some}
 use Rattle.std.proofs.lemmas.Option.{slice_get-get_or}
 use Rattle.viz_base.specs.declared.worlds.World.{World}
 use Rattle.viz_calc.specs.World.{Reading}
-use Rattle.viz_calc.specs.State.{State, Grows, KeepsWorlds, Rose, Cause}
+use Rattle.viz_calc.specs.State.{State, Grows, KeepsWorlds}
 use Rattle.viz_calc.specs.declared.calc.Halt.{Halt}
-use Rattle.viz_calc.specs.declared.calc.Halt.TheVariants.{Mem, Coeff, Open}
 use Rattle.lin_row.specs.Form.{Form, value}
 use Rattle.lin_row.specs.Exact.{IsExact}
 use Rattle.lin_row.specs.declared.row.RowFault.{RowFault}
@@ -32,16 +31,6 @@ grows_then a b c g h = record {
   opens = let first = g.opens in let later = h.opens in omega arith;
   kept = h.kept ∙ g.kept;
 }
-
-rose_later : (a b c : ℕ) → a ≤ b → Rose b c → Rose a c
-rose_later a b c le (inl less) = inl (omega arith)
-rose_later a b c le (inr last) = inr last
-
--- why a later call halted is why both did
-pub cause_then : (a b c : State) (halt : Halt) → Grows a b → Cause b c ⊤ halt → Cause a c ⊤ halt
-cause_then a b c Mem g h = sym g.lean ∙ h
-cause_then a b c Coeff g h = λ fits. rose_later a.coeffs b.coeffs c.coeffs g.coeffs (h fits)
-cause_then a b c Open g h = rose_later a.opens b.opens c.opens g.opens h
 
 -- a row that was counted is the exact one
 pub counted_is : (answer : Result Form RowFault) (exact : Form) (made : Result Form Halt) → IsExact answer exact → IfOk made (λ row. answer ≡ Ok row) → IfOk made (λ row. row ≡ exact)
@@ -118,7 +107,7 @@ module _ (path rows after : List Form) (along own now : List Floor) (f : Floor) 
   pub named_grows : (c o : ℕ) → Grows (sym_state (path ++ rows) (along ++ own) c o) (sym_state (path ++ after) (along ++ now) c o)
   named_grows c o = after_by (λ fs gs. Grows (sym_state (path ++ rows) (along ++ own) c o) (sym_state fs gs c o)) (record {
     closes = λ e met. (and_parts (are_met (path ++ rows) (values_of e)) (are_met (step_facts (length (along ++ own) + 2) (def f.row f.by)) (values_of e))
-    (sym (are_met-append (path ++ rows) (step_facts (length (along ++ own) + 2) (def f.row f.by)) (values_of e)) ∙ met)).0;
+        (sym (are_met-append (path ++ rows) (step_facts (length (along ++ own) + 2) (def f.row f.by)) (values_of e)) ∙ met)).0;
     lean = refl;
     coeffs = omega arith;
     opens = omega arith;

@@ -14,6 +14,10 @@ use Rattle.sym_calc.specs.Floors.{values_by}
 abbrev pub values_of : Reading → ℕ → ℤ
 values_of e = with_value (with_value e.terms 0 (pos e.world.w)) 1 (pos e.world.s)
 
+-- what a number is at a reading
+abbrev pub number_at : Form → Reading → ℤ
+number_at n e = value n (values_of e)
+
 -- whether each fact is at least 0
 abbrev pub are_met : List Form → (ℕ → ℤ) → Bool
 are_met facts v = list_all (λ f. int_le (pos 0) (value f v)) facts

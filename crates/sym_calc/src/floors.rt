@@ -49,9 +49,9 @@ impl Hash for Floor {
     ghost use Rattle.std.specs.Prelude.{◌++◌};
     ghost use Rattle.std.specs.Hash as fed;
     ghost use Rattle.std.specs.Hash.{same_Alike};
-    ghost use Rattle.sym_calc.specs.Same.{decides_same_floor};
+    ghost use Rattle.sym_calc.specs.Same.{decides_same_floor, terms_input};
 
-    ghost hash_input = { λ f. fed.i128 f.row.k ++ fed.slice (λ t. fed.u32 t.0 ++ fed.i128 t.1) f.row.terms ++ fed.i128 f.by };
+    ghost hash_input = { λ f. fed.i128 f.row.k ++ terms_input f.row.terms ++ fed.i128 f.by };
 
     ghost respects_eq = { (same_Alike _ decides_same_floor).fed };
 

@@ -18,7 +18,7 @@ pub fn kept_worlds_are_those_of_the_path()
     ensures { KeptAreThoseOfThePath }
 {}
 
-/// A symbolic calc may be made over each path whose rows name declared variables and whose floors are by numbers above 0.
+/// A symbolic calc may be made over each path whose rows name declared variables, its floors being by numbers above 0.
 pub fn sound_paths_are_known()
     ensures { SoundIsKnown }
 {}

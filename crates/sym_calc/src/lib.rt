@@ -3,6 +3,7 @@
 #![tactic(auto)]
 
 mod divisions;
+mod facts;
 mod floors;
 mod laws;
 mod paths;
@@ -15,3 +16,6 @@ pub use laws::{kept_worlds_are_those_of_the_path, sound_paths_are_known, sym_kee
 pub use paths::Path;
 pub use sym::Sym;
 pub use troubles::Trouble;
+
+#[cfg(test)]
+mod tests;

@@ -1,25 +1,26 @@
-ghost use Rattle.std.specs.Prelude.{◌≡◌, ◌≢◌, ◌≤◌, ◌<◌, ◌^◌, ◌+◌, ◌<ℤ◌, ◌++◌, [], ◌∷◌, false, Bool, None, Some, is_some, nat_lt, length, pos, negsuc, ◌-ℤ◌, Ok, ⊤, IfOk, IfErr, IsTrue, OnOk, OnErr};
+ghost use Rattle.std.specs.Prelude.{◌≡◌, ◌≢◌, ◌≤◌, ◌<◌, ◌^◌, ◌+◌, ◌-◌, ◌<ℤ◌, ◌++◌, [], ◌∷◌, false, true, Bool, None, Some, is_some, nat_lt, length, pos, negsuc, ◌-ℤ◌, Ok, ⊤, IfOk, IfErr, IsTrue, OnOk, OnErr};
 ghost use Rattle.std.specs.List.{list_any};
+ghost use Rattle.std.specs.Option.{option_copied};
 ghost use Rattle.std.specs.Int.{int_div_euclid};
 ghost use Rattle.std.specs.Int.RustNames.{int_le};
-ghost use Rattle.lin_row.specs.Form.{plus, value};
+ghost use Rattle.lin_row.specs.Form.{Form, denied, form_fits, plus, value};
 ghost use Rattle.lin_row.specs.Exact.{IsExact};
 ghost use Rattle.lin_proof.specs.Derivations.{are_declared, first_fault, lines_of};
-ghost use Rattle.cert_path.specs.Paths.{def};
-ghost use Rattle.cert_path.specs.Facts.{row_of, step_facts};
+ghost use Rattle.cert_path.specs.Facts.{row_of};
 ghost use Rattle.viz_calc.specs.World.{Reading};
 ghost use Rattle.sym_calc.specs.Floors.{same_floor};
+ghost use Rattle.sym_calc.specs.Given.{IsGiven};
 ghost use Rattle.sym_calc.specs.Knowledge.{values_of};
-ghost use Rattle.sym_calc.specs.Knowledge.{AreKnown, contrary};
+ghost use Rattle.sym_calc.specs.Knowledge.{AreKnown, contrary, sym_state};
 ghost use Rattle.viz_calc.specs.State.{Rose};
 
 use crate::divisions::{quotient, remainder};
+use crate::facts::add_floor;
 use crate::floors::{Floor, Floors, same_row};
 use crate::paths::Path;
 use crate::troubles::Trouble;
 use lin_proof::{Answer, Derivation, Facts, first_fault_among, line_count};
 use lin_row::{Row, RowFault};
-use std::alloc::AllocError;
 use viz_base::{List, Mem};
 use viz_calc::{Calc, Halt};
 
@@ -49,11 +50,18 @@ fn raised(count: u64) -> u64
 
 impl<'a> Sym<'a> {
     ghost use Rattle.viz_calc.specs.State.{Grows, KeepsWorlds, Cause, IsDecided};
-    ghost use Rattle.sym_calc.specs.Calc.{facts_of, named_of, state_of};
+    ghost use Rattle.viz_calc.specs.declared.calc.Halt.TheVariants.{Open};
+    ghost use Rattle.sym_calc.specs.Troubles.{first_of};
+    ghost use Rattle.sym_calc.specs.Calc.{facts_of, named_of, state_of, next_trouble, KeepsRest};
 
     /// The calc of a path and of a tape of answers, none of which is taken yet. Takes no memory.
     pub fn new(path: &'a Path, tape: &'a [Answer]) -> Self
         requires { AreKnown path.now.facts path.now.floors }
+        ensures path { result.path.now ≡ path.now }
+        ensures tape { result.tape.now ≡ tape.now }
+        ensures state { state_of result ≡ sym_state path.now.facts path.now.floors 0 0 }
+        ensures taken { result.taken ≡ 0 }
+        ensures trouble { result.trouble ≡ None }
     {
         let alloc = path.facts.allocator();
         Sym {
@@ -73,6 +81,8 @@ impl<'a> Sym<'a> {
         ensures grows { Grows (state_of self.old) (state_of self.new) }
         ensures worlds { KeepsWorlds (state_of self.old) (state_of self.new) }
         ensures row { IfOk result (λ row. answer ≡ Ok row) }
+        ensures exact { (exact : Form) → IsExact answer exact → IsGiven result exact }
+        ensures rest { KeepsRest self.old self.new }
         ensures cause { IfErr result (Cause (state_of self.old) (state_of self.new) ⊤) }
         ensures decided { IsDecided result }
     {
@@ -167,6 +177,10 @@ impl<'a> Sym<'a> {
         ensures value { IfOk result (λ yes. (e : Reading) → IsTrue ((state_of self.new).is_open e)
             → yes ≡ int_le (pos 0) (value row (values_of e))) }
         ensures cause { IfErr result (Cause (state_of self.old) (state_of self.new) ⊤) }
+        ensures answer { IfOk result (λ yes. next_trouble self.old row ≡ None) }
+        ensures taken { OnOk result (self.new.taken ≡ self.old.taken + 1) }
+        ensures opened { result ≡ Err Open → is_some (next_trouble self.old row) ≡ true }
+        ensures trouble { result ≡ Err Open → self.new.trouble ≡ first_of self.old.trouble (next_trouble self.old row) }
     {
         let tape = self.tape;
         let Some(answer) = tape.get(self.taken) else {
@@ -191,6 +205,8 @@ impl<'a> Sym<'a> {
     fn contrary_of(&mut self, yes: bool, row: &Row) -> Result<Row, Halt>
         ensures grows { Grows (state_of self.old) (state_of self.new) }
         ensures row { IfOk result (λ other. other ≡ contrary yes row.now) }
+        ensures rest { KeepsRest self.old self.new }
+        ensures decided { IsDecided result }
         ensures cause { IfErr result (Cause (state_of self.old) (state_of self.new) ⊤) }
     {
         let contrary = contrary_of(yes, row);
@@ -199,8 +215,10 @@ impl<'a> Sym<'a> {
 
     /// The first wrong line of a derivation from all facts and from one more, which is taken back.
     fn fault_of(&mut self, contrary: Row, why: &Derivation) -> Result<Option<u32>, Mem>
-        ensures line { IfOk result (λ line. line ≡ first_fault (facts_of self.old ++ contrary ∷ []) (length (named_of self.old) + 2) why.now) }
+        ensures line { IfOk result (λ line.
+            line ≡ first_fault (facts_of self.old ++ contrary ∷ []) (length (named_of self.old) + 2) why.now) }
         ensures state { state_of self.new ≡ state_of self.old }
+        ensures rest { KeepsRest self.old self.new }
     {
         let variables = self.variables();
         fault_below(
@@ -216,6 +234,8 @@ impl<'a> Sym<'a> {
     fn stuck(&mut self, trouble: Trouble) -> Halt
         ensures grows { Grows (state_of self.old) (state_of self.new) }
         ensures cause { Cause (state_of self.old) (state_of self.new) ⊤ result }
+        ensures open { result ≡ Open }
+        ensures trouble { self.new.trouble ≡ first_of self.old.trouble (Some trouble) }
     {
         if self.trouble.is_none() {
             self.trouble = Some(trouble);
@@ -225,12 +245,17 @@ impl<'a> Sym<'a> {
     }
 
     /// Why the first comparison that was left open is; none where none was. Takes no memory.
-    pub fn trouble(&self) -> Option<&Trouble> {
+    pub fn trouble(&self) -> Option<&Trouble>
+        ensures trouble { option_copied result ≡ self.now.trouble }
+        ensures told { is_some result ≡ nat_lt 0 (state_of self.now).opens }
+    {
         self.trouble.as_ref()
     }
 
     /// How many answers are not taken yet. Takes no memory.
-    pub fn left(&self) -> usize {
+    pub fn left(&self) -> usize
+        ensures { result ≡ length self.now.tape.now - self.now.taken }
+    {
         self.tape.len().saturating_sub(self.taken)
     }
 }
@@ -258,7 +283,8 @@ fn fault_below(
     contrary: Row,
     why: &Derivation,
 ) -> Result<Option<u32>, Mem>
-    ensures line { IfOk result (λ line. line ≡ first_fault (facts.now ++ (rows.old ++ contrary ∷ [])) variables why.now) }
+    ensures line { IfOk result (λ line.
+        line ≡ first_fault (facts.now ++ (rows.old ++ contrary ∷ [])) variables why.now) }
     ensures same { rows.new ≡ rows.old }
 {
     if line_count(why).is_none() {
@@ -278,44 +304,97 @@ fn fault_below(
 /// Numbers are rows in 1/64 px over whole pixels. Open are the readings that meet all facts, and kept are the worlds of
 /// the path.
 impl<'a> Calc for Sym<'a> {
+    ghost use Rattle.std.specs.Prelude.{◌*◌, ◌+ℤ◌, ◌*ℤ◌, ◌⊎◌};
     ghost use Rattle.std.proofs.Common.{inl, refl};
-    ghost use Rattle.lin_row.specs.Form.{value};
-    ghost use Rattle.sym_calc.specs.Knowledge.{values_of};
-    ghost use Rattle.sym_calc.specs.Calc.{facts_of, named_of, state_of};
+    ghost use Rattle.viz_calc.specs.State.{Stands, Grows, KeepsWorlds, Fits, Cause, IsDecided};
+    ghost use Rattle.viz_calc.specs.declared.calc.Halt.TheVariants.{Open};
+    ghost use Rattle.sym_calc.specs.Knowledge.{number_at};
+    ghost use Rattle.sym_calc.specs.Troubles.{first_of};
+    ghost use Rattle.sym_calc.specs.Calc.{facts_of, named_of, state_of, next_trouble};
     ghost use Rattle.sym_calc.specs.Kept.{reading_by, kept_is_open};
 
     type Num = Row;
 
     ghost state = { state_of };
 
-    ghost at = { λ n e. value n (values_of e) };
+    ghost at = { number_at };
 
     fn blank(&self) -> Row {
         Row::constant(self.path.facts.allocator(), 0)
     }
 
-    fn lit(&mut self, v: i128) -> Result<Row, Halt> {
+    fn lit(&mut self, v: i128) -> Result<Row, Halt>
+        ensures grows { Grows (state_of self.old) (state_of self.new) }
+        ensures worlds { KeepsWorlds (state_of self.old) (state_of self.new) }
+        ensures value { IfOk result (λ r. Stands (state_of self.new) (number_at r) (λ e. v)) }
+        ensures cause { IfErr result (Cause (state_of self.old) (state_of self.new)
+            (Fits (state_of self.new) (λ e. v ∷ []))) }
+        ensures decided { IsDecided result }
+        ensures free { IfErr result (λ halt. halt ≡ Halt.Mem) }
+    {
         Ok(Row::constant(self.path.facts.allocator(), v))
     }
 
-    fn width(&mut self) -> Result<Row, Halt> {
+    fn width(&mut self) -> Result<Row, Halt>
+        ensures grows { Grows (state_of self.old) (state_of self.new) }
+        ensures worlds { KeepsWorlds (state_of self.old) (state_of self.new) }
+        ensures value { IfOk result (λ r. Stands (state_of self.new) (number_at r) (λ e. pos (64 * e.world.w))) }
+        ensures cause { IfErr result (Cause (state_of self.old) (state_of self.new)
+            (Fits (state_of self.new) (λ e. pos (64 * e.world.w) ∷ []))) }
+        ensures decided { IsDecided result }
+        ensures free { IfErr result (λ halt. halt ≡ Halt.Mem) }
+    {
         Ok(Row::of_term(self.path.facts.allocator(), 0, 0, 64)?)
     }
 
-    fn size(&mut self) -> Result<Row, Halt> {
+    fn size(&mut self) -> Result<Row, Halt>
+        ensures grows { Grows (state_of self.old) (state_of self.new) }
+        ensures worlds { KeepsWorlds (state_of self.old) (state_of self.new) }
+        ensures value { IfOk result (λ r. Stands (state_of self.new) (number_at r) (λ e. pos (64 * e.world.s))) }
+        ensures cause { IfErr result (Cause (state_of self.old) (state_of self.new)
+            (Fits (state_of self.new) (λ e. pos (64 * e.world.s) ∷ []))) }
+        ensures decided { IsDecided result }
+        ensures free { IfErr result (λ halt. halt ≡ Halt.Mem) }
+    {
         Ok(Row::of_term(self.path.facts.allocator(), 0, 1, 64)?)
     }
 
-    fn copy(&mut self, a: &Row) -> Result<Row, Halt> {
+    fn copy(&mut self, a: &Row) -> Result<Row, Halt>
+        ensures grows { Grows (state_of self.old) (state_of self.new) }
+        ensures worlds { KeepsWorlds (state_of self.old) (state_of self.new) }
+        ensures value { IfOk result (λ r. Stands (state_of self.new) (number_at r) (λ e. number_at a.now e)) }
+        ensures cause { IfErr result (Cause (state_of self.old) (state_of self.new)
+            (Fits (state_of self.new) (λ e. number_at a.now e ∷ []))) }
+        ensures decided { IsDecided result }
+        ensures free { IfErr result (λ halt. halt ≡ Halt.Mem) }
+    {
         Ok(a.clone()?)
     }
 
-    fn add(&mut self, a: &Row, b: &Row) -> Result<Row, Halt> {
+    fn add(&mut self, a: &Row, b: &Row) -> Result<Row, Halt>
+        ensures grows { Grows (state_of self.old) (state_of self.new) }
+        ensures worlds { KeepsWorlds (state_of self.old) (state_of self.new) }
+        ensures value { IfOk result (λ r. Stands (state_of self.new) (number_at r)
+            (λ e. number_at a.now e +ℤ number_at b.now e)) }
+        ensures cause { IfErr result (Cause (state_of self.old) (state_of self.new)
+            (Fits (state_of self.new) (λ e. (number_at a.now e +ℤ number_at b.now e) ∷ []))) }
+        ensures decided { IsDecided result }
+        ensures exact { IsGiven result (plus a.now (pos 1) b.now) }
+    {
         let sum = a.add_scaled(1, b);
         self.counted(sum)
     }
 
-    fn sub(&mut self, a: &Row, b: &Row) -> Result<Row, Halt> {
+    fn sub(&mut self, a: &Row, b: &Row) -> Result<Row, Halt>
+        ensures grows { Grows (state_of self.old) (state_of self.new) }
+        ensures worlds { KeepsWorlds (state_of self.old) (state_of self.new) }
+        ensures value { IfOk result (λ r. Stands (state_of self.new) (number_at r)
+            (λ e. number_at a.now e -ℤ number_at b.now e)) }
+        ensures cause { IfErr result (Cause (state_of self.old) (state_of self.new)
+            (Fits (state_of self.new) (λ e. (number_at a.now e -ℤ number_at b.now e) ∷ []))) }
+        ensures decided { IsDecided result }
+        ensures exact { IsGiven result (plus a.now (negsuc 0) b.now) }
+    {
         let difference = a.add_scaled(-1, b);
         self.counted(difference)
     }
@@ -327,7 +406,18 @@ impl<'a> Calc for Sym<'a> {
         self.divided(&product, i128::from(den))
     }
 
-    fn le(&mut self, a: &Row, b: &Row) -> Result<bool, Halt> {
+    fn le(&mut self, a: &Row, b: &Row) -> Result<bool, Halt>
+        ensures grows { Grows (state_of self.old) (state_of self.new) }
+        ensures value { IfOk result (λ r. (e : Reading) → IsTrue ((state_of self.new).is_open e)
+            → r ≡ int_le (number_at a.now e) (number_at b.now e)) }
+        ensures cause { IfErr result (Cause (state_of self.old) (state_of self.new) ⊤) }
+        ensures answer { let row = plus b.now (negsuc 0) a.now in
+            IfOk result (λ r. (row.terms ≡ []) ⊎ (next_trouble self.old row ≡ None)) }
+        ensures opened { let row = plus b.now (negsuc 0) a.now in
+            result ≡ Err Open → is_some (next_trouble self.old row) ≡ true }
+        ensures trouble { let row = plus b.now (negsuc 0) a.now in
+            result ≡ Err Open → self.new.trouble ≡ first_of self.old.trouble (next_trouble self.old row) }
+    {
         let difference = b.add_scaled(-1, a);
         let difference = self.counted(difference)?;
         if difference.terms.is_empty() {
@@ -336,7 +426,11 @@ impl<'a> Calc for Sym<'a> {
         self.answered(difference)
     }
 
-    ghost keeps = { λ s w t. inl (record { reading = reading_by (named_of s) w; world = refl; is_open = kept_is_open (facts_of s) (named_of s) w t }) };
+    ghost keeps = { λ s w t. inl (record {
+      reading = reading_by (named_of s) w;
+      world = refl;
+      is_open = kept_is_open (facts_of s) (named_of s) w t;
+    }) };
 }
 
 /// Whether a row has no variable from `variables` on.
@@ -344,63 +438,4 @@ fn is_declared(row: &Row, variables: u32) -> bool
     ensures { result ≡ are_declared variables row.now.terms }
 {
     row.terms.as_slice().iter().all(|term| term.0 < variables)
-}
-
-/// That the row of a floor is at least its number times the floor.
-fn lower_fact(floor: &Floor, variable: u32) -> Result<Row, RowFault>
-    requires { pos 0 <ℤ floor.now.by }
-    ensures { IsExact result (plus floor.now.row (negsuc 0) (row_of (pos 0) floor.now.by variable)) }
-{
-    let product = Row::of_term(floor.row.terms.allocator(), 0, variable, floor.by)?;
-    floor.row.add_scaled(-1, &product)
-}
-
-/// That the row of a floor is below its number times one more than the floor.
-fn upper_fact(floor: &Floor, variable: u32) -> Result<Row, RowFault>
-    requires { pos 0 <ℤ floor.now.by }
-    ensures { IsExact result (plus (row_of (floor.now.by -ℤ pos 1) floor.now.by variable) (negsuc 0) floor.now.row) }
-{
-    let most = Row::of_term(floor.row.terms.allocator(), floor.by - 1, variable, floor.by)?;
-    most.add_scaled(-1, &floor.row)
-}
-
-/// Adds a floor that is new, with its two facts. An `Err` leaves all as it was.
-fn add_floor(
-    rows: &mut List<Row>,
-    floors: &mut Floors,
-    floor: Floor,
-    variable: u32,
-) -> Result<(), RowFault>
-    requires above { pos 0 <ℤ floor.by }
-    requires new { list_any (same_floor floor) floors.old ≡ false }
-    ensures rows { OnOk result (rows.new ≡ rows.old ++ step_facts variable (def floor.row floor.by)) }
-    ensures floors { OnOk result (floors.new ≡ floors.old ++ floor ∷ []) }
-    ensures same_rows { OnErr result (rows.new ≡ rows.old) }
-    ensures same_floors { OnErr result (floors.new ≡ floors.old) }
-{
-    let lower = lower_fact(&floor, variable)?;
-    let upper = upper_fact(&floor, variable)?;
-    add_both(rows, lower, upper)?;
-    match floors.push(floor) {
-        Ok(()) => Ok(()),
-        Err(Mem) => {
-            rows.truncate(rows.len() - 2);
-            Err(RowFault::Mem)
-        }
-    }
-}
-
-/// Adds two rows, or leaves the list as it was.
-fn add_both(rows: &mut List<Row>, first: Row, second: Row) -> Result<(), AllocError>
-    ensures ok { OnOk result (rows.new ≡ rows.old ++ first ∷ second ∷ []) }
-    ensures err { OnErr result (rows.new ≡ rows.old) }
-{
-    rows.push(first)?;
-    match rows.push(second) {
-        Ok(()) => Ok(()),
-        Err(fault) => {
-            rows.truncate(rows.len() - 1);
-            Err(fault)
-        }
-    }
 }
