@@ -59,7 +59,7 @@ decides_same_term t u =
     let both = Decides-and (t.0 == u.0) (int_eq t.1 u.1) (Decides-eqb t.0 u.0) (Decides-int_eq t.1 u.1) in
     (λ e. let h = both.0 e in λ i. (h.0 i, h.1 i), λ same. both.1 (ap (λ (x : ℕ × ℤ). x.0) same, ap (λ (x : ℕ × ℤ). x.1) same))
 
-decides_same_row : (f g : Form) → Decides (same_row f g) (f ≡ g)
+pub decides_same_row : (f g : Form) → Decides (same_row f g) (f ≡ g)
 decides_same_row f g =
     let both = Decides-and (int_eq f.k g.k) (pointwise same_term f.terms g.terms) (Decides-int_eq f.k g.k) (slice_eq-Decides decides_same_term f.terms g.terms (pointwise same_term f.terms g.terms) refl) in
     (λ e. let h = both.0 e in λ i. record { k = h.0 i; terms = h.1 i }, λ same. both.1 (ap (λ (x : Form). x.k) same, ap (λ (x : Form). x.terms) same))

@@ -28,12 +28,12 @@ use Rattle.cert_path.proofs.Values.{Agree, Local, all_append, all_parts, declare
 abbrev pub AllMeet : (ℕ → ℤ) → List Form → Type 0
 AllMeet v = AllByRecursion (λ f. pos 0 ≤ℤ value f v)
 
-to_meets : (v : ℕ → ℤ) (fs : List Form) → AllMeet v fs → Meets v fs
+pub to_meets : (v : ℕ → ℤ) (fs : List Form) → AllMeet v fs → Meets v fs
 to_meets v [] h n f is = absurd (cc)
 to_meets v (g ∷ fs) h zero f is = subst (λ x. pos 0 ≤ℤ value x v) (same_Some g f is) h.0
 to_meets v (g ∷ fs) h (suc n) f is = to_meets v fs h.1 n f is
 
-from_meets : (v : ℕ → ℤ) (fs : List Form) → Meets v fs → AllMeet v fs
+pub from_meets : (v : ℕ → ℤ) (fs : List Form) → Meets v fs → AllMeet v fs
 from_meets v [] h = tt
 from_meets v (f ∷ fs) h = (h zero f refl, from_meets v fs (λ n g is. h (suc n) g is))
 
@@ -76,7 +76,7 @@ lower_is f d x v = value-plus f (negsuc 0) (row_of (pos 0) d x) v ∙ omega (ari
 upper_is : (f : Form) (d : ℤ) (x : ℕ) (v : ℕ → ℤ) → value (plus (row_of (d -ℤ pos 1) d x) (negsuc 0) f) v ≡ d *ℤ v x +ℤ d -ℤ pos 1 -ℤ value f v
 upper_is f d x v = value-plus (row_of (d -ℤ pos 1) d x) (negsuc 0) f v ∙ omega (arith, ints)
 
-floor_holds : (f : Form) (d : ℤ) (x : ℕ) (v w : ℕ → ℤ) → pos 0 <ℤ d → value f w ≡ value f v → w x ≡ int_div_euclid (value f v) d → AllMeet w (step_facts x (def f d))
+pub floor_holds : (f : Form) (d : ℤ) (x : ℕ) (v w : ℕ → ℤ) → pos 0 <ℤ d → value f w ≡ value f v → w x ≡ int_div_euclid (value f v) d → AllMeet w (step_facts x (def f d))
 floor_holds f d x v w above same is =
     let floor = div_below (value f v) d above in
     let q = int_div_euclid (value f v) d in
@@ -86,7 +86,7 @@ floor_holds f d x v w above same is =
       (omega (arith, ints, upper_is f d x w, high, floor.1), tt),
     )
 
-floor_said : (f : Form) (d : ℤ) (x : ℕ) (v w : ℕ → ℤ) → pos 0 <ℤ d → value f w ≡ value f v → AllMeet w (step_facts x (def f d)) → w x ≡ int_div_euclid (value f v) d
+pub floor_said : (f : Form) (d : ℤ) (x : ℕ) (v w : ℕ → ℤ) → pos 0 <ℤ d → value f w ≡ value f v → AllMeet w (step_facts x (def f d)) → w x ≡ int_div_euclid (value f v) d
 floor_said f d x v w above same h =
     let floor = div_below (value f v) d above in
     one_floor d (value f v) (w x) (int_div_euclid (value f v) d) above

@@ -1,9 +1,10 @@
-ghost use Rattle.std.specs.Prelude.{◌≡◌, ◌+◌, ◌<◌, ◌^◌, ℕ, ℤ, Ok, length, ◌↔◌, IsTrue, IfOk, OnOk};
+ghost use Rattle.std.specs.Prelude.{◌≡◌, ◌+◌, ◌<◌, ◌^◌, ◌++◌, ℕ, ℤ, Ok, length, ◌↔◌, IsTrue, IfOk, OnOk};
 ghost use Rattle.lin_proof.specs.Law.{Meets};
 ghost use Rattle.lin_proof.specs.Derivations.{Refutes, check_branch, check_derivation, check_ending, first_fault, lines_in, lines_of, lines_under};
 ghost use Rattle.lin_proof.specs.steps.Answers.{Gives};
 
 use crate::derivation::{Branch, Derivation, Ending};
+use crate::facts::Facts;
 use crate::steps::{Fault, case_row, is_contradiction, run};
 use lin_row::Row;
 use std::alloc::Global;
@@ -31,6 +32,23 @@ pub fn first_fault(
     requires { length facts.now + lines_of d.now < 2 ^ 32 }
     ensures { IfOk result (λ line. line ≡ first_fault facts.now vars d.now) }
 {
+    let facts = Facts {
+        first: &[],
+        later: facts,
+    };
+    first_fault_among(alloc, facts, vars, d)
+}
+
+/// The same over facts in two lists, neither of which is copied.
+pub fn first_fault_among(
+    alloc: Global,
+    facts: Facts<'_>,
+    vars: u32,
+    d: &Derivation,
+) -> Result<Option<u32>, Mem>
+    requires { lines_of d.now < 2 ^ 32 }
+    ensures { IfOk result (λ line. line ≡ first_fault (facts.entry.first.now ++ facts.entry.later.now) vars d.now) }
+{
     let mut known = List::new(alloc);
     match check(alloc, facts, vars, d, &mut known, 0) {
         Ok(_) => Ok(None),
@@ -43,14 +61,15 @@ pub fn first_fault(
 #[cycle(check)]
 fn check(
     alloc: Global,
-    facts: &[Row],
+    facts: Facts<'_>,
     vars: u32,
     d: &Derivation,
     known: &mut List<Row>,
     line: u32,
 ) -> Result<u32, Fault>
     requires { line + lines_of d.now < 2 ^ 32 }
-    ensures gives { Gives result (check_derivation facts.now vars d.now known.old line) }
+    ensures gives { let facts = facts.entry.first.now ++ facts.entry.later.now in
+        Gives result (check_derivation facts vars d.now known.old line) }
     ensures lines { IfOk result (λ next. next ≡ line + lines_of d.now) }
     ensures known { OnOk result (known.new ≡ known.old) }
 {
@@ -64,14 +83,15 @@ fn check(
 #[cycle(check)]
 fn check_end(
     alloc: Global,
-    facts: &[Row],
+    facts: Facts<'_>,
     vars: u32,
     end: &Ending,
     known: &mut List<Row>,
     line: u32,
 ) -> Result<u32, Fault>
     requires { line + lines_in end.now < 2 ^ 32 }
-    ensures gives { Gives result (check_ending facts.now vars end.now known.old line) }
+    ensures gives { let facts = facts.entry.first.now ++ facts.entry.later.now in
+        Gives result (check_ending facts vars end.now known.old line) }
     ensures lines { IfOk result (λ next. next ≡ line + lines_in end.now) }
     ensures known { OnOk result (known.new ≡ known.old) }
 {
@@ -85,14 +105,15 @@ fn check_end(
 #[cycle(check)]
 fn check_cases(
     alloc: Global,
-    facts: &[Row],
+    facts: Facts<'_>,
     vars: u32,
     branch: &Branch,
     known: &mut List<Row>,
     line: u32,
 ) -> Result<u32, Fault>
     requires { line + lines_under branch.now < 2 ^ 32 }
-    ensures gives { Gives result (check_branch facts.now vars branch.now known.old line) }
+    ensures gives { let facts = facts.entry.first.now ++ facts.entry.later.now in
+        Gives result (check_branch facts vars branch.now known.old line) }
     ensures lines { IfOk result (λ next. next ≡ line + lines_under branch.now) }
     ensures known { OnOk result (known.new ≡ known.old) }
 {

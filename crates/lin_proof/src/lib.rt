@@ -4,10 +4,12 @@
 mod check;
 mod count;
 mod derivation;
+mod facts;
 mod laws;
 mod steps;
 
-pub use check::{first_fault, refutes};
+pub use check::{first_fault, first_fault_among, refutes};
 pub use count::line_count;
 pub use derivation::{Answer, Branch, Derivation, Ending, Step};
+pub use facts::Facts;
 pub use laws::refutation_is_sound;

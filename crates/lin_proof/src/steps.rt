@@ -1,9 +1,10 @@
-ghost use Rattle.std.specs.Prelude.{◌≡◌, ◌+◌, ◌<◌, ◌^◌, Ok, length, take, IfOk, OnOk, MatchResult};
+ghost use Rattle.std.specs.Prelude.{◌≡◌, ◌+◌, ◌<◌, ◌^◌, ◌++◌, Ok, length, take, IfOk, OnOk, MatchResult};
 ghost use Rattle.lin_row.specs.Form.{checked_form, denied, plus};
 ghost use Rattle.lin_proof.specs.Derivations.{add_part, are_declared, case_form, cut_of, is_contradiction, last_of, run_steps, step_form, sum_from, zero_form};
 ghost use Rattle.lin_proof.specs.steps.Answers.{Fails};
 
 use crate::derivation::Step;
+use crate::facts::Facts;
 use lin_row::{Row, RowFault};
 use std::alloc::{AllocError, Global};
 use viz_base::{List, Mem};
@@ -100,14 +101,14 @@ fn cut_row(row: &Row, divisor: i128) -> Result<Option<Row>, Mem>
 /// The row that a step makes, if the step is right.
 fn step_row(
     alloc: Global,
-    facts: &[Row],
+    facts: Facts<'_>,
     known: &List<Row>,
     step: &Step,
 ) -> Result<Option<Row>, Mem>
-    ensures { IfOk result (λ row. row ≡ step_form facts.now known.now step.now) }
+    ensures { IfOk result (λ row. row ≡ step_form (facts.entry.first.now ++ facts.entry.later.now) known.now step.now) }
 {
     match step {
-        Step::Fact(number) => match facts.get(*number as usize) {
+        Step::Fact(number) => match facts.get(*number) {
             Some(row) => Ok(Some(row.clone()?)),
             None => Ok(None),
         },
@@ -122,15 +123,16 @@ fn step_row(
 /// Adds the rows of the steps to those known. Gives the next line's number, or that of the first wrong line.
 pub fn run(
     alloc: Global,
-    facts: &[Row],
+    facts: Facts<'_>,
     known: &mut List<Row>,
     line: u32,
     steps: &[Step],
 ) -> Result<u32, Fault>
     requires { line + length steps.now < 2 ^ 32 }
     ensures gives { MatchResult result
-        (λ next. run_steps facts.now known.old line steps.now ≡ Ok (known.new, next))
-        (λ e. Fails e (run_steps facts.now known.old line steps.now)) }
+        (λ next. run_steps (facts.entry.first.now ++ facts.entry.later.now) known.old line steps.now
+        ≡ Ok (known.new, next))
+        (λ e. Fails e (run_steps (facts.entry.first.now ++ facts.entry.later.now) known.old line steps.now)) }
     ensures lines { IfOk result (λ next. next ≡ line + length steps.now) }
     ensures kept { OnOk result (take (length known.old) known.new ≡ known.old) }
 {

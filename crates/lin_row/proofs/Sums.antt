@@ -12,7 +12,7 @@ above_lower : (x y : ℕ) (ts : Terms) → x < y → IsAbove y ts → IsAbove x 
 above_lower x y [] lt above = tt
 above_lower x y (t ∷ ts) lt above = (omega arith, above_lower x y ts lt above.1)
 
-IsAbove-put : (x y : ℕ) (c : ℤ) (ts : Terms) → x < y → IsAbove x ts → IsAbove x (put y c ts)
+pub IsAbove-put : (x y : ℕ) (c : ℤ) (ts : Terms) → x < y → IsAbove x ts → IsAbove x (put y c ts)
 IsAbove-put x y c ts lt above = elim (int_eq c (pos 0)) as (λ b. IsAbove x (cond b ts ((y, c) ∷ ts))) [ true ↦ above | false ↦ (lt, above) ]
 
 plus_term-past : (x : ℕ) (c : ℤ) (t : ℕ × ℤ) (ts : Terms) → t.0 < x → plus_term x c (t ∷ ts) ≡ t ∷ plus_term x c ts
@@ -54,7 +54,7 @@ IsAbove-plus_terms : (x : ℕ) (ts : Terms) (m : ℤ) (us : Terms) → IsAbove x
 IsAbove-plus_terms x ts m [] above others = above
 IsAbove-plus_terms x ts m (u ∷ us) above others = IsAbove-plus_term x u.0 (m *ℤ u.1) (plus_terms ts m us) others.0 (IsAbove-plus_terms x ts m us above others.1)
 
-IsCanonical-put : (x : ℕ) (c : ℤ) (ts : Terms) → IsAbove x ts → IsCanonical ts → IsCanonical (put x c ts)
+pub IsCanonical-put : (x : ℕ) (c : ℤ) (ts : Terms) → IsAbove x ts → IsCanonical ts → IsCanonical (put x c ts)
 IsCanonical-put x c ts above h =
     let tells = Decides-int_eq c (pos 0) in
     canonical_by (int_eq c (pos 0)) ts x c above h tells.1

@@ -22,7 +22,7 @@ value_by : (b : Bool) (x : ℕ) (c : ℤ) (ts : Terms) (v : ℕ → ℤ) → (b 
 value_by true x c ts v h = rw (h refl) (omega (arith, ints))
 value_by false x c ts v h = refl
 
-terms_value-put : (x : ℕ) (c : ℤ) (ts : Terms) (v : ℕ → ℤ) → terms_value (put x c ts) v ≡ c *ℤ v x +ℤ terms_value ts v
+pub terms_value-put : (x : ℕ) (c : ℤ) (ts : Terms) (v : ℕ → ℤ) → terms_value (put x c ts) v ≡ c *ℤ v x +ℤ terms_value ts v
 terms_value-put x c ts v = value_by (int_eq c (pos 0)) x c ts v (Decides-int_eq c (pos 0)).0
 
 terms_value-plus_term : (x : ℕ) (c : ℤ) (ts : Terms) (v : ℕ → ℤ) → terms_value (plus_term x c ts) v ≡ c *ℤ v x +ℤ terms_value ts v

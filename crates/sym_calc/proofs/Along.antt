@@ -1,0 +1,119 @@
+-- The facts and floors of a certificate's path.
+use Rattle.std.proofs.Common.{◌≡◌, ℕ, zero, suc, ◌+◌, ◌<◌, ◌≤◌, ◌^◌, ℤ, pos, negsuc, neg_ℤ, ◌<ℤ◌, true, List, [], ◌∷◌, ◌++◌, length, refl, sym, ◌∙◌, ap, subst, arith, length-append, ◌↔◌, IsTrue}
+use Rattle.std.proofs.lemmas.Bool.{and_parts}
+use Rattle.viz_base.specs.declared.worlds.World.{World}
+use Rattle.viz_base.specs.declared.worlds.Rect.{Rect}
+use Rattle.logic_semantics.specs.Ranges.{IsInRange}
+use Rattle.lin_row.specs.Form.{Form, denied}
+use Rattle.lin_proof.specs.Derivations.{are_declared}
+use Rattle.cert_path.specs.Paths.{def, first, second, Path as Steps, variables, with_floor, values_at, values_along, IsOn, AreSound}
+use Rattle.cert_path.specs.Facts.{row_of, range_facts, step_facts, facts}
+use Rattle.cert_path.specs.Laws.{AreAlong}
+use Rattle.cert_path.proofs.Values.{declared_local, denied_local, row_local, axes_along}
+use Rattle.cert_path.proofs.PathFacts.{facts_hold, facts_say_all, to_meets, from_meets}
+use Rattle.sym_calc.specs.declared.floors.Floor.{Floor}
+use Rattle.sym_calc.specs.Floors.{floors_of, values_by}
+use Rattle.sym_calc.specs.Knowledge.{are_met, AreKnown}
+use Rattle.sym_calc.specs.Laws.{KeptAreThoseOfThePath, SoundIsKnown}
+use Rattle.sym_calc.proofs.Knowing.{met_all, all_met, are_met-append, Declared, declared_append, declared_row, known_floor, values_by-push}
+
+-- ---- the values along a path
+
+pub variables_of : (steps : Steps) → variables steps ≡ length (floors_of steps) + 2
+variables_of [] = omega arith
+variables_of (def row d ∷ outer) =
+    let above = variables_of outer in
+    omega (arith, above, length-append (floors_of outer) (record { row = row; by = d } ∷ []))
+variables_of (first row ∷ outer) = variables_of outer
+variables_of (second row ∷ outer) = variables_of outer
+
+pub values_by_along : (steps : Steps) (world : World) → values_by (floors_of steps) world ≡ values_along world steps
+values_by_along [] world = refl
+values_by_along (def row d ∷ outer) world =
+    let above = values_by_along outer world in
+    let x = variables_of outer in
+    values_by-push (floors_of outer) (record { row = row; by = d }) world ∙ (λ i. with_floor row d (above i) (sym x i))
+values_by_along (first row ∷ outer) world = values_by_along outer world
+values_by_along (second row ∷ outer) world = values_by_along outer world
+
+pub kept_are_those : KeptAreThoseOfThePath
+kept_are_those range steps sound world = (forth, back)
+  where
+    v : ℕ → ℤ
+    v = values_by (floors_of steps) world
+
+    is : v ≡ values_along world steps
+    is = values_by_along steps world
+
+    axis : (a : AreAlong range steps v) → (x : ℕ) → x < 2 → values_at a.world x ≡ values_at world x
+    axis a x less =
+        sym (axes_along a.world steps x less)
+        ∙ sym (a.values x (let n = variables_of steps in omega (arith, n, less)))
+        ∙ ap (λ g. g x) is
+        ∙ axes_along world steps x less
+
+    number : (m n : ℕ) → pos m ≡ pos n → m ≡ n
+    number m n e = cc
+
+    world_is : (a : AreAlong range steps v) → a.world ≡ world
+    world_is a =
+        let w = number a.world.w world.w (axis a 0 (omega arith)) in
+        let s = number a.world.s world.s (axis a 1 (omega arith)) in
+        λ i. record { w = w i; s = s i }
+
+    forth : IsTrue (are_met (facts range steps) (values_by (floors_of steps) world)) → IsInRange range world × IsOn steps world
+    forth met =
+        let a = facts_say_all range steps sound v (to_meets v (facts range steps) (met_all v (facts range steps) met)) in
+        subst (λ w. IsInRange range w × IsOn steps w) (world_is a) (a.in_range, a.on_path)
+
+    back : IsInRange range world × IsOn steps world → IsTrue (are_met (facts range steps) (values_by (floors_of steps) world))
+    back h =
+        let hold = facts_hold range steps sound world h.0 h.1 in
+        ap (are_met (facts range steps)) is ∙ all_met (values_along world steps) (facts range steps) (from_meets (values_along world steps) (facts range steps) hold)
+
+-- ---- what is known along a path
+
+known_row : (fs : List Form) (named : List Floor) (f : Form) → AreKnown fs named → Declared (length named + 2) (f ∷ []) → AreKnown (fs ++ f ∷ []) named
+known_row fs named f known local = record {
+  few = known.few;
+  declared = declared_append (length named + 2) fs (f ∷ []) known.declared local;
+  floors = λ v met n g at. known.floors v (both v met) n g at;
+}
+  where
+    both : (v : ℕ → ℤ) → are_met (fs ++ f ∷ []) v ≡ true → are_met fs v ≡ true
+    both v met = (and_parts (are_met fs v) (are_met (f ∷ []) v) (sym (are_met-append fs (f ∷ []) v) ∙ met)).0
+
+pub known_range : (range : Rect) → AreKnown (range_facts range) []
+known_range range = record {
+  few = omega arith;
+  declared = declared_append 2 (row_of (neg_ℤ (pos range.wl)) (pos 1) 0 ∷ row_of (pos range.wh) (negsuc 0) 0 ∷ []) (row_of (neg_ℤ (pos range.sl)) (pos 1) 1 ∷ row_of (pos range.sh) (negsuc 0) 1 ∷ [])
+      (declared_append 2 (row_of (neg_ℤ (pos range.wl)) (pos 1) 0 ∷ []) (row_of (pos range.wh) (negsuc 0) 0 ∷ [])
+      (declared_row 2 (row_of (neg_ℤ (pos range.wl)) (pos 1) 0) (row_local 2 (neg_ℤ (pos range.wl)) (pos 1) 0 (omega arith)))
+      (declared_row 2 (row_of (pos range.wh) (negsuc 0) 0) (row_local 2 (pos range.wh) (negsuc 0) 0 (omega arith))))
+      (declared_append 2 (row_of (neg_ℤ (pos range.sl)) (pos 1) 1 ∷ []) (row_of (pos range.sh) (negsuc 0) 1 ∷ [])
+      (declared_row 2 (row_of (neg_ℤ (pos range.sl)) (pos 1) 1) (row_local 2 (neg_ℤ (pos range.sl)) (pos 1) 1 (omega arith)))
+      (declared_row 2 (row_of (pos range.sh) (negsuc 0) 1) (row_local 2 (pos range.sh) (negsuc 0) 1 (omega arith))));
+  floors = λ v met n f at. absurd (cc);
+}
+
+pub sound_is_known : SoundIsKnown
+sound_is_known range [] sound few = known_range range
+sound_is_known range (def row d ∷ outer) sound few =
+    let x = variables_of outer in
+    let above = sound_is_known range outer sound.1 (omega arith) in
+    let floor : Floor = record { row = row; by = d } in
+    let room : length (floors_of outer) + 3 < 2 ^ 32 = omega (arith, x, few) in
+    let fits = subst (λ n. IsTrue (are_declared n row.terms)) x sound.0.0 in
+    subst (λ n. AreKnown (facts range outer ++ step_facts n (def row d)) (floors_of outer ++ floor ∷ [])) (sym x)
+    (known_floor (facts range outer) (floors_of outer) floor above (fits, sound.0.1) room)
+sound_is_known range (first row ∷ outer) sound few =
+    let x = variables_of outer in
+    let above = sound_is_known range outer sound.1 few in
+    let fits = subst (λ n. IsTrue (are_declared n row.terms)) x sound.0 in
+    known_row (facts range outer) (floors_of outer) row above (declared_row (length (floors_of outer) + 2) row (declared_local (length (floors_of outer) + 2) row fits))
+sound_is_known range (second row ∷ outer) sound few =
+    let x = variables_of outer in
+    let above = sound_is_known range outer sound.1 few in
+    let fits = subst (λ n. IsTrue (are_declared n row.terms)) x sound.0 in
+    let n = length (floors_of outer) + 2 in
+    known_row (facts range outer) (floors_of outer) (denied row) above (declared_row n (denied row) (denied_local n row (declared_local n row fits)))

@@ -1,0 +1,6 @@
+use Rattle.std.proofs.Common.{◌≡◌, take}
+use Rattle.sym_calc.specs.Division.{remainder_terms}
+use Rattle.sym_calc.proofs.divisions.remainder_terms.Given as goal
+
+abbrev pub invariant-loop-term : goal.invariant-loop-term
+invariant-loop-term l = l.remainders ≡ remainder_terms l.by (take l.term-index l.terms)

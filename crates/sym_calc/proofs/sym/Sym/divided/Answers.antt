@@ -1,0 +1,34 @@
+use Rattle.std.proofs.Common.{◌≡◌, pos, ap, sym, ◌∙◌, refl, FitsSigned, to_z-of_z}
+use Rattle.std.specs.Int.{w128}
+use Rattle.std.proofs.lemmas.Result.{IfOk-weaker}
+use Rattle.lin_row.specs.Form.{Form, value, plus}
+use Rattle.cert_path.specs.Facts.{row_of}
+use Rattle.sym_calc.specs.Knowledge.{values_of}
+use Rattle.sym_calc.proofs.States.{grows_then, counted_is}
+use Rattle.sym_calc.proofs.Quotients.{alone_by, with_by}
+use Rattle.sym_calc.proofs.sym.Sym.divided.Goals as goal
+
+pub returns-then-is_empty-clause-value : goal.returns-then-is_empty-clause-value
+returns-then-is_empty-clause-value c =
+    let fits : FitsSigned w128 c.args.by = c.ranges.by in
+    let whole = simp to_z-of_z at c.in_ok-whole.ensures in
+    let rest = simp to_z-of_z at c.in_ok-rest.ensures in
+    let none = c.if-is_empty.ensures.0 refl in
+    λ e met. alone_by c.args.by c.args.row.now c.in_ok-whole.whole c.in_ok-rest.rest (values_of e) c.requires whole rest
+    (ap (λ (g : Form). g.terms) (sym c.rest.view_is) ∙ none)
+
+pub returns-clause-grows : goal.returns-clause-grows
+returns-clause-grows c = grows_then _ _ _ c.in_ok-variable.ensures.grows c.counted.ensures.grows
+
+pub returns-clause-value : goal.returns-clause-value
+returns-clause-value c =
+    let fits : FitsSigned w128 c.args.by = c.ranges.by in
+    let whole = simp to_z-of_z at c.in_ok-whole.ensures in
+    let rest = simp to_z-of_z at c.in_ok-rest.ensures in
+    let floor = simp to_z-of_z at c.in_ok-variable.ensures.value in
+    let x = c.in_ok-variable.variable in
+    let exact = plus c.in_ok-whole.whole (pos 1) (row_of (pos 0) (pos 1) x) in
+    IfOk-weaker c.counted.result (λ r. r ≡ exact) _
+    (λ r is e met. ap (λ g. value g (values_of e)) is
+    ∙ with_by c.args.by c.args.row.now c.in_ok-whole.whole c.in_ok-rest.rest x (values_of e) c.requires whole rest (floor e (c.counted.ensures.grows.closes e met)))
+    (counted_is c.with_variable-sum.result exact c.counted.result c.with_variable-sum.ensures c.counted.ensures.row)

@@ -1,0 +1,31 @@
+use Rattle.std.proofs.Common.{◌≡◌, negsuc, rules, refl, sym, ap, ◌∙◌, subst, FitsSigned, to_z-of_z}
+use Rattle.std.specs.Int.{w128}
+use Rattle.std.specs.Int.RustNames.{int_le}
+use Rattle.std.specs.Prelude.{pos}
+use Rattle.std.proofs.lemmas.Result.{IfOk-weaker}
+use Rattle.lin_row.specs.Form.{Form, plus}
+use Rattle.lin_row.specs.Exact.{IsExact}
+use Rattle.sym_calc.specs.Knowledge.{values_of}
+use Rattle.sym_calc.proofs.Numbers.{constant_le, row_le}
+use Rattle.sym_calc.proofs.States.{grows_then}
+use Rattle.sym_calc.proofs.sym.SymCalc.le.Goals as goal
+
+pub returns-then-is_empty-clause-value : goal.returns-then-is_empty-clause-value
+returns-then-is_empty-clause-value c =
+    let exact = plus c.args.b.now (negsuc 0) c.args.a.now in
+    let d = c.in_ok-difference.difference in
+    let is : d ≡ exact = (subst (λ a. IsExact a exact) c.in_ok-difference.ensures.row c.add_scaled-difference.ensures).0 in
+    let none : d.terms ≡ _ = ap (λ (f : Form). f.terms) (sym c.difference.view_is) ∙ c.if-is_empty.ensures.0 refl in
+    let number : c.difference.inside.k ≡ d.k = ap (λ (f : Form). f.k) c.difference.view_is in
+    let fits : FitsSigned w128 c.difference.inside.k = search rules in
+    λ e met. simp to_z-of_z (ap (int_le (pos 0)) number ∙ constant_le c.args.a.now c.args.b.now d (values_of e) is none)
+
+pub returns-clause-grows : goal.returns-clause-grows
+returns-clause-grows c = grows_then _ _ _ c.in_ok-difference.ensures.grows c.answered.ensures.grows
+
+pub returns-clause-value : goal.returns-clause-value
+returns-clause-value c =
+    let exact = plus c.args.b.now (negsuc 0) c.args.a.now in
+    let d = c.in_ok-difference.difference in
+    let is : d ≡ exact = (subst (λ a. IsExact a exact) c.in_ok-difference.ensures.row c.add_scaled-difference.ensures).0 in
+    IfOk-weaker c.answered.result _ _ (λ r h e met. h e met ∙ row_le c.args.a.now c.args.b.now d (values_of e) is) c.answered.ensures.value

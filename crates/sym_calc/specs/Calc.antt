@@ -1,0 +1,33 @@
+-- What a symbolic calc is for its contracts.
+use Rattle.std.specs.Prelude.{◌≡◌, ◌+◌, List, ◌++◌, length, Option}
+use Rattle.viz_calc.specs.State.{State}
+use Rattle.lin_row.specs.Form.{Form}
+use Rattle.sym_calc.specs.declared.floors.Floor.{Floor}
+use Rattle.sym_calc.specs.declared.sym.Sym.{Sym}
+use Rattle.sym_calc.specs.declared.troubles.Trouble.{Trouble}
+use Rattle.sym_calc.specs.Knowledge.{sym_state}
+use Rattle.sym_calc.specs.Troubles.{trouble_at}
+
+-- the facts of its path, and behind them those of its own floors
+abbrev pub facts_of : Sym → List Form
+facts_of s = s.path.now.facts ++ s.rows
+
+-- the floors of its path, and behind them its own
+abbrev pub named_of : Sym → List Floor
+named_of s = s.path.now.floors ++ s.floors
+
+abbrev pub state_of : Sym → State
+state_of s = sym_state (facts_of s) (named_of s) s.coeffs s.opens
+
+-- nothing of its path, its tape, its own facts and floors and its trouble is another
+pub record KeepsRest (s t : Sym) : Type 0 where
+  pub path : t.path.now ≡ s.path.now
+  pub rows : t.rows ≡ s.rows
+  pub floors : t.floors ≡ s.floors
+  pub tape : t.tape.now ≡ s.tape.now
+  pub taken : t.taken ≡ s.taken
+  pub trouble : t.trouble ≡ s.trouble
+
+-- why the next answer leaves a row open, if it does
+abbrev pub next_trouble : Sym → Form → Option Trouble
+next_trouble s row = trouble_at (facts_of s) (length (named_of s) + 2) s.tape.now s.taken row

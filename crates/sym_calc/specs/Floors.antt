@@ -1,0 +1,27 @@
+-- Floors: rows divided by numbers and rounded down, each named by a variable.
+use Rattle.std.specs.Prelude.{ℕ, ◌+◌, ℤ, Bool, ◌&&◌, List, [], ◌∷◌, ◌++◌}
+use Rattle.std.specs.Ordering.{int_eq}
+use Rattle.viz_base.specs.declared.worlds.World.{World}
+use Rattle.cert_path.specs.Paths.{def, first, second, Path as Steps, with_floor, values_at}
+use Rattle.cert_path.specs.Shapes.{same_row}
+use Rattle.sym_calc.specs.declared.floors.Floor.{Floor}
+
+-- whether two floors are of the same row by the same number
+abbrev pub same_floor : Floor → Floor → Bool
+same_floor f g = same_row f.row g.row && int_eq f.by g.by
+
+-- the values v, and for the variables from x on those of the floors, one after another
+abbrev pub with_floors : List Floor → ℕ → (ℕ → ℤ) → ℕ → ℤ
+with_floors [] x v = v
+with_floors (f ∷ fs) x v = with_floors fs (x + 1) (with_floor f.row f.by v x)
+
+-- what the variables are at a world: w, s and then the floors
+abbrev pub values_by : List Floor → World → ℕ → ℤ
+values_by floors world = with_floors floors 2 (values_at world)
+
+-- the floors that the defs of a path name, in the order of their variables
+abbrev pub floors_of : Steps → List Floor
+floors_of [] = []
+floors_of (def row d ∷ outer) = floors_of outer ++ record { row = row; by = d } ∷ []
+floors_of (first row ∷ outer) = floors_of outer
+floors_of (second row ∷ outer) = floors_of outer

@@ -1,0 +1,45 @@
+-- What a symbolic calc knows: facts, each a row that is at least 0, and floors.
+use Rattle.std.specs.Prelude.{◌≡◌, ℕ, ◌+◌, ◌<◌, ◌^◌, ℤ, pos, Bool, true, false, IsTrue, List, length, Some, slice_get}
+use Rattle.std.specs.List.{list_all}
+use Rattle.std.specs.Int.{int_div_euclid}
+use Rattle.std.specs.Int.RustNames.{int_le}
+use Rattle.viz_calc.specs.World.{Reading}
+use Rattle.viz_calc.specs.State.{State}
+use Rattle.lin_row.specs.Form.{Form, value, denied}
+use Rattle.cert_path.specs.Paths.{with_value}
+use Rattle.sym_calc.specs.declared.floors.Floor.{Floor}
+use Rattle.sym_calc.specs.Floors.{values_by}
+
+-- what the variables are at a reading: w and s are those of its world, and all others are its terms
+abbrev pub values_of : Reading → ℕ → ℤ
+values_of e = with_value (with_value e.terms 0 (pos e.world.w)) 1 (pos e.world.s)
+
+-- what a number is at a reading
+abbrev pub number_at : Form → Reading → ℤ
+number_at n e = value n (values_of e)
+
+-- whether each fact is at least 0
+abbrev pub are_met : List Form → (ℕ → ℤ) → Bool
+are_met facts v = list_all (λ f. int_le (pos 0) (value f v)) facts
+
+-- A reading is open where it meets the facts. Kept are the worlds whose values meet them.
+abbrev pub sym_state : List Form → List Floor → ℕ → ℕ → State
+sym_state facts floors coeffs opens = record {
+  is_open = λ e. are_met facts (values_of e);
+  lean = false;
+  coeffs = coeffs;
+  opens = opens;
+  kept = record { worlds = λ world. are_met facts (values_by floors world); coeffs = 0; opens = 0 };
+}
+
+-- The facts name no variable from n on, and say of each floor what it is.
+pub record AreKnown (facts : List Form) (named : List Floor) : Type 0 where
+  pub few : length named + 2 < 2 ^ 32
+  pub declared : (v w : ℕ → ℤ) → ((x : ℕ) → x < length named + 2 → v x ≡ w x) → are_met facts v ≡ are_met facts w
+  pub floors : (v : ℕ → ℤ) → IsTrue (are_met facts v) → (n : ℕ) (f : Floor) → slice_get named n ≡ Some f
+      → v (n + 2) ≡ int_div_euclid (value f.row v) f.by
+
+-- what is at least 0 where an answer on a row is wrong: for a `yes` the row's denial, and for a `no` the row
+abbrev pub contrary : Bool → Form → Form
+contrary true row = denied row
+contrary false row = row

@@ -1,0 +1,9 @@
+pub mod Calc
+pub mod Division
+pub mod Floors
+pub mod Given
+pub mod Kept
+pub mod Knowledge
+pub mod Laws
+pub mod Same
+pub mod Troubles

@@ -1,0 +1,21 @@
+//! Symbolic arithmetic: numbers that are linear forms over the width, the size and floors, compared by the answers of
+//! a certificate, each of which is proved by its derivation.
+#![tactic(auto)]
+
+mod divisions;
+mod facts;
+mod floors;
+mod laws;
+mod paths;
+mod sym;
+mod troubles;
+
+pub use divisions::{quotient, remainder};
+pub use floors::{Floor, Floors, same_row};
+pub use laws::{kept_worlds_are_those_of_the_path, sound_paths_are_known, sym_keeps_its_worlds};
+pub use paths::Path;
+pub use sym::Sym;
+pub use troubles::Trouble;
+
+#[cfg(test)]
+mod tests;

@@ -1,0 +1,94 @@
+ghost use Rattle.std.specs.Prelude.{◌≡◌, ◌+◌, ◌<ℤ◌, ◌++◌, [], ◌∷◌, false, length, pos, negsuc, neg_ℤ, take, IfOk, OnErr, OnOk};
+ghost use Rattle.std.specs.List.{list_any};
+ghost use Rattle.lin_row.specs.Form.{denied};
+ghost use Rattle.cert_path.specs.Paths.{def};
+ghost use Rattle.cert_path.specs.Facts.{range_facts, row_of, step_facts};
+ghost use Rattle.sym_calc.specs.Floors.{same_floor};
+ghost use Rattle.sym_calc.specs.Knowledge.{AreKnown};
+
+use crate::facts::{add_both, add_floor};
+use crate::floors::{Floor, Floors};
+use lin_row::{Row, RowFault};
+use std::alloc::{AllocError, Global};
+use viz_base::{List, Rect};
+
+/// What holds on the way to a node of a certificate.
+#[derive(Drop)]
+pub struct Path {
+    /// Rows that are at least 0, numbered from 0.
+    pub facts: List<Row>,
+    /// The floors that are named, numbered from 2 as variables.
+    pub floors: Floors,
+}
+
+impl Path {
+    /// The path to the root: the facts of the range.
+    pub fn new(alloc: Global, range: Rect) -> Result<Self, AllocError>
+        ensures facts { IfOk result (λ path. path.facts ≡ range_facts range) }
+        ensures floors { IfOk result (λ path. path.floors ≡ []) }
+        ensures known { IfOk result (λ path. AreKnown path.facts path.floors) }
+    {
+        let mut facts = List::new(alloc);
+        add_side(&mut facts, 0, range.wl, range.wh)?;
+        add_side(&mut facts, 1, range.sl, range.sh)?;
+        Ok(Path {
+            facts,
+            floors: Floors::new(alloc),
+        })
+    }
+
+    /// Goes below a def, whose floor is new: its number is the next variable. An `Err` leaves the path as it was.
+    /// `Coeff` where a number of a fact is outside `i128`.
+    pub fn define(&mut self, floor: Floor, variable: u32) -> Result<(), RowFault>
+        requires above { pos 0 <ℤ floor.by }
+        requires new { list_any (same_floor floor) self.old.floors ≡ false }
+        requires next { variable ≡ length self.old.floors + 2 }
+        ensures facts { OnOk result (self.new.facts ≡ self.old.facts ++ step_facts variable (def floor.row floor.by)) }
+        ensures floors { OnOk result (self.new.floors ≡ self.old.floors ++ floor ∷ []) }
+        ensures same_facts { OnErr result (self.new.facts ≡ self.old.facts) }
+        ensures same_floors { OnErr result (self.new.floors ≡ self.old.floors) }
+    {
+        add_floor(&mut self.facts, &mut self.floors, floor, variable)
+    }
+
+    /// Goes to the first child of a split, where its row is at least 0. An `Err` leaves the path as it was.
+    pub fn enter_first(&mut self, row: &Row) -> Result<(), AllocError>
+        ensures facts { OnOk result (self.new.facts ≡ self.old.facts ++ row.now ∷ []) }
+        ensures same { OnErr result (self.new.facts ≡ self.old.facts) }
+        ensures floors { self.new.floors ≡ self.old.floors }
+    {
+        self.facts.push(row.clone()?)
+    }
+
+    /// Goes to the second child of a split, where its row is below 0. An `Err` leaves the path as it was.
+    /// `Coeff` where a number of the row's denial is outside `i128`.
+    pub fn enter_second(&mut self, row: &Row) -> Result<(), RowFault>
+        ensures facts { OnOk result (self.new.facts ≡ self.old.facts ++ denied row.now ∷ []) }
+        ensures same { OnErr result (self.new.facts ≡ self.old.facts) }
+        ensures floors { self.new.floors ≡ self.old.floors }
+    {
+        let other = row.negate()?;
+        self.facts.push(other)?;
+        Ok(())
+    }
+
+    /// Goes back to where there were so many facts and floors.
+    pub fn leave(&mut self, facts: usize, floors: usize)
+        ensures facts { self.new.facts ≡ take facts self.old.facts }
+        ensures floors { self.new.floors ≡ take floors self.old.floors }
+    {
+        self.facts.truncate(facts);
+        self.floors.truncate(floors);
+    }
+}
+
+/// Adds that a variable is from the least number to the most.
+fn add_side(facts: &mut List<Row>, variable: u32, least: u32, most: u32) -> Result<(), AllocError>
+    ensures { OnOk result (facts.new ≡ facts.old
+        ++ row_of (neg_ℤ (pos least)) (pos 1) variable ∷ row_of (pos most) (negsuc 0) variable ∷ []) }
+{
+    let alloc = facts.allocator();
+    let low = Row::of_term(alloc, -i128::from(least), variable, 1)?;
+    let high = Row::of_term(alloc, i128::from(most), variable, -1)?;
+    add_both(facts, low, high)
+}

@@ -1,0 +1,441 @@
+ghost use Rattle.std.specs.Prelude.{◌≡◌, ◌≢◌, ◌≤◌, ◌<◌, ◌^◌, ◌+◌, ◌-◌, ◌<ℤ◌, ◌++◌, [], ◌∷◌, false, true, Bool, None, Some, is_some, nat_lt, length, pos, negsuc, ◌-ℤ◌, Ok, ⊤, IfOk, IfErr, IsTrue, OnOk, OnErr};
+ghost use Rattle.std.specs.List.{list_any};
+ghost use Rattle.std.specs.Option.{option_copied};
+ghost use Rattle.std.specs.Int.{int_div_euclid};
+ghost use Rattle.std.specs.Int.RustNames.{int_le};
+ghost use Rattle.lin_row.specs.Form.{Form, denied, form_fits, plus, value};
+ghost use Rattle.lin_row.specs.Exact.{IsExact};
+ghost use Rattle.lin_proof.specs.Derivations.{are_declared, first_fault, lines_of};
+ghost use Rattle.cert_path.specs.Facts.{row_of};
+ghost use Rattle.viz_calc.specs.World.{Reading};
+ghost use Rattle.sym_calc.specs.Floors.{same_floor};
+ghost use Rattle.sym_calc.specs.Given.{IsGiven};
+ghost use Rattle.sym_calc.specs.Knowledge.{values_of};
+ghost use Rattle.sym_calc.specs.Knowledge.{AreKnown, contrary, sym_state};
+ghost use Rattle.viz_calc.specs.State.{Rose};
+
+use crate::divisions::{quotient, remainder};
+use crate::facts::add_floor;
+use crate::floors::{Floor, Floors, same_row};
+use crate::paths::Path;
+use crate::troubles::Trouble;
+use lin_proof::{Answer, Derivation, Facts, first_fault_among, line_count};
+use lin_row::{Row, RowFault};
+use viz_base::{List, Mem};
+use viz_calc::{Calc, Halt};
+
+/// Arithmetic at all worlds of a path at once. A number is a row over the path's variables and floors of its own; a
+/// comparison is answered by the next answer of a tape, whose derivation refutes the contrary.
+#[derive(Drop)]
+pub struct Sym<'a> {
+    path: &'a Path,
+    tape: &'a [Answer],
+    taken: usize,
+    rows: List<Row>,
+    floors: Floors,
+    trouble: Option<Trouble>,
+    coeffs: u64,
+    opens: u64,
+    ghost known: { AreKnown (path.now.facts ++ rows) (path.now.floors ++ floors) },
+    ghost told: { is_some trouble ≡ nat_lt 0 opens },
+}
+
+/// A count that is one greater, or stands at its end.
+fn raised(count: u64) -> u64
+    ensures least { count ≤ result }
+    ensures rose { Rose count result }
+{
+    count.saturating_add(1)
+}
+
+impl<'a> Sym<'a> {
+    ghost use Rattle.viz_calc.specs.State.{Grows, KeepsWorlds, Cause, IsDecided};
+    ghost use Rattle.viz_calc.specs.declared.calc.Halt.TheVariants.{Open};
+    ghost use Rattle.sym_calc.specs.Troubles.{first_of};
+    ghost use Rattle.sym_calc.specs.Calc.{facts_of, named_of, state_of, next_trouble, KeepsRest};
+
+    /// The calc of a path and of a tape of answers, none of which is taken yet. Takes no memory.
+    pub fn new(path: &'a Path, tape: &'a [Answer]) -> Self
+        requires { AreKnown path.now.facts path.now.floors }
+        ensures path { result.path.now ≡ path.now }
+        ensures tape { result.tape.now ≡ tape.now }
+        ensures state { state_of result ≡ sym_state path.now.facts path.now.floors 0 0 }
+        ensures taken { result.taken ≡ 0 }
+        ensures trouble { result.trouble ≡ None }
+    {
+        let alloc = path.facts.allocator();
+        Sym {
+            path,
+            tape,
+            taken: 0,
+            rows: List::new(alloc),
+            floors: Floors::new(alloc),
+            trouble: None,
+            coeffs: 0,
+            opens: 0,
+        }
+    }
+
+    /// The row, or why there is none; where a number is outside `i128`, this is counted.
+    fn counted(&mut self, answer: Result<Row, RowFault>) -> Result<Row, Halt>
+        ensures grows { Grows (state_of self.old) (state_of self.new) }
+        ensures worlds { KeepsWorlds (state_of self.old) (state_of self.new) }
+        ensures row { IfOk result (λ row. answer ≡ Ok row) }
+        ensures exact { (exact : Form) → IsExact answer exact → IsGiven result exact }
+        ensures rest { KeepsRest self.old self.new }
+        ensures cause { IfErr result (Cause (state_of self.old) (state_of self.new) ⊤) }
+        ensures decided { IsDecided result }
+    {
+        match answer {
+            Ok(row) => Ok(row),
+            Err(RowFault::Mem) => Err(Halt::Mem),
+            Err(RowFault::Coeff) => {
+                self.coeffs = raised(self.coeffs);
+                Err(Halt::Coeff)
+            }
+        }
+    }
+
+    /// The variable of a floor by a number above 0: that of the same floor on the path or behind it, or a new one.
+    fn variable_of(&mut self, floor: Floor) -> Result<u32, Halt>
+        requires { pos 0 <ℤ floor.by }
+        ensures grows { Grows (state_of self.old) (state_of self.new) }
+        ensures worlds { KeepsWorlds (state_of self.old) (state_of self.new) }
+        ensures value { IfOk result (λ x. (e : Reading) → IsTrue ((state_of self.new).is_open e)
+            → values_of e x ≡ int_div_euclid (value floor.row (values_of e)) floor.by) }
+        ensures cause { IfErr result (Cause (state_of self.old) (state_of self.new) ⊤) }
+        ensures decided { IsDecided result }
+    {
+        if let Some(place) = self.path.floors.place_of(&floor) {
+            return Ok(place as u32 + 2);
+        }
+        if let Some(place) = self.floors.place_of(&floor) {
+            return Ok((self.path.floors.len() + place) as u32 + 2);
+        }
+        self.name(floor)
+    }
+
+    /// The new variable of a floor that has none yet.
+    fn name(&mut self, floor: Floor) -> Result<u32, Halt>
+        requires above { pos 0 <ℤ floor.by }
+        requires new { list_any (same_floor floor) self.old.floors ≡ false }
+        ensures grows { Grows (state_of self.old) (state_of self.new) }
+        ensures worlds { KeepsWorlds (state_of self.old) (state_of self.new) }
+        ensures value { IfOk result (λ x. (e : Reading) → IsTrue ((state_of self.new).is_open e)
+            → values_of e x ≡ int_div_euclid (value floor.row (values_of e)) floor.by) }
+        ensures cause { IfErr result (Cause (state_of self.old) (state_of self.new) ⊤) }
+        ensures decided { IsDecided result }
+    {
+        let variable = self.variables();
+        if variable == u32::MAX {
+            return Err(Halt::Mem);
+        }
+        if !is_declared(&floor.row, variable) {
+            self.coeffs = raised(self.coeffs);
+            return Err(Halt::Coeff);
+        }
+        match add_floor(&mut self.rows, &mut self.floors, floor, variable) {
+            Ok(()) => Ok(variable),
+            Err(RowFault::Mem) => Err(Halt::Mem),
+            Err(RowFault::Coeff) => {
+                self.coeffs = raised(self.coeffs);
+                Err(Halt::Coeff)
+            }
+        }
+    }
+
+    /// How many variables there are.
+    fn variables(&self) -> u32
+        ensures { result ≡ length (self.now.path.now.floors ++ self.now.floors) + 2 }
+    {
+        (self.path.floors.len() + self.floors.len()) as u32 + 2
+    }
+
+    /// A row above 0, divided by a number and rounded down.
+    fn divided(&mut self, row: &Row, by: i128) -> Result<Row, Halt>
+        requires { pos 0 <ℤ by }
+        ensures grows { Grows (state_of self.old) (state_of self.new) }
+        ensures worlds { KeepsWorlds (state_of self.old) (state_of self.new) }
+        ensures value { IfOk result (λ r. (e : Reading) → IsTrue ((state_of self.new).is_open e)
+            → value r (values_of e) ≡ int_div_euclid (value row.now (values_of e)) by) }
+        ensures cause { IfErr result (Cause (state_of self.old) (state_of self.new) ⊤) }
+        ensures decided { IsDecided result }
+    {
+        let whole = quotient(row, by)?;
+        let rest = remainder(row, by)?;
+        if rest.terms.is_empty() {
+            return Ok(whole);
+        }
+        let variable = self.variable_of(Floor { row: rest, by })?;
+        let sum = with_variable(&whole, variable);
+        self.counted(sum)
+    }
+
+    /// Whether a row with variables is at least 0, by the next answer of the tape.
+    fn answered(&mut self, row: Row) -> Result<bool, Halt>
+        ensures grows { Grows (state_of self.old) (state_of self.new) }
+        ensures value { IfOk result (λ yes. (e : Reading) → IsTrue ((state_of self.new).is_open e)
+            → yes ≡ int_le (pos 0) (value row (values_of e))) }
+        ensures cause { IfErr result (Cause (state_of self.old) (state_of self.new) ⊤) }
+        ensures answer { IfOk result (λ yes. next_trouble self.old row ≡ None) }
+        ensures taken { OnOk result (self.new.taken ≡ self.old.taken + 1) }
+        ensures opened { result ≡ Err Open → is_some (next_trouble self.old row) ≡ true }
+        ensures trouble { result ≡ Err Open → self.new.trouble ≡ first_of self.old.trouble (next_trouble self.old row) }
+    {
+        let tape = self.tape;
+        let Some(answer) = tape.get(self.taken) else {
+            return Err(self.stuck(Trouble::Short));
+        };
+        let Ok(number) = u32::try_from(self.taken) else {
+            return Err(Halt::Mem);
+        };
+        self.taken += 1;
+        let contrary = self.contrary_of(answer.yes, &row)?;
+        if !same_row(&row, &answer.row) {
+            let theirs = answer.row.clone()?;
+            return Err(self.stuck(Trouble::Differs(number, row, theirs)));
+        }
+        match self.fault_of(contrary, &answer.why)? {
+            None => Ok(answer.yes),
+            Some(line) => Err(self.stuck(Trouble::Line(number, line))),
+        }
+    }
+
+    /// The row that is at least 0 where an answer is wrong.
+    fn contrary_of(&mut self, yes: bool, row: &Row) -> Result<Row, Halt>
+        ensures grows { Grows (state_of self.old) (state_of self.new) }
+        ensures row { IfOk result (λ other. other ≡ contrary yes row.now) }
+        ensures rest { KeepsRest self.old self.new }
+        ensures decided { IsDecided result }
+        ensures cause { IfErr result (Cause (state_of self.old) (state_of self.new) ⊤) }
+    {
+        let contrary = contrary_of(yes, row);
+        self.counted(contrary)
+    }
+
+    /// The first wrong line of a derivation from all facts and from one more, which is taken back.
+    fn fault_of(&mut self, contrary: Row, why: &Derivation) -> Result<Option<u32>, Mem>
+        ensures line { IfOk result (λ line.
+            line ≡ first_fault (facts_of self.old ++ contrary ∷ []) (length (named_of self.old) + 2) why.now) }
+        ensures state { state_of self.new ≡ state_of self.old }
+        ensures rest { KeepsRest self.old self.new }
+    {
+        let variables = self.variables();
+        fault_below(
+            self.path.facts.as_slice(),
+            &mut self.rows,
+            variables,
+            contrary,
+            why,
+        )
+    }
+
+    /// Leaves a comparison open for this trouble, which is kept unless there was one before.
+    fn stuck(&mut self, trouble: Trouble) -> Halt
+        ensures grows { Grows (state_of self.old) (state_of self.new) }
+        ensures cause { Cause (state_of self.old) (state_of self.new) ⊤ result }
+        ensures open { result ≡ Open }
+        ensures trouble { self.new.trouble ≡ first_of self.old.trouble (Some trouble) }
+    {
+        if self.trouble.is_none() {
+            self.trouble = Some(trouble);
+        }
+        self.opens = raised(self.opens);
+        Halt::Open
+    }
+
+    /// Why the first comparison that was left open is; none where none was. Takes no memory.
+    pub fn trouble(&self) -> Option<&Trouble>
+        ensures trouble { option_copied result ≡ self.now.trouble }
+        ensures told { is_some result ≡ nat_lt 0 (state_of self.now).opens }
+    {
+        self.trouble.as_ref()
+    }
+
+    /// How many answers are not taken yet. Takes no memory.
+    pub fn left(&self) -> usize
+        ensures { result ≡ length self.now.tape.now - self.now.taken }
+    {
+        self.tape.len().saturating_sub(self.taken)
+    }
+}
+
+/// A row plus a variable.
+fn with_variable(row: &Row, variable: u32) -> Result<Row, RowFault>
+    ensures { IsExact result (plus row.now (pos 1) (row_of (pos 0) (pos 1) variable)) }
+{
+    let term = Row::of_term(row.terms.allocator(), 0, variable, 1)?;
+    row.add_scaled(1, &term)
+}
+
+/// The row that is at least 0 where an answer is wrong.
+fn contrary_of(yes: bool, row: &Row) -> Result<Row, RowFault>
+    ensures { IfOk result (λ other. other ≡ contrary yes row.now) }
+{
+    if yes { row.negate() } else { Ok(row.clone()?) }
+}
+
+/// The first wrong line of a derivation from facts and from one more, which is taken back.
+fn fault_below(
+    facts: &[Row],
+    rows: &mut List<Row>,
+    variables: u32,
+    contrary: Row,
+    why: &Derivation,
+) -> Result<Option<u32>, Mem>
+    ensures line { IfOk result (λ line.
+        line ≡ first_fault (facts.now ++ (rows.old ++ contrary ∷ [])) variables why.now) }
+    ensures same { rows.new ≡ rows.old }
+{
+    if line_count(why).is_none() {
+        return Err(Mem);
+    }
+    let count = rows.len();
+    rows.push(contrary)?;
+    let known = Facts {
+        first: facts,
+        later: rows.as_slice(),
+    };
+    let line = first_fault_among(rows.allocator(), known, variables, why);
+    rows.truncate(count);
+    line
+}
+
+/// Numbers are rows in 1/64 px over whole pixels. Open are the readings that meet all facts, and kept are the worlds of
+/// the path.
+impl<'a> Calc for Sym<'a> {
+    ghost use Rattle.std.specs.Prelude.{◌*◌, ◌+ℤ◌, ◌*ℤ◌, ◌⊎◌};
+    ghost use Rattle.std.proofs.Common.{inl, refl};
+    ghost use Rattle.viz_calc.specs.State.{Stands, Grows, KeepsWorlds, Fits, Cause, IsDecided};
+    ghost use Rattle.viz_calc.specs.declared.calc.Halt.TheVariants.{Open};
+    ghost use Rattle.sym_calc.specs.Knowledge.{number_at};
+    ghost use Rattle.sym_calc.specs.Troubles.{first_of};
+    ghost use Rattle.sym_calc.specs.Calc.{facts_of, named_of, state_of, next_trouble};
+    ghost use Rattle.sym_calc.specs.Kept.{reading_by, kept_is_open};
+
+    type Num = Row;
+
+    ghost state = { state_of };
+
+    ghost at = { number_at };
+
+    fn blank(&self) -> Row {
+        Row::constant(self.path.facts.allocator(), 0)
+    }
+
+    fn lit(&mut self, v: i128) -> Result<Row, Halt>
+        ensures grows { Grows (state_of self.old) (state_of self.new) }
+        ensures worlds { KeepsWorlds (state_of self.old) (state_of self.new) }
+        ensures value { IfOk result (λ r. Stands (state_of self.new) (number_at r) (λ e. v)) }
+        ensures cause { IfErr result (Cause (state_of self.old) (state_of self.new)
+            (Fits (state_of self.new) (λ e. v ∷ []))) }
+        ensures decided { IsDecided result }
+        ensures free { IfErr result (λ halt. halt ≡ Halt.Mem) }
+    {
+        Ok(Row::constant(self.path.facts.allocator(), v))
+    }
+
+    fn width(&mut self) -> Result<Row, Halt>
+        ensures grows { Grows (state_of self.old) (state_of self.new) }
+        ensures worlds { KeepsWorlds (state_of self.old) (state_of self.new) }
+        ensures value { IfOk result (λ r. Stands (state_of self.new) (number_at r) (λ e. pos (64 * e.world.w))) }
+        ensures cause { IfErr result (Cause (state_of self.old) (state_of self.new)
+            (Fits (state_of self.new) (λ e. pos (64 * e.world.w) ∷ []))) }
+        ensures decided { IsDecided result }
+        ensures free { IfErr result (λ halt. halt ≡ Halt.Mem) }
+    {
+        Ok(Row::of_term(self.path.facts.allocator(), 0, 0, 64)?)
+    }
+
+    fn size(&mut self) -> Result<Row, Halt>
+        ensures grows { Grows (state_of self.old) (state_of self.new) }
+        ensures worlds { KeepsWorlds (state_of self.old) (state_of self.new) }
+        ensures value { IfOk result (λ r. Stands (state_of self.new) (number_at r) (λ e. pos (64 * e.world.s))) }
+        ensures cause { IfErr result (Cause (state_of self.old) (state_of self.new)
+            (Fits (state_of self.new) (λ e. pos (64 * e.world.s) ∷ []))) }
+        ensures decided { IsDecided result }
+        ensures free { IfErr result (λ halt. halt ≡ Halt.Mem) }
+    {
+        Ok(Row::of_term(self.path.facts.allocator(), 0, 1, 64)?)
+    }
+
+    fn copy(&mut self, a: &Row) -> Result<Row, Halt>
+        ensures grows { Grows (state_of self.old) (state_of self.new) }
+        ensures worlds { KeepsWorlds (state_of self.old) (state_of self.new) }
+        ensures value { IfOk result (λ r. Stands (state_of self.new) (number_at r) (λ e. number_at a.now e)) }
+        ensures cause { IfErr result (Cause (state_of self.old) (state_of self.new)
+            (Fits (state_of self.new) (λ e. number_at a.now e ∷ []))) }
+        ensures decided { IsDecided result }
+        ensures free { IfErr result (λ halt. halt ≡ Halt.Mem) }
+    {
+        Ok(a.clone()?)
+    }
+
+    fn add(&mut self, a: &Row, b: &Row) -> Result<Row, Halt>
+        ensures grows { Grows (state_of self.old) (state_of self.new) }
+        ensures worlds { KeepsWorlds (state_of self.old) (state_of self.new) }
+        ensures value { IfOk result (λ r. Stands (state_of self.new) (number_at r)
+            (λ e. number_at a.now e +ℤ number_at b.now e)) }
+        ensures cause { IfErr result (Cause (state_of self.old) (state_of self.new)
+            (Fits (state_of self.new) (λ e. (number_at a.now e +ℤ number_at b.now e) ∷ []))) }
+        ensures decided { IsDecided result }
+        ensures exact { IsGiven result (plus a.now (pos 1) b.now) }
+    {
+        let sum = a.add_scaled(1, b);
+        self.counted(sum)
+    }
+
+    fn sub(&mut self, a: &Row, b: &Row) -> Result<Row, Halt>
+        ensures grows { Grows (state_of self.old) (state_of self.new) }
+        ensures worlds { KeepsWorlds (state_of self.old) (state_of self.new) }
+        ensures value { IfOk result (λ r. Stands (state_of self.new) (number_at r)
+            (λ e. number_at a.now e -ℤ number_at b.now e)) }
+        ensures cause { IfErr result (Cause (state_of self.old) (state_of self.new)
+            (Fits (state_of self.new) (λ e. (number_at a.now e -ℤ number_at b.now e) ∷ []))) }
+        ensures decided { IsDecided result }
+        ensures exact { IsGiven result (plus a.now (negsuc 0) b.now) }
+    {
+        let difference = a.add_scaled(-1, b);
+        self.counted(difference)
+    }
+
+    fn scale_floor(&mut self, a: &Row, num: i64, den: u64) -> Result<Row, Halt> {
+        let zero = Row::constant(self.path.facts.allocator(), 0);
+        let product = zero.add_scaled(i128::from(num), a);
+        let product = self.counted(product)?;
+        self.divided(&product, i128::from(den))
+    }
+
+    fn le(&mut self, a: &Row, b: &Row) -> Result<bool, Halt>
+        ensures grows { Grows (state_of self.old) (state_of self.new) }
+        ensures value { IfOk result (λ r. (e : Reading) → IsTrue ((state_of self.new).is_open e)
+            → r ≡ int_le (number_at a.now e) (number_at b.now e)) }
+        ensures cause { IfErr result (Cause (state_of self.old) (state_of self.new) ⊤) }
+        ensures answer { let row = plus b.now (negsuc 0) a.now in
+            IfOk result (λ r. (row.terms ≡ []) ⊎ (next_trouble self.old row ≡ None)) }
+        ensures opened { let row = plus b.now (negsuc 0) a.now in
+            result ≡ Err Open → is_some (next_trouble self.old row) ≡ true }
+        ensures trouble { let row = plus b.now (negsuc 0) a.now in
+            result ≡ Err Open → self.new.trouble ≡ first_of self.old.trouble (next_trouble self.old row) }
+    {
+        let difference = b.add_scaled(-1, a);
+        let difference = self.counted(difference)?;
+        if difference.terms.is_empty() {
+            return Ok(0 <= difference.k);
+        }
+        self.answered(difference)
+    }
+
+    ghost keeps = { λ s w t. inl (record {
+      reading = reading_by (named_of s) w;
+      world = refl;
+      is_open = kept_is_open (facts_of s) (named_of s) w t;
+    }) };
+}
+
+/// Whether a row has no variable from `variables` on.
+fn is_declared(row: &Row, variables: u32) -> bool
+    ensures { result ≡ are_declared variables row.now.terms }
+{
+    row.terms.as_slice().iter().all(|term| term.0 < variables)
+}
