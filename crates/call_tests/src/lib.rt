@@ -44,6 +44,8 @@ mod selector_texts;
 #[cfg(test)]
 mod sheet_texts;
 #[cfg(test)]
+mod symbolic_numbers;
+#[cfg(test)]
 mod token_texts;
 #[cfg(test)]
 mod used_lengths;

@@ -16,6 +16,3 @@ pub use laws::{kept_worlds_are_those_of_the_path, sound_paths_are_known, sym_kee
 pub use paths::Path;
 pub use sym::Sym;
 pub use troubles::Trouble;
-
-#[cfg(test)]
-mod tests;

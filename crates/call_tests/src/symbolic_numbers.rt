@@ -1,6 +1,6 @@
-use crate::{Path, quotient, remainder};
 use lin_row::Row;
 use std::test::Fail;
+use sym_calc::{Path, quotient, remainder};
 use viz_base::Rect;
 
 const RANGE: Rect = Rect {
