@@ -1,6 +1,12 @@
+mod Munch
 mod Walks
 mod Complete
 mod Sound
 mod Finish
 mod Exact
 mod Bounds
+mod Small
+mod Sequence
+mod Texts
+mod Runs
+mod Names

@@ -1,2 +1,4 @@
 pub mod Machine
+pub mod Next
+pub mod Scan
 pub mod Verdicts

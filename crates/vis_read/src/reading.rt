@@ -12,6 +12,16 @@ pub struct Outside {
     pub conjunct: Option<Formula>,
 }
 
+/// What stands inside of which parentheses, and what is read of that.
+#[derive(Debug, Drop)]
+pub struct Closed {
+    /// None where no parenthesis is open.
+    pub parens: Option<Outside>,
+    pub frames: Stack<Frame>,
+    pub names: Stack<Text>,
+    pub value: Formula,
+}
+
 /// What a formula that is being read belongs to.
 #[derive(Debug, Drop)]
 pub enum Frame {
@@ -116,4 +126,16 @@ pub struct Reading {
     /// The conjunction that the next part belongs to.
     pub conjunct: Option<Formula>,
     pub place: Place,
+}
+
+/// What is read of a formula, but for the place.
+#[derive(Debug, Drop)]
+pub struct Held {
+    pub frames: Stack<Frame>,
+    pub names: Stack<Text>,
+    pub level: u32,
+    pub nested: u32,
+    pub nots: u32,
+    pub disjunct: Option<Formula>,
+    pub conjunct: Option<Formula>,
 }

@@ -16,9 +16,11 @@ use Rattle.vis_read.specs.declared.lexemes.Lexeme.TheVariants as a
 use Rattle.vis_read.specs.declared.lexemes.Pair.{Pair}
 use Rattle.vis_read.specs.declared.lexemes.Quantifier.{Quantifier}
 use Rattle.vis_read.specs.declared.lexemes.Unit.TheVariants as of_unit
+use Rattle.vis_read.specs.declared.reading.Closed.{Closed}
 use Rattle.vis_read.specs.declared.reading.Compared.{Compared}
 use Rattle.vis_read.specs.declared.reading.Frame.{Frame}
 use Rattle.vis_read.specs.declared.reading.Frame.TheVariants.{Quantified, Implied, Parens}
+use Rattle.vis_read.specs.declared.reading.Held.{Held}
 use Rattle.vis_read.specs.declared.reading.Outside.{Outside}
 use Rattle.vis_read.specs.declared.reading.Place.{Place}
 use Rattle.vis_read.specs.declared.reading.Place.TheVariants as of_place
@@ -48,6 +50,10 @@ ored (Some left) f = of_formula.Or left f
 abbrev pub at : Reading → Place → Reading
 at s place = record s { place = place }
 
+-- all but the place
+abbrev pub held : Reading → Held
+held s = record { frames = s.frames; names = s.names; level = s.level; nested = s.nested; nots = s.nots; disjunct = s.disjunct; conjunct = s.conjunct }
+
 -- before an operand that follows nothing
 abbrev pub fresh : Reading → Reading
 fresh s = record s { nested = s.level; nots = 0; disjunct = None; conjunct = None }
@@ -67,13 +73,6 @@ behind s f = at (settled s) (of_place.Behind f)
 -- behind an operand
 abbrev pub completed : Reading → Formula → Reading
 completed s f = behind s (joined s f)
-
--- what is inside of which parentheses, and what is read of that
-pub record Closed : Type 0 where
-  pub parens : Option Outside
-  pub frames : List Frame
-  pub names : List (List ℕ)
-  pub value : Formula
 
 -- the names around the innermost one
 abbrev pub others : List (List ℕ) → List (List ℕ)
@@ -193,23 +192,37 @@ step_spot s sum n of_spot.ViewDot lexeme = step_view s sum n lexeme
 
 -- ---- formulas
 
+-- behind `and` and `or`
+abbrev pub with_and : Reading → Formula → Reading
+with_and s f = record s { conjunct = Some f; place = of_place.Operand }
+
+abbrev pub with_or : Reading → Formula → Reading
+with_or s f = record s { disjunct = Some (ored s.disjunct f); place = of_place.Operand }
+
+-- behind `implies`
+abbrev pub implied : Reading → Formula → Reading
+implied s left = record (fresh s) { frames = Implied left ∷ s.frames; place = of_place.Start }
+
 abbrev pub step_behind : Reading → Formula → Lexeme → Step
-step_behind s f a.And = go (record s { conjunct = Some f; place = of_place.Operand })
-step_behind s f a.Or = go (record s { disjunct = Some (ored s.disjunct f); place = of_place.Operand })
-step_behind s f a.Implies = go (record (fresh s) { frames = Implied (ored s.disjunct f) ∷ s.frames; place = of_place.Start })
+step_behind s f a.And = go (with_and s f)
+step_behind s f a.Or = go (with_or s f)
+step_behind s f a.Implies = go (implied s (ored s.disjunct f))
 step_behind s f a.Close = close_parens (closing s f)
 step_behind s f _ = None
 
-abbrev pub compare : Reading → Sum → Sign → Reading
-compare s sum sign = at s (of_place.Side (empty_sum (Some (record { left = record { parts = sum.parts }; sign = sign }))))
+abbrev pub compare : Reading → List Summand → Sign → Reading
+compare s parts sign = at s (of_place.Side (empty_sum (Some (record { left = record { parts = parts }; sign = sign }))))
+
+abbrev pub step_sign : Reading → List Summand → Lexeme → Step
+step_sign s parts (a.Sign sign) = go (compare s parts sign)
+step_sign s parts _ = None
 
 -- the comparison that a right side ends
 abbrev pub compared_with : List Summand → Compared → Formula
 compared_with right c = comparison c.left.parts c.sign right
 
 abbrev pub step_compared : Reading → Sum → Option Compared → Lexeme → Step
-step_compared s sum None (a.Sign sign) = go (compare s sum sign)
-step_compared s sum None _ = None
+step_compared s sum None lexeme = step_sign s sum.parts lexeme
 step_compared s sum (Some c) lexeme = step_behind (settled s) (joined s (compared_with sum.parts c)) lexeme
 
 abbrev pub step_added : Reading → Sum → Lexeme → Step
@@ -221,15 +234,33 @@ abbrev pub step_number : Reading → Sum → ℕ → Lexeme → Step
 step_number s sum n a.Star = go (at s (of_place.Factor sum n))
 step_number s sum n lexeme = step_added s (with_part sum n of_edge.One) lexeme
 
+-- behind so many `not`s
+abbrev pub at_operand : Reading → ℕ → Reading
+at_operand s nots = record s { nested = s.nested + 1; nots = nots; place = of_place.Operand }
+
+abbrev pub negated : Reading → Step
+negated s = Some (at_operand s (s.nots + 1), opener_check (around s))
+
+-- inside a parenthesis
+abbrev pub opened : Reading → Step
+opened s = Some (inner s, opener_check (around s))
+
 abbrev pub step_operand : Reading → Lexeme → Step
-step_operand s a.Not = Some (record s { nested = s.nested + 1; nots = s.nots + 1; place = of_place.Operand }, opener_check (around s))
-step_operand s a.Open = Some (inner s, opener_check (around s))
+step_operand s a.Not = negated s
+step_operand s a.Open = opened s
 step_operand s (a.Truth value) = go (completed s (of_formula.Const value))
 step_operand s (a.Pair p) = go (at s (of_place.Pair p))
 step_operand s lexeme = step_side s (empty_sum None) lexeme
 
+-- behind a quantifier
+abbrev pub at_quantifier : Reading → Quantifier → Reading
+at_quantifier s q = record s { nested = s.nested + 1; place = of_place.Quantifier q }
+
+abbrev pub quantifier : Reading → Quantifier → Step
+quantifier s q = Some (at_quantifier s q, quantifier_check (around s))
+
 abbrev pub step_start : Reading → Lexeme → Step
-step_start s (a.Quantifier q) = Some (record (fresh s) { nested = s.level + 1; place = of_place.Quantifier q }, quantifier_check (around (fresh s)))
+step_start s (a.Quantifier q) = quantifier (fresh s) q
 step_start s lexeme = step_operand (fresh s) lexeme
 
 abbrev pub bind : Reading → Quantifier → List ℕ → Set → Reading
@@ -277,25 +308,30 @@ abbrev pub step_last : Reading → Pair → ℕ → ℕ → Lexeme → Step
 step_last s p x y a.Close = go (completed s (paired p x y))
 step_last s p x y _ = None
 
+-- where nothing but the place changes
+abbrev pub move_at : Place → Reading → Lexeme → Step
+move_at (of_place.Quantifier q) s lexeme = step_quantifier s q lexeme
+move_at (of_place.Binder q name) s lexeme = step_binder s q name lexeme
+move_at (of_place.Domain q name) s lexeme = step_domain s q name lexeme
+move_at (of_place.Pair p) s lexeme = step_pair s p lexeme
+move_at (of_place.First p) s lexeme = step_first s p lexeme
+move_at (of_place.Comma p x) s lexeme = step_comma s p x lexeme
+move_at (of_place.Second p x) s lexeme = step_second s p x lexeme
+move_at (of_place.Side sum) s lexeme = step_side s sum lexeme
+move_at (of_place.Part sum) s lexeme = step_part s sum lexeme
+move_at (of_place.Factor sum n) s lexeme = step_edge s sum n lexeme
+move_at (of_place.Edge sum n spot) s lexeme = step_spot s sum n spot lexeme
+move_at _ s lexeme = None
+
 abbrev pub step_at : Place → Reading → Lexeme → Step
 step_at of_place.Start s lexeme = step_start s lexeme
 step_at of_place.Operand s lexeme = step_operand s lexeme
 step_at (of_place.Behind f) s lexeme = step_behind s f lexeme
-step_at (of_place.Quantifier q) s lexeme = step_quantifier s q lexeme
-step_at (of_place.Binder q name) s lexeme = step_binder s q name lexeme
-step_at (of_place.Domain q name) s lexeme = step_domain s q name lexeme
 step_at (of_place.Ranged q name set) s lexeme = step_ranged s q name set lexeme
-step_at (of_place.Pair p) s lexeme = step_pair s p lexeme
-step_at (of_place.First p) s lexeme = step_first s p lexeme
-step_at (of_place.Comma p x) s lexeme = step_comma s p x lexeme
-step_at (of_place.Second p x) s lexeme = step_second s p x lexeme
 step_at (of_place.Last p x y) s lexeme = step_last s p x y lexeme
-step_at (of_place.Side sum) s lexeme = step_side s sum lexeme
-step_at (of_place.Part sum) s lexeme = step_part s sum lexeme
 step_at (of_place.Number sum n) s lexeme = step_number s sum n lexeme
-step_at (of_place.Factor sum n) s lexeme = step_edge s sum n lexeme
-step_at (of_place.Edge sum n spot) s lexeme = step_spot s sum n spot lexeme
 step_at (of_place.Added sum) s lexeme = step_added s sum lexeme
+step_at place s lexeme = move_at place s lexeme
 
 abbrev pub step : Reading → Lexeme → Step
 step s lexeme = step_at s.place (at s of_place.Start) lexeme
@@ -325,16 +361,22 @@ initial = record { frames = []; names = []; level = 0; nested = 0; nots = 0; dis
 
 -- ---- which answer of the code stands for which step. Want of memory is free.
 
-abbrev pub Checks : Check → Step → Type 0
-Checks check None = ⊥
-Checks check (Some (s, found)) = found ≡ check
+-- whether a token may stand where it stands, if a formula can have it there
+abbrev pub check_of : Step → Option Check
+check_of None = None
+check_of (Some (s, check)) = Some check
 
 abbrev pub Stops : Stop → Step → Type 0
 Stops of_stop.Mem answer = Unit {0}
 Stops of_stop.Bad answer = answer ≡ None
-Stops of_stop.Unbound answer = Checks unbound answer
-Stops of_stop.TooDeep answer = Checks too_deep answer
+Stops of_stop.Unbound answer = check_of answer ≡ Some unbound
+Stops of_stop.TooDeep answer = check_of answer ≡ Some too_deep
 
 abbrev pub Gives : Result Reading Stop → Step → Type 0
 Gives (Ok s) answer = answer ≡ go s
 Gives (Err stop) answer = Stops stop answer
+
+-- the same of an answer that changes the place alone
+abbrev pub Moves : Reading → Result Place Stop → Step → Type 0
+Moves s (Ok place) answer = answer ≡ go (at s place)
+Moves s (Err stop) answer = Stops stop answer

@@ -1,0 +1,7 @@
+use Rattle.std.proofs.Common.{◌≡◌, ◌+◌, drop}
+use Rattle.std.specs.List.{prefix_len}
+use Rattle.vis_read.specs.Pieces.{is_word_byte}
+use Rattle.vis_read.proofs.pieces.word_len.Given as goal
+
+abbrev pub invariant-loop-at : goal.invariant-loop-at
+invariant-loop-at l = l.at + prefix_len is_word_byte (drop l.at l.bytes) ≡ prefix_len is_word_byte l.bytes
