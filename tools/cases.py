@@ -3,8 +3,8 @@
 
     tools/cases.py FOLDER
 
-FOLDER has files of JSON Lines, each named after a call: decimals, tokens, sheets, declarations, selectors, matches, values, cascade and
-truths; in jobs/ and certs/ jobs and certificates with what the program replies; and refusals.jsonl, jobs that are refused. Long cases come behind these. What is called goes to
+FOLDER has files of JSON Lines, each named after a call: decimals, tokens, sheets, declarations, selectors, matches, values, cascade,
+formulas and truths; in jobs/ and certs/ jobs and certificates with what the program replies; and refusals.jsonl, jobs that are refused. Long cases come behind these. What is called goes to
 crates/cases/stdin and what it must give to crates/cases/stdout, a line of JSON each. A page goes flat: its nodes in document order, each
 with its parent's place; a formula as steps, each part before what it is a part of.
 """
@@ -230,6 +230,23 @@ def cascade(case):
     return given, [[node, prop, without_keyword(value)] for node, prop, value in case["winners"]]
 
 
+def steps_in(formula):
+    """The steps that make a formula, each part before what it is a part of."""
+    kind = formula[0]
+    if kind in ("Forall", "Exists"):
+        return steps_in(formula[2]) + [formula[:2]]
+    if kind in ("Not", "Implies", "Or", "And"):
+        return [step for part in formula[1:] for step in steps_in(part)] + [[kind]]
+    return [formula]
+
+
+def formulas(case):
+    given = [nodes_of(case["page"]), case["text"]]
+    if "fault" in case:
+        return given + [[]], fault(case)
+    return given + [steps_in(case["formula"])], True
+
+
 def truths(case):
     given = [nodes_of(case["page"]), steps_of(case["formula"]), case["w"], case["s"], case["height"], case["boxes"]]
     return given, case["truth"]
@@ -258,12 +275,12 @@ def jobs(folder):
 
 
 def refusals(folder):
-    """Jobs that are refused, but for their assertions."""
+    """Jobs that are refused."""
     for line in (folder / "refusals.jsonl").read_text(encoding="utf-8").split("\n"):
         case = json.loads(line) if line else {"pieces": []}
         text = "".join(piece * times for kind, piece, times in case["pieces"] if kind == "text" and len(piece) * times < 20000)
         whole = all(kind == "text" and len(piece) * times < 20000 for kind, piece, times in case["pieces"]) and len(text) < 20000
-        if whole and "line" in case and "formula" not in case["line"]:
+        if whole and "line" in case:
             yield ["lay", text, case["w"], case["s"]], ["JobRefused", case["line"] + "\n"]
 
 
@@ -301,7 +318,7 @@ def long_cases():
     yield ["truths", [[None, "html", [], None]], steps, 320, 16, 600, [box] * 300], True
 
 
-CALLS = [decimals, tokens, sheets, declarations, selectors, matches, values, cascade, truths]
+CALLS = [decimals, tokens, sheets, declarations, selectors, matches, values, cascade, formulas, truths]
 
 
 def main():

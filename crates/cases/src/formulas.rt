@@ -1,8 +1,10 @@
 use crate::faults::Fault;
 use crate::json::{at, integer_at, list_at, number_at, text_at};
+use crate::pages::page_at;
 use crate::selectors::matched_nodes;
 use serde_json::Value;
 use std::alloc::Global;
+use vis_read::{FormulaFault, read_formula};
 use viz_base::{Boxed, Edge, Face, Formula, Kind, List, Page, Ring, Set, Sign, Summand, Term};
 
 /// The kind of a box of this name.
@@ -79,12 +81,25 @@ fn term(alloc: Global, parts: &[Value]) -> Result<Term, Fault> {
     Ok(Term { parts: sum })
 }
 
+/// The nodes that a selector matches, or those of these numbers.
+fn nodes(alloc: Global, page: &Page, value: &Value) -> Result<List<u32>, Fault> {
+    let Some(numbers) = value.as_array() else {
+        return matched_nodes(alloc, page, value.as_str().ok_or(Fault::NoCase)?);
+    };
+    let mut found = List::new(alloc);
+    for number in numbers {
+        let number = number.as_u64().ok_or(Fault::NoCase)?;
+        found.push(u32::try_from(number).map_err(|_| Fault::NoCase)?)?;
+    }
+    Ok(found)
+}
+
 /// A set; one of a selector has the nodes of the page that it matches.
 fn set(alloc: Global, page: &Page, value: &Value) -> Result<Set, Fault> {
     Ok(match text_at(value, 0)? {
         "Of" => Set::Of(kind(text_at(value, 1)?)?),
         "Every" => Set::Every,
-        "Nodes" => Set::Nodes(matched_nodes(alloc, page, text_at(value, 1)?)?),
+        "Nodes" => Set::Nodes(nodes(alloc, page, at(value, 1)?)?),
         _ => return Err(Fault::NoCase),
     })
 }
@@ -134,4 +149,19 @@ pub fn formula(alloc: Global, page: &Page, steps: &[Value]) -> Result<Formula, F
         stack.push(formula)?;
     }
     stack.pop().ok_or(Fault::NoCase)
+}
+
+/// Whether the text of a case spells the formula that its steps make, of its page, or why it spells none.
+pub fn answer(alloc: Global, case: &Value) -> Result<String, Fault> {
+    let page = page_at(alloc, case, 1)?;
+    match read_formula(alloc, text_at(case, 2)?, &page) {
+        Ok(read) => {
+            let same = read == formula(alloc, &page, list_at(case, 3)?)?;
+            Ok(format!(in alloc; "{same}")?)
+        }
+        Err(FormulaFault::Mem) => Err(Fault::Mem),
+        Err(FormulaFault::Bad(at)) => Ok(format!(in alloc; "\"Bad {at}\"")?),
+        Err(FormulaFault::Unbound(at)) => Ok(format!(in alloc; "\"Unbound {at}\"")?),
+        Err(FormulaFault::TooDeep(at)) => Ok(format!(in alloc; "\"TooDeep {at}\"")?),
+    }
 }

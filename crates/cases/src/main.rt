@@ -39,6 +39,7 @@ fn answer(alloc: Global, line: &str) -> Result<String, Fault> {
         "matches" => selectors::matched(alloc, &case),
         "values" => values::answer(alloc, text_at(&case, 1)?, text_at(&case, 2)?),
         "cascade" => cascades::answer(alloc, &case),
+        "formulas" => formulas::answer(alloc, &case),
         "truths" => truths::answer(alloc, &case),
         "lay" => replies::laid(alloc, &case),
         "check" => replies::checked(alloc, &case),

@@ -1,4 +1,3 @@
-pub mod AssertionFacts
 pub mod ReadSheets
 pub mod JobFacts
 pub mod Stages

@@ -12,14 +12,14 @@ use Rattle.css_semantics.specs.ComputedValues.{AreComputed}
 use Rattle.css_semantics.specs.DefaultSheet.{default_text}
 use Rattle.css_semantics.specs.SheetsReading.{Refusal}
 use Rattle.layout_semantics.specs.Refusals.{BoxRefusal}
+use Rattle.vis_read.specs.declared.faults.FormulaFault.{FormulaFault}
+use Rattle.vis_read.specs.Texts.{IsFault, IsFormulaText}
 use Rattle.page_json.specs.declared.faults.JobFault.{JobFault}
 use Rattle.page_json.specs.Fonts.{measures_of}
 use Rattle.page_json.specs.Jobs.{Raw, raw_job}
 use Rattle.page_boxes.specs.Trees.{TreeLists, lists_of, page_tree}
 use Rattle.page_build.specs.declared.faults.JobRefusal.{JobRefusal}
-use Rattle.page_build.specs.declared.faults.JobRefusal.TheVariants.{NotYet}
-use Rattle.page_build.specs.Assertion.{IsAssertion, IsUnread}
-use Rattle.page_build.specs.Refusals.{of_file, of_sheet, of_boxes, IsTold}
+use Rattle.page_build.specs.Refusals.{of_file, of_sheet, of_boxes, of_formula, IsTold}
 use Rattle.page_build.specs.Sheets.{AreSheets, IsFirstRefused}
 
 -- ---- stages
@@ -56,13 +56,13 @@ pub record IsBuiltOf (raw : Raw) (job : Job) : Type 0 where
   pub range : job.range ≡ raw.range
   pub height : job.height ≡ raw.height
   pub tree : HasBoxes raw (Ok (lists_of job.tree))
-  pub assertion : IsAssertion raw.formula raw.nodes job.formula
+  pub assertion : IsFormulaText raw.nodes raw.formula job.formula
 
 -- why what a file says is no job, by the first of its stages that refuses it
 pub data IsRefusedLater (raw : Raw) : JobRefusal → Type 0 where
   styles : {refusal : JobRefusal} → AreRefused raw.nodes raw.css refusal → IsRefusedLater raw refusal
   boxes : {why : BoxRefusal} → HasBoxes raw (Err why) → IsRefusedLater raw (of_boxes why)
-  assertion : {tree : TreeLists} → HasBoxes raw (Ok tree) → IsUnread raw.formula raw.nodes → IsRefusedLater raw NotYet
+  assertion : {tree : TreeLists} {fault : FormulaFault} → HasBoxes raw (Ok tree) → IsFault raw.nodes raw.formula fault → IsRefusedLater raw (of_formula fault)
 
 -- ---- bytes
 

@@ -9,9 +9,11 @@ use Rattle.page_json.specs.declared.faults.JobFault.{JobFault}
 use Rattle.page_json.specs.declared.faults.JobFault.TheVariants as of_fault
 use Rattle.page_boxes.specs.declared.faults.BoxFault.{BoxFault}
 use Rattle.page_boxes.specs.declared.faults.BoxFault.TheVariants as of_box
+use Rattle.vis_read.specs.declared.faults.FormulaFault.{FormulaFault}
+use Rattle.vis_read.specs.declared.faults.FormulaFault.TheVariants as of_text
 use Rattle.page_build.specs.Sheets.{IsFirstRefused}
 use Rattle.page_build.specs.declared.faults.JobRefusal.{JobRefusal}
-use Rattle.page_build.specs.declared.faults.JobRefusal.TheVariants.{Mem, NotJson, Shape, Limit, Range, Import, MediaQuery, TooManyRules, Selector, Value, BlockInInline, RightToLeft, TooManyBoxes, Reach}
+use Rattle.page_build.specs.declared.faults.JobRefusal.TheVariants.{Mem, NotJson, Shape, Limit, Range, Import, MediaQuery, TooManyRules, Selector, Value, BlockInInline, RightToLeft, TooManyBoxes, Reach, Bad, Unbound, TooDeep}
 
 -- of its file
 abbrev pub of_file : JobFault → JobRefusal
@@ -45,6 +47,13 @@ of_box_fault (of_box.BlockInInline node) = BlockInInline node
 of_box_fault (of_box.RightToLeft node letter) = RightToLeft node letter
 of_box_fault of_box.TooManyBoxes = TooManyBoxes
 of_box_fault (of_box.Reach node) = Reach node
+
+-- of its assertion
+abbrev pub of_formula : FormulaFault → JobRefusal
+of_formula of_text.Mem = Mem
+of_formula (of_text.Bad place) = Bad place
+of_formula (of_text.Unbound place) = Unbound place
+of_formula (of_text.TooDeep place) = TooDeep place
 
 -- a byte that can be printed, else `?`
 abbrev pub printable : ℕ → ℕ

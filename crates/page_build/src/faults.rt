@@ -2,6 +2,7 @@ use page_boxes::BoxFault;
 use page_json::JobFault;
 use std::alloc::{AllocError, AllocFailed};
 use thiserror::Error;
+use vis_read::FormulaFault;
 use viz_base::{Mem, Part, Prop, Text, Which};
 
 /// Why bytes are refused as a job, in the order in which they are looked at. Sheets are those of the author, by their
@@ -50,9 +51,16 @@ pub enum JobRefusal {
     /// The node of the box with which the page reaches too far.
     #[error("the page reaches too far at node {0}")]
     Reach(u32),
-    /// The assertion is of a form that is not read yet.
-    #[error("an assertion that is not read yet")]
-    NotYet,
+    /// The place of the first token of the assertion that no formula can have there, of a string that is no group of
+    /// selectors, or of the first byte that begins no token; or the assertion's length.
+    #[error("bad formula at {0}")]
+    Bad(u32),
+    /// The place of a name of the assertion that no quantifier around it binds.
+    #[error("unbound name at {0}")]
+    Unbound(u32),
+    /// The place of a quantifier inside two others, or of a quantifier, parenthesis or `not` inside 64 such.
+    #[error("nested too deep at {0}")]
+    TooDeep(u32),
 }
 
 impl From<Mem> for JobRefusal {
@@ -118,6 +126,22 @@ impl From<BoxFault> for JobRefusal {
             BoxFault::RightToLeft(node, letter) => JobRefusal::RightToLeft(node, letter),
             BoxFault::TooManyBoxes => JobRefusal::TooManyBoxes,
             BoxFault::Reach(node) => JobRefusal::Reach(node),
+        }
+    }
+}
+
+impl From<FormulaFault> for JobRefusal {
+    ghost use Rattle.std.specs.Prelude.{◌≡◌};
+    ghost use Rattle.page_build.specs.Refusals.{of_formula};
+
+    ghost from_gives = { λ fault refusal. refusal ≡ of_formula fault };
+
+    fn from(fault: FormulaFault) -> Self {
+        match fault {
+            FormulaFault::Mem => JobRefusal::Mem,
+            FormulaFault::Bad(at) => JobRefusal::Bad(at),
+            FormulaFault::Unbound(at) => JobRefusal::Unbound(at),
+            FormulaFault::TooDeep(at) => JobRefusal::TooDeep(at),
         }
     }
 }

@@ -1,11 +1,9 @@
 //! Jobs: what the bytes of a job file come to, through its parts, style sheets, cascade, styles, boxes and assertion.
 #![tactic(auto)]
 
-mod assertion;
 mod building;
 mod faults;
 mod formulas;
-mod numbers;
 mod sheets;
 mod styles;
 #[cfg(test)]

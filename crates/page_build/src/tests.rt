@@ -118,7 +118,7 @@ fn refuses(rt: HostRuntime) -> Result<(), Fail> {
             "true",
             JobRefusal::Reach(3),
         ),
-        ("[320,320]", "[]", EMPTY, "false", JobRefusal::NotYet),
+        ("[320,320]", "[]", EMPTY, "a.left < 0", JobRefusal::Unbound(0)),
         (
             "[320,320]",
             "[]",
@@ -133,7 +133,7 @@ fn refuses(rt: HostRuntime) -> Result<(), Fail> {
             "",
             JobRefusal::Shape(Part::Css, 0),
         ),
-        ("[320,16384]", "[]", EMPTY, "", JobRefusal::NotYet),
+        ("[320,16384]", "[]", EMPTY, "", JobRefusal::Bad(0)),
     ];
     for (widths, css, page, assertion, want) in table {
         let text = file(alloc, widths, css, page, assertion)?;

@@ -9,7 +9,7 @@ use Rattle.viz_base.specs.declared.settings.Prop.{Prop}
 use Rattle.css_semantics.specs.Properties.{row}
 use Rattle.layout_semantics.specs.Ready.{ready}
 use Rattle.page_build.specs.declared.faults.JobRefusal.{JobRefusal}
-use Rattle.page_build.specs.declared.faults.JobRefusal.TheVariants.{Mem, NotJson, Shape, Limit, Range, Import, MediaQuery, TooManyRules, Selector, Value, BlockInInline, RightToLeft, TooManyBoxes, Reach, NotYet}
+use Rattle.page_build.specs.declared.faults.JobRefusal.TheVariants.{Mem, NotJson, Shape, Limit, Range, Import, MediaQuery, TooManyRules, Selector, Value, BlockInInline, RightToLeft, TooManyBoxes, Reach, Bad, Unbound, TooDeep}
 use Rattle.page_build.specs.Jobs.{IsJobOf, IsRefusedAs}
 use Rattle.viz_replies.specs.Lines.{spaced, numbered}
 
@@ -71,7 +71,9 @@ refusal_line (BlockInInline node) = numbered (codes "job-refused block-in-inline
 refusal_line (RightToLeft node letter) = numbered (codes "job-refused right-to-left") (node ∷ letter ∷ [])
 refusal_line TooManyBoxes = codes "job-refused too-many-boxes\n"
 refusal_line (Reach node) = numbered (codes "job-refused reach") (node ∷ [])
-refusal_line NotYet = not_yet_line
+refusal_line (Bad place) = numbered (codes "job-refused formula-bad") (place ∷ [])
+refusal_line (Unbound place) = numbered (codes "job-refused formula-unbound") (place ∷ [])
+refusal_line (TooDeep place) = numbered (codes "job-refused formula-too-deep") (place ∷ [])
 
 -- ---- no job
 

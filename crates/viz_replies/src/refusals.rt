@@ -110,6 +110,12 @@ pub fn refusal(alloc: Global, fault: JobRefusal) -> Result<Reply, Mem>
             b"job-refused too-many-boxes\n",
         ),
         JobRefusal::Reach(node) => refused(alloc, b"job-refused reach", &[u64::from(node)]),
-        JobRefusal::NotYet => line(alloc, Answer::JobRefused, b"job-refused not-yet\n"),
+        JobRefusal::Bad(at) => refused(alloc, b"job-refused formula-bad", &[u64::from(at)]),
+        JobRefusal::Unbound(at) => {
+            refused(alloc, b"job-refused formula-unbound", &[u64::from(at)])
+        }
+        JobRefusal::TooDeep(at) => {
+            refused(alloc, b"job-refused formula-too-deep", &[u64::from(at)])
+        }
     }
 }

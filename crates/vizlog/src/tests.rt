@@ -18,8 +18,8 @@ const FLAT: &str =
 
 const FLAT_BOX: &str = "block 0 m 0 0 64 0 b 0 0 64 0 p 0 0 64 0 c 0 0 64 0\n";
 
-const FALSE: &str =
-    r#"{"vizlog":1,"widths":[320,320],"sizes":[16,16],"height":600,"fonts":[{"name":"Square","upem":1000,"ascent":800,"descent":200,"default":500}],"page":{"tag":"div","attrs":{"style":"height:0px"}},"assert":"false"}"#;
+const UNBOUND: &str =
+    r#"{"vizlog":1,"widths":[320,320],"sizes":[16,16],"height":600,"fonts":[{"name":"Square","upem":1000,"ascent":800,"descent":200,"default":500}],"page":{"tag":"div","attrs":{"style":"height:0px"}},"assert":"b.left < 0"}"#;
 
 const NARROW: &str =
     r#"{"vizlog":1,"widths":[320,400],"sizes":[16,16],"height":600,"fonts":[{"name":"Square","upem":1000,"ascent":800,"descent":200,"default":500}],"page":{"tag":"div","attrs":{"style":"height:30px"},"children":[{"tag":"div","attrs":{"style":"height:10px"}},{"tag":"div","attrs":{"style":"height:20px"}}]},"assert":"forall b in block: b.right <= 25536"}"#;
@@ -113,10 +113,10 @@ fn lays(rt: HostRuntime) -> Result<(), Fail> {
             ),
             (
                 "lay J 320 16",
-                FALSE,
+                UNBOUND,
                 "",
                 Status::Replied(Answer::JobRefused),
-                "job-refused not-yet\n",
+                "job-refused formula-unbound 0\n",
             ),
             ("lay J 0 16", NESTED, "", Status::Usage, "usage\n"),
             ("lay J 320 257", NESTED, "", Status::Usage, "usage\n"),

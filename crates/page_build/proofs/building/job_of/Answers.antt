@@ -2,7 +2,7 @@ use Rattle.std.proofs.Common.{◌≢◌, Ok, Err, refl, rules, sym, subst, arith
 use Rattle.page_json.specs.Jobs.{raw_of}
 use Rattle.page_boxes.specs.Trees.{lists_of}
 use Rattle.page_build.specs.declared.faults.JobRefusal.TheVariants.{Mem}
-use Rattle.page_build.specs.Assertion.{IsUnread}
+use Rattle.vis_read.specs.Texts.{IsFault}
 use Rattle.page_build.specs.Jobs.{AreRefused, AreStyles, HasBoxes, IsRefusedLater}
 use Rattle.page_build.proofs.JobFacts.{tree_within}
 use Rattle.page_build.proofs.building.job_of.Goals as goal
@@ -36,7 +36,7 @@ returns-in_err-formula-clause-given c =
     let boxes : HasBoxes (raw_of raw) (Ok (lists_of c.in_ok-tree.tree)) = record { fonts = raw.fonts; measures = refl; styles = styles; styled = styled; boxes = c.in_ok-tree.ensures } in
     let k : (refusal ≢ Mem → IsRefusedLater (raw_of raw) refusal) = λ other.
     (let found = c.in_err-formula.ensures.given other in
-    subst (IsRefusedLater (raw_of raw)) (sym found.0) (IsRefusedLater.assertion boxes (subst (λ text. IsUnread text raw.page.nodes) c.as_str.ensures found.1))) in
+    subst (IsRefusedLater (raw_of raw)) (sym found.2) (IsRefusedLater.assertion boxes (subst (λ text. IsFault raw.page.nodes text found.0) c.as_str.ensures found.1))) in
     search rules
 
 pub invariant_of-result : goal.invariant_of-result
