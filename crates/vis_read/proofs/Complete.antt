@@ -10,6 +10,7 @@ use Rattle.viz_base.specs.declared.formulas.Summand.{Summand}
 use Rattle.vis_read.specs.declared.lexemes.Lexeme.{Lexeme}
 use Rattle.vis_read.specs.declared.lexemes.Lexeme.TheVariants as a
 use Rattle.vis_read.specs.declared.lexemes.Unit.TheVariants as of_unit
+use Rattle.vis_read.specs.declared.reading.Closed.{Closed}
 use Rattle.vis_read.specs.declared.reading.Compared.{Compared}
 use Rattle.vis_read.specs.declared.reading.Frame.TheVariants.{Implied}
 use Rattle.vis_read.specs.declared.reading.Place.TheVariants as of_place
@@ -17,7 +18,7 @@ use Rattle.vis_read.specs.declared.reading.Reading.{Reading}
 use Rattle.vis_read.specs.declared.reading.Spot.TheVariants as of_spot
 use Rattle.vis_read.specs.declared.reading.Sum.{Sum}
 use Rattle.vis_read.specs.Grammar.{Around, binding, inside, Check, Judged, judged, plain, opener_check, quantifier_check, quantifiers_between, name_check, name_number, comparison, paired, IsEdge, face, ring, width, height, IsPart, number, times, once, AreParts, no_more, plus, minus, IsTerm, positive, negative, Rule, formula, consequence, disjunction, disjuncts, conjunction, conjuncts, operand, Reads, quantifies, connects, no_implies, implies, first_disjunct, no_or, or, first_conjunct, no_and, and, negates, parens, truth, compares, pairs, AreFormula}
-use Rattle.vis_read.specs.steps.Machine.{anded, around, at, at_named, at_number, behind, bind, Closed, closed, close_parens, closing, compared_with, completed, empty_sum, ended, fresh, go, initial, inner, notted, ored, settled, step, step_compared, whole, with_part}
+use Rattle.vis_read.specs.steps.Machine.{anded, around, at, at_named, at_number, behind, bind, closed, close_parens, closing, compared_with, completed, empty_sum, ended, fresh, go, initial, inner, notted, ored, settled, step, step_compared, whole, with_part}
 use Rattle.vis_read.proofs.Walks.{Walk, Like, Reach, here, like_reach, reach_by, reach_on, reach_like}
 
 abbrev pub level_of : Reading → Around

@@ -92,7 +92,7 @@ most_part = 65536 * 2 ^ 70
 
 edge_within : (e : Edge) → edge_most e ≤ 2 ^ 70
 edge_within of_edge.One = omega arith
-edge_within (of_edge.Name name ring face) = omega arith
+edge_within (of_edge.Name _ _ _) = omega arith
 edge_within of_edge.ViewWidth = omega arith
 edge_within of_edge.ViewHeight = omega arith
 
@@ -120,7 +120,8 @@ few_term : (k : ℕ) (parts : List Summand) → k ≤ 16384 → Few k parts → 
 few_term k parts le f =
     let sum = sum_by-le summand_most most_part parts f.all in
     let few = f.few in
-    let count : length parts * most_part ≤ 16384 * most_part = mul-le-mul_right most_part (omega arith) in
+    let short : length parts ≤ 16384 = omega arith in
+    let count : length parts * most_part ≤ 16384 * most_part = mul-le-mul_right most_part short in
     le-leb (sum_by summand_most parts) (2 ^ 100) (omega (arith, sum, count))
 
 record Taken (ts us : List Judged) : Type 0 where

@@ -1,8 +1,13 @@
 -- What tokens of a text say of the text.
-use Rattle.std.proofs.Common.{◌≡◌, ℕ, zero, suc, ◌+◌, ◌≤◌, ◌<◌, Bool, true, false, List, [], ◌∷◌, ◌++◌, length, Option, Some, None, IfOk, MatchResult, Result, Ok, Err, option_map, unwrap_or, refl, sym, ◌∙◌, ap, subst, arith, codes, length-append, length-map}
+use Rattle.std.proofs.Common.{◌≡◌, ℕ, zero, suc, ◌+◌, ◌≤◌, ◌<◌, ◌==◌, bytes_eq, Bool, true, false, List, [], ◌∷◌, ◌++◌, length, Option, Some, None, IfOk, MatchResult, Result, Ok, Err, option_map, unwrap_or, refl, sym, ◌∙◌, ap, subst, arith, codes, length-append}
+use Rattle.std.proofs.lemmas.List.{length-map}
 use Rattle.std.specs.Option.{option_or}
+use Rattle.css_semantics.proofs.Pairs.{by_bool}
 use Rattle.viz_base.specs.declared.formulas.Formula.{Formula}
 use Rattle.viz_base.specs.declared.nodes.Node.{Node}
+use Rattle.viz_base.specs.declared.formulas.Set.TheVariants.{Of}
+use Rattle.viz_base.specs.declared.formulas.Sign.{Sign as Comparison}
+use Rattle.viz_base.specs.declared.formulas.Sign.TheVariants.{Lt, Le, Eq, Ne, Ge, Gt}
 use Rattle.viz_base.specs.Formulas.{has_small_terms, is_bound_in}
 use Rattle.vis_read.specs.declared.faults.FormulaFault.{FormulaFault}
 use Rattle.vis_read.specs.declared.faults.FormulaFault.TheVariants as of_fault
@@ -27,15 +32,24 @@ abbrev SmallIf : Option Lexeme → Type 0
 SmallIf None = Unit {0}
 SmallIf (Some lexeme) = IsSmall lexeme
 
-pick : (b : Bool) (lexeme : Lexeme) (o : Option Lexeme) → IsSmall lexeme → SmallIf o → SmallIf (elim b as (λ _. Option Lexeme) [ true ↦ Some lexeme | false ↦ o ])
-pick true lexeme o h k = h
-pick false lexeme o h k = k
-
 small_connective : (w : List ℕ) → SmallIf (connective_of w)
-small_connective w = pick _ _ _ tt (pick _ _ _ tt (pick _ _ _ tt (pick _ _ _ tt (pick _ _ _ tt (pick _ _ _ tt (pick _ _ _ tt tt))))))
+small_connective w =
+    by_bool (bytes_eq w (codes "forall")) (λ e0. rw e0 tt)
+    (λ e0. by_bool (bytes_eq w (codes "exists")) (λ e1. rw (e0, e1) tt)
+    (λ e1. by_bool (bytes_eq w (codes "in")) (λ e2. rw (e0, e1, e2) tt)
+    (λ e2. by_bool (bytes_eq w (codes "implies")) (λ e3. rw (e0, e1, e2, e3) tt)
+    (λ e3. by_bool (bytes_eq w (codes "or")) (λ e4. rw (e0, e1, e2, e3, e4) tt)
+    (λ e4. by_bool (bytes_eq w (codes "and")) (λ e5. rw (e0, e1, e2, e3, e4, e5) tt)
+    (λ e5. by_bool (bytes_eq w (codes "not")) (λ e6. rw (e0, e1, e2, e3, e4, e5, e6) tt)
+    (λ e6. rw (e0, e1, e2, e3, e4, e5, e6) tt)))))))
 
 small_other : (w : List ℕ) → SmallIf (other_of w)
-small_other w = pick _ _ _ tt (pick _ _ _ tt (pick _ _ _ tt (pick _ _ _ tt tt)))
+small_other w =
+    by_bool (bytes_eq w (codes "box")) (λ e0. rw e0 tt)
+    (λ e0. by_bool (bytes_eq w (codes "view")) (λ e1. rw (e0, e1) tt)
+    (λ e1. by_bool (bytes_eq w (codes "width")) (λ e2. rw (e0, e1, e2) tt)
+    (λ e2. by_bool (bytes_eq w (codes "height")) (λ e3. rw (e0, e1, e2, e3) tt)
+    (λ e3. rw (e0, e1, e2, e3) tt))))
 
 small_map : {A : Type 0} (o : Option A) (f : A → Lexeme) → ((x : A) → IsSmall (f x)) → SmallIf (option_map f o)
 small_map None f h = tt
@@ -49,21 +63,41 @@ small_name : (o : Option Lexeme) (w : List ℕ) → SmallIf o → IsSmall (unwra
 small_name None w h = tt
 small_name (Some lexeme) w h = h
 
+abbrev faces_or : List ℕ → Option Lexeme
+faces_or w = option_or (option_map a.Face (face_of w)) (other_of w)
+
+abbrev rings_or : List ℕ → Option Lexeme
+rings_or w = option_or (option_map a.Ring (ring_of w)) (faces_or w)
+
+abbrev kinds_or : List ℕ → Option Lexeme
+kinds_or w = option_or (option_map (λ kind. a.Members (Of kind)) (kind_of w)) (rings_or w)
+
+abbrev pairs_or : List ℕ → Option Lexeme
+pairs_or w = option_or (option_map a.Pair (pair_of w)) (kinds_or w)
+
+abbrev truths_or : List ℕ → Option Lexeme
+truths_or w = option_or (option_map a.Truth (truth_of w)) (pairs_or w)
+
 small_word : (w : List ℕ) → IsSmall (word_lexeme w)
 small_word w = small_name (meaning_of w) w
-    (small_or (connective_of w) _ (small_connective w)
-    (small_or _ _ (small_map (truth_of w) a.Truth (λ x. tt))
-    (small_or _ _ (small_map (pair_of w) a.Pair (λ x. tt))
-    (small_or _ _ (small_map (kind_of w) _ (λ x. tt))
-    (small_or _ _ (small_map (ring_of w) a.Ring (λ x. tt))
-    (small_or _ _ (small_map (face_of w) a.Face (λ x. tt)) (small_other w)))))))
-
-chosen : (b : Bool) (lexeme other : Lexeme) → IsSmall lexeme → IsSmall other → IsSmall (elim b as (λ _. Lexeme) [ true ↦ lexeme | false ↦ other ])
-chosen true lexeme other h k = h
-chosen false lexeme other h k = k
+    (small_or (connective_of w) (truths_or w) (small_connective w)
+    (small_or (option_map a.Truth (truth_of w)) (pairs_or w) (small_map (truth_of w) a.Truth (λ x. tt))
+    (small_or (option_map a.Pair (pair_of w)) (kinds_or w) (small_map (pair_of w) a.Pair (λ x. tt))
+    (small_or (option_map (λ kind. a.Members (Of kind)) (kind_of w)) (rings_or w) (small_map (kind_of w) (λ kind. a.Members (Of kind)) (λ x. tt))
+    (small_or (option_map a.Ring (ring_of w)) (faces_or w) (small_map (ring_of w) a.Ring (λ x. tt))
+    (small_or (option_map a.Face (face_of w)) (other_of w) (small_map (face_of w) a.Face (λ x. tt)) (small_other w)))))))
 
 small_mark : (c : ℕ) → IsSmall (mark_lexeme c)
-small_mark c = chosen _ _ _ tt (chosen _ _ _ tt (chosen _ _ _ tt (chosen _ _ _ tt (chosen _ _ _ tt (chosen _ _ _ tt (chosen _ _ _ tt (chosen _ _ _ tt tt)))))))
+small_mark c =
+    by_bool (c == 40) (λ e0. rw e0 tt)
+    (λ e0. by_bool (c == 41) (λ e1. rw (e0, e1) tt)
+    (λ e1. by_bool (c == 44) (λ e2. rw (e0, e1, e2) tt)
+    (λ e2. by_bool (c == 58) (λ e3. rw (e0, e1, e2, e3) tt)
+    (λ e3. by_bool (c == 46) (λ e4. rw (e0, e1, e2, e3, e4) tt)
+    (λ e4. by_bool (c == 43) (λ e5. rw (e0, e1, e2, e3, e4, e5) tt)
+    (λ e5. by_bool (c == 45) (λ e6. rw (e0, e1, e2, e3, e4, e5, e6) tt)
+    (λ e6. by_bool (c == 42) (λ e7. rw (e0, e1, e2, e3, e4, e5, e6, e7) tt)
+    (λ e7. rw (e0, e1, e2, e3, e4, e5, e6, e7) tt))))))))
 
 small_set : {nodes : List Node} {text : List ℕ} {lexeme : Lexeme} → IsSet nodes text lexeme → IsSmall lexeme
 small_set (IsSet.set group found is are) = tt
@@ -82,6 +116,14 @@ small_piece nodes (IsPiece.quoted inside h) lexeme m = small_set m.2
 small_piece nodes (IsPiece.sign s) lexeme m = subst IsSmall (sym m) tt
 small_piece nodes (IsPiece.mark c h) lexeme m = subst IsSmall (sym m) (small_mark c)
 
+some_sign : (s : Comparison) → 1 ≤ length (sign_text s)
+some_sign Lt = omega arith
+some_sign Le = omega arith
+some_sign Eq = omega arith
+some_sign Ne = omega arith
+some_sign Ge = omega arith
+some_sign Gt = omega arith
+
 -- no piece is empty
 pub some_piece : {kind : Piece} {piece : List ℕ} → IsPiece kind piece → 1 ≤ length piece
 some_piece (IsPiece.word c cs l h) = omega arith
@@ -89,9 +131,6 @@ some_piece (IsPiece.number n ds is) = (number_small is).1
 some_piece (IsPiece.pixels n ds is) = let some = (number_small is).1 in omega (arith, some, length-append ds (codes "px"))
 some_piece (IsPiece.quoted inside h) = omega arith
 some_piece (IsPiece.sign s) = some_sign s
-  where
-    some_sign : (s : Rattle.viz_base.specs.declared.formulas.Sign.Sign) → 1 ≤ length (sign_text s)
-    some_sign Lt = omega arith
 some_piece (IsPiece.mark c h) = omega arith
 
 -- tokens are small, and no more than bytes

@@ -1,9 +1,9 @@
 ghost use Rattle.std.specs.Prelude.{◌≡◌, IfOk};
 ghost use Rattle.vis_read.specs.Grammar.{paired, quantified};
-ghost use Rattle.vis_read.specs.steps.Machine.{anded, at, behind, closed, completed, fresh, initial, inner, joined, notted, ored, others, outside_of, settled};
+ghost use Rattle.vis_read.specs.steps.Machine.{anded, at, behind, closed, completed, fresh, held, initial, inner, joined, notted, ored, others, outside_of, settled};
 
 use crate::lexemes::{Pair, Quantifier};
-use crate::reading::{Closed, Frame, Outside, Place, Reading};
+use crate::reading::{Closed, Frame, Held, Outside, Place, Reading};
 use crate::stacks::Stack;
 use std::alloc::Global;
 use viz_base::{Boxed, Formula, Mem, Set, Text};
@@ -174,6 +174,31 @@ impl Reading {
             place: Place::Start,
         };
         (rest, place)
+    }
+
+    /// All but the place.
+    pub fn held(self) -> Held
+        ensures { result ≡ held self }
+    {
+        let Reading {
+            frames,
+            names,
+            level,
+            nested,
+            nots,
+            disjunct,
+            conjunct,
+            place: _place,
+        } = self;
+        Held {
+            frames,
+            names,
+            level,
+            nested,
+            nots,
+            disjunct,
+            conjunct,
+        }
     }
 
     /// Before an operand that follows nothing.

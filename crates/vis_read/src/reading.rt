@@ -127,3 +127,15 @@ pub struct Reading {
     pub conjunct: Option<Formula>,
     pub place: Place,
 }
+
+/// What is read of a formula, but for the place.
+#[derive(Debug, Drop)]
+pub struct Held {
+    pub frames: Stack<Frame>,
+    pub names: Stack<Text>,
+    pub level: u32,
+    pub nested: u32,
+    pub nots: u32,
+    pub disjunct: Option<Formula>,
+    pub conjunct: Option<Formula>,
+}

@@ -1,13 +1,13 @@
 ghost use Rattle.std.specs.Prelude.{◌≡◌, ◌∷◌, ◌+◌, ◌<◌, IfOk, MatchResult};
 ghost use Rattle.vis_read.specs.Grammar.{comparison};
 ghost use Rattle.vis_read.specs.steps.Verdicts.{Ends};
-ghost use Rattle.vis_read.specs.steps.Machine.{Gives, Moves, at_first, at_operand, at_quantifier, at_second, bind, close_parens, compared_with, ended, implied, inner, ored, step, step_added, step_behind, step_binder, step_comma, step_compared, step_domain, step_first, step_last, step_number, step_operand, step_pair, step_quantifier, step_ranged, step_second, step_start, closing, ended_added, move_at, negated, opened, quantifier, step_sign, whole, with_and, with_or};
+ghost use Rattle.vis_read.specs.steps.Machine.{Gives, Moves, at_first, at_operand, at_quantifier, at_second, bind, close_parens, compared_with, ended, implied, inner, ored, step, step_added, step_behind, step_binder, step_comma, step_compared, step_domain, step_first, step_last, step_number, step_operand, step_pair, step_quantifier, step_ranged, step_second, step_start, closing, ended_added, move_at, negated, opened, quantifier, step_sign, whole, with_and, with_or, with_part};
 
 use crate::acts::{closed, ored, outside_of, paired};
 use crate::faults::Stop;
 use crate::lexemes::{Lexeme, Pair, Quantifier};
 use crate::places::place;
-use crate::reading::{Closed, Compared, Frame, Outside, Place, Reading, Sum};
+use crate::reading::{Closed, Compared, Frame, Held, Outside, Place, Reading, Sum};
 use crate::stacks::Stack;
 use crate::terms::{empty_sum, step_edge, step_part, step_side, step_spot, with_part, with_sign};
 use std::alloc::Global;
@@ -73,7 +73,7 @@ fn with_and(reading: Reading, formula: Formula) -> Reading
 fn with_or(alloc: Global, reading: Reading, formula: Formula) -> Result<Reading, Mem>
     ensures { IfOk result (λ next. next ≡ with_or reading formula) }
 {
-    let Reading {
+    let Held {
         frames,
         names,
         level,
@@ -81,8 +81,7 @@ fn with_or(alloc: Global, reading: Reading, formula: Formula) -> Result<Reading,
         nots,
         disjunct,
         conjunct,
-        ..
-    } = reading;
+    } = reading.held();
     let left = ored(alloc, disjunct, formula)?;
     Ok(Reading {
         frames,
@@ -100,13 +99,15 @@ fn with_or(alloc: Global, reading: Reading, formula: Formula) -> Result<Reading,
 fn with_implies(alloc: Global, reading: Reading, formula: Formula) -> Result<Reading, Mem>
     ensures { IfOk result (λ next. next ≡ implied reading (ored reading.disjunct formula)) }
 {
-    let Reading {
+    let Held {
         frames,
         names,
         level,
+        nested: _,
+        nots: _,
         disjunct,
-        ..
-    } = reading;
+        conjunct: _conjunct,
+    } = reading.held();
     let left = ored(alloc, disjunct, formula)?;
     let frames = pushed(frames, Frame::Implied(left))?;
     Ok(Reading {
@@ -125,12 +126,15 @@ fn with_implies(alloc: Global, reading: Reading, formula: Formula) -> Result<Rea
 fn closing(alloc: Global, reading: Reading, formula: Formula) -> Result<Closed, Mem>
     ensures { IfOk result (λ c. c ≡ closing reading formula) }
 {
-    let Reading {
+    let Held {
         frames,
         names,
+        level: _,
+        nested: _,
+        nots: _,
         disjunct,
-        ..
-    } = reading;
+        conjunct: _conjunct,
+    } = reading.held();
     let value = ored(alloc, disjunct, formula)?;
     closed(alloc, frames, names, value)
 }
@@ -180,13 +184,16 @@ fn compared_with(right: List<Summand>, compared: Compared) -> Formula
     Formula::Cmp(compared.left, compared.sign, Term { parts: right })
 }
 
-fn step_compared(alloc: Global, reading: Reading, sum: Sum, lexeme: Lexeme) -> Result<Reading, Stop>
+fn step_compared(
+    alloc: Global,
+    reading: Reading,
+    sum: Sum,
+    lexeme: Lexeme,
+) -> Result<Reading, Stop>
     ensures { Gives result (step_compared reading sum sum.compared lexeme) }
 {
     let Sum {
-        compared,
-        parts,
-        ..
+        compared, parts, ..
     } = sum;
     match compared {
         Some(compared) => {
@@ -197,13 +204,34 @@ fn step_compared(alloc: Global, reading: Reading, sum: Sum, lexeme: Lexeme) -> R
     }
 }
 
-fn step_added(alloc: Global, reading: Reading, sum: Sum, lexeme: Lexeme) -> Result<Reading, Stop>
+fn step_added(
+    alloc: Global,
+    reading: Reading,
+    sum: Sum,
+    lexeme: Lexeme,
+) -> Result<Reading, Stop>
     ensures { Gives result (step_added reading sum lexeme) }
 {
     match lexeme {
         Lexeme::Plus => Ok(reading.at(Place::Part(with_sign(sum, false)))),
         Lexeme::Minus => Ok(reading.at(Place::Part(with_sign(sum, true)))),
         lexeme => step_compared(alloc, reading, sum, lexeme),
+    }
+}
+
+/// Behind a token that follows a number of units.
+fn after_number(
+    alloc: Global,
+    reading: Reading,
+    sum: Sum,
+    number: u32,
+    lexeme: Lexeme,
+) -> Result<Reading, Stop>
+    ensures { Gives result (step_added reading (with_part sum number Edge.One) lexeme) }
+{
+    match with_part(sum, u64::from(number), Edge::One) {
+        Ok(sum) => step_added(alloc, reading, sum, lexeme),
+        Err(_) => Err(refused(reading, Stop::Mem)),
     }
 }
 
@@ -218,10 +246,7 @@ fn step_number(
 {
     match lexeme {
         Lexeme::Star => Ok(reading.at(Place::Factor(sum, number))),
-        lexeme => match with_part(sum, u64::from(number), Edge::One) {
-            Ok(sum) => step_added(alloc, reading, sum, lexeme),
-            Err(_) => Err(refused(reading, Stop::Mem)),
-        },
+        lexeme => after_number(alloc, reading, sum, number, lexeme),
     }
 }
 
@@ -270,7 +295,7 @@ fn inner(reading: Reading) -> Result<Reading, Mem>
     requires { reading.nested < 64 }
     ensures { IfOk result (λ next. next ≡ inner reading) }
 {
-    let Reading {
+    let Held {
         frames,
         names,
         level,
@@ -278,8 +303,7 @@ fn inner(reading: Reading) -> Result<Reading, Mem>
         nots,
         disjunct,
         conjunct,
-        ..
-    } = reading;
+    } = reading.held();
     let outside = Outside {
         level,
         nested,
@@ -366,7 +390,12 @@ fn step_quantifier(reading: &Reading, q: Quantifier, lexeme: Lexeme) -> Result<P
     }
 }
 
-fn step_binder(reading: &Reading, q: Quantifier, name: Text, lexeme: Lexeme) -> Result<Place, Stop>
+fn step_binder(
+    reading: &Reading,
+    q: Quantifier,
+    name: Text,
+    lexeme: Lexeme,
+) -> Result<Place, Stop>
     ensures { Moves reading.now result (step_binder reading.now q name lexeme) }
 {
     match lexeme {
@@ -375,7 +404,12 @@ fn step_binder(reading: &Reading, q: Quantifier, name: Text, lexeme: Lexeme) -> 
     }
 }
 
-fn step_domain(reading: &Reading, q: Quantifier, name: Text, lexeme: Lexeme) -> Result<Place, Stop>
+fn step_domain(
+    reading: &Reading,
+    q: Quantifier,
+    name: Text,
+    lexeme: Lexeme,
+) -> Result<Place, Stop>
     ensures { Moves reading.now result (step_domain reading.now q name lexeme) }
 {
     match lexeme {
@@ -388,15 +422,15 @@ fn step_domain(reading: &Reading, q: Quantifier, name: Text, lexeme: Lexeme) -> 
 fn bind(reading: Reading, q: Quantifier, name: Text, set: Set) -> Result<Reading, Mem>
     ensures { IfOk result (λ next. next ≡ bind reading q name set) }
 {
-    let Reading {
+    let Held {
         frames,
         names,
+        level: _,
         nested,
         nots,
         disjunct,
         conjunct,
-        ..
-    } = reading;
+    } = reading.held();
     let frames = pushed(frames, Frame::Quantified(q, set))?;
     let names = bound(names, name)?;
     Ok(Reading {
@@ -527,7 +561,12 @@ pub fn step(alloc: Global, reading: Reading, lexeme: Lexeme) -> Result<Reading, 
 fn whole(closed: Closed) -> Result<Formula, Stop>
     ensures { Ends result (whole closed) }
 {
-    let Closed { parens, value, .. } = closed;
+    let Closed {
+        parens,
+        frames: _frames,
+        names: _names,
+        value,
+    } = closed;
     match parens {
         Some(_) => Err(Stop::Bad),
         None => Ok(value),
@@ -544,9 +583,7 @@ fn end_added(alloc: Global, reading: Reading, sum: Sum) -> Result<Formula, Stop>
     ensures { Ends result (ended_added reading sum sum.compared) }
 {
     let Sum {
-        compared,
-        parts,
-        ..
+        compared, parts, ..
     } = sum;
     match compared {
         Some(compared) => {

@@ -69,7 +69,12 @@ fn added(sum: Sum, times: u64, edge: Edge) -> Result<Place, Mem>
     Ok(Place::Added(with_part(sum, times, edge)?))
 }
 
-pub fn step_edge(reading: &Reading, sum: Sum, times: u32, lexeme: Lexeme) -> Result<Place, Stop>
+pub fn step_edge(
+    reading: &Reading,
+    sum: Sum,
+    times: u32,
+    lexeme: Lexeme,
+) -> Result<Place, Stop>
     ensures { Moves reading.now result (step_edge reading.now sum times lexeme) }
 {
     match lexeme {

@@ -20,6 +20,7 @@ use Rattle.vis_read.specs.declared.reading.Closed.{Closed}
 use Rattle.vis_read.specs.declared.reading.Compared.{Compared}
 use Rattle.vis_read.specs.declared.reading.Frame.{Frame}
 use Rattle.vis_read.specs.declared.reading.Frame.TheVariants.{Quantified, Implied, Parens}
+use Rattle.vis_read.specs.declared.reading.Held.{Held}
 use Rattle.vis_read.specs.declared.reading.Outside.{Outside}
 use Rattle.vis_read.specs.declared.reading.Place.{Place}
 use Rattle.vis_read.specs.declared.reading.Place.TheVariants as of_place
@@ -48,6 +49,10 @@ ored (Some left) f = of_formula.Or left f
 
 abbrev pub at : Reading → Place → Reading
 at s place = record s { place = place }
+
+-- all but the place
+abbrev pub held : Reading → Held
+held s = record { frames = s.frames; names = s.names; level = s.level; nested = s.nested; nots = s.nots; disjunct = s.disjunct; conjunct = s.conjunct }
 
 -- before an operand that follows nothing
 abbrev pub fresh : Reading → Reading
