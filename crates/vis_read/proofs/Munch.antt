@@ -154,7 +154,7 @@ unit_found n k c cs true e le is =
     let lens : length (drop k cs) ≡ suc (suc (length (drop 2 (drop k cs)))) = ap length px in
     let two : k + 2 ≤ length cs = omega (arith, lens, length-drop k cs) in
     let whole : c ∷ cs ≡ (digits ++ codes "px") ++ drop 2 (drop k cs) =
-        ap (λ xs. c ∷ xs) (sym (take-append-drop k cs) ∙ ap (λ xs. take k cs ++ xs) px) ∙ sym (append_assoc digits (codes "px") (drop 2 (drop k cs))) in
+    ap (λ xs. c ∷ xs) (sym (take-append-drop k cs) ∙ ap (λ xs. take k cs ++ xs) px) ∙ sym (append_assoc digits (codes "px") (drop 2 (drop k cs))) in
     let len : length (digits ++ codes "px") ≡ k + 1 + 2 = omega (arith, length-append digits (codes "px"), length-take-le k cs le) in
     let piece : take (k + 1 + 2) (c ∷ cs) ≡ digits ++ codes "px" = take_front (digits ++ codes "px") (drop 2 (drop k cs)) (c ∷ cs) (k + 1 + 2) whole len in
     let answer : with_unit n (k + 1) (drop k cs) ≡ (Pixels n, k + 1 + 2) = rw e refl in

@@ -28,6 +28,7 @@ fn anded(alloc: Global, left: Option<Formula>, right: Formula) -> Result<Formula
     }
 }
 
+/// A disjunction with what stands on its left, where there is such; its only error is want of memory.
 pub fn ored(alloc: Global, left: Option<Formula>, right: Formula) -> Result<Formula, Mem>
     ensures { IfOk result (λ f. f ≡ ored left right) }
 {
@@ -53,6 +54,7 @@ fn quantified(alloc: Global, q: Quantifier, set: Set, body: Formula) -> Result<F
     })
 }
 
+/// Whether the boxes of two names overlap, or are the same.
 pub fn paired(pair: Pair, first: u32, second: u32) -> Formula
     ensures { result ≡ paired pair first second }
 {

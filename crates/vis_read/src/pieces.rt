@@ -77,7 +77,11 @@ fn one_more(number: u32, byte: u8) -> Option<u32>
         return None;
     }
     let next = u64::from(number) * 10 + u64::from(byte - b'0');
-    if next <= MOST { Some(next as u32) } else { None }
+    if next <= MOST {
+        Some(next as u32)
+    } else {
+        None
+    }
 }
 
 /// The number that more digits make of one, and how many there are.

@@ -184,16 +184,13 @@ fn compared_with(right: List<Summand>, compared: Compared) -> Formula
     Formula::Cmp(compared.left, compared.sign, Term { parts: right })
 }
 
-fn step_compared(
-    alloc: Global,
-    reading: Reading,
-    sum: Sum,
-    lexeme: Lexeme,
-) -> Result<Reading, Stop>
+fn step_compared(alloc: Global, reading: Reading, sum: Sum, lexeme: Lexeme) -> Result<Reading, Stop>
     ensures { Gives result (step_compared reading sum sum.compared lexeme) }
 {
     let Sum {
-        compared, parts, ..
+        compared,
+        parts,
+        ..
     } = sum;
     match compared {
         Some(compared) => {
@@ -204,12 +201,7 @@ fn step_compared(
     }
 }
 
-fn step_added(
-    alloc: Global,
-    reading: Reading,
-    sum: Sum,
-    lexeme: Lexeme,
-) -> Result<Reading, Stop>
+fn step_added(alloc: Global, reading: Reading, sum: Sum, lexeme: Lexeme) -> Result<Reading, Stop>
     ensures { Gives result (step_added reading sum lexeme) }
 {
     match lexeme {
@@ -390,12 +382,7 @@ fn step_quantifier(reading: &Reading, q: Quantifier, lexeme: Lexeme) -> Result<P
     }
 }
 
-fn step_binder(
-    reading: &Reading,
-    q: Quantifier,
-    name: Text,
-    lexeme: Lexeme,
-) -> Result<Place, Stop>
+fn step_binder(reading: &Reading, q: Quantifier, name: Text, lexeme: Lexeme) -> Result<Place, Stop>
     ensures { Moves reading.now result (step_binder reading.now q name lexeme) }
 {
     match lexeme {
@@ -404,12 +391,7 @@ fn step_binder(
     }
 }
 
-fn step_domain(
-    reading: &Reading,
-    q: Quantifier,
-    name: Text,
-    lexeme: Lexeme,
-) -> Result<Place, Stop>
+fn step_domain(reading: &Reading, q: Quantifier, name: Text, lexeme: Lexeme) -> Result<Place, Stop>
     ensures { Moves reading.now result (step_domain reading.now q name lexeme) }
 {
     match lexeme {
@@ -583,7 +565,9 @@ fn end_added(alloc: Global, reading: Reading, sum: Sum) -> Result<Formula, Stop>
     ensures { Ends result (ended_added reading sum sum.compared) }
 {
     let Sum {
-        compared, parts, ..
+        compared,
+        parts,
+        ..
     } = sum;
     match compared {
         Some(compared) => {

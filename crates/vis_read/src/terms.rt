@@ -69,12 +69,8 @@ fn added(sum: Sum, times: u64, edge: Edge) -> Result<Place, Mem>
     Ok(Place::Added(with_part(sum, times, edge)?))
 }
 
-pub fn step_edge(
-    reading: &Reading,
-    sum: Sum,
-    times: u32,
-    lexeme: Lexeme,
-) -> Result<Place, Stop>
+/// After a number of times in a sum: the name of a box, or the viewport.
+pub fn step_edge(reading: &Reading, sum: Sum, times: u32, lexeme: Lexeme) -> Result<Place, Stop>
     ensures { Moves reading.now result (step_edge reading.now sum times lexeme) }
 {
     match lexeme {
@@ -98,6 +94,7 @@ fn at_number(reading: &Reading, sum: Sum, number: u32) -> Result<Place, Mem>
     }
 }
 
+/// After the sign of a part of a sum: a number, or an edge taken once.
 pub fn step_part(reading: &Reading, sum: Sum, lexeme: Lexeme) -> Result<Place, Stop>
     ensures { Moves reading.now result (step_part reading.now sum lexeme) }
 {
@@ -108,6 +105,7 @@ pub fn step_part(reading: &Reading, sum: Sum, lexeme: Lexeme) -> Result<Place, S
     }
 }
 
+/// At the beginning of a sum: a minus, or its first part.
 pub fn step_side(reading: &Reading, sum: Sum, lexeme: Lexeme) -> Result<Place, Stop>
     ensures { Moves reading.now result (step_side reading.now sum lexeme) }
 {
@@ -179,6 +177,7 @@ fn step_view(reading: &Reading, sum: Sum, times: u32, lexeme: Lexeme) -> Result<
     }
 }
 
+/// Within an edge: its dot, its rectangle, or its side.
 pub fn step_spot(
     reading: &Reading,
     sum: Sum,

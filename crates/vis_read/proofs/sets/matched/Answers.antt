@@ -15,6 +15,6 @@ loop-node-preserved c =
     let n = c.loop-node.node in
     let found = c.loop-node.found in
     elim c.if-matches_one.branch [
-      then-matches_one+in_ok-push w ↦ subst (AreMatched nodes group (n + 1)) (sym w.found-is) (subst (AreMatched nodes group (n + 1)) (sym w.in_ok-push.ensures.ok) (AreMatched.matched n found c.loop-node.invariant (c.matches_one.ensures.0 w.if-matches_one.true))) |
-      else-matches_one w ↦ subst (AreMatched nodes group (n + 1)) (sym w.found-is) (AreMatched.passed n found c.loop-node.invariant (λ one. false≢true (sym w.if-matches_one.false ∙ c.matches_one.ensures.1 one)))
+      | then-matches_one+in_ok-push w ↦ subst (AreMatched nodes group (n + 1)) (sym w.found-is) (subst (AreMatched nodes group (n + 1)) (sym w.in_ok-push.ensures.ok) (AreMatched.matched n found c.loop-node.invariant (c.matches_one.ensures.0 w.if-matches_one.true)))
+      | else-matches_one w ↦ subst (AreMatched nodes group (n + 1)) (sym w.found-is) (AreMatched.passed n found c.loop-node.invariant (λ one. false≢true (sym w.if-matches_one.false ∙ c.matches_one.ensures.1 one)))
     ]
