@@ -1,0 +1,10 @@
+pub mod Maxima
+pub mod ChildColumns
+pub mod OuterWidths
+pub mod Founds
+pub mod Tables
+pub mod Inline
+pub mod Levels
+pub mod Contents
+pub mod Kids
+pub mod MarkedParts

@@ -1,0 +1,5 @@
+use Rattle.lay_preferred.proofs.Kids.{kid-behind}
+use Rattle.lay_preferred.proofs.trees.kids_at.Goals as goal
+
+pub returns-clause-each : goal.returns-clause-each
+returns-clause-each c = λ i l. kid-behind c.args.tree.now c.args.at i c.kids_at.result.now c.kids_at.ensures l
