@@ -94,8 +94,8 @@ fn add_content<'a>(tree: &'a BoxTree, at: u32, items: &mut Vec<Item<'a>>) -> Res
     Ok(())
 }
 
-/// The inline content of a box, in document order: what its texts, floats and atomic boxes are, and where its inline boxes
-/// start and end. Fails for want of memory alone.
+/// The inline content of a box, in document order: what its texts, floats and atomic boxes are, and where its inline
+/// boxes start and end. Fails for want of memory alone.
 pub fn content(alloc: Global, tree: &BoxTree, at: u32) -> Result<Vec<Item<'_>>, AllocError>
     requires { at < length tree.now.boxes }
     ensures { IfOk result (λ items. items_of items.items ≡ content_of tree.now at) }
