@@ -1,0 +1,12 @@
+use Rattle.std.proofs.Common.{◌≡◌, [], ◌∷◌, length, refl, ap, ◌∙◌, arith}
+use Rattle.std.specs.Str.{chars}
+use Rattle.layout_semantics.specs.Fonts.{text_width}
+use Rattle.lay_preferred.proofs.inlines.space_width.Goals as goal
+
+pub text_width-requires : goal.text_width-requires
+unfolding chars
+text_width-requires g c = let one : length (chars (32 ∷ [])) ≡ 1 = refl in omega (arith, one)
+
+pub returns-clause-value : goal.returns-clause-value
+unfolding chars
+returns-clause-value g c = λ e o. c.text_width.ensures.value e o ∙ ap (λ n. text_width c.args.tree.now e.world n (32 ∷ [])) c.node_at.ensures

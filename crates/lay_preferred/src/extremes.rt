@@ -1,0 +1,34 @@
+//! The greatest of numbers, one after another.
+ghost use Rattle.std.specs.Prelude.{◌≡◌, pos, [], ◌∷◌, ⊤};
+ghost use Rattle.viz_calc.specs.World.{Reading};
+ghost use Rattle.viz_calc.specs.Run.{Stands, Goes, Fits, Blames};
+ghost use Rattle.lay_width.specs.Readings.{option_at};
+ghost use Rattle.lay_preferred.specs.steps.Extremes.{larger as larger_of, or_zero as of_or_zero};
+
+use lay_length::lengths::zero;
+use lay_width::limits::greater;
+use viz_calc::Steady;
+
+/// A number, or a greater one that was there.
+pub fn larger<S: Steady>(calc: &mut S, best: Option<S::Num>, width: S::Num) -> S::Num
+    ensures goes { Goes (S.run calc.old) (S.run calc.new) }
+    ensures value { Stands (S.run calc.new) (S.at result) (λ e. larger_of (option_at S.at best e) (S.at width e)) }
+    ensures cause { Blames (S.run calc.old) (S.run calc.new) ⊤ }
+{
+    match best {
+        Some(best) => greater(calc, best, width),
+        None => width,
+    }
+}
+
+/// The number, or 0 where there is none.
+pub fn or_zero<S: Steady>(calc: &mut S, best: Option<S::Num>) -> S::Num
+    ensures goes { Goes (S.run calc.old) (S.run calc.new) }
+    ensures value { Stands (S.run calc.new) (S.at result) (λ e. of_or_zero (option_at S.at best e)) }
+    ensures cause { Blames (S.run calc.old) (S.run calc.new) (Fits (S.run calc.old) (λ e. pos 0 ∷ [])) }
+{
+    match best {
+        Some(best) => best,
+        None => zero(calc),
+    }
+}

@@ -1,0 +1,75 @@
+//! The preferred widths that were found of boxes.
+ghost use Rattle.std.specs.Prelude.{◌≡◌, ℕ, IsTrue, IfOk, IfSome, Some, None, replicate, slice_get, slice_set};
+ghost use Rattle.viz_calc.specs.World.{Reading};
+ghost use Rattle.viz_calc.specs.Run.{Goes};
+ghost use Rattle.lay_width.specs.Readings.{preferred_at};
+ghost use Rattle.lay_preferred.specs.Readings.{AreFound};
+
+use std::alloc::{AllocError, Global};
+use viz_base::{BoxTree, Preferred};
+use viz_calc::Steady;
+
+/// Preferred widths by the number of their box, as far as they were asked for, in units of 1/64 px.
+///
+/// Whoever lays out a page makes one table for it, and hands it on from call to call: so each box is measured once.
+#[derive(Debug, Drop)]
+pub struct Found<N> {
+    pub widths: Vec<Option<Preferred<N>>>,
+}
+
+/// Both again.
+pub fn copy_of<S: Steady>(calc: &mut S, widths: &Preferred<S::Num>) -> Preferred<S::Num>
+    ensures goes { Goes (S.run calc.old) (S.run calc.new) }
+    ensures value { (e : Reading) → IsTrue ((S.run calc.new).is_open e) → preferred_at S.at result e
+        ≡ preferred_at S.at widths.now e }
+{
+    let least = calc.copy(&widths.least);
+    let most = calc.copy(&widths.most);
+    Preferred { least, most }
+}
+
+/// So many places with nothing in them.
+fn places<N: Drop>(alloc: Global, count: usize) -> Result<Vec<Option<Preferred<N>>>, AllocError>
+    ensures { IfOk result (λ places. places.items ≡ replicate count None) }
+{
+    let mut places = Vec::new(alloc);
+    for _ in 0..count {
+        places.push(None)?;
+    }
+    Ok(places)
+}
+
+/// Nothing found of any box of a tree.
+pub fn nothing_found<S: Steady>(alloc: Global, calc: &mut S, tree: &BoxTree) -> Found<S::Num>
+    ensures goes { Goes (S.run calc.old) (S.run calc.new) }
+    ensures found { AreFound S.at (S.run calc.new) tree.now result.widths.items }
+{
+    match places(alloc, tree.boxes.len()) {
+        Ok(widths) => Found { widths },
+        Err(_) => {
+            calc.stop();
+            Found {
+                widths: Vec::new(alloc),
+            }
+        }
+    }
+}
+
+/// What was found of a box.
+pub fn found_of<N>(found: &Found<N>, at: u32) -> Option<&Preferred<N>>
+    ensures { IfSome result (λ widths. slice_get found.now.widths.items at ≡ Some (Some widths.now)) }
+{
+    match found.widths.get(at as usize) {
+        Some(Some(widths)) => Some(widths),
+        _ => None,
+    }
+}
+
+/// Keeps what was found of a box.
+pub fn keep<N: Drop>(found: &mut Found<N>, at: u32, widths: Preferred<N>)
+    ensures { found.new.widths.items ≡ slice_set found.old.widths.items at (Some widths) }
+{
+    if (at as usize) < found.widths.len() {
+        found.widths[at as usize] = Some(widths);
+    }
+}

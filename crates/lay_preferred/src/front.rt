@@ -1,0 +1,28 @@
+//! The public call over any `Calc`, its engine within a `Latch`.
+ghost use Rattle.std.specs.Prelude.{◌≡◌, ◌<◌, length, IsTrue, IfOk};
+ghost use Rattle.viz_calc.specs.World.{Reading};
+ghost use Rattle.viz_calc.specs.State.{Grows, AreOpen};
+ghost use Rattle.layout_semantics.specs.Preferred.{preferred as preferred_of};
+ghost use Rattle.lay_width.specs.Readings.{preferred_at};
+
+use crate::engine;
+use crate::found::nothing_found;
+use viz_base::{BoxTree, Preferred};
+use viz_calc::{Calc, Halt, Latch};
+
+/// The preferred minimum width and the preferred width of what is in a box, in 1/64 px (CSS 2.1, 10.3.5).
+///
+/// `Mem` for want of memory, `Coeff` where a coefficient passes its limit, and `Open` where a comparison is left open.
+pub fn preferred<C: Calc>(calc: &mut C, tree: &BoxTree, b: u32) -> Result<Preferred<C::Num>, Halt>
+    requires { b < length tree.now.boxes }
+    ensures grows { Grows (C.state calc.old) (C.state calc.new) }
+    ensures value { IfOk result (λ r. (e : Reading) → IsTrue ((C.state calc.new).is_open e)
+        → preferred_at C.at r e ≡ preferred_of tree.now e.world b) }
+    ensures kept { AreOpen (C.state calc.old).kept (C.state calc.new) }
+{
+    let alloc = tree.boxes.allocator();
+    let mut latch = Latch::new(calc);
+    let mut found = nothing_found(alloc, &mut latch, tree);
+    let widths = engine::preferred(alloc, &mut latch, tree, b, &mut found);
+    latch.finish(widths)
+}
