@@ -62,7 +62,7 @@ pub record IsBuiltOf (raw : Raw) (job : Job) : Type 0 where
 pub data IsRefusedLater (raw : Raw) : JobRefusal → Type 0 where
   styles : {refusal : JobRefusal} → AreRefused raw.nodes raw.css refusal → IsRefusedLater raw refusal
   boxes : {why : BoxRefusal} → HasBoxes raw (Err why) → IsRefusedLater raw (of_boxes why)
-  assertion : {tree : TreeLists} {fault : FormulaFault} → HasBoxes raw (Ok tree) → IsFault raw.nodes raw.formula fault → IsRefusedLater raw (of_formula fault)
+  assertion : {tree : TreeLists} (fault : FormulaFault) → HasBoxes raw (Ok tree) → IsFault raw.nodes raw.formula fault → IsRefusedLater raw (of_formula fault)
 
 -- ---- bytes
 

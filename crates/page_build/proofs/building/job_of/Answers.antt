@@ -36,7 +36,7 @@ returns-in_err-formula-clause-given c =
     let boxes : HasBoxes (raw_of raw) (Ok (lists_of c.in_ok-tree.tree)) = record { fonts = raw.fonts; measures = refl; styles = styles; styled = styled; boxes = c.in_ok-tree.ensures } in
     let k : (refusal ≢ Mem → IsRefusedLater (raw_of raw) refusal) = λ other.
     (let found = c.in_err-formula.ensures.given other in
-    subst (IsRefusedLater (raw_of raw)) (sym found.2) (IsRefusedLater.assertion boxes (subst (λ text. IsFault raw.page.nodes text found.0) c.as_str.ensures found.1))) in
+    subst (IsRefusedLater (raw_of raw)) (sym found.2) (IsRefusedLater.assertion found.0 boxes (subst (λ text. IsFault raw.page.nodes text found.0) c.as_str.ensures found.1))) in
     search rules
 
 pub invariant_of-result : goal.invariant_of-result
