@@ -48,7 +48,7 @@ abbrev pub value_line : ℕ → Prop → List ℕ → List ℕ
 value_line node prop value =
     codes "job-refused unsupported-value" ++ (spaced node ++ (codes " " ++ ((row prop).name ++ (codes " " ++ (value ++ codes "\n")))))
 
--- the line of a job whose page or assertion is not yet of a form that is judged
+-- the line of a job whose page is not laid out yet
 abbrev pub not_yet_line : List ℕ
 not_yet_line = codes "job-refused not-yet\n"
 
