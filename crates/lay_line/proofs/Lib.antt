@@ -20,3 +20,8 @@ pub mod Found
 pub mod LoadSteps
 pub mod FloatSteps
 pub mod Entering
+pub mod NextLines
+pub mod LineEnds
+pub mod ShortWords
+pub mod LineBegins
+pub mod AllLines

@@ -1,23 +1,31 @@
 //! Lines of inline content: the steps of one pass over it (CSS 2.1, 9.4.2, 10.8), and the code.
 #![tactic(auto)]
 
+ghost use Rattle.std.specs.Prelude.{◌≡◌};
+
 pub mod breaks;
 pub mod containers;
 pub mod content;
+pub mod endings;
 pub mod entries;
 pub mod existence;
 pub mod extents;
 pub mod fragments;
+mod front;
 pub mod held;
 pub mod inline_extents;
 pub mod items;
 mod laws;
+pub mod line_content;
 pub mod lining;
 pub mod loads;
 pub mod meeting;
+pub mod openings;
 pub mod places;
 pub mod shifts;
 pub mod sizes;
 pub mod stretches;
 pub mod tops;
 pub mod trees;
+
+pub use front::lines;

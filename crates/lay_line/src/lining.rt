@@ -1,223 +1,180 @@
-//! Where the content of a line begins, and what the line adds (CSS 2.1, 9.4.2, 9.5, 16.2).
-ghost use Rattle.std.specs.Prelude.{◌≡◌, ◌-ℤ◌, pos, ◌++◌, None, IsTrue};
-ghost use Rattle.std.specs.Int.{int_max};
+//! The lines of a block container, one after another (CSS 2.1, 9.4.2, 9.5, 10.8, 16.2).
+ghost use Rattle.std.specs.Prelude.{◌≡◌, ◌<◌, ◌++◌, None, length, IsTrue};
+ghost use Rattle.std.specs.List.{AllByRecursion};
 ghost use Rattle.viz_calc.specs.World.{Reading};
-ghost use Rattle.viz_calc.specs.Run.{Stands, Goes};
-ghost use Rattle.layout_semantics.specs.LineFilling.{band_width as width_of};
-ghost use Rattle.layout_semantics.specs.Lines.{aligned};
+ghost use Rattle.viz_calc.specs.Run.{Goes};
+ghost use Rattle.layout_semantics.specs.InlineContent.{content as content_of};
+ghost use Rattle.layout_semantics.specs.Lines.{lines_in};
 ghost use Rattle.layout_semantics.specs.Stretches.{may_part};
-ghost use Rattle.lay_float.specs.Readings.{stretch_at};
+ghost use Rattle.lay_float.specs.Readings.{floats_at};
 ghost use Rattle.lay_line.specs.Contexts.{context_at};
-ghost use Rattle.lay_line.specs.Items.{items_of, bare_of};
-ghost use Rattle.lay_line.specs.Readings.{met_at, pieces_at, places_at, entry_at, entries_at};
-ghost use Rattle.lay_line.specs.Lining.{set_by, late_in};
-ghost use Rattle.lay_line.specs.steps.Lining.{left_in, places_of, box_in, entries_in};
+ghost use Rattle.lay_line.specs.Items.{items_of};
+ghost use Rattle.lay_line.specs.Lining.{so_far_at, next_of, laid_at};
+ghost use Rattle.lay_line.specs.Readings.{parts_at, entries_at};
+ghost use Rattle.lay_line.specs.steps.Content.{IsShort};
+ghost use Rattle.lay_line.specs.steps.Lining.{laying};
 ghost use Rattle.lay_line.specs.steps.Marks.{marks as marks_of};
-ghost use Rattle.lay_line.specs.steps.Staying.{no_items, spanned};
 
 use crate::breaks::{Parting, marks};
 use crate::containers::Container;
-use crate::entries::add_line_entries;
-use crate::fragments::{SetLine, plain_box};
-use crate::held::Piece;
-use crate::inline_extents::half;
-use crate::items::{Item, is_solid};
-use crate::meeting::{Met, place_each};
-use crate::places::{ItemPlace, stand};
-use crate::sizes::band_width;
-use crate::trees::{align_at, node_at};
-use lay_length::lengths::zero;
+use crate::content::content;
+use crate::endings::{Begun, FullLine, SoFar, end_line};
+use crate::held::{nothing, with_pieces};
+use crate::items::Item;
+use crate::loads::{fill, tallest};
+use crate::meeting::Slot;
+use crate::openings::{Opening, first_load, meet_before};
+use crate::sizes::measure;
+use crate::stretches::{Cut, Stretches, cut_first};
+use crate::tops::{Wanted, line_top};
+use lay_float::Floats;
 use std::alloc::Global;
-use viz_base::{Align, Band, BoxTree, Entry, Kind, List, Quad, Spot};
+use viz_base::{BoxTree, Entry, Lines, List};
 use viz_calc::Steady;
 
-/// How far the free room of a line reaches: none where its content is as wide as what the floats leave.
-fn spare<S: Steady>(calc: &mut S, room: &Band<S::Num>, held: &S::Num) -> S::Num
-    ensures goes { Goes (S.run calc.old) (S.run calc.new) }
-    ensures value { Stands (S.run calc.new) (S.at result)
-        (λ e. int_max (pos 0) (width_of (stretch_at S.at room.now e) -ℤ S.at held.now e)) }
-{
-    let across = band_width(calc, room);
-    if calc.le(held, &across) {
-        calc.sub(&across, held)
-    } else {
-        zero(calc)
-    }
-}
-
-/// How far content is moved to the right.
-fn moved<S: Steady>(calc: &mut S, align: Align, room: &Band<S::Num>, held: &S::Num) -> S::Num
-    ensures goes { Goes (S.run calc.old) (S.run calc.new) }
-    ensures value { Stands (S.run calc.new) (S.at result)
-        (λ e. aligned align (width_of (stretch_at S.at room.now e) -ℤ S.at held.now e)) }
-{
-    match align {
-        Align::Left => zero(calc),
-        Align::Right => spare(calc, room, held),
-        Align::Center => {
-            let spare = spare(calc, room, held);
-            half(calc, &spare)
-        }
-    }
-}
-
-#[tactic(auto, unfolding(crate::specs::Contexts::context_at, crate::specs::steps::Lining::left_in))]
-/// Where the content of a line begins.
-pub fn content_left<S: Steady>(
-    calc: &mut S,
-    container: &Container<'_, S::Num>,
-    room: &Band<S::Num>,
-    held: &S::Num,
-) -> S::Num
-    ensures goes { Goes (S.run calc.old) (S.run calc.new) }
-    ensures value { Stands (S.run calc.new) (S.at result) (λ e. left_in (context_at S.at container.now e)
-        (stretch_at S.at room.now e) (S.at held.now e)) }
-{
-    let align = align_at(container.tree, container.at);
-    let by = moved(calc, align, room, held);
-    calc.add(&room.left, &by)
-}
-
-#[tactic(auto, unfolding(crate::specs::Contexts::context_at, crate::specs::steps::Lining::box_in))]
-/// A line box, from edge to edge of what the floats leave.
-pub fn line_box<S: Steady>(
-    calc: &mut S,
-    container: &Container<'_, S::Num>,
-    room: &Band<S::Num>,
-    top: &S::Num,
-    bottom: &S::Num,
-) -> Entry<S::Num>
-    ensures goes { Goes (S.run calc.old) (S.run calc.new) }
-    ensures value { (e : Reading) → IsTrue ((S.run calc.new).is_open e) → entry_at S.at result e
-        ≡ box_in (context_at S.at container.now e) (stretch_at S.at room.now e) (S.at top.now e) (S.at bottom.now e) }
-{
-    let left = calc.copy(&room.left);
-    let top = calc.copy(top);
-    let right = calc.copy(&room.right);
-    let bottom = calc.copy(bottom);
-    let node = node_at(container.tree, container.at);
-    let area = Quad {
-        left,
-        top,
-        right,
-        bottom,
-    };
-    Entry::Here(plain_box(calc, Kind::Line, node, area))
-}
-
-/// How many pieces there are up to the last word or atomic box.
-fn solid_len<N>(pieces: &[Piece<N>]) -> usize
-    ensures { result ≡ (spanned no_items (bare_of pieces.now)).solid }
-{
-    let mut count = 0;
-    let mut solid = 0;
-    for piece in pieces {
-        count += 1;
-        if is_solid(&piece.item) {
-            solid = count;
-        }
-    }
-    solid
-}
-
-#[tactic(auto, unfolding(crate::specs::steps::Lining::places_of))]
-/// Where the items of a line stand, from x on.
-fn places<'a, S: Steady>(
-    alloc: Global,
-    calc: &mut S,
-    x: &S::Num,
-    pieces: &[Piece<'a, S::Num>],
-) -> Vec<ItemPlace<'a, S::Num>>
-    ensures goes { Goes (S.run calc.old) (S.run calc.new) }
-    ensures value { (e : Reading) → IsTrue ((S.run calc.new).is_open e) → places_at S.at result.items e
-        ≡ places_of (S.at x.now e) (pieces_at S.at pieces.now e) }
-{
-    let from = calc.copy(x);
-    stand(alloc, calc, from, solid_len(pieces), pieces)
-}
-
-/// The content of a line, in units of 1/64 px.
+/// A block container, with the height of the tallest line that it could make.
 #[derive(Drop)]
-pub struct Content<'p, 'a, N> {
-    /// The line's baseline.
-    pub baseline: N,
-    /// Its left edge.
-    pub left: N,
-    pub width: N,
-    pub pieces: &'p [Piece<'a, N>],
-    /// Where the line's floats stand.
-    pub spots: &'p [(u32, Spot<N>)],
+struct Frame<'w, 'a, N> {
+    container: &'w Container<'a, N>,
+    tall: N,
 }
 
-/// Adds what the content of a line adds.
-pub fn add_content<S: Steady>(
+/// Where the next line begins, and the stretches that are left.
+#[derive(Debug, Drop)]
+struct Next<'p, 'a, N> {
+    now: SoFar<N>,
+    rest: Stretches<'p, 'a, N>,
+}
+
+/// Adds the next line.
+fn next_line<'p, 'a, S: Steady>(
     alloc: Global,
     calc: &mut S,
-    container: &Container<'_, S::Num>,
-    content: Content<'_, '_, S::Num>,
-    opened: &[u32],
+    frame: &Frame<'_, '_, S::Num>,
+    now: SoFar<S::Num>,
+    cut: Cut<'p, 'a, S::Num>,
     entries: &mut List<Entry<S::Num>>,
-)
+) -> Next<'p, 'a, S::Num>
+    requires { cut.pieces.now ≡ cut.first.now ++ cut.rest.pieces.now }
     ensures goes { Goes (S.run calc.old) (S.run calc.new) }
-    ensures value { (e : Reading) → IsTrue ((S.run calc.new).is_open e) → entries_at S.at entries.new e
-        ≡ entries_at S.at entries.old e ++ entries_in (context_at S.at container.now e)
-        (set_by S.at content.entry e) opened.now }
+    ensures after { (e : Reading) → IsTrue ((S.run calc.new).is_open e) → so_far_at S.at result.now e
+        ≡ (next_of S.at frame.now now cut.entry e).0.after }
+    ensures added { (e : Reading) → IsTrue ((S.run calc.new).is_open e) → entries_at S.at entries.new e
+        ≡ entries_at S.at entries.old e ++ (next_of S.at frame.now now cut.entry e).0.entries }
+    ensures rest { (e : Reading) → IsTrue ((S.run calc.new).is_open e) → parts_at S.at result.rest e
+        ≡ (next_of S.at frame.now now cut.entry e).1 }
 {
-    let Content {
-        baseline,
-        left,
-        width,
+    let Cut {
+        first,
+        rest,
         pieces,
-        spots,
-    } = content;
-    let right = calc.add(&left, &width);
-    let set = places(alloc, calc, &left, pieces);
-    let line = SetLine {
+    } = cut;
+    let SoFar {
+        y,
+        least,
+        floats,
+        opened,
         baseline,
-        left,
-        right,
-        places: set.as_slice(),
-        spots,
+    } = now;
+    let begun = Begun {
+        y,
+        least,
+        floats: floats.placed.len(),
+        opened,
+        baseline,
     };
-    add_line_entries(calc, container, &line, opened, entries);
+    let container = frame.container;
+    let start = nothing(calc);
+    let held = with_pieces(calc, start, first);
+    let met = meet_before(alloc, calc, container, &begun, floats, first);
+    let top = line_top(
+        calc,
+        &Wanted {
+            container,
+            floats: met.floats.placed.as_slice(),
+            y: &begun.y,
+            tall: &frame.tall,
+            width: &held.width,
+        },
+    );
+    let tall = calc.copy(&frame.tall);
+    let least = calc.copy(&begun.least);
+    let slot = Slot { top, tall, least };
+    let opening = Opening {
+        met,
+        opened: begun.opened.as_slice(),
+        first,
+        held,
+    };
+    let load = first_load(alloc, calc, container, &slot, opening);
+    let filled = fill(alloc, calc, container, &slot, load, rest);
+    let count = pieces.len().saturating_sub(filled.rest.pieces.len());
+    let (pieces, _) = pieces.split_at(count);
+    let line = FullLine {
+        slot,
+        load: filled.load,
+        pieces,
+    };
+    let now = end_line(alloc, calc, container, begun, line, entries);
+    Next {
+        now,
+        rest: filled.rest,
+    }
 }
 
-/// The floats that waited, placed from the line's bottom on.
-pub fn place_waiting<S: Steady>(
+/// Adds the lines of stretches, one after another.
+fn lay<S: Steady>(
     alloc: Global,
     calc: &mut S,
-    container: &Container<'_, S::Num>,
-    least: &S::Num,
-    bottom: &S::Num,
-    met: Met<S::Num>,
-) -> Met<S::Num>
+    frame: &Frame<'_, '_, S::Num>,
+    start: SoFar<S::Num>,
+    stretches: Stretches<'_, '_, S::Num>,
+    entries: &mut List<Entry<S::Num>>,
+) -> SoFar<S::Num>
     ensures goes { Goes (S.run calc.old) (S.run calc.new) }
-    ensures value { (e : Reading) → IsTrue ((S.run calc.new).is_open e) → met_at S.at result e
-        ≡ late_in (context_at S.at container.now e) (S.at least.now e) (S.at bottom.now e) (met_at S.at met e) }
+    ensures after { (e : Reading) → IsTrue ((S.run calc.new).is_open e) → so_far_at S.at result e
+        ≡ (laying (length stretches.entry.pieces.now) (context_at S.at frame.now.container.now e)
+        (S.at frame.now.tall e) (so_far_at S.at start e) (parts_at S.at stretches.entry e)).after }
+    ensures added { (e : Reading) → IsTrue ((S.run calc.new).is_open e) → entries_at S.at entries.new e
+        ≡ entries_at S.at entries.old e ++ (laying (length stretches.entry.pieces.now)
+        (context_at S.at frame.now.container.now e) (S.at frame.now.tall e) (so_far_at S.at start e)
+        (parts_at S.at stretches.entry e)).entries }
 {
-    let Met {
-        spots,
-        floats,
-        waiting,
-    } = met;
-    let mut late = Met {
-        spots,
-        floats,
-        waiting: Vec::new(alloc),
-    };
-    place_each(
-        calc,
-        container,
-        least,
-        bottom,
-        &mut late,
-        waiting.as_slice(),
-    );
-    late
+    let mut now = start;
+    let count = stretches.pieces.len();
+    let mut rest = stretches;
+    for line in 0..count {
+        match cut_first(&rest) {
+            Some(cut) => {
+                let next = next_line(alloc, calc, frame, now, cut, entries);
+                now = next.now;
+                rest = next.rest;
+            }
+            None => return now,
+        }
+    }
+    now
+}
+
+/// The inline content of a container; nothing after a halt.
+fn items_in<'t, S: Steady>(alloc: Global, calc: &mut S, tree: &'t BoxTree, at: u32) -> Vec<Item<'t>>
+    requires { at < length tree.now.boxes }
+    ensures goes { Goes (S.run calc.old) (S.run calc.new) }
+    ensures value { (e : Reading) → IsTrue ((S.run calc.new).is_open e)
+        → items_of result.items ≡ content_of tree.now at }
+    ensures short { AllByRecursion IsShort (items_of result.items) }
+{
+    match content(alloc, tree, at) {
+        Ok(items) => items,
+        Err(_) => {
+            calc.stop();
+            Vec::new(alloc)
+        }
+    }
 }
 
 /// Where stretches end.
-pub fn marks_in<S: Steady>(alloc: Global, calc: &mut S, tree: &BoxTree, items: &[Item]) -> Vec<bool>
+fn marks_in<S: Steady>(alloc: Global, calc: &mut S, tree: &BoxTree, items: &[Item]) -> Vec<bool>
     ensures goes { Goes (S.run calc.old) (S.run calc.new) }
     ensures value { (e : Reading) → IsTrue ((S.run calc.new).is_open e) → result.items
         ≡ marks_of (may_part tree.now) None None (items_of items.now) }
@@ -228,5 +185,56 @@ pub fn marks_in<S: Steady>(alloc: Global, calc: &mut S, tree: &BoxTree, items: &
             calc.stop();
             Vec::new(alloc)
         }
+    }
+}
+
+/// Lines, with the floats of the block formatting context behind them.
+#[derive(Debug, Drop)]
+pub struct Laid<N> {
+    /// Their entries, their bottom, and the last one's baseline.
+    pub lines: Lines<N>,
+    /// The floats of the context.
+    pub floats: Floats<N>,
+}
+
+/// The lines of a block container, from y on.
+pub fn lines<S: Steady>(
+    alloc: Global,
+    calc: &mut S,
+    container: &Container<'_, S::Num>,
+    y: &S::Num,
+    least: &S::Num,
+    floats: Floats<S::Num>,
+) -> Laid<S::Num>
+    requires { container.now.at < length container.now.tree.now.boxes }
+    ensures goes { Goes (S.run calc.old) (S.run calc.new) }
+    ensures value { (e : Reading) → IsTrue ((S.run calc.new).is_open e) → laid_at S.at result e
+        ≡ lines_in (context_at S.at container.now e) (S.at y.now e) (S.at least.now e) (floats_at S.at floats e) }
+{
+    let items = items_in(alloc, calc, container.tree, container.at);
+    let pieces = measure(alloc, calc, container, items.as_slice());
+    let marks = marks_in(alloc, calc, container.tree, items.as_slice());
+    let tall = tallest(calc, container, pieces.as_slice());
+    let start = SoFar {
+        y: calc.copy(y),
+        least: calc.copy(least),
+        floats,
+        opened: Vec::new(alloc),
+        baseline: None,
+    };
+    let frame = Frame { container, tall };
+    let stretches = Stretches {
+        pieces: pieces.as_slice(),
+        marks: marks.as_slice(),
+    };
+    let mut entries = List::new(alloc);
+    let end = lay(alloc, calc, &frame, start, stretches, &mut entries);
+    Laid {
+        lines: Lines {
+            entries,
+            bottom: end.y,
+            baseline: end.baseline,
+        },
+        floats: end.floats,
     }
 }

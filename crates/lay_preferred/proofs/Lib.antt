@@ -5,4 +5,3 @@ pub mod Founds
 pub mod Tables
 pub mod Inline
 pub mod Levels
-pub mod ShortWords

@@ -1,5 +1,5 @@
 -- The entries of a line, item by item.
-use Rattle.std.specs.Prelude.{ℕ, ℤ, pos, ◌-ℤ◌, find, is_some, Bool, true, false, cond, List, [], ◌∷◌, ◌++◌, take, Option, None, Some}
+use Rattle.std.specs.Prelude.{ℕ, ℤ, pos, ◌-ℤ◌, find, is_some, Bool, true, false, cond, List, [], ◌∷◌, ◌++◌, take, Option, Some}
 use Rattle.viz_base.specs.declared.layouts.Entry.{Entry}
 use Rattle.viz_base.specs.declared.layouts.Spot.{Spot}
 use Rattle.viz_base.specs.declared.renderings.Placed.{Placed}

@@ -9,7 +9,7 @@ use Rattle.lay_preferred.specs.Readings.{sizes_at}
 use Rattle.lay_line.specs.steps.Content.{IsShort}
 use Rattle.lay_preferred.specs.steps.Outer.{is_given, around}
 use Rattle.lay_preferred.specs.steps.Parts.{IsInside, inline_of, inline_in, blocks_in, sized, widths_of}
-use Rattle.lay_preferred.proofs.ShortWords.{content-short}
+use Rattle.lay_line.proofs.ShortWords.{content-short}
 use Rattle.lay_preferred.proofs.Founds.{found-later, found-closed, found-at, found-kept}
 use Rattle.lay_preferred.proofs.Levels.{of-replaced, of-inline, of-blocks, content-inside, all-later}
 use Rattle.lay_preferred.proofs.OuterWidths.{outer-given, outer-inside}

@@ -1,25 +1,16 @@
 -- Each word of what a box contains is short.
-use Rattle.std.proofs.Common.{◌≡◌, ℕ, zero, suc, ◌≤◌, ◌<◌, ◌+◌, Bool, true, false, List, [], ◌∷◌, ◌++◌, flat_map, length, take, drop, Some, slice_get, refl, sym, subst, ap, ◌∙◌, lit≤, arith}
-use Rattle.std.specs.Prelude.{◌==◌, Option, get_or}
+use Rattle.std.proofs.Common.{◌≡◌, ℕ, zero, suc, ◌≤◌, Bool, true, false, List, [], ◌∷◌, flat_map, length, Some, slice_get, refl, arith}
+use Rattle.std.specs.Prelude.{◌==◌, Option}
 use Rattle.std.specs.List.{AllByRecursion}
 use Rattle.std.specs.Option.{option_map_or}
-use Rattle.std.specs.Str.{IsUtf8, NonePass, chars, encode_utf8_all}
-use Rattle.std.specs.Char.{encode_utf8, len_utf8}
-use denote.Ref.{Bor}
-use Rattle.std.proofs.lemmas.List.{length-append}
-use Rattle.std.proofs.lemmas.Str.{chars-nil, chars-append, chars_from_encodes, encodes-chars, chars_past_char, encode_ascii, IsUtf8-take, IsUtf8-drop, IsCharBoundary-before_ascii}
-use Rattle.std.proofs.lemmas.Str.Pattern.{IsSplitOnceResult, split_parts, drop_at_char}
+use Rattle.std.specs.Str.{chars}
 use Rattle.viz_base.specs.declared.trees.BoxNode.{BoxNode}
 use Rattle.viz_base.specs.declared.trees.BoxTree.{BoxTree}
-use Rattle.viz_base.specs.declared.trees.Kind.{Kind}
-use Rattle.viz_base.specs.declared.trees.Kind.TheVariants as of_kind
-use Rattle.layout_semantics.specs.Blocks.{kind_of}
 use Rattle.layout_semantics.specs.Order.{kids_of}
-use Rattle.layout_semantics.specs.InlineContent.{Item, start, finish, word, space, atomic, forced, float, Sort, a_float, an_atomic, a_break, a_text, an_inline, sort_of, text_of, text_items, letter_before, character_before, items_to, content, is_floated_at}
-use Rattle.layout_semantics.proofs.Pages.{forest}
-use Rattle.layout_laws.specs.Nested.{box_items, items_of_sort}
-use Rattle.layout_laws.proofs.Levels.{All-append, All-implied, content-by-boxes}
-use Rattle.lay_line.specs.steps.Content.{word_items, own_items_by, own_items, letters_in, IsShort, IsCut}
+use Rattle.layout_semantics.specs.InlineContent.{Item, start, finish, word, space, atomic, forced, float, Sort, a_float, an_atomic, a_break, a_text, an_inline, sort_of, text_of, text_items, letter_before, character_before, items_to, content}
+use Rattle.layout_laws.specs.Nested.{items_of_sort}
+use Rattle.layout_laws.proofs.Levels.{All-append, All-implied}
+use Rattle.lay_line.specs.steps.Content.{letters_in, IsShort}
 
 text-short : (at : ℕ) (cs : List ℕ) → AllByRecursion (λ i. letters_in i ≤ length cs) (text_items at cs)
 text-short at [] = tt

@@ -1,0 +1,68 @@
+-- A line that ends, from what it is made of.
+use Rattle.std.proofs.Common.{◌≡◌, ℕ, ℤ, ◌+ℤ◌, true, false, cond, List, [], ◌∷◌, ◌++◌, length, take, Some, sym, ap, ◌∙◌, append_assoc}
+use Rattle.std.specs.Int.{int_max}
+use Rattle.viz_base.specs.declared.layouts.Band.{Band}
+use Rattle.viz_base.specs.declared.layouts.Entry.{Entry}
+use Rattle.layout_semantics.specs.Floats.{FloatBox, band_at}
+use Rattle.layout_semantics.specs.Fragments.{float_entries}
+use Rattle.layout_semantics.specs.InlineContent.{float_boxes}
+use Rattle.layout_semantics.specs.LineFilling.{Met}
+use Rattle.layout_semantics.specs.LineHeights.{InlineContext, height_of_extent}
+use Rattle.layout_semantics.specs.Lines.{SoFar, LaidLines}
+use Rattle.lay_line.specs.Lining.{late_in}
+use Rattle.lay_line.specs.steps.Lining.{no_floats, left_in, places_of, entries_in, box_in, full_line, empty_line, ended_line}
+use Rattle.lay_line.specs.steps.Loading.{Load, bare}
+use Rattle.lay_line.specs.steps.Measured.{Measured}
+use Rattle.lay_line.specs.steps.Meeting.{Slot, placed_all}
+use Rattle.lay_line.specs.steps.Words.{room_in}
+
+pub room-is : (c : InlineContext) (floats : List FloatBox) (y tall : ℤ) (room : Band ℤ) → room ≡ band_at floats c.cb y tall → room ≡ room_in c floats y tall
+unfolding room_in
+room-is c floats y tall room e = e
+
+-- an entry, and then others
+pub entries-then : (old mid new rest : List (Entry ℤ)) (first is : Entry ℤ) → mid ≡ old ++ first ∷ [] → first ≡ is → new ≡ mid ++ rest → new ≡ old ++ is ∷ rest
+entries-then old mid new rest first is m f n = n ∙ (ap (λ l. l ++ rest) m ∙ (append_assoc old (first ∷ []) rest ∙ ap (λ x. old ++ x ∷ rest) f))
+
+module _ (c : InlineContext) (now : SoFar) (slot : Slot) (f : Load) (items : List Measured) where
+  pub ended-full : f.is_line ≡ true → full_line c now slot f items ≡ ended_line c now slot f items
+  unfolding ended_line
+  ended-full t = sym (ap (λ b. cond b (full_line c now slot f items) (empty_line c now f items)) t)
+
+  pub ended-empty : f.is_line ≡ false → empty_line c now f items ≡ ended_line c now slot f items
+  unfolding ended_line
+  ended-empty t = sym (ap (λ b. cond b (full_line c now slot f items) (empty_line c now f items)) t)
+
+module _ (c : InlineContext) (now : SoFar) (f : Load) (items : List Measured) where
+  abbrev pub full_of : Slot → (bottom least : ℤ) → Band ℤ → Met → (left baseline : ℤ) → LaidLines
+  full_of slot bottom least room late left baseline = record {
+    after = record { y = bottom; least = least; floats = late.floats; opened = f.opened; baseline = Some baseline };
+    entries = box_in c room slot.top bottom ∷ entries_in c (record { baseline = baseline; left = left; right = left +ℤ f.held.width; places = places_of left items; spots = late.spots }) now.opened;
+  }
+
+  pub full-is : (slot : Slot) (bottom least : ℤ) (room : Band ℤ) (late : Met) (left baseline : ℤ)
+      → bottom ≡ slot.top +ℤ height_of_extent f.extent → least ≡ int_max now.least slot.top → room ≡ room_in c f.met.floats slot.top slot.tall
+      → late ≡ late_in c least bottom f.met → left ≡ left_in c room f.held.width → baseline ≡ slot.top +ℤ f.extent.above
+      → full_of slot bottom least room late left baseline ≡ full_line c now slot f items
+  unfolding full_line
+  full-is slot bottom least room late left baseline b l r t x y =
+      let bottom_is = slot.top +ℤ height_of_extent f.extent in
+      let least_is = int_max now.least slot.top in
+      let room_is = room_in c f.met.floats slot.top slot.tall in
+      ap (full_of slot bottom least room late left) y
+      ∙ (ap (λ k. full_of slot bottom least room late k (slot.top +ℤ f.extent.above)) x
+      ∙ (ap (λ k. full_of slot bottom least room k (left_in c room f.held.width) (slot.top +ℤ f.extent.above)) t
+      ∙ (ap (λ k. full_of slot bottom least k (late_in c least bottom f.met) (left_in c k f.held.width) (slot.top +ℤ f.extent.above)) r
+      ∙ (ap (λ k. full_of slot bottom k room_is (late_in c k bottom f.met) (left_in c room_is f.held.width) (slot.top +ℤ f.extent.above)) l
+      ∙ ap (λ k. full_of slot k least_is room_is (late_in c least_is k f.met) (left_in c room_is f.held.width) (slot.top +ℤ f.extent.above)) b))))
+
+  abbrev pub empty_of : Met → LaidLines
+  empty_of met = record { after = record { y = now.y; least = now.least; floats = met.floats; opened = f.opened; baseline = now.baseline }; entries = float_entries met.spots }
+
+  pub empty-is : (floats : List FloatBox) (boxes : List ℕ) (met : Met) → floats ≡ take (length now.floats) f.met.floats → boxes ≡ float_boxes (bare items)
+      → met ≡ placed_all c now.least now.y (no_floats floats) boxes → empty_of met ≡ empty_line c now f items
+  unfolding empty_line
+  empty-is floats boxes met fs bs m =
+      ap empty_of m
+      ∙ (ap (λ l. empty_of (placed_all c now.least now.y (no_floats floats) l)) bs
+      ∙ ap (λ l. empty_of (placed_all c now.least now.y (no_floats l) (float_boxes (bare items)))) fs)

@@ -1,0 +1,44 @@
+use Rattle.std.proofs.Common.{◌++◌, take, sym, ap, ◌∙◌}
+use Rattle.std.proofs.lemmas.List.{take-map}
+use Rattle.layout_semantics.specs.Fragments.{float_entries}
+use Rattle.layout_semantics.specs.InlineContent.{float_boxes}
+use Rattle.layout_semantics.specs.Lines.{LaidLines}
+use Rattle.lay_float.specs.Readings.{box_at, boxes_at, floats_at}
+use Rattle.lay_line.specs.Contexts.{context_at}
+use Rattle.lay_line.specs.Lining.{begun_at}
+use Rattle.lay_line.specs.Readings.{load_at, met_at, pieces_at, spots_at, entries_at}
+use Rattle.lay_line.specs.steps.Meeting.{placed_all}
+use Rattle.lay_line.proofs.LineBegins.{none-met}
+use Rattle.lay_line.proofs.LineEnds.{empty-is}
+use Rattle.lay_line.proofs.LoadSteps.{bare-same}
+use Rattle.lay_line.proofs.endings.end_empty.Goals as goal
+
+pub returns-clause-after : goal.returns-clause-after
+returns-clause-after g c = λ e o floats len.
+    let at = g.S.Steady.at in
+    let ctx = context_at at c.args.container.now e in
+    let o1 = c.add_floats.ensures.goes.closes e o in
+    let o2 = c.place_each.ensures.goes.closes e o1 in
+    let cut = ap (λ l. boxes_at at l e) c.truncate.ensures ∙ (sym (take-map (λ f. box_at at f e) c.args.begun.floats c.args.line.load.met.floats.placed) ∙ ap (λ n. take n (floats_at at c.args.line.load.met.floats e)) (sym len)) in
+    let boxes = c.as_slice.ensures.value ∙ (c.floats_of-boxes.ensures.value e o2 ∙ ap float_boxes (sym (bare-same at e c.args.line.pieces.now))) in
+    let none = none-met at e c.new.result.items c.new-2.result.items (boxes_at at c.truncate.new.self e) c.new.ensures.items c.new-2.ensures.items in
+    let met = c.place_each.ensures.value e o1 ∙ ap (λ m. placed_all ctx (at c.args.begun.least e) (at c.args.begun.y e) m c.as_slice.result.now) none in
+    ap (λ (l : LaidLines). l.after)
+    (empty-is ctx (begun_at at c.args.begun floats e) (load_at at c.args.line.load e) (pieces_at at c.args.line.pieces.now e)
+    (boxes_at at c.truncate.new.self e) c.as_slice.result.now (met_at at c.place_each.new.met e) cut boxes met)
+
+pub returns-clause-added : goal.returns-clause-added
+returns-clause-added g c = λ e o floats len.
+    let at = g.S.Steady.at in
+    let ctx = context_at at c.args.container.now e in
+    let o1 = c.add_floats.ensures.goes.closes e o in
+    let o2 = c.place_each.ensures.goes.closes e o1 in
+    let cut = ap (λ l. boxes_at at l e) c.truncate.ensures ∙ (sym (take-map (λ f. box_at at f e) c.args.begun.floats c.args.line.load.met.floats.placed) ∙ ap (λ n. take n (floats_at at c.args.line.load.met.floats e)) (sym len)) in
+    let boxes = c.as_slice.ensures.value ∙ (c.floats_of-boxes.ensures.value e o2 ∙ ap float_boxes (sym (bare-same at e c.args.line.pieces.now))) in
+    let none = none-met at e c.new.result.items c.new-2.result.items (boxes_at at c.truncate.new.self e) c.new.ensures.items c.new-2.ensures.items in
+    let met = c.place_each.ensures.value e o1 ∙ ap (λ m. placed_all ctx (at c.args.begun.least e) (at c.args.begun.y e) m c.as_slice.result.now) none in
+    let is = empty-is ctx (begun_at at c.args.begun floats e) (load_at at c.args.line.load e) (pieces_at at c.args.line.pieces.now e)
+    (boxes_at at c.truncate.new.self e) c.as_slice.result.now (met_at at c.place_each.new.met e) cut boxes met in
+    c.add_floats.ensures.value e o
+    ∙ (ap (λ l. entries_at at c.args.entries.now e ++ float_entries (spots_at at l e)) c.as_slice-2.ensures.value
+    ∙ ap (λ (l : LaidLines). entries_at at c.args.entries.now e ++ l.entries) is)

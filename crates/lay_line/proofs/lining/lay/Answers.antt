@@ -1,0 +1,64 @@
+use Rattle.std.proofs.Common.{◌≡◌, ◌-◌, ◌+◌, ◌++◌, suc, [], length, sym, ap, ◌∙◌, append-nil, arith}
+use Rattle.viz_calc.proofs.Runs.{Goes-then}
+use Rattle.lay_line.specs.Contexts.{context_at}
+use Rattle.lay_line.specs.Lining.{so_far_at}
+use Rattle.lay_line.specs.Readings.{entries_at, parts_at, pieces_at}
+use Rattle.lay_line.proofs.LoadSteps.{parts-same}
+use Rattle.lay_line.proofs.NextLines.{after-next, added-next, after-none, added-none, after-all, added-all}
+use Rattle.lay_line.proofs.lining.lay.Goals as goal
+
+pub next_line-next-requires : goal.next_line-next-requires
+next_line-next-requires g c = c.in-Some.ensures.1 ∙ c.in-Some.ensures.0.joined
+
+pub loop-line-preserved : goal.loop-line-preserved
+loop-line-preserved g c =
+    let at = g.S.Steady.at in
+    let cut = c.in-Some.cut in
+    let count = length c.args.stretches.pieces.now in
+    let line = c.loop-line.line in
+    let one : count - line ≡ suc (count - (line + 1)) = omega (arith, c.loop-line-test.true) in
+    record {
+      goes = Goes-then _ _ _ c.loop-line.invariant.goes c.next_line-next.ensures.goes;
+      after = λ e o.
+          after-next (context_at at c.args.frame.now.container.now e) (at c.args.frame.now.tall e) (so_far_at at c.loop-line.now e) (count - (line + 1)) (count - line)
+          (pieces_at at cut.first.now e) (parts_at at cut.rest e) (parts_at at c.loop-line.rest e) (so_far_at at c.next_line-next.result.now e) (parts_at at c.next_line-next.result.rest e)
+          one (parts-same at e c.loop-line.rest _ c.in-Some.ensures.0.parts) (c.next_line-next.ensures.after e o) (c.next_line-next.ensures.rest e o)
+          ∙ c.loop-line.invariant.after e (c.next_line-next.ensures.goes.closes e o);
+      added = λ e o.
+          added-next (context_at at c.args.frame.now.container.now e) (at c.args.frame.now.tall e) (so_far_at at c.loop-line.now e) (count - (line + 1)) (count - line)
+          (pieces_at at cut.first.now e) (parts_at at cut.rest e) (parts_at at c.loop-line.rest e) (so_far_at at c.next_line-next.result.now e) (parts_at at c.next_line-next.result.rest e)
+          (entries_at at c.loop-line.entries e) (entries_at at c.next_line-next.new.entries e)
+          one (parts-same at e c.loop-line.rest _ c.in-Some.ensures.0.parts) (c.next_line-next.ensures.after e o) (c.next_line-next.ensures.rest e o) (c.next_line-next.ensures.added e o)
+          ∙ c.loop-line.invariant.added e (c.next_line-next.ensures.goes.closes e o);
+    }
+
+pub returns-in-None-clause-after : goal.returns-in-None-clause-after
+returns-in-None-clause-after g c = λ e o.
+    let at = g.S.Steady.at in
+    sym (after-none (context_at at c.args.frame.now.container.now e) (at c.args.frame.now.tall e) (so_far_at at c.loop-line.now e) (length c.args.stretches.pieces.now - c.loop-line.line) (parts_at at c.loop-line.rest e)
+    (parts-same at e c.loop-line.rest [] c.in-None.ensures))
+    ∙ c.loop-line.invariant.after e o
+
+pub returns-in-None-clause-added : goal.returns-in-None-clause-added
+returns-in-None-clause-added g c = λ e o.
+    let at = g.S.Steady.at in
+    sym (append-nil (entries_at at c.loop-line.entries e))
+    ∙ ap (λ l. entries_at at c.loop-line.entries e ++ l) (sym (added-none (context_at at c.args.frame.now.container.now e) (at c.args.frame.now.tall e) (so_far_at at c.loop-line.now e)
+    (length c.args.stretches.pieces.now - c.loop-line.line) (parts_at at c.loop-line.rest e) (parts-same at e c.loop-line.rest [] c.in-None.ensures)))
+    ∙ c.loop-line.invariant.added e o
+
+pub returns-clause-after : goal.returns-clause-after
+returns-clause-after g c = λ e o.
+    let at = g.S.Steady.at in
+    let none : length c.args.stretches.pieces.now - c.loop-line.line ≡ 0 = omega (arith, c.loop-line-test.false) in
+    sym (after-all (context_at at c.args.frame.now.container.now e) (at c.args.frame.now.tall e) (so_far_at at c.loop-line.now e) (length c.args.stretches.pieces.now - c.loop-line.line) (parts_at at c.loop-line.rest e) none)
+    ∙ c.loop-line.invariant.after e o
+
+pub returns-clause-added : goal.returns-clause-added
+returns-clause-added g c = λ e o.
+    let at = g.S.Steady.at in
+    let none : length c.args.stretches.pieces.now - c.loop-line.line ≡ 0 = omega (arith, c.loop-line-test.false) in
+    sym (append-nil (entries_at at c.loop-line.entries e))
+    ∙ ap (λ l. entries_at at c.loop-line.entries e ++ l) (sym (added-all (context_at at c.args.frame.now.container.now e) (at c.args.frame.now.tall e) (so_far_at at c.loop-line.now e)
+    (length c.args.stretches.pieces.now - c.loop-line.line) (parts_at at c.loop-line.rest e) none))
+    ∙ c.loop-line.invariant.added e o

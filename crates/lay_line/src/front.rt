@@ -1,0 +1,64 @@
+//! The public call over any `Calc`, its engine within a `Latch`.
+ghost use Rattle.std.specs.Prelude.{◌≡◌, ◌<◌, [], length, IsTrue, IfOk, OnErr};
+ghost use Rattle.viz_calc.specs.World.{Reading};
+ghost use Rattle.viz_calc.specs.State.{Grows, AreOpen};
+ghost use Rattle.layout_semantics.specs.Lines.{lines as lines_of, lines_in};
+ghost use Rattle.lay_float.specs.Readings.{floats_at, stretch_at};
+ghost use Rattle.lay_line.specs.Contexts.{table_at, context_at};
+ghost use Rattle.lay_line.specs.Lining.{laid_at, list_at};
+
+use crate::containers::Container;
+use crate::lining::{self, Laid};
+use lay_float::Floats;
+use viz_base::Lines;
+use viz_calc::{Calc, Halt, Latch};
+
+/// The lines of a block container, and the floats of its context behind them.
+fn laid<C: Calc>(
+    calc: &mut C,
+    container: &Container<'_, C::Num>,
+    y: &C::Num,
+    least: &C::Num,
+    floats: Floats<C::Num>,
+) -> Result<Laid<C::Num>, Halt>
+    requires { container.now.at < length container.now.tree.now.boxes }
+    ensures grows { Grows (C.state calc.old) (C.state calc.new) }
+    ensures value { IfOk result (λ r. (e : Reading) → IsTrue ((C.state calc.new).is_open e) → laid_at C.at r e
+        ≡ lines_in (context_at C.at container.now e) (C.at y.now e) (C.at least.now e) (floats_at C.at floats e)) }
+    ensures kept { AreOpen (C.state calc.old).kept (C.state calc.new) }
+{
+    let alloc = container.tree.boxes.allocator();
+    let mut latch = Latch::new(calc);
+    let laid = lining::lines(alloc, &mut latch, container, y, least, floats);
+    latch.finish(laid)
+}
+
+#[tactic(auto, unfolding(crate::specs::Contexts::context_at))]
+/// The lines of a block container that holds inline content, from y on, in 1/64 px: their entries in order, the bottom
+/// and the baseline of the last one. Their floats are placed after those before, none with its top above `least` (CSS
+/// 2.1, 9.4.2, 9.5, 10.8).
+///
+/// `Mem` for want of memory, `Coeff` where a coefficient passes its limit, and `Open` where a comparison is left open;
+/// the list of floats is then without any.
+pub fn lines<C: Calc>(
+    calc: &mut C,
+    container: &Container<'_, C::Num>,
+    y: &C::Num,
+    least: &C::Num,
+    floats: &mut Floats<C::Num>,
+) -> Result<Lines<C::Num>, Halt>
+    requires { container.now.at < length container.now.tree.now.boxes }
+    ensures grows { Grows (C.state calc.old) (C.state calc.new) }
+    ensures value { IfOk result (λ r. (e : Reading) → IsTrue ((C.state calc.new).is_open e)
+        → list_at C.at r floats.new e ≡ lines_of container.now.tree.now e.world container.now.at
+        (table_at C.at container.now.inner.now e) (stretch_at C.at container.now.cb.now e) (C.at y.now e)
+        (C.at least.now e) (floats_at C.at floats.old e)) }
+    ensures halted { OnErr result (floats.new.placed ≡ []) }
+    ensures kept { AreOpen (C.state calc.old).kept (C.state calc.new) }
+{
+    let alloc = container.tree.boxes.allocator();
+    let before = std::mem::replace(floats, Floats::new(alloc));
+    let laid = laid(calc, container, y, least, before)?;
+    *floats = laid.floats;
+    Ok(laid.lines)
+}

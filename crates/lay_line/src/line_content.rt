@@ -1,0 +1,213 @@
+//! Where the content of a line begins, and what the line adds (CSS 2.1, 9.4.2, 9.5, 16.2).
+ghost use Rattle.std.specs.Prelude.{◌≡◌, ◌-ℤ◌, pos, ◌++◌, IsTrue};
+ghost use Rattle.std.specs.Int.{int_max};
+ghost use Rattle.viz_calc.specs.World.{Reading};
+ghost use Rattle.viz_calc.specs.Run.{Stands, Goes};
+ghost use Rattle.layout_semantics.specs.LineFilling.{band_width as width_of};
+ghost use Rattle.layout_semantics.specs.Lines.{aligned};
+ghost use Rattle.lay_float.specs.Readings.{stretch_at};
+ghost use Rattle.lay_line.specs.Contexts.{context_at};
+ghost use Rattle.lay_line.specs.Items.{bare_of};
+ghost use Rattle.lay_line.specs.Readings.{met_at, pieces_at, places_at, entry_at, entries_at};
+ghost use Rattle.lay_line.specs.Lining.{set_by, late_in};
+ghost use Rattle.lay_line.specs.steps.Lining.{left_in, places_of, box_in, entries_in};
+ghost use Rattle.lay_line.specs.steps.Staying.{no_items, spanned};
+
+use crate::containers::Container;
+use crate::entries::add_line_entries;
+use crate::fragments::{SetLine, plain_box};
+use crate::held::Piece;
+use crate::inline_extents::half;
+use crate::items::is_solid;
+use crate::meeting::{Met, place_each};
+use crate::places::{ItemPlace, stand};
+use crate::sizes::band_width;
+use crate::trees::{align_at, node_at};
+use lay_length::lengths::zero;
+use std::alloc::Global;
+use viz_base::{Align, Band, Entry, Kind, List, Quad, Spot};
+use viz_calc::Steady;
+
+/// How far the free room of a line reaches: none where its content is as wide as what the floats leave.
+fn spare<S: Steady>(calc: &mut S, room: &Band<S::Num>, held: &S::Num) -> S::Num
+    ensures goes { Goes (S.run calc.old) (S.run calc.new) }
+    ensures value { Stands (S.run calc.new) (S.at result)
+        (λ e. int_max (pos 0) (width_of (stretch_at S.at room.now e) -ℤ S.at held.now e)) }
+{
+    let across = band_width(calc, room);
+    if calc.le(held, &across) {
+        calc.sub(&across, held)
+    } else {
+        zero(calc)
+    }
+}
+
+/// How far content is moved to the right.
+fn moved<S: Steady>(calc: &mut S, align: Align, room: &Band<S::Num>, held: &S::Num) -> S::Num
+    ensures goes { Goes (S.run calc.old) (S.run calc.new) }
+    ensures value { Stands (S.run calc.new) (S.at result)
+        (λ e. aligned align (width_of (stretch_at S.at room.now e) -ℤ S.at held.now e)) }
+{
+    match align {
+        Align::Left => zero(calc),
+        Align::Right => spare(calc, room, held),
+        Align::Center => {
+            let spare = spare(calc, room, held);
+            half(calc, &spare)
+        }
+    }
+}
+
+#[tactic(auto, unfolding(crate::specs::Contexts::context_at, crate::specs::steps::Lining::left_in))]
+/// Where the content of a line begins.
+pub fn content_left<S: Steady>(
+    calc: &mut S,
+    container: &Container<'_, S::Num>,
+    room: &Band<S::Num>,
+    held: &S::Num,
+) -> S::Num
+    ensures goes { Goes (S.run calc.old) (S.run calc.new) }
+    ensures value { Stands (S.run calc.new) (S.at result) (λ e. left_in (context_at S.at container.now e)
+        (stretch_at S.at room.now e) (S.at held.now e)) }
+{
+    let align = align_at(container.tree, container.at);
+    let by = moved(calc, align, room, held);
+    calc.add(&room.left, &by)
+}
+
+#[tactic(auto, unfolding(crate::specs::Contexts::context_at, crate::specs::steps::Lining::box_in))]
+/// A line box, from edge to edge of what the floats leave.
+pub fn line_box<S: Steady>(
+    calc: &mut S,
+    container: &Container<'_, S::Num>,
+    room: &Band<S::Num>,
+    top: &S::Num,
+    bottom: &S::Num,
+) -> Entry<S::Num>
+    ensures goes { Goes (S.run calc.old) (S.run calc.new) }
+    ensures value { (e : Reading) → IsTrue ((S.run calc.new).is_open e) → entry_at S.at result e
+        ≡ box_in (context_at S.at container.now e) (stretch_at S.at room.now e) (S.at top.now e) (S.at bottom.now e) }
+{
+    let left = calc.copy(&room.left);
+    let top = calc.copy(top);
+    let right = calc.copy(&room.right);
+    let bottom = calc.copy(bottom);
+    let node = node_at(container.tree, container.at);
+    let area = Quad {
+        left,
+        top,
+        right,
+        bottom,
+    };
+    Entry::Here(plain_box(calc, Kind::Line, node, area))
+}
+
+/// How many pieces there are up to the last word or atomic box.
+fn solid_len<N>(pieces: &[Piece<N>]) -> usize
+    ensures { result ≡ (spanned no_items (bare_of pieces.now)).solid }
+{
+    let mut count = 0;
+    let mut solid = 0;
+    for piece in pieces {
+        count += 1;
+        if is_solid(&piece.item) {
+            solid = count;
+        }
+    }
+    solid
+}
+
+#[tactic(auto, unfolding(crate::specs::steps::Lining::places_of))]
+/// Where the items of a line stand, from x on.
+fn places<'a, S: Steady>(
+    alloc: Global,
+    calc: &mut S,
+    x: &S::Num,
+    pieces: &[Piece<'a, S::Num>],
+) -> Vec<ItemPlace<'a, S::Num>>
+    ensures goes { Goes (S.run calc.old) (S.run calc.new) }
+    ensures value { (e : Reading) → IsTrue ((S.run calc.new).is_open e) → places_at S.at result.items e
+        ≡ places_of (S.at x.now e) (pieces_at S.at pieces.now e) }
+{
+    let from = calc.copy(x);
+    stand(alloc, calc, from, solid_len(pieces), pieces)
+}
+
+/// The content of a line, in units of 1/64 px.
+#[derive(Drop)]
+pub struct Content<N> {
+    /// The line's baseline.
+    pub baseline: N,
+    /// Its left edge.
+    pub left: N,
+    pub width: N,
+    /// Where the line's floats stand.
+    pub spots: Vec<(u32, Spot<N>)>,
+}
+
+/// Adds what the content of a line adds.
+pub fn add_content<S: Steady>(
+    alloc: Global,
+    calc: &mut S,
+    container: &Container<'_, S::Num>,
+    content: Content<S::Num>,
+    pieces: &[Piece<S::Num>],
+    opened: &[u32],
+    entries: &mut List<Entry<S::Num>>,
+)
+    ensures goes { Goes (S.run calc.old) (S.run calc.new) }
+    ensures value { (e : Reading) → IsTrue ((S.run calc.new).is_open e) → entries_at S.at entries.new e
+        ≡ entries_at S.at entries.old e ++ entries_in (context_at S.at container.now e)
+        (set_by S.at content pieces.now e) opened.now }
+{
+    let Content {
+        baseline,
+        left,
+        width,
+        spots,
+    } = content;
+    let right = calc.add(&left, &width);
+    let set = places(alloc, calc, &left, pieces);
+    let line = SetLine {
+        baseline,
+        left,
+        right,
+        places: set.as_slice(),
+        spots: spots.as_slice(),
+    };
+    add_line_entries(calc, container, &line, opened, entries);
+}
+
+/// The floats that waited, placed from the line's bottom on.
+pub fn place_waiting<S: Steady>(
+    alloc: Global,
+    calc: &mut S,
+    container: &Container<'_, S::Num>,
+    least: &S::Num,
+    bottom: &S::Num,
+    met: Met<S::Num>,
+) -> Met<S::Num>
+    ensures goes { Goes (S.run calc.old) (S.run calc.new) }
+    ensures value { (e : Reading) → IsTrue ((S.run calc.new).is_open e) → met_at S.at result e
+        ≡ late_in (context_at S.at container.now e) (S.at least.now e) (S.at bottom.now e) (met_at S.at met e) }
+{
+    let Met {
+        spots,
+        floats,
+        waiting,
+    } = met;
+    let mut late = Met {
+        spots,
+        floats,
+        waiting: Vec::new(alloc),
+    };
+    place_each(
+        calc,
+        container,
+        least,
+        bottom,
+        &mut late,
+        waiting.as_slice(),
+    );
+    late
+}

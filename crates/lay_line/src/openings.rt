@@ -1,0 +1,120 @@
+//! The beginning of a line: the floats before it, and its first stretch (CSS 2.1, 9.4.2, 9.5).
+ghost use Rattle.std.specs.Prelude.{◌≡◌, IsTrue};
+ghost use Rattle.viz_calc.specs.World.{Reading};
+ghost use Rattle.viz_calc.specs.Run.{Goes};
+ghost use Rattle.lay_float.specs.Readings.{floats_at};
+ghost use Rattle.lay_line.specs.Contexts.{context_at};
+ghost use Rattle.lay_line.specs.Lining.{begun_at};
+ghost use Rattle.lay_line.specs.Readings.{held_at, load_at, met_at, slot_at, pieces_at};
+ghost use Rattle.lay_line.specs.steps.Lining.{met_before, first_load};
+
+use crate::containers::Container;
+use crate::endings::Begun;
+use crate::held::{Held, Piece, nothing};
+use crate::loads::{Load, Taken, ahead, extent_at_start, with_stretch};
+use crate::meeting::{Met, Slot, floats_of, place_each};
+use crate::shifts::strut;
+use lay_float::Floats;
+use std::alloc::Global;
+use viz_calc::Steady;
+
+/// What a line begins with.
+#[derive(Drop)]
+pub struct Opening<'p, 'a, N> {
+    /// The floats before it.
+    pub met: Met<N>,
+    /// The inline boxes that are open.
+    pub opened: &'p [u32],
+    /// Its first stretch.
+    pub first: &'p [Piece<'a, N>],
+    /// What that takes.
+    pub held: Held<N>,
+}
+
+/// Boxes again.
+fn copy_boxes<S: Steady>(alloc: Global, calc: &mut S, boxes: &[u32]) -> Vec<u32>
+    ensures goes { Goes (S.run calc.old) (S.run calc.new) }
+    ensures value { (e : Reading) → IsTrue ((S.run calc.new).is_open e) → result.items ≡ boxes.now }
+{
+    match Vec::from_slice(alloc, boxes) {
+        Ok(boxes) => boxes,
+        Err(_) => {
+            calc.stop();
+            Vec::new(alloc)
+        }
+    }
+}
+
+#[tactic(auto, unfolding(crate::specs::steps::Loading::ahead, crate::specs::steps::Lining::met_before))]
+/// The floats that stand before anything on a line.
+pub fn meet_before<S: Steady>(
+    alloc: Global,
+    calc: &mut S,
+    container: &Container<'_, S::Num>,
+    begun: &Begun<S::Num>,
+    floats: Floats<S::Num>,
+    first: &[Piece<S::Num>],
+) -> Met<S::Num>
+    ensures goes { Goes (S.run calc.old) (S.run calc.new) }
+    ensures value { (e : Reading) → IsTrue ((S.run calc.new).is_open e) → met_at S.at result e
+        ≡ met_before (context_at S.at container.now e) (begun_at S.at begun.now (floats_at S.at floats e) e)
+        (pieces_at S.at first.now e) }
+{
+    let (before, _) = first.split_at(ahead(container.tree, first));
+    let boxes = floats_of(alloc, calc, before);
+    let mut met = Met {
+        spots: Vec::new(alloc),
+        floats,
+        waiting: Vec::new(alloc),
+    };
+    place_each(
+        calc,
+        container,
+        &begun.least,
+        &begun.y,
+        &mut met,
+        boxes.as_slice(),
+    );
+    met
+}
+
+/// A line with its first stretch, which stands on it in any case.
+pub fn first_load<S: Steady>(
+    alloc: Global,
+    calc: &mut S,
+    container: &Container<'_, S::Num>,
+    slot: &Slot<S::Num>,
+    opening: Opening<'_, '_, S::Num>,
+) -> Load<S::Num>
+    ensures goes { Goes (S.run calc.old) (S.run calc.new) }
+    ensures value { (e : Reading) → IsTrue ((S.run calc.new).is_open e) → load_at S.at result e
+        ≡ first_load (context_at S.at container.now e) (slot_at S.at slot.now e) (met_at S.at opening.entry.met e)
+        opening.entry.opened.now (pieces_at S.at opening.entry.first.now e) (held_at S.at opening.entry.held e) }
+{
+    let Opening {
+        met,
+        opened,
+        first,
+        held,
+    } = opening;
+    let strut = strut(calc, container);
+    let extent = extent_at_start(calc, container, strut, opened);
+    let opened = copy_boxes(alloc, calc, opened);
+    let empty = nothing(calc);
+    let load = Load {
+        held: empty,
+        is_ended: false,
+        is_line: false,
+        met,
+        extent,
+        opened,
+    };
+    let (_, late) = first.split_at(ahead(container.tree, first));
+    let floats = floats_of(alloc, calc, late);
+    let taken = Taken {
+        part: first,
+        floats: floats.as_slice(),
+        held,
+    };
+    with_stretch(alloc, calc, container, slot, load, taken)
+}
