@@ -34,7 +34,7 @@ pub struct Ended<N> {
 }
 
 /// A band again.
-fn copy_band<S: Steady>(calc: &mut S, band: &Band<S::Num>) -> Band<S::Num>
+pub fn copy_band<S: Steady>(calc: &mut S, band: &Band<S::Num>) -> Band<S::Num>
     ensures goes { Goes (S.run calc.old) (S.run calc.new) }
     ensures value { (e : Reading) → IsTrue ((S.run calc.new).is_open e) → band_at S.at result e
         ≡ band_at S.at band.now e }
@@ -108,7 +108,7 @@ fn wait<S: Steady>(calc: &mut S, cb: &Band<S::Num>, at: u32, waiting: &mut List<
 }
 
 /// The width of a containing block.
-fn across<S: Steady>(calc: &mut S, cb: &Band<S::Num>) -> S::Num
+pub fn across<S: Steady>(calc: &mut S, cb: &Band<S::Num>) -> S::Num
     ensures goes { Goes (S.run calc.old) (S.run calc.new) }
     ensures value { Stands (S.run calc.new) (S.at result) (λ e. width_of (band_at S.at cb.now e)) }
     ensures cause { Blames (S.run calc.old) (S.run calc.new) (Fits (S.run calc.old)
@@ -118,7 +118,11 @@ fn across<S: Steady>(calc: &mut S, cb: &Band<S::Num>) -> S::Num
 }
 
 /// From the left to the right edge of the content of a box whose margin edge is at `left`.
-fn content_between<S: Steady>(calc: &mut S, left: &S::Num, terms: &Widths<S::Num>) -> Band<S::Num>
+pub fn content_between<S: Steady>(
+    calc: &mut S,
+    left: &S::Num,
+    terms: &Widths<S::Num>,
+) -> Band<S::Num>
     ensures goes { Goes (S.run calc.old) (S.run calc.new) }
     ensures value { (e : Reading) → IsTrue ((S.run calc.new).is_open e) → band_at S.at result e
         ≡ content_from (S.at left.now e) (widths_at S.at terms.now e) }
@@ -134,7 +138,12 @@ fn content_between<S: Steady>(calc: &mut S, left: &S::Num, terms: &Widths<S::Num
 
 #[tactic(auto, unfolding(crate::specs::steps::Leads::inner_band))]
 /// The containing block of the boxes in a block in normal flow (CSS 2.1, 10.1).
-fn band_inside<S: Steady>(calc: &mut S, tree: &BoxTree, cb: &Band<S::Num>, b: u32) -> Band<S::Num>
+pub fn band_inside<S: Steady>(
+    calc: &mut S,
+    tree: &BoxTree,
+    cb: &Band<S::Num>,
+    b: u32,
+) -> Band<S::Num>
     ensures goes { Goes (S.run calc.old) (S.run calc.new) }
     ensures value { (e : Reading) → IsTrue ((S.run calc.new).is_open e) → band_at S.at result e
         ≡ inner_band tree.now e.world (band_at S.at cb.now e) b }
@@ -160,7 +169,7 @@ fn margin_in<S: Steady>(calc: &mut S, tree: &BoxTree, cb: &Band<S::Num>, length:
 
 #[tactic(auto, unfolding(crate::specs::steps::Leads::margin_above, layout_semantics::specs::Verticals::verticals))]
 /// Joins the used top margin of a box to a run.
-fn join_top<S: Steady>(
+pub fn join_top<S: Steady>(
     calc: &mut S,
     tree: &BoxTree,
     cb: &Band<S::Num>,
@@ -179,7 +188,7 @@ fn join_top<S: Steady>(
 
 #[tactic(auto, unfolding(crate::specs::steps::Leads::margin_below, layout_semantics::specs::Verticals::verticals))]
 /// Joins its used bottom margin.
-fn join_bottom<S: Steady>(
+pub fn join_bottom<S: Steady>(
     calc: &mut S,
     tree: &BoxTree,
     cb: &Band<S::Num>,
@@ -208,7 +217,7 @@ fn is_passed(past: Option<u32>, b: u32) -> bool
 
 #[tactic(auto, unfolding(crate::specs::steps::Leads::stops))]
 /// Whether the margins end at a box, since it has `clear`.
-fn stops_at(tree: &BoxTree, past: Option<u32>, b: u32) -> bool
+pub fn stops_at(tree: &BoxTree, past: Option<u32>, b: u32) -> bool
     ensures { result ≡ stops tree.now (passed_by past) b }
 {
     clears(tree, b) && !is_passed(past, b)
@@ -426,7 +435,7 @@ pub struct Joined<N> {
 }
 
 /// A run again.
-fn copy_run<S: Steady>(calc: &mut S, run: &Run<S::Num>) -> Run<S::Num>
+pub fn copy_run<S: Steady>(calc: &mut S, run: &Run<S::Num>) -> Run<S::Num>
     ensures goes { Goes (S.run calc.old) (S.run calc.new) }
     ensures value { (e : Reading) → IsTrue ((S.run calc.new).is_open e)
         → run_at S.at result e ≡ run_at S.at run.now e }

@@ -1,12 +1,12 @@
 //! Margins that adjoin and collapse, over any arithmetic (CSS 2.1, 8.3.1).
 #![tactic(auto)]
 
-mod contents;
+pub mod contents;
 pub mod engine;
 mod front;
 pub mod leads;
 mod runs;
-mod trees;
+pub mod trees;
 
 pub use front::lead;
 pub use runs::Run;

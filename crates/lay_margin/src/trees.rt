@@ -28,14 +28,14 @@ pub fn kids_at(tree: &BoxTree, b: u32) -> &[u32]
 }
 
 /// Whether a box is replaced.
-fn is_replaced(tree: &BoxTree, b: u32) -> bool
+pub fn is_replaced(tree: &BoxTree, b: u32) -> bool
     ensures { result ≡ is_replaced_at tree.now b }
 {
     matches!(kind_at(tree, b), Kind::Replaced)
 }
 
 /// Whether a box starts a block formatting context (CSS 2.1, 9.4.1).
-fn starts_context(tree: &BoxTree, b: u32) -> bool
+pub fn starts_context(tree: &BoxTree, b: u32) -> bool
     ensures { result ≡ is_context_root tree.now b }
 {
     match tree.boxes.get(b as usize) {
@@ -55,7 +55,7 @@ fn is_block_level(tree: &BoxTree, b: u32) -> bool
 }
 
 /// Whether a box is treated as `clear: both`, so that it overlaps no float.
-fn stands_clear(tree: &BoxTree, b: u32) -> bool
+pub fn stands_clear(tree: &BoxTree, b: u32) -> bool
     ensures { result ≡ stands_clear_of_floats tree.now b }
 {
     (starts_context(tree, b) || is_replaced(tree, b))
@@ -64,7 +64,7 @@ fn stands_clear(tree: &BoxTree, b: u32) -> bool
 }
 
 /// The `clear` of a box.
-fn own_clear(tree: &BoxTree, b: u32) -> Clear
+pub fn own_clear(tree: &BoxTree, b: u32) -> Clear
     ensures { result ≡ own tree.now b (λ (s : StyleOf). s.clear) of_clear.Nothing }
 {
     match own_style(tree, b) {

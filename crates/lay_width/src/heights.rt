@@ -130,7 +130,7 @@ pub fn own_height_around<S: Steady>(
 
 /// The height that percentages of a box's heights are of, where it is definite, up so many levels; that of the
 /// viewport is so many pixels.
-fn definite_height<S: Steady>(
+pub fn definite_height<S: Steady>(
     calc: &mut S,
     tree: &BoxTree,
     viewport: u32,
