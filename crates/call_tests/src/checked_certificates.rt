@@ -1,7 +1,7 @@
 //! Verdicts on a page without boxes, whose formula compares the viewport's width, at 81 widths of one size.
 ghost use Rattle.std.specs.Prelude.{◌≡◌, [], length, IsTrue, IfOk};
 ghost use Rattle.viz_base.specs.Formulas.{is_bound_in, has_small_terms};
-ghost use Rattle.lay_flow.specs.BlockPages.{ready};
+ghost use Rattle.lay_flow.specs.Ready.{ready};
 ghost use Rattle.cert_check.specs.Nodes.{nodes_of};
 
 use crate::empty_trees::no_boxes;

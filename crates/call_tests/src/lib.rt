@@ -38,6 +38,7 @@ mod raw_jobs;
 #[cfg(test)]
 mod row_sums;
 #[cfg(test)]
+#[cfg(test)]
 mod searched_proofs;
 #[cfg(test)]
 mod selector_texts;

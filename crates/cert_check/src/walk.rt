@@ -1,6 +1,6 @@
 ghost use Rattle.std.specs.Prelude.{◌≡◌, ◌↔◌, ◌+◌, ◌*◌, ◌<◌, ◌^◌, length, IsTrue, IfOk, IfSome};
 ghost use Rattle.std.specs.Option.{option_and_then};
-ghost use Rattle.lay_flow.specs.BlockPages.{ready};
+ghost use Rattle.lay_flow.specs.Ready.{ready};
 ghost use Rattle.cert_check.specs.Nodes.{nodes_of};
 ghost use Rattle.cert_check.specs.Rectangles.{world_count, part_of};
 ghost use Rattle.cert_check.specs.Right.{Holds, Right};

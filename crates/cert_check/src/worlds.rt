@@ -1,11 +1,12 @@
 ghost use Rattle.std.specs.Prelude.{◌≡◌, ◌+◌, ◌-◌, ◌≤◌, IsTrue, IfOk, MatchOption};
-ghost use Rattle.lay_flow.specs.BlockPages.{ready};
+ghost use Rattle.lay_flow.specs.Ready.{ready};
 ghost use Rattle.logic_semantics.specs.Ranges.{IsInRange};
 ghost use Rattle.cert_check.specs.Right.{is_true_at};
 ghost use Rattle.cert_check.specs.Verdicts.{IsTrueIn, IsFirstUntrueIn};
 ghost use Rattle.cert_check.specs.Rectangles.{IsWithin};
 ghost use Rattle.cert_check.specs.steps.Walk.{seek, untrue_at, untrue_of_width, first_untrue};
 
+use crate::bounds::is_low_rendering;
 use lay_flow::render_at;
 use std::alloc::Global;
 use vis_truth::truth;
@@ -14,13 +15,17 @@ use viz_calc::Plain;
 
 /// Whether a job's formula is true of its page's rendering at a world of the job's range.
 ///
-/// It lays the page out once, and copies nothing of the job. The only fault is want of memory.
+/// It lays the page out once, and copies nothing of the job. The only fault is want of memory; a coordinate past 2^70,
+/// which no page of blocks has and no other page is known to have, would be told as such too.
 pub fn holds_at(alloc: Global, job: &Job, world: World) -> Result<bool, Mem>
     requires ready { IsTrue (ready job.now.tree) }
     requires in_range { IsInRange job.now.range world }
     ensures { IfOk result (λ yes. yes ≡ is_true_at job.now world) }
 {
     let rendering = render_at(alloc, world, &job.tree, job.height)?;
+    if !is_low_rendering(&rendering) {
+        return Err(Mem);
+    }
     let mut calc = Plain::new(world);
     match truth(&mut calc, &job.formula, &rendering, job.height) {
         Ok(yes) => Ok(yes),

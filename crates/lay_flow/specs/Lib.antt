@@ -1,5 +1,4 @@
 pub mod steps
-pub mod BlockPages
-pub mod Fitting
-pub mod FlowFitting
-pub mod Limits
+pub mod Readings
+pub mod Ready
+pub mod Ways

@@ -1,3 +1,2 @@
-pub mod Readings
-pub mod Words
-pub mod Blocks
+pub mod Walk
+pub mod Flow

@@ -1,46 +1,146 @@
-use lay_margin::Run;
-use viz_base::{Band, Spot, Widths};
+//! Boxes before and after their content (CSS 2.1, 8.1, 10.3, 10.6).
+ghost use Rattle.std.specs.Prelude.{◌≡◌, ◌<◌, length, IsTrue};
+ghost use Rattle.viz_calc.specs.World.{Reading};
+ghost use Rattle.viz_calc.specs.Run.{Goes};
+ghost use Rattle.viz_calc.specs.Renderings.{placed_at};
+ghost use Rattle.layout_semantics.specs.FlowBoxes.{across as across_of};
+ghost use Rattle.layout_semantics.specs.Horizontal.{widths as widths_of};
+ghost use Rattle.lay_block.specs.steps.Readings.{frame_at};
+ghost use Rattle.lay_float.specs.Readings.{stretch_at};
+ghost use Rattle.lay_width.specs.Readings.{widths_at};
+ghost use Rattle.lay_flow.specs.Readings.{context_at};
+ghost use Rattle.lay_flow.specs.steps.Flow.{frame_of, replaced_of, root_of, block_of};
 
-/// Used margins, borders and paddings above and below the content of a box, in 1/64 px (CSS 2.1, 8.3 to 8.5).
-#[derive(Debug, Drop)]
-pub struct Edges<N> {
-    pub margin_top: N,
-    pub border_top: N,
-    pub padding_top: N,
-    pub padding_bottom: N,
-    pub border_bottom: N,
-    pub margin_bottom: N,
+use crate::heights::{block_height, context_height, held, known_height, replaced_height};
+use crate::parts::{Context, Page};
+use lay_block::boxes::joins_last_child;
+use lay_block::frames::Shape;
+use lay_block::heights::{across, verticals};
+use lay_block::places::place;
+use lay_block::standing::content_top;
+use lay_preferred::engine::preferred;
+use lay_preferred::found::nothing_found;
+use lay_width::engine::{block, replaced_block, replaced_shrunk, shrunk};
+use lay_width::properties::{Placing, placed_as};
+use std::alloc::Global;
+use viz_base::{Band, Placed, Spot, Widths};
+use viz_calc::Steady;
+
+#[tactic(auto, unfolding(layout_semantics::specs::Horizontal::widths))]
+/// The used widths of a box in so wide a containing block (CSS 2.1, 10.3, 10.4).
+fn widths<S: Steady>(
+    alloc: Global,
+    calc: &mut S,
+    page: &Page<'_, S::Num>,
+    b: u32,
+    room: &S::Num,
+) -> Widths<S::Num>
+    requires { b < length page.now.tree.now.boxes }
+    ensures goes { Goes (S.run calc.old) (S.run calc.new) }
+    ensures value { (e : Reading) → IsTrue ((S.run calc.new).is_open e) → widths_at S.at result e
+        ≡ widths_of page.now.tree.now e.world page.now.height b (S.at room.now e) }
+{
+    match placed_as(page.tree, b) {
+        Placing::Block => block(calc, page.tree, b, room),
+        Placing::ReplacedBlock => replaced_block(calc, page.tree, page.height, b, room),
+        Placing::ReplacedShrunk => replaced_shrunk(calc, page.tree, page.height, b, room),
+        Placing::Shrunk => {
+            let mut found = nothing_found(alloc, calc, page.tree);
+            let both = preferred(alloc, calc, page.tree, b, &mut found);
+            shrunk(calc, page.tree, b, room, &both)
+        }
+    }
 }
 
-/// A box before its height is known, in 1/64 px: its used terms, and the upper left corner of its border box.
-#[derive(Debug, Drop)]
-pub struct Shape<N> {
-    pub x: Widths<N>,
-    pub v: Edges<N>,
-    pub corner: Spot<N>,
+#[tactic(auto, unfolding(crate::specs::steps::Flow::frame_of))]
+/// A box in flow before its height is known, its border top at `top`.
+pub fn shape<S: Steady>(
+    alloc: Global,
+    calc: &mut S,
+    page: &Page<'_, S::Num>,
+    cb: &Band<S::Num>,
+    b: u32,
+    top: &S::Num,
+) -> Shape<S::Num>
+    requires { b < length page.now.tree.now.boxes }
+    ensures goes { Goes (S.run calc.old) (S.run calc.new) }
+    ensures value { (e : Reading) → IsTrue ((S.run calc.new).is_open e) → frame_at S.at result e
+        ≡ frame_of page.now.tree.now e.world page.now.height b (across_of (stretch_at S.at cb.now e))
+        (S.at cb.now.left e) (S.at top.now e) }
+{
+    let room = across(calc, cb);
+    let x = widths(alloc, calc, page, b, &room);
+    let v = verticals(calc, page.tree, b, &room);
+    let left = calc.add(&cb.left, &x.margin_left);
+    let top = calc.copy(top);
+    Shape {
+        x,
+        v,
+        corner: Spot { x: left, y: top },
+    }
 }
 
-/// The containing block of the boxes in a box, in 1/64 px (CSS 2.1, 10.1).
-#[derive(Debug, Drop)]
-pub struct Container<N> {
-    /// From its left to its right edge.
-    pub band: Band<N>,
-    pub top: N,
-    /// Its height, where that is definite (10.5).
-    pub height: Option<N>,
+#[tactic(auto, unfolding(crate::specs::steps::Flow::replaced_of))]
+/// A replaced box.
+pub fn replaced_box<S: Steady>(
+    calc: &mut S,
+    page: &Page<'_, S::Num>,
+    b: u32,
+    room: &S::Num,
+    shape: &Shape<S::Num>,
+) -> Placed<S::Num>
+    ensures goes { Goes (S.run calc.old) (S.run calc.new) }
+    ensures value { (e : Reading) → IsTrue ((S.run calc.new).is_open e) → placed_at S.at result e
+        ≡ replaced_of page.now.tree.now e.world page.now.height b (S.at room.now e) (frame_at S.at shape.now e) }
+{
+    let height = replaced_height(calc, page, b, room);
+    place(calc, page.tree, b, shape, &height)
 }
 
-/// Where the next child of a box stands.
-#[derive(Debug, Drop)]
-pub enum Standing<N> {
-    /// So far only margins that adjoin the box's own top margin have come: at its content top.
-    AtTop(N),
-    /// A run of adjoining margins has come since a border edge; one that is stuck does not adjoin the box's bottom margin.
-    Below { edge: N, run: Run<N>, stuck: bool },
+#[tactic(auto, unfolding(crate::specs::steps::Flow::root_of))]
+/// A box that starts a context, after its content.
+pub fn context_box<S: Steady>(
+    calc: &mut S,
+    page: &Page<'_, S::Num>,
+    b: u32,
+    shape: &Shape<S::Num>,
+    end: &Context<S::Num>,
+) -> Placed<S::Num>
+    ensures goes { Goes (S.run calc.old) (S.run calc.new) }
+    ensures value { (e : Reading) → IsTrue ((S.run calc.new).is_open e) → placed_at S.at result e
+        ≡ root_of page.now.tree.now e.world page.now.height b (frame_at S.at shape.now e) (context_at S.at end.now e) }
+{
+    let height = match known_height(calc, page, b) {
+        Some(height) => height,
+        None => {
+            let top = content_top(calc, shape);
+            context_height(calc, &top, end)
+        }
+    };
+    let height = held(calc, page, b, height);
+    place(calc, page.tree, b, shape, &height)
 }
 
-/// How far the flow of a block formatting context has come (CSS 2.1, 9.4.1).
-#[derive(Debug, Drop)]
-pub struct Context<N> {
-    pub standing: Standing<N>,
+#[tactic(auto, unfolding(crate::specs::steps::Flow::block_of))]
+/// Another block after its content.
+pub fn block_box<S: Steady>(
+    calc: &mut S,
+    page: &Page<'_, S::Num>,
+    b: u32,
+    shape: &Shape<S::Num>,
+    end: &Context<S::Num>,
+) -> Placed<S::Num>
+    ensures goes { Goes (S.run calc.old) (S.run calc.new) }
+    ensures value { (e : Reading) → IsTrue ((S.run calc.new).is_open e) → placed_at S.at result e
+        ≡ block_of page.now.tree.now e.world page.now.height b (frame_at S.at shape.now e) (context_at S.at end.now e) }
+{
+    let height = match known_height(calc, page, b) {
+        Some(height) => height,
+        None => {
+            let top = content_top(calc, shape);
+            block_height(calc, joins_last_child(page.tree, b), &top, &end.standing)
+        }
+    };
+    let height = held(calc, page, b, height);
+    place(calc, page.tree, b, shape, &height)
 }

@@ -1,124 +1,186 @@
-//! The terms of a box's height (CSS 2.1, 8.3, 10.5 to 10.7).
-ghost use Rattle.std.specs.Prelude.{◌≡◌, [], ◌∷◌, IsTrue};
+//! Heights of boxes (CSS 2.1, 10.5 to 10.7).
+ghost use Rattle.std.specs.Prelude.{◌≡◌, IsTrue};
 ghost use Rattle.viz_calc.specs.World.{Reading};
-ghost use Rattle.viz_calc.specs.Run.{Stands, Goes, Fits, Blames};
-ghost use Rattle.layout_semantics.specs.Verticals.{verticals as verticals_of};
-ghost use Rattle.layout_semantics.specs.FlowBoxes.{across as across_of};
-ghost use Rattle.layout_semantics.specs.Lengths.{margins as margins_at};
+ghost use Rattle.viz_calc.specs.Run.{Stands, Goes};
+ghost use Rattle.layout_semantics.specs.DefiniteHeights.{definite_height as definite_of, given_height, held_height};
+ghost use Rattle.layout_semantics.specs.DefiniteHeights.{height_around as height_in};
+ghost use Rattle.layout_semantics.specs.Replaced.{replaced_size};
+ghost use Rattle.lay_margin.specs.Runs.{run_at};
 ghost use Rattle.lay_width.specs.Readings.{option_at};
-ghost use Rattle.lay_width.specs.Fitting.{UsedFits, OwnHeightFits};
-ghost use Rattle.lay_flow.specs.Fitting.{VerticalsFit, HeldFits};
-ghost use Rattle.lay_flow.specs.steps.Readings.{band_at, verticals_at};
-ghost use Rattle.lay_flow.specs.steps.Words.{known_height as known_of, held_height as held_of};
+ghost use Rattle.flow_steps.specs.Flow.{next_edge as edge_of, block_height as tall_block, joined_run as joined_of};
+ghost use Rattle.lay_float.specs.Readings.{boxes_at as floats_in};
+ghost use Rattle.lay_flow.specs.Readings.{standing_at, context_at};
+ghost use Rattle.lay_flow.specs.steps.Flow.{tall_of};
+ghost use Rattle.lay_flow.specs.steps.Walk.{lowest_of};
 
-use crate::frames::Edges;
-use lay_length::lengths::used;
-use lay_width::heights::{least_around, most_around, own_height_around};
-use lay_width::limits::hold;
-use lay_width::properties::{borders, margins, paddings};
-use viz_base::{Band, BoxTree};
+use crate::parts::{Context, Page, Standing};
+use lay_float::PlacedFloat;
+use lay_length::lengths::{percentage, zero};
+use lay_margin::Run;
+use lay_margin::engine::{empty, value};
+use lay_margin::leads::copy_run;
+use lay_width::heights::{definite_height, height_around};
+use lay_width::limits::{greater, hold};
+use lay_width::properties::{intrinsic, least_height, most_height, own_height};
+use lay_width::replaced::by_ratio;
+use viz_base::Length;
 use viz_calc::Steady;
 
-/// The width of a containing block.
-pub fn across<S: Steady>(calc: &mut S, band: &Band<S::Num>) -> S::Num
+/// A height of a box, where it is definite; what is around the box is asked for by percentages alone (CSS 2.1, 10.5).
+fn height_of<S: Steady>(
+    calc: &mut S,
+    page: &Page<'_, S::Num>,
+    b: u32,
+    length: &Length,
+) -> Option<S::Num>
     ensures goes { Goes (S.run calc.old) (S.run calc.new) }
-    ensures value { Stands (S.run calc.new) (S.at result) (λ e. across_of (band_at S.at band.now e)) }
-    ensures cause { Blames (S.run calc.old) (S.run calc.new)
-        (Fits (S.run calc.old) (λ e. across_of (band_at S.at band.now e) ∷ [])) }
+    ensures value { (e : Reading) → IsTrue ((S.run calc.new).is_open e) → option_at S.at result e
+        ≡ height_in page.now.tree.now e.world (definite_of page.now.tree.now e.world page.now.height b) length.now }
 {
-    calc.sub(&band.right, &band.left)
-}
-
-#[tactic(auto, unfolding(layout_semantics::specs::Verticals::verticals))]
-/// The used margins, borders and paddings above and below the content of a box in so wide a containing block.
-pub fn verticals<S: Steady>(calc: &mut S, tree: &BoxTree, b: u32, room: &S::Num) -> Edges<S::Num>
-    ensures goes { Goes (S.run calc.old) (S.run calc.new) }
-    ensures value { (e : Reading) → IsTrue ((S.run calc.new).is_open e)
-        → verticals_at S.at result e ≡ verticals_of tree.now e.world b (S.at room.now e) }
-    ensures cause { Blames (S.run calc.old) (S.run calc.new)
-        ((e : Reading) → IsTrue ((S.run calc.old).is_open e)
-        → VerticalsFit tree.now e.world b (S.at room.now e)) }
-{
-    let margin = margins(tree, b);
-    let border = borders(tree, b);
-    let padding = paddings(tree, b);
-    let margin_top = used(calc, tree, &margin.top, room);
-    let border_top = used(calc, tree, &border.top, room);
-    let padding_top = used(calc, tree, &padding.top, room);
-    let padding_bottom = used(calc, tree, &padding.bottom, room);
-    let border_bottom = used(calc, tree, &border.bottom, room);
-    let margin_bottom = used(calc, tree, &margin.bottom, room);
-    Edges {
-        margin_top,
-        border_top,
-        padding_top,
-        padding_bottom,
-        border_bottom,
-        margin_bottom,
+    match length {
+        Length::Pct(part) => {
+            match definite_height(calc, page.tree, page.height, u64::from(b) + 1, b) {
+                Some(whole) => Some(percentage(calc, *part, &whole)),
+                None => None,
+            }
+        }
+        Length::Auto | Length::Px(_) | Length::Em { .. } => {
+            height_around(calc, page.tree, &None, length)
+        }
     }
 }
 
-#[tactic(auto, unfolding(layout_semantics::specs::Verticals::verticals))]
-/// The top margin of a box in so wide a containing block.
-pub fn top_margin<S: Steady>(calc: &mut S, tree: &BoxTree, b: u32, room: &S::Num) -> S::Num
+/// The height that a box's own property gives, where that is definite.
+pub fn known_height<S: Steady>(calc: &mut S, page: &Page<'_, S::Num>, b: u32) -> Option<S::Num>
+    ensures goes { Goes (S.run calc.old) (S.run calc.new) }
+    ensures value { (e : Reading) → IsTrue ((S.run calc.new).is_open e) → option_at S.at result e
+        ≡ given_height page.now.tree.now e.world page.now.height b }
+{
+    height_of(calc, page, b, &own_height(page.tree, b))
+}
+
+/// A height of a box after its maximum and its minimum (CSS 2.1, 10.7).
+pub fn held<S: Steady>(calc: &mut S, page: &Page<'_, S::Num>, b: u32, height: S::Num) -> S::Num
     ensures goes { Goes (S.run calc.old) (S.run calc.new) }
     ensures value { Stands (S.run calc.new) (S.at result)
-        (λ e. (verticals_of tree.now e.world b (S.at room.now e)).margin_top) }
-    ensures cause { Blames (S.run calc.old) (S.run calc.new)
-        ((e : Reading) → IsTrue ((S.run calc.old).is_open e)
-        → UsedFits tree.now e.world (margins_at tree.now b).top (S.at room.now e)) }
+        (λ e. held_height page.now.tree.now e.world page.now.height b (S.at height e)) }
 {
-    used(calc, tree, &margins(tree, b).top, room)
+    let most = match most_height(page.tree, b) {
+        Some(most) => height_of(calc, page, b, &most),
+        None => None,
+    };
+    let least = match height_of(calc, page, b, &least_height(page.tree, b)) {
+        Some(least) => least,
+        None => zero(calc),
+    };
+    hold(calc, most, least, height)
 }
 
-#[tactic(auto, unfolding(layout_semantics::specs::Verticals::verticals))]
-/// The bottom margin of a box in so wide a containing block.
-pub fn bottom_margin<S: Steady>(calc: &mut S, tree: &BoxTree, b: u32, room: &S::Num) -> S::Num
-    ensures goes { Goes (S.run calc.old) (S.run calc.new) }
-    ensures value { Stands (S.run calc.new) (S.at result)
-        (λ e. (verticals_of tree.now e.world b (S.at room.now e)).margin_bottom) }
-    ensures cause { Blames (S.run calc.old) (S.run calc.new)
-        ((e : Reading) → IsTrue ((S.run calc.old).is_open e)
-        → UsedFits tree.now e.world (margins_at tree.now b).bottom (S.at room.now e)) }
-{
-    used(calc, tree, &margins(tree, b).bottom, room)
-}
-
-#[tactic(auto, unfolding(crate::specs::steps::Words::known_height))]
-/// The height of a box where that is definite, in a containing block of this definite height, if it has one.
-pub fn known_height<S: Steady>(
+/// The height of a replaced box in so wide a containing block (CSS 2.1, 10.6.2).
+pub fn replaced_height<S: Steady>(
     calc: &mut S,
-    tree: &BoxTree,
+    page: &Page<'_, S::Num>,
     b: u32,
-    around: &Option<S::Num>,
-) -> Option<S::Num>
-    ensures goes { Goes (S.run calc.old) (S.run calc.new) }
-    ensures value { (e : Reading) → IsTrue ((S.run calc.new).is_open e)
-        → option_at S.at result e ≡ known_of tree.now e.world b (option_at S.at around.now e) }
-    ensures cause { Blames (S.run calc.old) (S.run calc.new)
-        ((e : Reading) → IsTrue ((S.run calc.old).is_open e)
-        → OwnHeightFits tree.now e.world (option_at S.at around.now e) b) }
-{
-    own_height_around(calc, tree, around, b)
-}
-
-#[tactic(auto, unfolding(crate::specs::steps::Words::held_height))]
-/// A height of a box's content after its maximum and its minimum.
-pub fn held_height<S: Steady>(
-    calc: &mut S,
-    tree: &BoxTree,
-    b: u32,
-    around: &Option<S::Num>,
-    height: S::Num,
+    room: &S::Num,
 ) -> S::Num
     ensures goes { Goes (S.run calc.old) (S.run calc.new) }
     ensures value { Stands (S.run calc.new) (S.at result)
-        (λ e. held_of tree.now e.world b (option_at S.at around.now e) (S.at height e)) }
-    ensures cause { Blames (S.run calc.old) (S.run calc.new)
-        ((e : Reading) → IsTrue ((S.run calc.old).is_open e)
-        → HeldFits tree.now e.world b (option_at S.at around.now e)) }
+        (λ e. (replaced_size page.now.tree.now e.world page.now.height b (S.at room.now e)).height) }
 {
-    let most = most_around(calc, tree, around, b);
-    let least = least_around(calc, tree, around, b);
-    hold(calc, most, least, height)
+    let height = match known_height(calc, page, b) {
+        Some(height) => height,
+        None => {
+            let width = lay_width::replaced::width(calc, page.tree, page.height, b, room);
+            let size = intrinsic(page.tree, b);
+            by_ratio(calc, &width, size.0, size.1)
+        }
+    };
+    held(calc, page, b, height)
+}
+
+/// Where a child with no margin stands.
+pub fn next_edge<S: Steady>(calc: &mut S, standing: &Standing<S::Num>) -> S::Num
+    ensures goes { Goes (S.run calc.old) (S.run calc.new) }
+    ensures value { Stands (S.run calc.new) (S.at result) (λ e. edge_of (standing_at S.at standing.now e)) }
+{
+    match standing {
+        Standing::AtTop { y, cleared: _ } => calc.copy(y),
+        Standing::Below {
+            edge,
+            run,
+            stuck: _,
+        } => {
+            let margin = value(calc, run);
+            calc.add(edge, &margin)
+        }
+    }
+}
+
+/// How far the lowest of some floats reaches below `top`; at least 0.
+fn lowest<S: Steady>(calc: &mut S, top: &S::Num, floats: &[PlacedFloat<S::Num>]) -> S::Num
+    ensures goes { Goes (S.run calc.old) (S.run calc.new) }
+    ensures value { Stands (S.run calc.new) (S.at result)
+        (λ e. lowest_of (S.at top.now e) (floats_in S.at floats.now e)) }
+{
+    let mut best = zero(calc);
+    let count = floats.len();
+    for done in 0..count {
+        let height = calc.sub(&floats[count - 1 - done].outer.bottom, top);
+        best = greater(calc, height, best);
+    }
+    best
+}
+
+#[tactic(auto, unfolding(crate::specs::steps::Flow::tall_of))]
+/// The auto height of a box that starts a context: down to its last child, line or float (CSS 2.1, 10.6.7).
+pub fn context_height<S: Steady>(calc: &mut S, top: &S::Num, end: &Context<S::Num>) -> S::Num
+    ensures goes { Goes (S.run calc.old) (S.run calc.new) }
+    ensures value { Stands (S.run calc.new) (S.at result)
+        (λ e. tall_of (S.at top.now e) (context_at S.at end.now e)) }
+{
+    let best = lowest(calc, top, end.floats.placed.as_slice());
+    let edge = next_edge(calc, &end.standing);
+    let height = calc.sub(&edge, top);
+    greater(calc, height, best)
+}
+
+/// The auto height of another block, by whether its bottom margin joins its last child's (CSS 2.1, 10.6.3).
+pub fn block_height<S: Steady>(
+    calc: &mut S,
+    joins: bool,
+    top: &S::Num,
+    end: &Standing<S::Num>,
+) -> S::Num
+    ensures goes { Goes (S.run calc.old) (S.run calc.new) }
+    ensures value { Stands (S.run calc.new) (S.at result)
+        (λ e. tall_block joins (S.at top.now e) (standing_at S.at end.now e)) }
+{
+    match end {
+        Standing::AtTop { .. } => zero(calc),
+        Standing::Below { edge, run, stuck } => {
+            if joins && !*stuck {
+                calc.sub(edge, top)
+            } else {
+                let margin = value(calc, run);
+                let edge = calc.add(edge, &margin);
+                calc.sub(&edge, top)
+            }
+        }
+    }
+}
+
+/// The margins of its last child that a block's own bottom margin joins.
+pub fn joined_run<S: Steady>(calc: &mut S, joins: bool, end: &Standing<S::Num>) -> Run<S::Num>
+    ensures goes { Goes (S.run calc.old) (S.run calc.new) }
+    ensures value { (e : Reading) → IsTrue ((S.run calc.new).is_open e)
+        → run_at S.at result e ≡ joined_of joins (standing_at S.at end.now e) }
+{
+    match end {
+        Standing::Below {
+            edge: _,
+            run,
+            stuck: false,
+        } if joins => copy_run(calc, run),
+        _ => empty(calc),
+    }
 }

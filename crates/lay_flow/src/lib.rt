@@ -1,16 +1,18 @@
-//! The layout of a page, over any arithmetic.
+//! The layout of any page of the profile, over any arithmetic (CSS 2.1, 8.3.1, 9.4, 9.5, 10.6).
 #![tactic(auto)]
 
-mod block_pages;
-pub mod boxes;
+mod alone;
+pub mod floating;
+pub mod forward;
 pub mod frames;
 mod front;
 pub mod heights;
-pub mod leads;
+pub mod lines;
+mod order;
 pub mod page;
-pub mod places;
-pub mod standing;
+pub mod parts;
+pub mod reached;
 pub mod walk;
 
-pub use block_pages::ready;
-pub use front::{render, render_at, the_page_of_a_job_is_small};
+pub use front::{render, render_at};
+pub use order::ready;

@@ -1,135 +1,255 @@
-//! A page of blocks in normal flow.
-ghost use Rattle.std.specs.Prelude.{◌≡◌, ◌<◌, ◌++◌, ◌∷◌, pos, [], length, IsTrue, Some};
+//! The boxes of a page: each float and each atomic box is laid out once, from the last one on, and kept by its number.
+ghost use Rattle.std.specs.Prelude.{◌≡◌, ◌<◌, length, replicate, set, Some, None, IfOk, IfSome, IsTrue, filter};
+ghost use Rattle.std.specs.List.{AllByRecursion};
 ghost use Rattle.viz_calc.specs.World.{Reading};
-ghost use Rattle.viz_calc.specs.Run.{Goes, Fits, Blames, BlamesButMem};
+ghost use Rattle.viz_calc.specs.Run.{Goes};
 ghost use Rattle.viz_calc.specs.Renderings.{rendering_at};
+ghost use Rattle.layout_semantics.specs.InlineContent.{is_floated_at};
 ghost use Rattle.layout_semantics.specs.Page.{page_rendering};
-ghost use Rattle.lay_width.specs.Readings.{option_at};
-ghost use Rattle.lay_flow.specs.BlockPages.{ready};
-ghost use Rattle.lay_flow.specs.FlowFitting.{AloneShapeFits, AloneFits, RootFits};
-ghost use Rattle.lay_flow.specs.Limits.{IsWithinLimits};
-ghost use Rattle.lay_flow.specs.steps.Readings.{frame_at, boxes_at, context_at};
-ghost use Rattle.lay_flow.specs.steps.Blocks.{alone_frame, alone as alone_of, fresh as fresh_at, page_boxes};
+ghost use Rattle.lay_block.specs.steps.Readings.{boxes_at};
+ghost use Rattle.lay_preferred.specs.Readings.{AreFound};
+ghost use Rattle.flow_steps.specs.Tables.{outside_of as outside, page_boxes};
+ghost use Rattle.lay_flow.specs.Ready.{ready as is_ready};
+ghost use Rattle.lay_flow.specs.Readings.{table_at};
+ghost use Rattle.lay_flow.specs.steps.Flow.{with_box, with_boxes, with_container as with_container_of, table_to};
 
-use crate::frames::{Context, Shape};
-use crate::heights::verticals;
-use crate::leads::widths;
-use crate::places::alone_box;
-use crate::standing::{below, container_in};
-use crate::walk::{content, keep, put};
-use lay_length::lengths::{pixels, zero};
-use std::alloc::Global;
-use viz_base::{BoxTree, List, Placed, Rendering, Spot};
+use crate::alone::{alone, room};
+use crate::lines::inner_boxes;
+use crate::parts::{Alone, Page};
+use lay_margin::contents::{floats_in, has_line, holds_inline};
+use lay_margin::trees::kids_at;
+use lay_preferred::found::{Found, nothing_found};
+use lay_width::properties::{floats_at, kind_at};
+use std::alloc::{AllocError, Global};
+use viz_base::{BoxTree, Kind, List, Placed, Rendering};
 use viz_calc::Steady;
 
-#[tactic(auto, unfolding(crate::specs::steps::Blocks::alone_frame))]
-/// The shape of a box at the upper left of coordinates of its own, in so wide a containing block.
-fn alone_shape<S: Steady>(calc: &mut S, tree: &BoxTree, b: u32, room: &S::Num) -> Shape<S::Num>
-    ensures goes { Goes (S.run calc.old) (S.run calc.new) }
-    ensures value { (e : Reading) → IsTrue ((S.run calc.new).is_open e)
-        → frame_at S.at result e ≡ alone_frame tree.now e.world b (S.at room.now e) }
-    ensures cause { Blames (S.run calc.old) (S.run calc.new)
-        ((e : Reading) → IsTrue ((S.run calc.old).is_open e)
-        → AloneShapeFits tree.now e.world b (S.at room.now e)) }
+/// The floats among some boxes.
+fn floated(alloc: Global, tree: &BoxTree, boxes: &[u32]) -> Result<Vec<u32>, AllocError>
+    ensures { IfOk result (λ floats. floats.items ≡ filter (is_floated_at tree.now) boxes.now) }
 {
-    let x = widths(calc, tree, b, room);
-    let v = verticals(calc, tree, b, room);
-    let left = calc.copy(&x.margin_left);
-    let top = calc.copy(&v.margin_top);
-    Shape {
-        x,
-        v,
-        corner: Spot { x: left, y: top },
+    let mut floats = Vec::new(alloc);
+    for at in boxes {
+        if floats_at(tree, *at) {
+            floats.push(*at)?;
+        }
+    }
+    Ok(floats)
+}
+
+/// What stands in a block container and not in its flow: the floats and atomic boxes of its lines, or the floats
+/// between its blocks. They are behind it.
+fn outside_of(alloc: Global, tree: &BoxTree, b: u32) -> Result<Vec<u32>, AllocError>
+    requires { b < length tree.now.boxes }
+    ensures { IfOk result (λ boxes. boxes.items ≡ outside tree.now b) }
+{
+    if has_line(tree, b) {
+        return inner_boxes(alloc, tree, b);
+    }
+    if !holds_inline(tree, b) {
+        return floated(alloc, tree, kids_at(tree, b));
+    }
+    let floats = floats_in(alloc, tree, b)?;
+    floated(alloc, tree, floats.as_slice())
+}
+
+/// Boxes that are laid out by themselves, each at the place of its number.
+#[derive(Debug, Drop)]
+struct Outside<N> {
+    places: Vec<Option<Alone<N>>>,
+}
+
+/// Keeps a box that is laid out at the place of its number.
+fn keep<N: Drop>(table: &mut Outside<N>, k: u32, laid: Alone<N>)
+    ensures { table.new.places.items ≡ set table.old.places.items k (Some laid) }
+{
+    if (k as usize) < table.places.len() {
+        table.places[k as usize] = Some(laid);
     }
 }
 
-/// A context where nothing stands yet.
-fn fresh<S: Steady>(calc: &mut S, top: &S::Num) -> Context<S::Num>
-    ensures goes { Goes (S.run calc.old) (S.run calc.new) }
-    ensures value { (e : Reading) → IsTrue ((S.run calc.new).is_open e)
-        → context_at S.at result e ≡ fresh_at (S.at top.now e) }
-    ensures cause { Blames (S.run calc.old) (S.run calc.new)
-        (Fits (S.run calc.old) (λ e. S.at top.now e ∷ pos 0 ∷ [])) }
-{
-    let standing = below(calc, top);
-    Context { standing }
-}
-
-#[tactic(auto, using(crate::proofs::Slots::seams))]
-/// Lays out a box that starts a context, in coordinates of its own.
-fn alone<S: Steady>(
+/// Lays out a box by itself where its containing block is as wide as the tree says.
+fn add_box<S: Steady>(
+    alloc: Global,
     calc: &mut S,
     tree: &BoxTree,
-    b: u32,
-    room: &S::Num,
-    around: &Option<S::Num>,
-    out: &mut Vec<Placed<S::Num>>,
+    height: u32,
+    found: &mut Found<S::Num>,
+    k: u32,
+    table: &mut Outside<S::Num>,
 )
-    requires { b < length tree.now.boxes }
+    requires within { k < length tree.now.boxes }
+    requires found { AreFound S.at (S.run calc.old) tree.now found.old.widths.items }
     ensures goes { Goes (S.run calc.old) (S.run calc.new) }
-    ensures boxes { (e : Reading) → IsTrue ((S.run calc.new).is_open e) → boxes_at S.at out.new.items e
-        ≡ boxes_at S.at out.old.items e
-        ++ alone_of tree.now e.world b (S.at room.now e) (option_at S.at around.now e) }
-    ensures cause { BlamesButMem (S.run calc.old) (S.run calc.new)
-        ((e : Reading) → IsTrue ((S.run calc.old).is_open e)
-        → AloneFits tree.now e.world b (S.at room.now e) (option_at S.at around.now e)) }
+    ensures found { AreFound S.at (S.run calc.new) tree.now found.new.widths.items }
+    ensures value { (e : Reading) → IsTrue ((S.run calc.new).is_open e) → table_at S.at table.new.places.items e
+        ≡ with_box tree.now e.world height (table_at S.at table.old.places.items e) k }
 {
-    let shape = alone_shape(calc, tree, b, room);
-    let left = zero(calc);
-    let inner = container_in(calc, tree, &left, around, b, &shape);
-    let mut context = fresh(calc, &inner.top);
-    let place = keep(calc, tree, b, &shape, out);
-    content(calc, tree, &inner, &mut context, b, out);
-    let placed = alone_box(calc, tree, around, b, &shape, &inner, &context.standing);
-    put::<S>(out, place, placed);
+    let room = room(alloc, calc, tree, height, found, u64::from(k) + 1, k);
+    let page = Page {
+        tree,
+        height,
+        apart: table.places.as_slice(),
+    };
+    let laid = alone(alloc, calc, &page, found, k, &room);
+    keep(table, k, laid);
 }
 
-/// Lays out the root of a page in a viewport of so many pixels height.
-fn root<S: Steady>(calc: &mut S, tree: &BoxTree, height: u32, out: &mut Vec<Placed<S::Num>>)
-    requires { 0 < length tree.now.boxes }
+/// Lays out boxes by themselves, one after another.
+fn add_boxes<S: Steady>(
+    alloc: Global,
+    calc: &mut S,
+    tree: &BoxTree,
+    height: u32,
+    found: &mut Found<S::Num>,
+    boxes: &[u32],
+    table: &mut Outside<S::Num>,
+)
+    requires within { AllByRecursion (λ k. k < length tree.now.boxes) boxes.now }
+    requires found { AreFound S.at (S.run calc.old) tree.now found.old.widths.items }
     ensures goes { Goes (S.run calc.old) (S.run calc.new) }
-    ensures boxes { (e : Reading) → IsTrue ((S.run calc.new).is_open e)
-        → boxes_at S.at out.new.items e ≡ boxes_at S.at out.old.items e ++ page_boxes tree.now e.world height }
-    ensures cause { BlamesButMem (S.run calc.old) (S.run calc.new)
-        ((e : Reading) → IsTrue ((S.run calc.old).is_open e) → RootFits tree.now e.world height) }
+    ensures found { AreFound S.at (S.run calc.new) tree.now found.new.widths.items }
+    ensures value { (e : Reading) → IsTrue ((S.run calc.new).is_open e) → table_at S.at table.new.places.items e
+        ≡ with_boxes tree.now e.world height (table_at S.at table.old.places.items e) boxes.now }
 {
-    let room = calc.width();
-    let tall = pixels(calc, 64 * i64::from(height));
-    let around = Some(tall);
-    alone(calc, tree, 0, &room, &around, out);
+    for k in boxes {
+        add_box(alloc, calc, tree, height, found, *k, table);
+    }
 }
 
-/// The boxes of a page in a viewport of so many pixels height.
+#[tactic(auto, unfolding(crate::specs::steps::Flow::with_container))]
+/// Lays out what stands outside the flow of a box; an inline box is no block container.
+fn add_container<S: Steady>(
+    alloc: Global,
+    calc: &mut S,
+    tree: &BoxTree,
+    height: u32,
+    found: &mut Found<S::Num>,
+    b: u32,
+    table: &mut Outside<S::Num>,
+)
+    requires within { b < length tree.now.boxes }
+    requires found { AreFound S.at (S.run calc.old) tree.now found.old.widths.items }
+    ensures goes { Goes (S.run calc.old) (S.run calc.new) }
+    ensures found { AreFound S.at (S.run calc.new) tree.now found.new.widths.items }
+    ensures value { (e : Reading) → IsTrue ((S.run calc.new).is_open e) → table_at S.at table.new.places.items e
+        ≡ with_container_of tree.now e.world height (table_at S.at table.old.places.items e) b }
+{
+    if matches!(kind_at(tree, b), Kind::Inline) {
+        return;
+    }
+    match outside_of(alloc, tree, b) {
+        Ok(boxes) => add_boxes(alloc, calc, tree, height, found, boxes.as_slice(), table),
+        Err(_) => calc.stop(),
+    }
+}
+
+/// So many places with nothing in them.
+fn places<N: Drop>(alloc: Global, count: usize) -> Result<Vec<Option<Alone<N>>>, AllocError>
+    ensures { IfOk result (λ places. places.items ≡ replicate count None) }
+{
+    let mut places = Vec::new(alloc);
+    for _ in 0..count {
+        places.push(None)?;
+    }
+    Ok(places)
+}
+
+/// A place for each box of a tree, and how many there are; none where there is no memory for them, or more boxes than
+/// numbers.
+fn table_of<N: Drop>(alloc: Global, tree: &BoxTree) -> Option<(u32, Outside<N>)>
+    ensures { IfSome result (λ made. (made.0 ≡ length tree.now.boxes)
+        × (made.1.places.items ≡ replicate (length tree.now.boxes) None)) }
+{
+    let count = tree.boxes.len();
+    match (u32::try_from(count), places(alloc, count)) {
+        (Ok(count), Ok(places)) => Some((count, Outside { places })),
+        _ => None,
+    }
+}
+
+/// Lays out what stands outside the flow of each of so many boxes, from the last one on.
+fn fill<S: Steady>(
+    alloc: Global,
+    calc: &mut S,
+    tree: &BoxTree,
+    height: u32,
+    found: &mut Found<S::Num>,
+    count: u32,
+    table: &mut Outside<S::Num>,
+)
+    requires all { count ≡ length tree.now.boxes }
+    requires empty { table.old.places.items ≡ replicate (length tree.now.boxes) None }
+    requires found { AreFound S.at (S.run calc.old) tree.now found.old.widths.items }
+    ensures goes { Goes (S.run calc.old) (S.run calc.new) }
+    ensures found { AreFound S.at (S.run calc.new) tree.now found.new.widths.items }
+    ensures value { (e : Reading) → IsTrue ((S.run calc.new).is_open e) → table_at S.at table.new.places.items e
+        ≡ table_to tree.now e.world height (length tree.now.boxes) }
+{
+    for done in 0..count {
+        add_container(alloc, calc, tree, height, found, count - 1 - done, table);
+    }
+}
+
+/// Lays out what stands outside the flow of a page.
+fn outside_flow<S: Steady>(
+    alloc: Global,
+    calc: &mut S,
+    tree: &BoxTree,
+    height: u32,
+    found: &mut Found<S::Num>,
+) -> Outside<S::Num>
+    requires { AreFound S.at (S.run calc.old) tree.now found.old.widths.items }
+    ensures goes { Goes (S.run calc.old) (S.run calc.new) }
+    ensures found { AreFound S.at (S.run calc.new) tree.now found.new.widths.items }
+    ensures value { (e : Reading) → IsTrue ((S.run calc.new).is_open e) → table_at S.at result.places.items e
+        ≡ table_to tree.now e.world height (length tree.now.boxes) }
+{
+    match table_of(alloc, tree) {
+        Some((count, mut table)) => {
+            fill(alloc, calc, tree, height, found, count, &mut table);
+            table
+        }
+        None => {
+            calc.stop();
+            Outside {
+                places: Vec::new(alloc),
+            }
+        }
+    }
+}
+
+/// The boxes of a page.
 fn boxes<S: Steady>(alloc: Global, calc: &mut S, tree: &BoxTree, height: u32) -> Vec<Placed<S::Num>>
-    requires { IsTrue (ready tree.now) }
     ensures goes { Goes (S.run calc.old) (S.run calc.new) }
     ensures value { (e : Reading) → IsTrue ((S.run calc.new).is_open e)
         → boxes_at S.at result.items e ≡ page_boxes tree.now e.world height }
-    ensures cause { BlamesButMem (S.run calc.old) (S.run calc.new)
-        (IsWithinLimits tree.now height (S.run calc.old).is_open) }
 {
-    let mut out = Vec::new(alloc);
-    if !tree.boxes.is_empty() {
-        root(calc, tree, height, &mut out);
+    if tree.boxes.is_empty() {
+        return Vec::new(alloc);
     }
-    out
+    let mut found = nothing_found(alloc, calc, tree);
+    let table = outside_flow(alloc, calc, tree, height, &mut found);
+    let page = Page {
+        tree,
+        height,
+        apart: table.places.as_slice(),
+    };
+    let room = calc.width();
+    alone(alloc, calc, &page, &mut found, 0, &room).boxes
 }
 
-/// The rendering of a page of blocks in a viewport of a height in pixels, at each reading that is open at the end.
-///
-/// Lengths are in 1/64 px.
+/// The rendering of a page in a viewport of a height in pixels, at each reading that is open at the end.
 pub fn render<S: Steady>(
     alloc: Global,
     calc: &mut S,
     tree: &BoxTree,
     height: u32,
 ) -> Rendering<S::Num>
-    requires { IsTrue (ready tree.now) }
+    requires { IsTrue (is_ready tree.now) }
     ensures goes { Goes (S.run calc.old) (S.run calc.new) }
     ensures value { (e : Reading) → IsTrue ((S.run calc.new).is_open e)
         → rendering_at S.at result e ≡ page_rendering tree.now e.world height }
-    ensures cause { BlamesButMem (S.run calc.old) (S.run calc.new)
-        (IsWithinLimits tree.now height (S.run calc.old).is_open) }
 {
     let boxes = List::from(boxes(alloc, calc, tree, height));
     Rendering { boxes }

@@ -1,136 +1,446 @@
-//! The walk over the boxes of a page (CSS 2.1, 9.4.1).
-ghost use Rattle.std.specs.Prelude.{◌≡◌, ◌<◌, ◌++◌, ◌∷◌, [], pos, length, IsTrue, ⊤};
-ghost use Rattle.std.proofs.Math.ListN.{set};
+//! The walk over the boxes of a block formatting context (CSS 2.1, 9.4.1).
+ghost use Rattle.std.specs.Prelude.{◌≡◌, ◌<◌, ◌++◌, ℕ, ℤ, Bool, length, slice_index_or, IsTrue};
+ghost use Rattle.std.specs.Option.{option_or};
 ghost use Rattle.viz_calc.specs.World.{Reading};
-ghost use Rattle.viz_calc.specs.Run.{Goes, BlamesButMem};
-ghost use Rattle.viz_calc.specs.Renderings.{placed_at};
-ghost use Rattle.layout_semantics.specs.Order.{kids_of};
-ghost use Rattle.layout_semantics.specs.Rectangles.{placed_box};
-ghost use Rattle.lay_flow.specs.FlowFitting.{KeptFits, BlocksFit};
-ghost use Rattle.lay_flow.specs.steps.Readings.{frame_at, container_at, context_at, boxes_at};
-ghost use Rattle.lay_flow.specs.steps.Blocks.{block_step, content as content_of};
+ghost use Rattle.viz_calc.specs.Run.{Goes};
+ghost use Rattle.lay_block.specs.steps.Readings.{frame_at, boxes_at};
+ghost use Rattle.lay_float.specs.Readings.{stretch_at, option_at};
+ghost use Rattle.lay_margin.specs.Runs.{run_at, with_margin};
+ghost use Rattle.flow_steps.specs.Flow.{fresh as fresh_of};
+ghost use Rattle.lay_flow.specs.Readings.{apart_at, cleared_at, context_at, laid_with, without_boxes};
+ghost use Rattle.lay_flow.specs.steps.Flow.{float_of, left, laid_replaced as replaced_step, laid_context as context_step, laid_block as block_step, laid_of, in_flow, child_of, children_of, content_of};
 
-use crate::boxes::kids_at;
-use crate::frames::{Container, Context, Shape};
-use crate::places::{closed_box, place};
-use crate::standing::{close, container_in, open, reach, shape};
-use lay_length::lengths::zero;
-use viz_base::{BoxTree, Placed};
+use crate::floating::{add_apart, place_float, size_of};
+use crate::frames::{block_box, context_box, replaced_box, shape};
+use crate::heights::{joined_run, next_edge};
+use crate::lines::in_lines;
+use crate::parts::{Cleared, Context, Laid, Page};
+use crate::reached::{below, copy_standing, is_at_top, open, reach, standing_after, standing_in};
+use lay_block::boxes::joins_last_child;
+use lay_block::frames::Shape;
+use lay_block::leads::content_band;
+use lay_block::standing::content_top;
+use lay_block::walk::{append, keep, put};
+use lay_float::Floats;
+use lay_margin::Run;
+use lay_margin::contents::{collapses_through, floats_in, has_line, holds_inline};
+use lay_margin::engine::empty;
+use lay_margin::leads::{across, join};
+use lay_margin::trees::{is_replaced, kids_at, starts_context};
+use lay_width::limits::greater;
+use lay_width::properties::floats_at;
+use std::alloc::Global;
+use viz_base::{Band, Placed};
 use viz_calc::Steady;
 
-#[tactic(auto, using(crate::proofs::Slots::slots), unfolding(crate::specs::steps::Readings::boxes_at))]
-/// Adds a box to those before.
-fn append<S: Steady>(calc: &mut S, out: &mut Vec<Placed<S::Num>>, placed: Placed<S::Num>)
+/// A context where nothing stands yet.
+pub fn fresh<S: Steady>(alloc: Global, calc: &mut S, top: &S::Num) -> Context<S::Num>
     ensures goes { Goes (S.run calc.old) (S.run calc.new) }
-    ensures value { (e : Reading) → IsTrue ((S.run calc.new).is_open e) → boxes_at S.at out.new.items e
-        ≡ boxes_at S.at out.old.items e ++ placed_at S.at placed e ∷ [] }
-    ensures cause { BlamesButMem (S.run calc.old) (S.run calc.new) ⊤ }
+    ensures value { (e : Reading) → IsTrue ((S.run calc.new).is_open e)
+        → context_at S.at result e ≡ fresh_of (S.at top.now e) }
 {
-    match out.push(placed) {
-        Ok(()) => {}
-        Err(_) => calc.stop(),
+    let standing = below(calc, top);
+    Context {
+        standing,
+        floats: Floats::new(alloc),
+        least: None,
+        baseline: None,
     }
 }
 
-#[tactic(auto, using(crate::proofs::Slots::slots), unfolding(crate::specs::steps::Readings::boxes_at))]
-/// Keeps the place of a box whose height is not known yet; gives the place.
-pub fn keep<S: Steady>(
+#[tactic(auto, unfolding(crate::specs::steps::Flow::float_of))]
+/// Places a float that is laid out.
+fn float<S: Steady>(
     calc: &mut S,
-    tree: &BoxTree,
+    page: &Page<'_, S::Num>,
+    cb: &Band<S::Num>,
+    top: &S::Num,
+    context: &mut Context<S::Num>,
+    k: u32,
+    out: &mut Vec<Placed<S::Num>>,
+)
+    ensures goes { Goes (S.run calc.old) (S.run calc.new) }
+    ensures context { (e : Reading) → IsTrue ((S.run calc.new).is_open e) → context_at S.at context.new e
+        ≡ (float_of page.now.tree.now e.world (apart_at S.at page.now.apart.now e) (stretch_at S.at cb.now e)
+        (S.at top.now e) (context_at S.at context.old e) k).context }
+    ensures boxes { (e : Reading) → IsTrue ((S.run calc.new).is_open e) → boxes_at S.at out.new.items e
+        ≡ boxes_at S.at out.old.items e ++ (float_of page.now.tree.now e.world (apart_at S.at page.now.apart.now e)
+        (stretch_at S.at cb.now e) (S.at top.now e) (context_at S.at context.old e) k).boxes }
+{
+    let size = size_of(calc, page.apart, k);
+    let edge = next_edge(calc, &context.standing);
+    let from = calc.copy(top);
+    let y = greater(calc, from, edge);
+    let spot = place_float(
+        calc,
+        page.tree,
+        &mut context.floats,
+        k,
+        &size,
+        cb,
+        &context.least,
+        &y,
+    );
+    add_apart(calc, page.apart, k, &spot, out);
+}
+
+/// The margins that end a box: those of its last child that its own bottom margin joins, and that.
+fn closing<S: Steady>(calc: &mut S, run: Run<S::Num>, shape: &Shape<S::Num>) -> Run<S::Num>
+    ensures goes { Goes (S.run calc.old) (S.run calc.new) }
+    ensures value { (e : Reading) → IsTrue ((S.run calc.new).is_open e) → run_at S.at result e
+        ≡ with_margin (run_at S.at run e) (S.at shape.now.v.margin_bottom e) }
+{
+    let mut run = run;
+    join(calc, &mut run, &shape.v.margin_bottom);
+    run
+}
+
+#[tactic(auto, unfolding(crate::specs::steps::Flow::laid_replaced))]
+/// Lays out a replaced box in so wide a containing block.
+fn lay_replaced<S: Steady>(
+    calc: &mut S,
+    page: &Page<'_, S::Num>,
+    room: &S::Num,
+    context: &mut Context<S::Num>,
     b: u32,
     shape: &Shape<S::Num>,
     out: &mut Vec<Placed<S::Num>>,
-) -> usize
+) -> Laid<S::Num>
     ensures goes { Goes (S.run calc.old) (S.run calc.new) }
-    ensures place { (e : Reading) → result ≡ length (boxes_at S.at out.old.items e) }
-    ensures value { (e : Reading) → IsTrue ((S.run calc.new).is_open e) → boxes_at S.at out.new.items e
-        ≡ boxes_at S.at out.old.items e ++ placed_box tree.now b (frame_at S.at shape.now e) (pos 0) ∷ [] }
-    ensures cause { BlamesButMem (S.run calc.old) (S.run calc.new)
-        ((e : Reading) → IsTrue ((S.run calc.old).is_open e) → KeptFits tree.now e.world (frame_at S.at shape.now e)) }
+    ensures value { (e : Reading) → IsTrue ((S.run calc.new).is_open e) → laid_with S.at result context.new e
+        ≡ without_boxes (replaced_step page.now.tree.now e.world page.now.height
+        (apart_at S.at page.now.apart.now e) (S.at room.now e) (context_at S.at context.old e) b
+        (frame_at S.at shape.now e)) }
+    ensures boxes { (e : Reading) → IsTrue ((S.run calc.new).is_open e) → boxes_at S.at out.new.items e
+        ≡ boxes_at S.at out.old.items e ++ (replaced_step page.now.tree.now e.world page.now.height
+        (apart_at S.at page.now.apart.now e) (S.at room.now e) (context_at S.at context.old e) b
+        (frame_at S.at shape.now e)).after.boxes }
 {
-    let flat = zero(calc);
-    let first = place(calc, tree, b, shape, &flat);
-    let place = out.len();
-    append(calc, out, first);
-    place
-}
-
-#[tactic(auto, using(crate::proofs::Slots::slots), unfolding(crate::specs::steps::Readings::boxes_at))]
-/// Puts a box into the place that was kept for it.
-pub fn put<S: Steady>(out: &mut Vec<Placed<S::Num>>, place: usize, placed: Placed<S::Num>)
-    ensures { (e : Reading) → boxes_at S.at out.new.items e
-        ≡ set (boxes_at S.at out.old.items e) place (placed_at S.at placed e) }
-{
-    if place < out.len() {
-        out[place] = placed;
+    let top = content_top(calc, shape);
+    let standing = below(calc, &top);
+    open(calc, shape, standing, context);
+    let placed = replaced_box(calc, page, b, room, shape);
+    let bottom = calc.copy(&placed.border.bottom);
+    append(calc, out, placed);
+    let run = empty(calc);
+    let margins = closing(calc, run, shape);
+    Laid {
+        through: false,
+        bottom,
+        margins,
     }
 }
 
-#[cycle(flow)]
-/// Lays out the boxes in a box, one after another.
-pub fn content<S: Steady>(
-    calc: &mut S,
-    tree: &BoxTree,
-    cb: &Container<S::Num>,
-    context: &mut Context<S::Num>,
-    b: u32,
-    out: &mut Vec<Placed<S::Num>>,
-)
-    requires { b < length tree.now.boxes }
-    ensures goes { Goes (S.run calc.old) (S.run calc.new) }
-    ensures context { (e : Reading) → IsTrue ((S.run calc.new).is_open e) → context_at S.at context.new e
-        ≡ (content_of tree.now e.world (container_at S.at cb.now e) (context_at S.at context.old e) b).context }
-    ensures boxes { (e : Reading) → IsTrue ((S.run calc.new).is_open e) → boxes_at S.at out.new.items e
-        ≡ boxes_at S.at out.old.items e
-        ++ (content_of tree.now e.world (container_at S.at cb.now e) (context_at S.at context.old e) b).boxes }
-    ensures cause { BlamesButMem (S.run calc.old) (S.run calc.new)
-        ((e : Reading) → IsTrue ((S.run calc.old).is_open e) → BlocksFit tree.now e.world (container_at S.at cb.now e)
-        (context_at S.at context.old e) (kids_of tree.now.boxes b)) }
+/// The last line's baseline: that of what is inside, or the one before.
+fn baseline_after<N: Drop>(inside: Option<N>, before: Option<N>) -> Option<N>
+    ensures { (at : N → Reading → ℤ) (e : Reading) → option_at at result e
+        ≡ option_or (option_at at inside e) (option_at at before e) }
 {
-    for kid in kids_at(tree, b) {
-        block(calc, tree, cb, context, *kid, out);
+    match inside {
+        Some(baseline) => Some(baseline),
+        None => before,
     }
 }
 
-#[cycle(flow)]
-#[tactic(auto, using(crate::proofs::Slots::seams))]
-/// Lays out a block in flow and those in it.
-pub fn block<S: Steady>(
+#[tactic(auto, unfolding(crate::specs::steps::Flow::left))]
+/// Goes on with the context around a box whose own has come so far.
+fn leave<S: Steady>(
     calc: &mut S,
-    tree: &BoxTree,
-    cb: &Container<S::Num>,
+    shape: &Shape<S::Num>,
+    own: Context<S::Num>,
+    context: &mut Context<S::Num>,
+)
+    ensures goes { Goes (S.run calc.old) (S.run calc.new) }
+    ensures value { (e : Reading) → IsTrue ((S.run calc.new).is_open e) → context_at S.at context.new e
+        ≡ left (context_at S.at context.old e) (frame_at S.at shape.now e) (context_at S.at own e) }
+{
+    let Context {
+        standing,
+        floats: _,
+        least: _,
+        baseline,
+    } = own;
+    open(calc, shape, standing, context);
+    let before = std::mem::replace(&mut context.baseline, None);
+    context.baseline = baseline_after(baseline, before);
+}
+
+#[cycle(flow)]
+#[tactic(auto, using(lay_block::proofs::Slots::seams), unfolding(crate::specs::steps::Flow::laid_context))]
+/// Lays out a box that starts a context; the one around it goes on as it was, but for the last line's baseline.
+fn lay_context<S: Steady>(
+    alloc: Global,
+    calc: &mut S,
+    page: &Page<'_, S::Num>,
+    cb: &Band<S::Num>,
     context: &mut Context<S::Num>,
     b: u32,
+    shape: &Shape<S::Num>,
     out: &mut Vec<Placed<S::Num>>,
-)
-    requires { b < length tree.now.boxes }
+) -> Laid<S::Num>
+    requires { b < length page.now.tree.now.boxes }
     ensures goes { Goes (S.run calc.old) (S.run calc.new) }
-    ensures context { (e : Reading) → IsTrue ((S.run calc.new).is_open e) → context_at S.at context.new e
-        ≡ (block_step tree.now e.world (content_of tree.now e.world) (container_at S.at cb.now e)
-        (context_at S.at context.old e) b).context }
+    ensures value { (e : Reading) → IsTrue ((S.run calc.new).is_open e) → laid_with S.at result context.new e
+        ≡ without_boxes (context_step page.now.tree.now e.world page.now.height
+        (apart_at S.at page.now.apart.now e) (stretch_at S.at cb.now e) (context_at S.at context.old e) b
+        (frame_at S.at shape.now e)) }
     ensures boxes { (e : Reading) → IsTrue ((S.run calc.new).is_open e) → boxes_at S.at out.new.items e
-        ≡ boxes_at S.at out.old.items e ++ (block_step tree.now e.world (content_of tree.now e.world)
-        (container_at S.at cb.now e) (context_at S.at context.old e) b).boxes }
-    ensures cause { BlamesButMem (S.run calc.old) (S.run calc.new)
-        ((e : Reading) → IsTrue ((S.run calc.old).is_open e) → BlocksFit tree.now e.world (container_at S.at cb.now e)
-        (context_at S.at context.old e) (b ∷ [])) }
+        ≡ boxes_at S.at out.old.items e ++ (context_step page.now.tree.now e.world page.now.height
+        (apart_at S.at page.now.apart.now e) (stretch_at S.at cb.now e) (context_at S.at context.old e) b
+        (frame_at S.at shape.now e)).after.boxes }
 {
-    let reached = reach(calc, tree, &cb.band, &context.standing, b);
-    let shape = shape(calc, tree, &cb.band, b, reached.top);
-    let inner = container_in(calc, tree, &cb.band.left, &cb.height, b, &shape);
-    let before = open(calc, tree, b, &shape, &inner.top, context);
-    let place = keep(calc, tree, b, &shape, out);
-    content(calc, tree, &inner, context, b, out);
-    let placed = closed_box(calc, tree, cb, b, &shape, &inner, &context.standing);
-    close(
-        calc,
-        tree,
-        before,
-        b,
-        reached.run,
-        &shape,
-        &placed.border.bottom,
-        context,
-    );
+    let band = content_band(calc, &cb.left, &shape.x);
+    let top = content_top(calc, shape);
+    let mut own = fresh(alloc, calc, &top);
+    let place = keep(calc, page.tree, b, shape, out);
+    content(alloc, calc, page, &band, &top, &mut own, b, out);
+    let placed = context_box(calc, page, b, shape, &own);
+    let bottom = calc.copy(&placed.border.bottom);
     put::<S>(out, place, placed);
+    leave(calc, shape, own, context);
+    let run = empty(calc);
+    let margins = closing(calc, run, shape);
+    Laid {
+        through: false,
+        bottom,
+        margins,
+    }
+}
+
+#[cycle(flow)]
+#[tactic(auto, using(lay_block::proofs::Slots::seams), unfolding(crate::specs::steps::Flow::laid_block))]
+/// Lays out another block, which goes on with the context.
+fn lay_block<S: Steady>(
+    alloc: Global,
+    calc: &mut S,
+    page: &Page<'_, S::Num>,
+    cb: &Band<S::Num>,
+    context: &mut Context<S::Num>,
+    b: u32,
+    cleared: Option<Cleared<S::Num>>,
+    shape: &Shape<S::Num>,
+    out: &mut Vec<Placed<S::Num>>,
+) -> Laid<S::Num>
+    requires { b < length page.now.tree.now.boxes }
+    ensures goes { Goes (S.run calc.old) (S.run calc.new) }
+    ensures value { (e : Reading) → IsTrue ((S.run calc.new).is_open e) → laid_with S.at result context.new e
+        ≡ without_boxes (block_step page.now.tree.now e.world page.now.height
+        (apart_at S.at page.now.apart.now e) (stretch_at S.at cb.now e) (context_at S.at context.old e) b
+        (cleared_at S.at cleared e) (frame_at S.at shape.now e)) }
+    ensures boxes { (e : Reading) → IsTrue ((S.run calc.new).is_open e) → boxes_at S.at out.new.items e
+        ≡ boxes_at S.at out.old.items e ++ (block_step page.now.tree.now e.world page.now.height
+        (apart_at S.at page.now.apart.now e) (stretch_at S.at cb.now e) (context_at S.at context.old e) b
+        (cleared_at S.at cleared e) (frame_at S.at shape.now e)).after.boxes }
+{
+    let band = content_band(calc, &cb.left, &shape.x);
+    let top = content_top(calc, shape);
+    let standing = standing_in(calc, page.tree, b, cleared, shape);
+    open(calc, shape, standing, context);
+    let place = keep(calc, page.tree, b, shape, out);
+    content(alloc, calc, page, &band, &top, context, b, out);
+    let placed = block_box(calc, page, b, shape, context);
+    let bottom = calc.copy(&placed.border.bottom);
+    put::<S>(out, place, placed);
+    let through = is_at_top(&context.standing) && collapses_through(page.tree, b);
+    let run = joined_run(calc, joins_last_child(page.tree, b), &context.standing);
+    let margins = closing(calc, run, shape);
+    Laid {
+        through,
+        bottom,
+        margins,
+    }
+}
+
+#[cycle(flow)]
+#[tactic(auto, unfolding(crate::specs::steps::Flow::laid_of))]
+/// Lays out a box in flow that is reached.
+fn lay<S: Steady>(
+    alloc: Global,
+    calc: &mut S,
+    page: &Page<'_, S::Num>,
+    cb: &Band<S::Num>,
+    context: &mut Context<S::Num>,
+    b: u32,
+    top: &S::Num,
+    cleared: Option<Cleared<S::Num>>,
+    out: &mut Vec<Placed<S::Num>>,
+) -> Laid<S::Num>
+    requires { b < length page.now.tree.now.boxes }
+    ensures goes { Goes (S.run calc.old) (S.run calc.new) }
+    ensures value { (clears : Bool) (e : Reading) → IsTrue ((S.run calc.new).is_open e)
+        → laid_with S.at result context.new e ≡ without_boxes (laid_of page.now.tree.now e.world page.now.height
+        (apart_at S.at page.now.apart.now e) (stretch_at S.at cb.now e) (context_at S.at context.old e) b
+        (record { top = S.at top.now e; clears = clears; cleared = cleared_at S.at cleared e })) }
+    ensures boxes { (clears : Bool) (e : Reading) → IsTrue ((S.run calc.new).is_open e)
+        → boxes_at S.at out.new.items e ≡ boxes_at S.at out.old.items e
+        ++ (laid_of page.now.tree.now e.world page.now.height (apart_at S.at page.now.apart.now e)
+        (stretch_at S.at cb.now e) (context_at S.at context.old e) b
+        (record { top = S.at top.now e; clears = clears; cleared = cleared_at S.at cleared e })).after.boxes }
+{
+    let shape = shape(alloc, calc, page, cb, b, top);
+    if is_replaced(page.tree, b) {
+        let room = across(calc, cb);
+        return lay_replaced(calc, page, &room, context, b, &shape, out);
+    }
+    if starts_context(page.tree, b) {
+        return lay_context(alloc, calc, page, cb, context, b, &shape, out);
+    }
+    lay_block(alloc, calc, page, cb, context, b, cleared, &shape, out)
+}
+
+#[cycle(flow)]
+#[tactic(auto, unfolding(crate::specs::steps::Flow::in_flow))]
+/// A box in flow.
+fn flow<S: Steady>(
+    alloc: Global,
+    calc: &mut S,
+    page: &Page<'_, S::Num>,
+    cb: &Band<S::Num>,
+    context: &mut Context<S::Num>,
+    b: u32,
+    out: &mut Vec<Placed<S::Num>>,
+)
+    requires { b < length page.now.tree.now.boxes }
+    ensures goes { Goes (S.run calc.old) (S.run calc.new) }
+    ensures context { (e : Reading) → IsTrue ((S.run calc.new).is_open e) → context_at S.at context.new e
+        ≡ (in_flow page.now.tree.now e.world page.now.height (apart_at S.at page.now.apart.now e)
+        (stretch_at S.at cb.now e) (context_at S.at context.old e) b).context }
+    ensures boxes { (e : Reading) → IsTrue ((S.run calc.new).is_open e) → boxes_at S.at out.new.items e
+        ≡ boxes_at S.at out.old.items e ++ (in_flow page.now.tree.now e.world page.now.height
+        (apart_at S.at page.now.apart.now e) (stretch_at S.at cb.now e) (context_at S.at context.old e) b).boxes }
+{
+    let mut met = reach(alloc, calc, page, cb, context, b);
+    let before = copy_standing(calc, &context.standing);
+    let cleared = std::mem::replace(&mut met.reached.cleared, None);
+    let laid = lay(
+        alloc,
+        calc,
+        page,
+        cb,
+        context,
+        b,
+        &met.reached.top,
+        cleared,
+        out,
+    );
+    context.standing = standing_after(calc, page.tree, cb, before, b, met, laid);
+}
+
+#[cycle(flow)]
+#[tactic(auto, unfolding(crate::specs::steps::Flow::child_of))]
+/// A child of a block container.
+fn child<S: Steady>(
+    alloc: Global,
+    calc: &mut S,
+    page: &Page<'_, S::Num>,
+    cb: &Band<S::Num>,
+    top: &S::Num,
+    context: &mut Context<S::Num>,
+    k: u32,
+    out: &mut Vec<Placed<S::Num>>,
+)
+    requires { k < length page.now.tree.now.boxes }
+    ensures goes { Goes (S.run calc.old) (S.run calc.new) }
+    ensures context { (e : Reading) → IsTrue ((S.run calc.new).is_open e) → context_at S.at context.new e
+        ≡ (child_of page.now.tree.now e.world page.now.height (apart_at S.at page.now.apart.now e)
+        (stretch_at S.at cb.now e) (S.at top.now e) (context_at S.at context.old e) k).context }
+    ensures boxes { (e : Reading) → IsTrue ((S.run calc.new).is_open e) → boxes_at S.at out.new.items e
+        ≡ boxes_at S.at out.old.items e ++ (child_of page.now.tree.now e.world page.now.height
+        (apart_at S.at page.now.apart.now e) (stretch_at S.at cb.now e) (S.at top.now e)
+        (context_at S.at context.old e) k).boxes }
+{
+    if floats_at(page.tree, k) {
+        float(calc, page, cb, top, context, k, out);
+    } else {
+        flow(alloc, calc, page, cb, context, k, out);
+    }
+}
+
+#[cycle(flow)]
+/// Children of a block container, behind it, one after another.
+fn children<S: Steady>(
+    alloc: Global,
+    calc: &mut S,
+    page: &Page<'_, S::Num>,
+    cb: &Band<S::Num>,
+    top: &S::Num,
+    context: &mut Context<S::Num>,
+    b: u32,
+    boxes: &[u32],
+    out: &mut Vec<Placed<S::Num>>,
+)
+    requires within { b < length page.now.tree.now.boxes }
+    requires behind { (i : ℕ) → i < length boxes.now
+        → (b < slice_index_or boxes.now i 0) × (slice_index_or boxes.now i 0 < length page.now.tree.now.boxes) }
+    ensures goes { Goes (S.run calc.old) (S.run calc.new) }
+    ensures context { (e : Reading) → IsTrue ((S.run calc.new).is_open e) → context_at S.at context.new e
+        ≡ (children_of page.now.tree.now e.world page.now.height (apart_at S.at page.now.apart.now e)
+        (stretch_at S.at cb.now e) (S.at top.now e) (context_at S.at context.old e) boxes.now).context }
+    ensures boxes { (e : Reading) → IsTrue ((S.run calc.new).is_open e) → boxes_at S.at out.new.items e
+        ≡ boxes_at S.at out.old.items e ++ (children_of page.now.tree.now e.world page.now.height
+        (apart_at S.at page.now.apart.now e) (stretch_at S.at cb.now e) (S.at top.now e)
+        (context_at S.at context.old e) boxes.now).boxes }
+{
+    for k in boxes {
+        child(alloc, calc, page, cb, top, context, *k, out);
+    }
+}
+
+#[cycle(flow)]
+/// What is in a block container: its lines, or its children one after another.
+pub fn content<S: Steady>(
+    alloc: Global,
+    calc: &mut S,
+    page: &Page<'_, S::Num>,
+    cb: &Band<S::Num>,
+    top: &S::Num,
+    context: &mut Context<S::Num>,
+    b: u32,
+    out: &mut Vec<Placed<S::Num>>,
+)
+    requires { b < length page.now.tree.now.boxes }
+    ensures goes { Goes (S.run calc.old) (S.run calc.new) }
+    ensures context { (e : Reading) → IsTrue ((S.run calc.new).is_open e) → context_at S.at context.new e
+        ≡ (content_of page.now.tree.now e.world page.now.height (apart_at S.at page.now.apart.now e) b
+        (stretch_at S.at cb.now e) (S.at top.now e) (context_at S.at context.old e)).context }
+    ensures boxes { (e : Reading) → IsTrue ((S.run calc.new).is_open e) → boxes_at S.at out.new.items e
+        ≡ boxes_at S.at out.old.items e ++ (content_of page.now.tree.now e.world page.now.height
+        (apart_at S.at page.now.apart.now e) b (stretch_at S.at cb.now e) (S.at top.now e)
+        (context_at S.at context.old e)).boxes }
+{
+    let tree = page.tree;
+    if has_line(tree, b) {
+        in_lines(alloc, calc, page, b, cb, top, context, out);
+        return;
+    }
+    if !holds_inline(tree, b) {
+        children(
+            alloc,
+            calc,
+            page,
+            cb,
+            top,
+            context,
+            b,
+            kids_at(tree, b),
+            out,
+        );
+        return;
+    }
+    match floats_in(alloc, tree, b) {
+        Ok(floats) => {
+            children(
+                alloc,
+                calc,
+                page,
+                cb,
+                top,
+                context,
+                b,
+                floats.as_slice(),
+                out,
+            );
+        }
+        Err(_) => calc.stop(),
+    }
 }

@@ -1,6 +1,6 @@
 ghost use Rattle.std.specs.Prelude.{◌≡◌, ◌*◌, ◌+◌, ◌<◌, ◌≤◌, []};
 ghost use Rattle.std.specs.Prelude.{pos, negsuc, ◌∷◌, IsTrue, IfOk};
-ghost use Rattle.lay_flow.specs.BlockPages.{ready};
+ghost use Rattle.lay_flow.specs.Ready.{ready};
 ghost use Rattle.hex.specs.Hex.{encode_lower};
 ghost use Rattle.cert_text.specs.Grammar.{DigestText};
 ghost use Rattle.cert_check.specs.Paths.{variable_of};

@@ -4,7 +4,7 @@ use Rattle.std.specs.List.{flat_map}
 use Rattle.viz_base.specs.declared.worlds.World.{World}
 use Rattle.viz_base.specs.declared.renderings.Rendering.{Rendering}
 use Rattle.viz_base.specs.declared.jobs.Job.{Job}
-use Rattle.lay_flow.specs.BlockPages.{ready}
+use Rattle.lay_flow.specs.Ready.{ready}
 use Rattle.lay_print.specs.Print.{printed}
 use Rattle.logic_semantics.specs.Scenes.{scene_of}
 use Rattle.logic_semantics.specs.Blame.{blame}
@@ -14,7 +14,6 @@ use Rattle.cert_check.specs.Nodes.{nodes_of}
 use Rattle.cert_check.specs.Right.{rendering_of}
 use Rattle.cert_check.specs.declared.verdicts.Verdict.TheVariants.{Accepted, Rejected}
 use Rattle.cert_check.proofs.Texts.{few}
-use Rattle.cert_check.proofs.Bounded.{bounded_rendering}
 use Rattle.prove_search.specs.Outcomes.{IsOutcome}
 use Rattle.prove_search.specs.declared.outcome.Outcome.{Outcome}
 use Rattle.prove_search.specs.declared.outcome.Outcome.TheVariants as found
@@ -36,9 +35,6 @@ few_nodes bytes cert held =
     omega arith
 
 -- ---- violations
-
-pub bounded : (job : Job) (world : World) (r : Rendering ℤ) → IsTrue (ready job.tree) → world.w ≤ 16384 → world.s ≤ 256 → r ≡ rendering_of job world → IsBoundedRendering r
-bounded job world r is_ready narrow sized e = subst (λ x. IsBoundedRendering x) (sym e) (bounded_rendering job world is_ready narrow sized)
 
 pub violation_is : (job : Job) (world : World) (r : Rendering ℤ) (blamed : List ℕ) (boxes output : List ℕ) → r ≡ rendering_of job world
     → blamed ≡ blame (scene_of r world job.height) job.formula → boxes ≡ printed r

@@ -7,7 +7,7 @@ use Rattle.viz_base.specs.declared.raw_jobs.Which.{Which}
 use Rattle.viz_base.specs.declared.raw_jobs.Which.TheVariants as which
 use Rattle.viz_base.specs.declared.settings.Prop.{Prop}
 use Rattle.css_semantics.specs.Properties.{row}
-use Rattle.lay_flow.specs.BlockPages.{ready}
+use Rattle.lay_flow.specs.Ready.{ready}
 use Rattle.page_build.specs.declared.faults.JobRefusal.{JobRefusal}
 use Rattle.page_build.specs.declared.faults.JobRefusal.TheVariants.{Mem, NotJson, Shape, Limit, Range, Import, MediaQuery, TooManyRules, Selector, Value, BlockInInline, RightToLeft, TooManyBoxes, Reach, Bad, Unbound, TooDeep}
 use Rattle.page_build.specs.Jobs.{IsJobOf, IsRefusedAs}
@@ -48,7 +48,7 @@ abbrev pub value_line : ℕ → Prop → List ℕ → List ℕ
 value_line node prop value =
     codes "job-refused unsupported-value" ++ (spaced node ++ (codes " " ++ ((row prop).name ++ (codes " " ++ (value ++ codes "\n")))))
 
--- the line of a job whose page is not laid out yet
+-- the line of a job whose boxes are not numbered in document order, which is not laid out yet
 abbrev pub not_yet_line : List ℕ
 not_yet_line = codes "job-refused not-yet\n"
 
@@ -89,7 +89,7 @@ pub record IsRefused (bytes output : List ℕ) : Type 0 where
   pub refused : IsRefusedAs bytes refusal
   pub line : output ≡ refusal_line refusal
 
--- the bytes spell a job, of which nothing refuses more than that its page is not yet laid out
+-- the bytes spell a job, of which nothing refuses more than that its boxes are not numbered in document order
 pub record IsNotYet (bytes output : List ℕ) : Type 0 where
   pub job : Job
   pub spelled : SpellsJob bytes job

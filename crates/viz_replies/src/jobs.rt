@@ -13,7 +13,7 @@ use viz_base::{Job, Mem};
 #[derive(Drop)]
 pub enum JobRead {
     Read(Job),
-    /// They spell no job, or one whose page is not laid out yet.
+    /// They spell no job, or one whose boxes are not numbered in document order.
     Refused(Reply),
 }
 
@@ -27,7 +27,7 @@ pub fn long_job(alloc: Global) -> Result<Reply, Mem>
     line(alloc, Answer::JobRefused, b"job-refused too-long\n")
 }
 
-/// The reply about a job whose page is not laid out yet.
+/// The reply about a job whose boxes are not numbered in document order, which is not laid out yet.
 fn not_yet(alloc: Global) -> Result<Reply, Mem>
     ensures { IfOk result (λ r. (r.answer ≡ Answer.JobRefused) × (r.output.items ≡ not_yet_line)) }
 {

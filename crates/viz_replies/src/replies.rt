@@ -1,6 +1,6 @@
 ghost use Rattle.std.specs.Prelude.{◌≡◌, ◌≤◌, ◌<◌, ◌^◌, ℕ, List, [], ◌∷◌, ◌++◌, codes, length, IfOk, IsTrue};
 ghost use Rattle.std.specs.List.{flat_map};
-ghost use Rattle.lay_flow.specs.BlockPages.{ready as is_ready};
+ghost use Rattle.lay_flow.specs.Ready.{ready as is_ready};
 ghost use Rattle.cert_check.specs.Nodes.{nodes_of};
 ghost use Rattle.cert_text.specs.Grammar.{CertText};
 ghost use Rattle.viz_replies.specs.Lines.{numbered};
@@ -12,7 +12,7 @@ use crate::certs::{CertRead, certificate_in};
 use crate::lines::{numbered_line, push_blamed, push_line};
 use crate::question::Question;
 use crate::reply::{Answer, Reply, line};
-use cert_check::{Reject, Verdict, check};
+use cert_check::{Reject, Verdict, check, is_low_rendering};
 use cert_text::{Cert, write_cert};
 use lay_flow::render_at;
 use lay_print::print;
@@ -64,7 +64,7 @@ fn violation(alloc: Global, job: &Job, world: World) -> Result<Reply, Mem>
     ensures { IfOk result (λ r. (r.answer ≡ Answer.Violated) × (r.output.items ≡ violation_text job.now world)) }
 {
     let rendering = render_at(alloc, world, &job.tree, job.height)?;
-    if u32::try_from(rendering.boxes.len()).is_err() {
+    if u32::try_from(rendering.boxes.len()).is_err() || !is_low_rendering(&rendering) {
         return Err(Mem);
     }
     let blamed = blame(alloc, &job.formula, &rendering, &world, job.height)?;

@@ -1,6 +1,6 @@
 ghost use Rattle.std.specs.Prelude.{◌≡◌, ◌≤◌, ℕ, List, IfOk, IsErrOf, IsTrue};
 ghost use Rattle.viz_outside.specs.Fault.{Rose};
-ghost use Rattle.lay_flow.specs.BlockPages.{ready};
+ghost use Rattle.lay_flow.specs.Ready.{ready};
 ghost use Rattle.viz_replies.specs.Replies.{IsReplyAbout};
 ghost use Rattle.vizlog.specs.Words.{job_name};
 ghost use Rattle.vizlog.specs.Files.{MayHold};

@@ -1,7 +1,7 @@
 -- What the parts of a reply come to.
 use Rattle.std.specs.Prelude.{◌≡◌, ℕ, ◌≤◌, List, [], ◌∷◌, codes, IsTrue}
 use Rattle.viz_base.specs.declared.jobs.Job.{Job}
-use Rattle.lay_flow.specs.BlockPages.{ready}
+use Rattle.lay_flow.specs.Ready.{ready}
 use Rattle.cert_text.specs.declared.certificate.Cert.{Cert}
 use Rattle.cert_text.specs.declared.certificate.CertFault.{CertFault}
 use Rattle.cert_text.specs.declared.certificate.CertFault.TheVariants as spells

@@ -1,20 +1,20 @@
-use Rattle.std.proofs.Common.{◌≡◌, ◌<◌, ◌^◌, ℤ, IsTrue, subst, sym, ap, ◌∙◌, arith}
+use Rattle.std.proofs.Common.{◌≡◌, ◌<◌, ◌^◌, ℤ, IsTrue, sym, ap, ◌∙◌, arith}
 use Rattle.viz_base.specs.declared.renderings.Rendering.{Rendering}
 use Rattle.viz_calc.specs.Plain.{plain_state, plain_reading}
 use Rattle.logic_semantics.specs.Scenes.{scene_of}
 use Rattle.logic_semantics.specs.Truth.{truth}
-use Rattle.vis_truth.specs.Scenes.{IsBoundedRendering, IsTame, scene_at}
+use Rattle.vis_truth.specs.Scenes.{IsTame, scene_at}
 use Rattle.viz_calc.proofs.PlainLemmas.{open_reading, world-stays}
 use Rattle.vis_truth.proofs.PlainScenes.{never-halts, plain-tame, rendering-same}
-use Rattle.cert_check.proofs.Bounded.{bounded_rendering, narrow_world, sized_world}
+use Rattle.cert_check.proofs.Bounded.{low_rendering, narrow_world, sized_world}
 use Rattle.cert_check.proofs.worlds.holds_at.Goals as goal
 
 pub unreachable-requires : goal.unreachable-requires
 unreachable-requires c =
     let job = c.args.job.now in
-    let narrow = narrow_world job c.args.world c.requires.in_range in
+    let bounded = low_rendering c.in_ok-rendering.rendering (sym c.is_low_rendering.ensures ∙ c.if-not-is_low_rendering.false) in
     let sized = sized_world job c.args.world c.requires.in_range in
-    let bounded : IsBoundedRendering c.in_ok-rendering.rendering = subst (λ r. IsBoundedRendering r) (sym (c.in_ok-rendering.ensures)) (bounded_rendering job c.args.world c.requires.ready narrow sized) in
+    let narrow = narrow_world job c.args.world c.requires.in_range in
     let same = c.new-calc.ensures in
     let wide : c.new-calc.result.world.w < 2 ^ 32 = rw same (omega arith) in
     never-halts c.new-calc.result.world c.truth.new.calc.world (IsTame (plain_state c.new-calc.result.world).is_open (λ n e. n) c.in_ok-rendering.rendering job.formula)

@@ -4,7 +4,7 @@ use Rattle.viz_base.specs.declared.renderings.Rendering.{Rendering}
 use Rattle.viz_base.specs.declared.worlds.World.{World}
 use Rattle.viz_calc.specs.Plain.{plain_state, plain_reading}
 use Rattle.viz_calc.proofs.PlainLemmas.{open_reading, world-stays}
-use Rattle.lay_flow.proofs.Slots.{plain_boxes}
+use Rattle.lay_block.proofs.Slots.{plain_boxes}
 use Rattle.lay_flow.proofs.front.render_at.Goals as goal
 
 pub returns-in-Ok : goal.returns-in-Ok

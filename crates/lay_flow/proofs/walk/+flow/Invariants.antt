@@ -1,34 +1,46 @@
 use Rattle.std.proofs.Common.{◌≡◌, ◌-◌, ◌+◌, ◌*◌, ◌++◌, length, drop, IsTrue}
 use Rattle.viz_calc.specs.World.{Reading}
-use Rattle.viz_calc.specs.Run.{Goes, BlamesButMem}
-use Rattle.layout_semantics.specs.Order.{kids_of}
-use Rattle.lay_flow.specs.FlowFitting.{BlocksFit}
-use Rattle.lay_flow.specs.steps.Readings.{container_at, context_at, boxes_at}
-use Rattle.lay_flow.specs.steps.Blocks.{children, block_step, content}
+use Rattle.viz_calc.specs.Run.{Goes}
+use Rattle.lay_block.specs.steps.Readings.{boxes_at}
+use Rattle.lay_float.specs.Readings.{stretch_at}
+use Rattle.lay_flow.specs.Readings.{apart_at, context_at}
+use Rattle.lay_flow.specs.steps.Flow.{children_of}
 use Rattle.lay_flow.proofs.walk.+flow.Given as goal
 
--- each box stands after the one that it is in
-abbrev pub decreases-block : goal.decreases-block
-decreases-block g l = 2 * (length l.tree.now.boxes - l.b) + 1
+abbrev pub decreases-child : goal.decreases-child
+decreases-child g l = 8 * (length l.page.now.tree.now.boxes - l.k) + 6
+
+abbrev pub decreases-flow : goal.decreases-flow
+decreases-flow g l = 8 * (length l.page.now.tree.now.boxes - l.b) + 5
+
+abbrev pub decreases-lay : goal.decreases-lay
+decreases-lay g l = 8 * (length l.page.now.tree.now.boxes - l.b) + 4
+
+abbrev pub decreases-lay_block : goal.decreases-lay_block
+decreases-lay_block g l = 8 * (length l.page.now.tree.now.boxes - l.b) + 3
+
+abbrev pub decreases-lay_context : goal.decreases-lay_context
+decreases-lay_context g l = 8 * (length l.page.now.tree.now.boxes - l.b) + 3
 
 abbrev pub decreases-content : goal.decreases-content
-decreases-content g l = 2 * (length l.tree.now.boxes - l.b)
+decreases-content g l = 8 * (length l.page.now.tree.now.boxes - l.b) + 2
 
--- the boxes so far, with those that are left, are all
-abbrev pub invariant-content-loop-kid : goal.invariant-content-loop-kid
-invariant-content-loop-kid g l =
+abbrev pub decreases-children : goal.decreases-children
+decreases-children g l = 8 * (length l.page.now.tree.now.boxes - l.b) + 1
+
+-- what came of the children so far and of those that are left is what comes of all
+abbrev pub invariant-children-loop-k : goal.invariant-children-loop-k
+invariant-children-loop-k g l =
     let at = g.S.Steady.at in
     let run = g.S.Steady.run in
     record {
-      goes : Goes (run l.initial.calc) (run l.calc);
+      goes : Goes (run l.fn.calc) (run l.calc);
       context : (e : Reading) → IsTrue ((run l.calc).is_open e)
-          → (children (block_step l.tree e.world (content l.tree e.world) (container_at at l.cb e)) (context_at at l.context e) (drop l.kid-index (kids_of l.tree.boxes l.b))).context
-          ≡ (children (block_step l.tree e.world (content l.tree e.world) (container_at at l.cb e)) (context_at at l.initial.context e) (kids_of l.tree.boxes l.b)).context;
+          → (children_of l.page.tree.now e.world l.page.height (apart_at at l.page.apart.now e) (stretch_at at l.cb e) (at l.top e) (context_at at l.context e) (drop l.k-index l.boxes)).context
+          ≡ (children_of l.page.tree.now e.world l.page.height (apart_at at l.page.apart.now e) (stretch_at at l.cb e) (at l.top e) (context_at at l.fn.context e) l.boxes).context;
       boxes : (e : Reading) → IsTrue ((run l.calc).is_open e)
-          → boxes_at at l.out.items e ++ (children (block_step l.tree e.world (content l.tree e.world) (container_at at l.cb e)) (context_at at l.context e) (drop l.kid-index (kids_of l.tree.boxes l.b))).boxes
-          ≡ boxes_at at l.initial.out.items e ++ (children (block_step l.tree e.world (content l.tree e.world) (container_at at l.cb e)) (context_at at l.initial.context e) (kids_of l.tree.boxes l.b)).boxes;
-      left : ((e : Reading) → IsTrue ((run l.initial.calc).is_open e) → BlocksFit l.tree e.world (container_at at l.cb e) (context_at at l.initial.context e) (kids_of l.tree.boxes l.b))
-          → (e : Reading) → IsTrue ((run l.calc).is_open e) → BlocksFit l.tree e.world (container_at at l.cb e) (context_at at l.context e) (drop l.kid-index (kids_of l.tree.boxes l.b));
-      cause : BlamesButMem (run l.initial.calc) (run l.calc)
-          ((e : Reading) → IsTrue ((run l.initial.calc).is_open e) → BlocksFit l.tree e.world (container_at at l.cb e) (context_at at l.initial.context e) (kids_of l.tree.boxes l.b));
+          → boxes_at at l.out.items e
+          ++ (children_of l.page.tree.now e.world l.page.height (apart_at at l.page.apart.now e) (stretch_at at l.cb e) (at l.top e) (context_at at l.context e) (drop l.k-index l.boxes)).boxes
+          ≡ boxes_at at l.fn.out.items e
+          ++ (children_of l.page.tree.now e.world l.page.height (apart_at at l.page.apart.now e) (stretch_at at l.cb e) (at l.top e) (context_at at l.fn.context e) l.boxes).boxes;
     }

@@ -1,5 +1,5 @@
 use Rattle.std.proofs.Common.{◌≡◌, ◌≤◌, ◌∙◌, false, inr, length, sym, arith}
-use Rattle.lay_flow.specs.BlockPages.{ready}
+use Rattle.lay_flow.specs.Ready.{ready}
 use Rattle.viz_replies.proofs.jobs.read_job.Goals as goal
 
 pub returns-in_ok-not_yet-in-Ok : goal.returns-in_ok-not_yet-in-Ok

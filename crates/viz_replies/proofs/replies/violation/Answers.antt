@@ -1,9 +1,10 @@
-use Rattle.std.proofs.Common.{refl}
-use Rattle.viz_replies.proofs.ReplyLemmas.{bounded, violation_is}
+use Rattle.std.proofs.Common.{refl, arith}
+use Rattle.cert_check.proofs.Bounded.{low_rendering}
+use Rattle.viz_replies.proofs.ReplyLemmas.{violation_is}
 use Rattle.viz_replies.proofs.replies.violation.Goals as goal
 
 pub blame-requires-clause-bounded : goal.blame-requires-clause-bounded
-blame-requires-clause-bounded c = bounded c.args.job.now c.args.world c.in_ok-rendering.rendering c.requires.ready c.requires.narrow c.requires.sized c.in_ok-rendering.ensures
+blame-requires-clause-bounded c = low_rendering c.in_ok-rendering.rendering (grind arith)
 
 pub returns : goal.returns
 returns c =

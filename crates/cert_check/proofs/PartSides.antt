@@ -1,0 +1,160 @@
+-- The part of the range that unit splits leave, and the sides that the rectangle of a path has.
+use Rattle.std.proofs.Common.{◌≡◌, ◌+◌, ◌<◌, ◌≤◌, ℤ, pos, negsuc, neg_ℤ, ◌-ℤ◌, ◌<ℤ◌, Bool, true, false, cond, nat_lt, nat_le, min, max, Option, Some, None, inl, inr, refl, sym, ap, subst, arith}
+use Rattle.std.specs.Ordering.{int_eq}
+use Rattle.std.specs.Option.{option_map}
+use Rattle.std.specs.Int.{int_max, int_min}
+use Rattle.std.proofs.lemmas.Int.{ints, int_max_is, int_min_is}
+use Rattle.std.proofs.lemmas.Bool.Decides.{nat_tests, Decides-int_eq}
+use Rattle.viz_base.specs.declared.worlds.World.{World}
+use Rattle.viz_base.specs.declared.worlds.Axis.{Axis}
+use Rattle.viz_base.specs.declared.worlds.Axis.TheVariants.{Width, Size}
+use Rattle.viz_base.specs.declared.worlds.Span.{Span}
+use Rattle.viz_base.specs.declared.worlds.Rect.{Rect}
+use Rattle.viz_base.specs.Worlds.{side_of, with_side}
+use Rattle.logic_semantics.specs.Ranges.{IsInRange}
+use Rattle.cert_path.specs.Rectangles.{Side, Sides, cut_side as cut_a_side, whole}
+use Rattle.cert_path.specs.Laws.{IsInside}
+use Rattle.cert_check.specs.declared.cuts.Child.{Child}
+use Rattle.cert_check.specs.declared.cuts.Child.TheVariants.{First, Second}
+use Rattle.cert_check.specs.declared.cuts.Cut.{Cut}
+use Rattle.cert_check.specs.declared.cuts.Opens.TheVariants.{Above, UpTo}
+use Rattle.cert_check.specs.Rectangles.{coefficient_cut, at_most, above, cut_side, toward, cut_at}
+use Rattle.cert_check.specs.Laws.{IsProper}
+use Rattle.cert_check.specs.steps.Grids.{IsPart}
+
+-- ---- one side
+
+abbrev as_side : Span → Side
+as_side s = record { least = pos s.least; most = pos s.most }
+
+-- the numbers that are left are those of a span, or none
+abbrev IsSide : Option Span → Side → Type 0
+IsSide None s = s.most <ℤ s.least
+IsSide (Some t) s = (t.least ≤ t.most) × (s ≡ as_side t)
+
+rises : (k : ℤ) (s : Span) → s.least ≤ s.most → (b : ℤ) → b ≡ neg_ℤ k -ℤ pos 1 → IsSide (above b s) (record { least = int_max (neg_ℤ k) (pos s.least); most = pos s.most })
+rises k s proper (pos b) is = by_test (nat_lt b s.most) refl
+  where
+    by_test : (t : Bool) → nat_lt b s.most ≡ t → IsSide (cond t (Some (record { least = max (b + 1) s.least; most = s.most })) None) (record { least = int_max (neg_ℤ k) (pos s.least); most = pos s.most })
+    by_test true e =
+        let less : b < s.most = grind (arith, nat_tests) in
+        let least : int_max (neg_ℤ k) (pos s.least) ≡ pos (max (b + 1) s.least) = omega (arith, ints, int_max_is (neg_ℤ k) (pos s.least), is) in
+        (omega arith, λ i. record { least = least i; most = pos s.most })
+    by_test false e = let most : s.most ≤ b = grind (arith, nat_tests) in omega (arith, ints, int_max_is (neg_ℤ k) (pos s.least), is, most)
+rises k s proper (negsuc b) is =
+    let least : int_max (neg_ℤ k) (pos s.least) ≡ pos s.least = omega (arith, ints, int_max_is (neg_ℤ k) (pos s.least), is) in
+    (proper, λ i. record { least = least i; most = pos s.most })
+
+falls : (k : ℤ) (s : Span) → s.least ≤ s.most → IsSide (at_most k s) (record { least = pos s.least; most = int_min k (pos s.most) })
+falls (pos b) s proper = by_test (nat_le s.least b) refl
+  where
+    by_test : (t : Bool) → nat_le s.least b ≡ t → IsSide (cond t (Some (record { least = s.least; most = min b s.most })) None) (record { least = pos s.least; most = int_min (pos b) (pos s.most) })
+    by_test true e =
+        let less : s.least ≤ b = grind (arith, nat_tests) in
+        let most : int_min (pos b) (pos s.most) ≡ pos (min b s.most) = omega (arith, ints, int_min_is (pos b) (pos s.most)) in
+        (omega arith, λ i. record { least = pos s.least; most = most i })
+    by_test false e = let less : b < s.least = grind (arith, nat_tests) in omega (arith, ints, int_min_is (pos b) (pos s.most), less)
+falls (negsuc b) s proper = omega (arith, ints, int_min_is (negsuc b) (pos s.most))
+
+-- ---- a unit row on one side, at either child
+
+abbrev side_after : ℤ → ℤ → Child → Side → Side
+side_after k c First s = cut_a_side k c s
+side_after k c Second s = cut_a_side (neg_ℤ k -ℤ pos 1) (neg_ℤ c) s
+
+abbrev span_after : Option Cut → Child → Span → Option Span
+span_after (Some cut) child s = cut_side (toward child cut.opens) cut.bound s
+span_after None child s = Some s
+
+abbrev cut_by : Bool → Bool → ℤ → Axis → Option Cut
+cut_by p q k axis = cond p (Some (record { axis = axis; opens = Above; bound = neg_ℤ k -ℤ pos 1 })) (cond q (Some (record { axis = axis; opens = UpTo; bound = k })) None)
+
+abbrev side_by : Bool → Bool → ℤ → Side → Side
+side_by p q k s = cond p (record { least = int_max (neg_ℤ k) s.least; most = s.most }) (cond q (record { least = s.least; most = int_min k s.most }) s)
+
+int_test : (a b : ℤ) → int_eq a b ≡ true → a ≡ b
+int_test a b e = (Decides-int_eq a b).0 e
+
+coefficient_after : (k c : ℤ) (axis : Axis) (child : Child) (s : Span) → s.least ≤ s.most → IsSide (span_after (coefficient_cut k axis c) child s) (side_after k c child (as_side s))
+coefficient_after k c axis First s proper = by_tests (int_eq c (pos 1)) refl (int_eq c (negsuc 0)) refl
+  where
+    by_tests : (p : Bool) → int_eq c (pos 1) ≡ p → (q : Bool) → int_eq c (negsuc 0) ≡ q → IsSide (span_after (cut_by p q k axis) First s) (side_by p q k (as_side s))
+    by_tests true e q f = rises k s proper (neg_ℤ k -ℤ pos 1) refl
+    by_tests false e true f = falls k s proper
+    by_tests false e false f = (proper, refl)
+coefficient_after k c axis Second s proper = by_tests (int_eq c (pos 1)) refl (int_eq c (negsuc 0)) refl (int_eq (neg_ℤ c) (pos 1)) refl (int_eq (neg_ℤ c) (negsuc 0)) refl
+  where
+    turned : neg_ℤ (neg_ℤ k -ℤ pos 1) -ℤ pos 1 ≡ k
+    turned = omega (arith, ints)
+
+    is_one : (d : ℤ) → int_eq d (pos 1) ≡ true → d ≡ pos 1
+    is_one d e = int_test d (pos 1) e
+
+    minus_one : (d : ℤ) → int_eq d (negsuc 0) ≡ true → d ≡ negsuc 0
+    minus_one d e = int_test d (negsuc 0) e
+
+    apart : (b : Bool) → b ≡ true → b ≡ false → ⊥
+    apart true e f = absurd (cc)
+    apart false e f = absurd (cc)
+
+    by_tests : (p : Bool) → int_eq c (pos 1) ≡ p → (q : Bool) → int_eq c (negsuc 0) ≡ q → (t : Bool) → int_eq (neg_ℤ c) (pos 1) ≡ t → (u : Bool) → int_eq (neg_ℤ c) (negsuc 0) ≡ u
+        → IsSide (span_after (cut_by p q k axis) Second s) (side_by t u (neg_ℤ k -ℤ pos 1) (as_side s))
+    by_tests true e q f true g u h = absurd (let a = is_one c e in let b = is_one (neg_ℤ c) g in omega (arith, ints, a, b))
+    by_tests true e q f false g true h = falls (neg_ℤ k -ℤ pos 1) s proper
+    by_tests true e q f false g false h = absurd (apart (int_eq (neg_ℤ c) (negsuc 0)) ((Decides-int_eq (neg_ℤ c) (negsuc 0)).1 (ap neg_ℤ (is_one c e))) h)
+    by_tests false e true f true g u h = rises (neg_ℤ k -ℤ pos 1) s proper k (sym turned)
+    by_tests false e true f false g u h = absurd (apart (int_eq (neg_ℤ c) (pos 1)) ((Decides-int_eq (neg_ℤ c) (pos 1)).1 (ap neg_ℤ (minus_one c f))) g)
+    by_tests false e false f true g u h = absurd (apart (int_eq c (negsuc 0)) ((Decides-int_eq c (negsuc 0)).1 (let a = is_one (neg_ℤ c) g in omega (arith, ints, a))) f)
+    by_tests false e false f false g true h = absurd (apart (int_eq c (pos 1)) ((Decides-int_eq c (pos 1)).1 (let a = minus_one (neg_ℤ c) h in omega (arith, ints, a))) e)
+    by_tests false e false f false g false h = (proper, refl)
+
+-- ---- rectangles
+
+widths_part : (r : Rect) (o : Option Span) (side : Side) → IsProper r → IsSide o side → IsPart (option_map (with_side Width r) o) (record { widths = side; sizes = record { least = pos r.sl; most = pos r.sh } })
+widths_part r None side proper h = inl h
+widths_part r (Some t) side proper h =
+    (record { widths = h.0; sizes = proper.sizes }, λ i. record { widths = h.1 i; sizes = record { least = pos r.sl; most = pos r.sh } })
+
+sizes_part : (r : Rect) (o : Option Span) (side : Side) → IsProper r → IsSide o side → IsPart (option_map (with_side Size r) o) (record { widths = record { least = pos r.wl; most = pos r.wh }; sizes = side })
+sizes_part r None side proper h = inr h
+sizes_part r (Some t) side proper h =
+    (record { widths = proper.widths; sizes = h.0 }, λ i. record { widths = record { least = pos r.wl; most = pos r.wh }; sizes = h.1 i })
+
+-- a cut of an axis leaves what it leaves of the axis's side
+axis_cut : (k c : ℤ) (axis : Axis) (child : Child) (r : Rect) → cut_at (coefficient_cut k axis c) child r ≡ option_map (with_side axis r) (span_after (coefficient_cut k axis c) child (side_of axis r))
+axis_cut k c axis child r = by_tests (int_eq c (pos 1)) (int_eq c (negsuc 0)) axis
+  where
+    by_tests : (p q : Bool) (axis : Axis) → cut_at (cut_by p q k axis) child r ≡ option_map (with_side axis r) (span_after (cut_by p q k axis) child (side_of axis r))
+    by_tests true q axis = refl
+    by_tests false true axis = refl
+    by_tests false false Width = refl
+    by_tests false false Size = refl
+
+wide : (k c : ℤ) (child : Child) (r : Rect) → IsProper r → IsPart (cut_at (coefficient_cut k Width c) child r) (record { widths = side_after k c child (whole r).widths; sizes = (whole r).sizes })
+wide k c child r proper =
+    subst (λ o. IsPart o (record { widths = side_after k c child (whole r).widths; sizes = (whole r).sizes })) (sym (axis_cut k c Width child r))
+    (widths_part r (span_after (coefficient_cut k Width c) child (side_of Width r)) (side_after k c child (whole r).widths) proper (coefficient_after k c Width child (side_of Width r) proper.widths))
+
+high : (k c : ℤ) (child : Child) (r : Rect) → IsProper r → IsPart (cut_at (coefficient_cut k Size c) child r) (record { widths = (whole r).widths; sizes = side_after k c child (whole r).sizes })
+high k c child r proper =
+    subst (λ o. IsPart o (record { widths = (whole r).widths; sizes = side_after k c child (whole r).sizes })) (sym (axis_cut k c Size child r))
+    (sizes_part r (span_after (coefficient_cut k Size c) child (side_of Size r)) (side_after k c child (whole r).sizes) proper (coefficient_after k c Size child (side_of Size r) proper.sizes))
+
+-- ---- how many worlds, and which
+
+pub inside_part : (r : Rect) (sides : Sides) → IsPart (Some r) sides → (world : World) → IsInside sides world → IsInRange r world
+inside_part r sides h world i =
+    let at = subst (λ s. IsInside s world) h.1 i in
+    let a = at.0.0 in
+    let b = at.0.1 in
+    let c = at.1.0 in
+    let d = at.1.1 in
+    record { width_least = omega (arith, ints, a); width_most = omega (arith, ints, b); size_least = omega (arith, ints, c); size_most = omega (arith, ints, d) }
+
+pub part_inside : (r : Rect) (sides : Sides) → IsPart (Some r) sides → (world : World) → IsInRange r world → IsInside sides world
+part_inside r sides h world i =
+    let a = i.width_least in
+    let b = i.width_most in
+    let c = i.size_least in
+    let d = i.size_most in
+    subst (λ s. IsInside s world) (sym h.1) ((omega (arith, ints, a), omega (arith, ints, b)), (omega (arith, ints, c), omega (arith, ints, d)))

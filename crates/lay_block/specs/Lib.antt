@@ -1,0 +1,5 @@
+pub mod steps
+pub mod BlockPages
+pub mod Fitting
+pub mod FlowFitting
+pub mod Limits

@@ -1,0 +1,94 @@
+-- What stands outside the flow of a box is in the tree; and tables at a reading.
+use Rattle.std.proofs.Common.{◌≡◌, ℕ, zero, suc, ◌<◌, ◌+◌, ◌-◌, ◌*◌, ℤ, pos, Bool, true, false, cond, List, [], ◌∷◌, filter, length, set, replicate, Option, Some, None, refl, ap, ◌∙◌, arith}
+use Rattle.std.specs.List.{AllByRecursion}
+use Rattle.std.proofs.lemmas.List.{map-set}
+use Rattle.viz_base.specs.declared.trees.BoxTree.{BoxTree}
+use Rattle.viz_base.specs.declared.worlds.World.{World}
+use Rattle.viz_calc.specs.World.{Reading}
+use Rattle.layout_semantics.specs.Flow.{Alone}
+use Rattle.layout_semantics.specs.FlowBoxes.{flow_children, room_to}
+use Rattle.layout_semantics.specs.InlineContent.{is_floated_at, has_line, inner_boxes}
+use Rattle.layout_semantics.proofs.Pages.{forest}
+use Rattle.layout_laws.proofs.Levels.{IsFrom, All-implied, inner_boxes-from}
+use Rattle.layout_laws.proofs.LeadLevels.{children-from}
+use Rattle.lay_block.specs.steps.Readings.{boxes_at}
+use Rattle.flow_steps.specs.Tables.{laid_at, outside_of, page_boxes}
+use Rattle.lay_flow.specs.declared.parts.Alone.{Alone as AloneBox}
+use Rattle.lay_flow.specs.Readings.{alone_at, apart_at, table_at}
+use Rattle.lay_flow.specs.steps.Flow.{alone_of, with_box, with_container, table_to}
+use Rattle.lay_flow.proofs.TableSteps.{root-boxes}
+
+-- ---- boxes of the tree
+
+All-filter : (P : ℕ → Type 0) (test : ℕ → Bool) (ks : List ℕ) → AllByRecursion P ks → AllByRecursion P (filter test ks)
+All-filter P test [] a = tt
+All-filter P test (k ∷ ks) a = by (test k) (All-filter P test ks a.1)
+  where
+    by : (t : Bool) → AllByRecursion P (filter test ks) → AllByRecursion P (cond t (k ∷ filter test ks) (filter test ks))
+    by true rest = (a.0, rest)
+    by false rest = rest
+
+pub outside-within : (tree : BoxTree) (b : ℕ) → AllByRecursion (λ (k : ℕ). k < length tree.boxes) (outside_of tree b)
+outside-within tree b = All-implied (IsFrom tree.boxes (suc b)) (λ (k : ℕ). k < length tree.boxes) (outside_of tree b) (λ k f. f.within) (by (has_line tree b))
+  where
+    by : (l : Bool) → AllByRecursion (IsFrom tree.boxes (suc b)) (elim l as (λ _. List ℕ) [ true ↦ inner_boxes tree b | false ↦ filter (is_floated_at tree) (flow_children tree b) ])
+    by true = inner_boxes-from tree b (forest tree)
+    by false = All-filter (IsFrom tree.boxes (suc b)) (is_floated_at tree) (flow_children tree b) (children-from tree b)
+
+-- ---- the table of more boxes
+
+-- after the box before the last so many
+pub next-table : (tree : BoxTree) (w : World) (height : ℕ) (before after : List (Option Alone)) (n b : ℕ) → b ≡ length tree.boxes - suc n → before ≡ table_to tree w height n
+    → after ≡ with_container tree w height before b → after ≡ table_to tree w height (n + 1)
+unfolding table_to
+next-table tree w height before after n b last is added =
+    let next : suc n ≡ n + 1 = omega arith in
+    added
+    ∙ ap (λ (t : List (Option Alone)). with_container tree w height t b) is
+    ∙ ap (with_container tree w height (table_to tree w height n)) last
+    ∙ ap (table_to tree w height) next
+
+pub first-table : (tree : BoxTree) (w : World) (height : ℕ) → replicate (length tree.boxes) None ≡ table_to tree w height 0
+unfolding table_to
+first-table tree w height = refl
+
+-- ---- tables at a reading
+
+module _ {N : Type 0} (at : N → Reading → ℤ) (e : Reading) where
+  abbrev kept_at : Option (AloneBox N) → Option Alone
+  kept_at o = elim o as (λ _. Option Alone) [ None ↦ None | Some a ↦ Some (alone_at at a e) ]
+
+  pub table-set : (old new : List (Option (AloneBox N))) (k : ℕ) (a : AloneBox N) → new ≡ set old k (Some a) → table_at at new e ≡ set (table_at at old e) k (Some (alone_at at a e))
+  table-set old new k a is = ap (λ (t : List (Option (AloneBox N))). table_at at t e) is ∙ map-set kept_at old k (Some a)
+
+  -- with a box more, laid out by those before in so wide a containing block
+  pub box-added : (tree : BoxTree) (w : World) (height : ℕ) (old new apart : List (Option (AloneBox N))) (k levels : ℕ) (a : AloneBox N) (wide : ℤ) → new ≡ set old k (Some a) → apart ≡ old
+      → alone_at at a e ≡ alone_of tree w height (apart_at at apart e) k wide → levels ≡ suc k → wide ≡ room_to levels tree w height k
+      → table_at at new e ≡ with_box tree w height (table_at at old e) k
+  unfolding with_box apart_at
+  box-added tree w height old new apart k levels a wide is same laid all own =
+      table-set old new k a is
+      ∙ ap (λ (x : Alone). set (table_at at old e) k (Some x))
+      (laid
+      ∙ ap (λ (t : List (Option (AloneBox N))). alone_of tree w height (laid_at (table_at at t e)) k wide) same
+      ∙ ap (alone_of tree w height (laid_at (table_at at old e)) k) (own ∙ ap (λ (n : ℕ). room_to n tree w height k) all))
+
+  -- the boxes of a page, by the table of all that stands outside its flow
+  pub page-laid : (tree : BoxTree) (w : World) (height : ℕ) (apart places : List (Option (AloneBox N))) (a : AloneBox N) (wide : ℤ) → 0 < length tree.boxes → apart ≡ places
+      → alone_at at a e ≡ alone_of tree w height (apart_at at apart e) 0 wide → wide ≡ pos (64 * w.w) → table_at at places e ≡ table_to tree w height (length tree.boxes)
+      → boxes_at at a.boxes.items e ≡ page_boxes tree w height
+  unfolding apart_at
+  page-laid tree w height apart places a wide some same laid own all =
+      ap (λ (x : Alone). x.boxes)
+      (laid
+      ∙ ap (λ (t : List (Option (AloneBox N))). alone_of tree w height (laid_at (table_at at t e)) 0 wide) same
+      ∙ ap (λ (t : List (Option Alone)). alone_of tree w height (laid_at t) 0 wide) all
+      ∙ ap (alone_of tree w height (laid_at (table_to tree w height (length tree.boxes))) 0) own)
+      ∙ root-boxes tree w height some
+
+  pub table-none : (n : ℕ) (t : List (Option (AloneBox N))) → t ≡ replicate n None → table_at at t e ≡ replicate n None
+  table-none n t is = ap (λ (t : List (Option (AloneBox N))). table_at at t e) is ∙ by n
+    where
+      by : (n : ℕ) → table_at at (replicate n None) e ≡ replicate n None
+      by zero = refl
+      by (suc n) = ap (λ (l : List (Option Alone)). None ∷ l) (by n)

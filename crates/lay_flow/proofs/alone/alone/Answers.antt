@@ -1,0 +1,40 @@
+use Rattle.std.proofs.Common.{◌≡◌, true, false, arith}
+use Rattle.viz_calc.proofs.Runs.{Goes-then}
+use Rattle.layout_semantics.specs.FlowBoxes.{is_replaced_at}
+use Rattle.lay_preferred.proofs.Founds.{found-later}
+use Rattle.lay_block.specs.steps.Readings.{frame_at}
+use Rattle.lay_flow.specs.Readings.{alone_at, apart_at}
+use Rattle.lay_flow.proofs.AloneBoxes.{from-replaced, from-context}
+use Rattle.lay_flow.proofs.alone.alone.Goals as goal
+
+pub returns-then-is_replaced-clause-goes : goal.returns-then-is_replaced-clause-goes
+returns-then-is_replaced-clause-goes g c = Goes-then _ _ _ c.corner_shape-shape.ensures.goes c.replaced_alone.ensures.goes
+
+pub returns-then-is_replaced-clause-found : goal.returns-then-is_replaced-clause-found
+returns-then-is_replaced-clause-found g c =
+    found-later g.S.Steady.at c.args.page.now.tree.now (g.S.Steady.run c.corner_shape-shape.new.calc) (g.S.Steady.run c.replaced_alone.new.calc) _ c.replaced_alone.ensures.goes c.corner_shape-shape.ensures.found
+
+pub returns-then-is_replaced-clause-value : goal.returns-then-is_replaced-clause-value
+returns-then-is_replaced-clause-value g c = λ e o.
+    let at = g.S.Steady.at in
+    let page = c.args.page.now in
+    let tree = page.tree.now in
+    let is : is_replaced_at tree c.args.b ≡ true = grind arith in
+    from-replaced tree e.world page.height (apart_at at page.apart.now e) c.args.b (at c.args.room.now e) (alone_at at c.replaced_alone.result e) (frame_at at c.corner_shape-shape.result e) is
+    (c.replaced_alone.ensures.value e o) (c.corner_shape-shape.ensures.value e (c.replaced_alone.ensures.goes.closes e o))
+
+pub returns-clause-goes : goal.returns-clause-goes
+returns-clause-goes g c = Goes-then _ _ _ c.corner_shape-shape.ensures.goes c.context_alone.ensures.goes
+
+pub returns-clause-found : goal.returns-clause-found
+returns-clause-found g c =
+    found-later g.S.Steady.at c.args.page.now.tree.now (g.S.Steady.run c.corner_shape-shape.new.calc) (g.S.Steady.run c.context_alone.new.calc) _ c.context_alone.ensures.goes c.corner_shape-shape.ensures.found
+
+pub returns-clause-value : goal.returns-clause-value
+returns-clause-value g c = λ e o.
+    let at = g.S.Steady.at in
+    let page = c.args.page.now in
+    let tree = page.tree.now in
+    let is : is_replaced_at tree c.args.b ≡ false = grind arith in
+    from-context tree e.world page.height (apart_at at page.apart.now e) c.args.b (at c.args.room.now e) (alone_at at c.context_alone.result e) (frame_at at c.corner_shape-shape.result e) is
+    (c.context_alone.ensures.value e o) (c.corner_shape-shape.ensures.value e (c.context_alone.ensures.goes.closes e o))

@@ -1,0 +1,29 @@
+use Rattle.std.proofs.Common.{◌≡◌, List, [], ◌∷◌, length, refl, arith, ◌∙◌}
+use Rattle.viz_calc.proofs.Runs.{Goes-then}
+use Rattle.lay_block.specs.steps.Readings.{boxes_at}
+use Rattle.lay_flow.specs.Readings.{apart_at}
+use Rattle.lay_flow.specs.steps.Flow.{entry_of}
+use Rattle.lay_flow.proofs.InLines.{one-added, none-added}
+use Rattle.lay_flow.proofs.lines.add_entries.Goals as goal
+
+no-items : {A : Type 0} (xs : List A) → length xs ≡ 0 → xs ≡ []
+no-items [] e = refl
+no-items (x ∷ xs) e = absurd (omega (arith, e))
+
+pub loop-entry-preserved : goal.loop-entry-preserved
+loop-entry-preserved g c =
+    let at = g.S.Steady.at in
+    let added = c.add_entry.ensures in
+    record {
+      goes = Goes-then _ _ _ c.loop-entry.invariant.goes added.goes;
+      value = λ e o.
+          one-added at e (entry_of c.args.page.now.tree.now e.world (apart_at at c.args.page.now.apart.now e)) c.loop-entry.entry-iterator.rest.items c.next.new.self.rest.items c.in-Some.entry
+          (boxes_at at c.loop-entry.out.items e) (boxes_at at c.add_entry.new.out.items e) c.in-Some.ensures.steps.0 (added.value e o)
+          ∙ c.loop-entry.invariant.value e (added.goes.closes e o);
+    }
+
+pub returns-clause-value : goal.returns-clause-value
+returns-clause-value g c = λ e o.
+    let at = g.S.Steady.at in
+    none-added at e (entry_of c.args.page.now.tree.now e.world (apart_at at c.args.page.now.apart.now e)) c.loop-entry.entry-iterator.rest.items (boxes_at at c.loop-entry.out.items e) (no-items c.loop-entry.entry-iterator.rest.items (grind arith))
+    ∙ c.loop-entry.invariant.value e o

@@ -1,0 +1,26 @@
+use Rattle.std.proofs.Common.{◌+◌, ◌∙◌, ap, sym, get_or, drop, slice_set, Some}
+use Rattle.viz_calc.proofs.Runs.{Goes-then}
+use Rattle.lay_line.specs.Contexts.{table_at}
+use Rattle.lay_flow.specs.Readings.{apart_at}
+use Rattle.lay_flow.specs.steps.Flow.{filled_table}
+use Rattle.lay_flow.proofs.InLines.{one-number, one-set}
+use Rattle.lay_flow.proofs.lines.fill.Goals as goal
+
+pub loop-at-preserved : goal.loop-at-preserved
+loop-at-preserved g c =
+    let at = g.S.Steady.at in
+    let inner = c.inner_of-inner.ensures in
+    let tree = c.args.page.now.tree.now in
+    record {
+      goes = Goes-then _ _ _ c.loop-at.invariant.goes inner.goes;
+      value = λ e o.
+          let apart = apart_at at c.args.page.now.apart.now e in
+          let old = table_at at c.loop-at.table.items e in
+          let boxes = c.args.boxes.now in
+          let k = c.loop-at.at-index in
+          let b = get_or boxes k 0 in
+          one-number (λ ks table. filled_table tree e.world apart table ks) boxes k 0 old (table_at at c.put.new.table.items e) c.loop-at-test.true
+          (sym (ap (λ table. filled_table tree e.world apart table (drop (k + 1) boxes))
+          (one-set at e c.loop-at.table.items c.put.new.table.items b c.inner_of-inner.result c.put.ensures ∙ ap (λ x. slice_set old b (Some x)) (inner.value e o))))
+          ∙ c.loop-at.invariant.value e (inner.goes.closes e o);
+    }

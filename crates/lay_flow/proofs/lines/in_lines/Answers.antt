@@ -1,0 +1,46 @@
+use Rattle.std.proofs.Common.{◌++◌, fold, flat_map, ap, ◌∙◌}
+use Rattle.viz_calc.proofs.Runs.{Goes-then}
+use Rattle.layout_semantics.specs.Flow.{raised}
+use Rattle.lay_block.specs.steps.Readings.{boxes_at}
+use Rattle.lay_float.specs.Readings.{stretch_at, option_at}
+use Rattle.lay_line.specs.Readings.{entries_at}
+use Rattle.flow_steps.specs.Flow.{line_tops}
+use Rattle.lay_line.specs.Lining.{laid_at}
+use Rattle.lay_flow.specs.Readings.{apart_at, context_at, standing_at}
+use Rattle.lay_flow.specs.steps.Flow.{entry_of}
+use Rattle.lay_flow.proofs.InLines.{context-after, boxes-after}
+use Rattle.lay_flow.proofs.lines.in_lines.Goals as goal
+
+pub returns-clause-goes : goal.returns-clause-goes
+returns-clause-goes g c =
+    Goes-then _ _ _ (Goes-then _ _ _ (Goes-then _ _ _ c.lines_in-lines.ensures.goes c.below-standing.ensures.goes) c.raised_by-least.ensures.goes) c.add_entries.ensures.goes
+
+pub returns-clause-context : goal.returns-clause-context
+returns-clause-context g c = λ e o.
+    let at = g.S.Steady.at in
+    let page = c.args.page.now in
+    let laid = c.lines_in-lines.result in
+    let o1 = c.add_entries.ensures.goes.closes e o in
+    let o2 = c.raised_by-least.ensures.goes.closes e o1 in
+    let o3 = c.below-standing.ensures.goes.closes e o2 in
+    context-after page.tree.now e.world (apart_at at page.apart.now e) c.args.b (stretch_at at c.args.cb.now e) (at c.args.top.now e) (context_at at c.args.context.now e)
+    (laid_at at laid e) (standing_at at c.below-standing.result e) (option_at at c.raised_by-least.result e)
+    (c.below-standing.ensures.value e o2)
+    (c.raised_by-least.ensures.value e o1
+    ∙ (ap (λ es. fold raised (option_at at c.take.result e) (flat_map line_tops (entries_at at es e))) c.as_slice.ensures
+    ∙ ap (λ x. fold raised (option_at at x e) (flat_map line_tops (entries_at at laid.lines.entries e))) (c.take.ensures.value ∙ c.lines_in-lines.ensures.least)))
+    (c.lines_in-lines.ensures.value e o3)
+
+pub returns-clause-boxes : goal.returns-clause-boxes
+returns-clause-boxes g c = λ e o.
+    let at = g.S.Steady.at in
+    let page = c.args.page.now in
+    let apart = apart_at at page.apart.now e in
+    let laid = c.lines_in-lines.result in
+    let o1 = c.add_entries.ensures.goes.closes e o in
+    let o2 = c.raised_by-least.ensures.goes.closes e o1 in
+    let o3 = c.below-standing.ensures.goes.closes e o2 in
+    let old = boxes_at at c.args.out.now.items e in
+    c.add_entries.ensures.value e o
+    ∙ (ap (λ es. old ++ flat_map (entry_of page.tree.now e.world apart) (entries_at at es e)) c.into_vec.ensures
+    ∙ ap (λ bs. old ++ bs) (boxes-after page.tree.now e.world apart c.args.b (stretch_at at c.args.cb.now e) (at c.args.top.now e) (context_at at c.args.context.now e) (laid_at at laid e) (c.lines_in-lines.ensures.value e o3)))

@@ -1,0 +1,27 @@
+use Rattle.std.proofs.Common.{◌≡◌, suc, ◌-◌, length, refl, arith, ◌∙◌}
+use Rattle.viz_calc.proofs.Runs.{Goes-then}
+use Rattle.lay_flow.specs.Readings.{table_at}
+use Rattle.lay_flow.proofs.TableFacts.{next-table, first-table, table-none}
+use Rattle.lay_flow.proofs.page.fill.Goals as goal
+
+pub loop-done-init : goal.loop-done-init
+loop-done-init g c = record {
+  goes = record { closes = λ e o. o; reached = λ e o. o; lean = refl; coeffs = omega arith; opens = omega arith; kept = refl; lender = refl };
+  found = c.requires.found;
+  value = λ e o. table-none g.S.Steady.at e _ _ c.requires.empty ∙ first-table c.args.tree.now e.world c.args.height;
+}
+
+pub loop-done-preserved : goal.loop-done-preserved
+loop-done-preserved g c =
+    let at = g.S.Steady.at in
+    let tree = c.args.tree.now in
+    let done = c.loop-done.invariant in
+    let added = c.add_container.ensures in
+    record {
+      goes = Goes-then _ _ _ done.goes added.goes;
+      found = added.found;
+      value = λ e o.
+          let last : c.args.count - 1 - c.loop-done.done ≡ length tree.boxes - suc c.loop-done.done = let all = c.requires.all in omega (arith, all) in
+          next-table tree e.world c.args.height (table_at at c.loop-done.table.places.items e) (table_at at c.add_container.new.table.places.items e) c.loop-done.done
+          (c.args.count - 1 - c.loop-done.done) last (done.value e (added.goes.closes e o)) (added.value e o);
+    }

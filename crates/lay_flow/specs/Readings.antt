@@ -1,0 +1,84 @@
+-- What the values of the flow mean at a reading.
+use Rattle.std.specs.Prelude.{ℕ, ℤ, List, [], map, Option, option_map}
+use Rattle.viz_calc.specs.World.{Reading}
+use Rattle.layout_semantics.specs.Flow.{Alone, Reached, Cleared}
+use Rattle.lay_float.specs.Readings.{floats_at, extent_at, option_at}
+use Rattle.lay_margin.specs.Readings as margins
+use Rattle.lay_margin.specs.Runs.{run_at}
+use Rattle.lay_block.specs.steps.Readings.{boxes_at}
+use Rattle.flow_steps.specs.Flow as steps
+use Rattle.flow_steps.specs.Forward as forward
+use Rattle.flow_steps.specs.Runs as runs
+use Rattle.flow_steps.specs.Tables.{laid_at}
+use Rattle.lay_flow.specs.declared.parts.Cleared.{Cleared as ClearedBox}
+use Rattle.lay_flow.specs.declared.parts.Standing.{Standing}
+use Rattle.lay_flow.specs.declared.parts.Standing.TheVariants.{AtTop, Below}
+use Rattle.lay_flow.specs.declared.parts.Context.{Context}
+use Rattle.lay_flow.specs.declared.parts.Alone.{Alone as AloneBox}
+use Rattle.lay_flow.specs.declared.parts.Base.{Base}
+use Rattle.lay_flow.specs.declared.parts.Base.TheVariants.{Hangs, Stands}
+use Rattle.lay_flow.specs.declared.parts.End.{End}
+use Rattle.lay_flow.specs.declared.parts.Going.{Going}
+use Rattle.lay_flow.specs.declared.parts.End.TheVariants.{GoesOn, Solid, Ends}
+use Rattle.lay_flow.specs.declared.parts.Reached.{Reached as ReachedBox}
+use Rattle.lay_flow.specs.declared.parts.Laid.{Laid}
+use Rattle.lay_flow.specs.declared.parts.Met.{Met}
+use Rattle.lay_margin.specs.declared.runs.Run.{Run}
+
+-- ---- how far the flow has come
+
+abbrev pub cleared_at : {N : Type 0} → (N → Reading → ℤ) → Option (ClearedBox N) → Reading → Cleared
+cleared_at at c e = option_map (λ x. (x.at, at x.edge e)) c
+
+abbrev pub standing_at : {N : Type 0} → (N → Reading → ℤ) → Standing N → Reading → steps.Standing
+standing_at at (AtTop y cleared) e = steps.at_top (at y e) (cleared_at at cleared e)
+standing_at at (Below edge run stuck) e = steps.below (at edge e) (run_at at run e) stuck
+
+abbrev pub context_at : {N : Type 0} → (N → Reading → ℤ) → Context N → Reading → steps.Context
+context_at at c e = record {
+  standing = standing_at at c.standing e;
+  floats = floats_at at c.floats e;
+  least = option_at at c.least e;
+  baseline = option_at at c.baseline e;
+}
+
+-- ---- boxes in coordinates of their own
+
+abbrev pub alone_at : {N : Type 0} → (N → Reading → ℤ) → AloneBox N → Reading → Alone
+alone_at at a e = record { size = extent_at at a.size e; baseline = option_at at a.baseline e; boxes = boxes_at at a.boxes.items e }
+
+abbrev pub table_at : {N : Type 0} → (N → Reading → ℤ) → List (Option (AloneBox N)) → Reading → List (Option Alone)
+table_at at table e = map (λ o. option_map (λ a. alone_at at a e) o) table
+
+-- the boxes of a table by their numbers
+unfoldable pub apart_at : {N : Type 0} → (N → Reading → ℤ) → List (Option (AloneBox N)) → Reading → ℕ → Alone
+apart_at at table e = laid_at (table_at at table e)
+
+-- ---- the way forward
+
+abbrev pub base_at : {N : Type 0} → (N → Reading → ℤ) → Base N → Reading → runs.Base
+base_at at (Hangs edge) e = runs.hangs (at edge e)
+base_at at (Stands edge) e = runs.stands (at edge e)
+
+abbrev pub end_at : {N : Type 0} → (N → Reading → ℤ) → End N → Reading → forward.End
+end_at at GoesOn e = forward.goes_on
+end_at at Solid e = forward.solid
+end_at at (Ends c) e = forward.cleared c.at (at c.edge e)
+
+abbrev pub found_at : {N : Type 0} → (N → Reading → ℤ) → Going N → End N → Reading → forward.Found
+found_at at g x e = forward.found (run_at at g.run e) (margins.floats_at at g.waiting e) (end_at at x e)
+
+-- ---- a box in flow
+
+abbrev pub reached_at : {N : Type 0} → (N → Reading → ℤ) → ReachedBox N → Reading → Reached
+reached_at at r e = record { top = at r.top e; clears = r.clears; cleared = cleared_at at r.cleared e }
+
+abbrev pub met_at : {N : Type 0} → (N → Reading → ℤ) → Met N → Reading → Reached × Run ℤ
+met_at at m e = (reached_at at m.reached e, run_at at m.own e)
+
+-- a box that is laid out, without the boxes that it adds
+abbrev pub laid_with : {N : Type 0} → (N → Reading → ℤ) → Laid N → Context N → Reading → steps.Laid
+laid_with at l c e = record { through = l.through; bottom = at l.bottom e; margins = run_at at l.margins e; after = steps.step (context_at at c e) [] }
+
+abbrev pub without_boxes : steps.Laid → steps.Laid
+without_boxes l = record l { after = steps.step l.after.context [] }

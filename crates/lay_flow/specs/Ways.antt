@@ -1,0 +1,41 @@
+-- A way forward at a reading.
+use Rattle.std.specs.Prelude.{ℕ, ℤ, cond, List}
+use Rattle.viz_base.specs.declared.layouts.Band.{Band}
+use Rattle.viz_base.specs.declared.layouts.Waiting.{Waiting}
+use Rattle.viz_base.specs.declared.trees.BoxTree.{BoxTree}
+use Rattle.viz_calc.specs.World.{Reading}
+use Rattle.layout_semantics.specs.FlowBoxes.{may_collapse_through}
+use Rattle.lay_float.specs.Readings.{boxes_at, option_at}
+use Rattle.lay_margin.specs.Readings.{passed_by}
+use Rattle.lay_margin.specs.declared.runs.Run.{Run}
+use Rattle.flow_steps.specs.Forward as forward
+use Rattle.flow_steps.specs.Forward.{Found, way}
+use Rattle.lay_flow.specs.Readings.{apart_at, base_at}
+use Rattle.lay_flow.specs.steps.Walk.{size_in}
+use Rattle.lay_flow.specs.declared.parts.End.{End}
+use Rattle.lay_flow.specs.declared.parts.End.TheVariants.{GoesOn, Solid, Ends}
+use Rattle.lay_flow.specs.declared.forward.Way.{Way}
+
+module _ {N : Type 0} (at : N → Reading → ℤ) (x : Way N) (e : Reading) where
+  unfoldable pub way_at : Band ℤ → ℕ → Run ℤ → List (Waiting ℤ) → Found
+  way_at = way x.page.now.tree.now e.world (size_in (apart_at at x.page.now.apart.now e)) (base_at at x.base.now e)
+      (boxes_at at x.floats.now e) (option_at at x.least.now e) (passed_by x.past)
+
+  -- from a box that is not cleared
+  abbrev pub inner_at : Band ℤ → ℕ → Run ℤ → List (Waiting ℤ) → Found
+  inner_at cb b run waiting = forward.inner_step x.page.now.tree.now e.world (size_in (apart_at at x.page.now.apart.now e))
+      (base_at at x.base.now e) (boxes_at at x.floats.now e) (option_at at x.least.now e) (passed_by x.past) way_at cb b run waiting
+
+  -- through one box of a container
+  abbrev pub kid_at : Band ℤ → ℕ → Run ℤ → List (Waiting ℤ) → Found
+  kid_at cb k run waiting = forward.kid_found x.page.now.tree.now e.world (way_at cb) cb k run waiting
+
+  -- and through boxes one after another
+  abbrev pub kids_at_reading : Band ℤ → List ℕ → Run ℤ → List (Waiting ℤ) → Found
+  kids_at_reading cb ks run waiting = forward.kids_found x.page.now.tree.now e.world (forward.kid_of x.page.now.tree.now e.world (way_at cb) cb) ks run waiting
+
+-- where the margins end, by where those in a box do
+abbrev pub closed_end : {N : Type 0} → BoxTree → ℕ → End N → End N
+closed_end tree b GoesOn = cond (may_collapse_through tree b) GoesOn Solid
+closed_end tree b Solid = Solid
+closed_end tree b (Ends c) = Ends c

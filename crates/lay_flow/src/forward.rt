@@ -1,0 +1,405 @@
+//! The margins that adjoin the top of a box that comes next, up to the first box that is cleared (CSS 2.1, 8.3.1,
+//! 9.5.2).
+ghost use Rattle.std.specs.Prelude.{◌≡◌, ◌<◌, ◌++◌, ◌∷◌, [], ℕ, length, slice_index_or, int_lt, false, IsTrue};
+ghost use Rattle.std.specs.Option.{option_map_or};
+ghost use Rattle.viz_calc.specs.World.{Reading};
+ghost use Rattle.viz_calc.specs.Run.{Stands, Goes};
+ghost use Rattle.layout_semantics.specs.Clearance.{with_waiting as with_all};
+ghost use Rattle.layout_semantics.specs.FlowBoxes.{clear_of, flow_children};
+ghost use Rattle.lay_float.specs.Readings.{boxes_at as floats_in, floats_at, option_at, stretch_at};
+ghost use Rattle.lay_margin.specs.Readings.{floats_at as waiting_all};
+ghost use Rattle.lay_margin.specs.Runs.{run_at};
+ghost use Rattle.flow_steps.specs.Runs.{edge_at};
+ghost use Rattle.flow_steps.specs.Forward.{hypothetical_edge as hypothetical_of, bottom_to_clear as bottom_of};
+ghost use Rattle.flow_steps.specs.Forward.{is_to_clear as to_clear_of, clear_edge as clear_edge_of};
+ghost use Rattle.flow_steps.specs.Forward.{decided as decided_of};
+ghost use Rattle.lay_flow.specs.Readings.{apart_at, base_at, found_at};
+ghost use Rattle.lay_flow.specs.Ways.{way_at, inner_at, kids_at_reading, kid_at, closed_end};
+ghost use Rattle.lay_flow.specs.steps.Walk.{size_in};
+
+use crate::floating::{place_float, size_of};
+use crate::parts::{Base, Cleared, End, Going, Page};
+use lay_float::engine::{bottom, copy};
+use lay_float::{Floats, PlacedFloat};
+use lay_margin::Run;
+use lay_margin::contents::{collapses_through, enters, floats_in, holds_inline};
+use lay_margin::engine::value;
+use lay_margin::leads::{band_inside, copy_band, copy_run, join_bottom, join_top, lead, stops_at};
+use lay_margin::trees::{kids_at, own_clear, stands_clear};
+use lay_width::properties::{floats_at, parent_at};
+use std::alloc::Global;
+use viz_base::{Band, BoxTree, Clear, List, Waiting};
+use viz_calc::Steady;
+
+/// What a way forward starts from.
+#[derive(Debug, Drop)]
+pub struct Way<'a, N> {
+    pub page: &'a Page<'a, N>,
+    pub base: &'a Base<N>,
+    /// The floats of the context.
+    pub floats: &'a [PlacedFloat<N>],
+    /// The greatest top in the context so far.
+    pub least: &'a Option<N>,
+    /// The box up to which boxes count as not cleared, if any does.
+    pub past: Option<u32>,
+}
+
+/// The border edge at which a run ends.
+fn edge<S: Steady>(calc: &mut S, base: &Base<S::Num>, run: &Run<S::Num>) -> S::Num
+    ensures goes { Goes (S.run calc.old) (S.run calc.new) }
+    ensures value { Stands (S.run calc.new) (S.at result)
+        (λ e. edge_at (base_at S.at base.now e) (run_at S.at run.now e)) }
+{
+    match base {
+        Base::Hangs(edge) => {
+            let margin = value(calc, run);
+            calc.add(edge, &margin)
+        }
+        Base::Stands(edge) => calc.copy(edge),
+    }
+}
+
+#[tactic(auto, unfolding(layout_semantics::specs::FlowBoxes::clear_of))]
+/// `clear` as it works on a box in flow; on the root it has no effect (CSS 2.1, 9.5.2).
+fn clear_in_flow(tree: &BoxTree, b: u32) -> Clear
+    ensures { result ≡ clear_of tree.now b }
+{
+    if parent_at(tree, b).is_none() {
+        return Clear::Nothing;
+    }
+    if stands_clear(tree, b) {
+        return Clear::Both;
+    }
+    own_clear(tree, b)
+}
+
+#[tactic(auto, unfolding(flow_steps::specs::Forward::hypothetical_edge))]
+/// The border edge of a box with `clear` if it were not cleared.
+fn hypothetical_edge<S: Steady>(
+    alloc: Global,
+    calc: &mut S,
+    way: &Way<'_, S::Num>,
+    cb: &Band<S::Num>,
+    b: u32,
+    run: &Run<S::Num>,
+) -> S::Num
+    requires { b < length way.now.page.now.tree.now.boxes }
+    ensures goes { Goes (S.run calc.old) (S.run calc.new) }
+    ensures value { Stands (S.run calc.new) (S.at result) (λ e. hypothetical_of way.now.page.now.tree.now e.world
+        (size_in (apart_at S.at way.now.page.now.apart.now e)) (base_at S.at way.now.base.now e)
+        (floats_in S.at way.now.floats.now e) (option_at S.at way.now.least.now e) (stretch_at S.at cb.now e) b
+        (run_at S.at run.now e)) }
+{
+    let mut own = copy_run(calc, run);
+    let mut waiting = List::new(alloc);
+    lead(
+        alloc,
+        calc,
+        way.page.tree,
+        b,
+        cb,
+        Some(b),
+        &mut own,
+        &mut waiting,
+    );
+    edge(calc, way.base, &own)
+}
+
+/// Places the floats that wait, each where the run of margins ends at y, behind these.
+fn place_waiting<S: Steady>(
+    calc: &mut S,
+    way: &Way<'_, S::Num>,
+    waiting: &[Waiting<S::Num>],
+    y: &S::Num,
+    floats: &mut Floats<S::Num>,
+)
+    ensures goes { Goes (S.run calc.old) (S.run calc.new) }
+    ensures value { (e : Reading) → IsTrue ((S.run calc.new).is_open e) → floats_at S.at floats.new e
+        ≡ with_all way.now.page.now.tree.now (size_in (apart_at S.at way.now.page.now.apart.now e))
+        (waiting_all S.at waiting.now e) (floats_at S.at floats.old e) (option_at S.at way.now.least.now e)
+        (S.at y.now e) }
+{
+    for float in waiting {
+        let size = size_of(calc, way.page.apart, float.at);
+        place_float(
+            calc,
+            way.page.tree,
+            floats,
+            float.at,
+            &size,
+            &float.cb,
+            way.least,
+            y,
+        );
+    }
+}
+
+#[tactic(auto, unfolding(flow_steps::specs::Forward::bottom_to_clear))]
+/// The lowest bottom that a box is to clear, the floats that wait being placed at y.
+fn bottom_to_clear<S: Steady>(
+    alloc: Global,
+    calc: &mut S,
+    way: &Way<'_, S::Num>,
+    b: u32,
+    waiting: &[Waiting<S::Num>],
+    y: &S::Num,
+) -> Option<S::Num>
+    ensures goes { Goes (S.run calc.old) (S.run calc.new) }
+    ensures value { (e : Reading) → IsTrue ((S.run calc.new).is_open e) → option_at S.at result e
+        ≡ bottom_of way.now.page.now.tree.now e.world (size_in (apart_at S.at way.now.page.now.apart.now e))
+        (base_at S.at way.now.base.now e) (floats_in S.at way.now.floats.now e) (option_at S.at way.now.least.now e) b
+        (waiting_all S.at waiting.now e) (S.at y.now e) }
+{
+    let clear = clear_in_flow(way.page.tree, b);
+    if waiting.is_empty() {
+        return bottom(calc, way.floats, clear);
+    }
+    let mut floats = copy(alloc, calc, way.floats);
+    place_waiting(calc, way, waiting, y, &mut floats);
+    bottom(calc, floats.placed.as_slice(), clear)
+}
+
+/// Whether a border edge is above such a bottom.
+fn is_above<S: Steady>(calc: &mut S, y: &S::Num, bottom: &Option<S::Num>) -> bool
+    ensures goes { Goes (S.run calc.old) (S.run calc.new) }
+    ensures value { (e : Reading) → IsTrue ((S.run calc.new).is_open e)
+        → result ≡ option_map_or (int_lt (S.at y.now e)) (option_at S.at bottom.now e) false }
+{
+    match bottom {
+        Some(bottom) => !calc.le(bottom, y),
+        None => false,
+    }
+}
+
+/// Whether a box is cleared that is reached with this run and these floats that wait.
+fn is_to_clear<S: Steady>(
+    alloc: Global,
+    calc: &mut S,
+    way: &Way<'_, S::Num>,
+    cb: &Band<S::Num>,
+    b: u32,
+    going: &Going<S::Num>,
+) -> bool
+    requires { b < length way.now.page.now.tree.now.boxes }
+    ensures goes { Goes (S.run calc.old) (S.run calc.new) }
+    ensures value { (e : Reading) → IsTrue ((S.run calc.new).is_open e) → result
+        ≡ to_clear_of way.now.page.now.tree.now e.world (size_in (apart_at S.at way.now.page.now.apart.now e))
+        (base_at S.at way.now.base.now e) (floats_in S.at way.now.floats.now e) (option_at S.at way.now.least.now e)
+        (stretch_at S.at cb.now e) b (run_at S.at going.now.run e) (waiting_all S.at going.now.waiting e) }
+{
+    let y = hypothetical_edge(alloc, calc, way, cb, b, &going.run);
+    let bottom = bottom_to_clear(alloc, calc, way, b, going.waiting.as_slice(), &y);
+    is_above(calc, &y, &bottom)
+}
+
+/// The border edge of a cleared box: the lowest bottom that it is to clear.
+fn clear_edge<S: Steady>(
+    alloc: Global,
+    calc: &mut S,
+    way: &Way<'_, S::Num>,
+    b: u32,
+    going: &Going<S::Num>,
+) -> S::Num
+    ensures goes { Goes (S.run calc.old) (S.run calc.new) }
+    ensures value { Stands (S.run calc.new) (S.at result) (λ e. clear_edge_of way.now.page.now.tree.now e.world
+        (size_in (apart_at S.at way.now.page.now.apart.now e)) (base_at S.at way.now.base.now e)
+        (floats_in S.at way.now.floats.now e) (option_at S.at way.now.least.now e) b (run_at S.at going.now.run e)
+        (waiting_all S.at going.now.waiting e)) }
+{
+    let y = edge(calc, way.base, &going.run);
+    match bottom_to_clear(alloc, calc, way, b, going.waiting.as_slice(), &y) {
+        Some(bottom) => bottom,
+        None => y,
+    }
+}
+
+/// The border edge of a box with `clear` that is reached, if it is cleared (CSS 2.1, 9.5.2).
+fn decided<S: Steady>(
+    alloc: Global,
+    calc: &mut S,
+    way: &Way<'_, S::Num>,
+    cb: &Band<S::Num>,
+    b: u32,
+    going: &Going<S::Num>,
+) -> Option<S::Num>
+    requires { b < length way.now.page.now.tree.now.boxes }
+    ensures goes { Goes (S.run calc.old) (S.run calc.new) }
+    ensures value { (e : Reading) → IsTrue ((S.run calc.new).is_open e) → option_at S.at result e
+        ≡ decided_of way.now.page.now.tree.now e.world (size_in (apart_at S.at way.now.page.now.apart.now e))
+        (base_at S.at way.now.base.now e) (floats_in S.at way.now.floats.now e) (option_at S.at way.now.least.now e)
+        (stretch_at S.at cb.now e) b (run_at S.at going.now.run e) (waiting_all S.at going.now.waiting e) }
+{
+    if way.floats.is_empty() && going.waiting.is_empty() {
+        return None;
+    }
+    if is_to_clear(alloc, calc, way, cb, b, going) {
+        Some(clear_edge(alloc, calc, way, b, going))
+    } else {
+        None
+    }
+}
+
+/// Lets a float wait.
+fn wait<S: Steady>(calc: &mut S, cb: &Band<S::Num>, at: u32, waiting: &mut List<Waiting<S::Num>>)
+    ensures goes { Goes (S.run calc.old) (S.run calc.new) }
+    ensures value { (e : Reading) → IsTrue ((S.run calc.new).is_open e) → waiting_all S.at waiting.new e
+        ≡ waiting_all S.at waiting.old e ++ record { at = at; cb = stretch_at S.at cb.now e } ∷ [] }
+{
+    let cb = copy_band(calc, cb);
+    match waiting.push(Waiting { at, cb }) {
+        Ok(()) => {}
+        Err(_) => calc.stop(),
+    }
+}
+
+#[cycle(forward)]
+/// Goes forward from a box: joins the margins that adjoin its top to the run, lets the floats between them wait, and
+/// ends at the first box that is cleared.
+pub fn forward<S: Steady>(
+    alloc: Global,
+    calc: &mut S,
+    way: &Way<'_, S::Num>,
+    cb: &Band<S::Num>,
+    b: u32,
+    going: &mut Going<S::Num>,
+) -> End<S::Num>
+    requires { b < length way.now.page.now.tree.now.boxes }
+    ensures goes { Goes (S.run calc.old) (S.run calc.new) }
+    ensures value { (e : Reading) → IsTrue ((S.run calc.new).is_open e) → found_at S.at going.new result e
+        ≡ way_at S.at way.now e (stretch_at S.at cb.now e) b (run_at S.at going.old.run e)
+        (waiting_all S.at going.old.waiting e) }
+{
+    if stops_at(way.page.tree, way.past, b)
+        && let Some(edge) = decided(alloc, calc, way, cb, b, going)
+    {
+        return End::Ends(Cleared { at: b, edge });
+    }
+    inner(alloc, calc, way, cb, b, going)
+}
+
+#[cycle(forward)]
+/// The same of a box that is not cleared.
+fn inner<S: Steady>(
+    alloc: Global,
+    calc: &mut S,
+    way: &Way<'_, S::Num>,
+    cb: &Band<S::Num>,
+    b: u32,
+    going: &mut Going<S::Num>,
+) -> End<S::Num>
+    requires { b < length way.now.page.now.tree.now.boxes }
+    ensures goes { Goes (S.run calc.old) (S.run calc.new) }
+    ensures value { (e : Reading) → IsTrue ((S.run calc.new).is_open e) → found_at S.at going.new result e
+        ≡ inner_at S.at way.now e (stretch_at S.at cb.now e) b (run_at S.at going.old.run e)
+        (waiting_all S.at going.old.waiting e) }
+{
+    join_top(calc, way.page.tree, cb, b, &mut going.run);
+    if !enters(way.page.tree, b) {
+        return End::Solid;
+    }
+    let band = band_inside(calc, way.page.tree, cb, b);
+    let end = content(alloc, calc, way, &band, b, going);
+    close(way.page.tree, b, end)
+}
+
+/// Where the margins end, by where those in a box do.
+fn close<N>(tree: &BoxTree, b: u32, end: End<N>) -> End<N>
+    requires { b < length tree.now.boxes }
+    ensures { result ≡ closed_end tree.now b end }
+{
+    match end {
+        End::GoesOn => {
+            if collapses_through(tree, b) {
+                End::GoesOn
+            } else {
+                End::Solid
+            }
+        }
+        End::Solid | End::Ends(_) => end,
+    }
+}
+
+#[cycle(forward)]
+/// The same of what is in the flow of a box.
+fn content<S: Steady>(
+    alloc: Global,
+    calc: &mut S,
+    way: &Way<'_, S::Num>,
+    band: &Band<S::Num>,
+    b: u32,
+    going: &mut Going<S::Num>,
+) -> End<S::Num>
+    requires { b < length way.now.page.now.tree.now.boxes }
+    ensures goes { Goes (S.run calc.old) (S.run calc.new) }
+    ensures value { (e : Reading) → IsTrue ((S.run calc.new).is_open e) → found_at S.at going.new result e
+        ≡ kids_at_reading S.at way.now e (stretch_at S.at band.now e) (flow_children way.now.page.now.tree.now b)
+        (run_at S.at going.old.run e) (waiting_all S.at going.old.waiting e) }
+{
+    let tree = way.page.tree;
+    if !holds_inline(tree, b) {
+        return kids(alloc, calc, way, band, b, kids_at(tree, b), going);
+    }
+    match floats_in(alloc, tree, b) {
+        Ok(floats) => kids(alloc, calc, way, band, b, floats.as_slice(), going),
+        Err(_) => {
+            calc.stop();
+            End::GoesOn
+        }
+    }
+}
+
+#[cycle(forward)]
+#[tactic(auto, unfolding(flow_steps::specs::Forward::kid_of))]
+/// The same of boxes behind a box, one after another.
+fn kids<S: Steady>(
+    alloc: Global,
+    calc: &mut S,
+    way: &Way<'_, S::Num>,
+    band: &Band<S::Num>,
+    b: u32,
+    boxes: &[u32],
+    going: &mut Going<S::Num>,
+) -> End<S::Num>
+    requires within { b < length way.now.page.now.tree.now.boxes }
+    requires behind { (i : ℕ) → i < length boxes.now
+        → (b < slice_index_or boxes.now i 0) × (slice_index_or boxes.now i 0 < length way.now.page.now.tree.now.boxes) }
+    ensures goes { Goes (S.run calc.old) (S.run calc.new) }
+    ensures value { (e : Reading) → IsTrue ((S.run calc.new).is_open e) → found_at S.at going.new result e
+        ≡ kids_at_reading S.at way.now e (stretch_at S.at band.now e) boxes.now
+        (run_at S.at going.old.run e) (waiting_all S.at going.old.waiting e) }
+{
+    for place in boxes {
+        let end = kid(alloc, calc, way, band, *place, going);
+        if !matches!(end, End::GoesOn) {
+            return end;
+        }
+    }
+    End::GoesOn
+}
+
+#[cycle(forward)]
+/// The same of one: a float waits, and after a box that goes on its bottom margin follows.
+fn kid<S: Steady>(
+    alloc: Global,
+    calc: &mut S,
+    way: &Way<'_, S::Num>,
+    band: &Band<S::Num>,
+    k: u32,
+    going: &mut Going<S::Num>,
+) -> End<S::Num>
+    requires { k < length way.now.page.now.tree.now.boxes }
+    ensures goes { Goes (S.run calc.old) (S.run calc.new) }
+    ensures value { (e : Reading) → IsTrue ((S.run calc.new).is_open e) → found_at S.at going.new result e
+        ≡ kid_at S.at way.now e (stretch_at S.at band.now e) k (run_at S.at going.old.run e)
+        (waiting_all S.at going.old.waiting e) }
+{
+    if floats_at(way.page.tree, k) {
+        wait(calc, band, k, &mut going.waiting);
+        return End::GoesOn;
+    }
+    let end = forward(alloc, calc, way, band, k, going);
+    if matches!(end, End::GoesOn) {
+        join_bottom(calc, way.page.tree, band, k, &mut going.run);
+    }
+    end
+}

@@ -1,0 +1,315 @@
+//! Lines in the flow (CSS 2.1, 9.4.2), with the floats and atomic boxes on them.
+ghost use Rattle.std.specs.Prelude.{◌≡◌, ◌<◌, ◌++◌, false, fold, length, replicate, slice_set, unwrap_or, Some, None, IfOk, IsTrue};
+ghost use Rattle.std.specs.List.{flat_map};
+ghost use Rattle.viz_base.specs.declared.styles.Style.{Style as StyleOf};
+ghost use Rattle.viz_calc.specs.World.{Reading};
+ghost use Rattle.viz_calc.specs.Run.{Stands, Goes};
+ghost use Rattle.layout_semantics.specs.Flow.{raised as raised_of};
+ghost use Rattle.layout_semantics.specs.InlineContent.{inner_boxes as inner_of_box, inner_items};
+ghost use Rattle.layout_semantics.specs.Lengths.{own};
+ghost use Rattle.lay_block.specs.steps.Readings.{boxes_at};
+ghost use Rattle.lay_float.specs.Readings.{stretch_at, option_at};
+ghost use Rattle.lay_line.specs.Contexts.{inner_at, table_at};
+ghost use Rattle.lay_line.specs.Items.{items_of};
+ghost use Rattle.lay_line.specs.Lining.{laid_at};
+ghost use Rattle.lay_line.specs.Readings.{entry_at, entries_at};
+ghost use Rattle.flow_steps.specs.Flow.{line_tops};
+ghost use Rattle.lay_flow.specs.Readings.{apart_at, context_at};
+ghost use Rattle.lay_flow.specs.steps.Flow.{inner_of as inner_of_step, entry_of, inner_table as table_of, lines_of, in_lines as lines_step, filled_table};
+
+use crate::floating::add_apart;
+use crate::parts::{Context, Page};
+use crate::reached::{below, raised};
+use lay_block::walk::append;
+use lay_float::Floats;
+use lay_length::lengths::zero;
+use lay_line::containers::Container;
+use lay_line::content::content;
+use lay_line::items::Item;
+use lay_line::lining::{Laid, lines};
+use lay_margin::trees::is_replaced;
+use lay_width::properties::{floats_at, own_style};
+use std::alloc::{AllocError, Global};
+use viz_base::{Band, BoxTree, Entry, Inner, Kind, Placed};
+use viz_calc::Steady;
+
+/// The floats and atomic boxes among some items.
+fn inner_boxes_of(alloc: Global, items: &[Item]) -> Result<Vec<u32>, AllocError>
+    ensures { IfOk result (λ boxes. boxes.items ≡ inner_items (items_of items.now)) }
+{
+    let mut boxes = Vec::new(alloc);
+    for item in items {
+        if let Item::Atomic(at) | Item::Float(at) = item {
+            boxes.push(*at)?;
+        }
+    }
+    Ok(boxes)
+}
+
+/// The floats and atomic boxes in the inline content of a box.
+pub fn inner_boxes(alloc: Global, tree: &BoxTree, b: u32) -> Result<Vec<u32>, AllocError>
+    requires { b < length tree.now.boxes }
+    ensures { IfOk result (λ boxes. boxes.items ≡ inner_of_box tree.now b) }
+{
+    let items = content(alloc, tree, b)?;
+    inner_boxes_of(alloc, items.as_slice())
+}
+
+/// Whether a box clips its content.
+fn clips(tree: &BoxTree, b: u32) -> bool
+    ensures { result ≡ own tree.now b (λ (s : StyleOf). s.clips) false }
+{
+    match own_style(tree, b) {
+        Some(style) => style.clips,
+        None => false,
+    }
+}
+
+#[tactic(auto, unfolding(crate::specs::steps::Flow::inner_of, crate::specs::Readings::apart_at))]
+/// What a float or an atomic box takes on a line.
+fn inner_of<S: Steady>(calc: &mut S, page: &Page<'_, S::Num>, at: u32) -> Inner<S::Num>
+    ensures goes { Goes (S.run calc.old) (S.run calc.new) }
+    ensures value { (e : Reading) → IsTrue ((S.run calc.new).is_open e) → inner_at S.at result e
+        ≡ inner_of_step page.now.tree.now e.world (apart_at S.at page.now.apart.now e) at }
+{
+    match page.apart.get(at as usize) {
+        Some(Some(alone)) => {
+            let width = calc.copy(&alone.size.width);
+            let above = match &alone.baseline {
+                Some(baseline)
+                    if !floats_at(page.tree, at)
+                        && !is_replaced(page.tree, at)
+                        && !clips(page.tree, at) => { calc.copy(baseline) }
+                _ => calc.copy(&alone.size.height),
+            };
+            let below = calc.sub(&alone.size.height, &above);
+            Inner {
+                b: at,
+                width,
+                above,
+                below,
+            }
+        }
+        _ => {
+            let width = zero(calc);
+            let above = zero(calc);
+            let below = zero(calc);
+            Inner {
+                b: at,
+                width,
+                above,
+                below,
+            }
+        }
+    }
+}
+
+/// So many places with nothing in them.
+fn places<N: Drop>(alloc: Global, count: usize) -> Result<Vec<Option<Inner<N>>>, AllocError>
+    ensures { IfOk result (λ places. places.items ≡ replicate count None) }
+{
+    let mut places = Vec::new(alloc);
+    for _ in 0..count {
+        places.push(None)?;
+    }
+    Ok(places)
+}
+
+/// Puts what a box takes on a line to its place.
+fn put<N: Drop>(table: &mut Vec<Option<Inner<N>>>, at: u32, inner: Inner<N>)
+    ensures { table.new.items ≡ slice_set table.old.items at (Some inner) }
+{
+    if (at as usize) < table.len() {
+        table[at as usize] = Some(inner);
+    }
+}
+
+/// Puts what some boxes take on a line to their places.
+fn fill<S: Steady>(
+    calc: &mut S,
+    page: &Page<'_, S::Num>,
+    boxes: &[u32],
+    table: &mut Vec<Option<Inner<S::Num>>>,
+)
+    ensures goes { Goes (S.run calc.old) (S.run calc.new) }
+    ensures value { (e : Reading) → IsTrue ((S.run calc.new).is_open e) → table_at S.at table.new.items e
+        ≡ filled_table page.now.tree.now e.world (apart_at S.at page.now.apart.now e)
+        (table_at S.at table.old.items e) boxes.now }
+{
+    for at in boxes {
+        let inner = inner_of(calc, page, *at);
+        put(table, *at, inner);
+    }
+}
+
+/// What the floats and atomic boxes in a container's lines take, each at the place of its box.
+fn inner_table<S: Steady>(
+    alloc: Global,
+    calc: &mut S,
+    page: &Page<'_, S::Num>,
+    b: u32,
+) -> Vec<Option<Inner<S::Num>>>
+    requires { b < length page.now.tree.now.boxes }
+    ensures goes { Goes (S.run calc.old) (S.run calc.new) }
+    ensures value { (e : Reading) → IsTrue ((S.run calc.new).is_open e) → table_at S.at result.items e
+        ≡ table_of page.now.tree.now e.world (apart_at S.at page.now.apart.now e) b }
+{
+    match (
+        inner_boxes(alloc, page.tree, b),
+        places(alloc, page.tree.boxes.len()),
+    ) {
+        (Ok(boxes), Ok(mut table)) => {
+            fill(calc, page, boxes.as_slice(), &mut table);
+            table
+        }
+        _ => {
+            calc.stop();
+            Vec::new(alloc)
+        }
+    }
+}
+
+/// The greatest top so far, with that of an entry that is a line.
+fn raised_with<S: Steady>(
+    calc: &mut S,
+    least: Option<S::Num>,
+    entry: &Entry<S::Num>,
+) -> Option<S::Num>
+    ensures goes { Goes (S.run calc.old) (S.run calc.new) }
+    ensures value { (e : Reading) → IsTrue ((S.run calc.new).is_open e) → option_at S.at result e
+        ≡ fold raised_of (option_at S.at least e) (line_tops (entry_at S.at entry.now e)) }
+{
+    match entry {
+        Entry::Here(placed) if matches!(placed.kind, Kind::Line) => {
+            let top = calc.copy(&placed.margin.top);
+            raised(calc, &least, top)
+        }
+        _ => least,
+    }
+}
+
+/// The greatest top so far, with those of lines.
+fn raised_by<S: Steady>(
+    calc: &mut S,
+    least: Option<S::Num>,
+    entries: &[Entry<S::Num>],
+) -> Option<S::Num>
+    ensures goes { Goes (S.run calc.old) (S.run calc.new) }
+    ensures value { (e : Reading) → IsTrue ((S.run calc.new).is_open e) → option_at S.at result e
+        ≡ fold raised_of (option_at S.at least e) (flat_map line_tops (entries_at S.at entries.now e)) }
+{
+    let mut best = least;
+    for entry in entries {
+        best = raised_with(calc, best, entry);
+    }
+    best
+}
+
+#[tactic(auto, unfolding(crate::specs::steps::Flow::entry_of))]
+/// Adds an entry: the boxes of a float or an atomic box at its place, or one box.
+fn add_entry<S: Steady>(
+    calc: &mut S,
+    page: &Page<'_, S::Num>,
+    entry: Entry<S::Num>,
+    out: &mut Vec<Placed<S::Num>>,
+)
+    ensures goes { Goes (S.run calc.old) (S.run calc.new) }
+    ensures value { (e : Reading) → IsTrue ((S.run calc.new).is_open e) → boxes_at S.at out.new.items e
+        ≡ boxes_at S.at out.old.items e ++ entry_of page.now.tree.now e.world (apart_at S.at page.now.apart.now e)
+        (entry_at S.at entry e) }
+{
+    match entry {
+        Entry::Here(placed) => append(calc, out, placed),
+        Entry::Goes(at, spot) => add_apart(calc, page.apart, at, &spot, out),
+    }
+}
+
+/// Adds entries in order.
+fn add_entries<S: Steady>(
+    calc: &mut S,
+    page: &Page<'_, S::Num>,
+    entries: Vec<Entry<S::Num>>,
+    out: &mut Vec<Placed<S::Num>>,
+)
+    ensures goes { Goes (S.run calc.old) (S.run calc.new) }
+    ensures value { (e : Reading) → IsTrue ((S.run calc.new).is_open e) → boxes_at S.at out.new.items e
+        ≡ boxes_at S.at out.old.items e ++ flat_map (entry_of page.now.tree.now e.world
+        (apart_at S.at page.now.apart.now e)) (entries_at S.at entries.items e) }
+{
+    for entry in entries {
+        add_entry(calc, page, entry, out);
+    }
+}
+
+/// The highest top that floats on lines from `top` on may have.
+fn least_top<S: Steady>(calc: &mut S, least: &Option<S::Num>, top: &S::Num) -> S::Num
+    ensures goes { Goes (S.run calc.old) (S.run calc.new) }
+    ensures value { Stands (S.run calc.new) (S.at result) (λ e. unwrap_or (option_at S.at least.now e) (S.at top.now e)) }
+{
+    match least {
+        Some(least) => calc.copy(least),
+        None => calc.copy(top),
+    }
+}
+
+/// The lines of a block container, from `top` on; the context has then no floats.
+fn lines_in<S: Steady>(
+    alloc: Global,
+    calc: &mut S,
+    page: &Page<'_, S::Num>,
+    b: u32,
+    cb: &Band<S::Num>,
+    top: &S::Num,
+    context: &mut Context<S::Num>,
+) -> Laid<S::Num>
+    requires { b < length page.now.tree.now.boxes }
+    ensures goes { Goes (S.run calc.old) (S.run calc.new) }
+    ensures value { (e : Reading) → IsTrue ((S.run calc.new).is_open e) → laid_at S.at result e
+        ≡ lines_of page.now.tree.now e.world (apart_at S.at page.now.apart.now e) b (stretch_at S.at cb.now e)
+        (S.at top.now e) (context_at S.at context.old e) }
+    ensures least { context.new.least ≡ context.old.least }
+{
+    let table = inner_table(alloc, calc, page, b);
+    let container = Container {
+        tree: page.tree,
+        at: b,
+        inner: table.as_slice(),
+        cb,
+    };
+    let least = least_top(calc, &context.least, top);
+    let floats = std::mem::replace(&mut context.floats, Floats::new(alloc));
+    lines(alloc, calc, &container, top, &least, floats)
+}
+
+/// Lays out the lines of a block container.
+pub fn in_lines<S: Steady>(
+    alloc: Global,
+    calc: &mut S,
+    page: &Page<'_, S::Num>,
+    b: u32,
+    cb: &Band<S::Num>,
+    top: &S::Num,
+    context: &mut Context<S::Num>,
+    out: &mut Vec<Placed<S::Num>>,
+)
+    requires { b < length page.now.tree.now.boxes }
+    ensures goes { Goes (S.run calc.old) (S.run calc.new) }
+    ensures context { (e : Reading) → IsTrue ((S.run calc.new).is_open e) → context_at S.at context.new e
+        ≡ (lines_step page.now.tree.now e.world (apart_at S.at page.now.apart.now e) b (stretch_at S.at cb.now e)
+        (S.at top.now e) (context_at S.at context.old e)).context }
+    ensures boxes { (e : Reading) → IsTrue ((S.run calc.new).is_open e) → boxes_at S.at out.new.items e
+        ≡ boxes_at S.at out.old.items e ++ (lines_step page.now.tree.now e.world
+        (apart_at S.at page.now.apart.now e) b (stretch_at S.at cb.now e) (S.at top.now e)
+        (context_at S.at context.old e)).boxes }
+{
+    let Laid { lines, floats } = lines_in(alloc, calc, page, b, cb, top, context);
+    let standing = below(calc, &lines.bottom);
+    let least = raised_by(calc, context.least.take(), lines.entries.as_slice());
+    *context = Context {
+        standing,
+        floats,
+        least,
+        baseline: lines.baseline,
+    };
+    add_entries(calc, page, lines.entries.into_vec(), out);
+}

@@ -1,0 +1,113 @@
+//! How far the flow has come, and what it lays out (CSS 2.1, 8.3.1, 9.4.1, 9.5), in units of 1/64 px.
+use lay_float::Floats;
+use lay_margin::Run;
+use viz_base::{BoxTree, Extent, List, Placed, Waiting};
+
+/// A box ahead that is cleared, with its border edge (CSS 2.1, 9.5.2).
+#[derive(Debug, Drop)]
+pub struct Cleared<N> {
+    /// Its place in the tree.
+    pub at: u32,
+    pub edge: N,
+}
+
+/// Where the next child of a box stands.
+#[derive(Debug, Drop)]
+pub enum Standing<N> {
+    /// So far only margins that adjoin the box's own top margin have come: at its content top, but for a cleared box.
+    AtTop { y: N, cleared: Option<Cleared<N>> },
+    /// A run of adjoining margins has come since a border edge; one that is stuck does not adjoin the box's bottom margin.
+    Below { edge: N, run: Run<N>, stuck: bool },
+}
+
+/// How far the flow of a block formatting context has come (CSS 2.1, 9.4.1).
+#[derive(Debug, Drop)]
+pub struct Context<N> {
+    pub standing: Standing<N>,
+    /// Its floats so far.
+    pub floats: Floats<N>,
+    /// The greatest of the outer tops of its earlier blocks and of the tops of its earlier lines.
+    pub least: Option<N>,
+    /// The baseline of its last line.
+    pub baseline: Option<N>,
+}
+
+/// A box that is laid out in coordinates whose origin is the corner of its outer box.
+#[derive(Debug, Drop)]
+pub struct Alone<N> {
+    /// The size of its outer box.
+    pub size: Extent<N>,
+    /// The baseline of its last line.
+    pub baseline: Option<N>,
+    /// It and what is in it.
+    pub boxes: Vec<Placed<N>>,
+}
+
+/// What stays the same while the flow goes on.
+#[derive(Debug, Drop)]
+pub struct Page<'a, N> {
+    pub tree: &'a BoxTree,
+    /// The height of the viewport in pixels.
+    pub height: u32,
+    /// The floats and atomic boxes that are laid out, by the number of their box.
+    pub apart: &'a [Option<Alone<N>>],
+}
+
+/// The border edge at which a run of margins ends.
+#[derive(Debug, Drop)]
+pub enum Base<N> {
+    /// The run begins at this edge.
+    Hangs(N),
+    /// At this edge, whatever the run is.
+    Stands(N),
+}
+
+/// Where the margins that adjoin the top of a box end.
+#[derive(Debug, Drop)]
+pub enum End<N> {
+    /// The box's own bottom margin adjoins.
+    GoesOn,
+    /// At the content, the border or the padding of a box.
+    Solid,
+    /// At a box that is cleared.
+    Ends(Cleared<N>),
+}
+
+/// What the way forward from a box has found.
+#[derive(Debug, Drop)]
+pub struct Going<N> {
+    /// The run of margins so far.
+    pub run: Run<N>,
+    /// The floats that wait for its end.
+    pub waiting: List<Waiting<N>>,
+}
+
+/// A box in flow that is reached.
+#[derive(Debug, Drop)]
+pub struct Reached<N> {
+    /// Its border top.
+    pub top: N,
+    /// Whether it is the cleared one.
+    pub clears: bool,
+    /// The cleared box of its own lead.
+    pub cleared: Option<Cleared<N>>,
+}
+
+/// A box in flow that is laid out.
+#[derive(Debug, Drop)]
+pub struct Laid<N> {
+    /// Whether it collapses through.
+    pub through: bool,
+    /// Its border bottom.
+    pub bottom: N,
+    /// The margins that end it.
+    pub margins: Run<N>,
+}
+
+/// A box in flow that is reached, and the run before it with its lead joined.
+#[derive(Debug, Drop)]
+pub struct Met<N> {
+    pub reached: Reached<N>,
+    /// At the top of its container no margins.
+    pub own: Run<N>,
+}

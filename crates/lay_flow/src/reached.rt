@@ -1,0 +1,376 @@
+//! Where a box in flow stands, and what stands after it (CSS 2.1, 8.3.1, 9.5.2).
+ghost use Rattle.std.specs.Prelude.{◌≡◌, ◌<◌, ℕ, ℤ, ◌-ℤ◌, false, length, IsTrue};
+ghost use Rattle.std.specs.Int.{int_max, int_min};
+ghost use Rattle.viz_calc.specs.World.{Reading};
+ghost use Rattle.viz_calc.specs.Run.{Stands, Goes};
+ghost use Rattle.layout_semantics.specs.Flow.{raised as raised_of, Alone as AloneOf};
+ghost use Rattle.lay_block.specs.steps.Readings.{frame_at};
+ghost use Rattle.lay_float.specs.Readings.{stretch_at, option_at};
+ghost use Rattle.lay_margin.specs.Readings.{passed_by};
+ghost use Rattle.lay_margin.specs.Runs.{run_at, no_run};
+ghost use Rattle.flow_steps.specs.Flow.{is_at_top as at_top, below as below_of};
+ghost use Rattle.flow_steps.specs.Forward.{cleared_of as cleared_in};
+ghost use Rattle.lay_flow.specs.Readings.{apart_at, base_at, cleared_at, context_at, end_at, found_at, met_at, standing_at};
+ghost use Rattle.lay_flow.specs.steps.Flow.{forward_of, opened, reached_from as from_of, reached_of, standing_after as after_of, standing_in};
+
+use crate::forward::{Way, forward};
+use crate::parts::{Base, Cleared, Context, End, Going, Laid, Met, Page, Reached, Standing};
+use lay_block::frames::Shape;
+use lay_block::standing::content_top;
+use lay_margin::Run;
+use lay_margin::engine::{empty, value};
+use lay_margin::leads::{copy_run, join_bottom};
+use lay_margin::trees::is_open_above;
+use lay_width::limits::{greater, lesser};
+use std::alloc::Global;
+use viz_base::{Band, BoxTree, List};
+use viz_calc::Steady;
+
+/// The way forward from a box, with its run.
+#[derive(Debug, Drop)]
+struct Gone<N> {
+    going: Going<N>,
+    end: End<N>,
+}
+
+#[tactic(auto, unfolding(crate::specs::Ways::way_at, crate::specs::steps::Walk::way_in))]
+/// Goes forward from a box in a context.
+fn go<S: Steady>(
+    alloc: Global,
+    calc: &mut S,
+    page: &Page<'_, S::Num>,
+    base: &Base<S::Num>,
+    past: Option<u32>,
+    cb: &Band<S::Num>,
+    context: &Context<S::Num>,
+    b: u32,
+    run: Run<S::Num>,
+) -> Gone<S::Num>
+    requires { b < length page.now.tree.now.boxes }
+    ensures goes { Goes (S.run calc.old) (S.run calc.new) }
+    ensures value { (e : Reading) → IsTrue ((S.run calc.new).is_open e) → found_at S.at result.going result.end e
+        ≡ forward_of page.now.tree.now e.world (apart_at S.at page.now.apart.now e) (base_at S.at base.now e)
+        (passed_by past) (stretch_at S.at cb.now e) (context_at S.at context.now e) b (run_at S.at run e) }
+{
+    let mut going = Going {
+        run,
+        waiting: List::new(alloc),
+    };
+    let way = Way {
+        page,
+        base,
+        floats: context.floats.placed.as_slice(),
+        least: &context.least,
+        past,
+    };
+    let end = forward(alloc, calc, &way, cb, b, &mut going);
+    Gone { going, end }
+}
+
+/// The box that is cleared where a way ends.
+fn cleared_of<N>(end: End<N>) -> Option<Cleared<N>>
+    ensures { (at : N → Reading → ℤ) (e : Reading) → cleared_at at result e ≡ cleared_in (end_at at end e) }
+{
+    match end {
+        End::GoesOn | End::Solid => None,
+        End::Ends(cleared) => Some(cleared),
+    }
+}
+
+/// The cleared box again.
+fn copy_cleared<S: Steady>(
+    calc: &mut S,
+    cleared: &Option<Cleared<S::Num>>,
+) -> Option<Cleared<S::Num>>
+    ensures goes { Goes (S.run calc.old) (S.run calc.new) }
+    ensures value { (e : Reading) → IsTrue ((S.run calc.new).is_open e)
+        → cleared_at S.at result e ≡ cleared_at S.at cleared.now e }
+{
+    match cleared {
+        Some(cleared) => {
+            let edge = calc.copy(&cleared.edge);
+            Some(Cleared {
+                at: cleared.at,
+                edge,
+            })
+        }
+        None => None,
+    }
+}
+
+#[tactic(auto, unfolding(crate::specs::steps::Flow::reached_from))]
+/// Where a box is reached whose edge would be y, and the run before it: all before the cleared box stand at y.
+fn reached_from<S: Steady>(
+    alloc: Global,
+    calc: &mut S,
+    page: &Page<'_, S::Num>,
+    cb: &Band<S::Num>,
+    context: &Context<S::Num>,
+    b: u32,
+    y: S::Num,
+    cleared: Option<Cleared<S::Num>>,
+    own: Run<S::Num>,
+) -> Met<S::Num>
+    requires { b < length page.now.tree.now.boxes }
+    ensures goes { Goes (S.run calc.old) (S.run calc.new) }
+    ensures value { (e : Reading) → IsTrue ((S.run calc.new).is_open e) → met_at S.at result e
+        ≡ from_of page.now.tree.now e.world (apart_at S.at page.now.apart.now e) (stretch_at S.at cb.now e)
+        (context_at S.at context.now e) b (S.at y e) (cleared_at S.at cleared e) (run_at S.at own e) }
+{
+    match cleared {
+        None => Met {
+            reached: Reached {
+                top: y,
+                clears: false,
+                cleared: None,
+            },
+            own,
+        },
+        Some(cleared) => {
+            if cleared.at == b {
+                let top = calc.copy(&cleared.edge);
+                let base = Base::Stands(cleared.edge);
+                let run = empty(calc);
+                let gone = go(alloc, calc, page, &base, Some(b), cb, context, b, run);
+                Met {
+                    reached: Reached {
+                        top,
+                        clears: true,
+                        cleared: cleared_of(gone.end),
+                    },
+                    own: gone.going.run,
+                }
+            } else {
+                Met {
+                    reached: Reached {
+                        top: y,
+                        clears: false,
+                        cleared: Some(cleared),
+                    },
+                    own,
+                }
+            }
+        }
+    }
+}
+
+#[tactic(auto, unfolding(crate::specs::steps::Flow::reached_of))]
+/// Where a box that comes next stands, and the run before it with its lead joined.
+pub fn reach<S: Steady>(
+    alloc: Global,
+    calc: &mut S,
+    page: &Page<'_, S::Num>,
+    cb: &Band<S::Num>,
+    context: &Context<S::Num>,
+    b: u32,
+) -> Met<S::Num>
+    requires { b < length page.now.tree.now.boxes }
+    ensures goes { Goes (S.run calc.old) (S.run calc.new) }
+    ensures value { (e : Reading) → IsTrue ((S.run calc.new).is_open e) → met_at S.at result e
+        ≡ reached_of page.now.tree.now e.world (apart_at S.at page.now.apart.now e) (stretch_at S.at cb.now e)
+        (context_at S.at context.now e) b }
+{
+    match &context.standing {
+        Standing::AtTop { y, cleared } => {
+            let y = calc.copy(y);
+            let cleared = copy_cleared(calc, cleared);
+            let run = empty(calc);
+            reached_from(alloc, calc, page, cb, context, b, y, cleared, run)
+        }
+        Standing::Below {
+            edge,
+            run,
+            stuck: _,
+        } => {
+            let run = copy_run(calc, run);
+            let from = calc.copy(edge);
+            let base = Base::Hangs(from);
+            let gone = go(alloc, calc, page, &base, None, cb, context, b, run);
+            let margin = value(calc, &gone.going.run);
+            let y = calc.add(edge, &margin);
+            let cleared = cleared_of(gone.end);
+            reached_from(
+                alloc,
+                calc,
+                page,
+                cb,
+                context,
+                b,
+                y,
+                cleared,
+                gone.going.run,
+            )
+        }
+    }
+}
+
+/// Where boxes stand below an edge after which no margin has come.
+pub fn below<S: Steady>(calc: &mut S, edge: &S::Num) -> Standing<S::Num>
+    ensures goes { Goes (S.run calc.old) (S.run calc.new) }
+    ensures value { (e : Reading) → IsTrue ((S.run calc.new).is_open e)
+        → standing_at S.at result e ≡ below_of (S.at edge.now e) no_run false }
+{
+    let edge = calc.copy(edge);
+    let run = empty(calc);
+    Standing::Below {
+        edge,
+        run,
+        stuck: false,
+    }
+}
+
+/// Where boxes stand again.
+pub fn copy_standing<S: Steady>(calc: &mut S, standing: &Standing<S::Num>) -> Standing<S::Num>
+    ensures goes { Goes (S.run calc.old) (S.run calc.new) }
+    ensures value { (e : Reading) → IsTrue ((S.run calc.new).is_open e)
+        → standing_at S.at result e ≡ standing_at S.at standing.now e }
+{
+    match standing {
+        Standing::AtTop { y, cleared } => {
+            let y = calc.copy(y);
+            let cleared = copy_cleared(calc, cleared);
+            Standing::AtTop { y, cleared }
+        }
+        Standing::Below { edge, run, stuck } => {
+            let edge = calc.copy(edge);
+            let run = copy_run(calc, run);
+            Standing::Below {
+                edge,
+                run,
+                stuck: *stuck,
+            }
+        }
+    }
+}
+
+#[tactic(auto, unfolding(crate::specs::steps::Flow::standing_in))]
+/// Where the first child of a block stands.
+pub fn standing_in<S: Steady>(
+    calc: &mut S,
+    tree: &BoxTree,
+    b: u32,
+    cleared: Option<Cleared<S::Num>>,
+    shape: &Shape<S::Num>,
+) -> Standing<S::Num>
+    ensures goes { Goes (S.run calc.old) (S.run calc.new) }
+    ensures value { (e : Reading) → IsTrue ((S.run calc.new).is_open e) → standing_at S.at result e
+        ≡ standing_in tree.now b (cleared_at S.at cleared e) (frame_at S.at shape.now e) }
+{
+    if is_open_above(tree, b) {
+        let y = calc.copy(&shape.corner.y);
+        Standing::AtTop { y, cleared }
+    } else {
+        let top = content_top(calc, shape);
+        below(calc, &top)
+    }
+}
+
+/// The greatest top so far, with one more.
+pub fn raised<S: Steady>(calc: &mut S, least: &Option<S::Num>, y: S::Num) -> Option<S::Num>
+    ensures goes { Goes (S.run calc.old) (S.run calc.new) }
+    ensures value { (e : Reading) → IsTrue ((S.run calc.new).is_open e)
+        → option_at S.at result e ≡ raised_of (option_at S.at least.now e) (S.at y e) }
+{
+    match least {
+        Some(least) => {
+            let y = greater_of(calc, y, least);
+            Some(y)
+        }
+        None => Some(y),
+    }
+}
+
+/// The greater one of two.
+fn greater_of<S: Steady>(calc: &mut S, y: S::Num, least: &S::Num) -> S::Num
+    ensures goes { Goes (S.run calc.old) (S.run calc.new) }
+    ensures value { Stands (S.run calc.new) (S.at result) (λ e. int_max (S.at y e) (S.at least.now e)) }
+{
+    let least = calc.copy(least);
+    greater(calc, y, least)
+}
+
+/// The outer top of a box.
+fn outer_top<S: Steady>(calc: &mut S, shape: &Shape<S::Num>) -> S::Num
+    ensures goes { Goes (S.run calc.old) (S.run calc.new) }
+    ensures value { Stands (S.run calc.new) (S.at result) (λ e. int_min (S.at shape.now.corner.y e)
+        (S.at shape.now.corner.y e -ℤ S.at shape.now.v.margin_top e)) }
+{
+    let top = calc.copy(&shape.corner.y);
+    let outer = calc.sub(&shape.corner.y, &shape.v.margin_top);
+    lesser(calc, top, outer)
+}
+
+#[tactic(auto, unfolding(crate::specs::steps::Flow::opened))]
+/// Opens a box: its outer top counts, and its first child stands so. Gives back where it stood.
+pub fn open<S: Steady>(
+    calc: &mut S,
+    shape: &Shape<S::Num>,
+    standing: Standing<S::Num>,
+    context: &mut Context<S::Num>,
+) -> Standing<S::Num>
+    ensures goes { Goes (S.run calc.old) (S.run calc.new) }
+    ensures before { result ≡ context.old.standing }
+    ensures value { (e : Reading) → IsTrue ((S.run calc.new).is_open e) → context_at S.at context.new e
+        ≡ opened (context_at S.at context.old e) (frame_at S.at shape.now e) (standing_at S.at standing e) }
+{
+    let top = outer_top(calc, shape);
+    context.least = raised(calc, &context.least, top);
+    std::mem::replace(&mut context.standing, standing)
+}
+
+/// Whether so far only margins that adjoin the box's own top margin have come.
+pub fn is_at_top<N>(standing: &Standing<N>) -> bool
+    ensures { (at : N → Reading → ℤ) (e : Reading) → result ≡ at_top (standing_at at standing.now e) }
+{
+    matches!(standing, Standing::AtTop { .. })
+}
+
+#[tactic(auto, unfolding(crate::specs::steps::Flow::standing_after))]
+/// Where boxes stand after a box.
+pub fn standing_after<S: Steady>(
+    calc: &mut S,
+    tree: &BoxTree,
+    cb: &Band<S::Num>,
+    before: Standing<S::Num>,
+    b: u32,
+    met: Met<S::Num>,
+    laid: Laid<S::Num>,
+) -> Standing<S::Num>
+    ensures goes { Goes (S.run calc.old) (S.run calc.new) }
+    ensures value { (apart : ℕ → AloneOf) (e : Reading) → IsTrue ((S.run calc.new).is_open e)
+        → standing_at S.at result e ≡ after_of tree.now e.world apart (stretch_at S.at cb.now e)
+        (standing_at S.at before e) b (met_at S.at met e) laid.through (S.at laid.bottom e)
+        (run_at S.at laid.margins e) }
+{
+    if !laid.through {
+        return Standing::Below {
+            edge: laid.bottom,
+            run: laid.margins,
+            stuck: false,
+        };
+    }
+    let Met { reached, own } = met;
+    let mut ended = copy_run(calc, &own);
+    join_bottom(calc, tree, cb, b, &mut ended);
+    if reached.clears {
+        let margin = value(calc, &own);
+        let edge = calc.sub(&reached.top, &margin);
+        return Standing::Below {
+            edge,
+            run: ended,
+            stuck: true,
+        };
+    }
+    match before {
+        Standing::AtTop { y, cleared } => Standing::AtTop { y, cleared },
+        Standing::Below {
+            edge,
+            run: _,
+            stuck,
+        } => Standing::Below {
+            edge,
+            run: ended,
+            stuck,
+        },
+    }
+}

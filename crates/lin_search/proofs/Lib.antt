@@ -1,0 +1,5 @@
+mod Cancelling
+mod Closing
+mod Divisors
+mod TermSums
+mod Walks

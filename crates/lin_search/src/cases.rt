@@ -1,0 +1,397 @@
+use crate::outline::Outline;
+use crate::pairing::paired;
+use crate::ranges::{most_of, ranges_of};
+use crate::sources::{Bounds, Range, Source, View};
+use crate::sums::{Manner, Part, Sum, add, eliminate, is_closed};
+use crate::writing::written;
+use lin_proof::{Branch, Derivation, Ending, Step};
+use lin_row::{Row, RowFault};
+use std::alloc::Global;
+use viz_base::{Boxed, List, Mem};
+
+/// By how much the last fact is multiplied where bounds are taken as often as they fit.
+const FINE: i128 = 0x1000_0000_0000_0000;
+
+/// What a search comes to where variables are cut to part of their ranges.
+#[derive(Drop)]
+pub enum Outcome {
+    /// A derivation from the rows known there.
+    Closed(Derivation),
+    /// Values of the variables, by their places, that meet all facts.
+    Met(Vec<i128>),
+    /// Neither.
+    Stuck,
+}
+
+/// The facts, and what was read off them.
+#[derive(Clone, Copy)]
+pub struct Ground<'a> {
+    /// The facts.
+    pub facts: &'a [Row],
+    /// What they say.
+    pub outline: &'a Outline,
+}
+
+/// Where a search stands.
+#[derive(Drop)]
+pub struct Scope {
+    /// What bounds each variable here.
+    pub bounds: Vec<Bounds>,
+    /// The rows known here.
+    pub known: Vec<Row>,
+    /// How many cases and pairs of rows may still be tried.
+    pub left: u64,
+}
+
+/// The range that is halved next.
+#[derive(Clone, Copy)]
+struct Halving {
+    place: u32,
+    variable: u32,
+    middle: i128,
+    length: i128,
+    is_base: bool,
+    is_concerned: bool,
+}
+
+/// Goes through cases of the variables that are bounded by themselves, down to single values.
+#[cycle(cases)]
+pub fn by_cases(
+    alloc: Global,
+    ground: Ground<'_>,
+    scope: &mut Scope,
+    depth: u32,
+) -> Result<Outcome, Mem> {
+    let Some(left) = scope.left.checked_sub(1) else {
+        return Ok(Outcome::Stuck);
+    };
+    scope.left = left;
+    match without_cases(alloc, ground, scope)? {
+        Next::Outcome(outcome) => Ok(outcome),
+        Next::Halve(halving) => match depth.checked_sub(1) {
+            Some(depth) => halved(alloc, ground, scope, depth, halving),
+            None => Ok(Outcome::Stuck),
+        },
+    }
+}
+
+/// What comes next where a search stands.
+#[derive(Drop)]
+enum Next {
+    /// It comes to this.
+    Outcome(Outcome),
+    /// A range is halved.
+    Halve(Halving),
+}
+
+/// What the rows known here come to, or the range that is to be halved.
+fn without_cases(alloc: Global, ground: Ground<'_>, scope: &mut Scope) -> Result<Next, Mem> {
+    let ranges = ranges_of(alloc, view_of(ground, &scope.bounds, &scope.known, &[]))?;
+    let view = view_of(ground, &scope.bounds, &scope.known, &ranges);
+    if let Some(steps) = closed_here(alloc, view, ground.outline, &mut scope.left)? {
+        return Ok(Next::Outcome(closed(steps)));
+    }
+    match next_halving(view, ground.outline) {
+        Some(halving) => Ok(Next::Halve(halving)),
+        None => Ok(Next::Outcome(at_one_point(alloc, view)?)),
+    }
+}
+
+fn view_of<'a>(
+    ground: Ground<'a>,
+    bounds: &'a [Bounds],
+    known: &'a [Row],
+    ranges: &'a [Range],
+) -> View<'a> {
+    View {
+        facts: ground.facts,
+        known,
+        variables: &ground.outline.variables,
+        bounds,
+        ranges,
+    }
+}
+
+fn closed(steps: List<Step>) -> Outcome {
+    Outcome::Closed(Derivation {
+        steps,
+        last: Ending::Closed,
+    })
+}
+
+/// Both cases of a range that is halved.
+#[cycle(cases)]
+fn halved(
+    alloc: Global,
+    ground: Ground<'_>,
+    scope: &mut Scope,
+    depth: u32,
+    halving: Halving,
+) -> Result<Outcome, Mem> {
+    let Some(whole) = scope.bounds.get(halving.place as usize).copied() else {
+        return Ok(Outcome::Stuck);
+    };
+    let row = Row::of_term(alloc, halving.middle, halving.variable, -1)?;
+    let Some(other) = denied(&row)? else {
+        return Ok(Outcome::Stuck);
+    };
+    let count = scope.known.len();
+    let Ok(number) = u32::try_from(count) else {
+        return Ok(Outcome::Stuck);
+    };
+    let here = Some(Source::Known(number));
+    let below = Bounds {
+        low: whole.low,
+        high: here,
+    };
+    let above = Bounds {
+        low: here,
+        high: whole.high,
+    };
+
+    enter(scope, halving.place, below, row.clone()?)?;
+    let first = by_cases(alloc, ground, scope, depth)?;
+    leave(scope, halving.place, whole, count);
+    let Outcome::Closed(first) = first else {
+        return Ok(first);
+    };
+
+    enter(scope, halving.place, above, other)?;
+    let second = by_cases(alloc, ground, scope, depth)?;
+    leave(scope, halving.place, whole, count);
+    let Outcome::Closed(second) = second else {
+        return Ok(second);
+    };
+    both(alloc, row, first, second)
+}
+
+/// The derivation by both cases of a row.
+fn both(alloc: Global, row: Row, first: Derivation, second: Derivation) -> Result<Outcome, Mem> {
+    let branch = Boxed::new(alloc, Branch { row, first, second })?;
+    Ok(Outcome::Closed(Derivation {
+        steps: List::new(alloc),
+        last: Ending::Cases(branch),
+    }))
+}
+
+/// Goes on where a row is known, by which the variable at a place is bounded.
+fn enter(scope: &mut Scope, place: u32, bounds: Bounds, row: Row) -> Result<(), Mem> {
+    scope.known.push(row)?;
+    set_bounds(&mut scope.bounds, place, bounds);
+    Ok(())
+}
+
+/// Goes back to where so many rows were known, and the variable at a place had these bounds.
+fn leave(scope: &mut Scope, place: u32, bounds: Bounds, count: usize) {
+    scope.known.truncate(count);
+    set_bounds(&mut scope.bounds, place, bounds);
+}
+
+fn set_bounds(bounds: &mut [Bounds], place: u32, new: Bounds) {
+    if let Some(here) = bounds.get_mut(place as usize) {
+        *here = new;
+    }
+}
+
+/// The row that is at least 0 where this one is below 0, if its numbers are in `i128`.
+fn denied(row: &Row) -> Result<Option<Row>, Mem> {
+    match row.negate() {
+        Ok(other) => Ok(Some(other)),
+        Err(RowFault::Coeff) => Ok(None),
+        Err(RowFault::Mem) => Err(Mem),
+    }
+}
+
+/// The range that is halved next: the shortest of more than one number, of the variables that are bounded by themselves
+/// before the others, and of those that the last fact concerns before those.
+fn next_halving(view: View<'_>, outline: &Outline) -> Option<Halving> {
+    let mut best: Option<Halving> = None;
+    for (place, range) in view.ranges.iter().enumerate() {
+        if let Some(other) = halving_of(view, outline, place, *range) {
+            best = match best {
+                Some(so_far) if !goes_before(other, so_far) => Some(so_far),
+                _ => Some(other),
+            };
+        }
+    }
+    best
+}
+
+/// How the range of the variable at a place is halved, if it is of more than one number.
+fn halving_of(view: View<'_>, outline: &Outline, place: usize, range: Range) -> Option<Halving> {
+    let (length, middle) = length_of(range)?;
+    if length <= 0 {
+        return None;
+    }
+    let variable = *view.variables.get(place)?;
+    let place = u32::try_from(place).ok()?;
+    Some(Halving {
+        place,
+        variable,
+        middle,
+        length,
+        is_base: place < outline.base,
+        is_concerned: outline.concerned.get(place as usize).copied() == Some(true),
+    })
+}
+
+fn goes_before(one: Halving, other: Halving) -> bool {
+    if one.is_base != other.is_base {
+        one.is_base
+    } else if one.is_concerned != other.is_concerned {
+        one.is_concerned
+    } else {
+        one.length < other.length
+    }
+}
+
+/// How far the ends of a range are apart, and its middle.
+fn length_of(range: Range) -> Option<(i128, i128)> {
+    let least = range.least?;
+    let length = range.greatest?.checked_sub(least)?;
+    let middle = least.checked_add(length.div_euclid(2))?;
+    Some((length, middle))
+}
+
+/// Where each range is one number: a derivation from a fact that is not met, or the numbers, if they meet all facts.
+fn at_one_point(alloc: Global, view: View<'_>) -> Result<Outcome, Mem> {
+    for (number, fact) in view.facts.iter().enumerate() {
+        let (Some(most), Ok(number)) = (most_of(view, fact), u32::try_from(number)) else {
+            return Ok(Outcome::Stuck);
+        };
+        if most < 0 {
+            let mut sums = Vec::new(alloc);
+            let steps = closed_by(alloc, view, &mut sums, Source::Fact(number))?;
+            return Ok(steps.map_or(Outcome::Stuck, closed));
+        }
+    }
+    let mut values = Vec::new(alloc);
+    for range in view.ranges {
+        values.push(range.least.or(range.greatest).unwrap_or(0))?;
+    }
+    Ok(Outcome::Met(values))
+}
+
+/// Steps to a contradiction without further cases.
+fn closed_here(
+    alloc: Global,
+    view: View<'_>,
+    outline: &Outline,
+    left: &mut u64,
+) -> Result<Option<List<Step>>, Mem> {
+    let mut sums = Vec::new(alloc);
+    if let Some(end) = empty_range(alloc, view, &mut sums)? {
+        return written(alloc, view, &sums, end);
+    }
+    let Some(last) = last_fact(view) else {
+        return Ok(None);
+    };
+    if let Some(steps) = closed_by(alloc, view, &mut sums, last)? {
+        return Ok(Some(steps));
+    }
+    for split in &outline.splits {
+        if let Some(steps) = closed_by(alloc, view, &mut sums, Source::Fact(*split))? {
+            return Ok(Some(steps));
+        }
+    }
+    if let Some(steps) = closed_finely(alloc, view, &mut sums, last)? {
+        return Ok(Some(steps));
+    }
+    let pairs = outline.splits.len() as u64;
+    if *left < pairs {
+        return Ok(None);
+    }
+    *left -= pairs;
+    match paired(alloc, view, &mut sums, last, &outline.splits, outline.base)? {
+        Some(end) => written(alloc, view, &sums, end),
+        None => Ok(None),
+    }
+}
+
+/// The last fact.
+pub fn last_fact(view: View<'_>) -> Option<Source> {
+    let last = view.facts.len().checked_sub(1)?;
+    Some(Source::Fact(u32::try_from(last).ok()?))
+}
+
+/// Steps to a contradiction from one row, by what bounds its variables.
+fn closed_by(
+    alloc: Global,
+    view: View<'_>,
+    sums: &mut Vec<Sum>,
+    start: Source,
+) -> Result<Option<List<Step>>, Mem> {
+    let count = sums.len();
+    if let Some(end) = eliminate(alloc, view, sums, start, 0, Manner::Exact)? {
+        if is_closed(view, sums, end) {
+            return written(alloc, view, sums, end);
+        }
+    }
+    sums.truncate(count);
+    Ok(None)
+}
+
+/// Steps to a contradiction from a large multiple of one row, with bounds taken as often as they fit.
+fn closed_finely(
+    alloc: Global,
+    view: View<'_>,
+    sums: &mut Vec<Sum>,
+    start: Source,
+) -> Result<Option<List<Step>>, Mem> {
+    let count = sums.len();
+    let most = Part {
+        times: FINE - 1,
+        of: start,
+    };
+    let once = Part {
+        times: 1,
+        of: start,
+    };
+    if let Some(large) = add(alloc, view, sums, most, once)? {
+        if let Some(end) = eliminate(alloc, view, sums, large, 0, Manner::Rounded)? {
+            if is_closed(view, sums, end) {
+                return written(alloc, view, sums, end);
+            }
+        }
+    }
+    sums.truncate(count);
+    Ok(None)
+}
+
+/// A contradiction from a range without numbers.
+fn empty_range(alloc: Global, view: View<'_>, sums: &mut Vec<Sum>) -> Result<Option<Source>, Mem> {
+    for (place, range) in view.ranges.iter().enumerate() {
+        let Ok(place) = u32::try_from(place) else {
+            break;
+        };
+        if is_empty(*range) {
+            return add_ends(alloc, view, sums, place);
+        }
+    }
+    Ok(None)
+}
+
+fn is_empty(range: Range) -> bool {
+    match (range.least, range.greatest) {
+        (Some(least), Some(greatest)) => greatest < least,
+        _ => false,
+    }
+}
+
+/// The sum of both ends of a range.
+fn add_ends(
+    alloc: Global,
+    view: View<'_>,
+    sums: &mut Vec<Sum>,
+    place: u32,
+) -> Result<Option<Source>, Mem> {
+    let low = Part {
+        times: 1,
+        of: Source::Low(place),
+    };
+    let high = Part {
+        times: 1,
+        of: Source::High(place),
+    };
+    add(alloc, view, sums, low, high)
+}

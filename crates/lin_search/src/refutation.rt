@@ -1,0 +1,81 @@
+ghost use Rattle.std.specs.Prelude.{◌≡◌, ◌≤◌, ◌*◌, ◌↔◌, IfOk, IsTrue};
+ghost use Rattle.lin_proof.specs.Derivations.{Refutes};
+ghost use Rattle.lin_search.specs.Answers.{IsRight};
+ghost use Rattle.lin_search.specs.steps.Checked.{IsSound};
+
+use crate::answer::Search;
+use crate::at_hand::refuted_at_hand;
+use crate::points::meets_all;
+use crate::tries::tried;
+use lin_proof::{Derivation, Facts, first_fault_among, line_count};
+use lin_row::Row;
+use std::alloc::Global;
+use viz_base::Mem;
+
+/// Looks for a derivation that refutes the facts, rows at least 0 over whole numbers, or for values of the variables
+/// that meet them all, and gives up after about `limit` cases and combined pairs of rows.
+pub fn refute(alloc: Global, facts: &[Row], variables: u32, limit: u64) -> Result<Search, Mem>
+    ensures { IfOk result (IsRight facts.now variables limit) }
+{
+    let proposed = tried(alloc, facts, variables, limit)?;
+    match checked(alloc, facts, variables, proposed)? {
+        Search::GaveUp if reaches_pairs(facts.len(), limit) => {
+            let found = refuted_at_hand(alloc, facts)?;
+            match found {
+                Some(derivation) => Ok(Search::Found(derivation)),
+                None => Ok(Search::GaveUp),
+            }
+        }
+        answer => Ok(answer),
+    }
+}
+
+/// Whether a limit reaches the square of the number of facts.
+fn reaches_pairs(count: usize, limit: u64) -> bool
+    ensures { IsTrue result ↔ (count * count ≤ limit) }
+{
+    match (count as u64).checked_mul(count as u64) {
+        Some(square) => square <= limit,
+        None => false,
+    }
+}
+
+/// What a search came to, if it is right; else that it gave up.
+fn checked(alloc: Global, facts: &[Row], variables: u32, answer: Search) -> Result<Search, Mem>
+    ensures { IfOk result (IsSound facts.now variables) }
+{
+    match answer {
+        Search::Found(derivation) => {
+            if is_refutation(alloc, facts, variables, &derivation)? {
+                return Ok(Search::Found(derivation));
+            }
+        }
+        Search::Point(values) => {
+            if values.len() == variables as usize && meets_all(facts, values.as_slice()) {
+                return Ok(Search::Point(values));
+            }
+        }
+        Search::GaveUp => {}
+    }
+    Ok(Search::GaveUp)
+}
+
+/// Whether a derivation refutes the facts. False also where its lines are too many to be counted.
+fn is_refutation(
+    alloc: Global,
+    facts: &[Row],
+    variables: u32,
+    derivation: &Derivation,
+) -> Result<bool, Mem>
+    ensures { IfOk result (λ yes. IsTrue yes → Refutes facts.now variables derivation.now) }
+{
+    if line_count(derivation).is_none() {
+        return Ok(false);
+    }
+    let facts = Facts {
+        first: &[],
+        later: facts,
+    };
+    let fault = first_fault_among(alloc, facts, variables, derivation)?;
+    Ok(fault.is_none())
+}

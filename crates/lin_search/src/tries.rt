@@ -1,0 +1,101 @@
+use crate::answer::Search;
+use crate::cases::{Ground, Outcome, Scope, by_cases, last_fact};
+use crate::outline::{Outline, read_facts};
+use crate::pairing::paired;
+use crate::sources::{Source, View};
+use crate::sums::{Manner, Sum, eliminate, is_closed};
+use crate::writing::written;
+use lin_proof::{Derivation, Ending};
+use lin_row::Row;
+use std::alloc::Global;
+use viz_base::{List, Mem};
+
+/// How deep cases go: each halves a range.
+const DEPTH: u32 = 64;
+
+/// What elimination, pairs and cases come to, the last fact being the one that is to be refuted.
+pub fn tried(alloc: Global, facts: &[Row], variables: u32, limit: u64) -> Result<Search, Mem> {
+    let outline = read_facts(alloc, facts)?;
+    if let Some(derivation) = quickly(alloc, facts, &outline)? {
+        return Ok(Search::Found(derivation));
+    }
+    if limit == 0 {
+        return Ok(Search::GaveUp);
+    }
+    let ground = Ground {
+        facts,
+        outline: &outline,
+    };
+    let mut scope = Scope {
+        bounds: outline.bounds.clone()?,
+        known: Vec::new(alloc),
+        left: limit,
+    };
+    let outcome = by_cases(alloc, ground, &mut scope, DEPTH)?;
+    match outcome {
+        Outcome::Closed(derivation) => Ok(Search::Found(derivation)),
+        Outcome::Met(values) => Ok(Search::Point(spread(
+            alloc,
+            &outline.variables,
+            &values,
+            variables,
+        )?)),
+        Outcome::Stuck => Ok(Search::GaveUp),
+    }
+}
+
+/// A derivation by elimination from the last fact, or from it and one split.
+fn quickly(alloc: Global, facts: &[Row], outline: &Outline) -> Result<Option<Derivation>, Mem> {
+    let view = View {
+        facts,
+        known: &[],
+        variables: &outline.variables,
+        bounds: &outline.bounds,
+        ranges: &[],
+    };
+    let Some(last) = last_fact(view) else {
+        return Ok(None);
+    };
+    let mut sums = Vec::new(alloc);
+    let Some(end) = contradiction(alloc, view, &mut sums, outline, last)? else {
+        return Ok(None);
+    };
+    match written(alloc, view, &sums, end)? {
+        Some(steps) => Ok(Some(Derivation {
+            steps,
+            last: Ending::Closed,
+        })),
+        None => Ok(None),
+    }
+}
+
+fn contradiction(
+    alloc: Global,
+    view: View<'_>,
+    sums: &mut Vec<Sum>,
+    outline: &Outline,
+    last: Source,
+) -> Result<Option<Source>, Mem> {
+    if let Some(end) = eliminate(alloc, view, sums, last, 0, Manner::Exact)? {
+        if is_closed(view, sums, end) {
+            return Ok(Some(end));
+        }
+    }
+    paired(alloc, view, sums, last, &outline.splits, outline.base)
+}
+
+/// A value for each variable: those found at the places of some, 0 for the others.
+fn spread(
+    alloc: Global,
+    places: &[u32],
+    values: &[i128],
+    variables: u32,
+) -> Result<List<i128>, Mem> {
+    let mut all = vec![in alloc; 0; variables as usize]?;
+    for (variable, value) in places.iter().zip(values) {
+        if let Some(here) = all.get_mut(*variable as usize) {
+            *here = *value;
+        }
+    }
+    Ok(List::from(all))
+}
