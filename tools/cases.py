@@ -256,7 +256,7 @@ def truths(case):
     return given, case["truth"]
 
 
-# ---- jobs and certificates that the program reads today: pages of blocks, splits at one width or size, and grids
+# ---- jobs, and certificates that the program reads today: splits at one width or size, and grids
 
 ANSWERS = {"0": "Done", "1": "Violated", "5": "JobRefused", "6": "Undecided", "8": "CertRefused"}
 TODAY = re.compile(r"(vizlog-cert 1|job [0-9a-f]{64}|grid|split -?\d+ [01]:-?1)")
@@ -270,15 +270,11 @@ def replies(path):
 
 
 def jobs(folder):
-    rows = [json.loads(line) for line in (folder / "jobs/index.jsonl").read_text().split("\n") if line]
-    for row in rows:
-        text = (folder / f"jobs/{row['job']}.json").read_text(encoding="utf-8")
-        if row["ready"] == "R6":
-            # not each of these assertions is read yet, and none matters to `lay`
-            text = compact({**json.loads(text), "assert": "true"})
-        if row["ready"] in ("R1", "R6") and '"assert":"false"' not in text:
-            for (_, width, size), reply in replies(folder / f"jobs/{row['job']}.out"):
-                yield ["lay", text, int(width), int(size)], reply
+    """Jobs laid out at two or three worlds each, and some that are refused."""
+    for path in sorted((folder / "jobs").glob("*.json")):
+        text = path.read_text(encoding="utf-8")
+        for (_, width, size), reply in replies(path.with_suffix(".out")):
+            yield ["lay", text, int(width), int(size)], reply
 
 
 def refusals(folder):
@@ -291,13 +287,22 @@ def refusals(folder):
             yield ["lay", text, case["w"], case["s"]], ["JobRefused", case["line"] + "\n"]
 
 
+def all_certificates(folder):
+    """Each certificate with its job and what is replied: those of files of their own, and those of more.jsonl."""
+    for path in sorted((folder / "certs").glob("*.json")):
+        job = path.read_text(encoding="utf-8")
+        for (_, number), reply in replies(path.with_suffix(".out")):
+            yield job, (folder / f"certs/{path.stem}-{number}.cert").read_text(encoding="utf-8"), reply
+    for line in filter(None, (folder / "certs/more.jsonl").read_text(encoding="utf-8").split("\n")):
+        case = json.loads(line)
+        job = (folder / f"certs/{case['job']}.json").read_text(encoding="utf-8")
+        yield job, case["text"], [ANSWERS[str(case["status"])], case["line"] + "\n"]
+
+
 def certificates(folder):
-    for name in ("003",):
-        job = (folder / f"certs/{name}.json").read_text(encoding="utf-8")
-        for (_, number), reply in replies(folder / f"certs/{name}.out"):
-            text = (folder / f"certs/{name}-{number}.cert").read_text(encoding="utf-8")
-            if all(TODAY.fullmatch(line) for line in text.rstrip("\n").split("\n")):
-                yield ["check", job, text], reply
+    for job, text, reply in all_certificates(folder):
+        if all(TODAY.fullmatch(line) for line in text.rstrip("\n").split("\n")):
+            yield ["check", job, text], reply
 
 
 # ---- long cases, whose answers can be told without a reader
