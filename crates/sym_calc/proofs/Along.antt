@@ -1,20 +1,20 @@
 -- The facts and floors of a certificate's path.
-use Rattle.std.proofs.Common.{◌≡◌, ℕ, zero, suc, ◌+◌, ◌<◌, ◌≤◌, ◌^◌, ℤ, pos, negsuc, neg_ℤ, ◌<ℤ◌, true, List, [], ◌∷◌, ◌++◌, length, refl, sym, ◌∙◌, ap, subst, arith, length-append, ◌↔◌, IsTrue}
+use Rattle.std.proofs.Common.{◌≡◌, ℕ, ◌+◌, ◌<◌, ◌^◌, ℤ, pos, negsuc, neg_ℤ, true, List, [], ◌∷◌, ◌++◌, length, refl, sym, ◌∙◌, ap, subst, arith, length-append, IsTrue}
 use Rattle.std.proofs.lemmas.Bool.{and_parts}
 use Rattle.viz_base.specs.declared.worlds.World.{World}
 use Rattle.viz_base.specs.declared.worlds.Rect.{Rect}
 use Rattle.logic_semantics.specs.Ranges.{IsInRange}
 use Rattle.lin_row.specs.Form.{Form, denied}
 use Rattle.lin_proof.specs.Derivations.{are_declared}
-use Rattle.cert_path.specs.Paths.{def, first, second, Path as Steps, variables, with_floor, values_at, values_along, IsOn, AreSound}
+use Rattle.cert_path.specs.Paths.{def, first, second, Path as Steps, variables, with_floor, values_at, values_along, IsOn}
 use Rattle.cert_path.specs.Facts.{row_of, range_facts, step_facts, facts}
 use Rattle.cert_path.specs.Laws.{AreAlong}
 use Rattle.cert_path.proofs.Values.{declared_local, denied_local, row_local, axes_along}
 use Rattle.cert_path.proofs.PathFacts.{facts_hold, facts_say_all, to_meets, from_meets}
 use Rattle.sym_calc.specs.declared.floors.Floor.{Floor}
 use Rattle.sym_calc.specs.Floors.{floors_of, values_by}
-use Rattle.sym_calc.specs.Knowledge.{are_met, AreKnown}
-use Rattle.sym_calc.specs.Laws.{KeptAreThoseOfThePath, SoundIsKnown}
+use Rattle.sym_calc.specs.Knowledge.{values_of, are_met, AreKnown}
+use Rattle.sym_calc.specs.Laws.{KeptAreThoseOfThePath, OpenAreOnThePath, SoundIsKnown}
 use Rattle.sym_calc.proofs.Knowing.{met_all, all_met, are_met-append, Declared, declared_append, declared_row, known_floor, values_by-push}
 
 -- ---- the values along a path
@@ -70,6 +70,25 @@ kept_are_those range steps sound world = (forth, back)
     back h =
         let hold = facts_hold range steps sound world h.0 h.1 in
         ap (are_met (facts range steps)) is ∙ all_met (values_along world steps) (facts range steps) (from_meets (values_along world steps) (facts range steps) hold)
+
+-- a reading that meets the facts of a path is of a world on it
+pub open_are_on : OpenAreOnThePath
+open_are_on range steps sound e met =
+    let v = values_of e in
+    let a = facts_say_all range steps sound v (to_meets v (facts range steps) (met_all v (facts range steps) met)) in
+    subst (λ w. IsInRange range w × IsOn steps w) (world_is a) (a.in_range, a.on_path)
+  where
+    axis : (a : AreAlong range steps (values_of e)) → (x : ℕ) → x < 2 → values_of e x ≡ values_at a.world x
+    axis a x less = a.values x (let n = variables_of steps in omega (arith, n, less)) ∙ axes_along a.world steps x less
+
+    number : (m n : ℕ) → pos m ≡ pos n → m ≡ n
+    number m n same = cc
+
+    world_is : (a : AreAlong range steps (values_of e)) → a.world ≡ e.world
+    world_is a =
+        let w = sym (number e.world.w a.world.w (axis a 0 (omega arith))) in
+        let s = sym (number e.world.s a.world.s (axis a 1 (omega arith))) in
+        λ i. record { w = w i; s = s i }
 
 -- ---- what is known along a path
 

@@ -1,7 +1,6 @@
 -- What is known stays known where a floor is named, and no world is lost.
 use Rattle.std.proofs.Common.{◌≡◌, ℕ, zero, suc, ◌+◌, ◌<◌, ◌≤◌, ◌==◌, ◌^◌, ℤ, pos, negsuc, ◌-ℤ◌, ◌≤ℤ◌, ◌<ℤ◌, Bool, true, false, cond, ◌&&◌, List, [], ◌∷◌, ◌++◌, length, Some, inl, inr, refl, sym, ◌∙◌, ap, subst, arith, length-append, IsTrue}
 use Rattle.std.specs.Prelude.{◌⊎◌, slice_get}
-use Rattle.std.specs.List.{list_all}
 use Rattle.std.specs.Int.{int_div_euclid}
 use Rattle.std.specs.Int.RustNames.{int_le}
 use Rattle.std.proofs.Math.Bool.{and-true}

@@ -3,4 +3,8 @@ pub mod Answering
 pub mod Knowing
 pub mod Numbers
 pub mod Quotients
+pub mod Histories
+pub mod Rests
 pub mod States
+pub mod Tagged
+pub mod Refuted

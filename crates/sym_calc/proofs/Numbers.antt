@@ -1,9 +1,8 @@
 -- What the rows of sums, differences and multiples come to.
-use Rattle.std.proofs.Common.{◌≡◌, ℕ, ℤ, pos, negsuc, ◌+ℤ◌, ◌-ℤ◌, ◌*ℤ◌, Bool, [], sym, ◌∙◌, ap, arith}
+use Rattle.std.proofs.Common.{◌≡◌, ℕ, ℤ, pos, negsuc, ◌+ℤ◌, ◌-ℤ◌, ◌*ℤ◌, [], ◌∙◌, ap, arith}
 use Rattle.std.specs.Int.RustNames.{int_le}
 use Rattle.std.proofs.lemmas.Int.{ints}
 use Rattle.lin_row.specs.Form.{Form, terms_value, value, plus}
-use Rattle.lin_row.specs.Exact.{IsExact}
 use Rattle.lin_row.proofs.Values.{value-plus}
 use Rattle.sym_calc.proofs.Answering.{le_by_difference}
 

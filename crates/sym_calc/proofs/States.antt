@@ -1,11 +1,10 @@
 -- States of a symbolic calc: what naming a floor does to one.
-use Rattle.std.proofs.Common.{◌≡◌, ℕ, zero, suc, ◌+◌, ◌<◌, ◌≤◌, ◌^◌, ℤ, pos, ◌<ℤ◌, true, false, ◌&&◌, List, [], ◌∷◌, ◌++◌, length, get_or, Some, inl, inr, refl, sym, ◌∙◌, ap, subst, arith, append_assoc, length-append, position, IsTrue}
-use Rattle.std.specs.Prelude.{slice_get, ⊤, Result, Ok, Err, IfOk}
+use Rattle.std.proofs.Common.{◌≡◌, ℕ, zero, suc, ◌+◌, ◌<◌, ◌^◌, ℤ, pos, ◌<ℤ◌, List, [], ◌∷◌, ◌++◌, length, get_or, Some, refl, sym, ◌∙◌, ap, subst, arith, append_assoc, position, IsTrue}
+use Rattle.std.specs.Prelude.{slice_get, Result, Ok, Err, IfOk}
 use Rattle.std.specs.Int.{int_div_euclid}
 use Rattle.std.proofs.lemmas.Bool.{and_parts}
 use Rattle.std.proofs.lemmas.List.Quantifiers.{position-Some}
 use Rattle.std.proofs.lemmas.Option.{slice_get-get_or}
-use Rattle.viz_base.specs.declared.worlds.World.{World}
 use Rattle.viz_calc.specs.World.{Reading}
 use Rattle.viz_calc.specs.State.{State, Grows, KeepsWorlds}
 use Rattle.viz_calc.specs.declared.calc.Halt.{Halt}
@@ -104,18 +103,18 @@ module _ (path rows after : List Form) (along own now : List Floor) (f : Floor) 
       let few : length (along ++ own) + 3 < 2 ^ 32 = let at = h.variable in let last = h.few in omega (arith, at, last) in
       after_by AreKnown (known_floor (path ++ rows) (along ++ own) f h.known fits few)
 
-  pub named_grows : (c o : ℕ) → Grows (sym_state (path ++ rows) (along ++ own) c o) (sym_state (path ++ after) (along ++ now) c o)
-  named_grows c o = after_by (λ fs gs. Grows (sym_state (path ++ rows) (along ++ own) c o) (sym_state fs gs c o)) (record {
+  pub named_grows : (t c o : ℕ) → Grows (sym_state t (path ++ rows) (along ++ own) c o) (sym_state t (path ++ after) (along ++ now) c o)
+  named_grows t c o = after_by (λ fs gs. Grows (sym_state t (path ++ rows) (along ++ own) c o) (sym_state t fs gs c o)) (record {
     closes = λ e met. (and_parts (are_met (path ++ rows) (values_of e)) (are_met (step_facts (length (along ++ own) + 2) (def f.row f.by)) (values_of e))
         (sym (are_met-append (path ++ rows) (step_facts (length (along ++ own) + 2) (def f.row f.by)) (values_of e)) ∙ met)).0;
     lean = refl;
     coeffs = omega arith;
     opens = omega arith;
-    kept = λ i. record { worlds = λ world. kept_floor (path ++ rows) (along ++ own) f h.known fits world i; coeffs = 0; opens = 0 };
+    kept = λ i. record { worlds = λ world. kept_floor (path ++ rows) (along ++ own) f h.known fits world i; coeffs = t; opens = 0 };
   })
 
-  pub named_worlds : (c o : ℕ) → KeepsWorlds (sym_state (path ++ rows) (along ++ own) c o) (sym_state (path ++ after) (along ++ now) c o)
-  named_worlds c o = after_by (λ fs gs. KeepsWorlds (sym_state (path ++ rows) (along ++ own) c o) (sym_state fs gs c o)) (record {
+  pub named_worlds : (t c o : ℕ) → KeepsWorlds (sym_state t (path ++ rows) (along ++ own) c o) (sym_state t (path ++ after) (along ++ now) c o)
+  named_worlds t c o = after_by (λ fs gs. KeepsWorlds (sym_state t (path ++ rows) (along ++ own) c o) (sym_state t fs gs c o)) (record {
     keeps = λ w was. record {
       reading = with_term was.reading (length (along ++ own) + 2) (int_div_euclid (value f.row (values_of was.reading)) f.by);
       world = was.world;

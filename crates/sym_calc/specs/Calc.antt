@@ -1,12 +1,14 @@
 -- What a symbolic calc is for its contracts.
-use Rattle.std.specs.Prelude.{◌≡◌, ◌+◌, List, ◌++◌, length, Option}
+use Rattle.std.specs.Prelude.{◌≡◌, ℕ, ◌+◌, List, ◌++◌, length, Option}
 use Rattle.viz_calc.specs.State.{State}
 use Rattle.lin_row.specs.Form.{Form}
+use Rattle.lin_proof.specs.declared.derivation.Answer.{Answer}
 use Rattle.sym_calc.specs.declared.floors.Floor.{Floor}
 use Rattle.sym_calc.specs.declared.sym.Sym.{Sym}
 use Rattle.sym_calc.specs.declared.troubles.Trouble.{Trouble}
 use Rattle.sym_calc.specs.Knowledge.{sym_state}
-use Rattle.sym_calc.specs.Troubles.{trouble_at}
+use Rattle.sym_calc.specs.Tags.{tag}
+use Rattle.sym_calc.specs.Troubles.{trouble_of, trouble_at}
 
 -- the facts of its path, and behind them those of its own floors
 abbrev pub facts_of : Sym → List Form
@@ -16,8 +18,12 @@ facts_of s = s.path.now.facts ++ s.rows
 abbrev pub named_of : Sym → List Floor
 named_of s = s.path.now.floors ++ s.floors
 
+-- the number of its path and its tape
+abbrev pub tag_of : Sym → ℕ
+tag_of s = tag s.path.now.facts s.path.now.floors s.tape.now
+
 abbrev pub state_of : Sym → State
-state_of s = sym_state (facts_of s) (named_of s) s.coeffs s.opens
+state_of s = sym_state (tag_of s) (facts_of s) (named_of s) s.coeffs s.opens
 
 -- nothing of its path, its tape, its own facts and floors and its trouble is another
 pub record KeepsRest (s t : Sym) : Type 0 where
@@ -31,3 +37,7 @@ pub record KeepsRest (s t : Sym) : Type 0 where
 -- why the next answer leaves a row open, if it does
 abbrev pub next_trouble : Sym → Form → Option Trouble
 next_trouble s row = trouble_at (facts_of s) (length (named_of s) + 2) s.tape.now s.taken row
+
+-- the same of this answer
+abbrev pub trouble_by_answer : Sym → Form → Answer → Option Trouble
+trouble_by_answer s row answer = trouble_of (facts_of s) (length (named_of s) + 2) s.taken row answer

@@ -22,14 +22,15 @@ number_at n e = value n (values_of e)
 abbrev pub are_met : List Form → (ℕ → ℤ) → Bool
 are_met facts v = list_all (λ f. int_le (pos 0) (value f v)) facts
 
--- A reading is open where it meets the facts. Kept are the worlds whose values meet them.
-abbrev pub sym_state : List Form → List Floor → ℕ → ℕ → State
-sym_state facts floors coeffs opens = record {
+-- A reading is open where it meets the facts. Kept are the worlds whose values meet them: they stay open whatever is
+-- counted, so the count from which they are kept may be a number that tells what the calc is over.
+abbrev pub sym_state : ℕ → List Form → List Floor → ℕ → ℕ → State
+sym_state tag facts floors coeffs opens = record {
   is_open = λ e. are_met facts (values_of e);
   lean = false;
   coeffs = coeffs;
   opens = opens;
-  kept = record { worlds = λ world. are_met facts (values_by floors world); coeffs = 0; opens = 0 };
+  kept = record { worlds = λ world. are_met facts (values_by floors world); coeffs = tag; opens = 0 };
 }
 
 -- The facts name no variable from n on, and say of each floor what it is.

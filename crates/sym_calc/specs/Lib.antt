@@ -2,8 +2,10 @@ pub mod Calc
 pub mod Division
 pub mod Floors
 pub mod Given
+pub mod History
 pub mod Kept
 pub mod Knowledge
 pub mod Laws
 pub mod Same
+pub mod Tags
 pub mod Troubles

@@ -1,10 +1,11 @@
-ghost use Rattle.std.specs.Prelude.{◌≡◌, ◌<ℤ◌, ◌-ℤ◌, ◌++◌, [], ◌∷◌, false, pos, negsuc, OnOk, OnErr};
+ghost use Rattle.std.specs.Prelude.{◌≡◌, ◌<ℤ◌, ◌-ℤ◌, ◌++◌, [], ◌∷◌, false, pos, negsuc, Err, OnOk, OnErr};
 ghost use Rattle.std.specs.List.{list_any};
 ghost use Rattle.lin_row.specs.Form.{plus};
 ghost use Rattle.lin_row.specs.Exact.{IsExact};
 ghost use Rattle.cert_path.specs.Paths.{def};
 ghost use Rattle.cert_path.specs.Facts.{row_of, step_facts};
-ghost use Rattle.sym_calc.specs.Floors.{same_floor};
+ghost use Rattle.lin_row.specs.declared.row.RowFault.TheVariants.{Coeff};
+ghost use Rattle.sym_calc.specs.Floors.{same_floor, floor_fits};
 
 use crate::floors::{Floor, Floors};
 use lin_row::{Row, RowFault};
@@ -47,6 +48,7 @@ pub fn add_floor(
     ensures floors { OnOk result (floors.new ≡ floors.old ++ floor ∷ []) }
     ensures same_rows { OnErr result (rows.new ≡ rows.old) }
     ensures same_floors { OnErr result (floors.new ≡ floors.old) }
+    ensures outside { result ≡ Err Coeff → floor_fits variable floor ≡ false }
 {
     let lower = lower_fact(&floor, variable)?;
     let upper = upper_fact(&floor, variable)?;

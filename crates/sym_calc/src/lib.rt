@@ -12,7 +12,10 @@ mod troubles;
 
 pub use divisions::{quotient, remainder};
 pub use floors::{Floor, Floors, same_row};
-pub use laws::{kept_worlds_are_those_of_the_path, sound_paths_are_known, sym_keeps_its_worlds};
+pub use laws::{
+    answers_are_refuted_below_their_path, kept_worlds_are_those_of_the_path, sound_paths_are_known,
+    sym_keeps_its_worlds,
+};
 pub use paths::Path;
 pub use sym::Sym;
 pub use troubles::Trouble;

@@ -1,9 +1,10 @@
-ghost use Rattle.std.specs.Prelude.{◌≡◌, ◌+◌, ◌<ℤ◌, ◌++◌, [], ◌∷◌, false, length, pos, negsuc, neg_ℤ, take, IfOk, OnErr, OnOk};
+ghost use Rattle.std.specs.Prelude.{◌≡◌, ◌+◌, ◌<ℤ◌, ◌++◌, [], ◌∷◌, false, length, pos, negsuc, neg_ℤ, take, Err, IfOk, OnErr, OnOk};
 ghost use Rattle.std.specs.List.{list_any};
-ghost use Rattle.lin_row.specs.Form.{denied};
+ghost use Rattle.lin_row.specs.Form.{denied, form_fits};
 ghost use Rattle.cert_path.specs.Paths.{def};
 ghost use Rattle.cert_path.specs.Facts.{range_facts, row_of, step_facts};
-ghost use Rattle.sym_calc.specs.Floors.{same_floor};
+ghost use Rattle.lin_row.specs.declared.row.RowFault.TheVariants.{Coeff};
+ghost use Rattle.sym_calc.specs.Floors.{same_floor, floor_fits};
 ghost use Rattle.sym_calc.specs.Knowledge.{AreKnown};
 
 use crate::facts::{add_both, add_floor};
@@ -47,6 +48,7 @@ impl Path {
         ensures floors { OnOk result (self.new.floors ≡ self.old.floors ++ floor ∷ []) }
         ensures same_facts { OnErr result (self.new.facts ≡ self.old.facts) }
         ensures same_floors { OnErr result (self.new.floors ≡ self.old.floors) }
+        ensures outside { result ≡ Err Coeff → floor_fits variable floor ≡ false }
     {
         add_floor(&mut self.facts, &mut self.floors, floor, variable)
     }
@@ -66,6 +68,7 @@ impl Path {
         ensures facts { OnOk result (self.new.facts ≡ self.old.facts ++ denied row.now ∷ []) }
         ensures same { OnErr result (self.new.facts ≡ self.old.facts) }
         ensures floors { self.new.floors ≡ self.old.floors }
+        ensures outside { result ≡ Err Coeff → form_fits (denied row.now) ≡ false }
     {
         let other = row.negate()?;
         self.facts.push(other)?;

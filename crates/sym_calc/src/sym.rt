@@ -1,17 +1,21 @@
-ghost use Rattle.std.specs.Prelude.{◌≡◌, ◌≢◌, ◌≤◌, ◌<◌, ◌^◌, ◌+◌, ◌-◌, ◌<ℤ◌, ◌++◌, [], ◌∷◌, false, true, Bool, None, Some, is_some, nat_lt, length, pos, negsuc, ◌-ℤ◌, Ok, ⊤, IfOk, IfErr, IsTrue, OnOk, OnErr};
+ghost use Rattle.std.specs.Prelude.{◌≡◌, ◌≢◌, ◌≤◌, ◌<◌, ◌^◌, ◌+◌, ◌-◌, ◌<ℤ◌, ◌++◌, [], ◌∷◌, false, true, Bool, None, Some, is_some, nat_lt, length, pos, negsuc, ◌-ℤ◌, Ok, ⊤, IfOk, IfErr, IsTrue, OnOk, OnErr, slice_get};
 ghost use Rattle.std.specs.List.{list_any};
 ghost use Rattle.std.specs.Option.{option_copied};
 ghost use Rattle.std.specs.Int.{int_div_euclid};
+ghost use Rattle.std.specs.Int.Signed.{lt_z};
 ghost use Rattle.std.specs.Int.RustNames.{int_le};
 ghost use Rattle.lin_row.specs.Form.{Form, denied, form_fits, plus, value};
 ghost use Rattle.lin_row.specs.Exact.{IsExact};
 ghost use Rattle.lin_proof.specs.Derivations.{are_declared, first_fault, lines_of};
 ghost use Rattle.cert_path.specs.Facts.{row_of};
+ghost use Rattle.cert_path.specs.Shapes.{has_remainders, has_variable};
 ghost use Rattle.viz_calc.specs.World.{Reading};
 ghost use Rattle.sym_calc.specs.Floors.{same_floor};
 ghost use Rattle.sym_calc.specs.Given.{IsGiven};
 ghost use Rattle.sym_calc.specs.Knowledge.{values_of};
 ghost use Rattle.sym_calc.specs.Knowledge.{AreKnown, contrary, sym_state};
+ghost use Rattle.sym_calc.specs.History.{are_fit, facts_from, is_accounted};
+ghost use Rattle.sym_calc.specs.Tags.{tag};
 ghost use Rattle.viz_calc.specs.State.{Rose};
 
 use crate::divisions::{quotient, remainder};
@@ -38,6 +42,9 @@ pub struct Sym<'a> {
     opens: u64,
     ghost known: { AreKnown (path.now.facts ++ rows) (path.now.floors ++ floors) },
     ghost told: { is_some trouble ≡ nat_lt 0 opens },
+    ghost made: { rows ≡ facts_from (length path.now.floors + 2) floors },
+    ghost fit: { IsTrue (are_fit path.now.floors floors) },
+    ghost accounted: { IsTrue (is_accounted path.now.facts path.now.floors floors tape.now taken trouble) },
 }
 
 /// A count that is one greater, or stands at its end.
@@ -52,14 +59,15 @@ impl<'a> Sym<'a> {
     ghost use Rattle.viz_calc.specs.State.{Grows, KeepsWorlds, Cause, IsDecided};
     ghost use Rattle.viz_calc.specs.declared.calc.Halt.TheVariants.{Open};
     ghost use Rattle.sym_calc.specs.Troubles.{first_of};
-    ghost use Rattle.sym_calc.specs.Calc.{facts_of, named_of, state_of, next_trouble, KeepsRest};
+    ghost use Rattle.sym_calc.specs.Calc.{facts_of, named_of, state_of, next_trouble, trouble_by_answer, KeepsRest};
 
     /// The calc of a path and of a tape of answers, none of which is taken yet. Takes no memory.
     pub fn new(path: &'a Path, tape: &'a [Answer]) -> Self
         requires { AreKnown path.now.facts path.now.floors }
         ensures path { result.path.now ≡ path.now }
         ensures tape { result.tape.now ≡ tape.now }
-        ensures state { state_of result ≡ sym_state path.now.facts path.now.floors 0 0 }
+        ensures state { state_of result
+            ≡ sym_state (tag path.now.facts path.now.floors tape.now) path.now.facts path.now.floors 0 0 }
         ensures taken { result.taken ≡ 0 }
         ensures trouble { result.trouble ≡ None }
     {
@@ -96,9 +104,12 @@ impl<'a> Sym<'a> {
         }
     }
 
-    /// The variable of a floor by a number above 0: that of the same floor on the path or behind it, or a new one.
+    /// The variable of a floor by a number above 1: that of the same floor on the path or behind it, or a new one.
     fn variable_of(&mut self, floor: Floor) -> Result<u32, Halt>
-        requires { pos 0 <ℤ floor.by }
+        requires above { pos 0 <ℤ floor.by }
+        requires some { IsTrue (has_variable floor.row) }
+        requires number { IsTrue (lt_z (pos 1) floor.by) }
+        requires remainders { IsTrue (has_remainders floor.by floor.row) }
         ensures grows { Grows (state_of self.old) (state_of self.new) }
         ensures worlds { KeepsWorlds (state_of self.old) (state_of self.new) }
         ensures value { IfOk result (λ x. (e : Reading) → IsTrue ((state_of self.new).is_open e)
@@ -118,6 +129,10 @@ impl<'a> Sym<'a> {
     /// The new variable of a floor that has none yet.
     fn name(&mut self, floor: Floor) -> Result<u32, Halt>
         requires above { pos 0 <ℤ floor.by }
+        requires some { IsTrue (has_variable floor.row) }
+        requires number { IsTrue (lt_z (pos 1) floor.by) }
+        requires remainders { IsTrue (has_remainders floor.by floor.row) }
+        requires new_on_the_path { list_any (same_floor floor) self.old.path.now.floors ≡ false }
         requires new { list_any (same_floor floor) self.old.floors ≡ false }
         ensures grows { Grows (state_of self.old) (state_of self.new) }
         ensures worlds { KeepsWorlds (state_of self.old) (state_of self.new) }
@@ -183,21 +198,40 @@ impl<'a> Sym<'a> {
         ensures trouble { result ≡ Err Open → self.new.trouble ≡ first_of self.old.trouble (next_trouble self.old row) }
     {
         let tape = self.tape;
-        let Some(answer) = tape.get(self.taken) else {
-            return Err(self.stuck(Trouble::Short));
-        };
+        match tape.get(self.taken) {
+            Some(answer) => self.answered_by(answer, row),
+            None => Err(self.stuck(Trouble::Short, self.taken)),
+        }
+    }
+
+    /// The same by this answer, which is the next one.
+    fn answered_by(&mut self, answer: &Answer, row: Row) -> Result<bool, Halt>
+        requires next { slice_get self.old.tape.now self.old.taken ≡ Some answer.now }
+        requires room { self.old.taken + 1 < 2 ^ 64 }
+        ensures grows { Grows (state_of self.old) (state_of self.new) }
+        ensures value { IfOk result (λ yes. (e : Reading) → IsTrue ((state_of self.new).is_open e)
+            → yes ≡ int_le (pos 0) (value row (values_of e))) }
+        ensures cause { IfErr result (Cause (state_of self.old) (state_of self.new) ⊤) }
+        ensures answer { IfOk result (λ yes. trouble_by_answer self.old row answer.now ≡ None) }
+        ensures taken { OnOk result (self.new.taken ≡ self.old.taken + 1) }
+        ensures opened { result ≡ Err Open → is_some (trouble_by_answer self.old row answer.now) ≡ true }
+        ensures trouble { result ≡ Err Open
+            → self.new.trouble ≡ first_of self.old.trouble (trouble_by_answer self.old row answer.now) }
+    {
         let Ok(number) = u32::try_from(self.taken) else {
             return Err(Halt::Mem);
         };
-        self.taken += 1;
         let contrary = self.contrary_of(answer.yes, &row)?;
         if !same_row(&row, &answer.row) {
             let theirs = answer.row.clone()?;
-            return Err(self.stuck(Trouble::Differs(number, row, theirs)));
+            return Err(self.stuck(Trouble::Differs(number, row, theirs), self.taken + 1));
         }
         match self.fault_of(contrary, &answer.why)? {
-            None => Ok(answer.yes),
-            Some(line) => Err(self.stuck(Trouble::Line(number, line))),
+            None => {
+                self.taken += 1;
+                Ok(answer.yes)
+            }
+            Some(line) => Err(self.stuck(Trouble::Line(number, line), self.taken + 1)),
         }
     }
 
@@ -230,8 +264,11 @@ impl<'a> Sym<'a> {
         )
     }
 
-    /// Leaves a comparison open for this trouble, which is kept unless there was one before.
-    fn stuck(&mut self, trouble: Trouble) -> Halt
+    /// Leaves a comparison open for this trouble, which is kept unless there was one before. So many answers are
+    /// taken then.
+    fn stuck(&mut self, trouble: Trouble, taken: usize) -> Halt
+        requires { IsTrue (is_accounted self.old.path.now.facts self.old.path.now.floors self.old.floors self.old.tape.now
+            taken (first_of self.old.trouble (Some trouble))) }
         ensures grows { Grows (state_of self.old) (state_of self.new) }
         ensures cause { Cause (state_of self.old) (state_of self.new) ⊤ result }
         ensures open { result ≡ Open }
@@ -240,6 +277,7 @@ impl<'a> Sym<'a> {
         if self.trouble.is_none() {
             self.trouble = Some(trouble);
         }
+        self.taken = taken;
         self.opens = raised(self.opens);
         Halt::Open
     }

@@ -1,4 +1,4 @@
-use Rattle.std.proofs.Common.{◌≡◌, ℤ, pos, ◌++◌, [], get_or, sym, ◌∙◌, rules, FitsSigned, to_z-of_z}
+use Rattle.std.proofs.Common.{pos, ◌++◌, [], get_or, sym, ◌∙◌, rules, FitsSigned, to_z-of_z}
 use Rattle.std.specs.Int.{w128, int_rem_euclid}
 use Rattle.lin_row.specs.Form.{put}
 use Rattle.sym_calc.proofs.Quotients.{changed-more}

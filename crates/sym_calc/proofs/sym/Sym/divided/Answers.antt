@@ -1,11 +1,13 @@
-use Rattle.std.proofs.Common.{◌≡◌, pos, ap, sym, ◌∙◌, refl, FitsSigned, to_z-of_z}
+use Rattle.std.proofs.Common.{◌≡◌, ◌≢◌, pos, [], ap, sym, ◌∙◌, refl, subst, true≢false, FitsSigned, to_z-of_z, IsTrue}
 use Rattle.std.specs.Int.{w128}
 use Rattle.std.proofs.lemmas.Result.{IfOk-weaker}
 use Rattle.lin_row.specs.Form.{Form, value, plus}
 use Rattle.cert_path.specs.Facts.{row_of}
+use Rattle.cert_path.specs.Shapes.{has_remainders}
 use Rattle.sym_calc.specs.Knowledge.{values_of}
 use Rattle.sym_calc.proofs.States.{grows_then, counted_is}
 use Rattle.sym_calc.proofs.Quotients.{alone_by, with_by}
+use Rattle.sym_calc.proofs.Rests.{rest_has_remainders, rest_by_more, some_variable}
 use Rattle.sym_calc.proofs.sym.Sym.divided.Goals as goal
 
 pub returns-then-is_empty-clause-value : goal.returns-then-is_empty-clause-value
@@ -16,6 +18,24 @@ returns-then-is_empty-clause-value c =
     let none = c.if-is_empty.ensures.0 refl in
     λ e met. alone_by c.args.by c.args.row.now c.in_ok-whole.whole c.in_ok-rest.rest (values_of e) c.requires whole rest
     (ap (λ (g : Form). g.terms) (sym c.rest.view_is) ∙ none)
+
+pub variable_of-requires-clause-some : goal.variable_of-requires-clause-some
+variable_of-requires-clause-some c =
+    let some : c.in_ok-rest.rest.terms ≢ [] = λ none. true≢false (sym (c.is_empty.ensures.1 (ap (λ (g : Form). g.terms) c.rest.view_is ∙ none)) ∙ c.if-is_empty.false) in
+    some_variable c.in_ok-rest.rest some
+
+pub variable_of-requires-clause-number : goal.variable_of-requires-clause-number
+variable_of-requires-clause-number c =
+    let some : c.in_ok-rest.rest.terms ≢ [] = λ none. true≢false (sym (c.is_empty.ensures.1 (ap (λ (g : Form). g.terms) c.rest.view_is ∙ none)) ∙ c.if-is_empty.false) in
+    let fits : FitsSigned w128 c.args.by = c.ranges.by in
+    let rest = simp to_z-of_z at c.in_ok-rest.ensures in
+    simp to_z-of_z (rest_by_more c.args.by c.args.row.now c.requires (λ none. some (ap (λ (g : Form). g.terms) rest ∙ none)))
+
+pub variable_of-requires-clause-remainders : goal.variable_of-requires-clause-remainders
+variable_of-requires-clause-remainders c =
+    let fits : FitsSigned w128 c.args.by = c.ranges.by in
+    let rest = simp to_z-of_z at c.in_ok-rest.ensures in
+    simp to_z-of_z (subst (λ f. IsTrue (has_remainders c.args.by f)) (sym rest) (rest_has_remainders c.args.by c.args.row.now c.requires))
 
 pub returns-clause-grows : goal.returns-clause-grows
 returns-clause-grows c = grows_then _ _ _ c.in_ok-variable.ensures.grows c.counted.ensures.grows

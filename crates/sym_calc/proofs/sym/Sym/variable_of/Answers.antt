@@ -1,4 +1,4 @@
-use Rattle.std.proofs.Common.{◌≡◌, ◌+◌, ◌++◌, sym, ap, ◌∙◌}
+use Rattle.std.proofs.Common.{◌+◌, ◌++◌, sym, ap, ◌∙◌}
 use Rattle.sym_calc.specs.Knowledge.{values_of}
 use Rattle.sym_calc.proofs.States.{floor_before, floor_behind}
 use Rattle.sym_calc.proofs.sym.Sym.variable_of.Goals as goal

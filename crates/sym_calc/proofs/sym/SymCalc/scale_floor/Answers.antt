@@ -1,4 +1,4 @@
-use Rattle.std.proofs.Common.{◌≡◌, ℤ, pos, ◌*ℤ◌, rules, ap, ◌∙◌, subst, FitsSigned, to_z-of_z}
+use Rattle.std.proofs.Common.{◌≡◌, pos, ◌*ℤ◌, rules, ap, ◌∙◌, subst, FitsSigned, to_z-of_z}
 use Rattle.std.specs.Int.{w128, int_div_euclid}
 use Rattle.std.proofs.lemmas.Result.{IfOk-weaker}
 use Rattle.viz_calc.specs.World.{Reading}
