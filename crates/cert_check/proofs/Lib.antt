@@ -6,3 +6,4 @@ pub mod Grids
 pub mod Causes
 pub mod Bounded
 pub mod Texts
+pub mod Leaves

@@ -4,4 +4,5 @@ pub mod Nodes
 pub mod Right
 pub mod Verdicts
 pub mod Laws
+pub mod whole
 pub mod steps

@@ -5,6 +5,7 @@ mod cuts;
 mod laws;
 mod verdicts;
 mod walk;
+pub mod whole;
 mod worlds;
 
 pub use cuts::{Child, Cut, Opens, axis_of, cut_of, part_of, variable_of, world_count};

@@ -1,0 +1,194 @@
+-- From a calc over which a leaf was laid out to the verdict on the leaf.
+use Rattle.std.proofs.Common.{◌≡◌, ℕ, ◌-◌, ◌<◌, ◌≤◌, Bool, true, false, not, List, ◌++◌, length, take, Option, Some, None, Result, Ok, Err, ℤ, inl, inr, refl, sym, ◌∙◌, ap, subst, arith, append-nil, take_all, IsTrue}
+use Rattle.std.specs.Prelude.{slice_get, IfErr}
+use Rattle.std.specs.Option.{option_map_or}
+use Rattle.std.proofs.lemmas.Bool.{and_parts}
+use Rattle.viz_base.specs.declared.jobs.Job.{Job}
+use Rattle.viz_calc.specs.World.{Reading}
+use Rattle.viz_base.specs.declared.renderings.Rendering.{Rendering}
+use Rattle.viz_calc.specs.State.{State, Kept, Grows, Rose, Cause, CauseButMem}
+use Rattle.viz_calc.specs.Renderings.{rendering_at}
+use Rattle.viz_calc.specs.declared.calc.Halt.{Halt}
+use Rattle.viz_calc.specs.declared.calc.Halt.TheVariants as of_halt
+use Rattle.layout_semantics.specs.Page.{page_rendering}
+use Rattle.lay_flow.specs.BlockPages.{ready}
+use Rattle.lay_flow.specs.Limits.{IsWithinLimits}
+use Rattle.vis_truth.specs.Scenes.{IsBoundedRendering, IsTame}
+use Rattle.lin_row.specs.Form.{Form}
+use Rattle.lin_proof.specs.declared.derivation.Answer.{Answer}
+use Rattle.cert_path.specs.Paths.{Path}
+use Rattle.cert_path.specs.Facts.{facts}
+use Rattle.cert_path.specs.Shapes.{same_row}
+use Rattle.cert_path.specs.Derived.{AreRefuted}
+use Rattle.cert_path.proofs.FitDefs.{decides_same_row}
+use Rattle.sym_calc.specs.declared.floors.Floor.{Floor}
+use Rattle.sym_calc.specs.declared.sym.Sym.{Sym}
+use Rattle.sym_calc.specs.declared.troubles.Trouble.{Trouble}
+use Rattle.sym_calc.specs.declared.troubles.Trouble.TheVariants as of_trouble
+use Rattle.sym_calc.specs.Calc.{facts_of, named_of, state_of}
+use Rattle.sym_calc.specs.Floors.{floors_of, values_by}
+use Rattle.sym_calc.specs.History.{are_fit, are_right, is_wrong, is_to_another, is_accounted}
+use Rattle.sym_calc.specs.Kept.{reading_by, kept_is_open}
+use Rattle.sym_calc.specs.Knowledge.{are_met}
+use Rattle.sym_calc.proofs.Along.{kept_are_those}
+use Rattle.sym_calc.proofs.Refuted.{right_is_refuted, wrong_is_fault}
+use Rattle.sym_calc.proofs.Tagged.{AreSame, tag_same}
+use Rattle.cert_check.specs.declared.whole.verdicts.Verdict.TheVariants.{Accepted, Rejected}
+use Rattle.cert_check.specs.declared.whole.verdicts.Reject.TheVariants.{Unmet, Left, Coeff}
+use Rattle.cert_check.specs.Right.{is_true_at}
+use Rattle.cert_check.proofs.Bounded.{small_page, bounded_rendering, narrow_world, sized_world}
+use Rattle.cert_check.specs.whole.Truths.{AreInRange, IsThroughout}
+use Rattle.cert_check.specs.whole.Leaves.{StandsOver, IsWrongAnswer, IsToAnother, IsLeafFault, node_in, IsLeafVerdict, reject_of, left_of}
+
+-- ---- what a calc accounts for, below a path
+
+module _ (job : Job) (path : Path) (own : List Floor) (tape : List Answer) (taken : ℕ) (fit : are_fit (floors_of path) own ≡ true) where
+  right_to : (answers : List Answer) → are_right (facts job.range path) (floors_of path) own 0 answers ≡ true → AreRefuted job.range path answers
+  right_to answers e = right_is_refuted job.range path own answers fit e
+
+  right_taken : is_accounted (facts job.range path) (floors_of path) own tape taken None ≡ true → AreRefuted job.range path (take taken tape)
+  unfolding is_accounted
+  right_taken e = right_to (take taken tape) e
+
+  wrong_at : (number line : ℕ) → AreRefuted job.range path (take number tape) → (o : Option Answer) → slice_get tape number ≡ o
+      → option_map_or (is_wrong (facts job.range path) (floors_of path) own line) o false ≡ true → IsWrongAnswer job.range path tape number line
+  wrong_at number line before None is e = absurd (cc)
+  wrong_at number line before (Some a) is e =
+      record { answer = a; is_answer = is; before = before; wrong = wrong_is_fault job.range path own a line fit e }
+
+  another_at : (number : ℕ) (ours theirs : Form) → AreRefuted job.range path (take number tape) → (o : Option Answer) → slice_get tape number ≡ o
+      → option_map_or (is_to_another ours theirs) o false ≡ true → IsToAnother job.range path tape number ours theirs
+  another_at number ours theirs before None is e = absurd (cc)
+  another_at number ours theirs before (Some a) is e =
+      let both = and_parts (same_row a.row theirs) (not (same_row ours theirs)) e in
+      record {
+        answer = a;
+        is_answer = is;
+        before = before;
+        theirs_is = (decides_same_row a.row theirs).0 both.0;
+        other = λ same. apart (same_row ours theirs) ((decides_same_row ours theirs).1 same) both.1;
+      }
+    where
+      apart : (b : Bool) → b ≡ true → not b ≡ true → ⊥
+      apart true e f = absurd (cc)
+      apart false e f = absurd (cc)
+
+  fault_told : (n : ℕ) (t : Trouble) → is_accounted (facts job.range path) (floors_of path) own tape taken (Some t) ≡ true → IsLeafFault job path tape (reject_of n t)
+  unfolding is_accounted
+  fault_told n (of_trouble.Line number line) e =
+      let both = and_parts (are_right (facts job.range path) (floors_of path) own 0 (take number tape))
+      (option_map_or (is_wrong (facts job.range path) (floors_of path) own line) (slice_get tape number) false) e in
+      wrong_at number line (right_to (take number tape) both.0) (slice_get tape number) refl both.1
+  fault_told n (of_trouble.Differs number ours theirs) e =
+      let both = and_parts (are_right (facts job.range path) (floors_of path) own 0 (take number tape))
+      (option_map_or (is_to_another ours theirs) (slice_get tape number) false) e in
+      another_at number ours theirs (right_to (take number tape) both.0) (slice_get tape number) refl both.1
+  fault_told n of_trouble.Short e = right_to tape e
+
+node_told : (n : ℕ) (t : Trouble) → node_in (reject_of n t) ≡ n
+node_told n (of_trouble.Line number line) = refl
+node_told n (of_trouble.Differs number ours theirs) = refl
+node_told n of_trouble.Short = refl
+
+-- ---- a calc before and after
+
+module _ (job : Job) (old new : Sym) (grows : Grows (state_of old) (state_of new)) where
+  -- the path and the tape are the same
+  same : AreSame new.path.now.facts new.path.now.floors new.tape.now old.path.now.facts old.path.now.floors old.tape.now
+  same = tag_same new.path.now.facts new.path.now.floors new.tape.now old.path.now.facts old.path.now.floors old.tape.now (ap (λ (k : Kept). k.coeffs) grows.kept)
+
+  module _ (path : Path) (over : StandsOver job.range path old) where
+    facts_are : new.path.now.facts ≡ facts job.range path
+    facts_are = same.facts_are ∙ over.facts_are
+
+    floors_are : new.path.now.floors ≡ floors_of path
+    floors_are = same.floors_are ∙ over.floors_are
+
+    fit : are_fit (floors_of path) new.floors ≡ true
+    fit = ap (λ fs. are_fit fs new.floors) (sym floors_are) ∙ new.fit
+
+    accounted : (trouble : Option Trouble) → new.trouble ≡ trouble
+        → is_accounted (facts job.range path) (floors_of path) new.floors old.tape.now new.taken trouble ≡ true
+    accounted trouble is =
+        (λ i. is_accounted (sym facts_are i) (sym floors_are i) new.floors (sym same.tape_is i) new.taken (sym is i)) ∙ new.accounted
+
+    taken_right : new.trouble ≡ None → AreRefuted job.range path (take new.taken old.tape.now)
+    taken_right none = right_taken job path new.floors old.tape.now new.taken fit (accounted None none)
+
+    -- at each world of the path the calc has an open reading
+    throughout : (wanted : Bool) → ((e : Reading) → IsTrue ((state_of new).is_open e) → wanted ≡ is_true_at job e.world) → IsThroughout job path wanted
+    throughout wanted value world in_range on_path =
+        let met = (kept_are_those job.range path over.sound world).1 (in_range, on_path) in
+        let old_facts : facts_of old ≡ facts job.range path = (λ i. over.facts_are i ++ over.no_rows i) ∙ append-nil (facts job.range path) in
+        let old_floors : named_of old ≡ floors_of path = (λ i. over.floors_are i ++ over.no_floors i) ∙ append-nil (floors_of path) in
+        let kept_old : are_met (facts_of old) (values_by (named_of old) world) ≡ true = (λ i. are_met (old_facts i) (values_by (old_floors i) world)) ∙ met in
+        let kept_new : are_met (facts_of new) (values_by (named_of new) world) ≡ true = ap (λ (k : Kept). k.worlds world) grows.kept ∙ kept_old in
+        sym (value (reading_by (named_of new) world) (kept_is_open (facts_of new) (named_of new) world kept_new))
+
+    pub leaf_told : (n : ℕ) (t : Trouble) → new.trouble ≡ Some t → IsLeafVerdict job n path old.tape.now (Rejected (reject_of n t))
+    leaf_told n t is = (node_told n t, fault_told job path new.floors old.tape.now new.taken fit n t (accounted (Some t) is))
+
+    pub leaf_accepted : (n : ℕ) → ((e : Reading) → IsTrue ((state_of new).is_open e) → true ≡ is_true_at job e.world) → new.trouble ≡ None → left_of new ≡ 0
+        → IsLeafVerdict job n path old.tape.now Accepted
+    leaf_accepted n value none left =
+        let most : length old.tape.now ≤ new.taken = let e = ap (λ (t : List Answer). length t) same.tape_is in omega arith in
+        (throughout true value, subst (AreRefuted job.range path) (take_all new.taken old.tape.now most) (taken_right none))
+
+    pub leaf_left : (n count : ℕ) → ((e : Reading) → IsTrue ((state_of new).is_open e) → true ≡ is_true_at job e.world) → new.trouble ≡ None → count ≡ left_of new → 0 < count
+        → IsLeafVerdict job n path old.tape.now (Rejected (Left n count))
+    leaf_left n count value none is some =
+        let e = ap (λ (t : List Answer). length t) same.tape_is in
+        let first : new.taken ≡ length old.tape.now - count = omega arith in (
+          refl,
+          record {
+            holds = throughout true value;
+            some = some;
+            most = omega arith;
+            right = subst (λ m. AreRefuted job.range path (take m old.tape.now)) first (taken_right none);
+          },
+        )
+
+    pub leaf_unmet : (n : ℕ) → ((e : Reading) → IsTrue ((state_of new).is_open e) → false ≡ is_true_at job e.world) → new.trouble ≡ None
+        → IsLeafVerdict job n path old.tape.now (Rejected (Unmet n))
+    leaf_unmet n value none = (refl, record { untrue = throughout false value; taken = new.taken; right = taken_right none })
+
+    pub leaf_coeff : (n : ℕ) → IsLeafVerdict job n path old.tape.now (Rejected (Coeff n))
+    leaf_coeff n = (refl, tt)
+
+-- ---- halts
+
+pub within_limits : (job : Job) (s : State) → AreInRange job s → IsWithinLimits job.tree job.height s.is_open
+within_limits job s in_range = record {
+  small = small_page job;
+  low = job.ok.height_most;
+  narrow = λ e o. narrow_world job e.world (in_range e o);
+  sized = λ e o. sized_world job e.world (in_range e o);
+}
+
+pub tame : (job : Job) (s : State) → IsTrue (ready job.tree) → AreInRange job s → {N : Type 0} → (at : N → Reading → ℤ) (r : Rendering N)
+    → ((e : Reading) → IsTrue (s.is_open e) → rendering_at at r e ≡ page_rendering job.tree e.world job.height) → IsTame s.is_open at r job.formula
+tame job s is_ready in_range at r value = record {
+  bounded = λ e o. record {
+    rendering = subst IsBoundedRendering (sym (value e o)) (bounded_rendering job e.world is_ready (narrow_world job e.world (in_range e o)) (sized_world job e.world (in_range e o)));
+    width = let most = narrow_world job e.world (in_range e o) in omega arith;
+  };
+  small = job.ok.small_terms;
+}
+
+pub rose_after : (a b c : ℕ) → a ≤ b → Rose b c → Rose a c
+rose_after a b c le (inl less) = inl (omega arith)
+rose_after a b c le (inr end) = inr end
+
+pub coeff_cause : (old new : State) (fits : Type 0) (h : Halt) → CauseButMem old new fits h → fits → h ≡ of_halt.Coeff → Rose old.coeffs new.coeffs
+coeff_cause old new fits of_halt.Mem cause f is = absurd (cc)
+coeff_cause old new fits of_halt.Coeff cause f is = cause f
+coeff_cause old new fits of_halt.Open cause f is = absurd (cc)
+
+truth_coeff : (old new : State) (fits : Type 0) (h : Halt) → Cause old new fits h → fits → h ≡ of_halt.Coeff → Rose old.coeffs new.coeffs
+truth_coeff old new fits of_halt.Mem cause f is = absurd (cc)
+truth_coeff old new fits of_halt.Coeff cause f is = cause f
+truth_coeff old new fits of_halt.Open cause f is = absurd (cc)
+
+pub answer_coeff : (old new : State) (fits : Type 0) (answer : Result Bool Halt) → IfErr answer (Cause old new fits) → fits → answer ≡ Err of_halt.Coeff → Rose old.coeffs new.coeffs
+answer_coeff old new fits (Ok b) cause f is = absurd (cc)
+answer_coeff old new fits (Err h) cause f is = truth_coeff old new fits h cause f (cc)
