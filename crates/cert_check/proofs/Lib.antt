@@ -7,3 +7,8 @@ pub mod Causes
 pub mod Bounded
 pub mod Texts
 pub mod Leaves
+pub mod Descents
+pub mod Places
+pub mod PartSides
+pub mod GridWorlds
+pub mod GridSteps

@@ -1,1 +1,3 @@
+pub mod Descent
+pub mod Grids
 pub mod Walk

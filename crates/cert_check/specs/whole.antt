@@ -1,2 +1,5 @@
 pub mod Truths
+pub mod Numbers
 pub mod Leaves
+pub mod Right
+pub mod Verdicts

@@ -1,0 +1,164 @@
+ghost use Rattle.std.specs.Prelude.{◌≡◌, ◌<◌, ◌^◌, [], ◌∷◌, IfOk, IsTrue, OnOk};
+ghost use Rattle.lin_row.specs.Form.{denied, form_fits};
+ghost use Rattle.cert_path.specs.Facts.{facts};
+ghost use Rattle.cert_path.specs.Nodes.{names};
+ghost use Rattle.cert_path.specs.Paths.{def, first, second, is_declared, variables};
+ghost use Rattle.cert_path.specs.Shapes.{is_shaped};
+ghost use Rattle.sym_calc.specs.Floors.{floors_of};
+ghost use Rattle.cert_check.specs.steps.Descent.{path_of, are_sound, is_below_def, is_below_split, outer_of};
+
+use lin_row::{Row, RowFault};
+use std::alloc::{AllocError, Global};
+use sym_calc::{Floor, Path};
+use viz_base::{Job, List, Mem};
+
+/// A def or a split above a node, and in which part of a split the node lies.
+#[derive(Clone, Copy)]
+pub enum Above<'a> {
+    /// A def of a row and a number.
+    Def(&'a Row, i128),
+    /// A split by a row, the node being in the first part.
+    First(&'a Row),
+    /// A split by a row, the node being in the second part.
+    Second(&'a Row),
+}
+
+/// The way from the root of a certificate down to a node, which goes down and back up: the defs and splits in their
+/// order, and the facts and floors that they give.
+#[derive(Drop)]
+pub struct Descent<'a> {
+    job: &'a Job,
+    path: Path,
+    above: List<Above<'a>>,
+    ghost sound: { IsTrue (are_sound (path_of above)) },
+    ghost facts: { path.facts ≡ facts job.now.range (path_of above) },
+    ghost floors: { path.floors ≡ floors_of (path_of above) },
+}
+
+impl<'a> Descent<'a> {
+    /// At the root of a certificate for a job.
+    pub fn new(alloc: Global, job: &'a Job) -> Result<Self, AllocError>
+        ensures job { IfOk result (λ descent. descent.job.now ≡ job.now) }
+        ensures above { IfOk result (λ descent. descent.above ≡ []) }
+    {
+        Ok(Descent {
+            job,
+            path: Path::new(alloc, job.range)?,
+            above: List::new(alloc),
+        })
+    }
+
+    /// The job.
+    pub fn job(&self) -> &'a Job
+        ensures { result.now ≡ self.now.job.now }
+    {
+        self.job
+    }
+
+    /// The facts and floors of the path.
+    pub fn path(&self) -> &Path
+        ensures facts { result.now.facts ≡ facts self.now.job.now.range (path_of self.now.above) }
+        ensures floors { result.now.floors ≡ floors_of (path_of self.now.above) }
+    {
+        &self.path
+    }
+
+    /// The defs and splits above, from the root down.
+    pub fn above(&self) -> &[Above<'a>]
+        ensures { result.now ≡ self.now.above }
+    {
+        self.above.as_slice()
+    }
+
+    /// How many variables are declared.
+    pub fn variables(&self) -> u32
+        requires { variables (path_of self.now.above) < 2 ^ 32 }
+        ensures { result ≡ variables (path_of self.now.above) }
+    {
+        self.path.floors.len() as u32 + 2
+    }
+
+    /// Goes below a well shaped def.
+    pub fn enter_def(&mut self, row: &'a Row, by: i128) -> Result<(), Mem>
+        requires shaped { IsTrue (is_shaped self.old.job.now.range (path_of self.old.above) (names row.now by)) }
+        requires room { variables (path_of self.old.above) < 2 ^ 32 }
+        ensures job { OnOk result (self.new.job.now ≡ self.old.job.now) }
+        ensures above { OnOk result (path_of self.new.above ≡ def row.now by ∷ path_of self.old.above) }
+    {
+        let variable = self.variables();
+        let floor = Floor {
+            row: row.clone()?,
+            by,
+        };
+        let count = self.above.len();
+        self.above.push(Above::Def(row, by))?;
+        match self.path.define(floor, variable) {
+            Ok(()) => Ok(()),
+            // The numbers of a well shaped def are from 0 to its divisor, so only memory can be wanting.
+            Err(_) => {
+                self.above.truncate(count);
+                Err(Mem)
+            }
+        }
+    }
+
+    /// Goes to the first part of a split by a row of declared variables.
+    pub fn enter_first(&mut self, row: &'a Row) -> Result<(), AllocError>
+        requires { IsTrue (is_declared (path_of self.old.above) row.now) }
+        ensures job { OnOk result (self.new.job.now ≡ self.old.job.now) }
+        ensures above { OnOk result (path_of self.new.above ≡ first row.now ∷ path_of self.old.above) }
+    {
+        let count = self.above.len();
+        self.above.push(Above::First(row))?;
+        match self.path.enter_first(row) {
+            Ok(()) => Ok(()),
+            Err(fault) => {
+                self.above.truncate(count);
+                Err(fault)
+            }
+        }
+    }
+
+    /// Goes to the second part of a split by a row of declared variables, whose denial is in `i128`.
+    pub fn enter_second(&mut self, row: &'a Row) -> Result<(), Mem>
+        requires declared { IsTrue (is_declared (path_of self.old.above) row.now) }
+        requires fits { IsTrue (form_fits (denied row.now)) }
+        ensures job { OnOk result (self.new.job.now ≡ self.old.job.now) }
+        ensures above { OnOk result (path_of self.new.above ≡ second row.now ∷ path_of self.old.above) }
+    {
+        let count = self.above.len();
+        self.above.push(Above::Second(row))?;
+        match self.path.enter_second(row) {
+            Ok(()) => Ok(()),
+            Err(RowFault::Mem) => {
+                self.above.truncate(count);
+                Err(Mem)
+            }
+            Err(RowFault::Coeff) => unreachable!(),
+        }
+    }
+
+    /// Goes back up from below a def.
+    pub fn leave_def(&mut self)
+        requires { IsTrue (is_below_def (path_of self.old.above)) }
+        ensures job { self.new.job.now ≡ self.old.job.now }
+        ensures above { path_of self.new.above ≡ outer_of (path_of self.old.above) }
+    {
+        self.above.truncate(self.above.len() - 1);
+        let facts = self.path.facts.len() - 2;
+        let floors = self.path.floors.len() - 1;
+        self.path.leave(facts, floors);
+    }
+
+    /// Goes back up from a part of a split.
+    pub fn leave_split(&mut self)
+        requires { IsTrue (is_below_split (path_of self.old.above)) }
+        ensures job { self.new.job.now ≡ self.old.job.now }
+        ensures above { path_of self.new.above ≡ outer_of (path_of self.old.above) }
+    {
+        self.above.truncate(self.above.len() - 1);
+        let facts = self.path.facts.len() - 1;
+        let floors = self.path.floors.len();
+        self.path.leave(facts, floors);
+    }
+}
