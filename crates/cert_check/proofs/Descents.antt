@@ -1,19 +1,16 @@
 -- The way down to a node with one step more or less.
-use Rattle.std.proofs.Common.{◌≡◌, ℕ, zero, suc, ◌+◌, ◌-◌, ◌<◌, ◌≤◌, ℤ, pos, negsuc, neg_ℤ, ◌+ℤ◌, ◌-ℤ◌, ◌*ℤ◌, ◌≤ℤ◌, ◌<ℤ◌, Bool, true, false, not, ◌&&◌, nat_lt, List, [], ◌∷◌, ◌++◌, length, take, refl, sym, ◌∙◌, ap, subst, arith, length-append, take_all, IsTrue}
-use Rattle.std.specs.List.{list_all, list_any}
+use Rattle.std.proofs.Common.{◌≡◌, ℕ, zero, suc, ◌-◌, ◌<◌, ◌≤◌, ℤ, pos, ◌<ℤ◌, Bool, true, false, not, ◌&&◌, List, [], ◌∷◌, ◌++◌, length, take, refl, sym, ◌∙◌, ap, arith, length-append, take_all}
+use Rattle.std.specs.List.{list_any}
 use Rattle.std.specs.Int.Signed.{lt_z}
 use Rattle.std.proofs.lemmas.Int.{ints}
 use Rattle.std.proofs.lemmas.Bool.{and_parts}
 use Rattle.viz_base.specs.declared.worlds.Rect.{Rect}
 use Rattle.lin_row.specs.Form.{Form, denied}
-use Rattle.lin_proof.specs.Derivations.{are_declared}
 use Rattle.cert_path.specs.Paths.{Step, def, first, second, Path, variables, is_declared, AreSound}
 use Rattle.cert_path.specs.Facts.{step_facts, facts}
-use Rattle.cert_path.specs.Nodes.{names, splits}
+use Rattle.cert_path.specs.Nodes.{names}
 use Rattle.cert_path.specs.Shapes.{has_variable, has_remainders, is_named, is_shaped}
-use Rattle.sym_calc.specs.declared.floors.Floor.{Floor}
 use Rattle.sym_calc.specs.Floors.{same_floor, floors_of}
-use Rattle.sym_calc.proofs.Along.{variables_of}
 use Rattle.sym_calc.proofs.Refuted.{named_is}
 use Rattle.cert_check.specs.declared.whole.descent.Above.{Above}
 use Rattle.cert_check.specs.declared.whole.descent.Above.TheVariants.{Def, First, Second}

@@ -1,7 +1,6 @@
 -- What is found at one world of a grid.
-use Rattle.std.proofs.Common.{◌≡◌, ℕ, Bool, true, false, List, Option, Some, None, refl, sym, ◌∙◌, ap}
+use Rattle.std.proofs.Common.{◌≡◌, ℕ, Bool, true, false, List, Option, Some, None, sym, ap}
 use Rattle.std.specs.Prelude.{is_some, is_none}
-use Rattle.viz_base.specs.declared.worlds.World.{World}
 use Rattle.cert_check.specs.declared.whole.descent.Above.{Above}
 use Rattle.cert_check.specs.steps.Walk.{unless_true}
 use Rattle.cert_check.specs.steps.Grids.{place_of, outside_at}

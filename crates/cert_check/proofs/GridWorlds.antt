@@ -1,6 +1,6 @@
 -- From the walk over the worlds of a grid to what holds at those of its path.
-use Rattle.std.proofs.Common.{◌≡◌, ℕ, ◌+◌, ◌-◌, ◌<◌, ◌≤◌, ℤ, pos, ◌≤ℤ◌, ◌<ℤ◌, Bool, true, false, List, [], ◌∷◌, Option, Some, None, refl, sym, ◌∙◌, ap, subst, arith, inl, inr, IsTrue}
-use Rattle.std.specs.Prelude.{◌⊎◌, is_some}
+use Rattle.std.proofs.Common.{◌≡◌, ℕ, ◌+◌, ◌-◌, ◌<◌, pos, ◌≤ℤ◌, ◌<ℤ◌, Bool, true, false, List, [], ◌∷◌, Option, Some, None, refl, sym, ◌∙◌, ap, subst, arith, inl, inr}
+use Rattle.std.specs.Prelude.{is_some}
 use Rattle.std.proofs.lemmas.Option.{same_Some}
 use Rattle.viz_base.specs.declared.worlds.World.{World}
 use Rattle.viz_base.specs.declared.worlds.Axis.{Axis}
@@ -14,7 +14,6 @@ use Rattle.cert_path.specs.Rectangles.{rectangle}
 use Rattle.cert_path.specs.Laws.{IsInside, IsUnit, UnitsAreTaken}
 use Rattle.cert_path.proofs.Sides.{rectangle_is_units}
 use Rattle.cert_check.specs.declared.whole.descent.Above.{Above}
-use Rattle.cert_check.specs.Laws.{IsUnitRow}
 use Rattle.cert_check.specs.Paths.{variable_of}
 use Rattle.cert_check.specs.Rectangles.{is_unit}
 use Rattle.cert_check.specs.Right.{is_true_at}

@@ -1,5 +1,5 @@
 -- From a calc over which a leaf was laid out to the verdict on the leaf.
-use Rattle.std.proofs.Common.{◌≡◌, ℕ, ◌-◌, ◌<◌, ◌≤◌, Bool, true, false, not, List, ◌++◌, length, take, Option, Some, None, Result, Ok, Err, ℤ, inl, inr, refl, sym, ◌∙◌, ap, subst, arith, append-nil, take_all, IsTrue}
+use Rattle.std.proofs.Common.{◌≡◌, ℕ, ◌-◌, ◌<◌, ◌≤◌, Bool, true, false, not, List, length, take, Option, Some, None, Result, Ok, Err, ℤ, inl, inr, refl, sym, ◌∙◌, ap, subst, arith, take_all, IsTrue}
 use Rattle.std.specs.Prelude.{slice_get, IfErr}
 use Rattle.std.specs.Option.{option_map_or}
 use Rattle.std.proofs.lemmas.Bool.{and_parts}
@@ -119,9 +119,7 @@ module _ (job : Job) (old new : Sym) (grows : Grows (state_of old) (state_of new
     throughout : (wanted : Bool) → ((e : Reading) → IsTrue ((state_of new).is_open e) → wanted ≡ is_true_at job e.world) → IsThroughout job path wanted
     throughout wanted value world in_range on_path =
         let met = (kept_are_those job.range path over.sound world).1 (in_range, on_path) in
-        let old_facts : facts_of old ≡ facts job.range path = (λ i. over.facts_are i ++ over.no_rows i) ∙ append-nil (facts job.range path) in
-        let old_floors : named_of old ≡ floors_of path = (λ i. over.floors_are i ++ over.no_floors i) ∙ append-nil (floors_of path) in
-        let kept_old : are_met (facts_of old) (values_by (named_of old) world) ≡ true = (λ i. are_met (old_facts i) (values_by (old_floors i) world)) ∙ met in
+        let kept_old : are_met (facts_of old) (values_by (named_of old) world) ≡ true = over.kept world ∙ met in
         let kept_new : are_met (facts_of new) (values_by (named_of new) world) ≡ true = ap (λ (k : Kept). k.worlds world) grows.kept ∙ kept_old in
         sym (value (reading_by (named_of new) world) (kept_is_open (facts_of new) (named_of new) world kept_new))
 

@@ -1,12 +1,11 @@
 -- The part of the range that unit splits leave, and the sides that the rectangle of a path has.
-use Rattle.std.proofs.Common.{◌≡◌, ℕ, zero, suc, ◌+◌, ◌-◌, ◌*◌, ◌<◌, ◌≤◌, ◌==◌, ℤ, pos, negsuc, neg_ℤ, ◌+ℤ◌, ◌-ℤ◌, ◌≤ℤ◌, ◌<ℤ◌, Bool, true, false, cond, nat_lt, nat_le, [], ◌∷◌, min, max, Option, Some, None, inl, inr, refl, sym, ◌∙◌, ap, subst, arith}
+use Rattle.std.proofs.Common.{◌≡◌, ℕ, ◌+◌, ◌*◌, ◌<◌, ◌≤◌, ◌==◌, ℤ, pos, negsuc, neg_ℤ, ◌+ℤ◌, ◌-ℤ◌, ◌≤ℤ◌, ◌<ℤ◌, Bool, true, false, cond, nat_lt, nat_le, [], ◌∷◌, min, max, Option, Some, None, inl, inr, refl, sym, ◌∙◌, ap, subst, arith}
 use Rattle.std.specs.Prelude.{◌⊎◌}
 use Rattle.std.specs.Ordering.{int_eq}
 use Rattle.std.specs.Option.{option_map, option_and_then}
 use Rattle.std.specs.Int.{int_gap, int_max, int_min}
 use Rattle.std.proofs.lemmas.Int.{ints, int_max_is, int_min_is}
 use Rattle.std.proofs.lemmas.Bool.Decides.{nat_tests, Decides-int_eq}
-use Rattle.std.proofs.lemmas.Option.{same_Some}
 use Rattle.viz_base.specs.declared.worlds.World.{World}
 use Rattle.viz_base.specs.declared.worlds.Axis.{Axis}
 use Rattle.viz_base.specs.declared.worlds.Axis.TheVariants.{Width, Size}
@@ -21,8 +20,7 @@ use Rattle.cert_check.specs.declared.cuts.Child.{Child}
 use Rattle.cert_check.specs.declared.cuts.Child.TheVariants.{First, Second}
 use Rattle.cert_check.specs.declared.cuts.Cut.{Cut}
 use Rattle.cert_check.specs.declared.cuts.Opens.TheVariants.{Above, UpTo}
-use Rattle.cert_check.specs.Paths.{axis_of}
-use Rattle.cert_check.specs.Rectangles.{coefficient_cut, terms_cut, cut_of, at_most, above, cut_side, toward, part_of, cut_at}
+use Rattle.cert_check.specs.Rectangles.{coefficient_cut, terms_cut, cut_of, at_most, above, cut_side, toward, cut_at}
 use Rattle.cert_check.specs.Rectangles.{world_count as count_of}
 use Rattle.cert_check.specs.Laws.{IsProper}
 use Rattle.cert_check.specs.steps.Grids.{IsPart}

@@ -1,6 +1,7 @@
 -- What the verdict on a leaf says.
-use Rattle.std.specs.Prelude.{◌≡◌, ◌≢◌, ℕ, ◌<◌, ◌≤◌, ◌-◌, false, List, [], length, take, Option, Some, None, slice_get}
+use Rattle.std.specs.Prelude.{◌≡◌, ◌≢◌, ℕ, ◌<◌, ◌≤◌, ◌-◌, false, List, length, take, Option, Some, None, slice_get}
 use Rattle.viz_base.specs.declared.worlds.Rect.{Rect}
+use Rattle.viz_base.specs.declared.worlds.World.{World}
 use Rattle.viz_base.specs.declared.jobs.Job.{Job}
 use Rattle.viz_calc.specs.State.{Rose}
 use Rattle.lin_row.specs.Form.{Form}
@@ -11,7 +12,9 @@ use Rattle.cert_path.specs.Derived.{AreRefuted}
 use Rattle.sym_calc.specs.declared.sym.Sym.{Sym}
 use Rattle.sym_calc.specs.declared.troubles.Trouble.{Trouble}
 use Rattle.sym_calc.specs.declared.troubles.Trouble.TheVariants as of_trouble
-use Rattle.sym_calc.specs.Floors.{floors_of}
+use Rattle.sym_calc.specs.Calc.{state_of}
+use Rattle.sym_calc.specs.Floors.{floors_of, values_by}
+use Rattle.sym_calc.specs.Knowledge.{are_met}
 use Rattle.sym_calc.specs.Laws.{IsFaultBelow}
 use Rattle.cert_check.specs.declared.whole.verdicts.Verdict.{Verdict}
 use Rattle.cert_check.specs.declared.whole.verdicts.Verdict.TheVariants.{Accepted, Rejected}
@@ -19,13 +22,12 @@ use Rattle.cert_check.specs.declared.whole.verdicts.Reject.{Reject}
 use Rattle.cert_check.specs.declared.whole.verdicts.Reject.TheVariants.{OtherJob, Shape, Line, Untrue, Unmet, Differs, Short, Left, Coeff}
 use Rattle.cert_check.specs.whole.Truths.{IsThroughout, IsTrueOn}
 
--- the calc stands over this path of a range, and has named no floor yet
+-- the calc stands over this path of a range, and keeps its worlds
 pub record StandsOver (range : Rect) (path : Path) (s : Sym) : Type 0 where
   pub sound : AreSound path
   pub facts_are : s.path.now.facts ≡ facts range path
   pub floors_are : s.path.now.floors ≡ floors_of path
-  pub no_rows : s.rows ≡ []
-  pub no_floors : s.floors ≡ []
+  pub kept : (world : World) → (state_of s).kept.worlds world ≡ are_met (facts range path) (values_by (floors_of path) world)
 
 -- ---- causes
 

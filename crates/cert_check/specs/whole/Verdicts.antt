@@ -16,7 +16,7 @@ use Rattle.cert_path.specs.Laws.{IsInside}
 use Rattle.cert_check.specs.declared.whole.verdicts.Verdict.{Verdict}
 use Rattle.cert_check.specs.declared.whole.verdicts.Verdict.TheVariants.{Accepted, Rejected}
 use Rattle.cert_check.specs.declared.whole.verdicts.Reject.{Reject}
-use Rattle.cert_check.specs.declared.whole.verdicts.Reject.TheVariants.{OtherJob, Shape, Line, Untrue, Unmet, Differs, Short, Left, Coeff}
+use Rattle.cert_check.specs.declared.whole.verdicts.Reject.TheVariants.{OtherJob, Shape, Line, Untrue, Coeff}
 use Rattle.cert_check.specs.Right.{is_true_at, Holds}
 use Rattle.cert_check.specs.Verdicts.{IsBefore}
 use Rattle.cert_check.specs.whole.Numbers.{are_computed, IsComputed}

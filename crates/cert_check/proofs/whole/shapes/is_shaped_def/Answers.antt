@@ -1,4 +1,4 @@
-use Rattle.std.proofs.Common.{◌≡◌, ◌∙◌, Bool, true, false, not, ◌&&◌, pos, Option, Some, None, refl, sym, ap, rules, FitsSigned, to_z-of_z}
+use Rattle.std.proofs.Common.{◌≡◌, ◌∙◌, true, not, ◌&&◌, pos, Option, Some, None, refl, sym, rules, FitsSigned, to_z-of_z}
 use Rattle.std.specs.Prelude.{is_some, is_none}
 use Rattle.std.specs.Int.{w128}
 use Rattle.std.specs.Int.Signed.{lt_z}

@@ -1,4 +1,4 @@
-use Rattle.std.proofs.Common.{◌≡◌, ◌+◌, ◌∙◌, ◌∷◌, ◌++◌, [], true, ◌&&◌, length, sym, ap, subst, arith, rules, FitsSigned, to_z-of_z}
+use Rattle.std.proofs.Common.{◌≡◌, ◌∙◌, ◌∷◌, ◌++◌, [], true, ◌&&◌, length, sym, ap, subst, arith, rules, FitsSigned, to_z-of_z}
 use Rattle.std.specs.Int.{w128}
 use Rattle.std.specs.List.{list_any}
 use Rattle.cert_path.specs.Paths.{def}

@@ -1,10 +1,10 @@
-use Rattle.std.proofs.Common.{◌≡◌, ◌∙◌, ◌+◌, ◌-◌, ◌∷◌, ◌++◌, [], true, ◌&&◌, length, take, take_all, sym, ap, subst, arith}
+use Rattle.std.proofs.Common.{◌≡◌, ◌∙◌, ◌∷◌, ◌++◌, [], true, ◌&&◌, sym, ap, subst}
 use Rattle.lin_row.specs.Form.{denied}
 use Rattle.cert_path.specs.Facts.{facts}
 use Rattle.sym_calc.specs.Floors.{floors_of}
-use Rattle.cert_check.specs.declared.whole.descent.Above.TheVariants.{First, Second}
-use Rattle.cert_check.specs.steps.Descent.{path_of, are_sound, outer_of}
-use Rattle.cert_check.proofs.Descents.{after_push, left_def, left_split}
+use Rattle.cert_check.specs.declared.whole.descent.Above.TheVariants.{Second}
+use Rattle.cert_check.specs.steps.Descent.{are_sound}
+use Rattle.cert_check.proofs.Descents.{after_push}
 use Rattle.cert_check.proofs.whole.descent.Descent.enter_second.Goals as goal
 
 pub invariant_of-self-in-Ok : goal.invariant_of-self-in-Ok

@@ -1,10 +1,8 @@
-use Rattle.std.proofs.Common.{◌≡◌, ◌∙◌, ◌+◌, ◌-◌, ◌∷◌, ◌++◌, [], true, ◌&&◌, length, take, take_all, sym, ap, subst, arith}
-use Rattle.lin_row.specs.Form.{denied}
+use Rattle.std.proofs.Common.{◌≡◌, ◌∙◌, ◌-◌, true, length, take, sym, ap, subst}
 use Rattle.cert_path.specs.Facts.{facts}
 use Rattle.sym_calc.specs.Floors.{floors_of}
-use Rattle.cert_check.specs.declared.whole.descent.Above.TheVariants.{First, Second}
 use Rattle.cert_check.specs.steps.Descent.{path_of, are_sound, outer_of}
-use Rattle.cert_check.proofs.Descents.{after_push, left_def, left_split}
+use Rattle.cert_check.proofs.Descents.{left_def}
 use Rattle.cert_check.proofs.whole.descent.Descent.leave_def.Goals as goal
 
 pub invariant_of-self : goal.invariant_of-self

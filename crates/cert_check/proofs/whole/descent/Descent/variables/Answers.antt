@@ -1,4 +1,4 @@
-use Rattle.std.proofs.Common.{◌≡◌, length, ap, arith}
+use Rattle.std.proofs.Common.{length, ap, arith}
 use Rattle.sym_calc.proofs.Along.{variables_of}
 use Rattle.cert_check.specs.steps.Descent.{path_of}
 use Rattle.cert_check.proofs.whole.descent.Descent.variables.Goals as goal
