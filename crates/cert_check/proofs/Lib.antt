@@ -12,3 +12,5 @@ pub mod Places
 pub mod PartSides
 pub mod GridWorlds
 pub mod GridSteps
+pub mod Judging
+pub mod Tellings

@@ -1,0 +1,291 @@
+ghost use Rattle.std.specs.Prelude.{◌≡◌, ◌+◌, ◌<◌, ◌≤◌, ◌^◌, ◌∷◌, IsTrue, IfOk, IfSome, OnOk};
+ghost use Rattle.std.specs.Option.{option_and_then};
+ghost use Rattle.lay_flow.specs.BlockPages.{ready};
+ghost use Rattle.lin_row.specs.Form.{denied, form_fits};
+ghost use Rattle.cert_path.specs.Nodes.{names, splits, is_empty, by_worlds, by_answers, node_on, nodes_from};
+ghost use Rattle.cert_path.specs.Paths.{def, first, second, is_declared, variables};
+ghost use Rattle.cert_path.specs.Rectangles.{rectangle};
+ghost use Rattle.cert_path.specs.Shapes.{is_shaped};
+ghost use Rattle.cert_check.specs.Rectangles.{IsWithin, cut_of, cut_at};
+ghost use Rattle.cert_check.specs.steps.Descent.{path_of};
+ghost use Rattle.cert_check.specs.steps.Grids.{IsPart};
+ghost use Rattle.cert_check.specs.steps.Tells.{Judges, Tells, node_count};
+
+use crate::cuts::{Child, cut_of, part_of, world_count};
+use crate::whole::descent::Descent;
+use crate::whole::leaf::check_leaf;
+use crate::whole::shapes::{has_denial, is_shaped_def, is_shaped_split};
+use crate::whole::verdicts::{Reject, Verdict};
+use crate::whole::worlds::{first_outside, first_untrue};
+use cert_text::full::CertNode;
+use lin_proof::{Answer, Derivation, Facts, first_fault_among, line_count};
+use lin_row::Row;
+use std::alloc::{AllocError, Global};
+use sym_calc::Sym;
+use viz_base::{Mem, Rect};
+
+/// Why the walk stops.
+#[derive(Drop)]
+pub enum Stop {
+    Mem,
+    Rejected(Reject),
+}
+
+impl From<Mem> for Stop {
+    ghost use Rattle.std.specs.Prelude.{◌≡◌};
+    ghost use Rattle.cert_check.specs.declared.whole.walk.Stop.TheVariants.{Mem};
+
+    ghost from_gives = { λ _ stop. stop ≡ Mem };
+
+    fn from(_: Mem) -> Self {
+        Stop::Mem
+    }
+}
+
+impl From<AllocError> for Stop {
+    ghost use Rattle.std.specs.Prelude.{◌≡◌};
+    ghost use Rattle.cert_check.specs.declared.whole.walk.Stop.TheVariants.{Mem};
+
+    ghost from_gives = { λ _ stop. stop ≡ Mem };
+
+    fn from(_: AllocError) -> Self {
+        Stop::Mem
+    }
+}
+
+/// The part of a part that lies under a child of a split, which only a unit split cuts.
+fn child_part(row: &Row, child: Child, part: Option<Rect>) -> Option<Rect>
+    ensures { result ≡ option_and_then (cut_at (cut_of row.now) child) part }
+{
+    match cut_of(row) {
+        Some(cut) => part_of(cut, child, part?),
+        None => part,
+    }
+}
+
+#[tactic(auto, using(crate::proofs::Judging::judged_mem))]
+/// Whether a def is well shaped.
+fn check_def(descent: &Descent<'_>, number: u32, row: &Row, by: i128) -> Result<(), Stop>
+    requires { variables (path_of descent.now.above) < 2 ^ 32 }
+    ensures { Judges descent.now.job.now (node_on (path_of descent.now.above) (names row.now by)) number result }
+{
+    if is_shaped_def(descent, row, by)? {
+        Ok(())
+    } else {
+        Err(Stop::Rejected(Reject::Shape(number)))
+    }
+}
+
+#[tactic(auto, using(crate::proofs::Judging::judged_mem))]
+/// Whether a split is well shaped, and its denial in `i128`.
+fn check_split(descent: &Descent<'_>, number: u32, row: &Row) -> Result<(), Stop>
+    requires { variables (path_of descent.now.above) < 2 ^ 32 }
+    ensures { Judges descent.now.job.now (node_on (path_of descent.now.above) (splits row.now)) number result }
+{
+    if !is_shaped_split(descent, row) {
+        return Err(Stop::Rejected(Reject::Shape(number)));
+    }
+    if has_denial(row)? {
+        Ok(())
+    } else {
+        Err(Stop::Rejected(Reject::Coeff(number)))
+    }
+}
+
+#[tactic(auto, using(crate::proofs::Judging::judged_mem))]
+/// Whether a void's derivation refutes the facts of its path.
+fn check_void(
+    alloc: Global,
+    descent: &Descent<'_>,
+    number: u32,
+    why: &Derivation,
+) -> Result<(), Stop>
+    requires { variables (path_of descent.now.above) < 2 ^ 32 }
+    ensures { Judges descent.now.job.now (node_on (path_of descent.now.above) (is_empty why.now)) number result }
+{
+    if line_count(why).is_none() {
+        return Err(Stop::Mem);
+    }
+    let facts = Facts {
+        first: descent.path().facts.as_slice(),
+        later: &[],
+    };
+    match first_fault_among(alloc, facts, descent.variables(), why)? {
+        None => Ok(()),
+        Some(line) => Err(Stop::Rejected(Reject::Line(number, 0, line))),
+    }
+}
+
+#[tactic(auto, using(crate::proofs::Judging::judged_mem))]
+/// Goes through the worlds of a grid: those of its part that are on its path.
+fn check_grid(
+    alloc: Global,
+    descent: &Descent<'_>,
+    number: u32,
+    part: Option<Rect>,
+) -> Result<(), Stop>
+    requires ready { IsTrue (ready descent.now.job.now.tree) }
+    requires part { IsPart part (rectangle descent.now.job.now.range (path_of descent.now.above)) }
+    requires within { IfSome part (IsWithin descent.now.job.now.range) }
+    ensures { Judges descent.now.job.now (node_on (path_of descent.now.above) by_worlds) number result }
+{
+    let Some(rect) = part else {
+        return Ok(());
+    };
+    if world_count(rect) > 64 {
+        return Err(Stop::Rejected(Reject::Shape(number)));
+    }
+    if first_outside(alloc, descent.above(), rect)?.is_some() {
+        return Err(Stop::Rejected(Reject::Coeff(number)));
+    }
+    match first_untrue(alloc, descent.job(), descent.above(), rect)? {
+        Some(world) => Err(Stop::Rejected(Reject::Untrue(number, world))),
+        None => Ok(()),
+    }
+}
+
+#[tactic(auto, using(crate::proofs::Judging::judged_mem))]
+/// Lays out a leaf's page by its answers.
+fn check_answers(
+    alloc: Global,
+    descent: &Descent<'_>,
+    number: u32,
+    answers: &[Answer],
+) -> Result<(), Stop>
+    requires ready { IsTrue (ready descent.now.job.now.tree) }
+    requires few { variables (path_of descent.now.above) < 2 ^ 32 }
+    ensures { Judges descent.now.job.now (node_on (path_of descent.now.above) (by_answers answers.now)) number result }
+{
+    let mut sym = Sym::new(descent.path(), answers);
+    match check_leaf(alloc, descent.job(), number, &mut sym)? {
+        Verdict::Accepted => Ok(()),
+        Verdict::Rejected(reject) => Err(Stop::Rejected(reject)),
+    }
+}
+
+/// Goes through a node and all below it, in preorder, and gives the number of the node after them.
+#[cycle(nodes)]
+pub fn check_node<'a>(
+    alloc: Global,
+    descent: &mut Descent<'a>,
+    node: &'a CertNode,
+    number: u32,
+    part: Option<Rect>,
+) -> Result<u32, Stop>
+    requires ready { IsTrue (ready descent.old.job.now.tree) }
+    requires few { number + node_count node.now + 2 < 2 ^ 32 }
+    requires variables { variables (path_of descent.old.above) ≤ number + 2 }
+    requires part { IsPart part (rectangle descent.old.job.now.range (path_of descent.old.above)) }
+    requires within { IfSome part (IsWithin descent.old.job.now.range) }
+    ensures tells { Tells descent.old.job.now (nodes_from node.now (path_of descent.old.above)) number result }
+    ensures next { IfOk result (λ next. next ≡ number + node_count node.now) }
+    ensures job { OnOk result (descent.new.job.now ≡ descent.old.job.now) }
+    ensures above { OnOk result (path_of descent.new.above ≡ path_of descent.old.above) }
+{
+    match node {
+        CertNode::Def(row, by, below) => {
+            check_def(descent, number, row, *by)?;
+            check_below(alloc, descent, row, *by, below.get(), number + 1, part)
+        }
+        CertNode::Split(row, first, second) => {
+            check_split(descent, number, row)?;
+            let next = check_first(alloc, descent, row, first.get(), number + 1, part)?;
+            check_second(alloc, descent, row, second.get(), next, part)
+        }
+        CertNode::Void(why) => {
+            check_void(alloc, descent, number, why)?;
+            Ok(number + 1)
+        }
+        CertNode::Grid => {
+            check_grid(alloc, descent, number, part)?;
+            Ok(number + 1)
+        }
+        CertNode::Leaf(answers) => {
+            check_answers(alloc, descent, number, answers.as_slice())?;
+            Ok(number + 1)
+        }
+    }
+}
+
+/// Goes through what is below a well shaped def.
+#[cycle(nodes)]
+fn check_below<'a>(
+    alloc: Global,
+    descent: &mut Descent<'a>,
+    row: &'a Row,
+    by: i128,
+    node: &'a CertNode,
+    number: u32,
+    part: Option<Rect>,
+) -> Result<u32, Stop>
+    requires ready { IsTrue (ready descent.old.job.now.tree) }
+    requires few { number + node_count node.now + 2 < 2 ^ 32 }
+    requires variables { variables (path_of descent.old.above) + 1 ≤ number + 2 }
+    requires shaped { IsTrue (is_shaped descent.old.job.now.range (path_of descent.old.above) (names row.now by)) }
+    requires part { IsPart part (rectangle descent.old.job.now.range (path_of descent.old.above)) }
+    requires within { IfSome part (IsWithin descent.old.job.now.range) }
+    ensures tells { Tells descent.old.job.now (nodes_from node.now (def row.now by ∷ path_of descent.old.above)) number result }
+    ensures next { IfOk result (λ next. next ≡ number + node_count node.now) }
+    ensures job { OnOk result (descent.new.job.now ≡ descent.old.job.now) }
+    ensures above { OnOk result (path_of descent.new.above ≡ path_of descent.old.above) }
+{
+    descent.enter_def(row, by)?;
+    let next = check_node(alloc, descent, node, number, part)?;
+    descent.leave_def();
+    Ok(next)
+}
+
+/// Goes through the first part of a split.
+#[cycle(nodes)]
+fn check_first<'a>(
+    alloc: Global,
+    descent: &mut Descent<'a>,
+    row: &'a Row,
+    node: &'a CertNode,
+    number: u32,
+    part: Option<Rect>,
+) -> Result<u32, Stop>
+    requires ready { IsTrue (ready descent.old.job.now.tree) }
+    requires few { number + node_count node.now + 2 < 2 ^ 32 }
+    requires variables { variables (path_of descent.old.above) ≤ number + 2 }
+    requires declared { IsTrue (is_declared (path_of descent.old.above) row.now) }
+    requires part { IsPart part (rectangle descent.old.job.now.range (path_of descent.old.above)) }
+    requires within { IfSome part (IsWithin descent.old.job.now.range) }
+    ensures tells { Tells descent.old.job.now (nodes_from node.now (first row.now ∷ path_of descent.old.above)) number result }
+    ensures next { IfOk result (λ next. next ≡ number + node_count node.now) }
+    ensures job { OnOk result (descent.new.job.now ≡ descent.old.job.now) }
+    ensures above { OnOk result (path_of descent.new.above ≡ path_of descent.old.above) }
+{
+    descent.enter_first(row)?;
+    let next = check_node(alloc, descent, node, number, child_part(row, Child::First, part))?;
+    descent.leave_split();
+    Ok(next)
+}
+
+/// Goes through the second part of a split.
+#[cycle(nodes)]
+fn check_second<'a>(
+    alloc: Global,
+    descent: &mut Descent<'a>,
+    row: &'a Row,
+    node: &'a CertNode,
+    number: u32,
+    part: Option<Rect>,
+) -> Result<u32, Stop>
+    requires ready { IsTrue (ready descent.old.job.now.tree) }
+    requires few { number + node_count node.now + 2 < 2 ^ 32 }
+    requires variables { variables (path_of descent.old.above) ≤ number + 2 }
+    requires declared { IsTrue (is_declared (path_of descent.old.above) row.now) }
+    requires fits { IsTrue (form_fits (denied row.now)) }
+    requires part { IsPart part (rectangle descent.old.job.now.range (path_of descent.old.above)) }
+    requires within { IfSome part (IsWithin descent.old.job.now.range) }
+    ensures tells { Tells descent.old.job.now (nodes_from node.now (second row.now ∷ path_of descent.old.above)) number result }
+    ensures next { IfOk result (λ next. next ≡ number + node_count node.now) }
+    ensures job { OnOk result (descent.new.job.now ≡ descent.old.job.now) }
+    ensures above { OnOk result (path_of descent.new.above ≡ path_of descent.old.above) }
+{
+    descent.enter_second(row)?;
+    let next = check_node(alloc, descent, node, number, child_part(row, Child::Second, part))?;
+    descent.leave_split();
+    Ok(next)
+}
