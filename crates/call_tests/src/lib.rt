@@ -38,7 +38,6 @@ mod raw_jobs;
 #[cfg(test)]
 mod row_sums;
 #[cfg(test)]
-#[cfg(test)]
 mod searched_proofs;
 #[cfg(test)]
 mod selector_texts;

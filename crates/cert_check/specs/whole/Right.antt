@@ -33,8 +33,6 @@ pub record Right (job : Job) (cert : Cert) : Type 0 where
   pub digest : cert.job ≡ job.digest
   pub nodes : (n : ℕ) (node : Node) → slice_get (nodes_of cert) n ≡ Some node → IsRightNode job node
 
--- ---- what is computed of it
-
 -- ---- good nodes: those at which the checker goes on
 
 abbrev pub DecidesWell : Job → Path → Decision → Type 0
