@@ -5,6 +5,7 @@ use Rattle.std.proofs.lemmas.Str.{chars-nil}
 use Rattle.viz_base.specs.declared.nodes.Body.TheVariants as of_body
 use Rattle.viz_base.specs.declared.nodes.Element.{Element}
 use Rattle.viz_base.specs.declared.nodes.Node.{Node}
+use Rattle.viz_base.specs.Orders.{IsInOrder}
 use Rattle.viz_base.specs.Pages.{IsPage, has_lower_names, parent_fits, text_of}
 
 abbrev pub root : Element → Node
@@ -21,10 +22,15 @@ only e (suc at) n is = absurd (none_past at n is)
 few_letters : length (chars []) ≤ 262144
 few_letters = rw chars-nil (lit≤ tt)
 
+none_apart : IsInOrder (None ∷ [])
+none_apart at between zero parent e f after before = cc
+none_apart at between (suc child) parent e f after before = absurd (none_past child (Some at) e)
+
 pub one_node : (e : Element) → IsTrue (has_lower_names (of_body.Element e)) → IsPage (root e ∷ [])
 one_node e lower = record {
   root = refl;
   parents = λ at n is. let h = only e at n is in subst (λ m. IsTrue (parent_fits (root e ∷ []) at m.parent)) h.1 (rw h.0 refl);
+  in_order = none_apart;
   texts = λ at n is. let h = only e at n is in subst (λ m. length (chars (text_of m.body)) ≤ 262144) h.1 few_letters;
   names = λ at n is. subst (λ m. IsTrue (has_lower_names m.body)) (only e at n is).1 lower;
 }

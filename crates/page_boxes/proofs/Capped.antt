@@ -1,5 +1,5 @@
 -- Numbers up to the most, and sums of them: what is past stays past.
-use Rattle.std.proofs.Common.{◌≡◌, ℕ, zero, suc, ◌+◌, ◌*◌, ◌<◌, ◌≤◌, nat_le, Bool, true, false, refl, sym, ◌∙◌, ap, arith, if◌then◌else◌, inl, inr, ◌⊎◌, leb-true, leb-false, le-leb}
+use Rattle.std.proofs.Common.{◌≡◌, ℕ, zero, suc, ◌+◌, ◌*◌, ◌<◌, ◌≤◌, nat_le, Bool, true, false, refl, ◌∙◌, ap, arith, if◌then◌else◌, inl, inr, ◌⊎◌, leb-true, leb-false, le-leb}
 use Rattle.page_boxes.specs.steps.Extents.{capped, most}
 
 pub capped_within : (n : ℕ) → n ≤ most → capped n ≡ n

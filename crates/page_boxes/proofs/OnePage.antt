@@ -1,5 +1,5 @@
 -- A page of one element.
-use Rattle.std.proofs.Common.{◌≡◌, ℕ, ◌≤◌, zero, suc, [], ◌∷◌, length, Some, None, slice_get, refl, subst, lit≤, IsTrue}
+use Rattle.std.proofs.Common.{◌≡◌, ℕ, ◌≤◌, zero, suc, [], ◌∷◌, length, Some, None, slice_get, refl, subst, arith, lit≤, IsTrue}
 use Rattle.std.specs.Str.{chars}
 use Rattle.std.proofs.lemmas.Str.{chars-nil}
 use Rattle.viz_base.specs.Pages.{IsPage, has_lower_names, parent_fits, text_of}
@@ -25,6 +25,7 @@ pub one_node : (e : Element) → IsTrue (has_lower_names (of_body.Element e)) �
 one_node e lower = record {
   root = refl;
   parents = λ at n is. let h = only (root e) at n is in subst (λ m. IsTrue (parent_fits (root e ∷ []) at m.parent)) h.1 (rw h.0 refl);
+  in_order = λ at between child parent e f after before. let h = (only None between parent f).0 in absurd (omega (arith, h, after));
   texts = λ at n is. let h = only (root e) at n is in subst (λ m. length (chars (text_of m.body)) ≤ 262144) h.1 few_letters;
   names = λ at n is. subst (λ m. IsTrue (has_lower_names m.body)) (only (root e) at n is).1 lower;
 }

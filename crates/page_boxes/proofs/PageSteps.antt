@@ -27,7 +27,7 @@ use Rattle.page_boxes.proofs.SpaceSteps.{Fits, HasText, spaces_walk_is}
 
 -- ---- the root
 
-root_kind : (body : Body) (s : Style) → is_inline (kind_of_node true body s) ≡ false
+pub root_kind : (body : Body) (s : Style) → is_inline (kind_of_node true body s) ≡ false
 root_kind body s = by_replaced (is_replaced body)
   where
     by_replaced : (t : Bool) → is_inline (if t then of_kind.Replaced else of_kind.Block) ≡ false

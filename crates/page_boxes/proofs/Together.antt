@@ -1,6 +1,6 @@
 -- What the parts of the code come to together.
 use Rattle.std.proofs.lemmas.List.{length-replicate, get_or-replicate}
-use Rattle.std.proofs.Common.{◌≡◌, ℕ, suc, ◌+◌, ◌==◌, ◌<◌, ◌≤◌, nat_lt, Bool, true, false, List, [], ◌∷◌, find, map, zip, length, replicate, get_or, Option, Some, None, Ok, Err, option_map, option_and_then, slice_get, refl, sym, ◌∙◌, ap, subst, arith, eqb-true, ltb-true}
+use Rattle.std.proofs.Common.{◌≡◌, ℕ, suc, ◌+◌, ◌<◌, ◌≤◌, nat_lt, Bool, true, false, List, [], ◌∷◌, map, zip, length, replicate, get_or, Option, Some, None, Ok, Err, option_map, slice_get, refl, sym, ◌∙◌, ap, subst, arith, ltb-true}
 use Rattle.std.specs.List.{enumerate_from}
 use Rattle.std.proofs.lemmas.Option.{slice_get_within, slice_get-map, get_or_from_slice_get}
 use Rattle.viz_base.specs.Answers.{FailsWith}
@@ -10,24 +10,24 @@ use Rattle.viz_base.specs.declared.fonts.Font.{Font}
 use Rattle.viz_base.specs.declared.nodes.Node.{Node}
 use Rattle.viz_base.specs.declared.styles.Style.{Style}
 use Rattle.viz_base.specs.declared.trees.BoxNode.{BoxNode}
-use Rattle.layout_semantics.specs.BoxTrees.{Item, first_of, has_node, items_of, nodes_of, page_boxes, page_parts, parts_in, run_around, tree_parents, tree_style_of, tree_styles, viewport_clip, wrapped_in}
+use Rattle.layout_semantics.specs.BoxTrees.{Item, first_of, items_of, page_boxes, page_parts, run_around, tree_parents, tree_style_of, tree_styles, viewport_clip}
 use Rattle.layout_semantics.specs.Parts.{Part, shown_parts}
 use Rattle.viz_base.specs.Reaches.{beyond_reach}
 use Rattle.layout_semantics.specs.Refusals.{BoxRefusal, blocks_in_inlines, first_refusal, page_refusal, right_to_left_letters}
 use Rattle.layout_semantics.specs.WhiteSpace.{collapsed}
 use Rattle.layout_laws.specs.Styled.{AreStylesOf}
-use Rattle.layout_laws.proofs.Members.{In, Rises, any_in, from_map}
+use Rattle.layout_laws.proofs.Members.{In, Rises, from_map}
 use Rattle.layout_laws.proofs.Places.{node_of}
-use Rattle.layout_laws.proofs.Runs.{found_in}
 use Rattle.layout_laws.proofs.PageParts.{from_page, page_rises}
 use Rattle.layout_laws.proofs.BoxFacts.{item_known}
 use Rattle.layout_laws.proofs.BoxLaws.{page_arranged}
-use Rattle.layout_laws.proofs.TreeFacts.{box_tree, length_enumerated, length_mapped}
+use Rattle.layout_laws.proofs.TreeFacts.{length_enumerated, length_mapped}
 use Rattle.page_boxes.specs.Trees.{IfNamed, page_tree, unless_refused}
 use Rattle.page_boxes.specs.steps.Leads.{ahead_of, leads_walk, with_blocks}
 use Rattle.page_boxes.specs.steps.Places.{count_walk, places_walk, with_all}
 use Rattle.page_boxes.specs.steps.Refusing.{block_in, inline_nodes}
 use Rattle.page_boxes.specs.steps.Extents.{far_of, sizes_walk}
+use Rattle.page_boxes.proofs.DocumentOrder.{in_run, tree_of_page}
 use Rattle.page_boxes.proofs.PageReach.{page_known}
 use Rattle.page_boxes.proofs.ReachSteps.{far_is}
 use Rattle.page_boxes.proofs.KidSteps.{built}
@@ -113,23 +113,6 @@ module _ (nodes : List Node) (styles : List Style) (page : IsPage nodes) where
   pub page_leads : leads_walk (replicate (length nodes) None) (with_blocks (replicate (length nodes) false) parts) (ahead_of (replicate (length nodes) false) parts) 0 parts ≡ leads
   page_leads = leads_are (length nodes) 0 parts (page_rises nodes (tree_styles nodes styles)) (λ p q i e. parent_within nodes (tree_styles nodes styles) page p q i e) (λ p i e. root_level nodes (tree_styles nodes styles) page p i e)
 
-  -- a box is in the run around it
-  in_run : (x : Item) (run : List ℕ) → In x (items_of parts) → x.run ≡ Some run → In (node_of x) run
-  in_run x run i e =
-      let from = from_map (λ p. record { part = p; run = run_around parts p }) parts x i in
-      let around : run_around parts from.0 ≡ Some run = ap (λ (y : Item). y.run) from.2 ∙ e in
-      let node : from.0.node ≡ node_of x = ap (λ (y : Item). y.part.node) from.2 in
-      subst (λ k. In k run) node (by_parent from.0 from.0.parent around)
-    where
-      by_found : (p : Part) (q : ℕ) → find (has_node p.node) (map nodes_of (wrapped_in (parts_in parts q))) ≡ Some run → In p.node run
-      by_found p q f =
-          let has = any_in (λ k. k == p.node) run (found_in (has_node p.node) (map nodes_of (wrapped_in (parts_in parts q))) run f).1 in
-          subst (λ k. In k run) (eqb-true has.0 p.node has.2) has.1
-
-      by_parent : (p : Part) (o : Option ℕ) → option_and_then (λ q. find (has_node p.node) (map nodes_of (wrapped_in (parts_in parts q)))) o ≡ Some run → In p.node run
-      by_parent p None f = absurd (cc)
-      by_parent p (Some q) f = by_found p q f
-
   item_within : (x : Item) → In x (items_of parts) → node_of x < length nodes
   item_within x i = let k = item_known nodes styles page x i in slice_get_within nodes (node_of x) k.entry k.node_is
 
@@ -150,7 +133,7 @@ module _ (nodes : List Node) (styles : List Style) (page : IsPage nodes) where
   pub boxes_are : with_all [] (places_walk (replicate (length nodes) 0) 0 leads 0 parts) ≡ page_boxes nodes styles
   boxes_are =
       ap (λ ps. with_all [] (places_walk (replicate (length nodes) 0) 0 leads 0 ps)) (sym (items_parts parts parts))
-      ∙ (ap (with_all []) (walk_is (items_of parts) (page_arranged nodes styles page) in_run (length nodes) item_within (replicate (length nodes) 0) leads 0 [] (items_of parts) refl
+      ∙ (ap (with_all []) (walk_is (items_of parts) (page_arranged nodes styles page) (in_run nodes styles page) (length nodes) item_within (replicate (length nodes) 0) leads 0 [] (items_of parts) refl
       (table_start (items_of parts) (page_arranged nodes styles page) (length nodes) (replicate (length nodes) 0) (length-replicate (length nodes) 0)) lead_known)
       ∙ built (page_boxes nodes styles) (page_nested nodes styles page))
 
@@ -234,7 +217,7 @@ module _ (nodes : List Node) (styles : List Style) (fonts : List Font) where
       subst (λ bs. IsBoxTree bs used copies parents) (sym p)
       (subst (λ us. IsBoxTree (page_boxes nodes styles) us copies parents) (sym q)
       (subst (λ fs. IsBoxTree (page_boxes nodes styles) (tree_styles nodes styles) fs parents) (sym r)
-      (subst (λ ps. IsBoxTree (page_boxes nodes styles) (tree_styles nodes styles) fonts ps) (sym s) (box_tree nodes styles fonts page styled b))))
+      (subst (λ ps. IsBoxTree (page_boxes nodes styles) (tree_styles nodes styles) fonts ps) (sym s) (tree_of_page nodes styles fonts page styled b))))
 
   pub far_eq : IsPage nodes → AreStylesOf nodes styles fonts → blocks_in_inlines (page_parts nodes styles) ≡ []
       → (boxes : List BoxNode) (used : List Style) (parents : List (Option ℕ)) → boxes ≡ page_boxes nodes styles → used ≡ tree_styles nodes styles → parents ≡ tree_parents nodes

@@ -2,6 +2,7 @@ pub mod Fronts
 pub mod ValueLemmas
 pub mod ListedLemmas
 pub mod LimitLemmas
+pub mod OrderLemmas
 pub mod PageLemmas
 pub mod FontLemmas
 pub mod NameLemmas

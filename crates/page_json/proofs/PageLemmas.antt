@@ -1,5 +1,5 @@
 -- The nodes of a job file's page form a page.
-use Rattle.std.proofs.Common.{◌≡◌, ℕ, zero, suc, ◌+◌, ◌<◌, ◌≤◌, Bool, true, false, List, [], ◌∷◌, ◌++◌, length, Option, Some, None, option_map, option_and_then, Result, Ok, Err, refl, sym, ap, ◌∙◌, arith, cond, subst, append_assoc, append-nil, length-append, Ordering, Less, Equal, Greater}
+use Rattle.std.proofs.Common.{◌≡◌, ℕ, zero, suc, ◌+◌, ◌<◌, ◌≤◌, Bool, true, false, List, [], ◌∷◌, ◌++◌, length, map, Option, Some, None, option_map, option_and_then, Result, Ok, Err, refl, sym, ap, ◌∙◌, arith, cond, subst, append_assoc, append-nil, length-append, Ordering, Less, Equal, Greater}
 use Rattle.std.specs.Prelude.{◌==◌, slice_get, codes, is_some, nat_lt, ◌&&◌}
 use Rattle.std.specs.Char.{to_ascii_lowercase}
 use Rattle.std.specs.List.{list_all}
@@ -20,6 +20,7 @@ use Rattle.viz_base.specs.declared.nodes.Body.{Body}
 use Rattle.viz_base.specs.declared.nodes.Body.TheVariants as of_body
 use Rattle.viz_base.specs.declared.nodes.Element.{Element}
 use Rattle.viz_base.specs.declared.nodes.Node.{Node}
+use Rattle.viz_base.specs.Orders.{IsInOrder}
 use Rattle.viz_base.specs.Pages.{IsPage, is_element, is_element_at, parent_fits, text_of, is_lower, has_lower_names}
 use Rattle.viz_base.specs.declared.raw_jobs.Part.{Part}
 use Rattle.page_json.specs.Faults.{shaped_at}
@@ -29,6 +30,7 @@ use Rattle.page_json.specs.Documents.{Place, place, listed, children_listed, lis
 use Rattle.page_json.specs.Jobs.{characters}
 use Rattle.page_json.specs.Pages.{IsDocument}
 use Rattle.page_json.proofs.ListedLemmas.{each_listed, listed-open}
+use Rattle.page_json.proofs.OrderLemmas.{places-order}
 
 -- ---- parents
 
@@ -155,6 +157,12 @@ same_parent p n e = by_body (body_of p.value) e
     by_body : (o : Option Body) → option_map (λ body. record { parent = p.parent; body = body }) o ≡ Some n → n.parent ≡ p.parent
     by_body None k = cc
     by_body (Some b) k = cc
+
+same_parents : (ps : List Place) (ns : List Node) → AreOf ps ns → map (λ (p : Place). p.parent) ps ≡ map (λ (n : Node). n.parent) ns
+same_parents [] [] a = refl
+same_parents [] (n ∷ ns) a = absurd a
+same_parents (p ∷ ps) [] a = absurd a
+same_parents (p ∷ ps) (n ∷ ns) a = let first : n.parent ≡ p.parent = same_parent p n a.0 in let rest = same_parents ps ns a.1 in cc
 
 -- an object at a place is before the end
 object-below : (ps : List Place) (q : ℕ) → is_object_at ps q ≡ true → q < length ps
@@ -330,6 +338,7 @@ nodes-document p d ns text e =
       root = root_element d ns text a;
       parents = λ k n is. (let at : 0 + k ≡ k = omega arith in
           subst (λ j. parent_fits ns j n.parent ≡ true) at (all-fit [] (places_of d) [] ns tt a (listed-parents d None 1 0 [] refl refl) k n is));
+      in_order = subst IsInOrder (same_parents (places_of d) ns a) (places-order d);
       names = λ k n is. all-names (places_of d) ns a k n is;
     }
 
@@ -338,6 +347,7 @@ pub document-page : (ns : List Node) → IsDocument ns → characters ns ≤ 262
 document-page ns h few = record {
   root = h.root;
   parents = h.parents;
+  in_order = h.in_order;
   texts = λ k n is. (let size : ℕ = length (chars (text_of n.body)) in
       omega (arith, few, sum_by_more_le (λ (x : Node). length (chars (text_of x.body))) ns k n (slice_get_within ns k n is), ap (λ (x : Node). length (chars (text_of x.body))) (get_or_from_slice_get ns k n n is)));
   names = h.names;

@@ -1,4 +1,4 @@
-use Rattle.std.proofs.Common.{true, false, sym, ap, ◌∙◌, take, cond}
+use Rattle.std.proofs.Common.{true, sym, ap, ◌∙◌, take, cond}
 use Rattle.std.specs.Prelude.{bytes_eq}
 use Rattle.std.specs.List.{list_any}
 use Rattle.page_json.specs.Elements.{has_name}
