@@ -1,3 +1,4 @@
+pub mod InOrder
 pub mod LeadCases
 pub mod LeadEnds
 pub mod Decided

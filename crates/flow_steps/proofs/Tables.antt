@@ -1,7 +1,7 @@
 -- The table of boxes outside the flow holds each of them as it is laid out; with it the steps of a page are its rendering.
-use Rattle.std.proofs.Common.{◌≡◌, ◌≢◌, ℕ, zero, suc, ◌+◌, ◌-◌, ◌<◌, ◌≤◌, inl, inr, ◌*◌, ℤ, pos, Bool, true, false, cond, IsTrue, Contains, List, [], ◌∷◌, filter, fold, length, set, Option, None, Some, refl, sym, ap, ◌∙◌, subst, arith}
+use Rattle.std.proofs.Common.{◌≡◌, ◌≢◌, ℕ, zero, suc, ◌+◌, ◌-◌, ◌<◌, ◌≤◌, inl, inr, ◌*◌, ℤ, pos, Bool, true, false, cond, Contains, List, [], ◌∷◌, filter, fold, length, set, Option, None, Some, refl, sym, ap, ◌∙◌, subst, arith}
 use Rattle.std.specs.Prelude.{unwrap_or}
-use Rattle.std.specs.List.{list_all, range_with_len, AllByRecursion}
+use Rattle.std.specs.List.{AllByRecursion}
 use Rattle.std.specs.Option.{option_map_or}
 use Rattle.std.proofs.lemmas.Bool.{cases_eq}
 use Rattle.std.proofs.lemmas.List.{get_or-set_same, get_or-set_other, length-set, length-replicate}
@@ -18,29 +18,20 @@ use Rattle.layout_semantics.specs.InlineContent.{is_floated_at, has_line, inner_
 use Rattle.layout_semantics.specs.Flow as landed
 use Rattle.layout_semantics.specs.Flow.{Alone, Progress}
 use Rattle.layout_semantics.specs.Page.{page_rendering}
-use Rattle.layout_semantics.proofs.Forest.{IsKid, both}
+use Rattle.layout_semantics.proofs.Forest.{IsKid}
 use Rattle.layout_semantics.proofs.Pages.{forest, root-alone, root_place, Each-contains}
 use Rattle.layout_laws.proofs.Levels.{IsFrom, All-implied, inner_boxes-from}
 use Rattle.layout_laws.proofs.LeadLevels.{children-from}
 use Rattle.layout_laws.proofs.FlowLevels.{flow-is}
-use Rattle.flow_steps.specs.Order.{is_before, is_in_order}
 use Rattle.flow_steps.specs.Flow.{alone, content_to, content_of}
 use Rattle.flow_steps.specs.Progress.{context_of}
 use Rattle.flow_steps.specs.Tables.{outside_of, nothing_alone, laid_at, with_box, with_container, table_to, page_boxes}
+use Rattle.flow_steps.proofs.InOrder.{root_no_inline, box_before}
 use Rattle.flow_steps.proofs.Sound.{IsSound, inner_boxes-sound, flow-sound}
 use Rattle.flow_steps.proofs.TopStays.{top-free}
 use Rattle.flow_steps.proofs.FlowSteps.{Follows, band_in, alone-same, step-agrees}
 
--- ---- boxes in order
-
-each-in : (test : ℕ → Bool) (low n : ℕ) → IsTrue (list_all test (range_with_len low n)) → (k : ℕ) → low ≤ k → k < low + n → IsTrue (test k)
-each-in test low zero t k l m = absurd (omega arith)
-each-in test low (suc n) t k l m =
-    let parts = both (test low) (list_all test (range_with_len (low + 1) n)) t in
-    elim (cases_eq k low) [
-      | inl e ↦ subst (λ (x : ℕ). IsTrue (test x)) (sym e) parts.0
-      | inr e ↦ let other : k ≢ low = e in each-in test (low + 1) n parts.1 k (omega arith) (omega arith)
-    ]
+-- ---- boxes of the page, and outside a flow
 
 page-within : (tree : BoxTree) (b : ℕ) → IsOnPage tree.boxes b → b < length tree.boxes
 page-within tree b (IsOnPage.root at c) = let place = root_place tree.boxes at c in let l = place.1 in subst (λ (x : ℕ). x < length tree.boxes) place.0 l
@@ -70,10 +61,7 @@ laid-same table k a l = ap (λ (o : Option Alone). unwrap_or o nothing_alone) (g
 laid-other : (table : List (Option Alone)) (k j : ℕ) (a : Alone) → j ≢ k → laid_at (set table k (Some a)) j ≡ laid_at table j
 laid-other table k j a n = ap (λ (o : Option Alone). unwrap_or o nothing_alone) (get_or-set_other table k j (Some a) None n)
 
-module _ (tree : BoxTree) (w : World) (height : ℕ) (order : IsTrue (is_in_order tree)) where
-  ordered : (k : ℕ) → k < length tree.boxes → IsTrue (is_before tree.boxes k (length tree.boxes))
-  ordered k l = each-in (λ at. is_before tree.boxes at (length tree.boxes)) 0 (length tree.boxes) order k (omega arith) (omega arith)
-
+module _ (tree : BoxTree) (w : World) (height : ℕ) where
   -- a box as it is laid out
   abbrev right : ℕ → Alone
   right k = landed.alone tree w height (landed.flow tree w height) k (room tree w height k)
@@ -114,7 +102,7 @@ module _ (tree : BoxTree) (w : World) (height : ℕ) (order : IsTrue (is_in_orde
       (step-agrees tree w height (landed.flow tree w height) (content_to tree w height (laid_at table) n) (laid_at table) b
       (λ k left wide top p above sound. flow-agrees table low served n k left wide top p (omega arith) sound (omega arith))
       (λ c above page block. served c (omega arith) page block)
-      (λ k above within. top-free tree w height (laid_at table) n k within (omega arith)) ordered left wide top p s)
+      (λ k above within. top-free tree w height (laid_at table) n k within (omega arith)) (box_before tree) left wide top p s)
 
   pub box-same : (table : List (Option Alone)) (low : ℕ) → AllServed table low → (k : ℕ) (wide : ℤ) → low ≤ k → IsSound tree w height k wide
       → landed.alone tree w height (landed.flow tree w height) k wide ≡ alone tree w height (content_of tree w height (laid_at table)) k wide
@@ -232,13 +220,13 @@ module _ (tree : BoxTree) (w : World) (height : ℕ) (order : IsTrue (is_in_orde
   abbrev stepped : List BoxNode → List (Placed ℤ)
   stepped l = elim l as (λ _. List (Placed ℤ)) [ [] ↦ [] | root ∷ rest ↦ (alone tree w height (content_of tree w height (laid_at whole_table)) 0 (pos (64 * w.w))).boxes ]
 
-  pub page-same : is_inline (kind_of tree 0) ≡ false → (page_rendering tree w height).boxes ≡ page_boxes tree w height
-  page-same block = by tree.boxes refl
+  pub page-same : (page_rendering tree w height).boxes ≡ page_boxes tree w height
+  page-same = by tree.boxes refl
     where
       by : (boxes : List BoxNode) → tree.boxes ≡ boxes → (page_rendering tree w height).boxes ≡ page_boxes tree w height
       by [] e = ap rendered e ∙ sym (ap stepped e)
       by (b ∷ bs) e =
           let page : IsOnPage tree.boxes 0 = IsOnPage.root 0 (subst (λ (l : List BoxNode). Contains (roots l) 0) (sym e) (0, omega arith, refl)) in
           ap rendered e
-          ∙ ap (λ (a : Alone). a.boxes) (box-same whole_table 0 table-served 0 (pos (64 * w.w)) (omega arith) (record { page = page; room = sym root-room; block = block }))
+          ∙ ap (λ (a : Alone). a.boxes) (box-same whole_table 0 table-served 0 (pos (64 * w.w)) (omega arith) (record { page = page; room = sym root-room; block = root_no_inline tree }))
           ∙ sym (ap stepped e)

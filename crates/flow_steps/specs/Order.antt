@@ -23,6 +23,6 @@ is_before_to (suc levels) boxes at end = nat_lt at end && each_before_next (is_b
 abbrev pub is_before : List BoxNode → ℕ → ℕ → Bool
 is_before boxes at end = is_before_to (length boxes) boxes at end
 
--- the boxes of a page in their order: a tree that `build_boxes` gives is such a one
+-- the boxes of a tree in their order
 abbrev pub is_in_order : BoxTree → Bool
 is_in_order tree = list_all (λ at. is_before tree.boxes at (length tree.boxes)) (range_with_len 0 (length tree.boxes))

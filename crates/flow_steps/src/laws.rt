@@ -17,19 +17,23 @@ ghost use Rattle.lay_margin.specs.Runs.{no_run};
 ghost use Rattle.lay_margin.specs.declared.runs.Run.{Run};
 ghost use Rattle.flow_steps.specs.Flow.{Context, content_of, content_step};
 ghost use Rattle.flow_steps.specs.Forward.{cleared_of, forward, forward_step, way};
-ghost use Rattle.flow_steps.specs.Order.{is_before, is_in_order};
+ghost use Rattle.flow_steps.specs.Order.{is_in_order};
 ghost use Rattle.flow_steps.specs.Progress.{context_of};
 ghost use Rattle.flow_steps.specs.Runs.{Base, hangs, stands, run_of};
 ghost use Rattle.flow_steps.specs.Tables.{inside_of, laid_at, outside_of, page_boxes, table_to};
 
 use viz_base::{BoxTree, World};
 
+/// The boxes of a tree are numbered in document order: a box, with all in it, stands before the one that comes next in
+/// the same box, or where that box has no more, before what comes next after it (CSS 2.1, 3.1).
+pub fn boxes_stand_in_document_order(tree: &BoxTree)
+    ensures { IsTrue (is_in_order tree.now) }
+{}
+
 /// Which box of a lead is cleared, with its border edge, and which margins join the run before it: decided box by box
-/// on the way, it is what the definition finds by leads that pass more and more boxes (CSS 2.1, 8.3.1, 9.5.2). The
-/// boxes in the box stand before `end`, in document order.
-pub fn clearance_is_decided_on_the_way(tree: &BoxTree, world: World, at: usize, end: usize)
+/// on the way, it is what the definition finds by leads that pass more and more boxes (CSS 2.1, 8.3.1, 9.5.2).
+pub fn clearance_is_decided_on_the_way(tree: &BoxTree, world: World, at: usize)
     requires within { at < length tree.now.boxes }
-    requires order { IsTrue (is_before tree.now.boxes at end) }
     ensures margins { (size : Waiting ℤ → Extent ℤ) (edge : ℤ) (run : List ℤ) (cb : Band ℤ) (floats : List FloatBox)
         (least : Option ℤ) → run_of (run ++ (resolve tree.now world size (λ more. edge +ℤ collapsed (run ++ more))
         cb floats least at none_passed).margins)
@@ -69,7 +73,6 @@ pub fn what_stands_outside_the_flow_is_laid_out_once(
     height: u32,
     at: usize,
 )
-    requires order { IsTrue (is_in_order tree.now) }
     requires on_page { IsOnPage tree.now.boxes at }
     requires container { is_inline (kind_of tree.now at) ≡ false }
     ensures { AllByRecursion (λ k. whole_alone tree.now world height k (room tree.now world height k)
@@ -79,7 +82,6 @@ pub fn what_stands_outside_the_flow_is_laid_out_once(
 /// The steps through what is in a box add the boxes that the flow adds, and leave the context as it does (CSS 2.1,
 /// 9.4.1).
 pub fn the_steps_of_a_content_are_its_flow(tree: &BoxTree, world: World, height: u32, at: usize)
-    requires order { IsTrue (is_in_order tree.now) }
     requires on_page { IsOnPage tree.now.boxes at }
     requires container { is_inline (kind_of tree.now at) ≡ false }
     ensures context { (left top : ℤ) (p : Progress) → context_of (flow tree.now world height at
@@ -93,9 +95,6 @@ pub fn the_steps_of_a_content_are_its_flow(tree: &BoxTree, world: World, height:
 {}
 
 /// The steps of a page are its rendering: the whole flow, with floats, clearance, contexts, replaced boxes and lines.
-/// Its boxes are numbered in document order, and its root is a block container.
 pub fn the_steps_of_a_page_are_its_rendering(tree: &BoxTree, world: World, height: u32)
-    requires order { IsTrue (is_in_order tree.now) }
-    requires root { is_inline (kind_of tree.now 0) ≡ false }
     ensures { (page_rendering tree.now world height).boxes ≡ page_boxes tree.now world height }
 {}

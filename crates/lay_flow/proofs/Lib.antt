@@ -1,5 +1,4 @@
 pub mod Ways
-pub mod Orders
 pub mod Same
 pub mod InLines
 pub mod AloneBoxes

@@ -6,7 +6,6 @@ ghost use Rattle.viz_calc.specs.Renderings.{rendering_at};
 ghost use Rattle.layout_semantics.specs.Page.{page_rendering};
 ghost use Rattle.lay_block.specs.BlockPages.{ready as is_block_page};
 ghost use Rattle.lay_block.specs.Limits.{IsSmallPage, IsWithinLimits};
-ghost use Rattle.lay_flow.specs.Ready.{ready};
 
 use crate::page;
 use std::alloc::Global;
@@ -15,7 +14,6 @@ use viz_calc::{Calc, Halt, Latch, Plain, Steady};
 
 /// The rendering of a page: pages of blocks alone go through the walk over blocks, of which it is proved why it halts.
 fn engine<S: Steady>(alloc: Global, calc: &mut S, tree: &BoxTree, height: u32) -> Rendering<S::Num>
-    requires { IsTrue (ready tree.now) }
     ensures goes { Goes (S.run calc.old) (S.run calc.new) }
     ensures value { (e : Reading) → IsTrue ((S.run calc.new).is_open e)
         → rendering_at S.at result e ≡ page_rendering tree.now e.world height }
@@ -39,7 +37,6 @@ pub fn render<C: Calc>(
     tree: &BoxTree,
     height: u32,
 ) -> Result<Rendering<C::Num>, Halt>
-    requires { IsTrue (ready tree.now) }
     ensures grows { Grows (C.state calc.old) (C.state calc.new) }
     ensures value { IfOk result (λ r. (e : Reading) → IsTrue ((C.state calc.new).is_open e) → rendering_at C.at r e ≡ page_rendering tree.now e.world height) }
     ensures kept { AreOpen (C.state calc.old).kept (C.state calc.new) }
@@ -59,7 +56,6 @@ pub fn render_at(
     tree: &BoxTree,
     height: u32,
 ) -> Result<Rendering<i128>, Mem>
-    requires ready { IsTrue (ready tree.now) }
     requires small { IsSmallPage tree.now }
     requires narrow { world.w ≤ 16384 }
     requires sized { world.s ≤ 256 }

@@ -8,11 +8,9 @@ pub mod frames;
 mod front;
 pub mod heights;
 pub mod lines;
-mod order;
 pub mod page;
 pub mod parts;
 pub mod reached;
 pub mod walk;
 
 pub use front::{render, render_at};
-pub use order::ready;

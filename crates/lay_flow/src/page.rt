@@ -9,7 +9,6 @@ ghost use Rattle.layout_semantics.specs.Page.{page_rendering};
 ghost use Rattle.lay_block.specs.steps.Readings.{boxes_at};
 ghost use Rattle.lay_preferred.specs.Readings.{AreFound};
 ghost use Rattle.flow_steps.specs.Tables.{outside_of as outside, page_boxes};
-ghost use Rattle.lay_flow.specs.Ready.{ready as is_ready};
 ghost use Rattle.lay_flow.specs.Readings.{table_at};
 ghost use Rattle.lay_flow.specs.steps.Flow.{with_box, with_boxes, with_container as with_container_of, table_to};
 
@@ -246,7 +245,6 @@ pub fn render<S: Steady>(
     tree: &BoxTree,
     height: u32,
 ) -> Rendering<S::Num>
-    requires { IsTrue (is_ready tree.now) }
     ensures goes { Goes (S.run calc.old) (S.run calc.new) }
     ensures value { (e : Reading) → IsTrue ((S.run calc.new).is_open e)
         → rendering_at S.at result e ≡ page_rendering tree.now e.world height }

@@ -10,7 +10,7 @@ returns-clause-context c left top p =
     let w = c.args.world in
     let height = c.args.height in
     let n = length tree.boxes in
-    (flow-agrees tree w height c.requires.order (table_to tree w height n) 0 (table-served tree w height c.requires.order) n c.args.at left (room tree w height c.args.at) top p (omega arith)
+    (flow-agrees tree w height (table_to tree w height n) 0 (table-served tree w height) n c.args.at left (room tree w height c.args.at) top p (omega arith)
     (record { page = c.requires.on_page; room = refl; block = c.requires.container }) (omega arith)).context
 
 pub returns-clause-boxes : goal.returns-clause-boxes
@@ -19,5 +19,5 @@ returns-clause-boxes c left top p =
     let w = c.args.world in
     let height = c.args.height in
     let n = length tree.boxes in
-    (flow-agrees tree w height c.requires.order (table_to tree w height n) 0 (table-served tree w height c.requires.order) n c.args.at left (room tree w height c.args.at) top p (omega arith)
+    (flow-agrees tree w height (table_to tree w height n) 0 (table-served tree w height) n c.args.at left (room tree w height c.args.at) top p (omega arith)
     (record { page = c.requires.on_page; room = refl; block = c.requires.container }) (omega arith)).boxes

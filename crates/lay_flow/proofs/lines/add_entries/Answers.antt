@@ -1,6 +1,7 @@
-use Rattle.std.proofs.Common.{◌≡◌, List, [], ◌∷◌, length, refl, arith, ◌∙◌}
+use Rattle.std.proofs.Common.{◌≡◌, List, [], ◌∷◌, ◌++◌, flat_map, length, refl, ap, arith, ◌∙◌}
 use Rattle.viz_calc.proofs.Runs.{Goes-then}
 use Rattle.lay_block.specs.steps.Readings.{boxes_at}
+use Rattle.lay_line.specs.Readings.{entries_at}
 use Rattle.lay_flow.specs.Readings.{apart_at}
 use Rattle.lay_flow.specs.steps.Flow.{entry_of}
 use Rattle.lay_flow.proofs.InLines.{one-added, none-added}
@@ -9,6 +10,16 @@ use Rattle.lay_flow.proofs.lines.add_entries.Goals as goal
 no-items : {A : Type 0} (xs : List A) → length xs ≡ 0 → xs ≡ []
 no-items [] e = refl
 no-items (x ∷ xs) e = absurd (omega (arith, e))
+
+pub loop-entry-init : goal.loop-entry-init
+loop-entry-init g c =
+    let at = g.S.Steady.at in
+    let all : c.into_iter-entry-iterator.result.rest.items ≡ c.args.entries.items = c.into_iter-entry-iterator.ensures.into_iter_gives.0 in
+    record {
+      goes = record { closes = λ e o. o; reached = λ e o. o; lean = refl; coeffs = omega arith; opens = omega arith; kept = refl; lender = refl };
+      value = λ e o.
+          ap (λ items. boxes_at at c.args.out.now.items e ++ flat_map (entry_of c.args.page.now.tree.now e.world (apart_at at c.args.page.now.apart.now e)) (entries_at at items e)) all;
+    }
 
 pub loop-entry-preserved : goal.loop-entry-preserved
 loop-entry-preserved g c =
