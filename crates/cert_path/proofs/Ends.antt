@@ -6,8 +6,8 @@ use Rattle.std.proofs.lemmas.Int.{ints}
 use Rattle.std.proofs.lemmas.Option.{same_Some}
 use Rattle.viz_base.specs.declared.worlds.World.{World}
 use Rattle.lin_row.specs.Form.{Form, value}
-use Rattle.cert_text.specs.declared.full.certificate.Cert.{Cert}
-use Rattle.cert_text.specs.declared.full.certificate.CertNode.{CertNode}
+use Rattle.cert_text.specs.declared.certificate.Cert.{Cert}
+use Rattle.cert_text.specs.declared.certificate.CertNode.{CertNode}
 use Rattle.cert_path.specs.Paths.{def, first, second, Path, values_along, IsOn}
 use Rattle.cert_path.specs.Nodes.{Decision, names, splits, is_empty, by_worlds, by_answers, is_end, Node, nodes_from, nodes_of}
 use Rattle.cert_path.specs.Laws.{IsEndOf}

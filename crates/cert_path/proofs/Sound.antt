@@ -8,8 +8,8 @@ use Rattle.std.proofs.lemmas.Bool.Decides.{nat_tests}
 use Rattle.std.proofs.lemmas.Option.{same_Some}
 use Rattle.viz_base.specs.declared.worlds.Rect.{Rect}
 use Rattle.lin_row.specs.Form.{Form}
-use Rattle.cert_text.specs.declared.full.certificate.Cert.{Cert}
-use Rattle.cert_text.specs.declared.full.certificate.CertNode.{CertNode}
+use Rattle.cert_text.specs.declared.certificate.Cert.{Cert}
+use Rattle.cert_text.specs.declared.certificate.CertNode.{CertNode}
 use Rattle.cert_path.specs.Paths.{def, first, second, Path, is_declared, IsSound, AreSound}
 use Rattle.cert_path.specs.Nodes.{Decision, names, splits, is_empty, by_worlds, by_answers, Node, nodes_from, nodes_of}
 use Rattle.cert_path.specs.Shapes.{has_variable, has_remainders, is_named, is_shaped, has_shape, AreShapedBefore, IsFirstFault}

@@ -3,11 +3,11 @@ use Rattle.std.proofs.Common.{◌≡◌, ℤ, List, subst, rules}
 use Rattle.lin_row.specs.Form.{Form}
 use Rattle.lin_proof.specs.declared.derivation.Derivation.{Derivation}
 use Rattle.lin_proof.specs.declared.derivation.Answer.{Answer}
-use Rattle.cert_text.specs.declared.full.certificate.CertNode.{CertNode}
-use Rattle.cert_text.specs.declared.full.certificate.CertNode.TheOpen.{CertNode-F}
-use Rattle.cert_text.specs.declared.full.certificate.CertNode.TheViews.{the_lemmas, roll-CertNode}
-use Rattle.cert_text.specs.declared.full.certificate.CertNode.TheFolds.{ind-CertNode, map-CertNode, fold-roll-CertNode, fold_out-CertNode}
-use Rattle.cert_text.specs.declared.full.certificate.CertNode.TheVariants.{Def, Split, Void, Grid, Leaf}
+use Rattle.cert_text.specs.declared.certificate.CertNode.{CertNode}
+use Rattle.cert_text.specs.declared.certificate.CertNode.TheOpen.{CertNode-F}
+use Rattle.cert_text.specs.declared.certificate.CertNode.TheViews.{the_lemmas, roll-CertNode}
+use Rattle.cert_text.specs.declared.certificate.CertNode.TheFolds.{ind-CertNode, map-CertNode, fold-roll-CertNode, fold_out-CertNode}
+use Rattle.cert_text.specs.declared.certificate.CertNode.TheVariants.{Def, Split, Void, Grid, Leaf}
 use Rattle.cert_path.specs.Paths.{Path}
 use Rattle.cert_path.specs.Nodes.{Node, nodes_step, nodes_from}
 use Rattle.cert_path.specs.Laws.{IsPreorder}

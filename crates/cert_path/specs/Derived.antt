@@ -4,7 +4,7 @@ use Rattle.viz_base.specs.declared.worlds.Rect.{Rect}
 use Rattle.lin_row.specs.Form.{Form}
 use Rattle.lin_proof.specs.declared.derivation.Answer.{Answer}
 use Rattle.lin_proof.specs.Derivations.{Refutes}
-use Rattle.cert_text.specs.declared.full.certificate.Cert.{Cert}
+use Rattle.cert_text.specs.declared.certificate.Cert.{Cert}
 use Rattle.cert_path.specs.Paths.{Step, def, first, second, Path, variables}
 use Rattle.cert_path.specs.Facts.{facts}
 use Rattle.cert_path.specs.Nodes.{Decision, names, splits, is_empty, by_worlds, by_answers, Node, nodes_of}

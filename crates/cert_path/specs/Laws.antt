@@ -9,9 +9,9 @@ use Rattle.lin_proof.specs.declared.derivation.Derivation.{Derivation}
 use Rattle.lin_proof.specs.declared.derivation.Answer.{Answer}
 use Rattle.lin_proof.specs.Derivations.{Refutes}
 use Rattle.lin_proof.specs.Law.{Meets}
-use Rattle.cert_text.specs.declared.full.certificate.Cert.{Cert}
-use Rattle.cert_text.specs.declared.full.certificate.CertNode.{CertNode}
-use Rattle.cert_text.specs.declared.full.certificate.CertNode.TheVariants.{Def, Split, Void, Grid, Leaf}
+use Rattle.cert_text.specs.declared.certificate.Cert.{Cert}
+use Rattle.cert_text.specs.declared.certificate.CertNode.{CertNode}
+use Rattle.cert_text.specs.declared.certificate.CertNode.TheVariants.{Def, Split, Void, Grid, Leaf}
 use Rattle.cert_path.specs.Paths.{Step, def, first, second, Path, variables, values_along, IsTaken, IsOn, AreSound}
 use Rattle.cert_path.specs.Facts.{facts}
 use Rattle.cert_path.specs.Nodes.{names, splits, is_empty, by_worlds, by_answers, is_end, is_laid_out, Node, node_on, nodes_from, nodes_of}

@@ -3,10 +3,10 @@ use Rattle.std.specs.Prelude.{ℤ, Bool, true, false, List, [], ◌∷◌, ◌++
 use Rattle.lin_row.specs.Form.{Form}
 use Rattle.lin_proof.specs.declared.derivation.Derivation.{Derivation}
 use Rattle.lin_proof.specs.declared.derivation.Answer.{Answer}
-use Rattle.cert_text.specs.declared.full.certificate.Cert.{Cert}
-use Rattle.cert_text.specs.declared.full.certificate.CertNode.{CertNode}
-use Rattle.cert_text.specs.declared.full.certificate.CertNode.TheOpen.{CertNode-F}
-use Rattle.cert_text.specs.declared.full.certificate.CertNode.TheFolds.{fold-CertNode}
+use Rattle.cert_text.specs.declared.certificate.Cert.{Cert}
+use Rattle.cert_text.specs.declared.certificate.CertNode.{CertNode}
+use Rattle.cert_text.specs.declared.certificate.CertNode.TheOpen.{CertNode-F}
+use Rattle.cert_text.specs.declared.certificate.CertNode.TheFolds.{fold-CertNode}
 use Rattle.cert_path.specs.Paths.{def, first, second, Path}
 
 -- what a node says of its part of the range

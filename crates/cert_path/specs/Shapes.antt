@@ -6,7 +6,7 @@ use Rattle.std.specs.List.{list_all}
 use Rattle.std.specs.Cmp.Lexicographic.{pointwise}
 use Rattle.viz_base.specs.declared.worlds.Rect.{Rect}
 use Rattle.lin_row.specs.Form.{Form}
-use Rattle.cert_text.specs.declared.full.certificate.Cert.{Cert}
+use Rattle.cert_text.specs.declared.certificate.Cert.{Cert}
 use Rattle.cert_path.specs.Paths.{def, first, second, Path, is_declared}
 use Rattle.cert_path.specs.Rectangles.{rectangle, world_count}
 use Rattle.cert_path.specs.Nodes.{Decision, names, splits, is_empty, by_worlds, by_answers, Node, nodes_of}

@@ -9,23 +9,23 @@ use Rattle.hex.specs.Hex.{encode_lower}
 use Rattle.lin_row.specs.Form.{Form}
 use Rattle.lin_proof.specs.declared.derivation.Derivation.{Derivation}
 use Rattle.lin_proof.specs.declared.derivation.Answer.{Answer as Reason}
-use Rattle.cert_text.specs.declared.full.certificate.Cert.{Cert}
-use Rattle.cert_text.specs.declared.full.certificate.CertNode.{CertNode}
-use Rattle.cert_text.specs.declared.full.certificate.CertNode.TheVariants.{Def, Split, Void, Grid, Leaf, rolls-Def, rolls-Split, rolls-Void, rolls-Grid, rolls-Leaf}
-use Rattle.cert_text.specs.declared.full.certificate.CertNode.TheViews.{the_lemmas, roll-CertNode, out-CertNode, roll-out-CertNode}
-use Rattle.cert_text.specs.declared.full.certificate.CertNode.TheFolds.{fold-roll-CertNode, fold_out-CertNode}
-use Rattle.cert_text.specs.declared.full.certificate.CertNode.TheOpen.{CertNode-F}
-use Rattle.cert_text.specs.declared.full.turn.Turn.{Turn}
-use Rattle.cert_text.specs.declared.full.turn.Turn.TheVariants.{More, Last}
-use Rattle.cert_text.specs.full.Texts.{Nested, is_above_zero, row_has_text, derivation_text, derivation_has_text, answer_word, answer_text, answer_has_text, node_text, node_has_text, node_nested, job_has_text, CertText}
+use Rattle.cert_text.specs.declared.certificate.Cert.{Cert}
+use Rattle.cert_text.specs.declared.certificate.CertNode.{CertNode}
+use Rattle.cert_text.specs.declared.certificate.CertNode.TheVariants.{Def, Split, Void, Grid, Leaf, rolls-Def, rolls-Split, rolls-Void, rolls-Grid, rolls-Leaf}
+use Rattle.cert_text.specs.declared.certificate.CertNode.TheViews.{the_lemmas, roll-CertNode, out-CertNode, roll-out-CertNode}
+use Rattle.cert_text.specs.declared.certificate.CertNode.TheFolds.{fold-roll-CertNode, fold_out-CertNode}
+use Rattle.cert_text.specs.declared.certificate.CertNode.TheOpen.{CertNode-F}
+use Rattle.cert_text.specs.declared.turn.Turn.{Turn}
+use Rattle.cert_text.specs.declared.turn.Turn.TheVariants.{More, Last}
+use Rattle.cert_text.specs.Texts.{Nested, is_above_zero, row_has_text, derivation_text, derivation_has_text, answer_word, answer_text, answer_has_text, node_text, node_has_text, node_nested, job_has_text, CertText}
 use Rattle.cert_text.specs.steps.Read.{after_word, read_bytes}
 use Rattle.cert_text.specs.steps.Write.{int_bytes, row_bytes}
-use Rattle.cert_text.specs.steps.full.Numbers.{natural}
-use Rattle.cert_text.specs.steps.full.Parts.{most_times, alike, read_row, read_derivation}
-use Rattle.cert_text.specs.steps.full.Whole.{read_reason, read_yes, read_no, read_end, read_answer, read_answers, read_void, read_grid, read_leaf, read_flat, read_def, read_split, read_deep, read_node, read_front}
-use Rattle.cert_text.specs.steps.full.Readers.{Reader, give, seq, either, loop}
+use Rattle.cert_text.specs.steps.Numbers.{natural}
+use Rattle.cert_text.specs.steps.Parts.{most_times, alike, read_row, read_derivation}
+use Rattle.cert_text.specs.steps.Whole.{read_reason, read_yes, read_no, read_end, read_answer, read_answers, read_void, read_grid, read_leaf, read_flat, read_def, read_split, read_deep, read_node, read_front}
+use Rattle.cert_text.specs.steps.Readers.{Reader, give, seq, either, loop}
 use Rattle.cert_text.proofs.Language.{Lang, Dep, Done, Word}
-use Rattle.cert_text.proofs.Digests.{BytesText, read_bytes-right, plain_bytes, some_bytes}
+use Rattle.cert_text.proofs.Digests.{BytesText, good_bytes}
 use Rattle.cert_text.proofs.Grammars.{Grammar, Either, Avoids, Loop, Items, Turns, good_word, good_done, good_seq, good_same, good_either, good_loop, begins_word, avoids_word, avoids_either}
 use Rattle.cert_text.proofs.Naturals.{NaturalEnd, good_natural}
 use Rattle.cert_text.proofs.Rows.{lines, fit_times, line_is, RowText, good_row}
@@ -440,9 +440,6 @@ good_node (suc levels) = good_same (DeepNode (NodeText levels)) (NodeText (suc l
 
 -- ---- certificates
 
-good_bytes : Grammar (BytesText 32) (read_bytes 32)
-good_bytes = record { plain = plain_bytes 32; some = some_bytes 32; read = read_bytes-right 32 }
-
 abbrev head : List ℕ
 head = codes "vizlog-cert 1\njob "
 
@@ -456,7 +453,7 @@ good_parts : Grammar CertParts read_front
 unfolding CertParts
 good_parts =
     good_seq (Word head) (after_word head) (λ _. Dep (BytesText 32) AfterJob) (λ _. seq (read_bytes 32) (λ job. seq (after_word (codes "\n")) (λ _. seq (read_node 512) (λ root. give (record { job = job; root = root }))))) (good_word head) (λ _ _ _.
-    good_seq (BytesText 32) (read_bytes 32) AfterJob (λ job. seq (after_word (codes "\n")) (λ _. seq (read_node 512) (λ root. give (record { job = job; root = root })))) good_bytes (λ job _ _.
+    good_seq (BytesText 32) (read_bytes 32) AfterJob (λ job. seq (after_word (codes "\n")) (λ _. seq (read_node 512) (λ root. give (record { job = job; root = root })))) (good_bytes 32) (λ job _ _.
     good_seq (Word (codes "\n")) (after_word (codes "\n")) (λ _. Dep (NodeText 512) (λ root. Done (record { job = job; root = root }))) (λ _. seq (read_node 512) (λ root. give (record { job = job; root = root }))) (good_word (codes "\n")) (λ _ _ _.
     good_seq (NodeText 512) (read_node 512) (λ root. Done (record { job = job; root = root })) (λ root. give (record { job = job; root = root })) (good_node 512) (λ root _ _. good_done (record { job = job; root = root })))))
 

@@ -15,14 +15,14 @@ use Rattle.lin_proof.specs.declared.derivation.Ending.TheVariants.{Closed, Cases
 use Rattle.lin_proof.specs.declared.derivation.Ending.TheViews.{the_lemmas, roll-Ending, roll-Branch, out-Ending, out-Branch, out-Derivation, roll-out-Ending, roll-out-Branch, roll-out-Derivation}
 use Rattle.lin_proof.specs.declared.derivation.Ending.TheFolds.{fold-roll-Branch, fold-roll-Derivation, fold_out-Ending}
 use Rattle.lin_proof.specs.declared.derivation.Ending.TheOpen.{Ending-F}
-use Rattle.cert_text.specs.declared.full.turn.Turn.{Turn}
-use Rattle.cert_text.specs.declared.full.turn.Turn.TheVariants.{More, Last}
-use Rattle.cert_text.specs.full.Texts.{is_num, is_above_zero, part_text, part_has_text, step_text, step_has_text, row_has_text, derivation_text, derivation_has_text, ending_has_text, branch_has_text, Nested, ending_nested, branch_nested, derivation_nested}
+use Rattle.cert_text.specs.declared.turn.Turn.{Turn}
+use Rattle.cert_text.specs.declared.turn.Turn.TheVariants.{More, Last}
+use Rattle.cert_text.specs.Texts.{is_num, is_above_zero, part_text, part_has_text, step_text, step_has_text, row_has_text, derivation_text, derivation_has_text, ending_has_text, branch_has_text, Nested, ending_nested, branch_nested, derivation_nested}
 use Rattle.cert_text.specs.steps.Read.{after_word}
 use Rattle.cert_text.specs.steps.Write.{int_bytes, row_bytes}
-use Rattle.cert_text.specs.steps.full.Numbers.{is_one_of, natural}
-use Rattle.cert_text.specs.steps.full.Parts.{most, most_times, alike, read_row, read_part, part_turn, read_one_part, read_parts, read_fact, read_sum, read_cut, read_case, read_closed, read_behind_c, read_c, read_step, read_steps, derived, read_cases, read_ending, read_derivation}
-use Rattle.cert_text.specs.steps.full.Readers.{Reader, give, seq, either, loop}
+use Rattle.cert_text.specs.steps.Numbers.{is_one_of, natural}
+use Rattle.cert_text.specs.steps.Parts.{most, most_times, alike, read_row, read_part, part_turn, read_one_part, read_parts, read_fact, read_sum, read_cut, read_case, read_closed, read_behind_c, read_c, read_step, read_steps, derived, read_cases, read_ending, read_derivation}
+use Rattle.cert_text.specs.steps.Readers.{Reader, give, seq, either, loop}
 use Rattle.cert_text.proofs.Language.{Lang, Dep, Done, Word}
 use Rattle.cert_text.proofs.Grammars.{Grammar, Either, Loop, Items, Turns, good_word, good_done, good_seq, good_same, good_either, good_loop, begins_word, avoids_word, avoids_either}
 use Rattle.cert_text.proofs.Naturals.{NaturalEnd, NoDigits, good_natural}

@@ -7,7 +7,9 @@ use Rattle.std.proofs.lemmas.Bool.Decides.{nat_tests}
 use Rattle.std.proofs.lemmas.Option.{same_Some}
 use Rattle.hex.specs.Hex.{lower_digits, encode_with, encode_lower}
 use Rattle.cert_text.specs.steps.Read.{lower_value, answer_hex, read_hex, read_bytes}
-use Rattle.cert_text.proofs.Language.{Lang, Agree, Leaves, IsPlain, IsRead, Some_text, Dep, Done, read_dep, read_same, read_done, plain_dep, plain_done, some_dep, some_done}
+use Rattle.cert_text.specs.steps.Readers.{give, seq}
+use Rattle.cert_text.proofs.Language.{Lang, Agree, Leaves, IsPlain, IsRead, Dep, Done}
+use Rattle.cert_text.proofs.Grammars.{Grammar, good_done, good_seq, good_same}
 
 -- the digit at each place of the table
 lower_code : ℕ → ℕ
@@ -55,7 +57,7 @@ value_at : (c v : ℕ) → lower_value c ≡ Some v → (v < 16) × (slice_index
 value_at c v is = value_by (nat_le 48 c && nat_le c 57) (nat_le 97 c && nat_le c 102) c v (λ h. grind (arith, nat_tests)) (λ h. grind (arith, nat_tests)) is
 
 -- one digit
-abbrev pub HexText : Lang ℕ
+abbrev HexText : Lang ℕ
 HexText v t = (v < 16) × (t ≡ slice_index lower_digits v ∷ [])
 
 hex_by : (o : Option ℕ) (c : ℕ) (cs : List ℕ) → lower_value c ≡ o → IsRead HexText (c ∷ cs) (answer_hex o c cs)
@@ -69,7 +71,7 @@ hex_by None c cs is = record {
   leaves = λ v t h. subst (λ x. Leaves x [] (c ∷ cs)) (sym h.1) (λ same. let told : Some v ≡ None = sym (at_value v h.0) ∙ ap lower_value same ∙ is in absurd (cc));
 }
 
-pub read_hex-right : (text : List ℕ) → IsRead HexText text (read_hex text)
+read_hex-right : (text : List ℕ) → IsRead HexText text (read_hex text)
 read_hex-right [] = record { read = []; whole = refl; value = 0; more = 48 ∷ []; begins = (omega arith, refl); leaves = λ v t h. subst (λ x. Leaves x [] []) (sym h.1) tt }
 read_hex-right (c ∷ cs) = hex_by (lower_value c) c cs refl
 
@@ -78,8 +80,8 @@ plain_hex v w s t h k =
     subst (λ x. Agree (v ≡ w) x t) (sym h.1) (subst (λ y. Agree (v ≡ w) (slice_index lower_digits v ∷ []) y) (sym k.1) (λ same.
     same_Some v w (sym (at_value v h.0) ∙ ap lower_value same ∙ at_value w k.0)))
 
-some_hex : Some_text HexText
-some_hex = record { value = 0; text = 48 ∷ []; is_text = (omega arith, refl) }
+good_hex : Grammar HexText read_hex
+good_hex = record { plain = plain_hex; some = record { value = 0; text = 48 ∷ []; is_text = (omega arith, refl) }; read = read_hex-right }
 
 -- bytes, two digits each
 abbrev pub BytesText : ℕ → Lang (List ℕ)
@@ -95,7 +97,7 @@ Low k high = Dep HexText (Others k high)
 abbrev Pair : ℕ → Lang (List ℕ)
 Pair k = Dep HexText (Low k)
 
-pub from_pair : (k : ℕ) (job t : List ℕ) → Pair k job t → BytesText (suc k) job t
+from_pair : (k : ℕ) (job t : List ℕ) → Pair k job t → BytesText (suc k) job t
 unfolding encode_with
 from_pair k job t h =
     let high = h.first in
@@ -147,35 +149,21 @@ unfolding encode_with
 nothing [] t h = (refl, h.2)
 nothing (b ∷ others) t h = absurd (omega (arith, h.0))
 
-some_others : (k high low : ℕ) → Some_text (BytesText k) → Some_text (Others k high low)
-some_others k high low some = some_dep (BytesText k) (λ others. Done ((16 * high + low) ∷ others)) some (λ others. some_done ((16 * high + low) ∷ others))
-
-some_low : (k high : ℕ) → Some_text (BytesText k) → Some_text (Low k high)
-some_low k high some = some_dep HexText (Others k high) some_hex (λ low. some_others k high low some)
-
-pub some_bytes : (k : ℕ) → Some_text (BytesText k)
+no_bytes : BytesText 0 [] []
 unfolding encode_with
-some_bytes zero = record { value = []; text = []; is_text = (refl, tt, refl) }
-some_bytes (suc k) =
-    let s = some_dep HexText (Low k) some_hex (λ high. some_low k high (some_bytes k)) in
-    record { value = s.value; text = s.text; is_text = from_pair k s.value s.text s.is_text }
+no_bytes = (refl, tt, refl)
 
-pub plain_bytes : (k : ℕ) → IsPlain (BytesText k)
-plain_bytes zero v w s t h k =
+plain_none : IsPlain (BytesText 0)
+plain_none v w s t h k =
     let a = nothing v s h in
     let b = nothing w t k in
     subst (λ x. Agree (v ≡ w) x t) (sym a.1) (subst (λ y. Agree (v ≡ w) [] y) (sym b.1) (a.0 ∙ sym b.0))
-plain_bytes (suc n) v w s t h k =
-    plain_dep HexText (Low n) plain_hex (λ high. plain_dep HexText (Others n high) plain_hex
-    (λ low. plain_dep (BytesText n) (λ others. Done ((16 * high + low) ∷ others)) (plain_bytes n) (λ others. plain_done ((16 * high + low) ∷ others))))
-    v w s t (pair_from n v s h) (pair_from n w t k)
 
-pub read_bytes-right : (k : ℕ) (text : List ℕ) → IsRead (BytesText k) text (read_bytes k text)
-unfolding read_bytes encode_with
-read_bytes-right zero text = record { read = []; whole = refl; is_text = (refl, tt, refl) }
-read_bytes-right (suc k) text =
-    read_same (Pair k) (BytesText (suc k)) text _ (from_pair k) (pair_from k)
-    (read_dep HexText (Low k) text (read_hex text) _ plain_hex (λ high. some_low k high (some_bytes k)) (read_hex-right text)
-    (λ high mid. read_dep HexText (Others k high) mid (read_hex mid) _ plain_hex (λ low. some_others k high low (some_bytes k)) (read_hex-right mid)
-    (λ low end. read_dep (BytesText k) (λ others. Done ((16 * high + low) ∷ others)) end (read_bytes k end) _ (plain_bytes k)
-    (λ others. some_done ((16 * high + low) ∷ others)) (read_bytes-right k end) (λ others last. read_done ((16 * high + low) ∷ others) last))))
+pub good_bytes : (k : ℕ) → Grammar (BytesText k) (read_bytes k)
+unfolding read_bytes
+good_bytes zero = record { plain = plain_none; some = record { value = []; text = []; is_text = no_bytes }; read = λ text. record { read = []; whole = refl; is_text = no_bytes } }
+good_bytes (suc k) =
+    good_same (Pair k) (BytesText (suc k)) (read_bytes (suc k)) (from_pair k) (pair_from k)
+    (good_seq HexText read_hex (Low k) (λ high. seq read_hex (λ low. seq (read_bytes k) (λ others. give ((16 * high + low) ∷ others)))) good_hex (λ high _ _.
+    good_seq HexText read_hex (Others k high) (λ low. seq (read_bytes k) (λ others. give ((16 * high + low) ∷ others))) good_hex (λ low _ _.
+    good_seq (BytesText k) (read_bytes k) (λ others. Done ((16 * high + low) ∷ others)) (λ others. give ((16 * high + low) ∷ others)) (good_bytes k) (λ others _ _. good_done ((16 * high + low) ∷ others)))))

@@ -2,10 +2,10 @@
 use Rattle.std.proofs.Common.{◌≡◌, ℕ, zero, suc, ◌+◌, ◌<◌, ◌≤◌, Bool, true, false, cond, ◌⊎◌, inl, inr, List, [], ◌∷◌, ◌++◌, length, Ok, Err, refl, sym, ◌∙◌, ap, subst, arith, rules, append_assoc, length-append}
 use Rattle.std.proofs.lemmas.Bool.{false≢true}
 use Rattle.std.proofs.lemmas.List.{append-nil}
-use Rattle.cert_text.specs.declared.full.turn.Turn.{Turn}
-use Rattle.cert_text.specs.declared.full.turn.Turn.TheVariants.{More, Last}
+use Rattle.cert_text.specs.declared.turn.Turn.{Turn}
+use Rattle.cert_text.specs.declared.turn.Turn.TheVariants.{More, Last}
 use Rattle.cert_text.specs.steps.Read.{Answer, ◌>>=◌, after_word, begins}
-use Rattle.cert_text.specs.steps.full.Readers.{Reader, give, seq, either, turned, loop}
+use Rattle.cert_text.specs.steps.Readers.{Reader, give, seq, either, turned, loop}
 use Rattle.cert_text.proofs.Language.{Lang, Agree, Leaves, IsPlain, IsRefused, IsTaken, IsRead, Dep, Done, Some_text, agree_map, agree_append, leaves_front, leaves_back, leaves_first, read_done, plain_done, some_done, read_same, Word, plain_word, some_word, read_word}
 
 pub record Grammar {A : Type 0} (L : Lang A) (R : Reader A) : Type 0 where

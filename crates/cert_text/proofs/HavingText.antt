@@ -9,8 +9,8 @@ use Rattle.lin_row.specs.Number.{in_i128}
 use Rattle.lin_row.specs.Form.{Terms}
 use Rattle.lin_row.proofs.Opposites.{in_i128-fit}
 use Rattle.lin_row.proofs.Sums.{int_eq-false}
-use Rattle.cert_text.specs.declared.full.certificate.Cert.{Cert}
-use Rattle.cert_text.specs.full.Texts.{part_has_text, is_num, is_nonzero, terms_have_text, cert_text, cert_has_text, CertText}
+use Rattle.cert_text.specs.declared.certificate.Cert.{Cert}
+use Rattle.cert_text.specs.Texts.{part_has_text, is_num, is_nonzero, terms_have_text, cert_text, cert_has_text, CertText}
 
 and_trues : (b : Bool) → b ≡ ((b && true) && true)
 and_trues true = refl

@@ -1,7 +1,6 @@
--- Languages: relations between values and texts. How far a text can be begun, and how parts that are read one after
--- another make a whole.
-use Rattle.std.proofs.Common.{◌≡◌, ℕ, ◌==◌, Bool, true, false, cond, List, [], ◌∷◌, ◌++◌, Ok, Err, refl, sym, ◌∙◌, ap, subst, arith, append_assoc, rules}
-use Rattle.cert_text.specs.steps.Read.{Answer, ◌>>=◌, after_word, begins}
+-- Languages: relations between values and texts. How far a text can be begun, and what makes the answer of a reader right.
+use Rattle.std.proofs.Common.{◌≡◌, ℕ, ◌==◌, Bool, true, false, cond, List, [], ◌∷◌, ◌++◌, Ok, Err, refl, sym, ◌∙◌, ap, subst, arith, rules}
+use Rattle.cert_text.specs.steps.Read.{Answer, after_word, begins}
 
 -- the values' texts
 abbrev pub Lang : Type 0 → Type 1
@@ -104,52 +103,7 @@ leaves_first c t [] [] h = tt
 leaves_first c t [] (d ∷ rest) h = λ e. h (search (arith, rules))
 leaves_first c t (d ∷ read) rest h = λ e. absurd (h (search (arith, rules)))
 
--- ---- one part after another
-
-pub plain_dep : {A B : Type 0} (L : Lang A) (K : A → Lang B) → IsPlain L → ((a : A) → IsPlain (K a)) → IsPlain (Dep L K)
-plain_dep {A} {B} L K plain plains v w s t h k =
-    subst (λ x. Agree (v ≡ w) x t) (sym h.whole) (subst (λ y. Agree (v ≡ w) (h.front ++ h.back) y) (sym k.whole)
-    (agree_append (h.first ≡ k.first) (v ≡ w) h.front k.front h.back k.back (plain h.first k.first h.front k.front h.first_text k.first_text)
-    (λ e. plains k.first v w h.back k.back (subst (λ a. K a v h.back) e h.back_text) k.back_text)))
-
-taken_back : {A B : Type 0} (L : Lang A) (K : A → Lang B) (text : List ℕ) (a : A) (mid : List ℕ) (r : Answer B)
-    → IsPlain L → IsTaken L text a mid → IsRead (K a) mid r → IsRead (Dep L K) text r
-taken_back L K text a mid (Ok r) plain t k = record {
-  read = t.read ++ k.read;
-  whole = t.whole ∙ ap (λ m. t.read ++ m) k.whole ∙ sym (append_assoc t.read k.read r.1);
-  is_text = record { first = a; front = t.read; back = k.read; whole = refl; first_text = t.is_text; back_text = k.is_text };
-}
-taken_back L K text a mid (Err rest) plain t k = record {
-  read = t.read ++ k.read;
-  whole = t.whole ∙ ap (λ m. t.read ++ m) k.whole ∙ sym (append_assoc t.read k.read rest);
-  value = k.value;
-  more = k.more;
-  begins = record { first = a; front = t.read; back = k.read ++ k.more; whole = append_assoc t.read k.read k.more; first_text = t.is_text; back_text = k.begins };
-  leaves = λ v s d. subst (λ x. Leaves x (t.read ++ k.read) rest) (sym d.whole)
-      (leaves_back (d.first ≡ a) d.front t.read d.back k.read rest (plain d.first a d.front t.read d.first_text t.is_text)
-      (λ e. k.leaves v d.back (subst (λ x. K x v d.back) e d.back_text)));
-}
-
-pub read_dep : {A B : Type 0} (L : Lang A) (K : A → Lang B) (text : List ℕ) (r : Answer A) (k : A × List ℕ → Answer B)
-    → IsPlain L → ((a : A) → Some_text (K a)) → IsRead L text r → ((a : A) (mid : List ℕ) → IsRead (K a) mid (k (a, mid))) → IsRead (Dep L K) text (r >>= k)
-read_dep L K text (Ok r) k plain some h hk = taken_back L K text r.0 r.1 (k r) plain h (hk r.0 r.1)
-read_dep L K text (Err rest) k plain some h hk =
-    let next = some h.value in record {
-      read = h.read;
-      whole = h.whole;
-      value = next.value;
-      more = h.more ++ next.text;
-      begins = record { first = h.value; front = h.read ++ h.more; back = next.text; whole = sym (append_assoc h.read h.more next.text); first_text = h.begins; back_text = next.is_text };
-      leaves = λ v t d. subst (λ x. Leaves x h.read rest) (sym d.whole) (leaves_front d.front d.back h.read rest (h.leaves d.first d.front d.first_text));
-    }
-
-pub some_dep : {A B : Type 0} (L : Lang A) (K : A → Lang B) → Some_text L → ((a : A) → Some_text (K a)) → Some_text (Dep L K)
-some_dep L K s k =
-    let next = k s.value in record {
-      value = next.value;
-      text = s.text ++ next.text;
-      is_text = record { first = s.value; front = s.text; back = next.text; whole = refl; first_text = s.is_text; back_text = next.is_text };
-    }
+-- ---- nothing more
 
 pub read_done : {A : Type 0} (a : A) (text : List ℕ) → IsRead (Done a) text (Ok (a, text))
 read_done a text = record { read = []; whole = refl; is_text = (refl, refl) }

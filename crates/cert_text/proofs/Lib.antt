@@ -5,12 +5,9 @@ pub mod Digests
 pub mod Faults
 pub mod Grammars
 pub mod HavingText
-pub mod Ints
 pub mod Language
 pub mod LoopLemmas
 pub mod Naturals
-pub mod Nodes
-pub mod Numbers
+pub mod NodeCounts
+pub mod Numerals
 pub mod Rows
-pub mod Spelled
-pub mod Whole

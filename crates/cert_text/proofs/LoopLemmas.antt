@@ -1,9 +1,9 @@
 -- What a turn of a loop of items leaves to be read.
 use Rattle.std.proofs.Common.{◌≡◌, ℕ, zero, suc, ◌+◌, ◌-◌, ◌<◌, ◌≤◌, List, [], ◌∷◌, ◌++◌, Ok, Err, refl, sym, ap, arith, append_assoc, add-one}
-use Rattle.cert_text.specs.declared.full.turn.Turn.{Turn}
-use Rattle.cert_text.specs.declared.full.turn.Turn.TheVariants.{More, Last}
+use Rattle.cert_text.specs.declared.turn.Turn.{Turn}
+use Rattle.cert_text.specs.declared.turn.Turn.TheVariants.{More, Last}
 use Rattle.cert_text.specs.steps.Read.{Answer, ◌>>=◌}
-use Rattle.cert_text.specs.steps.full.Readers.{Reader, loop}
+use Rattle.cert_text.specs.steps.Readers.{Reader, loop}
 
 -- items in front of an answer's
 abbrev pub put_items : {A B : Type 0} → List A → Answer (List A × B) → Answer (List A × B)

@@ -6,14 +6,12 @@ use Rattle.std.proofs.lemmas.Bool.{false≢true, and_parts}
 use Rattle.std.proofs.lemmas.Bool.Decides.{nat_tests}
 use Rattle.std.proofs.lemmas.Fmt.{decimal_digit, decimal_step_wide}
 use Rattle.std.proofs.lemmas.List.{append-nil}
-use Rattle.cert_text.specs.Grammar.{IsDigit, number_after, NumeralText}
-use Rattle.cert_text.specs.steps.Read.{Answer, after_word, begins, negative}
+use Rattle.cert_text.specs.steps.Read.{Answer, after_word, begins}
 use Rattle.cert_text.specs.steps.Write.{int_bytes}
-use Rattle.cert_text.specs.steps.full.Numbers.{reaches, goes_on, is_one_of, number_on, zero_end, first_digits, natural, signed}
-use Rattle.cert_text.specs.steps.full.Readers.{give, seq, either}
+use Rattle.cert_text.specs.steps.Numbers.{reaches, goes_on, is_one_of, number_on, zero_end, first_digits, natural, negative, signed}
+use Rattle.cert_text.specs.steps.Readers.{give, seq, either}
 use Rattle.cert_text.proofs.Language.{Lang, Agree, Leaves, IsPlain, IsRefused, IsRead, Dep, Done, Word, agree_map}
-use Rattle.cert_text.proofs.Numbers.{number_after-ge}
-use Rattle.cert_text.proofs.Spelled.{numeral_spelled}
+use Rattle.cert_text.proofs.Numerals.{IsDigit, number_after, NumeralText, number_after-ge, numeral_spelled}
 use Rattle.cert_text.proofs.Grammars.{Grammar, Either, Avoids, good_word, good_done, good_seq, good_same, good_either, begins_word}
 
 -- ---- digits behind a number

@@ -9,14 +9,14 @@ use Rattle.std.proofs.lemmas.List.{append-nil}
 use Rattle.lin_row.specs.Form.{Form, Terms, IsCanonical, IsAbove}
 use Rattle.lin_row.specs.Number.{in_i128}
 use Rattle.lin_row.proofs.Sums.{int_eq-false}
-use Rattle.cert_text.specs.declared.full.turn.Turn.{Turn}
-use Rattle.cert_text.specs.declared.full.turn.Turn.TheVariants.{More, Last}
-use Rattle.cert_text.specs.full.Texts.{is_num, is_nonzero, terms_have_text, row_has_text}
+use Rattle.cert_text.specs.declared.turn.Turn.{Turn}
+use Rattle.cert_text.specs.declared.turn.Turn.TheVariants.{More, Last}
+use Rattle.cert_text.specs.Texts.{is_num, is_nonzero, terms_have_text, row_has_text}
 use Rattle.cert_text.specs.steps.Read.{Answer, after_word, begins}
 use Rattle.cert_text.specs.steps.Write.{int_bytes, term_bytes, row_bytes}
-use Rattle.cert_text.specs.steps.full.Numbers.{is_one_of, natural, signed}
-use Rattle.cert_text.specs.steps.full.Parts.{most, ends_behind, Term, term_turn, read_one_term, read_by, read_term, with_last, next_variable, read_terms, row_of, read_row}
-use Rattle.cert_text.specs.steps.full.Readers.{give, seq, loop}
+use Rattle.cert_text.specs.steps.Numbers.{is_one_of, natural, signed}
+use Rattle.cert_text.specs.steps.Parts.{most, ends_behind, Term, term_turn, read_one_term, read_by, read_term, with_last, next_variable, read_terms, row_of, read_row}
+use Rattle.cert_text.specs.steps.Readers.{give, seq, loop}
 use Rattle.cert_text.proofs.HavingText.{first_by}
 use Rattle.cert_text.proofs.Language.{Lang, IsPlain, IsRead, Dep, Done, Word}
 use Rattle.cert_text.proofs.Grammars.{Grammar, Either, Avoids, Loop, Items, Turns, good_word, good_done, good_seq, good_same, good_either, good_loop, begins_word, plain_either_of}

@@ -3,7 +3,7 @@ use Rattle.std.specs.Prelude.{ℕ, ◌≤◌, List, ◌++◌, length, take}
 use Rattle.cert_text.specs.declared.certificate.Cert.{Cert}
 use Rattle.cert_text.specs.declared.certificate.CertFault.{CertFault}
 use Rattle.cert_text.specs.declared.certificate.CertFault.TheVariants.{Mem, Grammar}
-use Rattle.cert_text.specs.Grammar.{CertText}
+use Rattle.cert_text.specs.Texts.{CertText}
 
 -- some certificate's text begins with these bytes
 abbrev pub BeginsText : List ℕ → Type 0

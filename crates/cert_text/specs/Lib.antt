@@ -1,4 +1,4 @@
 pub mod Fault
-pub mod Grammar
-pub mod full
+pub mod Nodes
+pub mod Texts
 pub mod steps

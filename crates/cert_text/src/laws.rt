@@ -1,6 +1,7 @@
-ghost use Rattle.std.specs.Prelude.{◌≡◌, ◌++◌, ℕ, List, []};
-ghost use Rattle.cert_text.specs.Grammar.{CertText};
+ghost use Rattle.std.specs.Prelude.{◌≡◌, ◌≤◌, ◌++◌, ℕ, List, [], length};
 ghost use Rattle.cert_text.specs.declared.certificate.Cert.{Cert};
+ghost use Rattle.cert_text.specs.Nodes.{node_count};
+ghost use Rattle.cert_text.specs.Texts.{CertText};
 
 /// Each text has one certificate.
 pub fn one_certificate()
@@ -15,4 +16,9 @@ pub fn one_spelling()
 /// No certificate's text begins another's.
 pub fn no_text_begins_another()
     ensures { (first second : Cert) (text more : List ℕ) → CertText first text → CertText second (text ++ more) → more ≡ [] }
+{}
+
+/// A certificate has at most as many nodes as its text has bytes.
+pub fn no_more_nodes_than_bytes()
+    ensures { (cert : Cert) (text : List ℕ) → CertText cert text → node_count cert.root ≤ length text }
 {}

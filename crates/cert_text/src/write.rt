@@ -1,10 +1,12 @@
 ghost use Rattle.std.specs.Prelude.{◌≡◌, ◌++◌, ℕ, List, IfOk, OnOk};
+ghost use Rattle.std.specs.List.{flat_map};
 ghost use Rattle.hex.specs.Hex.{encode_lower};
-ghost use Rattle.cert_text.specs.Grammar.{CertText};
-ghost use Rattle.cert_text.specs.steps.Write.{int_bytes, term_bytes, row_bytes, node_bytes, cert_bytes};
+ghost use Rattle.cert_text.specs.steps.Write.{int_bytes, term_bytes, row_bytes};
+ghost use Rattle.cert_text.specs.Texts.{CertText, answer_text, answer_word, branch_text, cert_text, derivation_text, ending_text, node_text, part_text, step_text};
 
 use crate::certificate::{Cert, CertNode};
 use itoa::Buffer;
+use lin_proof::{Answer, Branch, Derivation, Ending, Step};
 use lin_row::Row;
 use std::alloc::{AllocError, Global};
 use viz_base::Mem;
@@ -20,7 +22,7 @@ pub fn write_cert(alloc: Global, cert: &Cert) -> Result<Vec<u8>, Mem>
 }
 
 fn push_cert(text: &mut Vec<u8>, cert: &Cert) -> Result<(), AllocError>
-    ensures { OnOk result (text.new.items ≡ text.old.items ++ cert_bytes cert.now) }
+    ensures { OnOk result (text.new.items ≡ text.old.items ++ cert_text cert.now) }
 {
     let digits = digits_of(&cert.job);
     text.extend_from_slice(b"vizlog-cert 1\njob ")?;
@@ -31,7 +33,7 @@ fn push_cert(text: &mut Vec<u8>, cert: &Cert) -> Result<(), AllocError>
 }
 
 /// 32 bytes in hex, with lower case letters.
-pub fn digits_of(job: &[u8; 32]) -> [u8; 64]
+fn digits_of(job: &[u8; 32]) -> [u8; 64]
     ensures { result ≡ encode_lower job.now }
 {
     let mut digits = [0; 64];
@@ -40,7 +42,7 @@ pub fn digits_of(job: &[u8; 32]) -> [u8; 64]
 }
 
 /// A number in decimal digits.
-pub fn push_int(text: &mut Vec<u8>, number: i128) -> Result<(), AllocError>
+fn push_int(text: &mut Vec<u8>, number: i128) -> Result<(), AllocError>
     ensures { OnOk result (text.new.items ≡ text.old.items ++ int_bytes number) }
 {
     let mut buffer = Buffer::new();
@@ -68,18 +70,140 @@ pub fn push_row(text: &mut Vec<u8>, row: &Row) -> Result<(), AllocError>
     Ok(())
 }
 
+/// A multiple of a row, and the row's number.
+fn push_part(text: &mut Vec<u8>, part: (i128, u32)) -> Result<(), AllocError>
+    ensures { OnOk result (text.new.items ≡ text.old.items ++ part_text part) }
+{
+    text.extend_from_slice(b" ")?;
+    push_int(text, part.0)?;
+    text.extend_from_slice(b":")?;
+    push_int(text, i128::from(part.1))?;
+    Ok(())
+}
+
+fn push_parts(text: &mut Vec<u8>, parts: &[(i128, u32)]) -> Result<(), AllocError>
+    ensures { OnOk result (text.new.items ≡ text.old.items ++ flat_map part_text parts.now) }
+{
+    for part in parts {
+        push_part(text, *part)?;
+    }
+    Ok(())
+}
+
+fn push_step(text: &mut Vec<u8>, step: &Step) -> Result<(), AllocError>
+    ensures { OnOk result (text.new.items ≡ text.old.items ++ step_text step.now) }
+{
+    match step {
+        Step::Fact(number) => {
+            text.extend_from_slice(b"fact ")?;
+            push_int(text, i128::from(*number))?;
+        }
+        Step::Sum(parts) => {
+            text.extend_from_slice(b"sum")?;
+            push_parts(text, parts.as_slice())?;
+        }
+        Step::Cut(divisor, number) => {
+            text.extend_from_slice(b"cut")?;
+            push_part(text, (*divisor, *number))?;
+        }
+    }
+    text.extend_from_slice(b"\n")
+}
+
+#[cycle(push)]
+fn push_derivation(text: &mut Vec<u8>, d: &Derivation) -> Result<(), AllocError>
+    ensures { OnOk result (text.new.items ≡ text.old.items ++ derivation_text d.now) }
+{
+    push_steps(text, d.steps.as_slice())?;
+    push_ending(text, &d.last)
+}
+
+fn push_steps(text: &mut Vec<u8>, steps: &[Step]) -> Result<(), AllocError>
+    ensures { OnOk result (text.new.items ≡ text.old.items ++ flat_map step_text steps.now) }
+{
+    for step in steps {
+        push_step(text, step)?;
+    }
+    Ok(())
+}
+
+#[cycle(push)]
+fn push_ending(text: &mut Vec<u8>, ending: &Ending) -> Result<(), AllocError>
+    ensures { OnOk result (text.new.items ≡ text.old.items ++ ending_text ending.now) }
+{
+    match ending {
+        Ending::Closed => text.extend_from_slice(b"closed\n"),
+        Ending::Cases(branch) => push_branch(text, branch.get()),
+    }
+}
+
+#[cycle(push)]
+fn push_branch(text: &mut Vec<u8>, branch: &Branch) -> Result<(), AllocError>
+    ensures { OnOk result (text.new.items ≡ text.old.items ++ branch_text branch.now) }
+{
+    text.extend_from_slice(b"case ")?;
+    push_row(text, &branch.row)?;
+    text.extend_from_slice(b"\n")?;
+    push_derivation(text, &branch.first)?;
+    push_derivation(text, &branch.second)
+}
+
+fn push_word(text: &mut Vec<u8>, is_yes: bool) -> Result<(), AllocError>
+    ensures { OnOk result (text.new.items ≡ text.old.items ++ answer_word is_yes) }
+{
+    if is_yes {
+        text.extend_from_slice(b"yes ")
+    } else {
+        text.extend_from_slice(b"no ")
+    }
+}
+
+fn push_answer(text: &mut Vec<u8>, answer: &Answer) -> Result<(), AllocError>
+    ensures { OnOk result (text.new.items ≡ text.old.items ++ answer_text answer.now) }
+{
+    push_word(text, answer.yes)?;
+    push_row(text, &answer.row)?;
+    text.extend_from_slice(b"\n")?;
+    push_derivation(text, &answer.why)
+}
+
+fn push_answers(text: &mut Vec<u8>, answers: &[Answer]) -> Result<(), AllocError>
+    ensures { OnOk result (text.new.items ≡ text.old.items ++ flat_map answer_text answers.now) }
+{
+    for answer in answers {
+        push_answer(text, answer)?;
+    }
+    Ok(())
+}
+
 fn push_node(text: &mut Vec<u8>, node: &CertNode) -> Result<(), AllocError>
-    ensures { OnOk result (text.new.items ≡ text.old.items ++ node_bytes node.now) }
+    ensures { OnOk result (text.new.items ≡ text.old.items ++ node_text node.now) }
 {
     match node {
-        CertNode::Grid => text.extend_from_slice(b"grid\n"),
+        CertNode::Def(row, divisor, below) => {
+            text.extend_from_slice(b"def ")?;
+            push_row(text, row)?;
+            text.extend_from_slice(b" by ")?;
+            push_int(text, *divisor)?;
+            text.extend_from_slice(b"\n")?;
+            push_node(text, below.get())
+        }
         CertNode::Split(row, first, second) => {
             text.extend_from_slice(b"split ")?;
             push_row(text, row)?;
             text.extend_from_slice(b"\n")?;
             push_node(text, first.get())?;
-            push_node(text, second.get())?;
-            Ok(())
+            push_node(text, second.get())
+        }
+        CertNode::Void(why) => {
+            text.extend_from_slice(b"void\n")?;
+            push_derivation(text, why)
+        }
+        CertNode::Grid => text.extend_from_slice(b"grid\n"),
+        CertNode::Leaf(answers) => {
+            text.extend_from_slice(b"leaf\n")?;
+            push_answers(text, answers.as_slice())?;
+            text.extend_from_slice(b"end\n")
         }
     }
 }

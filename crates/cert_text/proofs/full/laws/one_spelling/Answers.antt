@@ -1,5 +1,0 @@
-use Rattle.std.proofs.Common.{sym, ◌∙◌}
-use Rattle.cert_text.proofs.full.laws.one_spelling.Goals as goal
-
-pub returns : goal.returns
-returns c = λ cert first second h k. h.1 ∙ sym k.1
