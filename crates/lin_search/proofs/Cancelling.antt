@@ -1,6 +1,5 @@
 -- Whole numbers that cancel each other, by their sizes.
 use Rattle.std.proofs.Common.{◌≡◌, ◌≢◌, ℕ, zero, suc, ◌*◌, ◌^◌, ◌<◌, ◌≤◌, ℤ, pos, negsuc, ◌+ℤ◌, ◌*ℤ◌, ◌<ℤ◌, unsigned_abs, FitsSigned, inl, inr, Bool, true, false, refl, sym, ◌∙◌, ap, subst, arith}
-use Rattle.std.proofs.Math.Nat.{mul-pos}
 use mathlib.Core.Bool.{beq}
 use Rattle.std.specs.Int.{w128}
 use Rattle.std.specs.Int.Signed.{lt_z}
@@ -66,19 +65,6 @@ NoneCancel-first c e p q opposite h big a b a_fits b_fits cancels =
 pub NoneCancel-second : (c e : ℤ) (p q : ℕ) → (lt_z c (pos 0) ≡ lt_z e (pos 0) → ⊥) → IsLowest (unsigned_abs c) (unsigned_abs e) p q → 2 ^ 127 ≤ q → NoneCancel c e
 NoneCancel-second c e p q opposite h big a b a_fits b_fits cancels =
     let t = (IsLeast-of c e p q opposite h).least a b cancels in big_multiple t.0 q b t.1 t.3 big b_fits
-
--- numbers of the same sign do not cancel each other
-pub NoneCancel-same : (c e : ℤ) → c ≢ pos 0 → e ≢ pos 0 → lt_z c (pos 0) ≡ lt_z e (pos 0) → NoneCancel c e
-NoneCancel-same (pos m) (pos n) some other same (pos k) (pos l) a_fits b_fits h =
-    let big : 0 < k * m = mul-pos (omega (arith, ints, h.first)) (omega (arith, ints, some)) in
-    omega (arith, ints, h.sum, big)
-NoneCancel-same (negsuc m) (negsuc n) some other same (pos k) (pos l) a_fits b_fits h =
-    let big : 0 < k * suc m = mul-pos (omega (arith, ints, h.first)) (omega arith) in
-    omega (arith, ints, h.sum, big)
-NoneCancel-same (pos m) (negsuc n) some other same a b a_fits b_fits h = absurd (false≢true (sym (not_below m) ∙ same))
-NoneCancel-same (negsuc m) (pos n) some other same a b a_fits b_fits h = absurd (false≢true (sym (not_below n) ∙ sym same))
-NoneCancel-same c e some other same (negsuc k) b a_fits b_fits h = absurd (omega (arith, ints, h.first))
-NoneCancel-same c e some other same a (negsuc l) a_fits b_fits h = absurd (omega (arith, ints, h.second))
 
 -- what the tests of signs and of the range say
 

@@ -296,6 +296,13 @@ impl<'a> Sym<'a> {
     {
         self.tape.len().saturating_sub(self.taken)
     }
+
+    /// How many numbers were outside 128 bits, up to the greatest `u64`. Takes no memory.
+    pub fn coeffs(&self) -> u64
+        ensures { result ≡ (state_of self.now).coeffs }
+    {
+        self.coeffs
+    }
 }
 
 /// A row plus a variable.
