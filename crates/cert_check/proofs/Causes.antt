@@ -1,126 +1,48 @@
--- From the walk over a certificate to its verdict.
-use Rattle.std.proofs.Common.{◌≡◌, ℕ, zero, suc, ◌+◌, ◌<◌, Bool, true, false, not, nat_eq, nat_lt, List, [], ◌∷◌, Some, Ok, Err, refl, sym, ap, subst, ◌∙◌, arith, inl, inr}
-use Rattle.std.specs.Prelude.{slice_get}
-use Rattle.std.specs.Cmp.Lexicographic.{pointwise, same_text}
+-- The verdict on a certificate that is plainly computed.
+use Rattle.std.proofs.Common.{◌≡◌, ℕ, zero, suc, ◌<◌, Bool, true, false, nat_lt, List, [], ◌∷◌, Some, refl, sym, ap, subst, ◌∙◌, arith, inl, inr}
+use Rattle.std.specs.Prelude.{◌≢◌, ◌⊎◌, slice_get}
 use Rattle.std.proofs.lemmas.Bool.Decides.{nat_tests}
 use Rattle.std.proofs.lemmas.Option.{same_Some}
 use Rattle.viz_base.specs.declared.worlds.World.{World}
 use Rattle.viz_base.specs.declared.jobs.Job.{Job}
+use Rattle.lin_proof.specs.Derivations.{first_fault}
 use Rattle.cert_text.specs.declared.certificate.Cert.{Cert}
+use Rattle.cert_path.specs.Paths.{Path, variables}
+use Rattle.cert_path.specs.Facts.{facts}
+use Rattle.cert_path.specs.Nodes.{Decision, names, splits, is_empty, by_worlds, by_answers, Node, nodes_of}
+use Rattle.cert_path.specs.Shapes.{is_shaped}
+use Rattle.cert_path.specs.Derived.{HasReasons}
 use Rattle.cert_check.specs.declared.verdicts.Verdict.{Verdict}
 use Rattle.cert_check.specs.declared.verdicts.Verdict.TheVariants.{Accepted, Rejected}
 use Rattle.cert_check.specs.declared.verdicts.Reject.{Reject}
-use Rattle.cert_check.specs.declared.verdicts.Reject.TheVariants.{OtherJob, Shape, Untrue}
-use Rattle.cert_check.specs.declared.walk.Stop.TheVariants as of_stop
-use Rattle.cert_check.specs.Paths.{Path}
-use Rattle.cert_check.specs.Nodes.{by_worlds, Node, nodes_of}
-use Rattle.cert_check.specs.Right.{is_true_at, has_shape, DecidesTruly, IsGood, Right}
-use Rattle.cert_check.specs.Verdicts.{IsBefore, IsFirstUntrue, IsReached, IsBadShape, IsUntrue, IsCause, IsVerdict}
-use Rattle.cert_check.specs.steps.Walk.{Answer, GivesNumber, walk}
-use Rattle.cert_check.proofs.Parts.{whole_part}
-use Rattle.cert_check.proofs.Walks.{AllGood, IsBad, Rejects, Tells, walk_tells}
+use Rattle.cert_check.specs.declared.verdicts.Reject.TheVariants.{OtherJob, Shape, Line, Untrue, Coeff}
+use Rattle.cert_check.specs.Truths.{Holds, is_true_at, IsBefore}
+use Rattle.cert_check.specs.steps.Tells.{AllGood}
+use Rattle.cert_check.specs.Leaves.{node_in}
+use Rattle.cert_check.specs.Numbers.{are_computed}
+use Rattle.cert_check.specs.Right.{IsTrueIfGrid, Right, IsWithin128, IsPlainlyComputed, DecidesWell, IsGood}
+use Rattle.cert_check.specs.Verdicts.{IsFirstUntrue, IsFault, IsRejected, IsFirstRejected, IsCause, IsVerdict}
+use Rattle.cert_check.proofs.Tellings.{not_both, right_of, no_fault, not_rejected, cause_not_right, holds_of}
 
--- ---- lists of nodes by number
+-- ---- what is right and plainly computed is good
 
-pub good_at : (job : Job) (nodes : List Node) → AllGood job nodes → (n : ℕ) (node : Node) → slice_get nodes n ≡ Some node → IsGood job node
-good_at job [] h n node is = absurd (cc)
-good_at job (x ∷ xs) h zero node is = subst (λ y. IsGood job y) (same_Some x node is) h.0
-good_at job (x ∷ xs) h (suc n) node is = good_at job xs h.1 n node is
+good_decides : (job : Job) (path : Path) (d : Decision) → HasReasons job.range path d → IsTrueIfGrid job path d → IsWithin128 job path d → DecidesWell job path d
+good_decides job path (names row d) r t w = tt
+good_decides job path (splits row) r t w = w
+good_decides job path (is_empty why) r t w = r
+good_decides job path by_worlds r t w = (w, t)
+good_decides job path (by_answers answers) r t w = absurd w
 
--- the first node that is not good, and its place
-record IsFirstBad (job : Job) (nodes : List Node) (n : ℕ) (reject : Reject) : Type 0 where
-  pub place : ℕ
-  pub node : Node
-  pub is_node : slice_get nodes place ≡ Some node
-  pub before : (k : ℕ) (other : Node) → k < place → slice_get nodes k ≡ Some other → IsGood job other
-  pub bad : IsBad job (n + place) node reject
+all_good : (job : Job) (nodes : List Node) → ((n : ℕ) (node : Node) → slice_get nodes n ≡ Some node → IsGood job node) → AllGood job nodes
+all_good job [] h = tt
+all_good job (x ∷ xs) h = (h zero x refl, all_good job xs (λ n node is. h (suc n) node is))
 
-first_bad : (job : Job) (nodes : List Node) (n : ℕ) (reject : Reject) → Rejects job nodes n reject → IsFirstBad job nodes n reject
-first_bad job [] n reject h = absurd h
-first_bad job (x ∷ xs) n reject (inl bad) = record {
-  place = 0;
-  node = x;
-  is_node = refl;
-  before = λ k other lt is. absurd (omega arith);
-  bad = let same : n ≡ n + 0 = omega arith in subst (λ m. IsBad job m x reject) same bad;
-}
-first_bad job (x ∷ xs) n reject (inr h) = further (first_bad job xs (n + 1) reject h.1)
-  where
-    further : IsFirstBad job xs (n + 1) reject → IsFirstBad job (x ∷ xs) n reject
-    further rest = record {
-      place = suc rest.place;
-      node = rest.node;
-      is_node = rest.is_node;
-      before = before;
-      bad = let same : n + 1 + rest.place ≡ n + suc rest.place = omega arith in subst (λ m. IsBad job m rest.node reject) same rest.bad;
-    }
-      where
-        before : (k : ℕ) (other : Node) → k < suc rest.place → slice_get (x ∷ xs) k ≡ Some other → IsGood job other
-        before zero other lt is = subst (λ y. IsGood job y) (same_Some x other is) h.0
-        before (suc k) other lt is = rest.before k other (omega arith) is
+pub right_holds : (job : Job) (cert : Cert) → IsPlainlyComputed job cert → Right job cert → Holds job
+right_holds job cert plain right = holds_of job cert (all_good job (nodes_of cert) (λ n node is.
+    let h = right.nodes n node is in
+    record { shaped = h.shaped; decides = good_decides job node.path node.decision h.reasons h.holds (plain n node is) }))
 
--- ---- the verdict
-
-cause_of : (job : Job) (cert : Cert) (reject : Reject) → cert.job ≡ job.digest → IsFirstBad job (nodes_of cert) 0 reject → IsCause job cert reject
-cause_of job cert OtherJob same h = absurd (h.bad)
-cause_of job cert (Shape m) same h =
-    let number : m ≡ h.place = let e = h.bad.0 in omega arith in
-    subst (λ k. IsBadShape job cert k) (sym number) (record { node = h.node; reached = record { digest = same; is_node = h.is_node; before = h.before }; bad = h.bad.1 })
-cause_of job cert (Untrue m world) same h =
-    let number : m ≡ h.place = let e = h.bad.0 in omega arith in
-    subst (λ k. IsUntrue job cert k world) (sym number) (record { node = h.node; reached = record { digest = same; is_node = h.is_node; before = h.before }; shaped = h.bad.1; grid = h.bad.2; first = h.bad.3 })
-
-abbrev verdict_of : Answer → Verdict
-verdict_of (Ok m) = Accepted
-verdict_of (Err reject) = Rejected reject
-
-told_verdict : (job : Job) (cert : Cert) → cert.job ≡ job.digest → (answer : Answer) → Tells job (nodes_of cert) 0 answer → IsVerdict job cert (verdict_of answer)
-told_verdict job cert same (Ok m) h = record { digest = same; nodes = good_at job (nodes_of cert) h.0 }
-told_verdict job cert same (Err reject) h = cause_of job cert reject same (first_bad job (nodes_of cert) 0 reject h)
-
--- the walk over a certificate of the job's digest gives the verdict
-pub walk_verdict : (job : Job) (cert : Cert) → cert.job ≡ job.digest → IsVerdict job cert (verdict_of (walk job cert.root 0 (Some job.range)))
-walk_verdict job cert same =
-    told_verdict job cert same (walk job cert.root 0 (Some job.range))
-    (walk_tells job cert.root [] 0 (Some job.range) refl (whole_part job.range (record { widths = job.ok.in_range.widths; sizes = job.ok.in_range.sizes })))
-
-pub accepts : (job : Job) (cert : Cert) (m : ℕ) → cert.job ≡ job.digest → GivesNumber (Ok m) (walk job cert.root 0 (Some job.range)) → Right job cert
-accepts job cert m same given = subst (λ a. IsVerdict job cert (verdict_of a)) given (walk_verdict job cert same)
-
-pub rejects : (job : Job) (cert : Cert) (reject : Reject) → cert.job ≡ job.digest → GivesNumber (Err (of_stop.Rejected reject)) (walk job cert.root 0 (Some job.range)) → IsCause job cert reject
-rejects job cert reject same given = subst (λ a. IsVerdict job cert (verdict_of a)) given (walk_verdict job cert same)
-
--- ---- one verdict
-
-not_both : (b : Bool) → b ≡ true → b ≡ false → ⊥
-not_both b t f = absurd (cc)
-
-bad_shape_not_right : (job : Job) (cert : Cert) (n : ℕ) → IsBadShape job cert n → Right job cert → ⊥
-bad_shape_not_right job cert n h right = not_both (has_shape job.range h.node) (right.nodes n h.node h.reached.is_node).shaped h.bad
-
-untrue_not_good : (job : Job) (node : Node) (world : World) → node.decision ≡ by_worlds → IsFirstUntrue job node.path world → IsGood job node → ⊥
-untrue_not_good job node world grid first good =
-    not_both (is_true_at job world) (subst (λ d. DecidesTruly job node.path d) grid good.decides world first.in_range first.on_path) first.untrue
-
-untrue_not_right : (job : Job) (cert : Cert) (n : ℕ) (world : World) → IsUntrue job cert n world → Right job cert → ⊥
-untrue_not_right job cert n world h right = untrue_not_good job h.node world h.grid h.first (right.nodes n h.node h.reached.is_node)
-
-pub cause_not_right : (job : Job) (cert : Cert) (reject : Reject) → IsCause job cert reject → Right job cert → ⊥
-cause_not_right job cert OtherJob h right = h right.digest
-cause_not_right job cert (Shape n) h right = bad_shape_not_right job cert n h right
-cause_not_right job cert (Untrue n world) h right = untrue_not_right job cert n world h right
-
--- no node before one that is reached is bad
-one_place : (job : Job) (cert : Cert) (n m : ℕ) (x y : Node) → IsReached job cert n x → IsReached job cert m y → (IsGood job x → ⊥) → (IsGood job y → ⊥) → n ≡ m
-one_place job cert n m x y a b not_x not_y = by_order (nat_lt n m) refl (nat_lt m n) refl
-  where
-    by_order : (c : Bool) → nat_lt n m ≡ c → (d : Bool) → nat_lt m n ≡ d → n ≡ m
-    by_order true e d f = absurd (not_x (b.before n x (grind (arith, nat_tests)) a.is_node))
-    by_order false e true f = absurd (not_y (a.before m y (grind (arith, nat_tests)) b.is_node))
-    by_order false e false f = grind (arith, nat_tests)
-
-bad_shape_not_good : (job : Job) (node : Node) → has_shape job.range node ≡ false → IsGood job node → ⊥
-bad_shape_not_good job node bad good = not_both (has_shape job.range node) good.shaped bad
+-- ---- one cause of a rejected node
 
 one_first : (job : Job) (path : Path) (a b : World) → IsFirstUntrue job path a → IsFirstUntrue job path b → a ≡ b
 one_first job path a b h k = by_order (nat_lt a.w b.w) refl (nat_lt b.w a.w) refl (nat_lt a.s b.s) refl (nat_lt b.s a.s) refl
@@ -141,39 +63,90 @@ one_first job path a b h k = by_order (nat_lt a.w b.w) refl (nat_lt b.w a.w) ref
         let same_s : a.s ≡ b.s = grind (arith, nat_tests) in
         λ i. record { w = same_w i; s = same_s i }
 
-one_cause : (job : Job) (cert : Cert) (a b : Reject) → IsCause job cert a → IsCause job cert b → a ≡ b
-one_cause job cert OtherJob OtherJob h k = refl
-one_cause job cert OtherJob (Shape m) h k = absurd (h k.reached.digest)
-one_cause job cert OtherJob (Untrue m v) h k = absurd (h k.reached.digest)
-one_cause job cert (Shape n) OtherJob h k = absurd (k h.reached.digest)
-one_cause job cert (Shape n) (Shape m) h k =
-    ap Shape (one_place job cert n m h.node k.node h.reached k.reached (bad_shape_not_good job h.node h.bad) (bad_shape_not_good job k.node k.bad))
-one_cause job cert (Shape n) (Untrue m v) h k =
-    let same = one_place job cert n m h.node k.node h.reached k.reached (bad_shape_not_good job h.node h.bad) (untrue_not_good job k.node v k.grid k.first) in
-    let node : h.node ≡ k.node = same_Some h.node k.node (sym h.reached.is_node ∙ ap (λ x. slice_get (nodes_of cert) x) same ∙ k.reached.is_node) in
-    absurd (not_both (has_shape job.range k.node) k.shaped (subst (λ x. has_shape job.range x ≡ false) node h.bad))
-one_cause job cert (Untrue n w) OtherJob h k = absurd (k h.reached.digest)
-one_cause job cert (Untrue n w) (Shape m) h k =
-    let same = one_place job cert n m h.node k.node h.reached k.reached (untrue_not_good job h.node w h.grid h.first) (bad_shape_not_good job k.node k.bad) in
-    let node : h.node ≡ k.node = same_Some h.node k.node (sym h.reached.is_node ∙ ap (λ x. slice_get (nodes_of cert) x) same ∙ k.reached.is_node) in
-    absurd (not_both (has_shape job.range k.node) (subst (λ x. has_shape job.range x ≡ true) node h.shaped) k.bad)
-one_cause job cert (Untrue n w) (Untrue m v) h k =
-    let same = one_place job cert n m h.node k.node h.reached k.reached (untrue_not_good job h.node w h.grid h.first) (untrue_not_good job k.node v k.grid k.first) in
-    let node : h.node ≡ k.node = same_Some h.node k.node (sym h.reached.is_node ∙ ap (λ x. slice_get (nodes_of cert) x) same ∙ k.reached.is_node) in
-    let world : w ≡ v = one_first job k.node.path w v (subst (λ (x : Node). IsFirstUntrue job x.path w) node h.first) k.first in
-    λ i. Untrue (same i) (world i)
+-- what a fault of such a node is
+abbrev IsSeen : Job → Path → Decision → Reject → Type 0
+IsSeen job path (names row d) reject = ⊥
+IsSeen job path (splits row) reject = ⊥
+IsSeen job path (is_empty why) reject = (line : ℕ) × (reject ≡ Line (node_in reject) 0 line) × (first_fault (facts job.range path) (variables path) why ≡ Some line)
+IsSeen job path by_worlds reject = (world : World) × (reject ≡ Untrue (node_in reject) world) × IsFirstUntrue job path world
+IsSeen job path (by_answers answers) reject = ⊥
 
-pub one_verdict : (job : Job) (cert : Cert) (first second : Verdict) → IsVerdict job cert first → IsVerdict job cert second → first ≡ second
-one_verdict job cert Accepted Accepted h k = refl
-one_verdict job cert Accepted (Rejected b) h k = absurd (cause_not_right job cert b k h)
-one_verdict job cert (Rejected a) Accepted h k = absurd (cause_not_right job cert a h k)
-one_verdict job cert (Rejected a) (Rejected b) h k = ap Rejected (one_cause job cert a b h k)
+seen : (job : Job) (path : Path) (d : Decision) (reject : Reject) → IsWithin128 job path d → IsFault job path d reject → IsSeen job path d reject
+seen job path (names row d) reject w f = absurd f
+seen job path (splits row) (Coeff n) w f = absurd (no_fault job path (splits row) (Coeff n) tt tt w f)
+seen job path (splits row) reject w f = absurd f
+seen job path (is_empty why) (Line n number line) w f = (line, λ i. Line n (f.0 i) line, f.1)
+seen job path (is_empty why) reject w f = absurd f
+seen job path by_worlds (Coeff n) w f = absurd (not_both (are_computed path f.world) (w f.world f.inside) f.outside)
+seen job path by_worlds (Untrue n world) w f = (world, refl, f.1)
+seen job path by_worlds reject w f = absurd f
+seen job path (by_answers answers) reject w f = absurd w
 
--- ---- digests
+same_line : (n m : ℕ) (a b : ℕ) → n ≡ m → Some a ≡ Some b → Line n 0 a ≡ Line m 0 b
+same_line n m a b e f = λ i. Line (e i) 0 (same_Some a b f i)
 
-pub same_digest : (xs ys : List ℕ) → false ≡ not (pointwise nat_eq xs ys) → xs ≡ ys
-same_digest xs ys h = same_text xs ys (by_test (pointwise nat_eq xs ys) h)
+one_seen : (job : Job) (path : Path) (d : Decision) (a b : Reject) → node_in a ≡ node_in b → IsSeen job path d a → IsSeen job path d b → a ≡ b
+one_seen job path (names row d) a b e h k = absurd h
+one_seen job path (splits row) a b e h k = absurd h
+one_seen job path (is_empty why) a b e h k = h.1 ∙ same_line (node_in a) (node_in b) h.0 k.0 e (sym h.2 ∙ k.2) ∙ sym k.1
+one_seen job path by_worlds a b e h k = h.1 ∙ (λ i. Untrue (e i) (one_first job path h.0 k.0 h.2 k.2 i)) ∙ sym k.1
+one_seen job path (by_answers answers) a b e h k = absurd h
+
+abbrev IsBad : Job → Node → Reject → Type 0
+IsBad job node reject =
+    ((reject ≡ Shape (node_in reject)) × (is_shaped job.range node.path node.decision ≡ false))
+    ⊎ ((is_shaped job.range node.path node.decision ≡ true) × IsFault job node.path node.decision reject)
+
+bad : (job : Job) (node : Node) (reject : Reject) → IsRejected job node reject → IsBad job node reject
+bad job node (Shape n) h = inl (refl, h)
+bad job node OtherJob h = absurd h
+bad job node reject h = inr h
+
+one_reject : (job : Job) (node : Node) (a b : Reject) → IsWithin128 job node.path node.decision → node_in a ≡ node_in b → IsRejected job node a → IsRejected job node b → a ≡ b
+one_reject job node a b w e h k = by_bad (bad job node a h) (bad job node b k)
   where
-    by_test : (b : Bool) → false ≡ not b → true ≡ b
-    by_test true h = refl
-    by_test false h = absurd (cc)
+    by_bad : IsBad job node a → IsBad job node b → a ≡ b
+    by_bad (inl h) (inl k) = h.0 ∙ ap Shape e ∙ sym k.0
+    by_bad (inl h) (inr k) = absurd (not_both (is_shaped job.range node.path node.decision) k.0 h.1)
+    by_bad (inr h) (inl k) = absurd (not_both (is_shaped job.range node.path node.decision) h.0 k.1)
+    by_bad (inr h) (inr k) = one_seen job node.path node.decision a b e (seen job node.path node.decision a w h.1) (seen job node.path node.decision b w k.1)
+
+-- ---- one verdict
+
+module _ (job : Job) (cert : Cert) (plain : IsPlainlyComputed job cert) where
+  not_before : (a b : Reject) → IsFirstRejected job cert a → IsFirstRejected job cert b → node_in a < node_in b → ⊥
+  not_before a b h k lt =
+      not_rejected job h.node a (right_of job h.node (k.reached.before (node_in a) h.node lt h.reached.is_node)) (plain (node_in a) h.node h.reached.is_node) h.rejected
+
+  one_place : (a b : Reject) → IsFirstRejected job cert a → IsFirstRejected job cert b → node_in a ≡ node_in b
+  one_place a b h k = by_order (nat_lt (node_in a) (node_in b)) refl (nat_lt (node_in b) (node_in a)) refl
+    where
+      by_order : (c : Bool) → nat_lt (node_in a) (node_in b) ≡ c → (d : Bool) → nat_lt (node_in b) (node_in a) ≡ d → node_in a ≡ node_in b
+      by_order true e d f = absurd (not_before a b h k (grind (arith, nat_tests)))
+      by_order false e true f = absurd (not_before b a k h (grind (arith, nat_tests)))
+      by_order false e false f = grind (arith, nat_tests)
+
+  one_named : (a b : Reject) → IsFirstRejected job cert a → IsFirstRejected job cert b → a ≡ b
+  one_named a b h k =
+      let same = one_place a b h k in
+      let node : h.node ≡ k.node = same_Some h.node k.node (sym h.reached.is_node ∙ ap (λ n. slice_get (nodes_of cert) n) same ∙ k.reached.is_node) in
+      one_reject job k.node a b (plain (node_in b) k.node k.reached.is_node) same (subst (λ (x : Node). IsRejected job x a) node h.rejected) k.rejected
+
+  abbrev IsNamed : Reject → Type 0
+  IsNamed reject = ((reject ≡ OtherJob) × (cert.job ≢ job.digest)) ⊎ IsFirstRejected job cert reject
+
+  named : (reject : Reject) → IsCause job cert reject → IsNamed reject
+  named OtherJob h = inl (refl, h)
+  named reject h = inr h
+
+  one_cause : (a b : Reject) → IsNamed a → IsNamed b → a ≡ b
+  one_cause a b (inl h) (inl k) = h.0 ∙ sym k.0
+  one_cause a b (inl h) (inr k) = absurd (h.1 k.reached.digest)
+  one_cause a b (inr h) (inl k) = absurd (k.1 h.reached.digest)
+  one_cause a b (inr h) (inr k) = one_named a b h k
+
+  pub one_verdict : (one other : Verdict) → IsVerdict job cert one → IsVerdict job cert other → one ≡ other
+  one_verdict Accepted Accepted h k = refl
+  one_verdict Accepted (Rejected b) h k = absurd (cause_not_right job cert b k plain h.0)
+  one_verdict (Rejected a) Accepted h k = absurd (cause_not_right job cert a h plain k.0)
+  one_verdict (Rejected a) (Rejected b) h k = ap Rejected (one_cause a b (named a h) (named b k))

@@ -12,8 +12,8 @@ use Rattle.cert_path.specs.Nodes.{names}
 use Rattle.cert_path.specs.Shapes.{has_variable, has_remainders, is_named, is_shaped}
 use Rattle.sym_calc.specs.Floors.{same_floor, floors_of}
 use Rattle.sym_calc.proofs.Refuted.{named_is}
-use Rattle.cert_check.specs.declared.whole.descent.Above.{Above}
-use Rattle.cert_check.specs.declared.whole.descent.Above.TheVariants.{Def, First, Second}
+use Rattle.cert_check.specs.declared.descent.Above.{Above}
+use Rattle.cert_check.specs.declared.descent.Above.TheVariants.{Def, First, Second}
 use Rattle.cert_check.specs.steps.Descent.{step_of, path_from, path_of, are_sound, outer_of, is_below_def, is_below_split}
 use Rattle.cert_check.specs.steps.Grids.{is_above_zero, are_above_zero}
 
@@ -88,6 +88,9 @@ numbers_from path (step ∷ above) e =
         (and_parts (is_declared path row.now) (lt_z (pos 0) d) (and_parts (is_declared path row.now && lt_z (pos 0) d) (are_sound path) s).0).1
     here_by (First row) s = refl
     here_by (Second row) s = refl
+
+pub numbers_above_zero : (above : List Above) → are_sound (path_of above) ≡ true → are_above_zero above ≡ true
+numbers_above_zero = numbers_from []
 
 -- ---- a well shaped def
 

@@ -1,8 +1,8 @@
 -- What is found at one world of a grid.
 use Rattle.std.proofs.Common.{◌≡◌, ℕ, Bool, true, false, List, Option, Some, None, sym, ap}
 use Rattle.std.specs.Prelude.{is_some, is_none}
-use Rattle.cert_check.specs.declared.whole.descent.Above.{Above}
-use Rattle.cert_check.specs.steps.Walk.{unless_true}
+use Rattle.cert_check.specs.declared.descent.Above.{Above}
+use Rattle.cert_check.specs.steps.Worlds.{unless_true}
 use Rattle.cert_check.specs.steps.Grids.{place_of, outside_at}
 
 pub outside_found : (above : List Above) (w s : ℕ) (o : Option Bool) → o ≡ place_of above (record { w = w; s = s }) → is_none o ≡ true → outside_at above w s ≡ Some (record { w = w; s = s })

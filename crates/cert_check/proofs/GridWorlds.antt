@@ -1,44 +1,31 @@
 -- From the walk over the worlds of a grid to what holds at those of its path.
-use Rattle.std.proofs.Common.{◌≡◌, ℕ, ◌+◌, ◌-◌, ◌<◌, pos, ◌≤ℤ◌, ◌<ℤ◌, Bool, true, false, List, [], ◌∷◌, Option, Some, None, refl, sym, ◌∙◌, ap, subst, arith, inl, inr}
+use Rattle.std.proofs.Common.{◌≡◌, ℕ, ◌+◌, ◌-◌, pos, ◌≤ℤ◌, ◌<ℤ◌, Bool, true, false, List, [], ◌∷◌, Option, Some, None, refl, sym, ◌∙◌, ap, subst, arith, inl, inr}
 use Rattle.std.specs.Prelude.{is_some}
 use Rattle.std.proofs.lemmas.Option.{same_Some}
 use Rattle.viz_base.specs.declared.worlds.World.{World}
-use Rattle.viz_base.specs.declared.worlds.Axis.{Axis}
-use Rattle.viz_base.specs.declared.worlds.Axis.TheVariants.{Width, Size}
 use Rattle.viz_base.specs.declared.worlds.Rect.{Rect}
 use Rattle.viz_base.specs.declared.jobs.Job.{Job}
 use Rattle.logic_semantics.specs.Ranges.{IsInRange}
-use Rattle.lin_row.specs.Form.{Form, value}
+use Rattle.lin_row.specs.Form.{value}
 use Rattle.cert_path.specs.Paths.{def, first, second, Path, values_along, IsOn}
 use Rattle.cert_path.specs.Rectangles.{rectangle}
-use Rattle.cert_path.specs.Laws.{IsInside, IsUnit, UnitsAreTaken}
+use Rattle.cert_path.specs.Laws.{IsInside, UnitsAreTaken}
 use Rattle.cert_path.proofs.Sides.{rectangle_is_units}
-use Rattle.cert_check.specs.declared.whole.descent.Above.{Above}
-use Rattle.cert_check.specs.Paths.{variable_of}
+use Rattle.cert_check.specs.declared.descent.Above.{Above}
 use Rattle.cert_check.specs.Rectangles.{is_unit}
-use Rattle.cert_check.specs.Right.{is_true_at}
-use Rattle.cert_check.specs.Verdicts.{IsBefore}
-use Rattle.cert_check.specs.steps.Walk.{unless_true}
+use Rattle.cert_check.specs.Truths.{is_true_at, IsBefore}
+use Rattle.cert_check.specs.steps.Worlds.{unless_true}
 use Rattle.cert_check.specs.steps.Descent.{path_of}
 use Rattle.cert_check.specs.steps.Grids.{place_of, outside_at, outside_of_width, first_outside, untrue_if, untrue_at, untrue_of_width, first_untrue, IsPart}
-use Rattle.cert_check.specs.whole.Numbers.{are_computed, IsComputed}
-use Rattle.cert_check.specs.whole.Truths.{IsTrueOn}
-use Rattle.cert_check.specs.whole.Verdicts.{IsFirstUntrue, IsOutside}
+use Rattle.cert_check.specs.Numbers.{are_computed, IsComputed}
+use Rattle.cert_check.specs.Truths.{IsTrueOn}
+use Rattle.cert_check.specs.Verdicts.{IsFirstUntrue, IsOutside}
 use Rattle.cert_check.proofs.Parts.{unit_is_unit_row}
 use Rattle.cert_check.proofs.PartSides.{inside_part, part_inside}
 use Rattle.cert_check.proofs.Places.{BesidesOn, Says, place_says}
 use Rattle.cert_check.proofs.Seeks.{IsFound, seek-none, seek-found}
 
 -- ---- unit splits and the others
-
-unit_is : (row : Form) → is_unit row ≡ true → IsUnit row
-unit_is row e =
-    let h = (unit_is_unit_row row).0 e in
-    record { variable = variable_of h.axis; coefficient = h.coefficient; terms = h.terms; axis = by_axis h.axis; unit = h.unit }
-  where
-    by_axis : (axis : Axis) → variable_of axis < 2
-    by_axis Width = omega arith
-    by_axis Size = omega arith
 
 pub on_units : (path : Path) (world : World) → IsOn path world → UnitsAreTaken path world
 on_units [] world on = tt
@@ -60,9 +47,9 @@ on_both : (path : Path) (world : World) → UnitsAreTaken path world → Besides
 on_both [] world units besides = tt
 on_both (def row d ∷ outer) world units besides = (tt, on_both outer world units.1 besides)
 on_both (first row ∷ outer) world units besides =
-    (by_flag (is_unit row) (pos 0 ≤ℤ value row (values_along world outer)) (λ u. units.0 (unit_is row u)) besides.0, on_both outer world units.1 besides.1)
+    (by_flag (is_unit row) (pos 0 ≤ℤ value row (values_along world outer)) (λ u. units.0 ((unit_is_unit_row row).0 u)) besides.0, on_both outer world units.1 besides.1)
 on_both (second row ∷ outer) world units besides =
-    (by_flag (is_unit row) (value row (values_along world outer) <ℤ pos 0) (λ u. units.0 (unit_is row u)) besides.0, on_both outer world units.1 besides.1)
+    (by_flag (is_unit row) (value row (values_along world outer) <ℤ pos 0) (λ u. units.0 ((unit_is_unit_row row).0 u)) besides.0, on_both outer world units.1 besides.1)
 
 -- ---- one world
 

@@ -1,19 +1,11 @@
 -- From a calc over which a leaf was laid out to the verdict on the leaf.
-use Rattle.std.proofs.Common.{◌≡◌, ℕ, ◌-◌, ◌<◌, ◌≤◌, Bool, true, false, not, List, length, take, Option, Some, None, Result, Ok, Err, ℤ, inl, inr, refl, sym, ◌∙◌, ap, subst, arith, take_all, IsTrue}
-use Rattle.std.specs.Prelude.{slice_get, IfErr}
+use Rattle.std.proofs.Common.{◌≡◌, ℕ, ◌-◌, ◌<◌, ◌≤◌, Bool, true, false, not, List, length, take, Option, Some, None, refl, sym, ◌∙◌, ap, subst, arith, take_all, IsTrue}
+use Rattle.std.specs.Prelude.{slice_get}
 use Rattle.std.specs.Option.{option_map_or}
 use Rattle.std.proofs.lemmas.Bool.{and_parts}
 use Rattle.viz_base.specs.declared.jobs.Job.{Job}
 use Rattle.viz_calc.specs.World.{Reading}
-use Rattle.viz_base.specs.declared.renderings.Rendering.{Rendering}
-use Rattle.viz_calc.specs.State.{State, Kept, Grows, Rose, Cause, CauseButMem}
-use Rattle.viz_calc.specs.Renderings.{rendering_at}
-use Rattle.viz_calc.specs.declared.calc.Halt.{Halt}
-use Rattle.viz_calc.specs.declared.calc.Halt.TheVariants as of_halt
-use Rattle.layout_semantics.specs.Page.{page_rendering}
-use Rattle.lay_block.specs.BlockPages.{ready}
-use Rattle.lay_block.specs.Limits.{IsWithinLimits}
-use Rattle.vis_truth.specs.Scenes.{IsBoundedRendering, IsTame}
+use Rattle.viz_calc.specs.State.{Kept, Grows}
 use Rattle.lin_row.specs.Form.{Form}
 use Rattle.lin_proof.specs.declared.derivation.Answer.{Answer}
 use Rattle.cert_path.specs.Paths.{Path}
@@ -33,12 +25,11 @@ use Rattle.sym_calc.specs.Knowledge.{are_met}
 use Rattle.sym_calc.proofs.Along.{kept_are_those}
 use Rattle.sym_calc.proofs.Refuted.{right_is_refuted, wrong_is_fault}
 use Rattle.sym_calc.proofs.Tagged.{AreSame, tag_same}
-use Rattle.cert_check.specs.declared.whole.verdicts.Verdict.TheVariants.{Accepted, Rejected}
-use Rattle.cert_check.specs.declared.whole.verdicts.Reject.TheVariants.{Unmet, Left, Coeff}
-use Rattle.cert_check.specs.Right.{is_true_at}
-use Rattle.cert_check.proofs.Bounded.{small_page, bounded_rendering, narrow_world, sized_world}
-use Rattle.cert_check.specs.whole.Truths.{AreInRange, IsThroughout}
-use Rattle.cert_check.specs.whole.Leaves.{StandsOver, IsWrongAnswer, IsToAnother, IsLeafFault, node_in, IsLeafVerdict, reject_of, left_of}
+use Rattle.cert_check.specs.declared.verdicts.Verdict.TheVariants.{Accepted, Rejected}
+use Rattle.cert_check.specs.declared.verdicts.Reject.TheVariants.{Unmet, Left, Coeff}
+use Rattle.cert_check.specs.Truths.{is_true_at}
+use Rattle.cert_check.specs.Truths.{IsThroughout}
+use Rattle.cert_check.specs.Leaves.{StandsOver, IsWrongAnswer, IsToAnother, IsLeafFault, node_in, IsLeafVerdict, reject_of, left_of}
 
 -- ---- what a calc accounts for, below a path
 
@@ -152,41 +143,3 @@ module _ (job : Job) (old new : Sym) (grows : Grows (state_of old) (state_of new
 
     pub leaf_coeff : (n : ℕ) → IsLeafVerdict job n path old.tape.now (Rejected (Coeff n))
     leaf_coeff n = (refl, tt)
-
--- ---- halts
-
-pub within_limits : (job : Job) (s : State) → AreInRange job s → IsWithinLimits job.tree job.height s.is_open
-within_limits job s in_range = record {
-  small = small_page job;
-  low = job.ok.height_most;
-  narrow = λ e o. narrow_world job e.world (in_range e o);
-  sized = λ e o. sized_world job e.world (in_range e o);
-}
-
-pub tame : (job : Job) (s : State) → IsTrue (ready job.tree) → AreInRange job s → {N : Type 0} → (at : N → Reading → ℤ) (r : Rendering N)
-    → ((e : Reading) → IsTrue (s.is_open e) → rendering_at at r e ≡ page_rendering job.tree e.world job.height) → IsTame s.is_open at r job.formula
-tame job s is_ready in_range at r value = record {
-  bounded = λ e o. record {
-    rendering = subst IsBoundedRendering (sym (value e o)) (bounded_rendering job e.world is_ready (narrow_world job e.world (in_range e o)) (sized_world job e.world (in_range e o)));
-    width = let most = narrow_world job e.world (in_range e o) in omega arith;
-  };
-  small = job.ok.small_terms;
-}
-
-pub rose_after : (a b c : ℕ) → a ≤ b → Rose b c → Rose a c
-rose_after a b c le (inl less) = inl (omega arith)
-rose_after a b c le (inr end) = inr end
-
-pub coeff_cause : (old new : State) (fits : Type 0) (h : Halt) → CauseButMem old new fits h → fits → h ≡ of_halt.Coeff → Rose old.coeffs new.coeffs
-coeff_cause old new fits of_halt.Mem cause f is = absurd (cc)
-coeff_cause old new fits of_halt.Coeff cause f is = cause f
-coeff_cause old new fits of_halt.Open cause f is = absurd (cc)
-
-truth_coeff : (old new : State) (fits : Type 0) (h : Halt) → Cause old new fits h → fits → h ≡ of_halt.Coeff → Rose old.coeffs new.coeffs
-truth_coeff old new fits of_halt.Mem cause f is = absurd (cc)
-truth_coeff old new fits of_halt.Coeff cause f is = cause f
-truth_coeff old new fits of_halt.Open cause f is = absurd (cc)
-
-pub answer_coeff : (old new : State) (fits : Type 0) (answer : Result Bool Halt) → IfErr answer (Cause old new fits) → fits → answer ≡ Err of_halt.Coeff → Rose old.coeffs new.coeffs
-answer_coeff old new fits (Ok b) cause f is = absurd (cc)
-answer_coeff old new fits (Err h) cause f is = truth_coeff old new fits h cause f (cc)

@@ -1,8 +1,6 @@
-pub mod Trees
 pub mod Parts
 pub mod Seeks
-pub mod Walks
-pub mod Grids
+pub mod FirstUntrue
 pub mod Causes
 pub mod Bounded
 pub mod Texts
@@ -12,3 +10,5 @@ pub mod Places
 pub mod PartSides
 pub mod GridWorlds
 pub mod GridSteps
+pub mod Judging
+pub mod Tellings

@@ -14,9 +14,9 @@ use Rattle.lin_row.specs.Form.{Form, Terms, value, terms_value}
 use Rattle.lin_row.specs.Number.{in_i128}
 use Rattle.cert_path.specs.Paths.{def, first, second, Path, variables, with_value, with_floor, values_at, values_along}
 use Rattle.cert_check.specs.Rectangles.{is_unit}
-use Rattle.cert_check.specs.declared.whole.descent.Above.{Above}
-use Rattle.cert_check.specs.declared.whole.descent.Above.TheVariants.{Def, First, Second}
-use Rattle.cert_check.specs.whole.Numbers.{checked, add_term, sum_on, computed, are_computed}
+use Rattle.cert_check.specs.declared.descent.Above.{Above}
+use Rattle.cert_check.specs.declared.descent.Above.TheVariants.{Def, First, Second}
+use Rattle.cert_check.specs.Numbers.{checked, add_term, sum_on, computed, are_computed}
 use Rattle.cert_check.specs.steps.Descent.{step_of, path_from, path_of}
 use Rattle.cert_check.specs.steps.Grids.{value_in, pass, place_from, place_of}
 

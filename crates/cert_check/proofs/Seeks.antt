@@ -1,7 +1,7 @@
 -- The first that is found at numbers in a row.
 use Rattle.std.proofs.Common.{◌≡◌, ℕ, zero, suc, ◌+◌, ◌-◌, ◌<◌, ◌≤◌, Bool, true, false, nat_lt, Option, Some, None, refl, ◌∙◌, arith}
 use Rattle.std.proofs.lemmas.Bool.Decides.{nat_tests}
-use Rattle.cert_check.specs.steps.Walk.{or_next, seek}
+use Rattle.cert_check.specs.steps.Worlds.{or_next, seek}
 
 seek-suc : {A : Type 0} (f : ℕ → Option A) (a n m : ℕ) → n ≡ suc m → seek f a n ≡ or_next (f a) (seek f (a + 1) m)
 unfolding seek

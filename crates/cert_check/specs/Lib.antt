@@ -1,9 +1,9 @@
 pub mod Bounds
-pub mod Paths
 pub mod Rectangles
-pub mod Nodes
+pub mod Truths
+pub mod Numbers
+pub mod Leaves
 pub mod Right
 pub mod Verdicts
 pub mod Laws
-pub mod whole
 pub mod steps

@@ -1,9 +1,10 @@
--- The rectangle that unit splits leave of a range.
-use Rattle.std.specs.Prelude.{ℕ, ◌+◌, ◌-◌, ◌*◌, ◌≤◌, ℤ, pos, negsuc, neg_ℤ, ◌-ℤ◌, Bool, nat_lt, nat_le, [], ◌∷◌, min, max, Option, Some, None, is_some, if◌then◌else◌}
+-- Rectangles of worlds, and what cutting by unit rows leaves of them.
+use Rattle.std.specs.Prelude.{ℕ, ◌==◌, ◌+◌, ◌-◌, ◌*◌, ◌≤◌, ℤ, pos, negsuc, neg_ℤ, ◌-ℤ◌, Bool, nat_lt, nat_le, [], ◌∷◌, min, max, Option, Some, None, is_some, if◌then◌else◌}
 use Rattle.std.specs.Ordering.{int_eq}
 use Rattle.std.specs.Option.{option_map, option_and_then}
 use Rattle.viz_base.specs.declared.worlds.Rect.{Rect}
 use Rattle.viz_base.specs.declared.worlds.Axis.{Axis}
+use Rattle.viz_base.specs.declared.worlds.Axis.TheVariants.{Width, Size}
 use Rattle.viz_base.specs.declared.worlds.Span.{Span}
 use Rattle.viz_base.specs.Worlds.{side_of, with_side}
 use Rattle.lin_row.specs.Form.{Form, Terms}
@@ -12,11 +13,15 @@ use Rattle.cert_check.specs.declared.cuts.Child.TheVariants.{First, Second}
 use Rattle.cert_check.specs.declared.cuts.Opens.{Opens}
 use Rattle.cert_check.specs.declared.cuts.Opens.TheVariants.{Above, UpTo}
 use Rattle.cert_check.specs.declared.cuts.Cut.{Cut}
-use Rattle.cert_check.specs.Paths.{axis_of, Step, split, Path}
 
 -- how many worlds a rectangle has that has one
 abbrev pub world_count : Rect → ℕ
 world_count r = (r.wh + 1 - r.wl) * (r.sh + 1 - r.sl)
+
+-- the rectangle has a world
+pub record IsProper (r : Rect) : Type 0 where
+  pub widths : r.wl ≤ r.wh
+  pub sizes : r.sl ≤ r.sh
 
 -- each world of the inner rectangle is one of the outer
 pub record IsWithin (outer inner : Rect) : Type 0 where
@@ -24,6 +29,16 @@ pub record IsWithin (outer inner : Rect) : Type 0 where
   pub width_most : inner.wh ≤ outer.wh
   pub size_least : outer.sl ≤ inner.sl
   pub size_most : inner.sh ≤ outer.sh
+
+-- ---- variables
+
+-- the variable 0 stands for the viewport's width and 1 for the default font size, in whole pixels
+abbrev pub axis_of : ℕ → Option Axis
+axis_of x = if x == 0 then Some Width else if x == 1 then Some Size else None
+
+abbrev pub variable_of : Axis → ℕ
+variable_of Width = 0
+variable_of Size = 1
 
 -- ---- unit rows: those with one variable, which stands for an axis, and the coefficient 1 or -1
 
@@ -72,15 +87,7 @@ toward Second UpTo = Above
 abbrev pub part_of : Cut → Child → Rect → Option Rect
 part_of cut child r = option_map (with_side cut.axis r) (cut_side (toward child cut.opens) cut.bound (side_of cut.axis r))
 
+-- a split by another row leaves the whole rectangle
 abbrev pub cut_at : Option Cut → Child → Rect → Option Rect
 cut_at (Some cut) child r = part_of cut child r
 cut_at None child r = Some r
-
--- what a step leaves of a rectangle: a split by another row than a unit row leaves it whole
-abbrev pub past_step : Step → Rect → Option Rect
-past_step (split row child) r = cut_at (cut_of row) child r
-
--- the range cut by the unit splits of a path; None where no world is left
-abbrev pub rectangle : Rect → Path → Option Rect
-rectangle range [] = Some range
-rectangle range (step ∷ outer) = option_and_then (past_step step) (rectangle range outer)

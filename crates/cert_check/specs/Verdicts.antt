@@ -1,21 +1,29 @@
 -- The causes of verdicts.
-use Rattle.std.specs.Prelude.{◌≡◌, ◌≢◌, ◌⊎◌, ℕ, ◌<◌, false, true, IsTrue, Some, slice_get}
+use Rattle.std.specs.Prelude.{◌≡◌, ◌≢◌, ℕ, ◌<◌, false, true, IsTrue, Some, slice_get}
 use Rattle.viz_base.specs.declared.worlds.World.{World}
 use Rattle.viz_base.specs.declared.worlds.Rect.{Rect}
 use Rattle.viz_base.specs.declared.jobs.Job.{Job}
 use Rattle.logic_semantics.specs.Ranges.{IsInRange}
+use Rattle.lin_row.specs.Form.{form_fits, denied}
+use Rattle.lin_proof.specs.Derivations.{first_fault}
 use Rattle.cert_text.specs.declared.certificate.Cert.{Cert}
+use Rattle.cert_path.specs.Paths.{Path, variables, IsOn}
+use Rattle.cert_path.specs.Facts.{facts}
+use Rattle.cert_path.specs.Nodes.{Decision, names, splits, is_empty, by_worlds, by_answers, Node, nodes_of}
+use Rattle.cert_path.specs.Rectangles.{rectangle}
+use Rattle.cert_path.specs.Shapes.{is_shaped}
+use Rattle.cert_path.specs.Laws.{IsInside}
 use Rattle.cert_check.specs.declared.verdicts.Verdict.{Verdict}
 use Rattle.cert_check.specs.declared.verdicts.Verdict.TheVariants.{Accepted, Rejected}
 use Rattle.cert_check.specs.declared.verdicts.Reject.{Reject}
-use Rattle.cert_check.specs.declared.verdicts.Reject.TheVariants.{OtherJob, Shape, Untrue}
-use Rattle.cert_check.specs.Paths.{Path, IsOn}
-use Rattle.cert_check.specs.Nodes.{by_worlds, Node, nodes_of}
-use Rattle.cert_check.specs.Right.{is_true_at, has_shape, IsGood, Right}
+use Rattle.cert_check.specs.declared.verdicts.Reject.TheVariants.{OtherJob, Shape, Line, Untrue, Coeff}
+use Rattle.cert_check.specs.Truths.{is_true_at, Holds}
+use Rattle.cert_check.specs.Truths.{IsBefore}
+use Rattle.cert_check.specs.Numbers.{are_computed, IsComputed}
+use Rattle.cert_check.specs.Leaves.{IsLeafFault, node_in}
+use Rattle.cert_check.specs.Right.{IsGood, Right}
 
--- worlds go by width, those of one width by size
-abbrev pub IsBefore : World → World → Type 0
-IsBefore a b = (a.w < b.w) ⊎ ((a.w ≡ b.w) × (a.s < b.s))
+-- ---- faults of nodes
 
 -- the first world of the range on the path at which the formula is false
 pub record IsFirstUntrue (job : Job) (path : Path) (world : World) : Type 0 where
@@ -24,15 +32,31 @@ pub record IsFirstUntrue (job : Job) (path : Path) (world : World) : Type 0 wher
   pub untrue : is_true_at job world ≡ false
   pub first : (other : World) → IsBefore other world → IsInRange job.range other → IsOn path other → IsTrue (is_true_at job other)
 
--- the formula is true at each world of a rectangle
-abbrev pub IsTrueIn : Job → Rect → Type 0
-IsTrueIn job r = (world : World) → IsInRange r world → IsTrue (is_true_at job world)
+-- a world of the path's rectangle at which a number on the path is outside `i128`
+pub record IsOutside (range : Rect) (path : Path) : Type 0 where
+  pub world : World
+  pub inside : IsInside (rectangle range path) world
+  pub outside : are_computed path world ≡ false
 
--- the first world of a rectangle at which it is false
-pub record IsFirstUntrueIn (job : Job) (r : Rect) (world : World) : Type 0 where
-  pub in_rectangle : IsInRange r world
-  pub untrue : is_true_at job world ≡ false
-  pub first : (other : World) → IsBefore other world → IsInRange r other → IsTrue (is_true_at job other)
+-- what is wrong with a node that is well shaped
+abbrev pub IsFault : Job → Path → Decision → Reject → Type 0
+IsFault job path (names row d) reject = ⊥
+IsFault job path (splits row) (Coeff n) = form_fits (denied row) ≡ false
+IsFault job path (splits row) _ = ⊥
+IsFault job path (is_empty why) (Line n number line) = (number ≡ 0) × (first_fault (facts job.range path) (variables path) why ≡ Some line)
+IsFault job path (is_empty why) _ = ⊥
+IsFault job path by_worlds (Coeff n) = IsOutside job.range path
+IsFault job path by_worlds (Untrue n world) = IsComputed job.range path × IsFirstUntrue job path world
+IsFault job path by_worlds _ = ⊥
+IsFault job path (by_answers answers) reject = IsLeafFault job path answers reject
+
+-- why a node is rejected: it is badly shaped, or else it has another fault
+abbrev pub IsRejected : Job → Node → Reject → Type 0
+IsRejected job node (Shape n) = is_shaped job.range node.path node.decision ≡ false
+IsRejected job node OtherJob = ⊥
+IsRejected job node reject = (is_shaped job.range node.path node.decision ≡ true) × IsFault job node.path node.decision reject
+
+-- ---- verdicts
 
 -- the certificate names the job's digest, this is its node of this number, and each node before it is good
 pub record IsReached (job : Job) (cert : Cert) (n : ℕ) (node : Node) : Type 0 where
@@ -40,27 +64,18 @@ pub record IsReached (job : Job) (cert : Cert) (n : ℕ) (node : Node) : Type 0 
   pub is_node : slice_get (nodes_of cert) n ≡ Some node
   pub before : (k : ℕ) (other : Node) → k < n → slice_get (nodes_of cert) k ≡ Some other → IsGood job other
 
--- the first node that is not good is badly shaped
-pub record IsBadShape (job : Job) (cert : Cert) (n : ℕ) : Type 0 where
+-- the first node that is not good is rejected so
+pub record IsFirstRejected (job : Job) (cert : Cert) (reject : Reject) : Type 0 where
   pub node : Node
-  pub reached : IsReached job cert n node
-  pub bad : has_shape job.range node ≡ false
-
--- the first node that is not good is a well shaped grid, on whose path the formula is false, at this world first
-pub record IsUntrue (job : Job) (cert : Cert) (n : ℕ) (world : World) : Type 0 where
-  pub node : Node
-  pub reached : IsReached job cert n node
-  pub shaped : has_shape job.range node ≡ true
-  pub grid : node.decision ≡ by_worlds
-  pub first : IsFirstUntrue job node.path world
+  pub reached : IsReached job cert (node_in reject) node
+  pub rejected : IsRejected job node reject
 
 -- why a certificate is rejected
 abbrev pub IsCause : Job → Cert → Reject → Type 0
 IsCause job cert OtherJob = cert.job ≢ job.digest
-IsCause job cert (Shape n) = IsBadShape job cert n
-IsCause job cert (Untrue n world) = IsUntrue job cert n world
+IsCause job cert reject = IsFirstRejected job cert reject
 
--- the verdict on a certificate for a job
+-- the verdict on a certificate for a job; where it is accepted, the job holds
 abbrev pub IsVerdict : Job → Cert → Verdict → Type 0
-IsVerdict job cert Accepted = Right job cert
+IsVerdict job cert Accepted = Right job cert × Holds job
 IsVerdict job cert (Rejected reject) = IsCause job cert reject

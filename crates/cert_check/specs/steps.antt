@@ -1,3 +1,4 @@
 pub mod Descent
 pub mod Grids
-pub mod Walk
+pub mod Tells
+pub mod Worlds

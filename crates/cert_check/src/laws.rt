@@ -1,28 +1,23 @@
+//! What certificates and their verdicts have in common.
 ghost use Rattle.std.specs.Prelude.{◌≤◌, ℕ, List, length};
 ghost use Rattle.cert_text.specs.declared.certificate.Cert.{Cert};
-ghost use Rattle.cert_text.specs.Grammar.{CertText};
-ghost use Rattle.cert_check.specs.Nodes.{nodes_of};
-ghost use Rattle.cert_check.specs.Laws.{OneGrid, RightHolds, OneVerdict, UnitIsUnitRow, RectangleIsPath};
+ghost use Rattle.cert_text.specs.Texts.{CertText};
+ghost use Rattle.cert_path.specs.Nodes.{nodes_of};
+ghost use Rattle.cert_check.specs.Laws.{OneVerdict, RightHolds, UnitIsUnitRow};
 
-/// Each world lies on the path of exactly one grid.
-pub fn one_grid_each()
-    ensures { OneGrid }
-{}
-
-/// A job for which some certificate is right holds.
+/// A job holds for which some certificate is right that is plainly computed.
 pub fn right_holds()
     ensures { RightHolds }
 {}
 
-/// A certificate has one verdict, so each verdict comes exactly where its cause stands.
+/// A certificate that is plainly computed has one verdict, so each verdict comes exactly where its cause stands.
 pub fn one_verdict_each()
     ensures { OneVerdict }
 {}
 
-/// Unit rows, and the rectangle that they leave of a range.
-pub fn rectangles_are_paths()
-    ensures unit { UnitIsUnitRow }
-    ensures rectangle { RectangleIsPath }
+/// The rows by which a rectangle is cut are those of one variable, the width or the size, and the coefficient 1 or -1.
+pub fn unit_rows()
+    ensures { UnitIsUnitRow }
 {}
 
 /// A certificate's text has at least as many bytes as the certificate has nodes.

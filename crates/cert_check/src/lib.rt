@@ -3,17 +3,21 @@
 
 mod bounds;
 mod cuts;
+mod descent;
+mod entry;
 mod laws;
+mod leaf;
+mod numbers;
+mod path_worlds;
+mod shapes;
 mod verdicts;
 mod walk;
-pub mod whole;
 mod worlds;
 
 pub use bounds::is_low_rendering;
 pub use cuts::{Child, Cut, Opens, axis_of, cut_of, part_of, variable_of, world_count};
-pub use laws::{
-    no_more_nodes_than_bytes, one_grid_each, one_verdict_each, rectangles_are_paths, right_holds,
-};
+pub use entry::check;
+pub use laws::{no_more_nodes_than_bytes, one_verdict_each, right_holds, unit_rows};
+pub use leaf::check_leaf;
 pub use verdicts::{Reject, Verdict};
-pub use walk::check;
 pub use worlds::{first_untrue, holds_at};

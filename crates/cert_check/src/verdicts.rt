@@ -1,10 +1,11 @@
+use lin_row::Row;
 use thiserror::Error;
 use viz_base::World;
 
 /// What was found of a certificate.
 #[derive(Debug, Drop)]
 pub enum Verdict {
-    /// The certificate is right for the job, so the job holds.
+    /// The certificate is right for the job, and the job holds.
     Accepted,
     Rejected(Reject),
 }
@@ -16,11 +17,29 @@ pub enum Reject {
     /// The certificate names another digest than the job's.
     #[error("the certificate is another job's")]
     OtherJob,
-    /// The node is badly shaped: a split's row is no unit row, or a grid has more than 64 worlds.
+    /// The node is badly shaped.
     #[error("node {0} is badly shaped")]
     Shape(u32),
+    /// The node is a void or a leaf. This line is wrong in the derivation of this answer, which is 0 for a void.
+    #[error("node {0}: line {2} of the derivation of answer {1} is wrong")]
+    Line(u32, u32, u32),
     /// The node is a grid, and this the first world of its part, by width and then by size, at which
     /// the formula is false.
     #[error("node {0} has a world at which the formula is false")]
     Untrue(u32, World),
+    /// The node is a leaf, in whose part the formula is false.
+    #[error("the formula is false in the part of node {0}")]
+    Unmet(u32),
+    /// The node is a leaf. This answer is not to the difference that is asked for: that one, and its own.
+    #[error("node {0}: answer {1} is not to the difference that is asked for")]
+    Differs(u32, u32, Row, Row),
+    /// The node is a leaf, and more is asked for than it has answers.
+    #[error("node {0} has too few answers")]
+    Short(u32),
+    /// The node is a leaf, so many of whose answers are not asked for.
+    #[error("node {0} has {1} answers too many")]
+    Left(u32, u64),
+    /// A number of the node is outside 128 bits: of a split's denial, on the way at a grid's worlds, or at a leaf.
+    #[error("node {0} has a number outside 128 bits")]
+    Coeff(u32),
 }

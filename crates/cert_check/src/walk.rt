@@ -1,20 +1,28 @@
-ghost use Rattle.std.specs.Prelude.{◌≡◌, ◌↔◌, ◌+◌, ◌*◌, ◌<◌, ◌^◌, length, IsTrue, IfOk, IfSome};
+ghost use Rattle.std.specs.Prelude.{◌≡◌, ◌+◌, ◌<◌, ◌≤◌, ◌^◌, [], ◌∷◌, ◌++◌, IsTrue, IfOk, IfSome, OnOk};
+ghost use Rattle.viz_base.specs.declared.jobs.Job.{Job};
 ghost use Rattle.std.specs.Option.{option_and_then};
-ghost use Rattle.lay_flow.specs.Ready.{ready};
-ghost use Rattle.cert_check.specs.Nodes.{nodes_of};
-ghost use Rattle.cert_check.specs.Rectangles.{world_count, part_of};
-ghost use Rattle.cert_check.specs.Right.{Holds, Right};
-ghost use Rattle.cert_check.specs.Verdicts.{IsVerdict};
-ghost use Rattle.cert_check.specs.declared.verdicts.Verdict.TheVariants.{Accepted};
-ghost use Rattle.cert_check.specs.Rectangles.{IsWithin};
-ghost use Rattle.cert_check.specs.steps.Walk.{GivesNumber, grid_walk, walk, node_count};
+ghost use Rattle.lin_row.specs.Form.{denied, form_fits};
+ghost use Rattle.cert_path.specs.Nodes.{names, splits, is_empty, by_worlds, by_answers, Node, node_on, nodes_from};
+ghost use Rattle.cert_path.specs.Paths.{def, first, second, is_declared, variables};
+ghost use Rattle.cert_path.specs.Rectangles.{rectangle};
+ghost use Rattle.cert_path.specs.Shapes.{is_shaped};
+ghost use Rattle.cert_check.specs.Rectangles.{IsWithin, cut_of, cut_at};
+ghost use Rattle.cert_check.specs.steps.Descent.{path_of};
+ghost use Rattle.cert_check.specs.steps.Grids.{IsPart};
+ghost use Rattle.cert_check.specs.steps.Tells.{Judges, Tells, node_count};
 
-use crate::cuts::{Child, Cut, cut_of, part_of, world_count};
+use crate::cuts::{Child, cut_of, part_of, world_count};
+use crate::descent::Descent;
+use crate::leaf::check_leaf;
+use crate::path_worlds::{first_outside, first_untrue};
+use crate::shapes::{has_denial, is_shaped_def, is_shaped_split};
 use crate::verdicts::{Reject, Verdict};
-use crate::worlds::find_untrue;
-use cert_text::{Cert, CertNode};
-use std::alloc::Global;
-use viz_base::{Job, Mem, Rect};
+use cert_text::CertNode;
+use lin_proof::{Answer, Derivation, Facts, first_fault_among, line_count};
+use lin_row::Row;
+use std::alloc::{AllocError, Global};
+use sym_calc::Sym;
+use viz_base::{Mem, Rect};
 
 /// Why the walk stops.
 #[derive(Drop)]
@@ -34,89 +42,303 @@ impl From<Mem> for Stop {
     }
 }
 
-/// The part of a part that lies under a child of a split.
-fn child_part(cut: Cut, child: Child, part: Option<Rect>) -> Option<Rect>
-    ensures { result ≡ option_and_then (part_of cut child) part }
-{
-    part_of(cut, child, part?)
+impl From<AllocError> for Stop {
+    ghost use Rattle.std.specs.Prelude.{◌≡◌};
+    ghost use Rattle.cert_check.specs.declared.walk.Stop.TheVariants.{Mem};
+
+    ghost from_gives = { λ _ stop. stop ≡ Mem };
+
+    fn from(_: AllocError) -> Self {
+        Stop::Mem
+    }
 }
 
-/// Goes through a grid's worlds, and gives the number of the node after it.
-fn check_grid(alloc: Global, job: &Job, number: u32, part: Option<Rect>) -> Result<u32, Stop>
-    requires ready { IsTrue (ready job.now.tree) }
-    requires few { number + 1 < 2 ^ 32 }
-    requires within { IfSome part (IsWithin job.now.range) }
-    ensures gives { GivesNumber result (grid_walk job.now number part) }
-    ensures next { IfOk result (λ next. next ≡ number + 1) }
+/// The part of a part that lies under a child of a split, which only a unit split cuts.
+fn child_part(row: &Row, child: Child, part: Option<Rect>) -> Option<Rect>
+    ensures { result ≡ option_and_then (cut_at (cut_of row.now) child) part }
+{
+    match cut_of(row) {
+        Some(cut) => part_of(cut, child, part?),
+        None => part,
+    }
+}
+
+#[tactic(auto, using(crate::proofs::Judging::judged_mem))]
+/// Whether a def is well shaped.
+fn check_def(descent: &Descent<'_>, number: u32, row: &Row, by: i128) -> Result<(), Stop>
+    requires { variables (path_of descent.now.above) < 2 ^ 32 }
+    ensures { Judges descent.now.job.now (node_on (path_of descent.now.above) (names row.now by)) number result }
+{
+    if is_shaped_def(descent, row, by)? {
+        Ok(())
+    } else {
+        Err(Stop::Rejected(Reject::Shape(number)))
+    }
+}
+
+#[tactic(auto, using(crate::proofs::Judging::judged_mem))]
+/// Whether a split is well shaped, and its denial in `i128`.
+fn check_split(descent: &Descent<'_>, number: u32, row: &Row) -> Result<(), Stop>
+    requires { variables (path_of descent.now.above) < 2 ^ 32 }
+    ensures { Judges descent.now.job.now (node_on (path_of descent.now.above) (splits row.now)) number result }
+{
+    if !is_shaped_split(descent, row) {
+        return Err(Stop::Rejected(Reject::Shape(number)));
+    }
+    if has_denial(row)? {
+        Ok(())
+    } else {
+        Err(Stop::Rejected(Reject::Coeff(number)))
+    }
+}
+
+#[tactic(auto, using(crate::proofs::Judging::judged_mem))]
+/// Whether a void's derivation refutes the facts of its path.
+fn check_void(
+    alloc: Global,
+    descent: &Descent<'_>,
+    number: u32,
+    why: &Derivation,
+) -> Result<(), Stop>
+    requires { variables (path_of descent.now.above) < 2 ^ 32 }
+    ensures { Judges descent.now.job.now (node_on (path_of descent.now.above) (is_empty why.now)) number result }
+{
+    if line_count(why).is_none() {
+        return Err(Stop::Mem);
+    }
+    let facts = Facts {
+        first: descent.path().facts.as_slice(),
+        later: &[],
+    };
+    match first_fault_among(alloc, facts, descent.variables(), why)? {
+        None => Ok(()),
+        Some(line) => Err(Stop::Rejected(Reject::Line(number, 0, line))),
+    }
+}
+
+#[tactic(auto, using(crate::proofs::Judging::judged_mem))]
+/// Goes through the worlds of a grid: those of its part that are on its path.
+fn check_grid(
+    alloc: Global,
+    descent: &Descent<'_>,
+    number: u32,
+    part: Option<Rect>,
+) -> Result<(), Stop>
+    requires part { IsPart part (rectangle descent.now.job.now.range (path_of descent.now.above)) }
+    requires within { IfSome part (IsWithin descent.now.job.now.range) }
+    ensures { Judges descent.now.job.now (node_on (path_of descent.now.above) by_worlds) number result }
 {
     let Some(rect) = part else {
-        return Ok(number + 1);
+        return Ok(());
     };
     if world_count(rect) > 64 {
         return Err(Stop::Rejected(Reject::Shape(number)));
     }
-    match find_untrue(alloc, job, rect)? {
+    if first_outside(alloc, descent.above(), rect)?.is_some() {
+        return Err(Stop::Rejected(Reject::Coeff(number)));
+    }
+    match first_untrue(alloc, descent.job(), descent.above(), rect)? {
         Some(world) => Err(Stop::Rejected(Reject::Untrue(number, world))),
-        None => Ok(number + 1),
+        None => Ok(()),
+    }
+}
+
+#[tactic(auto, using(crate::proofs::Judging::judged_mem))]
+/// Lays out a leaf's page by its answers.
+fn check_answers(
+    alloc: Global,
+    descent: &Descent<'_>,
+    number: u32,
+    answers: &[Answer],
+) -> Result<(), Stop>
+    requires few { variables (path_of descent.now.above) < 2 ^ 32 }
+    ensures { Judges descent.now.job.now (node_on (path_of descent.now.above) (by_answers answers.now)) number result }
+{
+    let mut sym = Sym::new(descent.path(), answers);
+    match check_leaf(alloc, descent.job(), number, &mut sym)? {
+        Verdict::Accepted => Ok(()),
+        Verdict::Rejected(reject) => Err(Stop::Rejected(reject)),
+    }
+}
+
+/// The number after a node without children, where it is good.
+fn after_end(number: u32, found: Result<(), Stop>) -> Result<u32, Stop>
+    requires { number + 1 < 2 ^ 32 }
+    ensures tells { (job : Job) (node : Node) → Judges job node number found → Tells job (node ∷ []) number result }
+    ensures next { IfOk result (λ next. next ≡ number + 1) }
+{
+    match found {
+        Ok(()) => Ok(number + 1),
+        Err(stop) => Err(stop),
     }
 }
 
 /// Goes through a node and all below it, in preorder, and gives the number of the node after them.
-fn check_node(
+#[cycle(nodes)]
+pub fn check_node<'a>(
     alloc: Global,
-    job: &Job,
-    node: &CertNode,
+    descent: &mut Descent<'a>,
+    node: &'a CertNode,
     number: u32,
     part: Option<Rect>,
 ) -> Result<u32, Stop>
-    requires ready { IsTrue (ready job.now.tree) }
-    requires few { number + node_count node.now < 2 ^ 32 }
-    requires within { IfSome part (IsWithin job.now.range) }
-    ensures gives { GivesNumber result (walk job.now node.now number part) }
+    requires few { number + node_count node.now + 2 < 2 ^ 32 }
+    requires variables { variables (path_of descent.old.above) ≤ number + 2 }
+    requires part { IsPart part (rectangle descent.old.job.now.range (path_of descent.old.above)) }
+    requires within { IfSome part (IsWithin descent.old.job.now.range) }
+    ensures tells { Tells descent.old.job.now (nodes_from node.now (path_of descent.old.above)) number result }
     ensures next { IfOk result (λ next. next ≡ number + node_count node.now) }
+    ensures job { OnOk result (descent.new.job.now ≡ descent.old.job.now) }
+    ensures above { OnOk result (path_of descent.new.above ≡ path_of descent.old.above) }
 {
     match node {
-        CertNode::Grid => check_grid(alloc, job, number, part),
-        CertNode::Split(row, first, second) => {
-            let Some(cut) = cut_of(row) else {
-                return Err(Stop::Rejected(Reject::Shape(number)));
-            };
-            let next = check_node(
+        CertNode::Def(row, by, below) => match check_def(descent, number, row, *by) {
+            Ok(()) => check_below(alloc, descent, row, *by, below.get(), number + 1, part),
+            Err(stop) => Err(stop),
+        },
+        CertNode::Split(row, first, second) => match check_split(descent, number, row) {
+            Ok(()) => check_parts(
                 alloc,
-                job,
+                descent,
+                row,
                 first.get(),
-                number + 1,
-                child_part(cut, Child::First, part),
-            )?;
-            check_node(
-                alloc,
-                job,
                 second.get(),
-                next,
-                child_part(cut, Child::Second, part),
-            )
-        }
+                number + 1,
+                part,
+            ),
+            Err(stop) => Err(stop),
+        },
+        CertNode::Void(why) => after_end(number, check_void(alloc, descent, number, why)),
+        CertNode::Grid => after_end(number, check_grid(alloc, descent, number, part)),
+        CertNode::Leaf(answers) => after_end(
+            number,
+            check_answers(alloc, descent, number, answers.as_slice()),
+        ),
     }
 }
 
-/// The verdict on a certificate for a job, whoever made it. A certificate is accepted exactly where it is
-/// right for the job, and the job holds then. The only fault is want of memory.
-///
-/// Each world of a grid takes one layout of the page and one truth of the formula, and the call goes
-/// as deep as the certificate's splits stand in one another.
-pub fn check(alloc: Global, job: &Job, cert: &Cert) -> Result<Verdict, Mem>
-    requires ready { IsTrue (ready job.now.tree) }
-    requires few { length (nodes_of cert.now) < 2 ^ 32 }
-    ensures verdict { IfOk result (λ verdict. IsVerdict job.now cert.now verdict) }
-    ensures accepted { IfOk result (λ verdict. (verdict ≡ Accepted) ↔ Right job.now cert.now) }
-    ensures holds { IfOk result (λ verdict. verdict ≡ Accepted → Holds job.now) }
+/// Goes through what is below a well shaped def.
+#[cycle(nodes)]
+fn check_below<'a>(
+    alloc: Global,
+    descent: &mut Descent<'a>,
+    row: &'a Row,
+    by: i128,
+    node: &'a CertNode,
+    number: u32,
+    part: Option<Rect>,
+) -> Result<u32, Stop>
+    requires few { number + node_count node.now + 2 < 2 ^ 32 }
+    requires variables { variables (path_of descent.old.above) + 1 ≤ number + 2 }
+    requires shaped { IsTrue (is_shaped descent.old.job.now.range (path_of descent.old.above) (names row.now by)) }
+    requires part { IsPart part (rectangle descent.old.job.now.range (path_of descent.old.above)) }
+    requires within { IfSome part (IsWithin descent.old.job.now.range) }
+    ensures tells { Tells descent.old.job.now
+        (nodes_from node.now (def row.now by ∷ path_of descent.old.above)) number result }
+    ensures next { IfOk result (λ next. next ≡ number + node_count node.now) }
+    ensures job { OnOk result (descent.new.job.now ≡ descent.old.job.now) }
+    ensures above { OnOk result (path_of descent.new.above ≡ path_of descent.old.above) }
 {
-    if cert.job != job.digest {
-        return Ok(Verdict::Rejected(Reject::OtherJob));
+    match descent.enter_def(row, by) {
+        Ok(()) => {
+            let next = check_node(alloc, descent, node, number, part)?;
+            descent.leave_def();
+            Ok(next)
+        }
+        Err(_) => Err(Stop::Mem),
     }
-    match check_node(alloc, job, &cert.root, 0, Some(job.range)) {
-        Ok(_) => Ok(Verdict::Accepted),
-        Err(Stop::Mem) => Err(Mem),
-        Err(Stop::Rejected(reject)) => Ok(Verdict::Rejected(reject)),
+}
+
+/// Goes through both parts of a well shaped split.
+#[cycle(nodes)]
+fn check_parts<'a>(
+    alloc: Global,
+    descent: &mut Descent<'a>,
+    row: &'a Row,
+    one: &'a CertNode,
+    other: &'a CertNode,
+    number: u32,
+    part: Option<Rect>,
+) -> Result<u32, Stop>
+    requires few { number + (node_count one.now + node_count other.now) + 2 < 2 ^ 32 }
+    requires variables { variables (path_of descent.old.above) ≤ number + 2 }
+    requires declared { IsTrue (is_declared (path_of descent.old.above) row.now) }
+    requires fits { IsTrue (form_fits (denied row.now)) }
+    requires part { IsPart part (rectangle descent.old.job.now.range (path_of descent.old.above)) }
+    requires within { IfSome part (IsWithin descent.old.job.now.range) }
+    ensures tells { Tells descent.old.job.now (nodes_from one.now (first row.now ∷ path_of descent.old.above)
+        ++ nodes_from other.now (second row.now ∷ path_of descent.old.above)) number result }
+    ensures next { IfOk result (λ next. next ≡ number + (node_count one.now + node_count other.now)) }
+    ensures job { OnOk result (descent.new.job.now ≡ descent.old.job.now) }
+    ensures above { OnOk result (path_of descent.new.above ≡ path_of descent.old.above) }
+{
+    match check_first(alloc, descent, row, one, number, part) {
+        Ok(next) => check_second(alloc, descent, row, other, next, part),
+        Err(stop) => Err(stop),
+    }
+}
+
+/// Goes through the first part of a split.
+#[cycle(nodes)]
+fn check_first<'a>(
+    alloc: Global,
+    descent: &mut Descent<'a>,
+    row: &'a Row,
+    node: &'a CertNode,
+    number: u32,
+    part: Option<Rect>,
+) -> Result<u32, Stop>
+    requires few { number + node_count node.now + 2 < 2 ^ 32 }
+    requires variables { variables (path_of descent.old.above) ≤ number + 2 }
+    requires declared { IsTrue (is_declared (path_of descent.old.above) row.now) }
+    requires part { IsPart part (rectangle descent.old.job.now.range (path_of descent.old.above)) }
+    requires within { IfSome part (IsWithin descent.old.job.now.range) }
+    ensures tells { Tells descent.old.job.now
+        (nodes_from node.now (first row.now ∷ path_of descent.old.above)) number result }
+    ensures next { IfOk result (λ next. next ≡ number + node_count node.now) }
+    ensures job { OnOk result (descent.new.job.now ≡ descent.old.job.now) }
+    ensures above { OnOk result (path_of descent.new.above ≡ path_of descent.old.above) }
+{
+    match descent.enter_first(row) {
+        Ok(()) => {
+            let part = child_part(row, Child::First, part);
+            let next = check_node(alloc, descent, node, number, part)?;
+            descent.leave_split();
+            Ok(next)
+        }
+        Err(_) => Err(Stop::Mem),
+    }
+}
+
+/// Goes through the second part of a split.
+#[cycle(nodes)]
+fn check_second<'a>(
+    alloc: Global,
+    descent: &mut Descent<'a>,
+    row: &'a Row,
+    node: &'a CertNode,
+    number: u32,
+    part: Option<Rect>,
+) -> Result<u32, Stop>
+    requires few { number + node_count node.now + 2 < 2 ^ 32 }
+    requires variables { variables (path_of descent.old.above) ≤ number + 2 }
+    requires declared { IsTrue (is_declared (path_of descent.old.above) row.now) }
+    requires fits { IsTrue (form_fits (denied row.now)) }
+    requires part { IsPart part (rectangle descent.old.job.now.range (path_of descent.old.above)) }
+    requires within { IfSome part (IsWithin descent.old.job.now.range) }
+    ensures tells { Tells descent.old.job.now
+        (nodes_from node.now (second row.now ∷ path_of descent.old.above)) number result }
+    ensures next { IfOk result (λ next. next ≡ number + node_count node.now) }
+    ensures job { OnOk result (descent.new.job.now ≡ descent.old.job.now) }
+    ensures above { OnOk result (path_of descent.new.above ≡ path_of descent.old.above) }
+{
+    match descent.enter_second(row) {
+        Ok(()) => {
+            let part = child_part(row, Child::Second, part);
+            let next = check_node(alloc, descent, node, number, part)?;
+            descent.leave_split();
+            Ok(next)
+        }
+        Err(_) => Err(Stop::Mem),
     }
 }

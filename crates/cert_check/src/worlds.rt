@@ -1,10 +1,9 @@
 ghost use Rattle.std.specs.Prelude.{◌≡◌, ◌+◌, ◌-◌, ◌≤◌, IsTrue, IfOk, MatchOption};
-ghost use Rattle.lay_flow.specs.Ready.{ready};
 ghost use Rattle.logic_semantics.specs.Ranges.{IsInRange};
-ghost use Rattle.cert_check.specs.Right.{is_true_at};
-ghost use Rattle.cert_check.specs.Verdicts.{IsTrueIn, IsFirstUntrueIn};
+ghost use Rattle.cert_check.specs.Truths.{is_true_at};
+ghost use Rattle.cert_check.specs.Truths.{IsTrueIn, IsFirstUntrueIn};
 ghost use Rattle.cert_check.specs.Rectangles.{IsWithin};
-ghost use Rattle.cert_check.specs.steps.Walk.{seek, untrue_at, untrue_of_width, first_untrue};
+ghost use Rattle.cert_check.specs.steps.Worlds.{seek, untrue_at, untrue_of_width, first_untrue};
 
 use crate::bounds::is_low_rendering;
 use lay_flow::render_at;
@@ -18,7 +17,6 @@ use viz_calc::Plain;
 /// It lays the page out once, and copies nothing of the job. The only fault is want of memory; a coordinate past 2^70,
 /// which no page of blocks has and no other page is known to have, would be told as such too.
 pub fn holds_at(alloc: Global, job: &Job, world: World) -> Result<bool, Mem>
-    requires ready { IsTrue (ready job.now.tree) }
     requires in_range { IsInRange job.now.range world }
     ensures { IfOk result (λ yes. yes ≡ is_true_at job.now world) }
 {
@@ -35,7 +33,6 @@ pub fn holds_at(alloc: Global, job: &Job, world: World) -> Result<bool, Mem>
 
 /// The first world of a width at which the formula is false.
 fn first_untrue_of_width(alloc: Global, job: &Job, rect: Rect, w: u32) -> Result<Option<World>, Mem>
-    requires ready { IsTrue (ready job.now.tree) }
     requires within { IsWithin job.now.range rect }
     requires width_least { job.now.range.wl ≤ w }
     requires width_most { w ≤ job.now.range.wh }
@@ -52,7 +49,6 @@ fn first_untrue_of_width(alloc: Global, job: &Job, rect: Rect, w: u32) -> Result
 
 /// The first world of a rectangle, as the walk over its worlds finds it.
 pub(crate) fn find_untrue(alloc: Global, job: &Job, rect: Rect) -> Result<Option<World>, Mem>
-    requires ready { IsTrue (ready job.now.tree) }
     requires within { IsWithin job.now.range rect }
     ensures { IfOk result (λ found. found ≡ first_untrue job.now rect) }
 {
@@ -67,7 +63,6 @@ pub(crate) fn find_untrue(alloc: Global, job: &Job, rect: Rect) -> Result<Option
 /// The first world of a rectangle in a job's range, by width and then by size, at which the formula is
 /// false; None where it is true at each. The only fault is want of memory.
 pub fn first_untrue(alloc: Global, job: &Job, rect: Rect) -> Result<Option<World>, Mem>
-    requires ready { IsTrue (ready job.now.tree) }
     requires within { IsWithin job.now.range rect }
     ensures { IfOk result (λ found. MatchOption found (IsTrueIn job.now rect) (IsFirstUntrueIn job.now rect)) }
 {

@@ -2,8 +2,8 @@
 use Rattle.std.specs.Prelude.{Bool, true, false, ◌&&◌, pos, List, [], ◌∷◌}
 use Rattle.std.specs.Int.Signed.{lt_z}
 use Rattle.cert_path.specs.Paths.{Step, def, first, second, Path, is_declared}
-use Rattle.cert_check.specs.declared.whole.descent.Above.{Above}
-use Rattle.cert_check.specs.declared.whole.descent.Above.TheVariants.{Def, First, Second}
+use Rattle.cert_check.specs.declared.descent.Above.{Above}
+use Rattle.cert_check.specs.declared.descent.Above.TheVariants.{Def, First, Second}
 
 abbrev pub step_of : Above → Step
 step_of (Def row d) = def row.now d

@@ -10,12 +10,12 @@ use Rattle.viz_base.specs.declared.worlds.Rect.{Rect}
 use Rattle.viz_base.specs.declared.jobs.Job.{Job}
 use Rattle.cert_path.specs.Rectangles.{Sides, whole}
 use Rattle.cert_check.specs.Rectangles.{is_unit}
-use Rattle.cert_check.specs.Laws.{IsProper}
-use Rattle.cert_check.specs.Right.{is_true_at}
-use Rattle.cert_check.specs.steps.Walk.{seek, unless_true}
-use Rattle.cert_check.specs.declared.whole.descent.Above.{Above}
-use Rattle.cert_check.specs.declared.whole.descent.Above.TheVariants.{Def, First, Second}
-use Rattle.cert_check.specs.whole.Numbers.{computed}
+use Rattle.cert_check.specs.Rectangles.{IsProper}
+use Rattle.cert_check.specs.Truths.{is_true_at}
+use Rattle.cert_check.specs.steps.Worlds.{seek, unless_true}
+use Rattle.cert_check.specs.declared.descent.Above.{Above}
+use Rattle.cert_check.specs.declared.descent.Above.TheVariants.{Def, First, Second}
+use Rattle.cert_check.specs.Numbers.{computed}
 
 -- ---- one world
 

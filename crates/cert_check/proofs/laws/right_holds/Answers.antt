@@ -1,4 +1,4 @@
-use Rattle.cert_check.proofs.Grids.{right_holds}
+use Rattle.cert_check.proofs.Causes.{right_holds}
 use Rattle.cert_check.proofs.laws.right_holds.Goals as goal
 
 pub returns : goal.returns

@@ -1,6 +1,6 @@
 use Rattle.std.proofs.Common.{◌≡◌, ◌+◌, ◌<◌, ◌≤◌, None, sym, ◌∙◌, arith}
 use Rattle.std.proofs.lemmas.Bool.Decides.{nat_tests}
-use Rattle.cert_check.specs.steps.Walk.{untrue_of_width}
+use Rattle.cert_check.specs.steps.Worlds.{untrue_of_width}
 use Rattle.cert_check.proofs.Seeks.{seek-end, seek-next, seek-here}
 use Rattle.cert_check.proofs.worlds.find_untrue.Goals as goal
 

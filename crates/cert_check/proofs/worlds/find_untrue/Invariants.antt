@@ -1,5 +1,5 @@
 use Rattle.std.proofs.Common.{◌≡◌, ◌-◌}
-use Rattle.cert_check.specs.steps.Walk.{seek, untrue_of_width, first_untrue}
+use Rattle.cert_check.specs.steps.Worlds.{seek, untrue_of_width, first_untrue}
 use Rattle.cert_check.proofs.worlds.find_untrue.Given as goal
 
 abbrev pub invariant-loop-w : goal.invariant-loop-w

@@ -1,4 +1,4 @@
-use Rattle.cert_check.proofs.Walks.{answer_means}
+use Rattle.cert_check.proofs.FirstUntrue.{answer_means}
 use Rattle.cert_check.proofs.worlds.first_untrue.Goals as goal
 
 pub returns : goal.returns

@@ -1,8 +1,8 @@
 use Rattle.std.proofs.Common.{◌+◌, ◌<◌, ◌≤◌, sym, ◌∙◌, arith}
 use Rattle.std.proofs.lemmas.Bool.Decides.{nat_tests}
-use Rattle.cert_check.specs.steps.Walk.{untrue_at}
+use Rattle.cert_check.specs.steps.Worlds.{untrue_at}
 use Rattle.cert_check.proofs.Seeks.{seek-end, seek-next, seek-here}
-use Rattle.cert_check.proofs.Walks.{found_untrue, found_true}
+use Rattle.cert_check.proofs.FirstUntrue.{found_untrue, found_true}
 use Rattle.cert_check.proofs.worlds.first_untrue_of_width.Goals as goal
 
 pub returns-then-not-branch : goal.returns-then-not-branch

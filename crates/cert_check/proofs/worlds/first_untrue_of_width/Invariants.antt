@@ -1,5 +1,5 @@
 use Rattle.std.proofs.Common.{◌≡◌, ◌-◌}
-use Rattle.cert_check.specs.steps.Walk.{seek, untrue_at, untrue_of_width}
+use Rattle.cert_check.specs.steps.Worlds.{seek, untrue_at, untrue_of_width}
 use Rattle.cert_check.proofs.worlds.first_untrue_of_width.Given as goal
 
 abbrev pub invariant-loop-s : goal.invariant-loop-s

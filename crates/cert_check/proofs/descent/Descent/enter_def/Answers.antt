@@ -1,0 +1,51 @@
+use Rattle.std.proofs.Common.{◌≡◌, ◌∙◌, ◌∷◌, ◌++◌, [], true, ◌&&◌, length, sym, ap, subst, arith, rules, FitsSigned, to_z-of_z}
+use Rattle.std.specs.Int.{w128}
+use Rattle.std.specs.List.{list_any}
+use Rattle.cert_path.specs.Paths.{def}
+use Rattle.cert_path.specs.Facts.{step_facts, facts}
+use Rattle.sym_calc.specs.Floors.{same_floor, floors_of}
+use Rattle.sym_calc.proofs.Along.{variables_of}
+use Rattle.cert_check.specs.declared.descent.Above.TheVariants.{Def}
+use Rattle.cert_check.specs.steps.Descent.{path_of, are_sound}
+use Rattle.cert_check.proofs.Descents.{after_push, fit_here}
+use Rattle.cert_check.proofs.descent.Descent.enter_def.Goals as goal
+
+pub define-requires-clause-new : goal.define-requires-clause-new
+define-requires-clause-new c =
+    let s = c.args.self.now in
+    let fits : FitsSigned w128 c.args.by = c.ranges.by in
+    let copied : c.in_ok-clone.field-0 ≡ c.args.row.now = search rules in
+    let fit = fit_here s.job.now.range (path_of s.above) c.args.row.now c.args.by c.requires.shaped in
+    simp to_z-of_z ((λ i. list_any (same_floor (record { row = copied i; by = c.args.by })) (s.floors i)) ∙ fit.new)
+
+pub define-requires-clause-next : goal.define-requires-clause-next
+define-requires-clause-next c =
+    let s = c.args.self.now in
+    let count = variables_of (path_of s.above) in
+    let floors = ap length s.floors in
+    omega (arith, count, floors)
+
+pub invariant_of-self-in-Ok : goal.invariant_of-self-in-Ok
+invariant_of-self-in-Ok c =
+    let s = c.args.self.now in
+    let fits : FitsSigned w128 c.args.by = c.ranges.by in
+    let copied : c.in_ok-clone.field-0 ≡ c.args.row.now = search rules in
+    let fit = fit_here s.job.now.range (path_of s.above) c.args.row.now c.args.by c.requires.shaped in
+    let pushed = simp to_z-of_z at c.in_ok-push.ensures.ok in
+    let path = after_push s.above c.push.new.self (Def c.args.row c.args.by) pushed in
+    let declared = fit.declared in
+    let test = fit.test in
+    let sound = s.sound in
+    let facts_more = simp to_z-of_z at c.in-Ok.ensures.facts in
+    let floors_more = simp to_z-of_z at c.in-Ok.ensures.floors in
+    record {
+      sound = subst (λ p. are_sound p ≡ true) (sym path) (λ i. declared i && test i && sound i);
+      facts = facts_more ∙ (λ i. s.facts i ++ step_facts (c.variables-variable.ensures i) (def (copied i) c.args.by)) ∙ ap (facts s.job.now.range) (sym path);
+      floors = floors_more ∙ (λ i. s.floors i ++ record { row = copied i; by = c.args.by } ∷ []) ∙ ap floors_of (sym path);
+    }
+
+pub returns-in-Ok-clause-above : goal.returns-in-Ok-clause-above
+returns-in-Ok-clause-above c =
+    let s = c.args.self.now in
+    let fits : FitsSigned w128 c.args.by = c.ranges.by in
+    after_push s.above c.push.new.self (Def c.args.row c.args.by) (simp to_z-of_z at c.in_ok-push.ensures.ok)

@@ -1,0 +1,144 @@
+use Rattle.std.proofs.Common.{◌≡◌, ◌+◌, ◌∷◌, ◌++◌, ◌∙◌, sym, ap, arith, rules, FitsSigned, to_z, of_z, to_z-of_z}
+use Rattle.std.proofs.lemmas.Bool.{and_parts}
+use Rattle.std.specs.Int.{w128}
+use Rattle.cert_text.specs.declared.certificate.CertNode.TheVariants.{Def, Split}
+use Rattle.cert_path.specs.Paths.{def, first, second, is_declared}
+use Rattle.cert_path.specs.Nodes.{names, splits, node_on, nodes_from}
+use Rattle.cert_path.specs.Shapes.{has_variable}
+use Rattle.cert_check.specs.declared.cuts.Child.TheVariants.{First, Second}
+use Rattle.cert_check.specs.steps.Descent.{path_of}
+use Rattle.cert_check.specs.steps.Tells.{node_count}
+use Rattle.cert_check.proofs.Judging.{is_judged}
+use Rattle.cert_check.proofs.PartSides.{variables_under, part_under, within_under}
+use Rattle.cert_check.proofs.Tellings.{tells_mem, tells_first, both_told, head_told, rest_told, def_nodes, split_nodes, count-Def, count-Split}
+use Rattle.cert_check.proofs.walk.+nodes.Goals as goal
+
+-- ---- a def and what is below it
+
+pub check_node-check_below-requires : goal.check_node-check_below-requires
+check_node-check_below-requires t c =
+    let path = path_of c.args.descent.now.above in
+    let good = is_judged c.args.descent.now.job.now (node_on path (names c.in-Def.row (to_z w128 (of_z w128 c.in-Def.by)))) c.args.number tt c.in-Ok.ensures in
+    let whole : node_count c.args.node.now ≡ 1 + node_count c.in-Def.below = ap node_count c.in-Def.is ∙ count-Def c.in-Def.row c.in-Def.by c.in-Def.below in
+    let below : node_count c.get.result.now ≡ node_count c.in-Def.below = ap node_count c.get.ensures in
+    (omega arith, (omega arith, (omega arith, (good.shaped, (c.requires.part, c.requires.within)))))
+
+pub check_node-returns-in-Ok-clause-tells : goal.check_node-returns-in-Ok-clause-tells
+check_node-returns-in-Ok-clause-tells t c =
+    let s = c.args.descent.now in
+    let path = path_of s.above in
+    let by = to_z w128 (of_z w128 c.in-Def.by) in
+    let fits : FitsSigned w128 c.in-Def.by = search rules in
+    let same : by ≡ c.in-Def.by = to_z-of_z fits in
+    let below = c.get.result.now in
+    let is : c.args.node.now ≡ Def c.in-Def.row by below = c.in-Def.is ∙ (λ i. Def c.in-Def.row (sym same i) (sym c.get.ensures i)) in
+    rest_told s.job.now c.args.node.now path (names c.in-Def.row by) (nodes_from below (def c.in-Def.row by ∷ path)) (def_nodes c.args.node.now path c.in-Def.row by below is) c.args.number
+    c.check_below.result c.in-Ok.ensures c.check_below.ensures.tells
+
+pub check_node-returns-in-Err-clause-tells : goal.check_node-returns-in-Err-clause-tells
+check_node-returns-in-Err-clause-tells t c =
+    let s = c.args.descent.now in
+    let path = path_of s.above in
+    let by = to_z w128 (of_z w128 c.in-Def.by) in
+    let fits : FitsSigned w128 c.in-Def.by = search rules in
+    let same : by ≡ c.in-Def.by = to_z-of_z fits in
+    let is : c.args.node.now ≡ Def c.in-Def.row by c.in-Def.below = c.in-Def.is ∙ (λ i. Def c.in-Def.row (sym same i) c.in-Def.below) in
+    head_told s.job.now c.args.node.now path (names c.in-Def.row by) (nodes_from c.in-Def.below (def c.in-Def.row by ∷ path)) (def_nodes c.args.node.now path c.in-Def.row by c.in-Def.below is) c.args.number
+    c.in-Err.stop c.in-Err.ensures
+
+pub check_below-returns-in-Err-clause-tells : goal.check_below-returns-in-Err-clause-tells
+check_below-returns-in-Err-clause-tells t c = tells_mem _ _ _
+
+-- ---- a split and its two parts
+
+pub check_node-check_parts-requires : goal.check_node-check_parts-requires
+check_node-check_parts-requires t c =
+    let path = path_of c.args.descent.now.above in
+    let row = c.in-Split.row in
+    let good = is_judged c.args.descent.now.job.now (node_on path (splits row)) c.args.number tt c.in-Ok-check_split.ensures in
+    let whole : node_count c.args.node.now ≡ 1 + (node_count c.in-Split.first + node_count c.in-Split.second) = ap node_count c.in-Split.is ∙ count-Split row c.in-Split.first c.in-Split.second in
+    let one : node_count c.get-in-Ok-check_split.result.now ≡ node_count c.in-Split.first = ap node_count c.get-in-Ok-check_split.ensures in
+    let other : node_count c.get-in-Ok-check_split-2.result.now ≡ node_count c.in-Split.second = ap node_count c.get-in-Ok-check_split-2.ensures in
+    (omega arith, (omega arith, (omega arith, ((and_parts (is_declared path row) (has_variable row) good.shaped).0, (good.decides, (c.requires.part, c.requires.within))))))
+
+pub check_node-returns-in-Ok-check_split-clause-tells : goal.check_node-returns-in-Ok-check_split-clause-tells
+check_node-returns-in-Ok-check_split-clause-tells t c =
+    let s = c.args.descent.now in
+    let path = path_of s.above in
+    let row = c.in-Split.row in
+    let one = c.get-in-Ok-check_split.result.now in
+    let other = c.get-in-Ok-check_split-2.result.now in
+    let is : c.args.node.now ≡ Split row one other = c.in-Split.is ∙ (λ i. Split row (sym c.get-in-Ok-check_split.ensures i) (sym c.get-in-Ok-check_split-2.ensures i)) in
+    rest_told s.job.now c.args.node.now path (splits row) (nodes_from one (first row ∷ path) ++ nodes_from other (second row ∷ path)) (split_nodes c.args.node.now path row one other is) c.args.number
+    c.check_parts.result c.in-Ok-check_split.ensures c.check_parts.ensures.tells
+
+pub check_node-returns-in-Err-check_split-clause-tells : goal.check_node-returns-in-Err-check_split-clause-tells
+check_node-returns-in-Err-check_split-clause-tells t c =
+    let s = c.args.descent.now in
+    let path = path_of s.above in
+    let row = c.in-Split.row in
+    head_told s.job.now c.args.node.now path (splits row) (nodes_from c.in-Split.first (first row ∷ path) ++ nodes_from c.in-Split.second (second row ∷ path))
+    (split_nodes c.args.node.now path row c.in-Split.first c.in-Split.second c.in-Split.is) c.args.number c.in-Err-check_split.stop c.in-Err-check_split.ensures
+
+pub check_parts-returns-in-Ok-clause-tells : goal.check_parts-returns-in-Ok-clause-tells
+check_parts-returns-in-Ok-clause-tells t c =
+    let old = c.args.descent.now in
+    let now = c.check_first.new.descent in
+    both_told old.job.now now.job.now (path_of old.above) (path_of now.above) c.args.row.now c.args.one.now c.args.other.now c.args.number c.in-Ok.next
+    c.in-Ok.ensures.job c.in-Ok.ensures.above c.in-Ok.ensures.next c.in-Ok.ensures.tells c.check_second.result c.check_second.ensures.tells
+
+pub check_parts-returns-in-Err-clause-tells : goal.check_parts-returns-in-Err-clause-tells
+check_parts-returns-in-Err-clause-tells t c =
+    let old = c.args.descent.now in
+    let path = path_of old.above in
+    tells_first old.job.now (nodes_from c.args.one.now (first c.args.row.now ∷ path)) (nodes_from c.args.other.now (second c.args.row.now ∷ path)) c.args.number c.in-Err.stop c.in-Err.ensures.tells
+
+pub check_first-check_node-requires : goal.check_first-check_node-requires
+check_first-check_node-requires t c =
+    let old = c.args.descent.now in
+    let now = c.enter_first.new.self in
+    let path = path_of old.above in
+    let under = c.child_part-part.result in
+    let job = c.in-Ok.ensures.job in
+    let down = c.in-Ok.ensures.above in
+    let is = c.child_part-part.ensures in (
+      omega arith,
+      (
+        c.requires.few,
+        (
+          variables_under c.args.row.now First old.job.now now.job.now path (path_of now.above) c.args.part under job down is (c.args.number + 2) c.requires.variables,
+          (
+            part_under c.args.row.now First old.job.now now.job.now path (path_of now.above) c.args.part under job down is c.requires.part,
+            within_under c.args.row.now First old.job.now now.job.now path (path_of now.above) c.args.part under job down is c.requires.within,
+          ),
+        ),
+      ),
+    )
+
+pub check_first-returns-in-Err-clause-tells : goal.check_first-returns-in-Err-clause-tells
+check_first-returns-in-Err-clause-tells t c = tells_mem _ _ _
+
+pub check_second-check_node-requires : goal.check_second-check_node-requires
+check_second-check_node-requires t c =
+    let old = c.args.descent.now in
+    let now = c.enter_second.new.self in
+    let path = path_of old.above in
+    let under = c.child_part-part.result in
+    let job = c.in-Ok.ensures.job in
+    let down = c.in-Ok.ensures.above in
+    let is = c.child_part-part.ensures in (
+      omega arith,
+      (
+        c.requires.few,
+        (
+          variables_under c.args.row.now Second old.job.now now.job.now path (path_of now.above) c.args.part under job down is (c.args.number + 2) c.requires.variables,
+          (
+            part_under c.args.row.now Second old.job.now now.job.now path (path_of now.above) c.args.part under job down is c.requires.part,
+            within_under c.args.row.now Second old.job.now now.job.now path (path_of now.above) c.args.part under job down is c.requires.within,
+          ),
+        ),
+      ),
+    )
+
+pub check_second-returns-in-Err-clause-tells : goal.check_second-returns-in-Err-clause-tells
+check_second-returns-in-Err-clause-tells t c = tells_mem _ _ _

@@ -1,0 +1,115 @@
+-- What the verdict on a leaf says.
+use Rattle.std.specs.Prelude.{◌≡◌, ◌≢◌, ℕ, ◌<◌, ◌≤◌, ◌-◌, false, List, length, take, Option, Some, None, slice_get}
+use Rattle.viz_base.specs.declared.worlds.Rect.{Rect}
+use Rattle.viz_base.specs.declared.worlds.World.{World}
+use Rattle.viz_base.specs.declared.jobs.Job.{Job}
+use Rattle.viz_calc.specs.State.{Rose}
+use Rattle.lin_row.specs.Form.{Form}
+use Rattle.lin_proof.specs.declared.derivation.Answer.{Answer}
+use Rattle.cert_path.specs.Paths.{Path, AreSound}
+use Rattle.cert_path.specs.Facts.{facts}
+use Rattle.cert_path.specs.Derived.{AreRefuted}
+use Rattle.sym_calc.specs.declared.sym.Sym.{Sym}
+use Rattle.sym_calc.specs.declared.troubles.Trouble.{Trouble}
+use Rattle.sym_calc.specs.declared.troubles.Trouble.TheVariants as of_trouble
+use Rattle.sym_calc.specs.Calc.{state_of}
+use Rattle.sym_calc.specs.Floors.{floors_of, values_by}
+use Rattle.sym_calc.specs.Knowledge.{are_met}
+use Rattle.sym_calc.specs.Laws.{IsFaultBelow}
+use Rattle.cert_check.specs.declared.verdicts.Verdict.{Verdict}
+use Rattle.cert_check.specs.declared.verdicts.Verdict.TheVariants.{Accepted, Rejected}
+use Rattle.cert_check.specs.declared.verdicts.Reject.{Reject}
+use Rattle.cert_check.specs.declared.verdicts.Reject.TheVariants.{OtherJob, Shape, Line, Untrue, Unmet, Differs, Short, Left, Coeff}
+use Rattle.cert_check.specs.Truths.{IsThroughout, IsTrueOn}
+
+-- the calc stands over this path of a range, and keeps its worlds
+pub record StandsOver (range : Rect) (path : Path) (s : Sym) : Type 0 where
+  pub sound : AreSound path
+  pub facts_are : s.path.now.facts ≡ facts range path
+  pub floors_are : s.path.now.floors ≡ floors_of path
+  pub kept : (world : World) → (state_of s).kept.worlds world ≡ are_met (facts range path) (values_by (floors_of path) world)
+
+-- ---- causes
+
+-- the answer of this number is wrong at this line, and those before it are right
+pub record IsWrongAnswer (range : Rect) (path : Path) (answers : List Answer) (number line : ℕ) : Type 0 where
+  pub answer : Answer
+  pub is_answer : slice_get answers number ≡ Some answer
+  pub before : AreRefuted range path (take number answers)
+  pub wrong : IsFaultBelow range path answer line
+
+-- the answer of this number is to this row and not to ours, and those before it are right
+pub record IsToAnother (range : Rect) (path : Path) (answers : List Answer) (number : ℕ) (ours theirs : Form) : Type 0 where
+  pub answer : Answer
+  pub is_answer : slice_get answers number ≡ Some answer
+  pub before : AreRefuted range path (take number answers)
+  pub theirs_is : answer.row ≡ theirs
+  pub other : ours ≢ theirs
+
+-- the formula is false at each world of the path, and the answers that were taken are right
+pub record IsUnmet (job : Job) (path : Path) (answers : List Answer) : Type 0 where
+  pub untrue : IsThroughout job path false
+  pub taken : ℕ
+  pub right : AreRefuted job.range path (take taken answers)
+
+-- the formula is true at each world of the path, and so many answers are left behind those that are right
+pub record AreLeft (job : Job) (path : Path) (answers : List Answer) (count : ℕ) : Type 0 where
+  pub holds : IsTrueOn job path
+  pub some : 0 < count
+  pub most : count ≤ length answers
+  pub right : AreRefuted job.range path (take (length answers - count) answers)
+
+-- why a leaf on a path with these answers is rejected
+abbrev pub IsLeafFault : Job → Path → List Answer → Reject → Type 0
+IsLeafFault job path answers OtherJob = ⊥
+IsLeafFault job path answers (Shape n) = ⊥
+IsLeafFault job path answers (Untrue n world) = ⊥
+IsLeafFault job path answers (Line n number line) = IsWrongAnswer job.range path answers number line
+IsLeafFault job path answers (Differs n number ours theirs) = IsToAnother job.range path answers number ours theirs
+IsLeafFault job path answers (Short n) = AreRefuted job.range path answers
+IsLeafFault job path answers (Unmet n) = IsUnmet job path answers
+IsLeafFault job path answers (Left n count) = AreLeft job path answers count
+IsLeafFault job path answers (Coeff n) = Unit {0}
+
+-- the number of the node that is rejected
+abbrev pub node_in : Reject → ℕ
+node_in OtherJob = 0
+node_in (Shape n) = n
+node_in (Line n number line) = n
+node_in (Untrue n world) = n
+node_in (Unmet n) = n
+node_in (Differs n number ours theirs) = n
+node_in (Short n) = n
+node_in (Left n count) = n
+node_in (Coeff n) = n
+
+-- A leaf of this number is accepted only where the formula is true at each world of its path and its answers are right.
+abbrev pub IsLeafVerdict : Job → ℕ → Path → List Answer → Verdict → Type 0
+IsLeafVerdict job n path answers Accepted = IsTrueOn job path × AreRefuted job.range path answers
+IsLeafVerdict job n path answers (Rejected reject) = (node_in reject ≡ n) × IsLeafFault job path answers reject
+
+-- ---- the calc's own words
+
+-- how a trouble of a leaf's calc is told
+abbrev pub reject_of : ℕ → Trouble → Reject
+reject_of n (of_trouble.Line number line) = Line n number line
+reject_of n (of_trouble.Differs number ours theirs) = Differs n number ours theirs
+reject_of n of_trouble.Short = Short n
+
+-- how many answers of its tape are not taken
+abbrev pub left_of : Sym → ℕ
+left_of s = length s.tape.now - s.taken
+
+-- the verdicts that tell of no trouble: a number outside `i128` only where the calc counted one, and answers that are
+-- left as it counts them
+abbrev pub IsUntroubled : Sym → Sym → Verdict → Type 0
+IsUntroubled old new Accepted = left_of new ≡ 0
+IsUntroubled old new (Rejected (Unmet n)) = Unit {0}
+IsUntroubled old new (Rejected (Left n count)) = count ≡ left_of new
+IsUntroubled old new (Rejected (Coeff n)) = Rose old.coeffs new.coeffs
+IsUntroubled old new (Rejected _) = ⊥
+
+-- a trouble is told exactly where the calc met it
+abbrev pub IsTold : ℕ → Sym → Sym → Option Trouble → Verdict → Type 0
+IsTold n old new (Some trouble) verdict = verdict ≡ Rejected (reject_of n trouble)
+IsTold n old new None verdict = IsUntroubled old new verdict

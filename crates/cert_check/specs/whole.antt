@@ -1,5 +1,0 @@
-pub mod Truths
-pub mod Numbers
-pub mod Leaves
-pub mod Right
-pub mod Verdicts

@@ -1,0 +1,89 @@
+ghost use Rattle.std.specs.Prelude.{◌≡◌, ◌<ℤ◌, pos, [], ◌∷◌, IfOk, IsTrue};
+ghost use Rattle.std.specs.Option.{option_map};
+ghost use Rattle.cert_check.specs.Numbers.{add_term, computed, sum_on};
+ghost use Rattle.cert_check.specs.steps.Descent.{are_sound, path_of};
+ghost use Rattle.cert_check.specs.steps.Grids.{value_in, pass, place_of, are_above_zero, is_above_zero};
+
+use crate::cuts::cut_of;
+use crate::descent::Above;
+use lin_row::Row;
+use std::alloc::Global;
+use viz_base::{List, Mem, World};
+
+/// What a variable is, which counts 0 where it is not declared.
+fn value_in(values: &List<i128>, variable: u32) -> i128
+    ensures { result ≡ value_in values.now variable }
+{
+    match values.get(variable as usize) {
+        Some(value) => *value,
+        None => 0,
+    }
+}
+
+/// A sum and one term more, if the product and the sum are in `i128`.
+fn add_term(sum: i128, term: (u32, i128), values: &List<i128>) -> Option<i128>
+    ensures { result ≡ add_term sum term (value_in values.now) }
+{
+    let product = term.1.checked_mul(value_in(values, term.0))?;
+    sum.checked_add(product)
+}
+
+/// A sum that goes on with the terms one after another.
+fn sum_on(start: i128, terms: &[(u32, i128)], values: &List<i128>) -> Option<i128>
+    ensures { result ≡ sum_on start terms.now (value_in values.now) }
+{
+    let mut sum = start;
+    for term in terms {
+        match add_term(sum, *term, values) {
+            Some(next) => sum = next,
+            None => return None,
+        }
+    }
+    Some(sum)
+}
+
+/// A row's value, if each product and each sum on the way is in `i128`: its constant first, and then term by term.
+fn computed(row: &Row, values: &List<i128>) -> Option<i128>
+    ensures { result ≡ computed row.now (value_in values.now) }
+{
+    sum_on(row.k, row.terms.as_slice(), values)
+}
+
+/// Whether a world is still on the path below one def or split more. A def adds its floor to the values of the
+/// variables, and a unit split is passed over. None where a number is outside `i128`.
+fn pass(values: &mut List<i128>, step: Above<'_>, on: bool) -> Result<Option<bool>, Mem>
+    requires { IsTrue (is_above_zero step) }
+    ensures { IfOk result (λ passed. option_map (λ still. (values.new, still)) passed ≡ pass step.entry values.old on) }
+{
+    match step {
+        Above::Def(row, by) => {
+            let Some(value) = computed(row, values) else {
+                return Ok(None);
+            };
+            values.push(value.div_euclid(by))?;
+            Ok(Some(on))
+        }
+        Above::First(row) | Above::Second(row) if cut_of(row).is_some() => Ok(Some(on)),
+        Above::First(row) => Ok(computed(row, values).map(|value| on && 0 <= value)),
+        Above::Second(row) => Ok(computed(row, values).map(|value| on && value < 0)),
+    }
+}
+
+/// Whether a world that the unit splits of a path leave is on the path. None where a number of its defs or of its
+/// other splits is outside `i128` there.
+pub fn place_of(alloc: Global, above: &[Above<'_>], world: World) -> Result<Option<bool>, Mem>
+    requires { IsTrue (are_above_zero above.now) }
+    ensures { IfOk result (λ place. place ≡ place_of above.now world) }
+{
+    let mut values = List::new(alloc);
+    values.push(i128::from(world.w))?;
+    values.push(i128::from(world.s))?;
+    let mut on = true;
+    for step in above {
+        match pass(&mut values, *step, on)? {
+            Some(still) => on = still,
+            None => return Ok(None),
+        }
+    }
+    Ok(Some(on))
+}
