@@ -1,89 +1,98 @@
 -- What is found of a rectangle, from what is found of its halves.
-use Rattle.std.proofs.Common.{◌≡◌, ℕ, zero, suc, ◌+◌, ◌-◌, ◌*◌, ◌<◌, ◌≤◌, pos, Bool, true, false, nat_le, List, [], ◌∷◌, ◌++◌, length, max, Some, Result, Ok, Err, refl, sym, ap, subst, ◌∙◌, arith, inl, inr, rules, codes, IsTrue, length-append}
-use Rattle.std.specs.Prelude.{◌⊎◌, slice_get}
+use Rattle.std.proofs.Common.{◌≡◌, ℕ, zero, suc, ◌+◌, ◌-◌, ◌*◌, ◌<◌, ◌≤◌, pos, negsuc, neg_ℤ, ◌-ℤ◌, Bool, true, nat_lt, nat_le, ◌&&◌, ◌||◌, List, [], ◌∷◌, length, max, Result, Ok, Err, refl, sym, ap, subst, ◌∙◌, arith, inl, inr, rules, codes, IsTrue, length-append}
+use Rattle.std.specs.Prelude.{◌⊎◌}
 use Rattle.std.specs.List.{AllByRecursion, concat}
-use Rattle.std.specs.Option.{is_some, option_and_then}
 use Rattle.std.specs.Result.{IsErr, IsErrAnd}
 use Rattle.std.proofs.lemmas.Bool.{false≢true}
 use Rattle.std.proofs.lemmas.Bool.Decides.{nat_tests}
-use Rattle.std.proofs.lemmas.Option.{same_Some}
+use Rattle.std.proofs.lemmas.Int.{ints}
+use Rattle.viz_base.specs.Jobs.{IsRange}
 use Rattle.viz_base.specs.declared.worlds.World.{World}
 use Rattle.viz_base.specs.declared.worlds.Axis.{Axis}
 use Rattle.viz_base.specs.declared.worlds.Axis.TheVariants.{Width, Size}
 use Rattle.viz_base.specs.declared.worlds.Rect.{Rect}
 use Rattle.viz_base.specs.declared.jobs.Job.{Job}
 use Rattle.logic_semantics.specs.Ranges.{IsInRange}
-use Rattle.lin_row.specs.Form.{Form}
+use Rattle.lin_row.specs.Form.{Form, denied, form_fits}
+use Rattle.lin_row.specs.Number.{in_i128}
 use Rattle.cert_text.specs.declared.certificate.CertNode.{CertNode}
 use Rattle.cert_text.specs.declared.certificate.CertNode.TheVariants.{Grid, Split}
 use Rattle.cert_text.specs.declared.certificate.CertNode.TheOpen.{CertNode-F}
 use Rattle.cert_text.specs.declared.certificate.CertNode.TheViews.{the_lemmas}
 use Rattle.cert_text.specs.declared.certificate.CertNode.TheFolds.{fold-roll-CertNode, fold_out-CertNode}
-use Rattle.cert_text.specs.Grammar.{NodeText, grid, split}
-use Rattle.cert_check.specs.declared.cuts.Cut.{Cut}
-use Rattle.cert_check.specs.declared.cuts.Child.{Child}
-use Rattle.cert_check.specs.declared.cuts.Child.TheVariants.{First, Second}
-use Rattle.cert_check.specs.declared.cuts.Opens.TheVariants.{UpTo}
-use Rattle.cert_check.specs.Paths as step
-use Rattle.cert_check.specs.Paths.{Path}
-use Rattle.cert_check.specs.Rectangles.{world_count, IsWithin, cut_of, is_unit, part_of, cut_at, rectangle}
-use Rattle.cert_check.specs.Nodes.{by_worlds, nodes_step, nodes_from}
-use Rattle.cert_check.specs.Right.{is_true_at, is_small, IsGood}
-use Rattle.cert_check.specs.Verdicts.{IsTrueIn, IsFirstUntrueIn}
-use Rattle.cert_check.specs.Laws.{IsProper, HasUnits, IsPartOn}
-use Rattle.cert_check.proofs.Parts.{rectangle_is_path}
+use Rattle.cert_text.specs.Texts.{Nested, node_nested, node_text, node_has_text}
+use Rattle.cert_text.specs.steps.Write.{row_bytes}
+use Rattle.cert_path.specs.Paths.{def, first, second, Path, variables}
+use Rattle.cert_path.specs.Rectangles.{rectangle, left_by}
+use Rattle.cert_path.specs.Rectangles.{world_count as count_of_sides}
+use Rattle.cert_path.specs.Nodes.{by_worlds, splits, node_on, nodes_from}
+use Rattle.cert_path.specs.Shapes.{is_shaped}
+use Rattle.cert_path.proofs.Sides.{rectangle_is_units}
+use Rattle.cert_path.proofs.Trees.{preorder}
+use Rattle.cert_path.proofs.Values.{all_append, two_variables}
+use Rattle.cert_check.specs.Rectangles.{world_count, IsWithin, is_unit}
+use Rattle.cert_check.specs.Truths.{is_true_at}
+use Rattle.cert_check.specs.Truths.{IsTrueIn, IsFirstUntrueIn}
+use Rattle.cert_check.specs.Rectangles.{IsProper}
+use Rattle.cert_check.specs.Numbers.{are_computed}
+use Rattle.cert_check.specs.Right.{IsGood}
+use Rattle.cert_check.proofs.GridWorlds.{on_units}
+use Rattle.cert_check.proofs.PartSides.{inside_part}
 use Rattle.prove_search.specs.declared.halves.Halves.{Halves}
-use Rattle.prove_search.specs.declared.search.Closed.{Closed}
-use Rattle.prove_search.specs.declared.search.Stop.{Stop}
-use Rattle.prove_search.specs.declared.search.Stop.TheVariants.{Mem, Violated, Undecided}
-use Rattle.prove_search.specs.Outcomes.{grid_count, IsViolation}
-use Rattle.prove_search.specs.Finds.{HasLevels, IsClosed, IsFinding}
-use Rattle.viz_base.specs.Jobs.{IsRange}
-use Rattle.prove_search.specs.Halves.{halves_of}
-use Rattle.prove_search.proofs.Halving.{IsHalving, Shrinks, halves_are}
-use Rattle.prove_search.proofs.Texts.{split_row, row_text}
+use Rattle.prove_search.specs.declared.plain.Closed.{Closed}
+use Rattle.prove_search.specs.declared.plain.Stop.{Stop}
+use Rattle.prove_search.specs.declared.plain.Stop.TheVariants.{Mem, Violated, Undecided}
+use Rattle.prove_search.specs.Halves.{row_up_to, halves_of}
+use Rattle.prove_search.specs.Outcomes.{laid_out_count, IsViolation}
+use Rattle.prove_search.specs.Finds.{HasLevels, AreUnits, LeadsTo, IsClosed, IsFinding}
+use Rattle.prove_search.proofs.Halving.{IsHalving, halves_are}
+use Rattle.prove_search.proofs.Texts.{in_width, row_spelled, row_short}
 
 -- ---- the folds at each form of node
 
-nodes-Grid : nodes_from Grid ≡ nodes_step CertNode-F.Grid
-nodes-Grid = search (rules, the_lemmas, fold-roll-CertNode, fold_out-CertNode)
+count_Grid : laid_out_count Grid ≡ 1
+count_Grid = search (rules, the_lemmas, fold-roll-CertNode, fold_out-CertNode)
 
-nodes-Split : (row : Form) (first second : CertNode) → nodes_from (Split row first second) ≡ nodes_step (CertNode-F.Split row (nodes_from first) (nodes_from second))
-nodes-Split row first second = search (rules, the_lemmas, fold-roll-CertNode, fold_out-CertNode)
+count_Split : (row : Form) (one other : CertNode) → laid_out_count (Split row one other) ≡ laid_out_count one + laid_out_count other
+count_Split row one other = search (rules, the_lemmas, fold-roll-CertNode, fold_out-CertNode)
 
-grids-Grid : grid_count Grid ≡ 1
-grids-Grid = search (rules, the_lemmas, fold-roll-CertNode, fold_out-CertNode)
+text_Grid : node_text Grid ≡ codes "grid\n"
+text_Grid = search (rules, the_lemmas, fold_out-CertNode)
 
-grids-Split : (row : Form) (first second : CertNode) → grid_count (Split row first second) ≡ grid_count first + grid_count second
-grids-Split row first second = search (rules, the_lemmas, fold-roll-CertNode, fold_out-CertNode)
+text_Split : (row : Form) (one other : CertNode) → node_text (Split row one other) ≡ concat (codes "split " ∷ row_bytes row ∷ codes "\n" ∷ node_text one ∷ node_text other ∷ [])
+text_Split row one other = search (rules, the_lemmas, fold_out-CertNode)
 
--- ---- lists
+nested_Grid : ◌≡◌ {A = Nested} (node_has_text Grid) (node_nested CertNode-F.Grid)
+nested_Grid = search (rules, the_lemmas, fold_out-CertNode)
 
-all-append : {X : Type 0} (P : X → Type 0) (xs ys : List X) → AllByRecursion P xs → AllByRecursion P ys → AllByRecursion P (xs ++ ys)
-all-append P [] ys h k = k
-all-append P (x ∷ xs) ys h k = (h.0, all-append P xs ys h.1 k)
-
-pub all_at : {X : Type 0} (P : X → Type 0) (xs : List X) → AllByRecursion P xs → (n : ℕ) (x : X) → slice_get xs n ≡ Some x → P x
-all_at P [] h n x is = absurd (cc)
-all_at P (y ∷ ys) h zero x is = subst P (same_Some y x is) h.0
-all_at P (y ∷ ys) h (suc n) x is = all_at P ys h.1 n x is
+nested_Split : (row : Form) (one other : CertNode) → ◌≡◌ {A = Nested} (node_has_text (Split row one other)) (node_nested (CertNode-F.Split row (node_has_text one) (node_has_text other)))
+nested_Split row one other = search (rules, the_lemmas, fold_out-CertNode)
 
 -- ---- a grid
 
-small_grid : (job : Job) (r : Rect) (path : Path) → IsProper job.range → world_count r ≤ 64 → IsTrueIn job r
-    → HasUnits path → rectangle job.range path ≡ Some r → IsGood job (record { path = path; decision = by_worlds })
-small_grid job r path proper small holds units is =
-    let part = subst (IsPartOn job.range path) is (rectangle_is_path job.range path proper units) in
-    let few : nat_le (world_count r) 64 ≡ true = grind (arith, nat_tests) in
-    record {
-      shaped = ap is_small is ∙ few;
-      decides = λ world i on. holds world ((part.1 world).1 (i, on));
-    }
+computed_by : (a b c : Bool) → a ≡ true → b ≡ true → (a && (b || c)) ≡ true
+computed_by a b c e f = rw (e, f) refl
 
-grid_is_good : (job : Job) (r : Rect) → IsProper job.range → world_count r ≤ 64 → IsTrueIn job r
-    → (path : Path) → HasUnits path → rectangle job.range path ≡ Some r → AllByRecursion (IsGood job) (nodes_from Grid path)
-grid_is_good job r proper small holds path units is =
-    subst (λ f. AllByRecursion (IsGood job) (f path)) (sym nodes-Grid) (small_grid job r path proper small holds units is, tt)
+-- a path of unit splits has no numbers to compute
+units_computed : (path : Path) → AreUnits path → (world : World) → IsTrue (are_computed path world)
+units_computed [] units world = refl
+units_computed (def row d ∷ outer) units world = absurd units
+units_computed (first row ∷ outer) units world = computed_by _ _ _ (units_computed outer units.1 world) units.0
+units_computed (second row ∷ outer) units world = computed_by _ _ _ (units_computed outer units.1 world) units.0
+
+grid_is_good : (job : Job) (r : Rect) → IsProper r → world_count r ≤ 64 → IsTrueIn job r
+    → (path : Path) → LeadsTo job.range path r → IsGood job (node_on path by_worlds)
+grid_is_good job r proper small holds path way =
+    let few : nat_le (world_count r) 64 ≡ true = grind (arith, nat_tests) in
+    let inside = rectangle_is_units job.range path in
+    record {
+      shaped = ap (λ sides. nat_le (count_of_sides sides) 64) way.left ∙ few;
+      decides = (
+        λ world within. units_computed path way.units world,
+        λ world in_range on.
+            holds world (inside_part r (rectangle job.range path) (proper, way.left) world ((inside world).1 (in_range, on_units path world on))),
+      );
+    }
 
 worlds_above : (a b : ℕ) → 1 ≤ a → 1 ≤ b → 1 ≤ a * b
 worlds_above zero b la lb = absurd (omega arith)
@@ -96,18 +105,19 @@ some_world r proper =
     let sizes = proper.sizes in
     worlds_above (r.wh + 1 - r.wl) (r.sh + 1 - r.sl) (omega arith) (omega arith)
 
-pub closes_grid : (job : Job) (r : Rect) (turns : ℕ) → IsProper job.range → IsProper r → world_count r ≤ 64 → 0 < turns → IsTrueIn job r
+pub closes_grid : (job : Job) (r : Rect) (turns : ℕ) → IsProper r → world_count r ≤ 64 → 0 < turns → IsTrueIn job r
     → IsClosed job r turns (record { node = Grid; left = turns - 1 })
-closes_grid job r turns range proper small turn holds =
+closes_grid job r turns proper small turn holds =
     let some = some_world r proper in
-    let one = grids-Grid in
+    let one = count_Grid in
+    let size : length (node_text Grid) ≡ 5 = ap length text_Grid in
     record {
-      good = grid_is_good job r range small holds;
+      good = λ path way.
+          subst (AllByRecursion (IsGood job)) (sym (preorder.grid path)) (grid_is_good job r proper small holds path way, tt);
       holds = holds;
       few_grids = omega arith;
       few_turns = omega arith;
-      text = codes "grid\n";
-      spelled = λ levels depth has few. grid refl refl;
+      spelled = λ levels depth has fits. ap (λ (f : Nested). f depth) nested_Grid;
       short = omega arith;
     }
 
@@ -160,111 +170,132 @@ stops_first job r h turns half many turn (Undecided part) is = record {
   whole = λ none. absurd (omega arith);
 }
 
-pub stops_second : (job : Job) (r : Rect) (h : Halves) (turns : ℕ) (first : Closed) → IsHalving r h → 64 < world_count r → 0 < turns
-    → IsClosed job h.first (turns - 1) first → (stop : Stop) → IsFinding job h.second first.left (Err stop) → IsFinding job r turns (Err stop)
-stops_second job r h turns first half many turn closed Mem is = tt
-stops_second job r h turns first half many turn closed (Violated world) is = record { in_range = within_in r h.second world half.second_within is.in_range; untrue = is.untrue }
-stops_second job r h turns first half many turn closed (Undecided part) is =
+pub stops_second : (job : Job) (r : Rect) (h : Halves) (turns : ℕ) (one : Closed) → IsHalving r h → 64 < world_count r → 0 < turns
+    → IsClosed job h.first (turns - 1) one → (stop : Stop) → IsFinding job h.second one.left (Err stop) → IsFinding job r turns (Err stop)
+stops_second job r h turns one half many turn closed Mem is = tt
+stops_second job r h turns one half many turn closed (Violated world) is = record { in_range = within_in r h.second world half.second_within is.in_range; untrue = is.untrue }
+stops_second job r h turns one half many turn closed (Undecided part) is =
     let spent = closed.few_turns in
     record {
       proper = is.proper;
       within = within_within r h.second part half.second_within is.within;
-      cause = inr (many, too_few (world_count r) (world_count h.first) (world_count h.second) turns first.left many half.count (some_world h.first half.first_proper) (some_world h.second half.second_proper) turn (omega arith) is.cause);
+      cause = inr (many, too_few (world_count r) (world_count h.first) (world_count h.second) turns one.left many half.count (some_world h.first half.first_proper) (some_world h.second half.second_proper) turn (omega arith) is.cause);
       whole = λ none. absurd (omega arith);
     }
 
 -- ---- a split
 
-split_cut : (axis : Axis) (m : ℕ) → cut_of (split_row axis m) ≡ Some (record { axis = axis; opens = UpTo; bound = pos m })
-split_cut Width m = refl
-split_cut Size m = refl
+unit_row : (axis : Axis) (m : ℕ) → IsTrue (is_unit (row_up_to axis m))
+unit_row Width m = refl
+unit_row Size m = refl
 
-child : (job : Job) (r half : Rect) (row : Form) (cut : Cut) (under : Child) (path : Path) → cut_of row ≡ Some cut → part_of cut under r ≡ Some half → rectangle job.range path ≡ Some r
-    → rectangle job.range (step.split row under ∷ path) ≡ Some half
-child job r half row cut under path is part whole =
-    ap (λ o. option_and_then (cut_at (cut_of row) under) o) whole ∙ ap (λ o. cut_at o under r) is ∙ part
+-- its variable is declared along each path
+split_shaped : (range : Rect) (path : Path) (axis : Axis) (m : ℕ) → is_shaped range path (splits (row_up_to axis m)) ≡ true
+split_shaped range path Width m =
+    let two = two_variables path in
+    let less : nat_lt 0 (variables path) ≡ true = grind (arith, nat_tests) in
+    rw less refl
+split_shaped range path Size m =
+    let two = two_variables path in
+    let less : nat_lt 1 (variables path) ≡ true = grind (arith, nat_tests) in
+    rw less refl
 
-split_is_good : (job : Job) (r : Rect) (h : Halves) (first second : CertNode) → IsHalving r h
-    → ((path : Path) → HasUnits path → rectangle job.range path ≡ Some h.first → AllByRecursion (IsGood job) (nodes_from first path))
-    → ((path : Path) → HasUnits path → rectangle job.range path ≡ Some h.second → AllByRecursion (IsGood job) (nodes_from second path))
-    → (path : Path) → HasUnits path → rectangle job.range path ≡ Some r → AllByRecursion (IsGood job) (nodes_from (Split (split_row h.axis h.middle) first second) path)
-split_is_good job r h first second half good_first good_second path units is =
-    let row = split_row h.axis h.middle in
-    let cut = split_cut h.axis h.middle in
-    let unit : is_unit row ≡ true = ap is_some cut in
-    let first_path : Path = step.split row First ∷ path in
-    let second_path : Path = step.split row Second ∷ path in
-    let firsts = good_first first_path (unit, units) (child job r h.first row _ First path cut half.first_part is) in
-    let seconds = good_second second_path (unit, units) (child job r h.second row _ Second path cut half.second_part is) in
-    subst (λ f. AllByRecursion (IsGood job) (f path)) (sym (nodes-Split row first second))
-    (record { shaped = unit; decides = tt }, all-append (IsGood job) (nodes_from first first_path) (nodes_from second second_path) firsts seconds)
+denial_fits : (axis : Axis) (m : ℕ) → m ≤ 16384 → IsTrue (form_fits (denied (row_up_to axis m)))
+denial_fits axis m high =
+    let constant : neg_ℤ (pos m) -ℤ pos 1 ≡ negsuc m = omega (arith, ints) in
+    let fits : in_i128 (neg_ℤ (pos m) -ℤ pos 1) ≡ true = ap in_i128 constant ∙ (in_width m high).1 in
+    rw fits refl
+
+abbrev IsGoodBelow : Job → Rect → CertNode → Type 0
+IsGoodBelow job r node = (path : Path) → LeadsTo job.range path r → AllByRecursion (IsGood job) (nodes_from node path)
+
+split_is_good : (job : Job) (r : Rect) (h : Halves) (one other : CertNode) → IsHalving r h → h.middle ≤ 16384
+    → IsGoodBelow job h.first one → IsGoodBelow job h.second other → IsGoodBelow job r (Split (row_up_to h.axis h.middle) one other)
+split_is_good job r h one other half high good_one good_other path way =
+    let row = row_up_to h.axis h.middle in
+    let unit = unit_row h.axis h.middle in
+    let first_path : Path = first row ∷ path in
+    let second_path : Path = second row ∷ path in
+    let firsts = good_one first_path (record { units = (unit, way.units); left = ap (left_by row) way.left ∙ half.first_left }) in
+    let seconds = good_other second_path (record { units = (unit, way.units); left = ap (left_by (denied row)) way.left ∙ half.second_left }) in
+    let here : IsGood job (node_on path (splits row)) = record {
+      shaped = split_shaped job.range path h.axis h.middle;
+      decides = denial_fits h.axis h.middle high;
+    } in
+    subst (AllByRecursion (IsGood job)) (sym (preorder.split row one other path))
+    (here, all_append (IsGood job) (nodes_from one first_path) (nodes_from other second_path) firsts seconds)
 
 covered : (job : Job) (r : Rect) (h : Halves) → IsHalving r h → IsTrueIn job h.first → IsTrueIn job h.second → IsTrueIn job r
-covered job r h half first second world i = by_half (half.covers world i)
+covered job r h half f g world i = by_half (half.covers world i)
   where
     by_half : IsInRange h.first world ⊎ IsInRange h.second world → IsTrue (is_true_at job world)
-    by_half (inl j) = first world j
-    by_half (inr j) = second world j
+    by_half (inl j) = f world j
+    by_half (inr j) = g world j
 
-split_text : (row : Form) (first second : CertNode) (depth levels : ℕ) (a b : Rect) (row_text first_text second_text : List ℕ) → Shrinks levels a b → depth + levels ≤ 512
-    → ((levels depth : ℕ) → HasLevels levels a → depth + levels ≤ 512 → NodeText depth first first_text)
-    → ((levels depth : ℕ) → HasLevels levels b → depth + levels ≤ 512 → NodeText depth second second_text)
-    → (Unit {0})
-    → (depth < 512) × NodeText (depth + 1) first first_text × NodeText (depth + 1) second second_text
-split_text row first second depth levels a b row_text first_text second_text s few f g u =
+-- a part below which splits may stand as deep as it can be halved has a text
+abbrev HasText : Rect → CertNode → Type 0
+HasText r node = (levels depth : ℕ) → HasLevels levels r → levels ≤ depth → IsTrue (node_has_text node depth)
+
+spelled_by : (a b c d : Bool) → a ≡ true → b ≡ true → c ≡ true → d ≡ true → (a && b && c && d) ≡ true
+spelled_by a b c d e f g h = rw (e, f, g, h) refl
+
+split_spelled : (r : Rect) (h : Halves) (one other : CertNode) → IsHalving r h → h.middle ≤ 16384
+    → HasText h.first one → HasText h.second other → HasText r (Split (row_up_to h.axis h.middle) one other)
+split_spelled r h one other half high f g levels depth has fits =
+    let row = row_up_to h.axis h.middle in
+    let s = half.levels levels has in
     let step = s.step in
-    (omega arith, f s.less (depth + 1) s.first_has (omega arith), g s.less (depth + 1) s.second_has (omega arith))
+    let deep : nat_lt 0 depth ≡ true = grind (arith, nat_tests) in
+    let parts = spelled_by _ _ _ _ deep (row_spelled h.axis h.middle high) (f s.less (depth - 1) s.first_has (omega arith)) (g s.less (depth - 1) s.second_has (omega arith)) in
+    ap (λ (t : Nested). t depth) (nested_Split row one other) ∙ parts
 
--- the text of a split: 17 bytes and those of its children
-short_split : (n a b i j k : ℕ) → 64 < n → a + b ≡ n → n ≤ 3 * a → n ≤ 3 * b → k ≤ 10 → i + 17 ≤ max 22 a → j + 17 ≤ max 22 b → (7 + (k + (i + j))) + 17 ≤ max 22 n
-short_split n a b i j k many sum third_a third_b row first second =
+-- the text of a split: at most 17 bytes and those of its children
+split_size : (row one other : List ℕ) → length (concat (codes "split " ∷ row ∷ codes "\n" ∷ one ∷ other ∷ [])) ≡ 7 + (length row + (length one + length other))
+split_size row one other = simp length-append (omega arith)
+
+short_split : (n a b i j k size : ℕ) → 64 < n → a + b ≡ n → n ≤ 3 * a → n ≤ 3 * b → k ≤ 10 → i + 17 ≤ max 22 a → j + 17 ≤ max 22 b → size ≡ 7 + (k + (i + j)) → size + 17 ≤ max 22 n
+short_split n a b i j k size many sum third_a third_b row one other whole =
     let first_some : max 22 a ≡ a = omega arith in
     let second_some : max 22 b ≡ b = omega arith in
     omega arith
 
-pub closes_split : (job : Job) (r : Rect) (h : Halves) (turns : ℕ) (first second : Closed) (node : CertNode) → IsHalving r h → 64 < world_count r → 0 < turns → (1 ≤ h.middle) × (h.middle ≤ 16384)
-    → IsClosed job h.first (turns - 1) first → IsClosed job h.second first.left second → node ≡ Split (split_row h.axis h.middle) first.node second.node
-    → IsClosed job r turns (record { node = node; left = second.left })
-closes_split job r h turns first second node half many turn bound f g is =
-    subst (λ n. IsClosed job r turns (record { node = n; left = second.left })) (sym is)
-    (let row = row_text h.axis h.middle bound.0 bound.1 in
+pub closes_split : (job : Job) (r : Rect) (h : Halves) (turns : ℕ) (one other : Closed) (node : CertNode) → IsHalving r h → 64 < world_count r → 0 < turns → h.middle ≤ 16384
+    → IsClosed job h.first (turns - 1) one → IsClosed job h.second one.left other → node ≡ Split (row_up_to h.axis h.middle) one.node other.node
+    → IsClosed job r turns (record { node = node; left = other.left })
+closes_split job r h turns one other node half many turn high f g is =
+    subst (λ n. IsClosed job r turns (record { node = n; left = other.left })) (sym is)
+    (let row = row_up_to h.axis h.middle in
     let count = half.count in
     let spent = f.few_turns in
     let spent_too = g.few_turns in
     let some = some_world h.first half.first_proper in
-    let grids = grids-Split (split_row h.axis h.middle) first.node second.node in
-    let grids_first = f.few_grids in
-    let grids_second = g.few_grids in
+    let laid_out = count_Split row one.node other.node in
+    let few_of_one = f.few_grids in
+    let few_of_other = g.few_grids in
     record {
-      good = split_is_good job r h first.node second.node half f.good g.good;
+      good = split_is_good job r h one.node other.node half high f.good g.good;
       holds = covered job r h half f.holds g.holds;
       few_grids = omega arith;
       few_turns = omega arith;
-      text = concat (codes "split " ∷ row.text ∷ codes "\n" ∷ f.text ∷ g.text ∷ []);
-      spelled = λ levels depth has few.
-          let below = split_text (split_row h.axis h.middle) first.node second.node depth levels h.first h.second row.text f.text g.text (half.levels levels has) few f.spelled g.spelled tt in
-          split (split_row h.axis h.middle) first.node second.node row.text f.text g.text below.0 refl refl row.spelled below.1 below.2;
+      spelled = split_spelled r h one.node other.node half high f.spelled g.spelled;
       short =
-          let bound = short_split (world_count r) (world_count h.first) (world_count h.second) (length f.text) (length g.text) (length row.text) many count half.first_third half.second_third row.short f.short g.short in
-          simp length-append (omega arith);
+          short_split (world_count r) (world_count h.first) (world_count h.second) (length (node_text one.node)) (length (node_text other.node)) (length (row_bytes row)) _
+          many count half.first_third half.second_third (row_short h.axis h.middle high) f.short g.short
+          (ap length (text_Split row one.node other.node) ∙ split_size (row_bytes row) (node_text one.node) (node_text other.node));
     })
 
--- ---- the parts that the search goes through
+-- ---- the parts that the prover goes through
 
 pub halving_of : (r : Rect) (h : Halves) → IsProper r → 64 < world_count r → h ≡ halves_of r → IsHalving r h
 halving_of r h proper many is = subst (IsHalving r) (sym is) (halves_are r proper many)
 
-pub middle_bound : (range r : Rect) (h : Halves) → IsRange range → IsWithin range r → IsHalving r h → (1 ≤ h.middle) × (h.middle ≤ 16384)
+pub middle_bound : (range r : Rect) (h : Halves) → IsRange range → IsWithin range r → IsHalving r h → h.middle ≤ 16384
 middle_bound range r h known w half =
-    let a = w.width_least in
-    let b = w.width_most in
-    let c = w.size_least in
-    let d = w.size_most in
-    let e = known.width_least in
-    let f = known.width_most in
-    let g = known.size_least in
-    let i = known.size_most in
-    half.bound (omega arith) (omega arith) (omega arith) (omega arith)
+    let a = w.width_most in
+    let b = w.size_most in
+    let c = known.width_most in
+    let d = known.size_most in
+    half.bound (omega arith) (omega arith)
 
 less : (a b n : ℕ) → a + b ≡ n → 1 ≤ b → a < n
 less a b n sum some = omega arith

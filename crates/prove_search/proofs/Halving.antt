@@ -1,19 +1,20 @@
 -- The halves of a rectangle: they lie within it, cover it, and each has at least a third of its worlds.
-use Rattle.std.proofs.Common.{◌≡◌, ℕ, zero, suc, ◌+◌, ◌-◌, ◌*◌, ◌/◌, ◌^◌, ◌<◌, ◌≤◌, pos, Bool, true, false, cond, nat_lt, nat_le, min, max, Some, refl, sym, ap, ◌∙◌, arith, inl, inr}
+use Rattle.std.proofs.Common.{◌≡◌, ℕ, zero, suc, ◌+◌, ◌-◌, ◌*◌, ◌/◌, ◌^◌, ◌<◌, ◌≤◌, pos, neg_ℤ, ◌-ℤ◌, Bool, true, false, cond, nat_le, refl, sym, ap, ◌∙◌, arith, inl, inr}
 use Rattle.std.specs.Prelude.{◌⊎◌}
+use Rattle.std.specs.Int.{int_max, int_min}
+use Rattle.std.proofs.lemmas.Int.{ints}
 use Rattle.std.proofs.Math.Nat.{add-mul, mul-add, mul-le-mul_left, pow-succ'}
 use Rattle.std.proofs.lemmas.Bool.Decides.{nat_tests}
 use Rattle.viz_base.specs.declared.worlds.World.{World}
-use Rattle.viz_base.specs.declared.worlds.Axis.{Axis}
 use Rattle.viz_base.specs.declared.worlds.Axis.TheVariants.{Width, Size}
 use Rattle.viz_base.specs.declared.worlds.Rect.{Rect}
 use Rattle.logic_semantics.specs.Ranges.{IsInRange}
-use Rattle.cert_check.specs.Rectangles.{world_count, IsWithin, part_of}
-use Rattle.cert_check.specs.declared.cuts.Child.TheVariants.{First, Second}
-use Rattle.cert_check.specs.declared.cuts.Opens.TheVariants.{UpTo}
-use Rattle.cert_check.specs.Laws.{IsProper}
+use Rattle.lin_row.specs.Form.{denied}
+use Rattle.cert_path.specs.Rectangles.{Sides, whole, left_by}
+use Rattle.cert_check.specs.Rectangles.{world_count, IsWithin}
+use Rattle.cert_check.specs.Rectangles.{IsProper}
 use Rattle.prove_search.specs.declared.halves.Halves.{Halves}
-use Rattle.prove_search.specs.Halves.{middle, halves_at, halved_on, halves_of}
+use Rattle.prove_search.specs.Halves.{middle, row_up_to, halves_at, halved_on, halves_of}
 use Rattle.prove_search.specs.Finds.{HasLevels}
 
 -- a number in the middle of others
@@ -48,8 +49,8 @@ pub record Shrinks (levels : ℕ) (first second : Rect) : Type 0 where
   pub second_has : HasLevels less second
 
 pub record IsHalving (r : Rect) (h : Halves) : Type 0 where
-  pub first_part : part_of (record { axis = h.axis; opens = UpTo; bound = pos h.middle }) First r ≡ Some h.first
-  pub second_part : part_of (record { axis = h.axis; opens = UpTo; bound = pos h.middle }) Second r ≡ Some h.second
+  pub first_left : left_by (row_up_to h.axis h.middle) (whole r) ≡ whole h.first
+  pub second_left : left_by (denied (row_up_to h.axis h.middle)) (whole r) ≡ whole h.second
   pub first_proper : IsProper h.first
   pub second_proper : IsProper h.second
   pub first_within : IsWithin r h.first
@@ -59,7 +60,16 @@ pub record IsHalving (r : Rect) (h : Halves) : Type 0 where
   pub first_third : world_count r ≤ 3 * world_count h.first
   pub second_third : world_count r ≤ 3 * world_count h.second
   pub levels : (levels : ℕ) → HasLevels levels r → Shrinks levels h.first h.second
-  pub bound : 1 ≤ r.wl → 1 ≤ r.sl → r.wh ≤ 16384 → r.sh ≤ 16384 → (1 ≤ h.middle) × (h.middle ≤ 16384)
+  pub bound : r.wh ≤ 16384 → r.sh ≤ 16384 → h.middle ≤ 16384
+
+-- a bound within a side
+up_to_bound : (m u : ℕ) → m < u → int_min (pos m) (pos u) ≡ pos m
+up_to_bound m u high = grind (arith, ints, nat_tests)
+
+above_bound : (l m : ℕ) → l ≤ m → int_max (neg_ℤ (neg_ℤ (pos m) -ℤ pos 1)) (pos l) ≡ pos (m + 1)
+above_bound l m low =
+    let back : neg_ℤ (neg_ℤ (pos m) -ℤ pos 1) ≡ pos (m + 1) = omega (arith, ints) in
+    ap (λ k. int_max k (pos l)) back ∙ grind (arith, ints, nat_tests)
 
 below_or_above : (x m : ℕ) → (x ≤ m) ⊎ (m + 1 ≤ x)
 below_or_above x m = by_test (nat_le x m) refl
@@ -110,8 +120,8 @@ at_width r m proper mid =
     let a = m + 1 - r.wl in
     let b = r.wh + 1 - (m + 1) in
     record {
-      first_part = let e : nat_le r.wl m ≡ true = grind (arith, nat_tests) in let f : min m r.wh ≡ m = omega arith in rw (e, f) refl;
-      second_part = let e : nat_lt m r.wh ≡ true = grind (arith, nat_tests) in let f : max (m + 1) r.wl ≡ m + 1 = omega arith in rw (e, f) refl;
+      first_left = ap (λ most. let left : Sides = record { widths = record { least = pos r.wl; most = most }; sizes = (whole r).sizes } in left) (up_to_bound m r.wh high);
+      second_left = ap (λ least. let left : Sides = record { widths = record { least = least; most = pos r.wh }; sizes = (whole r).sizes } in left) (above_bound r.wl m low);
       first_proper = record { widths = low; sizes = proper.sizes };
       second_proper = record { widths = omega arith; sizes = proper.sizes };
       first_within = record { width_least = omega arith; width_most = omega arith; size_least = omega arith; size_most = omega arith };
@@ -121,7 +131,7 @@ at_width r m proper mid =
       first_third = third (r.wh + 1 - r.wl) a s mid.first_third;
       second_third = third (r.wh + 1 - r.wl) b s mid.second_third;
       levels = λ levels h. width_shrinks r m mid levels h.of_width h.of_size h.whole h.widths h.sizes;
-      bound = λ wl sl wh sh. (omega arith, omega arith);
+      bound = λ wh sh. omega arith;
     }
   where
     place : (world : World) → IsInRange r world → (world.w ≤ m) ⊎ (m + 1 ≤ world.w) → IsInRange (halves_at Width r m).first world ⊎ IsInRange (halves_at Width r m).second world
@@ -136,8 +146,8 @@ at_size r m proper mid =
     let a = m + 1 - r.sl in
     let b = r.sh + 1 - (m + 1) in
     record {
-      first_part = let e : nat_le r.sl m ≡ true = grind (arith, nat_tests) in let f : min m r.sh ≡ m = omega arith in rw (e, f) refl;
-      second_part = let e : nat_lt m r.sh ≡ true = grind (arith, nat_tests) in let f : max (m + 1) r.sl ≡ m + 1 = omega arith in rw (e, f) refl;
+      first_left = ap (λ most. let left : Sides = record { widths = (whole r).widths; sizes = record { least = pos r.sl; most = most } } in left) (up_to_bound m r.sh high);
+      second_left = ap (λ least. let left : Sides = record { widths = (whole r).widths; sizes = record { least = least; most = pos r.sh } } in left) (above_bound r.sl m low);
       first_proper = record { widths = proper.widths; sizes = low };
       second_proper = record { widths = proper.widths; sizes = omega arith };
       first_within = record { width_least = omega arith; width_most = omega arith; size_least = omega arith; size_most = omega arith };
@@ -147,7 +157,7 @@ at_size r m proper mid =
       first_third = third_across (r.sh + 1 - r.sl) a w mid.first_third;
       second_third = third_across (r.sh + 1 - r.sl) b w mid.second_third;
       levels = λ levels h. size_shrinks r m mid levels h.of_width h.of_size h.whole h.widths h.sizes;
-      bound = λ wl sl wh sh. (omega arith, omega arith);
+      bound = λ wh sh. omega arith;
     }
   where
     place : (world : World) → IsInRange r world → (world.s ≤ m) ⊎ (m + 1 ≤ world.s) → IsInRange (halves_at Size r m).first world ⊎ IsInRange (halves_at Size r m).second world

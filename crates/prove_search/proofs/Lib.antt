@@ -2,4 +2,4 @@ pub mod Halving
 pub mod Texts
 pub mod Closing
 pub mod Proved
-pub mod Units
+pub mod Counts

@@ -1,25 +1,20 @@
 -- The whole range.
-use Rattle.std.proofs.Common.{◌≡◌, ℕ, suc, ◌+◌, ◌-◌, ◌*◌, ◌<◌, ◌≤◌, List, [], ◌∷◌, length, get_or, refl, arith, codes, length-append, inl, inr}
-use Rattle.std.specs.Prelude.{◌⊎◌}
-use Rattle.std.specs.List.{AllByRecursion, concat}
+use Rattle.std.proofs.Common.{◌≡◌, ℕ, suc, ◌+◌, ◌-◌, ◌*◌, ◌<◌, ◌≤◌, Bool, true, nat_lt, ◌==◌, ◌&&◌, List, [], ◌∷◌, length, get_or, refl, arith, lit≤, length-append}
+use Rattle.std.specs.List.{list_all}
 use Rattle.std.proofs.Math.Nat.{mul-le-mul_left}
+use Rattle.std.proofs.lemmas.Bool.{and_from, and_parts}
+use Rattle.std.proofs.lemmas.Bool.Decides.{nat_tests}
 use Rattle.hex.specs.Hex.{lower_digits, encode_lower}
 use Rattle.hex.proofs.HexLemmas.{length-encode_with}
 use Rattle.viz_base.specs.Jobs.{IsRange}
-use Rattle.viz_base.specs.declared.worlds.World.{World}
 use Rattle.viz_base.specs.declared.worlds.Rect.{Rect}
 use Rattle.viz_base.specs.declared.jobs.Job.{Job}
-use Rattle.cert_text.specs.Grammar.{DigestText}
+use Rattle.cert_text.specs.Texts.{job_has_text, cert_text}
 use Rattle.cert_check.specs.Rectangles.{world_count}
-use Rattle.cert_check.specs.Right.{Holds}
-use Rattle.cert_check.specs.Laws.{IsProper}
-use Rattle.prove_search.specs.declared.search.Closed.{Closed}
-use Rattle.prove_search.specs.Outcomes.{IsProof, IsViolation, IsUndecided}
+use Rattle.cert_check.proofs.Tellings.{is_right}
+use Rattle.prove_search.specs.declared.plain.Closed.{Closed}
+use Rattle.prove_search.specs.Outcomes.{IsProof}
 use Rattle.prove_search.specs.Finds.{HasLevels, IsClosed}
-use Rattle.prove_search.proofs.Closing.{all_at, some_world}
-
-pub range_is_proper : (range : Rect) → IsRange range → IsProper range
-range_is_proper range known = record { widths = known.widths; sizes = known.sizes }
 
 range_levels : (range : Rect) → IsRange range → HasLevels 22 range
 range_levels range known =
@@ -38,35 +33,38 @@ range_count range known =
     let size_least = known.size_least in
     few_worlds (range.wh + 1 - range.wl) (range.sh + 1 - range.sl) (omega arith) (omega arith)
 
-pub proves : (job : Job) (turns : ℕ) (closed : Closed) → IsRange job.range → DigestText job.digest (encode_lower job.digest) → IsClosed job job.range turns closed
+digest_short : (digest : List ℕ) → job_has_text digest ≡ true → length (encode_lower digest) ≤ 64
+digest_short digest is =
+    let count = (and_parts (length digest == 32) (list_all (λ b. nat_lt b 256) digest) is).0 in
+    let sized : length digest ≡ 32 = grind (arith, nat_tests) in
+    omega (arith, length-encode_with lower_digits digest)
+
+pub proves : (job : Job) (turns : ℕ) (closed : Closed) → IsRange job.range → job_has_text job.digest ≡ true → IsClosed job job.range turns closed
     → IsProof job turns (record { job = job.digest; root = closed.node })
 proves job turns closed known bytes h =
-    let all = h.good [] tt refl in
     let grids = h.few_grids in
-    let sized = bytes.0 in
-    let digest_length : length (encode_lower job.digest) ≡ 2 * length job.digest = length-encode_with lower_digits job.digest in
+    let digest = digest_short job.digest bytes in
     let node_short = h.short in
     let few = range_count job.range known in
     record {
-      right = record { digest = refl; nodes = λ n node is. all_at _ _ all n node is };
+      right = is_right job (record { job = job.digest; root = closed.node }) refl (h.good [] (record { units = tt; left = refl }));
       holds = h.holds;
       few = omega arith;
-      text = concat (codes "vizlog-cert 1\njob " ∷ encode_lower job.digest ∷ codes "\n" ∷ h.text ∷ []);
-      spelled = record {
-        digest = encode_lower job.digest;
-        node = h.text;
-        whole = refl;
-        digest_text = bytes;
-        node_text = h.spelled 22 0 (range_levels job.range known) (omega arith);
-      };
+      text = cert_text (record { job = job.digest; root = closed.node });
+      spelled = (and_from _ _ bytes (h.spelled 22 512 (range_levels job.range known) (lit≤ tt)), refl);
       short = simp length-append (omega arith);
     }
 
 -- ---- digests
 
-all_bytes : (bytes : List ℕ) → ((i : ℕ) → get_or bytes i 0 < 256) → AllByRecursion (λ b. b < 256) bytes
-all_bytes [] h = tt
-all_bytes (b ∷ bytes) h = (h 0, all_bytes bytes (λ i. h (suc i)))
+all_bytes : (bytes : List ℕ) → ((i : ℕ) → get_or bytes i 0 < 256) → list_all (λ b. nat_lt b 256) bytes ≡ true
+all_bytes [] h = refl
+all_bytes (b ∷ bytes) h =
+    let less = h 0 in
+    let here : nat_lt b 256 ≡ true = grind (arith, nat_tests) in
+    and_from _ _ here (all_bytes bytes (λ i. h (suc i)))
 
-pub digest_spelled : (digest : List ℕ) → length digest ≡ 32 → ((i : ℕ) → get_or digest i 0 < 256) → DigestText digest (encode_lower digest)
-digest_spelled digest sized h = (sized, all_bytes digest h, refl)
+pub digest_spelled : (digest : List ℕ) → length digest ≡ 32 → ((i : ℕ) → get_or digest i 0 < 256) → job_has_text digest ≡ true
+digest_spelled digest sized h =
+    let count : (length digest == 32) ≡ true = grind (arith, nat_tests) in
+    and_from _ _ count (all_bytes digest h)

@@ -1,19 +1,19 @@
--- What the search finds of a rectangle with so many turns.
-use Rattle.std.specs.Prelude.{◌≡◌, ℕ, ◌+◌, ◌-◌, ◌*◌, ◌^◌, ◌≤◌, max, List, length, Some, Result, Ok, Err}
+-- What the plain prover finds of a rectangle with so many turns.
+use Rattle.std.specs.Prelude.{◌≡◌, ℕ, ◌+◌, ◌-◌, ◌*◌, ◌^◌, ◌≤◌, max, [], ◌∷◌, length, Result, Ok, Err, IsTrue, ⊤}
 use Rattle.std.specs.List.{AllByRecursion}
 use Rattle.viz_base.specs.declared.worlds.Rect.{Rect}
 use Rattle.viz_base.specs.declared.jobs.Job.{Job}
-use Rattle.cert_text.specs.Grammar.{NodeText}
-use Rattle.cert_check.specs.Paths.{Path}
-use Rattle.cert_check.specs.Rectangles.{world_count, rectangle}
-use Rattle.cert_check.specs.Nodes.{nodes_from}
+use Rattle.cert_text.specs.Texts.{node_text, node_has_text}
+use Rattle.cert_path.specs.Paths.{def, first, second, Path}
+use Rattle.cert_path.specs.Rectangles.{whole, rectangle}
+use Rattle.cert_path.specs.Nodes.{nodes_from}
+use Rattle.cert_check.specs.Rectangles.{world_count, is_unit}
+use Rattle.cert_check.specs.Truths.{IsTrueIn}
 use Rattle.cert_check.specs.Right.{IsGood}
-use Rattle.cert_check.specs.Verdicts.{IsTrueIn}
-use Rattle.cert_check.specs.Laws.{HasUnits}
-use Rattle.prove_search.specs.declared.search.Closed.{Closed}
-use Rattle.prove_search.specs.declared.search.Stop.{Stop}
-use Rattle.prove_search.specs.declared.search.Stop.TheVariants.{Mem, Violated, Undecided}
-use Rattle.prove_search.specs.Outcomes.{grid_count, IsViolation, IsUndecided}
+use Rattle.prove_search.specs.declared.plain.Closed.{Closed}
+use Rattle.prove_search.specs.declared.plain.Stop.{Stop}
+use Rattle.prove_search.specs.declared.plain.Stop.TheVariants.{Mem, Violated, Undecided}
+use Rattle.prove_search.specs.Outcomes.{laid_out_count, IsViolation, IsUndecided}
 
 -- the rectangle is one world after so many halvings
 pub record HasLevels (levels : ℕ) (r : Rect) : Type 0 where
@@ -23,15 +23,27 @@ pub record HasLevels (levels : ℕ) (r : Rect) : Type 0 where
   pub widths : r.wh + 1 - r.wl ≤ 2 ^ of_width
   pub sizes : r.sh + 1 - r.sl ≤ 2 ^ of_size
 
--- the node decides the rectangle, wherever it stands in a certificate; what it cost; and its text
+-- each step of the path is to a child of a split by a unit row
+abbrev pub AreUnits : Path → Type 0
+AreUnits [] = ⊤
+AreUnits (def row d ∷ outer) = ⊥
+AreUnits (first row ∷ outer) = IsTrue (is_unit row) × AreUnits outer
+AreUnits (second row ∷ outer) = IsTrue (is_unit row) × AreUnits outer
+
+-- such a path, and what it leaves of a range is this rectangle
+pub record LeadsTo (range : Rect) (path : Path) (r : Rect) : Type 0 where
+  pub units : AreUnits path
+  pub left : rectangle range path ≡ whole r
+
+-- the node decides the rectangle, wherever it stands in a certificate; what it cost; and its text, which it has where
+-- defs and splits may stand as deep in one another below it as the rectangle can be halved
 pub record IsClosed (job : Job) (r : Rect) (turns : ℕ) (closed : Closed) : Type 0 where
-  pub good : (path : Path) → HasUnits path → rectangle job.range path ≡ Some r → AllByRecursion (IsGood job) (nodes_from closed.node path)
+  pub good : (path : Path) → LeadsTo job.range path r → AllByRecursion (IsGood job) (nodes_from closed.node path)
   pub holds : IsTrueIn job r
-  pub few_grids : grid_count closed.node + closed.left ≤ turns
+  pub few_grids : laid_out_count closed.node + closed.left ≤ turns
   pub few_turns : turns + 1 ≤ closed.left + 2 * world_count r
-  pub text : List ℕ
-  pub spelled : (levels depth : ℕ) → HasLevels levels r → depth + levels ≤ 512 → NodeText depth closed.node text
-  pub short : length text + 17 ≤ max 22 (world_count r)
+  pub spelled : (levels depth : ℕ) → HasLevels levels r → levels ≤ depth → IsTrue (node_has_text closed.node depth)
+  pub short : length (node_text closed.node) + 17 ≤ max 22 (world_count r)
 
 abbrev pub IsFinding : Job → Rect → ℕ → Result Closed Stop → Type 0
 IsFinding job r turns (Ok closed) = IsClosed job r turns closed

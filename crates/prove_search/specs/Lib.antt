@@ -1,4 +1,5 @@
 pub mod Halves
 pub mod Outcomes
 pub mod Finds
-pub mod Laws
+pub mod Turns
+pub mod Seekers

@@ -8,27 +8,31 @@ use Rattle.cert_text.specs.declared.certificate.Cert.{Cert}
 use Rattle.cert_text.specs.declared.certificate.CertNode.{CertNode}
 use Rattle.cert_text.specs.declared.certificate.CertNode.TheOpen.{CertNode-F}
 use Rattle.cert_text.specs.declared.certificate.CertNode.TheFolds.{fold-CertNode}
-use Rattle.cert_text.specs.Grammar.{CertText}
+use Rattle.cert_text.specs.Texts.{CertText}
 use Rattle.cert_check.specs.Rectangles.{world_count, IsWithin}
-use Rattle.cert_check.specs.Right.{is_true_at, Holds, Right}
-use Rattle.cert_check.specs.Laws.{IsProper}
+use Rattle.cert_check.specs.Truths.{is_true_at, Holds}
+use Rattle.cert_check.specs.Right.{Right}
+use Rattle.cert_check.specs.Rectangles.{IsProper}
 use Rattle.prove_search.specs.declared.outcome.Outcome.{Outcome}
 use Rattle.prove_search.specs.declared.outcome.Outcome.TheVariants.{Proved, Violated, Undecided}
 
--- how many grids a node has
-abbrev pub grids_step : CertNode-F ℕ → ℕ
-grids_step CertNode-F.Grid = 1
-grids_step (CertNode-F.Split row first second) = first + second
+-- how many grids and leaves a node has
+abbrev pub laid_out_step : CertNode-F ℕ → ℕ
+laid_out_step (CertNode-F.Def row d below) = below
+laid_out_step (CertNode-F.Split row first second) = first + second
+laid_out_step (CertNode-F.Void why) = 0
+laid_out_step CertNode-F.Grid = 1
+laid_out_step (CertNode-F.Leaf answers) = 1
 
-abbrev pub grid_count : CertNode → ℕ
-grid_count = fold-CertNode ℕ grids_step
+abbrev pub laid_out_count : CertNode → ℕ
+laid_out_count = fold-CertNode ℕ laid_out_step
 
--- the certificate is right for the job, which holds; it has at most as many grids as there were turns, and
+-- the certificate is right for the job, which holds; it has at most as many grids and leaves as there were turns, and
 -- a text of at most 64 MiB
 pub record IsProof (job : Job) (turns : ℕ) (cert : Cert) : Type 0 where
   pub right : Right job cert
   pub holds : Holds job
-  pub few : grid_count cert.root ≤ turns
+  pub few : laid_out_count cert.root ≤ turns
   pub text : List ℕ
   pub spelled : CertText cert text
   pub short : length text ≤ 2 ^ 26

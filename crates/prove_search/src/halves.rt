@@ -1,5 +1,5 @@
 ghost use Rattle.std.specs.Prelude.{◌≡◌, ◌+◌, ◌<◌, ◌≤◌, ◌^◌};
-ghost use Rattle.cert_check.specs.Laws.{IsProper};
+ghost use Rattle.cert_check.specs.Rectangles.{IsProper};
 ghost use Rattle.prove_search.specs.Halves.{middle, longer_axis, halves_at, halves_of};
 
 use viz_base::{Axis, Rect, Span};

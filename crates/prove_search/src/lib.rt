@@ -1,11 +1,18 @@
 //! Searches for a certificate of a job, or for a world at which its formula is false.
 #![tactic(auto)]
 
+mod cones;
+mod entry;
+mod gates;
 mod halves;
-mod laws;
 mod outcome;
-mod search;
+mod plain;
+mod pool;
+mod renumbering;
+mod runs;
+mod seeker;
+mod seeking;
+mod values;
 
-pub use laws::unit_certificates_have_texts;
+pub use entry::prove;
 pub use outcome::Outcome;
-pub use search::prove;

@@ -1,7 +1,7 @@
 use Rattle.std.proofs.Common.{subst, sym}
 use Rattle.prove_search.specs.Outcomes.{IsProof}
 use Rattle.prove_search.proofs.Proved.{proves}
-use Rattle.prove_search.proofs.search.prove.Goals as goal
+use Rattle.prove_search.proofs.plain.prove_plainly.Goals as goal
 
 pub returns-in-Ok-clause-outcome : goal.returns-in-Ok-clause-outcome
 returns-in-Ok-clause-outcome c =

@@ -1,5 +1,5 @@
 use Rattle.cert_check.specs.Rectangles.{world_count}
-use Rattle.prove_search.proofs.search.+decide.Given as goal
+use Rattle.prove_search.proofs.plain.+decide.Given as goal
 
 abbrev pub decreases-decide : goal.decreases-decide
 decreases-decide l = world_count l.rect

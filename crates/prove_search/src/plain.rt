@@ -1,14 +1,11 @@
-ghost use Rattle.std.specs.Prelude.{◌≡◌, ◌*◌, ◌+◌, ◌<◌, ◌≤◌, []};
-ghost use Rattle.std.specs.Prelude.{pos, negsuc, ◌∷◌, IsTrue, IfOk};
-ghost use Rattle.lay_flow.specs.Ready.{ready};
-ghost use Rattle.hex.specs.Hex.{encode_lower};
-ghost use Rattle.cert_text.specs.Grammar.{DigestText};
-ghost use Rattle.cert_check.specs.Paths.{variable_of};
-ghost use Rattle.cert_check.specs.Laws.{IsProper};
-ghost use Rattle.cert_check.specs.Rectangles.{world_count, IsWithin};
-ghost use Rattle.cert_check.specs.Right.{Holds};
+ghost use Rattle.std.specs.Prelude.{◌≡◌, ◌*◌, ◌+◌, ◌<◌, ◌≤◌, IsTrue, IfOk};
 ghost use Rattle.cert_text.specs.declared.certificate.CertNode.TheVariants.{Split};
+ghost use Rattle.cert_text.specs.Texts.{job_has_text};
+ghost use Rattle.cert_check.specs.Rectangles.{IsProper};
+ghost use Rattle.cert_check.specs.Rectangles.{world_count, IsWithin};
+ghost use Rattle.cert_check.specs.Truths.{Holds};
 ghost use Rattle.prove_search.specs.Finds.{IsFinding};
+ghost use Rattle.prove_search.specs.Halves.{row_up_to};
 ghost use Rattle.prove_search.specs.Outcomes.{IsOutcome, Decides};
 
 use crate::halves::halves_of;
@@ -18,6 +15,9 @@ use cert_text::{Cert, CertNode};
 use lin_row::Row;
 use std::alloc::Global;
 use viz_base::{Axis, Boxed, Job, Mem, Rect, World};
+
+/// The most worlds of a part that is gone through.
+const MOST_WORLDS: u64 = 64;
 
 /// A rectangle that is decided: the formula is true at each of its worlds.
 #[derive(Drop)]
@@ -37,7 +37,7 @@ pub enum Stop {
 
 impl From<Mem> for Stop {
     ghost use Rattle.std.specs.Prelude.{◌≡◌};
-    ghost use Rattle.prove_search.specs.declared.search.Stop.TheVariants.{Mem};
+    ghost use Rattle.prove_search.specs.declared.plain.Stop.TheVariants.{Mem};
 
     ghost from_gives = { λ _ stop. stop ≡ Mem };
 
@@ -48,7 +48,6 @@ impl From<Mem> for Stop {
 
 /// Goes through a rectangle's worlds in one turn.
 fn close(alloc: Global, job: &Job, rect: Rect, turns: u64) -> Result<Closed, Stop>
-    requires ready { IsTrue (ready job.now.tree) }
     requires within { IsWithin job.now.range rect }
     requires proper { IsProper rect }
     requires small { world_count rect ≤ 64 }
@@ -64,7 +63,8 @@ fn close(alloc: Global, job: &Job, rect: Rect, turns: u64) -> Result<Closed, Sto
     }
 }
 
-/// The node that is decided by the first where a world is at most the middle on an axis, and by the second where it is above.
+/// The node that is decided by the first where a world is at most the middle on an axis, and by the second where it is
+/// above.
 fn split(
     alloc: Global,
     axis: Axis,
@@ -72,8 +72,7 @@ fn split(
     first: CertNode,
     second: CertNode,
 ) -> Result<CertNode, Mem>
-    ensures { IfOk result
-        (λ node. node ≡ Split (record { k = pos middle; terms = (variable_of axis, negsuc 0) ∷ [] }) first second) }
+    ensures { IfOk result (λ node. node ≡ Split (row_up_to axis middle) first second) }
 {
     let row = Row::of_term(alloc, i128::from(middle), variable_of(axis), -1)?;
     let first = Boxed::new(alloc, first)?;
@@ -83,7 +82,6 @@ fn split(
 
 /// Decides a rectangle: one of at most 64 worlds in one turn, a greater one by its halves after a turn for the split.
 fn decide(alloc: Global, job: &Job, rect: Rect, turns: u64) -> Result<Closed, Stop>
-    requires ready { IsTrue (ready job.now.tree) }
     requires within { IsWithin job.now.range rect }
     requires proper { IsProper rect }
     ensures { IsFinding job.now rect turns result }
@@ -91,7 +89,7 @@ fn decide(alloc: Global, job: &Job, rect: Rect, turns: u64) -> Result<Closed, St
     if turns == 0 {
         return Err(Stop::Undecided(rect));
     }
-    if world_count(rect) <= 64 {
+    if world_count(rect) <= MOST_WORLDS {
         return close(alloc, job, rect, turns);
     }
     let halves = halves_of(rect);
@@ -107,21 +105,20 @@ fn decide(alloc: Global, job: &Job, rect: Rect, turns: u64) -> Result<Closed, St
 /// The certificate that names a job by its digest and decides its whole range by a node. A digest has a spelling.
 fn certificate(digest: &[u8; 32], root: CertNode) -> Cert
     ensures parts { result ≡ record { job = digest.now; root = root } }
-    ensures spelled { DigestText digest.now (encode_lower digest.now) }
+    ensures spelled { IsTrue (job_has_text digest.now) }
 {
     // This read tells that they are bytes.
     let _bytes = digest.as_slice();
     Cert { job: *digest, root }
 }
 
-/// Searches for a certificate of a job, or for a world of its range at which its formula is false.
+/// Searches by halves and grids for a certificate of a job, or for a world of its range at which its formula is false.
 ///
 /// A turn takes one part of the range that is open yet, the whole range first. A part of at most 64 worlds
 /// is gone through, a greater one is halved on its longer side. With R worlds in the range,
 /// `2 * R - 1` turns decide, and one does where R is at most 64. Each world takes at most one layout of the page
 /// and one truth of the formula. The only fault is want of memory.
-pub fn prove(alloc: Global, job: &Job, turns: u64) -> Result<Outcome, Mem>
-    requires { IsTrue (ready job.now.tree) }
+pub fn prove_plainly(alloc: Global, job: &Job, turns: u64) -> Result<Outcome, Mem>
     ensures outcome { IfOk result (IsOutcome job.now turns) }
     ensures decides { IfOk result
         (λ outcome. 2 * world_count job.now.range ≤ turns + 1 → Decides outcome (Holds job.now)) }

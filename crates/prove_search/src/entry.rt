@@ -1,0 +1,31 @@
+ghost use Rattle.std.specs.Prelude.{◌*◌, ◌+◌, ◌≤◌, IfOk};
+ghost use Rattle.cert_check.specs.Rectangles.{world_count};
+ghost use Rattle.cert_check.specs.Truths.{Holds};
+ghost use Rattle.prove_search.specs.Outcomes.{IsOutcome, Decides};
+
+use crate::gates::confirmed;
+use crate::outcome::Outcome;
+use crate::plain::prove_plainly;
+use crate::seeking::seek;
+use std::alloc::Global;
+use viz_base::{Job, Mem};
+
+/// A certificate of a job, or a world of its range at which its formula is false, or a part of the range that the
+/// turns left open.
+///
+/// With turns it searches first, and takes what the search finds only where it is confirmed: a certificate where the
+/// checker accepts it. Else it goes through the range by halves and grids with all turns, which decides it with
+/// `2 * R - 1` turns, R being the worlds of the range. The only fault is want of memory.
+pub fn prove(alloc: Global, job: &Job, turns: u64) -> Result<Outcome, Mem>
+    ensures outcome { IfOk result (IsOutcome job.now turns) }
+    ensures decides { IfOk result
+        (λ outcome. 2 * world_count job.now.range ≤ turns + 1 → Decides outcome (Holds job.now)) }
+{
+    if turns > 0 {
+        let finding = seek(alloc, job, turns)?;
+        if let Some(outcome) = confirmed(alloc, job, finding, turns)? {
+            return Ok(outcome);
+        }
+    }
+    prove_plainly(alloc, job, turns)
+}
