@@ -7,7 +7,8 @@ use Rattle.viz_replies.specs.declared.question.Question.{Question}
 use Rattle.viz_replies.specs.declared.question.Question.TheVariants as asks
 use Rattle.viz_replies.specs.Jobs.{SpellsJob}
 use Rattle.viz_replies.specs.Replies.{IsReplyAbout, IsReplyOnJob, IsReply}
-use Rattle.viz_replies.specs.Headline.{IsTrueEverywhere, IsFalseWherePrinted}
+use Rattle.viz_replies.specs.Trials.{IsTrialOnJob, IsTrialOn}
+use Rattle.viz_replies.specs.Headline.{IsTrueEverywhere, IsFalseWherePrinted, IsFalseWhereNamed}
 
 -- a reply with an answer other than a refusal is about the job that the bytes spell
 on_job : (bytes : List ℕ) (question : Question) (answer wanted : Answer) (output : List ℕ) → IsReply bytes question answer output
@@ -45,3 +46,30 @@ pub violates : (bytes : List ℕ) (question : Question) (answer : Answer) (outpu
 violates bytes question answer output reply is =
     let found = on_job bytes question answer ends.Violated output reply is (λ e. absurd (cc)) in
     false_there bytes found.job question output found.spelled found.reply
+
+-- ---- trials
+
+-- a reply with an answer other than a refusal is that of the trial of the job that the bytes spell
+trial_on_job : (bytes : List ℕ) (turns : ℕ) (answer wanted : Answer) (output : List ℕ) → IsTrialOn bytes turns answer output
+    → answer ≡ wanted → (wanted ≡ ends.JobRefused → ⊥) → IsTrialOnJob bytes turns wanted output
+trial_on_job bytes turns answer wanted output (inl reply) is other = rw is at reply
+trial_on_job bytes turns answer wanted output (inr refusal) is other = absurd (other (let same = refusal.refused in cc))
+
+pub trial_proves : (bytes : List ℕ) (turns : ℕ) (answer : Answer) (output : List ℕ) → IsTrialOn bytes turns answer output
+    → answer ≡ ends.Done → IsTrueEverywhere bytes
+trial_proves bytes turns answer output reply is =
+    let found = trial_on_job bytes turns answer ends.Done output reply is (λ e. absurd (cc)) in
+    record { job = found.job; spelled = found.spelled; holds = found.trial.proof.holds }
+
+pub trial_violates : (bytes : List ℕ) (turns : ℕ) (answer : Answer) (output : List ℕ) → IsTrialOn bytes turns answer output
+    → answer ≡ ends.Violated → IsFalseWhereNamed bytes output
+trial_violates bytes turns answer output reply is =
+    let found = trial_on_job bytes turns answer ends.Violated output reply is (λ e. absurd (cc)) in
+    record {
+      job = found.job;
+      spelled = found.spelled;
+      world = found.trial.world;
+      in_range = found.trial.violation.in_range;
+      untrue = found.trial.violation.untrue;
+      named = found.trial.text;
+    }

@@ -1,17 +1,16 @@
 -- Replies by what was found.
-use Rattle.std.proofs.Common.{◌≡◌, inl, inr, ℕ, ℤ, subst, ◌<◌, ◌≤◌, ◌^◌, List, [], ◌∷◌, ◌++◌, length, codes, refl, sym, arith, IsTrue}
+use Rattle.std.proofs.Common.{◌≡◌, inl, inr, ℕ, ℤ, subst, ◌+◌, ◌<◌, ◌≤◌, ◌^◌, List, [], ◌∷◌, ◌++◌, length, codes, refl, sym, arith, IsTrue}
 use Rattle.std.specs.List.{flat_map}
 use Rattle.viz_base.specs.declared.worlds.World.{World}
 use Rattle.viz_base.specs.declared.renderings.Rendering.{Rendering}
 use Rattle.viz_base.specs.declared.jobs.Job.{Job}
-use Rattle.lay_flow.specs.Ready.{ready}
 use Rattle.lay_print.specs.Print.{printed}
 use Rattle.logic_semantics.specs.Scenes.{scene_of}
 use Rattle.logic_semantics.specs.Blame.{blame}
 use Rattle.vis_truth.specs.Scenes.{IsBoundedRendering}
 use Rattle.cert_text.specs.declared.certificate.Cert.{Cert}
-use Rattle.cert_check.specs.Nodes.{nodes_of}
-use Rattle.cert_check.specs.Right.{rendering_of}
+use Rattle.cert_path.specs.Nodes.{nodes_of}
+use Rattle.cert_check.specs.Truths.{rendering_of}
 use Rattle.cert_check.specs.declared.verdicts.Verdict.TheVariants.{Accepted, Rejected}
 use Rattle.cert_check.proofs.Texts.{few}
 use Rattle.prove_search.specs.Outcomes.{IsOutcome}
@@ -23,12 +22,13 @@ use Rattle.viz_replies.specs.declared.question.Question.TheVariants as asks
 use Rattle.viz_replies.specs.Lines.{numbered}
 use Rattle.viz_replies.specs.Certificates.{SpellsCert, IsNoCert}
 use Rattle.viz_replies.specs.Replies.{IsReplyAbout, violation_text}
-use Rattle.viz_replies.specs.steps.Answers.{IsOutcomeReply, IsProveReply, IsVerdictOn}
+use Rattle.viz_replies.specs.Trials.{IsTrialOf}
+use Rattle.viz_replies.specs.steps.Answers.{IsOutcomeReply, IsProveReply, IsTrialReply, IsVerdictOn}
 
 -- ---- certificates that were read
 
 -- a certificate of at most 64 MiB has few nodes
-pub few_nodes : (bytes : List ℕ) (cert : Cert) → SpellsCert bytes cert → length (nodes_of cert) < 2 ^ 32
+pub few_nodes : (bytes : List ℕ) (cert : Cert) → SpellsCert bytes cert → length (nodes_of cert) + 2 < 2 ^ 32
 few_nodes bytes cert held =
     let below = few cert bytes held.spelled in
     let short = held.short in
@@ -61,12 +61,20 @@ proves job turns answer output reply = of_outcome job turns reply.0 answer outpu
 
 pub checks : (job : Job) (bytes : List ℕ) (cert : Cert) (answer : Answer) (output : List ℕ) → SpellsCert bytes cert
     → IsVerdictOn job cert answer output → IsReplyAbout job (asks.Check bytes) answer output
-checks job bytes cert answer output spelled (Accepted, verdict, holds, reply) =
-    rw reply.0 (record { cert = cert; spelled = spelled; right = verdict; holds = holds refl; text = reply.1 })
-checks job bytes cert answer output spelled (Rejected reject, verdict, holds, reply) =
+checks job bytes cert answer output spelled (Accepted, verdict, reply) =
+    rw reply.0 (record { cert = cert; spelled = spelled; right = verdict.0; holds = verdict.1; text = reply.1 })
+checks job bytes cert answer output spelled (Rejected reject, verdict, reply) =
     rw reply.0 (inr (record { cert = cert; spelled = spelled; reject = reject; cause = verdict; text = reply.1 }))
 
 -- bytes that spell no certificate
 pub refuses : (job : Job) (bytes : List ℕ) (answer : Answer) (output : List ℕ) → (answer ≡ ends.CertRefused) × IsNoCert bytes output
     → IsReplyAbout job (asks.Check bytes) answer output
 refuses job bytes answer output reply = rw reply.0 (inl reply.1)
+
+-- ---- trials
+
+pub of_trial : (job : Job) (turns : ℕ) (outcome : Outcome) (answer : Answer) (output : List ℕ) → IsOutcome job turns outcome
+    → IsTrialReply job outcome answer output → IsTrialOf job turns answer output
+of_trial job turns (found.Proved proof) answer output is reply = rw reply.0 (record { cert = proof; proof = is; text = reply.1 })
+of_trial job turns (found.Violated world) answer output is reply = rw reply.0 (record { world = world; violation = is; text = reply.1 })
+of_trial job turns (found.Undecided part) answer output is reply = rw reply.0 (record { part = part; undecided = is; text = reply.1 })

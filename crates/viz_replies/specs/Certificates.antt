@@ -1,7 +1,7 @@
 -- What the bytes of a certificate file are.
 use Rattle.std.specs.Prelude.{◌≡◌, ◌⊎◌, ℕ, ◌≤◌, ◌<◌, List, [], ◌∷◌, length, codes}
 use Rattle.cert_text.specs.declared.certificate.Cert.{Cert}
-use Rattle.cert_text.specs.Grammar.{CertText}
+use Rattle.cert_text.specs.Texts.{CertText}
 use Rattle.cert_text.specs.Fault.{IsNoText}
 use Rattle.viz_replies.specs.Lines.{numbered}
 

@@ -7,7 +7,6 @@ use Rattle.viz_base.specs.declared.raw_jobs.Which.{Which}
 use Rattle.viz_base.specs.declared.raw_jobs.Which.TheVariants as which
 use Rattle.viz_base.specs.declared.settings.Prop.{Prop}
 use Rattle.css_semantics.specs.Properties.{row}
-use Rattle.lay_flow.specs.Ready.{ready}
 use Rattle.page_build.specs.declared.faults.JobRefusal.{JobRefusal}
 use Rattle.page_build.specs.declared.faults.JobRefusal.TheVariants.{Mem, NotJson, Shape, Limit, Range, Import, MediaQuery, TooManyRules, Selector, Value, BlockInInline, RightToLeft, TooManyBoxes, Reach, Bad, Unbound, TooDeep}
 use Rattle.page_build.specs.Jobs.{IsJobOf, IsRefusedAs}
@@ -48,10 +47,6 @@ abbrev pub value_line : ℕ → Prop → List ℕ → List ℕ
 value_line node prop value =
     codes "job-refused unsupported-value" ++ (spaced node ++ (codes " " ++ ((row prop).name ++ (codes " " ++ (value ++ codes "\n")))))
 
--- the line of a job whose boxes are not numbered in document order, which is not laid out yet
-abbrev pub not_yet_line : List ℕ
-not_yet_line = codes "job-refused not-yet\n"
-
 abbrev pub long_line : List ℕ
 long_line = codes "job-refused too-long\n"
 
@@ -89,13 +84,6 @@ pub record IsRefused (bytes output : List ℕ) : Type 0 where
   pub refused : IsRefusedAs bytes refusal
   pub line : output ≡ refusal_line refusal
 
--- the bytes spell a job, of which nothing refuses more than that its boxes are not numbered in document order
-pub record IsNotYet (bytes output : List ℕ) : Type 0 where
-  pub job : Job
-  pub spelled : SpellsJob bytes job
-  pub unready : ready job.tree ≡ false
-  pub line : output ≡ not_yet_line
-
--- the bytes spell no job that is judged, for the reason that the line gives
+-- the bytes spell no job, for the reason that the line gives
 abbrev pub IsNoJob : List ℕ → List ℕ → Type 0
-IsNoJob bytes output = IsTooLong bytes output ⊎ (IsRefused bytes output ⊎ IsNotYet bytes output)
+IsNoJob bytes output = IsTooLong bytes output ⊎ IsRefused bytes output

@@ -2,5 +2,6 @@ pub mod Lines
 pub mod Jobs
 pub mod Certificates
 pub mod Replies
+pub mod Trials
 pub mod Headline
 pub mod steps

@@ -8,17 +8,20 @@ use Rattle.lay_print.specs.Print.{printed}
 use Rattle.logic_semantics.specs.Scenes.{scene_of}
 use Rattle.logic_semantics.specs.Blame.{blame}
 use Rattle.cert_text.specs.declared.certificate.Cert.{Cert}
-use Rattle.cert_text.specs.Grammar.{CertText}
+use Rattle.cert_text.specs.Texts.{CertText}
+use Rattle.cert_text.specs.steps.Write.{row_bytes}
 use Rattle.cert_check.specs.declared.verdicts.Reject.{Reject}
-use Rattle.cert_check.specs.declared.verdicts.Reject.TheVariants.{OtherJob, Shape, Untrue}
-use Rattle.cert_check.specs.Right.{rendering_of, Right, Holds}
+use Rattle.cert_check.specs.declared.verdicts.Reject.TheVariants.{OtherJob, Shape, Line, Untrue, Unmet, Differs, Short, Left, Coeff}
+use Rattle.cert_check.specs.Truths.{rendering_of, Holds}
+use Rattle.cert_check.specs.Right.{Right}
 use Rattle.cert_check.specs.Verdicts.{IsCause}
 use Rattle.prove_search.specs.Outcomes.{IsProof, IsViolation, IsUndecided}
 use Rattle.viz_replies.specs.declared.reply.Answer.{Answer}
 use Rattle.viz_replies.specs.declared.reply.Answer.TheVariants as ends
 use Rattle.viz_replies.specs.declared.question.Question.{Question}
 use Rattle.viz_replies.specs.declared.question.Question.TheVariants as asks
-use Rattle.viz_replies.specs.Lines.{numbered}
+use Rattle.lin_row.specs.Form.{Form}
+use Rattle.viz_replies.specs.Lines.{numbered, spaced}
 use Rattle.viz_replies.specs.Jobs.{SpellsJob, IsNoJob}
 use Rattle.viz_replies.specs.Certificates.{SpellsCert, IsNoCert}
 
@@ -41,11 +44,22 @@ violation_text job world = numbered (codes "violated") (world.w ∷ world.s ∷ 
 abbrev pub open_line : Rect → List ℕ
 open_line part = numbered (codes "undecided") (part.wl ∷ part.wh ∷ part.sl ∷ part.sh ∷ [])
 
+-- the rows of an answer that is to another difference: the one that is asked for, and the answer's own
+abbrev pub differs_line : (node number : ℕ) (ours theirs : Form) → List ℕ
+differs_line node number ours theirs =
+    codes "rejected differs" ++ (spaced node ++ (spaced number ++ (codes " " ++ (row_bytes ours ++ (codes " / " ++ (row_bytes theirs ++ codes "\n"))))))
+
 -- the line for a certificate that is wrong
 abbrev pub reject_line : Reject → List ℕ
 reject_line OtherJob = codes "rejected other-job\n"
 reject_line (Shape node) = numbered (codes "rejected shape") (node ∷ [])
+reject_line (Line node number line) = numbered (codes "rejected line") (node ∷ number ∷ line ∷ [])
 reject_line (Untrue node world) = numbered (codes "rejected untrue") (node ∷ world.w ∷ world.s ∷ [])
+reject_line (Unmet node) = numbered (codes "rejected unmet") (node ∷ [])
+reject_line (Differs node number ours theirs) = differs_line node number ours theirs
+reject_line (Short node) = numbered (codes "rejected short") (node ∷ [])
+reject_line (Left node count) = numbered (codes "rejected left") (node ∷ count ∷ [])
+reject_line (Coeff node) = numbered (codes "rejected coeff") (node ∷ [])
 
 -- ---- prove
 

@@ -1,10 +1,9 @@
 ghost use Rattle.std.specs.Prelude.{◌≡◌, IfOk};
-ghost use Rattle.viz_replies.specs.Jobs.{long_line, not_yet_line};
+ghost use Rattle.viz_replies.specs.Jobs.{long_line};
 ghost use Rattle.viz_replies.specs.steps.Answers.{IsJobRead};
 
 use crate::refusals::refusal;
 use crate::reply::{Answer, Reply, line};
-use lay_flow::ready;
 use page_build::build_job;
 use std::alloc::Global;
 use viz_base::{Job, Mem};
@@ -13,7 +12,7 @@ use viz_base::{Job, Mem};
 #[derive(Drop)]
 pub enum JobRead {
     Read(Job),
-    /// They spell no job, or one whose boxes are not numbered in document order.
+    /// They spell no job.
     Refused(Reply),
 }
 
@@ -27,14 +26,7 @@ pub fn long_job(alloc: Global) -> Result<Reply, Mem>
     line(alloc, Answer::JobRefused, b"job-refused too-long\n")
 }
 
-/// The reply about a job whose boxes are not numbered in document order, which is not laid out yet.
-fn not_yet(alloc: Global) -> Result<Reply, Mem>
-    ensures { IfOk result (λ r. (r.answer ≡ Answer.JobRefused) × (r.output.items ≡ not_yet_line)) }
-{
-    line(alloc, Answer::JobRefused, b"job-refused not-yet\n")
-}
-
-/// The job that the bytes of a job file spell, or the reply where they spell none whose page is laid out.
+/// The job that the bytes of a job file spell, or the reply where they spell none.
 pub fn read_job(alloc: Global, bytes: &[u8]) -> Result<JobRead, Mem>
     ensures { IfOk result (IsJobRead bytes.now) }
 {
@@ -42,11 +34,7 @@ pub fn read_job(alloc: Global, bytes: &[u8]) -> Result<JobRead, Mem>
         return Ok(JobRead::Refused(long_job(alloc)?));
     }
     match build_job(alloc, bytes) {
-        Ok(job) => if ready(&job.tree) {
-            Ok(JobRead::Read(job))
-        } else {
-            Ok(JobRead::Refused(not_yet(alloc)?))
-        },
+        Ok(job) => Ok(JobRead::Read(job)),
         Err(fault) => Ok(JobRead::Refused(refusal(alloc, fault)?)),
     }
 }

@@ -12,13 +12,15 @@ mod question;
 mod refusals;
 mod replies;
 mod reply;
+mod trials;
 
 pub use certs::{CERT_MOST, long_certificate};
 pub use jobs::{JOB_MOST, JobRead, long_job, read_job};
-pub use question::{Question, Screen};
+pub use question::{Question, Screen, Sections};
 pub use replies::reply_about;
 pub use reply::{Answer, Reply};
 use std::alloc::Global;
+pub use trials::{reply_to_gen, reply_to_trial};
 use viz_base::Mem;
 
 /// What is replied, with its exact output alone.

@@ -1,21 +1,21 @@
-ghost use Rattle.std.specs.Prelude.{◌≡◌, ◌≤◌, ◌<◌, ◌^◌, ℕ, List, [], ◌∷◌, ◌++◌, codes, length, IfOk, IsTrue};
+ghost use Rattle.std.specs.Prelude.{◌≡◌, ◌+◌, ◌≤◌, ◌<◌, ◌^◌, ℕ, List, [], ◌∷◌, ◌++◌, codes, length, IfOk};
 ghost use Rattle.std.specs.List.{flat_map};
-ghost use Rattle.lay_flow.specs.Ready.{ready as is_ready};
-ghost use Rattle.cert_check.specs.Nodes.{nodes_of};
-ghost use Rattle.cert_text.specs.Grammar.{CertText};
+ghost use Rattle.cert_path.specs.Nodes.{nodes_of};
+ghost use Rattle.cert_text.specs.Texts.{CertText};
 ghost use Rattle.viz_replies.specs.Lines.{numbered};
-ghost use Rattle.viz_replies.specs.Replies.{IsReplyAbout, boxes_text, violation_text, open_line, reject_line};
+ghost use Rattle.viz_replies.specs.Replies.{IsReplyAbout, boxes_text, differs_line, violation_text, open_line, reject_line};
 ghost use Rattle.viz_replies.specs.steps.Answers.{IsVerdictReply, IsPrintable, IsOutcomeReply, IsProveReply, IsVerdictOn};
 ghost use Rattle.viz_replies.specs.declared.question.Question.{Question};
 
 use crate::certs::{CertRead, certificate_in};
-use crate::lines::{numbered_line, push_blamed, push_line};
+use crate::lines::{numbered_line, push_blamed, push_line, push_number};
 use crate::question::Question;
 use crate::reply::{Answer, Reply, line};
 use cert_check::{Reject, Verdict, check, is_low_rendering};
-use cert_text::{Cert, write_cert};
+use cert_text::{Cert, push_row, write_cert};
 use lay_flow::render_at;
 use lay_print::print;
+use lin_row::Row;
 use prove_search::{Outcome, prove};
 use std::alloc::{AllocError, Global};
 use vis_truth::blame;
@@ -23,7 +23,6 @@ use viz_base::{Job, Mem, Rect, World};
 
 /// What `lay` replies for a job.
 fn laid(alloc: Global, job: &Job, world: World) -> Result<Reply, Mem>
-    requires ready { IsTrue (is_ready job.now.tree) }
     requires narrow { world.w ≤ 16384 }
     requires sized { world.s ≤ 256 }
     ensures { IfOk result (λ r. (r.answer ≡ Answer.Done) × (r.output.items ≡ boxes_text job.now world)) }
@@ -58,7 +57,6 @@ fn violation_lines(
 
 /// A world at which the formula is false.
 fn violation(alloc: Global, job: &Job, world: World) -> Result<Reply, Mem>
-    requires ready { IsTrue (is_ready job.now.tree) }
     requires narrow { world.w ≤ 16384 }
     requires sized { world.s ≤ 256 }
     ensures { IfOk result (λ r. (r.answer ≡ Answer.Violated) × (r.output.items ≡ violation_text job.now world)) }
@@ -105,7 +103,6 @@ fn certified(alloc: Global, cert: &Cert) -> Result<Reply, Mem>
 
 /// What is replied of a search.
 fn outcome_reply(alloc: Global, job: &Job, outcome: &Outcome) -> Result<Reply, Mem>
-    requires ready { IsTrue (is_ready job.now.tree) }
     requires printable { IsPrintable outcome.now }
     ensures { IfOk result (λ r. IsOutcomeReply job.now outcome.now r.answer r.output.items) }
 {
@@ -118,31 +115,68 @@ fn outcome_reply(alloc: Global, job: &Job, outcome: &Outcome) -> Result<Reply, M
 
 /// What `prove` replies for a job.
 fn searched(alloc: Global, job: &Job, turns: u64) -> Result<Reply, Mem>
-    requires ready { IsTrue (is_ready job.now.tree) }
     ensures { IfOk result (λ r. IsProveReply job.now turns r.answer r.output.items) }
 {
     let outcome = prove(alloc, job, turns)?;
     outcome_reply(alloc, job, &outcome)
 }
 
+/// The line for an answer that is to another difference than the one that is asked for.
+fn differs(alloc: Global, node: u32, answer: u32, ours: &Row, theirs: &Row) -> Result<Reply, Mem>
+    ensures { IfOk result (λ r. (r.answer ≡ Answer.CertRefused)
+        × (r.output.items ≡ differs_line node answer ours.now theirs.now)) }
+{
+    let mut output = Vec::new(alloc);
+    output.extend_from_slice(b"rejected differs")?;
+    push_number(&mut output, u64::from(node))?;
+    push_number(&mut output, u64::from(answer))?;
+    output.extend_from_slice(b" ")?;
+    push_row(&mut output, ours)?;
+    output.extend_from_slice(b" / ")?;
+    push_row(&mut output, theirs)?;
+    output.extend_from_slice(b"\n")?;
+    Ok(Reply {
+        answer: Answer::CertRefused,
+        output,
+    })
+}
+
 /// The line for a certificate that is wrong.
 fn rejection(alloc: Global, reject: &Reject) -> Result<Reply, Mem>
     ensures { IfOk result (λ r. (r.answer ≡ Answer.CertRefused) × (r.output.items ≡ reject_line reject.now)) }
 {
+    let refused = Answer::CertRefused;
     match reject {
-        Reject::OtherJob => line(alloc, Answer::CertRefused, b"rejected other-job\n"),
-        Reject::Shape(node) => numbered_line(
-            alloc,
-            Answer::CertRefused,
-            b"rejected shape",
-            &[u64::from(*node)],
-        ),
-        Reject::Untrue(node, world) => numbered_line(
-            alloc,
-            Answer::CertRefused,
-            b"rejected untrue",
-            &[u64::from(*node), u64::from(world.w), u64::from(world.s)],
-        ),
+        Reject::OtherJob => line(alloc, refused, b"rejected other-job\n"),
+        Reject::Shape(node) => {
+            numbered_line(alloc, refused, b"rejected shape", &[u64::from(*node)])
+        }
+        Reject::Line(node, answer, line) => {
+            let numbers = [u64::from(*node), u64::from(*answer), u64::from(*line)];
+            numbered_line(alloc, refused, b"rejected line", &numbers)
+        }
+        Reject::Untrue(node, world) => {
+            let numbers = [u64::from(*node), u64::from(world.w), u64::from(world.s)];
+            numbered_line(alloc, refused, b"rejected untrue", &numbers)
+        }
+        Reject::Unmet(node) => {
+            numbered_line(alloc, refused, b"rejected unmet", &[u64::from(*node)])
+        }
+        Reject::Differs(node, answer, ours, theirs) => differs(alloc, *node, *answer, ours, theirs),
+        Reject::Short(node) => {
+            numbered_line(alloc, refused, b"rejected short", &[u64::from(*node)])
+        }
+        Reject::Left(node, count) => {
+            numbered_line(
+                alloc,
+                refused,
+                b"rejected left",
+                &[u64::from(*node), *count],
+            )
+        }
+        Reject::Coeff(node) => {
+            numbered_line(alloc, refused, b"rejected coeff", &[u64::from(*node)])
+        }
     }
 }
 
@@ -158,8 +192,7 @@ fn verdict_reply(alloc: Global, verdict: &Verdict) -> Result<Reply, Mem>
 
 /// What `check` replies for a certificate that was read.
 fn judged(alloc: Global, job: &Job, cert: &Cert) -> Result<Reply, Mem>
-    requires ready { IsTrue (is_ready job.now.tree) }
-    requires few { length (nodes_of cert.now) < 2 ^ 32 }
+    requires few { length (nodes_of cert.now) + 2 < 2 ^ 32 }
     ensures { IfOk result (λ r. IsVerdictOn job.now cert.now r.answer r.output.items) }
 {
     let verdict = check(alloc, job, cert)?;
@@ -168,7 +201,6 @@ fn judged(alloc: Global, job: &Job, cert: &Cert) -> Result<Reply, Mem>
 
 /// What `check` replies for a job and the bytes of a certificate file.
 fn checked(alloc: Global, job: &Job, bytes: &[u8]) -> Result<Reply, Mem>
-    requires { IsTrue (is_ready job.now.tree) }
     ensures { IfOk result (λ r. IsReplyAbout job.now (Question.Check bytes.now) r.answer r.output.items) }
 {
     match certificate_in(alloc, bytes)? {
@@ -179,7 +211,6 @@ fn checked(alloc: Global, job: &Job, bytes: &[u8]) -> Result<Reply, Mem>
 
 /// What is replied to a question about a job.
 pub fn reply_about(alloc: Global, job: &Job, question: &Question) -> Result<Reply, Mem>
-    requires { IsTrue (is_ready job.now.tree) }
     ensures { IfOk result (λ r. IsReplyAbout job.now question.now r.answer r.output.items) }
 {
     match question {

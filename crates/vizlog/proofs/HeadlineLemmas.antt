@@ -1,81 +1,146 @@
 -- What the outcome of a run tells of a job's assertion.
-use Rattle.std.proofs.Common.{◌≡◌, inl, inr, ℕ, List, Bor, Bool, IsTrue, codes, get_or, arith, ap, refl, sym, ◌∙◌}
+use Rattle.std.proofs.Common.{◌≡◌, inl, inr, ℕ, List, Option, Bool, ◌⊎◌, IsTrue, codes, get_or, arith, ap, refl, sym, ◌∙◌}
 use Rattle.viz_replies.specs.declared.reply.Answer.{Answer}
 use Rattle.viz_replies.specs.declared.reply.Answer.TheVariants as gives
-use Rattle.viz_replies.specs.Headline.{IsTrueEverywhere, IsFalseWherePrinted}
-use Rattle.viz_replies.proofs.HeadlineLemmas.{accepts, proves_true, violates}
+use Rattle.viz_replies.specs.declared.question.Question.TheVariants as question
+use Rattle.viz_replies.specs.Headline.{IsTrueEverywhere}
+use Rattle.viz_replies.specs.Replies.{IsRefusal}
+use Rattle.viz_outside.specs.Sink.{grown}
+use Rattle.viz_replies.proofs.HeadlineLemmas.{accepts, proves_true, violates, trial_proves, trial_violates}
+use Rattle.page_gen.specs.Jobs.{job_text}
 use Rattle.vizlog.specs.declared.status.Status.{Status}
 use Rattle.vizlog.specs.declared.status.Status.TheVariants as ends
 use Rattle.vizlog.specs.declared.words.Command.{Command}
 use Rattle.vizlog.specs.declared.words.Command.TheVariants as asks_for
-use Rattle.vizlog.specs.Words.{Asks, word_at, job_name}
+use Rattle.vizlog.specs.Words.{AreOfGenerated, Asks, word_at}
 use Rattle.vizlog.specs.Files.{Files}
-use Rattle.vizlog.specs.Run.{IsReplyOn, IsReplied, Sunk, IsWritten, Obeys, IsOutcome}
-use Rattle.vizlog.specs.Headline.{IsTrueOfFile, IsFalseOfFile}
-use Rattle.vizlog.specs.steps.Loads.{IsSureCert}
+use Rattle.vizlog.specs.Run.{IsCheckOfFile, IsReplied, Sunk, IsWritten, Obeys, IsOutcome}
+use Rattle.vizlog.specs.Headline.{IsTrueOfFile, IsFalseOfFile, IsTrueOfGenerated, IsFalseOfGenerated}
+use Rattle.vizlog.specs.steps.Loads.{IsFileless, IsSureCert, IsSureJob}
 
 -- ---- words
 
-lay_check : (word : List ℕ) → word ≡ codes "lay" → word ≡ codes "check" → ⊥
-lay_check word a b = absurd (cc)
+-- the letter with which the first word of a command begins: each command has its own
+abbrev letter : Command → ℕ
+letter (asks_for.Lay job screen) = 108
+letter (asks_for.Prove job turns) = 112
+letter (asks_for.Check job cert) = 99
+letter (asks_for.Gen seed sections) = 103
+letter (asks_for.Trial seed sections turns) = 116
 
-lay_prove : (word : List ℕ) → word ≡ codes "lay" → word ≡ codes "prove" → ⊥
-lay_prove word a b = absurd (cc)
+abbrev first_letter : List (List ℕ) → ℕ
+first_letter words = get_or (word_at words 0) 0 0
 
-p_not_c : (x : ℕ) → x ≡ 112 → x ≡ 99 → ⊥
-p_not_c x p c = omega arith
+verb_letter : (words : List (List ℕ)) (c : Command) → Asks words c → first_letter words ≡ letter c
+verb_letter words (asks_for.Lay job screen) asks = ap first_letter asks.words_are
+verb_letter words (asks_for.Prove job turns) asks = ap first_letter asks.words_are
+verb_letter words (asks_for.Check job cert) asks = ap first_letter asks.words_are
+verb_letter words (asks_for.Gen seed sections) asks = ap first_letter asks.words_are
+verb_letter words (asks_for.Trial seed sections turns) asks = ap first_letter asks.words_are
 
-abbrev first_letter : List ℕ → ℕ
-first_letter word = get_or word 0 0
+same_letter : (words : List (List ℕ)) (c : Command) (verb : List ℕ) → Asks words c → word_at words 0 ≡ verb → letter c ≡ get_or verb 0 0
+same_letter words c verb asks is = sym (verb_letter words c asks) ∙ ap (λ word. get_or word 0 0) is
 
-prove_check : (word : List ℕ) → word ≡ codes "prove" → word ≡ codes "check" → ⊥
-prove_check word a b = p_not_c (first_letter word) (ap first_letter a) (ap first_letter b)
+fileless : (c : Command) → (letter c ≡ 103) ⊎ (letter c ≡ 116) → IsFileless c
+fileless (asks_for.Lay job screen) (inl is) = absurd (omega arith)
+fileless (asks_for.Lay job screen) (inr is) = absurd (omega arith)
+fileless (asks_for.Prove job turns) (inl is) = absurd (omega arith)
+fileless (asks_for.Prove job turns) (inr is) = absurd (omega arith)
+fileless (asks_for.Check job cert) (inl is) = absurd (omega arith)
+fileless (asks_for.Check job cert) (inr is) = absurd (omega arith)
+fileless (asks_for.Gen seed sections) is = tt
+fileless (asks_for.Trial seed sections turns) is = tt
 
--- the second word is the job's name
-pub job_word : (words : List (List ℕ)) (c : Command) → Asks words c → word_at words 1 ≡ job_name c
-job_word words (asks_for.Lay job screen) asks = ap (λ ws. word_at ws 1) asks.words_are
-job_word words (asks_for.Prove job turns) asks = ap (λ ws. word_at ws 1) asks.words_are
-job_word words (asks_for.Check job cert) asks = ap (λ ws. word_at ws 1) asks.words_are
+-- `gen` and `trial` name no file
+pub names_no_file : (words : List (List ℕ)) (c : Command) → Asks words c → AreOfGenerated words → IsFileless c
+names_no_file words c asks (inl verb) = fileless c (inl (same_letter words c (codes "gen") asks verb))
+names_no_file words c asks (inr verb) = fileless c (inr (same_letter words c (codes "trial") asks verb))
+
+-- the second word is the job file's name, where there is one
+pub job_word : (sure : List ℕ → Bool) (words : List (List ℕ)) (c : Command) → Asks words c → IsTrue (sure (word_at words 1)) → IsSureJob sure c
+job_word sure words (asks_for.Lay job screen) asks is = let second = ap (λ ws. word_at ws 1) asks.words_are in rw second at is
+job_word sure words (asks_for.Prove job turns) asks is = let second = ap (λ ws. word_at ws 1) asks.words_are in rw second at is
+job_word sure words (asks_for.Check job cert) asks is = let second = ap (λ ws. word_at ws 1) asks.words_are in rw second at is
+job_word sure words (asks_for.Gen seed sections) asks is = tt
+job_word sure words (asks_for.Trial seed sections turns) asks is = tt
 
 -- the third word of `check` is the certificate's
 pub cert_word : (sure : List ℕ → Bool) (words : List (List ℕ)) (c : Command) → Asks words c → IsTrue (sure (word_at words 2)) → IsSureCert sure c
 cert_word sure words (asks_for.Lay job screen) asks is = tt
 cert_word sure words (asks_for.Prove job turns) asks is = tt
 cert_word sure words (asks_for.Check job cert) asks is = let third = ap (λ ws. word_at ws 2) asks.words_are in rw third at is
+cert_word sure words (asks_for.Gen seed sections) asks is = tt
+cert_word sure words (asks_for.Trial seed sections turns) asks is = tt
 
 -- ---- replies
 
-accepted_on : (files : Files) (job cert : Bor (List ℕ)) (bytes output : List ℕ) → IsReplyOn files (asks_for.Check job cert) bytes gives.Done output
+accepted_on : (files : Files) (cert bytes output : List ℕ) → IsRefusal bytes gives.Done output ⊎ IsCheckOfFile files cert bytes gives.Done output
     → IsTrueEverywhere bytes
-accepted_on files job cert bytes output (inl refusal) = absurd (let other = refusal.refused in cc)
-accepted_on files job cert bytes output (inr (question, asked, reply)) =
-    accepts bytes asked.0 question gives.Done output (inl reply) asked.2 refl
+accepted_on files cert bytes output (inl refusal) = absurd (let other = refusal.refused in cc)
+accepted_on files cert bytes output (inr found) =
+    accepts bytes found.cert_bytes (question.Check found.cert_bytes) gives.Done output (inl found.reply) refl refl
 
-proved_on : (files : Files) (job : Bor (List ℕ)) (turns : ℕ) (bytes output : List ℕ) → IsReplyOn files (asks_for.Prove job turns) bytes gives.Done output
-    → IsTrueEverywhere bytes
-proved_on files job turns bytes output (inl refusal) = absurd (let other = refusal.refused in cc)
-proved_on files job turns bytes output (inr (question, asked, reply)) =
-    proves_true bytes turns question gives.Done output (inl reply) asked refl
-
-violated_on : (files : Files) (c : Command) (bytes output : List ℕ) → IsReplyOn files c bytes gives.Violated output → IsFalseWherePrinted bytes output
-violated_on files c bytes output (inl refusal) = absurd (let other = refusal.refused in cc)
-violated_on files c bytes output (inr (question, asked, reply)) = violates bytes question gives.Violated output (inl reply) refl
-
-checks_reply : (files : Files) (c : Command) (words : List (List ℕ)) (output : List ℕ) → Asks words c → word_at words 0 ≡ codes "check"
+checks_reply : (files : Files) (c : Command) (words : List (List ℕ)) (output : List ℕ) → Asks words c → letter c ≡ 99
     → IsReplied files c gives.Done output → IsTrueOfFile files (word_at words 1)
-checks_reply files (asks_for.Lay job screen) words output asks verb reply = absurd (lay_check (word_at words 0) (ap (λ ws. word_at ws 0) asks.words_are) verb)
-checks_reply files (asks_for.Prove job turns) words output asks verb reply = absurd (prove_check (word_at words 0) (ap (λ ws. word_at ws 0) asks.words_are) verb)
+checks_reply files (asks_for.Lay job screen) words output asks verb reply = absurd (omega arith)
+checks_reply files (asks_for.Prove job turns) words output asks verb reply = absurd (omega arith)
 checks_reply files (asks_for.Check job cert) words output asks verb reply =
-    let name = job_word words (asks_for.Check job cert) asks in
-    rw name (record { bytes = reply.bytes; told = reply.told; holds = accepted_on files job cert reply.bytes output reply.reply })
+    let name = ap (λ ws. word_at ws 1) asks.words_are in
+    rw name (record { bytes = reply.bytes; told = reply.told; holds = accepted_on files cert.now reply.bytes output reply.reply })
+checks_reply files (asks_for.Gen seed sections) words output asks verb reply = absurd (omega arith)
+checks_reply files (asks_for.Trial seed sections turns) words output asks verb reply = absurd (omega arith)
 
-proves_reply : (files : Files) (c : Command) (words : List (List ℕ)) (output : List ℕ) → Asks words c → word_at words 0 ≡ codes "prove"
+proves_reply : (files : Files) (c : Command) (words : List (List ℕ)) (output : List ℕ) → Asks words c → letter c ≡ 112
     → IsReplied files c gives.Done output → IsTrueOfFile files (word_at words 1)
-proves_reply files (asks_for.Lay job screen) words output asks verb reply = absurd (lay_prove (word_at words 0) (ap (λ ws. word_at ws 0) asks.words_are) verb)
-proves_reply files (asks_for.Check job cert) words output asks verb reply = absurd (prove_check (word_at words 0) verb (ap (λ ws. word_at ws 0) asks.words_are))
+proves_reply files (asks_for.Lay job screen) words output asks verb reply = absurd (omega arith)
 proves_reply files (asks_for.Prove job turns) words output asks verb reply =
-    let name = job_word words (asks_for.Prove job turns) asks in
-    rw name (record { bytes = reply.bytes; told = reply.told; holds = proved_on files job turns reply.bytes output reply.reply })
+    let name = ap (λ ws. word_at ws 1) asks.words_are in
+    let holds = proves_true reply.bytes turns (question.Prove turns) gives.Done output reply.reply refl refl in
+    rw name (record { bytes = reply.bytes; told = reply.told; holds = holds })
+proves_reply files (asks_for.Check job cert) words output asks verb reply = absurd (omega arith)
+proves_reply files (asks_for.Gen seed sections) words output asks verb reply = absurd (omega arith)
+proves_reply files (asks_for.Trial seed sections turns) words output asks verb reply = absurd (omega arith)
+
+violates_reply : (files : Files) (c : Command) (words : List (List ℕ)) (old new : Option (List ℕ)) (output : List ℕ) → Asks words c
+    → letter c ≡ 112 → IsReplied files c gives.Violated output → new ≡ grown old output → IsFalseOfFile files (word_at words 1) old new
+violates_reply files (asks_for.Lay job screen) words old new output asks verb reply written = absurd (omega arith)
+violates_reply files (asks_for.Prove job turns) words old new output asks verb reply written =
+    let name = ap (λ ws. word_at ws 1) asks.words_are in
+    let untrue = violates reply.bytes (question.Prove turns) gives.Violated output reply.reply refl in
+    rw name (record { bytes = reply.bytes; told = reply.told; output = output; untrue = untrue; written = written })
+violates_reply files (asks_for.Check job cert) words old new output asks verb reply written = absurd (omega arith)
+violates_reply files (asks_for.Gen seed sections) words old new output asks verb reply written = absurd (omega arith)
+violates_reply files (asks_for.Trial seed sections turns) words old new output asks verb reply written = absurd (omega arith)
+
+tries_reply : (files : Files) (c : Command) (words : List (List ℕ)) (output : List ℕ) → Asks words c → letter c ≡ 116
+    → IsReplied files c gives.Done output → IsTrueOfGenerated words
+tries_reply files (asks_for.Lay job screen) words output asks verb reply = absurd (omega arith)
+tries_reply files (asks_for.Prove job turns) words output asks verb reply = absurd (omega arith)
+tries_reply files (asks_for.Check job cert) words output asks verb reply = absurd (omega arith)
+tries_reply files (asks_for.Gen seed sections) words output asks verb reply = absurd (omega arith)
+tries_reply files (asks_for.Trial seed sections turns) words output asks verb reply = record {
+  seed = seed;
+  seed_is = ap (λ ws. word_at ws 1) asks.words_are;
+  sections = sections.count;
+  sections_are = ap (λ ws. word_at ws 2) asks.words_are;
+  holds = trial_proves (job_text seed sections.count) turns gives.Done output reply refl;
+}
+
+fails_reply : (files : Files) (c : Command) (words : List (List ℕ)) (old new : Option (List ℕ)) (output : List ℕ) → Asks words c
+    → letter c ≡ 116 → IsReplied files c gives.Violated output → new ≡ grown old output → IsFalseOfGenerated words old new
+fails_reply files (asks_for.Lay job screen) words old new output asks verb reply written = absurd (omega arith)
+fails_reply files (asks_for.Prove job turns) words old new output asks verb reply written = absurd (omega arith)
+fails_reply files (asks_for.Check job cert) words old new output asks verb reply written = absurd (omega arith)
+fails_reply files (asks_for.Gen seed sections) words old new output asks verb reply written = absurd (omega arith)
+fails_reply files (asks_for.Trial seed sections turns) words old new output asks verb reply written = record {
+  seed = seed;
+  seed_is = ap (λ ws. word_at ws 1) asks.words_are;
+  sections = sections.count;
+  sections_are = ap (λ ws. word_at ws 2) asks.words_are;
+  output = output;
+  untrue = trial_violates (job_text seed sections.count) turns gives.Violated output reply refl;
+  written = written;
+}
 
 -- ---- runs
 
@@ -90,33 +155,50 @@ replied files c sink result wanted (inr (inl (file, unread, inl (ended, written)
 replied files c sink result wanted (inr (inl (file, unread, inr (ended, cut)))) is = absurd (cc)
 replied files c sink result wanted (inr (inr (ended, same))) is = absurd (cc)
 
+-- a run that ends with an answer has words of a command
+record Answers {S : Type 0} (files : Files) (words : List (List ℕ)) (sink : Sunk S) (wanted : Answer) : Type 0 where
+  pub c : Command
+  pub asks : Asks words c
+  pub output : List ℕ
+  pub reply : IsReplied files c wanted output
+  pub written : IsWritten sink output
+
+answered : {S : Type 0} (files : Files) (words : List (List ℕ)) (sink : Sunk S) (result : Status) (wanted : Answer) → IsOutcome files words sink result
+    → result ≡ ends.Replied wanted → Answers files words sink wanted
+answered files words sink result wanted (inl (nothing, inl (ended, written))) is = absurd (cc)
+answered files words sink result wanted (inl (nothing, inr (ended, cut))) is = absurd (cc)
+answered files words sink result wanted (inr (c, asks, obeyed)) is =
+    let found = replied files c sink result wanted obeyed is in
+    record { c = c; asks = asks; output = found.0; reply = found.1; written = found.2 }
+
 pub run_accepts : {S : Type 0} (files : Files) (words : List (List ℕ)) (sink : Sunk S) (result : Status) → IsOutcome files words sink result
     → result ≡ ends.Replied gives.Done → word_at words 0 ≡ codes "check" → IsTrueOfFile files (word_at words 1)
-run_accepts files words sink result (inl (nothing, inl (ended, written))) is verb = absurd (cc)
-run_accepts files words sink result (inl (nothing, inr (ended, cut))) is verb = absurd (cc)
-run_accepts files words sink result (inr (c, asks, obeyed)) is verb =
-    let reply = replied files c sink result gives.Done obeyed is in
-    checks_reply files c words reply.0 asks verb reply.1
+run_accepts files words sink result outcome is verb =
+    let found = answered files words sink result gives.Done outcome is in
+    checks_reply files found.c words found.output found.asks (same_letter words found.c (codes "check") found.asks verb) found.reply
 
 pub run_proves : {S : Type 0} (files : Files) (words : List (List ℕ)) (sink : Sunk S) (result : Status) → IsOutcome files words sink result
     → result ≡ ends.Replied gives.Done → word_at words 0 ≡ codes "prove" → IsTrueOfFile files (word_at words 1)
-run_proves files words sink result (inl (nothing, inl (ended, written))) is verb = absurd (cc)
-run_proves files words sink result (inl (nothing, inr (ended, cut))) is verb = absurd (cc)
-run_proves files words sink result (inr (c, asks, obeyed)) is verb =
-    let reply = replied files c sink result gives.Done obeyed is in
-    proves_reply files c words reply.0 asks verb reply.1
+run_proves files words sink result outcome is verb =
+    let found = answered files words sink result gives.Done outcome is in
+    proves_reply files found.c words found.output found.asks (same_letter words found.c (codes "prove") found.asks verb) found.reply
 
 pub run_violates : {S : Type 0} (files : Files) (words : List (List ℕ)) (sink : Sunk S) (result : Status) → IsOutcome files words sink result
-    → result ≡ ends.Replied gives.Violated → IsFalseOfFile files (word_at words 1) (sink.written sink.old) (sink.written sink.new)
-run_violates files words sink result (inl (nothing, inl (ended, written))) is = absurd (cc)
-run_violates files words sink result (inl (nothing, inr (ended, cut))) is = absurd (cc)
-run_violates files words sink result (inr (c, asks, obeyed)) is =
-    let reply = replied files c sink result gives.Violated obeyed is in
-    let name = job_word words c asks in
-    rw name (record {
-      bytes = reply.1.bytes;
-      told = reply.1.told;
-      output = reply.0;
-      untrue = violated_on files c reply.1.bytes reply.0 reply.1.reply;
-      written = reply.2.whole;
-    })
+    → result ≡ ends.Replied gives.Violated → word_at words 0 ≡ codes "prove"
+    → IsFalseOfFile files (word_at words 1) (sink.written sink.old) (sink.written sink.new)
+run_violates files words sink result outcome is verb =
+    let found = answered files words sink result gives.Violated outcome is in
+    violates_reply files found.c words _ _ found.output found.asks (same_letter words found.c (codes "prove") found.asks verb) found.reply found.written.whole
+
+pub run_tries : {S : Type 0} (files : Files) (words : List (List ℕ)) (sink : Sunk S) (result : Status) → IsOutcome files words sink result
+    → result ≡ ends.Replied gives.Done → word_at words 0 ≡ codes "trial" → IsTrueOfGenerated words
+run_tries files words sink result outcome is verb =
+    let found = answered files words sink result gives.Done outcome is in
+    tries_reply files found.c words found.output found.asks (same_letter words found.c (codes "trial") found.asks verb) found.reply
+
+pub run_fails : {S : Type 0} (files : Files) (words : List (List ℕ)) (sink : Sunk S) (result : Status) → IsOutcome files words sink result
+    → result ≡ ends.Replied gives.Violated → word_at words 0 ≡ codes "trial"
+    → IsFalseOfGenerated words (sink.written sink.old) (sink.written sink.new)
+run_fails files words sink result outcome is verb =
+    let found = answered files words sink result gives.Violated outcome is in
+    fails_reply files found.c words _ _ found.output found.asks (same_letter words found.c (codes "trial") found.asks verb) found.reply found.written.whole

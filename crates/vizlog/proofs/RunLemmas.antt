@@ -1,5 +1,5 @@
 -- What a load tells of a file.
-use Rattle.std.proofs.Common.{◌≡◌, ℕ, ◌+◌, ◌<◌, ◌≤◌, List, Bool, true, false, Option, Some, None, IfSome, option_map, length, nat_le, replicate, arith, refl, inl, inr, Bor}
+use Rattle.std.proofs.Common.{◌≡◌, ℕ, ◌+◌, ◌<◌, ◌≤◌, List, Bool, true, false, Option, Some, None, IfSome, option_map, length, nat_le, replicate, arith, refl, inl, inr}
 use Rattle.std.proofs.lemmas.List.{length-replicate}
 use Rattle.std.proofs.lemmas.Bool.Decides.{nat_tests}
 use Rattle.viz_outside.specs.declared.shelf.Loaded.TheVariants.{Whole, Longer}
@@ -9,14 +9,13 @@ use Rattle.viz_outside.proofs.FaultLemmas.{rose_within}
 use Rattle.viz_base.specs.declared.jobs.Job.{Job}
 use Rattle.viz_replies.specs.declared.reply.Answer.{Answer}
 use Rattle.viz_replies.specs.declared.reply.Reply.{Reply}
+use Rattle.viz_replies.specs.declared.question.Question.{Question}
+use Rattle.viz_replies.specs.declared.question.Question.TheVariants as asks
 use Rattle.viz_replies.specs.declared.jobs.JobRead.TheVariants as of_job
-use Rattle.vizlog.specs.declared.status.File.TheVariants as of_the
-use Rattle.vizlog.specs.declared.words.Command.{Command}
-use Rattle.vizlog.specs.declared.words.Command.TheVariants as asks_for
-use Rattle.vizlog.specs.Words.{job_name}
-use Rattle.vizlog.specs.Files.{Files, MayHold}
-use Rattle.vizlog.specs.Run.{IsReplied, IsUnread}
-use Rattle.vizlog.specs.steps.Loads.{IsJobFile, IsReplyFor}
+use Rattle.viz_replies.specs.Replies.{IsReplyAbout}
+use Rattle.vizlog.specs.Files.{Files, MayHold, HoldsJob}
+use Rattle.vizlog.specs.Run.{IsReplyOfFile, IsCheckOfFiles}
+use Rattle.vizlog.specs.steps.Loads.{IsJobFile}
 
 -- ---- files that are given whole
 
@@ -64,21 +63,26 @@ rose_later a b c first last rose = rose_within a b c c first last rose (omega ar
 
 -- ---- replies
 
-pub replied_about : (files : Files) (c : Command) (name : List ℕ) (job : Job) (answer : Answer) (output : List ℕ) → name ≡ job_name c
-    → IsJobFile files name (of_job.Read job) → IsReplyFor files c job answer output → IsReplied files c answer output
-replied_about files c name job answer output same file reply = record {
+pub replied_about : (files : Files) (name : List ℕ) (question : Question) (job : Job) (answer : Answer) (output : List ℕ)
+    → IsJobFile files name (of_job.Read job) → IsReplyAbout job question answer output → IsReplyOfFile files name question answer output
+replied_about files name question job answer output file reply =
+    record { bytes = file.bytes; told = file.told; reply = inl (record { job = job; spelled = file.reads; reply = reply }) }
+
+pub replied_refused : (files : Files) (name : List ℕ) (question : Question) (reply : Reply) → IsJobFile files name (of_job.Refused reply)
+    → IsReplyOfFile files name question reply.answer reply.output.items
+replied_refused files name question reply file = record { bytes = file.bytes; told = file.told; reply = inr file.reads }
+
+pub checked_about : (files : Files) (name cert : List ℕ) (job : Job) (answer : Answer) (output : List ℕ) → IsJobFile files name (of_job.Read job)
+    → (bytes : List ℕ) × MayHold files cert bytes × IsReplyAbout job (asks.Check bytes) answer output → IsCheckOfFiles files name cert answer output
+checked_about files name cert job answer output file (bytes, told, reply) = record {
   bytes = file.bytes;
-  told = rw same at file.told;
-  reply = inr (reply.0, reply.1, record { job = job; spelled = file.reads.0; reply = reply.2 });
+  told = file.told;
+  reply = inr (record { cert_bytes = bytes; told = told; reply = record { job = job; spelled = file.reads; reply = reply } });
 }
 
-pub replied_refused : (files : Files) (c : Command) (name : List ℕ) (reply : Reply) → name ≡ job_name c → IsJobFile files name (of_job.Refused reply)
-    → IsReplied files c reply.answer reply.output.items
-replied_refused files c name reply same file = record { bytes = file.bytes; told = rw same at file.told; reply = inl file.reads }
+pub check_refused : (files : Files) (name cert : List ℕ) (reply : Reply) → IsJobFile files name (of_job.Refused reply)
+    → IsCheckOfFiles files name cert reply.answer reply.output.items
+check_refused files name cert reply file = record { bytes = file.bytes; told = file.told; reply = inl file.reads }
 
--- a certificate file that could not be read is looked for where the job file spells a job
-pub cert_missed : (files : Files) (c : Command) (name : List ℕ) (job : Job) → name ≡ job_name c → IsJobFile files name (of_job.Read job)
-    → (j : Bor (List ℕ)) × (k : Bor (List ℕ)) × (c ≡ asks_for.Check j k) → IsUnread files c of_the.Certificate
-cert_missed files c name job same file (j, k, is) =
-    let told = rw (same, is) at file.told in
-    rw is (record { bytes = file.bytes; told = told; job = job; spelled = file.reads.0 })
+pub holds_job : (files : Files) (name : List ℕ) (job : Job) → IsJobFile files name (of_job.Read job) → HoldsJob files name
+holds_job files name job file = record { bytes = file.bytes; told = file.told; job = job; spelled = file.reads }

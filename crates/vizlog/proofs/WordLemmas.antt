@@ -1,11 +1,9 @@
 -- A number that was printed is read back.
-use Rattle.std.proofs.Common.{◌≡◌, ◌≢◌, ℕ, ◌<◌, ◌^◌, List, [], ◌∷◌, length, codes, ◌≤◌, ◌&&◌, nat_le, cond, Option, Some, None, MatchOption, refl, Bool, true, false, ◌==◌, get_or, map, arith, Result, Ok, decimal, ap, sym, ◌∙◌, Bor}
-use Rattle.vizlog.specs.Words.{Asks, IsWorld}
-use Rattle.vizlog.specs.declared.words.Command.TheVariants as asks_for
-use Rattle.viz_replies.specs.declared.question.Screen.{Screen}
+use Rattle.std.proofs.Common.{◌≡◌, ◌≢◌, ℕ, ◌<◌, ◌^◌, List, [], ◌∷◌, length, ◌≤◌, ◌&&◌, nat_le, cond, Option, Some, None, MatchOption, refl, Bool, true, false, get_or, map, arith, Result, Ok, decimal, ap, sym, ◌∙◌}
+use Rattle.page_gen.specs.Jobs.{sections_most}
+use Rattle.viz_replies.specs.declared.question.Sections.{Sections}
 use Rattle.std.specs.Str.Parse.{AllDigits, digits_value, ParsesUnsigned}
 use Rattle.std.proofs.lemmas.Str.Parse.{IsNumeralModel, numerals_by_value, tells_digits, parse_gives}
-use Rattle.std.proofs.lemmas.Bool.{false≢true}
 use Rattle.std.proofs.lemmas.Bool.Decides.{nat_tests}
 use Rattle.std.proofs.lemmas.Fmt.{decimal_injective, digits_decimal, digits_value-decimal, decimal_nonempty}
 
@@ -20,10 +18,6 @@ parsed word n r small e p =
 
 -- ---- words that are there
 
-pub not_empty : (xs : List ℕ) → (length xs == 0) ≡ false → xs ≢ []
-not_empty [] e h = false≢true (sym e)
-not_empty (x ∷ xs) e h = absurd (cc)
-
 -- the words of a list of four, and of three
 pub words_4 : {X : Type 0} (f : X → List ℕ) (xs : List X) (a b c d : X) → length xs ≡ 4 → a ≡ get_or xs 0 a → b ≡ get_or xs 1 b → c ≡ get_or xs 2 c → d ≡ get_or xs 3 d → map f xs ≡ f a ∷ f b ∷ f c ∷ f d ∷ []
 words_4 f [] a b c d len p q r s = absurd (omega arith)
@@ -32,14 +26,6 @@ words_4 f (x ∷ y ∷ []) a b c d len p q r s = absurd (omega arith)
 words_4 f (x ∷ y ∷ z ∷ []) a b c d len p q r s = absurd (omega arith)
 words_4 f (x ∷ y ∷ z ∷ w ∷ []) a b c d len p q r s = cc
 words_4 f (x ∷ y ∷ z ∷ w ∷ v ∷ rest) a b c d len p q r s = absurd (omega arith)
-
-pub asks_lay : (verb width size : List ℕ) (job : Bor (List ℕ)) (screen : Screen) → IsWorld screen.world → verb ≡ codes "lay" → job.now ≢ []
-    → width ≡ decimal screen.world.w → size ≡ decimal screen.world.s → Asks (verb ∷ job.now ∷ width ∷ size ∷ []) (asks_for.Lay job screen)
-asks_lay verb width size job screen within lay named w s = record { words_are = cc; proper = (named, within) }
-
-pub asks_prove : (turns : List ℕ) (job : Bor (List ℕ)) (n : ℕ) → n < 2 ^ 64 → job.now ≢ [] → turns ≡ decimal n
-    → Asks (codes "prove" ∷ job.now ∷ turns ∷ []) (asks_for.Prove job n)
-asks_prove turns job n small named is = record { words_are = cc; proper = (named, small) }
 
 -- ---- numbers within limits
 
@@ -53,3 +39,13 @@ by_test word n most false small few is e = λ m least no_more same.
 pub number_within : (word : List ℕ) (n most : ℕ) (r : Option ℕ) → n < 2 ^ 64 → most < 2 ^ 32 → word ≡ decimal n → r ≡ cond (nat_le 1 n && nat_le n most) (Some n) None
     → MatchOption r ((m : ℕ) → 1 ≤ m → m ≤ most → word ≢ decimal m) (λ m. (1 ≤ m) × (m ≤ most) × (word ≡ decimal m))
 number_within word n most r small few is e = rw e (by_test word n most (nat_le 1 n && nat_le n most) small few is refl)
+
+-- ---- sections
+
+pub sections_within : (word : List ℕ) (n : ℕ) (r : Option Sections) → n < 2 ^ 64 → word ≡ decimal n
+    → MatchOption r (sections_most < n) (λ s. s.count ≡ n) → MatchOption r ((s : Sections) → word ≢ decimal s.count) (λ s. word ≡ decimal s.count)
+sections_within word n None small is over = λ s same.
+    let few = s.few in
+    let equal : n ≡ s.count = decimal_injective n s.count small (omega arith) (sym is ∙ same) in
+    omega arith
+sections_within word n (Some s) small is count = is ∙ ap decimal (sym count)

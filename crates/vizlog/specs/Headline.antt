@@ -1,8 +1,10 @@
--- What a run tells of the assertion of a job file.
-use Rattle.std.specs.Prelude.{◌≡◌, ℕ, List, Option}
+-- What a run tells of the assertion of a job.
+use Rattle.std.specs.Prelude.{◌≡◌, ℕ, List, Option, decimal}
 use Rattle.viz_outside.specs.Sink.{grown}
-use Rattle.viz_replies.specs.Headline.{IsTrueEverywhere, IsFalseWherePrinted}
+use Rattle.page_gen.specs.Jobs.{job_text}
+use Rattle.viz_replies.specs.Headline.{IsTrueEverywhere, IsFalseWherePrinted, IsFalseWhereNamed}
 use Rattle.vizlog.specs.Files.{Files, MayHold}
+use Rattle.vizlog.specs.Words.{word_at}
 
 -- the assertion of the file's job is true at every world of its range
 pub record IsTrueOfFile (files : Files) (name : List ℕ) : Type 0 where
@@ -16,4 +18,23 @@ pub record IsFalseOfFile (files : Files) (name : List ℕ) (old new : Option (Li
   pub told : MayHold files name bytes
   pub output : List ℕ
   pub untrue : IsFalseWherePrinted bytes output
+  pub written : new ≡ grown old output
+
+-- the assertion of the job that the second word, its seed, and the third, its number of sections, tell is true at every world
+-- of its range
+pub record IsTrueOfGenerated (words : List (List ℕ)) : Type 0 where
+  pub seed : ℕ
+  pub seed_is : word_at words 1 ≡ decimal seed
+  pub sections : ℕ
+  pub sections_are : word_at words 2 ≡ decimal sections
+  pub holds : IsTrueEverywhere (job_text seed sections)
+
+-- its assertion is false at a world of its range, which was written
+pub record IsFalseOfGenerated (words : List (List ℕ)) (old new : Option (List ℕ)) : Type 0 where
+  pub seed : ℕ
+  pub seed_is : word_at words 1 ≡ decimal seed
+  pub sections : ℕ
+  pub sections_are : word_at words 2 ≡ decimal sections
+  pub output : List ℕ
+  pub untrue : IsFalseWhereNamed (job_text seed sections) output
   pub written : new ≡ grown old output

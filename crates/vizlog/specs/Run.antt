@@ -6,14 +6,15 @@ use Rattle.viz_replies.specs.declared.reply.Answer.{Answer}
 use Rattle.viz_replies.specs.declared.reply.Answer.TheVariants as gives
 use Rattle.viz_replies.specs.declared.question.Question.{Question}
 use Rattle.viz_replies.specs.declared.question.Question.TheVariants as asks
-use Rattle.viz_replies.specs.Replies.{IsReplyOnJob, IsRefusal}
+use Rattle.viz_replies.specs.Replies.{IsReply, IsReplyOnJob, IsRefusal}
+use Rattle.viz_replies.specs.Trials.{IsGenerated, IsTrial}
 use Rattle.vizlog.specs.declared.status.File.{File}
 use Rattle.vizlog.specs.declared.status.File.TheVariants as of_the
 use Rattle.vizlog.specs.declared.status.Status.{Status}
 use Rattle.vizlog.specs.declared.status.Status.TheVariants as ends
 use Rattle.vizlog.specs.declared.words.Command.{Command}
 use Rattle.vizlog.specs.declared.words.Command.TheVariants as asks_for
-use Rattle.vizlog.specs.Words.{AskNothing, Asks, job_name}
+use Rattle.vizlog.specs.Words.{AskNothing, Asks}
 use Rattle.vizlog.specs.Files.{Files, MayHold, HoldsJob}
 
 -- the number that the program ends with
@@ -28,30 +29,42 @@ code_of (ends.Replied gives.Undecided) = 6
 code_of ends.Memory = 7
 code_of (ends.Replied gives.CertRefused) = 8
 
--- ---- files
+-- ---- replies
 
--- what a command asks about its job, with the bytes of its certificate file
-abbrev pub IsQuestion : Files → Command → Question → Type 0
-IsQuestion files (asks_for.Lay job screen) question = question ≡ asks.Lay screen
-IsQuestion files (asks_for.Prove job turns) question = question ≡ asks.Prove turns
-IsQuestion files (asks_for.Check job cert) question = (bytes : List ℕ) × MayHold files cert.now bytes × (question ≡ asks.Check bytes)
+-- the reply to a question about the job file of this name
+pub record IsReplyOfFile (files : Files) (name : List ℕ) (question : Question) (answer : Answer) (output : List ℕ) : Type 0 where
+  pub bytes : List ℕ
+  pub told : MayHold files name bytes
+  pub reply : IsReply bytes question answer output
 
--- the reply about the job that the bytes of the job file spell; where they spell none, no certificate is looked for
-abbrev pub IsReplyOn : Files → Command → List ℕ → Answer → List ℕ → Type 0
-IsReplyOn files c bytes answer output =
-    IsRefusal bytes answer output ⊎ ((question : Question) × IsQuestion files c question × IsReplyOnJob bytes question answer output)
+-- the reply to `check` about the bytes of a job file that spell a job, and the certificate file of this name
+pub record IsCheckOfFile (files : Files) (cert bytes : List ℕ) (answer : Answer) (output : List ℕ) : Type 0 where
+  pub cert_bytes : List ℕ
+  pub told : MayHold files cert cert_bytes
+  pub reply : IsReplyOnJob bytes (asks.Check cert_bytes) answer output
+
+-- the reply to `check` about the files of these names; where the job file spells no job, no certificate is looked for
+pub record IsCheckOfFiles (files : Files) (job cert : List ℕ) (answer : Answer) (output : List ℕ) : Type 0 where
+  pub bytes : List ℕ
+  pub told : MayHold files job bytes
+  pub reply : IsRefusal bytes answer output ⊎ IsCheckOfFile files cert bytes answer output
 
 -- the reply to a command
-pub record IsReplied (files : Files) (c : Command) (answer : Answer) (output : List ℕ) : Type 0 where
-  pub bytes : List ℕ
-  pub told : MayHold files (job_name c) bytes
-  pub reply : IsReplyOn files c bytes answer output
+abbrev pub IsReplied : Files → Command → Answer → List ℕ → Type 0
+IsReplied files (asks_for.Lay job screen) answer output = IsReplyOfFile files job.now (asks.Lay screen) answer output
+IsReplied files (asks_for.Prove job turns) answer output = IsReplyOfFile files job.now (asks.Prove turns) answer output
+IsReplied files (asks_for.Check job cert) answer output = IsCheckOfFiles files job.now cert.now answer output
+IsReplied files (asks_for.Gen seed sections) answer output = IsGenerated seed sections.count answer output
+IsReplied files (asks_for.Trial seed sections turns) answer output = IsTrial seed sections.count turns answer output
 
--- the file that could not be read: the job file, or a certificate file, which is looked for where the job file spells a job
+-- the file that could not be read: the job file, or a certificate file, which is looked for where the job file spells a job;
+-- about a generated job no file is read
 abbrev pub IsUnread : Files → Command → File → Type 0
-IsUnread files c of_the.Job = Unit {0}
+IsUnread files (asks_for.Lay job screen) of_the.Job = Unit {0}
+IsUnread files (asks_for.Prove job turns) of_the.Job = Unit {0}
+IsUnread files (asks_for.Check job cert) of_the.Job = Unit {0}
 IsUnread files (asks_for.Check job cert) of_the.Certificate = HoldsJob files job.now
-IsUnread files c of_the.Certificate = ⊥
+IsUnread files c file = ⊥
 
 -- ---- output
 

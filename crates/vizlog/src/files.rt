@@ -1,20 +1,18 @@
 ghost use Rattle.std.specs.Prelude.{◌≡◌, ◌≤◌, ℕ, List, IfOk, IsErrOf, IsTrue};
 ghost use Rattle.viz_outside.specs.Fault.{Rose};
-ghost use Rattle.lay_flow.specs.Ready.{ready};
 ghost use Rattle.viz_replies.specs.Replies.{IsReplyAbout};
-ghost use Rattle.vizlog.specs.Words.{job_name};
-ghost use Rattle.vizlog.specs.Files.{MayHold};
-ghost use Rattle.vizlog.specs.Run.{IsReplied, IsUnread};
-ghost use Rattle.vizlog.specs.steps.Loads.{IsJobFile, IsReplyFor, IsSureCert};
+ghost use Rattle.vizlog.specs.Files.{HoldsJob, MayHold};
+ghost use Rattle.vizlog.specs.Run.{IsCheckOfFiles, IsReplied, IsReplyOfFile, IsUnread};
+ghost use Rattle.vizlog.specs.steps.Loads.{IsFileless, IsJobFile, IsSureCert, IsSureJob};
 
 use crate::status::File;
 use crate::words::Command;
 use std::alloc::Global;
-use viz_base::Job;
+use viz_base::{Job, Mem};
 use viz_outside::{Loaded, Shelf, ShelfFault};
 use viz_replies::{
     CERT_MOST, JOB_MOST, JobRead, Question, Reply, long_certificate, long_job, read_job,
-    reply_about,
+    reply_about, reply_to_gen, reply_to_trial,
 };
 
 /// What the job file of this name comes to.
@@ -40,7 +38,6 @@ fn reply_by_file<F: Shelf>(
     name: &str,
     shelf: &mut F,
 ) -> Result<Reply, ShelfFault>
-    requires { IsTrue (ready job.now.tree) }
     ensures reply { IfOk result (λ r. (bytes : _) × MayHold (F.files shelf.old) name.now bytes
         × IsReplyAbout job.now (Question.Check bytes) r.answer r.output.items) }
     ensures failed { IsErrOf result ShelfFault.Failed → Rose (F.faults shelf.old) (F.faults shelf.new) }
@@ -54,27 +51,6 @@ fn reply_by_file<F: Shelf>(
     }
 }
 
-/// The reply to a command about a job that was read.
-fn reply_on_job<F: Shelf>(
-    alloc: Global,
-    command: Command,
-    job: &Job,
-    shelf: &mut F,
-) -> Result<Reply, ShelfFault>
-    requires { IsTrue (ready job.now.tree) }
-    ensures reply { IfOk result (λ r. IsReplyFor (F.files shelf.old) command.entry job.now r.answer r.output.items) }
-    ensures failed { IsErrOf result ShelfFault.Failed → Rose (F.faults shelf.old) (F.faults shelf.new) }
-    ensures sure { IsSureCert (F.sure shelf.old) command.entry → ¬ IsErrOf result ShelfFault.Failed }
-    ensures counts { F.faults shelf.old ≤ F.faults shelf.new }
-    ensures check_alone { IsErrOf result ShelfFault.Failed → (job : _) × (cert : _) × (command.entry ≡ Command.Check job cert) }
-{
-    match command {
-        Command::Lay { screen, .. } => Ok(reply_about(alloc, job, &Question::Lay(screen))?),
-        Command::Prove { turns, .. } => Ok(reply_about(alloc, job, &Question::Prove(turns))?),
-        Command::Check { cert, .. } => reply_by_file(alloc, job, cert, shelf),
-    }
-}
-
 /// Why there is no reply to a command.
 #[derive(Clone, Copy, Debug, PartialEq, Eq)]
 pub enum NoReply {
@@ -84,27 +60,88 @@ pub enum NoReply {
     Unread(File),
 }
 
-/// The reply to a command. With a job file that spells no job, no other file is loaded.
+impl From<Mem> for NoReply {
+    ghost use Rattle.std.specs.Prelude.{◌≡◌};
+    ghost use Rattle.vizlog.specs.declared.files.NoReply.TheVariants.{Mem};
+
+    ghost from_gives = { λ _ none. none ≡ Mem };
+
+    fn from(_: Mem) -> Self {
+        NoReply::Mem
+    }
+}
+
+/// The reply to a question about the job file of this name.
+fn reply_of_file<F: Shelf>(
+    alloc: Global,
+    name: &str,
+    question: &Question,
+    shelf: &mut F,
+) -> Result<Reply, NoReply>
+    ensures reply { IfOk result (λ r. IsReplyOfFile (F.files shelf.old) name.now question.now r.answer r.output.items) }
+    ensures unread { IsErrOf result (NoReply.Unread File.Job) → Rose (F.faults shelf.old) (F.faults shelf.new) }
+    ensures sure { IsTrue (F.sure shelf.old name.now) → ¬ IsErrOf result (NoReply.Unread File.Job) }
+    ensures one_file { ¬ IsErrOf result (NoReply.Unread File.Certificate) }
+{
+    match load_job(alloc, name, shelf) {
+        Ok(JobRead::Read(job)) => Ok(reply_about(alloc, &job, question)?),
+        Ok(JobRead::Refused(reply)) => Ok(reply),
+        Err(ShelfFault::Failed) => Err(NoReply::Unread(File::Job)),
+        Err(ShelfFault::Mem) => Err(NoReply::Mem),
+    }
+}
+
+/// The reply to `check` about the files of these names. With a job file that spells no job, no other file is loaded.
+fn check_of_files<F: Shelf>(
+    alloc: Global,
+    job: &str,
+    cert: &str,
+    shelf: &mut F,
+) -> Result<Reply, NoReply>
+    ensures reply { IfOk result (λ r. IsCheckOfFiles (F.files shelf.old) job.now cert.now r.answer r.output.items) }
+    ensures job_unread { IsErrOf result (NoReply.Unread File.Job) → Rose (F.faults shelf.old) (F.faults shelf.new) }
+    ensures cert_unread { IsErrOf result (NoReply.Unread File.Certificate)
+        → HoldsJob (F.files shelf.old) job.now × Rose (F.faults shelf.old) (F.faults shelf.new) }
+    ensures job_sure { IsTrue (F.sure shelf.old job.now) → ¬ IsErrOf result (NoReply.Unread File.Job) }
+    ensures cert_sure { IsTrue (F.sure shelf.old cert.now) → ¬ IsErrOf result (NoReply.Unread File.Certificate) }
+{
+    match load_job(alloc, job, shelf) {
+        Ok(JobRead::Read(job)) => match reply_by_file(alloc, &job, cert, shelf) {
+            Ok(reply) => Ok(reply),
+            Err(ShelfFault::Failed) => Err(NoReply::Unread(File::Certificate)),
+            Err(ShelfFault::Mem) => Err(NoReply::Mem),
+        },
+        Ok(JobRead::Refused(refusal)) => Ok(refusal),
+        Err(ShelfFault::Failed) => Err(NoReply::Unread(File::Job)),
+        Err(ShelfFault::Mem) => Err(NoReply::Mem),
+    }
+}
+
+/// The reply to a command. About a generated job no file is loaded.
 pub fn reply_over<F: Shelf>(
     alloc: Global,
     command: Command,
     shelf: &mut F,
 ) -> Result<Reply, NoReply>
     ensures reply { IfOk result (λ r. IsReplied (F.files shelf.old) command.entry r.answer r.output.items) }
-    ensures job_unread { IsErrOf result (NoReply.Unread File.Job) → Rose (F.faults shelf.old) (F.faults shelf.new) }
+    ensures job_unread { IsErrOf result (NoReply.Unread File.Job)
+        → IsUnread (F.files shelf.old) command.entry File.Job × Rose (F.faults shelf.old) (F.faults shelf.new) }
     ensures cert_unread { IsErrOf result (NoReply.Unread File.Certificate)
         → IsUnread (F.files shelf.old) command.entry File.Certificate × Rose (F.faults shelf.old) (F.faults shelf.new) }
-    ensures job_sure { IsTrue (F.sure shelf.old (job_name command.entry)) → ¬ IsErrOf result (NoReply.Unread File.Job) }
-    ensures cert_sure { IsSureCert (F.sure shelf.old) command.entry → ¬ IsErrOf result (NoReply.Unread File.Certificate) }
+    ensures job_sure { IsSureJob (F.sure shelf.old) command.entry → ¬ IsErrOf result (NoReply.Unread File.Job) }
+    ensures cert_sure { IsSureCert (F.sure shelf.old) command.entry
+        → ¬ IsErrOf result (NoReply.Unread File.Certificate) }
+    ensures unloaded { IsFileless command.entry → shelf.new ≡ shelf.old }
 {
-    match load_job(alloc, command.job(), shelf) {
-        Ok(JobRead::Read(job)) => match reply_on_job(alloc, command, &job, shelf) {
-            Ok(reply) => Ok(reply),
-            Err(ShelfFault::Failed) => Err(NoReply::Unread(File::Certificate)),
-            Err(ShelfFault::Mem) => Err(NoReply::Mem),
-        },
-        Ok(JobRead::Refused(reply)) => Ok(reply),
-        Err(ShelfFault::Failed) => Err(NoReply::Unread(File::Job)),
-        Err(ShelfFault::Mem) => Err(NoReply::Mem),
+    match command {
+        Command::Lay { job, screen } => reply_of_file(alloc, job, &Question::Lay(screen), shelf),
+        Command::Prove { job, turns } => reply_of_file(alloc, job, &Question::Prove(turns), shelf),
+        Command::Check { job, cert } => check_of_files(alloc, job, cert, shelf),
+        Command::Gen { seed, sections } => Ok(reply_to_gen(alloc, seed, sections)?),
+        Command::Trial {
+            seed,
+            sections,
+            turns,
+        } => Ok(reply_to_trial(alloc, seed, sections, turns)?),
     }
 }

@@ -1,9 +1,9 @@
 ghost use Rattle.std.specs.Prelude.{◌≡◌, ◌≢◌, codes, IsTrue, map, string_bytes};
 ghost use Rattle.viz_outside.specs.Fault.{Rose};
-ghost use Rattle.vizlog.specs.Words.{word_at, job_name};
+ghost use Rattle.vizlog.specs.Words.{AreOfGenerated, word_at};
 ghost use Rattle.vizlog.specs.Run.{Delivers, Obeys, IsOutcome};
-ghost use Rattle.vizlog.specs.steps.Loads.{IsSureCert};
-ghost use Rattle.vizlog.specs.Headline.{IsTrueOfFile, IsFalseOfFile};
+ghost use Rattle.vizlog.specs.steps.Loads.{IsFileless, IsSureCert, IsSureJob};
+ghost use Rattle.vizlog.specs.Headline.{IsTrueOfFile, IsFalseOfFile, IsTrueOfGenerated, IsFalseOfGenerated};
 ghost use Rattle.vizlog.specs.declared.status.File.{File};
 
 use crate::files::{NoReply, reply_over};
@@ -31,9 +31,10 @@ fn obey<F: Shelf, K: Sink>(alloc: Global, command: Command, shelf: &mut F, sink:
     ensures outcome { Obeys (F.files shelf.old) command.entry
         (record { written = K.written; faults = K.faults; old = sink.old; new = sink.new }) result }
     ensures read_fault { (file : File) → result ≡ Status.ReadFault file → Rose (F.faults shelf.old) (F.faults shelf.new) }
-    ensures sure_job { IsTrue (F.sure shelf.old (job_name command.entry)) → result ≢ Status.ReadFault File.Job }
+    ensures sure_job { IsSureJob (F.sure shelf.old) command.entry → result ≢ Status.ReadFault File.Job }
     ensures sure_cert { IsSureCert (F.sure shelf.old) command.entry → result ≢ Status.ReadFault File.Certificate }
     ensures write_fault { result ≡ Status.WriteFault → Rose (K.faults sink.old) (K.faults sink.new) }
+    ensures unloaded { IsFileless command.entry → shelf.new ≡ shelf.old }
 {
     match reply_over(alloc, command, shelf) {
         Ok(reply) => deliver(sink, Status::Replied(reply.answer), reply.output.as_slice()),
@@ -51,6 +52,7 @@ fn answer<F: Shelf, K: Sink>(alloc: Global, words: &[String], shelf: &mut F, sin
     ensures sure_cert { IsTrue (F.sure shelf.old (word_at (map string_bytes words.now) 2))
         → result ≢ Status.ReadFault File.Certificate }
     ensures write_fault { result ≡ Status.WriteFault → Rose (K.faults sink.old) (K.faults sink.new) }
+    ensures unloaded { AreOfGenerated (map string_bytes words.now) → shelf.new ≡ shelf.old }
 {
     match command_of(words) {
         Some(command) => obey(alloc, command, shelf, sink),
@@ -71,9 +73,16 @@ pub fn run<F: Shelf, K: Sink>(
     // So it is where `prove` says that it is proved,
     ensures proved { result ≡ Status.Replied Answer.Done → word_at (map string_bytes words.now) 0 ≡ codes "prove"
         → IsTrueOfFile (F.files shelf.old) (word_at (map string_bytes words.now) 1) }
-    // and where a run says Violated, the assertion is false at the world of the range that is written.
-    ensures violated { result ≡ Status.Replied Answer.Violated
-        → IsFalseOfFile (F.files shelf.old) (word_at (map string_bytes words.now) 1) (K.written sink.old) (K.written sink.new) }
+    // and where `prove` says that it is violated, it is false at the world of the range that is written.
+    ensures violated { result ≡ Status.Replied Answer.Violated → word_at (map string_bytes words.now) 0 ≡ codes "prove"
+        → IsFalseOfFile (F.files shelf.old) (word_at (map string_bytes words.now) 1)
+        (K.written sink.old) (K.written sink.new) }
+    // What `trial` says is so of the job that is generated.
+    ensures trial_proved { result ≡ Status.Replied Answer.Done → word_at (map string_bytes words.now) 0 ≡ codes "trial"
+        → IsTrueOfGenerated (map string_bytes words.now) }
+    ensures trial_violated { result ≡ Status.Replied Answer.Violated
+        → word_at (map string_bytes words.now) 0 ≡ codes "trial"
+        → IsFalseOfGenerated (map string_bytes words.now) (K.written sink.old) (K.written sink.new) }
     // The words are of no form, or the reply to the command that they ask for is written.
     ensures outcome { IsOutcome (F.files shelf.old) (map string_bytes words.now)
         (record { written = K.written; faults = K.faults; old = sink.old; new = sink.new }) result }
@@ -82,6 +91,8 @@ pub fn run<F: Shelf, K: Sink>(
     ensures sure_cert { IsTrue (F.sure shelf.old (word_at (map string_bytes words.now) 2))
         → result ≢ Status.ReadFault File.Certificate }
     ensures write_fault { result ≡ Status.WriteFault → Rose (K.faults sink.old) (K.faults sink.new) }
+    // About a generated job no file is loaded.
+    ensures unloaded { AreOfGenerated (map string_bytes words.now) → shelf.new ≡ shelf.old }
 {
     answer(alloc, words, shelf, sink)
 }

@@ -39,6 +39,9 @@ const NARROW_SPLIT: &str =
 const ZERO_SPLIT: &str =
     "vizlog-cert 1\njob 0000000000000000000000000000000000000000000000000000000000000000\nsplit -360 0:1\ngrid\ngrid\n";
 
+const ONE_SECTION: &str =
+    r#"{"vizlog":1,"widths":[320,1920],"sizes":[12,24],"height":800,"fonts":[{"name":"Square","upem":1000,"ascent":800,"descent":200,"default":500,"advances":[]}],"css":["body{margin:0}div{height:40px}.c0{margin:10px 0}.c1{float:left;width:20%}.c2{clear:both}.c3{padding:1em}"],"page":{"tag":"html","children":[{"tag":"body","children":[{"tag":"div","attrs":{"class":"c2"},"children":["aaaa aaaa aaaa aaaa"]}]}]},"assert":"forall b in block: b.left >= 0 and b.right <= view.width"}"#;
+
 /// A shelf with a job file J and a certificate file C, of which these calls fail.
 fn shelf_of(alloc: Global, job: &str, cert: &str, fails: &[u32]) -> Result<MemShelf, Fail> {
     let mut files = List::new(alloc);
@@ -230,6 +233,61 @@ fn proves_and_checks(rt: HostRuntime) -> Result<(), Fail> {
             ),
         ],
     )
+}
+
+#[test]
+fn generates_and_tries(rt: HostRuntime) -> Result<(), Fail> {
+    check_rows(
+        &rt,
+        rt.alloc(),
+        &[
+            (
+                "gen 1 1",
+                "",
+                "",
+                Status::Replied(Answer::Done),
+                ONE_SECTION,
+            ),
+            ("gen 1 1001", "", "", Status::Usage, "usage\n"),
+            ("gen 01 1", "", "", Status::Usage, "usage\n"),
+            (
+                "gen 18446744073709551616 1",
+                "",
+                "",
+                Status::Usage,
+                "usage\n",
+            ),
+            ("gen 1", "", "", Status::Usage, "usage\n"),
+            (
+                "trial 1 0 0",
+                "",
+                "",
+                Status::Replied(Answer::Undecided),
+                "trial boxes 2 worlds 20813 undecided\n",
+            ),
+            (
+                "trial 1 0 41625",
+                "",
+                "",
+                Status::Replied(Answer::Done),
+                "trial boxes 2 worlds 20813 proved\n",
+            ),
+            ("trial 1 1001 1", "", "", Status::Usage, "usage\n"),
+            ("trial 1 1", "", "", Status::Usage, "usage\n"),
+        ],
+    )
+}
+
+#[test]
+fn loads_nothing_for_a_trial(rt: HostRuntime) -> Result<(), Fail> {
+    let mut sink = MemSink::new(rt.alloc(), 64, 4096, List::new(rt.alloc()))?;
+    let shelf = shelf_of(rt.alloc(), NESTED, "", &[0])?;
+    assert_eq!(rt;
+        ran(rt.alloc(), "gen 1 1", shelf, &mut sink)?,
+        Status::Replied(Answer::Done)
+    );
+    assert_eq!(rt; sink.written(), ONE_SECTION.as_bytes());
+    Ok(())
 }
 
 #[test]

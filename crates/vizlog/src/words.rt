@@ -1,19 +1,40 @@
 ghost use Rattle.std.specs.Prelude.{◌≡◌, ◌≢◌, ℕ, [], ◌∷◌, ◌<◌, ◌≤◌, ◌^◌, MatchOption, Some, None, nat_le, ◌&&◌, if◌then◌else◌, map, length, decimal, codes, string_bytes};
-ghost use Rattle.vizlog.specs.Words.{Asks, AskNothing, IsWorld, job_name};
+ghost use Rattle.vizlog.specs.Words.{Asks, AskNothing, IsWorld};
+ghost use Rattle.viz_replies.specs.declared.question.Sections.{Sections};
 
 use itoa::Buffer;
 use viz_base::World;
-use viz_replies::Screen;
+use viz_replies::{Screen, Sections};
 
 /// What the words ask for, with the names of its files.
 #[derive(Clone, Copy, Debug)]
 pub enum Command<'a> {
     /// The rendering of a job's page at a world.
-    Lay { job: &'a str, screen: Screen },
+    Lay {
+        job: &'a str,
+        screen: Screen,
+    },
     /// A certificate for a job, within so many turns.
-    Prove { job: &'a str, turns: u64 },
+    Prove {
+        job: &'a str,
+        turns: u64,
+    },
     /// The verdict on a certificate for a job.
-    Check { job: &'a str, cert: &'a str },
+    Check {
+        job: &'a str,
+        cert: &'a str,
+    },
+    /// The job that a seed tells.
+    Gen {
+        seed: u64,
+        sections: Sections,
+    },
+    /// What a search for a certificate of the job that a seed tells comes to, within so many turns.
+    Trial {
+        seed: u64,
+        sections: Sections,
+        turns: u64,
+    },
 }
 
 /// The number that a word spells in decimal, without sign or leading zero.
@@ -65,25 +86,65 @@ fn world_of(width: &str, size: &str) -> Option<World>
     Some(World { w, s })
 }
 
-/// What four words ask for: `lay JOB W S`.
-fn lay_of<'a>(verb: &str, job: &'a str, width: &str, size: &str) -> Option<Command<'a>>
-    ensures { MatchOption result (AskNothing (verb.now ∷ job.now ∷ width.now ∷ size.now ∷ []))
-        (Asks (verb.now ∷ job.now ∷ width.now ∷ size.now ∷ [])) }
+/// How many sections of a generated job a word spells.
+fn sections_of(word: &str) -> Option<Sections>
+    ensures { MatchOption result ((s : Sections) → word.now ≢ decimal s.count) (λ s. word.now ≡ decimal s.count) }
+{
+    match number_of(word) {
+        Some(number) => Sections::within(number),
+        None => None,
+    }
+}
+
+/// What `lay JOB W S` asks for.
+fn lay_of<'a>(job: &'a str, width: &str, size: &str) -> Option<Command<'a>>
+    ensures { MatchOption result (AskNothing (codes "lay" ∷ job.now ∷ width.now ∷ size.now ∷ []))
+        (Asks (codes "lay" ∷ job.now ∷ width.now ∷ size.now ∷ [])) }
 {
     if job.is_empty() {
         return None;
     }
-    if verb == "lay" {
-        match world_of(width, size) {
-            Some(world) => Some(Command::Lay {
-                job,
-                screen: Screen { world },
-            }),
-            None => None,
-        }
-    } else {
-        None
+    match world_of(width, size) {
+        Some(world) => Some(Command::Lay {
+            job,
+            screen: Screen { world },
+        }),
+        None => None,
     }
+}
+
+/// What `trial SEED N TURNS` asks for.
+fn trial_of<'a>(seed: &str, sections: &str, turns: &str) -> Option<Command<'a>>
+    ensures { MatchOption result (AskNothing (codes "trial" ∷ seed.now ∷ sections.now ∷ turns.now ∷ []))
+        (Asks (codes "trial" ∷ seed.now ∷ sections.now ∷ turns.now ∷ [])) }
+{
+    let seed = number_of(seed)?;
+    let sections = sections_of(sections)?;
+    let turns = number_of(turns)?;
+    Some(Command::Trial {
+        seed,
+        sections,
+        turns,
+    })
+}
+
+/// What four words ask for.
+fn lay_or_trial_of<'a>(
+    verb: &str,
+    second: &'a str,
+    third: &str,
+    fourth: &str,
+) -> Option<Command<'a>>
+    ensures { MatchOption result (AskNothing (verb.now ∷ second.now ∷ third.now ∷ fourth.now ∷ []))
+        (Asks (verb.now ∷ second.now ∷ third.now ∷ fourth.now ∷ [])) }
+{
+    if verb == "lay" {
+        return lay_of(second, third, fourth);
+    }
+    if verb == "trial" {
+        return trial_of(second, third, fourth);
+    }
+    None
 }
 
 /// What `prove JOB TURNS` asks for.
@@ -100,18 +161,42 @@ fn prove_of<'a>(job: &'a str, turns: &str) -> Option<Command<'a>>
     }
 }
 
-/// What three words ask for: `prove JOB TURNS` or `check JOB CERT`.
-fn prove_or_check_of<'a>(verb: &str, job: &'a str, last: &'a str) -> Option<Command<'a>>
-    ensures { MatchOption result (AskNothing (verb.now ∷ job.now ∷ last.now ∷ []))
-        (Asks (verb.now ∷ job.now ∷ last.now ∷ [])) }
+/// What `check JOB CERT` asks for.
+fn check_of<'a>(job: &'a str, cert: &'a str) -> Option<Command<'a>>
+    ensures { MatchOption result (AskNothing (codes "check" ∷ job.now ∷ cert.now ∷ []))
+        (Asks (codes "check" ∷ job.now ∷ cert.now ∷ [])) }
 {
-    if verb == "prove" {
-        return prove_of(job, last);
-    }
-    if verb != "check" || job.is_empty() || last.is_empty() {
+    if job.is_empty() || cert.is_empty() {
         return None;
     }
-    Some(Command::Check { job, cert: last })
+    Some(Command::Check { job, cert })
+}
+
+/// What `gen SEED N` asks for.
+fn gen_of<'a>(seed: &str, sections: &str) -> Option<Command<'a>>
+    ensures { MatchOption result (AskNothing (codes "gen" ∷ seed.now ∷ sections.now ∷ []))
+        (Asks (codes "gen" ∷ seed.now ∷ sections.now ∷ [])) }
+{
+    let seed = number_of(seed)?;
+    let sections = sections_of(sections)?;
+    Some(Command::Gen { seed, sections })
+}
+
+/// What three words ask for.
+fn prove_or_check_or_gen_of<'a>(verb: &str, second: &'a str, third: &'a str) -> Option<Command<'a>>
+    ensures { MatchOption result (AskNothing (verb.now ∷ second.now ∷ third.now ∷ []))
+        (Asks (verb.now ∷ second.now ∷ third.now ∷ [])) }
+{
+    if verb == "prove" {
+        return prove_of(second, third);
+    }
+    if verb == "check" {
+        return check_of(second, third);
+    }
+    if verb == "gen" {
+        return gen_of(second, third);
+    }
+    None
 }
 
 /// What the words ask for, if they are of a form. It takes no memory.
@@ -119,26 +204,15 @@ pub fn command_of(words: &[String]) -> Option<Command<'_>>
     ensures { MatchOption result (AskNothing (map string_bytes words.now)) (Asks (map string_bytes words.now)) }
 {
     match words {
-        [verb, job, width, size] => lay_of(
+        [verb, second, third, fourth] => lay_or_trial_of(
             verb.as_str(),
-            job.as_str(),
-            width.as_str(),
-            size.as_str(),
+            second.as_str(),
+            third.as_str(),
+            fourth.as_str(),
         ),
-        [verb, job, last] => prove_or_check_of(verb.as_str(), job.as_str(), last.as_str()),
-        _ => None,
-    }
-}
-
-impl<'a> Command<'a> {
-    /// The name of the job file.
-    pub fn job(self) -> &'a str
-        ensures { result.now ≡ job_name self.entry }
-    {
-        match self {
-            Command::Lay { job, .. } => job,
-            Command::Prove { job, .. } => job,
-            Command::Check { job, .. } => job,
+        [verb, second, third] => {
+            prove_or_check_or_gen_of(verb.as_str(), second.as_str(), third.as_str())
         }
+        _ => None,
     }
 }

@@ -1,12 +1,10 @@
 -- What the parts of a reply come to.
-use Rattle.std.specs.Prelude.{◌≡◌, ℕ, ◌≤◌, List, [], ◌∷◌, codes, IsTrue}
+use Rattle.std.specs.Prelude.{◌≡◌, ℕ, ◌≤◌, List, [], ◌∷◌, codes}
 use Rattle.viz_base.specs.declared.jobs.Job.{Job}
-use Rattle.lay_flow.specs.Ready.{ready}
 use Rattle.cert_text.specs.declared.certificate.Cert.{Cert}
 use Rattle.cert_text.specs.declared.certificate.CertFault.{CertFault}
 use Rattle.cert_text.specs.declared.certificate.CertFault.TheVariants as spells
-use Rattle.cert_text.specs.Grammar.{CertText}
-use Rattle.cert_check.specs.Right.{Holds}
+use Rattle.cert_text.specs.Texts.{CertText}
 use Rattle.cert_check.specs.Verdicts.{IsVerdict}
 use Rattle.cert_check.specs.declared.verdicts.Verdict.{Verdict}
 use Rattle.cert_check.specs.declared.verdicts.Verdict.TheVariants.{Accepted, Rejected}
@@ -23,10 +21,11 @@ use Rattle.viz_replies.specs.Lines.{numbered}
 use Rattle.viz_replies.specs.Jobs.{SpellsJob}
 use Rattle.viz_replies.specs.Certificates.{SpellsCert, IsNoCert}
 use Rattle.viz_replies.specs.Replies.{IsRefusal, violation_text, open_line, reject_line}
+use Rattle.viz_replies.specs.Trials.{trial_line, violated_end}
 
--- the job that the bytes spell, whose page is one that can be laid out, or their refusal
+-- the job that the bytes spell, or their refusal
 abbrev pub IsJobRead : List ℕ → JobRead → Type 0
-IsJobRead bytes (of_job.Read job) = SpellsJob bytes job × IsTrue (ready job.tree)
+IsJobRead bytes (of_job.Read job) = SpellsJob bytes job
 IsJobRead bytes (of_job.Refused reply) = IsRefusal bytes reply.answer reply.output.items
 
 -- the line is that of the certificate reader's fault; want of memory has none
@@ -60,7 +59,12 @@ IsOutcomeReply job (found.Undecided part) answer output = (answer ≡ ends.Undec
 abbrev pub IsProveReply : Job → ℕ → Answer → List ℕ → Type 0
 IsProveReply job turns answer output = (outcome : Outcome) × IsOutcome job turns outcome × IsOutcomeReply job outcome answer output
 
+-- what is replied of a search on trial
+abbrev pub IsTrialReply : Job → Outcome → Answer → List ℕ → Type 0
+IsTrialReply job (found.Proved cert) answer output = (answer ≡ ends.Done) × (output ≡ trial_line job (codes " proved\n"))
+IsTrialReply job (found.Violated world) answer output = (answer ≡ ends.Violated) × (output ≡ trial_line job (violated_end world))
+IsTrialReply job (found.Undecided part) answer output = (answer ≡ ends.Undecided) × (output ≡ trial_line job (codes " undecided\n"))
+
 -- what is replied about a certificate that was read
 abbrev pub IsVerdictOn : Job → Cert → Answer → List ℕ → Type 0
-IsVerdictOn job cert answer output =
-    (verdict : Verdict) × IsVerdict job cert verdict × (verdict ≡ Accepted → Holds job) × IsVerdictReply verdict answer output
+IsVerdictOn job cert answer output = (verdict : Verdict) × IsVerdict job cert verdict × IsVerdictReply verdict answer output

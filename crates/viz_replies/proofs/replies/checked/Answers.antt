@@ -2,8 +2,8 @@ use Rattle.std.proofs.lemmas.Result.{IfOk-weaker}
 use Rattle.viz_replies.proofs.ReplyLemmas.{few_nodes, checks, refuses}
 use Rattle.viz_replies.proofs.replies.checked.Goals as goal
 
-pub judged-requires-clause-few : goal.judged-requires-clause-few
-judged-requires-clause-few c = few_nodes c.args.bytes.now c.in-Read.cert (rw c.in-Read.is at c.in_ok-cert.ensures)
+pub judged-requires : goal.judged-requires
+judged-requires c = record { few = few_nodes c.args.bytes.now c.in-Read.cert (rw c.in-Read.is at c.in_ok-cert.ensures) }
 
 pub returns-in-Read : goal.returns-in-Read
 returns-in-Read c =

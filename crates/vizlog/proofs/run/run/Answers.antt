@@ -1,4 +1,4 @@
-use Rattle.vizlog.proofs.HeadlineLemmas.{run_accepts, run_proves, run_violates}
+use Rattle.vizlog.proofs.HeadlineLemmas.{run_accepts, run_fails, run_proves, run_tries, run_violates}
 use Rattle.vizlog.proofs.run.run.Goals as goal
 
 pub returns-clause-accepted : goal.returns-clause-accepted
@@ -9,3 +9,9 @@ returns-clause-proved g c = run_proves _ _ _ c.answer.result c.answer.ensures.ou
 
 pub returns-clause-violated : goal.returns-clause-violated
 returns-clause-violated g c = run_violates _ _ _ c.answer.result c.answer.ensures.outcome
+
+pub returns-clause-trial_proved : goal.returns-clause-trial_proved
+returns-clause-trial_proved g c = run_tries _ _ _ c.answer.result c.answer.ensures.outcome
+
+pub returns-clause-trial_violated : goal.returns-clause-trial_violated
+returns-clause-trial_violated g c = run_fails _ _ _ c.answer.result c.answer.ensures.outcome

@@ -1,0 +1,116 @@
+//! Replies about generated jobs, which no file holds.
+ghost use Rattle.std.specs.Prelude.{◌≡◌, ◌++◌, IfOk};
+ghost use Rattle.page_gen.specs.Jobs.{job_text};
+ghost use Rattle.viz_replies.specs.Lines.{numbered};
+ghost use Rattle.viz_replies.specs.Trials.{IsGenerated, IsTrial, IsTrialOf, IsTrialOn, trial_line};
+ghost use Rattle.viz_replies.specs.Headline.{IsTrueEverywhere, IsFalseWhereNamed};
+ghost use Rattle.viz_replies.specs.steps.Answers.{IsTrialReply};
+
+use crate::jobs::{JobRead, read_job};
+use crate::lines::{push_line, push_number};
+use crate::question::Sections;
+use crate::reply::{Answer, Reply};
+use cert_check::world_count;
+use page_gen::{GenFault, generate};
+use prove_search::{Outcome, prove};
+use std::alloc::Global;
+use viz_base::{Job, Mem};
+
+/// The text of the job that a seed tells.
+fn generated(alloc: Global, seed: u64, sections: Sections) -> Result<Vec<u8>, Mem>
+    ensures { IfOk result (λ text. text.items ≡ job_text seed sections.count) }
+{
+    match generate(alloc, seed, sections.count) {
+        Ok(text) => Ok(text),
+        Err(GenFault::Mem) => Err(Mem),
+        Err(GenFault::TooLarge) => unreachable!(),
+    }
+}
+
+/// The whole reply to `gen`: the text of the job that a seed tells.
+pub fn reply_to_gen(alloc: Global, seed: u64, sections: Sections) -> Result<Reply, Mem>
+    ensures { IfOk result (λ r. IsGenerated seed sections.count r.answer r.output.items) }
+{
+    Ok(Reply {
+        answer: Answer::Done,
+        output: generated(alloc, seed, sections)?,
+    })
+}
+
+/// The line of a job's trial, which ends with these words and numbers.
+fn trial(
+    alloc: Global,
+    answer: Answer,
+    job: &Job,
+    words: &[u8],
+    numbers: &[u64],
+) -> Result<Reply, Mem>
+    ensures { IfOk result (λ r. (r.answer ≡ answer)
+        × (r.output.items ≡ trial_line job.now (numbered words.now numbers.now))) }
+{
+    let mut output = Vec::new(alloc);
+    output.extend_from_slice(b"trial boxes")?;
+    push_number(&mut output, job.tree.boxes.len() as u64)?;
+    output.extend_from_slice(b" worlds")?;
+    push_number(&mut output, world_count(job.range))?;
+    push_line(&mut output, words, numbers)?;
+    Ok(Reply { answer, output })
+}
+
+/// What is replied of a search on trial.
+fn outcome_of_trial(alloc: Global, job: &Job, outcome: &Outcome) -> Result<Reply, Mem>
+    ensures { IfOk result (λ r. IsTrialReply job.now outcome.now r.answer r.output.items) }
+{
+    match outcome {
+        Outcome::Proved(_) => trial(alloc, Answer::Done, job, b" proved", &[]),
+        Outcome::Violated(world) => {
+            let numbers = [u64::from(world.w), u64::from(world.s)];
+            trial(alloc, Answer::Violated, job, b" violated", &numbers)
+        }
+        Outcome::Undecided(_) => trial(alloc, Answer::Undecided, job, b" undecided", &[]),
+    }
+}
+
+/// What is replied of a job's trial.
+fn tried(alloc: Global, job: &Job, turns: u64) -> Result<Reply, Mem>
+    ensures { IfOk result (λ r. IsTrialOf job.now turns r.answer r.output.items) }
+{
+    let outcome = prove(alloc, job, turns)?;
+    outcome_of_trial(alloc, job, &outcome)
+}
+
+/// What is replied of the trial of the job that these bytes spell.
+fn tried_on_bytes(alloc: Global, bytes: &[u8], turns: u64) -> Result<Reply, Mem>
+    ensures { IfOk result (λ r. IsTrialOn bytes.now turns r.answer r.output.items) }
+{
+    match read_job(alloc, bytes)? {
+        JobRead::Read(job) => tried(alloc, &job, turns),
+        JobRead::Refused(reply) => Ok(reply),
+    }
+}
+
+/// What is replied to `trial`, with its exact output alone.
+fn reply_of_trial(alloc: Global, seed: u64, sections: Sections, turns: u64) -> Result<Reply, Mem>
+    ensures { IfOk result (λ r. IsTrial seed sections.count turns r.answer r.output.items) }
+{
+    let text = generated(alloc, seed, sections)?;
+    tried_on_bytes(alloc, text.as_slice(), turns)
+}
+
+/// The whole reply to `trial`: the job that a seed tells is generated, built and proved.
+pub fn reply_to_trial(
+    alloc: Global,
+    seed: u64,
+    sections: Sections,
+    turns: u64,
+) -> Result<Reply, Mem>
+    // Where the job is said to be proved, its assertion is true of the CSS 2.1 rendering at every world of its range,
+    ensures proved { IfOk result (λ r. r.answer ≡ Answer.Done → IsTrueEverywhere (job_text seed sections.count)) }
+    // and where it is said to be violated, it is false at the world of the range that is named.
+    ensures violated { IfOk result (λ r. r.answer ≡ Answer.Violated
+        → IsFalseWhereNamed (job_text seed sections.count) r.output.items) }
+    // The answer and the output are those of the reply.
+    ensures outcome { IfOk result (λ r. IsTrial seed sections.count turns r.answer r.output.items) }
+{
+    reply_of_trial(alloc, seed, sections, turns)
+}
