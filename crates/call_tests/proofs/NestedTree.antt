@@ -1,9 +1,10 @@
 -- A page of a root, a block in it, and a float and a block in that.
-use Rattle.std.proofs.Common.{◌≡◌, ℕ, ◌≤◌, ◌<◌, zero, suc, Bool, true, false, List, [], ◌∷◌, length, Option, Some, None, slice_get, refl, ap, subst, lit≤, IsTrue, nat_lt, arith}
+use Rattle.std.proofs.Common.{◌≡◌, ℕ, ◌≤◌, ◌<◌, zero, suc, Bool, true, false, List, [], ◌∷◌, length, map, Option, Some, None, slice_get, refl, ap, subst, lit≤, IsTrue, nat_lt, arith}
 use Rattle.std.specs.List.{list_all}
 use Rattle.std.specs.Str.{chars}
 use Rattle.std.proofs.lemmas.Str.{chars-nil}
-use Rattle.viz_base.specs.Trees.{named_nodes, has_box, is_chars, IsBoxAt, IsBoxTree}
+use Rattle.viz_base.specs.Orders.{IsInOrder, is_from}
+use Rattle.viz_base.specs.Trees.{named_nodes, has_box, is_chars, is_inline, IsBoxAt, IsBoxTree}
 use Rattle.viz_base.specs.declared.fonts.Font.{Font}
 use Rattle.viz_base.specs.declared.styles.Style.{Style}
 use Rattle.viz_base.specs.declared.trees.BoxNode.{BoxNode}
@@ -52,6 +53,19 @@ few_letters = rw chars-nil (lit≤ tt)
 no_chars : (at : ℕ) (b : BoxNode) → slice_get boxes at ≡ Some b → IsTrue (is_chars b.kind) → ⊥
 no_chars = of_four (λ _ (b : BoxNode). IsTrue (is_chars b.kind) → ⊥) root outer floated inner (λ h. cc) (λ h. cc) (λ h. cc) (λ h. cc)
 
+-- only the float stands between a box and a child of its, which is a child of it too
+in_order : IsInOrder (map (λ (b : BoxNode). b.parent) boxes)
+in_order at between zero parent e f after before = cc
+in_order at between (suc zero) parent e f after before = absurd (omega arith)
+in_order at between (suc (suc zero)) parent e f after before = let is : 1 ≡ at = cc in absurd (omega arith)
+in_order at between (suc (suc (suc zero))) parent e f after before =
+    let is : 1 ≡ at = cc in
+    let float : between ≡ 2 = omega arith in
+    let own : Some (Some 1) ≡ Some parent = subst (λ k. slice_get parents k ≡ Some parent) float f in
+    let same : Some 1 ≡ parent = cc in
+    subst (λ k. IsTrue (is_from k parent)) is (subst (λ o. IsTrue (is_from 1 o)) same refl)
+in_order at between (suc (suc (suc (suc child)))) parent e f after before = absurd (none_past child (Some at) e)
+
 module _ (s0 s1 s2 s3 : Style) (font : Font) (p0 : IsSimple s0) (p1 : IsSimple s1) (p2 : IsSimple s2) (p3 : IsSimple s3) where
   abbrev styles : List Style
   styles = s0 ∷ s1 ∷ s2 ∷ s3 ∷ []
@@ -73,6 +87,8 @@ module _ (s0 s1 s2 s3 : Style) (font : Font) (p0 : IsSimple s0) (p1 : IsSimple s
   pub nested : IsBoxTree boxes styles (font ∷ []) parents
   nested = record {
     root = λ b is. subst (λ (m : BoxNode). m.parent ≡ None) (let e : root ≡ b = cc in e) refl;
+    root_is_block = λ b is. subst (λ (m : BoxNode). is_inline m.kind ≡ false) (let e : root ≡ b = cc in e) refl;
+    in_order = in_order;
     each = each_box;
     fonts_there = each_style (λ s. s.font < 1) (λ s p. let zero_font = p.font in omega arith);
     nodes_there = each_style (λ s. IsTrue (list_all (λ n. nat_lt n 4) (named_nodes s))) (λ s p. ap (list_all (λ n. nat_lt n 4)) p.names);

@@ -1,8 +1,7 @@
 //! Verdicts on a page without boxes, whose formula compares the viewport's width, at 81 widths of one size.
 ghost use Rattle.std.specs.Prelude.{◌≡◌, [], length, IsTrue, IfOk};
 ghost use Rattle.viz_base.specs.Formulas.{is_bound_in, has_small_terms};
-ghost use Rattle.lay_flow.specs.Ready.{ready};
-ghost use Rattle.cert_check.specs.Nodes.{nodes_of};
+ghost use Rattle.cert_path.specs.Nodes.{nodes_of};
 
 use crate::empty_trees::no_boxes;
 use cert_check::{Reject, Verdict, check, first_untrue, holds_at};
@@ -37,7 +36,6 @@ fn at_most(alloc: Global, all: bool) -> Result<Formula, AllocError>
 
 /// The job of the widths from 320 to 400 px.
 fn job(alloc: Global, all: bool) -> Result<Job, Mem>
-    ensures ready { IfOk result (λ job. IsTrue (ready job.tree)) }
     ensures range { IfOk result (λ job. job.range ≡ record { wl = 320; wh = 400; sl = 16; sh = 16 }) }
 {
     Ok(Job {

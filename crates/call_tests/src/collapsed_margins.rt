@@ -11,20 +11,6 @@ use viz_base::{
 };
 use viz_calc::Plain;
 
-#[test]
-fn collapses_margins(rt: HostRuntime) -> Result<(), Fail> {
-    let mut calc = Plain::new(World { w: 320, s: 16 });
-    let mut run = Run::empty(&mut calc)?;
-    assert_eq!(rt; run.value(&mut calc)?, 0);
-    for margin in [1, -1280, -1, 702_501_070_736, 1280, 640] {
-        run.join(&mut calc, &margin)?;
-    }
-    assert_eq!(rt; run.pos, 702_501_070_736);
-    assert_eq!(rt; run.neg, -1280);
-    assert_eq!(rt; run.value(&mut calc)?, 702_501_069_456);
-    Ok(())
-}
-
 /// A style with this margin and this border above, and this padding on the left.
 fn style(float: Option<Side>, margin: Length, border: i64, padding: i64) -> Style
     requires bounded { is_bounded margin ≡ true }

@@ -10,13 +10,9 @@ mod built_jobs;
 #[cfg(test)]
 mod calc_worlds;
 #[cfg(test)]
-mod cascade_winners;
-#[cfg(test)]
 mod certificate_texts;
 #[cfg(test)]
 mod checked_certificates;
-#[cfg(test)]
-mod checked_derivations;
 #[cfg(test)]
 mod collapsed_margins;
 #[cfg(test)]
@@ -24,25 +20,15 @@ mod computed_styles;
 #[cfg(test)]
 mod empty_trees;
 #[cfg(test)]
-mod formula_texts;
-#[cfg(test)]
-mod full_certificates;
+mod generated_texts;
 #[cfg(test)]
 mod judged_formulas;
 #[cfg(test)]
-mod placed_floats;
-#[cfg(test)]
-mod printed_boxes;
+mod property_columns;
 #[cfg(test)]
 mod raw_jobs;
 #[cfg(test)]
-mod row_sums;
-#[cfg(test)]
 mod searched_proofs;
-#[cfg(test)]
-mod selector_texts;
-#[cfg(test)]
-mod sheet_texts;
 #[cfg(test)]
 mod symbolic_numbers;
 #[cfg(test)]
@@ -51,8 +37,6 @@ mod token_texts;
 mod used_lengths;
 #[cfg(test)]
 mod used_widths;
-#[cfg(test)]
-mod value_texts;
 #[cfg(test)]
 mod whole_renderings;
 #[cfg(test)]

@@ -1,8 +1,10 @@
-ghost use Rattle.std.specs.Prelude.{◌≡◌, ◌≤◌, IsTrue, IfOk, length};
+ghost use Rattle.std.specs.Prelude.{◌≡◌, ℕ, ◌<◌, ◌≤◌, Some, IsTrue, IfOk, length, slice_get};
 ghost use Rattle.std.specs.Str.{chars};
 ghost use Rattle.std.specs.List.{list_all};
+ghost use Rattle.viz_base.specs.Orders.{is_from};
 ghost use Rattle.viz_base.specs.Pages.{IsPage, has_lower_names, is_element_at, is_lower, parent_fits, text_of};
 ghost use Rattle.viz_base.specs.declared.nodes.Attr.{Attr};
+ghost use Rattle.viz_base.specs.declared.nodes.Node.{Node};
 
 use crate::faults::Fault;
 use crate::json::{at, list_at, number_at, text_at};
@@ -30,6 +32,37 @@ fn parent_fits(nodes: &[Node], at: usize, parent: Option<u32>) -> bool
             let parent = parent as usize;
             parent < at && is_element_at(nodes, parent)
         }
+    }
+}
+
+/// Whether the parent stands at a place or after it.
+fn is_from(at: usize, parent: Option<u32>) -> bool
+    ensures { result ≡ is_from at parent }
+{
+    match parent {
+        None => false,
+        Some(parent) => at <= parent as usize,
+    }
+}
+
+/// Whether all nodes between two places have their parents at the first or after it.
+fn are_from(nodes: &[Node], at: usize, end: usize) -> bool
+    ensures { IsTrue result → (between : ℕ) (n : Node) → slice_get nodes.now between ≡ Some n
+        → at < between → between < end → IsTrue (is_from at n.parent) }
+{
+    nodes.iter().enumerate().all(|(between, node)| between <= at
+        || end <= between
+        || is_from(at, node.parent))
+}
+
+/// Whether all nodes between the parent of a node and its place are in this parent.
+fn follows(nodes: &[Node], at: usize, parent: Option<u32>) -> bool
+    ensures { IsTrue result → (p between : ℕ) (n : Node) → parent ≡ Some p → slice_get nodes.now between ≡ Some n
+        → p < between → between < at → IsTrue (is_from p n.parent) }
+{
+    match parent {
+        None => true,
+        Some(parent) => are_from(nodes, parent as usize, at),
     }
 }
 
@@ -93,10 +126,10 @@ fn is_page(alloc: Global, nodes: &[Node]) -> Result<bool, AllocError>
     ensures { IfOk result (λ yes. IsTrue yes → IsPage nodes.now) }
 {
     for (at, node) in nodes.iter().enumerate() {
-        if !parent_fits(nodes, at, node.parent) || !is_short(&node.body) {
+        if !parent_fits(nodes, at, node.parent) || !follows(nodes, at, node.parent) {
             return Ok(false);
         }
-        if !has_lower_names(alloc, &node.body)? {
+        if !is_short(&node.body) || !has_lower_names(alloc, &node.body)? {
             return Ok(false);
         }
     }
