@@ -5,7 +5,8 @@ use Rattle.std.specs.Option.{option_map_or}
 use Rattle.std.specs.Str.{chars}
 use Rattle.std.proofs.lemmas.Option.{slice_get_within, slice_get-map}
 use Rattle.viz_base.specs.Pages.{IsPage, is_element}
-use Rattle.viz_base.specs.Trees.{IsBoxTree, IsBoxAt, AreAlikeButSize, has_box, is_chars, is_leaf, is_line, is_same_size, named_nodes}
+use Rattle.viz_base.specs.Orders.{IsInOrder}
+use Rattle.viz_base.specs.Trees.{IsBoxTree, IsBoxAt, AreAlikeButSize, has_box, is_chars, is_inline, is_leaf, is_line, is_same_size, named_nodes}
 use Rattle.viz_base.specs.declared.fonts.Font.{Font}
 use Rattle.viz_base.specs.declared.nodes.Body.{Body}
 use Rattle.viz_base.specs.declared.nodes.Node.{Node}
@@ -332,9 +333,13 @@ module _ (nodes : List Node) (styles : List Style) (fonts : List Font) (page : I
     one_sort = one_sort nodes styles page none at b e;
   }
 
-  pub box_tree : blocks_in_inlines (page_parts nodes styles) ≡ [] → IsBoxTree (page_boxes nodes styles) (tree_styles nodes styles) fonts (tree_parents nodes)
-  box_tree none = record {
+  -- what the last two promise is proved above this crate
+  pub box_tree : blocks_in_inlines (page_parts nodes styles) ≡ [] → ((b : BoxNode) → slice_get (page_boxes nodes styles) 0 ≡ Some b → is_inline b.kind ≡ false)
+      → IsInOrder (map (λ (b : BoxNode). b.parent) (page_boxes nodes styles)) → IsBoxTree (page_boxes nodes styles) (tree_styles nodes styles) fonts (tree_parents nodes)
+  box_tree none block in_order = record {
     root = λ b e. root_alone nodes styles page b e;
+    root_is_block = block;
+    in_order = in_order;
     each = λ at b e. box_fits none at b e;
     fonts_there = fonts_there;
     nodes_there = nodes_there;

@@ -2,18 +2,16 @@ ghost use Rattle.std.specs.Prelude.{◌≡◌, ◌≢◌, ◌<◌, ◌≤◌, �
 ghost use Rattle.viz_base.specs.Pages.{has_tag, is_element_at, text_of};
 ghost use Rattle.viz_base.specs.declared.nodes.Node.{Node};
 ghost use Rattle.std.specs.Str.{chars};
-ghost use Rattle.viz_base.specs.Trees.{IsBoxTree, ascends, has_box, is_anon, is_chars, is_inline_level, is_leaf, is_replaced};
+ghost use Rattle.viz_base.specs.Trees.{ascends, has_box, is_anon, is_chars, is_inline_level, is_leaf, is_replaced};
 ghost use Rattle.viz_base.specs.declared.trees.BoxNode.{BoxNode};
 ghost use Rattle.layout_semantics.specs.Blocks.{parent_of};
 ghost use Rattle.layout_semantics.specs.Elements.{ancestors, is_closed, is_hidden, is_shown, node_passes};
 ghost use Rattle.layout_semantics.specs.Order.{kids_of, IsOnPage};
-ghost use Rattle.layout_semantics.specs.BoxTrees.{clips_at, page_boxes, page_parts, tree_parents, tree_styles};
-ghost use Rattle.layout_semantics.specs.Refusals.{blocks_in_inlines};
+ghost use Rattle.layout_semantics.specs.BoxTrees.{clips_at, page_boxes, tree_styles};
 ghost use Rattle.layout_laws.specs.Apart.{IsBlockBetween};
-ghost use Rattle.layout_laws.specs.Styled.{AreStylesOf};
 ghost use Rattle.layout_laws.specs.Viewport.{IsFirstBody};
 
-use viz_base::{Font, List, Page, Style};
+use viz_base::{List, Page, Style};
 
 /// Boxes stand in document order (CSS 2.1, 3.1): a box before the boxes in it, and these in ascending order.
 pub fn a_box_comes_before_its_content(page: &Page, styles: &List<Style>, at: usize)
@@ -135,15 +133,6 @@ pub fn a_block_stands_between_two_anonymous_blocks(
         → is_anon d.kind ≡ true
         → IsBlockBetween (tree_styles page.now.nodes styles.now)
         (page_boxes page.now.nodes styles.now) b.kids first second }
-{}
-
-/// Where no block-level box in normal flow is in an inline box, the boxes of a page and its styles are a box tree: each
-/// fact of `BoxTree` holds.
-pub fn the_boxes_of_a_page_are_a_tree(page: &Page, styles: &List<Style>, fonts: &List<Font>)
-    requires styled { AreStylesOf page.now.nodes styles.now fonts.now }
-    requires no_block_in_inlines { blocks_in_inlines (page_parts page.now.nodes styles.now) ≡ [] }
-    ensures { IsBoxTree (page_boxes page.now.nodes styles.now) (tree_styles page.now.nodes styles.now) fonts.now
-        (tree_parents page.now.nodes) }
 {}
 
 /// The overflow of the first `body` in an `html` whose own is visible goes to the viewport, and its box does not clip

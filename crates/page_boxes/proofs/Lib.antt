@@ -12,6 +12,7 @@ pub mod FontSteps
 pub mod ExtentSteps
 pub mod ReachSteps
 pub mod PageSteps
+pub mod DocumentOrder
 pub mod PageReach
 pub mod Together
 pub mod OnePage

@@ -33,7 +33,7 @@ use Rattle.layout_laws.proofs.Above.{ancestors_are, parent_is}
 use Rattle.layout_laws.proofs.PageParts.{no_chars, part_parent, slice_some}
 use Rattle.layout_laws.proofs.BoxLaws.{page_arranged}
 use Rattle.layout_laws.proofs.BoxFacts.{item_known, item_part, no_anon, no_line, page_box_is, tree_style_at}
-use Rattle.layout_laws.proofs.TreeFacts.{box_tree}
+use Rattle.page_boxes.proofs.DocumentOrder.{tree_of_page}
 use Rattle.page_boxes.specs.steps.Spaces.{keeps_behind_part, spaces_walk, squeezed, squeezed_part}
 use Rattle.page_boxes.specs.steps.Tables.{held, put}
 use Rattle.page_boxes.proofs.PageSteps.{shown_fits, spaces_are, text_parent}
@@ -78,7 +78,7 @@ in_walk table (q ∷ qs) p i =
 
 module _ (nodes : List Node) (styles : List Style) (fonts : List Font) (page : IsPage nodes) (styled : AreStylesOf nodes styles fonts) (none : blocks_in_inlines (page_parts nodes styles) ≡ []) where
   tree : IsBoxTree (page_boxes nodes styles) (tree_styles nodes styles) fonts (tree_parents nodes)
-  tree = box_tree nodes styles fonts page styled none
+  tree = tree_of_page nodes styles fonts page styled none
 
   abbrev items : List Item
   items = items_of (page_parts nodes styles)

@@ -22,12 +22,13 @@ use Rattle.layout_laws.proofs.Runs.{found_in}
 use Rattle.layout_laws.proofs.PageParts.{from_page, page_rises}
 use Rattle.layout_laws.proofs.BoxFacts.{item_known}
 use Rattle.layout_laws.proofs.BoxLaws.{page_arranged}
-use Rattle.layout_laws.proofs.TreeFacts.{box_tree, length_enumerated, length_mapped}
+use Rattle.layout_laws.proofs.TreeFacts.{length_enumerated, length_mapped}
 use Rattle.page_boxes.specs.Trees.{IfNamed, page_tree, unless_refused}
 use Rattle.page_boxes.specs.steps.Leads.{ahead_of, leads_walk, with_blocks}
 use Rattle.page_boxes.specs.steps.Places.{count_walk, places_walk, with_all}
 use Rattle.page_boxes.specs.steps.Refusing.{block_in, inline_nodes}
 use Rattle.page_boxes.specs.steps.Extents.{far_of, sizes_walk}
+use Rattle.page_boxes.proofs.DocumentOrder.{tree_of_page}
 use Rattle.page_boxes.proofs.PageReach.{page_known}
 use Rattle.page_boxes.proofs.ReachSteps.{far_is}
 use Rattle.page_boxes.proofs.KidSteps.{built}
@@ -234,7 +235,7 @@ module _ (nodes : List Node) (styles : List Style) (fonts : List Font) where
       subst (λ bs. IsBoxTree bs used copies parents) (sym p)
       (subst (λ us. IsBoxTree (page_boxes nodes styles) us copies parents) (sym q)
       (subst (λ fs. IsBoxTree (page_boxes nodes styles) (tree_styles nodes styles) fs parents) (sym r)
-      (subst (λ ps. IsBoxTree (page_boxes nodes styles) (tree_styles nodes styles) fonts ps) (sym s) (box_tree nodes styles fonts page styled b))))
+      (subst (λ ps. IsBoxTree (page_boxes nodes styles) (tree_styles nodes styles) fonts ps) (sym s) (tree_of_page nodes styles fonts page styled b))))
 
   pub far_eq : IsPage nodes → AreStylesOf nodes styles fonts → blocks_in_inlines (page_parts nodes styles) ≡ []
       → (boxes : List BoxNode) (used : List Style) (parents : List (Option ℕ)) → boxes ≡ page_boxes nodes styles → used ≡ tree_styles nodes styles → parents ≡ tree_parents nodes

@@ -6,6 +6,7 @@ mod copies;
 mod extents;
 mod faults;
 mod fonts;
+pub mod laws;
 mod leads;
 mod letters;
 mod nodes;

@@ -1,7 +1,8 @@
-use Rattle.std.specs.Prelude.{◌≡◌, ℕ, ◌<◌, ◌≤◌, Bool, true, false, not, nat_lt, ◌==◌, ◌&&◌, ◌||◌, List, [], ◌∷◌, ◌++◌, length, slice_get, Option, Some, None, is_some, IsTrue}
+use Rattle.std.specs.Prelude.{◌≡◌, ℕ, ◌<◌, ◌≤◌, Bool, true, false, not, nat_lt, ◌==◌, ◌&&◌, ◌||◌, List, [], ◌∷◌, ◌++◌, length, map, slice_get, Option, Some, None, is_some, IsTrue}
 use Rattle.std.specs.List.{list_all, list_any}
 use Rattle.std.specs.Option.{option_map_or}
 use Rattle.std.specs.Str.{chars}
+use Rattle.viz_base.specs.Orders.{IsInOrder}
 use Rattle.viz_base.specs.Styles.{sides_of}
 use Rattle.viz_base.specs.declared.fonts.Font.{Font}
 use Rattle.viz_base.specs.declared.lengths.Length.{Length}
@@ -179,6 +180,8 @@ pub record IsBoxAt (boxes : List BoxNode) (nodes : ℕ) (styles : List Style) (a
 pub record IsBoxTree (boxes : List BoxNode) (styles : List Style) (fonts : List Font) (parents : List (Option ℕ)) : Type 0 where
   -- the first box, where there is one, is the root
   pub root : (b : BoxNode) → slice_get boxes 0 ≡ Some b → b.parent ≡ None
+  pub root_is_block : (b : BoxNode) → slice_get boxes 0 ≡ Some b → is_inline b.kind ≡ false
+  pub in_order : IsInOrder (map (λ (b : BoxNode). b.parent) boxes)
   pub each : (at : ℕ) (b : BoxNode) → slice_get boxes at ≡ Some b → IsBoxAt boxes (length styles) styles at b
   pub fonts_there : (node : ℕ) (s : Style) → slice_get styles node ≡ Some s → s.font < length fonts
   pub nodes_there : (node : ℕ) (s : Style) → slice_get styles node ≡ Some s → IsTrue (list_all (λ n. nat_lt n (length styles)) (named_nodes s))

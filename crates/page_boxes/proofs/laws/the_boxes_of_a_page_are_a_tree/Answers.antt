@@ -1,0 +1,4 @@
+use Rattle.page_boxes.proofs.DocumentOrder.{tree_of_page}
+
+abbrev pub returns
+returns c = tree_of_page c.args.page.now.nodes c.args.styles.now c.args.fonts.now c.args.page.now.ok c.requires.styled c.requires.no_block_in_inlines
