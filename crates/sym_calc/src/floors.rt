@@ -1,5 +1,6 @@
-ghost use Rattle.std.specs.Prelude.{◌≡◌, [], ◌∷◌, ◌++◌, false, is_some, length, position, take, OnErr, OnOk};
+ghost use Rattle.std.specs.Prelude.{◌≡◌, [], ◌∷◌, ◌++◌, false, is_some, length, position, slice_get, take, OnErr, OnOk};
 ghost use Rattle.std.specs.List.{list_any};
+ghost use Rattle.std.specs.Option.{option_copied};
 ghost use Rattle.cert_path.specs.Shapes.{same_row};
 
 use indexmap::IndexSet;
@@ -94,6 +95,13 @@ impl Floors {
         ensures { result ≡ length self.now }
     {
         self.inner.len()
+    }
+
+    /// The floor at a place, from 0; none past the end.
+    pub fn get(&self, place: usize) -> Option<&Floor>
+        ensures { option_copied result ≡ slice_get self.now place }
+    {
+        self.inner.get_index(place)
     }
 
     /// The place of a floor, if it is among them.

@@ -11,6 +11,7 @@ mod sym;
 mod troubles;
 
 pub use divisions::{quotient, remainder};
+pub use facts::add_floor;
 pub use floors::{Floor, Floors, same_row};
 pub use laws::{
     answers_are_refuted_below_their_path, kept_worlds_are_those_of_the_path, sound_paths_are_known,
