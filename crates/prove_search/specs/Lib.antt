@@ -2,3 +2,4 @@ pub mod Halves
 pub mod Outcomes
 pub mod Finds
 pub mod Laws
+pub mod Seekers

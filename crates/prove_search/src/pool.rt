@@ -1,0 +1,129 @@
+use crate::values::{floor_of, value_of};
+use lin_row::Row;
+use std::alloc::Global;
+use viz_base::{Mem, World};
+
+/// A world of a path, with what the path's variables are there: the width, the size, and the floors.
+#[derive(Debug, Drop)]
+pub struct Known {
+    /// By the variables' numbers.
+    pub values: Vec<i128>,
+}
+
+/// What the known worlds tell of the sign of a row.
+#[derive(Clone, Copy, Debug)]
+pub enum Signs {
+    /// Nothing.
+    Unknown,
+    /// Whether it is at least 0 at each of them.
+    Same(bool),
+    /// It is at least 0 at one of them, and below 0 at another.
+    Both,
+}
+
+/// Worlds of a path. The first stands for all.
+#[derive(Debug, Drop)]
+pub struct Pool {
+    /// The worlds.
+    pub worlds: Vec<Known>,
+}
+
+impl Known {
+    /// A world of the range, where no floor is named yet.
+    pub fn new(alloc: Global, world: World) -> Result<Self, Mem> {
+        let mut values = Vec::new(alloc);
+        values.push(i128::from(world.w))?;
+        values.push(i128::from(world.s))?;
+        Ok(Known { values })
+    }
+
+    /// The world.
+    pub fn world(&self) -> Option<World> {
+        let w = u32::try_from(*self.values.first()?).ok()?;
+        let s = u32::try_from(*self.values.get(1)?).ok()?;
+        Some(World { w, s })
+    }
+
+    /// Whether a row is at least 0 here, if its value is in `i128`.
+    fn sign_of(&self, row: &Row) -> Option<bool> {
+        let value = value_of(row, self.values.as_slice())?;
+        Some(value >= 0)
+    }
+
+    /// Adds the value of a floor, which is the next variable. False where it is outside `i128`.
+    fn name(&mut self, row: &Row, by: i128) -> Result<bool, Mem> {
+        match floor_of(row, by, self.values.as_slice()) {
+            Some(value) => {
+                self.values.push(value)?;
+                Ok(true)
+            }
+            None => Ok(false),
+        }
+    }
+}
+
+impl Pool {
+    /// No worlds.
+    pub fn new(alloc: Global) -> Self {
+        Pool {
+            worlds: Vec::new(alloc),
+        }
+    }
+
+    /// What the worlds tell of the sign of a row.
+    pub fn signs_of(&self, row: &Row) -> Signs {
+        let mut signs = Signs::Unknown;
+        for known in &self.worlds {
+            if let Some(yes) = known.sign_of(row) {
+                signs = joined(signs, yes);
+            }
+        }
+        signs
+    }
+
+    /// Names a floor, which is the next variable, at each world. False where one of its values is outside `i128`.
+    pub fn name(&mut self, row: &Row, by: i128) -> Result<bool, Mem> {
+        for known in self.worlds.iter_mut() {
+            if !known.name(row, by)? {
+                return Ok(false);
+            }
+        }
+        Ok(true)
+    }
+
+    /// Forgets all variables but the first ones.
+    pub fn forget(&mut self, variables: usize) {
+        for known in self.worlds.iter_mut() {
+            known.values.truncate(variables);
+        }
+    }
+
+    /// The worlds at which a row is at least 0, and those at which it is below 0.
+    pub fn parted(self, alloc: Global, row: &Row) -> Result<(Pool, Pool), Mem> {
+        let Pool { worlds } = self;
+        let mut first = Vec::new(alloc);
+        let mut second = Vec::new(alloc);
+        for known in worlds {
+            match known.sign_of(row) {
+                Some(true) => first.push(known)?,
+                Some(false) => second.push(known)?,
+                None => {}
+            }
+        }
+        Ok((Pool { worlds: first }, Pool { worlds: second }))
+    }
+
+    /// The world that stands for all.
+    pub fn first_world(&self) -> Option<World> {
+        self.worlds.first()?.world()
+    }
+}
+
+/// What is told by signs and by one more.
+fn joined(signs: Signs, yes: bool) -> Signs {
+    match signs {
+        Signs::Unknown => Signs::Same(yes),
+        Signs::Same(other) if other == yes => Signs::Same(other),
+        _ => Signs::Both,
+    }
+}

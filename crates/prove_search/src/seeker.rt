@@ -1,0 +1,347 @@
+ghost use Rattle.prove_search.specs.Seekers.{seeker_state, number_at};
+
+use crate::cones::{cone_of, renumbered, renumbered_floors};
+use crate::pool::{Known, Pool, Signs};
+use crate::renumbering::{Numbering, copied};
+use lin_proof::{Answer, Derivation};
+use lin_row::{Row, RowFault};
+use lin_search::{Search, refute};
+use std::alloc::Global;
+use sym_calc::{Floor, Floors, Path, add_floor, quotient, remainder};
+use viz_base::{List, Mem};
+use viz_calc::{Calc, Halt};
+
+/// How many cases and pairs of rows are tried for one answer.
+pub const LIMIT: u64 = 4096;
+
+/// An answer that was found, with its reason.
+#[derive(Debug, Drop)]
+struct Found {
+    yes: bool,
+    /// From the facts of the path, of the cone and of the contrary, numbered in this order.
+    why: Derivation,
+    /// The places of the floors on which the row rests.
+    cone: Vec<u32>,
+}
+
+/// A comparison that was answered.
+#[derive(Clone, Copy, Debug)]
+struct Asked {
+    /// The number of its row among all that were asked about.
+    row: usize,
+    /// How many floors the run had then.
+    floors: u32,
+}
+
+/// A row whose sign is left open on a path.
+#[derive(Debug, Drop)]
+pub struct Opening {
+    /// The floors on which it rests and that the path doesn't name yet, in order.
+    pub floors: Vec<Floor>,
+    /// The row, over the variables of the path and then these floors.
+    pub row: Row,
+    /// A world of the path that was found on the way.
+    pub point: Option<Known>,
+}
+
+/// Arithmetic at all worlds of a path at once, over the same rows as those of `Sym`. It answers comparisons itself, and
+/// notes the answers with their reasons; it halts at the first one that has no answer.
+#[derive(Drop)]
+pub struct Seeker<'a> {
+    path: &'a Path,
+    pool: Pool,
+    rows: List<Row>,
+    floors: Floors,
+    /// The facts of the path.
+    ground: List<Row>,
+    /// Each row that was answered, divided by 1.
+    answered: Floors,
+    found: Vec<Found>,
+    tape: Vec<Asked>,
+    open: Option<Opening>,
+    coeffs: u64,
+    opens: u64,
+}
+
+impl<'a> Seeker<'a> {
+    /// The calc of a path, with known worlds of it.
+    pub fn new(path: &'a Path, pool: Pool) -> Result<Self, Mem> {
+        let alloc = path.facts.allocator();
+        Ok(Seeker {
+            path,
+            pool,
+            rows: List::new(alloc),
+            floors: Floors::new(alloc),
+            ground: path.facts.clone()?,
+            answered: Floors::new(alloc),
+            found: Vec::new(alloc),
+            tape: Vec::new(alloc),
+            open: None,
+            coeffs: 0,
+            opens: 0,
+        })
+    }
+
+    fn alloc(&self) -> Global {
+        self.path.facts.allocator()
+    }
+
+    /// The row, or why there is none.
+    fn counted(&mut self, answer: Result<Row, RowFault>) -> Result<Row, Halt> {
+        match answer {
+            Ok(row) => Ok(row),
+            Err(RowFault::Mem) => Err(Halt::Mem),
+            Err(RowFault::Coeff) => Err(self.too_large()),
+        }
+    }
+
+    fn too_large(&mut self) -> Halt {
+        self.coeffs = self.coeffs.saturating_add(1);
+        Halt::Coeff
+    }
+
+    /// How many variables the path has.
+    fn base(&self) -> Result<u32, Mem> {
+        match u32::try_from(self.path.floors.len().saturating_add(2)) {
+            Ok(base) => Ok(base),
+            Err(_) => Err(Mem),
+        }
+    }
+
+    /// How many floors there are behind those of the path.
+    fn floor_count(&self) -> Result<u32, Mem> {
+        match u32::try_from(self.floors.len()) {
+            Ok(count) => Ok(count),
+            Err(_) => Err(Mem),
+        }
+    }
+
+    /// A row divided by a number above 0 and rounded down.
+    fn divided(&mut self, row: &Row, by: i128) -> Result<Row, Halt> {
+        let whole = quotient(row, by)?;
+        let rest = remainder(row, by)?;
+        if rest.terms.is_empty() {
+            return Ok(whole);
+        }
+        let variable = self.variable_of(Floor { row: rest, by })?;
+        let term = Row::of_term(self.alloc(), 0, variable, 1)?;
+        let sum = whole.add_scaled(1, &term);
+        self.counted(sum)
+    }
+
+    /// The variable of a floor: that of the same floor on the path or behind it, or a new one.
+    fn variable_of(&mut self, floor: Floor) -> Result<u32, Halt> {
+        if let Some(place) = self.path.floors.place_of(&floor) {
+            return numbered(place, 2);
+        }
+        let base = self.base()?;
+        if let Some(place) = self.floors.place_of(&floor) {
+            return numbered(place, base);
+        }
+        self.name(floor, base)
+    }
+
+    /// The new variable of a floor that has none yet.
+    fn name(&mut self, floor: Floor, base: u32) -> Result<u32, Halt> {
+        let variable = numbered(self.floors.len(), base)?;
+        if !self.pool.name(&floor.row, floor.by)? {
+            return Err(self.too_large());
+        }
+        match add_floor(&mut self.rows, &mut self.floors, floor, variable) {
+            Ok(()) => Ok(variable),
+            Err(RowFault::Mem) => Err(Halt::Mem),
+            Err(RowFault::Coeff) => Err(self.too_large()),
+        }
+    }
+
+    /// Whether a row with variables is at least 0.
+    fn answer(&mut self, row: Row) -> Result<bool, Halt> {
+        let floors = self.floor_count()?;
+        let question = Floor { row, by: 1 };
+        if let Some(place) = self.answered.place_of(&question) {
+            if let Some(found) = self.found.get(place) {
+                self.tape.push(Asked { row: place, floors })?;
+                return Ok(found.yes);
+            }
+        }
+        match self.pool.signs_of(&question.row) {
+            Signs::Same(yes) => self.decide(question, yes, floors),
+            Signs::Unknown => self.decide(question, true, floors),
+            Signs::Both => self.left_open(&question.row, None),
+        }
+    }
+
+    /// The same where the contrary of an answer is at no known world.
+    fn decide(&mut self, question: Floor, yes: bool, floors: u32) -> Result<bool, Halt> {
+        let contrary = if yes {
+            question.row.negate()
+        } else {
+            Ok(question.row.clone()?)
+        };
+        let contrary = self.counted(contrary)?;
+        let base = self.base()?;
+        let cone = cone_of(self.alloc(), &self.floors, base, &question.row)?;
+        match self.refuted(contrary, cone.as_slice())? {
+            Search::Found(why) => {
+                let row = self.found.len();
+                self.answered.push(question)?;
+                self.found.push(Found { yes, why, cone })?;
+                self.tape.push(Asked { row, floors })?;
+                Ok(yes)
+            }
+            Search::Point(values) => self.left_open(&question.row, Some(values)),
+            Search::GaveUp => self.left_open(&question.row, None),
+        }
+    }
+
+    /// Why the facts of the path and of a cone and one more can't hold together, if they can't.
+    fn refuted(&mut self, contrary: Row, cone: &[u32]) -> Result<Search, Mem> {
+        let count = self.ground.len();
+        for place in cone {
+            let lower = (*place as usize).saturating_mul(2);
+            self.add_to_ground(lower)?;
+            self.add_to_ground(lower.saturating_add(1))?;
+        }
+        self.ground.push(contrary)?;
+        let variables = self.base()?.saturating_add(self.floor_count()?);
+        let found = refute(self.alloc(), self.ground.as_slice(), variables, LIMIT)?;
+        self.ground.truncate(count);
+        Ok(found)
+    }
+
+    fn add_to_ground(&mut self, number: usize) -> Result<(), Mem> {
+        if let Some(row) = self.rows.get(number) {
+            self.ground.push(row.clone()?)?;
+        }
+        Ok(())
+    }
+
+    /// Leaves a row open, with a world that was found.
+    fn left_open(&mut self, row: &Row, point: Option<List<i128>>) -> Result<bool, Halt> {
+        let alloc = self.alloc();
+        let base = self.base()?;
+        let cone = cone_of(alloc, &self.floors, base, row)?;
+        let floors = match renumbered_floors(alloc, &self.floors, base, cone.as_slice()) {
+            Ok(floors) => floors,
+            Err(RowFault::Mem) => return Err(Halt::Mem),
+            Err(RowFault::Coeff) => return Err(self.too_large()),
+        };
+        let row = renumbered(alloc, row, base, cone.as_slice());
+        let row = self.counted(row)?;
+        let point = point.map(|values| Known {
+            values: first_of(values, base as usize),
+        });
+        self.open = Some(Opening { floors, row, point });
+        self.opens = self.opens.saturating_add(1);
+        Err(Halt::Open)
+    }
+
+    /// The answers in the order in which they were asked for.
+    pub fn answers(&self) -> Result<List<Answer>, Mem> {
+        let alloc = self.alloc();
+        let Ok(path) = u32::try_from(self.ground.len()) else {
+            return Err(Mem);
+        };
+        let mut answers = List::new(alloc);
+        for asked in &self.tape {
+            if let (Some(question), Some(found)) =
+                (self.answered.get(asked.row), self.found.get(asked.row))
+            {
+                let numbers = Numbering {
+                    path,
+                    cone: found.cone.as_slice(),
+                    floors: asked.floors,
+                };
+                answers.push(Answer {
+                    yes: found.yes,
+                    row: question.row.clone()?,
+                    why: copied(alloc, &found.why, numbers)?,
+                })?;
+            }
+        }
+        Ok(answers)
+    }
+
+    /// The row that was left open, if one was, and the known worlds, over the variables of the path again.
+    pub fn finish(self) -> (Option<Opening>, Pool) {
+        let variables = self.path.floors.len().saturating_add(2);
+        let mut pool = self.pool;
+        pool.forget(variables);
+        (self.open, pool)
+    }
+}
+
+/// The first values.
+fn first_of(values: List<i128>, count: usize) -> Vec<i128> {
+    let mut values = values.into_vec();
+    values.truncate(count);
+    values
+}
+
+/// The variable at a place, where the first has this number.
+fn numbered(place: usize, first: u32) -> Result<u32, Halt> {
+    let Ok(place) = u32::try_from(place) else {
+        return Err(Halt::Mem);
+    };
+    match place.checked_add(first) {
+        Some(variable) => Ok(variable),
+        None => Err(Halt::Mem),
+    }
+}
+
+/// Numbers are rows in 1/64 px over whole pixels. No reading is open, so nothing is said of them.
+impl<'a> Calc for Seeker<'a> {
+    type Num = Row;
+
+    ghost state = { λ s. seeker_state s.coeffs s.opens };
+
+    ghost at = { number_at };
+
+    fn blank(&self) -> Row {
+        Row::constant(self.alloc(), 0)
+    }
+
+    fn lit(&mut self, v: i128) -> Result<Row, Halt> {
+        Ok(Row::constant(self.alloc(), v))
+    }
+
+    fn width(&mut self) -> Result<Row, Halt> {
+        Ok(Row::of_term(self.alloc(), 0, 0, 64)?)
+    }
+
+    fn size(&mut self) -> Result<Row, Halt> {
+        Ok(Row::of_term(self.alloc(), 0, 1, 64)?)
+    }
+
+    fn copy(&mut self, a: &Row) -> Result<Row, Halt> {
+        Ok(a.clone()?)
+    }
+
+    fn add(&mut self, a: &Row, b: &Row) -> Result<Row, Halt> {
+        let sum = a.add_scaled(1, b);
+        self.counted(sum)
+    }
+
+    fn sub(&mut self, a: &Row, b: &Row) -> Result<Row, Halt> {
+        let difference = a.add_scaled(-1, b);
+        self.counted(difference)
+    }
+
+    fn scale_floor(&mut self, a: &Row, num: i64, den: u64) -> Result<Row, Halt> {
+        let zero = Row::constant(self.alloc(), 0);
+        let product = zero.add_scaled(i128::from(num), a);
+        let product = self.counted(product)?;
+        self.divided(&product, i128::from(den))
+    }
+
+    fn le(&mut self, a: &Row, b: &Row) -> Result<bool, Halt> {
+        let difference = b.add_scaled(-1, a);
+        let difference = self.counted(difference)?;
+        if difference.terms.is_empty() {
+            return Ok(0 <= difference.k);
+        }
+        self.answer(difference)
+    }
+
+    ghost keeps = { λ s w t. absurd t };
+}

@@ -1,0 +1,403 @@
+use crate::pool::{Known, Pool};
+use crate::runs::{Outcome, run};
+use crate::seeker::{LIMIT, Opening};
+use crate::values::{floor_of, value_of};
+use cert_check::{Child, cut_of, holds_at, part_of};
+use cert_text::full::{Cert, CertNode};
+use lin_row::{Row, RowFault};
+use lin_search::{Search, refute};
+use std::alloc::{AllocError, AllocFailed, Global};
+use sym_calc::{Floor, Path};
+use viz_base::{Boxed, Job, Mem, Rect, World};
+
+/// What a search comes to. None of it is certain.
+#[derive(Debug, Drop)]
+pub enum Finding {
+    /// The job may hold by this certificate.
+    Proof(Cert),
+    /// The formula may be false at this world.
+    World(World),
+    /// Neither was found.
+    Nothing,
+}
+
+/// Why a part of the range has no node.
+#[derive(Drop)]
+enum Stop {
+    Mem,
+    /// The formula is false at this world.
+    Untrue(World),
+    /// The search gives up.
+    GaveUp,
+}
+
+impl From<Mem> for Stop {
+    fn from(_: Mem) -> Self {
+        Stop::Mem
+    }
+}
+
+impl From<AllocError> for Stop {
+    fn from(_: AllocError) -> Self {
+        Stop::Mem
+    }
+}
+
+impl<T: Drop> From<AllocFailed<T>> for Stop {
+    fn from(_: AllocFailed<T>) -> Self {
+        Stop::Mem
+    }
+}
+
+impl From<RowFault> for Stop {
+    fn from(fault: RowFault) -> Self {
+        match fault {
+            RowFault::Mem => Stop::Mem,
+            RowFault::Coeff => Stop::GaveUp,
+        }
+    }
+}
+
+/// Where a search stands.
+#[derive(Drop)]
+struct Place<'a> {
+    alloc: Global,
+    job: &'a Job,
+    path: Path,
+    /// The turns that are left.
+    turns: u64,
+}
+
+/// How many worlds a grid has at most.
+const GRID: u64 = 64;
+
+/// How many nodes stand at most in one another.
+const DEPTH: u32 = 480;
+
+/// How many of them are kept for halvings.
+const HALVINGS: u32 = 60;
+
+/// Searches for a certificate of a job, or for a world of its range at which its formula is false.
+pub fn seek(alloc: Global, job: &Job, turns: u64) -> Result<Finding, Mem> {
+    if turns == 0 {
+        return Ok(Finding::Nothing);
+    }
+    let path = Path::new(alloc, job.range)?;
+    let mut place = Place {
+        alloc,
+        job,
+        path,
+        turns,
+    };
+    match sought(&mut place) {
+        Ok(root) => Ok(Finding::Proof(Cert {
+            job: job.digest,
+            root,
+        })),
+        Err(Stop::Untrue(world)) => Ok(Finding::World(world)),
+        Err(Stop::GaveUp) => Ok(Finding::Nothing),
+        Err(Stop::Mem) => Err(Mem),
+    }
+}
+
+/// The node of the whole range.
+fn sought(place: &mut Place<'_>) -> Result<CertNode, Stop> {
+    let range = place.job.range;
+    let pool = first_pool(place, range)?;
+    explore(place, pool, range, DEPTH)
+}
+
+/// The corners of a rectangle, the middles of its edges, and its own, each where the formula is true.
+fn first_pool(place: &Place<'_>, rect: Rect) -> Result<Pool, Stop> {
+    let mut pool = Pool::new(place.alloc);
+    let mut widths = Vec::new(place.alloc);
+    for w in [middle(rect.wl, rect.wh), rect.wl, rect.wh] {
+        if !widths.contains(&w) {
+            widths.push(w)?;
+        }
+    }
+    let mut sizes = Vec::new(place.alloc);
+    for s in [middle(rect.sl, rect.sh), rect.sl, rect.sh] {
+        if !sizes.contains(&s) {
+            sizes.push(s)?;
+        }
+    }
+    for w in &widths {
+        for s in &sizes {
+            let world = World { w: *w, s: *s };
+            try_world(place, world)?;
+            pool.worlds.push(Known::new(place.alloc, world)?)?;
+        }
+    }
+    Ok(pool)
+}
+
+fn middle(least: u32, most: u32) -> u32 {
+    least.saturating_add(most.saturating_sub(least) / 2)
+}
+
+/// Stops at a world of the range at which the formula is false.
+fn try_world(place: &Place<'_>, world: World) -> Result<(), Stop> {
+    let range = place.job.range;
+    let is_wide = range.wl <= world.w && world.w <= range.wh;
+    let is_high = range.sl <= world.s && world.s <= range.sh;
+    if is_wide && is_high && !holds_at(place.alloc, place.job, world)? {
+        return Err(Stop::Untrue(world));
+    }
+    Ok(())
+}
+
+/// How many worlds a rectangle has.
+fn count_of(rect: Rect) -> u64 {
+    let widths = u64::from(rect.wh.saturating_sub(rect.wl)).saturating_add(1);
+    let sizes = u64::from(rect.sh.saturating_sub(rect.sl)).saturating_add(1);
+    widths.saturating_mul(sizes)
+}
+
+/// The node of a path, of which worlds are known, within a rectangle.
+#[cycle(nodes)]
+fn explore(place: &mut Place<'_>, pool: Pool, rect: Rect, depth: u32) -> Result<CertNode, Stop> {
+    let Some(turns) = place.turns.checked_sub(1) else {
+        return Err(Stop::GaveUp);
+    };
+    place.turns = turns;
+    if count_of(rect) <= GRID {
+        return grid(place, rect);
+    }
+    let (outcome, pool) = run(place.alloc, place.job, &place.path, pool)?;
+    match outcome {
+        Outcome::True(answers) => Ok(CertNode::Leaf(answers)),
+        Outcome::False => Err(untrue(&pool)),
+        Outcome::TooLarge => halve(place, pool, rect, depth),
+        Outcome::Open(opening) => open(place, pool, rect, depth, opening),
+    }
+}
+
+/// The formula is false at each of these worlds.
+fn untrue(pool: &Pool) -> Stop {
+    match pool.first_world() {
+        Some(world) => Stop::Untrue(world),
+        None => Stop::GaveUp,
+    }
+}
+
+/// Goes through the worlds of a rectangle that are on the path.
+fn grid(place: &Place<'_>, rect: Rect) -> Result<CertNode, Stop> {
+    for w in rect.wl..rect.wh.saturating_add(1) {
+        for s in rect.sl..rect.sh.saturating_add(1) {
+            let world = World { w, s };
+            if is_on_path(place, world)? {
+                try_world(place, world)?;
+            }
+        }
+    }
+    Ok(CertNode::Grid)
+}
+
+/// Whether a world is on the path.
+fn is_on_path(place: &Place<'_>, world: World) -> Result<bool, Stop> {
+    let mut known = Known::new(place.alloc, world)?;
+    for number in 0..place.path.floors.len() {
+        if let Some(floor) = place.path.floors.get(number) {
+            match floor_of(&floor.row, floor.by, known.values.as_slice()) {
+                Some(value) => known.values.push(value)?,
+                None => return Err(Stop::GaveUp),
+            }
+        }
+    }
+    for fact in &place.path.facts {
+        match value_of(fact, known.values.as_slice()) {
+            Some(value) if value < 0 => return Ok(false),
+            Some(_) => {}
+            None => return Err(Stop::GaveUp),
+        }
+    }
+    Ok(true)
+}
+
+/// The node of a path on which a row is left open.
+#[cycle(nodes)]
+fn open(
+    place: &mut Place<'_>,
+    pool: Pool,
+    rect: Rect,
+    depth: u32,
+    opening: Opening,
+) -> Result<CertNode, Stop> {
+    let Opening { floors, row, point } = opening;
+    let mut pool = pool;
+    if let Some(known) = point {
+        if let Some(world) = known.world() {
+            try_world(place, world)?;
+        }
+        pool.worlds.push(known)?;
+    }
+    let Ok(count) = u32::try_from(floors.len()) else {
+        return Err(Stop::GaveUp);
+    };
+    match depth.saturating_sub(HALVINGS).checked_sub(count) {
+        Some(left) if left > 0 => {
+            let row = cut_once(place.alloc, row)?;
+            define(place, pool, rect, depth, floors, row)
+        }
+        _ => halve(place, pool, rect, depth),
+    }
+}
+
+/// The same row where it is no row of the width or the size alone; else one with the coefficient 1 or -1 and the same
+/// signs.
+fn cut_once(alloc: Global, row: Row) -> Result<Row, Stop> {
+    let unit = match row.terms.as_slice() {
+        [term] if term.0 < 2 => unit_row(alloc, row.k, term.0, term.1)?,
+        _ => None,
+    };
+    match unit {
+        Some(unit) => Ok(unit),
+        None => Ok(row),
+    }
+}
+
+fn unit_row(
+    alloc: Global,
+    k: i128,
+    variable: u32,
+    coefficient: i128,
+) -> Result<Option<Row>, AllocError> {
+    let Some(size) = coefficient.checked_abs() else {
+        return Ok(None);
+    };
+    if size <= 0 {
+        return Ok(None);
+    }
+    let bound = k.div_euclid(size);
+    let row = if coefficient > 0 {
+        Row::of_term(alloc, bound, variable, 1)?
+    } else {
+        Row::of_term(alloc, bound, variable, -1)?
+    };
+    Ok(Some(row))
+}
+
+/// The node of a path within a rectangle by its halves on the longer side.
+#[cycle(nodes)]
+fn halve(place: &mut Place<'_>, pool: Pool, rect: Rect, depth: u32) -> Result<CertNode, Stop> {
+    let is_wide = rect.sh.saturating_sub(rect.sl) <= rect.wh.saturating_sub(rect.wl);
+    let (variable, least, most) = if is_wide {
+        (0, rect.wl, rect.wh)
+    } else {
+        (1, rect.sl, rect.sh)
+    };
+    let row = Row::of_term(place.alloc, i128::from(middle(least, most)), variable, -1)?;
+    split(place, pool, rect, depth, row)
+}
+
+/// The node of a path that is split by a row after floors are named.
+#[cycle(nodes)]
+fn define(
+    place: &mut Place<'_>,
+    pool: Pool,
+    rect: Rect,
+    depth: u32,
+    floors: Vec<Floor>,
+    row: Row,
+) -> Result<CertNode, Stop> {
+    let facts = place.path.facts.len();
+    let named = place.path.floors.len();
+    let mut pool = pool;
+    let mut defs = Vec::new(place.alloc);
+    let mut below = depth;
+    for floor in floors {
+        defs.push((floor.row.clone()?, floor.by))?;
+        name(place, &mut pool, floor)?;
+        below = below.saturating_sub(1);
+    }
+    let mut node = split(place, pool, rect, below, row)?;
+    place.path.leave(facts, named);
+    for (row, by) in defs.into_iter().rev() {
+        node = CertNode::Def(row, by, Boxed::new(place.alloc, node)?);
+    }
+    Ok(node)
+}
+
+/// Names a floor on the path.
+fn name(place: &mut Place<'_>, pool: &mut Pool, floor: Floor) -> Result<(), Stop> {
+    if floor.by <= 0 || place.path.floors.place_of(&floor).is_some() {
+        return Err(Stop::GaveUp);
+    }
+    let Ok(variable) = u32::try_from(place.path.floors.len().saturating_add(2)) else {
+        return Err(Stop::GaveUp);
+    };
+    if !pool.name(&floor.row, floor.by)? {
+        return Err(Stop::GaveUp);
+    }
+    place.path.define(floor, variable)?;
+    Ok(())
+}
+
+/// The node of a path that is split by a row.
+#[cycle(nodes)]
+fn split(
+    place: &mut Place<'_>,
+    pool: Pool,
+    rect: Rect,
+    depth: u32,
+    row: Row,
+) -> Result<CertNode, Stop> {
+    let Some(depth) = depth.checked_sub(1) else {
+        return Err(Stop::GaveUp);
+    };
+    let facts = place.path.facts.len();
+    let named = place.path.floors.len();
+    let (first_pool, second_pool) = pool.parted(place.alloc, &row)?;
+    place.path.enter_first(&row)?;
+    let first = side(place, first_pool, part(&row, Child::First, rect), depth)?;
+    place.path.leave(facts, named);
+    place.path.enter_second(&row)?;
+    let second = side(place, second_pool, part(&row, Child::Second, rect), depth)?;
+    place.path.leave(facts, named);
+    let first = Boxed::new(place.alloc, first)?;
+    let second = Boxed::new(place.alloc, second)?;
+    Ok(CertNode::Split(row, first, second))
+}
+
+/// The worlds of a rectangle that lie under a child of a split; only a unit split cuts it.
+fn part(row: &Row, child: Child, rect: Rect) -> Option<Rect> {
+    match cut_of(row) {
+        Some(cut) => part_of(cut, child, rect),
+        None => Some(rect),
+    }
+}
+
+/// The node of one side of a split.
+#[cycle(nodes)]
+fn side(
+    place: &mut Place<'_>,
+    pool: Pool,
+    rect: Option<Rect>,
+    depth: u32,
+) -> Result<CertNode, Stop> {
+    let mut pool = pool;
+    if pool.worlds.is_empty() {
+        let variables = place.path.floors.len().saturating_add(2);
+        let Ok(variables) = u32::try_from(variables) else {
+            return Err(Stop::GaveUp);
+        };
+        match refute(place.alloc, place.path.facts.as_slice(), variables, LIMIT)? {
+            Search::Found(why) => return Ok(CertNode::Void(why)),
+            Search::Point(values) => {
+                let known = Known {
+                    values: values.into_vec(),
+                };
+                if let Some(world) = known.world() {
+                    try_world(place, world)?;
+                }
+                pool.worlds.push(known)?;
+            }
+            Search::GaveUp => return Err(Stop::GaveUp),
+        }
+    }
+    match rect {
+        Some(rect) => explore(place, pool, rect, depth),
+        None => Err(Stop::GaveUp),
+    }
+}
