@@ -21,7 +21,10 @@ impl Numbering<'_> {
             return number;
         };
         match self.cone.get((behind / 2) as usize) {
-            Some(place) => self.path.saturating_add(place.saturating_mul(2)).saturating_add(behind % 2),
+            Some(place) => self
+                .path
+                .saturating_add(place.saturating_mul(2))
+                .saturating_add(behind % 2),
             None => self.path.saturating_add(self.floors.saturating_mul(2)),
         }
     }

@@ -244,9 +244,10 @@ impl<'a> Seeker<'a> {
         };
         let mut answers = List::new(alloc);
         for asked in &self.tape {
-            if let (Some(question), Some(found)) =
-                (self.answered.get(asked.row), self.found.get(asked.row))
-            {
+            if let (Some(question), Some(found)) = (
+                self.answered.get(asked.row),
+                self.found.get(asked.row),
+            ) {
                 let numbers = Numbering {
                     path,
                     cone: found.cone.as_slice(),
