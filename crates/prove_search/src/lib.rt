@@ -1,17 +1,23 @@
 //! Searches for a certificate of a job, or for a world at which its formula is false.
 #![tactic(auto)]
 
-mod cones;
+mod copies;
+mod grounds;
 mod halves;
+mod knowledge;
 mod laws;
+mod numbers;
 mod outcome;
 mod pool;
-mod renumbering;
+mod rects;
 mod runs;
 mod search;
 mod seeker;
 mod seeking;
+mod store;
+mod table;
 mod values;
+mod ways;
 
 pub use laws::unit_certificates_have_texts;
 pub use outcome::Outcome;

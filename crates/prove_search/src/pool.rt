@@ -1,13 +1,13 @@
 use crate::values::{floor_of, value_of};
 use lin_row::Row;
 use std::alloc::Global;
+use sym_calc::Floors;
 use viz_base::{Mem, World};
 
-/// A world of a path, with what the path's variables are there: the width, the size, and the floors.
+/// A world, with what the variables are there: the width, the size, and the first floors of a search.
 #[derive(Debug, Drop)]
 pub struct Known {
-    /// By the variables' numbers.
-    pub values: Vec<i128>,
+    values: Vec<i128>,
 }
 
 /// What the known worlds tell of the sign of a row.
@@ -21,15 +21,14 @@ pub enum Signs {
     Both,
 }
 
-/// Worlds of a path. The first stands for all.
+/// Known worlds of a path. The first stands for all.
 #[derive(Debug, Drop)]
 pub struct Pool {
-    /// The worlds.
-    pub worlds: Vec<Known>,
+    worlds: Vec<Known>,
 }
 
 impl Known {
-    /// A world of the range, where no floor is named yet.
+    /// A world, where no floor is named yet.
     pub fn new(alloc: Global, world: World) -> Result<Self, Mem> {
         let mut values = Vec::new(alloc);
         values.push(i128::from(world.w))?;
@@ -44,21 +43,24 @@ impl Known {
         Some(World { w, s })
     }
 
-    /// Whether a row is at least 0 here, if its value is in `i128`.
-    fn sign_of(&self, row: &Row) -> Option<bool> {
-        let value = value_of(row, self.values.as_slice())?;
-        Some(value >= 0)
+    /// Names the floors that are not named yet. False where a value is outside `i128`.
+    pub fn extend(&mut self, floors: &Floors) -> Result<bool, Mem> {
+        let named = self.values.len().saturating_sub(2);
+        for place in named..floors.len() {
+            if let Some(floor) = floors.get(place) {
+                match floor_of(&floor.row, floor.by, self.values.as_slice()) {
+                    Some(value) => self.values.push(value)?,
+                    None => return Ok(false),
+                }
+            }
+        }
+        Ok(true)
     }
 
-    /// Adds the value of a floor, which is the next variable. False where it is outside `i128`.
-    fn name(&mut self, row: &Row, by: i128) -> Result<bool, Mem> {
-        match floor_of(row, by, self.values.as_slice()) {
-            Some(value) => {
-                self.values.push(value)?;
-                Ok(true)
-            }
-            None => Ok(false),
-        }
+    /// Whether a row is at least 0 here, if its value is in `i128`.
+    pub fn sign_of(&self, row: &Row) -> Option<bool> {
+        let value = value_of(row, self.values.as_slice())?;
+        Some(value >= 0)
     }
 }
 
@@ -68,6 +70,32 @@ impl Pool {
         Pool {
             worlds: Vec::new(alloc),
         }
+    }
+
+    /// Whether no world is known.
+    pub fn is_empty(&self) -> bool {
+        self.worlds.is_empty()
+    }
+
+    /// The world that stands for all.
+    pub fn first_world(&self) -> Option<World> {
+        self.worlds.first()?.world()
+    }
+
+    /// Adds a world.
+    pub fn add(&mut self, known: Known) -> Result<(), Mem> {
+        self.worlds.push(known)?;
+        Ok(())
+    }
+
+    /// Names the floors that are not named yet at each world. False where a value is outside `i128`.
+    pub fn extend(&mut self, floors: &Floors) -> Result<bool, Mem> {
+        for known in self.worlds.iter_mut() {
+            if !known.extend(floors)? {
+                return Ok(false);
+            }
+        }
+        Ok(true)
     }
 
     /// What the worlds tell of the sign of a row.
@@ -81,41 +109,19 @@ impl Pool {
         signs
     }
 
-    /// Names a floor, which is the next variable, at each world. False where one of its values is outside `i128`.
-    pub fn name(&mut self, row: &Row, by: i128) -> Result<bool, Mem> {
-        for known in self.worlds.iter_mut() {
-            if !known.name(row, by)? {
-                return Ok(false);
-            }
-        }
-        Ok(true)
-    }
-
-    /// Forgets all variables but the first ones.
-    pub fn forget(&mut self, variables: usize) {
-        for known in self.worlds.iter_mut() {
-            known.values.truncate(variables);
-        }
-    }
-
     /// The worlds at which a row is at least 0, and those at which it is below 0.
     pub fn parted(self, alloc: Global, row: &Row) -> Result<(Pool, Pool), Mem> {
         let Pool { worlds } = self;
-        let mut first = Vec::new(alloc);
-        let mut second = Vec::new(alloc);
+        let mut first = Pool::new(alloc);
+        let mut second = Pool::new(alloc);
         for known in worlds {
             match known.sign_of(row) {
-                Some(true) => first.push(known)?,
-                Some(false) => second.push(known)?,
+                Some(true) => first.add(known)?,
+                Some(false) => second.add(known)?,
                 None => {}
             }
         }
-        Ok((Pool { worlds: first }, Pool { worlds: second }))
-    }
-
-    /// The world that stands for all.
-    pub fn first_world(&self) -> Option<World> {
-        self.worlds.first()?.world()
+        Ok((first, second))
     }
 }
 
@@ -123,7 +129,7 @@ impl Pool {
 fn joined(signs: Signs, yes: bool) -> Signs {
     match signs {
         Signs::Unknown => Signs::Same(yes),
-        Signs::Same(other) if other == yes => Signs::Same(other),
+        Signs::Same(other) if other == yes => signs,
         _ => Signs::Both,
     }
 }

@@ -1,16 +1,16 @@
+use crate::knowledge::Knowledge;
 use crate::pool::Pool;
 use crate::seeker::{Opening, Seeker};
 use lay_flow::render;
 use lin_proof::Answer;
 use std::alloc::Global;
-use sym_calc::Path;
 use vis_truth::truth;
 use viz_base::{Job, List, Mem};
 use viz_calc::Halt;
 
 /// What a run over all worlds of a path comes to.
 #[derive(Drop)]
-pub enum Outcome {
+pub enum Ended {
     /// The formula is true at each of them, by these answers.
     True(List<Answer>),
     /// It is false at each of them.
@@ -27,23 +27,32 @@ fn truth_over(alloc: Global, job: &Job, seeker: &mut Seeker<'_>) -> Result<bool,
     truth(seeker, &job.formula, &rendering, job.height)
 }
 
-/// Lays out the page over all worlds of a path together, and gives back the known worlds.
-pub fn run(alloc: Global, job: &Job, path: &Path, pool: Pool) -> Result<(Outcome, Pool), Mem> {
-    let mut seeker = Seeker::new(path, pool)?;
-    match truth_over(alloc, job, &mut seeker) {
-        Ok(true) => {
-            let answers = seeker.answers()?;
-            let (_, pool) = seeker.finish();
-            Ok((Outcome::True(answers), pool))
-        }
-        Ok(false) => {
-            let (_, pool) = seeker.finish();
-            Ok((Outcome::False, pool))
-        }
+/// Lays out the page over all worlds of where a search stands, and gives back the known ones.
+pub fn run(job: &Job, known: &mut Knowledge, pool: Pool) -> Result<(Ended, Pool), Mem> {
+    let mut pool = pool;
+    if !pool.extend(&known.table.floors)? {
+        return Ok((Ended::TooLarge, pool));
+    }
+    let alloc = known.alloc;
+    let mut seeker = Seeker::new(known, pool)?;
+    let answer = truth_over(alloc, job, &mut seeker);
+    let ended = match answer {
+        Ok(true) => ended_true(&seeker)?,
+        Ok(false) => Ended::False,
+        Err(Halt::Mem) => return Err(Mem),
+        Err(Halt::Coeff | Halt::Open) => Ended::TooLarge,
+    };
+    let (open, pool) = seeker.finish();
+    match open {
+        Some(opening) => Ok((Ended::Open(opening), pool)),
+        None => Ok((ended, pool)),
+    }
+}
+
+fn ended_true(seeker: &Seeker<'_>) -> Result<Ended, Mem> {
+    match seeker.answers() {
+        Ok(answers) => Ok(Ended::True(answers)),
         Err(Halt::Mem) => Err(Mem),
-        Err(Halt::Coeff | Halt::Open) => match seeker.finish() {
-            (Some(opening), pool) => Ok((Outcome::Open(opening), pool)),
-            (None, pool) => Ok((Outcome::TooLarge, pool)),
-        },
+        Err(Halt::Coeff | Halt::Open) => Ok(Ended::TooLarge),
     }
 }

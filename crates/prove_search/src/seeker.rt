@@ -1,62 +1,43 @@
 ghost use Rattle.prove_search.specs.Seekers.{seeker_state, number_at};
 
-use crate::cones::{cone_of, renumbered, renumbered_floors};
-use crate::pool::{Known, Pool, Signs};
-use crate::renumbering::{Numbering, copied};
-use lin_proof::{Answer, Derivation};
+use crate::copies::{Needs, Numbering, copied, need_of};
+use crate::knowledge::{Knowledge, Reason, Reasoned};
+use crate::numbers::Numbers;
+use crate::pool::{Pool, Signs};
+use crate::store::Found;
+use crate::table::FIRST;
+use lin_proof::Answer;
 use lin_row::{Row, RowFault};
-use lin_search::{Search, refute};
 use std::alloc::Global;
-use sym_calc::{Floor, Floors, Path, add_floor, quotient, remainder};
-use viz_base::{List, Mem};
+use sym_calc::{Floor, quotient, remainder};
+use viz_base::{List, Mem, World};
 use viz_calc::{Calc, Halt};
-
-/// How many cases and pairs of rows are tried for one answer.
-pub const LIMIT: u64 = 4096;
-
-/// An answer that was found, with its reason.
-#[derive(Debug, Drop)]
-struct Found {
-    yes: bool,
-    /// From the facts of the path, of the cone and of the contrary, numbered in this order.
-    why: Derivation,
-    /// The places of the floors on which the row rests.
-    cone: Vec<u32>,
-}
 
 /// A comparison that was answered.
 #[derive(Clone, Copy, Debug)]
 struct Asked {
-    /// The number of its row among all that were asked about.
-    row: usize,
-    /// How many floors the run had then.
-    floors: u32,
+    /// The place of its answer in the store.
+    place: usize,
+    /// The number of the fact that would be the contrary.
+    contrary: u32,
 }
 
 /// A row whose sign is left open on a path.
 #[derive(Debug, Drop)]
 pub struct Opening {
-    /// The floors on which it rests and that the path doesn't name yet, in order.
-    pub floors: Vec<Floor>,
-    /// The row, over the variables of the path and then these floors.
+    /// The row.
     pub row: Row,
     /// A world of the path that was found on the way.
-    pub point: Option<Known>,
+    pub world: Option<World>,
 }
 
-/// Arithmetic at all worlds of a path at once, over the same rows as those of `Sym`. It answers comparisons itself, and
-/// notes the answers with their reasons; it halts at the first one that has no answer.
+/// Arithmetic at all worlds of a path at once, over the same rows as those of `Sym` but for the numbers of variables. It
+/// answers comparisons itself, and notes the answers with their reasons; it halts at the first one that has no answer.
 #[derive(Drop)]
 pub struct Seeker<'a> {
-    path: &'a Path,
+    known: &'a mut Knowledge,
     pool: Pool,
-    rows: List<Row>,
-    floors: Floors,
-    /// The facts of the path.
-    ground: List<Row>,
-    /// Each row that was answered, divided by 1.
-    answered: Floors,
-    found: Vec<Found>,
+    numbers: Numbers,
     tape: Vec<Asked>,
     open: Option<Opening>,
     coeffs: u64,
@@ -64,17 +45,14 @@ pub struct Seeker<'a> {
 }
 
 impl<'a> Seeker<'a> {
-    /// The calc of a path, with known worlds of it.
-    pub fn new(path: &'a Path, pool: Pool) -> Result<Self, Mem> {
-        let alloc = path.facts.allocator();
+    /// The calc of where a search stands, with known worlds of there.
+    pub fn new(known: &'a mut Knowledge, pool: Pool) -> Result<Self, Mem> {
+        let alloc = known.alloc;
+        let numbers = Numbers::new(alloc, &known.way)?;
         Ok(Seeker {
-            path,
+            known,
             pool,
-            rows: List::new(alloc),
-            floors: Floors::new(alloc),
-            ground: path.facts.clone()?,
-            answered: Floors::new(alloc),
-            found: Vec::new(alloc),
+            numbers,
             tape: Vec::new(alloc),
             open: None,
             coeffs: 0,
@@ -83,7 +61,7 @@ impl<'a> Seeker<'a> {
     }
 
     fn alloc(&self) -> Global {
-        self.path.facts.allocator()
+        self.known.alloc
     }
 
     /// The row, or why there is none.
@@ -100,22 +78,6 @@ impl<'a> Seeker<'a> {
         Halt::Coeff
     }
 
-    /// How many variables the path has.
-    fn base(&self) -> Result<u32, Mem> {
-        match u32::try_from(self.path.floors.len().saturating_add(2)) {
-            Ok(base) => Ok(base),
-            Err(_) => Err(Mem),
-        }
-    }
-
-    /// How many floors there are behind those of the path.
-    fn floor_count(&self) -> Result<u32, Mem> {
-        match u32::try_from(self.floors.len()) {
-            Ok(count) => Ok(count),
-            Err(_) => Err(Mem),
-        }
-    }
-
     /// A row divided by a number above 0 and rounded down.
     fn divided(&mut self, row: &Row, by: i128) -> Result<Row, Halt> {
         let whole = quotient(row, by)?;
@@ -123,170 +85,132 @@ impl<'a> Seeker<'a> {
         if rest.terms.is_empty() {
             return Ok(whole);
         }
-        let variable = self.variable_of(Floor { row: rest, by })?;
-        let term = Row::of_term(self.alloc(), 0, variable, 1)?;
+        let place = self.place_of(Floor { row: rest, by })?;
+        self.numbers.name(place)?;
+        let term = Row::of_term(self.alloc(), 0, place.saturating_add(FIRST), 1)?;
         let sum = whole.add_scaled(1, &term);
         self.counted(sum)
     }
 
-    /// The variable of a floor: that of the same floor on the path or behind it, or a new one.
-    fn variable_of(&mut self, floor: Floor) -> Result<u32, Halt> {
-        if let Some(place) = self.path.floors.place_of(&floor) {
-            return numbered(place, 2);
+    /// The place of a floor, which is named if it was not.
+    fn place_of(&mut self, floor: Floor) -> Result<u32, Halt> {
+        if let Some(place) = self.known.table.place_of(&floor)? {
+            return Ok(place);
         }
-        let base = self.base()?;
-        if let Some(place) = self.floors.place_of(&floor) {
-            return numbered(place, base);
-        }
-        self.name(floor, base)
-    }
-
-    /// The new variable of a floor that has none yet.
-    fn name(&mut self, floor: Floor, base: u32) -> Result<u32, Halt> {
-        let variable = numbered(self.floors.len(), base)?;
-        if !self.pool.name(&floor.row, floor.by)? {
-            return Err(self.too_large());
-        }
-        match add_floor(&mut self.rows, &mut self.floors, floor, variable) {
-            Ok(()) => Ok(variable),
-            Err(RowFault::Mem) => Err(Halt::Mem),
-            Err(RowFault::Coeff) => Err(self.too_large()),
+        match self.known.table.add(floor)? {
+            Some(place) if self.pool.extend(&self.known.table.floors)? => Ok(place),
+            _ => Err(self.too_large()),
         }
     }
 
     /// Whether a row with variables is at least 0.
     fn answer(&mut self, row: Row) -> Result<bool, Halt> {
-        let floors = self.floor_count()?;
         let question = Floor { row, by: 1 };
-        if let Some(place) = self.answered.place_of(&question) {
-            if let Some(found) = self.found.get(place) {
-                self.tape.push(Asked { row: place, floors })?;
-                return Ok(found.yes);
-            }
+        if let Some(place) = self.known.store.place_of(&question) {
+            return self.answer_again(place);
         }
         match self.pool.signs_of(&question.row) {
-            Signs::Same(yes) => self.decide(question, yes, floors),
-            Signs::Unknown => self.decide(question, true, floors),
-            Signs::Both => self.left_open(&question.row, None),
+            Signs::Same(yes) => self.decide(question, yes),
+            Signs::Unknown => self.decide(question, true),
+            Signs::Both => Err(self.left_open(question.row, None)),
         }
     }
 
-    /// The same where the contrary of an answer is at no known world.
-    fn decide(&mut self, question: Floor, yes: bool, floors: u32) -> Result<bool, Halt> {
+    /// The answer at a place of the store.
+    fn answer_again(&mut self, place: usize) -> Result<bool, Halt> {
+        let contrary = self.numbers.next_fact();
+        self.tape.push(Asked { place, contrary })?;
+        match self.known.store.found(place) {
+            Some(found) => Ok(found.yes),
+            None => Err(Halt::Mem),
+        }
+    }
+
+    /// Whether a row is at least 0, where it is so at all known worlds or at none.
+    fn decide(&mut self, question: Floor, yes: bool) -> Result<bool, Halt> {
         let contrary = if yes {
             question.row.negate()
         } else {
             Ok(question.row.clone()?)
         };
         let contrary = self.counted(contrary)?;
-        let base = self.base()?;
-        let cone = cone_of(self.alloc(), &self.floors, base, &question.row)?;
-        match self.refuted(contrary, cone.as_slice())? {
-            Search::Found(why) => {
-                let row = self.found.len();
-                self.answered.push(question)?;
-                self.found.push(Found { yes, why, cone })?;
-                self.tape.push(Asked { row, floors })?;
-                Ok(yes)
-            }
-            Search::Point(values) => self.left_open(&question.row, Some(values)),
-            Search::GaveUp => self.left_open(&question.row, None),
+        let cone = self.known.table.cone_of(self.alloc(), &question.row)?;
+        match self.known.refuted(contrary, cone.as_slice())? {
+            Reasoned::Reason(reason) => self.keep(question, yes, reason, cone.as_slice()),
+            Reasoned::World(world) => Err(self.left_open(question.row, Some(world))),
+            Reasoned::GaveUp => Err(self.left_open(question.row, None)),
         }
     }
 
-    /// Why the facts of the path and of a cone and one more can't hold together, if they can't.
-    fn refuted(&mut self, contrary: Row, cone: &[u32]) -> Result<Search, Mem> {
-        let count = self.ground.len();
-        for place in cone {
-            let lower = (*place as usize).saturating_mul(2);
-            self.add_to_ground(lower)?;
-            self.add_to_ground(lower.saturating_add(1))?;
-        }
-        self.ground.push(contrary)?;
-        let variables = self.base()?.saturating_add(self.floor_count()?);
-        let found = refute(self.alloc(), self.ground.as_slice(), variables, LIMIT)?;
-        self.ground.truncate(count);
-        Ok(found)
-    }
-
-    fn add_to_ground(&mut self, number: usize) -> Result<(), Mem> {
-        if let Some(row) = self.rows.get(number) {
-            self.ground.push(row.clone()?)?;
-        }
-        Ok(())
+    fn keep(
+        &mut self,
+        question: Floor,
+        yes: bool,
+        reason: Reason,
+        cone: &[u32],
+    ) -> Result<bool, Halt> {
+        let Reason {
+            why,
+            sources,
+            needs,
+        } = reason;
+        let Ok(all) = u32::try_from(self.known.way.steps.len()) else {
+            return Err(Halt::Mem);
+        };
+        let needs = Needs {
+            facts: needs.as_slice(),
+            cone,
+            all,
+        };
+        let need = need_of(&why, needs);
+        let found = Found {
+            yes,
+            why,
+            sources,
+            need,
+        };
+        let place = self.known.store.keep(question, found)?;
+        self.answer_again(place)
     }
 
     /// Leaves a row open, with a world that was found.
-    fn left_open(&mut self, row: &Row, point: Option<List<i128>>) -> Result<bool, Halt> {
-        let alloc = self.alloc();
-        let base = self.base()?;
-        let cone = cone_of(alloc, &self.floors, base, row)?;
-        let floors = match renumbered_floors(alloc, &self.floors, base, cone.as_slice()) {
-            Ok(floors) => floors,
-            Err(RowFault::Mem) => return Err(Halt::Mem),
-            Err(RowFault::Coeff) => return Err(self.too_large()),
-        };
-        let row = renumbered(alloc, row, base, cone.as_slice());
-        let row = self.counted(row)?;
-        let point = point.map(|values| Known {
-            values: first_of(values, base as usize),
-        });
-        self.open = Some(Opening { floors, row, point });
+    fn left_open(&mut self, row: Row, world: Option<World>) -> Halt {
+        self.open = Some(Opening { row, world });
         self.opens = self.opens.saturating_add(1);
-        Err(Halt::Open)
+        Halt::Open
     }
 
     /// The answers in the order in which they were asked for.
-    pub fn answers(&self) -> Result<List<Answer>, Mem> {
+    pub fn answers(&self) -> Result<List<Answer>, Halt> {
         let alloc = self.alloc();
-        let Ok(path) = u32::try_from(self.ground.len()) else {
-            return Err(Mem);
-        };
+        let store = &self.known.store;
         let mut answers = List::new(alloc);
         for asked in &self.tape {
-            if let (Some(question), Some(found)) = (
-                self.answered.get(asked.row),
-                self.found.get(asked.row),
-            ) {
-                let numbers = Numbering {
-                    path,
-                    cone: found.cone.as_slice(),
-                    floors: asked.floors,
+            if let (Some(row), Some(found)) = (store.row(asked.place), store.found(asked.place)) {
+                let to = Numbering {
+                    numbers: &self.numbers,
+                    sources: found.sources.as_slice(),
+                    contrary: asked.contrary,
+                };
+                let row = match self.numbers.row(row) {
+                    Ok(row) => row,
+                    Err(RowFault::Coeff) => return Err(Halt::Coeff),
+                    Err(RowFault::Mem) => return Err(Halt::Mem),
                 };
                 answers.push(Answer {
                     yes: found.yes,
-                    row: question.row.clone()?,
-                    why: copied(alloc, &found.why, numbers)?,
+                    row,
+                    why: copied(alloc, &found.why, to)?,
                 })?;
             }
         }
         Ok(answers)
     }
 
-    /// The row that was left open, if one was, and the known worlds, over the variables of the path again.
+    /// The row that was left open, if one was, and the known worlds.
     pub fn finish(self) -> (Option<Opening>, Pool) {
-        let variables = self.path.floors.len().saturating_add(2);
-        let mut pool = self.pool;
-        pool.forget(variables);
-        (self.open, pool)
-    }
-}
-
-/// The first values.
-fn first_of(values: List<i128>, count: usize) -> Vec<i128> {
-    let mut values = values.into_vec();
-    values.truncate(count);
-    values
-}
-
-/// The variable at a place, where the first has this number.
-fn numbered(place: usize, first: u32) -> Result<u32, Halt> {
-    let Ok(place) = u32::try_from(place) else {
-        return Err(Halt::Mem);
-    };
-    match place.checked_add(first) {
-        Some(variable) => Ok(variable),
-        None => Err(Halt::Mem),
+        let Seeker { pool, open, .. } = self;
+        (open, pool)
     }
 }
 

@@ -1,13 +1,14 @@
+use crate::copies::{Numbering, copied};
+use crate::knowledge::{Knowledge, Reasoned};
+use crate::numbers::Numbers;
 use crate::pool::{Known, Pool};
-use crate::runs::{Outcome, run};
-use crate::seeker::{LIMIT, Opening};
-use crate::values::{floor_of, value_of};
-use cert_check::{Child, cut_of, holds_at, part_of};
+use crate::rects::{GRID, count_of, halving, holds, middle, part, unit_row};
+use crate::runs::{Ended, run};
+use crate::seeker::Opening;
+use cert_check::{Child, holds_at};
 use cert_text::full::{Cert, CertNode};
 use lin_row::{Row, RowFault};
-use lin_search::{Search, refute};
 use std::alloc::{AllocError, AllocFailed, Global};
-use sym_calc::{Floor, Path};
 use viz_base::{Boxed, Job, Mem, Rect, World};
 
 /// What a search comes to. None of it is certain.
@@ -58,18 +59,14 @@ impl From<RowFault> for Stop {
     }
 }
 
-/// Where a search stands.
+/// A search on its way.
 #[derive(Drop)]
-struct Place<'a> {
-    alloc: Global,
+struct Search<'a> {
     job: &'a Job,
-    path: Path,
+    known: Knowledge,
     /// The turns that are left.
     turns: u64,
 }
-
-/// How many worlds a grid has at most.
-const GRID: u64 = 64;
 
 /// How many nodes stand at most in one another.
 const DEPTH: u32 = 480;
@@ -82,14 +79,12 @@ pub fn seek(alloc: Global, job: &Job, turns: u64) -> Result<Finding, Mem> {
     if turns == 0 {
         return Ok(Finding::Nothing);
     }
-    let path = Path::new(alloc, job.range)?;
-    let mut place = Place {
-        alloc,
+    let mut search = Search {
         job,
-        path,
+        known: Knowledge::new(alloc, job.range),
         turns,
     };
-    match sought(&mut place) {
+    match sought(&mut search) {
         Ok(root) => Ok(Finding::Proof(Cert {
             job: job.digest,
             root,
@@ -101,75 +96,66 @@ pub fn seek(alloc: Global, job: &Job, turns: u64) -> Result<Finding, Mem> {
 }
 
 /// The node of the whole range.
-fn sought(place: &mut Place<'_>) -> Result<CertNode, Stop> {
-    let range = place.job.range;
-    let pool = first_pool(place, range)?;
-    explore(place, pool, range, DEPTH)
+fn sought(search: &mut Search<'_>) -> Result<CertNode, Stop> {
+    let range = search.job.range;
+    let pool = first_pool(search, range)?;
+    explore(search, pool, range, DEPTH)
 }
 
-/// The corners of a rectangle, the middles of its edges, and its own, each where the formula is true.
-fn first_pool(place: &Place<'_>, rect: Rect) -> Result<Pool, Stop> {
-    let mut pool = Pool::new(place.alloc);
-    let mut widths = Vec::new(place.alloc);
-    for w in [middle(rect.wl, rect.wh), rect.wl, rect.wh] {
-        if !widths.contains(&w) {
-            widths.push(w)?;
-        }
-    }
-    let mut sizes = Vec::new(place.alloc);
-    for s in [middle(rect.sl, rect.sh), rect.sl, rect.sh] {
-        if !sizes.contains(&s) {
-            sizes.push(s)?;
-        }
-    }
+/// The middle of a rectangle, its corners, and the middles of its edges.
+fn first_pool(search: &Search<'_>, rect: Rect) -> Result<Pool, Stop> {
+    let alloc = search.known.alloc;
+    let mut pool = Pool::new(alloc);
+    let widths = side_of(alloc, rect.wl, rect.wh)?;
+    let sizes = side_of(alloc, rect.sl, rect.sh)?;
     for w in &widths {
         for s in &sizes {
             let world = World { w: *w, s: *s };
-            try_world(place, world)?;
-            pool.worlds.push(Known::new(place.alloc, world)?)?;
+            try_world(search, world)?;
+            pool.add(Known::new(alloc, world)?)?;
         }
     }
     Ok(pool)
 }
 
-fn middle(least: u32, most: u32) -> u32 {
-    least.saturating_add(most.saturating_sub(least) / 2)
+/// The middle of a side and its ends, each once.
+fn side_of(alloc: Global, least: u32, most: u32) -> Result<Vec<u32>, Mem> {
+    let mut numbers = Vec::new(alloc);
+    for number in [middle(least, most), least, most] {
+        if !numbers.contains(&number) {
+            numbers.push(number)?;
+        }
+    }
+    Ok(numbers)
 }
 
 /// Stops at a world of the range at which the formula is false.
-fn try_world(place: &Place<'_>, world: World) -> Result<(), Stop> {
-    let range = place.job.range;
+fn try_world(search: &Search<'_>, world: World) -> Result<(), Stop> {
+    let range = search.job.range;
     let is_wide = range.wl <= world.w && world.w <= range.wh;
     let is_high = range.sl <= world.s && world.s <= range.sh;
-    if is_wide && is_high && !holds_at(place.alloc, place.job, world)? {
+    if is_wide && is_high && !holds_at(search.known.alloc, search.job, world)? {
         return Err(Stop::Untrue(world));
     }
     Ok(())
 }
 
-/// How many worlds a rectangle has.
-fn count_of(rect: Rect) -> u64 {
-    let widths = u64::from(rect.wh.saturating_sub(rect.wl)).saturating_add(1);
-    let sizes = u64::from(rect.sh.saturating_sub(rect.sl)).saturating_add(1);
-    widths.saturating_mul(sizes)
-}
-
-/// The node of a path, of which worlds are known, within a rectangle.
+/// The node of where the search stands, within a rectangle.
 #[cycle(nodes)]
-fn explore(place: &mut Place<'_>, pool: Pool, rect: Rect, depth: u32) -> Result<CertNode, Stop> {
-    let Some(turns) = place.turns.checked_sub(1) else {
+fn explore(search: &mut Search<'_>, pool: Pool, rect: Rect, depth: u32) -> Result<CertNode, Stop> {
+    let Some(turns) = search.turns.checked_sub(1) else {
         return Err(Stop::GaveUp);
     };
-    place.turns = turns;
+    search.turns = turns;
     if count_of(rect) <= GRID {
-        return grid(place, rect);
+        return grid(search, rect);
     }
-    let (outcome, pool) = run(place.alloc, place.job, &place.path, pool)?;
-    match outcome {
-        Outcome::True(answers) => Ok(CertNode::Leaf(answers)),
-        Outcome::False => Err(untrue(&pool)),
-        Outcome::TooLarge => halve(place, pool, rect, depth),
-        Outcome::Open(opening) => open(place, pool, rect, depth, opening),
+    let (ended, pool) = run(search.job, &mut search.known, pool)?;
+    match ended {
+        Ended::True(answers) => Ok(CertNode::Leaf(answers)),
+        Ended::False => Err(untrue(&pool)),
+        Ended::TooLarge => halve(search, pool, rect, depth),
+        Ended::Open(opening) => open(search, pool, rect, depth, opening),
     }
 }
 
@@ -181,163 +167,107 @@ fn untrue(pool: &Pool) -> Stop {
     }
 }
 
-/// Goes through the worlds of a rectangle that are on the path.
-fn grid(place: &Place<'_>, rect: Rect) -> Result<CertNode, Stop> {
+/// Goes through the worlds of a rectangle that are where the search stands.
+fn grid(search: &Search<'_>, rect: Rect) -> Result<CertNode, Stop> {
     for w in rect.wl..rect.wh.saturating_add(1) {
         for s in rect.sl..rect.sh.saturating_add(1) {
             let world = World { w, s };
-            if is_on_path(place, world)? {
-                try_world(place, world)?;
+            match holds(&search.known, world)? {
+                Some(true) => try_world(search, world)?,
+                Some(false) => {}
+                None => return Err(Stop::GaveUp),
             }
         }
     }
     Ok(CertNode::Grid)
 }
 
-/// Whether a world is on the path.
-fn is_on_path(place: &Place<'_>, world: World) -> Result<bool, Stop> {
-    let mut known = Known::new(place.alloc, world)?;
-    for number in 0..place.path.floors.len() {
-        if let Some(floor) = place.path.floors.get(number) {
-            match floor_of(&floor.row, floor.by, known.values.as_slice()) {
-                Some(value) => known.values.push(value)?,
-                None => return Err(Stop::GaveUp),
-            }
-        }
-    }
-    for fact in &place.path.facts {
-        match value_of(fact, known.values.as_slice()) {
-            Some(value) if value < 0 => return Ok(false),
-            Some(_) => {}
-            None => return Err(Stop::GaveUp),
-        }
-    }
-    Ok(true)
-}
-
-/// The node of a path on which a row is left open.
+/// The node of where a row is left open.
 #[cycle(nodes)]
 fn open(
-    place: &mut Place<'_>,
+    search: &mut Search<'_>,
     pool: Pool,
     rect: Rect,
     depth: u32,
     opening: Opening,
 ) -> Result<CertNode, Stop> {
-    let Opening { floors, row, point } = opening;
+    let alloc = search.known.alloc;
+    let Opening { row, world } = opening;
     let mut pool = pool;
-    if let Some(known) = point {
-        if let Some(world) = known.world() {
-            try_world(place, world)?;
+    if let Some(world) = world {
+        try_world(search, world)?;
+        let mut known = Known::new(alloc, world)?;
+        if known.extend(&search.known.table.floors)? {
+            pool.add(known)?;
         }
-        pool.worlds.push(known)?;
     }
+    if let Some(unit) = unit_row(alloc, &row)? {
+        return split(search, pool, rect, depth, unit);
+    }
+    let floors = unnamed(search, &row)?;
     let Ok(count) = u32::try_from(floors.len()) else {
         return Err(Stop::GaveUp);
     };
     match depth.saturating_sub(HALVINGS).checked_sub(count) {
-        Some(left) if left > 0 => {
-            let row = cut_once(place.alloc, row)?;
-            define(place, pool, rect, depth, floors, row)
+        Some(left) if left > 0 => define(search, pool, rect, depth, floors, row),
+        _ => halve(search, pool, rect, depth),
+    }
+}
+
+/// The places of the floors on which a row rests and that the way doesn't name yet, ascending.
+fn unnamed(search: &Search<'_>, row: &Row) -> Result<Vec<u32>, Mem> {
+    let alloc = search.known.alloc;
+    let mut floors = Vec::new(alloc);
+    for place in &search.known.table.cone_of(alloc, row)? {
+        if !search.known.way.names(*place) {
+            floors.push(*place)?;
         }
-        _ => halve(place, pool, rect, depth),
     }
+    Ok(floors)
 }
 
-/// The same row where it is no row of the width or the size alone; else one with the coefficient 1 or -1 and the same
-/// signs.
-fn cut_once(alloc: Global, row: Row) -> Result<Row, Stop> {
-    let unit = match row.terms.as_slice() {
-        [term] if term.0 < 2 => unit_row(alloc, row.k, term.0, term.1)?,
-        _ => None,
-    };
-    match unit {
-        Some(unit) => Ok(unit),
-        None => Ok(row),
-    }
-}
-
-fn unit_row(
-    alloc: Global,
-    k: i128,
-    variable: u32,
-    coefficient: i128,
-) -> Result<Option<Row>, AllocError> {
-    let Some(size) = coefficient.checked_abs() else {
-        return Ok(None);
-    };
-    if size <= 0 {
-        return Ok(None);
-    }
-    let bound = k.div_euclid(size);
-    let row = if coefficient > 0 {
-        Row::of_term(alloc, bound, variable, 1)?
-    } else {
-        Row::of_term(alloc, bound, variable, -1)?
-    };
-    Ok(Some(row))
-}
-
-/// The node of a path within a rectangle by its halves on the longer side.
+/// The node by the halves of a rectangle on its longer side.
 #[cycle(nodes)]
-fn halve(place: &mut Place<'_>, pool: Pool, rect: Rect, depth: u32) -> Result<CertNode, Stop> {
-    let is_wide = rect.sh.saturating_sub(rect.sl) <= rect.wh.saturating_sub(rect.wl);
-    let (variable, least, most) = if is_wide {
-        (0, rect.wl, rect.wh)
-    } else {
-        (1, rect.sl, rect.sh)
-    };
-    let row = Row::of_term(place.alloc, i128::from(middle(least, most)), variable, -1)?;
-    split(place, pool, rect, depth, row)
+fn halve(search: &mut Search<'_>, pool: Pool, rect: Rect, depth: u32) -> Result<CertNode, Stop> {
+    let row = halving(search.known.alloc, rect)?;
+    split(search, pool, rect, depth, row)
 }
 
-/// The node of a path that is split by a row after floors are named.
+/// The node that is split by a row after floors are named.
 #[cycle(nodes)]
 fn define(
-    place: &mut Place<'_>,
+    search: &mut Search<'_>,
     pool: Pool,
     rect: Rect,
     depth: u32,
-    floors: Vec<Floor>,
+    floors: Vec<u32>,
     row: Row,
 ) -> Result<CertNode, Stop> {
-    let facts = place.path.facts.len();
-    let named = place.path.floors.len();
-    let mut pool = pool;
-    let mut defs = Vec::new(place.alloc);
+    let alloc = search.known.alloc;
+    let steps = search.known.way.steps.len();
+    let mut numbers = Numbers::new(alloc, &search.known.way)?;
+    let mut defs = Vec::new(alloc);
     let mut below = depth;
-    for floor in floors {
-        defs.push((floor.row.clone()?, floor.by))?;
-        name(place, &mut pool, floor)?;
+    for place in &floors {
+        if let Some(floor) = search.known.table.floors.get(*place as usize) {
+            defs.push((numbers.row(&floor.row)?, floor.by))?;
+        }
+        numbers.name(*place)?;
+        search.known.way.define(*place)?;
         below = below.saturating_sub(1);
     }
-    let mut node = split(place, pool, rect, below, row)?;
-    place.path.leave(facts, named);
+    let mut node = split(search, pool, rect, below, row)?;
+    search.known.leave(steps);
     for (row, by) in defs.into_iter().rev() {
-        node = CertNode::Def(row, by, Boxed::new(place.alloc, node)?);
+        node = CertNode::Def(row, by, Boxed::new(alloc, node)?);
     }
     Ok(node)
 }
 
-/// Names a floor on the path.
-fn name(place: &mut Place<'_>, pool: &mut Pool, floor: Floor) -> Result<(), Stop> {
-    if floor.by <= 0 || place.path.floors.place_of(&floor).is_some() {
-        return Err(Stop::GaveUp);
-    }
-    let Ok(variable) = u32::try_from(place.path.floors.len().saturating_add(2)) else {
-        return Err(Stop::GaveUp);
-    };
-    if !pool.name(&floor.row, floor.by)? {
-        return Err(Stop::GaveUp);
-    }
-    place.path.define(floor, variable)?;
-    Ok(())
-}
-
-/// The node of a path that is split by a row.
+/// The node that is split by a row over floors that the way names.
 #[cycle(nodes)]
 fn split(
-    place: &mut Place<'_>,
+    search: &mut Search<'_>,
     pool: Pool,
     rect: Rect,
     depth: u32,
@@ -346,58 +276,56 @@ fn split(
     let Some(depth) = depth.checked_sub(1) else {
         return Err(Stop::GaveUp);
     };
-    let facts = place.path.facts.len();
-    let named = place.path.floors.len();
-    let (first_pool, second_pool) = pool.parted(place.alloc, &row)?;
-    place.path.enter_first(&row)?;
-    let first = side(place, first_pool, part(&row, Child::First, rect), depth)?;
-    place.path.leave(facts, named);
-    place.path.enter_second(&row)?;
-    let second = side(place, second_pool, part(&row, Child::Second, rect), depth)?;
-    place.path.leave(facts, named);
-    let first = Boxed::new(place.alloc, first)?;
-    let second = Boxed::new(place.alloc, second)?;
-    Ok(CertNode::Split(row, first, second))
+    let alloc = search.known.alloc;
+    let steps = search.known.way.steps.len();
+    let numbers = Numbers::new(alloc, &search.known.way)?;
+    let numbered = numbers.row(&row)?;
+    let other = row.negate()?;
+    let (first_pool, second_pool) = pool.parted(alloc, &row)?;
+    let (first_rect, second_rect) = (
+        part(&row, Child::First, rect),
+        part(&row, Child::Second, rect),
+    );
+    search.known.way.enter(row)?;
+    let first = side(search, first_pool, first_rect, depth)?;
+    search.known.leave(steps);
+    search.known.way.enter(other)?;
+    let second = side(search, second_pool, second_rect, depth)?;
+    search.known.leave(steps);
+    let first = Boxed::new(alloc, first)?;
+    let second = Boxed::new(alloc, second)?;
+    Ok(CertNode::Split(numbered, first, second))
 }
 
-/// The worlds of a rectangle that lie under a child of a split; only a unit split cuts it.
-fn part(row: &Row, child: Child, rect: Rect) -> Option<Rect> {
-    match cut_of(row) {
-        Some(cut) => part_of(cut, child, rect),
-        None => Some(rect),
-    }
-}
-
-/// The node of one side of a split.
+/// The node of one side of a split, of which worlds may be known.
 #[cycle(nodes)]
 fn side(
-    place: &mut Place<'_>,
+    search: &mut Search<'_>,
     pool: Pool,
     rect: Option<Rect>,
     depth: u32,
 ) -> Result<CertNode, Stop> {
     let mut pool = pool;
-    if pool.worlds.is_empty() {
-        let variables = place.path.floors.len().saturating_add(2);
-        let Ok(variables) = u32::try_from(variables) else {
-            return Err(Stop::GaveUp);
-        };
-        match refute(place.alloc, place.path.facts.as_slice(), variables, LIMIT)? {
-            Search::Found(why) => return Ok(CertNode::Void(why)),
-            Search::Point(values) => {
-                let known = Known {
-                    values: values.into_vec(),
+    if pool.is_empty() {
+        match search.known.void()? {
+            Reasoned::Reason(reason) => {
+                let numbers = Numbers::new(search.known.alloc, &search.known.way)?;
+                let to = Numbering {
+                    numbers: &numbers,
+                    sources: reason.sources.as_slice(),
+                    contrary: 0,
                 };
-                if let Some(world) = known.world() {
-                    try_world(place, world)?;
-                }
-                pool.worlds.push(known)?;
+                return Ok(CertNode::Void(copied(search.known.alloc, &reason.why, to)?));
             }
-            Search::GaveUp => return Err(Stop::GaveUp),
+            Reasoned::World(world) => {
+                try_world(search, world)?;
+                pool.add(Known::new(search.known.alloc, world)?)?;
+            }
+            Reasoned::GaveUp => return Err(Stop::GaveUp),
         }
     }
     match rect {
-        Some(rect) => explore(place, pool, rect, depth),
+        Some(rect) => explore(search, pool, rect, depth),
         None => Err(Stop::GaveUp),
     }
 }
