@@ -10,7 +10,7 @@ use std::alloc::Global;
 use viz_base::{Mem, Rect, World};
 
 /// How many cases and pairs of rows are tried for one reason.
-const LIMIT: u64 = 4096;
+pub const LIMIT: u64 = 4096;
 
 /// What a search knows.
 #[derive(Drop)]
@@ -68,23 +68,23 @@ impl Knowledge {
     }
 
     /// Why a row can't be at least 0 here, where it rests on the floors of a cone.
-    pub fn refuted(&self, row: Row, cone: &[u32]) -> Result<Reasoned, Mem> {
+    pub fn refuted(&self, row: &Row, cone: &[u32], limit: u64) -> Result<Reasoned, Mem> {
         let mut grounds = self.grounds(cone)?;
-        grounds.add(row, Source::Contrary, 0)?;
-        self.reasoned(grounds)
+        grounds.add(row.clone()?, Source::Contrary, 0)?;
+        self.reasoned(grounds, limit)
     }
 
     /// Why there is no world here.
     pub fn void(&self) -> Result<Reasoned, Mem> {
         let grounds = self.grounds(&[])?;
-        self.reasoned(grounds)
+        self.reasoned(grounds, LIMIT)
     }
 
     fn grounds(&self, cone: &[u32]) -> Result<Grounds, Mem> {
         Grounds::new(self.alloc, self.range, &self.table, &self.way, cone)
     }
 
-    fn reasoned(&self, grounds: Grounds) -> Result<Reasoned, Mem> {
+    fn reasoned(&self, grounds: Grounds, limit: u64) -> Result<Reasoned, Mem> {
         let variables = self.table.variables()?;
         let Grounds {
             facts,
@@ -92,7 +92,7 @@ impl Knowledge {
             needs,
         } = grounds;
         Ok(
-            match refute(self.alloc, facts.as_slice(), variables, LIMIT)? {
+            match refute(self.alloc, facts.as_slice(), variables, limit)? {
                 Search::Found(why) => Reasoned::Reason(Reason {
                     why,
                     sources,

@@ -2,6 +2,7 @@
 #![tactic(auto)]
 
 mod copies;
+mod crowd;
 mod grounds;
 mod halves;
 mod knowledge;
@@ -16,6 +17,7 @@ mod seeker;
 mod seeking;
 mod store;
 mod table;
+mod units;
 mod values;
 mod ways;
 

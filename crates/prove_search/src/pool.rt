@@ -1,3 +1,5 @@
+use crate::crowd::Crowd;
+use crate::table::Table;
 use crate::values::{floor_of, value_of};
 use lin_row::Row;
 use std::alloc::Global;
@@ -25,6 +27,8 @@ pub enum Signs {
 #[derive(Debug, Drop)]
 pub struct Pool {
     worlds: Vec<Known>,
+    /// Many more, with no values.
+    pub crowd: Crowd,
 }
 
 impl Known {
@@ -65,10 +69,11 @@ impl Known {
 }
 
 impl Pool {
-    /// No worlds.
-    pub fn new(alloc: Global) -> Self {
+    /// A crowd alone.
+    pub fn new(alloc: Global, crowd: Crowd) -> Self {
         Pool {
             worlds: Vec::new(alloc),
+            crowd,
         }
     }
 
@@ -110,10 +115,11 @@ impl Pool {
     }
 
     /// The worlds at which a row is at least 0, and those at which it is below 0.
-    pub fn parted(self, alloc: Global, row: &Row) -> Result<(Pool, Pool), Mem> {
-        let Pool { worlds } = self;
-        let mut first = Pool::new(alloc);
-        let mut second = Pool::new(alloc);
+    pub fn parted(self, alloc: Global, table: &Table, row: &Row) -> Result<(Pool, Pool), Mem> {
+        let Pool { worlds, crowd } = self;
+        let (first_crowd, second_crowd) = crowd.parted(alloc, table, row)?;
+        let mut first = Pool::new(alloc, first_crowd);
+        let mut second = Pool::new(alloc, second_crowd);
         for known in worlds {
             match known.sign_of(row) {
                 Some(true) => first.add(known)?,

@@ -40,30 +40,6 @@ pub fn halving(alloc: Global, rect: Rect) -> Result<Row, AllocError> {
     Row::of_term(alloc, i128::from(most), variable, -1)
 }
 
-/// For a row of the width or the size alone, one of the same signs with the coefficient 1 or -1.
-pub fn unit_row(alloc: Global, row: &Row) -> Result<Option<Row>, AllocError> {
-    match row.terms.as_slice() {
-        [term] if term.0 < 2 => unit_of(alloc, row.k, *term),
-        _ => Ok(None),
-    }
-}
-
-fn unit_of(alloc: Global, k: i128, term: (u32, i128)) -> Result<Option<Row>, AllocError> {
-    let Some(size) = term.1.checked_abs() else {
-        return Ok(None);
-    };
-    if size <= 0 {
-        return Ok(None);
-    }
-    let bound = k.div_euclid(size);
-    let row = if term.1 > 0 {
-        Row::of_term(alloc, bound, term.0, 1)?
-    } else {
-        Row::of_term(alloc, bound, term.0, -1)?
-    };
-    Ok(Some(row))
-}
-
 /// Whether the splits of the way are as they say at a world. None where a number is outside `i128` there.
 pub fn holds(known: &Knowledge, world: World) -> Result<Option<bool>, Mem> {
     let mut values = Known::new(known.alloc, world)?;

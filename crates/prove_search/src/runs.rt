@@ -15,7 +15,7 @@ pub enum Ended {
     True(List<Answer>),
     /// It is false at each of them.
     False,
-    /// It rests on a row that is at least 0 at some of them, as far as is known.
+    /// It rests on a comparison that is left open.
     Open(Opening),
     /// A number is outside 128 bits.
     TooLarge,

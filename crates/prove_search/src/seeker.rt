@@ -1,7 +1,7 @@
 ghost use Rattle.prove_search.specs.Seekers.{seeker_state, number_at};
 
 use crate::copies::{Needs, Numbering, copied, need_of};
-use crate::knowledge::{Knowledge, Reason, Reasoned};
+use crate::knowledge::{Knowledge, LIMIT, Reason, Reasoned};
 use crate::numbers::Numbers;
 use crate::pool::{Pool, Signs};
 use crate::store::Found;
@@ -22,11 +22,11 @@ struct Asked {
     contrary: u32,
 }
 
-/// A row whose sign is left open on a path.
+/// A comparison that is left open on a path.
 #[derive(Debug, Drop)]
 pub struct Opening {
-    /// The row.
-    pub row: Row,
+    /// The row on which it rests, if that has another sign at another known world.
+    pub row: Option<Row>,
     /// A world of the path that was found on the way.
     pub world: Option<World>,
 }
@@ -112,7 +112,7 @@ impl<'a> Seeker<'a> {
         match self.pool.signs_of(&question.row) {
             Signs::Same(yes) => self.decide(question, yes),
             Signs::Unknown => self.decide(question, true),
-            Signs::Both => Err(self.left_open(question.row, None)),
+            Signs::Both => Err(self.left_open(Some(question.row), None)),
         }
     }
 
@@ -135,10 +135,18 @@ impl<'a> Seeker<'a> {
         };
         let contrary = self.counted(contrary)?;
         let cone = self.known.table.cone_of(self.alloc(), &question.row)?;
-        match self.known.refuted(contrary, cone.as_slice())? {
+        let quick = self.known.refuted(&contrary, cone.as_slice(), 0)?;
+        if let Reasoned::Reason(reason) = quick {
+            return self.keep(question, yes, reason, cone.as_slice());
+        }
+        let (alloc, table) = (self.alloc(), &self.known.table);
+        if let Some(world) = self.pool.crowd.find(alloc, table, &question.row, !yes)? {
+            return Err(self.left_open(Some(question.row), Some(world)));
+        }
+        match self.known.refuted(&contrary, cone.as_slice(), LIMIT)? {
             Reasoned::Reason(reason) => self.keep(question, yes, reason, cone.as_slice()),
-            Reasoned::World(world) => Err(self.left_open(question.row, Some(world))),
-            Reasoned::GaveUp => Err(self.left_open(question.row, None)),
+            Reasoned::World(world) => Err(self.left_open(Some(question.row), Some(world))),
+            Reasoned::GaveUp => Err(self.left_open(None, None)),
         }
     }
 
@@ -173,8 +181,8 @@ impl<'a> Seeker<'a> {
         self.answer_again(place)
     }
 
-    /// Leaves a row open, with a world that was found.
-    fn left_open(&mut self, row: Row, world: Option<World>) -> Halt {
+    /// Leaves a comparison open, by a row and with a world that was found.
+    fn left_open(&mut self, row: Option<Row>, world: Option<World>) -> Halt {
         self.open = Some(Opening { row, world });
         self.opens = self.opens.saturating_add(1);
         Halt::Open

@@ -1,10 +1,12 @@
 use crate::copies::{Numbering, copied};
+use crate::crowd::Crowd;
 use crate::knowledge::{Knowledge, Reasoned};
 use crate::numbers::Numbers;
 use crate::pool::{Known, Pool};
-use crate::rects::{GRID, count_of, halving, holds, middle, part, unit_row};
+use crate::rects::{GRID, count_of, halving, holds, middle, part};
 use crate::runs::{Ended, run};
 use crate::seeker::Opening;
+use crate::units::{axis_of, unit_row};
 use cert_check::{Child, holds_at};
 use cert_text::full::{Cert, CertNode};
 use lin_row::{Row, RowFault};
@@ -105,7 +107,7 @@ fn sought(search: &mut Search<'_>) -> Result<CertNode, Stop> {
 /// The middle of a rectangle, its corners, and the middles of its edges.
 fn first_pool(search: &Search<'_>, rect: Rect) -> Result<Pool, Stop> {
     let alloc = search.known.alloc;
-    let mut pool = Pool::new(alloc);
+    let mut pool = Pool::new(alloc, Crowd::new(alloc, rect)?);
     let widths = side_of(alloc, rect.wl, rect.wh)?;
     let sizes = side_of(alloc, rect.sl, rect.sh)?;
     for w in &widths {
@@ -201,7 +203,10 @@ fn open(
             pool.add(known)?;
         }
     }
-    if let Some(unit) = unit_row(alloc, &row)? {
+    let Some(row) = row else {
+        return halve(search, pool, rect, depth);
+    };
+    if let Some(unit) = unit_of(search, rect, &row)? {
         return split(search, pool, rect, depth, unit);
     }
     let floors = unnamed(search, &row)?;
@@ -211,6 +216,17 @@ fn open(
     match depth.saturating_sub(HALVINGS).checked_sub(count) {
         Some(left) if left > 0 => define(search, pool, rect, depth, floors, row),
         _ => halve(search, pool, rect, depth),
+    }
+}
+
+/// For a row of the width or the size alone that changes its sign once in a rectangle, a unit row that changes there.
+fn unit_of(search: &Search<'_>, rect: Rect, row: &Row) -> Result<Option<Row>, Mem> {
+    let alloc = search.known.alloc;
+    let table = &search.known.table;
+    let cone = table.cone_of(alloc, row)?;
+    match axis_of(table, cone.as_slice(), row) {
+        Some(axis) => unit_row(alloc, table, cone.as_slice(), row, rect, axis),
+        None => Ok(None),
     }
 }
 
@@ -281,7 +297,7 @@ fn split(
     let numbers = Numbers::new(alloc, &search.known.way)?;
     let numbered = numbers.row(&row)?;
     let other = row.negate()?;
-    let (first_pool, second_pool) = pool.parted(alloc, &row)?;
+    let (first_pool, second_pool) = pool.parted(alloc, &search.known.table, &row)?;
     let (first_rect, second_rect) = (
         part(&row, Child::First, rect),
         part(&row, Child::Second, rect),
@@ -306,6 +322,9 @@ fn side(
     depth: u32,
 ) -> Result<CertNode, Stop> {
     let mut pool = pool;
+    if let (true, Some(world)) = (pool.is_empty(), pool.crowd.middle()) {
+        pool.add(Known::new(search.known.alloc, world)?)?;
+    }
     if pool.is_empty() {
         match search.known.void()? {
             Reasoned::Reason(reason) => {
