@@ -14,7 +14,8 @@ use viz_base::{Job, Mem};
 
 /// The verdict on a certificate for a job, whoever made it. A certificate is accepted only where it is right for the
 /// job, and the job holds then. One without leaves whose numbers stay in `i128` is accepted exactly where it is right.
-/// The only fault is want of memory.
+/// The only fault is want of memory; a halt of a leaf's layout that its calc does not account for, of which none is
+/// known, would be told as such too.
 ///
 /// Each leaf takes one layout of the page, and so does each world of a grid's path; each line of a derivation is
 /// checked once. The call goes as deep as the certificate's defs and splits stand in one another.
