@@ -15,7 +15,8 @@ pub fn one_spelling()
 
 /// No certificate's text begins another's.
 pub fn no_text_begins_another()
-    ensures { (first second : Cert) (text more : List ℕ) → CertText first text → CertText second (text ++ more) → more ≡ [] }
+    ensures { (first second : Cert) (text more : List ℕ) → CertText first text → CertText second (text ++ more)
+        → more ≡ [] }
 {}
 
 /// A certificate has at most as many nodes as its text has bytes.

@@ -64,8 +64,8 @@ enum Outcome {
     Found,
     /// They don't.
     Failed,
-    /// They don't, nor at any node above: each element around the place where an element was looked for failed, and these
-    /// are all that another try would find.
+    /// They don't, nor at any node above: each element around the place where an element was looked for failed, and
+    /// these are all that another try would find.
     Hopeless,
 }
 
@@ -94,8 +94,8 @@ fn match_parts(page: &Page, parts: &[(Join, Compound)], node: u32) -> Outcome
     }
 }
 
-/// Matches them at the elements around a node, the nearest first. Behind one from which the search came to an end without
-/// an element, the others need no try.
+/// Matches them at the elements around a node, the nearest first. Behind one from which the search came to an end
+/// without an element, the others need no try.
 #[cycle(matching)]
 fn match_around(page: &Page, parts: &[(Join, Compound)], node: u32) -> Outcome
     ensures { IsOutcomeAround page.now.nodes (reverse parts.now) node result }
@@ -110,8 +110,8 @@ fn match_around(page: &Page, parts: &[(Join, Compound)], node: u32) -> Outcome
     Outcome::Hopeless
 }
 
-/// Whether a selector matches a node of a page, which is an element then (CSS 2.1, chapter 5), in time linear in the depth of the page for each
-/// simple selector, and in its siblings where one looks at them.
+/// Whether a selector matches a node of a page, which is an element then (CSS 2.1, chapter 5), in time linear in the
+/// depth of the page for each simple selector, and in its siblings where one looks at them.
 pub fn matches(selector: &Selector, page: &Page, node: u32) -> bool
     ensures { IsTrue result ↔ Match selector.now.parts page.now.nodes node }
 {

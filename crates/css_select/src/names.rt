@@ -20,7 +20,8 @@ pub fn name_of(alloc: Global, token: &Token<'_>) -> Result<Text, Mem>
 
 /// Whether it is a word that matches nothing.
 fn is_never(text: &str) -> bool
-    ensures { result ≡ (same_name text.now (codes "visited") || same_name text.now (codes "hover") || same_name text.now (codes "active") || same_name text.now (codes "focus")) }
+    ensures { result ≡ (same_name text.now (codes "visited") || same_name text.now (codes "hover")
+        || same_name text.now (codes "active") || same_name text.now (codes "focus")) }
 {
     same_name(text, "visited")
         || same_name(text, "hover")
@@ -30,7 +31,8 @@ fn is_never(text: &str) -> bool
 
 /// Whether it is a pseudo-element.
 fn is_element(text: &str) -> bool
-    ensures { result ≡ (same_name text.now (codes "first-line") || same_name text.now (codes "first-letter") || same_name text.now (codes "before") || same_name text.now (codes "after")) }
+    ensures { result ≡ (same_name text.now (codes "first-line") || same_name text.now (codes "first-letter")
+        || same_name text.now (codes "before") || same_name text.now (codes "after")) }
 {
     same_name(text, "first-line")
         || same_name(text, "first-letter")

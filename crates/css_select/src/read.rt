@@ -57,12 +57,13 @@ fn read_tokens(alloc: Global, tokens: &[Token<'_>], end: u32) -> Result<List<Sel
 
 /// The group of selectors that a text spells (CSS 2.1, chapter 5 and appendix G.1).
 ///
-/// `Bad` where it spells none, even with the selectors that are refused (`:lang()`, and at a selector's end `:first-line`,
-/// `:first-letter`, `:before` and `:after`), at the first token that no such group can have there, or at the text's end;
-/// `Unsupported` where it spells one with these alone, at the colon of the first of them; `Mem` for want of memory, as
-/// which a text of `2^32` bytes and more counts.
+/// `Bad` where it spells none, even with the selectors that are refused (`:lang()`, and at a selector's end
+/// `:first-line`, `:first-letter`, `:before` and `:after`), at the first token that no such group can have there, or at
+/// the text's end; `Unsupported` where it spells one with these alone, at the colon of the first of them; `Mem` for
+/// want of memory, as which a text of `2^32` bytes and more counts.
 pub fn read_selector(alloc: Global, text: &str) -> Result<List<Selector>, SelFault>
-    ensures answer { MatchResult result (λ group. IsGroupOf text.now (map parts_of group)) (λ fault. IsFault fault text.now) }
+    ensures answer { MatchResult result (λ group. IsGroupOf text.now (map parts_of group))
+        (λ fault. IsFault fault text.now) }
     ensures countable { IfOk result (All (λ s. IsCountable s.parts)) }
 {
     let end = place(text.len())?;

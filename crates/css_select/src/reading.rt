@@ -41,8 +41,8 @@ pub struct Chain {
     pub ghost ok: { IsChain parts join },
 }
 
-/// What is read of a group: its earlier selectors, the simple selectors of the last one, what is read of the next simple
-/// selector, and the place of the first refused selector.
+/// What is read of a group: its earlier selectors, the simple selectors of the last one, what is read of the next
+/// simple selector, and the place of the first refused selector.
 #[derive(Debug, Drop)]
 pub struct Reading {
     pub place: Place,

@@ -135,7 +135,8 @@ fn step_function_behind_colon(
     colon: u32,
     token: &Token<'_>,
 ) -> Result<Reading, SelFault>
-    ensures { Gives result (step_function (state_of reading) colon token.now (same_name (text_of token.now) (codes "lang"))) }
+    ensures { Gives result (step_function (state_of reading) colon token.now
+        (same_name (text_of token.now) (codes "lang"))) }
 {
     if is_lang(alloc, token)? {
         Ok(reading.at(Place::Language(colon)))

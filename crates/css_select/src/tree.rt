@@ -6,7 +6,8 @@ use viz_base::{Body, Page};
 
 /// A node's parent, which stands before it.
 pub fn parent_of(page: &Page, node: u32) -> Option<u32>
-    ensures is { MatchOption result ((p : ℕ) → IsParent page.now.nodes p node → ⊥) (λ p. IsParent page.now.nodes p node) }
+    ensures is { MatchOption result ((p : ℕ) → IsParent page.now.nodes p node → ⊥)
+        (λ p. IsParent page.now.nodes p node) }
     ensures before { MatchOption result (Unit {0}) (λ p. p < node) }
 {
     page.nodes.get(node as usize)?.parent
@@ -24,7 +25,8 @@ fn is_child_element(page: &Page, parent: u32, node: u32) -> bool
 
 /// The last child of an element that is an element and stands before a node.
 fn last_child_before(page: &Page, parent: u32, node: u32) -> Option<u32>
-    ensures { MatchOption result (NoChildBefore page.now.nodes parent node) (IsLastChildBefore page.now.nodes parent node) }
+    ensures { MatchOption result (NoChildBefore page.now.nodes parent node)
+        (IsLastChildBefore page.now.nodes parent node) }
 {
     let mut at = node;
     while at > parent {
@@ -38,7 +40,8 @@ fn last_child_before(page: &Page, parent: u32, node: u32) -> Option<u32>
 
 /// The element directly before a node among those with its parent.
 pub fn previous_sibling(page: &Page, node: u32) -> Option<u32>
-    ensures { MatchOption result ((s : ℕ) → IsPrevious page.now.nodes s node → ⊥) (λ s. IsPrevious page.now.nodes s node) }
+    ensures { MatchOption result ((s : ℕ) → IsPrevious page.now.nodes s node → ⊥)
+        (λ s. IsPrevious page.now.nodes s node) }
 {
     match parent_of(page, node) {
         Some(parent) => last_child_before(page, parent, node),

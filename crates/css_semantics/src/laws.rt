@@ -10,7 +10,8 @@ ghost use Rattle.css_semantics.specs.TokensUnescaped.{Extent};
 
 /// A law: no text has two lists of tokens (CSS 2.1, 4.1.1).
 pub fn tokens_are_unique(text: &str)
-    ensures { (first second : List Piece) → ArePieces 0 (chars text.now) first → ArePieces 0 (chars text.now) second → first ≡ second }
+    ensures { (first second : List Piece) → ArePieces 0 (chars text.now) first → ArePieces 0 (chars text.now) second
+        → first ≡ second }
 {}
 
 /// A law: the tokens of a text join to it.

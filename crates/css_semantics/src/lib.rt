@@ -1,6 +1,6 @@
-//! What the tokens of a style sheet are and what they spell (CSS 2.1, 4.1 and 4.2), what a selector matches (chapter 5), what
-//! the value of a declaration says, and which declaration wins (6.4): definitions that the contracts of other crates cite,
-//! and their laws.
+//! What the tokens of a style sheet are and what they spell (CSS 2.1, 4.1 and 4.2), what a selector matches (chapter
+//! 5), what the value of a declaration says, and which declaration wins (6.4): definitions that the contracts of other
+//! crates cite, and their laws.
 #![tactic(auto)]
 
 mod claims;

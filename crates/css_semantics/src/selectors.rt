@@ -12,9 +12,12 @@ ghost use Rattle.css_semantics.specs.Specificity.{spec_of};
 /// Law: before a `>` the parent matches, before white space any element around the node may match, and before a `+` the
 /// element directly before it matches (CSS 2.1, 5.5 to 5.7).
 pub fn joins_say_where()
-    ensures child { (nodes : Seq Node) (n : ℕ) (a b : Compound) → Match (two a of_join.Child b) nodes n → (p : ℕ) × IsParent nodes p n × MatchesCompound nodes a p }
-    ensures descendant { (nodes : Seq Node) (top n : ℕ) (a b : Compound) → IsAncestor nodes top n → MatchesCompound nodes a top → MatchesCompound nodes b n → Match (two a of_join.Descendant b) nodes n }
-    ensures next { (nodes : Seq Node) (n : ℕ) (a b : Compound) → Match (two a of_join.Next b) nodes n → (s : ℕ) × IsPrevious nodes s n × MatchesCompound nodes a s }
+    ensures child { (nodes : Seq Node) (n : ℕ) (a b : Compound) → Match (two a of_join.Child b) nodes n
+        → (p : ℕ) × IsParent nodes p n × MatchesCompound nodes a p }
+    ensures descendant { (nodes : Seq Node) (top n : ℕ) (a b : Compound) → IsAncestor nodes top n
+        → MatchesCompound nodes a top → MatchesCompound nodes b n → Match (two a of_join.Descendant b) nodes n }
+    ensures next { (nodes : Seq Node) (n : ℕ) (a b : Compound) → Match (two a of_join.Next b) nodes n
+        → (s : ℕ) × IsPrevious nodes s n × MatchesCompound nodes a s }
 {}
 
 /// Law: what one id, one class and one tag count (CSS 2.1, 6.4.3).

@@ -7,8 +7,10 @@ ghost use Rattle.css_semantics.specs.SheetsGrammar.{AreDeclarations, IsSheet, Is
 
 /// Law: for each test of what ends a stretch, each list of tokens falls in exactly one way into a stretch and a rest.
 pub fn one_stretch()
-    ensures exists { (stop : Token → Bool) (ts : Seq Token) → (front : Seq Token) × (rest : Seq Token) × IsStretch stop ts front rest }
-    ensures unique { (stop : Token → Bool) (ts f g r s : Seq Token) → IsStretch stop ts f r → IsStretch stop ts g s → (f ≡ g) × (r ≡ s) }
+    ensures exists { (stop : Token → Bool) (ts : Seq Token)
+        → (front : Seq Token) × (rest : Seq Token) × IsStretch stop ts front rest }
+    ensures unique { (stop : Token → Bool) (ts f g r s : Seq Token) → IsStretch stop ts f r → IsStretch stop ts g s
+        → (f ≡ g) × (r ≡ s) }
 {}
 
 /// Law: each list of tokens has exactly one list of declarations.

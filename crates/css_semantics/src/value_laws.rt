@@ -11,16 +11,19 @@ ghost use Rattle.css_semantics.specs.Shorthands.{Says, declared, shorthand};
 ghost use Rattle.css_semantics.specs.Winners.{AreAllowed};
 ghost use Rattle.css_semantics.specs.ValuesLaws.{FewerSides, HasValue, IsAmong, longhands, props};
 
-/// A law: a declaration sets its own property alone, or all that it is short for, in the order of the table of properties,
-/// each once (CSS 2.1, 1.4.3).
+/// A law: a declaration sets its own property alone, or all that it is short for, in the order of the table of
+/// properties, each once (CSS 2.1, 1.4.3).
 pub fn settings_in_order()
-    ensures alone { (p : Prop) (ps : Seq Part) (settings : Seq Setting) → longhand p ps ≡ Ok settings → props settings ≡ p ∷ [] }
-    ensures whole { (s : Shorthand) (ps : Seq Part) (settings : Seq Setting) → shorthand s ps ≡ Ok settings → props settings ≡ longhands s }
-    ensures ordered { (name : Seq ℕ) (ps : Seq Part) (settings : Seq Setting) → declared name ps ≡ Ok settings → IsAmong (props settings) properties }
+    ensures alone { (p : Prop) (ps : Seq Part) (settings : Seq Setting) → longhand p ps ≡ Ok settings
+        → props settings ≡ p ∷ [] }
+    ensures whole { (s : Shorthand) (ps : Seq Part) (settings : Seq Setting) → shorthand s ps ≡ Ok settings
+        → props settings ≡ longhands s }
+    ensures ordered { (name : Seq ℕ) (ps : Seq Part) (settings : Seq Setting) → declared name ps ≡ Ok settings
+        → IsAmong (props settings) properties }
 {}
 
-/// A law: each value of one part is one that the property's row of the table has. None is negative where it says so, and
-/// only zero is accepted where it says that (CSS 2.1, 4.3.2).
+/// A law: each value of one part is one that the property's row of the table has. None is negative where it says so,
+/// and only zero is accepted where it says that (CSS 2.1, 4.3.2).
 pub fn values_by_the_table()
     ensures { (p : Prop) (a : Part) (v : Value) → part_value p a ≡ Ok v → HasValue (row p) v }
 {}

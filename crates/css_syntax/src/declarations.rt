@@ -56,7 +56,8 @@ fn before_important<'a>(
     alloc: Global,
     tokens: &'a [Token<'a>],
 ) -> Result<Option<(&'a [Token<'a>], usize)>, Mem>
-    ensures { IfOk result (λ found. MatchOption found (before_important tokens.now ≡ None) (λ p. before_important tokens.now ≡ Some (p.0.now, p.1))) }
+    ensures { IfOk result (λ found. MatchOption found (before_important tokens.now ≡ None)
+        (λ p. before_important tokens.now ≡ Some (p.0.now, p.1))) }
 {
     if !is_closed(alloc, tokens)? {
         return Ok(None);
@@ -130,7 +131,8 @@ fn declaration_item<'a>(
     alloc: Global,
     tokens: &'a [Token<'a>],
 ) -> Result<(Option<Decl>, &'a [Token<'a>]), Mem>
-    ensures { IfOk result (λ p. (option_to_list p.0 ≡ at_head declaration_item tokens.now) × (p.1.now ≡ at_head after_declaration tokens.now)) }
+    ensures { IfOk result (λ p. (option_to_list p.0 ≡ at_head declaration_item tokens.now)
+        × (p.1.now ≡ at_head after_declaration tokens.now)) }
 {
     let Some((first, after)) = tokens.split_first() else {
         return Ok((None, tokens));

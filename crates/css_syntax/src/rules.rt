@@ -46,7 +46,8 @@ fn rule_item<'a>(
     alloc: Global,
     tokens: &'a [Token<'a>],
 ) -> Result<(Option<Rule>, &'a [Token<'a>]), Mem>
-    ensures { IfOk result (λ p. (option_to_list p.0 ≡ at_head rule_item tokens.now) × (p.1.now ≡ at_head after_rule tokens.now)) }
+    ensures { IfOk result (λ p. (option_to_list p.0 ≡ at_head rule_item tokens.now)
+        × (p.1.now ≡ at_head after_rule tokens.now)) }
 {
     let Some((first, after)) = tokens.split_first() else {
         return Ok((None, tokens));

@@ -72,8 +72,10 @@ struct Reading {
 impl Reading {
     /// Goes past a statement, unless it is refused.
     fn take(&mut self, statement: Statement) -> Result<(), SheetFault>
-        ensures ok { OnOk result (with_statement self.old.early self.old.rules.items statement ≡ Ok (self.new.early, self.new.rules.items)) }
-        ensures err { IfErr result (λ fault. Refuses fault (with_statement self.old.early self.old.rules.items statement)) }
+        ensures ok { OnOk result (with_statement self.old.early self.old.rules.items statement
+            ≡ Ok (self.new.early, self.new.rules.items)) }
+        ensures err { IfErr result (λ fault. Refuses fault
+            (with_statement self.old.early self.old.rules.items statement)) }
     {
         match statement {
             Statement::Ruleset(rule) => {
@@ -121,11 +123,11 @@ fn read_rules<'a>(alloc: Global, tokens: &'a [Token<'a>]) -> Result<Sheet, Sheet
 }
 
 /// The style sheet that a text spells, with all error recovery (CSS 2.1, 4.1 and 4.2): the rulesets that apply to the
-/// medium `screen`, those of which the selector alone is at fault too, and their declarations, of which the property or the
-/// value alone may be at fault. Places and lengths are in bytes of the text, which is shorter than `2^32` bytes.
+/// medium `screen`, those of which the selector alone is at fault too, and their declarations, of which the property or
+/// the value alone may be at fault. Places and lengths are in bytes of the text, which is shorter than `2^32` bytes.
 ///
-/// `Import` and `MediaQuery` for the first statement that is refused, at the place of its keyword; `TooManyRules` for more
-/// than 8,192 rules where none is refused; `Mem` for want of memory alone.
+/// `Import` and `MediaQuery` for the first statement that is refused, at the place of its keyword; `TooManyRules` for
+/// more than 8,192 rules where none is refused; `Mem` for want of memory alone.
 pub fn read_sheet(alloc: Global, text: &str) -> Result<Sheet, SheetFault>
     ensures { GivesOneOf rules_in refusal_of result (IsSheetOf text.now) }
 {
@@ -134,8 +136,8 @@ pub fn read_sheet(alloc: Global, text: &str) -> Result<Sheet, SheetFault>
     read_rules(alloc, tokens.as_slice())
 }
 
-/// The declarations of a style attribute, read as what stands in a block (CSS 2.1, 4.1.8 and 4.2). Places and lengths are
-/// in bytes of the text, which is shorter than `2^32` bytes.
+/// The declarations of a style attribute, read as what stands in a block (CSS 2.1, 4.1.8 and 4.2). Places and lengths
+/// are in bytes of the text, which is shorter than `2^32` bytes.
 ///
 /// `Mem` for want of memory alone.
 pub fn read_declarations(alloc: Global, text: &str) -> Result<List<Decl>, Mem>

@@ -94,7 +94,8 @@ pub fn start_of(tokens: &[Token<'_>], at: usize) -> usize
 
 /// How many bytes the tokens span. Where they end past `2^64`, which counts as want of memory, as no text does.
 pub fn extent(tokens: &[Token<'_>]) -> Result<usize, Mem>
-    ensures { MatchResult result (λ n. n ≡ extent tokens.now) (λ _. 2 ^ 64 ≤ end_of (slice_get tokens.now (length tokens.now - 1))) }
+    ensures { MatchResult result (λ n. n ≡ extent tokens.now)
+        (λ _. 2 ^ 64 ≤ end_of (slice_get tokens.now (length tokens.now - 1))) }
 {
     let Some(last) = tokens.last() else {
         return Ok(0);

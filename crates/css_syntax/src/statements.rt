@@ -91,7 +91,8 @@ pub fn statement_item<'a>(
     alloc: Global,
     tokens: &'a [Token<'a>],
 ) -> Result<(Option<Statement>, &'a [Token<'a>]), Mem>
-    ensures { IfOk result (λ p. (option_to_list p.0 ≡ at_head statement_item tokens.now) × (p.1.now ≡ at_head after_statement tokens.now)) }
+    ensures { IfOk result (λ p. (option_to_list p.0 ≡ at_head statement_item tokens.now)
+        × (p.1.now ≡ at_head after_statement tokens.now)) }
 {
     let Some((first, after)) = tokens.split_first() else {
         return Ok((None, tokens));

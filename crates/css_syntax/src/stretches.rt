@@ -55,7 +55,8 @@ pub fn split<'a>(
     tokens: &'a [Token<'a>],
     stop: Stop,
 ) -> Result<(&'a [Token<'a>], &'a [Token<'a>]), Mem>
-    ensures { IfOk result (λ p. (p.0.now ≡ front (stops stop) tokens.now) × (p.1.now ≡ behind (stops stop) tokens.now)) }
+    ensures { IfOk result (λ p. (p.0.now ≡ front (stops stop) tokens.now)
+        × (p.1.now ≡ behind (stops stop) tokens.now)) }
 {
     let len = stretch_len(alloc, tokens, stop)?;
     Ok(tokens.split_at(len))

@@ -72,7 +72,9 @@ fn ends(ending: Ending, letter: char) -> bool
 /// Takes a character that no escape has.
 fn take_plain(said: &mut Text, ending: Ending, letter: char) -> Result<Mode, Mem>
     ensures small { IfOk result IsSmall }
-    ensures said { IfOk result (λ next. (cs : List ℕ) → said.old ++ encode_utf8_all (resolved (extent_of ending) (letter ∷ cs)) ≡ said.new ++ encode_utf8_all (resolved_in ending next cs)) }
+    ensures said { IfOk result (λ next. (cs : List ℕ)
+        → said.old ++ encode_utf8_all (resolved (extent_of ending) (letter ∷ cs))
+        ≡ said.new ++ encode_utf8_all (resolved_in ending next cs)) }
 {
     if letter == '\\' {
         Ok(Mode::Backslash)
@@ -87,7 +89,9 @@ fn take_plain(said: &mut Text, ending: Ending, letter: char) -> Result<Mode, Mem
 /// Takes the first character of an escape.
 fn take_escaped(said: &mut Text, ending: Ending, letter: char) -> Result<Mode, Mem>
     ensures small { IfOk result IsSmall }
-    ensures said { IfOk result (λ next. (cs : List ℕ) → said.old ++ encode_utf8_all (resolved_in ending Mode.Backslash (letter ∷ cs)) ≡ said.new ++ encode_utf8_all (resolved_in ending next cs)) }
+    ensures said { IfOk result (λ next. (cs : List ℕ)
+        → said.old ++ encode_utf8_all (resolved_in ending Mode.Backslash (letter ∷ cs))
+        ≡ said.new ++ encode_utf8_all (resolved_in ending next cs)) }
 {
     if is_hex(letter) {
         Ok(Mode::Number(5, hex_value(letter)))
@@ -104,7 +108,9 @@ fn take_escaped(said: &mut Text, ending: Ending, letter: char) -> Result<Mode, M
 /// Takes the character behind a number that is complete.
 fn take_after_number(said: &mut Text, ending: Ending, letter: char) -> Result<Mode, Mem>
     ensures small { IfOk result IsSmall }
-    ensures said { IfOk result (λ next. (cs : List ℕ) → said.old ++ encode_utf8_all (after_number (extent_of ending) letter cs) ≡ said.new ++ encode_utf8_all (resolved_in ending next cs)) }
+    ensures said { IfOk result (λ next. (cs : List ℕ)
+        → said.old ++ encode_utf8_all (after_number (extent_of ending) letter cs)
+        ≡ said.new ++ encode_utf8_all (resolved_in ending next cs)) }
 {
     if letter == '\r' {
         Ok(Mode::Return)
@@ -120,7 +126,9 @@ fn take_number(said: &mut Text, ending: Ending, left: u8, n: u32, letter: char) 
     requires left { left < 6 }
     requires small { n < above_digits left }
     ensures small { IfOk result IsSmall }
-    ensures said { IfOk result (λ next. (cs : List ℕ) → said.old ++ encode_utf8_all (resolved_in ending (Mode.Number left n) (letter ∷ cs)) ≡ said.new ++ encode_utf8_all (resolved_in ending next cs)) }
+    ensures said { IfOk result (λ next. (cs : List ℕ)
+        → said.old ++ encode_utf8_all (resolved_in ending (Mode.Number left n) (letter ∷ cs))
+        ≡ said.new ++ encode_utf8_all (resolved_in ending next cs)) }
 {
     if is_hex(letter) && left > 0 {
         return Ok(Mode::Number(left - 1, 16 * n + hex_value(letter)));
@@ -131,7 +139,9 @@ fn take_number(said: &mut Text, ending: Ending, left: u8, n: u32, letter: char) 
 
 fn take_returned(said: &mut Text, ending: Ending, letter: char) -> Result<Mode, Mem>
     ensures small { IfOk result IsSmall }
-    ensures said { IfOk result (λ next. (cs : List ℕ) → said.old ++ encode_utf8_all (resolved_in ending Mode.Return (letter ∷ cs)) ≡ said.new ++ encode_utf8_all (resolved_in ending next cs)) }
+    ensures said { IfOk result (λ next. (cs : List ℕ)
+        → said.old ++ encode_utf8_all (resolved_in ending Mode.Return (letter ∷ cs))
+        ≡ said.new ++ encode_utf8_all (resolved_in ending next cs)) }
 {
     if letter == '\n' {
         Ok(Mode::Plain)
@@ -143,7 +153,9 @@ fn take_returned(said: &mut Text, ending: Ending, letter: char) -> Result<Mode, 
 fn take(said: &mut Text, ending: Ending, mode: Mode, letter: char) -> Result<Mode, Mem>
     requires { IsSmall mode }
     ensures small { IfOk result IsSmall }
-    ensures said { IfOk result (λ next. (cs : List ℕ) → said.old ++ encode_utf8_all (resolved_in ending mode (letter ∷ cs)) ≡ said.new ++ encode_utf8_all (resolved_in ending next cs)) }
+    ensures said { IfOk result (λ next. (cs : List ℕ)
+        → said.old ++ encode_utf8_all (resolved_in ending mode (letter ∷ cs))
+        ≡ said.new ++ encode_utf8_all (resolved_in ending next cs)) }
 {
     match mode {
         Mode::Plain => take_plain(said, ending, letter),
@@ -241,8 +253,8 @@ fn address(alloc: Global, text: &str) -> Result<Text, Mem>
     }
 }
 
-/// What a token says: its text with escapes resolved, without the quotes, the `#`, the `@` or the `(` of its kind, and of
-/// an address the address alone (CSS 2.1, 4.1.3).
+/// What a token says: its text with escapes resolved, without the quotes, the `#`, the `@` or the `(` of its kind, and
+/// of an address the address alone (CSS 2.1, 4.1.3).
 ///
 /// `Mem` for want of memory alone.
 pub fn unescape(alloc: Global, token: &Token<'_>) -> Result<Text, Mem>

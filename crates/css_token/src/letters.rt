@@ -4,7 +4,8 @@ ghost use Rattle.css_semantics.specs.TokensLetters.{is_digit, is_hex, is_l, is_n
 
 /// The first character, and what follows it.
 pub fn split_char(text: &str) -> Option<(char, &str)>
-    ensures { MatchOption result (chars text.now ≡ []) (λ p. (chars text.now ≡ p.0 ∷ chars p.1.now) × (length p.1.now < length text.now)) }
+    ensures { MatchOption result (chars text.now ≡ [])
+        (λ p. (chars text.now ≡ p.0 ∷ chars p.1.now) × (length p.1.now < length text.now)) }
 {
     let mut chars = text.chars();
     let first = chars.next()?;

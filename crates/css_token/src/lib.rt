@@ -1,5 +1,5 @@
-//! Tokens of style sheets (CSS 2.1, 4.1.1), one at a time or all of a text, what they say without escapes, and the brackets
-//! that they open and close.
+//! Tokens of style sheets (CSS 2.1, 4.1.1), one at a time or all of a text, what they say without escapes, and the
+//! brackets that they open and close.
 #![tactic(auto)]
 
 mod closing;

@@ -36,7 +36,8 @@ fn longest<'a>(
 
 /// The kind of the piece at the front, and what follows it.
 fn scan(text: &str) -> Option<(TokenKind, &str)>
-    ensures { MatchOption result (chars text.now ≡ []) (λ p. (0 < length (chars text.now)) × (cut_of (chars text.now) ≡ (p.0, chars p.1.now))) }
+    ensures { MatchOption result (chars text.now ≡ [])
+        (λ p. (0 < length (chars text.now)) × (cut_of (chars text.now) ≡ (p.0, chars p.1.now))) }
 {
     let (_, after_first) = split_char(text)?;
     Some(longest(State::Begin, text, TokenKind::Delim, after_first))

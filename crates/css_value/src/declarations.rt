@@ -179,12 +179,12 @@ fn declared(alloc: Global, name: &str, parts: &[Part]) -> Result<List<Setting>, 
     }
 }
 
-/// The settings of a declaration, those of a shorthand in the order of the table of properties (CSS 2.1, 1.4.3 and 4.3).
-/// The name is without escapes, and it and the value are shorter than `2^32` bytes. The end of the value closes what is
-/// open there. Absolute lengths are in 1/64 px, other amounts in millionths.
+/// The settings of a declaration, those of a shorthand in the order of the table of properties (CSS 2.1, 1.4.3 and
+/// 4.3). The name is without escapes, and it and the value are shorter than `2^32` bytes. The end of the value closes
+/// what is open there. Absolute lengths are in 1/64 px, other amounts in millionths.
 ///
-/// `Ignored` where the declaration is dropped, since the property is unknown or the value illegal; `Unsupported` where the
-/// value is one that the property refuses by name; `Mem` for want of memory alone.
+/// `Ignored` where the declaration is dropped, since the property is unknown or the value illegal; `Unsupported` where
+/// the value is one that the property refuses by name; `Mem` for want of memory alone.
 pub fn read_declaration(alloc: Global, name: &str, value: &str) -> Result<List<Setting>, ValueFault>
     ensures { GivesOneOf (λ x. x) refusal_of result (Says name.now value.now) }
 {

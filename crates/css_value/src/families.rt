@@ -18,8 +18,8 @@ enum Before {
     Words(Text),
 }
 
-/// The names of font families that the parts are (CSS 2.1, 15.3): strings, and identifiers joined by a space, with commas
-/// between them; none where they are no such list.
+/// The names of font families that the parts are (CSS 2.1, 15.3): strings, and identifiers joined by a space, with
+/// commas between them; none where they are no such list.
 #[tactic(auto, using(crate::proofs::FamilyLemmas::with_front_nil, crate::proofs::FamilyLemmas::with_front_push))]
 pub fn families(alloc: Global, parts: &[Part]) -> Result<Option<List<Text>>, Mem>
     ensures { IfOk result (λ names. names ≡ families parts.now) }
@@ -50,7 +50,8 @@ fn next(
     before: Before,
     part: &Part,
 ) -> Result<Option<Before>, Mem>
-    ensures { IfOk result (λ after. (ps : Seq Part) → with_front names.old (names_from before (part.now ∷ ps)) ≡ names_after names.new after ps) }
+    ensures { IfOk result (λ after. (ps : Seq Part)
+        → with_front names.old (names_from before (part.now ∷ ps)) ≡ names_after names.new after ps) }
 {
     match (before, part) {
         (Before::Comma, Part::Quoted(name)) => {

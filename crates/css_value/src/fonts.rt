@@ -70,7 +70,8 @@ fn named_font(
 
 /// The line height behind a `/`, and what follows it.
 fn height_behind(parts: &[Part]) -> Option<(&Part, &[Part])>
-    ensures { MatchOption result (height_behind parts.now ≡ None) (λ p. height_behind parts.now ≡ Some (p.0.now, p.1.now)) }
+    ensures { MatchOption result (height_behind parts.now ≡ None)
+        (λ p. height_behind parts.now ≡ Some (p.0.now, p.1.now)) }
 {
     match parts {
         [Part::Solidus, height, rest @ ..] => Some((height, rest)),

@@ -49,7 +49,8 @@ fn four(
     bottom: &Part,
     left: &Part,
 ) -> Result<List<Setting>, ValueFault>
-    ensures { Gives (λ x. x) refusal_of result (four sides.top sides.right sides.bottom sides.left top.now right.now bottom.now left.now) }
+    ensures { Gives (λ x. x) refusal_of result
+        (four sides.top sides.right sides.bottom sides.left top.now right.now bottom.now left.now) }
 {
     let top = part_value(sides.top, top)?;
     let right = part_value(sides.right, right)?;

@@ -117,7 +117,8 @@ fn part_item<'a>(
     alloc: Global,
     tokens: &'a [Token<'a>],
 ) -> Result<(Option<Part>, &'a [Token<'a>]), Mem>
-    ensures { IfOk result (λ p. (option_to_list p.0 ≡ at_head part_item tokens.now) × (p.1.now ≡ at_head after_part tokens.now)) }
+    ensures { IfOk result (λ p. (option_to_list p.0 ≡ at_head part_item tokens.now)
+        × (p.1.now ≡ at_head after_part tokens.now)) }
 {
     let Some((token, after)) = tokens.split_first() else {
         return Ok((None, tokens));

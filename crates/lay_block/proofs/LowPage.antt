@@ -17,7 +17,6 @@ use Rattle.viz_base.specs.declared.trees.Kind.TheVariants as of_kind
 use Rattle.viz_base.specs.declared.worlds.World.{World}
 use Rattle.viz_calc.specs.State.{AllSmall}
 use Rattle.layout_semantics.specs.Order.{kids_of, document_order, page_order, roots}
-use Rattle.layout_semantics.specs.Page.{page_rendering}
 use Rattle.layout_semantics.specs.DefiniteHeights.{own_height_around}
 use Rattle.layout_semantics.specs.FlowBoxes.{across, content_from}
 use Rattle.layout_semantics.specs.Rectangles.{content_top}
@@ -34,12 +33,10 @@ use Rattle.lay_block.specs.Fitting.{edge_way, band_way, ContextFits}
 use Rattle.lay_block.specs.FlowFitting.{ContextContentFits, AloneFits, RootFits}
 use Rattle.lay_block.specs.Limits.{IsSmallPage}
 use Rattle.lay_block.specs.steps.Words.{widths_of, known_height, held_height}
-use Rattle.lay_block.specs.steps.Blocks.{Step, next_edge, context_height, container_in, fresh, content, alone_frame, alone_box, alone, page_boxes}
+use Rattle.lay_block.specs.steps.Blocks.{Step, next_edge, context_height, container_in, fresh, content, alone_frame, alone_box, alone}
 use Rattle.lay_block.proofs.Numbers.{size-+, size--}
 use Rattle.lay_block.proofs.BlockTrees.{kind-is}
-use Rattle.lay_block.proofs.BlockPageLaws.{page-same}
 use Rattle.lay_block.proofs.ContentSteps.{content-is}
-use Rattle.lay_block.proofs.PageSteps.{page-none, page-some}
 use Rattle.lay_block.proofs.Counts.{few-placed}
 use Rattle.lay_block.proofs.Extents.{IsLowPage, box-of}
 use Rattle.lay_block.proofs.Around.{all_extents, around-root}
@@ -214,23 +211,3 @@ module _ (tree : BoxTree) (page : IsLowPage tree) (w : World) (small : w.s ≤ 2
     where
       whole-room : (n : ℕ) → pos (64 * n) -ℤ pos 0 ≡ pos (64 * n)
       whole-room n = omega (arith, ints)
-
-  pub boxes-low : (height : ℕ) → w.w ≤ 16384 → height ≤ 16384 → AllByRecursion IsLowBox (page_boxes tree w height)
-  boxes-low height narrow low = by tree.boxes refl
-    where
-      whole-room : (n : ℕ) → pos (64 * n) -ℤ pos 0 ≡ pos (64 * n)
-      whole-room n = omega (arith, ints)
-
-      by : (boxes : List BoxNode) → tree.boxes ≡ boxes → AllByRecursion IsLowBox (page_boxes tree w height)
-      by [] e = subst (AllByRecursion IsLowBox) (sym (page-none tree w height e)) tt
-      by (b ∷ bs) e =
-          let size = ap length e in
-          let some : 0 < length tree.boxes = omega (arith, size) in
-          subst (AllByRecursion IsLowBox) (sym (page-some tree w height some))
-          (subst (λ (room : ℤ). AllByRecursion IsLowBox (alone tree w 0 room (Some (pos (64 * height))))) (whole-room w.w) (root-low (Some (pos (64 * height))) root_band refl (root-in height narrow low some) some).boxes)
-
--- each box of the rendering is bounded
-pub rendering-low : (tree : BoxTree) (w : World) (height : ℕ) → IsTrue (ready tree) → IsSmallPage tree → w.w ≤ 16384 → w.s ≤ 256 → height ≤ 16384 → AllByRecursion IsLowBox (page_rendering tree w height).boxes
-rendering-low tree w height is small narrow sized low =
-    let parts = both (is_block_page tree) (list_all has_plain_border tree.styles) is in
-    subst (AllByRecursion IsLowBox) (sym (page-same tree w height parts.0)) (boxes-low tree (low-page tree is small) w sized height narrow low)

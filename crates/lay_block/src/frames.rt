@@ -35,7 +35,8 @@ pub struct Container<N> {
 pub enum Standing<N> {
     /// So far only margins that adjoin the box's own top margin have come: at its content top.
     AtTop(N),
-    /// A run of adjoining margins has come since a border edge; one that is stuck does not adjoin the box's bottom margin.
+    /// A run of adjoining margins has come since a border edge; one that is stuck does not adjoin the box's bottom
+    /// margin.
     Below { edge: N, run: Run<N>, stuck: bool },
 }
 

@@ -23,9 +23,11 @@ pub fn render<C: Calc>(
 ) -> Result<Rendering<C::Num>, Halt>
     requires { IsTrue (ready tree.now) }
     ensures grows { Grows (C.state calc.old) (C.state calc.new) }
-    ensures value { IfOk result (λ r. (e : Reading) → IsTrue ((C.state calc.new).is_open e) → rendering_at C.at r e ≡ page_rendering tree.now e.world height) }
+    ensures value { IfOk result (λ r. (e : Reading) → IsTrue ((C.state calc.new).is_open e)
+        → rendering_at C.at r e ≡ page_rendering tree.now e.world height) }
     ensures kept { AreOpen (C.state calc.old).kept (C.state calc.new) }
-    ensures cause { IfErr result (CauseButMem (C.state calc.old) (C.state calc.new) (IsWithinLimits tree.now height (C.state calc.old).is_open)) }
+    ensures cause { IfErr result (CauseButMem (C.state calc.old) (C.state calc.new)
+        (IsWithinLimits tree.now height (C.state calc.old).is_open)) }
 {
     let mut latch = Latch::new(calc);
     let rendering = page::render(alloc, &mut latch, tree, height);

@@ -38,7 +38,8 @@ pub fn render<C: Calc>(
     height: u32,
 ) -> Result<Rendering<C::Num>, Halt>
     ensures grows { Grows (C.state calc.old) (C.state calc.new) }
-    ensures value { IfOk result (λ r. (e : Reading) → IsTrue ((C.state calc.new).is_open e) → rendering_at C.at r e ≡ page_rendering tree.now e.world height) }
+    ensures value { IfOk result (λ r. (e : Reading) → IsTrue ((C.state calc.new).is_open e)
+        → rendering_at C.at r e ≡ page_rendering tree.now e.world height) }
     ensures kept { AreOpen (C.state calc.old).kept (C.state calc.new) }
     ensures cause { IsTrue (is_block_page tree.now) → IfErr result (CauseButMem (C.state calc.old) (C.state calc.new)
         (IsWithinLimits tree.now height (C.state calc.old).is_open)) }

@@ -244,7 +244,8 @@ fn add_entries<S: Steady>(
 /// The highest top that floats on lines from `top` on may have.
 fn least_top<S: Steady>(calc: &mut S, least: &Option<S::Num>, top: &S::Num) -> S::Num
     ensures goes { Goes (S.run calc.old) (S.run calc.new) }
-    ensures value { Stands (S.run calc.new) (S.at result) (λ e. unwrap_or (option_at S.at least.now e) (S.at top.now e)) }
+    ensures value { Stands (S.run calc.new) (S.at result)
+        (λ e. unwrap_or (option_at S.at least.now e) (S.at top.now e)) }
 {
     match least {
         Some(least) => calc.copy(least),

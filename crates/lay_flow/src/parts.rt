@@ -16,7 +16,8 @@ pub struct Cleared<N> {
 pub enum Standing<N> {
     /// So far only margins that adjoin the box's own top margin have come: at its content top, but for a cleared box.
     AtTop { y: N, cleared: Option<Cleared<N>> },
-    /// A run of adjoining margins has come since a border edge; one that is stuck does not adjoin the box's bottom margin.
+    /// A run of adjoining margins has come since a border edge; one that is stuck does not adjoin the box's bottom
+    /// margin.
     Below { edge: N, run: Run<N>, stuck: bool },
 }
 

@@ -38,7 +38,8 @@ pub fn blocks_stand_one_below_the_other(tree: &BoxTree, world: World, height: u3
         → kids_of tree.now.boxes a ≡ before ++ b ∷ (passed ++ c ∷ after)
         → collapses tree.now world height b ≡ false → IsTrue (list_all (collapses tree.now world height) passed)
         → lower.border.top ≡ upper.border.bottom +ℤ collapsed (trailing tree.now world height (content_of outer) b
-        ++ (flat_map (all_margins tree.now world height (content_of outer)) passed ++ leading tree.now world height (content_of outer) c)) }
+        ++ (flat_map (all_margins tree.now world height (content_of outer)) passed
+        ++ leading tree.now world height (content_of outer) c)) }
 {}
 
 /// Where all blocks before it in its parent collapse through, and the parent's border, padding or context parts its

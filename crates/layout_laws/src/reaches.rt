@@ -9,7 +9,8 @@ pub fn a_box_reaches_as_far_as_the_box_around_it(tree: &BoxTree)
     ensures around { (b : BoxNode) (around : ℕ)
         → around ≤ reach_in tree.now.styles tree.now.parents tree.now.fonts b around }
     ensures own { (b : BoxNode) (around : ℕ)
-        → own_extent tree.now.styles tree.now.parents tree.now.fonts b ≤ reach_in tree.now.styles tree.now.parents tree.now.fonts b around }
+        → own_extent tree.now.styles tree.now.parents tree.now.fonts b
+        ≤ reach_in tree.now.styles tree.now.parents tree.now.fonts b around }
 {}
 
 /// Where no box of a page is beyond reach, all extents together are at most 2^40 units, and so is the reach of each

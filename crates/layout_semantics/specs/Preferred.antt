@@ -64,10 +64,6 @@ pub data Child : Type 0 where
   in_flow : ℤ → Child
   floated : ℤ → Child
 
-abbrev pub child_width : Child → ℤ
-child_width (in_flow x) = x
-child_width (floated x) = x
-
 -- the widths of the floats that the list begins with
 abbrev pub leading_floats : List Child → List ℤ
 leading_floats (floated x ∷ children) = x ∷ leading_floats children

@@ -14,5 +14,6 @@ pub fn more_levels_change_nothing(tree: &BoxTree, at: usize, levels: usize)
 /// Document order has a box, and then the orders of the boxes in it.
 pub fn a_box_then_its_content(tree: &BoxTree, at: usize)
     requires within { at < length tree.now.boxes }
-    ensures { document_order tree.now.boxes at ≡ at ∷ flat_map (document_order tree.now.boxes) (kids_of tree.now.boxes at) }
+    ensures { document_order tree.now.boxes at ≡ at
+        ∷ flat_map (document_order tree.now.boxes) (kids_of tree.now.boxes at) }
 {}

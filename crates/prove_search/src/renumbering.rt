@@ -2,8 +2,8 @@ use lin_proof::{Branch, Derivation, Ending, Step};
 use std::alloc::Global;
 use viz_base::{Boxed, List, Mem};
 
-/// How the facts of a derivation are numbered anew. Those of the path keep their numbers; behind them stand the two facts
-/// of each floor of a cone, and then the contrary of the answer.
+/// How the facts of a derivation are numbered anew. Those of the path keep their numbers; behind them stand the two
+/// facts of each floor of a cone, and then the contrary of the answer.
 #[derive(Clone, Copy)]
 pub struct Numbering<'a> {
     /// How many facts the path has.

@@ -25,8 +25,8 @@ pub fn sound_paths_are_known()
     ensures { SoundIsKnown }
 {}
 
-/// Answers that a symbolic calc found right over a path's facts and floors are as a leaf of a certificate on that path is
-/// to show, and one that it found wrong at a line is wrong there below floors.
+/// Answers that a symbolic calc found right over a path's facts and floors are as a leaf of a certificate on that path
+/// is to show, and one that it found wrong at a line is wrong there below floors.
 pub fn answers_are_refuted_below_their_path()
     ensures refuted { RightIsRefuted }
     ensures wrong { WrongIsFault }

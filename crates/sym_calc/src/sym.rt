@@ -267,8 +267,8 @@ impl<'a> Sym<'a> {
     /// Leaves a comparison open for this trouble, which is kept unless there was one before. So many answers are
     /// taken then.
     fn stuck(&mut self, trouble: Trouble, taken: usize) -> Halt
-        requires { IsTrue (is_accounted self.old.path.now.facts self.old.path.now.floors self.old.floors self.old.tape.now
-            taken (first_of self.old.trouble (Some trouble))) }
+        requires { IsTrue (is_accounted self.old.path.now.facts self.old.path.now.floors self.old.floors
+            self.old.tape.now taken (first_of self.old.trouble (Some trouble))) }
         ensures grows { Grows (state_of self.old) (state_of self.new) }
         ensures cause { Cause (state_of self.old) (state_of self.new) ⊤ result }
         ensures open { result ≡ Open }

@@ -1,6 +1,7 @@
 -- Tokens of the grammar are read to where the grammar says.
 use Rattle.std.proofs.Common.{◌≡◌, ℕ, ◌+◌, suc, zero, add-one, ◌≤◌, nat_le, Bool, true, false, List, [], ◌∷◌, ◌++◌, Option, Some, None, refl, sym, ◌∙◌, ap, subst}
 use Rattle.std.proofs.lemmas.Bool.{le-leb}
+use Rattle.std.proofs.lemmas.Option.{none-some}
 use Rattle.viz_base.specs.declared.formulas.Edge.{Edge}
 use Rattle.viz_base.specs.declared.formulas.Edge.TheVariants.{One}
 use Rattle.viz_base.specs.declared.formulas.Formula.{Formula}
@@ -35,15 +36,12 @@ sum_at compared parts neg = record { compared = compared; parts = parts; minus =
 is_small : (n : ℕ) → n ≤ 65536 → nat_le n 65536 ≡ true
 is_small n le = le-leb n 65536 le
 
-none_some : {x : Reading × Check} → None ≡ Some x → ⊥
-none_some e = cc
-
 star_none : (s : Reading) (sum : Sum) (c : Option Compared) → step_compared s sum c a.Star ≡ None
 star_none s sum None = refl
 star_none s sum (Some c) = refl
 
 number_steps : (b : Reading) (sum : Sum) (n : ℕ) (l : Lexeme) (x : Reading × Check) → step (at b (of_place.Added (with_part sum n One))) l ≡ Some x → step (at b (of_place.Number sum n)) l ≡ Some x
-number_steps b sum n a.Star x e = absurd (none_some (sym (star_none (at b of_place.Start) (with_part sum n One) sum.compared) ∙ e))
+number_steps b sum n a.Star x e = absurd (none-some _ (sym (star_none (at b of_place.Start) (with_part sum n One) sum.compared) ∙ e))
 number_steps b sum n l x e = e
 
 -- behind a number reading goes on as behind a part, but for a `*`
@@ -51,8 +49,8 @@ pub number_like : (b : Reading) (sum : Sum) (n : ℕ) → Like (at b (of_place.N
 number_like b sum n = record { steps = number_steps b sum n; ends = refl }
 
 added_steps : (b : Reading) (parts : List Summand) (neg : Bool) (c : Compared) (l : Lexeme) (x : Reading × Check) → step (completed b (compared_with parts c)) l ≡ Some x → step (at b (of_place.Added (sum_at (Some c) parts neg))) l ≡ Some x
-added_steps b parts neg c a.Plus x e = absurd (none_some e)
-added_steps b parts neg c a.Minus x e = absurd (none_some e)
+added_steps b parts neg c a.Plus x e = absurd (none-some _ e)
+added_steps b parts neg c a.Minus x e = absurd (none-some _ e)
 added_steps b parts neg c l x e = e
 
 -- behind the right side of a comparison it goes on as behind the operand
@@ -60,24 +58,24 @@ pub added_like : (b : Reading) (parts : List Summand) (neg : Bool) (c : Compared
 added_like b parts neg c = record { steps = added_steps b parts neg c; ends = refl }
 
 side_steps : (b : Reading) (sum : Sum) (l : Lexeme) (x : Reading × Check) → step (at b (of_place.Part sum)) l ≡ Some x → step (at b (of_place.Side sum)) l ≡ Some x
-side_steps b sum a.Minus x e = absurd (none_some e)
+side_steps b sum a.Minus x e = absurd (none-some _ e)
 side_steps b sum l x e = e
 
 side_like : (b : Reading) (sum : Sum) → Like (at b (of_place.Side sum)) (at b (of_place.Part sum))
 side_like b sum = record { steps = side_steps b sum; ends = refl }
 
 operand_steps : (b : Reading) (l : Lexeme) (x : Reading × Check) → step (at b (of_place.Side (empty_sum None))) l ≡ Some x → step (at b of_place.Operand) l ≡ Some x
-operand_steps b a.Not x e = absurd (none_some e)
-operand_steps b a.Open x e = absurd (none_some e)
-operand_steps b (a.Truth value) x e = absurd (none_some e)
-operand_steps b (a.Pair p) x e = absurd (none_some e)
+operand_steps b a.Not x e = absurd (none-some _ e)
+operand_steps b a.Open x e = absurd (none-some _ e)
+operand_steps b (a.Truth value) x e = absurd (none-some _ e)
+operand_steps b (a.Pair p) x e = absurd (none-some _ e)
 operand_steps b l x e = e
 
 operand_like : (b : Reading) → Like (at b of_place.Operand) (at b (of_place.Side (empty_sum None)))
 operand_like b = record { steps = operand_steps b; ends = refl }
 
 start_steps : (b : Reading) (l : Lexeme) (x : Reading × Check) → step (at (fresh b) of_place.Operand) l ≡ Some x → step (at b of_place.Start) l ≡ Some x
-start_steps b (a.Quantifier q) x e = absurd (none_some e)
+start_steps b (a.Quantifier q) x e = absurd (none-some _ e)
 start_steps b l x e = e
 
 start_like : (b : Reading) → Like (at b of_place.Start) (at (fresh b) of_place.Operand)

@@ -7,6 +7,7 @@ use Rattle.std.proofs.lemmas.Bool.{and_from, and_parts, false≢true, lt-ltb}
 use Rattle.std.proofs.lemmas.Bool.Decides.{nat_tests}
 use Rattle.std.proofs.lemmas.List.{append_assoc, drop_at, length-drop, length-take-le, take-append-drop, take_at, take_more}
 use Rattle.std.proofs.lemmas.List.Sums.{prefix_len-le-length, prefix_len_stops}
+use Rattle.std.proofs.lemmas.Option.{none-some}
 use Rattle.std.proofs.lemmas.Str.{digit_value_digit}
 use Rattle.css_semantics.proofs.Pairs.{by_bool}
 use Rattle.viz_base.specs.declared.formulas.Sign.{Sign as Comparison}
@@ -35,17 +36,14 @@ record Goes (n c m : ℕ) : Type 0 where
 some_same : {m k : ℕ} → Some m ≡ Some k → m ≡ k
 some_same {m = m} {k = k} e = let f : Option ℕ → ℕ = λ x. elim x as (λ _. ℕ) [ None ↦ m | Some y ↦ y ] in ap f e
 
-none_some : {A : Type 0} {m : A} → None ≡ Some m → ⊥
-none_some e = cc
-
 goes_some : (n c m : ℕ) → one_more n c ≡ Some m → Goes n c m
 goes_some n c m e = by_bool (is_ascii_digit c)
     (λ d. by_bool (nat_le (n * 10 + (c - 48)) 2147483647)
     (λ l. let v : n * 10 + (c - 48) ≡ m = some_same (sym (rw (d, l) refl) ∙ e) in
     let most : n * 10 + (c - 48) ≤ 2147483647 = grind (arith, nat_tests) in
     record { digit = d; value = sym v; most = omega arith })
-    (λ l. absurd (none_some (sym (rw (d, l) refl) ∙ e))))
-    (λ d. absurd (none_some (sym (rw d refl) ∙ e)))
+    (λ l. absurd (none-some _ (sym (rw (d, l) refl) ∙ e))))
+    (λ d. absurd (none-some _ (sym (rw d refl) ∙ e)))
 
 goes : (n c : ℕ) → is_ascii_digit c ≡ true → n * 10 + (c - 48) ≤ 2147483647 → one_more n c ≡ Some (n * 10 + (c - 48))
 goes n c d le = let l : nat_le (n * 10 + (c - 48)) 2147483647 ≡ true = grind (arith, nat_tests) in rw (d, l) refl
@@ -201,7 +199,7 @@ quote_split cs n e = by_bool (nat_lt (prefix_len (λ c. not (is_quote c)) cs) (l
     let stops : not (is_quote (get_or cs n 0)) ≡ false = subst (λ k. not (is_quote (get_or cs k 0)) ≡ false) same (prefix_len_stops (λ c. not (is_quote c)) cs 0 (subst (λ k. k < length cs) (sym same) some)) in
     let quote : get_or cs n 0 ≡ 34 = grind (arith, nat_tests, stops) in
     (some, subst (λ k. list_all (λ c. not (is_quote c)) (take k cs) ≡ true) same (prefix_all (λ c. not (is_quote c)) cs), take_more cs n 0 some ∙ ap (λ x. take n cs ++ x ∷ []) quote))
-    (λ l. absurd (none_some (sym (rw l refl) ∙ e)))
+    (λ l. absurd (none-some _ (sym (rw l refl) ∙ e)))
 
 quoted_found : (cs : List ℕ) (n : ℕ) → position is_quote cs ≡ Some n → IsFound 34 cs (Quoted, n + 2)
 quoted_found cs n e =

@@ -61,10 +61,11 @@ fn read_tokens(alloc: Global, tokens: List<Token>, end: u32) -> Result<Formula, 
 
 /// The formula of visual logic that a text spells, of a page whose elements its strings select.
 ///
-/// `Bad` where it spells none, whatever stands unbound or too deep, at the first token that no formula can have there, at the
-/// first byte that begins none, or at the text's end; `Unbound` at the first name that no quantifier around it binds, and
-/// `TooDeep` at the first quantifier inside two others, or quantifier, parenthesis or `not` inside 64 such, where that comes
-/// first; `Mem` for want of memory, as which a text of `2^32` bytes and more and a page of as many nodes count.
+/// `Bad` where it spells none, whatever stands unbound or too deep, at the first token that no formula can have there,
+/// at the first byte that begins none, or at the text's end; `Unbound` at the first name that no quantifier around it
+/// binds, and `TooDeep` at the first quantifier inside two others, or quantifier, parenthesis or `not` inside 64 such,
+/// where that comes first; `Mem` for want of memory, as which a text of `2^32` bytes and more and a page of as many
+/// nodes count.
 pub fn read_formula(alloc: Global, text: &str, page: &Page) -> Result<Formula, FormulaFault>
     ensures answer { MatchResult result (IsFormulaText page.now.nodes text.now) (IsFault page.now.nodes text.now) }
     ensures bound { IfOk result (λ f. is_bound_in f 0 ≡ true) }

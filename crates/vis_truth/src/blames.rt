@@ -60,7 +60,8 @@ fn first_failing(
     requires bounded { IsBoundedRendering r.now }
     requires small { IsTrue (has_small_terms body.now) }
     ensures within { IfSome result (λ place. place < length r.now.boxes) }
-    ensures value { result ≡ find (is_witness (scene_of r.now world height) set.now body.now false (places_of names.now)) (range_with_len 0 (length r.now.boxes)) }
+    ensures value { result ≡ find (is_witness (scene_of r.now world height) set.now body.now false
+        (places_of names.now)) (range_with_len 0 (length r.now.boxes)) }
 {
     for place in 0..r.boxes.len() {
         if is_failing(body, r, world, height, names, set, place) {
@@ -113,9 +114,9 @@ fn collect(
     }
 }
 
-/// The places in the rendering of the members that a false formula blames: of `forall` the first member with which its body is
-/// false, and whom the body blames; of `and` whom the first false part blames; of `implies` whom the conclusion blames; of all
-/// else, and of a true formula, none.
+/// The places in the rendering of the members that a false formula blames: of `forall` the first member with which its
+/// body is false, and whom the body blames; of `and` whom the first false part blames; of `implies` whom the conclusion
+/// blames; of all else, and of a true formula, none.
 pub fn blame(
     alloc: Global,
     f: &Formula,

@@ -58,7 +58,8 @@ fn has_witness<S: Steady>(
 ) -> bool
     ensures goes { Goes (S.run calc.old) (S.run calc.new) }
     ensures value { (e : Reading) → IsTrue ((S.run calc.new).is_open e)
-        → result ≡ list_any (is_witness (scene_at S.at r.now height e) set.now body.now wanted (places_of names.now)) (range_with_len 0 (length r.now.boxes)) }
+        → result ≡ list_any (is_witness (scene_at S.at r.now height e) set.now body.now wanted (places_of names.now))
+        (range_with_len 0 (length r.now.boxes)) }
     ensures cause { Blames (S.run calc.old) (S.run calc.new) (IsTame (S.run calc.old).is_open S.at r.now body.now) }
 {
     for place in 0..r.boxes.len() {
@@ -108,7 +109,8 @@ pub fn holds<S: Steady>(
 /// Whether a formula is true.
 pub fn truth<S: Steady>(calc: &mut S, f: &Formula, r: &Rendering<S::Num>, height: u32) -> bool
     ensures goes { Goes (S.run calc.old) (S.run calc.new) }
-    ensures value { (e : Reading) → IsTrue ((S.run calc.new).is_open e) → result ≡ truth (scene_at S.at r.now height e) f.now }
+    ensures value { (e : Reading) → IsTrue ((S.run calc.new).is_open e)
+        → result ≡ truth (scene_at S.at r.now height e) f.now }
     ensures cause { Blames (S.run calc.old) (S.run calc.new) (IsTame (S.run calc.old).is_open S.at r.now f.now) }
 {
     holds(calc, f, r, height, &Names::Unbound)

@@ -28,7 +28,8 @@ fn zero<S: Steady>(calc: &mut S) -> S::Num
 fn multiple<S: Steady>(calc: &mut S, s: &Summand, n: &S::Num) -> S::Num
     ensures goes { Goes (S.run calc.old) (S.run calc.new) }
     ensures value { Stands (S.run calc.new) (S.at result) (λ e. s.now.times *ℤ S.at n.now e) }
-    ensures cause { Blames (S.run calc.old) (S.run calc.new) (Fits (S.run calc.old) (λ e. (s.now.times *ℤ S.at n.now e) ∷ [])) }
+    ensures cause { Blames (S.run calc.old) (S.run calc.new) (Fits (S.run calc.old)
+        (λ e. (s.now.times *ℤ S.at n.now e) ∷ [])) }
 {
     calc.scale_floor(n, s.times, 1)
 }
@@ -46,7 +47,8 @@ fn view_height<S: Steady>(calc: &mut S, height: u32) -> S::Num
 fn units<S: Steady>(calc: &mut S, s: &Summand) -> S::Num
     ensures goes { Goes (S.run calc.old) (S.run calc.new) }
     ensures value { Stands (S.run calc.new) (S.at result) (λ e. s.now.times *ℤ pos 1) }
-    ensures cause { Blames (S.run calc.old) (S.run calc.new) (Fits (S.run calc.old) (λ e. (s.now.times *ℤ pos 1) ∷ [])) }
+    ensures cause { Blames (S.run calc.old) (S.run calc.new) (Fits (S.run calc.old)
+        (λ e. (s.now.times *ℤ pos 1) ∷ [])) }
 {
     calc.lit(i128::from(s.times))
 }
@@ -65,7 +67,8 @@ fn of_box<S: Steady>(
     ensures value { Stands (S.run calc.new) (S.at result)
         (λ e. s.now.times *ℤ edge_value (scene_at S.at r.now 0 e) (places_of names.now) (Edge.Name name ring face)) }
     ensures cause { Blames (S.run calc.old) (S.run calc.new) (Fits (S.run calc.old)
-        (λ e. (s.now.times *ℤ edge_value (scene_at S.at r.now 0 e) (places_of names.now) (Edge.Name name ring face)) ∷ [])) }
+        (λ e. (s.now.times *ℤ edge_value (scene_at S.at r.now 0 e) (places_of names.now) (Edge.Name name ring face))
+        ∷ [])) }
 {
     match find(r, names, name) {
         Some(b) => multiple(calc, s, face_of(ring_of(b, ring), face)),
@@ -82,7 +85,8 @@ fn summand<S: Steady>(
     s: &Summand,
 ) -> S::Num
     ensures goes { Goes (S.run calc.old) (S.run calc.new) }
-    ensures value { Stands (S.run calc.new) (S.at result) (λ e. summand_value (scene_at S.at r.now height e) (places_of names.now) s.now) }
+    ensures value { Stands (S.run calc.new) (S.at result)
+        (λ e. summand_value (scene_at S.at r.now height e) (places_of names.now) s.now) }
     ensures cause { Blames (S.run calc.old) (S.run calc.new) (Fits (S.run calc.old)
         (λ e. edge_value (scene_at S.at r.now height e) (places_of names.now) s.now.edge
         ∷ summand_value (scene_at S.at r.now height e) (places_of names.now) s.now ∷ [])) }
@@ -132,8 +136,10 @@ pub fn term<S: Steady>(
     t: &Term,
 ) -> S::Num
     ensures goes { Goes (S.run calc.old) (S.run calc.new) }
-    ensures value { Stands (S.run calc.new) (S.at result) (λ e. term_value (scene_at S.at r.now height e) (places_of names.now) t.now) }
-    ensures cause { Blames (S.run calc.old) (S.run calc.new) (Fits (S.run calc.old) (λ e. term_parts (scene_at S.at r.now height e) (places_of names.now) t.now)) }
+    ensures value { Stands (S.run calc.new) (S.at result)
+        (λ e. term_value (scene_at S.at r.now height e) (places_of names.now) t.now) }
+    ensures cause { Blames (S.run calc.old) (S.run calc.new) (Fits (S.run calc.old)
+        (λ e. term_parts (scene_at S.at r.now height e) (places_of names.now) t.now)) }
 {
     total(calc, r, height, names, t.parts.as_slice())
 }
@@ -141,7 +147,8 @@ pub fn term<S: Steady>(
 /// Whether two numbers are equal.
 fn equal<S: Steady>(calc: &mut S, a: &S::Num, b: &S::Num) -> bool
     ensures goes { Goes (S.run calc.old) (S.run calc.new) }
-    ensures value { (e : Reading) → IsTrue ((S.run calc.new).is_open e) → result ≡ int_eq (S.at a.now e) (S.at b.now e) }
+    ensures value { (e : Reading) → IsTrue ((S.run calc.new).is_open e)
+        → result ≡ int_eq (S.at a.now e) (S.at b.now e) }
     ensures cause { Blames (S.run calc.old) (S.run calc.new) ⊤ }
 {
     calc.le(a, b) && calc.le(b, a)
@@ -150,7 +157,8 @@ fn equal<S: Steady>(calc: &mut S, a: &S::Num, b: &S::Num) -> bool
 /// Whether a number is less than another.
 fn less<S: Steady>(calc: &mut S, a: &S::Num, b: &S::Num) -> bool
     ensures goes { Goes (S.run calc.old) (S.run calc.new) }
-    ensures value { (e : Reading) → IsTrue ((S.run calc.new).is_open e) → result ≡ int_lt (S.at a.now e) (S.at b.now e) }
+    ensures value { (e : Reading) → IsTrue ((S.run calc.new).is_open e)
+        → result ≡ int_lt (S.at a.now e) (S.at b.now e) }
     ensures cause { Blames (S.run calc.old) (S.run calc.new) ⊤ }
 {
     !calc.le(b, a)
@@ -159,7 +167,8 @@ fn less<S: Steady>(calc: &mut S, a: &S::Num, b: &S::Num) -> bool
 /// Whether a comparison is true of two numbers.
 pub fn compare<S: Steady>(calc: &mut S, a: &S::Num, sign: Sign, b: &S::Num) -> bool
     ensures goes { Goes (S.run calc.old) (S.run calc.new) }
-    ensures value { (e : Reading) → IsTrue ((S.run calc.new).is_open e) → result ≡ compares sign (S.at a.now e) (S.at b.now e) }
+    ensures value { (e : Reading) → IsTrue ((S.run calc.new).is_open e)
+        → result ≡ compares sign (S.at a.now e) (S.at b.now e) }
     ensures cause { Blames (S.run calc.old) (S.run calc.new) ⊤ }
 {
     match sign {
@@ -184,7 +193,8 @@ pub fn comparison<S: Steady>(
 ) -> bool
     ensures goes { Goes (S.run calc.old) (S.run calc.new) }
     ensures value { (e : Reading) → IsTrue ((S.run calc.new).is_open e)
-        → result ≡ compares sign (term_value (scene_at S.at r.now height e) (places_of names.now) left.now) (term_value (scene_at S.at r.now height e) (places_of names.now) right.now) }
+        → result ≡ compares sign (term_value (scene_at S.at r.now height e) (places_of names.now) left.now)
+        (term_value (scene_at S.at r.now height e) (places_of names.now) right.now) }
     ensures cause { Blames (S.run calc.old) (S.run calc.new)
         (Fits (S.run calc.old) (λ e. term_parts (scene_at S.at r.now height e) (places_of names.now) left.now)
         × Fits (S.run calc.old) (λ e. term_parts (scene_at S.at r.now height e) (places_of names.now) right.now)) }
@@ -197,7 +207,8 @@ pub fn comparison<S: Steady>(
 /// Whether two rectangles overlap.
 fn quads_overlap<S: Steady>(calc: &mut S, a: &Quad<S::Num>, b: &Quad<S::Num>) -> bool
     ensures goes { Goes (S.run calc.old) (S.run calc.new) }
-    ensures value { (e : Reading) → IsTrue ((S.run calc.new).is_open e) → result ≡ do_overlap (quad_at S.at a.now e) (quad_at S.at b.now e) }
+    ensures value { (e : Reading) → IsTrue ((S.run calc.new).is_open e)
+        → result ≡ do_overlap (quad_at S.at a.now e) (quad_at S.at b.now e) }
     ensures cause { Blames (S.run calc.old) (S.run calc.new) ⊤ }
 {
     less(calc, &a.left, &b.right)
@@ -216,7 +227,8 @@ pub fn overlap<S: Steady>(
 ) -> bool
     ensures goes { Goes (S.run calc.old) (S.run calc.new) }
     ensures value { (e : Reading) → IsTrue ((S.run calc.new).is_open e)
-        → result ≡ boxes_overlap (named (scene_at S.at r.now 0 e).boxes (places_of names.now) a) (named (scene_at S.at r.now 0 e).boxes (places_of names.now) b) }
+        → result ≡ boxes_overlap (named (scene_at S.at r.now 0 e).boxes (places_of names.now) a)
+        (named (scene_at S.at r.now 0 e).boxes (places_of names.now) b) }
     ensures cause { Blames (S.run calc.old) (S.run calc.new) ⊤ }
 {
     match (find(r, names, a), find(r, names, b)) {

@@ -21,9 +21,11 @@ pub fn truth<C: Calc>(
     height: u32,
 ) -> Result<bool, Halt>
     ensures grows { Grows (C.state calc.old) (C.state calc.new) }
-    ensures value { IfOk result (λ yes. (e : Reading) → IsTrue ((C.state calc.new).is_open e) → yes ≡ truth (scene_at C.at r.now height e) f.now) }
+    ensures value { IfOk result (λ yes. (e : Reading) → IsTrue ((C.state calc.new).is_open e)
+        → yes ≡ truth (scene_at C.at r.now height e) f.now) }
     ensures kept { AreOpen (C.state calc.old).kept (C.state calc.new) }
-    ensures cause { IfErr result (Cause (C.state calc.old) (C.state calc.new) (IsTame (C.state calc.old).is_open C.at r.now f.now)) }
+    ensures cause { IfErr result (Cause (C.state calc.old) (C.state calc.new)
+        (IsTame (C.state calc.old).is_open C.at r.now f.now)) }
 {
     let mut latch = Latch::new(calc);
     let whole = engine::truth(&mut latch, f, r, height);
@@ -42,7 +44,8 @@ pub fn truth_in<C: Calc>(
     ensures value { IfOk result (λ yes. (e : Reading) → IsTrue ((C.state calc.new).is_open e)
         → yes ≡ truth_in (scene_at C.at r.now height e) f.now (places_of names.now)) }
     ensures kept { AreOpen (C.state calc.old).kept (C.state calc.new) }
-    ensures cause { IfErr result (Cause (C.state calc.old) (C.state calc.new) (IsTame (C.state calc.old).is_open C.at r.now f.now)) }
+    ensures cause { IfErr result (Cause (C.state calc.old) (C.state calc.new)
+        (IsTame (C.state calc.old).is_open C.at r.now f.now)) }
 {
     let mut latch = Latch::new(calc);
     let yes = engine::holds(&mut latch, f, r, height, names);

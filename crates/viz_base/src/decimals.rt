@@ -77,8 +77,8 @@ fn point(text: &[u8]) -> usize
     text.len()
 }
 
-/// The number that the digits write when they follow those of `value`, `PAST` where it is greater; none where one of them
-/// is no digit.
+/// The number that the digits write when they follow those of `value`, `PAST` where it is greater; none where one of
+/// them is no digit.
 fn read_after(value: u64, digits: &[u8]) -> Option<u64>
     requires { value ≤ 2 ^ 40 + 1 }
     ensures value { result ≡ read_digits value digits.now }

@@ -59,7 +59,8 @@ pub struct Inner<N> {
 pub enum Entry<N> {
     /// A line, or the piece of an inline box or of a text on one.
     Here(Placed<N>),
-    /// The float or atomic inline-level box at this place of the tree, with its content, its outer corner moved to this spot.
+    /// The float or atomic inline-level box at this place of the tree, with its content, its outer corner moved to this
+    /// spot.
     Goes(u32, Spot<N>),
 }
 

@@ -160,7 +160,8 @@ impl<'a, T> IntoIterator for &'a List<T> {
 
     type IntoIter = Iter<'a, T>;
 
-    ghost into_iter_gives = { λ l r. (iter_rest r ≡ l.now) × EveryRun (iter_steps {A = T}) (λ p. ItemsMapTo p (λ y. y.now) (iter_rest p.from)) };
+    ghost into_iter_gives = { λ l r. (iter_rest r ≡ l.now)
+        × EveryRun (iter_steps {A = T}) (λ p. ItemsMapTo p (λ y. y.now) (iter_rest p.from)) };
 
     fn into_iter(self) -> Iter<'a, T> {
         self.iter()

@@ -64,5 +64,6 @@ pub struct Style {
     pub wraps: bool,
     /// No denominator is 0, no percentage is over 2^40 in size, no number of `size` and `line` is
     /// negative, and no minimum, maximum, padding, border or raise is `Auto`.
-    pub ghost ok: { IsStyle width min_width max_width height min_height max_height margin padding border size line valign },
+    pub ghost ok: { IsStyle width min_width max_width height min_height max_height margin padding border size line
+        valign },
 }

@@ -85,7 +85,8 @@ pub trait Calc {
         ensures grows { Grows (state self.old) (state self.new) }
         ensures worlds { KeepsWorlds (state self.old) (state self.new) }
         ensures value { IfOk result (λ r. Stands (state self.new) (at r) (λ e. pos (64 * e.world.w))) }
-        ensures cause { IfErr result (Cause (state self.old) (state self.new) (Fits (state self.new) (λ e. pos (64 * e.world.w) ∷ []))) }
+        ensures cause { IfErr result (Cause (state self.old) (state self.new) (Fits (state self.new)
+            (λ e. pos (64 * e.world.w) ∷ []))) }
         ensures decided { IsDecided result };
 
     /// The default font size, in 1/64 px. Errors as those of `lit`.
@@ -93,7 +94,8 @@ pub trait Calc {
         ensures grows { Grows (state self.old) (state self.new) }
         ensures worlds { KeepsWorlds (state self.old) (state self.new) }
         ensures value { IfOk result (λ r. Stands (state self.new) (at r) (λ e. pos (64 * e.world.s))) }
-        ensures cause { IfErr result (Cause (state self.old) (state self.new) (Fits (state self.new) (λ e. pos (64 * e.world.s) ∷ []))) }
+        ensures cause { IfErr result (Cause (state self.old) (state self.new) (Fits (state self.new)
+            (λ e. pos (64 * e.world.s) ∷ []))) }
         ensures decided { IsDecided result };
 
     /// The same number again. Errors as those of `lit`.
@@ -101,7 +103,8 @@ pub trait Calc {
         ensures grows { Grows (state self.old) (state self.new) }
         ensures worlds { KeepsWorlds (state self.old) (state self.new) }
         ensures value { IfOk result (λ r. Stands (state self.new) (at r) (at a.now)) }
-        ensures cause { IfErr result (Cause (state self.old) (state self.new) (Fits (state self.new) (λ e. at a.now e ∷ []))) }
+        ensures cause { IfErr result (Cause (state self.old) (state self.new) (Fits (state self.new)
+            (λ e. at a.now e ∷ []))) }
         ensures decided { IsDecided result };
 
     /// The sum. Errors as those of `lit`.
@@ -109,7 +112,8 @@ pub trait Calc {
         ensures grows { Grows (state self.old) (state self.new) }
         ensures worlds { KeepsWorlds (state self.old) (state self.new) }
         ensures value { IfOk result (λ r. Stands (state self.new) (at r) (λ e. at a.now e +ℤ at b.now e)) }
-        ensures cause { IfErr result (Cause (state self.old) (state self.new) (Fits (state self.new) (λ e. (at a.now e +ℤ at b.now e) ∷ []))) }
+        ensures cause { IfErr result (Cause (state self.old) (state self.new) (Fits (state self.new)
+            (λ e. (at a.now e +ℤ at b.now e) ∷ []))) }
         ensures decided { IsDecided result };
 
     /// `a - b`. Errors as those of `lit`.
@@ -117,7 +121,8 @@ pub trait Calc {
         ensures grows { Grows (state self.old) (state self.new) }
         ensures worlds { KeepsWorlds (state self.old) (state self.new) }
         ensures value { IfOk result (λ r. Stands (state self.new) (at r) (λ e. at a.now e -ℤ at b.now e)) }
-        ensures cause { IfErr result (Cause (state self.old) (state self.new) (Fits (state self.new) (λ e. (at a.now e -ℤ at b.now e) ∷ []))) }
+        ensures cause { IfErr result (Cause (state self.old) (state self.new) (Fits (state self.new)
+            (λ e. (at a.now e -ℤ at b.now e) ∷ []))) }
         ensures decided { IsDecided result };
 
     /// `a * num / den`, rounded towards minus infinity. Errors as those of `lit`.
@@ -125,15 +130,18 @@ pub trait Calc {
         requires { 1 ≤ den }
         ensures grows { Grows (state self.old) (state self.new) }
         ensures worlds { KeepsWorlds (state self.old) (state self.new) }
-        ensures value { IfOk result (λ r. Stands (state self.new) (at r) (λ e. int_div_euclid (num *ℤ at a.now e) (pos den))) }
-        ensures cause { IfErr result (Cause (state self.old) (state self.new) (Fits (state self.new) (λ e. int_div_euclid (num *ℤ at a.now e) (pos den) ∷ []))) }
+        ensures value { IfOk result (λ r. Stands (state self.new) (at r)
+            (λ e. int_div_euclid (num *ℤ at a.now e) (pos den))) }
+        ensures cause { IfErr result (Cause (state self.old) (state self.new) (Fits (state self.new)
+            (λ e. int_div_euclid (num *ℤ at a.now e) (pos den) ∷ []))) }
         ensures decided { IsDecided result };
 
     /// Whether `a` is at most `b`; it may close worlds where the answer is another. `Open` where the
     /// answer is to be left open, else errors as those of `lit`.
     fn le(&mut self, a: &Self::Num, b: &Self::Num) -> Result<bool, Halt>
         ensures grows { Grows (state self.old) (state self.new) }
-        ensures value { IfOk result (λ r. (e : Reading) → IsTrue ((state self.new).is_open e) → r ≡ int_le (at a.now e) (at b.now e)) }
+        ensures value { IfOk result (λ r. (e : Reading) → IsTrue ((state self.new).is_open e)
+            → r ≡ int_le (at a.now e) (at b.now e)) }
         ensures cause { IfErr result (Cause (state self.old) (state self.new) ⊤) };
 
     /// At any time each world that it keeps is open, unless it counted a fault since it keeps them.

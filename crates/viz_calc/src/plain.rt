@@ -90,7 +90,8 @@ impl Calc for Plain {
         ensures grows { Grows (plain_state self.old.world) (plain_state self.new.world) }
         ensures worlds { KeepsWorlds (plain_state self.old.world) (plain_state self.new.world) }
         ensures value { IfOk result (λ r. Stands (plain_state self.new.world) (λ e. r) (λ e. v)) }
-        ensures cause { IfErr result (Cause (plain_state self.old.world) (plain_state self.new.world) (Fits (plain_state self.new.world) (λ e. v ∷ []))) }
+        ensures cause { IfErr result (Cause (plain_state self.old.world) (plain_state self.new.world)
+            (Fits (plain_state self.new.world) (λ e. v ∷ []))) }
         ensures decided { IsDecided result }
         ensures exact { result ≡ fitted v }
         ensures same { self.new ≡ self.old }
@@ -102,7 +103,8 @@ impl Calc for Plain {
         ensures grows { Grows (plain_state self.old.world) (plain_state self.new.world) }
         ensures worlds { KeepsWorlds (plain_state self.old.world) (plain_state self.new.world) }
         ensures value { IfOk result (λ r. Stands (plain_state self.new.world) (λ e. r) (λ e. pos (64 * e.world.w))) }
-        ensures cause { IfErr result (Cause (plain_state self.old.world) (plain_state self.new.world) (Fits (plain_state self.new.world) (λ e. pos (64 * e.world.w) ∷ []))) }
+        ensures cause { IfErr result (Cause (plain_state self.old.world) (plain_state self.new.world)
+            (Fits (plain_state self.new.world) (λ e. pos (64 * e.world.w) ∷ []))) }
         ensures decided { IsDecided result }
         ensures exact { result ≡ Ok (pos (64 * self.old.world.w)) }
         ensures same { self.new ≡ self.old }
@@ -114,7 +116,8 @@ impl Calc for Plain {
         ensures grows { Grows (plain_state self.old.world) (plain_state self.new.world) }
         ensures worlds { KeepsWorlds (plain_state self.old.world) (plain_state self.new.world) }
         ensures value { IfOk result (λ r. Stands (plain_state self.new.world) (λ e. r) (λ e. pos (64 * e.world.s))) }
-        ensures cause { IfErr result (Cause (plain_state self.old.world) (plain_state self.new.world) (Fits (plain_state self.new.world) (λ e. pos (64 * e.world.s) ∷ []))) }
+        ensures cause { IfErr result (Cause (plain_state self.old.world) (plain_state self.new.world)
+            (Fits (plain_state self.new.world) (λ e. pos (64 * e.world.s) ∷ []))) }
         ensures decided { IsDecided result }
         ensures exact { result ≡ Ok (pos (64 * self.old.world.s)) }
         ensures same { self.new ≡ self.old }
@@ -126,7 +129,8 @@ impl Calc for Plain {
         ensures grows { Grows (plain_state self.old.world) (plain_state self.new.world) }
         ensures worlds { KeepsWorlds (plain_state self.old.world) (plain_state self.new.world) }
         ensures value { IfOk result (λ r. Stands (plain_state self.new.world) (λ e. r) (λ e. a.now)) }
-        ensures cause { IfErr result (Cause (plain_state self.old.world) (plain_state self.new.world) (Fits (plain_state self.new.world) (λ e. a.now ∷ []))) }
+        ensures cause { IfErr result (Cause (plain_state self.old.world) (plain_state self.new.world)
+            (Fits (plain_state self.new.world) (λ e. a.now ∷ []))) }
         ensures decided { IsDecided result }
         ensures exact { result ≡ fitted a.now }
         ensures same { self.new ≡ self.old }
@@ -138,7 +142,8 @@ impl Calc for Plain {
         ensures grows { Grows (plain_state self.old.world) (plain_state self.new.world) }
         ensures worlds { KeepsWorlds (plain_state self.old.world) (plain_state self.new.world) }
         ensures value { IfOk result (λ r. Stands (plain_state self.new.world) (λ e. r) (λ e. a.now +ℤ b.now)) }
-        ensures cause { IfErr result (Cause (plain_state self.old.world) (plain_state self.new.world) (Fits (plain_state self.new.world) (λ e. (a.now +ℤ b.now) ∷ []))) }
+        ensures cause { IfErr result (Cause (plain_state self.old.world) (plain_state self.new.world)
+            (Fits (plain_state self.new.world) (λ e. (a.now +ℤ b.now) ∷ []))) }
         ensures decided { IsDecided result }
         ensures exact { result ≡ fitted (a.now +ℤ b.now) }
         ensures same { self.new ≡ self.old }
@@ -150,7 +155,8 @@ impl Calc for Plain {
         ensures grows { Grows (plain_state self.old.world) (plain_state self.new.world) }
         ensures worlds { KeepsWorlds (plain_state self.old.world) (plain_state self.new.world) }
         ensures value { IfOk result (λ r. Stands (plain_state self.new.world) (λ e. r) (λ e. a.now -ℤ b.now)) }
-        ensures cause { IfErr result (Cause (plain_state self.old.world) (plain_state self.new.world) (Fits (plain_state self.new.world) (λ e. (a.now -ℤ b.now) ∷ []))) }
+        ensures cause { IfErr result (Cause (plain_state self.old.world) (plain_state self.new.world)
+            (Fits (plain_state self.new.world) (λ e. (a.now -ℤ b.now) ∷ []))) }
         ensures decided { IsDecided result }
         ensures exact { result ≡ fitted (a.now -ℤ b.now) }
         ensures same { self.new ≡ self.old }
@@ -162,8 +168,10 @@ impl Calc for Plain {
         requires { 1 ≤ den }
         ensures grows { Grows (plain_state self.old.world) (plain_state self.new.world) }
         ensures worlds { KeepsWorlds (plain_state self.old.world) (plain_state self.new.world) }
-        ensures value { IfOk result (λ r. Stands (plain_state self.new.world) (λ e. r) (λ e. int_div_euclid (num *ℤ a.now) (pos den))) }
-        ensures cause { IfErr result (Cause (plain_state self.old.world) (plain_state self.new.world) (Fits (plain_state self.new.world) (λ e. int_div_euclid (num *ℤ a.now) (pos den) ∷ []))) }
+        ensures value { IfOk result (λ r. Stands (plain_state self.new.world) (λ e. r)
+            (λ e. int_div_euclid (num *ℤ a.now) (pos den))) }
+        ensures cause { IfErr result (Cause (plain_state self.old.world) (plain_state self.new.world)
+            (Fits (plain_state self.new.world) (λ e. int_div_euclid (num *ℤ a.now) (pos den) ∷ []))) }
         ensures decided { IsDecided result }
         ensures exact { result ≡ fitted (int_div_euclid (num *ℤ a.now) (pos den)) }
         ensures same { self.new ≡ self.old }
@@ -173,7 +181,8 @@ impl Calc for Plain {
 
     fn le(&mut self, a: &i128, b: &i128) -> Result<bool, Halt>
         ensures grows { Grows (plain_state self.old.world) (plain_state self.new.world) }
-        ensures value { IfOk result (λ r. (e : Reading) → IsTrue ((plain_state self.new.world).is_open e) → r ≡ int_le a.now b.now) }
+        ensures value { IfOk result (λ r. (e : Reading) → IsTrue ((plain_state self.new.world).is_open e)
+            → r ≡ int_le a.now b.now) }
         ensures cause { IfErr result (Cause (plain_state self.old.world) (plain_state self.new.world) ⊤) }
         ensures exact { result ≡ Ok (int_le a.now b.now) }
         ensures same { self.new ≡ self.old }
@@ -197,7 +206,8 @@ pub fn plain_is_at_one_world(calc: &Plain)
 /// It keeps its world, which is open.
 pub fn plain_keeps_its_world(calc: &Plain)
     ensures kept { IsTrue ((plain_state calc.now.world).kept.worlds calc.now.world) }
-    ensures open { (w : World) → IsTrue ((plain_state calc.now.world).kept.worlds w) → IsOpenWorld (plain_state calc.now.world) w }
+    ensures open { (w : World) → IsTrue ((plain_state calc.now.world).kept.worlds w)
+        → IsOpenWorld (plain_state calc.now.world) w }
 {}
 
 /// A plain calc that lost nothing is as it was.

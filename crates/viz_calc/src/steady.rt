@@ -44,20 +44,23 @@ pub trait Steady {
     fn add(&mut self, a: &Self::Num, b: &Self::Num) -> Self::Num
         ensures goes { Goes (run self.old) (run self.new) }
         ensures value { Stands (run self.new) (at result) (λ e. at a.now e +ℤ at b.now e) }
-        ensures cause { Blames (run self.old) (run self.new) (Fits (run self.old) (λ e. (at a.now e +ℤ at b.now e) ∷ [])) };
+        ensures cause { Blames (run self.old) (run self.new) (Fits (run self.old)
+            (λ e. (at a.now e +ℤ at b.now e) ∷ [])) };
 
     /// `a - b`.
     fn sub(&mut self, a: &Self::Num, b: &Self::Num) -> Self::Num
         ensures goes { Goes (run self.old) (run self.new) }
         ensures value { Stands (run self.new) (at result) (λ e. at a.now e -ℤ at b.now e) }
-        ensures cause { Blames (run self.old) (run self.new) (Fits (run self.old) (λ e. (at a.now e -ℤ at b.now e) ∷ [])) };
+        ensures cause { Blames (run self.old) (run self.new) (Fits (run self.old)
+            (λ e. (at a.now e -ℤ at b.now e) ∷ [])) };
 
     /// `a * num / den`, rounded towards minus infinity.
     fn scale_floor(&mut self, a: &Self::Num, num: i64, den: u64) -> Self::Num
         requires { 1 ≤ den }
         ensures goes { Goes (run self.old) (run self.new) }
         ensures value { Stands (run self.new) (at result) (λ e. int_div_euclid (num *ℤ at a.now e) (pos den)) }
-        ensures cause { Blames (run self.old) (run self.new) (Fits (run self.old) (λ e. int_div_euclid (num *ℤ at a.now e) (pos den) ∷ [])) };
+        ensures cause { Blames (run self.old) (run self.new) (Fits (run self.old)
+            (λ e. int_div_euclid (num *ℤ at a.now e) (pos den) ∷ [])) };
 
     /// Whether `a` is at most `b`; it may close worlds where the answer is another.
     fn le(&mut self, a: &Self::Num, b: &Self::Num) -> bool

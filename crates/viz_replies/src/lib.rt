@@ -35,7 +35,8 @@ fn reply_on_bytes(alloc: Global, job: &[u8], question: &Question) -> Result<Repl
 
 /// The whole reply to a question about the job that the bytes of a job file spell.
 pub fn reply_to(alloc: Global, job: &[u8], question: &Question) -> Result<Reply, Mem>
-    // Where a certificate is accepted, the job's assertion is true of the CSS 2.1 rendering at every world of its range.
+    // Where a certificate is accepted, the job's assertion is true of the CSS 2.1 rendering at every world of its
+    // range.
     ensures accepted { IfOk result (λ r. (cert : _) → question.now ≡ Question.Check cert → r.answer ≡ Answer.Done
         → IsTrueEverywhere job.now) }
     // So it is where it is said to be proved,

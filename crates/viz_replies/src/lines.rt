@@ -45,7 +45,8 @@ pub fn push_line(out: &mut Vec<u8>, words: &[u8], numbers: &[u64]) -> Result<(),
 
 /// A line for each place that is blamed.
 pub fn push_blamed(out: &mut Vec<u8>, places: &[u32]) -> Result<(), AllocError>
-    ensures { OnOk result (out.new.items ≡ out.old.items ++ flat_map (λ place. numbered (codes "blame") (place ∷ [])) places.now) }
+    ensures { OnOk result (out.new.items ≡ out.old.items ++ flat_map
+        (λ place. numbered (codes "blame") (place ∷ [])) places.now) }
 {
     for place in places {
         push_line(out, b"blame", &[u64::from(*place)])?;

@@ -1,4 +1,5 @@
-//! A verifier of page layout: lays a page out box by box, proves or refutes its assertion over a range, and checks certificates.
+//! A verifier of page layout: lays a page out box by box, proves or refutes its assertion over a range, and checks
+//! certificates.
 #![tactic(auto)]
 
 mod files;

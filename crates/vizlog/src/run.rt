@@ -30,7 +30,8 @@ fn deliver<K: Sink>(sink: &mut K, status: Status, output: &[u8]) -> Status
 fn obey<F: Shelf, K: Sink>(alloc: Global, command: Command, shelf: &mut F, sink: &mut K) -> Status
     ensures outcome { Obeys (F.files shelf.old) command.entry
         (record { written = K.written; faults = K.faults; old = sink.old; new = sink.new }) result }
-    ensures read_fault { (file : File) → result ≡ Status.ReadFault file → Rose (F.faults shelf.old) (F.faults shelf.new) }
+    ensures read_fault { (file : File) → result ≡ Status.ReadFault file
+        → Rose (F.faults shelf.old) (F.faults shelf.new) }
     ensures sure_job { IsSureJob (F.sure shelf.old) command.entry → result ≢ Status.ReadFault File.Job }
     ensures sure_cert { IsSureCert (F.sure shelf.old) command.entry → result ≢ Status.ReadFault File.Certificate }
     ensures write_fault { result ≡ Status.WriteFault → Rose (K.faults sink.old) (K.faults sink.new) }
@@ -47,8 +48,10 @@ fn obey<F: Shelf, K: Sink>(alloc: Global, command: Command, shelf: &mut F, sink:
 fn answer<F: Shelf, K: Sink>(alloc: Global, words: &[String], shelf: &mut F, sink: &mut K) -> Status
     ensures outcome { IsOutcome (F.files shelf.old) (map string_bytes words.now)
         (record { written = K.written; faults = K.faults; old = sink.old; new = sink.new }) result }
-    ensures read_fault { (file : File) → result ≡ Status.ReadFault file → Rose (F.faults shelf.old) (F.faults shelf.new) }
-    ensures sure_job { IsTrue (F.sure shelf.old (word_at (map string_bytes words.now) 1)) → result ≢ Status.ReadFault File.Job }
+    ensures read_fault { (file : File) → result ≡ Status.ReadFault file
+        → Rose (F.faults shelf.old) (F.faults shelf.new) }
+    ensures sure_job { IsTrue (F.sure shelf.old (word_at (map string_bytes words.now) 1))
+        → result ≢ Status.ReadFault File.Job }
     ensures sure_cert { IsTrue (F.sure shelf.old (word_at (map string_bytes words.now) 2))
         → result ≢ Status.ReadFault File.Certificate }
     ensures write_fault { result ≡ Status.WriteFault → Rose (K.faults sink.old) (K.faults sink.new) }
@@ -86,8 +89,10 @@ pub fn run<F: Shelf, K: Sink>(
     // The words are of no form, or the reply to the command that they ask for is written.
     ensures outcome { IsOutcome (F.files shelf.old) (map string_bytes words.now)
         (record { written = K.written; faults = K.faults; old = sink.old; new = sink.new }) result }
-    ensures read_fault { (file : File) → result ≡ Status.ReadFault file → Rose (F.faults shelf.old) (F.faults shelf.new) }
-    ensures sure_job { IsTrue (F.sure shelf.old (word_at (map string_bytes words.now) 1)) → result ≢ Status.ReadFault File.Job }
+    ensures read_fault { (file : File) → result ≡ Status.ReadFault file
+        → Rose (F.faults shelf.old) (F.faults shelf.new) }
+    ensures sure_job { IsTrue (F.sure shelf.old (word_at (map string_bytes words.now) 1))
+        → result ≢ Status.ReadFault File.Job }
     ensures sure_cert { IsTrue (F.sure shelf.old (word_at (map string_bytes words.now) 2))
         → result ≢ Status.ReadFault File.Certificate }
     ensures write_fault { result ≡ Status.WriteFault → Rose (K.faults sink.old) (K.faults sink.new) }
