@@ -1,5 +1,5 @@
 -- What a ruleset says that applies.
-use Rattle.std.proofs.Common.{◌≡◌, ℕ, Bool, List, Option, Result, Ok, Err, OnOk, MatchResult, sym, subst}
+use Rattle.std.proofs.Common.{◌≡◌, ℕ, Bool, List, Option, Result, Ok, Err, IfOk, MatchResult, sym, subst}
 use Rattle.viz_base.specs.declared.nodes.Node.{Node}
 use Rattle.viz_base.specs.declared.selectors.Spec.{Spec}
 use Rattle.viz_base.specs.declared.settings.Setting.{Setting}
@@ -21,16 +21,16 @@ use Rattle.css_cascade.specs.Faults.{Judges}
 pub applies_as : (nodes : List Node) (n : ℕ) (one : Ruleset) (found : Option Spec) (specs : List Spec) → Matching nodes n one.group specs → found ≡ greatest spec_cmp specs → AppliesTo nodes n one (Ok (all_applied found one.claims))
 applies_as nodes n one found specs m e = subst (λ o. AppliesTo nodes n one (Ok (all_applied o one.claims))) (sym e) (applies m)
 
-pub on_ok : {T E : Type 0} (r : Result T E) {P Q : Type 0} → (P → Q) → OnOk r P → OnOk r Q
-on_ok (Ok x) f h = f h
-on_ok (Err e) f h = h
+pub if_ok : {T E : Type 0} {P Q : T → Type 0} (r : Result T E) → ((x : T) → P x → Q x) → IfOk r P → IfOk r Q
+if_ok (Ok x) f h = f x h
+if_ok (Err e) f h = h
 
 pub styled_as : (node : ℕ) (text : List ℕ) (decls : List Decl) → AreDeclarationsOf text decls → (claims : List Claim) → AreClaimed (of_origin.Style node) text decls claims → (ds : List Decl) × AreDeclarationsOf text ds × AreClaimed (of_origin.Style node) text ds claims
 styled_as node text decls d claims h = (decls, d, h)
 
 -- what a node comes to by the code is what it comes to
-pub comes : (nodes : List Node) (rulesets : List Ruleset) (standings : List Standing) (n : ℕ) (node : Node) (replaced : Bool) (outer : Standing) (all xs : List Applied) → AreApplied nodes rulesets n node.body all → replaced ≡ is_replaced node.body → outer ≡ standing_around standings node.parent → xs ≡ all → ComesTo nodes rulesets standings n node (judged replaced outer (winners_of xs))
-comes nodes rulesets standings n node replaced outer all xs applied r o same = rw (r, o, same) (comes_to applied)
+pub comes : (nodes : List Node) (rulesets : List Ruleset) (standings : List Standing) (n : ℕ) (node : Node) (replaced : Bool) (outer : Standing) (all : List Applied) (winners : List Claim) → AreApplied nodes rulesets n node.body all → replaced ≡ is_replaced node.body → outer ≡ standing_around standings node.parent → winners ≡ winners_of all → ComesTo nodes rulesets standings n node (judged replaced outer winners)
+comes nodes rulesets standings n node replaced outer all winners applied r o same = rw (r, o, same) (comes_to applied)
 
 pub comes_by : (nodes : List Node) (rulesets : List Ruleset) (standings : List Standing) (n : ℕ) (node : Node) (answer : Result (List Setting × Standing) Claim) → ComesTo nodes rulesets standings n node answer → (r : Result (List Setting × Standing) CascadeFault)
     → MatchResult r (λ p. answer ≡ Ok (p.0, p.1)) (λ fault. Judges n fault (λ a. a ≡ answer))

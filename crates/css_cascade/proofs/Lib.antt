@@ -9,3 +9,5 @@ pub mod Slots
 pub mod Orders
 pub mod Claims
 pub mod Outcomes
+pub mod Deciding
+pub mod Keeping

@@ -71,7 +71,7 @@ same_some p q e = cc
 same_place : (m n : ℕ) → (m == n) ≡ true → m ≡ n
 same_place m n e = grind (arith, nat_tests)
 
-same_prop : (q p : Prop) → is_prop q p ≡ true → q ≡ p
+pub same_prop : (q p : Prop) → is_prop q p ≡ true → q ≡ p
 same_prop q p e = same_some q p (sym (at_place q) ∙ ap (slice_get properties) (same_place (place_of q) (place_of p) e) ∙ at_place p)
 
 abbrev is_of : Prop → Applied → Bool
@@ -94,7 +94,7 @@ from_passes p best (a ∷ all) e f =
     let h = and_parts (is_of p a) (list_all (is_of p) all) f in
     from_passes p (later_of cascade_cmp best a) all (one_of_two p (is_gt (cascade_cmp best a)) best a e h.0) h.1
 
-abbrev HasProp : Prop → Option Applied → Type 0
+abbrev pub HasProp : Prop → Option Applied → Type 0
 HasProp p None = Unit {0}
 HasProp p (Some a) = a.claim.prop ≡ p
 
@@ -104,7 +104,7 @@ greatest_passes p (a ∷ all) e =
     let h = and_parts (is_of p a) (list_all (is_of p) all) e in
     same_prop (greatest_from cascade_cmp a all).claim.prop p (from_passes p a all h.0 h.1)
 
-winner_has : (p : Prop) (all : List Applied) → HasProp p (winner_of p all)
+pub winner_has : (p : Prop) (all : List Applied) → HasProp p (winner_of p all)
 winner_has p all = greatest_passes p (of_prop p all) (all_pass p all)
 
 -- ---- the settings of one node

@@ -13,7 +13,7 @@ behind ys (Err e) = Err e
 pub record Reached {A B E : Type 0} (Gives : A → Result (List B) E → Type 0) (xs : List A) (i : ℕ) (items : List B) : Type 0 where
   pub goes : (answer : Result (List B) E) → Each Gives (drop i xs) answer → Each Gives xs (behind items answer)
 
-behind_nothing : {B E : Type 0} (answer : Result (List B) E) → answer ≡ behind [] answer
+pub behind_nothing : {B E : Type 0} (answer : Result (List B) E) → answer ≡ behind [] answer
 behind_nothing (Ok zs) = refl
 behind_nothing (Err e) = refl
 

@@ -56,7 +56,7 @@ put_at prop.ListStylePosition a f = refl
 kept_map : (a : Applied) (f : Prop → Option Applied) → kept (map f properties) a ≡ map (λ p. winner_with p (f p) a) properties
 kept_map a f = put_at a.claim.prop a f
 
-all_kept : (all : List Applied) (f : Prop → Option Applied) → kept_all (map f properties) all ≡ map (λ p. winner_on p (f p) all) properties
+pub all_kept : (all : List Applied) (f : Prop → Option Applied) → kept_all (map f properties) all ≡ map (λ p. winner_on p (f p) all) properties
 all_kept [] f = refl
 all_kept (a ∷ all) f = ap (λ best. kept_all best all) (kept_map a f) ∙ all_kept all (λ p. winner_with p (f p) a)
 

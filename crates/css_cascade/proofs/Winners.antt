@@ -11,7 +11,7 @@ grown : (best : Option Applied) (a : Applied) (all : List Applied) → greatest_
 grown None a all = refl
 grown (Some best) a all = refl
 
-nothing : (best : Option Applied) → best ≡ greatest_on cascade_cmp best []
+pub nothing : (best : Option Applied) → best ≡ greatest_on cascade_cmp best []
 nothing None = refl
 nothing (Some best) = refl
 
@@ -19,7 +19,7 @@ kept_at : (p : Prop) (best : Option Applied) (a : Applied) (all : List Applied) 
 kept_at p best a all true e taken left = rw e (taken ∙ grown best a (filter (is_of p) all))
 kept_at p best a all false e taken left = rw e left
 
-kept : (p : Prop) (best : Option Applied) (all : List Applied) → winner_on p best all ≡ greatest_on cascade_cmp best (filter (is_of p) all)
+pub kept : (p : Prop) (best : Option Applied) (all : List Applied) → winner_on p best all ≡ greatest_on cascade_cmp best (filter (is_of p) all)
 kept p best [] = nothing best
 kept p best (a ∷ all) = kept_at p best a all (is_prop a.claim.prop p) refl (kept p (Some (later_or best a)) all) (kept p best all)
 

@@ -1,26 +1,29 @@
-ghost use Rattle.std.specs.Prelude.{◌≡◌, ◌++◌, ◌∷◌, [], map, IfOk, IsTrue, List as Seq, Ok, OnOk, None, Some, codes};
+ghost use Rattle.std.specs.Prelude.{◌≡◌, ◌∷◌, [], map, length, IfOk, IsTrue, List as Seq, None, Some, codes};
 ghost use Rattle.std.specs.Prelude.{option_map};
+ghost use Rattle.std.specs.List.{AllByRecursion};
 ghost use Rattle.viz_base.specs.Pages.{is_element_at};
 ghost use Rattle.viz_base.specs.declared.selectors.Spec.{Spec};
-ghost use Rattle.css_semantics.specs.CascadeOrder.{Applied as AppliedClaim, applied, greatest, spec_cmp, style_spec};
+ghost use Rattle.css_semantics.specs.CascadeOrder.{greatest, spec_cmp, style_spec};
 ghost use Rattle.viz_base.specs.declared.sheets.Decl.{Decl};
 ghost use Rattle.css_semantics.specs.declared.claims.Origin.TheVariants as of_origin;
 ghost use Rattle.css_semantics.specs.Names.{same_name};
 ghost use Rattle.css_semantics.specs.SheetsGrammar.{AreDeclarationsOf};
-ghost use Rattle.css_semantics.specs.CascadeReading.{AppliesTo, AreClaimed, Each, IsStyled, Matching, style_of};
+ghost use Rattle.css_semantics.specs.CascadeReading.{AreClaimed, IsStyled, Matching, style_of};
 ghost use Rattle.css_cascade.specs.Seen.{seen, greatest_on};
+ghost use Rattle.css_cascade.specs.Trimming.{Applies, AreKept, IsTrimmed};
 
-use crate::order::{Applied, spec_cmp};
+use crate::order::{Applied, keep_claims, keep_found, no_winners, spec_cmp};
 use crate::reading::claims_in;
+use crate::trimming::Trimmed;
 use css_select::matches;
-use css_semantics::{Claim, Origin, Ranked, Ruleset};
+use css_semantics::{Claim, Origin, Ranked};
 use css_syntax::read_declarations;
 use css_token::same_name;
-use std::alloc::{AllocError, Global};
+use std::alloc::Global;
 use viz_base::{Attr, List, Mem, Page, Spec};
 
 /// The specificity of what a style attribute says (CSS 2.1, 6.4.3).
-pub const STYLE: Spec = Spec {
+const STYLE: Spec = Spec {
     style: 1,
     ids: 0,
     attrs: 0,
@@ -51,51 +54,46 @@ fn strongest(group: &[Ranked], page: &Page, node: u32) -> Option<Spec>
     best
 }
 
-/// Adds what claims say, with this specificity.
-pub fn push_applied<'a>(
-    all: &mut Vec<Applied<'a>>,
-    spec: Spec,
-    claims: &'a [Claim],
-) -> Result<(), AllocError>
-    ensures { OnOk result (map seen all.new.items ≡ map seen all.old.items ++ map (applied spec) claims.now) }
-{
-    for claim in claims {
-        all.push(Applied { spec, claim })?;
-    }
-    Ok(())
-}
-
-/// Adds what a ruleset says, if it applies to an element.
-fn apply<'a>(
-    all: &mut Vec<Applied<'a>>,
-    rules: &'a Ruleset,
+/// Keeps the winners behind what a ruleset says, if it applies to an element.
+fn apply<'a: 'b, 'b>(
+    best: &mut Vec<Option<Applied<'b>>>,
+    rules: &Trimmed<'a>,
     page: &Page,
     node: u32,
-) -> Result<(), AllocError>
-    requires { IsTrue (is_element_at page.now.nodes node) }
-    ensures { OnOk result ((added : Seq AppliedClaim) × AppliesTo page.now.nodes node rules.now (Ok added) × (map seen all.new.items ≡ map seen all.old.items ++ added)) }
+)
+    requires element { IsTrue (is_element_at page.now.nodes node) }
+    requires len { length best.old.items ≡ 39 }
+    ensures len { length best.new.items ≡ 39 }
+    ensures kept { Applies page.now.nodes node rules.now (map (option_map seen) best.old.items)
+        (map (option_map seen) best.new.items) }
 {
-    match strongest(rules.group.as_slice(), page, node) {
-        Some(spec) => push_applied(all, spec, rules.claims.as_slice()),
-        None => Ok(()),
+    match strongest(rules.rules.group.as_slice(), page, node) {
+        Some(spec) => keep_found(best, spec, rules.claims.as_slice()),
+        None => {}
     }
 }
 
-/// What rulesets say that applies to an element.
-pub fn applied<'a>(
+/// The winners, by the place of their property in the table, of what rulesets and the style attribute say that applies
+/// to an element.
+pub fn applied<'a: 'b, 'b>(
     alloc: Global,
-    rulesets: &'a [Ruleset],
+    rulesets: &[Trimmed<'a>],
     page: &Page,
     node: u32,
-) -> Result<Vec<Applied<'a>>, Mem>
-    requires { IsTrue (is_element_at page.now.nodes node) }
-    ensures { IfOk result (λ all. Each (AppliesTo page.now.nodes node) rulesets.now (Ok (map seen all.items))) }
+    style: &'b [Claim],
+) -> Result<Vec<Option<Applied<'b>>>, Mem>
+    requires element { IsTrue (is_element_at page.now.nodes node) }
+    requires trimmed { AllByRecursion IsTrimmed rulesets.now }
+    ensures len { IfOk result (λ best. length best.items ≡ 39) }
+    ensures kept { IfOk result (λ best. AreKept page.now.nodes node rulesets.now style.now
+        (map (option_map seen) best.items)) }
 {
-    let mut all = Vec::new(alloc);
+    let mut best = no_winners(alloc)?;
     for rules in rulesets {
-        apply(&mut all, rules, page, node)?;
+        apply(&mut best, rules, page, node);
     }
-    Ok(all)
+    keep_claims(&mut best, STYLE, style);
+    Ok(best)
 }
 
 fn is_style(attr: &Attr) -> bool
@@ -118,7 +116,8 @@ pub fn style_of(attrs: &[Attr]) -> Option<&str>
 
 /// What a style attribute with this text says.
 fn styled_by(alloc: Global, node: u32, text: &str) -> Result<List<Claim>, Mem>
-    ensures { IfOk result (λ claims. (decls : Seq Decl) × AreDeclarationsOf text.now decls × AreClaimed (of_origin.Style node) text.now decls claims) }
+    ensures { IfOk result (λ claims. (decls : Seq Decl) × AreDeclarationsOf text.now decls
+        × AreClaimed (of_origin.Style node) text.now decls claims) }
 {
     let decls = read_declarations(alloc, text)?;
     claims_in(alloc, Origin::Style(node), text, decls.as_slice())

@@ -1,40 +1,42 @@
 ghost use Rattle.std.specs.Prelude.{◌≡◌, [], map, slice_get, IfErr, IfOk, IfSome, MatchResult, Ok, Some, length};
+ghost use Rattle.std.specs.List.{AllByRecursion};
 ghost use Rattle.css_semantics.specs.Cascade.{ComesTo, Goes, IsCascade};
-ghost use Rattle.css_semantics.specs.CascadeNodes.{judged, winners_of};
+ghost use Rattle.css_semantics.specs.CascadeNodes.{judged};
 ghost use Rattle.css_semantics.specs.Winners.{AreWinners};
 ghost use Rattle.viz_base.specs.Answers.{GivesOneOf};
 ghost use Rattle.css_cascade.specs.Faults.{IsPlaced, Judges, refusal_of};
-ghost use Rattle.css_cascade.specs.Seen.{seen};
+ghost use Rattle.css_cascade.specs.Trimming.{IsTrimmed, rules_of};
 
-use crate::applying::{STYLE, applied, push_applied, styled};
+use crate::applying::{applied, styled};
 use crate::faults::CascadeFault;
 use crate::nodes::{
     first_refused, is_hidden, is_replaced, number, settings_of, standing_around, standing_of,
 };
-use crate::order::{Applied, winners};
+use crate::order::claims_among;
 use crate::reading::read_rulesets;
-use css_semantics::{Ruleset, Standing};
+use crate::trimming::{Trimmed, trim};
+use css_semantics::{Claim, Standing};
 use std::alloc::Global;
 use viz_base::{Body, Cascaded, List, Node, Page, Setting, Sheet, Text};
 
-/// What a node comes to to which these settings apply.
+/// What a node comes to at which these win.
 fn judge(
     alloc: Global,
     node: u32,
     replaced: bool,
     outer: Standing,
-    all: &[Applied<'_>],
+    winners: &[&Claim],
 ) -> Result<(List<Setting>, Standing), CascadeFault>
-    ensures { MatchResult result (λ p. judged replaced outer (winners_of (map seen all.now)) ≡ Ok (p.0, p.1)) (λ fault. Judges node fault (λ answer. answer ≡ judged replaced outer (winners_of (map seen all.now)))) }
+    ensures { MatchResult result (λ p. judged replaced outer (map (λ c. c.now) winners.now) ≡ Ok (p.0, p.1))
+        (λ fault. Judges node fault (λ answer. answer ≡ judged replaced outer (map (λ c. c.now) winners.now))) }
 {
-    let winners = winners(alloc, all)?;
-    let hidden = is_hidden(outer, &winners);
+    let hidden = is_hidden(outer, winners);
     if !hidden {
-        if let Some(claim) = first_refused(replaced, outer, &winners) {
+        if let Some(claim) = first_refused(replaced, outer, winners) {
             return Err(CascadeFault::Value(node, claim.prop, claim.source));
         }
     }
-    let settings = settings_of(alloc, replaced, outer, &winners)?;
+    let settings = settings_of(alloc, replaced, outer, winners)?;
     let standing = standing_of(outer, hidden, settings.as_slice());
     Ok((settings, standing))
 }
@@ -43,30 +45,39 @@ fn judge(
 fn come_to(
     alloc: Global,
     page: &Page,
-    rulesets: &[Ruleset],
+    rulesets: &[Trimmed<'_>],
     standings: &[Standing],
     at: u32,
     node: &Node,
 ) -> Result<(List<Setting>, Standing), CascadeFault>
-    requires { slice_get page.now.nodes at ≡ Some node.now }
-    ensures { MatchResult result (λ p. ComesTo page.now.nodes rulesets.now standings.now at node.now (Ok (p.0, p.1))) (λ fault. Judges at fault (ComesTo page.now.nodes rulesets.now standings.now at node.now)) }
+    requires found { slice_get page.now.nodes at ≡ Some node.now }
+    requires trimmed { AllByRecursion IsTrimmed rulesets.now }
+    ensures { MatchResult result (λ p. ComesTo page.now.nodes (map rules_of rulesets.now) standings.now at node.now
+        (Ok (p.0, p.1))) (λ fault. Judges at fault
+        (ComesTo page.now.nodes (map rules_of rulesets.now) standings.now at node.now)) }
 {
     let outer = standing_around(standings, node.parent);
     let replaced = is_replaced(&node.body);
     match &node.body {
         Body::Element(element) => {
             let style = styled(alloc, at, element.attrs.as_slice())?;
-            let mut all = applied(alloc, rulesets, page, at)?;
-            push_applied(&mut all, STYLE, style.as_slice())?;
-            judge(alloc, at, replaced, outer, &all)
+            let best = applied(alloc, rulesets, page, at, style.as_slice())?;
+            let winners = claims_among(alloc, best.as_slice())?;
+            judge(alloc, at, replaced, outer, &winners)
         }
         Body::Chars(_) => judge(alloc, at, replaced, outer, &[]),
     }
 }
 
 /// The settings of each node.
-fn cascade_nodes(alloc: Global, page: &Page, rulesets: &[Ruleset]) -> Result<Cascaded, CascadeFault>
-    ensures { GivesOneOf (λ c. c.winners) refusal_of result (Goes page.now.nodes rulesets.now [] [] page.now.nodes) }
+fn cascade_nodes(
+    alloc: Global,
+    page: &Page,
+    rulesets: &[Trimmed<'_>],
+) -> Result<Cascaded, CascadeFault>
+    requires { AllByRecursion IsTrimmed rulesets.now }
+    ensures { GivesOneOf (λ c. c.winners) refusal_of result
+        (Goes page.now.nodes (map rules_of rulesets.now) [] [] page.now.nodes) }
 {
     let mut standings = Vec::new(alloc);
     let mut winners = List::new(alloc);
@@ -91,10 +102,10 @@ fn cascade_nodes(alloc: Global, page: &Page, rulesets: &[Ruleset]) -> Result<Cas
 /// (CSS 2.1, 6.4): for each node a list in the order of the table of properties, without what no declaration sets and
 /// without what is refused and refuses nothing. The first sheet is the default one, and those behind it the author's.
 ///
-/// `Selector` for the first selector in an author's sheet that is refused by name, at its place in the sheet; `Value`, where
-/// no selector is refused, for the first node that isn't hidden at which a refused value wins, and there for the first
-/// property in the order of the table, with where the value stands in its text, at characters; `Mem` for want of memory
-/// alone.
+/// `Selector` for the first selector in an author's sheet that is refused by name, at its place in the sheet; `Value`,
+/// where no selector is refused, for the first node that isn't hidden at which a refused value wins, and there for the
+/// first property in the order of the table, with where the value stands in its text, at characters; `Mem` for want of
+/// memory alone.
 pub fn cascade(
     alloc: Global,
     page: &Page,
@@ -107,5 +118,6 @@ pub fn cascade(
     ensures places { IfErr result (λ fault. IfSome (refusal_of fault) (IsPlaced page.now.nodes texts.now)) }
 {
     let rulesets = read_rulesets(alloc, texts, sheets)?;
-    cascade_nodes(alloc, page, &rulesets)
+    let trimmed = trim(alloc, &rulesets)?;
+    cascade_nodes(alloc, page, &trimmed)
 }

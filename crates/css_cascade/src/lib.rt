@@ -9,6 +9,7 @@ mod nodes;
 mod order;
 mod reading;
 mod sources;
+mod trimming;
 
 pub use cascading::cascade;
 pub use defaults::default_sheet;

@@ -1,8 +1,7 @@
-ghost use Rattle.std.specs.Prelude.{◌≡◌, ◌<◌, ◌++◌, map, flat_map, length, option_map, None, IfOk};
-ghost use Rattle.css_semantics.specs.CascadeOrder.{cascade_cmp, later_of, place_of, spec_cmp, weight_number, winner_of};
-ghost use Rattle.css_semantics.specs.CascadeNodes.{winners_of};
+ghost use Rattle.std.specs.Prelude.{◌≡◌, ◌<◌, map, flat_map, length, option_map, None, IfOk};
+ghost use Rattle.css_semantics.specs.CascadeOrder.{applied, cascade_cmp, later_of, place_of, spec_cmp, weight_number};
 ghost use Rattle.css_semantics.specs.Properties.{properties};
-ghost use Rattle.css_cascade.specs.Seen.{claims_in, kept, later_or, seen};
+ghost use Rattle.css_cascade.specs.Seen.{claims_in, kept, kept_all, later_or, seen};
 
 use css_semantics::{Claim, Weight};
 use std::alloc::Global;
@@ -79,14 +78,15 @@ fn later_or<'a>(best: Option<Applied<'a>>, next: Applied<'a>) -> Applied<'a>
 fn keep<'a>(best: &mut Vec<Option<Applied<'a>>>, next: Applied<'a>)
     requires { length best.old.items ≡ 39 }
     ensures len { length best.new.items ≡ 39 }
-    ensures kept { map (option_map seen) best.new.items ≡ kept (map (option_map seen) best.old.items) (seen next.entry) }
+    ensures kept { map (option_map seen) best.new.items
+        ≡ kept (map (option_map seen) best.old.items) (seen next.entry) }
 {
     let at = place_of(next.claim.prop);
     best[at] = Some(later_or(best[at], next));
 }
 
 /// No winner of any property.
-fn no_winners<'a>(alloc: Global) -> Result<Vec<Option<Applied<'a>>>, Mem>
+pub fn no_winners<'a>(alloc: Global) -> Result<Vec<Option<Applied<'a>>>, Mem>
     ensures len { IfOk result (λ best. length best.items ≡ 39) }
     ensures none { IfOk result (λ best. map (option_map seen) best.items ≡ map (λ p. None) properties) }
 {
@@ -97,19 +97,40 @@ fn no_winners<'a>(alloc: Global) -> Result<Vec<Option<Applied<'a>>>, Mem>
     Ok(best)
 }
 
-/// The winner of each property that has one, by the place of the property in the table.
-fn best_of<'a>(alloc: Global, all: &[Applied<'a>]) -> Result<Vec<Option<Applied<'a>>>, Mem>
-    ensures { IfOk result (λ best. map (option_map seen) best.items ≡ map (λ p. winner_of p (map seen all.now)) properties) }
+/// Keeps the winners behind what claims say, with this specificity.
+pub fn keep_claims<'a>(best: &mut Vec<Option<Applied<'a>>>, spec: Spec, claims: &'a [Claim])
+    requires { length best.old.items ≡ 39 }
+    ensures len { length best.new.items ≡ 39 }
+    ensures kept { map (option_map seen) best.new.items
+        ≡ kept_all (map (option_map seen) best.old.items) (map (applied spec) claims.now) }
 {
-    let mut best = no_winners(alloc)?;
-    for next in all {
-        keep(&mut best, *next);
+    for claim in claims {
+        keep(best, Applied { spec, claim });
     }
-    Ok(best)
 }
 
-fn claims_among<'a>(alloc: Global, best: &[Option<Applied<'a>>]) -> Result<Vec<&'a Claim>, Mem>
-    ensures { IfOk result (λ winners. map (λ c. c.now) winners.items ≡ flat_map claims_in (map (option_map seen) best.now)) }
+/// The same for claims that stand elsewhere.
+pub fn keep_found<'a: 'b, 'b>(best: &mut Vec<Option<Applied<'b>>>, spec: Spec, claims: &[&'a Claim])
+    requires { length best.old.items ≡ 39 }
+    ensures len { length best.new.items ≡ 39 }
+    ensures kept { map (option_map seen) best.new.items
+        ≡ kept_all (map (option_map seen) best.old.items) (map (applied spec) (map (λ c. c.now) claims.now)) }
+{
+    for claim in claims {
+        keep(
+            best,
+            Applied {
+                spec,
+                claim: *claim,
+            },
+        );
+    }
+}
+
+/// The claims of the winners, in the order of the table.
+pub fn claims_among<'a>(alloc: Global, best: &[Option<Applied<'a>>]) -> Result<Vec<&'a Claim>, Mem>
+    ensures { IfOk result (λ winners. map (λ c. c.now) winners.items
+        ≡ flat_map claims_in (map (option_map seen) best.now)) }
 {
     let mut winners = Vec::new(alloc);
     for slot in best {
@@ -118,12 +139,4 @@ fn claims_among<'a>(alloc: Global, best: &[Option<Applied<'a>>]) -> Result<Vec<&
         }
     }
     Ok(winners)
-}
-
-/// What wins at a node of the settings that apply to it, in the order of the table.
-pub fn winners<'a>(alloc: Global, all: &[Applied<'a>]) -> Result<Vec<&'a Claim>, Mem>
-    ensures { IfOk result (λ winners. map (λ c. c.now) winners.items ≡ winners_of (map seen all.now)) }
-{
-    let best = best_of(alloc, all)?;
-    claims_among(alloc, best.as_slice())
 }

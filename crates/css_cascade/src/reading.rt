@@ -92,7 +92,8 @@ fn refused_claim(alloc: Global, origin: Origin, decl: &Decl, prop: Prop) -> Resu
 
 /// What a declaration with this value says.
 fn said(alloc: Global, origin: Origin, decl: &Decl, value: &str) -> Result<List<Claim>, Mem>
-    ensures { IfOk result (λ claims. (answer : Result (Seq Setting) Refusal) × Says decl.now.name value.now answer × (claims ≡ claims_of origin decl.now answer)) }
+    ensures { IfOk result (λ claims. (answer : Result (Seq Setting) Refusal) × Says decl.now.name value.now answer
+        × (claims ≡ claims_of origin decl.now answer)) }
 {
     match read_declaration(alloc, decl.name.as_str(), value) {
         Ok(settings) => claims_for(alloc, origin, decl, settings),
@@ -143,7 +144,8 @@ fn ranked(alloc: Global, selectors: List<Selector>) -> Result<List<Ranked>, Mem>
 
 /// What a selector that is refused by name comes to, at this place of its ruleset.
 fn unsupported_at(origin: Origin, rule: u32, at: u32) -> Result<Option<Ruleset>, CascadeFault>
-    ensures is { MatchResult result (λ found. unsupported_at origin (rule + at) ≡ Ok (option_to_list found)) (λ fault. Reads fault (λ answer. answer ≡ unsupported_at origin (rule + at))) }
+    ensures is { MatchResult result (λ found. unsupported_at origin (rule + at) ≡ Ok (option_to_list found))
+        (λ fault. Reads fault (λ answer. answer ≡ unsupported_at origin (rule + at))) }
     ensures room { IfErr result (λ fault. fault ≡ CascadeFault.Mem → 2 ^ 32 ≤ rule + at) }
 {
     match origin {
@@ -157,7 +159,8 @@ fn unsupported_at(origin: Origin, rule: u32, at: u32) -> Result<Option<Ruleset>,
 
 /// What a rule comes to, at this place, of which the selector can't be read.
 fn unread(origin: Origin, rule: u32, fault: SelFault) -> Result<Option<Ruleset>, CascadeFault>
-    ensures is { MatchResult result (λ found. IsUnread origin rule fault (Ok (option_to_list found))) (λ answered. Reads answered (IsUnread origin rule fault)) }
+    ensures is { MatchResult result (λ found. IsUnread origin rule fault (Ok (option_to_list found)))
+        (λ answered. Reads answered (IsUnread origin rule fault)) }
     ensures room { IfErr result (λ answered. answered ≡ CascadeFault.Mem → IsSpent rule fault) }
 {
     match fault {
@@ -175,7 +178,8 @@ fn ruleset_of(
     selectors: List<Selector>,
 ) -> Result<Ruleset, Mem>
     requires { AllByRecursion (λ s. IsCountable s.parts) selectors }
-    ensures { IfOk result (λ read. IsRanked read.group (map parts_of selectors) × AreClaimed origin text.now rule.now.decls read.claims) }
+    ensures { IfOk result (λ read. IsRanked read.group (map parts_of selectors)
+        × AreClaimed origin text.now rule.now.decls read.claims) }
 {
     Ok(Ruleset {
         group: ranked(alloc, selectors)?,
@@ -192,7 +196,8 @@ fn ruleset_with(
     selector: &str,
 ) -> Result<Option<Ruleset>, CascadeFault>
     requires { IsSlice text.now rule.now.at rule.now.len selector.now }
-    ensures { MatchResult result (λ found. IsRuleset origin text.now rule.now (Ok (option_to_list found))) (λ fault. Reads fault (IsRuleset origin text.now rule.now)) }
+    ensures { MatchResult result (λ found. IsRuleset origin text.now rule.now (Ok (option_to_list found)))
+        (λ fault. Reads fault (IsRuleset origin text.now rule.now)) }
 {
     match read_selector(alloc, selector) {
         Ok(selectors) => Ok(Some(ruleset_of(alloc, origin, text, rule, selectors)?)),
@@ -207,7 +212,8 @@ fn ruleset_at(
     text: &str,
     rule: &Rule,
 ) -> Result<Option<Ruleset>, CascadeFault>
-    ensures { MatchResult result (λ found. IsRuleset origin text.now rule.now (Ok (option_to_list found))) (λ fault. Reads fault (IsRuleset origin text.now rule.now)) }
+    ensures { MatchResult result (λ found. IsRuleset origin text.now rule.now (Ok (option_to_list found)))
+        (λ fault. Reads fault (IsRuleset origin text.now rule.now)) }
 {
     match slice(text, rule.at, rule.len) {
         Some(selector) => ruleset_with(alloc, origin, text, rule, selector),
@@ -231,7 +237,8 @@ fn rulesets_in(
     text: &str,
     rules: &[Rule],
 ) -> Result<Vec<Ruleset>, CascadeFault>
-    ensures { MatchResult result (λ found. Each (IsRuleset origin text.now) rules.now (Ok found.items)) (λ fault. Reads fault (Each (IsRuleset origin text.now) rules.now)) }
+    ensures { MatchResult result (λ found. Each (IsRuleset origin text.now) rules.now (Ok found.items))
+        (λ fault. Reads fault (Each (IsRuleset origin text.now) rules.now)) }
 {
     let mut rulesets = Vec::new(alloc);
     for rule in rules {
@@ -257,7 +264,8 @@ pub fn read_rulesets(
     sheets: &[Sheet],
 ) -> Result<Vec<Ruleset>, CascadeFault>
     requires { length texts.now ≡ length sheets.now }
-    ensures { MatchResult result (λ found. AreRulesets texts.now sheets.now (Ok found.items)) (λ fault. Reads fault (AreRulesets texts.now sheets.now)) }
+    ensures { MatchResult result (λ found. AreRulesets texts.now sheets.now (Ok found.items))
+        (λ fault. Reads fault (AreRulesets texts.now sheets.now)) }
 {
     let mut rulesets = Vec::new(alloc);
     for at in 0..sheets.len() {

@@ -1,11 +1,11 @@
-use Rattle.std.proofs.Common.{sym, subst}
-use Rattle.css_semantics.specs.CascadeReading.{AppliesTo}
-use Rattle.css_cascade.proofs.Reaching.{Reached, reached_more, reached_end}
+use Rattle.css_cascade.proofs.Keeping.{best_start, best_more, best_end}
 use Rattle.css_cascade.proofs.applying.applied.Goals as goal
 
-pub loop-rules-preserved : goal.loop-rules-preserved
-loop-rules-preserved c = subst (Reached (AppliesTo c.args.page.now.nodes c.args.node) c.args.rulesets.now _) (sym c.in_ok-apply.ensures.2)
-    (reached_more c.rules-item.result c.in_ok-apply.ensures.0 c.loop-rules-test.true c.rules-item.is c.loop-rules.invariant c.in_ok-apply.ensures.1)
+pub loop-rules-init : goal.loop-rules-init
+loop-rules-init c = (c.in_ok-best.ensures.len, best_start _ _ _ _ c.in_ok-best.ensures.none)
 
-pub returns : goal.returns
-returns c = reached_end c.loop-rules-test.false c.loop-rules.invariant
+pub loop-rules-preserved : goal.loop-rules-preserved
+loop-rules-preserved c = (c.apply.ensures.len, best_more _ _ _ _ _ _ c.rules-item.result c.loop-rules-test.true c.rules-item.is c.requires.trimmed c.loop-rules.invariant.1 c.apply.ensures.kept)
+
+pub returns-clause-kept : goal.returns-clause-kept
+returns-clause-kept c = best_end _ _ _ _ _ _ _ c.loop-rules-test.false c.loop-rules.invariant.1 c.keep_claims.ensures.kept

@@ -1,7 +1,8 @@
-use Rattle.std.proofs.Common.{[], rules, subst}
+use Rattle.std.proofs.Common.{◌∙◌, [], map, rules, ap, subst}
 use Rattle.css_semantics.specs.Cascade.{Goes, IsCascade, cascaded}
 use Rattle.viz_base.specs.Answers.{FailsWith}
 use Rattle.css_cascade.specs.Faults.{refusal_of}
+use Rattle.css_cascade.specs.Trimming.{rules_of}
 use Rattle.css_cascade.proofs.Outcomes.{lists_on, places_on}
 use Rattle.css_cascade.proofs.Rulesets.{gives_on, refused_page}
 use Rattle.css_cascade.proofs.cascading.cascade.Goals as goal
@@ -13,8 +14,8 @@ returns-in_err-rulesets-clause-given c =
     search rules
 
 pub returns-clause-given : goal.returns-clause-given
-returns-clause-given c = gives_on c.cascade_nodes.result (Goes c.args.page.now.nodes c.deref.result.now [] [] c.args.page.now.nodes) (IsCascade c.args.page.now.nodes c.args.texts.now c.args.sheets.now)
-    (λ a g. cascaded c.in_ok-rulesets.ensures (subst (λ rs. Goes c.args.page.now.nodes rs [] [] c.args.page.now.nodes a) c.deref.ensures.value g))
+returns-clause-given c = gives_on c.cascade_nodes.result (Goes c.args.page.now.nodes (map rules_of c.deref-2.result.now) [] [] c.args.page.now.nodes) (IsCascade c.args.page.now.nodes c.args.texts.now c.args.sheets.now)
+    (λ a g. cascaded c.in_ok-rulesets.ensures (subst (λ rs. Goes c.args.page.now.nodes rs [] [] c.args.page.now.nodes a) (ap (map rules_of) c.deref-2.ensures.value ∙ c.in_ok-trimmed.ensures.0 ∙ c.deref.ensures.value) g))
     c.cascade_nodes.ensures
 
 pub returns-clause-lists : goal.returns-clause-lists

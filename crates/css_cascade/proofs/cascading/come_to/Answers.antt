@@ -1,26 +1,35 @@
-use Rattle.std.proofs.Common.{◌≡◌, ◌++◌, ◌∙◌, List, [], map, refl, sym, ap, subst}
+use Rattle.std.proofs.Common.{◌≡◌, ◌++◌, ◌∙◌, List, [], map, option_map, refl, sym, ap, subst}
+use Rattle.std.specs.Prelude.{flat_map}
+use Rattle.css_semantics.specs.declared.claims.Claim.{Claim}
+use Rattle.css_semantics.specs.CascadeNodes.{winners_of}
 use Rattle.css_semantics.specs.CascadeOrder.{Applied, applied, style_spec}
 use Rattle.css_semantics.specs.CascadeReading.{AreApplied, IsStyled}
-use Rattle.css_cascade.specs.Seen.{seen}
+use Rattle.css_cascade.specs.Seen.{claims_in, seen}
+use Rattle.css_cascade.specs.Trimming.{rules_of}
 use Rattle.css_cascade.proofs.Applies.{comes, comes_by}
+use Rattle.css_cascade.proofs.Keeping.{winners_are}
 use Rattle.css_cascade.proofs.cascading.come_to.Goals as goal
 
-pub returns-in_ok-push_applied-in-Element : goal.returns-in_ok-push_applied-in-Element
-returns-in_ok-push_applied-in-Element c =
-    let list : List Applied = map seen c.in_ok-all-in-Element.all.items ++ map (applied style_spec) c.in_ok-style-in-Element.style in
-    let all = AreApplied.to_element c.in_ok-all-in-Element.ensures (subst (λ attrs. IsStyled c.args.at attrs c.in_ok-style-in-Element.style) c.as_slice.ensures c.in_ok-style-in-Element.ensures) in
-    let same : map seen c.deref.result.now ≡ list =
-    ap (map seen) c.deref.ensures.value ∙ c.in_ok-push_applied-in-Element.ensures ∙ ap (λ style. map seen c.in_ok-all-in-Element.all.items ++ map (applied style_spec) style) c.as_slice-in-Element.ensures in
+pub returns-in_ok-winners-in-Element : goal.returns-in_ok-winners-in-Element
+returns-in_ok-winners-in-Element c =
+    let kept = c.in_ok-best-in-Element.ensures.kept in
+    let style = c.as_slice-in-Element.result.now in
+    let list : List Applied = kept.0 ++ map (applied style_spec) style in
+    let said = subst (IsStyled c.args.at c.as_slice.result.now) (sym c.as_slice-in-Element.ensures) c.in_ok-style-in-Element.ensures in
+    let all = AreApplied.to_element kept.1 (subst (λ attrs. IsStyled c.args.at attrs style) c.as_slice.ensures said) in
+    let winners : map (λ x. x.now) c.deref.result.now ≡ winners_of list =
+    winners_are _ list _ kept.2
+    (ap (map (λ x. x.now)) c.deref.ensures.value ∙ c.in_ok-winners-in-Element.ensures ∙ ap (λ b. flat_map claims_in (map (option_map seen) b)) c.as_slice-in-Element-2.ensures.value) in
     comes_by _ _ _ _ _ _
-    (comes c.args.page.now.nodes c.args.rulesets.now c.args.standings.now c.args.at c.args.node.now c.is_replaced-replaced.result c.standing_around-outer.result list (map seen c.deref.result.now)
-    (subst (λ body. AreApplied c.args.page.now.nodes c.args.rulesets.now c.args.at body list) (sym c.in-Element.is) all)
-    c.is_replaced-replaced.ensures c.standing_around-outer.ensures same)
+    (comes c.args.page.now.nodes (map rules_of c.args.rulesets.now) c.args.standings.now c.args.at c.args.node.now c.is_replaced-replaced.result c.standing_around-outer.result list (map (λ x. x.now) c.deref.result.now)
+    (subst (λ body. AreApplied c.args.page.now.nodes (map rules_of c.args.rulesets.now) c.args.at body list) (sym c.in-Element.is) all)
+    c.is_replaced-replaced.ensures c.standing_around-outer.ensures winners)
     c.judge.result c.judge.ensures
 
 pub returns-in-Chars : goal.returns-in-Chars
 returns-in-Chars c =
     comes_by _ _ _ _ _ _
-    (comes c.args.page.now.nodes c.args.rulesets.now c.args.standings.now c.args.at c.args.node.now c.is_replaced-replaced.result c.standing_around-outer.result [] []
-    (subst (λ body. AreApplied c.args.page.now.nodes c.args.rulesets.now c.args.at body []) (sym c.in-Chars.is) AreApplied.to_text)
+    (comes c.args.page.now.nodes (map rules_of c.args.rulesets.now) c.args.standings.now c.args.at c.args.node.now c.is_replaced-replaced.result c.standing_around-outer.result [] []
+    (subst (λ body. AreApplied c.args.page.now.nodes (map rules_of c.args.rulesets.now) c.args.at body []) (sym c.in-Chars.is) AreApplied.to_text)
     c.is_replaced-replaced.ensures c.standing_around-outer.ensures refl)
     c.judge-in-Chars.result c.judge-in-Chars.ensures

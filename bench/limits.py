@@ -1,0 +1,90 @@
+#!/usr/bin/env python3
+"""Measures `lay` on jobs whose style sheets are the worst for the cascade within the limits of the profile: processor time and memory.
+
+Each job is a row of elements in a root, with a sheet of at most 1 MiB. The program is that of `crates/vizlog`, or one named behind the
+first word. Run it at the top: bench/limits.py [PROGRAM] [PART OF A CASE'S NAME]
+"""
+import json
+import os
+import pathlib
+import subprocess
+import sys
+import tempfile
+import time
+
+TOP = pathlib.Path(__file__).resolve().parent.parent
+PROGRAM = TOP / "crates/vizlog/out/vizlog"
+MOST = 1 << 20
+FONT = {"name": "Square", "upem": 1000, "ascent": 800, "descent": 200, "default": 500, "advances": []}
+
+
+def row(elements, of=lambda at: {"tag": "div", "attrs": {"class": "a"}}, between=()):
+    """A root with so many elements in it, the root counted, and these children before each."""
+    children = []
+    for at in range(elements - 1):
+        children.extend(between)
+        children.append(of(at))
+    return {"tag": "div", "children": children}
+
+
+def flood(head, part, foot=""):
+    """A sheet of 1 MiB at most that repeats a part."""
+    return head + part * ((MOST - len(head) - len(foot)) // len(part)) + foot
+
+
+def classed(at):
+    return {"tag": "div", "attrs": {"class": f"c{at}"}}
+
+
+def classes(rules):
+    return "".join(f".c{at}{{margin:0 auto}}\n" for at in range(rules))
+
+
+BOOTSTRAP = pathlib.Path("/usr/share/javascript/bootstrap4/css")
+
+CASES = {
+    "no sheet, 4,096 elements": lambda: (row(4096), ""),
+    "8,192 rules that apply to 512 elements": lambda: (row(512), ".a{margin:0 auto}\n" * 8192),
+    "8,192 rules that apply to 4,096 elements": lambda: (row(4096), ".a{margin:0 auto}\n" * 8192),
+    "8,192 rules of a class each, 4,096 elements": lambda: (row(4096, classed), classes(8192)),
+    "1 MiB of declarations in a rule, 64 elements": lambda: (row(64), flood("div{", "margin:0;", "}")),
+    "1 MiB of declarations in a rule, 4,096 elements": lambda: (row(4096), flood("div{", "margin:0;", "}")),
+    "1 MiB of the longest shorthand, 4,096 elements": lambda: (row(4096), flood("div{", "border:0;", "}")),
+    "1 MiB of *, 4,096 elements": lambda: (row(4096), flood("*", ",*", "{margin:0}")),
+    "1 MiB of p, 4,096 elements": lambda: (row(4096), flood("p", ",p", "{margin:0}")),
+    "1 MiB of *+*.., 4,096 elements": lambda: (row(4096), flood("*", "+*", "{margin:0}")),
+    "1 MiB of +, 512 elements, 64 empty texts each": lambda: (
+        row(512, between=[""] * 64), flood("*", "+*", "{margin:0}")),
+    "1 MiB of p+div, 4,096 elements, 64 empty texts each": lambda: (
+        row(4096, between=[""] * 64), flood("p+div", ",p+div", "{margin:0}")),
+    "1,000,000 empty texts": lambda: (row(2, between=[""] * 1000000), ""),
+    "bootstrap-reboot": lambda: (row(4096), (BOOTSTRAP / "bootstrap-reboot.css").read_text()),
+    "bootstrap": lambda: (row(4096), (BOOTSTRAP / "bootstrap.css").read_text()),
+}
+
+
+def job(page, sheet):
+    return json.dumps({"vizlog": 1, "widths": [800, 800], "sizes": [16, 16], "height": 600, "fonts": [FONT], "css": [sheet],
+                       "page": page, "assert": "true"})
+
+
+def main():
+    program = sys.argv[1] if len(sys.argv) > 1 else str(PROGRAM)
+    part = sys.argv[2] if len(sys.argv) > 2 else ""
+    for told, made in CASES.items():
+        if part not in told:
+            continue
+        with tempfile.NamedTemporaryFile("w", suffix=".json") as file:
+            file.write(job(*made()))
+            file.flush()
+            with tempfile.TemporaryFile() as output:
+                child = subprocess.Popen([program, "lay", file.name, "800", "16"], stdout=output)
+                _, status, usage = os.wait4(child.pid, 0)
+                output.seek(0)
+                answer = output.read(60).split(b"\n")[0].decode(errors="replace")
+        took = usage.ru_utime + usage.ru_stime
+        print(f"{told:52} {took:9.3f} s {usage.ru_maxrss // 1024:6} MB  status {os.waitstatus_to_exitcode(status)} {answer}",
+              flush=True)
+
+
+main()
