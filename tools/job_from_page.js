@@ -176,6 +176,9 @@ const MOVERS = new RegExp("^(?:box-sizing|flex|flex-.*|grid|grid-.*|order|gap|ro
   "|word-break|overflow-wrap|word-wrap|hyphens|line-break|text-wrap.*" +
   "|content-visibility|text-orientation|float-.*|shape-.*|interpolate-size|field-sizing|initial-letter|text-spacing.*)$");
 
+/** Sizes by words, for which browsers have a table of whole pixels at default sizes up to 16 px. */
+const SIZE_WORDS = /(?:^|\s)(?:xx-small|x-small|small|large|x-large|xx-large)(?![-\w])/;
+
 /** How a declaration is read: "taken", "refused", "dropped" or "unlisted". */
 function declarationKind({name, value}) {
   if (name === "list-style") return /(?:^|\s)inside(?:\s|$)/.test(value) ? "refused" : "taken";
@@ -328,6 +331,10 @@ function judgeDeclarations(text, where, findings, browser = BROWSER) {
       const listed = kind === "dropped" ? `${name} with a value that CSS 2.1 does not have` : name;
       const what = name.startsWith("--") ? "a variable (--x)" : listed;
       findings.add("otherwise", `${what} is dropped`, `${where} { ${short(`${name}: ${value}`)} }`);
+    }
+    if (kind === "taken" && /^font(?:-size)?$/.test(name) && SIZE_WORDS.test(value)) {
+      findings.add("otherwise", "font sizes by words are fractions of the default size, and a table in browsers",
+        `${where} { ${short(`${name}: ${value}`)} }`);
     }
   }
 }

@@ -1,0 +1,153 @@
+#!/usr/bin/env python3
+"""Measures `vizlog check` on large certificates: processor time and peak memory, and the stack that deep ones take.
+
+- what `prove` writes for the generated job of seed 7 with 200 sections: leaves with more than 10,000 answers;
+- 2,097,151 splits, 21 levels of them, each side of a split being cut again: below 500 bytes of memory for a split,
+  its row and the grid or split below it counted;
+- 64 MiB of one leaf, its answers being more than the page asks for;
+- splits at depth 0 to 511: how many KiB of stack they take, below the 8,192 KiB that a process has where nothing else is said.
+
+Run it at the top: bench/certs.py [PROGRAM]
+"""
+import hashlib
+import json
+import os
+import pathlib
+import subprocess
+import sys
+import tempfile
+
+TOP = pathlib.Path(__file__).resolve().parent.parent
+SEED, SECTIONS, TURNS = 7, 200, 64
+MOST = 64 * 1024 * 1024
+SQUARE = {"name": "Square", "upem": 1000, "ascent": 800, "descent": 200, "default": 500}
+STACK = 8192
+
+
+def run(words, out, stack=None):
+    """The status, the processor time in seconds, and the peak memory in MiB of a run whose output goes to a file."""
+    words = ["sh", "-c", f'ulimit -s {stack}; exec "$@"', "sh", *words] if stack else words
+    child = subprocess.Popen(words, stdout=out)
+    _, status, usage = os.wait4(child.pid, 0)
+    return os.waitstatus_to_exitcode(status), usage.ru_utime + usage.ru_stime, usage.ru_maxrss / 1024
+
+
+def job(widths):
+    """A page of two blocks, over these widths and one size."""
+    return json.dumps({"vizlog": 1, "widths": widths, "sizes": [16, 16], "height": 600, "fonts": [SQUARE],
+                       "page": {"tag": "div", "attrs": {"style": "height:10px"}}, "assert": "forall b in block: b.right <= view.width"})
+
+
+def head(text):
+    return f"vizlog-cert 1\njob {hashlib.sha256(text.encode()).hexdigest()}\n"
+
+
+def halves(levels):
+    """A tree of splits whose grids have no worlds but for one path: `split 0 0:1` cuts off what is below 0."""
+    node = "grid\n"
+    for _ in range(levels):
+        node = "split 0 0:1\n" + node + node
+    return node
+
+
+def deep(splits):
+    """Splits of which each cuts off one width by a grid and goes on with the others."""
+    return "".join(f"split {at + 1} 0:-1\ngrid\n" for at in range(splits)) + "grid\n"
+
+
+class Bench:
+    """A program, and a folder for jobs and certificates."""
+
+    def __init__(self, program, folder):
+        self.program, self.job, self.cert, self.said = program, *(os.path.join(folder, name) for name in ("job.json", "job.cert", "said"))
+
+    def given(self, text, cert=None):
+        for name, given in ((self.job, text), (self.cert, cert)):
+            if given is not None:
+                with open(name, "w", encoding="utf-8", newline="") as out:
+                    out.write(given)
+
+    def check(self, stack=None):
+        with open(self.said, "wb") as out:
+            status, took, memory = run([self.program, "check", self.job, self.cert], out, stack)
+        return status, pathlib.Path(self.said).read_text(encoding="utf-8").strip(), took, memory
+
+    def tell(self, what, wanted):
+        """Checks the certificate, tells the figures, and gives the memory in MiB."""
+        size = os.path.getsize(self.cert) / 1024 / 1024
+        status, said, took, memory = self.check()
+        print(f"{what}: {size:.1f} MiB, {said}, {took:.2f} s, {memory:.0f} MiB of memory ({memory / size:.1f} times the file)", flush=True)
+        assert (status, said.split(" ")[:len(wanted.split(" "))]) == (0 if wanted == "accepted" else 8, wanted.split(" ")), f"not {wanted}"
+        return memory
+
+
+def proved(bench):
+    with open(bench.job, "wb") as out:
+        assert run([bench.program, "gen", str(SEED), str(SECTIONS)], out)[0] == 0
+    with open(bench.cert, "wb") as out:
+        status, took, memory = run([bench.program, "prove", bench.job, str(TURNS)], out)
+    assert status == 0, "prove did not decide"
+    with open(bench.cert, encoding="utf-8") as cert:
+        lines = [line.split(" ")[0].rstrip("\n") for line in cert]
+    answers, leaves = sum(it in ("yes", "no") for it in lines), lines.count("leaf")
+    assert answers >= 10000
+    print(f"prove of gen {SEED} {SECTIONS} with {TURNS} turns: {took:.2f} s, {memory:.0f} MiB of memory")
+    bench.tell(f"{leaves} leaves with {answers} answers", "accepted")
+
+
+def splits(bench):
+    text = job([1, 64])
+    levels = 21
+    count = 2 ** levels - 1
+    body = halves(levels)
+    if len(head(text)) + len(body) > MOST:
+        raise AssertionError("past 64 MiB")
+    bench.given(text, head(text) + body)
+    base = bench_base(bench, text)
+    bench.given(text, head(text) + body)
+    memory = bench.tell(f"{count} splits, {count + 1} grids", "accepted")
+    each = (memory - base) * 1024 * 1024 / count
+    file = len(body) / count
+    print(f"memory for a split with its row and a grid: {each:.0f} bytes, of the file's text {file:.0f} of them")
+    assert each < 500, "too much memory for a split"
+
+
+def bench_base(bench, text):
+    """The memory of a check of the least certificate, in MiB."""
+    bench.given(text, head(text) + "grid\n")
+    return bench.check()[3]
+
+
+def answers(bench):
+    text = job([1, 64])
+    answer = "yes 0 0:64\nfact 4\nfact 0\nsum 1:0 64:1\nclosed\n"
+    count = (MOST - len(head(text)) - 9) // len(answer)
+    bench.given(text, head(text) + "leaf\n" + answer * count + "end\n")
+    base = bench.check()[3]
+    memory = bench.tell(f"a leaf with {count} answers", "rejected")
+    print(f"memory for an answer of three steps: {memory * 1024 * 1024 / count:.0f} bytes, of the file's text {len(answer)} of them")
+    assert base <= memory * 1.1 + 1
+
+
+def stack(bench):
+    text = job([1, 560])
+    bench.given(text, head(text) + deep(512))
+    low, high = 64, STACK
+    assert bench.check(high)[:2] == (0, "accepted"), f"not accepted in {high} KiB of stack"
+    while high - low > 16:
+        middle = (low + high) // 2
+        low, high = (low, middle) if bench.check(middle)[0] == 0 else (middle, high)
+    print(f"512 splits, one in the other: accepted in {high} KiB of stack")
+
+
+def main():
+    program = sys.argv[1] if len(sys.argv) > 1 else str(TOP / "crates/vizlog/out/vizlog")
+    if not os.path.exists(program):
+        sys.exit(f"{program} is not there: run tools/prove, or name a program")
+    with tempfile.TemporaryDirectory() as folder:
+        bench = Bench(os.path.abspath(program), folder)
+        for measure in (proved, splits, answers, stack):
+            measure(bench)
+
+
+main()
