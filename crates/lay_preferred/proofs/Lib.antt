@@ -1,4 +1,8 @@
 pub mod Maxima
+pub mod Sizes
+pub mod PartLoops
+pub mod Caps
+pub mod Causes
 pub mod ChildColumns
 pub mod OuterWidths
 pub mod Founds

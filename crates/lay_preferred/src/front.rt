@@ -1,9 +1,10 @@
 //! The public call over any `Calc`, its engine within a `Latch`.
-ghost use Rattle.std.specs.Prelude.{◌≡◌, ◌<◌, length, IsTrue, IfOk};
+ghost use Rattle.std.specs.Prelude.{◌≡◌, ◌<◌, length, IsTrue, IfOk, IfErr};
 ghost use Rattle.viz_calc.specs.World.{Reading};
-ghost use Rattle.viz_calc.specs.State.{Grows, AreOpen};
+ghost use Rattle.viz_calc.specs.State.{Grows, AreOpen, CauseButMem};
 ghost use Rattle.layout_semantics.specs.Preferred.{preferred as preferred_of};
 ghost use Rattle.lay_width.specs.Readings.{preferred_at};
+ghost use Rattle.lay_preferred.specs.Fitting.{BoxesFit};
 
 use crate::engine;
 use crate::found::nothing_found;
@@ -19,6 +20,8 @@ pub fn preferred<C: Calc>(calc: &mut C, tree: &BoxTree, b: u32) -> Result<Prefer
     ensures value { IfOk result (λ r. (e : Reading) → IsTrue ((C.state calc.new).is_open e)
         → preferred_at C.at r e ≡ preferred_of tree.now e.world b) }
     ensures kept { AreOpen (C.state calc.old).kept (C.state calc.new) }
+    ensures cause { IfErr result (CauseButMem (C.state calc.old) (C.state calc.new)
+        (BoxesFit tree.now (C.state calc.old).is_open)) }
 {
     let alloc = tree.boxes.allocator();
     let mut latch = Latch::new(calc);
