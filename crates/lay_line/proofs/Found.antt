@@ -40,3 +40,11 @@ all-later-suc P f (x ∷ xs) (suc k) a = all-later-suc P f xs k a
 
 pub all-later : {A B : Type 0} (P : B → Type 0) (f : A → B) (xs : List A) (k : ℕ) → AllByRecursion P (map f (drop k xs)) → AllByRecursion P (map f (drop (k + 1) xs))
 all-later P f xs k a = let one : suc k ≡ k + 1 = omega arith in subst (λ n. AllByRecursion P (map f (drop n xs))) one (all-later-suc P f xs k a)
+
+-- ---- an item of a list
+
+pub drop_is : {A : Type 0} (xs : List A) (k : ℕ) (x : A) → k < length xs → x ≡ get_or xs k x → drop k xs ≡ x ∷ drop (k + 1) xs
+drop_is xs k x lt is = at_drop_more (λ l. l) xs k x lt ∙ ap (λ y. y ∷ drop (k + 1) xs) (sym is)
+
+pub all-here : {A B : Type 0} (P : B → Type 0) (f : A → B) (xs : List A) (k : ℕ) (x : A) → k < length xs → x ≡ get_or xs k x → AllByRecursion P (map f (drop k xs)) → P (f x)
+all-here {A} P f xs k x lt is a = (subst (λ (l : List A). AllByRecursion P (map f l)) (drop_is xs k x lt is) a).0

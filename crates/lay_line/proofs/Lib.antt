@@ -25,3 +25,7 @@ pub mod LineEnds
 pub mod ShortWords
 pub mod LineBegins
 pub mod AllLines
+pub mod Placing
+pub mod HeldSizes
+pub mod Fitting
+pub mod Filling
