@@ -351,7 +351,7 @@ fn fault_below(
 impl<'a> Calc for Sym<'a> {
     ghost use Rattle.std.specs.Prelude.{◌*◌, ◌+ℤ◌, ◌*ℤ◌, ◌⊎◌};
     ghost use Rattle.std.proofs.Common.{inl, refl};
-    ghost use Rattle.viz_calc.specs.State.{Stands, Grows, KeepsWorlds, Fits, Cause, IsDecided};
+    ghost use Rattle.viz_calc.specs.State.{Stands, Grows, KeepsWorlds, Fits, Cause, IsCounted, IsDecided};
     ghost use Rattle.viz_calc.specs.declared.calc.Halt.TheVariants.{Open};
     ghost use Rattle.sym_calc.specs.Knowledge.{number_at};
     ghost use Rattle.sym_calc.specs.Troubles.{first_of};
@@ -364,6 +364,8 @@ impl<'a> Calc for Sym<'a> {
 
     ghost at = { number_at };
 
+    ghost counts = { true };
+
     fn blank(&self) -> Row {
         Row::constant(self.path.facts.allocator(), 0)
     }
@@ -374,6 +376,7 @@ impl<'a> Calc for Sym<'a> {
         ensures value { IfOk result (λ r. Stands (state_of self.new) (number_at r) (λ e. v)) }
         ensures cause { IfErr result (Cause (state_of self.old) (state_of self.new)
             (Fits (state_of self.new) (λ e. v ∷ []))) }
+        ensures counted { IfErr result (IsCounted true (state_of self.old) (state_of self.new)) }
         ensures decided { IsDecided result }
         ensures free { IfErr result (λ halt. halt ≡ Halt.Mem) }
     {
@@ -386,6 +389,7 @@ impl<'a> Calc for Sym<'a> {
         ensures value { IfOk result (λ r. Stands (state_of self.new) (number_at r) (λ e. pos (64 * e.world.w))) }
         ensures cause { IfErr result (Cause (state_of self.old) (state_of self.new)
             (Fits (state_of self.new) (λ e. pos (64 * e.world.w) ∷ []))) }
+        ensures counted { IfErr result (IsCounted true (state_of self.old) (state_of self.new)) }
         ensures decided { IsDecided result }
         ensures free { IfErr result (λ halt. halt ≡ Halt.Mem) }
     {
@@ -398,6 +402,7 @@ impl<'a> Calc for Sym<'a> {
         ensures value { IfOk result (λ r. Stands (state_of self.new) (number_at r) (λ e. pos (64 * e.world.s))) }
         ensures cause { IfErr result (Cause (state_of self.old) (state_of self.new)
             (Fits (state_of self.new) (λ e. pos (64 * e.world.s) ∷ []))) }
+        ensures counted { IfErr result (IsCounted true (state_of self.old) (state_of self.new)) }
         ensures decided { IsDecided result }
         ensures free { IfErr result (λ halt. halt ≡ Halt.Mem) }
     {
@@ -410,6 +415,7 @@ impl<'a> Calc for Sym<'a> {
         ensures value { IfOk result (λ r. Stands (state_of self.new) (number_at r) (λ e. number_at a.now e)) }
         ensures cause { IfErr result (Cause (state_of self.old) (state_of self.new)
             (Fits (state_of self.new) (λ e. number_at a.now e ∷ []))) }
+        ensures counted { IfErr result (IsCounted true (state_of self.old) (state_of self.new)) }
         ensures decided { IsDecided result }
         ensures free { IfErr result (λ halt. halt ≡ Halt.Mem) }
     {
@@ -423,6 +429,7 @@ impl<'a> Calc for Sym<'a> {
             (λ e. number_at a.now e +ℤ number_at b.now e)) }
         ensures cause { IfErr result (Cause (state_of self.old) (state_of self.new)
             (Fits (state_of self.new) (λ e. (number_at a.now e +ℤ number_at b.now e) ∷ []))) }
+        ensures counted { IfErr result (IsCounted true (state_of self.old) (state_of self.new)) }
         ensures decided { IsDecided result }
         ensures exact { IsGiven result (plus a.now (pos 1) b.now) }
     {
@@ -437,6 +444,7 @@ impl<'a> Calc for Sym<'a> {
             (λ e. number_at a.now e -ℤ number_at b.now e)) }
         ensures cause { IfErr result (Cause (state_of self.old) (state_of self.new)
             (Fits (state_of self.new) (λ e. (number_at a.now e -ℤ number_at b.now e) ∷ []))) }
+        ensures counted { IfErr result (IsCounted true (state_of self.old) (state_of self.new)) }
         ensures decided { IsDecided result }
         ensures exact { IsGiven result (plus a.now (negsuc 0) b.now) }
     {

@@ -1,6 +1,6 @@
-ghost use Rattle.std.specs.Prelude.{◌≡◌, IsTrue, IfOk, IfErr};
+ghost use Rattle.std.specs.Prelude.{◌≡◌, Some, IsTrue, IfOk, IfErr};
 ghost use Rattle.viz_calc.specs.World.{Reading};
-ghost use Rattle.viz_calc.specs.State.{Grows, AreOpen, Cause};
+ghost use Rattle.viz_calc.specs.State.{Grows, AreOpen, Cause, is_told};
 ghost use Rattle.logic_semantics.specs.Truth.{truth, truth_in};
 ghost use Rattle.vis_truth.specs.Names.{places_of};
 ghost use Rattle.vis_truth.specs.Scenes.{scene_at, IsTame};
@@ -26,6 +26,7 @@ pub fn truth<C: Calc>(
     ensures kept { AreOpen (C.state calc.old).kept (C.state calc.new) }
     ensures cause { IfErr result (Cause (C.state calc.old) (C.state calc.new)
         (IsTame (C.state calc.old).is_open C.at r.now f.now)) }
+    ensures told { IfErr result (λ halt. IsTrue (is_told C.counts (C.state calc.new) (Some halt))) }
 {
     let mut latch = Latch::new(calc);
     let whole = engine::truth(&mut latch, f, r, height);

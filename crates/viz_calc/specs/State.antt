@@ -1,4 +1,4 @@
-use Rattle.std.specs.Prelude.{◌≡◌, ◌-◌, ◌<◌, ◌≤◌, ◌⊎◌, ◌^◌, ℕ, ℤ, Bool, false, IsTrue, unsigned_abs, List, [], ◌∷◌, Result, IfErr}
+use Rattle.std.specs.Prelude.{◌≡◌, ◌-◌, ◌<◌, ◌≤◌, ◌⊎◌, ◌^◌, ℕ, ℤ, Bool, true, false, not, ◌||◌, nat_lt, IsTrue, unsigned_abs, List, [], ◌∷◌, Option, Some, Result, IfErr}
 use Rattle.viz_calc.specs.World.{Reading}
 use Rattle.viz_base.specs.declared.worlds.World.{World}
 use Rattle.viz_calc.specs.declared.calc.Halt.{Halt}
@@ -60,6 +60,17 @@ AllSmall (z ∷ zs) = IsSmall z × AllSmall zs
 -- at each open reading these are at most 2^100 in size
 abbrev pub Fits : State → (Reading → List ℤ) → Type 0
 Fits s parts = (e : Reading) → IsTrue (s.is_open e) → AllSmall (parts e)
+
+-- a calc that counts each coefficient past its limit has counted this one
+abbrev pub IsCounted : Bool → State → State → Halt → Type 0
+IsCounted counts old new h = counts ≡ true → h ≡ Coeff → Rose old.coeffs new.coeffs
+
+-- a halt is told by the counts: a comparison that was left open was counted, and so was a coefficient past its limit, by a calc that
+-- counts each
+abbrev pub is_told : Bool → State → Option Halt → Bool
+is_told counts s (Some Open) = nat_lt 0 s.opens
+is_told counts s (Some Coeff) = not counts || nat_lt 0 s.coeffs
+is_told counts s halt = true
 
 -- why a call may halt, given that what it computes fits
 abbrev pub Cause : State → State → Type 0 → Halt → Type 0

@@ -1,8 +1,8 @@
-ghost use Rattle.std.specs.Prelude.{◌≡◌, ◌≤◌, ℕ, ◌*◌, ℤ, ⊤, pos, ◌+ℤ◌, ◌-ℤ◌, ◌*ℤ◌, IsTrue, IfOk, IfErr, [], ◌∷◌};
+ghost use Rattle.std.specs.Prelude.{◌≡◌, ◌≤◌, ℕ, ◌*◌, ℤ, Bool, ⊤, pos, ◌+ℤ◌, ◌-ℤ◌, ◌*ℤ◌, IsTrue, IfOk, IfErr, [], ◌∷◌};
 ghost use Rattle.std.specs.Int.{int_div_euclid};
 ghost use Rattle.std.specs.Int.RustNames.{int_le};
 ghost use Rattle.viz_calc.specs.World.{Reading};
-ghost use Rattle.viz_calc.specs.State.{State, Stands, Grows, KeepsWorlds, AreOpen, Fits, Cause, IsDecided};
+ghost use Rattle.viz_calc.specs.State.{State, Stands, Grows, KeepsWorlds, AreOpen, Fits, Cause, IsCounted, IsDecided};
 
 use std::alloc::{AllocError, AllocFailed};
 use thiserror::Error;
@@ -72,12 +72,16 @@ pub trait Calc {
     /// What a number means.
     ghost at: { Self.Num → Reading → ℤ };
 
+    /// Whether it counts each coefficient past its limit.
+    ghost counts: { Bool };
+
     /// The number `v`, in 1/64 px. `Coeff` past 2^100, or where a coefficient passes its limit.
     fn lit(&mut self, v: i128) -> Result<Self::Num, Halt>
         ensures grows { Grows (state self.old) (state self.new) }
         ensures worlds { KeepsWorlds (state self.old) (state self.new) }
         ensures value { IfOk result (λ r. Stands (state self.new) (at r) (λ e. v)) }
         ensures cause { IfErr result (Cause (state self.old) (state self.new) (Fits (state self.new) (λ e. v ∷ []))) }
+        ensures counted { IfErr result (IsCounted counts (state self.old) (state self.new)) }
         ensures decided { IsDecided result };
 
     /// The viewport's width, in 1/64 px. Errors as those of `lit`.
@@ -87,6 +91,7 @@ pub trait Calc {
         ensures value { IfOk result (λ r. Stands (state self.new) (at r) (λ e. pos (64 * e.world.w))) }
         ensures cause { IfErr result (Cause (state self.old) (state self.new) (Fits (state self.new)
             (λ e. pos (64 * e.world.w) ∷ []))) }
+        ensures counted { IfErr result (IsCounted counts (state self.old) (state self.new)) }
         ensures decided { IsDecided result };
 
     /// The default font size, in 1/64 px. Errors as those of `lit`.
@@ -96,6 +101,7 @@ pub trait Calc {
         ensures value { IfOk result (λ r. Stands (state self.new) (at r) (λ e. pos (64 * e.world.s))) }
         ensures cause { IfErr result (Cause (state self.old) (state self.new) (Fits (state self.new)
             (λ e. pos (64 * e.world.s) ∷ []))) }
+        ensures counted { IfErr result (IsCounted counts (state self.old) (state self.new)) }
         ensures decided { IsDecided result };
 
     /// The same number again. Errors as those of `lit`.
@@ -105,6 +111,7 @@ pub trait Calc {
         ensures value { IfOk result (λ r. Stands (state self.new) (at r) (at a.now)) }
         ensures cause { IfErr result (Cause (state self.old) (state self.new) (Fits (state self.new)
             (λ e. at a.now e ∷ []))) }
+        ensures counted { IfErr result (IsCounted counts (state self.old) (state self.new)) }
         ensures decided { IsDecided result };
 
     /// The sum. Errors as those of `lit`.
@@ -114,6 +121,7 @@ pub trait Calc {
         ensures value { IfOk result (λ r. Stands (state self.new) (at r) (λ e. at a.now e +ℤ at b.now e)) }
         ensures cause { IfErr result (Cause (state self.old) (state self.new) (Fits (state self.new)
             (λ e. (at a.now e +ℤ at b.now e) ∷ []))) }
+        ensures counted { IfErr result (IsCounted counts (state self.old) (state self.new)) }
         ensures decided { IsDecided result };
 
     /// `a - b`. Errors as those of `lit`.
@@ -123,6 +131,7 @@ pub trait Calc {
         ensures value { IfOk result (λ r. Stands (state self.new) (at r) (λ e. at a.now e -ℤ at b.now e)) }
         ensures cause { IfErr result (Cause (state self.old) (state self.new) (Fits (state self.new)
             (λ e. (at a.now e -ℤ at b.now e) ∷ []))) }
+        ensures counted { IfErr result (IsCounted counts (state self.old) (state self.new)) }
         ensures decided { IsDecided result };
 
     /// `a * num / den`, rounded towards minus infinity. Errors as those of `lit`.
@@ -134,6 +143,7 @@ pub trait Calc {
             (λ e. int_div_euclid (num *ℤ at a.now e) (pos den))) }
         ensures cause { IfErr result (Cause (state self.old) (state self.new) (Fits (state self.new)
             (λ e. int_div_euclid (num *ℤ at a.now e) (pos den) ∷ []))) }
+        ensures counted { IfErr result (IsCounted counts (state self.old) (state self.new)) }
         ensures decided { IsDecided result };
 
     /// Whether `a` is at most `b`; it may close worlds where the answer is another. `Open` where the

@@ -1,5 +1,5 @@
 ghost use Rattle.std.specs.Prelude.{◌≡◌, ◌≤◌, ℕ, ◌*◌, ℤ, ⊤, pos, ◌+ℤ◌, ◌-ℤ◌, ◌*ℤ◌, IsTrue, IfOk, IfErr, [], ◌∷◌, Some, None};
-ghost use Rattle.viz_calc.specs.State.{State, Grows, Cause};
+ghost use Rattle.viz_calc.specs.State.{State, Grows, Cause, is_told};
 ghost use Rattle.viz_calc.specs.Run.{run_of};
 
 use crate::calc::{Calc, Halt};
@@ -7,9 +7,10 @@ use crate::steady::Steady;
 
 /// A calc that is lent, with its first halt. From then on the calc is left alone.
 #[derive(Drop)]
-pub struct Latch<'a, C> {
+pub struct Latch<'a, C: Calc> {
     calc: &'a mut C,
     halt: Option<Halt>,
+    ghost told: { IsTrue (is_told C.counts (C.state calc.now) halt) },
 }
 
 impl<'a, C: Calc> Latch<'a, C> {
@@ -24,6 +25,7 @@ impl<'a, C: Calc> Latch<'a, C> {
 
     /// The number, or from the first halt on a blank.
     fn keep(&mut self, answer: Result<C::Num, Halt>) -> C::Num
+        requires { IfErr answer (λ h. IsTrue (is_told C.counts (C.state self.old.calc.now) (Some h))) }
         ensures lender { self.new.calc.ghost_name ≡ self.old.calc.ghost_name }
         ensures now { self.new.calc.now ≡ self.old.calc.now }
         ensures ok { IfOk answer (λ n. result ≡ n) }
@@ -45,6 +47,7 @@ impl<'a, C: Calc> Latch<'a, C> {
         ensures ok { IfOk result (λ r. r ≡ value) }
         ensures running { IfOk result (λ r. self.entry.halt ≡ None) }
         ensures halt { IfErr result (λ h. self.entry.halt ≡ Some h) }
+        ensures told { IfErr result (λ h. IsTrue (is_told C.counts (C.state self.exit.0.now) (Some h))) }
     {
         match self.halt {
             None => Ok(value),

@@ -1,9 +1,9 @@
-ghost use Rattle.std.specs.Prelude.{◌≡◌, ◌*◌, ◌^◌, ◌≤◌, ◌+ℤ◌, ◌-ℤ◌, ◌*ℤ◌, pos, Ok, ⊤, IsTrue, IfOk, IfErr, [], ◌∷◌};
+ghost use Rattle.std.specs.Prelude.{◌≡◌, ◌*◌, ◌^◌, ◌≤◌, ◌+ℤ◌, ◌-ℤ◌, ◌*ℤ◌, pos, Ok, false, ⊤, IsTrue, IfOk, IfErr, [], ◌∷◌};
 ghost use Rattle.std.specs.Int.{int_div_euclid};
 ghost use Rattle.std.specs.Int.RustNames.{int_le};
 ghost use Rattle.viz_calc.specs.World.{Reading};
 ghost use Rattle.viz_base.specs.declared.worlds.World.{World};
-ghost use Rattle.viz_calc.specs.State.{Stands, Grows, KeepsWorlds, IsOpenWorld, Fits, Cause, CauseButMem, IsDecided};
+ghost use Rattle.viz_calc.specs.State.{Stands, Grows, KeepsWorlds, IsOpenWorld, Fits, Cause, CauseButMem, IsCounted, IsDecided};
 ghost use Rattle.viz_calc.specs.Plain.{plain_state, plain_reading, fitted};
 ghost use Rattle.viz_calc.specs.declared.calc.Halt.TheVariants.{Mem};
 
@@ -80,6 +80,8 @@ impl Calc for Plain {
 
     ghost state = { λ p. plain_state p.world };
 
+    ghost counts = { false };
+
     ghost at = { λ n e. n };
 
     fn blank(&self) -> i128 {
@@ -92,6 +94,7 @@ impl Calc for Plain {
         ensures value { IfOk result (λ r. Stands (plain_state self.new.world) (λ e. r) (λ e. v)) }
         ensures cause { IfErr result (Cause (plain_state self.old.world) (plain_state self.new.world)
             (Fits (plain_state self.new.world) (λ e. v ∷ []))) }
+        ensures counted { IfErr result (IsCounted false (plain_state self.old.world) (plain_state self.new.world)) }
         ensures decided { IsDecided result }
         ensures exact { result ≡ fitted v }
         ensures same { self.new ≡ self.old }
@@ -105,6 +108,7 @@ impl Calc for Plain {
         ensures value { IfOk result (λ r. Stands (plain_state self.new.world) (λ e. r) (λ e. pos (64 * e.world.w))) }
         ensures cause { IfErr result (Cause (plain_state self.old.world) (plain_state self.new.world)
             (Fits (plain_state self.new.world) (λ e. pos (64 * e.world.w) ∷ []))) }
+        ensures counted { IfErr result (IsCounted false (plain_state self.old.world) (plain_state self.new.world)) }
         ensures decided { IsDecided result }
         ensures exact { result ≡ Ok (pos (64 * self.old.world.w)) }
         ensures same { self.new ≡ self.old }
@@ -118,6 +122,7 @@ impl Calc for Plain {
         ensures value { IfOk result (λ r. Stands (plain_state self.new.world) (λ e. r) (λ e. pos (64 * e.world.s))) }
         ensures cause { IfErr result (Cause (plain_state self.old.world) (plain_state self.new.world)
             (Fits (plain_state self.new.world) (λ e. pos (64 * e.world.s) ∷ []))) }
+        ensures counted { IfErr result (IsCounted false (plain_state self.old.world) (plain_state self.new.world)) }
         ensures decided { IsDecided result }
         ensures exact { result ≡ Ok (pos (64 * self.old.world.s)) }
         ensures same { self.new ≡ self.old }
@@ -131,6 +136,7 @@ impl Calc for Plain {
         ensures value { IfOk result (λ r. Stands (plain_state self.new.world) (λ e. r) (λ e. a.now)) }
         ensures cause { IfErr result (Cause (plain_state self.old.world) (plain_state self.new.world)
             (Fits (plain_state self.new.world) (λ e. a.now ∷ []))) }
+        ensures counted { IfErr result (IsCounted false (plain_state self.old.world) (plain_state self.new.world)) }
         ensures decided { IsDecided result }
         ensures exact { result ≡ fitted a.now }
         ensures same { self.new ≡ self.old }
@@ -144,6 +150,7 @@ impl Calc for Plain {
         ensures value { IfOk result (λ r. Stands (plain_state self.new.world) (λ e. r) (λ e. a.now +ℤ b.now)) }
         ensures cause { IfErr result (Cause (plain_state self.old.world) (plain_state self.new.world)
             (Fits (plain_state self.new.world) (λ e. (a.now +ℤ b.now) ∷ []))) }
+        ensures counted { IfErr result (IsCounted false (plain_state self.old.world) (plain_state self.new.world)) }
         ensures decided { IsDecided result }
         ensures exact { result ≡ fitted (a.now +ℤ b.now) }
         ensures same { self.new ≡ self.old }
@@ -157,6 +164,7 @@ impl Calc for Plain {
         ensures value { IfOk result (λ r. Stands (plain_state self.new.world) (λ e. r) (λ e. a.now -ℤ b.now)) }
         ensures cause { IfErr result (Cause (plain_state self.old.world) (plain_state self.new.world)
             (Fits (plain_state self.new.world) (λ e. (a.now -ℤ b.now) ∷ []))) }
+        ensures counted { IfErr result (IsCounted false (plain_state self.old.world) (plain_state self.new.world)) }
         ensures decided { IsDecided result }
         ensures exact { result ≡ fitted (a.now -ℤ b.now) }
         ensures same { self.new ≡ self.old }
@@ -172,6 +180,7 @@ impl Calc for Plain {
             (λ e. int_div_euclid (num *ℤ a.now) (pos den))) }
         ensures cause { IfErr result (Cause (plain_state self.old.world) (plain_state self.new.world)
             (Fits (plain_state self.new.world) (λ e. int_div_euclid (num *ℤ a.now) (pos den) ∷ []))) }
+        ensures counted { IfErr result (IsCounted false (plain_state self.old.world) (plain_state self.new.world)) }
         ensures decided { IsDecided result }
         ensures exact { result ≡ fitted (int_div_euclid (num *ℤ a.now) (pos den)) }
         ensures same { self.new ≡ self.old }
