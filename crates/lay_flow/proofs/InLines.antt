@@ -11,6 +11,7 @@ use Rattle.viz_base.specs.declared.worlds.World.{World}
 use Rattle.viz_calc.specs.World.{Reading}
 use Rattle.layout_semantics.specs.Flow.{Alone, raised}
 use Rattle.layout_semantics.specs.InlineContent.{inner_boxes}
+use Rattle.layout_semantics.specs.Lists.{room_for}
 use Rattle.layout_semantics.specs.Lines.{LineList, lines_in}
 use Rattle.lay_float.proofs.Loops.{goes-on}
 use Rattle.lay_line.specs.Contexts.{inner_at, table_at}
@@ -66,13 +67,23 @@ module _ (tree : BoxTree) (w : World) (apart : ℕ → Alone) where
   no-entries at e zero = refl
   no-entries at e (suc n) = ap (λ t. None ∷ t) (no-entries at e n)
 
-  pub table-is : {N : Type 0} (at : N → Reading → ℤ) (e : Reading) (b : ℕ) (places : List (Option (Inner N))) (boxes : List ℕ) → places ≡ replicate (length tree.boxes) None
+  pub room-of : (n : ℕ) (ks : List ℕ) → room_for n ks ≡ room_for {A = ℕ × Inner ℤ} n (map (λ k. (k, inner_of tree w apart k)) ks)
+  room-of n [] = refl
+  room-of n (k ∷ ks) = refl
+
+  pub table-is : {N : Type 0} (at : N → Reading → ℤ) (e : Reading) (b : ℕ) (places : List (Option (Inner N))) (boxes : List ℕ)
+      → places ≡ replicate (room_for (length tree.boxes) (inner_boxes tree b)) None
       → boxes ≡ inner_boxes tree b → filled_table tree w apart (table_at at places e) boxes ≡ inner_table tree w apart b
   unfolding inner_table
   table-is at e b places boxes p q =
+      let ks = inner_boxes tree b in
+      let room = room_for (length tree.boxes) ks in
       ap (λ (t : List (Option (Inner _))). filled_table tree w apart (table_at at t e) boxes) p
-      ∙ (ap (λ t. filled_table tree w apart t boxes) (no-entries at e (length tree.boxes))
-      ∙ (ap (filled_table tree w apart (replicate (length tree.boxes) None)) q ∙ fold-entries (inner_boxes tree b) (replicate (length tree.boxes) None)))
+      ∙ (ap (λ t. filled_table tree w apart t boxes) (no-entries at e room)
+      ∙ (ap (filled_table tree w apart (replicate room None)) q
+      ∙ (fold-entries ks (replicate room None)
+      ∙ ap (λ n. fold (λ table (entry : ℕ × Inner ℤ). slice_set table entry.0 (Some entry.1)) (replicate n None) (map (λ k. (k, inner_of tree w apart k)) ks))
+      (room-of (length tree.boxes) ks))))
 
   -- ---- the lines and what they leave
 

@@ -1,11 +1,11 @@
-ghost use Rattle.std.specs.Prelude.{◌≡◌, ◌≤◌, IsTrue, IfOk, IfErr};
+ghost use Rattle.std.specs.Prelude.{◌≡◌, ◌≤◌, Some, IsTrue, IfOk, IfErr};
 ghost use Rattle.viz_calc.specs.World.{Reading};
-ghost use Rattle.viz_calc.specs.State.{Grows, AreOpen, CauseButMem};
+ghost use Rattle.viz_calc.specs.State.{Grows, AreOpen, CauseButMem, is_told};
 ghost use Rattle.viz_calc.specs.Run.{Goes, BlamesButMem};
 ghost use Rattle.viz_calc.specs.Renderings.{rendering_at};
 ghost use Rattle.layout_semantics.specs.Page.{page_rendering};
 ghost use Rattle.lay_block.specs.BlockPages.{ready as is_block_page};
-ghost use Rattle.lay_block.specs.Limits.{IsSmallPage, IsWithinLimits};
+ghost use Rattle.lay_reach.specs.Limits.{IsSmallPage, IsWithinLimits};
 
 use crate::page;
 use std::alloc::Global;
@@ -43,6 +43,7 @@ pub fn render<C: Calc>(
     ensures kept { AreOpen (C.state calc.old).kept (C.state calc.new) }
     ensures cause { IsTrue (is_block_page tree.now) → IfErr result (CauseButMem (C.state calc.old) (C.state calc.new)
         (IsWithinLimits tree.now height (C.state calc.old).is_open)) }
+    ensures told { IfErr result (λ halt. IsTrue (is_told C.counts (C.state calc.new) (Some halt))) }
 {
     let mut latch = Latch::new(calc);
     let rendering = engine(alloc, &mut latch, tree, height);
@@ -67,7 +68,8 @@ pub fn render_at(
     match render(alloc, &mut calc, tree, height) {
         Ok(rendering) => Ok(rendering),
         Err(Halt::Mem) => Err(Mem),
-        Err(Halt::Coeff | Halt::Open) => {
+        Err(Halt::Open) => unreachable!(),
+        Err(Halt::Coeff) => {
             if lay_block::ready(tree) {
                 unreachable!()
             } else {

@@ -7,6 +7,7 @@ ghost use Rattle.viz_calc.specs.Run.{Stands, Goes};
 ghost use Rattle.layout_semantics.specs.Flow.{raised as raised_of};
 ghost use Rattle.layout_semantics.specs.InlineContent.{inner_boxes as inner_of_box, inner_items};
 ghost use Rattle.layout_semantics.specs.Lengths.{own};
+ghost use Rattle.layout_semantics.specs.Lists.{room_for as room_of};
 ghost use Rattle.lay_block.specs.steps.Readings.{boxes_at};
 ghost use Rattle.lay_float.specs.Readings.{stretch_at, option_at};
 ghost use Rattle.lay_line.specs.Contexts.{inner_at, table_at};
@@ -142,6 +143,30 @@ fn fill<S: Steady>(
     }
 }
 
+/// How many places the table of a container has: none where nothing stands in its lines but text.
+fn room_for(boxes: &[u32], all: usize) -> usize
+    ensures { result ≡ room_of all boxes.now }
+{
+    if boxes.is_empty() { 0 } else { all }
+}
+
+/// The floats and atomic boxes in a container's lines, and a table for them with nothing in it.
+fn empty_table<N: Drop>(
+    alloc: Global,
+    tree: &BoxTree,
+    b: u32,
+) -> Result<(Vec<u32>, Vec<Option<Inner<N>>>), AllocError>
+    requires { b < length tree.now.boxes }
+    ensures boxes { IfOk result (λ found. found.0.items ≡ inner_of_box tree.now b) }
+    ensures places { IfOk result (λ found. found.1.items
+        ≡ replicate (room_of (length tree.now.boxes) (inner_of_box tree.now b)) None) }
+{
+    let boxes = inner_boxes(alloc, tree, b)?;
+    let room = room_for(boxes.as_slice(), tree.boxes.len());
+    let places = places(alloc, room)?;
+    Ok((boxes, places))
+}
+
 /// What the floats and atomic boxes in a container's lines take, each at the place of its box.
 fn inner_table<S: Steady>(
     alloc: Global,
@@ -154,15 +179,12 @@ fn inner_table<S: Steady>(
     ensures value { (e : Reading) → IsTrue ((S.run calc.new).is_open e) → table_at S.at result.items e
         ≡ table_of page.now.tree.now e.world (apart_at S.at page.now.apart.now e) b }
 {
-    match (
-        inner_boxes(alloc, page.tree, b),
-        places(alloc, page.tree.boxes.len()),
-    ) {
-        (Ok(boxes), Ok(mut table)) => {
+    match empty_table(alloc, page.tree, b) {
+        Ok((boxes, mut table)) => {
             fill(calc, page, boxes.as_slice(), &mut table);
             table
         }
-        _ => {
+        Err(_) => {
             calc.stop();
             Vec::new(alloc)
         }

@@ -3,9 +3,9 @@ use Rattle.lay_flow.specs.Readings.{apart_at}
 use Rattle.lay_flow.proofs.InLines.{table-is}
 use Rattle.lay_flow.proofs.lines.inner_table.Goals as goal
 
-pub returns-in-Ok-Ok-clause-value : goal.returns-in-Ok-Ok-clause-value
-returns-in-Ok-Ok-clause-value g c = λ e o.
+pub returns-in-Ok-clause-value : goal.returns-in-Ok-clause-value
+returns-in-Ok-clause-value g c = λ e o.
     let at = g.S.Steady.at in
     c.fill.ensures.value e o
-    ∙ table-is c.args.page.now.tree.now e.world (apart_at at c.args.page.now.apart.now e) at e c.args.b c.in-Ok-Ok.table.items c.as_slice.result.now
-    (c.in-Ok-Ok.ensures' ∙ ap (λ n. replicate n None) c.len.ensures) (c.as_slice.ensures.value ∙ c.in-Ok-Ok.ensures)
+    ∙ table-is c.args.page.now.tree.now e.world (apart_at at c.args.page.now.apart.now e) at e c.args.b c.in-Ok.table.items c.as_slice.result.now
+    c.in-Ok.ensures.places (c.as_slice.ensures.value ∙ c.in-Ok.ensures.boxes)
