@@ -25,7 +25,7 @@ use Rattle.lay_line.specs.steps.Words.{size_in, spot_in, floats_with}
 
 -- ---- the place of a float
 
-tops : (least y : ℤ) (o : Option ℤ) → top_below least y o ≡ greatest_from y (option_to_list (Some least) ++ option_to_list o)
+pub tops : (least y : ℤ) (o : Option ℤ) → top_below least y o ≡ greatest_from y (option_to_list (Some least) ++ option_to_list o)
 tops least y None = refl
 tops least y (Some b) = refl
 

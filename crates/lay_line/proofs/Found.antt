@@ -2,7 +2,7 @@
 use Rattle.std.proofs.Common.{◌≡◌, ℕ, zero, suc, ◌+◌, ◌<◌, ◌≤◌, Bool, true, false, cond, List, [], ◌∷◌, drop, get_or, length, map, find, Some, None, sym, subst, ap, ◌∙◌, arith}
 use Rattle.std.specs.Prelude.{ℤ}
 use Rattle.std.specs.List.{AllByRecursion}
-use Rattle.std.proofs.lemmas.List.{at_drop_more, at_drop_all}
+use Rattle.std.proofs.lemmas.List.{drop_more, at_drop_more, at_drop_all}
 use Rattle.layout_semantics.specs.Fragments.{ItemPlace, is_text_of, text_right}
 
 module _ {A B : Type 0} (test : B → Bool) (f : A → B) (xs : List A) (k : ℕ) where
@@ -40,3 +40,20 @@ all-later-suc P f (x ∷ xs) (suc k) a = all-later-suc P f xs k a
 
 pub all-later : {A B : Type 0} (P : B → Type 0) (f : A → B) (xs : List A) (k : ℕ) → AllByRecursion P (map f (drop k xs)) → AllByRecursion P (map f (drop (k + 1) xs))
 all-later P f xs k a = let one : suc k ≡ k + 1 = omega arith in subst (λ n. AllByRecursion P (map f (drop n xs))) one (all-later-suc P f xs k a)
+
+-- ---- an item of a list
+
+pub drop_is : {A : Type 0} (xs : List A) (k : ℕ) (x : A) → k < length xs → x ≡ get_or xs k x → drop k xs ≡ x ∷ drop (k + 1) xs
+drop_is xs k x lt is = at_drop_more (λ l. l) xs k x lt ∙ ap (λ y. y ∷ drop (k + 1) xs) (sym is)
+
+pub all-here : {A B : Type 0} (P : B → Type 0) (f : A → B) (xs : List A) (k : ℕ) (x : A) → k < length xs → x ≡ get_or xs k x → AllByRecursion P (map f (drop k xs)) → P (f x)
+all-here {A} P f xs k x lt is a = (subst (λ (l : List A). AllByRecursion P (map f l)) (drop_is xs k x lt is) a).0
+
+pub all-from : {A B : Type 0} (P : B → Type 0) (f : A → B) (xs : List A) (k : ℕ) → AllByRecursion P (map f xs) → AllByRecursion P (map f (drop k xs))
+all-from P f [] zero a = a
+all-from P f [] (suc k) a = tt
+all-from P f (x ∷ xs) zero a = a
+all-from P f (x ∷ xs) (suc k) a = all-from P f xs k a.1
+
+pub all-next : {A B : Type 0} (P : B → Type 0) (f : A → B) (xs : List A) (k : ℕ) (d : A) → k < length xs → AllByRecursion P (map f (drop k xs)) → P (f (get_or xs k d))
+all-next {A} P f xs k d lt a = (subst (λ (l : List A). AllByRecursion P (map f l)) (drop_more xs k d lt) a).0

@@ -25,3 +25,12 @@ pub mod LineEnds
 pub mod ShortWords
 pub mod LineBegins
 pub mod AllLines
+pub mod Placing
+pub mod HeldSizes
+pub mod Fitting
+pub mod Filling
+pub mod Chains
+pub mod OnLines
+pub mod Growth
+pub mod Growing
+pub mod Ending

@@ -1,5 +1,5 @@
 -- The next line, from the pieces that its stretches are made of.
-use Rattle.std.proofs.Common.{◌≡◌, ℕ, zero, suc, ◌-◌, ℤ, Bool, true, false, List, [], ◌∷◌, ◌++◌, map, length, take, refl, sym, ap, ◌∙◌, append_assoc}
+use Rattle.std.proofs.Common.{◌≡◌, ℕ, zero, suc, ◌-◌, ◌<◌, arith, ℤ, Bool, true, false, List, [], ◌∷◌, ◌++◌, map, length, take, refl, sym, ap, ◌∙◌, append_assoc}
 use Rattle.std.proofs.lemmas.List.{length-map, map-append, take-map}
 use Rattle.viz_base.specs.declared.layouts.Entry.{Entry}
 use Rattle.viz_calc.specs.World.{Reading}
@@ -45,7 +45,7 @@ module _ {N : Type 0} (at : N → Reading → ℤ) (e : Reading) where
   pub parts-read : (s : Stretches N) → parts_at at s e ≡ parts_of (pieces_at at s.pieces.now e) s.marks.now
   parts-read s = parts-mapped (λ p. piece_at at p e) s.pieces.now s.marks.now
 
-  joined-read : (s : Stretches N) → joined_parts (parts_at at s e) ≡ pieces_at at s.pieces.now e
+  pub joined-read : (s : Stretches N) → joined_parts (parts_at at s e) ≡ pieces_at at s.pieces.now e
   joined-read s = ap joined_parts (parts-read s) ∙ joined-same (pieces_at at s.pieces.now e) s.marks.now
 
   -- what a line took of all
@@ -61,6 +61,16 @@ module _ {N : Type 0} (at : N → Reading → ℤ) (e : Reading) where
       ∙ (sym (take-map f n pieces)
       ∙ (ap (λ k. take k (map f pieces)) long
       ∙ sym (ap (λ l. taken l (joined_parts (parts_at at left e))) whole ∙ ap (taken (map f pieces)) (joined-read left))))
+
+  -- fewer are left behind the first stretch
+  pub shorter-read : (pieces first : List (Piece N)) (rest : Stretches N) → pieces ≡ first ++ rest.pieces.now → length rest.pieces.now < length pieces
+      → length (joined_parts (parts_at at rest e)) < length (pieces_at at first e ++ joined_parts (parts_at at rest e))
+  shorter-read pieces first rest all less =
+      let f : Piece N → Measured = λ p. piece_at at p e in
+      let left : length (joined_parts (parts_at at rest e)) ≡ length rest.pieces.now = ap length (joined-read rest) ∙ length-map rest.pieces.now f in
+      let whole : length (pieces_at at first e ++ joined_parts (parts_at at rest e)) ≡ length pieces =
+      ap (λ l. length (map f first ++ l)) (joined-read rest) ∙ (ap length (sym (map-append f first rest.pieces.now) ∙ ap (map f) (sym all)) ∙ length-map pieces f) in
+      omega (arith, left, whole, less)
 
 -- ---- one line
 

@@ -51,7 +51,7 @@ parts-few (x ∷ xs) (m ∷ marks) = let one = parted-few x m (parts_of xs marks
 
 -- ---- a beginning by what is left
 
-take-front : {A : Type 0} (a b : List A) → take (length a) (a ++ b) ≡ a
+pub take-front : {A : Type 0} (a b : List A) → take (length a) (a ++ b) ≡ a
 take-front [] b = refl
 take-front (x ∷ a) b = ap (λ l. x ∷ l) (take-front a b)
 

@@ -25,7 +25,7 @@ module _ {N : Type 0} (at : N → Reading → ℤ) (e : Reading) where
   inner-same (o ∷ table) zero = refl
   inner-same (o ∷ table) (suc b) = inner-same table b
 
-  inner-is : (c : Container N) (b : ℕ) (o : Option (Inner N)) → slice_index_or c.inner.now b None ≡ o → inner_of (context_at at c e) b ≡ option_map (λ i. inner_at at i e) o
+  pub inner-is : (c : Container N) (b : ℕ) (o : Option (Inner N)) → slice_index_or c.inner.now b None ≡ o → inner_of (context_at at c e) b ≡ option_map (λ i. inner_at at i e) o
   unfolding context_at
   inner-is c b o s = inner-same c.inner.now b ∙ ap (option_map (λ i. inner_at at i e)) s
 

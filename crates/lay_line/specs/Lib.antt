@@ -3,4 +3,8 @@ pub mod Contexts
 pub mod Readings
 pub mod Lining
 pub mod Ways
+pub mod Fits
+pub mod Limits
+pub mod LineFits
+pub mod LinesFit
 pub mod steps

@@ -1,9 +1,10 @@
 //! The end of a line: what it adds, and where the next one begins (CSS 2.1, 9.4.2, 9.5, 10.8).
 ghost use Rattle.std.specs.Prelude.{◌≡◌, ◌++◌, List as Seq, length, IsTrue};
 ghost use Rattle.viz_calc.specs.World.{Reading};
-ghost use Rattle.viz_calc.specs.Run.{Goes};
+ghost use Rattle.viz_calc.specs.Run.{Goes, BlamesButMem};
 ghost use Rattle.layout_semantics.specs.Floats.{FloatBox};
 ghost use Rattle.lay_line.specs.Contexts.{context_at};
+ghost use Rattle.lay_line.specs.LinesFit.{EndFits};
 ghost use Rattle.lay_line.specs.Lining.{so_far_at, begun_at};
 ghost use Rattle.lay_line.specs.Readings.{load_at, slot_at, pieces_at, entries_at};
 ghost use Rattle.lay_line.specs.steps.Lining.{full_line, empty_line, ended_line};
@@ -76,6 +77,9 @@ fn end_full<S: Steady>(
         → length floats ≡ begun.floats → entries_at S.at entries.new e ≡ entries_at S.at entries.old e
         ++ (full_line (context_at S.at container.now e) (begun_at S.at begun floats e) (slot_at S.at line.entry.slot e)
         (load_at S.at line.entry.load e) (pieces_at S.at line.entry.pieces.now e)).entries }
+    ensures cause { BlamesButMem (S.run calc.old) (S.run calc.new) ((e : Reading) → IsTrue ((S.run calc.old).is_open e)
+        → EndFits (context_at S.at container.now e) (S.at begun.y e) (S.at begun.least e) begun.floats
+        (slot_at S.at line.entry.slot e) (load_at S.at line.entry.load e) (pieces_at S.at line.entry.pieces.now e)) }
 {
     let FullLine { slot, load, pieces } = line;
     let Load {
@@ -150,6 +154,9 @@ fn end_empty<S: Steady>(
         → length floats ≡ begun.floats → entries_at S.at entries.new e ≡ entries_at S.at entries.old e
         ++ (empty_line (context_at S.at container.now e) (begun_at S.at begun floats e) (load_at S.at line.entry.load e)
         (pieces_at S.at line.entry.pieces.now e)).entries }
+    ensures cause { BlamesButMem (S.run calc.old) (S.run calc.new) ((e : Reading) → IsTrue ((S.run calc.old).is_open e)
+        → EndFits (context_at S.at container.now e) (S.at begun.y e) (S.at begun.least e) begun.floats
+        (slot_at S.at line.entry.slot e) (load_at S.at line.entry.load e) (pieces_at S.at line.entry.pieces.now e)) }
 {
     let load = line.load;
     let before = load.met;
@@ -198,6 +205,9 @@ pub fn end_line<S: Steady>(
         ++ (ended_line (context_at S.at container.now e) (begun_at S.at begun floats e)
         (slot_at S.at line.entry.slot e) (load_at S.at line.entry.load e)
         (pieces_at S.at line.entry.pieces.now e)).entries }
+    ensures cause { BlamesButMem (S.run calc.old) (S.run calc.new) ((e : Reading) → IsTrue ((S.run calc.old).is_open e)
+        → EndFits (context_at S.at container.now e) (S.at begun.y e) (S.at begun.least e) begun.floats
+        (slot_at S.at line.entry.slot e) (load_at S.at line.entry.load e) (pieces_at S.at line.entry.pieces.now e)) }
 {
     if line.load.is_line {
         end_full(alloc, calc, container, begun, line, entries)

@@ -1,13 +1,14 @@
 //! What a line adds to the rendering, in document order (CSS 2.1, 9.4.2).
-ghost use Rattle.std.specs.Prelude.{◌≡◌, ℤ, ◌++◌, ◌∷◌, [], None, false, take, IsTrue};
+ghost use Rattle.std.specs.Prelude.{◌≡◌, ℤ, ◌++◌, ◌∷◌, [], None, false, take, IsTrue, ⊤};
 ghost use Rattle.viz_base.specs.declared.layouts.Entry.TheVariants as of_entry;
 ghost use Rattle.std.specs.Option.{option_map_or};
 ghost use Rattle.viz_calc.specs.World.{Reading};
-ghost use Rattle.viz_calc.specs.Run.{Goes};
+ghost use Rattle.viz_calc.specs.Run.{Goes, Fits, Blames, BlamesButMem};
 ghost use Rattle.layout_semantics.specs.Fragments.{is_text_of as is_text_at, float_entries, spots_after};
 ghost use Rattle.lay_float.specs.Readings.{spot_at};
 ghost use Rattle.lay_line.specs.Contexts.{context_at};
 ghost use Rattle.lay_line.specs.Items.{item_of};
+ghost use Rattle.lay_line.specs.LineFits.{BoxFits, BoxesFit, OnLine, PlacesOnLine, SpotsOnLine, SetFits};
 ghost use Rattle.lay_line.specs.Readings.{entry_at, entries_at, place_at, places_at, spots_at, set_line_at, before_at};
 ghost use Rattle.lay_line.specs.steps.Entries.{piece_in, item_in, items_in, opened_in};
 ghost use Rattle.lay_line.specs.steps.Lining.{entries_in};
@@ -26,6 +27,7 @@ pub fn add_entry<S: Steady>(calc: &mut S, entries: &mut List<Entry<S::Num>>, ent
     ensures goes { Goes (S.run calc.old) (S.run calc.new) }
     ensures value { (e : Reading) → IsTrue ((S.run calc.new).is_open e) → entries_at S.at entries.new e
         ≡ entries_at S.at entries.old e ++ entry_at S.at entry e ∷ [] }
+    ensures cause { BlamesButMem (S.run calc.old) (S.run calc.new) ⊤ }
 {
     if entries.push(entry).is_err() {
         calc.stop();
@@ -67,6 +69,10 @@ fn add_text<S: Steady>(
         ≡ entries_at S.at entries.old e ++ piece_in (context_at S.at container.now e) (set_line_at S.at line.now e) at
         (before_at S.at here.now.before e) (place_at S.at here.now.place.now e)
         (places_at S.at here.now.after.now e) }
+    ensures cause { BlamesButMem (S.run calc.old) (S.run calc.new) ((e : Reading) → IsTrue ((S.run calc.old).is_open e)
+        → BoxFits (context_at S.at container.now e) at × (OnLine (S.at line.now.baseline e
+        ∷ S.at here.now.place.now.left e ∷ S.at here.now.place.now.right e ∷ [])
+        × PlacesOnLine (places_at S.at here.now.after.now e))) }
 {
     if goes_on(at, here.before) {
         return;
@@ -81,6 +87,8 @@ fn copy_spot<S: Steady>(calc: &mut S, spot: &Spot<S::Num>) -> Spot<S::Num>
     ensures goes { Goes (S.run calc.old) (S.run calc.new) }
     ensures value { (e : Reading) → IsTrue ((S.run calc.new).is_open e) → spot_at S.at result e
         ≡ spot_at S.at spot.now e }
+    ensures cause { Blames (S.run calc.old) (S.run calc.new)
+        (Fits (S.run calc.old) (λ e. S.at spot.now.x e ∷ S.at spot.now.y e ∷ [])) }
 {
     let x = calc.copy(&spot.x);
     let y = calc.copy(&spot.y);
@@ -97,6 +105,8 @@ fn add_float<S: Steady>(
     ensures goes { Goes (S.run calc.old) (S.run calc.new) }
     ensures value { (e : Reading) → IsTrue ((S.run calc.new).is_open e) → entries_at S.at entries.new e
         ≡ entries_at S.at entries.old e ++ of_entry.Goes at (spot_at S.at spot.now e) ∷ [] }
+    ensures cause { BlamesButMem (S.run calc.old) (S.run calc.new)
+        (Fits (S.run calc.old) (λ e. S.at spot.now.x e ∷ S.at spot.now.y e ∷ [])) }
 {
     let spot = copy_spot(calc, spot);
     add_entry(calc, entries, Entry::Goes(at, spot));
@@ -111,6 +121,8 @@ fn add_first<S: Steady>(
     ensures goes { Goes (S.run calc.old) (S.run calc.new) }
     ensures value { (e : Reading) → IsTrue ((S.run calc.new).is_open e) → entries_at S.at entries.new e
         ≡ entries_at S.at entries.old e ++ float_entries (take 1 (spots_at S.at spots.now e)) }
+    ensures cause { BlamesButMem (S.run calc.old) (S.run calc.new) ((e : Reading) → IsTrue ((S.run calc.old).is_open e)
+        → SpotsOnLine (spots_at S.at spots.now e)) }
 {
     if let Some((first, _)) = spots.split_first() {
         add_float(calc, first.0, &first.1, entries);
@@ -126,6 +138,8 @@ pub fn add_floats<S: Steady>(
     ensures goes { Goes (S.run calc.old) (S.run calc.new) }
     ensures value { (e : Reading) → IsTrue ((S.run calc.new).is_open e) → entries_at S.at entries.new e
         ≡ entries_at S.at entries.old e ++ float_entries (spots_at S.at spots.now e) }
+    ensures cause { BlamesButMem (S.run calc.old) (S.run calc.new) ((e : Reading) → IsTrue ((S.run calc.old).is_open e)
+        → SpotsOnLine (spots_at S.at spots.now e)) }
 {
     for spot in spots {
         add_float(calc, spot.0, &spot.1, entries);
@@ -146,6 +160,10 @@ fn add_item<S: Steady>(
         ≡ entries_at S.at entries.old e ++ item_in (context_at S.at container.now e) (set_line_at S.at line.now e)
         (before_at S.at here.now.before e) (place_at S.at here.now.place.now e)
         (places_at S.at here.now.after.now e) (spots_at S.at here.now.spots.now e) }
+    ensures cause { BlamesButMem (S.run calc.old) (S.run calc.new) ((e : Reading) → IsTrue ((S.run calc.old).is_open e)
+        → BoxesFit (context_at S.at container.now e) × (OnLine (S.at line.now.baseline e ∷ S.at line.now.right e ∷ [])
+        × (OnLine (S.at here.now.place.now.left e ∷ S.at here.now.place.now.right e ∷ [])
+        × (PlacesOnLine (places_at S.at here.now.after.now e) × SpotsOnLine (spots_at S.at here.now.spots.now e))))) }
 {
     match &here.place.item {
         Item::Start(at) => {
@@ -193,6 +211,8 @@ fn add_items<'p, 'a: 'p, S: Steady>(
     ensures value { (e : Reading) → IsTrue ((S.run calc.new).is_open e) → entries_at S.at entries.new e
         ≡ entries_at S.at entries.old e ++ items_in (context_at S.at container.now e) (set_line_at S.at line.now e)
         None (places_at S.at line.now.places.now e) (spots_at S.at line.now.spots.now e) }
+    ensures cause { BlamesButMem (S.run calc.old) (S.run calc.new) ((e : Reading) → IsTrue ((S.run calc.old).is_open e)
+        → BoxesFit (context_at S.at container.now e) × SetFits (set_line_at S.at line.now e)) }
 {
     let mut before = None;
     let mut spots = line.spots;
@@ -224,6 +244,8 @@ fn add_opened<'p, 'a: 'p, S: Steady>(
     ensures value { (e : Reading) → IsTrue ((S.run calc.new).is_open e) → entries_at S.at entries.new e
         ≡ entries_at S.at entries.old e ++ opened_in (context_at S.at container.now e) (set_line_at S.at line.now e)
         opened.now }
+    ensures cause { BlamesButMem (S.run calc.old) (S.run calc.new) ((e : Reading) → IsTrue ((S.run calc.old).is_open e)
+        → BoxesFit (context_at S.at container.now e) × SetFits (set_line_at S.at line.now e)) }
 {
     for at in opened {
         let span = Span {
@@ -249,6 +271,8 @@ pub fn add_line_entries<'p, 'a: 'p, S: Steady>(
     ensures value { (e : Reading) → IsTrue ((S.run calc.new).is_open e) → entries_at S.at entries.new e
         ≡ entries_at S.at entries.old e ++ entries_in (context_at S.at container.now e) (set_line_at S.at line.now e)
         opened.now }
+    ensures cause { BlamesButMem (S.run calc.old) (S.run calc.new) ((e : Reading) → IsTrue ((S.run calc.old).is_open e)
+        → BoxesFit (context_at S.at container.now e) × SetFits (set_line_at S.at line.now e)) }
 {
     add_opened(calc, container, line, opened, entries);
     add_items(calc, container, line, entries);

@@ -1,9 +1,9 @@
 //! Pieces of texts and of inline boxes on a line (CSS 2.1, 8.6, 10.6.1).
-ghost use Rattle.std.specs.Prelude.{◌≡◌, ℤ, pos, cond, find, option_map, IsTrue};
+ghost use Rattle.std.specs.Prelude.{◌≡◌, ℤ, pos, cond, find, option_map, IsTrue, ◌∷◌, []};
 ghost use Rattle.std.specs.Option.{option_map_or};
 ghost use Rattle.viz_calc.specs.Renderings.{quad_at, placed_at};
 ghost use Rattle.viz_calc.specs.World.{Reading};
-ghost use Rattle.viz_calc.specs.Run.{Stands, Goes};
+ghost use Rattle.viz_calc.specs.Run.{Stands, Goes, Blames};
 ghost use Rattle.layout_semantics.specs.Blocks.{parent_of, plain_box as plain_of};
 ghost use Rattle.layout_semantics.specs.Fragments.{is_end_of as ends_box, is_text_of as is_text_at, text_right as right_of, grown as grown_by};
 ghost use Rattle.layout_semantics.specs.Lengths.{used as used_length};
@@ -11,6 +11,10 @@ ghost use Rattle.lay_line.specs.Contexts.{context_at};
 ghost use Rattle.lay_line.specs.Readings.{entry_at, place_at, places_at, set_line_at};
 ghost use Rattle.lay_line.specs.steps.Entries.{area_in, text_in, edges_in, around_in, from_in, atomic_in};
 ghost use Rattle.lay_line.specs.steps.Words.{inline_raised};
+ghost use Rattle.viz_calc.specs.State.{AllSmall};
+ghost use Rattle.lay_width.specs.Fitting.{UsedFits};
+ghost use Rattle.lay_line.specs.LineFits.{BoxFits, OnLine, PlacesOnLine};
+ghost use Rattle.lay_line.specs.Fits.{QuadFits, FontFits, EdgesFit, AroundFits, TextShiftFits};
 
 use crate::containers::Container;
 use crate::items::Item;
@@ -97,6 +101,9 @@ fn text_area<S: Steady>(
     ensures goes { Goes (S.run calc.old) (S.run calc.new) }
     ensures value { (e : Reading) → IsTrue ((S.run calc.new).is_open e) → quad_at S.at result e
         ≡ area_in (context_at S.at container.now e) node (S.at baseline.now e) (S.at left.now e) (S.at right.now e) }
+    ensures cause { Blames (S.run calc.old) (S.run calc.new) ((e : Reading) → IsTrue ((S.run calc.old).is_open e)
+        → FontFits container.now.tree.now e.world node × QuadFits (area_in (context_at S.at container.now e) node
+        (S.at baseline.now e) (S.at left.now e) (S.at right.now e))) }
 {
     let above = ascent(calc, container.tree, node);
     let below = descent(calc, container.tree, node);
@@ -118,6 +125,8 @@ fn text_shift<S: Steady>(calc: &mut S, container: &Container<'_, S::Num>, at: u3
     ensures value { Stands (S.run calc.new) (S.at result)
         (λ e. option_map_or (inline_raised (context_at S.at container.now e))
         (parent_of container.now.tree.now.boxes at) (pos 0)) }
+    ensures cause { Blames (S.run calc.old) (S.run calc.new) ((e : Reading) → IsTrue ((S.run calc.old).is_open e)
+        → TextShiftFits (context_at S.at container.now e) at) }
 {
     match parent_at(container.tree, at) {
         Some(parent) => inline_shift(calc, container, parent),
@@ -130,6 +139,8 @@ fn copy_quad<S: Steady>(calc: &mut S, quad: &Quad<S::Num>) -> Quad<S::Num>
     ensures goes { Goes (S.run calc.old) (S.run calc.new) }
     ensures value { (e : Reading) → IsTrue ((S.run calc.new).is_open e) → quad_at S.at result e
         ≡ quad_at S.at quad.now e }
+    ensures cause { Blames (S.run calc.old) (S.run calc.new) ((e : Reading) → IsTrue ((S.run calc.old).is_open e)
+        → QuadFits (quad_at S.at quad.now e)) }
 {
     let left = calc.copy(&quad.left);
     let top = calc.copy(&quad.top);
@@ -153,6 +164,8 @@ pub fn plain_box<S: Steady>(
     ensures goes { Goes (S.run calc.old) (S.run calc.new) }
     ensures value { (e : Reading) → IsTrue ((S.run calc.new).is_open e) → placed_at S.at result e
         ≡ plain_of kind node (quad_at S.at content e) }
+    ensures cause { Blames (S.run calc.old) (S.run calc.new) ((e : Reading) → IsTrue ((S.run calc.old).is_open e)
+        → QuadFits (quad_at S.at content e)) }
 {
     let margin = copy_quad(calc, &content);
     let border = copy_quad(calc, &content);
@@ -181,6 +194,9 @@ pub fn text_fragment<S: Steady>(
     ensures value { (e : Reading) → IsTrue ((S.run calc.new).is_open e) → entry_at S.at result e
         ≡ text_in (context_at S.at container.now e) (set_line_at S.at line.now e) at (S.at left.now e)
         (S.at right.now e) }
+    ensures cause { Blames (S.run calc.old) (S.run calc.new) ((e : Reading) → IsTrue ((S.run calc.old).is_open e)
+        → BoxFits (context_at S.at container.now e) at × OnLine (S.at line.now.baseline e ∷ S.at left.now e
+        ∷ S.at right.now e ∷ [])) }
 {
     let up = text_shift(calc, container, at);
     let baseline = calc.sub(&line.baseline, &up);
@@ -194,6 +210,8 @@ fn grown<S: Steady>(calc: &mut S, quad: &Quad<S::Num>, edges: &Quad<S::Num>) -> 
     ensures goes { Goes (S.run calc.old) (S.run calc.new) }
     ensures value { (e : Reading) → IsTrue ((S.run calc.new).is_open e) → quad_at S.at result e
         ≡ grown_by (quad_at S.at quad.now e) (quad_at S.at edges.now e) }
+    ensures cause { Blames (S.run calc.old) (S.run calc.new) ((e : Reading) → IsTrue ((S.run calc.old).is_open e)
+        → QuadFits (grown_by (quad_at S.at quad.now e) (quad_at S.at edges.now e))) }
 {
     let left = calc.sub(&quad.left, &edges.left);
     let top = calc.sub(&quad.top, &edges.top);
@@ -218,6 +236,8 @@ fn edge_if<S: Steady>(
     ensures goes { Goes (S.run calc.old) (S.run calc.new) }
     ensures value { Stands (S.run calc.new) (S.at result) (λ e. cond there
         (used_length container.now.tree.now e.world length.now (S.at room.now e)) (pos 0)) }
+    ensures cause { Blames (S.run calc.old) (S.run calc.new) ((e : Reading) → IsTrue ((S.run calc.old).is_open e)
+        → UsedFits container.now.tree.now e.world length.now (S.at room.now e) × AllSmall (pos 0 ∷ [])) }
 {
     if there {
         used(calc, container.tree, length, room)
@@ -238,6 +258,8 @@ fn fragment_edges<S: Steady>(
     ensures goes { Goes (S.run calc.old) (S.run calc.new) }
     ensures value { (e : Reading) → IsTrue ((S.run calc.new).is_open e) → quad_at S.at result e
         ≡ edges_in (context_at S.at container.now e) starts ends sides.now }
+    ensures cause { Blames (S.run calc.old) (S.run calc.new) ((e : Reading) → IsTrue ((S.run calc.old).is_open e)
+        → EdgesFit (context_at S.at container.now e) sides.now) }
 {
     let room = band_width(calc, container.cb);
     let left = edge_if(calc, container, starts, &sides.left, &room);
@@ -265,6 +287,9 @@ fn around<S: Steady>(
     ensures goes { Goes (S.run calc.old) (S.run calc.new) }
     ensures value { (e : Reading) → IsTrue ((S.run calc.new).is_open e) → placed_at S.at result e
         ≡ around_in (context_at S.at container.now e) at starts ends (quad_at S.at content e) }
+    ensures cause { Blames (S.run calc.old) (S.run calc.new) ((e : Reading) → IsTrue ((S.run calc.old).is_open e)
+        → AroundFits (context_at S.at container.now e) at (around_in (context_at S.at container.now e) at starts ends
+        (quad_at S.at content e))) }
 {
     let node = node_at(container.tree, at);
     let edges = fragment_edges(calc, container, starts, ends, &paddings(container.tree, at));
@@ -308,6 +333,9 @@ pub fn inline_fragment<S: Steady>(
     ensures value { (e : Reading) → IsTrue ((S.run calc.new).is_open e) → entry_at S.at result e
         ≡ from_in (context_at S.at container.now e) (set_line_at S.at line.now e) at span.now.starts
         (S.at span.now.left.now e) (places_at S.at span.now.after.now e) }
+    ensures cause { Blames (S.run calc.old) (S.run calc.new) ((e : Reading) → IsTrue ((S.run calc.old).is_open e)
+        → BoxFits (context_at S.at container.now e) at × (OnLine (S.at line.now.baseline e ∷ S.at span.now.left.now e
+        ∷ S.at line.now.right e ∷ []) × PlacesOnLine (places_at S.at span.now.after.now e))) }
 {
     let up = inline_shift(calc, container, at);
     let baseline = calc.sub(&line.baseline, &up);
@@ -336,6 +364,8 @@ pub fn atomic_entry<S: Steady>(
     ensures goes { Goes (S.run calc.old) (S.run calc.new) }
     ensures value { (e : Reading) → IsTrue ((S.run calc.new).is_open e) → entry_at S.at result e
         ≡ atomic_in (context_at S.at container.now e) (set_line_at S.at line.now e) at (S.at left.now e) }
+    ensures cause { Blames (S.run calc.old) (S.run calc.new) ((e : Reading) → IsTrue ((S.run calc.old).is_open e)
+        → BoxFits (context_at S.at container.now e) at × OnLine (S.at line.now.baseline e ∷ S.at left.now e ∷ [])) }
 {
     let extent = box_extent(calc, container, at);
     let up = shift(calc, container, at, &extent);

@@ -1,10 +1,11 @@
 //! The public call over any `Calc`, its engine within a `Latch`.
-ghost use Rattle.std.specs.Prelude.{◌≡◌, ◌<◌, [], length, IsTrue, IfOk, OnErr};
+ghost use Rattle.std.specs.Prelude.{◌≡◌, ◌<◌, [], length, IsTrue, IfOk, IfErr, OnErr};
 ghost use Rattle.viz_calc.specs.World.{Reading};
-ghost use Rattle.viz_calc.specs.State.{Grows, AreOpen};
+ghost use Rattle.viz_calc.specs.State.{Grows, AreOpen, CauseButMem};
 ghost use Rattle.layout_semantics.specs.Lines.{lines as lines_of, lines_in};
 ghost use Rattle.lay_float.specs.Readings.{floats_at, stretch_at};
 ghost use Rattle.lay_line.specs.Contexts.{table_at, context_at};
+ghost use Rattle.lay_line.specs.LinesFit.{LinesFit};
 ghost use Rattle.lay_line.specs.Lining.{laid_at, list_at};
 
 use crate::containers::Container;
@@ -26,6 +27,9 @@ fn laid<C: Calc>(
     ensures value { IfOk result (λ r. (e : Reading) → IsTrue ((C.state calc.new).is_open e) → laid_at C.at r e
         ≡ lines_in (context_at C.at container.now e) (C.at y.now e) (C.at least.now e) (floats_at C.at floats e)) }
     ensures kept { AreOpen (C.state calc.old).kept (C.state calc.new) }
+    ensures cause { IfErr result (CauseButMem (C.state calc.old) (C.state calc.new) ((e : Reading)
+        → IsTrue ((C.state calc.old).is_open e) → LinesFit (context_at C.at container.now e) (C.at y.now e)
+        (C.at least.now e) (floats_at C.at floats e))) }
 {
     let alloc = container.tree.boxes.allocator();
     let mut latch = Latch::new(calc);
@@ -55,6 +59,9 @@ pub fn lines<C: Calc>(
         (C.at least.now e) (floats_at C.at floats.old e)) }
     ensures halted { OnErr result (floats.new.placed ≡ []) }
     ensures kept { AreOpen (C.state calc.old).kept (C.state calc.new) }
+    ensures cause { IfErr result (CauseButMem (C.state calc.old) (C.state calc.new) ((e : Reading)
+        → IsTrue ((C.state calc.old).is_open e) → LinesFit (context_at C.at container.now e) (C.at y.now e)
+        (C.at least.now e) (floats_at C.at floats.old e))) }
 {
     let alloc = container.tree.boxes.allocator();
     let before = std::mem::replace(floats, Floats::new(alloc));

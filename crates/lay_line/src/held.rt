@@ -7,6 +7,7 @@ ghost use Rattle.lay_line.specs.Readings.{held_at, pieces_at};
 ghost use Rattle.lay_line.specs.steps.Held.{nothing_held, with_solid as solid_on, with_space as space_on, with_other as other_on, with_item as item_on};
 ghost use Rattle.lay_line.specs.Ways.{solid_way, space_way, other_way, item_way};
 ghost use Rattle.lay_line.specs.steps.Measured.{held_with};
+ghost use Rattle.lay_line.specs.Limits.{HoldFits};
 
 use crate::items::Item;
 use viz_calc::Steady;
@@ -127,6 +128,8 @@ pub fn with_pieces<S: Steady>(
     ensures goes { Goes (S.run calc.old) (S.run calc.new) }
     ensures value { (e : Reading) → IsTrue ((S.run calc.new).is_open e) → held_at S.at result e
         ≡ held_with (held_at S.at start e) (pieces_at S.at pieces.now e) }
+    ensures cause { Blames (S.run calc.old) (S.run calc.new) ((e : Reading) → IsTrue ((S.run calc.old).is_open e)
+        → HoldFits (held_at S.at start e) (pieces_at S.at pieces.now e)) }
 {
     let mut held = start;
     for piece in pieces {

@@ -1,14 +1,16 @@
 //! Where the content of a line begins, and what the line adds (CSS 2.1, 9.4.2, 9.5, 16.2).
-ghost use Rattle.std.specs.Prelude.{◌≡◌, ◌-ℤ◌, pos, ◌++◌, IsTrue};
+ghost use Rattle.std.specs.Prelude.{◌≡◌, ◌-ℤ◌, pos, ◌++◌, ◌∷◌, [], IsTrue};
 ghost use Rattle.std.specs.Int.{int_max};
 ghost use Rattle.viz_calc.specs.World.{Reading};
-ghost use Rattle.viz_calc.specs.Run.{Stands, Goes};
+ghost use Rattle.viz_calc.specs.Run.{Stands, Goes, Fits, Blames, BlamesButMem};
 ghost use Rattle.layout_semantics.specs.LineFilling.{band_width as width_of};
 ghost use Rattle.layout_semantics.specs.Lines.{aligned};
-ghost use Rattle.lay_float.specs.Readings.{stretch_at};
+ghost use Rattle.lay_float.specs.Readings.{floats_at, stretch_at};
 ghost use Rattle.lay_line.specs.Contexts.{context_at};
 ghost use Rattle.lay_line.specs.Items.{bare_of};
-ghost use Rattle.lay_line.specs.Readings.{met_at, pieces_at, places_at, entry_at, entries_at};
+ghost use Rattle.lay_line.specs.Limits.{PlacesFit, StandFits};
+ghost use Rattle.lay_line.specs.LineFits.{BoxesFit, OnLine, ContentFits};
+ghost use Rattle.lay_line.specs.Readings.{met_at, pieces_at, places_at, spots_at, entry_at, entries_at};
 ghost use Rattle.lay_line.specs.Lining.{set_by, late_in};
 ghost use Rattle.lay_line.specs.steps.Lining.{left_in, places_of, box_in, entries_in};
 ghost use Rattle.lay_line.specs.steps.Staying.{no_items, spanned};
@@ -33,6 +35,8 @@ fn spare<S: Steady>(calc: &mut S, room: &Band<S::Num>, held: &S::Num) -> S::Num
     ensures goes { Goes (S.run calc.old) (S.run calc.new) }
     ensures value { Stands (S.run calc.new) (S.at result)
         (λ e. int_max (pos 0) (width_of (stretch_at S.at room.now e) -ℤ S.at held.now e)) }
+    ensures cause { Blames (S.run calc.old) (S.run calc.new) ((e : Reading) → IsTrue ((S.run calc.old).is_open e)
+        → OnLine (S.at room.now.left e ∷ S.at room.now.right e ∷ S.at held.now e ∷ [])) }
 {
     let across = band_width(calc, room);
     if calc.le(held, &across) {
@@ -47,6 +51,8 @@ fn moved<S: Steady>(calc: &mut S, align: Align, room: &Band<S::Num>, held: &S::N
     ensures goes { Goes (S.run calc.old) (S.run calc.new) }
     ensures value { Stands (S.run calc.new) (S.at result)
         (λ e. aligned align (width_of (stretch_at S.at room.now e) -ℤ S.at held.now e)) }
+    ensures cause { Blames (S.run calc.old) (S.run calc.new) ((e : Reading) → IsTrue ((S.run calc.old).is_open e)
+        → OnLine (S.at room.now.left e ∷ S.at room.now.right e ∷ S.at held.now e ∷ [])) }
 {
     match align {
         Align::Left => zero(calc),
@@ -69,6 +75,8 @@ pub fn content_left<S: Steady>(
     ensures goes { Goes (S.run calc.old) (S.run calc.new) }
     ensures value { Stands (S.run calc.new) (S.at result) (λ e. left_in (context_at S.at container.now e)
         (stretch_at S.at room.now e) (S.at held.now e)) }
+    ensures cause { Blames (S.run calc.old) (S.run calc.new) ((e : Reading) → IsTrue ((S.run calc.old).is_open e)
+        → OnLine (S.at room.now.left e ∷ S.at room.now.right e ∷ S.at held.now e ∷ [])) }
 {
     let align = align_at(container.tree, container.at);
     let by = moved(calc, align, room, held);
@@ -87,6 +95,8 @@ pub fn line_box<S: Steady>(
     ensures goes { Goes (S.run calc.old) (S.run calc.new) }
     ensures value { (e : Reading) → IsTrue ((S.run calc.new).is_open e) → entry_at S.at result e
         ≡ box_in (context_at S.at container.now e) (stretch_at S.at room.now e) (S.at top.now e) (S.at bottom.now e) }
+    ensures cause { Blames (S.run calc.old) (S.run calc.new) (Fits (S.run calc.old) (λ e. S.at room.now.left e
+        ∷ S.at top.now e ∷ S.at room.now.right e ∷ S.at bottom.now e ∷ [])) }
 {
     let left = calc.copy(&room.left);
     let top = calc.copy(top);
@@ -128,6 +138,8 @@ fn places<'a, S: Steady>(
     ensures goes { Goes (S.run calc.old) (S.run calc.new) }
     ensures value { (e : Reading) → IsTrue ((S.run calc.new).is_open e) → places_at S.at result.items e
         ≡ places_of (S.at x.now e) (pieces_at S.at pieces.now e) }
+    ensures cause { BlamesButMem (S.run calc.old) (S.run calc.new) ((e : Reading) → IsTrue ((S.run calc.old).is_open e)
+        → StandFits (S.at x.now e) (pieces_at S.at pieces.now e)) }
 {
     let from = calc.copy(x);
     stand(alloc, calc, from, solid_len(pieces), pieces)
@@ -159,6 +171,9 @@ pub fn add_content<S: Steady>(
     ensures value { (e : Reading) → IsTrue ((S.run calc.new).is_open e) → entries_at S.at entries.new e
         ≡ entries_at S.at entries.old e ++ entries_in (context_at S.at container.now e)
         (set_by S.at content pieces.now e) opened.now }
+    ensures cause { BlamesButMem (S.run calc.old) (S.run calc.new) ((e : Reading) → IsTrue ((S.run calc.old).is_open e)
+        → BoxesFit (context_at S.at container.now e) × ContentFits (S.at content.baseline e) (S.at content.left e)
+        (S.at content.width e) (spots_at S.at content.spots.items e) (pieces_at S.at pieces.now e)) }
 {
     let Content {
         baseline,
@@ -190,6 +205,9 @@ pub fn place_waiting<S: Steady>(
     ensures goes { Goes (S.run calc.old) (S.run calc.new) }
     ensures value { (e : Reading) → IsTrue ((S.run calc.new).is_open e) → met_at S.at result e
         ≡ late_in (context_at S.at container.now e) (S.at least.now e) (S.at bottom.now e) (met_at S.at met e) }
+    ensures cause { BlamesButMem (S.run calc.old) (S.run calc.new) ((e : Reading) → IsTrue ((S.run calc.old).is_open e)
+        → PlacesFit (context_at S.at container.now e) (floats_at S.at met.floats e) (S.at least.now e)
+        (S.at bottom.now e) met.waiting.items) }
 {
     let Met {
         spots,

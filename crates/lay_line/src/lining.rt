@@ -1,16 +1,17 @@
 //! The lines of a block container, one after another (CSS 2.1, 9.4.2, 9.5, 10.8, 16.2).
-ghost use Rattle.std.specs.Prelude.{◌≡◌, ◌<◌, ◌++◌, None, length, IsTrue};
+ghost use Rattle.std.specs.Prelude.{◌≡◌, ◌<◌, ◌++◌, None, length, IsTrue, ⊤};
 ghost use Rattle.std.specs.List.{AllByRecursion};
 ghost use Rattle.viz_calc.specs.World.{Reading};
-ghost use Rattle.viz_calc.specs.Run.{Goes};
+ghost use Rattle.viz_calc.specs.Run.{Goes, BlamesButMem};
 ghost use Rattle.layout_semantics.specs.InlineContent.{content as content_of};
 ghost use Rattle.layout_semantics.specs.Lines.{lines_in};
 ghost use Rattle.layout_semantics.specs.Stretches.{may_part};
 ghost use Rattle.lay_float.specs.Readings.{floats_at};
 ghost use Rattle.lay_line.specs.Contexts.{context_at};
 ghost use Rattle.lay_line.specs.Items.{items_of};
+ghost use Rattle.lay_line.specs.LinesFit.{RestFits, LinesFit};
 ghost use Rattle.lay_line.specs.Lining.{so_far_at, next_of, laid_at};
-ghost use Rattle.lay_line.specs.Readings.{parts_at, entries_at};
+ghost use Rattle.lay_line.specs.Readings.{pieces_at, parts_at, entries_at};
 ghost use Rattle.lay_line.specs.steps.Content.{IsShort};
 ghost use Rattle.lay_line.specs.steps.Lining.{laying};
 ghost use Rattle.lay_line.specs.steps.Marks.{marks as marks_of};
@@ -63,6 +64,9 @@ fn next_line<'p, 'a, S: Steady>(
         ≡ entries_at S.at entries.old e ++ (next_of S.at frame.now now cut.entry e).0.entries }
     ensures rest { (e : Reading) → IsTrue ((S.run calc.new).is_open e) → parts_at S.at result.rest e
         ≡ (next_of S.at frame.now now cut.entry e).1 }
+    ensures cause { BlamesButMem (S.run calc.old) (S.run calc.new) ((e : Reading) → IsTrue ((S.run calc.old).is_open e)
+        → RestFits (context_at S.at frame.now.container.now e) (S.at frame.now.tall e) (so_far_at S.at now e)
+        (pieces_at S.at cut.entry.pieces.now e)) }
 {
     let Cut {
         first,
@@ -139,6 +143,9 @@ fn lay<S: Steady>(
         ≡ entries_at S.at entries.old e ++ (laying (length stretches.entry.pieces.now)
         (context_at S.at frame.now.container.now e) (S.at frame.now.tall e) (so_far_at S.at start e)
         (parts_at S.at stretches.entry e)).entries }
+    ensures cause { BlamesButMem (S.run calc.old) (S.run calc.new) ((e : Reading) → IsTrue ((S.run calc.old).is_open e)
+        → RestFits (context_at S.at frame.now.container.now e) (S.at frame.now.tall e) (so_far_at S.at start e)
+        (pieces_at S.at stretches.entry.pieces.now e)) }
 {
     let mut now = start;
     let count = stretches.pieces.len();
@@ -162,6 +169,7 @@ fn items_in<'t, S: Steady>(alloc: Global, calc: &mut S, tree: &'t BoxTree, at: u
     ensures goes { Goes (S.run calc.old) (S.run calc.new) }
     ensures value { (e : Reading) → IsTrue ((S.run calc.new).is_open e)
         → items_of result.items ≡ content_of tree.now at }
+    ensures cause { BlamesButMem (S.run calc.old) (S.run calc.new) ⊤ }
     ensures short { AllByRecursion IsShort (items_of result.items) }
 {
     match content(alloc, tree, at) {
@@ -178,6 +186,7 @@ fn marks_in<S: Steady>(alloc: Global, calc: &mut S, tree: &BoxTree, items: &[Ite
     ensures goes { Goes (S.run calc.old) (S.run calc.new) }
     ensures value { (e : Reading) → IsTrue ((S.run calc.new).is_open e) → result.items
         ≡ marks_of (may_part tree.now) None None (items_of items.now) }
+    ensures cause { BlamesButMem (S.run calc.old) (S.run calc.new) ⊤ }
 {
     match marks(alloc, tree, Parting::Lines, items) {
         Ok(marks) => marks,
@@ -210,6 +219,8 @@ pub fn lines<S: Steady>(
     ensures goes { Goes (S.run calc.old) (S.run calc.new) }
     ensures value { (e : Reading) → IsTrue ((S.run calc.new).is_open e) → laid_at S.at result e
         ≡ lines_in (context_at S.at container.now e) (S.at y.now e) (S.at least.now e) (floats_at S.at floats e) }
+    ensures cause { BlamesButMem (S.run calc.old) (S.run calc.new) ((e : Reading) → IsTrue ((S.run calc.old).is_open e)
+        → LinesFit (context_at S.at container.now e) (S.at y.now e) (S.at least.now e) (floats_at S.at floats e)) }
 {
     let items = items_in(alloc, calc, container.tree, container.at);
     let pieces = measure(alloc, calc, container, items.as_slice());

@@ -1,8 +1,8 @@
 //! How much a line holds, stretch by stretch (CSS 2.1, 9.4.2).
-ghost use Rattle.std.specs.Prelude.{◌≡◌, ◌≤◌, not, ◌==◌, pos, length, filter, IsTrue, IfOk};
+ghost use Rattle.std.specs.Prelude.{◌≡◌, ◌≤◌, not, ◌==◌, pos, length, filter, IsTrue, IfOk, ⊤, ◌∷◌, []};
 ghost use Rattle.std.specs.List.{list_any};
 ghost use Rattle.viz_calc.specs.World.{Reading};
-ghost use Rattle.viz_calc.specs.Run.{Stands, Goes};
+ghost use Rattle.viz_calc.specs.Run.{Stands, Goes, Fits, Blames, BlamesButMem};
 ghost use Rattle.layout_semantics.specs.LineHeights.{height_of_extent};
 ghost use Rattle.layout_semantics.specs.Lines.{opened_after};
 ghost use Rattle.layout_semantics.specs.Stretches.{is_forced as is_forced_of};
@@ -10,7 +10,13 @@ ghost use Rattle.lay_line.specs.Contexts.{context_at};
 ghost use Rattle.lay_line.specs.Items.{item_of, bare_of};
 ghost use Rattle.lay_line.specs.Readings.{held_at, line_extent_at, load_at, loaded_at, pieces_at, parts_at, slot_at};
 ghost use Rattle.lay_line.specs.steps.Loading.{ahead_by, extending, with_reach as reach_with, with_reach_of, reaching, reaching_boxes, tallest_by, opened_by, loaded, takes_more as takes_in, loading};
-ghost use Rattle.lay_line.specs.steps.Words.{makes};
+ghost use Rattle.lay_line.specs.steps.Words.{makes, strut_in};
+ghost use Rattle.viz_calc.specs.State.{AllSmall};
+ghost use Rattle.layout_semantics.specs.Blocks.{node_of};
+ghost use Rattle.lay_float.specs.Limits.{IsHalf};
+ghost use Rattle.lay_float.specs.Readings.{floats_at};
+ghost use Rattle.lay_line.specs.Fits.{InlineFits, ReachFits};
+ghost use Rattle.lay_line.specs.Limits.{BoxesReach, PlacesFit, RoomFits, FillFits};
 
 use crate::containers::Container;
 use crate::existence::makes_line;
@@ -35,6 +41,8 @@ fn with_reach<S: Steady>(
     ensures goes { Goes (S.run calc.old) (S.run calc.new) }
     ensures value { (e : Reading) → IsTrue ((S.run calc.new).is_open e) → line_extent_at S.at result e
         ≡ reach_with (context_at S.at container.now e) (line_extent_at S.at extent e) at }
+    ensures cause { Blames (S.run calc.old) (S.run calc.new) ((e : Reading) → IsTrue ((S.run calc.old).is_open e)
+        → ReachFits (context_at S.at container.now e) at) }
 {
     let more = reach(calc, container, at);
     with_extent(calc, extent, more)
@@ -61,6 +69,8 @@ fn with_item<S: Steady>(
     ensures value { (e : Reading) → IsTrue ((S.run calc.new).is_open e) → line_extent_at S.at result e
         ≡ with_reach_of (context_at S.at container.now e) (line_extent_at S.at extent e)
         (extending (item_of item.now)) }
+    ensures cause { Blames (S.run calc.old) (S.run calc.new) ((e : Reading) → IsTrue ((S.run calc.old).is_open e)
+        → BoxesReach (context_at S.at container.now e)) }
 {
     match extending_box(item) {
         Some(at) => with_reach(calc, container, extent, at),
@@ -78,6 +88,8 @@ fn extended<S: Steady>(
     ensures goes { Goes (S.run calc.old) (S.run calc.new) }
     ensures value { (e : Reading) → IsTrue ((S.run calc.new).is_open e) → line_extent_at S.at result e
         ≡ reaching (context_at S.at container.now e) (line_extent_at S.at start e) (bare_of pieces.now) }
+    ensures cause { Blames (S.run calc.old) (S.run calc.new) ((e : Reading) → IsTrue ((S.run calc.old).is_open e)
+        → BoxesReach (context_at S.at container.now e)) }
 {
     let mut extent = start;
     for piece in pieces {
@@ -96,6 +108,8 @@ pub fn extent_at_start<S: Steady>(
     ensures goes { Goes (S.run calc.old) (S.run calc.new) }
     ensures value { (e : Reading) → IsTrue ((S.run calc.new).is_open e) → line_extent_at S.at result e
         ≡ reaching_boxes (context_at S.at container.now e) (line_extent_at S.at start e) opened.now }
+    ensures cause { Blames (S.run calc.old) (S.run calc.new) ((e : Reading) → IsTrue ((S.run calc.old).is_open e)
+        → BoxesReach (context_at S.at container.now e)) }
 {
     let mut extent = start;
     for at in opened {
@@ -114,6 +128,11 @@ pub fn tallest<S: Steady>(
     ensures goes { Goes (S.run calc.old) (S.run calc.new) }
     ensures value { Stands (S.run calc.new) (S.at result)
         (λ e. tallest_by (context_at S.at container.now e) (bare_of pieces.now)) }
+    ensures cause { Blames (S.run calc.old) (S.run calc.new) ((e : Reading) → IsTrue ((S.run calc.old).is_open e)
+        → InlineFits container.now.tree.now e.world (node_of container.now.tree.now container.now.at)
+        × (BoxesReach (context_at S.at container.now e) × AllSmall (height_of_extent
+        (reaching (context_at S.at container.now e) (strut_in (context_at S.at container.now e)) (bare_of pieces.now))
+        ∷ pos 1 ∷ []))) }
 {
     let start = strut(calc, container);
     let extent = extended(calc, container, start, pieces);
@@ -126,6 +145,7 @@ pub fn tallest<S: Steady>(
 fn unit<S: Steady>(calc: &mut S) -> S::Num
     ensures goes { Goes (S.run calc.old) (S.run calc.new) }
     ensures value { Stands (S.run calc.new) (S.at result) (λ e. pos 1) }
+    ensures cause { Blames (S.run calc.old) (S.run calc.new) (Fits (S.run calc.old) (λ e. pos 1 ∷ [])) }
 {
     calc.lit(1)
 }
@@ -183,6 +203,7 @@ fn opened_behind<S: Steady>(
     ensures goes { Goes (S.run calc.old) (S.run calc.new) }
     ensures value { (e : Reading) → IsTrue ((S.run calc.new).is_open e)
         → result.items ≡ opened_by opened.items (bare_of pieces.now) }
+    ensures cause { BlamesButMem (S.run calc.old) (S.run calc.new) ⊤ }
 {
     match opened_past(alloc, opened, pieces) {
         Ok(opened) => opened,
@@ -273,6 +294,10 @@ pub fn with_stretch<S: Steady>(
     ensures value { (e : Reading) → IsTrue ((S.run calc.new).is_open e) → load_at S.at result e
         ≡ loaded (context_at S.at container.now e) (slot_at S.at slot.now e) (load_at S.at load e)
         (bare_of taken.entry.part.now) taken.entry.floats.now (held_at S.at taken.entry.held e) }
+    ensures cause { BlamesButMem (S.run calc.old) (S.run calc.new) ((e : Reading) → IsTrue ((S.run calc.old).is_open e)
+        → (PlacesFit (context_at S.at container.now e) (floats_at S.at load.met.floats e) (S.at slot.now.least e)
+        (S.at slot.now.top e) taken.entry.floats.now × IsHalf (S.at slot.now.tall e))
+        × BoxesReach (context_at S.at container.now e)) }
 {
     let Load {
         held: _,
@@ -302,6 +327,8 @@ fn copy_held<S: Steady>(calc: &mut S, held: &Held<S::Num>) -> Held<S::Num>
     ensures goes { Goes (S.run calc.old) (S.run calc.new) }
     ensures value { (e : Reading) → IsTrue ((S.run calc.new).is_open e)
         → held_at S.at result e ≡ held_at S.at held.now e }
+    ensures cause { Blames (S.run calc.old) (S.run calc.new)
+        (Fits (S.run calc.old) (λ e. S.at held.now.width e ∷ S.at held.now.spaces e ∷ [])) }
 {
     let width = calc.copy(&held.width);
     let spaces = calc.copy(&held.spaces);
@@ -325,6 +352,9 @@ fn takes_more<S: Steady>(
     ensures value { (e : Reading) → IsTrue ((S.run calc.new).is_open e) → result
         ≡ takes_in (context_at S.at container.now e) (slot_at S.at slot.now e) (load_at S.at load.now e)
         (held_at S.at held.now e) }
+    ensures cause { Blames (S.run calc.old) (S.run calc.new) ((e : Reading) → IsTrue ((S.run calc.old).is_open e)
+        → RoomFits (context_at S.at container.now e) (floats_at S.at load.now.met.floats e) (S.at slot.now.top e)
+        (S.at slot.now.tall e)) }
 {
     !load.is_ended
         && fits(
@@ -357,6 +387,9 @@ pub fn fill<'p, 'a, S: Steady>(
     ensures value { (e : Reading) → IsTrue ((S.run calc.new).is_open e) → loaded_at S.at result e
         ≡ loading (context_at S.at container.now e) (slot_at S.at slot.now e) (load_at S.at start e)
         (parts_at S.at stretches.entry e) }
+    ensures cause { BlamesButMem (S.run calc.old) (S.run calc.new) ((e : Reading) → IsTrue ((S.run calc.old).is_open e)
+        → FillFits (context_at S.at container.now e) (slot_at S.at slot.now e) (load_at S.at start e)
+        (pieces_at S.at stretches.entry.pieces.now e)) }
 {
     let mut load = start;
     let mut rest = stretches;

@@ -1,8 +1,8 @@
 //! Floats that a line meets (CSS 2.1, 9.5).
-ghost use Rattle.std.specs.Prelude.{◌≡◌, ◌++◌, ◌∷◌, [], IsTrue, IfOk};
+ghost use Rattle.std.specs.Prelude.{◌≡◌, ◌++◌, ◌∷◌, [], IsTrue, IfOk, ⊤};
 ghost use Rattle.std.specs.Ordering.{int_eq};
 ghost use Rattle.viz_calc.specs.World.{Reading};
-ghost use Rattle.viz_calc.specs.Run.{Stands, Goes};
+ghost use Rattle.viz_calc.specs.Run.{Stands, Goes, Fits, Blames, BlamesButMem};
 ghost use Rattle.layout_semantics.specs.Floats.{lowest_bottom};
 ghost use Rattle.layout_semantics.specs.InlineContent.{float_boxes};
 ghost use Rattle.layout_semantics.specs.LineFilling.{fits as fits_in};
@@ -12,6 +12,9 @@ ghost use Rattle.lay_line.specs.Items.{item_of, bare_of};
 ghost use Rattle.lay_line.specs.Readings.{met_at, slot_at, spots_at};
 ghost use Rattle.lay_line.specs.steps.Meeting.{float_in, top_below, leaves, placed_next, placed_all, met_next, met_all};
 ghost use Rattle.lay_line.specs.steps.Words.{size_in, spot_in, floats_with, room_in};
+ghost use Rattle.viz_calc.specs.State.{AllSmall};
+ghost use Rattle.lay_float.specs.Limits.{IsHalf, AreHalf};
+ghost use Rattle.lay_line.specs.Limits.{PlacesFit, RoomFits};
 
 use crate::containers::{Container, inner_of};
 use crate::extents::greater;
@@ -54,6 +57,9 @@ fn float_size<S: Steady>(calc: &mut S, container: &Container<'_, S::Num>, at: u3
     ensures goes { Goes (S.run calc.old) (S.run calc.new) }
     ensures value { (e : Reading) → IsTrue ((S.run calc.new).is_open e) → extent_at S.at result e
         ≡ size_in (context_at S.at container.now e) at }
+    ensures cause { Blames (S.run calc.old) (S.run calc.new)
+        (Fits (S.run calc.old) (λ e. (size_in (context_at S.at container.now e) at).width
+        ∷ (size_in (context_at S.at container.now e) at).height ∷ [])) }
 {
     match inner_of(container, at) {
         Some(inner) => {
@@ -80,6 +86,8 @@ fn float_top<S: Steady>(
     ensures goes { Goes (S.run calc.old) (S.run calc.new) }
     ensures value { Stands (S.run calc.new) (S.at result) (λ e. top_below (S.at least.now e) (S.at y.now e)
         (lowest_bottom clear (boxes_at S.at floats.now e))) }
+    ensures cause { Blames (S.run calc.old) (S.run calc.new) ((e : Reading) → IsTrue ((S.run calc.old).is_open e)
+        → AreHalf (boxes_at S.at floats.now e) [] × AllSmall (S.at y.now e ∷ S.at least.now e ∷ [])) }
 {
     let from = calc.copy(y);
     let least = calc.copy(least);
@@ -106,6 +114,9 @@ fn place_float<S: Steady>(
         ≡ spot_in (context_at S.at container.now e) (floats_at S.at floats.old e) (S.at least.now e) (S.at y.now e) at }
     ensures appended { (e : Reading) → IsTrue ((S.run calc.new).is_open e) → floats_at S.at floats.new e
         ≡ floats_with (context_at S.at container.now e) (floats_at S.at floats.old e) at (spot_at S.at result e) }
+    ensures cause { BlamesButMem (S.run calc.old) (S.run calc.new) ((e : Reading) → IsTrue ((S.run calc.old).is_open e)
+        → PlacesFit (context_at S.at container.now e) (floats_at S.at floats.old e) (S.at least.now e) (S.at y.now e)
+        (at ∷ [])) }
 {
     let side = side_at(container.tree, at);
     let clear = clear_at(container.tree, at);
@@ -124,6 +135,7 @@ fn add_spot<S: Steady>(
     ensures goes { Goes (S.run calc.old) (S.run calc.new) }
     ensures value { (e : Reading) → IsTrue ((S.run calc.new).is_open e) → spots_at S.at spots.new.items e
         ≡ spots_at S.at spots.old.items e ++ (at, spot_at S.at spot e) ∷ [] }
+    ensures cause { BlamesButMem (S.run calc.old) (S.run calc.new) ⊤ }
 {
     if spots.push((at, spot)).is_err() {
         calc.stop();
@@ -135,6 +147,7 @@ fn add_waiting<S: Steady>(calc: &mut S, waiting: &mut Vec<u32>, at: u32)
     ensures goes { Goes (S.run calc.old) (S.run calc.new) }
     ensures value { (e : Reading) → IsTrue ((S.run calc.new).is_open e)
         → waiting.new.items ≡ waiting.old.items ++ at ∷ [] }
+    ensures cause { BlamesButMem (S.run calc.old) (S.run calc.new) ⊤ }
 {
     if waiting.push(at).is_err() {
         calc.stop();
@@ -154,6 +167,9 @@ fn place_next<S: Steady>(
     ensures goes { Goes (S.run calc.old) (S.run calc.new) }
     ensures value { (e : Reading) → IsTrue ((S.run calc.new).is_open e) → met_at S.at met.new e
         ≡ placed_next (context_at S.at container.now e) (S.at least.now e) (S.at y.now e) (met_at S.at met.old e) at }
+    ensures cause { BlamesButMem (S.run calc.old) (S.run calc.new) ((e : Reading) → IsTrue ((S.run calc.old).is_open e)
+        → PlacesFit (context_at S.at container.now e) (floats_at S.at met.old.floats e) (S.at least.now e)
+        (S.at y.now e) (at ∷ [])) }
 {
     let spot = place_float(calc, container, &mut met.floats, at, least, y);
     add_spot(calc, &mut met.spots, at, spot);
@@ -172,6 +188,9 @@ pub fn place_each<S: Steady>(
     ensures value { (e : Reading) → IsTrue ((S.run calc.new).is_open e) → met_at S.at met.new e
         ≡ placed_all (context_at S.at container.now e) (S.at least.now e) (S.at y.now e) (met_at S.at met.old e)
         boxes.now }
+    ensures cause { BlamesButMem (S.run calc.old) (S.run calc.new) ((e : Reading) → IsTrue ((S.run calc.old).is_open e)
+        → PlacesFit (context_at S.at container.now e) (floats_at S.at met.old.floats e) (S.at least.now e)
+        (S.at y.now e) boxes.now) }
 {
     for at in boxes {
         place_next(calc, container, least, y, met, *at);
@@ -191,6 +210,8 @@ pub fn fits<S: Steady>(
     ensures goes { Goes (S.run calc.old) (S.run calc.new) }
     ensures value { (e : Reading) → IsTrue ((S.run calc.new).is_open e) → result ≡ fits_in (S.at width.now e)
         (room_in (context_at S.at container.now e) (boxes_at S.at floats.now e) (S.at top.now e) (S.at tall.now e)) }
+    ensures cause { Blames (S.run calc.old) (S.run calc.new) ((e : Reading) → IsTrue ((S.run calc.old).is_open e)
+        → RoomFits (context_at S.at container.now e) (boxes_at S.at floats.now e) (S.at top.now e) (S.at tall.now e)) }
 {
     let room = band(calc, floats, container.cb, top, tall);
     let across = band_width(calc, &room);
@@ -202,6 +223,7 @@ fn same<S: Steady>(calc: &mut S, a: &S::Num, b: &S::Num) -> bool
     ensures goes { Goes (S.run calc.old) (S.run calc.new) }
     ensures value { (e : Reading) → IsTrue ((S.run calc.new).is_open e)
         → result ≡ int_eq (S.at a.now e) (S.at b.now e) }
+    ensures cause { Blames (S.run calc.old) (S.run calc.new) ⊤ }
 {
     calc.le(a, b) && calc.le(b, a)
 }
@@ -219,6 +241,9 @@ fn leaves_room<S: Steady>(
     ensures value { (e : Reading) → IsTrue ((S.run calc.new).is_open e) → result
         ≡ leaves (context_at S.at container.now e) (slot_at S.at slot.now e) (S.at held.now e)
         (boxes_at S.at floats.now e) (S.at y.now e) }
+    ensures cause { Blames (S.run calc.old) (S.run calc.new) ((e : Reading) → IsTrue ((S.run calc.old).is_open e)
+        → RoomFits (context_at S.at container.now e) (boxes_at S.at floats.now e) (S.at slot.now.top e)
+        (S.at slot.now.tall e)) }
 {
     same(calc, y, &slot.top) && fits(calc, container, floats, &slot.top, &slot.tall, held)
 }
@@ -237,6 +262,9 @@ fn meet<S: Steady>(
     ensures value { (e : Reading) → IsTrue ((S.run calc.new).is_open e) → met_at S.at met.new e
         ≡ met_next (context_at S.at container.now e) (slot_at S.at slot.now e) (S.at held.now e)
         (met_at S.at met.old e) at }
+    ensures cause { BlamesButMem (S.run calc.old) (S.run calc.new) ((e : Reading) → IsTrue ((S.run calc.old).is_open e)
+        → PlacesFit (context_at S.at container.now e) (floats_at S.at met.old.floats e) (S.at slot.now.least e)
+        (S.at slot.now.top e) (at ∷ []) × IsHalf (S.at slot.now.tall e)) }
 {
     if !met.waiting.is_empty() {
         add_waiting(calc, &mut met.waiting, at);
@@ -272,6 +300,9 @@ pub fn meet_each<S: Steady>(
     ensures value { (e : Reading) → IsTrue ((S.run calc.new).is_open e) → met_at S.at met.new e
         ≡ met_all (context_at S.at container.now e) (slot_at S.at slot.now e) (S.at held.now e)
         (met_at S.at met.old e) boxes.now }
+    ensures cause { BlamesButMem (S.run calc.old) (S.run calc.new) ((e : Reading) → IsTrue ((S.run calc.old).is_open e)
+        → PlacesFit (context_at S.at container.now e) (floats_at S.at met.old.floats e) (S.at slot.now.least e)
+        (S.at slot.now.top e) boxes.now × IsHalf (S.at slot.now.tall e)) }
 {
     for at in boxes {
         meet(calc, container, slot, held, met, *at);
@@ -306,6 +337,7 @@ pub fn floats_of<S: Steady>(alloc: Global, calc: &mut S, pieces: &[Piece<S::Num>
     ensures goes { Goes (S.run calc.old) (S.run calc.new) }
     ensures value { (e : Reading) → IsTrue ((S.run calc.new).is_open e)
         → result.items ≡ float_boxes (bare_of pieces.now) }
+    ensures cause { BlamesButMem (S.run calc.old) (S.run calc.new) ⊤ }
 {
     match collect_floats(alloc, pieces) {
         Ok(floats) => floats,

@@ -1,12 +1,16 @@
 //! The beginning of a line: the floats before it, and its first stretch (CSS 2.1, 9.4.2, 9.5).
-ghost use Rattle.std.specs.Prelude.{◌≡◌, IsTrue};
+ghost use Rattle.std.specs.Prelude.{◌≡◌, IsTrue, ⊤};
 ghost use Rattle.viz_calc.specs.World.{Reading};
-ghost use Rattle.viz_calc.specs.Run.{Goes};
+ghost use Rattle.viz_calc.specs.Run.{Goes, BlamesButMem};
+ghost use Rattle.layout_semantics.specs.InlineContent.{float_boxes};
 ghost use Rattle.lay_float.specs.Readings.{floats_at};
 ghost use Rattle.lay_line.specs.Contexts.{context_at};
+ghost use Rattle.lay_line.specs.Limits.{PlacesFit};
+ghost use Rattle.lay_line.specs.LinesFit.{FirstFits};
 ghost use Rattle.lay_line.specs.Lining.{begun_at};
 ghost use Rattle.lay_line.specs.Readings.{held_at, load_at, met_at, slot_at, pieces_at};
 ghost use Rattle.lay_line.specs.steps.Lining.{met_before, first_load};
+ghost use Rattle.lay_line.specs.steps.Loading.{bare};
 
 use crate::containers::Container;
 use crate::endings::Begun;
@@ -35,6 +39,7 @@ pub struct Opening<'p, 'a, N> {
 fn copy_boxes<S: Steady>(alloc: Global, calc: &mut S, boxes: &[u32]) -> Vec<u32>
     ensures goes { Goes (S.run calc.old) (S.run calc.new) }
     ensures value { (e : Reading) → IsTrue ((S.run calc.new).is_open e) → result.items ≡ boxes.now }
+    ensures cause { BlamesButMem (S.run calc.old) (S.run calc.new) ⊤ }
 {
     match Vec::from_slice(alloc, boxes) {
         Ok(boxes) => boxes,
@@ -59,6 +64,9 @@ pub fn meet_before<S: Steady>(
     ensures value { (e : Reading) → IsTrue ((S.run calc.new).is_open e) → met_at S.at result e
         ≡ met_before (context_at S.at container.now e) (begun_at S.at begun.now (floats_at S.at floats e) e)
         (pieces_at S.at first.now e) }
+    ensures cause { BlamesButMem (S.run calc.old) (S.run calc.new) ((e : Reading) → IsTrue ((S.run calc.old).is_open e)
+        → PlacesFit (context_at S.at container.now e) (floats_at S.at floats e) (S.at begun.now.least e)
+        (S.at begun.now.y e) (float_boxes (bare (pieces_at S.at first.now e)))) }
 {
     let (before, _) = first.split_at(ahead(container.tree, first));
     let boxes = floats_of(alloc, calc, before);
@@ -90,6 +98,9 @@ pub fn first_load<S: Steady>(
     ensures value { (e : Reading) → IsTrue ((S.run calc.new).is_open e) → load_at S.at result e
         ≡ first_load (context_at S.at container.now e) (slot_at S.at slot.now e) (met_at S.at opening.entry.met e)
         opening.entry.opened.now (pieces_at S.at opening.entry.first.now e) (held_at S.at opening.entry.held e) }
+    ensures cause { BlamesButMem (S.run calc.old) (S.run calc.new) ((e : Reading) → IsTrue ((S.run calc.old).is_open e)
+        → FirstFits (context_at S.at container.now e) (slot_at S.at slot.now e) (met_at S.at opening.entry.met e)
+        (pieces_at S.at opening.entry.first.now e)) }
 {
     let Opening {
         met,

@@ -1,11 +1,12 @@
 //! Where the items of a line stand (CSS 2.1, 9.4.2, 16.6.1).
-ghost use Rattle.std.specs.Prelude.{◌≡◌, ◌+ℤ◌, ◌++◌, ◌∷◌, [], IsTrue};
+ghost use Rattle.std.specs.Prelude.{◌≡◌, ◌+ℤ◌, ◌++◌, ◌∷◌, [], IsTrue, ⊤};
 ghost use Rattle.viz_calc.specs.World.{Reading};
-ghost use Rattle.viz_calc.specs.Run.{Goes};
+ghost use Rattle.viz_calc.specs.Run.{Goes, Fits, Blames, BlamesButMem};
 ghost use Rattle.lay_line.specs.Items.{item_of};
 ghost use Rattle.lay_line.specs.Readings.{piece_at, pieces_at, place_at, places_at, row_at};
 ghost use Rattle.lay_line.specs.steps.Measured.{placed_at, row_with as row_by, row_after as row_next, rows, first_row};
 ghost use Rattle.lay_line.specs.steps.Staying.{stays as stays_of, fewer as fewer_by_one, is_some_left as is_left};
+ghost use Rattle.lay_line.specs.Limits.{StandFits};
 
 use crate::held::Piece;
 use crate::items::{Item, is_solid};
@@ -53,6 +54,8 @@ fn placed<'a, S: Steady>(
     ensures goes { Goes (S.run calc.old) (S.run calc.new) }
     ensures value { (e : Reading) → IsTrue ((S.run calc.new).is_open e)
         → place_at S.at result e ≡ placed_at (S.at x.now e) (piece_at S.at piece.now e) }
+    ensures cause { Blames (S.run calc.old) (S.run calc.new)
+        (Fits (S.run calc.old) (λ e. S.at x.now e ∷ (S.at x.now e +ℤ S.at piece.now.width e) ∷ [])) }
 {
     let left = calc.copy(x);
     let right = calc.add(x, &piece.width);
@@ -72,6 +75,7 @@ fn keep<'a, S: Steady>(
     ensures goes { Goes (S.run calc.old) (S.run calc.new) }
     ensures value { (e : Reading) → IsTrue ((S.run calc.new).is_open e) → places_at S.at places.new.items e
         ≡ places_at S.at places.old.items e ++ place_at S.at place.entry e ∷ [] }
+    ensures cause { BlamesButMem (S.run calc.old) (S.run calc.new) ⊤ }
 {
     if places.push(place).is_err() {
         calc.stop();
@@ -100,6 +104,8 @@ fn row_with<'a, S: Steady>(
     ensures goes { Goes (S.run calc.old) (S.run calc.new) }
     ensures value { (e : Reading) → IsTrue ((S.run calc.new).is_open e) → row_at S.at result e
         ≡ row_by (row_at S.at row.entry e) (piece_at S.at piece.now e) }
+    ensures cause { BlamesButMem (S.run calc.old) (S.run calc.new)
+        (Fits (S.run calc.old) (λ e. S.at row.entry.x e ∷ (S.at row.entry.x e +ℤ S.at piece.now.width e) ∷ [])) }
 {
     let Row {
         x,
@@ -128,6 +134,8 @@ fn row_after<'a, S: Steady>(
     ensures goes { Goes (S.run calc.old) (S.run calc.new) }
     ensures value { (e : Reading) → IsTrue ((S.run calc.new).is_open e) → row_at S.at result e
         ≡ row_next (row_at S.at row.entry e) (piece_at S.at piece.now e) }
+    ensures cause { BlamesButMem (S.run calc.old) (S.run calc.new)
+        (Fits (S.run calc.old) (λ e. S.at row.entry.x e ∷ (S.at row.entry.x e +ℤ S.at piece.now.width e) ∷ [])) }
 {
     let left = fewer(row.left);
     let more = is_some_left(left);
@@ -148,6 +156,8 @@ fn row_of<'a, S: Steady>(
     ensures goes { Goes (S.run calc.old) (S.run calc.new) }
     ensures value { (e : Reading) → IsTrue ((S.run calc.new).is_open e) → row_at S.at result e
         ≡ rows (row_at S.at start.entry e) (pieces_at S.at pieces.now e) }
+    ensures cause { BlamesButMem (S.run calc.old) (S.run calc.new) ((e : Reading) → IsTrue ((S.run calc.old).is_open e)
+        → StandFits (S.at start.entry.x e) (pieces_at S.at pieces.now e)) }
 {
     let mut row = start;
     for piece in pieces {
@@ -167,6 +177,8 @@ pub fn stand<'a, S: Steady>(
     ensures goes { Goes (S.run calc.old) (S.run calc.new) }
     ensures value { (e : Reading) → IsTrue ((S.run calc.new).is_open e) → places_at S.at result.items e
         ≡ (rows (first_row (S.at x e) left) (pieces_at S.at pieces.now e)).places }
+    ensures cause { BlamesButMem (S.run calc.old) (S.run calc.new) ((e : Reading) → IsTrue ((S.run calc.old).is_open e)
+        → StandFits (S.at x e) (pieces_at S.at pieces.now e)) }
 {
     let start = Row {
         x,

@@ -1,10 +1,9 @@
 //! How far boxes are raised, and how far they reach in their line (CSS 2.1, 10.8.1).
-ghost use Rattle.std.specs.Prelude.{◌≡◌, ◌+ℤ◌, ◌-ℤ◌, neg_ℤ, IsTrue};
+ghost use Rattle.std.specs.Prelude.{◌≡◌, ◌+ℤ◌, ◌-ℤ◌, neg_ℤ, IsTrue, ◌∷◌, [], pos};
 ghost use Rattle.viz_base.specs.Numbers.{floor_of};
 ghost use Rattle.viz_base.specs.declared.lengths.Valign.TheVariants as of_valign;
-ghost use Rattle.viz_base.specs.declared.styles.Style.{Style as StyleOf};
 ghost use Rattle.viz_calc.specs.World.{Reading};
-ghost use Rattle.viz_calc.specs.Run.{Stands, Goes};
+ghost use Rattle.viz_calc.specs.Run.{Stands, Goes, Fits, Blames};
 ghost use Rattle.layout_semantics.specs.Blocks.{node_of};
 ghost use Rattle.layout_semantics.specs.Fonts.{font_size};
 ghost use Rattle.layout_semantics.specs.Lengths.{own};
@@ -12,6 +11,10 @@ ghost use Rattle.layout_semantics.specs.LineHeights.{height_of_extent, shift_to 
 ghost use Rattle.lay_line.specs.Contexts.{context_at};
 ghost use Rattle.lay_line.specs.Readings.{line_extent_at};
 ghost use Rattle.lay_line.specs.steps.Words.{own_reach, raise_in, raised, inline_raised, reach_in, strut_in};
+ghost use Rattle.viz_calc.specs.State.{AllSmall};
+ghost use Rattle.viz_base.specs.FontSizes.{fraction};
+ghost use Rattle.lay_length.specs.Ways.{part_way};
+ghost use Rattle.lay_line.specs.Fits.{CentredFits, RaiseFits, ShiftFits_to, ShiftFits, InlineShiftFits, OwnFits, ReachFits, InlineFits};
 
 use crate::containers::{Container, inner_of};
 use crate::extents::{LineExtent, height};
@@ -28,6 +31,9 @@ fn lowered<S: Steady>(calc: &mut S, tree: &BoxTree, node: u32) -> S::Num
     ensures goes { Goes (S.run calc.old) (S.run calc.new) }
     ensures value { Stands (S.run calc.new) (S.at result)
         (λ e. neg_ℤ (floor_of (font_size tree.now e.world node) 5)) }
+    ensures cause { Blames (S.run calc.old) (S.run calc.new) ((e : Reading) → IsTrue ((S.run calc.old).is_open e)
+        → AllSmall (part_way tree.now e.world node (fraction (pos 1) 5 (font_size tree.now e.world node)))
+        × AllSmall (pos 0 ∷ neg_ℤ (floor_of (font_size tree.now e.world node) 5) ∷ [])) }
 {
     let part = size_part(calc, tree, node, 1, 5);
     let none = zero(calc);
@@ -44,6 +50,8 @@ fn centred<S: Steady>(
     ensures goes { Goes (S.run calc.old) (S.run calc.new) }
     ensures value { Stands (S.run calc.new) (S.at result) (λ e. (floor_of (font_size tree.now e.world node) 4
         +ℤ floor_of (height_of_extent (line_extent_at S.at extent.now e)) 2) -ℤ S.at extent.now.above e) }
+    ensures cause { Blames (S.run calc.old) (S.run calc.new) ((e : Reading) → IsTrue ((S.run calc.old).is_open e)
+        → CentredFits tree.now e.world node (line_extent_at S.at extent.now e)) }
 {
     let part = size_part(calc, tree, node, 1, 4);
     let whole = height(calc, extent);
@@ -52,7 +60,7 @@ fn centred<S: Steady>(
     calc.sub(&top, &extent.above)
 }
 
-#[tactic(auto, unfolding(crate::specs::Contexts::context_at, crate::specs::steps::Words::raise_in))]
+#[tactic(auto, unfolding(crate::specs::Contexts::context_at, crate::specs::steps::Words::raise_in, crate::specs::Fits::RaiseFits))]
 /// How far a box of a node is raised over the baseline of the box of another node that it is in.
 fn raise<S: Steady>(
     calc: &mut S,
@@ -65,6 +73,8 @@ fn raise<S: Steady>(
     ensures goes { Goes (S.run calc.old) (S.run calc.new) }
     ensures value { Stands (S.run calc.new) (S.at result) (λ e. raise_in (context_at S.at container.now e) node parent
         (line_extent_at S.at extent.now e) valign.now) }
+    ensures cause { Blames (S.run calc.old) (S.run calc.new) ((e : Reading) → IsTrue ((S.run calc.old).is_open e)
+        → RaiseFits (context_at S.at container.now e) node parent (line_extent_at S.at extent.now e) valign.now) }
 {
     match valign {
         Valign::Baseline => zero(calc),
@@ -89,6 +99,8 @@ fn shift_to<S: Steady>(
     ensures goes { Goes (S.run calc.old) (S.run calc.new) }
     ensures value { Stands (S.run calc.new) (S.at result) (λ e. shifted_to levels (context_at S.at container.now e) at
         (line_extent_at S.at extent.now e)) }
+    ensures cause { Blames (S.run calc.old) (S.run calc.new) ((e : Reading) → IsTrue ((S.run calc.old).is_open e)
+        → ShiftFits_to levels (context_at S.at container.now e) at (line_extent_at S.at extent.now e)) }
 {
     if levels == 0 {
         return zero(calc);
@@ -110,7 +122,7 @@ fn shift_to<S: Steady>(
     }
 }
 
-#[tactic(auto, unfolding(crate::specs::steps::Words::raised))]
+#[tactic(auto, unfolding(crate::specs::steps::Words::raised, crate::specs::Fits::ShiftFits))]
 /// How far the baseline of a box is above that of its line.
 pub fn shift<S: Steady>(
     calc: &mut S,
@@ -121,15 +133,19 @@ pub fn shift<S: Steady>(
     ensures goes { Goes (S.run calc.old) (S.run calc.new) }
     ensures value { Stands (S.run calc.new) (S.at result) (λ e. raised (context_at S.at container.now e) at
         (line_extent_at S.at extent.now e)) }
+    ensures cause { Blames (S.run calc.old) (S.run calc.new) ((e : Reading) → IsTrue ((S.run calc.old).is_open e)
+        → ShiftFits (context_at S.at container.now e) at (line_extent_at S.at extent.now e)) }
 {
     shift_to(calc, container, u64::from(at) + 1, at, extent)
 }
 
-#[tactic(auto, unfolding(crate::specs::Contexts::context_at, crate::specs::steps::Words::inline_raised))]
+#[tactic(auto, unfolding(crate::specs::Contexts::context_at, crate::specs::steps::Words::inline_raised, crate::specs::Fits::InlineShiftFits))]
 /// The same of an inline box.
 pub fn inline_shift<S: Steady>(calc: &mut S, container: &Container<'_, S::Num>, at: u32) -> S::Num
     ensures goes { Goes (S.run calc.old) (S.run calc.new) }
     ensures value { Stands (S.run calc.new) (S.at result) (λ e. inline_raised (context_at S.at container.now e) at) }
+    ensures cause { Blames (S.run calc.old) (S.run calc.new) ((e : Reading) → IsTrue ((S.run calc.old).is_open e)
+        → InlineShiftFits (context_at S.at container.now e) at) }
 {
     let extent = inline_extent(calc, container.tree, node_at(container.tree, at));
     shift(calc, container, at, &extent)
@@ -144,6 +160,8 @@ pub fn box_extent<S: Steady>(
     ensures goes { Goes (S.run calc.old) (S.run calc.new) }
     ensures value { (e : Reading) → IsTrue ((S.run calc.new).is_open e) → line_extent_at S.at result e
         ≡ own_reach (context_at S.at container.now e) at }
+    ensures cause { Blames (S.run calc.old) (S.run calc.new) ((e : Reading) → IsTrue ((S.run calc.old).is_open e)
+        → OwnFits (context_at S.at container.now e) at) }
 {
     match inner_of(container, at) {
         Some(inner) => {
@@ -155,7 +173,7 @@ pub fn box_extent<S: Steady>(
     }
 }
 
-#[tactic(auto, unfolding(crate::specs::steps::Words::reach_in))]
+#[tactic(auto, unfolding(crate::specs::steps::Words::reach_in, crate::specs::Fits::ReachFits))]
 /// How far a box reaches above and below the baseline of its line.
 pub fn reach<S: Steady>(
     calc: &mut S,
@@ -165,6 +183,8 @@ pub fn reach<S: Steady>(
     ensures goes { Goes (S.run calc.old) (S.run calc.new) }
     ensures value { (e : Reading) → IsTrue ((S.run calc.new).is_open e) → line_extent_at S.at result e
         ≡ reach_in (context_at S.at container.now e) at }
+    ensures cause { Blames (S.run calc.old) (S.run calc.new) ((e : Reading) → IsTrue ((S.run calc.old).is_open e)
+        → ReachFits (context_at S.at container.now e) at) }
 {
     let extent = box_extent(calc, container, at);
     let up = shift(calc, container, at, &extent);
@@ -179,6 +199,8 @@ pub fn strut<S: Steady>(calc: &mut S, container: &Container<'_, S::Num>) -> Line
     ensures goes { Goes (S.run calc.old) (S.run calc.new) }
     ensures value { (e : Reading) → IsTrue ((S.run calc.new).is_open e) → line_extent_at S.at result e
         ≡ strut_in (context_at S.at container.now e) }
+    ensures cause { Blames (S.run calc.old) (S.run calc.new) ((e : Reading) → IsTrue ((S.run calc.old).is_open e)
+        → InlineFits container.now.tree.now e.world (node_of container.now.tree.now container.now.at)) }
 {
     inline_extent(calc, container.tree, node_at(container.tree, container.at))
 }

@@ -1,11 +1,11 @@
 //! What items take of a line (CSS 2.1, 9.4.2).
-ghost use Rattle.std.specs.Prelude.{◌≡◌, ◌+ℤ◌, ◌-ℤ◌, pos, ◌++◌, ◌∷◌, [], IsTrue};
+ghost use Rattle.std.specs.Prelude.{◌≡◌, ◌++◌, ◌∷◌, [], IsTrue, ⊤};
 ghost use Rattle.std.specs.List.{AllByRecursion};
 ghost use Rattle.viz_calc.specs.World.{Reading};
-ghost use Rattle.viz_calc.specs.Run.{Stands, Goes};
+ghost use Rattle.viz_calc.specs.Run.{Stands, Goes, Fits, Blames, BlamesButMem};
 ghost use Rattle.layout_semantics.specs.Blocks.{node_of};
 ghost use Rattle.layout_semantics.specs.Fonts.{text_width as text_width_of};
-ghost use Rattle.layout_semantics.specs.InlineContent.{start, finish, atomic, start_edges, end_edges};
+ghost use Rattle.layout_semantics.specs.InlineContent.{start, finish, atomic};
 ghost use Rattle.layout_semantics.specs.LineFilling.{band_width as width_of, used_edges};
 ghost use Rattle.lay_float.specs.Readings.{stretch_at};
 ghost use Rattle.lay_line.specs.Contexts.{context_at};
@@ -14,6 +14,8 @@ ghost use Rattle.lay_line.specs.Readings.{piece_at, pieces_at};
 ghost use Rattle.lay_line.specs.steps.Content.{IsShort};
 ghost use Rattle.lay_line.specs.steps.Measured.{measured};
 ghost use Rattle.lay_line.specs.steps.Words.{width_in};
+ghost use Rattle.lay_length.specs.Ways.{part_way};
+ghost use Rattle.lay_line.specs.Fits.{SideFits, WidthFits};
 
 use crate::containers::{Container, inner_of};
 use crate::held::Piece;
@@ -30,6 +32,8 @@ use viz_calc::Steady;
 pub fn band_width<S: Steady>(calc: &mut S, band: &Band<S::Num>) -> S::Num
     ensures goes { Goes (S.run calc.old) (S.run calc.new) }
     ensures value { Stands (S.run calc.new) (S.at result) (λ e. width_of (stretch_at S.at band.now e)) }
+    ensures cause { Blames (S.run calc.old) (S.run calc.new)
+        (Fits (S.run calc.old) (λ e. width_of (stretch_at S.at band.now e) ∷ [])) }
 {
     calc.sub(&band.right, &band.left)
 }
@@ -46,6 +50,9 @@ fn edges_width<S: Steady>(
     ensures goes { Goes (S.run calc.old) (S.run calc.new) }
     ensures value { Stands (S.run calc.new) (S.at result) (λ e. used_edges (context_at S.at container.now e)
         (margin.now ∷ border.now ∷ padding.now ∷ [])) }
+    ensures cause { Blames (S.run calc.old) (S.run calc.new) ((e : Reading) → IsTrue ((S.run calc.old).is_open e)
+        → SideFits container.now.tree.now e.world (width_of (stretch_at S.at container.now.cb.now e)) margin.now
+        border.now padding.now) }
 {
     let room = band_width(calc, container.cb);
     let none = zero(calc);
@@ -57,12 +64,14 @@ fn edges_width<S: Steady>(
     calc.add(&margin, &both)
 }
 
-#[tactic(auto, unfolding(crate::specs::Contexts::context_at, crate::specs::steps::Words::width_in))]
+#[tactic(auto, unfolding(crate::specs::Contexts::context_at, crate::specs::steps::Words::width_in, crate::specs::Fits::WidthFits))]
 /// What the start of an inline box takes.
 fn start_width<S: Steady>(calc: &mut S, container: &Container<'_, S::Num>, at: u32) -> S::Num
     ensures goes { Goes (S.run calc.old) (S.run calc.new) }
     ensures value { Stands (S.run calc.new) (S.at result)
         (λ e. width_in (context_at S.at container.now e) (start at)) }
+    ensures cause { Blames (S.run calc.old) (S.run calc.new) ((e : Reading) → IsTrue ((S.run calc.old).is_open e)
+        → WidthFits (context_at S.at container.now e) (start at)) }
 {
     let margin = margins(container.tree, at);
     let border = borders(container.tree, at);
@@ -70,12 +79,14 @@ fn start_width<S: Steady>(calc: &mut S, container: &Container<'_, S::Num>, at: u
     edges_width(calc, container, &margin.left, &border.left, &padding.left)
 }
 
-#[tactic(auto, unfolding(crate::specs::Contexts::context_at, crate::specs::steps::Words::width_in))]
+#[tactic(auto, unfolding(crate::specs::Contexts::context_at, crate::specs::steps::Words::width_in, crate::specs::Fits::WidthFits))]
 /// What its end takes.
 fn end_width<S: Steady>(calc: &mut S, container: &Container<'_, S::Num>, at: u32) -> S::Num
     ensures goes { Goes (S.run calc.old) (S.run calc.new) }
     ensures value { Stands (S.run calc.new) (S.at result)
         (λ e. width_in (context_at S.at container.now e) (finish at)) }
+    ensures cause { Blames (S.run calc.old) (S.run calc.new) ((e : Reading) → IsTrue ((S.run calc.old).is_open e)
+        → WidthFits (context_at S.at container.now e) (finish at)) }
 {
     let margin = margins(container.tree, at);
     let border = borders(container.tree, at);
@@ -94,6 +105,8 @@ fn atomic_width<S: Steady>(calc: &mut S, container: &Container<'_, S::Num>, at: 
     ensures goes { Goes (S.run calc.old) (S.run calc.new) }
     ensures value { Stands (S.run calc.new) (S.at result)
         (λ e. width_in (context_at S.at container.now e) (atomic at)) }
+    ensures cause { Blames (S.run calc.old) (S.run calc.new) ((e : Reading) → IsTrue ((S.run calc.old).is_open e)
+        → WidthFits (context_at S.at container.now e) (atomic at)) }
 {
     match inner_of(container, at) {
         Some(inner) => calc.copy(&inner.width),
@@ -106,17 +119,21 @@ fn space_width<S: Steady>(calc: &mut S, tree: &BoxTree, at: u32) -> S::Num
     ensures goes { Goes (S.run calc.old) (S.run calc.new) }
     ensures value { Stands (S.run calc.new) (S.at result)
         (λ e. text_width_of tree.now e.world (node_of tree.now at) (32 ∷ [])) }
+    ensures cause { Blames (S.run calc.old) (S.run calc.new) (Fits (S.run calc.old) (λ e. part_way tree.now e.world
+        (node_of tree.now at) (text_width_of tree.now e.world (node_of tree.now at) (32 ∷ [])))) }
 {
     text_width(calc, tree, node_at(tree, at), " ")
 }
 
-#[tactic(auto, unfolding(crate::specs::Contexts::context_at, crate::specs::steps::Words::width_in))]
+#[tactic(auto, unfolding(crate::specs::Contexts::context_at, crate::specs::steps::Words::width_in, crate::specs::Fits::WidthFits))]
 /// What an item takes of a line.
 fn item_width<S: Steady>(calc: &mut S, container: &Container<'_, S::Num>, item: &Item) -> S::Num
     requires { IsShort (item_of item.now) }
     ensures goes { Goes (S.run calc.old) (S.run calc.new) }
     ensures value { Stands (S.run calc.new) (S.at result)
         (λ e. width_in (context_at S.at container.now e) (item_of item.now)) }
+    ensures cause { Blames (S.run calc.old) (S.run calc.new) ((e : Reading) → IsTrue ((S.run calc.old).is_open e)
+        → WidthFits (context_at S.at container.now e) (item_of item.now)) }
 {
     match item {
         Item::Word(at, text) => text_width(
@@ -142,6 +159,7 @@ fn add_piece<'a, S: Steady>(
     ensures goes { Goes (S.run calc.old) (S.run calc.new) }
     ensures value { (e : Reading) → IsTrue ((S.run calc.new).is_open e) → pieces_at S.at pieces.new.items e
         ≡ pieces_at S.at pieces.old.items e ++ piece_at S.at piece.entry e ∷ [] }
+    ensures cause { BlamesButMem (S.run calc.old) (S.run calc.new) ⊤ }
 {
     if pieces.push(piece).is_err() {
         calc.stop();
@@ -159,6 +177,8 @@ pub fn measure<'a, S: Steady>(
     ensures goes { Goes (S.run calc.old) (S.run calc.new) }
     ensures value { (e : Reading) → IsTrue ((S.run calc.new).is_open e) → pieces_at S.at result.items e
         ≡ measured (width_in (context_at S.at container.now e)) (items_of items.now) }
+    ensures cause { BlamesButMem (S.run calc.old) (S.run calc.new) ((e : Reading) → IsTrue ((S.run calc.old).is_open e)
+        → AllByRecursion (WidthFits (context_at S.at container.now e)) (items_of items.now)) }
 {
     let mut pieces = Vec::new(alloc);
     for item in items {

@@ -1,12 +1,14 @@
 //! The top of a line (CSS 2.1, 9.5).
-ghost use Rattle.std.specs.Prelude.{◌≡◌, None, option_map, fold, IsTrue};
+ghost use Rattle.std.specs.Prelude.{◌≡◌, None, fold, IsTrue, ⊤, ◌∷◌, []};
 ghost use Rattle.std.specs.Int.{int_min};
 ghost use Rattle.viz_calc.specs.World.{Reading};
-ghost use Rattle.viz_calc.specs.Run.{Stands, Goes};
+ghost use Rattle.viz_calc.specs.Run.{Stands, Goes, Blames};
 ghost use Rattle.lay_float.specs.Readings.{box_at, boxes_at, option_at};
 ghost use Rattle.lay_line.specs.Contexts.{context_at};
 ghost use Rattle.lay_line.specs.steps.Meeting.{stands_at as stands_in, top_in};
 ghost use Rattle.lay_line.specs.steps.Tops.{lower as lower_of, with_float};
+ghost use Rattle.viz_calc.specs.State.{AllSmall};
+ghost use Rattle.lay_line.specs.Limits.{RoomFits};
 
 use crate::containers::Container;
 use crate::meeting::fits;
@@ -32,6 +34,7 @@ pub struct Wanted<'w, 'a, N> {
 fn lesser<S: Steady>(calc: &mut S, a: S::Num, b: S::Num) -> S::Num
     ensures goes { Goes (S.run calc.old) (S.run calc.new) }
     ensures value { Stands (S.run calc.new) (S.at result) (λ e. int_min (S.at a e) (S.at b e)) }
+    ensures cause { Blames (S.run calc.old) (S.run calc.new) ⊤ }
 {
     if calc.le(&a, &b) { a } else { b }
 }
@@ -40,6 +43,7 @@ fn lesser<S: Steady>(calc: &mut S, a: S::Num, b: S::Num) -> S::Num
 fn lower<S: Steady>(calc: &mut S, best: Option<S::Num>, more: S::Num) -> S::Num
     ensures goes { Goes (S.run calc.old) (S.run calc.new) }
     ensures value { Stands (S.run calc.new) (S.at result) (λ e. lower_of (option_at S.at best e) (S.at more e)) }
+    ensures cause { Blames (S.run calc.old) (S.run calc.new) ⊤ }
 {
     match best {
         Some(best) => lesser(calc, more, best),
@@ -54,6 +58,9 @@ fn stands_at<S: Steady>(calc: &mut S, wanted: &Wanted<'_, '_, S::Num>, top: &S::
     ensures value { (e : Reading) → IsTrue ((S.run calc.new).is_open e) → result
         ≡ stands_in (context_at S.at wanted.now.container.now e) (boxes_at S.at wanted.now.floats.now e)
         (S.at wanted.now.tall.now e) (S.at wanted.now.width.now e) (S.at top.now e) }
+    ensures cause { Blames (S.run calc.old) (S.run calc.new) ((e : Reading) → IsTrue ((S.run calc.old).is_open e)
+        → RoomFits (context_at S.at wanted.now.container.now e) (boxes_at S.at wanted.now.floats.now e) (S.at top.now e)
+        (S.at wanted.now.tall.now e)) }
 {
     !meets_any(calc, wanted.floats, top, wanted.tall)
         || fits(
@@ -78,6 +85,9 @@ fn with_bottom<S: Steady>(
         ≡ with_float (stands_in (context_at S.at wanted.now.container.now e) (boxes_at S.at wanted.now.floats.now e)
         (S.at wanted.now.tall.now e) (S.at wanted.now.width.now e)) (S.at wanted.now.y.now e) (option_at S.at best e)
         (box_at S.at f.now e) }
+    ensures cause { Blames (S.run calc.old) (S.run calc.new) ((e : Reading) → IsTrue ((S.run calc.old).is_open e)
+        → RoomFits (context_at S.at wanted.now.container.now e) (boxes_at S.at wanted.now.floats.now e)
+        (S.at f.now.outer.bottom e) (S.at wanted.now.tall.now e) × AllSmall (S.at f.now.outer.bottom e ∷ [])) }
 {
     if calc.le(&f.outer.bottom, wanted.y) {
         return best;
@@ -96,6 +106,9 @@ fn highest_below<S: Steady>(calc: &mut S, wanted: &Wanted<'_, '_, S::Num>) -> Op
         ≡ fold (with_float (stands_in (context_at S.at wanted.now.container.now e)
         (boxes_at S.at wanted.now.floats.now e) (S.at wanted.now.tall.now e) (S.at wanted.now.width.now e))
         (S.at wanted.now.y.now e)) None (boxes_at S.at wanted.now.floats.now e) }
+    ensures cause { Blames (S.run calc.old) (S.run calc.new) ((e : Reading) → IsTrue ((S.run calc.old).is_open e)
+        → RoomFits (context_at S.at wanted.now.container.now e) (boxes_at S.at wanted.now.floats.now e)
+        (S.at wanted.now.y.now e) (S.at wanted.now.tall.now e)) }
 {
     let mut best = None;
     for f in wanted.floats {
@@ -111,6 +124,9 @@ pub fn line_top<S: Steady>(calc: &mut S, wanted: &Wanted<'_, '_, S::Num>) -> S::
     ensures value { Stands (S.run calc.new) (S.at result) (λ e. top_in (context_at S.at wanted.now.container.now e)
         (boxes_at S.at wanted.now.floats.now e) (S.at wanted.now.y.now e) (S.at wanted.now.tall.now e)
         (S.at wanted.now.width.now e)) }
+    ensures cause { Blames (S.run calc.old) (S.run calc.new) ((e : Reading) → IsTrue ((S.run calc.old).is_open e)
+        → RoomFits (context_at S.at wanted.now.container.now e) (boxes_at S.at wanted.now.floats.now e)
+        (S.at wanted.now.y.now e) (S.at wanted.now.tall.now e)) }
 {
     if stands_at(calc, wanted, wanted.y) {
         return calc.copy(wanted.y);

@@ -1,7 +1,8 @@
 use Rattle.std.proofs.Common.{◌≡◌, ◌++◌, drop, None, IsTrue}
 use Rattle.viz_calc.specs.World.{Reading}
-use Rattle.viz_calc.specs.Run.{Goes}
+use Rattle.viz_calc.specs.Run.{Goes, BlamesButMem}
 use Rattle.lay_line.specs.Contexts.{context_at}
+use Rattle.lay_line.specs.LineFits.{BoxesFit, SetFits, SpotsOnLine}
 use Rattle.lay_line.specs.Readings.{entries_at, places_at, spots_at, set_line_at, before_at}
 use Rattle.lay_line.specs.steps.Entries.{items_in}
 use Rattle.lay_line.proofs.entries.add_items.Given as goal
@@ -16,4 +17,7 @@ invariant-loop-place g l =
           → entries_at at l.entries e ++ items_in (context_at at l.container e) (set_line_at at l.line e) (before_at at l.before e) (places_at at (drop l.place-index l.line.places.now) e) (spots_at at l.spots e)
           ≡ entries_at at l.initial.entries e ++ items_in (context_at at l.container e) (set_line_at at l.line e) None (places_at at l.line.places.now e) (spots_at at l.line.spots.now e);
       count : l.count ≡ l.place-index;
+      spots : (e : Reading) → SpotsOnLine (spots_at at l.line.spots.now e) → SpotsOnLine (spots_at at l.spots e);
+      cause : BlamesButMem (run l.initial.calc) (run l.calc) ((e : Reading) → IsTrue ((run l.initial.calc).is_open e)
+          → BoxesFit (context_at at l.container e) × SetFits (set_line_at at l.line e));
     }

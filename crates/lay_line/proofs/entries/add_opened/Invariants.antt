@@ -1,7 +1,8 @@
 use Rattle.std.proofs.Common.{◌≡◌, ◌++◌, drop, IsTrue}
 use Rattle.viz_calc.specs.World.{Reading}
-use Rattle.viz_calc.specs.Run.{Goes}
+use Rattle.viz_calc.specs.Run.{Goes, BlamesButMem}
 use Rattle.lay_line.specs.Contexts.{context_at}
+use Rattle.lay_line.specs.LineFits.{BoxesFit, SetFits}
 use Rattle.lay_line.specs.Readings.{entries_at, set_line_at}
 use Rattle.lay_line.specs.steps.Entries.{opened_in}
 use Rattle.lay_line.proofs.entries.add_opened.Given as goal
@@ -15,4 +16,6 @@ invariant-loop-at g l =
       value : (e : Reading) → IsTrue ((run l.calc).is_open e)
           → entries_at at l.entries e ++ opened_in (context_at at l.container e) (set_line_at at l.line e) (drop l.at-index l.opened)
           ≡ entries_at at l.initial.entries e ++ opened_in (context_at at l.container e) (set_line_at at l.line e) l.opened;
+      cause : BlamesButMem (run l.initial.calc) (run l.calc) ((e : Reading) → IsTrue ((run l.initial.calc).is_open e)
+          → BoxesFit (context_at at l.container e) × SetFits (set_line_at at l.line e));
     }

@@ -1,7 +1,8 @@
 use Rattle.std.proofs.Common.{◌≡◌, drop, IsTrue}
 use Rattle.viz_calc.specs.World.{Reading}
-use Rattle.viz_calc.specs.Run.{Goes}
+use Rattle.viz_calc.specs.Run.{Goes, Blames}
 use Rattle.lay_line.specs.Contexts.{context_at}
+use Rattle.lay_line.specs.Limits.{BoxesReach}
 use Rattle.lay_line.specs.Readings.{line_extent_at}
 use Rattle.lay_line.specs.steps.Loading.{reaching_boxes}
 use Rattle.lay_line.proofs.loads.extent_at_start.Given as goal
@@ -15,4 +16,5 @@ invariant-loop-at g l =
       value : (e : Reading) → IsTrue ((run l.calc).is_open e)
           → reaching_boxes (context_at at l.container e) (line_extent_at at l.extent e) (drop l.at-index l.opened)
           ≡ reaching_boxes (context_at at l.container e) (line_extent_at at l.initial.extent e) l.opened;
+      cause : Blames (run l.initial.calc) (run l.calc) ((e : Reading) → IsTrue ((run l.initial.calc).is_open e) → BoxesReach (context_at at l.container e));
     }

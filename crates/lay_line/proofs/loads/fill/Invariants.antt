@@ -1,8 +1,9 @@
 use Rattle.std.proofs.Common.{◌≡◌, length, IsTrue}
 use Rattle.viz_calc.specs.World.{Reading}
-use Rattle.viz_calc.specs.Run.{Goes}
+use Rattle.viz_calc.specs.Run.{Goes, BlamesButMem}
 use Rattle.lay_line.specs.Contexts.{context_at}
-use Rattle.lay_line.specs.Readings.{slot_at, load_at, parts_at}
+use Rattle.lay_line.specs.Limits.{FillFits}
+use Rattle.lay_line.specs.Readings.{slot_at, load_at, pieces_at, parts_at}
 use Rattle.lay_line.specs.steps.Loading.{loading}
 use Rattle.lay_line.proofs.loads.fill.Given as goal
 
@@ -15,6 +16,11 @@ invariant-loop-cut g l =
       value : (e : Reading) → IsTrue ((run l.calc).is_open e)
           → loading (context_at at l.container e) (slot_at at l.slot e) (load_at at l.load e) (parts_at at l.rest e)
           ≡ loading (context_at at l.container e) (slot_at at l.slot e) (load_at at l.initial.load e) (parts_at at l.initial.rest e);
+      fits : (e : Reading) → IsTrue ((run l.calc).is_open e)
+          → FillFits (context_at at l.container e) (slot_at at l.slot e) (load_at at l.initial.load e) (pieces_at at l.initial.rest.pieces.now e)
+          → FillFits (context_at at l.container e) (slot_at at l.slot e) (load_at at l.load e) (pieces_at at l.rest.pieces.now e);
+      cause : BlamesButMem (run l.initial.calc) (run l.calc) ((e : Reading) → IsTrue ((run l.initial.calc).is_open e)
+          → FillFits (context_at at l.container e) (slot_at at l.slot e) (load_at at l.initial.load e) (pieces_at at l.initial.rest.pieces.now e));
     }
 
 abbrev pub decreases-loop-cut : goal.decreases-loop-cut

@@ -9,6 +9,16 @@ use Rattle.lay_line.specs.Contexts.{context_at}
 use Rattle.lay_line.specs.Readings.{met_at, slot_at, spots_at}
 use Rattle.lay_line.specs.steps.Meeting.{leaves}
 use Rattle.lay_line.proofs.FloatSteps.{back-to, none-is, waits-after}
+use Rattle.lay_line.proofs.Placing.{next_places, room_fits}
+use Rattle.lay_line.specs.steps.Words.{spot_in, floats_with}
+use Rattle.lay_line.specs.Limits.{PlacesFit, RoomFits}
+use Rattle.lay_float.specs.Readings.{floats_at}
+use Rattle.lay_float.specs.Limits.{IsHalf}
+use Rattle.viz_calc.proofs.Runs.{Goes-then, BlamesButMem-then}
+use Rattle.viz_calc.specs.World.{Reading}
+use Rattle.viz_calc.specs.Run.{BlamesButMem}
+use Rattle.std.specs.Prelude.{⊤}
+use Rattle.std.proofs.Common.{IsTrue, sym, subst}
 use Rattle.lay_line.proofs.meeting.meet.Goals as goal
 
 pub returns-clause-value : goal.returns-clause-value
@@ -33,3 +43,51 @@ returns-clause-value g c = λ e o.
   where
     made : List (ℕ × Spot ℤ) → List FloatBox → List ℕ → Met
     made s f w = record { spots = s; floats = f; waiting = w }
+
+pub returns-then-leaves_room-clause-cause : goal.returns-then-leaves_room-clause-cause
+returns-then-leaves_room-clause-cause g c =
+    let at = g.S.Steady.at in
+    let run = g.S.Steady.run in
+    let start = run c.args.calc.now in
+    let b = c.args.at in
+    let ctx = (λ (e : Reading). context_at at c.args.container.now e) in
+    let slot = (λ (e : Reading). slot_at at c.args.slot.now e) in
+    let floats = (λ (e : Reading). floats_at at c.args.met.now.floats e) in
+    let placed = c.place_float-spot.ensures in
+    let room = c.leaves_room.ensures in
+    let more = (e : Reading) → IsTrue (start.is_open e) → PlacesFit (ctx e) (floats e) (slot e).least (slot e).top (b ∷ []) × IsHalf (slot e).tall in
+    let first : BlamesButMem start (run c.place_float-spot.new.calc) more = record { coeff = λ f. placed.cause.coeff (λ e o. (f e o).0); opens = placed.cause.opens } in
+    let second = BlamesButMem-then start (run c.place_float-spot.new.calc) (run c.leaves_room.new.calc) _ more placed.goes room.goes first
+    (λ f e o.
+    let p = f e (placed.goes.closes e o) in
+    let grown = placed.appended e o ∙ ap (floats_with (ctx e) (floats e) b) (placed.value e o) in
+    subst (λ l. RoomFits (ctx e) (boxes_at at l e) (slot e).top (slot e).tall) (sym c.as_slice.ensures)
+    (subst (λ (fs : List FloatBox). RoomFits (ctx e) fs (slot e).top (slot e).tall) (sym grown)
+    (room_fits (ctx e) (floats_with (ctx e) (floats e) b (spot_in (ctx e) (floats e) (slot e).least (slot e).top b)) (slot e).least (slot e).top (slot e).tall []
+    (next_places (ctx e) (floats e) (slot e).least (slot e).top b [] p.0) p.1)))
+    (record { coeff = room.cause.coeff; opens = room.cause.opens }) in
+    BlamesButMem-then start (run c.leaves_room.new.calc) (run c.add_spot.new.calc) ⊤ more (Goes-then _ _ _ placed.goes room.goes) c.add_spot.ensures.goes second (λ f. tt) c.add_spot.ensures.cause
+
+pub returns-clause-cause : goal.returns-clause-cause
+returns-clause-cause g c =
+    let at = g.S.Steady.at in
+    let run = g.S.Steady.run in
+    let start = run c.args.calc.now in
+    let b = c.args.at in
+    let ctx = (λ (e : Reading). context_at at c.args.container.now e) in
+    let slot = (λ (e : Reading). slot_at at c.args.slot.now e) in
+    let floats = (λ (e : Reading). floats_at at c.args.met.now.floats e) in
+    let placed = c.place_float-spot.ensures in
+    let room = c.leaves_room.ensures in
+    let more = (e : Reading) → IsTrue (start.is_open e) → PlacesFit (ctx e) (floats e) (slot e).least (slot e).top (b ∷ []) × IsHalf (slot e).tall in
+    let first : BlamesButMem start (run c.place_float-spot.new.calc) more = record { coeff = λ f. placed.cause.coeff (λ e o. (f e o).0); opens = placed.cause.opens } in
+    let second = BlamesButMem-then start (run c.place_float-spot.new.calc) (run c.leaves_room.new.calc) _ more placed.goes room.goes first
+    (λ f e o.
+    let p = f e (placed.goes.closes e o) in
+    let grown = placed.appended e o ∙ ap (floats_with (ctx e) (floats e) b) (placed.value e o) in
+    subst (λ l. RoomFits (ctx e) (boxes_at at l e) (slot e).top (slot e).tall) (sym c.as_slice.ensures)
+    (subst (λ (fs : List FloatBox). RoomFits (ctx e) fs (slot e).top (slot e).tall) (sym grown)
+    (room_fits (ctx e) (floats_with (ctx e) (floats e) b (spot_in (ctx e) (floats e) (slot e).least (slot e).top b)) (slot e).least (slot e).top (slot e).tall []
+    (next_places (ctx e) (floats e) (slot e).least (slot e).top b [] p.0) p.1)))
+    (record { coeff = room.cause.coeff; opens = room.cause.opens }) in
+    BlamesButMem-then start (run c.leaves_room.new.calc) (run c.add_waiting-2.new.calc) ⊤ more (Goes-then _ _ _ placed.goes room.goes) c.add_waiting-2.ensures.goes second (λ f. tt) c.add_waiting-2.ensures.cause

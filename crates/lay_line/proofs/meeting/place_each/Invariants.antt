@@ -1,7 +1,9 @@
 use Rattle.std.proofs.Common.{◌≡◌, drop, IsTrue}
 use Rattle.viz_calc.specs.World.{Reading}
-use Rattle.viz_calc.specs.Run.{Goes}
+use Rattle.viz_calc.specs.Run.{Goes, BlamesButMem}
+use Rattle.lay_float.specs.Readings.{floats_at}
 use Rattle.lay_line.specs.Contexts.{context_at}
+use Rattle.lay_line.specs.Limits.{PlacesFit}
 use Rattle.lay_line.specs.Readings.{met_at}
 use Rattle.lay_line.specs.steps.Meeting.{placed_all}
 use Rattle.lay_line.proofs.meeting.place_each.Given as goal
@@ -15,4 +17,9 @@ invariant-loop-at g l =
       value : (e : Reading) → IsTrue ((run l.calc).is_open e)
           → placed_all (context_at at l.container e) (at l.least e) (at l.y e) (met_at at l.met e) (drop l.at-index l.boxes)
           ≡ placed_all (context_at at l.container e) (at l.least e) (at l.y e) (met_at at l.initial.met e) l.boxes;
+      fits : (e : Reading) → IsTrue ((run l.calc).is_open e)
+          → PlacesFit (context_at at l.container e) (floats_at at l.initial.met.floats e) (at l.least e) (at l.y e) l.boxes
+          → PlacesFit (context_at at l.container e) (floats_at at l.met.floats e) (at l.least e) (at l.y e) (drop l.at-index l.boxes);
+      cause : BlamesButMem (run l.initial.calc) (run l.calc) ((e : Reading) → IsTrue ((run l.initial.calc).is_open e)
+          → PlacesFit (context_at at l.container e) (floats_at at l.initial.met.floats e) (at l.least e) (at l.y e) l.boxes);
     }

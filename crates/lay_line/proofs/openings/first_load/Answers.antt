@@ -1,9 +1,26 @@
-use Rattle.std.proofs.Common.{ap, ◌∙◌}
+use Rattle.std.proofs.Common.{ap, sym, subst, ◌∙◌}
+use Rattle.viz_calc.specs.World.{Reading}
+use Rattle.viz_calc.proofs.Runs.{Goes-then}
+use Rattle.layout_semantics.specs.InlineContent.{float_boxes}
 use Rattle.lay_line.specs.Contexts.{context_at}
-use Rattle.lay_line.specs.Readings.{held_at, line_extent_at, load_at, met_at, slot_at}
+use Rattle.lay_line.specs.Items.{bare_of}
+use Rattle.lay_line.specs.Limits.{PlacesFit}
+use Rattle.lay_line.specs.LinesFit.{FirstFits}
+use Rattle.lay_line.specs.Readings.{held_at, line_extent_at, load_at, met_at, slot_at, pieces_at}
 use Rattle.lay_line.specs.steps.Loading.{reaching_boxes}
+use Rattle.lay_line.proofs.Chains.{start_but_mem, next_but_mem, but_mem}
+use Rattle.lay_line.proofs.Filling.{behind_boxes}
 use Rattle.lay_line.proofs.LineBegins.{first-load-is}
+use Rattle.lay_line.proofs.OnLines.{zero_small}
 use Rattle.lay_line.proofs.openings.first_load.Goals as goal
+
+pub returns-clause-goes : goal.returns-clause-goes
+returns-clause-goes g c =
+    let g1 = Goes-then _ _ _ c.strut-strut.ensures.goes c.extent_at_start-extent.ensures.goes in
+    let g2 = Goes-then _ _ _ g1 c.copy_boxes-opened.ensures.goes in
+    let g3 = Goes-then _ _ _ g2 c.nothing-empty.ensures.goes in
+    let g4 = Goes-then _ _ _ g3 c.floats_of-floats.ensures.goes in
+    Goes-then _ _ _ g4 c.with_stretch.ensures.goes
 
 pub returns-clause-value : goal.returns-clause-value
 unfolding context_at
@@ -21,3 +38,32 @@ returns-clause-value g c = λ e o.
     c.ahead.ensures.value c.split_at.ensures.back (c.as_slice.ensures.value ∙ c.floats_of-floats.ensures.value e o1) (c.nothing-empty.ensures.value e o2)
     (c.extent_at_start-extent.ensures.value e o4 ∙ ap (λ x. reaching_boxes ctx x c.args.opening.opened.now) (c.strut-strut.ensures.value e o5))
     (c.copy_boxes-opened.ensures.value e o3) (c.with_stretch.ensures.value e o)
+
+pub returns-clause-cause : goal.returns-clause-cause
+unfolding context_at
+returns-clause-cause g c =
+    let at = g.S.Steady.at in
+    let ctx = (λ (e : Reading). context_at at c.args.container.now e) in
+    let slot = (λ (e : Reading). slot_at at c.args.slot.now e) in
+    let met = (λ (e : Reading). met_at at c.args.opening.met e) in
+    let first = c.args.opening.first.now in
+    let strut = c.strut-strut.ensures in
+    let extent = c.extent_at_start-extent.ensures in
+    let opened = c.copy_boxes-opened.ensures in
+    let empty = c.nothing-empty.ensures in
+    let floats = c.floats_of-floats.ensures in
+    let asks = (λ (e : Reading). FirstFits (ctx e) (slot e) (met e) (pieces_at at first e)) in
+    let one = start_but_mem {asks = asks} strut.goes (but_mem strut.cause) (λ f e o. (f e o).0) in
+    let two = next_but_mem one extent.goes (but_mem extent.cause) (λ f e o. (f e o).1.0) in
+    let three = next_but_mem two opened.goes opened.cause (λ f. tt) in
+    let four = next_but_mem three empty.goes (but_mem empty.cause) (λ f e o. (zero_small, tt)) in
+    let five = next_but_mem four floats.goes floats.cause (λ f. tt) in
+    (next_but_mem five c.with_stretch.ensures.goes c.with_stretch.ensures.cause (λ f e o.
+    let fits = (f e o).1 in (
+      (
+        subst (λ l. PlacesFit (ctx e) (met e).floats (slot e).least (slot e).top l) (sym (c.as_slice.ensures.value ∙ (floats.value e o ∙ ap (λ l. float_boxes (bare_of l)) c.split_at.ensures.back)))
+            (behind_boxes (ctx e) (met e).floats (slot e).least (slot e).top at e first c.ahead.result fits.1.0),
+        fits.1.1,
+      ),
+      fits.0,
+    ))).cause

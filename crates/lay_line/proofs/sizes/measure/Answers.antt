@@ -1,14 +1,30 @@
 use Rattle.std.proofs.Common.{arith}
 use Rattle.std.proofs.lemmas.Grind.{common_steps}
-use Rattle.viz_calc.proofs.Runs.{Goes-then}
+use Rattle.std.specs.Prelude.{⊤}
+use Rattle.viz_calc.proofs.Runs.{Goes-then, BlamesButMem-then}
+use Rattle.lay_line.specs.Contexts.{context_at}
+use Rattle.lay_line.specs.Fits.{WidthFits}
 use Rattle.lay_line.specs.Items.{item_of}
 use Rattle.lay_line.specs.steps.Content.{IsShort}
-use Rattle.lay_line.proofs.Found.{all-later}
+use Rattle.lay_line.proofs.Found.{all-next, all-later}
 use Rattle.lay_line.proofs.sizes.measure.Goals as goal
 
 pub loop-item-preserved : goal.loop-item-preserved
-loop-item-preserved g c = record {
-  goes = Goes-then _ _ _ (Goes-then _ _ _ c.loop-item.invariant.goes c.item_width-width.ensures.goes) c.add_piece.ensures.goes;
-  value = λ e o. grind (arith, common_steps);
-  short = all-later IsShort item_of c.args.items.now c.loop-item.item-index c.loop-item.invariant.short;
-}
+loop-item-preserved g c =
+    let at = g.S.Steady.at in
+    let run = g.S.Steady.run in
+    let all = c.args.items.now in
+    let k = c.loop-item.item-index in
+    let width = c.item_width-width.ensures in
+    let goes = Goes-then _ _ _ c.loop-item.invariant.goes width.goes in
+    let first = BlamesButMem-then (run c.args.calc.now) (run c.loop-item.calc) (run c.item_width-width.new.calc) _ _ c.loop-item.invariant.goes width.goes c.loop-item.invariant.cause
+    (λ f e o. all-next (WidthFits (context_at at c.args.container.now e)) item_of all k _ c.loop-item-test.true
+    (c.loop-item.invariant.fits e (f e (c.loop-item.invariant.goes.closes e o))))
+    (record { coeff = width.cause.coeff; opens = width.cause.opens }) in
+    record {
+      goes = Goes-then _ _ _ goes c.add_piece.ensures.goes;
+      value = λ e o. grind (arith, common_steps);
+      short = all-later IsShort item_of all k c.loop-item.invariant.short;
+      fits = λ e f. all-later (WidthFits (context_at at c.args.container.now e)) item_of all k (c.loop-item.invariant.fits e f);
+      cause = BlamesButMem-then (run c.args.calc.now) (run c.item_width-width.new.calc) (run c.add_piece.new.calc) ⊤ _ goes c.add_piece.ensures.goes first (λ f. tt) c.add_piece.ensures.cause;
+    }

@@ -1,9 +1,10 @@
 use Rattle.std.proofs.Common.{◌≡◌, ◌++◌, drop, IsTrue}
 use Rattle.viz_calc.specs.World.{Reading}
-use Rattle.viz_calc.specs.Run.{Goes}
+use Rattle.viz_calc.specs.Run.{Goes, BlamesButMem}
 use Rattle.lay_line.specs.Contexts.{context_at}
 use Rattle.std.specs.List.{AllByRecursion}
 use Rattle.lay_line.specs.Items.{items_of}
+use Rattle.lay_line.specs.Fits.{WidthFits}
 use Rattle.lay_line.specs.Readings.{pieces_at}
 use Rattle.lay_line.specs.steps.Content.{IsShort}
 use Rattle.lay_line.specs.steps.Measured.{measured}
@@ -20,4 +21,8 @@ invariant-loop-item g l =
           → pieces_at at l.pieces.items e ++ measured (width_in (context_at at l.container e)) (items_of (drop l.item-index l.items))
           ≡ measured (width_in (context_at at l.container e)) (items_of l.items);
       short : AllByRecursion IsShort (items_of (drop l.item-index l.items));
+      fits : (e : Reading) → AllByRecursion (WidthFits (context_at at l.container e)) (items_of l.items)
+          → AllByRecursion (WidthFits (context_at at l.container e)) (items_of (drop l.item-index l.items));
+      cause : BlamesButMem (run l.initial.calc) (run l.calc) ((e : Reading) → IsTrue ((run l.initial.calc).is_open e)
+          → AllByRecursion (WidthFits (context_at at l.container e)) (items_of l.items));
     }

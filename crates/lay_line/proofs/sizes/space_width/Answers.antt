@@ -1,4 +1,9 @@
-use Rattle.std.proofs.Common.{◌≡◌, [], ◌∷◌, length, refl, ap, ◌∙◌, arith}
+use Rattle.std.proofs.Common.{◌≡◌, [], ◌∷◌, length, refl, ap, sym, subst, ◌∙◌, arith}
+use Rattle.viz_calc.specs.State.{AllSmall}
+use Rattle.viz_calc.specs.World.{Reading}
+use Rattle.layout_semantics.specs.Blocks.{node_of}
+use Rattle.lay_length.specs.Ways.{part_way}
+use Rattle.lay_line.proofs.Chains.{start}
 use Rattle.std.specs.Str.{chars}
 use Rattle.layout_semantics.specs.Fonts.{text_width}
 use Rattle.lay_line.proofs.sizes.space_width.Goals as goal
@@ -10,3 +15,11 @@ text_width-requires g c = let one : length (chars (32 ∷ [])) ≡ 1 = refl in o
 pub returns-clause-value : goal.returns-clause-value
 unfolding chars
 returns-clause-value g c = λ e o. c.text_width.ensures.value e o ∙ ap (λ n. text_width c.args.tree.now e.world n (32 ∷ [])) c.node_at.ensures
+
+pub returns-clause-cause : goal.returns-clause-cause
+unfolding chars
+returns-clause-cause g c =
+    let tree = c.args.tree.now in
+    let asks = (λ (e : Reading). AllSmall (part_way tree e.world (node_of tree c.args.at) (text_width tree e.world (node_of tree c.args.at) (32 ∷ [])))) in
+    (start {asks = asks} c.text_width.ensures.goes c.text_width.ensures.cause
+    (λ f e o. subst (λ n. AllSmall (part_way tree e.world n (text_width tree e.world n (32 ∷ [])))) (sym c.node_at.ensures) (f e o))).cause
