@@ -13,7 +13,7 @@ use Rattle.layout_semantics.specs.Blocks.{parent_of}
 use Rattle.layout_semantics.proofs.Forest.{IsKid}
 use Rattle.layout_semantics.proofs.Pages.{root-alone}
 use Rattle.layout_laws.proofs.Reaching.{ratio_least, reach_around}
-use Rattle.lay_block.proofs.Extents.{IsLowPage, IsBoxOf}
+use Rattle.lay_block.proofs.BlockExtents.{IsLowPage, IsBoxOf}
 use Rattle.lay_block.proofs.LevelTerms.{IsLevel}
 
 module _ (tree : BoxTree) where

@@ -12,7 +12,8 @@ use Rattle.viz_base.specs.declared.worlds.World.{World}
 use Rattle.viz_base.specs.declared.trees.Kind.TheVariants as of_kind
 use Rattle.layout_semantics.specs.Blocks.{kind_of}
 use Rattle.layout_semantics.specs.Lengths.{own_style, nothing, no_sides}
-use Rattle.lay_block.proofs.Extents.{IsLowPage, IsBoxOf, IsLowLength, ext, by-groups, style-low, lengths-low}
+use Rattle.lay_reach.proofs.Extents.{IsLowLength, ext, by-groups, style-low, lengths-low}
+use Rattle.lay_block.proofs.BlockExtents.{IsLowPage, IsBoxOf, as-element}
 
 abbrev pub margins_in : Option Style → Sides Length
 margins_in o = option_map_or (λ (s : Style). s.margin) o no_sides
@@ -38,9 +39,9 @@ min_height_in o = option_map_or (λ (s : Style). s.min_height) o nothing
 module _ (tree : BoxTree) (page : IsLowPage tree) (w : World) (small : w.s ≤ 256) where
   -- a length of which percentages and extent are within these
   pub record IsTerm (g o : ℕ) (l : Length) : Type 0 where
-    pub low : IsLowLength tree page w small l
+    pub low : IsLowLength tree page.low w small l
     pub part : percentage l ≤ g
-    pub extent : ext tree page w small l ≤ o
+    pub extent : ext tree page.low w small l ≤ o
 
   pub record AreTerms (g o : ℕ) (s : Sides Length) : Type 0 where
     pub top : IsTerm g o s.top
@@ -57,14 +58,14 @@ module _ (tree : BoxTree) (page : IsLowPage tree) (w : World) (small : w.s ≤ 2
     pub min_width : IsTerm g o (min_width_in style)
     pub height : IsTerm g o (height_in style)
     pub min_height : IsTerm g o (min_height_in style)
-    pub max_width : (l : Length) → option_map_or (λ (s : Style). s.max_width) style None ≡ Some l → IsLowLength tree page w small l
-    pub max_height : (l : Length) → option_map_or (λ (s : Style). s.max_height) style None ≡ Some l → IsLowLength tree page w small l
+    pub max_width : (l : Length) → option_map_or (λ (s : Style). s.max_width) style None ≡ Some l → IsLowLength tree page.low w small l
+    pub max_height : (l : Length) → option_map_or (λ (s : Style). s.max_height) style None ≡ Some l → IsLowLength tree page.low w small l
     pub border_left : percentage (borders_in style).left ≡ 0
     pub border_right : percentage (borders_in style).right ≡ 0
     -- beside a content that is as wide as is left
     pub beside : whole + (percentage (margins_in style).left + percentage (margins_in style).right + percentage (paddings_in style).left + percentage (paddings_in style).right) ≤ g
-    pub extents : ext tree page w small (margins_in style).left + ext tree page w small (margins_in style).right + ext tree page w small (paddings_in style).left + ext tree page w small (paddings_in style).right
-        + ext tree page w small (borders_in style).left + ext tree page w small (borders_in style).right ≤ o
+    pub extents : ext tree page.low w small (margins_in style).left + ext tree page.low w small (margins_in style).right + ext tree page.low w small (paddings_in style).left + ext tree page.low w small (paddings_in style).right
+        + ext tree page.low w small (borders_in style).left + ext tree page.low w small (borders_in style).right ≤ o
 
   own_style-is : (k : ℕ) (x : BoxNode) (s : Style) → IsBoxOf tree k x s → own_style tree k ≡ Some s
   own_style-is k x s b =
@@ -73,9 +74,9 @@ module _ (tree : BoxTree) (page : IsLowPage tree) (w : World) (small : w.s ≤ 2
 
   style-terms : (k : ℕ) (x : BoxNode) (s : Style) → IsBoxOf tree k x s → HasTerms (growth s) (own_extent tree.styles tree.parents tree.fonts x) (Some s)
   style-terms k x s b =
-      let lows = style-low tree page w small k x s b in
-      let all = lengths-low tree page w small k x s b in
-      let groups = by-groups tree page w small (ext tree page w small) s in
+      let lows = style-low tree page.low w small k x s (as-element tree k x s b) in
+      let all = lengths-low tree page.low w small k x s (as-element tree k x s b) in
+      let groups = by-groups tree page.low w small (ext tree page.low w small) s in
       let bare = page.borders k x s b.place b.style in
       record {
         margin = record {

@@ -22,8 +22,8 @@ use Rattle.layout_laws.proofs.PageParts.{slice_some}
 use Rattle.lay_width.specs.Fitting.{BlockFits, OwnHeightFits}
 use Rattle.lay_block.specs.Fitting.{VerticalsFit, HeldFits, band_way}
 use Rattle.lay_block.specs.steps.Words.{widths_of}
-use Rattle.lay_block.proofs.Numbers.{held-from, held-to, size-+}
-use Rattle.lay_block.proofs.Extents.{IsLowPage, IsBoxOf, box-of}
+use Rattle.lay_reach.proofs.Numbers.{held-from, held-to, size-+}
+use Rattle.lay_block.proofs.BlockExtents.{IsLowPage, IsBoxOf, box-of}
 use Rattle.lay_block.proofs.BoxTerms.{HasTerms, box-terms}
 use Rattle.lay_block.proofs.LevelTerms.{IsLevel, IsNear, AreLow, HasLowWidths, widths-low, near-low}
 use Rattle.lay_block.proofs.LevelHeights.{IsNearIf, AreLowSides, sides-low, sides-fit, known-near, known-low, least-low, own-fits, held-fits}
@@ -118,7 +118,7 @@ module _ (tree : BoxTree) (page : IsLowPage tree) (w : World) (small : w.s ≤ 2
   pub inside-it : (k c : ℕ) (cb : Band ℤ) (h : Option ℤ) → IsIn k cb h → IsKid tree.boxes k c → IsIn c (content_from cb.left (widths_of tree w k (across cb))) (own_height_around tree w h k)
   inside-it k c cb h i kid =
       let node = slice_some tree.boxes c kid.within in
-      let style = box-of tree page w small c node.0 node.1 in
+      let style = box-of tree page c node.0 node.1 in
       let content = (low_widths k cb h i).content in
       let wide = ap unsigned_abs (across-content cb.left (widths_of tree w k (across cb))) in
       let after = kid.after in

@@ -13,9 +13,10 @@ use Rattle.layout_semantics.specs.DefiniteHeights.{own_height, least_height, hei
 use Rattle.layout_semantics.specs.Verticals.{Verticals, verticals}
 use Rattle.lay_width.specs.Fitting.{UsedFits, HeightFits, MostHeightFits, OwnHeightFits}
 use Rattle.lay_block.specs.Fitting.{VerticalsFit, HeldFits}
-use Rattle.lay_block.proofs.Extents.{IsLowPage, IsLowLength}
+use Rattle.lay_reach.proofs.Extents.{IsLowLength}
+use Rattle.lay_block.proofs.BlockExtents.{IsLowPage}
 use Rattle.lay_block.proofs.BoxTerms.{IsTerm, HasTerms}
-use Rattle.lay_block.proofs.Numbers.{held-from, held-to, size-max, size-between}
+use Rattle.lay_reach.proofs.Numbers.{held-from, held-to, size-max, size-between}
 use Rattle.lay_block.proofs.LevelTerms.{IsLevel, IsNear, term-cost, term-low, term-fits, length-fits, near-next}
 
 -- a definite height around a box, if there is one
@@ -72,7 +73,7 @@ module _ (tree : BoxTree) (page : IsLowPage tree) (w : World) (small : w.s ≤ 2
   near_none : IsNear m around_it (pos 0)
   near_none = omega arith
 
-  height-fits : (around : Option ℤ) (l : Length) → IsNearIf m around_it around → IsLowLength tree page w small l → HeightFits tree w around l
+  height-fits : (around : Option ℤ) (l : Length) → IsNearIf m around_it around → IsLowLength tree page.low w small l → HeightFits tree w around l
   height-fits None of_length.Auto n i = tt
   height-fits (Some z) of_length.Auto n i = tt
   height-fits None (of_length.Px c) n i = length-fits tree page w small k m around_it g o reach level t (of_length.Px c) (pos 0) i near_none

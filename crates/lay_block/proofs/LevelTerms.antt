@@ -14,9 +14,10 @@ use Rattle.viz_calc.specs.State.{AllSmall}
 use Rattle.layout_semantics.specs.Lengths.{used, own_style, margins}
 use Rattle.layout_semantics.specs.Horizontal.{terms_around, sum_of, left_margin, flow_widths, is_auto}
 use Rattle.layout_laws.specs.Terms.{own_maximum, own_minimum}
-use Rattle.lay_block.proofs.Extents.{IsLowPage, IsLowLength, used-size, way-small}
+use Rattle.lay_reach.proofs.Extents.{IsLowLength, used-size, way-small}
+use Rattle.lay_block.proofs.BlockExtents.{IsLowPage}
 use Rattle.lay_block.proofs.BoxTerms.{margins_in, paddings_in, borders_in, IsTerm, HasTerms}
-use Rattle.lay_block.proofs.Numbers.{one-level, size-+, size--, size-max, size-floor, size-between}
+use Rattle.lay_reach.proofs.Numbers.{one-level, size-+, size--, size-max, size-floor, size-between}
 use Rattle.lay_width.specs.steps.Terms.{around, room_between, fixed_around, below, again, filled_block, given_block}
 use Rattle.lay_width.specs.Fitting.{UsedFits, MostFits, EdgesFit, sum_way, FixedFits, HoldFits, BlockFits, BlockFitsBy, FillingFits, GivenBlockFits, FixedBlockFits}
 use Rattle.lay_width.proofs.HeldTerms.{own_width_of, block-auto, block-length}
@@ -148,7 +149,7 @@ module _ (tree : BoxTree) (page : IsLowPage tree) (w : World) (small : w.s ≤ 2
   -- what percentages and lengths make of an extent
   pub term-cost : (l : Length) (cb : ℤ) → IsTerm tree page w small g o l → unsigned_abs (used tree w l cb) * 100000000 ≤ g * unsigned_abs cb + 100000000 * o + 100000000
   term-cost l cb i =
-      let size = used-size tree page w small l cb in
+      let size = used-size tree page.low w small l cb in
       let part = mul-le-mul_right (unsigned_abs cb) i.part in
       let extent = i.extent in
       omega (arith, size, part, extent)
@@ -163,7 +164,7 @@ module _ (tree : BoxTree) (page : IsLowPage tree) (w : World) (small : w.s ≤ 2
       omega (arith, cost, wide, goes, far)
 
   pub term-fits : (l : Length) (cb : ℤ) → IsTerm tree page w small g o l → IsNear m around_it cb → UsedFits tree w l cb
-  term-fits l cb i n = let low = term-low l cb i n in way-small tree page w small l cb i.low (omega (arith, low))
+  term-fits l cb i n = let low = term-low l cb i n in way-small tree page.low w small l cb i.low (omega (arith, low))
 
   pub near-low : (cb : ℤ) → IsNear m around_it cb → unsigned_abs cb ≤ 2 ^ 41
   near-low cb n =
@@ -172,13 +173,13 @@ module _ (tree : BoxTree) (page : IsLowPage tree) (w : World) (small : w.s ≤ 2
       let far = level.far in
       omega (arith, twice, up, far)
 
-  pub length-fits : (l : Length) (cb : ℤ) → IsLowLength tree page w small l → IsNear m around_it cb → UsedFits tree w l cb
+  pub length-fits : (l : Length) (cb : ℤ) → IsLowLength tree page.low w small l → IsNear m around_it cb → UsedFits tree w l cb
   length-fits l cb i n =
-      let size = used-size tree page w small l cb in
+      let size = used-size tree page.low w small l cb in
       let low = near-low cb n in
       let product = mul-le-mul i.percentage low in
       let extent = i.extent in
-      way-small tree page w small l cb i (omega (arith, size, product, extent))
+      way-small tree page.low w small l cb i (omega (arith, size, product, extent))
 
   -- ---- widths
 
@@ -214,12 +215,12 @@ module _ (tree : BoxTree) (page : IsLowPage tree) (w : World) (small : w.s ≤ 2
   unfolding edges
   room-cost cb =
       let e = edges cb in
-      let ml = used-size tree page w small (margins_in (own_style tree k)).left cb in
-      let bl = used-size tree page w small (borders_in (own_style tree k)).left cb in
-      let pl = used-size tree page w small (paddings_in (own_style tree k)).left cb in
-      let pr = used-size tree page w small (paddings_in (own_style tree k)).right cb in
-      let br = used-size tree page w small (borders_in (own_style tree k)).right cb in
-      let mr = used-size tree page w small (margins_in (own_style tree k)).right cb in
+      let ml = used-size tree page.low w small (margins_in (own_style tree k)).left cb in
+      let bl = used-size tree page.low w small (borders_in (own_style tree k)).left cb in
+      let pl = used-size tree page.low w small (paddings_in (own_style tree k)).left cb in
+      let pr = used-size tree page.low w small (paddings_in (own_style tree k)).right cb in
+      let br = used-size tree page.low w small (borders_in (own_style tree k)).right cb in
+      let mr = used-size tree page.low w small (margins_in (own_style tree k)).right cb in
       let room = room-plain cb e.margin_left e.border_left e.padding_left e.padding_right e.border_right e.margin_right in
       let beside = mul-le-mul_right (unsigned_abs cb) t.beside in
       let no_left = mul-le-mul_right (unsigned_abs cb) (le_from t.border_left) in

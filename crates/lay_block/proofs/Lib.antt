@@ -7,9 +7,7 @@ pub mod BlockTrees
 pub mod BlockLeads
 pub mod BlockFlow
 pub mod BlockPageLaws
-pub mod Numbers
-pub mod Fonts
-pub mod Extents
+pub mod BlockExtents
 pub mod BoxTerms
 pub mod LevelTerms
 pub mod LevelHeights

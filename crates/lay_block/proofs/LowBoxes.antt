@@ -8,7 +8,7 @@ use Rattle.viz_calc.specs.State.{AllSmall}
 use Rattle.layout_semantics.specs.Rectangles.{Frame, placed_box, inset, outset, border_width, border_height}
 use Rattle.layout_semantics.specs.Verticals.{Verticals}
 use Rattle.lay_block.specs.Fitting.{PlaceFits, AroundFits, quad_way, border_of, width_way, tall_way}
-use Rattle.lay_block.proofs.Numbers.{size-+, size--}
+use Rattle.lay_reach.proofs.Numbers.{size-+, size--}
 use Rattle.lay_block.proofs.LevelTerms.{AreLow}
 use Rattle.lay_block.proofs.LevelHeights.{AreLowSides}
 

@@ -26,8 +26,8 @@ use Rattle.lay_block.specs.Fitting.{height_way, top_way, AfterFits, ShapeFits, C
 use Rattle.lay_block.specs.steps.Words.{widths_of, may_collapse, known_height, held_height}
 use Rattle.lay_block.specs.steps.Blocks.{Step, led, block_height, joined_run, reached, own_run, frame_of, container_in, inner_standing, closed_box, closed_standing, block_step, children, content}
 use Rattle.lay_block.specs.FlowFitting.{ReachFits, ContentFits, BlockFitsAt, BlocksFit, frame_in, inner_in, opened_in, end_in}
-use Rattle.lay_block.proofs.Numbers.{size-+, size--}
-use Rattle.lay_block.proofs.Extents.{IsLowPage}
+use Rattle.lay_reach.proofs.Numbers.{size-+, size--}
+use Rattle.lay_block.proofs.BlockExtents.{IsLowPage}
 use Rattle.lay_block.proofs.LevelTerms.{AreLow}
 use Rattle.lay_block.proofs.LevelHeights.{AreLowSides}
 use Rattle.lay_block.proofs.Inside.{IsIn, few-levels, fits-across, widths-at, sides-at, sides-fit-at, room-at, band-at, inside-it, any-height, own-fits-at, held-fits-at, least_at, least-at, known-at, held-from-at}

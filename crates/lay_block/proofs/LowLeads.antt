@@ -15,8 +15,8 @@ use Rattle.lay_margin.specs.Runs.{with_margin}
 use Rattle.lay_block.specs.steps.Words.{may_collapse}
 use Rattle.lay_block.specs.steps.Blocks.{Led, led_on, led_from, kids_led, led_to, band_in, margin_below}
 use Rattle.lay_block.specs.FlowFitting.{LeadFits, LeadsFit}
-use Rattle.lay_block.proofs.Numbers.{size-max, size-min}
-use Rattle.lay_block.proofs.Extents.{IsLowPage}
+use Rattle.lay_reach.proofs.Numbers.{size-max, size-min}
+use Rattle.lay_block.proofs.BlockExtents.{IsLowPage}
 use Rattle.lay_block.proofs.Inside.{IsIn, few-levels, fits-across, sides-at, sides-fit-at, room-at, band-at, inside-it, any-height}
 
 -- margins of at most 2^42 units

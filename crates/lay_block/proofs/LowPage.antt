@@ -31,14 +31,14 @@ use Rattle.lay_block.specs.declared.frames.Standing.TheVariants.{AtTop, Below}
 use Rattle.lay_block.specs.BlockPages.{is_block_page, is_no_percentage, has_plain_border, ready}
 use Rattle.lay_block.specs.Fitting.{edge_way, band_way, ContextFits}
 use Rattle.lay_block.specs.FlowFitting.{ContextContentFits, AloneFits, RootFits}
-use Rattle.lay_block.specs.Limits.{IsSmallPage}
+use Rattle.lay_reach.specs.Limits.{IsSmallPage}
 use Rattle.lay_block.specs.steps.Words.{widths_of, known_height, held_height}
 use Rattle.lay_block.specs.steps.Blocks.{Step, next_edge, context_height, container_in, fresh, content, alone_frame, alone_box, alone}
-use Rattle.lay_block.proofs.Numbers.{size-+, size--}
+use Rattle.lay_reach.proofs.Numbers.{size-+, size--}
 use Rattle.lay_block.proofs.BlockTrees.{kind-is}
 use Rattle.lay_block.proofs.ContentSteps.{content-is}
 use Rattle.lay_block.proofs.Counts.{few-placed}
-use Rattle.lay_block.proofs.Extents.{IsLowPage, box-of}
+use Rattle.lay_block.proofs.BlockExtents.{IsLowPage, box-of}
 use Rattle.lay_block.proofs.Around.{all_extents, around-root}
 use Rattle.lay_block.proofs.Inside.{IsIn, fits-across, widths-at, sides-at, sides-fit-at, band-at, inside-it, own-fits-at, held-fits-at, known-at}
 use Rattle.lay_block.proofs.LowBoxes.{IsLowBox, place-low}
@@ -67,8 +67,14 @@ low-page tree is small =
     let parts = both (is_block_page tree) (list_all has_plain_border tree.styles) is in
     record {
       few_boxes = small.few_boxes;
-      total = total_bounded tree.styles tree.parents tree.fonts tree.boxes small.reach;
-      blocks = λ k x e. sym (ap (λ (o : Option BoxNode). option_map_or (λ (b : BoxNode). b.kind) o of_kind.Block) e) ∙ kind-is tree parts.0 k;
+      low = record {
+        total = total_bounded tree.styles tree.parents tree.fonts tree.boxes small.reach;
+        elements = record {
+          texts = λ k x e is. absurd (let block = block-at parts.0 k x e in cc);
+          anonymous = λ k x e is. absurd (let block = block-at parts.0 k x e in cc);
+        };
+      };
+      blocks = block-at parts.0;
       reach = λ k x e.
           reach_bounded tree.styles tree.parents tree.fonts tree.boxes k _ small.reach
           (slice_get-map (λ (p : ℕ × BoxNode). reach_to tree.styles tree.parents tree.fonts (length tree.boxes) tree.boxes (all_extents tree) p.0) (enumerate_from 0 tree.boxes) k
@@ -76,6 +82,9 @@ low-page tree is small =
       borders = λ k x s e f. no-percentages (sides_of s.border) (passes has_plain_border tree.styles x.node s parts.1 f);
     }
   where
+    block-at : IsTrue (is_block_page tree) → (k : ℕ) (x : BoxNode) → slice_get tree.boxes k ≡ Some x → x.kind ≡ of_kind.Block
+    block-at t k x e = sym (ap (λ (o : Option BoxNode). option_map_or (λ (b : BoxNode). b.kind) o of_kind.Block) e) ∙ kind-is tree t k
+
     zero-more : (k : ℕ) → 0 + k ≡ k
     zero-more k = omega arith
 
@@ -125,7 +134,7 @@ module _ (tree : BoxTree) (page : IsLowPage tree) (w : World) (small : w.s ≤ 2
   root-in : (height : ℕ) → w.w ≤ 16384 → height ≤ 16384 → 0 < length tree.boxes → IsIn tree page w small 0 root_band (Some (pos (64 * height)))
   root-in height narrow low some =
       let node = slice_some tree.boxes 0 some in
-      let style = box-of tree page w small 0 node.0 node.1 in
+      let style = box-of tree page 0 node.0 node.1 in
       let wide = ap unsigned_abs (whole-band w.w) in
       record {
         level = 0;

@@ -2,4 +2,3 @@ pub mod steps
 pub mod BlockPages
 pub mod Fitting
 pub mod FlowFitting
-pub mod Limits

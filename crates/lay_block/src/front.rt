@@ -4,7 +4,7 @@ ghost use Rattle.viz_calc.specs.State.{Grows, AreOpen, CauseButMem};
 ghost use Rattle.viz_calc.specs.Renderings.{rendering_at};
 ghost use Rattle.layout_semantics.specs.Page.{page_rendering};
 ghost use Rattle.lay_block.specs.BlockPages.{ready};
-ghost use Rattle.lay_block.specs.Limits.{IsSmallPage, IsWithinLimits};
+ghost use Rattle.lay_reach.specs.Limits.{IsSmallPage, IsWithinLimits};
 
 use crate::page;
 use std::alloc::Global;

@@ -7,7 +7,7 @@ ghost use Rattle.layout_semantics.specs.Page.{page_rendering};
 ghost use Rattle.lay_width.specs.Readings.{option_at};
 ghost use Rattle.lay_block.specs.BlockPages.{ready};
 ghost use Rattle.lay_block.specs.FlowFitting.{AloneShapeFits, AloneFits, RootFits};
-ghost use Rattle.lay_block.specs.Limits.{IsWithinLimits};
+ghost use Rattle.lay_reach.specs.Limits.{IsWithinLimits};
 ghost use Rattle.lay_block.specs.steps.Readings.{frame_at, boxes_at, context_at};
 ghost use Rattle.lay_block.specs.steps.Blocks.{alone_frame, alone as alone_of, fresh as fresh_at, page_boxes};
 

@@ -1,7 +1,13 @@
 pub mod Maxima
+pub mod Sizes
+pub mod PartLoops
+pub mod Caps
+pub mod Causes
 pub mod ChildColumns
 pub mod OuterWidths
 pub mod Founds
 pub mod Tables
 pub mod Inline
 pub mod Levels
+pub mod SmallBoxes
+pub mod SmallPages

@@ -1,5 +1,5 @@
 -- What a table holds of the boxes that it was made of.
-use Rattle.std.proofs.Common.{◌≡◌, ◌⊎◌, inl, inr, ◌<◌, ℕ, zero, suc, ℤ, pos, List, [], ◌∷◌, map, fold, length, Option, Some, None, slice_index_or, refl, sym, ap, ◌∙◌, subst, arith}
+use Rattle.std.proofs.Common.{◌≡◌, inl, inr, ◌<◌, ℕ, zero, suc, ℤ, pos, List, [], ◌∷◌, map, fold, length, Option, Some, None, slice_index_or, refl, sym, ap, subst, arith}
 use Rattle.std.specs.Prelude.{replicate, slice_set, unwrap_or}
 use Rattle.std.proofs.lemmas.List.{length-replicate}
 use Rattle.viz_base.specs.declared.layouts.Preferred.{Preferred}
@@ -49,4 +49,6 @@ module _ (outer : ℕ → Preferred ℤ) (part : Preferred ℤ → ℤ) (at : �
   is-set t (k ∷ ks) l (inr i) = let long = set-long t k (Some (part (outer k))) in is-set (slice_set t k (Some (part (outer k)))) ks (omega (arith, long)) i
 
   pub measured-is : (n : ℕ) (ks : List ℕ) → at < n → Among ks at → measured_width (table_of n (entries ks)) at ≡ part (outer at)
-  measured-is n ks l i = ap (λ o. unwrap_or o (pos 0)) (is-set (replicate n empty) ks (subst (λ m. at < m) (sym (length-replicate n empty)) l) i)
+  measured-is n [] l i = elim i [ ]
+  measured-is n (k ∷ ks) l i =
+      ap (λ o. unwrap_or o (pos 0)) (is-set (replicate n empty) (k ∷ ks) (subst (λ m. at < m) (sym (length-replicate n empty)) l) i)

@@ -1,7 +1,7 @@
 //! The preferred widths of a block container of blocks, child by child (CSS 2.1, 10.3.5).
-ghost use Rattle.std.specs.Prelude.{◌≡◌, ℤ, IsTrue};
+ghost use Rattle.std.specs.Prelude.{◌≡◌, ℤ, IsTrue, [], ◌∷◌, ⊤};
 ghost use Rattle.viz_calc.specs.World.{Reading};
-ghost use Rattle.viz_calc.specs.Run.{Stands, Goes};
+ghost use Rattle.viz_calc.specs.Run.{Stands, Goes, Fits, Blames};
 ghost use Rattle.lay_width.specs.Readings.{preferred_at, option_at};
 ghost use Rattle.lay_preferred.specs.Readings.{column_at};
 ghost use Rattle.lay_preferred.specs.steps.Columns.{no_children as none_of, beside as beside_of, with_in_flow as in_flow_of, with_float as float_of, with_child as child_of, whole as whole_of};
@@ -39,6 +39,8 @@ fn beside<S: Steady>(calc: &mut S, floats: Option<S::Num>, width: S::Num) -> S::
     ensures goes { Goes (S.run calc.old) (S.run calc.new) }
     ensures value { Stands (S.run calc.new) (S.at result)
         (λ e. beside_of (option_at S.at floats e) (S.at width e)) }
+    ensures cause { Blames (S.run calc.old) (S.run calc.new)
+        (Fits (S.run calc.old) (λ e. beside_of (option_at S.at floats e) (S.at width e) ∷ [])) }
 {
     match floats {
         Some(floats) => {
@@ -60,6 +62,7 @@ fn with_in_flow<S: Steady>(
     ensures goes { Goes (S.run calc.old) (S.run calc.new) }
     ensures value { (e : Reading) → IsTrue ((S.run calc.new).is_open e) → column_at S.at result e
         ≡ in_flow_of (column_at S.at column e) (preferred_at S.at child e) }
+    ensures cause { Blames (S.run calc.old) (S.run calc.new) ⊤ }
 {
     let least = larger(calc, column.least, child.least);
     let most = larger(calc, column.most, child.most);
@@ -80,6 +83,8 @@ fn with_float<S: Steady>(
     ensures goes { Goes (S.run calc.old) (S.run calc.new) }
     ensures value { (e : Reading) → IsTrue ((S.run calc.new).is_open e) → column_at S.at result e
         ≡ float_of (column_at S.at column e) (preferred_at S.at child e) }
+    ensures cause { Blames (S.run calc.old) (S.run calc.new)
+        (Fits (S.run calc.old) (λ e. beside_of (option_at S.at column.floats e) (S.at child.most e) ∷ [])) }
 {
     let least = larger(calc, column.least, child.least);
     let floats = beside(calc, column.floats, child.most);
@@ -102,6 +107,8 @@ pub fn with_child<S: Steady>(
     ensures goes { Goes (S.run calc.old) (S.run calc.new) }
     ensures value { (e : Reading) → IsTrue ((S.run calc.new).is_open e) → column_at S.at result e
         ≡ child_of (column_at S.at column e) floats (preferred_at S.at child e) }
+    ensures cause { Blames (S.run calc.old) (S.run calc.new)
+        (Fits (S.run calc.old) (λ e. beside_of (option_at S.at column.floats e) (S.at child.most e) ∷ [])) }
 {
     if floats {
         with_float(calc, column, child)
@@ -115,6 +122,7 @@ pub fn whole<S: Steady>(calc: &mut S, column: Column<S::Num>) -> Preferred<S::Nu
     ensures goes { Goes (S.run calc.old) (S.run calc.new) }
     ensures value { (e : Reading) → IsTrue ((S.run calc.new).is_open e) → preferred_at S.at result e
         ≡ whole_of (column_at S.at column e) }
+    ensures cause { Blames (S.run calc.old) (S.run calc.new) ⊤ }
 {
     let least = or_zero(calc, column.least);
     let most = or_zero(calc, column.most);

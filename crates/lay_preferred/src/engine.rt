@@ -2,10 +2,11 @@
 ghost use Rattle.std.specs.Prelude.{◌≡◌, ◌<◌, IsTrue, length};
 ghost use Rattle.std.specs.List.{AllByRecursion};
 ghost use Rattle.viz_calc.specs.World.{Reading};
-ghost use Rattle.viz_calc.specs.Run.{Goes};
-ghost use Rattle.layout_semantics.specs.Preferred.{preferred as preferred_of};
+ghost use Rattle.viz_calc.specs.Run.{Goes, BlamesButMem};
+ghost use Rattle.layout_semantics.specs.Preferred.{inside_of, inline_content, blocks, preferred as preferred_of};
 ghost use Rattle.lay_width.specs.Readings.{preferred_at};
 ghost use Rattle.lay_line.specs.Items.{item_of, items_of};
+ghost use Rattle.lay_preferred.specs.Fitting.{BoxesFit, ItemFits};
 ghost use Rattle.lay_preferred.specs.Readings.{sizes_at, AreFound};
 ghost use Rattle.lay_line.specs.steps.Content.{IsShort};
 ghost use Rattle.lay_preferred.specs.steps.Outer.{outer as outer_of};
@@ -40,6 +41,8 @@ fn outer<S: Steady>(
     ensures found { AreFound S.at (S.run calc.new) tree.now found.new.widths.items }
     ensures value { (e : Reading) → IsTrue ((S.run calc.new).is_open e) → preferred_at S.at result e
         ≡ outer_of tree.now e.world at }
+    ensures cause { BlamesButMem (S.run calc.old) (S.run calc.new)
+        (BoxesFit tree.now (S.run calc.old).is_open) }
 {
     if is_given(tree, at) {
         return given(calc, tree, at);
@@ -65,6 +68,9 @@ fn item_widths<S: Steady>(
     ensures found { AreFound S.at (S.run calc.new) tree.now found.new.widths.items }
     ensures value { (e : Reading) → IsTrue ((S.run calc.new).is_open e) → preferred_at S.at result e
         ≡ widths_of tree.now e.world (item_of item.now) }
+    ensures cause { BlamesButMem (S.run calc.old) (S.run calc.new)
+        (BoxesFit tree.now (S.run calc.old).is_open
+        × ((e : Reading) → IsTrue ((S.run calc.old).is_open e) → ItemFits tree.now e.world (item_of item.now))) }
 {
     match item {
         Item::Atomic(at) | Item::Float(at) => outer(alloc, calc, tree, *at, found),
@@ -92,6 +98,10 @@ fn measure<'a, S: Steady>(
     ensures found { AreFound S.at (S.run calc.new) tree.now found.new.widths.items }
     ensures value { (e : Reading) → IsTrue ((S.run calc.new).is_open e) → sizes_at S.at result.items e
         ≡ sized (widths_of tree.now e.world) (items_of items.now) }
+    ensures cause { BlamesButMem (S.run calc.old) (S.run calc.new)
+        (BoxesFit tree.now (S.run calc.old).is_open
+        × ((e : Reading) → IsTrue ((S.run calc.old).is_open e)
+        → AllByRecursion (ItemFits tree.now e.world) (items_of items.now))) }
 {
     let mut pieces = Vec::new(alloc);
     for item in items {
@@ -116,6 +126,8 @@ fn of_inline<S: Steady>(
     ensures found { AreFound S.at (S.run calc.new) tree.now found.new.widths.items }
     ensures value { (e : Reading) → IsTrue ((S.run calc.new).is_open e) → preferred_at S.at result e
         ≡ inline_in tree.now e.world b }
+    ensures cause { BlamesButMem (S.run calc.old) (S.run calc.new)
+        (BoxesFit tree.now (S.run calc.old).is_open × (inside_of tree.now b ≡ inline_content)) }
 {
     match content(alloc, tree, b) {
         Ok(items) => {
@@ -145,6 +157,8 @@ fn of_blocks<S: Steady>(
     ensures found { AreFound S.at (S.run calc.new) tree.now found.new.widths.items }
     ensures value { (e : Reading) → IsTrue ((S.run calc.new).is_open e) → preferred_at S.at result e
         ≡ blocks_in tree.now e.world b }
+    ensures cause { BlamesButMem (S.run calc.old) (S.run calc.new)
+        (BoxesFit tree.now (S.run calc.old).is_open × (inside_of tree.now b ≡ blocks)) }
 {
     let mut column = no_children();
     for kid in kids_at(tree, b) {
@@ -169,6 +183,8 @@ fn computed<S: Steady>(
     ensures found { AreFound S.at (S.run calc.new) tree.now found.new.widths.items }
     ensures value { (e : Reading) → IsTrue ((S.run calc.new).is_open e) → preferred_at S.at result e
         ≡ preferred_of tree.now e.world b }
+    ensures cause { BlamesButMem (S.run calc.old) (S.run calc.new)
+        (BoxesFit tree.now (S.run calc.old).is_open) }
 {
     match sort_of(tree, b) {
         Sort::Replaced => replaced(calc, tree, b),
@@ -192,6 +208,8 @@ pub fn preferred<S: Steady>(
     ensures found { AreFound S.at (S.run calc.new) tree.now found.new.widths.items }
     ensures value { (e : Reading) → IsTrue ((S.run calc.new).is_open e) → preferred_at S.at result e
         ≡ preferred_of tree.now e.world b }
+    ensures cause { BlamesButMem (S.run calc.old) (S.run calc.new)
+        (BoxesFit tree.now (S.run calc.old).is_open) }
 {
     match found_of(found, b) {
         Some(widths) => copy_of(calc, widths),

@@ -1,7 +1,7 @@
 //! The greatest of numbers, one after another.
-ghost use Rattle.std.specs.Prelude.{◌≡◌, pos, [], ◌∷◌, ⊤};
+ghost use Rattle.std.specs.Prelude.{◌≡◌, ⊤};
 ghost use Rattle.viz_calc.specs.World.{Reading};
-ghost use Rattle.viz_calc.specs.Run.{Stands, Goes, Fits, Blames};
+ghost use Rattle.viz_calc.specs.Run.{Stands, Goes, Blames};
 ghost use Rattle.lay_width.specs.Readings.{option_at};
 ghost use Rattle.lay_preferred.specs.steps.Extremes.{larger as larger_of, or_zero as of_or_zero};
 
@@ -25,7 +25,7 @@ pub fn larger<S: Steady>(calc: &mut S, best: Option<S::Num>, width: S::Num) -> S
 pub fn or_zero<S: Steady>(calc: &mut S, best: Option<S::Num>) -> S::Num
     ensures goes { Goes (S.run calc.old) (S.run calc.new) }
     ensures value { Stands (S.run calc.new) (S.at result) (λ e. of_or_zero (option_at S.at best e)) }
-    ensures cause { Blames (S.run calc.old) (S.run calc.new) (Fits (S.run calc.old) (λ e. pos 0 ∷ [])) }
+    ensures cause { Blames (S.run calc.old) (S.run calc.new) ⊤ }
 {
     match best {
         Some(best) => best,

@@ -1,7 +1,7 @@
 //! The preferred widths that were found of boxes.
-ghost use Rattle.std.specs.Prelude.{◌≡◌, ℕ, IsTrue, IfOk, IfSome, Some, None, replicate, slice_get, slice_set};
+ghost use Rattle.std.specs.Prelude.{◌≡◌, ℕ, IsTrue, IfOk, IfSome, Some, None, [], ◌∷◌, ⊤, replicate, slice_get, slice_set};
 ghost use Rattle.viz_calc.specs.World.{Reading};
-ghost use Rattle.viz_calc.specs.Run.{Goes};
+ghost use Rattle.viz_calc.specs.Run.{Goes, Fits, Blames, BlamesButMem};
 ghost use Rattle.lay_width.specs.Readings.{preferred_at};
 ghost use Rattle.lay_preferred.specs.Readings.{AreFound};
 
@@ -22,6 +22,8 @@ pub fn copy_of<S: Steady>(calc: &mut S, widths: &Preferred<S::Num>) -> Preferred
     ensures goes { Goes (S.run calc.old) (S.run calc.new) }
     ensures value { (e : Reading) → IsTrue ((S.run calc.new).is_open e) → preferred_at S.at result e
         ≡ preferred_at S.at widths.now e }
+    ensures cause { Blames (S.run calc.old) (S.run calc.new)
+        (Fits (S.run calc.old) (λ e. S.at widths.now.least e ∷ S.at widths.now.most e ∷ [])) }
 {
     let least = calc.copy(&widths.least);
     let most = calc.copy(&widths.most);
@@ -43,6 +45,7 @@ fn places<N: Drop>(alloc: Global, count: usize) -> Result<Vec<Option<Preferred<N
 pub fn nothing_found<S: Steady>(alloc: Global, calc: &mut S, tree: &BoxTree) -> Found<S::Num>
     ensures goes { Goes (S.run calc.old) (S.run calc.new) }
     ensures found { AreFound S.at (S.run calc.new) tree.now result.widths.items }
+    ensures cause { BlamesButMem (S.run calc.old) (S.run calc.new) ⊤ }
 {
     match places(alloc, tree.boxes.len()) {
         Ok(widths) => Found { widths },

@@ -1,7 +1,7 @@
 //! The preferred widths of inline content, from its items (CSS 2.1, 9.4.2, 10.3.5).
-ghost use Rattle.std.specs.Prelude.{◌≡◌, ◌++◌, ◌∷◌, [], IsTrue, None};
+ghost use Rattle.std.specs.Prelude.{◌≡◌, ◌++◌, ◌∷◌, [], IsTrue, None, ⊤};
 ghost use Rattle.viz_calc.specs.World.{Reading};
-ghost use Rattle.viz_calc.specs.Run.{Stands, Goes};
+ghost use Rattle.viz_calc.specs.Run.{Stands, Goes, Fits, Blames, BlamesButMem};
 ghost use Rattle.layout_semantics.specs.Blocks.{node_of};
 ghost use Rattle.layout_semantics.specs.Fonts.{text_width as text_width_of};
 ghost use Rattle.layout_semantics.specs.InlineContent.{holds_inline as holds_lines};
@@ -10,6 +10,7 @@ ghost use Rattle.layout_semantics.specs.Stretches.{may_part, never};
 ghost use Rattle.lay_width.specs.Readings.{preferred_at};
 ghost use Rattle.lay_line.specs.Items.{item_of, items_of};
 ghost use Rattle.lay_line.specs.steps.Marks.{marks as marks_of};
+ghost use Rattle.lay_preferred.specs.Fitting.{leasts, mosts, IsHalf, TextFits, ItemFits};
 ghost use Rattle.lay_preferred.specs.Readings.{size_at, sizes_at, parts_at};
 ghost use Rattle.lay_preferred.specs.Sorts.{inside_by};
 ghost use Rattle.lay_line.specs.steps.Content.{IsShort};
@@ -37,6 +38,8 @@ pub fn both<S: Steady>(calc: &mut S, width: S::Num) -> Preferred<S::Num>
     ensures goes { Goes (S.run calc.old) (S.run calc.new) }
     ensures value { (e : Reading) → IsTrue ((S.run calc.new).is_open e) → preferred_at S.at result e
         ≡ both_of (S.at width e) }
+    ensures cause { Blames (S.run calc.old) (S.run calc.new)
+        (Fits (S.run calc.old) (λ e. S.at width e ∷ [])) }
 {
     let most = calc.copy(&width);
     Preferred { least: width, most }
@@ -87,6 +90,7 @@ pub fn add_piece<'a, S: Steady>(
     ensures goes { Goes (S.run calc.old) (S.run calc.new) }
     ensures value { (e : Reading) → IsTrue ((S.run calc.new).is_open e) → sizes_at S.at pieces.new.items e
         ≡ sizes_at S.at pieces.old.items e ++ size_at S.at piece.entry e ∷ [] }
+    ensures cause { BlamesButMem (S.run calc.old) (S.run calc.new) ⊤ }
 {
     if pieces.push(piece).is_err() {
         calc.stop();
@@ -98,6 +102,8 @@ fn least_of<S: Steady>(calc: &mut S, pieces: &[Piece<Preferred<S::Num>>], marks:
     ensures goes { Goes (S.run calc.old) (S.run calc.new) }
     ensures value { Stands (S.run calc.new) (S.at result) (λ e. of_or_zero (float_of (widest least_width None
         (parts_at S.at pieces.now marks.now e)) (sizes_at S.at pieces.now e))) }
+    ensures cause { Blames (S.run calc.old) (S.run calc.new)
+        ((e : Reading) → IsTrue ((S.run calc.old).is_open e) → IsHalf (leasts (sizes_at S.at pieces.now e))) }
 {
     let widest = widest_stretch(calc, Stretches { pieces, marks });
     let widest = widest_float(calc, widest, pieces);
@@ -109,6 +115,8 @@ fn most_of<S: Steady>(calc: &mut S, pieces: &[Piece<Preferred<S::Num>>], marks: 
     ensures goes { Goes (S.run calc.old) (S.run calc.new) }
     ensures value { Stands (S.run calc.new) (S.at result) (λ e. of_or_zero (widest most_width None
         (parts_at S.at pieces.now marks.now e))) }
+    ensures cause { Blames (S.run calc.old) (S.run calc.new)
+        ((e : Reading) → IsTrue ((S.run calc.old).is_open e) → IsHalf (mosts (sizes_at S.at pieces.now e))) }
 {
     let widest = widest_piece(calc, Stretches { pieces, marks });
     or_zero(calc, widest)
@@ -126,6 +134,8 @@ fn least_inline<S: Steady>(
     ensures value { Stands (S.run calc.new) (S.at result) (λ e. of_or_zero (float_of (widest least_width None
         (parts_at S.at pieces.now (marks_of (may_part tree.now) None None (items_of items.now)) e))
         (sizes_at S.at pieces.now e))) }
+    ensures cause { BlamesButMem (S.run calc.old) (S.run calc.new)
+        ((e : Reading) → IsTrue ((S.run calc.old).is_open e) → IsHalf (leasts (sizes_at S.at pieces.now e))) }
 {
     match marks(alloc, tree, Parting::Lines, items) {
         Ok(marks) => least_of(calc, pieces, marks.as_slice()),
@@ -147,6 +157,8 @@ fn most_inline<S: Steady>(
     ensures goes { Goes (S.run calc.old) (S.run calc.new) }
     ensures value { Stands (S.run calc.new) (S.at result) (λ e. of_or_zero (widest most_width None
         (parts_at S.at pieces.now (marks_of never None None (items_of items.now)) e))) }
+    ensures cause { BlamesButMem (S.run calc.old) (S.run calc.new)
+        ((e : Reading) → IsTrue ((S.run calc.old).is_open e) → IsHalf (mosts (sizes_at S.at pieces.now e))) }
 {
     match marks(alloc, tree, Parting::Never, items) {
         Ok(marks) => most_of(calc, pieces, marks.as_slice()),
@@ -168,6 +180,9 @@ pub fn inline_widths<S: Steady>(
     ensures goes { Goes (S.run calc.old) (S.run calc.new) }
     ensures value { (e : Reading) → IsTrue ((S.run calc.new).is_open e) → preferred_at S.at result e
         ≡ inline_of tree.now (items_of items.now) (sizes_at S.at pieces.now e) }
+    ensures cause { BlamesButMem (S.run calc.old) (S.run calc.new)
+        ((e : Reading) → IsTrue ((S.run calc.old).is_open e) → IsHalf (leasts (sizes_at S.at pieces.now e))
+        × IsHalf (mosts (sizes_at S.at pieces.now e))) }
 {
     let least = least_inline(alloc, calc, tree, items, pieces);
     let most = most_inline(alloc, calc, tree, items, pieces);
@@ -179,6 +194,8 @@ fn space_width<S: Steady>(calc: &mut S, tree: &BoxTree, at: u32) -> S::Num
     ensures goes { Goes (S.run calc.old) (S.run calc.new) }
     ensures value { Stands (S.run calc.new) (S.at result)
         (λ e. text_width_of tree.now e.world (node_of tree.now at) (32 ∷ [])) }
+    ensures cause { Blames (S.run calc.old) (S.run calc.new)
+        ((e : Reading) → IsTrue ((S.run calc.old).is_open e) → TextFits tree.now e.world at (32 ∷ [])) }
 {
     text_width(calc, tree, node_at(tree, at), " ")
 }
@@ -189,6 +206,8 @@ pub fn item_width<S: Steady>(calc: &mut S, tree: &BoxTree, item: &Item) -> S::Nu
     requires { IsShort (item_of item.now) }
     ensures goes { Goes (S.run calc.old) (S.run calc.new) }
     ensures value { Stands (S.run calc.new) (S.at result) (λ e. width_of tree.now e.world (item_of item.now)) }
+    ensures cause { Blames (S.run calc.old) (S.run calc.new)
+        ((e : Reading) → IsTrue ((S.run calc.old).is_open e) → ItemFits tree.now e.world (item_of item.now)) }
 {
     match item {
         Item::Word(at, text) => text_width(calc, tree, node_at(tree, *at), text),

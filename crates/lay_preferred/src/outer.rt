@@ -1,15 +1,18 @@
 //! What a box takes in the preferred widths of its container (CSS 2.1, 10.3.5): our own reading of percentages there.
-ghost use Rattle.std.specs.Prelude.{◌≡◌, ℤ, ◌+ℤ◌, IsTrue, None, pos};
+ghost use Rattle.std.specs.Prelude.{◌≡◌, ℤ, ◌+ℤ◌, IsTrue, None, pos, [], ◌∷◌};
 ghost use Rattle.viz_base.specs.declared.lengths.Length.TheVariants as of_length;
 ghost use Rattle.viz_base.specs.declared.styles.Style.{Style as StyleOf};
 ghost use Rattle.viz_calc.specs.World.{Reading};
-ghost use Rattle.viz_calc.specs.Run.{Stands, Goes};
+ghost use Rattle.viz_calc.specs.State.{AllSmall};
+ghost use Rattle.viz_calc.specs.Run.{Stands, Goes, Blames};
 ghost use Rattle.layout_semantics.specs.Lengths.{own, maximum};
 ghost use Rattle.layout_semantics.specs.Lengths.{used_if_absolute as if_absolute};
 ghost use Rattle.layout_semantics.specs.Replaced.{intrinsic as intrinsic_of};
+ghost use Rattle.lay_width.specs.Fitting.{UsedFits, MostFits, HoldFits};
 ghost use Rattle.lay_width.specs.Readings.{option_at, preferred_at};
 ghost use Rattle.lay_width.specs.steps.Terms.{tentative as tentative_of};
-ghost use Rattle.lay_preferred.specs.steps.Outer.{edge, start_of, end_of, edges_of, held_of, with_edges as edged, is_given as given_width, given as given_of, around as around_of, replaced as replaced_of};
+ghost use Rattle.lay_preferred.specs.Fitting.{SideFits, StartFits, EndFits, EdgesFit, AroundFits, GivenFits, ByHeightFits, ReplacedFits};
+ghost use Rattle.lay_preferred.specs.steps.Outer.{own_width as width_of, edge, start_of, end_of, edges_of, held_of, with_edges as edged, is_given as given_width, given as given_of, around as around_of, replaced as replaced_of};
 
 use lay_length::lengths::{pixels, zero};
 use lay_width::holding::used_if_absolute;
@@ -26,6 +29,8 @@ use viz_calc::Steady;
 fn absolute_part<S: Steady>(calc: &mut S, tree: &BoxTree, length: &Length) -> S::Num
     ensures goes { Goes (S.run calc.old) (S.run calc.new) }
     ensures value { Stands (S.run calc.new) (S.at result) (λ e. edge tree.now e.world length.now) }
+    ensures cause { Blames (S.run calc.old) (S.run calc.new)
+        ((e : Reading) → IsTrue ((S.run calc.old).is_open e) → UsedFits tree.now e.world length.now (pos 0)) }
 {
     match used_if_absolute(calc, tree, length) {
         Some(length) => length,
@@ -38,6 +43,9 @@ fn before<S: Steady>(calc: &mut S, tree: &BoxTree, length: &Length, rest: &S::Nu
     ensures goes { Goes (S.run calc.old) (S.run calc.new) }
     ensures value { Stands (S.run calc.new) (S.at result)
         (λ e. edge tree.now e.world length.now +ℤ S.at rest.now e) }
+    ensures cause { Blames (S.run calc.old) (S.run calc.new)
+        ((e : Reading) → IsTrue ((S.run calc.old).is_open e) → UsedFits tree.now e.world length.now (pos 0)
+        × AllSmall ((edge tree.now e.world length.now +ℤ S.at rest.now e) ∷ [])) }
 {
     let first = absolute_part(calc, tree, length);
     calc.add(&first, rest)
@@ -55,6 +63,10 @@ fn side_before<S: Steady>(
     ensures goes { Goes (S.run calc.old) (S.run calc.new) }
     ensures value { Stands (S.run calc.new) (S.at result) (λ e. edge tree.now e.world margin.now
         +ℤ (edge tree.now e.world border.now +ℤ (edge tree.now e.world padding.now +ℤ S.at rest.now e))) }
+    ensures cause { Blames (S.run calc.old) (S.run calc.new)
+        ((e : Reading) → IsTrue ((S.run calc.old).is_open e)
+        → SideFits tree.now e.world margin.now border.now padding.now
+        (S.at rest.now e)) }
 {
     let rest = before(calc, tree, padding, rest);
     let rest = before(calc, tree, border, &rest);
@@ -66,6 +78,8 @@ fn side_before<S: Steady>(
 pub fn start_width<S: Steady>(calc: &mut S, tree: &BoxTree, at: u32) -> S::Num
     ensures goes { Goes (S.run calc.old) (S.run calc.new) }
     ensures value { Stands (S.run calc.new) (S.at result) (λ e. start_of tree.now e.world at) }
+    ensures cause { Blames (S.run calc.old) (S.run calc.new)
+        ((e : Reading) → IsTrue ((S.run calc.old).is_open e) → StartFits tree.now e.world at (pos 0)) }
 {
     let margin = margins(tree, at);
     let border = borders(tree, at);
@@ -79,6 +93,8 @@ pub fn start_width<S: Steady>(calc: &mut S, tree: &BoxTree, at: u32) -> S::Num
 pub fn end_width<S: Steady>(calc: &mut S, tree: &BoxTree, at: u32) -> S::Num
     ensures goes { Goes (S.run calc.old) (S.run calc.new) }
     ensures value { Stands (S.run calc.new) (S.at result) (λ e. end_of tree.now e.world at) }
+    ensures cause { Blames (S.run calc.old) (S.run calc.new)
+        ((e : Reading) → IsTrue ((S.run calc.old).is_open e) → EndFits tree.now e.world at) }
 {
     let margin = margins(tree, at);
     let border = borders(tree, at);
@@ -99,6 +115,8 @@ pub fn end_width<S: Steady>(calc: &mut S, tree: &BoxTree, at: u32) -> S::Num
 fn edges<S: Steady>(calc: &mut S, tree: &BoxTree, at: u32) -> S::Num
     ensures goes { Goes (S.run calc.old) (S.run calc.new) }
     ensures value { Stands (S.run calc.new) (S.at result) (λ e. edges_of tree.now e.world at) }
+    ensures cause { Blames (S.run calc.old) (S.run calc.new)
+        ((e : Reading) → IsTrue ((S.run calc.old).is_open e) → EdgesFit tree.now e.world at) }
 {
     let margin = margins(tree, at);
     let border = borders(tree, at);
@@ -119,6 +137,9 @@ fn most_width<S: Steady>(calc: &mut S, tree: &BoxTree, at: u32) -> Option<S::Num
     ensures goes { Goes (S.run calc.old) (S.run calc.new) }
     ensures value { (e : Reading) → IsTrue ((S.run calc.new).is_open e) → option_at S.at result e
         ≡ maximum (if_absolute tree.now e.world) (own tree.now at (λ (s : StyleOf). s.max_width) None) }
+    ensures cause { Blames (S.run calc.old) (S.run calc.new)
+        ((e : Reading) → IsTrue ((S.run calc.old).is_open e) → MostFits tree.now e.world
+        (own tree.now at (λ (s : StyleOf). s.max_width) None) (pos 0)) }
 {
     match own_most(tree, at) {
         Some(most) => used_if_absolute(calc, tree, &most),
@@ -131,6 +152,8 @@ fn most_width<S: Steady>(calc: &mut S, tree: &BoxTree, at: u32) -> Option<S::Num
 fn held<S: Steady>(calc: &mut S, tree: &BoxTree, at: u32, width: S::Num) -> S::Num
     ensures goes { Goes (S.run calc.old) (S.run calc.new) }
     ensures value { Stands (S.run calc.new) (S.at result) (λ e. held_of tree.now e.world at (S.at width e)) }
+    ensures cause { Blames (S.run calc.old) (S.run calc.new)
+        ((e : Reading) → IsTrue ((S.run calc.old).is_open e) → HoldFits tree.now e.world at (pos 0)) }
 {
     let most = most_width(calc, tree, at);
     let least = absolute_part(calc, tree, &own_least(tree, at));
@@ -142,6 +165,8 @@ fn held<S: Steady>(calc: &mut S, tree: &BoxTree, at: u32, width: S::Num) -> S::N
 fn with_edges<S: Steady>(calc: &mut S, tree: &BoxTree, at: u32, width: S::Num) -> S::Num
     ensures goes { Goes (S.run calc.old) (S.run calc.new) }
     ensures value { Stands (S.run calc.new) (S.at result) (λ e. edged tree.now e.world at (S.at width e)) }
+    ensures cause { Blames (S.run calc.old) (S.run calc.new)
+        ((e : Reading) → IsTrue ((S.run calc.old).is_open e) → AroundFits tree.now e.world at (S.at width e)) }
 {
     let held = held(calc, tree, at, width);
     let edges = edges(calc, tree, at);
@@ -163,6 +188,8 @@ pub fn given<S: Steady>(calc: &mut S, tree: &BoxTree, at: u32) -> Preferred<S::N
     ensures goes { Goes (S.run calc.old) (S.run calc.new) }
     ensures value { (e : Reading) → IsTrue ((S.run calc.new).is_open e) → preferred_at S.at result e
         ≡ given_of tree.now e.world at }
+    ensures cause { Blames (S.run calc.old) (S.run calc.new)
+        ((e : Reading) → IsTrue ((S.run calc.old).is_open e) → GivenFits tree.now e.world at) }
 {
     let width = absolute_part(calc, tree, &own_width(tree, at));
     let least = with_edges(calc, tree, at, width);
@@ -181,6 +208,9 @@ pub fn around<S: Steady>(
     ensures goes { Goes (S.run calc.old) (S.run calc.new) }
     ensures value { (e : Reading) → IsTrue ((S.run calc.new).is_open e) → preferred_at S.at result e
         ≡ around_of tree.now e.world at (preferred_at S.at inside e) }
+    ensures cause { Blames (S.run calc.old) (S.run calc.new)
+        ((e : Reading) → IsTrue ((S.run calc.old).is_open e) → AroundFits tree.now e.world at (S.at inside.least e)
+        × AroundFits tree.now e.world at (S.at inside.most e)) }
 {
     let least = with_edges(calc, tree, at, inside.least);
     let most = with_edges(calc, tree, at, inside.most);
@@ -192,6 +222,8 @@ fn by_height<S: Steady>(calc: &mut S, tree: &BoxTree, at: u32) -> S::Num
     ensures goes { Goes (S.run calc.old) (S.run calc.new) }
     ensures value { Stands (S.run calc.new) (S.at result) (λ e. tentative_of (intrinsic_of tree.now at) None
         (if_absolute tree.now e.world (own tree.now at (λ (s : StyleOf). s.height) of_length.Auto))) }
+    ensures cause { Blames (S.run calc.old) (S.run calc.new)
+        ((e : Reading) → IsTrue ((S.run calc.old).is_open e) → ByHeightFits tree.now e.world at) }
 {
     let size = intrinsic(tree, at);
     match used_if_absolute(calc, tree, &own_height(tree, at)) {
@@ -206,6 +238,9 @@ fn tentative<S: Steady>(calc: &mut S, tree: &BoxTree, at: u32) -> S::Num
     ensures value { Stands (S.run calc.new) (S.at result) (λ e. tentative_of (intrinsic_of tree.now at)
         (if_absolute tree.now e.world (own tree.now at (λ (s : StyleOf). s.width) of_length.Auto))
         (if_absolute tree.now e.world (own tree.now at (λ (s : StyleOf). s.height) of_length.Auto))) }
+    ensures cause { Blames (S.run calc.old) (S.run calc.new)
+        ((e : Reading) → IsTrue ((S.run calc.old).is_open e) → UsedFits tree.now e.world (width_of tree.now at) (pos 0)
+        × ByHeightFits tree.now e.world at) }
 {
     match used_if_absolute(calc, tree, &own_width(tree, at)) {
         Some(width) => width,
@@ -219,6 +254,8 @@ pub fn replaced<S: Steady>(calc: &mut S, tree: &BoxTree, at: u32) -> Preferred<S
     ensures goes { Goes (S.run calc.old) (S.run calc.new) }
     ensures value { (e : Reading) → IsTrue ((S.run calc.new).is_open e) → preferred_at S.at result e
         ≡ replaced_of tree.now e.world at }
+    ensures cause { Blames (S.run calc.old) (S.run calc.new)
+        ((e : Reading) → IsTrue ((S.run calc.old).is_open e) → ReplacedFits tree.now e.world at) }
 {
     let width = tentative(calc, tree, at);
     let least = held(calc, tree, at, width);

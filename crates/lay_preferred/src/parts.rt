@@ -1,10 +1,11 @@
 //! The preferred widths of inline content, part by part (CSS 2.1, 9.4.2, 10.3.5).
-ghost use Rattle.std.specs.Prelude.{◌≡◌, IsTrue, None};
+ghost use Rattle.std.specs.Prelude.{◌≡◌, ◌+◌, unsigned_abs, IsTrue, None, [], ◌∷◌};
 ghost use Rattle.viz_calc.specs.World.{Reading};
-ghost use Rattle.viz_calc.specs.Run.{Stands, Goes};
+ghost use Rattle.viz_calc.specs.Run.{Stands, Goes, Fits, Blames};
 ghost use Rattle.lay_width.specs.Readings.{option_at};
 ghost use Rattle.lay_line.specs.Items.{item_of};
 ghost use Rattle.lay_line.specs.Readings.{held_at};
+ghost use Rattle.lay_preferred.specs.Fitting.{after_way, reach, leasts, mosts, IsHalf};
 ghost use Rattle.lay_preferred.specs.Readings.{size_at, sizes_at, parts_at};
 ghost use Rattle.lay_preferred.specs.steps.Parts.{held_after, held_least, held_most, least_width as least_of, most_width as most_of, sum_after, floats_from, widest, past_float as float_past, widest_float as float_of};
 
@@ -25,6 +26,9 @@ fn least_after<S: Steady>(
     ensures goes { Goes (S.run calc.old) (S.run calc.new) }
     ensures value { (e : Reading) → IsTrue ((S.run calc.new).is_open e) → held_at S.at result e
         ≡ held_after (size_at S.at piece.now e).widths.least (held_at S.at held e) (item_of piece.now.item) }
+    ensures cause { Blames (S.run calc.old) (S.run calc.new)
+        (Fits (S.run calc.old) (λ e.
+        after_way (S.at piece.now.width.least e) (held_at S.at held e) (item_of piece.now.item))) }
 {
     match piece.item {
         Item::Float(_) => held,
@@ -41,6 +45,9 @@ fn most_after<S: Steady>(
     ensures goes { Goes (S.run calc.old) (S.run calc.new) }
     ensures value { (e : Reading) → IsTrue ((S.run calc.new).is_open e) → held_at S.at result e
         ≡ held_after (size_at S.at piece.now e).widths.most (held_at S.at held e) (item_of piece.now.item) }
+    ensures cause { Blames (S.run calc.old) (S.run calc.new)
+        (Fits (S.run calc.old) (λ e.
+        after_way (S.at piece.now.width.most e) (held_at S.at held e) (item_of piece.now.item))) }
 {
     match piece.item {
         Item::Float(_) => held,
@@ -57,6 +64,9 @@ fn least_held<S: Steady>(
     ensures goes { Goes (S.run calc.old) (S.run calc.new) }
     ensures value { (e : Reading) → IsTrue ((S.run calc.new).is_open e) → held_at S.at result e
         ≡ held_least (held_at S.at start e) (sizes_at S.at part.now e) }
+    ensures cause { Blames (S.run calc.old) (S.run calc.new)
+        ((e : Reading) → IsTrue ((S.run calc.old).is_open e)
+        → IsHalf (reach (held_at S.at start e) + leasts (sizes_at S.at part.now e))) }
 {
     let mut held = start;
     for piece in part {
@@ -74,6 +84,9 @@ fn most_held<S: Steady>(
     ensures goes { Goes (S.run calc.old) (S.run calc.new) }
     ensures value { (e : Reading) → IsTrue ((S.run calc.new).is_open e) → held_at S.at result e
         ≡ held_most (held_at S.at start e) (sizes_at S.at part.now e) }
+    ensures cause { Blames (S.run calc.old) (S.run calc.new)
+        ((e : Reading) → IsTrue ((S.run calc.old).is_open e)
+        → IsHalf (reach (held_at S.at start e) + mosts (sizes_at S.at part.now e))) }
 {
     let mut held = start;
     for piece in part {
@@ -87,6 +100,8 @@ fn most_held<S: Steady>(
 fn least_width<S: Steady>(calc: &mut S, part: &[Piece<Preferred<S::Num>>]) -> S::Num
     ensures goes { Goes (S.run calc.old) (S.run calc.new) }
     ensures value { Stands (S.run calc.new) (S.at result) (λ e. least_of (sizes_at S.at part.now e)) }
+    ensures cause { Blames (S.run calc.old) (S.run calc.new)
+        ((e : Reading) → IsTrue ((S.run calc.old).is_open e) → IsHalf (leasts (sizes_at S.at part.now e))) }
 {
     let start = nothing(calc);
     let held = least_held(calc, start, part);
@@ -98,6 +113,9 @@ fn with_float<S: Steady>(calc: &mut S, sum: S::Num, piece: &Piece<Preferred<S::N
     ensures goes { Goes (S.run calc.old) (S.run calc.new) }
     ensures value { Stands (S.run calc.new) (S.at result)
         (λ e. sum_after (S.at sum e) (size_at S.at piece.now e) (item_of piece.now.item)) }
+    ensures cause { Blames (S.run calc.old) (S.run calc.new)
+        (Fits (S.run calc.old) (λ e.
+        sum_after (S.at sum e) (size_at S.at piece.now e) (item_of piece.now.item) ∷ [])) }
 {
     match piece.item {
         Item::Float(_) => calc.add(&sum, &piece.width.most),
@@ -110,6 +128,9 @@ fn floats_width<S: Steady>(calc: &mut S, start: S::Num, part: &[Piece<Preferred<
     ensures goes { Goes (S.run calc.old) (S.run calc.new) }
     ensures value { Stands (S.run calc.new) (S.at result)
         (λ e. floats_from (S.at start e) (sizes_at S.at part.now e)) }
+    ensures cause { Blames (S.run calc.old) (S.run calc.new)
+        ((e : Reading) → IsTrue ((S.run calc.old).is_open e)
+        → IsHalf (unsigned_abs (S.at start e) + mosts (sizes_at S.at part.now e))) }
 {
     let mut sum = start;
     for piece in part {
@@ -123,6 +144,8 @@ fn floats_width<S: Steady>(calc: &mut S, start: S::Num, part: &[Piece<Preferred<
 fn most_width<S: Steady>(calc: &mut S, part: &[Piece<Preferred<S::Num>>]) -> S::Num
     ensures goes { Goes (S.run calc.old) (S.run calc.new) }
     ensures value { Stands (S.run calc.new) (S.at result) (λ e. most_of (sizes_at S.at part.now e)) }
+    ensures cause { Blames (S.run calc.old) (S.run calc.new)
+        ((e : Reading) → IsTrue ((S.run calc.old).is_open e) → IsHalf (mosts (sizes_at S.at part.now e))) }
 {
     let start = nothing(calc);
     let held = most_held(calc, start, part);
@@ -140,6 +163,8 @@ fn past_float<S: Steady>(
     ensures goes { Goes (S.run calc.old) (S.run calc.new) }
     ensures value { (e : Reading) → IsTrue ((S.run calc.new).is_open e) → option_at S.at result e
         ≡ float_past (option_at S.at best e) (size_at S.at piece.now e).widths.least (item_of piece.now.item) }
+    ensures cause { Blames (S.run calc.old) (S.run calc.new)
+        (Fits (S.run calc.old) (λ e. S.at piece.now.width.least e ∷ [])) }
 {
     match piece.item {
         Item::Float(_) => {
@@ -159,6 +184,8 @@ pub fn widest_float<S: Steady>(
     ensures goes { Goes (S.run calc.old) (S.run calc.new) }
     ensures value { (e : Reading) → IsTrue ((S.run calc.new).is_open e) → option_at S.at result e
         ≡ float_of (option_at S.at start e) (sizes_at S.at pieces.now e) }
+    ensures cause { Blames (S.run calc.old) (S.run calc.new)
+        ((e : Reading) → IsTrue ((S.run calc.old).is_open e) → IsHalf (leasts (sizes_at S.at pieces.now e))) }
 {
     let mut best = start;
     for piece in pieces {
@@ -175,6 +202,9 @@ pub fn widest_stretch<S: Steady>(
     ensures goes { Goes (S.run calc.old) (S.run calc.new) }
     ensures value { (e : Reading) → IsTrue ((S.run calc.new).is_open e) → option_at S.at result e
         ≡ widest least_of None (parts_at S.at stretches.entry.pieces.now stretches.entry.marks.now e) }
+    ensures cause { Blames (S.run calc.old) (S.run calc.new)
+        ((e : Reading) → IsTrue ((S.run calc.old).is_open e)
+        → IsHalf (leasts (sizes_at S.at stretches.entry.pieces.now e))) }
 {
     let mut rest = stretches;
     let mut best = None;
@@ -194,6 +224,9 @@ pub fn widest_piece<S: Steady>(
     ensures goes { Goes (S.run calc.old) (S.run calc.new) }
     ensures value { (e : Reading) → IsTrue ((S.run calc.new).is_open e) → option_at S.at result e
         ≡ widest most_of None (parts_at S.at pieces.entry.pieces.now pieces.entry.marks.now e) }
+    ensures cause { Blames (S.run calc.old) (S.run calc.new)
+        ((e : Reading) → IsTrue ((S.run calc.old).is_open e)
+        → IsHalf (mosts (sizes_at S.at pieces.entry.pieces.now e))) }
 {
     let mut rest = pieces;
     let mut best = None;

@@ -1,5 +1,5 @@
 -- Children of a block container, one after another.
-use Rattle.std.specs.Prelude.{ℕ, ℤ, pos, ◌+ℤ◌, Bool, true, false, cond, List, [], ◌∷◌, Option, Some, None}
+use Rattle.std.specs.Prelude.{ℕ, ℤ, pos, ◌+ℤ◌, Bool, cond, List, [], ◌∷◌, Option, Some, None}
 use Rattle.std.specs.Int.{int_max}
 use Rattle.viz_base.specs.declared.layouts.Preferred.{Preferred}
 use Rattle.lay_preferred.specs.declared.columns.Column.{Column}

@@ -5,7 +5,7 @@ use Rattle.viz_base.specs.declared.trees.BoxTree.{BoxTree}
 use Rattle.viz_base.specs.declared.worlds.World.{World}
 use Rattle.layout_semantics.specs.Blocks.{node_of}
 use Rattle.layout_semantics.specs.Fonts.{text_width}
-use Rattle.layout_semantics.specs.InlineContent.{Item, start, finish, word, space, atomic, forced, float, box_of, content, is_floated_at}
+use Rattle.layout_semantics.specs.InlineContent.{Item, start, finish, word, space, atomic, float, box_of, content, is_floated_at}
 use Rattle.layout_semantics.specs.Order.{kids_of}
 use Rattle.layout_semantics.specs.Stretches.{may_part, never}
 use Rattle.lay_line.specs.steps.Held.{Held, nothing_held, with_item}

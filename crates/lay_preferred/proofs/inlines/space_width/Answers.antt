@@ -1,6 +1,8 @@
-use Rattle.std.proofs.Common.{◌≡◌, [], ◌∷◌, length, refl, ap, ◌∙◌, arith}
+use Rattle.std.proofs.Common.{◌≡◌, ℕ, [], ◌∷◌, length, refl, sym, subst, ap, ◌∙◌, arith}
 use Rattle.std.specs.Str.{chars}
+use Rattle.viz_calc.specs.State.{AllSmall}
 use Rattle.layout_semantics.specs.Fonts.{text_width}
+use Rattle.lay_length.specs.Ways.{part_way}
 use Rattle.lay_preferred.proofs.inlines.space_width.Goals as goal
 
 pub text_width-requires : goal.text_width-requires
@@ -10,3 +12,13 @@ text_width-requires g c = let one : length (chars (32 ∷ [])) ≡ 1 = refl in o
 pub returns-clause-value : goal.returns-clause-value
 unfolding chars
 returns-clause-value g c = λ e o. c.text_width.ensures.value e o ∙ ap (λ n. text_width c.args.tree.now e.world n (32 ∷ [])) c.node_at.ensures
+
+pub returns-clause-cause : goal.returns-clause-cause
+unfolding chars
+returns-clause-cause g c =
+    let why = c.text_width.ensures.cause in
+    record {
+      mem = why.mem;
+      coeff = λ f. why.coeff (λ e o. subst (λ (n : ℕ). AllSmall (part_way c.args.tree.now e.world n (text_width c.args.tree.now e.world n (32 ∷ [])))) (sym c.node_at.ensures) (f e o));
+      opens = why.opens;
+    }

@@ -1,8 +1,9 @@
-use Rattle.std.proofs.Common.{◌≡◌, length, IsTrue}
+use Rattle.std.proofs.Common.{◌≡◌, ◌≤◌, length, IsTrue}
 use Rattle.viz_calc.specs.World.{Reading}
-use Rattle.viz_calc.specs.Run.{Goes}
+use Rattle.viz_calc.specs.Run.{Goes, Blames}
 use Rattle.lay_width.specs.Readings.{option_at}
-use Rattle.lay_preferred.specs.Readings.{parts_at}
+use Rattle.lay_preferred.specs.Fitting.{IsHalf, mosts}
+use Rattle.lay_preferred.specs.Readings.{parts_at, sizes_at}
 use Rattle.lay_preferred.specs.steps.Parts.{widest, most_width}
 use Rattle.lay_preferred.proofs.parts.widest_piece.Given as goal
 
@@ -15,6 +16,8 @@ invariant-loop-cut g l =
       value : (e : Reading) → IsTrue ((run l.calc).is_open e)
           → widest most_width (option_at at l.best e) (parts_at at l.rest.pieces.now l.rest.marks.now e)
           ≡ widest most_width (option_at at l.initial.best e) (parts_at at l.initial.rest.pieces.now l.initial.rest.marks.now e);
+      room : (e : Reading) → mosts (sizes_at at l.rest.pieces.now e) ≤ mosts (sizes_at at l.initial.rest.pieces.now e);
+      cause : Blames (run l.initial.calc) (run l.calc) ((e : Reading) → IsTrue ((run l.initial.calc).is_open e) → IsHalf (mosts (sizes_at at l.initial.rest.pieces.now e)));
     }
 
 abbrev pub decreases-loop-cut : goal.decreases-loop-cut

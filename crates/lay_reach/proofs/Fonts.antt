@@ -8,7 +8,7 @@ use Rattle.viz_base.specs.declared.lengths.Size.TheVariants as of_size
 use Rattle.viz_base.specs.declared.styles.Style.{Style}
 use Rattle.viz_base.specs.FontSizes.{fraction, default_size, computed_size, parent_in, font_size_to, font_size_in, em_in}
 use Rattle.layout_semantics.proofs.Forest.{both}
-use Rattle.lay_block.proofs.Numbers.{div-rises, fraction-grows}
+use Rattle.lay_reach.proofs.Numbers.{div-rises, fraction-grows}
 use lib.IntN.{pos-*ℤ-pos}
 
 -- from 0 to a number
@@ -41,7 +41,7 @@ computed-up s t a b (of_size.Parent num den) l g u =
     fraction-up num den a b parts.0 (grind (arith, nat_tests, parts.1)) u
 
 module _ (styles : List Style) (parents : List (Option ℕ)) (s t : ℕ) (l : s ≤ t) where
-  size-up : (levels node : ℕ) → IsUpTo (font_size_to levels styles parents s node) (font_size_to levels styles parents t node)
+  pub size-up : (levels node : ℕ) → IsUpTo (font_size_to levels styles parents s node) (font_size_to levels styles parents t node)
   unfolding font_size_to
   size-up zero node = up_to (64 * s) (64 * t) (omega arith)
   size-up (suc levels) node = by_style (slice_get styles node) (by_parent (parent_in parents node) (λ p. size-up levels p))

@@ -1,20 +1,23 @@
--- The lengths of a page of blocks that is small are bounded.
-use Rattle.std.proofs.Common.{◌≡◌, ℕ, zero, suc, ◌+◌, ◌*◌, ◌^◌, ◌≤◌, true, ◌==◌, ℤ, unsigned_abs, List, [], ◌∷◌, ◌++◌, length, map, sum, Option, Some, None, IsTrue, slice_get, refl, ap, ◌∙◌, subst, arith, mul-le-mul_left}
-use Rattle.std.specs.Prelude.{if◌then◌else◌}
+-- The lengths and the font sizes of a small page are bounded.
+use Rattle.std.proofs.Common.{◌≡◌, ℕ, zero, suc, ◌+◌, ◌*◌, ◌^◌, ◌≤◌, true, ◌==◌, ℤ, unsigned_abs, List, [], ◌∷◌, ◌++◌, map, sum, Option, Some, None, IsTrue, slice_get, refl, sym, ap, ◌∙◌, subst, arith, mul-le-mul_left}
+use Rattle.std.specs.Prelude.{if◌then◌else◌, ◌&&◌}
 use Rattle.std.specs.List.{list_all, AllByRecursion}
 use Rattle.std.specs.Option.{option_map_or, option_and_then, option_to_list}
 use Rattle.std.proofs.lemmas.Bool.Decides.{nat_tests}
 use Rattle.std.proofs.lemmas.List.Sums.{sum_by-cons}
 use Rattle.std.proofs.lemmas.List.Folds.{list_all-append}
-use Rattle.viz_base.specs.Trees.{has_box, length_nodes, sides_nodes, maximum_nodes}
+use Rattle.viz_base.specs.Trees.{has_box, is_chars, is_line, is_same_size, length_nodes, sides_nodes, maximum_nodes}
 use Rattle.viz_base.specs.Styles.{is_bounded, sides_of}
-use Rattle.viz_base.specs.Reaches.{is_of_element, ratio, percentage, extent, lengths_of, raise_extent, font_extent, intrinsic_extent, style_extent, own_extent, text_extent, total_extent, reach_to}
-use Rattle.viz_base.specs.FontSizes.{font_size_in}
+use Rattle.viz_base.specs.Reaches.{is_of_element, ratio, percentage, extent, lengths_of, raise_extent, font_extent, intrinsic_extent, style_extent, own_extent, text_extent, total_extent}
+use Rattle.viz_base.specs.FontSizes.{default_size, computed_size, font_size_in}
 use Rattle.viz_base.specs.declared.lengths.Length.{Length}
 use Rattle.viz_base.specs.declared.lengths.Length.TheVariants as of_length
+use Rattle.viz_base.specs.declared.lengths.Size.{Size}
+use Rattle.viz_base.specs.declared.lengths.Size.TheVariants as of_size
 use Rattle.viz_base.specs.declared.styles.Style.{Style}
 use Rattle.viz_base.specs.declared.trees.BoxNode.{BoxNode}
 use Rattle.viz_base.specs.declared.trees.BoxTree.{BoxTree}
+use Rattle.viz_base.specs.declared.trees.Kind.{Kind}
 use Rattle.viz_base.specs.declared.trees.Kind.TheVariants as of_kind
 use Rattle.viz_base.specs.declared.worlds.World.{World}
 use Rattle.viz_calc.specs.State.{AllSmall}
@@ -23,25 +26,27 @@ use Rattle.layout_semantics.proofs.Forest.{both}
 use Rattle.layout_laws.proofs.Members.{In, any_in, any_from}
 use Rattle.layout_laws.proofs.TreeFacts.{slice_in}
 use Rattle.layout_laws.proofs.PageParts.{slice_some}
-use Rattle.layout_laws.proofs.Reaching.{ratio_least}
+use Rattle.layout_laws.proofs.Reaching.{ratio_least, total_bounded}
+use Rattle.layout_laws.proofs.FontSizes.{font-of-style}
 use Rattle.lay_length.specs.Ways.{size_way_to, used_way}
-use Rattle.lay_block.proofs.Numbers.{size-fraction}
-use Rattle.lay_block.proofs.Fonts.{font-up, em-up}
+use Rattle.lay_reach.specs.Limits.{IsSmallPage}
+use Rattle.lay_reach.specs.Elements.{has_element, HasElements}
+use Rattle.lay_reach.proofs.Numbers.{size-fraction}
+use Rattle.lay_reach.proofs.Fonts.{font-up, em-up}
 
--- a page of few blocks, all extents of which together are at most 2^40 units
-pub record IsLowPage (tree : BoxTree) : Type 0 where
-  pub few_boxes : length tree.boxes ≤ 16384
+-- a page of elements all extents of which together are at most 2^40 units
+pub record IsLowTree (tree : BoxTree) : Type 0 where
   pub total : total_extent tree.styles tree.parents tree.fonts tree.boxes ≤ 2 ^ 40
-  pub blocks : (k : ℕ) (x : BoxNode) → slice_get tree.boxes k ≡ Some x → x.kind ≡ of_kind.Block
-  pub reach : (k : ℕ) (x : BoxNode) → slice_get tree.boxes k ≡ Some x
-      → reach_to tree.styles tree.parents tree.fonts (length tree.boxes) tree.boxes (total_extent tree.styles tree.parents tree.fonts tree.boxes) k ≤ 2 ^ 40
-  pub borders : (k : ℕ) (x : BoxNode) (s : Style) → slice_get tree.boxes k ≡ Some x → slice_get tree.styles x.node ≡ Some s → AllByRecursion (λ l. percentage l ≡ 0) (sides_of s.border)
+  pub elements : HasElements tree
 
--- a box at its place, with its style
-pub record IsBoxOf (tree : BoxTree) (k : ℕ) (x : BoxNode) (s : Style) : Type 0 where
+pub low-tree : (tree : BoxTree) → IsSmallPage tree → HasElements tree → IsLowTree tree
+low-tree tree small elements = record { total = total_bounded tree.styles tree.parents tree.fonts tree.boxes small.reach; elements = elements }
+
+-- an element's box at its place, with its style
+pub record IsElementOf (tree : BoxTree) (k : ℕ) (x : BoxNode) (s : Style) : Type 0 where
   pub place : slice_get tree.boxes k ≡ Some x
   pub style : slice_get tree.styles x.node ≡ Some s
-  pub kind : x.kind ≡ of_kind.Block
+  pub element : is_of_element x.kind ≡ true
 
 in_sum : {A : Type 0} (f : A → ℕ) (xs : List A) (x : A) → In x xs → f x ≤ sum (map f xs)
 in_sum f [] x i = elim i [ ]
@@ -51,39 +56,41 @@ in_sum f (y ∷ xs) x (In.there i) = let all = sum_by-cons (λ (n : ℕ). n) (f 
 at_least_once : (r x : ℕ) → 1 ≤ r → x ≤ r * x
 at_least_once r x l = let more : x * 1 ≤ x * r = mul-le-mul_left x l in omega (arith, more)
 
-module _ (tree : BoxTree) (page : IsLowPage tree) (w : World) (small : w.s ≤ 256) where
+module _ (tree : BoxTree) (low : IsLowTree tree) (w : World) (small : w.s ≤ 256) where
   abbrev pub ext : Length → ℕ
   ext = extent tree.styles tree.parents tree.fonts
 
   abbrev fonts_at : ℕ → ℕ
   fonts_at = font_extent tree.styles tree.parents tree.fonts
 
-  own-is : (k : ℕ) (x : BoxNode) (s : Style) → IsBoxOf tree k x s → own_extent tree.styles tree.parents tree.fonts x ≡ style_extent tree.styles tree.parents tree.fonts x s
+  pub own-is : (k : ℕ) (x : BoxNode) (s : Style) → IsElementOf tree k x s → own_extent tree.styles tree.parents tree.fonts x ≡ style_extent tree.styles tree.parents tree.fonts x s
   own-is k x s b =
-      ap (λ kind. if is_of_element kind then option_map_or (style_extent tree.styles tree.parents tree.fonts x) (slice_get tree.styles x.node) 0 else 0) b.kind
+      ap (λ is. if is then option_map_or (style_extent tree.styles tree.parents tree.fonts x) (slice_get tree.styles x.node) 0 else 0) b.element
       ∙ ap (λ o. option_map_or (style_extent tree.styles tree.parents tree.fonts x) o 0) b.style
 
-  own_low : (x : BoxNode) → In x tree.boxes → own_extent tree.styles tree.parents tree.fonts x ≤ 2 ^ 40
+  pub own_low : (x : BoxNode) → In x tree.boxes → own_extent tree.styles tree.parents tree.fonts x ≤ 2 ^ 40
   own_low x i =
-      let total = page.total in
+      let total = low.total in
+      let one = in_sum (λ (b : BoxNode). own_extent tree.styles tree.parents tree.fonts b + text_extent tree.styles tree.parents tree.fonts b) tree.boxes x i in
+      omega (arith, total, one)
+
+  pub text_low : (x : BoxNode) → In x tree.boxes → text_extent tree.styles tree.parents tree.fonts x ≤ 2 ^ 40
+  text_low x i =
+      let total = low.total in
       let one = in_sum (λ (b : BoxNode). own_extent tree.styles tree.parents tree.fonts b + text_extent tree.styles tree.parents tree.fonts b) tree.boxes x i in
       omega (arith, total, one)
 
   -- lengths and fonts of a box are within its extent
-  pub lengths-low : (k : ℕ) (x : BoxNode) (s : Style) → IsBoxOf tree k x s → sum (map ext (lengths_of s)) + fonts_at x.node ≤ own_extent tree.styles tree.parents tree.fonts x
+  pub lengths-low : (k : ℕ) (x : BoxNode) (s : Style) → IsElementOf tree k x s → sum (map ext (lengths_of s)) + fonts_at x.node ≤ own_extent tree.styles tree.parents tree.fonts x
   lengths-low k x s b =
       let own = own-is k x s b in
       let inner : ℕ = sum (map ext (lengths_of s)) + raise_extent tree.styles tree.parents tree.fonts x.node s.valign + fonts_at x.node + intrinsic_extent x.size in
       let once : inner ≤ ratio x.size * inner = at_least_once (ratio x.size) inner (ratio_least x.size) in
       omega (arith, own, once)
 
-  -- the box of a node that has one
-  boxed : (node : ℕ) → IsTrue (has_box tree.boxes node) → (x : BoxNode) × In x tree.boxes × (x.node ≡ node)
-  boxed node t = let found = any_in (λ (b : BoxNode). b.node == node) tree.boxes t in (found.0, found.1, grind (arith, nat_tests, found.2))
-
   -- ---- fonts
 
-  fonts_in : (x : BoxNode) → In x tree.boxes → (k : ℕ) (s : Style) → IsBoxOf tree k x s → unsigned_abs (font_size_in tree.styles tree.parents w.s x.node) ≤ 2 ^ 40
+  fonts_in : (x : BoxNode) → In x tree.boxes → (k : ℕ) (s : Style) → IsElementOf tree k x s → unsigned_abs (font_size_in tree.styles tree.parents w.s x.node) ≤ 2 ^ 40
   fonts_in x i k s b =
       let own = own_low x i in
       let all = lengths-low k x s b in
@@ -91,22 +98,75 @@ module _ (tree : BoxTree) (page : IsLowPage tree) (w : World) (small : w.s ≤ 2
       omega (arith, own, all, up)
 
   -- each box has a style
-  pub box-of : (k : ℕ) (x : BoxNode) → slice_get tree.boxes k ≡ Some x → (s : Style) × IsBoxOf tree k x s
-  box-of k x e = let s = slice_some tree.styles x.node (tree.ok.each k x e).node in (s.0, record { place = e; style = s.1; kind = page.blocks k x e })
+  pub style-of : (k : ℕ) (x : BoxNode) → slice_get tree.boxes k ≡ Some x → (s : Style) × (slice_get tree.styles x.node ≡ Some s)
+  style-of k x e = slice_some tree.styles x.node (tree.ok.each k x e).node
 
   place_of : {A : Type 0} (xs : List A) (x : A) → In x xs → (k : ℕ) × (slice_get xs k ≡ Some x)
   place_of [] x i = elim i [ ]
   place_of (x ∷ xs) _ In.here = (0, refl)
   place_of (y ∷ xs) x (In.there i) = let p = place_of xs x i in (suc p.0, p.1)
 
-  font-low : (node : ℕ) → IsTrue (has_box tree.boxes node) → unsigned_abs (font_size_in tree.styles tree.parents w.s node) ≤ 2 ^ 40
-  font-low node t =
-      let found = boxed node t in
+  -- the element's box of a node that has one
+  pub element-box : (node : ℕ) → IsTrue (has_element tree.boxes node) → (k : ℕ) × (x : BoxNode) × (s : Style) × IsElementOf tree k x s × (x.node ≡ node)
+  element-box node t =
+      let found = any_in (λ (b : BoxNode). is_of_element b.kind && (b.node == node)) tree.boxes t in
+      let parts = both (is_of_element (found.0).kind) ((found.0).node == node) found.2 in
       let place = place_of tree.boxes found.0 found.1 in
-      let style = box-of place.0 found.0 place.1 in
-      subst (λ n. unsigned_abs (font_size_in tree.styles tree.parents w.s n) ≤ 2 ^ 40) found.2 (fonts_in found.0 found.1 place.0 style.0 style.1)
+      let style = style-of place.0 found.0 place.1 in
+      let same : (found.0).node ≡ node = grind (arith, nat_tests, parts.1) in
+      (place.0, found.0, style.0, record { place = place.1; style = style.1; element = parts.0 }, same)
 
-  sizes-small : (levels node : ℕ) → IsTrue (has_box tree.boxes node) → AllSmall (size_way_to levels tree.styles tree.parents w.s node)
+  element-font : (node : ℕ) → IsTrue (has_element tree.boxes node) → unsigned_abs (font_size_in tree.styles tree.parents w.s node) ≤ 2 ^ 40
+  element-font node t =
+      let b = element-box node t in
+      subst (λ n. unsigned_abs (font_size_in tree.styles tree.parents w.s n) ≤ 2 ^ 40) b.4 (fonts_in b.1 (slice_in tree.boxes b.0 b.1 (b.3).place) b.0 b.2 b.3)
+
+  -- a text has the font size of the element that it is in
+  text-font : (k : ℕ) (x : BoxNode) (p : ℕ) → slice_get tree.boxes k ≡ Some x → x.kind ≡ of_kind.Chars → slice_get tree.parents x.node ≡ Some (Some p)
+      → font_size_in tree.styles tree.parents w.s x.node ≡ font_size_in tree.styles tree.parents w.s p
+  text-font k x p e kind parent =
+      let s = style-of k x e in
+      let above = ap (λ (o : Option (Option ℕ)). option_map_or (font_size_in tree.styles tree.parents w.s) (option_and_then (λ (parent : Option ℕ). parent) o) (default_size w.s)) parent in
+      font-of-style tree.styles tree.parents w.s x.node s.0 tree.ok.parents_before s.1
+      ∙ same (s.0).size (tree.ok.texts_same_size k x s.0 e (ap is_chars kind) s.1) _
+      ∙ above
+    where
+      same : (z : Size) → IsTrue (is_same_size z) → (above : ℤ) → computed_size w.s above z ≡ above
+      same of_size.Same t above = refl
+      same (of_size.Default num den) t above = absurd (cc)
+      same (of_size.Px c) t above = absurd (cc)
+      same (of_size.Parent num den) t above = absurd (cc)
+
+  box-font : (k : ℕ) (x : BoxNode) (kind : Kind) → slice_get tree.boxes k ≡ Some x → x.kind ≡ kind → unsigned_abs (font_size_in tree.styles tree.parents w.s x.node) ≤ 2 ^ 40
+  box-font k x kind e is = by kind is
+    where
+      own : is_of_element x.kind ≡ true → unsigned_abs (font_size_in tree.styles tree.parents w.s x.node) ≤ 2 ^ 40
+      own t = let s = style-of k x e in fonts_in x (slice_in tree.boxes k x e) k s.0 (record { place = e; style = s.1; element = t })
+
+      by : (kind : Kind) → x.kind ≡ kind → unsigned_abs (font_size_in tree.styles tree.parents w.s x.node) ≤ 2 ^ 40
+      by of_kind.Chars is =
+          let text = low.elements.texts k x e is in
+          subst (λ z. unsigned_abs z ≤ 2 ^ 40) (sym (text-font k x text.0 e is text.1)) (element-font text.0 text.2)
+      by of_kind.Anon is = element-font x.node (low.elements.anonymous k x e is)
+      by of_kind.Line is = absurd (let none = (tree.ok.each k x e).no_line in let line = ap is_line is in cc)
+      by of_kind.Block is = own (ap is_of_element is)
+      by of_kind.Float is = own (ap is_of_element is)
+      by of_kind.Atomic is = own (ap is_of_element is)
+      by of_kind.Replaced is = own (ap is_of_element is)
+      by of_kind.Inline is = own (ap is_of_element is)
+      by of_kind.Break is = own (ap is_of_element is)
+
+  pub boxed : (k : ℕ) (x : BoxNode) → slice_get tree.boxes k ≡ Some x → IsTrue (has_box tree.boxes x.node)
+  boxed k x e = any_from (λ (y : BoxNode). y.node == x.node) tree.boxes x (slice_in tree.boxes k x e) (grind (arith, nat_tests))
+
+  pub font-low : (node : ℕ) → IsTrue (has_box tree.boxes node) → unsigned_abs (font_size_in tree.styles tree.parents w.s node) ≤ 2 ^ 40
+  font-low node t =
+      let found = any_in (λ (b : BoxNode). b.node == node) tree.boxes t in
+      let place = place_of tree.boxes found.0 found.1 in
+      let same : (found.0).node ≡ node = grind (arith, nat_tests, found.2) in
+      subst (λ n. unsigned_abs (font_size_in tree.styles tree.parents w.s n) ≤ 2 ^ 40) same (box-font place.0 found.0 (found.0).kind place.1 refl)
+
+  pub sizes-small : (levels node : ℕ) → IsTrue (has_box tree.boxes node) → AllSmall (size_way_to levels tree.styles tree.parents w.s node)
   unfolding size_way_to
   sizes-small zero node t = tt
   sizes-small (suc levels) node t =
@@ -124,7 +184,7 @@ module _ (tree : BoxTree) (page : IsLowPage tree) (w : World) (small : w.s ≤ 2
   -- a length of a box on the page
   pub record IsLowLength (l : Length) : Type 0 where
     pub extent : ext l ≤ 2 ^ 40
-    pub boxed : IsTrue (list_all (has_box tree.boxes) (length_nodes l))
+    pub names : IsTrue (list_all (has_box tree.boxes) (length_nodes l))
     pub percentage : percentage l ≤ 2 ^ 40
 
   -- what it is at most in a containing block, in parts of a percentage
@@ -137,7 +197,7 @@ module _ (tree : BoxTree) (page : IsLowPage tree) (w : World) (small : w.s ≤ 2
   pub way-small : (l : Length) (cb : ℤ) → IsLowLength l → unsigned_abs (used tree w l cb) ≤ 2 ^ 100 → AllSmall (used_way tree w l cb)
   way-small of_length.Auto cb i u = (u, tt)
   way-small (of_length.Px c) cb i u = (u, tt)
-  way-small (of_length.Em k node) cb i u = (u, sizes-small (suc node) node (both (has_box tree.boxes node) true i.boxed).0)
+  way-small (of_length.Em k node) cb i u = (u, sizes-small (suc node) node (both (has_box tree.boxes node) true i.names).0)
   way-small (of_length.Pct p) cb i u = (u, tt)
 
   -- ---- the lengths of a style
@@ -176,14 +236,14 @@ module _ (tree : BoxTree) (page : IsLowPage tree) (w : World) (small : w.s ≤ 2
       join [] e n b = tt
       join (l ∷ ls) e n b =
           let parts = both (is_bounded l) (list_all is_bounded ls) b in
-          (record { extent = e.0; boxed = n.0; percentage = bounded-percentage l parts.0 }, join ls e.1 n.1 parts.1)
+          (record { extent = e.0; names = n.0; percentage = bounded-percentage l parts.0 }, join ls e.1 n.1 parts.1)
 
   low-most : (o : Option Length) → sum (map ext (option_to_list o)) ≤ 2 ^ 40 → IsTrue (list_all (has_box tree.boxes) (maximum_nodes o)) → IsTrue (list_all is_bounded (option_to_list o)) → (l : Length) → o ≡ Some l → IsLowLength l
   low-most None e n b l is = absurd (cc)
   low-most (Some m) e n b l is =
       let all = each-in_sum ext (m ∷ []) (2 ^ 40) e in
       let own = both (is_bounded m) true b in
-      subst IsLowLength (same is) (record { extent = all.0; boxed = n; percentage = bounded-percentage m own.0 })
+      subst IsLowLength (same is) (record { extent = all.0; names = n; percentage = bounded-percentage m own.0 })
     where
       same : Some m ≡ Some l → m ≡ l
       same e = cc
@@ -209,14 +269,13 @@ module _ (tree : BoxTree) (page : IsLowPage tree) (w : World) (small : w.s ≤ 2
       let e = sum-append f (sides_of s.padding) (sides_of s.border) in
       omega (arith, a, b, c, d, e)
 
-  pub style-low : (k : ℕ) (x : BoxNode) (s : Style) → IsBoxOf tree k x s → HasLowLengths s
+  pub style-low : (k : ℕ) (x : BoxNode) (s : Style) → IsElementOf tree k x s → HasLowLengths s
   style-low k x s b =
       let i = slice_in tree.boxes k x b.place in
       let own = own_low x i in
       let all = lengths-low k x s b in
       let groups = by-groups ext s in
-      let boxed : IsTrue (has_box tree.boxes x.node) = any_from (λ (y : BoxNode). y.node == x.node) tree.boxes x i (grind (arith, nat_tests)) in
-      let names = tree.ok.names_boxed x.node s boxed b.style in
+      let names = tree.ok.names_boxed x.node s (boxed k x b.place) b.style in
       let n1 = split (sides_nodes (s.width ∷ s.min_width ∷ s.height ∷ s.min_height ∷ [])) _ names in
       let n2 = split (maximum_nodes s.max_width) _ n1.1 in
       let n3 = split (maximum_nodes s.max_height) _ n2.1 in

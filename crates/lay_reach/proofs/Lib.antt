@@ -1,0 +1,5 @@
+pub mod Numbers
+pub mod Fonts
+pub mod Extents
+pub mod Texts
+pub mod BuiltPages
