@@ -1,0 +1,6 @@
+pub mod Bounds
+pub mod Inline
+pub mod Rises
+pub mod Boxes
+pub mod Loads
+pub mod Raises
