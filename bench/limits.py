@@ -40,6 +40,17 @@ def classes(rules):
     return "".join(f".c{at}{{margin:0 auto}}\n" for at in range(rules))
 
 
+def group(selector):
+    """A ruleset of 1 MiB at most, whose group has this selector with one number after another in it."""
+    foot = "{margin:0}"
+    parts, size, at = [], len(foot), 0
+    while size + len(selector(at)) < MOST:
+        parts.append(selector(at))
+        size += len(parts[-1]) + 1
+        at += 1
+    return ",".join(parts) + foot
+
+
 BOOTSTRAP = pathlib.Path("/usr/share/javascript/bootstrap4/css")
 
 CASES = {
@@ -52,6 +63,10 @@ CASES = {
     "1 MiB of the longest shorthand, 4,096 elements": lambda: (row(4096), flood("div{", "border:0;", "}")),
     "1 MiB of *, 4,096 elements": lambda: (row(4096), flood("*", ",*", "{margin:0}")),
     "1 MiB of p, 4,096 elements": lambda: (row(4096), flood("p", ",p", "{margin:0}")),
+    "1 MiB of .c0,.c1,.., 4,096 elements": lambda: (row(4096, classed), group(lambda at: f".c{at}")),
+    "1 MiB of p0 div,p1 div,.., 4,096 elements": lambda: (row(4096), group(lambda at: f"p{at} div")),
+    "1 MiB of p0+div,p1+div,.., 512 elements, 64 empty texts each": lambda: (
+        row(512, between=[""] * 64), group(lambda at: f"p{at}+div")),
     "1 MiB of *+*.., 4,096 elements": lambda: (row(4096), flood("*", "+*", "{margin:0}")),
     "1 MiB of +, 512 elements, 64 empty texts each": lambda: (
         row(512, between=[""] * 64), flood("*", "+*", "{margin:0}")),

@@ -1,7 +1,6 @@
 -- What a ruleset says that applies.
-use Rattle.std.proofs.Common.{◌≡◌, ℕ, Bool, List, Option, Result, Ok, Err, IfOk, MatchResult, sym, subst}
+use Rattle.std.proofs.Common.{◌≡◌, ℕ, Bool, List, Result, Ok, Err, IfOk, MatchResult, sym, subst}
 use Rattle.viz_base.specs.declared.nodes.Node.{Node}
-use Rattle.viz_base.specs.declared.selectors.Spec.{Spec}
 use Rattle.viz_base.specs.declared.settings.Setting.{Setting}
 use Rattle.viz_base.specs.declared.sheets.Decl.{Decl}
 use Rattle.css_semantics.specs.declared.claims.Claim.{Claim}
@@ -9,17 +8,14 @@ use Rattle.css_semantics.specs.declared.claims.Origin.TheVariants as of_origin
 use Rattle.css_semantics.specs.declared.claims.Standing.{Standing}
 use Rattle.css_semantics.specs.SheetsGrammar.{AreDeclarationsOf}
 use Rattle.css_semantics.specs.declared.claims.Ruleset.{Ruleset}
-use Rattle.css_semantics.specs.CascadeOrder.{Applied, greatest, spec_cmp}
-use Rattle.css_semantics.specs.CascadeReading.{AppliesTo, AreApplied, AreClaimed, Matching, all_applied, applies}
+use Rattle.css_semantics.specs.CascadeOrder.{Applied}
+use Rattle.css_semantics.specs.CascadeReading.{AreApplied, AreClaimed}
 use Rattle.viz_base.specs.Pages.{is_replaced}
 use Rattle.css_semantics.specs.CascadeNodes.{judged, standing_around, winners_of}
 use Rattle.css_semantics.specs.Cascade.{ComesTo, comes_to}
 use Rattle.css_cascade.specs.declared.faults.CascadeFault.{CascadeFault}
 use Rattle.css_cascade.specs.declared.faults.CascadeFault.TheVariants.{Mem, Selector, Value}
 use Rattle.css_cascade.specs.Faults.{Judges}
-
-pub applies_as : (nodes : List Node) (n : ℕ) (one : Ruleset) (found : Option Spec) (specs : List Spec) → Matching nodes n one.group specs → found ≡ greatest spec_cmp specs → AppliesTo nodes n one (Ok (all_applied found one.claims))
-applies_as nodes n one found specs m e = subst (λ o. AppliesTo nodes n one (Ok (all_applied o one.claims))) (sym e) (applies m)
 
 pub if_ok : {T E : Type 0} {P Q : T → Type 0} (r : Result T E) → ((x : T) → P x → Q x) → IfOk r P → IfOk r Q
 if_ok (Ok x) f h = f x h

@@ -1,7 +1,6 @@
 pub mod Winners
 pub mod Reaching
 pub mod Rulesets
-pub mod Matchings
 pub mod Applies
 pub mod Walks
 pub mod OneNode
@@ -11,3 +10,8 @@ pub mod Claims
 pub mod Outcomes
 pub mod Deciding
 pub mod Keeping
+pub mod Words
+pub mod Tries
+pub mod Strongest
+pub mod Standing
+pub mod Repeating

@@ -1,3 +1,5 @@
 pub mod Seen
 pub mod Faults
 pub mod Trimming
+pub mod Buckets
+pub mod Trying

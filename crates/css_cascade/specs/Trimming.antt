@@ -1,13 +1,13 @@
 -- Rulesets without those of their claims that can't win.
-use Rattle.std.specs.Prelude.{◌≡◌, ◌++◌, ℕ, List, map, Option, Some, None, Ok}
+use Rattle.std.specs.Prelude.{◌≡◌, ◌++◌, ℕ, List, map, Option, None, Ok}
 use Rattle.std.specs.List.{AllByRecursion}
 use Rattle.viz_base.specs.declared.nodes.Node.{Node}
 use Rattle.viz_base.specs.declared.selectors.Spec.{Spec}
 use Rattle.viz_base.specs.declared.settings.Prop.{Prop}
 use Rattle.css_semantics.specs.declared.claims.Claim.{Claim}
 use Rattle.css_semantics.specs.declared.claims.Ruleset.{Ruleset}
-use Rattle.css_semantics.specs.CascadeOrder.{Applied, applied, greatest, spec_cmp, style_spec}
-use Rattle.css_semantics.specs.CascadeReading.{AppliesTo, Each, Matching, all_applied}
+use Rattle.css_semantics.specs.CascadeOrder.{Applied, applied, style_spec}
+use Rattle.css_semantics.specs.CascadeReading.{AppliesTo, Each}
 use Rattle.css_semantics.specs.Properties.{properties}
 use Rattle.css_cascade.specs.declared.trimming.Trimmed.{Trimmed}
 use Rattle.css_cascade.specs.Seen.{kept_all}
@@ -28,11 +28,6 @@ AreTrimmed rulesets all = (map rules_of all ≡ rulesets) × AllByRecursion IsTr
 -- no winners behind which these settings come
 abbrev pub slots : List Applied → List (Option Applied)
 slots all = kept_all (map (λ p. None) properties) all
-
--- The winners behind what a ruleset says that applies to a node, by its claims that can win.
-abbrev pub Applies : List Node → ℕ → Trimmed → List (Option Applied) → List (Option Applied) → Type 0
-Applies nodes n t before after =
-    (found : Option Spec) × ((specs : List Spec) × Matching nodes n t.rules.now.group specs × (found ≡ greatest spec_cmp specs)) × (after ≡ kept_all before (all_applied found (map (λ c. c.now) t.claims.items)))
 
 -- The winners of all that rulesets say that applies to a node, and behind it its style attribute.
 abbrev pub AreKept : List Node → ℕ → List Trimmed → List Claim → List (Option Applied) → Type 0

@@ -1,26 +1,28 @@
-ghost use Rattle.std.specs.Prelude.{◌≡◌, ◌∷◌, [], map, length, IfOk, IsTrue, List as Seq, None, Some, codes};
+ghost use Rattle.std.specs.Prelude.{◌≡◌, map, length, IfOk, List as Seq, codes};
 ghost use Rattle.std.specs.Prelude.{option_map};
 ghost use Rattle.std.specs.List.{AllByRecursion};
-ghost use Rattle.viz_base.specs.Pages.{is_element_at};
-ghost use Rattle.viz_base.specs.declared.selectors.Spec.{Spec};
-ghost use Rattle.css_semantics.specs.CascadeOrder.{greatest, spec_cmp, style_spec};
 ghost use Rattle.viz_base.specs.declared.sheets.Decl.{Decl};
 ghost use Rattle.css_semantics.specs.declared.claims.Origin.TheVariants as of_origin;
 ghost use Rattle.css_semantics.specs.Names.{same_name};
 ghost use Rattle.css_semantics.specs.SheetsGrammar.{AreDeclarationsOf};
-ghost use Rattle.css_semantics.specs.CascadeReading.{AreClaimed, IsStyled, Matching, style_of};
-ghost use Rattle.css_cascade.specs.Seen.{seen, greatest_on};
-ghost use Rattle.css_cascade.specs.Trimming.{Applies, AreKept, IsTrimmed};
+ghost use Rattle.css_semantics.specs.CascadeReading.{AreClaimed, IsStyled, style_of};
+ghost use Rattle.css_semantics.specs.Matching.{IsElementAt};
+ghost use Rattle.css_select.specs.steps.Trees.{AreSiblings};
+ghost use Rattle.css_cascade.specs.Seen.{seen};
+ghost use Rattle.css_cascade.specs.Trimming.{AreKept, IsTrimmed, rules_of};
+ghost use Rattle.css_cascade.specs.Trying.{AreBuckets};
 
-use crate::order::{Applied, keep_claims, keep_found, no_winners, spec_cmp};
+use crate::buckets::Buckets;
+use crate::order::{Applied, keep_claims, no_winners};
 use crate::reading::claims_in;
 use crate::trimming::Trimmed;
-use css_select::matches;
-use css_semantics::{Claim, Origin, Ranked};
+use crate::trying::{numbers_for, try_all};
+use css_select::Siblings;
+use css_semantics::{Claim, Origin};
 use css_syntax::read_declarations;
 use css_token::same_name;
 use std::alloc::Global;
-use viz_base::{Attr, List, Mem, Page, Spec};
+use viz_base::{Attr, Element, List, Mem, Page, Spec};
 
 /// The specificity of what a style attribute says (CSS 2.1, 6.4.3).
 const STYLE: Spec = Spec {
@@ -30,68 +32,32 @@ const STYLE: Spec = Spec {
     types: 0,
 };
 
-/// The greatest specificity so far behind one more.
-fn later_spec(best: Option<Spec>, next: Spec) -> Spec
-    ensures { Some result ≡ greatest_on spec_cmp best (next ∷ []) }
-{
-    match best {
-        Some(found) if spec_cmp(found, next).is_gt() => found,
-        _ => next,
-    }
-}
-
-/// The specificity of the most specific of a group's selectors that match an element, if one does.
-fn strongest(group: &[Ranked], page: &Page, node: u32) -> Option<Spec>
-    requires { IsTrue (is_element_at page.now.nodes node) }
-    ensures { (specs : Seq Spec) × Matching page.now.nodes node group.now specs × (result ≡ greatest spec_cmp specs) }
-{
-    let mut best = None;
-    for ranked in group {
-        if matches(&ranked.selector, page, node) {
-            best = Some(later_spec(best, ranked.spec));
-        }
-    }
-    best
-}
-
-/// Keeps the winners behind what a ruleset says, if it applies to an element.
-fn apply<'a: 'b, 'b>(
-    best: &mut Vec<Option<Applied<'b>>>,
-    rules: &Trimmed<'a>,
-    page: &Page,
-    node: u32,
-)
-    requires element { IsTrue (is_element_at page.now.nodes node) }
-    requires len { length best.old.items ≡ 39 }
-    ensures len { length best.new.items ≡ 39 }
-    ensures kept { Applies page.now.nodes node rules.now (map (option_map seen) best.old.items)
-        (map (option_map seen) best.new.items) }
-{
-    match strongest(rules.rules.group.as_slice(), page, node) {
-        Some(spec) => keep_found(best, spec, rules.claims.as_slice()),
-        None => {}
-    }
-}
-
 /// The winners, by the place of their property in the table, of what rulesets and the style attribute say that applies
 /// to an element.
 pub fn applied<'a: 'b, 'b>(
     alloc: Global,
     rulesets: &[Trimmed<'a>],
+    buckets: &Buckets<'_>,
     page: &Page,
+    siblings: &Siblings,
     node: u32,
+    element: &Element,
     style: &'b [Claim],
 ) -> Result<Vec<Option<Applied<'b>>>, Mem>
-    requires element { IsTrue (is_element_at page.now.nodes node) }
+    requires element { IsElementAt page.now.nodes node element.now }
+    requires siblings { AreSiblings page.now.nodes siblings.now }
     requires trimmed { AllByRecursion IsTrimmed rulesets.now }
+    requires buckets { AreBuckets (map rules_of rulesets.now) buckets.now }
     ensures len { IfOk result (λ best. length best.items ≡ 39) }
     ensures kept { IfOk result (λ best. AreKept page.now.nodes node rulesets.now style.now
         (map (option_map seen) best.items)) }
 {
     let mut best = no_winners(alloc)?;
-    for rules in rulesets {
-        apply(&mut best, rules, page, node);
-    }
+    let numbers = numbers_for(alloc, buckets, element)?;
+    let candidates = buckets.candidates.as_slice();
+    try_all(
+        &mut best, rulesets, page, siblings, node, candidates, &numbers,
+    );
     keep_claims(&mut best, STYLE, style);
     Ok(best)
 }

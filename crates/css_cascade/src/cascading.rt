@@ -4,10 +4,13 @@ ghost use Rattle.css_semantics.specs.Cascade.{ComesTo, Goes, IsCascade};
 ghost use Rattle.css_semantics.specs.CascadeNodes.{judged};
 ghost use Rattle.css_semantics.specs.Winners.{AreWinners};
 ghost use Rattle.viz_base.specs.Answers.{GivesOneOf};
+ghost use Rattle.css_select.specs.steps.Trees.{AreSiblings};
 ghost use Rattle.css_cascade.specs.Faults.{IsPlaced, Judges, refusal_of};
 ghost use Rattle.css_cascade.specs.Trimming.{IsTrimmed, rules_of};
+ghost use Rattle.css_cascade.specs.Trying.{AreBuckets};
 
 use crate::applying::{applied, styled};
+use crate::buckets::{Buckets, buckets_of};
 use crate::faults::CascadeFault;
 use crate::nodes::{
     first_refused, is_hidden, is_replaced, number, settings_of, standing_around, standing_of,
@@ -15,6 +18,7 @@ use crate::nodes::{
 use crate::order::claims_among;
 use crate::reading::read_rulesets;
 use crate::trimming::{Trimmed, trim};
+use css_select::{Siblings, find_siblings};
 use css_semantics::{Claim, Standing};
 use std::alloc::Global;
 use viz_base::{Body, Cascaded, List, Node, Page, Setting, Sheet, Text};
@@ -45,13 +49,17 @@ fn judge(
 fn come_to(
     alloc: Global,
     page: &Page,
+    siblings: &Siblings,
     rulesets: &[Trimmed<'_>],
+    buckets: &Buckets<'_>,
     standings: &[Standing],
     at: u32,
     node: &Node,
 ) -> Result<(List<Setting>, Standing), CascadeFault>
     requires found { slice_get page.now.nodes at ≡ Some node.now }
+    requires siblings { AreSiblings page.now.nodes siblings.now }
     requires trimmed { AllByRecursion IsTrimmed rulesets.now }
+    requires buckets { AreBuckets (map rules_of rulesets.now) buckets.now }
     ensures { MatchResult result (λ p. ComesTo page.now.nodes (map rules_of rulesets.now) standings.now at node.now
         (Ok (p.0, p.1))) (λ fault. Judges at fault
         (ComesTo page.now.nodes (map rules_of rulesets.now) standings.now at node.now)) }
@@ -61,7 +69,16 @@ fn come_to(
     match &node.body {
         Body::Element(element) => {
             let style = styled(alloc, at, element.attrs.as_slice())?;
-            let best = applied(alloc, rulesets, page, at, style.as_slice())?;
+            let best = applied(
+                alloc,
+                rulesets,
+                buckets,
+                page,
+                siblings,
+                at,
+                element,
+                style.as_slice(),
+            )?;
             let winners = claims_among(alloc, best.as_slice())?;
             judge(alloc, at, replaced, outer, &winners)
         }
@@ -73,9 +90,13 @@ fn come_to(
 fn cascade_nodes(
     alloc: Global,
     page: &Page,
+    siblings: &Siblings,
     rulesets: &[Trimmed<'_>],
+    buckets: &Buckets<'_>,
 ) -> Result<Cascaded, CascadeFault>
-    requires { AllByRecursion IsTrimmed rulesets.now }
+    requires siblings { AreSiblings page.now.nodes siblings.now }
+    requires trimmed { AllByRecursion IsTrimmed rulesets.now }
+    requires buckets { AreBuckets (map rules_of rulesets.now) buckets.now }
     ensures { GivesOneOf (λ c. c.winners) refusal_of result
         (Goes page.now.nodes (map rules_of rulesets.now) [] [] page.now.nodes) }
 {
@@ -87,7 +108,9 @@ fn cascade_nodes(
         let (settings, standing) = come_to(
             alloc,
             page,
+            siblings,
             rulesets,
+            buckets,
             standings.as_slice(),
             number,
             &nodes[at],
@@ -119,5 +142,7 @@ pub fn cascade(
 {
     let rulesets = read_rulesets(alloc, texts, sheets)?;
     let trimmed = trim(alloc, &rulesets)?;
-    cascade_nodes(alloc, page, &trimmed)
+    let buckets = buckets_of(alloc, &trimmed)?;
+    let siblings = find_siblings(alloc, page)?;
+    cascade_nodes(alloc, page, &siblings, &trimmed, &buckets)
 }

@@ -2,14 +2,18 @@
 #![tactic(auto)]
 
 mod applying;
+mod buckets;
 mod cascading;
 mod defaults;
 mod faults;
+mod names;
 mod nodes;
 mod order;
 mod reading;
+mod repeats;
 mod sources;
 mod trimming;
+mod trying;
 
 pub use cascading::cascade;
 pub use defaults::default_sheet;

@@ -13,3 +13,4 @@ pub mod Tries
 pub mod Counting
 pub mod Sizes
 pub mod Lengths
+pub mod NodeByNode

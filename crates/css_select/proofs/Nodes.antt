@@ -42,7 +42,7 @@ eq_by : {P : Type 0} {m n : ℕ} (r : Bool) → (m ≡ n → P) → (m ≢ n →
 eq_by true same other h = same (h.0 refl)
 eq_by false same other h = other (λ e. absurd (cc (h.1 e)))
 
-eq_or_not : {P : Type 0} (m n : ℕ) → (m ≡ n → P) → (m ≢ n → P) → P
+pub eq_or_not : {P : Type 0} (m n : ℕ) → (m ≡ n → P) → (m ≢ n → P) → P
 eq_or_not m n same other = eq_by (m == n) same other (Decides-eqb m n)
 
 pub none_step : (P : ℕ → Type 0) (k node : ℕ) → 0 < k → ((m : ℕ) → k ≤ m → m < node → P m → ⊥) → (P (k - 1) → ⊥) → (m : ℕ) → k - 1 ≤ m → m < node → P m → ⊥

@@ -4,7 +4,7 @@ use Rattle.std.proofs.lemmas.List.{reverse-append}
 use Rattle.viz_base.specs.declared.nodes.Node.{Node}
 use Rattle.viz_base.specs.declared.selectors.Compound.{Compound}
 use Rattle.viz_base.specs.declared.selectors.Join.{Join}
-use Rattle.viz_base.specs.declared.selectors.Join.TheVariants.{First, Descendant, Child, Next}
+use Rattle.viz_base.specs.declared.selectors.Join.TheVariants.{Child, Next}
 use Rattle.css_semantics.specs.Matching.{IsAncestor, parent, further, IsParent, IsPrevious, MatchesCompound, MatchesParts}
 use Rattle.css_select.specs.declared.matching.Outcome.{Outcome}
 use Rattle.css_select.specs.declared.matching.Outcome.TheVariants.{Found, Failed, Hopeless}

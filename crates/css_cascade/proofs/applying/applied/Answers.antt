@@ -1,11 +1,18 @@
-use Rattle.css_cascade.proofs.Keeping.{best_start, best_more, best_end}
+use Rattle.std.proofs.Common.{map, sym, subst}
+use Rattle.css_cascade.specs.Buckets.{numbered, numbered_from}
+use Rattle.css_cascade.specs.Trimming.{rules_of}
+use Rattle.css_cascade.specs.Trying.{AreAll, StandFor}
+use Rattle.css_cascade.proofs.Standing.{are_all}
+use Rattle.css_cascade.proofs.Strongest.{tried_kept}
 use Rattle.css_cascade.proofs.applying.applied.Goals as goal
 
-pub loop-rules-init : goal.loop-rules-init
-loop-rules-init c = (c.in_ok-best.ensures.len, best_start _ _ _ _ c.in_ok-best.ensures.none)
-
-pub loop-rules-preserved : goal.loop-rules-preserved
-loop-rules-preserved c = (c.apply.ensures.len, best_more _ _ _ _ _ _ c.rules-item.result c.loop-rules-test.true c.rules-item.is c.requires.trimmed c.loop-rules.invariant.1 c.apply.ensures.kept)
+pub try_all-requires-clause-all : goal.try_all-requires-clause-all
+try_all-requires-clause-all c =
+    subst (AreAll c.args.page.now.nodes c.args.node (map numbered c.as_slice-candidates.result.now)) (sym c.deref.ensures.value)
+    (subst (λ cs. AreAll c.args.page.now.nodes c.args.node (map numbered cs) c.in_ok-numbers.numbers.items) (sym c.as_slice-candidates.ensures.value)
+    (are_all _ _ c.args.element.now c.args.buckets.now _ c.requires.element c.requires.buckets.1 c.in_ok-numbers.ensures.all))
 
 pub returns-clause-kept : goal.returns-clause-kept
-returns-clause-kept c = best_end _ _ _ _ _ _ _ c.loop-rules-test.false c.loop-rules.invariant.1 c.keep_claims.ensures.kept
+returns-clause-kept c =
+    tried_kept c.args.page.now.nodes c.args.node c.args.rulesets.now (map numbered c.as_slice-candidates.result.now) _ _ _ c.args.style.now c.requires.trimmed
+    (subst (λ cs. StandFor (map numbered cs) (numbered_from 0 (map rules_of c.args.rulesets.now))) (sym c.as_slice-candidates.ensures.value) c.requires.buckets.0) c.in_ok-best.ensures.none c.try_all.ensures.tried c.keep_claims.ensures.kept

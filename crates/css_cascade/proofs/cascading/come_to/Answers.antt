@@ -1,6 +1,5 @@
 use Rattle.std.proofs.Common.{◌≡◌, ◌++◌, ◌∙◌, List, [], map, option_map, refl, sym, ap, subst}
 use Rattle.std.specs.Prelude.{flat_map}
-use Rattle.css_semantics.specs.declared.claims.Claim.{Claim}
 use Rattle.css_semantics.specs.CascadeNodes.{winners_of}
 use Rattle.css_semantics.specs.CascadeOrder.{Applied, applied, style_spec}
 use Rattle.css_semantics.specs.CascadeReading.{AreApplied, IsStyled}

@@ -2,10 +2,10 @@ use Rattle.std.proofs.Common.{refl}
 use Rattle.css_select.proofs.Nodes.{false_true, first_child, not_first}
 use Rattle.css_select.proofs.tree.is_first_child.Goals as goal
 
-pub returns-in-Some-last_child_before : goal.returns-in-Some-last_child_before
-returns-in-Some-last_child_before c = (
+pub returns-in-Some-last_sibling : goal.returns-in-Some-last_sibling
+returns-in-Some-last_sibling c = (
   (λ e. false_true e),
-  (λ f. absurd (not_first c.args.page.now.nodes c.in-Some.parent c.args.node c.in-Some-last_child_before.field-0 c.in-Some.ensures.is c.in-Some-last_child_before.ensures f)),
+  (λ f. absurd (not_first c.args.page.now.nodes c.in-Some.parent c.args.node c.in-Some-last_sibling.field-0 c.in-Some.ensures.is c.in-Some-last_sibling.ensures f)),
 )
 
 pub returns-in-None : goal.returns-in-None
