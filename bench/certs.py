@@ -2,10 +2,11 @@
 """Measures `vizlog check` on large certificates: processor time and peak memory, and the stack that deep ones take.
 
 - what `prove` writes for the generated job of seed 7 with 200 sections: leaves with more than 10,000 answers;
-- 2,097,151 splits, 21 levels of them, each side of a split being cut again: below 500 bytes of memory for a split,
-  its row and the grid or split below it counted;
+- 2,097,151 splits, 21 levels of them, each side of a split being cut again: below 320 bytes of memory for a split,
+  its row (176) and the grid or split below it counted;
 - 64 MiB of one leaf, its answers being more than the page asks for;
-- splits at depth 0 to 511: how many KiB of stack they take, below the 8,192 KiB that a process has where nothing else is said.
+- splits at depth 0 to 511: how many KiB of stack they take, at most 1,024 of the 8,192 KiB that a process has where nothing
+  else is said.
 
 Run it at the top: bench/certs.py [PROGRAM]
 """
@@ -109,7 +110,7 @@ def splits(bench):
     each = (memory - base) * 1024 * 1024 / count
     file = len(body) / count
     print(f"memory for a split with its row and a grid: {each:.0f} bytes, of the file's text {file:.0f} of them")
-    assert each < 500, "too much memory for a split"
+    assert each < 320, "too much memory for a split"
 
 
 def bench_base(bench, text):
@@ -138,6 +139,7 @@ def stack(bench):
         middle = (low + high) // 2
         low, high = (low, middle) if bench.check(middle)[0] == 0 else (middle, high)
     print(f"512 splits, one in the other: accepted in {high} KiB of stack")
+    assert high <= 1024, "too much stack for deep splits"
 
 
 def main():

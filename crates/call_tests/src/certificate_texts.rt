@@ -38,15 +38,17 @@ fn cert(alloc: Global, divisor: i128) -> Result<Cert, AllocError> {
         row: Row::of_term(alloc, 0, 1, -1)?,
         why: closed(alloc),
     })?;
+    let why = Boxed::new(alloc, void(alloc, divisor)?)?;
     let split = CertNode::Split(
-        Row::of_term(alloc, -961, 0, 1)?,
-        Boxed::new(alloc, CertNode::Void(void(alloc, divisor)?))?,
+        Boxed::new(alloc, Row::of_term(alloc, -961, 0, 1)?)?,
+        Boxed::new(alloc, CertNode::Void(why))?,
         Boxed::new(alloc, CertNode::Leaf(answers))?,
     );
-    let row = Row::of_term(alloc, 5, 0, 1)?;
+    let row = Boxed::new(alloc, Row::of_term(alloc, 5, 0, 1)?)?;
+    let by = Boxed::new(alloc, 3)?;
     Ok(Cert {
         job: [0xab; 32],
-        root: CertNode::Def(row, 3, Boxed::new(alloc, split)?),
+        root: CertNode::Def(row, by, Boxed::new(alloc, split)?),
     })
 }
 

@@ -66,7 +66,7 @@ fn whole(digest: u8) -> Cert
 fn halves(alloc: Global, digest: u8) -> Result<Cert, AllocError>
     ensures { IfOk result (λ cert. length (nodes_of cert) ≡ 3) }
 {
-    let row = Row::of_term(alloc, -360, 0, 1)?;
+    let row = Boxed::new(alloc, Row::of_term(alloc, -360, 0, 1)?)?;
     let first = Boxed::new(alloc, CertNode::Grid)?;
     let second = Boxed::new(alloc, CertNode::Grid)?;
     Ok(Cert {

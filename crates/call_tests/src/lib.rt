@@ -24,6 +24,8 @@ mod generated_texts;
 #[cfg(test)]
 mod judged_formulas;
 #[cfg(test)]
+mod laid_lines;
+#[cfg(test)]
 mod property_columns;
 #[cfg(test)]
 mod raw_jobs;

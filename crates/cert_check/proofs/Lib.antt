@@ -12,3 +12,5 @@ pub mod GridWorlds
 pub mod GridSteps
 pub mod Judging
 pub mod Tellings
+pub mod FitFloors
+pub mod PlainUnits

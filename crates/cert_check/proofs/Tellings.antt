@@ -2,6 +2,7 @@
 use Rattle.std.proofs.Common.{◌≡◌, ℕ, zero, suc, ◌+◌, ◌<◌, Bool, true, false, not, nat_eq, ℤ, List, [], ◌∷◌, ◌++◌, length, Some, Result, Ok, Err, refl, sym, ◌∙◌, ap, subst, arith, inl, inr, IsTrue, rules}
 use Rattle.std.specs.Prelude.{slice_get}
 use Rattle.std.specs.Cmp.Lexicographic.{pointwise, same_text}
+use Rattle.std.specs.List.{AllByRecursion}
 use Rattle.std.proofs.lemmas.Option.{same_Some}
 use Rattle.viz_base.specs.declared.worlds.World.{World}
 use Rattle.viz_base.specs.declared.jobs.Job.{Job}
@@ -133,10 +134,10 @@ module _ (node : CertNode) (path : Path) where
 
 -- ---- nodes by number
 
-pub good_at : (job : Job) (nodes : List Node) → AllGood job nodes → (n : ℕ) (node : Node) → slice_get nodes n ≡ Some node → IsGood job node
-good_at job [] h n node is = absurd (cc)
-good_at job (x ∷ xs) h zero node is = subst (λ y. IsGood job y) (same_Some x node is) h.0
-good_at job (x ∷ xs) h (suc n) node is = good_at job xs h.1 n node is
+pub at_number : (P : Node → Type 0) (nodes : List Node) → AllByRecursion P nodes → (n : ℕ) (node : Node) → slice_get nodes n ≡ Some node → P node
+at_number P [] h n node is = absurd (cc)
+at_number P (x ∷ xs) h zero node is = subst P (same_Some x node is) h.0
+at_number P (x ∷ xs) h (suc n) node is = at_number P xs h.1 n node is
 
 record IsFirstBad (job : Job) (nodes : List Node) (n : ℕ) (reject : Reject) : Type 0 where
   pub place : ℕ
@@ -232,7 +233,7 @@ right_of job node good = record {
 }
 
 pub is_right : (job : Job) (cert : Cert) → cert.job ≡ job.digest → AllGood job (nodes_of cert) → Right job cert
-is_right job cert same good = record { digest = same; nodes = λ n node is. right_of job node (good_at job (nodes_of cert) good n node is) }
+is_right job cert same good = record { digest = same; nodes = λ n node is. right_of job node (at_number (IsGood job) (nodes_of cert) good n node is) }
 
 -- where each node is good, the formula is true at each world of the range
 laid_out_true : (job : Job) (node : Node) (world : World) → IsGood job node → IsTrue (is_laid_out node.decision) → IsInRange job.range world → IsOn node.path world → is_true_at job world ≡ true
@@ -248,11 +249,11 @@ laid_out_true job node world good laid in_range on = by_decision node.decision g
 pub holds_of : (job : Job) (cert : Cert) → AllGood job (nodes_of cert) → Holds job
 holds_of job cert good world in_range =
     let reasoned : IsReasoned job.range cert = record {
-      shaped = λ n node is. (good_at job (nodes_of cert) good n node is).shaped;
-      reasons = λ n node is. good_reasons job node.path node.decision (good_at job (nodes_of cert) good n node is).decides;
+      shaped = λ n node is. (at_number (IsGood job) (nodes_of cert) good n node is).shaped;
+      reasons = λ n node is. good_reasons job node.path node.decision (at_number (IsGood job) (nodes_of cert) good n node is).decides;
     } in
     let end = (one_laid_out job.range cert reasoned world in_range).1.0 in
-    laid_out_true job end.node world (good_at job (nodes_of cert) good (one_laid_out job.range cert reasoned world in_range).0 end.node end.is_node) end.laid_out in_range end.on_path
+    laid_out_true job end.node world (at_number (IsGood job) (nodes_of cert) good (one_laid_out job.range cert reasoned world in_range).0 end.node end.is_node) end.laid_out in_range end.on_path
 
 -- ---- the answer of the walk from the root
 

@@ -1,13 +1,14 @@
 -- Laws over certificates.
-use Rattle.std.specs.Prelude.{◌≡◌, ◌↔◌, IsTrue}
+use Rattle.std.specs.Prelude.{◌≡◌, ◌↔◌, ℕ, List, IsTrue}
 use Rattle.viz_base.specs.declared.jobs.Job.{Job}
 use Rattle.lin_row.specs.Form.{Form}
 use Rattle.cert_text.specs.declared.certificate.Cert.{Cert}
+use Rattle.cert_text.specs.Texts.{CertText}
 use Rattle.cert_path.specs.Laws.{IsUnit}
 use Rattle.cert_check.specs.declared.verdicts.Verdict.{Verdict}
 use Rattle.cert_check.specs.Rectangles.{is_unit}
 use Rattle.cert_check.specs.Truths.{Holds}
-use Rattle.cert_check.specs.Right.{Right, IsPlainlyComputed}
+use Rattle.cert_check.specs.Right.{Right, IsPlainlyComputed, AreUnitsAndGrids}
 use Rattle.cert_check.specs.Verdicts.{IsVerdict}
 
 -- a job holds for which some certificate is right that is plainly computed
@@ -22,3 +23,7 @@ OneVerdict = (job : Job) (cert : Cert) → IsPlainlyComputed job cert
 -- the rows by which a rectangle is cut are those of one variable, the width or the size, and the coefficient 1 or -1
 abbrev pub UnitIsUnitRow : Type 0
 UnitIsUnitRow = (row : Form) → IsTrue (is_unit row) ↔ IsUnit row
+
+-- a certificate of unit splits and grids that has a text is plainly computed
+abbrev pub UnitsArePlain : Type 0
+UnitsArePlain = (job : Job) (cert : Cert) (text : List ℕ) → CertText cert text → AreUnitsAndGrids cert → IsPlainlyComputed job cert

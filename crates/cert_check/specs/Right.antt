@@ -1,5 +1,6 @@
 -- What a certificate has to be.
 use Rattle.std.specs.Prelude.{◌≡◌, ℕ, true, IsTrue, Some, slice_get, ⊤}
+use Rattle.std.specs.List.{All}
 use Rattle.viz_base.specs.declared.jobs.Job.{Job}
 use Rattle.lin_row.specs.Form.{form_fits, denied}
 use Rattle.lin_proof.specs.Derivations.{Refutes}
@@ -9,6 +10,7 @@ use Rattle.cert_path.specs.Facts.{facts}
 use Rattle.cert_path.specs.Nodes.{Decision, names, splits, is_empty, by_worlds, by_answers, Node, nodes_of}
 use Rattle.cert_path.specs.Shapes.{has_shape}
 use Rattle.cert_path.specs.Derived.{AreRefuted, HasReasons}
+use Rattle.cert_path.specs.Laws.{IsUnit}
 use Rattle.cert_check.specs.Truths.{IsTrueOn}
 use Rattle.cert_check.specs.Numbers.{IsComputed}
 
@@ -46,6 +48,20 @@ IsWithin128 job path (by_answers answers) = ⊥
 -- no node is a leaf, and all such numbers are in `i128`
 abbrev pub IsPlainlyComputed : Job → Cert → Type 0
 IsPlainlyComputed job cert = (n : ℕ) (node : Node) → slice_get (nodes_of cert) n ≡ Some node → IsWithin128 job node.path node.decision
+
+-- ---- unit splits and grids
+
+-- the node is a split by a unit row, or a grid
+abbrev pub IsUnitOrGrid : Decision → Type 0
+IsUnitOrGrid (names row d) = ⊥
+IsUnitOrGrid (splits row) = IsUnit row
+IsUnitOrGrid (is_empty why) = ⊥
+IsUnitOrGrid by_worlds = ⊤
+IsUnitOrGrid (by_answers answers) = ⊥
+
+-- each node of the certificate is one of these
+abbrev pub AreUnitsAndGrids : Cert → Type 0
+AreUnitsAndGrids cert = All (λ (node : Node). IsUnitOrGrid node.decision) (nodes_of cert)
 
 -- ---- good nodes: those at which the checker goes on
 

@@ -1,5 +1,5 @@
 ghost use Rattle.std.specs.Prelude.{◌≡◌, ◌<◌, ◌^◌, [], ◌∷◌, IfOk, IsTrue, OnOk};
-ghost use Rattle.lin_row.specs.Form.{denied, form_fits};
+ghost use Rattle.lin_row.specs.Form.{IsCanonical, denied, form_fits};
 ghost use Rattle.cert_path.specs.Facts.{facts};
 ghost use Rattle.cert_path.specs.Nodes.{names};
 ghost use Rattle.cert_path.specs.Paths.{def, first, second, is_declared, variables};
@@ -33,6 +33,13 @@ pub struct Descent<'a> {
     ghost sound: { IsTrue (are_sound (path_of above)) },
     ghost facts: { path.facts ≡ facts job.now.range (path_of above) },
     ghost floors: { path.floors ≡ floors_of (path_of above) },
+}
+
+/// Tells the proof that a row's variables ascend, as each row's do.
+fn note_order(row: &Row)
+    ensures { IsCanonical row.now.terms }
+{
+    let _terms = &row.terms;
 }
 
 impl<'a> Descent<'a> {
@@ -79,6 +86,7 @@ impl<'a> Descent<'a> {
     }
 
     /// Goes below a well shaped def.
+    #[inline(never)]
     pub fn enter_def(&mut self, row: &'a Row, by: i128) -> Result<(), Mem>
         requires shaped { IsTrue (is_shaped self.old.job.now.range (path_of self.old.above) (names row.now by)) }
         requires room { variables (path_of self.old.above) < 2 ^ 32 }
@@ -94,15 +102,20 @@ impl<'a> Descent<'a> {
         self.above.push(Above::Def(row, by))?;
         match self.path.define(floor, variable) {
             Ok(()) => Ok(()),
-            // The numbers of a well shaped def are from 0 to its divisor, so only memory can be wanting.
-            Err(_) => {
+            Err(RowFault::Mem) => {
                 self.above.truncate(count);
                 Err(Mem)
+            }
+            Err(RowFault::Coeff) => {
+                // The numbers of a well shaped def are from 0 to its divisor, and so its facts are in `i128`.
+                note_order(row);
+                unreachable!()
             }
         }
     }
 
     /// Goes to the first part of a split by a row of declared variables.
+    #[inline(never)]
     pub fn enter_first(&mut self, row: &'a Row) -> Result<(), AllocError>
         requires { IsTrue (is_declared (path_of self.old.above) row.now) }
         ensures job { OnOk result (self.new.job.now ≡ self.old.job.now) }
@@ -120,6 +133,7 @@ impl<'a> Descent<'a> {
     }
 
     /// Goes to the second part of a split by a row of declared variables, whose denial is in `i128`.
+    #[inline(never)]
     pub fn enter_second(&mut self, row: &'a Row) -> Result<(), Mem>
         requires declared { IsTrue (is_declared (path_of self.old.above) row.now) }
         requires fits { IsTrue (form_fits (denied row.now)) }
@@ -139,6 +153,7 @@ impl<'a> Descent<'a> {
     }
 
     /// Goes back up from below a def.
+    #[inline(never)]
     pub fn leave_def(&mut self)
         requires { IsTrue (is_below_def (path_of self.old.above)) }
         ensures job { self.new.job.now ≡ self.old.job.now }
@@ -151,6 +166,7 @@ impl<'a> Descent<'a> {
     }
 
     /// Goes back up from a part of a split.
+    #[inline(never)]
     pub fn leave_split(&mut self)
         requires { IsTrue (is_below_split (path_of self.old.above)) }
         ensures job { self.new.job.now ≡ self.old.job.now }

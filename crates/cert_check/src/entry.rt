@@ -1,7 +1,8 @@
-ghost use Rattle.std.specs.Prelude.{◌≡◌, ◌↔◌, ◌+◌, ◌<◌, ◌^◌, length, IsTrue, IfOk};
+ghost use Rattle.std.specs.Prelude.{◌≡◌, ◌↔◌, ◌+◌, ◌<◌, ◌^◌, ℕ, List, length, IsTrue, IfOk};
+ghost use Rattle.cert_text.specs.Texts.{CertText};
 ghost use Rattle.cert_path.specs.Nodes.{nodes_of};
 ghost use Rattle.cert_check.specs.Truths.{Holds};
-ghost use Rattle.cert_check.specs.Right.{Right, IsPlainlyComputed};
+ghost use Rattle.cert_check.specs.Right.{Right, IsPlainlyComputed, AreUnitsAndGrids};
 ghost use Rattle.cert_check.specs.Verdicts.{IsVerdict};
 ghost use Rattle.cert_check.specs.declared.verdicts.Verdict.TheVariants.{Accepted};
 
@@ -13,9 +14,9 @@ use std::alloc::Global;
 use viz_base::{Job, Mem};
 
 /// The verdict on a certificate for a job, whoever made it. A certificate is accepted only where it is right for the
-/// job, and the job holds then. One without leaves whose numbers stay in `i128` is accepted exactly where it is right.
-/// The only fault is want of memory; a halt of a leaf's layout that its calc does not account for, of which none is
-/// known, would be told as such too.
+/// job, and the job holds then. One without leaves whose numbers stay in `i128` is accepted exactly where it is right,
+/// and those of unit splits and grids do. The only fault is want of memory; at a grid's world a coordinate past 2^70,
+/// which no page is known to have, would be told as such too.
 ///
 /// Each leaf takes one layout of the page, and so does each world of a grid's path; each line of a derivation is
 /// checked once. The call goes as deep as the certificate's defs and splits stand in one another.
@@ -23,6 +24,8 @@ pub fn check(alloc: Global, job: &Job, cert: &Cert) -> Result<Verdict, Mem>
     requires few { length (nodes_of cert.now) + 2 < 2 ^ 32 }
     ensures verdict { IfOk result (λ verdict. IsVerdict job.now cert.now verdict) }
     ensures exact { IfOk result (λ verdict. IsPlainlyComputed job.now cert.now
+        → (verdict ≡ Accepted) ↔ Right job.now cert.now) }
+    ensures units { IfOk result (λ verdict. (text : List ℕ) → CertText cert.now text → AreUnitsAndGrids cert.now
         → (verdict ≡ Accepted) ↔ Right job.now cert.now) }
     ensures holds { IfOk result (λ verdict. verdict ≡ Accepted → Holds job.now) }
 {
@@ -33,6 +36,6 @@ pub fn check(alloc: Global, job: &Job, cert: &Cert) -> Result<Verdict, Mem>
     match check_node(alloc, &mut descent, &cert.root, 0, Some(job.range)) {
         Ok(_) => Ok(Verdict::Accepted),
         Err(Stop::Mem) => Err(Mem),
-        Err(Stop::Rejected(reject)) => Ok(Verdict::Rejected(reject)),
+        Err(Stop::Rejected(reject)) => Ok(Verdict::Rejected(reject.into_inner())),
     }
 }

@@ -3,7 +3,7 @@ ghost use Rattle.std.specs.Prelude.{◌≤◌, ℕ, List, length};
 ghost use Rattle.cert_text.specs.declared.certificate.Cert.{Cert};
 ghost use Rattle.cert_text.specs.Texts.{CertText};
 ghost use Rattle.cert_path.specs.Nodes.{nodes_of};
-ghost use Rattle.cert_check.specs.Laws.{OneVerdict, RightHolds, UnitIsUnitRow};
+ghost use Rattle.cert_check.specs.Laws.{OneVerdict, RightHolds, UnitIsUnitRow, UnitsArePlain};
 
 /// A job holds for which some certificate is right that is plainly computed.
 pub fn right_holds()
@@ -18,6 +18,11 @@ pub fn one_verdict_each()
 /// The rows by which a rectangle is cut are those of one variable, the width or the size, and the coefficient 1 or -1.
 pub fn unit_rows()
     ensures { UnitIsUnitRow }
+{}
+
+/// A certificate of unit splits and grids that has a text is plainly computed: its numbers stay in `i128`.
+pub fn units_are_plain()
+    ensures { UnitsArePlain }
 {}
 
 /// A certificate's text has at least as many bytes as the certificate has nodes.

@@ -1,7 +1,7 @@
-ghost use Rattle.std.specs.Prelude.{◌≡◌, IsTrue, IfOk};
+ghost use Rattle.std.specs.Prelude.{◌≡◌, ◌<◌, true, Ok, Some, None, IsTrue, IfOk, IfErr, IfSome};
 ghost use Rattle.std.specs.Bool.{Decides};
 ghost use Rattle.viz_calc.specs.World.{Reading};
-ghost use Rattle.viz_calc.specs.State.{Grows, Rose};
+ghost use Rattle.viz_calc.specs.State.{Grows, Rose, is_told};
 ghost use Rattle.sym_calc.specs.Calc.{state_of};
 ghost use Rattle.cert_check.specs.Truths.{is_true_at};
 ghost use Rattle.cert_path.specs.Paths.{Path};
@@ -15,11 +15,13 @@ use vis_truth::truth;
 use viz_base::{Job, Mem};
 use viz_calc::Halt;
 
-/// Whether a job's formula is true of its page's rendering, laid out over a symbolic calc.
+/// Whether a job's formula is true of its page's rendering, laid out over a symbolic calc. A halt is counted by the
+/// calc, unless it is for want of memory.
 fn truth_over(alloc: Global, job: &Job, sym: &mut Sym<'_>) -> Result<bool, Halt>
     ensures grows { Grows (state_of sym.old) (state_of sym.new) }
     ensures value { IfOk result (λ yes. (e : Reading) → IsTrue ((state_of sym.new).is_open e)
         → yes ≡ is_true_at job.now e.world) }
+    ensures told { IfErr result (λ halt. IsTrue (is_told true (state_of sym.new) (Some halt))) }
 {
     match render(alloc, sym, &job.tree, job.height) {
         Ok(rendering) => truth(sym, &job.formula, &rendering, job.height),
@@ -47,32 +49,70 @@ fn is_risen(before: u64, after: u64) -> bool
     before < after || after == u64::MAX
 }
 
+/// The verdict on a leaf, or None where a number is outside 128 bits, which the calc has counted then.
+fn judge_leaf(
+    alloc: Global,
+    job: &Job,
+    node: u32,
+    sym: &mut Sym<'_>,
+) -> Result<Option<Verdict>, Mem>
+    ensures verdict { IfOk result (λ judged. IfSome judged (λ verdict. (path : Path)
+        → StandsOver job.now.range path sym.old → IsLeafVerdict job.now node path sym.old.tape.now verdict)) }
+    ensures told { IfOk result (λ judged. IfSome judged (IsTold node sym.old sym.new sym.new.trouble)) }
+    ensures untroubled { result ≡ Ok None → sym.new.trouble ≡ None }
+    ensures counted { result ≡ Ok None → 0 < sym.new.coeffs }
+{
+    let answer = truth_over(alloc, job, sym);
+    if let Some(trouble) = sym.trouble() {
+        return Ok(Some(Verdict::Rejected(reject_of(node, trouble)?)));
+    }
+    match answer {
+        Ok(true) => match sym.left() {
+            0 => Ok(Some(Verdict::Accepted)),
+            count => Ok(Some(Verdict::Rejected(Reject::Left(node, count as u64)))),
+        },
+        Ok(false) => Ok(Some(Verdict::Rejected(Reject::Unmet(node)))),
+        Err(Halt::Coeff) => Ok(None),
+        Err(Halt::Mem) => Err(Mem),
+        // A comparison that is left open is a trouble of the calc.
+        Err(Halt::Open) => unreachable!(),
+    }
+}
+
+/// The verdict of `check_leaf` over a calc that has counted no number outside 128 bits yet. The only fault is want of
+/// memory.
+pub fn check_new_leaf(
+    alloc: Global,
+    job: &Job,
+    node: u32,
+    sym: &mut Sym<'_>,
+) -> Result<Verdict, Mem>
+    requires { sym.old.coeffs ≡ 0 }
+    ensures verdict { IfOk result (λ verdict. (path : Path) → StandsOver job.now.range path sym.old
+        → IsLeafVerdict job.now node path sym.old.tape.now verdict) }
+    ensures told { IfOk result (IsTold node sym.old sym.new sym.new.trouble) }
+{
+    match judge_leaf(alloc, job, node, sym)? {
+        Some(verdict) => Ok(verdict),
+        None => Ok(Verdict::Rejected(Reject::Coeff(node))),
+    }
+}
+
 /// The verdict on a leaf of this number, over a calc that stands over the leaf's path and answers: whether the formula
 /// is true at each world of the path, and why not. Only the rejections of a leaf come.
 ///
-/// It lays the page out once, over all worlds of the path together. The only fault is want of memory; a halt of the
-/// layout that the calc does not account for, of which none is known, would be told as such too.
+/// It lays the page out once, over all worlds of the path together. The only fault is want of memory, where the calc
+/// has counted no number outside 128 bits before; over one that has, a halt for such a number would be told as want of
+/// memory too if it was not counted, of which none is known.
 pub fn check_leaf(alloc: Global, job: &Job, node: u32, sym: &mut Sym<'_>) -> Result<Verdict, Mem>
     ensures verdict { IfOk result (λ verdict. (path : Path) → StandsOver job.now.range path sym.old
         → IsLeafVerdict job.now node path sym.old.tape.now verdict) }
     ensures told { IfOk result (IsTold node sym.old sym.new sym.new.trouble) }
 {
     let before = sym.coeffs();
-    let answer = truth_over(alloc, job, sym);
-    if let Some(trouble) = sym.trouble() {
-        return Ok(Verdict::Rejected(reject_of(node, trouble)?));
-    }
-    match answer {
-        Ok(true) => match sym.left() {
-            0 => Ok(Verdict::Accepted),
-            count => Ok(Verdict::Rejected(Reject::Left(node, count as u64))),
-        },
-        Ok(false) => Ok(Verdict::Rejected(Reject::Unmet(node))),
-        Err(Halt::Coeff) if is_risen(before, sym.coeffs()) => {
-            Ok(Verdict::Rejected(Reject::Coeff(node)))
-        }
-        // Beside want of memory, no halt is known to come here: neither for a number that was not counted, nor for a
-        // comparison that was left open with no trouble.
-        Err(_) => Err(Mem),
+    match judge_leaf(alloc, job, node, sym)? {
+        Some(verdict) => Ok(verdict),
+        None if is_risen(before, sym.coeffs()) => Ok(Verdict::Rejected(Reject::Coeff(node))),
+        None => Err(Mem),
     }
 }

@@ -17,7 +17,9 @@ mod worlds;
 pub use bounds::is_low_rendering;
 pub use cuts::{Child, Cut, Opens, axis_of, cut_of, part_of, variable_of, world_count};
 pub use entry::check;
-pub use laws::{no_more_nodes_than_bytes, one_verdict_each, right_holds, unit_rows};
+pub use laws::{
+    no_more_nodes_than_bytes, one_verdict_each, right_holds, unit_rows, units_are_plain,
+};
 pub use leaf::check_leaf;
 pub use verdicts::{Reject, Verdict};
 pub use worlds::{first_untrue, holds_at};

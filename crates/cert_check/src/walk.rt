@@ -6,14 +6,16 @@ ghost use Rattle.cert_path.specs.Nodes.{names, splits, is_empty, by_worlds, by_a
 ghost use Rattle.cert_path.specs.Paths.{def, first, second, is_declared, variables};
 ghost use Rattle.cert_path.specs.Rectangles.{rectangle};
 ghost use Rattle.cert_path.specs.Shapes.{is_shaped};
+ghost use Rattle.cert_check.specs.Leaves.{node_in};
 ghost use Rattle.cert_check.specs.Rectangles.{IsWithin, cut_of, cut_at};
+ghost use Rattle.cert_check.specs.Verdicts.{IsRejected};
 ghost use Rattle.cert_check.specs.steps.Descent.{path_of};
 ghost use Rattle.cert_check.specs.steps.Grids.{IsPart};
 ghost use Rattle.cert_check.specs.steps.Tells.{Judges, Tells, node_count};
 
 use crate::cuts::{Child, cut_of, part_of, world_count};
 use crate::descent::Descent;
-use crate::leaf::check_leaf;
+use crate::leaf::check_new_leaf;
 use crate::path_worlds::{first_outside, first_untrue};
 use crate::shapes::{has_denial, is_shaped_def, is_shaped_split};
 use crate::verdicts::{Reject, Verdict};
@@ -22,13 +24,13 @@ use lin_proof::{Answer, Derivation, Facts, first_fault_among, line_count};
 use lin_row::Row;
 use std::alloc::{AllocError, Global};
 use sym_calc::Sym;
-use viz_base::{Mem, Rect};
+use viz_base::{Boxed, Mem, Rect};
 
-/// Why the walk stops.
+/// Why the walk stops. It lies in a box, so that a level of the walk takes little of the stack.
 #[derive(Drop)]
 pub enum Stop {
     Mem,
-    Rejected(Reject),
+    Rejected(Boxed<Reject>),
 }
 
 impl From<Mem> for Stop {
@@ -64,36 +66,56 @@ fn child_part(row: &Row, child: Child, part: Option<Rect>) -> Option<Rect>
 }
 
 #[tactic(auto, using(crate::proofs::Judging::judged_mem))]
+/// What is found of a node that is rejected.
+fn rejected(alloc: Global, reject: Reject) -> Result<(), Stop>
+    ensures { (job : Job) (node : Node) → IsRejected job node reject → Judges job node (node_in reject) result }
+{
+    Err(Stop::Rejected(Boxed::new(alloc, reject)?))
+}
+
+// The walk goes some 500 levels deep. What needs much of the stack stands in calls that have returned before it
+// descends, none of them inlined.
+
+#[tactic(auto, using(crate::proofs::Judging::judged_mem))]
 /// Whether a def is well shaped.
-fn check_def(descent: &Descent<'_>, number: u32, row: &Row, by: i128) -> Result<(), Stop>
+#[inline(never)]
+fn check_def(
+    alloc: Global,
+    descent: &Descent<'_>,
+    number: u32,
+    row: &Row,
+    by: i128,
+) -> Result<(), Stop>
     requires { variables (path_of descent.now.above) < 2 ^ 32 }
     ensures { Judges descent.now.job.now (node_on (path_of descent.now.above) (names row.now by)) number result }
 {
     if is_shaped_def(descent, row, by)? {
         Ok(())
     } else {
-        Err(Stop::Rejected(Reject::Shape(number)))
+        rejected(alloc, Reject::Shape(number))
     }
 }
 
 #[tactic(auto, using(crate::proofs::Judging::judged_mem))]
 /// Whether a split is well shaped, and its denial in `i128`.
-fn check_split(descent: &Descent<'_>, number: u32, row: &Row) -> Result<(), Stop>
+#[inline(never)]
+fn check_split(alloc: Global, descent: &Descent<'_>, number: u32, row: &Row) -> Result<(), Stop>
     requires { variables (path_of descent.now.above) < 2 ^ 32 }
     ensures { Judges descent.now.job.now (node_on (path_of descent.now.above) (splits row.now)) number result }
 {
     if !is_shaped_split(descent, row) {
-        return Err(Stop::Rejected(Reject::Shape(number)));
+        return rejected(alloc, Reject::Shape(number));
     }
     if has_denial(row)? {
         Ok(())
     } else {
-        Err(Stop::Rejected(Reject::Coeff(number)))
+        rejected(alloc, Reject::Coeff(number))
     }
 }
 
 #[tactic(auto, using(crate::proofs::Judging::judged_mem))]
 /// Whether a void's derivation refutes the facts of its path.
+#[inline(never)]
 fn check_void(
     alloc: Global,
     descent: &Descent<'_>,
@@ -112,12 +134,13 @@ fn check_void(
     };
     match first_fault_among(alloc, facts, descent.variables(), why)? {
         None => Ok(()),
-        Some(line) => Err(Stop::Rejected(Reject::Line(number, 0, line))),
+        Some(line) => rejected(alloc, Reject::Line(number, 0, line)),
     }
 }
 
 #[tactic(auto, using(crate::proofs::Judging::judged_mem))]
 /// Goes through the worlds of a grid: those of its part that are on its path.
+#[inline(never)]
 fn check_grid(
     alloc: Global,
     descent: &Descent<'_>,
@@ -132,19 +155,20 @@ fn check_grid(
         return Ok(());
     };
     if world_count(rect) > 64 {
-        return Err(Stop::Rejected(Reject::Shape(number)));
+        return rejected(alloc, Reject::Shape(number));
     }
     if first_outside(alloc, descent.above(), rect)?.is_some() {
-        return Err(Stop::Rejected(Reject::Coeff(number)));
+        return rejected(alloc, Reject::Coeff(number));
     }
     match first_untrue(alloc, descent.job(), descent.above(), rect)? {
-        Some(world) => Err(Stop::Rejected(Reject::Untrue(number, world))),
+        Some(world) => rejected(alloc, Reject::Untrue(number, world)),
         None => Ok(()),
     }
 }
 
 #[tactic(auto, using(crate::proofs::Judging::judged_mem))]
 /// Lays out a leaf's page by its answers.
+#[inline(never)]
 fn check_answers(
     alloc: Global,
     descent: &Descent<'_>,
@@ -155,9 +179,9 @@ fn check_answers(
     ensures { Judges descent.now.job.now (node_on (path_of descent.now.above) (by_answers answers.now)) number result }
 {
     let mut sym = Sym::new(descent.path(), answers);
-    match check_leaf(alloc, descent.job(), number, &mut sym)? {
+    match check_new_leaf(alloc, descent.job(), number, &mut sym)? {
         Verdict::Accepted => Ok(()),
-        Verdict::Rejected(reject) => Err(Stop::Rejected(reject)),
+        Verdict::Rejected(reject) => rejected(alloc, reject),
     }
 }
 
@@ -192,23 +216,30 @@ pub fn check_node<'a>(
     ensures above { OnOk result (path_of descent.new.above ≡ path_of descent.old.above) }
 {
     match node {
-        CertNode::Def(row, by, below) => match check_def(descent, number, row, *by) {
-            Ok(()) => check_below(alloc, descent, row, *by, below.get(), number + 1, part),
-            Err(stop) => Err(stop),
-        },
-        CertNode::Split(row, first, second) => match check_split(descent, number, row) {
-            Ok(()) => check_parts(
-                alloc,
-                descent,
-                row,
-                first.get(),
-                second.get(),
-                number + 1,
-                part,
-            ),
-            Err(stop) => Err(stop),
-        },
-        CertNode::Void(why) => after_end(number, check_void(alloc, descent, number, why)),
+        CertNode::Def(row, by, below) => {
+            let row = row.get();
+            let by = *by.get();
+            match check_def(alloc, descent, number, row, by) {
+                Ok(()) => check_below(alloc, descent, row, by, below.get(), number + 1, part),
+                Err(stop) => Err(stop),
+            }
+        }
+        CertNode::Split(row, first, second) => {
+            let row = row.get();
+            match check_split(alloc, descent, number, row) {
+                Ok(()) => check_parts(
+                    alloc,
+                    descent,
+                    row,
+                    first.get(),
+                    second.get(),
+                    number + 1,
+                    part,
+                ),
+                Err(stop) => Err(stop),
+            }
+        }
+        CertNode::Void(why) => after_end(number, check_void(alloc, descent, number, why.get())),
         CertNode::Grid => after_end(number, check_grid(alloc, descent, number, part)),
         CertNode::Leaf(answers) => after_end(
             number,

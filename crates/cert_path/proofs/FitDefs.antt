@@ -25,7 +25,7 @@ decides_below n d = (λ e. omega (arith, ints, e), λ less. by_test (lt_z n d) r
     by_test true e less = refl
     by_test false e less = absurd (omega (arith, ints, e, less))
 
-decides_remainder : (d n : ℤ) → Decides (is_remainder d n) (IsRemainder d n)
+pub decides_remainder : (d n : ℤ) → Decides (is_remainder d n) (IsRemainder d n)
 decides_remainder d n =
     let both = Decides-and (not (lt_z n (pos 0))) (lt_z n d) (Decides-not (lt_z n (pos 0)) (decides_below n (pos 0))) (decides_below n d) in (
       λ e. let h = both.0 e in (at_least h.0, h.1),

@@ -12,15 +12,16 @@ pub struct Cert {
     pub root: CertNode,
 }
 
-/// A part of the range, and how it is decided there.
+/// A part of the range, and how it is decided there. Whatever a node says, it takes 32 bytes: what is larger lies in
+/// boxes, so that a grid beside a split does not take a row's room.
 #[derive(Debug, Drop)]
 pub enum CertNode {
     /// In the part below, the next variable is the row divided by a number and rounded down.
-    Def(Row, i128, Boxed<CertNode>),
+    Def(Boxed<Row>, Boxed<i128>, Boxed<CertNode>),
     /// The row is at least 0 in the first part, and below 0 in the second.
-    Split(Row, Boxed<CertNode>, Boxed<CertNode>),
+    Split(Boxed<Row>, Boxed<CertNode>, Boxed<CertNode>),
     /// The part has no world: a derivation refutes its facts.
-    Void(Derivation),
+    Void(Boxed<Derivation>),
     /// Each world of the part is laid out by itself.
     Grid,
     /// The part is laid out as a whole, and each comparison of the layout is answered in turn.

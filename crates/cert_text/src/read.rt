@@ -54,7 +54,7 @@ fn read_front(alloc: Global, cursor: &mut Cursor) -> Result<Cert, Stop>
     cursor.word(b"vizlog-cert 1\njob ")?;
     let job = cursor.digest()?;
     cursor.word(b"\n")?;
-    let root = read_node(alloc, cursor, MOST_LEVELS)?;
+    let root = read_node(alloc, cursor, MOST_LEVELS)?.into_inner();
     Ok(Cert { job, root })
 }
 
@@ -282,13 +282,23 @@ fn read_answers(alloc: Global, cursor: &mut Cursor) -> Result<List<Answer>, Stop
     Err(Stop::Refused)
 }
 
+/// A row in a box of its own, and what stands behind it.
+#[inline(never)]
+fn read_boxed_row(alloc: Global, cursor: &mut Cursor, is_def: bool) -> Result<Boxed<Row>, Stop>
+    ensures { Reads result (read_row is_def cursor.old.rest.now) cursor.new.rest.now }
+{
+    let row = read_row(alloc, cursor, is_def)?;
+    Ok(Boxed::new(alloc, row)?)
+}
+
 /// A void, a grid or a leaf.
 fn read_flat(alloc: Global, cursor: &mut Cursor) -> Result<CertNode, Stop>
     ensures { Reads result (read_flat cursor.old.rest.now) cursor.new.rest.now }
 {
     if cursor.begins(b'v') {
         cursor.word(b"void\n")?;
-        return Ok(CertNode::Void(read_derivation(alloc, cursor, MOST_CASES)?));
+        let why = read_derivation(alloc, cursor, MOST_CASES)?;
+        return Ok(CertNode::Void(Boxed::new(alloc, why)?));
     }
     if cursor.begins(b'g') {
         cursor.word(b"grid\n")?;
@@ -298,32 +308,45 @@ fn read_flat(alloc: Global, cursor: &mut Cursor) -> Result<CertNode, Stop>
     Ok(CertNode::Leaf(read_answers(alloc, cursor)?))
 }
 
+/// A void, a grid or a leaf in a box of its own.
+#[inline(never)]
+fn read_boxed_flat(alloc: Global, cursor: &mut Cursor) -> Result<Boxed<CertNode>, Stop>
+    ensures { Reads result (read_flat cursor.old.rest.now) cursor.new.rest.now }
+{
+    let node = read_flat(alloc, cursor)?;
+    Ok(Boxed::new(alloc, node)?)
+}
+
+// The walk over nodes goes some 500 levels deep. What needs much of the stack stands in calls that have returned
+// before it descends, none of them inlined, and what they give lies in boxes.
+
 /// What stands behind "def ", with at most so many levels below it.
 #[cycle(nodes)]
-fn read_def(alloc: Global, cursor: &mut Cursor, levels: u16) -> Result<CertNode, Stop>
+fn read_def(alloc: Global, cursor: &mut Cursor, levels: u16) -> Result<Boxed<CertNode>, Stop>
     ensures { Reads result (read_def (read_node levels) cursor.old.rest.now) cursor.new.rest.now }
 {
-    let row = read_row(alloc, cursor, true)?;
+    let row = read_boxed_row(alloc, cursor, true)?;
     let (divisor, _) = natural(cursor, (b'\n', b'\n'), 1, MOST_TIMES)?;
+    let divisor = Boxed::new(alloc, divisor as i128)?;
     let below = read_node(alloc, cursor, levels)?;
-    Ok(CertNode::Def(row, divisor as i128, Boxed::new(alloc, below)?))
+    Ok(Boxed::new(alloc, CertNode::Def(row, divisor, below))?)
 }
 
 /// What stands behind "split ", with at most so many levels below it.
 #[cycle(nodes)]
-fn read_split(alloc: Global, cursor: &mut Cursor, levels: u16) -> Result<CertNode, Stop>
+fn read_split(alloc: Global, cursor: &mut Cursor, levels: u16) -> Result<Boxed<CertNode>, Stop>
     ensures { Reads result (read_split (read_node levels) cursor.old.rest.now) cursor.new.rest.now }
 {
-    let row = read_row(alloc, cursor, false)?;
+    let row = read_boxed_row(alloc, cursor, false)?;
     let first = read_node(alloc, cursor, levels)?;
     let second = read_node(alloc, cursor, levels)?;
-    Ok(CertNode::Split(row, Boxed::new(alloc, first)?, Boxed::new(alloc, second)?))
+    Ok(Boxed::new(alloc, CertNode::Split(row, first, second))?)
 }
 
 /// A node below which at most `levels` defs and splits stand one in another.
 #[cycle(nodes)]
 #[tactic(auto, unfolding(crate::specs::steps::Whole::read_node))]
-fn read_node(alloc: Global, cursor: &mut Cursor, levels: u16) -> Result<CertNode, Stop>
+fn read_node(alloc: Global, cursor: &mut Cursor, levels: u16) -> Result<Boxed<CertNode>, Stop>
     ensures { Reads result (read_node levels cursor.old.rest.now) cursor.new.rest.now }
 {
     if levels > 0 && cursor.begins(b'd') {
@@ -334,5 +357,5 @@ fn read_node(alloc: Global, cursor: &mut Cursor, levels: u16) -> Result<CertNode
         cursor.word(b"split ")?;
         return read_split(alloc, cursor, levels - 1);
     }
-    read_flat(alloc, cursor)
+    read_boxed_flat(alloc, cursor)
 }

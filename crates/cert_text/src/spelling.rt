@@ -151,15 +151,18 @@ fn is_node(node: &CertNode, levels: u16) -> bool
 {
     match node {
         CertNode::Def(row, divisor, below) => {
-            levels > 0 && is_row(row) && *divisor > 0 && is_node(below.get(), levels - 1)
+            levels > 0
+                && is_row(row.get())
+                && *divisor.get() > 0
+                && is_node(below.get(), levels - 1)
         }
         CertNode::Split(row, first, second) => {
             levels > 0
-                && is_row(row)
+                && is_row(row.get())
                 && is_node(first.get(), levels - 1)
                 && is_node(second.get(), levels - 1)
         }
-        CertNode::Void(why) => is_derivation(why, MOST_CASES),
+        CertNode::Void(why) => is_derivation(why.get(), MOST_CASES),
         CertNode::Grid => true,
         CertNode::Leaf(answers) => are_answers(answers.as_slice()),
     }

@@ -182,22 +182,22 @@ fn push_node(text: &mut Vec<u8>, node: &CertNode) -> Result<(), AllocError>
     match node {
         CertNode::Def(row, divisor, below) => {
             text.extend_from_slice(b"def ")?;
-            push_row(text, row)?;
+            push_row(text, row.get())?;
             text.extend_from_slice(b" by ")?;
-            push_int(text, *divisor)?;
+            push_int(text, *divisor.get())?;
             text.extend_from_slice(b"\n")?;
             push_node(text, below.get())
         }
         CertNode::Split(row, first, second) => {
             text.extend_from_slice(b"split ")?;
-            push_row(text, row)?;
+            push_row(text, row.get())?;
             text.extend_from_slice(b"\n")?;
             push_node(text, first.get())?;
             push_node(text, second.get())
         }
         CertNode::Void(why) => {
             text.extend_from_slice(b"void\n")?;
-            push_derivation(text, why)
+            push_derivation(text, why.get())
         }
         CertNode::Grid => text.extend_from_slice(b"grid\n"),
         CertNode::Leaf(answers) => {

@@ -18,7 +18,7 @@ use Rattle.cert_check.proofs.walk.+nodes.Goals as goal
 pub check_node-check_below-requires : goal.check_node-check_below-requires
 check_node-check_below-requires t c =
     let path = path_of c.args.descent.now.above in
-    let good = is_judged c.args.descent.now.job.now (node_on path (names c.in-Def.row (to_z w128 (of_z w128 c.in-Def.by)))) c.args.number tt c.in-Ok.ensures in
+    let good = is_judged c.args.descent.now.job.now (node_on path (names c.get-row.result.now (to_z w128 (of_z w128 c.get-by.result.now)))) c.args.number tt c.in-Ok.ensures in
     let whole : node_count c.args.node.now ≡ 1 + node_count c.in-Def.below = ap node_count c.in-Def.is ∙ count-Def c.in-Def.row c.in-Def.by c.in-Def.below in
     let below : node_count c.get.result.now ≡ node_count c.in-Def.below = ap node_count c.get.ensures in
     (omega arith, (omega arith, (omega arith, (good.shaped, (c.requires.part, c.requires.within)))))
@@ -27,23 +27,25 @@ pub check_node-returns-in-Ok-clause-tells : goal.check_node-returns-in-Ok-clause
 check_node-returns-in-Ok-clause-tells t c =
     let s = c.args.descent.now in
     let path = path_of s.above in
-    let by = to_z w128 (of_z w128 c.in-Def.by) in
-    let fits : FitsSigned w128 c.in-Def.by = search rules in
-    let same : by ≡ c.in-Def.by = to_z-of_z fits in
+    let row = c.get-row.result.now in
+    let by = to_z w128 (of_z w128 c.get-by.result.now) in
+    let fits : FitsSigned w128 c.get-by.result.now = search rules in
+    let same : by ≡ c.in-Def.by = to_z-of_z fits ∙ c.get-by.ensures in
     let below = c.get.result.now in
-    let is : c.args.node.now ≡ Def c.in-Def.row by below = c.in-Def.is ∙ (λ i. Def c.in-Def.row (sym same i) (sym c.get.ensures i)) in
-    rest_told s.job.now c.args.node.now path (names c.in-Def.row by) (nodes_from below (def c.in-Def.row by ∷ path)) (def_nodes c.args.node.now path c.in-Def.row by below is) c.args.number
+    let is : c.args.node.now ≡ Def row by below = c.in-Def.is ∙ (λ i. Def (sym c.get-row.ensures i) (sym same i) (sym c.get.ensures i)) in
+    rest_told s.job.now c.args.node.now path (names row by) (nodes_from below (def row by ∷ path)) (def_nodes c.args.node.now path row by below is) c.args.number
     c.check_below.result c.in-Ok.ensures c.check_below.ensures.tells
 
 pub check_node-returns-in-Err-clause-tells : goal.check_node-returns-in-Err-clause-tells
 check_node-returns-in-Err-clause-tells t c =
     let s = c.args.descent.now in
     let path = path_of s.above in
-    let by = to_z w128 (of_z w128 c.in-Def.by) in
-    let fits : FitsSigned w128 c.in-Def.by = search rules in
-    let same : by ≡ c.in-Def.by = to_z-of_z fits in
-    let is : c.args.node.now ≡ Def c.in-Def.row by c.in-Def.below = c.in-Def.is ∙ (λ i. Def c.in-Def.row (sym same i) c.in-Def.below) in
-    head_told s.job.now c.args.node.now path (names c.in-Def.row by) (nodes_from c.in-Def.below (def c.in-Def.row by ∷ path)) (def_nodes c.args.node.now path c.in-Def.row by c.in-Def.below is) c.args.number
+    let row = c.get-row.result.now in
+    let by = to_z w128 (of_z w128 c.get-by.result.now) in
+    let fits : FitsSigned w128 c.get-by.result.now = search rules in
+    let same : by ≡ c.in-Def.by = to_z-of_z fits ∙ c.get-by.ensures in
+    let is : c.args.node.now ≡ Def row by c.in-Def.below = c.in-Def.is ∙ (λ i. Def (sym c.get-row.ensures i) (sym same i) c.in-Def.below) in
+    head_told s.job.now c.args.node.now path (names row by) (nodes_from c.in-Def.below (def row by ∷ path)) (def_nodes c.args.node.now path row by c.in-Def.below is) c.args.number
     c.in-Err.stop c.in-Err.ensures
 
 pub check_below-returns-in-Err-clause-tells : goal.check_below-returns-in-Err-clause-tells
@@ -54,9 +56,9 @@ check_below-returns-in-Err-clause-tells t c = tells_mem _ _ _
 pub check_node-check_parts-requires : goal.check_node-check_parts-requires
 check_node-check_parts-requires t c =
     let path = path_of c.args.descent.now.above in
-    let row = c.in-Split.row in
+    let row = c.get-row-in-Split.result.now in
     let good = is_judged c.args.descent.now.job.now (node_on path (splits row)) c.args.number tt c.in-Ok-check_split.ensures in
-    let whole : node_count c.args.node.now ≡ 1 + (node_count c.in-Split.first + node_count c.in-Split.second) = ap node_count c.in-Split.is ∙ count-Split row c.in-Split.first c.in-Split.second in
+    let whole : node_count c.args.node.now ≡ 1 + (node_count c.in-Split.first + node_count c.in-Split.second) = ap node_count c.in-Split.is ∙ count-Split c.in-Split.row c.in-Split.first c.in-Split.second in
     let one : node_count c.get-in-Ok-check_split.result.now ≡ node_count c.in-Split.first = ap node_count c.get-in-Ok-check_split.ensures in
     let other : node_count c.get-in-Ok-check_split-2.result.now ≡ node_count c.in-Split.second = ap node_count c.get-in-Ok-check_split-2.ensures in
     (omega arith, (omega arith, (omega arith, ((and_parts (is_declared path row) (has_variable row) good.shaped).0, (good.decides, (c.requires.part, c.requires.within))))))
@@ -65,10 +67,10 @@ pub check_node-returns-in-Ok-check_split-clause-tells : goal.check_node-returns-
 check_node-returns-in-Ok-check_split-clause-tells t c =
     let s = c.args.descent.now in
     let path = path_of s.above in
-    let row = c.in-Split.row in
+    let row = c.get-row-in-Split.result.now in
     let one = c.get-in-Ok-check_split.result.now in
     let other = c.get-in-Ok-check_split-2.result.now in
-    let is : c.args.node.now ≡ Split row one other = c.in-Split.is ∙ (λ i. Split row (sym c.get-in-Ok-check_split.ensures i) (sym c.get-in-Ok-check_split-2.ensures i)) in
+    let is : c.args.node.now ≡ Split row one other = c.in-Split.is ∙ (λ i. Split (sym c.get-row-in-Split.ensures i) (sym c.get-in-Ok-check_split.ensures i) (sym c.get-in-Ok-check_split-2.ensures i)) in
     rest_told s.job.now c.args.node.now path (splits row) (nodes_from one (first row ∷ path) ++ nodes_from other (second row ∷ path)) (split_nodes c.args.node.now path row one other is) c.args.number
     c.check_parts.result c.in-Ok-check_split.ensures c.check_parts.ensures.tells
 
@@ -76,9 +78,10 @@ pub check_node-returns-in-Err-check_split-clause-tells : goal.check_node-returns
 check_node-returns-in-Err-check_split-clause-tells t c =
     let s = c.args.descent.now in
     let path = path_of s.above in
-    let row = c.in-Split.row in
+    let row = c.get-row-in-Split.result.now in
+    let is : c.args.node.now ≡ Split row c.in-Split.first c.in-Split.second = c.in-Split.is ∙ (λ i. Split (sym c.get-row-in-Split.ensures i) c.in-Split.first c.in-Split.second) in
     head_told s.job.now c.args.node.now path (splits row) (nodes_from c.in-Split.first (first row ∷ path) ++ nodes_from c.in-Split.second (second row ∷ path))
-    (split_nodes c.args.node.now path row c.in-Split.first c.in-Split.second c.in-Split.is) c.args.number c.in-Err-check_split.stop c.in-Err-check_split.ensures
+    (split_nodes c.args.node.now path row c.in-Split.first c.in-Split.second is) c.args.number c.in-Err-check_split.stop c.in-Err-check_split.ensures
 
 pub check_parts-returns-in-Ok-clause-tells : goal.check_parts-returns-in-Ok-clause-tells
 check_parts-returns-in-Ok-clause-tells t c =

@@ -7,9 +7,10 @@ use Rattle.sym_calc.specs.Floors.{values_by}
 use Rattle.sym_calc.specs.Knowledge.{are_met}
 use Rattle.cert_check.specs.declared.verdicts.Verdict.{Verdict}
 use Rattle.cert_check.specs.steps.Descent.{path_of}
+use Rattle.cert_check.specs.steps.Tells.{Judges}
 use Rattle.cert_check.specs.Leaves.{StandsOver, IsLeafVerdict}
 use Rattle.cert_check.proofs.Descents.{sound_is}
-use Rattle.cert_check.proofs.Judging.{judged, judged_bad, known_along, leaf_rejected}
+use Rattle.cert_check.proofs.Judging.{judged, known_along, leaf_rejected}
 use Rattle.cert_check.proofs.walk.check_answers.Goals as goal
 
 pub new-sym-requires : goal.new-sym-requires
@@ -17,12 +18,15 @@ new-sym-requires c =
     let s = c.args.descent.now in
     known_along s.job.now (path_of s.above) c.path.result.now.facts c.path.result.now.floors s.sound c.requires.few c.path.ensures.facts c.path.ensures.floors
 
+pub check_new_leaf-requires : goal.check_new_leaf-requires
+check_new_leaf-requires c = ap (λ (t : State). t.coeffs) c.new-sym.ensures.state
+
 pub returns-in-Accepted : goal.returns-in-Accepted
 returns-in-Accepted c =
     let s = c.args.descent.now in
     let path = path_of s.above in
     let n = c.args.number in
-    let leaf = c.in_ok-check_leaf in
+    let leaf = c.in_ok-check_new_leaf in
     let along : StandsOver s.job.now.range path c.new-sym.result = record {
       sound = sound_is path s.sound;
       facts_are = ap (λ (p : Path). p.facts) c.new-sym.ensures.path ∙ c.path.ensures.facts;
@@ -41,7 +45,7 @@ returns c =
     let s = c.args.descent.now in
     let path = path_of s.above in
     let n = c.args.number in
-    let leaf = c.in_ok-check_leaf in
+    let leaf = c.in_ok-check_new_leaf in
     let along : StandsOver s.job.now.range path c.new-sym.result = record {
       sound = sound_is path s.sound;
       facts_are = ap (λ (p : Path). p.facts) c.new-sym.ensures.path ∙ c.path.ensures.facts;
@@ -53,5 +57,6 @@ returns c =
     let found = subst (λ (j : Job). IsLeafVerdict j n path c.new-sym.result.tape.now leaf.field-0) c.job.ensures (leaf.ensures.verdict path over) in
     let here = subst (λ t. IsLeafVerdict s.job.now n path t leaf.field-0) c.new-sym.ensures.tape found in
     let at = subst (λ (v : Verdict). IsLeafVerdict s.job.now n path c.args.answers.now v) c.in-Rejected.is here in
-    judged_bad (Unit {0}) s.job.now (node_on path (by_answers c.args.answers.now)) n c.in-Rejected.reject at.0
-    (leaf_rejected s.job.now path c.args.answers.now c.in-Rejected.reject at.1)
+    let node = node_on path (by_answers c.args.answers.now) in
+    subst (λ m. Judges s.job.now node m c.rejected.result) at.0
+    (c.rejected.ensures s.job.now node (leaf_rejected s.job.now path c.args.answers.now c.in-Rejected.reject at.1))

@@ -1,9 +1,8 @@
-use Rattle.std.proofs.Common.{◌∙◌, refl, sym, FitsSigned, to_z-of_z}
+use Rattle.std.proofs.Common.{◌∙◌, sym, FitsSigned, to_z-of_z}
 use Rattle.std.specs.Int.{w128}
 use Rattle.cert_path.specs.Nodes.{names, node_on}
-use Rattle.cert_check.specs.declared.verdicts.Reject.TheVariants.{Shape}
 use Rattle.cert_check.specs.steps.Descent.{path_of}
-use Rattle.cert_check.proofs.Judging.{judged, judged_bad}
+use Rattle.cert_check.proofs.Judging.{judged}
 use Rattle.cert_check.proofs.walk.check_def.Goals as goal
 
 pub returns-then-branch : goal.returns-then-branch
@@ -17,5 +16,4 @@ pub returns-else-branch : goal.returns-else-branch
 returns-else-branch c =
     let fits : FitsSigned w128 c.args.by = c.ranges.by in
     let shaped = simp to_z-of_z at c.in_ok-is_shaped_def.ensures in
-    judged_bad (Unit {0}) c.args.descent.now.job.now (node_on (path_of c.args.descent.now.above) (names c.args.row.now c.args.by)) c.args.number (Shape c.args.number) refl
-    (sym shaped ∙ c.if-branch.false)
+    c.rejected.ensures c.args.descent.now.job.now (node_on (path_of c.args.descent.now.above) (names c.args.row.now c.args.by)) (sym shaped ∙ c.if-branch.false)

@@ -2,13 +2,12 @@ use Rattle.std.proofs.Common.{◌≡◌, ◌<◌, ◌≤◌, ◌∙◌, true, fa
 use Rattle.std.specs.Prelude.{is_some}
 use Rattle.cert_path.specs.Nodes.{by_worlds, node_on}
 use Rattle.cert_path.specs.Rectangles.{rectangle}
-use Rattle.cert_check.specs.declared.verdicts.Reject.TheVariants.{Shape, Coeff, Untrue}
 use Rattle.cert_check.specs.steps.Descent.{path_of}
 use Rattle.viz_base.specs.declared.worlds.World.{World}
 use Rattle.cert_check.specs.Rectangles.{world_count as count_of}
 use Rattle.cert_check.specs.steps.Grids.{IsPart, are_above_zero, first_outside, first_untrue}
 use Rattle.cert_check.proofs.Descents.{numbers_above_zero}
-use Rattle.cert_check.proofs.Judging.{judged, judged_bad, grid_empty, grid_large, grid_outside, grid_untrue, grid_good}
+use Rattle.cert_check.proofs.Judging.{judged, grid_empty, grid_large, grid_outside, grid_untrue, grid_good}
 use Rattle.cert_check.proofs.walk.check_grid.Goals as goal
 
 pub returns-in_default : goal.returns-in_default
@@ -24,7 +23,7 @@ returns-then-world_count-gt64 c =
     let path = path_of s.above in
     let part = subst (λ o. IsPart o (rectangle s.job.now.range path)) c.in-Some.is c.requires.part in
     let large : 64 < count_of c.in-Some.rect = omega arith in
-    judged_bad (Unit {0}) s.job.now (node_on path by_worlds) c.args.number (Shape c.args.number) refl (grid_large s.job.now s.above c.in-Some.rect part c.args.number large)
+    c.rejected.ensures s.job.now (node_on path by_worlds) (grid_large s.job.now s.above c.in-Some.rect part c.args.number large)
 
 pub first_outside-requires-clause-above : goal.first_outside-requires-clause-above
 first_outside-requires-clause-above c =
@@ -53,7 +52,7 @@ returns-then-is_some c =
     let small : count_of c.in-Some.rect ≤ 64 = omega arith in
     let found = some_of c.in_ok-first_outside.field-0 (sym c.is_some.ensures ∙ c.if-is_some.true) in
     let is = sym (c.in_ok-first_outside.ensures ∙ ap (λ l. first_outside l c.in-Some.rect) c.above.ensures) ∙ found.1 in
-    judged_bad (Unit {0}) s.job.now (node_on path by_worlds) c.args.number (Coeff c.args.number) refl (grid_outside s.job.now s.above c.in-Some.rect part c.args.number found.0 small is)
+    c.rejected-then-is_some.ensures s.job.now (node_on path by_worlds) (grid_outside s.job.now s.above c.in-Some.rect part c.args.number found.0 small is)
 
 pub returns-in-Some-2 : goal.returns-in-Some-2
 returns-in-Some-2 c =
@@ -64,7 +63,7 @@ returns-in-Some-2 c =
     let nowhere = sym (c.in_ok-first_outside.ensures ∙ ap (λ l. first_outside l c.in-Some.rect) c.above.ensures)
     ∙ none_of c.in_ok-first_outside.field-0 (sym c.is_some.ensures ∙ c.if-is_some.false) in
     let is = sym (c.in_ok-world.ensures ∙ (λ i. first_untrue (c.job.ensures i) (c.above-2.ensures i) c.in-Some.rect)) ∙ c.in-Some-2.is in
-    judged_bad (Unit {0}) s.job.now (node_on path by_worlds) c.args.number (Untrue c.args.number c.in-Some-2.world) refl
+    c.rejected-in-Some-2.ensures s.job.now (node_on path by_worlds)
     (grid_untrue s.job.now s.above c.in-Some.rect part c.args.number c.in-Some-2.world small nowhere is)
 
 pub returns-in-None : goal.returns-in-None

@@ -1,13 +1,12 @@
-use Rattle.std.proofs.Common.{◌∙◌, refl, sym}
+use Rattle.std.proofs.Common.{◌∙◌, sym}
 use Rattle.cert_path.specs.Nodes.{splits, node_on}
-use Rattle.cert_check.specs.declared.verdicts.Reject.TheVariants.{Shape, Coeff}
 use Rattle.cert_check.specs.steps.Descent.{path_of}
-use Rattle.cert_check.proofs.Judging.{judged, judged_bad}
+use Rattle.cert_check.proofs.Judging.{judged}
 use Rattle.cert_check.proofs.walk.check_split.Goals as goal
 
 pub returns-then-not-is_shaped_split : goal.returns-then-not-is_shaped_split
 returns-then-not-is_shaped_split c =
-    judged_bad (Unit {0}) c.args.descent.now.job.now (node_on (path_of c.args.descent.now.above) (splits c.args.row.now)) c.args.number (Shape c.args.number) refl
+    c.rejected.ensures c.args.descent.now.job.now (node_on (path_of c.args.descent.now.above) (splits c.args.row.now))
     (sym c.is_shaped_split.ensures ∙ c.if-not-is_shaped_split.true)
 
 pub returns-then-branch : goal.returns-then-branch
@@ -17,5 +16,5 @@ returns-then-branch c =
 
 pub returns-else-branch : goal.returns-else-branch
 returns-else-branch c =
-    judged_bad (Unit {0}) c.args.descent.now.job.now (node_on (path_of c.args.descent.now.above) (splits c.args.row.now)) c.args.number (Coeff c.args.number) refl
+    c.rejected-else-branch.ensures c.args.descent.now.job.now (node_on (path_of c.args.descent.now.above) (splits c.args.row.now))
     (sym c.is_shaped_split.ensures ∙ c.if-not-is_shaped_split.false, sym c.in_ok-has_denial.ensures ∙ c.if-branch.false)

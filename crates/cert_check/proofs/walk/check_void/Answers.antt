@@ -1,9 +1,8 @@
-use Rattle.std.proofs.Common.{◌∙◌, ◌++◌, [], refl}
+use Rattle.std.proofs.Common.{◌∙◌, ◌++◌, []}
 use Rattle.lin_proof.specs.Derivations.{first_fault}
 use Rattle.cert_path.specs.Nodes.{is_empty, node_on}
-use Rattle.cert_check.specs.declared.verdicts.Reject.TheVariants.{Line}
 use Rattle.cert_check.specs.steps.Descent.{path_of}
-use Rattle.cert_check.proofs.Judging.{judged, judged_bad, void_good, void_bad}
+use Rattle.cert_check.proofs.Judging.{judged, void_good, void_bad}
 use Rattle.cert_check.proofs.walk.check_void.Goals as goal
 
 pub returns-in-None : goal.returns-in-None
@@ -21,5 +20,5 @@ returns-in-Some c =
     let path = path_of s.above in
     let known = c.as_slice.result.now in
     let found = c.in_ok-first_fault_among.ensures ∙ (λ i. first_fault (known ++ []) (c.variables.ensures i) c.args.why.now) in
-    judged_bad (Unit {0}) s.job.now (node_on path (is_empty c.args.why.now)) c.args.number (Line c.args.number 0 c.in-Some.line) refl
+    c.rejected.ensures s.job.now (node_on path (is_empty c.args.why.now))
     (void_bad s.job.now path known c.args.why.now c.args.number c.in-Some.line (c.as_slice.ensures ∙ c.path.ensures.facts) c.in_ok-first_fault_among.field-0 found c.in-Some.is)

@@ -1,13 +1,15 @@
-use Rattle.std.proofs.Common.{◌≡◌, ◌∙◌, ◌∷◌, ◌++◌, [], true, ◌&&◌, length, sym, ap, subst, arith, rules, FitsSigned, to_z-of_z}
+use Rattle.std.proofs.Common.{◌≡◌, ◌∙◌, ◌∷◌, ◌++◌, [], true, ◌&&◌, Err, length, sym, ap, subst, arith, rules, FitsSigned, to_z-of_z}
 use Rattle.std.specs.Int.{w128}
 use Rattle.std.specs.List.{list_any}
-use Rattle.cert_path.specs.Paths.{def}
+use Rattle.std.proofs.lemmas.Bool.{false≢true}
+use Rattle.cert_path.specs.Paths.{def, variables}
 use Rattle.cert_path.specs.Facts.{step_facts, facts}
-use Rattle.sym_calc.specs.Floors.{same_floor, floors_of}
+use Rattle.sym_calc.specs.Floors.{same_floor, floors_of, floor_fits}
 use Rattle.sym_calc.proofs.Along.{variables_of}
 use Rattle.cert_check.specs.declared.descent.Above.TheVariants.{Def}
 use Rattle.cert_check.specs.steps.Descent.{path_of, are_sound}
 use Rattle.cert_check.proofs.Descents.{after_push, fit_here}
+use Rattle.cert_check.proofs.FitFloors.{floor_is_fit}
 use Rattle.cert_check.proofs.descent.Descent.enter_def.Goals as goal
 
 pub define-requires-clause-new : goal.define-requires-clause-new
@@ -49,3 +51,16 @@ returns-in-Ok-clause-above c =
     let s = c.args.self.now in
     let fits : FitsSigned w128 c.args.by = c.ranges.by in
     after_push s.above c.push.new.self (Def c.args.row c.args.by) (simp to_z-of_z at c.in_ok-push.ensures.ok)
+
+pub unreachable-requires : goal.unreachable-requires
+unreachable-requires c =
+    let s = c.args.self.now in
+    let path = path_of s.above in
+    let by = c.args.by in
+    let fits : FitsSigned w128 by = c.ranges.by in
+    let copied : c.in_ok-clone.field-0 ≡ c.args.row.now = search rules in
+    let fit = fit_here s.job.now.range path c.args.row.now by c.requires.shaped in
+    let good = floor_is_fit by fits fit.above (variables path) c.args.row.now c.note_order.ensures fit.declared fit.remainders in
+    let told = c.define.ensures.outside (c.in-Err-Coeff.is ∙ ap Err c.in-Err-Coeff.field-0-is) in
+    let outside = simp to_z-of_z at told in
+    absurd (false≢true (sym outside ∙ (λ i. floor_fits (c.variables-variable.ensures i) (record { row = copied i; by = by })) ∙ good))

@@ -6,7 +6,7 @@ use Rattle.cert_check.specs.Truths.{is_true_at}
 use Rattle.cert_check.specs.declared.verdicts.Verdict.TheVariants.{Rejected}
 use Rattle.cert_check.specs.Leaves.{IsLeafVerdict}
 use Rattle.cert_check.proofs.Leaves.{leaf_told, leaf_accepted, leaf_left, leaf_unmet}
-use Rattle.cert_check.proofs.leaf.check_leaf.Goals as goal
+use Rattle.cert_check.proofs.leaf.judge_leaf.Goals as goal
 
 pub returns-in-Some-clause-verdict : goal.returns-in-Some-clause-verdict
 returns-in-Some-clause-verdict c =

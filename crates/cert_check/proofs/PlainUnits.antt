@@ -1,0 +1,118 @@
+-- Certificates of unit splits and grids keep their numbers in `i128`.
+use Rattle.std.proofs.Common.{◌≡◌, ℕ, ◌<◌, ◌^◌, ◌-◌, ℤ, pos, negsuc, neg_ℤ, ◌-ℤ◌, Bool, true, ◌&&◌, ◌||◌, nat_lt, List, [], ◌∷◌, ◌++◌, refl, sym, ◌∙◌, subst, arith, inl, inr, IsTrue, FitsSigned}
+use Rattle.std.specs.Prelude.{◌⊎◌, is_some, ⊤}
+use Rattle.std.specs.Int.{w128}
+use Rattle.std.specs.List.{AllByRecursion}
+use Rattle.std.proofs.lemmas.Int.{ints}
+use Rattle.std.proofs.lemmas.Bool.{and_parts}
+use Rattle.std.proofs.lemmas.Bool.Decides.{nat_tests}
+use Rattle.std.proofs.lemmas.List.Elements.{recursion_from_All}
+use Rattle.viz_base.specs.declared.worlds.World.{World}
+use Rattle.viz_base.specs.declared.jobs.Job.{Job}
+use Rattle.lin_row.specs.Number.{in_i128}
+use Rattle.lin_row.specs.Form.{Form, Terms, terms_fit, opposites, form_fits, denied}
+use Rattle.lin_row.proofs.Opposites.{in_i128-fit}
+use Rattle.cert_text.specs.declared.certificate.CertNode.{CertNode}
+use Rattle.cert_text.specs.declared.certificate.CertNode.TheOpen.{CertNode-F}
+use Rattle.cert_text.specs.declared.certificate.CertNode.TheFolds.{fold-roll-CertNode}
+use Rattle.cert_text.specs.Texts.{Nested, job_has_text, row_has_text, terms_have_text, node_nested, node_has_text}
+use Rattle.cert_path.specs.Paths.{def, first, second, Path, values_along}
+use Rattle.cert_path.specs.Nodes.{splits, Node, nodes_from, nodes_of}
+use Rattle.cert_path.specs.Laws.{IsUnit}
+use Rattle.cert_path.proofs.Trees.{by_nodes, nodes-def, nodes-split, nodes-void, nodes-grid, nodes-leaf}
+use Rattle.cert_path.proofs.Values.{all_append, all_parts}
+use Rattle.cert_check.specs.Numbers.{computed, are_computed}
+use Rattle.cert_check.specs.Rectangles.{is_unit}
+use Rattle.cert_check.specs.Right.{IsWithin128, IsUnitOrGrid}
+use Rattle.cert_check.specs.Laws.{UnitsArePlain}
+use Rattle.cert_check.proofs.Parts.{unit_is_unit_row}
+use Rattle.cert_check.proofs.Tellings.{at_number}
+
+-- ---- the denial of a unit row
+
+denied_number : (k : ℤ) → in_i128 k ≡ true → in_i128 (neg_ℤ k -ℤ pos 1) ≡ true
+denied_number (pos n) e =
+    let less : n < 2 ^ 127 = grind (arith, nat_tests) in
+    let within : FitsSigned w128 (neg_ℤ (pos n) -ℤ pos 1) = omega (arith, ints) in
+    in_i128-fit (neg_ℤ (pos n) -ℤ pos 1) within
+denied_number (negsuc n) e =
+    let less : n < 2 ^ 127 = grind (arith, nat_tests) in
+    let within : FitsSigned w128 (neg_ℤ (negsuc n) -ℤ pos 1) = omega (arith, ints) in
+    in_i128-fit (neg_ℤ (negsuc n) -ℤ pos 1) within
+
+unit_opposite : (c : ℤ) → (c ≡ pos 1) ⊎ (c ≡ negsuc 0) → in_i128 (neg_ℤ c) ≡ true
+unit_opposite c (inl e) = λ i. in_i128 (neg_ℤ (e i))
+unit_opposite c (inr e) = λ i. in_i128 (neg_ℤ (e i))
+
+denied_fits : (row : Form) → in_i128 row.k ≡ true → IsUnit row → form_fits (denied row) ≡ true
+denied_fits row e u =
+    let number = denied_number row.k e in
+    let one = unit_opposite u.coefficient u.unit in
+    let terms : terms_fit (opposites row.terms) ≡ true = (λ i. terms_fit (opposites (u.terms i))) ∙ (λ i. one i && true) in
+    λ i. number i && terms i
+
+-- ---- paths of unit splits
+
+abbrev AreUnits : Path → Type 0
+AreUnits [] = ⊤
+AreUnits (def row d ∷ outer) = ⊥
+AreUnits (first row ∷ outer) = IsTrue (is_unit row) × AreUnits outer
+AreUnits (second row ∷ outer) = IsTrue (is_unit row) × AreUnits outer
+
+units_computed : (path : Path) → AreUnits path → (world : World) → are_computed path world ≡ true
+units_computed [] h world = refl
+units_computed (def row d ∷ outer) h world = absurd h
+units_computed (first row ∷ outer) h world =
+    let unit = h.0 in
+    let rest = units_computed outer h.1 world in
+    λ i. rest i && (unit i || is_some (computed row (values_along world outer)))
+units_computed (second row ∷ outer) h world =
+    let unit = h.0 in
+    let rest = units_computed outer h.1 world in
+    λ i. rest i && (unit i || is_some (computed row (values_along world outer)))
+
+-- ---- nodes
+
+abbrev Units : List Node → Type 0
+Units = AllByRecursion (λ (node : Node). IsUnitOrGrid node.decision)
+
+module _ (job : Job) where
+  abbrev Within : Node → Type 0
+  Within node = IsWithin128 job node.path node.decision
+
+  abbrev IsPlain : CertNode → Type 0
+  IsPlain node = (levels : ℕ) → node_has_text node levels ≡ true → (path : Path) → AreUnits path → Units (nodes_from node path) → AllByRecursion Within (nodes_from node path)
+
+  split_plain : (row : Form) (one other : CertNode) → IsPlain one → IsPlain other → (levels : ℕ) → (nat_lt 0 levels && row_has_text row && node_has_text one (levels - 1) && node_has_text other (levels - 1)) ≡ true
+      → (path : Path) → AreUnits path → IsUnit row → Units (nodes_from one (first row ∷ path) ++ nodes_from other (second row ∷ path))
+      → AllByRecursion Within (record { path = path; decision = splits row } ∷ (nodes_from one (first row ∷ path) ++ nodes_from other (second row ∷ path)))
+  split_plain row one other h k levels text path units unit are =
+      let a = and_parts (nat_lt 0 levels && row_has_text row && node_has_text one (levels - 1)) (node_has_text other (levels - 1)) text in
+      let b = and_parts (nat_lt 0 levels && row_has_text row) (node_has_text one (levels - 1)) a.0 in
+      let c = and_parts (nat_lt 0 levels) (row_has_text row) b.0 in
+      let number = (and_parts (in_i128 row.k) (terms_have_text 0 row.terms) c.1).0 in
+      let test = (unit_is_unit_row row).1 unit in
+      let both = all_parts (λ (node : Node). IsUnitOrGrid node.decision) (nodes_from one (first row ∷ path)) (nodes_from other (second row ∷ path)) are in (
+        denied_fits row number unit,
+        all_append Within (nodes_from one (first row ∷ path)) (nodes_from other (second row ∷ path))
+            (h (levels - 1) b.1 (first row ∷ path) (test, units) both.0)
+            (k (levels - 1) a.1 (second row ∷ path) (test, units) both.1),
+      )
+
+  plain : (node : CertNode) → IsPlain node
+  plain = by_nodes IsPlain (record {
+    def = λ row d below h levels text path units are. absurd ((subst (λ f. Units (f path)) (nodes-def row d below) are).0);
+    split = λ row one other h k levels text path units are.
+        let here = subst (λ f. Units (f path)) (nodes-split row one other) are in
+        let spelled = subst (λ f. f levels ≡ true) (fold-roll-CertNode Nested node_nested (CertNode-F.Split row one other)) text in
+        subst (λ f. AllByRecursion Within (f path)) (sym (nodes-split row one other)) (split_plain row one other h k levels spelled path units here.0 here.1);
+    void = λ why levels text path units are. absurd ((subst (λ f. Units (f path)) (nodes-void why) are).0);
+    grid = λ levels text path units are. subst (λ f. AllByRecursion Within (f path)) (sym nodes-grid) (λ world inside. units_computed path units world, tt);
+    leaf = λ answers levels text path units are. absurd ((subst (λ f. Units (f path)) (nodes-leaf answers) are).0);
+  })
+
+pub units_are_plain : UnitsArePlain
+units_are_plain job cert text spelled are =
+    let parts = and_parts (job_has_text cert.job) (node_has_text cert.root 512) spelled.0 in
+    let within = plain job cert.root 512 parts.1 [] tt (recursion_from_All (λ (node : Node). IsUnitOrGrid node.decision) (nodes_of cert) are) in
+    at_number (λ (node : Node). IsWithin128 job node.path node.decision) (nodes_of cert) within
