@@ -2,16 +2,20 @@
 #![tactic(auto)]
 
 mod cones;
+mod digests;
 mod entry;
 mod gates;
 mod halves;
 mod outcome;
 mod plain;
 mod pool;
+mod rectangles;
 mod renumbering;
 mod runs;
+mod sampling;
 mod seeker;
 mod seeking;
+mod trail;
 mod values;
 
 pub use entry::prove;

@@ -1,32 +1,74 @@
+use crate::trail::{Found, Spot};
 use lin_proof::{Branch, Derivation, Ending, Step};
+use lin_row::{Row, RowFault};
 use std::alloc::Global;
 use viz_base::{Boxed, List, Mem};
 
-/// How the facts of a derivation are numbered anew. Those of the path keep their numbers; behind them stand the two
-/// facts of each floor of a cone, and then the contrary of the answer.
+/// How the facts and variables of an answer are numbered anew where it stands. Those of the path where it was found
+/// keep their numbers; behind them stand the two facts of each floor of a cone, and then the contrary of the answer.
 #[derive(Clone, Copy)]
 pub struct Numbering<'a> {
-    /// How many facts the path has.
+    /// The answer.
+    pub found: &'a Found,
+    /// The floors here, by their ranks.
+    pub spots: &'a [Spot],
+    /// The number of the first of the two facts of each floor that the path names here.
+    pub named: &'a [u32],
+    /// How many facts the path has here.
     pub path: u32,
-    /// The places of the cone's floors among all of the run.
-    pub cone: &'a [u32],
-    /// How many floors the run had.
-    pub floors: u32,
+    /// The number of the first variable behind those of the path here.
+    pub base: u32,
+    /// The number of the contrary here.
+    pub contrary: u32,
 }
 
 impl Numbering<'_> {
+    /// Where the floor at a place of the cone stands here.
+    fn spot(self, at: usize) -> Option<Spot> {
+        let rank = *self.found.cone.ranks.get(at)?;
+        self.spots.get(rank as usize).copied()
+    }
+
     /// The new number of a fact.
     fn of_fact(self, number: u32) -> u32 {
-        let Some(behind) = number.checked_sub(self.path) else {
+        let Some(behind) = number.checked_sub(self.found.path) else {
             return number;
         };
-        match self.cone.get((behind / 2) as usize) {
-            Some(place) => self
-                .path
-                .saturating_add(place.saturating_mul(2))
-                .saturating_add(behind % 2),
-            None => self.path.saturating_add(self.floors.saturating_mul(2)),
+        match self.first_fact(behind / 2) {
+            Some(first) => first.saturating_add(behind % 2),
+            None => self.contrary,
         }
+    }
+
+    /// The number of the first fact of the floor at a place of the cone.
+    fn first_fact(self, at: u32) -> Option<u32> {
+        match self.spot(at as usize)? {
+            Spot::Named(place) => self.named.get(place).copied(),
+            Spot::New(place) => Some(self.path.saturating_add(place.saturating_mul(2))),
+        }
+    }
+
+    /// The new number of a variable.
+    fn of_variable(self, variable: u32) -> u32 {
+        let Some(place) = variable.checked_sub(self.found.base) else {
+            return variable;
+        };
+        let (Ok(at) | Err(at)) = self.found.cone.places.as_slice().binary_search(&place);
+        match self.spot(at) {
+            Some(Spot::Named(place)) => u32::try_from(place).unwrap_or(u32::MAX).saturating_add(2),
+            Some(Spot::New(place)) => self.base.saturating_add(place),
+            None => variable,
+        }
+    }
+
+    /// A row over variables that are numbered anew.
+    fn of_row(self, alloc: Global, row: &Row) -> Result<Row, RowFault> {
+        let mut sum = Row::constant(alloc, row.k);
+        for term in row.terms.as_slice() {
+            let unit = Row::of_term(alloc, 0, self.of_variable(term.0), 1)?;
+            sum = sum.add_scaled(term.1, &unit)?;
+        }
+        Ok(sum)
     }
 }
 
@@ -53,7 +95,11 @@ fn copied_ending(alloc: Global, end: &Ending, numbers: Numbering<'_>) -> Result<
 
 #[cycle(copies)]
 fn copied_cases(alloc: Global, branch: &Branch, numbers: Numbering<'_>) -> Result<Ending, Mem> {
-    let row = branch.row.clone()?;
+    let row = match numbers.of_row(alloc, &branch.row) {
+        Ok(row) => row,
+        Err(RowFault::Coeff) => branch.row.clone()?,
+        Err(RowFault::Mem) => return Err(Mem),
+    };
     let first = copied(alloc, &branch.first, numbers)?;
     let second = copied(alloc, &branch.second, numbers)?;
     let branch = Boxed::new(alloc, Branch { row, first, second })?;

@@ -1,12 +1,13 @@
 use crate::pool::Pool;
-use crate::seeker::{Opening, Seeker};
+use crate::seeker::{Opening, Remains, Seeker};
+use crate::trail::Found;
 use lay_flow::render;
 use lin_proof::Answer;
 use std::alloc::Global;
 use sym_calc::Path;
 use vis_truth::truth;
 use viz_base::{Job, List, Mem};
-use viz_calc::Halt;
+use viz_calc::{Calc, Halt};
 
 /// What a run over all worlds of a path comes to.
 #[derive(Drop)]
@@ -21,32 +22,57 @@ pub enum Outcome {
     TooLarge,
 }
 
-/// Whether a job's formula is true of its page's rendering, over a calc that seeks answers.
-fn truth_over(alloc: Global, job: &Job, seeker: &mut Seeker<'_>) -> Result<bool, Halt> {
-    let rendering = render(alloc, seeker, &job.tree, job.height)?;
-    truth(seeker, &job.formula, &rendering, job.height)
+/// What a run comes to, with what stands at its end.
+#[derive(Drop)]
+pub struct Ended {
+    /// What it comes to.
+    pub outcome: Outcome,
+    /// The known worlds.
+    pub pool: Pool,
+    /// The answers.
+    pub found: Vec<Found>,
 }
 
-/// Lays out the page over all worlds of a path together, and gives back the known worlds.
-pub fn run(alloc: Global, job: &Job, path: &Path, pool: Pool) -> Result<(Outcome, Pool), Mem> {
-    let mut seeker = Seeker::new(path, pool)?;
-    match truth_over(alloc, job, &mut seeker) {
-        Ok(true) => {
-            let answers = seeker.answers()?;
-            let (_, pool) = seeker.finish();
-            Ok((Outcome::True(answers), pool))
-        }
-        Ok(false) => {
-            let (_, pool) = seeker.finish();
-            Ok((Outcome::False, pool))
-        }
-        Err(Halt::Mem) => Err(Mem),
-        Err(Halt::Coeff | Halt::Open) => {
-            let (opening, pool) = seeker.finish();
-            match opening {
-                Some(opening) => Ok((Outcome::Open(opening), pool)),
-                None => Ok((Outcome::TooLarge, pool)),
-            }
-        }
+/// Whether a job's formula is true of its page's rendering, over a calc.
+pub fn truth_over<C: Calc>(alloc: Global, job: &Job, calc: &mut C) -> Result<bool, Halt> {
+    let rendering = render(alloc, calc, &job.tree, job.height)?;
+    truth(calc, &job.formula, &rendering, job.height)
+}
+
+/// Lays out the page over all worlds of a path together, with known worlds of it and the answers of the run that led to
+/// it. The first facts of the floors that the path names have these numbers.
+pub fn run(
+    alloc: Global,
+    job: &Job,
+    path: &Path,
+    named: &[u32],
+    pool: Pool,
+    found: Vec<Found>,
+) -> Result<Ended, Mem> {
+    let mut seeker = Seeker::new(path, pool, found)?;
+    let outcome = match truth_over(alloc, job, &mut seeker) {
+        Ok(true) => Outcome::True(seeker.answers(named)?),
+        Ok(false) => Outcome::False,
+        Err(Halt::Mem) => return Err(Mem),
+        Err(Halt::Coeff | Halt::Open) => Outcome::TooLarge,
+    };
+    Ok(closed_with(outcome, seeker.finish()))
+}
+
+/// What a run comes to where a row may have been left open.
+fn closed_with(outcome: Outcome, remains: Remains) -> Ended {
+    let Remains {
+        opening,
+        pool,
+        found,
+    } = remains;
+    let outcome = match opening {
+        Some(opening) => Outcome::Open(opening),
+        None => outcome,
+    };
+    Ended {
+        outcome,
+        pool,
+        found,
     }
 }

@@ -4,7 +4,8 @@ ghost use Rattle.prove_search.specs.Seekers.{seeker_state, number_at};
 use crate::cones::{cone_of, renumbered, renumbered_floors};
 use crate::pool::{Known, Pool, Signs};
 use crate::renumbering::{Numbering, copied};
-use lin_proof::{Answer, Derivation};
+use crate::trail::{Found, Ranks};
+use lin_proof::Answer;
 use lin_row::{Row, RowFault};
 use lin_search::{Search, refute};
 use std::alloc::Global;
@@ -14,16 +15,6 @@ use viz_calc::{Calc, Halt};
 
 /// How many cases and pairs of rows are tried for one answer.
 pub const LIMIT: u64 = 4096;
-
-/// An answer that was found, with its reason.
-#[derive(Debug, Drop)]
-struct Found {
-    yes: bool,
-    /// From the facts of the path, of the cone and of the contrary, numbered in this order.
-    why: Derivation,
-    /// The places of the floors on which the row rests.
-    cone: Vec<u32>,
-}
 
 /// A comparison that was answered.
 #[derive(Clone, Copy, Debug)]
@@ -45,8 +36,20 @@ pub struct Opening {
     pub point: Option<Known>,
 }
 
+/// What a run ends with.
+#[derive(Drop)]
+pub struct Remains {
+    /// The row that was left open, if one was.
+    pub opening: Option<Opening>,
+    /// The known worlds, over the variables of the path.
+    pub pool: Pool,
+    /// The answers.
+    pub found: Vec<Found>,
+}
+
 /// Arithmetic at all worlds of a path at once, over the same rows as those of `Sym`. It answers comparisons itself, and
-/// notes the answers with their reasons; it halts at the first one that has no answer.
+/// notes the answers with their reasons; it halts at the first one that has no answer. The first answers may be known:
+/// a run below a split begins with the comparisons of the run that led to it.
 #[derive(Drop)]
 pub struct Seeker<'a> {
     path: &'a Path,
@@ -57,7 +60,9 @@ pub struct Seeker<'a> {
     ground: List<Row>,
     /// Each row that was answered, divided by 1.
     answered: Floors,
+    /// The answers, known ones first.
     found: Vec<Found>,
+    ranks: Ranks,
     tape: Vec<Asked>,
     open: Option<Opening>,
     coeffs: u64,
@@ -70,8 +75,8 @@ impl<'a> Seeker<'a> {
     ghost use Rattle.sym_calc.specs.Floors.{same_floor};
     ghost use Rattle.viz_calc.specs.State.{Grows, Cause, IsDecided, Rose};
 
-    /// The calc of a path, with known worlds of it.
-    pub fn new(path: &'a Path, pool: Pool) -> Result<Self, Mem> {
+    /// The calc of a path, with known worlds of it, and with the answers of the run that led to it.
+    pub fn new(path: &'a Path, pool: Pool, found: Vec<Found>) -> Result<Self, Mem> {
         let alloc = path.facts.allocator();
         Ok(Seeker {
             path,
@@ -80,7 +85,8 @@ impl<'a> Seeker<'a> {
             floors: Floors::new(alloc),
             ground: path.facts.clone()?,
             answered: Floors::new(alloc),
-            found: Vec::new(alloc),
+            found,
+            ranks: Ranks::new(alloc, path.floors.len())?,
             tape: Vec::new(alloc),
             open: None,
             coeffs: 0,
@@ -163,6 +169,7 @@ impl<'a> Seeker<'a> {
         ensures decided { IsDecided result }
     {
         if let Some(place) = self.path.floors.place_of(&floor) {
+            self.ranks.use_named(place)?;
             return numbered(place, 2);
         }
         let base = self.base()?;
@@ -186,6 +193,7 @@ impl<'a> Seeker<'a> {
         if !self.pool.name(&floor.row, floor.by)? {
             return Err(self.too_large());
         }
+        self.ranks.use_new()?;
         match add_floor(&mut self.rows, &mut self.floors, floor, variable) {
             Ok(()) => Ok(variable),
             Err(RowFault::Mem) => Err(Halt::Mem),
@@ -207,6 +215,9 @@ impl<'a> Seeker<'a> {
                 self.tape.push(Asked { row: place, floors })?;
                 return Ok(found.yes);
             }
+        }
+        if self.answered.len() < self.found.len() {
+            return Ok(self.recall(question, floors)?);
         }
         match self.pool.signs_of(&question.row) {
             Signs::Same(yes) => self.decide(question, yes, floors),
@@ -232,27 +243,45 @@ impl<'a> Seeker<'a> {
         let cone = cone_of(self.alloc(), &self.floors, base, &question.row)?;
         match self.refuted(contrary, cone.as_slice())? {
             Search::Found(why) => {
-                self.note(question, Found { yes, why, cone }, floors)?;
-                Ok(yes)
+                let found = Found {
+                    yes,
+                    why,
+                    path: self.path_facts()?,
+                    base,
+                    cone: self.ranks.cone_at(self.alloc(), cone)?,
+                };
+                self.found.push(found)?;
+                Ok(self.recall(question, floors)?)
             }
             Search::Point(values) => self.left_open(&question.row, Some(values)),
             Search::GaveUp => self.left_open(&question.row, None),
         }
     }
 
-    /// Notes the answer to a question that is new.
-    fn note(&mut self, question: Floor, found: Found, floors: u32) -> Result<(), Mem>
+    /// The answer to a question that this run didn't ask before, where it is the next one.
+    fn recall(&mut self, question: Floor, floors: u32) -> Result<bool, Mem>
         ensures coeffs { self.new.coeffs ≡ self.old.coeffs }
         ensures opens { self.new.opens ≡ self.old.opens }
     {
+        let row = self.answered.len();
+        let Some(found) = self.found.get(row) else {
+            return Err(Mem);
+        };
+        let yes = found.yes;
         if self.answered.place_of(&question).is_some() {
             return Err(Mem);
         }
-        let row = self.found.len();
         self.answered.push(question)?;
-        self.found.push(found)?;
         self.tape.push(Asked { row, floors })?;
-        Ok(())
+        Ok(yes)
+    }
+
+    /// How many facts the path has.
+    fn path_facts(&self) -> Result<u32, Mem> {
+        match u32::try_from(self.path.facts.len()) {
+            Ok(count) => Ok(count),
+            Err(_) => Err(Mem),
+        }
     }
 
     /// Why the facts of the path and of a cone and one more can't hold together, if they can't.
@@ -294,40 +323,50 @@ impl<'a> Seeker<'a> {
         Err(Halt::Open)
     }
 
-    /// The answers in the order in which they were asked for.
-    pub fn answers(&self) -> Result<List<Answer>, Mem> {
-        let alloc = self.alloc();
-        let Ok(path) = u32::try_from(self.ground.len()) else {
-            return Err(Mem);
-        };
-        let mut answers = List::new(alloc);
+    /// The answers in the order in which they were asked for. The first facts of the floors that the path names have
+    /// these numbers.
+    pub fn answers(&self, named: &[u32]) -> Result<List<Answer>, Mem> {
+        let (path, base) = (self.path_facts()?, self.base()?);
+        let mut answers = List::new(self.alloc());
         for asked in &self.tape {
             if let (Some(question), Some(found)) = (
                 self.answered.get(asked.row),
                 self.found.get(asked.row),
             ) {
                 let numbers = Numbering {
+                    found,
+                    spots: self.ranks.spots.as_slice(),
+                    named,
                     path,
-                    cone: found.cone.as_slice(),
-                    floors: asked.floors,
+                    base,
+                    contrary: path.saturating_add(asked.floors.saturating_mul(2)),
                 };
-                answers.push(Answer {
-                    yes: found.yes,
-                    row: question.row.clone()?,
-                    why: copied(alloc, &found.why, numbers)?,
-                })?;
+                answers.push(answer_by(self.alloc(), &question.row, numbers)?)?;
             }
         }
         Ok(answers)
     }
 
-    /// The row that was left open, if one was, and the known worlds, over the variables of the path again.
-    pub fn finish(self) -> (Option<Opening>, Pool) {
+    /// What stands at the end of a run.
+    pub fn finish(self) -> Remains {
         let variables = self.path.floors.len().saturating_add(2);
         let mut pool = self.pool;
         pool.forget(variables);
-        (self.open, pool)
+        Remains {
+            opening: self.open,
+            pool,
+            found: self.found,
+        }
     }
+}
+
+/// The answer on a row.
+fn answer_by(alloc: Global, row: &Row, numbers: Numbering<'_>) -> Result<Answer, Mem> {
+    Ok(Answer {
+        yes: numbers.found.yes,
+        row: row.clone()?,
+        why: copied(alloc, &numbers.found.why, numbers)?,
+    })
 }
 
 /// Adds the two facts of each floor of a cone.
@@ -369,6 +408,7 @@ fn numbered(place: usize, first: u32) -> Result<u32, Halt>
 
 /// Numbers are rows in 1/64 px over whole pixels. No reading is open, so nothing is said of them.
 impl<'a> Calc for Seeker<'a> {
+    ghost use Rattle.std.specs.Prelude.{true};
     ghost use Rattle.std.proofs.lemmas.Bool.{false≢true};
 
     type Num = Row;
@@ -376,6 +416,8 @@ impl<'a> Calc for Seeker<'a> {
     ghost state = { λ s. seeker_state s.coeffs s.opens };
 
     ghost at = { number_at };
+
+    ghost counts = { true };
 
     fn blank(&self) -> Row {
         Row::constant(self.alloc(), 0)

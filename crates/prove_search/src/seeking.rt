@@ -1,8 +1,10 @@
 ghost use Rattle.std.specs.Prelude.{◌≡◌, ◌≤◌};
 
 use crate::pool::{Known, Pool};
+use crate::rectangles::{Budget, budget_of, rectangle};
 use crate::runs::{Outcome, run};
 use crate::seeker::{LIMIT, Opening};
+use crate::trail::Found;
 use crate::values::{floor_of, value_of};
 use cert_check::{Child, cut_of, holds_at, part_of};
 use cert_text::{Cert, CertNode};
@@ -25,7 +27,7 @@ pub enum Finding {
 
 /// Why a part of the range has no node.
 #[derive(Drop)]
-enum Stop {
+pub enum Stop {
     Mem,
     /// The formula is false at this world.
     Untrue(World),
@@ -62,16 +64,25 @@ impl From<RowFault> for Stop {
 
 /// Where a search stands.
 #[derive(Drop)]
-struct Place<'a> {
-    alloc: Global,
-    job: &'a Job,
-    path: Path,
+pub struct Place<'a> {
+    /// Where it allocates.
+    pub alloc: Global,
+    /// What is to be proved.
+    pub job: &'a Job,
+    /// What holds here.
+    pub path: Path,
+    /// The numbers of the first facts of the floors that the path names.
+    named: Vec<u32>,
+    /// The answers of the runs that led here.
+    pub found: Vec<Found>,
+    /// How many leaves trees are to have.
+    pub budget: Budget,
     /// The turns that are left.
-    turns: u64,
+    pub turns: u64,
 }
 
 /// How many worlds a grid has at most.
-const GRID: u64 = 64;
+pub const GRID: u64 = 64;
 
 /// How many nodes stand at most in one another.
 const DEPTH: u32 = 480;
@@ -89,7 +100,10 @@ pub fn seek(alloc: Global, job: &Job, turns: u64) -> Result<Finding, Mem> {
         alloc,
         job,
         path,
-        turns: turns.min(most_turns(job.range)),
+        named: Vec::new(alloc),
+        found: Vec::new(alloc),
+        budget: budget_of(turns, job.range),
+        turns,
     };
     match sought(&mut place) {
         Ok(root) => Ok(Finding::Proof(Cert {
@@ -102,15 +116,15 @@ pub fn seek(alloc: Global, job: &Job, turns: u64) -> Result<Finding, Mem> {
     }
 }
 
-/// The node of the whole range.
+/// The node of the whole range, after a look at its corners.
 fn sought(place: &mut Place<'_>) -> Result<CertNode, Stop> {
     let range = place.job.range;
-    let pool = first_pool(place, range)?;
-    explore(place, pool, range, DEPTH)
+    first_pool(place, range)?;
+    rectangle(place, range, DEPTH)
 }
 
 /// The corners of a rectangle, the middles of its edges, and its own, each where the formula is true.
-fn first_pool(place: &Place<'_>, rect: Rect) -> Result<Pool, Stop> {
+pub fn first_pool(place: &Place<'_>, rect: Rect) -> Result<Pool, Stop> {
     let mut pool = Pool::new(place.alloc);
     let mut widths = Vec::new(place.alloc);
     for w in [middle(rect.wl, rect.wh), rect.wl, rect.wh] {
@@ -149,15 +163,8 @@ fn try_world(place: &Place<'_>, world: World) -> Result<(), Stop> {
     Ok(())
 }
 
-/// The turns that a search of a range may take: grids of halves cover some 45 worlds each, so with more leaves than one
-/// for so many worlds they are the shorter proof. That many leaves take twice as many turns, less one.
-fn most_turns(range: Rect) -> u64 {
-    let leaves = count_of(range) / 45;
-    leaves.saturating_mul(2).max(1)
-}
-
 /// How many worlds a rectangle has.
-fn count_of(rect: Rect) -> u64 {
+pub fn count_of(rect: Rect) -> u64 {
     let widths = u64::from(rect.wh.saturating_sub(rect.wl)).saturating_add(1);
     let sizes = u64::from(rect.sh.saturating_sub(rect.sl)).saturating_add(1);
     widths.saturating_mul(sizes)
@@ -165,7 +172,7 @@ fn count_of(rect: Rect) -> u64 {
 
 /// The node of a path, of which worlds are known, within a rectangle.
 #[cycle(nodes)]
-fn explore(place: &mut Place<'_>, pool: Pool, rect: Rect, depth: u32) -> Result<CertNode, Stop>
+pub fn explore(place: &mut Place<'_>, pool: Pool, rect: Rect, depth: u32) -> Result<CertNode, Stop>
     ensures falls { place.new.turns ≤ place.old.turns }
 {
     let Some(turns) = place.turns.checked_sub(1) else {
@@ -175,13 +182,24 @@ fn explore(place: &mut Place<'_>, pool: Pool, rect: Rect, depth: u32) -> Result<
     if count_of(rect) <= GRID {
         return grid(place, rect);
     }
-    let (outcome, pool) = run(place.alloc, place.job, &place.path, pool)?;
+    let (outcome, pool) = laid_out(place, pool)?;
     match outcome {
         Outcome::True(answers) => Ok(CertNode::Leaf(answers)),
         Outcome::False => Err(untrue(&pool)),
         Outcome::TooLarge => halve(place, pool, rect, depth),
         Outcome::Open(opening) => open(place, pool, rect, depth, opening),
     }
+}
+
+/// Lays out the page over all worlds of a path, and gives back the known worlds.
+fn laid_out(place: &mut Place<'_>, pool: Pool) -> Result<(Outcome, Pool), Mem>
+    ensures { place.new.turns ≡ place.old.turns }
+{
+    let found = std::mem::replace(&mut place.found, Vec::new(place.alloc));
+    let named = place.named.as_slice();
+    let ended = run(place.alloc, place.job, &place.path, named, pool, found)?;
+    place.found = ended.found;
+    Ok((ended.outcome, ended.pool))
 }
 
 /// The formula is false at each of these worlds.
@@ -296,14 +314,19 @@ fn unit_row(
 fn halve(place: &mut Place<'_>, pool: Pool, rect: Rect, depth: u32) -> Result<CertNode, Stop>
     ensures falls { place.new.turns ≤ place.old.turns }
 {
+    let row = halving(place.alloc, rect)?;
+    split(place, pool, rect, depth, row)
+}
+
+/// That a world is in the first half of a rectangle on the longer side.
+pub fn halving(alloc: Global, rect: Rect) -> Result<Row, AllocError> {
     let is_wide = rect.sh.saturating_sub(rect.sl) <= rect.wh.saturating_sub(rect.wl);
     let (variable, least, most) = if is_wide {
         (0, rect.wl, rect.wh)
     } else {
         (1, rect.sl, rect.sh)
     };
-    let row = Row::of_term(place.alloc, i128::from(middle(least, most)), variable, -1)?;
-    split(place, pool, rect, depth, row)
+    Row::of_term(alloc, i128::from(middle(least, most)), variable, -1)
 }
 
 /// The node of a path that is split by a row after floors are named.
@@ -329,8 +352,10 @@ fn define(
         below = below.saturating_sub(1);
     }
     let mut node = split(place, pool, rect, below, row)?;
-    place.path.leave(facts, named);
+    leave(place, facts, named);
     for (row, by) in defs.into_iter().rev() {
+        let row = Boxed::new(place.alloc, row)?;
+        let by = Boxed::new(place.alloc, by)?;
         node = CertNode::Def(row, by, Boxed::new(place.alloc, node)?);
     }
     Ok(node)
@@ -349,8 +374,20 @@ fn name(place: &mut Place<'_>, pool: &mut Pool, floor: Floor) -> Result<(), Stop
     if !pool.name(&floor.row, floor.by)? {
         return Err(Stop::GaveUp);
     }
+    let Ok(fact) = u32::try_from(place.path.facts.len()) else {
+        return Err(Stop::GaveUp);
+    };
+    place.named.push(fact)?;
     place.path.define(floor, variable)?;
     Ok(())
+}
+
+/// Goes back to where there were so many facts and floors.
+pub fn leave(place: &mut Place<'_>, facts: usize, floors: usize)
+    ensures { place.new.turns ≡ place.old.turns }
+{
+    place.path.leave(facts, floors);
+    place.named.truncate(floors);
 }
 
 /// The node of a path that is split by a row.
@@ -369,20 +406,24 @@ fn split(
     };
     let facts = place.path.facts.len();
     let named = place.path.floors.len();
+    let known = place.found.len();
     let (first_pool, second_pool) = pool.parted(place.alloc, &row)?;
     place.path.enter_first(&row)?;
     let first = side(place, first_pool, part(&row, Child::First, rect), depth)?;
-    place.path.leave(facts, named);
+    leave(place, facts, named);
+    place.found.truncate(known);
     place.path.enter_second(&row)?;
     let second = side(place, second_pool, part(&row, Child::Second, rect), depth)?;
-    place.path.leave(facts, named);
+    leave(place, facts, named);
+    place.found.truncate(known);
+    let row = Boxed::new(place.alloc, row)?;
     let first = Boxed::new(place.alloc, first)?;
     let second = Boxed::new(place.alloc, second)?;
     Ok(CertNode::Split(row, first, second))
 }
 
 /// The worlds of a rectangle that lie under a child of a split; only a unit split cuts it.
-fn part(row: &Row, child: Child, rect: Rect) -> Option<Rect> {
+pub fn part(row: &Row, child: Child, rect: Rect) -> Option<Rect> {
     match cut_of(row) {
         Some(cut) => part_of(cut, child, rect),
         None => Some(rect),
@@ -401,7 +442,7 @@ fn side(place: &mut Place<'_>, pool: Pool, rect: Option<Rect>, depth: u32) -> Re
             return Err(Stop::GaveUp);
         };
         match refute(place.alloc, place.path.facts.as_slice(), variables, LIMIT)? {
-            Search::Found(why) => return Ok(CertNode::Void(why)),
+            Search::Found(why) => return Ok(CertNode::Void(Boxed::new(place.alloc, why)?)),
             Search::Point(values) => {
                 let known = Known {
                     values: values.into_vec(),

@@ -1,0 +1,138 @@
+//! Rectangles of a range by trees of leaves, and those with too many leaves by their halves.
+ghost use Rattle.std.specs.Prelude.{◌≤◌};
+
+use crate::pool::Pool;
+use crate::sampling::Sample;
+use crate::seeking::{GRID, Place, Stop, count_of, explore, first_pool, halving, leave, part};
+use cert_check::Child;
+use cert_text::CertNode;
+use viz_base::{Boxed, Rect};
+
+/// How many leaves a tree is to have at most.
+#[derive(Clone, Copy, Debug)]
+pub enum Budget {
+    /// As few as can be read and checked in the time of grids.
+    Ample,
+    /// As many as grids, or as the turns are enough for.
+    Tight,
+}
+
+/// From how many worlds on grids are preferred to many leaves.
+const LARGE: u64 = 4096;
+
+/// The budget of a search of a range with these turns. A grid of halves has more than 32 worlds, so with a turn for 16
+/// worlds there are enough for grids alone.
+pub fn budget_of(turns: u64, range: Rect) -> Budget {
+    let worlds = count_of(range);
+    if worlds > LARGE && turns >= worlds / 16 {
+        Budget::Ample
+    } else {
+        Budget::Tight
+    }
+}
+
+/// The node of a rectangle, all of whose worlds are on the path: that of a tree of leaves, if there is one with few
+/// enough, else that of the rectangle's halves.
+#[cycle(rectangles)]
+pub fn rectangle(place: &mut Place<'_>, rect: Rect, depth: u32) -> Result<CertNode, Stop>
+    ensures falls { place.new.turns ≤ place.old.turns }
+{
+    if count_of(rect) <= GRID {
+        let pool = Pool::new(place.alloc);
+        return explore(place, pool, rect, depth);
+    }
+    match tried(place, rect, depth)? {
+        Some(node) => Ok(node),
+        None => in_halves(place, rect, depth),
+    }
+}
+
+/// The node of a rectangle by a tree of leaves. None where the tree has too many, by a sample or in fact.
+fn tried(place: &mut Place<'_>, rect: Rect, depth: u32) -> Result<Option<CertNode>, Stop>
+    ensures falls { place.new.turns ≤ place.old.turns }
+{
+    let leaves = leaves_for(place, rect);
+    let sample = Sample::new(place.alloc, place.job, rect, leaves)?;
+    if let Some(world) = sample.untrue {
+        return Err(Stop::Untrue(world));
+    }
+    if sample.has_more_than(leaves) {
+        return Ok(None);
+    }
+    let pool = first_pool(place, rect)?;
+    match tree(place, pool, rect, depth) {
+        Ok(node) => Ok(Some(node)),
+        Err(Stop::GaveUp) => Ok(None),
+        Err(stop) => Err(stop),
+    }
+}
+
+/// How many leaves a tree of a rectangle may have with the turns that are left.
+fn leaves_for(place: &Place<'_>, rect: Rect) -> u64 {
+    let leaves = place.turns.saturating_add(1) / 2;
+    leaves.min(most_leaves(place.budget, rect))
+}
+
+/// Grids of halves cover some 45 worlds each, so with more leaves than one for so many worlds they are the shorter
+/// proof by turns. By time and length they are it sooner: a leaf takes as long as the layouts of 128 worlds.
+fn most_leaves(budget: Budget, rect: Rect) -> u64 {
+    match budget {
+        Budget::Ample => count_of(rect) / 128,
+        Budget::Tight => count_of(rect) / 45,
+    }
+}
+
+/// The turns that a tree of a rectangle may take: so many leaves take twice as many, less one.
+fn most_turns(budget: Budget, rect: Rect) -> u64 {
+    most_leaves(budget, rect).saturating_mul(2).max(1)
+}
+
+/// The node of a rectangle by a tree of leaves, within its share of the turns.
+fn tree(place: &mut Place<'_>, pool: Pool, rect: Rect, depth: u32) -> Result<CertNode, Stop>
+    ensures falls { place.new.turns ≤ place.old.turns }
+{
+    let facts = place.path.facts.len();
+    let floors = place.path.floors.len();
+    let turns = place.turns;
+    let share = turns.min(most_turns(place.budget, rect));
+    place.turns = share;
+    let node = explore(place, pool, rect, depth);
+    let taken = share.saturating_sub(place.turns);
+    place.turns = turns.saturating_sub(taken);
+    leave(place, facts, floors);
+    place.found.truncate(0);
+    node
+}
+
+/// The node of a rectangle by its halves on the longer side, where the turns that are left can be enough for them.
+#[cycle(rectangles)]
+fn in_halves(place: &mut Place<'_>, rect: Rect, depth: u32) -> Result<CertNode, Stop>
+    ensures falls { place.new.turns ≤ place.old.turns }
+{
+    let (Some(turns), Some(depth)) = (place.turns.checked_sub(1), depth.checked_sub(1)) else {
+        return Err(Stop::GaveUp);
+    };
+    if turns < most_turns(Budget::Tight, rect) / 4 {
+        return Err(Stop::GaveUp);
+    }
+    place.turns = turns;
+    let row = halving(place.alloc, rect)?;
+    let (Some(low), Some(high)) = (
+        part(&row, Child::First, rect),
+        part(&row, Child::Second, rect),
+    ) else {
+        return Err(Stop::GaveUp);
+    };
+    let facts = place.path.facts.len();
+    let floors = place.path.floors.len();
+    place.path.enter_first(&row)?;
+    let first = rectangle(place, low, depth)?;
+    leave(place, facts, floors);
+    place.path.enter_second(&row)?;
+    let second = rectangle(place, high, depth)?;
+    leave(place, facts, floors);
+    let row = Boxed::new(place.alloc, row)?;
+    let first = Boxed::new(place.alloc, first)?;
+    let second = Boxed::new(place.alloc, second)?;
+    Ok(CertNode::Split(row, first, second))
+}

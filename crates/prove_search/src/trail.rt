@@ -1,0 +1,95 @@
+use lin_proof::Derivation;
+use std::alloc::Global;
+use viz_base::Mem;
+
+/// An answer that was found, with its reason. It stands on the path where it was found, and on all below.
+#[derive(Debug, Drop)]
+pub struct Found {
+    /// Whether the row is at least 0.
+    pub yes: bool,
+    /// From the facts of the path, of the cone and of the contrary, numbered in this order.
+    pub why: Derivation,
+    /// How many facts the path had.
+    pub path: u32,
+    /// The number of the first variable behind those of the path.
+    pub base: u32,
+    /// The floors on which the row rests and that the path didn't name.
+    pub cone: Cone,
+}
+
+/// Floors behind those of a path, in their order.
+#[derive(Debug, Drop)]
+pub struct Cone {
+    /// Their places.
+    pub places: Vec<u32>,
+    /// Their ranks.
+    pub ranks: Vec<u32>,
+}
+
+/// Where a floor stands in a run.
+#[derive(Clone, Copy, Debug)]
+pub enum Spot {
+    /// At this place on the path.
+    Named(usize),
+    /// At this place behind the path.
+    New(u32),
+}
+
+/// The floors of a run by their ranks: the order in which it used them first. All runs below a split begin with the
+/// floors of the run that led to it, whichever of them are named meanwhile.
+#[derive(Debug, Drop)]
+pub struct Ranks {
+    /// By their ranks.
+    pub spots: Vec<Spot>,
+    /// Whether the floors on the path were used yet, by their places.
+    used: Vec<bool>,
+    /// The ranks of the others, by their places.
+    new: Vec<u32>,
+}
+
+impl Ranks {
+    /// None was used yet of those that the path names.
+    pub fn new(alloc: Global, named: usize) -> Result<Self, Mem> {
+        Ok(Ranks {
+            spots: Vec::new(alloc),
+            used: vec![in alloc; false; named]?,
+            new: Vec::new(alloc),
+        })
+    }
+
+    /// The floor at a place on the path is used.
+    pub fn use_named(&mut self, place: usize) -> Result<(), Mem> {
+        if let Some(used) = self.used.get_mut(place) {
+            if !*used {
+                *used = true;
+                self.spots.push(Spot::Named(place))?;
+            }
+        }
+        Ok(())
+    }
+
+    /// The floor that comes next behind the path is used for the first time.
+    pub fn use_new(&mut self) -> Result<(), Mem> {
+        let (Ok(place), Ok(rank)) = (
+            u32::try_from(self.new.len()),
+            u32::try_from(self.spots.len()),
+        ) else {
+            return Err(Mem);
+        };
+        self.spots.push(Spot::New(place))?;
+        self.new.push(rank)?;
+        Ok(())
+    }
+
+    /// The floors at these places behind the path.
+    pub fn cone_at(&self, alloc: Global, places: Vec<u32>) -> Result<Cone, Mem> {
+        let mut ranks = Vec::new(alloc);
+        for place in &places {
+            let Some(rank) = self.new.get(*place as usize) else {
+                return Err(Mem);
+            };
+            ranks.push(*rank)?;
+        }
+        Ok(Cone { places, ranks })
+    }
+}
