@@ -1,11 +1,16 @@
 """The part of the table of outside cases that tools/cases.py writes which is of layout, rows and derivations.
 
-The folder has files of JSON Lines: functions.jsonl, whose lines have a `call` (float_at, band, bottom, collapsed and others, which are left
-out), rows.jsonl, whose lines have one too (add_scaled, negate, divides, cut), and derivations.jsonl. A row goes as its constant and its
-terms, numbers of more than 64 bits as texts; a derivation as a list of parts, each its steps and its end, which is null or a row: its two
-cases are the two latest parts that are not part of another.
+The folder has files of JSON Lines: functions.jsonl, whose lines have a `call` (float_at, band, bottom, collapsed; used, fonts, widths,
+preferred and lead, which have a box tree, its height and a world; and others, which are left out), boxes.jsonl, whose lines have a page,
+style sheets, the names of fonts and a box tree or a fault, rows.jsonl, whose lines have a call too (add_scaled, negate, divides, cut), and
+derivations.jsonl. A row goes as its constant and its terms, numbers of more than 64 bits as texts; a derivation as a list of parts, each its
+steps and its end, which is null or a row: its two cases are the two latest parts that are not part of another. A box tree goes as a job
+whose page has it, and before what is called on it a line says so; trees that no document has are left out, and told with their number.
 """
 import json
+import sys
+
+from tree_documents import NoDocument, job, job_of, square, told_tree
 
 
 # ---- layout
@@ -24,6 +29,47 @@ def bottom(case):
 
 def collapsed(case):
     return [case["margins"]], [case["pos"], case["neg"], case["value"]]
+
+
+# ---- layout of pages: what is called on a box tree, and what it must give
+
+def used(case):
+    lengths = [[[length] if length == "Auto" else length, around] for length, around, _ in case["cases"]]
+    yield "used", lengths, [value for _, _, value in case["cases"]]
+
+
+def fonts(case):
+    yield "fonts", [[node] for node, *_ in case["cases"]], [values for _, *values in case["cases"]]
+    yield "words", [[node, word] for node, word, _ in case["words"]], [width for _, _, width in case["words"]]
+
+
+def widths(case):
+    yield "widths", [[box, around] for box, around, _ in case["cases"]], [terms for _, _, terms in case["cases"]]
+
+
+def preferred(case):
+    yield "preferred", [[box] for box, _, _ in case["cases"]], [[least, most] for _, least, most in case["cases"]]
+
+
+def lead(case):
+    runs = [[max([0] + margins), min([0] + margins), floats, end] for _, _, _, margins, floats, end in case["cases"]]
+    yield "lead", [[box, around, past] for box, around, past, _, _, _ in case["cases"]], runs
+
+
+ON_TREES = {call.__name__: call for call in (used, fonts, widths, preferred, lead)}
+
+
+def on_tree(case):
+    """A line that has the tree told, and those of what is called on it."""
+    text = job_of(case)
+    yield ["boxes", text], told_tree(case["tree"]["boxes"], case["tree"]["styles"])
+    for name, arguments, answer in ON_TREES[case["call"]](case):
+        yield [name, text, case["w"], case["s"], arguments], answer
+
+
+def boxes(case):
+    text = job(case["page"], [square(name) for name in case["fonts"]], case["css"])
+    return [text], case["fault"] if "fault" in case else told_tree(case["boxes"], case["styles"])
 
 
 # ---- rows and derivations
@@ -79,12 +125,27 @@ def derivation(case):
 CALLS = {call.__name__: call for call in (float_at, band, bottom, collapsed, add_scaled, negate, divides, cut)}
 
 
+def lines(folder, name):
+    return map(json.loads, filter(None, (folder / f"{name}.jsonl").read_text(encoding="utf-8").split("\n")))
+
+
 def cases(folder):
-    for name in ("functions", "rows", "derivations"):
-        for line in filter(None, (folder / f"{name}.jsonl").read_text(encoding="utf-8").split("\n")):
-            case = json.loads(line)
-            call = derivation if name == "derivations" else CALLS.get(case["call"])
+    for name in ("functions", "rows", "derivations", "boxes"):
+        for case in lines(folder, name):
+            call = CALLS.get(case["call"]) if "call" in case else {"derivations": derivation, "boxes": boxes}[name]
             if call is not None:
                 arguments, answer = call(case)
                 yield [call.__name__] + arguments, answer
+    yield from cases_on_trees(folder)
 
+
+def cases_on_trees(folder):
+    left_out = 0
+    for case in lines(folder, "functions"):
+        if case["call"] in ON_TREES:
+            try:
+                yield from on_tree(case)
+            except NoDocument as cause:
+                left_out += 1
+                print(f"left out, a case of {case['call']}: {cause}", file=sys.stderr)
+    print(f"{left_out} box trees are left out", file=sys.stderr)

@@ -22,7 +22,7 @@ Others have no `cases`; floats are a list of [side, left, top, right, bottom]:
   resolve    a page, `e` (an edge), `run` (margins), `b` (a box), `cb`, `floats`, `least`, `lead` (margins), `cleared` (a box), `edge`
 A line of trees.jsonl has a `tree`, its `height`, and `worlds`: `w`, `s` and `boxes`, each of them kind, node and the edges of four rectangles.
 A tree has `boxes`, `styles`, `fonts` and `parents`, the members of BoxTree; members with their initial values are left out (STYLE and BOX
-below). A line of boxes.jsonl has a `page`, an element {"tag", "attrs", "size", "children"} whose children are elements and texts, `css`,
+of tools/tree_documents.py). A line of boxes.jsonl has a `page`, an element {"tag", "attrs", "size", "children"} whose children are elements and texts, `css`,
 `fonts` (names) and `boxes` and `styles`, or in their place `fault` with the refusal and its numbers. A length is "Auto", ["Px", units], ["Em", millionths, node] or ["Pct", millionths]; of four sides the order is top, right, bottom, left.
 """
 import argparse
@@ -35,13 +35,9 @@ import sys
 
 sys.dont_write_bytecode = True
 import refused_styles  # noqa: E402
+from tree_documents import BOX, STYLE  # noqa: E402
 
 TOP = pathlib.Path(__file__).resolve().parent.parent
-ZERO = ["Px", 0]
-STYLE = {"display": "Inline", "float": None, "clear": "Nothing", "clips": False, "width": "Auto", "min_width": ZERO, "max_width": None,
-         "height": "Auto", "min_height": ZERO, "max_height": None, "margin": [ZERO] * 4, "padding": [ZERO] * 4, "border": [ZERO] * 4,
-         "size": "Same", "font": 0, "line": ["Own", 6, 5], "valign": "Baseline", "align": "Left", "wraps": True}
-BOX = {"kids": [], "chars": "", "size": None, "context": False, "block_level": False}
 
 # ---- literals of the logic
 

@@ -1,3 +1,4 @@
+use page_build::JobRefusal;
 use std::alloc::{AllocError, AllocFailed};
 use std::io;
 use thiserror::Error;
@@ -53,6 +54,15 @@ impl From<Halt> for Fault {
         match halt {
             Halt::Mem => Fault::Mem,
             Halt::Coeff | Halt::Open => Fault::NoCase,
+        }
+    }
+}
+
+impl From<JobRefusal> for Fault {
+    fn from(refusal: JobRefusal) -> Self {
+        match refusal {
+            JobRefusal::Mem => Fault::Mem,
+            _ => Fault::NoCase,
         }
     }
 }

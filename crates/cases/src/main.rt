@@ -1,21 +1,27 @@
 //! Runs a table of outside cases: a case a line of standard input, as JSON, and its answer a line of standard output.
 #![tactic(auto)]
 
+mod boxes;
 mod cascades;
 mod derivations;
 mod faults;
 mod floats;
 mod formulas;
 mod json;
+mod leads;
+mod lengths;
 mod margins;
 mod pages;
 mod replies;
 mod rows;
 mod selectors;
 mod sheets;
+mod styles;
 mod tokens;
+mod trees;
 mod truths;
 mod values;
+mod widths;
 
 use crate::faults::Fault;
 use crate::json::text_at;
@@ -44,7 +50,8 @@ fn answer_below(alloc: Global, name: &str, case: &Value) -> Result<String, Fault
         "divides" => rows::divides(alloc, case),
         "cut" => rows::cut(alloc, case),
         "derivation" => derivations::judged(alloc, case),
-        _ => Err(Fault::NoCase),
+        "boxes" => boxes::answer(alloc, case),
+        _ => trees::answer(alloc, name, case),
     }
 }
 

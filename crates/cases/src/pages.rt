@@ -67,7 +67,7 @@ fn follows(nodes: &[Node], at: usize, parent: Option<u32>) -> bool
 }
 
 /// How many characters a text has.
-fn count_of(text: &str) -> usize
+pub fn count_of(text: &str) -> usize
     ensures { result ≡ length (chars text.now) }
 {
     text.chars().count()
