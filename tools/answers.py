@@ -124,10 +124,31 @@ class Region:
 
 
 @dataclass
+class Fork:
+    """A node of a certificate: the floor of a row by a number, a split by a row, or a region; with the places of the nodes below."""
+    row: tuple | None = None
+    by: int | None = None
+    region: int | None = None
+    below: list = field(default_factory=list)
+
+
+@dataclass
 class Proof:
     regions: list
     splits: int
     defs: int
+    nodes: list
+
+    def region_at(self, world):
+        """The place of the region that has a world."""
+        values, node = list(world), self.nodes[0]
+        while node.region is None:
+            constant, terms = node.row
+            value = constant + sum(times * values[name] for name, times in terms.items())
+            if node.by:
+                values.append(value // node.by)
+            node = self.nodes[node.below[0 if node.by or value >= 0 else 1]]
+        return node.region
 
 
 def row_of(text):
@@ -172,17 +193,23 @@ def past_derivation(lines, at):
 
 def proof_of(lines, job):
     """The parts of the range that a certificate closes. Its derivations are passed over: vizlog check judges them."""
-    proof, at, waiting = Proof([], 0, 0), 2, [(job.widths, job.sizes, [], False)]
+    proof, at, waiting = Proof([], 0, 0, []), 2, [(Fork(), (job.widths, job.sizes, [], False))]
     try:
         while waiting:
-            widths, sizes, cuts, by_defs = waiting.pop()
+            above, (widths, sizes, cuts, by_defs) = waiting.pop()
+            node = Fork()
+            above.below.append(len(proof.nodes))
+            proof.nodes.append(node)
             line, at = lines[at], at + 1
             if line.startswith("def "):
                 proof.defs += 1
-                waiting.append((widths, sizes, cuts, by_defs))
+                row, _, by = line[4:].rpartition(" by ")
+                node.row, node.by = row_of(row), int(by)
+                waiting.append((node, (widths, sizes, cuts, by_defs)))
             elif line.startswith("split "):
                 proof.splits += 1
-                waiting.extend(reversed(list(halves(row_of(line[6:]), widths, sizes, cuts, by_defs))))
+                node.row = row_of(line[6:])
+                waiting.extend((node, it) for it in reversed(list(halves(node.row, widths, sizes, cuts, by_defs))))
             elif line in ("grid", "void", "leaf"):
                 if line == "void":
                     at = past_derivation(lines, at)
@@ -191,6 +218,7 @@ def proof_of(lines, job):
                         raise NoAnswer(f"line {at + 1} of the certificate is no answer: {lines[at][:60]}")
                     at = past_derivation(lines, at + 1)
                 at += line == "leaf"
+                node.region = len(proof.regions)
                 proof.regions.append(Region(line, widths, sizes, cuts, by_defs))
             else:
                 raise NoAnswer(f"line {at} of the certificate is no node: {line[:60]}")

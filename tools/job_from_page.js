@@ -441,6 +441,13 @@ class Blank {
   end() { this.frame.remove(); }
 }
 
+/** The width and height of an element's content box. */
+function contentBox(of, style) {
+  const edges = (one, other) => [`padding${one}`, `padding${other}`, `border${one}Width`, `border${other}Width`]
+    .reduce((sum, it) => sum + parseFloat(style[it]), 0);
+  return [of.offsetWidth - edges("Left", "Right"), of.offsetHeight - edges("Top", "Bottom")];
+}
+
 function sizer(blank, findings) {
   const sized = (of, tag) => {
     if (tag === "img" || (tag === "input" && of.type === "image")) {
@@ -463,9 +470,7 @@ function sizer(blank, findings) {
       copy.removeAttribute("style");
       copy.removeAttribute("class");
       copy.removeAttribute("hidden");
-      const edges = names => names.reduce((sum, it) => sum + parseFloat(style[it]), 0);
-      return [copy.offsetWidth - edges(["paddingLeft", "paddingRight", "borderLeftWidth", "borderRightWidth"]),
-        copy.offsetHeight - edges(["paddingTop", "paddingBottom", "borderTopWidth", "borderBottomWidth"])];
+      return contentBox(copy, style);
     });
   };
   return (of, tag) => sized(of, tag).map(it => {
@@ -606,6 +611,26 @@ function judgeNodes(tree, findings) {
     for (const child of node.children || []) walk(child, passed, node);
   };
   walk(tree.root, null, null);
+}
+
+/** What browsers give no ratio, and controls a size that goes with their font: the profile keeps to the job's size and its ratio. */
+const NO_RATIO = new Set(["input", "select", "textarea", "meter", "progress", "iframe", "embed", "object", "audio"]);
+
+function judgeSizes(tree, findings) {
+  for (const node of tree.nodes) {
+    if (!node.size || !NO_RATIO.has(node.tag) || node.of.type === "image" || !node.of.computedStyleMap) continue;
+    const style = tree.computed(node.of);
+    const theirs = contentBox(node.of, style);
+    const [wide, high] = node.size;
+    const automatic = name => String(node.of.computedStyleMap().get(name)) === "auto";
+    let [width, height] = theirs;
+    if (automatic("width") && style.maxWidth === "none") width = automatic("height") || !high ? wide : height * wide / high;
+    if (automatic("height")) height = wide ? width * high / wide : high;
+    if (Math.abs(width - theirs[0]) < 2 && Math.abs(height - theirs[1]) < 2) continue;
+    const px = pair => pair.map(it => `${Math.round(it)}`).join(" by ");
+    findings.add("otherwise", "a control or frame has a size of its font, and no ratio",
+      `${called(node)}, ${px(theirs)} px in the browser and ${px([width, height])} here`);
+  }
 }
 
 function judgeLimits(tree, texts, styles, fonts, assert, findings) {
@@ -781,6 +806,9 @@ async function readPage(page, {widths, sizes, height, assert, browserStyles}) {
   for (const it of page.images) it.loading = "eager";
   const loaded = Promise.all([page.fonts.ready, ...[...page.images].map(it => it.decode().catch(() => {}))]);
   await Promise.race([loaded, new Promise(done => setTimeout(done, 10000))]);
+  for (const it of page.fonts) {
+    if (it.status === "error") findings.add("told", "a font that the browser could not load is left out", it.family);
+  }
   const css = await sheetsOf(page, findings);
   const rules = css.flatMap((text, at) => judgeSheet(text, at, findings));
   const selectors = rules.flatMap(it => it.selectors);
@@ -791,6 +819,9 @@ async function readPage(page, {widths, sizes, height, assert, browserStyles}) {
   const gaps = selectors.some(it => /\+|:first-child/i.test(it));
   // the tree is read before a frame for measuring stands in the page
   const tree = new Tree(page.documentElement, names, gaps, findings);
+  const holds = it => it.chars === undefined ? !LEFT_OUT.has(it.tag) && !/^(?:html|body)$/.test(it.tag) : it.chars.trim();
+  if (!tree.nodes.some(holds)) throw new Fault("the page is empty: its body has no element that can be seen and no text");
+  shown.nodes = tree.nodes.map(it => it.of || null);
   const blank = new Blank(page);
   try {
     const measure = sizer(blank, findings);
@@ -800,6 +831,7 @@ async function readPage(page, {widths, sizes, height, assert, browserStyles}) {
     const initial = blank.frame.contentWindow.getComputedStyle(blank.page.body).fontFamily;
     const fonts = fontsOf(tree, page, initial);
     judgeNodes(tree, findings);
+    judgeSizes(tree, findings);
     judgeText(tree, findings);
     const styles = tree.nodes.filter(it => it.attrs && it.attrs.style).map(it => it.attrs.style);
     for (const node of tree.nodes) if (node.attrs && node.attrs.style) judgeDeclarations(node.attrs.style, called(node), findings);
@@ -812,7 +844,7 @@ async function readPage(page, {widths, sizes, height, assert, browserStyles}) {
   }
 }
 
-/** For a console: tells what was found and offers the job as a file. */
+/** For a console: tells what was found and offers the job as a file. `nodes` then has the element of each node, or null for a text. */
 async function shown(options) {
   const found = await read(options);
   if (found.fault) { console.error(found.fault); return; }

@@ -1,4 +1,4 @@
-"""Tests of the tools for pages: jobs, answers, pictures, fonts, and, where a browser is installed, one page made into its job."""
+"""Tests of the tools for pages: jobs, answers, pictures, fonts, and, where a browser is installed, a page's job and a page built of one."""
 import importlib.machinery
 import importlib.util
 import json
@@ -62,9 +62,11 @@ def certificates():
         ("grid", (1120, 1920), (12, 24), False), ("leaf", (320, 1119), (12, 24), False), ("void", (320, 1119), (18, 24), False),
         ("grid", (320, 1119), (12, 17), True), ("grid", (320, 1119), (12, 17), True)]
     yield "splits and floors", (proof.splits, proof.defs), (4, 1)
+    yield "regions of worlds", [proof.region_at(it) for it in ((1120, 24), (50, 12), (500, 18), (1119, 12))], [0, 1, 2, 3]
     for end in range(1, len(CERT)):
         yield "a front", refused(head + "\n".join(CERT[:end]) + "\n", job) is None, False
     picture = script("picture")
+    yield "runs", [row for _, row in picture.runs(job, proof)][6], [[2, 320, 1120], [0, 1120, 1921]]
     slanted = answers.answer_of(head + "split -1120 0:1\ngrid\nsplit 2000 0:-1 1:-40\ngrid\ngrid\n", job)
     area = sum(abs(sum(a[0] * b[1] - b[0] * a[1] for a, b in zip(points, points[1:] + points[:1]))) / 2
                for points in map(picture.corners, slanted.regions))
@@ -96,9 +98,25 @@ def browser():
         yield "the job of examples/pages/badge.html", pair[0], pair[1]
 
 
+def replaced():
+    """An element with a size is built as large as the job and its sheets say, whatever its tag."""
+    tool = script("against_chromium")
+    tags = ("input", "select", "textarea", "progress", "canvas", "iframe", "img", "span")
+    page = {"tag": "div", "children": [{"tag": it, "size": [150, 15]} for it in tags]}
+    page["children"][1]["attrs"] = {"style": "height:30px"}
+    job = answers.job_of(json.dumps({"widths": [800, 800], "sizes": [16, 16], "height": 600, "css": ["input{width:300px}"],
+                                     "assert": "true", "page": page}))
+    job.fonts = [{"name": "none"}]
+    with chromium.Chromium() as browser:
+        browser.screen(800, 600)
+        tool.build(browser, job, "profile", [])
+        found = browser.run(tool.LOOK)[1:]
+    yield "sizes", [[right - left, bottom - top] for left, top, right, bottom in found], [[300, 30]] * 2 + [[150, 15]] * 6
+
+
 def failures():
     """A line for each test that fails."""
-    for tests in (renderings, certificates, fonts) + ((browser,) if chromium.found() else ()):
+    for tests in (renderings, certificates, fonts) + ((browser, replaced) if chromium.found() else ()):
         for name, found, wanted in tests():
             if found != wanted:
                 yield f"{tests.__name__}, {name}: {str(found)[:200]} in place of {str(wanted)[:200]}"
