@@ -4,7 +4,9 @@ use lin_row::Row;
 use std::alloc::Global;
 use viz_base::Mem;
 
-/// A contradiction from the row of `start` and one of the splits, a variable of both being taken away first.
+/// A contradiction from the row of `start` and one of the splits, a variable of both being taken away first. Rows from
+/// which the variables from the place `base` on were taken away are tried before, since they are short, and later splits
+/// before earlier ones, since they say more.
 pub fn paired(
     alloc: Global,
     view: View<'_>,
@@ -16,21 +18,38 @@ pub fn paired(
     if splits.is_empty() {
         return Ok(None);
     }
-    let low = eliminate(alloc, view, sums, start, base, Manner::Exact)?;
-    for split in splits {
+    if let Some(low) = eliminate(alloc, view, sums, start, base, Manner::Exact)? {
+        if let Some(found) = paired_low(alloc, view, sums, low, splits, base)? {
+            return Ok(Some(found));
+        }
+    }
+    for split in splits.iter().rev() {
+        if let Some(found) = joined(alloc, view, sums, start, Source::Fact(*split))? {
+            return Ok(Some(found));
+        }
+    }
+    Ok(None)
+}
+
+/// A contradiction from a row without the variables from the place `base` on and one of the splits, from which they are
+/// taken away first.
+fn paired_low(
+    alloc: Global,
+    view: View<'_>,
+    sums: &mut Vec<Sum>,
+    low: Source,
+    splits: &[u32],
+    base: u32,
+) -> Result<Option<Source>, Mem> {
+    for split in splits.iter().rev() {
+        let count = sums.len();
         let split = Source::Fact(*split);
-        if let Some(found) = joined(alloc, view, sums, start, split)? {
-            return Ok(Some(found));
+        if let Some(other) = eliminate(alloc, view, sums, split, base, Manner::Exact)? {
+            if let Some(found) = joined(alloc, view, sums, low, other)? {
+                return Ok(Some(found));
+            }
         }
-        let Some(low) = low else {
-            continue;
-        };
-        let Some(other) = eliminate(alloc, view, sums, split, base, Manner::Exact)? else {
-            continue;
-        };
-        if let Some(found) = joined(alloc, view, sums, low, other)? {
-            return Ok(Some(found));
-        }
+        sums.truncate(count);
     }
     Ok(None)
 }
