@@ -4,7 +4,7 @@ use Rattle.std.specs.List.{list_all}
 use Rattle.std.specs.Str.{chars}
 use Rattle.std.proofs.lemmas.Str.{chars-nil}
 use Rattle.viz_base.specs.Orders.{IsInOrder, is_from}
-use Rattle.viz_base.specs.Trees.{named_nodes, has_box, is_chars, is_inline, IsBoxAt, IsBoxTree}
+use Rattle.viz_base.specs.Trees.{named_nodes, has_box, is_anon, is_chars, is_inline, IsBoxAt, IsBoxTree}
 use Rattle.viz_base.specs.declared.fonts.Font.{Font}
 use Rattle.viz_base.specs.declared.styles.Style.{Style}
 use Rattle.viz_base.specs.declared.trees.BoxNode.{BoxNode}
@@ -53,6 +53,9 @@ few_letters = rw chars-nil (lit≤ tt)
 no_chars : (at : ℕ) (b : BoxNode) → slice_get boxes at ≡ Some b → IsTrue (is_chars b.kind) → ⊥
 no_chars = of_four (λ _ (b : BoxNode). IsTrue (is_chars b.kind) → ⊥) root outer floated inner (λ h. cc) (λ h. cc) (λ h. cc) (λ h. cc)
 
+no_anonymous : (at : ℕ) (b : BoxNode) → slice_get boxes at ≡ Some b → IsTrue (is_anon b.kind) → ⊥
+no_anonymous = of_four (λ _ (b : BoxNode). IsTrue (is_anon b.kind) → ⊥) root outer floated inner (λ h. cc) (λ h. cc) (λ h. cc) (λ h. cc)
+
 -- only the float stands between a box and a child of its, which is a child of it too
 in_order : IsInOrder (map (λ (b : BoxNode). b.parent) boxes)
 in_order at between zero parent e f after before = cc
@@ -98,4 +101,6 @@ module _ (s0 s1 s2 s3 : Style) (font : Font) (p0 : IsSimple s0) (p1 : IsSimple s
     names_boxed = λ node s has is. each_style (λ s. IsTrue (list_all (has_box boxes) (named_nodes s))) (λ s p. ap (list_all (has_box boxes)) p.names) node s is;
     texts_alike = λ at b p s t is letters up own above. absurd (no_chars at b is letters);
     texts_same_size = λ at b s is letters own. absurd (no_chars at b is letters);
+    texts_in_elements = λ at b is letters. absurd (no_chars at b is (ap is_chars letters));
+    anonymous_in_elements = λ at b is anonymous. absurd (no_anonymous at b is (ap is_anon anonymous));
   }

@@ -69,10 +69,6 @@ low-page tree is small =
       few_boxes = small.few_boxes;
       low = record {
         total = total_bounded tree.styles tree.parents tree.fonts tree.boxes small.reach;
-        elements = record {
-          texts = λ k x e is. absurd (let block = block-at parts.0 k x e in cc);
-          anonymous = λ k x e is. absurd (let block = block-at parts.0 k x e in cc);
-        };
       };
       blocks = block-at parts.0;
       reach = λ k x e.

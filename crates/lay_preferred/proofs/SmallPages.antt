@@ -30,8 +30,7 @@ use Rattle.layout_laws.proofs.TreeFacts.{slice_in}
 use Rattle.layout_laws.proofs.Reaching.{ratio_least}
 use Rattle.lay_length.specs.Ways.{size_way}
 use Rattle.lay_reach.specs.Limits.{IsSmallPage}
-use Rattle.lay_reach.specs.Elements.{HasElements}
-use Rattle.lay_reach.proofs.Extents.{IsLowTree, IsElementOf, IsLowLength, HasLowLengths, low-tree, ext, own_low, own-is, style-of, element-box, boxed, sizes-small, used-size, way-small, by-groups, style-low}
+use Rattle.lay_reach.proofs.Extents.{IsLowTree, IsElementOf, element-around, IsLowLength, HasLowLengths, low-tree, ext, own_low, own-is, style-of, element-box, boxed, sizes-small, used-size, way-small, by-groups, style-low}
 use Rattle.lay_reach.proofs.Fonts.{em-up}
 use Rattle.lay_reach.proofs.Numbers.{size-fraction}
 use Rattle.lay_reach.proofs.Texts.{IsTextAt, text-only, texts-low}
@@ -149,7 +148,7 @@ module _ (tree : BoxTree) (low : IsLowTree tree) (w : World) (small : w.s ≤ 25
 
         by : (kind : Kind) → x.kind ≡ kind → StyleHere
         by of_kind.Chars is =
-            let text = low.elements.texts at x place is in
+            let text = element-around tree.boxes (slice_get tree.parents x.node) (tree.ok.texts_in_elements at x place is) in
             let b = element-box tree low w small text.0 text.2 in
             let there = ap (slice_get tree.styles) (sym b.4) ∙ (b.3).style in
             let alike = tree.ok.texts_alike at x text.0 s b.2 place (ap is_chars is) text.1 e there in
@@ -270,9 +269,9 @@ module _ (tree : BoxTree) (low : IsLowTree tree) (w : World) (small : w.s ≤ 25
             let all = sum_by-cons (λ (n : ℕ). n) (room_of tree w (λ (k : ℕ). 0) i) (map (room_of tree w (λ (k : ℕ). 0)) items) in
             (one i a.0 (omega (arith, all, l)), words items a.1 (omega (arith, all, l)))
 
-pub small-boxes : (tree : BoxTree) → IsSmallPage tree → HasElements tree → (is_open : Reading → Bool) → ((e : Reading) → IsTrue (is_open e) → e.world.s ≤ 256) → AreSmallBoxes tree is_open
-small-boxes tree page elements is_open sized = record {
+pub small-boxes : (tree : BoxTree) → IsSmallPage tree → (is_open : Reading → Bool) → ((e : Reading) → IsTrue (is_open e) → e.world.s ≤ 256) → AreSmallBoxes tree is_open
+small-boxes tree page is_open sized = record {
   few_boxes = page.few_boxes;
-  lengths = λ e o at l. let x = slice_some tree.boxes at l in lengths-fit tree (low-tree tree page elements) e.world (sized e o) at x.0 x.1;
-  texts = λ e o at l. let x = slice_some tree.boxes at l in text-fits tree (low-tree tree page elements) e.world (sized e o) at x.0 x.1;
+  lengths = λ e o at l. let x = slice_some tree.boxes at l in lengths-fit tree (low-tree tree page) e.world (sized e o) at x.0 x.1;
+  texts = λ e o at l. let x = slice_some tree.boxes at l in text-fits tree (low-tree tree page) e.world (sized e o) at x.0 x.1;
 }

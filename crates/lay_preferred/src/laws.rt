@@ -3,7 +3,6 @@ ghost use Rattle.viz_base.specs.declared.trees.BoxTree.{BoxTree};
 ghost use Rattle.viz_base.specs.declared.worlds.World.{World};
 ghost use Rattle.viz_calc.specs.World.{Reading};
 ghost use Rattle.layout_semantics.specs.Preferred.{a_replaced, inline_content, blocks, inside_of, preferred};
-ghost use Rattle.lay_reach.specs.Elements.{HasElements};
 ghost use Rattle.lay_reach.specs.Limits.{IsSmallPage};
 ghost use Rattle.lay_preferred.specs.Fitting.{AreSmallBoxes, BoxesFit, AreWithin};
 ghost use Rattle.lay_preferred.specs.steps.Outer.{is_given, given, around, replaced, outer};
@@ -44,7 +43,6 @@ pub fn preferred_widths_of_small_boxes(tree: &BoxTree)
 /// The boxes of a small page are small by themselves, at default font sizes of at most 256 px.
 pub fn boxes_of_a_small_page_are_small(tree: &BoxTree)
     requires small { IsSmallPage tree.now }
-    requires elements { HasElements tree.now }
     ensures { (is_open : Reading → Bool) → ((e : Reading) → IsTrue (is_open e) → e.world.s ≤ 256)
         → AreSmallBoxes tree.now is_open }
 {}

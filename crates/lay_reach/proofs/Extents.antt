@@ -6,7 +6,7 @@ use Rattle.std.specs.Option.{option_map_or, option_and_then, option_to_list}
 use Rattle.std.proofs.lemmas.Bool.Decides.{nat_tests}
 use Rattle.std.proofs.lemmas.List.Sums.{sum_by-cons}
 use Rattle.std.proofs.lemmas.List.Folds.{list_all-append}
-use Rattle.viz_base.specs.Trees.{has_box, is_chars, is_line, is_same_size, length_nodes, sides_nodes, maximum_nodes}
+use Rattle.viz_base.specs.Trees.{has_box, has_element, is_element_box, is_chars, is_line, is_same_size, length_nodes, sides_nodes, maximum_nodes}
 use Rattle.viz_base.specs.Styles.{is_bounded, sides_of}
 use Rattle.viz_base.specs.Reaches.{is_of_element, ratio, percentage, extent, lengths_of, raise_extent, font_extent, intrinsic_extent, style_extent, own_extent, text_extent, total_extent}
 use Rattle.viz_base.specs.FontSizes.{default_size, computed_size, font_size_in}
@@ -30,17 +30,21 @@ use Rattle.layout_laws.proofs.Reaching.{ratio_least, total_bounded}
 use Rattle.layout_laws.proofs.FontSizes.{font-of-style}
 use Rattle.lay_length.specs.Ways.{size_way_to, used_way}
 use Rattle.lay_reach.specs.Limits.{IsSmallPage}
-use Rattle.lay_reach.specs.Elements.{has_element, HasElements}
 use Rattle.lay_reach.proofs.Numbers.{size-fraction}
 use Rattle.lay_reach.proofs.Fonts.{font-up, em-up}
 
--- a page of elements all extents of which together are at most 2^40 units
+-- a page all extents of which together are at most 2^40 units
 pub record IsLowTree (tree : BoxTree) : Type 0 where
   pub total : total_extent tree.styles tree.parents tree.fonts tree.boxes ≤ 2 ^ 40
-  pub elements : HasElements tree
 
-pub low-tree : (tree : BoxTree) → IsSmallPage tree → HasElements tree → IsLowTree tree
-low-tree tree small elements = record { total = total_bounded tree.styles tree.parents tree.fonts tree.boxes small.reach; elements = elements }
+pub low-tree : (tree : BoxTree) → IsSmallPage tree → IsLowTree tree
+low-tree tree small = record { total = total_bounded tree.styles tree.parents tree.fonts tree.boxes small.reach }
+
+-- the element that a text is in
+pub element-around : (boxes : List BoxNode) (parent : Option (Option ℕ)) → IsTrue (is_element_box boxes parent) → (p : ℕ) × (parent ≡ Some (Some p)) × IsTrue (has_element boxes p)
+element-around boxes (Some (Some p)) t = (p, refl, t)
+element-around boxes (Some None) t = absurd (cc)
+element-around boxes None t = absurd (cc)
 
 -- an element's box at its place, with its style
 pub record IsElementOf (tree : BoxTree) (k : ℕ) (x : BoxNode) (s : Style) : Type 0 where
@@ -145,9 +149,9 @@ module _ (tree : BoxTree) (low : IsLowTree tree) (w : World) (small : w.s ≤ 25
 
       by : (kind : Kind) → x.kind ≡ kind → unsigned_abs (font_size_in tree.styles tree.parents w.s x.node) ≤ 2 ^ 40
       by of_kind.Chars is =
-          let text = low.elements.texts k x e is in
+          let text = element-around tree.boxes (slice_get tree.parents x.node) (tree.ok.texts_in_elements k x e is) in
           subst (λ z. unsigned_abs z ≤ 2 ^ 40) (sym (text-font k x text.0 e is text.1)) (element-font text.0 text.2)
-      by of_kind.Anon is = element-font x.node (low.elements.anonymous k x e is)
+      by of_kind.Anon is = element-font x.node (tree.ok.anonymous_in_elements k x e is)
       by of_kind.Line is = absurd (let none = (tree.ok.each k x e).no_line in let line = ap is_line is in cc)
       by of_kind.Block is = own (ap is_of_element is)
       by of_kind.Float is = own (ap is_of_element is)

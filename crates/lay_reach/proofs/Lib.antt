@@ -2,4 +2,3 @@ pub mod Numbers
 pub mod Fonts
 pub mod Extents
 pub mod Texts
-pub mod BuiltPages

@@ -1,12 +1,7 @@
-ghost use Rattle.std.specs.Prelude.{◌≡◌, ◌≤◌, ◌^◌, ℕ, unsigned_abs, IsTrue, List};
-ghost use Rattle.viz_base.specs.Pages.{IsPage};
+ghost use Rattle.std.specs.Prelude.{◌≤◌, ◌^◌, ℕ, unsigned_abs, IsTrue};
 ghost use Rattle.viz_base.specs.Trees.{has_box};
-ghost use Rattle.viz_base.specs.declared.nodes.Node.{Node};
-ghost use Rattle.viz_base.specs.declared.styles.Style.{Style};
 ghost use Rattle.viz_base.specs.declared.worlds.World.{World};
-ghost use Rattle.layout_semantics.specs.BoxTrees.{page_boxes, tree_parents};
 ghost use Rattle.layout_semantics.specs.Fonts.{font_size};
-ghost use Rattle.lay_reach.specs.Elements.{HasElements};
 ghost use Rattle.lay_reach.specs.Limits.{IsSmallPage};
 
 use viz_base::BoxTree;
@@ -14,13 +9,6 @@ use viz_base::BoxTree;
 /// On a small page each font size is at most 2^40 units, at each default font size up to 256 px.
 pub fn font_sizes_of_a_small_page(tree: &BoxTree)
     requires small { IsSmallPage tree.now }
-    requires elements { HasElements tree.now }
     ensures { (w : World) → w.s ≤ 256 → (node : ℕ) → IsTrue (has_box tree.now.boxes node)
         → unsigned_abs (font_size tree.now w node) ≤ 2 ^ 40 }
-{}
-
-/// Each text and each anonymous box that is built of a page is in an element that has a box.
-pub fn built_boxes_are_in_elements(tree: &BoxTree)
-    ensures { (nodes : List Node) (styles : List Style) → IsPage nodes
-        → tree.now.boxes ≡ page_boxes nodes styles → tree.now.parents ≡ tree_parents nodes → HasElements tree.now }
 {}

@@ -15,6 +15,7 @@ pub mod Collapsing
 pub mod TextLengths
 pub mod Sorts
 pub mod TreeFacts
+pub mod ElementBoxes
 pub mod Whole
 pub mod Reaching
 pub mod Separated

@@ -26,6 +26,7 @@ use Rattle.layout_laws.proofs.BoxLaws.{page_arranged}
 use Rattle.layout_laws.proofs.BoxFacts.{item_known, item_part, page_box_is}
 use Rattle.layout_laws.proofs.Sorts.{run_in}
 use Rattle.layout_laws.proofs.TreeFacts.{box_tree, no_parent}
+use Rattle.layout_laws.proofs.ElementBoxes.{anonymous-in, text-in}
 use Rattle.page_boxes.proofs.PageSteps.{root_has_none, root_kind}
 
 -- ---- runs leave out nothing
@@ -494,3 +495,4 @@ module _ (nodes : List Node) (styles : List Style) (page : IsPage nodes) where
 pub tree_of_page : (nodes : List Node) (styles : List Style) (fonts : List Font) → IsPage nodes → AreStylesOf nodes styles fonts → blocks_in_inlines (page_parts nodes styles) ≡ []
     → IsBoxTree (page_boxes nodes styles) (tree_styles nodes styles) fonts (tree_parents nodes)
 tree_of_page nodes styles fonts page styled none = box_tree nodes styles fonts page styled none (root_is_block nodes styles page) (boxes_in_order nodes styles page)
+    (text-in nodes styles page) (anonymous-in nodes styles page)

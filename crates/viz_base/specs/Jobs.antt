@@ -24,7 +24,7 @@ pub record IsJob (range : Rect) (height : ℕ) (boxes : List BoxNode) (styles : 
   pub height_least : 1 ≤ height
   pub height_most : height ≤ 16384
   pub few_boxes : length boxes ≤ 16384
-  pub few_characters : sum_by (λ (b : BoxNode). length (chars b.chars)) boxes ≤ 524288
+  pub few_characters : sum_by (λ (b : BoxNode). length (chars b.chars)) boxes ≤ 262144
   -- no box reaches further than 2^40 units
   pub reach : beyond_reach styles parents fonts boxes ≡ None
   pub bound : IsTrue (is_bound_in formula 0)

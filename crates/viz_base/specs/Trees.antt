@@ -3,6 +3,7 @@ use Rattle.std.specs.List.{list_all, list_any}
 use Rattle.std.specs.Option.{option_map_or}
 use Rattle.std.specs.Str.{chars}
 use Rattle.viz_base.specs.Orders.{IsInOrder}
+use Rattle.viz_base.specs.Reaches.{is_of_element}
 use Rattle.viz_base.specs.Styles.{sides_of}
 use Rattle.viz_base.specs.declared.fonts.Font.{Font}
 use Rattle.viz_base.specs.declared.lengths.Length.{Length}
@@ -138,6 +139,15 @@ named_nodes s =
 abbrev pub has_box : List BoxNode → ℕ → Bool
 has_box boxes node = list_any (λ b. b.node == node) boxes
 
+-- the node has the box of an element
+abbrev pub has_element : List BoxNode → ℕ → Bool
+has_element boxes node = list_any (λ (b : BoxNode). is_of_element b.kind && (b.node == node)) boxes
+
+-- so has this parent
+abbrev pub is_element_box : List BoxNode → Option (Option ℕ) → Bool
+is_element_box boxes (Some (Some node)) = has_element boxes node
+is_element_box boxes _ = false
+
 abbrev pub is_same_size : Size → Bool
 is_same_size of_size.Same = true
 is_same_size _ = false
@@ -195,3 +205,7 @@ pub record IsBoxTree (boxes : List BoxNode) (styles : List Style) (fonts : List 
       → slice_get parents b.node ≡ Some (Some p) → slice_get styles b.node ≡ Some s → slice_get styles p ≡ Some t → AreAlikeButSize s t
   pub texts_same_size : (at : ℕ) (b : BoxNode) (s : Style) → slice_get boxes at ≡ Some b → IsTrue (is_chars b.kind)
       → slice_get styles b.node ≡ Some s → IsTrue (is_same_size s.size)
+  -- the parent of a text, and the node that an anonymous box stands in, have the box of an element
+  pub texts_in_elements : (at : ℕ) (b : BoxNode) → slice_get boxes at ≡ Some b → b.kind ≡ of_kind.Chars
+      → IsTrue (is_element_box boxes (slice_get parents b.node))
+  pub anonymous_in_elements : (at : ℕ) (b : BoxNode) → slice_get boxes at ≡ Some b → b.kind ≡ of_kind.Anon → IsTrue (has_element boxes b.node)

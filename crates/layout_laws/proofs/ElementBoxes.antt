@@ -5,13 +5,12 @@ use Rattle.std.specs.Option.{option_map_or}
 use Rattle.std.proofs.lemmas.Option.{slice_get-map}
 use Rattle.viz_base.specs.Pages.{IsPage, is_element, is_element_at, parent_fits}
 use Rattle.viz_base.specs.Reaches.{is_of_element}
-use Rattle.viz_base.specs.Trees.{is_anon, is_chars}
+use Rattle.viz_base.specs.Trees.{has_element, is_anon, is_chars, is_element_box}
 use Rattle.viz_base.specs.declared.nodes.Body.{Body}
 use Rattle.viz_base.specs.declared.nodes.Body.TheVariants as of_body
 use Rattle.viz_base.specs.declared.nodes.Node.{Node}
 use Rattle.viz_base.specs.declared.styles.Style.{Style}
 use Rattle.viz_base.specs.declared.trees.BoxNode.{BoxNode}
-use Rattle.viz_base.specs.declared.trees.BoxTree.{BoxTree}
 use Rattle.viz_base.specs.declared.trees.Kind.TheVariants as of_kind
 use Rattle.layout_semantics.specs.Parts.{Part, kind_of_node}
 use Rattle.layout_semantics.specs.BoxTrees.{Item, items_of, own_box, own_place, run_around, page_parts, page_boxes, tree_styles, tree_parents}
@@ -24,7 +23,6 @@ use Rattle.layout_laws.proofs.PageParts.{IsPagePart, element_kind, no_chars, fro
 use Rattle.layout_laws.proofs.BoxLaws.{page_arranged}
 use Rattle.layout_laws.proofs.BoxFacts.{item_known, item_part, no_anon, page_box_is}
 use Rattle.layout_laws.proofs.TreeFacts.{slice_in}
-use Rattle.lay_reach.specs.Elements.{has_element, HasElements}
 
 kind-of-element : (body : Body) (is_root : Bool) (s : Style) → is_element body ≡ true → is_of_element (kind_of_node is_root body s) ≡ true
 kind-of-element (of_body.Element element) is_root s e = element_kind is_of_element true element is_root s refl refl refl refl refl refl
@@ -55,7 +53,7 @@ module _ (nodes : List Node) (styles : List Style) (page : IsPage nodes) where
       let above = parent_is nodes page x.part.node q (part_parent nodes (tree_styles nodes styles) page x.part (item_known nodes styles page x i) ∙ e) in
       part-boxed up.parent q up.inside up.node above.1
 
-  anonymous-in : (at : ℕ) (b : BoxNode) → slice_get (page_boxes nodes styles) at ≡ Some b → b.kind ≡ of_kind.Anon → has_element (page_boxes nodes styles) b.node ≡ true
+  pub anonymous-in : (at : ℕ) (b : BoxNode) → slice_get (page_boxes nodes styles) at ≡ Some b → b.kind ≡ of_kind.Anon → has_element (page_boxes nodes styles) b.node ≡ true
   anonymous-in at b e is = by_box (page_box_is nodes styles page at b e)
     where
       by_box : IsBoxOf items at b → has_element (page_boxes nodes styles) b.node ≡ true
@@ -82,11 +80,11 @@ module _ (nodes : List Node) (styles : List Style) (page : IsPage nodes) where
           let element = page.root in
           absurd (cc)
 
-  text-in : (at : ℕ) (b : BoxNode) → slice_get (page_boxes nodes styles) at ≡ Some b → b.kind ≡ of_kind.Chars
-      → (q : ℕ) × (slice_get (tree_parents nodes) b.node ≡ Some (Some q)) × (has_element (page_boxes nodes styles) q ≡ true)
+  pub text-in : (at : ℕ) (b : BoxNode) → slice_get (page_boxes nodes styles) at ≡ Some b → b.kind ≡ of_kind.Chars
+      → is_element_box (page_boxes nodes styles) (slice_get (tree_parents nodes) b.node) ≡ true
   text-in at b e is = by_box (page_box_is nodes styles page at b e)
     where
-      by_box : IsBoxOf items at b → (q : ℕ) × (slice_get (tree_parents nodes) b.node ≡ Some (Some q)) × (has_element (page_boxes nodes styles) q ≡ true)
+      by_box : IsBoxOf items at b → is_element_box (page_boxes nodes styles) (slice_get (tree_parents nodes) b.node) ≡ true
       by_box (IsBoxOf.anonymous x run i r t p s) = absurd (let kind : of_kind.Chars ≡ of_kind.Anon = sym is ∙ ap (λ (c : BoxNode). c.kind) s in let chars = ap is_chars kind in cc)
       by_box (IsBoxOf.own x i p s) = by_body (is_element k.entry.body) refl
         where
@@ -96,19 +94,11 @@ module _ (nodes : List Node) (styles : List Style) (page : IsPage nodes) where
           chars : is_chars (kind_of_node (x.part.node == 0) k.entry.body k.style) ≡ true
           chars = sym (ap (λ (r : Part). is_chars r.kind) k.is) ∙ (sym (ap (λ (c : BoxNode). is_chars c.kind) s) ∙ ap is_chars is)
 
-          by_body : (t : Bool) → is_element k.entry.body ≡ t → (q : ℕ) × (slice_get (tree_parents nodes) b.node ≡ Some (Some q)) × (has_element (page_boxes nodes styles) q ≡ true)
+          by_body : (t : Bool) → is_element k.entry.body ≡ t → is_element_box (page_boxes nodes styles) (slice_get (tree_parents nodes) b.node) ≡ true
           by_body true f = absurd (let no = no_chars k.entry.body (x.part.node == 0) k.style f in let yes = chars in cc)
           by_body false f =
               let up = parent-there x.part.node k.entry k.node_is f in
               let node = ap (λ (c : BoxNode). c.node) s in
               let listed = slice_get-map (λ (n : Node). n.parent) nodes x.part.node ∙ (ap (option_map (λ (n : Node). n.parent)) k.node_is ∙ ap Some up.1) in
               let part : x.part.parent ≡ Some up.0 = sym (part_parent nodes (tree_styles nodes styles) page x.part k) ∙ (ap (option_and_then (λ (n : Node). n.parent)) k.node_is ∙ up.1) in
-              (up.0, ap (slice_get (tree_parents nodes)) node ∙ listed, parent-boxed x up.0 i part)
-
-  pub built-elements : (tree : BoxTree) → tree.boxes ≡ page_boxes nodes styles → tree.parents ≡ tree_parents nodes → HasElements tree
-  built-elements tree boxes parents = record {
-    texts = λ at b e is.
-        let text = text-in at b (sym (ap (λ bs. slice_get bs at) boxes) ∙ e) is in
-        (text.0, ap (λ ps. slice_get ps b.node) parents ∙ text.1, ap (λ bs. has_element bs text.0) boxes ∙ text.2);
-    anonymous = λ at b e is. ap (λ bs. has_element bs b.node) boxes ∙ anonymous-in at b (sym (ap (λ bs. slice_get bs at) boxes) ∙ e) is;
-  }
+              ap (is_element_box (page_boxes nodes styles)) (ap (slice_get (tree_parents nodes)) node ∙ listed) ∙ parent-boxed x up.0 i part
