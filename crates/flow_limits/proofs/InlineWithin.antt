@@ -1,6 +1,6 @@
 -- The inline content of a block container is small where the terms of its boxes are, and the boxes apart stay within bounds.
 use Rattle.std.proofs.Common.{◌≡◌, inl, inr, ℕ, suc, ◌+◌, ◌-◌, ◌*◌, ◌≤◌, ℤ, pos, negsuc, ◌+ℤ◌, ◌-ℤ◌, unsigned_abs, Bool, true, false, ◌||◌, List, [], ◌∷◌, ◌++◌, length, Option, Some, None, refl, sym, ◌∙◌, ap, subst, arith}
-use Rattle.std.specs.Prelude.{◌==◌, min}
+use Rattle.std.specs.Prelude.{◌==◌, min, if◌then◌else◌}
 use Rattle.std.specs.Int.{int_min}
 use Rattle.std.specs.List.{AllByRecursion}
 use Rattle.std.specs.Option.{option_map_or, option_to_list}
@@ -42,7 +42,8 @@ use Rattle.flow_limits.specs.Loads.{greatest_length}
 use Rattle.flow_limits.proofs.ContentBoxes.{IsIn, ItemIn, content-items, IsHeldIn, held-in, IsNoInline, no-inlines, is-inline}
 use Rattle.flow_limits.proofs.InnerTables.{held, not-held}
 use Rattle.flow_limits.specs.Raises.{AreRaisedBy}
-use Rattle.flow_limits.proofs.Raised.{around, inline-raised, other-raised, parent-there}
+use Rattle.flow_limits.proofs.Raised.{around, IsInLines, inline-raised, around-raised, other-raised}
+use Rattle.flow_limits.proofs.InLines.{IsItemInLines, content-in-lines}
 use Rattle.flow_limits.proofs.ContentWithin.{line_context}
 use Rattle.flow_limits.proofs.PageWithin.{base_of, turned_of}
 
@@ -117,15 +118,23 @@ module _ (tree : BoxTree) (w : World) (height : ℕ) where
     abbrev inner_at : ℕ → Inner ℤ
     inner_at j = inner_size tree w height (content_to tree w height apart n) apart j
 
-    raise-small : (at : ℕ) → IsOnPage tree.boxes at → IsSmall t (inline_shift c at)
-    raise-small at p =
-        let own_is = inline-raised tree w raises raised k c.inner c.cb at p in
+    raise-small : (at : ℕ) → IsOnPage tree.boxes at → IsInLines tree k at → IsSmall t (inline_shift c at)
+    raise-small at p l =
+        let own_is = inline-raised tree w raises raised k c.inner c.cb at p l in
         let most_is = few_raises at p in
         omega (arith, own_is, most_is)
 
-    shift-small : (at : ℕ) (e : LineExtent) → IsOnPage tree.boxes at → suc k ≤ at → (at == k) ≡ false → IsSmall t (shift c at e -ℤ middle_of c at e)
+    -- the box around one in the lines is raised by no more
+    around-small : (at q : ℕ) → IsOnPage tree.boxes at → IsInLines tree k at → parent_of tree.boxes at ≡ Some q → IsSmall t (inline_shift c q)
+    around-small at q p l e = by (is_inline (kind_of tree q)) (around-raised tree w raises raised k c.inner c.cb at q p l e) (few_raises q (around tree at q p e))
+      where
+        by : (b : Bool) → unsigned_abs (inline_shift c q) ≤ (if b then raises q else 0) → raises q ≤ t → IsSmall t (inline_shift c q)
+        by true own_is most_is = omega (arith, own_is, most_is)
+        by false own_is most_is = omega (arith, own_is)
+
+    shift-small : (at : ℕ) (e : LineExtent) → IsOnPage tree.boxes at → IsInLines tree k at → (at == k) ≡ false → IsSmall t (shift c at e -ℤ middle_of c at e)
     shift-small at e p l apart_is =
-        let own_is = other-raised tree w raises raised k c.inner c.cb at e p (parent-there tree at p (omega (arith, l))) apart_is in
+        let own_is = other-raised tree w raises raised k c.inner c.cb at e p l apart_is in
         let most_is = few_raises at p in
         omega (arith, own_is, most_is)
 
@@ -164,12 +173,12 @@ module _ (tree : BoxTree) (w : World) (height : ℕ) where
     unfolding IsNoInline
     no-inner at e = not-held inner_at at (length tree.boxes) (inner_boxes tree k) (λ a. all_at (IsNoInline tree w height) (inner_boxes tree k) at (no-inlines tree w height inside (content tree k) (content-items tree w height k wide sound)) a e)
 
-    inline-small : (at : ℕ) → IsIn tree w height inside at → sort_of tree at ≡ an_inline → IsInlineSmall c own turned greatest_length at
-    inline-small at i e =
+    inline-small : (at : ℕ) → IsIn tree w height inside at → IsInLines tree k at → sort_of tree at ≡ an_inline → IsInlineSmall c own turned greatest_length at
+    inline-small at i l e =
         let x = terms at i.page in
         let a = x.above in
         let b = x.below in
-        let r = raise-small at i.page in
+        let r = raise-small at i.page l in
         let own_is = inline_extent tree w (node_of tree at) in
         let same : box_extent c at ≡ own_is = ap (λ (o : Option (Inner ℤ)). option_map_or (λ (j : Inner ℤ). made j.above j.below) o own_is) (no-inner at e) in
         let both = subst (λ (z : LineExtent). unsigned_abs (z.above +ℤ shift c at z) ≤ greatest_length × unsigned_abs (z.below -ℤ shift c at z) ≤ greatest_length) (sym same) (omega (arith, ints, a, r, fine), omega (arith, ints, b, r, fine)) in
@@ -184,12 +193,12 @@ module _ (tree : BoxTree) (w : World) (height : ℕ) where
         made : ℤ → ℤ → LineExtent
         made x y = record { above = x; below = y }
 
-    text-small : (at : ℕ) → IsOnPage tree.boxes at → IsTextSmall c own turned greatest_length at
-    text-small at p = record { shift = by (parent_of tree.boxes at) refl; font = font-small at p }
+    text-small : (at : ℕ) → IsOnPage tree.boxes at → IsInLines tree k at → IsTextSmall c own turned greatest_length at
+    text-small at p l = record { shift = by (parent_of tree.boxes at) refl; font = font-small at p }
       where
         by : (o : Option ℕ) → parent_of tree.boxes at ≡ o → IsSmall greatest_length (option_map_or (inline_shift c) o (pos 0))
         by None e = omega arith
-        by (Some q) e = let r = raise-small q (around tree at q p e) in omega (arith, r, fine)
+        by (Some q) e = let r = around-small at q p l e in omega (arith, r, fine)
 
     width-small : (at : ℕ) (part : List ℕ) → IsOnPage tree.boxes at → IsPartOf part (text_of tree at) → IsSmall greatest_length (text_width tree w (node_of tree at) part)
     width-small at part p q = let x = (terms at p).text part q in omega (arith, x, fine)
@@ -219,13 +228,13 @@ module _ (tree : BoxTree) (w : World) (height : ℕ) where
         sized x y = record { width = x; height = y }
 
     -- by its own middle, or by its baseline
-    atom-in : (at : ℕ) → IsOnPage tree.boxes at → Among (inner_boxes tree k) at → (at == k) ≡ false → IsAtomIn (own at) (turned at) greatest_length (extent_in_line c at)
-    atom-in at p a apart_is =
+    atom-in : (at : ℕ) → IsOnPage tree.boxes at → IsInLines tree k at → Among (inner_boxes tree k) at → (at == k) ≡ false → IsAtomIn (own at) (turned at) greatest_length (extent_in_line c at)
+    atom-in at p l a apart_is =
         let i = inner-of (own at) apart n at (alone_in at) in
         let e : LineExtent = made (inner_at at).above (inner_at at).below in
         let same : box_extent c at ≡ e = ap (λ (o : Option (Inner ℤ)). option_map_or (λ (j : Inner ℤ). made j.above j.below) o (inline_extent tree w (node_of tree at))) (inner-held at p a) in
         subst (λ (z : LineExtent). IsAtomIn (own at) (turned at) greatest_length (made (z.above +ℤ shift c at z) (z.below -ℤ shift c at z))) (sym same)
-        (by (own_of tree at (λ (s : Style). s.valign) of_valign.Baseline) refl i (shift-small at e p (all_at (IsFrom tree.boxes (suc k)) (inner_boxes tree k) at (inner_boxes-from tree k (forest tree)) a).from apart_is))
+        (by (own_of tree at (λ (s : Style). s.valign) of_valign.Baseline) refl i (shift-small at e p l apart_is))
       where
         made : ℤ → ℤ → LineExtent
         made x y = record { above = x; below = y }
@@ -274,19 +283,20 @@ module _ (tree : BoxTree) (w : World) (height : ℕ) where
         by false e l = refl
         by true e l = absurd (let same : at ≡ k = grind (arith, nat_tests) in omega arith)
 
-    item-small : (i : Item) → ItemIn tree w height inside i → IsHeldIn tree w height (inner_boxes tree k) i → IsItemSmall c own turned greatest_length i
+    item-small : (i : Item) → ItemIn tree w height inside i → IsHeldIn tree w height (inner_boxes tree k) i → IsItemInLines tree k i → IsItemSmall c own turned greatest_length i
     unfolding ItemIn IsItemBoxSmall
-    item-small (start at) p h = record { width = start-width at p.0 p.1; box = inline-small at p.0 p.1 }
-    item-small (finish at) p h = record { width = finish-width at p.0 p.1; box = tt }
-    item-small (word at part) p h = record { width = width-small at part p.0.page p.1; box = text-small at p.0.page }
-    item-small (space at) p h = record { width = width-small at (32 ∷ []) p.0.page p.1; box = text-small at p.0.page }
-    item-small (atomic at) p h = record { width = atom-width at p.0.page h; box = atom-in at p.0.page h (apart-from at h) }
-    item-small (forced at) p h = record { width = omega arith; box = tt }
-    item-small (float at) p h = record { width = omega arith; box = float-small at p.0.page h }
+    item-small (start at) p h l = record { width = start-width at p.0 p.1; box = inline-small at p.0 l p.1 }
+    item-small (finish at) p h l = record { width = finish-width at p.0 p.1; box = tt }
+    item-small (word at part) p h l = record { width = width-small at part p.0.page p.1; box = text-small at p.0.page l }
+    item-small (space at) p h l = record { width = width-small at (32 ∷ []) p.0.page p.1; box = text-small at p.0.page l }
+    item-small (atomic at) p h l = record { width = atom-width at p.0.page h; box = atom-in at p.0.page l h (apart-from at h) }
+    item-small (forced at) p h l = record { width = omega arith; box = tt }
+    item-small (float at) p h l = record { width = omega arith; box = float-small at p.0.page h }
 
-    all-small : (items : List Item) → AllByRecursion (ItemIn tree w height inside) items → AllByRecursion (IsHeldIn tree w height (inner_boxes tree k)) items → AllByRecursion (IsItemSmall c own turned greatest_length) items
-    all-small [] a b = tt
-    all-small (i ∷ items) a b = (item-small i a.0 b.0, all-small items a.1 b.1)
+    all-small : (items : List Item) → AllByRecursion (ItemIn tree w height inside) items → AllByRecursion (IsHeldIn tree w height (inner_boxes tree k)) items → AllByRecursion (IsItemInLines tree k) items
+        → AllByRecursion (IsItemSmall c own turned greatest_length) items
+    all-small [] a b d = tt
+    all-small (i ∷ items) a b d = (item-small i a.0 b.0 d.0, all-small items a.1 b.1 d.1)
 
     pub content-small : IsContentSmall c own turned greatest_length
     content-small =
@@ -294,7 +304,7 @@ module _ (tree : BoxTree) (w : World) (height : ℕ) where
         let a = x.above in
         let b = x.below in
         record {
-          items = all-small (content tree k) (content-items tree w height k wide sound) (held-in tree w height (inner_boxes tree k) (content tree k) (λ x a. a));
+          items = all-small (content tree k) (content-items tree w height k wide sound) (held-in tree w height (inner_boxes tree k) (content tree k) (λ x a. a)) (content-in-lines tree k);
           above = omega (arith, a, fine);
           below = omega (arith, b, fine);
         }

@@ -19,3 +19,4 @@ pub mod InlineWithin
 pub mod WholePage
 pub mod TermsWithin
 pub mod Raised
+pub mod InLines

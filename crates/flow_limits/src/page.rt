@@ -9,9 +9,9 @@ ghost use Rattle.flow_limits.specs.Raises.{AreRaisesSmall};
 
 use viz_base::{BoxTree, World};
 
-/// Of a page of at most 16,384 boxes and 262,144 characters, where what the properties of each box give is at most
-/// 2^42 units in size (its lengths in its containing block, its preferred widths, its fonts and the widths of its
-/// words), and so is its raise together with those of the boxes around it, each edge of each rectangle of the rendering
+/// Of a page of at most 16,384 boxes and 262,144 characters, where what the properties of each box give is at most 2^42
+/// units in size (its lengths in its containing block, its preferred widths, its fonts and the widths of its words),
+/// and so is its raise together with those of the inline boxes around it, each edge of each rectangle of the rendering
 /// is at most 2^70 units in size, however floats, clearance, lines, contexts and boxes in boxes come together.
 pub fn coordinates_are_small_where_properties_are(tree: &BoxTree, world: World, height: u32)
     requires few_boxes { length tree.now.boxes ≤ 16384 }
