@@ -1,0 +1,171 @@
+-- The fonts of a small page and the widths of its texts are small.
+use Rattle.std.proofs.Common.{◌≡◌, ℕ, suc, ◌+◌, ◌*◌, ◌/◌, ◌^◌, ◌<◌, ◌≤◌, ℤ, pos, ◌+ℤ◌, ◌-ℤ◌, unsigned_abs, List, [], ◌∷◌, ◌++◌, map, sum, sum_by, length, Option, Some, None, slice_get, refl, sym, ap, ◌∙◌, subst, arith, mul-le-mul_left}
+use Rattle.std.specs.Option.{option_map_or, option_and_then}
+use Rattle.std.specs.Str.{chars}
+use Rattle.std.proofs.Math.Nat.{lt-div-mul-add, div-lt_iff_lt-mul, div-le_of_le-mul}
+use Rattle.std.proofs.lemmas.List.Sums.{sum_by-cons}
+use Rattle.viz_base.specs.Numbers.{floor_of}
+use Rattle.viz_base.specs.FontSizes.{measured, advance, text_width_in}
+use Rattle.viz_base.specs.declared.fonts.Font.{Font}
+use Rattle.viz_base.specs.declared.styles.Style.{Style}
+use Rattle.viz_base.specs.declared.trees.BoxNode.{BoxNode}
+use Rattle.viz_base.specs.declared.trees.BoxTree.{BoxTree}
+use Rattle.viz_base.specs.declared.worlds.World.{World}
+use Rattle.layout_semantics.specs.Blocks.{node_of}
+use Rattle.layout_semantics.specs.Fonts.{font_size, line_height, ascent, descent, text_width}
+use Rattle.layout_semantics.specs.InlineContent.{text_of}
+use Rattle.layout_semantics.specs.LineHeights.{inline_extent}
+use Rattle.layout_laws.proofs.TreeFacts.{slice_in}
+use Rattle.lay_reach.proofs.Extents.{IsLowTree, text_low}
+use Rattle.lay_reach.proofs.Fonts.{IsUpTo, size-up, font-up}
+use Rattle.lay_reach.proofs.Numbers.{div-rises, size-+, size--, size-floor}
+use Rattle.page_limits.proofs.HeightsFonts.{line-up, measure-up, font_cost, box-cost}
+use lib.IntN.{pos-*ℤ-pos}
+
+-- a measure that grows is at most that at the greatest size
+pub size-to : (z most : ℤ) → IsUpTo z most → unsigned_abs z ≤ unsigned_abs most
+size-to z most u = let a = u.is in let b = u.most_is in let c = u.below in rw (a, b) c
+
+-- ---- fonts
+
+module _ (tree : BoxTree) (low : IsLowTree tree) (w : World) (small : w.s ≤ 256) where
+  pub record AreFontsLow (node : ℕ) (most : ℕ) : Type 0 where
+    pub all : unsigned_abs (font_size tree w node) + unsigned_abs (line_height tree w node) + (unsigned_abs (ascent tree w node) + unsigned_abs (descent tree w node)) ≤ most
+
+  pub fonts-within : (node : ℕ) → AreFontsLow node (font_cost tree low w small node)
+  fonts-within node =
+      let size = font-up tree.styles tree.parents w.s 256 small node in
+      let line = size-to _ _ (line-up tree.styles tree.parents w.s 256 small node) in
+      let up = size-to _ _ (measure-up tree.styles tree.parents w.s 256 small tree.fonts node (λ (f : Font). f.ascent)) in
+      let down = size-to _ _ (measure-up tree.styles tree.parents w.s 256 small tree.fonts node (λ (f : Font). f.descent)) in
+      record { all = omega (arith, size, line, up, down) }
+
+  pub record IsFontSmall (node : ℕ) : Type 0 where
+    pub ascent : unsigned_abs (ascent tree w node) ≤ 2 ^ 42
+    pub descent : unsigned_abs (descent tree w node) ≤ 2 ^ 42
+    pub above : unsigned_abs (inline_extent tree w node).above ≤ 2 ^ 42
+    pub below : unsigned_abs (inline_extent tree w node).below ≤ 2 ^ 42
+
+  font-small : (node : ℕ) → font_cost tree low w small node ≤ 2 ^ 40 → IsFontSmall node
+  font-small node most =
+      let all = (fonts-within node).all in
+      let both = size-+ (ascent tree w node) (descent tree w node) in
+      let rest = size-- (line_height tree w node) (ascent tree w node +ℤ descent tree w node) in
+      let half = size-floor (line_height tree w node -ℤ (ascent tree w node +ℤ descent tree w node)) 2 (omega arith) in
+      let above = size-+ (ascent tree w node) (floor_of (line_height tree w node -ℤ (ascent tree w node +ℤ descent tree w node)) 2) in
+      let below = size-- (line_height tree w node) (ascent tree w node +ℤ floor_of (line_height tree w node -ℤ (ascent tree w node +ℤ descent tree w node)) 2) in
+      record {
+        ascent = omega (arith, all, most);
+        descent = omega (arith, all, most);
+        above = omega (arith, all, most, both, rest, half, above);
+        below = omega (arith, all, most, both, rest, half, above, below);
+      }
+
+  pub box-font-small : (k : ℕ) (x : BoxNode) → slice_get tree.boxes k ≡ Some x → IsFontSmall (node_of tree k)
+  box-font-small k x place =
+      let node : node_of tree k ≡ x.node = ap (λ (o : Option BoxNode). option_map_or (λ (b : BoxNode). b.node) o 0) place in
+      let cost = box-cost tree low w small k x place in
+      subst IsFontSmall (sym node) (font-small x.node (omega (arith, cost)))
+
+-- ---- texts in one font
+
+div-both : (p q d : ℕ) → 0 < d → (p + q) / d ≤ p / d + q / d + 1
+div-both p q d l =
+    let first = lt-div-mul-add {a = p} l in
+    let other = lt-div-mul-add {a = q} l in
+    let less : (p + q) / d < p / d + q / d + 2 = (div-lt_iff_lt-mul l).1 (omega (arith, first, other)) in
+    omega (arith, less)
+
+measured-is : (font : Font) (a n : ℕ) → unsigned_abs (measured font (pos a) n) ≡ n * a / font.upem
+measured-is font a n = ap (λ z. unsigned_abs (floor_of z font.upem)) (pos-*ℤ-pos n a)
+
+abbrev wide : Option Font → ℤ → List ℕ → ℕ
+wide o size text = unsigned_abs (option_map_or (λ (font : Font). measured font size (sum_by (advance font) text)) o (pos 0))
+
+wide-more : (o : Option Font) (a c : ℕ) (cs : List ℕ) → wide o (pos a) (c ∷ cs) ≤ wide o (pos a) (c ∷ []) + wide o (pos a) cs + 1
+wide-more None a c cs = omega arith
+wide-more (Some font) a c cs =
+    let own = advance font c in
+    let others = sum_by (advance font) cs in
+    let all : sum_by (advance font) (c ∷ cs) * a ≡ own * a + others * a = let e = sum_by-cons (advance font) c cs in ap (λ n. n * a) e ∙ omega arith in
+    let one : sum_by (advance font) (c ∷ []) ≡ own = let e = sum_by-cons (advance font) c [] in omega (arith, e) in
+    let whole = measured-is font a (sum_by (advance font) (c ∷ cs)) ∙ ap (λ n. n / font.upem) all in
+    let first = measured-is font a (sum_by (advance font) (c ∷ [])) ∙ ap (λ n. n * a / font.upem) one in
+    let rest = measured-is font a others in
+    let both = div-both (own * a) (others * a) font.upem font.ok.has_em in
+    omega (arith, whole, first, rest, both)
+
+wide-none : (o : Option Font) (a : ℕ) → wide o (pos a) [] ≡ 0
+wide-none None a = refl
+wide-none (Some font) a =
+    let is = measured-is font a 0 in
+    let none : 0 * a / font.upem ≤ 0 = div-le_of_le-mul font.upem (omega arith) in
+    omega (arith, is, none)
+
+-- at most each character by itself
+abbrev apart : (List ℕ → ℕ) → List ℕ → ℕ
+apart width cs = sum (map (λ c. width (c ∷ [])) cs) + length cs
+
+wide-apart : (o : Option Font) (a : ℕ) (cs : List ℕ) → wide o (pos a) cs ≤ apart (wide o (pos a)) cs
+wide-apart o a [] = let none = wide-none o a in omega (arith, none)
+wide-apart o a (c ∷ cs) =
+    let more = wide-more o a c cs in
+    let rest = wide-apart o a cs in
+    let all = sum_by-cons (λ (n : ℕ). n) (wide o (pos a) (c ∷ [])) (map (λ d. wide o (pos a) (d ∷ [])) cs) in
+    omega (arith, more, rest, all)
+
+apart-first : (width : List ℕ → ℕ) (xs ys : List ℕ) → apart width xs ≤ apart width (xs ++ ys)
+apart-first width [] ys = omega arith
+apart-first width (x ∷ xs) ys =
+    let rest = apart-first width xs ys in
+    let one = sum_by-cons (λ (n : ℕ). n) (width (x ∷ [])) (map (λ d. width (d ∷ [])) xs) in
+    let all = sum_by-cons (λ (n : ℕ). n) (width (x ∷ [])) (map (λ d. width (d ∷ [])) (xs ++ ys)) in
+    omega (arith, rest, one, all)
+
+apart-last : (width : List ℕ → ℕ) (xs ys : List ℕ) → apart width ys ≤ apart width (xs ++ ys)
+apart-last width [] ys = omega arith
+apart-last width (x ∷ xs) ys =
+    let rest = apart-last width xs ys in
+    let all = sum_by-cons (λ (n : ℕ). n) (width (x ∷ [])) (map (λ d. width (d ∷ [])) (xs ++ ys)) in
+    omega (arith, rest, all)
+
+wide-up : (o : Option Font) (a b : ℕ) (text : List ℕ) → a ≤ b → wide o (pos a) text ≤ wide o (pos b) text
+wide-up None a b text l = omega arith
+wide-up (Some font) a b text l =
+    let n = sum_by (advance font) text in
+    let low = measured-is font a n in
+    let high = measured-is font b n in
+    let up = div-rises (n * a) (n * b) font.upem font.ok.has_em (mul-le-mul_left n l) in
+    omega (arith, low, high, up)
+
+-- ---- the texts of a page
+
+module _ (tree : BoxTree) (low : IsLowTree tree) (w : World) (small : w.s ≤ 256) where
+  abbrev font_of : ℕ → Option Font
+  font_of node = option_and_then (λ (style : Style). slice_get tree.fonts style.font) (slice_get tree.styles node)
+
+  abbrev most_width : ℕ → List ℕ → ℕ
+  most_width node text = unsigned_abs (text_width_in tree.styles tree.parents tree.fonts 256 node text)
+
+  part-within : (node : ℕ) (part : List ℕ) → unsigned_abs (text_width tree w node part) ≤ apart (most_width node) part
+  part-within node part =
+      let u = size-up tree.styles tree.parents w.s 256 small (suc node) node in
+      let is = u.is in
+      let most_is = u.most_is in
+      let up : unsigned_abs (text_width tree w node part) ≤ most_width node part = rw (is, most_is) (wide-up (font_of node) u.low u.high part u.below) in
+      let each : most_width node part ≤ apart (most_width node) part = rw most_is (wide-apart (font_of node) u.high part) in
+      omega (arith, up, each)
+
+  -- a part of a text
+  pub part-small : (k : ℕ) (x : BoxNode) → slice_get tree.boxes k ≡ Some x → (before part after : List ℕ) → before ++ (part ++ after) ≡ text_of tree k → unsigned_abs (text_width tree w (node_of tree k) part) ≤ 2 ^ 42
+  part-small k x place before part after same =
+      let node : node_of tree k ≡ x.node = ap (λ (o : Option BoxNode). option_map_or (λ (b : BoxNode). b.node) o 0) place in
+      let text : text_of tree k ≡ chars x.chars = ap (λ (o : Option BoxNode). option_map_or (λ (b : BoxNode). chars b.chars) o []) place in
+      subst (λ (n : ℕ). unsigned_abs (text_width tree w n part) ≤ 2 ^ 42) (sym node)
+      (let within = part-within x.node part in
+      let first = apart-first (most_width x.node) part after in
+      let last = apart-last (most_width x.node) before (part ++ after) in
+      let whole : apart (most_width x.node) (before ++ (part ++ after)) ≡ apart (most_width x.node) (chars x.chars) = ap (apart (most_width x.node)) (same ∙ text) in
+      let extent = text_low tree low w small x (slice_in tree.boxes k x place) in
+      let few = (tree.ok.each k x place).characters in
+      omega (arith, within, first, last, whole, extent, few))

@@ -1,0 +1,17 @@
+pub mod WidthsLists
+pub mod WidthsInside
+pub mod WidthsOrder
+pub mod WidthsTexts
+pub mod WidthsCosts
+pub mod WidthsTerms
+pub mod WidthsLevels
+pub mod WidthsPage
+pub mod WidthsSmall
+pub mod HeightsFonts
+pub mod InlinesFonts
+pub mod RaisesSums
+pub mod RaisesBoxes
+pub mod RaisesAround
+pub mod HeightsBoxes
+pub mod HeightsSmall
+pub mod PageSmall

@@ -1,0 +1,39 @@
+-- What the properties of a box of a page within its limits give is small, all together.
+use Rattle.std.proofs.Common.{ℕ, ◌^◌, ◌≤◌}
+use Rattle.viz_base.specs.declared.trees.BoxTree.{BoxTree}
+use Rattle.viz_base.specs.declared.worlds.World.{World}
+use Rattle.layout_semantics.specs.Order.{IsOnPage}
+use Rattle.flow_limits.specs.Boxes.{ArePropertiesSmall, IsInlineBoxSmall, IsWhole}
+use Rattle.page_limits.proofs.WidthsLevels.{IsFarPage}
+use Rattle.page_limits.proofs.WidthsSmall.{whole-bounded, inline-bounded}
+use Rattle.page_limits.proofs.HeightsSmall.{heights-bounded, fonts-bounded}
+
+module _ (tree : BoxTree) (page : IsFarPage tree) (w : World) (small : w.s ≤ 256) (narrow : w.w ≤ 16384) (height : ℕ) (flat : height ≤ 16384) where
+  pub properties-small : (k : ℕ) → IsOnPage tree.boxes k → IsWhole tree k → ArePropertiesSmall tree w height (2 ^ 42) k
+  properties-small k on e =
+      let across = whole-bounded tree page w small narrow height flat k on e in
+      let tall = heights-bounded tree page w small narrow height flat k on e in
+      record {
+        edges = across.edges;
+        width = across.width;
+        least = across.least;
+        preferred_least = across.preferred_least;
+        preferred_most = across.preferred_most;
+        replaced_width = across.replaced_width;
+        replaced_height = tall.replaced_height;
+        sides = across.sides;
+        given_height = tall.given_height;
+        least_height = tall.least_height;
+      }
+
+  pub inline-small : (k : ℕ) → IsOnPage tree.boxes k → IsInlineBoxSmall tree w height (2 ^ 42) k
+  inline-small k on =
+      let font = fonts-bounded tree page.low w small k on in
+      record {
+        ascent = font.ascent;
+        descent = font.descent;
+        above = font.above;
+        below = font.below;
+        edges = λ is. inline-bounded tree page w small narrow height flat k on is;
+        text = font.text;
+      }

@@ -1,0 +1,138 @@
+-- The words and spaces of a text together are no wider than its characters one by one, and one unit more for each.
+use Rattle.std.proofs.Common.{◌≡◌, ℕ, suc, ◌+◌, ◌*◌, ◌/◌, ◌<◌, ◌≤◌, ◌==◌, Bool, true, false, ℤ, pos, unsigned_abs, List, [], ◌∷◌, map, sum, sum_by, length, Option, Some, None, slice_get, refl, sym, ap, ◌∙◌, subst, arith}
+use Rattle.std.specs.List.{AllByRecursion}
+use Rattle.std.specs.Option.{option_map_or, option_and_then}
+use Rattle.std.specs.Str.{chars}
+use Rattle.std.proofs.Math.Nat.{lt-div-mul-add, div-lt_iff_lt-mul, mul-le-mul_left}
+use Rattle.std.proofs.lemmas.Bool.Decides.{nat_tests}
+use Rattle.std.proofs.lemmas.List.Sums.{sum_by-cons}
+use Rattle.viz_base.specs.Numbers.{floor_of}
+use Rattle.viz_base.specs.FontSizes.{measured, advance, text_width_in}
+use Rattle.viz_base.specs.Reaches.{text_extent}
+use Rattle.viz_base.specs.declared.fonts.Font.{Font}
+use Rattle.viz_base.specs.declared.styles.Style.{Style}
+use Rattle.viz_base.specs.declared.trees.BoxNode.{BoxNode}
+use Rattle.viz_base.specs.declared.trees.BoxTree.{BoxTree}
+use Rattle.viz_base.specs.declared.worlds.World.{World}
+use Rattle.layout_semantics.specs.Blocks.{node_of}
+use Rattle.layout_semantics.specs.Fonts.{text_width}
+use Rattle.layout_semantics.specs.InlineContent.{Item, word, space, text_of, text_items, letter_before, character_before}
+use Rattle.lay_reach.proofs.Numbers.{div-rises}
+use Rattle.lay_reach.proofs.Fonts.{size-up}
+use Rattle.lay_reach.proofs.Texts.{IsTextAt, text-only}
+use Rattle.page_limits.proofs.WidthsLists.{costs}
+use lib.IntN.{pos-*ℤ-pos}
+
+pub costs-sum : {A : Type 0} (cost : A → ℕ) (xs : List A) → sum (map cost xs) ≡ costs cost xs
+costs-sum cost [] = refl
+costs-sum cost (x ∷ xs) = let all = sum_by-cons (λ (n : ℕ). n) (cost x) (map cost xs) in let rest = costs-sum cost xs in omega (arith, all, rest)
+
+-- ---- texts in one font
+
+div-both : (p q d : ℕ) → 0 < d → (p + q) / d ≤ p / d + q / d + 1
+div-both p q d l =
+    let first = lt-div-mul-add {a = p} l in
+    let other = lt-div-mul-add {a = q} l in
+    let less : (p + q) / d < p / d + q / d + 2 = (div-lt_iff_lt-mul l).1 (omega (arith, first, other)) in
+    omega (arith, less)
+
+measured-is : (font : Font) (a n : ℕ) → unsigned_abs (measured font (pos a) n) ≡ n * a / font.upem
+measured-is font a n = ap (λ z. unsigned_abs (floor_of z font.upem)) (pos-*ℤ-pos n a)
+
+-- how wide a text is in a font, if there is one
+abbrev wide : Option Font → ℤ → List ℕ → ℕ
+wide o size text = unsigned_abs (option_map_or (λ (font : Font). measured font size (sum_by (advance font) text)) o (pos 0))
+
+wide-more : (o : Option Font) (a c : ℕ) (cs : List ℕ) → wide o (pos a) (c ∷ cs) ≤ wide o (pos a) (c ∷ []) + wide o (pos a) cs + 1
+wide-more None a c cs = omega arith
+wide-more (Some font) a c cs =
+    let own = advance font c in
+    let others = sum_by (advance font) cs in
+    let all : sum_by (advance font) (c ∷ cs) * a ≡ own * a + others * a = let e = sum_by-cons (advance font) c cs in ap (λ n. n * a) e ∙ omega arith in
+    let one : sum_by (advance font) (c ∷ []) ≡ own = let e = sum_by-cons (advance font) c [] in omega (arith, e) in
+    let whole = measured-is font a (sum_by (advance font) (c ∷ cs)) ∙ ap (λ n. n / font.upem) all in
+    let first = measured-is font a (sum_by (advance font) (c ∷ [])) ∙ ap (λ n. n * a / font.upem) one in
+    let rest = measured-is font a others in
+    let both = div-both (own * a) (others * a) font.upem font.ok.has_em in
+    omega (arith, whole, first, rest, both)
+
+wide-up : (o : Option Font) (a b : ℕ) (text : List ℕ) → a ≤ b → wide o (pos a) text ≤ wide o (pos b) text
+wide-up None a b text l = omega arith
+wide-up (Some font) a b text l =
+    let n = sum_by (advance font) text in
+    let low = measured-is font a n in
+    let high = measured-is font b n in
+    let up = div-rises (n * a) (n * b) font.upem font.ok.has_em (mul-le-mul_left n l) in
+    omega (arith, low, high, up)
+
+-- ---- words and spaces
+
+-- where a list of characters is so wide at most
+module _ (at : ℕ) (room : Item → ℕ) (width : List ℕ → ℕ) (word-is : (text : List ℕ) → room (word at text) ≡ width text) (space-is : room (space at) ≡ width (32 ∷ []))
+    (more : (c : ℕ) (cs : List ℕ) → width (c ∷ cs) ≤ width (c ∷ []) + width cs + 1) where
+  abbrev each : ℕ → ℕ
+  each c = width (c ∷ []) + 1
+
+  letter : (c n : ℕ) (items : List Item) → AllByRecursion (IsTextAt at) items → costs room items ≤ n → costs room (letter_before at c items) ≤ each c + n
+  letter c n [] a l = let is = word-is (c ∷ []) in omega (arith, is, l)
+  letter c n (i ∷ items) a l = by i a.0 l
+    where
+      by : (i : Item) → IsTextAt at i → costs room (i ∷ items) ≤ n → costs room (letter_before at c (i ∷ items)) ≤ each c + n
+      by _ IsTextAt.a_space l = let is = word-is (c ∷ []) in omega (arith, is, l)
+      by _ (IsTextAt.a_word text) l =
+          let is = word-is text in
+          let then_is = word-is (c ∷ text) in
+          let wider = more c text in
+          omega (arith, is, then_is, wider, l)
+
+  text-room : (cs : List ℕ) → costs room (text_items at cs) ≤ costs each cs
+  text-room [] = omega arith
+  text-room (c ∷ cs) = by (c == 32) refl (text-room cs)
+    where
+      by : (b : Bool) → (c == 32) ≡ b → costs room (text_items at cs) ≤ costs each cs → costs room (character_before b at c (text_items at cs)) ≤ each c + costs each cs
+      by false e l = letter c (costs each cs) (text_items at cs) (text-only at cs) l
+      by true e l =
+          let same : c ≡ 32 = grind (arith, nat_tests) in
+          let is = ap (λ n. width (n ∷ [])) same in
+          omega (arith, is, space-is, l)
+
+-- ---- the texts of a page
+
+module _ (tree : BoxTree) (w : World) (small : w.s ≤ 256) where
+  abbrev font_of : ℕ → Option Font
+  font_of node = option_and_then (λ (style : Style). slice_get tree.fonts style.font) (slice_get tree.styles node)
+
+  text-more : (node c : ℕ) (cs : List ℕ) → unsigned_abs (text_width tree w node (c ∷ cs)) ≤ unsigned_abs (text_width tree w node (c ∷ [])) + unsigned_abs (text_width tree w node cs) + 1
+  text-more node c cs =
+      let u = size-up tree.styles tree.parents w.s 256 small (suc node) node in
+      let is = u.is in
+      rw is (wide-more (font_of node) u.low c cs)
+
+  text-up : (node : ℕ) (text : List ℕ) → unsigned_abs (text_width tree w node text) ≤ unsigned_abs (text_width_in tree.styles tree.parents tree.fonts 256 node text)
+  text-up node text =
+      let u = size-up tree.styles tree.parents w.s 256 small (suc node) node in
+      let is = u.is in
+      let most_is = u.most_is in
+      rw (is, most_is) (wide-up (font_of node) u.low u.high text u.below)
+
+  abbrev width_at : ℕ → List ℕ → ℕ
+  width_at node text = unsigned_abs (text_width tree w node text)
+
+  abbrev most_at : ℕ → ℕ → ℕ
+  most_at node c = unsigned_abs (text_width_in tree.styles tree.parents tree.fonts 256 node (c ∷ []))
+
+  each-low : (node : ℕ) (cs : List ℕ) → costs (λ c. width_at node (c ∷ []) + 1) cs ≤ costs (most_at node) cs + length cs
+  each-low node [] = omega arith
+  each-low node (c ∷ cs) = let up = text-up node (c ∷ []) in let rest = each-low node cs in omega (arith, up, rest)
+
+  pub text-cost : (at : ℕ) (x : BoxNode) (room : Item → ℕ) → slice_get tree.boxes at ≡ Some x
+      → ((text : List ℕ) → room (word at text) ≡ unsigned_abs (text_width tree w (node_of tree at) text)) → room (space at) ≡ unsigned_abs (text_width tree w (node_of tree at) (32 ∷ []))
+      → costs room (text_items at (text_of tree at)) ≤ text_extent tree.styles tree.parents tree.fonts x + length (chars x.chars)
+  text-cost at x room e word-is space-is =
+      let node = ap (λ (o : Option BoxNode). option_map_or (λ (b : BoxNode). b.node) o 0) e in
+      let text = ap (λ (o : Option BoxNode). option_map_or (λ (b : BoxNode). chars b.chars) o []) e in
+      subst (λ cs. costs room (text_items at cs) ≤ text_extent tree.styles tree.parents tree.fonts x + length (chars x.chars)) (sym text)
+      (let all = text-room at room (width_at x.node) (λ t. word-is t ∙ ap (λ n. width_at n t) node) (space-is ∙ ap (λ n. width_at n (32 ∷ [])) node) (text-more x.node) (chars x.chars) in
+      let each = each-low x.node (chars x.chars) in
+      let is = costs-sum (most_at x.node) (chars x.chars) in
+      omega (arith, all, each, is))
