@@ -65,6 +65,9 @@ CASES = {
     "1 MiB of p, 4,096 elements": lambda: (row(4096), flood("p", ",p", "{margin:0}")),
     "1 MiB of .c0,.c1,.., 4,096 elements": lambda: (row(4096, classed), group(lambda at: f".c{at}")),
     "1 MiB of p0 div,p1 div,.., 4,096 elements": lambda: (row(4096), group(lambda at: f"p{at} div")),
+    "1 MiB of .c0 div,.c1 div,.., 4,096 elements, the classes on one": lambda: (
+        row(4096, lambda at: {"tag": "div", "attrs": {"class": " ".join(f"c{n}" for n in range(90000))} if at == 0 else {}}),
+        group(lambda at: f".c{at} div")),
     "1 MiB of p0+div,p1+div,.., 512 elements, 64 empty texts each": lambda: (
         row(512, between=[""] * 64), group(lambda at: f"p{at}+div")),
     "1 MiB of *+*.., 4,096 elements": lambda: (row(4096), flood("*", "+*", "{margin:0}")),
@@ -73,6 +76,7 @@ CASES = {
     "1 MiB of p+div, 4,096 elements, 64 empty texts each": lambda: (
         row(4096, between=[""] * 64), flood("p+div", ",p+div", "{margin:0}")),
     "1,000,000 empty texts": lambda: (row(2, between=[""] * 1000000), ""),
+    "4,000,000 empty texts": lambda: (row(2, between=[""] * 4000000), ""),
     "bootstrap-reboot": lambda: (row(4096), (BOOTSTRAP / "bootstrap-reboot.css").read_text()),
     "bootstrap": lambda: (row(4096), (BOOTSTRAP / "bootstrap.css").read_text()),
 }

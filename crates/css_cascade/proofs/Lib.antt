@@ -15,3 +15,4 @@ pub mod Tries
 pub mod Strongest
 pub mod Standing
 pub mod Repeating
+pub mod Lacking

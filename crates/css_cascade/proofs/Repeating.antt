@@ -112,10 +112,10 @@ twice (g ∷ h ∷ all) f = ap (λ fs. g ∷ fs) (twice (h ∷ all) f)
 
 -- ---- one more selector
 
-pub stand_for_more : (some all : List Numbered) (x : Numbered) → StandFor some all → StandFor (some ++ x ∷ []) (all ++ x ∷ [])
-stand_for_more some all x h = λ nodes n found m.
+pub stand_for_more : (nodes : List Node) (some all : List Numbered) (x : Numbered) → StandFor nodes some all → StandFor nodes (some ++ x ∷ []) (all ++ x ∷ [])
+stand_for_more nodes some all x h = λ n found m.
     let s = in_two nodes n some (x ∷ []) found m in
-    let k = h nodes n s.before s.first in (
+    let k = h n s.before s.first in (
       k.0 ++ s.after,
       matched_append nodes n k.1 s.second,
       ap (strongest_behind None) s.whole ∙ behind_all s.before s.after ∙ ap (λ fs. resumed fs s.after) k.2 ∙ sym (behind_all k.0 s.after),
@@ -155,13 +155,22 @@ repeated_at nodes n i last r all before after found_all whole parts spec is m sa
   same = same ∙ ap (strongest_behind None) (sym (append_nothing whole));
 }
 
-pub stand_for_repeated : (some all : List Numbered) (i : ℕ) (r : Ranked) → RepeatsLast some i r → StandFor some all → StandFor some (all ++ (i, r) ∷ [])
-stand_for_repeated some all i r repeats h = λ nodes n found m.
+pub stand_for_repeated : (nodes : List Node) (some all : List Numbered) (i : ℕ) (r : Ranked) → RepeatsLast some i r → StandFor nodes some all → StandFor nodes some (all ++ (i, r) ∷ [])
+stand_for_repeated nodes some all i r repeats h = λ n found m.
     let last : Numbered = (i, repeats.1) in
     let s = in_two nodes n repeats.0 (last ∷ []) found (subst (λ xs. Matched nodes n xs found) repeats.2 m) in
-    let k = h nodes n found m in
+    let k = h n found m in
     let is = repeated_at nodes n i repeats.1 r all s.before s.after found k.0 repeats.3 repeats.4 s.whole k.1 k.2 (one_matched nodes n last s.after s.second) in
     (is.whole, is.matched, is.same)
 
-pub nothing_for_nothing : (some : List Numbered) → some ≡ [] → StandFor some []
-nothing_for_nothing some e = λ nodes n found m. (found, subst (λ xs. Matched nodes n xs found) e m, refl)
+-- a selector that matches no node of the page
+pub stand_for_lacking : (nodes : List Node) (some all : List Numbered) (x : Numbered) → ((n : ℕ) → Match x.1.selector.parts nodes n → ⊥) → StandFor nodes some all → StandFor nodes some (all ++ x ∷ [])
+stand_for_lacking nodes some all x never h = λ n found m.
+    let k = h n found m in (
+      k.0 ++ [],
+      matched_append nodes n k.1 (Matched.passes_by (never n) Matched.none),
+      k.2 ∙ ap (strongest_behind None) (sym (append_nothing k.0)),
+    )
+
+pub nothing_for_nothing : (nodes : List Node) (some : List Numbered) → some ≡ [] → StandFor nodes some []
+nothing_for_nothing nodes some e = λ n found m. (found, subst (λ xs. Matched nodes n xs found) e m, refl)

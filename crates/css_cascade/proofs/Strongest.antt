@@ -145,11 +145,11 @@ whole_said trimmed h (g ∷ all) f =
     ∙ ap (λ b. kept_all b (all_said (map rules_of trimmed) all)) (sym (all_kept more f))
     ∙ sym (slots_behind (map f properties) more (all_said (map rules_of trimmed) all))
 
-pub tried_kept : (nodes : List Node) (n : ℕ) (trimmed : List Trimmed) (selectors : List Numbered) (start best after : List (Option Applied)) (style : List Claim) → AllByRecursion IsTrimmed trimmed → StandFor selectors (numbered_from 0 (map rules_of trimmed)) → start ≡ map (λ p. None) properties → AreTried nodes n trimmed selectors start best
+pub tried_kept : (nodes : List Node) (n : ℕ) (trimmed : List Trimmed) (selectors : List Numbered) (start best after : List (Option Applied)) (style : List Claim) → AllByRecursion IsTrimmed trimmed → StandFor nodes selectors (numbered_from 0 (map rules_of trimmed)) → start ≡ map (λ p. None) properties → AreTried nodes n trimmed selectors start best
     → after ≡ kept_all best (map (applied style_spec) style) → AreKept nodes n trimmed style after
 tried_kept nodes n trimmed selectors start best after style h are begun tried is =
     let none : Prop → Option Applied = λ p. None in
-    let whole = are nodes n tried.0 tried.1 in
+    let whole = are n tried.0 tried.1 in
     let found = strongest_behind None whole.0 in
     let all = all_said (map rules_of trimmed) found in
     let styled = map (applied style_spec) style in

@@ -96,7 +96,7 @@ by_attribute e name P x each h =
     (subst (λ attrs. Contains (flat_map attribute_buckets attrs) x) (sym h.among)
     (in_flat attribute_buckets h.before h.attribute h.after x (each h.attribute h.named h.passes)))
 
-by_id : (e : Element) (id : List ℕ) → HasAttribute e (codes "id") (λ v. v ≡ id) → Contains (element_buckets e) (bucket_of id)
+pub by_id : (e : Element) (id : List ℕ) → HasAttribute e (codes "id") (λ v. v ≡ id) → Contains (element_buckets e) (bucket_of id)
 by_id e id h =
     by_attribute e (codes "id") (λ v. v ≡ id) (bucket_of id)
     (λ a named is. Contains-append_right (class_buckets a) (id_buckets a) (bucket_of id)
@@ -104,14 +104,14 @@ by_id e id h =
     (subst (λ v. Contains (bucket_of v ∷ []) (bucket_of id)) (sym is) (first_in (bucket_of id) []))))
     h
 
-by_class : (e : Element) (word : List ℕ) → HasAttribute e (codes "class") (λ v. IsWordOf v word) → Contains (element_buckets e) (bucket_of word)
+pub by_class : (e : Element) (word : List ℕ) → HasAttribute e (codes "class") (λ v. IsWordOf v word) → Contains (element_buckets e) (bucket_of word)
 by_class e word h =
     by_attribute e (codes "class") (λ v. IsWordOf v word) (bucket_of word)
     (λ a named is. Contains-append_left (class_buckets a) (id_buckets a) (bucket_of word)
     (taken (same_name (codes "class") a.name) (buckets_from 0 a.value) [] (bucket_of word) named (word_piece a.value word is)))
     h
 
-by_tag : (e : Element) (tag : Option (List ℕ)) (word : List ℕ) → tag ≡ Some word → HasTag e tag → Contains (element_buckets e) (bucket_of word)
+pub by_tag : (e : Element) (tag : Option (List ℕ)) (word : List ℕ) → tag ≡ Some word → HasTag e tag → Contains (element_buckets e) (bucket_of word)
 by_tag e tag word is h =
     let named : same_name word e.tag ≡ true = subst (HasTag e) is h in
     subst (λ x. Contains (element_buckets e) x) (sym (same_bucket word e.tag named)) (first_in (bucket_of e.tag) (flat_map attribute_buckets e.attrs))

@@ -2,4 +2,5 @@ pub mod Seen
 pub mod Faults
 pub mod Trimming
 pub mod Buckets
+pub mod Present
 pub mod Trying

@@ -62,14 +62,14 @@ abbrev pub AreTried : List Node → ℕ → List Trimmed → List Numbered → L
 AreTried nodes n rulesets selectors before after =
     (all : List Found) × Matched nodes n selectors all × (after ≡ Behind rulesets before None all)
 
--- Some selectors stand for all: at each node those of them that match give what all that match give.
-abbrev pub StandFor : List Numbered → List Numbered → Type 0
-StandFor some all =
-    (nodes : List Node) (n : ℕ) (found : List Found) → Matched nodes n some found → (whole : List Found) × Matched nodes n all whole × (strongest_behind None found ≡ strongest_behind None whole)
+-- Some selectors stand for all on a page: at each node those of them that match give what all that match give.
+abbrev pub StandFor : List Node → List Numbered → List Numbered → Type 0
+StandFor nodes some all =
+    (n : ℕ) (found : List Found) → Matched nodes n some found → (whole : List Found) × Matched nodes n all whole × (strongest_behind None found ≡ strongest_behind None whole)
 
--- selectors that stand for those of these rulesets, each in a bucket
-abbrev pub AreBuckets : List Ruleset → Buckets → Type 0
-AreBuckets rulesets b = StandFor (map numbered b.candidates.items) (numbered_from 0 rulesets) × AllStand b
+-- selectors that stand for those of these rulesets on a page, each in a bucket
+abbrev pub AreBuckets : List Node → List Ruleset → Buckets → Type 0
+AreBuckets nodes rulesets b = StandFor nodes (map numbered b.candidates.items) (numbered_from 0 rulesets) × AllStand b
 
 -- ---- the numbers of the selectors that are tried
 

@@ -1,16 +1,19 @@
 ghost use Rattle.std.specs.Prelude.{◌≡◌, ◌<◌, ◌++◌, [], ◌∷◌, List as Seq, map, length, IfOk, IfSome, IsTrue, OnOk};
 ghost use Rattle.std.specs.List.{Contains};
+ghost use Rattle.viz_base.specs.declared.nodes.Node.{Node};
 ghost use Rattle.viz_base.specs.declared.selectors.Test.TheVariants as of_test;
 ghost use Rattle.css_cascade.specs.Buckets.{AllStand, IsLast, IsWordIn, IsWordOfLast, Numbered, RepeatsLast, numbered};
+ghost use Rattle.css_cascade.specs.Present.{present_in};
 ghost use Rattle.css_cascade.specs.Trying.{AreBuckets, StandFor};
 ghost use Rattle.css_cascade.specs.Trimming.{rules_of};
 
 use crate::names::{BUCKETS, bucket_of};
+use crate::present::{lacks_some, present_in};
 use crate::repeats::repeats;
 use crate::trimming::Trimmed;
 use css_semantics::Ranked;
 use std::alloc::Global;
-use viz_base::{Compound, Join, List, Mem, Test, Text};
+use viz_base::{Compound, Join, List, Mem, Page, Test, Text};
 
 /// A selector of the ruleset of this number.
 #[derive(Clone, Copy)]
@@ -134,43 +137,54 @@ impl<'a> Buckets<'a> {
         Ok(())
     }
 
-    /// Adds a selector of the ruleset of this number, but one that repeats the last.
-    fn add(&mut self, rules: usize, ranked: &'a Ranked) -> Result<(), Mem>
+    /// Adds a selector of the ruleset of this number, but one that repeats the last or matches no node of a page whose
+    /// words these are.
+    fn add(&mut self, present: &[bool], rules: usize, ranked: &'a Ranked) -> Result<(), Mem>
         requires { length self.old.named.items ≡ 8191 }
         ensures len { length self.new.named.items ≡ 8191 }
-        ensures added { OnOk result ((all : Seq Numbered) → StandFor (map numbered self.old.candidates.items) all
-            → StandFor (map numbered self.new.candidates.items) (all ++ (rules, ranked.now) ∷ [])) }
+        ensures added { OnOk result ((nodes : Seq Node) (all : Seq Numbered) → present.now ≡ present_in nodes
+            → StandFor nodes (map numbered self.old.candidates.items) all
+            → StandFor nodes (map numbered self.new.candidates.items) (all ++ (rules, ranked.now) ∷ [])) }
         ensures stand { OnOk result (AllStand self.old → AllStand self.new) }
     {
         if self.repeats_last(rules, ranked) {
+            return Ok(());
+        }
+        if lacks_some(present, ranked.selector.parts.as_slice()) {
             return Ok(());
         }
         self.put(rules, ranked)?;
         Ok(())
     }
 
-    /// Adds the selectors of the ruleset of this number.
-    fn add_group(&mut self, rules: usize, group: &'a [Ranked]) -> Result<(), Mem>
+    /// Adds the selectors of the ruleset of this number that may match a node of a page whose words these are.
+    fn add_group(&mut self, present: &[bool], rules: usize, group: &'a [Ranked]) -> Result<(), Mem>
         requires { length self.old.named.items ≡ 8191 }
         ensures len { length self.new.named.items ≡ 8191 }
-        ensures added { OnOk result ((all : Seq Numbered) → StandFor (map numbered self.old.candidates.items) all
-            → StandFor (map numbered self.new.candidates.items) (all ++ map (λ r. (rules, r)) group.now)) }
+        ensures added { OnOk result ((nodes : Seq Node) (all : Seq Numbered) → present.now ≡ present_in nodes
+            → StandFor nodes (map numbered self.old.candidates.items) all
+            → StandFor nodes (map numbered self.new.candidates.items) (all ++ map (λ r. (rules, r)) group.now)) }
         ensures stand { OnOk result (AllStand self.old → AllStand self.new) }
     {
         for ranked in group {
-            self.add(rules, ranked)?;
+            self.add(present, rules, ranked)?;
         }
         Ok(())
     }
 }
 
-/// The selectors of rulesets in buckets.
-pub fn buckets_of<'a>(alloc: Global, rulesets: &[Trimmed<'a>]) -> Result<Buckets<'a>, Mem>
-    ensures { IfOk result (AreBuckets (map rules_of rulesets.now)) }
+/// The selectors of rulesets in buckets, but those that ask for a tag, a class or an id that no element of a page has.
+pub fn buckets_of<'a>(
+    alloc: Global,
+    page: &Page,
+    rulesets: &[Trimmed<'a>],
+) -> Result<Buckets<'a>, Mem>
+    ensures { IfOk result (AreBuckets page.now.nodes (map rules_of rulesets.now)) }
 {
+    let present = present_in(alloc, page)?;
     let mut buckets = Buckets::new(alloc)?;
     for (rules, trimmed) in rulesets.iter().enumerate() {
-        buckets.add_group(rules, trimmed.rules.group.as_slice())?;
+        buckets.add_group(present.as_slice(), rules, trimmed.rules.group.as_slice())?;
     }
     Ok(buckets)
 }

@@ -59,7 +59,7 @@ fn come_to(
     requires found { slice_get page.now.nodes at ≡ Some node.now }
     requires siblings { AreSiblings page.now.nodes siblings.now }
     requires trimmed { AllByRecursion IsTrimmed rulesets.now }
-    requires buckets { AreBuckets (map rules_of rulesets.now) buckets.now }
+    requires buckets { AreBuckets page.now.nodes (map rules_of rulesets.now) buckets.now }
     ensures { MatchResult result (λ p. ComesTo page.now.nodes (map rules_of rulesets.now) standings.now at node.now
         (Ok (p.0, p.1))) (λ fault. Judges at fault
         (ComesTo page.now.nodes (map rules_of rulesets.now) standings.now at node.now)) }
@@ -96,7 +96,7 @@ fn cascade_nodes(
 ) -> Result<Cascaded, CascadeFault>
     requires siblings { AreSiblings page.now.nodes siblings.now }
     requires trimmed { AllByRecursion IsTrimmed rulesets.now }
-    requires buckets { AreBuckets (map rules_of rulesets.now) buckets.now }
+    requires buckets { AreBuckets page.now.nodes (map rules_of rulesets.now) buckets.now }
     ensures { GivesOneOf (λ c. c.winners) refusal_of result
         (Goes page.now.nodes (map rules_of rulesets.now) [] [] page.now.nodes) }
 {
@@ -142,7 +142,7 @@ pub fn cascade(
 {
     let rulesets = read_rulesets(alloc, texts, sheets)?;
     let trimmed = trim(alloc, &rulesets)?;
-    let buckets = buckets_of(alloc, &trimmed)?;
+    let buckets = buckets_of(alloc, page, &trimmed)?;
     let siblings = find_siblings(alloc, page)?;
     cascade_nodes(alloc, page, &siblings, &trimmed, &buckets)
 }

@@ -9,6 +9,7 @@ mod faults;
 mod names;
 mod nodes;
 mod order;
+mod present;
 mod reading;
 mod repeats;
 mod sources;

@@ -75,7 +75,7 @@ fn add_id(buckets: &mut Vec<usize>, attr: &Attr) -> Result<(), Mem>
 }
 
 /// The buckets of an element's tag, classes and ids, in no order.
-fn words_of(alloc: Global, element: &Element) -> Result<Vec<usize>, Mem>
+pub fn words_of(alloc: Global, element: &Element) -> Result<Vec<usize>, Mem>
     ensures { IfOk result (λ buckets. buckets.items ≡ element_buckets element.now) }
 {
     let mut buckets = Vec::new(alloc);

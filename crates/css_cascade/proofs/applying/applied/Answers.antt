@@ -15,4 +15,4 @@ try_all-requires-clause-all c =
 pub returns-clause-kept : goal.returns-clause-kept
 returns-clause-kept c =
     tried_kept c.args.page.now.nodes c.args.node c.args.rulesets.now (map numbered c.as_slice-candidates.result.now) _ _ _ c.args.style.now c.requires.trimmed
-    (subst (λ cs. StandFor (map numbered cs) (numbered_from 0 (map rules_of c.args.rulesets.now))) (sym c.as_slice-candidates.ensures.value) c.requires.buckets.0) c.in_ok-best.ensures.none c.try_all.ensures.tried c.keep_claims.ensures.kept
+    (subst (λ cs. StandFor c.args.page.now.nodes (map numbered cs) (numbered_from 0 (map rules_of c.args.rulesets.now))) (sym c.as_slice-candidates.ensures.value) c.requires.buckets.0) c.in_ok-best.ensures.none c.try_all.ensures.tried c.keep_claims.ensures.kept

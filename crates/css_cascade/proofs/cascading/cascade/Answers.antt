@@ -16,7 +16,7 @@ returns-in_err-rulesets-clause-given c =
 
 pub cascade_nodes-requires-clause-buckets : goal.cascade_nodes-requires-clause-buckets
 cascade_nodes-requires-clause-buckets c =
-    subst (λ ts. AreBuckets (map rules_of ts) c.in_ok-buckets.buckets) (c.deref-2.ensures.value ∙ sym c.deref-3.ensures.value) c.in_ok-buckets.ensures
+    subst (λ ts. AreBuckets c.args.page.now.nodes (map rules_of ts) c.in_ok-buckets.buckets) (c.deref-2.ensures.value ∙ sym c.deref-3.ensures.value) c.in_ok-buckets.ensures
 
 pub returns-clause-given : goal.returns-clause-given
 returns-clause-given c = gives_on c.cascade_nodes.result (Goes c.args.page.now.nodes (map rules_of c.deref-3.result.now) [] [] c.args.page.now.nodes) (IsCascade c.args.page.now.nodes c.args.texts.now c.args.sheets.now)
