@@ -1,3 +1,8 @@
 pub mod steps
 pub mod Readings
+pub mod Low
+pub mod Fits
+pub mod WayFits
 pub mod Ways
+pub mod WalkFits
+pub mod AloneFits

@@ -1,6 +1,7 @@
 -- A way forward at a reading.
 use Rattle.std.specs.Prelude.{ℕ, ℤ, cond, List}
 use Rattle.viz_base.specs.declared.layouts.Band.{Band}
+use Rattle.viz_base.specs.declared.layouts.Extent.{Extent}
 use Rattle.viz_base.specs.declared.layouts.Waiting.{Waiting}
 use Rattle.viz_base.specs.declared.trees.BoxTree.{BoxTree}
 use Rattle.viz_calc.specs.World.{Reading}
@@ -12,6 +13,7 @@ use Rattle.flow_steps.specs.Forward as forward
 use Rattle.flow_steps.specs.Forward.{Found, way}
 use Rattle.lay_flow.specs.Readings.{apart_at, base_at}
 use Rattle.lay_flow.specs.steps.Walk.{size_in}
+use Rattle.lay_flow.specs.WayFits.{IsDecisionLow, WayFits, KidsFit, KidFits}
 use Rattle.lay_flow.specs.declared.parts.End.{End}
 use Rattle.lay_flow.specs.declared.parts.End.TheVariants.{GoesOn, Solid, Ends}
 use Rattle.lay_flow.specs.declared.forward.Way.{Way}
@@ -39,3 +41,20 @@ abbrev pub closed_end : {N : Type 0} → BoxTree → ℕ → End N → End N
 closed_end tree b GoesOn = cond (may_collapse_through tree b) GoesOn Solid
 closed_end tree b Solid = Solid
 closed_end tree b (Ends c) = Ends c
+
+module _ {N : Type 0} (at : N → Reading → ℤ) (x : Way N) (e : Reading) where
+  abbrev size : Waiting ℤ → Extent ℤ
+  size = size_in (apart_at at x.page.now.apart.now e)
+
+  -- what is computed on it fits
+  abbrev pub DecisionFitsAt : Band ℤ → ℕ → Run ℤ → List (Waiting ℤ) → Type 0
+  DecisionFitsAt = IsDecisionLow x.page.now.tree.now e.world size (base_at at x.base.now e) (boxes_at at x.floats.now e) (option_at at x.least.now e)
+
+  abbrev pub WayFitsAt : Band ℤ → ℕ → Run ℤ → List (Waiting ℤ) → Type 0
+  WayFitsAt = WayFits x.page.now.tree.now e.world (way_at at x e) size (base_at at x.base.now e) (boxes_at at x.floats.now e) (option_at at x.least.now e)
+
+  abbrev pub KidsFitAt : Band ℤ → List ℕ → Run ℤ → List (Waiting ℤ) → Type 0
+  KidsFitAt = KidsFit x.page.now.tree.now e.world (way_at at x e) size (base_at at x.base.now e) (boxes_at at x.floats.now e) (option_at at x.least.now e)
+
+  abbrev pub KidFitsAt : Band ℤ → ℕ → Run ℤ → List (Waiting ℤ) → Type 0
+  KidFitsAt = KidFits x.page.now.tree.now e.world (way_at at x e) size (base_at at x.base.now e) (boxes_at at x.floats.now e) (option_at at x.least.now e)

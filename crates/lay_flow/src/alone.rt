@@ -1,7 +1,7 @@
 //! Boxes in coordinates of their own: floats, atomic boxes and the root (CSS 2.1, 9.4.1, 9.5).
 ghost use Rattle.std.specs.Prelude.{◌≡◌, ◌<◌, length, pos, IsTrue};
 ghost use Rattle.viz_calc.specs.World.{Reading};
-ghost use Rattle.viz_calc.specs.Run.{Stands, Goes};
+ghost use Rattle.viz_calc.specs.Run.{Stands, Goes, Blames, BlamesButMem};
 ghost use Rattle.viz_calc.specs.Renderings.{placed_at};
 ghost use Rattle.layout_semantics.specs.FlowBoxes.{room_to};
 ghost use Rattle.layout_semantics.specs.Horizontal.{widths as widths_of};
@@ -10,9 +10,15 @@ ghost use Rattle.lay_block.specs.steps.Readings.{frame_at};
 ghost use Rattle.lay_float.specs.Readings.{extent_at};
 ghost use Rattle.lay_preferred.specs.Readings.{AreFound};
 ghost use Rattle.lay_width.specs.Readings.{widths_at};
+ghost use Rattle.lay_flow.specs.AloneFits.{AloneFits, RoomFits, RootFits};
+ghost use Rattle.lay_flow.specs.WalkFits.{AllFit};
 ghost use Rattle.lay_flow.specs.Readings.{alone_at, apart_at};
 ghost use Rattle.lay_flow.specs.steps.Flow.{corner_of, alone_of};
 ghost use Rattle.lay_flow.specs.steps.Flow.{replaced_alone as replaced_alone_of, context_alone as context_alone_of};
+ghost use Rattle.lay_preferred.specs.Fitting.{BoxesFit};
+ghost use Rattle.lay_flow.specs.Low.{IsFrameLow};
+ghost use Rattle.flow_limits.specs.Bounds.{IsQuadIn};
+ghost use Rattle.lay_flow.specs.Fits.{IsReplacedFit, IsShapeFit, near};
 
 use crate::frames::{context_box, replaced_box};
 use crate::parts::{Alone, Page};
@@ -48,6 +54,9 @@ fn widths<S: Steady>(
     ensures found { AreFound S.at (S.run calc.new) tree.now found.new.widths.items }
     ensures value { (e : Reading) → IsTrue ((S.run calc.new).is_open e) → widths_at S.at result e
         ≡ widths_of tree.now e.world height b (S.at room.now e) }
+    ensures cause { BlamesButMem (S.run calc.old) (S.run calc.new) (BoxesFit tree.now (S.run calc.old).is_open
+        × ((e : Reading) → IsTrue ((S.run calc.old).is_open e)
+        → IsShapeFit tree.now e.world height b (S.at room.now e))) }
 {
     match placed_as(tree, b) {
         Placing::Block => block(calc, tree, b, room),
@@ -75,6 +84,8 @@ pub fn room<S: Steady>(
     ensures goes { Goes (S.run calc.old) (S.run calc.new) }
     ensures found { AreFound S.at (S.run calc.new) tree.now found.new.widths.items }
     ensures value { Stands (S.run calc.new) (S.at result) (λ e. room_to levels tree.now e.world height b) }
+    ensures cause { BlamesButMem (S.run calc.old) (S.run calc.new) (AllFit tree.now (S.run calc.old).is_open
+        (λ e. RoomFits tree.now e.world height levels b)) }
 {
     if levels == 0 {
         return calc.width();
@@ -107,6 +118,9 @@ fn corner_shape<S: Steady>(
     ensures found { AreFound S.at (S.run calc.new) tree.now found.new.widths.items }
     ensures value { (e : Reading) → IsTrue ((S.run calc.new).is_open e) → frame_at S.at result e
         ≡ corner_of tree.now e.world height b (S.at room.now e) }
+    ensures cause { BlamesButMem (S.run calc.old) (S.run calc.new) (BoxesFit tree.now (S.run calc.old).is_open
+        × ((e : Reading) → IsTrue ((S.run calc.old).is_open e)
+        → IsShapeFit tree.now e.world height b (S.at room.now e))) }
 {
     let x = widths(alloc, calc, tree, height, found, b, room);
     let v = verticals(calc, tree, b, room);
@@ -124,6 +138,8 @@ fn outer_extent<S: Steady>(calc: &mut S, placed: &Placed<S::Num>) -> Extent<S::N
     ensures goes { Goes (S.run calc.old) (S.run calc.new) }
     ensures value { (e : Reading) → IsTrue ((S.run calc.new).is_open e)
         → extent_at S.at result e ≡ extent_of (placed_at S.at placed.now e) }
+    ensures cause { Blames (S.run calc.old) (S.run calc.new) ((e : Reading) → IsTrue ((S.run calc.old).is_open e)
+        → IsQuadIn near (placed_at S.at placed.now e).margin) }
 {
     let width = calc.sub(&placed.margin.right, &placed.margin.left);
     let height = calc.sub(&placed.margin.bottom, &placed.margin.top);
@@ -144,6 +160,9 @@ fn replaced_alone<S: Steady>(
     ensures value { (e : Reading) → IsTrue ((S.run calc.new).is_open e) → alone_at S.at result e
         ≡ replaced_alone_of page.now.tree.now e.world page.now.height b (S.at room.now e)
         (frame_at S.at shape.now e) }
+    ensures cause { BlamesButMem (S.run calc.old) (S.run calc.new) ((e : Reading) → IsTrue ((S.run calc.old).is_open e)
+        → IsReplacedFit page.now.tree.now e.world page.now.height b (S.at room.now e)
+        × IsFrameLow (frame_at S.at shape.now e)) }
 {
     let placed = replaced_box(calc, page, b, room, shape);
     let size = outer_extent(calc, &placed);
@@ -170,6 +189,9 @@ fn context_alone<S: Steady>(
     ensures value { (e : Reading) → IsTrue ((S.run calc.new).is_open e) → alone_at S.at result e
         ≡ context_alone_of page.now.tree.now e.world page.now.height (apart_at S.at page.now.apart.now e) b
         (frame_at S.at shape.now e) }
+    ensures cause { BlamesButMem (S.run calc.old) (S.run calc.new) (AllFit page.now.tree.now (S.run calc.old).is_open
+        (λ e. RootFits page.now.tree.now e.world page.now.height (apart_at S.at page.now.apart.now e) b
+        (frame_at S.at shape.now e))) }
 {
     let left = zero(calc);
     let band = content_band(calc, &left, &shape.x);
@@ -205,6 +227,9 @@ pub fn alone<S: Steady>(
     ensures value { (e : Reading) → IsTrue ((S.run calc.new).is_open e) → alone_at S.at result e
         ≡ alone_of page.now.tree.now e.world page.now.height (apart_at S.at page.now.apart.now e) b
         (S.at room.now e) }
+    ensures cause { BlamesButMem (S.run calc.old) (S.run calc.new) (AllFit page.now.tree.now (S.run calc.old).is_open
+        (λ e. AloneFits page.now.tree.now e.world page.now.height (apart_at S.at page.now.apart.now e) b
+        (S.at room.now e))) }
 {
     let shape = corner_shape(alloc, calc, page.tree, page.height, found, b, room);
     if is_replaced(page.tree, b) {

@@ -1,7 +1,7 @@
 //! Floats between blocks (CSS 2.1, 9.5), and boxes in coordinates of their own.
-ghost use Rattle.std.specs.Prelude.{◌≡◌, ◌++◌, IsTrue};
+ghost use Rattle.std.specs.Prelude.{◌≡◌, ◌++◌, ◌∷◌, IsTrue};
 ghost use Rattle.viz_calc.specs.World.{Reading};
-ghost use Rattle.viz_calc.specs.Run.{Stands, Goes};
+ghost use Rattle.viz_calc.specs.Run.{Stands, Goes, Blames, BlamesButMem};
 ghost use Rattle.viz_calc.specs.Renderings.{placed_at, quad_at};
 ghost use Rattle.layout_semantics.specs.Floats.{floating, lowest_bottom, float_spot, with_float_at};
 ghost use Rattle.layout_semantics.specs.Rectangles.{shifted, shifted_box, shifted_quad};
@@ -9,6 +9,11 @@ ghost use Rattle.lay_block.specs.steps.Readings.{boxes_at};
 ghost use Rattle.lay_float.specs.Readings.{boxes_at as floats_in, floats_at, extent_at, spot_at, stretch_at, option_at};
 ghost use Rattle.lay_flow.specs.Readings.{apart_at};
 ghost use Rattle.lay_flow.specs.steps.Walk.{top_of};
+ghost use Rattle.std.specs.List.{AllByRecursion};
+ghost use Rattle.lay_flow.specs.Low.{IsAloneLow, reach};
+ghost use Rattle.lay_float.specs.Limits.{AreHalf};
+ghost use Rattle.flow_limits.specs.Bounds.{levels_of, IsExtentIn, IsPlacedIn, IsQuadIn};
+ghost use Rattle.lay_flow.specs.Fits.{IsSpotNear};
 
 use crate::parts::Alone;
 use lay_block::walk::append;
@@ -25,6 +30,8 @@ fn copy_extent<S: Steady>(calc: &mut S, size: &Extent<S::Num>) -> Extent<S::Num>
     ensures goes { Goes (S.run calc.old) (S.run calc.new) }
     ensures value { (e : Reading) → IsTrue ((S.run calc.new).is_open e)
         → extent_at S.at result e ≡ extent_at S.at size.now e }
+    ensures cause { Blames (S.run calc.old) (S.run calc.new) ((e : Reading) → IsTrue ((S.run calc.old).is_open e)
+        → IsExtentIn reach (extent_at S.at size.now e)) }
 {
     let width = calc.copy(&size.width);
     let height = calc.copy(&size.height);
@@ -37,6 +44,8 @@ pub fn size_of<S: Steady>(calc: &mut S, apart: &[Option<Alone<S::Num>>], at: u32
     ensures goes { Goes (S.run calc.old) (S.run calc.new) }
     ensures value { (e : Reading) → IsTrue ((S.run calc.new).is_open e)
         → extent_at S.at result e ≡ (apart_at S.at apart.now e at).size }
+    ensures cause { Blames (S.run calc.old) (S.run calc.new) ((e : Reading) → IsTrue ((S.run calc.old).is_open e)
+        → IsExtentIn reach (apart_at S.at apart.now e at).size) }
 {
     match apart.get(at as usize) {
         Some(Some(alone)) => copy_extent(calc, &alone.size),
@@ -60,6 +69,8 @@ fn float_top<S: Steady>(
     ensures goes { Goes (S.run calc.old) (S.run calc.new) }
     ensures value { Stands (S.run calc.new) (S.at result) (λ e. top_of (option_at S.at least.now e) (S.at y.now e)
         (lowest_bottom clear (floats_in S.at floats.now e))) }
+    ensures cause { Blames (S.run calc.old) (S.run calc.new) ((e : Reading) → IsTrue ((S.run calc.old).is_open e)
+        → AreHalf (floats_in S.at floats.now e) (levels_of (option_at S.at least.now e) (S.at y.now e))) }
 {
     let from = calc.copy(y);
     let from = match bottom(calc, floats, clear) {
@@ -94,6 +105,9 @@ pub fn place_float<S: Steady>(
     ensures appended { (e : Reading) → IsTrue ((S.run calc.new).is_open e) → floats_at S.at floats.new e
         ≡ with_float_at (floating tree.now at (extent_at S.at size.now e) (stretch_at S.at cb.now e))
         (floats_at S.at floats.old e) (spot_at S.at result e) }
+    ensures cause { BlamesButMem (S.run calc.old) (S.run calc.new) ((e : Reading) → IsTrue ((S.run calc.old).is_open e)
+        → AreHalf (floats_at S.at floats.old e) (S.at size.now.width e ∷ S.at size.now.height e
+        ∷ S.at cb.now.left e ∷ S.at cb.now.right e ∷ levels_of (option_at S.at least.now e) (S.at y.now e))) }
 {
     let side = side_at(tree, at);
     let clear = clear_at(tree, at);
@@ -106,6 +120,8 @@ fn shift_quad<S: Steady>(calc: &mut S, by: &Spot<S::Num>, quad: &Quad<S::Num>) -
     ensures goes { Goes (S.run calc.old) (S.run calc.new) }
     ensures value { (e : Reading) → IsTrue ((S.run calc.new).is_open e)
         → quad_at S.at result e ≡ shifted_quad (spot_at S.at by.now e) (quad_at S.at quad.now e) }
+    ensures cause { Blames (S.run calc.old) (S.run calc.new) ((e : Reading) → IsTrue ((S.run calc.old).is_open e)
+        → IsSpotNear (spot_at S.at by.now e) × IsQuadIn reach (quad_at S.at quad.now e)) }
 {
     let left = calc.add(&quad.left, &by.x);
     let top = calc.add(&quad.top, &by.y);
@@ -124,6 +140,8 @@ fn shift_box<S: Steady>(calc: &mut S, by: &Spot<S::Num>, placed: &Placed<S::Num>
     ensures goes { Goes (S.run calc.old) (S.run calc.new) }
     ensures value { (e : Reading) → IsTrue ((S.run calc.new).is_open e)
         → placed_at S.at result e ≡ shifted_box (spot_at S.at by.now e) (placed_at S.at placed.now e) }
+    ensures cause { Blames (S.run calc.old) (S.run calc.new) ((e : Reading) → IsTrue ((S.run calc.old).is_open e)
+        → IsSpotNear (spot_at S.at by.now e) × IsPlacedIn reach (placed_at S.at placed.now e)) }
 {
     let margin = shift_quad(calc, by, &placed.margin);
     let border = shift_quad(calc, by, &placed.border);
@@ -150,6 +168,8 @@ fn add_each<S: Steady>(
     ensures goes { Goes (S.run calc.old) (S.run calc.new) }
     ensures value { (e : Reading) → IsTrue ((S.run calc.new).is_open e) → boxes_at S.at out.new.items e
         ≡ boxes_at S.at out.old.items e ++ shifted (spot_at S.at by.now e) (boxes_at S.at boxes.now e) }
+    ensures cause { BlamesButMem (S.run calc.old) (S.run calc.new) ((e : Reading) → IsTrue ((S.run calc.old).is_open e)
+        → IsSpotNear (spot_at S.at by.now e) × AllByRecursion (IsPlacedIn reach) (boxes_at S.at boxes.now e)) }
 {
     for placed in boxes {
         let moved = shift_box(calc, by, placed);
@@ -169,6 +189,8 @@ pub fn add_apart<S: Steady>(
     ensures goes { Goes (S.run calc.old) (S.run calc.new) }
     ensures value { (e : Reading) → IsTrue ((S.run calc.new).is_open e) → boxes_at S.at out.new.items e
         ≡ boxes_at S.at out.old.items e ++ shifted (spot_at S.at by.now e) (apart_at S.at apart.now e at).boxes }
+    ensures cause { BlamesButMem (S.run calc.old) (S.run calc.new) ((e : Reading) → IsTrue ((S.run calc.old).is_open e)
+        → IsSpotNear (spot_at S.at by.now e) × IsAloneLow (apart_at S.at apart.now e at)) }
 {
     if let Some(Some(alone)) = apart.get(at as usize) {
         add_each(calc, by, alone.boxes.as_slice(), out);

@@ -1,20 +1,24 @@
 //! The margins that adjoin the top of a box that comes next, up to the first box that is cleared (CSS 2.1, 8.3.1,
 //! 9.5.2).
-ghost use Rattle.std.specs.Prelude.{◌≡◌, ◌<◌, ◌++◌, ◌∷◌, [], ℕ, length, slice_index_or, int_lt, false, IsTrue};
+ghost use Rattle.std.specs.Prelude.{◌≡◌, ◌<◌, ◌++◌, ◌∷◌, [], ⊤, ℕ, length, slice_index_or, int_lt, false, IsTrue};
 ghost use Rattle.std.specs.Option.{option_map_or};
 ghost use Rattle.viz_calc.specs.World.{Reading};
-ghost use Rattle.viz_calc.specs.Run.{Stands, Goes};
+ghost use Rattle.viz_calc.specs.Run.{Stands, Goes, Fits, Blames, BlamesButMem};
 ghost use Rattle.layout_semantics.specs.Clearance.{with_waiting as with_all};
 ghost use Rattle.layout_semantics.specs.FlowBoxes.{clear_of, flow_children};
 ghost use Rattle.lay_float.specs.Readings.{boxes_at as floats_in, floats_at, option_at, stretch_at};
+ghost use Rattle.lay_margin.specs.Fitting.{edges};
 ghost use Rattle.lay_margin.specs.Readings.{floats_at as waiting_all};
 ghost use Rattle.lay_margin.specs.Runs.{run_at};
 ghost use Rattle.flow_steps.specs.Runs.{edge_at};
 ghost use Rattle.flow_steps.specs.Forward.{hypothetical_edge as hypothetical_of, bottom_to_clear as bottom_of};
 ghost use Rattle.flow_steps.specs.Forward.{is_to_clear as to_clear_of, clear_edge as clear_edge_of};
 ghost use Rattle.flow_steps.specs.Forward.{decided as decided_of};
+ghost use Rattle.lay_flow.specs.Low.{IsBaseLow, IsRunLow};
 ghost use Rattle.lay_flow.specs.Readings.{apart_at, base_at, found_at};
+ghost use Rattle.lay_flow.specs.WayFits.{IsLeadLow, WaitingFits, IsGroundLow, IsGoingLow};
 ghost use Rattle.lay_flow.specs.Ways.{way_at, inner_at, kids_at_reading, kid_at, closed_end};
+ghost use Rattle.lay_flow.specs.Ways.{DecisionFitsAt, WayFitsAt, KidsFitAt, KidFitsAt};
 ghost use Rattle.lay_flow.specs.steps.Walk.{size_in};
 
 use crate::floating::{place_float, size_of};
@@ -49,6 +53,8 @@ fn edge<S: Steady>(calc: &mut S, base: &Base<S::Num>, run: &Run<S::Num>) -> S::N
     ensures goes { Goes (S.run calc.old) (S.run calc.new) }
     ensures value { Stands (S.run calc.new) (S.at result)
         (λ e. edge_at (base_at S.at base.now e) (run_at S.at run.now e)) }
+    ensures cause { Blames (S.run calc.old) (S.run calc.new) ((e : Reading) → IsTrue ((S.run calc.old).is_open e)
+        → IsBaseLow (base_at S.at base.now e) × IsRunLow (run_at S.at run.now e)) }
 {
     match base {
         Base::Hangs(edge) => {
@@ -89,6 +95,9 @@ fn hypothetical_edge<S: Steady>(
         (size_in (apart_at S.at way.now.page.now.apart.now e)) (base_at S.at way.now.base.now e)
         (floats_in S.at way.now.floats.now e) (option_at S.at way.now.least.now e) (stretch_at S.at cb.now e) b
         (run_at S.at run.now e)) }
+    ensures cause { BlamesButMem (S.run calc.old) (S.run calc.new) ((e : Reading) → IsTrue ((S.run calc.old).is_open e)
+        → IsBaseLow (base_at S.at way.now.base.now e) × IsRunLow (run_at S.at run.now e)
+        × IsLeadLow way.now.page.now.tree.now e.world (stretch_at S.at cb.now e) b) }
 {
     let mut own = copy_run(calc, run);
     let mut waiting = List::new(alloc);
@@ -118,6 +127,9 @@ fn place_waiting<S: Steady>(
         ≡ with_all way.now.page.now.tree.now (size_in (apart_at S.at way.now.page.now.apart.now e))
         (waiting_all S.at waiting.now e) (floats_at S.at floats.old e) (option_at S.at way.now.least.now e)
         (S.at y.now e) }
+    ensures cause { BlamesButMem (S.run calc.old) (S.run calc.new) ((e : Reading) → IsTrue ((S.run calc.old).is_open e)
+        → WaitingFits (size_in (apart_at S.at way.now.page.now.apart.now e)) (floats_at S.at floats.old e)
+        (option_at S.at way.now.least.now e) (S.at y.now e) (waiting_all S.at waiting.now e)) }
 {
     for float in waiting {
         let size = size_of(calc, way.page.apart, float.at);
@@ -149,6 +161,9 @@ fn bottom_to_clear<S: Steady>(
         ≡ bottom_of way.now.page.now.tree.now e.world (size_in (apart_at S.at way.now.page.now.apart.now e))
         (base_at S.at way.now.base.now e) (floats_in S.at way.now.floats.now e) (option_at S.at way.now.least.now e) b
         (waiting_all S.at waiting.now e) (S.at y.now e) }
+    ensures cause { BlamesButMem (S.run calc.old) (S.run calc.new) ((e : Reading) → IsTrue ((S.run calc.old).is_open e)
+        → WaitingFits (size_in (apart_at S.at way.now.page.now.apart.now e)) (floats_in S.at way.now.floats.now e)
+        (option_at S.at way.now.least.now e) (S.at y.now e) (waiting_all S.at waiting.now e)) }
 {
     let clear = clear_in_flow(way.page.tree, b);
     if waiting.is_empty() {
@@ -164,6 +179,7 @@ fn is_above<S: Steady>(calc: &mut S, y: &S::Num, bottom: &Option<S::Num>) -> boo
     ensures goes { Goes (S.run calc.old) (S.run calc.new) }
     ensures value { (e : Reading) → IsTrue ((S.run calc.new).is_open e)
         → result ≡ option_map_or (int_lt (S.at y.now e)) (option_at S.at bottom.now e) false }
+    ensures cause { Blames (S.run calc.old) (S.run calc.new) ⊤ }
 {
     match bottom {
         Some(bottom) => !calc.le(bottom, y),
@@ -186,6 +202,9 @@ fn is_to_clear<S: Steady>(
         ≡ to_clear_of way.now.page.now.tree.now e.world (size_in (apart_at S.at way.now.page.now.apart.now e))
         (base_at S.at way.now.base.now e) (floats_in S.at way.now.floats.now e) (option_at S.at way.now.least.now e)
         (stretch_at S.at cb.now e) b (run_at S.at going.now.run e) (waiting_all S.at going.now.waiting e) }
+    ensures cause { BlamesButMem (S.run calc.old) (S.run calc.new) ((e : Reading) → IsTrue ((S.run calc.old).is_open e)
+        → DecisionFitsAt S.at way.now e (stretch_at S.at cb.now e) b (run_at S.at going.now.run e)
+        (waiting_all S.at going.now.waiting e)) }
 {
     let y = hypothetical_edge(alloc, calc, way, cb, b, &going.run);
     let bottom = bottom_to_clear(alloc, calc, way, b, going.waiting.as_slice(), &y);
@@ -205,6 +224,10 @@ fn clear_edge<S: Steady>(
         (size_in (apart_at S.at way.now.page.now.apart.now e)) (base_at S.at way.now.base.now e)
         (floats_in S.at way.now.floats.now e) (option_at S.at way.now.least.now e) b (run_at S.at going.now.run e)
         (waiting_all S.at going.now.waiting e)) }
+    ensures cause { BlamesButMem (S.run calc.old) (S.run calc.new) ((e : Reading) → IsTrue ((S.run calc.old).is_open e)
+        → IsGroundLow (base_at S.at way.now.base.now e) (floats_in S.at way.now.floats.now e)
+        (option_at S.at way.now.least.now e) × IsGoingLow (size_in (apart_at S.at way.now.page.now.apart.now e))
+        (run_at S.at going.now.run e) (waiting_all S.at going.now.waiting e)) }
 {
     let y = edge(calc, way.base, &going.run);
     match bottom_to_clear(alloc, calc, way, b, going.waiting.as_slice(), &y) {
@@ -228,6 +251,9 @@ fn decided<S: Steady>(
         ≡ decided_of way.now.page.now.tree.now e.world (size_in (apart_at S.at way.now.page.now.apart.now e))
         (base_at S.at way.now.base.now e) (floats_in S.at way.now.floats.now e) (option_at S.at way.now.least.now e)
         (stretch_at S.at cb.now e) b (run_at S.at going.now.run e) (waiting_all S.at going.now.waiting e) }
+    ensures cause { BlamesButMem (S.run calc.old) (S.run calc.new) ((e : Reading) → IsTrue ((S.run calc.old).is_open e)
+        → DecisionFitsAt S.at way.now e (stretch_at S.at cb.now e) b (run_at S.at going.now.run e)
+        (waiting_all S.at going.now.waiting e)) }
 {
     if way.floats.is_empty() && going.waiting.is_empty() {
         return None;
@@ -244,6 +270,8 @@ fn wait<S: Steady>(calc: &mut S, cb: &Band<S::Num>, at: u32, waiting: &mut List<
     ensures goes { Goes (S.run calc.old) (S.run calc.new) }
     ensures value { (e : Reading) → IsTrue ((S.run calc.new).is_open e) → waiting_all S.at waiting.new e
         ≡ waiting_all S.at waiting.old e ++ record { at = at; cb = stretch_at S.at cb.now e } ∷ [] }
+    ensures cause { BlamesButMem (S.run calc.old) (S.run calc.new) (Fits (S.run calc.old)
+        (λ e. edges (stretch_at S.at cb.now e))) }
 {
     let cb = copy_band(calc, cb);
     match waiting.push(Waiting { at, cb }) {
@@ -268,6 +296,9 @@ pub fn forward<S: Steady>(
     ensures value { (e : Reading) → IsTrue ((S.run calc.new).is_open e) → found_at S.at going.new result e
         ≡ way_at S.at way.now e (stretch_at S.at cb.now e) b (run_at S.at going.old.run e)
         (waiting_all S.at going.old.waiting e) }
+    ensures cause { BlamesButMem (S.run calc.old) (S.run calc.new) ((e : Reading) → IsTrue ((S.run calc.old).is_open e)
+        → WayFitsAt S.at way.now e (stretch_at S.at cb.now e) b (run_at S.at going.old.run e)
+        (waiting_all S.at going.old.waiting e)) }
 {
     if stops_at(way.page.tree, way.past, b)
         && let Some(edge) = decided(alloc, calc, way, cb, b, going)
@@ -292,6 +323,9 @@ fn inner<S: Steady>(
     ensures value { (e : Reading) → IsTrue ((S.run calc.new).is_open e) → found_at S.at going.new result e
         ≡ inner_at S.at way.now e (stretch_at S.at cb.now e) b (run_at S.at going.old.run e)
         (waiting_all S.at going.old.waiting e) }
+    ensures cause { BlamesButMem (S.run calc.old) (S.run calc.new) ((e : Reading) → IsTrue ((S.run calc.old).is_open e)
+        → WayFitsAt S.at way.now e (stretch_at S.at cb.now e) b (run_at S.at going.old.run e)
+        (waiting_all S.at going.old.waiting e)) }
 {
     join_top(calc, way.page.tree, cb, b, &mut going.run);
     if !enters(way.page.tree, b) {
@@ -334,6 +368,9 @@ fn content<S: Steady>(
     ensures value { (e : Reading) → IsTrue ((S.run calc.new).is_open e) → found_at S.at going.new result e
         ≡ kids_at_reading S.at way.now e (stretch_at S.at band.now e) (flow_children way.now.page.now.tree.now b)
         (run_at S.at going.old.run e) (waiting_all S.at going.old.waiting e) }
+    ensures cause { BlamesButMem (S.run calc.old) (S.run calc.new) ((e : Reading) → IsTrue ((S.run calc.old).is_open e)
+        → KidsFitAt S.at way.now e (stretch_at S.at band.now e) (flow_children way.now.page.now.tree.now b)
+        (run_at S.at going.old.run e) (waiting_all S.at going.old.waiting e)) }
 {
     let tree = way.page.tree;
     if !holds_inline(tree, b) {
@@ -367,6 +404,9 @@ fn kids<S: Steady>(
     ensures value { (e : Reading) → IsTrue ((S.run calc.new).is_open e) → found_at S.at going.new result e
         ≡ kids_at_reading S.at way.now e (stretch_at S.at band.now e) boxes.now
         (run_at S.at going.old.run e) (waiting_all S.at going.old.waiting e) }
+    ensures cause { BlamesButMem (S.run calc.old) (S.run calc.new) ((e : Reading) → IsTrue ((S.run calc.old).is_open e)
+        → KidsFitAt S.at way.now e (stretch_at S.at band.now e) boxes.now (run_at S.at going.old.run e)
+        (waiting_all S.at going.old.waiting e)) }
 {
     for place in boxes {
         let end = kid(alloc, calc, way, band, *place, going);
@@ -392,6 +432,9 @@ fn kid<S: Steady>(
     ensures value { (e : Reading) → IsTrue ((S.run calc.new).is_open e) → found_at S.at going.new result e
         ≡ kid_at S.at way.now e (stretch_at S.at band.now e) k (run_at S.at going.old.run e)
         (waiting_all S.at going.old.waiting e) }
+    ensures cause { BlamesButMem (S.run calc.old) (S.run calc.new) ((e : Reading) → IsTrue ((S.run calc.old).is_open e)
+        → KidFitsAt S.at way.now e (stretch_at S.at band.now e) k (run_at S.at going.old.run e)
+        (waiting_all S.at going.old.waiting e)) }
 {
     if floats_at(way.page.tree, k) {
         wait(calc, band, k, &mut going.waiting);

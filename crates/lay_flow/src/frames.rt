@@ -1,7 +1,7 @@
 //! Boxes before and after their content (CSS 2.1, 8.1, 10.3, 10.6).
 ghost use Rattle.std.specs.Prelude.{◌≡◌, ◌<◌, length, IsTrue};
 ghost use Rattle.viz_calc.specs.World.{Reading};
-ghost use Rattle.viz_calc.specs.Run.{Goes};
+ghost use Rattle.viz_calc.specs.Run.{Goes, Blames, BlamesButMem};
 ghost use Rattle.viz_calc.specs.Renderings.{placed_at};
 ghost use Rattle.layout_semantics.specs.FlowBoxes.{across as across_of};
 ghost use Rattle.layout_semantics.specs.Horizontal.{widths as widths_of};
@@ -10,6 +10,9 @@ ghost use Rattle.lay_float.specs.Readings.{stretch_at};
 ghost use Rattle.lay_width.specs.Readings.{widths_at};
 ghost use Rattle.lay_flow.specs.Readings.{context_at};
 ghost use Rattle.lay_flow.specs.steps.Flow.{frame_of, replaced_of, root_of, block_of};
+ghost use Rattle.lay_preferred.specs.Fitting.{BoxesFit};
+ghost use Rattle.lay_flow.specs.Low.{IsBandLow, IsContextLow, IsFrameLow, IsLevelLow};
+ghost use Rattle.lay_flow.specs.Fits.{IsHeightFit, IsReplacedFit, IsShapeFit};
 
 use crate::heights::{block_height, context_height, held, known_height, replaced_height};
 use crate::parts::{Context, Page};
@@ -39,6 +42,9 @@ fn widths<S: Steady>(
     ensures goes { Goes (S.run calc.old) (S.run calc.new) }
     ensures value { (e : Reading) → IsTrue ((S.run calc.new).is_open e) → widths_at S.at result e
         ≡ widths_of page.now.tree.now e.world page.now.height b (S.at room.now e) }
+    ensures cause { BlamesButMem (S.run calc.old) (S.run calc.new) (BoxesFit page.now.tree.now (S.run calc.old).is_open
+        × ((e : Reading) → IsTrue ((S.run calc.old).is_open e)
+        → IsShapeFit page.now.tree.now e.world page.now.height b (S.at room.now e))) }
 {
     match placed_as(page.tree, b) {
         Placing::Block => block(calc, page.tree, b, room),
@@ -67,6 +73,10 @@ pub fn shape<S: Steady>(
     ensures value { (e : Reading) → IsTrue ((S.run calc.new).is_open e) → frame_at S.at result e
         ≡ frame_of page.now.tree.now e.world page.now.height b (across_of (stretch_at S.at cb.now e))
         (S.at cb.now.left e) (S.at top.now e) }
+    ensures cause { BlamesButMem (S.run calc.old) (S.run calc.new) (BoxesFit page.now.tree.now (S.run calc.old).is_open
+        × ((e : Reading) → IsTrue ((S.run calc.old).is_open e)
+        → IsBandLow (stretch_at S.at cb.now e) × (IsLevelLow (S.at top.now e)
+        × IsShapeFit page.now.tree.now e.world page.now.height b (across_of (stretch_at S.at cb.now e))))) }
 {
     let room = across(calc, cb);
     let x = widths(alloc, calc, page, b, &room);
@@ -92,6 +102,9 @@ pub fn replaced_box<S: Steady>(
     ensures goes { Goes (S.run calc.old) (S.run calc.new) }
     ensures value { (e : Reading) → IsTrue ((S.run calc.new).is_open e) → placed_at S.at result e
         ≡ replaced_of page.now.tree.now e.world page.now.height b (S.at room.now e) (frame_at S.at shape.now e) }
+    ensures cause { Blames (S.run calc.old) (S.run calc.new) ((e : Reading) → IsTrue ((S.run calc.old).is_open e)
+        → IsReplacedFit page.now.tree.now e.world page.now.height b (S.at room.now e)
+        × IsFrameLow (frame_at S.at shape.now e)) }
 {
     let height = replaced_height(calc, page, b, room);
     place(calc, page.tree, b, shape, &height)
@@ -109,6 +122,9 @@ pub fn context_box<S: Steady>(
     ensures goes { Goes (S.run calc.old) (S.run calc.new) }
     ensures value { (e : Reading) → IsTrue ((S.run calc.new).is_open e) → placed_at S.at result e
         ≡ root_of page.now.tree.now e.world page.now.height b (frame_at S.at shape.now e) (context_at S.at end.now e) }
+    ensures cause { Blames (S.run calc.old) (S.run calc.new) ((e : Reading) → IsTrue ((S.run calc.old).is_open e)
+        → IsHeightFit page.now.tree.now e.world page.now.height b × (IsFrameLow (frame_at S.at shape.now e)
+        × IsContextLow (context_at S.at end.now e))) }
 {
     let height = match known_height(calc, page, b) {
         Some(height) => height,
@@ -133,6 +149,9 @@ pub fn block_box<S: Steady>(
     ensures goes { Goes (S.run calc.old) (S.run calc.new) }
     ensures value { (e : Reading) → IsTrue ((S.run calc.new).is_open e) → placed_at S.at result e
         ≡ block_of page.now.tree.now e.world page.now.height b (frame_at S.at shape.now e) (context_at S.at end.now e) }
+    ensures cause { Blames (S.run calc.old) (S.run calc.new) ((e : Reading) → IsTrue ((S.run calc.old).is_open e)
+        → IsHeightFit page.now.tree.now e.world page.now.height b × (IsFrameLow (frame_at S.at shape.now e)
+        × IsContextLow (context_at S.at end.now e))) }
 {
     let height = match known_height(calc, page, b) {
         Some(height) => height,

@@ -1,7 +1,7 @@
 //! Heights of boxes (CSS 2.1, 10.5 to 10.7).
 ghost use Rattle.std.specs.Prelude.{◌≡◌, IsTrue};
 ghost use Rattle.viz_calc.specs.World.{Reading};
-ghost use Rattle.viz_calc.specs.Run.{Stands, Goes};
+ghost use Rattle.viz_calc.specs.Run.{Stands, Goes, Blames};
 ghost use Rattle.layout_semantics.specs.DefiniteHeights.{definite_height as definite_of, given_height, held_height};
 ghost use Rattle.layout_semantics.specs.DefiniteHeights.{height_around as height_in};
 ghost use Rattle.layout_semantics.specs.Replaced.{replaced_size};
@@ -12,6 +12,10 @@ ghost use Rattle.lay_float.specs.Readings.{boxes_at as floats_in};
 ghost use Rattle.lay_flow.specs.Readings.{standing_at, context_at};
 ghost use Rattle.lay_flow.specs.steps.Flow.{tall_of};
 ghost use Rattle.lay_flow.specs.steps.Walk.{lowest_of};
+ghost use Rattle.std.specs.List.{AllByRecursion};
+ghost use Rattle.lay_flow.specs.Low.{IsContextLow, IsStandingLow, reach};
+ghost use Rattle.flow_limits.specs.Bounds.{IsFloatIn};
+ghost use Rattle.lay_flow.specs.Fits.{IsHeightFit, IsNear, IsReplacedFit, OwnFits};
 
 use crate::parts::{Context, Page, Standing};
 use lay_float::PlacedFloat;
@@ -36,6 +40,8 @@ fn height_of<S: Steady>(
     ensures goes { Goes (S.run calc.old) (S.run calc.new) }
     ensures value { (e : Reading) → IsTrue ((S.run calc.new).is_open e) → option_at S.at result e
         ≡ height_in page.now.tree.now e.world (definite_of page.now.tree.now e.world page.now.height b) length.now }
+    ensures cause { Blames (S.run calc.old) (S.run calc.new) ((e : Reading) → IsTrue ((S.run calc.old).is_open e)
+        → OwnFits page.now.tree.now e.world page.now.height b length.now) }
 {
     match length {
         Length::Pct(part) => {
@@ -55,6 +61,8 @@ pub fn known_height<S: Steady>(calc: &mut S, page: &Page<'_, S::Num>, b: u32) ->
     ensures goes { Goes (S.run calc.old) (S.run calc.new) }
     ensures value { (e : Reading) → IsTrue ((S.run calc.new).is_open e) → option_at S.at result e
         ≡ given_height page.now.tree.now e.world page.now.height b }
+    ensures cause { Blames (S.run calc.old) (S.run calc.new) ((e : Reading) → IsTrue ((S.run calc.old).is_open e)
+        → IsHeightFit page.now.tree.now e.world page.now.height b) }
 {
     height_of(calc, page, b, &own_height(page.tree, b))
 }
@@ -64,6 +72,8 @@ pub fn held<S: Steady>(calc: &mut S, page: &Page<'_, S::Num>, b: u32, height: S:
     ensures goes { Goes (S.run calc.old) (S.run calc.new) }
     ensures value { Stands (S.run calc.new) (S.at result)
         (λ e. held_height page.now.tree.now e.world page.now.height b (S.at height e)) }
+    ensures cause { Blames (S.run calc.old) (S.run calc.new) ((e : Reading) → IsTrue ((S.run calc.old).is_open e)
+        → IsHeightFit page.now.tree.now e.world page.now.height b) }
 {
     let most = match most_height(page.tree, b) {
         Some(most) => height_of(calc, page, b, &most),
@@ -86,6 +96,8 @@ pub fn replaced_height<S: Steady>(
     ensures goes { Goes (S.run calc.old) (S.run calc.new) }
     ensures value { Stands (S.run calc.new) (S.at result)
         (λ e. (replaced_size page.now.tree.now e.world page.now.height b (S.at room.now e)).height) }
+    ensures cause { Blames (S.run calc.old) (S.run calc.new) ((e : Reading) → IsTrue ((S.run calc.old).is_open e)
+        → IsReplacedFit page.now.tree.now e.world page.now.height b (S.at room.now e)) }
 {
     let height = match known_height(calc, page, b) {
         Some(height) => height,
@@ -102,6 +114,8 @@ pub fn replaced_height<S: Steady>(
 pub fn next_edge<S: Steady>(calc: &mut S, standing: &Standing<S::Num>) -> S::Num
     ensures goes { Goes (S.run calc.old) (S.run calc.new) }
     ensures value { Stands (S.run calc.new) (S.at result) (λ e. edge_of (standing_at S.at standing.now e)) }
+    ensures cause { Blames (S.run calc.old) (S.run calc.new) ((e : Reading) → IsTrue ((S.run calc.old).is_open e)
+        → IsStandingLow (standing_at S.at standing.now e)) }
 {
     match standing {
         Standing::AtTop { y, cleared: _ } => calc.copy(y),
@@ -121,6 +135,8 @@ fn lowest<S: Steady>(calc: &mut S, top: &S::Num, floats: &[PlacedFloat<S::Num>])
     ensures goes { Goes (S.run calc.old) (S.run calc.new) }
     ensures value { Stands (S.run calc.new) (S.at result)
         (λ e. lowest_of (S.at top.now e) (floats_in S.at floats.now e)) }
+    ensures cause { Blames (S.run calc.old) (S.run calc.new) ((e : Reading) → IsTrue ((S.run calc.old).is_open e)
+        → IsNear (S.at top.now e) × AllByRecursion (IsFloatIn reach) (floats_in S.at floats.now e)) }
 {
     let mut best = zero(calc);
     let count = floats.len();
@@ -137,6 +153,8 @@ pub fn context_height<S: Steady>(calc: &mut S, top: &S::Num, end: &Context<S::Nu
     ensures goes { Goes (S.run calc.old) (S.run calc.new) }
     ensures value { Stands (S.run calc.new) (S.at result)
         (λ e. tall_of (S.at top.now e) (context_at S.at end.now e)) }
+    ensures cause { Blames (S.run calc.old) (S.run calc.new) ((e : Reading) → IsTrue ((S.run calc.old).is_open e)
+        → IsNear (S.at top.now e) × IsContextLow (context_at S.at end.now e)) }
 {
     let best = lowest(calc, top, end.floats.placed.as_slice());
     let edge = next_edge(calc, &end.standing);
@@ -154,6 +172,8 @@ pub fn block_height<S: Steady>(
     ensures goes { Goes (S.run calc.old) (S.run calc.new) }
     ensures value { Stands (S.run calc.new) (S.at result)
         (λ e. tall_block joins (S.at top.now e) (standing_at S.at end.now e)) }
+    ensures cause { Blames (S.run calc.old) (S.run calc.new) ((e : Reading) → IsTrue ((S.run calc.old).is_open e)
+        → IsNear (S.at top.now e) × IsStandingLow (standing_at S.at end.now e)) }
 {
     match end {
         Standing::AtTop { .. } => zero(calc),
@@ -174,6 +194,8 @@ pub fn joined_run<S: Steady>(calc: &mut S, joins: bool, end: &Standing<S::Num>) 
     ensures goes { Goes (S.run calc.old) (S.run calc.new) }
     ensures value { (e : Reading) → IsTrue ((S.run calc.new).is_open e)
         → run_at S.at result e ≡ joined_of joins (standing_at S.at end.now e) }
+    ensures cause { Blames (S.run calc.old) (S.run calc.new) ((e : Reading) → IsTrue ((S.run calc.old).is_open e)
+        → IsStandingLow (standing_at S.at end.now e)) }
 {
     match end {
         Standing::Below {

@@ -1,9 +1,9 @@
 //! Lines in the flow (CSS 2.1, 9.4.2), with the floats and atomic boxes on them.
 ghost use Rattle.std.specs.Prelude.{◌≡◌, ◌<◌, ◌++◌, false, fold, length, replicate, slice_set, unwrap_or, Some, None, IfOk, IsTrue};
-ghost use Rattle.std.specs.List.{flat_map};
+ghost use Rattle.std.specs.List.{flat_map, AllByRecursion};
 ghost use Rattle.viz_base.specs.declared.styles.Style.{Style as StyleOf};
 ghost use Rattle.viz_calc.specs.World.{Reading};
-ghost use Rattle.viz_calc.specs.Run.{Stands, Goes};
+ghost use Rattle.viz_calc.specs.Run.{Stands, Goes, Blames, BlamesButMem};
 ghost use Rattle.layout_semantics.specs.Flow.{raised as raised_of};
 ghost use Rattle.layout_semantics.specs.InlineContent.{inner_boxes as inner_of_box, inner_items};
 ghost use Rattle.layout_semantics.specs.Lengths.{own};
@@ -15,8 +15,11 @@ ghost use Rattle.lay_line.specs.Items.{items_of};
 ghost use Rattle.lay_line.specs.Lining.{laid_at};
 ghost use Rattle.lay_line.specs.Readings.{entry_at, entries_at};
 ghost use Rattle.flow_steps.specs.Flow.{line_tops};
+ghost use Rattle.lay_flow.specs.WalkFits.{InLinesFit};
 ghost use Rattle.lay_flow.specs.Readings.{apart_at, context_at};
 ghost use Rattle.lay_flow.specs.steps.Flow.{inner_of as inner_of_step, entry_of, inner_table as table_of, lines_of, in_lines as lines_step, filled_table};
+ghost use Rattle.lay_flow.specs.Low.{AreApartLow, AreLevelsLow, IsAloneLow};
+ghost use Rattle.lay_flow.specs.Fits.{IsEntryLow, IsNear};
 
 use crate::floating::add_apart;
 use crate::parts::{Context, Page};
@@ -72,6 +75,8 @@ fn inner_of<S: Steady>(calc: &mut S, page: &Page<'_, S::Num>, at: u32) -> Inner<
     ensures goes { Goes (S.run calc.old) (S.run calc.new) }
     ensures value { (e : Reading) → IsTrue ((S.run calc.new).is_open e) → inner_at S.at result e
         ≡ inner_of_step page.now.tree.now e.world (apart_at S.at page.now.apart.now e) at }
+    ensures cause { Blames (S.run calc.old) (S.run calc.new) ((e : Reading) → IsTrue ((S.run calc.old).is_open e)
+        → IsAloneLow (apart_at S.at page.now.apart.now e at)) }
 {
     match page.apart.get(at as usize) {
         Some(Some(alone)) => {
@@ -136,6 +141,8 @@ fn fill<S: Steady>(
     ensures value { (e : Reading) → IsTrue ((S.run calc.new).is_open e) → table_at S.at table.new.items e
         ≡ filled_table page.now.tree.now e.world (apart_at S.at page.now.apart.now e)
         (table_at S.at table.old.items e) boxes.now }
+    ensures cause { Blames (S.run calc.old) (S.run calc.new) ((e : Reading) → IsTrue ((S.run calc.old).is_open e)
+        → AreApartLow (apart_at S.at page.now.apart.now e)) }
 {
     for at in boxes {
         let inner = inner_of(calc, page, *at);
@@ -178,6 +185,8 @@ fn inner_table<S: Steady>(
     ensures goes { Goes (S.run calc.old) (S.run calc.new) }
     ensures value { (e : Reading) → IsTrue ((S.run calc.new).is_open e) → table_at S.at result.items e
         ≡ table_of page.now.tree.now e.world (apart_at S.at page.now.apart.now e) b }
+    ensures cause { BlamesButMem (S.run calc.old) (S.run calc.new) ((e : Reading) → IsTrue ((S.run calc.old).is_open e)
+        → AreApartLow (apart_at S.at page.now.apart.now e)) }
 {
     match empty_table(alloc, page.tree, b) {
         Ok((boxes, mut table)) => {
@@ -200,6 +209,8 @@ fn raised_with<S: Steady>(
     ensures goes { Goes (S.run calc.old) (S.run calc.new) }
     ensures value { (e : Reading) → IsTrue ((S.run calc.new).is_open e) → option_at S.at result e
         ≡ fold raised_of (option_at S.at least e) (line_tops (entry_at S.at entry.now e)) }
+    ensures cause { Blames (S.run calc.old) (S.run calc.new) ((e : Reading) → IsTrue ((S.run calc.old).is_open e)
+        → AreLevelsLow (option_at S.at least e) × IsEntryLow (entry_at S.at entry.now e)) }
 {
     match entry {
         Entry::Here(placed) if matches!(placed.kind, Kind::Line) => {
@@ -219,6 +230,8 @@ fn raised_by<S: Steady>(
     ensures goes { Goes (S.run calc.old) (S.run calc.new) }
     ensures value { (e : Reading) → IsTrue ((S.run calc.new).is_open e) → option_at S.at result e
         ≡ fold raised_of (option_at S.at least e) (flat_map line_tops (entries_at S.at entries.now e)) }
+    ensures cause { Blames (S.run calc.old) (S.run calc.new) ((e : Reading) → IsTrue ((S.run calc.old).is_open e)
+        → AreLevelsLow (option_at S.at least e) × AllByRecursion IsEntryLow (entries_at S.at entries.now e)) }
 {
     let mut best = least;
     for entry in entries {
@@ -239,6 +252,8 @@ fn add_entry<S: Steady>(
     ensures value { (e : Reading) → IsTrue ((S.run calc.new).is_open e) → boxes_at S.at out.new.items e
         ≡ boxes_at S.at out.old.items e ++ entry_of page.now.tree.now e.world (apart_at S.at page.now.apart.now e)
         (entry_at S.at entry e) }
+    ensures cause { BlamesButMem (S.run calc.old) (S.run calc.new) ((e : Reading) → IsTrue ((S.run calc.old).is_open e)
+        → AreApartLow (apart_at S.at page.now.apart.now e) × IsEntryLow (entry_at S.at entry e)) }
 {
     match entry {
         Entry::Here(placed) => append(calc, out, placed),
@@ -257,6 +272,9 @@ fn add_entries<S: Steady>(
     ensures value { (e : Reading) → IsTrue ((S.run calc.new).is_open e) → boxes_at S.at out.new.items e
         ≡ boxes_at S.at out.old.items e ++ flat_map (entry_of page.now.tree.now e.world
         (apart_at S.at page.now.apart.now e)) (entries_at S.at entries.items e) }
+    ensures cause { BlamesButMem (S.run calc.old) (S.run calc.new) ((e : Reading) → IsTrue ((S.run calc.old).is_open e)
+        → AreApartLow (apart_at S.at page.now.apart.now e)
+        × AllByRecursion IsEntryLow (entries_at S.at entries.items e)) }
 {
     for entry in entries {
         add_entry(calc, page, entry, out);
@@ -268,6 +286,8 @@ fn least_top<S: Steady>(calc: &mut S, least: &Option<S::Num>, top: &S::Num) -> S
     ensures goes { Goes (S.run calc.old) (S.run calc.new) }
     ensures value { Stands (S.run calc.new) (S.at result)
         (λ e. unwrap_or (option_at S.at least.now e) (S.at top.now e)) }
+    ensures cause { Blames (S.run calc.old) (S.run calc.new) ((e : Reading) → IsTrue ((S.run calc.old).is_open e)
+        → AreLevelsLow (option_at S.at least.now e) × IsNear (S.at top.now e)) }
 {
     match least {
         Some(least) => calc.copy(least),
@@ -291,6 +311,9 @@ fn lines_in<S: Steady>(
         ≡ lines_of page.now.tree.now e.world (apart_at S.at page.now.apart.now e) b (stretch_at S.at cb.now e)
         (S.at top.now e) (context_at S.at context.old e) }
     ensures least { context.new.least ≡ context.old.least }
+    ensures cause { BlamesButMem (S.run calc.old) (S.run calc.new) ((e : Reading) → IsTrue ((S.run calc.old).is_open e)
+        → InLinesFit page.now.tree.now e.world (apart_at S.at page.now.apart.now e) b (stretch_at S.at cb.now e)
+        (S.at top.now e) (context_at S.at context.old e)) }
 {
     let table = inner_table(alloc, calc, page, b);
     let container = Container {
@@ -324,6 +347,9 @@ pub fn in_lines<S: Steady>(
         ≡ boxes_at S.at out.old.items e ++ (lines_step page.now.tree.now e.world
         (apart_at S.at page.now.apart.now e) b (stretch_at S.at cb.now e) (S.at top.now e)
         (context_at S.at context.old e)).boxes }
+    ensures cause { BlamesButMem (S.run calc.old) (S.run calc.new) ((e : Reading) → IsTrue ((S.run calc.old).is_open e)
+        → InLinesFit page.now.tree.now e.world (apart_at S.at page.now.apart.now e) b (stretch_at S.at cb.now e)
+        (S.at top.now e) (context_at S.at context.old e)) }
 {
     let Laid { lines, floats } = lines_in(alloc, calc, page, b, cb, top, context);
     let standing = below(calc, &lines.bottom);

@@ -2,13 +2,15 @@
 ghost use Rattle.std.specs.Prelude.{◌≡◌, ◌<◌, length, replicate, set, Some, None, IfOk, IfSome, IsTrue, filter};
 ghost use Rattle.std.specs.List.{AllByRecursion};
 ghost use Rattle.viz_calc.specs.World.{Reading};
-ghost use Rattle.viz_calc.specs.Run.{Goes};
+ghost use Rattle.viz_calc.specs.Run.{Goes, BlamesButMem};
 ghost use Rattle.viz_calc.specs.Renderings.{rendering_at};
 ghost use Rattle.layout_semantics.specs.InlineContent.{is_floated_at};
 ghost use Rattle.layout_semantics.specs.Page.{page_rendering};
 ghost use Rattle.lay_block.specs.steps.Readings.{boxes_at};
 ghost use Rattle.lay_preferred.specs.Readings.{AreFound};
 ghost use Rattle.flow_steps.specs.Tables.{outside_of as outside, page_boxes};
+ghost use Rattle.lay_flow.specs.AloneFits.{BoxAddedFits, BoxesAddedFit, ContainerFits, PageComesFit, TableFits};
+ghost use Rattle.lay_flow.specs.WalkFits.{AllFit};
 ghost use Rattle.lay_flow.specs.Readings.{table_at};
 ghost use Rattle.lay_flow.specs.steps.Flow.{with_box, with_boxes, with_container as with_container_of, table_to};
 
@@ -83,6 +85,8 @@ fn add_box<S: Steady>(
     ensures found { AreFound S.at (S.run calc.new) tree.now found.new.widths.items }
     ensures value { (e : Reading) → IsTrue ((S.run calc.new).is_open e) → table_at S.at table.new.places.items e
         ≡ with_box tree.now e.world height (table_at S.at table.old.places.items e) k }
+    ensures cause { BlamesButMem (S.run calc.old) (S.run calc.new) (AllFit tree.now (S.run calc.old).is_open
+        (λ e. BoxAddedFits tree.now e.world height (table_at S.at table.old.places.items e) k)) }
 {
     let room = room(alloc, calc, tree, height, found, u64::from(k) + 1, k);
     let page = Page {
@@ -110,6 +114,8 @@ fn add_boxes<S: Steady>(
     ensures found { AreFound S.at (S.run calc.new) tree.now found.new.widths.items }
     ensures value { (e : Reading) → IsTrue ((S.run calc.new).is_open e) → table_at S.at table.new.places.items e
         ≡ with_boxes tree.now e.world height (table_at S.at table.old.places.items e) boxes.now }
+    ensures cause { BlamesButMem (S.run calc.old) (S.run calc.new) (AllFit tree.now (S.run calc.old).is_open
+        (λ e. BoxesAddedFit tree.now e.world height (table_at S.at table.old.places.items e) boxes.now)) }
 {
     for k in boxes {
         add_box(alloc, calc, tree, height, found, *k, table);
@@ -133,6 +139,8 @@ fn add_container<S: Steady>(
     ensures found { AreFound S.at (S.run calc.new) tree.now found.new.widths.items }
     ensures value { (e : Reading) → IsTrue ((S.run calc.new).is_open e) → table_at S.at table.new.places.items e
         ≡ with_container_of tree.now e.world height (table_at S.at table.old.places.items e) b }
+    ensures cause { BlamesButMem (S.run calc.old) (S.run calc.new) (AllFit tree.now (S.run calc.old).is_open
+        (λ e. ContainerFits tree.now e.world height (table_at S.at table.old.places.items e) b)) }
 {
     if matches!(kind_at(tree, b), Kind::Inline) {
         return;
@@ -184,6 +192,8 @@ fn fill<S: Steady>(
     ensures found { AreFound S.at (S.run calc.new) tree.now found.new.widths.items }
     ensures value { (e : Reading) → IsTrue ((S.run calc.new).is_open e) → table_at S.at table.new.places.items e
         ≡ table_to tree.now e.world height (length tree.now.boxes) }
+    ensures cause { BlamesButMem (S.run calc.old) (S.run calc.new) (AllFit tree.now (S.run calc.old).is_open
+        (λ e. TableFits tree.now e.world height)) }
 {
     for done in 0..count {
         add_container(alloc, calc, tree, height, found, count - 1 - done, table);
@@ -203,6 +213,8 @@ fn outside_flow<S: Steady>(
     ensures found { AreFound S.at (S.run calc.new) tree.now found.new.widths.items }
     ensures value { (e : Reading) → IsTrue ((S.run calc.new).is_open e) → table_at S.at result.places.items e
         ≡ table_to tree.now e.world height (length tree.now.boxes) }
+    ensures cause { BlamesButMem (S.run calc.old) (S.run calc.new) (AllFit tree.now (S.run calc.old).is_open
+        (λ e. TableFits tree.now e.world height)) }
 {
     match table_of(alloc, tree) {
         Some((count, mut table)) => {
@@ -223,6 +235,8 @@ fn boxes<S: Steady>(alloc: Global, calc: &mut S, tree: &BoxTree, height: u32) ->
     ensures goes { Goes (S.run calc.old) (S.run calc.new) }
     ensures value { (e : Reading) → IsTrue ((S.run calc.new).is_open e)
         → boxes_at S.at result.items e ≡ page_boxes tree.now e.world height }
+    ensures cause { BlamesButMem (S.run calc.old) (S.run calc.new) (AllFit tree.now (S.run calc.old).is_open
+        (λ e. PageComesFit tree.now e.world height)) }
 {
     if tree.boxes.is_empty() {
         return Vec::new(alloc);
@@ -248,6 +262,8 @@ pub fn render<S: Steady>(
     ensures goes { Goes (S.run calc.old) (S.run calc.new) }
     ensures value { (e : Reading) → IsTrue ((S.run calc.new).is_open e)
         → rendering_at S.at result e ≡ page_rendering tree.now e.world height }
+    ensures cause { BlamesButMem (S.run calc.old) (S.run calc.new) (AllFit tree.now (S.run calc.old).is_open
+        (λ e. PageComesFit tree.now e.world height)) }
 {
     let boxes = List::from(boxes(alloc, calc, tree, height));
     Rendering { boxes }

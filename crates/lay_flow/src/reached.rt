@@ -2,7 +2,7 @@
 ghost use Rattle.std.specs.Prelude.{◌≡◌, ◌<◌, ℕ, ℤ, ◌-ℤ◌, false, length, IsTrue};
 ghost use Rattle.std.specs.Int.{int_max, int_min};
 ghost use Rattle.viz_calc.specs.World.{Reading};
-ghost use Rattle.viz_calc.specs.Run.{Stands, Goes};
+ghost use Rattle.viz_calc.specs.Run.{Stands, Goes, Blames, BlamesButMem};
 ghost use Rattle.layout_semantics.specs.Flow.{raised as raised_of, Alone as AloneOf};
 ghost use Rattle.lay_block.specs.steps.Readings.{frame_at};
 ghost use Rattle.lay_float.specs.Readings.{stretch_at, option_at};
@@ -11,7 +11,12 @@ ghost use Rattle.lay_margin.specs.Runs.{run_at, no_run};
 ghost use Rattle.flow_steps.specs.Flow.{is_at_top as at_top, below as below_of};
 ghost use Rattle.flow_steps.specs.Forward.{cleared_of as cleared_in};
 ghost use Rattle.lay_flow.specs.Readings.{apart_at, base_at, cleared_at, context_at, end_at, found_at, met_at, standing_at};
+ghost use Rattle.lay_flow.specs.WayFits.{ForwardFits, FromFits, ReachFits};
 ghost use Rattle.lay_flow.specs.steps.Flow.{forward_of, opened, reached_from as from_of, reached_of, standing_after as after_of, standing_in};
+ghost use Rattle.lay_flow.specs.Low.{AreLevelsLow, IsBandLow, IsClearedLow, IsFrameLow, IsLevelLow, IsRunLow, IsStandingLow};
+ghost use Rattle.lay_flow.specs.Fits.{IsNear};
+ghost use Rattle.lay_block.specs.Fitting.{VerticalsFit};
+ghost use Rattle.layout_semantics.specs.FlowBoxes.{across as across_of};
 
 use crate::forward::{Way, forward};
 use crate::parts::{Base, Cleared, Context, End, Going, Laid, Met, Page, Reached, Standing};
@@ -51,6 +56,9 @@ fn go<S: Steady>(
     ensures value { (e : Reading) → IsTrue ((S.run calc.new).is_open e) → found_at S.at result.going result.end e
         ≡ forward_of page.now.tree.now e.world (apart_at S.at page.now.apart.now e) (base_at S.at base.now e)
         (passed_by past) (stretch_at S.at cb.now e) (context_at S.at context.now e) b (run_at S.at run e) }
+    ensures cause { BlamesButMem (S.run calc.old) (S.run calc.new) ((e : Reading) → IsTrue ((S.run calc.old).is_open e)
+        → ForwardFits page.now.tree.now e.world (apart_at S.at page.now.apart.now e) (stretch_at S.at cb.now e)
+        (context_at S.at context.now e) b (base_at S.at base.now e) (passed_by past) (run_at S.at run e)) }
 {
     let mut going = Going {
         run,
@@ -85,6 +93,8 @@ fn copy_cleared<S: Steady>(
     ensures goes { Goes (S.run calc.old) (S.run calc.new) }
     ensures value { (e : Reading) → IsTrue ((S.run calc.new).is_open e)
         → cleared_at S.at result e ≡ cleared_at S.at cleared.now e }
+    ensures cause { Blames (S.run calc.old) (S.run calc.new) ((e : Reading) → IsTrue ((S.run calc.old).is_open e)
+        → IsClearedLow (cleared_at S.at cleared.now e)) }
 {
     match cleared {
         Some(cleared) => {
@@ -116,6 +126,9 @@ fn reached_from<S: Steady>(
     ensures value { (e : Reading) → IsTrue ((S.run calc.new).is_open e) → met_at S.at result e
         ≡ from_of page.now.tree.now e.world (apart_at S.at page.now.apart.now e) (stretch_at S.at cb.now e)
         (context_at S.at context.now e) b (S.at y e) (cleared_at S.at cleared e) (run_at S.at own e) }
+    ensures cause { BlamesButMem (S.run calc.old) (S.run calc.new) ((e : Reading) → IsTrue ((S.run calc.old).is_open e)
+        → FromFits page.now.tree.now e.world (apart_at S.at page.now.apart.now e) (stretch_at S.at cb.now e)
+        (context_at S.at context.now e) b (cleared_at S.at cleared e)) }
 {
     match cleared {
         None => Met {
@@ -169,6 +182,9 @@ pub fn reach<S: Steady>(
     ensures value { (e : Reading) → IsTrue ((S.run calc.new).is_open e) → met_at S.at result e
         ≡ reached_of page.now.tree.now e.world (apart_at S.at page.now.apart.now e) (stretch_at S.at cb.now e)
         (context_at S.at context.now e) b }
+    ensures cause { BlamesButMem (S.run calc.old) (S.run calc.new) ((e : Reading) → IsTrue ((S.run calc.old).is_open e)
+        → ReachFits page.now.tree.now e.world (apart_at S.at page.now.apart.now e) (stretch_at S.at cb.now e)
+        (context_at S.at context.now e) b) }
 {
     match &context.standing {
         Standing::AtTop { y, cleared } => {
@@ -209,6 +225,8 @@ pub fn below<S: Steady>(calc: &mut S, edge: &S::Num) -> Standing<S::Num>
     ensures goes { Goes (S.run calc.old) (S.run calc.new) }
     ensures value { (e : Reading) → IsTrue ((S.run calc.new).is_open e)
         → standing_at S.at result e ≡ below_of (S.at edge.now e) no_run false }
+    ensures cause { Blames (S.run calc.old) (S.run calc.new) ((e : Reading) → IsTrue ((S.run calc.old).is_open e)
+        → IsNear (S.at edge.now e)) }
 {
     let edge = calc.copy(edge);
     let run = empty(calc);
@@ -224,6 +242,8 @@ pub fn copy_standing<S: Steady>(calc: &mut S, standing: &Standing<S::Num>) -> St
     ensures goes { Goes (S.run calc.old) (S.run calc.new) }
     ensures value { (e : Reading) → IsTrue ((S.run calc.new).is_open e)
         → standing_at S.at result e ≡ standing_at S.at standing.now e }
+    ensures cause { Blames (S.run calc.old) (S.run calc.new) ((e : Reading) → IsTrue ((S.run calc.old).is_open e)
+        → IsStandingLow (standing_at S.at standing.now e)) }
 {
     match standing {
         Standing::AtTop { y, cleared } => {
@@ -255,6 +275,8 @@ pub fn standing_in<S: Steady>(
     ensures goes { Goes (S.run calc.old) (S.run calc.new) }
     ensures value { (e : Reading) → IsTrue ((S.run calc.new).is_open e) → standing_at S.at result e
         ≡ standing_in tree.now b (cleared_at S.at cleared e) (frame_at S.at shape.now e) }
+    ensures cause { Blames (S.run calc.old) (S.run calc.new) ((e : Reading) → IsTrue ((S.run calc.old).is_open e)
+        → IsFrameLow (frame_at S.at shape.now e)) }
 {
     if is_open_above(tree, b) {
         let y = calc.copy(&shape.corner.y);
@@ -270,6 +292,8 @@ pub fn raised<S: Steady>(calc: &mut S, least: &Option<S::Num>, y: S::Num) -> Opt
     ensures goes { Goes (S.run calc.old) (S.run calc.new) }
     ensures value { (e : Reading) → IsTrue ((S.run calc.new).is_open e)
         → option_at S.at result e ≡ raised_of (option_at S.at least.now e) (S.at y e) }
+    ensures cause { Blames (S.run calc.old) (S.run calc.new) ((e : Reading) → IsTrue ((S.run calc.old).is_open e)
+        → AreLevelsLow (option_at S.at least.now e)) }
 {
     match least {
         Some(least) => {
@@ -284,6 +308,8 @@ pub fn raised<S: Steady>(calc: &mut S, least: &Option<S::Num>, y: S::Num) -> Opt
 fn greater_of<S: Steady>(calc: &mut S, y: S::Num, least: &S::Num) -> S::Num
     ensures goes { Goes (S.run calc.old) (S.run calc.new) }
     ensures value { Stands (S.run calc.new) (S.at result) (λ e. int_max (S.at y e) (S.at least.now e)) }
+    ensures cause { Blames (S.run calc.old) (S.run calc.new) ((e : Reading) → IsTrue ((S.run calc.old).is_open e)
+        → IsLevelLow (S.at least.now e)) }
 {
     let least = calc.copy(least);
     greater(calc, y, least)
@@ -294,6 +320,8 @@ fn outer_top<S: Steady>(calc: &mut S, shape: &Shape<S::Num>) -> S::Num
     ensures goes { Goes (S.run calc.old) (S.run calc.new) }
     ensures value { Stands (S.run calc.new) (S.at result) (λ e. int_min (S.at shape.now.corner.y e)
         (S.at shape.now.corner.y e -ℤ S.at shape.now.v.margin_top e)) }
+    ensures cause { Blames (S.run calc.old) (S.run calc.new) ((e : Reading) → IsTrue ((S.run calc.old).is_open e)
+        → IsFrameLow (frame_at S.at shape.now e)) }
 {
     let top = calc.copy(&shape.corner.y);
     let outer = calc.sub(&shape.corner.y, &shape.v.margin_top);
@@ -312,6 +340,8 @@ pub fn open<S: Steady>(
     ensures before { result ≡ context.old.standing }
     ensures value { (e : Reading) → IsTrue ((S.run calc.new).is_open e) → context_at S.at context.new e
         ≡ opened (context_at S.at context.old e) (frame_at S.at shape.now e) (standing_at S.at standing e) }
+    ensures cause { Blames (S.run calc.old) (S.run calc.new) ((e : Reading) → IsTrue ((S.run calc.old).is_open e)
+        → AreLevelsLow (option_at S.at context.old.least e) × IsFrameLow (frame_at S.at shape.now e)) }
 {
     let top = outer_top(calc, shape);
     context.least = raised(calc, &context.least, top);
@@ -341,6 +371,10 @@ pub fn standing_after<S: Steady>(
         → standing_at S.at result e ≡ after_of tree.now e.world apart (stretch_at S.at cb.now e)
         (standing_at S.at before e) b (met_at S.at met e) laid.through (S.at laid.bottom e)
         (run_at S.at laid.margins e) }
+    ensures cause { Blames (S.run calc.old) (S.run calc.new) ((e : Reading) → IsTrue ((S.run calc.old).is_open e)
+        → IsBandLow (stretch_at S.at cb.now e)
+        × (VerticalsFit tree.now e.world b (across_of (stretch_at S.at cb.now e))
+        × (IsLevelLow (S.at met.reached.top e) × IsRunLow (run_at S.at met.own e)))) }
 {
     if !laid.through {
         return Standing::Below {

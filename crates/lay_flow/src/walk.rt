@@ -2,13 +2,16 @@
 ghost use Rattle.std.specs.Prelude.{◌≡◌, ◌<◌, ◌++◌, ℕ, ℤ, Bool, length, slice_index_or, IsTrue};
 ghost use Rattle.std.specs.Option.{option_or};
 ghost use Rattle.viz_calc.specs.World.{Reading};
-ghost use Rattle.viz_calc.specs.Run.{Goes};
+ghost use Rattle.viz_calc.specs.Run.{Goes, Blames, BlamesButMem};
 ghost use Rattle.lay_block.specs.steps.Readings.{frame_at, boxes_at};
 ghost use Rattle.lay_float.specs.Readings.{stretch_at, option_at};
 ghost use Rattle.lay_margin.specs.Runs.{run_at, with_margin};
 ghost use Rattle.flow_steps.specs.Flow.{fresh as fresh_of};
+ghost use Rattle.lay_flow.specs.WalkFits.{AllFit, WalkFits, before_content, before_children, before_child, before_flow, when_reached, when_starting, when_going_on};
 ghost use Rattle.lay_flow.specs.Readings.{apart_at, cleared_at, context_at, laid_with, without_boxes};
 ghost use Rattle.lay_flow.specs.steps.Flow.{float_of, left, laid_replaced as replaced_step, laid_context as context_step, laid_block as block_step, laid_of, in_flow, child_of, children_of, content_of};
+ghost use Rattle.lay_flow.specs.Low.{AreLevelsLow, IsAloneLow, IsBandLow, IsContextLow, IsFrameLow};
+ghost use Rattle.lay_flow.specs.Fits.{IsNear, IsReplacedFit};
 
 use crate::floating::{add_apart, place_float, size_of};
 use crate::frames::{block_box, context_box, replaced_box, shape};
@@ -38,6 +41,8 @@ pub fn fresh<S: Steady>(alloc: Global, calc: &mut S, top: &S::Num) -> Context<S:
     ensures goes { Goes (S.run calc.old) (S.run calc.new) }
     ensures value { (e : Reading) → IsTrue ((S.run calc.new).is_open e)
         → context_at S.at result e ≡ fresh_of (S.at top.now e) }
+    ensures cause { Blames (S.run calc.old) (S.run calc.new) ((e : Reading) → IsTrue ((S.run calc.old).is_open e)
+        → IsNear (S.at top.now e)) }
 {
     let standing = below(calc, top);
     Context {
@@ -66,6 +71,10 @@ fn float<S: Steady>(
     ensures boxes { (e : Reading) → IsTrue ((S.run calc.new).is_open e) → boxes_at S.at out.new.items e
         ≡ boxes_at S.at out.old.items e ++ (float_of page.now.tree.now e.world (apart_at S.at page.now.apart.now e)
         (stretch_at S.at cb.now e) (S.at top.now e) (context_at S.at context.old e) k).boxes }
+    ensures cause { BlamesButMem (S.run calc.old) (S.run calc.new) ((e : Reading) → IsTrue ((S.run calc.old).is_open e)
+        → IsContextLow (context_at S.at context.old e)
+        × (IsBandLow (stretch_at S.at cb.now e) × (IsNear (S.at top.now e)
+        × IsAloneLow (apart_at S.at page.now.apart.now e k)))) }
 {
     let size = size_of(calc, page.apart, k);
     let edge = next_edge(calc, &context.standing);
@@ -89,6 +98,8 @@ fn closing<S: Steady>(calc: &mut S, run: Run<S::Num>, shape: &Shape<S::Num>) -> 
     ensures goes { Goes (S.run calc.old) (S.run calc.new) }
     ensures value { (e : Reading) → IsTrue ((S.run calc.new).is_open e) → run_at S.at result e
         ≡ with_margin (run_at S.at run e) (S.at shape.now.v.margin_bottom e) }
+    ensures cause { Blames (S.run calc.old) (S.run calc.new) ((e : Reading) → IsTrue ((S.run calc.old).is_open e)
+        → IsFrameLow (frame_at S.at shape.now e)) }
 {
     let mut run = run;
     join(calc, &mut run, &shape.v.margin_bottom);
@@ -115,6 +126,9 @@ fn lay_replaced<S: Steady>(
         ≡ boxes_at S.at out.old.items e ++ (replaced_step page.now.tree.now e.world page.now.height
         (apart_at S.at page.now.apart.now e) (S.at room.now e) (context_at S.at context.old e) b
         (frame_at S.at shape.now e)).after.boxes }
+    ensures cause { BlamesButMem (S.run calc.old) (S.run calc.new) ((e : Reading) → IsTrue ((S.run calc.old).is_open e)
+        → IsReplacedFit page.now.tree.now e.world page.now.height b (S.at room.now e)
+        × (AreLevelsLow (option_at S.at context.old.least e) × IsFrameLow (frame_at S.at shape.now e))) }
 {
     let top = content_top(calc, shape);
     let standing = below(calc, &top);
@@ -153,6 +167,8 @@ fn leave<S: Steady>(
     ensures goes { Goes (S.run calc.old) (S.run calc.new) }
     ensures value { (e : Reading) → IsTrue ((S.run calc.new).is_open e) → context_at S.at context.new e
         ≡ left (context_at S.at context.old e) (frame_at S.at shape.now e) (context_at S.at own e) }
+    ensures cause { Blames (S.run calc.old) (S.run calc.new) ((e : Reading) → IsTrue ((S.run calc.old).is_open e)
+        → AreLevelsLow (option_at S.at context.old.least e) × IsFrameLow (frame_at S.at shape.now e)) }
 {
     let Context {
         standing,
@@ -188,6 +204,10 @@ fn lay_context<S: Steady>(
         ≡ boxes_at S.at out.old.items e ++ (context_step page.now.tree.now e.world page.now.height
         (apart_at S.at page.now.apart.now e) (stretch_at S.at cb.now e) (context_at S.at context.old e) b
         (frame_at S.at shape.now e)).after.boxes }
+    ensures cause { BlamesButMem (S.run calc.old) (S.run calc.new)
+        (AllFit page.now.tree.now (S.run calc.old).is_open (λ e. WalkFits page.now.tree.now e.world page.now.height
+        (apart_at S.at page.now.apart.now e) (when_starting (stretch_at S.at cb.now e)
+        (context_at S.at context.old e) b (frame_at S.at shape.now e)))) }
 {
     let band = content_band(calc, &cb.left, &shape.x);
     let top = content_top(calc, shape);
@@ -231,6 +251,10 @@ fn lay_block<S: Steady>(
         ≡ boxes_at S.at out.old.items e ++ (block_step page.now.tree.now e.world page.now.height
         (apart_at S.at page.now.apart.now e) (stretch_at S.at cb.now e) (context_at S.at context.old e) b
         (cleared_at S.at cleared e) (frame_at S.at shape.now e)).after.boxes }
+    ensures cause { BlamesButMem (S.run calc.old) (S.run calc.new)
+        (AllFit page.now.tree.now (S.run calc.old).is_open (λ e. WalkFits page.now.tree.now e.world page.now.height
+        (apart_at S.at page.now.apart.now e) (when_going_on (stretch_at S.at cb.now e)
+        (context_at S.at context.old e) b (cleared_at S.at cleared e) (frame_at S.at shape.now e)))) }
 {
     let band = content_band(calc, &cb.left, &shape.x);
     let top = content_top(calc, shape);
@@ -276,6 +300,10 @@ fn lay<S: Steady>(
         ++ (laid_of page.now.tree.now e.world page.now.height (apart_at S.at page.now.apart.now e)
         (stretch_at S.at cb.now e) (context_at S.at context.old e) b
         (record { top = S.at top.now e; clears = clears; cleared = cleared_at S.at cleared e })).after.boxes }
+    ensures cause { BlamesButMem (S.run calc.old) (S.run calc.new)
+        (AllFit page.now.tree.now (S.run calc.old).is_open (λ e. WalkFits page.now.tree.now e.world page.now.height
+        (apart_at S.at page.now.apart.now e) (when_reached (stretch_at S.at cb.now e)
+        (context_at S.at context.old e) b (S.at top.now e) (cleared_at S.at cleared e)))) }
 {
     let shape = shape(alloc, calc, page, cb, b, top);
     if is_replaced(page.tree, b) {
@@ -308,6 +336,10 @@ fn flow<S: Steady>(
     ensures boxes { (e : Reading) → IsTrue ((S.run calc.new).is_open e) → boxes_at S.at out.new.items e
         ≡ boxes_at S.at out.old.items e ++ (in_flow page.now.tree.now e.world page.now.height
         (apart_at S.at page.now.apart.now e) (stretch_at S.at cb.now e) (context_at S.at context.old e) b).boxes }
+    ensures cause { BlamesButMem (S.run calc.old) (S.run calc.new)
+        (AllFit page.now.tree.now (S.run calc.old).is_open (λ e. WalkFits page.now.tree.now e.world page.now.height
+        (apart_at S.at page.now.apart.now e) (before_flow (stretch_at S.at cb.now e)
+        (context_at S.at context.old e) b))) }
 {
     let mut met = reach(alloc, calc, page, cb, context, b);
     let before = copy_standing(calc, &context.standing);
@@ -348,6 +380,10 @@ fn child<S: Steady>(
         ≡ boxes_at S.at out.old.items e ++ (child_of page.now.tree.now e.world page.now.height
         (apart_at S.at page.now.apart.now e) (stretch_at S.at cb.now e) (S.at top.now e)
         (context_at S.at context.old e) k).boxes }
+    ensures cause { BlamesButMem (S.run calc.old) (S.run calc.new)
+        (AllFit page.now.tree.now (S.run calc.old).is_open (λ e. WalkFits page.now.tree.now e.world page.now.height
+        (apart_at S.at page.now.apart.now e) (before_child (stretch_at S.at cb.now e) (S.at top.now e)
+        (context_at S.at context.old e) k))) }
 {
     if floats_at(page.tree, k) {
         float(calc, page, cb, top, context, k, out);
@@ -380,6 +416,10 @@ fn children<S: Steady>(
         ≡ boxes_at S.at out.old.items e ++ (children_of page.now.tree.now e.world page.now.height
         (apart_at S.at page.now.apart.now e) (stretch_at S.at cb.now e) (S.at top.now e)
         (context_at S.at context.old e) boxes.now).boxes }
+    ensures cause { BlamesButMem (S.run calc.old) (S.run calc.new)
+        (AllFit page.now.tree.now (S.run calc.old).is_open (λ e. WalkFits page.now.tree.now e.world page.now.height
+        (apart_at S.at page.now.apart.now e) (before_children (stretch_at S.at cb.now e) (S.at top.now e)
+        (context_at S.at context.old e) boxes.now))) }
 {
     for k in boxes {
         child(alloc, calc, page, cb, top, context, *k, out);
@@ -407,6 +447,10 @@ pub fn content<S: Steady>(
         ≡ boxes_at S.at out.old.items e ++ (content_of page.now.tree.now e.world page.now.height
         (apart_at S.at page.now.apart.now e) b (stretch_at S.at cb.now e) (S.at top.now e)
         (context_at S.at context.old e)).boxes }
+    ensures cause { BlamesButMem (S.run calc.old) (S.run calc.new)
+        (AllFit page.now.tree.now (S.run calc.old).is_open (λ e. WalkFits page.now.tree.now e.world page.now.height
+        (apart_at S.at page.now.apart.now e) (before_content b (stretch_at S.at cb.now e)
+        (S.at top.now e) (context_at S.at context.old e)))) }
 {
     let tree = page.tree;
     if has_line(tree, b) {

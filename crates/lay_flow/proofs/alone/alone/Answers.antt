@@ -1,9 +1,14 @@
-use Rattle.std.proofs.Common.{◌≡◌, true, false, arith}
+use Rattle.std.proofs.Common.{◌≡◌, true, false, sym, subst, arith}
+use Rattle.viz_calc.specs.World.{Reading}
 use Rattle.viz_calc.proofs.Runs.{Goes-then}
 use Rattle.layout_semantics.specs.FlowBoxes.{is_replaced_at}
 use Rattle.lay_preferred.proofs.Founds.{found-later}
 use Rattle.lay_block.specs.steps.Readings.{frame_at}
 use Rattle.lay_flow.specs.Readings.{alone_at, apart_at}
+use Rattle.layout_semantics.specs.Rectangles.{Frame}
+use Rattle.lay_flow.specs.AloneFits.{AloneFits, RootFits}
+use Rattle.lay_flow.specs.Low.{IsFrameLow}
+use Rattle.lay_flow.proofs.Givens.{first, more}
 use Rattle.lay_flow.proofs.AloneBoxes.{from-replaced, from-context}
 use Rattle.lay_flow.proofs.alone.alone.Goals as goal
 
@@ -38,3 +43,33 @@ returns-clause-value g c = λ e o.
     let is : is_replaced_at tree c.args.b ≡ false = grind arith in
     from-context tree e.world page.height (apart_at at page.apart.now e) c.args.b (at c.args.room.now e) (alone_at at c.context_alone.result e) (frame_at at c.corner_shape-shape.result e) is
     (c.context_alone.ensures.value e o) (c.corner_shape-shape.ensures.value e (c.context_alone.ensures.goes.closes e o))
+
+pub returns-then-is_replaced-clause-cause : goal.returns-then-is_replaced-clause-cause
+returns-then-is_replaced-clause-cause g c =
+    let at = g.S.Steady.at in
+    let page = c.args.page.now in
+    let tree = page.tree.now in
+    let b = c.args.b in
+    let asks = (λ (e : Reading). AloneFits tree e.world page.height (apart_at at page.apart.now e) b (at c.args.room.now e)) in
+    let is : is_replaced_at tree b ≡ true = grind arith in
+    let shape = c.corner_shape-shape.ensures in
+    let laid = c.replaced_alone.ensures in
+    let one = first {tree = tree} {asks = asks} shape.goes shape.cause (λ a. (a.0, λ e o. (a.1 e o).shape)) in
+    (more one laid.goes laid.cause (λ a e o. ((a.1 e o).replaced is, subst IsFrameLow (sym (shape.value e o)) (a.1 e o).frame))).cause
+
+pub returns-clause-cause : goal.returns-clause-cause
+returns-clause-cause g c =
+    let at = g.S.Steady.at in
+    let page = c.args.page.now in
+    let tree = page.tree.now in
+    let b = c.args.b in
+    let asks = (λ (e : Reading). AloneFits tree e.world page.height (apart_at at page.apart.now e) b (at c.args.room.now e)) in
+    let is : is_replaced_at tree b ≡ false = grind arith in
+    let shape = c.corner_shape-shape.ensures in
+    let laid = c.context_alone.ensures in
+    let one = first {tree = tree} {asks = asks} shape.goes shape.cause (λ a. (a.0, λ e o. (a.1 e o).shape)) in
+    (more one laid.goes laid.cause (λ a. (
+      a.0,
+      λ e o.
+          subst (λ (f : Frame). RootFits tree e.world page.height (apart_at at page.apart.now e) b f) (sym (shape.value e o)) ((a.1 e o).root is),
+    ))).cause

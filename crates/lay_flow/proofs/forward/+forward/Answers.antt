@@ -1,23 +1,179 @@
-use Rattle.std.proofs.Common.{arith}
+use Rattle.std.proofs.Common.{◌≡◌, true, false, ◌+◌, drop, get_or, IsTrue, arith, ap, sym, subst, ◌∙◌}
+use Rattle.std.proofs.lemmas.List.{drop_more}
 use Rattle.std.proofs.lemmas.Grind.{common_steps}
-use Rattle.lay_float.specs.Readings.{stretch_at}
+use Rattle.viz_calc.specs.Run.{Goes, BlamesButMem}
+use Rattle.viz_calc.specs.World.{Reading}
+use Rattle.viz_calc.proofs.Runs.{Goes-then, BlamesButMem-then}
+use Rattle.layout_semantics.specs.FlowBoxes.{flow_children}
+use Rattle.layout_semantics.specs.InlineContent.{is_floated_at, holds_inline}
+use Rattle.lay_float.specs.Readings.{boxes_at, option_at, stretch_at}
+use Rattle.lay_line.proofs.Chains.{but_mem, start_but_mem, next_but_mem}
 use Rattle.lay_margin.specs.Readings.{floats_at}
 use Rattle.lay_margin.specs.Runs.{run_at}
-use Rattle.lay_flow.proofs.Ways.{way-inside}
+use Rattle.lay_margin.specs.steps.Leads.{enters, inner_band}
+use Rattle.lay_margin.proofs.Kids.{flow-kids}
+use Rattle.flow_steps.specs.Forward.{Found, kid_of}
+use Rattle.lay_flow.specs.Readings.{apart_at, base_at, end_at}
+use Rattle.lay_flow.specs.Ways.{way_at, kids_at_reading, WayFitsAt, KidsFitAt, KidFitsAt}
+use Rattle.lay_flow.specs.declared.parts.End.TheVariants.{GoesOn}
+use Rattle.lay_flow.specs.steps.Walk.{size_in}
+use Rattle.lay_flow.proofs.Ways.{way-inside as one-step}
+use Rattle.lay_flow.proofs.WaysLow.{kids-on, way-decides, way-above, way-below, way-band, way-inside, kids-first, kids-later}
 use Rattle.lay_flow.proofs.forward.+forward.Goals.{forward-else-stops_at-via-else-stops_at, forward-else-stops_at-via-then-stops_at+in-None-1}
 use Rattle.lay_flow.proofs.forward.+forward.Goals as goal
 
 pub forward-returns-clause-value : goal.forward-returns-clause-value
 forward-returns-clause-value g t c = λ e o.
     let at = g.S.Steady.at in
-    let is = way-inside at c.args.way.now e (stretch_at at c.args.cb.now e) c.args.b (run_at at c.args.going.now.run e) (floats_at at c.args.going.now.waiting e) c.requires in
+    let is = one-step at c.args.way.now e (stretch_at at c.args.cb.now e) c.args.b (run_at at c.args.going.now.run e) (floats_at at c.args.going.now.waiting e) c.requires in
     grind (arith, common_steps)
 
 pub forward-returns-2-clause-value : goal.forward-returns-2-clause-value
 forward-returns-2-clause-value g t c = λ e o.
     let at = g.S.Steady.at in
-    let is = way-inside at c.args.way.now e (stretch_at at c.args.cb.now e) c.args.b (run_at at c.args.going.now.run e) (floats_at at c.args.going.now.waiting e) c.requires in
+    let is = one-step at c.args.way.now e (stretch_at at c.args.cb.now e) c.args.b (run_at at c.args.going.now.run e) (floats_at at c.args.going.now.waiting e) c.requires in
     elim c.else-stops_at.branch [
       | forward-else-stops_at-via-else-stops_at w ↦ grind (arith, common_steps)
       | forward-else-stops_at-via-then-stops_at+in-None-1 w ↦ grind (arith, common_steps)
     ]
+
+-- ---- causes
+
+pub forward-returns-clause-cause : goal.forward-returns-clause-cause
+forward-returns-clause-cause g t c =
+    let at = g.S.Steady.at in
+    let way = c.args.way.now in
+    let cb = (λ (e : Reading). stretch_at at c.args.cb.now e) in
+    let run = (λ (e : Reading). run_at at c.args.going.now.run e) in
+    let waiting = (λ (e : Reading). floats_at at c.args.going.now.waiting e) in
+    (start_but_mem {asks = λ (e : Reading). WayFitsAt at way e (cb e) c.args.b (run e) (waiting e)} c.decided.ensures.goes c.decided.ensures.cause
+    (λ f e o. way-decides way.page.now.tree.now e.world (way_at at way e) (size_in (apart_at at way.page.now.apart.now e)) (base_at at way.base.now e) (boxes_at at way.floats.now e) (option_at at way.least.now e) (cb e) c.args.b (run e) (waiting e) (f e o))).cause
+
+pub forward-returns-2-clause-cause : goal.forward-returns-2-clause-cause
+forward-returns-2-clause-cause g t c = elim c.else-stops_at.branch [
+  | forward-else-stops_at-via-else-stops_at w ↦
+      let at = g.S.Steady.at in
+      let run = g.S.Steady.run in
+      let same : c.else-stops_at.calc ≡ c.args.calc.now = grind arith in
+      subst (λ k. BlamesButMem (run k) (run c.inner.new.calc)
+      ((e : Reading) → IsTrue ((run k).is_open e) → WayFitsAt at c.args.way.now e (stretch_at at c.args.cb.now e) c.args.b (run_at at c.args.going.now.run e) (floats_at at c.args.going.now.waiting e)))
+      same c.inner.ensures.cause
+  | forward-else-stops_at-via-then-stops_at+in-None-1 w ↦
+      let at = g.S.Steady.at in
+      let way = c.args.way.now in
+      let cb = (λ (e : Reading). stretch_at at c.args.cb.now e) in
+      let run = (λ (e : Reading). run_at at c.args.going.now.run e) in
+      let waiting = (λ (e : Reading). floats_at at c.args.going.now.waiting e) in
+      let one = start_but_mem {asks = λ (e : Reading). WayFitsAt at way e (cb e) c.args.b (run e) (waiting e)} w.decided.ensures.goes w.decided.ensures.cause
+      (λ f e o. way-decides way.page.now.tree.now e.world (way_at at way e) (size_in (apart_at at way.page.now.apart.now e)) (base_at at way.base.now e) (boxes_at at way.floats.now e) (option_at at way.least.now e) (cb e) c.args.b (run e) (waiting e) (f e o)) in
+      let same : c.else-stops_at.calc ≡ w.decided.new.calc = grind arith in
+      let last = subst (λ k. Goes (g.S.Steady.run k) (g.S.Steady.run c.inner.new.calc)) same c.inner.ensures.goes in
+      let cause = subst (λ k. BlamesButMem (g.S.Steady.run k) (g.S.Steady.run c.inner.new.calc)
+      ((e : Reading) → IsTrue ((g.S.Steady.run k).is_open e) → WayFitsAt at way e (cb e) c.args.b (run e) (waiting e))) same c.inner.ensures.cause in
+      (next_but_mem one last cause (λ f. f)).cause
+]
+
+pub inner-returns-then-not-enters-clause-cause : goal.inner-returns-then-not-enters-clause-cause
+inner-returns-then-not-enters-clause-cause g t c =
+    let at = g.S.Steady.at in
+    let way = c.args.way.now in
+    let cb = (λ (e : Reading). stretch_at at c.args.cb.now e) in
+    let run = (λ (e : Reading). run_at at c.args.going.now.run e) in
+    let waiting = (λ (e : Reading). floats_at at c.args.going.now.waiting e) in
+    (start_but_mem {asks = λ (e : Reading). WayFitsAt at way e (cb e) c.args.b (run e) (waiting e)} c.join_top.ensures.goes (but_mem c.join_top.ensures.cause)
+    (λ f e o. way-above way.page.now.tree.now e.world (way_at at way e) (size_in (apart_at at way.page.now.apart.now e)) (base_at at way.base.now e) (boxes_at at way.floats.now e) (option_at at way.least.now e) (cb e) c.args.b (run e) (waiting e) (f e o))).cause
+
+pub inner-returns-clause-cause : goal.inner-returns-clause-cause
+inner-returns-clause-cause g t c =
+    let at = g.S.Steady.at in
+    let way = c.args.way.now in
+    let tree = way.page.now.tree.now in
+    let b = c.args.b in
+    let cb = (λ (e : Reading). stretch_at at c.args.cb.now e) in
+    let run = (λ (e : Reading). run_at at c.args.going.now.run e) in
+    let waiting = (λ (e : Reading). floats_at at c.args.going.now.waiting e) in
+    let goes_in : enters tree b ≡ true = grind arith in
+    let top = c.join_top.ensures in
+    let band = c.band_inside-band.ensures in
+    let one = start_but_mem {asks = λ (e : Reading). WayFitsAt at way e (cb e) b (run e) (waiting e)} top.goes (but_mem top.cause)
+    (λ f e o. way-above tree e.world (way_at at way e) (size_in (apart_at at way.page.now.apart.now e)) (base_at at way.base.now e) (boxes_at at way.floats.now e) (option_at at way.least.now e) (cb e) b (run e) (waiting e) (f e o)) in
+    let two = next_but_mem one band.goes (but_mem band.cause)
+    (λ f e o. way-band tree e.world (way_at at way e) (size_in (apart_at at way.page.now.apart.now e)) (base_at at way.base.now e) (boxes_at at way.floats.now e) (option_at at way.least.now e) (cb e) b (run e) (waiting e) (f e o) goes_in) in
+    (next_but_mem two c.content-end.ensures.goes c.content-end.ensures.cause (λ f e o.
+    subst (λ x. KidsFitAt at way e x (flow_children tree b) (run_at at c.join_top.new.run e) (waiting e)) (sym (band.value e o))
+    (subst (λ r. KidsFitAt at way e (inner_band tree e.world (cb e) b) (flow_children tree b) r (waiting e)) (sym (top.value e (band.goes.closes e o)))
+    (way-inside tree e.world (way_at at way e) (size_in (apart_at at way.page.now.apart.now e)) (base_at at way.base.now e) (boxes_at at way.floats.now e) (option_at at way.least.now e) (cb e) b (run e) (waiting e) (f e o) goes_in)))).cause
+
+pub content-returns-then-not-holds_inline-clause-cause : goal.content-returns-then-not-holds_inline-clause-cause
+content-returns-then-not-holds_inline-clause-cause g t c =
+    let at = g.S.Steady.at in
+    let way = c.args.way.now in
+    let tree = way.page.now.tree.now in
+    let no_lines : holds_inline tree c.args.b ≡ false = grind arith in
+    (start_but_mem {asks = λ (e : Reading). KidsFitAt at way e (stretch_at at c.args.band.now e) (flow_children tree c.args.b) (run_at at c.args.going.now.run e) (floats_at at c.args.going.now.waiting e)} c.kids.ensures.goes c.kids.ensures.cause
+    (λ f e o. subst (λ ks. KidsFitAt at way e (stretch_at at c.args.band.now e) ks (run_at at c.args.going.now.run e) (floats_at at c.args.going.now.waiting e)) (flow-kids tree c.args.b no_lines ∙ sym c.kids_at.ensures.value) (f e o))).cause
+
+pub kid-returns-then-matches-clause-cause : goal.kid-returns-then-matches-clause-cause
+kid-returns-then-matches-clause-cause g t c =
+    let at = g.S.Steady.at in
+    let way = c.args.way.now in
+    let tree = way.page.now.tree.now in
+    let k = c.args.k in
+    let band = (λ (e : Reading). stretch_at at c.args.band.now e) in
+    let run = (λ (e : Reading). run_at at c.args.going.now.run e) in
+    let waiting = (λ (e : Reading). floats_at at c.args.going.now.waiting e) in
+    let in_flow : is_floated_at tree k ≡ false = grind arith in
+    let one = start_but_mem {asks = λ (e : Reading). KidFitsAt at way e (band e) k (run e) (waiting e)} c.forward-end.ensures.goes c.forward-end.ensures.cause (λ f e o. (f e o).way in_flow) in
+    (next_but_mem one c.join_bottom.ensures.goes (but_mem c.join_bottom.ensures.cause)
+    (λ f e o. way-below tree e.world (way_at at way e) (size_in (apart_at at way.page.now.apart.now e)) (base_at at way.base.now e) (boxes_at at way.floats.now e) (option_at at way.least.now e) (band e) k (run e) (waiting e) ((f e o).way in_flow))).cause
+
+pub kids-returns-then-not-matches-clause-cause : goal.kids-returns-then-not-matches-clause-cause
+kids-returns-then-not-matches-clause-cause g t c =
+    let at = g.S.Steady.at in
+    let way = c.args.way.now in
+    let all = c.args.boxes.now in
+    let k = c.loop-place.place-index in
+    let is = drop_more all k 0 c.loop-place-test.true in
+    let inv = c.loop-place.invariant in
+    let band = (λ (e : Reading). stretch_at at c.args.band.now e) in
+    let run = (λ (e : Reading). run_at at c.loop-place.going.run e) in
+    let waiting = (λ (e : Reading). floats_at at c.loop-place.going.waiting e) in
+    BlamesButMem-then _ _ _ _ _ inv.goes c.kid-end.ensures.goes inv.cause
+    (λ f e o. kids-first way.page.now.tree.now e.world (way_at at way e) (size_in (apart_at at way.page.now.apart.now e)) (base_at at way.base.now e) (boxes_at at way.floats.now e) (option_at at way.least.now e) (band e) (get_or all k 0) (drop (k + 1) all) (run e) (waiting e)
+    (subst (λ ks. KidsFitAt at way e (band e) ks (run e) (waiting e)) is (inv.fits e o (f e (inv.goes.closes e o)))))
+    c.kid-end.ensures.cause
+
+pub kids-loop-place-preserved : goal.kids-loop-place-preserved
+unfolding kid_of
+kids-loop-place-preserved g t c =
+    let at = g.S.Steady.at in
+    let way = c.args.way.now in
+    let tree = way.page.now.tree.now in
+    let all = c.args.boxes.now in
+    let k = c.loop-place.place-index in
+    let b = get_or all k 0 in
+    let is = drop_more all k 0 c.loop-place-test.true in
+    let inv = c.loop-place.invariant in
+    let own = c.kid-end.ensures in
+    let ends : c.kid-end.result ≡ GoesOn = grind (arith, common_steps) in
+    let size = (λ (e : Reading). size_in (apart_at at way.page.now.apart.now e)) in
+    let band = (λ (e : Reading). stretch_at at c.args.band.now e) in
+    let run = (λ (e : Reading). run_at at c.loop-place.going.run e) in
+    let waiting = (λ (e : Reading). floats_at at c.loop-place.going.waiting e) in
+    let kid = (λ (e : Reading). kid_of tree e.world (way_at at way e (band e)) (band e)) in
+    let here = (λ (e : Reading) (f : KidsFitAt at way e (band e) (drop k all) (run e) (waiting e)). subst (λ ks. KidsFitAt at way e (band e) ks (run e) (waiting e)) is f) in
+    let goes = (λ (e : Reading) (o : IsTrue ((g.S.Steady.run c.kid-end.new.calc).is_open e)). sym (ap (λ (x : Found). x.end) (own.value e o)) ∙ ap (λ x. end_at at x e) ends) in
+    record {
+      goes = Goes-then _ _ _ inv.goes own.goes;
+      so_far = λ e o.
+          ap (λ (x : Found). kids_at_reading at way e (band e) (drop (k + 1) all) x.run x.waiting) (own.value e o)
+          ∙ sym (kids-on tree e.world (kid e) b (drop (k + 1) all) (run e) (waiting e) (goes e o))
+          ∙ ap (λ ks. kids_at_reading at way e (band e) ks (run e) (waiting e)) (sym is)
+          ∙ inv.so_far e (own.goes.closes e o);
+      fits = λ e o f.
+          subst (λ (x : Found). KidsFitAt at way e (band e) (drop (k + 1) all) x.run x.waiting) (sym (own.value e o))
+          (kids-later tree e.world (way_at at way e) (size e) (base_at at way.base.now e) (boxes_at at way.floats.now e) (option_at at way.least.now e) (band e) b (drop (k + 1) all) (run e) (waiting e) (here e (inv.fits e (own.goes.closes e o) f)) (goes e o));
+      cause = BlamesButMem-then _ _ _ _ _ inv.goes own.goes inv.cause
+          (λ f e o. kids-first tree e.world (way_at at way e) (size e) (base_at at way.base.now e) (boxes_at at way.floats.now e) (option_at at way.least.now e) (band e) b (drop (k + 1) all) (run e) (waiting e) (here e (inv.fits e o (f e (inv.goes.closes e o)))))
+          own.cause;
+    }

@@ -1,10 +1,10 @@
 use Rattle.std.proofs.Common.{◌≡◌, ◌-◌, ◌+◌, ◌*◌, length, drop, IsTrue}
 use Rattle.viz_calc.specs.World.{Reading}
-use Rattle.viz_calc.specs.Run.{Goes}
+use Rattle.viz_calc.specs.Run.{Goes, BlamesButMem}
 use Rattle.lay_float.specs.Readings.{stretch_at}
 use Rattle.lay_margin.specs.Readings.{floats_at}
 use Rattle.lay_margin.specs.Runs.{run_at}
-use Rattle.lay_flow.specs.Ways.{kids_at_reading}
+use Rattle.lay_flow.specs.Ways.{kids_at_reading, KidsFitAt}
 use Rattle.lay_flow.proofs.forward.+forward.Given as goal
 
 abbrev pub decreases-kid : goal.decreases-kid
@@ -31,4 +31,9 @@ invariant-kids-loop-place g l =
       so_far : (e : Reading) → IsTrue ((run l.calc).is_open e)
           → kids_at_reading at l.way e (stretch_at at l.band e) (drop l.place-index l.boxes) (run_at at l.going.run e) (floats_at at l.going.waiting e)
           ≡ kids_at_reading at l.way e (stretch_at at l.band e) l.boxes (run_at at l.initial.going.run e) (floats_at at l.initial.going.waiting e);
+      fits : (e : Reading) → IsTrue ((run l.calc).is_open e)
+          → KidsFitAt at l.way e (stretch_at at l.band e) l.boxes (run_at at l.initial.going.run e) (floats_at at l.initial.going.waiting e)
+          → KidsFitAt at l.way e (stretch_at at l.band e) (drop l.place-index l.boxes) (run_at at l.going.run e) (floats_at at l.going.waiting e);
+      cause : BlamesButMem (run l.initial.calc) (run l.calc) ((e : Reading) → IsTrue ((run l.initial.calc).is_open e)
+          → KidsFitAt at l.way e (stretch_at at l.band e) l.boxes (run_at at l.initial.going.run e) (floats_at at l.initial.going.waiting e));
     }

@@ -4,9 +4,16 @@ use Rattle.std.specs.Int.{int_max}
 use Rattle.std.proofs.lemmas.List.{at_drop_more, drop_all}
 use Rattle.viz_calc.specs.World.{Reading}
 use Rattle.viz_calc.proofs.Runs.{Goes-then}
-use Rattle.lay_float.specs.Readings.{boxes_at}
+use Rattle.std.specs.List.{AllByRecursion}
+use Rattle.lay_float.specs.Readings.{boxes_at, box_at}
 use Rattle.lay_float.specs.declared.floats.PlacedFloat.{PlacedFloat}
+use Rattle.lay_line.proofs.Chains.{Chain, start, next}
+use Rattle.lay_line.proofs.Found.{all-next, all-from}
+use Rattle.flow_limits.specs.Bounds.{IsFloatIn}
+use Rattle.lay_flow.specs.Low.{reach}
+use Rattle.lay_flow.specs.Fits.{IsNear}
 use Rattle.lay_flow.specs.steps.Walk.{lowest_of}
+use Rattle.lay_flow.proofs.Sizes.{level-near, near-difference, zero-fits}
 use Rattle.lay_flow.proofs.heights.lowest.Goals as goal
 
 -- nothing is below where there are no floats
@@ -26,6 +33,7 @@ pub loop-done-init : goal.loop-done-init
 loop-done-init g c = record {
   goes = c.zero-best.ensures.goes;
   value = λ e o. c.zero-best.ensures.value e o ∙ sym (none-lowest g.S.Steady.at e (g.S.Steady.at c.args.top.now e) c.args.floats.now (length c.args.floats.now - 0) (omega arith));
+  cause = (start {asks = λ (e : Reading). IsNear (g.S.Steady.at c.args.top.now e) × AllByRecursion (IsFloatIn reach) (boxes_at g.S.Steady.at c.args.floats.now e)} c.zero-best.ensures.goes c.zero-best.ensures.cause (λ f e o. zero-fits)).cause;
 }
 
 pub loop-done-preserved : goal.loop-done-preserved
@@ -34,6 +42,13 @@ loop-done-preserved g c =
     let height = c.sub-height.ensures in
     let best = c.greater-best.ensures in
     let n = length c.args.floats.now in
+    let run = g.S.Steady.run in
+    let fs = c.args.floats.now in
+    let k = n - 1 - c.loop-done.done in
+    let so_far : Chain (run c.args.calc.now) (run c.loop-done.calc) (λ (e : Reading). IsNear (at c.args.top.now e) × AllByRecursion (IsFloatIn reach) (boxes_at at fs e)) = record { goes = c.loop-done.invariant.goes; cause = c.loop-done.invariant.cause } in
+    let one = next so_far height.goes height.cause (λ f e o.
+    let float = all-next (IsFloatIn reach) (λ f. box_at at f e) fs k c.index-floats-count.result (omega (arith, c.loop-done-test.true)) (all-from (IsFloatIn reach) (λ f. box_at at f e) fs k (f e o).1) in
+    near-difference (at (get_or fs k c.index-floats-count.result).outer.bottom e) (at c.args.top.now e) (level-near _ float.bottom) (f e o).0) in
     record {
       goes = Goes-then _ _ _ (Goes-then _ _ _ c.loop-done.invariant.goes height.goes) best.goes;
       value = λ e o.
@@ -43,6 +58,7 @@ loop-done-preserved g c =
           ∙ one-lower at e (at c.args.top.now e) c.args.floats.now (n - 1 - c.loop-done.done) (n - c.loop-done.done) (n - (c.loop-done.done + 1)) c.index-floats-count.result (at c.loop-done.best e)
           (omega (arith, c.loop-done-test.true)) (omega (arith, c.loop-done-test.true)) (omega (arith, c.loop-done-test.true))
           (c.loop-done.invariant.value e (height.goes.closes e o1));
+      cause = (next one best.goes best.cause (λ f. tt)).cause;
     }
 
 pub returns-clause-goes : goal.returns-clause-goes
@@ -52,3 +68,6 @@ pub returns-clause-value : goal.returns-clause-value
 returns-clause-value g c = λ e o.
     let none : length c.args.floats.now - c.loop-done.done ≡ 0 = omega (arith, c.loop-done-test.false) in
     c.loop-done.invariant.value e o ∙ ap (λ i. lowest_of (g.S.Steady.at c.args.top.now e) (boxes_at g.S.Steady.at (drop i c.args.floats.now) e)) none
+
+pub returns-clause-cause : goal.returns-clause-cause
+returns-clause-cause g c = c.loop-done.invariant.cause

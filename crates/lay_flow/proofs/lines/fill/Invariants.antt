@@ -1,6 +1,7 @@
 use Rattle.std.proofs.Common.{◌≡◌, drop, IsTrue}
 use Rattle.viz_calc.specs.World.{Reading}
-use Rattle.viz_calc.specs.Run.{Goes}
+use Rattle.viz_calc.specs.Run.{Goes, Blames}
+use Rattle.lay_flow.specs.Low.{AreApartLow}
 use Rattle.lay_line.specs.Contexts.{table_at}
 use Rattle.lay_flow.specs.Readings.{apart_at}
 use Rattle.lay_flow.specs.steps.Flow.{filled_table}
@@ -15,4 +16,5 @@ invariant-loop-at g l =
       value : (e : Reading) → IsTrue ((run l.calc).is_open e)
           → filled_table l.page.tree.now e.world (apart_at at l.page.apart.now e) (table_at at l.table.items e) (drop l.at-index l.boxes)
           ≡ filled_table l.page.tree.now e.world (apart_at at l.page.apart.now e) (table_at at l.initial.table.items e) l.boxes;
+      cause : Blames (run l.initial.calc) (run l.calc) ((e : Reading) → IsTrue ((run l.initial.calc).is_open e) → AreApartLow (apart_at at l.page.apart.now e));
     }

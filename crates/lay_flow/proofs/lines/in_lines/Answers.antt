@@ -1,4 +1,4 @@
-use Rattle.std.proofs.Common.{◌++◌, fold, flat_map, ap, ◌∙◌}
+use Rattle.std.proofs.Common.{IsTrue, ◌++◌, fold, flat_map, ap, sym, subst, ◌∙◌}
 use Rattle.viz_calc.proofs.Runs.{Goes-then}
 use Rattle.layout_semantics.specs.Flow.{raised}
 use Rattle.lay_block.specs.steps.Readings.{boxes_at}
@@ -7,6 +7,13 @@ use Rattle.lay_line.specs.Readings.{entries_at}
 use Rattle.flow_steps.specs.Flow.{line_tops}
 use Rattle.lay_line.specs.Lining.{laid_at}
 use Rattle.lay_flow.specs.Readings.{apart_at, context_at, standing_at}
+use Rattle.layout_semantics.specs.Lines.{LineList}
+use Rattle.viz_calc.specs.World.{Reading}
+use Rattle.lay_line.proofs.Chains.{but_mem, start_but_mem, next_but_mem}
+use Rattle.lay_flow.specs.Fits.{IsEntryLow, IsNear}
+use Rattle.lay_flow.specs.Low.{AreLevelsLow}
+use Rattle.lay_flow.specs.WalkFits.{InLinesFit}
+use Rattle.std.specs.List.{AllByRecursion}
 use Rattle.lay_flow.specs.steps.Flow.{entry_of}
 use Rattle.lay_flow.proofs.InLines.{context-after, boxes-after}
 use Rattle.lay_flow.proofs.lines.in_lines.Goals as goal
@@ -44,3 +51,32 @@ returns-clause-boxes g c = λ e o.
     c.add_entries.ensures.value e o
     ∙ (ap (λ es. old ++ flat_map (entry_of page.tree.now e.world apart) (entries_at at es e)) c.into_vec.ensures
     ∙ ap (λ bs. old ++ bs) (boxes-after page.tree.now e.world apart c.args.b (stretch_at at c.args.cb.now e) (at c.args.top.now e) (context_at at c.args.context.now e) (laid_at at laid e) (c.lines_in-lines.ensures.value e o3)))
+
+pub returns-clause-cause : goal.returns-clause-cause
+returns-clause-cause g c =
+    let at = g.S.Steady.at in
+    let page = c.args.page.now in
+    let tree = page.tree.now in
+    let b = c.args.b in
+    let cb = (λ (e : Reading). stretch_at at c.args.cb.now e) in
+    let y = (λ (e : Reading). at c.args.top.now e) in
+    let s = (λ (e : Reading). context_at at c.args.context.now e) in
+    let apart = (λ (e : Reading). apart_at at page.apart.now e) in
+    let asks = (λ (e : Reading). InLinesFit tree e.world (apart e) b (cb e) (y e) (s e)) in
+    let laid = c.lines_in-lines.result in
+    let lines = c.lines_in-lines.ensures in
+    let standing = c.below-standing.ensures in
+    let least = c.raised_by-least.ensures in
+    let added = c.add_entries.ensures in
+    let one = start_but_mem {asks = asks} lines.goes lines.cause (λ a. a) in
+    let two = next_but_mem one standing.goes (but_mem standing.cause) (λ a e o.
+    subst (λ (l : LineList). IsNear l.bottom) (sym (lines.value e o)) (a e o).bottom) in
+    let entries = (λ (e : Reading) (o : IsTrue ((g.S.Steady.run c.lines_in-lines.new.calc).is_open e)) (x : asks e). subst (λ (l : LineList). AllByRecursion IsEntryLow l.entries) (sym (lines.value e o)) x.entries) in
+    let three = next_but_mem two least.goes (but_mem least.cause) (λ a e o. (
+      subst AreLevelsLow (sym (ap (λ x. option_at at x e) (c.take.ensures.value ∙ lines.least))) (a e o).least,
+      subst (λ es. AllByRecursion IsEntryLow (entries_at at es e)) (sym c.as_slice.ensures) (entries e (standing.goes.closes e o) (a e o)),
+    )) in
+    (next_but_mem three added.goes added.cause (λ a e o. (
+      (a e o).apart_low,
+      subst (λ es. AllByRecursion IsEntryLow (entries_at at es e)) (sym c.into_vec.ensures) (entries e (standing.goes.closes e (least.goes.closes e o)) (a e o)),
+    ))).cause

@@ -1,4 +1,4 @@
-use Rattle.std.proofs.Common.{None, ap, ◌∙◌, replicate}
+use Rattle.std.proofs.Common.{◌∙◌}
 use Rattle.lay_flow.specs.Readings.{apart_at}
 use Rattle.lay_flow.proofs.InLines.{table-is}
 use Rattle.lay_flow.proofs.lines.inner_table.Goals as goal

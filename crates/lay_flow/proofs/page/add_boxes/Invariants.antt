@@ -1,10 +1,12 @@
 use Rattle.std.proofs.Common.{◌≡◌, ◌<◌, ℕ, drop, length, IsTrue}
 use Rattle.std.specs.List.{AllByRecursion}
 use Rattle.viz_calc.specs.World.{Reading}
-use Rattle.viz_calc.specs.Run.{Goes}
+use Rattle.viz_calc.specs.Run.{Goes, BlamesButMem}
 use Rattle.lay_preferred.specs.Readings.{AreFound}
 use Rattle.lay_flow.specs.Readings.{table_at}
 use Rattle.lay_flow.specs.steps.Flow.{with_boxes}
+use Rattle.lay_flow.specs.AloneFits.{BoxesAddedFit}
+use Rattle.lay_flow.specs.WalkFits.{AllFit}
 use Rattle.lay_flow.proofs.page.add_boxes.Given as goal
 
 abbrev pub invariant-loop-k : goal.invariant-loop-k
@@ -18,4 +20,8 @@ invariant-loop-k g l =
       value : (e : Reading) → IsTrue ((run l.calc).is_open e)
           → with_boxes l.tree e.world l.height (table_at at l.table.places.items e) (drop l.k-index l.boxes)
           ≡ with_boxes l.tree e.world l.height (table_at at l.initial.table.places.items e) l.boxes;
+      left : ((e : Reading) → IsTrue ((run l.initial.calc).is_open e) → BoxesAddedFit l.tree e.world l.height (table_at at l.initial.table.places.items e) l.boxes)
+          → (e : Reading) → IsTrue ((run l.calc).is_open e) → BoxesAddedFit l.tree e.world l.height (table_at at l.table.places.items e) (drop l.k-index l.boxes);
+      cause : BlamesButMem (run l.initial.calc) (run l.calc) (AllFit l.tree (run l.initial.calc).is_open
+          (λ (e : Reading). BoxesAddedFit l.tree e.world l.height (table_at at l.initial.table.places.items e) l.boxes));
     }

@@ -1,10 +1,17 @@
-use Rattle.std.proofs.Common.{◌≡◌, ◌<◌, ◌↔◌, Bool, false, IsTrue, List, [], ◌∷◌, length, refl, ap, ◌∙◌, arith}
+use Rattle.std.proofs.Common.{◌≡◌, ◌<◌, ◌↔◌, Bool, false, IsTrue, List, [], ◌∷◌, length, refl, ap, sym, subst, ◌∙◌, arith}
 use Rattle.viz_base.specs.declared.renderings.Placed.{Placed}
 use Rattle.viz_base.specs.declared.trees.BoxNode.{BoxNode}
 use Rattle.viz_calc.proofs.Runs.{Goes-then}
 use Rattle.lay_block.specs.steps.Readings.{boxes_at}
 use Rattle.lay_block.proofs.Slots.{no_boxes}
 use Rattle.lay_preferred.proofs.Founds.{found-later}
+use Rattle.std.specs.Prelude.{Option, ◌*◌, pos, ℤ}
+use Rattle.viz_calc.specs.World.{Reading}
+use Rattle.layout_semantics.specs.Flow.{Alone}
+use Rattle.flow_steps.specs.Tables.{laid_at}
+use Rattle.lay_flow.specs.AloneFits.{AloneFits, PageComesFit}
+use Rattle.lay_flow.specs.Readings.{apart_at, table_at}
+use Rattle.lay_flow.proofs.Givens.{first, more, more_at}
 use Rattle.lay_flow.proofs.TableSteps.{no-boxes}
 use Rattle.lay_flow.proofs.TableFacts.{page-laid}
 use Rattle.lay_flow.proofs.page.boxes.Goals as goal
@@ -37,3 +44,27 @@ returns-clause-value g c = λ e o.
     let same : c.as_slice.result.now ≡ places = grind arith in
     page-laid at e tree e.world c.args.height c.as_slice.result.now places c.alone.result (at c.width-room.result e) some same (c.alone.ensures.value e o) (c.width-room.ensures.value e o1)
     (c.outside_flow-table.ensures.value e (c.width-room.ensures.goes.closes e o1))
+
+pub returns-clause-cause : goal.returns-clause-cause
+unfolding apart_at
+returns-clause-cause g c =
+    let at = g.S.Steady.at in
+    let tree = c.args.tree.now in
+    let height = c.args.height in
+    let some = some-boxes c.is_empty.result tree.boxes c.is_empty.ensures c.if-is_empty.false in
+    let same : c.as_slice.result.now ≡ c.outside_flow-table.result.places.items = grind arith in
+    let asks = (λ (e : Reading). PageComesFit tree e.world height) in
+    let found = c.nothing_found-found.ensures in
+    let table = c.outside_flow-table.ensures in
+    let wide = c.width-room.ensures in
+    let laid = c.alone.ensures in
+    let one = first {tree = tree} {asks = asks} found.goes found.cause (λ a. tt) in
+    let two = more one table.goes table.cause (λ a. (a.0, λ e o. (a.1 e o).table)) in
+    let three = more_at two wide.goes wide.cause (λ a e o. (a e o).width) in
+    (more three laid.goes laid.cause (λ a. (
+      a.0,
+      λ e o.
+          subst (λ (z : ℤ). AloneFits tree e.world height (laid_at (table_at at c.as_slice.result.now e)) 0 z) (sym (wide.value e o))
+          (subst (λ t. AloneFits tree e.world height (laid_at (table_at at t e)) 0 (pos (64 * e.world.w))) (sym same)
+          (subst (λ (t : List (Option Alone)). AloneFits tree e.world height (laid_at t) 0 (pos (64 * e.world.w))) (sym (table.value e (wide.goes.closes e o))) ((a.1 e o).root some))),
+    ))).cause

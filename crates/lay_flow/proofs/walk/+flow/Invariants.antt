@@ -1,10 +1,11 @@
 use Rattle.std.proofs.Common.{◌≡◌, ◌-◌, ◌+◌, ◌*◌, ◌++◌, length, drop, IsTrue}
 use Rattle.viz_calc.specs.World.{Reading}
-use Rattle.viz_calc.specs.Run.{Goes}
+use Rattle.viz_calc.specs.Run.{Goes, BlamesButMem}
 use Rattle.lay_block.specs.steps.Readings.{boxes_at}
 use Rattle.lay_float.specs.Readings.{stretch_at}
 use Rattle.lay_flow.specs.Readings.{apart_at, context_at}
 use Rattle.lay_flow.specs.steps.Flow.{children_of}
+use Rattle.lay_flow.specs.WalkFits.{AllFit, WalkFits, before_children}
 use Rattle.lay_flow.proofs.walk.+flow.Given as goal
 
 abbrev pub decreases-child : goal.decreases-child
@@ -43,4 +44,8 @@ invariant-children-loop-k g l =
           ++ (children_of l.page.tree.now e.world l.page.height (apart_at at l.page.apart.now e) (stretch_at at l.cb e) (at l.top e) (context_at at l.context e) (drop l.k-index l.boxes)).boxes
           ≡ boxes_at at l.fn.out.items e
           ++ (children_of l.page.tree.now e.world l.page.height (apart_at at l.page.apart.now e) (stretch_at at l.cb e) (at l.top e) (context_at at l.fn.context e) l.boxes).boxes;
+      left : ((e : Reading) → IsTrue ((run l.fn.calc).is_open e) → WalkFits l.page.tree.now e.world l.page.height (apart_at at l.page.apart.now e) (before_children (stretch_at at l.cb e) (at l.top e) (context_at at l.fn.context e) l.boxes))
+          → (e : Reading) → IsTrue ((run l.calc).is_open e) → WalkFits l.page.tree.now e.world l.page.height (apart_at at l.page.apart.now e) (before_children (stretch_at at l.cb e) (at l.top e) (context_at at l.context e) (drop l.k-index l.boxes));
+      cause : BlamesButMem (run l.fn.calc) (run l.calc) (AllFit l.page.tree.now (run l.fn.calc).is_open
+          (λ (e : Reading). WalkFits l.page.tree.now e.world l.page.height (apart_at at l.page.apart.now e) (before_children (stretch_at at l.cb e) (at l.top e) (context_at at l.fn.context e) l.boxes)));
     }

@@ -1,8 +1,18 @@
-use Rattle.std.proofs.Common.{◌++◌, ap, ◌∙◌}
+use Rattle.std.proofs.Common.{◌^◌, ◌++◌, ap, sym, subst, ◌∙◌, IsTrue, arith}
+use Rattle.viz_calc.specs.World.{Reading}
 use Rattle.std.specs.Int.{int_max}
 use Rattle.lay_block.specs.steps.Readings.{boxes_at}
-use Rattle.lay_float.specs.Readings.{stretch_at, extent_at, spot_at, floats_at}
+use Rattle.layout_semantics.specs.Floats.{floating}
+use Rattle.lay_float.specs.Readings.{stretch_at, extent_at, spot_at, floats_at, option_at}
+use Rattle.lay_line.proofs.Chains.{start_but_mem, next_but_mem, but_mem}
+use Rattle.flow_limits.specs.Bounds.{IsExtentIn}
+use Rattle.flow_steps.specs.Flow.{next_edge}
+use Rattle.lay_flow.specs.Low.{reach, IsAloneLow, IsBandLow, IsContextLow}
+use Rattle.lay_flow.specs.Fits.{IsNear, IsSpotNear}
 use Rattle.lay_flow.specs.Readings.{apart_at, context_at}
+use Rattle.lay_flow.proofs.Framed.{next-edge-small}
+use Rattle.lay_flow.proofs.Sizes.{wider, greater, near-fits}
+use Rattle.lay_flow.proofs.Spots.{place-half, spot-near}
 use Rattle.lay_flow.proofs.WalkSteps.{float-context, float-boxes}
 use Rattle.lay_flow.proofs.walk.float.Goals as goal
 
@@ -37,3 +47,42 @@ returns-clause-boxes g c = λ e o.
     (extent_at at c.size_of-size.result e) (at c.next_edge-edge.result e) (at c.greater-y.result e) (spot_at at c.place_float-spot.result e)
     (c.size_of-size.ensures.value e (c.next_edge-edge.ensures.goes.closes e o4)) (c.next_edge-edge.ensures.value e o4) (y ∙ ap (λ f. int_max f (at c.next_edge-edge.result e)) from)
     (c.place_float-spot.ensures.value e o1))
+
+pub returns-clause-cause : goal.returns-clause-cause
+returns-clause-cause g c =
+    let at = g.S.Steady.at in
+    let tree = c.args.page.now.tree.now in
+    let context = c.args.context.now in
+    let top = c.args.top.now in
+    let alone = (λ (e : Reading). apart_at at c.args.page.now.apart.now e c.args.k) in
+    let band = (λ (e : Reading). stretch_at at c.args.cb.now e) in
+    let asks = (λ (e : Reading). IsContextLow (context_at at context e) × (IsBandLow (band e) × (IsNear (at top e) × IsAloneLow (alone e)))) in
+    let size = c.size_of-size.ensures in
+    let edge = c.next_edge-edge.ensures in
+    let from = c.copy-from.ensures in
+    let y = c.greater-y.ensures in
+    let spot = c.place_float-spot.ensures in
+    let extent = (λ (e : Reading). extent_at at c.size_of-size.result e) in
+    let floats = (λ (e : Reading). floats_at at context.floats e) in
+    let least = (λ (e : Reading). option_at at context.least e) in
+    let one = start_but_mem {asks = asks} size.goes (but_mem size.cause) (λ f e o. (f e o).1.1.1.size) in
+    let two = next_but_mem one edge.goes (but_mem edge.cause) (λ f e o. (f e o).0.standing) in
+    let three = next_but_mem two from.goes (but_mem from.cause) (λ f e o. near-fits (at top e) (f e o).1.1.0) in
+    let four = next_but_mem three y.goes (but_mem y.cause) (λ f. tt) in
+    let sized = (λ (e : Reading) (o : IsTrue ((g.S.Steady.run c.greater-y.new.calc).is_open e)) (a : asks e).
+    subst (IsExtentIn reach) (sym (size.value e (edge.goes.closes e (from.goes.closes e (y.goes.closes e o))))) a.1.1.1.size) in
+    let comes = (λ (e : Reading) (o : IsTrue ((g.S.Steady.run c.greater-y.new.calc).is_open e)) (a : asks e).
+    let o3 = y.goes.closes e o in
+    let o2 = from.goes.closes e o3 in
+    let low = subst IsNear (sym (edge.value e o2)) (wider (2 ^ 92) (2 ^ 95) (next_edge (context_at at context e).standing) (next-edge-small (context_at at context e).standing a.0.standing) (omega arith)) in
+    subst IsNear (sym (y.value e o)) (greater (2 ^ 95) (at c.copy-from.result e) (at c.next_edge-edge.result e) (subst IsNear (sym (from.value e o3)) a.1.1.0) low)) in
+    let five = next_but_mem four spot.goes spot.cause (λ f e o.
+    let a = f e o in
+    place-half (floats e) (extent e) (band e) (least e) (at c.greater-y.result e) a.0.floats (sized e o a) a.1.0 a.0.least (comes e o a)) in
+    (next_but_mem five c.add_apart.ensures.goes c.add_apart.ensures.cause (λ f e o.
+    let a = f e o in
+    let o4 = spot.goes.closes e o in (
+      subst IsSpotNear (sym (spot.value e o))
+          (spot-near (floating tree c.args.k (extent e) (band e)) (floats e) (least e) (at c.greater-y.result e) a.0.floats (sized e o4 a) a.1.0 a.0.least (comes e o4 a)),
+      a.1.1.1,
+    ))).cause
