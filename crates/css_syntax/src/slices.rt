@@ -4,8 +4,9 @@ ghost use Rattle.css_semantics.specs.SheetsMarks.{is_gap};
 ghost use Rattle.css_semantics.specs.SheetsReading.{end_of, extent, start_of, trim_end, trim_start, trimmed};
 ghost use Rattle.css_syntax.specs.Classes.{class_has};
 
+use css_semantics::Token;
 use css_token::kinds::{is_gap, is_space};
-use viz_base::{Mem, Token, TokenKind};
+use viz_base::{Mem, TokenKind};
 
 /// What is cut from the ends of a stretch.
 #[derive(Clone, Copy)]

@@ -22,3 +22,4 @@ pub mod Following
 pub mod Rooms
 pub mod KidSteps
 pub mod ReachesFit
+pub mod WalkWithin

@@ -6,3 +6,4 @@ pub mod WayFits
 pub mod Ways
 pub mod WalkFits
 pub mod AloneFits
+pub mod PageFits

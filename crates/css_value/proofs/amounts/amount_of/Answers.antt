@@ -9,8 +9,8 @@ pub returns : goal.returns
 returns c =
     let n = c.in-Some.n in
     let kind = c.args.token.now.kind in
-    let unit = unit_of (chars c.args.token.now.text.now) in
+    let unit = unit_of (chars c.args.token.now.text) in
     let fits : FitsSigned w64 n = search rules in
     let said : c.as_str.result.now ≡ unit = c.as_str.ensures ∙ c.in_ok-unit.ensures in
     let passed : amount_in kind (to_z w64 (of_z w64 n)) c.as_str.result.now ≡ amount_in kind n unit = ap (λ m. amount_in kind m c.as_str.result.now) (to_z-of_z fits) ∙ ap (amount_in kind n) said in
-    c.amount_in.ensures ∙ passed ∙ sym (counted_some c.args.negative c.args.token.now (decimal_of (numeral_of c.args.token.now.text.now)) n (sym c.in-Some.ensures.value))
+    c.amount_in.ensures ∙ passed ∙ sym (counted_some c.args.negative c.args.token.now (decimal_of (numeral_of c.args.token.now.text)) n (sym c.in-Some.ensures.value))
