@@ -19,6 +19,7 @@ use Rattle.layout_laws.proofs.TreeFacts.{slice_in}
 use Rattle.lay_reach.proofs.Extents.{IsLowTree, text_low}
 use Rattle.lay_reach.proofs.Fonts.{IsUpTo, size-up, font-up}
 use Rattle.lay_reach.proofs.Numbers.{div-rises, size-+, size--, size-floor}
+use Rattle.page_limits.proofs.WidthsTexts.{measured-is, wide, wide-more}
 use Rattle.page_limits.proofs.HeightsFonts.{line-up, measure-up, font_cost, box-cost}
 use lib.IntN.{pos-*ℤ-pos}
 
@@ -68,32 +69,6 @@ module _ (tree : BoxTree) (low : IsLowTree tree) (w : World) (small : w.s ≤ 25
       subst IsFontSmall (sym node) (font-small x.node (omega (arith, cost)))
 
 -- ---- texts in one font
-
-div-both : (p q d : ℕ) → 0 < d → (p + q) / d ≤ p / d + q / d + 1
-div-both p q d l =
-    let first = lt-div-mul-add {a = p} l in
-    let other = lt-div-mul-add {a = q} l in
-    let less : (p + q) / d < p / d + q / d + 2 = (div-lt_iff_lt-mul l).1 (omega (arith, first, other)) in
-    omega (arith, less)
-
-measured-is : (font : Font) (a n : ℕ) → unsigned_abs (measured font (pos a) n) ≡ n * a / font.upem
-measured-is font a n = ap (λ z. unsigned_abs (floor_of z font.upem)) (pos-*ℤ-pos n a)
-
-abbrev wide : Option Font → ℤ → List ℕ → ℕ
-wide o size text = unsigned_abs (option_map_or (λ (font : Font). measured font size (sum_by (advance font) text)) o (pos 0))
-
-wide-more : (o : Option Font) (a c : ℕ) (cs : List ℕ) → wide o (pos a) (c ∷ cs) ≤ wide o (pos a) (c ∷ []) + wide o (pos a) cs + 1
-wide-more None a c cs = omega arith
-wide-more (Some font) a c cs =
-    let own = advance font c in
-    let others = sum_by (advance font) cs in
-    let all : sum_by (advance font) (c ∷ cs) * a ≡ own * a + others * a = let e = sum_by-cons (advance font) c cs in ap (λ n. n * a) e ∙ omega arith in
-    let one : sum_by (advance font) (c ∷ []) ≡ own = let e = sum_by-cons (advance font) c [] in omega (arith, e) in
-    let whole = measured-is font a (sum_by (advance font) (c ∷ cs)) ∙ ap (λ n. n / font.upem) all in
-    let first = measured-is font a (sum_by (advance font) (c ∷ [])) ∙ ap (λ n. n * a / font.upem) one in
-    let rest = measured-is font a others in
-    let both = div-both (own * a) (others * a) font.upem font.ok.has_em in
-    omega (arith, whole, first, rest, both)
 
 wide-none : (o : Option Font) (a : ℕ) → wide o (pos a) [] ≡ 0
 wide-none None a = refl

@@ -86,8 +86,8 @@ module _ (tree : BoxTree) (low : IsLowTree tree) (w : World) (small : w.s ≤ 25
       by x y z l a d u v q =
           let same = whole (y +ℤ floor_of (x -ℤ (y +ℤ z)) 2) x in
           rw same (
-          let i1 = u.is in let i2 = u.most_is in let i3 = v.is in let i4 = v.most_is in let i5 = q.is in let i6 = q.most_is in
-          rw (i1, i2, i3, i4, i5, i6) (
+          let line = u.is in let line_most = u.most_is in let up = v.is in let up_most = v.most_is in let down = q.is in let down_most = q.most_is in
+          rw (line, line_most, up, up_most, down, down_most) (
           let cost = middle-cost u.low v.low q.low in
           let b1 = u.below in let b2 = v.below in let b3 = q.below in
           omega (arith, cost, b1, b2, b3)))

@@ -36,14 +36,14 @@ div-both p q d l =
     let less : (p + q) / d < p / d + q / d + 2 = (div-lt_iff_lt-mul l).1 (omega (arith, first, other)) in
     omega (arith, less)
 
-measured-is : (font : Font) (a n : ℕ) → unsigned_abs (measured font (pos a) n) ≡ n * a / font.upem
+pub measured-is : (font : Font) (a n : ℕ) → unsigned_abs (measured font (pos a) n) ≡ n * a / font.upem
 measured-is font a n = ap (λ z. unsigned_abs (floor_of z font.upem)) (pos-*ℤ-pos n a)
 
 -- how wide a text is in a font, if there is one
-abbrev wide : Option Font → ℤ → List ℕ → ℕ
+abbrev pub wide : Option Font → ℤ → List ℕ → ℕ
 wide o size text = unsigned_abs (option_map_or (λ (font : Font). measured font size (sum_by (advance font) text)) o (pos 0))
 
-wide-more : (o : Option Font) (a c : ℕ) (cs : List ℕ) → wide o (pos a) (c ∷ cs) ≤ wide o (pos a) (c ∷ []) + wide o (pos a) cs + 1
+pub wide-more : (o : Option Font) (a c : ℕ) (cs : List ℕ) → wide o (pos a) (c ∷ cs) ≤ wide o (pos a) (c ∷ []) + wide o (pos a) cs + 1
 wide-more None a c cs = omega arith
 wide-more (Some font) a c cs =
     let own = advance font c in
