@@ -4,7 +4,7 @@ use Rattle.std.specs.List.{list_all}
 use Rattle.std.specs.Str.{chars}
 use Rattle.std.proofs.lemmas.Str.{chars-nil}
 use Rattle.viz_base.specs.Orders.{IsInOrder, is_from}
-use Rattle.viz_base.specs.Trees.{named_nodes, has_box, is_anon, is_chars, is_inline, IsBoxAt, IsBoxTree}
+use Rattle.viz_base.specs.Trees.{named_nodes, has_box, is_anon, is_chars, is_fragmented, is_in_parent, IsBoxAt, IsBoxTree}
 use Rattle.viz_base.specs.declared.fonts.Font.{Font}
 use Rattle.viz_base.specs.declared.styles.Style.{Style}
 use Rattle.viz_base.specs.declared.trees.BoxNode.{BoxNode}
@@ -83,6 +83,9 @@ module _ (s0 s1 s2 s3 : Style) (font : Font) (p0 : IsSimple s0) (p1 : IsSimple s
       (record { node = lit≤ tt; no_line = refl; size = refl; leaf = refl; characters = few_letters; ascending = refl; named = refl; one_sort = refl })
       (record { node = lit≤ tt; no_line = refl; size = refl; leaf = refl; characters = few_letters; ascending = refl; named = refl; one_sort = refl })
 
+  inside : (at : ℕ) (b : BoxNode) → slice_get boxes at ≡ Some b → IsTrue (is_in_parent boxes at b.parent)
+  inside = of_four (λ at (b : BoxNode). IsTrue (is_in_parent boxes at b.parent)) root outer floated inner refl refl refl refl
+
   each_parent : (P : ℕ → ℕ → Type 0) → P 1 0 → P 2 1 → P 3 1 → (node p : ℕ) → slice_get parents node ≡ Some (Some p) → P node p
   each_parent P a b c node p is = of_four (λ at x. x ≡ Some p → P at p) None (Some 0) (Some 1) (Some 1)
       (λ e. absurd (cc)) (λ e. let is : 0 ≡ p = cc in subst (P 1) is a) (λ e. let is : 1 ≡ p = cc in subst (P 2) is b) (λ e. let is : 1 ≡ p = cc in subst (P 3) is c) node (Some p) is refl
@@ -90,7 +93,9 @@ module _ (s0 s1 s2 s3 : Style) (font : Font) (p0 : IsSimple s0) (p1 : IsSimple s
   pub nested : IsBoxTree boxes styles (font ∷ []) parents
   nested = record {
     root = λ b is. subst (λ (m : BoxNode). m.parent ≡ None) (let e : root ≡ b = cc in e) refl;
-    root_is_block = λ b is. subst (λ (m : BoxNode). is_inline m.kind ≡ false) (let e : root ≡ b = cc in e) refl;
+    root_is_whole = λ b is. subst (λ (m : BoxNode). is_fragmented m.kind ≡ false) (let e : root ≡ b = cc in e) refl;
+    root_node = λ b is. subst (λ (m : BoxNode). m.node ≡ 0) (let e : root ≡ b = cc in e) refl;
+    in_parents = inside;
     in_order = in_order;
     each = each_box;
     fonts_there = each_style (λ s. s.font < 1) (λ s p. let zero_font = p.font in omega arith);

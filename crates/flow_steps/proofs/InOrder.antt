@@ -1,4 +1,4 @@
--- The boxes of every tree are numbered in document order, and its root is no inline box.
+-- The boxes of every tree are numbered in document order, and its root is laid out whole.
 use Rattle.std.proofs.Common.{◌≡◌, ℕ, zero, suc, ◌+◌, ◌<◌, ◌≤◌, ◌⊎◌, inl, inr, Bool, false, nat_lt, IsTrue, List, [], ◌∷◌, length, map, Option, None, Some, slice_get, refl, ap, ◌∙◌, arith}
 use Rattle.std.specs.Prelude.{option_map}
 use Rattle.std.specs.List.{list_all, range_with_len, AllByRecursion}
@@ -7,9 +7,10 @@ use Rattle.std.proofs.lemmas.Bool.{and_from, cases_order}
 use Rattle.std.proofs.lemmas.Bool.Decides.{nat_tests}
 use Rattle.std.proofs.lemmas.Option.{slice_get-map}
 use Rattle.viz_base.specs.Orders.{IsInOrder}
-use Rattle.viz_base.specs.Trees.{is_inline, ascends}
+use Rattle.viz_base.specs.Trees.{is_fragmented, is_inline, ascends}
 use Rattle.viz_base.specs.declared.trees.BoxNode.{BoxNode}
 use Rattle.viz_base.specs.declared.trees.BoxTree.{BoxTree}
+use Rattle.viz_base.specs.declared.trees.Kind.{Kind}
 use Rattle.viz_base.specs.declared.trees.Kind.TheVariants as of_kind
 use Rattle.layout_semantics.specs.Blocks.{kind_of}
 use Rattle.layout_semantics.specs.Order.{kids_of}
@@ -17,12 +18,19 @@ use Rattle.layout_semantics.proofs.Forest.{IsForest, IsKid, both}
 use Rattle.layout_semantics.proofs.Pages.{forest}
 use Rattle.flow_steps.specs.Order.{next_of, each_before_next, is_before_to, is_before, is_in_order}
 
-pub root_no_inline : (tree : BoxTree) → is_inline (kind_of tree 0) ≡ false
-root_no_inline tree = by_box (slice_get tree.boxes 0) refl
+pub whole_no_inline : (kind : Kind) → is_fragmented kind ≡ false → is_inline kind ≡ false
+whole_no_inline of_kind.Inline e = absurd (cc)
+whole_no_inline _ e = refl
+
+pub root-whole : (tree : BoxTree) → is_fragmented (kind_of tree 0) ≡ false
+root-whole tree = by_box (slice_get tree.boxes 0) refl
   where
-    by_box : (o : Option BoxNode) → slice_get tree.boxes 0 ≡ o → is_inline (option_map_or (λ (b : BoxNode). b.kind) o of_kind.Block) ≡ false
+    by_box : (o : Option BoxNode) → slice_get tree.boxes 0 ≡ o → is_fragmented (option_map_or (λ (b : BoxNode). b.kind) o of_kind.Block) ≡ false
     by_box None e = refl
-    by_box (Some b) e = tree.ok.root_is_block b e
+    by_box (Some b) e = tree.ok.root_is_whole b e
+
+pub root_no_inline : (tree : BoxTree) → is_inline (kind_of tree 0) ≡ false
+root_no_inline tree = whole_no_inline (kind_of tree 0) (root-whole tree)
 
 module _ (boxes : List BoxNode) (forest : IsForest boxes) (order : IsInOrder (map (λ (b : BoxNode). b.parent) boxes)) where
   -- what is in the boxes from a place on and before an end stands before that end too

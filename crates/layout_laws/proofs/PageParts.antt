@@ -1,5 +1,5 @@
 -- The parts of a page, after white space has gone: what each one is, and that they are arranged.
-use Rattle.std.proofs.Common.{◌≡◌, ℕ, zero, suc, ◌<◌, Bool, true, false, not, ◌==◌, ◌&&◌, List, [], ◌∷◌, map, length, Option, Some, None, option_and_then, slice_get, refl, sym, ◌∙◌, ap, subst, arith, if◌then◌else◌}
+use Rattle.std.proofs.Common.{◌≡◌, ℕ, suc, Bool, true, false, not, ◌==◌, ◌&&◌, List, [], ◌∷◌, map, length, Option, Some, None, option_and_then, slice_get, refl, sym, ◌∙◌, ap, subst, arith, if◌then◌else◌}
 use Rattle.std.specs.Option.{option_map_or}
 use Rattle.std.proofs.lemmas.Option.{slice_get_within}
 use Rattle.std.proofs.lemmas.Bool.{not-true}
@@ -16,6 +16,7 @@ use Rattle.viz_base.specs.declared.trees.Kind.TheVariants as of_kind
 use Rattle.layout_semantics.specs.Elements.{is_shown, parent_of}
 use Rattle.layout_semantics.specs.Parts.{Part, Level, kind_of_node, level_kind, inline_kind, level_of, part_of, shown_parts}
 use Rattle.layout_semantics.specs.WhiteSpace.{collapsed, collapsed_part, is_bare}
+pub use Rattle.layout_semantics.proofs.Pages.{slice_some}
 use Rattle.layout_laws.proofs.Members.{In, Rises, rises_chosen, to_map, from_map, from_chosen, to_chosen}
 use Rattle.layout_laws.proofs.Shown.{from_shown, to_shown, shown_rise}
 use Rattle.layout_laws.proofs.Above.{parent_is, parent_shown}
@@ -110,11 +111,6 @@ module _ (nodes : List Node) (styles : List Style) where
       by_kind k e l = ap (λ b. not (b && l)) e
 
 -- ---- parents
-
-pub slice_some : {A : Type 0} (xs : List A) (k : ℕ) → k < length xs → (x : A) × (slice_get xs k ≡ Some x)
-slice_some [] k l = absurd (omega (arith, l))
-slice_some (x ∷ xs) zero l = (x, refl)
-slice_some (x ∷ xs) (suc k) l = slice_some xs k (omega (arith, l))
 
 element_at : (nodes : List Node) (q : ℕ) (o : Option Node) → slice_get nodes q ≡ o → option_map_or (λ (n : Node). is_element n.body) o false ≡ true → (n : Node) × (slice_get nodes q ≡ Some n) × (is_element n.body ≡ true)
 element_at nodes q None e t = absurd (cc)

@@ -6,7 +6,7 @@ use Rattle.std.specs.Str.{chars}
 use Rattle.std.proofs.lemmas.Option.{slice_get_within, slice_get-map}
 use Rattle.viz_base.specs.Pages.{IsPage, is_element}
 use Rattle.viz_base.specs.Orders.{IsInOrder}
-use Rattle.viz_base.specs.Trees.{IsBoxTree, IsBoxAt, AreAlikeButSize, has_box, has_element, is_chars, is_element_box, is_inline, is_leaf, is_line, is_same_size, named_nodes}
+use Rattle.viz_base.specs.Trees.{IsBoxTree, IsBoxAt, AreAlikeButSize, has_box, has_element, is_chars, is_element_box, is_fragmented, is_in_parent, is_leaf, is_line, is_same_size, named_nodes}
 use Rattle.viz_base.specs.declared.fonts.Font.{Font}
 use Rattle.viz_base.specs.declared.nodes.Body.{Body}
 use Rattle.viz_base.specs.declared.nodes.Node.{Node}
@@ -333,16 +333,20 @@ module _ (nodes : List Node) (styles : List Style) (fonts : List Font) (page : I
     one_sort = one_sort nodes styles page none at b e;
   }
 
-  -- what these four promise is proved above
-  pub box_tree : blocks_in_inlines (page_parts nodes styles) ≡ [] → ((b : BoxNode) → slice_get (page_boxes nodes styles) 0 ≡ Some b → is_inline b.kind ≡ false)
+  -- what these promise is proved above and where it is called
+  pub box_tree : blocks_in_inlines (page_parts nodes styles) ≡ [] → ((b : BoxNode) → slice_get (page_boxes nodes styles) 0 ≡ Some b → is_fragmented b.kind ≡ false)
+      → ((b : BoxNode) → slice_get (page_boxes nodes styles) 0 ≡ Some b → b.node ≡ 0)
+      → ((at : ℕ) (b : BoxNode) → slice_get (page_boxes nodes styles) at ≡ Some b → is_in_parent (page_boxes nodes styles) at b.parent ≡ true)
       → IsInOrder (map (λ (b : BoxNode). b.parent) (page_boxes nodes styles))
       → ((at : ℕ) (b : BoxNode) → slice_get (page_boxes nodes styles) at ≡ Some b → b.kind ≡ of_kind.Chars
       → is_element_box (page_boxes nodes styles) (slice_get (tree_parents nodes) b.node) ≡ true)
       → ((at : ℕ) (b : BoxNode) → slice_get (page_boxes nodes styles) at ≡ Some b → b.kind ≡ of_kind.Anon → has_element (page_boxes nodes styles) b.node ≡ true)
       → IsBoxTree (page_boxes nodes styles) (tree_styles nodes styles) fonts (tree_parents nodes)
-  box_tree none block in_order texts anonymous = record {
+  box_tree none whole first inside in_order texts anonymous = record {
     root = λ b e. root_alone nodes styles page b e;
-    root_is_block = block;
+    root_is_whole = whole;
+    root_node = first;
+    in_parents = inside;
     in_order = in_order;
     each = λ at b e. box_fits none at b e;
     fonts_there = fonts_there;

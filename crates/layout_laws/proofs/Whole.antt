@@ -1,12 +1,12 @@
 -- Each box is in the box that it names, so each is on the page; and each shown element has a box.
 use Rattle.std.proofs.Common.{◌≡◌, ◌≢◌, ℕ, zero, suc, ◌+◌, ◌<◌, Bool, true, false, not, ◌==◌, ◌&&◌, ◌||◌, List, [], ◌∷◌, map, length, Contains, Option, Some, None, option_map, option_and_then, slice_get, encode_utf8_all, IsTrue, refl, sym, ◌∙◌, ap, subst, arith, if◌then◌else◌, eq-eqb, eqb-true, ltb-true, nat_lt}
 use Rattle.std.proofs.lemmas.Bool.{and_parts}
-use Rattle.std.specs.List.{list_all}
+use Rattle.std.specs.List.{list_all, list_any}
 use Rattle.std.specs.Option.{option_map_or}
 use Rattle.std.specs.Str.{chars}
 use Rattle.std.proofs.lemmas.Option.{slice_get_within}
 use Rattle.viz_base.specs.Pages.{IsPage, is_element_at, parent_fits}
-use Rattle.viz_base.specs.Trees.{ascends, has_box, is_chars}
+use Rattle.viz_base.specs.Trees.{ascends, has_box, is_chars, is_in_parent}
 use Rattle.viz_base.specs.declared.nodes.Node.{Node}
 use Rattle.viz_base.specs.declared.styles.Style.{Style}
 use Rattle.viz_base.specs.declared.trees.BoxNode.{BoxNode}
@@ -18,7 +18,7 @@ use Rattle.layout_semantics.specs.Lists.{one_if}
 use Rattle.layout_semantics.specs.Parts.{Part, Level, level_of, is_context, kind_of_node}
 use Rattle.layout_semantics.specs.WhiteSpace.{is_in}
 use Rattle.layout_semantics.specs.BoxTrees.{Item, boxes_before, own_place, outer_place, first_of, has_node, nodes_of, kid_place, kid_places, items_in, items_of, own_box, anonymous_box, begins_run, parts_in, wrapped_in, page_parts, page_boxes, tree_styles, tree_style_of, viewport_clip, is_block_level, is_floated_level}
-use Rattle.layout_laws.proofs.Members.{In, to_map, to_chosen, to_flat_map, any_in}
+use Rattle.layout_laws.proofs.Members.{In, to_map, to_chosen, to_flat_map, any_in, any_from}
 use Rattle.layout_laws.proofs.Places.{node_of, before_none}
 use Rattle.layout_laws.proofs.Kids.{own_box_at, anonymous_box_at, own_place_is, own_place_from}
 use Rattle.layout_laws.proofs.Nesting.{IsBoxOf}
@@ -29,7 +29,7 @@ use Rattle.layout_laws.proofs.BoxLaws.{page_arranged, ascending}
 use Rattle.layout_laws.proofs.BoxFacts.{item_known, page_box_is, hidden_alike, tree_style_at}
 use Rattle.layout_laws.proofs.BoxContent.{upwards_within}
 use Rattle.layout_laws.proofs.TextLengths.{length_encoded}
-use Rattle.layout_laws.proofs.TreeFacts.{element_of, no_parent, shown_boxed}
+use Rattle.layout_laws.proofs.TreeFacts.{element_of, no_parent, root_alone, shown_boxed}
 use Rattle.layout_laws.proofs.Sorts.{run_in}
 
 -- ---- lists
@@ -164,6 +164,29 @@ module _ (nodes : List Node) (styles : List Style) (page : IsPage nodes) where
           let parent = run_parent (page_parts nodes styles) x run i r in
           let some : option_map (own_place (items_of (page_parts nodes styles))) x.part.parent ≡ None = ap (λ (c : BoxNode). c.parent) (sym s) ∙ up in
           absurd (let p = parent.1 in let q = ap (option_map (own_place (items_of (page_parts nodes styles)))) p in cc)
+
+  -- the box of the first node is the first, and has its number
+  pub root_first : (b : BoxNode) → slice_get (page_boxes nodes styles) 0 ≡ Some b → b.node ≡ 0
+  root_first b e = by_box (page_box_is nodes styles page 0 b e) (root_alone nodes styles page b e)
+    where
+      by_box : IsBoxOf (items_of (page_parts nodes styles)) 0 b → b.parent ≡ None → b.node ≡ 0
+      by_box (IsBoxOf.own x i p s) up =
+          ap (λ (c : BoxNode). c.node) s ∙ root_node x i (outer_is_none x.part x.run (ap (λ (c : BoxNode). c.parent) (sym s) ∙ up))
+      by_box (IsBoxOf.anonymous x run i r t p s) up =
+          let parent = run_parent (page_parts nodes styles) x run i r in
+          let some : option_map (own_place (items_of (page_parts nodes styles))) x.part.parent ≡ None = ap (λ (c : BoxNode). c.parent) (sym s) ∙ up in
+          absurd (let p = parent.1 in let q = ap (option_map (own_place (items_of (page_parts nodes styles)))) p in cc)
+
+  -- each other box is among those in its parent
+  pub among_kids : (at : ℕ) (b : BoxNode) → slice_get (page_boxes nodes styles) at ≡ Some b → is_in_parent (page_boxes nodes styles) at b.parent ≡ true
+  among_kids at b e = by_parent b.parent refl
+    where
+      by_parent : (o : Option ℕ) → b.parent ≡ o → is_in_parent (page_boxes nodes styles) at o ≡ true
+      by_parent None up = eq-eqb at 0 (first_alone at b e up)
+      by_parent (Some p) up =
+          let there = kid_in_box at b p e up in
+          ap (λ (o : Option BoxNode). option_map_or (λ (outer : BoxNode). list_any (λ k. at == k) outer.kids) o false) there.1
+          ∙ any_from (λ k. at == k) there.0.kids at there.2 (eq-eqb at at refl)
 
   -- ---- each box is on the page
 

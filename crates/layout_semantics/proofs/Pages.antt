@@ -1,9 +1,10 @@
-use Rattle.std.proofs.Common.{◌≡◌, ℕ, zero, suc, ◌+◌, ◌<◌, ◌≤◌, ◌⊎◌, inl, inr, List, [], ◌∷◌, ◌++◌, length, Option, None, Some, slice_get, Contains, get_or, refl, sym, subst, arith, IsTrue, nat_lt}
-use Rattle.std.specs.List.{flat_map, AllByRecursion}
-use Rattle.std.specs.Option.{option_and_then}
+use Rattle.std.proofs.Common.{◌≡◌, ℕ, zero, suc, ◌+◌, ◌<◌, ◌≤◌, ◌⊎◌, inl, inr, false, ◌==◌, ◌||◌, ap, eqb-true, List, [], ◌∷◌, ◌++◌, length, Option, None, Some, slice_get, Contains, get_or, refl, sym, subst, arith, IsTrue, nat_lt}
+use Rattle.std.specs.List.{flat_map, list_any, AllByRecursion}
+use Rattle.std.specs.Option.{option_and_then, option_map_or}
 use Rattle.std.proofs.lemmas.List.Elements.{Contains-append_left, Contains-append_right, Contains-append_cases}
+use Rattle.std.proofs.lemmas.Map.Views.{Contains-from_any}
 use Rattle.std.proofs.lemmas.Option.{slice_get-get_or}
-use Rattle.viz_base.specs.Trees.{ascends}
+use Rattle.viz_base.specs.Trees.{ascends, has_box, is_in_parent}
 use Rattle.viz_base.specs.declared.trees.BoxNode.{BoxNode}
 use Rattle.viz_base.specs.declared.trees.BoxTree.{BoxTree}
 use Rattle.layout_semantics.specs.Order.{kids_of, order_to, document_order, roots, page_order, IsOnPage}
@@ -96,6 +97,49 @@ pub root_place : (boxes : List BoxNode) (at : ℕ) → Contains (roots boxes) at
 root_place [] at (i, l, e) = absurd (omega arith)
 root_place (b ∷ bs) at (zero, l, e) = (e, omega arith)
 root_place (b ∷ bs) at (suc i, l, e) = absurd (omega arith)
+
+-- what is on a page is one of its boxes
+pub within-page : (tree : BoxTree) (x : ℕ) → IsOnPage tree.boxes x → x < length tree.boxes
+within-page tree x (IsOnPage.root at c) = let place = root_place tree.boxes at c in let same = place.0 in let some = place.1 in omega (arith, same, some)
+within-page tree x (IsOnPage.inside at kid p k) = (Each-contains (IsKid tree.boxes at) (kids_of tree.boxes at) kid ((forest tree).kids at) k).within
+
+-- each box is on the page
+pub slice_some : {A : Type 0} (xs : List A) (k : ℕ) → k < length xs → (x : A) × (slice_get xs k ≡ Some x)
+slice_some [] k l = absurd (omega (arith, l))
+slice_some (x ∷ xs) zero l = (x, refl)
+slice_some (x ∷ xs) (suc k) l = slice_some xs k (omega (arith, l))
+
+first_root : (boxes : List BoxNode) → 0 < length boxes → Contains (roots boxes) 0
+first_root [] l = absurd (omega (arith, l))
+first_root (b ∷ bs) l = (0, omega arith, refl)
+
+all-on-page_to : (tree : BoxTree) (n k : ℕ) → k < n → k < length tree.boxes → IsOnPage tree.boxes k
+all-on-page_to tree zero k l h = absurd (omega (arith, l))
+all-on-page_to tree (suc n) k l h =
+    let b = slice_some tree.boxes k h in
+    by_parent b.0.parent (tree.ok.in_parents k b.0 b.1) (λ j m g. all-on-page_to tree n j m g)
+  where
+    by_outer : (o : Option BoxNode) → IsTrue (option_map_or (λ (outer : BoxNode). list_any (λ j. k == j) outer.kids) o false) → Contains (option_map_or (λ (outer : BoxNode). outer.kids) o []) k
+    by_outer None t = absurd (cc)
+    by_outer (Some outer) t = Contains-from_any eqb-true k outer.kids t
+
+    by_parent : (o : Option ℕ) → IsTrue (is_in_parent tree.boxes k o) → ((j : ℕ) → j < n → j < length tree.boxes → IsOnPage tree.boxes j) → IsOnPage tree.boxes k
+    by_parent None t again = subst (IsOnPage tree.boxes) (sym (eqb-true k 0 t)) (IsOnPage.root 0 (first_root tree.boxes (omega (arith, h))))
+    by_parent (Some p) t again =
+        let inside = by_outer (slice_get tree.boxes p) t in
+        let after = (Each-contains (IsKid tree.boxes p) (kids_of tree.boxes p) k ((forest tree).kids p) inside).after in
+        IsOnPage.inside p k (again p (omega (arith, after, l)) (omega (arith, after, h))) inside
+
+pub all-on-page : (tree : BoxTree) (k : ℕ) → k < length tree.boxes → IsOnPage tree.boxes k
+all-on-page tree k h = all-on-page_to tree (suc k) k (omega arith) h
+
+-- the first node has a box
+pub first-boxed : (tree : BoxTree) → 0 < length tree.boxes → IsTrue (has_box tree.boxes 0)
+first-boxed tree l = by_boxes tree.boxes refl l
+  where
+    by_boxes : (boxes : List BoxNode) → tree.boxes ≡ boxes → 0 < length boxes → IsTrue (has_box boxes 0)
+    by_boxes [] e l = absurd (omega (arith, l))
+    by_boxes (b ∷ bs) e l = let same = tree.ok.root_node b (ap (λ (x : List BoxNode). slice_get x 0) e) in ap (λ n. (n == 0) || has_box bs 0) same
 
 pub placed_on_page : (boxes : List BoxNode) (x : ℕ) → Contains (page_order boxes) x → IsOnPage boxes x
 placed_on_page boxes x c =

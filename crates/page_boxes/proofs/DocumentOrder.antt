@@ -5,7 +5,7 @@ use Rattle.std.proofs.lemmas.Bool.{cases_order}
 use Rattle.std.proofs.lemmas.Option.{same_Some, slice_get-map}
 use Rattle.viz_base.specs.Orders.{IsInOrder, is_from}
 use Rattle.viz_base.specs.Pages.{IsPage}
-use Rattle.viz_base.specs.Trees.{IsBoxTree, is_inline}
+use Rattle.viz_base.specs.Trees.{IsBoxTree, is_fragmented}
 use Rattle.viz_base.specs.declared.fonts.Font.{Font}
 use Rattle.viz_base.specs.declared.nodes.Node.{Node}
 use Rattle.viz_base.specs.declared.styles.Style.{Style}
@@ -26,8 +26,9 @@ use Rattle.layout_laws.proofs.BoxLaws.{page_arranged}
 use Rattle.layout_laws.proofs.BoxFacts.{item_known, item_part, page_box_is}
 use Rattle.layout_laws.proofs.Sorts.{run_in}
 use Rattle.layout_laws.proofs.TreeFacts.{box_tree, no_parent}
+use Rattle.layout_laws.proofs.Whole.{among_kids, root_first}
 use Rattle.layout_laws.proofs.ElementBoxes.{anonymous-in, text-in}
-use Rattle.page_boxes.proofs.PageSteps.{root_has_none, root_kind}
+use Rattle.page_boxes.proofs.PageSteps.{root_has_none, root_whole}
 
 -- ---- runs leave out nothing
 
@@ -464,18 +465,18 @@ module _ (nodes : List Node) (styles : List Style) (page : IsPage nodes) where
         run_in nodes styles page x q j up_x ∙ find_run 0 runs run (node_of x) (rises_wrapped 0 kids (kids_rise q)) there has;
   }
 
-  root_is_block : (b : BoxNode) → slice_get (page_boxes nodes styles) 0 ≡ Some b → is_inline b.kind ≡ false
-  root_is_block b e = by_box (page_box_is nodes styles page 0 b e)
+  root_is_whole : (b : BoxNode) → slice_get (page_boxes nodes styles) 0 ≡ Some b → is_fragmented b.kind ≡ false
+  root_is_whole b e = by_box (page_box_is nodes styles page 0 b e)
     where
-      by_box : IsBoxOf (items_of (page_parts nodes styles)) 0 b → is_inline b.kind ≡ false
-      by_box (IsBoxOf.anonymous x run i r t p s) = ap (λ (c : BoxNode). is_inline c.kind) s
+      by_box : IsBoxOf (items_of (page_parts nodes styles)) 0 b → is_fragmented b.kind ≡ false
+      by_box (IsBoxOf.anonymous x run i r t p s) = ap (λ (c : BoxNode). is_fragmented c.kind) s
       by_box (IsBoxOf.own x i p s) =
           let from = own_place_from (items_of (page_parts nodes styles)) (page_arranged nodes styles page) x i in
           let none = no_parent (items_of (page_parts nodes styles)) (page_arranged nodes styles page) x i (omega (arith, from, p)) in
           let k = item_known nodes styles page x i in
           let alone : k.entry.parent ≡ None = sym (ap (λ (p : Part). p.parent) k.is) ∙ none in
           let root = eq-eqb (node_of x) 0 (root_has_none nodes (tree_styles nodes styles) page (node_of x) k.entry k.node_is alone) in
-          ap (λ (c : BoxNode). is_inline c.kind) s ∙ (ap (λ (p : Part). is_inline p.kind) k.is ∙ (ap (λ t. is_inline (kind_of_node t k.entry.body k.style)) root ∙ root_kind k.entry.body k.style))
+          ap (λ (c : BoxNode). is_fragmented c.kind) s ∙ (ap (λ (p : Part). is_fragmented p.kind) k.is ∙ (ap (λ t. is_fragmented (kind_of_node t k.entry.body k.style)) root ∙ root_whole k.entry.body k.style))
 
   parent_named : (k : ℕ) (o : Option ℕ) → slice_get (map (λ (b : BoxNode). b.parent) (page_boxes nodes styles)) k ≡ Some o → (b : BoxNode) × (slice_get (page_boxes nodes styles) k ≡ Some b) × (b.parent ≡ o)
   parent_named k o e = by_box (slice_get (page_boxes nodes styles) k) refl (sym (slice_get-map (λ (b : BoxNode). b.parent) (page_boxes nodes styles) k) ∙ e)
@@ -494,5 +495,5 @@ module _ (nodes : List Node) (styles : List Style) (page : IsPage nodes) where
 
 pub tree_of_page : (nodes : List Node) (styles : List Style) (fonts : List Font) → IsPage nodes → AreStylesOf nodes styles fonts → blocks_in_inlines (page_parts nodes styles) ≡ []
     → IsBoxTree (page_boxes nodes styles) (tree_styles nodes styles) fonts (tree_parents nodes)
-tree_of_page nodes styles fonts page styled none = box_tree nodes styles fonts page styled none (root_is_block nodes styles page) (boxes_in_order nodes styles page)
+tree_of_page nodes styles fonts page styled none = box_tree nodes styles fonts page styled none (root_is_whole nodes styles page) (root_first nodes styles page) (among_kids nodes styles page) (boxes_in_order nodes styles page)
     (text-in nodes styles page) (anonymous-in nodes styles page)

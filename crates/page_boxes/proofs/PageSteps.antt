@@ -6,7 +6,7 @@ use Rattle.std.specs.Str.{chars}
 use Rattle.std.proofs.lemmas.Option.{slice_get_within}
 use Rattle.std.proofs.lemmas.Str.{chars-nil}
 use Rattle.viz_base.specs.Pages.{IsPage, is_element, is_element_at, is_replaced, parent_fits, text_of}
-use Rattle.viz_base.specs.Trees.{is_chars, is_inline}
+use Rattle.viz_base.specs.Trees.{is_chars, is_fragmented, is_inline}
 use Rattle.viz_base.specs.declared.nodes.Body.{Body}
 use Rattle.viz_base.specs.declared.nodes.Body.TheVariants as of_body
 use Rattle.viz_base.specs.declared.nodes.Node.{Node}
@@ -27,7 +27,14 @@ use Rattle.page_boxes.proofs.SpaceSteps.{Fits, HasText, spaces_walk_is}
 
 -- ---- the root
 
-pub root_kind : (body : Body) (s : Style) → is_inline (kind_of_node true body s) ≡ false
+pub root_whole : (body : Body) (s : Style) → is_fragmented (kind_of_node true body s) ≡ false
+root_whole body s = by_replaced (is_replaced body)
+  where
+    by_replaced : (t : Bool) → is_fragmented (if t then of_kind.Replaced else of_kind.Block) ≡ false
+    by_replaced true = refl
+    by_replaced false = refl
+
+root_kind : (body : Body) (s : Style) → is_inline (kind_of_node true body s) ≡ false
 root_kind body s = by_replaced (is_replaced body)
   where
     by_replaced : (t : Bool) → is_inline (if t then of_kind.Replaced else of_kind.Block) ≡ false

@@ -1,5 +1,5 @@
 -- What holds of the lengths of a box, where it holds of what allowed values say and of the parent's.
-use Rattle.std.proofs.Common.{◌≡◌, ℕ, zero, suc, ℤ, pos, ◌<◌, Bool, true, false, List, [], Option, Some, None, refl, sym, subst, arith, rules, length}
+use Rattle.std.proofs.Common.{◌≡◌, ℕ, zero, suc, ℤ, pos, Bool, true, false, List, Option, Some, refl, sym, subst, arith, rules, length}
 use Rattle.std.specs.List.{AllByRecursion}
 use Rattle.viz_base.specs.Styles.{is_fixed}
 use Rattle.viz_base.specs.declared.lengths.Length.{Length}

@@ -1,5 +1,5 @@
 -- Computed styles fit the page and its fonts.
-use Rattle.std.proofs.Common.{◌≡◌, ℕ, zero, suc, ◌+◌, ◌<◌, ◌≤◌, Bool, true, false, ◌==◌, ◌&&◌, ◌||◌, List, [], ◌∷◌, ◌++◌, length, Option, Some, None, option_and_then, slice_get, unwrap_or, IsTrue, refl, sym, ap, subst, ◌∙◌, arith}
+use Rattle.std.proofs.Common.{◌≡◌, ℕ, zero, suc, ◌<◌, Bool, true, false, ◌==◌, ◌&&◌, ◌||◌, List, [], ◌∷◌, ◌++◌, length, Option, Some, None, option_and_then, slice_get, unwrap_or, IsTrue, refl, sym, ap, subst, ◌∙◌, arith}
 use Rattle.std.specs.List.{AllByRecursion, list_all, list_any}
 use Rattle.std.proofs.lemmas.Bool.{and_from, eq-eqb, eqb-true}
 use Rattle.std.proofs.lemmas.List.Folds.{list_all-append}
@@ -29,7 +29,7 @@ use Rattle.layout_semantics.specs.Elements.{ancestors, parent_of}
 use Rattle.layout_laws.specs.Styled.{AreStylesOf, is_at_or_above}
 use Rattle.layout_laws.proofs.Above.{ancestors_are, parent_is}
 use Rattle.page_style.proofs.Allowed.{computed_is}
-use Rattle.page_style.proofs.BoxLengths.{AllLengths, EachSide, OfMaximum, OfStyle, lengths_are}
+use Rattle.page_style.proofs.BoxLengths.{EachSide, OfMaximum, OfStyle, lengths_are}
 use Rattle.page_style.proofs.Reaching.{get_there}
 
 -- ---- the nodes that a style names pass a test

@@ -8,7 +8,6 @@ use Rattle.viz_base.specs.declared.nodes.Node.{Node}
 use Rattle.viz_base.specs.declared.settings.Setting.{Setting}
 use Rattle.viz_base.specs.declared.styles.Style.{Style}
 use Rattle.css_semantics.specs.ComputedValues.{AreComputed, AreDrawn, IsComputed, IsOfText, of_parent}
-use Rattle.layout_semantics.specs.Elements.{parent_of}
 use Rattle.layout_laws.proofs.Above.{parent_is}
 
 -- ---- places of lists

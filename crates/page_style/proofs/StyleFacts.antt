@@ -1,11 +1,11 @@
 -- The facts that a style keeps hold of computed values.
-use Rattle.std.proofs.Common.{◌≡◌, ℕ, zero, suc, ℤ, pos, negsuc, ◌<◌, ◌≤◌, ◌^◌, Bool, true, false, ◌&&◌, nat_le, unsigned_abs, List, [], ◌∷◌, ◌++◌, Option, Some, None, slice_get, IsTrue, refl, sym, subst, arith}
+use Rattle.std.proofs.Common.{◌≡◌, ℕ, zero, suc, ℤ, pos, negsuc, ◌^◌, Bool, true, false, ◌&&◌, unsigned_abs, List, [], ◌∷◌, ◌++◌, Option, Some, None, slice_get, refl, sym, subst, arith}
 use Rattle.std.specs.Prelude.{◌≤ℤ◌}
 use Rattle.std.specs.List.{AllByRecursion, list_all}
 use Rattle.std.specs.Option.{option_to_list}
 use Rattle.std.proofs.lemmas.Bool.{and_from, le-leb}
 use Rattle.std.proofs.lemmas.Int.{ints}
-use Rattle.viz_base.specs.Styles.{IsStyle, is_bounded, is_fixed, is_good_line, is_good_size, is_good_valign, is_nonnegative, sides_of}
+use Rattle.viz_base.specs.Styles.{IsStyle, is_bounded, is_fixed, is_good_line, is_good_size, is_good_valign, is_no_percentage, is_nonnegative, sides_of}
 use Rattle.viz_base.specs.declared.lengths.Length.{Length}
 use Rattle.viz_base.specs.declared.lengths.Length.TheVariants as of_length
 use Rattle.viz_base.specs.declared.lengths.LineHeight.{LineHeight}
@@ -13,17 +13,18 @@ use Rattle.viz_base.specs.declared.lengths.Sides.{Sides}
 use Rattle.viz_base.specs.declared.lengths.Size.{Size}
 use Rattle.viz_base.specs.declared.lengths.Size.TheVariants as of_size
 use Rattle.viz_base.specs.declared.lengths.Valign.{Valign}
-use Rattle.viz_base.specs.declared.settings.Prop.TheVariants.{FontSize, LineHeight as LineHeightProp, VerticalAlign}
+use Rattle.viz_base.specs.declared.settings.Prop.{Prop}
+use Rattle.viz_base.specs.declared.settings.Prop.TheVariants.{BorderTopWidth, BorderRightWidth, BorderBottomWidth, BorderLeftWidth, FontSize, LineHeight as LineHeightProp, VerticalAlign}
 use Rattle.viz_base.specs.declared.settings.Setting.{Setting}
 use Rattle.viz_base.specs.declared.settings.Value.{Value}
 use Rattle.viz_base.specs.declared.settings.Value.TheVariants as of_value
 use Rattle.viz_base.specs.declared.styles.Style.{Style}
-use Rattle.css_semantics.specs.ComputedValues.{AreLengths, computed, length_of, line_of, size_of, valign_of}
+use Rattle.css_semantics.specs.ComputedValues.{AreLengths, computed, if_drawn, width_of, line_of, size_of, valign_of}
 use Rattle.css_semantics.specs.Properties.{Row, row}
 use Rattle.css_semantics.specs.Winners.{IsAllowed, MayWin}
 use Rattle.std.proofs.lemmas.Bool.{and_parts}
 use Rattle.page_style.proofs.Allowed.{computed_is}
-use Rattle.page_style.proofs.BoxLengths.{AllLengths, EachSide, OfMaximum, OfStyle, lengths_are}
+use Rattle.page_style.proofs.BoxLengths.{EachSide, OfStyle, lengths_are}
 
 abbrev Bounded : Length → Type 0
 Bounded l = is_bounded l ≡ true
@@ -134,7 +135,38 @@ valign_says node (of_value.Pct n) m = pct_bounded (row VerticalAlign) n m
 valign_says node (of_value.Number n) m = refl
 valign_says node (of_value.Names n) m = refl
 
+-- ---- borders
+
+abbrev Plain : Length → Type 0
+Plain l = is_no_percentage l ≡ true
+
+width_says : (r : Row) (node : ℕ) (v : Value) → ((n : ℤ) → MayWin r (of_value.Pct n) → ⊥) → MayWin r v → Plain (width_of node v)
+width_says r node of_value.Inherit none m = refl
+width_says r node (of_value.Word zero) none m = refl
+width_says r node (of_value.Word (suc zero)) none m = refl
+width_says r node (of_value.Word (suc (suc zero))) none m = refl
+width_says r node (of_value.Word (suc (suc (suc n)))) none m = refl
+width_says r node (of_value.Px n) none m = refl
+width_says r node (of_value.Em n) none m = refl
+width_says r node (of_value.Pct n) none m = absurd (none n m)
+width_says r node (of_value.Number n) none m = refl
+width_says r node (of_value.Names n) none m = refl
+
+drawn_plain : (drawn : Bool) (l : Length) → Plain l → Plain (if_drawn drawn l)
+drawn_plain true l p = p
+drawn_plain false l p = refl
+
+plain_sides : (t : Style) → EachSide Plain t.border
+plain_sides t =
+    let side = λ (k : ℕ) (l : Length) (e : slice_get (sides_of t.border) k ≡ Some l). all_at is_no_percentage (sides_of t.border) k l e t.ok.plain_borders in
+    record { top = side 0 t.border.top refl; right = side 1 t.border.right refl; bottom = side 2 t.border.bottom refl; left = side 3 t.border.left refl }
+
 module _ (node : ℕ) (ws : List Setting) (allowed : AllByRecursion IsAllowed ws) (drawn : Sides Bool) (parent : Option Style) where
+  plain_width : (p : Prop) (part : Style → Length) (d : Bool) (l : Length) → l ≡ if_drawn d (computed p (width_of node) part parent ws) → MayWin (row p) (row p).initial
+      → ((n : ℤ) → MayWin (row p) (of_value.Pct n) → ⊥) → ((t : Style) → EachSide Plain t.border → Plain (part t)) → Plain l
+  plain_width p part d l e m none f =
+      subst Plain (sym e) (drawn_plain d _ (computed_is p ws allowed m Plain (width_of node) part parent (λ v h. width_says (row p) node v none h) (λ t h. f t (plain_sides t))))
+
   -- what the table gives keeps the facts
   pub is_style : (width min_width : Length) (max_width : Option Length) (height min_height : Length) (max_height : Option Length) (margin padding border : Sides Length) (size : Size) (line : LineHeight) (valign : Valign)
       → AreLengths node ws drawn parent width min_width max_width height min_height max_height margin padding border
@@ -154,6 +186,10 @@ module _ (node : ℕ) (ws : List Setting) (allowed : AllByRecursion IsAllowed ws
             (and_from _ _ (maxima is_fixed max_width max_height (λ x e. (l.max_width_is x e).1) (λ x e. (l.max_height_is x e).1))
             (and_from _ _ l.paddings.top.1 (and_from _ _ l.paddings.right.1 (and_from _ _ l.paddings.bottom.1 (and_from _ _ l.paddings.left.1
             (and_from _ _ l.borders.top.1 (and_from _ _ l.borders.right.1 (and_from _ _ l.borders.bottom.1 (and_from _ _ l.borders.left.1 refl)))))))));
+        plain_borders = and_from _ _ (plain_width BorderTopWidth (λ t. t.border.top) drawn.top border.top a.border_top (omega arith) (λ n m. m.0) (λ t h. h.top))
+            (and_from _ _ (plain_width BorderRightWidth (λ t. t.border.right) drawn.right border.right a.border_right (omega arith) (λ n m. m.0) (λ t h. h.right))
+            (and_from _ _ (plain_width BorderBottomWidth (λ t. t.border.bottom) drawn.bottom border.bottom a.border_bottom (omega arith) (λ n m. m.0) (λ t h. h.bottom))
+            (and_from _ _ (plain_width BorderLeftWidth (λ t. t.border.left) drawn.left border.left a.border_left (omega arith) (λ n m. m.0) (λ t h. h.left)) refl)));
         size_good = subst GoodSize (sym s) (computed_is FontSize ws allowed (omega arith) GoodSize size_of (λ (t : Style). of_size.Same) parent size_says (λ t e. refl));
         line_good = subst GoodLine (sym i) (computed_is LineHeightProp ws allowed (omega arith) GoodLine (line_of node) (λ (t : Style). t.line) parent (line_says node) (λ t e. t.ok.line_good));
         valign_good = subst GoodValign (sym v) (computed_is VerticalAlign ws allowed (omega arith) GoodValign (valign_of node) (λ (t : Style). t.valign) parent (valign_says node) (λ t e. t.ok.valign_good));

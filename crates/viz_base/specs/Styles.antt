@@ -25,6 +25,10 @@ is_fixed (of_length.Px c) = true
 is_fixed (of_length.Em k node) = true
 is_fixed (of_length.Pct p) = true
 
+abbrev pub is_no_percentage : Length → Bool
+is_no_percentage (of_length.Pct p) = false
+is_no_percentage _ = true
+
 abbrev pub is_nonnegative : ℤ → Bool
 is_nonnegative (pos n) = true
 is_nonnegative (negsuc n) = false
@@ -62,6 +66,8 @@ pub record IsStyle (width min_width : Length) (max_width : Option Length) (heigh
   pub fixed : IsTrue (list_all is_fixed (min_width ∷ min_height ∷ [])
       && (list_all is_fixed (option_to_list max_width ++ option_to_list max_height)
       && list_all is_fixed (sides_of padding ++ sides_of border)))
+  -- no border is a percentage: CSS knows none (8.5.1)
+  pub plain_borders : IsTrue (list_all is_no_percentage (sides_of border))
   pub size_good : IsTrue (is_good_size size)
   pub line_good : IsTrue (is_good_line line)
   pub valign_good : IsTrue (is_good_valign valign)

@@ -40,6 +40,13 @@ abbrev pub is_inline : Kind → Bool
 is_inline of_kind.Inline = true
 is_inline _ = false
 
+-- boxes that lines lay out in fragments: inline boxes, texts and forced breaks (CSS 2.1, 9.2.2)
+abbrev pub is_fragmented : Kind → Bool
+is_fragmented of_kind.Inline = true
+is_fragmented of_kind.Chars = true
+is_fragmented of_kind.Break = true
+is_fragmented _ = false
+
 abbrev pub is_chars : Kind → Bool
 is_chars of_kind.Chars = true
 is_chars _ = false
@@ -88,6 +95,11 @@ ascends low (k ∷ ks) = nat_lt low k && ascends k ks
 
 abbrev pub is_kid_of : ℕ → BoxNode → Bool
 is_kid_of at b = option_map_or (λ p. p == at) b.parent false
+
+-- the box at a place is among those in its parent; without one it is the first
+abbrev pub is_in_parent : List BoxNode → ℕ → Option ℕ → Bool
+is_in_parent boxes at None = at == 0
+is_in_parent boxes at (Some p) = box_passes (λ (outer : BoxNode). list_any (λ k. at == k) outer.kids) boxes p
 
 -- what may stand in an inline box
 abbrev pub is_inline_content : List Style → BoxNode → Bool
@@ -190,7 +202,9 @@ pub record IsBoxAt (boxes : List BoxNode) (nodes : ℕ) (styles : List Style) (a
 pub record IsBoxTree (boxes : List BoxNode) (styles : List Style) (fonts : List Font) (parents : List (Option ℕ)) : Type 0 where
   -- the first box, where there is one, is the root
   pub root : (b : BoxNode) → slice_get boxes 0 ≡ Some b → b.parent ≡ None
-  pub root_is_block : (b : BoxNode) → slice_get boxes 0 ≡ Some b → is_inline b.kind ≡ false
+  pub root_is_whole : (b : BoxNode) → slice_get boxes 0 ≡ Some b → is_fragmented b.kind ≡ false
+  pub root_node : (b : BoxNode) → slice_get boxes 0 ≡ Some b → b.node ≡ 0
+  pub in_parents : (at : ℕ) (b : BoxNode) → slice_get boxes at ≡ Some b → IsTrue (is_in_parent boxes at b.parent)
   pub in_order : IsInOrder (map (λ (b : BoxNode). b.parent) boxes)
   pub each : (at : ℕ) (b : BoxNode) → slice_get boxes at ≡ Some b → IsBoxAt boxes (length styles) styles at b
   pub fonts_there : (node : ℕ) (s : Style) → slice_get styles node ≡ Some s → s.font < length fonts

@@ -47,6 +47,6 @@ pub use settings::{Cascaded, Prop, Setting, Source, Value};
 pub use sheets::{Decl, Rule, Sheet};
 pub use styles::{Align, Clear, Display, Side, Style};
 pub use texts::Text;
-pub use tokens::{Token, TokenKind};
+pub use tokens::TokenKind;
 pub use trees::{BoxNode, BoxTree, Kind};
 pub use worlds::{Axis, Rect, Span, World};

@@ -63,7 +63,7 @@ pub struct Style {
     /// Whether lines may break at spaces (`white-space: normal`).
     pub wraps: bool,
     /// No denominator is 0, no percentage is over 2^40 in size, no number of `size` and `line` is
-    /// negative, and no minimum, maximum, padding, border or raise is `Auto`.
+    /// negative, no minimum, maximum, padding, border or raise is `Auto`, and no border a percentage.
     pub ghost ok: { IsStyle width min_width max_width height min_height max_height margin padding border size line
         valign },
 }

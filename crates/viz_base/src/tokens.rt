@@ -31,11 +31,3 @@ pub enum TokenKind {
     DashMatch,
     Delim,
 }
-
-/// A piece of a style sheet, and the place of its first byte.
-#[derive(Clone, Copy, Debug)]
-pub struct Token<'a> {
-    pub kind: TokenKind,
-    pub at: usize,
-    pub text: &'a str,
-}

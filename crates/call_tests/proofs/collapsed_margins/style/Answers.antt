@@ -6,6 +6,7 @@ pub invariant_of-result : goal.invariant_of-result
 invariant_of-result c = record {
   ok = record {
     percentages = ap (λ x. x && true) c.requires.bounded;
+    plain_borders = refl;
     fixed = refl;
     size_good = refl;
     line_good = refl;

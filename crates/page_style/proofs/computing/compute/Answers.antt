@@ -1,4 +1,4 @@
-use Rattle.std.proofs.Common.{◌≡◌, ℕ, ◌+◌, ◌<◌, ◌≤◌, ◌++◌, ◌∷◌, [], List, Option, Some, length, get_or, slice_get, refl, sym, ap, subst, ◌∙◌, arith}
+use Rattle.std.proofs.Common.{◌≡◌, ℕ, ◌+◌, ◌<◌, ◌≤◌, ◌++◌, ◌∷◌, [], List, Option, length, get_or, refl, sym, ap, subst, ◌∙◌, arith}
 use Rattle.std.specs.Option.{option_copied}
 use Rattle.std.proofs.lemmas.Option.{slice_get_read}
 use Rattle.viz_base.specs.declared.fonts.Font.{Font}
@@ -6,7 +6,7 @@ use Rattle.viz_base.specs.declared.lengths.Sides.{Sides}
 use Rattle.viz_base.specs.declared.settings.Setting.{Setting}
 use Rattle.viz_base.specs.declared.styles.Style.{Style}
 use Rattle.std.specs.Prelude.{Bool}
-use Rattle.css_semantics.specs.ComputedValues.{AreDrawn, IsComputed, IsOfText, of_parent}
+use Rattle.css_semantics.specs.ComputedValues.{AreDrawn, IsComputed, of_parent}
 use Rattle.page_style.proofs.Reaching.{Reached, more, finish}
 use Rattle.page_style.proofs.Fitting.{styles_fit}
 use Rattle.page_style.proofs.computing.compute.Goals as goal

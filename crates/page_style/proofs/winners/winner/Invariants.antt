@@ -1,6 +1,4 @@
-use Rattle.std.proofs.Common.{◌≡◌, drop, option_map}
-use Rattle.std.specs.List.{find}
-use Rattle.viz_base.specs.declared.settings.Setting.{Setting}
+use Rattle.std.proofs.Common.{◌≡◌, drop}
 use Rattle.css_semantics.specs.ComputedValues.{winner}
 use Rattle.page_style.proofs.winners.winner.Given as goal
 
