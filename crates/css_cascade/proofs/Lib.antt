@@ -16,3 +16,4 @@ pub mod Strongest
 pub mod Standing
 pub mod Repeating
 pub mod Lacking
+pub mod OneCascade

@@ -2,32 +2,60 @@
 use Rattle.std.proofs.Common.{◌≡◌, ℕ, List, length, Result, Ok, Err, map, sym, ◌∙◌, ap, subst}
 use Rattle.std.specs.Prelude.{MatchResult, IfOk, ◌<◌, ◌^◌}
 use Rattle.std.specs.List.{All}
-use Rattle.std.specs.Str.{IsUtf8}
+use Rattle.std.specs.Str.{IsUtf8, chars}
 use Rattle.css_semantics.specs.Specificity.{IsCountable}
 use Rattle.css_select.proofs.Lengths.{are_countable}
-use denote.Bor.{Bor}
 use Rattle.viz_base.specs.declared.groups.Selector.{Selector}
-use Rattle.viz_base.specs.declared.tokens.Token.{Token}
+use Rattle.css_semantics.specs.Pieces.{Token}
 use Rattle.css_semantics.specs.Tokens.{AreTokens}
+use Rattle.css_semantics.proofs.PieceLemmas.{pieces_same}
+use Rattle.css_token.proofs.SequenceLemmas.{pieces_exist}
 use Rattle.css_semantics.specs.SelectorTerminals.{without_comments}
 use Rattle.css_semantics.specs.SelectorGrammar.{IsGroupOf}
 use Rattle.css_select.specs.declared.faults.SelFault.{SelFault}
 use Rattle.css_select.specs.declared.faults.SelFault.TheVariants.{Mem, Bad, Unsupported}
 use Rattle.css_select.specs.steps.Machine.{parts_of}
-use Rattle.css_select.specs.Verdicts.{bad_at, Says, Faults, IsFault, IsReading, verdict_of}
-use Rattle.css_select.proofs.Exact.{reads_all}
+use Rattle.css_select.specs.Verdicts.{Verdict, group_is, unsupported_at, bad_at, Says, Faults, IsFault, IsReading, IsReadingOf, verdict_of}
+use Rattle.css_select.proofs.Exact.{one_reading, reads_all}
 
-fault_of : (text : Bor (List ℕ)) (ts : List Token) (end : ℕ) → AreTokens text.now ts → end ≡ length text.now → (fault : SelFault) → Faults fault (verdict_of end ts) → IsFault fault text.now
+fault_of : (text : List ℕ) (ts : List Token) (end : ℕ) → AreTokens text ts → end ≡ length text → (fault : SelFault) → Faults fault (verdict_of end ts) → IsFault fault text
 fault_of text ts end h e Mem f = tt
-fault_of text ts end h e (Bad place) f = (ts, h, subst (λ n. IsReading n (without_comments ts) (bad_at place)) e (subst (IsReading end (without_comments ts)) f (reads_all text end ts)))
-fault_of text ts end h e (Unsupported place) f = let k = subst (IsReading end (without_comments ts)) f (reads_all text end ts) in (ts, h, k.0, k.1, k.2)
+fault_of text ts end h e (Bad place) f = (ts, h, subst (λ n. IsReading n (without_comments ts) (bad_at place)) e (subst (IsReading end (without_comments ts)) f (reads_all end ts)))
+fault_of text ts end h e (Unsupported place) f = let k = subst (IsReading end (without_comments ts)) f (reads_all end ts) in (ts, h, k.0, k.1, k.2)
 
-pub answers : (text : Bor (List ℕ)) (ts given : List Token) (end : ℕ) (result : Result (List Selector) SelFault) → AreTokens text.now ts → end ≡ length text.now → given ≡ ts → Says result (verdict_of end given)
-    → MatchResult result (λ group. IsGroupOf text.now (map parts_of group)) (λ fault. IsFault fault text.now)
-answers text ts given end (Ok group) h e g s = (ts, h, subst (IsReading end (without_comments ts)) (ap (verdict_of end) (sym g) ∙ s) (reads_all text end ts))
+pub answers : (text : List ℕ) (ts given : List Token) (end : ℕ) (result : Result (List Selector) SelFault) → AreTokens text ts → end ≡ length text → given ≡ ts → Says result (verdict_of end given)
+    → MatchResult result (λ group. IsGroupOf text (map parts_of group)) (λ fault. IsFault fault text)
+answers text ts given end (Ok group) h e g s = (ts, h, subst (IsReading end (without_comments ts)) (ap (verdict_of end) (sym g) ∙ s) (reads_all end ts))
 answers text ts given end (Err fault) h e g s = fault_of text ts end h e fault (subst (λ x. Faults fault (verdict_of end x)) g s)
 
 -- the selectors of a group are countable
 pub countable : (text : List ℕ) (result : Result (List Selector) SelFault) → IsUtf8 text → length text < 2 ^ 32 → MatchResult result (λ group. IsGroupOf text (map parts_of group)) (λ fault. IsFault fault text) → IfOk result (All (λ (s : Selector). IsCountable s.parts))
 countable text (Ok group) u small h = are_countable text group u small h
 countable text (Err fault) u small h = tt
+
+-- ---- a text has one reading
+
+-- the tokens of the text, and what they are
+abbrev Told : List ℕ → Verdict → Type 0
+Told text v = (ts : List Token) × AreTokens text ts × IsReading (length text) (without_comments ts) v
+
+told : (text : List ℕ) (v : Verdict) → IsReadingOf text v → Told text v
+told text (group_is group) h = h
+told text (unsupported_at place) h = (h.0, h.1, (h.2, h.3, h.4))
+told text (bad_at place) h = h
+
+of_told : (text : List ℕ) (v : Verdict) → Told text v → IsReadingOf text v
+of_told text (group_is group) h = h
+of_told text (unsupported_at place) h = let k = h.2 in (h.0, h.1, k.0, k.1, k.2)
+of_told text (bad_at place) h = h
+
+pub one_reading_of : (text : List ℕ) (v w : Verdict) → IsReadingOf text v → IsReadingOf text w → v ≡ w
+one_reading_of text v w h k =
+    let a = told text v h in
+    let b = told text w k in
+    one_reading (length text) (without_comments a.0) v w a.2 (subst (λ ts. IsReading (length text) (without_comments ts) w) (pieces_same b.0 a.0 0 (chars text) b.1 a.1) b.2)
+
+pub some_reading_of : (text : List ℕ) → (v : Verdict) × IsReadingOf text v
+some_reading_of text =
+    let x = pieces_exist (chars text) in
+    (verdict_of (length text) x.0, of_told text (verdict_of (length text) x.0) (x.0, x.1, reads_all (length text) x.0))

@@ -1,10 +1,9 @@
 -- What reading says of tokens is what they are, and they are nothing else.
 use Rattle.std.proofs.Common.{◌≡◌, ℕ, ◌<◌, ◌≤◌, Bool, true, false, cond, List, [], ◌∷◌, ◌++◌, length, Option, Some, None, Result, Ok, Err, refl, sym, ◌∙◌, ap, subst, arith, append_assoc, length-append}
 use Rattle.std.proofs.lemmas.List.{append-nil}
-use denote.Bor.{Bor}
 use Rattle.viz_base.specs.declared.selectors.Compound.{Compound}
 use Rattle.viz_base.specs.declared.selectors.Join.{Join}
-use Rattle.viz_base.specs.declared.tokens.Token.{Token}
+use Rattle.css_semantics.specs.Pieces.{Token}
 use Rattle.css_semantics.specs.SheetsReading.{start_of}
 use Rattle.css_semantics.specs.SelectorTerminals.{without_comments}
 use Rattle.css_semantics.specs.SelectorGrammar.{at_start, none_earlier, IsGroup, BeginsGroup, IsNoGroup}
@@ -52,9 +51,9 @@ sound : (ts : List Token) (s : State) → follow initial ts ≡ Ok s → may_end
 sound ts s e m = final_group ts (reads_final s.place s.group s.parts s.join s.compound s.refused ts (follow_reads initial [] ts s initial_reads e) m)
 
 -- what is read begins a group
-begins : (b : Bor (List ℕ)) (ts : List Token) (s : State) → follow initial ts ≡ Ok s → BeginsGroup ts
-begins b ts s e =
-    let l = leads_on b s in
+begins : (ts : List Token) (s : State) → follow initial ts ≡ Ok s → BeginsGroup ts
+begins ts s e =
+    let l = leads_on s in
     let g = sound (ts ++ l.more) l.next (follow_on initial s ts l.more e ∙ l.follows) l.ends in
     (l.more, (ended l.next).group, g.0, g.2)
 
@@ -109,15 +108,15 @@ no_more ts place h p r e b =
     let fails = ap (follow initial) whole ∙ stuck_follow initial ts place h (l.0 ++ b.0) in
     absurd (cc (g.is, fails)))
 
-stuck_bad : (b : Bor (List ℕ)) (end : ℕ) (ts : List Token) (place : ℕ) → follow initial ts ≡ Err place → IsNoGroup ts end place
-stuck_bad b end ts place e =
+stuck_bad : (end : ℕ) (ts : List Token) (place : ℕ) → follow initial ts ≡ Err place → IsNoGroup ts end place
+stuck_bad end ts place e =
     let h = stuck_at initial ts place e in record {
       no_group = λ group refused g. let k = follow_group g in absurd (cc (k.is, e));
       front = h.front;
       rest = h.token ∷ h.rest;
       whole = h.whole;
       place = step_fails h.state h.token place h.stuck;
-      begins = begins b h.front h.state h.read;
+      begins = begins h.front h.state h.read;
       longest = λ p r f g. no_more ts place h p r f g;
     }
 
@@ -126,8 +125,8 @@ stuck_bad b end ts place e =
 shorter : (ts p r : List Token) → ts ≡ p ++ r → length p ≤ length ts
 shorter ts p r e = omega (arith, ap length e, length-append p r)
 
-ended_bad : (b : Bor (List ℕ)) (end : ℕ) (ts : List Token) (s : State) → follow initial ts ≡ Ok s → may_end s.place ≡ false → IsNoGroup ts end end
-ended_bad b end ts s e m = record {
+ended_bad : (end : ℕ) (ts : List Token) (s : State) → follow initial ts ≡ Ok s → may_end s.place ≡ false → IsNoGroup ts end end
+ended_bad end ts s e m = record {
   no_group = λ group refused g.
       let k = follow_group g in
       let same : k.state ≡ s = same_Ok k.state s (sym k.is ∙ e) in
@@ -136,7 +135,7 @@ ended_bad b end ts s e m = record {
   rest = [];
   whole = sym (append-nil ts);
   place = refl;
-  begins = begins b ts s e;
+  begins = begins ts s e;
   longest = λ p r f g. shorter ts p r f;
 }
 
@@ -152,17 +151,17 @@ judged_reads : (end : ℕ) (ts : List Token) (s : State) (first : Option ℕ) �
 judged_reads end ts s None e all f g = subst (IsGroup ts (ended s).group) (first_none all (sym f ∙ e)) g
 judged_reads end ts s (Some x) e all f g = let k = first_some all x (sym f ∙ e) in ((ended s).group, k.0, subst (IsGroup ts (ended s).group) k.1 g)
 
-finished_reads : (b : Bor (List ℕ)) (end : ℕ) (ts : List Token) (s : State) → follow initial ts ≡ Ok s → (yes : Bool) → may_end s.place ≡ yes → IsReading end ts (cond yes (judged s.refused (ended s)) (bad_at end))
-finished_reads b end ts s e true m = let g = sound ts s e m in judged_reads end ts s s.refused refl g.0 g.1 g.2
-finished_reads b end ts s e false m = ended_bad b end ts s e m
+finished_reads : (end : ℕ) (ts : List Token) (s : State) → follow initial ts ≡ Ok s → (yes : Bool) → may_end s.place ≡ yes → IsReading end ts (cond yes (judged s.refused (ended s)) (bad_at end))
+finished_reads end ts s e true m = let g = sound ts s e m in judged_reads end ts s s.refused refl g.0 g.1 g.2
+finished_reads end ts s e false m = ended_bad end ts s e m
 
-verdict_reads : (b : Bor (List ℕ)) (end : ℕ) (ts : List Token) (r : Result State ℕ) → follow initial ts ≡ r → IsReading end ts (verdict end r)
-verdict_reads b end ts (Ok s) e = finished_reads b end ts s e (may_end s.place) refl
-verdict_reads b end ts (Err place) e = stuck_bad b end ts place e
+verdict_reads : (end : ℕ) (ts : List Token) (r : Result State ℕ) → follow initial ts ≡ r → IsReading end ts (verdict end r)
+verdict_reads end ts (Ok s) e = finished_reads end ts s e (may_end s.place) refl
+verdict_reads end ts (Err place) e = stuck_bad end ts place e
 
 -- the answer for tokens is what they are without comments
-pub reads_all : (b : Bor (List ℕ)) (end : ℕ) (ts : List Token) → IsReading end (without_comments ts) (verdict_of end ts)
-reads_all b end ts = subst (λ r. IsReading end (without_comments ts) (verdict end r)) (sym (run_follow initial ts)) (verdict_reads b end (without_comments ts) (follow initial (without_comments ts)) refl)
+pub reads_all : (end : ℕ) (ts : List Token) → IsReading end (without_comments ts) (verdict_of end ts)
+reads_all end ts = subst (λ r. IsReading end (without_comments ts) (verdict end r)) (sym (run_follow initial ts)) (verdict_reads end (without_comments ts) (follow initial (without_comments ts)) refl)
 
 -- ---- nothing else
 
@@ -187,34 +186,34 @@ nothing_left : (rest : List Token) (end : ℕ) → length rest ≡ 0 → start_o
 nothing_left [] end e = refl
 nothing_left (t ∷ rest) end e = absurd (omega (arith, e))
 
-bad_finished : (b : Bor (List ℕ)) (end : ℕ) (ts : List Token) (place : ℕ) → IsNoGroup ts end place → (s : State) → follow initial ts ≡ Ok s → (yes : Bool) → may_end s.place ≡ yes
+bad_finished : (end : ℕ) (ts : List Token) (place : ℕ) → IsNoGroup ts end place → (s : State) → follow initial ts ≡ Ok s → (yes : Bool) → may_end s.place ≡ yes
     → cond yes (judged s.refused (ended s)) (bad_at end) ≡ bad_at place
-bad_finished b end ts place h s e true m = let g = sound ts s e m in absurd (h.no_group (ended s).group g.0 g.2)
-bad_finished b end ts place h s e false m =
-    let all = h.longest ts [] (sym (append-nil ts)) (begins b ts s e) in
+bad_finished end ts place h s e true m = let g = sound ts s e m in absurd (h.no_group (ended s).group g.0 g.2)
+bad_finished end ts place h s e false m =
+    let all = h.longest ts [] (sym (append-nil ts)) (begins ts s e) in
     let size = ap length h.whole ∙ length-append h.front h.rest in
     let none : length h.rest ≡ 0 = omega (arith, all, size) in
     ap bad_at (sym (h.place ∙ nothing_left h.rest end none))
 
-bad_by : (b : Bor (List ℕ)) (end : ℕ) (ts : List Token) (place : ℕ) → IsNoGroup ts end place → (r : Result State ℕ) → follow initial ts ≡ r → verdict end r ≡ bad_at place
-bad_by b end ts place h (Ok s) e = bad_finished b end ts place h s e (may_end s.place) refl
-bad_by b end ts place h (Err other) e =
+bad_by : (end : ℕ) (ts : List Token) (place : ℕ) → IsNoGroup ts end place → (r : Result State ℕ) → follow initial ts ≡ r → verdict end r ≡ bad_at place
+bad_by end ts place h (Ok s) e = bad_finished end ts place h s e (may_end s.place) refl
+bad_by end ts place h (Err other) e =
     let k = stuck_at initial ts other e in
     let upper = no_more ts other k h.front h.rest h.whole h.begins in
-    let lower = h.longest k.front (k.token ∷ k.rest) k.whole (begins b k.front k.state k.read) in
+    let lower = h.longest k.front (k.token ∷ k.rest) k.whole (begins k.front k.state k.read) in
     let same : h.rest ≡ k.token ∷ k.rest = same_rest h.front h.rest k.front (k.token ∷ k.rest) (sym h.whole ∙ k.whole) (omega (arith, upper, lower)) in
     ap bad_at (step_fails k.state k.token other k.stuck ∙ sym (h.place ∙ ap (start_of end) same))
 
-bad_only : (b : Bor (List ℕ)) (end : ℕ) (ts : List Token) (place : ℕ) → IsNoGroup ts end place → verdict end (follow initial ts) ≡ bad_at place
-bad_only b end ts place h = bad_by b end ts place h (follow initial ts) refl
+bad_only : (end : ℕ) (ts : List Token) (place : ℕ) → IsNoGroup ts end place → verdict end (follow initial ts) ≡ bad_at place
+bad_only end ts place h = bad_by end ts place h (follow initial ts) refl
 
-only : (b : Bor (List ℕ)) (end : ℕ) (ts : List Token) (v : Verdict) → IsReading end ts v → verdict end (follow initial ts) ≡ v
-only b end ts (group_is group) h = group_only end ts group [] h
-only b end ts (unsupported_at place) h = group_only end ts h.0 (place ∷ h.1) h.2
-only b end ts (bad_at place) h = bad_only b end ts place h
+only : (end : ℕ) (ts : List Token) (v : Verdict) → IsReading end ts v → verdict end (follow initial ts) ≡ v
+only end ts (group_is group) h = group_only end ts group [] h
+only end ts (unsupported_at place) h = group_only end ts h.0 (place ∷ h.1) h.2
+only end ts (bad_at place) h = bad_only end ts place h
 
-pub one_reading : (b : Bor (List ℕ)) (end : ℕ) (ts : List Token) (v w : Verdict) → IsReading end ts v → IsReading end ts w → v ≡ w
-one_reading b end ts v w h k = sym (only b end ts v h) ∙ only b end ts w k
+pub one_reading : (end : ℕ) (ts : List Token) (v w : Verdict) → IsReading end ts v → IsReading end ts w → v ≡ w
+one_reading end ts v w h k = sym (only end ts v h) ∙ only end ts w k
 
-pub some_reading : (b : Bor (List ℕ)) (end : ℕ) (ts : List Token) → (v : Verdict) × IsReading end ts v
-some_reading b end ts = (verdict end (follow initial ts), verdict_reads b end ts (follow initial ts) refl)
+pub some_reading : (end : ℕ) (ts : List Token) → (v : Verdict) × IsReading end ts v
+some_reading end ts = (verdict end (follow initial ts), verdict_reads end ts (follow initial ts) refl)

@@ -2,9 +2,8 @@
 use Rattle.std.proofs.Common.{◌≡◌, ℕ, Bool, true, false, cond, List, [], ◌∷◌, ◌++◌, Some, None, Result, Ok, Err, refl, ◌∙◌, ap}
 use Rattle.std.specs.Prelude.{codes}
 use Rattle.std.specs.Str.{chars}
-use denote.Bor.{Bor}
 use lib.Utf8.{encode}
-use Rattle.viz_base.specs.declared.tokens.Token.{Token}
+use Rattle.css_semantics.specs.Pieces.{Token}
 use Rattle.viz_base.specs.declared.tokens.TokenKind.{TokenKind}
 use Rattle.viz_base.specs.declared.tokens.TokenKind.TheVariants as of_kind
 use Rattle.css_semantics.specs.SelectorTerminals.{is_comment, without_comments, name_of, pseudo, compared}
@@ -47,8 +46,8 @@ follow_on s next ts us e = follow_append s ts us ∙ ap (λ r. then_run r (λ n.
 -- ---- every place leads on to the end of a group
 
 -- a token that says a text
-abbrev pub made : Bor (List ℕ) → TokenKind → List ℕ → Token
-made b kind text = record { kind = kind; at = 0; text = record b { now = text } }
+abbrev pub made : TokenKind → List ℕ → Token
+made kind text = record { kind = kind; at = 0; text = text }
 
 -- tokens that lead on to where a group may end
 pub record LeadsOn (s : State) : Type 0 where
@@ -57,26 +56,26 @@ pub record LeadsOn (s : State) : Type 0 where
   pub follows : follow s more ≡ Ok next
   pub ends : may_end next.place ≡ true
 
-link_is : (b : Bor (List ℕ)) → pseudo (text_of (made b of_kind.Ident (codes "link"))) ≡ Some (of_pseudo.Class of_test.Link)
+link_is : pseudo (text_of (made of_kind.Ident (codes "link"))) ≡ Some (of_pseudo.Class of_test.Link)
 unfolding text_of chars encode
-link_is b = refl
+link_is = refl
 
-leads_at : (b : Bor (List ℕ)) (place : Place) (s : State) → s.place ≡ place → LeadsOn s
-leads_at b Fresh s e = record { more = made b of_kind.Delim (codes "*") ∷ []; next = tagged s None; follows = rw e refl; ends = refl }
-leads_at b InCompound s e = record { more = []; next = s; follows = refl; ends = rw e refl }
-leads_at b Gap s e = record { more = []; next = s; follows = refl; ends = rw e refl }
-leads_at b Dot s e = record { more = made b of_kind.Ident (codes "a") ∷ []; next = tested s (of_test.Class (text_of (made b of_kind.Ident (codes "a")))); follows = rw e refl; ends = refl }
-leads_at b (Colon colon) s e =
-    let link = made b of_kind.Ident (codes "link") in
-    let follows : follow s (link ∷ []) ≡ Ok (tested s of_test.Link) = rw e (ap (λ r. then_run r (λ next. follow next [])) (ap (step_pseudo (at s Fresh) colon link) (link_is b))) in
+leads_at : (place : Place) (s : State) → s.place ≡ place → LeadsOn s
+leads_at Fresh s e = record { more = made of_kind.Delim (codes "*") ∷ []; next = tagged s None; follows = rw e refl; ends = refl }
+leads_at InCompound s e = record { more = []; next = s; follows = refl; ends = rw e refl }
+leads_at Gap s e = record { more = []; next = s; follows = refl; ends = rw e refl }
+leads_at Dot s e = record { more = made of_kind.Ident (codes "a") ∷ []; next = tested s (of_test.Class (text_of (made of_kind.Ident (codes "a")))); follows = rw e refl; ends = refl }
+leads_at (Colon colon) s e =
+    let link = made of_kind.Ident (codes "link") in
+    let follows : follow s (link ∷ []) ≡ Ok (tested s of_test.Link) = rw e (ap (λ r. then_run r (λ next. follow next [])) (ap (step_pseudo (at s Fresh) colon link) link_is)) in
     record { more = link ∷ []; next = tested s of_test.Link; follows = follows; ends = refl }
-leads_at b (Language colon) s e = record { more = made b of_kind.Ident (codes "a") ∷ made b of_kind.RightParen (codes ")") ∷ []; next = refused s colon InCompound; follows = rw e refl; ends = refl }
-leads_at b (LanguageEnd colon) s e = record { more = made b of_kind.RightParen (codes ")") ∷ []; next = refused s colon InCompound; follows = rw e refl; ends = refl }
-leads_at b Element s e = record { more = []; next = s; follows = refl; ends = rw e refl }
-leads_at b Bracket s e = record { more = made b of_kind.Ident (codes "a") ∷ made b of_kind.RightBracket (codes "]") ∷ []; next = tested s (of_test.Has (name_of (made b of_kind.Ident (codes "a")))); follows = rw e refl; ends = refl }
-leads_at b (Name name) s e = record { more = made b of_kind.RightBracket (codes "]") ∷ []; next = tested s (of_test.Has name); follows = rw e refl; ends = refl }
-leads_at b (Sign name how) s e = record { more = made b of_kind.Ident (codes "a") ∷ made b of_kind.RightBracket (codes "]") ∷ []; next = tested s (compared how name (text_of (made b of_kind.Ident (codes "a")))); follows = rw e refl; ends = refl }
-leads_at b (Value test) s e = record { more = made b of_kind.RightBracket (codes "]") ∷ []; next = tested s test; follows = rw e refl; ends = refl }
+leads_at (Language colon) s e = record { more = made of_kind.Ident (codes "a") ∷ made of_kind.RightParen (codes ")") ∷ []; next = refused s colon InCompound; follows = rw e refl; ends = refl }
+leads_at (LanguageEnd colon) s e = record { more = made of_kind.RightParen (codes ")") ∷ []; next = refused s colon InCompound; follows = rw e refl; ends = refl }
+leads_at Element s e = record { more = []; next = s; follows = refl; ends = rw e refl }
+leads_at Bracket s e = record { more = made of_kind.Ident (codes "a") ∷ made of_kind.RightBracket (codes "]") ∷ []; next = tested s (of_test.Has (name_of (made of_kind.Ident (codes "a")))); follows = rw e refl; ends = refl }
+leads_at (Name name) s e = record { more = made of_kind.RightBracket (codes "]") ∷ []; next = tested s (of_test.Has name); follows = rw e refl; ends = refl }
+leads_at (Sign name how) s e = record { more = made of_kind.Ident (codes "a") ∷ made of_kind.RightBracket (codes "]") ∷ []; next = tested s (compared how name (text_of (made of_kind.Ident (codes "a")))); follows = rw e refl; ends = refl }
+leads_at (Value test) s e = record { more = made of_kind.RightBracket (codes "]") ∷ []; next = tested s test; follows = rw e refl; ends = refl }
 
-pub leads_on : (b : Bor (List ℕ)) (s : State) → LeadsOn s
-leads_on b s = leads_at b s.place s refl
+pub leads_on : (s : State) → LeadsOn s
+leads_on s = leads_at s.place s refl

@@ -4,7 +4,7 @@ use Rattle.std.specs.Prelude.{codes}
 use Rattle.viz_base.specs.declared.selectors.Compound.{Compound}
 use Rattle.viz_base.specs.declared.selectors.Join.{Join}
 use Rattle.viz_base.specs.declared.selectors.Test.{Test}
-use Rattle.viz_base.specs.declared.tokens.Token.{Token}
+use Rattle.css_semantics.specs.Pieces.{Token}
 use Rattle.css_semantics.specs.declared.terminals.Terminal.TheVariants as a
 use Rattle.css_semantics.specs.declared.terminals.Comparison.{Comparison}
 use Rattle.css_semantics.specs.Names.{same_name}

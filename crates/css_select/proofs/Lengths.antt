@@ -8,12 +8,12 @@ use Rattle.std.proofs.lemmas.Str.{encodes-chars, length-encode, len_utf8_bounds}
 use Rattle.std.proofs.lemmas.List.Elements.{All-from_recursion}
 use Rattle.css_semantics.specs.TokensMacros.{IsNameChar}
 use Rattle.viz_base.specs.declared.groups.Selector.{Selector}
-use Rattle.viz_base.specs.declared.tokens.Token.{Token}
+use Rattle.css_semantics.specs.Pieces.{Token}
 use Rattle.viz_base.specs.declared.tokens.TokenKind.{TokenKind}
 use Rattle.viz_base.specs.declared.tokens.TokenKind.TheVariants as of_kind
 use Rattle.css_semantics.specs.declared.terminals.Terminal.{Terminal}
 use Rattle.css_semantics.specs.declared.terminals.Terminal.TheVariants as a
-use Rattle.css_semantics.specs.Tokens.{ArePieces, AreTokens, Piece, piece_of}
+use Rattle.css_semantics.specs.Tokens.{ArePieces, AreTokens}
 use Rattle.css_semantics.specs.TokensTable.{Matches}
 use Rattle.css_semantics.specs.SelectorGrammar.{IsGroupOf}
 use Rattle.css_semantics.specs.SelectorTerminals.{terminal_of, terminal_of_character, is_comment, without_comments}
@@ -57,15 +57,15 @@ hash_size p h =
     let name = h.second in
     omega (arith, ap length h.whole, length-append h.front h.back, ap length h.first, ap length name.whole, length-append name.front name.back, char_some name.front name.first)
 
-full_piece : (t : Token) (letters : List ℕ) → t.text.now ≡ encode_utf8_all letters → Matches t.kind letters → IsFull t
+full_piece : (t : Token) (letters : List ℕ) → t.text ≡ encode_utf8_all letters → Matches t.kind letters → IsFull t
 full_piece t letters e m = record {
   some = let n = some t.kind letters m in omega (arith, encoded letters, ap length e);
-  of_id = λ k. let two = hash_size letters (subst (λ x. Matches x letters) (id_hash t.kind t.text.now k) m) in omega (arith, encoded letters, ap length e);
+  of_id = λ k. let two = hash_size letters (subst (λ x. Matches x letters) (id_hash t.kind t.text k) m) in omega (arith, encoded letters, ap length e);
 }
 
-full_tokens : (ts : List Token) (place : ℕ) (text : List ℕ) → ArePieces place text (map piece_of ts) → AreFull ts
+full_tokens : (ts : List Token) (place : ℕ) (text : List ℕ) → ArePieces place text ts → AreFull ts
 full_tokens [] place text h = tt
-full_tokens (t ∷ ts) place text h = (full_piece t h.0 h.3 h.4.matches, full_tokens ts (place + length t.text.now) h.1 h.5)
+full_tokens (t ∷ ts) place text h = (full_piece t h.0 h.3 h.4.matches, full_tokens ts (place + length t.text) h.1 h.5)
 
 -- ---- their bytes
 
@@ -85,12 +85,12 @@ without_full : (ts : List Token) → AreFull ts → AreFull (without_comments ts
 without_full [] h = tt
 without_full (t ∷ ts) h = spoken_full (is_comment t.kind) t (without_comments ts) h.0 (without_full ts h.1)
 
-joined_bytes : (ts : List Token) → length (flat_map (λ (p : Piece). p.bytes) (map piece_of ts)) ≡ bytes ts
+joined_bytes : (ts : List Token) → length (flat_map (λ (t : Token). t.text) ts) ≡ bytes ts
 joined_bytes [] = refl
-joined_bytes (t ∷ ts) = length-append t.text.now (flat_map (λ (p : Piece). p.bytes) (map piece_of ts)) ∙ ap (λ n. length t.text.now + n) (joined_bytes ts)
+joined_bytes (t ∷ ts) = length-append t.text (flat_map (λ (t : Token). t.text) ts) ∙ ap (λ n. length t.text + n) (joined_bytes ts)
 
 text_bytes : (text : List ℕ) (ts : List Token) → IsUtf8 text → AreTokens text ts → bytes ts ≡ length text
-text_bytes text ts u h = sym (joined_bytes ts) ∙ ap length (pieces_join (map piece_of ts) 0 (chars text) h ∙ encodes-chars text u)
+text_bytes text ts u h = sym (joined_bytes ts) ∙ ap length (pieces_join ts 0 (chars text) h ∙ encodes-chars text u)
 
 -- ---- selectors of a text
 

@@ -5,7 +5,7 @@ use Rattle.std.proofs.lemmas.List.Sums.{sum_by_push}
 use Rattle.viz_base.specs.declared.selectors.Compound.{Compound}
 use Rattle.viz_base.specs.declared.selectors.Join.{Join}
 use Rattle.viz_base.specs.declared.selectors.Test.{Test}
-use Rattle.viz_base.specs.declared.tokens.Token.{Token}
+use Rattle.css_semantics.specs.Pieces.{Token}
 use Rattle.css_semantics.specs.SelectorGrammar.{IsTest, id, class, has, compares, pseudo_class, language, AreTests, no_test, one_more, IsHead, nothing, star, tag, IsBody, IsCompound, IsFront, at_start, further, IsLast, plain, with_element, IsSelectorText, selector, AreEarlier, none_earlier, one_later, IsGroup, selectors}
 use Rattle.css_semantics.specs.SelectorTerminals.{terminal}
 use Rattle.css_semantics.specs.declared.terminals.Terminal.TheVariants as a
@@ -14,12 +14,12 @@ use Rattle.css_semantics.specs.Specificity.{size_of}
 -- the bytes of tokens
 abbrev pub bytes : List Token → ℕ
 bytes [] = 0
-bytes (t ∷ ts) = length t.text.now + bytes ts
+bytes (t ∷ ts) = length t.text + bytes ts
 
 -- a token has a byte, and an id two
 pub record IsFull (t : Token) : Type 0 where
-  pub some : 0 < length t.text.now
-  pub of_id : terminal t ≡ a.Id → 1 < length t.text.now
+  pub some : 0 < length t.text
+  pub of_id : terminal t ≡ a.Id → 1 < length t.text
 
 abbrev pub AreFull : List Token → Type 0
 AreFull = AllByRecursion IsFull

@@ -4,7 +4,7 @@ use Rattle.std.proofs.lemmas.List.{append-nil}
 use Rattle.viz_base.specs.declared.selectors.Compound.{Compound}
 use Rattle.viz_base.specs.declared.selectors.Join.{Join}
 use Rattle.viz_base.specs.declared.selectors.Join.TheVariants.{First, Descendant, Child, Next}
-use Rattle.viz_base.specs.declared.tokens.Token.{Token}
+use Rattle.css_semantics.specs.Pieces.{Token}
 use Rattle.css_semantics.specs.declared.terminals.Terminal.TheVariants as a
 use Rattle.css_semantics.specs.SelectorTerminals.{terminal}
 use Rattle.css_semantics.specs.SelectorGrammar.{IsGap, AreTests, no_test, IsHead, nothing, IsBody, IsCompound, IsCombinator, descendant, child, adjacent, IsFront, at_start, further, IsLast, plain, IsSelectorText, selector, AreEarlier, one_later, IsGroup, selectors}

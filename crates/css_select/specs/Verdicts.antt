@@ -3,8 +3,8 @@ use Rattle.std.specs.Prelude.{◌≡◌, ℕ, List, [], ◌∷◌, map, Option, 
 use Rattle.viz_base.specs.declared.groups.Selector.{Selector}
 use Rattle.viz_base.specs.declared.selectors.Compound.{Compound}
 use Rattle.viz_base.specs.declared.selectors.Join.{Join}
-use Rattle.viz_base.specs.declared.tokens.Token.{Token}
-use Rattle.css_semantics.specs.SelectorGrammar.{IsBadAt, IsGroup, IsNoGroup, IsUnsupportedAt}
+use Rattle.css_semantics.specs.Pieces.{Token}
+use Rattle.css_semantics.specs.SelectorGrammar.{IsBadAt, IsGroup, IsGroupOf, IsNoGroup, IsUnsupportedAt}
 use Rattle.css_select.specs.declared.faults.SelFault.{SelFault}
 use Rattle.css_select.specs.declared.faults.SelFault.TheVariants.{Mem, Bad, Unsupported}
 use Rattle.css_select.specs.steps.Machine.{State, parts_of, initial, run, ended, may_end}
@@ -50,3 +50,9 @@ abbrev pub IsReading : ℕ → List Token → Verdict → Type 0
 IsReading end ts (group_is group) = IsGroup ts group []
 IsReading end ts (unsupported_at place) = (group : List (List (Join × Compound))) × (others : List ℕ) × IsGroup ts group (place ∷ others)
 IsReading end ts (bad_at place) = IsNoGroup ts end place
+
+-- what a text is
+abbrev pub IsReadingOf : List ℕ → Verdict → Type 0
+IsReadingOf text (group_is group) = IsGroupOf text group
+IsReadingOf text (unsupported_at place) = IsUnsupportedAt text place
+IsReadingOf text (bad_at place) = IsBadAt text place

@@ -4,10 +4,10 @@ ghost use Rattle.css_semantics.specs.Names.{same_name};
 ghost use Rattle.css_semantics.specs.SheetsMarks.{text_of};
 ghost use Rattle.css_semantics.specs.SelectorTerminals.{comparison, compared, is_value, name_of, pseudo};
 
-use css_semantics::{Comparison, Pseudo, Terminal};
+use css_semantics::{Comparison, Pseudo, Terminal, Token};
 use css_token::{same_name, unescape};
 use std::alloc::Global;
-use viz_base::{Mem, Test, Text, Token};
+use viz_base::{Mem, Test, Text};
 
 /// The name of a type or an attribute, after escapes, in lower case.
 #[tactic(auto, unfolding(css_semantics::specs::SelectorTerminals::name_of, css_semantics::specs::SheetsMarks::text_of))]

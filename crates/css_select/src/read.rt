@@ -10,9 +10,10 @@ use crate::faults::SelFault;
 use crate::reading::{Place, Reading};
 use crate::steps::{place, step};
 use crate::terminals::is_comment;
+use css_semantics::Token;
 use css_token::tokens;
 use std::alloc::Global;
-use viz_base::{List, Selector, Token};
+use viz_base::{List, Selector};
 
 /// Reads all tokens.
 fn run(alloc: Global, tokens: &[Token<'_>]) -> Result<Reading, SelFault>

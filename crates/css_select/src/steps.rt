@@ -10,9 +10,9 @@ use crate::faults::SelFault;
 use crate::names::{compared, comparison, is_lang, is_value, name_of, pseudo, text_of};
 use crate::reading::{Place, Reading};
 use crate::terminals::terminal;
-use css_semantics::{Comparison, Pseudo, Terminal};
+use css_semantics::{Comparison, Pseudo, Terminal, Token};
 use std::alloc::Global;
-use viz_base::{Join, Mem, Test, Text, Token};
+use viz_base::{Join, Mem, Test, Text};
 
 /// A place of the text. In a text of `2^32` bytes and more it may not fit, which counts as want of memory.
 pub fn place(at: usize) -> Result<u32, Mem>

@@ -3,8 +3,8 @@ ghost use Rattle.std.specs.Str.{chars};
 ghost use Rattle.css_semantics.specs.TokensLetters.{is_start};
 ghost use Rattle.css_semantics.specs.SelectorTerminals.{begins_identifier, begins_plain, is_comment, terminal, terminal_of_character, terminal_of_hash};
 
-use css_semantics::Terminal;
-use viz_base::{Token, TokenKind};
+use css_semantics::{Terminal, Token};
+use viz_base::TokenKind;
 
 /// Whether a character may begin an identifier, by itself or as an escape.
 fn begins_by(letter: char) -> bool

@@ -11,7 +11,7 @@ use Rattle.viz_base.specs.declared.settings.Prop.TheVariants.{BorderTopWidth, Bo
 use Rattle.viz_base.specs.declared.settings.Setting.{Setting}
 use Rattle.viz_base.specs.declared.settings.Value.{Value}
 use Rattle.viz_base.specs.declared.settings.Value.TheVariants as value
-use Rattle.viz_base.specs.declared.tokens.Token.{Token}
+use Rattle.css_semantics.specs.Pieces.{Token}
 use Rattle.viz_base.specs.declared.tokens.TokenKind.{TokenKind}
 use Rattle.viz_base.specs.declared.tokens.TokenKind.TheVariants.{Ident, Str, Hash, Number, Percentage, Dimension, RightParen, Function, Delim}
 use Rattle.css_semantics.specs.declared.parts.Part.{Part}
@@ -73,10 +73,10 @@ some_within b m n e = grind (arith, nat_tests)
 
 counted_within : (negative : Bool) (t : Token) (o : Option ℕ) → ((n : ℕ) → o ≡ Some n → n ≤ 2 ^ 40) → IsCounted (counted negative t o)
 counted_within negative t None h = tt
-counted_within negative t (Some n) h = amount_counted t.kind (signed negative n) (unit_of (chars t.text.now)) (signed_within negative n (h n refl))
+counted_within negative t (Some n) h = amount_counted t.kind (signed negative n) (unit_of (chars t.text)) (signed_within negative n (h n refl))
 
 of_counted : (negative : Bool) (t : Token) → IsCounted (amount_of negative t)
-of_counted negative t = let text = numeral_of t.text.now in counted_within negative t (decimal_of text) (λ n e. some_within (is_number text) (millionths_of text) n e)
+of_counted negative t = let text = numeral_of t.text in counted_within negative t (decimal_of text) (λ n e. some_within (is_number text) (millionths_of text) n e)
 
 signed_counted : (t : Token) (ts : List Token) → IsCounted (signed_part t ts)
 signed_counted t [] = tt

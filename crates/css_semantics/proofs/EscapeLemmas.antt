@@ -1,6 +1,6 @@
 -- What each escape in a text gives.
-use Rattle.std.proofs.Common.{◌≡◌, ℕ, suc, ◌+◌, ◌-◌, ◌*◌, ◌==◌, nat_lt, ◌≤◌, Bool, true, false, not, ◌&&◌, List, [], ◌∷◌, ◌++◌, length, refl, sym, ◌∙◌, ap, ◌⊎◌, inl, inr, arith}
-use Rattle.std.proofs.lemmas.Bool.{false≢true, and_parts, and_left, and_right, not-true}
+use Rattle.std.proofs.Common.{◌≡◌, ℕ, suc, ◌+◌, ◌-◌, ◌*◌, ◌==◌, nat_lt, ◌≤◌, Bool, true, false, not, ◌&&◌, List, [], ◌∷◌, ◌++◌, length, refl, ◌∙◌, ap, ◌⊎◌, inl, inr, arith}
+use Rattle.std.proofs.lemmas.Bool.{and_parts, and_left, and_right, not-true}
 use Rattle.std.proofs.lemmas.Bool.Decides.{nat_tests}
 use Rattle.css_semantics.specs.TokensLetters.{is_hex, is_newline, is_space}
 use Rattle.css_semantics.specs.TokensMacros.{Each, IsNewline, IsOneWhite, is_escaped}

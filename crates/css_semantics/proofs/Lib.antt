@@ -14,7 +14,6 @@ pub mod Names
 pub mod OrderLemmas
 pub mod TableLemmas
 pub mod Allowed
-pub mod OneAnswer
 pub mod Greatest
 pub mod Overriding
 pub mod Hiding

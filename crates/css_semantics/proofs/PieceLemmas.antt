@@ -4,9 +4,10 @@ use Rattle.std.specs.Prelude.{encode_utf8_all, flat_map}
 use Rattle.std.proofs.lemmas.Str.{encodes-append}
 use Rattle.viz_base.specs.declared.tokens.TokenKind.{TokenKind}
 use Rattle.viz_base.specs.declared.tokens.TokenKind.TheVariants.{Ident, AtKeyword, Str, BadString, BadUri, BadComment, Hash, Number, Percentage, Dimension, Uri, UnicodeRange, Cdo, Cdc, Colon, Semicolon, LeftBrace, RightBrace, LeftParen, RightParen, LeftBracket, RightBracket, Space, Comment, Function, Includes, DashMatch, Delim}
-use Rattle.css_semantics.specs.TokensMacros.{Then, IsEscape, IsStart, IsNameChar, IsIdent, IsNum, IsString, IsBadString}
+use Rattle.css_semantics.specs.TokensMacros.{Then, IsEscape, IsStart, IsIdent, IsNum, IsString, IsBadString}
 use Rattle.css_semantics.specs.TokensTable.{Matches, row_of, IsUrlOpening}
-use Rattle.css_semantics.specs.Tokens.{IsLongest, Piece, ArePieces}
+use Rattle.css_semantics.specs.Pieces.{Token}
+use Rattle.css_semantics.specs.Tokens.{IsLongest, ArePieces}
 
 -- ---- no kind has the empty piece
 
@@ -116,7 +117,7 @@ same_row j k e = sym (kind_back j) ∙ (ap kind_at e ∙ kind_back k)
 
 -- ---- fronts of one length
 
-same_fronts : (p q r s : List ℕ) → p ++ r ≡ q ++ s → length p ≡ length q → (p ≡ q) × (r ≡ s)
+pub same_fronts : (p q r s : List ℕ) → p ++ r ≡ q ++ s → length p ≡ length q → (p ≡ q) × (r ≡ s)
 same_fronts [] [] r s e n = (refl, e)
 same_fronts [] (d ∷ q) r s e n = absurd (omega arith)
 same_fronts (c ∷ p) [] r s e n = absurd (omega arith)
@@ -143,29 +144,29 @@ longest_same text j k p r q s a b =
 
 -- ---- lists of pieces
 
-piece_same : (p q : Piece) → p.kind ≡ q.kind → p.at ≡ q.at → p.bytes ≡ q.bytes → p ≡ q
+piece_same : (p q : Token) → p.kind ≡ q.kind → p.at ≡ q.at → p.text ≡ q.text → p ≡ q
 piece_same p q kind at bytes =
-    let made : TokenKind → ℕ → List ℕ → Piece = λ k a b. record { kind = k; at = a; bytes = b } in
-    ap (λ k. made k p.at p.bytes) kind ∙ (ap (λ a. made q.kind a p.bytes) at ∙ ap (λ b. made q.kind q.at b) bytes)
+    let made : TokenKind → ℕ → List ℕ → Token = λ k a b. record { kind = k; at = a; text = b } in
+    ap (λ k. made k p.at p.text) kind ∙ (ap (λ a. made q.kind a p.text) at ∙ ap (λ b. made q.kind q.at b) bytes)
 
-nothing_left : (at : ℕ) (p : Piece) (ps : List Piece) → ArePieces at [] (p ∷ ps) → ⊥
+nothing_left : (at : ℕ) (p : Token) (ps : List Token) → ArePieces at [] (p ∷ ps) → ⊥
 nothing_left at p ps a =
     let long = some p.kind a.0 a.4.matches in
     omega (arith, ap length a.4.whole, length-append a.0 a.1)
 
-pub pieces_same : (first second : List Piece) (at : ℕ) (text : List ℕ) → ArePieces at text first → ArePieces at text second → first ≡ second
+pub pieces_same : (first second : List Token) (at : ℕ) (text : List ℕ) → ArePieces at text first → ArePieces at text second → first ≡ second
 pieces_same [] [] at text a b = refl
 pieces_same [] (q ∷ qs) at text a b = absurd (nothing_left at q qs (subst (λ t. ArePieces at t (q ∷ qs)) a b))
 pieces_same (p ∷ ps) [] at text a b = absurd (nothing_left at p ps (subst (λ t. ArePieces at t (p ∷ ps)) b a))
 pieces_same (p ∷ ps) (q ∷ qs) at text a b =
     let x = longest_same text p.kind q.kind a.0 a.1 b.0 b.1 a.4 b.4 in
-    let bytes : p.bytes ≡ q.bytes = a.3 ∙ (ap encode_utf8_all x.1.0 ∙ sym b.3) in
+    let bytes : p.text ≡ q.text = a.3 ∙ (ap encode_utf8_all x.1.0 ∙ sym b.3) in
     let same : p ≡ q = piece_same p q x.0 (a.2 ∙ sym b.2) bytes in
-    let rest : ps ≡ qs = pieces_same ps qs (at + length p.bytes) a.1 a.5 (subst (λ r. ArePieces (at + length p.bytes) r qs) (sym x.1.1) (subst (λ n. ArePieces (at + n) b.1 qs) (sym (ap length bytes)) b.5)) in
+    let rest : ps ≡ qs = pieces_same ps qs (at + length p.text) a.1 a.5 (subst (λ r. ArePieces (at + length p.text) r qs) (sym x.1.1) (subst (λ n. ArePieces (at + n) b.1 qs) (sym (ap length bytes)) b.5)) in
     ap (λ y. y ∷ ps) same ∙ ap (λ ys. q ∷ ys) rest
 
-pub pieces_join : (pieces : List Piece) (at : ℕ) (text : List ℕ) → ArePieces at text pieces → flat_map (λ (p : Piece). p.bytes) pieces ≡ encode_utf8_all text
+pub pieces_join : (pieces : List Token) (at : ℕ) (text : List ℕ) → ArePieces at text pieces → flat_map (λ (p : Token). p.text) pieces ≡ encode_utf8_all text
 pieces_join [] at text a = sym (ap encode_utf8_all a)
 pieces_join (p ∷ ps) at text a =
-    ap (λ b. b ++ flat_map (λ (p : Piece). p.bytes) ps) a.3
-    ∙ (ap (λ t. encode_utf8_all a.0 ++ t) (pieces_join ps (at + length p.bytes) a.1 a.5) ∙ (sym (encodes-append a.0 a.1) ∙ ap encode_utf8_all (sym a.4.whole)))
+    ap (λ b. b ++ flat_map (λ (p : Token). p.text) ps) a.3
+    ∙ (ap (λ t. encode_utf8_all a.0 ++ t) (pieces_join ps (at + length p.text) a.1 a.5) ∙ (sym (encodes-append a.0 a.1) ∙ ap encode_utf8_all (sym a.4.whole)))

@@ -2,7 +2,7 @@
 use Rattle.std.proofs.Common.{◌≡◌, ◌<◌, ◌-◌, ◌||◌, Bool, true, false, List, [], ◌∷◌, ◌++◌, length, drop, Option, Some, None, Ok, refl, ap, arith}
 use Rattle.std.specs.Option.{option_to_list}
 use Rattle.std.specs.List.{list_any}
-use Rattle.viz_base.specs.declared.tokens.Token.{Token}
+use Rattle.css_semantics.specs.Pieces.{Token}
 use Rattle.viz_base.specs.declared.sheets.Rule.{Rule}
 use Rattle.css_semantics.specs.declared.statements.Statement.{Statement}
 use Rattle.css_semantics.specs.SheetsMarks.{ends_entry}

@@ -1,7 +1,7 @@
 -- The tokens in the grammar of values are those at which the reading of values goes on to the end.
 use Rattle.std.proofs.Common.{◌≡◌, Bool, true, false, cond, ◌||◌, List, [], ◌∷◌, ◌++◌, Option, Some, None, refl, sym, ◌∙◌, ap, ◌⊎◌, inl, inr, append_assoc}
 use Rattle.std.specs.Option.{option_to_list}
-use Rattle.viz_base.specs.declared.tokens.Token.{Token}
+use Rattle.css_semantics.specs.Pieces.{Token}
 use Rattle.viz_base.specs.declared.tokens.TokenKind.{TokenKind}
 use Rattle.viz_base.specs.declared.tokens.TokenKind.TheVariants.{RightBrace, RightParen, RightBracket}
 use Rattle.css_semantics.specs.SheetsMarks.{closing_mark, is_mark, is_bad, is_paren, is_bracket, is_brace}

@@ -4,6 +4,7 @@ pub mod TokensMacros
 pub mod TokensTable
 pub mod TokensUnescaped
 pub mod TokensEscapes
+pub mod Pieces
 pub mod Tokens
 pub mod SheetsMarks
 pub mod SheetsReading

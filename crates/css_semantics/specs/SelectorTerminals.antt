@@ -2,7 +2,7 @@
 use Rattle.std.specs.Prelude.{ℕ, ◌==◌, Bool, true, false, ◌||◌, List, [], ◌∷◌, map, drop, Option, Some, None, if◌then◌else◌, codes}
 use Rattle.std.specs.Str.{bytes_eq, chars}
 use Rattle.std.specs.Char.{to_ascii_lowercase}
-use Rattle.viz_base.specs.declared.tokens.Token.{Token}
+use Rattle.css_semantics.specs.Pieces.{Token}
 use Rattle.viz_base.specs.declared.tokens.TokenKind.{TokenKind}
 use Rattle.viz_base.specs.declared.tokens.TokenKind.TheVariants as of_kind
 use Rattle.viz_base.specs.declared.selectors.Test.{Test}
@@ -60,7 +60,7 @@ terminal_of _ text = Other
 
 -- what a token is in a selector
 abbrev pub terminal : Token → Terminal
-terminal t = terminal_of t.kind t.text.now
+terminal t = terminal_of t.kind t.text
 
 -- whether a token is a comment, which may stand between any two tokens (CSS 2.1, 4.1.1 and 4.1.9)
 abbrev pub is_comment : TokenKind → Bool

@@ -1,7 +1,7 @@
 -- Tests on the tokens of a sheet.
 use Rattle.std.specs.Prelude.{ℕ, Bool, true, false, ◌&&◌, ◌||◌, List, [], ◌∷◌, Option, Some, None, encode_utf8_all}
 use Rattle.std.specs.Str.{bytes_eq, chars}
-use Rattle.viz_base.specs.declared.tokens.Token.{Token}
+use Rattle.css_semantics.specs.Pieces.{Token}
 use Rattle.viz_base.specs.declared.tokens.TokenKind.{TokenKind}
 use Rattle.viz_base.specs.declared.tokens.TokenKind.TheVariants.{Ident, AtKeyword, BadString, BadUri, BadComment, Uri, Cdo, Cdc, Colon, Semicolon, LeftBrace, RightBrace, LeftParen, RightParen, LeftBracket, RightBracket, Space, Comment, Function, Delim}
 use Rattle.css_semantics.specs.Names.{same_name}
@@ -100,7 +100,7 @@ has_paren _ = false
 
 -- a character that is no token of another kind
 abbrev pub is_character : ℕ → Token → Bool
-is_character c t = is_delim t.kind && bytes_eq t.text.now (c ∷ [])
+is_character c t = is_delim t.kind && bytes_eq t.text (c ∷ [])
 
 -- the comma of a media list, and the `!` of `!important`
 abbrev pub is_comma : Token → Bool
@@ -111,7 +111,7 @@ is_bang = is_character 33
 
 -- what a token says, after escapes
 unfoldable pub text_of : Token → List ℕ
-text_of t = encode_utf8_all (unescaped t.kind (chars t.text.now))
+text_of t = encode_utf8_all (unescaped t.kind (chars t.text))
 
 -- whether it says this word, in any ASCII case
 unfoldable pub is_word : List ℕ → Token → Bool

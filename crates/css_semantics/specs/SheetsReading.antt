@@ -2,7 +2,7 @@
 use Rattle.std.specs.Prelude.{ℕ, ◌+◌, ◌-◌, Bool, true, false, not, ◌&&◌, ◌||◌, List, [], ◌∷◌, ◌++◌, length, take, drop, Option, Some, None, option_map, slice_get, slice_set, if◌then◌else◌, codes, nat_lt, Result, Ok, Err, zero, suc}
 use Rattle.std.specs.Option.{option_to_list}
 use Rattle.std.specs.List.{list_any, list_all, prefix_len, suffix_len}
-use Rattle.viz_base.specs.declared.tokens.Token.{Token}
+use Rattle.css_semantics.specs.Pieces.{Token}
 use Rattle.viz_base.specs.declared.tokens.TokenKind.{TokenKind}
 use Rattle.viz_base.specs.declared.tokens.TokenKind.TheVariants.{BadString, BadUri, Str, Uri}
 use Rattle.viz_base.specs.declared.sheets.Decl.{Decl}
@@ -92,7 +92,7 @@ start_of place (t ∷ ts) = t.at
 
 abbrev pub end_of : Option Token → ℕ
 end_of None = 0
-end_of (Some t) = t.at + length t.text.now
+end_of (Some t) = t.at + length t.text
 
 -- how many bytes they span
 abbrev pub extent : List Token → ℕ

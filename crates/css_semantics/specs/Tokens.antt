@@ -1,9 +1,9 @@
 -- The tokens of a text (CSS 2.1, 4.1.1): pieces that join to the text, each the longest at its place that some kind has,
 -- and of the first such kind in the table.
-use Rattle.std.specs.Prelude.{◌≡◌, ℕ, ◌+◌, ◌≤◌, List, [], ◌∷◌, ◌++◌, length, map, drop, encode_utf8_all}
+use Rattle.std.specs.Prelude.{◌≡◌, ℕ, ◌+◌, ◌≤◌, List, [], ◌∷◌, ◌++◌, length, drop, encode_utf8_all}
 use Rattle.std.specs.Str.{IsCharBoundary, IsUtf8, chars}
 use Rattle.viz_base.specs.declared.tokens.TokenKind.{TokenKind}
-use Rattle.viz_base.specs.declared.tokens.Token.{Token}
+use Rattle.css_semantics.specs.Pieces.{Token}
 use Rattle.css_semantics.specs.TokensTable.{Matches, row_of}
 
 -- A text of characters falls into a piece and a rest. The piece is of the kind; no piece of any kind at the front of the
@@ -18,26 +18,17 @@ pub record IsLongest (text : List ℕ) (kind : TokenKind) (piece rest : List ℕ
 pub record IsToken (text : List ℕ) (at : ℕ) (t : Token) : Type 0 where
   pub place : t.at ≡ at
   pub rest : List ℕ
-  pub whole : drop at text ≡ t.text.now ++ rest
-  pub utf8 : IsUtf8 t.text.now
-  pub longest : IsLongest (chars (drop at text)) t.kind (chars t.text.now) (chars rest)
-  pub boundary : IsCharBoundary text (at + length t.text.now)
+  pub whole : drop at text ≡ t.text ++ rest
+  pub utf8 : IsUtf8 t.text
+  pub longest : IsLongest (chars (drop at text)) t.kind (chars t.text) (chars rest)
+  pub boundary : IsCharBoundary text (at + length t.text)
 
--- what a token is apart from where it lies in memory: its kind, the place of its first byte, its bytes
-pub record Piece : Type 0 where
-  pub kind : TokenKind
-  pub at : ℕ
-  pub bytes : List ℕ
-
-abbrev pub piece_of : Token → Piece
-piece_of t = record { kind = t.kind; at = t.at; bytes = t.text.now }
-
--- the pieces of the characters that are left, the first of which stands at this place
-abbrev pub ArePieces : ℕ → List ℕ → List Piece → Type 0
+-- the tokens of the characters that are left, the first of which stands at this place
+abbrev pub ArePieces : ℕ → List ℕ → List Token → Type 0
 ArePieces at text [] = text ≡ []
-ArePieces at text (p ∷ ps) =
-    (letters : List ℕ) × (rest : List ℕ) × (p.at ≡ at) × (p.bytes ≡ encode_utf8_all letters) × IsLongest text p.kind letters rest × ArePieces (at + length p.bytes) rest ps
+ArePieces at text (t ∷ ts) =
+    (letters : List ℕ) × (rest : List ℕ) × (t.at ≡ at) × (t.text ≡ encode_utf8_all letters) × IsLongest text t.kind letters rest × ArePieces (at + length t.text) rest ts
 
 -- the tokens of a text, given by its bytes
 abbrev pub AreTokens : List ℕ → List Token → Type 0
-AreTokens text tokens = ArePieces 0 (chars text) (map piece_of tokens)
+AreTokens text = ArePieces 0 (chars text)

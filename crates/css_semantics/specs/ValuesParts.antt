@@ -4,7 +4,7 @@ use Rattle.std.specs.List.{prefix_len}
 use Rattle.std.specs.Str.{chars}
 use Rattle.viz_base.specs.Decimals.{decimal_of}
 use Rattle.viz_base.specs.Numbers.{floor_of}
-use Rattle.viz_base.specs.declared.tokens.Token.{Token}
+use Rattle.css_semantics.specs.Pieces.{Token}
 use Rattle.viz_base.specs.declared.tokens.TokenKind.{TokenKind}
 use Rattle.viz_base.specs.declared.tokens.TokenKind.TheVariants.{Ident, Str, Hash, Number, Percentage, Dimension, RightParen, Function, Delim}
 use Rattle.css_semantics.specs.declared.parts.Part.{Part}
@@ -57,10 +57,10 @@ amount_in _ n unit = length_of n unit
 -- an amount of more than `2^40` millionths is illegal, as a part that no property takes
 abbrev pub counted : Bool → Token → Option ℕ → Part
 counted negative t None = part.Other
-counted negative t (Some n) = amount_in t.kind (signed negative n) (unit_of (chars t.text.now))
+counted negative t (Some n) = amount_in t.kind (signed negative n) (unit_of (chars t.text))
 
 abbrev pub amount_of : Bool → Token → Part
-amount_of negative t = counted negative t (decimal_of (numeral_of t.text.now))
+amount_of negative t = counted negative t (decimal_of (numeral_of t.text))
 
 -- ---- parts
 

@@ -1,8 +1,8 @@
 ghost use Rattle.std.specs.Prelude.{◌≡◌, ◌↔◌, ℕ, List, drop, flat_map, IsTrue};
-ghost use Rattle.std.specs.Str.{chars};
 ghost use Rattle.viz_base.specs.declared.tokens.TokenKind.TheVariants.{Hash};
 ghost use Rattle.css_semantics.specs.SelectorTerminals.{begins_identifier};
-ghost use Rattle.css_semantics.specs.Tokens.{ArePieces, Piece};
+ghost use Rattle.css_semantics.specs.Pieces.{Token};
+ghost use Rattle.css_semantics.specs.Tokens.{AreTokens};
 ghost use Rattle.css_semantics.specs.TokensEscapes.{ResolvesEscapes};
 ghost use Rattle.css_semantics.specs.TokensMacros.{IsIdent};
 ghost use Rattle.css_semantics.specs.TokensTable.{Matches};
@@ -10,13 +10,12 @@ ghost use Rattle.css_semantics.specs.TokensUnescaped.{Extent};
 
 /// A law: no text has two lists of tokens (CSS 2.1, 4.1.1).
 pub fn tokens_are_unique(text: &str)
-    ensures { (first second : List Piece) → ArePieces 0 (chars text.now) first → ArePieces 0 (chars text.now) second
-        → first ≡ second }
+    ensures { (first second : List Token) → AreTokens text.now first → AreTokens text.now second → first ≡ second }
 {}
 
 /// A law: the tokens of a text join to it.
 pub fn tokens_join(text: &str)
-    ensures { (pieces : List Piece) → ArePieces 0 (chars text.now) pieces → flat_map (λ p. p.bytes) pieces ≡ text.now }
+    ensures { (tokens : List Token) → AreTokens text.now tokens → flat_map (λ t. t.text) tokens ≡ text.now }
 {}
 
 /// A law: what each escape in a text gives (CSS 2.1, 4.1.3).

@@ -10,6 +10,7 @@ mod selectors;
 mod sheets;
 mod statements;
 mod terminals;
+mod tokens;
 mod value_laws;
 mod winners;
 
@@ -20,6 +21,7 @@ pub use selectors::{joins_say_where, specificity_counts, specificity_order};
 pub use sheets::{one_list_of_declarations, one_sheet, one_stretch};
 pub use statements::Statement;
 pub use terminals::{Comparison, Pseudo, Terminal};
+pub use tokens::Token;
 pub use value_laws::{
     fewer_sides, one_answer, settings_in_order, values_allowed, values_by_the_table,
 };

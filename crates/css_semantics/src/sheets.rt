@@ -1,9 +1,9 @@
-ghost use Rattle.std.specs.Prelude.{◌≡◌, List as Seq, Bool, Result};
-ghost use Rattle.viz_base.specs.declared.tokens.Token.{Token};
+ghost use Rattle.std.specs.Prelude.{◌≡◌, ℕ, List as Seq, Bool, Result};
+ghost use Rattle.css_semantics.specs.Pieces.{Token};
 ghost use Rattle.viz_base.specs.declared.sheets.Decl.{Decl};
 ghost use Rattle.viz_base.specs.declared.sheets.Rule.{Rule};
 ghost use Rattle.css_semantics.specs.SheetsReading.{Refusal};
-ghost use Rattle.css_semantics.specs.SheetsGrammar.{AreDeclarations, IsSheet, IsStretch};
+ghost use Rattle.css_semantics.specs.SheetsGrammar.{AreDeclarations, AreDeclarationsOf, IsSheet, IsSheetOf, IsStretch};
 
 /// Law: for each test of what ends a stretch, each list of tokens falls in exactly one way into a stretch and a rest.
 pub fn one_stretch()
@@ -13,14 +13,16 @@ pub fn one_stretch()
         → (f ≡ g) × (r ≡ s) }
 {}
 
-/// Law: each list of tokens has exactly one list of declarations.
+/// Law: each list of tokens has exactly one list of declarations, and the text of a style attribute at most one.
 pub fn one_list_of_declarations()
     ensures exists { (ts : Seq Token) → (ds : Seq Decl) × AreDeclarations ts ds }
     ensures unique { (ts : Seq Token) (ds es : Seq Decl) → AreDeclarations ts ds → AreDeclarations ts es → ds ≡ es }
+    ensures text { (text : Seq ℕ) (ds es : Seq Decl) → AreDeclarationsOf text ds → AreDeclarationsOf text es → ds ≡ es }
 {}
 
-/// Law: each list of tokens spells exactly one sheet, or is refused in exactly one way.
+/// Law: each list of tokens spells exactly one sheet, or is refused in exactly one way; and a text in at most one way.
 pub fn one_sheet()
     ensures exists { (ts : Seq Token) → (answer : Result (Seq Rule) Refusal) × IsSheet ts answer }
     ensures unique { (ts : Seq Token) (a b : Result (Seq Rule) Refusal) → IsSheet ts a → IsSheet ts b → a ≡ b }
+    ensures text { (text : Seq ℕ) (a b : Result (Seq Rule) Refusal) → IsSheetOf text a → IsSheetOf text b → a ≡ b }
 {}

@@ -1,6 +1,6 @@
 -- From the tokens of a text to the text.
 use Rattle.std.proofs.Common.{◌≡◌, ℕ, List, [], true, Option, Some, None, Result, Ok, Err, subst, ap, sym, ◌∙◌}
-use Rattle.viz_base.specs.declared.tokens.Token.{Token}
+use Rattle.css_semantics.specs.Pieces.{Token}
 use Rattle.viz_base.specs.declared.sheets.Sheet.{Sheet}
 use Rattle.viz_base.specs.declared.sheets.Decl.{Decl}
 use Rattle.css_semantics.specs.Tokens.{AreTokens}

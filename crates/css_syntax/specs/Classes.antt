@@ -1,6 +1,6 @@
 -- What the code's enums of tests stand for.
 use Rattle.std.specs.Prelude.{Bool}
-use Rattle.viz_base.specs.declared.tokens.Token.{Token}
+use Rattle.css_semantics.specs.Pieces.{Token}
 use Rattle.viz_base.specs.declared.tokens.TokenKind.{TokenKind}
 use Rattle.css_semantics.specs.SheetsMarks.{is_space, is_gap, ends_prelude, ends_selector, ends_block, ends_declaration, ends_entry}
 use Rattle.css_syntax.specs.declared.stretches.Stop.{Stop}

@@ -4,10 +4,11 @@ ghost use Rattle.css_semantics.specs.SheetsReading.{after_declaration, at_head, 
 
 use crate::slices::{Class, extent, is_all_gap, place, start_of, trim, trim_end, trim_start};
 use crate::stretches::{Stop, after_at_rule, split};
+use css_semantics::Token;
 use css_token::kinds::{is_at_keyword, is_colon, is_gap, is_ident, is_semicolon};
 use css_token::{Marks, is_character, is_word, unescape};
 use std::alloc::Global;
-use viz_base::{Decl, List, Mem, Text, Token, TokenKind};
+use viz_base::{Decl, List, Mem, Text, TokenKind};
 
 /// Whether the tokens are in the grammar of a value, but for being none (CSS 2.1, 4.1.1).
 fn goes_on(alloc: Global, tokens: &[Token<'_>]) -> Result<bool, Mem>

@@ -4,10 +4,11 @@ ghost use Rattle.css_semantics.specs.SheetsReading.{entries, holds, is_screen};
 
 use crate::slices::{Class, is_all_gap, trim};
 use crate::stretches::{Stop, skip_first, split};
+use css_semantics::Token;
 use css_token::is_word;
 use css_token::kinds::is_ident;
 use std::alloc::Global;
-use viz_base::{Mem, Token};
+use viz_base::Mem;
 
 /// Whether an entry of a media list is the single word `all` or `screen`.
 fn is_screen<'a>(alloc: Global, entry: &'a [Token<'a>]) -> Result<bool, Mem>

@@ -5,9 +5,10 @@ ghost use Rattle.css_semantics.specs.SheetsReading.{after_rule, after_ruleset, a
 use crate::declarations::declarations;
 use crate::slices::{Class, extent, place, start_of, trim};
 use crate::stretches::{Stop, after_at_rule, after_block, split};
+use css_semantics::Token;
 use css_token::kinds::{is_at_keyword, is_gap};
 use std::alloc::Global;
-use viz_base::{List, Mem, Rule, Token};
+use viz_base::{List, Mem, Rule};
 
 /// The rule with this selector and the block whose `{`, at this place, stands before the tokens.
 fn rule_of<'a>(

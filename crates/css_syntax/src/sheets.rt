@@ -7,11 +7,11 @@ ghost use Rattle.css_syntax.specs.Faults.{Refuses, refusal_of, rules_in};
 
 use crate::declarations::declarations;
 use crate::statements::statement_item;
-use css_semantics::Statement;
+use css_semantics::{Statement, Token};
 use css_token::{close_by_end, tokens};
 use std::alloc::{AllocError, AllocFailed, Global};
 use thiserror::Error;
-use viz_base::{Decl, List, Mem, Rule, Sheet, Token};
+use viz_base::{Decl, List, Mem, Rule, Sheet};
 
 /// Why a text is refused as a style sheet. Places are in bytes of the text.
 #[derive(Clone, Copy, Debug, PartialEq, Eq, Error)]

@@ -4,8 +4,9 @@ ghost use Rattle.css_semantics.specs.SheetsMarks.{is_gap};
 ghost use Rattle.css_semantics.specs.SheetsReading.{end_of, extent, start_of, trim_end, trim_start, trimmed};
 ghost use Rattle.css_syntax.specs.Classes.{class_has};
 
+use css_semantics::Token;
 use css_token::kinds::{is_gap, is_space};
-use viz_base::{Mem, Token, TokenKind};
+use viz_base::{Mem, TokenKind};
 
 /// What is cut from the ends of a stretch.
 #[derive(Clone, Copy)]
@@ -25,13 +26,20 @@ pub fn class_has(class: Class, kind: TokenKind) -> bool
     }
 }
 
+/// Whether a token is of the class.
+fn is_of(token: &Token<'_>, class: Class) -> bool
+    ensures { result ≡ class_has class token.now.kind }
+{
+    class_has(class, token.kind)
+}
+
 /// How many tokens at the front are of the class.
 fn front_len(tokens: &[Token<'_>], class: Class) -> usize
     ensures is { result ≡ prefix_len (λ t. class_has class t.kind) tokens.now }
     ensures within { result ≤ length tokens.now }
 {
     for (at, token) in tokens.iter().enumerate() {
-        if !class_has(class, token.kind) {
+        if !is_of(token, class) {
             return at;
         }
     }
@@ -44,7 +52,7 @@ fn end_start(tokens: &[Token<'_>], class: Class) -> usize
     ensures within { result ≤ length tokens.now }
 {
     let mut end = tokens.len();
-    while end > 0 && class_has(class, tokens[end - 1].kind) {
+    while end > 0 && is_of(&tokens[end - 1], class) {
         end -= 1;
     }
     end

@@ -8,11 +8,11 @@ use crate::media::holds;
 use crate::rules::{block_rule, rules_in};
 use crate::slices::place;
 use crate::stretches::{Stop, after_at_rule, split};
-use css_semantics::Statement;
+use css_semantics::{Statement, Token};
 use css_token::is_word;
 use css_token::kinds::{has_paren, is_at_keyword, is_comment_mark, is_gap, is_left_brace};
 use std::alloc::Global;
-use viz_base::{List, Mem, Rule, Token};
+use viz_base::{List, Mem, Rule};
 
 /// What stands in the block that begins the tokens, or nothing.
 fn in_block<'a>(alloc: Global, tokens: &'a [Token<'a>]) -> Result<&'a [Token<'a>], Mem>

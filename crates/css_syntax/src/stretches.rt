@@ -2,10 +2,11 @@ ghost use Rattle.std.specs.Prelude.{◌≡◌, ◌≤◌, [], drop, length, IfOk
 ghost use Rattle.css_semantics.specs.SheetsReading.{after_at_rule, after_block, after_prelude, behind, front, stretch_len};
 ghost use Rattle.css_syntax.specs.Classes.{stops};
 
+use css_semantics::Token;
 use css_token::kinds::{is_left_brace, is_semicolon};
 use css_token::{Marks, is_character};
 use std::alloc::Global;
-use viz_base::{Mem, Token, TokenKind};
+use viz_base::{Mem, TokenKind};
 
 /// What a stretch of tokens is, by which it is known where it ends.
 #[derive(Clone, Copy)]

@@ -1,7 +1,7 @@
 -- Rows of characters and escapes: each of them leads the scanner on within the row.
 use Rattle.std.proofs.Common.{◌≡◌, ℕ, ◌-◌, ◌==◌, nat_lt, ◌≤◌, Bool, true, false, not, ◌&&◌, List, [], ◌∷◌, ◌++◌, length, Some, refl, sym, ◌∙◌, ap, subst, ◌⊎◌, inl, inr, arith}
 use Rattle.std.specs.List.{AllByRecursion, concat}
-use Rattle.std.proofs.lemmas.Bool.{false≢true, and_parts, and_left, not-true}
+use Rattle.std.proofs.lemmas.Bool.{and_parts, and_left, not-true}
 use Rattle.std.proofs.lemmas.Bool.Decides.{nat_tests}
 use Rattle.std.proofs.lemmas.List.{append_assoc}
 use Rattle.css_semantics.specs.TokensLetters.{is_hex, is_newline, is_space, is_name, is_quoted, is_url}

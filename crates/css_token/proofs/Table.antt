@@ -7,7 +7,7 @@ use Rattle.css_semantics.specs.TokensTable.{Matches}
 use Rattle.css_token.specs.declared.states.Row.TheVariants.{Word}
 use Rattle.css_token.specs.declared.states.Going.TheVariants.{Plain, Backslash}
 use Rattle.css_token.specs.declared.states.State.TheVariants.{Begin, End, Within, Less, LessBang, LessBangDash, Tilde, Bar}
-use Rattle.css_token.specs.steps.Scan.{step_mark, step_sign, step_start}
+use Rattle.css_token.specs.steps.Scan.{step_mark, step_sign}
 use Rattle.css_token.proofs.Reading.{reads, no_kind}
 use Rattle.css_token.proofs.Rows.{by_bool, eq_true}
 use Rattle.css_token.proofs.Found.{ReadsFrom, end_reads}

@@ -5,7 +5,7 @@ use Rattle.std.proofs.lemmas.Grind.{common_steps}
 use Rattle.std.proofs.lemmas.Str.{encodes-chars, chars_from_encodes, encodes-append, IsCharBoundary-at_seam, IsCharBoundary-from_rest}
 use lib.Utf8.{encodes}
 use Rattle.viz_base.specs.declared.tokens.TokenKind.{TokenKind}
-use Rattle.viz_base.specs.declared.tokens.Token.{Token}
+use Rattle.css_semantics.specs.Pieces.{Token}
 use Rattle.css_semantics.specs.Tokens.{IsLongest, IsToken}
 use Rattle.css_token.specs.steps.Scan.{cut_of}
 use Rattle.css_token.proofs.Munch.{Munched, munched}
@@ -30,17 +30,17 @@ scanned [] kind rest e some = absurd (omega arith)
 scanned (c ∷ cs) kind rest e some = subst (Munched (c ∷ cs)) e (munched c cs)
 
 -- a token from what the scanner leaves of the text behind a place
-pub token_by : (text front rest : List ℕ) (at : ℕ) (t : Token) (m : Munched (chars front) (t.kind, chars rest)) → front ≡ drop at text → at ≤ length text → IsUtf8 front → IsUtf8 rest → IsUtf8 t.text.now → t.at ≡ at → t.text.now ≡ take (length front - length rest) front → IsToken text at t
+pub token_by : (text front rest : List ℕ) (at : ℕ) (t : Token) (m : Munched (chars front) (t.kind, chars rest)) → front ≡ drop at text → at ≤ length text → IsUtf8 front → IsUtf8 rest → IsUtf8 t.text → t.at ≡ at → t.text ≡ take (length front - length rest) front → IsToken text at t
 token_by text front rest at t m e le u v w place taken =
     let whole = front_and_rest front rest m.piece u v m.is.whole in
-    let is_front : t.text.now ≡ encodes m.piece = taken ∙ taken_front front (encodes m.piece) rest whole in
-    let parts : drop at text ≡ t.text.now ++ rest = sym e ∙ whole ∙ ap (λ p. p ++ rest) (sym is_front) in
-    let letters : m.piece ≡ chars t.text.now = chars_from_encodes m.piece t.text.now w (sym is_front) in
+    let is_front : t.text ≡ encodes m.piece = taken ∙ taken_front front (encodes m.piece) rest whole in
+    let parts : drop at text ≡ t.text ++ rest = sym e ∙ whole ∙ ap (λ p. p ++ rest) (sym is_front) in
+    let letters : m.piece ≡ chars t.text = chars_from_encodes m.piece t.text w (sym is_front) in
     record {
       place = place;
       rest = rest;
       whole = parts;
       utf8 = w;
-      longest = subst (λ f. IsLongest (chars f) t.kind (chars t.text.now) (chars rest)) e (subst (λ p. IsLongest (chars front) t.kind p (chars rest)) letters m.is);
-      boundary = end_is_boundary text t.text.now rest at le parts v;
+      longest = subst (λ f. IsLongest (chars f) t.kind (chars t.text) (chars rest)) e (subst (λ p. IsLongest (chars front) t.kind p (chars rest)) letters m.is);
+      boundary = end_is_boundary text t.text rest at le parts v;
     }

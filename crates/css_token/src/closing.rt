@@ -1,7 +1,8 @@
 ghost use Rattle.std.specs.Prelude.{◌≡◌};
 ghost use Rattle.css_semantics.specs.SheetsReading.{closed_by_end, closed_kind};
 
-use viz_base::{Token, TokenKind};
+use css_semantics::Token;
+use viz_base::TokenKind;
 
 fn closed_kind(kind: TokenKind) -> TokenKind
     ensures { result ≡ closed_kind kind }
@@ -19,11 +20,8 @@ pub fn close_by_end(tokens: &mut Vec<Token<'_>>)
 {
     let len = tokens.len();
     if len > 0 {
-        let Token { kind, at, text } = tokens[len - 1];
-        tokens[len - 1] = Token {
-            kind: closed_kind(kind),
-            at,
-            text,
-        };
+        let Token { kind, at, text } = &tokens[len - 1];
+        let (kind, at, text) = (closed_kind(*kind), *at, *text);
+        tokens[len - 1] = Token { kind, at, text };
     }
 }

@@ -5,8 +5,9 @@ ghost use Rattle.css_semantics.specs.TokensUnescaped.{address, hex_value, quoted
 ghost use Rattle.css_token.specs.steps.Resolve.{IsSmall, above_digits, after_number, extent_of, resolved_in};
 
 use crate::letters::{is_digit, is_hex, is_newline, is_space, split_char};
+use css_semantics::Token;
 use std::alloc::Global;
-use viz_base::{Mem, Text, Token, TokenKind};
+use viz_base::{Mem, Text, TokenKind};
 
 /// Where a text ends before its end.
 #[derive(Clone, Copy, Debug, PartialEq, Eq)]
@@ -258,7 +259,7 @@ fn address(alloc: Global, text: &str) -> Result<Text, Mem>
 ///
 /// `Mem` for want of memory alone.
 pub fn unescape(alloc: Global, token: &Token<'_>) -> Result<Text, Mem>
-    ensures { IfOk result (λ t. t ≡ encode_utf8_all (unescaped token.now.kind (chars token.now.text.now))) }
+    ensures { IfOk result (λ t. t ≡ encode_utf8_all (unescaped token.now.kind (chars token.now.text))) }
 {
     let text = token.text;
     match token.kind {

@@ -3,8 +3,9 @@ ghost use Rattle.css_semantics.specs.Names.{same_name};
 ghost use Rattle.css_semantics.specs.SheetsMarks.{is_character, is_word};
 
 use crate::escapes::unescape;
+use css_semantics::Token;
 use std::alloc::Global;
-use viz_base::{Mem, Token, TokenKind};
+use viz_base::{Mem, TokenKind};
 
 /// Whether two names are the same in any ASCII case (CSS 2.1, 4.1.3).
 pub fn same_name(a: &str, b: &str) -> bool

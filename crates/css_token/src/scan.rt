@@ -5,7 +5,8 @@ ghost use Rattle.css_token.specs.steps.Scan.{cut_of, longest};
 
 use crate::letters::split_char;
 use crate::states::{State, kind_of, step};
-use viz_base::{Token, TokenKind};
+use css_semantics::Token;
+use viz_base::TokenKind;
 
 /// The longest piece that goes on from this state, or the best of before.
 fn longest<'a>(

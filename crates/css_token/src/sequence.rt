@@ -1,10 +1,18 @@
-ghost use Rattle.std.specs.Prelude.{List as Seq, IfOk};
-ghost use Rattle.std.specs.Str.{chars};
-ghost use Rattle.css_semantics.specs.Tokens.{ArePieces, AreTokens, Piece};
+ghost use Rattle.std.specs.Prelude.{◌≡◌, List as Seq, IfOk, length};
+ghost use Rattle.css_semantics.specs.Pieces.{Token};
+ghost use Rattle.css_semantics.specs.Tokens.{AreTokens};
 
 use crate::scan::next;
+use css_semantics::Token;
 use std::alloc::Global;
-use viz_base::{List, Mem, Token};
+use viz_base::{List, Mem};
+
+/// How many bytes a token has.
+fn len_of(token: &Token<'_>) -> usize
+    ensures { result ≡ length token.now.text }
+{
+    token.text.len()
+}
 
 /// The tokens of a text, read in one pass (CSS 2.1, 4.1.1).
 ///
@@ -15,7 +23,7 @@ pub fn tokens(alloc: Global, text: &str) -> Result<List<Token<'_>>, Mem>
     let mut found = List::new(alloc);
     let mut at = 0;
     while let Some(token) = next(text, at) {
-        at += token.text.len();
+        at += len_of(&token);
         found.push(token)?;
     }
     Ok(found)
@@ -23,5 +31,5 @@ pub fn tokens(alloc: Global, text: &str) -> Result<List<Token<'_>>, Mem>
 
 /// A law: each text has a list of tokens.
 pub fn tokens_exist(text: &str)
-    ensures { (pieces : Seq Piece) × ArePieces 0 (chars text.now) pieces }
+    ensures { (tokens : Seq Token) × AreTokens text.now tokens }
 {}

@@ -2,7 +2,7 @@
 use Rattle.std.proofs.Common.{◌≡◌, ℕ, ℤ, Bool, true, List, [], ◌∷◌, Option, Some, None, refl}
 use Rattle.std.specs.Option.{option_map}
 use Rattle.std.specs.Str.{chars}
-use Rattle.viz_base.specs.declared.tokens.Token.{Token}
+use Rattle.css_semantics.specs.Pieces.{Token}
 use Rattle.viz_base.specs.declared.tokens.TokenKind.{TokenKind}
 use Rattle.css_semantics.specs.SheetsMarks.{closing_mark}
 use Rattle.css_semantics.specs.SheetsReading.{is_none, stretch_len}
@@ -27,6 +27,6 @@ stretch_none [] [] e = refl
 stretch_none [] (t ∷ ts) e = refl
 stretch_none (m ∷ ms) ts e = cc
 
-pub counted_some : (negative : Bool) (t : Token) (o : Option ℕ) (n : ℤ) → option_map (signed negative) o ≡ Some n → counted negative t o ≡ amount_in t.kind n (unit_of (chars t.text.now))
+pub counted_some : (negative : Bool) (t : Token) (o : Option ℕ) (n : ℤ) → option_map (signed negative) o ≡ Some n → counted negative t o ≡ amount_in t.kind n (unit_of (chars t.text))
 counted_some negative t None n e = cc
 counted_some negative t (Some m) n e = cc

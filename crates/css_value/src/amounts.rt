@@ -6,10 +6,10 @@ ghost use Rattle.viz_base.specs.Decimals.{decimal_of};
 ghost use Rattle.viz_base.specs.Numbers.{floor_of};
 ghost use Rattle.css_semantics.specs.ValuesParts.{amount_in, amount_of, behind_numeral, counted, is_numeral, length_of, numeral_of, signed, unit_of};
 
-use css_semantics::Part;
+use css_semantics::{Part, Token};
 use css_token::{same_name, split_char, unescape};
 use std::alloc::Global;
-use viz_base::{Mem, Text, Token, TokenKind, read_decimal};
+use viz_base::{Mem, Text, TokenKind, read_decimal};
 
 fn is_numeral_byte(byte: u8) -> bool
     ensures { result ≡ is_numeral byte }
@@ -51,7 +51,7 @@ fn behind_numeral(text: &str) -> &str
 
 /// The unit of an amount, after escapes.
 fn unit_of(alloc: Global, token: &Token<'_>) -> Result<Text, Mem>
-    ensures { IfOk result (λ unit. unit ≡ unit_of (chars token.now.text.now)) }
+    ensures { IfOk result (λ unit. unit ≡ unit_of (chars token.now.text)) }
 {
     let unit = Token {
         kind: TokenKind::Ident,
@@ -102,7 +102,7 @@ fn length_of(n: i64, unit: &str) -> Part
 
 /// A count of millionths with its sign; none where it is past the bound.
 fn signed_count(negative: bool, token: &Token<'_>) -> Option<i64>
-    ensures value { result ≡ option_map (signed negative) (decimal_of (numeral_of token.now.text.now)) }
+    ensures value { result ≡ option_map (signed negative) (decimal_of (numeral_of token.now.text)) }
     ensures low { IfSome result (λ n. neg_ℤ (pos (2 ^ 40)) ≤ℤ n) }
     ensures high { IfSome result (λ n. n ≤ℤ pos (2 ^ 40)) }
 {

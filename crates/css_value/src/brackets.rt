@@ -3,10 +3,10 @@ ghost use Rattle.css_semantics.specs.SheetsMarks.{closing_mark};
 ghost use Rattle.css_semantics.specs.SheetsReading.{awaited, goes_on, stretch_len};
 ghost use Rattle.css_semantics.specs.ValuesParts.{function_part};
 
-use css_semantics::Part;
+use css_semantics::{Part, Token};
 use css_token::Marks;
 use std::alloc::Global;
-use viz_base::{Mem, Token, TokenKind};
+use viz_base::{Mem, TokenKind};
 
 /// How many tokens behind the opener stand in its brackets, with the closing mark; all where it isn't there.
 pub fn bracket_len(alloc: Global, opener: TokenKind, tokens: &[Token<'_>]) -> Result<usize, Mem>

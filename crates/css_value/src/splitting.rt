@@ -6,11 +6,11 @@ ghost use Rattle.css_semantics.specs.ValuesParts.{after_part, after_sign, delim_
 
 use crate::amounts::amount_of;
 use crate::brackets::{bracket_len, function_part};
-use css_semantics::Part;
+use css_semantics::{Part, Token};
 use css_token::kinds::{closing_mark, is_gap};
 use css_token::{is_character, unescape};
 use std::alloc::Global;
-use viz_base::{List, Mem, Text, Token, TokenKind};
+use viz_base::{List, Mem, Text, TokenKind};
 
 fn is_amount(kind: TokenKind) -> bool
     ensures { result ≡ is_amount kind }

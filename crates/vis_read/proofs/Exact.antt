@@ -1,6 +1,6 @@
 -- What reading says of tokens is what they are.
 use Rattle.std.proofs.Common.{◌≡◌, ℕ, ◌<◌, ◌≤◌, Bool, true, false, List, [], ◌∷◌, ◌++◌, length, Option, Some, None, Result, Ok, Err, refl, sym, ◌∙◌, ap, subst, arith, length-append}
-use Rattle.std.proofs.lemmas.List.{append-nil, length-map}
+use Rattle.std.proofs.lemmas.List.{append_assoc, append-nil, length-map}
 use Rattle.viz_base.specs.declared.formulas.Formula.{Formula}
 use Rattle.vis_read.specs.declared.faults.FormulaFault.{FormulaFault}
 use Rattle.vis_read.specs.declared.faults.FormulaFault.TheVariants as of_fault
@@ -8,7 +8,7 @@ use Rattle.vis_read.specs.declared.lexemes.Lexeme.{Lexeme}
 use Rattle.vis_read.specs.declared.lexemes.Lexeme.TheVariants.{Unknown}
 use Rattle.vis_read.specs.declared.lexemes.Token.{Token}
 use Rattle.vis_read.specs.declared.reading.Reading.{Reading}
-use Rattle.vis_read.specs.Grammar.{Check, fine, unbound, too_deep, Judged, judged, token_of, tokens_of, AreFine, AreFormula, BeginFormula, IsFormula, IsBad, IsFirst, Outcome, formula_is, bad_at as is_bad_at, unbound_at, too_deep_at}
+use Rattle.vis_read.specs.Grammar.{Check, fine, unbound, too_deep, Judged, judged, token_of, tokens_of, AreFine, AreFormula, BeginFormula, IsFormula, IsBad, IsFirst, start_of, Outcome, formula_is, bad_at as is_bad_at, unbound_at, too_deep_at}
 use Rattle.vis_read.specs.steps.Machine.{Step, ended, initial, step}
 use Rattle.vis_read.specs.steps.Verdicts.{end_with, run, then_end, then_run, verdict}
 use Rattle.vis_read.proofs.Walks.{Walk, stop, take, walk_on, walk_before}
@@ -212,3 +212,90 @@ one_formula ts us f g e h k =
     let c = completes h in
     let d = completes k in
     ap (formula_or f) (sym c.2 ∙ (ap ended (one_end ts us c.1 d.1 e) ∙ d.2))
+
+-- ---- tokens have one answer
+
+-- reading goes on behind tokens that may stand where they stand
+run_walk : (front : List Judged) (rest : List Token) {s m : Reading} → Walk s front [] m → AreFine front → run s (tokens_of front ++ rest) ≡ run m rest
+run_walk [] rest w h = ap (λ x. run x rest) (end_of w refl refl)
+run_walk (j ∷ front) rest {s = s} {m = m} w h =
+    let a = head_of j front w refl refl in
+    ap (λ x. then_run j.at x (λ next. run next (tokens_of front ++ rest))) (a.steps ∙ ap (λ c. Some (a.next, c)) h.0) ∙ run_walk front rest a.walk h.1
+
+record Split (s t : Reading) (front more : List Judged) : Type 0 where
+  between : Reading
+  before : Walk s front [] between
+  behind : Walk between more [] t
+
+split : (front more : List Judged) {s t : Reading} → Walk s (front ++ more) [] t → Split s t front more
+split [] more {s = s} w = record { between = s; before = stop; behind = w }
+split (j ∷ front) more w =
+    let a = head_of j (front ++ more) w refl refl in
+    let b = split front more a.walk in
+    record { between = b.between; before = take a.steps b.before; behind = b.behind }
+
+formula_reading : (tokens : List Token) (end : ℕ) (f : Formula) → IsFormula tokens f → verdict end tokens ≡ Ok f
+formula_reading tokens end f h =
+    let c = completes h.3 in
+    let same : tokens ≡ tokens_of h.0 ++ [] = sym h.1 ∙ sym (append-nil (tokens_of h.0)) in
+    ap (then_end end) (ap (run initial) same ∙ run_walk h.0 [] c.1 h.2) ∙ ap (end_with end) c.2
+
+-- what a token says that may not stand where it stands
+first_reading : (tokens : List Token) (end at : ℕ) (check : Check) (h : IsFirst check tokens at)
+    → (m : Reading) × (n : Reading) × (step m h.lexeme ≡ Some (n, check)) × (verdict end tokens ≡ then_end end (then_run at (step m h.lexeme) (λ next. run next h.rest)))
+first_reading tokens end at check h =
+    let j = judged check h.lexeme at in
+    let b = h.begins in
+    let w = subst (λ ts. AreFormula ts b.1) (append_assoc h.front (j ∷ []) b.0) b.2 in
+    let c = completes w in
+    let s = split h.front (j ∷ b.0) c.1 in
+    let a = head_of j b.0 s.behind refl refl in
+    (s.between, a.next, a.steps, ap (then_end end) (ap (run initial) h.whole ∙ run_walk h.front (record { lexeme = h.lexeme; at = at } ∷ h.rest) s.before h.are_fine))
+
+unbound_reading : (tokens : List Token) (end at : ℕ) → IsFirst unbound tokens at → verdict end tokens ≡ Err (of_fault.Unbound at)
+unbound_reading tokens end at h =
+    let x = first_reading tokens end at unbound h in
+    x.3 ∙ ap (λ y. then_end end (then_run at y (λ next. run next h.rest))) x.2
+
+deep_reading : (tokens : List Token) (end at : ℕ) → IsFirst too_deep tokens at → verdict end tokens ≡ Err (of_fault.TooDeep at)
+deep_reading tokens end at h =
+    let x = first_reading tokens end at too_deep h in
+    x.3 ∙ ap (λ y. then_end end (then_run at y (λ next. run next h.rest))) x.2
+
+bad_end_reading : (tokens : List Token) (end : ℕ) (front : List Judged) {m : Reading} → Walk initial front [] m → tokens ≡ tokens_of front
+    → ((ts : List Judged) (f : Formula) → tokens_of ts ≡ tokens → AreFormula ts f → ⊥) → (x : Option Formula) → ended m ≡ x → end_with end x ≡ Err (of_fault.Bad end)
+bad_end_reading tokens end front w e none None h = refl
+bad_end_reading tokens end front w e none (Some f) h = absurd (none front f (sym e) (sounds w h))
+
+bad_step_reading : (tokens : List Token) (end : ℕ) (front : List Judged) (t : Token) (ts : List Token) {m : Reading} → Walk initial front [] m → tokens ≡ tokens_of front ++ t ∷ ts
+    → ((us : List Judged) (others : List Token) → tokens ≡ tokens_of us ++ others → BeginFormula us → length us ≤ length front) → (x : Step) → step m t.lexeme ≡ x
+    → then_end end (then_run t.at x (λ next. run next ts)) ≡ Err (of_fault.Bad t.at)
+bad_step_reading tokens end front t ts w e longest None s = refl
+bad_step_reading tokens end front t ts w e longest (Some (next, check)) s =
+    let j = judged check t.lexeme t.at in
+    let begun : BeginFormula (front ++ j ∷ []) = begins (front ++ j ∷ []) (walk_on (walk_before w (j ∷ [])) (take s stop)) in
+    let le = longest (front ++ j ∷ []) ts (e ∙ tokens_on front j ts) begun in
+    absurd (omega (arith, le, length-append front (j ∷ [])))
+
+bad_rest : (tokens : List Token) (end at : ℕ) (front : List Judged) (rest : List Token) {m : Reading} → Walk initial front [] m → AreFine front → tokens ≡ tokens_of front ++ rest → at ≡ start_of end rest
+    → ((ts : List Judged) (f : Formula) → tokens_of ts ≡ tokens → AreFormula ts f → ⊥)
+    → ((us : List Judged) (others : List Token) → tokens ≡ tokens_of us ++ others → BeginFormula us → length us ≤ length front) → then_end end (run m rest) ≡ Err (of_fault.Bad at)
+bad_rest tokens end at front [] {m = m} w fines e place none longest =
+    bad_end_reading tokens end front w (e ∙ append-nil (tokens_of front)) none (ended m) refl ∙ ap (λ n. Err (of_fault.Bad n)) (sym place)
+bad_rest tokens end at front (t ∷ ts) {m = m} w fines e place none longest =
+    bad_step_reading tokens end front t ts w e longest (step m t.lexeme) refl ∙ ap (λ n. Err (of_fault.Bad n)) (sym place)
+
+bad_reading : (tokens : List Token) (end at : ℕ) → IsBad tokens end at → verdict end tokens ≡ Err (of_fault.Bad at)
+bad_reading tokens end at h =
+    let b = h.begins in
+    let c = completes b.2 in
+    let s = split h.front b.0 c.1 in
+    ap (then_end end) (ap (run initial) h.whole ∙ run_walk h.front h.rest s.before h.are_fine) ∙ bad_rest tokens end at h.front h.rest s.before h.are_fine h.whole h.place h.none h.longest
+
+-- what tokens are is what reading says of them
+pub reading_is : (tokens : List Token) (end : ℕ) (x : Result Formula FormulaFault) → IsReading tokens end x → verdict end tokens ≡ x
+reading_is tokens end (Ok f) h = formula_reading tokens end f h
+reading_is tokens end (Err of_fault.Mem) h = absurd h
+reading_is tokens end (Err (of_fault.Bad at)) h = bad_reading tokens end at h
+reading_is tokens end (Err (of_fault.Unbound at)) h = unbound_reading tokens end at h
+reading_is tokens end (Err (of_fault.TooDeep at)) h = deep_reading tokens end at h

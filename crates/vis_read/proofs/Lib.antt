@@ -8,5 +8,6 @@ mod Bounds
 mod Small
 mod Sequence
 mod Texts
+mod OneText
 mod Runs
 mod Names

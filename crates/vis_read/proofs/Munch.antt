@@ -1,11 +1,11 @@
 -- Scanning finds the longest piece.
-use Rattle.std.proofs.Common.{◌≡◌, ℕ, zero, suc, ◌+◌, ◌-◌, ◌*◌, ◌<◌, ◌≤◌, ◌==◌, nat_le, nat_lt, get_or, Bool, true, false, not, ◌&&◌, List, [], ◌∷◌, ◌++◌, length, take, drop, Option, Some, None, IfSome, MatchOption, option_map, refl, sym, ◌∙◌, ap, subst, arith, codes, add-one, length-append}
+use Rattle.std.proofs.Common.{◌≡◌, ℕ, suc, ◌+◌, ◌-◌, ◌*◌, ◌<◌, ◌≤◌, ◌==◌, nat_le, nat_lt, get_or, Bool, true, false, not, ◌&&◌, List, [], ◌∷◌, ◌++◌, length, take, drop, Option, Some, None, MatchOption, option_map, refl, sym, ◌∙◌, ap, subst, arith, codes, add-one, length-append}
 use Rattle.std.specs.Char.{is_ascii_digit, is_ascii_lowercase, digit_value}
 use Rattle.std.specs.List.{list_all, position, prefix_len, starts_with}
 use Rattle.std.specs.Str.Parse.{digits_value, digits_value_after}
 use Rattle.std.proofs.lemmas.Bool.{and_from, and_parts, false≢true, lt-ltb}
 use Rattle.std.proofs.lemmas.Bool.Decides.{nat_tests}
-use Rattle.std.proofs.lemmas.List.{append_assoc, drop_at, length-drop, length-take-le, take-append-drop, take_at, take_more}
+use Rattle.std.proofs.lemmas.List.{append_assoc, append-nil, drop_at, length-drop, length-take-le, take-append-drop, take_at, take_more}
 use Rattle.std.proofs.lemmas.List.Sums.{prefix_len-le-length, prefix_len_stops}
 use Rattle.std.proofs.lemmas.Option.{none-some}
 use Rattle.std.proofs.lemmas.Str.{digit_value_digit}
@@ -15,6 +15,7 @@ use Rattle.viz_base.specs.declared.formulas.Sign.TheVariants.{Lt, Le, Eq, Ne, Ge
 use Rattle.vis_read.specs.declared.pieces.Piece.{Piece}
 use Rattle.vis_read.specs.declared.pieces.Piece.TheVariants.{Word, Number, Pixels, Quoted, Sign, Mark}
 use Rattle.vis_read.specs.Pieces.{is_mark, is_quote, is_word_byte, IsNumber, IsPiece, BeginsWithNone, sign_text}
+use Rattle.vis_read.specs.Tokens.{is_white}
 use Rattle.vis_read.specs.steps.Next.{IsCut}
 use Rattle.vis_read.specs.steps.Scan.{begins_with_equal, digits_on, mark_at, number_at, number_behind, one_more, piece_at, quoted_at, sign_or, unequal_or_none, with_more, with_unit}
 
@@ -288,9 +289,9 @@ unit_covers : (n k : ℕ) (r : List ℕ) (b : Bool) → starts_with ◌==◌ r (
 unit_covers n k r true e = let answer : with_unit n k r ≡ (Pixels n, k + 2) = rw e refl in omega (arith, ap (λ (x : Piece × ℕ). x.1) answer)
 unit_covers n k r false e = let answer : with_unit n k r ≡ (Number n, k) = rw e refl in omega (arith, ap (λ (x : Piece × ℕ). x.1) answer)
 
-digits_cover : (n c : ℕ) (cs r : List ℕ) → is_ascii_digit c ≡ true → 49 ≤ c → list_all is_ascii_digit cs ≡ true → digits_value 10 (c ∷ cs) ≤ 2147483647
+digits_cover : (c : ℕ) (cs r : List ℕ) → is_ascii_digit c ≡ true → 49 ≤ c → list_all is_ascii_digit cs ≡ true → digits_value 10 (c ∷ cs) ≤ 2147483647
     → (digits_on (c - 48) (cs ++ r)).1 ≡ length cs + (digits_on (digits_value 10 (c ∷ cs)) r).1
-digits_cover n c cs r d above are most =
+digits_cover c cs r d above are most =
     let value = value_at c cs d in
     let all = counts (c - 48) cs r are (subst (λ m. m ≤ 2147483647) value most) in
     all ∙ ap (λ m. length cs + (digits_on m r).1) (sym value)
@@ -305,7 +306,7 @@ number_covers : (n : ℕ) (ds r : List ℕ) → IsNumber n ds → Reaches (lengt
 number_covers n ds r (IsNumber.zero) = unit_covers 0 1 r (starts_with ◌==◌ r (codes "px")) refl
 number_covers n ds r (IsNumber.digits c cs d above are most) =
     let k = (digits_on (c - 48) (cs ++ r)).1 in
-    let all = digits_cover n c cs r d above are most in
+    let all = digits_cover c cs r d above are most in
     let unit = unit_covers (digits_on (c - 48) (cs ++ r)).0 (k + 1) (drop k (cs ++ r)) (starts_with ◌==◌ (drop k (cs ++ r)) (codes "px")) refl in
     let le : suc (length cs) ≤ (number_behind (digits_on (c - 48) (cs ++ r)) (cs ++ r)).1 = omega (arith, all, unit) in
     subst (AtLeast (suc (length cs))) (sym (number_way c (cs ++ r) d above)) le
@@ -315,7 +316,7 @@ pixels_cover n ds r (IsNumber.zero) = omega arith
 pixels_cover n ds r (IsNumber.digits c cs d above are most) =
     let rest = 112 ∷ 120 ∷ r in
     let k = (digits_on (c - 48) (cs ++ rest)).1 in
-    let all : k ≡ length cs = digits_cover n c cs rest d above are most ∙ omega arith in
+    let all : k ≡ length cs = digits_cover c cs rest d above are most ∙ omega arith in
     let behind : drop k (cs ++ rest) ≡ rest = ap (λ m. drop m (cs ++ rest)) all ∙ drop_at cs rest (length cs) refl in
     let m = (digits_on (c - 48) (cs ++ rest)).0 in
     let answer : number_behind (digits_on (c - 48) (cs ++ rest)) (cs ++ rest) ≡ (Pixels m, k + 1 + 2) = rw behind refl in
@@ -393,3 +394,75 @@ longest_at c cs (Some x) e h =
 
 pub munch : (c : ℕ) (cs : List ℕ) → MatchOption (piece_at c cs) (BeginsWithNone (c ∷ cs)) (IsCut (c ∷ cs))
 munch c cs = longest_at c cs (piece_at c cs) refl (found c cs)
+
+-- ---- a piece is of one kind
+
+-- the kind of the piece that is found at the head of a text
+abbrev pub kind_at : List ℕ → Option Piece
+kind_at [] = None
+kind_at (c ∷ cs) = option_map (λ (x : Piece × ℕ). x.0) (piece_at c cs)
+
+-- digits, and what follows them
+record AllCounted (c : ℕ) (cs r : List ℕ) : Type 0 where
+  number : (digits_on (c - 48) (cs ++ r)).0 ≡ digits_value 10 (c ∷ cs)
+  behind : drop (digits_on (c - 48) (cs ++ r)).1 (cs ++ r) ≡ r
+
+all_counted : (c : ℕ) (cs r : List ℕ) → is_ascii_digit c ≡ true → 49 ≤ c → list_all is_ascii_digit cs ≡ true → digits_value 10 (c ∷ cs) ≤ 2147483647
+    → (digits_on (digits_value 10 (c ∷ cs)) r).1 ≡ 0 → AllCounted c cs r
+all_counted c cs r d above are most none =
+    let all = digits_cover c cs r d above are most in
+    let k : (digits_on (c - 48) (cs ++ r)).1 ≡ length cs = omega (arith, all, none) in
+    let value = (counted (c - 48) (cs ++ r) (digit_below c d)).value in
+    let taken : take (digits_on (c - 48) (cs ++ r)).1 (cs ++ r) ≡ cs = take_at cs r (digits_on (c - 48) (cs ++ r)).1 (sym k) in
+    record {
+      number = sym value ∙ (ap (digits_value_after 10 (c - 48)) taken ∙ sym (value_at c cs d));
+      behind = ap (λ m. drop m (cs ++ r)) k ∙ drop_at cs r (length cs) refl;
+    }
+
+unit_kind : (n k m : ℕ) (rest : List ℕ) → n ≡ m → rest ≡ [] → (with_unit n k rest).0 ≡ Number m
+unit_kind n k m rest e f = rw (f, e) refl
+
+pixels_kind : (n k m : ℕ) (rest : List ℕ) → n ≡ m → rest ≡ codes "px" → (with_unit n k rest).0 ≡ Pixels m
+pixels_kind n k m rest e f = rw (f, e) refl
+
+number_kind : (n : ℕ) (ds : List ℕ) → IsNumber n ds → kind_at ds ≡ Some (Number n)
+number_kind n ds (IsNumber.zero) = refl
+number_kind n ds (IsNumber.digits c cs d above are most) =
+    let g = all_counted c cs [] d above are most refl in
+    let found = digits_on (c - 48) (cs ++ []) in
+    let kind : kind_at (c ∷ (cs ++ [])) ≡ Some (Number (digits_value 10 (c ∷ cs))) =
+    ap (option_map (λ (x : Piece × ℕ). x.0)) (number_way c (cs ++ []) d above) ∙ ap (λ k. Some k) (unit_kind found.0 (found.1 + 1) (digits_value 10 (c ∷ cs)) (drop found.1 (cs ++ [])) g.number g.behind) in
+    subst (λ xs. kind_at (c ∷ xs) ≡ Some (Number (digits_value 10 (c ∷ cs)))) (append-nil cs) kind
+
+px_kind : (n : ℕ) (ds : List ℕ) → IsNumber n ds → kind_at (ds ++ codes "px") ≡ Some (Pixels n)
+px_kind n ds (IsNumber.zero) = refl
+px_kind n ds (IsNumber.digits c cs d above are most) =
+    let g = all_counted c cs (codes "px") d above are most refl in
+    let found = digits_on (c - 48) (cs ++ codes "px") in
+    ap (option_map (λ (x : Piece × ℕ). x.0)) (number_way c (cs ++ codes "px") d above) ∙ ap (λ k. Some k) (pixels_kind found.0 (found.1 + 1) (digits_value 10 (c ∷ cs)) (drop found.1 (cs ++ codes "px")) g.number g.behind)
+
+sign_kind : (s : Comparison) → kind_at (sign_text s) ≡ Some (Sign s)
+sign_kind Lt = refl
+sign_kind Le = refl
+sign_kind Eq = refl
+sign_kind Ne = refl
+sign_kind Ge = refl
+sign_kind Gt = refl
+
+pub of_kind : {kind : Piece} {p : List ℕ} → IsPiece kind p → kind_at p ≡ Some kind
+of_kind (IsPiece.word c cs l h) = ap (option_map (λ (x : Piece × ℕ). x.0)) (at_letter c cs l)
+of_kind (IsPiece.number n ds is) = number_kind n ds is
+of_kind (IsPiece.pixels n ds is) = px_kind n ds is
+of_kind (IsPiece.quoted inside h) = ap (λ x. option_map (λ (y : Piece × ℕ). y.0) (option_map (λ n. (Quoted, n + 2)) x)) (quote_at inside [] h)
+of_kind (IsPiece.sign s) = sign_kind s
+of_kind (IsPiece.mark c m) = ap (option_map (λ (x : Piece × ℕ). x.0)) (mark_is c [] m)
+
+-- what is white begins no piece
+pub white_none : (c : ℕ) (cs : List ℕ) → is_white c ≡ true → kind_at (c ∷ cs) ≡ None
+white_none c cs w = by_bool (c == 32)
+    (λ a. subst (λ x. kind_at (x ∷ cs) ≡ None) (same_byte c 32 a) refl)
+    (λ a. by_bool (c == 9)
+    (λ b. subst (λ x. kind_at (x ∷ cs) ≡ None) (same_byte c 9 b) refl)
+    (λ b. by_bool (c == 10)
+    (λ d. subst (λ x. kind_at (x ∷ cs) ≡ None) (same_byte c 10 d) refl)
+    (λ d. absurd (false≢true (sym (rw (a, b, d) refl) ∙ w)))))

@@ -1,5 +1,5 @@
 -- What a name is where it stands.
-use Rattle.std.proofs.Common.{◌≡◌, ℕ, List, Option, Some, None, bytes_eq, refl, sym, ◌∙◌, ap}
+use Rattle.std.proofs.Common.{◌≡◌, ℕ, List, Some, None, bytes_eq, sym, ◌∙◌, ap}
 use Rattle.std.specs.List.{position}
 use Rattle.vis_read.specs.declared.lexemes.Lexeme.{Lexeme}
 use Rattle.vis_read.specs.declared.lexemes.Lexeme.TheVariants as a

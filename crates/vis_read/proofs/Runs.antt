@@ -1,6 +1,5 @@
 -- What a stop says of a run.
-use Rattle.std.proofs.Common.{◌≡◌, ℕ, List, [], ◌∷◌, Option, Some, None, Result, Ok, Err, refl, sym, ◌∙◌, ap, subst}
-use Rattle.viz_base.specs.declared.formulas.Formula.{Formula}
+use Rattle.std.proofs.Common.{◌≡◌, ℕ, List, ◌∷◌, Some, None, Result, Err, refl, sym, ap, subst}
 use Rattle.vis_read.specs.declared.faults.FormulaFault.{FormulaFault}
 use Rattle.vis_read.specs.declared.faults.FormulaFault.TheVariants as of_fault
 use Rattle.vis_read.specs.declared.faults.Stop.{Stop}

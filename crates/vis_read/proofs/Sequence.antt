@@ -1,5 +1,5 @@
 -- Tokens one after another, and where a text may be cut between them.
-use Rattle.std.proofs.Common.{◌≡◌, ℕ, zero, suc, ◌+◌, ◌-◌, ◌<◌, ◌≤◌, Bool, true, false, not, ◌||◌, List, [], ◌∷◌, ◌++◌, length, take, drop, get_or, refl, sym, ◌∙◌, ap, subst, arith, codes, append_assoc, length-append}
+use Rattle.std.proofs.Common.{◌≡◌, ℕ, ◌+◌, ◌-◌, ◌<◌, ◌≤◌, Bool, true, false, List, [], ◌∷◌, ◌++◌, length, take, drop, get_or, refl, sym, ◌∙◌, ap, subst, arith, codes, append_assoc, length-append}
 use Rattle.std.specs.Char.{is_ascii_digit, is_ascii_lowercase}
 use Rattle.std.specs.List.{list_all, slice_range}
 use Rattle.std.specs.Str.{IsCharBoundary, IsUtf8}
@@ -13,8 +13,8 @@ use Rattle.viz_base.specs.declared.formulas.Sign.TheVariants.{Lt, Le, Eq, Ne, Ge
 use Rattle.vis_read.specs.declared.lexemes.Lexeme.{Lexeme}
 use Rattle.vis_read.specs.declared.lexemes.Token.{Token}
 use Rattle.vis_read.specs.declared.pieces.Piece.{Piece}
-use Rattle.vis_read.specs.declared.pieces.Piece.TheVariants.{Word, Number, Pixels, Quoted, Sign, Mark}
-use Rattle.vis_read.specs.Pieces.{BeginsWithNone, IsLongest, IsNumber, IsPiece, is_mark, is_word_byte, sign_text}
+use Rattle.vis_read.specs.declared.pieces.Piece.TheVariants.{Quoted}
+use Rattle.vis_read.specs.Pieces.{IsNumber, IsPiece, is_mark, is_word_byte, sign_text}
 use Rattle.vis_read.specs.Tokens.{AreTokens, Means, is_white}
 use Rattle.vis_read.specs.steps.Next.{IsCut, IsNext}
 

@@ -1,5 +1,5 @@
 -- What tokens of a text say of the text.
-use Rattle.std.proofs.Common.{◌≡◌, ℕ, zero, suc, ◌+◌, ◌≤◌, ◌<◌, ◌==◌, bytes_eq, Bool, true, false, List, [], ◌∷◌, ◌++◌, length, Option, Some, None, IfOk, MatchResult, Result, Ok, Err, option_map, unwrap_or, refl, sym, ◌∙◌, ap, subst, arith, codes, length-append}
+use Rattle.std.proofs.Common.{◌≡◌, ℕ, ◌≤◌, ◌==◌, bytes_eq, true, List, ◌∷◌, ◌++◌, length, Option, Some, None, IfOk, MatchResult, Result, Ok, Err, option_map, unwrap_or, sym, ap, subst, arith, codes, length-append}
 use Rattle.std.proofs.lemmas.List.{length-map}
 use Rattle.std.specs.Option.{option_or}
 use Rattle.css_semantics.proofs.Pairs.{by_bool}
@@ -15,9 +15,8 @@ use Rattle.vis_read.specs.declared.lexemes.Lexeme.{Lexeme}
 use Rattle.vis_read.specs.declared.lexemes.Lexeme.TheVariants as a
 use Rattle.vis_read.specs.declared.lexemes.Token.{Token}
 use Rattle.vis_read.specs.declared.pieces.Piece.{Piece}
-use Rattle.vis_read.specs.declared.pieces.Piece.TheVariants.{Word, Number, Pixels, Quoted, Sign, Mark}
 use Rattle.vis_read.specs.Grammar.{IsFormula, tokens_of, token_of}
-use Rattle.vis_read.specs.Pieces.{IsLongest, IsNumber, IsPiece, sign_text}
+use Rattle.vis_read.specs.Pieces.{IsNumber, IsPiece, sign_text}
 use Rattle.vis_read.specs.Texts.{IsFault, IsFormulaText}
 use Rattle.vis_read.specs.Tokens.{AreTokens, IsSet, Means, mark_lexeme}
 use Rattle.vis_read.specs.Words.{connective_of, truth_of, pair_of, kind_of, ring_of, face_of, other_of, meaning_of, word_lexeme}

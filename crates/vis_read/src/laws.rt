@@ -1,4 +1,4 @@
-ghost use Rattle.vis_read.specs.Laws.{EveryOutcome, NamesAreBound, OneFormula};
+ghost use Rattle.vis_read.specs.Laws.{EveryOutcome, NamesAreBound, OneAnswer, OneFormula, OneTokens};
 
 /// Law: tokens are at most one formula.
 pub fn one_formula()
@@ -14,4 +14,10 @@ pub fn every_outcome()
 /// Law: where each token may stand where it stands, the formula's names are bound.
 pub fn names_are_bound()
     ensures { NamesAreBound }
+{}
+
+/// Law: of a page, a text has at most one list of tokens, and is at most one formula or refused in one way.
+pub fn one_answer()
+    ensures tokens { OneTokens }
+    ensures answer { OneAnswer }
 {}

@@ -17,6 +17,6 @@ mod tokens;
 mod words;
 
 pub use faults::FormulaFault;
-pub use laws::{every_outcome, names_are_bound, one_formula};
+pub use laws::{every_outcome, names_are_bound, one_answer, one_formula};
 pub use lexemes::{Lexeme, Pair, Quantifier, Token, Unit};
 pub use read::read_formula;

@@ -1,4 +1,4 @@
-use Rattle.std.proofs.Common.{◌≡◌, ℕ, length}
+use Rattle.std.proofs.Common.{◌≡◌, length}
 use Rattle.vis_read.specs.steps.Machine.{closed}
 use Rattle.vis_read.proofs.acts.closed.Given as goal
 

@@ -1,4 +1,4 @@
-use Rattle.std.proofs.Common.{subst, sym}
+use Rattle.std.proofs.Common.{subst}
 use Rattle.vis_read.specs.steps.Verdicts.{Judges, verdict}
 use Rattle.vis_read.proofs.Texts.{answers}
 use Rattle.vis_read.proofs.read.read_formula.Goals as goal

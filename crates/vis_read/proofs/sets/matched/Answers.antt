@@ -1,4 +1,4 @@
-use Rattle.std.proofs.Common.{◌+◌, ◌∙◌, length, map, subst, sym}
+use Rattle.std.proofs.Common.{◌+◌, ◌∙◌, map, subst, sym}
 use Rattle.std.proofs.lemmas.Bool.{false≢true}
 use Rattle.css_select.specs.steps.Machine.{parts_of}
 use Rattle.vis_read.specs.Tokens.{AreMatched}

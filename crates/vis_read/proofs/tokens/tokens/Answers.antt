@@ -1,4 +1,4 @@
-use Rattle.std.proofs.Common.{◌≡◌, ◌∷◌, ◌++◌, ◌+◌, ◌≤◌, [], false, true, length, get_or, subst, sym, ap, ◌∙◌, arith}
+use Rattle.std.proofs.Common.{◌≡◌, ◌∷◌, ◌++◌, ◌+◌, [], false, true, get_or, subst, sym, ap, ◌∙◌, arith}
 use Rattle.vis_read.specs.Tokens.{AreTokens, is_white}
 use Rattle.vis_read.specs.declared.lexemes.Token.{Token}
 use Rattle.vis_read.proofs.Sequence.{Goes, goes_white, goes_next, goes_unknown, goes_end}

@@ -1,4 +1,4 @@
-use Rattle.std.proofs.Common.{ℕ, ◌-◌, length}
+use Rattle.std.proofs.Common.{◌-◌, length}
 use Rattle.vis_read.proofs.Sequence.{Goes}
 use Rattle.vis_read.proofs.tokens.tokens.Given as goal
 
