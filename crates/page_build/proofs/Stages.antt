@@ -17,10 +17,13 @@ use Rattle.page_json.specs.Jobs.{Raw, raw_job}
 use Rattle.page_boxes.specs.declared.faults.BoxFault.{BoxFault}
 use Rattle.page_boxes.specs.declared.faults.BoxFault.TheVariants as of_box
 use Rattle.page_boxes.specs.Trees.{TreeLists, refusal_named}
+use Rattle.vis_read.specs.declared.faults.FormulaFault.{FormulaFault}
+use Rattle.vis_read.specs.declared.faults.FormulaFault.TheVariants as of_text
+use Rattle.vis_read.specs.Texts.{IsAnswerOf, IsFault}
 use Rattle.page_build.specs.declared.faults.JobRefusal.{JobRefusal}
 use Rattle.page_build.specs.declared.faults.JobRefusal.TheVariants.{Mem}
 use Rattle.page_build.specs.Jobs.{AreRefused, HasCascade, IsBuiltOf, IsJobOf, IsRefusedAs, IsRefusedLater}
-use Rattle.page_build.specs.Refusals.{IsSheetRefusal, IsTold, of_boxes, of_box_fault, of_file}
+use Rattle.page_build.specs.Refusals.{IsSheetRefusal, IsTold, of_boxes, of_box_fault, of_file, of_formula}
 use Rattle.page_build.specs.Sheets.{AreSheets}
 
 pub sheet_refused : (nodes : List Node) (css : List (List ℕ)) (refusal : JobRefusal) → IsSheetRefusal css refusal → AreRefused nodes css refusal
@@ -53,6 +56,12 @@ boxes_refused answer (of_box.BlockInInline node) h other = (BoxRefusal.block_in_
 boxes_refused answer (of_box.RightToLeft node letter) h other = (BoxRefusal.right_to_left node letter, h, refl)
 boxes_refused answer of_box.TooManyBoxes h other = (BoxRefusal.too_many_boxes, h, refl)
 boxes_refused answer (of_box.Reach node) h other = (BoxRefusal.reach node, h, refl)
+
+pub formula_refused : (nodes : List Node) (text : List ℕ) (fault : FormulaFault) → of_formula fault ≢ Mem → IsFault nodes text fault → IsAnswerOf nodes text (Err fault)
+formula_refused nodes text of_text.Mem other h = absurd (other refl)
+formula_refused nodes text (of_text.Bad at) other h = h
+formula_refused nodes text (of_text.Unbound at) other h = h
+formula_refused nodes text (of_text.TooDeep at) other h = h
 
 pub file_refused : (bytes : List ℕ) (fault : JobFault) → FailsWith (refusal_of fault) (λ given. raw_job bytes ≡ given) → of_file fault ≢ Mem → IsRefusedAs bytes (of_file fault)
 file_refused bytes of_fault.Mem h other = absurd (other refl)

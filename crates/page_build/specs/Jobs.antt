@@ -13,7 +13,7 @@ use Rattle.css_semantics.specs.DefaultSheet.{default_text}
 use Rattle.css_semantics.specs.SheetsReading.{Refusal}
 use Rattle.layout_semantics.specs.Refusals.{BoxRefusal}
 use Rattle.vis_read.specs.declared.faults.FormulaFault.{FormulaFault}
-use Rattle.vis_read.specs.Texts.{IsFault, IsFormulaText}
+use Rattle.vis_read.specs.Texts.{IsAnswerOf, IsFormulaText}
 use Rattle.page_json.specs.declared.faults.JobFault.{JobFault}
 use Rattle.page_json.specs.Fonts.{measures_of}
 use Rattle.page_json.specs.Jobs.{Raw, raw_job}
@@ -62,7 +62,7 @@ pub record IsBuiltOf (raw : Raw) (job : Job) : Type 0 where
 pub data IsRefusedLater (raw : Raw) : JobRefusal → Type 0 where
   styles : {refusal : JobRefusal} → AreRefused raw.nodes raw.css refusal → IsRefusedLater raw refusal
   boxes : {why : BoxRefusal} → HasBoxes raw (Err why) → IsRefusedLater raw (of_boxes why)
-  assertion : {tree : TreeLists} (fault : FormulaFault) → HasBoxes raw (Ok tree) → IsFault raw.nodes raw.formula fault → IsRefusedLater raw (of_formula fault)
+  assertion : {tree : TreeLists} (fault : FormulaFault) → HasBoxes raw (Ok tree) → IsAnswerOf raw.nodes raw.formula (Err fault) → IsRefusedLater raw (of_formula fault)
 
 -- ---- bytes
 

@@ -4,9 +4,11 @@
 mod building;
 mod faults;
 mod formulas;
+mod laws;
 mod sheets;
 mod styles;
 mod values;
 
 pub use building::build_job;
 pub use faults::JobRefusal;
+pub use laws::one_job;

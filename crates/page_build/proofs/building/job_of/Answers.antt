@@ -5,6 +5,7 @@ use Rattle.page_build.specs.declared.faults.JobRefusal.TheVariants.{Mem}
 use Rattle.vis_read.specs.Texts.{IsFault}
 use Rattle.page_build.specs.Jobs.{AreRefused, AreStyles, HasBoxes, IsRefusedLater}
 use Rattle.page_build.proofs.JobFacts.{tree_within}
+use Rattle.page_build.proofs.Stages.{formula_refused}
 use Rattle.page_build.proofs.building.job_of.Goals as goal
 
 pub returns-in_err-styles-clause-given : goal.returns-in_err-styles-clause-given
@@ -36,7 +37,9 @@ returns-in_err-formula-clause-given c =
     let boxes : HasBoxes (raw_of raw) (Ok (lists_of c.in_ok-tree.tree)) = record { fonts = raw.fonts; measures = refl; styles = styles; styled = styled; boxes = c.in_ok-tree.ensures } in
     let k : (refusal ≢ Mem → IsRefusedLater (raw_of raw) refusal) = λ other.
     (let found = c.in_err-formula.ensures.given other in
-    subst (IsRefusedLater (raw_of raw)) (sym found.2) (IsRefusedLater.assertion found.0 boxes (subst (λ text. IsFault raw.page.nodes text found.0) c.as_str.ensures found.1))) in
+    let fault = subst (λ text. IsFault raw.page.nodes text found.0) c.as_str.ensures found.1 in
+    let answer = formula_refused raw.page.nodes raw.formula found.0 (subst (λ r. r ≢ Mem) found.2 other) fault in
+    subst (IsRefusedLater (raw_of raw)) (sym found.2) (IsRefusedLater.assertion found.0 boxes answer)) in
     search rules
 
 pub invariant_of-result : goal.invariant_of-result
