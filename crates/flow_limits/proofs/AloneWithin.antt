@@ -35,7 +35,7 @@ module _ (tree : BoxTree) (w : World) (height : ℕ) (own turned : ℕ → Bound
   alone_rise k = grown (all_around (32 * (s + 1))) (content_rise tree own turned s k)
 
   -- its box and what is in it
-  whole-in : (k : ℕ) (wide h : ℤ) → IsSound tree w height k wide → IsWhole tree k → let f = corner_frame tree w height k wide in IsLevelIn (grown (all_around (24 * s)) (content_rise tree own turned s k)) (content_top f +ℤ h)
+  pub whole-in : (k : ℕ) (wide h : ℤ) → IsSound tree w height k wide → IsWhole tree k → let f = corner_frame tree w height k wide in IsLevelIn (grown (all_around (24 * s)) (content_rise tree own turned s k)) (content_top f +ℤ h)
       → IsPlacedIn (alone_rise k) (placed_box tree k f h)
   whole-in k wide h i q l =
       let box = boxes k i.page q in
@@ -48,7 +48,7 @@ module _ (tree : BoxTree) (w : World) (height : ℕ) (own turned : ℕ → Bound
       box-wider (grown b (all_around (2 * s))) (alone_rise k) (placed_box tree k f h) (record { up = omega arith; down = omega arith; aside = omega arith })
       (placed-box-in s t fine b tree k f h x v (omega (arith, ml, fine)) (record { top = omega (arith, ints, mt, fine); bottom = omega (arith, ints, mt, fine) }) l)
 
-  width-in : (k : ℕ) (wide h : ℤ) → IsSound tree w height k wide → IsWhole tree k → let p = placed_box tree k (corner_frame tree w height k wide) h in IsSmall s (p.margin.right -ℤ p.margin.left)
+  pub width-in : (k : ℕ) (wide h : ℤ) → IsSound tree w height k wide → IsWhole tree k → let p = placed_box tree k (corner_frame tree w height k wide) h in IsSmall s (p.margin.right -ℤ p.margin.left)
   width-in k wide h i q =
       let f = corner_frame tree w height k wide in
       let x = subst (λ (z : ℤ). AreWidthsSmall t (widths tree w height k z)) (sym i.room) (boxes k i.page q).widths in
@@ -56,7 +56,7 @@ module _ (tree : BoxTree) (w : World) (height : ℕ) (own turned : ℕ → Bound
       let sum = outer-small t f.corner.x (pos 0) f.x.margin_left f.x.margin_right (border_width f.x) all x.margin_left x.margin_right in
       omega (arith, sum, fine)
 
-  height-in : (k : ℕ) (b : Bounds) (wide h : ℤ) → let p = placed_box tree k (corner_frame tree w height k wide) h in IsPlacedIn b p → IsLevelIn b (p.margin.bottom -ℤ p.margin.top)
+  pub height-in : (k : ℕ) (b : Bounds) (wide h : ℤ) → let p = placed_box tree k (corner_frame tree w height k wide) h in IsPlacedIn b p → IsLevelIn b (p.margin.bottom -ℤ p.margin.top)
   height-in k b wide h i = subst (IsLevelIn b) (same (verticals tree w k wide).margin_top (placed_box tree k (corner_frame tree w height k wide) h).margin.bottom) i.margin.bottom
     where
       same : (m z : ℤ) → z ≡ z -ℤ (m -ℤ m)

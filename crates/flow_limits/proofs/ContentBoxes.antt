@@ -4,7 +4,7 @@ use Rattle.std.specs.Prelude.{◌==◌, cond}
 use Rattle.std.specs.List.{AllByRecursion, flat_map}
 use Rattle.std.specs.Option.{option_map_or}
 use Rattle.std.proofs.lemmas.Bool.Decides.{nat_tests}
-use Rattle.viz_base.specs.Trees.{is_inline, is_floated, is_inline_level, floats}
+use Rattle.viz_base.specs.Trees.{floats, is_floated, is_fragmented, is_inline, is_inline_level}
 use Rattle.viz_base.specs.declared.trees.BoxNode.{BoxNode}
 use Rattle.viz_base.specs.declared.trees.BoxTree.{BoxTree}
 use Rattle.viz_base.specs.declared.trees.Kind.{Kind}
@@ -22,7 +22,7 @@ use Rattle.layout_laws.proofs.Levels.{All-append, All-implied}
 use Rattle.layout_laws.proofs.Rooms.{room-by-parent}
 use Rattle.flow_steps.proofs.LeadEnds.{sort_by, sort-float}
 use Rattle.flow_steps.proofs.Sound.{IsSound}
-use Rattle.flow_limits.specs.Boxes.{IsPartOf, is_fragmented, IsWhole}
+use Rattle.flow_limits.specs.Boxes.{IsPartOf, IsWhole}
 
 -- ---- the words of a text are parts of it
 

@@ -73,15 +73,15 @@ module _ (tree : BoxTree) (w : World) (height : ℕ) (own turned : ℕ → Bound
 
   -- where the lines of each box are small
   module _ (lines_small : (n k : ℕ) (left wide : ℤ) → IsSound tree w height k wide → has_line tree k ≡ true → IsContentSmall (line_context n k left wide) own turned s) where
-    abbrev IsInside : ℕ → ℕ → Type 0
+    abbrev pub IsInside : ℕ → ℕ → Type 0
     IsInside n k = (b : Bounds) (left wide top : ℤ) (c : Context) → IsSound tree w height k wide → k < length tree.boxes → IsBandIn b (content_from left (widths tree w height k wide)) → IsLevelIn b top → IsContext b (flow_children tree k) c
         → IsStep (grown b (content_rise tree own turned s k)) [] (content_to tree w height apart n k (content_from left (widths tree w height k wide)) top c)
 
-    first-least : (b : Bounds) (least : Option ℤ) (top : ℤ) → AllByRecursion (IsLevelIn b) (option_to_list least) → IsLevelIn b top → IsLevelIn b (unwrap_or least top)
+    pub first-least : (b : Bounds) (least : Option ℤ) (top : ℤ) → AllByRecursion (IsLevelIn b) (option_to_list least) → IsLevelIn b top → IsLevelIn b (unwrap_or least top)
     first-least b None top a l = l
     first-least b (Some y) top a l = a.0
 
-    lines-in-bounds : (n k : ℕ) (b : Bounds) (left wide top : ℤ) (c : Context) → IsSound tree w height k wide → k < length tree.boxes → has_line tree k ≡ true → IsBandIn b (content_from left (widths tree w height k wide)) → IsLevelIn b top
+    pub lines-in-bounds : (n k : ℕ) (b : Bounds) (left wide top : ℤ) (c : Context) → IsSound tree w height k wide → k < length tree.boxes → has_line tree k ≡ true → IsBandIn b (content_from left (widths tree w height k wide)) → IsLevelIn b top
         → IsContext b (flow_children tree k) c → IsStep (grown b (content_rise tree own turned s k)) [] (line_content tree w height (content_to tree w height apart n) apart k (content_from left (widths tree w height k wide)) top c)
     lines-in-bounds n k b left wide top c i l e band at h =
         let x = line_context n k left wide in

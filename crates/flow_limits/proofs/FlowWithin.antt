@@ -50,10 +50,10 @@ inside-both b c more i = let u = i.up in let d = i.down in let a = i.aside in re
 
 module _ (tree : BoxTree) (w : World) (height : ℕ) (own turned : ℕ → Bounds) (s t : ℕ) (fine : 8 * t ≤ s)
     (boxes : (k : ℕ) → IsOnPage tree.boxes k → IsWhole tree k → IsBoxSmall tree w height t k) (apart : ℕ → Alone) (alone_in : (k : ℕ) → IsAloneIn (own k) s (apart k)) where
-  abbrev rises : ℕ → Bounds
+  abbrev pub rises : ℕ → Bounds
   rises k = rise tree own turned s k
 
-  abbrev Kid : Band ℤ → ℕ → Type 0
+  abbrev pub Kid : Band ℤ → ℕ → Type 0
   Kid cb k = IsFlowKid tree w height k (across cb)
 
   -- ---- how far the flow has come
@@ -79,7 +79,7 @@ module _ (tree : BoxTree) (w : World) (height : ℕ) (own turned : ℕ → Bound
   ahead-wider b around (k ∷ ks) d e i (inside l n f t a) = inside l n f t (ahead-wider (grown b (all_around (16 * s))) (grown around (all_around (16 * s))) (flow_children tree k) d e (inside-both b around (all_around (16 * s)) i) a)
   ahead-wider b around (k ∷ ks) d e i (later p a) = later p (ahead-wider (grown b (rises k)) (grown around (rises k)) ks d e (inside-both b around (rises k) i) a)
 
-  pending-wider : (b around : Bounds) (ks : List ℕ) (c : Cleared) → AreInside b around → IsPending tree own turned s b ks c → IsPending tree own turned s around ks c
+  pub pending-wider : (b around : Bounds) (ks : List ℕ) (c : Cleared) → AreInside b around → IsPending tree own turned s b ks c → IsPending tree own turned s around ks c
   pending-wider b around ks None i p = tt
   pending-wider b around ks (Some c) i p = by p
     where
@@ -88,7 +88,7 @@ module _ (tree : BoxTree) (w : World) (height : ℕ) (own turned : ℕ → Bound
       by (gone l) = gone (level-wider b around c.1 i l)
       by (behind a) = behind a
 
-  standing-wider : (b around : Bounds) (ks : List ℕ) (st : Standing) → AreInside b around → IsStandingIn b ks st → IsStandingIn around ks st
+  pub standing-wider : (b around : Bounds) (ks : List ℕ) (st : Standing) → AreInside b around → IsStandingIn b ks st → IsStandingIn around ks st
   standing-wider b around ks (at_top y c) i h = (level-wider b around y i h.0, pending-wider b around ks c i h.1)
   standing-wider b around ks (below edge run stuck) i h = (level-wider b around edge i h.0, h.1)
 
@@ -109,7 +109,7 @@ module _ (tree : BoxTree) (w : World) (height : ℕ) (own turned : ℕ → Bound
 
   -- ---- floats
 
-  float-in : (content : ℕ → Band ℤ → ℤ → Context → Step) (b : Bounds) (cb : Band ℤ) (top : ℤ) (c : Context) (k : ℕ) (ks : List ℕ) → is_floated_at tree k ≡ true → IsBandIn b cb → IsLevelIn b top → IsContextIn b (k ∷ ks) c
+  pub float-in : (content : ℕ → Band ℤ → ℤ → Context → Step) (b : Bounds) (cb : Band ℤ) (top : ℤ) (c : Context) (k : ℕ) (ks : List ℕ) → is_floated_at tree k ≡ true → IsBandIn b cb → IsLevelIn b top → IsContextIn b (k ∷ ks) c
       → IsStepIn (grown b (rises k)) ks (float_child tree w height content apart cb top c k)
   float-in content b cb top c k ks f band l h =
       let a = alone_in k in
@@ -146,19 +146,19 @@ module _ (tree : BoxTree) (w : World) (height : ℕ) (own turned : ℕ → Bound
       standing-after (below edge run stuck) q = (level-wider b (grown b (rises k)) edge (inside-grown b (rises k)) q.0, q.1)
 
   module _ (content : ℕ → Band ℤ → ℤ → Context → Step) where
-    abbrev size : Waiting ℤ → Extent ℤ
+    abbrev pub size : Waiting ℤ → Extent ℤ
     size f = size_of tree w height content apart f
 
     -- ---- the way forward from a box
 
-    abbrev way : Base → (ℕ → Bool) → Band ℤ → Context → ℕ → Run ℤ → Found
+    abbrev pub way : Base → (ℕ → Bool) → Band ℤ → Context → ℕ → Run ℤ → Found
     way base passed cb c k run = run_forward tree w height content apart base passed cb c k run
 
-    record IsWayFound (b : Bounds) (ks : List ℕ) (k : ℕ) (f : Found) : Type 0 where
-      run : IsRunLow s f.run
-      pends : IsPending tree own turned s b (k ∷ ks) (cleared_of f.end)
+    pub record IsWayFound (b : Bounds) (ks : List ℕ) (k : ℕ) (f : Found) : Type 0 where
+      pub run : IsRunLow s f.run
+      pub pends : IsPending tree own turned s b (k ∷ ks) (cleared_of f.end)
 
-    found-in : (b : Bounds) (base : Base) (passed : ℕ → Bool) (cb : Band ℤ) (c : Context) (k : ℕ) (ks : List ℕ) (run : Run ℤ) → k < length tree.boxes → Kid cb k → is_floated_at tree k ≡ false → IsBandIn b cb
+    pub found-in : (b : Bounds) (base : Base) (passed : ℕ → Bool) (cb : Band ℤ) (c : Context) (k : ℕ) (ks : List ℕ) (run : Run ℤ) → k < length tree.boxes → Kid cb k → is_floated_at tree k ≡ false → IsBandIn b cb
         → (base_in : IsBaseIn tree w height own turned s t fine boxes size base c.floats c.least b base) → AllByRecursion (IsFloatIn b) c.floats → AllByRecursion (IsLevelIn b) (option_to_list c.least) → IsRunLow s run
         → IsWayFound b ks k (way base passed cb c k run)
     found-in b base passed cb c k ks run l i f band base_in floats least r =
@@ -175,17 +175,17 @@ module _ (tree : BoxTree) (w : World) (height : ℕ) (own turned : ℕ → Bound
 
     -- ---- where a box is reached
 
-    abbrev near : Bounds → Bounds
+    abbrev pub near : Bounds → Bounds
     near b = grown b (all_around (4 * s))
 
-    abbrev within : Bounds → Bounds
+    abbrev pub within : Bounds → Bounds
     within b = grown (near b) (all_around (16 * s))
 
-    record IsReachedIn (b : Bounds) (ks : List ℕ) (k : ℕ) (r : Reached) : Type 0 where
-      top : IsLevelIn (near b) r.top
-      pends : IsPending tree own turned s (near b) (k ∷ ks) r.cleared
+    pub record IsReachedIn (b : Bounds) (ks : List ℕ) (k : ℕ) (r : Reached) : Type 0 where
+      pub top : IsLevelIn (near b) r.top
+      pub pends : IsPending tree own turned s (near b) (k ∷ ks) r.cleared
 
-    abbrev IsNext : Bounds → Band ℤ → ℕ → Type 0
+    abbrev pub IsNext : Bounds → Band ℤ → ℕ → Type 0
     IsNext b cb k = (k < length tree.boxes) × Kid cb k × (is_floated_at tree k ≡ false) × IsBandIn b cb
 
     same-number : (d k : ℕ) → (d == k) ≡ true → k ≡ d
@@ -197,7 +197,7 @@ module _ (tree : BoxTree) (w : World) (height : ℕ) (own turned : ℕ → Bound
         let i = inside-grown b (all_around (4 * s)) in
         found-in (near b) (stands y) passed cb c k ks no_run n.0 n.1 n.2 (band-wider b (near b) i n.3) l (floats-wider b (near b) c.floats i floats) (levels-wider b (near b) (option_to_list c.least) i least) (none-low s)
 
-    reached-at-in : (b : Bounds) (cb : Band ℤ) (c : Context) (k : ℕ) (ks : List ℕ) (y : ℤ) (pending : Cleared) → IsNext b cb k → AllByRecursion (IsFloatIn b) c.floats → AllByRecursion (IsLevelIn b) (option_to_list c.least)
+    pub reached-at-in : (b : Bounds) (cb : Band ℤ) (c : Context) (k : ℕ) (ks : List ℕ) (y : ℤ) (pending : Cleared) → IsNext b cb k → AllByRecursion (IsFloatIn b) c.floats → AllByRecursion (IsLevelIn b) (option_to_list c.least)
         → IsLevelIn (near b) y → IsPending tree own turned s b (k ∷ ks) pending → IsReachedIn b ks k (reached_at tree w height content apart cb c k y pending)
     reached-at-in b cb c k ks y None n floats least l p = record { top = l; pends = tt }
     reached-at-in b cb c k ks y (Some d) n floats least l p = by (d.0 == k) refl
@@ -209,7 +209,7 @@ module _ (tree : BoxTree) (w : World) (height : ℕ) (own turned : ℕ → Bound
             rw e (record { top = at; pends = found.pends })
         by false e = rw e (record { top = l; pends = pending-wider b (near b) (k ∷ ks) (Some d) (inside-grown b (all_around (4 * s))) p })
 
-    reached-in : (b : Bounds) (cb : Band ℤ) (k : ℕ) (ks : List ℕ) (st : Standing) (floats : List FloatBox) (least baseline : Option ℤ) → IsNext b cb k
+    pub reached-in : (b : Bounds) (cb : Band ℤ) (k : ℕ) (ks : List ℕ) (st : Standing) (floats : List FloatBox) (least baseline : Option ℤ) → IsNext b cb k
         → IsStandingIn b (k ∷ ks) st → AllByRecursion (IsFloatIn b) floats → AllByRecursion (IsLevelIn b) (option_to_list least)
         → IsReachedIn b ks k (reached tree w height content apart cb (record { standing = st; floats = floats; least = least; baseline = baseline }) k)
     reached-in b cb k ks (at_top y pending) floats least baseline n st f l =
@@ -222,7 +222,7 @@ module _ (tree : BoxTree) (w : World) (height : ℕ) (own turned : ℕ → Bound
         reached-at-in b cb c k ks (edge +ℤ collapse r) (cleared_of (way (hangs edge) none_passed cb c k run).end) n f l
         (level-wider (grown b (all_around (2 * s))) (near b) (edge +ℤ collapse r) (record { up = omega arith; down = omega arith; aside = omega arith }) y) found.pends
 
-    own-run-low : (b : Bounds) (cb : Band ℤ) (c : Context) (k : ℕ) (ks : List ℕ) (r : Reached) → IsNext b cb k → IsContextIn b (k ∷ ks) c → IsLevelIn (near b) r.top → IsRunLow s (own_run tree w height content apart cb c k r)
+    pub own-run-low : (b : Bounds) (cb : Band ℤ) (c : Context) (k : ℕ) (ks : List ℕ) (r : Reached) → IsNext b cb k → IsContextIn b (k ∷ ks) c → IsLevelIn (near b) r.top → IsRunLow s (own_run tree w height content apart cb c k r)
     own-run-low b cb c k ks r n h l = by r.clears c.standing h.standing
       where
         by : (x : Bool) (st : Standing) → IsStandingIn b (k ∷ ks) st → IsRunLow s (elim x as (λ _. Run ℤ) [
@@ -235,25 +235,25 @@ module _ (tree : BoxTree) (w : World) (height : ℕ) (own turned : ℕ → Bound
 
     -- ---- a box laid out
 
-    record IsLaidIn (b : Bounds) (l : Laid) : Type 0 where
-      bottom : IsLevelIn b l.bottom
-      margins : IsRunLow s l.margins
-      floats : AllByRecursion (IsFloatIn b) l.after.context.floats
-      least : AllByRecursion (IsLevelIn b) (option_to_list l.after.context.least)
-      baseline : AllByRecursion (IsLevelIn b) (option_to_list l.after.context.baseline)
-      placed : AllByRecursion (IsPlacedIn b) l.after.boxes
+    pub record IsLaidIn (b : Bounds) (l : Laid) : Type 0 where
+      pub bottom : IsLevelIn b l.bottom
+      pub margins : IsRunLow s l.margins
+      pub floats : AllByRecursion (IsFloatIn b) l.after.context.floats
+      pub least : AllByRecursion (IsLevelIn b) (option_to_list l.after.context.least)
+      pub baseline : AllByRecursion (IsLevelIn b) (option_to_list l.after.context.baseline)
+      pub placed : AllByRecursion (IsPlacedIn b) l.after.boxes
 
     -- a box before its height is known
-    record IsFrameIn (b : Bounds) (f : Frame) : Type 0 where
-      x : AreWidthsSmall t f.x
-      v : AreSidesSmall t f.v
-      left : IsAsideIn (within b) f.corner.x
-      y : IsLevelIn (near b) f.corner.y
-      top : IsLevelIn (within b) (content_top f)
-      least : IsLevelIn (within b) (int_min f.corner.y (f.corner.y -ℤ f.v.margin_top))
-      band : IsBandIn (within b) (content_from f.corner.x (record f.x { margin_left = pos 0 }))
+    pub record IsFrameIn (b : Bounds) (f : Frame) : Type 0 where
+      pub x : AreWidthsSmall t f.x
+      pub v : AreSidesSmall t f.v
+      pub left : IsAsideIn (within b) f.corner.x
+      pub y : IsLevelIn (near b) f.corner.y
+      pub top : IsLevelIn (within b) (content_top f)
+      pub least : IsLevelIn (within b) (int_min f.corner.y (f.corner.y -ℤ f.v.margin_top))
+      pub band : IsBandIn (within b) (content_from f.corner.x (record f.x { margin_left = pos 0 }))
 
-    frame-in : (b : Bounds) (cb : Band ℤ) (k : ℕ) (y : ℤ) → IsNext b cb k → IsLevelIn (near b) y → IsFrameIn b (frame_at tree w height k (across cb) cb.left y)
+    pub frame-in : (b : Bounds) (cb : Band ℤ) (k : ℕ) (y : ℤ) → IsNext b cb k → IsLevelIn (near b) y → IsFrameIn b (frame_at tree w height k (across cb) cb.left y)
     frame-in b cb k y n l =
         let i = n.1 in
         let box = boxes k i.sound.page (flow-whole tree w height k (i.flow n.2)) in
@@ -275,26 +275,26 @@ module _ (tree : BoxTree) (w : World) (height : ℕ) (own turned : ℕ → Bound
           band = record { left = omega (arith, ints, left, xa, xb, xc, fine); right = omega (arith, ints, left, xa, xb, xc, xd, fine) };
         }
 
-    inner-band : (left : ℤ) (b : Bounds) (f : Frame) → f.corner.x ≡ left +ℤ f.x.margin_left → IsFrameIn b f → IsBandIn (within b) (content_from left f.x)
+    pub inner-band : (left : ℤ) (b : Bounds) (f : Frame) → f.corner.x ≡ left +ℤ f.x.margin_left → IsFrameIn b f → IsBandIn (within b) (content_from left f.x)
     inner-band left b f e i =
         let l = i.band.left in let r = i.band.right in
         record { left = omega (arith, ints, l, e); right = omega (arith, ints, r, e) }
 
-    opened-in : (b : Bounds) (c : Context) (f : Frame) (ks js : List ℕ) (st : Standing) → IsFrameIn b f → IsContextIn b ks c → IsStandingIn (within b) js st → IsContextIn (within b) js (opened tree w height content apart c f st)
+    pub opened-in : (b : Bounds) (c : Context) (f : Frame) (ks js : List ℕ) (st : Standing) → IsFrameIn b f → IsContextIn b ks c → IsStandingIn (within b) js st → IsContextIn (within b) js (opened tree w height content apart c f st)
     opened-in b c f ks js st i h q =
         let inside : AreInside b (within b) = record { up = omega arith; down = omega arith; aside = omega arith } in
         let wider = context-wider b (within b) ks c inside h in
         record { standing = q; floats = wider.floats; baseline = wider.baseline; least = raised-in (within b) c.least (int_min f.corner.y (f.corner.y -ℤ f.v.margin_top)) wider.least i.least }
 
     -- from what is in it to its end
-    abbrev IsInside : ℕ → Type 0
+    abbrev pub IsInside : ℕ → Type 0
     IsInside k = (b : Bounds) (left wide top : ℤ) (c : Context) → IsSound tree w height k wide → k < length tree.boxes → IsBandIn b (content_from left (widths tree w height k wide)) → IsLevelIn b top → IsContextIn b (flow_children tree k) c
         → IsStepIn (grown b (content_rise tree own turned s k)) [] (content k (content_from left (widths tree w height k wide)) top c)
 
-    abbrev inner : Bounds → ℕ → Bounds
+    abbrev pub inner : Bounds → ℕ → Bounds
     inner b k = grown (within b) (content_rise tree own turned s k)
 
-    inner-in : (b : Bounds) (k : ℕ) (n : ℕ) → n ≤ 12 → is_floated_at tree k ≡ false → AreInside (grown (inner b k) (all_around (n * s))) (grown b (rises k))
+    pub inner-in : (b : Bounds) (k : ℕ) (n : ℕ) → n ≤ 12 → is_floated_at tree k ≡ false → AreInside (grown (inner b k) (all_around (n * s))) (grown b (rises k))
     inner-in b k n l f =
         let all = rise-box tree own turned s k f in
         let up = ap (λ (x : Bounds). x.up) all in
@@ -304,7 +304,7 @@ module _ (tree : BoxTree) (w : World) (height : ℕ) (own turned : ℕ → Bound
         record { up = omega (arith, up, few); down = omega (arith, down, few); aside = omega (arith, aside, few) }
 
     -- a box whose content goes down so far
-    box-in : (b : Bounds) (k : ℕ) (f : Frame) (h : ℤ) → is_floated_at tree k ≡ false → IsFrameIn b f → IsLevelIn (grown (inner b k) (all_around (4 * s))) (content_top f +ℤ h)
+    pub box-in : (b : Bounds) (k : ℕ) (f : Frame) (h : ℤ) → is_floated_at tree k ≡ false → IsFrameIn b f → IsLevelIn (grown (inner b k) (all_around (4 * s))) (content_top f +ℤ h)
         → IsPlacedIn (grown b (rises k)) (placed_box tree k f h)
     box-in b k f h e i l =
         let wide = grown (inner b k) (all_around (4 * s)) in
@@ -339,16 +339,16 @@ module _ (tree : BoxTree) (w : World) (height : ℕ) (own turned : ℕ → Bound
     option-or-in b None y h k = k
     option-or-in b (Some x) y h k = h
 
-    inner-wide : (b : Bounds) (k : ℕ) → is_floated_at tree k ≡ false → AreInside (inner b k) (grown b (rises k))
+    pub inner-wide : (b : Bounds) (k : ℕ) → is_floated_at tree k ≡ false → AreInside (inner b k) (grown b (rises k))
     inner-wide b k f = inside-more (inner b k) (grown (inner b k) (all_around (0 * s))) (grown b (rises k)) (record { up = omega arith; down = omega arith; aside = omega arith }) (inner-in b k 0 (omega arith) f)
 
-    content-bottom : (b : Bounds) (k : ℕ) (top auto : ℤ) → IsOnPage tree.boxes k → IsWhole tree k → IsLevelIn (within b) top → IsLevelIn (grown (inner b k) (all_around (2 * s))) (top +ℤ auto) → IsLevelIn (grown (inner b k) (all_around (4 * s))) (top +ℤ content_height tree w height k auto)
+    pub content-bottom : (b : Bounds) (k : ℕ) (top auto : ℤ) → IsOnPage tree.boxes k → IsWhole tree k → IsLevelIn (within b) top → IsLevelIn (grown (inner b k) (all_around (2 * s))) (top +ℤ auto) → IsLevelIn (grown (inner b k) (all_around (4 * s))) (top +ℤ content_height tree w height k auto)
     content-bottom b k top auto page whole l m =
         let wide = grown (inner b k) (all_around (2 * s)) in
         level-wider (grown wide (all_around s)) (grown (inner b k) (all_around (4 * s))) (top +ℤ content_height tree w height k auto) (record { up = omega arith; down = omega arith; aside = omega arith })
         (held-in s t fine wide top auto (content_height tree w height k auto) ((boxes k page whole).held auto) (level-wider (within b) wide top (record { up = omega arith; down = omega arith; aside = omega arith }) l) m)
 
-    laid-context-in : (b : Bounds) (cb : Band ℤ) (c : Context) (k : ℕ) (ks : List ℕ) (y : ℤ) → IsInside k → IsNext b cb k → IsContextIn b (k ∷ ks) c → IsLevelIn (near b) y
+    pub laid-context-in : (b : Bounds) (cb : Band ℤ) (c : Context) (k : ℕ) (ks : List ℕ) (y : ℤ) → IsInside k → IsNext b cb k → IsContextIn b (k ∷ ks) c → IsLevelIn (near b) y
         → IsLaidIn (grown b (rises k)) (laid_context tree w height content apart cb c k (frame_at tree w height k (across cb) cb.left y))
     laid-context-in b cb c k ks y again n h l =
         let i = n.1 in
@@ -369,7 +369,7 @@ module _ (tree : BoxTree) (w : World) (height : ℕ) (own turned : ℕ → Bound
         closed-in after f false no_run (step (record (opened tree w height content apart c f end.context.standing) { baseline = option_or end.context.baseline c.baseline }) end.boxes) (context_box tree w height k f end.context) frame.v (none-low s) box
         wider.floats wider.least (option-or-in after end.context.baseline c.baseline inner_end.context.baseline outer.baseline) inner_end.placed
 
-    block-in : (b : Bounds) (cb : Band ℤ) (c : Context) (k : ℕ) (ks : List ℕ) (y : ℤ) (st : Standing) → IsInside k → IsNext b cb k → IsContextIn b (k ∷ ks) c → IsLevelIn (near b) y → IsStandingIn (within b) (flow_children tree k) st
+    pub block-in : (b : Bounds) (cb : Band ℤ) (c : Context) (k : ℕ) (ks : List ℕ) (y : ℤ) (st : Standing) → IsInside k → IsNext b cb k → IsContextIn b (k ∷ ks) c → IsLevelIn (near b) y → IsStandingIn (within b) (flow_children tree k) st
         → (through : Bool) → let f = frame_at tree w height k (across cb) cb.left y in let end = content k (content_from cb.left f.x) (content_top f) (opened tree w height content apart c f st) in
         IsLaidIn (grown b (rises k)) (closed tree w height content apart f through (joined_run (joins_last_child tree k) end.context.standing) end (block_box tree w height k f end.context))
     block-in b cb c k ks y st again n h l q through =
@@ -389,7 +389,7 @@ module _ (tree : BoxTree) (w : World) (height : ℕ) (own turned : ℕ → Bound
         closed-in after f through (joined_run (joins_last_child tree k) end.context.standing) end (block_box tree w height k f end.context) frame.v (joined-low (inner b k) s (joins_last_child tree k) end.context.standing stands_) box
         inner_end.context.floats inner_end.context.least inner_end.context.baseline inner_end.placed
 
-    laid-block-in : (b : Bounds) (cb : Band ℤ) (c : Context) (k : ℕ) (ks : List ℕ) (y : ℤ) (pending : Cleared) → IsInside k → IsNext b cb k → IsContextIn b (k ∷ ks) c → IsLevelIn (near b) y → IsPending tree own turned s (near b) (k ∷ ks) pending
+    pub laid-block-in : (b : Bounds) (cb : Band ℤ) (c : Context) (k : ℕ) (ks : List ℕ) (y : ℤ) (pending : Cleared) → IsInside k → IsNext b cb k → IsContextIn b (k ∷ ks) c → IsLevelIn (near b) y → IsPending tree own turned s (near b) (k ∷ ks) pending
         → IsLaidIn (grown b (rises k)) (laid_block tree w height content apart cb c k pending (frame_at tree w height k (across cb) cb.left y))
     laid-block-in b cb c k ks y pending again n h l p = by (is_open_above tree k) refl
       where
@@ -409,7 +409,7 @@ module _ (tree : BoxTree) (w : World) (height : ℕ) (own turned : ℕ → Bound
         by false e = rw e (block-in b cb c k ks y (below (content_top f) no_run false) again n h l (frame.top, none-low s)
             (is_at_top (content k (content_from cb.left f.x) (content_top f) (opened tree w height content apart c f (below (content_top f) no_run false))).context.standing && may_collapse_through tree k))
 
-    laid-in : (b : Bounds) (cb : Band ℤ) (c : Context) (k : ℕ) (ks : List ℕ) (r : Reached) → IsInside k → IsNext b cb k → IsContextIn b (k ∷ ks) c → IsReachedIn b ks k r → IsLaidIn (grown b (rises k)) (laid tree w height content apart cb c k r)
+    pub laid-in : (b : Bounds) (cb : Band ℤ) (c : Context) (k : ℕ) (ks : List ℕ) (r : Reached) → IsInside k → IsNext b cb k → IsContextIn b (k ∷ ks) c → IsReachedIn b ks k r → IsLaidIn (grown b (rises k)) (laid tree w height content apart cb c k r)
     laid-in b cb c k ks r again n h q = by (is_replaced_at tree k) (is_context_root tree k) refl refl
       where
         by : (p o : Bool) → is_replaced_at tree k ≡ p → is_context_root tree k ≡ o → IsLaidIn (grown b (rises k)) (laid tree w height content apart cb c k r)
@@ -442,7 +442,7 @@ module _ (tree : BoxTree) (w : World) (height : ℕ) (own turned : ℕ → Bound
         by true false (at_top y (Some d)) e f a = rw (e, f) (level-wider b after y inside_is a.0, step-pending tree own turned s b k ks d.0 d.1 a.1)
         by true false (below edge other stuck) e f a = rw (e, f) (level-wider b after edge inside_is a.0, ended)
 
-    flow-child-in : (b : Bounds) (cb : Band ℤ) (c : Context) (k : ℕ) (ks : List ℕ) → IsInside k → IsNext b cb k → IsContextIn b (k ∷ ks) c → IsStepIn (grown b (rises k)) ks (flow_child tree w height content apart cb c k)
+    pub flow-child-in : (b : Bounds) (cb : Band ℤ) (c : Context) (k : ℕ) (ks : List ℕ) → IsInside k → IsNext b cb k → IsContextIn b (k ∷ ks) c → IsStepIn (grown b (rises k)) ks (flow_child tree w height content apart cb c k)
     flow-child-in b cb c k ks again n h =
         let r = reached tree w height content apart cb c k in
         let at = reached-in b cb k ks c.standing c.floats c.least c.baseline n h.standing h.floats h.least in
@@ -461,7 +461,7 @@ module _ (tree : BoxTree) (w : World) (height : ℕ) (own turned : ℕ → Bound
     child-flow : (cb : Band ℤ) (top : ℤ) (c : Context) (k : ℕ) → is_floated_at tree k ≡ false → child tree w height content apart cb top c k ≡ flow_child tree w height content apart cb c k
     child-flow cb top c k e = rw e refl
 
-    child-in : (b : Bounds) (cb : Band ℤ) (top : ℤ) (c : Context) (k : ℕ) (ks : List ℕ) → IsInside k → k < length tree.boxes → Kid cb k → IsBandIn b cb → IsLevelIn b top → IsContextIn b (k ∷ ks) c
+    pub child-in : (b : Bounds) (cb : Band ℤ) (top : ℤ) (c : Context) (k : ℕ) (ks : List ℕ) → IsInside k → k < length tree.boxes → Kid cb k → IsBandIn b cb → IsLevelIn b top → IsContextIn b (k ∷ ks) c
         → IsStepIn (grown b (rises k)) ks (child tree w height content apart cb top c k)
     child-in b cb top c k ks again l i band at h = by (is_floated_at tree k) refl
       where

@@ -28,13 +28,12 @@ use Rattle.layout_semantics.specs.Lengths.{own as own_of, used, margins, borders
 use Rattle.layout_semantics.specs.LineFilling.{item_width, band_width, float_size}
 use Rattle.layout_semantics.specs.LineHeights.{InlineContext, LineExtent, inner_of, height_of_extent, inline_extent, box_extent, extent_in_line, shift, inline_shift}
 use Rattle.layout_semantics.specs.Order.{IsOnPage}
-use Rattle.layout_semantics.proofs.Pages.{forest}
+use Rattle.layout_semantics.proofs.Pages.{forest, within-page}
 use Rattle.layout_laws.proofs.Among.{Among}
 use Rattle.layout_laws.proofs.Greatest.{all_at}
 use Rattle.layout_laws.proofs.Levels.{IsFrom, All-implied, inner_boxes-from}
 use Rattle.flow_steps.specs.Flow.{content_to, inner_size}
 use Rattle.flow_steps.proofs.Sound.{IsSound}
-use Rattle.lay_block.proofs.Counts.{within-page}
 use Rattle.flow_limits.specs.Bounds.{Bounds, IsLevelIn}
 use Rattle.flow_limits.specs.Boxes.{IsBoxSmall, IsWhole, IsAloneIn, IsPartOf, middle_of, IsInlineBoxSmall}
 use Rattle.flow_limits.specs.Inline.{IsSmall, IsAtomIn, IsFontSmall, IsInlineSmall, IsTextSmall, IsFloatSmall, IsItemBoxSmall, IsItemSmall, IsContentSmall}

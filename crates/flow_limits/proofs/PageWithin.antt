@@ -6,12 +6,11 @@ use Rattle.std.specs.List.{AllByRecursion, list_any}
 use Rattle.std.proofs.lemmas.Bool.Decides.{nat_tests}
 use Rattle.std.proofs.lemmas.Int.{ints}
 use Rattle.viz_base.specs.Numbers.{floor_of}
-use Rattle.viz_base.specs.Trees.{is_inline}
+use Rattle.viz_base.specs.Trees.{is_fragmented, is_inline}
 use Rattle.viz_base.specs.declared.lengths.Valign.{Valign}
 use Rattle.viz_base.specs.declared.lengths.Valign.TheVariants as of_valign
 use Rattle.viz_base.specs.declared.styles.Style.{Style}
 use Rattle.viz_base.specs.declared.trees.BoxTree.{BoxTree}
-use Rattle.viz_base.specs.declared.trees.Kind.{Kind}
 use Rattle.viz_base.specs.declared.trees.Kind.TheVariants as of_kind
 use Rattle.viz_base.specs.declared.worlds.World.{World}
 use Rattle.layout_semantics.specs.Blocks.{kind_of}
@@ -22,7 +21,7 @@ use Rattle.layout_semantics.specs.Horizontal.{widths}
 use Rattle.layout_semantics.specs.InlineContent.{has_line, inner_boxes, is_floated_at, content}
 use Rattle.layout_semantics.specs.Lengths.{own}
 use Rattle.layout_semantics.specs.Order.{page_order, IsOnPage}
-use Rattle.layout_semantics.proofs.Pages.{forest, placed_on_page, page_placed}
+use Rattle.layout_semantics.proofs.Pages.{forest, placed_on_page, page_placed, within-page}
 use Rattle.layout_laws.proofs.Among.{Among, among, contains}
 use Rattle.layout_laws.proofs.Greatest.{filter-passes}
 use Rattle.layout_laws.proofs.Levels.{IsFrom, All-implied, inner_boxes-from}
@@ -30,12 +29,11 @@ use Rattle.layout_laws.proofs.LeadLevels.{children-from}
 use Rattle.flow_steps.specs.Flow.{content_of, inner_size}
 use Rattle.flow_steps.specs.Tables.{outside_of, laid_at, nothing_alone}
 use Rattle.flow_steps.proofs.Sound.{IsSound, inner_boxes-sound, flow-sound}
-use Rattle.flow_steps.proofs.InOrder.{box_before}
+use Rattle.flow_steps.proofs.InOrder.{box_before, whole_no_inline}
 use Rattle.flow_steps.proofs.Tables.{box-same}
-use Rattle.lay_block.proofs.Counts.{within-page}
 use Rattle.flow_limits.specs.Bounds.{Bounds, no_bounds}
 use Rattle.flow_limits.specs.Inline.{IsContentSmall}
-use Rattle.flow_limits.specs.Boxes.{is_fragmented, IsWhole, IsBoxSmall, IsAloneIn}
+use Rattle.flow_limits.specs.Boxes.{IsWhole, IsBoxSmall, IsAloneIn}
 use Rattle.flow_limits.specs.Loads.{greatest_length, unit, load, size_of}
 use Rattle.flow_limits.proofs.Levels.{All-filter}
 use Rattle.flow_limits.proofs.ContentBoxes.{content-items, inner-whole, float-whole}
@@ -114,18 +112,14 @@ module _ (tree : BoxTree) (w : World) (height t : ℕ) (fine : 8 * t ≤ greates
     (boxes : (k : ℕ) → IsOnPage tree.boxes k → IsWhole tree k → IsBoxSmall tree w height t k)
     (lines_small : (own : ℕ → Bounds) (apart : ℕ → Alone) (alone_in : (k : ℕ) → IsAloneIn (own k) greatest_length (apart k)) (n k : ℕ) (left wide : ℤ) → IsSound tree w height k wide → has_line tree k ≡ true
     → IsContentSmall (line_context tree w height own (turned_of tree w height apart own) greatest_length t fine boxes apart alone_in n k left wide) own (turned_of tree w height apart own) greatest_length) where
-  abbrev right : ℕ → Alone
+  abbrev pub right : ℕ → Alone
   right k = landed.alone tree w height (landed.flow tree w height) k (room tree w height k)
 
-  abbrev Good : ℕ → Type 0
+  abbrev pub Good : ℕ → Type 0
   Good k = IsSound tree w height k (room tree w height k) × IsWhole tree k
 
   is_good : ℕ → Bool
   is_good k = list_any (λ j. j == k) (page_order tree.boxes) && not (is_fragmented (kind_of tree k))
-
-  no_inline : (kind : Kind) → is_fragmented kind ≡ false → is_inline kind ≡ false
-  no_inline of_kind.Inline e = absurd (cc)
-  no_inline _ e = refl
 
   good-is : (k : ℕ) → is_good k ≡ true → Good k
   unfolding is_good
@@ -137,7 +131,7 @@ module _ (tree : BoxTree) (w : World) (height t : ℕ) (fine : 8 * t ≤ greates
       by true false f g h =
           let found = any-among (λ j. j == k) (page_order tree.boxes) f in
           let same : found.0 ≡ k = let e = found.2 in grind (arith, nat_tests, e) in
-          (record { page = placed_on_page tree.boxes k (contains (page_order tree.boxes) k (subst (λ (x : ℕ). Among (page_order tree.boxes) x) same found.1)); room = refl; block = no_inline (kind_of tree k) g }, g)
+          (record { page = placed_on_page tree.boxes k (contains (page_order tree.boxes) k (subst (λ (x : ℕ). Among (page_order tree.boxes) x) same found.1)); room = refl; block = whole_no_inline (kind_of tree k) g }, g)
 
   good-from : (k : ℕ) → Good k → is_good k ≡ true
   unfolding is_good
@@ -152,10 +146,10 @@ module _ (tree : BoxTree) (w : World) (height t : ℕ) (fine : 8 * t ≤ greates
   entry : ℕ → ℕ → Option Alone
   entry low k = elim (nat_lt low k && is_good k) [ true ↦ Some (right k) | false ↦ None ]
 
-  table : ℕ → List (Option Alone)
+  pub table : ℕ → List (Option Alone)
   table low = tabled (entry low) 0 (length tree.boxes)
 
-  apart-from : (low k : ℕ) → ((laid_at (table low) k ≡ right k) × (low < k) × Good k) ⊎ (laid_at (table low) k ≡ nothing_alone)
+  pub apart-from : (low k : ℕ) → ((laid_at (table low) k ≡ right k) × (low < k) × Good k) ⊎ (laid_at (table low) k ≡ nothing_alone)
   unfolding table entry
   apart-from low k = by_place (nat_lt k (length tree.boxes)) refl
     where
@@ -197,11 +191,10 @@ module _ (tree : BoxTree) (w : World) (height t : ℕ) (fine : 8 * t ≤ greates
 
   -- ---- what stands outside a flow
 
-  IsApart : ℕ → ℕ → Type 0
+  abbrev pub IsApart : ℕ → ℕ → Type 0
   IsApart c k = (c < k) × Good k
 
-  outside-good : (c : ℕ) → IsSound tree w height c (room tree w height c) → AllByRecursion (IsApart c) (outside_of tree c)
-  unfolding IsApart
+  pub outside-good : (c : ℕ) → IsSound tree w height c (room tree w height c) → AllByRecursion (IsApart c) (outside_of tree c)
   outside-good c g = by (has_line tree c)
     where
       own_sound : (k : ℕ) (wide : ℤ) → IsSound tree w height k wide → IsSound tree w height k (room tree w height k)
@@ -225,8 +218,7 @@ module _ (tree : BoxTree) (w : World) (height t : ℕ) (fine : 8 * t ≤ greates
       by true = inner
       by false = flow
 
-  served : (low c : ℕ) → low ≤ c → IsOnPage tree.boxes c → is_inline (kind_of tree c) ≡ false → AllByRecursion (λ k. right k ≡ laid_at (table low) k) (outside_of tree c)
-  unfolding IsApart
+  pub served : (low c : ℕ) → low ≤ c → IsOnPage tree.boxes c → is_inline (kind_of tree c) ≡ false → AllByRecursion (λ k. right k ≡ laid_at (table low) k) (outside_of tree c)
   served low c l p b =
       All-implied (IsApart c) (λ k. right k ≡ laid_at (table low) k) (outside_of tree c) (λ k i. (let after = i.0 in served-at low k (omega (arith, after, l)) i.1)) (outside-good c (record { page = p; room = refl; block = b }))
 
@@ -237,23 +229,23 @@ module _ (tree : BoxTree) (w : World) (height t : ℕ) (fine : 8 * t ≤ greates
     pub known : (k : ℕ) → low ≤ k → Good k → IsAloneIn (own k) greatest_length (right k)
     pub few : IsFew tree own
 
-  nothing-in : (b : Bounds) → IsAloneIn b greatest_length nothing_alone
+  pub nothing-in : (b : Bounds) → IsAloneIn b greatest_length nothing_alone
   nothing-in b = record { width = omega arith; height = record { top = omega (arith, ints); bottom = omega (arith, ints) }; baseline = tt; boxes = tt }
 
-  turned-few : (apart : ℕ → Alone) (own : ℕ → Bounds) → IsFew tree own → IsFew tree (turned_of tree w height apart own)
+  pub turned-few : (apart : ℕ → Alone) (own : ℕ → Bounds) → IsFew tree own → IsFew tree (turned_of tree w height apart own)
   turned-few apart own f k l = let a = f k l in let n = turn (unsigned_abs (int_min (base_of tree w height apart k) (pos 0))) (own k).up in omega (arith, a, n)
     where
       turn : (m n : ℕ) → min m n ≤ n
       turn m n = omega arith
 
   module _ (low : ℕ) (l : low < length tree.boxes) (a : AreKnown (suc low)) where
-    abbrev apart : ℕ → Alone
+    abbrev pub apart : ℕ → Alone
     apart k = laid_at (table low) k
 
-    abbrev turned : ℕ → Bounds
+    abbrev pub turned : ℕ → Bounds
     turned = turned_of tree w height apart a.own
 
-    alone_in : (k : ℕ) → IsAloneIn (a.own k) greatest_length (apart k)
+    pub alone_in : (k : ℕ) → IsAloneIn (a.own k) greatest_length (apart k)
     alone_in k = by (apart-from low k)
       where
         by : ((laid_at (table low) k ≡ right k) × (low < k) × Good k) ⊎ (laid_at (table low) k ≡ nothing_alone) → IsAloneIn (a.own k) greatest_length (laid_at (table low) k)
@@ -263,7 +255,7 @@ module _ (tree : BoxTree) (w : World) (height t : ℕ) (fine : 8 * t ≤ greates
     abbrev own_here : Bounds
     own_here = alone_rise tree w height a.own turned greatest_length t fine boxes apart alone_in (lines_small a.own apart alone_in) low
 
-    abbrev own_now : ℕ → Bounds
+    abbrev pub own_now : ℕ → Bounds
     own_now k = elim (k == low) as (λ _. Bounds) [ true ↦ own_here | false ↦ a.own k ]
 
     here-known : Good low → IsAloneIn own_here greatest_length (right low)
@@ -295,7 +287,7 @@ module _ (tree : BoxTree) (w : World) (height t : ℕ) (fine : 8 * t ≤ greates
     few = λ k l. (let is = load-is tree k l in omega (arith, is));
   }
 
-  all-known : (count low : ℕ) → count + low ≡ length tree.boxes → AreKnown low
+  pub all-known : (count low : ℕ) → count + low ≡ length tree.boxes → AreKnown low
   all-known zero low e = let same : length tree.boxes ≡ low = omega (arith, e) in subst AreKnown same none-known
   all-known (suc count) low e = one-more low (omega (arith, e)) (all-known count (suc low) (omega (arith, e)))
 

@@ -44,7 +44,7 @@ of-list g (x ∷ xs) =
     omega (arith, all, first, rest)
 
 module _ (tree : BoxTree) where
-  letters_at : ℕ → ℕ
+  pub letters_at : ℕ → ℕ
   letters_at i = option_map_or (λ (b : BoxNode). length (chars b.chars)) (slice_get tree.boxes i) 0
 
   same-letters : (i : ℕ) → length (text_of tree i) ≡ letters_at i
@@ -55,11 +55,11 @@ module _ (tree : BoxTree) where
       by None = refl
       by (Some b) = refl
 
-  rank-is : (n : ℕ) → rank tree n ≡ 2 * n + sum_before letters_at n
+  pub rank-is : (n : ℕ) → rank tree n ≡ 2 * n + sum_before letters_at n
   rank-is zero = refl
   rank-is (suc n) = let rest = rank-is n in let one = same-letters n in omega (arith, rest, one)
 
-  few : length tree.boxes ≤ 16384 → sum_by (λ (b : BoxNode). length (chars b.chars)) tree.boxes ≤ 262144 → rank tree (length tree.boxes) ≤ 294912
+  pub few : length tree.boxes ≤ 16384 → sum_by (λ (b : BoxNode). length (chars b.chars)) tree.boxes ≤ 262144 → rank tree (length tree.boxes) ≤ 294912
   unfolding letters_at
   few l m = let all = rank-is (length tree.boxes) in let sum = of-list (λ (b : BoxNode). length (chars b.chars)) tree.boxes in omega (arith, all, sum, l, m)
 
@@ -67,11 +67,11 @@ module _ (tree : BoxTree) where
 
 module _ (tree : BoxTree) (w : World) (height : ℕ) (root_whole : IsWhole tree 0) (boxes : (k : ℕ) → IsOnPage tree.boxes k → IsWhole tree k → ArePropertiesSmall tree w height (2 ^ 42) k) (terms : (k : ℕ) → IsOnPage tree.boxes k → IsInlineBoxSmall tree w height (2 ^ 42) k)
     (raises : AreRaisesSmall tree w (2 ^ 42)) where
-  root-room : room tree w height 0 ≡ pos (64 * w.w)
+  pub root-room : room tree w height 0 ≡ pos (64 * w.w)
   unfolding room_to
   root-room = ap (λ (o : Option ℕ). option_map_or (λ parent. room_inside tree w height parent (room_to 0 tree w height parent)) o (pos (64 * w.w))) (root-alone tree)
 
-  root-within : IsOnPage tree.boxes 0 → length tree.boxes ≤ 16384 → sum_by (λ (b : BoxNode). length (chars b.chars)) tree.boxes ≤ 262144
+  pub root-within : IsOnPage tree.boxes 0 → length tree.boxes ≤ 16384 → sum_by (λ (b : BoxNode). length (chars b.chars)) tree.boxes ≤ 262144
       → AllByRecursion (IsPlacedIn (all_around (2 ^ 70))) (whole_alone tree w height 0 (room tree w height 0)).boxes
   root-within p l m =
       let k = known-in tree w height (2 ^ 42) (omega arith) (λ k p q. box-small tree w height (2 ^ 42) k (boxes k p q))

@@ -1,19 +1,17 @@
 -- What is asked of boxes, that the flow stays within bounds.
-use Rattle.std.specs.Prelude.{◌≡◌, ℕ, ◌+◌, ◌*◌, ◌≤◌, ℤ, pos, ◌-ℤ◌, ◌≤ℤ◌, unsigned_abs, Bool, true, false, List, ◌++◌, Some, unwrap_or}
+use Rattle.std.specs.Prelude.{◌≡◌, ℕ, ◌+◌, ◌*◌, ◌≤◌, ℤ, pos, ◌-ℤ◌, ◌≤ℤ◌, unsigned_abs, true, false, List, ◌++◌, Some, unwrap_or}
 use Rattle.std.specs.Int.{int_max}
 use Rattle.std.specs.List.{AllByRecursion}
 use Rattle.std.specs.Option.{option_to_list}
 use Rattle.viz_base.specs.Numbers.{floor_of}
 use Rattle.viz_base.specs.Styles.{sides_of}
-use Rattle.viz_base.specs.Trees.{is_inline}
+use Rattle.viz_base.specs.Trees.{is_fragmented, is_inline}
 use Rattle.viz_base.specs.declared.layouts.Widths.{Widths}
 use Rattle.viz_base.specs.declared.lengths.Length.TheVariants as of_length
 use Rattle.viz_base.specs.declared.lengths.Valign.{Valign}
 use Rattle.viz_base.specs.declared.lengths.Valign.TheVariants as of_valign
 use Rattle.viz_base.specs.declared.styles.Style.{Style}
 use Rattle.viz_base.specs.declared.trees.BoxTree.{BoxTree}
-use Rattle.viz_base.specs.declared.trees.Kind.{Kind}
-use Rattle.viz_base.specs.declared.trees.Kind.TheVariants as of_kind
 use Rattle.viz_base.specs.declared.worlds.World.{World}
 use Rattle.layout_semantics.specs.Blocks.{kind_of, node_of}
 use Rattle.layout_semantics.specs.DefiniteHeights.{definite_height, given_height, height_around, least_height}
@@ -29,13 +27,6 @@ use Rattle.layout_semantics.specs.Verticals.{Verticals, verticals}
 use Rattle.layout_semantics.specs.Flow.{Alone, content_height}
 use Rattle.flow_limits.specs.Bounds.{Bounds, IsLevelIn, IsPlacedIn}
 use Rattle.flow_limits.specs.Inline.{IsSmall}
-
--- boxes that lines lay out in fragments: inline boxes, texts and forced breaks
-abbrev pub is_fragmented : Kind → Bool
-is_fragmented of_kind.Inline = true
-is_fragmented of_kind.Chars = true
-is_fragmented of_kind.Break = true
-is_fragmented _ = false
 
 -- a box that is laid out whole
 abbrev pub IsWhole : BoxTree → ℕ → Type 0

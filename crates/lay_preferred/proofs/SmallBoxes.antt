@@ -80,7 +80,7 @@ module _ (tree : BoxTree) where
       let size = length-append (order_to n tree.boxes k) (flat_map (order_to n tree.boxes) (j ∷ ks)) in
       omega (arith, own, rest, size)
 
-  span : (n at stop : ℕ) → at < stop → IsClosed tree.boxes at stop → length (order_to n tree.boxes at) + at ≤ stop
+  pub span : (n at stop : ℕ) → at < stop → IsClosed tree.boxes at stop → length (order_to n tree.boxes at) + at ≤ stop
   unfolding order_to
   span zero at stop l c = omega (arith, l)
   span (suc n) at stop l c = by (kids_of tree.boxes at) ((forest tree).rising at) ((forest tree).kids at) (λ j next m d. span n j next m d)
@@ -90,7 +90,7 @@ module _ (tree : BoxTree) where
       by [] r a again = omega (arith, l)
       by (k ∷ ks) r a again = let all = kids-span n at stop at k ks again c l r a in let kid = a.0 in let after = kid.after in omega (arith, all, after)
 
-  few-inside : (at : ℕ) → at < length tree.boxes → length (document_order tree.boxes at) ≤ length tree.boxes
+  pub few-inside : (at : ℕ) → at < length tree.boxes → length (document_order tree.boxes at) ≤ length tree.boxes
   few-inside at l = let s = span (length tree.boxes) at (length tree.boxes) l (λ x p e f m. within x p e) in omega (arith, s)
     where
       within : (x p : ℕ) → parent_of tree.boxes x ≡ Some p → x < length tree.boxes

@@ -41,10 +41,10 @@ use Rattle.lay_preferred.specs.steps.Parts.{width_of}
 
 -- ---- the ratio of a replaced box
 
-up-covers : (a d : ℕ) → 0 < d → a ≤ quotient_up a d * d
+pub up-covers : (a d : ℕ) → 0 < d → a ≤ quotient_up a d * d
 up-covers a d l = let q = lt-div-mul-add {a = a + (d - 1)} l in omega (arith, q, l)
 
-ratio-covers : (width height : ℕ) → 0 < height → width ≤ ratio (Some (width, height)) * height
+pub ratio-covers : (width height : ℕ) → 0 < height → width ≤ ratio (Some (width, height)) * height
 ratio-covers width height l = by (width == 0) refl (height == 0) refl
   where
     by : (a : Bool) → (width == 0) ≡ a → (b : Bool) → (height == 0) ≡ b → width ≤ (if a || b then 1 else quotient_up (max width height) (min width height)) * height
@@ -57,7 +57,7 @@ ratio-covers width height l = by (width == 0) refl (height == 0) refl
         omega (arith, up, more)
 
 -- a width that follows from a height is at most so many times as large
-by_ratio-size : (h : ℤ) (width height n : ℕ) → ratio (Some (width, height)) * (unsigned_abs h + (64 * width + 64 * height)) ≤ n → 1 ≤ ratio (Some (width, height)) → unsigned_abs (by_ratio h height width) ≤ n + 1
+pub by_ratio-size : (h : ℤ) (width height n : ℕ) → ratio (Some (width, height)) * (unsigned_abs h + (64 * width + 64 * height)) ≤ n → 1 ≤ ratio (Some (width, height)) → unsigned_abs (by_ratio h height width) ≤ n + 1
 by_ratio-size h width zero n l least =
     let once : (unsigned_abs h + (64 * width + 64 * 0)) * 1 ≤ (unsigned_abs h + (64 * width + 64 * 0)) * ratio (Some (width, 0)) = mul-le-mul_left (unsigned_abs h + (64 * width + 64 * 0)) least in
     omega (arith, l, once)
@@ -68,7 +68,7 @@ by_ratio-size h width (suc k) n l least =
     let all : suc k * (ratio (Some (width, suc k)) * (unsigned_abs h + (64 * width + 64 * suc k))) ≤ suc k * n = mul-le-mul_left (suc k) l in
     le_of_mul-le-mul_left {k = suc k} (omega (arith, size, wide, all)) (omega arith)
 
-height-size : (size : ℕ × ℕ) (v : Option ℤ) (n : ℕ) → 1 ≤ ratio (Some size) → ratio (Some size) * (unsigned_abs (unwrap_or v (pos 0)) + (64 * size.0 + 64 * size.1)) ≤ n
+pub height-size : (size : ℕ × ℕ) (v : Option ℤ) (n : ℕ) → 1 ≤ ratio (Some size) → ratio (Some size) * (unsigned_abs (unwrap_or v (pos 0)) + (64 * size.0 + 64 * size.1)) ≤ n
     → unsigned_abs (tentative size None v) ≤ n + 1
 height-size size None n least l =
     let once : (0 + (64 * size.0 + 64 * size.1)) * 1 ≤ (0 + (64 * size.0 + 64 * size.1)) * ratio (Some size) = mul-le-mul_left (0 + (64 * size.0 + 64 * size.1)) least in
@@ -76,22 +76,22 @@ height-size size None n least l =
 height-size size (Some h) n least l = by_ratio-size h size.0 size.1 n l least
 
 module _ (tree : BoxTree) (low : IsLowTree tree) (w : World) (small : w.s ≤ 256) where
-  abbrev IsLow : Length → Type 0
+  abbrev pub IsLow : Length → Type 0
   IsLow l = IsLowLength tree low w small l
 
-  abbrev HasLow : Style → Type 0
+  abbrev pub HasLow : Style → Type 0
   HasLow s = HasLowLengths tree low w small s
 
   -- ---- lengths
 
   -- by its extent
-  absolute-size : (l : Length) → unsigned_abs (unwrap_or (used_if_absolute tree w l) (pos 0)) ≤ ext tree low w small l
+  pub absolute-size : (l : Length) → unsigned_abs (unwrap_or (used_if_absolute tree w l) (pos 0)) ≤ ext tree low w small l
   absolute-size of_length.Auto = omega arith
   absolute-size (of_length.Px c) = omega arith
   absolute-size (of_length.Em k node) = em-up tree.styles tree.parents w.s 256 small k node
   absolute-size (of_length.Pct p) = omega arith
 
-  length-fits : (l : Length) → IsLow l → LengthFits tree w (2 ^ 41) l
+  pub length-fits : (l : Length) → IsLow l → LengthFits tree w (2 ^ 41) l
   unfolding edge
   length-fits l i =
       let most = i.extent in
@@ -99,21 +99,21 @@ module _ (tree : BoxTree) (low : IsLowTree tree) (w : World) (small : w.s ≤ 25
       let used = used-size tree low w small l (pos 0) in
       record { way = way-small tree low w small l (pos 0) i (omega (arith, used, most)); size = omega (arith, size, most) }
 
-  nothing-low : IsLow nothing
+  pub nothing-low : IsLow nothing
   nothing-low = record { extent = omega arith; names = refl; percentage = omega arith }
 
-  auto-low : IsLow of_length.Auto
+  pub auto-low : IsLow of_length.Auto
   auto-low = record { extent = omega arith; names = refl; percentage = omega arith }
 
-  sides-fit : (s : Sides Length) → AllByRecursion IsLow (sides_of s) → SidesFit tree w (2 ^ 41) s
+  pub sides-fit : (s : Sides Length) → AllByRecursion IsLow (sides_of s) → SidesFit tree w (2 ^ 41) s
   sides-fit s a = (length-fits s.left ((a.1).1).1.0, length-fits s.right (a.1).0)
 
-  maximum-fits : (o : Option Length) → ((l : Length) → o ≡ Some l → IsLow l) → MaximumFits tree w (2 ^ 41) o
+  pub maximum-fits : (o : Option Length) → ((l : Length) → o ≡ Some l → IsLow l) → MaximumFits tree w (2 ^ 41) o
   maximum-fits None f = tt
   maximum-fits (Some l) f = length-fits l (f l refl)
 
   -- a text has the lengths of the element that it is in
-  alike-low : (s t : Style) → AreAlikeButSize s t → HasLow t → HasLow s
+  pub alike-low : (s t : Style) → AreAlikeButSize s t → HasLow t → HasLow s
   alike-low s t a h = record {
     sizes = (
       subst IsLow (sym a.width) h.sizes.0,

@@ -22,7 +22,7 @@ pub record IsUpTo (z most : ℤ) : Type 0 where
 up_to : (n m : ℕ) → n ≤ m → IsUpTo (pos n) (pos m)
 up_to n m l = record { low = n; high = m; is = refl; most_is = refl; below = l }
 
-fraction-up : (num : ℤ) (den : ℕ) (a b : ℤ) → IsTrue (is_nonnegative num) → 0 < den → IsUpTo a b → IsUpTo (fraction num den a) (fraction num den b)
+pub fraction-up : (num : ℤ) (den : ℕ) (a b : ℤ) → IsTrue (is_nonnegative num) → 0 < den → IsUpTo a b → IsUpTo (fraction num den a) (fraction num den b)
 fraction-up (negsuc n) den a b t l u = absurd (cc)
 fraction-up (pos n) den a b t l u =
     let low = ap (λ (z : ℤ). pos n *ℤ z) u.is ∙ pos-*ℤ-pos n u.low in

@@ -4,7 +4,7 @@ use Rattle.std.specs.Prelude.{◌≤ℤ◌}
 use Rattle.std.specs.Int.{int_max, int_min, int_div_euclid}
 use Rattle.std.specs.Option.{option_map_or}
 use Rattle.std.proofs.lemmas.Int.{ints, clamps, unsigned_abs-mul}
-use Rattle.std.proofs.Math.Nat.{mul-le-mul_left, div-mul-le_self, le-div_iff_mul-le, le_of_mul-le-mul_left, div-le_of_le-mul}
+use Rattle.std.proofs.Math.Nat.{mul-le-mul_left, div-mul-le_self, le-div_iff_mul-le, div-le_of_le-mul}
 use lib.IntN.{pos-*ℤ-pos}
 
 pub size-+ : (a b : ℤ) → unsigned_abs (a +ℤ b) ≤ unsigned_abs a + unsigned_abs b
@@ -58,14 +58,3 @@ fraction-grows (negsuc n) (suc x) zero d l h = absurd (omega arith)
 fraction-grows (negsuc n) (suc x) (suc y) d l h =
     let more = mul-le-mul_left n h in
     rw (negative-product n x, negative-product n y) (let q = div-rises (n + x + n * x) (n + y + n * y) d l (omega (arith, more)) in omega (arith, q))
-
--- ---- one level of a page
-
--- what percentages and lengths make of a width or height `z`, against the reach of the box
-pub one-level : (around m growth own z c reach : ℕ) → z * 2097152 ≤ m * around → 2097152 ≤ m → 2097152 ≤ around → around ≤ reach
-    → around * growth + 100000000 * own ≤ 100000000 * reach → c * 100000000 ≤ growth * z + 100000000 * own + 800000000 → c * 2097152 ≤ (m + 16) * reach
-one-level around m growth own z c reach near most far up goes cost =
-    let a = mul-le-mul_left growth near in
-    let b = mul-le-mul_left m goes in
-    let d = mul-le-mul_left own most in
-    le_of_mul-le-mul_left {k = 100000000} (omega (arith, a, b, d, cost, up, far)) (omega arith)

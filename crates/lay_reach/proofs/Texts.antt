@@ -24,21 +24,21 @@ use lib.IntN.{pos-*ℤ-pos}
 
 -- ---- texts in one font
 
-div-both : (p q d : ℕ) → 0 < d → (p + q) / d ≤ p / d + q / d + 1
+pub div-both : (p q d : ℕ) → 0 < d → (p + q) / d ≤ p / d + q / d + 1
 div-both p q d l =
     let first = lt-div-mul-add {a = p} l in
     let other = lt-div-mul-add {a = q} l in
     let less : (p + q) / d < p / d + q / d + 2 = (div-lt_iff_lt-mul l).1 (omega (arith, first, other)) in
     omega (arith, less)
 
-measured-is : (font : Font) (a n : ℕ) → unsigned_abs (measured font (pos a) n) ≡ n * a / font.upem
+pub measured-is : (font : Font) (a n : ℕ) → unsigned_abs (measured font (pos a) n) ≡ n * a / font.upem
 measured-is font a n = ap (λ z. unsigned_abs (floor_of z font.upem)) (pos-*ℤ-pos n a)
 
 -- how wide a text is in a font, if there is one
-abbrev wide : Option Font → ℤ → List ℕ → ℕ
+abbrev pub wide : Option Font → ℤ → List ℕ → ℕ
 wide o size text = unsigned_abs (option_map_or (λ (font : Font). measured font size (sum_by (advance font) text)) o (pos 0))
 
-wide-more : (o : Option Font) (a c : ℕ) (cs : List ℕ) → wide o (pos a) (c ∷ cs) ≤ wide o (pos a) (c ∷ []) + wide o (pos a) cs + 1
+pub wide-more : (o : Option Font) (a c : ℕ) (cs : List ℕ) → wide o (pos a) (c ∷ cs) ≤ wide o (pos a) (c ∷ []) + wide o (pos a) cs + 1
 wide-more None a c cs = omega arith
 wide-more (Some font) a c cs =
     let own = advance font c in
@@ -51,7 +51,7 @@ wide-more (Some font) a c cs =
     let both = div-both (own * a) (others * a) font.upem font.ok.has_em in
     omega (arith, whole, first, rest, both)
 
-wide-up : (o : Option Font) (a b : ℕ) (text : List ℕ) → a ≤ b → wide o (pos a) text ≤ wide o (pos b) text
+pub wide-up : (o : Option Font) (a b : ℕ) (text : List ℕ) → a ≤ b → wide o (pos a) text ≤ wide o (pos b) text
 wide-up None a b text l = omega arith
 wide-up (Some font) a b text l =
     let n = sum_by (advance font) text in
@@ -126,16 +126,16 @@ module _ (at : ℕ) (room : Item → ℕ) (width : List ℕ → ℕ) (word-is : 
 -- ---- the texts of a page
 
 module _ (tree : BoxTree) (low : IsLowTree tree) (w : World) (small : w.s ≤ 256) where
-  abbrev font_of : ℕ → Option Font
+  abbrev pub font_of : ℕ → Option Font
   font_of node = option_and_then (λ (style : Style). slice_get tree.fonts style.font) (slice_get tree.styles node)
 
-  text-more : (node c : ℕ) (cs : List ℕ) → unsigned_abs (text_width tree w node (c ∷ cs)) ≤ unsigned_abs (text_width tree w node (c ∷ [])) + unsigned_abs (text_width tree w node cs) + 1
+  pub text-more : (node c : ℕ) (cs : List ℕ) → unsigned_abs (text_width tree w node (c ∷ cs)) ≤ unsigned_abs (text_width tree w node (c ∷ [])) + unsigned_abs (text_width tree w node cs) + 1
   text-more node c cs =
       let u = size-up tree.styles tree.parents w.s 256 small (suc node) node in
       let is = u.is in
       rw is (wide-more (font_of node) u.low c cs)
 
-  text-up : (node : ℕ) (text : List ℕ) → unsigned_abs (text_width tree w node text) ≤ unsigned_abs (text_width_in tree.styles tree.parents tree.fonts 256 node text)
+  pub text-up : (node : ℕ) (text : List ℕ) → unsigned_abs (text_width tree w node text) ≤ unsigned_abs (text_width_in tree.styles tree.parents tree.fonts 256 node text)
   text-up node text =
       let u = size-up tree.styles tree.parents w.s 256 small (suc node) node in
       let is = u.is in

@@ -16,8 +16,9 @@ use Rattle.layout_semantics.specs.Replaced.{intrinsic, by_ratio, replaced_size, 
 use Rattle.layout_laws.specs.Terms.{own_width, own_maximum, own_minimum}
 use Rattle.layout_laws.proofs.Reaching.{ratio_least}
 use Rattle.layout_laws.proofs.TreeFacts.{slice_in}
+use Rattle.lay_preferred.proofs.SmallPages.{up-covers, by_ratio-size}
 use Rattle.lay_reach.proofs.Extents.{IsElementOf, own-is, own_low, by-groups, style-of}
-use Rattle.page_limits.proofs.WidthsCosts.{up-covers, by_ratio-size, held-size, own-style-at, replaced-kind, lengths-far}
+use Rattle.page_limits.proofs.WidthsCosts.{held-size, own-style-at, replaced-kind, lengths-far}
 use Rattle.page_limits.proofs.WidthsTerms.{IsTerm, HasTerms, far, term-cost, width_in, min_width_in, height_in, used-of, style-terms}
 use Rattle.page_limits.proofs.WidthsLevels.{IsFarPage, HasLevel, near-times, height-near, least_height-near}
 use Rattle.page_limits.proofs.WidthsPage.{IsBoxOn, bounded}
@@ -37,7 +38,7 @@ ratio-swap a b = by (a == 0) (b == 0)
     by false false = same
 
 -- a height that follows from a width is at most so many times as large, and the intrinsic one
-by_width-size : (v : ℤ) (size : ℕ × ℕ) → unsigned_abs (by_ratio v size.0 size.1) ≤ ratio (Some size) * (unsigned_abs v + (64 * size.0 + 64 * size.1)) + 1
+pub by_width-size : (v : ℤ) (size : ℕ × ℕ) → unsigned_abs (by_ratio v size.0 size.1) ≤ ratio (Some size) * (unsigned_abs v + (64 * size.0 + 64 * size.1)) + 1
 by_width-size v size =
     let swap = ratio-swap size.0 size.1 in
     let least = ratio_least (Some (size.1, size.0)) in

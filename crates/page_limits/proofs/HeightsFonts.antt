@@ -1,5 +1,5 @@
 -- What the fonts and the raise of a box cost, at most.
-use Rattle.std.proofs.Common.{◌≡◌, ℕ, suc, ◌+◌, ◌*◌, ◌^◌, ◌<◌, ◌≤◌, nat_le, true, ℤ, pos, ◌*ℤ◌, unsigned_abs, map, sum, List, Option, Some, None, IsTrue, slice_get, refl, sym, ap, ◌∙◌, subst, arith, mul-le-mul_left}
+use Rattle.std.proofs.Common.{◌≡◌, ℕ, suc, ◌+◌, ◌*◌, ◌^◌, ◌≤◌, nat_le, true, ℤ, pos, unsigned_abs, map, sum, List, Option, Some, None, IsTrue, slice_get, refl, sym, ap, ◌∙◌, subst, arith, mul-le-mul_left}
 use Rattle.std.specs.Option.{option_map_or, option_and_then}
 use Rattle.std.proofs.lemmas.Bool.Decides.{nat_tests}
 use Rattle.viz_base.specs.FontSizes.{fraction, measured, default_size, computed_size, computed_line, font_size_in, line_height_in, ascent_in, descent_in, node_measure_in}
@@ -27,18 +27,9 @@ use Rattle.layout_laws.proofs.FontSizes.{font-of-style}
 use Rattle.layout_laws.proofs.Reaching.{ratio_least}
 use Rattle.layout_laws.proofs.TreeFacts.{slice_in}
 use Rattle.lay_reach.proofs.Extents.{IsLowTree, IsElementOf, element-around, own-is, own_low, style-of, element-box}
-use Rattle.lay_reach.proofs.Fonts.{IsUpTo, size-up}
-use Rattle.lay_reach.proofs.Numbers.{div-rises}
-use lib.IntN.{pos-*ℤ-pos}
+use Rattle.lay_reach.proofs.Fonts.{IsUpTo, fraction-up, size-up}
 
 -- ---- the measures of a font grow with the default size
-
-fraction-up : (num : ℤ) (den : ℕ) (a b : ℤ) → IsTrue (is_nonnegative num) → 0 < den → IsUpTo a b → IsUpTo (fraction num den a) (fraction num den b)
-fraction-up (pos n) den a b t l u =
-    let low = ap (λ (z : ℤ). pos n *ℤ z) u.is ∙ pos-*ℤ-pos n u.low in
-    let high = ap (λ (z : ℤ). pos n *ℤ z) u.most_is ∙ pos-*ℤ-pos n u.high in
-    rw (low, high) (record { low = _; high = _; is = refl; most_is = refl; below = div-rises (n * u.low) (n * u.high) den l (mul-le-mul_left n u.below) })
-fraction-up _ den a b t l u = absurd (cc)
 
 same-up : (n : ℕ) → IsUpTo (pos n) (pos n)
 same-up n = record { low = n; high = n; is = refl; most_is = refl; below = omega arith }

@@ -9,6 +9,7 @@ use Rattle.viz_base.specs.declared.worlds.World.{World}
 use Rattle.layout_semantics.specs.Blocks.{parent_of}
 use Rattle.layout_semantics.specs.LineHeights.{InlineContext, LineExtent}
 use Rattle.layout_semantics.specs.Order.{IsOnPage}
+use Rattle.layout_semantics.proofs.Pages.{within-page}
 use Rattle.layout_laws.proofs.PageParts.{slice_some}
 use Rattle.lay_reach.proofs.Extents.{IsLowTree}
 use Rattle.flow_limits.specs.Boxes.{IsWhole, middle_of}
@@ -20,7 +21,7 @@ use Rattle.page_limits.proofs.HeightsFonts.{valign_of}
 use Rattle.page_limits.proofs.HeightsBoxes.{given-bounded, least-bounded, tall-bounded}
 use Rattle.page_limits.proofs.InlinesFonts.{box-font-small, part-small}
 use Rattle.page_limits.proofs.RaisesBoxes.{middle_by}
-use Rattle.page_limits.proofs.RaisesAround.{within-page, raises, inline-raised, other-raised, raises-low}
+use Rattle.page_limits.proofs.RaisesAround.{raises, inline-raised, other-raised, raises-low}
 
 -- ---- heights
 

@@ -1,11 +1,11 @@
 -- The fonts of a small page and the widths of its texts are small.
-use Rattle.std.proofs.Common.{◌≡◌, ℕ, suc, ◌+◌, ◌*◌, ◌/◌, ◌^◌, ◌<◌, ◌≤◌, ℤ, pos, ◌+ℤ◌, ◌-ℤ◌, unsigned_abs, List, [], ◌∷◌, ◌++◌, map, sum, sum_by, length, Option, Some, None, slice_get, refl, sym, ap, ◌∙◌, subst, arith, mul-le-mul_left}
+use Rattle.std.proofs.Common.{◌≡◌, ℕ, suc, ◌+◌, ◌*◌, ◌/◌, ◌^◌, ◌≤◌, ℤ, pos, ◌+ℤ◌, ◌-ℤ◌, unsigned_abs, List, [], ◌∷◌, ◌++◌, map, sum, length, Option, Some, None, slice_get, refl, sym, ap, ◌∙◌, subst, arith}
 use Rattle.std.specs.Option.{option_map_or, option_and_then}
 use Rattle.std.specs.Str.{chars}
-use Rattle.std.proofs.Math.Nat.{lt-div-mul-add, div-lt_iff_lt-mul, div-le_of_le-mul}
+use Rattle.std.proofs.Math.Nat.{div-le_of_le-mul}
 use Rattle.std.proofs.lemmas.List.Sums.{sum_by-cons}
 use Rattle.viz_base.specs.Numbers.{floor_of}
-use Rattle.viz_base.specs.FontSizes.{measured, advance, text_width_in}
+use Rattle.viz_base.specs.FontSizes.{text_width_in}
 use Rattle.viz_base.specs.declared.fonts.Font.{Font}
 use Rattle.viz_base.specs.declared.styles.Style.{Style}
 use Rattle.viz_base.specs.declared.trees.BoxNode.{BoxNode}
@@ -18,10 +18,9 @@ use Rattle.layout_semantics.specs.LineHeights.{inline_extent}
 use Rattle.layout_laws.proofs.TreeFacts.{slice_in}
 use Rattle.lay_reach.proofs.Extents.{IsLowTree, text_low}
 use Rattle.lay_reach.proofs.Fonts.{IsUpTo, size-up, font-up}
-use Rattle.lay_reach.proofs.Numbers.{div-rises, size-+, size--, size-floor}
-use Rattle.page_limits.proofs.WidthsTexts.{measured-is, wide, wide-more}
+use Rattle.lay_reach.proofs.Numbers.{size-+, size--, size-floor}
+use Rattle.lay_reach.proofs.Texts.{wide-up, measured-is, wide, wide-more}
 use Rattle.page_limits.proofs.HeightsFonts.{line-up, measure-up, font_cost, box-cost}
-use lib.IntN.{pos-*ℤ-pos}
 
 -- a measure that grows is at most that at the greatest size
 pub size-to : (z most : ℤ) → IsUpTo z most → unsigned_abs z ≤ unsigned_abs most
@@ -103,15 +102,6 @@ apart-last width (x ∷ xs) ys =
     let rest = apart-last width xs ys in
     let all = sum_by-cons (λ (n : ℕ). n) (width (x ∷ [])) (map (λ d. width (d ∷ [])) (xs ++ ys)) in
     omega (arith, rest, all)
-
-wide-up : (o : Option Font) (a b : ℕ) (text : List ℕ) → a ≤ b → wide o (pos a) text ≤ wide o (pos b) text
-wide-up None a b text l = omega arith
-wide-up (Some font) a b text l =
-    let n = sum_by (advance font) text in
-    let low = measured-is font a n in
-    let high = measured-is font b n in
-    let up = div-rises (n * a) (n * b) font.upem font.ok.has_em (mul-le-mul_left n l) in
-    omega (arith, low, high, up)
 
 -- ---- the texts of a page
 

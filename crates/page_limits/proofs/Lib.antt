@@ -15,3 +15,13 @@ pub mod RaisesAround
 pub mod HeightsBoxes
 pub mod HeightsSmall
 pub mod PageSmall
+pub mod FitsLengths
+pub mod FitsAcross
+pub mod FitsHeights
+pub mod FitsBoxes
+pub mod FitsItems
+pub mod FitsFonts
+pub mod FitsEdges
+pub mod FitsRaises
+pub mod FitsLines
+pub mod FitsWidths

@@ -1,12 +1,20 @@
--- What the properties of a box of a page within its limits give is small, all together.
-use Rattle.std.proofs.Common.{ℕ, ◌^◌, ◌≤◌}
+-- What the properties of a box of a page within its limits give is small, all together, and so are the page's coordinates.
+use Rattle.std.proofs.Common.{ℕ, ◌^◌, ◌≤◌, length}
+use Rattle.std.specs.Prelude.{chars, sum_by}
+use Rattle.std.specs.List.{AllByRecursion}
+use Rattle.viz_base.specs.declared.trees.BoxNode.{BoxNode}
 use Rattle.viz_base.specs.declared.trees.BoxTree.{BoxTree}
 use Rattle.viz_base.specs.declared.worlds.World.{World}
 use Rattle.layout_semantics.specs.Order.{IsOnPage}
+use Rattle.layout_semantics.specs.Page.{page_rendering}
+use Rattle.lay_reach.specs.Limits.{IsSmallPage}
+use Rattle.flow_steps.proofs.InOrder.{root-whole}
+use Rattle.flow_limits.specs.Bounds.{IsPlacedIn, all_around}
 use Rattle.flow_limits.specs.Boxes.{ArePropertiesSmall, IsInlineBoxSmall, IsWhole}
+use Rattle.flow_limits.proofs.WholePage.{page-within}
 use Rattle.page_limits.proofs.WidthsLevels.{IsFarPage}
-use Rattle.page_limits.proofs.WidthsSmall.{whole-bounded, inline-bounded}
-use Rattle.page_limits.proofs.HeightsSmall.{heights-bounded, fonts-bounded}
+use Rattle.page_limits.proofs.WidthsSmall.{far-page, whole-bounded, inline-bounded}
+use Rattle.page_limits.proofs.HeightsSmall.{heights-bounded, fonts-bounded, raises-small}
 
 module _ (tree : BoxTree) (page : IsFarPage tree) (w : World) (small : w.s ≤ 256) (narrow : w.w ≤ 16384) (height : ℕ) (flat : height ≤ 16384) where
   pub properties-small : (k : ℕ) → IsOnPage tree.boxes k → IsWhole tree k → ArePropertiesSmall tree w height (2 ^ 42) k
@@ -37,3 +45,9 @@ module _ (tree : BoxTree) (page : IsFarPage tree) (w : World) (small : w.s ≤ 2
         edges = λ is. inline-bounded tree page w small narrow height flat k on is;
         text = font.text;
       }
+
+pub coordinates-small : (tree : BoxTree) (w : World) (height : ℕ) → IsSmallPage tree → sum_by (λ (b : BoxNode). length (chars b.chars)) tree.boxes ≤ 262144
+    → w.w ≤ 16384 → w.s ≤ 256 → height ≤ 16384 → AllByRecursion (IsPlacedIn (all_around (2 ^ 70))) (page_rendering tree w height).boxes
+coordinates-small tree w height small short narrow sized flat =
+    let page = far-page tree small short in
+    page-within tree w height (root-whole tree) (properties-small tree page w sized narrow height flat) (inline-small tree page w sized narrow height flat) (raises-small tree page.low w sized) page.few_boxes page.few_characters

@@ -12,19 +12,14 @@ use Rattle.viz_base.specs.declared.trees.Kind.TheVariants as of_kind
 use Rattle.viz_base.specs.declared.worlds.World.{World}
 use Rattle.layout_semantics.specs.Blocks.{kind_of, node_of, parent_of}
 use Rattle.layout_semantics.specs.LineHeights.{InlineContext, LineExtent, inline_extent, raise}
-use Rattle.layout_semantics.specs.Order.{kids_of, IsOnPage}
-use Rattle.layout_semantics.proofs.Forest.{IsKid}
-use Rattle.layout_semantics.proofs.Pages.{forest, root_place, Each-contains}
+use Rattle.layout_semantics.specs.Order.{IsOnPage}
+use Rattle.layout_semantics.proofs.Pages.{within-page}
 use Rattle.layout_laws.proofs.PageParts.{slice_some}
 use Rattle.layout_laws.proofs.Upward.{HasParent, parent-of}
 use Rattle.lay_reach.proofs.Extents.{IsLowTree}
 use Rattle.page_limits.proofs.HeightsFonts.{valign_of, own-cost, box-cost}
 use Rattle.page_limits.proofs.RaisesBoxes.{size_cost, own_cost, middle_by, inline-raise, other-raise}
 use Rattle.page_limits.proofs.RaisesSums.{first_sum, first_sum-next, first_sum-rises, first_sum-all}
-
-pub within-page : (tree : BoxTree) (k : ℕ) → IsOnPage tree.boxes k → k < length tree.boxes
-within-page tree k (IsOnPage.root at c) = let place = root_place tree.boxes at c in let same = place.0 in let some = place.1 in omega (arith, same, some)
-within-page tree k (IsOnPage.inside at kid p c) = (Each-contains (IsKid tree.boxes at) (kids_of tree.boxes at) kid ((forest tree).kids at) c).within
 
 -- a box of the page is in another
 pub parent-at : (tree : BoxTree) (k q : ℕ) → IsOnPage tree.boxes k → parent_of tree.boxes k ≡ Some q → (q < k) × IsOnPage tree.boxes q

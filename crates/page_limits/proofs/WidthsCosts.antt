@@ -1,15 +1,13 @@
 -- What each box costs by itself: what it has by itself and its text, as they reach, and one unit more for it and each of its characters.
-use Rattle.std.proofs.Common.{◌≡◌, ℕ, zero, suc, ◌+◌, ◌-◌, ◌*◌, ◌<◌, ◌≤◌, min, max, ◌==◌, ◌||◌, Bool, true, false, ℤ, pos, ◌+ℤ◌, unsigned_abs, List, [], ◌∷◌, map, length, Option, Some, None, slice_get, refl, sym, subst, ap, ◌∙◌, arith, if◌then◌else◌}
+use Rattle.std.proofs.Common.{◌≡◌, ℕ, ◌+◌, ◌-◌, ◌*◌, ◌≤◌, true, false, ℤ, pos, ◌+ℤ◌, unsigned_abs, List, [], ◌∷◌, map, length, Option, Some, None, slice_get, refl, sym, subst, ap, ◌∙◌, arith, if◌then◌else◌}
 use Rattle.std.specs.Prelude.{sum, sum_by, is_some, unwrap_or, chars}
 use Rattle.std.specs.Int.{int_max}
 use Rattle.std.specs.Option.{option_map_or, option_and_then}
-use Rattle.std.proofs.Math.Nat.{lt-div-mul-add, le_of_mul-le-mul_left, mul-le-mul_left}
-use Rattle.std.proofs.lemmas.Bool.{eqb-false}
-use Rattle.std.proofs.lemmas.Bool.Decides.{nat_tests}
+use Rattle.std.proofs.Math.Nat.{mul-le-mul_left}
 use Rattle.std.proofs.lemmas.Int.{ints}
 use Rattle.std.proofs.lemmas.List.Sums.{sum_by-cons}
-use Rattle.viz_base.specs.Reaches.{is_of_element, ratio, quotient_up, lengths_of, raise_extent, font_extent, intrinsic_extent, own_extent, text_extent, total_extent}
-use Rattle.viz_base.specs.Trees.{is_line, is_replaced}
+use Rattle.viz_base.specs.Reaches.{is_of_element, ratio, lengths_of, raise_extent, font_extent, intrinsic_extent, own_extent, text_extent, total_extent}
+use Rattle.viz_base.specs.Trees.{is_fragmented, is_line, is_replaced}
 use Rattle.viz_base.specs.declared.lengths.Length.{Length}
 use Rattle.viz_base.specs.declared.lengths.Length.TheVariants as of_length
 use Rattle.viz_base.specs.declared.styles.Style.{Style}
@@ -25,43 +23,16 @@ use Rattle.layout_semantics.specs.Preferred.{absolute_part, outer_width}
 use Rattle.layout_semantics.specs.Replaced.{intrinsic, by_ratio, preferred_replaced}
 use Rattle.layout_laws.proofs.PageParts.{slice_some}
 use Rattle.layout_laws.proofs.Reaching.{ratio_least}
+use Rattle.lay_preferred.proofs.SmallPages.{by_ratio-size}
 use Rattle.lay_reach.proofs.Extents.{IsLowTree, IsElementOf, ext, own-is, style-of, by-groups}
 use Rattle.lay_reach.proofs.Fonts.{em-up}
-use Rattle.lay_reach.proofs.Numbers.{size-fraction, size-max, size-between, held-from, held-to}
+use Rattle.lay_reach.proofs.Numbers.{size-max, size-between, held-from, held-to}
 use Rattle.page_limits.proofs.WidthsLists.{costs, costs-both}
 use Rattle.page_limits.proofs.WidthsTexts.{costs-sum, text-cost}
 use Rattle.page_limits.proofs.WidthsOrder.{rank, rank-of-list}
-use Rattle.flow_limits.specs.Boxes.{is_fragmented}
 use Rattle.page_limits.proofs.WidthsInside.{AreCosted}
 
 -- ---- the ratio of a replaced box
-
-pub up-covers : (a d : ℕ) → 0 < d → a ≤ quotient_up a d * d
-up-covers a d l = let q = lt-div-mul-add {a = a + (d - 1)} l in omega (arith, q, l)
-
-ratio-covers : (width height : ℕ) → 0 < height → width ≤ ratio (Some (width, height)) * height
-ratio-covers width height l = by (width == 0) refl (height == 0) refl
-  where
-    by : (a : Bool) → (width == 0) ≡ a → (b : Bool) → (height == 0) ≡ b → width ≤ (if a || b then 1 else quotient_up (max width height) (min width height)) * height
-    by true e b f = let none : width ≡ 0 = grind (arith, nat_tests) in omega (arith, none)
-    by false e true f = let none : height ≡ 0 = grind (arith, nat_tests) in absurd (omega (arith, l, none))
-    by false e false f =
-        let some : 0 < min width height = grind (arith, eqb-false width 0 e, l) in
-        let up = up-covers (max width height) (min width height) some in
-        let more : quotient_up (max width height) (min width height) * min width height ≤ quotient_up (max width height) (min width height) * height = mul-le-mul_left (quotient_up (max width height) (min width height)) (omega arith) in
-        omega (arith, up, more)
-
--- a width that follows from a height is at most so many times as large
-pub by_ratio-size : (h : ℤ) (width height n : ℕ) → ratio (Some (width, height)) * (unsigned_abs h + (64 * width + 64 * height)) ≤ n → 1 ≤ ratio (Some (width, height)) → unsigned_abs (by_ratio h height width) ≤ n + 1
-by_ratio-size h width zero n l least =
-    let once : (unsigned_abs h + (64 * width + 64 * 0)) * 1 ≤ (unsigned_abs h + (64 * width + 64 * 0)) * ratio (Some (width, 0)) = mul-le-mul_left (unsigned_abs h + (64 * width + 64 * 0)) least in
-    omega (arith, l, once)
-by_ratio-size h width (suc k) n l least =
-    let size = size-fraction (pos width) h (suc k) (omega arith) in
-    let covers = ratio-covers width (suc k) (omega arith) in
-    let wide : unsigned_abs h * width ≤ unsigned_abs h * (ratio (Some (width, suc k)) * suc k) = mul-le-mul_left (unsigned_abs h) covers in
-    let all : suc k * (ratio (Some (width, suc k)) * (unsigned_abs h + (64 * width + 64 * suc k))) ≤ suc k * n = mul-le-mul_left (suc k) l in
-    le_of_mul-le-mul_left {k = suc k} (omega (arith, size, wide, all)) (omega arith)
 
 -- the width that a replaced box has by its height, or else by itself
 abbrev pub by_height : ℕ × ℕ → Option ℤ → ℤ

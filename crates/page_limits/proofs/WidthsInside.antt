@@ -4,7 +4,7 @@ use Rattle.std.specs.Prelude.{not, ◌&&◌, ◌||◌}
 use Rattle.std.specs.List.{AllByRecursion, flat_map, list_any}
 use Rattle.std.specs.Option.{option_map_or}
 use Rattle.std.proofs.lemmas.Int.{ints}
-use Rattle.viz_base.specs.Trees.{is_floated, is_inline_level}
+use Rattle.viz_base.specs.Trees.{is_floated, is_fragmented, is_inline_level}
 use Rattle.viz_base.specs.declared.layouts.Preferred.{Preferred}
 use Rattle.viz_base.specs.declared.trees.BoxNode.{BoxNode}
 use Rattle.viz_base.specs.declared.trees.BoxTree.{BoxTree}
@@ -23,8 +23,9 @@ use Rattle.layout_semantics.specs.Stretches.{is_break, may_part, never, what_sta
 use Rattle.layout_semantics.proofs.Forest.{IsKid}
 use Rattle.layout_semantics.proofs.Orders.{document_order-is}
 use Rattle.layout_semantics.proofs.Pages.{forest}
-use Rattle.flow_limits.specs.Boxes.{is_fragmented}
-use Rattle.page_limits.proofs.WidthsLists.{costs, costs-append, costs-both, each-within, mapped, each-implied, each-append, IsSized, greatest-size, total-size, child_size, block-sizes, stays-cost, parts-cost, entries, measured-size}
+use Rattle.layout_laws.proofs.Levels.{All-append, All-implied}
+use Rattle.flow_limits.proofs.Levels.{All-map}
+use Rattle.page_limits.proofs.WidthsLists.{costs, costs-append, costs-both, each-within, IsSized, greatest-size, total-size, child_size, block-sizes, stays-cost, parts-cost, entries, measured-size}
 
 module _ (tree : BoxTree) (w : World) where
   -- ---- inline content, by a table of the boxes in it
@@ -74,9 +75,9 @@ module _ (tree : BoxTree) (w : World) where
         let both = costs-both plain_cost float_cost items in
         let parts = parts-cost item_cost (is_break (may_part tree)) [] items in
         greatest-size n (map (preferred_stretch tree w inner) (stretches tree items) ++ preferred_floats inner items)
-        (each-append (IsSized n) (map (preferred_stretch tree w inner) (stretches tree items)) (preferred_floats inner items)
-        (mapped (IsSized n) (preferred_stretch tree w inner) (stretches tree items)
-        (each-implied (λ part. costs item_cost part ≤ n) (λ part. IsSized n (preferred_stretch tree w inner part)) (stretches tree items)
+        (All-append (IsSized n) (map (preferred_stretch tree w inner) (stretches tree items)) (preferred_floats inner items)
+        (All-map (IsSized n) (preferred_stretch tree w inner) (stretches tree items)
+        (All-implied (λ part. costs item_cost part ≤ n) (λ part. IsSized n (preferred_stretch tree w inner part)) (stretches tree items)
         (λ part m. (let size = stretch-size part in let split = costs-both plain_cost float_cost part in omega (arith, size, split, m)))
         (each-within (costs item_cost) (stretches tree items) n (omega (arith, parts, l)))))
         (each-float n items (omega (arith, both, l))))
@@ -85,8 +86,8 @@ module _ (tree : BoxTree) (w : World) where
     most-size n items l =
         let parts = parts-cost item_cost (is_break never) [] items in
         greatest-size n (map (λ piece. preferred_stretch tree w inner piece +ℤ total (preferred_floats inner piece)) (pieces items))
-        (mapped (IsSized n) (λ piece. preferred_stretch tree w inner piece +ℤ total (preferred_floats inner piece)) (pieces items)
-        (each-implied (λ part. costs item_cost part ≤ n) (λ part. IsSized n (preferred_stretch tree w inner part +ℤ total (preferred_floats inner part))) (pieces items)
+        (All-map (IsSized n) (λ piece. preferred_stretch tree w inner piece +ℤ total (preferred_floats inner piece)) (pieces items)
+        (All-implied (λ part. costs item_cost part ≤ n) (λ part. IsSized n (preferred_stretch tree w inner part +ℤ total (preferred_floats inner part))) (pieces items)
         (λ part m. (let size = stretch-size part in let beside = floats-size part in let split = costs-both plain_cost float_cost part in omega (arith, ints, size, beside, split, m)))
         (each-within (costs item_cost) (pieces items) n (omega (arith, parts, l)))))
 
@@ -238,11 +239,11 @@ module _ (tree : BoxTree) (w : World) where
         unfolding items_to
         items-cost zero k l = omega arith
         items-cost (suc n) k l = sort-cost k (flat_map (items_to n tree) (kids_of tree.boxes k)) (sort_of tree k) (sort-kind k) l
-            (each-cost (items_to n tree) (kids_of tree.boxes k) (each-implied (IsKid tree.boxes k) (λ j. costs room (items_to n tree j) ≤ cap j) (kids_of tree.boxes k) (λ j i. items-cost n j i.within) ((forest tree).kids k)))
+            (each-cost (items_to n tree) (kids_of tree.boxes k) (All-implied (IsKid tree.boxes k) (λ j. costs room (items_to n tree j) ≤ cap j) (kids_of tree.boxes k) (λ j i. items-cost n j i.within) ((forest tree).kids k)))
 
         content-cost : (k : ℕ) → costs room (content tree k) ≤ costs cap (kids_of tree.boxes k)
         content-cost k = each-cost (items_to (length tree.boxes) tree) (kids_of tree.boxes k)
-            (each-implied (IsKid tree.boxes k) (λ j. costs room (items_to (length tree.boxes) tree j) ≤ cap j) (kids_of tree.boxes k) (λ j i. items-cost (length tree.boxes) j i.within) ((forest tree).kids k))
+            (All-implied (IsKid tree.boxes k) (λ j. costs room (items_to (length tree.boxes) tree j) ≤ cap j) (kids_of tree.boxes k) (λ j i. items-cost (length tree.boxes) j i.within) ((forest tree).kids k))
 
       -- ---- all boxes
 
@@ -312,7 +313,7 @@ module _ (tree : BoxTree) (w : World) where
       kids-fine : (n k : ℕ) → IsFine n → holds_inline tree k ≡ false → AllByRecursion (λ j. exact n j ≤ cap j) (kids_of tree.boxes k)
       unfolding IsFine
       kids-fine n k f e =
-          each-implied (λ j. IsKid tree.boxes k j × (is_inline_level_at tree j ≡ false)) (λ j. exact n j ≤ cap j) (kids_of tree.boxes k)
+          All-implied (λ j. IsKid tree.boxes k j × (is_inline_level_at tree j ≡ false)) (λ j. exact n j ≤ cap j) (kids_of tree.boxes k)
           (λ j i. f j (i.0).within (apart-whole j i.1))
           (both-hold (IsKid tree.boxes k) (λ j. is_inline_level_at tree j ≡ false) (kids_of tree.boxes k) ((forest tree).kids k) (none-inline (kids_of tree.boxes k) e))
 

@@ -8,7 +8,7 @@ use Rattle.std.proofs.lemmas.Bool.Decides.{nat_tests}
 use Rattle.std.proofs.lemmas.Option.{slice_get_within}
 use Rattle.viz_base.specs.Reaches.{whole, is_of_element, ratio, growth, box_growth, own_extent, total_extent, intrinsic_extent, reach_in, reach_to, percentage}
 use Rattle.viz_base.specs.Styles.{sides_of}
-use Rattle.viz_base.specs.Trees.{is_inline, is_leaf, is_line, is_replaced}
+use Rattle.viz_base.specs.Trees.{is_fragmented, is_inline, is_leaf, is_line, is_replaced}
 use Rattle.viz_base.specs.declared.styles.Style.{Style}
 use Rattle.viz_base.specs.declared.trees.BoxNode.{BoxNode}
 use Rattle.viz_base.specs.declared.trees.BoxTree.{BoxTree}
@@ -29,11 +29,11 @@ use Rattle.layout_laws.proofs.PageParts.{slice_some}
 use Rattle.layout_laws.proofs.Reaching.{ratio_least, reach_around}
 use Rattle.layout_laws.proofs.Rooms.{room-by-parent}
 use Rattle.layout_laws.proofs.Upward.{container-by-parent, definite-by-container}
+use Rattle.lay_preferred.proofs.SmallPages.{up-covers}
 use Rattle.lay_reach.proofs.Extents.{IsLowTree, IsElementOf, style-of}
 use Rattle.page_limits.proofs.WidthsOrder.{order-cost}
-use Rattle.flow_limits.specs.Boxes.{is_fragmented}
 use Rattle.page_limits.proofs.WidthsInside.{preferred-within}
-use Rattle.page_limits.proofs.WidthsCosts.{up-covers, own-style-at, no-style-at, kind-at, lengths-far, cost_at, are-costed, all-cost}
+use Rattle.page_limits.proofs.WidthsCosts.{own-style-at, no-style-at, kind-at, lengths-far, cost_at, are-costed, all-cost}
 use Rattle.page_limits.proofs.WidthsTerms.{level-up, level-once, height_in, width_in, min_width_in, HasTerms, far, style-terms, no-terms, term-cost, sides_at, edges-cost, block-size, shrunk-size, height-cost, known-size}
 
 module _ (tree : BoxTree) where
@@ -271,7 +271,7 @@ module _ (tree : BoxTree) (page : IsFarPage tree) (w : World) (small : w.s ≤ 2
   -- ---- from a box to those in it
 
   -- the kinds of boxes that hold others
-  holds : (b kid : ℕ) (x : BoxNode) → slice_get tree.boxes b ≡ Some x → Contains (kids_of tree.boxes b) kid → (is_leaf x.kind ≡ false) × (is_line x.kind ≡ false)
+  pub holds : (b kid : ℕ) (x : BoxNode) → slice_get tree.boxes b ≡ Some x → Contains (kids_of tree.boxes b) kid → (is_leaf x.kind ≡ false) × (is_line x.kind ≡ false)
   holds b kid x place c = (by (is_leaf x.kind) refl (tree.ok.each b x place).leaf, (tree.ok.each b x place).no_line)
     where
       some : 0 < length x.kids

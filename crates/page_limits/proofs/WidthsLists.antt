@@ -10,6 +10,7 @@ use Rattle.layout_semantics.specs.Lengths.{total}
 use Rattle.layout_semantics.specs.Lists.{table_of}
 use Rattle.layout_semantics.specs.Preferred.{Child, in_flow, floated, greatest, sums_from, leading_floats, block_widths, measured_width}
 use Rattle.layout_semantics.specs.Stretches.{cut_where, without_leading, what_stays}
+use Rattle.layout_laws.proofs.Levels.{All-append}
 use mathlib.Core.List.{reverse_aux}
 
 -- ---- costs
@@ -37,18 +38,6 @@ costs-both f g (x ∷ xs) = let rest = costs-both f g xs in omega (arith, rest)
 pub each-within : {A : Type 0} (cost : A → ℕ) (xs : List A) (n : ℕ) → costs cost xs ≤ n → AllByRecursion (λ x. cost x ≤ n) xs
 each-within cost [] n l = tt
 each-within cost (x ∷ xs) n l = (omega (arith, l), each-within cost xs n (omega (arith, l)))
-
-pub mapped : {A B : Type 0} (P : B → Type 0) (f : A → B) (xs : List A) → AllByRecursion (λ x. P (f x)) xs → AllByRecursion P (map f xs)
-mapped P f [] a = tt
-mapped P f (x ∷ xs) a = (a.0, mapped P f xs a.1)
-
-pub each-implied : {A : Type 0} (P Q : A → Type 0) (xs : List A) → ((x : A) → P x → Q x) → AllByRecursion P xs → AllByRecursion Q xs
-each-implied P Q [] f a = tt
-each-implied P Q (x ∷ xs) f a = (f x a.0, each-implied P Q xs f a.1)
-
-pub each-append : {A : Type 0} (P : A → Type 0) (xs ys : List A) → AllByRecursion P xs → AllByRecursion P ys → AllByRecursion P (xs ++ ys)
-each-append P [] ys a b = b
-each-append P (x ∷ xs) ys a b = (a.0, each-append P xs ys a.1 b)
 
 -- ---- numbers
 
@@ -87,7 +76,7 @@ block-sizes n [] l = tt
 block-sizes n (in_flow x ∷ children) l = (omega (arith, l), block-sizes n children (omega (arith, l)))
 block-sizes n (floated x ∷ children) l =
     let all = leading-size (floated x ∷ children) in
-    each-append (IsSized n) (sums_from (pos 0) (leading_floats (floated x ∷ children))) (block_widths children)
+    All-append (IsSized n) (sums_from (pos 0) (leading_floats (floated x ∷ children))) (block_widths children)
     (sums-size n (pos 0) (leading_floats (floated x ∷ children)) (omega (arith, all, l))) (block-sizes n children (omega (arith, l)))
 
 -- ---- parts of inline content

@@ -6,7 +6,7 @@ use Rattle.std.specs.Option.{option_and_then}
 use Rattle.std.proofs.Math.Nat.{mul-le-mul, mul-le-mul_left}
 use Rattle.viz_base.specs.Reaches.{ratio, intrinsic_extent}
 use Rattle.viz_base.specs.Styles.{sides_of}
-use Rattle.viz_base.specs.Trees.{is_inline, is_line}
+use Rattle.viz_base.specs.Trees.{is_fragmented, is_inline, is_line}
 use Rattle.viz_base.specs.declared.lengths.Length.{Length}
 use Rattle.viz_base.specs.declared.trees.BoxNode.{BoxNode}
 use Rattle.viz_base.specs.declared.trees.BoxTree.{BoxTree}
@@ -17,22 +17,16 @@ use Rattle.layout_semantics.specs.Blocks.{kind_of}
 use Rattle.layout_semantics.specs.DefiniteHeights.{own_height, given_height, definite_height}
 use Rattle.layout_semantics.specs.FlowBoxes.{room}
 use Rattle.layout_semantics.specs.Lengths.{used, own_style, margins, borders, paddings}
-use Rattle.layout_semantics.specs.Order.{kids_of, IsOnPage}
+use Rattle.layout_semantics.specs.Order.{IsOnPage}
 use Rattle.layout_semantics.specs.Preferred.{preferred}
 use Rattle.layout_semantics.specs.Replaced.{intrinsic, replaced_size}
-use Rattle.layout_semantics.proofs.Forest.{IsKid}
-use Rattle.layout_semantics.proofs.Pages.{forest, root_place, Each-contains}
+use Rattle.layout_semantics.proofs.Pages.{within-page}
 use Rattle.layout_laws.specs.Terms.{own_width, own_maximum, own_minimum}
 use Rattle.layout_laws.proofs.PageParts.{slice_some}
 use Rattle.layout_laws.proofs.Reaching.{ratio_least}
-use Rattle.flow_limits.specs.Boxes.{is_fragmented}
 use Rattle.page_limits.proofs.WidthsCosts.{by_height, by_height-size, held-size, kind-at}
 use Rattle.page_limits.proofs.WidthsTerms.{IsTerm, far, term-cost, height-cost, sides_at, width_in, height_in, used-of}
 use Rattle.page_limits.proofs.WidthsLevels.{IsFarPage, reach_of, reach-low, HasLevel, has_terms, level-of, preferred-far, IsPlaced, placed, next, near-once, near-times, edges-near, width-near, minimum-near}
-
-pub on-within : (tree : BoxTree) (k : ℕ) → IsOnPage tree.boxes k → k < length tree.boxes
-on-within tree k (IsOnPage.root _ c) = let p = root_place tree.boxes k c in subst (λ (n : ℕ). n < length tree.boxes) p.0 p.1
-on-within tree k (IsOnPage.inside b _ on c) = (Each-contains (IsKid tree.boxes b) (kids_of tree.boxes b) k ((forest tree).kids b) c).within
 
 -- near what reaches so far is within twice as much
 near-most : (m reach c : ℕ) → c * 2097152 ≤ (m + 16) * reach → m + 16 ≤ 4194304 → reach ≤ 2 ^ 40 → c ≤ 2 ^ 41
@@ -43,11 +37,11 @@ either-size None x n f l = l
 either-size (Some v) x n f l = f v refl
 
 -- the ratio and the intrinsic size of a box, 0 by 0 where it has none
-same-ratio : (o : Option (ℕ × ℕ)) → ratio (Some (unwrap_or o (0, 0))) ≡ ratio o
+pub same-ratio : (o : Option (ℕ × ℕ)) → ratio (Some (unwrap_or o (0, 0))) ≡ ratio o
 same-ratio None = refl
 same-ratio (Some size) = refl
 
-same-extent : (o : Option (ℕ × ℕ)) → 64 * (unwrap_or o (0, 0)).0 + 64 * (unwrap_or o (0, 0)).1 ≡ intrinsic_extent o
+pub same-extent : (o : Option (ℕ × ℕ)) → 64 * (unwrap_or o (0, 0)).0 + 64 * (unwrap_or o (0, 0)).1 ≡ intrinsic_extent o
 same-extent None = refl
 same-extent (Some size) = refl
 
@@ -68,7 +62,7 @@ module _ (tree : BoxTree) (page : IsFarPage tree) (w : World) (small : w.s ≤ 2
 
   pub box-on : (k : ℕ) → IsOnPage tree.boxes k → ((x : BoxNode) → slice_get tree.boxes k ≡ Some x → has_terms tree page w small narrow height flat x.kind ≡ true) → IsBoxOn k
   box-on k on f =
-      let l = on-within tree k on in
+      let l = within-page tree k on in
       let x = slice_some tree.boxes k l in
       let p = placed tree page w small narrow height flat k on in
       record { x = x.0; place = x.1; within = l; p = p; v = level-of tree page w small narrow height flat k x.0 p.around_it x.1 (f x.0 x.1) }
@@ -168,7 +162,7 @@ module _ (tree : BoxTree) (page : IsFarPage tree) (w : World) (small : w.s ≤ 2
         let all : r * (h * 100000000) ≤ r * (g * d + 100000000 * f + 100000000) = mul-le-mul_left r cost in
         omega (arith, once, all, tall, l)
 
-    by_height-bounded : unsigned_abs (by_height (intrinsic tree k) (given_height tree w height k)) ≤ 2 ^ 41
+    pub by_height-bounded : unsigned_abs (by_height (intrinsic tree k) (given_height tree w height k)) ≤ 2 ^ 41
     by_height-bounded =
         let is : intrinsic tree k ≡ unwrap_or b.x.size (0, 0) = ap (λ (o : Option BoxNode). unwrap_or (option_and_then (λ (y : BoxNode). y.size) o) (0, 0)) b.place in
         let times = ap (λ (size : ℕ × ℕ). ratio (Some size)) is ∙ same-ratio b.x.size in

@@ -4,7 +4,7 @@ use Rattle.std.specs.Prelude.{option_map, chars, sum_by}
 use Rattle.std.specs.List.{list_all, enumerate_from, AllByRecursion}
 use Rattle.std.proofs.lemmas.Option.{slice_get-map}
 use Rattle.viz_base.specs.Reaches.{percentage, reach_to}
-use Rattle.viz_base.specs.Styles.{sides_of}
+use Rattle.viz_base.specs.Styles.{is_no_percentage, sides_of}
 use Rattle.viz_base.specs.Trees.{is_inline}
 use Rattle.viz_base.specs.declared.lengths.Length.{Length}
 use Rattle.viz_base.specs.declared.lengths.Length.TheVariants as of_length
@@ -17,15 +17,12 @@ use Rattle.layout_semantics.specs.Lengths.{used, margins, borders}
 use Rattle.layout_semantics.specs.Order.{IsOnPage}
 use Rattle.layout_semantics.specs.Verticals.{verticals}
 use Rattle.layout_semantics.proofs.Forest.{both}
-use Rattle.layout_laws.proofs.Members.{all_in}
-use Rattle.layout_laws.proofs.TreeFacts.{slice_in}
 use Rattle.layout_laws.proofs.Reaching.{reach_bounded}
+use Rattle.layout_laws.proofs.Levels.{All-append}
 use Rattle.lay_reach.specs.Limits.{IsSmallPage}
 use Rattle.lay_reach.proofs.Extents.{low-tree}
-use Rattle.lay_block.specs.BlockPages.{is_no_percentage, has_plain_border}
 use Rattle.flow_limits.specs.Boxes.{IsWhole}
 use Rattle.page_limits.specs.Across.{AreWidthsBounded, AreEdgesSmall}
-use Rattle.page_limits.proofs.WidthsLists.{each-append}
 use Rattle.page_limits.proofs.WidthsLevels.{all_extents, IsFarPage}
 use Rattle.page_limits.proofs.WidthsPage.{whole-on, inline-on, edges-bounded, width-bounded, minimum-bounded, replaced-bounded, preferred-bounded, sides-bounded}
 
@@ -44,8 +41,8 @@ enumerate-at n [] k x e = absurd (cc)
 enumerate-at {A} n (y ∷ xs) zero x e = let same : y ≡ x = cc in let none : n ≡ n + 0 = omega arith in ap (λ (z : A). Some (n, z)) same ∙ ap (λ (i : ℕ). Some (i, x)) none
 enumerate-at n (y ∷ xs) (suc k) x e = let next : n + 1 + k ≡ n + suc k = omega arith in enumerate-at (n + 1) xs k x e ∙ ap (λ (i : ℕ). Some (i, x)) next
 
-pub far-page : (tree : BoxTree) → IsSmallPage tree → sum_by (λ (b : BoxNode). length (chars b.chars)) tree.boxes ≤ 262144 → IsTrue (list_all has_plain_border tree.styles) → IsFarPage tree
-far-page tree small short plain = record {
+pub far-page : (tree : BoxTree) → IsSmallPage tree → sum_by (λ (b : BoxNode). length (chars b.chars)) tree.boxes ≤ 262144 → IsFarPage tree
+far-page tree small short = record {
   few_boxes = small.few_boxes;
   few_characters = short;
   low = low-tree tree small;
@@ -53,7 +50,7 @@ far-page tree small short plain = record {
       reach_bounded tree.styles tree.parents tree.fonts tree.boxes k _ small.reach
       (slice_get-map (λ (p : ℕ × BoxNode). reach_to tree.styles tree.parents tree.fonts (length tree.boxes) tree.boxes (all_extents tree) p.0) (enumerate_from 0 tree.boxes) k
       ∙ ap (option_map (λ (p : ℕ × BoxNode). reach_to tree.styles tree.parents tree.fonts (length tree.boxes) tree.boxes (all_extents tree) p.0)) (enumerate-at 0 tree.boxes k x e ∙ ap (λ (i : ℕ). Some (i, x)) (zero-more k)));
-  borders = λ k x s e f. no-percentages (sides_of s.border) (all_in has_plain_border tree.styles s plain (slice_in tree.styles x.node s f));
+  borders = λ k x s e f. no-percentages (sides_of s.border) s.ok.plain_borders;
 }
   where
     zero-more : (k : ℕ) → 0 + k ≡ k
@@ -91,4 +88,4 @@ module _ (tree : BoxTree) (page : IsFarPage tree) (w : World) (small : w.s ≤ 2
   pub inline-bounded : (k : ℕ) → IsOnPage tree.boxes k → is_inline (kind_of tree k) ≡ true → AreEdgesSmall tree w height (2 ^ 42) k
   inline-bounded k on e =
       let sides = sides-bounded tree page w small narrow height flat k (inline-on tree page w small narrow height flat k on e) in
-      (sides.padding.0, (sides.padding.1.0, (sides.padding.1.1.0, (sides.padding.1.1.1.0, each-append (λ (l : Length). unsigned_abs (used tree w l (room tree w height k)) ≤ 2 ^ 42) (sides_of (borders tree k)) (sides_of (margins tree k)) sides.border sides.margin))))
+      (sides.padding.0, (sides.padding.1.0, (sides.padding.1.1.0, (sides.padding.1.1.1.0, All-append (λ (l : Length). unsigned_abs (used tree w l (room tree w height k)) ≤ 2 ^ 42) (sides_of (borders tree k)) (sides_of (margins tree k)) sides.border sides.margin))))

@@ -198,7 +198,7 @@ module _ (tree : BoxTree) (low : IsLowTree tree) (w : World) (small : w.s ≤ 25
   le_from : {a b : ℕ} → a ≡ b → a ≤ b
   le_from e = omega (arith, e)
 
-  room-plain : (cb a b c d e f : ℤ) → unsigned_abs (int_max (pos 0) (cb -ℤ (a +ℤ (b +ℤ (c +ℤ (pos 0 +ℤ (d +ℤ (e +ℤ f))))))))
+  pub room-plain : (cb a b c d e f : ℤ) → unsigned_abs (int_max (pos 0) (cb -ℤ (a +ℤ (b +ℤ (c +ℤ (pos 0 +ℤ (d +ℤ (e +ℤ f))))))))
       ≤ unsigned_abs cb + (unsigned_abs a + unsigned_abs b + unsigned_abs c + (unsigned_abs d + unsigned_abs e + unsigned_abs f))
   room-plain cb a b c d e f =
       let s1 = size-+ e f in

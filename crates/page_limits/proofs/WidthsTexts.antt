@@ -1,13 +1,11 @@
 -- The words and spaces of a text together are no wider than its characters one by one, and one unit more for each.
-use Rattle.std.proofs.Common.{◌≡◌, ℕ, suc, ◌+◌, ◌*◌, ◌/◌, ◌<◌, ◌≤◌, ◌==◌, Bool, true, false, ℤ, pos, unsigned_abs, List, [], ◌∷◌, map, sum, sum_by, length, Option, Some, None, slice_get, refl, sym, ap, ◌∙◌, subst, arith}
+use Rattle.std.proofs.Common.{◌≡◌, ℕ, suc, ◌+◌, ◌≤◌, ◌==◌, Bool, true, false, unsigned_abs, List, [], ◌∷◌, map, sum, length, Option, Some, slice_get, refl, sym, ap, ◌∙◌, subst, arith}
 use Rattle.std.specs.List.{AllByRecursion}
 use Rattle.std.specs.Option.{option_map_or, option_and_then}
 use Rattle.std.specs.Str.{chars}
-use Rattle.std.proofs.Math.Nat.{lt-div-mul-add, div-lt_iff_lt-mul, mul-le-mul_left}
 use Rattle.std.proofs.lemmas.Bool.Decides.{nat_tests}
 use Rattle.std.proofs.lemmas.List.Sums.{sum_by-cons}
-use Rattle.viz_base.specs.Numbers.{floor_of}
-use Rattle.viz_base.specs.FontSizes.{measured, advance, text_width_in}
+use Rattle.viz_base.specs.FontSizes.{text_width_in}
 use Rattle.viz_base.specs.Reaches.{text_extent}
 use Rattle.viz_base.specs.declared.fonts.Font.{Font}
 use Rattle.viz_base.specs.declared.styles.Style.{Style}
@@ -17,53 +15,15 @@ use Rattle.viz_base.specs.declared.worlds.World.{World}
 use Rattle.layout_semantics.specs.Blocks.{node_of}
 use Rattle.layout_semantics.specs.Fonts.{text_width}
 use Rattle.layout_semantics.specs.InlineContent.{Item, word, space, text_of, text_items, letter_before, character_before}
-use Rattle.lay_reach.proofs.Numbers.{div-rises}
 use Rattle.lay_reach.proofs.Fonts.{size-up}
-use Rattle.lay_reach.proofs.Texts.{IsTextAt, text-only}
+use Rattle.lay_reach.proofs.Texts.{IsTextAt, text-only, wide, wide-more, wide-up}
 use Rattle.page_limits.proofs.WidthsLists.{costs}
-use lib.IntN.{pos-*ℤ-pos}
 
 pub costs-sum : {A : Type 0} (cost : A → ℕ) (xs : List A) → sum (map cost xs) ≡ costs cost xs
 costs-sum cost [] = refl
 costs-sum cost (x ∷ xs) = let all = sum_by-cons (λ (n : ℕ). n) (cost x) (map cost xs) in let rest = costs-sum cost xs in omega (arith, all, rest)
 
 -- ---- texts in one font
-
-div-both : (p q d : ℕ) → 0 < d → (p + q) / d ≤ p / d + q / d + 1
-div-both p q d l =
-    let first = lt-div-mul-add {a = p} l in
-    let other = lt-div-mul-add {a = q} l in
-    let less : (p + q) / d < p / d + q / d + 2 = (div-lt_iff_lt-mul l).1 (omega (arith, first, other)) in
-    omega (arith, less)
-
-pub measured-is : (font : Font) (a n : ℕ) → unsigned_abs (measured font (pos a) n) ≡ n * a / font.upem
-measured-is font a n = ap (λ z. unsigned_abs (floor_of z font.upem)) (pos-*ℤ-pos n a)
-
--- how wide a text is in a font, if there is one
-abbrev pub wide : Option Font → ℤ → List ℕ → ℕ
-wide o size text = unsigned_abs (option_map_or (λ (font : Font). measured font size (sum_by (advance font) text)) o (pos 0))
-
-pub wide-more : (o : Option Font) (a c : ℕ) (cs : List ℕ) → wide o (pos a) (c ∷ cs) ≤ wide o (pos a) (c ∷ []) + wide o (pos a) cs + 1
-wide-more None a c cs = omega arith
-wide-more (Some font) a c cs =
-    let own = advance font c in
-    let others = sum_by (advance font) cs in
-    let all : sum_by (advance font) (c ∷ cs) * a ≡ own * a + others * a = let e = sum_by-cons (advance font) c cs in ap (λ n. n * a) e ∙ omega arith in
-    let one : sum_by (advance font) (c ∷ []) ≡ own = let e = sum_by-cons (advance font) c [] in omega (arith, e) in
-    let whole = measured-is font a (sum_by (advance font) (c ∷ cs)) ∙ ap (λ n. n / font.upem) all in
-    let first = measured-is font a (sum_by (advance font) (c ∷ [])) ∙ ap (λ n. n * a / font.upem) one in
-    let rest = measured-is font a others in
-    let both = div-both (own * a) (others * a) font.upem font.ok.has_em in
-    omega (arith, whole, first, rest, both)
-
-wide-up : (o : Option Font) (a b : ℕ) (text : List ℕ) → a ≤ b → wide o (pos a) text ≤ wide o (pos b) text
-wide-up None a b text l = omega arith
-wide-up (Some font) a b text l =
-    let n = sum_by (advance font) text in
-    let low = measured-is font a n in
-    let high = measured-is font b n in
-    let up = div-rises (n * a) (n * b) font.upem font.ok.has_em (mul-le-mul_left n l) in
-    omega (arith, low, high, up)
 
 -- ---- words and spaces
 

@@ -1,22 +1,18 @@
-ghost use Rattle.std.specs.Prelude.{◌≤◌, ◌^◌, ℕ, IsTrue, length, chars, sum_by};
-ghost use Rattle.std.specs.List.{AllByRecursion, list_all};
+ghost use Rattle.std.specs.Prelude.{◌≤◌, ◌^◌, ℕ, length, chars, sum_by};
+ghost use Rattle.std.specs.List.{AllByRecursion};
 ghost use Rattle.viz_base.specs.declared.trees.BoxNode.{BoxNode};
 ghost use Rattle.layout_semantics.specs.Page.{page_rendering};
 ghost use Rattle.lay_reach.specs.Limits.{IsSmallPage};
-ghost use Rattle.lay_block.specs.BlockPages.{has_plain_border};
 ghost use Rattle.flow_limits.specs.Bounds.{IsPlacedIn, all_around};
-ghost use Rattle.flow_limits.specs.Boxes.{IsWhole};
 
 use viz_base::{BoxTree, World};
 
-/// Of a page of at most 16,384 boxes and 262,144 characters, none of which reaches beyond 2^40 units and of which no
-/// border is a percentage, in viewports of at most 16,384 px by 16,384 px at default font sizes of at most 256 px, each
+/// Of a page of at most 16,384 boxes and 262,144 characters, none of which reaches beyond 2^40 units, in
+/// viewports of at most 16,384 px by 16,384 px at default font sizes of at most 256 px, each
 /// edge of each rectangle of the rendering is at most 2^70 units in size.
 pub fn coordinates_of_a_page_are_small(tree: &BoxTree, world: World, height: u32)
     requires small { IsSmallPage tree.now }
     requires few_characters { sum_by (λ (b : BoxNode). length (chars b.chars)) tree.now.boxes ≤ 262144 }
-    requires plain_borders { IsTrue (list_all has_plain_border tree.now.styles) }
-    requires root { IsWhole tree.now 0 }
     requires narrow { world.w ≤ 16384 }
     requires sized { world.s ≤ 256 }
     requires low { height ≤ 16384 }

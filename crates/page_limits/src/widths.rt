@@ -1,24 +1,21 @@
-ghost use Rattle.std.specs.Prelude.{◌≡◌, ◌≤◌, ◌^◌, ℕ, true, IsTrue, length, chars, sum_by};
-ghost use Rattle.std.specs.List.{list_all};
+ghost use Rattle.std.specs.Prelude.{◌≡◌, ◌≤◌, ◌^◌, ℕ, true, length, chars, sum_by};
 ghost use Rattle.viz_base.specs.Trees.{is_inline};
 ghost use Rattle.viz_base.specs.declared.trees.BoxNode.{BoxNode};
 ghost use Rattle.layout_semantics.specs.Blocks.{kind_of};
 ghost use Rattle.layout_semantics.specs.Order.{IsOnPage};
 ghost use Rattle.lay_reach.specs.Limits.{IsSmallPage};
-ghost use Rattle.lay_block.specs.BlockPages.{has_plain_border};
 ghost use Rattle.flow_limits.specs.Boxes.{IsWhole};
 ghost use Rattle.page_limits.specs.Across.{AreEdgesSmall, AreWidthsBounded};
 
 use viz_base::{BoxTree, World};
 
-/// On a page of at most 16,384 boxes and 262,144 characters, none of which reaches beyond 2^40 units and of which no
-/// border is a percentage, in viewports of at most 16,384 px by 16,384 px at default font sizes of at most 256 px, what
+/// On a page of at most 16,384 boxes and 262,144 characters, none of which reaches beyond 2^40 units, in
+/// viewports of at most 16,384 px by 16,384 px at default font sizes of at most 256 px, what
 /// the properties of each box give across is at most 2^42 units together with its edges and its containing block: its
 /// width, its minimum, its preferred widths and its width as a replaced box; and so is each of its edges.
 pub fn widths_of_a_page_are_small(tree: &BoxTree, world: World, height: u32)
     requires small { IsSmallPage tree.now }
     requires few_characters { sum_by (λ (b : BoxNode). length (chars b.chars)) tree.now.boxes ≤ 262144 }
-    requires plain_borders { IsTrue (list_all has_plain_border tree.now.styles) }
     requires narrow { world.w ≤ 16384 }
     requires sized { world.s ≤ 256 }
     requires low { height ≤ 16384 }
