@@ -1,4 +1,3 @@
-pub mod Bounds
 pub mod Rectangles
 pub mod Truths
 pub mod Numbers

@@ -1,7 +1,6 @@
 //! Checks a certificate against its job. What is accepted holds, whoever made the certificate.
 #![tactic(auto)]
 
-mod bounds;
 mod cuts;
 mod descent;
 mod entry;
@@ -14,7 +13,6 @@ mod verdicts;
 mod walk;
 mod worlds;
 
-pub use bounds::is_low_rendering;
 pub use cuts::{Child, Cut, Opens, axis_of, cut_of, part_of, variable_of, world_count};
 pub use entry::check;
 pub use laws::{

@@ -5,7 +5,6 @@ ghost use Rattle.cert_check.specs.Truths.{IsTrueIn, IsFirstUntrueIn};
 ghost use Rattle.cert_check.specs.Rectangles.{IsWithin};
 ghost use Rattle.cert_check.specs.steps.Worlds.{seek, untrue_at, untrue_of_width, first_untrue};
 
-use crate::bounds::is_low_rendering;
 use lay_flow::render_at;
 use std::alloc::Global;
 use vis_truth::truth;
@@ -14,16 +13,12 @@ use viz_calc::Plain;
 
 /// Whether a job's formula is true of its page's rendering at a world of the job's range.
 ///
-/// It lays the page out once, and copies nothing of the job. The only fault is want of memory; a coordinate past 2^70,
-/// which no page of blocks has and no other page is known to have, would be told as such too.
+/// It lays the page out once, and copies nothing of the job. The only fault is want of memory.
 pub fn holds_at(alloc: Global, job: &Job, world: World) -> Result<bool, Mem>
     requires in_range { IsInRange job.now.range world }
     ensures { IfOk result (λ yes. yes ≡ is_true_at job.now world) }
 {
     let rendering = render_at(alloc, world, &job.tree, job.height)?;
-    if !is_low_rendering(&rendering) {
-        return Err(Mem);
-    }
     let mut calc = Plain::new(world);
     match truth(&mut calc, &job.formula, &rendering, job.height) {
         Ok(yes) => Ok(yes),

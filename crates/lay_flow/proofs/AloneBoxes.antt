@@ -5,7 +5,7 @@ use Rattle.viz_base.specs.declared.worlds.World.{World}
 use Rattle.layout_semantics.specs.Flow.{Alone}
 use Rattle.layout_semantics.specs.FlowBoxes.{is_replaced_at}
 use Rattle.layout_semantics.specs.Rectangles.{Frame}
-use Rattle.lay_block.proofs.Slots.{seam, no_boxes}
+use Rattle.lay_frame.proofs.Slots.{seam, no_boxes}
 use Rattle.lay_flow.specs.steps.Flow.{corner_of, replaced_alone, context_alone, alone_of}
 
 -- places that are kept in a list of nothing

@@ -2,19 +2,17 @@
 use Rattle.std.proofs.Common.{◌^◌, ℤ, pos, ◌+ℤ◌, ◌-ℤ◌, [], ◌∷◌, arith}
 use Rattle.viz_base.specs.declared.layouts.Band.{Band}
 use Rattle.viz_base.specs.declared.layouts.Widths.{Widths}
-use Rattle.viz_base.specs.declared.trees.BoxTree.{BoxTree}
-use Rattle.viz_base.specs.declared.worlds.World.{World}
 use Rattle.viz_calc.specs.State.{AllSmall}
 use Rattle.layout_semantics.specs.FlowBoxes.{across}
 use Rattle.layout_semantics.specs.Rectangles.{Frame}
-use Rattle.lay_block.specs.Fitting.{band_way}
-use Rattle.lay_block.specs.FlowFitting.{KeptFits}
+use Rattle.lay_margin.specs.Fitting.{content_way}
+use Rattle.lay_frame.specs.Fitting.{KeptFits}
 use Rattle.flow_limits.specs.Boxes.{AreWidthsSmall}
-use Rattle.lay_flow.specs.Low.{IsAsideLow, IsBandLow, IsFrameLow, IsLevelLow}
+use Rattle.lay_flow.specs.Low.{IsAsideLow, IsBandLow, IsFrameLow}
 use Rattle.lay_flow.proofs.Framed.{place-fits}
-use Rattle.lay_flow.proofs.Sizes.{wider, fit, plus, less, level, zero-small, zero-fits}
+use Rattle.lay_flow.proofs.Sizes.{wider, fit, plus, less, zero-small, zero-fits}
 
-pub band-fits : (left : ℤ) (x : Widths ℤ) → IsAsideLow left → AreWidthsSmall (2 ^ 90) x → AllSmall (band_way left x)
+pub band-fits : (left : ℤ) (x : Widths ℤ) → IsAsideLow left → AreWidthsSmall (2 ^ 90) x → AllSmall (content_way left x)
 band-fits left x l s =
     let a = plus (2 ^ 90) (2 ^ 90) (2 ^ 91) left x.margin_left l s.margin_left (omega arith) in
     let b = plus (2 ^ 91) (2 ^ 90) (2 ^ 92) (left +ℤ x.margin_left) x.border_left a s.border_left (omega arith) in
@@ -27,11 +25,8 @@ band-fits left x l s =
       ),
     )
 
-pub kept-fits : (tree : BoxTree) (w : World) (f : Frame) → IsFrameLow f → KeptFits tree w f
-kept-fits tree w f low = (zero-fits, place-fits f (pos 0) low (zero-small (2 ^ 94)))
-
-pub level-fits : (y : ℤ) → IsLevelLow y → AllSmall (y ∷ [])
-level-fits y l = fit (2 ^ 90) y (level y l) (omega arith)
+pub kept-fits : (f : Frame) → IsFrameLow f → KeptFits f
+kept-fits f low = (zero-fits, place-fits f (pos 0) low (zero-small (2 ^ 94)))
 
 pub across-fits : (cb : Band ℤ) → IsBandLow cb → AllSmall (across cb ∷ [])
 across-fits cb low = fit (2 ^ 91) (cb.right -ℤ cb.left) (less (2 ^ 90) (2 ^ 90) (2 ^ 91) cb.right cb.left low.right low.left (omega arith)) (omega arith)

@@ -13,7 +13,7 @@ use Rattle.layout_semantics.specs.Flow.{content_height}
 use Rattle.layout_semantics.specs.Rectangles.{Frame, content_top, border_width, border_height, outset, inset, placed_box}
 use Rattle.lay_margin.specs.declared.runs.Run.{Run}
 use Rattle.lay_margin.specs.Runs.{collapse}
-use Rattle.lay_block.specs.Fitting.{top_way, BorderFits, AroundFits, PlaceFits, border_of}
+use Rattle.lay_frame.specs.Fitting.{top_way, BorderFits, AroundFits, PlaceFits, border_of}
 use Rattle.flow_limits.proofs.Levels.{All-map}
 use Rattle.flow_limits.specs.Bounds.{IsQuadIn, IsFloatIn}
 use Rattle.flow_limits.specs.Boxes.{IsHeightHeld}

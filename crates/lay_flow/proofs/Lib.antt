@@ -22,3 +22,14 @@ pub mod Following
 pub mod Rooms
 pub mod KidSteps
 pub mod ReachesFit
+pub mod PageFits
+pub mod WalkLow
+pub mod WalkWithin
+pub mod PageRooms
+pub mod TablesWithin
+pub mod AlonesFit
+pub mod PageComes
+pub mod WalkPlaces
+pub mod BoxesFit
+pub mod LinesFitting
+pub mod PageLimits

@@ -72,7 +72,7 @@ module _ (tree : BoxTree) (w : World) (height : ℕ) (apart : ℕ → Alone) whe
         by true = refl
         by false = ap (λ r. (ahead, r)) e
 
-  reached-same : (cb : Band ℤ) (s : Context) (b : ℕ) → reached_of tree w apart cb s b ≡ met cb s b (flow.reached tree w height content apart cb s b)
+  pub reached-same : (cb : Band ℤ) (s : Context) (b : ℕ) → reached_of tree w apart cb s b ≡ met cb s b (flow.reached tree w height content apart cb s b)
   unfolding named.reached_of walk.way_in walk.size_in
   reached-same cb s b = by s.standing
     where
@@ -101,7 +101,7 @@ module _ (tree : BoxTree) (w : World) (height : ℕ) (apart : ℕ → Alone) whe
 
   -- ---- one after another
 
-  child-same : (cb : Band ℤ) (top : ℤ) (s : Context) (k : ℕ) → child_of tree w height apart cb top s k ≡ flow.child tree w height content apart cb top s k
+  pub child-same : (cb : Band ℤ) (top : ℤ) (s : Context) (k : ℕ) → child_of tree w height apart cb top s k ≡ flow.child tree w height content apart cb top s k
   unfolding named.child_of named.float_of
   child-same cb top s k = ap (λ (x : Step). elim (is_floated_at tree k) as (λ _. Step) [ true ↦ float_of tree w apart cb top s k | false ↦ x ]) (flow-same cb s k)
 

@@ -10,7 +10,7 @@ use Rattle.flow_limits.specs.Inline.{IsSmall}
 use Rattle.lay_margin.specs.declared.runs.Run.{Run}
 use Rattle.lay_margin.specs.Fitting.{ends}
 use Rattle.lay_margin.specs.Runs.{collapse, value_way}
-use Rattle.lay_block.specs.Fitting.{quad_way}
+use Rattle.lay_frame.specs.Fitting.{quad_way}
 use Rattle.lay_flow.specs.Low.{IsLevelLow, IsAsideLow, IsRunLow}
 use Rattle.lay_flow.specs.Fits.{IsNear}
 

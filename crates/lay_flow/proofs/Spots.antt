@@ -18,7 +18,7 @@ use Rattle.layout_semantics.specs.Flow.{raised}
 use Rattle.layout_semantics.specs.Rectangles.{shifted_quad}
 use Rattle.lay_float.specs.Limits.{IsHalf, AllHalf, AreHalf}
 use Rattle.lay_line.proofs.Placing.{lowest_within}
-use Rattle.lay_block.specs.Fitting.{quad_way}
+use Rattle.lay_frame.specs.Fitting.{quad_way}
 use Rattle.flow_limits.proofs.FloatSpots.{spot-in}
 use Rattle.flow_limits.proofs.Levels.{quad-wider, level-wider, level-max}
 use Rattle.flow_limits.specs.Bounds.{Bounds, levels_of, AreInside, IsLevelIn, IsQuadIn, IsFloatIn, IsExtentIn}

@@ -1,5 +1,5 @@
 -- What stands outside the flow of a box is in the tree; and tables at a reading.
-use Rattle.std.proofs.Common.{◌≡◌, ℕ, zero, suc, ◌<◌, ◌+◌, ◌-◌, ◌*◌, ℤ, pos, Bool, true, false, cond, List, [], ◌∷◌, filter, length, set, replicate, Option, Some, None, refl, ap, ◌∙◌, arith}
+use Rattle.std.proofs.Common.{◌≡◌, ℕ, zero, suc, ◌<◌, ◌+◌, ◌-◌, ◌*◌, ℤ, pos, Bool, true, false, List, ◌∷◌, filter, length, set, replicate, Option, Some, None, refl, ap, ◌∙◌, arith}
 use Rattle.std.specs.List.{AllByRecursion}
 use Rattle.std.proofs.lemmas.List.{map-set}
 use Rattle.viz_base.specs.declared.trees.BoxTree.{BoxTree}
@@ -11,22 +11,15 @@ use Rattle.layout_semantics.specs.InlineContent.{is_floated_at, has_line, inner_
 use Rattle.layout_semantics.proofs.Pages.{forest}
 use Rattle.layout_laws.proofs.Levels.{IsFrom, All-implied, inner_boxes-from}
 use Rattle.layout_laws.proofs.LeadLevels.{children-from}
-use Rattle.lay_block.specs.steps.Readings.{boxes_at}
+use Rattle.lay_frame.specs.Readings.{boxes_at}
 use Rattle.flow_steps.specs.Tables.{laid_at, outside_of, page_boxes}
+use Rattle.flow_limits.proofs.Levels.{All-filter}
 use Rattle.lay_flow.specs.declared.parts.Alone.{Alone as AloneBox}
 use Rattle.lay_flow.specs.Readings.{alone_at, apart_at, table_at}
 use Rattle.lay_flow.specs.steps.Flow.{alone_of, with_box, with_container, table_to}
 use Rattle.lay_flow.proofs.TableSteps.{root-boxes}
 
 -- ---- boxes of the tree
-
-All-filter : (P : ℕ → Type 0) (test : ℕ → Bool) (ks : List ℕ) → AllByRecursion P ks → AllByRecursion P (filter test ks)
-All-filter P test [] a = tt
-All-filter P test (k ∷ ks) a = by (test k) (All-filter P test ks a.1)
-  where
-    by : (t : Bool) → AllByRecursion P (filter test ks) → AllByRecursion P (cond t (k ∷ filter test ks) (filter test ks))
-    by true rest = (a.0, rest)
-    by false rest = rest
 
 pub outside-within : (tree : BoxTree) (b : ℕ) → AllByRecursion (λ (k : ℕ). k < length tree.boxes) (outside_of tree b)
 outside-within tree b = All-implied (IsFrom tree.boxes (suc b)) (λ (k : ℕ). k < length tree.boxes) (outside_of tree b) (λ k f. f.within) (by (has_line tree b))

@@ -15,7 +15,7 @@ use Rattle.lay_flow.proofs.AloneBoxes.{alone-replaced, alone-context}
 use Rattle.lay_flow.specs.steps.Flow.{corner_of, replaced_of, root_of, tall_of, content_of, replaced_alone, context_alone, alone_of, with_box, with_boxes, with_container, table_to}
 
 module _ (tree : BoxTree) (w : World) (height : ℕ) where
-  alone-same : (apart : ℕ → Alone) (b : ℕ) (wide : ℤ) → alone_of tree w height apart b wide ≡ flow.alone tree w height (flow.content_of tree w height apart) b wide
+  pub alone-same : (apart : ℕ → Alone) (b : ℕ) (wide : ℤ) → alone_of tree w height apart b wide ≡ flow.alone tree w height (flow.content_of tree w height apart) b wide
   unfolding replaced_alone context_alone corner_of replaced_of root_of tall_of content_of
   alone-same apart b wide = by (is_replaced_at tree b) refl
     where

@@ -13,8 +13,7 @@ use Rattle.layout_semantics.specs.Horizontal.{placing_of, widths}
 use Rattle.layout_semantics.specs.Preferred.{preferred}
 use Rattle.layout_semantics.specs.Replaced.{by_ratio, intrinsic, replaced_size}
 use Rattle.layout_semantics.specs.Verticals.{verticals}
-use Rattle.lay_block.specs.Fitting.{VerticalsFit, HeldFits}
-use Rattle.lay_width.specs.Fitting.{WidthsFit, DefiniteFits_to, HeightFits, GivenFits, ReplacedFits}
+use Rattle.lay_width.specs.Fitting.{VerticalsFit, HeldFits, WidthsFit, DefiniteFits_to, HeightFits, GivenFits, ReplacedFits}
 use Rattle.flow_limits.specs.Bounds.{Bounds, all_around, IsPlacedIn}
 use Rattle.flow_limits.specs.Boxes.{AreWidthsSmall, AreSidesSmall, IsHeightHeld}
 use Rattle.flow_limits.specs.Inline.{IsSmall}

@@ -4,7 +4,7 @@ use Rattle.std.specs.List.{AllByRecursion}
 use Rattle.std.specs.Option.{option_to_list}
 use Rattle.viz_base.specs.declared.layouts.Band.{Band}
 use Rattle.viz_base.specs.declared.layouts.Waiting.{Waiting}
-use Rattle.layout_semantics.specs.Flow.{Alone, Cleared, Reached}
+use Rattle.layout_semantics.specs.Flow.{Alone, Cleared}
 use Rattle.layout_semantics.specs.Rectangles.{Frame}
 use Rattle.lay_margin.specs.declared.runs.Run.{Run}
 use Rattle.flow_steps.specs.Flow.{Standing, at_top, below, Context}
@@ -70,9 +70,3 @@ IsBaseLow (stands edge) = IsLevelLow edge
 
 abbrev pub IsWaitingLow : Waiting ℤ → Type 0
 IsWaitingLow f = IsBandLow f.cb
-
--- ---- a box in flow
-
-pub record IsReachedLow (r : Reached) : Type 0 where
-  pub top : IsLevelLow r.top
-  pub cleared : IsClearedLow r.cleared

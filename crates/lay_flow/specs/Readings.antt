@@ -5,7 +5,7 @@ use Rattle.layout_semantics.specs.Flow.{Alone, Reached, Cleared}
 use Rattle.lay_float.specs.Readings.{floats_at, extent_at, option_at}
 use Rattle.lay_margin.specs.Readings as margins
 use Rattle.lay_margin.specs.Runs.{run_at}
-use Rattle.lay_block.specs.steps.Readings.{boxes_at}
+use Rattle.lay_frame.specs.Readings.{boxes_at}
 use Rattle.flow_steps.specs.Flow as steps
 use Rattle.flow_steps.specs.Forward as forward
 use Rattle.flow_steps.specs.Runs as runs

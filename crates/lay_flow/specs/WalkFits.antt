@@ -10,7 +10,7 @@ use Rattle.layout_semantics.specs.FlowBoxes.{across, content_from, flow_children
 use Rattle.layout_semantics.specs.InlineContent.{has_line, is_floated_at}
 use Rattle.layout_semantics.specs.LineHeights.{InlineContext}
 use Rattle.layout_semantics.specs.Rectangles.{Frame, content_top}
-use Rattle.lay_block.specs.Fitting.{VerticalsFit}
+use Rattle.lay_width.specs.Fitting.{VerticalsFit}
 use Rattle.lay_line.specs.LinesFit.{LinesFit}
 use Rattle.lay_preferred.specs.Fitting.{BoxesFit}
 use Rattle.flow_steps.specs.Flow.{Context, fresh}

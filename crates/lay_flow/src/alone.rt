@@ -6,7 +6,7 @@ ghost use Rattle.viz_calc.specs.Renderings.{placed_at};
 ghost use Rattle.layout_semantics.specs.FlowBoxes.{room_to};
 ghost use Rattle.layout_semantics.specs.Horizontal.{widths as widths_of};
 ghost use Rattle.layout_semantics.specs.Rectangles.{outer_extent as extent_of};
-ghost use Rattle.lay_block.specs.steps.Readings.{frame_at};
+ghost use Rattle.lay_frame.specs.Readings.{frame_at};
 ghost use Rattle.lay_float.specs.Readings.{extent_at};
 ghost use Rattle.lay_preferred.specs.Readings.{AreFound};
 ghost use Rattle.lay_width.specs.Readings.{widths_at};
@@ -23,12 +23,10 @@ ghost use Rattle.lay_flow.specs.Fits.{IsReplacedFit, IsShapeFit, near};
 use crate::frames::{context_box, replaced_box};
 use crate::parts::{Alone, Page};
 use crate::walk::{content, fresh};
-use lay_block::frames::Shape;
-use lay_block::heights::verticals;
-use lay_block::leads::content_band;
-use lay_block::standing::content_top;
-use lay_block::walk::{append, keep, put};
+use lay_frame::frames::{Shape, content_top, verticals};
+use lay_frame::lists::{append, keep, put};
 use lay_length::lengths::zero;
+use lay_margin::leads::content_between;
 use lay_margin::trees::is_replaced;
 use lay_preferred::engine::preferred;
 use lay_preferred::found::Found;
@@ -146,7 +144,7 @@ fn outer_extent<S: Steady>(calc: &mut S, placed: &Placed<S::Num>) -> Extent<S::N
     Extent { width, height }
 }
 
-#[tactic(auto, using(lay_block::proofs::Slots::no_boxes), unfolding(crate::specs::steps::Flow::replaced_alone))]
+#[tactic(auto, using(lay_frame::proofs::Slots::no_boxes), unfolding(crate::specs::steps::Flow::replaced_alone))]
 /// A replaced box by itself.
 fn replaced_alone<S: Steady>(
     alloc: Global,
@@ -194,7 +192,7 @@ fn context_alone<S: Steady>(
         (frame_at S.at shape.now e))) }
 {
     let left = zero(calc);
-    let band = content_band(calc, &left, &shape.x);
+    let band = content_between(calc, &left, &shape.x);
     let top = content_top(calc, shape);
     let mut context = fresh(alloc, calc, &top);
     let mut boxes = Vec::new(alloc);

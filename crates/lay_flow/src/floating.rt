@@ -5,7 +5,7 @@ ghost use Rattle.viz_calc.specs.Run.{Stands, Goes, Blames, BlamesButMem};
 ghost use Rattle.viz_calc.specs.Renderings.{placed_at, quad_at};
 ghost use Rattle.layout_semantics.specs.Floats.{floating, lowest_bottom, float_spot, with_float_at};
 ghost use Rattle.layout_semantics.specs.Rectangles.{shifted, shifted_box, shifted_quad};
-ghost use Rattle.lay_block.specs.steps.Readings.{boxes_at};
+ghost use Rattle.lay_frame.specs.Readings.{boxes_at};
 ghost use Rattle.lay_float.specs.Readings.{boxes_at as floats_in, floats_at, extent_at, spot_at, stretch_at, option_at};
 ghost use Rattle.lay_flow.specs.Readings.{apart_at};
 ghost use Rattle.lay_flow.specs.steps.Walk.{top_of};
@@ -16,9 +16,9 @@ ghost use Rattle.flow_limits.specs.Bounds.{levels_of, IsExtentIn, IsPlacedIn, Is
 ghost use Rattle.lay_flow.specs.Fits.{IsSpotNear};
 
 use crate::parts::Alone;
-use lay_block::walk::append;
 use lay_float::engine::{bottom, place};
 use lay_float::{Floats, PlacedFloat};
+use lay_frame::lists::append;
 use lay_length::lengths::zero;
 use lay_line::trees::{clear_at, side_at};
 use lay_width::limits::greater;
@@ -157,7 +157,7 @@ fn shift_box<S: Steady>(calc: &mut S, by: &Spot<S::Num>, placed: &Placed<S::Num>
     }
 }
 
-#[tactic(auto, unfolding(lay_block::specs::steps::Readings::boxes_at))]
+#[tactic(auto, unfolding(lay_frame::specs::Readings::boxes_at))]
 /// Adds boxes that are moved by a spot.
 fn add_each<S: Steady>(
     calc: &mut S,

@@ -6,8 +6,9 @@ ghost use Rattle.viz_calc.specs.Run.{Goes, BlamesButMem};
 ghost use Rattle.viz_calc.specs.Renderings.{rendering_at};
 ghost use Rattle.layout_semantics.specs.InlineContent.{is_floated_at};
 ghost use Rattle.layout_semantics.specs.Page.{page_rendering};
-ghost use Rattle.lay_block.specs.steps.Readings.{boxes_at};
+ghost use Rattle.lay_frame.specs.Readings.{boxes_at};
 ghost use Rattle.lay_preferred.specs.Readings.{AreFound};
+ghost use Rattle.lay_reach.specs.Limits.{IsWithinLimits};
 ghost use Rattle.flow_steps.specs.Tables.{outside_of as outside, page_boxes};
 ghost use Rattle.lay_flow.specs.AloneFits.{BoxAddedFits, BoxesAddedFit, ContainerFits, PageComesFit, TableFits};
 ghost use Rattle.lay_flow.specs.WalkFits.{AllFit};
@@ -262,8 +263,8 @@ pub fn render<S: Steady>(
     ensures goes { Goes (S.run calc.old) (S.run calc.new) }
     ensures value { (e : Reading) → IsTrue ((S.run calc.new).is_open e)
         → rendering_at S.at result e ≡ page_rendering tree.now e.world height }
-    ensures cause { BlamesButMem (S.run calc.old) (S.run calc.new) (AllFit tree.now (S.run calc.old).is_open
-        (λ e. PageComesFit tree.now e.world height)) }
+    ensures cause { BlamesButMem (S.run calc.old) (S.run calc.new)
+        (IsWithinLimits tree.now height (S.run calc.old).is_open) }
 {
     let boxes = List::from(boxes(alloc, calc, tree, height));
     Rendering { boxes }

@@ -3,7 +3,7 @@ ghost use Rattle.std.specs.Prelude.{◌≡◌, ◌<◌, ◌++◌, ℕ, ℤ, Bool
 ghost use Rattle.std.specs.Option.{option_or};
 ghost use Rattle.viz_calc.specs.World.{Reading};
 ghost use Rattle.viz_calc.specs.Run.{Goes, Blames, BlamesButMem};
-ghost use Rattle.lay_block.specs.steps.Readings.{frame_at, boxes_at};
+ghost use Rattle.lay_frame.specs.Readings.{frame_at, boxes_at};
 ghost use Rattle.lay_float.specs.Readings.{stretch_at, option_at};
 ghost use Rattle.lay_margin.specs.Runs.{run_at, with_margin};
 ghost use Rattle.flow_steps.specs.Flow.{fresh as fresh_of};
@@ -19,16 +19,14 @@ use crate::heights::{joined_run, next_edge};
 use crate::lines::in_lines;
 use crate::parts::{Cleared, Context, Laid, Page};
 use crate::reached::{below, copy_standing, is_at_top, open, reach, standing_after, standing_in};
-use lay_block::boxes::joins_last_child;
-use lay_block::frames::Shape;
-use lay_block::leads::content_band;
-use lay_block::standing::content_top;
-use lay_block::walk::{append, keep, put};
 use lay_float::Floats;
+use lay_frame::boxes::joins_last_child;
+use lay_frame::frames::{Shape, content_top};
+use lay_frame::lists::{append, keep, put};
 use lay_margin::Run;
 use lay_margin::contents::{collapses_through, floats_in, has_line, holds_inline};
 use lay_margin::engine::empty;
-use lay_margin::leads::{across, join};
+use lay_margin::leads::{across, content_between, join};
 use lay_margin::trees::{is_replaced, kids_at, starts_context};
 use lay_width::limits::greater;
 use lay_width::properties::floats_at;
@@ -182,7 +180,7 @@ fn leave<S: Steady>(
 }
 
 #[cycle(flow)]
-#[tactic(auto, using(lay_block::proofs::Slots::seams), unfolding(crate::specs::steps::Flow::laid_context))]
+#[tactic(auto, using(lay_frame::proofs::Slots::seams), unfolding(crate::specs::steps::Flow::laid_context))]
 /// Lays out a box that starts a context; the one around it goes on as it was, but for the last line's baseline.
 fn lay_context<S: Steady>(
     alloc: Global,
@@ -209,7 +207,7 @@ fn lay_context<S: Steady>(
         (apart_at S.at page.now.apart.now e) (when_starting (stretch_at S.at cb.now e)
         (context_at S.at context.old e) b (frame_at S.at shape.now e)))) }
 {
-    let band = content_band(calc, &cb.left, &shape.x);
+    let band = content_between(calc, &cb.left, &shape.x);
     let top = content_top(calc, shape);
     let mut own = fresh(alloc, calc, &top);
     let place = keep(calc, page.tree, b, shape, out);
@@ -228,7 +226,7 @@ fn lay_context<S: Steady>(
 }
 
 #[cycle(flow)]
-#[tactic(auto, using(lay_block::proofs::Slots::seams), unfolding(crate::specs::steps::Flow::laid_block))]
+#[tactic(auto, using(lay_frame::proofs::Slots::seams), unfolding(crate::specs::steps::Flow::laid_block))]
 /// Lays out another block, which goes on with the context.
 fn lay_block<S: Steady>(
     alloc: Global,
@@ -256,7 +254,7 @@ fn lay_block<S: Steady>(
         (apart_at S.at page.now.apart.now e) (when_going_on (stretch_at S.at cb.now e)
         (context_at S.at context.old e) b (cleared_at S.at cleared e) (frame_at S.at shape.now e)))) }
 {
-    let band = content_band(calc, &cb.left, &shape.x);
+    let band = content_between(calc, &cb.left, &shape.x);
     let top = content_top(calc, shape);
     let standing = standing_in(calc, page.tree, b, cleared, shape);
     open(calc, shape, standing, context);

@@ -31,6 +31,12 @@ EdgesFit tree w at cb =
     UsedFits tree w (margins tree at).left cb × (UsedFits tree w (borders tree at).left cb × (UsedFits tree w (paddings tree at).left cb
     × (AllSmall (pos 0 ∷ []) × (UsedFits tree w (paddings tree at).right cb × (UsedFits tree w (borders tree at).right cb × UsedFits tree w (margins tree at).right cb)))))
 
+-- to the terms of a box up and down
+abbrev pub VerticalsFit : BoxTree → World → ℕ → ℤ → Type 0
+VerticalsFit tree w b room =
+    UsedFits tree w (margins tree b).top room × (UsedFits tree w (borders tree b).top room × (UsedFits tree w (paddings tree b).top room
+    × (UsedFits tree w (paddings tree b).bottom room × (UsedFits tree w (borders tree b).bottom room × UsedFits tree w (margins tree b).bottom room))))
+
 -- the sums on the way to the sum of seven terms
 abbrev pub sum_way : Widths ℤ → List ℤ
 sum_way t =
@@ -80,12 +86,15 @@ abbrev pub MostHeightFits : BoxTree → World → Option ℤ → Option Length �
 MostHeightFits tree w around None = Unit {0}
 MostHeightFits tree w around (Some length) = HeightFits tree w around length
 
+-- to what a maximum and a minimum make of a box's height, that of the content too
+abbrev pub HeldFits : BoxTree → World → ℕ → Option ℤ → Type 0
+HeldFits tree w b around =
+    MostHeightFits tree w around (own tree b (λ (s : Style). s.max_height) None)
+    × (HeightFits tree w around (least_height tree b) × AllSmall (pos 0 ∷ []))
+
 -- to the height that a box's own property gives, held by its maximum and minimum
 abbrev pub OwnHeightFits : BoxTree → World → Option ℤ → ℕ → Type 0
-OwnHeightFits tree w around at =
-    HeightFits tree w around (own tree at (λ (s : Style). s.height) of_length.Auto)
-    × (MostHeightFits tree w around (own tree at (λ (s : Style). s.max_height) None)
-    × (HeightFits tree w around (least_height tree at) × AllSmall (pos 0 ∷ [])))
+OwnHeightFits tree w around at = HeightFits tree w around (own tree at (λ (s : Style). s.height) of_length.Auto) × HeldFits tree w at around
 
 -- to the height that percentages of a box's heights are of, up so many levels
 unfoldable pub DefiniteFits_to : ℕ → BoxTree → World → ℕ → ℕ → Type 0

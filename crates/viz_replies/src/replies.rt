@@ -11,7 +11,7 @@ use crate::certs::{CertRead, certificate_in};
 use crate::lines::{numbered_line, push_blamed, push_line, push_number};
 use crate::question::Question;
 use crate::reply::{Answer, Reply, line};
-use cert_check::{Reject, Verdict, check, is_low_rendering};
+use cert_check::{Reject, Verdict, check};
 use cert_text::{Cert, push_row, write_cert};
 use lay_flow::render_at;
 use lay_print::print;
@@ -62,7 +62,7 @@ fn violation(alloc: Global, job: &Job, world: World) -> Result<Reply, Mem>
     ensures { IfOk result (λ r. (r.answer ≡ Answer.Violated) × (r.output.items ≡ violation_text job.now world)) }
 {
     let rendering = render_at(alloc, world, &job.tree, job.height)?;
-    if u32::try_from(rendering.boxes.len()).is_err() || !is_low_rendering(&rendering) {
+    if u32::try_from(rendering.boxes.len()).is_err() {
         return Err(Mem);
     }
     let blamed = blame(alloc, &job.formula, &rendering, &world, job.height)?;

@@ -1,4 +1,4 @@
-use Rattle.std.proofs.Common.{◌≡◌, ◌<◌, ◌^◌, ℤ, IsTrue, sym, ap, ◌∙◌, arith}
+use Rattle.std.proofs.Common.{◌≡◌, ◌<◌, ◌^◌, ℤ, IsTrue, ap, ◌∙◌, arith}
 use Rattle.viz_base.specs.declared.renderings.Rendering.{Rendering}
 use Rattle.viz_calc.specs.Plain.{plain_state, plain_reading}
 use Rattle.logic_semantics.specs.Scenes.{scene_of}
@@ -6,15 +6,14 @@ use Rattle.logic_semantics.specs.Truth.{truth}
 use Rattle.vis_truth.specs.Scenes.{IsTame, scene_at}
 use Rattle.viz_calc.proofs.PlainLemmas.{open_reading, world-stays}
 use Rattle.vis_truth.proofs.PlainScenes.{never-halts, plain-tame, rendering-same}
-use Rattle.cert_check.proofs.Bounded.{low_rendering, narrow_world, sized_world}
+use Rattle.cert_check.proofs.Bounded.{narrow_world, rendering_bounded}
 use Rattle.cert_check.proofs.worlds.holds_at.Goals as goal
 
 pub unreachable-requires : goal.unreachable-requires
 unreachable-requires c =
     let job = c.args.job.now in
-    let bounded = low_rendering c.in_ok-rendering.rendering (sym c.is_low_rendering.ensures ∙ c.if-not-is_low_rendering.false) in
-    let sized = sized_world job c.args.world c.requires.in_range in
     let narrow = narrow_world job c.args.world c.requires.in_range in
+    let bounded = rendering_bounded c.in_ok-rendering.rendering c.in_ok-rendering.ensures.low in
     let same = c.new-calc.ensures in
     let wide : c.new-calc.result.world.w < 2 ^ 32 = rw same (omega arith) in
     never-halts c.new-calc.result.world c.truth.new.calc.world (IsTame (plain_state c.new-calc.result.world).is_open (λ n e. n) c.in_ok-rendering.rendering job.formula)
@@ -31,4 +30,4 @@ returns c =
     = ap (λ (r : Rendering ℤ). scene_of r c.new-calc.result.world job.height) (rendering-same e c.in_ok-rendering.rendering) in
     value ∙ ap (λ s. truth s job.formula) as_is
     ∙ ap (λ w. truth (scene_of c.in_ok-rendering.rendering w job.height) job.formula) c.new-calc.ensures
-    ∙ ap (λ r. truth (scene_of r c.args.world job.height) job.formula) (c.in_ok-rendering.ensures)
+    ∙ ap (λ r. truth (scene_of r c.args.world job.height) job.formula) c.in_ok-rendering.ensures.value

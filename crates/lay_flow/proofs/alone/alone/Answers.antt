@@ -3,7 +3,7 @@ use Rattle.viz_calc.specs.World.{Reading}
 use Rattle.viz_calc.proofs.Runs.{Goes-then}
 use Rattle.layout_semantics.specs.FlowBoxes.{is_replaced_at}
 use Rattle.lay_preferred.proofs.Founds.{found-later}
-use Rattle.lay_block.specs.steps.Readings.{frame_at}
+use Rattle.lay_frame.specs.Readings.{frame_at}
 use Rattle.lay_flow.specs.Readings.{alone_at, apart_at}
 use Rattle.layout_semantics.specs.Rectangles.{Frame}
 use Rattle.lay_flow.specs.AloneFits.{AloneFits, RootFits}

@@ -5,7 +5,7 @@ use Rattle.layout_semantics.specs.FlowBoxes.{content_from}
 use Rattle.layout_semantics.specs.Rectangles.{content_top}
 use Rattle.flow_limits.specs.Bounds.{IsQuadIn}
 use Rattle.flow_steps.specs.Flow.{fresh}
-use Rattle.lay_block.specs.steps.Readings.{frame_at}
+use Rattle.lay_frame.specs.Readings.{frame_at}
 use Rattle.lay_float.specs.Readings.{stretch_at}
 use Rattle.lay_flow.specs.AloneFits.{RootFits}
 use Rattle.lay_flow.specs.Fits.{IsNear, near}
@@ -29,7 +29,7 @@ returns-clause-cause g c =
     let apart = (λ (e : Reading). apart_at at page.apart.now e) in
     let asks = (λ (e : Reading). RootFits tree e.world page.height (apart e) b (f e)) in
     let left = c.zero-left.ensures in
-    let band = c.content_band-band.ensures in
+    let band = c.content_between-band.ensures in
     let top = c.content_top-top.ensures in
     let own = c.fresh-context.ensures in
     let kept = c.keep-place.ensures in
@@ -41,7 +41,7 @@ returns-clause-cause g c =
     band-fits (at c.zero-left.result e) (f e).x (subst (λ (z : ℤ). IsAsideLow z) (sym (left.value e o)) (zero-small (2 ^ 90))) (a e o).frame.x) in
     let three = more_at two top.goes top.cause (λ a e o. top-fits (f e) (a e o).frame) in
     let four = more_at three own.goes own.cause (λ a e o. subst IsNear (sym (top.value e o)) (top-near (f e) (a e o).frame)) in
-    let five = more four kept.goes kept.cause (λ a e o. kept-fits tree e.world (f e) (a.1 e o).frame) in
+    let five = more four kept.goes kept.cause (λ a e o. kept-fits (f e) (a.1 e o).frame) in
     let band-is = (λ (e : Reading) (o : IsTrue ((g.S.Steady.run c.keep-place.new.calc).is_open e)).
     let o1 = top.goes.closes e (own.goes.closes e (kept.goes.closes e o)) in
     band.value e o1 ∙ ap (λ (z : ℤ). content_from z (f e).x) (left.value e (band.goes.closes e o1))) in
@@ -50,12 +50,12 @@ returns-clause-cause g c =
     let six = more five inside.goes inside.cause (λ a. (
       a.0,
       λ e o.
-          content-moved tree e.world page.height (apart e) b (stretch_at at c.content_band-band.result e) (content_from (pos 0) (f e).x) (at c.content_top-top.result e) (content_top (f e)) (context_at at c.fresh-context.result e) (fresh (content_top (f e)))
+          content-moved tree e.world page.height (apart e) b (stretch_at at c.content_between-band.result e) (content_from (pos 0) (f e).x) (at c.content_top-top.result e) (content_top (f e)) (context_at at c.fresh-context.result e) (fresh (content_top (f e)))
           (band-is e o) (top-is e o) (own-is e o) (a.1 e o).inside,
     )) in
     let end-is = (λ (e : Reading) (o : IsTrue ((g.S.Steady.run c.content.new.calc).is_open e)).
     inside.context e o
-    ∙ end-moved tree e.world page.height (apart e) b (stretch_at at c.content_band-band.result e) (content_from (pos 0) (f e).x) (at c.content_top-top.result e) (content_top (f e)) (context_at at c.fresh-context.result e) (fresh (content_top (f e)))
+    ∙ end-moved tree e.world page.height (apart e) b (stretch_at at c.content_between-band.result e) (content_from (pos 0) (f e).x) (at c.content_top-top.result e) (content_top (f e)) (context_at at c.fresh-context.result e) (fresh (content_top (f e)))
     (band-is e (inside.goes.closes e o)) (top-is e (inside.goes.closes e o)) (own-is e (inside.goes.closes e o))) in
     let seven = more_at six placed.goes placed.cause (λ a e o.
     let x = a e o in (x.own_height, (x.frame, subst IsContextLow (sym (end-is e o)) x.end))) in

@@ -2,7 +2,7 @@ use Rattle.std.proofs.Common.{◌^◌, ℤ, sym, subst, arith}
 use Rattle.viz_base.specs.declared.renderings.Placed.{Placed}
 use Rattle.viz_calc.specs.World.{Reading}
 use Rattle.layout_semantics.specs.Replaced.{replaced_size}
-use Rattle.lay_block.specs.steps.Readings.{frame_at}
+use Rattle.lay_frame.specs.Readings.{frame_at}
 use Rattle.lay_line.proofs.Chains.{start_but_mem, next_but_mem, but_mem}
 use Rattle.flow_limits.specs.Bounds.{IsQuadIn}
 use Rattle.lay_flow.specs.Low.{IsFrameLow}

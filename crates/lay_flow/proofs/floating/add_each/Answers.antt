@@ -7,7 +7,7 @@ use Rattle.viz_calc.specs.World.{Reading}
 use Rattle.viz_calc.specs.Renderings.{placed_at}
 use Rattle.viz_calc.proofs.Runs.{Goes-then}
 use Rattle.layout_semantics.specs.Rectangles.{shifted, shifted_box}
-use Rattle.lay_block.specs.steps.Readings.{boxes_at}
+use Rattle.lay_frame.specs.Readings.{boxes_at}
 use Rattle.lay_float.specs.Readings.{spot_at}
 use Rattle.lay_line.proofs.Chains.{ChainButMem, next_but_mem, but_mem}
 use Rattle.lay_line.proofs.Found.{all-here, all-from}

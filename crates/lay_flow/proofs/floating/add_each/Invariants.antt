@@ -6,7 +6,7 @@ use Rattle.flow_limits.specs.Bounds.{IsPlacedIn}
 use Rattle.lay_flow.specs.Low.{reach}
 use Rattle.lay_flow.specs.Fits.{IsSpotNear}
 use Rattle.layout_semantics.specs.Rectangles.{shifted}
-use Rattle.lay_block.specs.steps.Readings.{boxes_at}
+use Rattle.lay_frame.specs.Readings.{boxes_at}
 use Rattle.lay_float.specs.Readings.{spot_at}
 use Rattle.lay_flow.proofs.floating.add_each.Given as goal
 

@@ -1,7 +1,7 @@
 use Rattle.std.proofs.Common.{◌^◌, IsTrue, ap, sym, subst, ◌∙◌, arith}
 use Rattle.viz_calc.specs.World.{Reading}
 use Rattle.layout_semantics.specs.DefiniteHeights.{held_height}
-use Rattle.lay_block.specs.steps.Readings.{frame_at}
+use Rattle.lay_frame.specs.Readings.{frame_at}
 use Rattle.lay_width.specs.Readings.{option_at}
 use Rattle.lay_line.proofs.Chains.{Chain, start, next}
 use Rattle.flow_limits.specs.Inline.{IsSmall}

@@ -1,8 +1,8 @@
 use Rattle.std.proofs.Common.{◌^◌, ℤ, sym, subst, arith}
 use Rattle.viz_calc.specs.World.{Reading}
 use Rattle.layout_semantics.specs.Replaced.{replaced_size}
-use Rattle.lay_block.specs.Fitting.{PlaceFits}
-use Rattle.lay_block.specs.steps.Readings.{frame_at}
+use Rattle.lay_frame.specs.Fitting.{PlaceFits}
+use Rattle.lay_frame.specs.Readings.{frame_at}
 use Rattle.lay_line.proofs.Chains.{start, next}
 use Rattle.lay_flow.specs.Low.{IsFrameLow}
 use Rattle.lay_flow.specs.Fits.{IsReplacedFit}

@@ -4,7 +4,7 @@ use Rattle.viz_calc.specs.Run.{Goes, BlamesButMem}
 use Rattle.std.specs.List.{AllByRecursion}
 use Rattle.lay_flow.specs.Low.{AreApartLow}
 use Rattle.lay_flow.specs.Fits.{IsEntryLow}
-use Rattle.lay_block.specs.steps.Readings.{boxes_at}
+use Rattle.lay_frame.specs.Readings.{boxes_at}
 use Rattle.lay_line.specs.Readings.{entries_at}
 use Rattle.lay_flow.specs.Readings.{apart_at}
 use Rattle.lay_flow.specs.steps.Flow.{entry_of}

@@ -1,7 +1,7 @@
 use Rattle.std.proofs.Common.{IsTrue, ◌++◌, fold, flat_map, ap, sym, subst, ◌∙◌}
 use Rattle.viz_calc.proofs.Runs.{Goes-then}
 use Rattle.layout_semantics.specs.Flow.{raised}
-use Rattle.lay_block.specs.steps.Readings.{boxes_at}
+use Rattle.lay_frame.specs.Readings.{boxes_at}
 use Rattle.lay_float.specs.Readings.{stretch_at, option_at}
 use Rattle.lay_line.specs.Readings.{entries_at}
 use Rattle.flow_steps.specs.Flow.{line_tops}

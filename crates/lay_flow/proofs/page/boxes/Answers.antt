@@ -2,8 +2,8 @@ use Rattle.std.proofs.Common.{◌≡◌, ◌<◌, ◌↔◌, Bool, false, IsTrue
 use Rattle.viz_base.specs.declared.renderings.Placed.{Placed}
 use Rattle.viz_base.specs.declared.trees.BoxNode.{BoxNode}
 use Rattle.viz_calc.proofs.Runs.{Goes-then}
-use Rattle.lay_block.specs.steps.Readings.{boxes_at}
-use Rattle.lay_block.proofs.Slots.{no_boxes}
+use Rattle.lay_frame.specs.Readings.{boxes_at}
+use Rattle.lay_frame.proofs.Slots.{no_boxes}
 use Rattle.lay_preferred.proofs.Founds.{found-later}
 use Rattle.std.specs.Prelude.{Option, ◌*◌, pos, ℤ}
 use Rattle.viz_calc.specs.World.{Reading}

@@ -2,8 +2,10 @@ use Rattle.std.proofs.Common.{ℤ, List, map, ap, sym, ◌∙◌}
 use Rattle.viz_base.specs.declared.renderings.Placed.{Placed}
 use Rattle.viz_base.specs.declared.renderings.Rendering.{Rendering}
 use Rattle.viz_calc.specs.Renderings.{placed_at}
-use Rattle.lay_block.specs.steps.Readings.{boxes_at}
+use Rattle.lay_frame.specs.Readings.{boxes_at}
+use Rattle.lay_margin.proofs.Blamed.{ButMem-given}
 use Rattle.flow_steps.proofs.Tables.{page-same}
+use Rattle.lay_flow.proofs.PageLimits.{within-limits-fits}
 use Rattle.lay_flow.proofs.page.render.Goals as goal
 
 pub returns-clause-value : goal.returns-clause-value
@@ -14,3 +16,9 @@ returns-clause-value g c = λ e o.
     (ap (map (λ p. placed_at at p e)) c.from-boxes.ensures
     ∙ c.boxes.ensures.value e o
     ∙ sym (page-same c.args.tree.now e.world c.args.height))
+
+pub returns-clause-cause : goal.returns-clause-cause
+returns-clause-cause g c =
+    let run = g.S.Steady.run in
+    let start = run c.args.calc.now in
+    ButMem-given start (run c.boxes.new.calc) _ _ (within-limits-fits c.args.tree.now c.args.height start.is_open) c.boxes.ensures.cause

@@ -1,5 +1,5 @@
 use Rattle.viz_calc.specs.World.{Reading}
-use Rattle.lay_block.specs.steps.Readings.{frame_at}
+use Rattle.lay_frame.specs.Readings.{frame_at}
 use Rattle.lay_line.proofs.Chains.{start, next}
 use Rattle.lay_flow.specs.Low.{IsFrameLow}
 use Rattle.lay_flow.proofs.Sizes.{level-fits, level-near, aside-near, near-difference}

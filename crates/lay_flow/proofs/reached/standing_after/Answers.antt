@@ -1,7 +1,7 @@
 use Rattle.std.proofs.Common.{sym, subst}
 use Rattle.viz_calc.specs.World.{Reading}
 use Rattle.layout_semantics.specs.FlowBoxes.{across}
-use Rattle.lay_block.specs.Fitting.{VerticalsFit}
+use Rattle.lay_width.specs.Fitting.{VerticalsFit}
 use Rattle.lay_float.specs.Readings.{stretch_at}
 use Rattle.lay_line.proofs.Chains.{start, next}
 use Rattle.lay_margin.specs.Runs.{run_at}

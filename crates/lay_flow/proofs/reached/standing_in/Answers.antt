@@ -1,6 +1,6 @@
 use Rattle.std.proofs.Common.{sym, subst}
 use Rattle.viz_calc.specs.World.{Reading}
-use Rattle.lay_block.specs.steps.Readings.{frame_at}
+use Rattle.lay_frame.specs.Readings.{frame_at}
 use Rattle.lay_line.proofs.Chains.{start, next}
 use Rattle.lay_flow.specs.Low.{IsFrameLow}
 use Rattle.lay_flow.specs.Fits.{IsNear}

@@ -7,7 +7,7 @@ use Rattle.layout_semantics.specs.Flow.{Cleared, Reached}
 use Rattle.layout_semantics.specs.FlowBoxes.{content_from, is_context_root, is_replaced_at}
 use Rattle.layout_semantics.specs.InlineContent.{has_line, holds_inline, is_floated_at}
 use Rattle.layout_semantics.specs.Rectangles.{Frame, content_top}
-use Rattle.lay_block.specs.steps.Readings.{boxes_at, frame_at}
+use Rattle.lay_frame.specs.Readings.{boxes_at, frame_at}
 use Rattle.lay_float.specs.Readings.{stretch_at}
 use Rattle.lay_margin.proofs.Kids.{flow-kids}
 use Rattle.lay_margin.specs.declared.runs.Run.{Run}
@@ -18,12 +18,12 @@ use Rattle.lay_flow.specs.Low.{IsContextLow, IsFrameLow, IsLevelLow, IsRunLow}
 use Rattle.lay_flow.specs.WalkFits.{WalkFits, before_content, before_children, before_child, before_flow, when_reached, when_starting, when_going_on}
 use Rattle.lay_flow.specs.steps.Flow.{block_of, child_of, children_of, laid_of, opened, root_of, standing_after, standing_in}
 use Rattle.lay_flow.specs.Readings.{apart_at, context_at, laid_with, met_at, standing_at, cleared_at, without_boxes}
-use Rattle.lay_flow.proofs.Around.{across-fits, band-fits, kept-fits, level-fits}
+use Rattle.lay_flow.proofs.Around.{across-fits, band-fits, kept-fits}
 use Rattle.lay_flow.proofs.ContentCases.{by-lines, by-children}
 use Rattle.lay_flow.proofs.Framed.{top-fits, top-near}
 use Rattle.lay_flow.proofs.Givens.{boxes-later, first, first_at, more, more_at}
 use Rattle.lay_flow.proofs.KidSteps.{kids-next}
-use Rattle.lay_flow.proofs.Sizes.{zero-fits}
+use Rattle.lay_flow.proofs.Sizes.{zero-fits, level-fits}
 use Rattle.lay_flow.proofs.Walks.{content-walk, kid-walk, child-walk, flow-walk, laid-walk, start-walk, go-on-walk, content-moved, end-moved}
 use Rattle.lay_flow.proofs.WalkSteps.{flow-context}
 use Rattle.lay_flow.proofs.walk.+flow.Goals as goal
@@ -117,7 +117,7 @@ lay_context-returns-clause-cause g t c =
     let apart = (λ (e : Reading). apart_at at page.apart.now e) in
     let asks = (λ (e : Reading). WalkFits tree e.world page.height (apart e) (when_starting (cb e) (s e) b (f e))) in
     let at_start = (λ (e : Reading) (w : asks e). start-walk tree e.world page.height (apart e) (cb e) (s e) b (f e) w) in
-    let band = c.content_band-band.ensures in
+    let band = c.content_between-band.ensures in
     let top = c.content_top-top.ensures in
     let own = c.fresh-own.ensures in
     let kept = c.keep-place.ensures in
@@ -126,19 +126,19 @@ lay_context-returns-clause-cause g t c =
     let one = first_at {tree = tree} {asks = asks} band.goes band.cause (λ a e o. let x = (at_start e (a e o)).around in band-fits (cb e).left (f e).x x.left x.frame.x) in
     let two = more_at one top.goes top.cause (λ a e o. top-fits (f e) (at_start e (a e o)).around.frame) in
     let three = more_at two own.goes own.cause (λ a e o. subst IsNear (sym (top.value e o)) (top-near (f e) (at_start e (a e o)).around.frame)) in
-    let four = more three kept.goes kept.cause (λ a e o. kept-fits tree e.world (f e) (at_start e (a.1 e o)).around.frame) in
+    let four = more three kept.goes kept.cause (λ a e o. kept-fits (f e) (at_start e (a.1 e o)).around.frame) in
     let band-is = (λ (e : Reading) (o : IsTrue ((g.S.Steady.run c.keep-place.new.calc).is_open e)). band.value e (top.goes.closes e (own.goes.closes e (kept.goes.closes e o)))) in
     let top-is = (λ (e : Reading) (o : IsTrue ((g.S.Steady.run c.keep-place.new.calc).is_open e)). top.value e (own.goes.closes e (kept.goes.closes e o))) in
     let own-is = (λ (e : Reading) (o : IsTrue ((g.S.Steady.run c.keep-place.new.calc).is_open e)). own.value e (kept.goes.closes e o) ∙ ap fresh (top-is e o)) in
     let five = more four inside.goes inside.cause (λ a. (
       a.0,
       λ e o.
-          content-moved tree e.world page.height (apart e) b (stretch_at at c.content_band-band.result e) (content_from (cb e).left (f e).x) (at c.content_top-top.result e) (content_top (f e)) (context_at at c.fresh-own.result e) (fresh (content_top (f e)))
+          content-moved tree e.world page.height (apart e) b (stretch_at at c.content_between-band.result e) (content_from (cb e).left (f e).x) (at c.content_top-top.result e) (content_top (f e)) (context_at at c.fresh-own.result e) (fresh (content_top (f e)))
           (band-is e o) (top-is e o) (own-is e o) (at_start e (a.1 e o)).around.inside,
     )) in
     let end-is = (λ (e : Reading) (o : IsTrue ((g.S.Steady.run c.content.new.calc).is_open e)).
     inside.context e o
-    ∙ end-moved tree e.world page.height (apart e) b (stretch_at at c.content_band-band.result e) (content_from (cb e).left (f e).x) (at c.content_top-top.result e) (content_top (f e)) (context_at at c.fresh-own.result e) (fresh (content_top (f e)))
+    ∙ end-moved tree e.world page.height (apart e) b (stretch_at at c.content_between-band.result e) (content_from (cb e).left (f e).x) (at c.content_top-top.result e) (content_top (f e)) (context_at at c.fresh-own.result e) (fresh (content_top (f e)))
     (band-is e (inside.goes.closes e o)) (top-is e (inside.goes.closes e o)) (own-is e (inside.goes.closes e o))) in
     let six = more_at five placed.goes placed.cause (λ a e o.
     let x = (at_start e (a e o)).around in (x.own_height, (x.frame, subst IsContextLow (sym (end-is e o)) x.end))) in
@@ -166,7 +166,7 @@ lay_block-returns-clause-cause g t c =
     let apart = (λ (e : Reading). apart_at at page.apart.now e) in
     let asks = (λ (e : Reading). WalkFits tree e.world page.height (apart e) (when_going_on (cb e) (s e) b (ahead e) (f e))) in
     let at_start = (λ (e : Reading) (w : asks e). go-on-walk tree e.world page.height (apart e) (cb e) (s e) b (ahead e) (f e) w) in
-    let band = c.content_band-band.ensures in
+    let band = c.content_between-band.ensures in
     let top = c.content_top-top.ensures in
     let standing = c.standing_in-standing.ensures in
     let begun = c.open.ensures in
@@ -178,19 +178,19 @@ lay_block-returns-clause-cause g t c =
     let two = more_at one top.goes top.cause (λ a e o. top-fits (f e) (at_start e (a e o)).around.frame) in
     let three = more_at two standing.goes standing.cause (λ a e o. (at_start e (a e o)).around.frame) in
     let four = more_at three begun.goes begun.cause (λ a e o. let x = at_start e (a e o) in (x.least, x.around.frame)) in
-    let five = more four kept.goes kept.cause (λ a e o. kept-fits tree e.world (f e) (at_start e (a.1 e o)).around.frame) in
+    let five = more four kept.goes kept.cause (λ a e o. kept-fits (f e) (at_start e (a.1 e o)).around.frame) in
     let band-is = (λ (e : Reading) (o : IsTrue ((g.S.Steady.run c.keep-place.new.calc).is_open e)). band.value e (top.goes.closes e (standing.goes.closes e (begun.goes.closes e (kept.goes.closes e o))))) in
     let top-is = (λ (e : Reading) (o : IsTrue ((g.S.Steady.run c.keep-place.new.calc).is_open e)). top.value e (standing.goes.closes e (begun.goes.closes e (kept.goes.closes e o)))) in
     let inner-is = (λ (e : Reading) (o : IsTrue ((g.S.Steady.run c.keep-place.new.calc).is_open e)). begun.value e (kept.goes.closes e o) ∙ ap (opened (s e) (f e)) (standing.value e (begun.goes.closes e (kept.goes.closes e o)))) in
     let six = more five inside.goes inside.cause (λ a. (
       a.0,
       λ e o.
-          content-moved tree e.world page.height (apart e) b (stretch_at at c.content_band-band.result e) (content_from (cb e).left (f e).x) (at c.content_top-top.result e) (content_top (f e)) (context_at at c.open.new.context e) (inner e)
+          content-moved tree e.world page.height (apart e) b (stretch_at at c.content_between-band.result e) (content_from (cb e).left (f e).x) (at c.content_top-top.result e) (content_top (f e)) (context_at at c.open.new.context e) (inner e)
           (band-is e o) (top-is e o) (inner-is e o) (at_start e (a.1 e o)).around.inside,
     )) in
     let end-is = (λ (e : Reading) (o : IsTrue ((g.S.Steady.run c.content.new.calc).is_open e)).
     inside.context e o
-    ∙ end-moved tree e.world page.height (apart e) b (stretch_at at c.content_band-band.result e) (content_from (cb e).left (f e).x) (at c.content_top-top.result e) (content_top (f e)) (context_at at c.open.new.context e) (inner e)
+    ∙ end-moved tree e.world page.height (apart e) b (stretch_at at c.content_between-band.result e) (content_from (cb e).left (f e).x) (at c.content_top-top.result e) (content_top (f e)) (context_at at c.open.new.context e) (inner e)
     (band-is e (inside.goes.closes e o)) (top-is e (inside.goes.closes e o)) (inner-is e (inside.goes.closes e o))) in
     let end-low = (λ (e : Reading) (o : IsTrue ((g.S.Steady.run c.content.new.calc).is_open e)) (a : asks e). subst IsContextLow (sym (end-is e o)) (at_start e a).around.end) in
     let seven = more_at six placed.goes placed.cause (λ a e o. let x = (at_start e (a e o)).around in (x.own_height, (x.frame, end-low e o (a e o)))) in

@@ -1,7 +1,7 @@
 use Rattle.std.proofs.Common.{◌≡◌, ◌-◌, ◌+◌, ◌*◌, ◌++◌, length, drop, IsTrue}
 use Rattle.viz_calc.specs.World.{Reading}
 use Rattle.viz_calc.specs.Run.{Goes, BlamesButMem}
-use Rattle.lay_block.specs.steps.Readings.{boxes_at}
+use Rattle.lay_frame.specs.Readings.{boxes_at}
 use Rattle.lay_float.specs.Readings.{stretch_at}
 use Rattle.lay_flow.specs.Readings.{apart_at, context_at}
 use Rattle.lay_flow.specs.steps.Flow.{children_of}

@@ -1,7 +1,7 @@
 use Rattle.std.proofs.Common.{◌^◌, ◌++◌, ap, sym, subst, ◌∙◌, IsTrue, arith}
 use Rattle.viz_calc.specs.World.{Reading}
 use Rattle.std.specs.Int.{int_max}
-use Rattle.lay_block.specs.steps.Readings.{boxes_at}
+use Rattle.lay_frame.specs.Readings.{boxes_at}
 use Rattle.layout_semantics.specs.Floats.{floating}
 use Rattle.lay_float.specs.Readings.{stretch_at, extent_at, spot_at, floats_at, option_at}
 use Rattle.lay_line.proofs.Chains.{start_but_mem, next_but_mem, but_mem}

@@ -4,8 +4,8 @@ use Rattle.std.specs.Prelude.{ℤ}
 use Rattle.viz_calc.specs.State.{AllSmall}
 use Rattle.viz_calc.specs.World.{Reading}
 use Rattle.layout_semantics.specs.Replaced.{replaced_size}
-use Rattle.lay_block.specs.Fitting.{border_of}
-use Rattle.lay_block.specs.steps.Readings.{frame_at}
+use Rattle.lay_frame.specs.Fitting.{border_of}
+use Rattle.lay_frame.specs.Readings.{frame_at}
 use Rattle.lay_float.specs.Readings.{option_at}
 use Rattle.lay_line.proofs.Chains.{start_but_mem, next_but_mem, but_mem}
 use Rattle.lay_flow.specs.Low.{AreLevelsLow, IsFrameLow}

@@ -1,4 +1,0 @@
-pub mod steps
-pub mod BlockPages
-pub mod Fitting
-pub mod FlowFitting

@@ -1,0 +1,59 @@
+-- What is computed of each box of a page within the limits fits.
+use Rattle.std.proofs.Common.{◌≡◌, ℕ, ◌^◌, ◌≤◌, true, ℤ, pos, ◌-ℤ◌, arith}
+use Rattle.std.specs.Prelude.{◌≤ℤ◌}
+use Rattle.std.specs.Int.{int_max}
+use Rattle.std.proofs.lemmas.Int.{ints, clamps}
+use Rattle.viz_base.specs.declared.layouts.Band.{Band}
+use Rattle.viz_base.specs.declared.trees.BoxTree.{BoxTree}
+use Rattle.viz_base.specs.declared.worlds.World.{World}
+use Rattle.layout_semantics.specs.Flow.{content_height}
+use Rattle.layout_semantics.specs.FlowBoxes.{across, is_replaced_at, room}
+use Rattle.layout_semantics.specs.Horizontal.{widths}
+use Rattle.layout_semantics.specs.Order.{IsOnPage}
+use Rattle.layout_semantics.specs.Verticals.{verticals}
+use Rattle.lay_margin.specs.Fitting.{BoxFits}
+use Rattle.flow_limits.specs.Boxes.{IsBoxSmall, IsHeightHeld, IsWhole}
+use Rattle.flow_limits.proofs.TermsWithin.{box-small}
+use Rattle.page_limits.proofs.WidthsLevels.{IsFarPage}
+use Rattle.page_limits.proofs.PageSmall.{properties-small}
+use Rattle.page_limits.proofs.FitsHeights.{given-fits, held-fits}
+use Rattle.page_limits.proofs.FitsBoxes.{widths-fit, down-fits, replaced-fits, by_width-fits, box-fits}
+use Rattle.lay_flow.specs.Fits.{IsHeightFit, IsReplacedFit, IsShapeFit}
+use Rattle.lay_flow.specs.Low.{IsBandLow}
+use Rattle.lay_flow.proofs.WalkLow.{sides-low, widths-low}
+
+held-low : (auto h : ℤ) → IsHeightHeld (2 ^ 42) auto h → IsHeightHeld (2 ^ 90) auto h
+held-low auto h held = by (2 ^ 42) (2 ^ 90) held.from held.to (omega arith)
+  where
+    by : (t u : ℕ) → (pos 0 -ℤ pos t) ≤ℤ h → h ≤ℤ int_max auto (pos t) → t ≤ u → IsHeightHeld u auto h
+    by t u from to l = record { from = omega (arith, ints, from, l); to = omega (arith, ints, clamps, to, l) }
+
+module _ (tree : BoxTree) (page : IsFarPage tree) (w : World) (small : w.s ≤ 256) (narrow : w.w ≤ 16384) (height : ℕ) (flat : height ≤ 16384) (k : ℕ) (on : IsOnPage tree.boxes k) (whole : IsWhole tree k) where
+  terms-small : IsBoxSmall tree w height (2 ^ 42) k
+  terms-small = box-small tree w height (2 ^ 42) k (properties-small tree page w small narrow height flat k on whole)
+
+  pub shape-fit : IsShapeFit tree w height k (room tree w height k)
+  shape-fit = record {
+    across = widths-fit tree page w small narrow height flat k on whole;
+    down = down-fits tree page w small narrow height flat k on whole;
+    widths = widths-low (2 ^ 42) (widths tree w height k (room tree w height k)) (omega arith) terms-small.widths;
+    sides = sides-low (2 ^ 42) (verticals tree w k (room tree w height k)) (omega arith) terms-small.sides;
+  }
+
+  pub height-fit : IsHeightFit tree w height k
+  height-fit = record {
+    given = given-fits tree page w small narrow height flat k on whole;
+    limits = held-fits tree page w small narrow height flat k on whole;
+    held = λ auto. held-low auto (content_height tree w height k auto) (terms-small.held auto);
+  }
+
+  pub replaced-fit : is_replaced_at tree k ≡ true → IsReplacedFit tree w height k (room tree w height k)
+  replaced-fit e = record {
+    own = height-fit;
+    width = replaced-fits tree page w small narrow height flat k on whole;
+    ratio = by_width-fits tree page w small narrow height flat k on whole;
+    tall = let l = terms-small.replaced in omega (arith, l);
+  }
+
+  pub lead-fit : (cb : Band ℤ) → across cb ≡ room tree w height k → IsBandLow cb → BoxFits tree w cb k
+  lead-fit cb same low = box-fits tree page w small narrow height flat k on whole cb same low.left low.right
