@@ -15,8 +15,7 @@ use viz_base::{Job, Mem};
 
 /// The verdict on a certificate for a job, whoever made it. A certificate is accepted only where it is right for the
 /// job, and the job holds then. One without leaves whose numbers stay in `i128` is accepted exactly where it is right,
-/// and those of unit splits and grids do. The only fault is want of memory; at a grid's world a coordinate past 2^70,
-/// which no page is known to have, would be told as such too.
+/// and those of unit splits and grids do. The only fault is want of memory.
 ///
 /// Each leaf takes one layout of the page, and so does each world of a grid's path; each line of a derivation is
 /// checked once. The call goes as deep as the certificate's defs and splits stand in one another.
