@@ -23,7 +23,7 @@ subscript = page (2 ∷ [])
 abbrev pub words_that_stay : PlainTree
 words_that_stay = page (2 ∷ [])
     (block_box 2 1 (3 ∷ []) ∷ text_box 3 2 (codes "aaaa aaaa") ∷ [])
-    (record block_style { width = px 40; wraps = false } ∷ record block_style { wraps = false } ∷ [])
+    (record block_style { width = px 40; wraps = false } ∷ record block_style { width = px 40; wraps = false } ∷ [])
 
 -- two letters of a font whose `b` is as wide as the font size
 abbrev pub wide_letter : PlainTree
