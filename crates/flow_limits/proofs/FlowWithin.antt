@@ -23,11 +23,11 @@ use Rattle.layout_semantics.specs.Order.{IsOnPage}
 use Rattle.layout_semantics.specs.Rectangles.{Frame, content_top, placed_box}
 use Rattle.layout_semantics.specs.Replaced.{replaced_size}
 use Rattle.layout_semantics.specs.Verticals.{verticals}
+use Rattle.layout_semantics.specs.Clearance.{Base, hangs, stands}
 use Rattle.layout_laws.proofs.Levels.{All-append}
 use Rattle.lay_margin.specs.declared.runs.Run.{Run}
 use Rattle.lay_margin.specs.Runs.{no_run, with_margin, collapse}
 use Rattle.lay_margin.specs.steps.Leads.{margin_below}
-use Rattle.flow_steps.specs.Runs.{Base, hangs, stands}
 use Rattle.flow_steps.specs.Forward.{Found, End, goes_on, solid, cleared, cleared_of}
 use Rattle.flow_steps.specs.Flow.{Standing, at_top, below, Context, Step, step, Laid, fresh, next_edge, children, frame_at, replaced_box, context_box, block_box, size_of, float_child, run_forward, reached_at, reached, opened, closed, laid_replaced, laid_context, laid_block, laid, own_run, standing_after, flow_child, child, is_at_top, context_height, block_height, joined_run}
 use Rattle.flow_steps.proofs.Sound.{IsSound, IsFlowKid}

@@ -9,7 +9,7 @@ use Rattle.viz_base.specs.declared.layouts.Extent.{Extent}
 use Rattle.viz_base.specs.declared.layouts.Waiting.{Waiting}
 use Rattle.viz_base.specs.declared.trees.BoxTree.{BoxTree}
 use Rattle.viz_base.specs.declared.worlds.World.{World}
-use Rattle.layout_semantics.specs.Clearance.{with_waiting}
+use Rattle.layout_semantics.specs.Clearance.{Base, hangs, stands, with_waiting}
 use Rattle.layout_semantics.specs.Floats.{FloatBox, floating, with_float, lowest_bottom}
 use Rattle.layout_semantics.specs.FlowBoxes.{clear_of, may_collapse_through, flow_children, across}
 use Rattle.layout_semantics.specs.Horizontal.{flow_widths}
@@ -23,7 +23,7 @@ use Rattle.layout_laws.proofs.LeadLevels.{children-from}
 use Rattle.lay_margin.specs.declared.runs.Run.{Run}
 use Rattle.lay_margin.specs.Runs.{with_margin, collapse}
 use Rattle.lay_margin.specs.steps.Leads.{enters, stops, inner_band, margin_above, margin_below}
-use Rattle.flow_steps.specs.Runs.{Base, hangs, stands, edge_at}
+use Rattle.flow_steps.specs.Runs.{edge_at}
 use Rattle.flow_steps.specs.Forward.{End, goes_on, solid, cleared, Found, found, then_on, decided_found, closed_found, passed_box, kid_of, bottom_to_clear, clear_edge, is_to_clear, forward_to}
 use Rattle.flow_steps.proofs.LeadCases.{found-float, found-flow, closed-through, closed-stops, way_to, kids_way, inner_way, decision, entered, way-stops, way-enters}
 use Rattle.flow_steps.proofs.Sound.{IsFlowKid, enters-no-line, lead-sound}

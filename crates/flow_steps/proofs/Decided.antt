@@ -13,6 +13,7 @@ use Rattle.layout_semantics.specs.Floats.{FloatBox}
 use Rattle.layout_semantics.specs.FlowBoxes.{clear_of, may_collapse_through, flow_children}
 use Rattle.layout_semantics.specs.InlineContent.{is_floated_at}
 use Rattle.layout_semantics.specs.Leads.{clears_something, is_up_to}
+use Rattle.layout_semantics.specs.Clearance.{Base}
 use Rattle.layout_laws.proofs.Levels.{IsFrom, All-implied}
 use Rattle.layout_laws.proofs.LeadLevels.{children-from}
 use Rattle.lay_margin.specs.declared.runs.Run.{Run}
@@ -20,7 +21,6 @@ use Rattle.lay_margin.specs.Runs.{with_margin}
 use Rattle.lay_margin.specs.steps.Leads.{Going, ending, through, going_on, passed_kid, ended_by, enters, stops, inner_band, margin_above, margin_below, lead_to}
 use Rattle.lay_margin.specs.steps.Leads.{kid_of as lead_kid}
 use Rattle.flow_steps.specs.Order.{next_of, is_before_to}
-use Rattle.flow_steps.specs.Runs.{Base}
 use Rattle.flow_steps.specs.Forward.{goes_on, solid, Found, found, then_on, decided_found, closed_found, passed_box, kid_of, forward_to}
 use Rattle.flow_steps.proofs.LeadCases.{on-through, on-solid, on-cleared, kid-float, kid-flow, ended-through, ended-stops, ended-solid, ended-cleared, kids_lead, inner_lead, lead-stops, lead-solid, lead-inside, found-float, found-flow, closed-through, closed-stops, way_to, kids_way, inner_way, decision, entered, way-stops, way-enters}
 use Rattle.flow_steps.proofs.LeadEnds.{InOrder, children-order, stops-open, EndsBefore, ended-ends, kid-ends, kids-ends, lead-ends}

@@ -32,8 +32,7 @@ use Rattle.layout_semantics.specs.Leads.{lead as landed_lead}
 use Rattle.layout_semantics.specs.Lengths.{own}
 use Rattle.layout_semantics.specs.LineHeights.{InlineContext}
 use Rattle.layout_semantics.specs.Lines.{LineList, lines_in}
-use Rattle.layout_semantics.specs.Clearance.{resolve}
-use Rattle.layout_semantics.specs.Margins.{collapsed}
+use Rattle.layout_semantics.specs.Clearance.{Base, hangs, stands, resolve}
 use Rattle.layout_semantics.specs.Flow as landed
 use Rattle.layout_semantics.specs.Flow.{Cleared, Alone, Reached, Progress, raised, content_height}
 use Rattle.layout_laws.proofs.Levels.{IsFrom, All-implied, map-same}
@@ -45,7 +44,7 @@ use Rattle.lay_margin.specs.Runs.{no_run, with_margin, collapse, joined_all}
 use Rattle.lay_margin.specs.steps.Leads.{Going, lead_of, enters, inner_band, margin_below}
 use Rattle.lay_margin.proofs.Joined.{joined-run, lead-joined}
 use Rattle.flow_steps.specs.Order.{is_before}
-use Rattle.flow_steps.specs.Runs.{Base, hangs, stands, run_of}
+use Rattle.flow_steps.specs.Runs.{run_of}
 use Rattle.flow_steps.specs.Forward.{Found, goes_on, cleared_of, forward}
 use Rattle.flow_steps.specs.Progress.{squeezed, context_of}
 use Rattle.flow_steps.specs.Flow.{Standing, at_top, below, Context, fresh, Step, step, next_edge, is_at_top, Laid, context_height, block_height, joined_run, line_tops, after_lines, children, frame_at, corner_frame, context_box, block_box, whole, alone, size_of, float_placed, float_child, reached_at, reached, opened, closed, laid_context, laid_block, laid, run_forward, own_run, standing_after, child, inner_size, entry_boxes, line_content, content_step}
@@ -84,9 +83,9 @@ edge-same (landed.below edge run stuck) = refl
 -- a box that comes below a run of margins
 pub below-found : (tree : BoxTree) (w : World) (size : Waiting ℤ → Extent ℤ) (floats : List FloatBox) (least : Option ℤ) (k end : ℕ) → k < length tree.boxes → IsTrue (is_before tree.boxes k end)
     → (cb : Band ℤ) (edge : ℤ) (run : List ℤ)
-    → IsFoundBy (run_of run) (resolve tree w size (λ more. edge +ℤ collapsed (run ++ more)) cb floats least k none_passed) (forward tree w size (hangs edge) floats least none_passed cb k (run_of run))
+    → IsFoundBy (run_of run) (resolve tree w size (hangs edge) run cb floats least k none_passed) (forward tree w size (hangs edge) floats least none_passed cb k (run_of run))
 below-found tree w size floats least k end within order cb edge run =
-    resolve-found tree w size (hangs edge) floats least (λ more. edge +ℤ collapsed (run ++ more)) (run_of run) (λ more. ap (λ (r : Run ℤ). edge +ℤ collapse r) (run-append run more)) cb k end within order none_passed none-prefix
+    resolve-found tree w size (hangs edge) floats least run (run_of run) (λ more. ap (λ (r : Run ℤ). edge +ℤ collapse r) (run-append run more)) cb k end within order none_passed none-prefix
 
 module _ (tree : BoxTree) (w : World) (height : ℕ) where
   top-same : (s : landed.Standing) → landed.is_at_top tree w height s ≡ is_at_top (squeezed s)
@@ -227,10 +226,10 @@ module _ (tree : BoxTree) (w : World) (height : ℕ) where
 
     module _ (k end : ℕ) (within : k < length tree.boxes) (order : IsTrue (is_before tree.boxes k end)) where
       opened-same : (cb : Band ℤ) (p : Progress) (y : ℤ) → IsFine cb k
-          → (resolve tree w (landed.waiting_size tree w height inside) (λ more. y) cb p.floats p.least k (is_up_to k)).cleared
+          → (resolve tree w (landed.waiting_size tree w height inside) (stands y) [] cb p.floats p.least k (is_up_to k)).cleared
           ≡ cleared_of (forward tree w (size_of tree w height content apart) (stands y) p.floats p.least (is_up_to k) cb k no_run).end
       opened-same cb p y fine =
-          (resolve-found tree w (landed.waiting_size tree w height inside) (stands y) p.floats p.least (λ more. y) no_run (λ more. refl) cb k end within order (is_up_to k) (up-prefix k)).cleared
+          (resolve-found tree w (landed.waiting_size tree w height inside) (stands y) p.floats p.least [] no_run (λ more. refl) cb k end within order (is_up_to k) (up-prefix k)).cleared
           ∙ ap (λ (f : Found). cleared_of f.end) (size-same (stands y) p.floats p.least (is_up_to k) cb k no_run fine)
 
       at-same : (cb : Band ℤ) (p : Progress) (y : ℤ) (cleared : Cleared) → IsFine cb k
@@ -252,7 +251,7 @@ module _ (tree : BoxTree) (w : World) (height : ℕ) where
           by (landed.at_top y cleared) e = rw e (at-same cb p y cleared fine)
           by (landed.below edge run stuck) e =
               let size = landed.waiting_size tree w height inside in
-              let r = resolve tree w size (λ more. edge +ℤ collapsed (run ++ more)) cb p.floats p.least k none_passed in
+              let r = resolve tree w size (hangs edge) run cb p.floats p.least k none_passed in
               let found = below-found tree w size p.floats p.least k end within order cb edge run in
               rw e (at-same cb p (edge +ℤ collapse (run_of (run ++ r.margins))) r.cleared fine
               ∙ ap (λ (c : Cleared). reached_at tree w height content apart cb s k (edge +ℤ collapse (run_of (run ++ r.margins))) c) found.cleared

@@ -10,11 +10,11 @@ use Rattle.viz_base.specs.declared.worlds.World.{World}
 use Rattle.layout_semantics.specs.Floats.{FloatBox}
 use Rattle.layout_semantics.specs.FlowBoxes.{may_collapse_through, flow_children}
 use Rattle.layout_semantics.specs.InlineContent.{is_floated_at}
+use Rattle.layout_semantics.specs.Clearance.{Base}
 use Rattle.lay_margin.specs.declared.runs.Run.{Run}
 use Rattle.lay_margin.specs.Runs.{with_margin}
 use Rattle.lay_margin.specs.steps.Leads.{Going, ending, through, going_on, passed_kid, kids_going, closed_end, ended_by, enters, stops, inner_band, margin_above, lead_to}
 use Rattle.lay_margin.specs.steps.Leads.{kid_of as lead_kid}
-use Rattle.flow_steps.specs.Runs.{Base}
 use Rattle.flow_steps.specs.Forward.{goes_on, solid, Found, found, decided_found, closed_found, passed_box, kid_of, kids_found, decided, forward_to}
 
 -- ---- what goes on

@@ -11,12 +11,12 @@ use Rattle.layout_semantics.specs.Rectangles.{Frame, content_top}
 use Rattle.layout_semantics.specs.FlowBoxes.{is_replaced_at, is_context_root, is_open_above, flow_children, across, content_from}
 use Rattle.layout_semantics.specs.InlineContent.{is_floated_at, has_line}
 use Rattle.layout_semantics.specs.Flow.{Alone, Reached}
+use Rattle.layout_semantics.specs.Clearance.{Base}
 use Rattle.layout_laws.proofs.Levels.{IsFrom}
 use Rattle.layout_laws.proofs.LeadLevels.{children-from}
 use Rattle.lay_margin.specs.declared.runs.Run.{Run}
 use Rattle.lay_margin.specs.Runs.{no_run, with_margin}
 use Rattle.lay_margin.specs.steps.Leads.{inner_band, margin_above}
-use Rattle.flow_steps.specs.Runs.{Base}
 use Rattle.flow_steps.specs.Forward.{Found, found, goes_on, then_on, inside_found, passed_box, kid_of, kids_found, box_found, forward_step, forward_to}
 use Rattle.flow_steps.specs.Flow.{at_top, below, Context, fresh, Step, step, followed, children, frame_at, reached, opened, Laid, laid, own_run, standing_after, child, content_step, content_to, content_of}
 

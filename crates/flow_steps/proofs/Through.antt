@@ -10,13 +10,13 @@ use Rattle.viz_base.specs.declared.worlds.World.{World}
 use Rattle.layout_semantics.specs.Floats.{FloatBox}
 use Rattle.layout_semantics.specs.FlowBoxes.{may_collapse_through, flow_children}
 use Rattle.layout_semantics.specs.InlineContent.{is_floated_at}
+use Rattle.layout_semantics.specs.Clearance.{Base}
 use Rattle.layout_laws.proofs.Levels.{IsFrom}
 use Rattle.layout_laws.proofs.LeadLevels.{children-from}
 use Rattle.lay_margin.specs.declared.runs.Run.{Run}
 use Rattle.lay_margin.specs.Runs.{with_margin}
 use Rattle.lay_margin.specs.steps.Leads.{Going, through, enters, stops, inner_band, margin_above, margin_below, lead_to}
 use Rattle.lay_margin.specs.steps.Leads.{kid_of as lead_kid}
-use Rattle.flow_steps.specs.Runs.{Base}
 use Rattle.flow_steps.specs.Forward.{End, goes_on, solid, cleared, Found, found, then_on, decided_found, closed_found, passed_box, kid_of, forward_to}
 use Rattle.flow_steps.proofs.LeadCases.{on-through, kid-float, kid-flow, ended-through, kids_lead, inner_lead, lead-inside, found-float, found-flow, closed-through, closed-stops, way_to, kids_way, inner_way, decision, entered, way-stops, way-enters}
 use Rattle.flow_steps.proofs.Decided.{stops-not}

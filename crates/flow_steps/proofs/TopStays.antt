@@ -13,12 +13,12 @@ use Rattle.layout_semantics.specs.FlowBoxes.{is_replaced_at, is_context_root, is
 use Rattle.layout_semantics.specs.InlineContent.{is_floated_at, has_line}
 use Rattle.layout_semantics.specs.Flow.{Cleared, Alone, Reached}
 use Rattle.layout_semantics.specs.Leads.{none_passed, is_up_to}
+use Rattle.layout_semantics.specs.Clearance.{Base, hangs, stands}
 use Rattle.layout_laws.proofs.Levels.{IsFrom}
 use Rattle.layout_laws.proofs.LeadLevels.{children-from}
 use Rattle.lay_margin.specs.declared.runs.Run.{Run}
 use Rattle.lay_margin.specs.Runs.{no_run, with_margin, collapse}
 use Rattle.lay_margin.specs.steps.Leads.{enters, stops, inner_band, margin_above, margin_below}
-use Rattle.flow_steps.specs.Runs.{Base, hangs, stands}
 use Rattle.flow_steps.specs.Forward.{End, goes_on, solid, cleared, cleared_of, Found, found, then_on, decided_found, closed_found, kid_of, forward_to}
 use Rattle.flow_steps.specs.Flow.{Standing, at_top, below, Context, Step, is_at_top, children, frame_at, run_forward, reached_at, reached, opened, Laid, laid, own_run, standing_after, child, content_step, content_to}
 use Rattle.flow_steps.proofs.LeadCases.{found-float, found-flow, closed-through, way_to, kids_way, inner_way, decision, entered, way-stops, way-enters}

@@ -30,11 +30,11 @@ use Rattle.layout_semantics.specs.Horizontal.{widths}
 use Rattle.layout_semantics.specs.InlineContent.{is_floated_at, has_line, inner_boxes}
 use Rattle.layout_semantics.specs.Lines.{LineList}
 use Rattle.layout_semantics.specs.Flow.{Cleared, Alone, Reached, raised, content_height}
+use Rattle.layout_semantics.specs.Clearance.{Base, hangs, stands}
 use Rattle.lay_line.specs.steps.Laying.{lines_by_steps}
 use Rattle.lay_margin.specs.declared.runs.Run.{Run}
 use Rattle.lay_margin.specs.Runs.{no_run, with_margin, collapse}
 use Rattle.lay_margin.specs.steps.Leads.{margin_below}
-use Rattle.flow_steps.specs.Runs.{Base, hangs, stands}
 use Rattle.flow_steps.specs.Forward.{Found, cleared_of, forward}
 
 -- ---- how far the flow of a block container has come

@@ -11,11 +11,11 @@ use Rattle.layout_semantics.specs.Floats.{FloatBox, lowest_bottom}
 use Rattle.layout_semantics.specs.FlowBoxes.{clear_of, may_collapse_through, flow_children}
 use Rattle.layout_semantics.specs.InlineContent.{is_floated_at}
 use Rattle.layout_semantics.specs.Leads.{is_up_to}
-use Rattle.layout_semantics.specs.Clearance.{with_waiting}
+use Rattle.layout_semantics.specs.Clearance.{Base, with_waiting}
 use Rattle.lay_margin.specs.declared.runs.Run.{Run}
 use Rattle.lay_margin.specs.Runs.{with_margin}
 use Rattle.lay_margin.specs.steps.Leads.{enters, stops, margin_above, margin_below, inner_band, lead_of}
-use Rattle.flow_steps.specs.Runs.{Base, edge_at}
+use Rattle.flow_steps.specs.Runs.{edge_at}
 
 -- where it ends: the box's own bottom margin adjoins; at the content, the border or the padding of a box; or at a box that is
 -- cleared, with its border edge

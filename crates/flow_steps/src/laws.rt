@@ -1,15 +1,14 @@
-ghost use Rattle.std.specs.Prelude.{◌≡◌, ◌<◌, ◌++◌, ◌+ℤ◌, ℕ, ℤ, Bool, false, IsTrue, List, length, Option};
+ghost use Rattle.std.specs.Prelude.{◌≡◌, ◌<◌, ◌++◌, [], ℕ, ℤ, Bool, false, IsTrue, List, length, Option};
 ghost use Rattle.std.specs.List.{AllByRecursion};
 ghost use Rattle.viz_base.specs.Trees.{is_inline};
 ghost use Rattle.viz_base.specs.declared.layouts.Band.{Band};
 ghost use Rattle.viz_base.specs.declared.layouts.Extent.{Extent};
 ghost use Rattle.viz_base.specs.declared.layouts.Waiting.{Waiting};
 ghost use Rattle.layout_semantics.specs.Blocks.{kind_of};
-ghost use Rattle.layout_semantics.specs.Clearance.{resolve};
+ghost use Rattle.layout_semantics.specs.Clearance.{Base, hangs, stands, resolve};
 ghost use Rattle.layout_semantics.specs.Floats.{FloatBox};
 ghost use Rattle.layout_semantics.specs.Flow.{Alone, Progress, flow, whole_alone};
 ghost use Rattle.layout_semantics.specs.Leads.{is_up_to, none_passed};
-ghost use Rattle.layout_semantics.specs.Margins.{collapsed};
 ghost use Rattle.layout_semantics.specs.FlowBoxes.{room};
 ghost use Rattle.layout_semantics.specs.Order.{IsOnPage};
 ghost use Rattle.layout_semantics.specs.Page.{page_rendering};
@@ -19,7 +18,7 @@ ghost use Rattle.flow_steps.specs.Flow.{Context, content_of, content_step};
 ghost use Rattle.flow_steps.specs.Forward.{cleared_of, forward, forward_step, way};
 ghost use Rattle.flow_steps.specs.Order.{is_in_order};
 ghost use Rattle.flow_steps.specs.Progress.{context_of};
-ghost use Rattle.flow_steps.specs.Runs.{Base, hangs, stands, run_of};
+ghost use Rattle.flow_steps.specs.Runs.{run_of};
 ghost use Rattle.flow_steps.specs.Tables.{inside_of, laid_at, outside_of, page_boxes, table_to};
 
 use viz_base::{BoxTree, World};
@@ -35,15 +34,15 @@ pub fn boxes_stand_in_document_order(tree: &BoxTree)
 pub fn clearance_is_decided_on_the_way(tree: &BoxTree, world: World, at: usize)
     requires within { at < length tree.now.boxes }
     ensures margins { (size : Waiting ℤ → Extent ℤ) (edge : ℤ) (run : List ℤ) (cb : Band ℤ) (floats : List FloatBox)
-        (least : Option ℤ) → run_of (run ++ (resolve tree.now world size (λ more. edge +ℤ collapsed (run ++ more))
-        cb floats least at none_passed).margins)
+        (least : Option ℤ) → run_of (run ++ (resolve tree.now world size (hangs edge) run cb floats least at
+        none_passed).margins)
         ≡ (forward tree.now world size (hangs edge) floats least none_passed cb at (run_of run)).run }
     ensures cleared { (size : Waiting ℤ → Extent ℤ) (edge : ℤ) (run : List ℤ) (cb : Band ℤ) (floats : List FloatBox)
-        (least : Option ℤ) → (resolve tree.now world size (λ more. edge +ℤ collapsed (run ++ more)) cb floats least at
+        (least : Option ℤ) → (resolve tree.now world size (hangs edge) run cb floats least at
         none_passed).cleared
         ≡ cleared_of (forward tree.now world size (hangs edge) floats least none_passed cb at (run_of run)).end }
     ensures opened { (size : Waiting ℤ → Extent ℤ) (y : ℤ) (cb : Band ℤ) (floats : List FloatBox) (least : Option ℤ)
-        → (resolve tree.now world size (λ more. y) cb floats least at (is_up_to at)).cleared
+        → (resolve tree.now world size (stands y) [] cb floats least at (is_up_to at)).cleared
         ≡ cleared_of (forward tree.now world size (stands y) floats least (is_up_to at) cb at no_run).end }
 {}
 

@@ -10,12 +10,13 @@ use Rattle.viz_base.specs.declared.worlds.World.{World}
 use Rattle.viz_calc.specs.State.{IsSmall, AllSmall}
 use Rattle.layout_semantics.specs.FlowBoxes.{flow_children}
 use Rattle.layout_semantics.specs.InlineContent.{is_floated_at}
+use Rattle.layout_semantics.specs.Clearance.{Base, hangs, stands}
 use Rattle.lay_margin.specs.declared.runs.Run.{Run}
 use Rattle.lay_margin.specs.Fitting.{itself, inside}
 use Rattle.lay_margin.specs.Runs.{with_margin, collapse}
 use Rattle.lay_margin.specs.steps.Leads.{Going, going_on, kid_of, through, enters, stops, inner_band, margin_above, margin_below, lead_to}
 use Rattle.lay_margin.proofs.Fitted.{kids-fit}
-use Rattle.flow_steps.specs.Runs.{Base, hangs, stands, edge_at}
+use Rattle.flow_steps.specs.Runs.{edge_at}
 use Rattle.flow_steps.proofs.LeadCases.{kid-float, kid-flow, kids_lead, lead-stops, lead-solid, lead-inside}
 use Rattle.flow_limits.specs.Bounds.{all_around, IsLevelIn}
 use Rattle.lay_flow.specs.Low.{IsLevelLow, IsAsideLow, IsRunLow, IsBaseLow}

@@ -6,11 +6,11 @@ use Rattle.viz_base.specs.declared.trees.BoxTree.{BoxTree}
 use Rattle.viz_base.specs.declared.worlds.World.{World}
 use Rattle.layout_semantics.specs.Flow.{Alone, Reached, Cleared}
 use Rattle.layout_semantics.specs.Leads.{is_up_to, none_passed}
+use Rattle.layout_semantics.specs.Clearance.{hangs, stands}
 use Rattle.lay_margin.specs.declared.runs.Run.{Run}
 use Rattle.lay_margin.specs.Runs.{no_run, collapse}
 use Rattle.flow_steps.specs.Flow.{Standing, at_top, below, Context}
 use Rattle.flow_steps.specs.Forward.{Found, cleared_of}
-use Rattle.flow_steps.specs.Runs.{hangs, stands}
 use Rattle.lay_flow.specs.steps.Flow.{forward_of, reached_from, reached_of}
 
 module _ (tree : BoxTree) (w : World) (apart : ℕ → Alone) (cb : Band ℤ) (s : Context) (b : ℕ) where

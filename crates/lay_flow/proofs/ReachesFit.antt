@@ -14,12 +14,12 @@ use Rattle.layout_semantics.specs.FlowBoxes.{across}
 use Rattle.layout_semantics.specs.InlineContent.{is_floated_at}
 use Rattle.layout_semantics.specs.Leads.{is_up_to, none_passed}
 use Rattle.layout_semantics.specs.Order.{IsOnPage}
+use Rattle.layout_semantics.specs.Clearance.{Base, hangs, stands}
 use Rattle.lay_margin.specs.declared.runs.Run.{Run}
 use Rattle.lay_margin.specs.Fitting.{BoxFits}
 use Rattle.lay_margin.specs.Runs.{no_run, collapse}
 use Rattle.flow_steps.specs.Flow.{Standing, at_top, below, Context}
 use Rattle.flow_steps.specs.Forward.{End, Found, goes_on, solid, cleared, cleared_of}
-use Rattle.flow_steps.specs.Runs.{Base, hangs, stands}
 use Rattle.flow_steps.proofs.Sound.{IsFlowKid}
 use Rattle.flow_limits.specs.Bounds.{Bounds, AreInside, grown, all_around, IsLevelIn, IsBandIn, IsFloatIn}
 use Rattle.flow_limits.specs.Boxes.{IsWhole, IsBoxSmall, IsAloneIn}

@@ -11,13 +11,13 @@ use Rattle.layout_semantics.specs.Leads.{is_up_to, none_passed}
 use Rattle.layout_semantics.specs.LineHeights.{InlineContext}
 use Rattle.layout_semantics.specs.Lines.{LineList}
 use Rattle.layout_semantics.specs.Lists.{table_of}
+use Rattle.layout_semantics.specs.Clearance.{hangs, stands}
 use Rattle.lay_line.proofs.Lays.{lines-are}
 use Rattle.lay_margin.specs.declared.runs.Run.{Run}
 use Rattle.lay_margin.specs.Runs.{no_run, collapse}
 use Rattle.flow_steps.specs.Flow as flow
 use Rattle.flow_steps.specs.Flow.{Standing, at_top, below, Context, Step, step, Laid, after_lines, children, followed}
 use Rattle.flow_steps.specs.Forward.{Found, cleared_of}
-use Rattle.flow_steps.specs.Runs.{hangs, stands}
 use Rattle.flow_steps.proofs.Levels.{content-is}
 use Rattle.lay_flow.specs.steps.Flow as named
 use Rattle.lay_flow.specs.steps.Walk as walk

@@ -6,9 +6,9 @@ use Rattle.viz_base.specs.declared.layouts.Band.{Band}
 use Rattle.viz_base.specs.declared.layouts.Waiting.{Waiting}
 use Rattle.layout_semantics.specs.Flow.{Alone, Cleared}
 use Rattle.layout_semantics.specs.Rectangles.{Frame}
+use Rattle.layout_semantics.specs.Clearance.{Base, hangs, stands}
 use Rattle.lay_margin.specs.declared.runs.Run.{Run}
 use Rattle.flow_steps.specs.Flow.{Standing, at_top, below, Context}
-use Rattle.flow_steps.specs.Runs.{Base, hangs, stands}
 use Rattle.flow_limits.specs.Bounds.{Bounds, all_around, IsLevelIn, IsAsideIn, IsBandIn, IsExtentIn, IsFloatIn, IsPlacedIn}
 use Rattle.flow_limits.specs.Boxes.{AreWidthsSmall, AreSidesSmall}
 

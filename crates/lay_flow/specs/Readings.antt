@@ -8,7 +8,7 @@ use Rattle.lay_margin.specs.Runs.{run_at}
 use Rattle.lay_frame.specs.Readings.{boxes_at}
 use Rattle.flow_steps.specs.Flow as steps
 use Rattle.flow_steps.specs.Forward as forward
-use Rattle.flow_steps.specs.Runs as runs
+use Rattle.layout_semantics.specs.Clearance as clearance
 use Rattle.flow_steps.specs.Tables.{laid_at}
 use Rattle.lay_flow.specs.declared.parts.Cleared.{Cleared as ClearedBox}
 use Rattle.lay_flow.specs.declared.parts.Standing.{Standing}
@@ -56,9 +56,9 @@ apart_at at table e = laid_at (table_at at table e)
 
 -- ---- the way forward
 
-abbrev pub base_at : {N : Type 0} → (N → Reading → ℤ) → Base N → Reading → runs.Base
-base_at at (Hangs edge) e = runs.hangs (at edge e)
-base_at at (Stands edge) e = runs.stands (at edge e)
+abbrev pub base_at : {N : Type 0} → (N → Reading → ℤ) → Base N → Reading → clearance.Base
+base_at at (Hangs edge) e = clearance.hangs (at edge e)
+base_at at (Stands edge) e = clearance.stands (at edge e)
 
 abbrev pub end_at : {N : Type 0} → (N → Reading → ℤ) → End N → Reading → forward.End
 end_at at GoesOn e = forward.goes_on

@@ -12,13 +12,13 @@ use Rattle.layout_semantics.specs.Flow.{Alone, Cleared}
 use Rattle.layout_semantics.specs.FlowBoxes.{flow_children}
 use Rattle.layout_semantics.specs.InlineContent.{is_floated_at}
 use Rattle.layout_semantics.specs.Leads.{is_up_to, none_passed}
+use Rattle.layout_semantics.specs.Clearance.{Base, hangs, stands}
 use Rattle.lay_margin.specs.declared.runs.Run.{Run}
 use Rattle.lay_margin.specs.Fitting.{edges, BoxFits, LeadsTo}
 use Rattle.lay_margin.specs.Runs.{no_run, with_margin}
 use Rattle.lay_margin.specs.steps.Leads.{enters, inner_band, margin_above, margin_below}
 use Rattle.flow_steps.specs.Flow.{Standing, at_top, below, Context}
 use Rattle.flow_steps.specs.Forward.{Found, goes_on, cleared_of, kid_of}
-use Rattle.flow_steps.specs.Runs.{Base, hangs, stands}
 use Rattle.flow_limits.specs.Bounds.{all_around, levels_of, IsLevelIn, IsBandIn, IsFloatIn}
 use Rattle.lay_flow.specs.Low.{reach, IsLevelLow, AreLevelsLow, IsAsideLow, IsRunLow, IsClearedLow, IsBaseLow, IsWaitingLow}
 use Rattle.lay_flow.specs.steps.Walk.{size_in, way_in}

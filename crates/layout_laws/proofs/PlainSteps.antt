@@ -160,7 +160,7 @@ module _ (tree : BoxTree) (w : World) (height : ℕ) (plain : HasPlainBlocks tre
         by_standing : (s : Standing) → p.standing ≡ s → IsPlain s → reached tree w height inside cb p k ≡ plainly_reached (edge_after s (leading tree w height cb k))
         by_standing (at_top y None) e i = rw e
         by_standing (at_top y (Some c)) e i = absurd (cc)
-        by_standing (below edge run stuck) e i = rw (e, resolve-plain tree w plain.no_clear _ _ _ _ _ k _)
+        by_standing (below edge run stuck) e i = rw (e, resolve-plain tree w plain.no_clear _ _ _ _ _ _ k _)
 
   -- what the content of a block leaves
   pub record Ends (cb : Band ℤ) (b : ℕ) (opens : Bool) (end : Progress) : Type 0 where

@@ -15,7 +15,7 @@ ghost use Rattle.layout_semantics.specs.FlowBoxes.{across, block_band, content_b
 ghost use Rattle.layout_semantics.specs.Floats.{FloatBox};
 ghost use Rattle.layout_semantics.specs.Horizontal.{placing_of, block_flow};
 ghost use Rattle.layout_semantics.specs.Leads.{is_up_to, lead, lead_step};
-ghost use Rattle.layout_semantics.specs.Clearance.{resolve, resolve_step};
+ghost use Rattle.layout_semantics.specs.Clearance.{Base, resolve, resolve_step};
 ghost use Rattle.layout_semantics.specs.Flow.{Progress, flow, flow_step};
 ghost use Rattle.layout_laws.specs.Nested.{box_items, preferred_by_inside, container_by_parent, definite_height_by_container, shift_by_parent, lines_of};
 
@@ -101,11 +101,11 @@ pub fn a_lead_comes_from_inside(tree: &BoxTree, world: World, at: usize)
 /// often as there is one (CSS 2.1, 9.5.2).
 pub fn a_lead_goes_on_through_what_is_not_cleared(tree: &BoxTree, world: World, at: usize)
     requires within { at < length tree.now.boxes }
-    ensures { (size : Waiting ℤ → Extent ℤ) (edge : List ℤ → ℤ) (cb : Band ℤ) (floats : List FloatBox)
+    ensures { (size : Waiting ℤ → Extent ℤ) (base : Base) (run : List ℤ) (cb : Band ℤ) (floats : List FloatBox)
         (least : Option ℤ) (passed : ℕ → Bool)
-        → resolve tree.now world size edge cb floats least at passed
-        ≡ resolve_step tree.now world size edge cb floats least at
-        (λ d. resolve tree.now world size edge cb floats least at (is_up_to d))
+        → resolve tree.now world size base run cb floats least at passed
+        ≡ resolve_step tree.now world size base run cb floats least at
+        (λ d. resolve tree.now world size base run cb floats least at (is_up_to d))
         (lead tree.now world passed cb at) }
 {}
 

@@ -1,6 +1,6 @@
 -- Clearance (CSS 2.1, 9.5.2). The hypothetical place of a box with `clear`, the places of floats between adjoining margins and
 -- what becomes of the margins are our own reading of 8.3.1 and 9.5.2.
-use Rattle.std.specs.Prelude.{ℕ, zero, suc, ℤ, Bool, true, false, List, [], ◌∷◌, ◌++◌, int_lt, length, Option, Some, None}
+use Rattle.std.specs.Prelude.{ℕ, zero, suc, ℤ, ◌+ℤ◌, Bool, true, false, List, [], ◌∷◌, ◌++◌, int_lt, length, Option, Some, None}
 use Rattle.std.specs.Option.{option_map_or}
 use Rattle.viz_base.specs.declared.layouts.Band.{Band}
 use Rattle.viz_base.specs.declared.layouts.Extent.{Extent}
@@ -12,6 +12,19 @@ use Rattle.viz_base.specs.declared.worlds.World.{World}
 use Rattle.layout_semantics.specs.Floats.{FloatBox, lowest_bottom, floating, with_float}
 use Rattle.layout_semantics.specs.Leads.{Leading, is_up_to, lead}
 use Rattle.layout_semantics.specs.FlowBoxes.{clear_of}
+use Rattle.layout_semantics.specs.Margins.{collapsed}
+
+-- what the border edge that ends a run of margins goes by
+pub data Base : Type 0 where
+  -- it hangs below this edge, by what all margins of the run collapse to
+  hangs : ℤ → Base
+  -- it stands at this edge, whatever the margins are
+  stands : ℤ → Base
+
+-- the border edge that ends a run
+abbrev pub run_end : Base → List ℤ → ℤ
+run_end (hangs edge) run = edge +ℤ collapsed run
+run_end (stands edge) run = edge
 
 -- after all floats that wait are placed, one after another, where the run of margins between which they stand ends at y
 abbrev pub with_waiting : BoxTree → (Waiting ℤ → Extent ℤ) → List (Waiting ℤ) → List FloatBox → Option ℤ → ℤ → List FloatBox
@@ -24,13 +37,17 @@ pub record Resolved : Type 0 where
   pub cleared : Option (ℕ × ℤ)
 
 module _ (tree : BoxTree) (w : World) where
-  -- Where a box that comes next stands, by its lead: `edge` gives the border edge that ends the run together with so many margins more,
-  -- and `size` the outer sizes of the floats that wait.
-  module _ (size : Waiting ℤ → Extent ℤ) (edge : List ℤ → ℤ) (cb : Band ℤ) (floats : List FloatBox) (least : Option ℤ) (b : ℕ) where
+  -- Where a box that comes next stands, by its lead, which joins a run: `base` is what the end of the run goes by, and `size` gives
+  -- the outer sizes of the floats that wait.
+  module _ (size : Waiting ℤ → Extent ℤ) (base : Base) (run : List ℤ) (cb : Band ℤ) (floats : List FloatBox) (least : Option ℤ) (b : ℕ) where
+    -- the border edge that ends the run together with these margins
+    abbrev pub edge_after : List ℤ → ℤ
+    edge_after more = run_end base (run ++ more)
+
     -- A lead was found that ends at a box d with `clear`. Its border edge if it were not cleared: after the margins before it, its own
     -- top margin and its leading descendants' up to the next box with `clear`.
     abbrev pub hypothetical_edge : Leading → ℕ → ℤ
-    hypothetical_edge found d = edge (found.margins ++ (lead tree w (is_up_to d) found.cb d).margins)
+    hypothetical_edge found d = edge_after (found.margins ++ (lead tree w (is_up_to d) found.cb d).margins)
 
     -- the lowest outer bottom of the floats that the `clear` of a box names, those that wait being placed at y
     abbrev pub bottom_to_clear : Leading → ℕ → ℤ → Option ℤ
@@ -42,7 +59,7 @@ module _ (tree : BoxTree) (w : World) where
 
     -- its border edge is then the lowest such bottom, the floats that wait standing where the run ends without d's margins
     abbrev pub cleared_edge : Leading → ℕ → ℤ
-    cleared_edge found d = option_map_or (λ bottom. bottom) (bottom_to_clear found d (edge found.margins)) (edge found.margins)
+    cleared_edge found d = option_map_or (λ bottom. bottom) (bottom_to_clear found d (edge_after found.margins)) (edge_after found.margins)
 
     -- a lead that ends at a box with `clear` ends there where that one is cleared; else it counts as not cleared, and the lead goes on
     -- through it; any other lead joins the run as it is

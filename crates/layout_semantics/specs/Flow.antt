@@ -24,7 +24,7 @@ use Rattle.layout_semantics.specs.Verticals.{Verticals, verticals}
 use Rattle.layout_semantics.specs.Rectangles.{Frame, content_top, placed_box, shifted, outer_extent}
 use Rattle.layout_semantics.specs.FlowBoxes.{is_replaced_at, is_context_root, is_open_above, may_collapse_through, joins_last_child, flow_children, across, content_from}
 use Rattle.layout_semantics.specs.Leads.{none_passed, all_passed, is_up_to, lead, bottom_margin}
-use Rattle.layout_semantics.specs.Clearance.{Resolved, resolve}
+use Rattle.layout_semantics.specs.Clearance.{hangs, stands, Resolved, resolve}
 use Rattle.layout_semantics.specs.Lengths.{own}
 use Rattle.layout_semantics.specs.DefiniteHeights.{given_height, held_height}
 use Rattle.layout_semantics.specs.Replaced.{replaced_size}
@@ -162,7 +162,7 @@ module _ (tree : BoxTree) (w : World) (height : ℕ) where
     reached_at cb p b y (Some cleared) = by_match (cleared.0 == b)
       where
         opened : Resolved
-        opened = resolve tree w waiting_size (λ more. cleared.1) cb p.floats p.least b (is_up_to b)
+        opened = resolve tree w waiting_size (stands cleared.1) [] cb p.floats p.least b (is_up_to b)
 
         by_match : Bool → Reached
         by_match true = record { top = cleared.1; clears = true; cleared = opened.cleared }
@@ -178,7 +178,7 @@ module _ (tree : BoxTree) (w : World) (height : ℕ) where
         by_standing : Standing → Reached
         by_standing (at_top y cleared) = reached_at cb p b y cleared
         by_standing (below edge run stuck) = by_resolved edge run
-            (resolve tree w waiting_size (λ more. edge +ℤ collapsed (run ++ more)) cb p.floats p.least b none_passed)
+            (resolve tree w waiting_size (hangs edge) run cb p.floats p.least b none_passed)
 
     -- the context as a box that is opened leaves it: its outer top counts, which is the higher of the tops of its margin and border
     -- boxes (our own reading of 9.5.1, rule 5)

@@ -20,13 +20,13 @@ use Rattle.layout_semantics.specs.Leads.{is_up_to, none_passed}
 use Rattle.layout_semantics.specs.Lines.{LineList, lines_in}
 use Rattle.layout_semantics.specs.Lists.{table_of}
 use Rattle.layout_semantics.specs.Rectangles.{Frame, content_top, placed_box, shifted, outer_extent}
+use Rattle.layout_semantics.specs.Clearance.{Base, hangs, stands}
 use Rattle.lay_margin.specs.declared.runs.Run.{Run}
 use Rattle.lay_margin.specs.Runs.{no_run, with_margin, collapse}
 use Rattle.lay_margin.specs.steps.Leads.{margin_below}
 use Rattle.flow_steps.specs.Flow as flow
 use Rattle.flow_steps.specs.Flow.{Standing, at_top, below, Context, fresh, Step, step, Laid, next_edge, is_at_top, joined_run, context_height, block_height, after_lines, followed, children}
 use Rattle.flow_steps.specs.Forward.{Found, cleared_of}
-use Rattle.flow_steps.specs.Runs.{Base, hangs, stands}
 use Rattle.flow_steps.specs.Tables.{laid_at, outside_of}
 use Rattle.lay_flow.specs.steps.Walk.{way_in}
 

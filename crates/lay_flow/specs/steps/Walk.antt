@@ -9,8 +9,8 @@ use Rattle.viz_base.specs.declared.worlds.World.{World}
 use Rattle.layout_semantics.specs.Extremes.{greatest_from}
 use Rattle.layout_semantics.specs.Flow.{Alone}
 use Rattle.layout_semantics.specs.Floats.{FloatBox}
+use Rattle.layout_semantics.specs.Clearance.{Base}
 use Rattle.lay_margin.specs.declared.runs.Run.{Run}
-use Rattle.flow_steps.specs.Runs.{Base}
 use Rattle.flow_steps.specs.Forward.{Found, way}
 
 -- the highest top of a float that comes at y

@@ -6,12 +6,12 @@ use Rattle.viz_base.specs.declared.layouts.Waiting.{Waiting}
 use Rattle.viz_base.specs.declared.trees.BoxTree.{BoxTree}
 use Rattle.viz_base.specs.declared.worlds.World.{World}
 use Rattle.layout_semantics.specs.Floats.{FloatBox}
+use Rattle.layout_semantics.specs.Clearance.{Base}
 use Rattle.lay_float.specs.Readings.{boxes_at, option_at, stretch_at}
 use Rattle.lay_margin.specs.Readings.{floats_at}
 use Rattle.lay_margin.specs.Runs.{run_at}
 use Rattle.lay_margin.specs.declared.runs.Run.{Run}
 use Rattle.flow_steps.specs.Forward.{decided, bottom_to_clear}
-use Rattle.flow_steps.specs.Runs.{Base}
 use Rattle.lay_flow.specs.Readings.{apart_at, base_at}
 use Rattle.lay_flow.specs.steps.Walk.{size_in}
 use Rattle.lay_flow.proofs.forward.decided.Goals as goal

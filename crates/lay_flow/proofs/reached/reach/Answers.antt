@@ -3,11 +3,11 @@ use Rattle.std.specs.Prelude.{◌+ℤ◌}
 use Rattle.viz_calc.specs.State.{AllSmall}
 use Rattle.viz_calc.specs.World.{Reading}
 use Rattle.layout_semantics.specs.Leads.{none_passed}
+use Rattle.layout_semantics.specs.Clearance.{hangs}
 use Rattle.lay_float.specs.Readings.{stretch_at}
 use Rattle.lay_line.proofs.Chains.{but_mem, start_but_mem, next_but_mem}
 use Rattle.lay_margin.specs.Runs.{run_at}
 use Rattle.flow_steps.specs.Forward.{Found, cleared_of}
-use Rattle.flow_steps.specs.Runs.{hangs}
 use Rattle.lay_flow.specs.Low.{IsRunLow}
 use Rattle.lay_flow.specs.Readings.{apart_at, context_at, standing_at, cleared_at, found_at}
 use Rattle.lay_flow.specs.WayFits.{ForwardFits, FromFits, StandingFits, ReachFits}

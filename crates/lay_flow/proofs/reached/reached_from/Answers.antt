@@ -4,7 +4,7 @@ use Rattle.lay_float.specs.Readings.{stretch_at}
 use Rattle.lay_line.proofs.Chains.{but_mem, start_but_mem, next_but_mem}
 use Rattle.lay_margin.specs.Readings.{passed_by}
 use Rattle.lay_margin.specs.Runs.{run_at}
-use Rattle.flow_steps.specs.Runs.{stands}
+use Rattle.layout_semantics.specs.Clearance.{stands}
 use Rattle.lay_flow.specs.Low.{IsClearedLow}
 use Rattle.lay_flow.specs.Readings.{apart_at, context_at, cleared_at, found_at}
 use Rattle.lay_flow.specs.WayFits.{ForwardFits, FromFits}
