@@ -20,7 +20,7 @@ use Rattle.layout_semantics.specs.Elements.{is_closed, is_hidden, is_shown, node
 use Rattle.layout_semantics.specs.Parts.{Part, Level, kind_of_node, level_kind, level_of, inline_kind}
 use Rattle.layout_semantics.specs.WhiteSpace.{is_in}
 use Rattle.layout_semantics.specs.BoxTrees.{Item, kid_place, items_in, items_of, page_parts, page_boxes, tree_styles}
-use Rattle.layout_laws.proofs.Members.{In, from_chosen}
+use Rattle.layout_laws.proofs.Members.{In, from_filter}
 use Rattle.layout_laws.proofs.Places.{node_of}
 use Rattle.layout_laws.proofs.Nesting.{IsBoxOf}
 use Rattle.layout_laws.proofs.Above.{not_or, parent_is, parent_shown}
@@ -140,7 +140,7 @@ module _ (nodes : List Node) (styles : List Style) (page : IsPage nodes) where
   none_in : (x : Item) → In x (items_of (page_parts nodes styles)) → is_leaf x.part.kind ≡ true → (y : Item) → In y (items_in (items_of (page_parts nodes styles)) (node_of x)) → ⊥
   none_in x i l y j =
       let k = item_known nodes styles page x i in
-      let from = from_chosen (λ (item : Item). is_in (node_of x) item.part.parent) (items_of (page_parts nodes styles)) y j in
+      let from = from_filter (λ (item : Item). is_in (node_of x) item.part.parent) (items_of (page_parts nodes styles)) y j in
       let m = item_known nodes styles page y from.0 in
       let up = part_parent nodes (tree_styles nodes styles) page y.part m ∙ is_in_some (node_of x) y.part.parent from.1 in
       let here = slice_get_within nodes (node_of y) m.entry m.node_is in

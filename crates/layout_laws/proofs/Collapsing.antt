@@ -2,7 +2,6 @@
 use Rattle.std.proofs.Common.{◌≡◌, ℕ, zero, suc, ◌+◌, Bool, true, false, not, List, [], ◌∷◌, ◌++◌, flat_map, zip, Some, slice_get, refl, sym, ◌∙◌, ap, if◌then◌else◌, add-one}
 use Rattle.std.specs.Prelude.{⊤}
 use Rattle.std.proofs.lemmas.Bool.{false_from_ne_true}
-use Rattle.layout_semantics.specs.Lists.{one_if}
 use Rattle.layout_semantics.specs.WhiteSpace.{Thing, collapsed_things, keeps_white, stays, is_white}
 use Rattle.layout_laws.specs.Spaces.{is_space, others}
 
@@ -62,8 +61,8 @@ others_after before (Thing.edge ∷ things) = ap (λ (l : List Thing). Thing.edg
 others_after before (Thing.letter node c ∷ things) = by_white (is_white c) refl (keeps_white before) (others_after (Thing.letter node c) things)
   where
     by_white : (w : Bool) → is_white c ≡ w → (k : Bool) → others (after (Thing.letter node c) things) ≡ others things
-        → others ((if not w then Thing.letter node c ∷ [] else (if k then Thing.letter node 32 ∷ [] else [])) ++ after (Thing.letter node c) things) ≡ one_if (not w) (Thing.letter node c) ++ others things
-    by_white false w k e = ap (λ b. one_if (not b) (Thing.letter node c) ++ others (after (Thing.letter node c) things)) w ∙ ap (λ (l : List Thing). Thing.letter node c ∷ l) e
+        → others ((if not w then Thing.letter node c ∷ [] else (if k then Thing.letter node 32 ∷ [] else [])) ++ after (Thing.letter node c) things) ≡ (if not w then Thing.letter node c ∷ others things else others things)
+    by_white false w k e = ap (λ b. if not b then Thing.letter node c ∷ others (after (Thing.letter node c) things) else others (after (Thing.letter node c) things)) w ∙ ap (λ (l : List Thing). Thing.letter node c ∷ l) e
     by_white true w true e = e
     by_white true w false e = e
 

@@ -1,8 +1,8 @@
 -- Lemmas on elements of lists and on ascending lists.
-use Rattle.std.proofs.Common.{◌≡◌, ℕ, suc, ◌≤◌, Bool, true, false, ◌&&◌, ◌||◌, List, [], ◌∷◌, ◌++◌, map, flat_map, refl, sym, ◌∙◌, ap, subst, arith, ◌⊎◌, inl, inr}
+use Rattle.std.proofs.Common.{◌≡◌, ℕ, suc, ◌≤◌, Bool, true, false, ◌&&◌, ◌||◌, List, [], ◌∷◌, ◌++◌, map, flat_map, refl, sym, ◌∙◌, ap, subst, arith, ◌⊎◌, inl, inr, filter, if◌then◌else◌}
 use Rattle.std.specs.List.{list_any, list_all}
 use Rattle.std.specs.Prelude.{⊤}
-use Rattle.layout_semantics.specs.Lists.{chosen, one_if}
+use Rattle.layout_semantics.specs.Lists.{one_if}
 
 -- x is one of a list
 pub data In {A : Type 0} (x : A) : List A → Type 0 where
@@ -11,27 +11,27 @@ pub data In {A : Type 0} (x : A) : List A → Type 0 where
 
 -- ---- chosen elements
 
-chosen_one : {A : Type 0} (test : A → Bool) (y : A) (b : Bool) (rest : List A) (x : A) → test y ≡ b → In x (one_if b y ++ rest) → ((In x rest) ⊎ ((x ≡ y) × (test y ≡ true)))
-chosen_one test y true rest _ e In.here = inr (refl, e)
-chosen_one test y true rest x e (In.there i) = inl i
-chosen_one test y false rest x e i = inl i
+filter_one : {A : Type 0} (test : A → Bool) (y : A) (b : Bool) (rest : List A) (x : A) → test y ≡ b → In x (if b then y ∷ rest else rest) → ((In x rest) ⊎ ((x ≡ y) × (test y ≡ true)))
+filter_one test y true rest _ e In.here = inr (refl, e)
+filter_one test y true rest x e (In.there i) = inl i
+filter_one test y false rest x e i = inl i
 
 -- an element of the chosen ones is one of the list, and passes
-pub from_chosen : {A : Type 0} (test : A → Bool) (xs : List A) (x : A) → In x (chosen test xs) → In x xs × (test x ≡ true)
-from_chosen test [] x i = elim i [ ]
-from_chosen {A} test (y ∷ ys) x i = by_case (chosen_one test y (test y) (chosen test ys) x refl i) (λ j. from_chosen test ys x j)
+pub from_filter : {A : Type 0} (test : A → Bool) (xs : List A) (x : A) → In x (filter test xs) → In x xs × (test x ≡ true)
+from_filter test [] x i = elim i [ ]
+from_filter {A} test (y ∷ ys) x i = by_case (filter_one test y (test y) (filter test ys) x refl i) (λ j. from_filter test ys x j)
   where
-    by_case : ((In x (chosen test ys)) ⊎ ((x ≡ y) × (test y ≡ true))) → (In x (chosen test ys) → In x ys × (test x ≡ true)) → In x (y ∷ ys) × (test x ≡ true)
+    by_case : ((In x (filter test ys)) ⊎ ((x ≡ y) × (test y ≡ true))) → (In x (filter test ys) → In x ys × (test x ≡ true)) → In x (y ∷ ys) × (test x ≡ true)
     by_case (inl j) again = let r = again j in (In.there r.0, r.1)
     by_case (inr s) again = (subst (λ (z : A). In x (z ∷ ys)) s.0 In.here, ap test s.0 ∙ s.1)
 
 -- an element that passes is a chosen one
-pub to_chosen : {A : Type 0} (test : A → Bool) (xs : List A) (x : A) → In x xs → test x ≡ true → In x (chosen test xs)
-to_chosen test [] x i p = elim i [ ]
-to_chosen test (x ∷ xs) _ In.here p = subst (λ b. In x (one_if b x ++ chosen test xs)) (sym p) In.here
-to_chosen test (y ∷ ys) x (In.there i) p = by_test (test y) (to_chosen test ys x i p)
+pub to_filter : {A : Type 0} (test : A → Bool) (xs : List A) (x : A) → In x xs → test x ≡ true → In x (filter test xs)
+to_filter test [] x i p = elim i [ ]
+to_filter test (x ∷ xs) _ In.here p = subst (λ b. In x (if b then x ∷ filter test xs else filter test xs)) (sym p) In.here
+to_filter test (y ∷ ys) x (In.there i) p = by_test (test y) (to_filter test ys x i p)
   where
-    by_test : (b : Bool) → In x (chosen test ys) → In x (one_if b y ++ chosen test ys)
+    by_test : (b : Bool) → In x (filter test ys) → In x (if b then y ∷ filter test ys else filter test ys)
     by_test true j = In.there j
     by_test false j = j
 
@@ -64,13 +64,13 @@ rises_lower low high [] l r = tt
 rises_lower low high (n ∷ ns) l r = (omega (arith, r.0), r.1)
 
 -- the numbers of the chosen elements ascend, as those of all do
-pub rises_chosen : {A : Type 0} (f : A → ℕ) (test : A → Bool) (low : ℕ) (xs : List A) → Rises low (map f xs) → Rises low (map f (chosen test xs))
-rises_chosen f test low [] r = tt
-rises_chosen f test low (x ∷ xs) r = by_test (test x) (rises_chosen f test (suc (f x)) xs r.1)
+pub rises_filter : {A : Type 0} (f : A → ℕ) (test : A → Bool) (low : ℕ) (xs : List A) → Rises low (map f xs) → Rises low (map f (filter test xs))
+rises_filter f test low [] r = tt
+rises_filter f test low (x ∷ xs) r = by_test (test x) (rises_filter f test (suc (f x)) xs r.1)
   where
-    by_test : (b : Bool) → Rises (suc (f x)) (map f (chosen test xs)) → Rises low (map f (one_if b x ++ chosen test xs))
+    by_test : (b : Bool) → Rises (suc (f x)) (map f (filter test xs)) → Rises low (map f (if b then x ∷ filter test xs else filter test xs))
     by_test true s = (r.0, s)
-    by_test false s = let l : low ≤ suc (f x) = omega (arith, r.0) in rises_lower low (suc (f x)) (map f (chosen test xs)) l s
+    by_test false s = let l : low ≤ suc (f x) = omega (arith, r.0) in rises_lower low (suc (f x)) (map f (filter test xs)) l s
 
 -- an element of a list of lists joined is one of one of them
 pub from_append : {A : Type 0} (xs ys : List A) (x : A) → In x (xs ++ ys) → In x xs ⊎ In x ys

@@ -8,7 +8,7 @@ use Rattle.layout_semantics.specs.Lists.{one_if}
 use Rattle.layout_semantics.specs.Parts.{Part}
 use Rattle.layout_semantics.specs.WhiteSpace.{is_in}
 use Rattle.layout_semantics.specs.BoxTrees.{Item, box_count, boxes_before, begins_run, own_place, first_of, outer_place, kid_place, kid_places, items_in, own_box, anonymous_box, with_anonymous, boxes_at, boxes_of}
-use Rattle.layout_laws.proofs.Members.{In, Rises, rises_from, rises_lower, rises_chosen, to_map, from_map, from_chosen, from_flat_map, from_one_if}
+use Rattle.layout_laws.proofs.Members.{In, Rises, rises_from, rises_lower, rises_filter, to_map, from_map, from_filter, from_flat_map, from_one_if}
 use Rattle.layout_laws.proofs.Places.{node_of, found}
 use Rattle.layout_laws.proofs.Kids.{IsArranged, IsMember, counts, order, own_place_is, own_place_from, own_place_within, own_box_at, anonymous_box_at}
 
@@ -55,7 +55,7 @@ module _ (items : List Item) (arranged : IsArranged items) where
   -- the parts in a node's box stand after it
   after_parent : (x y : Item) → In x items → In y (items_in items (node_of x)) → In y items × (own_place items (node_of x) < boxes_before items (node_of y))
   after_parent x y i j =
-      let chosen_y = from_chosen (λ (item : Item). is_in (node_of x) item.part.parent) items y j in
+      let chosen_y = from_filter (λ (item : Item). is_in (node_of x) item.part.parent) items y j in
       let up = arranged.parents y (node_of x) chosen_y.0 (some_from_is_in (node_of x) y.part.parent chosen_y.1) in
       let within = own_place_within items arranged x i in
       let l = order items arranged x y i chosen_y.0 up.before in
@@ -64,7 +64,7 @@ module _ (items : List Item) (arranged : IsArranged items) where
   pub own_kids_rise : (x : Item) → In x items → Rises (suc (own_place items (node_of x))) (kid_places items (node_of x))
   own_kids_rise x i =
       rise_in (suc (own_place items (node_of x))) 0 (items_in items (node_of x))
-      (rises_chosen node_of (λ (item : Item). is_in (node_of x) item.part.parent) 0 items arranged.rises)
+      (rises_filter node_of (λ (item : Item). is_in (node_of x) item.part.parent) 0 items arranged.rises)
       (λ y j. after_parent x y i j)
 
   kid_at : (p : Part) (run : Option (List ℕ)) (k : ℕ) → In (record { part = p; run = run }) items → In k (kid_place items (record { part = p; run = run })) → IsKidPlace items (record { part = p; run = run }) k
@@ -83,7 +83,7 @@ module _ (items : List Item) (arranged : IsArranged items) where
   own_kids_name x k i j =
       let from = from_flat_map (kid_place items) (items_in items (node_of x)) k j in
       let y = from.0 in
-      let chosen_y = from_chosen (λ (item : Item). is_in (node_of x) item.part.parent) items y from.1 in
+      let chosen_y = from_filter (λ (item : Item). is_in (node_of x) item.part.parent) items y from.1 in
       let here = kid_at y.part y.run k chosen_y.0 from.2 in
       (here.box, here.at_box, here.parent ∙ ap (option_map (own_place items)) (some_from_is_in (node_of x) y.part.parent chosen_y.1))
 

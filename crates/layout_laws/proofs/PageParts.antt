@@ -17,7 +17,7 @@ use Rattle.layout_semantics.specs.Elements.{is_shown, parent_of}
 use Rattle.layout_semantics.specs.Parts.{Part, Level, kind_of_node, level_kind, inline_kind, level_of, part_of, shown_parts}
 use Rattle.layout_semantics.specs.WhiteSpace.{collapsed, collapsed_part, is_bare}
 pub use Rattle.layout_semantics.proofs.Pages.{slice_some}
-use Rattle.layout_laws.proofs.Members.{In, Rises, rises_chosen, to_map, from_map, from_chosen, to_chosen}
+use Rattle.layout_laws.proofs.Members.{In, Rises, rises_filter, to_map, from_map, from_filter, to_filter}
 use Rattle.layout_laws.proofs.Shown.{from_shown, to_shown, shown_rise}
 use Rattle.layout_laws.proofs.Above.{parent_is, parent_shown}
 use Rattle.layout_laws.proofs.Runs.{AreParts}
@@ -75,7 +75,7 @@ module _ (nodes : List Node) (styles : List Style) where
   pub from_page : (p : Part) → In p (collapsed (shown_parts nodes styles)) → IsPagePart nodes styles p
   from_page p i =
       let all = shown_parts nodes styles in
-      let kept = from_chosen (λ p. not (is_bare p)) (map (collapsed_part all) all) p i in
+      let kept = from_filter (λ p. not (is_bare p)) (map (collapsed_part all) all) p i in
       let from = from_map (collapsed_part all) all p kept.0 in
       let known = from_shown nodes styles from.0 from.1 in
       let node : from.0.node ≡ p.node = ap (λ (q : Part). q.node) from.2 in
@@ -96,7 +96,7 @@ module _ (nodes : List Node) (styles : List Style) where
 
   pub page_rises : Rises 0 (map (λ (p : Part). p.node) (collapsed (shown_parts nodes styles)))
   page_rises =
-      rises_chosen (λ (p : Part). p.node) (λ p. not (is_bare p)) 0 (map (collapsed_part (shown_parts nodes styles)) (shown_parts nodes styles))
+      rises_filter (λ (p : Part). p.node) (λ p. not (is_bare p)) 0 (map (collapsed_part (shown_parts nodes styles)) (shown_parts nodes styles))
       (rises_same (shown_parts nodes styles) (shown_parts nodes styles) 0 (shown_rise nodes styles))
 
   -- an element that is shown has a part
@@ -105,7 +105,7 @@ module _ (nodes : List Node) (styles : List Style) where
   to_page at n s e t h element =
       let all = shown_parts nodes styles in
       let bare : not (is_bare (collapsed_part all (part_of nodes styles at n s))) ≡ true = by_kind (is_chars (kind_of_node (at == 0) n.body s)) (no_chars n.body (at == 0) s element) (length (collapsed_part all (part_of nodes styles at n s)).text == 0) in
-      (collapsed_part all (part_of nodes styles at n s), to_chosen (λ p. not (is_bare p)) (map (collapsed_part all) all) (collapsed_part all (part_of nodes styles at n s)) (to_map (collapsed_part all) all (part_of nodes styles at n s) (to_shown nodes styles at n s e t h)) bare, refl)
+      (collapsed_part all (part_of nodes styles at n s), to_filter (λ p. not (is_bare p)) (map (collapsed_part all) all) (collapsed_part all (part_of nodes styles at n s)) (to_map (collapsed_part all) all (part_of nodes styles at n s) (to_shown nodes styles at n s e t h)) bare, refl)
     where
       by_kind : (k : Bool) → k ≡ false → (l : Bool) → not (k && l) ≡ true
       by_kind k e l = ap (λ b. not (b && l)) e

@@ -1,8 +1,7 @@
 -- The places of boxes: where each one stands in the list of boxes, and that places rise with nodes.
-use Rattle.std.proofs.Common.{◌≡◌, ℕ, zero, suc, ◌+◌, ◌<◌, ◌≤◌, Bool, true, false, nat_lt, List, [], ◌∷◌, ◌++◌, map, sum, flat_map, length, Some, slice_get, refl, sym, ◌∙◌, ap, subst, arith, if◌then◌else◌, zero-add, ltb-true, ltb-false, lt-ltb, le-ltb, ◌-◌}
+use Rattle.std.proofs.Common.{◌≡◌, ℕ, zero, suc, ◌+◌, ◌<◌, ◌≤◌, Bool, true, false, nat_lt, List, [], ◌∷◌, ◌++◌, map, sum, flat_map, length, Some, slice_get, refl, sym, ◌∙◌, ap, subst, arith, if◌then◌else◌, zero-add, ltb-true, ltb-false, lt-ltb, le-ltb, ◌-◌, filter}
 use Rattle.std.proofs.lemmas.List.Sums.{sum_by-cons}
 use Rattle.viz_base.specs.declared.trees.BoxNode.{BoxNode}
-use Rattle.layout_semantics.specs.Lists.{chosen, one_if}
 use Rattle.layout_semantics.specs.BoxTrees.{Item, box_count, is_before, boxes_before}
 use Rattle.layout_laws.proofs.Members.{In, Rises, rises_from, to_map}
 
@@ -17,8 +16,8 @@ sum_cons n ns = sum_by-cons (λ x. x) n ns
 pub before_cons : (x : Item) (xs : List Item) (n : ℕ) → boxes_before (x ∷ xs) n ≡ (if is_before n x then box_count x else 0) + boxes_before xs n
 before_cons x xs n = by_test (is_before n x)
   where
-    by_test : (b : Bool) → sum (map box_count (one_if b x ++ chosen (is_before n) xs)) ≡ (if b then box_count x else 0) + boxes_before xs n
-    by_test true = sum_cons (box_count x) (map box_count (chosen (is_before n) xs))
+    by_test : (b : Bool) → sum (map box_count (if b then x ∷ filter (is_before n) xs else filter (is_before n) xs)) ≡ (if b then box_count x else 0) + boxes_before xs n
+    by_test true = sum_cons (box_count x) (map box_count (filter (is_before n) xs))
     by_test false = sym (zero-add _)
 
 pub before_later : (x : Item) (xs : List Item) (n : ℕ) → node_of x < n → boxes_before (x ∷ xs) n ≡ box_count x + boxes_before xs n

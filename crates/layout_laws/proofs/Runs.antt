@@ -1,11 +1,10 @@
 -- The runs of boxes that anonymous block boxes hold: the items of a page are arranged where its parts are.
-use Rattle.std.proofs.Common.{◌≡◌, ℕ, suc, ◌<◌, ◌≤◌, Bool, true, false, ◌==◌, ◌||◌, List, [], ◌∷◌, ◌++◌, map, flat_map, find, Option, Some, None, option_and_then, refl, sym, ◌∙◌, ap, subst, arith, ◌⊎◌, inl, inr, if◌then◌else◌, eq-eqb, ne_eqb, eqb-true}
+use Rattle.std.proofs.Common.{◌≡◌, ℕ, suc, ◌<◌, ◌≤◌, Bool, true, false, ◌==◌, ◌||◌, List, [], ◌∷◌, ◌++◌, map, flat_map, find, Option, Some, None, option_and_then, refl, sym, ◌∙◌, ap, subst, arith, ◌⊎◌, inl, inr, if◌then◌else◌, eq-eqb, ne_eqb, eqb-true, filter}
 use Rattle.std.specs.List.{list_any}
-use Rattle.layout_semantics.specs.Lists.{chosen, one_if}
 use Rattle.layout_semantics.specs.Parts.{Part, Level}
 use Rattle.layout_semantics.specs.WhiteSpace.{is_in}
 use Rattle.layout_semantics.specs.BoxTrees.{Item, items_of, run_around, first_of, has_node, nodes_of, parts_in, wrapped_in, runs_of, with_part, needs_box, is_block_part}
-use Rattle.layout_laws.proofs.Members.{In, Rises, rises_from, rises_lower, rises_chosen, to_map, from_map, from_chosen}
+use Rattle.layout_laws.proofs.Members.{In, Rises, rises_from, rises_lower, rises_filter, to_map, from_map, from_filter}
 use Rattle.layout_laws.proofs.Places.{node_of}
 use Rattle.layout_laws.proofs.Kids.{IsArranged, IsRun}
 
@@ -96,19 +95,19 @@ rises_runs : (low : ℕ) (kids : List Part) → Rises low (map (λ (p : Part). p
 rises_runs low [] r = tt
 rises_runs low (p ∷ ps) r = rises_with low p.level p (runs_of ps) r.0 (rises_runs (suc p.node) ps r.1)
 
-rises_fewer : (test : List Part → Bool) (low : ℕ) (runs : List (List Part)) → Rises low (flat_map (λ run. run) (map nodes_of runs)) → Rises low (flat_map (λ run. run) (map nodes_of (chosen test runs)))
+rises_fewer : (test : List Part → Bool) (low : ℕ) (runs : List (List Part)) → Rises low (flat_map (λ run. run) (map nodes_of runs)) → Rises low (flat_map (λ run. run) (map nodes_of (filter test runs)))
 rises_fewer test low [] r = tt
 rises_fewer test low (run ∷ runs) r = by_test (test run) (λ h s. rises_fewer test h runs s)
   where
-    by_test : (b : Bool) → ((h : ℕ) → Rises h (flat_map (λ run. run) (map nodes_of runs)) → Rises h (flat_map (λ run. run) (map nodes_of (chosen test runs))))
-        → Rises low (flat_map (λ run. run) (map nodes_of (one_if b run ++ chosen test runs)))
-    by_test true again = rises_swap low (nodes_of run) (flat_map (λ run. run) (map nodes_of runs)) (flat_map (λ run. run) (map nodes_of (chosen test runs))) r again
+    by_test : (b : Bool) → ((h : ℕ) → Rises h (flat_map (λ run. run) (map nodes_of runs)) → Rises h (flat_map (λ run. run) (map nodes_of (filter test runs))))
+        → Rises low (flat_map (λ run. run) (map nodes_of (if b then run ∷ filter test runs else filter test runs)))
+    by_test true again = rises_swap low (nodes_of run) (flat_map (λ run. run) (map nodes_of runs)) (flat_map (λ run. run) (map nodes_of (filter test runs))) r again
     by_test false again = again low (rises_right low (nodes_of run) (flat_map (λ run. run) (map nodes_of runs)) r)
 
 pub rises_wrapped : (low : ℕ) (kids : List Part) → Rises low (map (λ (p : Part). p.node) kids) → Rises low (flat_map (λ run. run) (map nodes_of (wrapped_in kids)))
 rises_wrapped low kids r = by_test (list_any is_block_part kids)
   where
-    by_test : (b : Bool) → Rises low (flat_map (λ run. run) (map nodes_of (if b then chosen needs_box (runs_of kids) else [])))
+    by_test : (b : Bool) → Rises low (flat_map (λ run. run) (map nodes_of (if b then filter needs_box (runs_of kids) else [])))
     by_test true = rises_fewer needs_box low (runs_of kids) (rises_runs low kids r)
     by_test false = tt
 
@@ -140,8 +139,8 @@ from_runs (p ∷ ps) run y i j = by_part (from_with p.level p (runs_of ps) run y
 from_wrapped : (kids : List Part) (run : List Part) (y : Part) → In run (wrapped_in kids) → In y run → In y kids
 from_wrapped kids run y i j = from_runs kids run y (by_test (list_any is_block_part kids) i) j
   where
-    by_test : (b : Bool) → In run (if b then chosen needs_box (runs_of kids) else []) → In run (runs_of kids)
-    by_test true i = (from_chosen needs_box (runs_of kids) run i).0
+    by_test : (b : Bool) → In run (if b then filter needs_box (runs_of kids) else []) → In run (runs_of kids)
+    by_test true i = (from_filter needs_box (runs_of kids) run i).0
     by_test false i = elim i [ ]
 
 -- ---- parts
@@ -173,14 +172,14 @@ module _ (parts : List Part) (known : AreParts parts) where
   is_run p q run up e =
       let runs = map nodes_of (wrapped_in (parts_in parts q)) in
       let f = found_in (has_node p.node) runs run (sym (run_of_parent p q up) ∙ e) in
-      let rising = rises_wrapped 0 (parts_in parts q) (rises_chosen (λ (p : Part). p.node) (λ (p : Part). is_in q p.parent) 0 parts known.rises) in
+      let rising = rises_wrapped 0 (parts_in parts q) (rises_filter (λ (p : Part). p.node) (λ (p : Part). is_in q p.parent) 0 parts known.rises) in
       record {
         first_in = first_is run p.node f.1;
         rises = rises_member 0 runs run rising f.0;
         members = λ k i.
             let r = from_map nodes_of (wrapped_in (parts_in parts q)) run f.0 in
             let y = from_map (λ (p : Part). p.node) r.0 k (subst (In k) (sym r.2) i) in
-            let kid = from_chosen (λ (p : Part). is_in q p.parent) parts y.0 (from_wrapped (parts_in parts q) r.0 y.0 r.1 y.1) in
+            let kid = from_filter (λ (p : Part). is_in q p.parent) parts y.0 (from_wrapped (parts_in parts q) r.0 y.0 r.1 y.1) in
             let here : find (has_node y.0.node) runs ≡ Some run = find_run 0 runs run y.0.node rising f.0 (subst (λ j. In j run) (sym y.2) i) in
             record {
               item = record { part = y.0; run = run_around parts y.0 };

@@ -1,5 +1,5 @@
 -- Anonymous block boxes: each holds an inline-level box, and between two of them in one box stands a block.
-use Rattle.std.proofs.Common.{◌≡◌, ℕ, suc, ◌<◌, Bool, true, false, not, ◌==◌, ◌||◌, List, [], ◌∷◌, map, Contains, Option, Some, None, is_some, slice_get, refl, sym, ◌∙◌, ap, subst, arith, ◌⊎◌, inl, inr, if◌then◌else◌, eqb-true, eq-eqb, ne_eqb, nat_lt, ltb-true, ltb-false, eq-or-lt_of_le}
+use Rattle.std.proofs.Common.{◌≡◌, ℕ, suc, ◌<◌, Bool, true, false, not, ◌==◌, ◌||◌, List, [], ◌∷◌, map, Contains, Option, Some, None, is_some, slice_get, refl, sym, ◌∙◌, ap, subst, arith, ◌⊎◌, inl, inr, if◌then◌else◌, eqb-true, eq-eqb, ne_eqb, nat_lt, ltb-true, ltb-false, eq-or-lt_of_le, filter}
 use Rattle.std.proofs.lemmas.Bool.{not-true}
 use Rattle.std.specs.List.{list_any}
 use Rattle.std.specs.Option.{option_map_or}
@@ -13,12 +13,11 @@ use Rattle.viz_base.specs.declared.styles.Style.{Style}
 use Rattle.viz_base.specs.declared.trees.BoxNode.{BoxNode}
 use Rattle.viz_base.specs.declared.trees.Kind.{Kind}
 use Rattle.viz_base.specs.declared.trees.Kind.TheVariants as of_kind
-use Rattle.layout_semantics.specs.Lists.{chosen}
 use Rattle.layout_semantics.specs.Parts.{Part, Level, kind_of_node, level_kind, level_of, style_level, display_level}
 use Rattle.layout_semantics.specs.WhiteSpace.{is_in}
 use Rattle.layout_semantics.specs.BoxTrees.{Item, boxes_before, begins_run, own_place, first_of, has_node, nodes_of, kid_place, kid_places, items_in, items_of, own_box, run_around, parts_in, runs_of, wrapped_in, with_part, needs_box, is_block_part, is_block_level, is_floated_level, page_parts, page_boxes, tree_styles}
 use Rattle.layout_laws.specs.Apart.{IsBlockBetween}
-use Rattle.layout_laws.proofs.Members.{In, Rises, rises_from, from_map, to_map, from_chosen, to_chosen, from_flat_map, to_flat_map, from_one_if, rises_chosen, any_in, unique_in}
+use Rattle.layout_laws.proofs.Members.{In, Rises, rises_from, from_map, to_map, from_filter, to_filter, from_flat_map, to_flat_map, from_one_if, rises_filter, any_in, unique_in}
 use Rattle.layout_laws.proofs.Places.{node_of}
 use Rattle.layout_laws.proofs.Kids.{IsMember, order, own_box_at, own_place_from, own_place_within}
 use Rattle.layout_laws.proofs.Nesting.{IsBoxOf}
@@ -184,7 +183,7 @@ module _ (nodes : List Node) (styles : List Style) (page : IsPage nodes) where
   anonymous_kid : (n k : ℕ) (c : BoxNode) → In k (kid_places (items_of (page_parts nodes styles)) n) → slice_get (page_boxes nodes styles) k ≡ Some c → is_anon c.kind ≡ true → IsAnonymousKid (items_of (page_parts nodes styles)) n k
   anonymous_kid n k c j f a =
       let from = from_flat_map (kid_place (items_of (page_parts nodes styles))) (items_in (items_of (page_parts nodes styles)) n) k j in
-      let y = from_chosen (λ (item : Item). is_in n item.part.parent) (items_of (page_parts nodes styles)) from.0 from.1 in
+      let y = from_filter (λ (item : Item). is_in n item.part.parent) (items_of (page_parts nodes styles)) from.0 from.1 in
       anonymous_by_run n from.0.part from.0.run k c y.0 (is_in_some n from.0.part.parent y.1) from.2 f a
 
   -- the list of parts that a run is
@@ -197,8 +196,8 @@ module _ (nodes : List Node) (styles : List Style) (page : IsPage nodes) where
   of_runs : (kids : List Part) (r : List Part) → In r (wrapped_in kids) → In r (runs_of kids) × (needs_box r ≡ true)
   of_runs kids r i = by_test (list_any is_block_part kids) i
     where
-      by_test : (b : Bool) → In r (if b then chosen needs_box (runs_of kids) else []) → In r (runs_of kids) × (needs_box r ≡ true)
-      by_test true i = from_chosen needs_box (runs_of kids) r i
+      by_test : (b : Bool) → In r (if b then filter needs_box (runs_of kids) else []) → In r (runs_of kids) × (needs_box r ≡ true)
+      by_test true i = from_filter needs_box (runs_of kids) r i
       by_test false i = elim i [ ]
 
   -- the part with which a run begins
@@ -222,7 +221,7 @@ module _ (nodes : List Node) (styles : List Style) (page : IsPage nodes) where
   block_between : (n k l : ℕ) (a : IsAnonymousKid (items_of (page_parts nodes styles)) n k) (b : IsAnonymousKid (items_of (page_parts nodes styles)) n l) → k < l → IsBetween (parts_in (page_parts nodes styles) n) (node_of a.item) (node_of b.item)
   block_between n k l a b less =
       let kids = parts_in (page_parts nodes styles) n in
-      let rising = rises_chosen (λ (p : Part). p.node) (λ (p : Part). is_in n p.parent) 0 (page_parts nodes styles) (page_rises nodes (tree_styles nodes styles)) in
+      let rising = rises_filter (λ (p : Part). p.node) (λ (p : Part). is_in n p.parent) 0 (page_parts nodes styles) (page_rises nodes (tree_styles nodes styles)) in
       let r = parts_run a.item n a.run a.inside a.parent a.run_is in
       let s = parts_run b.item n b.run b.inside b.parent b.run_is in
       let p = first_part n k a r.0 r.2 in
@@ -292,7 +291,7 @@ module _ (nodes : List Node) (styles : List Style) (page : IsPage nodes) where
         box = own_box (items_of (page_parts nodes styles)) x;
         inside = contains_from (kid_places (items_of (page_parts nodes styles)) n) (own_place (items_of (page_parts nodes styles)) (node_of x))
             (to_flat_map (kid_place (items_of (page_parts nodes styles))) (items_in (items_of (page_parts nodes styles)) n) x (own_place (items_of (page_parts nodes styles)) (node_of x))
-            (to_chosen (λ (item : Item). is_in n item.part.parent) (items_of (page_parts nodes styles)) x i (ap (is_in n) up ∙ eq-eqb n n refl)) (own_kid x.part x.run (no_run x i block)));
+            (to_filter (λ (item : Item). is_in n item.part.parent) (items_of (page_parts nodes styles)) x i (ap (is_in n) up ∙ eq-eqb n n refl)) (own_kid x.part x.run (no_run x i block)));
         is = own_box_at (items_of (page_parts nodes styles)) (page_arranged nodes styles page) x i;
         above = omega (arith, first, from, least, here);
         below = omega (arith, second, within, there);
@@ -305,7 +304,7 @@ module _ (nodes : List Node) (styles : List Style) (page : IsPage nodes) where
       → IsBetween (parts_in (page_parts nodes styles) n) (node_of a.item) (node_of b.item)
       → IsBlockBetween (tree_styles nodes styles) (page_boxes nodes styles) (kid_places (items_of (page_parts nodes styles)) n) k l
   block_kid n k l a b z =
-      let part = from_chosen (λ (p : Part). is_in n p.parent) (page_parts nodes styles) z.part z.inside in
+      let part = from_filter (λ (p : Part). is_in n p.parent) (page_parts nodes styles) z.part z.inside in
       let i = to_map (λ p. record { part = p; run = run_around (page_parts nodes styles) p }) (page_parts nodes styles) z.part part.0 in
       block_at n k l a b (record { part = z.part; run = run_around (page_parts nodes styles) z.part }) i (is_in_some n z.part.parent part.1) z.block z.above z.below
 
@@ -337,7 +336,7 @@ module _ (nodes : List Node) (styles : List Style) (page : IsPage nodes) where
   -- a part of a run that does not float is the part of an item of that run
   member_part : (m : Item) (q : ℕ) (r : List Part) (z : Part) → In m (items_of (page_parts nodes styles)) → In r (runs_of (parts_in (page_parts nodes styles) q)) → In z r → node_of m ≡ z.node → m.part ≡ z
   member_part m q r z i runs j e =
-      let kid = from_chosen (λ (p : Part). is_in q p.parent) (page_parts nodes styles) z (from_runs (parts_in (page_parts nodes styles) q) r z runs j) in
+      let kid = from_filter (λ (p : Part). is_in q p.parent) (page_parts nodes styles) z (from_runs (parts_in (page_parts nodes styles) q) r z runs j) in
       unique_in (λ (p : Part). p.node) 0 (page_parts nodes styles) m.part z (page_rises nodes (tree_styles nodes styles)) (item_part (page_parts nodes styles) m i) kid.0 e
 
   inline_member : (run : List ℕ) (q : ℕ) (r : List Part) (z : Part) (m : IsMember (items_of (page_parts nodes styles)) run z.node) → In r (runs_of (parts_in (page_parts nodes styles) q)) → In z r → is_floated_level z.level ≡ false

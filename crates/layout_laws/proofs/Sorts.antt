@@ -1,5 +1,5 @@
 -- What the boxes in a box are: inline content alone, or blocks and floats alone.
-use Rattle.std.proofs.Common.{◌≡◌, ℕ, Bool, true, false, not, ◌==◌, ◌&&◌, ◌||◌, List, [], ◌∷◌, map, find, Option, Some, None, is_some, option_and_then, slice_get, refl, sym, ◌∙◌, ap, subst, if◌then◌else◌, eq-eqb, eqb-true}
+use Rattle.std.proofs.Common.{◌≡◌, ℕ, Bool, true, false, not, ◌==◌, ◌&&◌, ◌||◌, List, [], ◌∷◌, map, find, Option, Some, None, is_some, option_and_then, slice_get, refl, sym, ◌∙◌, ap, subst, if◌then◌else◌, eq-eqb, eqb-true, filter}
 use Rattle.std.specs.List.{list_any, list_all}
 use Rattle.std.specs.Option.{option_map_or}
 use Rattle.std.proofs.lemmas.Bool.{or_left, or_right, false_from_ne_true}
@@ -15,12 +15,11 @@ use Rattle.viz_base.specs.declared.styles.Style.{Style}
 use Rattle.viz_base.specs.declared.trees.BoxNode.{BoxNode}
 use Rattle.viz_base.specs.declared.trees.Kind.{Kind}
 use Rattle.viz_base.specs.declared.trees.Kind.TheVariants as of_kind
-use Rattle.layout_semantics.specs.Lists.{chosen}
 use Rattle.layout_semantics.specs.Parts.{Part, Level, kind_of_node, level_kind, inline_kind, level_of, style_level, display_level}
 use Rattle.layout_semantics.specs.WhiteSpace.{is_in}
 use Rattle.layout_semantics.specs.BoxTrees.{Item, boxes_before, own_place, first_of, has_node, nodes_of, kid_place, kid_places, items_in, items_of, own_box, anonymous_box, boxes_of, run_around, parts_in, runs_of, wrapped_in, with_part, needs_box, is_block_part, is_block_level, is_floated_level, page_parts, page_boxes, tree_styles}
 use Rattle.layout_semantics.specs.Refusals.{blocks_in_inlines, is_inline_box}
-use Rattle.layout_laws.proofs.Members.{In, from_map, to_map, from_chosen, to_chosen, from_flat_map, from_one_if, rises_chosen, any_in, any_from, any_none, all_from, unique_in}
+use Rattle.layout_laws.proofs.Members.{In, from_map, to_map, from_filter, to_filter, from_flat_map, from_one_if, rises_filter, any_in, any_from, any_none, all_from, unique_in}
 use Rattle.layout_laws.proofs.Places.{node_of}
 use Rattle.layout_laws.proofs.Kids.{IsArranged, own_box_at, anonymous_box_at}
 use Rattle.layout_laws.proofs.Nesting.{IsBoxOf}
@@ -166,7 +165,7 @@ kid_box : (items : List Item) (arranged : IsArranged items) (n k : ℕ) → In k
 kid_box items arranged n k j =
     let from = from_flat_map (kid_place items) (items_in items n) k j in
     let y = from.0 in
-    let chosen_y = from_chosen (λ (item : Item). is_in n item.part.parent) items y from.1 in
+    let chosen_y = from_filter (λ (item : Item). is_in n item.part.parent) items y from.1 in
     kid_box_by items arranged n y.part y.run k chosen_y.0 (is_in_some n y.part.parent chosen_y.1) from.2
 
 passes_at : (test : BoxNode → Bool) (boxes : List BoxNode) (k : ℕ) (c : BoxNode) → slice_get boxes k ≡ Some c → test c ≡ true → box_passes test boxes k ≡ true
@@ -183,7 +182,7 @@ module _ (nodes : List Node) (styles : List Style) (page : IsPage nodes) where
   run_in x n i e = item_run x i ∙ ap (option_and_then (λ parent. find (has_node (node_of x)) (map nodes_of (wrapped_in (parts_in (page_parts nodes styles) parent))))) e
 
   kid_part : (y : Item) (n : ℕ) → In y (items_of (page_parts nodes styles)) → y.part.parent ≡ Some n → In y.part (parts_in (page_parts nodes styles) n)
-  kid_part y n i e = to_chosen (λ (p : Part). is_in n p.parent) (page_parts nodes styles) y.part (item_part (page_parts nodes styles) y i) (ap (is_in n) e ∙ eq-eqb n n refl)
+  kid_part y n i e = to_filter (λ (p : Part). is_in n p.parent) (page_parts nodes styles) y.part (item_part (page_parts nodes styles) y i) (ap (is_in n) e ∙ eq-eqb n n refl)
 
   -- a box that is no block is inline content
   own_inline_content : (y : Item) → In y (items_of (page_parts nodes styles)) → is_block_level y.part.level ≡ false → is_inline_content (tree_styles nodes styles) (own_box (items_of (page_parts nodes styles)) y) ≡ true
@@ -214,8 +213,8 @@ module _ (nodes : List Node) (styles : List Style) (page : IsPage nodes) where
       by_level false p false q =
           let there = to_runs (parts_in (page_parts nodes styles) n) y.part (kid_part y n i e) p in
           let needs : needs_box there.0 ≡ true = any_from (λ (p : Part). not (is_floated_level p.level)) there.0 y.part there.2 (ap not q) in
-          let wrapped_run : In there.0 (wrapped_in (parts_in (page_parts nodes styles) n)) = subst (λ b. In there.0 (if b then chosen needs_box (runs_of (parts_in (page_parts nodes styles) n)) else [])) (sym some) (to_chosen needs_box (runs_of (parts_in (page_parts nodes styles) n)) there.0 there.1 needs) in
-          let rising = rises_wrapped 0 (parts_in (page_parts nodes styles) n) (rises_chosen (λ (p : Part). p.node) (λ (p : Part). is_in n p.parent) 0 (page_parts nodes styles) (page_rises nodes (tree_styles nodes styles))) in
+          let wrapped_run : In there.0 (wrapped_in (parts_in (page_parts nodes styles) n)) = subst (λ b. In there.0 (if b then filter needs_box (runs_of (parts_in (page_parts nodes styles) n)) else [])) (sym some) (to_filter needs_box (runs_of (parts_in (page_parts nodes styles) n)) there.0 there.1 needs) in
+          let rising = rises_wrapped 0 (parts_in (page_parts nodes styles) n) (rises_filter (λ (p : Part). p.node) (λ (p : Part). is_in n p.parent) 0 (page_parts nodes styles) (page_rises nodes (tree_styles nodes styles))) in
           let found_run = find_run 0 (map nodes_of (wrapped_in (parts_in (page_parts nodes styles) n))) (nodes_of there.0) (node_of y) rising (to_map nodes_of (wrapped_in (parts_in (page_parts nodes styles) n)) there.0 wrapped_run) (to_map (λ (p : Part). p.node) there.0 y.part there.2) in
           let has : y.run ≡ Some (nodes_of there.0) = run_in y n i e ∙ found_run in
           absurd (cc)
@@ -230,13 +229,13 @@ module _ (nodes : List Node) (styles : List Style) (page : IsPage nodes) where
       let runs : In r.0 (runs_of kids) = from_wrapped_in kids (list_any is_block_part kids) r.0 r.1 in
       let has = any_in (λ k. k == node_of x) run f.1 in
       let z = from_map (λ (p : Part). p.node) r.0 has.0 (subst (In has.0) (sym r.2) has.1) in
-      let kid = from_chosen (λ (p : Part). is_in parent.0 p.parent) (page_parts nodes styles) z.0 (from_runs kids r.0 z.0 runs z.1) in
+      let kid = from_filter (λ (p : Part). is_in parent.0 p.parent) (page_parts nodes styles) z.0 (from_runs kids r.0 z.0 runs z.1) in
       let node : z.0.node ≡ node_of x = z.2 ∙ eqb-true has.0 (node_of x) has.2 in
       let same : z.0 ≡ x.part = unique_in (λ (p : Part). p.node) 0 (page_parts nodes styles) z.0 x.part (page_rises nodes (tree_styles nodes styles)) kid.0 (item_part (page_parts nodes styles) x i) node in
       ap (λ (p : Part). is_block_level p.level) (sym same) ∙ no_block_in_runs kids r.0 z.0 runs z.1
     where
-      from_wrapped_in : (kids : List Part) (b : Bool) (run : List Part) → In run (if b then chosen needs_box (runs_of kids) else []) → In run (runs_of kids)
-      from_wrapped_in kids true run i = (from_chosen needs_box (runs_of kids) run i).0
+      from_wrapped_in : (kids : List Part) (b : Bool) (run : List Part) → In run (if b then filter needs_box (runs_of kids) else []) → In run (runs_of kids)
+      from_wrapped_in kids true run i = (from_filter needs_box (runs_of kids) run i).0
       from_wrapped_in kids false run i = elim i [ ]
 
   -- ---- the sort of a box's content
@@ -263,8 +262,8 @@ module _ (nodes : List Node) (styles : List Style) (page : IsPage nodes) where
     where
       no_run : (y : Item) → In y (items_in (items_of (page_parts nodes styles)) n) → y.run ≡ None
       no_run y j =
-          let c = from_chosen (λ (item : Item). is_in n item.part.parent) (items_of (page_parts nodes styles)) y j in
-          run_in y n c.0 (is_in_some n y.part.parent c.1) ∙ ap (λ (b : Bool). find (has_node (node_of y)) (map nodes_of (if b then chosen needs_box (runs_of (parts_in (page_parts nodes styles) n)) else []))) none
+          let c = from_filter (λ (item : Item). is_in n item.part.parent) (items_of (page_parts nodes styles)) y j in
+          run_in y n c.0 (is_in_some n y.part.parent c.1) ∙ ap (λ (b : Bool). find (has_node (node_of y)) (map nodes_of (if b then filter needs_box (runs_of (parts_in (page_parts nodes styles) n)) else []))) none
 
       by_item : (p : Part) (run : Option (List ℕ)) (k : ℕ) → run ≡ None → In (record { part = p; run = run }) (items_of (page_parts nodes styles)) → p.parent ≡ Some n → In k (kid_place (items_of (page_parts nodes styles)) (record { part = p; run = run }))
           → box_passes (is_inline_content (tree_styles nodes styles)) (page_boxes nodes styles) k ≡ true
@@ -278,7 +277,7 @@ module _ (nodes : List Node) (styles : List Style) (page : IsPage nodes) where
       by_kid : (k : ℕ) → IsKidBox (items_of (page_parts nodes styles)) n k → (y : Item) × In y (items_in (items_of (page_parts nodes styles)) n) × In k (kid_place (items_of (page_parts nodes styles)) y)
           → box_passes (is_inline_content (tree_styles nodes styles)) (page_boxes nodes styles) k ≡ true
       by_kid k box f =
-          let c = from_chosen (λ (item : Item). is_in n item.part.parent) (items_of (page_parts nodes styles)) f.0 f.1 in
+          let c = from_filter (λ (item : Item). is_in n item.part.parent) (items_of (page_parts nodes styles)) f.0 f.1 in
           by_item f.0.part f.0.run k (no_run f.0 f.1) c.0 (is_in_some n f.0.part.parent c.1) f.2
 
   -- with one, it holds blocks and floats
@@ -299,10 +298,10 @@ module _ (nodes : List Node) (styles : List Style) (page : IsPage nodes) where
   inline_has_no_block : blocks_in_inlines (page_parts nodes styles) ≡ [] → (x : Item) → In x (items_of (page_parts nodes styles)) → list_any is_block_part (parts_in (page_parts nodes styles) (node_of x)) ≡ true → is_inline x.part.kind ≡ false
   inline_has_no_block none x i some = false_from_ne_true (is_inline x.part.kind) (λ inline.
       let z = any_in is_block_part (parts_in (page_parts nodes styles) (node_of x)) some in
-      let kid = from_chosen (λ (p : Part). is_in (node_of x) p.parent) (page_parts nodes styles) z.0 z.1 in
+      let kid = from_filter (λ (p : Part). is_in (node_of x) p.parent) (page_parts nodes styles) z.0 z.1 in
       let box : is_inline_box (page_parts nodes styles) (node_of x) ≡ true = any_from (λ (p : Part). p.node == node_of x && is_inline p.kind) (page_parts nodes styles) x.part (item_part (page_parts nodes styles) x i) (ap (λ b. b && is_inline x.part.kind) (eq-eqb (node_of x) (node_of x) refl) ∙ inline) in
       let within : option_map_or (is_inline_box (page_parts nodes styles)) z.0.parent false ≡ true = ap (λ (o : Option ℕ). option_map_or (is_inline_box (page_parts nodes styles)) o false) (is_in_some (node_of x) z.0.parent kid.1) ∙ box in
-      let refused = to_chosen (λ (p : Part). is_block_part p && option_map_or (is_inline_box (page_parts nodes styles)) p.parent false) (page_parts nodes styles) z.0 kid.0 (ap (λ b. b && option_map_or (is_inline_box (page_parts nodes styles)) z.0.parent false) z.2 ∙ within) in
+      let refused = to_filter (λ (p : Part). is_block_part p && option_map_or (is_inline_box (page_parts nodes styles)) p.parent false) (page_parts nodes styles) z.0 kid.0 (ap (λ b. b && option_map_or (is_inline_box (page_parts nodes styles)) z.0.parent false) z.2 ∙ within) in
       none_there (subst (λ (l : List Part). In z.0 l) none refused))
     where
       none_there : {p : Part} → In p [] → ⊥

@@ -1,5 +1,5 @@
 -- The text of a box has no more characters than the text of its node.
-use Rattle.std.proofs.Common.{◌≡◌, ℕ, zero, suc, ◌+◌, ◌-◌, ◌*◌, ◌/◌, ◌%◌, ◌<◌, ◌≤◌, Bool, true, false, not, cond, nat_lt, ◌==◌, List, [], ◌∷◌, ◌++◌, map, flat_map, zip, length, Option, Some, None, encode_utf8_all, refl, sym, ◌∙◌, ap, subst, arith, ltb-true, length-append, eq-eqb, ne_eqb}
+use Rattle.std.proofs.Common.{◌≡◌, ℕ, zero, suc, ◌+◌, ◌-◌, ◌*◌, ◌/◌, ◌%◌, ◌<◌, ◌≤◌, Bool, true, false, not, cond, nat_lt, ◌==◌, List, [], ◌∷◌, ◌++◌, map, flat_map, zip, length, Option, Some, None, encode_utf8_all, refl, sym, ◌∙◌, ap, subst, arith, ltb-true, length-append, eq-eqb, ne_eqb, filter}
 use Rattle.std.specs.Str.{chars, chars_after, continuation_len, lead_bits}
 use Rattle.std.specs.Prelude.{if◌then◌else◌}
 use Rattle.std.proofs.lemmas.Grind.{flat_map-append}
@@ -9,10 +9,10 @@ use Rattle.viz_base.specs.declared.nodes.Node.{Node}
 use Rattle.viz_base.specs.declared.styles.Style.{Style}
 use Rattle.viz_base.specs.declared.trees.Kind.{Kind}
 use Rattle.viz_base.specs.declared.trees.Kind.TheVariants as of_kind
-use Rattle.layout_semantics.specs.Lists.{chosen, one_if}
+use Rattle.layout_semantics.specs.Lists.{one_if}
 use Rattle.layout_semantics.specs.Parts.{Part, Level, shown_parts}
 use Rattle.layout_semantics.specs.WhiteSpace.{Thing, stays, is_white, keeps_white, collapsed_things, letter_of, letters_of, things_of, things_in, level_things, inline_things, is_in, is_bare, collapsed, collapsed_part}
-use Rattle.layout_laws.proofs.Members.{In, Rises, rises_from, to_map, from_map, from_chosen}
+use Rattle.layout_laws.proofs.Members.{In, Rises, rises_from, to_map, from_map, from_filter}
 use Rattle.layout_laws.proofs.Shown.{from_shown, shown_rise}
 use lib.Utf8.{encode}
 
@@ -125,14 +125,14 @@ module _ (node : ℕ) where
 
   -- those of all parts that pass a test
   module _ (test : Part → Bool) where
-    length_all : (p : Part) (ps : List Part) → length (letters_of node (flat_map things_of (chosen test (p ∷ ps)))) ≤ length (letters_of node (things_of p)) + length (letters_of node (flat_map things_of (chosen test ps)))
+    length_all : (p : Part) (ps : List Part) → length (letters_of node (flat_map things_of (filter test (p ∷ ps)))) ≤ length (letters_of node (things_of p)) + length (letters_of node (flat_map things_of (filter test ps)))
     length_all p ps = by_test (test p)
       where
-        by_test : (b : Bool) → length (letters_of node (flat_map things_of (one_if b p ++ chosen test ps))) ≤ length (letters_of node (things_of p)) + length (letters_of node (flat_map things_of (chosen test ps)))
-        by_test true = let e = length_join (things_of p) (flat_map things_of (chosen test ps)) in omega (arith, e)
+        by_test : (b : Bool) → length (letters_of node (flat_map things_of (if b then p ∷ filter test ps else filter test ps))) ≤ length (letters_of node (things_of p)) + length (letters_of node (flat_map things_of (filter test ps)))
+        by_test true = let e = length_join (things_of p) (flat_map things_of (filter test ps)) in omega (arith, e)
         by_test false = omega arith
 
-    none_of : (low : ℕ) (ps : List Part) → node < low → Rises low (map (λ (p : Part). p.node) ps) → length (letters_of node (flat_map things_of (chosen test ps))) ≤ 0
+    none_of : (low : ℕ) (ps : List Part) → node < low → Rises low (map (λ (p : Part). p.node) ps) → length (letters_of node (flat_map things_of (filter test ps))) ≤ 0
     none_of low [] l r = omega arith
     none_of low (p ∷ ps) l r =
         let all = length_all p ps in
@@ -140,7 +140,7 @@ module _ (node : ℕ) where
         let rest = none_of (suc p.node) ps (omega (arith, l, r.0)) r.1 in
         omega (arith, all, here, rest)
 
-    own_of : (low : ℕ) (ps : List Part) (p : Part) → Rises low (map (λ (p : Part). p.node) ps) → In p ps → p.node ≡ node → length (letters_of node (flat_map things_of (chosen test ps))) ≤ length p.text
+    own_of : (low : ℕ) (ps : List Part) (p : Part) → Rises low (map (λ (p : Part). p.node) ps) → In p ps → p.node ≡ node → length (letters_of node (flat_map things_of (filter test ps))) ≤ length p.text
     own_of low [] p r i e = elim i [ ]
     own_of low (p ∷ ps) _ r In.here e =
         let all = length_all p ps in
@@ -168,7 +168,7 @@ module _ (nodes : List Node) (styles : List Style) (page : IsPage nodes) where
   pub text_within : (p : Part) → In p (collapsed (shown_parts nodes styles)) → length p.text ≤ 262144
   text_within p i =
       let all = shown_parts nodes styles in
-      let kept = from_chosen (λ p. not (is_bare p)) (map (collapsed_part all) all) p i in
+      let kept = from_filter (λ p. not (is_bare p)) (map (collapsed_part all) all) p i in
       let from = from_map (collapsed_part all) all p kept.0 in
       let known = from_shown nodes styles from.0 from.1 in
       let text : length from.0.text ≡ length (chars (text_of known.entry.body)) = ap (λ (q : Part). length q.text) known.is in

@@ -1,5 +1,5 @@
 -- The texts of all boxes of a page together have no more characters than its nodes.
-use Rattle.std.proofs.Common.{◌≡◌, ℕ, ◌+◌, ◌≤◌, Bool, true, false, not, List, [], ◌∷◌, ◌++◌, map, flat_map, length, Option, Some, None, option_map, slice_get, sum_by, refl, arith}
+use Rattle.std.proofs.Common.{◌≡◌, ℕ, ◌+◌, ◌≤◌, Bool, true, false, not, List, [], ◌∷◌, ◌++◌, map, flat_map, length, Option, Some, None, option_map, slice_get, sum_by, refl, arith, filter}
 use Rattle.std.specs.Prelude.{if◌then◌else◌, filter_map}
 use Rattle.std.specs.List.{enumerate_from, cons_option}
 use Rattle.std.specs.Str.{chars}
@@ -9,7 +9,6 @@ use Rattle.viz_base.specs.declared.nodes.Node.{Node}
 use Rattle.viz_base.specs.declared.styles.Style.{Style}
 use Rattle.viz_base.specs.declared.trees.BoxNode.{BoxNode}
 use Rattle.layout_semantics.specs.Elements.{is_shown}
-use Rattle.layout_semantics.specs.Lists.{chosen, one_if}
 use Rattle.layout_semantics.specs.Parts.{Part, part_of, shown_part, shown_parts}
 use Rattle.layout_semantics.specs.WhiteSpace.{is_bare, collapsed_part}
 use Rattle.layout_semantics.specs.BoxTrees.{Item, run_around, items_of, begins_run, with_anonymous, boxes_at, own_box, page_parts, page_boxes, tree_styles}
@@ -86,12 +85,17 @@ item-boxes items x = by_run (begins_run x) x.run
 abbrev node_letters : Node → ℕ
 node_letters n = length (chars (text_of n.body))
 
-chosen-letters : (test : Part → Bool) (ps : List Part) → sum_by part_letters (chosen test ps) ≤ sum_by part_letters ps
-chosen-letters test ps = sum-flat part_letters part_letters (λ p. one_if (test p) p) (λ p. by_test p (test p)) ps
+filter-letters : (test : Part → Bool) (ps : List Part) → sum_by part_letters (filter test ps) ≤ sum_by part_letters ps
+filter-letters test [] = omega arith
+filter-letters test (p ∷ ps) = by_test (test p) (filter-letters test ps)
   where
-    by_test : (p : Part) (b : Bool) → sum_by part_letters (one_if b p) ≤ part_letters p
-    by_test p true = let one = sum_by-cons part_letters p [] in omega (arith, one)
-    by_test p false = omega arith
+    by_test : (b : Bool) → sum_by part_letters (filter test ps) ≤ sum_by part_letters ps
+        → sum_by part_letters (if b then p ∷ filter test ps else filter test ps) ≤ sum_by part_letters (p ∷ ps)
+    by_test true l =
+        let one = sum_by-cons part_letters p (filter test ps) in
+        let all = sum_by-cons part_letters p ps in
+        omega (arith, one, all, l)
+    by_test false l = let all = sum_by-cons part_letters p ps in omega (arith, all, l)
 
 shown-letters : (nodes : List Node) (styles : List Style) (k : ℕ) (ns : List Node) → sum_by part_letters (filter_map (shown_part nodes styles) (enumerate_from k ns)) ≤ sum_by node_letters ns
 shown-letters nodes styles k [] = omega arith
@@ -121,7 +125,7 @@ letters_within nodes styles page =
     let items = items_of (page_parts nodes styles) in
     let boxes = sum-flat letters item_letters (boxes_at items) (item-boxes items) items in
     let parts = sum-map item_letters (λ p. let x : Item = record { part = p; run = run_around (page_parts nodes styles) p } in x) (page_parts nodes styles) in
-    let kept = chosen-letters (λ p. not (is_bare p)) (map (collapsed_part all) all) in
+    let kept = filter-letters (λ p. not (is_bare p)) (map (collapsed_part all) all) in
     let texts = sum-map part_letters (collapsed_part all) all in
     let fewer = sum-within (λ p. part_letters (collapsed_part all p)) part_letters all (λ p i. collapsed_within nodes given page p p.container i) in
     let shown = shown-letters nodes given 0 nodes in

@@ -18,7 +18,7 @@ use Rattle.layout_semantics.specs.Lists.{one_if}
 use Rattle.layout_semantics.specs.Parts.{Part, Level, level_of, is_context, kind_of_node}
 use Rattle.layout_semantics.specs.WhiteSpace.{is_in}
 use Rattle.layout_semantics.specs.BoxTrees.{Item, boxes_before, own_place, outer_place, first_of, has_node, nodes_of, kid_place, kid_places, items_in, items_of, own_box, anonymous_box, begins_run, parts_in, wrapped_in, page_parts, page_boxes, tree_styles, tree_style_of, viewport_clip, is_block_level, is_floated_level}
-use Rattle.layout_laws.proofs.Members.{In, to_map, to_chosen, to_flat_map, any_in, any_from}
+use Rattle.layout_laws.proofs.Members.{In, to_map, to_filter, to_flat_map, any_in, any_from}
 use Rattle.layout_laws.proofs.Places.{node_of, before_none}
 use Rattle.layout_laws.proofs.Kids.{own_box_at, anonymous_box_at, own_place_is, own_place_from}
 use Rattle.layout_laws.proofs.Nesting.{IsBoxOf}
@@ -56,7 +56,7 @@ module _ (nodes : List Node) (styles : List Style) (page : IsPage nodes) where
   in_own_kids y q k i e j =
       let arranged = page_arranged nodes styles page in
       let up = arranged.parents y q i e in
-      let kid = to_chosen (λ (item : Item). is_in q item.part.parent) (items_of (page_parts nodes styles)) y i (ap (is_in q) e ∙ eq-eqb q q refl) in
+      let kid = to_filter (λ (item : Item). is_in q item.part.parent) (items_of (page_parts nodes styles)) y i (ap (is_in q) e ∙ eq-eqb q q refl) in
       let there = to_flat_map (kid_place (items_of (page_parts nodes styles))) (items_in (items_of (page_parts nodes styles)) q) y k kid j in (
         own_box (items_of (page_parts nodes styles)) up.parent,
         ap (λ n. slice_get (page_boxes nodes styles) (own_place (items_of (page_parts nodes styles)) n)) (sym up.node) ∙ own_box_at (items_of (page_parts nodes styles)) arranged up.parent up.inside,

@@ -1,6 +1,5 @@
 -- White space among the things of inline content.
-use Rattle.std.specs.Prelude.{Bool, false, not, List}
-use Rattle.layout_semantics.specs.Lists.{chosen}
+use Rattle.std.specs.Prelude.{Bool, false, not, List, filter}
 use Rattle.layout_semantics.specs.WhiteSpace.{Thing, is_white}
 
 abbrev pub is_space : Thing → Bool
@@ -10,4 +9,4 @@ is_space Thing.edge = false
 
 -- the things that are no white space
 abbrev pub others : List Thing → List Thing
-others = chosen (λ thing. not (is_space thing))
+others = filter (λ thing. not (is_space thing))

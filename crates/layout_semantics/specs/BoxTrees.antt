@@ -1,5 +1,5 @@
 -- The box tree of a page and its styles (CSS 2.1, 9.2).
-use Rattle.std.specs.Prelude.{zip, sum, unwrap_or, option_and_then, ℕ, ◌+◌, Bool, true, false, not, ◌&&◌, ◌||◌, ◌==◌, nat_lt, List, [], ◌∷◌, map, find, flat_map, Option, Some, None, option_map, slice_get, slice_index, if◌then◌else◌, encode_utf8_all, codes}
+use Rattle.std.specs.Prelude.{zip, sum, unwrap_or, option_and_then, ℕ, ◌+◌, Bool, true, false, not, ◌&&◌, ◌||◌, ◌==◌, nat_lt, List, [], ◌∷◌, map, find, flat_map, filter, Option, Some, None, option_map, slice_get, slice_index, if◌then◌else◌, encode_utf8_all, codes}
 use Rattle.std.specs.List.{list_any, enumerate_from}
 use Rattle.std.specs.Option.{option_map_or}
 use Rattle.viz_base.specs.Pages.{is_element, has_tag}
@@ -8,7 +8,7 @@ use Rattle.viz_base.specs.declared.styles.Style.{Style}
 use Rattle.viz_base.specs.declared.trees.BoxNode.{BoxNode}
 use Rattle.viz_base.specs.declared.trees.Kind.TheVariants as of_kind
 use Rattle.layout_semantics.specs.Elements.{node_passes}
-use Rattle.layout_semantics.specs.Lists.{chosen, one_if}
+use Rattle.layout_semantics.specs.Lists.{one_if}
 use Rattle.layout_semantics.specs.Parts.{Part, Level, shown_parts}
 use Rattle.layout_semantics.specs.WhiteSpace.{is_in, collapsed}
 
@@ -63,7 +63,7 @@ is_block_part p = is_block_level p.level
 
 -- the parts directly in the box of a node
 abbrev pub parts_in : List Part → ℕ → List Part
-parts_in parts node = chosen (λ (p : Part). is_in node p.parent) parts
+parts_in parts node = filter (λ (p : Part). is_in node p.parent) parts
 
 -- a list cut at its block-level boxes in normal flow: the runs of the others, the empty ones too
 abbrev pub with_part : Level → Part → List (List Part) → List (List Part)
@@ -82,7 +82,7 @@ needs_box = list_any (λ (p : Part). not (is_floated_level p.level))
 -- the runs of a block container that anonymous block boxes hold: there are some only where it has block-level boxes in
 -- normal flow
 abbrev pub wrapped_in : List Part → List (List Part)
-wrapped_in kids = if list_any is_block_part kids then chosen needs_box (runs_of kids) else []
+wrapped_in kids = if list_any is_block_part kids then filter needs_box (runs_of kids) else []
 
 abbrev pub nodes_of : List Part → List ℕ
 nodes_of run = map (λ (p : Part). p.node) run
@@ -121,7 +121,7 @@ is_before node item = nat_lt item.part.node node
 -- The places of boxes are those in document order, an anonymous block box directly before the first box in it. How many
 -- boxes come before those of a node:
 abbrev pub boxes_before : List Item → ℕ → ℕ
-boxes_before items node = sum (map box_count (chosen (is_before node) items))
+boxes_before items node = sum (map box_count (filter (is_before node) items))
 
 -- the place of the anonymous block box that begins with a node's box
 abbrev pub anonymous_place : List Item → ℕ → ℕ
@@ -151,7 +151,7 @@ kid_place items item = by_run item.run
     by_run None = own_place items item.part.node ∷ []
 
 abbrev pub items_in : List Item → ℕ → List Item
-items_in items node = chosen (λ (item : Item). is_in node item.part.parent) items
+items_in items node = filter (λ (item : Item). is_in node item.part.parent) items
 
 abbrev pub kid_places : List Item → ℕ → List ℕ
 kid_places items node = flat_map (kid_place items) (items_in items node)

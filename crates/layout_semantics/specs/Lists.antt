@@ -1,13 +1,9 @@
 -- Words on lists.
-use Rattle.std.specs.Prelude.{ℕ, Bool, true, false, List, [], ◌∷◌, flat_map, fold, replicate, slice_set, Option, Some, None}
+use Rattle.std.specs.Prelude.{ℕ, Bool, true, false, List, [], ◌∷◌, fold, replicate, slice_set, Option, Some, None}
 
 abbrev pub one_if : {A : Type 0} → Bool → A → List A
 one_if true a = a ∷ []
 one_if false a = []
-
--- the elements that pass a test, in order
-abbrev pub chosen : {A : Type 0} → (A → Bool) → List A → List A
-chosen test xs = flat_map (λ x. one_if (test x) x) xs
 
 -- the places of a table for some entries: none where there are no entries
 abbrev pub room_for : {A : Type 0} → ℕ → List A → ℕ

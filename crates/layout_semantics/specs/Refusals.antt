@@ -1,5 +1,5 @@
 -- Pages that get no box tree, in the order in which they are refused: our own.
-use Rattle.std.specs.Prelude.{ℕ, nat_lt, Bool, true, false, ◌&&◌, ◌==◌, List, [], ◌∷◌, map, length, flat_map, Option, Some, option_map}
+use Rattle.std.specs.Prelude.{ℕ, nat_lt, Bool, true, false, ◌&&◌, ◌==◌, List, [], ◌∷◌, map, length, flat_map, filter, Option, Some, option_map}
 use Rattle.std.specs.List.{list_any}
 use Rattle.std.specs.Option.{option_map_or}
 use Rattle.viz_base.specs.Trees.{is_inline}
@@ -7,7 +7,6 @@ use Rattle.viz_base.specs.declared.fonts.Font.{Font}
 use Rattle.viz_base.specs.declared.nodes.Node.{Node}
 use Rattle.viz_base.specs.declared.styles.Style.{Style}
 use Rattle.viz_base.specs.declared.trees.BoxNode.{BoxNode}
-use Rattle.layout_semantics.specs.Lists.{chosen}
 use Rattle.layout_semantics.specs.Directions.{is_right_to_left}
 use Rattle.layout_semantics.specs.Parts.{Part}
 use Rattle.layout_semantics.specs.BoxTrees.{is_block_part, page_parts, page_boxes, tree_styles, tree_parents}
@@ -29,11 +28,11 @@ is_inline_box parts node = list_any (λ (p : Part). p.node == node && is_inline 
 
 -- block-level boxes in normal flow that are directly in an inline box, which CSS 2.1, 9.2.1.1, would break around them
 abbrev pub blocks_in_inlines : List Part → List Part
-blocks_in_inlines parts = chosen (λ (p : Part). is_block_part p && option_map_or (is_inline_box parts) p.parent false) parts
+blocks_in_inlines parts = filter (λ (p : Part). is_block_part p && option_map_or (is_inline_box parts) p.parent false) parts
 
 -- the characters of texts that are written from right to left, each with its node
 abbrev pub right_to_left_letters : List Part → List (ℕ × ℕ)
-right_to_left_letters parts = flat_map (λ (p : Part). map (λ c. (p.node, c)) (chosen is_right_to_left p.text)) parts
+right_to_left_letters parts = flat_map (λ (p : Part). map (λ c. (p.node, c)) (filter is_right_to_left p.text)) parts
 
 -- the first refusal in this order, at the first node, and there at the first character
 abbrev pub first_refusal : List Part → List (ℕ × ℕ) → (too_many : Bool) → Option ℕ → Option BoxRefusal

@@ -1,10 +1,10 @@
 -- White space of inline content (CSS 2.1, 16.6.1 and 9.2.2.1): which characters of which text stay.
-use Rattle.std.specs.Prelude.{ℕ, Bool, true, false, not, ◌&&◌, ◌||◌, length, ◌==◌, List, [], ◌∷◌, map, flat_map, zip, Option, if◌then◌else◌}
+use Rattle.std.specs.Prelude.{ℕ, Bool, true, false, not, ◌&&◌, ◌||◌, length, ◌==◌, List, [], ◌∷◌, map, flat_map, filter, zip, Option, if◌then◌else◌}
 use Rattle.std.specs.Option.{option_map_or}
 use Rattle.viz_base.specs.Trees.{is_chars}
 use Rattle.viz_base.specs.declared.trees.Kind.{Kind}
 use Rattle.viz_base.specs.declared.trees.Kind.TheVariants as of_kind
-use Rattle.layout_semantics.specs.Lists.{chosen, one_if}
+use Rattle.layout_semantics.specs.Lists.{one_if}
 use Rattle.layout_semantics.specs.Parts.{Part, Level}
 
 -- What stands in the inline content of a block container. Inline boxes and floats are no such things: white space
@@ -42,7 +42,7 @@ is_in node above = option_map_or (λ a. a == node) above false
 
 -- the things of a block container, in document order
 abbrev pub things_in : List Part → ℕ → List Thing
-things_in parts container = flat_map things_of (chosen (λ (p : Part). is_in container p.container) parts)
+things_in parts container = flat_map things_of (filter (λ (p : Part). is_in container p.container) parts)
 
 -- ---- what stays
 
@@ -86,4 +86,4 @@ abbrev pub is_bare : Part → Bool
 is_bare p = is_chars p.kind && length p.text == 0
 
 abbrev pub collapsed : List Part → List Part
-collapsed parts = chosen (λ p. not (is_bare p)) (map (collapsed_part parts) parts)
+collapsed parts = filter (λ p. not (is_bare p)) (map (collapsed_part parts) parts)

@@ -1,5 +1,5 @@
 -- The boxes of a page stand in document order, and the first is no inline box; so they are a box tree.
-use Rattle.std.proofs.Common.{◌≡◌, ℕ, suc, ◌+◌, ◌<◌, ◌≤◌, ◌==◌, Bool, true, false, List, [], ◌∷◌, map, Option, Some, None, option_map, slice_get, IsTrue, refl, sym, ◌∙◌, ap, subst, arith, inl, inr, ◌⊎◌, if◌then◌else◌, eq-or-lt_of_le, eqb-true, eq-eqb, lt-ltb, ltb-true}
+use Rattle.std.proofs.Common.{◌≡◌, ℕ, suc, ◌+◌, ◌<◌, ◌≤◌, ◌==◌, Bool, true, false, List, [], ◌∷◌, map, Option, Some, None, option_map, slice_get, IsTrue, refl, sym, ◌∙◌, ap, subst, arith, inl, inr, ◌⊎◌, if◌then◌else◌, eq-or-lt_of_le, eqb-true, eq-eqb, lt-ltb, ltb-true, filter}
 use Rattle.std.specs.List.{list_any}
 use Rattle.std.proofs.lemmas.Bool.{cases_order}
 use Rattle.std.proofs.lemmas.Option.{same_Some, slice_get-map}
@@ -10,13 +10,12 @@ use Rattle.viz_base.specs.declared.fonts.Font.{Font}
 use Rattle.viz_base.specs.declared.nodes.Node.{Node}
 use Rattle.viz_base.specs.declared.styles.Style.{Style}
 use Rattle.viz_base.specs.declared.trees.BoxNode.{BoxNode}
-use Rattle.layout_semantics.specs.Lists.{chosen}
 use Rattle.layout_semantics.specs.Parts.{Part, Level, kind_of_node}
 use Rattle.layout_semantics.specs.WhiteSpace.{is_in}
 use Rattle.layout_semantics.specs.BoxTrees.{Item, begins_run, boxes_before, first_of, has_node, is_block_part, items_of, needs_box, nodes_of, outer_place, own_place, page_boxes, page_parts, parts_in, runs_of, tree_parents, tree_styles, with_part, wrapped_in}
 use Rattle.layout_semantics.specs.Refusals.{blocks_in_inlines}
 use Rattle.layout_laws.specs.Styled.{AreStylesOf}
-use Rattle.layout_laws.proofs.Members.{In, Rises, any_in, from_chosen, from_map, rises_chosen, rises_from, to_chosen, to_map, unique_in}
+use Rattle.layout_laws.proofs.Members.{In, Rises, any_in, from_filter, from_map, rises_filter, rises_from, to_filter, to_map, unique_in}
 use Rattle.layout_laws.proofs.Places.{node_of}
 use Rattle.layout_laws.proofs.Kids.{IsArranged, HasParent, order, own_place_from, own_place_is, own_place_within}
 use Rattle.layout_laws.proofs.Nesting.{IsBoxOf}
@@ -90,8 +89,8 @@ whole (p ∷ ps) low rise run a b z i j k (In.there h) l m =
 wrapped_runs : (kids : List Part) (run : List Part) → In run (wrapped_in kids) → In run (runs_of kids)
 wrapped_runs kids run i = by_test (list_any is_block_part kids) i
   where
-    by_test : (b : Bool) → In run (if b then chosen needs_box (runs_of kids) else []) → In run (runs_of kids)
-    by_test true i = (from_chosen needs_box (runs_of kids) run i).0
+    by_test : (b : Bool) → In run (if b then filter needs_box (runs_of kids) else []) → In run (runs_of kids)
+    by_test true i = (from_filter needs_box (runs_of kids) run i).0
     by_test false i = none_in i
 
 -- ---- what is known of the items of a page
@@ -401,10 +400,10 @@ module _ (nodes : List Node) (styles : List Style) (page : IsPage nodes) where
       subst (λ k. In k run) (eqb-true has.0 (node_of x) has.2) has.1
 
   kids_rise : (q : ℕ) → Rises 0 (map (λ (p : Part). p.node) (parts_in (page_parts nodes styles) q))
-  kids_rise q = rises_chosen (λ (p : Part). p.node) (λ (p : Part). is_in q p.parent) 0 (page_parts nodes styles) (page_rises nodes (tree_styles nodes styles))
+  kids_rise q = rises_filter (λ (p : Part). p.node) (λ (p : Part). is_in q p.parent) 0 (page_parts nodes styles) (page_rises nodes (tree_styles nodes styles))
 
   kid_of : (x : Item) (q : ℕ) → In x (items_of (page_parts nodes styles)) → x.part.parent ≡ Some q → In x.part (parts_in (page_parts nodes styles) q)
-  kid_of x q i up = to_chosen (λ (p : Part). is_in q p.parent) (page_parts nodes styles) x.part (item_part (page_parts nodes styles) x i) (ap (is_in q) up ∙ eq-eqb q q refl)
+  kid_of x q i up = to_filter (λ (p : Part). is_in q p.parent) (page_parts nodes styles) x.part (item_part (page_parts nodes styles) x i) (ap (is_in q) up ∙ eq-eqb q q refl)
 
   same_part : (x : Item) (p : Part) → In x (items_of (page_parts nodes styles)) → In p (page_parts nodes styles) → node_of x ≡ p.node → x.part ≡ p
   same_part x p i j e = unique_in (λ (p : Part). p.node) 0 (page_parts nodes styles) x.part p (page_rises nodes (tree_styles nodes styles)) (item_part (page_parts nodes styles) x i) j e
@@ -427,7 +426,7 @@ module _ (nodes : List Node) (styles : List Style) (page : IsPage nodes) where
 
   kid_in : (q : ℕ) (run : List ℕ) (l : IsListOf q run) (p : Part) → In p l.list → In p (page_parts nodes styles) × (p.parent ≡ Some q)
   kid_in q run l p i =
-      let kid = from_chosen (λ (p : Part). is_in q p.parent) (page_parts nodes styles) p (from_runs (parts_in (page_parts nodes styles) q) l.list p (wrapped_runs (parts_in (page_parts nodes styles) q) l.list l.inside) i) in
+      let kid = from_filter (λ (p : Part). is_in q p.parent) (page_parts nodes styles) p (from_runs (parts_in (page_parts nodes styles) q) l.list p (wrapped_runs (parts_in (page_parts nodes styles) q) l.list l.inside) i) in
       (kid.0, is_in_some q p.parent kid.1)
 
   entry_parent : (x : Item) → In x (items_of (page_parts nodes styles)) → slice_get (map (λ (n : Node). n.parent) nodes) (node_of x) ≡ Some x.part.parent

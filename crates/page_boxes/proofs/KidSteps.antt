@@ -1,10 +1,9 @@
 -- Boxes that are named one after another in the boxes that they are in hold what those of a page do.
-use Rattle.std.proofs.Common.{◌≡◌, ◌≢◌, ℕ, zero, suc, ◌<◌, ◌≤◌, nat_lt, Bool, true, false, List, [], ◌∷◌, ◌++◌, map, take, length, Option, Some, None, slice_get, refl, sym, ◌∙◌, ap, subst, arith, take_all, lt-ltb, ltb-true, inl, inr, ◌⊎◌}
+use Rattle.std.proofs.Common.{◌≡◌, ◌≢◌, ℕ, zero, suc, ◌<◌, ◌≤◌, nat_lt, Bool, true, false, List, [], ◌∷◌, ◌++◌, map, take, length, Option, Some, None, slice_get, refl, sym, ◌∙◌, ap, subst, arith, take_all, lt-ltb, ltb-true, inl, inr, ◌⊎◌, filter, if◌then◌else◌}
 use Rattle.std.proofs.lemmas.List.{length-map, length-take-le, map-append}
 use Rattle.std.proofs.lemmas.Bool.{cases_eq, ltb-false}
 use Rattle.std.proofs.lemmas.Option.{slice_get_within}
 use Rattle.viz_base.specs.declared.trees.BoxNode.{BoxNode}
-use Rattle.layout_semantics.specs.Lists.{chosen, one_if}
 use Rattle.layout_laws.proofs.Members.{In, Rises, rises_from}
 use Rattle.layout_laws.proofs.PageParts.{slice_some}
 use Rattle.page_boxes.proofs.Lists.{with_all_append}
@@ -15,7 +14,7 @@ abbrev pub bare : BoxNode → BoxNode
 bare b = record b { kids = [] }
 
 abbrev below : ℕ → List ℕ → List ℕ
-below m ks = chosen (λ k. nat_lt k m) ks
+below m ks = filter (λ k. nat_lt k m) ks
 
 abbrev partial : ℕ → BoxNode → BoxNode
 partial m b = record b { kids = below m b.kids }
@@ -31,12 +30,12 @@ none_below : (low m : ℕ) (ks : List ℕ) → Rises low ks → m ≤ low → be
 none_below low m [] r l = refl
 none_below low m (k ∷ ks) r l =
     let lower = r.0 in
-    ap (λ t. one_if t k ++ below m ks) (not_below k m (omega (arith, l, lower))) ∙ none_below (suc k) m ks r.1 (omega (arith, l, lower))
+    ap (λ t. if t then k ∷ below m ks else below m ks) (not_below k m (omega (arith, l, lower))) ∙ none_below (suc k) m ks r.1 (omega (arith, l, lower))
 
 -- a place that is none of the kids changes nothing
 below_same : (m : ℕ) (ks : List ℕ) → (In m ks → ⊥) → below m ks ≡ below (suc m) ks
 below_same m [] f = refl
-below_same m (k ∷ ks) f = ap (λ t. one_if t k ++ below m ks) (by_place (cases_eq k m)) ∙ ap (λ l. one_if (nat_lt k (suc m)) k ++ l) (below_same m ks (λ i. f (In.there i)))
+below_same m (k ∷ ks) f = ap (λ t. if t then k ∷ below m ks else below m ks) (by_place (cases_eq k m)) ∙ ap (λ l. if nat_lt k (suc m) then k ∷ l else l) (below_same m ks (λ i. f (In.there i)))
   where
     by_less : (t : Bool) → nat_lt k m ≡ t → k ≢ m → nat_lt k m ≡ nat_lt k (suc m)
     by_less true e ne = let lower = ltb-true k m e in e ∙ sym (lt-ltb k (suc m) (omega (arith, lower)))
@@ -57,21 +56,21 @@ below_more low m (k ∷ ks) r i = by_place (cases_eq k m) (λ j. below_more (suc
   where
     by_place : (k ≡ m) ⊎ (k ≢ m) → (In m ks → below m ks ++ m ∷ [] ≡ below (suc m) ks) → In m (k ∷ ks) → below m (k ∷ ks) ++ m ∷ [] ≡ below (suc m) (k ∷ ks)
     by_place (inl e) again i =
-        ap (λ t. (one_if t k ++ below m ks) ++ m ∷ []) (not_below k m (omega (arith, e)))
+        ap (λ t. (if t then k ∷ below m ks else below m ks) ++ m ∷ []) (not_below k m (omega (arith, e)))
         ∙ (ap (λ l. l ++ m ∷ []) (none_below (suc k) m ks r.1 (omega (arith, e)))
         ∙ (ap (λ j. j ∷ []) (sym e)
         ∙ (ap (λ l. k ∷ l) (sym (none_below (suc k) (suc m) ks r.1 (omega (arith, e))))
-        ∙ ap (λ t. one_if t k ++ below (suc m) ks) (sym (lt-ltb k (suc m) (omega (arith, e)))))))
+        ∙ ap (λ t. if t then k ∷ below (suc m) ks else below (suc m) ks) (sym (lt-ltb k (suc m) (omega (arith, e)))))))
     by_place (inr ne) again i =
         let j = in_rest k m ks ne i in
         let lower : k < m = let up = rises_from (suc k) ks m r.1 j in omega (arith, up) in
-        ap (λ t. (one_if t k ++ below m ks) ++ m ∷ []) (lt-ltb k m lower)
+        ap (λ t. (if t then k ∷ below m ks else below m ks) ++ m ∷ []) (lt-ltb k m lower)
         ∙ (ap (λ l. k ∷ l) (again j)
-        ∙ ap (λ t. one_if t k ++ below (suc m) ks) (sym (lt-ltb k (suc m) (omega (arith, lower)))))
+        ∙ ap (λ t. if t then k ∷ below (suc m) ks else below (suc m) ks) (sym (lt-ltb k (suc m) (omega (arith, lower)))))
 
 all_below : (m : ℕ) (ks : List ℕ) → ((k : ℕ) → In k ks → k < m) → below m ks ≡ ks
 all_below m [] f = refl
-all_below m (k ∷ ks) f = ap (λ t. one_if t k ++ below m ks) (lt-ltb k m (f k In.here)) ∙ ap (λ l. k ∷ l) (all_below m ks (λ j i. f j (In.there i)))
+all_below m (k ∷ ks) f = ap (λ t. if t then k ∷ below m ks else below m ks) (lt-ltb k m (f k In.here)) ∙ ap (λ l. k ∷ l) (all_below m ks (λ j i. f j (In.there i)))
 
 -- ---- lists of boxes
 

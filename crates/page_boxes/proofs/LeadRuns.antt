@@ -1,6 +1,5 @@
 -- The runs of the boxes in one element, from one box on.
-use Rattle.std.proofs.Common.{◌≡◌, ◌≢◌, ℕ, ◌==◌, Bool, true, false, not, ◌&&◌, ◌||◌, List, [], ◌∷◌, ◌++◌, map, find, Option, Some, None, option_map, refl, sym, ◌∙◌, ap, if◌then◌else◌, append_assoc, eq-eqb, eqb-true}
-use Rattle.layout_semantics.specs.Lists.{chosen, one_if}
+use Rattle.std.proofs.Common.{◌≡◌, ◌≢◌, ℕ, ◌==◌, Bool, true, false, not, ◌&&◌, ◌||◌, List, [], ◌∷◌, ◌++◌, map, find, Option, Some, None, option_map, refl, sym, ◌∙◌, ap, if◌then◌else◌, append_assoc, eq-eqb, eqb-true, filter}
 use Rattle.layout_semantics.specs.Parts.{Part, Level}
 use Rattle.layout_semantics.specs.BoxTrees.{first_of, has_node, is_floated_level, needs_box, nodes_of, runs_of, with_part}
 use Rattle.layout_laws.proofs.Members.{In}
@@ -120,12 +119,12 @@ has_none n [] h = refl
 has_none n (p ∷ ps) h = ap (λ t. t || has_node n (nodes_of ps)) (other_number p.node n (h p In.here)) ∙ has_none n ps (λ q i. h q (In.there i))
 
 abbrev pub found_in : ℕ → List (List Part) → Option (List ℕ)
-found_in n runs = find (has_node n) (map nodes_of (chosen needs_box runs))
+found_in n runs = find (has_node n) (map nodes_of (filter needs_box runs))
 
 pub found_skip : (n : ℕ) (run : List Part) (runs : List (List Part)) → IsApart n run → found_in n (run ∷ runs) ≡ found_in n runs
 found_skip n run runs h = by_need (needs_box run)
   where
-    by_need : (t : Bool) → find (has_node n) (map nodes_of (one_if t run ++ chosen needs_box runs)) ≡ found_in n runs
+    by_need : (t : Bool) → find (has_node n) (map nodes_of (if t then run ∷ filter needs_box runs else filter needs_box runs)) ≡ found_in n runs
     by_need false = refl
     by_need true = ap (λ b. if b then Some (nodes_of run) else found_in n runs) (has_none n run h)
 
@@ -176,7 +175,7 @@ pub found_here : (done : List Part) (p : Part) (ps : List Part) → IsApart p.no
 found_here done p ps g =
     ap (found_in p.node) (first_run (done ++ p ∷ []) ps) ∙ by_need (needs_box ((done ++ p ∷ []) ++ front ps))
   where
-    by_need : (t : Bool) → find (has_node p.node) (map nodes_of (one_if t ((done ++ p ∷ []) ++ front ps) ++ chosen needs_box (behind ps))) ≡ (if t then Some (nodes_of ((done ++ p ∷ []) ++ front ps)) else None)
+    by_need : (t : Bool) → find (has_node p.node) (map nodes_of (if t then ((done ++ p ∷ []) ++ front ps) ∷ filter needs_box (behind ps) else filter needs_box (behind ps))) ≡ (if t then Some (nodes_of ((done ++ p ∷ []) ++ front ps)) else None)
     by_need false = none_behind p.node ps g
     by_need true = ap (λ b. if b then Some (nodes_of ((done ++ p ∷ []) ++ front ps)) else found_in p.node (behind ps)) (has_in done p (front ps))
 

@@ -1,13 +1,12 @@
 -- The walks over boxes find the anonymous block boxes that the definition does.
 use Rattle.std.proofs.lemmas.List.{length-replicate, get_or-replicate}
-use Rattle.std.proofs.Common.{replicate, ◌≡◌, ◌≢◌, ℕ, ◌+◌, ◌==◌, ◌<◌, ◌≤◌, suc, Bool, true, false, not, ◌&&◌, ◌||◌, List, [], ◌∷◌, ◌++◌, map, find, length, get_or, set, Option, Some, None, option_map, option_and_then, refl, sym, ◌∙◌, ap, arith, if◌then◌else◌, eq-eqb, eqb-true, length-set, get_or-set_same, get_or-set_other, inl, inr, ◌⊎◌}
+use Rattle.std.proofs.Common.{replicate, ◌≡◌, ◌≢◌, ℕ, ◌+◌, ◌==◌, ◌<◌, ◌≤◌, suc, Bool, true, false, not, ◌&&◌, ◌||◌, List, [], ◌∷◌, ◌++◌, map, find, length, get_or, set, Option, Some, None, option_map, option_and_then, refl, sym, ◌∙◌, ap, arith, if◌then◌else◌, eq-eqb, eqb-true, length-set, get_or-set_same, get_or-set_other, inl, inr, ◌⊎◌, filter}
 use Rattle.std.proofs.lemmas.Bool.{cases_eq}
 use Rattle.std.specs.List.{list_any}
-use Rattle.layout_semantics.specs.Lists.{chosen, one_if}
 use Rattle.layout_semantics.specs.Parts.{Part, Level}
 use Rattle.layout_semantics.specs.WhiteSpace.{is_in}
 use Rattle.layout_semantics.specs.BoxTrees.{first_of, has_node, is_block_part, is_floated_level, needs_box, nodes_of, parts_in, run_around, runs_of, wrapped_in}
-use Rattle.layout_laws.proofs.Members.{In, Rises, rises_from, from_chosen}
+use Rattle.layout_laws.proofs.Members.{In, Rises, rises_from, from_filter}
 use Rattle.page_boxes.specs.steps.Leads.{ahead_of, ahead_table, is_ahead, lead_of, leads_walk, with_blocks}
 use Rattle.page_boxes.specs.steps.Tables.{held, put}
 use Rattle.page_boxes.proofs.LeadRuns.{IsApart, any_append, at_level, first_needs, found_here, found_in, found_skip, front, is_ahead_in, lead_in, led_with, none_found, other_number, runs_are, runs_on}
@@ -135,7 +134,7 @@ in_own : (q : ℕ) (o : Option ℕ) → o ≡ Some q → is_in q o ≡ true
 in_own q o e = ap (is_in q) e ∙ same_node q
 
 abbrev kids : Bool → Part → List Part → List Part
-kids t p rest = one_if t p ++ rest
+kids t p rest = if t then p ∷ rest else rest
 
 held_put : {S : Type 0} (table : List S) (o : Option ℕ) (v d : S) (q : ℕ) → q < length table → get_or (put table o v) q d ≡ (if is_in q o then v else get_or table q d)
 held_put table None v d q l = refl
@@ -221,7 +220,7 @@ module _ (hb : ℕ → Bool) (n : ℕ) where
 
   -- the boxes directly in an element, with one more box in front
   kids_in : (p : Part) (qs : List Part) (q : ℕ) → p.parent ≡ Some q → parts_in (p ∷ qs) q ≡ p ∷ parts_in qs q
-  kids_in p qs q e = ap (λ t. one_if t p ++ parts_in qs q) (in_own q p.parent e)
+  kids_in p qs q e = ap (λ t. if t then p ∷ parts_in qs q else parts_in qs q) (in_own q p.parent e)
 
   head_is : (low : ℕ) (led : List (Option ℕ)) (blocks : List Bool) (done : ℕ → List Part) (p : Part) (qs : List Part) (a : Bool) → IsState low led done (p ∷ qs) → Fits p
       → ((q : ℕ) → q < n → get_or blocks q false ≡ hb q) → ((q : ℕ) → p.parent ≡ Some q → a ≡ is_ahead_in (p ∷ parts_in qs q))
@@ -239,7 +238,7 @@ module _ (hb : ℕ → Bool) (n : ℕ) where
       apart_done q x i e = let lower = state.below q x i in absurd (omega (arith, lower, l, e))
 
       apart_kids : (q : ℕ) → IsApart p.node (parts_in qs q)
-      apart_kids q x i e = let higher = above x (from_chosen (λ (r : Part). is_in q r.parent) qs x i).0 in absurd (omega (arith, higher, e))
+      apart_kids q x i e = let higher = above x (from_filter (λ (r : Part). is_in q r.parent) qs x i).0 in absurd (omega (arith, higher, e))
 
       by_parent : (o : Option ℕ) → p.parent ≡ o → lead_of (held led o None) (held blocks o false) a p.level p.node ≡ option_and_then (λ q. lead_in (hb q) (done q) (parts_in (p ∷ qs) q) p.node) o
       by_parent None e = none_block p.level (fits.root e) None false a
@@ -260,7 +259,7 @@ module _ (hb : ℕ → Bool) (n : ℕ) where
       apart_done : (q : ℕ) → IsApart x.node (done q)
       apart_done q y i e = let lower = below q y i in absurd (omega (arith, lower, l, e))
 
-      by_test : (q : ℕ) (t : Bool) → lead_in (hb q) (done q) (one_if t p ++ parts_in qs q) x.node ≡ lead_in (hb q) (if t then at_level p.level [] (done q ++ p ∷ []) else done q) (parts_in qs q) x.node
+      by_test : (q : ℕ) (t : Bool) → lead_in (hb q) (done q) (if t then p ∷ parts_in qs q else parts_in qs q) x.node ≡ lead_in (hb q) (if t then at_level p.level [] (done q ++ p ∷ []) else done q) (parts_in qs q) x.node
       by_test q false = refl
       by_test q true = lead_later (hb q) (done q) p (parts_in qs q) x.node (apart_done q)
 
@@ -278,14 +277,14 @@ module _ (hb : ℕ → Bool) (n : ℕ) where
     below = λ q x i. below_test q x (is_in q p.parent) i;
   }
     where
-      by_test : (q a : ℕ) → q < n → p.parent ≡ Some a → (t : Bool) → (a == q) ≡ t → get_or led q None ≡ led_with (hb q) (done q) (is_ahead_in (one_if t p ++ parts_in qs q))
+      by_test : (q a : ℕ) → q < n → p.parent ≡ Some a → (t : Bool) → (a == q) ≡ t → get_or led q None ≡ led_with (hb q) (done q) (is_ahead_in (if t then p ∷ parts_in qs q else parts_in qs q))
           → (if t then lead else get_or led q None) ≡ led_with (hb q) (if t then at_level p.level [] (done q ++ p ∷ []) else done q) (is_ahead_in (parts_in qs q))
       by_test q a w e false s known = known
       by_test q a w e true s known = is q (e ∙ ap Some (eqb-true a q s)) ∙ sym (led_next (hb q) (done q) p (parts_in qs q))
 
       by_parent : (q : ℕ) → q < n → (o : Option ℕ) → p.parent ≡ o → (if is_in q o then lead else get_or led q None) ≡ led_with (hb q) (if is_in q o then at_level p.level [] (done q ++ p ∷ []) else done q) (is_ahead_in (parts_in qs q))
-      by_parent q w None e = state.each q w ∙ ap (λ o. led_with (hb q) (done q) (is_ahead_in (one_if (is_in q o) p ++ parts_in qs q))) e
-      by_parent q w (Some a) e = by_test q a w e (a == q) refl (state.each q w ∙ ap (λ o. led_with (hb q) (done q) (is_ahead_in (one_if (is_in q o) p ++ parts_in qs q))) e)
+      by_parent q w None e = state.each q w ∙ ap (λ o. led_with (hb q) (done q) (is_ahead_in (if is_in q o then p ∷ parts_in qs q else parts_in qs q))) e
+      by_parent q w (Some a) e = by_test q a w e (a == q) refl (state.each q w ∙ ap (λ o. led_with (hb q) (done q) (is_ahead_in (if is_in q o then p ∷ parts_in qs q else parts_in qs q))) e)
 
       in_more : (xs : List Part) (x : Part) → In x (xs ++ p ∷ []) → In x xs ⊎ (x ≡ p)
       in_more [] _ In.here = inr refl
@@ -367,7 +366,7 @@ leads_are n low parts rises within root =
     lead_is : (p : Part) → lead_from (has_blocks parts) n (λ q. []) parts p ≡ option_map first_of (run_around parts p)
     lead_is p = by_parent p.parent
       where
-        by_test : (q : ℕ) (b : Bool) → option_map first_of (if b then found_in p.node (runs_on [] (parts_in parts q)) else None) ≡ option_map first_of (find (has_node p.node) (map nodes_of (if b then chosen needs_box (runs_of (parts_in parts q)) else [])))
+        by_test : (q : ℕ) (b : Bool) → option_map first_of (if b then found_in p.node (runs_on [] (parts_in parts q)) else None) ≡ option_map first_of (find (has_node p.node) (map nodes_of (if b then filter needs_box (runs_of (parts_in parts q)) else [])))
         by_test q false = refl
         by_test q true = ap (λ rs. option_map first_of (found_in p.node rs)) (sym (runs_are (parts_in parts q)))
 

@@ -1,9 +1,8 @@
 -- The walks over boxes find the refusals that the definition does.
-use Rattle.std.proofs.Common.{◌≡◌, ◌≢◌, ℕ, ◌==◌, ◌<◌, suc, Bool, true, false, ◌&&◌, ◌||◌, List, [], ◌∷◌, ◌++◌, map, length, get_or, set, Option, Some, None, option_map, slice_get, refl, sym, ◌∙◌, ap, arith, if◌then◌else◌, eq-eqb, eqb-true, length-set, get_or-set_same, get_or-set_other, inl, inr, ◌⊎◌}
+use Rattle.std.proofs.Common.{◌≡◌, ◌≢◌, ℕ, ◌==◌, ◌<◌, suc, Bool, true, false, ◌&&◌, ◌||◌, List, [], ◌∷◌, ◌++◌, map, length, get_or, set, Option, Some, None, option_map, slice_get, refl, sym, ◌∙◌, ap, arith, if◌then◌else◌, eq-eqb, eqb-true, length-set, get_or-set_same, get_or-set_other, inl, inr, ◌⊎◌, filter}
 use Rattle.std.proofs.lemmas.Bool.{cases_eq}
 use Rattle.std.specs.Option.{option_map_or}
 use Rattle.viz_base.specs.Trees.{is_inline}
-use Rattle.layout_semantics.specs.Lists.{chosen, one_if}
 use Rattle.layout_semantics.specs.Directions.{is_right_to_left}
 use Rattle.layout_semantics.specs.Parts.{Part}
 use Rattle.layout_semantics.specs.BoxTrees.{is_block_part}
@@ -70,7 +69,7 @@ marked low table (p ∷ ps) q r l none = by_place (cases_eq q p.node) (λ next s
 -- ---- the first block in an inline box
 
 block_is : (parts : List Part) (table : List Bool) (ps : List Part) → ((p : Part) (q : ℕ) → In p ps → p.parent ≡ Some q → get_or table q false ≡ is_inline_box parts q)
-    → block_in table ps ≡ option_map node_of (slice_get (chosen (λ (p : Part). is_block_part p && option_map_or (is_inline_box parts) p.parent false) ps) 0)
+    → block_in table ps ≡ option_map node_of (slice_get (filter (λ (p : Part). is_block_part p && option_map_or (is_inline_box parts) p.parent false) ps) 0)
 block_is parts table [] h = refl
 block_is parts table (p ∷ ps) h =
     let rest = block_is parts table ps (λ r q i. h r q (In.there i)) in
@@ -81,9 +80,9 @@ block_is parts table (p ∷ ps) h =
     by_parent (Some q) e = h p q In.here e
 
     others : List Part
-    others = chosen (λ (r : Part). is_block_part r && option_map_or (is_inline_box parts) r.parent false) ps
+    others = filter (λ (r : Part). is_block_part r && option_map_or (is_inline_box parts) r.parent false) ps
 
-    by_test : (t : Bool) → block_in table ps ≡ option_map node_of (slice_get others 0) → (if t then Some p.node else block_in table ps) ≡ option_map node_of (slice_get (one_if t p ++ others) 0)
+    by_test : (t : Bool) → block_in table ps ≡ option_map node_of (slice_get others 0) → (if t then Some p.node else block_in table ps) ≡ option_map node_of (slice_get (if t then p ∷ others else others) 0)
     by_test true e = refl
     by_test false e = e
 
@@ -94,12 +93,12 @@ first_block low n table parts r size none within =
 
 -- ---- the first character that is written from right to left
 
-letter_is : (node : ℕ) (cs : List ℕ) (rest : List (ℕ × ℕ)) → slice_get (map (λ c. (node, c)) (chosen is_right_to_left cs) ++ rest) 0 ≡ turned_by node (first_turned cs) (slice_get rest 0)
+letter_is : (node : ℕ) (cs : List ℕ) (rest : List (ℕ × ℕ)) → slice_get (map (λ c. (node, c)) (filter is_right_to_left cs) ++ rest) 0 ≡ turned_by node (first_turned cs) (slice_get rest 0)
 letter_is node [] rest = refl
 letter_is node (c ∷ cs) rest = by_test (is_right_to_left c) (letter_is node cs rest)
   where
-    by_test : (t : Bool) → slice_get (map (λ c. (node, c)) (chosen is_right_to_left cs) ++ rest) 0 ≡ turned_by node (first_turned cs) (slice_get rest 0)
-        → slice_get (map (λ c. (node, c)) (one_if t c ++ chosen is_right_to_left cs) ++ rest) 0 ≡ turned_by node (if t then Some c else first_turned cs) (slice_get rest 0)
+    by_test : (t : Bool) → slice_get (map (λ c. (node, c)) (filter is_right_to_left cs) ++ rest) 0 ≡ turned_by node (first_turned cs) (slice_get rest 0)
+        → slice_get (map (λ c. (node, c)) (if t then c ∷ filter is_right_to_left cs else filter is_right_to_left cs) ++ rest) 0 ≡ turned_by node (if t then Some c else first_turned cs) (slice_get rest 0)
     by_test true e = refl
     by_test false e = e
 

@@ -1,11 +1,11 @@
 -- The walk over boxes keeps the characters that the definition does.
-use Rattle.std.proofs.Common.{◌≡◌, ◌≢◌, ℕ, suc, ◌==◌, ◌<◌, ◌≤◌, Bool, true, false, not, List, [], ◌∷◌, ◌++◌, map, flat_map, zip, length, get_or, set, Option, Some, None, refl, sym, ◌∙◌, ap, arith, if◌then◌else◌, append_assoc, eq-eqb, eqb-true, length-set, get_or-set_same, get_or-set_other, inl, inr, ◌⊎◌}
+use Rattle.std.proofs.Common.{◌≡◌, ◌≢◌, ℕ, suc, ◌==◌, ◌<◌, ◌≤◌, Bool, true, false, not, List, [], ◌∷◌, ◌++◌, map, flat_map, zip, length, get_or, set, Option, Some, None, refl, sym, ◌∙◌, ap, arith, if◌then◌else◌, append_assoc, eq-eqb, eqb-true, length-set, get_or-set_same, get_or-set_other, inl, inr, ◌⊎◌, filter}
 use Rattle.std.proofs.lemmas.Bool.{cases_eq}
 use Rattle.std.proofs.lemmas.Grind.{flat_map-append}
 use Rattle.std.specs.Option.{option_map_or}
 use Rattle.viz_base.specs.declared.trees.Kind.{Kind}
 use Rattle.viz_base.specs.declared.trees.Kind.TheVariants as of_kind
-use Rattle.layout_semantics.specs.Lists.{chosen, one_if}
+use Rattle.layout_semantics.specs.Lists.{one_if}
 use Rattle.layout_semantics.specs.Parts.{Part, Level}
 use Rattle.layout_semantics.specs.WhiteSpace.{Thing, is_bare, is_in, is_white, keeps_white, stays, things_of, level_things, inline_things, things_in, letter_of, letters_of, collapsed}
 use Rattle.layout_laws.proofs.Members.{In, Rises, rises_from}
@@ -168,7 +168,7 @@ none_of : (node : ℕ) (b : Thing) (c : ℕ) (qs : List Part) → ((p : Part) �
 none_of node b c [] h = refl
 none_of node b c (q ∷ qs) h = by_test (is_in c q.container) (λ before. none_of node before c qs (λ p i. h p (In.there i)))
   where
-    by_test : (t : Bool) → ((before : Thing) → letters_of node (left_behind before (things_in qs c)) ≡ []) → letters_of node (left_behind b (flat_map things_of (one_if t q ++ chosen (λ (p : Part). is_in c p.container) qs))) ≡ []
+    by_test : (t : Bool) → ((before : Thing) → letters_of node (left_behind before (things_in qs c)) ≡ []) → letters_of node (left_behind b (flat_map things_of (if t then q ∷ filter (λ (p : Part). is_in c p.container) qs else filter (λ (p : Part). is_in c p.container) qs))) ≡ []
     by_test false rest = rest b
     by_test true rest =
         letters_left node b (things_of q) (things_in qs c)
@@ -203,7 +203,7 @@ first_left n table before q qs is fits apart = ap (λ t. record q { text = t }) 
     by_container None e = ap (squeezed false) (sym (fits.outside e))
     by_container (Some c) e =
         let inside : is_in c q.container ≡ true = ap (is_in c) e ∙ same_node c in
-        ap (λ t. letters_of q.node (left_behind (before c) (flat_map things_of (one_if t q ++ chosen (λ (p : Part). is_in c p.container) qs)))) inside
+        ap (λ t. letters_of q.node (left_behind (before c) (flat_map things_of (if t then q ∷ filter (λ (p : Part). is_in c p.container) qs else filter (λ (p : Part). is_in c p.container) qs)))) inside
         ∙ (letters_left q.node (before c) (things_of q) (things_in qs c)
         ∙ (ap (λ l. letters_of q.node (left_behind (before c) (things_of q)) ++ l) (none_of q.node (last_of (before c) (things_of q)) c qs apart)
         ∙ (append_none (letters_of q.node (left_behind (before c) (things_of q)))
@@ -213,7 +213,7 @@ first_left n table before q qs is fits apart = ap (λ t. record q { text = t }) 
 later_left : (before : ℕ → Thing) (q : Part) (qs : List Part) (p : Part) → (q.node == p.node) ≡ false → left_part before (q ∷ qs) p ≡ left_part (moved before q) qs p
 later_left before q qs p apart = ap (λ t. record p { text = t }) (by_container p.container)
   where
-    by_test : (c : ℕ) (t : Bool) → letters_of p.node (left_behind (before c) (flat_map things_of (one_if t q ++ chosen (λ (r : Part). is_in c r.container) qs)))
+    by_test : (c : ℕ) (t : Bool) → letters_of p.node (left_behind (before c) (flat_map things_of (if t then q ∷ filter (λ (r : Part). is_in c r.container) qs else filter (λ (r : Part). is_in c r.container) qs)))
         ≡ letters_of p.node (left_behind (if t then last_of (before c) (things_of q) else before c) (things_in qs c))
     by_test c false = refl
     by_test c true =
@@ -251,8 +251,12 @@ table_moved n table before q is fits = by_container q.container refl
             get_or-set_other table a c new false p
             ∙ (is.each c l ∙ ap (λ t. keeps_white (if t then last_of (before c) (things_of q) else before c)) (sym (other_number a c (λ e. p (sym e)))))
 
+kept : (b : Bool) (p : Part) (rest : List Part) → one_if b p ++ rest ≡ (if b then p ∷ rest else rest)
+kept true p rest = refl
+kept false p rest = refl
+
 walk_is : (n low : ℕ) (table : List Bool) (before : ℕ → Thing) (qs : List Part) → TableIs n table before → Rises low (map node_of qs) → ((p : Part) → In p qs → Fits n p)
-    → spaces_walk table qs ≡ chosen (λ p. not (is_bare p)) (map (left_part before qs) qs)
+    → spaces_walk table qs ≡ filter (λ p. not (is_bare p)) (map (left_part before qs) qs)
 walk_is n low table before [] is rises fits = refl
 walk_is n low table before (q ∷ qs) is rises fits =
     let above : (p : Part) → In p qs → suc q.node ≤ p.node = λ p i. rises_from (suc q.node) (map node_of qs) p.node rises.1 (in_nodes qs p i) in
@@ -260,7 +264,8 @@ walk_is n low table before (q ∷ qs) is rises fits =
     let later = map_same (left_part before (q ∷ qs)) (left_part (moved before q) qs) qs (λ p i. later_left before q qs p (other_number q.node p.node (λ e. let l = above p i in absurd (omega (arith, l, e))))) in
     let rest = walk_is n (suc q.node) _ (moved before q) qs (table_moved n table before q is (fits q In.here)) rises.1 (λ p i. fits p (In.there i)) in
     ap (λ (r : Part). one_if (not (is_bare r)) r ++ spaces_walk (put table q.container (keeps_behind_part (held table q.container false) q)) qs) (sym first)
-    ∙ ap (λ l. one_if (not (is_bare (left_part before (q ∷ qs) q))) (left_part before (q ∷ qs) q) ++ l) (rest ∙ ap (chosen (λ p. not (is_bare p))) (sym later))
+    ∙ (kept (not (is_bare (left_part before (q ∷ qs) q))) (left_part before (q ∷ qs) q) _
+    ∙ ap (λ l. if not (is_bare (left_part before (q ∷ qs) q)) then left_part before (q ∷ qs) q ∷ l else l) (rest ∙ ap (filter (λ p. not (is_bare p))) (sym later)))
 
 pub spaces_walk_is : (n low : ℕ) (table : List Bool) (qs : List Part) → length table ≡ n → ((c : ℕ) → c < n → get_or table c false ≡ false) → Rises low (map (λ (p : Part). p.node) qs) → ((p : Part) → In p qs → Fits n p)
     → spaces_walk table qs ≡ collapsed qs
