@@ -13,6 +13,10 @@ One test piece = (c : ℕ) × (piece ≡ c ∷ []) × IsTrue (test c)
 abbrev pub Mark : ℕ → List ℕ → Type 0
 Mark c piece = piece ≡ c ∷ []
 
+-- these characters
+abbrev pub Text : List ℕ → List ℕ → Type 0
+Text cs piece = piece ≡ cs
+
 -- a piece of the first macro and then one of the second
 pub record Then (First Second : List ℕ → Type 0) (piece : List ℕ) : Type 0 where
   pub front : List ℕ
