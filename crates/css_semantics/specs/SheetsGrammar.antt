@@ -24,8 +24,19 @@ is_awaited (Some mark) kind = is_mark mark kind
 -- Within a pair its closing mark ends it, and any other closing mark stands for itself, as each does outside all pairs.
 pub data Paired : Option TokenKind → List Token → Type 0 where
   nothing : {within : Option TokenKind} → Paired within []
-  single : {within : Option TokenKind} {t : Token} {ts : List Token} → closing_mark t.kind ≡ None → is_awaited within t.kind ≡ false → Paired within ts → Paired within (t ∷ ts)
-  pair : {within : Option TokenKind} {opener : Token} {ts : List Token} (mark : TokenKind) (inner : List Token) (close : Token) (rest : List Token) → ts ≡ inner ++ close ∷ rest → closing_mark opener.kind ≡ Some mark → Paired (Some mark) inner → is_mark mark close.kind ≡ true → Paired within rest → Paired within (opener ∷ ts)
+  single : {within : Option TokenKind} {t : Token} {ts : List Token}
+      → closing_mark t.kind ≡ None
+      → is_awaited within t.kind ≡ false
+      → Paired within ts
+      → Paired within (t ∷ ts)
+  pair : {within : Option TokenKind} {opener : Token} {ts : List Token}
+      → (mark : TokenKind) (inner : List Token) (close : Token) (rest : List Token)
+      → ts ≡ inner ++ close ∷ rest
+      → closing_mark opener.kind ≡ Some mark
+      → Paired (Some mark) inner
+      → is_mark mark close.kind ≡ true
+      → Paired within rest
+      → Paired within (opener ∷ ts)
 
 -- the rest begins with a token that ends the stretch, and all pairs before it are matched
 pub record EndsAt (stop : Token → Bool) (front rest : List Token) : Type 0 where
@@ -40,7 +51,11 @@ pub record EndsAt (stop : Token → Bool) (front rest : List Token) : Type 0 whe
 pub record IsStretch (stop : Token → Bool) (ts front rest : List Token) : Type 0 where
   pub whole : ts ≡ front ++ rest
   pub ends : (rest ≡ []) ⊎ EndsAt stop front rest
-  pub shortest : (p : List Token) (t : Token) (r : List Token) → ts ≡ p ++ t ∷ r → Paired None p → stop t ≡ true → length front ≤ length p
+  pub shortest : (p : List Token) (t : Token) (r : List Token)
+      → ts ≡ p ++ t ∷ r
+      → Paired None p
+      → stop t ≡ true
+      → length front ≤ length p
 
 -- what stands in the block whose `{` is before the tokens, and what follows its `}`
 pub record IsBlock (ts block rest : List Token) : Type 0 where
@@ -52,7 +67,10 @@ pub record IsBlock (ts block rest : List Token) : Type 0 where
 pub data IsBody : List Token → List Token → List Token → Type 0 where
   at_end : IsBody [] [] []
   at_semicolon : {t : Token} {ts : List Token} → is_left_brace t.kind ≡ false → IsBody (t ∷ ts) [] ts
-  at_block : {t : Token} {ts block rest : List Token} → is_left_brace t.kind ≡ true → IsBlock ts block rest → IsBody (t ∷ ts) block rest
+  at_block : {t : Token} {ts block rest : List Token}
+      → is_left_brace t.kind ≡ true
+      → IsBlock ts block rest
+      → IsBody (t ∷ ts) block rest
 
 -- An at-rule behind its keyword: its prelude, what stands in its block if it has one, and what follows it.
 pub record IsAtRule (ts prelude block rest : List Token) : Type 0 where
@@ -66,7 +84,10 @@ pub record IsAtRule (ts prelude block rest : List Token) : Type 0 where
 -- front of the tokens, with what it gives and the rest.
 pub data Listed {A : Type 0} (One : List Token → List A → List Token → Type 0) : List Token → List A → Type 0 where
   done : Listed One [] []
-  more : {t : Token} {ts rest : List Token} {xs ys : List A} → One (t ∷ ts) xs rest → Listed One rest ys → Listed One (t ∷ ts) (xs ++ ys)
+  more : {t : Token} {ts rest : List Token} {xs ys : List A}
+      → One (t ∷ ts) xs rest
+      → Listed One rest ys
+      → Listed One (t ∷ ts) (xs ++ ys)
 
 -- ---- declarations
 
@@ -74,9 +95,26 @@ pub data Listed {A : Type 0} (One : List Token → List A → List Token → Typ
 -- that all pairs in them are closed, as they are but for those that the end of the text closes.
 pub data Standing : Bool → Option TokenKind → List Token → Type 0 where
   nothing_more : {closed : Bool} {within : Option TokenKind} → Standing closed within []
-  stands : {closed : Bool} {within : Option TokenKind} {t : Token} {ts : List Token} → closing_mark t.kind ≡ None → is_closing t.kind ≡ false → may_stand (option_to_list within) t.kind ≡ true → Standing closed within ts → Standing closed within (t ∷ ts)
-  closed_pair : {closed : Bool} {within : Option TokenKind} {opener : Token} {ts : List Token} (mark : TokenKind) (inner : List Token) (close : Token) (rest : List Token) → ts ≡ inner ++ close ∷ rest → closing_mark opener.kind ≡ Some mark → is_bad opener.kind ≡ false → Standing true (Some mark) inner → is_mark mark close.kind ≡ true → Standing closed within rest → Standing closed within (opener ∷ ts)
-  open_pair : {within : Option TokenKind} {opener : Token} {inner : List Token} (mark : TokenKind) → closing_mark opener.kind ≡ Some mark → is_bad opener.kind ≡ false → Standing false (Some mark) inner → Standing false within (opener ∷ inner)
+  stands : {closed : Bool} {within : Option TokenKind} {t : Token} {ts : List Token}
+      → closing_mark t.kind ≡ None
+      → is_closing t.kind ≡ false
+      → may_stand (option_to_list within) t.kind ≡ true
+      → Standing closed within ts
+      → Standing closed within (t ∷ ts)
+  closed_pair : {closed : Bool} {within : Option TokenKind} {opener : Token} {ts : List Token}
+      → (mark : TokenKind) (inner : List Token) (close : Token) (rest : List Token)
+      → ts ≡ inner ++ close ∷ rest
+      → closing_mark opener.kind ≡ Some mark
+      → is_bad opener.kind ≡ false
+      → Standing true (Some mark) inner
+      → is_mark mark close.kind ≡ true
+      → Standing closed within rest
+      → Standing closed within (opener ∷ ts)
+  open_pair : {within : Option TokenKind} {opener : Token} {inner : List Token} (mark : TokenKind)
+      → closing_mark opener.kind ≡ Some mark
+      → is_bad opener.kind ≡ false
+      → Standing false (Some mark) inner
+      → Standing false within (opener ∷ inner)
 
 -- A declaration: a name, a colon and a value, which isn't white space and comments alone.
 pub record IsDeclaration (piece : List Token) (d : Decl) : Type 0 where
@@ -96,9 +134,23 @@ pub record IsDeclaration (piece : List Token) (d : Decl) : Type 0 where
 -- what is dropped up to the next `;` since it is none.
 pub data DeclarationItem : List Token → List Decl → List Token → Type 0 where
   blank : {t : Token} {ts : List Token} → is_blank t.kind ≡ true → DeclarationItem (t ∷ ts) [] ts
-  at_rule : {t : Token} {ts prelude block rest : List Token} → is_blank t.kind ≡ false → is_at_keyword t.kind ≡ true → IsAtRule ts prelude block rest → DeclarationItem (t ∷ ts) [] rest
-  well_formed : {t : Token} {ts piece rest : List Token} {d : Decl} → is_blank t.kind ≡ false → is_at_keyword t.kind ≡ false → IsStretch ends_declaration (t ∷ ts) piece rest → IsDeclaration piece d → DeclarationItem (t ∷ ts) (d ∷ []) rest
-  malformed : {t : Token} {ts piece rest : List Token} → is_blank t.kind ≡ false → is_at_keyword t.kind ≡ false → IsStretch ends_declaration (t ∷ ts) piece rest → ((d : Decl) → IsDeclaration piece d → ⊥) → DeclarationItem (t ∷ ts) [] rest
+  at_rule : {t : Token} {ts prelude block rest : List Token}
+      → is_blank t.kind ≡ false
+      → is_at_keyword t.kind ≡ true
+      → IsAtRule ts prelude block rest
+      → DeclarationItem (t ∷ ts) [] rest
+  well_formed : {t : Token} {ts piece rest : List Token} {d : Decl}
+      → is_blank t.kind ≡ false
+      → is_at_keyword t.kind ≡ false
+      → IsStretch ends_declaration (t ∷ ts) piece rest
+      → IsDeclaration piece d
+      → DeclarationItem (t ∷ ts) (d ∷ []) rest
+  malformed : {t : Token} {ts piece rest : List Token}
+      → is_blank t.kind ≡ false
+      → is_at_keyword t.kind ≡ false
+      → IsStretch ends_declaration (t ∷ ts) piece rest
+      → ((d : Decl) → IsDeclaration piece d → ⊥)
+      → DeclarationItem (t ∷ ts) [] rest
 
 -- the declarations of a block
 abbrev pub AreDeclarations : List Token → List Decl → Type 0
@@ -121,8 +173,16 @@ pub data RulesetAt : List Token → List Rule → List Token → Type 0 where
 -- What stands in a block of `@media`: at-rules in it are dropped.
 pub data RuleItem : List Token → List Rule → List Token → Type 0 where
   blank_rule : {t : Token} {ts : List Token} → is_gap t.kind ≡ true → RuleItem (t ∷ ts) [] ts
-  dropped_at_rule : {t : Token} {ts prelude block rest : List Token} → is_gap t.kind ≡ false → is_at_keyword t.kind ≡ true → IsAtRule ts prelude block rest → RuleItem (t ∷ ts) [] rest
-  kept_rule : {t : Token} {ts rest : List Token} {rules : List Rule} → is_gap t.kind ≡ false → is_at_keyword t.kind ≡ false → RulesetAt (t ∷ ts) rules rest → RuleItem (t ∷ ts) rules rest
+  dropped_at_rule : {t : Token} {ts prelude block rest : List Token}
+      → is_gap t.kind ≡ false
+      → is_at_keyword t.kind ≡ true
+      → IsAtRule ts prelude block rest
+      → RuleItem (t ∷ ts) [] rest
+  kept_rule : {t : Token} {ts rest : List Token} {rules : List Rule}
+      → is_gap t.kind ≡ false
+      → is_at_keyword t.kind ≡ false
+      → RulesetAt (t ∷ ts) rules rest
+      → RuleItem (t ∷ ts) rules rest
 
 -- the rules of such a block
 abbrev pub AreRules : List Token → List Rule → Type 0
@@ -132,29 +192,71 @@ AreRules = Listed RuleItem
 
 -- an entry of a media list, and what follows its comma
 pub data EntryItem : List Token → List (List Token) → List Token → Type 0 where
-  entry : {t : Token} {ts piece comma rest : List Token} → IsStretch ends_entry (t ∷ ts) piece comma → rest ≡ drop 1 comma → EntryItem (t ∷ ts) (piece ∷ []) rest
+  entry : {t : Token} {ts piece comma rest : List Token}
+      → IsStretch ends_entry (t ∷ ts) piece comma
+      → rest ≡ drop 1 comma
+      → EntryItem (t ∷ ts) (piece ∷ []) rest
 
 -- The list has the medium of the page: it has no entry, or one that is the single word `all` or `screen`.
 pub data HasMedium : List Token → Type 0 where
   every_medium : {prelude : List Token} → list_all (λ t. is_gap t.kind) prelude ≡ true → HasMedium prelude
-  screen_medium : {prelude : List Token} {entries : List (List Token)} → Listed EntryItem prelude entries → list_any is_screen entries ≡ true → HasMedium prelude
+  screen_medium : {prelude : List Token} {entries : List (List Token)}
+      → Listed EntryItem prelude entries
+      → list_any is_screen entries ≡ true
+      → HasMedium prelude
 
 -- ---- statements
 
 -- What an at-rule of a sheet says: its keyword, its prelude and what stands in its block.
 pub data AtStatement : Token → List Token → List Token → List Statement → Type 0 where
-  an_import : {t : Token} {prelude block : List Token} → is_word (codes "import") t ≡ true → AtStatement t prelude block (Import t.at ∷ [])
-  a_page : {t : Token} {prelude block : List Token} → is_word (codes "import") t ≡ false → is_word (codes "page") t ≡ true → AtStatement t prelude block (Page ∷ [])
-  a_query : {t : Token} {prelude block : List Token} → is_word (codes "import") t ≡ false → is_word (codes "page") t ≡ false → is_word (codes "media") t ≡ true → list_any (λ u. has_paren u.kind) prelude ≡ true → AtStatement t prelude block (MediaQuery t.at ∷ [])
-  held_media : {t : Token} {prelude block : List Token} {rules : List Rule} → is_word (codes "import") t ≡ false → is_word (codes "page") t ≡ false → is_word (codes "media") t ≡ true → list_any (λ u. has_paren u.kind) prelude ≡ false → HasMedium prelude → AreRules block rules → AtStatement t prelude block (Media rules ∷ [])
-  other_media : {t : Token} {prelude block : List Token} → is_word (codes "import") t ≡ false → is_word (codes "page") t ≡ false → is_word (codes "media") t ≡ true → list_any (λ u. has_paren u.kind) prelude ≡ false → (HasMedium prelude → ⊥) → AtStatement t prelude block (Media [] ∷ [])
-  unknown : {t : Token} {prelude block : List Token} → is_word (codes "import") t ≡ false → is_word (codes "page") t ≡ false → is_word (codes "media") t ≡ false → AtStatement t prelude block []
+  an_import : {t : Token} {prelude block : List Token}
+      → is_word (codes "import") t ≡ true
+      → AtStatement t prelude block (Import t.at ∷ [])
+  a_page : {t : Token} {prelude block : List Token}
+      → is_word (codes "import") t ≡ false
+      → is_word (codes "page") t ≡ true
+      → AtStatement t prelude block (Page ∷ [])
+  a_query : {t : Token} {prelude block : List Token}
+      → is_word (codes "import") t ≡ false
+      → is_word (codes "page") t ≡ false
+      → is_word (codes "media") t ≡ true
+      → list_any (λ u. has_paren u.kind) prelude ≡ true
+      → AtStatement t prelude block (MediaQuery t.at ∷ [])
+  held_media : {t : Token} {prelude block : List Token} {rules : List Rule}
+      → is_word (codes "import") t ≡ false
+      → is_word (codes "page") t ≡ false
+      → is_word (codes "media") t ≡ true
+      → list_any (λ u. has_paren u.kind) prelude ≡ false
+      → HasMedium prelude
+      → AreRules block rules
+      → AtStatement t prelude block (Media rules ∷ [])
+  other_media : {t : Token} {prelude block : List Token}
+      → is_word (codes "import") t ≡ false
+      → is_word (codes "page") t ≡ false
+      → is_word (codes "media") t ≡ true
+      → list_any (λ u. has_paren u.kind) prelude ≡ false
+      → (HasMedium prelude → ⊥)
+      → AtStatement t prelude block (Media [] ∷ [])
+  unknown : {t : Token} {prelude block : List Token}
+      → is_word (codes "import") t ≡ false
+      → is_word (codes "page") t ≡ false
+      → is_word (codes "media") t ≡ false
+      → AtStatement t prelude block []
 
 -- What stands in a sheet: white space, a comment, `<!--` or `-->`; an at-rule; a ruleset.
 pub data StatementItem : List Token → List Statement → List Token → Type 0 where
   between : {t : Token} {ts : List Token} → is_between t.kind ≡ true → StatementItem (t ∷ ts) [] ts
-  at_statement : {t : Token} {ts prelude block rest : List Token} {said : List Statement} → is_between t.kind ≡ false → is_at_keyword t.kind ≡ true → IsAtRule ts prelude block rest → AtStatement t prelude block said → StatementItem (t ∷ ts) said rest
-  rule_statement : {t : Token} {ts rest : List Token} {rules : List Rule} → is_between t.kind ≡ false → is_at_keyword t.kind ≡ false → RulesetAt (t ∷ ts) rules rest → StatementItem (t ∷ ts) (map Ruleset rules) rest
+  at_statement : {t : Token} {ts prelude block rest : List Token} {said : List Statement}
+      → is_between t.kind ≡ false
+      → is_at_keyword t.kind ≡ true
+      → IsAtRule ts prelude block rest
+      → AtStatement t prelude block said
+      → StatementItem (t ∷ ts) said rest
+  rule_statement : {t : Token} {ts rest : List Token} {rules : List Rule}
+      → is_between t.kind ≡ false
+      → is_at_keyword t.kind ≡ false
+      → RulesetAt (t ∷ ts) rules rest
+      → StatementItem (t ∷ ts) (map Ruleset rules) rest
 
 abbrev pub AreStatements : List Token → List Statement → Type 0
 AreStatements = Listed StatementItem
