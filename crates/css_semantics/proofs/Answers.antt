@@ -7,7 +7,8 @@ use Rattle.css_semantics.specs.Pieces.{Token}
 use Rattle.viz_base.specs.declared.sheets.Rule.{Rule}
 use Rattle.css_semantics.specs.declared.statements.Statement.{Statement}
 use Rattle.css_semantics.specs.declared.statements.Statement.TheVariants.{Ruleset, Import, Page, MediaQuery, Media}
-use Rattle.css_semantics.specs.SheetsReading.{Refusal, import_at, media_at, too_many, capped, with_statement, if_ok, read_on, sheet_of, statements, closed_by_end}
+use Rattle.css_semantics.specs.SheetsReading.{Refusal, import_at, media_at, too_many, closed_by_end}
+use Rattle.css_semantics.specs.steps.Sheets.{capped, with_statement, if_ok, read_on, sheet_of, statements}
 use Rattle.css_semantics.specs.SheetsGrammar.{rules_of, ends_imports, is_refused, IsAccepted, IsFirstRefused, IsAnswer, refused_import, refused_query, too_long, rules_are, IsSheet}
 use Rattle.css_semantics.proofs.Pairs.{by_bool}
 use Rattle.css_semantics.proofs.Rules.{are_statements, statements_are}

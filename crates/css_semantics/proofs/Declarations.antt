@@ -9,7 +9,8 @@ use Rattle.viz_base.specs.declared.tokens.TokenKind.{TokenKind}
 use Rattle.viz_base.specs.declared.tokens.TokenKind.TheVariants.{Colon}
 use Rattle.viz_base.specs.declared.sheets.Decl.{Decl}
 use Rattle.css_semantics.specs.SheetsMarks.{is_ident, is_at_keyword, is_colon, is_gap, ends_declaration}
-use Rattle.css_semantics.specs.SheetsReading.{goes_on, is_value, before_important, declared_at, declared, declaration, trim_start, is_blank, declaration_item, after_declaration, declarations, front, behind, after_at_rule}
+use Rattle.css_semantics.specs.SheetsReading.{goes_on, before_important, declared_at, trim_start, is_blank}
+use Rattle.css_semantics.specs.steps.Sheets.{is_value, declared, declaration, declaration_item, after_declaration, declarations, front, behind, after_at_rule}
 use Rattle.css_semantics.specs.SheetsGrammar.{IsDeclaration, DeclarationItem, blank, at_rule, well_formed, malformed, AreDeclarations}
 use Rattle.css_semantics.proofs.Pairs.{by_bool}
 use Rattle.css_semantics.proofs.Stretches.{is_stretch, stretch_front, stretch_behind}

@@ -6,7 +6,8 @@ use Rattle.std.proofs.lemmas.List.{drop_all, append-nil}
 use Rattle.std.proofs.lemmas.Bool.{cases_lt}
 use Rattle.std.proofs.lemmas.Slice.{between_to_end}
 use Rattle.css_semantics.specs.Pieces.{Token}
-use Rattle.css_semantics.specs.SheetsReading.{gathered, at_head}
+use Rattle.css_semantics.specs.SheetsReading.{gathered}
+use Rattle.css_semantics.specs.steps.Sheets.{at_head}
 
 -- r is the end of ts
 abbrev pub IsTail : List Token → List Token → Type 0

@@ -6,7 +6,8 @@ use Rattle.css_semantics.specs.Pieces.{Token}
 use Rattle.viz_base.specs.declared.sheets.Rule.{Rule}
 use Rattle.css_semantics.specs.declared.statements.Statement.{Statement}
 use Rattle.css_semantics.specs.SheetsMarks.{ends_entry}
-use Rattle.css_semantics.specs.SheetsReading.{if_ok, with_statement, read_on, at_head, entry_item, after_entry, front, behind, entries, gathered, is_screen}
+use Rattle.css_semantics.specs.SheetsReading.{gathered, is_screen}
+use Rattle.css_semantics.specs.steps.Sheets.{if_ok, with_statement, read_on, at_head, entry_item, after_entry, front, behind, entries}
 
 pub read_none : (early : Bool) (rules : List Rule) (o : Option Statement) (ss : List Statement) → o ≡ None → read_on early rules (option_to_list o ++ ss) ≡ read_on early rules ss
 read_none early rules o ss e = ap (λ p. read_on early rules (option_to_list p ++ ss)) e

@@ -8,7 +8,8 @@ use Rattle.viz_base.specs.declared.sheets.Rule.{Rule}
 use Rattle.css_semantics.specs.declared.statements.Statement.{Statement}
 use Rattle.css_semantics.specs.declared.statements.Statement.TheVariants.{Ruleset, Import, Page, MediaQuery, Media}
 use Rattle.css_semantics.specs.SheetsMarks.{is_at_keyword, is_gap, is_space, is_word, has_paren, ends_prelude, ends_selector, ends_block, ends_entry}
-use Rattle.css_semantics.specs.SheetsReading.{start_of, extent, trimmed, rule_of, ruleset_of, block_rule, after_selector, after_ruleset, rule_item, after_rule, rules_in, entry_item, after_entry, entries, is_screen, holds, media_of, at_rule, is_between, statement_item, after_statement, statements, in_block, front, behind, after_at_rule}
+use Rattle.css_semantics.specs.SheetsReading.{start_of, extent, trimmed, is_screen, is_between}
+use Rattle.css_semantics.specs.steps.Sheets.{rule_of, ruleset_of, block_rule, after_selector, after_ruleset, rule_item, after_rule, rules_in, entry_item, after_entry, entries, holds, media_of, at_rule, statement_item, after_statement, statements, in_block, front, behind, after_at_rule}
 use Rattle.css_semantics.specs.SheetsGrammar.{IsStretch, Listed, RulesetAt, ruleset_with, unfinished, RuleItem, blank_rule, dropped_at_rule, kept_rule, AreRules, EntryItem, entry, HasMedium, every_medium, screen_medium, AtStatement, an_import, a_page, a_query, held_media, other_media, unknown, StatementItem, between, at_statement, rule_statement, AreStatements}
 use Rattle.css_semantics.proofs.Pairs.{by_bool}
 use Rattle.css_semantics.proofs.Stretches.{is_stretch, stretch_front, stretch_behind}

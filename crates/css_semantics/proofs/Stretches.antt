@@ -4,7 +4,8 @@ use Rattle.std.proofs.lemmas.List.{take-append-drop}
 use Rattle.std.proofs.Math.Seq.{take-append_seam, drop-append_seam}
 use Rattle.css_semantics.specs.Pieces.{Token}
 use Rattle.viz_base.specs.declared.tokens.TokenKind.{TokenKind}
-use Rattle.css_semantics.specs.SheetsReading.{awaited, is_none, stretch_len, front, behind}
+use Rattle.css_semantics.specs.SheetsReading.{awaited, is_none, stretch_len}
+use Rattle.css_semantics.specs.steps.Sheets.{front, behind}
 use Rattle.css_semantics.specs.SheetsGrammar.{Paired, EndsAt, IsStretch}
 use Rattle.css_semantics.proofs.Pairs.{by_bool, marks_after, paired_marks, marks_paired}
 

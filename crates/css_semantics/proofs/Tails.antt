@@ -2,7 +2,8 @@
 use Rattle.std.proofs.Common.{◌≡◌, ℕ, suc, ◌+◌, Bool, true, false, cond, ◌||◌, List, [], ◌∷◌, drop, refl, ◌∙◌, ap, arith}
 use Rattle.css_semantics.specs.Pieces.{Token}
 use Rattle.css_semantics.specs.SheetsMarks.{is_left_brace, is_gap, is_semicolon, is_at_keyword, ends_prelude, ends_selector, ends_block, ends_declaration, ends_entry}
-use Rattle.css_semantics.specs.SheetsReading.{stretch_len, awaited, behind, after_block, after_prelude, after_at_rule, after_selector, after_ruleset, after_declaration, after_rule, after_statement, after_entry, is_blank, is_between}
+use Rattle.css_semantics.specs.SheetsReading.{stretch_len, awaited, is_blank, is_between}
+use Rattle.css_semantics.specs.steps.Sheets.{behind, after_block, after_prelude, after_at_rule, after_selector, after_ruleset, after_declaration, after_rule, after_statement, after_entry}
 use Rattle.css_semantics.proofs.Gathering.{IsTail, HasTails, drop-drop, tail_all, tail_nil, tail_drop, tail_tail}
 
 pub tail_if : (b : Bool) (x y ts : List Token) → (b ≡ true → IsTail x ts) → (b ≡ false → IsTail y ts) → IsTail (cond b x y) ts

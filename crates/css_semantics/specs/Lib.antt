@@ -9,6 +9,7 @@ pub mod Tokens
 pub mod SheetsMarks
 pub mod SheetsReading
 pub mod SheetsGrammar
+pub mod steps
 pub mod SelectorTerminals
 pub mod SelectorGrammar
 pub mod Matching

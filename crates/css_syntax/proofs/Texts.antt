@@ -4,7 +4,8 @@ use Rattle.css_semantics.specs.Pieces.{Token}
 use Rattle.viz_base.specs.declared.sheets.Sheet.{Sheet}
 use Rattle.viz_base.specs.declared.sheets.Decl.{Decl}
 use Rattle.css_semantics.specs.Tokens.{AreTokens}
-use Rattle.css_semantics.specs.SheetsReading.{Refusal, read_on, statements, closed_by_end, sheet_of, declarations}
+use Rattle.css_semantics.specs.SheetsReading.{Refusal, closed_by_end}
+use Rattle.css_semantics.specs.steps.Sheets.{read_on, statements, sheet_of, declarations}
 use Rattle.css_semantics.specs.SheetsGrammar.{IsSheet, IsSheetOf, AreDeclarations, AreDeclarationsOf}
 use Rattle.css_semantics.proofs.Answers.{is_sheet}
 use Rattle.css_semantics.proofs.Declarations.{are_declarations}

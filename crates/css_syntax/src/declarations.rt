@@ -1,6 +1,7 @@
 ghost use Rattle.std.specs.Prelude.{◌≡◌, [], None, Some, IfOk, MatchOption};
 ghost use Rattle.std.specs.Option.{option_to_list};
-ghost use Rattle.css_semantics.specs.SheetsReading.{after_declaration, at_head, before_important, before_last, before_trimmed, decl_of, declaration, declaration_item, declarations, declared, goes_on, is_blank, is_closed, is_value};
+ghost use Rattle.css_semantics.specs.SheetsReading.{before_important, before_last, before_trimmed, decl_of, goes_on, is_blank, is_closed};
+ghost use Rattle.css_semantics.specs.steps.Sheets.{after_declaration, at_head, declaration, declaration_item, declarations, declared, is_value};
 
 use crate::slices::{Class, extent, is_all_gap, place, start_of, trim, trim_end, trim_start};
 use crate::stretches::{Stop, after_at_rule, split};

@@ -1,6 +1,7 @@
 ghost use Rattle.std.specs.Prelude.{◌≡◌, [], IfOk};
 ghost use Rattle.std.specs.List.{list_any};
-ghost use Rattle.css_semantics.specs.SheetsReading.{entries, holds, is_screen};
+ghost use Rattle.css_semantics.specs.SheetsReading.{is_screen};
+ghost use Rattle.css_semantics.specs.steps.Sheets.{entries, holds};
 
 use crate::slices::{Class, is_all_gap, trim};
 use crate::stretches::{Stop, skip_first, split};

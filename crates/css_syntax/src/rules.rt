@@ -1,6 +1,6 @@
 ghost use Rattle.std.specs.Prelude.{◌≡◌, [], None, Some, IfOk, MatchOption};
 ghost use Rattle.std.specs.Option.{option_to_list};
-ghost use Rattle.css_semantics.specs.SheetsReading.{after_rule, after_ruleset, at_head, block_rule, rule_item, rule_of, rules_in};
+ghost use Rattle.css_semantics.specs.steps.Sheets.{after_rule, after_ruleset, at_head, block_rule, rule_item, rule_of, rules_in};
 
 use crate::declarations::declarations;
 use crate::slices::{Class, extent, place, start_of, trim};

@@ -1,7 +1,7 @@
 ghost use Rattle.std.specs.Prelude.{◌≡◌, [], true, Ok, IfOk, OnOk};
 ghost use Rattle.std.specs.Result.{IfErr};
 ghost use Rattle.viz_base.specs.Answers.{Gives, GivesOneOf};
-ghost use Rattle.css_semantics.specs.SheetsReading.{read_on, statements, with_statement};
+ghost use Rattle.css_semantics.specs.steps.Sheets.{read_on, statements, with_statement};
 ghost use Rattle.css_semantics.specs.SheetsGrammar.{AreDeclarationsOf, IsSheetOf};
 ghost use Rattle.css_syntax.specs.Faults.{Refuses, refusal_of, rules_in};
 

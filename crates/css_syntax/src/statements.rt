@@ -2,7 +2,7 @@ ghost use Rattle.std.specs.Prelude.{◌≡◌, [], IfOk, if◌then◌else◌};
 ghost use Rattle.std.specs.List.{list_any};
 ghost use Rattle.std.specs.Option.{option_to_list};
 ghost use Rattle.css_semantics.specs.SheetsMarks.{has_paren};
-ghost use Rattle.css_semantics.specs.SheetsReading.{after_statement, at_head, at_rule, holds, in_block, media_of, rules_in, statement_item};
+ghost use Rattle.css_semantics.specs.steps.Sheets.{after_statement, at_head, at_rule, holds, in_block, media_of, rules_in, statement_item};
 
 use crate::media::holds;
 use crate::rules::{block_rule, rules_in};

@@ -1,7 +1,8 @@
 ghost use Rattle.std.specs.Prelude.{◌≡◌, ◌≤◌, [], ◌∷◌, length, IfOk};
 ghost use Rattle.std.specs.Option.{option_to_list};
 ghost use Rattle.css_semantics.specs.SheetsMarks.{text_of};
-ghost use Rattle.css_semantics.specs.SheetsReading.{at_head, gathered};
+ghost use Rattle.css_semantics.specs.SheetsReading.{gathered};
+ghost use Rattle.css_semantics.specs.steps.Sheets.{at_head};
 ghost use Rattle.css_semantics.specs.ValuesParts.{after_part, after_sign, delim_part, is_amount, is_minus, is_sign, part_item, part_of, parts, signed_part};
 
 use crate::amounts::amount_of;

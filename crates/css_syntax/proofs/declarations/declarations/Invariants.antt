@@ -1,5 +1,5 @@
 use Rattle.std.proofs.Common.{length, ◌-◌, ◌≡◌, ◌++◌, drop}
-use Rattle.css_semantics.specs.SheetsReading.{declarations}
+use Rattle.css_semantics.specs.steps.Sheets.{declarations}
 use Rattle.css_syntax.proofs.declarations.declarations.Given as goal
 
 abbrev pub invariant-loop-at : goal.invariant-loop-at

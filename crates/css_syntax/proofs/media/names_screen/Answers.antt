@@ -1,7 +1,8 @@
 use Rattle.std.proofs.Common.{◌≡◌, ◌<◌, ◌-◌, [], ◌∷◌, length, take, drop, false, true, ap, sym, ◌∙◌, arith, length-drop}
 use Rattle.std.specs.List.{list_any}
 use Rattle.css_semantics.specs.SheetsMarks.{ends_entry}
-use Rattle.css_semantics.specs.SheetsReading.{after_entry, at_head, entries, entry_item, front, is_screen}
+use Rattle.css_semantics.specs.SheetsReading.{is_screen}
+use Rattle.css_semantics.specs.steps.Sheets.{after_entry, at_head, entries, entry_item, front}
 use Rattle.css_semantics.proofs.Gathering.{left_of, turn_rest, turn_smaller, turn_gathered}
 use Rattle.css_semantics.proofs.Tails.{entry_tails}
 use Rattle.css_semantics.proofs.Reading.{entry_head, entry_after, any_none, any_head}

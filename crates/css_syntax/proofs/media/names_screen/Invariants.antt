@@ -1,6 +1,7 @@
 use Rattle.std.proofs.Common.{length, ◌-◌, ◌≡◌, drop}
 use Rattle.std.specs.List.{list_any}
-use Rattle.css_semantics.specs.SheetsReading.{entries, is_screen}
+use Rattle.css_semantics.specs.SheetsReading.{is_screen}
+use Rattle.css_semantics.specs.steps.Sheets.{entries}
 use Rattle.css_syntax.proofs.media.names_screen.Given as goal
 
 abbrev pub invariant-loop-at : goal.invariant-loop-at

@@ -1,6 +1,6 @@
 use Rattle.std.proofs.Common.{◌≡◌, ◌++◌, ◌∙◌}
 use Rattle.std.specs.Option.{option_to_list}
-use Rattle.css_semantics.specs.SheetsReading.{after_rule, rule_item}
+use Rattle.css_semantics.specs.steps.Sheets.{after_rule, rule_item}
 use Rattle.css_semantics.proofs.Gathering.{turn_rest, turn_smaller, turn_gathered, gathered_more, pushed_some, pushed_none}
 use Rattle.css_semantics.proofs.Tails.{rule_tails}
 use Rattle.css_syntax.proofs.rules.rules_in.Goals as goal

@@ -1,5 +1,5 @@
 use Rattle.std.proofs.Common.{length, ◌-◌, ◌≡◌, ◌++◌, drop}
-use Rattle.css_semantics.specs.SheetsReading.{rules_in}
+use Rattle.css_semantics.specs.steps.Sheets.{rules_in}
 use Rattle.css_syntax.proofs.rules.rules_in.Given as goal
 
 abbrev pub invariant-loop-at : goal.invariant-loop-at

@@ -1,5 +1,5 @@
 use Rattle.std.proofs.Common.{ap, sym, ◌∙◌, length, ◌-◌, drop}
-use Rattle.css_semantics.specs.SheetsReading.{after_statement, read_on, statement_item, statements}
+use Rattle.css_semantics.specs.steps.Sheets.{after_statement, read_on, statement_item, statements}
 use Rattle.css_semantics.proofs.Gathering.{turn_rest, turn_smaller, turn_gathered}
 use Rattle.css_semantics.proofs.Tails.{statement_tails}
 use Rattle.css_semantics.proofs.Reading.{read_goes, read_none, read_some}

@@ -1,5 +1,5 @@
 use Rattle.std.proofs.Common.{length, ◌-◌, ◌≡◌, drop, [], true}
-use Rattle.css_semantics.specs.SheetsReading.{read_on, statements}
+use Rattle.css_semantics.specs.steps.Sheets.{read_on, statements}
 use Rattle.css_syntax.proofs.sheets.read_rules.Given as goal
 
 abbrev pub invariant-loop-at : goal.invariant-loop-at
