@@ -5,6 +5,7 @@ use Rattle.std.specs.List.{AllByRecursion}
 use Rattle.std.specs.Ordering.{is_gt, is_lt, ordering_reverse}
 use Rattle.std.specs.declared.cmp.Ordering.{Ordering}
 use Rattle.std.specs.declared.cmp.Ordering.TheVariants.{Less, Equal, Greater}
+use Rattle.std.proofs.lemmas.List.{append-nil}
 use Rattle.std.proofs.lemmas.Cmp.{upto, then_total, on_total, nat_cmp_total}
 use Rattle.css_semantics.specs.CascadeOrder.{IsGreatest, cascade_cmp, greatest, greatest_from, later_of, spec_cmp, weight_number}
 
@@ -45,10 +46,6 @@ all_middle : {A : Type 0} (P : A → Type 0) (xs : List A) (y : A) (ys : List A)
 all_middle P [] y ys h = h.0
 all_middle P (x ∷ xs) y ys h = all_middle P xs y ys h.1
 
-end_of_list : {A : Type 0} (xs : List A) → xs ++ [] ≡ xs
-end_of_list [] = refl
-end_of_list (x ∷ xs) = ap (λ ys. x ∷ ys) (end_of_list xs)
-
 -- ---- what is computed is greatest
 
 kept_best : {A : Type 0} {R : A → A → Ordering} (o : IsTotalOrder R) (front : List A) (best x : A) → is_gt (R best x) ≡ true → IsGreatest R front best → IsGreatest R (front ++ x ∷ []) best
@@ -77,7 +74,7 @@ one_further o front best x true e g = rw e (kept_best o front best x e g)
 one_further o front best x false e g = rw e (new_best o front best x e g)
 
 from_is : {A : Type 0} {R : A → A → Ordering} (o : IsTotalOrder R) (front : List A) (best : A) (xs : List A) → IsGreatest R front best → IsGreatest R (front ++ xs) (greatest_from R best xs)
-from_is {R = R} o front best [] g = subst (λ l. IsGreatest R l best) (sym (end_of_list front)) g
+from_is {R = R} o front best [] g = subst (λ l. IsGreatest R l best) (sym (append-nil front)) g
 from_is {R = R} o front best (x ∷ xs) g =
     subst (λ l. IsGreatest R l (greatest_from R (later_of R best x) xs)) (append_assoc front (x ∷ []) xs)
     (from_is o (front ++ x ∷ []) (later_of R best x) xs (one_further o front best x (is_gt (R best x)) refl g))
