@@ -17,9 +17,9 @@ use Rattle.css_semantics.specs.CascadeOrder.{Applied, applied, cascade_cmp, grea
 use Rattle.css_semantics.specs.Properties.{properties}
 use Rattle.css_semantics.proofs.Greatest.{cascade_total, spec_total}
 use Rattle.css_semantics.proofs.Pairs.{by_bool}
-use Rattle.css_cascade.specs.Seen.{claims_in, greatest_on, kept_all, later_or, winner_on}
+use Rattle.css_cascade.specs.steps.Seen.{claims_in, greatest_on, kept_all, later_or, winner_on}
 use Rattle.css_cascade.specs.declared.trimming.Trimmed.{Trimmed}
-use Rattle.css_cascade.specs.Trimming.{IsTrimmed, LastsAs, rules_of}
+use Rattle.css_cascade.specs.steps.Trimming.{IsTrimmed, LastsAs, rules_of}
 use Rattle.css_cascade.proofs.Orders.{HasProp, same_prop, winner_has}
 use Rattle.css_cascade.proofs.Slots.{all_kept, claims_are, slots_are}
 use Rattle.css_cascade.proofs.Winners.{kept, nothing}

@@ -6,8 +6,8 @@ use Rattle.css_semantics.specs.declared.claims.Claim.{Claim}
 use Rattle.css_semantics.specs.CascadeNodes.{winners_of}
 use Rattle.css_semantics.specs.CascadeOrder.{Applied}
 use Rattle.css_semantics.specs.Properties.{properties}
-use Rattle.css_cascade.specs.Seen.{claims_in, kept, kept_all}
-use Rattle.css_cascade.specs.Trimming.{slots}
+use Rattle.css_cascade.specs.steps.Seen.{claims_in, kept, kept_all}
+use Rattle.css_cascade.specs.steps.Trimming.{slots}
 use Rattle.css_cascade.proofs.Slots.{claims_are, slots_are}
 
 pub slots_behind : (best : List (Option Applied)) (xs ys : List Applied) → kept_all best (xs ++ ys) ≡ kept_all (kept_all best xs) ys

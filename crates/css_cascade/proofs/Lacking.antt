@@ -11,8 +11,8 @@ use Rattle.viz_base.specs.declared.selectors.Join.TheVariants.{First, Descendant
 use Rattle.viz_base.specs.declared.selectors.Test.{Test}
 use Rattle.viz_base.specs.declared.selectors.Test.TheVariants.{Id, Class, Has, Equals, Word, Dash, FirstChild, Link, Never}
 use Rattle.css_semantics.specs.Matching.{HasTag, IsElementAt, Match, MatchesCompound, MatchesParts, Passes}
-use Rattle.css_cascade.specs.Buckets.{bucket_of, element_buckets}
-use Rattle.css_cascade.specs.Present.{body_buckets, is_present, lacks_some, lacks_tag, lacks_test, lacks_word, marked, marked_nodes, present_in}
+use Rattle.css_cascade.specs.steps.Buckets.{bucket_of, element_buckets}
+use Rattle.css_cascade.specs.steps.Present.{body_buckets, is_present, lacks_some, lacks_tag, lacks_test, lacks_word, marked, marked_nodes, present_in}
 use Rattle.css_cascade.proofs.Words.{by_class, by_id, by_tag}
 
 -- ---- what is marked

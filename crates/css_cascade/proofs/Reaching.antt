@@ -1,5 +1,6 @@
 -- What a loop over items has joined, and what the rest gives behind it.
 use Rattle.std.proofs.Common.{◌≡◌, ℕ, ◌+◌, ◌<◌, ◌≤◌, suc, zero, List, [], ◌∷◌, ◌++◌, length, drop, get_or, map, Result, Ok, Err, refl, sym, ap, subst, append_assoc, add-one, drop-cons, arith}
+use Rattle.std.proofs.lemmas.List.{append-nil}
 use Rattle.viz_base.specs.declared.sheets.Rule.{Rule}
 use Rattle.viz_base.specs.declared.sheets.Sheet.{Sheet}
 use Rattle.css_semantics.specs.declared.claims.Origin.{Origin}
@@ -42,12 +43,8 @@ drop_all [] (suc i) h = refl
 drop_all (x ∷ xs) zero h = absurd (omega arith)
 drop_all (x ∷ xs) (suc i) h = drop_all xs i (omega arith)
 
-pub append_nothing : {A : Type 0} (xs : List A) → xs ++ [] ≡ xs
-append_nothing [] = refl
-append_nothing (x ∷ xs) = ap (λ ys. x ∷ ys) (append_nothing xs)
-
 pub reached_end : {A B E : Type 0} {Gives : A → Result (List B) E → Type 0} {xs : List A} {i : ℕ} {items : List B} → length xs ≤ i → Reached Gives xs i items → Each Gives xs (Ok items)
-reached_end {Gives = Gives} {xs = xs} {i = i} {items = items} h r = subst (λ all. Each Gives xs (Ok all)) (append_nothing items) (r.goes (Ok []) (subst (λ rest. Each Gives rest (Ok [])) (sym (drop_all xs i h)) nothing))
+reached_end {Gives = Gives} {xs = xs} {i = i} {items = items} h r = subst (λ all. Each Gives xs (Ok all)) (append-nil items) (r.goes (Ok []) (subst (λ rest. Each Gives rest (Ok [])) (sym (drop_all xs i h)) nothing))
 
 -- ---- what reads the rules of one sheet after another
 
@@ -96,5 +93,5 @@ no_rules at (t ∷ texts) (s ∷ sheets) e = cc
 
 pub sheets_end : (texts : List (List ℕ)) (sheets : List Sheet) (at : ℕ) (items : List Ruleset) → length sheets ≤ at → ReachedSheets texts sheets at items → AreRulesets texts sheets (Ok items)
 sheets_end texts sheets at items h r =
-    subst (λ all. AreRulesets texts sheets (Ok all)) (append_nothing items)
+    subst (λ all. AreRulesets texts sheets (Ok all)) (append-nil items)
     (r.goes (Ok []) (subst (λ rules. Each Rulesets rules (Ok [])) (sym (no_rules at (drop at texts) (drop at sheets) (drop_all sheets at h))) nothing))

@@ -1,5 +1,6 @@
 -- A selector that repeats the last one of its ruleset adds nothing.
 use Rattle.std.proofs.Common.{◌≡◌, ℕ, ◌==◌, ◌⊎◌, inl, inr, Bool, true, false, cond, List, [], ◌∷◌, ◌++◌, Some, None, refl, sym, ◌∙◌, ap, subst, arith, append_assoc}
+use Rattle.std.proofs.lemmas.List.{append-nil}
 use Rattle.std.specs.Ordering.{is_gt}
 use Rattle.std.proofs.lemmas.Bool.Decides.{nat_tests}
 use Rattle.viz_base.specs.declared.nodes.Node.{Node}
@@ -8,9 +9,8 @@ use Rattle.css_semantics.specs.declared.claims.Ranked.{Ranked}
 use Rattle.css_semantics.specs.CascadeOrder.{later_of, spec_cmp}
 use Rattle.css_semantics.specs.Matching.{Match}
 use Rattle.css_cascade.specs.declared.trying.Found.{Found}
-use Rattle.css_cascade.specs.Buckets.{Numbered, RepeatsLast}
-use Rattle.css_cascade.specs.Trying.{Matched, StandFor, found, joined, strongest_behind}
-use Rattle.css_cascade.proofs.Reaching.{append_nothing}
+use Rattle.css_cascade.specs.steps.Buckets.{Numbered, RepeatsLast}
+use Rattle.css_cascade.specs.steps.Trying.{Matched, StandFor, found, joined, strongest_behind}
 
 -- ---- selectors in two parts
 
@@ -152,7 +152,7 @@ repeated_at nodes n i last r all before after found_all whole parts spec is m sa
 repeated_at nodes n i last r all before after found_all whole parts spec is m same (inr h) = record {
   whole = whole ++ [];
   matched = matched_append nodes n m (Matched.passes_by (λ yes. h.0 (subst (λ ps. Match ps nodes n) (sym parts) yes)) Matched.none);
-  same = same ∙ ap (strongest_behind None) (sym (append_nothing whole));
+  same = same ∙ ap (strongest_behind None) (sym (append-nil whole));
 }
 
 pub stand_for_repeated : (nodes : List Node) (some all : List Numbered) (i : ℕ) (r : Ranked) → RepeatsLast some i r → StandFor nodes some all → StandFor nodes some (all ++ (i, r) ∷ [])
@@ -169,7 +169,7 @@ stand_for_lacking nodes some all x never h = λ n found m.
     let k = h n found m in (
       k.0 ++ [],
       matched_append nodes n k.1 (Matched.passes_by (never n) Matched.none),
-      k.2 ∙ ap (strongest_behind None) (sym (append_nothing k.0)),
+      k.2 ∙ ap (strongest_behind None) (sym (append-nil k.0)),
     )
 
 pub nothing_for_nothing : (nodes : List Node) (some : List Numbered) → some ≡ [] → StandFor nodes some []

@@ -6,7 +6,7 @@ use Rattle.viz_base.specs.declared.settings.Prop.TheVariants as prop
 use Rattle.css_semantics.specs.CascadeOrder.{Applied, is_prop, place_of, winner_of}
 use Rattle.css_semantics.specs.CascadeNodes.{winners_for}
 use Rattle.css_semantics.specs.Properties.{properties}
-use Rattle.css_cascade.specs.Seen.{claims_in, kept, kept_all, later_or, winner_on, winner_with}
+use Rattle.css_cascade.specs.steps.Seen.{claims_in, kept, kept_all, later_or, winner_on, winner_with}
 use Rattle.css_cascade.proofs.Winners.{winner_on_is}
 
 abbrev put : Prop → Applied → (Prop → Option Applied) → Prop → Option Applied

@@ -15,10 +15,10 @@ use Rattle.css_semantics.specs.Properties.{properties}
 use Rattle.css_semantics.proofs.Allowed.{all_append}
 use Rattle.css_cascade.specs.declared.trimming.Trimmed.{Trimmed}
 use Rattle.css_cascade.specs.declared.trying.Found.{Found}
-use Rattle.css_cascade.specs.Buckets.{Numbered, numbered_from}
-use Rattle.css_cascade.specs.Seen.{kept_all, winner_on}
-use Rattle.css_cascade.specs.Trimming.{AreKept, IsTrimmed, rules_of, slots}
-use Rattle.css_cascade.specs.Trying.{AreTried, Behind, Matched, StandFor, claims_at, joined, said, strongest_behind}
+use Rattle.css_cascade.specs.steps.Buckets.{Numbered, numbered_from}
+use Rattle.css_cascade.specs.steps.Seen.{kept_all, winner_on}
+use Rattle.css_cascade.specs.steps.Trimming.{AreKept, IsTrimmed, rules_of, slots}
+use Rattle.css_cascade.specs.steps.Trying.{AreTried, Behind, Matched, StandFor, claims_at, joined, said, strongest_behind}
 use Rattle.css_cascade.proofs.Keeping.{slots_behind}
 use Rattle.css_cascade.proofs.Slots.{all_kept}
 

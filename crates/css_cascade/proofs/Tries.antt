@@ -8,8 +8,8 @@ use Rattle.css_semantics.specs.CascadeOrder.{Applied}
 use Rattle.css_semantics.specs.Matching.{Match}
 use Rattle.css_cascade.specs.declared.trimming.Trimmed.{Trimmed}
 use Rattle.css_cascade.specs.declared.trying.Found.{Found}
-use Rattle.css_cascade.specs.Buckets.{Numbered}
-use Rattle.css_cascade.specs.Trying.{AreTried, Behind, IsTried, Matched, Rises}
+use Rattle.css_cascade.specs.steps.Buckets.{Numbered}
+use Rattle.css_cascade.specs.steps.Trying.{AreTried, Behind, IsTried, Matched, Rises}
 use Rattle.css_cascade.proofs.Reaching.{drop_all}
 
 -- ---- numbers that rise

@@ -2,7 +2,7 @@
 use Rattle.std.proofs.Common.{◌≡◌, Bool, true, false, List, [], ◌∷◌, filter, Option, Some, None, refl, ◌∙◌}
 use Rattle.viz_base.specs.declared.settings.Prop.{Prop}
 use Rattle.css_semantics.specs.CascadeOrder.{Applied, cascade_cmp, is_prop, winner_of}
-use Rattle.css_cascade.specs.Seen.{greatest_on, later_or, winner_on}
+use Rattle.css_cascade.specs.steps.Seen.{greatest_on, later_or, winner_on}
 
 abbrev is_of : Prop → Applied → Bool
 is_of p a = is_prop a.claim.prop p

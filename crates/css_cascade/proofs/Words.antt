@@ -19,7 +19,7 @@ use Rattle.viz_base.specs.declared.selectors.Test.TheVariants.{Id, Class}
 use Rattle.css_semantics.specs.Matching.{BeginsWhite, EndsWhite, HasAttribute, HasTag, IsElementAt, IsWordOf, Match, MatchesCompound, MatchesParts, Passes}
 use Rattle.css_semantics.specs.Names.{same_name}
 use Rattle.css_semantics.specs.TokensLetters.{is_space}
-use Rattle.css_cascade.specs.Buckets.{IsWordIn, IsWordOfLast, attribute_buckets, bucket_behind, bucket_from, bucket_of, buckets_from, class_buckets, element_buckets, id_buckets}
+use Rattle.css_cascade.specs.steps.Buckets.{IsWordIn, IsWordOfLast, attribute_buckets, bucket_behind, bucket_from, bucket_of, buckets_from, class_buckets, element_buckets, id_buckets}
 use Rattle.css_cascade.proofs.Keeping.{all_at}
 
 pub first_in : {A : Type 0} (x : A) (xs : List A) → Contains (x ∷ xs) x

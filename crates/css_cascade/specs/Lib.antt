@@ -1,6 +1,2 @@
-pub mod Seen
 pub mod Faults
-pub mod Trimming
-pub mod Buckets
-pub mod Present
-pub mod Trying
+pub mod steps

@@ -8,9 +8,9 @@ ghost use Rattle.css_semantics.specs.SheetsGrammar.{AreDeclarationsOf};
 ghost use Rattle.css_semantics.specs.CascadeReading.{AreClaimed, IsStyled, style_of};
 ghost use Rattle.css_semantics.specs.Matching.{IsElementAt};
 ghost use Rattle.css_select.specs.steps.Trees.{AreSiblings};
-ghost use Rattle.css_cascade.specs.Seen.{seen};
-ghost use Rattle.css_cascade.specs.Trimming.{AreKept, IsTrimmed, rules_of};
-ghost use Rattle.css_cascade.specs.Trying.{AreBuckets};
+ghost use Rattle.css_cascade.specs.steps.Seen.{seen};
+ghost use Rattle.css_cascade.specs.steps.Trimming.{AreKept, IsTrimmed, rules_of};
+ghost use Rattle.css_cascade.specs.steps.Trying.{AreBuckets};
 
 use crate::buckets::Buckets;
 use crate::order::{Applied, keep_claims, no_winners};

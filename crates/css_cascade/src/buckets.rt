@@ -2,10 +2,10 @@ ghost use Rattle.std.specs.Prelude.{◌≡◌, ◌<◌, ◌++◌, [], ◌∷◌,
 ghost use Rattle.std.specs.List.{Contains};
 ghost use Rattle.viz_base.specs.declared.nodes.Node.{Node};
 ghost use Rattle.viz_base.specs.declared.selectors.Test.TheVariants as of_test;
-ghost use Rattle.css_cascade.specs.Buckets.{AllStand, IsLast, IsWordIn, IsWordOfLast, Numbered, RepeatsLast, numbered};
-ghost use Rattle.css_cascade.specs.Present.{present_in};
-ghost use Rattle.css_cascade.specs.Trying.{AreBuckets, StandFor};
-ghost use Rattle.css_cascade.specs.Trimming.{rules_of};
+ghost use Rattle.css_cascade.specs.steps.Buckets.{AllStand, IsLast, IsWordIn, IsWordOfLast, Numbered, RepeatsLast, numbered};
+ghost use Rattle.css_cascade.specs.steps.Present.{present_in};
+ghost use Rattle.css_cascade.specs.steps.Trying.{AreBuckets, StandFor};
+ghost use Rattle.css_cascade.specs.steps.Trimming.{rules_of};
 
 use crate::names::{BUCKETS, bucket_of};
 use crate::present::{lacks_some, present_in};

@@ -6,8 +6,8 @@ ghost use Rattle.css_semantics.specs.Winners.{AreWinners};
 ghost use Rattle.viz_base.specs.Answers.{GivesOneOf};
 ghost use Rattle.css_select.specs.steps.Trees.{AreSiblings};
 ghost use Rattle.css_cascade.specs.Faults.{IsPlaced, Judges, refusal_of};
-ghost use Rattle.css_cascade.specs.Trimming.{IsTrimmed, rules_of};
-ghost use Rattle.css_cascade.specs.Trying.{AreBuckets};
+ghost use Rattle.css_cascade.specs.steps.Trimming.{IsTrimmed, rules_of};
+ghost use Rattle.css_cascade.specs.steps.Trying.{AreBuckets};
 
 use crate::applying::{applied, styled};
 use crate::buckets::{Buckets, buckets_of};

@@ -1,7 +1,7 @@
 ghost use Rattle.std.specs.Prelude.{◌≡◌, ◌<◌, ◌++◌, ℕ, OnOk, IfOk};
 ghost use Rattle.std.specs.List.{Contains};
 ghost use Rattle.css_semantics.specs.TokensLetters.{is_space};
-ghost use Rattle.css_cascade.specs.Buckets.{attribute_buckets, bucket_behind, bucket_of, buckets_from, class_buckets, element_buckets, id_buckets};
+ghost use Rattle.css_cascade.specs.steps.Buckets.{attribute_buckets, bucket_behind, bucket_of, buckets_from, class_buckets, element_buckets, id_buckets};
 
 use css_token::same_name;
 use std::alloc::Global;

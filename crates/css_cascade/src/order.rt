@@ -1,7 +1,7 @@
 ghost use Rattle.std.specs.Prelude.{◌≡◌, ◌<◌, map, flat_map, length, option_map, None, IfOk};
 ghost use Rattle.css_semantics.specs.CascadeOrder.{applied, cascade_cmp, later_of, place_of, spec_cmp, weight_number};
 ghost use Rattle.css_semantics.specs.Properties.{properties};
-ghost use Rattle.css_cascade.specs.Seen.{claims_in, kept, kept_all, later_or, seen};
+ghost use Rattle.css_cascade.specs.steps.Seen.{claims_in, kept, kept_all, later_or, seen};
 
 use css_semantics::{Claim, Weight};
 use std::alloc::Global;

@@ -1,8 +1,8 @@
 ghost use Rattle.std.specs.Prelude.{◌≡◌, false, replicate, reverse, set, true, IfOk, OnOk};
 ghost use Rattle.std.specs.List.{list_any};
 ghost use Rattle.viz_base.specs.Selectors.{is_first};
-ghost use Rattle.css_cascade.specs.Present.{body_buckets, is_present, lacks_behind, lacks_some, lacks_tag};
-ghost use Rattle.css_cascade.specs.Present.{lacks_test, lacks_word, marked, present_in};
+ghost use Rattle.css_cascade.specs.steps.Present.{body_buckets, is_present, lacks_behind, lacks_some, lacks_tag};
+ghost use Rattle.css_cascade.specs.steps.Present.{lacks_test, lacks_word, marked, present_in};
 
 use crate::names::{BUCKETS, bucket_of, words_of};
 use std::alloc::Global;

@@ -1,5 +1,5 @@
 ghost use Rattle.std.specs.Prelude.{map, IfOk};
-ghost use Rattle.css_cascade.specs.Trimming.{AreTrimmed, LastsAs};
+ghost use Rattle.css_cascade.specs.steps.Trimming.{AreTrimmed, LastsAs};
 
 use crate::order::{claims_among, keep_claims, no_winners};
 use css_semantics::{Claim, Ruleset};

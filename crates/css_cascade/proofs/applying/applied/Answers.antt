@@ -1,7 +1,7 @@
 use Rattle.std.proofs.Common.{map, sym, subst}
-use Rattle.css_cascade.specs.Buckets.{numbered, numbered_from}
-use Rattle.css_cascade.specs.Trimming.{rules_of}
-use Rattle.css_cascade.specs.Trying.{AreAll, StandFor}
+use Rattle.css_cascade.specs.steps.Buckets.{numbered, numbered_from}
+use Rattle.css_cascade.specs.steps.Trimming.{rules_of}
+use Rattle.css_cascade.specs.steps.Trying.{AreAll, StandFor}
 use Rattle.css_cascade.proofs.Standing.{are_all}
 use Rattle.css_cascade.proofs.Strongest.{tried_kept}
 use Rattle.css_cascade.proofs.applying.applied.Goals as goal

@@ -1,8 +1,8 @@
 use Rattle.std.proofs.Common.{◌≡◌, ◌++◌, List, length, drop, map}
-use Rattle.css_cascade.specs.Buckets.{AllStand, Numbered, numbered, numbered_from}
-use Rattle.css_cascade.specs.Present.{present_in}
-use Rattle.css_cascade.specs.Trimming.{rules_of}
-use Rattle.css_cascade.specs.Trying.{StandFor}
+use Rattle.css_cascade.specs.steps.Buckets.{AllStand, Numbered, numbered, numbered_from}
+use Rattle.css_cascade.specs.steps.Present.{present_in}
+use Rattle.css_cascade.specs.steps.Trimming.{rules_of}
+use Rattle.css_cascade.specs.steps.Trying.{StandFor}
 use Rattle.css_cascade.proofs.buckets.buckets_of.Given as goal
 
 abbrev pub invariant-loop-rules : goal.invariant-loop-rules

@@ -2,8 +2,8 @@ use Rattle.std.proofs.Common.{◌∙◌, [], map, rules, ap, sym, subst}
 use Rattle.css_semantics.specs.Cascade.{Goes, IsCascade, cascaded}
 use Rattle.viz_base.specs.Answers.{FailsWith}
 use Rattle.css_cascade.specs.Faults.{refusal_of}
-use Rattle.css_cascade.specs.Trimming.{rules_of}
-use Rattle.css_cascade.specs.Trying.{AreBuckets}
+use Rattle.css_cascade.specs.steps.Trimming.{rules_of}
+use Rattle.css_cascade.specs.steps.Trying.{AreBuckets}
 use Rattle.css_cascade.proofs.Outcomes.{lists_on, places_on}
 use Rattle.css_cascade.proofs.Rulesets.{gives_on, refused_page}
 use Rattle.css_cascade.proofs.cascading.cascade.Goals as goal

@@ -2,7 +2,7 @@ use Rattle.std.proofs.Common.{◌≡◌, ◌++◌, ◌∷◌, ◌<◌, ◌≤◌
 use Rattle.css_semantics.specs.Cascade.{ComesTo, Goes}
 use Rattle.viz_base.specs.Answers.{FailsWith}
 use Rattle.css_cascade.specs.Faults.{Judges, refusal_of}
-use Rattle.css_cascade.specs.Trimming.{rules_of}
+use Rattle.css_cascade.specs.steps.Trimming.{rules_of}
 use Rattle.css_cascade.proofs.Walks.{ReachedNodes, nodes_more, nodes_refusal, nodes_end}
 use Rattle.css_cascade.proofs.cascading.cascade_nodes.Goals as goal
 

@@ -1,5 +1,5 @@
 use Rattle.std.proofs.Common.{map}
-use Rattle.css_cascade.specs.Trimming.{rules_of}
+use Rattle.css_cascade.specs.steps.Trimming.{rules_of}
 use Rattle.css_cascade.proofs.Walks.{ReachedNodes}
 use Rattle.css_cascade.proofs.cascading.cascade_nodes.Given as goal
 

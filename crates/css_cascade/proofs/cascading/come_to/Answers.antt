@@ -3,8 +3,8 @@ use Rattle.std.specs.Prelude.{flat_map}
 use Rattle.css_semantics.specs.CascadeNodes.{winners_of}
 use Rattle.css_semantics.specs.CascadeOrder.{Applied, applied, style_spec}
 use Rattle.css_semantics.specs.CascadeReading.{AreApplied, IsStyled}
-use Rattle.css_cascade.specs.Seen.{claims_in, seen}
-use Rattle.css_cascade.specs.Trimming.{rules_of}
+use Rattle.css_cascade.specs.steps.Seen.{claims_in, seen}
+use Rattle.css_cascade.specs.steps.Trimming.{rules_of}
 use Rattle.css_cascade.proofs.Applies.{comes, comes_by}
 use Rattle.css_cascade.proofs.Keeping.{winners_are}
 use Rattle.css_cascade.proofs.cascading.come_to.Goals as goal

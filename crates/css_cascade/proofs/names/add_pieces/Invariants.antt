@@ -1,5 +1,5 @@
 use Rattle.std.proofs.Common.{◌≡◌, ◌<◌, ◌++◌, drop}
-use Rattle.css_cascade.specs.Buckets.{buckets_from}
+use Rattle.css_cascade.specs.steps.Buckets.{buckets_from}
 use Rattle.css_cascade.proofs.names.add_pieces.Given as goal
 
 abbrev pub invariant-loop-byte : goal.invariant-loop-byte

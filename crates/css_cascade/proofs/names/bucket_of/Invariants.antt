@@ -1,5 +1,5 @@
 use Rattle.std.proofs.Common.{◌≡◌, ◌<◌, drop}
-use Rattle.css_cascade.specs.Buckets.{bucket_from, bucket_of}
+use Rattle.css_cascade.specs.steps.Buckets.{bucket_from, bucket_of}
 use Rattle.css_cascade.proofs.names.bucket_of.Given as goal
 
 abbrev pub invariant-loop-byte : goal.invariant-loop-byte

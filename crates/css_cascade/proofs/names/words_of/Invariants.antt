@@ -1,6 +1,6 @@
 use Rattle.std.proofs.Common.{◌≡◌, ◌++◌, drop}
 use Rattle.std.specs.Prelude.{flat_map}
-use Rattle.css_cascade.specs.Buckets.{attribute_buckets, element_buckets}
+use Rattle.css_cascade.specs.steps.Buckets.{attribute_buckets, element_buckets}
 use Rattle.css_cascade.proofs.names.words_of.Given as goal
 
 abbrev pub invariant-loop-attr : goal.invariant-loop-attr

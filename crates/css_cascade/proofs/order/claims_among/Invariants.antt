@@ -1,6 +1,6 @@
 use Rattle.std.proofs.Common.{◌≡◌, ◌++◌, map, drop}
 use Rattle.std.specs.Prelude.{option_map, flat_map}
-use Rattle.css_cascade.specs.Seen.{claims_in, seen}
+use Rattle.css_cascade.specs.steps.Seen.{claims_in, seen}
 use Rattle.css_cascade.proofs.order.claims_among.Given as goal
 
 abbrev pub invariant-loop-slot : goal.invariant-loop-slot

@@ -1,6 +1,6 @@
 use Rattle.std.proofs.Common.{◌≡◌, ◌<◌, map, set, get_or, length, Some, None, option_map, sym, ap, ◌∙◌, subst}
 use Rattle.std.proofs.lemmas.List.{map-set, get_or-map}
-use Rattle.css_cascade.specs.Seen.{later_or, seen}
+use Rattle.css_cascade.specs.steps.Seen.{later_or, seen}
 use Rattle.css_cascade.proofs.order.keep.Goals as goal
 
 pub returns-clause-kept : goal.returns-clause-kept

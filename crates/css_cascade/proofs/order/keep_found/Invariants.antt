@@ -1,7 +1,7 @@
 use Rattle.std.proofs.Common.{◌≡◌, map, drop, length}
 use Rattle.std.specs.Prelude.{option_map}
 use Rattle.css_semantics.specs.CascadeOrder.{applied}
-use Rattle.css_cascade.specs.Seen.{kept_all, seen}
+use Rattle.css_cascade.specs.steps.Seen.{kept_all, seen}
 use Rattle.css_cascade.proofs.order.keep_found.Given as goal
 
 abbrev pub invariant-loop-claim : goal.invariant-loop-claim

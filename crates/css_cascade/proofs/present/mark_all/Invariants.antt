@@ -1,5 +1,5 @@
 use Rattle.std.proofs.Common.{◌≡◌, drop}
-use Rattle.css_cascade.specs.Present.{marked}
+use Rattle.css_cascade.specs.steps.Present.{marked}
 use Rattle.css_cascade.proofs.present.mark_all.Given as goal
 
 abbrev pub invariant-loop-word : goal.invariant-loop-word

@@ -1,5 +1,5 @@
 use Rattle.std.proofs.Common.{◌+◌, ◌∙◌, drop, sym, ap}
-use Rattle.css_cascade.specs.Present.{marked_nodes, present_in}
+use Rattle.css_cascade.specs.steps.Present.{marked_nodes, present_in}
 use Rattle.css_cascade.proofs.Reaching.{drop_at}
 use Rattle.css_cascade.proofs.present.present_in.Goals as goal
 

@@ -1,5 +1,5 @@
 use Rattle.std.proofs.Common.{◌≡◌, drop}
-use Rattle.css_cascade.specs.Present.{marked_nodes, present_in}
+use Rattle.css_cascade.specs.steps.Present.{marked_nodes, present_in}
 use Rattle.css_cascade.proofs.present.present_in.Given as goal
 
 abbrev pub invariant-loop-node : goal.invariant-loop-node

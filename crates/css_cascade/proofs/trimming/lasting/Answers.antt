@@ -1,5 +1,5 @@
 use Rattle.std.proofs.Common.{◌∙◌, map, ap, option_map}
-use Rattle.css_cascade.specs.Seen.{seen}
+use Rattle.css_cascade.specs.steps.Seen.{seen}
 use Rattle.css_cascade.proofs.Applies.{if_ok}
 use Rattle.css_cascade.proofs.Deciding.{trimmed_as}
 use Rattle.css_cascade.proofs.trimming.lasting.Goals as goal

@@ -1,5 +1,5 @@
 use Rattle.std.proofs.Common.{map, subst}
-use Rattle.css_cascade.specs.Trimming.{LastsAs}
+use Rattle.css_cascade.specs.steps.Trimming.{LastsAs}
 use Rattle.css_cascade.proofs.Deciding.{trim_more}
 use Rattle.css_cascade.proofs.Reaching.{drop_at}
 use Rattle.css_cascade.proofs.trimming.trim.Goals as goal

@@ -1,7 +1,7 @@
 use Rattle.std.proofs.Common.{◌≡◌, ◌==◌, ◌∷◌, Some, false, map, option_map, sym, subst, arith}
 use Rattle.std.proofs.lemmas.Bool.Decides.{nat_tests}
-use Rattle.css_cascade.specs.Seen.{seen}
-use Rattle.css_cascade.specs.Trying.{Behind}
+use Rattle.css_cascade.specs.steps.Seen.{seen}
+use Rattle.css_cascade.specs.steps.Trying.{Behind}
 use Rattle.css_cascade.proofs.Strongest.{other_behind}
 use Rattle.css_cascade.proofs.trying.join.Goals as goal
 

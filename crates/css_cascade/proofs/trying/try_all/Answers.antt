@@ -1,7 +1,7 @@
 use Rattle.std.proofs.Common.{◌≡◌, ◌+◌, ◌∙◌, length, get_or, map, option_map, refl, sym, ap, subst}
 use Rattle.std.proofs.lemmas.Option.{slice_get-map, slice_get_past, slice_get_read}
-use Rattle.css_cascade.specs.Buckets.{numbered}
-use Rattle.css_cascade.specs.Seen.{seen}
+use Rattle.css_cascade.specs.steps.Buckets.{numbered}
+use Rattle.css_cascade.specs.steps.Seen.{seen}
 use Rattle.css_cascade.proofs.Tries.{ReachedTry, number_at, try_end, try_more, try_past}
 use Rattle.css_cascade.proofs.trying.try_all.Goals.{in-Some, in_default}
 use Rattle.css_cascade.proofs.trying.try_all.Goals as goal

@@ -1,6 +1,6 @@
 use Rattle.std.proofs.Common.{◌≡◌, length, map, option_map}
-use Rattle.css_cascade.specs.Buckets.{numbered}
-use Rattle.css_cascade.specs.Seen.{seen}
+use Rattle.css_cascade.specs.steps.Buckets.{numbered}
+use Rattle.css_cascade.specs.steps.Seen.{seen}
 use Rattle.css_cascade.proofs.Tries.{ReachedTry}
 use Rattle.css_cascade.proofs.trying.try_all.Given as goal
 

@@ -1,6 +1,6 @@
 use Rattle.std.proofs.Common.{◌≡◌, ◌∷◌, true, false, refl}
-use Rattle.css_cascade.specs.Buckets.{numbered}
-use Rattle.css_cascade.specs.Trying.{Matched, found}
+use Rattle.css_cascade.specs.steps.Buckets.{numbered}
+use Rattle.css_cascade.specs.steps.Trying.{Matched, found}
 use Rattle.css_cascade.proofs.trying.try_one.Goals as goal
 
 pub returns-then-matches_beside-clause-tried : goal.returns-then-matches_beside-clause-tried

@@ -1,7 +1,7 @@
 use Rattle.std.proofs.Common.{◌≡◌, ◌++◌, ◌∷◌, ◌∙◌, [], map, reverse, true, sym, ap, subst}
-use Rattle.css_cascade.specs.Buckets.{numbered}
-use Rattle.css_cascade.specs.Present.{lacks_some}
-use Rattle.css_cascade.specs.Trying.{StandFor}
+use Rattle.css_cascade.specs.steps.Buckets.{numbered}
+use Rattle.css_cascade.specs.steps.Present.{lacks_some}
+use Rattle.css_cascade.specs.steps.Trying.{StandFor}
 use Rattle.css_cascade.proofs.Lacking.{lacks_all}
 use Rattle.css_cascade.proofs.Repeating.{stand_for_lacking, stand_for_more, stand_for_repeated}
 use Rattle.css_cascade.proofs.buckets.Buckets.add.Goals as goal

@@ -1,6 +1,6 @@
 use Rattle.std.proofs.Common.{◌++◌, ◌∷◌, [], map, refl, subst}
-use Rattle.css_cascade.specs.Buckets.{numbered}
-use Rattle.css_cascade.specs.Trying.{StandFor}
+use Rattle.css_cascade.specs.steps.Buckets.{numbered}
+use Rattle.css_cascade.specs.steps.Trying.{StandFor}
 use Rattle.css_cascade.proofs.Reaching.{drop_at}
 use Rattle.css_cascade.proofs.Standing.{group_end, group_more}
 use Rattle.css_cascade.proofs.buckets.Buckets.add_group.Goals as goal

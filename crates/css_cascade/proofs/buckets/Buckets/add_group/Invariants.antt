@@ -1,8 +1,8 @@
 use Rattle.std.proofs.Common.{◌≡◌, ◌++◌, List, length, drop, map}
 use Rattle.viz_base.specs.declared.nodes.Node.{Node}
-use Rattle.css_cascade.specs.Buckets.{AllStand, Numbered, numbered}
-use Rattle.css_cascade.specs.Present.{present_in}
-use Rattle.css_cascade.specs.Trying.{StandFor}
+use Rattle.css_cascade.specs.steps.Buckets.{AllStand, Numbered, numbered}
+use Rattle.css_cascade.specs.steps.Present.{present_in}
+use Rattle.css_cascade.specs.steps.Trying.{StandFor}
 use Rattle.css_cascade.proofs.buckets.Buckets.add_group.Given as goal
 
 abbrev pub invariant-loop-ranked : goal.invariant-loop-ranked

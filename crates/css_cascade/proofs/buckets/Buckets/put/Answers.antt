@@ -2,7 +2,7 @@ use Rattle.std.proofs.Common.{◌<◌, ◌∙◌, ◌++◌, ◌∷◌, [], set, 
 use Rattle.std.proofs.lemmas.List.{length-map}
 use Rattle.std.specs.Vec.{with_item}
 use Rattle.css_cascade.specs.declared.buckets.Buckets.{Buckets}
-use Rattle.css_cascade.specs.Buckets.{IsWordOfLast, bucket_of, numbered}
+use Rattle.css_cascade.specs.steps.Buckets.{IsWordOfLast, bucket_of, numbered}
 use Rattle.css_cascade.proofs.Standing.{any_default, named_more, others_more, one_more}
 use Rattle.css_cascade.proofs.buckets.Buckets.put.Goals as goal
 

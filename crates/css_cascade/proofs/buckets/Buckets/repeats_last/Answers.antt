@@ -1,5 +1,5 @@
 use Rattle.std.proofs.Common.{◌≡◌, ◌++◌, ◌∷◌, ◌∙◌, [], map, sym, subst}
-use Rattle.css_cascade.specs.Buckets.{numbered}
+use Rattle.css_cascade.specs.steps.Buckets.{numbered}
 use Rattle.css_cascade.proofs.Standing.{one_more}
 use Rattle.css_cascade.proofs.buckets.Buckets.repeats_last.Goals as goal
 

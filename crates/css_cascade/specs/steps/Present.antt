@@ -9,7 +9,7 @@ use Rattle.viz_base.specs.declared.selectors.Join.{Join}
 use Rattle.viz_base.specs.declared.selectors.Test.{Test}
 use Rattle.viz_base.specs.declared.selectors.Test.TheVariants.{Id, Class, Has, Equals, Word, Dash, FirstChild, Link, Never}
 use Rattle.viz_base.specs.Selectors.{is_first}
-use Rattle.css_cascade.specs.Buckets.{bucket_of, element_buckets}
+use Rattle.css_cascade.specs.steps.Buckets.{bucket_of, element_buckets}
 
 -- ---- the words of a page
 

@@ -10,7 +10,7 @@ use Rattle.css_semantics.specs.CascadeOrder.{Applied, applied, style_spec}
 use Rattle.css_semantics.specs.CascadeReading.{AppliesTo, Each}
 use Rattle.css_semantics.specs.Properties.{properties}
 use Rattle.css_cascade.specs.declared.trimming.Trimmed.{Trimmed}
-use Rattle.css_cascade.specs.Seen.{kept_all}
+use Rattle.css_cascade.specs.steps.Seen.{kept_all}
 
 -- Some of the claims of a ruleset stand for all of them: by whatever specificity they apply, and whatever won before them.
 abbrev pub LastsAs : List Claim → List Claim → Type 0

@@ -10,8 +10,8 @@ use Rattle.css_semantics.specs.Matching.{Match}
 use Rattle.css_cascade.specs.declared.trimming.Trimmed.{Trimmed}
 use Rattle.css_cascade.specs.declared.trying.Found.{Found}
 use Rattle.css_cascade.specs.declared.buckets.Buckets.{Buckets}
-use Rattle.css_cascade.specs.Buckets.{AllStand, Numbered, element_buckets, numbered, numbered_from}
-use Rattle.css_cascade.specs.Seen.{kept_all}
+use Rattle.css_cascade.specs.steps.Buckets.{AllStand, Numbered, element_buckets, numbered, numbered_from}
+use Rattle.css_cascade.specs.steps.Seen.{kept_all}
 
 abbrev pub found : Numbered → Found
 found r = record { rules = r.0; spec = r.1.spec }
