@@ -1,7 +1,8 @@
-ghost use Rattle.std.specs.Prelude.{◌≡◌, ◌+◌, ◌<◌, ◌^◌, ◌++◌, ℕ, ℤ, Ok, length, ◌↔◌, IsTrue, IfOk, OnOk};
+ghost use Rattle.std.specs.Prelude.{◌≡◌, ◌+◌, ◌<◌, ◌^◌, ◌++◌, ℕ, ℤ, length, ◌↔◌, IsTrue, IfOk, OnOk};
+ghost use Rattle.viz_base.specs.Answers.{Gives};
 ghost use Rattle.lin_proof.specs.Law.{Meets};
 ghost use Rattle.lin_proof.specs.Derivations.{Refutes, check_branch, check_derivation, check_ending, first_fault, lines_in, lines_of, lines_under};
-ghost use Rattle.lin_proof.specs.steps.Answers.{Gives};
+ghost use Rattle.lin_proof.specs.steps.Answers.{wrong_line};
 
 use crate::derivation::{Branch, Derivation, Ending};
 use crate::facts::Facts;
@@ -69,7 +70,7 @@ fn check(
 ) -> Result<u32, Fault>
     requires { line + lines_of d.now < 2 ^ 32 }
     ensures gives { let facts = facts.entry.first.now ++ facts.entry.later.now in
-        Gives result (check_derivation facts vars d.now known.old line) }
+        Gives (λ next. next) wrong_line result (check_derivation facts vars d.now known.old line) }
     ensures lines { IfOk result (λ next. next ≡ line + lines_of d.now) }
     ensures known { OnOk result (known.new ≡ known.old) }
 {
@@ -91,7 +92,7 @@ fn check_end(
 ) -> Result<u32, Fault>
     requires { line + lines_in end.now < 2 ^ 32 }
     ensures gives { let facts = facts.entry.first.now ++ facts.entry.later.now in
-        Gives result (check_ending facts vars end.now known.old line) }
+        Gives (λ next. next) wrong_line result (check_ending facts vars end.now known.old line) }
     ensures lines { IfOk result (λ next. next ≡ line + lines_in end.now) }
     ensures known { OnOk result (known.new ≡ known.old) }
 {
@@ -113,7 +114,7 @@ fn check_cases(
 ) -> Result<u32, Fault>
     requires { line + lines_under branch.now < 2 ^ 32 }
     ensures gives { let facts = facts.entry.first.now ++ facts.entry.later.now in
-        Gives result (check_branch facts vars branch.now known.old line) }
+        Gives (λ next. next) wrong_line result (check_branch facts vars branch.now known.old line) }
     ensures lines { IfOk result (λ next. next ≡ line + lines_under branch.now) }
     ensures known { OnOk result (known.new ≡ known.old) }
 {

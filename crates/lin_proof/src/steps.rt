@@ -1,7 +1,8 @@
-ghost use Rattle.std.specs.Prelude.{◌≡◌, ◌+◌, ◌<◌, ◌^◌, ◌++◌, Ok, length, take, IfOk, OnOk, MatchResult};
+ghost use Rattle.std.specs.Prelude.{◌≡◌, ◌+◌, ◌<◌, ◌^◌, ◌++◌, length, take, IfOk, OnOk};
+ghost use Rattle.viz_base.specs.Answers.{Gives};
 ghost use Rattle.lin_row.specs.Form.{checked_form, denied, plus};
 ghost use Rattle.lin_proof.specs.Derivations.{add_part, are_declared, case_form, cut_of, is_contradiction, last_of, run_steps, step_form, sum_from, zero_form};
-ghost use Rattle.lin_proof.specs.steps.Answers.{Fails};
+ghost use Rattle.lin_proof.specs.steps.Answers.{wrong_line};
 
 use crate::derivation::Step;
 use crate::facts::Facts;
@@ -129,10 +130,8 @@ pub fn run(
     steps: &[Step],
 ) -> Result<u32, Fault>
     requires { line + length steps.now < 2 ^ 32 }
-    ensures gives { MatchResult result
-        (λ next. run_steps (facts.entry.first.now ++ facts.entry.later.now) known.old line steps.now
-        ≡ Ok (known.new, next))
-        (λ e. Fails e (run_steps (facts.entry.first.now ++ facts.entry.later.now) known.old line steps.now)) }
+    ensures gives { let facts = facts.entry.first.now ++ facts.entry.later.now in
+        Gives (λ next. (known.new, next)) wrong_line result (run_steps facts known.old line steps.now) }
     ensures lines { IfOk result (λ next. next ≡ line + length steps.now) }
     ensures kept { OnOk result (take (length known.old) known.new ≡ known.old) }
 {
