@@ -42,9 +42,9 @@ use Rattle.prove_search.specs.declared.halves.Halves.{Halves}
 use Rattle.prove_search.specs.declared.plain.Closed.{Closed}
 use Rattle.prove_search.specs.declared.plain.Stop.{Stop}
 use Rattle.prove_search.specs.declared.plain.Stop.TheVariants.{Mem, Violated, Undecided}
-use Rattle.prove_search.specs.Halves.{row_up_to, halves_of}
+use Rattle.prove_search.specs.steps.Halves.{row_up_to, halves_of}
 use Rattle.prove_search.specs.Outcomes.{laid_out_count, IsViolation}
-use Rattle.prove_search.specs.Finds.{HasLevels, AreUnits, LeadsTo, IsClosed, IsFinding}
+use Rattle.prove_search.specs.steps.Finds.{HasLevels, AreUnits, LeadsTo, IsClosed, IsFinding}
 use Rattle.prove_search.proofs.Halving.{IsHalving, halves_are}
 use Rattle.prove_search.proofs.Texts.{in_width, row_spelled, row_short}
 

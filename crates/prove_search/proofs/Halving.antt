@@ -14,8 +14,8 @@ use Rattle.cert_path.specs.Rectangles.{Sides, whole, left_by}
 use Rattle.cert_check.specs.Rectangles.{world_count, IsWithin}
 use Rattle.cert_check.specs.Rectangles.{IsProper}
 use Rattle.prove_search.specs.declared.halves.Halves.{Halves}
-use Rattle.prove_search.specs.Halves.{middle, row_up_to, halves_at, halved_on, halves_of}
-use Rattle.prove_search.specs.Finds.{HasLevels}
+use Rattle.prove_search.specs.steps.Halves.{middle, row_up_to, halves_at, halved_on, halves_of}
+use Rattle.prove_search.specs.steps.Finds.{HasLevels}
 
 -- a number in the middle of others
 pub record IsMiddle (l u m : ℕ) : Type 0 where

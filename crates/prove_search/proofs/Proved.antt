@@ -14,7 +14,7 @@ use Rattle.cert_check.specs.Rectangles.{world_count}
 use Rattle.cert_check.proofs.Tellings.{is_right}
 use Rattle.prove_search.specs.declared.plain.Closed.{Closed}
 use Rattle.prove_search.specs.Outcomes.{IsProof}
-use Rattle.prove_search.specs.Finds.{HasLevels, IsClosed}
+use Rattle.prove_search.specs.steps.Finds.{HasLevels, IsClosed}
 
 range_levels : (range : Rect) → IsRange range → HasLevels 22 range
 range_levels range known =

@@ -1,5 +1,2 @@
-pub mod Halves
 pub mod Outcomes
-pub mod Finds
-pub mod Turns
-pub mod Seekers
+pub mod steps

@@ -5,7 +5,7 @@ ghost use Rattle.cert_text.specs.Texts.{CertText};
 ghost use Rattle.cert_check.specs.Truths.{Holds};
 ghost use Rattle.cert_check.specs.Right.{Right};
 ghost use Rattle.prove_search.specs.Outcomes.{IsProof, IsViolation, IsOutcome, Decides};
-ghost use Rattle.prove_search.specs.Turns.{AreLeft};
+ghost use Rattle.prove_search.specs.steps.Turns.{AreLeft};
 
 use crate::outcome::Outcome;
 use crate::seeking::Finding;

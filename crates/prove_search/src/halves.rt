@@ -1,6 +1,6 @@
 ghost use Rattle.std.specs.Prelude.{◌≡◌, ◌+◌, ◌<◌, ◌≤◌, ◌^◌};
 ghost use Rattle.cert_check.specs.Rectangles.{IsProper};
-ghost use Rattle.prove_search.specs.Halves.{middle, longer_axis, halves_at, halves_of};
+ghost use Rattle.prove_search.specs.steps.Halves.{middle, longer_axis, halves_at, halves_of};
 
 use viz_base::{Axis, Rect, Span};
 
@@ -27,11 +27,10 @@ fn middle(least: u32, most: u32) -> u32
 }
 
 /// The axis on which a rectangle has more numbers; of two that have as many the width.
-fn longer_axis(rect: Rect) -> Axis
-    requires proper { IsProper rect }
+pub fn longer_axis(rect: Rect) -> Axis
     ensures { result ≡ longer_axis rect }
 {
-    if rect.sh - rect.sl <= rect.wh - rect.wl {
+    if rect.sh.saturating_sub(rect.sl) <= rect.wh.saturating_sub(rect.wl) {
         Axis::Width
     } else {
         Axis::Size

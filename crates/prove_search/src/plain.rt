@@ -4,8 +4,8 @@ ghost use Rattle.cert_text.specs.Texts.{job_has_text};
 ghost use Rattle.cert_check.specs.Rectangles.{IsProper};
 ghost use Rattle.cert_check.specs.Rectangles.{world_count, IsWithin};
 ghost use Rattle.cert_check.specs.Truths.{Holds};
-ghost use Rattle.prove_search.specs.Finds.{IsFinding};
-ghost use Rattle.prove_search.specs.Halves.{row_up_to};
+ghost use Rattle.prove_search.specs.steps.Finds.{IsFinding};
+ghost use Rattle.prove_search.specs.steps.Halves.{row_up_to};
 ghost use Rattle.prove_search.specs.Outcomes.{IsOutcome, Decides};
 
 use crate::halves::halves_of;

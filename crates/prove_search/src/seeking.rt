@@ -1,18 +1,19 @@
 ghost use Rattle.std.specs.Prelude.{◌≡◌, ◌≤◌};
 
+use crate::halves::longer_axis;
 use crate::pool::{Known, Pool};
 use crate::rectangles::{Budget, budget_of, rectangle};
 use crate::runs::{Outcome, run};
 use crate::seeker::{LIMIT, Opening};
 use crate::trail::Found;
 use crate::values::{floor_of, value_of};
-use cert_check::{Child, cut_of, holds_at, part_of};
+use cert_check::{Child, axis_of, cut_of, holds_at, part_of, variable_of};
 use cert_text::{Cert, CertNode};
 use lin_row::{Row, RowFault};
 use lin_search::{Search, refute};
 use std::alloc::{AllocError, AllocFailed, Global};
 use sym_calc::{Floor, Path};
-use viz_base::{Boxed, Job, Mem, Rect, World};
+use viz_base::{Axis, Boxed, Job, Mem, Rect, World};
 
 /// What a search comes to. None of it is certain.
 #[derive(Debug, Drop)]
@@ -279,7 +280,10 @@ fn open(
 /// signs.
 fn cut_once(alloc: Global, row: Row) -> Result<Row, Stop> {
     let unit = match row.terms.as_slice() {
-        [term] if term.0 < 2 => unit_row(alloc, row.k, term.0, term.1)?,
+        [term] => match axis_of(term.0) {
+            Some(axis) => unit_row(alloc, row.k, axis, term.1)?,
+            None => None,
+        },
         _ => None,
     };
     match unit {
@@ -291,7 +295,7 @@ fn cut_once(alloc: Global, row: Row) -> Result<Row, Stop> {
 fn unit_row(
     alloc: Global,
     k: i128,
-    variable: u32,
+    axis: Axis,
     coefficient: i128,
 ) -> Result<Option<Row>, AllocError> {
     let Some(size) = coefficient.checked_abs() else {
@@ -301,6 +305,7 @@ fn unit_row(
         return Ok(None);
     }
     let bound = k.div_euclid(size);
+    let variable = variable_of(axis);
     let row = if coefficient > 0 {
         Row::of_term(alloc, bound, variable, 1)?
     } else {
@@ -320,13 +325,14 @@ fn halve(place: &mut Place<'_>, pool: Pool, rect: Rect, depth: u32) -> Result<Ce
 
 /// That a world is in the first half of a rectangle on the longer side.
 pub fn halving(alloc: Global, rect: Rect) -> Result<Row, AllocError> {
-    let is_wide = rect.sh.saturating_sub(rect.sl) <= rect.wh.saturating_sub(rect.wl);
-    let (variable, least, most) = if is_wide {
-        (0, rect.wl, rect.wh)
-    } else {
-        (1, rect.sl, rect.sh)
-    };
-    Row::of_term(alloc, i128::from(middle(least, most)), variable, -1)
+    let axis = longer_axis(rect);
+    let side = rect.side(axis);
+    Row::of_term(
+        alloc,
+        i128::from(middle(side.least, side.most)),
+        variable_of(axis),
+        -1,
+    )
 }
 
 /// The node of a path that is split by a row after floors are named.

@@ -1,0 +1,4 @@
+pub mod Halves
+pub mod Finds
+pub mod Turns
+pub mod Seekers
