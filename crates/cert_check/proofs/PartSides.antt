@@ -1,5 +1,5 @@
 -- The part of the range that unit splits leave, and the sides that the rectangle of a path has.
-use Rattle.std.proofs.Common.{◌≡◌, ℕ, ◌+◌, ◌*◌, ◌<◌, ◌≤◌, ◌==◌, ℤ, pos, negsuc, neg_ℤ, ◌+ℤ◌, ◌-ℤ◌, ◌≤ℤ◌, ◌<ℤ◌, Bool, true, false, cond, nat_lt, nat_le, [], ◌∷◌, min, max, Option, Some, None, inl, inr, refl, sym, ◌∙◌, ap, subst, arith}
+use Rattle.std.proofs.Common.{◌≡◌, ℕ, ◌+◌, ◌*◌, ◌<◌, ◌≤◌, ℤ, pos, negsuc, neg_ℤ, ◌+ℤ◌, ◌-ℤ◌, ◌≤ℤ◌, ◌<ℤ◌, Bool, true, false, cond, nat_lt, nat_le, [], ◌∷◌, min, max, Option, Some, None, inl, inr, refl, sym, ◌∙◌, ap, subst, arith}
 use Rattle.std.specs.Prelude.{◌⊎◌, IfSome}
 use Rattle.std.specs.Ordering.{int_eq}
 use Rattle.std.specs.Option.{option_map, option_and_then}
@@ -15,7 +15,8 @@ use Rattle.viz_base.specs.Worlds.{side_of, with_side}
 use Rattle.viz_base.specs.declared.jobs.Job.{Job}
 use Rattle.logic_semantics.specs.Ranges.{IsInRange}
 use Rattle.lin_row.specs.Form.{Form, Terms, denied}
-use Rattle.cert_path.specs.Rectangles.{Side, Sides, cut_sides, cut_side as cut_a_side, left_by, left_by_terms, whole, rectangle, count, world_count}
+use Rattle.cert_path.specs.Axes.{axis_of}
+use Rattle.cert_path.specs.Rectangles.{Side, Sides, cut_axis, cut_sides, cut_side as cut_a_side, left_by, left_by_terms, whole, rectangle, count, world_count}
 use Rattle.cert_path.specs.Paths.{Step, first, second, Path, variables}
 use Rattle.cert_path.specs.Laws.{IsInside}
 use Rattle.cert_check.specs.declared.cuts.Child.{Child}
@@ -152,10 +153,9 @@ abbrev sides_of_term : ℤ → ℕ × ℤ → Child → Sides → Sides
 sides_of_term k t First sides = cut_sides k t sides
 sides_of_term k t Second sides = cut_sides (neg_ℤ k -ℤ pos 1) (t.0, neg_ℤ t.1) sides
 
-abbrev term_by : Bool → Bool → ℤ → ℤ → Child → Rect → Sides
-term_by a b k c child r =
-    cond a (record { widths = side_after k c child (whole r).widths; sizes = (whole r).sizes })
-    (cond b (record { widths = (whole r).widths; sizes = side_after k c child (whole r).sizes }) (whole r))
+abbrev axis_after : Option Axis → ℤ → ℤ → Child → Rect → Sides
+axis_after o k c First r = cut_axis o k c (whole r)
+axis_after o k c Second r = cut_axis o (neg_ℤ k -ℤ pos 1) (neg_ℤ c) (whole r)
 
 wide : (k c : ℤ) (child : Child) (r : Rect) → IsProper r → IsPart (cut_at (coefficient_cut k Width c) child r) (record { widths = side_after k c child (whole r).widths; sizes = (whole r).sizes })
 wide k c child r proper =
@@ -167,15 +167,18 @@ high k c child r proper =
     subst (λ o. IsPart o (record { widths = (whole r).widths; sizes = side_after k c child (whole r).sizes })) (sym (axis_cut k c Size child r))
     (sizes_part r (span_after (coefficient_cut k Size c) child (side_of Size r)) (side_after k c child (whole r).sizes) proper (coefficient_after k c Size child (side_of Size r) proper.sizes))
 
-term_tests : (k c : ℤ) (r : Rect) → IsProper r → (a b : Bool) (child : Child)
-    → IsPart (cut_at (option_and_then (λ axis. coefficient_cut k axis c) (cond a (Some Width) (cond b (Some Size) None))) child r) (term_by a b k c child r)
-term_tests k c r proper true b child = wide k c child r proper
-term_tests k c r proper false true child = high k c child r proper
-term_tests k c r proper false false child = (proper, refl)
+axis_part : (k c : ℤ) (r : Rect) → IsProper r → (o : Option Axis) (child : Child)
+    → IsPart (cut_at (option_and_then (λ axis. coefficient_cut k axis c) o) child r) (axis_after o k c child r)
+axis_part k c r proper None First = (proper, refl)
+axis_part k c r proper None Second = (proper, refl)
+axis_part k c r proper (Some Width) First = wide k c First r proper
+axis_part k c r proper (Some Width) Second = wide k c Second r proper
+axis_part k c r proper (Some Size) First = high k c First r proper
+axis_part k c r proper (Some Size) Second = high k c Second r proper
 
 term_part : (k : ℤ) (t : ℕ × ℤ) (child : Child) (r : Rect) → IsProper r → IsPart (cut_at (terms_cut k (t ∷ [])) child r) (sides_of_term k t child (whole r))
-term_part k t First r proper = term_tests k t.1 r proper (t.0 == 0) (t.0 == 1) First
-term_part k t Second r proper = term_tests k t.1 r proper (t.0 == 0) (t.0 == 1) Second
+term_part k t First r proper = axis_part k t.1 r proper (axis_of t.0) First
+term_part k t Second r proper = axis_part k t.1 r proper (axis_of t.0) Second
 
 terms_part : (k : ℤ) (ts : Terms) (child : Child) (r : Rect) → IsProper r → IsPart (cut_at (terms_cut k ts) child r) (left_child (record { k = k; terms = ts }) child (whole r))
 terms_part k [] First r proper = (proper, refl)
@@ -189,19 +192,16 @@ terms_part k (t ∷ u ∷ ts) Second r proper = (proper, refl)
 abbrev IsEmpty : Sides → Type 0
 IsEmpty sides = (sides.widths.most <ℤ sides.widths.least) ⊎ (sides.sizes.most <ℤ sides.sizes.least)
 
-term_empty : (k : ℤ) (t : ℕ × ℤ) (sides : Sides) → IsEmpty sides → IsEmpty (cut_sides k t sides)
-term_empty k t sides h = by_tests (t.0 == 0) (t.0 == 1) h
-  where
-    by_tests : (a b : Bool) → IsEmpty sides → IsEmpty (cond a (record { widths = cut_a_side k t.1 sides.widths; sizes = sides.sizes }) (cond b (record { widths = sides.widths; sizes = cut_a_side k t.1 sides.sizes }) sides))
-    by_tests true b (inl w) = inl (none_stays k t.1 sides.widths w)
-    by_tests true b (inr s) = inr s
-    by_tests false true (inl w) = inl w
-    by_tests false true (inr s) = inr (none_stays k t.1 sides.sizes s)
-    by_tests false false h = h
+axis_empty : (o : Option Axis) (k c : ℤ) (sides : Sides) → IsEmpty sides → IsEmpty (cut_axis o k c sides)
+axis_empty None k c sides h = h
+axis_empty (Some Width) k c sides (inl w) = inl (none_stays k c sides.widths w)
+axis_empty (Some Width) k c sides (inr s) = inr s
+axis_empty (Some Size) k c sides (inl w) = inl w
+axis_empty (Some Size) k c sides (inr s) = inr (none_stays k c sides.sizes s)
 
 terms_empty : (k : ℤ) (ts : Terms) (sides : Sides) → IsEmpty sides → IsEmpty (left_by_terms k ts sides)
 terms_empty k [] sides h = h
-terms_empty k (t ∷ []) sides h = term_empty k t sides h
+terms_empty k (t ∷ []) sides h = axis_empty (axis_of t.0) k t.1 sides h
 terms_empty k (t ∷ u ∷ ts) sides h = h
 
 child_empty : (row : Form) (child : Child) (sides : Sides) → IsEmpty sides → IsEmpty (left_child row child sides)

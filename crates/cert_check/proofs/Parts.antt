@@ -16,7 +16,8 @@ use Rattle.cert_check.specs.declared.cuts.Child.{Child}
 use Rattle.cert_check.specs.declared.cuts.Opens.{Opens}
 use Rattle.cert_check.specs.declared.cuts.Opens.TheVariants.{Above, UpTo}
 use Rattle.cert_check.specs.declared.cuts.Cut.{Cut}
-use Rattle.cert_check.specs.Rectangles.{axis_of, IsWithin, coefficient_cut, terms_cut, at_most, above, cut_side, toward, part_of, is_unit}
+use Rattle.cert_path.specs.Axes.{axis_of}
+use Rattle.cert_check.specs.Rectangles.{IsWithin, coefficient_cut, terms_cut, at_most, above, cut_side, toward, part_of, is_unit}
 
 -- ---- unit rows
 

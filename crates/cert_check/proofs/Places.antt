@@ -10,8 +10,10 @@ use Rattle.std.proofs.lemmas.Int.{ints}
 use Rattle.std.proofs.lemmas.Bool.Decides.{nat_tests}
 use Rattle.std.proofs.lemmas.Option.{same_Some}
 use Rattle.viz_base.specs.declared.worlds.World.{World}
+use Rattle.viz_base.specs.declared.worlds.Axis.TheVariants.{Width, Size}
 use Rattle.lin_row.specs.Form.{Form, Terms, value, terms_value}
 use Rattle.lin_row.specs.Number.{in_i128}
+use Rattle.cert_path.specs.Axes.{number_on}
 use Rattle.cert_path.specs.Paths.{def, first, second, Path, variables, with_value, with_floor, values_at, values_along}
 use Rattle.cert_check.specs.Rectangles.{is_unit}
 use Rattle.cert_check.specs.declared.descent.Above.{Above}
@@ -103,9 +105,9 @@ values_are world [] = λ i x. at_axis x i
     at_axis : (x : ℕ) → values_at world x ≡ value_in (pos world.w ∷ pos world.s ∷ []) x
     at_axis zero = refl
     at_axis (suc zero) = refl
-    at_axis (suc (suc x)) = by_tests (suc (suc x) == 1) refl (suc (suc x) == 0) refl
+    at_axis (suc (suc x)) = by_tests (suc (suc x) == 0) refl (suc (suc x) == 1) refl
       where
-        by_tests : (a : Bool) → (suc (suc x) == 1) ≡ a → (b : Bool) → (suc (suc x) == 0) ≡ b → cond a (pos world.s) (cond b (pos world.w) (pos 0)) ≡ pos 0
+        by_tests : (a : Bool) → (suc (suc x) == 0) ≡ a → (b : Bool) → (suc (suc x) == 1) ≡ b → number_on (cond a (Some Width) (cond b (Some Size) None)) world ≡ pos 0
         by_tests true e b f = absurd (grind (arith, nat_tests))
         by_tests false e true f = absurd (grind (arith, nat_tests))
         by_tests false e false f = refl

@@ -1,13 +1,13 @@
 -- Rectangles of worlds, and what cutting by unit rows leaves of them.
-use Rattle.std.specs.Prelude.{ℕ, ◌==◌, ◌+◌, ◌-◌, ◌*◌, ◌≤◌, ℤ, pos, negsuc, neg_ℤ, ◌-ℤ◌, Bool, nat_lt, nat_le, [], ◌∷◌, min, max, Option, Some, None, is_some, if◌then◌else◌}
+use Rattle.std.specs.Prelude.{ℕ, ◌+◌, ◌-◌, ◌*◌, ◌≤◌, ℤ, pos, negsuc, neg_ℤ, ◌-ℤ◌, Bool, nat_lt, nat_le, [], ◌∷◌, min, max, Option, Some, None, is_some, if◌then◌else◌}
 use Rattle.std.specs.Ordering.{int_eq}
 use Rattle.std.specs.Option.{option_map, option_and_then}
 use Rattle.viz_base.specs.declared.worlds.Rect.{Rect}
 use Rattle.viz_base.specs.declared.worlds.Axis.{Axis}
-use Rattle.viz_base.specs.declared.worlds.Axis.TheVariants.{Width, Size}
 use Rattle.viz_base.specs.declared.worlds.Span.{Span}
 use Rattle.viz_base.specs.Worlds.{side_of, with_side}
 use Rattle.lin_row.specs.Form.{Form, Terms}
+use Rattle.cert_path.specs.Axes.{axis_of}
 use Rattle.cert_check.specs.declared.cuts.Child.{Child}
 use Rattle.cert_check.specs.declared.cuts.Child.TheVariants.{First, Second}
 use Rattle.cert_check.specs.declared.cuts.Opens.{Opens}
@@ -29,16 +29,6 @@ pub record IsWithin (outer inner : Rect) : Type 0 where
   pub width_most : inner.wh ≤ outer.wh
   pub size_least : outer.sl ≤ inner.sl
   pub size_most : inner.sh ≤ outer.sh
-
--- ---- variables
-
--- the variable 0 stands for the viewport's width and 1 for the default font size, in whole pixels
-abbrev pub axis_of : ℕ → Option Axis
-axis_of x = if x == 0 then Some Width else if x == 1 then Some Size else None
-
-abbrev pub variable_of : Axis → ℕ
-variable_of Width = 0
-variable_of Size = 1
 
 -- ---- unit rows: those with one variable, which stands for an axis, and the coefficient 1 or -1
 

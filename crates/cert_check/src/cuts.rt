@@ -1,7 +1,7 @@
 ghost use Rattle.std.specs.Prelude.{◌≡◌, ◌^◌, ◌<◌, ◌≤◌, Some, None, IfSome, OnSome};
 ghost use Rattle.std.specs.Option.{option_map};
 ghost use Rattle.viz_base.specs.Worlds.{side_of, with_side};
-ghost use Rattle.cert_check.specs.Rectangles.{axis_of, variable_of};
+ghost use Rattle.cert_path.specs.Axes.{axis_of, variable_of};
 ghost use Rattle.cert_check.specs.Rectangles.{world_count, coefficient_cut, cut_of, at_most, above, cut_side, toward, part_of};
 
 use lin_row::Row;

@@ -1,18 +1,19 @@
 -- The rectangle of a path has the worlds at which its unit splits are taken.
-use Rattle.std.proofs.Common.{◌≡◌, ℕ, ◌<◌, ◌==◌, ℤ, pos, negsuc, neg_ℤ, ◌+ℤ◌, ◌*ℤ◌, ◌≤ℤ◌, Bool, true, false, cond, [], ◌∷◌, refl, sym, ap, subst, arith, inl, inr, IsTrue}
+use Rattle.std.proofs.Common.{◌≡◌, ℕ, ◌<◌, ◌==◌, ℤ, pos, negsuc, neg_ℤ, ◌+ℤ◌, ◌*ℤ◌, ◌≤ℤ◌, Bool, true, false, cond, [], ◌∷◌, Some, None, refl, sym, ap, subst, arith, inl, inr, IsTrue}
 use Rattle.std.specs.Prelude.{◌⊎◌, ◌↔◌}
 use Rattle.std.specs.Ordering.{int_eq}
 use Rattle.std.specs.Int.{int_max, int_min}
 use Rattle.std.proofs.lemmas.Int.{ints, int_max_is, int_min_is}
 use Rattle.std.proofs.lemmas.Bool.Decides.{nat_tests, Decides-int_eq}
 use Rattle.viz_base.specs.declared.worlds.World.{World}
+use Rattle.viz_base.specs.declared.worlds.Axis.TheVariants.{Width, Size}
 use Rattle.viz_base.specs.declared.worlds.Rect.{Rect}
 use Rattle.logic_semantics.specs.Ranges.{IsInRange}
 use Rattle.lin_row.specs.Form.{Form, Terms, value, denied, opposites}
 use Rattle.lin_row.proofs.Values.{value-denied}
 use Rattle.lin_proof.specs.Derivations.{are_declared}
 use Rattle.cert_path.specs.Paths.{def, first, second, Path, values_at, values_along}
-use Rattle.cert_path.specs.Rectangles.{Side, Sides, cut_side, cut_sides, left_by_terms, left_by, rectangle}
+use Rattle.cert_path.specs.Rectangles.{Side, Sides, cut_side, cut_axis, cut_sides, left_by_terms, left_by, rectangle}
 use Rattle.cert_path.specs.Laws.{IsOnSide, IsInside, IsUnit, UnitsAreTaken}
 use Rattle.cert_path.proofs.Values.{declared_local, axes_along}
 
@@ -125,7 +126,7 @@ term_is : (k : ℤ) (t : ℕ × ℤ) (sides : Sides) (world : World) → IsInsid
 term_is k t sides world = by_test (t.0 == 0) refl (t.0 == 1) refl
   where
     by_test : (a : Bool) → (t.0 == 0) ≡ a → (b : Bool) → (t.0 == 1) ≡ b
-        → IsInside (cond a (record { widths = cut_side k t.1 sides.widths; sizes = sides.sizes }) (cond b (record { widths = sides.widths; sizes = cut_side k t.1 sides.sizes }) sides)) world
+        → IsInside (cut_axis (cond a (Some Width) (cond b (Some Size) None)) k t.1 sides) world
         ↔ (IsInside sides world × Keeps (record { k = k; terms = t ∷ [] }) world)
     by_test true e b f =
         let zero : t.0 ≡ 0 = grind (arith, nat_tests) in

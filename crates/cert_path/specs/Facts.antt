@@ -1,21 +1,28 @@
 -- Facts: the rows that a path gives to derivations. Each is at least 0 on the path.
 use Rattle.std.specs.Prelude.{ℕ, ℤ, pos, negsuc, neg_ℤ, ◌-ℤ◌, List, [], ◌∷◌, ◌++◌}
+use Rattle.viz_base.specs.declared.worlds.Axis.{Axis}
+use Rattle.viz_base.specs.declared.worlds.Axis.TheVariants.{Width, Size}
+use Rattle.viz_base.specs.declared.worlds.Span.{Span}
 use Rattle.viz_base.specs.declared.worlds.Rect.{Rect}
+use Rattle.viz_base.specs.Worlds.{side_of}
 use Rattle.lin_row.specs.Form.{Form, plus, denied}
+use Rattle.cert_path.specs.Axes.{variable_of}
 use Rattle.cert_path.specs.Paths.{Step, def, first, second, Path, variables}
 
 -- the row k + c*x
 abbrev pub row_of : ℤ → ℤ → ℕ → Form
 row_of k c x = record { k = k; terms = (x, c) ∷ [] }
 
--- w - wl, wh - w, s - sl and sh - s
-abbrev pub range_facts : Rect → List Form
-range_facts r =
-    row_of (neg_ℤ (pos r.wl)) (pos 1) 0
-    ∷ row_of (pos r.wh) (negsuc 0) 0
-    ∷ row_of (neg_ℤ (pos r.sl)) (pos 1) 1
-    ∷ row_of (pos r.sh) (negsuc 0) 1
+-- x - least and most - x, x being the variable of an axis and these its numbers
+abbrev pub side_facts : Axis → Span → List Form
+side_facts axis side =
+    row_of (neg_ℤ (pos side.least)) (pos 1) (variable_of axis)
+    ∷ row_of (pos side.most) (negsuc 0) (variable_of axis)
     ∷ []
+
+-- those of each axis
+abbrev pub range_facts : Rect → List Form
+range_facts r = side_facts Width (side_of Width r) ++ side_facts Size (side_of Size r)
 
 -- what a step adds, x being the next variable: a def the rows f - d*x and d*x + d - 1 - f, a split its row on the first
 -- side, and its denial -f - 1 on the second

@@ -1,3 +1,4 @@
+pub mod Axes
 pub mod Paths
 pub mod Facts
 pub mod Nodes

@@ -5,6 +5,7 @@ use Rattle.std.specs.Int.{int_div_euclid}
 use Rattle.viz_base.specs.declared.worlds.World.{World}
 use Rattle.lin_row.specs.Form.{Form, value}
 use Rattle.lin_proof.specs.Derivations.{are_declared}
+use Rattle.cert_path.specs.Axes.{axis_of, number_on}
 
 -- a step from a node down to a child of it
 pub data Step : Type 0 where
@@ -19,7 +20,7 @@ pub data Step : Type 0 where
 abbrev pub Path : Type 0
 Path = List Step
 
--- ---- variables: 0 is the viewport's width and 1 the default font size, in whole pixels; each def takes the next one
+-- ---- variables: the first stand for the axes; each def takes the next one
 
 -- how many variables are declared along a path
 abbrev pub variables : Path → ℕ
@@ -34,7 +35,7 @@ with_value v x n y = if y == x then n else v y
 
 -- what the variables are where no floor is named; those that are not declared count 0
 abbrev pub values_at : World → ℕ → ℤ
-values_at world = with_value (with_value (λ x. pos 0) 0 (pos world.w)) 1 (pos world.s)
+values_at world x = number_on (axis_of x) world
 
 -- the values v, but for the variable x the row's value divided by d and rounded down
 abbrev pub with_floor : Form → ℤ → (ℕ → ℤ) → ℕ → ℕ → ℤ

@@ -1,9 +1,13 @@
--- The rectangle that the unit splits of a path leave of a range: those by a row k + x or k - x, x being w or s.
-use Rattle.std.specs.Prelude.{ℕ, ◌*◌, ◌==◌, ℤ, pos, negsuc, neg_ℤ, ◌+ℤ◌, [], ◌∷◌, if◌then◌else◌}
+-- The rectangle that the unit splits of a path leave of a range: those by a row k + x or k - x, x
+-- standing for an axis.
+use Rattle.std.specs.Prelude.{ℕ, ◌*◌, ℤ, pos, negsuc, neg_ℤ, ◌+ℤ◌, [], ◌∷◌, Option, Some, None, if◌then◌else◌}
 use Rattle.std.specs.Ordering.{int_eq}
 use Rattle.std.specs.Int.{int_gap, int_max, int_min}
+use Rattle.viz_base.specs.declared.worlds.Axis.{Axis}
+use Rattle.viz_base.specs.declared.worlds.Axis.TheVariants.{Width, Size}
 use Rattle.viz_base.specs.declared.worlds.Rect.{Rect}
 use Rattle.lin_row.specs.Form.{Form, Terms, denied}
+use Rattle.cert_path.specs.Axes.{axis_of}
 use Rattle.cert_path.specs.Paths.{def, first, second, Path}
 
 -- the whole numbers from one to another, both included; none where the least is above the most
@@ -23,11 +27,14 @@ cut_side k c side =
     else if int_eq c (negsuc 0) then record { least = side.least; most = int_min k side.most }
     else side
 
+-- of the sides where x stands for an axis; all of them where it stands for none
+abbrev pub cut_axis : Option Axis → ℤ → ℤ → Sides → Sides
+cut_axis None k c sides = sides
+cut_axis (Some Width) k c sides = record { widths = cut_side k c sides.widths; sizes = sides.sizes }
+cut_axis (Some Size) k c sides = record { widths = sides.widths; sizes = cut_side k c sides.sizes }
+
 abbrev pub cut_sides : ℤ → ℕ × ℤ → Sides → Sides
-cut_sides k t sides =
-    if t.0 == 0 then record { widths = cut_side k t.1 sides.widths; sizes = sides.sizes }
-    else if t.0 == 1 then record { widths = sides.widths; sizes = cut_side k t.1 sides.sizes }
-    else sides
+cut_sides k t sides = cut_axis (axis_of t.0) k t.1 sides
 
 -- what a row of one term leaves; another leaves all
 abbrev pub left_by_terms : ℤ → Terms → Sides → Sides

@@ -6,7 +6,7 @@ use Rattle.std.proofs.lemmas.Bool.Decides.{Decides-ltb}
 use Rattle.viz_base.specs.declared.worlds.Axis.{Axis}
 use Rattle.viz_base.specs.declared.worlds.Axis.TheVariants.{Width, Size}
 use Rattle.lin_row.specs.Number.{in_i128}
-use Rattle.cert_check.specs.Rectangles.{variable_of}
+use Rattle.cert_path.specs.Axes.{variable_of}
 use Rattle.cert_text.specs.Texts.{row_has_text}
 use Rattle.cert_text.specs.steps.Write.{row_bytes}
 use Rattle.prove_search.specs.steps.Halves.{row_up_to}

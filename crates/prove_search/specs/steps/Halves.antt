@@ -6,7 +6,7 @@ use Rattle.viz_base.specs.declared.worlds.Span.{Span}
 use Rattle.viz_base.specs.declared.worlds.Rect.{Rect}
 use Rattle.viz_base.specs.Worlds.{side_of, with_side}
 use Rattle.lin_row.specs.Form.{Form}
-use Rattle.cert_check.specs.Rectangles.{variable_of}
+use Rattle.cert_path.specs.Axes.{variable_of}
 use Rattle.prove_search.specs.declared.halves.Halves.{Halves}
 
 -- the number in the middle of others, the lower one of two
