@@ -1,22 +1,15 @@
 ghost use Rattle.std.specs.Prelude.{◌≡◌};
 ghost use Rattle.css_semantics.specs.ComputedValues.{font_named, first_named};
-ghost use Rattle.css_semantics.specs.Names.{same_name};
 
+use css_token::same_name;
 use viz_base::{Font, Text};
-
-/// Whether a font has this name, in any ASCII case.
-fn has_name(font: &Font, name: &str) -> bool
-    ensures { result ≡ same_name name.now font.now.name }
-{
-    name.eq_ignore_ascii_case(font.name.as_str())
-}
 
 /// The place of the first font of this name.
 fn font_named(fonts: &[Font], name: &str) -> Option<usize>
     ensures { result ≡ font_named fonts.now name.now }
 {
     for at in 0..fonts.len() {
-        if has_name(&fonts[at], name) {
+        if same_name(name, fonts[at].name.as_str()) {
             return Some(at);
         }
     }
