@@ -3,9 +3,10 @@
 The folder has files of JSON Lines: functions.jsonl, whose lines have a `call` (float_at, band, bottom, collapsed; used, fonts, widths,
 preferred and lead, which have a box tree, its height and a world; and others, which are left out), boxes.jsonl, whose lines have a page,
 style sheets, the names of fonts and a box tree or a fault, rows.jsonl, whose lines have a call too (add_scaled, negate, divides, cut), and
-derivations.jsonl. A row goes as its constant and its terms, numbers of more than 64 bits as texts; a derivation as a list of parts, each its
+derivations.jsonl; and trees.jsonl, whose lines have a box tree and its renderings at some worlds. A row goes as its constant and its terms, numbers of more than 64 bits as texts; a derivation as a list of parts, each its
 steps and its end, which is null or a row: its two cases are the two latest parts that are not part of another. A box tree goes as a job
 whose page has it, and before what is called on it a line says so; trees that no document has are left out, and told with their number.
+A rendering goes as what is printed of it.
 """
 import json
 import sys
@@ -70,6 +71,29 @@ def on_tree(case):
 def boxes(case):
     text = job(case["page"], [square(name) for name in case["fonts"]], case["css"])
     return [text], case["fault"] if "fault" in case else told_tree(case["boxes"], case["styles"])
+
+
+# ---- renderings of box trees
+
+KINDS = {"Block": "block", "Anon": "anon", "Float": "float", "Atomic": "atomic", "Replaced": "replaced", "Inline": "inline", "Chars": "text",
+         "Line": "line"}
+
+
+def printed(placed):
+    """The line of a box: its kind, its node, and the four edges of each of its rectangles."""
+    kind, node, *edges = placed
+    words = [KINDS[kind], node]
+    for at, letter in enumerate("mbpc"):
+        words += [letter] + edges[4 * at:4 * at + 4]
+    return " ".join(map(str, words)) + "\n"
+
+
+def renderings(case):
+    """A line that has the tree told, and those that lay it out at its worlds."""
+    text = job_of({**case, "w": 320, "s": 16})
+    yield ["boxes", text], told_tree(case["tree"]["boxes"], case["tree"]["styles"])
+    for world in case["worlds"]:
+        yield ["lay", text, world["w"], world["s"]], ["Done", "".join(map(printed, world["boxes"]))]
 
 
 # ---- rows and derivations
@@ -140,12 +164,14 @@ def cases(folder):
 
 
 def cases_on_trees(folder):
+    """The cases of box trees: what is called on them, and their renderings."""
     left_out = 0
-    for case in lines(folder, "functions"):
-        if case["call"] in ON_TREES:
+    for case in [*lines(folder, "functions"), *lines(folder, "trees")]:
+        call = case.get("call", "renderings")
+        if call in ON_TREES or call == "renderings":
             try:
-                yield from on_tree(case)
+                yield from renderings(case) if call == "renderings" else on_tree(case)
             except NoDocument as cause:
                 left_out += 1
-                print(f"left out, a case of {case['call']}: {cause}", file=sys.stderr)
+                print(f"left out, a case of {call}: {cause}", file=sys.stderr)
     print(f"{left_out} box trees are left out", file=sys.stderr)
