@@ -4,8 +4,9 @@
     tools/cases.py FOLDER
 
 FOLDER has files of JSON Lines, each named after a call: decimals, tokens, sheets, declarations, selectors, matches, values, cascade,
-formulas and truths; in jobs/ and certs/ jobs and certificates with what the program replies; and refusals.jsonl, jobs that are refused.
-Long cases come behind these, and the cases of layout that tools/layout_cases.py reads. What is called goes to
+formulas and truths; in jobs/ and certs/ jobs and certificates with what the program replies; refusals.jsonl, jobs that are refused; and
+grammar.jsonl, texts with the place up to which some certificate's text begins so, or null where they are a certificate's.
+Long cases come behind these, the cases of layout that tools/layout_cases.py reads, and those of tools/limit_cases.py. What is called goes to
 crates/cases/stdin and what it must give to crates/cases/stdout, a line of JSON each. A page goes flat: its nodes in document order, each
 with its parent's place; a formula as steps, each part before what it is a part of.
 """
@@ -16,6 +17,7 @@ import sys
 
 sys.dont_write_bytecode = True
 import layout_cases  # noqa: E402
+import limit_cases  # noqa: E402
 
 TOP = pathlib.Path(__file__).resolve().parent.parent
 
@@ -298,6 +300,14 @@ def certificates(folder):
         yield ["check", job, case["text"]], [ANSWERS[str(case["status"])], case["line"] + "\n"]
 
 
+def grammar(folder):
+    """Texts of certificates, all for some other job, and texts that are no certificate's."""
+    job = (folder / "jobs/0001.json").read_text(encoding="utf-8")
+    for line in filter(None, (folder / "grammar.jsonl").read_text(encoding="utf-8").split("\n")):
+        case = json.loads(line)
+        yield ["check", job, case["text"]], ["CertRefused", "rejected " + ("other-job" if case["at"] is None else f"grammar {case['at']}") + "\n"]
+
+
 # ---- long cases, whose answers can be told without a reader
 
 def long_cases():
@@ -336,7 +346,8 @@ def main():
                 arguments, answer = call(json.loads(line))
                 given.write(compact([call.__name__] + arguments) + "\n")
                 wanted.write(compact(answer) + "\n")
-        for called, answer in [*jobs(folder), *refusals(folder), *certificates(folder), *long_cases(), *layout_cases.cases(folder)]:
+        whole = [*jobs(folder), *refusals(folder), *certificates(folder), *grammar(folder)]
+        for called, answer in [*whole, *long_cases(), *layout_cases.cases(folder), *limit_cases.cases(folder)]:
             given.write(compact(called) + "\n")
             wanted.write(compact(answer) + "\n")
 

@@ -126,9 +126,9 @@ pub fn band(alloc: Global, case: &Value) -> Result<String, Fault> {
     Ok(format!(in alloc; "[{left},{right}]")?)
 }
 
-/// The lowest bottom of the floats that `clear` looks at, or null.
+/// The lowest bottom of the floats that `clear` looks at, in a copy of a list, or null.
 pub fn bottom(alloc: Global, case: &Value) -> Result<String, Fault> {
-    let floats = floats_at(alloc, case, 1)?;
+    let floats = floats_at(alloc, case, 1)?.copy(&mut calc())?;
     match floats.bottom(&mut calc(), clear(text_at(case, 2)?)?)? {
         Some(bottom) => Ok(format!(in alloc; "{bottom}")?),
         None => Ok(String::from_str(alloc, "null")?),

@@ -27,10 +27,14 @@ pub fn units_at(value: &Value, place: usize) -> Result<i128, Fault> {
     units(at(value, place)?)
 }
 
+/// The number of 64 bits at a place of an array.
+pub fn long_at(value: &Value, place: usize) -> Result<u64, Fault> {
+    at(value, place)?.as_u64().ok_or(Fault::NoCase)
+}
+
 /// The number of 32 bits at a place of an array.
 pub fn number_at(value: &Value, place: usize) -> Result<u32, Fault> {
-    let number = at(value, place)?.as_u64().ok_or(Fault::NoCase)?;
-    u32::try_from(number).map_err(|_| Fault::NoCase)
+    u32::try_from(long_at(value, place)?).map_err(|_| Fault::NoCase)
 }
 
 /// The number of 128 bits that is written as a text at a place of an array.

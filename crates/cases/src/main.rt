@@ -10,6 +10,7 @@ mod formulas;
 mod json;
 mod leads;
 mod lengths;
+mod lines;
 mod margins;
 mod pages;
 mod replies;
@@ -69,8 +70,9 @@ fn answer(alloc: Global, line: &str) -> Result<String, Fault> {
         "cascade" => cascades::answer(alloc, &case),
         "formulas" => formulas::answer(alloc, &case),
         "truths" => truths::answer(alloc, &case),
-        "lay" => replies::laid(alloc, &case),
-        "check" => replies::checked(alloc, &case),
+        name @ ("lay" | "check" | "prove" | "gen" | "trial") => replies::answered(
+            alloc, name, &case,
+        ),
         name => answer_below(alloc, name, &case),
     }
 }

@@ -2,6 +2,7 @@ use crate::faults::Fault;
 use crate::json::{list_at, listed, number_at, text_at};
 use crate::leads::lead_text;
 use crate::lengths::{font_text, used_text, word_text};
+use crate::lines::lines_text;
 use crate::widths::{preferred_text, widths_text};
 use page_build::build_job;
 use serde_json::Value;
@@ -31,6 +32,7 @@ fn call(
         "words" => word_text(alloc, calc, &job.tree, value),
         "widths" => widths_text(alloc, calc, job, value),
         "preferred" => preferred_text(alloc, calc, &job.tree, value),
+        "lines" => lines_text(alloc, calc, &job.tree, value),
         "lead" => lead_text(alloc, calc, &job.tree, value),
         _ => Err(Fault::NoCase),
     }
