@@ -1,28 +1,10 @@
 use std::test::Fail;
-use viz_base::{Boxed, Formula, List, Text, floor_div, read_decimal};
+use viz_base::{Boxed, Formula, List, Text, floor_div};
 
 #[test]
 fn floors(rt: HostRuntime) {
     for (a, d, floor) in [(7, 2, 3), (-7, 2, -4), (-8, 2, -4), (0, 5, 0), (-1, 64, -1)] {
         assert_eq!(rt; floor_div(a, d), floor, "{a} by {d}");
-    }
-}
-
-#[test]
-fn reads_decimals(rt: HostRuntime) {
-    let cases: [(&[u8], Option<i64>); 9] = [
-        (b"0", Some(0)),
-        (b"007", Some(7_000_000)),
-        (b"1.5", Some(1_500_000)),
-        (b".0000019", Some(1)),
-        (b"1099511.627776", Some(1_099_511_627_776)),
-        (b"1099511.627777", None),
-        (b"1.", None),
-        (b"-1", None),
-        (b"", None),
-    ];
-    for (text, millionths) in cases {
-        assert_eq!(rt; read_decimal(text), millionths);
     }
 }
 
@@ -38,6 +20,7 @@ fn holds_values(rt: HostRuntime) -> Result<(), Fail> {
     text.push_str("!")?;
     assert_eq!(rt; text.as_str(), "abé!");
     assert_eq!(rt; text.clone()?.len(), 5);
+    assert_eq!(rt; text.into_string().as_str(), "abé!");
     let formula = Formula::Not(Boxed::new(rt.alloc(), Formula::Const(true))?);
     let Formula::Not(inner) = formula else {
         return Ok(());

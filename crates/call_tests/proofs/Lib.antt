@@ -1,2 +1,0 @@
-mod NestedTree
-mod OneElement
