@@ -188,6 +188,17 @@ def certificates():
     yield check(job(page, [1, 160], [1, 64], wide), grids, ["CertRefused", f"rejected untrue {node} 157 61\n"])
 
 
+def leaves():
+    """Leaves on a page without boxes, whose layout compares nothing: the assertion alone asks for answers."""
+    def leaf(assertion, answers, answer=ACCEPTED):
+        text = job(block("display:none"), [320, 400], [16, 16], assertion)
+        return check(text, f"leaf\n{answers}end\n", answer)
+    yield leaf("true", "")
+    yield leaf("true", "yes 0\nclosed\nyes 0\nclosed\n", ["CertRefused", "rejected left 0 2\n"])
+    yield leaf("false", "", ["CertRefused", "rejected unmet 0\n"])
+    yield leaf("view.width >= 400px", "", ["CertRefused", "rejected short 0\n"])
+
+
 PLACES = (("", 0), ("grid\n\n", 5), ("split 07 0:1", 7), ("split -0 0:1\n", 7), ("split 0 0:-0\n", 11), ("split 0 4294967294:1 5:1\n", 21),
           ("split 0 4294967295:1 1:1\n", 20), ("def 0 4294967295:1 9:1 by 2\n", 19), ("void\nsum 1:0 \n", 13), ("void\ncut 0:0\n", 9),
           ("leaf\nno 0\nend\n", 10), ("void\nfact 0\nclosed\ngrid\n", 19))
@@ -254,6 +265,7 @@ def cases(folder):
     yield from lengths()
     yield from lines()
     yield from certificates()
+    yield from leaves()
     yield from places()
     yield from searches(folder)
     yield from generated(folder)
