@@ -1,6 +1,6 @@
-ghost use Rattle.std.specs.Prelude.{◌≡◌, ◌≤◌, IfOk, IfSome, None, false, length};
+ghost use Rattle.std.specs.Prelude.{◌≡◌, ◌≢◌, ◌≤◌, IfErr, IfOk, IfSome, Err, None, false, length};
 ghost use Rattle.std.specs.IoError.{error_kind};
-ghost use Rattle.viz_outside.specs.declared.shelf.ShelfFault.TheVariants.{Mem};
+ghost use Rattle.viz_outside.specs.declared.shelf.ShelfFault.TheVariants.{Mem, Failed};
 ghost use Rattle.viz_outside.specs.Shelf.{bytes_of, loaded_of};
 
 use crate::{Loaded, Shelf, ShelfFault};
@@ -38,7 +38,8 @@ impl<R> FileShelf<R> {
 
 // Want of memory is no fault of the files, and nothing else is want of memory.
 fn fault_of(error: &io::Error) -> ShelfFault
-    ensures { result ≡ Mem → error_kind error.now ≡ ErrorKind.OutOfMemory }
+    ensures memory { error_kind error.now ≡ ErrorKind.OutOfMemory → result ≡ Mem }
+    ensures failed { error_kind error.now ≢ ErrorKind.OutOfMemory → result ≡ Failed }
 {
     match error.kind() {
         ErrorKind::OutOfMemory => ShelfFault::Mem,
@@ -74,13 +75,28 @@ fn within(bytes: Vec<u8>, cap: usize) -> Loaded
     }
 }
 
+// The bytes of a reader that was to be opened, where they are at most `cap`. The fault is that of the opening.
+fn read_opened<F: Read + Drop>(
+    alloc: Global,
+    opened: io::Result<F>,
+    cap: usize,
+) -> Result<Loaded, ShelfFault>
+    ensures capped { IfOk result (λ loaded. length (bytes_of loaded) ≤ cap) }
+    ensures told { IfOk opened (λ file. IfOk result (λ loaded.
+        IfSome (F.remaining file) (λ held. loaded ≡ loaded_of cap held))) }
+    ensures memory { IfErr opened (λ error. error_kind error ≡ ErrorKind.OutOfMemory → result ≡ Err Mem) }
+    ensures failed { IfErr opened (λ error. error_kind error ≢ ErrorKind.OutOfMemory → result ≡ Err Failed) }
+{
+    match opened {
+        Ok(file) => read_within(alloc, file, cap),
+        Err(error) => Err(fault_of(&error)),
+    }
+}
+
 fn read_file<R: Files + AllocGlobal>(rt: &R, name: &str, cap: usize) -> Result<Loaded, ShelfFault>
     ensures { IfOk result (λ loaded. length (bytes_of loaded) ≤ cap) }
 {
-    match fs::open(rt, name) {
-        Ok(file) => read_within(rt.alloc(), file, cap),
-        Err(error) => Err(fault_of(&error)),
-    }
+    read_opened(rt.alloc(), fs::open(rt, name), cap)
 }
 
 impl<R: Files + AllocGlobal> Shelf for FileShelf<R> {
