@@ -1,6 +1,6 @@
-//! Where bytes come from and go to: a shelf of named files, and a sink for what is written.
+//! Where bytes come from and go to: the program's words, a shelf of named files, and a sink for what is written.
 //!
-//! Both are traits, so that what stands above is proved for files in memory and real ones alike.
+//! Shelf and sink are traits, so that what stands above is proved for files in memory and real ones alike.
 //! Each counts its own faults, and so a caller that gives up has to show that its shelf or sink did.
 #![tactic(auto)]
 
@@ -13,6 +13,7 @@ mod shelf;
 mod sink;
 #[cfg(test)]
 mod tests;
+mod words;
 
 pub use file_shelf::FileShelf;
 pub use memory_shelf::MemShelf;
@@ -20,3 +21,4 @@ pub use memory_sink::MemSink;
 pub use out_sink::OutSink;
 pub use shelf::{Loaded, Shelf, ShelfFault};
 pub use sink::{Sink, SinkFailed, write_all};
+pub use words::words_of;
