@@ -1,14 +1,44 @@
 -- What a reply tells of a job's assertion.
 use Rattle.std.proofs.Common.{◌≡◌, inl, inr, ℕ, List}
 use Rattle.viz_base.specs.declared.jobs.Job.{Job}
+use Rattle.cert_check.specs.Truths.{Holds}
 use Rattle.viz_replies.specs.declared.reply.Answer.{Answer}
 use Rattle.viz_replies.specs.declared.reply.Answer.TheVariants as ends
 use Rattle.viz_replies.specs.declared.question.Question.{Question}
 use Rattle.viz_replies.specs.declared.question.Question.TheVariants as asks
-use Rattle.viz_replies.specs.Jobs.{SpellsJob}
 use Rattle.viz_replies.specs.Replies.{IsReplyAbout, IsReplyOnJob, IsReply}
 use Rattle.viz_replies.specs.Trials.{IsTrialOnJob, IsTrialOn}
-use Rattle.viz_replies.specs.Headline.{IsTrueEverywhere, IsFalseWherePrinted, IsFalseWhereNamed}
+use Rattle.viz_replies.specs.Headline.{IsTrueEverywhere, IsRefuted, IsFalseWherePrinted, IsFalseWhereNamed}
+
+-- ---- jobs
+
+pub accepted_holds : (job : Job) (cert : List ℕ) (question : Question) (answer : Answer) (output : List ℕ) → IsReplyAbout job question answer output
+    → question ≡ asks.Check cert → answer ≡ ends.Done → Holds job
+accepted_holds job cert question answer output reply asked is =
+    let found : IsReplyAbout job (asks.Check cert) ends.Done output = rw is at (rw asked at reply) in
+    found.holds
+
+pub proved_holds : (job : Job) (turns : ℕ) (question : Question) (answer : Answer) (output : List ℕ) → IsReplyAbout job question answer output
+    → question ≡ asks.Prove turns → answer ≡ ends.Done → Holds job
+proved_holds job turns question answer output reply asked is =
+    let found : IsReplyAbout job (asks.Prove turns) ends.Done output = rw is at (rw asked at reply) in
+    found.proof.holds
+
+refuted : (job : Job) (question : Question) (output : List ℕ) → IsReplyAbout job question ends.Violated output → IsRefuted job output
+refuted job (asks.Lay screen) output reply = absurd reply
+refuted job (asks.Prove turns) output reply = record {
+  world = reply.world;
+  in_range = reply.violation.in_range;
+  untrue = reply.violation.untrue;
+  printed = reply.text;
+}
+refuted job (asks.Check cert) output reply = absurd reply
+
+pub violated_is_refuted : (job : Job) (question : Question) (answer : Answer) (output : List ℕ) → IsReplyAbout job question answer output
+    → answer ≡ ends.Violated → IsRefuted job output
+violated_is_refuted job question answer output reply is = refuted job question output (rw is at reply)
+
+-- ---- bytes
 
 -- a reply with an answer other than a refusal is about the job that the bytes spell
 on_job : (bytes : List ℕ) (question : Question) (answer wanted : Answer) (output : List ℕ) → IsReply bytes question answer output
@@ -28,24 +58,11 @@ proves_true bytes turns question answer output reply asked is =
     let found = on_job bytes (asks.Prove turns) answer ends.Done output (rw asked at reply) is (λ e. absurd (cc)) in
     record { job = found.job; spelled = found.spelled; holds = found.reply.proof.holds }
 
-false_there : (bytes : List ℕ) (job : Job) (question : Question) (output : List ℕ) → SpellsJob bytes job
-    → IsReplyAbout job question ends.Violated output → IsFalseWherePrinted bytes output
-false_there bytes job (asks.Lay screen) output spelled reply = absurd reply
-false_there bytes job (asks.Prove turns) output spelled reply = record {
-  job = job;
-  spelled = spelled;
-  world = reply.world;
-  in_range = reply.violation.in_range;
-  untrue = reply.violation.untrue;
-  printed = reply.text;
-}
-false_there bytes job (asks.Check cert) output spelled reply = absurd reply
-
 pub violates : (bytes : List ℕ) (question : Question) (answer : Answer) (output : List ℕ) → IsReply bytes question answer output
     → answer ≡ ends.Violated → IsFalseWherePrinted bytes output
 violates bytes question answer output reply is =
     let found = on_job bytes question answer ends.Violated output reply is (λ e. absurd (cc)) in
-    false_there bytes found.job question output found.spelled found.reply
+    record { job = found.job; spelled = found.spelled; refuted = refuted found.job question output found.reply }
 
 -- ---- trials
 

@@ -14,15 +14,19 @@ pub record IsTrueEverywhere (bytes : List ℕ) : Type 0 where
   pub spelled : SpellsJob bytes job
   pub holds : Holds job
 
--- the output names a world of the range of the job that the bytes spell, at which its assertion is false of the page's rendering,
--- whom the assertion blames there, and the boxes of that rendering
-pub record IsFalseWherePrinted (bytes output : List ℕ) : Type 0 where
-  pub job : Job
-  pub spelled : SpellsJob bytes job
+-- the output names a world of the job's range, at which its assertion is false of the page's rendering, whom the assertion
+-- blames there, and the boxes of that rendering
+pub record IsRefuted (job : Job) (output : List ℕ) : Type 0 where
   pub world : World
   pub in_range : IsInRange job.range world
   pub untrue : is_true_at job world ≡ false
   pub printed : output ≡ violation_text job world
+
+-- the bytes spell a job, and the output names such a world of it
+pub record IsFalseWherePrinted (bytes output : List ℕ) : Type 0 where
+  pub job : Job
+  pub spelled : SpellsJob bytes job
+  pub refuted : IsRefuted job output
 
 -- the output names a world of the range of the job that the bytes spell, at which its assertion is false of the page's rendering
 pub record IsFalseWhereNamed (bytes output : List ℕ) : Type 0 where

@@ -3,6 +3,8 @@ ghost use Rattle.std.specs.List.{flat_map};
 ghost use Rattle.cert_path.specs.Nodes.{nodes_of};
 ghost use Rattle.cert_text.specs.Texts.{CertText};
 ghost use Rattle.viz_replies.specs.Lines.{numbered};
+ghost use Rattle.cert_check.specs.Truths.{Holds};
+ghost use Rattle.viz_replies.specs.Headline.{IsRefuted};
 ghost use Rattle.viz_replies.specs.Replies.{IsReplyAbout, boxes_text, differs_line, violation_text, open_line, reject_line};
 ghost use Rattle.viz_replies.specs.steps.Answers.{IsVerdictReply, IsPrintable, IsOutcomeReply, IsProveReply, IsVerdictOn};
 ghost use Rattle.viz_replies.specs.declared.question.Question.{Question};
@@ -209,8 +211,8 @@ fn checked(alloc: Global, job: &Job, bytes: &[u8]) -> Result<Reply, Mem>
     }
 }
 
-/// What is replied to a question about a job.
-pub fn reply_about(alloc: Global, job: &Job, question: &Question) -> Result<Reply, Mem>
+/// What is replied to a question about a job, with its exact output alone.
+fn reply_on_job(alloc: Global, job: &Job, question: &Question) -> Result<Reply, Mem>
     ensures { IfOk result (λ r. IsReplyAbout job.now question.now r.answer r.output.items) }
 {
     match question {
@@ -218,4 +220,21 @@ pub fn reply_about(alloc: Global, job: &Job, question: &Question) -> Result<Repl
         Question::Prove(turns) => searched(alloc, job, *turns),
         Question::Check(cert) => checked(alloc, job, cert.as_slice()),
     }
+}
+
+/// What is replied to a question about a job.
+pub fn reply_about(alloc: Global, job: &Job, question: &Question) -> Result<Reply, Mem>
+    // Where a certificate is accepted, the job's assertion is true of the CSS 2.1 rendering at every world of its
+    // range.
+    ensures accepted { IfOk result (λ r. (cert : _) → question.now ≡ Question.Check cert → r.answer ≡ Answer.Done
+        → Holds job.now) }
+    // So it is where it is said to be proved,
+    ensures proved { IfOk result (λ r. (turns : _) → question.now ≡ Question.Prove turns → r.answer ≡ Answer.Done
+        → Holds job.now) }
+    // and where it is said to be violated, it is false at the world of the range that is printed, with the boxes there.
+    ensures violated { IfOk result (λ r. r.answer ≡ Answer.Violated → IsRefuted job.now r.output.items) }
+    // The answer and the output are those of the reply.
+    ensures outcome { IfOk result (λ r. IsReplyAbout job.now question.now r.answer r.output.items) }
+{
+    reply_on_job(alloc, job, question)
 }
