@@ -9,12 +9,11 @@ use Rattle.viz_outside.proofs.FaultLemmas.{rose_within}
 use Rattle.viz_base.specs.declared.jobs.Job.{Job}
 use Rattle.viz_replies.specs.declared.reply.Answer.{Answer}
 use Rattle.viz_replies.specs.declared.reply.Reply.{Reply}
-use Rattle.viz_replies.specs.declared.question.Question.{Question}
 use Rattle.viz_replies.specs.declared.question.Question.TheVariants as asks
 use Rattle.viz_replies.specs.declared.jobs.JobRead.TheVariants as of_job
 use Rattle.viz_replies.specs.Replies.{IsReplyAbout}
 use Rattle.vizlog.specs.Files.{Files, MayHold, HoldsJob}
-use Rattle.vizlog.specs.Run.{IsReplyOfFile, IsCheckOfFiles}
+use Rattle.vizlog.specs.Run.{IsCheckOfFiles}
 use Rattle.vizlog.specs.steps.Loads.{IsJobFile}
 
 -- ---- files that are given whole
@@ -62,15 +61,6 @@ pub rose_later : (a b c : ℕ) → a ≤ b → b ≤ c → Rose b c → Rose a c
 rose_later a b c first last rose = rose_within a b c c first last rose (omega arith)
 
 -- ---- replies
-
-pub replied_about : (files : Files) (name : List ℕ) (question : Question) (job : Job) (answer : Answer) (output : List ℕ)
-    → IsJobFile files name (of_job.Read job) → IsReplyAbout job question answer output → IsReplyOfFile files name question answer output
-replied_about files name question job answer output file reply =
-    record { bytes = file.bytes; told = file.told; reply = inl (record { job = job; spelled = file.reads; reply = reply }) }
-
-pub replied_refused : (files : Files) (name : List ℕ) (question : Question) (reply : Reply) → IsJobFile files name (of_job.Refused reply)
-    → IsReplyOfFile files name question reply.answer reply.output.items
-replied_refused files name question reply file = record { bytes = file.bytes; told = file.told; reply = inr file.reads }
 
 pub checked_about : (files : Files) (name cert : List ℕ) (job : Job) (answer : Answer) (output : List ℕ) → IsJobFile files name (of_job.Read job)
     → (bytes : List ℕ) × MayHold files cert bytes × IsReplyAbout job (asks.Check bytes) answer output → IsCheckOfFiles files name cert answer output

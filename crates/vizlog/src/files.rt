@@ -11,8 +11,8 @@ use std::alloc::Global;
 use viz_base::{Job, Mem};
 use viz_outside::{Loaded, Shelf, ShelfFault};
 use viz_replies::{
-    CERT_MOST, JOB_MOST, JobRead, Question, Reply, long_certificate, long_job, read_job,
-    reply_about, reply_to_gen, reply_to_trial,
+    Answer, CERT_MOST, JOB_MOST, JobRead, Question, Reply, long_certificate, long_job, read_job,
+    reply_about, reply_to, reply_to_gen, reply_to_trial,
 };
 
 /// What the job file of this name comes to.
@@ -21,6 +21,7 @@ fn load_job<F: Shelf>(alloc: Global, name: &str, shelf: &mut F) -> Result<JobRea
     ensures files { F.files shelf.new ≡ F.files shelf.old }
     ensures failed { IsErrOf result ShelfFault.Failed → Rose (F.faults shelf.old) (F.faults shelf.new) }
     ensures sure { IsTrue (F.sure shelf.old name.now) → ¬ IsErrOf result ShelfFault.Failed }
+    ensures sure_counts { IsTrue (F.sure shelf.old name.now) → F.faults shelf.new ≡ F.faults shelf.old }
     ensures counts { F.faults shelf.old ≤ F.faults shelf.new }
     ensures stays_sure { (other : List ℕ) → IsTrue (F.sure shelf.old other) → IsTrue (F.sure shelf.new other) }
 {
@@ -82,10 +83,11 @@ fn reply_of_file<F: Shelf>(
     ensures unread { IsErrOf result (NoReply.Unread File.Job) → Rose (F.faults shelf.old) (F.faults shelf.new) }
     ensures sure { IsTrue (F.sure shelf.old name.now) → ¬ IsErrOf result (NoReply.Unread File.Job) }
     ensures one_file { ¬ IsErrOf result (NoReply.Unread File.Certificate) }
+    ensures sure_counts { IsTrue (F.sure shelf.old name.now) → F.faults shelf.new ≡ F.faults shelf.old }
 {
-    match load_job(alloc, name, shelf) {
-        Ok(JobRead::Read(job)) => Ok(reply_about(alloc, &job, question)?),
-        Ok(JobRead::Refused(reply)) => Ok(reply),
+    match shelf.load(name, JOB_MOST) {
+        Ok(Loaded::Whole(bytes)) => Ok(reply_to(alloc, bytes.as_slice(), question)?),
+        Ok(Loaded::Longer) => Ok(long_job(alloc)?),
         Err(ShelfFault::Failed) => Err(NoReply::Unread(File::Job)),
         Err(ShelfFault::Mem) => Err(NoReply::Mem),
     }
@@ -104,6 +106,8 @@ fn check_of_files<F: Shelf>(
         → HoldsJob (F.files shelf.old) job.now × Rose (F.faults shelf.old) (F.faults shelf.new) }
     ensures job_sure { IsTrue (F.sure shelf.old job.now) → ¬ IsErrOf result (NoReply.Unread File.Job) }
     ensures cert_sure { IsTrue (F.sure shelf.old cert.now) → ¬ IsErrOf result (NoReply.Unread File.Certificate) }
+    ensures unlooked { IsTrue (F.sure shelf.old job.now) → IfOk result (λ r.
+        r.answer ≡ Answer.JobRefused → F.faults shelf.new ≡ F.faults shelf.old) }
 {
     match load_job(alloc, job, shelf) {
         Ok(JobRead::Read(job)) => match reply_by_file(alloc, &job, cert, shelf) {
@@ -132,6 +136,8 @@ pub fn reply_over<F: Shelf>(
     ensures cert_sure { IsSureCert (F.sure shelf.old) command.entry
         → ¬ IsErrOf result (NoReply.Unread File.Certificate) }
     ensures unloaded { IsFileless command.entry → shelf.new ≡ shelf.old }
+    ensures unlooked { IsSureJob (F.sure shelf.old) command.entry → IfOk result (λ r.
+        r.answer ≡ Answer.JobRefused → F.faults shelf.new ≡ F.faults shelf.old) }
 {
     match command {
         Command::Lay { job, screen } => reply_of_file(alloc, job, &Question::Lay(screen), shelf),

@@ -11,32 +11,18 @@ mod words;
 
 use crate::run::run;
 use crate::status::Status;
+use std::env;
 use std::process::ExitCode;
-use std::{env, io};
-use viz_outside::{FileShelf, OutSink};
-
-/// The words after the program's name.
-fn words_of(rt: &HostRuntime) -> io::Result<Vec<String>> {
-    let mut words = Vec::new(rt.alloc());
-    for word in env::args(rt)?.skip(1) {
-        words.push(word)?;
-    }
-    Ok(words)
-}
+use viz_base::Mem;
+use viz_outside::{FileShelf, OutSink, words_of};
 
 /// Runs on the program's own words, files and output. Words that are no text are of no form.
 fn main(rt: HostRuntime) -> ExitCode {
     let mut shelf = FileShelf::new(&rt);
     let mut sink = OutSink::new(&rt);
-    let status = match words_of(&rt) {
+    let status = match words_of(rt.alloc(), env::args(&rt)) {
         Ok(words) => run(rt.alloc(), words.as_slice(), &mut shelf, &mut sink),
-        Err(error) => {
-            if error.kind() == io::ErrorKind::InvalidData {
-                run(rt.alloc(), &[], &mut shelf, &mut sink)
-            } else {
-                Status::Memory
-            }
-        }
+        Err(Mem) => Status::Memory,
     };
     ExitCode::from(status.code())
 }

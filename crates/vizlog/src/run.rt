@@ -36,6 +36,8 @@ fn obey<F: Shelf, K: Sink>(alloc: Global, command: Command, shelf: &mut F, sink:
     ensures sure_cert { IsSureCert (F.sure shelf.old) command.entry → result ≢ Status.ReadFault File.Certificate }
     ensures write_fault { result ≡ Status.WriteFault → Rose (K.faults sink.old) (K.faults sink.new) }
     ensures unloaded { IsFileless command.entry → shelf.new ≡ shelf.old }
+    ensures unlooked { IsSureJob (F.sure shelf.old) command.entry → result ≡ Status.Replied Answer.JobRefused
+        → F.faults shelf.new ≡ F.faults shelf.old }
 {
     match reply_over(alloc, command, shelf) {
         Ok(reply) => deliver(sink, Status::Replied(reply.answer), reply.output.as_slice()),
@@ -56,6 +58,8 @@ fn answer<F: Shelf, K: Sink>(alloc: Global, words: &[String], shelf: &mut F, sin
         → result ≢ Status.ReadFault File.Certificate }
     ensures write_fault { result ≡ Status.WriteFault → Rose (K.faults sink.old) (K.faults sink.new) }
     ensures unloaded { AreOfGenerated (map string_bytes words.now) → shelf.new ≡ shelf.old }
+    ensures unlooked { IsTrue (F.sure shelf.old (word_at (map string_bytes words.now) 1))
+        → result ≡ Status.Replied Answer.JobRefused → F.faults shelf.new ≡ F.faults shelf.old }
 {
     match command_of(words) {
         Some(command) => obey(alloc, command, shelf, sink),
@@ -98,6 +102,9 @@ pub fn run<F: Shelf, K: Sink>(
     ensures write_fault { result ≡ Status.WriteFault → Rose (K.faults sink.old) (K.faults sink.new) }
     // About a generated job no file is loaded.
     ensures unloaded { AreOfGenerated (map string_bytes words.now) → shelf.new ≡ shelf.old }
+    // Where the job is refused, no certificate is looked for: a job file that is sure to load leaves no fault.
+    ensures unlooked { IsTrue (F.sure shelf.old (word_at (map string_bytes words.now) 1))
+        → result ≡ Status.Replied Answer.JobRefused → F.faults shelf.new ≡ F.faults shelf.old }
 {
     answer(alloc, words, shelf, sink)
 }

@@ -1,12 +1,19 @@
-use Rattle.vizlog.proofs.RunLemmas.{replied_about, replied_refused}
+use Rattle.std.proofs.Common.{inl, inr}
+use Rattle.vizlog.proofs.RunLemmas.{whole, longer}
 use Rattle.vizlog.proofs.files.reply_of_file.Goals as goal
 
-pub returns-in_ok-reply_about-in-Ok-Read-clause-reply : goal.returns-in_ok-reply_about-in-Ok-Read-clause-reply
-returns-in_ok-reply_about-in-Ok-Read-clause-reply g c =
-    let file = rw c.in-Ok-Read.field-0-is at c.in-Ok-Read.ensures.file in
-    replied_about (g.F.Shelf.files c.args.shelf.now) c.args.name.now c.args.question.now c.in-Ok-Read.job _ _ file c.in_ok-reply_about-in-Ok-Read.ensures
+pub returns-in_ok-reply_to-in-Ok-Whole-clause-reply : goal.returns-in_ok-reply_to-in-Ok-Whole-clause-reply
+returns-in_ok-reply_to-in-Ok-Whole-clause-reply g c =
+    let told = rw c.in-Ok-Whole.field-0-is at c.in-Ok-Whole.ensures.told in
+    record {
+      bytes = c.in-Ok-Whole.bytes;
+      told = whole (g.F.Shelf.files c.args.shelf.now) c.args.name.now 16777216 c.in-Ok-Whole.bytes told;
+      reply = rw c.as_slice.ensures at c.in_ok-reply_to-in-Ok-Whole.ensures.outcome;
+    }
 
-pub returns-in-Ok-Refused-clause-reply : goal.returns-in-Ok-Refused-clause-reply
-returns-in-Ok-Refused-clause-reply g c =
-    let file = rw c.in-Ok-Refused.field-0-is at c.in-Ok-Refused.ensures.file in
-    replied_refused (g.F.Shelf.files c.args.shelf.now) c.args.name.now c.args.question.now c.in-Ok-Refused.reply file
+pub returns-in_ok-long_job-in-Ok-Longer-clause-reply : goal.returns-in_ok-long_job-in-Ok-Longer-clause-reply
+returns-in_ok-long_job-in-Ok-Longer-clause-reply g c =
+    let told = rw c.in-Ok-Longer.field-0-is at c.in-Ok-Longer.ensures.told in
+    let found = longer (g.F.Shelf.files c.args.shelf.now) c.args.name.now 16777216 told in
+    let reply = c.in_ok-long_job-in-Ok-Longer.ensures in
+    record { bytes = found.0; told = found.1; reply = inr (record { refused = reply.0; reason = inl (record { long = found.2; line = reply.1 }) }) }
