@@ -9,9 +9,9 @@
 --     part        := number | number "*" edge | edge
 --     edge        := name "." [ ring "." ] face | "view" "." [ "width" | "height" ]
 --
--- Chains of `or` and of `and` group to the left. Each rule says which tokens it begins with and which it leaves. It is told
--- the names that are bound around it, and of each token it says whether it may stand there: a name may be unbound, and a
--- quantifier, a parenthesis or a `not` too deep.
+-- Chains of `or` and of `and` group to the left. Each rule says which tokens it begins with and which it
+-- leaves. It is told the names that are bound around it, and of each token it says whether it may stand
+-- there: a name may be unbound, and a quantifier, a parenthesis or a `not` too deep.
 use Rattle.std.specs.Prelude.{◌≡◌, ℕ, ℤ, pos, neg_ℤ, ◌+◌, ◌*◌, ◌≤◌, nat_lt, Bool, true, false, ◌&&◌, List, [], ◌∷◌, ◌++◌, length, map, bytes_eq, Option, Some, None}
 use Rattle.std.specs.List.{position}
 use Rattle.viz_base.specs.declared.formulas.Edge.{Edge}
@@ -118,32 +118,41 @@ multiple minus n edge = record { times = signed minus n; edge = edge }
 -- an edge of a rectangle, that of the border where none is named, or one of the viewport
 pub data IsEdge (around : Around) : List Judged → List Judged → Edge → Type 0 where
   face : (name : List ℕ) (f : Face) (i j k : ℕ) (rest : List Judged)
-      → IsEdge around (judged (name_check around name) (a.Name name) i ∷ plain a.Dot j ∷ plain (a.Face f) k ∷ rest) rest (of_edge.Name (name_number around name) Border f)
+      → IsEdge around (judged (name_check around name) (a.Name name) i ∷ plain a.Dot j ∷ plain (a.Face f) k ∷ rest)
+      rest (of_edge.Name (name_number around name) Border f)
   ring : (name : List ℕ) (r : Ring) (f : Face) (i j k l m : ℕ) (rest : List Judged)
-      → IsEdge around (judged (name_check around name) (a.Name name) i ∷ plain a.Dot j ∷ plain (a.Ring r) k ∷ plain a.Dot l ∷ plain (a.Face f) m ∷ rest) rest (of_edge.Name (name_number around name) r f)
-  width : (i j k : ℕ) (rest : List Judged) → IsEdge around (plain a.View i ∷ plain a.Dot j ∷ plain a.Width k ∷ rest) rest of_edge.ViewWidth
-  height : (i j k : ℕ) (rest : List Judged) → IsEdge around (plain a.View i ∷ plain a.Dot j ∷ plain a.Height k ∷ rest) rest of_edge.ViewHeight
+      → IsEdge around (judged (name_check around name) (a.Name name) i ∷ plain a.Dot j ∷ plain (a.Ring r) k
+      ∷ plain a.Dot l ∷ plain (a.Face f) m ∷ rest) rest (of_edge.Name (name_number around name) r f)
+  width : (i j k : ℕ) (rest : List Judged)
+      → IsEdge around (plain a.View i ∷ plain a.Dot j ∷ plain a.Width k ∷ rest) rest of_edge.ViewWidth
+  height : (i j k : ℕ) (rest : List Judged)
+      → IsEdge around (plain a.View i ∷ plain a.Dot j ∷ plain a.Height k ∷ rest) rest of_edge.ViewHeight
 
 -- A part of a term, before which a minus may stand. A factor is a number without `px`, of at most 65,536.
 pub data IsPart (around : Around) (minus : Bool) : List Judged → List Judged → Summand → Type 0 where
-  number : (n : ℕ) (unit : Counted) (i : ℕ) (rest : List Judged) → IsPart around minus (plain (a.Number n unit) i ∷ rest) rest (multiple minus (in_units unit n) of_edge.One)
+  number : (n : ℕ) (unit : Counted) (i : ℕ) (rest : List Judged)
+      → IsPart around minus (plain (a.Number n unit) i ∷ rest) rest (multiple minus (in_units unit n) of_edge.One)
   times : (n : ℕ) (i j : ℕ) (ts rest : List Judged) (edge : Edge) → n ≤ 65536 → IsEdge around ts rest edge
       → IsPart around minus (plain (a.Number n of_unit.One) i ∷ plain a.Star j ∷ ts) rest (multiple minus n edge)
-  once : (ts rest : List Judged) (edge : Edge) → IsEdge around ts rest edge → IsPart around minus ts rest (multiple minus 1 edge)
+  once : (ts rest : List Judged) (edge : Edge) → IsEdge around ts rest edge
+      → IsPart around minus ts rest (multiple minus 1 edge)
 
 -- the parts of a term, of which some are read
 pub data AreParts (around : Around) : List Summand → List Judged → List Judged → List Summand → Type 0 where
   no_more : (parts : List Summand) (rest : List Judged) → AreParts around parts rest rest parts
   plus : (parts whole : List Summand) (s : Summand) (i : ℕ) (ts us rest : List Judged)
-      → IsPart around false ts us s → AreParts around (parts ++ s ∷ []) us rest whole → AreParts around parts (plain a.Plus i ∷ ts) rest whole
+      → IsPart around false ts us s → AreParts around (parts ++ s ∷ []) us rest whole
+      → AreParts around parts (plain a.Plus i ∷ ts) rest whole
   minus : (parts whole : List Summand) (s : Summand) (i : ℕ) (ts us rest : List Judged)
-      → IsPart around true ts us s → AreParts around (parts ++ s ∷ []) us rest whole → AreParts around parts (plain a.Minus i ∷ ts) rest whole
+      → IsPart around true ts us s → AreParts around (parts ++ s ∷ []) us rest whole
+      → AreParts around parts (plain a.Minus i ∷ ts) rest whole
 
 pub data IsTerm (around : Around) : List Judged → List Judged → List Summand → Type 0 where
   positive : (parts : List Summand) (s : Summand) (ts us rest : List Judged)
       → IsPart around false ts us s → AreParts around (s ∷ []) us rest parts → IsTerm around ts rest parts
   negative : (parts : List Summand) (s : Summand) (i : ℕ) (ts us rest : List Judged)
-      → IsPart around true ts us s → AreParts around (s ∷ []) us rest parts → IsTerm around (plain a.Minus i ∷ ts) rest parts
+      → IsPart around true ts us s → AreParts around (s ∷ []) us rest parts
+      → IsTerm around (plain a.Minus i ∷ ts) rest parts
 
 -- ---- formulas
 
@@ -169,33 +178,46 @@ pub data Rule : Type 0 where
   operand : Rule
 
 pub data Reads : Rule → Around → List Judged → List Judged → Formula → Type 0 where
-  quantifies : (q : Quantifier) (name : List ℕ) (set : Set) (around : Around) (i j k l m : ℕ) (ts rest : List Judged) (body : Formula)
+  quantifies : (q : Quantifier) (name : List ℕ) (set : Set) (around : Around) (i j k l m : ℕ) (ts rest : List Judged)
+      (body : Formula)
       → Reads formula (binding name around) ts rest body
-      → Reads formula around (judged (quantifier_check around) (a.Quantifier q) i ∷ plain (a.Name name) j ∷ plain a.In k ∷ plain (a.Members set) l ∷ plain a.Colon m ∷ ts) rest (quantified q set body)
+      → Reads formula around
+      (judged (quantifier_check around) (a.Quantifier q) i ∷ plain (a.Name name) j ∷ plain a.In k
+      ∷ plain (a.Members set) l ∷ plain a.Colon m ∷ ts) rest (quantified q set body)
   connects : (around : Around) (ts us rest : List Judged) (left f : Formula)
       → Reads disjunction around ts us left → Reads (consequence left) around us rest f → Reads formula around ts rest f
   no_implies : (around : Around) (rest : List Judged) (left : Formula) → Reads (consequence left) around rest rest left
   implies : (around : Around) (i : ℕ) (ts rest : List Judged) (left right : Formula)
-      → Reads formula around ts rest right → Reads (consequence left) around (plain a.Implies i ∷ ts) rest (of_formula.Implies left right)
+      → Reads formula around ts rest right
+      → Reads (consequence left) around (plain a.Implies i ∷ ts) rest (of_formula.Implies left right)
   first_disjunct : (around : Around) (ts us rest : List Judged) (left f : Formula)
-      → Reads conjunction around ts us left → Reads (disjuncts left) around us rest f → Reads disjunction around ts rest f
+      → Reads conjunction around ts us left → Reads (disjuncts left) around us rest f
+      → Reads disjunction around ts rest f
   no_or : (around : Around) (rest : List Judged) (left : Formula) → Reads (disjuncts left) around rest rest left
   or : (around : Around) (i : ℕ) (ts us rest : List Judged) (left right f : Formula)
-      → Reads conjunction around ts us right → Reads (disjuncts (of_formula.Or left right)) around us rest f → Reads (disjuncts left) around (plain a.Or i ∷ ts) rest f
+      → Reads conjunction around ts us right → Reads (disjuncts (of_formula.Or left right)) around us rest f
+      → Reads (disjuncts left) around (plain a.Or i ∷ ts) rest f
   first_conjunct : (around : Around) (ts us rest : List Judged) (left f : Formula)
       → Reads operand around ts us left → Reads (conjuncts left) around us rest f → Reads conjunction around ts rest f
   no_and : (around : Around) (rest : List Judged) (left : Formula) → Reads (conjuncts left) around rest rest left
   and : (around : Around) (i : ℕ) (ts us rest : List Judged) (left right f : Formula)
-      → Reads operand around ts us right → Reads (conjuncts (of_formula.And left right)) around us rest f → Reads (conjuncts left) around (plain a.And i ∷ ts) rest f
+      → Reads operand around ts us right → Reads (conjuncts (of_formula.And left right)) around us rest f
+      → Reads (conjuncts left) around (plain a.And i ∷ ts) rest f
   negates : (around : Around) (i : ℕ) (ts rest : List Judged) (f : Formula)
-      → Reads operand (inside around) ts rest f → Reads operand around (judged (opener_check around) a.Not i ∷ ts) rest (of_formula.Not f)
+      → Reads operand (inside around) ts rest f
+      → Reads operand around (judged (opener_check around) a.Not i ∷ ts) rest (of_formula.Not f)
   parens : (around : Around) (i j : ℕ) (ts rest : List Judged) (f : Formula)
-      → Reads formula (inside around) ts (plain a.Close j ∷ rest) f → Reads operand around (judged (opener_check around) a.Open i ∷ ts) rest f
-  truth : (around : Around) (value : Bool) (i : ℕ) (rest : List Judged) → Reads operand around (plain (a.Truth value) i ∷ rest) rest (of_formula.Const value)
+      → Reads formula (inside around) ts (plain a.Close j ∷ rest) f
+      → Reads operand around (judged (opener_check around) a.Open i ∷ ts) rest f
+  truth : (around : Around) (value : Bool) (i : ℕ) (rest : List Judged)
+      → Reads operand around (plain (a.Truth value) i ∷ rest) rest (of_formula.Const value)
   compares : (around : Around) (sign : Sign) (i : ℕ) (ts us rest : List Judged) (left right : List Summand)
-      → IsTerm around ts (plain (a.Sign sign) i ∷ us) left → IsTerm around us rest right → Reads operand around ts rest (comparison left sign right)
+      → IsTerm around ts (plain (a.Sign sign) i ∷ us) left → IsTerm around us rest right
+      → Reads operand around ts rest (comparison left sign right)
   pairs : (around : Around) (p : Pair) (x y : List ℕ) (i j k l m n : ℕ) (rest : List Judged)
-      → Reads operand around (plain (a.Pair p) i ∷ plain a.Open j ∷ judged (name_check around x) (a.Name x) k ∷ plain a.Comma l ∷ judged (name_check around y) (a.Name y) m ∷ plain a.Close n ∷ rest)
+      → Reads operand around
+      (plain (a.Pair p) i ∷ plain a.Open j ∷ judged (name_check around x) (a.Name x) k ∷ plain a.Comma l
+      ∷ judged (name_check around y) (a.Name y) m ∷ plain a.Close n ∷ rest)
       rest (paired p (name_number around x) (name_number around y))
 
 -- all of these tokens are a formula
@@ -229,8 +251,8 @@ start_of end (t ∷ ts) = t.at
 abbrev pub IsFormula : List Token → Formula → Type 0
 IsFormula tokens f = (ts : List Judged) × (tokens_of ts ≡ tokens) × AreFine ts × AreFormula ts f
 
--- The tokens are no formula, whatever stands unbound or too deep. Those of their longest front with which some formula begins
--- may stand there; behind it, at the place, stands another token, or the text ends.
+-- The tokens are no formula, whatever stands unbound or too deep. Those of their longest front with which some
+-- formula begins may stand there; behind it, at the place, stands another token, or the text ends.
 pub record IsBad (tokens : List Token) (end at : ℕ) : Type 0 where
   pub none : (ts : List Judged) (f : Formula) → tokens_of ts ≡ tokens → AreFormula ts f → ⊥
   pub front : List Judged
@@ -238,11 +260,12 @@ pub record IsBad (tokens : List Token) (end at : ℕ) : Type 0 where
   pub whole : tokens ≡ tokens_of front ++ rest
   pub place : at ≡ start_of end rest
   pub begins : BeginFormula front
-  pub longest : (ts : List Judged) (others : List Token) → tokens ≡ tokens_of ts ++ others → BeginFormula ts → length ts ≤ length front
+  pub longest : (ts : List Judged) (others : List Token) → tokens ≡ tokens_of ts ++ others → BeginFormula ts
+      → length ts ≤ length front
   pub are_fine : AreFine front
 
--- Some formula begins with the tokens up to the one at the place, which may not stand there for this reason, while those
--- before it may.
+-- Some formula begins with the tokens up to the one at the place, which may
+-- not stand there for this reason, while those before it may.
 pub record IsFirst (check : Check) (tokens : List Token) (at : ℕ) : Type 0 where
   pub front : List Judged
   pub lexeme : Lexeme

@@ -10,7 +10,8 @@ use Rattle.vis_read.specs.Tokens.{AreTokens}
 
 -- tokens are at most one formula
 abbrev pub OneFormula : Type 0
-OneFormula = (ts us : List Judged) (f g : Formula) → tokens_of ts ≡ tokens_of us → AreFormula ts f → AreFormula us g → f ≡ g
+OneFormula = (ts us : List Judged) (f g : Formula) → tokens_of ts ≡ tokens_of us → AreFormula ts f → AreFormula us g
+    → f ≡ g
 
 -- tokens are a formula, or bad, or one of them is the first that may not stand where it stands
 abbrev pub EveryOutcome : Type 0
@@ -22,8 +23,10 @@ NamesAreBound = (ts : List Judged) (f : Formula) → AreFormula ts f → AreFine
 
 -- of a page, a text has at most one list of tokens
 abbrev pub OneTokens : Type 0
-OneTokens = (nodes : List Node) (text : List ℕ) (ts us : List Token) → AreTokens nodes 0 text ts → AreTokens nodes 0 text us → ts ≡ us
+OneTokens = (nodes : List Node) (text : List ℕ) (ts us : List Token) → AreTokens nodes 0 text ts
+    → AreTokens nodes 0 text us → ts ≡ us
 
 -- of a page, a text is at most one formula, or refused in one way
 abbrev pub OneAnswer : Type 0
-OneAnswer = (nodes : List Node) (text : List ℕ) (a b : Result Formula FormulaFault) → IsAnswerOf nodes text a → IsAnswerOf nodes text b → a ≡ b
+OneAnswer = (nodes : List Node) (text : List ℕ) (a b : Result Formula FormulaFault) → IsAnswerOf nodes text a
+    → IsAnswerOf nodes text b → a ≡ b

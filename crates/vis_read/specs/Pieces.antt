@@ -29,7 +29,8 @@ is_mark c = c == 40 || (c == 41 || (c == 44 || (c == 58 || (c == 46 || (c == 43 
 -- the digits of a number
 pub data IsNumber : ℕ → List ℕ → Type 0 where
   zero : IsNumber 0 (48 ∷ [])
-  digits : (c : ℕ) (cs : List ℕ) → is_ascii_digit c ≡ true → 49 ≤ c → list_all is_ascii_digit cs ≡ true → digits_value 10 (c ∷ cs) ≤ 2147483647
+  digits : (c : ℕ) (cs : List ℕ) → is_ascii_digit c ≡ true → 49 ≤ c → list_all is_ascii_digit cs ≡ true
+      → digits_value 10 (c ∷ cs) ≤ 2147483647
       → IsNumber (digits_value 10 (c ∷ cs)) (c ∷ cs)
 
 abbrev pub sign_text : Comparison → List ℕ
@@ -45,7 +46,8 @@ pub data IsPiece : Piece → List ℕ → Type 0 where
   word : (c : ℕ) (cs : List ℕ) → is_ascii_lowercase c ≡ true → list_all is_word_byte cs ≡ true → IsPiece Word (c ∷ cs)
   number : (n : ℕ) (digits : List ℕ) → IsNumber n digits → IsPiece (Number n) digits
   pixels : (n : ℕ) (digits : List ℕ) → IsNumber n digits → IsPiece (Pixels n) (digits ++ codes "px")
-  quoted : (inside : List ℕ) → list_all (λ c. not (is_quote c)) inside ≡ true → IsPiece Quoted (34 ∷ (inside ++ 34 ∷ []))
+  quoted : (inside : List ℕ) → list_all (λ c. not (is_quote c)) inside ≡ true
+      → IsPiece Quoted (34 ∷ (inside ++ 34 ∷ []))
   sign : (s : Comparison) → IsPiece (Sign s) (sign_text s)
   mark : (c : ℕ) → is_mark c ≡ true → IsPiece (Mark c) (c ∷ [])
 

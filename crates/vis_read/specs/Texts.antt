@@ -15,9 +15,12 @@ IsFormulaText nodes text f = (tokens : List Token) × AreTokens nodes 0 text tok
 -- why a text is refused; want of memory says nothing
 abbrev pub IsFault : List Node → List ℕ → FormulaFault → Type 0
 IsFault nodes text of_fault.Mem = Unit {0}
-IsFault nodes text (of_fault.Bad at) = (tokens : List Token) × AreTokens nodes 0 text tokens × IsBad tokens (length text) at
-IsFault nodes text (of_fault.Unbound at) = (tokens : List Token) × AreTokens nodes 0 text tokens × IsFirst unbound tokens at
-IsFault nodes text (of_fault.TooDeep at) = (tokens : List Token) × AreTokens nodes 0 text tokens × IsFirst too_deep tokens at
+IsFault nodes text (of_fault.Bad at) = (tokens : List Token) × AreTokens nodes 0 text tokens
+    × IsBad tokens (length text) at
+IsFault nodes text (of_fault.Unbound at) = (tokens : List Token) × AreTokens nodes 0 text tokens
+    × IsFirst unbound tokens at
+IsFault nodes text (of_fault.TooDeep at) = (tokens : List Token) × AreTokens nodes 0 text tokens
+    × IsFirst too_deep tokens at
 
 -- what a text is, apart from want of memory: a formula, or refused
 abbrev pub IsAnswerOf : List Node → List ℕ → Result Formula FormulaFault → Type 0

@@ -28,13 +28,16 @@ MatchesOne nodes (parts ∷ group) n = Match parts nodes n ⊎ MatchesOne nodes 
 -- those of the nodes before a number that a group of selectors matches, in ascending order
 pub data AreMatched (nodes : List Node) (group : Group) : ℕ → List ℕ → Type 0 where
   nothing : AreMatched nodes group 0 []
-  matched : (n : ℕ) (found : List ℕ) → AreMatched nodes group n found → MatchesOne nodes group n → AreMatched nodes group (n + 1) (found ++ n ∷ [])
-  passed : (n : ℕ) (found : List ℕ) → AreMatched nodes group n found → (MatchesOne nodes group n → ⊥) → AreMatched nodes group (n + 1) found
+  matched : (n : ℕ) (found : List ℕ) → AreMatched nodes group n found → MatchesOne nodes group n
+      → AreMatched nodes group (n + 1) (found ++ n ∷ [])
+  passed : (n : ℕ) (found : List ℕ) → AreMatched nodes group n found → (MatchesOne nodes group n → ⊥)
+      → AreMatched nodes group (n + 1) found
 
--- What a string says: the nodes that the selectors in it match. It is no set where it is no group of selectors, or one with a
--- selector that is refused.
+-- What a string says: the nodes that the selectors in it match. It is no set where
+-- it is no group of selectors, or one with a selector that is refused.
 pub data IsSet (nodes : List Node) (text : List ℕ) : Lexeme → Type 0 where
-  set : (group : Group) (found : List ℕ) → IsGroupOf text group → AreMatched nodes group (length nodes) found → IsSet nodes text (a.Members (Nodes found))
+  set : (group : Group) (found : List ℕ) → IsGroupOf text group → AreMatched nodes group (length nodes) found
+      → IsSet nodes text (a.Members (Nodes found))
   bad : (at : ℕ) → IsBadAt text at → IsSet nodes text a.Unknown
   unsupported : (at : ℕ) → IsUnsupportedAt text at → IsSet nodes text a.Unknown
 
@@ -68,8 +71,10 @@ is_white c = c == 32 || (c == 9 || c == 10)
 -- the tokens of what stands at a place of a text: what begins with no piece is the last one
 pub data AreTokens (nodes : List Node) : ℕ → List ℕ → List Token → Type 0 where
   no_more : (at : ℕ) → AreTokens nodes at [] []
-  white : (at c : ℕ) (rest : List ℕ) (ts : List Token) → is_white c ≡ true → AreTokens nodes (at + 1) rest ts → AreTokens nodes at (c ∷ rest) ts
+  white : (at c : ℕ) (rest : List ℕ) (ts : List Token) → is_white c ≡ true → AreTokens nodes (at + 1) rest ts
+      → AreTokens nodes at (c ∷ rest) ts
   next : (at : ℕ) (text piece rest : List ℕ) (kind : Piece) (lexeme : Lexeme) (ts : List Token)
       → IsLongest text kind piece rest → Means nodes kind piece lexeme → AreTokens nodes (at + length piece) rest ts
       → AreTokens nodes at text (record { lexeme = lexeme; at = at } ∷ ts)
-  unknown : (at c : ℕ) (rest : List ℕ) → is_white c ≡ false → BeginsWithNone (c ∷ rest) → AreTokens nodes at (c ∷ rest) (record { lexeme = a.Unknown; at = at } ∷ [])
+  unknown : (at c : ℕ) (rest : List ℕ) → is_white c ≡ false → BeginsWithNone (c ∷ rest)
+      → AreTokens nodes at (c ∷ rest) (record { lexeme = a.Unknown; at = at } ∷ [])

@@ -52,7 +52,15 @@ at s place = record s { place = place }
 
 -- all but the place
 abbrev pub held : Reading → Held
-held s = record { frames = s.frames; names = s.names; level = s.level; nested = s.nested; nots = s.nots; disjunct = s.disjunct; conjunct = s.conjunct }
+held s = record {
+  frames = s.frames;
+  names = s.names;
+  level = s.level;
+  nested = s.nested;
+  nots = s.nots;
+  disjunct = s.disjunct;
+  conjunct = s.conjunct;
+}
 
 -- before an operand that follows nothing
 abbrev pub fresh : Reading → Reading
@@ -99,7 +107,8 @@ outside_of o frames names = record {
   place = of_place.Start;
 }
 
--- what a token does: behind it reading stands so, and it may stand there or not; nothing where no formula can have it there
+-- what a token does: behind it reading stands so, and it may stand there or
+-- not; nothing where no formula can have it there
 abbrev pub Step : Type 0
 Step = Option (Reading × Check)
 
@@ -121,7 +130,13 @@ around s = record { names = s.names; nested = s.nested }
 
 abbrev pub inner : Reading → Reading
 inner s = record {
-  frames = Parens (record { level = s.level; nested = s.nested; nots = s.nots; disjunct = s.disjunct; conjunct = s.conjunct }) ∷ s.frames;
+  frames = Parens (record {
+    level = s.level;
+    nested = s.nested;
+    nots = s.nots;
+    disjunct = s.disjunct;
+    conjunct = s.conjunct;
+  }) ∷ s.frames;
   names = s.names;
   level = s.nested + 1;
   nested = 0;
@@ -141,7 +156,8 @@ with_sign sum minus = record { compared = sum.compared; parts = sum.parts; minus
 
 -- with one more part
 abbrev pub with_part : Sum → ℕ → Edge → Sum
-with_part sum n edge = record { compared = sum.compared; parts = sum.parts ++ multiple sum.minus n edge ∷ []; minus = false }
+with_part sum n edge =
+    record { compared = sum.compared; parts = sum.parts ++ multiple sum.minus n edge ∷ []; minus = false }
 
 abbrev pub at_named : Reading → Sum → ℕ → Option ℕ → Step
 at_named s sum n place = Some (at s (of_place.Edge sum n (of_spot.Name (number_or_zero place))), bound_check place)
@@ -264,7 +280,8 @@ step_start s (a.Quantifier q) = quantifier (fresh s) q
 step_start s lexeme = step_operand (fresh s) lexeme
 
 abbrev pub bind : Reading → Quantifier → List ℕ → Set → Reading
-bind s q name set = record s { frames = Quantified q set ∷ s.frames; names = name ∷ s.names; level = s.nested; place = of_place.Start }
+bind s q name set =
+    record s { frames = Quantified q set ∷ s.frames; names = name ∷ s.names; level = s.nested; place = of_place.Start }
 
 abbrev pub at_first : Reading → Pair → Option ℕ → Step
 at_first s p place = Some (at s (of_place.Comma p (number_or_zero place)), bound_check place)
@@ -357,7 +374,16 @@ abbrev pub ended : Reading → Option Formula
 ended s = ended_at s.place (at s of_place.Start)
 
 abbrev pub initial : Reading
-initial = record { frames = []; names = []; level = 0; nested = 0; nots = 0; disjunct = None; conjunct = None; place = of_place.Start }
+initial = record {
+  frames = [];
+  names = [];
+  level = 0;
+  nested = 0;
+  nots = 0;
+  disjunct = None;
+  conjunct = None;
+  place = of_place.Start;
+}
 
 -- ---- which answer of the code stands for which step. Want of memory is free.
 

@@ -13,6 +13,7 @@ IsCut text found = (found.1 ≤ length text) × IsLongest text found.0 (take fou
 
 -- what it is, and how many bytes it has; none where no piece begins there
 pub data IsNext (nodes : List Node) (text : List ℕ) : Lexeme → ℕ → Type 0 where
-  piece : (kind : Piece) (lexeme : Lexeme) (len : ℕ) → 1 ≤ len → len ≤ length text → IsLongest text kind (take len text) (drop len text) → Means nodes kind (take len text) lexeme
+  piece : (kind : Piece) (lexeme : Lexeme) (len : ℕ) → 1 ≤ len → len ≤ length text
+      → IsLongest text kind (take len text) (drop len text) → Means nodes kind (take len text) lexeme
       → IsNext nodes text lexeme len
   nothing : BeginsWithNone text → IsNext nodes text Unknown 0

@@ -1,5 +1,6 @@
 -- What reading all tokens says of a text, and which answer of the code stands for it. Want of memory is free.
 use Rattle.std.specs.Prelude.{◌≡◌, ℕ, List, [], ◌∷◌, Option, Some, None, Result, Ok, Err}
+use Rattle.viz_base.specs.Answers.{FailsWith, Gives}
 use Rattle.viz_base.specs.declared.formulas.Formula.{Formula}
 use Rattle.vis_read.specs.declared.faults.FormulaFault.{FormulaFault}
 use Rattle.vis_read.specs.declared.faults.FormulaFault.TheVariants as of_fault
@@ -41,13 +42,16 @@ then_end end (Err fault) = Err fault
 abbrev pub verdict : ℕ → List Token → Result Formula FormulaFault
 verdict end ts = then_end end (run initial ts)
 
+-- the refusal that a fault names: itself
+abbrev pub refusal_of : FormulaFault → Option FormulaFault
+refusal_of of_fault.Mem = None
+refusal_of fault = Some fault
+
 abbrev pub Fails : {A : Type 0} → FormulaFault → Result A FormulaFault → Type 0
-Fails of_fault.Mem answer = Unit {0}
-Fails fault answer = answer ≡ Err fault
+Fails fault answer = FailsWith (refusal_of fault) (λ given. answer ≡ given)
 
 abbrev pub Judges : {A : Type 0} → Result A FormulaFault → Result A FormulaFault → Type 0
-Judges (Ok x) answer = answer ≡ Ok x
-Judges (Err fault) answer = Fails fault answer
+Judges result answer = Gives (λ x. x) refusal_of result answer
 
 abbrev pub EndsBadly : Stop → Option Formula → Type 0
 EndsBadly of_stop.Mem answer = Unit {0}
