@@ -26,4 +26,5 @@ UnitIsUnitRow = (row : Form) → IsTrue (is_unit row) ↔ IsUnit row
 
 -- a certificate of unit splits and grids that has a text is plainly computed
 abbrev pub UnitsArePlain : Type 0
-UnitsArePlain = (job : Job) (cert : Cert) (text : List ℕ) → CertText cert text → AreUnitsAndGrids cert → IsPlainlyComputed job cert
+UnitsArePlain = (job : Job) (cert : Cert) (text : List ℕ) → CertText cert text → AreUnitsAndGrids cert
+    → IsPlainlyComputed job cert

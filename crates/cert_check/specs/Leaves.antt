@@ -27,7 +27,8 @@ pub record StandsOver (range : Rect) (path : Path) (s : Sym) : Type 0 where
   pub sound : AreSound path
   pub facts_are : s.path.now.facts ≡ facts range path
   pub floors_are : s.path.now.floors ≡ floors_of path
-  pub kept : (world : World) → (state_of s).kept.worlds world ≡ are_met (facts range path) (values_by (floors_of path) world)
+  pub kept : (world : World)
+      → (state_of s).kept.worlds world ≡ are_met (facts range path) (values_by (floors_of path) world)
 
 -- ---- causes
 
@@ -39,7 +40,8 @@ pub record IsWrongAnswer (range : Rect) (path : Path) (answers : List Answer) (n
   pub wrong : IsFaultBelow range path answer line
 
 -- the answer of this number is to this row and not to ours, and those before it are right
-pub record IsToAnother (range : Rect) (path : Path) (answers : List Answer) (number : ℕ) (ours theirs : Form) : Type 0 where
+pub record IsToAnother (range : Rect) (path : Path) (answers : List Answer) (number : ℕ) (ours theirs : Form)
+    : Type 0 where
   pub answer : Answer
   pub is_answer : slice_get answers number ≡ Some answer
   pub before : AreRefuted range path (take number answers)

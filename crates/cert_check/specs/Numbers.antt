@@ -28,8 +28,10 @@ computed row v = sum_on row.k row.terms v
 abbrev pub are_computed : Path → World → Bool
 are_computed [] world = true
 are_computed (def row d ∷ outer) world = are_computed outer world && is_some (computed row (values_along world outer))
-are_computed (first row ∷ outer) world = are_computed outer world && (is_unit row || is_some (computed row (values_along world outer)))
-are_computed (second row ∷ outer) world = are_computed outer world && (is_unit row || is_some (computed row (values_along world outer)))
+are_computed (first row ∷ outer) world = are_computed outer world
+    && (is_unit row || is_some (computed row (values_along world outer)))
+are_computed (second row ∷ outer) world = are_computed outer world
+    && (is_unit row || is_some (computed row (values_along world outer)))
 
 -- at each world of the path's rectangle they are
 abbrev pub IsComputed : Rect → Path → Type 0

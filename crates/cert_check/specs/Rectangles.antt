@@ -55,12 +55,14 @@ is_unit row = is_some (cut_of row)
 
 -- the numbers of a side that are at most the bound
 abbrev pub at_most : ℤ → Span → Option Span
-at_most (pos b) side = if nat_le side.least b then Some (record { least = side.least; most = min b side.most }) else None
+at_most (pos b) side = if nat_le side.least b then Some (record { least = side.least; most = min b side.most })
+    else None
 at_most (negsuc b) side = None
 
 -- those that are above it
 abbrev pub above : ℤ → Span → Option Span
-above (pos b) side = if nat_lt b side.most then Some (record { least = max (b + 1) side.least; most = side.most }) else None
+above (pos b) side = if nat_lt b side.most then Some (record { least = max (b + 1) side.least; most = side.most })
+    else None
 above (negsuc b) side = Some side
 
 abbrev pub cut_side : Opens → ℤ → Span → Option Span
@@ -75,7 +77,8 @@ toward Second UpTo = Above
 
 -- the worlds of a rectangle that lie under a child of a split by a unit row
 abbrev pub part_of : Cut → Child → Rect → Option Rect
-part_of cut child r = option_map (with_side cut.axis r) (cut_side (toward child cut.opens) cut.bound (side_of cut.axis r))
+part_of cut child r =
+    option_map (with_side cut.axis r) (cut_side (toward child cut.opens) cut.bound (side_of cut.axis r))
 
 -- a split by another row leaves the whole rectangle
 abbrev pub cut_at : Option Cut → Child → Rect → Option Rect

@@ -47,7 +47,8 @@ IsWithin128 job path (by_answers answers) = ⊥
 
 -- no node is a leaf, and all such numbers are in `i128`
 abbrev pub IsPlainlyComputed : Job → Cert → Type 0
-IsPlainlyComputed job cert = (n : ℕ) (node : Node) → slice_get (nodes_of cert) n ≡ Some node → IsWithin128 job node.path node.decision
+IsPlainlyComputed job cert = (n : ℕ) (node : Node) → slice_get (nodes_of cert) n ≡ Some node
+    → IsWithin128 job node.path node.decision
 
 -- ---- unit splits and grids
 

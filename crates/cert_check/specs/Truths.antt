@@ -41,7 +41,8 @@ pub record IsFirstUntrueIn (job : Job) (r : Rect) (world : World) : Type 0 where
 
 -- its truth is this one at each world of the range on a path
 abbrev pub IsThroughout : Job → Path → Bool → Type 0
-IsThroughout job path wanted = (world : World) → IsInRange job.range world → IsOn path world → is_true_at job world ≡ wanted
+IsThroughout job path wanted = (world : World) → IsInRange job.range world → IsOn path world
+    → is_true_at job world ≡ wanted
 
 -- it is true at each of them
 abbrev pub IsTrueOn : Job → Path → Type 0

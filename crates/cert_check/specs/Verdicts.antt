@@ -30,7 +30,8 @@ pub record IsFirstUntrue (job : Job) (path : Path) (world : World) : Type 0 wher
   pub in_range : IsInRange job.range world
   pub on_path : IsOn path world
   pub untrue : is_true_at job world ≡ false
-  pub first : (other : World) → IsBefore other world → IsInRange job.range other → IsOn path other → IsTrue (is_true_at job other)
+  pub first : (other : World) → IsBefore other world → IsInRange job.range other → IsOn path other
+      → IsTrue (is_true_at job other)
 
 -- a world of the path's rectangle at which a number on the path is outside `i128`
 pub record IsOutside (range : Rect) (path : Path) : Type 0 where
@@ -43,7 +44,8 @@ abbrev pub IsFault : Job → Path → Decision → Reject → Type 0
 IsFault job path (names row d) reject = ⊥
 IsFault job path (splits row) (Coeff n) = form_fits (denied row) ≡ false
 IsFault job path (splits row) _ = ⊥
-IsFault job path (is_empty why) (Line n number line) = (number ≡ 0) × (first_fault (facts job.range path) (variables path) why ≡ Some line)
+IsFault job path (is_empty why) (Line n number line) = (number ≡ 0)
+    × (first_fault (facts job.range path) (variables path) why ≡ Some line)
 IsFault job path (is_empty why) _ = ⊥
 IsFault job path by_worlds (Coeff n) = IsOutside job.range path
 IsFault job path by_worlds (Untrue n world) = IsComputed job.range path × IsFirstUntrue job path world
@@ -54,7 +56,8 @@ IsFault job path (by_answers answers) reject = IsLeafFault job path answers reje
 abbrev pub IsRejected : Job → Node → Reject → Type 0
 IsRejected job node (Shape n) = is_shaped job.range node.path node.decision ≡ false
 IsRejected job node OtherJob = ⊥
-IsRejected job node reject = (is_shaped job.range node.path node.decision ≡ true) × IsFault job node.path node.decision reject
+IsRejected job node reject = (is_shaped job.range node.path node.decision ≡ true)
+    × IsFault job node.path node.decision reject
 
 -- ---- verdicts
 

@@ -94,7 +94,8 @@ pub record IsPreorder : Type 0 where
       ≡ node_on path (splits row) ∷ (nodes_from one (first row ∷ path) ++ nodes_from other (second row ∷ path))
   pub void : (why : Derivation) (path : Path) → nodes_from (Void why) path ≡ node_on path (is_empty why) ∷ []
   pub grid : (path : Path) → nodes_from Grid path ≡ node_on path by_worlds ∷ []
-  pub leaf : (answers : List Answer) (path : Path) → nodes_from (Leaf answers) path ≡ node_on path (by_answers answers) ∷ []
+  pub leaf : (answers : List Answer) (path : Path)
+      → nodes_from (Leaf answers) path ≡ node_on path (by_answers answers) ∷ []
 
 -- ---- shapes
 

@@ -126,8 +126,10 @@ abbrev pub answer_has_text : Answer → Bool
 answer_has_text a = row_has_text a.row && derivation_has_text a.why 64
 
 abbrev pub node_step : CertNode-F (List ℕ) → List ℕ
-node_step (CertNode-F.Def row d below) = concat (codes "def " ∷ row_bytes row ∷ codes " by " ∷ int_bytes d ∷ codes "\n" ∷ below ∷ [])
-node_step (CertNode-F.Split row first second) = concat (codes "split " ∷ row_bytes row ∷ codes "\n" ∷ first ∷ second ∷ [])
+node_step (CertNode-F.Def row d below) =
+    concat (codes "def " ∷ row_bytes row ∷ codes " by " ∷ int_bytes d ∷ codes "\n" ∷ below ∷ [])
+node_step (CertNode-F.Split row first second) =
+    concat (codes "split " ∷ row_bytes row ∷ codes "\n" ∷ first ∷ second ∷ [])
 node_step (CertNode-F.Void why) = concat (codes "void\n" ∷ derivation_text why ∷ [])
 node_step CertNode-F.Grid = codes "grid\n"
 node_step (CertNode-F.Leaf answers) = concat (codes "leaf\n" ∷ flat_map answer_text answers ∷ codes "end\n" ∷ [])
@@ -137,8 +139,10 @@ node_text = fold-CertNode (List ℕ) node_step
 
 -- whether a node has a text, where so many defs and splits may stand one in another below it
 abbrev pub node_nested : CertNode-F Nested → Nested
-node_nested (CertNode-F.Def row d below) levels = nat_lt 0 levels && row_has_text row && is_above_zero d && below (levels - 1)
-node_nested (CertNode-F.Split row first second) levels = nat_lt 0 levels && row_has_text row && first (levels - 1) && second (levels - 1)
+node_nested (CertNode-F.Def row d below) levels = nat_lt 0 levels && row_has_text row && is_above_zero d
+    && below (levels - 1)
+node_nested (CertNode-F.Split row first second) levels = nat_lt 0 levels && row_has_text row && first (levels - 1)
+    && second (levels - 1)
 node_nested (CertNode-F.Void why) levels = derivation_has_text why 64
 node_nested CertNode-F.Grid levels = true
 node_nested (CertNode-F.Leaf answers) levels = list_all answer_has_text answers

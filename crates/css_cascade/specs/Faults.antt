@@ -23,7 +23,8 @@ refusal_of (Value node p source) = Some (value_at node p source)
 -- A refused selector stands in a sheet of an author, and a refused value of a node stands where its source says.
 abbrev pub IsPlaced : List Node → List (List ℕ) → Fault → Type 0
 IsPlaced nodes texts (selector_at sheet at) = suc sheet < length texts
-IsPlaced nodes texts (value_at n p source) = (n < length nodes) × ((value : List ℕ) × IsValueAt nodes texts source value)
+IsPlaced nodes texts (value_at n p source) = (n < length nodes)
+    × ((value : List ℕ) × IsValueAt nodes texts source value)
 
 -- What reads sheets gives, where want of memory is free: only a selector refuses them.
 abbrev pub Reads : {B : Type 0} → CascadeFault → (Result (List B) Refused → Type 0) → Type 0
@@ -43,8 +44,8 @@ IsUnread origin rule of_selector.Mem answer = ⊥
 IsUnread origin rule (of_selector.Bad at) answer = answer ≡ Ok []
 IsUnread origin rule (of_selector.Unsupported at) answer = answer ≡ unsupported_at origin (rule + at)
 
--- Reading the selector ended for want of memory, or the place of what is refused in it, at this place of its rule, is past
--- the numbers.
+-- Reading the selector ended for want of memory, or the place of what is
+-- refused in it, at this place of its rule, is past the numbers.
 abbrev pub IsSpent : ℕ → SelFault → Type 0
 IsSpent rule of_selector.Mem = Unit {0}
 IsSpent rule (of_selector.Bad at) = ⊥

@@ -48,7 +48,8 @@ IsFault (Unsupported place) text = IsUnsupportedAt text place
 -- what tokens are, a text that ends at a place having them: a group of selectors, one with refused selectors, or none
 abbrev pub IsReading : ℕ → List Token → Verdict → Type 0
 IsReading end ts (group_is group) = IsGroup ts group []
-IsReading end ts (unsupported_at place) = (group : List (List (Join × Compound))) × (others : List ℕ) × IsGroup ts group (place ∷ others)
+IsReading end ts (unsupported_at place) = (group : List (List (Join × Compound))) × (others : List ℕ)
+    × IsGroup ts group (place ∷ others)
 IsReading end ts (bad_at place) = IsNoGroup ts end place
 
 -- what a text is

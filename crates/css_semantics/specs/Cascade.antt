@@ -19,27 +19,31 @@ pub data Fault : Type 0 where
   value_at : ℕ → Prop → Source → Fault
 
 -- what a node comes to that has these before it, in which its parent is
-pub data ComesTo (nodes : List Node) (rulesets : List Ruleset) (standings : List Standing) (n : ℕ) (node : Node) : Result (List Setting × Standing) Claim → Type 0 where
+pub data ComesTo (nodes : List Node) (rulesets : List Ruleset) (standings : List Standing) (n : ℕ) (node : Node)
+    : Result (List Setting × Standing) Claim → Type 0 where
   comes_to : {all : List Applied}
       → AreApplied nodes rulesets n node.body all
       → ComesTo nodes rulesets standings n node
       (judged (is_replaced node.body) (standing_around standings node.parent) (winners_of all))
 
 -- The settings of one node after another, behind those of the nodes before; or the first refused value.
-pub data Goes (nodes : List Node) (rulesets : List Ruleset) : List Standing → List (List Setting) → List Node → Result (List (List Setting)) Fault → Type 0 where
+pub data Goes (nodes : List Node) (rulesets : List Ruleset) : List Standing → List (List Setting) → List Node
+    → Result (List (List Setting)) Fault → Type 0 where
   ends : {standings : List Standing} {winners : List (List Setting)}
       → Goes nodes rulesets standings winners [] (Ok winners)
   refuses : {standings : List Standing} {winners : List (List Setting)} {node : Node} {rest : List Node} {c : Claim}
       → ComesTo nodes rulesets standings (length winners) node (Err c)
       → Goes nodes rulesets standings winners (node ∷ rest) (Err (value_at (length winners) c.prop c.source))
-  goes_on : {standings : List Standing} {winners : List (List Setting)} {node : Node} {rest : List Node} {settings : List Setting}
+  goes_on : {standings : List Standing} {winners : List (List Setting)} {node : Node} {rest : List Node}
+      {settings : List Setting}
       → {standing : Standing} {answer : Result (List (List Setting)) Fault}
       → ComesTo nodes rulesets standings (length winners) node (Ok (settings, standing))
       → Goes nodes rulesets (standings ++ standing ∷ []) (winners ++ settings ∷ []) rest answer
       → Goes nodes rulesets standings winners (node ∷ rest) answer
 
 -- The cascade of a page: refused selectors come before refused values.
-pub data IsCascade (nodes : List Node) (texts : List (List ℕ)) (sheets : List Sheet) : Result (List (List Setting)) Fault → Type 0 where
+pub data IsCascade (nodes : List Node) (texts : List (List ℕ)) (sheets : List Sheet)
+    : Result (List (List Setting)) Fault → Type 0 where
   refused_selector : {sheet at : ℕ}
       → AreRulesets texts sheets (Err (sheet, at))
       → IsCascade nodes texts sheets (Err (selector_at sheet at))

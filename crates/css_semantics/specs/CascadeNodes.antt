@@ -41,7 +41,8 @@ is_limit outer of_value.Inherit = outer
 is_limit outer (of_value.Word n) = false
 is_limit outer _ = true
 
--- whether the value of a property is other than zero, where it is a minimum, or than `none`, where it is a maximum height
+-- whether the value of a property is other than zero, where it is a
+-- minimum, or than `none`, where it is a maximum height
 abbrev pub sets_min_width : Standing → Prop → Value → Bool
 sets_min_width outer p v = is_prop p of_prop.MinWidth && is_above_zero outer.min_width v
 
@@ -54,7 +55,8 @@ sets_max_height outer p v = is_prop p of_prop.MaxHeight && is_limit outer.max_he
 abbrev pub sets_limit : Standing → Prop → Value → Bool
 sets_limit outer p v = sets_min_width outer p v || (sets_min_height outer p v || sets_max_height outer p v)
 
--- A value that is refused: one that is refused by name, and on a replaced element such a minimum or maximum (our own reading).
+-- A value that is refused: one that is refused by name, and on a replaced
+-- element such a minimum or maximum (our own reading).
 abbrev pub refuses : Bool → Standing → Prop → Option Value → Bool
 refuses replaced outer p None = true
 refuses replaced outer p (Some v) = replaced && sets_limit outer p v
@@ -121,8 +123,8 @@ abbrev pub node_outcome : Standing → Bool → List Setting → Option Claim �
 node_outcome outer hidden settings (Some c) = Err c
 node_outcome outer hidden settings None = Ok (settings, standing_of outer hidden settings)
 
--- What a node comes to: what its winners set, and what those inside it take from it. Where it isn't hidden, the first winner
--- that is refused refuses the page. What is refused on a hidden node sets nothing.
+-- What a node comes to: what its winners set, and what those inside it take from it. Where it isn't hidden, the
+-- first winner that is refused refuses the page. What is refused on a hidden node sets nothing.
 abbrev pub judged : Bool → Standing → List Claim → Result (List Setting × Standing) Claim
 judged replaced outer winners =
     node_outcome outer (is_hidden outer winners) (settings_of replaced outer winners)

@@ -1,5 +1,5 @@
--- The cascading order (CSS 2.1, 6.4.1 and 6.4.3): of the settings of a property that apply to a node the greatest by weight,
--- then specificity, then place.
+-- The cascading order (CSS 2.1, 6.4.1 and 6.4.3): of the settings of a property that
+-- apply to a node the greatest by weight, then specificity, then place.
 use Rattle.std.specs.Prelude.{◌≡◌, ℕ, ◌==◌, Bool, true, false, List, [], ◌∷◌, ◌++◌, filter, Option, Some, None, if◌then◌else◌}
 use Rattle.std.specs.List.{AllByRecursion}
 use Rattle.std.specs.Ordering.{nat_cmp, on, then_cmp, is_gt, is_lt}
@@ -38,7 +38,8 @@ pub record IsGreatest {A : Type 0} (cmp : A → A → Ordering) (xs : List A) (x
 
 -- the style attribute first, then ids, then attributes, classes and pseudo-classes, then tags
 abbrev pub spec_cmp : Spec → Spec → Ordering
-spec_cmp = then_cmp (on (λ s. s.style) nat_cmp) (then_cmp (on (λ s. s.ids) nat_cmp) (then_cmp (on (λ s. s.attrs) nat_cmp) (on (λ s. s.types) nat_cmp)))
+spec_cmp = then_cmp (on (λ s. s.style) nat_cmp)
+    (then_cmp (on (λ s. s.ids) nat_cmp) (then_cmp (on (λ s. s.attrs) nat_cmp) (on (λ s. s.types) nat_cmp)))
 
 -- the specificity of what a style attribute says
 abbrev pub style_spec : Spec

@@ -1,5 +1,5 @@
--- What the declarations of style sheets and of style attributes say of each property, in order, and which of it applies to a
--- node (CSS 2.1, 4.1.7, 4.1.8, 6.4).
+-- What the declarations of style sheets and of style attributes say of each property, in
+-- order, and which of it applies to a node (CSS 2.1, 4.1.7, 4.1.8, 6.4).
 use Rattle.std.specs.Prelude.{◌≡◌, ℕ, ◌+◌, zero, suc, Bool, List, [], ◌∷◌, ◌++◌, map, Option, Some, None, Result, Ok, Err, slice_range, if◌then◌else◌, codes}
 use Rattle.std.specs.Str.{IsCharBoundary}
 use Rattle.viz_base.specs.declared.nodes.Attr.{Attr}
@@ -40,9 +40,11 @@ use Rattle.css_semantics.specs.CascadeOrder.{Applied, applied, greatest, spec_cm
 -- What items give, one after another, joined; or the first refusal.
 pub data Each {A B E : Type 0} (Gives : A → Result (List B) E → Type 0) : List A → Result (List B) E → Type 0 where
   nothing : Each Gives [] (Ok [])
-  joined : {x : A} {xs : List A} {ys zs : List B} → Gives x (Ok ys) → Each Gives xs (Ok zs) → Each Gives (x ∷ xs) (Ok (ys ++ zs))
+  joined : {x : A} {xs : List A} {ys zs : List B} → Gives x (Ok ys) → Each Gives xs (Ok zs)
+      → Each Gives (x ∷ xs) (Ok (ys ++ zs))
   refused : {x : A} {xs : List A} {e : E} → Gives x (Err e) → Each Gives (x ∷ xs) (Err e)
-  refused_behind : {x : A} {xs : List A} {ys : List B} {e : E} → Gives x (Ok ys) → Each Gives xs (Err e) → Each Gives (x ∷ xs) (Err e)
+  refused_behind : {x : A} {xs : List A} {ys : List B} {e : E} → Gives x (Ok ys) → Each Gives xs (Err e)
+      → Each Gives (x ∷ xs) (Err e)
 
 -- ---- slices
 
@@ -70,9 +72,11 @@ source_of (of_origin.Author sheet) at len = of_source.Author sheet at len
 source_of (of_origin.Style node) at len = of_source.Style node at len
 
 abbrev pub claim_of : Origin → Decl → Prop → Option Value → Claim
-claim_of origin d p v = record { prop = p; value = v; weight = weight_of origin d.important; source = source_of origin d.at d.len }
+claim_of origin d p v =
+    record { prop = p; value = v; weight = weight_of origin d.important; source = source_of origin d.at d.len }
 
--- What a declaration says of each property: nothing where it is dropped; of a value that is refused by name, that it is.
+-- What a declaration says of each property: nothing where it is dropped; of
+-- a value that is refused by name, that it is.
 abbrev pub claims_of : Origin → Decl → Result (List Setting) Refusal → List Claim
 claims_of origin d (Ok settings) = map (λ s. claim_of origin d s.prop (Some s.value)) settings
 claims_of origin d (Err refusal.Ignored) = []
@@ -83,7 +87,8 @@ abbrev pub Refused : Type 0
 Refused = ℕ × ℕ
 
 pub data IsClaimed (origin : Origin) (text : List ℕ) (d : Decl) : Result (List Claim) Refused → Type 0 where
-  says : {value : List ℕ} {answer : Result (List Setting) Refusal} → IsSlice text d.at d.len value → Says d.name value answer → IsClaimed origin text d (Ok (claims_of origin d answer))
+  says : {value : List ℕ} {answer : Result (List Setting) Refusal} → IsSlice text d.at d.len value
+      → Says d.name value answer → IsClaimed origin text d (Ok (claims_of origin d answer))
   nothing_there : IsNoSlice text d.at d.len → IsClaimed origin text d (Ok [])
 
 -- what declarations say, one after another
@@ -110,9 +115,13 @@ unsupported_at (of_origin.Style node) at = Ok []
 
 -- A ruleset, or none where its selector can't be read (CSS 2.1, 4.1.7), or the place of its first refused selector.
 pub data IsRuleset (origin : Origin) (text : List ℕ) (rule : Rule) : Result (List Ruleset) Refused → Type 0 where
-  read : {selector : List ℕ} {selectors : List Parts} {one : Ruleset} → IsSlice text rule.at rule.len selector → IsGroupOf selector selectors → IsRanked one.group selectors → AreClaimed origin text rule.decls one.claims → IsRuleset origin text rule (Ok (one ∷ []))
-  bad : {selector : List ℕ} {at : ℕ} → IsSlice text rule.at rule.len selector → IsBadAt selector at → IsRuleset origin text rule (Ok [])
-  not_supported : {selector : List ℕ} {at : ℕ} → IsSlice text rule.at rule.len selector → IsUnsupportedAt selector at → IsRuleset origin text rule (unsupported_at origin (rule.at + at))
+  read : {selector : List ℕ} {selectors : List Parts} {one : Ruleset} → IsSlice text rule.at rule.len selector
+      → IsGroupOf selector selectors → IsRanked one.group selectors → AreClaimed origin text rule.decls one.claims
+      → IsRuleset origin text rule (Ok (one ∷ []))
+  bad : {selector : List ℕ} {at : ℕ} → IsSlice text rule.at rule.len selector → IsBadAt selector at
+      → IsRuleset origin text rule (Ok [])
+  not_supported : {selector : List ℕ} {at : ℕ} → IsSlice text rule.at rule.len selector → IsUnsupportedAt selector at
+      → IsRuleset origin text rule (unsupported_at origin (rule.at + at))
   nothing_there : IsNoSlice text rule.at rule.len → IsRuleset origin text rule (Ok [])
 
 -- ---- sheets
@@ -151,25 +160,33 @@ style_of (a ∷ attrs) = if same_name a.name (codes "style") then Some a.value e
 -- what the style attribute of a node says
 pub data IsStyled (n : ℕ) (attrs : List Attr) : List Claim → Type 0 where
   unstyled : style_of attrs ≡ None → IsStyled n attrs []
-  styled : {text : List ℕ} {decls : List Decl} {claims : List Claim} → style_of attrs ≡ Some text → AreDeclarationsOf text decls → AreClaimed (of_origin.Style n) text decls claims → IsStyled n attrs claims
+  styled : {text : List ℕ} {decls : List Decl} {claims : List Claim} → style_of attrs ≡ Some text
+      → AreDeclarationsOf text decls → AreClaimed (of_origin.Style n) text decls claims → IsStyled n attrs claims
 
 -- ---- what applies to a node
 
 -- the specificities of the selectors of a group that match a node
 pub data Matching (nodes : List Node) (n : ℕ) : List Ranked → List Spec → Type 0 where
   none : Matching nodes n [] []
-  matches : {r : Ranked} {group : List Ranked} {specs : List Spec} → Match r.selector.parts nodes n → Matching nodes n group specs → Matching nodes n (r ∷ group) (r.spec ∷ specs)
-  passes_by : {r : Ranked} {group : List Ranked} {specs : List Spec} → (Match r.selector.parts nodes n → ⊥) → Matching nodes n group specs → Matching nodes n (r ∷ group) specs
+  matches : {r : Ranked} {group : List Ranked} {specs : List Spec} → Match r.selector.parts nodes n
+      → Matching nodes n group specs → Matching nodes n (r ∷ group) (r.spec ∷ specs)
+  passes_by : {r : Ranked} {group : List Ranked} {specs : List Spec} → (Match r.selector.parts nodes n → ⊥)
+      → Matching nodes n group specs → Matching nodes n (r ∷ group) specs
 
 abbrev pub all_applied : Option Spec → List Claim → List Applied
 all_applied None claims = []
 all_applied (Some s) claims = map (applied s) claims
 
--- What a ruleset says applies with the specificity of the most specific of its selectors that match (CSS 2.1, 5.2.1 and 6.4.3).
+-- What a ruleset says applies with the specificity of the most specific of
+-- its selectors that match (CSS 2.1, 5.2.1 and 6.4.3).
 pub data AppliesTo (nodes : List Node) (n : ℕ) (one : Ruleset) : Result (List Applied) Refused → Type 0 where
-  applies : {specs : List Spec} → Matching nodes n one.group specs → AppliesTo nodes n one (Ok (all_applied (greatest spec_cmp specs) one.claims))
+  applies : {specs : List Spec} → Matching nodes n one.group specs
+      → AppliesTo nodes n one (Ok (all_applied (greatest spec_cmp specs) one.claims))
 
--- All settings that apply to a node, in order: those of the rulesets and those of its style attribute. To a text none does.
+-- All settings that apply to a node, in order: those of the rulesets and
+-- those of its style attribute. To a text none does.
 pub data AreApplied (nodes : List Node) (rulesets : List Ruleset) (n : ℕ) : Body → List Applied → Type 0 where
-  to_element : {e : Element} {all : List Applied} {style : List Claim} → Each (AppliesTo nodes n) rulesets (Ok all) → IsStyled n e.attrs style → AreApplied nodes rulesets n (of_body.Element e) (all ++ map (applied style_spec) style)
+  to_element : {e : Element} {all : List Applied} {style : List Claim} → Each (AppliesTo nodes n) rulesets (Ok all)
+      → IsStyled n e.attrs style
+      → AreApplied nodes rulesets n (of_body.Element e) (all ++ map (applied style_spec) style)
   to_text : {text : List ℕ} → AreApplied nodes rulesets n (of_body.Chars text) []

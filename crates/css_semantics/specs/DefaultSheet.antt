@@ -1,5 +1,5 @@
--- The default style sheet (CSS 2.1, 6.4 and appendix D; our own choice): what an element looks like of which an author says
--- nothing. Each line is ended by a line feed.
+-- The default style sheet (CSS 2.1, 6.4 and appendix D; our own choice): what an element looks
+-- like of which an author says nothing. Each line is ended by a line feed.
 use Rattle.std.specs.Prelude.{ℕ, List, [], ◌∷◌, ◌++◌, codes}
 use Rattle.std.specs.List.{flat_map}
 

@@ -28,7 +28,10 @@ pub data IsHidden (nodes : List Node) (winners : List (List Setting)) (n : ℕ) 
 -- the nodes so far have come to these standings and settings
 pub data HaveCome (nodes : List Node) (rulesets : List Ruleset) : List Standing → List (List Setting) → Type 0 where
   nothing_yet : HaveCome nodes rulesets [] []
-  one_more : {standings : List Standing} {winners : List (List Setting)} {node : Node} {settings : List Setting} {standing : Standing} → HaveCome nodes rulesets standings winners → slice_get nodes (length winners) ≡ Some node → ComesTo nodes rulesets standings (length winners) node (Ok (settings, standing)) → HaveCome nodes rulesets (standings ++ standing ∷ []) (winners ++ settings ∷ [])
+  one_more : {standings : List Standing} {winners : List (List Setting)} {node : Node} {settings : List Setting}
+      {standing : Standing} → HaveCome nodes rulesets standings winners → slice_get nodes (length winners) ≡ Some node
+      → ComesTo nodes rulesets standings (length winners) node (Ok (settings, standing))
+      → HaveCome nodes rulesets (standings ++ standing ∷ []) (winners ++ settings ∷ [])
 
 -- Of the nodes to which it has come so far, a standing says that its node is hidden exactly where it is.
 abbrev pub StandingsAgree : List Node → List Ruleset → Type 0

@@ -17,7 +17,8 @@ use Rattle.css_semantics.specs.TokensLetters.{is_space}
 
 -- the node at this place is this element
 abbrev pub IsElementAt : List Node → ℕ → Element → Type 0
-IsElementAt nodes n e = (parent : Option ℕ) × (slice_get nodes n ≡ Some (record { parent = parent; body = of_body.Element e }))
+IsElementAt nodes n e = (parent : Option ℕ)
+    × (slice_get nodes n ≡ Some (record { parent = parent; body = of_body.Element e }))
 
 -- a node's parent
 abbrev pub IsParent : List Node → ℕ → ℕ → Type 0
@@ -32,7 +33,8 @@ pub data IsAncestor (nodes : List Node) : ℕ → ℕ → Type 0 where
 abbrev pub IsChildElement : List Node → ℕ → ℕ → Type 0
 IsChildElement nodes p n = IsParent nodes p n × ((e : Element) × IsElementAt nodes n e)
 
--- The element directly before a node among the elements with the same parent; texts between them don't count (CSS 2.1, 5.7).
+-- The element directly before a node among the elements with the same
+-- parent; texts between them don't count (CSS 2.1, 5.7).
 pub record IsPrevious (nodes : List Node) (s n : ℕ) : Type 0 where
   pub parent : ℕ
   pub of_node : IsParent nodes parent n
@@ -65,8 +67,8 @@ EndsWhite text = (text ≡ []) ⊎ ((front : List ℕ) × (c : ℕ) × (text ≡
 abbrev pub BeginsWhite : List ℕ → Type 0
 BeginsWhite text = (text ≡ []) ⊎ ((c : ℕ) × (rest : List ℕ) × (text ≡ c ∷ rest) × (is_space c ≡ true))
 
--- A word of a text between white space or the text's ends (CSS 2.1, 5.8.1 and 5.8.3). It isn't nothing, and has no white
--- space in it.
+-- A word of a text between white space or the text's ends (CSS 2.1, 5.8.1
+-- and 5.8.3). It isn't nothing, and has no white space in it.
 pub record IsWordOf (text word : List ℕ) : Type 0 where
   pub before : List ℕ
   pub after : List ℕ
@@ -106,14 +108,17 @@ pub record MatchesCompound (nodes : List Node) (c : Compound) (n : ℕ) : Type 0
   pub tag : HasTag element c.tag
   pub tests : AllByRecursion (Passes nodes n element) c.tests
 
--- Simple selectors, the last of the selector first, match a node: the first of them does, and the others match, as its join
--- says, the parent, some element around the node, or the element directly before it (CSS 2.1, 5.5 to 5.7).
+-- Simple selectors, the last of the selector first, match a node: the first of them does, and the others match, as
+-- its join says, the parent, some element around the node, or the element directly before it (CSS 2.1, 5.5 to 5.7).
 abbrev pub MatchesParts : List Node → List (Join × Compound) → ℕ → Type 0
 MatchesParts nodes [] n = Unit {0}
 MatchesParts nodes ((First, c) ∷ ps) n = MatchesCompound nodes c n
-MatchesParts nodes ((Child, c) ∷ ps) n = MatchesCompound nodes c n × ((p : ℕ) × IsParent nodes p n × MatchesParts nodes ps p)
-MatchesParts nodes ((Descendant, c) ∷ ps) n = MatchesCompound nodes c n × ((top : ℕ) × IsAncestor nodes top n × MatchesParts nodes ps top)
-MatchesParts nodes ((Next, c) ∷ ps) n = MatchesCompound nodes c n × ((s : ℕ) × IsPrevious nodes s n × MatchesParts nodes ps s)
+MatchesParts nodes ((Child, c) ∷ ps) n = MatchesCompound nodes c n
+    × ((p : ℕ) × IsParent nodes p n × MatchesParts nodes ps p)
+MatchesParts nodes ((Descendant, c) ∷ ps) n = MatchesCompound nodes c n
+    × ((top : ℕ) × IsAncestor nodes top n × MatchesParts nodes ps top)
+MatchesParts nodes ((Next, c) ∷ ps) n = MatchesCompound nodes c n
+    × ((s : ℕ) × IsPrevious nodes s n × MatchesParts nodes ps s)
 
 -- a selector matches a node
 abbrev pub Match : List (Join × Compound) → List Node → ℕ → Type 0

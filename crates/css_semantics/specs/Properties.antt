@@ -1,4 +1,5 @@
--- The table of the properties that have an effect on layout: what each takes, its initial value, and whether it inherits.
+-- The table of the properties that have an effect on layout: what each
+-- takes, its initial value, and whether it inherits.
 use Rattle.std.specs.Prelude.{ℕ, pos, ◌==◌, Bool, true, false, List, [], ◌∷◌, Option, if◌then◌else◌, codes}
 use Rattle.std.specs.List.{find}
 use Prim.Native.String.{String}
@@ -42,11 +43,33 @@ pub record Row : Type 0 where
 
 -- a property with keywords alone
 abbrev pub keywords : String → List (List ℕ) → List (List ℕ) → ℕ → Bool → Row
-keywords name words refused initial inherits = record { name = codes name; words = words; refused = refused; lengths = Nothing; percentages = Nothing; numbers = Nothing; families = false; initial = Word initial; inherits = inherits }
+keywords name words refused initial inherits =
+    record {
+      name = codes name;
+      words = words;
+      refused = refused;
+      lengths = Nothing;
+      percentages = Nothing;
+      numbers = Nothing;
+      families = false;
+      initial = Word initial;
+      inherits = inherits;
+    }
 
 -- one with amounts, which doesn't inherit
 abbrev pub measured : String → List (List ℕ) → Takes → Takes → Value → Row
-measured name words lengths percentages initial = record { name = codes name; words = words; refused = []; lengths = lengths; percentages = percentages; numbers = Nothing; families = false; initial = initial; inherits = false }
+measured name words lengths percentages initial =
+    record {
+      name = codes name;
+      words = words;
+      refused = [];
+      lengths = lengths;
+      percentages = percentages;
+      numbers = Nothing;
+      families = false;
+      initial = initial;
+      inherits = false;
+    }
 
 abbrev pub line_styles : List (List ℕ)
 line_styles = each_word (codes "none hidden dotted dashed solid double groove ridge inset outset")
@@ -63,8 +86,8 @@ table_words = each_word (codes "table inline-table table-row table-row-group tab
 abbrev pub zero : Value
 zero = Px (pos 0)
 
--- The rows of the properties of CSS 2.1, 8.3 to 8.5, 9.2.4, 9.3.1, 9.5, 9.10, 10.2 to 10.8, 11.1.1, 12.5, 15.3, 15.7 and
--- 16.1 to 16.6. What is refused by name is this project's own choice.
+-- The rows of the properties of CSS 2.1, 8.3 to 8.5, 9.2.4, 9.3.1, 9.5, 9.10, 10.2 to 10.8, 11.1.1,
+-- 12.5, 15.3, 15.7 and 16.1 to 16.6. What is refused by name is this project's own choice.
 abbrev pub row : Prop → Row
 row Display = keywords "display" (each_word (codes "none block inline inline-block list-item")) table_words 2 false
 row Position = keywords "position" (each_word (codes "static")) (each_word (codes "relative absolute fixed")) 0 false
@@ -97,14 +120,21 @@ row BorderLeftStyle = keywords "border-left-style" line_styles [] 0 false
 row FontSize = record (measured "font-size" size_words NotNegative NotNegative (Word 3)) { inherits = true }
 -- the initial value names no family: the first font of the job follows
 row FontFamily = record (measured "font-family" [] Nothing Nothing (Names [])) { families = true; inherits = true }
-row LineHeight = record (measured "line-height" (each_word (codes "normal")) NotNegative NotNegative (Word 0)) { numbers = NotNegative; inherits = true }
-row VerticalAlign = record (measured "vertical-align" (each_word (codes "baseline sub super middle")) All All (Word 0)) { refused = each_word (codes "top bottom text-top text-bottom") }
+row LineHeight = record (measured "line-height" (each_word (codes "normal")) NotNegative NotNegative (Word 0))
+    { numbers = NotNegative; inherits = true }
+row VerticalAlign =
+    record (measured "vertical-align" (each_word (codes "baseline sub super middle")) All All (Word 0))
+    { refused = each_word (codes "top bottom text-top text-bottom") }
 row TextAlign = keywords "text-align" (each_word (codes "left right center justify")) [] 0 true
-row WhiteSpace = keywords "white-space" (each_word (codes "normal nowrap")) (each_word (codes "pre pre-wrap pre-line")) 0 true
+row WhiteSpace = keywords "white-space" (each_word (codes "normal nowrap"))
+    (each_word (codes "pre pre-wrap pre-line")) 0 true
 row TextIndent = record (measured "text-indent" [] ZeroAlone ZeroAlone zero) { inherits = true }
-row LetterSpacing = record (measured "letter-spacing" (each_word (codes "normal")) ZeroAlone Nothing (Word 0)) { inherits = true }
-row WordSpacing = record (measured "word-spacing" (each_word (codes "normal")) ZeroAlone Nothing (Word 0)) { inherits = true }
-row TextTransform = keywords "text-transform" (each_word (codes "none")) (each_word (codes "capitalize uppercase lowercase")) 0 true
+row LetterSpacing =
+    record (measured "letter-spacing" (each_word (codes "normal")) ZeroAlone Nothing (Word 0)) { inherits = true }
+row WordSpacing =
+    record (measured "word-spacing" (each_word (codes "normal")) ZeroAlone Nothing (Word 0)) { inherits = true }
+row TextTransform =
+    keywords "text-transform" (each_word (codes "none")) (each_word (codes "capitalize uppercase lowercase")) 0 true
 row ListStylePosition = keywords "list-style-position" (each_word (codes "outside")) (each_word (codes "inside")) 0 true
 
 -- the properties in the order of the table

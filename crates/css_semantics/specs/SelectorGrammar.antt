@@ -34,15 +34,20 @@ IsGap = AllByRecursion (λ t. terminal t ≡ a.Space)
 -- one test (CSS 2.1, 5.8 to 5.11)
 pub data IsTest : List Token → List Test → List ℕ → Type 0 where
   id : {t : Token} → terminal t ≡ a.Id → IsTest (t ∷ []) (of_test.Id (text_of t) ∷ []) []
-  class : {dot name : Token} → terminal dot ≡ a.Dot → terminal name ≡ a.Ident → IsTest (dot ∷ name ∷ []) (of_test.Class (text_of name) ∷ []) []
+  class : {dot name : Token} → terminal dot ≡ a.Dot → terminal name ≡ a.Ident
+      → IsTest (dot ∷ name ∷ []) (of_test.Class (text_of name) ∷ []) []
   has : (opening name closing : Token) (before after : List Token)
-      → terminal opening ≡ a.LeftBracket → IsGap before → terminal name ≡ a.Ident → IsGap after → terminal closing ≡ a.RightBracket
+      → terminal opening ≡ a.LeftBracket → IsGap before → terminal name ≡ a.Ident → IsGap after
+      → terminal closing ≡ a.RightBracket
       → IsTest (opening ∷ (before ++ name ∷ (after ++ closing ∷ []))) (of_test.Has (name_of name) ∷ []) []
   compares : (opening name sign value closing : Token) (before after between behind : List Token) (how : Comparison)
-      → terminal opening ≡ a.LeftBracket → IsGap before → terminal name ≡ a.Ident → IsGap after → comparison (terminal sign) ≡ Some how
+      → terminal opening ≡ a.LeftBracket → IsGap before → terminal name ≡ a.Ident → IsGap after
+      → comparison (terminal sign) ≡ Some how
       → IsGap between → is_value (terminal value) ≡ true → IsGap behind → terminal closing ≡ a.RightBracket
-      → IsTest (opening ∷ (before ++ name ∷ (after ++ sign ∷ (between ++ value ∷ (behind ++ closing ∷ []))))) (compared how (name_of name) (text_of value) ∷ []) []
-  pseudo_class : {colon name : Token} {test : Test} → terminal colon ≡ a.Colon → terminal name ≡ a.Ident → pseudo (text_of name) ≡ Some (of_pseudo.Class test)
+      → IsTest (opening ∷ (before ++ name ∷ (after ++ sign ∷ (between ++ value ∷ (behind ++ closing ∷ [])))))
+      (compared how (name_of name) (text_of value) ∷ []) []
+  pseudo_class : {colon name : Token} {test : Test} → terminal colon ≡ a.Colon → terminal name ≡ a.Ident
+      → pseudo (text_of name) ≡ Some (of_pseudo.Class test)
       → IsTest (colon ∷ name ∷ []) (test ∷ []) []
   language : (colon function name closing : Token) (before after : List Token)
       → terminal colon ≡ a.Colon → terminal function ≡ a.Function → same_name (text_of function) (codes "lang") ≡ true
@@ -53,7 +58,8 @@ pub data IsTest : List Token → List Test → List ℕ → Type 0 where
 pub data AreTests : List Token → List Test → List ℕ → Type 0 where
   no_test : AreTests [] [] []
   one_more : (ts piece : List Token) {tests more : List Test} {refused others : List ℕ}
-      → AreTests ts tests refused → IsTest piece more others → AreTests (ts ++ piece) (tests ++ more) (refused ++ others)
+      → AreTests ts tests refused → IsTest piece more others
+      → AreTests (ts ++ piece) (tests ++ more) (refused ++ others)
 
 -- a type selector, `*`, or neither (CSS 2.1, 5.3 and 5.4)
 pub data IsHead : List Token → Option (List ℕ) → Type 0 where
@@ -77,13 +83,16 @@ pub record IsCompound (ts : List Token) (c : Compound) (refused : List ℕ) : Ty
 -- how simple selectors are joined (CSS 2.1, 5.5 to 5.7)
 pub data IsCombinator : List Token → Join → Type 0 where
   descendant : {t : Token} {more : List Token} → terminal t ≡ a.Space → IsGap more → IsCombinator (t ∷ more) Descendant
-  child : (t : Token) (before after : List Token) → IsGap before → terminal t ≡ a.Greater → IsGap after → IsCombinator (before ++ t ∷ after) Child
-  adjacent : (t : Token) (before after : List Token) → IsGap before → terminal t ≡ a.Plus → IsGap after → IsCombinator (before ++ t ∷ after) Next
+  child : (t : Token) (before after : List Token) → IsGap before → terminal t ≡ a.Greater → IsGap after
+      → IsCombinator (before ++ t ∷ after) Child
+  adjacent : (t : Token) (before after : List Token) → IsGap before → terminal t ≡ a.Plus → IsGap after
+      → IsCombinator (before ++ t ∷ after) Next
 
 -- what stands in a selector before one of its simple selectors, and how that is joined to it
 pub data IsFront : List Token → List (Join × Compound) → Join → List ℕ → Type 0 where
   at_start : IsFront [] [] First []
-  further : (ts piece gap : List Token) {parts : List (Join × Compound)} {join next : Join} {c : Compound} {refused others : List ℕ}
+  further : (ts piece gap : List Token) {parts : List (Join × Compound)} {join next : Join} {c : Compound}
+      {refused others : List ℕ}
       → IsFront ts parts join refused → IsCompound piece c others → IsCombinator gap next
       → IsFront (ts ++ (piece ++ gap)) (parts ++ (join, c) ∷ []) next (refused ++ others)
 
@@ -91,25 +100,29 @@ pub data IsFront : List Token → List (Join × Compound) → Join → List ℕ 
 pub data IsLast : List Token → Compound → List ℕ → Type 0 where
   plain : {ts : List Token} {c : Compound} {refused : List ℕ} → IsCompound ts c refused → IsLast ts c refused
   with_element : (ts : List Token) {c : Compound} {refused : List ℕ} (colon name : Token)
-      → IsBody ts c refused → terminal colon ≡ a.Colon → terminal name ≡ a.Ident → pseudo (text_of name) ≡ Some of_pseudo.Element
+      → IsBody ts c refused → terminal colon ≡ a.Colon → terminal name ≡ a.Ident
+      → pseudo (text_of name) ≡ Some of_pseudo.Element
       → IsLast (ts ++ colon ∷ name ∷ []) c (refused ++ colon.at ∷ [])
 
 -- a selector with white space around it
 pub data IsSelectorText : List Token → List (Join × Compound) → List ℕ → Type 0 where
-  selector : (before front last after : List Token) {parts : List (Join × Compound)} {join : Join} {c : Compound} {refused others : List ℕ}
+  selector : (before front last after : List Token) {parts : List (Join × Compound)} {join : Join} {c : Compound}
+      {refused others : List ℕ}
       → IsGap before → IsFront front parts join refused → IsLast last c others → IsGap after
       → IsSelectorText (before ++ (front ++ (last ++ after))) (parts ++ (join, c) ∷ []) (refused ++ others)
 
 -- selectors, each with a comma behind it
 pub data AreEarlier : List Token → List (List (Join × Compound)) → List ℕ → Type 0 where
   none_earlier : AreEarlier [] [] []
-  one_later : (ts piece : List Token) (comma : Token) {group : List (List (Join × Compound))} {parts : List (Join × Compound)} {refused others : List ℕ}
+  one_later : (ts piece : List Token) (comma : Token) {group : List (List (Join × Compound))}
+      {parts : List (Join × Compound)} {refused others : List ℕ}
       → AreEarlier ts group refused → IsSelectorText piece parts others → terminal comma ≡ a.Comma
       → AreEarlier (ts ++ (piece ++ comma ∷ [])) (group ++ parts ∷ []) (refused ++ others)
 
 -- a group of selectors (CSS 2.1, 5.2.1)
 pub data IsGroup : List Token → List (List (Join × Compound)) → List ℕ → Type 0 where
-  selectors : (ts piece : List Token) {group : List (List (Join × Compound))} {parts : List (Join × Compound)} {refused others : List ℕ}
+  selectors : (ts piece : List Token) {group : List (List (Join × Compound))} {parts : List (Join × Compound)}
+      {refused others : List ℕ}
       → AreEarlier ts group refused → IsSelectorText piece parts others
       → IsGroup (ts ++ piece) (group ++ parts ∷ []) (refused ++ others)
 
@@ -117,10 +130,11 @@ pub data IsGroup : List Token → List (List (Join × Compound)) → List ℕ �
 
 -- tokens with which some group begins
 abbrev pub BeginsGroup : List Token → Type 0
-BeginsGroup ts = (more : List Token) × (group : List (List (Join × Compound))) × (refused : List ℕ) × IsGroup (ts ++ more) group refused
+BeginsGroup ts = (more : List Token) × (group : List (List (Join × Compound))) × (refused : List ℕ)
+    × IsGroup (ts ++ more) group refused
 
--- The tokens are no group. Of their longest front with which some group begins the rest begins at the place, or there is no
--- rest, and the place is the end of the text.
+-- The tokens are no group. Of their longest front with which some group begins the rest
+-- begins at the place, or there is no rest, and the place is the end of the text.
 pub record IsNoGroup (ts : List Token) (end at : ℕ) : Type 0 where
   pub no_group : (group : List (List (Join × Compound))) (refused : List ℕ) → IsGroup ts group refused → ⊥
   pub front : List Token
@@ -137,9 +151,10 @@ IsGroupOf text group = (tokens : List Token) × AreTokens text tokens × IsGroup
 -- the text is a group of selectors, the first refused one at the place
 abbrev pub IsUnsupportedAt : List ℕ → ℕ → Type 0
 IsUnsupportedAt text at =
-    (tokens : List Token) × AreTokens text tokens × (group : List (List (Join × Compound))) × (others : List ℕ) × IsGroup (without_comments tokens) group (at ∷ others)
+    (tokens : List Token) × AreTokens text tokens × (group : List (List (Join × Compound))) × (others : List ℕ)
+    × IsGroup (without_comments tokens) group (at ∷ others)
 
--- The text is no group of selectors, even with the refused ones. The place is that of the first token that no such group can
--- have there, or the text's length.
+-- The text is no group of selectors, even with the refused ones. The place is that of
+-- the first token that no such group can have there, or the text's length.
 abbrev pub IsBadAt : List ℕ → ℕ → Type 0
 IsBadAt text at = (tokens : List Token) × AreTokens text tokens × IsNoGroup (without_comments tokens) (length text) at

@@ -19,8 +19,8 @@ use Rattle.css_semantics.specs.SheetsMarks.{text_of}
 
 -- ---- terminals
 
--- whether the name behind the `#` of a token of the kind HASH is an identifier (CSS 2.1, 5.9): behind a hyphen, if there is
--- one, stands a character that may begin an identifier, or an escape
+-- whether the name behind the `#` of a token of the kind HASH is an identifier (CSS 2.1, 5.9): behind a
+-- hyphen, if there is one, stands a character that may begin an identifier, or an escape
 abbrev pub begins_plain : List ℕ → Bool
 begins_plain [] = false
 begins_plain (c ∷ cs) = is_start c || c == 92
@@ -74,8 +74,8 @@ without_comments (t ∷ ts) = if is_comment t.kind then without_comments ts else
 
 -- ---- names
 
--- the name of a type or an attribute: after escapes, in lower case, since its case doesn't matter (CSS 2.1, 5.4 and 5.8; for
--- all documents in this project's own reading)
+-- the name of a type or an attribute: after escapes, in lower case, since its case doesn't
+-- matter (CSS 2.1, 5.4 and 5.8; for all documents in this project's own reading)
 unfoldable pub name_of : Token → List ℕ
 name_of t = map to_ascii_lowercase (text_of t)
 
@@ -84,8 +84,10 @@ abbrev pub pseudo : List ℕ → Option Pseudo
 pseudo text =
     if same_name text (codes "first-child") then Some (of_pseudo.Class of_test.FirstChild)
     else (if same_name text (codes "link") then Some (of_pseudo.Class of_test.Link)
-    else (if same_name text (codes "visited") || same_name text (codes "hover") || same_name text (codes "active") || same_name text (codes "focus") then Some (of_pseudo.Class of_test.Never)
-    else (if same_name text (codes "first-line") || same_name text (codes "first-letter") || same_name text (codes "before") || same_name text (codes "after") then Some of_pseudo.Element
+    else (if same_name text (codes "visited") || same_name text (codes "hover") || same_name text (codes "active")
+    || same_name text (codes "focus") then Some (of_pseudo.Class of_test.Never)
+    else (if same_name text (codes "first-line") || same_name text (codes "first-letter")
+    || same_name text (codes "before") || same_name text (codes "after") then Some of_pseudo.Element
     else None)))
 
 -- how a terminal between an attribute's name and its value compares

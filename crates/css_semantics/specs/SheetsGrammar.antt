@@ -1,6 +1,6 @@
--- The grammar of sheets over lists of tokens, with all that error recovery drops (CSS 2.1, 4.1.1, 4.1.5 to 4.1.8, 4.2, 6.3
--- and 7.2.1). What is kept and what is dropped are stretches, each the shortest that ends where its rule says with all
--- pairs of brackets matched.
+-- The grammar of sheets over lists of tokens, with all that error recovery drops (CSS 2.1, 4.1.1,
+-- 4.1.5 to 4.1.8, 4.2, 6.3 and 7.2.1). What is kept and what is dropped are stretches, each the
+-- shortest that ends where its rule says with all pairs of brackets matched.
 use Rattle.std.specs.Prelude.{◌≡◌, ℕ, ◌<◌, ◌≤◌, Bool, true, false, not, ◌⊎◌, List, [], ◌∷◌, ◌++◌, length, map, drop, Option, Some, None, Result, Ok, Err, codes}
 use Rattle.std.specs.Option.{option_to_list}
 use Rattle.std.specs.List.{list_any, list_all}
@@ -20,8 +20,9 @@ abbrev pub is_awaited : Option TokenKind → TokenKind → Bool
 is_awaited None kind = false
 is_awaited (Some mark) kind = is_mark mark kind
 
--- Tokens in which all pairs are matched: what opens a pair stands with its own closing mark and with what is between them.
--- Within a pair its closing mark ends it, and any other closing mark stands for itself, as each does outside all pairs.
+-- Tokens in which all pairs are matched: what opens a pair stands with its own closing
+-- mark and with what is between them. Within a pair its closing mark ends it, and any
+-- other closing mark stands for itself, as each does outside all pairs.
 pub data Paired : Option TokenKind → List Token → Type 0 where
   nothing : {within : Option TokenKind} → Paired within []
   single : {within : Option TokenKind} {t : Token} {ts : List Token}
@@ -46,8 +47,8 @@ pub record EndsAt (stop : Token → Bool) (front rest : List Token) : Type 0 whe
   pub matched : Paired None front
   pub stops : stop at ≡ true
 
--- The shortest front of the tokens with all pairs matched behind which a token stands that ends it; where there is none,
--- the end of the text closes what is open, and all the tokens are the stretch.
+-- The shortest front of the tokens with all pairs matched behind which a token stands that ends it; where
+-- there is none, the end of the text closes what is open, and all the tokens are the stretch.
 pub record IsStretch (stop : Token → Bool) (ts front rest : List Token) : Type 0 where
   pub whole : ts ≡ front ++ rest
   pub ends : (rest ≡ []) ⊎ EndsAt stop front rest
@@ -91,8 +92,8 @@ pub data Listed {A : Type 0} (One : List Token → List A → List Token → Typ
 
 -- ---- declarations
 
--- Tokens that are in the grammar of values (CSS 2.1, 4.1.1: value, any, block, unused) but for being none. `closed` says
--- that all pairs in them are closed, as they are but for those that the end of the text closes.
+-- Tokens that are in the grammar of values (CSS 2.1, 4.1.1: value, any, block, unused) but for being none. `closed`
+-- says that all pairs in them are closed, as they are but for those that the end of the text closes.
 pub data Standing : Bool → Option TokenKind → List Token → Type 0 where
   nothing_more : {closed : Bool} {within : Option TokenKind} → Standing closed within []
   stands : {closed : Bool} {within : Option TokenKind} {t : Token} {ts : List Token}
@@ -285,7 +286,8 @@ is_refused before _ = false
 
 -- no statement is refused
 abbrev pub IsAccepted : List Statement → Type 0
-IsAccepted ss = (before : List Statement) (s : Statement) (after : List Statement) → ss ≡ before ++ s ∷ after → is_refused before s ≡ false
+IsAccepted ss = (before : List Statement) (s : Statement) (after : List Statement) → ss ≡ before ++ s ∷ after
+    → is_refused before s ≡ false
 
 -- the first statement that is refused
 pub record IsFirstRefused (ss : List Statement) (s : Statement) : Type 0 where
@@ -314,4 +316,5 @@ IsSheetOf text answer = (tokens : List Token) × AreTokens text tokens × IsShee
 
 -- the declarations that the text of a style attribute spells
 abbrev pub AreDeclarationsOf : List ℕ → List Decl → Type 0
-AreDeclarationsOf text decls = (tokens : List Token) × AreTokens text tokens × AreDeclarations (closed_by_end tokens) decls
+AreDeclarationsOf text decls = (tokens : List Token) × AreTokens text tokens
+    × AreDeclarations (closed_by_end tokens) decls

@@ -34,7 +34,8 @@ stretch_len stop marks (t ∷ ts) = if is_none marks && stop t then 0 else 1 + s
 
 -- What each item gives, joined: an item begins with the token t and ends where what follows it begins. The number is
 -- how many tokens of an item are still to be passed.
-abbrev pub gathered : {A : Type 0} → (Token → List Token → List A) → (Token → List Token → List Token) → ℕ → List Token → List A
+abbrev pub gathered : {A : Type 0} → (Token → List Token → List A) → (Token → List Token → List Token) → ℕ
+    → List Token → List A
 gathered item after n [] = []
 gathered item after (suc n) (t ∷ ts) = gathered item after n ts
 gathered item after zero (t ∷ ts) = item t ts ++ gathered item after (length ts - length (after t ts)) ts
@@ -80,7 +81,8 @@ value_closed kind (m ∷ marks) = if is_mark m kind then Some marks else None
 
 abbrev pub value_opened : Option TokenKind → TokenKind → List TokenKind → Option (List TokenKind)
 value_opened (Some m) kind marks = if is_bad kind then None else Some (m ∷ marks)
-value_opened None kind marks = if is_closing kind then value_closed kind marks else (if may_stand marks kind then Some marks else None)
+value_opened None kind marks = if is_closing kind then value_closed kind marks
+    else (if may_stand marks kind then Some marks else None)
 
 abbrev pub value_step : TokenKind → List TokenKind → Option (List TokenKind)
 value_step kind marks = value_opened (closing_mark kind) kind marks
@@ -103,7 +105,8 @@ before_last ts = before_bang ts (slice_get ts (length ts - 1))
 
 abbrev pub before_word : List Token → Option Token → Option (List Token × ℕ)
 before_word ts None = None
-before_word ts (Some t) = if is_ident t.kind && is_word (codes "important") t then before_last (trim_end is_gap (take (length ts - 1) ts)) else None
+before_word ts (Some t) = if is_ident t.kind && is_word (codes "important") t
+    then before_last (trim_end is_gap (take (length ts - 1) ts)) else None
 
 abbrev pub before_trimmed : List Token → Option (List Token × ℕ)
 before_trimmed ts = before_word ts (slice_get ts (length ts - 1))
@@ -117,13 +120,15 @@ still_awaited marks (t ∷ ts) = still_awaited (awaited t.kind marks) ts
 abbrev pub is_closed : List Token → Bool
 is_closed ts = is_none (still_awaited [] ts)
 
--- `!important` counts where it stands in no bracket, also in none that only the end of the text closes (CSS 2.1, 4.2 and 6.4.2)
+-- `!important` counts where it stands in no bracket, also in none that only
+-- the end of the text closes (CSS 2.1, 4.2 and 6.4.2)
 abbrev pub before_important : List Token → Option (List Token × ℕ)
 before_important ts = if is_closed ts then before_trimmed (trim_end is_gap ts) else None
 
 -- the declaration of a property with these tokens as value, or this place where there are none
 abbrev pub decl_of : Token → List Token → ℕ → Bool → Decl
-decl_of name value place important = record { name = text_of name; at = start_of place value; len = extent value; important = important }
+decl_of name value place important =
+    record { name = text_of name; at = start_of place value; len = extent value; important = important }
 
 abbrev pub declared_at : Token → List Token → Option (List Token × ℕ) → Decl
 declared_at name body None = decl_of name (trimmed is_space body) 0 false

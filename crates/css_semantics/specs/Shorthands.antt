@@ -22,7 +22,8 @@ use Rattle.css_semantics.specs.Values.{then_on, setting, part_value, families, i
 -- ---- the shorthands
 
 abbrev pub shorthands : List Shorthand
-shorthands = Margin ∷ Padding ∷ BorderWidth ∷ BorderStyle ∷ Border ∷ BorderTop ∷ BorderRight ∷ BorderBottom ∷ BorderLeft ∷ Font ∷ ListStyle ∷ []
+shorthands = Margin ∷ Padding ∷ BorderWidth ∷ BorderStyle ∷ Border ∷ BorderTop ∷ BorderRight ∷ BorderBottom
+    ∷ BorderLeft ∷ Font ∷ ListStyle ∷ []
 
 abbrev pub shorthand_name : Shorthand → List ℕ
 shorthand_name Margin = codes "margin"
@@ -42,17 +43,21 @@ shorthand_named name = find (λ s. same_name name (shorthand_name s)) shorthands
 
 -- ---- four sides (CSS 2.1, 8.3, 8.4, 8.5.1 and 8.5.3)
 
-abbrev pub from_values : (Value → Value → Value → Value → List Setting) → Result Value Refusal → Result Value Refusal → Result Value Refusal → Result Value Refusal → Result (List Setting) Refusal
+abbrev pub from_values : (Value → Value → Value → Value → List Setting) → Result Value Refusal → Result Value Refusal
+    → Result Value Refusal → Result Value Refusal → Result (List Setting) Refusal
 from_values f a b c d = then_on a (λ u. then_on b (λ v. then_on c (λ w. then_on d (λ x. Ok (f u v w x)))))
 
 -- the settings of the top, right, bottom and left property from a part for each
 abbrev pub four : Prop → Prop → Prop → Prop → Part → Part → Part → Part → Result (List Setting) Refusal
 four top right bottom left a b c d =
-    from_values (λ u v w x. setting top u ∷ setting right v ∷ setting bottom w ∷ setting left x ∷ []) (part_value top a) (part_value right b) (part_value bottom c) (part_value left d)
+    from_values (λ u v w x. setting top u ∷ setting right v ∷ setting bottom w ∷ setting left x ∷ [])
+    (part_value top a) (part_value right b) (part_value bottom c) (part_value left d)
 
--- One value is for all sides; of two the first is for top and bottom and the second for right and left; of three the first
--- is for the top, the second for right and left, the third for the bottom; four are for top, right, bottom and left.
-abbrev pub spread : (Part → Part → Part → Part → Result (List Setting) Refusal) → List Part → Result (List Setting) Refusal
+-- One value is for all sides; of two the first is for top and bottom and the second for
+-- right and left; of three the first is for the top, the second for right and left, the
+-- third for the bottom; four are for top, right, bottom and left.
+abbrev pub spread : (Part → Part → Part → Part → Result (List Setting) Refusal) → List Part
+    → Result (List Setting) Refusal
 spread f (a ∷ []) = f a a a a
 spread f (a ∷ b ∷ []) = f a b a b
 spread f (a ∷ b ∷ c ∷ []) = f a b c b
@@ -64,7 +69,8 @@ abbrev pub inherited : List Prop → List Setting
 inherited ps = map (λ p. setting p Inherit) ps
 
 abbrev pub sides : Prop → Prop → Prop → Prop → List Part → Result (List Setting) Refusal
-sides top right bottom left ps = if is_inherit ps then Ok (inherited (top ∷ right ∷ bottom ∷ left ∷ [])) else spread (four top right bottom left) ps
+sides top right bottom left ps = if is_inherit ps then Ok (inherited (top ∷ right ∷ bottom ∷ left ∷ []))
+    else spread (four top right bottom left) ps
 
 -- ---- borders (CSS 2.1, 8.5.4)
 
@@ -88,7 +94,8 @@ is_at_most_one test ps = nat_le (count_by test ps) 1
 
 -- a width, a style and a colour in any order, each at most once, and one of them at least
 abbrev pub is_line : List Part → Bool
-is_line ps = not (nat_le (length ps) 0) && list_all is_line_part ps && is_at_most_one is_line_width ps && is_at_most_one is_line_style ps && is_at_most_one is_colour ps
+is_line ps = not (nat_le (length ps) 0) && list_all is_line_part ps && is_at_most_one is_line_width ps
+    && is_at_most_one is_line_style ps && is_at_most_one is_colour ps
 
 -- the value of the part that there is, or a value in its place
 abbrev pub value_or : Value → Prop → Option Part → Result Value Refusal
@@ -98,7 +105,9 @@ value_or v p (Some a) = part_value p a
 -- a setting of each of these properties from the part that passes the test
 abbrev pub each_line : (Part → Bool) → Value → List Part → List Prop → Result (List Setting) Refusal
 each_line test v ps [] = Ok []
-each_line test v ps (p ∷ more) = then_on (value_or v p (find test ps)) (λ u. then_on (each_line test v ps more) (λ settings. Ok (setting p u ∷ settings)))
+each_line test v ps (p ∷ more) =
+    then_on (value_or v p (find test ps))
+    (λ u. then_on (each_line test v ps more) (λ settings. Ok (setting p u ∷ settings)))
 
 abbrev pub joined : List Setting → Result (List Setting) Refusal → Result (List Setting) Refusal
 joined settings more = then_on more (λ ms. Ok (settings ++ ms))
@@ -106,7 +115,8 @@ joined settings more = then_on more (λ ms. Ok (settings ++ ms))
 -- a width or a style that is missing is the initial one, `medium` or `none`, of all sides
 abbrev pub written_lines : List Prop → List Prop → List Part → Result (List Setting) Refusal
 written_lines widths styles ps =
-    then_on (each_line is_line_width (row BorderTopWidth).initial ps widths) (λ ws. joined ws (each_line is_line_style (row BorderTopStyle).initial ps styles))
+    then_on (each_line is_line_width (row BorderTopWidth).initial ps widths)
+    (λ ws. joined ws (each_line is_line_style (row BorderTopStyle).initial ps styles))
 
 abbrev pub lines : List Prop → List Prop → List Part → Result (List Setting) Refusal
 lines widths styles ps =
@@ -142,11 +152,13 @@ is_before_size a = is_style_word a || is_variant_word a || is_weight a || is_nor
 
 -- at most one style, one variant and one weight, and no more than three parts with the words `normal`
 abbrev pub is_front : List Part → Bool
-is_front ps = is_at_most_one is_style_word ps && is_at_most_one is_variant_word ps && is_at_most_one is_weight ps && nat_le (length ps) 3
+is_front ps = is_at_most_one is_style_word ps && is_at_most_one is_variant_word ps && is_at_most_one is_weight ps
+    && nat_le (length ps) 3
 
 -- the settings of a font
 abbrev pub font_settings : Value → List (List ℕ) → Value → List Setting
-font_settings size names height = setting FontSize size ∷ setting FontFamily (Names names) ∷ setting LineHeight height ∷ []
+font_settings size names height = setting FontSize size ∷ setting FontFamily (Names names) ∷ setting LineHeight height
+    ∷ []
 
 -- the family, where `inherit` alone is no name
 abbrev pub font_names : List Part → Option (List (List ℕ))
@@ -180,7 +192,8 @@ abbrev pub written_font : List Part → Result (List Setting) Refusal
 written_font ps = if is_front (take (front_len ps) ps) then font_from_size (drop (front_len ps) ps) else Err Ignored
 
 abbrev pub system_words : List (List ℕ)
-system_words = codes "caption" ∷ codes "icon" ∷ codes "menu" ∷ codes "message-box" ∷ codes "small-caption" ∷ codes "status-bar" ∷ []
+system_words = codes "caption" ∷ codes "icon" ∷ codes "menu" ∷ codes "message-box" ∷ codes "small-caption"
+    ∷ codes "status-bar" ∷ []
 
 abbrev pub is_system : List Part → Bool
 is_system (a ∷ []) = is_one_of system_words a
@@ -191,7 +204,8 @@ abbrev pub system_font : List Setting
 system_font = map (λ p. setting p (row p).initial) (FontSize ∷ FontFamily ∷ LineHeight ∷ [])
 
 abbrev pub font : List Part → Result (List Setting) Refusal
-font ps = if is_inherit ps then Ok (inherited (FontSize ∷ FontFamily ∷ LineHeight ∷ [])) else (if is_system ps then Ok system_font else written_font ps)
+font ps = if is_inherit ps then Ok (inherited (FontSize ∷ FontFamily ∷ LineHeight ∷ []))
+    else (if is_system ps then Ok system_font else written_font ps)
 
 -- ---- list-style (CSS 2.1, 12.5.1)
 
@@ -206,7 +220,9 @@ shorthand Margin ps = sides MarginTop MarginRight MarginBottom MarginLeft ps
 shorthand Padding ps = sides PaddingTop PaddingRight PaddingBottom PaddingLeft ps
 shorthand BorderWidth ps = sides BorderTopWidth BorderRightWidth BorderBottomWidth BorderLeftWidth ps
 shorthand BorderStyle ps = sides BorderTopStyle BorderRightStyle BorderBottomStyle BorderLeftStyle ps
-shorthand Border ps = lines (BorderTopWidth ∷ BorderRightWidth ∷ BorderBottomWidth ∷ BorderLeftWidth ∷ []) (BorderTopStyle ∷ BorderRightStyle ∷ BorderBottomStyle ∷ BorderLeftStyle ∷ []) ps
+shorthand Border ps =
+    lines (BorderTopWidth ∷ BorderRightWidth ∷ BorderBottomWidth ∷ BorderLeftWidth ∷ [])
+    (BorderTopStyle ∷ BorderRightStyle ∷ BorderBottomStyle ∷ BorderLeftStyle ∷ []) ps
 shorthand BorderTop ps = lines (BorderTopWidth ∷ []) (BorderTopStyle ∷ []) ps
 shorthand BorderRight ps = lines (BorderRightWidth ∷ []) (BorderRightStyle ∷ []) ps
 shorthand BorderBottom ps = lines (BorderBottomWidth ∷ []) (BorderBottomStyle ∷ []) ps
@@ -227,8 +243,8 @@ longhand_or None s ps = shorthand_or_none s ps
 abbrev pub declared : List ℕ → List Part → Result (List Setting) Refusal
 declared name ps = longhand_or (property_named name) (shorthand_named name) ps
 
--- What a declaration of this name with this text as its value says, both given by their bytes: settings, or why it gives
--- none.
+-- What a declaration of this name with this text as its value says, both
+-- given by their bytes: settings, or why it gives none.
 pub record Says (name text : List ℕ) (answer : Result (List Setting) Refusal) : Type 0 where
   pub tokens : List Token
   pub whole : AreTokens text tokens

@@ -12,12 +12,13 @@ abbrev pub style_text : Body → Option (List ℕ)
 style_text (of_body.Element e) = style_of e.attrs
 style_text (of_body.Chars text) = None
 
--- The text that a source names: the default sheet, which is the first one, a sheet of an author, or the style attribute of a
--- node.
+-- The text that a source names: the default sheet, which is the first one,
+-- a sheet of an author, or the style attribute of a node.
 abbrev pub text_of_source : List Node → List (List ℕ) → Source → Option (List ℕ)
 text_of_source nodes texts (Default at len) = slice_get texts 0
 text_of_source nodes texts (Author sheet at len) = slice_get texts (suc sheet)
-text_of_source nodes texts (Style node at len) = option_and_then (λ (n : Node). style_text n.body) (slice_get nodes node)
+text_of_source nodes texts (Style node at len) =
+    option_and_then (λ (n : Node). style_text n.body) (slice_get nodes node)
 
 abbrev pub place_of_source : Source → ℕ
 place_of_source (Default at len) = at

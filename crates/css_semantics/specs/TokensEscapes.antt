@@ -24,13 +24,17 @@ pub record IsWholeNumber (digits white rest : List ℕ) : Type 0 where
 
 pub record ResolvesEscapes (extent : Extent) : Type 0 where
   -- a character that stands for itself
-  pub plain : (c : ℕ) (rest : List ℕ) → (c == 92) ≡ false → extent.ends c ≡ false → resolved extent (c ∷ rest) ≡ c ∷ resolved extent rest
+  pub plain : (c : ℕ) (rest : List ℕ) → (c == 92) ≡ false → extent.ends c ≡ false
+      → resolved extent (c ∷ rest) ≡ c ∷ resolved extent rest
   -- a hexadecimal escape is the character of its number, or U+FFFD
-  pub number : (digits white rest : List ℕ) → IsWholeNumber digits white rest → resolved extent (92 ∷ (digits ++ (white ++ rest))) ≡ scalar (number_from 0 digits) ∷ resolved extent rest
+  pub number : (digits white rest : List ℕ) → IsWholeNumber digits white rest
+      → resolved extent (92 ∷ (digits ++ (white ++ rest))) ≡ scalar (number_from 0 digits) ∷ resolved extent rest
   -- any other escaped character is itself, also one that would end the text
-  pub escaped : (c : ℕ) (rest : List ℕ) → is_escaped c ≡ true → resolved extent (92 ∷ c ∷ rest) ≡ c ∷ resolved extent rest
+  pub escaped : (c : ℕ) (rest : List ℕ) → is_escaped c ≡ true
+      → resolved extent (92 ∷ c ∷ rest) ≡ c ∷ resolved extent rest
   -- the end of a line behind a backslash is nothing
-  pub line : (line rest : List ℕ) → IsNewline line → (line ≡ 13 ∷ [] → begins (λ c. c == 10) rest ≡ false) → resolved extent (92 ∷ (line ++ rest)) ≡ resolved extent rest
+  pub line : (line rest : List ℕ) → IsNewline line → (line ≡ 13 ∷ [] → begins (λ c. c == 10) rest ≡ false)
+      → resolved extent (92 ∷ (line ++ rest)) ≡ resolved extent rest
   -- where the text ends
   pub ended : (c : ℕ) (rest : List ℕ) → (c == 92) ≡ false → extent.ends c ≡ true → resolved extent (c ∷ rest) ≡ []
   pub nothing : resolved extent [] ≡ []

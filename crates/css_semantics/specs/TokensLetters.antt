@@ -35,7 +35,8 @@ is_quote c = c == 34 || c == 39
 abbrev pub is_quoted : ℕ → ℕ → Bool
 is_quoted quote c = not (is_newline c || c == 92 || c == quote)
 
--- what stands for itself in an address without quotes: `!`, `#` to `&`, and from `*` on all that is visible but the backslash
+-- what stands for itself in an address without quotes: `!`, `#` to `&`, and
+-- from `*` on all that is visible but the backslash
 abbrev pub is_url : ℕ → Bool
 is_url c = c == 33 || within 35 38 c || within 42 91 c || within 93 126 c || nat_le 160 c
 

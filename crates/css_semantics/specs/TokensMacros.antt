@@ -1,4 +1,5 @@
--- The macros of the table of tokens (CSS 2.1, 4.1.1). A macro is read as the fact that a piece of text is one of those that it stands for.
+-- The macros of the table of tokens (CSS 2.1, 4.1.1). A macro is read as the
+-- fact that a piece of text is one of those that it stands for.
 use Rattle.std.specs.Prelude.{◌≡◌, ℕ, ◌<◌, ◌≤◌, Bool, not, ◌&&◌, ◌⊎◌, List, [], ◌∷◌, ◌++◌, length, IsTrue}
 use Rattle.std.specs.List.{AllByRecursion, concat}
 use Rattle.css_semantics.specs.TokensLetters.{is_digit, is_hex, is_newline, is_space, is_start, is_name, is_quoted, is_url}
@@ -117,7 +118,8 @@ IsBadStringIn quote = Then (Mark quote) (Then (Many (IsQuoted quote)) (Maybe (Ma
 abbrev pub IsBadString : List ℕ → Type 0
 IsBadString piece = IsBadStringIn 34 piece ⊎ IsBadStringIn 39 piece
 
--- urlchar, any number. A backslash is one only in an escape, also in an address that is never closed: this project's own reading.
+-- urlchar, any number. A backslash is one only in an escape, also in an
+-- address that is never closed: this project's own reading.
 abbrev pub IsUrl : List ℕ → Type 0
 IsUrl = Many (OneOrEscape is_url)
 

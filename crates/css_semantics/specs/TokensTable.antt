@@ -37,7 +37,8 @@ Matches Percentage piece = Then IsNum (Text (codes "%")) piece
 Matches Dimension piece = Then IsNum IsIdent piece
 Matches Uri piece = Then IsUrlOpening (Then IsWhite (Then IsAddress (Then IsWhite (Text (codes ")"))))) piece
 Matches UnicodeRange piece =
-    Then (One is_u) (Then (Text (codes "+")) (Then (UpToSix is_range) (Maybe (Then (Text (codes "-")) (UpToSix is_hex))))) piece
+    Then (One is_u) (Then (Text (codes "+"))
+    (Then (UpToSix is_range) (Maybe (Then (Text (codes "-")) (UpToSix is_hex))))) piece
 Matches Cdo piece = piece ≡ codes "<!--"
 Matches Cdc piece = piece ≡ codes "-->"
 Matches Colon piece = piece ≡ codes ":"

@@ -8,8 +8,8 @@ use Rattle.css_semantics.specs.TokensLetters.{within, is_digit, is_hex, is_newli
 abbrev pub hex_value : ℕ → ℕ
 hex_value c = if is_digit c then c - 48 else (if within 97 102 c then c - 87 else c - 55)
 
--- the character that an escape by number gives: U+FFFD for 0, a surrogate and what is past U+10FFFF, in this project's own
--- reading
+-- the character that an escape by number gives: U+FFFD for 0, a surrogate
+-- and what is past U+10FFFF, in this project's own reading
 abbrev pub scalar : ℕ → ℕ
 scalar n = if n == 0 || within 0xD800 0xDFFF n || nat_lt 0x10FFFF n then 0xFFFD else n
 
@@ -30,7 +30,8 @@ abbrev mutual
   escaped extent [] = extent.last
   escaped extent (c ∷ cs) =
       if is_hex c then numbered extent 5 (hex_value c) cs
-      else (if c == 13 then returned extent cs else (if is_newline c then resolved extent cs else c ∷ resolved extent cs))
+      else (if c == 13 then returned extent cs
+      else (if is_newline c then resolved extent cs else c ∷ resolved extent cs))
 
   -- Where so many digits may still come behind the number: they go on with it, and one white space ends it.
   pub numbered : Extent → ℕ → ℕ → List ℕ → List ℕ
@@ -74,8 +75,8 @@ abbrev pub address : List ℕ → List ℕ
 address [] = []
 address (c ∷ cs) = if is_quote c then quoted (c ∷ cs) else resolved address_extent (c ∷ cs)
 
--- Of a string what is between its quotes; of an address the address alone; of other tokens the text without the `#` or the
--- `@` before it or the `(` behind it.
+-- Of a string what is between its quotes; of an address the address alone; of other
+-- tokens the text without the `#` or the `@` before it or the `(` behind it.
 abbrev pub unescaped : TokenKind → List ℕ → List ℕ
 unescaped Str text = quoted text
 unescaped BadString text = quoted text

@@ -39,8 +39,8 @@ abbrev pub is_zero : ℤ → Bool
 is_zero (pos n) = n == 0
 is_zero (negsuc n) = false
 
--- A value that a number gives, judged by what the property takes. Whether it is negative is asked of the number as it is
--- written, and whether it is zero of what it comes to.
+-- A value that a number gives, judged by what the property takes. Whether it is negative is
+-- asked of the number as it is written, and whether it is zero of what it comes to.
 abbrev pub judged : Prop → Takes → ℤ → ℤ → Value → Result Value Refusal
 judged p Nothing written n v = Err Ignored
 judged p All written n v = Ok v
@@ -113,7 +113,8 @@ one_part p (a ∷ []) = part_value p a
 one_part p _ = Err Ignored
 
 abbrev pub whole_value : Prop → List Part → Result Value Refusal
-whole_value p ps = if is_inherit ps then Ok value.Inherit else (if (row p).families then families_of (families ps) else one_part p ps)
+whole_value p ps = if is_inherit ps then Ok value.Inherit
+    else (if (row p).families then families_of (families ps) else one_part p ps)
 
 -- what the value of a property of the table gives
 abbrev pub longhand : Prop → List Part → Result (List Setting) Refusal

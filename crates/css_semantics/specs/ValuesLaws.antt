@@ -31,7 +31,8 @@ longhands Margin = MarginTop ∷ MarginRight ∷ MarginBottom ∷ MarginLeft ∷
 longhands Padding = PaddingTop ∷ PaddingRight ∷ PaddingBottom ∷ PaddingLeft ∷ []
 longhands BorderWidth = BorderTopWidth ∷ BorderRightWidth ∷ BorderBottomWidth ∷ BorderLeftWidth ∷ []
 longhands BorderStyle = BorderTopStyle ∷ BorderRightStyle ∷ BorderBottomStyle ∷ BorderLeftStyle ∷ []
-longhands Border = BorderTopWidth ∷ BorderRightWidth ∷ BorderBottomWidth ∷ BorderLeftWidth ∷ BorderTopStyle ∷ BorderRightStyle ∷ BorderBottomStyle ∷ BorderLeftStyle ∷ []
+longhands Border = BorderTopWidth ∷ BorderRightWidth ∷ BorderBottomWidth ∷ BorderLeftWidth ∷ BorderTopStyle
+    ∷ BorderRightStyle ∷ BorderBottomStyle ∷ BorderLeftStyle ∷ []
 longhands BorderTop = BorderTopWidth ∷ BorderTopStyle ∷ []
 longhands BorderRight = BorderRightWidth ∷ BorderRightStyle ∷ []
 longhands BorderBottom = BorderBottomWidth ∷ BorderBottomStyle ∷ []
@@ -62,7 +63,12 @@ HasValue r (Names names) = ⊥
 
 -- what fewer than four values of a shorthand for four sides stand for (CSS 2.1, 8.3)
 pub record FewerSides (top right bottom left : Prop) : Type 0 where
-  pub one : (a : Part) → is_inherit (a ∷ []) ≡ false → sides top right bottom left (a ∷ []) ≡ sides top right bottom left (a ∷ a ∷ a ∷ a ∷ [])
+  pub one : (a : Part) → is_inherit (a ∷ []) ≡ false
+      → sides top right bottom left (a ∷ []) ≡ sides top right bottom left (a ∷ a ∷ a ∷ a ∷ [])
   pub two : (a b : Part) → sides top right bottom left (a ∷ b ∷ []) ≡ sides top right bottom left (a ∷ b ∷ a ∷ b ∷ [])
-  pub three : (a b c : Part) → sides top right bottom left (a ∷ b ∷ c ∷ []) ≡ sides top right bottom left (a ∷ b ∷ c ∷ b ∷ [])
-  pub four : (a b c d : Part) (u v w x : Value) → part_value top a ≡ Ok u → part_value right b ≡ Ok v → part_value bottom c ≡ Ok w → part_value left d ≡ Ok x → sides top right bottom left (a ∷ b ∷ c ∷ d ∷ []) ≡ Ok (setting top u ∷ setting right v ∷ setting bottom w ∷ setting left x ∷ [])
+  pub three : (a b c : Part)
+      → sides top right bottom left (a ∷ b ∷ c ∷ []) ≡ sides top right bottom left (a ∷ b ∷ c ∷ b ∷ [])
+  pub four : (a b c d : Part) (u v w x : Value) → part_value top a ≡ Ok u → part_value right b ≡ Ok v
+      → part_value bottom c ≡ Ok w → part_value left d ≡ Ok x
+      → sides top right bottom left (a ∷ b ∷ c ∷ d ∷ [])
+      ≡ Ok (setting top u ∷ setting right v ∷ setting bottom w ∷ setting left x ∷ [])

@@ -77,7 +77,8 @@ is_minus = is_character 45
 abbrev pub is_sign : Token → Bool
 is_sign t = is_character 43 t || is_minus t
 
--- how many of these tokens stand in the brackets that this mark closes, with the mark, or up to the end, which closes them
+-- how many of these tokens stand in the brackets that this mark closes,
+-- with the mark, or up to the end, which closes them
 abbrev pub bracket_len : TokenKind → List Token → ℕ
 bracket_len mark ts = stretch_len (λ t. true) (mark ∷ []) ts
 
@@ -91,7 +92,8 @@ signed_part t [] = part.Other
 signed_part t (u ∷ us) = if is_amount u.kind then amount_of (is_minus t) u else part.Other
 
 abbrev pub delim_part : Token → List Token → Part
-delim_part t ts = if is_comma t then part.Comma else (if is_character 47 t then part.Solidus else (if is_sign t then signed_part t ts else part.Other))
+delim_part t ts = if is_comma t then part.Comma
+    else (if is_character 47 t then part.Solidus else (if is_sign t then signed_part t ts else part.Other))
 
 -- the part that begins with a token of this kind
 abbrev pub part_of : TokenKind → Token → List Token → Part

@@ -8,7 +8,8 @@ use Rattle.viz_base.specs.declared.settings.Value.TheVariants.{Inherit, Word, Px
 use Rattle.css_semantics.specs.Properties.{Row, row, properties}
 use Rattle.css_semantics.specs.ValuesLaws.{Admits, IsAmong, props}
 
--- whether a row of the table has this value: `inherit`, a keyword of the row, an amount that it takes, or names of families
+-- whether a row of the table has this value: `inherit`, a keyword of the
+-- row, an amount that it takes, or names of families
 abbrev pub MayWin : Row → Value → Type 0
 MayWin r Inherit = Unit {0}
 MayWin r (Word place) = place < length r.words

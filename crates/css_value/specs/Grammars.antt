@@ -1,5 +1,5 @@
--- The value of a declaration after the grammars that CSS 2.1 prints: of the shorthands for borders (8.5.4) and of `font`
--- (15.8). A part in `< >` is one that the property of that name takes.
+-- The value of a declaration after the grammars that CSS 2.1 prints: of the shorthands for borders
+-- (8.5.4) and of `font` (15.8). A part in `< >` is one that the property of that name takes.
 use Rattle.std.specs.Prelude.{◌≡◌, ℕ, Bool, true, false, List, [], ◌∷◌, ◌++◌, Some, Result, Ok, Err}
 use Rattle.std.specs.List.{list_any, list_all}
 use Rattle.viz_base.specs.declared.settings.Prop.{Prop}
@@ -20,18 +20,21 @@ use Rattle.css_semantics.specs.Shorthands.{sides, inherited, is_line, is_line_wi
 
 -- the value of the part of a kind; where there is no such part, the initial value of the property
 pub data Gets (kind : Part → Bool) (ps : List Part) (p : Prop) : Value → Type 0 where
-  from : (before after : List Part) (a : Part) {v : Value} → ps ≡ before ++ a ∷ after → kind a ≡ true → part_value p a ≡ Ok v → Gets kind ps p v
+  from : (before after : List Part) (a : Part) {v : Value} → ps ≡ before ++ a ∷ after → kind a ≡ true
+      → part_value p a ≡ Ok v → Gets kind ps p v
   initial : list_any kind ps ≡ false → Gets kind ps p (row p).initial
 
 -- each of these properties with its value
 pub data Sets (kind : Part → Bool) (ps : List Part) : List Prop → List Setting → Type 0 where
   none : Sets kind ps [] []
-  more : {p : Prop} {v : Value} {props : List Prop} {settings : List Setting} → Gets kind ps p v → Sets kind ps props settings → Sets kind ps (p ∷ props) (setting p v ∷ settings)
+  more : {p : Prop} {v : Value} {props : List Prop} {settings : List Setting} → Gets kind ps p v
+      → Sets kind ps props settings → Sets kind ps (p ∷ props) (setting p v ∷ settings)
 
 -- `inherit` alone is no colour
 pub data IsBorder (widths styles : List Prop) (ps : List Part) : List Setting → Type 0 where
   inherits : is_inherit ps ≡ true → IsBorder widths styles ps (inherited widths ++ inherited styles)
-  written : {ws ss : List Setting} → is_inherit ps ≡ false → is_line ps ≡ true → Sets is_line_width ps widths ws → Sets is_line_style ps styles ss → IsBorder widths styles ps (ws ++ ss)
+  written : {ws ss : List Setting} → is_inherit ps ≡ false → is_line ps ≡ true → Sets is_line_width ps widths ws
+      → Sets is_line_style ps styles ss → IsBorder widths styles ps (ws ++ ss)
 
 -- ---- font: [ [ <font-style> || <font-variant> || <font-weight> ]? <font-size> [ / <line-height> ]? <font-family> ]
 -- ---- | caption | icon | menu | message-box | small-caption | status-bar | inherit
@@ -64,7 +67,9 @@ IsShorthand Margin ps answer = answer ≡ sides MarginTop MarginRight MarginBott
 IsShorthand Padding ps answer = answer ≡ sides PaddingTop PaddingRight PaddingBottom PaddingLeft ps
 IsShorthand BorderWidth ps answer = answer ≡ sides BorderTopWidth BorderRightWidth BorderBottomWidth BorderLeftWidth ps
 IsShorthand BorderStyle ps answer = answer ≡ sides BorderTopStyle BorderRightStyle BorderBottomStyle BorderLeftStyle ps
-IsShorthand Border ps answer = ByGrammar (IsBorder (BorderTopWidth ∷ BorderRightWidth ∷ BorderBottomWidth ∷ BorderLeftWidth ∷ []) (BorderTopStyle ∷ BorderRightStyle ∷ BorderBottomStyle ∷ BorderLeftStyle ∷ []) ps) answer
+IsShorthand Border ps answer =
+    ByGrammar (IsBorder (BorderTopWidth ∷ BorderRightWidth ∷ BorderBottomWidth ∷ BorderLeftWidth ∷ [])
+    (BorderTopStyle ∷ BorderRightStyle ∷ BorderBottomStyle ∷ BorderLeftStyle ∷ []) ps) answer
 IsShorthand BorderTop ps answer = ByGrammar (IsBorder (BorderTopWidth ∷ []) (BorderTopStyle ∷ []) ps) answer
 IsShorthand BorderRight ps answer = ByGrammar (IsBorder (BorderRightWidth ∷ []) (BorderRightStyle ∷ []) ps) answer
 IsShorthand BorderBottom ps answer = ByGrammar (IsBorder (BorderBottomWidth ∷ []) (BorderBottomStyle ∷ []) ps) answer

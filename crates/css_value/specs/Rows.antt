@@ -6,4 +6,14 @@ use Rattle.css_value.specs.declared.rows.TableRow.{TableRow}
 
 -- with the two columns that the code doesn't need
 abbrev pub filled : Prop → TableRow → Row
-filled p r = record { name = r.name.now; words = map (λ w. w.now) r.words.now; refused = map (λ w. w.now) r.refused.now; lengths = r.lengths; percentages = r.percentages; numbers = r.numbers; families = r.families; initial = (row p).initial; inherits = (row p).inherits }
+filled p r = record {
+  name = r.name.now;
+  words = map (λ w. w.now) r.words.now;
+  refused = map (λ w. w.now) r.refused.now;
+  lengths = r.lengths;
+  percentages = r.percentages;
+  numbers = r.numbers;
+  families = r.families;
+  initial = (row p).initial;
+  inherits = (row p).inherits;
+}

@@ -89,15 +89,18 @@ pub record IsInlineBoxSmall (tree : BoxTree) (w : World) (height t k : ℕ) : Ty
   pub descent : IsSmall t (descent tree w (node_of tree k))
   pub above : IsSmall t (inline_extent tree w (node_of tree k)).above
   pub below : IsSmall t (inline_extent tree w (node_of tree k)).below
-  pub edges : is_inline (kind_of tree k) ≡ true → AllByRecursion (λ length. IsSmall t (used tree w length (room tree w height k)))
+  pub edges : is_inline (kind_of tree k) ≡ true
+      → AllByRecursion (λ length. IsSmall t (used tree w length (room tree w height k)))
       (sides_of (paddings tree k) ++ (sides_of (borders tree k) ++ sides_of (margins tree k)))
   pub text : (part : List ℕ) → IsPartOf part (text_of tree k) → IsSmall t (text_width tree w (node_of tree k) part)
 
 -- the edges of a box at its sides together, each without its sign
 abbrev pub edges_at : BoxTree → World → ℕ → ℤ → ℕ
 edges_at tree w k cb =
-    unsigned_abs (used tree w (margins tree k).left cb) + unsigned_abs (used tree w (borders tree k).left cb) + unsigned_abs (used tree w (paddings tree k).left cb)
-    + (unsigned_abs (used tree w (paddings tree k).right cb) + unsigned_abs (used tree w (borders tree k).right cb) + unsigned_abs (used tree w (margins tree k).right cb))
+    unsigned_abs (used tree w (margins tree k).left cb) + unsigned_abs (used tree w (borders tree k).left cb)
+    + unsigned_abs (used tree w (paddings tree k).left cb)
+    + (unsigned_abs (used tree w (paddings tree k).right cb) + unsigned_abs (used tree w (borders tree k).right cb)
+    + unsigned_abs (used tree w (margins tree k).right cb))
 
 -- a width of a box, with its edges and its containing block
 abbrev pub IsWidthWithin : BoxTree → World → ℕ → ℤ → ℕ → ℤ → Type 0
@@ -106,12 +109,17 @@ IsWidthWithin tree w k cb most width = unsigned_abs cb + edges_at tree w k cb + 
 -- what a box's properties give is at most so large
 pub record ArePropertiesSmall (tree : BoxTree) (w : World) (height most k : ℕ) : Type 0 where
   pub edges : 2 * (unsigned_abs (room tree w height k) + edges_at tree w k (room tree w height k)) ≤ most
-  pub width : (v : ℤ) → used_unless_auto tree w (own tree k (λ (s : Style). s.width) of_length.Auto) (room tree w height k) ≡ Some v → IsWidthWithin tree w k (room tree w height k) most v
-  pub least : IsWidthWithin tree w k (room tree w height k) most (used tree w (own tree k (λ (s : Style). s.min_width) nothing) (room tree w height k))
+  pub width : (v : ℤ)
+      → used_unless_auto tree w (own tree k (λ (s : Style). s.width) of_length.Auto) (room tree w height k) ≡ Some v
+      → IsWidthWithin tree w k (room tree w height k) most v
+  pub least : IsWidthWithin tree w k (room tree w height k) most
+      (used tree w (own tree k (λ (s : Style). s.min_width) nothing) (room tree w height k))
   pub preferred_least : IsWidthWithin tree w k (room tree w height k) most (preferred tree w k).least
   pub preferred_most : IsWidthWithin tree w k (room tree w height k) most (preferred tree w k).most
-  pub replaced_width : IsWidthWithin tree w k (room tree w height k) most (replaced_size tree w height k (room tree w height k)).width
+  pub replaced_width
+      : IsWidthWithin tree w k (room tree w height k) most (replaced_size tree w height k (room tree w height k)).width
   pub replaced_height : IsSmall most (replaced_size tree w height k (room tree w height k)).height
   pub sides : AreSidesSmall most (verticals tree w k (room tree w height k))
   pub given_height : (h : ℤ) → given_height tree w height k ≡ Some h → IsSmall most h
-  pub least_height : IsSmall most (unwrap_or (height_around tree w (definite_height tree w height k) (least_height tree k)) (pos 0))
+  pub least_height : IsSmall most
+      (unwrap_or (height_around tree w (definite_height tree w height k) (least_height tree k)) (pos 0))

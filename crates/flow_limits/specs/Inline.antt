@@ -19,8 +19,8 @@ use Rattle.flow_limits.specs.Bounds.{Bounds, IsFloatIn, IsLevelIn, IsPlacedIn, I
 abbrev pub IsSmall : ℕ → ℤ → Type 0
 IsSmall s z = unsigned_abs z ≤ s
 
--- An atomic box in a line, whose coordinates stay within `own`, and which a line takes up to `rise` for: where its baseline is
--- above its top, by `turn`, it stands as much farther down.
+-- An atomic box in a line, whose coordinates stay within `own`, and which a line takes up to `rise`
+-- for: where its baseline is above its top, by `turn`, it stands as much farther down.
 pub record IsAtomIn (own rise : Bounds) (s : ℕ) (e : LineExtent) : Type 0 where
   pub turn : ℕ
   pub up : own.up ≤ rise.up + turn

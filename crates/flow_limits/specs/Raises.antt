@@ -14,19 +14,24 @@ use Rattle.layout_semantics.specs.Order.{IsOnPage}
 use Rattle.flow_limits.specs.Boxes.{middle_of}
 
 abbrev pub own_raise : InlineContext → ℕ → ℕ → LineExtent → ℤ
-own_raise c k parent e = raise c (node_of c.tree k) (node_of c.tree parent) e (own c.tree k (λ (s : Style). s.valign) of_valign.Baseline)
+own_raise c k parent e =
+    raise c (node_of c.tree k) (node_of c.tree parent) e (own c.tree k (λ (s : Style). s.valign) of_valign.Baseline)
 
--- what the box around a box adds to its raise: of an inline box, what that is raised at most; any other is the container of the lines
+-- what the box around a box adds to its raise: of an inline box, what that
+-- is raised at most; any other is the container of the lines
 abbrev pub raise_around : BoxTree → (ℕ → ℕ) → ℕ → ℕ
 raise_around tree raises at = if is_inline (kind_of tree at) then raises at else 0
 
--- the raise of a box over the box around it, and what that one is raised at most, is at most this: of an inline box, and of any other but for
--- what its middle makes of its height
+-- the raise of a box over the box around it, and what that one is raised at most, is at most
+-- this: of an inline box, and of any other but for what its middle makes of its height
 pub record AreRaisedBy (tree : BoxTree) (w : World) (raises : ℕ → ℕ) : Type 0 where
-  pub inline : (container : ℕ) (inner : List (Option (Inner ℤ))) (cb : Band ℤ) (k parent : ℕ) → IsOnPage tree.boxes k → parent_of tree.boxes k ≡ Some parent
+  pub inline : (container : ℕ) (inner : List (Option (Inner ℤ))) (cb : Band ℤ) (k parent : ℕ) → IsOnPage tree.boxes k
+      → parent_of tree.boxes k ≡ Some parent
       → let c : InlineContext = record { tree = tree; world = w; container = container; inner = inner; cb = cb } in
-      unsigned_abs (own_raise c k parent (inline_extent tree w (node_of tree k))) + raise_around tree raises parent ≤ raises k
-  pub other : (container : ℕ) (inner : List (Option (Inner ℤ))) (cb : Band ℤ) (k parent : ℕ) (e : LineExtent) → IsOnPage tree.boxes k → parent_of tree.boxes k ≡ Some parent
+      unsigned_abs (own_raise c k parent (inline_extent tree w (node_of tree k)))
+      + raise_around tree raises parent ≤ raises k
+  pub other : (container : ℕ) (inner : List (Option (Inner ℤ))) (cb : Band ℤ) (k parent : ℕ) (e : LineExtent)
+      → IsOnPage tree.boxes k → parent_of tree.boxes k ≡ Some parent
       → let c : InlineContext = record { tree = tree; world = w; container = container; inner = inner; cb = cb } in
       unsigned_abs (own_raise c k parent e -ℤ middle_of c k e) + raise_around tree raises parent ≤ raises k
 

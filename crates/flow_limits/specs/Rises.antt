@@ -9,7 +9,8 @@ use Rattle.flow_limits.specs.Inline.{charge}
 module _ (tree : BoxTree) (own turned : ℕ → Bounds) (s : ℕ) where
   -- a child by itself, and what is in it; a float by its coordinates of its own
   abbrev pub kid_rise : (ℕ → Bounds) → ℕ → Bounds
-  kid_rise inside k = grown (all_around (32 * (s + 1))) (elim (is_floated_at tree k) [ true ↦ own k | false ↦ inside k ])
+  kid_rise inside k =
+      grown (all_around (32 * (s + 1))) (elim (is_floated_at tree k) [ true ↦ own k | false ↦ inside k ])
 
   -- what is in a box: its lines, or its children
   unfoldable pub content_rise_to : ℕ → ℕ → Bounds

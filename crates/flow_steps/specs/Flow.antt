@@ -1,5 +1,5 @@
--- Normal flow with floats in it (CSS 2.1, 8.3.1, 9.4.1, 9.5, 10.6) in the steps of the engine: a run of margins is two numbers, which box is
--- cleared is decided on the way, and a step gives the boxes that it adds.
+-- Normal flow with floats in it (CSS 2.1, 8.3.1, 9.4.1, 9.5, 10.6) in the steps of the engine: a run of margins is
+-- two numbers, which box is cleared is decided on the way, and a step gives the boxes that it adds.
 use Rattle.std.specs.Prelude.{ℕ, zero, suc, ℤ, pos, ◌+ℤ◌, ◌-ℤ◌, Bool, true, false, ◌&&◌, ◌||◌, ◌==◌, cond, List, [], ◌∷◌, ◌++◌, map, fold, length, unwrap_or, Option, Some, None}
 use Rattle.std.specs.Int.{int_max, int_min}
 use Rattle.std.specs.Option.{option_or}
@@ -82,7 +82,9 @@ pub record Laid : Type 0 where
 
 -- the auto height of a box that starts a context (10.6.7)
 abbrev pub context_height : ℤ → Context → ℤ
-context_height top end = greatest_from (pos 0) (map (λ y. y -ℤ top) (next_edge end.standing ∷ map (λ (f : FloatBox). f.box.bottom) end.floats))
+context_height top end =
+    greatest_from (pos 0) (map (λ y. y -ℤ top)
+    (next_edge end.standing ∷ map (λ (f : FloatBox). f.box.bottom) end.floats))
 
 -- of another block, by whether its bottom margin joins its last child's (10.6.3)
 abbrev pub block_height : Bool → ℤ → Standing → ℤ
@@ -103,7 +105,13 @@ line_tops (of_entry.Here p) = cond (is_line p.kind) (p.margin.top ∷ []) []
 line_tops (of_entry.Goes k at) = []
 
 abbrev pub after_lines : Context → LineList → Context
-after_lines s l = record { standing = below l.bottom no_run false; floats = l.floats; least = fold raised s.least (flat_map line_tops l.entries); baseline = l.baseline }
+after_lines s l =
+    record {
+      standing = below l.bottom no_run false;
+      floats = l.floats;
+      least = fold raised s.least (flat_map line_tops l.entries);
+      baseline = l.baseline;
+    }
 
 -- ---- one after another
 
@@ -136,7 +144,9 @@ module _ (tree : BoxTree) (w : World) (height : ℕ) where
   context_box b f end = placed_box tree b f (content_height tree w height b (context_height (content_top f) end))
 
   abbrev pub block_box : ℕ → Frame → Context → Placed ℤ
-  block_box b f end = placed_box tree b f (content_height tree w height b (block_height (joins_last_child tree b) (content_top f) end.standing))
+  block_box b f end =
+      placed_box tree b f (content_height tree w height b
+      (block_height (joins_last_child tree b) (content_top f) end.standing))
 
   -- `content` lays out what is in a box, from a content top and how far the flow has come
   module _ (content : ℕ → Band ℤ → ℤ → Context → Step) where
@@ -186,7 +196,11 @@ module _ (tree : BoxTree) (w : World) (height : ℕ) where
     reached_at cb s b y (Some c) = by_match (c.0 == b)
       where
         by_match : Bool → Reached
-        by_match true = record { top = c.1; clears = true; cleared = cleared_of (run_forward (stands c.1) (is_up_to b) cb s b no_run).end }
+        by_match true = record {
+          top = c.1;
+          clears = true;
+          cleared = cleared_of (run_forward (stands c.1) (is_up_to b) cb s b no_run).end;
+        }
         by_match false = record { top = y; clears = false; cleared = Some c }
 
     abbrev pub reached : Band ℤ → Context → ℕ → Reached
@@ -203,14 +217,27 @@ module _ (tree : BoxTree) (w : World) (height : ℕ) where
 
     -- the context as a box that is opened leaves it: its outer top counts (our own reading of 9.5.1, rule 5)
     abbrev pub opened : Context → Frame → Standing → Context
-    opened s f standing = record { standing = standing; floats = s.floats; baseline = s.baseline; least = raised s.least (int_min f.corner.y (f.corner.y -ℤ f.v.margin_top)) }
+    opened s f standing =
+        record {
+          standing = standing;
+          floats = s.floats;
+          baseline = s.baseline;
+          least = raised s.least (int_min f.corner.y (f.corner.y -ℤ f.v.margin_top));
+        }
 
     -- a box after its content, given whether it collapses through and what of the content's run its bottom margin joins
     abbrev pub closed : Frame → Bool → Run ℤ → Step → Placed ℤ → Laid
-    closed f through run end box = record { through = through; bottom = box.border.bottom; margins = with_margin run f.v.margin_bottom; after = step end.context (box ∷ end.boxes) }
+    closed f through run end box =
+        record {
+          through = through;
+          bottom = box.border.bottom;
+          margins = with_margin run f.v.margin_bottom;
+          after = step end.context (box ∷ end.boxes);
+        }
 
     abbrev pub laid_replaced : ℤ → Context → ℕ → Frame → Laid
-    laid_replaced room s b f = closed f false no_run (step (opened s f (below (content_top f) no_run false)) []) (replaced_box b room f)
+    laid_replaced room s b f =
+        closed f false no_run (step (opened s f (below (content_top f) no_run false)) []) (replaced_box b room f)
 
     -- a context of its own leaves the one around it as it is, but for the last line's baseline
     abbrev pub laid_context : Band ℤ → Context → ℕ → Frame → Laid
@@ -218,19 +245,22 @@ module _ (tree : BoxTree) (w : World) (height : ℕ) where
       where
         by_content : Step → Laid
         by_content end = closed f false no_run
-            (step (record (opened s f end.context.standing) { baseline = option_or end.context.baseline s.baseline }) end.boxes)
+            (step (record (opened s f end.context.standing) { baseline = option_or end.context.baseline s.baseline })
+            end.boxes)
             (context_box b f end.context)
 
     -- any other block goes on with the context, and is at its top where its own lead went into its children
     abbrev pub laid_block : Band ℤ → Context → ℕ → Cleared → Frame → Laid
-    laid_block cb s b cleared f = by_content (content b (content_from cb.left f.x) (content_top f) (opened s f (start (is_open_above tree b))))
+    laid_block cb s b cleared f =
+        by_content (content b (content_from cb.left f.x) (content_top f) (opened s f (start (is_open_above tree b))))
       where
         start : Bool → Standing
         start true = at_top f.corner.y cleared
         start false = below (content_top f) no_run false
 
         by_content : Step → Laid
-        by_content end = closed f (is_at_top end.context.standing && may_collapse_through tree b) (joined_run (joins_last_child tree b) end.context.standing) end
+        by_content end = closed f (is_at_top end.context.standing && may_collapse_through tree b)
+            (joined_run (joins_last_child tree b) end.context.standing) end
             (block_box b f end.context)
 
     abbrev pub laid : Band ℤ → Context → ℕ → Reached → Laid
@@ -245,7 +275,8 @@ module _ (tree : BoxTree) (w : World) (height : ℕ) where
     abbrev pub own_run : Band ℤ → Context → ℕ → Reached → Run ℤ
     own_run cb s b r = elim r.clears [
       | true ↦ (run_forward (stands r.top) (is_up_to b) cb s b no_run).run
-      | false ↦ elim s.standing [ at_top y cleared ↦ no_run | below edge run stuck ↦ (run_forward (hangs edge) none_passed cb s b run).run ]
+      | false ↦ elim s.standing
+          [ at_top y cleared ↦ no_run | below edge run stuck ↦ (run_forward (hangs edge) none_passed cb s b run).run ]
     ]
 
     abbrev pub standing_after : Band ℤ → Standing → ℕ → Run ℤ → Reached → Laid → Standing
@@ -264,7 +295,8 @@ module _ (tree : BoxTree) (w : World) (height : ℕ) where
     flow_child cb s b = by_reached (reached cb s b)
       where
         by_laid : Reached → Laid → Step
-        by_laid r l = step (record l.after.context { standing = standing_after cb s.standing b (own_run cb s b r) r l }) l.after.boxes
+        by_laid r l = step
+            (record l.after.context { standing = standing_after cb s.standing b (own_run cb s b r) r l }) l.after.boxes
 
         by_reached : Reached → Step
         by_reached r = by_laid r (laid cb s b r)
@@ -280,7 +312,8 @@ module _ (tree : BoxTree) (w : World) (height : ℕ) where
 
     -- the outer size of a float or of an atomic inline-level box, with its baseline (10.8.1)
     abbrev pub inner_of : ℕ → Alone → Inner ℤ
-    inner_of k a = by_baseline (is_floated_at tree k || is_replaced_at tree k || own tree k (λ (s : Style). s.clips) false) a.baseline
+    inner_of k a = by_baseline
+        (is_floated_at tree k || is_replaced_at tree k || own tree k (λ (s : Style). s.clips) false) a.baseline
       where
         sized : ℤ → Inner ℤ
         sized above = record { b = k; width = a.size.width; above = above; below = a.size.height -ℤ above }

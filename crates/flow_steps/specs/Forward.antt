@@ -1,5 +1,5 @@
--- The margins that adjoin the top of a box that comes next, joined to a run, and the floats between them, up to the first box that is
--- cleared; which one is, is decided where it is met (CSS 2.1, 8.3.1, 9.5.2).
+-- The margins that adjoin the top of a box that comes next, joined to a run, and the floats between them, up to
+-- the first box that is cleared; which one is, is decided where it is met (CSS 2.1, 8.3.1, 9.5.2).
 use Rattle.std.specs.Prelude.{ℕ, zero, suc, ℤ, Bool, true, false, int_lt, List, [], ◌∷◌, ◌++◌, length, Option, Some, None, unwrap_or}
 use Rattle.std.specs.Option.{option_map_or}
 use Rattle.viz_base.specs.declared.layouts.Band.{Band}
@@ -17,8 +17,8 @@ use Rattle.lay_margin.specs.Runs.{with_margin}
 use Rattle.lay_margin.specs.steps.Leads.{enters, stops, margin_above, margin_below, inner_band, lead_of}
 use Rattle.flow_steps.specs.Runs.{edge_at}
 
--- where it ends: the box's own bottom margin adjoins; at the content, the border or the padding of a box; or at a box that is
--- cleared, with its border edge
+-- where it ends: the box's own bottom margin adjoins; at the content, the border or
+-- the padding of a box; or at a box that is cleared, with its border edge
 pub data End : Type 0 where
   goes_on : End
   solid : End
@@ -56,7 +56,8 @@ closed_found tree b f = elim f.end [
 ]
 
 abbrev pub inside_found : BoxTree → ℕ → Run ℤ → List (Waiting ℤ) → Found → Found
-inside_found tree b own waiting inner = elim (enters tree b) [ true ↦ closed_found tree b inner | false ↦ found own waiting solid ]
+inside_found tree b own waiting inner =
+    elim (enters tree b) [ true ↦ closed_found tree b inner | false ↦ found own waiting solid ]
 
 module _ (tree : BoxTree) (w : World) where
   -- after a child that goes through, its bottom margin
@@ -75,13 +76,15 @@ module _ (tree : BoxTree) (w : World) where
 
   abbrev pub kids_found : (Run ℤ → List (Waiting ℤ) → ℕ → Found) → List ℕ → Run ℤ → List (Waiting ℤ) → Found
   kids_found kid [] run waiting = found run waiting goes_on
-  kids_found kid (k ∷ ks) run waiting = then_on (kid run waiting k) (kids_found kid ks (kid run waiting k).run (kid run waiting k).waiting)
+  kids_found kid (k ∷ ks) run waiting =
+      then_on (kid run waiting k) (kids_found kid ks (kid run waiting k).run (kid run waiting k).waiting)
 
   -- `size` gives the outer sizes of floats; the context has these floats and this greatest top
   module _ (size : Waiting ℤ → Extent ℤ) (base : Base) (floats : List FloatBox) (least : Option ℤ) where
     -- ---- a box with `clear`, reached with this run and these floats that wait
 
-    -- its border edge if it were not cleared: its own top margin and its leading descendants' join, up to the next box with `clear`
+    -- its border edge if it were not cleared: its own top margin and its
+    -- leading descendants' join, up to the next box with `clear`
     unfoldable pub hypothetical_edge : Band ℤ → ℕ → Run ℤ → ℤ
     hypothetical_edge cb b run = edge_at base (lead_of tree w (is_up_to b) cb b run []).run
 
@@ -107,7 +110,8 @@ module _ (tree : BoxTree) (w : World) where
         by_edge y = unwrap_or (bottom_to_clear b waiting y) y
 
     abbrev pub decided : Band ℤ → ℕ → Run ℤ → List (Waiting ℤ) → Option ℤ
-    decided cb b run waiting = elim (is_to_clear cb b run waiting) [ true ↦ Some (clear_edge b run waiting) | false ↦ None ]
+    decided cb b run waiting =
+        elim (is_to_clear cb b run waiting) [ true ↦ Some (clear_edge b run waiting) | false ↦ None ]
 
     -- ---- the way forward; boxes that pass the test count as not cleared
 
@@ -118,11 +122,14 @@ module _ (tree : BoxTree) (w : World) where
         | false ↦ inner
       ]
 
-      abbrev pub inner_step : (Band ℤ → ℕ → Run ℤ → List (Waiting ℤ) → Found) → Band ℤ → ℕ → Run ℤ → List (Waiting ℤ) → Found
+      abbrev pub inner_step : (Band ℤ → ℕ → Run ℤ → List (Waiting ℤ) → Found) → Band ℤ → ℕ → Run ℤ → List (Waiting ℤ)
+          → Found
       inner_step go cb b run waiting = inside_found tree b (with_margin run (margin_above tree w cb b)) waiting
-          (kids_found (kid_of (go (inner_band tree w cb b)) (inner_band tree w cb b)) (flow_children tree b) (with_margin run (margin_above tree w cb b)) waiting)
+          (kids_found (kid_of (go (inner_band tree w cb b)) (inner_band tree w cb b)) (flow_children tree b)
+          (with_margin run (margin_above tree w cb b)) waiting)
 
-      abbrev pub forward_step : (Band ℤ → ℕ → Run ℤ → List (Waiting ℤ) → Found) → Band ℤ → ℕ → Run ℤ → List (Waiting ℤ) → Found
+      abbrev pub forward_step : (Band ℤ → ℕ → Run ℤ → List (Waiting ℤ) → Found) → Band ℤ → ℕ → Run ℤ
+          → List (Waiting ℤ) → Found
       forward_step go cb b run waiting = box_found cb b run waiting (inner_step go cb b run waiting)
 
       -- down to so many levels

@@ -18,7 +18,8 @@ each_before_next test (k ∷ ks) end = test k (next_of ks end) && each_before_ne
 -- a box stands before this place, and so do all in it, down to so many levels
 unfoldable pub is_before_to : ℕ → List BoxNode → ℕ → ℕ → Bool
 is_before_to zero boxes at end = nat_lt at end
-is_before_to (suc levels) boxes at end = nat_lt at end && each_before_next (is_before_to levels boxes) (kids_of boxes at) end
+is_before_to (suc levels) boxes at end = nat_lt at end
+    && each_before_next (is_before_to levels boxes) (kids_of boxes at) end
 
 abbrev pub is_before : List BoxNode → ℕ → ℕ → Bool
 is_before boxes at end = is_before_to (length boxes) boxes at end

@@ -13,9 +13,11 @@ use Rattle.layout_semantics.specs.InlineContent.{is_floated_at, has_line, inner_
 use Rattle.layout_semantics.specs.Flow.{Alone}
 use Rattle.flow_steps.specs.Flow.{alone, content_of}
 
--- what stands in a block container and not in its flow: the floats and atomic boxes of its lines, or the floats between its blocks
+-- what stands in a block container and not in its flow: the floats and
+-- atomic boxes of its lines, or the floats between its blocks
 abbrev pub outside_of : BoxTree → ℕ → List ℕ
-outside_of tree b = elim (has_line tree b) [ true ↦ inner_boxes tree b | false ↦ filter (is_floated_at tree) (flow_children tree b) ]
+outside_of tree b =
+    elim (has_line tree b) [ true ↦ inner_boxes tree b | false ↦ filter (is_floated_at tree) (flow_children tree b) ]
 
 -- ---- the table
 
@@ -28,11 +30,13 @@ laid_at table k = unwrap_or (get_or table k None) nothing_alone
 module _ (tree : BoxTree) (w : World) (height : ℕ) where
   -- with one box more, laid out where its containing block is as wide as the tree says
   abbrev pub with_box : List (Option Alone) → ℕ → List (Option Alone)
-  with_box table k = set table k (Some (alone tree w height (content_of tree w height (laid_at table)) k (room tree w height k)))
+  with_box table k =
+      set table k (Some (alone tree w height (content_of tree w height (laid_at table)) k (room tree w height k)))
 
   -- with those of a box; an inline box is no block container
   abbrev pub with_container : List (Option Alone) → ℕ → List (Option Alone)
-  with_container table b = elim (is_inline (kind_of tree b)) [ true ↦ table | false ↦ fold with_box table (outside_of tree b) ]
+  with_container table b =
+      elim (is_inline (kind_of tree b)) [ true ↦ table | false ↦ fold with_box table (outside_of tree b) ]
 
   -- the band that a box gives those in it, its margin edge being at `left`
   abbrev pub inside_of : ℤ → ℕ → Band ℤ
@@ -49,4 +53,6 @@ module _ (tree : BoxTree) (w : World) (height : ℕ) where
     where
       by_boxes : List BoxNode → List (Placed ℤ)
       by_boxes [] = []
-      by_boxes (root ∷ rest) = (alone tree w height (content_of tree w height (laid_at (table_to (length tree.boxes)))) 0 (pos (64 * w.w))).boxes
+      by_boxes (root ∷ rest) =
+          (alone tree w height (content_of tree w height (laid_at (table_to (length tree.boxes)))) 0
+          (pos (64 * w.w))).boxes

@@ -7,7 +7,9 @@ use Rattle.layout_semantics.specs.Floats.{FloatBox}
 use Rattle.layout_laws.specs.FloatRules.{ObeysRules, IsNoFarther}
 
 -- a place that obeys rules 1 to 7, and than which none that does is higher, nor as high and farther to the side
-pub record IsHighest (floats : List FloatBox) (side : Side) (width : ℤ) (cb : Band ℤ) (top : ℤ) (spot : Spot ℤ) : Type 0 where
+pub record IsHighest (floats : List FloatBox) (side : Side) (width : ℤ) (cb : Band ℤ) (top : ℤ) (spot : Spot ℤ)
+    : Type 0 where
   pub obeys : ObeysRules floats side width cb top spot
   pub none_higher : (other : Spot ℤ) → ObeysRules floats side width cb top other → spot.y ≤ℤ other.y
-  pub none_farther : (other : Spot ℤ) → ObeysRules floats side width cb top other → other.y ≡ spot.y → IsNoFarther side other spot
+  pub none_farther : (other : Spot ℤ) → ObeysRules floats side width cb top other → other.y ≡ spot.y
+      → IsNoFarther side other spot

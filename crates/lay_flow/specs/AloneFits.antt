@@ -26,7 +26,9 @@ module _ (tree : BoxTree) (w : World) (height : ℕ) where
     where
       by : Option ℕ → (ℕ → Type 0) → Type 0
       by None around = AllSmall (pos (64 * w.w) ∷ [])
-      by (Some parent) around = around parent × (is_inline (kind_of tree parent) ≡ false → IsShapeFit tree w height parent (room_to levels tree w height parent))
+      by (Some parent) around = around parent
+          × (is_inline (kind_of tree parent) ≡ false
+          → IsShapeFit tree w height parent (room_to levels tree w height parent))
 
   -- ---- a box
 
@@ -38,7 +40,8 @@ module _ (tree : BoxTree) (w : World) (height : ℕ) where
     pub record RootFits (b : ℕ) (f : Frame) : Type 0 where
       pub frame : IsFrameLow f
       pub own_height : IsHeightFit tree w height b
-      pub inside : WalkFits tree w height apart (before_content b (content_from (pos 0) f.x) (content_top f) (fresh (content_top f)))
+      pub inside : WalkFits tree w height apart
+          (before_content b (content_from (pos 0) f.x) (content_top f) (fresh (content_top f)))
       pub end : IsContextLow (own_end b f)
       pub margin : IsQuadIn near (root_of tree w height b f (own_end b f)).margin
 
@@ -63,11 +66,13 @@ module _ (tree : BoxTree) (w : World) (height : ℕ) where
 
   -- of each box, from the last one on
   abbrev pub TableFits : Type 0
-  TableFits = (done : ℕ) → done < length tree.boxes → ContainerFits (table_to tree w height done) (length tree.boxes - suc done)
+  TableFits = (done : ℕ) → done < length tree.boxes
+      → ContainerFits (table_to tree w height done) (length tree.boxes - suc done)
 
   -- ---- a page
 
   pub record PageComesFit : Type 0 where
     pub table : TableFits
     pub width : AllSmall (pos (64 * w.w) ∷ [])
-    pub root : 0 < length tree.boxes → AloneFits (laid_at (table_to tree w height (length tree.boxes))) 0 (pos (64 * w.w))
+    pub root : 0 < length tree.boxes
+        → AloneFits (laid_at (table_to tree w height (length tree.boxes))) 0 (pos (64 * w.w))

@@ -61,5 +61,6 @@ module _ (tree : BoxTree) (w : World) (height b : ℕ) where
   pub record IsReplacedFit (room : ℤ) : Type 0 where
     pub own : IsHeightFit
     pub width : ReplacedFits tree w height b room
-    pub ratio : AllSmall (by_ratio (replaced_size tree w height b room).width (intrinsic tree b).0 (intrinsic tree b).1 ∷ [])
+    pub ratio : AllSmall
+        (by_ratio (replaced_size tree w height b room).width (intrinsic tree b).0 (intrinsic tree b).1 ∷ [])
     pub tall : IsSmall (2 ^ 90) (replaced_size tree w height b room).height

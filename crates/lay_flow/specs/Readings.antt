@@ -45,7 +45,8 @@ context_at at c e = record {
 -- ---- boxes in coordinates of their own
 
 abbrev pub alone_at : {N : Type 0} → (N → Reading → ℤ) → AloneBox N → Reading → Alone
-alone_at at a e = record { size = extent_at at a.size e; baseline = option_at at a.baseline e; boxes = boxes_at at a.boxes.items e }
+alone_at at a e =
+    record { size = extent_at at a.size e; baseline = option_at at a.baseline e; boxes = boxes_at at a.boxes.items e }
 
 abbrev pub table_at : {N : Type 0} → (N → Reading → ℤ) → List (Option (AloneBox N)) → Reading → List (Option Alone)
 table_at at table e = map (λ o. option_map (λ a. alone_at at a e) o) table
@@ -78,7 +79,13 @@ met_at at m e = (reached_at at m.reached e, run_at at m.own e)
 
 -- a box that is laid out, without the boxes that it adds
 abbrev pub laid_with : {N : Type 0} → (N → Reading → ℤ) → Laid N → Context N → Reading → steps.Laid
-laid_with at l c e = record { through = l.through; bottom = at l.bottom e; margins = run_at at l.margins e; after = steps.step (context_at at c e) [] }
+laid_with at l c e =
+    record {
+      through = l.through;
+      bottom = at l.bottom e;
+      margins = run_at at l.margins e;
+      after = steps.step (context_at at c e) [];
+    }
 
 abbrev pub without_boxes : steps.Laid → steps.Laid
 without_boxes l = record l { after = steps.step l.after.context [] }

@@ -23,8 +23,9 @@ use Rattle.lay_flow.specs.steps.Flow.{block_of, child_of, content_of, frame_of, 
 abbrev pub AllFit : BoxTree → (Reading → Bool) → (Reading → Type 0) → Type 0
 AllFit tree is_open asks = BoxesFit tree is_open × ((e : Reading) → IsTrue (is_open e) → asks e)
 
--- Where a walk stands: before what is in a box, before children one after another, before a child, before one in flow, before it where it is
--- reached, and before it with its frame, where it starts a context or goes on with that around it.
+-- Where a walk stands: before what is in a box, before children one after another,
+-- before a child, before one in flow, before it where it is reached, and before it with
+-- its frame, where it starts a context or goes on with that around it.
 pub data Place : Type 0 where
   before_content : ℕ → Band ℤ → ℤ → Context → Place
   before_children : Band ℤ → ℤ → Context → List ℕ → Place
@@ -78,7 +79,8 @@ module _ (tree : BoxTree) (w : World) (height : ℕ) (apart : ℕ → Alone) whe
     pub record FlowFits (cb : Band ℤ) (s : Context) (b : ℕ) : Type 0 where
       pub reach : ReachFits tree w apart cb s b
       pub standing : IsStandingLow s.standing
-      pub inside : next (when_reached cb s b (reached_of tree w apart cb s b).0.top (reached_of tree w apart cb s b).0.cleared)
+      pub inside : next
+          (when_reached cb s b (reached_of tree w apart cb s b).0.top (reached_of tree w apart cb s b).0.cleared)
       pub band : IsBandLow cb
       pub down : VerticalsFit tree w b (across cb)
       pub top_low : IsLevelLow (reached_of tree w apart cb s b).0.top
@@ -91,8 +93,10 @@ module _ (tree : BoxTree) (w : World) (height : ℕ) (apart : ℕ → Alone) whe
       pub frame : IsFrameLow (frame_in cb b top)
       pub least : AreLevelsLow s.least
       pub replaced : is_replaced_at tree b ≡ true → IsReplacedFit tree w height b (across cb)
-      pub root : is_replaced_at tree b ≡ false → is_context_root tree b ≡ true → next (when_starting cb s b (frame_in cb b top))
-      pub block : is_replaced_at tree b ≡ false → is_context_root tree b ≡ false → next (when_going_on cb s b cleared (frame_in cb b top))
+      pub root : is_replaced_at tree b ≡ false → is_context_root tree b ≡ true
+          → next (when_starting cb s b (frame_in cb b top))
+      pub block : is_replaced_at tree b ≡ false → is_context_root tree b ≡ false
+          → next (when_going_on cb s b cleared (frame_in cb b top))
 
     -- a box around what is in it, from the standing of its first child on
     pub record AroundFits (cb : Band ℤ) (b : ℕ) (f : Frame) (s : Context) (bottom : ℤ) : Type 0 where
@@ -105,11 +109,16 @@ module _ (tree : BoxTree) (w : World) (height : ℕ) (apart : ℕ → Alone) whe
 
     pub record StartFits (cb : Band ℤ) (s : Context) (b : ℕ) (f : Frame) : Type 0 where
       pub least : AreLevelsLow s.least
-      pub around : AroundFits cb b f (fresh (content_top f)) (root_of tree w height b f (inner_end b (content_from cb.left f.x) (content_top f) (fresh (content_top f)))).border.bottom
+      pub around : AroundFits cb b f (fresh (content_top f))
+          (root_of tree w height b f
+          (inner_end b (content_from cb.left f.x) (content_top f) (fresh (content_top f)))).border.bottom
 
     pub record GoOnFits (cb : Band ℤ) (s : Context) (b : ℕ) (cleared : Cleared) (f : Frame) : Type 0 where
       pub least : AreLevelsLow s.least
-      pub around : AroundFits cb b f (opened s f (standing_in tree b cleared f)) (block_of tree w height b f (inner_end b (content_from cb.left f.x) (content_top f) (opened s f (standing_in tree b cleared f)))).border.bottom
+      pub around : AroundFits cb b f (opened s f (standing_in tree b cleared f))
+          (block_of tree w height b f
+          (inner_end b (content_from cb.left f.x) (content_top f)
+          (opened s f (standing_in tree b cleared f)))).border.bottom
 
     abbrev pub PlaceFits : Place → Type 0
     PlaceFits (before_content b cb top s) = ContentFits b cb top s

@@ -38,7 +38,8 @@ IsLeadLow tree w cb b = (band : Band ℤ) (k : ℕ) → LeadsTo tree w cb b band
 -- of boxes in one containing block, where they do not float
 abbrev pub AreKidsLow : BoxTree → World → Band ℤ → List ℕ → Type 0
 AreKidsLow tree w band ks = AllSmall (edges band)
-    × ((i : ℕ) → i < length ks → is_floated_at tree (slice_index_or ks i 0) ≡ false → IsLeadLow tree w band (slice_index_or ks i 0))
+    × ((i : ℕ) → i < length ks → is_floated_at tree (slice_index_or ks i 0) ≡ false
+    → IsLeadLow tree w band (slice_index_or ks i 0))
 
 -- ---- floats that wait
 
@@ -47,8 +48,10 @@ abbrev pub waiting_reach : (Waiting ℤ → Extent ℤ) → List (Waiting ℤ) �
 waiting_reach size [] = 0
 waiting_reach size (f ∷ ws) = unsigned_abs (size f).width + unsigned_abs (size f).height + waiting_reach size ws
 
--- floats that wait, placed one after another from y on behind these: each is low, and however they are put they stay within 2^99
-pub record WaitingFits (size : Waiting ℤ → Extent ℤ) (floats : List FloatBox) (least : Option ℤ) (y : ℤ) (ws : List (Waiting ℤ)) : Type 0 where
+-- floats that wait, placed one after another from y on behind these: each
+-- is low, and however they are put they stay within 2^99
+pub record WaitingFits (size : Waiting ℤ → Extent ℤ) (floats : List FloatBox) (least : Option ℤ) (y : ℤ)
+    (ws : List (Waiting ℤ)) : Type 0 where
   pub most : ℕ
   pub before : AllByRecursion (IsFloatIn (all_around most)) floats
   pub levels : AllByRecursion (IsLevelIn (all_around most)) (levels_of least y)
@@ -70,7 +73,9 @@ pub record IsGoingLow (size : Waiting ℤ → Extent ℤ) (run : Run ℤ) (ws : 
   pub room : waiting_reach size ws ≤ 2 ^ 90
 
 -- whether such a box is cleared can be decided
-pub record IsDecisionLow (tree : BoxTree) (w : World) (size : Waiting ℤ → Extent ℤ) (base : Base) (floats : List FloatBox) (least : Option ℤ) (cb : Band ℤ) (b : ℕ) (run : Run ℤ) (ws : List (Waiting ℤ)) : Type 0 where
+pub record IsDecisionLow (tree : BoxTree) (w : World) (size : Waiting ℤ → Extent ℤ) (base : Base)
+    (floats : List FloatBox) (least : Option ℤ) (cb : Band ℤ) (b : ℕ) (run : Run ℤ) (ws : List (Waiting ℤ))
+    : Type 0 where
   pub ground : IsGroundLow base floats least
   pub lead : IsLeadLow tree w cb b
   pub going : IsGoingLow size run ws
@@ -83,20 +88,27 @@ pub data Stage : Type 0 where
   several : List ℕ → Stage
 
 module _ (tree : BoxTree) (w : World) (go : Band ℤ → ℕ → Run ℤ → List (Waiting ℤ) → Found) where
-  -- from there, in a containing block and with a run and floats that wait, a way comes to a box with a run and floats that wait
+  -- from there, in a containing block and with a run and floats that wait,
+  -- a way comes to a box with a run and floats that wait
   pub data ComesTo : Band ℤ → Stage → Run ℤ → List (Waiting ℤ) → Run ℤ → List (Waiting ℤ) → Type 0 where
     here : {cb : Band ℤ} {b : ℕ} {run : Run ℤ} {ws : List (Waiting ℤ)} → ComesTo cb (one b) run ws run ws
-    inside : {cb : Band ℤ} {b : ℕ} {run : Run ℤ} {ws : List (Waiting ℤ)} {end : Run ℤ} {all : List (Waiting ℤ)} → enters tree b ≡ true
-        → ComesTo (inner_band tree w cb b) (several (flow_children tree b)) (with_margin run (margin_above tree w cb b)) ws end all → ComesTo cb (one b) run ws end all
-    first : {cb : Band ℤ} {k : ℕ} {ks : List ℕ} {run : Run ℤ} {ws : List (Waiting ℤ)} {end : Run ℤ} {all : List (Waiting ℤ)} → is_floated_at tree k ≡ false
+    inside : {cb : Band ℤ} {b : ℕ} {run : Run ℤ} {ws : List (Waiting ℤ)} {end : Run ℤ} {all : List (Waiting ℤ)}
+        → enters tree b ≡ true
+        → ComesTo (inner_band tree w cb b) (several (flow_children tree b))
+        (with_margin run (margin_above tree w cb b)) ws end all → ComesTo cb (one b) run ws end all
+    first : {cb : Band ℤ} {k : ℕ} {ks : List ℕ} {run : Run ℤ} {ws : List (Waiting ℤ)} {end : Run ℤ}
+        {all : List (Waiting ℤ)} → is_floated_at tree k ≡ false
         → ComesTo cb (one k) run ws end all → ComesTo cb (several (k ∷ ks)) run ws end all
-    later : {cb : Band ℤ} {k : ℕ} {ks : List ℕ} {run : Run ℤ} {ws : List (Waiting ℤ)} {end : Run ℤ} {all : List (Waiting ℤ)} → (kid_of tree w (go cb) cb run ws k).end ≡ goes_on
-        → ComesTo cb (several ks) (kid_of tree w (go cb) cb run ws k).run (kid_of tree w (go cb) cb run ws k).waiting end all → ComesTo cb (several (k ∷ ks)) run ws end all
+    later : {cb : Band ℤ} {k : ℕ} {ks : List ℕ} {run : Run ℤ} {ws : List (Waiting ℤ)} {end : Run ℤ}
+        {all : List (Waiting ℤ)} → (kid_of tree w (go cb) cb run ws k).end ≡ goes_on
+        → ComesTo cb (several ks) (kid_of tree w (go cb) cb run ws k).run (kid_of tree w (go cb) cb run ws k).waiting
+        end all → ComesTo cb (several (k ∷ ks)) run ws end all
 
   module _ (size : Waiting ℤ → Extent ℤ) (base : Base) (floats : List FloatBox) (least : Option ℤ) where
     -- wherever it comes to, runs and floats that wait are low
     abbrev pub IsWayLow : Band ℤ → Stage → Run ℤ → List (Waiting ℤ) → Type 0
-    IsWayLow cb stage run ws = (end : Run ℤ) (all : List (Waiting ℤ)) → ComesTo cb stage run ws end all → IsGoingLow size end all
+    IsWayLow cb stage run ws = (end : Run ℤ) (all : List (Waiting ℤ)) → ComesTo cb stage run ws end all
+        → IsGoingLow size end all
 
     -- from a box
     pub record WayFits (cb : Band ℤ) (b : ℕ) (run : Run ℤ) (ws : List (Waiting ℤ)) : Type 0 where
@@ -120,18 +132,22 @@ module _ (tree : BoxTree) (w : World) (go : Band ℤ → ℕ → Run ℤ → Lis
 module _ (tree : BoxTree) (w : World) (apart : ℕ → Alone) (cb : Band ℤ) (s : Context) (b : ℕ) where
   -- the way from a box in a context
   abbrev pub ForwardFits : Base → (ℕ → Bool) → Run ℤ → Type 0
-  ForwardFits base passed run = WayFits tree w (way_in tree w apart base s.floats s.least passed) (size_in apart) base s.floats s.least cb b run []
+  ForwardFits base passed run =
+      WayFits tree w (way_in tree w apart base s.floats s.least passed) (size_in apart) base s.floats s.least cb b run
+      []
 
   -- by the cleared box ahead: where it is this one, its own way begins at its edge
   abbrev pub FromFits : Cleared → Type 0
-  FromFits cleared = IsClearedLow cleared × ((edge : ℤ) → cleared ≡ Some (b, edge) → ForwardFits (stands edge) (is_up_to b) no_run)
+  FromFits cleared = IsClearedLow cleared
+      × ((edge : ℤ) → cleared ≡ Some (b, edge) → ForwardFits (stands edge) (is_up_to b) no_run)
 
   abbrev found_from : ℤ → Run ℤ → Found
   found_from edge run = way_in tree w apart (hangs edge) s.floats s.least none_passed cb b run []
 
   abbrev pub StandingFits : Standing → Type 0
   StandingFits (at_top y cleared) = IsLevelLow y × FromFits cleared
-  StandingFits (below edge run stuck) = IsLevelLow edge × IsRunLow run × ForwardFits (hangs edge) none_passed run × IsRunLow (found_from edge run).run × FromFits (cleared_of (found_from edge run).end)
+  StandingFits (below edge run stuck) = IsLevelLow edge × IsRunLow run × ForwardFits (hangs edge) none_passed run
+      × IsRunLow (found_from edge run).run × FromFits (cleared_of (found_from edge run).end)
 
   abbrev pub ReachFits : Type 0
   ReachFits = StandingFits s.standing

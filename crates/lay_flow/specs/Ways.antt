@@ -25,8 +25,10 @@ module _ {N : Type 0} (at : N → Reading → ℤ) (x : Way N) (e : Reading) whe
 
   -- from a box that is not cleared
   abbrev pub inner_at : Band ℤ → ℕ → Run ℤ → List (Waiting ℤ) → Found
-  inner_at cb b run waiting = forward.inner_step x.page.now.tree.now e.world (size_in (apart_at at x.page.now.apart.now e))
-      (base_at at x.base.now e) (boxes_at at x.floats.now e) (option_at at x.least.now e) (passed_by x.past) way_at cb b run waiting
+  inner_at cb b run waiting =
+      forward.inner_step x.page.now.tree.now e.world (size_in (apart_at at x.page.now.apart.now e))
+      (base_at at x.base.now e) (boxes_at at x.floats.now e) (option_at at x.least.now e) (passed_by x.past) way_at cb
+      b run waiting
 
   -- through one box of a container
   abbrev pub kid_at : Band ℤ → ℕ → Run ℤ → List (Waiting ℤ) → Found
@@ -34,7 +36,9 @@ module _ {N : Type 0} (at : N → Reading → ℤ) (x : Way N) (e : Reading) whe
 
   -- and through boxes one after another
   abbrev pub kids_at_reading : Band ℤ → List ℕ → Run ℤ → List (Waiting ℤ) → Found
-  kids_at_reading cb ks run waiting = forward.kids_found x.page.now.tree.now e.world (forward.kid_of x.page.now.tree.now e.world (way_at cb) cb) ks run waiting
+  kids_at_reading cb ks run waiting =
+      forward.kids_found x.page.now.tree.now e.world (forward.kid_of x.page.now.tree.now e.world (way_at cb) cb) ks
+      run waiting
 
 -- where the margins end, by where those in a box do
 abbrev pub closed_end : {N : Type 0} → BoxTree → ℕ → End N → End N
@@ -48,13 +52,17 @@ module _ {N : Type 0} (at : N → Reading → ℤ) (x : Way N) (e : Reading) whe
 
   -- what is computed on it fits
   abbrev pub DecisionFitsAt : Band ℤ → ℕ → Run ℤ → List (Waiting ℤ) → Type 0
-  DecisionFitsAt = IsDecisionLow x.page.now.tree.now e.world size (base_at at x.base.now e) (boxes_at at x.floats.now e) (option_at at x.least.now e)
+  DecisionFitsAt = IsDecisionLow x.page.now.tree.now e.world size (base_at at x.base.now e)
+      (boxes_at at x.floats.now e) (option_at at x.least.now e)
 
   abbrev pub WayFitsAt : Band ℤ → ℕ → Run ℤ → List (Waiting ℤ) → Type 0
-  WayFitsAt = WayFits x.page.now.tree.now e.world (way_at at x e) size (base_at at x.base.now e) (boxes_at at x.floats.now e) (option_at at x.least.now e)
+  WayFitsAt = WayFits x.page.now.tree.now e.world (way_at at x e) size (base_at at x.base.now e)
+      (boxes_at at x.floats.now e) (option_at at x.least.now e)
 
   abbrev pub KidsFitAt : Band ℤ → List ℕ → Run ℤ → List (Waiting ℤ) → Type 0
-  KidsFitAt = KidsFit x.page.now.tree.now e.world (way_at at x e) size (base_at at x.base.now e) (boxes_at at x.floats.now e) (option_at at x.least.now e)
+  KidsFitAt = KidsFit x.page.now.tree.now e.world (way_at at x e) size (base_at at x.base.now e)
+      (boxes_at at x.floats.now e) (option_at at x.least.now e)
 
   abbrev pub KidFitsAt : Band ℤ → ℕ → Run ℤ → List (Waiting ℤ) → Type 0
-  KidFitsAt = KidFits x.page.now.tree.now e.world (way_at at x e) size (base_at at x.base.now e) (boxes_at at x.floats.now e) (option_at at x.least.now e)
+  KidFitsAt = KidFits x.page.now.tree.now e.world (way_at at x e) size (base_at at x.base.now e)
+      (boxes_at at x.floats.now e) (option_at at x.least.now e)

@@ -1,4 +1,5 @@
--- The exact values on the way to a box and its rectangles: a calc may report a coefficient past its limit where one of them passes it.
+-- The exact values on the way to a box and its rectangles: a calc may
+-- report a coefficient past its limit where one of them passes it.
 use Rattle.std.specs.Prelude.{ℤ, pos, ◌+ℤ◌, List, [], ◌∷◌}
 use Rattle.viz_base.specs.declared.layouts.Widths.{Widths}
 use Rattle.viz_base.specs.declared.renderings.Quad.{Quad}
@@ -37,8 +38,11 @@ AroundFits x v border =
     × (AllSmall (quad_way (outset border x.margin_left v.margin_top x.margin_right v.margin_bottom))
     × (AllSmall (x.border_left ∷ v.border_top ∷ x.border_right ∷ v.border_bottom ∷ [])
     × (AllSmall (quad_way (inset border x.border_left v.border_top x.border_right v.border_bottom))
-    × (AllSmall ((x.border_left +ℤ x.padding_left) ∷ (v.border_top +ℤ v.padding_top) ∷ (x.border_right +ℤ x.padding_right) ∷ (v.border_bottom +ℤ v.padding_bottom) ∷ [])
-    × AllSmall (quad_way (inset border (x.border_left +ℤ x.padding_left) (v.border_top +ℤ v.padding_top) (x.border_right +ℤ x.padding_right) (v.border_bottom +ℤ v.padding_bottom)))))))
+    × (AllSmall ((x.border_left +ℤ x.padding_left) ∷ (v.border_top +ℤ v.padding_top)
+    ∷ (x.border_right +ℤ x.padding_right) ∷ (v.border_bottom +ℤ v.padding_bottom) ∷ [])
+    × AllSmall (quad_way
+    (inset border (x.border_left +ℤ x.padding_left) (v.border_top +ℤ v.padding_top)
+    (x.border_right +ℤ x.padding_right) (v.border_bottom +ℤ v.padding_bottom)))))))
 
 -- the border box of a box with its content so high
 abbrev pub border_of : Frame → ℤ → Quad ℤ
@@ -51,7 +55,8 @@ border_of f content = record {
 
 abbrev pub BorderFits : Frame → ℤ → Type 0
 BorderFits f content =
-    AllSmall (f.corner.x ∷ f.corner.y ∷ []) × (AllSmall (width_way f.x) × (AllSmall ((f.corner.x +ℤ border_width f.x) ∷ [])
+    AllSmall (f.corner.x ∷ f.corner.y ∷ [])
+    × (AllSmall (width_way f.x) × (AllSmall ((f.corner.x +ℤ border_width f.x) ∷ [])
     × (AllSmall (tall_way f.v content) × AllSmall ((f.corner.y +ℤ border_height f.v content) ∷ []))))
 
 abbrev pub PlaceFits : Frame → ℤ → Type 0

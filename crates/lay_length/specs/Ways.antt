@@ -18,7 +18,8 @@ use Rattle.layout_semantics.specs.Lengths.{used}
 unfoldable pub size_way_to : ℕ → List Style → List (Option ℕ) → ℕ → ℕ → List ℤ
 size_way_to zero styles parents s node = []
 size_way_to (suc levels) styles parents s node =
-    default_size s ∷ font_size_in styles parents s node ∷ option_map_or (size_way_to levels styles parents s) (parent_in parents node) []
+    default_size s ∷ font_size_in styles parents s node
+    ∷ option_map_or (size_way_to levels styles parents s) (parent_in parents node) []
 
 abbrev pub size_way_in : List Style → List (Option ℕ) → ℕ → ℕ → List ℤ
 size_way_in styles parents s node = size_way_to (suc node) styles parents s node

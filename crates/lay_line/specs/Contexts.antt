@@ -13,4 +13,11 @@ abbrev pub table_at : {N : Type 0} → (N → Reading → ℤ) → List (Option 
 table_at at table e = map (λ o. option_map (λ i. inner_at at i e) o) table
 
 unfoldable pub context_at : {N : Type 0} → (N → Reading → ℤ) → Container N → Reading → InlineContext
-context_at at c e = record { tree = c.tree.now; world = e.world; container = c.at; inner = table_at at c.inner.now e; cb = stretch_at at c.cb.now e }
+context_at at c e =
+    record {
+      tree = c.tree.now;
+      world = e.world;
+      container = c.at;
+      inner = table_at at c.inner.now e;
+      cb = stretch_at at c.cb.now e;
+    }

@@ -44,7 +44,8 @@ BoxesReach c = (at : ℕ) → ReachFits c at
 
 -- the edges of each of these are at most m in size
 abbrev pub FloatsWithin : ℕ → List FloatBox → Type 0
-FloatsWithin m floats = (f : FloatBox) → Contains floats f → AllWithin m (f.box.left ∷ f.box.top ∷ f.box.right ∷ f.box.bottom ∷ [])
+FloatsWithin m floats = (f : FloatBox) → Contains floats f
+    → AllWithin m (f.box.left ∷ f.box.top ∷ f.box.right ∷ f.box.bottom ∷ [])
 
 -- how much farther than what stands already floats can reach
 abbrev pub float_reach : InlineContext → ℕ → ℕ
@@ -54,8 +55,8 @@ abbrev pub floats_reach : InlineContext → List ℕ → ℕ
 floats_reach c [] = 0
 floats_reach c (at ∷ boxes) = float_reach c at + floats_reach c boxes
 
--- floats of lines placed one after another, from y on and with no top above `least`: however they are put side by side or below one another
--- they stay within 2^99
+-- floats of lines placed one after another, from y on and with no top above `least`:
+-- however they are put side by side or below one another they stay within 2^99
 pub record PlacesFit (c : InlineContext) (floats : List FloatBox) (least y : ℤ) (boxes : List ℕ) : Type 0 where
   pub most : ℕ
   pub floats_within : FloatsWithin most floats

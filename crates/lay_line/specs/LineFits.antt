@@ -39,9 +39,11 @@ pub record BoxFits (c : InlineContext) (at : ℕ) : Type 0 where
   pub padding : EdgesFit c (paddings c.tree at)
   pub border : EdgesFit c (borders c.tree at)
   pub margin : EdgesFit c (margins c.tree at)
-  pub heights : AllWithin (2 ^ 90) (text_raised c at ∷ inline_raised c at ∷ raised c at (own_reach c at) ∷ (own_reach c at).above
+  pub heights : AllWithin (2 ^ 90)
+      (text_raised c at ∷ inline_raised c at ∷ raised c at (own_reach c at) ∷ (own_reach c at).above
       ∷ ascent c.tree c.world (node_of c.tree at) ∷ descent c.tree c.world (node_of c.tree at) ∷ [])
-  pub edges : EdgesWithin c (paddings c.tree at) × (EdgesWithin c (borders c.tree at) × EdgesWithin c (margins c.tree at))
+  pub edges : EdgesWithin c (paddings c.tree at)
+      × (EdgesWithin c (borders c.tree at) × EdgesWithin c (margins c.tree at))
 
 abbrev pub BoxesFit : InlineContext → Type 0
 BoxesFit c = (at : ℕ) → BoxFits c at

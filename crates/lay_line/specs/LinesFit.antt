@@ -26,10 +26,13 @@ FirstFits c slot met first =
 
 -- ---- a line ends
 
--- having begun at y with n floats, it holds these items: its numbers, the floats met, those that wait, and those that it has if it doesn't exist
-pub record EndFits (c : InlineContext) (y least : ℤ) (n : ℕ) (slot : Slot) (f : Load) (items : List Measured) : Type 0 where
+-- having begun at y with n floats, it holds these items: its numbers, the
+-- floats met, those that wait, and those that it has if it doesn't exist
+pub record EndFits (c : InlineContext) (y least : ℤ) (n : ℕ) (slot : Slot) (f : Load) (items : List Measured)
+    : Type 0 where
   pub boxes : BoxesFit c
-  pub numbers : AllWithin (2 ^ 95) (c.cb.left ∷ c.cb.right ∷ least ∷ slot.top ∷ slot.tall ∷ f.extent.above ∷ f.extent.below ∷ f.held.width ∷ [])
+  pub numbers : AllWithin (2 ^ 95)
+      (c.cb.left ∷ c.cb.right ∷ least ∷ slot.top ∷ slot.tall ∷ f.extent.above ∷ f.extent.below ∷ f.held.width ∷ [])
   pub floats : FloatsWithin (2 ^ 95) f.met.floats
   pub waiting : floats_reach c f.met.waiting ≤ 2 ^ 95
   pub spots : SpotsOnLine f.met.spots
@@ -38,8 +41,8 @@ pub record EndFits (c : InlineContext) (y least : ℤ) (n : ℕ) (slot : Slot) (
 
 -- ---- line by line
 
--- with these pieces still to come: each line is at most twice as high as a box reaches, and each float is as far from those before it as it is wide
--- and high, so that all stay within 2^95
+-- with these pieces still to come: each line is at most twice as high as a box reaches, and each float
+-- is as far from those before it as it is wide and high, so that all stay within 2^95
 pub record RestFits (c : InlineContext) (tall : ℤ) (now : SoFar) (pieces : List Measured) : Type 0 where
   pub boxes : BoxesFit c
   pub strut : InlineFits c.tree c.world (node_of c.tree c.container)
@@ -57,4 +60,5 @@ pub record RestFits (c : InlineContext) (tall : ℤ) (now : SoFar) (pieces : Lis
 -- all lines, from y on and beside these floats
 pub record LinesFit (c : InlineContext) (y least : ℤ) (floats : List FloatBox) : Type 0 where
   pub widths : AllByRecursion (WidthFits c) (content c.tree c.container)
-  pub rest : RestFits c (tallest_by c (content c.tree c.container)) (before_all y least floats) (measured (width_in c) (content c.tree c.container))
+  pub rest : RestFits c (tallest_by c (content c.tree c.container)) (before_all y least floats)
+      (measured (width_in c) (content c.tree c.container))

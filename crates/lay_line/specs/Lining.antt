@@ -33,23 +33,47 @@ set_by at x pieces e = record {
 
 -- those that wait are placed from the line's bottom on
 abbrev pub late_in : InlineContext → ℤ → ℤ → filling.Met → filling.Met
-late_in c least y met = placed_all c least y (record { spots = met.spots; floats = met.floats; waiting = [] }) met.waiting
+late_in c least y met =
+    placed_all c least y (record { spots = met.spots; floats = met.floats; waiting = [] }) met.waiting
 
 -- where a line begins
 abbrev pub so_far_at : {N : Type 0} → (N → Reading → ℤ) → SoFar N → Reading → lines.SoFar
-so_far_at at s e = record { y = at s.y e; least = at s.least e; floats = floats_at at s.floats e; opened = s.opened.items; baseline = option_at at s.baseline e }
+so_far_at at s e =
+    record {
+      y = at s.y e;
+      least = at s.least e;
+      floats = floats_at at s.floats e;
+      opened = s.opened.items;
+      baseline = option_at at s.baseline e;
+    }
 
 -- the same with these floats
 abbrev pub begun_at : {N : Type 0} → (N → Reading → ℤ) → Begun N → List FloatBox → Reading → lines.SoFar
-begun_at at b floats e = record { y = at b.y e; least = at b.least e; floats = floats; opened = b.opened.items; baseline = option_at at b.baseline e }
+begun_at at b floats e =
+    record {
+      y = at b.y e;
+      least = at b.least e;
+      floats = floats;
+      opened = b.opened.items;
+      baseline = option_at at b.baseline e;
+    }
 
 -- the next line, and the stretches behind it
-abbrev pub next_of : {N : Type 0} → (N → Reading → ℤ) → Frame N → SoFar N → Cut N → Reading → lines.LaidLines × List (List Measured)
-next_of at f now cut e = next_in (context_at at f.container.now e) (at f.tall e) (so_far_at at now e) (pieces_at at cut.first.now e) (parts_at at cut.rest e)
+abbrev pub next_of : {N : Type 0} → (N → Reading → ℤ) → Frame N → SoFar N → Cut N → Reading → lines.LaidLines
+    × List (List Measured)
+next_of at f now cut e =
+    next_in (context_at at f.container.now e) (at f.tall e) (so_far_at at now e) (pieces_at at cut.first.now e)
+    (parts_at at cut.rest e)
 
 -- lines, with the floats of the context behind them
 abbrev pub list_at : {N : Type 0} → (N → Reading → ℤ) → Lines N → Floats N → Reading → lines.LineList
-list_at at l floats e = record { entries = entries_at at l.entries e; bottom = at l.bottom e; baseline = option_at at l.baseline e; floats = floats_at at floats e }
+list_at at l floats e =
+    record {
+      entries = entries_at at l.entries e;
+      bottom = at l.bottom e;
+      baseline = option_at at l.baseline e;
+      floats = floats_at at floats e;
+    }
 
 abbrev pub laid_at : {N : Type 0} → (N → Reading → ℤ) → Laid N → Reading → lines.LineList
 laid_at at l e = list_at at l.lines l.floats e

@@ -55,7 +55,11 @@ abbrev pub spots_at : {N : Type 0} → (N → Reading → ℤ) → List (ℕ × 
 spots_at at ss e = map (λ s. (s.0, spot_at at s.1 e)) ss
 
 abbrev pub met_at : {N : Type 0} → (N → Reading → ℤ) → Met N → Reading → filling.Met
-met_at at m e = record { spots = spots_at at m.spots.items e; floats = floats_at at m.floats e; waiting = m.waiting.items }
+met_at at m e = record {
+  spots = spots_at at m.spots.items e;
+  floats = floats_at at m.floats e;
+  waiting = m.waiting.items;
+}
 
 abbrev pub slot_at : {N : Type 0} → (N → Reading → ℤ) → Slot N → Reading → meeting.Slot
 slot_at at s e = record { top = at s.top e; tall = at s.tall e; least = at s.least e }
@@ -97,5 +101,6 @@ abbrev pub entries_at : {N : Type 0} → (N → Reading → ℤ) → List (Entry
 entries_at at es e = map (λ x. entry_at at x e) es
 
 -- a place that is lent, where there is one
-abbrev pub before_at : {N : Type 0} → (N → Reading → ℤ) → Option (Bor (ItemPlace N)) → Reading → Option fragments.ItemPlace
+abbrev pub before_at : {N : Type 0} → (N → Reading → ℤ) → Option (Bor (ItemPlace N)) → Reading
+    → Option fragments.ItemPlace
 before_at at p e = option_map (λ q. place_at at q.now e) p

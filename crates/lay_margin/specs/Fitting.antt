@@ -30,22 +30,25 @@ MarginFits tree w length cb = AllSmall (across cb ∷ []) × UsedFits tree w len
 
 -- to the containing block of the boxes in a block
 abbrev pub InsideFits : BoxTree → World → Band ℤ → ℕ → Type 0
-InsideFits tree w cb b = AllSmall (across cb ∷ []) × (BlockFits tree w b (across cb) × AllSmall (content_way cb.left (flow_widths tree w b (across cb))))
+InsideFits tree w cb b = AllSmall (across cb ∷ [])
+    × (BlockFits tree w b (across cb) × AllSmall (content_way cb.left (flow_widths tree w b (across cb))))
 
--- of a box in its containing block, which itself fits: to its margins above and below, and to the containing block of the boxes
--- in it where margins go on inside
+-- of a box in its containing block, which itself fits: to its margins above and below,
+-- and to the containing block of the boxes in it where margins go on inside
 pub record BoxFits (tree : BoxTree) (w : World) (cb : Band ℤ) (b : ℕ) : Type 0 where
   pub band : AllSmall (edges cb)
   pub top : MarginFits tree w (margins tree b).top cb
   pub bottom : MarginFits tree w (margins tree b).bottom cb
   pub inside : enters tree b ≡ true → InsideFits tree w cb b
 
--- from a box in its containing block to a box in its own: margins that adjoin the top of the first may go on to the second
+-- from a box in its containing block to a box in its own: margins that
+-- adjoin the top of the first may go on to the second
 pub data LeadsTo (tree : BoxTree) (w : World) : Band ℤ → ℕ → Band ℤ → ℕ → Type 0 where
   itself : (cb : Band ℤ) (b : ℕ) → LeadsTo tree w cb b cb b
   inside : (cb band : Band ℤ) (b i k : ℕ) → enters tree b ≡ true → i < length (flow_children tree b)
       → is_floated_at tree (slice_index_or (flow_children tree b) i 0) ≡ false
-      → LeadsTo tree w (block_band tree w cb b) (slice_index_or (flow_children tree b) i 0) band k → LeadsTo tree w cb b band k
+      → LeadsTo tree w (block_band tree w cb b) (slice_index_or (flow_children tree b) i 0) band k
+      → LeadsTo tree w cb b band k
 
 -- of each of these boxes
 abbrev pub LeadFits : BoxTree → World → Band ℤ → ℕ → Type 0
@@ -54,4 +57,5 @@ LeadFits tree w cb b = (band : Band ℤ) (k : ℕ) → LeadsTo tree w cb b band 
 -- of boxes in one containing block, where they do not float
 abbrev pub KidsFit : BoxTree → World → Band ℤ → List ℕ → Type 0
 KidsFit tree w band ks = AllSmall (edges band)
-    × ((i : ℕ) → i < length ks → is_floated_at tree (slice_index_or ks i 0) ≡ false → LeadFits tree w band (slice_index_or ks i 0))
+    × ((i : ℕ) → i < length ks → is_floated_at tree (slice_index_or ks i 0) ≡ false
+    → LeadFits tree w band (slice_index_or ks i 0))

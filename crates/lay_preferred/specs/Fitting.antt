@@ -1,4 +1,5 @@
--- The exact values on the way to preferred widths: a calc may report a coefficient past its limit where one of them passes it.
+-- The exact values on the way to preferred widths: a calc may report a
+-- coefficient past its limit where one of them passes it.
 use Rattle.std.specs.Prelude.{◌≤◌, ◌<◌, ℕ, ◌+◌, ◌*◌, ◌^◌, ℤ, pos, ◌+ℤ◌, unsigned_abs, Bool, IsTrue, List, [], ◌∷◌, length, map, sum, Option, Some, None}
 use Rattle.std.specs.List.{AllByRecursion}
 use Rattle.viz_base.specs.declared.layouts.Preferred.{Preferred}
@@ -29,7 +30,8 @@ use Rattle.lay_preferred.specs.steps.Parts.{Sized, width_of}
 
 -- to a margin, border and padding in front of others
 abbrev pub side_way : ℤ → ℤ → ℤ → ℤ → List ℤ
-side_way margin border padding rest = (padding +ℤ rest) ∷ (border +ℤ (padding +ℤ rest)) ∷ (margin +ℤ (border +ℤ (padding +ℤ rest))) ∷ []
+side_way margin border padding rest = (padding +ℤ rest) ∷ (border +ℤ (padding +ℤ rest))
+    ∷ (margin +ℤ (border +ℤ (padding +ℤ rest))) ∷ []
 
 abbrev pub SideFits : BoxTree → World → Length → Length → Length → ℤ → Type 0
 SideFits tree w margin border padding rest =
@@ -51,18 +53,21 @@ abbrev pub AroundFits : BoxTree → World → ℕ → ℤ → Type 0
 AroundFits tree w at x = HoldFits tree w at (pos 0) × (EdgesFit tree w at × AllSmall (with_edges tree w at x ∷ []))
 
 abbrev pub GivenFits : BoxTree → World → ℕ → Type 0
-GivenFits tree w at = UsedFits tree w (own_width tree at) (pos 0) × AroundFits tree w at (edge tree w (own_width tree at))
+GivenFits tree w at = UsedFits tree w (own_width tree at) (pos 0)
+    × AroundFits tree w at (edge tree w (own_width tree at))
 
 abbrev pub own_height : BoxTree → ℕ → Length
 own_height tree at = own tree at (λ (s : Style). s.height) of_length.Auto
 
 -- to the width of a replaced box
 abbrev pub ByHeightFits : BoxTree → World → ℕ → Type 0
-ByHeightFits tree w at = UsedFits tree w (own_height tree at) (pos 0) × RatioFits (intrinsic tree at) (used_if_absolute tree w (own_height tree at))
+ByHeightFits tree w at = UsedFits tree w (own_height tree at) (pos 0)
+    × RatioFits (intrinsic tree at) (used_if_absolute tree w (own_height tree at))
 
 abbrev pub ReplacedFits : BoxTree → World → ℕ → Type 0
 ReplacedFits tree w at =
-    UsedFits tree w (own_width tree at) (pos 0) × (ByHeightFits tree w at × (HoldFits tree w at (pos 0) × AllSmall ((replaced tree w at).least ∷ [])))
+    UsedFits tree w (own_width tree at) (pos 0)
+    × (ByHeightFits tree w at × (HoldFits tree w at (pos 0) × AllSmall ((replaced tree w at).least ∷ [])))
 
 -- to the width of a text
 abbrev pub TextFits : BoxTree → World → ℕ → List ℕ → Type 0
@@ -124,7 +129,8 @@ pub record LengthsFit (tree : BoxTree) (w : World) (most at : ℕ) : Type 0 wher
   pub least : LengthFits tree w most (own tree at (λ (s : Style). s.min_width) nothing)
   pub greatest : MaximumFits tree w most (own tree at (λ (s : Style). s.max_width) None)
   pub height : LengthFits tree w most (own_height tree at)
-  pub by_height : unsigned_abs (tentative (intrinsic tree at) None (used_if_absolute tree w (own_height tree at))) ≤ most
+  pub by_height : unsigned_abs (tentative (intrinsic tree at) None (used_if_absolute tree w (own_height tree at))) ≤
+      most
 
 -- words and spaces fit
 abbrev pub WordFits : BoxTree → World → Item → Type 0
@@ -158,7 +164,8 @@ pub record BoxesFit (tree : BoxTree) (is_open : Reading → Bool) : Type 0 where
   pub lengths : ℕ → ℕ
   pub cap : ℕ → ℕ
   pub most : (at : ℕ) → at < length tree.boxes → cap at ≤ 2 ^ 90
-  pub boxes : (e : Reading) → IsTrue (is_open e) → (at : ℕ) → at < length tree.boxes → BoxFits tree e.world lengths cap at
+  pub boxes : (e : Reading) → IsTrue (is_open e) → (at : ℕ) → at < length tree.boxes
+      → BoxFits tree e.world lengths cap at
 
 -- both widths are at most so large
 abbrev pub AreWithin : ℕ → Preferred ℤ → Type 0
@@ -174,5 +181,7 @@ pub record WholeTextFits (tree : BoxTree) (w : World) (most at : ℕ) : Type 0 w
 -- a tree of at most 16,384 boxes; the lengths of each are at most 2^41 units, and so is its text
 pub record AreSmallBoxes (tree : BoxTree) (is_open : Reading → Bool) : Type 0 where
   pub few_boxes : length tree.boxes ≤ 16384
-  pub lengths : (e : Reading) → IsTrue (is_open e) → (at : ℕ) → at < length tree.boxes → LengthsFit tree e.world (2 ^ 41) at
-  pub texts : (e : Reading) → IsTrue (is_open e) → (at : ℕ) → at < length tree.boxes → WholeTextFits tree e.world (2 ^ 41) at
+  pub lengths : (e : Reading) → IsTrue (is_open e) → (at : ℕ) → at < length tree.boxes
+      → LengthsFit tree e.world (2 ^ 41) at
+  pub texts : (e : Reading) → IsTrue (is_open e) → (at : ℕ) → at < length tree.boxes
+      → WholeTextFits tree e.world (2 ^ 41) at

@@ -13,7 +13,8 @@ use Rattle.lay_preferred.specs.declared.columns.Column.{Column}
 use Rattle.lay_preferred.specs.steps.Parts.{Sized}
 
 abbrev pub column_at : {N : Type 0} → (N → Reading → ℤ) → Column N → Reading → Column ℤ
-column_at at c e = record { least = option_at at c.least e; most = option_at at c.most e; floats = option_at at c.floats e }
+column_at at c e =
+    record { least = option_at at c.least e; most = option_at at c.most e; floats = option_at at c.floats e }
 
 -- pieces with both widths
 abbrev pub size_at : {N : Type 0} → (N → Reading → ℤ) → Piece (Preferred N) → Reading → Sized
@@ -23,9 +24,11 @@ abbrev pub sizes_at : {N : Type 0} → (N → Reading → ℤ) → List (Piece (
 sizes_at at ps e = map (λ p. size_at at p e) ps
 
 -- in the parts that marks make
-abbrev pub parts_at : {N : Type 0} → (N → Reading → ℤ) → List (Piece (Preferred N)) → List Bool → Reading → List (List Sized)
+abbrev pub parts_at : {N : Type 0} → (N → Reading → ℤ) → List (Piece (Preferred N)) → List Bool → Reading
+    → List (List Sized)
 parts_at at ps marks e = map (λ part. sizes_at at part e) (parts_of ps marks)
 
 -- what a table has of a box are its preferred widths
 unfoldable pub AreFound : {N : Type 0} → (N → Reading → ℤ) → Run → BoxTree → List (Option (Preferred N)) → Type 0
-AreFound {N} at run tree table = (e : Reading) → IsTrue (run.is_open e) → (i : ℕ) (p : Preferred N) → slice_get table i ≡ Some (Some p) → preferred_at at p e ≡ preferred tree e.world i
+AreFound {N} at run tree table = (e : Reading) → IsTrue (run.is_open e) → (i : ℕ) (p : Preferred N)
+    → slice_get table i ≡ Some (Some p) → preferred_at at p e ≡ preferred tree e.world i

@@ -19,7 +19,8 @@ print_quad letter q = codes " " ++ letter ++ spaced q.left ++ spaced q.top ++ sp
 -- KIND NODE m L T R B b L T R B p L T R B c L T R B, for margin, border, padding and content
 abbrev pub print_line : List ℕ → Placed ℤ → List ℕ
 print_line word p =
-    word ++ spaced (pos p.node) ++ print_quad (codes "m") p.margin ++ print_quad (codes "b") p.border ++ print_quad (codes "p") p.padding ++ print_quad (codes "c") p.content ++ codes "\n"
+    word ++ spaced (pos p.node) ++ print_quad (codes "m") p.margin ++ print_quad (codes "b") p.border
+    ++ print_quad (codes "p") p.padding ++ print_quad (codes "c") p.content ++ codes "\n"
 
 -- a forced break has no line
 abbrev pub print_kind : Kind → Placed ℤ → List ℕ

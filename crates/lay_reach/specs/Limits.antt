@@ -9,7 +9,8 @@ pub record IsSmallPage (tree : BoxTree) : Type 0 where
   pub few_boxes : length tree.boxes ≤ 16384
   pub reach : beyond_reach tree.styles tree.parents tree.fonts tree.boxes ≡ None
 
--- a small page of at most 262,144 characters, in viewports of at most 16,384 pixels width and height, at default font sizes of at most 256 pixels
+-- a small page of at most 262,144 characters, in viewports of at most 16,384
+-- pixels width and height, at default font sizes of at most 256 pixels
 pub record IsWithinLimits (tree : BoxTree) (height : ℕ) (is_open : Reading → Bool) : Type 0 where
   pub small : IsSmallPage tree
   pub few_characters : sum_by (λ (b : BoxNode). length (chars b.chars)) tree.boxes ≤ 262144

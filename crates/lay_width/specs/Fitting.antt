@@ -1,4 +1,5 @@
--- The exact values on the way to the widths of a box: a calc may report a coefficient past its limit where one of them passes it.
+-- The exact values on the way to the widths of a box: a calc may report a
+-- coefficient past its limit where one of them passes it.
 use Rattle.std.specs.Prelude.{ℕ, zero, suc, ◌*◌, ℤ, pos, ◌+ℤ◌, ◌-ℤ◌, int_le, Bool, true, false, List, [], ◌∷◌, Option, Some, None}
 use Rattle.viz_base.specs.Numbers.{floor_of}
 use Rattle.viz_base.specs.declared.layouts.Preferred.{Preferred}
@@ -28,14 +29,19 @@ MostFits tree w (Some length) cb = UsedFits tree w length cb
 -- to the edges of a box
 abbrev pub EdgesFit : BoxTree → World → ℕ → ℤ → Type 0
 EdgesFit tree w at cb =
-    UsedFits tree w (margins tree at).left cb × (UsedFits tree w (borders tree at).left cb × (UsedFits tree w (paddings tree at).left cb
-    × (AllSmall (pos 0 ∷ []) × (UsedFits tree w (paddings tree at).right cb × (UsedFits tree w (borders tree at).right cb × UsedFits tree w (margins tree at).right cb)))))
+    UsedFits tree w (margins tree at).left cb
+    × (UsedFits tree w (borders tree at).left cb × (UsedFits tree w (paddings tree at).left cb
+    × (AllSmall (pos 0 ∷ [])
+    × (UsedFits tree w (paddings tree at).right cb
+    × (UsedFits tree w (borders tree at).right cb × UsedFits tree w (margins tree at).right cb)))))
 
 -- to the terms of a box up and down
 abbrev pub VerticalsFit : BoxTree → World → ℕ → ℤ → Type 0
 VerticalsFit tree w b room =
-    UsedFits tree w (margins tree b).top room × (UsedFits tree w (borders tree b).top room × (UsedFits tree w (paddings tree b).top room
-    × (UsedFits tree w (paddings tree b).bottom room × (UsedFits tree w (borders tree b).bottom room × UsedFits tree w (margins tree b).bottom room))))
+    UsedFits tree w (margins tree b).top room
+    × (UsedFits tree w (borders tree b).top room × (UsedFits tree w (paddings tree b).top room
+    × (UsedFits tree w (paddings tree b).bottom room
+    × (UsedFits tree w (borders tree b).bottom room × UsedFits tree w (margins tree b).bottom room))))
 
 -- the sums on the way to the sum of seven terms
 abbrev pub sum_way : Widths ℤ → List ℤ
@@ -66,12 +72,14 @@ left_way sum cb given = given ∷ (cb -ℤ sum) ∷ floor_of (cb -ℤ sum) 2 ∷
 abbrev pub FixedFits : Bool → Bool → Widths ℤ → ℤ → Type 0
 FixedFits left_auto right_auto t cb =
     AllSmall (sum_way t) × (AllSmall (left_way (sum_of t) cb t.margin_left)
-    × AllSmall (right_way t cb (sum_of t) (left_margin left_auto right_auto (int_le (sum_of t) cb) (cb -ℤ sum_of t) t.margin_left)))
+    × AllSmall (right_way t cb (sum_of t)
+    (left_margin left_auto right_auto (int_le (sum_of t) cb) (cb -ℤ sum_of t) t.margin_left)))
 
 -- ---- minima and maxima
 
 abbrev pub HoldFits : BoxTree → World → ℕ → ℤ → Type 0
-HoldFits tree w at cb = MostFits tree w (own tree at (λ (s : Style). s.max_width) None) cb × UsedFits tree w (own tree at (λ (s : Style). s.min_width) nothing) cb
+HoldFits tree w at cb = MostFits tree w (own tree at (λ (s : Style). s.max_width) None) cb
+    × UsedFits tree w (own tree at (λ (s : Style). s.min_width) nothing) cb
 
 -- ---- definite heights
 
@@ -94,19 +102,22 @@ HeldFits tree w b around =
 
 -- to the height that a box's own property gives, held by its maximum and minimum
 abbrev pub OwnHeightFits : BoxTree → World → Option ℤ → ℕ → Type 0
-OwnHeightFits tree w around at = HeightFits tree w around (own tree at (λ (s : Style). s.height) of_length.Auto) × HeldFits tree w at around
+OwnHeightFits tree w around at = HeightFits tree w around (own tree at (λ (s : Style). s.height) of_length.Auto)
+    × HeldFits tree w at around
 
 -- to the height that percentages of a box's heights are of, up so many levels
 unfoldable pub DefiniteFits_to : ℕ → BoxTree → World → ℕ → ℕ → Type 0
 DefiniteFits_to zero tree w viewport at = Unit {0}
 DefiniteFits_to (suc levels) tree w viewport at = elim (percentage_container tree at) as (λ (o : Option ℕ). Type 0) [
   | None ↦ AllSmall (pos (64 * viewport) ∷ [])
-  | Some container ↦ DefiniteFits_to levels tree w viewport container × OwnHeightFits tree w (definite_height_to levels tree w viewport container) container
+  | Some container ↦ DefiniteFits_to levels tree w viewport container
+      × OwnHeightFits tree w (definite_height_to levels tree w viewport container) container
 ]
 
 -- to the height that a box's own property gives, not held
 abbrev pub GivenFits : BoxTree → World → ℕ → ℕ → Type 0
-GivenFits tree w viewport at = DefiniteFits_to (suc at) tree w viewport at × HeightFits tree w (definite_height tree w viewport at) (own tree at (λ (s : Style). s.height) of_length.Auto)
+GivenFits tree w viewport at = DefiniteFits_to (suc at) tree w viewport at
+    × HeightFits tree w (definite_height tree w viewport at) (own tree at (λ (s : Style). s.height) of_length.Auto)
 
 -- ---- replaced boxes
 
@@ -117,17 +128,20 @@ RatioFits size (Some height) = AllSmall (by_ratio height size.1 size.0 ∷ [])
 
 -- to a replaced box's width before it is held: what follows from the height only where its own is `auto`
 abbrev pub TentativeFits : BoxTree → World → ℕ → ℕ → Length → ℤ → Type 0
-TentativeFits tree w viewport at of_length.Auto cb = GivenFits tree w viewport at × RatioFits (intrinsic tree at) (given_height tree w viewport at)
+TentativeFits tree w viewport at of_length.Auto cb = GivenFits tree w viewport at
+    × RatioFits (intrinsic tree at) (given_height tree w viewport at)
 TentativeFits tree w viewport at length cb = UsedFits tree w length cb
 
 abbrev pub ReplacedFits : BoxTree → World → ℕ → ℕ → ℤ → Type 0
-ReplacedFits tree w viewport at cb = TentativeFits tree w viewport at (own tree at (λ (s : Style). s.width) of_length.Auto) cb × HoldFits tree w at cb
+ReplacedFits tree w viewport at cb =
+    TentativeFits tree w viewport at (own tree at (λ (s : Style). s.width) of_length.Auto) cb × HoldFits tree w at cb
 
 -- ---- boxes
 
 -- to the terms of a block of a fixed width, with these edges
 abbrev pub FixedBlockFits : BoxTree → ℕ → Widths ℤ → ℤ → ℤ → Type 0
-FixedBlockFits tree at edges cb width = FixedFits (is_auto (margins tree at).left) (is_auto (margins tree at).right) (around edges width) cb
+FixedBlockFits tree at edges cb width =
+    FixedFits (is_auto (margins tree at).left) (is_auto (margins tree at).right) (around edges width) cb
 
 -- to the terms of a block whose width is what is left, with these edges: they may be computed again with another width
 abbrev pub FillingFits : BoxTree → World → ℕ → ℤ → Widths ℤ → Type 0
@@ -142,7 +156,8 @@ FillingFits tree w at cb edges =
 -- to the terms of a block of this `width`, with these edges
 abbrev pub GivenBlockFits : BoxTree → World → ℕ → ℤ → Length → Widths ℤ → Type 0
 GivenBlockFits tree w at cb length edges =
-    UsedFits tree w length cb × (HoldFits tree w at cb × FixedBlockFits tree at edges cb (held_again tree w at cb (used tree w length cb)))
+    UsedFits tree w length cb
+    × (HoldFits tree w at cb × FixedBlockFits tree at edges cb (held_again tree w at cb (used tree w length cb)))
 
 -- to the terms of a block with these edges, its `width` being `auto` or not
 abbrev pub BlockFitsBy : Bool → BoxTree → World → ℕ → ℤ → Length → Widths ℤ → Type 0
@@ -160,12 +175,15 @@ abbrev pub fit_way : Preferred ℤ → List ℤ
 fit_way p = p.most ∷ p.least ∷ []
 
 abbrev pub FittedFits : BoxTree → World → Length → ℤ → Preferred ℤ → Widths ℤ → Type 0
-FittedFits tree w of_length.Auto cb p edges = AllSmall (sum_way edges) × (AllSmall (room_way edges cb) × AllSmall (fit_way p))
+FittedFits tree w of_length.Auto cb p edges = AllSmall (sum_way edges)
+    × (AllSmall (room_way edges cb) × AllSmall (fit_way p))
 FittedFits tree w length cb p edges = UsedFits tree w length cb
 
 abbrev pub ShrunkFits : BoxTree → World → ℕ → ℤ → Preferred ℤ → Type 0
 ShrunkFits tree w at cb p =
-    EdgesFit tree w at cb × (FittedFits tree w (own tree at (λ (s : Style). s.width) of_length.Auto) cb p (terms_around tree w at cb (pos 0)) × HoldFits tree w at cb)
+    EdgesFit tree w at cb
+    × (FittedFits tree w (own tree at (λ (s : Style). s.width) of_length.Auto) cb p
+    (terms_around tree w at cb (pos 0)) × HoldFits tree w at cb)
 
 -- to the terms of a replaced block with these edges
 abbrev pub ReplacedBetweenFits : BoxTree → World → ℕ → ℕ → ℤ → Widths ℤ → Type 0
@@ -173,7 +191,8 @@ ReplacedBetweenFits tree w viewport at cb edges =
     ReplacedFits tree w viewport at cb × FixedBlockFits tree at edges cb (replaced_size tree w viewport at cb).width
 
 abbrev pub ReplacedBlockFits : BoxTree → World → ℕ → ℕ → ℤ → Type 0
-ReplacedBlockFits tree w viewport at cb = EdgesFit tree w at cb × ReplacedBetweenFits tree w viewport at cb (terms_around tree w at cb (pos 0))
+ReplacedBlockFits tree w viewport at cb = EdgesFit tree w at cb
+    × ReplacedBetweenFits tree w viewport at cb (terms_around tree w at cb (pos 0))
 
 -- to the terms of a box of this placing, with these preferred widths
 abbrev pub WidthsFit : BoxTree → World → ℕ → ℕ → ℤ → Placing → Preferred ℤ → Type 0

@@ -9,7 +9,8 @@ use Rattle.layout_semantics.specs.Floats.{FloatBox, is_relevant}
 abbrev pub IsApart : Extent ℤ → Spot ℤ → Quad ℤ → Type 0
 IsApart size at other = (other.bottom ≤ℤ at.y) ⊎ ((other.right ≤ℤ at.x) ⊎ ((at.x +ℤ size.width) ≤ℤ other.left))
 
--- the lowest outer bottom of the floats that `clear` names (CSS 2.1, 9.5.2): none of them ends below it, and one ends there
+-- the lowest outer bottom of the floats that `clear` names (CSS 2.1,
+-- 9.5.2): none of them ends below it, and one ends there
 pub record IsLowestBottom (clear : Clear) (floats : List FloatBox) (y : ℤ) : Type 0 where
   pub bound : (f : FloatBox) → Contains floats f → IsTrue (is_relevant clear f) → f.box.bottom ≤ℤ y
   pub reached : (f : FloatBox) × Contains floats f × IsTrue (is_relevant clear f) × (f.box.bottom ≡ y)

@@ -7,8 +7,8 @@ use Rattle.viz_base.specs.declared.worlds.World.{World}
 use Rattle.layout_semantics.specs.DefiniteHeights.{definite_height, height_around, least_height}
 use Rattle.layout_semantics.specs.Verticals.{Verticals}
 
--- the edges of a box (CSS 2.1, 8.1): between its margin, border, padding and content rectangles lie its margins, borders and paddings, and
--- inside them the content
+-- the edges of a box (CSS 2.1, 8.1): between its margin, border, padding and content
+-- rectangles lie its margins, borders and paddings, and inside them the content
 pub record HasEdges (x : Widths ℤ) (v : Verticals) (high : ℤ) (p : Placed ℤ) : Type 0 where
   pub margin_left : p.border.left ≡ p.margin.left +ℤ x.margin_left
   pub margin_top : p.border.top ≡ p.margin.top +ℤ v.margin_top
@@ -27,4 +27,5 @@ pub record HasEdges (x : Widths ℤ) (v : Verticals) (high : ℤ) (p : Placed �
 
 -- the used minimum height: a percentage of a height that is not definite is 0 (CSS 2.1, 10.7)
 abbrev pub used_minimum : BoxTree → World → ℕ → ℕ → ℤ
-used_minimum tree w height at = unwrap_or (height_around tree w (definite_height tree w height at) (least_height tree at)) (pos 0)
+used_minimum tree w height at =
+    unwrap_or (height_around tree w (definite_height tree w height at) (least_height tree at)) (pos 0)

@@ -21,8 +21,8 @@ name_of tree at = (kind_of tree at, node_of tree at)
 abbrev pub holds_blocks_alone : BoxTree → Bool
 holds_blocks_alone tree = list_all (λ (b : BoxNode). is_floated tree.styles b || not (is_inline_level b)) tree.boxes
 
--- a box that is rendered whole and once: inline boxes and texts are cut at the ends of lines, a forced break has no entry, and a line is no
--- box of the tree (9.2.2, 9.4.2)
+-- a box that is rendered whole and once: inline boxes and texts are cut at the ends of
+-- lines, a forced break has no entry, and a line is no box of the tree (9.2.2, 9.4.2)
 abbrev pub is_whole : Kind → Bool
 is_whole of_kind.Inline = false
 is_whole of_kind.Chars = false

@@ -6,7 +6,8 @@ use Rattle.viz_base.specs.declared.styles.Side.{Side}
 use Rattle.viz_base.specs.declared.styles.Side.TheVariants as of_side
 use Rattle.layout_semantics.specs.Floats.{FloatBox, is_left}
 
--- a float whose top is at y is next to an earlier one where y is at least its top and above its bottom (our own reading)
+-- a float whose top is at y is next to an earlier one where y is at least
+-- its top and above its bottom (our own reading)
 pub record IsNextTo (y : ℤ) (f : FloatBox) : Type 0 where
   pub from : f.box.top ≤ℤ y
   pub to : y <ℤ f.box.bottom
@@ -22,18 +23,23 @@ pub record LeftObeys (floats : List FloatBox) (width : ℤ) (cb : Band ℤ) (top
   -- rule 1: not to the left of its containing block
   pub inside : cb.left ≤ℤ at.x
   -- rule 2: to the right of each earlier left float, or below its bottom
-  pub right_of_left_ones : (f : FloatBox) → Contains floats f → IsTrue (is_left f) → IsNextTo at.y f → f.box.right ≤ℤ at.x
+  pub right_of_left_ones : (f : FloatBox) → Contains floats f → IsTrue (is_left f) → IsNextTo at.y f
+      → f.box.right ≤ℤ at.x
   -- rule 3: not reaching over the left edge of a right float next to it
-  pub left_of_right_ones : (f : FloatBox) → Contains floats f → is_left f ≡ false → IsNextTo at.y f → (at.x +ℤ width) ≤ℤ f.box.left
+  pub left_of_right_ones : (f : FloatBox) → Contains floats f → is_left f ≡ false → IsNextTo at.y f
+      → (at.x +ℤ width) ≤ℤ f.box.left
   -- rule 7: not sticking out on the right with a left float on its left
-  pub not_sticking_out : (f : FloatBox) → Contains floats f → IsTrue (is_left f) → IsNextTo at.y f → (at.x +ℤ width) ≤ℤ cb.right
+  pub not_sticking_out : (f : FloatBox) → Contains floats f
+      → IsTrue (is_left f) → IsNextTo at.y f → (at.x +ℤ width) ≤ℤ cb.right
 
 -- a right float, the other way round
 pub record RightObeys (floats : List FloatBox) (width : ℤ) (cb : Band ℤ) (top : ℤ) (at : Spot ℤ) : Type 0 where
   pub low_enough : IsLowEnough floats top at
   pub inside : (at.x +ℤ width) ≤ℤ cb.right
-  pub left_of_right_ones : (f : FloatBox) → Contains floats f → is_left f ≡ false → IsNextTo at.y f → (at.x +ℤ width) ≤ℤ f.box.left
-  pub right_of_left_ones : (f : FloatBox) → Contains floats f → IsTrue (is_left f) → IsNextTo at.y f → f.box.right ≤ℤ at.x
+  pub left_of_right_ones : (f : FloatBox) → Contains floats f → is_left f ≡ false → IsNextTo at.y f
+      → (at.x +ℤ width) ≤ℤ f.box.left
+  pub right_of_left_ones : (f : FloatBox) → Contains floats f → IsTrue (is_left f) → IsNextTo at.y f
+      → f.box.right ≤ℤ at.x
   pub not_sticking_out : (f : FloatBox) → Contains floats f → is_left f ≡ false → IsNextTo at.y f → cb.left ≤ℤ at.x
 
 abbrev pub ObeysRules : List FloatBox → Side → ℤ → Band ℤ → ℤ → Spot ℤ → Type 0

@@ -19,7 +19,8 @@ line_rectangle (of_entry.Goes at spot) = []
 abbrev pub line_rectangles : List (Entry ℤ) → List (Quad ℤ)
 line_rectangles entries = flat_map line_rectangle entries
 
--- one below the other: the first from y on, each later one from the bottom of the one before, and the last one's bottom is the end
+-- one below the other: the first from y on, each later one from the bottom
+-- of the one before, and the last one's bottom is the end
 abbrev pub IsStack : ℤ → List (Quad ℤ) → ℤ → Type 0
 IsStack y [] end = y ≡ end
 IsStack y (q ∷ qs) end = (y ≤ℤ q.top) × IsStack q.bottom qs end

@@ -16,13 +16,19 @@ outer_widths tree w boxes = map (λ k. (k, outer_preferred tree w k (preferred t
 -- of a box's inline content: the widths of the stretches that no line may break and of the floats
 abbrev pub unbreakable_widths : BoxTree → World → ℕ → List ℤ
 unbreakable_widths tree w at =
-    map (preferred_stretch tree w (table_of (length tree.boxes) (with_least (outer_widths tree w (inner_boxes tree at))))) (stretches tree (content tree at))
-    ++ preferred_floats (table_of (length tree.boxes) (with_least (outer_widths tree w (inner_boxes tree at)))) (content tree at)
+    map (preferred_stretch tree w
+    (table_of (length tree.boxes) (with_least (outer_widths tree w (inner_boxes tree at)))))
+    (stretches tree (content tree at))
+    ++ preferred_floats (table_of (length tree.boxes) (with_least (outer_widths tree w (inner_boxes tree at))))
+    (content tree at)
 
 -- the widths of the pieces between forced breaks, each with its floats
 abbrev pub piece_widths : BoxTree → World → ℕ → List ℤ
-piece_widths tree w at = map (λ piece. preferred_stretch tree w (table_of (length tree.boxes) (with_most (outer_widths tree w (inner_boxes tree at)))) piece
-    +ℤ total (preferred_floats (table_of (length tree.boxes) (with_most (outer_widths tree w (inner_boxes tree at)))) piece)) (pieces (content tree at))
+piece_widths tree w at =
+    map (λ piece. preferred_stretch tree w
+    (table_of (length tree.boxes) (with_most (outer_widths tree w (inner_boxes tree at)))) piece
+    +ℤ total (preferred_floats (table_of (length tree.boxes) (with_most (outer_widths tree w (inner_boxes tree at))))
+    piece)) (pieces (content tree at))
 
 -- of a box's children: their preferred minimum widths, floats' too
 abbrev pub child_least_widths : BoxTree → World → ℕ → List ℤ

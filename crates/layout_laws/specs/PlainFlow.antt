@@ -37,8 +37,8 @@ module _ (tree : BoxTree) (w : World) (height : ℕ) where
   abbrev pub all_margins : Band ℤ → ℕ → List ℤ
   all_margins cb b = leading cb b ++ bottom_margin tree w cb b ∷ []
 
-  -- a block collapses through where nothing of its own parts its top and bottom margins, and all of its children do, down to
-  -- so many levels
+  -- a block collapses through where nothing of its own parts its top and
+  -- bottom margins, and all of its children do, down to so many levels
   unfoldable pub collapses_to : ℕ → ℕ → Bool
   collapses_to zero b = false
   collapses_to (suc levels) b = may_collapse_through tree b && list_all (collapses_to levels) (kids_of tree.boxes b)
@@ -47,8 +47,8 @@ module _ (tree : BoxTree) (w : World) (height : ℕ) where
   abbrev pub collapses : ℕ → Bool
   collapses b = collapses_to (length tree.boxes) b
 
-  -- the margins after a block's children so far, and then after one more: those of one that collapses through join them, and
-  -- any other has its own at its bottom
+  -- the margins after a block's children so far, and then after one more: those of one
+  -- that collapses through join them, and any other has its own at its bottom
   abbrev pub after_child : (Band ℤ → ℕ → List ℤ) → Band ℤ → List ℤ → ℕ → List ℤ
   after_child trailing cb run k = by_sort (collapses k)
     where
@@ -56,13 +56,14 @@ module _ (tree : BoxTree) (w : World) (height : ℕ) where
       by_sort true = run ++ all_margins cb k
       by_sort false = trailing cb k
 
-  -- the margins that adjoin the bottom of a block that does not collapse through: those of its last children, where its own
-  -- bottom margin joins them, and its own
+  -- the margins that adjoin the bottom of a block that does not collapse through: those
+  -- of its last children, where its own bottom margin joins them, and its own
   abbrev pub trailing_step : (Band ℤ → ℕ → List ℤ) → Band ℤ → ℕ → List ℤ
   trailing_step trailing cb b = by_sort (joins_last_child tree b)
     where
       by_sort : Bool → List ℤ
-      by_sort true = fold (after_child trailing (content_band tree w height cb b)) [] (kids_of tree.boxes b) ++ bottom_margin tree w cb b ∷ []
+      by_sort true = fold (after_child trailing (content_band tree w height cb b)) [] (kids_of tree.boxes b)
+          ++ bottom_margin tree w cb b ∷ []
       by_sort false = bottom_margin tree w cb b ∷ []
 
   unfoldable pub trailing_to : ℕ → Band ℤ → ℕ → List ℤ

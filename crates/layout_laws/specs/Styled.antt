@@ -17,8 +17,11 @@ pub record AreStylesOf (nodes : List Node) (styles : List Style) (fonts : List F
   pub one_each : length styles ≡ length nodes
   pub fonts_there : (at : ℕ) (s : Style) → slice_get styles at ≡ Some s → s.font < length fonts
   -- lengths in em and line heights are of the font size of the node or of an element that it is in
-  pub names_above : (at : ℕ) (s : Style) → slice_get styles at ≡ Some s → IsTrue (list_all (is_at_or_above nodes at) (named_nodes s))
+  pub names_above : (at : ℕ) (s : Style) → slice_get styles at ≡ Some s
+      → IsTrue (list_all (is_at_or_above nodes at) (named_nodes s))
   -- a text has the style of the element that it is in, and its font size
-  pub texts_alike : (at parent : ℕ) (n : Node) (s t : Style) → slice_get nodes at ≡ Some n → is_element n.body ≡ false → n.parent ≡ Some parent
+  pub texts_alike : (at parent : ℕ) (n : Node) (s t : Style) → slice_get nodes at ≡ Some n → is_element n.body ≡ false
+      → n.parent ≡ Some parent
       → slice_get styles at ≡ Some s → slice_get styles parent ≡ Some t → AreAlikeButSize s t
-  pub texts_same_size : (at : ℕ) (n : Node) (s : Style) → slice_get nodes at ≡ Some n → is_element n.body ≡ false → slice_get styles at ≡ Some s → IsTrue (is_same_size s.size)
+  pub texts_same_size : (at : ℕ) (n : Node) (s : Style) → slice_get nodes at ≡ Some n → is_element n.body ≡ false
+      → slice_get styles at ≡ Some s → IsTrue (is_same_size s.size)

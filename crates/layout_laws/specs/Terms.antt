@@ -15,7 +15,8 @@ abbrev pub own_width : BoxTree → World → ℕ → ℤ → Option ℤ
 own_width tree w at cb = used_unless_auto tree w (own tree at (λ (s : Style). s.width) of_length.Auto) cb
 
 abbrev pub own_maximum : BoxTree → World → ℕ → ℤ → Option ℤ
-own_maximum tree w at cb = maximum (λ length. used_unless_auto tree w length cb) (own tree at (λ (s : Style). s.max_width) None)
+own_maximum tree w at cb =
+    maximum (λ length. used_unless_auto tree w length cb) (own tree at (λ (s : Style). s.max_width) None)
 
 abbrev pub own_minimum : BoxTree → World → ℕ → ℤ → ℤ
 own_minimum tree w at cb = used tree w (own tree at (λ (s : Style). s.min_width) nothing) cb

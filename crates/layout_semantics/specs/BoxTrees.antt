@@ -40,7 +40,8 @@ tree_style is_root gives_clip s = record s {
 }
 
 abbrev pub tree_style_of : Option ℕ → (ℕ × Node) × Style → Style
-tree_style_of clip styled = tree_style (styled_element styled.0.0 styled.0.1 == 0) (is_in (styled_element styled.0.0 styled.0.1) clip) styled.1
+tree_style_of clip styled =
+    tree_style (styled_element styled.0.0 styled.0.1 == 0) (is_in (styled_element styled.0.0 styled.0.1) clip) styled.1
 
 abbrev pub tree_styles : List Node → List Style → List Style
 tree_styles nodes styles = map (tree_style_of (viewport_clip nodes styles)) (zip (enumerate_from 0 nodes) styles)
@@ -92,7 +93,8 @@ has_node node run = list_any (λ k. k == node) run
 
 -- the nodes of the run around a part that an anonymous block box holds, if one holds it
 abbrev pub run_around : List Part → Part → Option (List ℕ)
-run_around parts p = option_and_then (λ parent. find (has_node p.node) (map nodes_of (wrapped_in (parts_in parts parent)))) p.parent
+run_around parts p =
+    option_and_then (λ parent. find (has_node p.node) (map nodes_of (wrapped_in (parts_in parts parent)))) p.parent
 
 -- a part and that run
 pub record Item : Type 0 where

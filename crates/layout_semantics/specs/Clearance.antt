@@ -1,5 +1,5 @@
--- Clearance (CSS 2.1, 9.5.2). The hypothetical place of a box with `clear`, the places of floats between adjoining margins and
--- what becomes of the margins are our own reading of 8.3.1 and 9.5.2.
+-- Clearance (CSS 2.1, 9.5.2). The hypothetical place of a box with `clear`, the places of floats between
+-- adjoining margins and what becomes of the margins are our own reading of 8.3.1 and 9.5.2.
 use Rattle.std.specs.Prelude.{ℕ, zero, suc, ℤ, ◌+ℤ◌, Bool, true, false, List, [], ◌∷◌, ◌++◌, int_lt, length, Option, Some, None}
 use Rattle.std.specs.Option.{option_map_or}
 use Rattle.viz_base.specs.declared.layouts.Band.{Band}
@@ -27,25 +27,29 @@ run_end (hangs edge) run = edge +ℤ collapsed run
 run_end (stands edge) run = edge
 
 -- after all floats that wait are placed, one after another, where the run of margins between which they stand ends at y
-abbrev pub with_waiting : BoxTree → (Waiting ℤ → Extent ℤ) → List (Waiting ℤ) → List FloatBox → Option ℤ → ℤ → List FloatBox
+abbrev pub with_waiting : BoxTree → (Waiting ℤ → Extent ℤ) → List (Waiting ℤ) → List FloatBox → Option ℤ → ℤ
+    → List FloatBox
 with_waiting tree size [] floats least y = floats
-with_waiting tree size (f ∷ fs) floats least y = with_waiting tree size fs (with_float (floating tree f.at (size f) f.cb) floats least y) least y
+with_waiting tree size (f ∷ fs) floats least y =
+    with_waiting tree size fs (with_float (floating tree f.at (size f) f.cb) floats least y) least y
 
--- the margins of the box's lead that join the run, and the box of the lead that is cleared, with its border edge, if there is one
+-- the margins of the box's lead that join the run, and the box of the lead
+-- that is cleared, with its border edge, if there is one
 pub record Resolved : Type 0 where
   pub margins : List ℤ
   pub cleared : Option (ℕ × ℤ)
 
 module _ (tree : BoxTree) (w : World) where
-  -- Where a box that comes next stands, by its lead, which joins a run: `base` is what the end of the run goes by, and `size` gives
-  -- the outer sizes of the floats that wait.
-  module _ (size : Waiting ℤ → Extent ℤ) (base : Base) (run : List ℤ) (cb : Band ℤ) (floats : List FloatBox) (least : Option ℤ) (b : ℕ) where
+  -- Where a box that comes next stands, by its lead, which joins a run: `base` is what the end
+  -- of the run goes by, and `size` gives the outer sizes of the floats that wait.
+  module _ (size : Waiting ℤ → Extent ℤ) (base : Base) (run : List ℤ) (cb : Band ℤ) (floats : List FloatBox)
+      (least : Option ℤ) (b : ℕ) where
     -- the border edge that ends the run together with these margins
     abbrev pub edge_after : List ℤ → ℤ
     edge_after more = run_end base (run ++ more)
 
-    -- A lead was found that ends at a box d with `clear`. Its border edge if it were not cleared: after the margins before it, its own
-    -- top margin and its leading descendants' up to the next box with `clear`.
+    -- A lead was found that ends at a box d with `clear`. Its border edge if it were not cleared: after the
+    -- margins before it, its own top margin and its leading descendants' up to the next box with `clear`.
     abbrev pub hypothetical_edge : Leading → ℕ → ℤ
     hypothetical_edge found d = edge_after (found.margins ++ (lead tree w (is_up_to d) found.cb d).margins)
 
@@ -55,14 +59,17 @@ module _ (tree : BoxTree) (w : World) where
 
     -- d is cleared where that edge is above such a bottom, the floats that wait being tried at that edge
     abbrev pub is_cleared : Leading → ℕ → Bool
-    is_cleared found d = option_map_or (int_lt (hypothetical_edge found d)) (bottom_to_clear found d (hypothetical_edge found d)) false
+    is_cleared found d =
+        option_map_or (int_lt (hypothetical_edge found d)) (bottom_to_clear found d (hypothetical_edge found d)) false
 
-    -- its border edge is then the lowest such bottom, the floats that wait standing where the run ends without d's margins
+    -- its border edge is then the lowest such bottom, the floats that wait
+    -- standing where the run ends without d's margins
     abbrev pub cleared_edge : Leading → ℕ → ℤ
-    cleared_edge found d = option_map_or (λ bottom. bottom) (bottom_to_clear found d (edge_after found.margins)) (edge_after found.margins)
+    cleared_edge found d =
+        option_map_or (λ bottom. bottom) (bottom_to_clear found d (edge_after found.margins)) (edge_after found.margins)
 
-    -- a lead that ends at a box with `clear` ends there where that one is cleared; else it counts as not cleared, and the lead goes on
-    -- through it; any other lead joins the run as it is
+    -- a lead that ends at a box with `clear` ends there where that one is cleared; else it counts as
+    -- not cleared, and the lead goes on through it; any other lead joins the run as it is
     abbrev pub resolve_step : (ℕ → Resolved) → Leading → Resolved
     resolve_step go_on found = by_end found.end
       where

@@ -23,7 +23,9 @@ is_passed_over _ = false
 
 unfoldable pub container_to : ℕ → BoxTree → ℕ → Option ℕ
 container_to zero tree at = None
-container_to (suc levels) tree at = option_and_then (λ parent. elim (is_passed_over (kind_of tree parent)) [ true ↦ container_to levels tree parent | false ↦ Some parent ]) (parent_of tree.boxes at)
+container_to (suc levels) tree at =
+    option_and_then (λ parent. elim (is_passed_over (kind_of tree parent))
+    [ true ↦ container_to levels tree parent | false ↦ Some parent ]) (parent_of tree.boxes at)
 
 -- the box whose height percentages are of; nothing of the root, whose containing block is the viewport (CSS 2.1, 10.1).
 -- A box's number is greater than its parent's
@@ -47,10 +49,12 @@ counts_as_auto definite length = false
 unfoldable pub is_definite_to : ℕ → BoxTree → ℕ → Bool
 is_definite_to zero tree at = false
 is_definite_to (suc levels) tree at =
-    option_map_or (λ container. not (counts_as_auto (is_definite_to levels tree container) (own_height tree container))) (percentage_container tree at) true
+    option_map_or (λ container.
+    not (counts_as_auto (is_definite_to levels tree container) (own_height tree container)))
+    (percentage_container tree at) true
 
--- the height that percentages of a box's heights are of is definite: that of the viewport, an absolute height, or a percentage of
--- a definite one
+-- the height that percentages of a box's heights are of is definite: that of
+-- the viewport, an absolute height, or a percentage of a definite one
 abbrev pub is_definite : BoxTree → ℕ → Bool
 is_definite tree at = is_definite_to (suc at) tree at
 
@@ -77,15 +81,17 @@ held_around tree w around at height =
     (unwrap_or (height_around tree w around (least_height tree at)) (pos 0)) height
 
 abbrev pub own_height_around : BoxTree → World → Option ℤ → ℕ → Option ℤ
-own_height_around tree w around at = option_map (held_around tree w around at) (height_around tree w around (own_height tree at))
+own_height_around tree w around at =
+    option_map (held_around tree w around at) (height_around tree w around (own_height tree at))
 
 unfoldable pub definite_height_to : ℕ → BoxTree → World → ℕ → ℕ → Option ℤ
 definite_height_to zero tree w viewport at = None
 definite_height_to (suc levels) tree w viewport at =
-    option_map_or (λ container. own_height_around tree w (definite_height_to levels tree w viewport container) container) (percentage_container tree at) (Some (pos (64 * viewport)))
+    option_map_or (λ container. own_height_around tree w (definite_height_to levels tree w viewport container)
+    container) (percentage_container tree at) (Some (pos (64 * viewport)))
 
--- the height that percentages of a box's heights are of, where it is definite: that of the viewport, of so many pixels, an absolute
--- height, or a percentage of a definite one
+-- the height that percentages of a box's heights are of, where it is definite: that of the
+-- viewport, of so many pixels, an absolute height, or a percentage of a definite one
 abbrev pub definite_height : BoxTree → World → ℕ → ℕ → Option ℤ
 definite_height tree w viewport at = definite_height_to (suc at) tree w viewport at
 

@@ -1,4 +1,5 @@
--- Characters that are written from right to left, and marks that turn the direction (CSS 2.1, 9.10): the list is our own.
+-- Characters that are written from right to left, and marks that turn the
+-- direction (CSS 2.1, 9.10): the list is our own.
 use Rattle.std.specs.Prelude.{ℕ, nat_le, Bool, ◌&&◌, List, [], ◌∷◌}
 use Rattle.std.specs.List.{list_any}
 

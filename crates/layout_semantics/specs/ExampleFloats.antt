@@ -13,7 +13,8 @@ left_float = record block_style { float = Some of_side.Left; width = px 100; hei
 abbrev pub block_below_the_left_float : PlainTree
 block_below_the_left_float = page (2 ∷ 3 ∷ 4 ∷ [])
     (floated_box 2 1 [] ∷ floated_box 3 1 [] ∷ block_box 4 1 [] ∷ [])
-    (left_float ∷ record block_style { float = Some of_side.Right; width = px 100; height = px 80 } ∷ record block_style { clear = of_clear.Left; height = px 10 } ∷ [])
+    (left_float ∷ record block_style { float = Some of_side.Right; width = px 100; height = px 80 }
+    ∷ record block_style { clear = of_clear.Left; height = px 10 } ∷ [])
 
 -- a left float, and another one with `clear: left`
 abbrev pub cleared_float : PlainTree

@@ -11,13 +11,19 @@ use Rattle.layout_semantics.specs.Examples.{px, block_style, square, block_box, 
 abbrev pub aligned_words : PlainTree
 aligned_words = page (2 ∷ 4 ∷ [])
     (block_box 2 1 (3 ∷ []) ∷ text_box 3 2 (letters 4) ∷ block_box 4 1 (5 ∷ []) ∷ text_box 5 4 (letters 4) ∷ [])
-    (record block_style { align = of_align.Right } ∷ record block_style { align = of_align.Right } ∷ record block_style { align = of_align.Center } ∷ record block_style { align = of_align.Center } ∷ [])
+    (record block_style { align = of_align.Right } ∷ record block_style { align = of_align.Right }
+    ∷ record block_style { align = of_align.Center } ∷ record block_style { align = of_align.Center } ∷ [])
 
 -- two letters, and one in a `sub`
 abbrev pub subscript : PlainTree
 subscript = page (2 ∷ [])
     (block_box 2 1 (3 ∷ 4 ∷ []) ∷ text_box 3 2 (letters 2) ∷ inline_box 4 2 (5 ∷ []) ∷ text_box 5 4 (letters 1) ∷ [])
-    (block_style ∷ block_style ∷ record block_style { display = of_display.Inline; size = of_size.Parent (pos 830000) 1000000; valign = of_valign.Sub } ∷ record block_style { display = of_display.Inline; valign = of_valign.Sub } ∷ [])
+    (block_style ∷ block_style
+    ∷ record block_style {
+      display = of_display.Inline;
+      size = of_size.Parent (pos 830000) 1000000;
+      valign = of_valign.Sub;
+    } ∷ record block_style { display = of_display.Inline; valign = of_valign.Sub } ∷ [])
 
 -- two words with `white-space: nowrap`, in a block of 40px
 abbrev pub words_that_stay : PlainTree
@@ -27,4 +33,5 @@ words_that_stay = page (2 ∷ [])
 
 -- two letters of a font whose `b` is as wide as the font size
 abbrev pub wide_letter : PlainTree
-wide_letter = record (page (2 ∷ []) (text_box 2 1 (codes "ab") ∷ []) (block_style ∷ [])) { fonts = record square { advances = (98, 1000) ∷ [] } ∷ [] }
+wide_letter = record (page (2 ∷ []) (text_box 2 1 (codes "ab") ∷ []) (block_style ∷ []))
+    { fonts = record square { advances = (98, 1000) ∷ [] } ∷ [] }

@@ -20,7 +20,12 @@ pub record FloatBox : Type 0 where
   pub box : Quad ℤ
 
 abbrev pub placed_float : Side → Extent ℤ → Spot ℤ → FloatBox
-placed_float side size at = record { side = side; box = record { left = at.x; top = at.y; right = at.x +ℤ size.width; bottom = at.y +ℤ size.height } }
+placed_float side size at =
+    record {
+      side = side;
+      box =
+          record { left = at.x; top = at.y; right = at.x +ℤ size.width; bottom = at.y +ℤ size.height };
+    }
 
 abbrev pub is_left : FloatBox → Bool
 is_left f = by_side f.side
@@ -37,7 +42,11 @@ right_ones floats = filter (λ f. not (is_left f)) floats
 
 -- the stretch of a containing block that floats leave: right of each left one and left of each right one
 abbrev pub beside : List FloatBox → Band ℤ → Band ℤ
-beside floats cb = record { left = greatest_from cb.left (map (λ (f : FloatBox). f.box.right) (left_ones floats)); right = least_from cb.right (map (λ (f : FloatBox). f.box.left) (right_ones floats)) }
+beside floats cb =
+    record {
+      left = greatest_from cb.left (map (λ (f : FloatBox). f.box.right) (left_ones floats));
+      right = least_from cb.right (map (λ (f : FloatBox). f.box.left) (right_ones floats));
+    }
 
 -- ---- the places that a float may have (CSS 2.1, 9.5.1)
 
@@ -46,14 +55,16 @@ beside floats cb = record { left = greatest_from cb.left (map (λ (f : FloatBox)
 abbrev pub is_next_to : ℤ → FloatBox → Bool
 is_next_to y f = int_le f.box.top y && int_lt y f.box.bottom
 
--- a left float beside a float that it is next to: to the right of a left one, and then not sticking out of the containing
--- block on the right; not reaching over the left edge of a right one (rules 2, 7 and 3)
+-- a left float beside a float that it is next to: to the right of a left one, and then not sticking out of the
+-- containing block on the right; not reaching over the left edge of a right one (rules 2, 7 and 3)
 abbrev pub left_fits_beside : Band ℤ → ℤ → ℤ → FloatBox → Bool
-left_fits_beside cb left right f = cond (is_left f) (int_le f.box.right left && int_le right cb.right) (int_le right f.box.left)
+left_fits_beside cb left right f =
+    cond (is_left f) (int_le f.box.right left && int_le right cb.right) (int_le right f.box.left)
 
 -- the same of a right float
 abbrev pub right_fits_beside : Band ℤ → ℤ → ℤ → FloatBox → Bool
-right_fits_beside cb left right f = cond (is_left f) (int_le f.box.right left) (int_le right f.box.left && int_le cb.left left)
+right_fits_beside cb left right f =
+    cond (is_left f) (int_le f.box.right left) (int_le right f.box.left && int_le cb.left left)
 
 abbrev pub fits_beside : Side → Band ℤ → ℤ → ℤ → FloatBox → Bool
 fits_beside of_side.Left cb left right f = left_fits_beside cb left right f
@@ -64,8 +75,8 @@ abbrev pub is_inside : Side → Band ℤ → ℤ → ℤ → Bool
 is_inside of_side.Left cb left right = int_le cb.left left
 is_inside of_side.Right cb left right = int_le right cb.right
 
--- a place is allowed where it is not above `top` nor above an earlier float's top (rules 4 to 6), is inside the containing
--- block's edge, and beside each earlier float that it is next to
+-- a place is allowed where it is not above `top` nor above an earlier float's top (rules 4 to 6),
+-- is inside the containing block's edge, and beside each earlier float that it is next to
 abbrev pub is_allowed : List FloatBox → Side → ℤ → Band ℤ → ℤ → Spot ℤ → Bool
 is_allowed floats side width cb top at =
     int_le top at.y
@@ -98,10 +109,13 @@ below_all floats high = greatest_from high (map (λ (f : FloatBox). f.box.bottom
 -- the highest of these tops at which the place farthest to its side is allowed
 abbrev pub highest_free : List FloatBox → Side → ℤ → Band ℤ → ℤ → ℤ → ℤ
 highest_free floats side width cb top high =
-    least_from (below_all floats high) (filter (λ y. is_allowed floats side width cb top (farthest_at floats side width cb y)) (candidate_tops floats high))
+    least_from (below_all floats high)
+    (filter (λ y. is_allowed floats side width cb top (farthest_at floats side width cb y))
+    (candidate_tops floats high))
 
 abbrev pub float_at : List FloatBox → Side → Extent ℤ → Band ℤ → ℤ → Spot ℤ
-float_at floats side size cb top = farthest_at floats side size.width cb (highest_free floats side size.width cb top (highest_top floats top))
+float_at floats side size cb top =
+    farthest_at floats side size.width cb (highest_free floats side size.width cb top (highest_top floats top))
 
 -- ---- bands (CSS 2.1, 9.5)
 
@@ -147,9 +161,9 @@ floating tree at size cb = record {
   cb = cb;
 }
 
--- the highest top that it may have where it comes at y: not above the outer top of an earlier block or the top of an earlier
--- line of its context (rules 5 and 6), of which `least` is the greatest, nor above the outer bottoms of the earlier floats that
--- its `clear` names
+-- the highest top that it may have where it comes at y: not above the outer top of an earlier block
+-- or the top of an earlier line of its context (rules 5 and 6), of which `least` is the greatest,
+-- nor above the outer bottoms of the earlier floats that its `clear` names
 abbrev pub float_top : Floating → List FloatBox → Option ℤ → ℤ → ℤ
 float_top f floats least y = greatest_from y (option_to_list least ++ option_to_list (lowest_bottom f.clear floats))
 

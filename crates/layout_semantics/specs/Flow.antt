@@ -1,5 +1,5 @@
--- Normal flow with floats in it (CSS 2.1, 9.4.1, 9.5 and 10.6). Where boxes that collapse through, clearance and floats between
--- adjoining margins meet, this is our own reading of 8.3.1 and 9.5.2.
+-- Normal flow with floats in it (CSS 2.1, 9.4.1, 9.5 and 10.6). Where boxes that collapse through,
+-- clearance and floats between adjoining margins meet, this is our own reading of 8.3.1 and 9.5.2.
 use Rattle.std.specs.Prelude.{ℕ, zero, suc, ℤ, pos, ◌+ℤ◌, ◌-ℤ◌, Bool, true, false, ◌&&◌, ◌||◌, ◌==◌, cond, List, [], ◌∷◌, ◌++◌, map, fold, length, unwrap_or, Option, Some, None}
 use Rattle.std.specs.Int.{int_max, int_min}
 use Rattle.std.specs.Option.{option_map_or, option_or}
@@ -38,10 +38,10 @@ use Rattle.layout_semantics.specs.Lines.{LineList, lines}
 abbrev pub Cleared : Type 0
 Cleared = Option (ℕ × ℤ)
 
--- Where the next child stands. At the top, so far only margins that adjoin the container's own top margin have come: all
--- stands at its content top, but the box of the lead that is cleared, if there is one. Below, a run of adjoining margins has
--- come since a border edge; after a cleared box that collapses through it is stuck, and does not adjoin the container's
--- bottom margin.
+-- Where the next child stands. At the top, so far only margins that adjoin the container's own top
+-- margin have come: all stands at its content top, but the box of the lead that is cleared, if there is
+-- one. Below, a run of adjoining margins has come since a border edge; after a cleared box that
+-- collapses through it is stuck, and does not adjoin the container's bottom margin.
 pub data Standing : Type 0 where
   at_top : ℤ → Cleared → Standing
   below : ℤ → List ℤ → Bool → Standing
@@ -90,17 +90,20 @@ pub record Laid : Type 0 where
 module _ (tree : BoxTree) (w : World) (height : ℕ) where
   -- ---- heights (10.5 to 10.7)
 
-  -- a height of its own, where it is definite, else the height of the content; then held between its maximum and its minimum
+  -- a height of its own, where it is definite, else the height of the
+  -- content; then held between its maximum and its minimum
   abbrev pub content_height : ℕ → ℤ → ℤ
   content_height b auto = held_height tree w height b (unwrap_or (given_height tree w height b) auto)
 
-  -- the auto height of a box that starts a context: down to the bottom margin edge of its last child or to its last line, and
-  -- to the bottom margin edges of its floats (10.6.7); at least 0
+  -- the auto height of a box that starts a context: down to the bottom margin edge of its last child
+  -- or to its last line, and to the bottom margin edges of its floats (10.6.7); at least 0
   abbrev pub context_height : ℤ → Progress → ℤ
-  context_height top end = greatest_from (pos 0) (map (λ y. y -ℤ top) (next_edge end.standing ∷ map (λ (f : FloatBox). f.box.bottom) end.floats))
+  context_height top end =
+      greatest_from (pos 0) (map (λ y. y -ℤ top)
+      (next_edge end.standing ∷ map (λ (f : FloatBox). f.box.bottom) end.floats))
 
-  -- the auto height of another block, by where its content ends: the bottom margin of its last child counts where it does not
-  -- adjoin the block's own (10.6.3)
+  -- the auto height of another block, by where its content ends: the bottom margin of
+  -- its last child counts where it does not adjoin the block's own (10.6.3)
   abbrev pub block_height : Bool → ℤ → Standing → ℤ
   block_height joins top (at_top y cleared) = pos 0
   block_height true top (below edge run false) = edge -ℤ top
@@ -130,7 +133,8 @@ module _ (tree : BoxTree) (w : World) (height : ℕ) where
         whole p baseline content = record { size = outer_extent p; baseline = baseline; boxes = p ∷ content }
 
         by_content : Frame → Progress → Alone
-        by_content f end = whole (placed_box tree b f (content_height b (context_height (content_top f) end))) end.baseline end.boxes
+        by_content f end =
+            whole (placed_box tree b f (content_height b (context_height (content_top f) end))) end.baseline end.boxes
 
         by_sort : Frame → Bool → Alone
         by_sort f true = whole (placed_box tree b f (replaced_size tree w height b room).height) None []
@@ -155,8 +159,8 @@ module _ (tree : BoxTree) (w : World) (height : ℕ) where
 
     -- ---- boxes in flow
 
-    -- Where a box is reached, given the cleared box of its lead, if there is one, and y, at which all before that one stands: at y;
-    -- but the cleared box itself is reached at its border edge, and its own lead goes on from there.
+    -- Where a box is reached, given the cleared box of its lead, if there is one, and y, at which all before that one
+    -- stands: at y; but the cleared box itself is reached at its border edge, and its own lead goes on from there.
     abbrev pub reached_at : Band ℤ → Progress → ℕ → ℤ → Cleared → Reached
     reached_at cb p b y None = record { top = y; clears = false; cleared = None }
     reached_at cb p b y (Some cleared) = by_match (cleared.0 == b)
@@ -168,7 +172,8 @@ module _ (tree : BoxTree) (w : World) (height : ℕ) where
         by_match true = record { top = cleared.1; clears = true; cleared = opened.cleared }
         by_match false = record { top = y; clears = false; cleared = Some cleared }
 
-    -- a box in flow that comes next: at the top it is reached at the content top, below where the run ends with the margins of its lead
+    -- a box in flow that comes next: at the top it is reached at the content
+    -- top, below where the run ends with the margins of its lead
     abbrev pub reached : Band ℤ → Progress → ℕ → Reached
     reached cb p b = by_standing p.standing
       where
@@ -180,8 +185,8 @@ module _ (tree : BoxTree) (w : World) (height : ℕ) where
         by_standing (below edge run stuck) = by_resolved edge run
             (resolve tree w waiting_size (hangs edge) run cb p.floats p.least b none_passed)
 
-    -- the context as a box that is opened leaves it: its outer top counts, which is the higher of the tops of its margin and border
-    -- boxes (our own reading of 9.5.1, rule 5)
+    -- the context as a box that is opened leaves it: its outer top counts, which is the higher
+    -- of the tops of its margin and border boxes (our own reading of 9.5.1, rule 5)
     abbrev pub opened : Progress → Frame → Standing → Progress
     opened p f standing = record {
       standing = standing;
@@ -201,7 +206,9 @@ module _ (tree : BoxTree) (w : World) (height : ℕ) where
     }
 
     abbrev pub laid_replaced : ℤ → Progress → ℕ → Frame → Laid
-    laid_replaced room p b f = closed p f false [] (opened p f (below (content_top f) [] false)) (placed_box tree b f (replaced_size tree w height b room).height)
+    laid_replaced room p b f =
+        closed p f false [] (opened p f (below (content_top f) [] false))
+        (placed_box tree b f (replaced_size tree w height b room).height)
 
     -- a context of its own leaves the one around it as it is, but for the last line's baseline
     abbrev pub laid_context : Band ℤ → Progress → ℕ → Frame → Laid
@@ -222,11 +229,13 @@ module _ (tree : BoxTree) (w : World) (height : ℕ) where
         start false = below (content_top f) [] false
 
         by_content : Bool → Progress → Laid
-        by_content joins end = closed p f (is_at_top end.standing && may_collapse_through tree b) (joined_run joins end.standing) end
+        by_content joins end =
+            closed p f (is_at_top end.standing && may_collapse_through tree b) (joined_run joins end.standing) end
             (placed_box tree b f (content_height b (block_height joins (content_top f) end.standing)))
 
     abbrev pub laid : Band ℤ → Progress → ℕ → Reached → Laid
-    laid cb p b r = by_sort (frame (widths tree w height b (across cb)) (verticals tree w b (across cb))) (is_replaced_at tree b) (is_context_root tree b)
+    laid cb p b r = by_sort (frame (widths tree w height b (across cb)) (verticals tree w b (across cb)))
+        (is_replaced_at tree b) (is_context_root tree b)
       where
         frame : Widths ℤ → Verticals → Frame
         frame x v = record { x = x; v = v; corner = record { x = cb.left +ℤ x.margin_left; y = r.top } }
@@ -236,9 +245,10 @@ module _ (tree : BoxTree) (w : World) (height : ℕ) where
         by_sort f false true = laid_context cb p b f
         by_sort f false false = laid_block cb p b r.cleared f
 
-    -- Where the next child stands after this one. One that does not collapse through ends the run, and its own bottom margins begin
-    -- another at its bottom. All margins of one that does, its lead and its bottom margin, join the run; where it is cleared they are
-    -- a new run, which begins so that this box stands at its end without its bottom margin, and is stuck. At the top nothing changes.
+    -- Where the next child stands after this one. One that does not collapse through ends the run, and its
+    -- own bottom margins begin another at its bottom. All margins of one that does, its lead and its bottom
+    -- margin, join the run; where it is cleared they are a new run, which begins so that this box stands at
+    -- its end without its bottom margin, and is stuck. At the top nothing changes.
     abbrev pub standing_after : Band ℤ → Standing → ℕ → Reached → Laid → Standing
     standing_after cb before b r l = by_sort l.through r.clears before
       where
@@ -272,8 +282,8 @@ module _ (tree : BoxTree) (w : World) (height : ℕ) where
 
     -- ---- lines
 
-    -- the outer size of a float or of an atomic inline-level box; the baseline of an inline-block is that of its last line, or
-    -- its bottom margin edge where it has none, clips its content or is replaced (10.8.1)
+    -- the outer size of a float or of an atomic inline-level box; the baseline of an inline-block is that of its
+    -- last line, or its bottom margin edge where it has none, clips its content or is replaced (10.8.1)
     abbrev pub inner_size : Band ℤ → ℕ → Inner ℤ
     inner_size cb k = by_alone (alone k (across cb))
       where
@@ -285,7 +295,8 @@ module _ (tree : BoxTree) (w : World) (height : ℕ) where
         by_baseline a _ _ = sized a.size a.size.height
 
         by_alone : Alone → Inner ℤ
-        by_alone a = by_baseline a (is_floated_at tree k || is_replaced_at tree k || own tree k (λ (s : Style). s.clips) false) a.baseline
+        by_alone a = by_baseline a
+            (is_floated_at tree k || is_replaced_at tree k || own tree k (λ (s : Style). s.clips) false) a.baseline
 
     abbrev pub entry_boxes : Band ℤ → Entry ℤ → List (Placed ℤ)
     entry_boxes cb (of_entry.Here p) = p ∷ []
@@ -306,10 +317,13 @@ module _ (tree : BoxTree) (w : World) (height : ℕ) where
     }
 
     abbrev pub line_content : ℕ → Band ℤ → ℤ → Progress → Progress
-    line_content b cb top p = after_lines cb p (lines tree w b (table_of (length tree.boxes) (map (λ k. (k, inner_size cb k)) (inner_boxes tree b))) cb top (unwrap_or p.least top) p.floats)
+    line_content b cb top p =
+        after_lines cb p (lines tree w b
+        (table_of (length tree.boxes) (map (λ k. (k, inner_size cb k)) (inner_boxes tree b))) cb top
+        (unwrap_or p.least top) p.floats)
 
-    -- ---- the content of a block container (9.4): its lines; or, where it has none, its blocks one below the other, with the floats
-    -- between them
+    -- ---- the content of a block container (9.4): its lines; or, where it has
+    -- none, its blocks one below the other, with the floats between them
 
     abbrev pub flow_step : ℕ → Band ℤ → ℤ → Progress → Progress
     flow_step b cb top p = by_sort (has_line tree b)
@@ -323,7 +337,8 @@ module _ (tree : BoxTree) (w : World) (height : ℕ) where
   flow_to zero b cb top p = p
   flow_to (suc levels) b cb top p = flow_step (flow_to levels) b cb top p
 
-  -- the content of a box in a containing block, from a content top and how far the flow has come: a page has no more levels than boxes
+  -- the content of a box in a containing block, from a content top and how
+  -- far the flow has come: a page has no more levels than boxes
   abbrev pub flow : ℕ → Band ℤ → ℤ → Progress → Progress
   flow = flow_to (length tree.boxes)
 

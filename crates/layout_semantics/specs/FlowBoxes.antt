@@ -22,17 +22,19 @@ is_replaced_at tree b = is_replaced (kind_of tree b)
 
 -- it starts a block formatting context, and is not replaced (9.4.1)
 abbrev pub is_context_root : BoxTree → ℕ → Bool
-is_context_root tree b = option_map_or (λ (x : BoxNode). not (is_replaced x.kind) && x.context) (slice_get tree.boxes b) false
+is_context_root tree b =
+    option_map_or (λ (x : BoxNode). not (is_replaced x.kind) && x.context) (slice_get tree.boxes b) false
 
 abbrev pub is_block_level_at : BoxTree → ℕ → Bool
 is_block_level_at tree b = option_map_or (λ (x : BoxNode). x.block_level) (slice_get tree.boxes b) false
 
 -- ---- clear (9.5.2)
 
--- an in-flow block that starts a context, and an in-flow block-level replaced box, are treated as `clear: both`, so that
--- they overlap no float (our own reading; 9.5 allows to place them below)
+-- an in-flow block that starts a context, and an in-flow block-level replaced box, are treated as
+-- `clear: both`, so that they overlap no float (our own reading; 9.5 allows to place them below)
 abbrev pub stands_clear_of_floats : BoxTree → ℕ → Bool
-stands_clear_of_floats tree b = (is_context_root tree b || is_replaced_at tree b) && is_block_level_at tree b && not (is_floated_at tree b)
+stands_clear_of_floats tree b = (is_context_root tree b || is_replaced_at tree b) && is_block_level_at tree b
+    && not (is_floated_at tree b)
 
 -- `clear` as it works on a box in flow; on the root it has no effect
 unfoldable pub clear_of : BoxTree → ℕ → Clear
@@ -56,7 +58,8 @@ is_open_below tree b = not (is_context_root tree b) && not (is_replaced_at tree 
 
 -- ---- content
 
--- what normal flow has of a container without lines: its block-level boxes and floats, or the floats in its inline content
+-- what normal flow has of a container without lines: its block-level boxes
+-- and floats, or the floats in its inline content
 abbrev pub flow_children : BoxTree → ℕ → List ℕ
 flow_children tree b = by_sort (holds_inline tree b)
   where
@@ -105,7 +108,8 @@ room_inside tree w height b around = cond (is_inline (kind_of tree b)) around (w
 unfoldable pub room_to : ℕ → BoxTree → World → ℕ → ℕ → ℤ
 room_to zero tree w height b = pos (64 * w.w)
 room_to (suc levels) tree w height b =
-    option_map_or (λ parent. room_inside tree w height parent (room_to levels tree w height parent)) (parent_of tree.boxes b) (pos (64 * w.w))
+    option_map_or (λ parent. room_inside tree w height parent (room_to levels tree w height parent))
+    (parent_of tree.boxes b) (pos (64 * w.w))
 
 -- the root's is the viewport; a box's number is greater than its parent's
 abbrev pub room : BoxTree → World → ℕ → ℕ → ℤ

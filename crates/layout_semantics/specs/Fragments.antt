@@ -26,7 +26,8 @@ pub record ItemPlace : Type 0 where
 -- items one after another from x on
 abbrev pub set_out : InlineContext → ℤ → List Item → List ItemPlace
 set_out c x [] = []
-set_out c x (i ∷ items) = record { item = i; left = x; right = x +ℤ item_width c i } ∷ set_out c (x +ℤ item_width c i) items
+set_out c x (i ∷ items) = record { item = i; left = x; right = x +ℤ item_width c i }
+    ∷ set_out c (x +ℤ item_width c i) items
 
 abbrev pub is_end_of : ℕ → ItemPlace → Bool
 is_end_of at p = by_item p.item
@@ -57,7 +58,14 @@ pub record SetLine : Type 0 where
 
 -- the content of a fragment reaches from the ascent to the descent of its font (CSS 2.1, 10.6.1)
 abbrev pub text_area : InlineContext → ℕ → ℤ → ℤ → ℤ → Quad ℤ
-text_area c node baseline left right = record { left = left; top = baseline -ℤ ascent c.tree c.world node; right = right; bottom = baseline +ℤ descent c.tree c.world node }
+text_area c node baseline left right =
+    record {
+      left = left;
+      top = baseline -ℤ ascent c.tree c.world node;
+      right = right;
+      bottom = baseline
+          +ℤ descent c.tree c.world node;
+    }
 
 -- ---- text
 
@@ -66,26 +74,45 @@ abbrev pub text_baseline : InlineContext → SetLine → ℕ → ℤ
 text_baseline c line at = line.baseline -ℤ option_map_or (inline_shift c) (parent_of c.tree.boxes at) (pos 0)
 
 abbrev pub text_fragment : InlineContext → SetLine → ℕ → (left right : ℤ) → Entry ℤ
-text_fragment c line at left right = of_entry.Here (plain_box of_kind.Chars (node_of c.tree at) (text_area c (node_of c.tree at) (text_baseline c line at) left right))
+text_fragment c line at left right =
+    of_entry.Here (plain_box of_kind.Chars (node_of c.tree at)
+    (text_area c (node_of c.tree at) (text_baseline c line at) left right))
 
 -- where the piece of a text ends whose last item so far ends here, by what follows on the line
 abbrev pub text_right : ℕ → ℤ → List ItemPlace → ℤ
 text_right at right [] = right
 text_right at right (p ∷ after) = cond (is_text_of at p) (text_right at p.right after) right
 
--- the piece of a text on the line has an entry at the first of its words and spaces that stay: where the item before is not of that text
-abbrev pub text_entry : InlineContext → SetLine → ℕ → (before : Option ItemPlace) → ItemPlace → (after : List ItemPlace) → List (Entry ℤ)
-text_entry c line at before p after = cond (option_map_or (is_text_of at) before false) [] (text_fragment c line at p.left (text_right at p.right after) ∷ [])
+-- the piece of a text on the line has an entry at the first of its words and
+-- spaces that stay: where the item before is not of that text
+abbrev pub text_entry : InlineContext → SetLine → ℕ → (before : Option ItemPlace) → ItemPlace
+    → (after : List ItemPlace) → List (Entry ℤ)
+text_entry c line at before p after =
+    cond (option_map_or (is_text_of at) before false) []
+    (text_fragment c line at p.left (text_right at p.right after) ∷ [])
 
 -- ---- inline boxes
 
 -- a rectangle with edges around it
 abbrev pub grown : Quad ℤ → Quad ℤ → Quad ℤ
-grown q e = record { left = q.left -ℤ e.left; top = q.top -ℤ e.top; right = q.right +ℤ e.right; bottom = q.bottom +ℤ e.bottom }
+grown q e = record {
+  left = q.left -ℤ e.left;
+  top = q.top -ℤ e.top;
+  right = q.right +ℤ e.right;
+  bottom = q.bottom
+      +ℤ e.bottom;
+}
 
--- the used edges of a fragment of an inline box: the left ones where the box starts, the right ones where it ends (CSS 2.1, 8.6)
+-- the used edges of a fragment of an inline box: the left ones where the
+-- box starts, the right ones where it ends (CSS 2.1, 8.6)
 abbrev pub fragment_edges : InlineContext → (starts ends : Bool) → Sides Length → Quad ℤ
-fragment_edges c starts ends sides = record { left = cond starts (of_side sides.left) (pos 0); top = of_side sides.top; right = cond ends (of_side sides.right) (pos 0); bottom = of_side sides.bottom }
+fragment_edges c starts ends sides =
+    record {
+      left = cond starts (of_side sides.left) (pos 0);
+      top = of_side sides.top;
+      right = cond ends (of_side sides.right) (pos 0);
+      bottom = of_side sides.bottom;
+    }
   where
     of_side : Length → ℤ
     of_side length = used c.tree c.world length (band_width c.cb)
@@ -95,25 +122,39 @@ abbrev pub around : InlineContext → ℕ → (starts ends : Bool) → Quad ℤ 
 around c at starts ends area = from_padding (grown area (fragment_edges c starts ends (paddings c.tree at)))
   where
     from_border : Quad ℤ → Quad ℤ → Placed ℤ
-    from_border padding border = record { kind = of_kind.Inline; node = node_of c.tree at; margin = grown border (fragment_edges c starts ends (margins c.tree at)); border = border; padding = padding; content = area }
+    from_border padding border =
+        record {
+          kind = of_kind.Inline;
+          node = node_of c.tree at;
+          margin = grown border (fragment_edges c starts ends (margins c.tree at));
+          border = border;
+          padding = padding;
+          content = area;
+        }
 
     from_padding : Quad ℤ → Placed ℤ
     from_padding padding = from_border padding (grown padding (fragment_edges c starts ends (borders c.tree at)))
 
--- the fragment of an inline box: from its start, where that is on the line, else from the left of the line's content; up to its end in what
--- follows, where that is on the line, else to the right of the content
+-- the fragment of an inline box: from its start, where that is on the line, else from the left of the line's
+-- content; up to its end in what follows, where that is on the line, else to the right of the content
 abbrev pub inline_fragment : InlineContext → SetLine → ℕ → (start_right : Option ℤ) → (after : List ItemPlace) → Entry ℤ
 inline_fragment c line at start_right after = of_entry.Here (up_to (find (is_end_of at) after))
   where
     up_to : Option ItemPlace → Placed ℤ
     up_to last = around c at (is_some start_right) (is_some last)
-        (text_area c (node_of c.tree at) (line.baseline -ℤ inline_shift c at) (unwrap_or start_right line.left) (option_map_or (λ (p : ItemPlace). p.left) last line.right))
+        (text_area c (node_of c.tree at) (line.baseline -ℤ inline_shift c at) (unwrap_or start_right line.left)
+        (option_map_or (λ (p : ItemPlace). p.left) last line.right))
 
 -- ---- atomic boxes and floats
 
 -- an atomic box stands with its own baseline raised over the line's
 abbrev pub atomic_entry : InlineContext → SetLine → ℕ → ℤ → Entry ℤ
-atomic_entry c line at left = of_entry.Goes at (record { x = left; y = (line.baseline -ℤ shift c at (box_extent c at)) -ℤ (box_extent c at).above })
+atomic_entry c line at left =
+    of_entry.Goes at (record {
+      x = left;
+      y = (line.baseline -ℤ shift c at (box_extent c at))
+          -ℤ (box_extent c at).above;
+    })
 
 -- floats go to where they stand
 abbrev pub float_entries : List (ℕ × Spot ℤ) → List (Entry ℤ)
@@ -121,8 +162,10 @@ float_entries spots = map (λ entry. of_entry.Goes entry.0 entry.1) spots
 
 -- ---- the entries of a line after its own
 
--- the entries of an item, by the item before it on the line, by those after it, and by where the floats stand that are left
-abbrev pub item_entries : InlineContext → SetLine → (before : Option ItemPlace) → ItemPlace → (after : List ItemPlace) → List (ℕ × Spot ℤ) → List (Entry ℤ)
+-- the entries of an item, by the item before it on the line, by those after
+-- it, and by where the floats stand that are left
+abbrev pub item_entries : InlineContext → SetLine → (before : Option ItemPlace) → ItemPlace → (after : List ItemPlace)
+    → List (ℕ × Spot ℤ) → List (Entry ℤ)
 item_entries c line before p after spots = by_item p.item
   where
     by_item : Item → List (Entry ℤ)
@@ -140,9 +183,11 @@ spots_after (float at) spots = drop 1 spots
 spots_after _ spots = spots
 
 -- of the items in their order
-abbrev pub entries_after : InlineContext → SetLine → (before : Option ItemPlace) → List ItemPlace → List (ℕ × Spot ℤ) → List (Entry ℤ)
+abbrev pub entries_after : InlineContext → SetLine → (before : Option ItemPlace) → List ItemPlace → List (ℕ × Spot ℤ)
+    → List (Entry ℤ)
 entries_after c line before [] spots = []
-entries_after c line before (p ∷ after) spots = item_entries c line before p after spots ++ entries_after c line (Some p) after (spots_after p.item spots)
+entries_after c line before (p ∷ after) spots = item_entries c line before p after spots
+    ++ entries_after c line (Some p) after (spots_after p.item spots)
 
 -- of the inline boxes that are open at the line's start, outermost first
 abbrev pub opened_entries : InlineContext → SetLine → List ℕ → List (Entry ℤ)

@@ -19,7 +19,8 @@ use Rattle.layout_semantics.specs.Preferred.{preferred}
 
 -- ---- the seven terms (CSS 2.1, 10.3.3)
 
--- the terms of a box around so wide a content, automatic margins being 0; percentages are of the containing block's width
+-- the terms of a box around so wide a content, automatic margins being 0;
+-- percentages are of the containing block's width
 abbrev pub terms_around : BoxTree → World → ℕ → ℤ → ℤ → Widths ℤ
 terms_around tree w at cb width = record {
   margin_left = used tree w (margins tree at).left cb;
@@ -32,7 +33,8 @@ terms_around tree w at cb width = record {
 }
 
 abbrev pub sum_of : Widths ℤ → ℤ
-sum_of t = t.margin_left +ℤ (t.border_left +ℤ (t.padding_left +ℤ (t.content +ℤ (t.padding_right +ℤ (t.border_right +ℤ t.margin_right)))))
+sum_of t = t.margin_left
+    +ℤ (t.border_left +ℤ (t.padding_left +ℤ (t.content +ℤ (t.padding_right +ℤ (t.border_right +ℤ t.margin_right)))))
 
 -- what the containing block leaves for the content, and no less than 0 (our own reading)
 abbrev pub available : BoxTree → World → ℕ → ℤ → ℤ
@@ -44,8 +46,8 @@ abbrev pub is_auto : Length → Bool
 is_auto of_length.Auto = true
 is_auto _ = false
 
--- the left margin where the other terms leave so much: two automatic margins share it equally, the left one rounded down (our own reading),
--- and one takes it all; where the terms are too wide an automatic margin is 0
+-- the left margin where the other terms leave so much: two automatic margins share it equally, the left one rounded
+-- down (our own reading), and one takes it all; where the terms are too wide an automatic margin is 0
 abbrev pub left_margin : (left_auto right_auto fits : Bool) → ℤ → ℤ → ℤ
 left_margin true true true left_over given = floor_of left_over 2
 left_margin true false true left_over given = left_over
@@ -53,16 +55,20 @@ left_margin _ _ _ left_over given = given
 
 -- the terms with another left margin, and the right margin that makes the sum the containing block's width
 abbrev pub with_margins : Widths ℤ → ℤ → ℤ → Widths ℤ
-with_margins t cb left = record t { margin_left = left; margin_right = cb -ℤ (sum_of t -ℤ t.margin_left -ℤ t.margin_right) -ℤ left }
+with_margins t cb left =
+    record t { margin_left = left; margin_right = cb -ℤ (sum_of t -ℤ t.margin_left -ℤ t.margin_right) -ℤ left }
 
 -- of a fixed width
 abbrev pub fixed_terms : BoxTree → World → ℕ → ℤ → ℤ → Widths ℤ
 fixed_terms tree w at cb width = by_rest (terms_around tree w at cb width)
   where
     by_rest : Widths ℤ → Widths ℤ
-    by_rest t = with_margins t cb (left_margin (is_auto (margins tree at).left) (is_auto (margins tree at).right) (int_le (sum_of t) cb) (cb -ℤ sum_of t) t.margin_left)
+    by_rest t = with_margins t cb
+        (left_margin (is_auto (margins tree at).left) (is_auto (margins tree at).right) (int_le (sum_of t) cb)
+        (cb -ℤ sum_of t) t.margin_left)
 
--- of width `auto`: automatic margins are 0 and the width follows; where it would be negative it is 0 and the right margin gives way (our own reading)
+-- of width `auto`: automatic margins are 0 and the width follows; where it would
+-- be negative it is 0 and the right margin gives way (our own reading)
 abbrev pub auto_terms : BoxTree → World → ℕ → ℤ → Widths ℤ
 auto_terms tree w at cb = by_terms (terms_around tree w at cb (available tree w at cb))
   where
@@ -81,7 +87,8 @@ shrink_to_fit p room = int_min (int_max p.least room) p.most
 
 -- automatic margins are 0
 abbrev pub shrunk_terms : BoxTree → World → ℕ → ℤ → Option ℤ → Widths ℤ
-shrunk_terms tree w at cb None = terms_around tree w at cb (shrink_to_fit (preferred tree w at) (available tree w at cb))
+shrunk_terms tree w at cb None =
+    terms_around tree w at cb (shrink_to_fit (preferred tree w at) (available tree w at cb))
 shrunk_terms tree w at cb (Some width) = terms_around tree w at cb width
 
 -- ---- minima and maxima (CSS 2.1, 10.4)
@@ -98,11 +105,13 @@ at_most terms (Some most) t = again_unless (int_le t.content most) terms most t
 abbrev pub at_least : (Option ℤ → Widths ℤ) → ℤ → Widths ℤ → Widths ℤ
 at_least terms least t = again_unless (int_le least t.content) terms least t
 
--- with the width of the box's own property, then with its maximum where that is less, and then with its minimum where that is more
+-- with the width of the box's own property, then with its maximum where
+-- that is less, and then with its minimum where that is more
 abbrev pub held_terms : BoxTree → World → ℕ → ℤ → (Option ℤ → Widths ℤ) → Widths ℤ
 held_terms tree w at cb terms =
     at_least terms (used tree w (own tree at (λ (s : Style). s.min_width) nothing) cb)
-    (at_most terms (maximum (λ length. used_unless_auto tree w length cb) (own tree at (λ (s : Style). s.max_width) None))
+    (at_most terms (maximum (λ length. used_unless_auto tree w length cb)
+    (own tree at (λ (s : Style). s.max_width) None))
     (terms (used_unless_auto tree w (own tree at (λ (s : Style). s.width) of_length.Auto) cb)))
 
 -- ---- a box

@@ -91,7 +91,15 @@ text_of tree at = option_map_or (λ (b : BoxNode). chars b.chars) (slice_get tre
 -- the items of a box, down to so many levels
 unfoldable pub items_to : ℕ → BoxTree → ℕ → List Item
 items_to zero tree at = []
-items_to (suc levels) tree at = elim (sort_of tree at) [ a_float ↦ float at ∷ [] | an_atomic ↦ atomic at ∷ [] | a_break ↦ forced at ∷ [] | a_text ↦ text_items at (text_of tree at) | an_inline ↦ start at ∷ (flat_map (items_to levels tree) (kids_of tree.boxes at) ++ finish at ∷ []) ]
+items_to (suc levels) tree at =
+    elim (sort_of tree at) [
+      | a_float ↦ float at ∷ []
+      | an_atomic ↦ atomic at ∷ []
+      | a_break ↦ forced at ∷ []
+      | a_text ↦ text_items at (text_of tree at)
+      | an_inline ↦ start at
+          ∷ (flat_map (items_to levels tree) (kids_of tree.boxes at) ++ finish at ∷ [])
+    ]
 
 -- the inline content of a box, in document order; a page has no more levels than boxes
 abbrev pub content : BoxTree → ℕ → List Item
@@ -138,9 +146,11 @@ abbrev pub end_edges : BoxTree → ℕ → List Length
 end_edges tree at = (margins tree at).right ∷ (borders tree at).right ∷ (paddings tree at).right ∷ []
 
 abbrev pub vertical_edges : BoxTree → ℕ → List Length
-vertical_edges tree at = (margins tree at).top ∷ (borders tree at).top ∷ (paddings tree at).top ∷ (margins tree at).bottom ∷ (borders tree at).bottom ∷ (paddings tree at).bottom ∷ []
+vertical_edges tree at = (margins tree at).top ∷ (borders tree at).top ∷ (paddings tree at).top
+    ∷ (margins tree at).bottom ∷ (borders tree at).bottom ∷ (paddings tree at).bottom ∷ []
 
--- what a line exists by: text, an atomic box, a forced break, or edges of an inline box that aren't zero; a space stays only beside these
+-- what a line exists by: text, an atomic box, a forced break, or edges of an
+-- inline box that aren't zero; a space stays only beside these
 abbrev pub makes_line : BoxTree → Item → Bool
 makes_line tree (word at text) = true
 makes_line tree (atomic at) = true

@@ -1,5 +1,5 @@
--- The margins that adjoin the top of a box, going forward (CSS 2.1, 8.3.1). Where floats, clearance and margins that collapse
--- through meet, the standard leaves much open, and this is our own reading of 8.3.1 and 9.5.2.
+-- The margins that adjoin the top of a box, going forward (CSS 2.1, 8.3.1). Where floats, clearance and margins that
+-- collapse through meet, the standard leaves much open, and this is our own reading of 8.3.1 and 9.5.2.
 use Rattle.std.specs.Prelude.{ℕ, zero, suc, ℤ, Bool, true, false, not, ◌&&◌, nat_le, List, [], ◌∷◌, ◌++◌, length}
 use Rattle.viz_base.specs.declared.layouts.Band.{Band}
 use Rattle.viz_base.specs.declared.layouts.LeadEnd.{LeadEnd}
@@ -13,8 +13,8 @@ use Rattle.layout_semantics.specs.Verticals.{verticals}
 use Rattle.layout_semantics.specs.FlowBoxes.{clear_of, is_open_above, may_collapse_through, flow_children, across, block_band}
 use Rattle.layout_semantics.specs.InlineContent.{is_floated_at, has_line}
 
--- the margins, the floats between them with their containing blocks, where they end, and the containing block of the box at
--- which they end
+-- the margins, the floats between them with their containing blocks, where
+-- they end, and the containing block of the box at which they end
 pub record Leading : Type 0 where
   pub margins : List ℤ
   pub waiting : List (Waiting ℤ)
@@ -51,7 +51,13 @@ module _ (tree : BoxTree) (w : World) where
   followed_by first rest = by_end first.end
     where
       by_end : LeadEnd → Leading
-      by_end of_end.Through = record { margins = first.margins ++ rest.margins; waiting = first.waiting ++ rest.waiting; end = rest.end; cb = rest.cb }
+      by_end of_end.Through =
+          record {
+            margins = first.margins ++ rest.margins;
+            waiting = first.waiting ++ rest.waiting;
+            end = rest.end;
+            cb = rest.cb;
+          }
       by_end _ = first
 
   -- margins that go on
@@ -87,7 +93,8 @@ module _ (tree : BoxTree) (w : World) where
 
       by_top : Bool → Leading
       by_top false = stop (of_end.Solid b) (top_margin cb b ∷ [])
-      by_top true = followed_by (through cb (top_margin cb b ∷ [])) (followed_by (children (block_band tree w cb b)) (last (may_collapse_through tree b)))
+      by_top true = followed_by (through cb (top_margin cb b ∷ []))
+          (followed_by (children (block_band tree w cb b)) (last (may_collapse_through tree b)))
 
       by_clear : Bool → Leading
       by_clear true = stop (of_end.Cleared b) []

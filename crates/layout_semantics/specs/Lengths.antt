@@ -37,7 +37,8 @@ used_if_absolute tree w length = Some (used tree w length (pos 0))
 abbrev pub maximum : (Length → Option ℤ) → Option Length → Option ℤ
 maximum measure most = option_map_or measure most None
 
--- a length that is above the maximum becomes it, and then one that is below the minimum becomes that (CSS 2.1, 10.4, 10.7)
+-- a length that is above the maximum becomes it, and then one that is below
+-- the minimum becomes that (CSS 2.1, 10.4, 10.7)
 abbrev pub held : Option ℤ → ℤ → ℤ → ℤ
 held most least length = int_max (option_map_or (int_min length) most length) least
 

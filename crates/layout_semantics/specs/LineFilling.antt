@@ -26,8 +26,8 @@ band_width room = room.right -ℤ room.left
 abbrev pub used_edges : InlineContext → List Length → ℤ
 used_edges c edges = total (map (λ edge. used c.tree c.world edge (band_width c.cb)) edges)
 
--- what an item takes of a line: a word and a space their advances, an atomic box its margin box, the start and the end of an inline box its
--- margin, border and padding there
+-- what an item takes of a line: a word and a space their advances, an atomic box its margin
+-- box, the start and the end of an inline box its margin, border and padding there
 abbrev pub item_width : InlineContext → Item → ℤ
 item_width c (word at text) = text_width c.tree c.world (node_of c.tree at) text
 item_width c (space at) = text_width c.tree c.world (node_of c.tree at) (32 ∷ [])
@@ -46,14 +46,17 @@ fits width room = int_le width (band_width room)
 
 -- ---- floats
 
--- floats that were placed, in their order, with the list that they then stand in, and those that wait for the line's bottom
+-- floats that were placed, in their order, with the list that they then
+-- stand in, and those that wait for the line's bottom
 pub record Met : Type 0 where
   pub spots : List (ℕ × Spot ℤ)
   pub floats : List FloatBox
   pub waiting : List ℕ
 
 abbrev pub float_size : InlineContext → ℕ → Extent ℤ
-float_size c at = option_map_or (λ (i : Inner ℤ). record { width = i.width; height = i.above +ℤ i.below }) (inner_of c at) (record { width = pos 0; height = pos 0 })
+float_size c at =
+    option_map_or (λ (i : Inner ℤ). record { width = i.width; height = i.above +ℤ i.below }) (inner_of c at)
+    (record { width = pos 0; height = pos 0 })
 
 abbrev pub line_float : InlineContext → ℕ → Floating
 line_float c at = floating c.tree at (float_size c at) c.cb
@@ -64,14 +67,16 @@ line_spot c floats least y at = float_spot (line_float c at) floats (Some least)
 
 -- with one more of them placed, or waiting
 abbrev pub with_spot : InlineContext → Met → ℕ → Spot ℤ → Met
-with_spot c met at spot = record met { spots = met.spots ++ (at, spot) ∷ []; floats = with_float_at (line_float c at) met.floats spot }
+with_spot c met at spot =
+    record met { spots = met.spots ++ (at, spot) ∷ []; floats = with_float_at (line_float c at) met.floats spot }
 
 abbrev pub with_waiting : Met → ℕ → Met
 with_waiting met at = record met { waiting = met.waiting ++ at ∷ [] }
 
 -- floats placed one after another, each from y on
 abbrev pub place_each : InlineContext → ℤ → ℤ → Met → List ℕ → Met
-place_each c least y met boxes = fold (λ (now : Met) at. with_spot c now at (line_spot c now.floats least y at)) met boxes
+place_each c least y met boxes =
+    fold (λ (now : Met) at. with_spot c now at (line_spot c now.floats least y at)) met boxes
 
 -- ---- the top of a line
 
@@ -82,14 +87,17 @@ abbrev pub least_or : ℤ → List ℤ → ℤ
 least_or y [] = y
 least_or y (x ∷ xs) = least_from x xs
 
--- the highest place from y on where so wide a stretch fits beside the floats, or no float is met; only below a float's bottom is there more room
+-- the highest place from y on where so wide a stretch fits beside the floats, or
+-- no float is met; only below a float's bottom is there more room
 abbrev pub line_top : InlineContext → List FloatBox → ℤ → ℤ → ℤ → ℤ
-line_top c floats y tall width = least_or y (filter (λ top. fits width (band_at floats c.cb top tall) || meets_none floats top tall) (candidate_tops floats y))
+line_top c floats y tall width =
+    least_or y (filter (λ top. fits width (band_at floats c.cb top tall) || meets_none floats top tall)
+    (candidate_tops floats y))
 
 -- ---- what a line holds
 
--- a line to be filled: its top, the height of the tallest line, the highest top of its floats, the floats that stand before its first
--- stretch, and the stretches that are left
+-- a line to be filled: its top, the height of the tallest line, the highest top of its floats,
+-- the floats that stand before its first stretch, and the stretches that are left
 pub record Line : Type 0 where
   pub top : ℤ
   pub tall : ℤ
@@ -124,20 +132,24 @@ none_waits met = none met.waiting
 
 -- a float's place is at the line's top, and beside it there is still room for what the line holds
 abbrev pub leaves_room : InlineContext → Line → ℤ → Met → ℕ → Spot ℤ → Bool
-leaves_room c line held met at spot = int_eq spot.y line.top && fits held (band_at (with_float_at (line_float c at) met.floats spot) c.cb line.top line.tall)
+leaves_room c line held met at spot = int_eq spot.y line.top
+    && fits held (band_at (with_float_at (line_float c at) met.floats spot) c.cb line.top line.tall)
 
--- a float that the line meets where it holds so much already stands in its place at once, where none before it waits and that leaves room;
--- else it waits (our own reading)
+-- a float that the line meets where it holds so much already stands in its place at once,
+-- where none before it waits and that leaves room; else it waits (our own reading)
 abbrev pub meet : InlineContext → Line → ℤ → Met → ℕ → Met
 meet c line held met at = with_place (line_spot c met.floats line.least line.top at)
   where
     with_place : Spot ℤ → Met
-    with_place spot = cond (none_waits met && leaves_room c line held met at spot) (with_spot c met at spot) (with_waiting met at)
+    with_place spot =
+        cond (none_waits met && leaves_room c line held met at spot) (with_spot c met at spot) (with_waiting met at)
 
 -- the floats met in the first n stretches, and those before
 abbrev pub met_after : InlineContext → Line → ℕ → Met
 met_after c line zero = line.before
-met_after c line (suc n) = fold (meet c line (width_held c (first_items line (suc n)))) (met_after c line n) (floats_met c.tree n (slice_index_or line.parts n []))
+met_after c line (suc n) =
+    fold (meet c line (width_held c (first_items line (suc n)))) (met_after c line n)
+    (floats_met c.tree n (slice_index_or line.parts n []))
 
 -- the first k stretches fit beside the floats met in those before the last, and no forced break stands before it
 abbrev pub may_hold : InlineContext → Line → ℕ → Bool
@@ -145,6 +157,7 @@ may_hold c line k =
     fits (width_held c (first_items line k)) (band_at (met_after c line (k - 1)).floats c.cb line.top line.tall)
     && not (list_any is_forced (first_items line (k - 1)))
 
--- a line holds the longest list of stretches such that each of its beginnings of two and more may stand on it; the first stretch it holds in any case
+-- a line holds the longest list of stretches such that each of its beginnings of
+-- two and more may stand on it; the first stretch it holds in any case
 abbrev pub stretches_held : InlineContext → Line → ℕ
 stretches_held c line = suc (prefix_len (may_hold c line) (range_with_len 2 (length line.parts - 1)))

@@ -19,7 +19,8 @@ use Rattle.layout_semantics.specs.InlineContent.{Item, start, atomic, content}
 
 -- ---- an inline formatting context (CSS 2.1, 9.4.2)
 
--- a block container with the edges of its content, and a table by box number of the outer sizes of the floats and atomic boxes in its lines
+-- a block container with the edges of its content, and a table by box number
+-- of the outer sizes of the floats and atomic boxes in its lines
 pub record InlineContext : Type 0 where
   pub tree : BoxTree
   pub world : World
@@ -52,25 +53,31 @@ inline_extent tree w node = from_above (ascent tree w node +ℤ half_leading tre
 
 -- an inline box, or an atomic box by its margin box
 abbrev pub box_extent : InlineContext → ℕ → LineExtent
-box_extent c at = option_map_or (λ (i : Inner ℤ). record { above = i.above; below = i.below }) (inner_of c at) (inline_extent c.tree c.world (node_of c.tree at))
+box_extent c at =
+    option_map_or (λ (i : Inner ℤ). record { above = i.above; below = i.below }) (inner_of c at)
+    (inline_extent c.tree c.world (node_of c.tree at))
 
 -- ---- vertical-align (CSS 2.1, 10.8.1)
 
--- how far a box is raised over its parent's baseline: `sub`, `super` and `middle` by parts of the parent's font size (our own reading), the
--- percentages of lengths being of the box's own line height
+-- how far a box is raised over its parent's baseline: `sub`, `super` and `middle` by parts of the parent's
+-- font size (our own reading), the percentages of lengths being of the box's own line height
 abbrev pub raise : InlineContext → (node parent_node : ℕ) → LineExtent → Valign → ℤ
 raise c node parent e of_valign.Baseline = pos 0
 raise c node parent e of_valign.Sub = neg_ℤ (floor_of (font_size c.tree c.world parent) 5)
 raise c node parent e of_valign.Super = floor_of (font_size c.tree c.world parent) 3
-raise c node parent e of_valign.Middle = (floor_of (font_size c.tree c.world parent) 4 +ℤ floor_of (height_of_extent e) 2) -ℤ e.above
+raise c node parent e of_valign.Middle =
+    (floor_of (font_size c.tree c.world parent) 4 +ℤ floor_of (height_of_extent e) 2) -ℤ e.above
 raise c node parent e (of_valign.Raise length) = used c.tree c.world length (line_height c.tree c.world node)
 
 unfoldable pub shift_to : ℕ → InlineContext → ℕ → LineExtent → ℤ
 shift_to zero c at e = pos 0
 shift_to (suc levels) c at e = elim (at == c.container) [
   | true ↦ pos 0
-  | false ↦ option_map_or (λ parent. raise c (node_of c.tree at) (node_of c.tree parent) e (own c.tree at (λ (s : Style). s.valign) of_valign.Baseline)
-      +ℤ shift_to levels c parent (inline_extent c.tree c.world (node_of c.tree parent))) (parent_of c.tree.boxes at) (pos 0)
+  | false ↦ option_map_or
+      (λ parent. raise c (node_of c.tree at) (node_of c.tree parent) e
+      (own c.tree at (λ (s : Style). s.valign) of_valign.Baseline)
+      +ℤ shift_to levels c parent (inline_extent c.tree c.world (node_of c.tree parent))) (parent_of c.tree.boxes at)
+      (pos 0)
 ]
 
 -- how far the baseline of a box is above that of its line: its own raise and those of the inline boxes around it
@@ -113,6 +120,7 @@ extended_boxes items = flat_map of_item items
     of_item (atomic at) = at ∷ []
     of_item _ = []
 
--- the height of the tallest line that the content could make, at least 1/64 px: our own reading of which floats a line is beside
+-- the height of the tallest line that the content could make, at least 1/64
+-- px: our own reading of which floats a line is beside
 abbrev pub tallest : InlineContext → ℤ
 tallest c = int_max (pos 1) (height_of_extent (line_extent c (extended_boxes (content c.tree c.container))))

@@ -24,8 +24,8 @@ use Rattle.layout_semantics.specs.Fragments.{set_out, SetLine, line_entries, flo
 
 -- ---- between lines
 
--- what lines leave to the next one: where it begins, the highest top that its floats may have, the floats of the context, the inline boxes
--- that are open, outermost first, and the last line's baseline
+-- what lines leave to the next one: where it begins, the highest top that its floats may have, the floats of
+-- the context, the inline boxes that are open, outermost first, and the last line's baseline
 pub record SoFar : Type 0 where
   pub y : ℤ
   pub least : ℤ
@@ -52,14 +52,23 @@ opened_after opened _ = opened
 
 -- its floats that stand before anything on it are placed first, from where it begins; then its top is found
 abbrev pub next_line : InlineContext → ℤ → SoFar → List Item → List (List Item) → Line
-next_line c tall now first parts = at_top (place_each c now.least now.y (record { spots = []; floats = now.floats; waiting = [] }) (float_boxes (before_line c.tree first)))
+next_line c tall now first parts =
+    at_top (place_each c now.least now.y (record { spots = []; floats = now.floats; waiting = [] })
+    (float_boxes (before_line c.tree first)))
   where
     at_top : Met → Line
-    at_top met = record { top = line_top c met.floats now.y tall (width_held c first); tall = tall; least = now.least; before = met; parts = parts }
+    at_top met = record {
+      top = line_top c met.floats now.y tall (width_held c first);
+      tall = tall;
+      least = now.least;
+      before = met;
+      parts = parts;
+    }
 
 -- ---- a line that exists
 
--- how far a line's content is moved to the right, where there is room (CSS 2.1, 16.2); in the middle by half the room, rounded down (our own reading)
+-- how far a line's content is moved to the right, where there is room (CSS 2.1,
+-- 16.2); in the middle by half the room, rounded down (our own reading)
 abbrev pub aligned : Align → ℤ → ℤ
 aligned of_align.Left room = pos 0
 aligned of_align.Right room = int_max (pos 0) room
@@ -70,14 +79,23 @@ align_of tree at = option_map_or (λ (s : Style). s.align) (style_of tree at) of
 
 -- a line box: from edge to edge of what the floats leave, and from its highest to its lowest box
 abbrev pub line_box : InlineContext → Band ℤ → ℤ → ℤ → Entry ℤ
-line_box c room top bottom = of_entry.Here (plain_box of_kind.Line (node_of c.tree c.container) (record { left = room.left; top = top; right = room.right; bottom = bottom }))
+line_box c room top bottom =
+    of_entry.Here (plain_box of_kind.Line (node_of c.tree c.container)
+    (record { left = room.left; top = top; right = room.right; bottom = bottom }))
 
 -- the line with its content set out in the room that its floats leave
 abbrev pub content_left : InlineContext → Band ℤ → ℤ → ℤ
 content_left c room held = room.left +ℤ aligned (align_of c.tree c.container) (band_width room -ℤ held)
 
 abbrev pub set_line : InlineContext → ℤ → ℤ → ℤ → List Item → Met → SetLine
-set_line c baseline left held items late = record { baseline = baseline; left = left; right = left +ℤ held; places = set_out c left (what_stays items); spots = late.spots }
+set_line c baseline left held items late =
+    record {
+      baseline = baseline;
+      left = left;
+      right = left +ℤ held;
+      places = set_out c left (what_stays items);
+      spots = late.spots;
+    }
 
 -- the line holds the items, and the floats were met that don't wait; those that wait are placed from its bottom on
 abbrev pub laid_line : InlineContext → SoFar → Line → List Item → Met → LaidLines
@@ -93,21 +111,29 @@ laid_line c now line items met = with_extent (line_extent c (now.opened ++ exten
         baseline = Some (line.top +ℤ e.above);
       };
       entries = line_box c room line.top (line.top +ℤ height_of_extent e)
-          ∷ line_entries c (set_line c (line.top +ℤ e.above) (content_left c room (width_held c items)) (width_held c items) items late) now.opened;
+          ∷ line_entries c (set_line c (line.top +ℤ e.above) (content_left c room (width_held c items))
+          (width_held c items) items late) now.opened;
     }
 
     with_extent : LineExtent → LaidLines
     with_extent e = finished e (band_at met.floats c.cb line.top line.tall)
-        (place_each c (int_max now.least line.top) (line.top +ℤ height_of_extent e) (record met { waiting = [] }) met.waiting)
+        (place_each c (int_max now.least line.top) (line.top +ℤ height_of_extent e) (record met { waiting = [] })
+        met.waiting)
 
 -- ---- a line that doesn't exist
 
 -- it has no height and no entry; its floats are placed from where it would begin (CSS 2.1, 9.4.2)
 abbrev pub laid_no_line : InlineContext → SoFar → List Item → LaidLines
-laid_no_line c now items = with_floats (place_each c now.least now.y (record { spots = []; floats = now.floats; waiting = [] }) (float_boxes items))
+laid_no_line c now items =
+    with_floats (place_each c now.least now.y (record { spots = []; floats = now.floats; waiting = [] })
+    (float_boxes items))
   where
     with_floats : Met → LaidLines
-    with_floats met = record { after = record now { floats = met.floats; opened = fold opened_after now.opened items }; entries = float_entries met.spots }
+    with_floats met =
+        record {
+          after = record now { floats = met.floats; opened = fold opened_after now.opened items };
+          entries = float_entries met.spots;
+        }
 
 -- ---- all lines
 
@@ -140,7 +166,8 @@ laid_none now = record { after = now; entries = [] }
 unfoldable pub lines_to : ℕ → InlineContext → ℤ → SoFar → List (List Item) → LaidLines
 lines_to zero c tall now parts = laid_none now
 lines_to (suc lines) c tall now [] = laid_none now
-lines_to (suc lines) c tall now (first ∷ parts) = go_on (lines_to lines c tall) (laid_next c tall now first (first ∷ parts))
+lines_to (suc lines) c tall now (first ∷ parts) =
+    go_on (lines_to lines c tall) (laid_next c tall now first (first ∷ parts))
 
 -- before the first line
 abbrev pub before_all : ℤ → ℤ → List FloatBox → SoFar
@@ -153,8 +180,8 @@ pub record LineList : Type 0 where
   pub baseline : Option ℤ
   pub floats : List FloatBox
 
--- from y on, in a block formatting context with these floats, none of the lines' floats having its top above `least`; each line holds one
--- stretch at least, so there are no more lines than stretches
+-- from y on, in a block formatting context with these floats, none of the lines' floats having its top
+-- above `least`; each line holds one stretch at least, so there are no more lines than stretches
 abbrev pub lines_in : InlineContext → ℤ → ℤ → List FloatBox → LineList
 lines_in c y least floats = listed (lines_of (stretches c.tree (content c.tree c.container)))
   where
@@ -162,8 +189,14 @@ lines_in c y least floats = listed (lines_of (stretches c.tree (content c.tree c
     lines_of parts = lines_to (length parts) c (tallest c) (before_all y least floats) parts
 
     listed : LaidLines → LineList
-    listed laid = record { entries = laid.entries; bottom = laid.after.y; baseline = laid.after.baseline; floats = laid.after.floats }
+    listed laid = record {
+      entries = laid.entries;
+      bottom = laid.after.y;
+      baseline = laid.after.baseline;
+      floats = laid.after.floats;
+    }
 
 -- of a box of a tree, the outer sizes of its floats and atomic boxes standing in the table `inner`
 abbrev pub lines : BoxTree → World → ℕ → List (Option (Inner ℤ)) → Band ℤ → ℤ → ℤ → List FloatBox → LineList
-lines tree w at inner cb y least floats = lines_in (record { tree = tree; world = w; container = at; inner = inner; cb = cb }) y least floats
+lines tree w at inner cb y least floats =
+    lines_in (record { tree = tree; world = w; container = at; inner = inner; cb = cb }) y least floats

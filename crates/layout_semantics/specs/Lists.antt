@@ -12,4 +12,5 @@ room_for n (entry ∷ entries) = n
 
 -- a table with a place for each number below n, that holds what stands beside each of these numbers there
 abbrev pub table_of : {A : Type 0} → ℕ → List (ℕ × A) → List (Option A)
-table_of n entries = fold (λ table entry. slice_set table entry.0 (Some entry.1)) (replicate (room_for n entries) None) entries
+table_of n entries =
+    fold (λ table entry. slice_set table entry.0 (Some entry.1)) (replicate (room_for n entries) None) entries

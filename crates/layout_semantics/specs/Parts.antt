@@ -57,7 +57,8 @@ level_of false (of_body.Element element) s = if is_break (of_body.Element elemen
 -- inline-level boxes (CSS 2.1, 9.2.2 and 9.2.4)
 abbrev pub inline_kind : Body → Display → Kind
 inline_kind (of_body.Chars text) display = of_kind.Chars
-inline_kind (of_body.Element element) of_display.InlineBlock = if is_break (of_body.Element element) then of_kind.Break else of_kind.Atomic
+inline_kind (of_body.Element element) of_display.InlineBlock = if is_break (of_body.Element element)
+    then of_kind.Break else of_kind.Atomic
 inline_kind (of_body.Element element) _ = if is_break (of_body.Element element) then of_kind.Break else of_kind.Inline
 
 abbrev pub level_kind : Level → Body → Display → Kind
@@ -116,7 +117,8 @@ part_of nodes styles at n s = record {
 -- the part of a node that makes a box
 abbrev pub shown_part : List Node → List Style → ℕ × Node → Option Part
 shown_part nodes styles entry =
-    if is_shown nodes styles entry.0 then option_map (part_of nodes styles entry.0 entry.1) (slice_get styles entry.0) else None
+    if is_shown nodes styles entry.0 then option_map (part_of nodes styles entry.0 entry.1) (slice_get styles entry.0)
+    else None
 
 -- the parts of a page, in document order; the texts of them are those of the page
 abbrev pub shown_parts : List Node → List Style → List Part

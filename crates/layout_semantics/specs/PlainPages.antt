@@ -39,7 +39,8 @@ pub record PlainStyle : Type 0 where
   pub wraps : Bool
 
 abbrev pub StyleKeeps : PlainStyle → Type 0
-StyleKeeps s = IsStyle s.width s.min_width s.max_width s.height s.min_height s.max_height s.margin s.padding s.border s.size s.line s.valign
+StyleKeeps s = IsStyle s.width s.min_width s.max_width s.height s.min_height s.max_height s.margin s.padding s.border
+    s.size s.line s.valign
 
 abbrev pub style : (s : PlainStyle) → StyleKeeps s → Style
 style s ok = record {
@@ -85,7 +86,15 @@ abbrev pub FontKeeps : PlainFont → Type 0
 FontKeeps f = IsFont f.upem f.ascent f.descent f.other f.advances
 
 abbrev pub font : (f : PlainFont) → FontKeeps f → Font
-font f ok = record { name = f.name; upem = f.upem; ascent = f.ascent; descent = f.descent; other = f.other; advances = f.advances; ok = ok }
+font f ok = record {
+  name = f.name;
+  upem = f.upem;
+  ascent = f.ascent;
+  descent = f.descent;
+  other = f.other;
+  advances = f.advances;
+  ok = ok;
+}
 
 abbrev pub FontsKeep : List PlainFont → Type 0
 FontsKeep [] = Unit {0}
@@ -107,4 +116,10 @@ pub record TreeKeeps (t : PlainTree) : Type 0 where
   pub whole : IsBoxTree t.boxes (styles t.styles of_styles) (fonts t.fonts of_fonts) t.parents
 
 abbrev pub tree : (t : PlainTree) → TreeKeeps t → BoxTree
-tree t ok = record { boxes = t.boxes; styles = styles t.styles ok.of_styles; fonts = fonts t.fonts ok.of_fonts; parents = t.parents; ok = ok.whole }
+tree t ok = record {
+  boxes = t.boxes;
+  styles = styles t.styles ok.of_styles;
+  fonts = fonts t.fonts ok.of_fonts;
+  parents = t.parents;
+  ok = ok.whole;
+}

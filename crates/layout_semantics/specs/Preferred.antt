@@ -43,7 +43,8 @@ outer_width tree w at inside = held_absolute tree w at (by_kind (kind_of tree at
     by_kind _ = unwrap_or (used_if_absolute tree w (own tree at (λ (s : Style). s.width) of_length.Auto)) inside
 
 abbrev pub outer_preferred : BoxTree → World → ℕ → Preferred ℤ → Preferred ℤ
-outer_preferred tree w at inside = record { least = outer_width tree w at inside.least; most = outer_width tree w at inside.most }
+outer_preferred tree w at inside =
+    record { least = outer_width tree w at inside.least; most = outer_width tree w at inside.most }
 
 -- ---- lists of widths
 
@@ -100,11 +101,14 @@ preferred_floats inner items = map (measured_width inner) (float_boxes items)
 
 -- the widest stretch that no line may break, or float
 abbrev pub least_inline : BoxTree → World → List (Option ℤ) → List Item → ℤ
-least_inline tree w inner items = greatest (map (preferred_stretch tree w inner) (stretches tree items) ++ preferred_floats inner items)
+least_inline tree w inner items =
+    greatest (map (preferred_stretch tree w inner) (stretches tree items) ++ preferred_floats inner items)
 
 -- the widest piece between forced breaks, with the floats in it
 abbrev pub most_inline : BoxTree → World → List (Option ℤ) → List Item → ℤ
-most_inline tree w inner items = greatest (map (λ piece. preferred_stretch tree w inner piece +ℤ total (preferred_floats inner piece)) (pieces items))
+most_inline tree w inner items =
+    greatest (map (λ piece. preferred_stretch tree w inner piece +ℤ total (preferred_floats inner piece))
+    (pieces items))
 
 -- ---- a box
 
@@ -122,10 +126,14 @@ as_children tree boxes = map (λ entry. of_flow (is_floated_at tree entry.0) ent
     of_flow true x = floated x
     of_flow false x = in_flow x
 
--- of blocks: the preferred width is the greatest of the children in normal flow and of the runs of floats, the preferred minimum width
--- the greatest of all children
+-- of blocks: the preferred width is the greatest of the children in normal flow and of
+-- the runs of floats, the preferred minimum width the greatest of all children
 abbrev pub preferred_blocks : BoxTree → List (ℕ × Preferred ℤ) → Preferred ℤ
-preferred_blocks tree kids = record { least = greatest (map (λ entry. (entry.1).least) kids); most = greatest (block_widths (as_children tree (with_most kids))) }
+preferred_blocks tree kids =
+    record {
+      least = greatest (map (λ entry. (entry.1).least) kids);
+      most = greatest (block_widths (as_children tree (with_most kids)));
+    }
 
 abbrev pub preferred_inline : BoxTree → World → List (ℕ × Preferred ℤ) → List Item → Preferred ℤ
 preferred_inline tree w inner items = record {
@@ -152,8 +160,10 @@ unfoldable pub preferred_to : ℕ → BoxTree → World → ℕ → Preferred �
 preferred_to zero tree w at = record { least = pos 0; most = pos 0 }
 preferred_to (suc levels) tree w at = elim (inside_of tree at) [
   | a_replaced ↦ record { least = preferred_replaced tree w at; most = preferred_replaced tree w at }
-  | inline_content ↦ preferred_inline tree w (map (λ k. (k, outer_preferred tree w k (preferred_to levels tree w k))) (inner_boxes tree at)) (content tree at)
-  | blocks ↦ preferred_blocks tree (map (λ k. (k, outer_preferred tree w k (preferred_to levels tree w k))) (kids_of tree.boxes at))
+  | inline_content ↦ preferred_inline tree w
+      (map (λ k. (k, outer_preferred tree w k (preferred_to levels tree w k))) (inner_boxes tree at)) (content tree at)
+  | blocks ↦ preferred_blocks tree
+      (map (λ k. (k, outer_preferred tree w k (preferred_to levels tree w k))) (kids_of tree.boxes at))
 ]
 
 -- the preferred widths of what is in a box; a page has no more levels than boxes

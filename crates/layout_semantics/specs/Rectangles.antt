@@ -14,11 +14,13 @@ use Rattle.layout_semantics.specs.Verticals.{Verticals}
 
 -- a rectangle without a strip of these widths along its edges
 abbrev pub inset : Quad ℤ → ℤ → ℤ → ℤ → ℤ → Quad ℤ
-inset q left top right bottom = record { left = q.left +ℤ left; top = q.top +ℤ top; right = q.right -ℤ right; bottom = q.bottom -ℤ bottom }
+inset q left top right bottom =
+    record { left = q.left +ℤ left; top = q.top +ℤ top; right = q.right -ℤ right; bottom = q.bottom -ℤ bottom }
 
 -- with one around it
 abbrev pub outset : Quad ℤ → ℤ → ℤ → ℤ → ℤ → Quad ℤ
-outset q left top right bottom = record { left = q.left -ℤ left; top = q.top -ℤ top; right = q.right +ℤ right; bottom = q.bottom +ℤ bottom }
+outset q left top right bottom =
+    record { left = q.left -ℤ left; top = q.top -ℤ top; right = q.right +ℤ right; bottom = q.bottom +ℤ bottom }
 
 abbrev pub border_width : Widths ℤ → ℤ
 border_width x = x.border_left +ℤ x.padding_left +ℤ x.content +ℤ x.padding_right +ℤ x.border_right
@@ -34,7 +36,8 @@ around kind node x v border = record {
   margin = outset border x.margin_left v.margin_top x.margin_right v.margin_bottom;
   border = border;
   padding = inset border x.border_left v.border_top x.border_right v.border_bottom;
-  content = inset border (x.border_left +ℤ x.padding_left) (v.border_top +ℤ v.padding_top) (x.border_right +ℤ x.padding_right) (v.border_bottom +ℤ v.padding_bottom);
+  content = inset border (x.border_left +ℤ x.padding_left) (v.border_top +ℤ v.padding_top)
+      (x.border_right +ℤ x.padding_right) (v.border_bottom +ℤ v.padding_bottom);
 }
 
 -- a box before its height is known: its used terms, and the top left corner of its border box
@@ -58,10 +61,19 @@ placed_box tree b f content = around (kind_of tree b) (node_of tree b) f.x f.v r
 -- ---- shifts
 
 abbrev pub shifted_quad : Spot ℤ → Quad ℤ → Quad ℤ
-shifted_quad by q = record { left = q.left +ℤ by.x; top = q.top +ℤ by.y; right = q.right +ℤ by.x; bottom = q.bottom +ℤ by.y }
+shifted_quad by q =
+    record { left = q.left +ℤ by.x; top = q.top +ℤ by.y; right = q.right +ℤ by.x; bottom = q.bottom +ℤ by.y }
 
 abbrev pub shifted_box : Spot ℤ → Placed ℤ → Placed ℤ
-shifted_box by p = record { kind = p.kind; node = p.node; margin = shifted_quad by p.margin; border = shifted_quad by p.border; padding = shifted_quad by p.padding; content = shifted_quad by p.content }
+shifted_box by p =
+    record {
+      kind = p.kind;
+      node = p.node;
+      margin = shifted_quad by p.margin;
+      border = shifted_quad by p.border;
+      padding = shifted_quad by p.padding;
+      content = shifted_quad by p.content;
+    }
 
 abbrev pub shifted : Spot ℤ → List (Placed ℤ) → List (Placed ℤ)
 shifted by boxes = map (shifted_box by) boxes

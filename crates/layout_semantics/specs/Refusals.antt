@@ -28,7 +28,8 @@ is_inline_box parts node = list_any (λ (p : Part). p.node == node && is_inline 
 
 -- block-level boxes in normal flow that are directly in an inline box, which CSS 2.1, 9.2.1.1, would break around them
 abbrev pub blocks_in_inlines : List Part → List Part
-blocks_in_inlines parts = filter (λ (p : Part). is_block_part p && option_map_or (is_inline_box parts) p.parent false) parts
+blocks_in_inlines parts =
+    filter (λ (p : Part). is_block_part p && option_map_or (is_inline_box parts) p.parent false) parts
 
 -- the characters of texts that are written from right to left, each with its node
 abbrev pub right_to_left_letters : List Part → List (ℕ × ℕ)
@@ -42,7 +43,8 @@ first_refusal [] [] true far = Some BoxRefusal.too_many_boxes
 first_refusal [] [] false far = option_map BoxRefusal.reach far
 
 abbrev pub refusal_of : List Part → List BoxNode → Option ℕ → Option BoxRefusal
-refusal_of parts boxes far = first_refusal (blocks_in_inlines parts) (right_to_left_letters parts) (nat_lt 16384 (length boxes)) far
+refusal_of parts boxes far =
+    first_refusal (blocks_in_inlines parts) (right_to_left_letters parts) (nat_lt 16384 (length boxes)) far
 
 -- why a page with these styles and fonts gets no box tree, if it gets none
 abbrev pub page_refusal : List Node → List Style → List Font → Option BoxRefusal

@@ -24,7 +24,8 @@ by_ratio given (suc n) wanted = fraction (pos wanted) (suc n) given
 
 -- the width: that given, or what follows from the height, or the intrinsic one; and then held
 abbrev pub replaced_width : ℕ × ℕ → Option ℤ → Option ℤ → Option ℤ → ℤ → ℤ
-replaced_width size width height most least = held most least (unwrap_or width (option_map_or (λ h. by_ratio h size.1 size.0) height (pos (64 * size.0))))
+replaced_width size width height most least =
+    held most least (unwrap_or width (option_map_or (λ h. by_ratio h size.1 size.0) height (pos (64 * size.0))))
 
 -- the height: that given, or what follows from the width as it was held
 abbrev pub replaced_height : ℕ × ℕ → ℤ → Option ℤ → ℤ
@@ -38,11 +39,16 @@ replaced_size tree w viewport at cb = sized (replaced_width (intrinsic tree at)
     (used tree w (own tree at (λ (s : Style). s.min_width) nothing) cb))
   where
     sized : ℤ → Extent ℤ
-    sized width = record { width = width; height = held_height tree w viewport at (replaced_height (intrinsic tree at) width (given_height tree w viewport at)) }
+    sized width = record {
+      width = width;
+      height = held_height tree w viewport at
+          (replaced_height (intrinsic tree at) width (given_height tree w viewport at));
+    }
 
 -- the width in preferred widths, where percentages count as `auto` and none: our own reading of 10.3.5
 abbrev pub preferred_replaced : BoxTree → World → ℕ → ℤ
 preferred_replaced tree w at = replaced_width (intrinsic tree at)
-    (used_if_absolute tree w (own tree at (λ (s : Style). s.width) of_length.Auto)) (used_if_absolute tree w (own tree at (λ (s : Style). s.height) of_length.Auto))
+    (used_if_absolute tree w (own tree at (λ (s : Style). s.width) of_length.Auto))
+    (used_if_absolute tree w (own tree at (λ (s : Style). s.height) of_length.Auto))
     (maximum (used_if_absolute tree w) (own tree at (λ (s : Style). s.max_width) None))
     (unwrap_or (used_if_absolute tree w (own tree at (λ (s : Style). s.min_width) nothing)) (pos 0))

@@ -48,8 +48,8 @@ is_behind_atomic tree before first = is_wrapping_atomic tree first
 abbrev pub Parting : Type 0
 Parting = (before : Option Item) → (first next : Item) → Bool
 
--- a line may break behind a space at which it may, behind an atomic box where it may, and before one; but not before a space, which goes
--- with what is before it, nor before a forced break, which ends the line of what is before it
+-- a line may break behind a space at which it may, behind an atomic box where it may, and before one; but not before
+-- a space, which goes with what is before it, nor before a forced break, which ends the line of what is before it
 abbrev pub may_part : BoxTree → Parting
 may_part tree before first next =
     not (is_space next) && not (is_forced next)
@@ -83,8 +83,8 @@ abbrev pub closed_run : List Item → List Item
 closed_run [] = []
 closed_run (i ∷ run) = cond (stays_open i run) [] (i ∷ closed_run run)
 
--- after a thing that isn't a forced break, the break stands after the last end in that run, and directly after the thing where there is none:
--- `since` stands between the thing and the break, and `run` between the two things
+-- after a thing that isn't a forced break, the break stands after the last end in that run, and directly after the
+-- thing where there is none: `since` stands between the thing and the break, and `run` between the two things
 abbrev pub is_after_last_end : List Item → List Item → Bool
 is_after_last_end since run =
     nat_le (length since) (length run)
@@ -101,8 +101,8 @@ abbrev pub thing_before : List Item → Option Item
 thing_before [] = None
 thing_before (i ∷ back) = cond (is_thing i) (find is_thing back) (thing_before back)
 
--- whether a break stands between what is before, nearest first, and what is after: after each forced break, and between two other things
--- that may be parted
+-- whether a break stands between what is before, nearest first, and what is after:
+-- after each forced break, and between two other things that may be parted
 abbrev pub is_break : Parting → List Item → List Item → Bool
 is_break may_be_parted back after = by_things (find is_thing back) (find is_thing after) (reverse (until_thing back))
   where
@@ -110,7 +110,8 @@ is_break may_be_parted back after = by_things (find is_thing back) (find is_thin
     by_things None next since = false
     by_things (Some (forced at)) next since = is_after_its_ends since after
     by_things (Some first) None since = false
-    by_things (Some first) (Some next) since = may_be_parted (thing_before back) first next && is_after_last_end since (closed_run (since ++ until_thing after))
+    by_things (Some first) (Some next) since = may_be_parted (thing_before back) first next
+        && is_after_last_end since (closed_run (since ++ until_thing after))
 
 -- ---- the content in parts
 

@@ -15,8 +15,8 @@ pub record Verticals : Type 0 where
   pub border_bottom : ℤ
   pub margin_bottom : ℤ
 
--- a percentage of a margin or padding, a vertical one too, is of the containing block's width, here `across` (8.3, 8.4);
--- an auto margin above or below is 0 (10.6.2, 10.6.3)
+-- a percentage of a margin or padding, a vertical one too, is of the containing block's
+-- width, here `across` (8.3, 8.4); an auto margin above or below is 0 (10.6.2, 10.6.3)
 unfoldable pub verticals : BoxTree → World → ℕ → ℤ → Verticals
 verticals tree w b across = by_sides (margins tree b) (borders tree b) (paddings tree b)
   where

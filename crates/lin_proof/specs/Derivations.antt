@@ -76,7 +76,8 @@ case_form vars f = if are_declared vars f.terms then checked_form (denied f) els
 
 abbrev pub branch_step : ℕ → Branch-F Check Check Check → Check
 branch_step vars b known line =
-    ok_or (case_form vars b.row) line >>= λ other. b.first (known ++ b.row ∷ []) (line + 1) >>= b.second (known ++ other ∷ [])
+    ok_or (case_form vars b.row) line >>= λ other. b.first (known ++ b.row ∷ []) (line + 1) >>= b.second
+    (known ++ other ∷ [])
 
 abbrev pub derivation_step : List Form → Derivation-F Check Check Check → Check
 derivation_step facts d known line = run_steps facts known line d.steps >>= λ after. d.last after.0 after.1

@@ -22,10 +22,11 @@ closes f g a b = in_i128 a && in_i128 b && is_contradiction (sum_of_two f a g b)
 -- no fact, and no sum of positive multiples of two facts, has no variable and is below 0
 pub record NoneAtHand (facts : List Form) : Type 0 where
   pub alone : (n : ℕ) → is_contradiction (slice_get facts n) ≡ false
-  pub together : (i j : ℕ) (f g : Form) → slice_get facts i ≡ Some f → slice_get facts j ≡ Some g → (a b : ℤ) → closes f g a b ≡ false
+  pub together : (i j : ℕ) (f g : Form) → slice_get facts i ≡ Some f → slice_get facts j ≡ Some g → (a b : ℤ)
+      → closes f g a b ≡ false
 
--- a derivation refutes the facts; a point has a value for each variable and meets them all; a search that looked at each
--- pair of facts gives up only where no contradiction is at hand
+-- a derivation refutes the facts; a point has a value for each variable and meets them all; a
+-- search that looked at each pair of facts gives up only where no contradiction is at hand
 abbrev pub IsRight : List Form → ℕ → ℕ → Search → Type 0
 IsRight facts variables limit (Found d) = Refutes facts variables d
 IsRight facts variables limit (Point values) = (length values ≡ variables) × Meets (at_point values) facts

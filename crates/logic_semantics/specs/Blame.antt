@@ -8,7 +8,8 @@ use Rattle.logic_semantics.specs.Scenes.{Scene, members, named}
 use Rattle.logic_semantics.specs.Terms.{term_value, compares, boxes_overlap}
 use Rattle.logic_semantics.specs.Truth.{are_same}
 
--- what is wrong with a formula where the names stand for these places: nothing where it is true, and else the members to blame
+-- what is wrong with a formula where the names stand for these places:
+-- nothing where it is true, and else the members to blame
 abbrev pub Finding : Type 0
 Finding = List ℕ → Option (List ℕ)
 
@@ -41,13 +42,16 @@ wrong_where None other = other
 abbrev pub finding_step : Scene → Formula-F Finding → Finding
 finding_step scene (Formula-F.Const value) names = blameless value
 finding_step scene (Formula-F.Forall set body) names = first_wrong (λ m. body (m ∷ names)) (members set scene.boxes)
-finding_step scene (Formula-F.Exists set body) names = blameless (list_any (λ m. is_none (body (m ∷ names))) (members set scene.boxes))
+finding_step scene (Formula-F.Exists set body) names =
+    blameless (list_any (λ m. is_none (body (m ∷ names))) (members set scene.boxes))
 finding_step scene (Formula-F.Implies a b) names = wrong_where (a names) (b names)
 finding_step scene (Formula-F.Or a b) names = blameless (is_none (a names) || is_none (b names))
 finding_step scene (Formula-F.And a b) names = either_wrong (a names) (b names)
 finding_step scene (Formula-F.Not a) names = blameless (is_some (a names))
-finding_step scene (Formula-F.Cmp left sign right) names = blameless (compares sign (term_value scene names left) (term_value scene names right))
-finding_step scene (Formula-F.Overlap a b) names = blameless (boxes_overlap (named scene.boxes names a) (named scene.boxes names b))
+finding_step scene (Formula-F.Cmp left sign right) names =
+    blameless (compares sign (term_value scene names left) (term_value scene names right))
+finding_step scene (Formula-F.Overlap a b) names =
+    blameless (boxes_overlap (named scene.boxes names a) (named scene.boxes names b))
 finding_step scene (Formula-F.Same a b) names = blameless (are_same (slice_get names a) (slice_get names b))
 
 abbrev pub finding_in : Scene → Formula → Finding

@@ -54,11 +54,13 @@ ImpliesIsIf = (scene : Scene) (a b : Formula) (names : List ℕ)
 
 -- `true` and `false` are what they say, and a comparison compares the values of its terms
 abbrev pub ConstIsValue : Type 0
-ConstIsValue = (scene : Scene) (names : List ℕ) → (truth_in scene (Const true) names ≡ true) × (truth_in scene (Const false) names ≡ false)
+ConstIsValue = (scene : Scene) (names : List ℕ) → (truth_in scene (Const true) names ≡ true)
+    × (truth_in scene (Const false) names ≡ false)
 
 abbrev pub CmpCompares : Type 0
 CmpCompares = (scene : Scene) (left right : Term) (sign : Sign) (names : List ℕ)
-    → truth_in scene (Cmp left sign right) names ≡ compares sign (term_value scene names left) (term_value scene names right)
+    → truth_in scene (Cmp left sign right) names
+    ≡ compares sign (term_value scene names left) (term_value scene names right)
 
 -- what each sign says of two numbers
 abbrev pub IsRelated : Sign → ℤ → ℤ → Type 0
@@ -72,12 +74,14 @@ IsRelated Gt x y = y <ℤ x
 -- a comparison is true exactly where its terms are related as its sign says
 abbrev pub CmpIsItsSign : Type 0
 CmpIsItsSign = (scene : Scene) (left right : Term) (sign : Sign) (names : List ℕ)
-    → IsTrue (truth_in scene (Cmp left sign right) names) ↔ IsRelated sign (term_value scene names left) (term_value scene names right)
+    → IsTrue (truth_in scene (Cmp left sign right) names) ↔ IsRelated sign (term_value scene names left)
+    (term_value scene names right)
 
 -- two names are the same exactly where they stand for one place
 abbrev pub SameIsOnePlace : Type 0
 SameIsOnePlace = (scene : Scene) (a b : ℕ) (names : List ℕ)
-    → IsTrue (truth_in scene (Same a b) names) ↔ ((place : ℕ) × ((slice_get names a ≡ Some place) × (slice_get names b ≡ Some place)))
+    → IsTrue (truth_in scene (Same a b) names) ↔
+    ((place : ℕ) × ((slice_get names a ≡ Some place) × (slice_get names b ≡ Some place)))
 
 -- the square of one unit whose upper left corner is this point lies in the rectangle
 pub record HasCell (q : Quad ℤ) (x y : ℤ) : Type 0 where
@@ -114,18 +118,21 @@ pub record HasRings (scene : Scene) (names : List ℕ) (name : ℕ) (box : Place
   pub content : HasEdges scene names name Content box.content
 
 abbrev pub EdgesAreOfTheirBox : Type 0
-EdgesAreOfTheirBox = (scene : Scene) (names : List ℕ) (name : ℕ) (box : Placed ℤ) → named scene.boxes names name ≡ Some box → HasRings scene names name box
+EdgesAreOfTheirBox = (scene : Scene) (names : List ℕ) (name : ℕ) (box : Placed ℤ)
+    → named scene.boxes names name ≡ Some box → HasRings scene names name box
 
 -- the viewport's edges are the world's width and the height, in units of 1/64 px
 abbrev pub ViewportIsTheWorlds : Type 0
 ViewportIsTheWorlds = (r : Rendering ℤ) (world : World) (height : ℕ) (names : List ℕ)
-    → (edge_value (scene_of r world height) names ViewWidth ≡ pos (64 * world.w)) × (edge_value (scene_of r world height) names ViewHeight ≡ pos (64 * height))
+    → (edge_value (scene_of r world height) names ViewWidth ≡ pos (64 * world.w))
+    × (edge_value (scene_of r world height) names ViewHeight ≡ pos (64 * height))
 
 -- ---- blame
 
 -- a formula that is true blames no member
 abbrev pub TrueBlamesNone : Type 0
-TrueBlamesNone = (scene : Scene) (f : Formula) (names : List ℕ) → IsTrue (truth_in scene f names) → blame_in scene f names ≡ []
+TrueBlamesNone = (scene : Scene) (f : Formula) (names : List ℕ) → IsTrue (truth_in scene f names)
+    → blame_in scene f names ≡ []
 
 -- the first member of the set, in the rendering's order, that makes the body false
 pub record IsFirstFailing (scene : Scene) (set : Set) (body : Formula) (names : List ℕ) (m : ℕ) : Type 0 where
@@ -137,7 +144,8 @@ pub record IsFirstFailing (scene : Scene) (set : Set) (body : Formula) (names : 
 abbrev pub ForallBlamesFirst : Type 0
 ForallBlamesFirst = (scene : Scene) (set : Set) (body : Formula) (names : List ℕ)
     → truth_in scene (Forall set body) names ≡ false
-    → (m : ℕ) × (IsFirstFailing scene set body names m × (blame_in scene (Forall set body) names ≡ m ∷ blame_in scene body (m ∷ names)))
+    → (m : ℕ) × (IsFirstFailing scene set body names m
+    × (blame_in scene (Forall set body) names ≡ m ∷ blame_in scene body (m ∷ names)))
 
 -- a false `and` blames whom its first false part blames
 abbrev pub AndBlamesFirst : Type 0
@@ -153,10 +161,12 @@ ImpliesBlamesConclusion = (scene : Scene) (a b : Formula) (names : List ℕ)
 -- all other formulas blame no member
 pub record OthersBlameNone : Type 0 where
   pub constants : (scene : Scene) (value : Bool) (names : List ℕ) → blame_in scene (Const value) names ≡ []
-  pub exists : (scene : Scene) (set : Set) (body : Formula) (names : List ℕ) → blame_in scene (Exists set body) names ≡ []
+  pub exists : (scene : Scene) (set : Set) (body : Formula) (names : List ℕ)
+      → blame_in scene (Exists set body) names ≡ []
   pub disjunctions : (scene : Scene) (a b : Formula) (names : List ℕ) → blame_in scene (Or a b) names ≡ []
   pub negations : (scene : Scene) (a : Formula) (names : List ℕ) → blame_in scene (Not a) names ≡ []
-  pub comparisons : (scene : Scene) (left right : Term) (sign : Sign) (names : List ℕ) → blame_in scene (Cmp left sign right) names ≡ []
+  pub comparisons : (scene : Scene) (left right : Term) (sign : Sign) (names : List ℕ)
+      → blame_in scene (Cmp left sign right) names ≡ []
   pub overlaps : (scene : Scene) (a b : ℕ) (names : List ℕ) → blame_in scene (Overlap a b) names ≡ []
   pub sames : (scene : Scene) (a b : ℕ) (names : List ℕ) → blame_in scene (Same a b) names ≡ []
 
@@ -165,12 +175,15 @@ pub record OthersBlameNone : Type 0 where
 -- anonymous boxes, lines, texts and forced breaks are members of no set of nodes
 abbrev pub NodesAreElements : Type 0
 NodesAreElements = (nodes : List ℕ) (node : ℕ)
-    → (is_member (of_set.Nodes nodes) of_kind.Anon node ≡ false) × (is_member (of_set.Nodes nodes) of_kind.Line node ≡ false)
-    × (is_member (of_set.Nodes nodes) of_kind.Chars node ≡ false) × (is_member (of_set.Nodes nodes) of_kind.Break node ≡ false)
+    → (is_member (of_set.Nodes nodes) of_kind.Anon node ≡ false)
+    × (is_member (of_set.Nodes nodes) of_kind.Line node ≡ false)
+    × (is_member (of_set.Nodes nodes) of_kind.Chars node ≡ false)
+    × (is_member (of_set.Nodes nodes) of_kind.Break node ≡ false)
 
 -- ---- ranges
 
 -- a world lies in a range exactly where its width and its size lie within the bounds
 abbrev pub RangeIsItsBounds : Type 0
 RangeIsItsBounds = (range : Rect) (world : World)
-    → IsInRange range world ↔ ((range.wl ≤ world.w) × (world.w ≤ range.wh) × (range.sl ≤ world.s) × (world.s ≤ range.sh))
+    → IsInRange range world ↔
+    ((range.wl ≤ world.w) × (world.w ≤ range.wh) × (range.sl ≤ world.s) × (world.s ≤ range.sh))

@@ -20,4 +20,5 @@ holds_at rendering_of height f world = truth (scene_of (rendering_of world) worl
 
 -- the formula is true at each world of the range
 abbrev pub Holds : (World → Rendering ℤ) → Rect → ℕ → Formula → Type 0
-Holds rendering_of range height f = (world : World) → IsInRange range world → IsTrue (holds_at rendering_of height f world)
+Holds rendering_of range height f = (world : World) → IsInRange range world
+    → IsTrue (holds_at rendering_of height f world)

@@ -35,7 +35,8 @@ face_of of_face.Bottom q = q.bottom
 -- what an edge is worth where the names stand for these places; that of a name without a quantifier is 0
 abbrev pub edge_value : Scene → List ℕ → Edge → ℤ
 edge_value scene names of_edge.One = pos 1
-edge_value scene names (of_edge.Name name ring face) = option_map_or (λ b. face_of face (ring_of ring b)) (named scene.boxes names name) (pos 0)
+edge_value scene names (of_edge.Name name ring face) =
+    option_map_or (λ b. face_of face (ring_of ring b)) (named scene.boxes names name) (pos 0)
 edge_value scene names of_edge.ViewWidth = scene.width
 edge_value scene names of_edge.ViewHeight = scene.height
 
@@ -56,7 +57,8 @@ compares of_sign.Ne x y = not (int_eq x y)
 compares of_sign.Ge x y = int_le y x
 compares of_sign.Gt x y = int_lt y x
 
--- each rectangle begins before the other ends, in both directions; rectangles that aren't empty have an inner point in common then
+-- each rectangle begins before the other ends, in both directions;
+-- rectangles that aren't empty have an inner point in common then
 abbrev pub do_overlap : Quad ℤ → Quad ℤ → Bool
 do_overlap a b = int_lt a.left b.right && int_lt b.left a.right && int_lt a.top b.bottom && int_lt b.top a.bottom
 

@@ -24,7 +24,8 @@ truth_step scene (Formula-F.Implies a b) names = not (a names) || b names
 truth_step scene (Formula-F.Or a b) names = a names || b names
 truth_step scene (Formula-F.And a b) names = a names && b names
 truth_step scene (Formula-F.Not a) names = not (a names)
-truth_step scene (Formula-F.Cmp left sign right) names = compares sign (term_value scene names left) (term_value scene names right)
+truth_step scene (Formula-F.Cmp left sign right) names =
+    compares sign (term_value scene names left) (term_value scene names right)
 truth_step scene (Formula-F.Overlap a b) names = boxes_overlap (named scene.boxes names a) (named scene.boxes names b)
 truth_step scene (Formula-F.Same a b) names = are_same (slice_get names a) (slice_get names b)
 

@@ -23,7 +23,13 @@ lists_of tree = record { boxes = tree.boxes; styles = tree.styles; fonts = tree.
 
 abbrev pub unless_refused : List Node → List Style → List Font → Option BoxRefusal → Result TreeLists BoxRefusal
 unless_refused nodes styles fonts (Some refusal) = Err refusal
-unless_refused nodes styles fonts None = Ok (record { boxes = page_boxes nodes styles; styles = tree_styles nodes styles; fonts = fonts; parents = tree_parents nodes })
+unless_refused nodes styles fonts None =
+    Ok (record {
+      boxes = page_boxes nodes styles;
+      styles = tree_styles nodes styles;
+      fonts = fonts;
+      parents = tree_parents nodes;
+    })
 
 -- the box tree of a page with these styles and fonts, or why it gets none
 abbrev pub page_tree : List Node → List Style → List Font → Result TreeLists BoxRefusal
@@ -45,9 +51,13 @@ IfNamed (Some refusal) Holds = Holds refusal
 -- there is neither a block in an inline box nor a character from right to left, or this is what the page is refused for
 abbrev pub IsJudged : List Part → List (ℕ × ℕ) → Result (Unit {0}) BoxFault → Type 0
 IsJudged blocks letters (Ok done) = (blocks ≡ []) × (letters ≡ [])
-IsJudged blocks letters (Err fault) = IfNamed (refusal_named fault) (λ refusal. (too_many : Bool) (far : Option ℕ) → first_refusal blocks letters too_many far ≡ Some refusal)
+IsJudged blocks letters (Err fault) =
+    IfNamed (refusal_named fault)
+    (λ refusal. (too_many : Bool) (far : Option ℕ) → first_refusal blocks letters too_many far ≡ Some refusal)
 
 -- these are the boxes, and there are not too many, or there are
 abbrev pub HasFewBoxes : List BoxNode → Result (List BoxNode) BoxFault → Type 0
 HasFewBoxes boxes (Ok found) = (found ≡ boxes) × (nat_lt 16384 (length boxes) ≡ false)
-HasFewBoxes boxes (Err fault) = IfNamed (refusal_named fault) (λ refusal. (refusal ≡ BoxRefusal.too_many_boxes) × (nat_lt 16384 (length boxes) ≡ true))
+HasFewBoxes boxes (Err fault) =
+    IfNamed (refusal_named fault)
+    (λ refusal. (refusal ≡ BoxRefusal.too_many_boxes) × (nat_lt 16384 (length boxes) ≡ true))

@@ -1,4 +1,5 @@
--- The job that the bytes of a job file spell, or why they spell none: what comes of one stage after another, in this order.
+-- The job that the bytes of a job file spell, or why they spell none: what
+-- comes of one stage after another, in this order.
 use Rattle.std.specs.Prelude.{◌≡◌, ℕ, ◌∷◌, List, map, Result, Ok, Err}
 use Rattle.sha2.specs.Sha256.{sha256}
 use Rattle.viz_base.specs.declared.fonts.Font.{Font}
@@ -25,7 +26,8 @@ use Rattle.page_build.specs.Sheets.{AreSheets, IsFirstRefused}
 -- ---- stages
 
 -- what wins at the nodes of a page (CSS 2.1, chapter 6), or why it is refused, the default sheet coming first
-pub record HasCascade (nodes : List Node) (css : List (List ℕ)) (answer : Result (List (List Setting)) Fault) : Type 0 where
+pub record HasCascade (nodes : List Node) (css : List (List ℕ)) (answer : Result (List (List Setting)) Fault)
+    : Type 0 where
   pub sheets : List Sheet
   pub read : AreSheets css sheets
   pub cascaded : IsCascade nodes (default_text ∷ css) sheets answer
@@ -47,7 +49,8 @@ pub record HasBoxes (raw : Raw) (answer : Result TreeLists BoxRefusal) : Type 0 
 -- a page with the author's sheets is refused before it has styles: by a sheet, else by a selector or a value that wins
 pub data AreRefused (nodes : List Node) (css : List (List ℕ)) : JobRefusal → Type 0 where
   sheet : {number : ℕ} {why : Refusal} → IsFirstRefused css number why → AreRefused nodes css (of_sheet number why)
-  cascade : {why : Fault} {refusal : JobRefusal} → HasCascade nodes css (Err why) → IsTold nodes (default_text ∷ css) why refusal → AreRefused nodes css refusal
+  cascade : {why : Fault} {refusal : JobRefusal} → HasCascade nodes css (Err why)
+      → IsTold nodes (default_text ∷ css) why refusal → AreRefused nodes css refusal
 
 -- ---- what a file says
 
@@ -62,7 +65,8 @@ pub record IsBuiltOf (raw : Raw) (job : Job) : Type 0 where
 pub data IsRefusedLater (raw : Raw) : JobRefusal → Type 0 where
   styles : {refusal : JobRefusal} → AreRefused raw.nodes raw.css refusal → IsRefusedLater raw refusal
   boxes : {why : BoxRefusal} → HasBoxes raw (Err why) → IsRefusedLater raw (of_boxes why)
-  assertion : {tree : TreeLists} (fault : FormulaFault) → HasBoxes raw (Ok tree) → IsAnswerOf raw.nodes raw.formula (Err fault) → IsRefusedLater raw (of_formula fault)
+  assertion : {tree : TreeLists} (fault : FormulaFault) → HasBoxes raw (Ok tree)
+      → IsAnswerOf raw.nodes raw.formula (Err fault) → IsRefusedLater raw (of_formula fault)
 
 -- ---- bytes
 
@@ -76,4 +80,5 @@ pub record IsJobOf (bytes : List ℕ) (job : Job) : Type 0 where
 -- the bytes spell no job, for this reason
 pub data IsRefusedAs (bytes : List ℕ) : JobRefusal → Type 0 where
   file : {why : JobFault} → raw_job bytes ≡ Err why → IsRefusedAs bytes (of_file why)
-  later : {raw : Raw} {refusal : JobRefusal} → raw_job bytes ≡ Ok raw → IsRefusedLater raw refusal → IsRefusedAs bytes refusal
+  later : {raw : Raw} {refusal : JobRefusal} → raw_job bytes ≡ Ok raw → IsRefusedLater raw refusal
+      → IsRefusedAs bytes refusal

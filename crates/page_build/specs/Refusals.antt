@@ -31,7 +31,8 @@ of_sheet number too_many = TooManyRules number
 
 -- of the first of these texts that is refused as a sheet
 abbrev pub IsSheetRefusal : List (List ℕ) → JobRefusal → Type 0
-IsSheetRefusal css refusal = (number : ℕ) × (why : Refusal) × IsFirstRefused css number why × (refusal ≡ of_sheet number why)
+IsSheetRefusal css refusal = (number : ℕ) × (why : Refusal) × IsFirstRefused css number why
+    × (refusal ≡ of_sheet number why)
 
 -- of its boxes
 abbrev pub of_boxes : BoxRefusal → JobRefusal
@@ -66,4 +67,5 @@ shown value = map printable (take 64 value)
 -- of its cascade: a value is shown as it stands in its text
 abbrev pub IsTold : List Node → List (List ℕ) → Fault → JobRefusal → Type 0
 IsTold nodes texts (selector_at sheet place) refusal = refusal ≡ Selector sheet place
-IsTold nodes texts (value_at node prop source) refusal = (value : List ℕ) × IsValueAt nodes texts source value × (refusal ≡ Value node prop (shown value))
+IsTold nodes texts (value_at node prop source) refusal = (value : List ℕ) × IsValueAt nodes texts source value
+    × (refusal ≡ Value node prop (shown value))

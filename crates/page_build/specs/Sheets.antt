@@ -8,7 +8,8 @@ use Rattle.css_semantics.specs.SheetsReading.{Refusal}
 -- each text is read as a sheet
 pub data AreRead : List (List ℕ) → List Sheet → Type 0 where
   nothing : AreRead [] []
-  first : {text : List ℕ} {sheet : Sheet} {texts : List (List ℕ)} {sheets : List Sheet} → IsSheetOf text (Ok sheet.rules) → AreRead texts sheets → AreRead (text ∷ texts) (sheet ∷ sheets)
+  first : {text : List ℕ} {sheet : Sheet} {texts : List (List ℕ)} {sheets : List Sheet}
+      → IsSheetOf text (Ok sheet.rules) → AreRead texts sheets → AreRead (text ∷ texts) (sheet ∷ sheets)
 
 -- the first text that is refused as a sheet, with its number, those before it being read
 pub record IsFirstRefused (texts : List (List ℕ)) (number : ℕ) (why : Refusal) : Type 0 where

@@ -1,5 +1,5 @@
--- The text of a generated job: a page of so many sections, each told by a number, and the same style sheet and assertion for all.
--- The numbers come from a seed.
+-- The text of a generated job: a page of so many sections, each told by a number, and
+-- the same style sheet and assertion for all. The numbers come from a seed.
 use Rattle.std.specs.Prelude.{ℕ, zero, suc, ◌+◌, ◌*◌, ◌/◌, ◌%◌, ◌^◌, List, ◌++◌, map, replicate, codes, decimal}
 use Rattle.std.specs.List.{join_with_byte, range_with_len}
 
@@ -39,7 +39,8 @@ words count = join_with_byte 32 (replicate count (codes "aaaa"))
 -- an element with its class, and its words as text
 unfoldable pub section : ℕ → List ℕ
 section x =
-    codes "{\"tag\":\"div\",\"attrs\":{\"class\":\"c" ++ decimal (class_of x) ++ codes "\"},\"children\":[\"" ++ words (word_count x) ++ codes "\"]}"
+    codes "{\"tag\":\"div\",\"attrs\":{\"class\":\"c" ++ decimal (class_of x) ++ codes "\"},\"children\":[\""
+    ++ words (word_count x) ++ codes "\"]}"
 
 -- the sections of a job, with a comma (44) between each two
 unfoldable pub sections_text : ℕ → ℕ → List ℕ
@@ -51,8 +52,10 @@ sections_text seed count = join_with_byte 44 (map (λ k. section (number_at seed
 unfoldable pub before_sections : List ℕ
 before_sections =
     codes "{\"vizlog\":1,\"widths\":[320,1920],\"sizes\":[12,24],\"height\":800," ++
-    codes "\"fonts\":[{\"name\":\"Square\",\"upem\":1000,\"ascent\":800,\"descent\":200,\"default\":500,\"advances\":[]}]," ++
-    codes "\"css\":[\"body{margin:0}div{height:40px}.c0{margin:10px 0}.c1{float:left;width:20%}.c2{clear:both}.c3{padding:1em}\"]," ++
+    codes "\"fonts\":[{\"name\":\"Square\",\"upem\":1000,\"ascent\":800,\"descent\":200," ++
+    codes "\"default\":500,\"advances\":[]}]," ++
+    codes "\"css\":[\"body{margin:0}div{height:40px}.c0{margin:10px 0}" ++
+    codes ".c1{float:left;width:20%}.c2{clear:both}.c3{padding:1em}\"]," ++
     codes "\"page\":{\"tag\":\"html\",\"children\":[{\"tag\":\"body\",\"children\":["
 
 -- the text after them

@@ -14,7 +14,8 @@ same_floor f g = same_row f.row g.row && int_eq f.by g.by
 
 -- whether the numbers of a floor's two facts are in `i128`, the floor being the variable x
 abbrev pub floor_fits : ℕ → Floor → Bool
-floor_fits x f = form_fits (plus f.row (negsuc 0) (row_of (pos 0) f.by x)) && form_fits (plus (row_of (f.by -ℤ pos 1) f.by x) (negsuc 0) f.row)
+floor_fits x f = form_fits (plus f.row (negsuc 0) (row_of (pos 0) f.by x))
+    && form_fits (plus (row_of (f.by -ℤ pos 1) f.by x) (negsuc 0) f.row)
 
 -- the values v, and for the variables from x on those of the floors, one after another
 abbrev pub with_floors : List Floor → ℕ → (ℕ → ℤ) → ℕ → ℤ

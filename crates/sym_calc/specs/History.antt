@@ -39,7 +39,8 @@ are_fit before (f ∷ fs) = is_fit before f && are_fit (before ++ f ∷ []) fs
 -- answer is wrong
 abbrev pub fault_below : List Form → List Floor → List Floor → Answer → Option ℕ
 fault_below facts along own answer =
-    first_fault (facts ++ facts_from (length along + 2) own ++ contrary answer.yes answer.row ∷ []) (length (along ++ own) + 2) answer.why
+    first_fault (facts ++ facts_from (length along + 2) own ++ contrary answer.yes answer.row ∷ [])
+    (length (along ++ own) + 2) answer.why
 
 -- whether a test is met by a number that is at most n
 unfoldable pub any_up_to : ℕ → (ℕ → Bool) → Bool
@@ -51,12 +52,15 @@ any_up_to (suc n) test = test (suc n) || any_up_to n test
 unfoldable pub are_right : List Form → List Floor → List Floor → ℕ → List Answer → Bool
 are_right facts along own n [] = true
 are_right facts along own n (answer ∷ answers) =
-    any_up_to (length own) (λ m. nat_le n m && (is_none (fault_below facts along (take m own) answer) && are_right facts along own m answers))
+    any_up_to (length own)
+    (λ m. nat_le n m && (is_none (fault_below facts along (take m own) answer)
+    && are_right facts along own m answers))
 
 -- whether this line is the first wrong one below some of the own floors
 unfoldable pub is_wrong : List Form → List Floor → List Floor → ℕ → Answer → Bool
 is_wrong facts along own line answer =
-    any_up_to (length own) (λ m. option_map_or (λ wrong. wrong == line) (fault_below facts along (take m own) answer) false)
+    any_up_to (length own)
+    (λ m. option_map_or (λ wrong. wrong == line) (fault_below facts along (take m own) answer) false)
 
 -- whether an answer is to this row, and not to ours
 abbrev pub is_to_another : Form → Form → Answer → Bool
@@ -66,7 +70,9 @@ is_to_another ours theirs answer = same_row answer.row theirs && not (same_row o
 unfoldable pub is_accounted : List Form → List Floor → List Floor → List Answer → ℕ → Option Trouble → Bool
 is_accounted facts along own tape taken None = are_right facts along own 0 (take taken tape)
 is_accounted facts along own tape taken (Some (Line number line)) =
-    are_right facts along own 0 (take number tape) && option_map_or (is_wrong facts along own line) (slice_get tape number) false
+    are_right facts along own 0 (take number tape)
+    && option_map_or (is_wrong facts along own line) (slice_get tape number) false
 is_accounted facts along own tape taken (Some (Differs number ours theirs)) =
-    are_right facts along own 0 (take number tape) && option_map_or (is_to_another ours theirs) (slice_get tape number) false
+    are_right facts along own 0 (take number tape)
+    && option_map_or (is_to_another ours theirs) (slice_get tape number) false
 is_accounted facts along own tape taken (Some Short) = are_right facts along own 0 tape

@@ -15,12 +15,14 @@ use Rattle.sym_calc.specs.Knowledge.{values_of, are_met}
 values_by_axis : (fs : List Floor) (x : ℕ) (v : ℕ → ℤ) (y : ℕ) → y < x → with_floors fs x v y ≡ v y
 values_by_axis [] x v y less = refl
 values_by_axis (f ∷ fs) x v y less =
-    values_by_axis fs (x + 1) (with_floor f.row f.by v x) y (omega arith) ∙ with_old v x (int_div_euclid (value f.row v) f.by) y less
+    values_by_axis fs (x + 1) (with_floor f.row f.by v x) y (omega arith) ∙ with_old v x
+    (int_div_euclid (value f.row v) f.by) y less
 
 abbrev pub reading_by : List Floor → World → Reading
 reading_by named world = record { world = world; terms = values_by named world }
 
-pub values_of_reading : (named : List Floor) (world : World) → values_of (reading_by named world) ≡ values_by named world
+pub values_of_reading : (named : List Floor) (world : World)
+    → values_of (reading_by named world) ≡ values_by named world
 values_of_reading named world = λ i y. along y i
   where
     by_test : (y : ℕ) (one : Bool) → (y == 1) ≡ one → (none : Bool) → (y == 0) ≡ none
@@ -37,5 +39,6 @@ values_of_reading named world = λ i y. along y i
     along y = by_test y (y == 1) refl (y == 0) refl
 
 -- a world whose values meet the facts is open
-pub kept_is_open : (facts : List Form) (named : List Floor) (world : World) → are_met facts (values_by named world) ≡ true → are_met facts (values_of (reading_by named world)) ≡ true
+pub kept_is_open : (facts : List Form) (named : List Floor) (world : World)
+    → are_met facts (values_by named world) ≡ true → are_met facts (values_of (reading_by named world)) ≡ true
 kept_is_open facts named world met = ap (are_met facts) (values_of_reading named world) ∙ met

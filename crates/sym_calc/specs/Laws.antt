@@ -18,7 +18,8 @@ use Rattle.sym_calc.specs.Knowledge.{values_of, are_met, AreKnown}
 -- the values of a world meet the facts of a path exactly where it is a world of the range on the path
 abbrev pub KeptAreThoseOfThePath : Type 0
 KeptAreThoseOfThePath = (range : Rect) (steps : Steps) → AreSound steps → (world : World)
-    → IsTrue (are_met (facts range steps) (values_by (floors_of steps) world)) ↔ (IsInRange range world × IsOn steps world)
+    → IsTrue (are_met (facts range steps) (values_by (floors_of steps) world)) ↔
+    (IsInRange range world × IsOn steps world)
 
 -- a reading that meets the facts of a path is of a world of the range on it
 abbrev pub OpenAreOnThePath : Type 0
@@ -32,16 +33,19 @@ SoundIsKnown = (range : Rect) (steps : Steps) → AreSound steps → variables s
 
 -- answers that are right below floors of a path are refuted where they are denied
 abbrev pub RightIsRefuted : Type 0
-RightIsRefuted = (range : Rect) (steps : Steps) (own : List Floor) (answers : List Answer) → IsTrue (are_fit (floors_of steps) own)
+RightIsRefuted = (range : Rect) (steps : Steps) (own : List Floor) (answers : List Answer)
+    → IsTrue (are_fit (floors_of steps) own)
     → IsTrue (are_right (facts range steps) (floors_of steps) own 0 answers) → AreRefuted range steps answers
 
 -- below some floors the derivation of an answer is wrong at this line, and at none before it
 pub record IsFaultBelow (range : Rect) (steps : Steps) (answer : Answer) (line : ℕ) : Type 0 where
   pub floors : List (Form × ℤ)
   pub are_floors : AreFloors range steps floors
-  pub wrong : first_fault (facts range (denial answer.yes answer.row ∷ below_floors steps floors)) (variables (below_floors steps floors)) answer.why ≡ Some line
+  pub wrong : first_fault (facts range (denial answer.yes answer.row ∷ below_floors steps floors))
+      (variables (below_floors steps floors)) answer.why ≡ Some line
 
 -- an answer that is wrong at a line below floors of a path has such a fault
 abbrev pub WrongIsFault : Type 0
-WrongIsFault = (range : Rect) (steps : Steps) (own : List Floor) (answer : Answer) (line : ℕ) → IsTrue (are_fit (floors_of steps) own)
+WrongIsFault = (range : Rect) (steps : Steps) (own : List Floor) (answer : Answer) (line : ℕ)
+    → IsTrue (are_fit (floors_of steps) own)
     → IsTrue (is_wrong (facts range steps) (floors_of steps) own line answer) → IsFaultBelow range steps answer line

@@ -14,8 +14,12 @@ use Rattle.sym_calc.specs.Floors.{same_floor}
 
 pub decides_same_floor : (f g : Floor) → Decides (same_floor f g) (f ≡ g)
 decides_same_floor f g =
-    let both = Decides-and (same_row f.row g.row) (int_eq f.by g.by) (decides_same_row f.row g.row) (Decides-int_eq f.by g.by) in
-    (λ e. let h = both.0 e in λ i. record { row = h.0 i; by = h.1 i }, λ same. both.1 (ap (λ (x : Floor). x.row) same, ap (λ (x : Floor). x.by) same))
+    let rows = decides_same_row f.row g.row in
+    let both = Decides-and (same_row f.row g.row) (int_eq f.by g.by) rows (Decides-int_eq f.by g.by) in (
+      λ e. let h = both.0 e in λ i. record { row = h.0 i; by = h.1 i },
+      λ same. both.1
+          (ap (λ (x : Floor). x.row) same, ap (λ (x : Floor). x.by) same),
+    )
 
 pub same_floor_equivalence : IsEquivalence same_floor
 same_floor_equivalence = decided same_floor decides_same_floor

@@ -21,7 +21,8 @@ number_of (gnum n) = pair 0 n
 number_of (gcons a b) = pair (suc (number_of a)) (number_of b)
 
 abbrev pub given_code : Coded (List Form × (List Floor × List Answer))
-given_code = coded× (coded_list a_row.the_row.coded) (coded× (coded_list a_floor.the_row.coded) (coded_list an_answer.the_row.coded))
+given_code = coded× (coded_list a_row.the_row.coded)
+    (coded× (coded_list a_floor.the_row.coded) (coded_list an_answer.the_row.coded))
 
 unfoldable pub tag : List Form → List Floor → List Answer → ℕ
 tag facts floors tape = number_of (given_code.code (facts, (floors, tape)))

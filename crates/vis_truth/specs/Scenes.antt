@@ -26,7 +26,8 @@ agrees false b = not b
 
 -- the box at a place is a member of the set with which the body's truth is the one that is wanted
 abbrev pub is_witness : Scene → Set → Formula → Bool → List ℕ → ℕ → Bool
-is_witness scene set body wanted names m = is_member_at set scene.boxes m && agrees wanted (truth_in scene body (m ∷ names))
+is_witness scene set body wanted names m = is_member_at set scene.boxes m
+    && agrees wanted (truth_in scene body (m ∷ names))
 
 -- ---- what has to fit
 
@@ -69,6 +70,7 @@ pub record IsBoundedAt {N : Type 0} (at : N → Reading → ℤ) (r : Rendering 
   pub width : e.world.w < 2 ^ 32
 
 -- at each open reading all is bounded, and so are the formula's terms
-pub record IsTame {N : Type 0} (is_open : Reading → Bool) (at : N → Reading → ℤ) (r : Rendering N) (f : Formula) : Type 0 where
+pub record IsTame {N : Type 0} (is_open : Reading → Bool) (at : N → Reading → ℤ) (r : Rendering N) (f : Formula)
+    : Type 0 where
   pub bounded : (e : Reading) → IsTrue (is_open e) → IsBoundedAt at r e
   pub small : IsTrue (has_small_terms f)

@@ -1,5 +1,5 @@
--- Which answer of a call stands for which answer of a definition: exactly its value, or exactly the refusal that its fault
--- names. A fault that names none is want of memory, which says nothing.
+-- Which answer of a call stands for which answer of a definition: exactly its value, or exactly the
+-- refusal that its fault names. A fault that names none is want of memory, which says nothing.
 use Rattle.std.specs.Prelude.{◌≡◌, Result, Ok, Err, Option, Some, None}
 
 abbrev pub FailsWith : {B F : Type 0} → Option F → (Result B F → Type 0) → Type 0

@@ -12,7 +12,8 @@ abbrev pub is_number : List ℕ → Bool
 is_number text =
     list_all is_ascii_digit (before_first is_point text)
     && list_all is_ascii_digit (after_first is_point text)
-    && option_map_or (λ at. nat_lt 0 (length (after_first is_point text))) (position is_point text) (nat_lt 0 (length text))
+    && option_map_or (λ at. nat_lt 0 (length (after_first is_point text))) (position is_point text)
+    (nat_lt 0 (length text))
 
 -- the first six digits, with zeros in place of those that are missing
 abbrev pub six_digits : List ℕ → List ℕ
@@ -36,7 +37,8 @@ read_digits n (c ∷ cs) = cond (is_ascii_digit c) (read_digits (min (n * 10 + (
 -- what stands before and after the point, where a digit stands where one must
 abbrev pub number_parts : List ℕ → Option (List ℕ × List ℕ)
 number_parts text =
-    cond (option_map_or (λ at. nat_lt 0 (length (after_first is_point text))) (position is_point text) (nat_lt 0 (length text)))
+    cond (option_map_or (λ at. nat_lt 0 (length (after_first is_point text))) (position is_point text)
+    (nat_lt 0 (length text)))
     (Some (before_first is_point text, after_first is_point text)) None
 
 -- the number of millionths, held at the first one past the bound

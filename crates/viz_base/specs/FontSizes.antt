@@ -1,5 +1,5 @@
--- Font sizes, line heights and the widths of texts (CSS 2.1, 10.8.1, 15.7), of nodes by their styles, parents and fonts.
--- Lengths are whole numbers of 1/64 px, and each fraction of one is rounded down: our own reading.
+-- Font sizes, line heights and the widths of texts (CSS 2.1, 10.8.1, 15.7), of nodes by their styles, parents and
+-- fonts. Lengths are whole numbers of 1/64 px, and each fraction of one is rounded down: our own reading.
 use Rattle.std.specs.Prelude.{ℕ, zero, suc, ◌*◌, ◌==◌, slice_get, ℤ, pos, ◌*ℤ◌, sum_by, List, Option}
 use Rattle.std.specs.List.{find}
 use Rattle.std.specs.Option.{option_map_or, option_and_then}
@@ -52,10 +52,12 @@ em_in styles parents s k node = fraction k 1000000 (font_size_in styles parents 
 abbrev pub computed_line : List Style → List (Option ℕ) → ℕ → ℕ → LineHeight → ℤ
 computed_line styles parents s node (of_line.Own num den) = fraction num den (font_size_in styles parents s node)
 computed_line styles parents s node (of_line.Px c) = c
-computed_line styles parents s node (of_line.OfNode from num den) = fraction num den (font_size_in styles parents s from)
+computed_line styles parents s node (of_line.OfNode from num den) =
+    fraction num den (font_size_in styles parents s from)
 
 abbrev pub line_height_in : List Style → List (Option ℕ) → ℕ → ℕ → ℤ
-line_height_in styles parents s node = option_map_or (λ (style : Style). computed_line styles parents s node style.line) (slice_get styles node) (pos 0)
+line_height_in styles parents s node =
+    option_map_or (λ (style : Style). computed_line styles parents s node style.line) (slice_get styles node) (pos 0)
 
 -- ---- fonts
 
@@ -81,4 +83,5 @@ advance font c = option_map_or (λ entry. entry.1) (find (λ entry. entry.0 == c
 
 -- the width of a text as one word: the sum of its advances, and then the fraction
 abbrev pub text_width_in : List Style → List (Option ℕ) → List Font → ℕ → ℕ → List ℕ → ℤ
-text_width_in styles parents fonts s node text = node_measure_in styles parents fonts s node (λ font. sum_by (advance font) text)
+text_width_in styles parents fonts s node text =
+    node_measure_in styles parents fonts s node (λ font. sum_by (advance font) text)

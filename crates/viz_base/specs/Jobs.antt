@@ -18,7 +18,8 @@ pub record IsRange (range : Rect) : Type 0 where
   pub size_most : range.sh ≤ 256
 
 -- the facts that a job keeps
-pub record IsJob (range : Rect) (height : ℕ) (boxes : List BoxNode) (styles : List Style) (fonts : List Font) (parents : List (Option ℕ))
+pub record IsJob (range : Rect) (height : ℕ) (boxes : List BoxNode) (styles : List Style) (fonts : List Font)
+    (parents : List (Option ℕ))
     (formula : Formula) : Type 0 where
   pub in_range : IsRange range
   pub height_least : 1 ≤ height

@@ -32,9 +32,11 @@ text_of (of_body.Chars text) = text
 abbrev pub is_lower : List ℕ → Bool
 is_lower name = bytes_eq (map to_ascii_lowercase name) name
 
--- the tag of an element and the names of its attributes are in lower case, since the case of neither matters (CSS 2.1, 4.1.3)
+-- the tag of an element and the names of its attributes are in lower case,
+-- since the case of neither matters (CSS 2.1, 4.1.3)
 abbrev pub has_lower_names : Body → Bool
-has_lower_names (of_body.Element element) = is_lower element.tag && list_all (λ (a : Attr). is_lower a.name) element.attrs
+has_lower_names (of_body.Element element) = is_lower element.tag
+    && list_all (λ (a : Attr). is_lower a.name) element.attrs
 has_lower_names (of_body.Chars text) = true
 
 -- the facts that a page keeps

@@ -34,7 +34,8 @@ is_of_element of_kind.Anon = false
 is_of_element of_kind.Line = false
 is_of_element _ = true
 
--- how many times the lesser intrinsic size of a replaced box goes into the greater, rounded up; 1 where one of them is 0
+-- how many times the lesser intrinsic size of a replaced box goes into the
+-- greater, rounded up; 1 where one of them is 0
 abbrev pub ratio : Option (ℕ × ℕ) → ℕ
 ratio None = 1
 ratio (Some size) = if size.0 == 0 || size.1 == 0 then 1 else quotient_up (max size.0 size.1) (min size.0 size.1)
@@ -57,7 +58,8 @@ percentage _ = 0
 -- what the percentages of a style can make of its containing block's extent, in millionths of a hundredth
 abbrev pub growth : Style → ℕ
 growth s =
-    max whole (max (percentage s.width) (max (percentage s.min_width) (max (percentage s.height) (percentage s.min_height))))
+    max whole (max (percentage s.width)
+    (max (percentage s.min_width) (max (percentage s.height) (percentage s.min_height))))
     + sum (map percentage (sides_of s.margin ++ sides_of s.padding))
 
 abbrev pub box_growth : List Style → BoxNode → ℕ
@@ -73,19 +75,23 @@ module _ (styles : List Style) (parents : List (Option ℕ)) (fonts : List Font)
 
   -- a raise by a length, or by a percentage of the line height, without its sign
   abbrev pub raise_extent : ℕ → Valign → ℕ
-  raise_extent node (of_valign.Raise (of_length.Pct p)) = unsigned_abs (fraction p whole (line_height_in styles parents largest_size node))
+  raise_extent node (of_valign.Raise (of_length.Pct p)) =
+      unsigned_abs (fraction p whole (line_height_in styles parents largest_size node))
   raise_extent node (of_valign.Raise l) = extent l
   raise_extent node _ = 0
 
   -- font size, line height, ascent and descent
   abbrev pub font_extent : ℕ → ℕ
   font_extent node =
-      unsigned_abs (font_size_in styles parents largest_size node) + unsigned_abs (line_height_in styles parents largest_size node)
-      + (unsigned_abs (ascent_in styles parents fonts largest_size node) + unsigned_abs (descent_in styles parents fonts largest_size node))
+      unsigned_abs (font_size_in styles parents largest_size node)
+      + unsigned_abs (line_height_in styles parents largest_size node)
+      + (unsigned_abs (ascent_in styles parents fonts largest_size node)
+      + unsigned_abs (descent_in styles parents fonts largest_size node))
 
   abbrev pub style_extent : BoxNode → Style → ℕ
   style_extent b s =
-      ratio b.size * (sum (map extent (lengths_of s)) + raise_extent b.node s.valign + font_extent b.node + intrinsic_extent b.size)
+      ratio b.size * (sum (map extent (lengths_of s)) + raise_extent b.node s.valign + font_extent b.node
+      + intrinsic_extent b.size)
 
   -- the extent that a box has by itself
   abbrev pub own_extent : BoxNode → ℕ
@@ -93,7 +99,8 @@ module _ (styles : List Style) (parents : List (Option ℕ)) (fonts : List Font)
 
   -- the widths of a text's characters, one by one
   abbrev pub text_extent : BoxNode → ℕ
-  text_extent b = sum (map (λ c. unsigned_abs (text_width_in styles parents fonts largest_size b.node (c ∷ []))) (chars b.chars))
+  text_extent b = sum
+      (map (λ c. unsigned_abs (text_width_in styles parents fonts largest_size b.node (c ∷ []))) (chars b.chars))
 
   -- the sums from the first number on
   abbrev pub sums : ℕ → List ℕ → List ℕ
@@ -115,11 +122,13 @@ module _ (styles : List Style) (parents : List (Option ℕ)) (fonts : List Font)
   abbrev pub reach_to : ℕ → List BoxNode → ℕ → ℕ → ℕ
   reach_to zero boxes viewport at = viewport
   reach_to (suc levels) boxes viewport at =
-      option_map_or (λ (b : BoxNode). reach_in b (option_map_or (reach_to levels boxes viewport) b.parent viewport)) (slice_get boxes at) viewport
+      option_map_or (λ (b : BoxNode). reach_in b (option_map_or (reach_to levels boxes viewport) b.parent viewport))
+      (slice_get boxes at) viewport
 
   -- the reaches of all boxes; the viewport's is the extent of all of them together
   abbrev pub reaches : List BoxNode → List ℕ
-  reaches boxes = map (λ (e : ℕ × BoxNode). reach_to (length boxes) boxes (total_extent boxes) e.0) (enumerate_from 0 boxes)
+  reaches boxes = map (λ (e : ℕ × BoxNode). reach_to (length boxes) boxes (total_extent boxes) e.0)
+      (enumerate_from 0 boxes)
 
   abbrev pub passes_most : ℕ → Bool
   passes_most = nat_lt (2 ^ 40)
@@ -127,7 +136,8 @@ module _ (styles : List Style) (parents : List (Option ℕ)) (fonts : List Font)
   abbrev pub node_of_place : List BoxNode → ℕ → Option ℕ
   node_of_place boxes at = option_map (λ (b : BoxNode). b.node) (slice_get boxes at)
 
-  -- the node of the first box with which the extents together pass 2^40 units; without one, of the first whose reach does
+  -- the node of the first box with which the extents together pass 2^40
+  -- units; without one, of the first whose reach does
   abbrev pub beyond_reach : List BoxNode → Option ℕ
   beyond_reach boxes =
       option_and_then (node_of_place boxes)

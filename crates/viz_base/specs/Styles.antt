@@ -58,7 +58,8 @@ is_good_line (of_line.Px c) = is_nonnegative c
 is_good_line (of_line.OfNode node num den) = is_nonnegative num && nat_le 1 den
 
 -- the facts that a style keeps
-pub record IsStyle (width min_width : Length) (max_width : Option Length) (height min_height : Length) (max_height : Option Length)
+pub record IsStyle (width min_width : Length) (max_width : Option Length) (height min_height : Length)
+    (max_height : Option Length)
     (margin padding border : Sides Length) (size : Size) (line : LineHeight) (valign : Valign) : Type 0 where
   pub percentages : IsTrue (list_all is_bounded (width ∷ min_width ∷ height ∷ min_height ∷ [])
       && (list_all is_bounded (option_to_list max_width ++ option_to_list max_height)

@@ -199,7 +199,8 @@ pub record IsBoxAt (boxes : List BoxNode) (nodes : ℕ) (styles : List Style) (a
   pub one_sort : IsTrue (holds_one_sort styles boxes b)
 
 -- the facts that a box tree keeps
-pub record IsBoxTree (boxes : List BoxNode) (styles : List Style) (fonts : List Font) (parents : List (Option ℕ)) : Type 0 where
+pub record IsBoxTree (boxes : List BoxNode) (styles : List Style) (fonts : List Font) (parents : List (Option ℕ))
+    : Type 0 where
   -- the first box, where there is one, is the root
   pub root : (b : BoxNode) → slice_get boxes 0 ≡ Some b → b.parent ≡ None
   pub root_is_whole : (b : BoxNode) → slice_get boxes 0 ≡ Some b → is_fragmented b.kind ≡ false
@@ -208,18 +209,24 @@ pub record IsBoxTree (boxes : List BoxNode) (styles : List Style) (fonts : List 
   pub in_order : IsInOrder (map (λ (b : BoxNode). b.parent) boxes)
   pub each : (at : ℕ) (b : BoxNode) → slice_get boxes at ≡ Some b → IsBoxAt boxes (length styles) styles at b
   pub fonts_there : (node : ℕ) (s : Style) → slice_get styles node ≡ Some s → s.font < length fonts
-  pub nodes_there : (node : ℕ) (s : Style) → slice_get styles node ≡ Some s → IsTrue (list_all (λ n. nat_lt n (length styles)) (named_nodes s))
+  pub nodes_there : (node : ℕ) (s : Style) → slice_get styles node ≡ Some s
+      → IsTrue (list_all (λ n. nat_lt n (length styles)) (named_nodes s))
   pub one_parent_each : length parents ≡ length styles
   pub parents_before : (node : ℕ) (p : ℕ) → slice_get parents node ≡ Some (Some p) → p < node
   -- where a node has a box, its parent and the nodes that its style names have one too
-  pub parents_boxed : (node p : ℕ) → IsTrue (has_box boxes node) → slice_get parents node ≡ Some (Some p) → IsTrue (has_box boxes p)
-  pub names_boxed : (node : ℕ) (s : Style) → IsTrue (has_box boxes node) → slice_get styles node ≡ Some s → IsTrue (list_all (has_box boxes) (named_nodes s))
+  pub parents_boxed : (node p : ℕ) → IsTrue (has_box boxes node) → slice_get parents node ≡ Some (Some p)
+      → IsTrue (has_box boxes p)
+  pub names_boxed : (node : ℕ) (s : Style) → IsTrue (has_box boxes node) → slice_get styles node ≡ Some s
+      → IsTrue (list_all (has_box boxes) (named_nodes s))
   -- a text has its parent's style, but for the size, which is the same
-  pub texts_alike : (at : ℕ) (b : BoxNode) (p : ℕ) (s t : Style) → slice_get boxes at ≡ Some b → IsTrue (is_chars b.kind)
-      → slice_get parents b.node ≡ Some (Some p) → slice_get styles b.node ≡ Some s → slice_get styles p ≡ Some t → AreAlikeButSize s t
+  pub texts_alike : (at : ℕ) (b : BoxNode) (p : ℕ) (s t : Style) → slice_get boxes at ≡ Some b
+      → IsTrue (is_chars b.kind)
+      → slice_get parents b.node ≡ Some (Some p) → slice_get styles b.node ≡ Some s → slice_get styles p ≡ Some t
+      → AreAlikeButSize s t
   pub texts_same_size : (at : ℕ) (b : BoxNode) (s : Style) → slice_get boxes at ≡ Some b → IsTrue (is_chars b.kind)
       → slice_get styles b.node ≡ Some s → IsTrue (is_same_size s.size)
   -- the parent of a text, and the node that an anonymous box stands in, have the box of an element
   pub texts_in_elements : (at : ℕ) (b : BoxNode) → slice_get boxes at ≡ Some b → b.kind ≡ of_kind.Chars
       → IsTrue (is_element_box boxes (slice_get parents b.node))
-  pub anonymous_in_elements : (at : ℕ) (b : BoxNode) → slice_get boxes at ≡ Some b → b.kind ≡ of_kind.Anon → IsTrue (has_element boxes b.node)
+  pub anonymous_in_elements : (at : ℕ) (b : BoxNode) → slice_get boxes at ≡ Some b → b.kind ≡ of_kind.Anon
+      → IsTrue (has_element boxes b.node)

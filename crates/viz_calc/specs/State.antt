@@ -46,7 +46,8 @@ pub record Grows (old new : State) : Type 0 where
 
 -- each of these worlds is open, unless a fault was counted since they are kept
 abbrev pub AreOpen : Kept → State → Type 0
-AreOpen kept s = (w : World) → IsTrue (kept.worlds w) → IsOpenWorld s w ⊎ (Rose kept.coeffs s.coeffs ⊎ Rose kept.opens s.opens)
+AreOpen kept s = (w : World) → IsTrue (kept.worlds w) → IsOpenWorld s w
+    ⊎ (Rose kept.coeffs s.coeffs ⊎ Rose kept.opens s.opens)
 
 -- the number is at most 2^100 in size
 abbrev pub IsSmall : ℤ → Type 0
@@ -65,8 +66,8 @@ Fits s parts = (e : Reading) → IsTrue (s.is_open e) → AllSmall (parts e)
 abbrev pub IsCounted : Bool → State → State → Halt → Type 0
 IsCounted counts old new h = counts ≡ true → h ≡ Coeff → Rose old.coeffs new.coeffs
 
--- a halt is told by the counts: a comparison that was left open was counted, and so was a coefficient past its limit, by a calc that
--- counts each
+-- a halt is told by the counts: a comparison that was left open was counted, and
+-- so was a coefficient past its limit, by a calc that counts each
 abbrev pub is_told : Bool → State → Option Halt → Bool
 is_told counts s (Some Open) = nat_lt 0 s.opens
 is_told counts s (Some Coeff) = not counts || nat_lt 0 s.coeffs

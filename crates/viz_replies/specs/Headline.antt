@@ -14,8 +14,8 @@ pub record IsTrueEverywhere (bytes : List ℕ) : Type 0 where
   pub spelled : SpellsJob bytes job
   pub holds : Holds job
 
--- the output names a world of the job's range, at which its assertion is false of the page's rendering, whom the assertion
--- blames there, and the boxes of that rendering
+-- the output names a world of the job's range, at which its assertion is false of the
+-- page's rendering, whom the assertion blames there, and the boxes of that rendering
 pub record IsRefuted (job : Job) (output : List ℕ) : Type 0 where
   pub world : World
   pub in_range : IsInRange job.range world
@@ -28,7 +28,8 @@ pub record IsFalseWherePrinted (bytes output : List ℕ) : Type 0 where
   pub spelled : SpellsJob bytes job
   pub refuted : IsRefuted job output
 
--- the output names a world of the range of the job that the bytes spell, at which its assertion is false of the page's rendering
+-- the output names a world of the range of the job that the bytes spell, at
+-- which its assertion is false of the page's rendering
 pub record IsFalseWhereNamed (bytes output : List ℕ) : Type 0 where
   pub job : Job
   pub spelled : SpellsJob bytes job

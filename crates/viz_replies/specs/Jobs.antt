@@ -45,7 +45,8 @@ limit_words which.Formula = codes "job-refused limit formula"
 -- a node, the name of a property, and what is shown of its value
 abbrev pub value_line : ℕ → Prop → List ℕ → List ℕ
 value_line node prop value =
-    codes "job-refused unsupported-value" ++ (spaced node ++ (codes " " ++ ((row prop).name ++ (codes " " ++ (value ++ codes "\n")))))
+    codes "job-refused unsupported-value"
+    ++ (spaced node ++ (codes " " ++ ((row prop).name ++ (codes " " ++ (value ++ codes "\n")))))
 
 abbrev pub long_line : List ℕ
 long_line = codes "job-refused too-long\n"

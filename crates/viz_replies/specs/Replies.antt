@@ -1,4 +1,5 @@
--- What is replied to a question about a job, given the bytes of its file: an answer, and the whole output that goes with it.
+-- What is replied to a question about a job, given the bytes of its file:
+-- an answer, and the whole output that goes with it.
 use Rattle.std.specs.Prelude.{◌≡◌, ◌⊎◌, ℕ, List, [], ◌∷◌, ◌++◌, codes}
 use Rattle.std.specs.List.{flat_map}
 use Rattle.viz_base.specs.declared.jobs.Job.{Job}
@@ -34,11 +35,13 @@ boxes_text job world = printed (rendering_of job world)
 -- the lines of the boxes that the formula blames at the world
 abbrev pub blame_lines : Job → World → List ℕ
 blame_lines job world =
-    flat_map (λ place. numbered (codes "blame") (place ∷ [])) (blame (scene_of (rendering_of job world) world job.height) job.formula)
+    flat_map (λ place. numbered (codes "blame") (place ∷ []))
+    (blame (scene_of (rendering_of job world) world job.height) job.formula)
 
 -- a world, whom the formula blames there, and the rendering there
 abbrev pub violation_text : Job → World → List ℕ
-violation_text job world = numbered (codes "violated") (world.w ∷ world.s ∷ []) ++ (blame_lines job world ++ boxes_text job world)
+violation_text job world = numbered (codes "violated") (world.w ∷ world.s ∷ [])
+    ++ (blame_lines job world ++ boxes_text job world)
 
 -- a part of the range that is open yet
 abbrev pub open_line : Rect → List ℕ
@@ -47,7 +50,9 @@ open_line part = numbered (codes "undecided") (part.wl ∷ part.wh ∷ part.sl �
 -- the rows of an answer that is to another difference: the one that is asked for, and the answer's own
 abbrev pub differs_line : (node number : ℕ) (ours theirs : Form) → List ℕ
 differs_line node number ours theirs =
-    codes "rejected differs" ++ (spaced node ++ (spaced number ++ (codes " " ++ (row_bytes ours ++ (codes " / " ++ (row_bytes theirs ++ codes "\n"))))))
+    codes "rejected differs"
+    ++ (spaced node ++ (spaced number
+    ++ (codes " " ++ (row_bytes ours ++ (codes " / " ++ (row_bytes theirs ++ codes "\n"))))))
 
 -- the line for a certificate that is wrong
 abbrev pub reject_line : Reject → List ℕ

@@ -25,7 +25,8 @@ pub record IsGenerated (seed sections : ℕ) (answer : Answer) (output : List �
 -- how many boxes the job's page has, how many worlds its range, and what came of it
 abbrev pub trial_line : Job → List ℕ → List ℕ
 trial_line job end =
-    codes "trial boxes" ++ (spaced (length job.tree.boxes) ++ (codes " worlds" ++ (spaced (world_count job.range) ++ end)))
+    codes "trial boxes"
+    ++ (spaced (length job.tree.boxes) ++ (codes " worlds" ++ (spaced (world_count job.range) ++ end)))
 
 -- a world at which the job's formula is false
 abbrev pub violated_end : World → List ℕ

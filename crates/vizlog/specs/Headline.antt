@@ -20,8 +20,8 @@ pub record IsFalseOfFile (files : Files) (name : List ℕ) (old new : Option (Li
   pub untrue : IsFalseWherePrinted bytes output
   pub written : new ≡ grown old output
 
--- the assertion of the job that the second word, its seed, and the third, its number of sections, tell is true at every world
--- of its range
+-- the assertion of the job that the second word, its seed, and the third, its
+-- number of sections, tell is true at every world of its range
 pub record IsTrueOfGenerated (words : List (List ℕ)) : Type 0 where
   pub seed : ℕ
   pub seed_is : word_at words 1 ≡ decimal seed

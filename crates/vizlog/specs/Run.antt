@@ -32,7 +32,8 @@ code_of (ends.Replied gives.CertRefused) = 8
 -- ---- replies
 
 -- the reply to a question about the job file of this name
-pub record IsReplyOfFile (files : Files) (name : List ℕ) (question : Question) (answer : Answer) (output : List ℕ) : Type 0 where
+pub record IsReplyOfFile (files : Files) (name : List ℕ) (question : Question) (answer : Answer) (output : List ℕ)
+    : Type 0 where
   pub bytes : List ℕ
   pub told : MayHold files name bytes
   pub reply : IsReply bytes question answer output
@@ -57,8 +58,8 @@ IsReplied files (asks_for.Check job cert) answer output = IsCheckOfFiles files j
 IsReplied files (asks_for.Gen seed sections) answer output = IsGenerated seed sections.count answer output
 IsReplied files (asks_for.Trial seed sections turns) answer output = IsTrial seed sections.count turns answer output
 
--- the file that could not be read: the job file, or a certificate file, which is looked for where the job file spells a job;
--- about a generated job no file is read
+-- the file that could not be read: the job file, or a certificate file, which is looked
+-- for where the job file spells a job; about a generated job no file is read
 abbrev pub IsUnread : Files → Command → File → Type 0
 IsUnread files (asks_for.Lay job screen) of_the.Job = Unit {0}
 IsUnread files (asks_for.Prove job turns) of_the.Job = Unit {0}
@@ -96,15 +97,18 @@ Delivers sink result status output =
 -- a command was replied to
 abbrev pub Replies : {S : Type 0} → Files → Command → Sunk S → Status → Type 0
 Replies files c sink result =
-    (answer : Answer) × (output : List ℕ) × IsReplied files c answer output × Delivers sink result (ends.Replied answer) output
+    (answer : Answer) × (output : List ℕ) × IsReplied files c answer output
+    × Delivers sink result (ends.Replied answer) output
 
 -- a file could not be read
 abbrev pub Misses : {S : Type 0} → Files → Command → Sunk S → Status → Type 0
-Misses files c sink result = (file : File) × IsUnread files c file × Delivers sink result (ends.ReadFault file) (codes "read-fault\n")
+Misses files c sink result = (file : File) × IsUnread files c file
+    × Delivers sink result (ends.ReadFault file) (codes "read-fault\n")
 
 -- a command was replied to, or a file could not be read, or memory was wanted and the sink not called
 abbrev pub Obeys : {S : Type 0} → Files → Command → Sunk S → Status → Type 0
-Obeys files c sink result = Replies files c sink result ⊎ (Misses files c sink result ⊎ ((result ≡ ends.Memory) × (sink.new ≡ sink.old)))
+Obeys files c sink result = Replies files c sink result
+    ⊎ (Misses files c sink result ⊎ ((result ≡ ends.Memory) × (sink.new ≡ sink.old)))
 
 -- how a run ends: words of no form are answered by one line, and a command is replied to
 abbrev pub IsOutcome : {S : Type 0} → Files → List (List ℕ) → Sunk S → Status → Type 0

@@ -11,7 +11,8 @@ spelled (asks_for.Lay job screen) = codes "lay" ∷ job.now ∷ decimal screen.w
 spelled (asks_for.Prove job turns) = codes "prove" ∷ job.now ∷ decimal turns ∷ []
 spelled (asks_for.Check job cert) = codes "check" ∷ job.now ∷ cert.now ∷ []
 spelled (asks_for.Gen seed sections) = codes "gen" ∷ decimal seed ∷ decimal sections.count ∷ []
-spelled (asks_for.Trial seed sections turns) = codes "trial" ∷ decimal seed ∷ decimal sections.count ∷ decimal turns ∷ []
+spelled (asks_for.Trial seed sections turns) = codes "trial" ∷ decimal seed ∷ decimal sections.count ∷ decimal turns
+    ∷ []
 
 -- a width from 1 to 16,384 pixels and a default font size from 1 to 256
 pub record IsWorld (world : World) : Type 0 where

@@ -34,11 +34,14 @@ are_above_zero = list_all is_above_zero
 
 -- the values below one step more, and whether the world is still on the path
 abbrev pub pass : Above → List ℤ → Bool → Option (List ℤ × Bool)
-pass (Def row d) values on = option_map (λ v. (values ++ int_div_euclid v d ∷ [], on)) (computed row.now (value_in values))
+pass (Def row d) values on =
+    option_map (λ v. (values ++ int_div_euclid v d ∷ [], on)) (computed row.now (value_in values))
 pass (First row) values on =
-    if is_unit row.now then Some (values, on) else option_map (λ v. (values, on && int_le (pos 0) v)) (computed row.now (value_in values))
+    if is_unit row.now then Some (values, on)
+    else option_map (λ v. (values, on && int_le (pos 0) v)) (computed row.now (value_in values))
 pass (Second row) values on =
-    if is_unit row.now then Some (values, on) else option_map (λ v. (values, on && lt_z v (pos 0))) (computed row.now (value_in values))
+    if is_unit row.now then Some (values, on)
+    else option_map (λ v. (values, on && lt_z v (pos 0))) (computed row.now (value_in values))
 
 abbrev pub place_from : List Above → List ℤ → Bool → Option Bool
 place_from [] values on = Some on

@@ -29,7 +29,8 @@ AllGood job = AllByRecursion (IsGood job)
 -- the first node that is not good is rejected so
 abbrev pub Rejects : Job → List Node → ℕ → Reject → Type 0
 Rejects job [] n reject = ⊥
-Rejects job (x ∷ xs) n reject = ((node_in reject ≡ n) × IsRejected job x reject) ⊎ (IsGood job x × Rejects job xs (n + 1) reject)
+Rejects job (x ∷ xs) n reject = ((node_in reject ≡ n) × IsRejected job x reject)
+    ⊎ (IsGood job x × Rejects job xs (n + 1) reject)
 
 unfoldable pub Tells : Job → List Node → ℕ → Result ℕ Stop → Type 0
 Tells job nodes n (Ok next) = AllGood job nodes

@@ -43,7 +43,8 @@ read_by = seq (after_word (codes "by ")) (λ _. give (Last None))
 
 -- the next term, from the variable `least` on, or "by "
 abbrev pub read_term : Bool → ℕ → Reader (Turn Term (Option Term))
-read_term is_def least text = cond (is_def && (begins 98 text || nat_lt most least)) (read_by text) (read_one_term is_def least text)
+read_term is_def least text =
+    cond (is_def && (begins 98 text || nat_lt most least)) (read_by text) (read_one_term is_def least text)
 
 abbrev pub with_last : Terms → Option Term → Terms
 with_last ts None = ts
@@ -53,20 +54,24 @@ abbrev pub next_variable : Term → ℕ
 next_variable t = t.0 + 1
 
 abbrev pub read_terms : Bool → Reader Terms
-read_terms is_def text = seq (loop next_variable (read_term is_def) (length text) 0) (λ ts. give (with_last ts.0 ts.1)) text
+read_terms is_def text =
+    seq (loop next_variable (read_term is_def) (length text) 0) (λ ts. give (with_last ts.0 ts.1)) text
 
 abbrev pub row_of : ℤ → Terms → Form
 row_of k ts = record { k = k; terms = ts }
 
 -- a row and what stands behind it: " by " in a def, else the line's end
 abbrev pub read_row : Bool → Reader Form
-read_row is_def = seq (signed (ends_behind 0 is_def) 0) (λ k text. cond (k.1 == 10) (give (row_of k.0 []) text) (seq (read_terms is_def) (λ ts. give (row_of k.0 ts)) text))
+read_row is_def =
+    seq (signed (ends_behind 0 is_def) 0)
+    (λ k text. cond (k.1 == 10) (give (row_of k.0 []) text) (seq (read_terms is_def) (λ ts. give (row_of k.0 ts)) text))
 
 -- ---- derivations
 
 -- a multiple of a row, and `behind` or the line's end behind it
 abbrev pub read_part : ℕ → Reader ((ℤ × ℕ) × ℕ)
-read_part behind = seq (natural (58, 58) 1 most_times) (λ m. seq (natural (behind, 10) 0 most) (λ n. give ((pos m.0, n.0), n.1)))
+read_part behind =
+    seq (natural (58, 58) 1 most_times) (λ m. seq (natural (behind, 10) 0 most) (λ n. give ((pos m.0, n.0), n.1)))
 
 abbrev pub part_turn : (ℤ × ℕ) × ℕ → Turn (ℤ × ℕ) (ℤ × ℕ)
 part_turn p = if p.1 == 10 then Last p.0 else More p.0
@@ -116,10 +121,13 @@ derived steps last = roll-Derivation (record { steps = steps; last = last })
 
 -- what stands behind "case ", where D reads a derivation inside it
 abbrev pub read_cases : Reader Derivation → Reader Ending
-read_cases D = seq (read_row false) (λ row. seq D (λ first. seq D (λ second. give (Cases (roll-Branch (record { row = row; first = first; second = second }))))))
+read_cases D = seq (read_row false)
+    (λ row. seq D (λ first. seq D
+    (λ second. give (Cases (roll-Branch (record { row = row; first = first; second = second }))))))
 
 abbrev pub read_ending : Reader Derivation → List Step × Bool → Reader Derivation
-read_ending D p text = cond p.1 (give (derived p.0 Closed) text) (seq (read_cases D) (λ last. give (derived p.0 last)) text)
+read_ending D p text =
+    cond p.1 (give (derived p.0 Closed) text) (seq (read_cases D) (λ last. give (derived p.0 last)) text)
 
 -- a derivation in which at most so many cases enclose each other
 unfoldable pub read_derivation : ℕ → Reader Derivation

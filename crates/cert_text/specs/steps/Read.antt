@@ -50,4 +50,5 @@ read_hex (c ∷ cs) = answer_hex (lower_value c) c cs
 unfoldable pub read_bytes : ℕ → List ℕ → Answer (List ℕ)
 read_bytes zero text = Ok ([], text)
 read_bytes (suc k) text =
-    read_hex text >>= λ high. read_hex high.1 >>= λ low. read_bytes k low.1 >>= λ others. Ok ((16 * high.0 + low.0) ∷ others.0, others.1)
+    read_hex text >>= λ high. read_hex high.1 >>= λ low. read_bytes k low.1 >>= λ others. Ok
+    ((16 * high.0 + low.0) ∷ others.0, others.1)

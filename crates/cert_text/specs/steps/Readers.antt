@@ -1,5 +1,5 @@
--- Readers, and how they are joined. Each gives the value of what stands in front of a text with what follows it, or else
--- the text from the first byte on that can't stand where it stands.
+-- Readers, and how they are joined. Each gives the value of what stands in front of a text with what
+-- follows it, or else the text from the first byte on that can't stand where it stands.
 use Rattle.std.specs.Prelude.{ℕ, zero, suc, cond, List, [], ◌∷◌, Ok, Err}
 use Rattle.cert_text.specs.declared.turn.Turn.{Turn}
 use Rattle.cert_text.specs.declared.turn.Turn.TheVariants.{More, Last}

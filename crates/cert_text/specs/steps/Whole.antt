@@ -12,7 +12,9 @@ use Rattle.cert_text.specs.steps.Parts.{most_times, alike, read_row, read_deriva
 use Rattle.cert_text.specs.steps.Readers.{Reader, give, seq, either, loop}
 
 abbrev pub read_reason : Bool → Reader (Turn Reason (Unit {0}))
-read_reason is_yes = seq (read_row false) (λ row. seq (read_derivation 64) (λ why. give (More (record { yes = is_yes; row = row; why = why }))))
+read_reason is_yes =
+    seq (read_row false) (λ row. seq (read_derivation 64)
+    (λ why. give (More (record { yes = is_yes; row = row; why = why }))))
 
 abbrev pub read_yes : Reader (Turn Reason (Unit {0}))
 read_yes = seq (after_word (codes "yes ")) (λ _. read_reason true)
@@ -45,13 +47,15 @@ read_flat = either 118 read_void (either 103 read_grid read_leaf)
 
 -- what stands behind "def " and behind "split ", where N reads a node below
 abbrev pub read_def : Reader CertNode → Reader CertNode
-read_def N = seq (read_row true) (λ row. seq (natural (10, 10) 1 most_times) (λ d. seq N (λ below. give (Def row (pos d.0) below))))
+read_def N = seq (read_row true)
+    (λ row. seq (natural (10, 10) 1 most_times) (λ d. seq N (λ below. give (Def row (pos d.0) below))))
 
 abbrev pub read_split : Reader CertNode → Reader CertNode
 read_split N = seq (read_row false) (λ row. seq N (λ first. seq N (λ second. give (Split row first second))))
 
 abbrev pub read_deep : Reader CertNode → Reader CertNode
-read_deep N = either 100 (seq (after_word (codes "def ")) (λ _. read_def N)) (either 115 (seq (after_word (codes "split ")) (λ _. read_split N)) read_flat)
+read_deep N = either 100 (seq (after_word (codes "def ")) (λ _. read_def N))
+    (either 115 (seq (after_word (codes "split ")) (λ _. read_split N)) read_flat)
 
 -- a node below which at most `levels` defs and splits stand one in another
 unfoldable pub read_node : ℕ → Reader CertNode
@@ -60,7 +64,10 @@ read_node (suc levels) = read_deep (read_node levels)
 
 -- a certificate, whatever follows it
 abbrev pub read_front : Reader Cert
-read_front = seq (after_word (codes "vizlog-cert 1\njob ")) (λ _. seq (read_bytes 32) (λ job. seq (after_word (codes "\n")) (λ _. seq (read_node 512) (λ root. give (record { job = job; root = root })))))
+read_front = seq (after_word (codes "vizlog-cert 1\njob "))
+    (λ _. seq (read_bytes 32)
+    (λ job. seq (after_word (codes "\n"))
+    (λ _. seq (read_node 512) (λ root. give (record { job = job; root = root })))))
 
 -- the value, if nothing follows
 abbrev pub at_end : {A : Type 0} → A → List ℕ → Answer A

@@ -76,12 +76,15 @@ numbered_from i (one ∷ rulesets) = map (λ r. (i, r)) one.group ++ numbered_fr
 -- the last of the selectors is of this ruleset, and the selector repeats it
 abbrev pub RepeatsLast : List Numbered → ℕ → Ranked → Type 0
 RepeatsLast all i r =
-    (before : List Numbered) × (last : Ranked) × (all ≡ before ++ (i, last) ∷ []) × (last.selector.parts ≡ r.selector.parts) × (last.spec ≡ r.spec)
+    (before : List Numbered) × (last : Ranked) × (all ≡ before ++ (i, last) ∷ [])
+    × (last.selector.parts ≡ r.selector.parts) × (last.spec ≡ r.spec)
 
 -- The candidate of this number stands in the bucket of a word that it asks for, or in the one for all elements.
 abbrev pub Stands : Buckets → ℕ → Ranked → Type 0
 Stands b at r =
-    Contains b.others at ⊎ ((word : List ℕ) × IsWordOfLast r.selector.parts word × Contains (get_or b.named.items (bucket_of word) []) at)
+    Contains b.others at
+    ⊎ ((word : List ℕ) × IsWordOfLast r.selector.parts word
+    × Contains (get_or b.named.items (bucket_of word) []) at)
 
 abbrev pub AllStand : Buckets → Type 0
 AllStand b = (at : ℕ) (r : Numbered) → slice_get (map numbered b.candidates.items) at ≡ Some r → Stands b at r.1

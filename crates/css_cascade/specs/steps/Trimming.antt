@@ -12,9 +12,11 @@ use Rattle.css_semantics.specs.Properties.{properties}
 use Rattle.css_cascade.specs.declared.trimming.Trimmed.{Trimmed}
 use Rattle.css_cascade.specs.steps.Seen.{kept_all}
 
--- Some of the claims of a ruleset stand for all of them: by whatever specificity they apply, and whatever won before them.
+-- Some of the claims of a ruleset stand for all of them: by whatever
+-- specificity they apply, and whatever won before them.
 abbrev pub LastsAs : List Claim → List Claim → Type 0
-LastsAs some claims = (s : Spec) (f : Prop → Option Applied) → kept_all (map f properties) (map (applied s) some) ≡ kept_all (map f properties) (map (applied s) claims)
+LastsAs some claims = (s : Spec) (f : Prop → Option Applied)
+    → kept_all (map f properties) (map (applied s) some) ≡ kept_all (map f properties) (map (applied s) claims)
 
 abbrev pub rules_of : Trimmed → Ruleset
 rules_of t = t.rules.now
@@ -32,4 +34,5 @@ slots all = kept_all (map (λ p. None) properties) all
 -- The winners of all that rulesets say that applies to a node, and behind it its style attribute.
 abbrev pub AreKept : List Node → ℕ → List Trimmed → List Claim → List (Option Applied) → Type 0
 AreKept nodes n trimmed style best =
-    (all : List Applied) × Each (AppliesTo nodes n) (map rules_of trimmed) (Ok all) × (best ≡ slots (all ++ map (applied style_spec) style))
+    (all : List Applied) × Each (AppliesTo nodes n) (map rules_of trimmed) (Ok all)
+    × (best ≡ slots (all ++ map (applied style_spec) style))

@@ -19,8 +19,10 @@ found r = record { rules = r.0; spec = r.1.spec }
 -- those of these selectors that match a node
 pub data Matched (nodes : List Node) (n : ℕ) : List Numbered → List Found → Type 0 where
   none : Matched nodes n [] []
-  matches : {r : Numbered} {rest : List Numbered} {all : List Found} → Match r.1.selector.parts nodes n → Matched nodes n rest all → Matched nodes n (r ∷ rest) (found r ∷ all)
-  passes_by : {r : Numbered} {rest : List Numbered} {all : List Found} → (Match r.1.selector.parts nodes n → ⊥) → Matched nodes n rest all → Matched nodes n (r ∷ rest) all
+  matches : {r : Numbered} {rest : List Numbered} {all : List Found} → Match r.1.selector.parts nodes n
+      → Matched nodes n rest all → Matched nodes n (r ∷ rest) (found r ∷ all)
+  passes_by : {r : Numbered} {rest : List Numbered} {all : List Found} → (Match r.1.selector.parts nodes n → ⊥)
+      → Matched nodes n rest all → Matched nodes n (r ∷ rest) all
 
 -- of two selectors of a ruleset the more specific
 abbrev pub joined : Found → Found → Found
@@ -31,7 +33,8 @@ abbrev pub strongest_behind : Option Found → List Found → List Found
 strongest_behind None [] = []
 strongest_behind (Some f) [] = f ∷ []
 strongest_behind None (g ∷ all) = strongest_behind (Some g) all
-strongest_behind (Some f) (g ∷ all) = if f.rules == g.rules then strongest_behind (Some (joined f g)) all else f ∷ strongest_behind (Some g) all
+strongest_behind (Some f) (g ∷ all) = if f.rules == g.rules then strongest_behind (Some (joined f g)) all else f
+    ∷ strongest_behind (Some g) all
 
 abbrev pub claims_of_some : Option Trimmed → List Claim
 claims_of_some None = []
@@ -53,19 +56,23 @@ abbrev pub Behind : List Trimmed → List (Option Applied) → Option Found → 
 Behind rulesets best going all = kept_found rulesets best (strongest_behind going all)
 
 -- One more selector is tried: whatever is found behind it, the winners are those behind what was found before.
-abbrev pub IsTried : List Node → ℕ → List Trimmed → Numbered → List (Option Applied) → Option Found → List (Option Applied) → Option Found → Type 0
+abbrev pub IsTried : List Node → ℕ → List Trimmed → Numbered → List (Option Applied) → Option Found
+    → List (Option Applied) → Option Found → Type 0
 IsTried nodes n rulesets r before going after next =
-    (rest : List Numbered) (behind : List Found) → Matched nodes n rest behind → (all : List Found) × Matched nodes n (r ∷ rest) all × (Behind rulesets after next behind ≡ Behind rulesets before going all)
+    (rest : List Numbered) (behind : List Found) → Matched nodes n rest behind → (all : List Found)
+    × Matched nodes n (r ∷ rest) all × (Behind rulesets after next behind ≡ Behind rulesets before going all)
 
 -- The winners behind what is said by those of these selectors that match.
-abbrev pub AreTried : List Node → ℕ → List Trimmed → List Numbered → List (Option Applied) → List (Option Applied) → Type 0
+abbrev pub AreTried : List Node → ℕ → List Trimmed → List Numbered → List (Option Applied) → List (Option Applied)
+    → Type 0
 AreTried nodes n rulesets selectors before after =
     (all : List Found) × Matched nodes n selectors all × (after ≡ Behind rulesets before None all)
 
 -- Some selectors stand for all on a page: at each node those of them that match give what all that match give.
 abbrev pub StandFor : List Node → List Numbered → List Numbered → Type 0
 StandFor nodes some all =
-    (n : ℕ) (found : List Found) → Matched nodes n some found → (whole : List Found) × Matched nodes n all whole × (strongest_behind None found ≡ strongest_behind None whole)
+    (n : ℕ) (found : List Found) → Matched nodes n some found → (whole : List Found) × Matched nodes n all whole
+    × (strongest_behind None found ≡ strongest_behind None whole)
 
 -- selectors that stand for those of these rulesets on a page, each in a bucket
 abbrev pub AreBuckets : List Node → List Ruleset → Buckets → Type 0
@@ -78,10 +85,13 @@ abbrev pub Rises : ℕ → List ℕ → Type 0
 Rises low [] = Unit {0}
 Rises low (x ∷ xs) = (low ≤ x) × Rises (suc x) xs
 
--- The selector of this number may match the element: it asks for no word, or stands in the bucket of one of the element's.
+-- The selector of this number may match the element: it asks for no word,
+-- or stands in the bucket of one of the element's.
 abbrev pub MayMatch : Buckets → Element → ℕ → Type 0
-MayMatch b e at = Contains b.others at ⊎ ((word : ℕ) × Contains (element_buckets e) word × Contains (get_or b.named.items word []) at)
+MayMatch b e at = Contains b.others at
+    ⊎ ((word : ℕ) × Contains (element_buckets e) word × Contains (get_or b.named.items word []) at)
 
 -- each of these selectors that matches a node is among those of these numbers
 abbrev pub AreAll : List Node → ℕ → List Numbered → List ℕ → Type 0
-AreAll nodes n selectors numbers = (at : ℕ) (r : Numbered) → slice_get selectors at ≡ Some r → Match r.1.selector.parts nodes n → Contains numbers at
+AreAll nodes n selectors numbers = (at : ℕ) (r : Numbered) → slice_get selectors at ≡ Some r
+    → Match r.1.selector.parts nodes n → Contains numbers at

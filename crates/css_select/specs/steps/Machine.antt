@@ -57,7 +57,8 @@ tagged s tag = record s { place = InCompound; compound = record { tag = tag; tes
 
 -- a test
 abbrev pub tested : State → Test → State
-tested s test = record s { place = InCompound; compound = record { tag = s.compound.tag; tests = s.compound.tests ++ test ∷ [] } }
+tested s test = record s
+    { place = InCompound; compound = record { tag = s.compound.tag; tests = s.compound.tests ++ test ∷ [] } }
 
 abbrev pub or_first : Option ℕ → ℕ → Option ℕ
 or_first None place = Some place
@@ -73,7 +74,14 @@ joined s join = record s { place = Fresh; parts = s.parts ++ (s.join, s.compound
 
 -- a selector
 abbrev pub ended : State → State
-ended s = record { place = Fresh; group = s.group ++ (s.parts ++ (s.join, s.compound) ∷ []) ∷ []; parts = []; join = First; compound = empty; refused = s.refused }
+ended s = record {
+  place = Fresh;
+  group = s.group ++ (s.parts ++ (s.join, s.compound) ∷ []) ∷ [];
+  parts = [];
+  join = First;
+  compound = empty;
+  refused = s.refused;
+}
 
 -- ---- what the next token does at each place, or the place at which it can't stand
 

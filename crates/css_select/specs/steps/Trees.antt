@@ -24,7 +24,8 @@ AreLast nodes n last = (parent : ℕ) → IsLast nodes parent n (get_or last par
 
 -- of the nodes before this one the last child of their parents before them
 abbrev pub AreSiblingsTo : List Node → ℕ → List (Option ℕ) → Type 0
-AreSiblingsTo nodes n previous = (m parent : ℕ) → m < n → IsParent nodes parent m → IsLast nodes parent m (get_or previous m None)
+AreSiblingsTo nodes n previous = (m parent : ℕ) → m < n → IsParent nodes parent m
+    → IsLast nodes parent m (get_or previous m None)
 
 abbrev pub AreSiblings : List Node → Siblings → Type 0
 AreSiblings nodes s = (length s.previous.items ≡ length nodes) × AreSiblingsTo nodes (length nodes) s.previous.items

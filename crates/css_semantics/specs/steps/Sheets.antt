@@ -1,5 +1,5 @@
--- What a list of tokens spells, computed step by step. No definition of the grammar of sheets cites these words: the laws
--- are proved by them, and the functions that read a sheet give them.
+-- What a list of tokens spells, computed step by step. No definition of the grammar of sheets cites
+-- these words: the laws are proved by them, and the functions that read a sheet give them.
 use Rattle.std.specs.Prelude.{ℕ, Bool, true, false, not, ◌&&◌, ◌||◌, List, [], ◌∷◌, ◌++◌, length, take, drop, Option, Some, None, option_map, if◌then◌else◌, codes, nat_lt, Result, Ok, Err}
 use Rattle.std.specs.Option.{option_to_list}
 use Rattle.std.specs.List.{list_any, list_all}
@@ -53,7 +53,8 @@ is_value ts = goes_on [] ts && not (list_all (λ t. is_gap t.kind) ts)
 
 abbrev pub declared : Token → List Token → Option Decl
 declared name [] = None
-declared name (t ∷ ts) = if is_colon t.kind && is_value ts then Some (declared_at name ts (before_important ts)) else None
+declared name (t ∷ ts) = if is_colon t.kind && is_value ts then Some (declared_at name ts (before_important ts))
+    else None
 
 -- the declaration that these tokens spell, if they spell one
 abbrev pub declaration : List Token → Option Decl
@@ -61,10 +62,12 @@ declaration [] = None
 declaration (t ∷ ts) = if is_ident t.kind then declared t (trim_start is_gap ts) else None
 
 abbrev pub declaration_item : Token → List Token → List Decl
-declaration_item t ts = if is_blank t.kind then [] else (if is_at_keyword t.kind then [] else option_to_list (declaration (front ends_declaration (t ∷ ts))))
+declaration_item t ts = if is_blank t.kind then []
+    else (if is_at_keyword t.kind then [] else option_to_list (declaration (front ends_declaration (t ∷ ts))))
 
 abbrev pub after_declaration : Token → List Token → List Token
-after_declaration t ts = if is_blank t.kind then ts else (if is_at_keyword t.kind then after_at_rule ts else behind ends_declaration (t ∷ ts))
+after_declaration t ts = if is_blank t.kind then ts
+    else (if is_at_keyword t.kind then after_at_rule ts else behind ends_declaration (t ∷ ts))
 
 -- the declarations of a block
 abbrev pub declarations : List Token → List Decl
@@ -73,7 +76,8 @@ declarations = gathered declaration_item after_declaration 0
 -- ---- rulesets
 
 abbrev pub rule_of : List Token → ℕ → List Token → Rule
-rule_of selector place block = record { at = start_of place selector; len = extent selector; decls = declarations block }
+rule_of selector place block =
+    record { at = start_of place selector; len = extent selector; decls = declarations block }
 
 abbrev pub ruleset_of : List Token → List Token → Option Rule
 ruleset_of selector [] = None
@@ -91,10 +95,12 @@ abbrev pub after_ruleset : List Token → List Token
 after_ruleset ts = after_selector (behind ends_selector ts)
 
 abbrev pub rule_item : Token → List Token → List Rule
-rule_item t ts = if is_gap t.kind then [] else (if is_at_keyword t.kind then [] else option_to_list (block_rule (t ∷ ts)))
+rule_item t ts = if is_gap t.kind then []
+    else (if is_at_keyword t.kind then [] else option_to_list (block_rule (t ∷ ts)))
 
 abbrev pub after_rule : Token → List Token → List Token
-after_rule t ts = if is_gap t.kind then ts else (if is_at_keyword t.kind then after_at_rule ts else after_ruleset (t ∷ ts))
+after_rule t ts = if is_gap t.kind then ts
+    else (if is_at_keyword t.kind then after_at_rule ts else after_ruleset (t ∷ ts))
 
 -- the rules of the block of an `@media`
 abbrev pub rules_in : List Token → List Rule
@@ -117,20 +123,25 @@ holds prelude = list_all (λ t. is_gap t.kind) prelude || list_any is_screen (en
 -- ---- statements
 
 abbrev pub media_of : ℕ → List Token → List Token → Statement
-media_of place prelude block = if list_any (λ t. has_paren t.kind) prelude then MediaQuery place else Media (if holds prelude then rules_in block else [])
+media_of place prelude block = if list_any (λ t. has_paren t.kind) prelude then MediaQuery place
+    else Media (if holds prelude then rules_in block else [])
 
 abbrev pub at_rule : Token → List Token → Option Statement
 at_rule t ts =
     if is_word (codes "import") t then Some (Import t.at)
     else (if is_word (codes "page") t then Some Page
-    else (if is_word (codes "media") t then Some (media_of t.at (front ends_prelude ts) (in_block (behind ends_prelude ts)))
+    else (if is_word (codes "media") t
+    then Some (media_of t.at (front ends_prelude ts) (in_block (behind ends_prelude ts)))
     else None))
 
 abbrev pub statement_item : Token → List Token → List Statement
-statement_item t ts = if is_between t.kind then [] else (if is_at_keyword t.kind then option_to_list (at_rule t ts) else option_to_list (option_map Ruleset (block_rule (t ∷ ts))))
+statement_item t ts = if is_between t.kind then []
+    else (if is_at_keyword t.kind then option_to_list (at_rule t ts)
+    else option_to_list (option_map Ruleset (block_rule (t ∷ ts))))
 
 abbrev pub after_statement : Token → List Token → List Token
-after_statement t ts = if is_between t.kind then ts else (if is_at_keyword t.kind then after_at_rule ts else after_ruleset (t ∷ ts))
+after_statement t ts = if is_between t.kind then ts
+    else (if is_at_keyword t.kind then after_at_rule ts else after_ruleset (t ∷ ts))
 
 abbrev pub statements : List Token → List Statement
 statements = gathered statement_item after_statement 0
@@ -148,7 +159,8 @@ with_statement early rules Page = Ok (false, rules)
 with_statement early rules (MediaQuery place) = Err (media_at place)
 with_statement early rules (Media held) = Ok (false, rules ++ held)
 
-abbrev pub if_ok : Result (Bool × List Rule) Refusal → (Bool → List Rule → Result (List Rule) Refusal) → Result (List Rule) Refusal
+abbrev pub if_ok : Result (Bool × List Rule) Refusal → (Bool → List Rule → Result (List Rule) Refusal)
+    → Result (List Rule) Refusal
 if_ok (Ok p) f = f p.0 p.1
 if_ok (Err refusal) f = Err refusal
 

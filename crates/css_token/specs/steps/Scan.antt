@@ -105,10 +105,12 @@ step_line row c =
 abbrev pub step_row : Row → Going → ℕ → Option State
 step_row row Plain c = step_plain row c
 step_row row Backslash c =
-    if is_hex c then Some (Within row (Digits 5)) else (if is_newline c then step_line row c else Some (Within row Plain))
+    if is_hex c then Some (Within row (Digits 5))
+    else (if is_newline c then step_line row c else Some (Within row Plain))
 step_row row (Digits left) c =
     if is_hex c && nat_lt 0 left then Some (Within row (Digits (left - 1)))
-    else (if c == 13 then Some (Within row Return) else (if is_space c then Some (Within row Plain) else step_plain row c))
+    else (if c == 13 then Some (Within row Return)
+    else (if is_space c then Some (Within row Plain) else step_plain row c))
 step_row row Return c = if c == 10 then Some (Within row Plain) else step_plain row c
 
 -- the first character of an identifier
@@ -123,20 +125,24 @@ step_unit c =
 
 abbrev pub step_mark : ℕ → Option State
 step_mark c =
-    if c == 58 then Some (End Colon) else (if c == 59 then Some (End Semicolon) else (if c == 123 then Some (End LeftBrace)
-    else (if c == 125 then Some (End RightBrace) else (if c == 40 then Some (End LeftParen) else (if c == 41 then Some (End RightParen)
+    if c == 58 then Some (End Colon)
+    else (if c == 59 then Some (End Semicolon) else (if c == 123 then Some (End LeftBrace)
+    else (if c == 125 then Some (End RightBrace)
+    else (if c == 40 then Some (End LeftParen) else (if c == 41 then Some (End RightParen)
     else (if c == 91 then Some (End LeftBracket) else (if c == 93 then Some (End RightBracket) else None)))))))
 
 abbrev pub step_sign : ℕ → Option State
 step_sign c =
     if c == 46 then Some Point else (if c == 45 then Some Dash else (if c == 34 then Some (Within (Quoted Double) Plain)
-    else (if c == 39 then Some (Within (Quoted Single) Plain) else (if c == 35 then Some HashMark else (if c == 64 then Some At
+    else (if c == 39 then Some (Within (Quoted Single) Plain)
+    else (if c == 35 then Some HashMark else (if c == 64 then Some At
     else (if c == 47 then Some Solidus else (if c == 60 then Some Less else (if c == 126 then Some Tilde
     else (if c == 124 then Some Bar else step_mark c)))))))))
 
 abbrev pub step_begin : ℕ → Option State
 step_begin c =
-    if is_u c then Some U else (if is_start c then Some (Within Word Plain) else (if c == 92 then Some (Within Word Backslash)
+    if is_u c then Some U
+    else (if is_start c then Some (Within Word Plain) else (if c == 92 then Some (Within Word Backslash)
     else (if is_space c then Some Spaces else (if is_digit c then Some Whole else step_sign c))))
 
 -- the state behind one more character, if the piece may go on with it
@@ -186,7 +192,8 @@ better (Some kind) rest best = (kind, rest)
 -- the last place at which what has been read is of a kind, or the best of before
 abbrev pub longest : State → List ℕ → Cut → Cut
 longest state [] best = best
-longest state (c ∷ cs) best = option_map_or (λ next. longest next cs (better (kind_of next) cs best)) (step state c) best
+longest state (c ∷ cs) best =
+    option_map_or (λ next. longest next cs (better (kind_of next) cs best)) (step state c) best
 
 -- the longest piece at the front of a text that isn't empty, the first character being a piece in any case
 abbrev pub cut_of : List ℕ → Cut

@@ -26,7 +26,8 @@ place_at at p e = record { top = at p.top.now e; edge = at p.edge.now e }
 
 -- at whatever top a float stands, its other edge is at most 2^100 in size
 abbrev pub FitsAnywhere : {N : Type 0} → Run → (N → Reading → ℤ) → List (PlacedFloat N) → Side → Band N → N → Type 0
-FitsAnywhere s at floats side cb width = (e : Reading) → IsTrue (s.is_open e) → (y : ℤ) → IsSmall (far_edge side (shelf_on (boxes_at at floats e) side (stretch_at at cb e) y).edge (at width e))
+FitsAnywhere s at floats side cb width = (e : Reading) → IsTrue (s.is_open e) → (y : ℤ)
+    → IsSmall (far_edge side (shelf_on (boxes_at at floats e) side (stretch_at at cb e) y).edge (at width e))
 
 abbrev pub room_at : {N : Type 0} → (N → Reading → ℤ) → Room N → Reading → Band ℤ
 room_at at r e = record { left = at r.left.now e; right = at r.right.now e }

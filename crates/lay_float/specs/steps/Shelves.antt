@@ -1,4 +1,5 @@
--- The place of a float as it is looked for: from the highest top downwards, what the floats that end below a top leave there.
+-- The place of a float as it is looked for: from the highest top downwards,
+-- what the floats that end below a top leave there.
 use Rattle.std.specs.Prelude.{ℕ, zero, suc, ℤ, ◌+ℤ◌, ◌-ℤ◌, Bool, true, false, int_le, cond, List, [], ◌∷◌, Option, Some, None, unwrap_or}
 use Rattle.std.specs.Int.{int_max, int_min}
 use Rattle.viz_base.specs.declared.layouts.Band.{Band}
@@ -117,7 +118,8 @@ stand fs side width cb y = cond (is_free side width cb (shelf_on fs side cb y)) 
 -- the highest top, from this one down, at which there is place; at most so many are passed
 unfoldable pub free_top : ℕ → List FloatBox → Side → ℤ → Band ℤ → ℤ → ℤ
 free_top zero fs side width cb y = y
-free_top (suc n) fs side width cb y = cond (is_free side width cb (shelf_on fs side cb y)) y (free_top n fs side width cb (next_top fs y))
+free_top (suc n) fs side width cb y =
+    cond (is_free side width cb (shelf_on fs side cb y)) y (free_top n fs side width cb (next_top fs y))
 
 -- a top, and the edge at which a float stands there
 pub record Place : Type 0 where

@@ -52,11 +52,18 @@ module _ (tree : BoxTree) (w : World) (height : ℕ) where
 
 -- the context as a box that is opened leaves it
 unfoldable pub opened : Context → Frame → Standing → Context
-opened s f standing = record { standing = standing; floats = s.floats; baseline = s.baseline; least = raised s.least (int_min f.corner.y (f.corner.y -ℤ f.v.margin_top)) }
+opened s f standing =
+    record {
+      standing = standing;
+      floats = s.floats;
+      baseline = s.baseline;
+      least = raised s.least (int_min f.corner.y (f.corner.y -ℤ f.v.margin_top));
+    }
 
 -- where the first child of a block stands
 unfoldable pub standing_in : BoxTree → ℕ → Cleared → Frame → Standing
-standing_in tree b cleared f = elim (is_open_above tree b) [ true ↦ at_top f.corner.y cleared | false ↦ below (content_top f) no_run false ]
+standing_in tree b cleared f =
+    elim (is_open_above tree b) [ true ↦ at_top f.corner.y cleared | false ↦ below (content_top f) no_run false ]
 
 -- the context around a box that starts one of its own, which has come so far: the last line's baseline goes on
 unfoldable pub left : Context → Frame → Context → Context
@@ -64,7 +71,13 @@ left s f end = record (opened s f end.standing) { baseline = option_or end.basel
 
 -- a box after its content
 abbrev pub closed : Frame → Bool → Run ℤ → Step → Placed ℤ → Laid
-closed f through run end box = record { through = through; bottom = box.border.bottom; margins = with_margin run f.v.margin_bottom; after = step end.context (box ∷ end.boxes) }
+closed f through run end box =
+    record {
+      through = through;
+      bottom = box.border.bottom;
+      margins = with_margin run f.v.margin_bottom;
+      after = step end.context (box ∷ end.boxes);
+    }
 
 module _ (tree : BoxTree) (w : World) (apart : ℕ → Alone) where
   -- the way forward from a box in a context
@@ -75,7 +88,14 @@ module _ (tree : BoxTree) (w : World) (apart : ℕ → Alone) where
   unfoldable pub reached_from : Band ℤ → Context → ℕ → ℤ → Cleared → Run ℤ → Reached × Run ℤ
   reached_from cb s b y None own = (record { top = y; clears = false; cleared = None }, own)
   reached_from cb s b y (Some c) own = elim (c.0 == b) [
-    | true ↦ (record { top = c.1; clears = true; cleared = cleared_of (forward_of (stands c.1) (is_up_to b) cb s b no_run).end }, (forward_of (stands c.1) (is_up_to b) cb s b no_run).run)
+    | true ↦ (
+      record {
+        top = c.1;
+        clears = true;
+        cleared = cleared_of (forward_of (stands c.1) (is_up_to b) cb s b no_run).end;
+      },
+      (forward_of (stands c.1) (is_up_to b) cb s b no_run).run,
+    )
     | false ↦ (record { top = y; clears = false; cleared = Some c }, own)
   ]
 
@@ -89,7 +109,8 @@ module _ (tree : BoxTree) (w : World) (apart : ℕ → Alone) where
       by_standing (at_top y cleared) = reached_from cb s b y cleared no_run
       by_standing (below edge run stuck) = by_found edge (forward_of (hangs edge) none_passed cb s b run)
 
-  unfoldable pub standing_after : Band ℤ → Standing → ℕ → Reached × Run ℤ → (through : Bool) → (bottom : ℤ) → (margins : Run ℤ) → Standing
+  unfoldable pub standing_after : Band ℤ → Standing → ℕ → Reached × Run ℤ → (through : Bool) → (bottom : ℤ)
+      → (margins : Run ℤ) → Standing
   standing_after cb before b met through bottom margins = by_sort through met.0.clears before
     where
       ended : Run ℤ
@@ -104,10 +125,12 @@ module _ (tree : BoxTree) (w : World) (apart : ℕ → Alone) where
   -- ---- floats
 
   unfoldable pub float_of : Band ℤ → ℤ → Context → ℕ → Step
-  float_of cb top s k = by_spot (float_spot (floating tree k (apart k).size cb) s.floats s.least (int_max top (next_edge s.standing)))
+  float_of cb top s k =
+      by_spot (float_spot (floating tree k (apart k).size cb) s.floats s.least (int_max top (next_edge s.standing)))
     where
       by_spot : Spot ℤ → Step
-      by_spot spot = step (record s { floats = with_float_at (floating tree k (apart k).size cb) s.floats spot }) (shifted spot (apart k).boxes)
+      by_spot spot = step (record s { floats = with_float_at (floating tree k (apart k).size cb) s.floats spot })
+          (shifted spot (apart k).boxes)
 
   -- ---- lines
 
@@ -126,7 +149,9 @@ module _ (tree : BoxTree) (w : World) (apart : ℕ → Alone) where
   filled_table table boxes = fold (λ table k. slice_set table k (Some (inner_of k))) table boxes
 
   unfoldable pub lines_of : ℕ → Band ℤ → ℤ → Context → LineList
-  lines_of b cb top s = lines_in (record { tree = tree; world = w; container = b; inner = inner_table b; cb = cb }) top (unwrap_or s.least top) s.floats
+  lines_of b cb top s =
+      lines_in (record { tree = tree; world = w; container = b; inner = inner_table b; cb = cb }) top
+      (unwrap_or s.least top) s.floats
 
   unfoldable pub in_lines : ℕ → Band ℤ → ℤ → Context → Step
   in_lines b cb top s = step (after_lines s (lines_of b cb top s)) (flat_map entry_of (lines_of b cb top s).entries)
@@ -139,7 +164,9 @@ module _ (tree : BoxTree) (w : World) (height : ℕ) (apart : ℕ → Alone) whe
   -- ---- a box in flow
 
   unfoldable pub laid_replaced : ℤ → Context → ℕ → Frame → Laid
-  laid_replaced room s b f = closed f false no_run (step (opened s f (below (content_top f) no_run false)) []) (replaced_of tree w height b room f)
+  laid_replaced room s b f =
+      closed f false no_run (step (opened s f (below (content_top f) no_run false)) [])
+      (replaced_of tree w height b room f)
 
   unfoldable pub laid_context : Band ℤ → Context → ℕ → Frame → Laid
   laid_context cb s b f = by_content (content_of b (content_from cb.left f.x) (content_top f) (fresh (content_top f)))
@@ -150,14 +177,17 @@ module _ (tree : BoxTree) (w : World) (height : ℕ) (apart : ℕ → Alone) whe
           (root_of tree w height b f end.context)
 
   unfoldable pub laid_block : Band ℤ → Context → ℕ → Cleared → Frame → Laid
-  laid_block cb s b cleared f = by_content (content_of b (content_from cb.left f.x) (content_top f) (opened s f (standing_in tree b cleared f)))
+  laid_block cb s b cleared f =
+      by_content (content_of b (content_from cb.left f.x) (content_top f) (opened s f (standing_in tree b cleared f)))
     where
       by_content : Step → Laid
-      by_content end = closed f (is_at_top end.context.standing && may_collapse_through tree b) (joined_run (joins_last_child tree b) end.context.standing) end
+      by_content end = closed f (is_at_top end.context.standing && may_collapse_through tree b)
+          (joined_run (joins_last_child tree b) end.context.standing) end
           (block_of tree w height b f end.context)
 
   unfoldable pub laid_of : Band ℤ → Context → ℕ → Reached → Laid
-  laid_of cb s b r = by_sort (frame_of tree w height b (across cb) cb.left r.top) (is_replaced_at tree b) (is_context_root tree b)
+  laid_of cb s b r =
+      by_sort (frame_of tree w height b (across cb) cb.left r.top) (is_replaced_at tree b) (is_context_root tree b)
     where
       by_sort : Frame → Bool → Bool → Laid
       by_sort f true any = laid_replaced (across cb) s b f
@@ -168,7 +198,11 @@ module _ (tree : BoxTree) (w : World) (height : ℕ) (apart : ℕ → Alone) whe
   in_flow cb s b = by_reached (reached_of tree w apart cb s b)
     where
       by_laid : Reached × Run ℤ → Laid → Step
-      by_laid met l = step (record l.after.context { standing = standing_after tree w apart cb s.standing b met l.through l.bottom l.margins }) l.after.boxes
+      by_laid met l = step
+          (record l.after.context {
+            standing =
+                standing_after tree w apart cb s.standing b met l.through l.bottom l.margins;
+          }) l.after.boxes
 
       by_reached : Reached × Run ℤ → Step
       by_reached met = by_laid met (laid_of cb s b met.0)
@@ -180,7 +214,11 @@ module _ (tree : BoxTree) (w : World) (height : ℕ) (apart : ℕ → Alone) whe
   children_of cb top s ks = children (child_of cb top) s ks
 
   unfoldable pub content_by : ℕ → Band ℤ → ℤ → Context → Step
-  content_by b cb top s = elim (has_line tree b) [ true ↦ in_lines tree w apart b cb top s | false ↦ children_of cb top s (flow_children tree b) ]
+  content_by b cb top s =
+      elim (has_line tree b) [
+        | true ↦ in_lines tree w apart b cb top s
+        | false ↦ children_of cb top s (flow_children tree b)
+      ]
 
 -- ---- boxes in coordinates of their own
 
@@ -192,7 +230,8 @@ module _ (tree : BoxTree) (w : World) (height : ℕ) where
   replaced_alone b room f = whole (replaced_of tree w height b room f) None []
 
   unfoldable pub context_alone : (ℕ → Alone) → ℕ → Frame → Alone
-  context_alone apart b f = by_content (content_of tree w height apart b (content_from (pos 0) f.x) (content_top f) (fresh (content_top f)))
+  context_alone apart b f =
+      by_content (content_of tree w height apart b (content_from (pos 0) f.x) (content_top f) (fresh (content_top f)))
     where
       by_content : Step → Alone
       by_content end = whole (root_of tree w height b f end.context) end.context.baseline end.boxes
@@ -212,7 +251,8 @@ module _ (tree : BoxTree) (w : World) (height : ℕ) where
   with_boxes table ks = fold with_box table ks
 
   unfoldable pub with_container : List (Option Alone) → ℕ → List (Option Alone)
-  with_container table b = elim (is_inline (kind_of tree b)) [ true ↦ table | false ↦ with_boxes table (outside_of tree b) ]
+  with_container table b =
+      elim (is_inline (kind_of tree b)) [ true ↦ table | false ↦ with_boxes table (outside_of tree b) ]
 
   -- of the last so many boxes
   unfoldable pub table_to : ℕ → List (Option Alone)

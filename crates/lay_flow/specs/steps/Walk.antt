@@ -26,5 +26,6 @@ unfoldable pub size_in : (ℕ → Alone) → Waiting ℤ → Extent ℤ
 size_in apart f = (apart f.at).size
 
 -- the way forward from a box, with this test of which boxes count as not cleared
-unfoldable pub way_in : BoxTree → World → (ℕ → Alone) → Base → List FloatBox → Option ℤ → (ℕ → Bool) → Band ℤ → ℕ → Run ℤ → List (Waiting ℤ) → Found
+unfoldable pub way_in : BoxTree → World → (ℕ → Alone) → Base → List FloatBox → Option ℤ → (ℕ → Bool) → Band ℤ → ℕ
+    → Run ℤ → List (Waiting ℤ) → Found
 way_in tree w apart base floats least passed = way tree w (size_in apart) base floats least passed

@@ -33,6 +33,7 @@ IsShort i = letters_in i ≤ 262144
 
 -- a text that has this word up to its first space, and this text behind that
 pub record IsCut (text front rest : List ℕ) : Type 0 where
-  pub items : (at : ℕ) → text_items at (chars text) ≡ word_items at (chars front) ++ space at ∷ text_items at (chars rest)
+  pub items : (at : ℕ)
+      → text_items at (chars text) ≡ word_items at (chars front) ++ space at ∷ text_items at (chars rest)
   pub shorter : length rest < length text
   pub is_text : IsUtf8 rest

@@ -1,4 +1,5 @@
--- Inline content in parts, in one pass: at each thing the place of the break behind it is found from what lies before the next thing.
+-- Inline content in parts, in one pass: at each thing the place of the
+-- break behind it is found from what lies before the next thing.
 use Rattle.std.specs.Prelude.{ℕ, zero, suc, ◌==◌, Bool, true, false, not, cond, List, [], ◌∷◌, ◌++◌, filter, Option, Some, None, find}
 use Rattle.std.specs.List.{onto_first}
 use Rattle.layout_semantics.specs.InlineContent.{Item, start, finish, forced}
@@ -33,7 +34,8 @@ break_from n last starts (i ∷ run) = break_from (suc n) last starts run
 abbrev pub break_in : List Item → ℕ
 break_in run = break_from 0 0 [] run
 
--- behind how many items after a thing the content is parted, by the thing before it, the next one and the run up to that
+-- behind how many items after a thing the content is parted, by the thing
+-- before it, the next one and the run up to that
 abbrev pub behind : Parting → Option Item → Item → Option Item → List Item → Option ℕ
 behind part before thing None run = None
 behind part before thing (Some next) run = cond (part before thing next) (Some (break_in run)) None
@@ -68,4 +70,6 @@ parted i false parts = onto_first i parts
 
 abbrev pub cut : Parting → Option Item → Option ℕ → List Item → List (List Item)
 cut part last left [] = []
-cut part last left (i ∷ items) = parted i (is_here (left_after part last left i items)) (cut part (last_after last i) (left_after part last left i items) items)
+cut part last left (i ∷ items) =
+    parted i (is_here (left_after part last left i items))
+    (cut part (last_after last i) (left_after part last left i items) items)

@@ -21,10 +21,12 @@ area_in c node baseline left right = text_area c node baseline left right
 
 unfoldable pub text_in : InlineContext → SetLine → ℕ → (left right : ℤ) → Entry ℤ
 text_in c line at left right = of_entry.Here (plain_box of_kind.Chars (node_of c.tree at)
-    (area_in c (node_of c.tree at) (line.baseline -ℤ option_map_or (inline_raised c) (parent_of c.tree.boxes at) (pos 0)) left right))
+    (area_in c (node_of c.tree at)
+    (line.baseline -ℤ option_map_or (inline_raised c) (parent_of c.tree.boxes at) (pos 0)) left right))
 
 unfoldable pub piece_in : InlineContext → SetLine → ℕ → Option ItemPlace → ItemPlace → List ItemPlace → List (Entry ℤ)
-piece_in c line at before p after = cond (option_map_or (is_text_of at) before false) [] (text_in c line at p.left (text_right at p.right after) ∷ [])
+piece_in c line at before p after =
+    cond (option_map_or (is_text_of at) before false) [] (text_in c line at p.left (text_right at p.right after) ∷ [])
 
 unfoldable pub edges_in : InlineContext → (starts ends : Bool) → Sides Length → Quad ℤ
 edges_in c starts ends sides = fragment_edges c starts ends sides
@@ -33,7 +35,15 @@ unfoldable pub around_in : InlineContext → ℕ → (starts ends : Bool) → Qu
 around_in c at starts ends area = from_padding (grown area (edges_in c starts ends (paddings c.tree at)))
   where
     from_border : Quad ℤ → Quad ℤ → Placed ℤ
-    from_border padding border = record { kind = of_kind.Inline; node = node_of c.tree at; margin = grown border (edges_in c starts ends (margins c.tree at)); border = border; padding = padding; content = area }
+    from_border padding border =
+        record {
+          kind = of_kind.Inline;
+          node = node_of c.tree at;
+          margin = grown border (edges_in c starts ends (margins c.tree at));
+          border = border;
+          padding = padding;
+          content = area;
+        }
 
     from_padding : Quad ℤ → Placed ℤ
     from_padding padding = from_border padding (grown padding (edges_in c starts ends (borders c.tree at)))
@@ -44,13 +54,20 @@ from_in c line at starts left after = of_entry.Here (up_to (find (is_end_of at) 
   where
     up_to : Option ItemPlace → Placed ℤ
     up_to last = around_in c at starts (is_some last)
-        (area_in c (node_of c.tree at) (line.baseline -ℤ inline_raised c at) left (option_map_or (λ (p : ItemPlace). p.left) last line.right))
+        (area_in c (node_of c.tree at) (line.baseline -ℤ inline_raised c at) left
+        (option_map_or (λ (p : ItemPlace). p.left) last line.right))
 
 unfoldable pub atomic_in : InlineContext → SetLine → ℕ → ℤ → Entry ℤ
-atomic_in c line at left = of_entry.Goes at (record { x = left; y = (line.baseline -ℤ raised c at (own_reach c at)) -ℤ (own_reach c at).above })
+atomic_in c line at left =
+    of_entry.Goes at (record {
+      x = left;
+      y = (line.baseline -ℤ raised c at (own_reach c at))
+          -ℤ (own_reach c at).above;
+    })
 
 -- of an item
-unfoldable pub item_in : InlineContext → SetLine → Option ItemPlace → ItemPlace → List ItemPlace → List (ℕ × Spot ℤ) → List (Entry ℤ)
+unfoldable pub item_in : InlineContext → SetLine → Option ItemPlace → ItemPlace → List ItemPlace → List (ℕ × Spot ℤ)
+    → List (Entry ℤ)
 item_in c line before p after spots = by_item p.item
   where
     by_item : Item → List (Entry ℤ)
@@ -65,7 +82,8 @@ item_in c line before p after spots = by_item p.item
 -- of items in their order
 abbrev pub items_in : InlineContext → SetLine → Option ItemPlace → List ItemPlace → List (ℕ × Spot ℤ) → List (Entry ℤ)
 items_in c line before [] spots = []
-items_in c line before (p ∷ after) spots = item_in c line before p after spots ++ items_in c line (Some p) after (spots_after p.item spots)
+items_in c line before (p ∷ after) spots = item_in c line before p after spots
+    ++ items_in c line (Some p) after (spots_after p.item spots)
 
 -- of the inline boxes that are open at the line's start
 abbrev pub opened_in : InlineContext → SetLine → List ℕ → List (Entry ℤ)

@@ -28,8 +28,9 @@ with_item_box c e _ = e
 abbrev pub extent_at_start : InlineContext → List ℕ → LineExtent
 extent_at_start c opened = fold (with_box c) (strut c) opened
 
--- a line with some of its stretches: how many, and of how many items; their width, whether a forced break is among them and whether
--- something makes the line exist, the floats met, how far it reaches, and the inline boxes that are open behind them
+-- a line with some of its stretches: how many, and of how many items; their width, whether
+-- a forced break is among them and whether something makes the line exist, the floats met,
+-- how far it reaches, and the inline boxes that are open behind them
 pub record Filled : Type 0 where
   pub count : ℕ
   pub span : Span
@@ -55,7 +56,17 @@ with_stretch c line f part floats held = record {
 
 -- the first stretch stands on the line in any case
 abbrev pub first_filled : InlineContext → Line → List ℕ → List Item → Held → Filled
-first_filled c line opened part held = with_stretch c line (record { count = 0; span = no_items; held = nothing_held; is_ended = false; is_line = false; met = line.before; extent = extent_at_start c opened; opened = opened }) part
+first_filled c line opened part held =
+    with_stretch c line (record {
+      count = 0;
+      span = no_items;
+      held = nothing_held;
+      is_ended = false;
+      is_line = false;
+      met = line.before;
+      extent = extent_at_start c opened;
+      opened = opened;
+    }) part
     (float_boxes (from_line_on c.tree part)) held
 
 -- a later one where it fits beside the floats met so far, and no forced break stands before it

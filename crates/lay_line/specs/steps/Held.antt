@@ -2,8 +2,8 @@
 use Rattle.std.specs.Prelude.{ℤ, pos, ◌+ℤ◌, Bool, true, false, cond, List, fold}
 use Rattle.layout_semantics.specs.InlineContent.{Item, word, space, atomic}
 
--- what a line holds so far: its width without the spaces at its ends, the width of the spaces since the last word or atomic box, and
--- whether there was one
+-- what a line holds so far: its width without the spaces at its ends, the width of
+-- the spaces since the last word or atomic box, and whether there was one
 pub record Held : Type 0 where
   pub width : ℤ
   pub spaces : ℤ

@@ -26,23 +26,39 @@ none_met floats = record { spots = []; floats = floats; waiting = [] }
 
 -- the next line, its first stretch taking so much
 abbrev pub line_from : InlineContext → ℤ → SoFar → List Item → List (List Item) → ℤ → Line
-line_from c tall now first parts width = at_top (place_each c now.least now.y (none_met now.floats) (float_boxes (before_line c.tree first)))
+line_from c tall now first parts width =
+    at_top (place_each c now.least now.y (none_met now.floats) (float_boxes (before_line c.tree first)))
   where
     at_top : Met → Line
-    at_top met = record { top = top_found c met.floats now.y tall width; tall = tall; least = now.least; before = met; parts = parts }
+    at_top met = record {
+      top = top_found c met.floats now.y tall width;
+      tall = tall;
+      least = now.least;
+      before = met;
+      parts = parts;
+    }
 
 -- where the content of a line begins
 abbrev pub left_of : InlineContext → Line → Met → ℤ → ℤ
 left_of c line met width = content_left c (band_at met.floats c.cb line.top line.tall) width
 
 -- the entries of a line: itself and its content
-abbrev pub line_added : InlineContext → SoFar → Line → LineExtent → ℤ → Band ℤ → ℤ → List ItemPlace → Met → List (Entry ℤ)
+abbrev pub line_added : InlineContext → SoFar → Line → LineExtent → ℤ → Band ℤ → ℤ → List ItemPlace → Met
+    → List (Entry ℤ)
 line_added c now line e width room left places late = line_box c room line.top (line.top +ℤ height_of_extent e)
-    ∷ line_entries c (record { baseline = line.top +ℤ e.above; left = left; right = left +ℤ width; places = places; spots = late.spots }) now.opened
+    ∷ line_entries c (record {
+      baseline = line.top +ℤ e.above;
+      left = left;
+      right = left +ℤ width;
+      places = places;
+      spots = late.spots;
+    }) now.opened
 
 -- a line that exists, from what the pass over its stretches carried
 abbrev pub laid : InlineContext → SoFar → Line → Met → LineExtent → List ℕ → ℤ → List ItemPlace → LaidLines
-laid c now line met e opened width places = finished (place_each c (int_max now.least line.top) (line.top +ℤ height_of_extent e) (record met { waiting = [] }) met.waiting)
+laid c now line met e opened width places =
+    finished (place_each c (int_max now.least line.top) (line.top +ℤ height_of_extent e) (record met { waiting = [] })
+    met.waiting)
   where
     finished : Met → LaidLines
     finished late = record {
@@ -53,7 +69,8 @@ laid c now line met e opened width places = finished (place_each c (int_max now.
         opened = opened;
         baseline = Some (line.top +ℤ e.above);
       };
-      entries = line_added c now line e width (band_at met.floats c.cb line.top line.tall) (left_of c line met width) places late;
+      entries = line_added c now line e width (band_at met.floats c.cb line.top line.tall) (left_of c line met width)
+          places late;
     }
 
 -- and one that doesn't
@@ -61,12 +78,16 @@ abbrev pub laid_empty : InlineContext → SoFar → List ℕ → List Item → L
 laid_empty c now opened items = finished (place_each c now.least now.y (none_met now.floats) (float_boxes items))
   where
     finished : Met → LaidLines
-    finished met = record { after = record now { floats = met.floats; opened = opened }; entries = float_entries met.spots }
+    finished met = record {
+      after = record now { floats = met.floats; opened = opened };
+      entries = float_entries met.spots;
+    }
 
 abbrev pub line_closed : InlineContext → SoFar → Line → Filled → List (List Item) → LaidLines × List (List Item)
 line_closed c now line f parts = (
   cond f.is_line
-      (laid c now line f.met f.extent f.opened f.held.width (stand c (left_of c line f.met f.held.width) false f.span.solid (first_items line f.count)))
+      (laid c now line f.met f.extent f.opened f.held.width
+      (stand c (left_of c line f.met f.held.width) false f.span.solid (first_items line f.count)))
       (laid_empty c now f.opened (first_items line f.count)),
   drop f.count parts,
 )
@@ -76,7 +97,8 @@ abbrev pub line_step : InlineContext → ℤ → SoFar → List Item → List (L
 line_step c tall now first rest = of_held (with_items (item_width c) nothing_held first)
   where
     of_line : Held → Line → LaidLines × List (List Item)
-    of_line held line = line_closed c now line (filled c line (first_filled c line now.opened first held) rest) (first ∷ rest)
+    of_line held line =
+        line_closed c now line (filled c line (first_filled c line now.opened first held) rest) (first ∷ rest)
 
     of_held : Held → LaidLines × List (List Item)
     of_held held = of_line held (line_from c tall now first (first ∷ rest) held.width)

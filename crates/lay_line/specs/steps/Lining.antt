@@ -25,13 +25,23 @@ no_floats floats = record { spots = []; floats = floats; waiting = [] }
 
 -- the floats that stand before anything on it
 unfoldable pub met_before : InlineContext → SoFar → List Measured → Met
-met_before c now first = placed_all c now.least now.y (no_floats now.floats) (float_boxes (take (ahead c (bare first)) (bare first)))
+met_before c now first =
+    placed_all c now.least now.y (no_floats now.floats) (float_boxes (take (ahead c (bare first)) (bare first)))
 
 abbrev pub slot_for : InlineContext → ℤ → SoFar → Met → ℤ → Slot
-slot_for c tall now before width = record { top = top_in c before.floats now.y tall width; tall = tall; least = now.least }
+slot_for c tall now before width =
+    record { top = top_in c before.floats now.y tall width; tall = tall; least = now.least }
 
 unfoldable pub first_load : InlineContext → Slot → Met → List ℕ → List Measured → Held → Load
-first_load c slot before opened first held = loaded c slot (record { held = nothing_held; is_ended = false; is_line = false; met = before; extent = reaching_boxes c (strut_in c) opened; opened = opened })
+first_load c slot before opened first held =
+    loaded c slot (record {
+      held = nothing_held;
+      is_ended = false;
+      is_line = false;
+      met = before;
+      extent = reaching_boxes c (strut_in c) opened;
+      opened = opened;
+    })
     (bare first) (float_boxes (drop (ahead c (bare first)) (bare first))) held
 
 -- ---- a line that exists
@@ -51,25 +61,46 @@ unfoldable pub box_in : InlineContext → Band ℤ → ℤ → ℤ → Entry ℤ
 box_in c room top bottom = line_box c room top bottom
 
 abbrev pub set_at : Slot → Load → ℤ → List Measured → List (ℕ × Spot ℤ) → SetLine
-set_at slot f left items spots = record { baseline = slot.top +ℤ f.extent.above; left = left; right = left +ℤ f.held.width; places = places_of left items; spots = spots }
+set_at slot f left items spots =
+    record {
+      baseline = slot.top +ℤ f.extent.above;
+      left = left;
+      right = left +ℤ f.held.width;
+      places = places_of left items;
+      spots = spots;
+    }
 
 unfoldable pub full_line : InlineContext → SoFar → Slot → Load → List Measured → LaidLines
 full_line c now slot f items = finished (room_in c f.met.floats slot.top slot.tall)
-    (placed_all c (int_max now.least slot.top) (slot.top +ℤ height_of_extent f.extent) (record { spots = f.met.spots; floats = f.met.floats; waiting = [] }) f.met.waiting)
+    (placed_all c (int_max now.least slot.top) (slot.top +ℤ height_of_extent f.extent)
+    (record { spots = f.met.spots; floats = f.met.floats; waiting = [] }) f.met.waiting)
   where
     finished : Band ℤ → Met → LaidLines
     finished room late = record {
-      after = record { y = slot.top +ℤ height_of_extent f.extent; least = int_max now.least slot.top; floats = late.floats; opened = f.opened; baseline = Some (slot.top +ℤ f.extent.above) };
-      entries = box_in c room slot.top (slot.top +ℤ height_of_extent f.extent) ∷ entries_in c (set_at slot f (left_in c room f.held.width) items late.spots) now.opened;
+      after = record {
+        y = slot.top +ℤ height_of_extent f.extent;
+        least = int_max now.least slot.top;
+        floats = late.floats;
+        opened = f.opened;
+        baseline = Some (slot.top +ℤ f.extent.above);
+      };
+      entries = box_in c room slot.top (slot.top +ℤ height_of_extent f.extent)
+          ∷ entries_in c (set_at slot f (left_in c room f.held.width) items late.spots) now.opened;
     }
 
 -- ---- and one that doesn't
 
 unfoldable pub empty_line : InlineContext → SoFar → Load → List Measured → LaidLines
-empty_line c now f items = finished (placed_all c now.least now.y (no_floats (take (length now.floats) f.met.floats)) (float_boxes (bare items)))
+empty_line c now f items =
+    finished (placed_all c now.least now.y (no_floats (take (length now.floats) f.met.floats))
+    (float_boxes (bare items)))
   where
     finished : Met → LaidLines
-    finished met = record { after = record { y = now.y; least = now.least; floats = met.floats; opened = f.opened; baseline = now.baseline }; entries = float_entries met.spots }
+    finished met = record {
+      after =
+          record { y = now.y; least = now.least; floats = met.floats; opened = f.opened; baseline = now.baseline };
+      entries = float_entries met.spots;
+    }
 
 -- ---- one line, and all
 
@@ -83,7 +114,8 @@ joined_parts parts = flat_map (λ part. part) parts
 abbrev pub taken : List Measured → List Measured → List Measured
 taken all left = take (length all - length left) all
 
-unfoldable pub next_in : InlineContext → ℤ → SoFar → List Measured → List (List Measured) → LaidLines × List (List Measured)
+unfoldable pub next_in : InlineContext → ℤ → SoFar → List Measured → List (List Measured) → LaidLines
+    × List (List Measured)
 next_in c tall now first rest = of_held (held_with nothing_held first)
   where
     of_loaded : Slot → Load × List (List Measured) → LaidLines × List (List Measured)
@@ -109,7 +141,8 @@ laying (suc lines) c tall now (first ∷ parts) = going_on (laying lines c tall)
 
 -- the lines of measured items, in the parts that marks make
 unfoldable pub lined : InlineContext → List Item → List Measured → List Bool → ℤ → ℤ → List FloatBox → LineList
-lined c items ms marks y least floats = listed (laying (length ms) c (tallest_by c items) (before_all y least floats) (parts_of ms marks))
+lined c items ms marks y least floats =
+    listed (laying (length ms) c (tallest_by c items) (before_all y least floats) (parts_of ms marks))
   where
     listed : LaidLines → LineList
     listed l = record { entries = l.entries; bottom = l.after.y; baseline = l.after.baseline; floats = l.after.floats }

@@ -30,7 +30,8 @@ mark_from n [] = None
 mark_from n (m ∷ marks) = cond m (Some (suc n)) (mark_from (suc n) marks)
 
 -- the first part of a list, and what is behind it
-pub record IsFirst {A : Type 0} (xs : List A) (marks : List Bool) (first rest : List A) (left : List Bool) : Type 0 where
+pub record IsFirst {A : Type 0} (xs : List A) (marks : List Bool) (first rest : List A) (left : List Bool)
+    : Type 0 where
   pub parts : parts_of xs marks ≡ first ∷ parts_of rest left
   pub joined : xs ≡ first ++ rest
   pub shorter : length rest < length xs
@@ -78,8 +79,8 @@ has_forced items = list_any is_forced items
 abbrev pub has_maker : InlineContext → List Item → Bool
 has_maker c items = list_any (makes c.tree) items
 
--- what a line holds so far: its width, whether a forced break is among it and whether something makes the line exist, the floats met, how
--- far it reaches, and the inline boxes that are open behind it
+-- what a line holds so far: its width, whether a forced break is among it and whether something makes the
+-- line exist, the floats met, how far it reaches, and the inline boxes that are open behind it
 pub record Load : Type 0 where
   pub held : Held
   pub is_ended : Bool
@@ -107,7 +108,8 @@ takes_more c slot f held = not f.is_ended && fits held.width (room_in c f.met.fl
 abbrev pub loading : InlineContext → Slot → Load → List (List Measured) → Load × List (List Measured)
 loading c slot f [] = (f, [])
 loading c slot f (part ∷ parts) = cond (takes_more c slot f (held_with f.held part))
-    (loading c slot (loaded c slot f (bare part) (float_boxes (bare part)) (held_with f.held part)) parts) (f, part ∷ parts)
+    (loading c slot (loaded c slot f (bare part) (float_boxes (bare part)) (held_with f.held part)) parts)
+    (f, part ∷ parts)
 
 -- how many items stand before the first that makes the line exist
 abbrev pub ahead_by : (Item → Bool) → List Item → ℕ

@@ -4,7 +4,8 @@ use Rattle.layout_semantics.specs.InlineContent.{Item, start, finish, forced}
 use Rattle.layout_semantics.specs.Stretches.{is_thing, Parting}
 use Rattle.lay_line.specs.steps.Cutting.{Starts, first_or, without, leading_ends, one_less, is_here, last_after, parted}
 
--- what is known of the items of a run that are behind: the starts that have not ended, and the place behind the last end
+-- what is known of the items of a run that are behind: the starts that have
+-- not ended, and the place behind the last end
 pub record Run : Type 0 where
   pub starts : Starts
   pub last : ℕ
@@ -21,7 +22,8 @@ run_after n r i = r
 -- item by item up to the next thing, n items being behind
 abbrev pub break_until : ℕ → Run → List Item → ℕ
 break_until n r [] = first_or r.starts r.last
-break_until n r (i ∷ items) = cond (is_thing i) (first_or r.starts r.last) (break_until (suc n) (run_after (suc n) r i) items)
+break_until n r (i ∷ items) =
+    cond (is_thing i) (first_or r.starts r.last) (break_until (suc n) (run_after (suc n) r i) items)
 
 -- behind how many items after a thing the content is parted
 abbrev pub behind_in : Parting → Option Item → Item → Option Item → List Item → Option ℕ
@@ -37,7 +39,8 @@ left_in part last left i after = cond (is_thing i) (place_in part last i after) 
 
 abbrev pub marks : Parting → Option Item → Option ℕ → List Item → List Bool
 marks part last left [] = []
-marks part last left (i ∷ items) = is_here (left_in part last left i items) ∷ marks part (last_after last i) (left_in part last left i items) items
+marks part last left (i ∷ items) = is_here (left_in part last left i items)
+    ∷ marks part (last_after last i) (left_in part last left i items) items
 
 -- items in the parts that such marks make
 abbrev pub marked_parts : List Item → List Bool → List (List Item)

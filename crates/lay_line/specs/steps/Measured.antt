@@ -29,8 +29,8 @@ stand_with x begun left [] = []
 stand_with x begun left (m ∷ ms) = put (placed_at x m) (stays begun (is_some_left (fewer left)) m.item)
     (stand_with x begun (fewer left) ms) (stand_with (x +ℤ m.width) (begun || is_solid m.item) (fewer left) ms)
 
--- item by item: where the next one stands, whether a word or an atomic box has come, how many items are left up to the last one, and the
--- places so far
+-- item by item: where the next one stands, whether a word or an atomic box has
+-- come, how many items are left up to the last one, and the places so far
 pub record Row : Type 0 where
   pub x : ℤ
   pub begun : Bool
@@ -39,10 +39,17 @@ pub record Row : Type 0 where
 
 -- with an item that stays
 abbrev pub row_with : Row → Measured → Row
-row_with r m = record { x = r.x +ℤ m.width; begun = r.begun || is_solid m.item; left = r.left; places = r.places ++ placed_at r.x m ∷ [] }
+row_with r m = record {
+  x = r.x +ℤ m.width;
+  begun = r.begun || is_solid m.item;
+  left = r.left;
+  places = r.places
+      ++ placed_at r.x m ∷ [];
+}
 
 abbrev pub row_after : Row → Measured → Row
-row_after r m = cond (stays r.begun (is_some_left (fewer r.left)) m.item) (row_with (record r { left = fewer r.left }) m) (record r { left = fewer r.left })
+row_after r m = cond (stays r.begun (is_some_left (fewer r.left)) m.item)
+    (row_with (record r { left = fewer r.left }) m) (record r { left = fewer r.left })
 
 abbrev pub rows : Row → List Measured → Row
 rows r [] = r

@@ -29,7 +29,8 @@ top_below least y (Some below) = int_max least (int_max below y)
 
 -- with one that stands
 abbrev pub kept_at : InlineContext → Met → ℕ → Spot ℤ → Met
-kept_at c met at spot = record { spots = met.spots ++ (at, spot) ∷ []; floats = floats_with c met.floats at spot; waiting = met.waiting }
+kept_at c met at spot =
+    record { spots = met.spots ++ (at, spot) ∷ []; floats = floats_with c met.floats at spot; waiting = met.waiting }
 
 unfoldable pub placed_next : InlineContext → ℤ → ℤ → Met → ℕ → Met
 placed_next c least y met at = kept_at c met at (spot_in c met.floats least y at)
@@ -43,11 +44,14 @@ abbrev pub leaves : InlineContext → Slot → ℤ → List FloatBox → ℤ →
 leaves c slot held floats y = int_eq y slot.top && fits held (room_in c floats slot.top slot.tall)
 
 abbrev pub met_at_spot : InlineContext → Slot → ℤ → Met → ℕ → Spot ℤ → Met
-met_at_spot c slot held met at spot = cond (leaves c slot held (floats_with c met.floats at spot) spot.y) (kept_at c met at spot) (with_waiting met at)
+met_at_spot c slot held met at spot =
+    cond (leaves c slot held (floats_with c met.floats at spot) spot.y) (kept_at c met at spot) (with_waiting met at)
 
 -- with one that is met
 unfoldable pub met_next : InlineContext → Slot → ℤ → Met → ℕ → Met
-met_next c slot held met at = cond (none_waits met) (met_at_spot c slot held met at (spot_in c met.floats slot.least slot.top at)) (with_waiting met at)
+met_next c slot held met at =
+    cond (none_waits met) (met_at_spot c slot held met at (spot_in c met.floats slot.least slot.top at))
+    (with_waiting met at)
 
 abbrev pub met_all : InlineContext → Slot → ℤ → Met → List ℕ → Met
 met_all c slot held met [] = met
@@ -61,4 +65,6 @@ stands_at c floats tall width top = not (list_any (meets top tall) floats) || fi
 
 -- from y on, or else from the highest bottom below where it may
 unfoldable pub top_in : InlineContext → List FloatBox → ℤ → ℤ → ℤ → ℤ
-top_in c floats y tall width = cond (stands_at c floats tall width y) y (top_or y (fold (with_float (stands_at c floats tall width) y) None floats))
+top_in c floats y tall width =
+    cond (stands_at c floats tall width y) y
+    (top_or y (fold (with_float (stands_at c floats tall width) y) None floats))

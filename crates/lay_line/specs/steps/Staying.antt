@@ -50,5 +50,6 @@ put p false without rest = without
 -- the places of the items that stay, from x on: so many are left up to the last word or atomic box
 abbrev pub stand : InlineContext → ℤ → Bool → ℕ → List Item → List ItemPlace
 stand c x begun left [] = []
-stand c x begun left (i ∷ items) = put (record { item = i; left = x; right = x +ℤ item_width c i }) (stays begun (is_some_left (fewer left)) i)
+stand c x begun left (i ∷ items) =
+    put (record { item = i; left = x; right = x +ℤ item_width c i }) (stays begun (is_some_left (fewer left)) i)
     (stand c x begun (fewer left) items) (stand c (x +ℤ item_width c i) (begun || is_solid i) (fewer left) items)

@@ -24,4 +24,6 @@ abbrev pub may_stand : InlineContext → List FloatBox → ℤ → ℤ → ℤ �
 may_stand c floats tall width top = fits width (band_at floats c.cb top tall) || meets_none floats top tall
 
 abbrev pub top_found : InlineContext → List FloatBox → ℤ → ℤ → ℤ → ℤ
-top_found c floats y tall width = top_or y (fold (with_float (may_stand c floats tall width) y) (with_top (may_stand c floats tall width) None y) floats)
+top_found c floats y tall width =
+    top_or y (fold (with_float (may_stand c floats tall width) y) (with_top (may_stand c floats tall width) None y)
+    floats)

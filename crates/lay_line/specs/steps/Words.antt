@@ -30,7 +30,10 @@ unfoldable pub inline_raised : InlineContext → ℕ → ℤ
 inline_raised c at = raised c at (inline_extent c.tree c.world (node_of c.tree at))
 
 unfoldable pub reach_in : InlineContext → ℕ → LineExtent
-reach_in c at = record { above = (own_reach c at).above +ℤ raised c at (own_reach c at); below = (own_reach c at).below -ℤ raised c at (own_reach c at) }
+reach_in c at = record {
+  above = (own_reach c at).above +ℤ raised c at (own_reach c at);
+  below = (own_reach c at).below -ℤ raised c at (own_reach c at);
+}
 
 unfoldable pub strut_in : InlineContext → LineExtent
 strut_in c = strut c

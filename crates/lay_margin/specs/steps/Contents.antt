@@ -17,7 +17,8 @@ finishes_with_edges tree b = not (all_zero (end_edges tree b ++ vertical_edges t
 abbrev pub in_line_by : BoxTree → ℕ → (floats : Bool) → Kind → Bool
 in_line_by tree b true kind = false
 in_line_by tree b false of_kind.Chars = list_any (λ c. not (c == 32)) (text_of tree b)
-in_line_by tree b false of_kind.Inline = begins_with_edges tree b || (list_any (makes_line tree) (content tree b) || finishes_with_edges tree b)
+in_line_by tree b false of_kind.Inline = begins_with_edges tree b
+    || (list_any (makes_line tree) (content tree b) || finishes_with_edges tree b)
 in_line_by tree b false kind = true
 
 unfoldable pub in_line : BoxTree → ℕ → Bool

@@ -1,4 +1,5 @@
--- The margins that adjoin a box's top, joined to a run one after the other, and the floats between them, added to a list.
+-- The margins that adjoin a box's top, joined to a run one after the other,
+-- and the floats between them, added to a list.
 use Rattle.std.specs.Prelude.{ℕ, zero, suc, ℤ, Bool, true, false, not, ◌&&◌, List, [], ◌∷◌, ◌++◌, length}
 use Rattle.viz_base.specs.declared.layouts.Band.{Band}
 use Rattle.viz_base.specs.declared.layouts.LeadEnd.{LeadEnd}
@@ -27,10 +28,17 @@ abbrev pub ending : Run ℤ → List (Waiting ℤ) → LeadEnd → Band ℤ → 
 ending run waiting end cb = record { run = run; waiting = waiting; end = end; cb = cb }
 
 abbrev pub going_at : {N : Type 0} → (N → Reading → ℤ) → Run N → List (Waiting N) → Ended N → Reading → Going
-going_at at run waiting ended e = record { run = run_at at run e; waiting = floats_at at waiting e; end = ended.end; cb = band_at at ended.cb e }
+going_at at run waiting ended e =
+    record { run = run_at at run e; waiting = floats_at at waiting e; end = ended.end; cb = band_at at ended.cb e }
 
 abbrev pub joined_at : {N : Type 0} → (N → Reading → ℤ) → Joined N → Reading → Going
-joined_at at j e = record { run = run_at at j.run e; waiting = floats_at at j.lead.waiting e; end = j.lead.end; cb = band_at at j.lead.cb e }
+joined_at at j e =
+    record {
+      run = run_at at j.run e;
+      waiting = floats_at at j.lead.waiting e;
+      end = j.lead.end;
+      cb = band_at at j.lead.cb e;
+    }
 
 -- a lead joined to a run, its floats behind those that wait
 abbrev pub led_by : Run ℤ → List (Waiting ℤ) → Leading → Going
@@ -76,7 +84,8 @@ going_on g rest = elim g.end [ of_end.Through ↦ rest | of_end.Solid b ↦ g | 
 -- after the children of a box: its own bottom margin adjoins, or it is the box that stops
 abbrev pub closed_end : BoxTree → ℕ → Band ℤ → End → End
 closed_end tree b cb inside = elim inside.end [
-  | of_end.Through ↦ record { end = elim (may_collapse_through tree b) [ true ↦ of_end.Through | false ↦ of_end.Solid b ]; cb = cb }
+  | of_end.Through ↦
+      record { end = elim (may_collapse_through tree b) [ true ↦ of_end.Through | false ↦ of_end.Solid b ]; cb = cb }
   | of_end.Solid c ↦ inside
   | of_end.Cleared c ↦ inside
 ]
@@ -97,7 +106,8 @@ module _ (tree : BoxTree) (w : World) (passed : ℕ → Bool) where
 
   abbrev pub kids_going : (Run ℤ → List (Waiting ℤ) → ℕ → Going) → Band ℤ → List ℕ → Run ℤ → List (Waiting ℤ) → Going
   kids_going kid cb [] run waiting = through cb run waiting
-  kids_going kid cb (k ∷ ks) run waiting = going_on (kid run waiting k) (kids_going kid cb ks (kid run waiting k).run (kid run waiting k).waiting)
+  kids_going kid cb (k ∷ ks) run waiting =
+      going_on (kid run waiting k) (kids_going kid cb ks (kid run waiting k).run (kid run waiting k).waiting)
 
   abbrev pub ended_by : Band ℤ → ℕ → Going → Going
   ended_by cb b g = by_end (closed_end tree b cb (record { end = g.end; cb = g.cb }))
@@ -117,9 +127,11 @@ module _ (tree : BoxTree) (w : World) (passed : ℕ → Bool) where
     | false ↦ inner
   ]
 
-  abbrev pub inner_step : (Band ℤ → ℕ → Run ℤ → List (Waiting ℤ) → Going) → Band ℤ → ℕ → Run ℤ → List (Waiting ℤ) → Going
+  abbrev pub inner_step : (Band ℤ → ℕ → Run ℤ → List (Waiting ℤ) → Going) → Band ℤ → ℕ → Run ℤ → List (Waiting ℤ)
+      → Going
   inner_step go cb b run waiting = inside_going cb b (with_margin run (margin_above tree w cb b)) waiting
-      (kids_going (kid_of (go (inner_band tree w cb b)) (inner_band tree w cb b)) (inner_band tree w cb b) (flow_children tree b)
+      (kids_going (kid_of (go (inner_band tree w cb b)) (inner_band tree w cb b)) (inner_band tree w cb b)
+      (flow_children tree b)
       (with_margin run (margin_above tree w cb b)) waiting)
 
   abbrev pub lead_step : (Band ℤ → ℕ → Run ℤ → List (Waiting ℤ) → Going) → Band ℤ → ℕ → Run ℤ → List (Waiting ℤ) → Going

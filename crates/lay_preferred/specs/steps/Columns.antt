@@ -17,7 +17,11 @@ unfoldable pub with_in_flow : Column ℤ → Preferred ℤ → Column ℤ
 with_in_flow c p = record { least = Some (larger c.least p.least); most = Some (larger c.most p.most); floats = None }
 
 unfoldable pub with_float : Column ℤ → Preferred ℤ → Column ℤ
-with_float c p = record { least = Some (larger c.least p.least); most = Some (larger c.most (beside c.floats p.most)); floats = Some (beside c.floats p.most) }
+with_float c p = record {
+  least = Some (larger c.least p.least);
+  most = Some (larger c.most (beside c.floats p.most));
+  floats = Some (beside c.floats p.most);
+}
 
 abbrev pub with_child : Column ℤ → Bool → Preferred ℤ → Column ℤ
 with_child c floats p = cond floats (with_float c p) (with_in_flow c p)

@@ -85,7 +85,8 @@ widest_float best (s ∷ ss) = widest_float (past_float best s.widths.least s.it
 
 abbrev pub inline_of : BoxTree → List Item → List Sized → Preferred ℤ
 inline_of tree items sizes = record {
-  least = or_zero (widest_float (widest least_width None (parts_of sizes (marks (may_part tree) None None items))) sizes);
+  least = or_zero (widest_float (widest least_width None (parts_of sizes (marks (may_part tree) None None items)))
+      sizes);
   most = or_zero (widest most_width None (parts_of sizes (marks never None None items)));
 }
 

@@ -23,11 +23,13 @@ room_between t cb = int_max (pos 0) (cb -ℤ sum_of t)
 
 -- with this left margin, where the sum of the terms is `sum`
 abbrev pub with_left : Widths ℤ → ℤ → ℤ → ℤ → Widths ℤ
-with_left t cb sum left = record t { margin_left = left; margin_right = cb -ℤ (sum -ℤ t.margin_left -ℤ t.margin_right) -ℤ left }
+with_left t cb sum left =
+    record t { margin_left = left; margin_right = cb -ℤ (sum -ℤ t.margin_left -ℤ t.margin_right) -ℤ left }
 
 -- terms of a fixed width, with automatic margins or not
 abbrev pub fixed_around : (left_auto right_auto : Bool) → Widths ℤ → ℤ → Widths ℤ
-fixed_around left_auto right_auto t cb = with_margins t cb (left_margin left_auto right_auto (int_le (sum_of t) cb) (cb -ℤ sum_of t) t.margin_left)
+fixed_around left_auto right_auto t cb =
+    with_margins t cb (left_margin left_auto right_auto (int_le (sum_of t) cb) (cb -ℤ sum_of t) t.margin_left)
 
 -- the maximum, where the width is more
 abbrev pub above : Option ℤ → ℤ → Option ℤ
@@ -52,16 +54,19 @@ held_again tree w at cb width = unwrap_or (again (own_maximum tree w at cb) (own
 
 -- the terms of a block of width `auto` with these edges
 abbrev pub filled_block : BoxTree → World → ℕ → ℤ → Widths ℤ → Widths ℤ
-filled_block tree w at cb edges = by_again (again (own_maximum tree w at cb) (own_minimum tree w at cb) (room_between edges cb))
+filled_block tree w at cb edges =
+    by_again (again (own_maximum tree w at cb) (own_minimum tree w at cb) (room_between edges cb))
   where
     by_again : Option ℤ → Widths ℤ
     by_again None = fixed_around false false (around edges (room_between edges cb)) cb
-    by_again (Some width) = fixed_around (is_auto (margins tree at).left) (is_auto (margins tree at).right) (around edges width) cb
+    by_again (Some width) =
+        fixed_around (is_auto (margins tree at).left) (is_auto (margins tree at).right) (around edges width) cb
 
 -- the terms of a block of this `width` with these edges
 abbrev pub given_block : BoxTree → World → ℕ → ℤ → Length → Widths ℤ → Widths ℤ
 given_block tree w at cb length edges =
-    fixed_around (is_auto (margins tree at).left) (is_auto (margins tree at).right) (around edges (held_again tree w at cb (used tree w length cb))) cb
+    fixed_around (is_auto (margins tree at).left) (is_auto (margins tree at).right)
+    (around edges (held_again tree w at cb (used tree w length cb))) cb
 
 -- the width of a float or of an inline-block before it is held, by its own `width`
 abbrev pub fitted_by : BoxTree → World → Length → ℤ → Preferred ℤ → Widths ℤ → ℤ

@@ -1,5 +1,5 @@
--- The walks over boxes that find the first with which a page reaches too far. Each number is the exact one, or stands for all
--- that are past 2^40.
+-- The walks over boxes that find the first with which a page reaches too far.
+-- Each number is the exact one, or stands for all that are past 2^40.
 use Rattle.std.specs.Prelude.{ℕ, ◌+◌, ◌*◌, ◌^◌, ◌≤◌, nat_le, nat_lt, unsigned_abs, pos, ℤ, List, [], ◌∷◌, ◌++◌, slice_index_or, slice_get, chars, Option, Some, None, Result, Ok, Err, if◌then◌else◌}
 use Rattle.std.specs.Option.{option_map_or, option_and_then}
 use Rattle.viz_base.specs.declared.fonts.Font.{Font}
@@ -62,7 +62,8 @@ abbrev pub most_extent : List ℕ → Option Length → ℕ
 most_extent sizes length = option_map_or (extent_in sizes) length 0
 
 abbrev pub sides_extent : List ℕ → Sides Length → ℕ
-sides_extent sizes s = extent_in sizes s.top + extent_in sizes s.right + extent_in sizes s.bottom + extent_in sizes s.left
+sides_extent sizes s = extent_in sizes s.top + extent_in sizes s.right + extent_in sizes s.bottom
+    + extent_in sizes s.left
 
 abbrev pub lengths_extent : List ℕ → Style → ℕ
 lengths_extent sizes s =
@@ -95,7 +96,8 @@ style_extent_in sizes s font b =
 abbrev pub own_in : List ℕ → List Style → List Font → BoxNode → ℕ
 own_in sizes styles fonts b =
     if is_of_element b.kind then
-    option_map_or (λ (s : Style). option_map_or (λ (font : Font). style_extent_in sizes s font b) (slice_get fonts s.font) 0) (slice_get styles b.node) 0
+    option_map_or (λ (s : Style). option_map_or (λ (font : Font). style_extent_in sizes s font b)
+    (slice_get fonts s.font) 0) (slice_get styles b.node) 0
     else 0
 
 abbrev pub widths_in : Font → ℕ → ℕ → List ℕ → ℕ
@@ -106,7 +108,9 @@ abbrev pub font_in : List Style → List Font → ℕ → Option Font
 font_in styles fonts node = option_and_then (λ (s : Style). slice_get fonts s.font) (slice_get styles node)
 
 abbrev pub text_in : List ℕ → List Style → List Font → BoxNode → ℕ
-text_in sizes styles fonts b = option_map_or (λ font. widths_in font (size_at sizes (Some b.node)) 0 (chars b.chars)) (font_in styles fonts b.node) 0
+text_in sizes styles fonts b =
+    option_map_or (λ font. widths_in font (size_at sizes (Some b.node)) 0 (chars b.chars))
+    (font_in styles fonts b.node) 0
 
 -- ---- the first box
 

@@ -1,5 +1,5 @@
--- The walks over boxes that find which stand in anonymous block boxes. They carry for each element what is known of the run
--- that the next box directly in it would stand in.
+-- The walks over boxes that find which stand in anonymous block boxes. They carry for each
+-- element what is known of the run that the next box directly in it would stand in.
 use Rattle.std.specs.Prelude.{ℕ, ◌+◌, slice_index_or, Bool, true, false, ◌&&◌, List, [], ◌∷◌, Option, Some, None, if◌then◌else◌}
 use Rattle.layout_semantics.specs.BoxTrees.{is_block_part}
 use Rattle.layout_semantics.specs.Parts.{Part, Level}
@@ -13,7 +13,8 @@ is_ahead behind Level.inline = true
 -- the table in front of boxes: whether the run with which those begin has a box other than a float
 abbrev pub ahead_table : List Bool → List Part → List Bool
 ahead_table table [] = table
-ahead_table table (p ∷ ps) = put (ahead_table table ps) p.parent (is_ahead (held (ahead_table table ps) p.parent false) p.level)
+ahead_table table (p ∷ ps) =
+    put (ahead_table table ps) p.parent (is_ahead (held (ahead_table table ps) p.parent false) p.level)
 
 abbrev pub ahead_of : List Bool → List Part → List Bool
 ahead_of table [] = []
@@ -31,5 +32,6 @@ lead_of None has_blocks ahead _ node = if has_blocks && ahead then Some node els
 abbrev pub leads_walk : List (Option ℕ) → List Bool → List Bool → ℕ → List Part → List (Option ℕ)
 leads_walk led blocks ahead at [] = []
 leads_walk led blocks ahead at (p ∷ ps) =
-    let lead = lead_of (held led p.parent None) (held blocks p.parent false) (slice_index_or ahead at false) p.level p.node in
+    let is_before = slice_index_or ahead at false in
+    let lead = lead_of (held led p.parent None) (held blocks p.parent false) is_before p.level p.node in
     lead ∷ leads_walk (put led p.parent lead) blocks ahead (at + 1) ps

@@ -43,4 +43,5 @@ nodes_walk spots at [] styles = []
 nodes_walk spots at (n ∷ ns) [] = []
 nodes_walk spots at (n ∷ ns) (s ∷ ss) =
     let around = spot_around spots n.parent in
-    one_if (is_shown_in around s) (part_in around at n s) ++ nodes_walk (spots ++ spot_in around at n s ∷ []) (at + 1) ns ss
+    one_if (is_shown_in around s) (part_in around at n s)
+    ++ nodes_walk (spots ++ spot_in around at n s ∷ []) (at + 1) ns ss

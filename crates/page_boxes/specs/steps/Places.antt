@@ -72,14 +72,16 @@ bare_begun p lead around = if begins p lead then bare_anonymous p around ∷ [] 
 abbrev pub bare_boxes : List ℕ → ℕ → Part → Option ℕ → List BoxNode
 bare_boxes places count p lead =
     let around = place_around places p.parent in
-    bare_begun p lead around ++ bare_own p (outer_in (slice_set places p.node (own_place_at count p lead)) around lead) ∷ []
+    bare_begun p lead around
+    ++ bare_own p (outer_in (slice_set places p.node (own_place_at count p lead)) around lead) ∷ []
 
 abbrev pub places_walk : List ℕ → ℕ → List (Option ℕ) → ℕ → List Part → List BoxNode
 places_walk places count leads at [] = []
 places_walk places count leads at (p ∷ ps) =
     let lead = slice_index_or leads at None in
     bare_boxes places count p lead
-    ++ places_walk (slice_set places p.node (own_place_at count p lead)) (own_place_at count p lead + 1) leads (at + 1) ps
+    ++ places_walk (slice_set places p.node (own_place_at count p lead)) (own_place_at count p lead + 1) leads
+    (at + 1) ps
 
 -- how many boxes there are
 abbrev pub count_walk : List (Option ℕ) → ℕ → List Part → ℕ

@@ -41,4 +41,5 @@ abbrev pub spaces_walk : List Bool → List Part → List Part
 spaces_walk table [] = []
 spaces_walk table (p ∷ ps) =
     let keeps = held table p.container false in
-    one_if (not (is_bare (squeezed_part keeps p))) (squeezed_part keeps p) ++ spaces_walk (put table p.container (keeps_behind_part keeps p)) ps
+    one_if (not (is_bare (squeezed_part keeps p))) (squeezed_part keeps p)
+    ++ spaces_walk (put table p.container (keeps_behind_part keeps p)) ps

@@ -57,14 +57,19 @@ IsOutcomeReply job (found.Undecided part) answer output = (answer ≡ ends.Undec
 
 -- what is replied of a search of a job
 abbrev pub IsProveReply : Job → ℕ → Answer → List ℕ → Type 0
-IsProveReply job turns answer output = (outcome : Outcome) × IsOutcome job turns outcome × IsOutcomeReply job outcome answer output
+IsProveReply job turns answer output = (outcome : Outcome) × IsOutcome job turns outcome
+    × IsOutcomeReply job outcome answer output
 
 -- what is replied of a search on trial
 abbrev pub IsTrialReply : Job → Outcome → Answer → List ℕ → Type 0
-IsTrialReply job (found.Proved cert) answer output = (answer ≡ ends.Done) × (output ≡ trial_line job (codes " proved\n"))
-IsTrialReply job (found.Violated world) answer output = (answer ≡ ends.Violated) × (output ≡ trial_line job (violated_end world))
-IsTrialReply job (found.Undecided part) answer output = (answer ≡ ends.Undecided) × (output ≡ trial_line job (codes " undecided\n"))
+IsTrialReply job (found.Proved cert) answer output = (answer ≡ ends.Done)
+    × (output ≡ trial_line job (codes " proved\n"))
+IsTrialReply job (found.Violated world) answer output = (answer ≡ ends.Violated)
+    × (output ≡ trial_line job (violated_end world))
+IsTrialReply job (found.Undecided part) answer output = (answer ≡ ends.Undecided)
+    × (output ≡ trial_line job (codes " undecided\n"))
 
 -- what is replied about a certificate that was read
 abbrev pub IsVerdictOn : Job → Cert → Answer → List ℕ → Type 0
-IsVerdictOn job cert answer output = (verdict : Verdict) × IsVerdict job cert verdict × IsVerdictReply verdict answer output
+IsVerdictOn job cert answer output = (verdict : Verdict) × IsVerdict job cert verdict
+    × IsVerdictReply verdict answer output

@@ -37,14 +37,19 @@ the_items_listed X items = list-listed X items
 
 -- the one field is a `Vec`
 abbrev vec_field : Former {0}
-vec_field = via (vec.the_former this Global) Inside (λ X a. a.items) (λ X v. record { items = v }) (λ X a. refl) (λ X v. refl)
+vec_field = via (vec.the_former this Global) Inside (λ X a. a.items) (λ X v. record { items = v }) (λ X a. refl)
+    (λ X v. refl)
 
 module _ (R S : RattleType) (h : R.Denot → S.Denot) where
   pub the_places : Alike R S h → Alike (whole.the_row R) (whole.the_row S) ((the_former this).map R.Denot S.Denot h)
-  the_places alike = view_places vec_field (list this) view (λ X Y k u. refl) (λ X u. refl) R.Denot S.Denot h (whole.the_row R).coded (whole.the_row S).coded
+  the_places alike =
+      view_places vec_field (list this) view (λ X Y k u. refl) (λ X u. refl) R.Denot S.Denot h (whole.the_row R).coded
+      (whole.the_row S).coded
       (invariant R.Denot) (invariant S.Denot) (λ u p q. refl) (λ u p q. refl) (λ u e. tt) (λ u e. tt)
       (over (fields.the_row R)) (over (fields.the_row S))
-      (struct_places (fields.the_type R) (fields.the_type S) (vec.mapped h, tt) _ (λ d. refl) refl (laid _ _ _ (vec.the_places heap.the_row ghosts R S h alike), tt))
+      (struct_places (fields.the_type R) (fields.the_type S) (vec.mapped h, tt) _ (λ d. refl) refl
+      (laid _ _ _ (vec.the_places heap.the_row ghosts R S h alike), tt))
 
-  pub the_codes_placed : Recodes R S h → Recodes (whole.the_row R) (whole.the_row S) ((the_former this).map R.Denot S.Denot h)
+  pub the_codes_placed : Recodes R S h
+      → Recodes (whole.the_row R) (whole.the_row S) ((the_former this).map R.Denot S.Denot h)
   the_codes_placed same items = sym (code_map R.coded.code S.coded.code h (λ x. sym (same x)) items)
