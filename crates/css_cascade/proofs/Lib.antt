@@ -3,7 +3,6 @@ pub mod Reaching
 pub mod Rulesets
 pub mod Applies
 pub mod Walks
-pub mod OneNode
 pub mod Slots
 pub mod Orders
 pub mod Claims

@@ -4,12 +4,13 @@ use Rattle.std.specs.List.{enumerate_from, prefix_len, position_or_len}
 use Rattle.std.specs.Option.{option_map_or, option_or}
 use Rattle.std.proofs.lemmas.Bool.{eqb-false, not-true}
 use Rattle.std.proofs.lemmas.List.Sums.{sum_by-cons}
+use Rattle.std.proofs.lemmas.List.FromFn.{length-enumerate_from}
 use Rattle.viz_base.specs.declared.fonts.Font.{Font}
 use Rattle.viz_base.specs.declared.styles.Style.{Style}
 use Rattle.viz_base.specs.declared.trees.BoxNode.{BoxNode}
 use Rattle.viz_base.specs.Reaches.{whole, quotient_up, is_of_element, ratio, growth, box_growth, own_extent, text_extent, box_extents, total_extent, reach_in, reach_to, reaches, sums, passes_most, node_of_place, beyond_reach}
 use Rattle.layout_laws.proofs.Members.{In}
-use Rattle.layout_laws.proofs.TreeFacts.{slice_in, length_mapped, length_enumerated}
+use Rattle.layout_laws.proofs.TreeFacts.{slice_in, length_mapped}
 use Rattle.layout_laws.proofs.PageParts.{slice_some}
 
 -- ---- from the box around
@@ -118,7 +119,7 @@ module _ (styles : List Style) (parents : List (Option ℕ)) (fonts : List Font)
       by_lists None a (Some k) b f =
           let within = position_within (passes_most styles parents fonts) (reaches styles parents fonts boxes) k b in
           let size = length_mapped (λ (e : ℕ × BoxNode). reach_to styles parents fonts (length boxes) boxes (total_extent styles parents fonts boxes) e.0) (enumerate_from 0 boxes) in
-          let all = length_enumerated 0 boxes in
+          let all = length-enumerate_from 0 boxes in
           absurd (named k (omega (arith, within, size, all)) f)
       by_lists (Some k) a p b f =
           let within = position_within (passes_most styles parents fonts) (sums styles parents fonts (2 ^ 21) (box_extents styles parents fonts boxes)) k a in

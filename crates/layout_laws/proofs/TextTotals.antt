@@ -3,7 +3,7 @@ use Rattle.std.proofs.Common.{◌≡◌, ℕ, ◌+◌, ◌≤◌, Bool, true, fa
 use Rattle.std.specs.Prelude.{if◌then◌else◌, filter_map}
 use Rattle.std.specs.List.{enumerate_from, cons_option}
 use Rattle.std.specs.Str.{chars}
-use Rattle.std.proofs.lemmas.List.Sums.{sum_by-cons}
+use Rattle.std.proofs.lemmas.List.Sums.{sum_by-append, sum_by-cons}
 use Rattle.viz_base.specs.Pages.{IsPage, text_of}
 use Rattle.viz_base.specs.declared.nodes.Node.{Node}
 use Rattle.viz_base.specs.declared.styles.Style.{Style}
@@ -17,18 +17,10 @@ use Rattle.layout_laws.proofs.TextLengths.{length_encoded, collapsed_within}
 
 -- ---- sums
 
-sum-join : {A : Type 0} (f : A → ℕ) (xs ys : List A) → sum_by f (xs ++ ys) ≡ sum_by f xs + sum_by f ys
-sum-join f [] ys = omega arith
-sum-join f (x ∷ xs) ys =
-    let front = sum_by-cons f x (xs ++ ys) in
-    let all = sum_by-cons f x xs in
-    let rest = sum-join f xs ys in
-    omega (arith, front, all, rest)
-
 sum-flat : {A B : Type 0} (f : B → ℕ) (g : A → ℕ) (h : A → List B) → ((x : A) → sum_by f (h x) ≤ g x) → (xs : List A) → sum_by f (flat_map h xs) ≤ sum_by g xs
 sum-flat f g h each [] = omega arith
 sum-flat f g h each (x ∷ xs) =
-    let join = sum-join f (h x) (flat_map h xs) in
+    let join = sum_by-append f (h x) (flat_map h xs) in
     let all = sum_by-cons g x xs in
     let first = each x in
     let rest = sum-flat f g h each xs in

@@ -4,6 +4,7 @@ use Rattle.std.specs.List.{list_any, list_all, enumerate_from}
 use Rattle.std.specs.Option.{option_map_or}
 use Rattle.std.specs.Str.{chars}
 use Rattle.std.proofs.lemmas.Option.{slice_get_within, slice_get-map}
+use Rattle.std.proofs.lemmas.List.FromFn.{length-enumerate_from}
 use Rattle.viz_base.specs.Pages.{IsPage, is_element}
 use Rattle.viz_base.specs.Orders.{IsInOrder}
 use Rattle.viz_base.specs.Trees.{IsBoxTree, IsBoxAt, AreAlikeButSize, has_box, has_element, is_chars, is_element_box, is_fragmented, is_in_parent, is_leaf, is_line, is_same_size, named_nodes}
@@ -40,10 +41,6 @@ length_zip [] (y ∷ ys) e = absurd (omega (arith, e))
 length_zip (x ∷ xs) [] e = absurd (omega (arith, e))
 length_zip (x ∷ xs) (y ∷ ys) e = ap suc (length_zip xs ys (omega (arith, e)))
 
-pub length_enumerated : {A : Type 0} (k : ℕ) (xs : List A) → length (enumerate_from k xs) ≡ length xs
-length_enumerated k [] = refl
-length_enumerated k (x ∷ xs) = ap suc (length_enumerated (k + 1) xs)
-
 pub length_mapped : {A B : Type 0} (f : A → B) (xs : List A) → length (map f xs) ≡ length xs
 length_mapped f [] = refl
 length_mapped f (x ∷ xs) = ap suc (length_mapped f xs)
@@ -51,7 +48,7 @@ length_mapped f (x ∷ xs) = ap suc (length_mapped f xs)
 tree_styles_length : (nodes : List Node) (styles : List Style) → length styles ≡ length nodes → length (tree_styles nodes styles) ≡ length nodes
 tree_styles_length nodes styles e =
     length_mapped (tree_style_of (viewport_clip nodes styles)) (zip (enumerate_from 0 nodes) styles)
-    ∙ (length_zip (enumerate_from 0 nodes) styles (length_enumerated 0 nodes ∙ sym e) ∙ e)
+    ∙ (length_zip (enumerate_from 0 nodes) styles (length-enumerate_from 0 nodes ∙ sym e) ∙ e)
 
 -- a style of the tree is one that was given
 record IsGiven (nodes : List Node) (styles : List Style) (at : ℕ) (n : Node) (s : Style) : Type 0 where

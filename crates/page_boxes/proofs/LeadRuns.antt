@@ -1,13 +1,10 @@
 -- The runs of the boxes in one element, from one box on.
 use Rattle.std.proofs.Common.{◌≡◌, ◌≢◌, ℕ, ◌==◌, Bool, true, false, not, ◌&&◌, ◌||◌, List, [], ◌∷◌, ◌++◌, map, find, Option, Some, None, option_map, refl, sym, ◌∙◌, ap, if◌then◌else◌, append_assoc, eq-eqb, eqb-true, filter}
+use Rattle.std.proofs.lemmas.List.{append-nil}
 use Rattle.layout_semantics.specs.Parts.{Part, Level}
 use Rattle.layout_semantics.specs.BoxTrees.{first_of, has_node, is_floated_level, needs_box, nodes_of, runs_of, with_part}
 use Rattle.layout_laws.proofs.Members.{In}
 use Rattle.page_boxes.specs.steps.Leads.{is_ahead}
-
-pub append_none : {A : Type 0} (xs : List A) → xs ++ [] ≡ xs
-append_none [] = refl
-append_none (x ∷ xs) = ap (λ ys. x ∷ ys) (append_none xs)
 
 pub other_number : (a b : ℕ) → a ≢ b → (a == b) ≡ false
 other_number a b ne = by_test (a == b) refl
@@ -43,7 +40,7 @@ whole_runs [] = refl
 whole_runs (p ∷ ps) = joined_none p.level p (runs_of ps)
 
 joined_on : (done : List Part) (ps : List Part) → joined_to done (runs_of ps) ≡ runs_on done ps
-joined_on done [] = ap (λ r. r ∷ []) (append_none done)
+joined_on done [] = ap (λ r. r ∷ []) (append-nil done)
 joined_on done (p ∷ ps) = by_level p.level (sym (whole_runs ps) ∙ joined_on [] ps) (joined_on (done ++ p ∷ []) ps)
   where
     one_more : (runs : List (List Part)) → joined_to done (with_part Level.inline p runs) ≡ joined_to (done ++ p ∷ []) runs
@@ -56,7 +53,7 @@ joined_on done (p ∷ ps) = by_level p.level (sym (whole_runs ps) ∙ joined_on 
 
     by_level : (l : Level) → runs_of ps ≡ runs_on [] ps → joined_to (done ++ p ∷ []) (runs_of ps) ≡ runs_on (done ++ p ∷ []) ps
         → joined_to done (with_part l p (runs_of ps)) ≡ at_level l (done ∷ runs_on [] ps) (runs_on (done ++ p ∷ []) ps)
-    by_level Level.block e f = ap (λ r. r ∷ runs_of ps) (append_none done) ∙ ap (λ rs. done ∷ rs) e
+    by_level Level.block e f = ap (λ r. r ∷ runs_of ps) (append-nil done) ∙ ap (λ rs. done ∷ rs) e
     by_level Level.floated e f = one_float (runs_of ps) ∙ f
     by_level Level.inline e f = one_more (runs_of ps) ∙ f
 
@@ -74,12 +71,12 @@ behind [] = []
 behind (p ∷ ps) = at_level p.level (runs_on [] ps) (behind ps)
 
 pub first_run : (done ps : List Part) → runs_on done ps ≡ (done ++ front ps) ∷ behind ps
-first_run done [] = ap (λ r. r ∷ []) (sym (append_none done))
+first_run done [] = ap (λ r. r ∷ []) (sym (append-nil done))
 first_run done (p ∷ ps) = by_level p.level (first_run (done ++ p ∷ []) ps)
   where
     by_level : (l : Level) → runs_on (done ++ p ∷ []) ps ≡ ((done ++ p ∷ []) ++ front ps) ∷ behind ps
         → at_level l (done ∷ runs_on [] ps) (runs_on (done ++ p ∷ []) ps) ≡ (done ++ at_level l [] (p ∷ front ps)) ∷ at_level l (runs_on [] ps) (behind ps)
-    by_level Level.block e = ap (λ r. r ∷ runs_on [] ps) (sym (append_none done))
+    by_level Level.block e = ap (λ r. r ∷ runs_on [] ps) (sym (append-nil done))
     by_level Level.floated e = e ∙ ap (λ r. r ∷ behind ps) (append_assoc done (p ∷ []) (front ps))
     by_level Level.inline e = e ∙ ap (λ r. r ∷ behind ps) (append_assoc done (p ∷ []) (front ps))
 

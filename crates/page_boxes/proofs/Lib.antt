@@ -15,4 +15,3 @@ pub mod PageSteps
 pub mod DocumentOrder
 pub mod PageReach
 pub mod Together
-pub mod OnePage

@@ -3,6 +3,7 @@ use Rattle.std.proofs.Common.{◌≡◌, ◌≢◌, ℕ, suc, ◌==◌, ◌<◌,
 use Rattle.std.proofs.lemmas.Bool.{cases_eq}
 use Rattle.std.proofs.lemmas.Grind.{flat_map-append}
 use Rattle.std.specs.Option.{option_map_or}
+use Rattle.std.proofs.lemmas.List.{append-nil}
 use Rattle.viz_base.specs.declared.trees.Kind.{Kind}
 use Rattle.viz_base.specs.declared.trees.Kind.TheVariants as of_kind
 use Rattle.layout_semantics.specs.Lists.{one_if}
@@ -31,10 +32,6 @@ letters_append node xs ys = flat_map-append (letter_of node) xs ys
 
 letters_left : (node : ℕ) (b : Thing) (xs ys : List Thing) → letters_of node (left_behind b (xs ++ ys)) ≡ letters_of node (left_behind b xs) ++ letters_of node (left_behind (last_of b xs) ys)
 letters_left node b xs ys = ap (letters_of node) (left_append b xs ys) ∙ letters_append node (left_behind b xs) (left_behind (last_of b xs) ys)
-
-append_none : {A : Type 0} (xs : List A) → xs ++ [] ≡ xs
-append_none [] = refl
-append_none (x ∷ xs) = ap (λ ys. x ∷ ys) (append_none xs)
 
 same_node : (n : ℕ) → (n == n) ≡ true
 same_node n = eq-eqb n n refl
@@ -206,7 +203,7 @@ first_left n table before q qs is fits apart = ap (λ t. record q { text = t }) 
         ap (λ t. letters_of q.node (left_behind (before c) (flat_map things_of (if t then q ∷ filter (λ (p : Part). is_in c p.container) qs else filter (λ (p : Part). is_in c p.container) qs)))) inside
         ∙ (letters_left q.node (before c) (things_of q) (things_in qs c)
         ∙ (ap (λ l. letters_of q.node (left_behind (before c) (things_of q)) ++ l) (none_of q.node (last_of (before c) (things_of q)) c qs apart)
-        ∙ (append_none (letters_of q.node (left_behind (before c) (things_of q)))
+        ∙ (append-nil (letters_of q.node (left_behind (before c) (things_of q)))
         ∙ (own_letters (before c) q fits.text
         ∙ ap (λ k. squeezed k q.text) (sym (is.each c (fits.within c e)))))))
 

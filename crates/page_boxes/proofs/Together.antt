@@ -3,6 +3,8 @@ use Rattle.std.proofs.lemmas.List.{length-replicate, get_or-replicate}
 use Rattle.std.proofs.Common.{◌≡◌, ℕ, suc, ◌+◌, ◌<◌, ◌≤◌, nat_lt, Bool, true, false, List, [], ◌∷◌, map, zip, length, replicate, get_or, Option, Some, None, Ok, Err, option_map, slice_get, refl, sym, ◌∙◌, ap, subst, arith, ltb-true}
 use Rattle.std.specs.List.{enumerate_from}
 use Rattle.std.proofs.lemmas.Option.{slice_get_within, slice_get-map, get_or_from_slice_get}
+use Rattle.std.proofs.lemmas.List.FromFn.{length-enumerate_from}
+use Rattle.std.proofs.lemmas.List.FromFn.{length-enumerate_from}
 use Rattle.viz_base.specs.Answers.{FailsWith}
 use Rattle.viz_base.specs.Pages.{IsPage}
 use Rattle.viz_base.specs.Trees.{IsBoxTree}
@@ -21,7 +23,7 @@ use Rattle.layout_laws.proofs.Places.{node_of}
 use Rattle.layout_laws.proofs.PageParts.{from_page, page_rises}
 use Rattle.layout_laws.proofs.BoxFacts.{item_known}
 use Rattle.layout_laws.proofs.BoxLaws.{page_arranged}
-use Rattle.layout_laws.proofs.TreeFacts.{length_enumerated, length_mapped}
+use Rattle.layout_laws.proofs.TreeFacts.{length_mapped}
 use Rattle.page_boxes.specs.Trees.{IfNamed, page_tree, unless_refused}
 use Rattle.page_boxes.specs.steps.Leads.{ahead_of, leads_walk, with_blocks}
 use Rattle.page_boxes.specs.steps.Places.{count_walk, places_walk, with_all}
@@ -47,7 +49,7 @@ length_zip (x ∷ xs) (y ∷ ys) e = ap suc (length_zip xs ys (omega (arith, e))
 pub length_styles : (nodes : List Node) (styles : List Style) → length styles ≡ length nodes → length (tree_styles nodes styles) ≡ length nodes
 length_styles nodes styles e =
     length_mapped (tree_style_of (viewport_clip nodes styles)) (zip (enumerate_from 0 nodes) styles)
-    ∙ (length_zip (enumerate_from 0 nodes) styles (length_enumerated 0 nodes ∙ sym e) ∙ e)
+    ∙ (length_zip (enumerate_from 0 nodes) styles (length-enumerate_from 0 nodes ∙ sym e) ∙ e)
 
 -- ---- how many boxes of nodes there are
 
