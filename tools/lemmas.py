@@ -46,8 +46,10 @@ def is_own(line, name):
 
 
 def shape(statement):
-    """A statement without its layout and without the names of what it binds."""
+    """A statement without its layout, its universe levels and the names of what it binds."""
     statement = re.sub(r"\{ℓ[^}]*\}\s*(→)?", "", statement)
+    statement = re.sub(r"\bType (?:\d+|\w+)", "Type", statement)
+    statement = re.sub(r"([({][\w' ]+ : [^(){}]*[)}]) → (?=[({])", r"\1 ", statement)
     bound = []
     for names in re.findall(r"[({]([\w' ]+?) : ", statement):
         bound += names.split()
