@@ -102,7 +102,8 @@ pub fn run<F: Shelf, K: Sink>(
     ensures write_fault { result ≡ Status.WriteFault → Rose (K.faults sink.old) (K.faults sink.new) }
     // About a generated job no file is loaded.
     ensures unloaded { AreOfGenerated (map string_bytes words.now) → shelf.new ≡ shelf.old }
-    // Where the job is refused, no certificate is looked for: a job file that is sure to load leaves no fault.
+    // Where the job is refused and its file is sure to load, the shelf's faults stay as they were: no certificate was
+    // looked for that might have failed.
     ensures unlooked { IsTrue (F.sure shelf.old (word_at (map string_bytes words.now) 1))
         → result ≡ Status.Replied Answer.JobRefused → F.faults shelf.new ≡ F.faults shelf.old }
 {
