@@ -25,6 +25,7 @@ module _ (tree : BoxTree) (no_inline : (k : ℕ) → is_inline_level_at tree k �
   holds_none b = none_inline (kids_of tree.boxes b)
 
   pub no_lines : (b : ℕ) → has_line tree b ≡ false
+  unfolding has_line
   no_lines b = ap (λ c. c && list_any (makes_line tree) (content tree b)) (holds_none b)
 
   pub all_flow : (b : ℕ) → flow_children tree b ≡ kids_of tree.boxes b

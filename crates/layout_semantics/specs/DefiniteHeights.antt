@@ -59,11 +59,11 @@ abbrev pub is_definite : BoxTree → ℕ → Bool
 is_definite tree at = is_definite_to (suc at) tree at
 
 -- the height of a box is auto
-abbrev pub has_auto_height : BoxTree → ℕ → Bool
+unfoldable pub has_auto_height : BoxTree → ℕ → Bool
 has_auto_height tree at = counts_as_auto (is_definite tree at) (own_height tree at)
 
 -- it has no minimum height, or a computed one of zero
-abbrev pub has_no_minimum : BoxTree → ℕ → Bool
+unfoldable pub has_no_minimum : BoxTree → ℕ → Bool
 has_no_minimum tree at = counts_as_auto (is_definite tree at) (least_height tree at) || is_zero (least_height tree at)
 
 -- ---- definite heights

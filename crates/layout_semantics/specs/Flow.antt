@@ -30,7 +30,8 @@ use Rattle.layout_semantics.specs.DefiniteHeights.{given_height, held_height}
 use Rattle.layout_semantics.specs.Replaced.{replaced_size}
 use Rattle.layout_semantics.specs.Horizontal.{widths}
 use Rattle.layout_semantics.specs.InlineContent.{is_floated_at, has_line, inner_boxes}
-use Rattle.layout_semantics.specs.Lines.{LineList, lines}
+use Rattle.layout_semantics.specs.LineHeights.{InlineContext}
+use Rattle.layout_semantics.specs.Lines.{LineList, lines_in}
 
 -- ---- how far the flow of a block container has come
 
@@ -316,11 +317,19 @@ module _ (tree : BoxTree) (w : World) (height : ℕ) where
       boxes = p.boxes ++ flat_map (entry_boxes cb) l.entries;
     }
 
+    -- the inline content of a box, with the outer sizes of its floats and atomic boxes
+    abbrev pub inline_context : ℕ → Band ℤ → InlineContext
+    inline_context b cb = record {
+      tree = tree;
+      world = w;
+      container = b;
+      inner = table_of (length tree.boxes) (map (λ k. (k, inner_size cb k)) (inner_boxes tree b));
+      cb = cb;
+    }
+
     abbrev pub line_content : ℕ → Band ℤ → ℤ → Progress → Progress
     line_content b cb top p =
-        after_lines cb p (lines tree w b
-        (table_of (length tree.boxes) (map (λ k. (k, inner_size cb k)) (inner_boxes tree b))) cb top
-        (unwrap_or p.least top) p.floats)
+        after_lines cb p (lines_in (inline_context b cb) top (unwrap_or p.least top) p.floats)
 
     -- ---- the content of a block container (9.4): its lines; or, where it has
     -- none, its blocks one below the other, with the floats between them

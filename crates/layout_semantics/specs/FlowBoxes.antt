@@ -17,11 +17,11 @@ use Rattle.layout_semantics.specs.DefiniteHeights.{own_height, has_auto_height, 
 use Rattle.layout_semantics.specs.Horizontal.{flow_widths, widths}
 use Rattle.layout_semantics.specs.InlineContent.{is_floated_at, is_zero, has_line, holds_inline, content, float_boxes}
 
-abbrev pub is_replaced_at : BoxTree → ℕ → Bool
+unfoldable pub is_replaced_at : BoxTree → ℕ → Bool
 is_replaced_at tree b = is_replaced (kind_of tree b)
 
 -- it starts a block formatting context, and is not replaced (9.4.1)
-abbrev pub is_context_root : BoxTree → ℕ → Bool
+unfoldable pub is_context_root : BoxTree → ℕ → Bool
 is_context_root tree b =
     option_map_or (λ (x : BoxNode). not (is_replaced x.kind) && x.context) (slice_get tree.boxes b) false
 

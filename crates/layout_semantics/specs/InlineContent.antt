@@ -18,7 +18,7 @@ use Rattle.layout_semantics.specs.Lengths.{margins, borders, paddings}
 -- ---- sorts of boxes
 
 -- a float (CSS 2.1, 9.5)
-abbrev pub is_floated_at : BoxTree → ℕ → Bool
+unfoldable pub is_floated_at : BoxTree → ℕ → Bool
 is_floated_at tree at = box_passes (is_floated tree.styles) tree.boxes at
 
 abbrev pub is_inline_level_at : BoxTree → ℕ → Bool
@@ -161,5 +161,5 @@ makes_line tree (space at) = false
 makes_line tree (float at) = false
 
 -- a box has a line that exists
-abbrev pub has_line : BoxTree → ℕ → Bool
+unfoldable pub has_line : BoxTree → ℕ → Bool
 has_line tree at = holds_inline tree at && list_any (makes_line tree) (content tree at)

@@ -6,13 +6,11 @@ use Rattle.viz_base.specs.declared.layouts.Entry.{Entry}
 use Rattle.viz_base.specs.declared.layouts.Entry.TheVariants as of_entry
 use Rattle.viz_base.specs.Numbers.{floor_of}
 use Rattle.viz_base.specs.declared.layouts.Band.{Band}
-use Rattle.viz_base.specs.declared.layouts.Inner.{Inner}
 use Rattle.viz_base.specs.declared.styles.Align.{Align}
 use Rattle.viz_base.specs.declared.styles.Align.TheVariants as of_align
 use Rattle.viz_base.specs.declared.styles.Style.{Style}
 use Rattle.viz_base.specs.declared.trees.BoxTree.{BoxTree}
 use Rattle.viz_base.specs.declared.trees.Kind.TheVariants as of_kind
-use Rattle.viz_base.specs.declared.worlds.World.{World}
 use Rattle.std.specs.Option.{option_map_or}
 use Rattle.layout_semantics.specs.Blocks.{node_of, plain_box, style_of}
 use Rattle.layout_semantics.specs.Floats.{FloatBox, band_at}
@@ -195,8 +193,3 @@ lines_in c y least floats = listed (lines_of (stretches c.tree (content c.tree c
       baseline = laid.after.baseline;
       floats = laid.after.floats;
     }
-
--- of a box of a tree, the outer sizes of its floats and atomic boxes standing in the table `inner`
-abbrev pub lines : BoxTree → World → ℕ → List (Option (Inner ℤ)) → Band ℤ → ℤ → ℤ → List FloatBox → LineList
-lines tree w at inner cb y least floats =
-    lines_in (record { tree = tree; world = w; container = at; inner = inner; cb = cb }) y least floats
