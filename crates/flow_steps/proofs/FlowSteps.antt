@@ -572,9 +572,8 @@ module _ (tree : BoxTree) (w : World) (height : ℕ) where
         (All-implied (λ k. IsSound tree w height k (across cb) × IsServed k) (λ k. sized k ≡ made k) (inner_boxes tree b)
         (λ k h. ap (λ (i : Inner ℤ). let pair : ℕ × Inner ℤ = (k, i) in pair) (inner-same cb k h.0 h.1)) a) in
         let q = λ (l : LineList). step (after_lines (context_of p) l) (flat_map (entry_boxes tree w height content apart) l.entries) in
-        let table = table_of (length tree.boxes) (map sized (inner_boxes tree b)) in
         let served_entries = entries-served cb (lines_in (in_context b cb (map sized (inner_boxes tree b))) top least p.floats).entries
-        (subst (AllByRecursion (IsServedName cb)) (sym (content-shown of_box tree w b table cb top least p.floats))
+        (subst (AllByRecursion (IsServedName cb)) (sym (content-shown of_box (in_context b cb (map sized (inner_boxes tree b))) top least p.floats))
         (names-served cb (inner_boxes tree b) (All-implied (λ k. IsSound tree w height k (across cb) × IsServed k) (λ k. landed.alone tree w height inside k (across cb) ≡ apart k) (inner_boxes tree b) (λ k h. wide-served k (across cb) h.0 h.1) a))) in
         subst (λ (t : Step). Follows p (landed.line_content tree w height inside b cb top p) t)
         (ap (λ (i : List (ℕ × Inner ℤ)). q (lines_in (in_context b cb i) top least p.floats)) inner

@@ -35,4 +35,5 @@ module _ (tree : BoxTree) (w : World) where
     definite-is at = levels-definite (suc at) at
 
     pub auto-height-is : (at : ℕ) → has_auto_height tree at ≡ is_none (given_height tree w viewport at)
+    unfolding has_auto_height
     auto-height-is at = ap (λ d. counts_as_auto d (own_height tree at)) (definite-is at) ∙ auto-is (definite_height tree w viewport at) (own_height tree at)

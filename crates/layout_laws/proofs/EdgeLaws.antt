@@ -135,6 +135,7 @@ not_zero definite c n l e = ap (λ (l : Length). counts_as_auto definite l || is
     different false e = refl
 
 has_minimum : (tree : BoxTree) (b : ℕ) → (c : ℤ) × (c ≢ pos 0) × (least_height tree b ≡ of_length.Px c) → has_no_minimum tree b ≡ false
+unfolding has_no_minimum
 has_minimum tree b m = not_zero (is_definite tree b) m.0 m.1 (least_height tree b) m.2
 
 last_of_three : (a b c : Bool) → c ≡ false → (a && b && c) ≡ false

@@ -12,7 +12,7 @@ use Rattle.viz_base.specs.declared.trees.Kind.{Kind}
 use Rattle.viz_base.specs.declared.worlds.World.{World}
 use Rattle.layout_semantics.specs.Order.{kids_of, document_order, roots, page_order}
 use Rattle.layout_semantics.specs.FlowBoxes.{flow_children}
-use Rattle.layout_semantics.specs.InlineContent.{has_line, is_inline_level_at}
+use Rattle.layout_semantics.specs.InlineContent.{has_line, is_floated_at, is_inline_level_at}
 use Rattle.layout_semantics.specs.Flow.{Progress, flow_to, flow_step, whole_alone, line_content}
 use Rattle.layout_semantics.specs.Page.{page_rendering}
 use Rattle.layout_semantics.proofs.BlocksAlone.{no_lines, all_flow, passes}
@@ -94,6 +94,7 @@ module _ (tree : BoxTree) (no_inline : (k : ℕ) → is_inline_level_at tree k �
 
 module _ (tree : BoxTree) (alone : IsTrue (holds_blocks_alone tree)) where
   no_inline : (k : ℕ) → is_inline_level_at tree k ≡ false
+  unfolding is_floated_at
   no_inline k = by_box (slice_get tree.boxes k) refl
     where
       by_test : (floated inline : Bool) → IsTrue (floated || not inline) → (inline && not floated) ≡ false

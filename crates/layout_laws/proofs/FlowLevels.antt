@@ -24,7 +24,8 @@ use Rattle.layout_semantics.specs.Verticals.{verticals}
 use Rattle.layout_semantics.specs.Horizontal.{widths}
 use Rattle.layout_semantics.specs.FlowBoxes.{across, is_replaced_at, is_context_root, is_open_above, flow_children, content_from}
 use Rattle.layout_semantics.specs.InlineContent.{is_floated_at, has_line, inner_boxes}
-use Rattle.layout_semantics.specs.Lines.{LineList, lines}
+use Rattle.layout_semantics.specs.LineHeights.{InlineContext}
+use Rattle.layout_semantics.specs.Lines.{LineList, lines_in}
 use Rattle.layout_semantics.specs.Leads.{Leading, is_up_to, none_passed, lead}
 use Rattle.layout_semantics.specs.Clearance.{Base, hangs, stands, Resolved, with_waiting, is_cleared, cleared_edge, resolve_step, resolve_to, resolve}
 use Rattle.layout_semantics.specs.Flow.{Standing, at_top, below, Cleared, Progress, Alone, Reached, Laid, fresh, opened, alone, waiting_size, next_edge, after_float, float_child, reached_at, reached, laid, child, standing_after, inner_size, entry_boxes, after_lines, line_content, flow_step, flow_to, flow}
@@ -235,14 +236,17 @@ module _ (tree : BoxTree) (w : World) (height : ℕ) (f g : Inside) (b : ℕ)
   abbrev sized : (ℕ → Band ℤ → ℤ → Progress → Progress) → Band ℤ → ℕ → ℕ × Inner ℤ
   sized inside cb k = (k, inner_size tree w height inside cb k)
 
+  abbrev context_with : Band ℤ → List (ℕ × Inner ℤ) → InlineContext
+  context_with cb inner = record { tree = tree; world = w; container = b; inner = table_of (length tree.boxes) inner; cb = cb }
+
   abbrev set : Band ℤ → ℤ → Progress → List (ℕ × Inner ℤ) → LineList
-  set cb top p inner = lines tree w b (table_of (length tree.boxes) inner) cb top (unwrap_or p.least top) p.floats
+  set cb top p inner = lines_in (context_with cb inner) top (unwrap_or p.least top) p.floats
 
   lines-same : (cb : Band ℤ) (top : ℤ) (p : Progress) → line_content tree w height f b cb top p ≡ line_content tree w height g b cb top p
   lines-same cb top p =
       let inner = map (sized g cb) (inner_boxes tree b) in
       let late = entries-late (set cb top p inner).entries
-      (subst (AllByRecursion LateName) (sym (content-shown of_box tree w b (table_of (length tree.boxes) inner) cb top (unwrap_or p.least top) p.floats)) (names-late (inner_boxes tree b) (inner_boxes-from tree b (forest tree)))) in
+      (subst (AllByRecursion LateName) (sym (content-shown of_box (context_with cb inner) top (unwrap_or p.least top) p.floats)) (names-late (inner_boxes tree b) (inner_boxes-from tree b (forest tree)))) in
       ap (λ (inner : List (ℕ × Inner ℤ)). after_lines tree w height f cb p (set cb top p inner)) (map-same (sized f cb) (sized g cb) (inner_boxes tree b)
       (All-implied Late (λ k. sized f cb k ≡ sized g cb k) (inner_boxes tree b) (λ k h. ap (λ (i : Inner ℤ). (k, i)) (inner-same cb k h)) (inner_boxes-from tree b (forest tree))))
       ∙ ap (λ (boxes : List (Placed ℤ)). record (after_lines tree w height g cb p (set cb top p inner)) { boxes = p.boxes ++ boxes }) (boxes-same cb (set cb top p inner).entries late)

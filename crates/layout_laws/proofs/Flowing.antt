@@ -27,6 +27,7 @@ use Rattle.layout_laws.specs.Entries.{named_by, name_of}
 
 -- a replaced box has none in it
 pub replaced_holds_none : (tree : BoxTree) (b : ℕ) → is_replaced_at tree b ≡ true → kids_of tree.boxes b ≡ []
+unfolding is_replaced_at
 replaced_holds_none tree b e = by_box (slice_get tree.boxes b) refl e
   where
     by_kind : (kind : Kind) (ks : List ℕ) → is_replaced kind ≡ true → IsTrue (not (is_leaf kind) || (length ks == 0)) → ks ≡ []

@@ -7,12 +7,8 @@ use Rattle.std.proofs.lemmas.Grind.{flat_map-append}
 use Rattle.std.proofs.lemmas.List.{take-append-drop}
 use Rattle.viz_base.specs.declared.layouts.Entry.{Entry}
 use Rattle.viz_base.specs.declared.layouts.Entry.TheVariants as of_entry
-use Rattle.viz_base.specs.declared.layouts.Band.{Band}
-use Rattle.viz_base.specs.declared.layouts.Inner.{Inner}
 use Rattle.viz_base.specs.declared.layouts.Spot.{Spot}
-use Rattle.viz_base.specs.declared.trees.BoxTree.{BoxTree}
 use Rattle.viz_base.specs.declared.trees.Kind.{Kind}
-use Rattle.viz_base.specs.declared.worlds.World.{World}
 use Rattle.layout_semantics.specs.Lists.{one_if}
 use Rattle.layout_semantics.specs.Floats.{FloatBox, band_at}
 use Rattle.layout_semantics.specs.InlineContent.{Item, start, finish, word, space, atomic, forced, float, content, float_boxes, makes_line}
@@ -20,7 +16,7 @@ use Rattle.layout_semantics.specs.Stretches.{stretches, is_break, may_part, what
 use Rattle.layout_semantics.specs.LineHeights.{InlineContext, line_extent, extended_boxes, height_of_extent, tallest}
 use Rattle.layout_semantics.specs.LineFilling.{Met, Line, item_width, width_held, place_each, joined, first_items, before_line, met_after, may_hold, stretches_held}
 use Rattle.layout_semantics.specs.Fragments.{ItemPlace, SetLine, set_out, is_text_of, text_fragment, text_right, text_entry, inline_fragment, opened_entries, entries_after, line_entries, float_entries, spots_after, atomic_entry}
-use Rattle.layout_semantics.specs.Lines.{SoFar, LaidLines, before_all, next_line, content_left, set_line, laid_line, laid_no_line, laid_stretches, lines_to, lines}
+use Rattle.layout_semantics.specs.Lines.{SoFar, LaidLines, before_all, next_line, content_left, set_line, laid_line, laid_no_line, laid_stretches, lines_to, lines_in}
 use Rattle.layout_laws.specs.Entries.{named_by, is_whole}
 use Rattle.layout_laws.proofs.Prefixes.{prefix-within}
 use Rattle.layout_laws.proofs.Cuts.{cut-joined}
@@ -156,8 +152,7 @@ module _ (of_box : ℕ → List (Kind × ℕ)) where
           sym (flat_map-append of_box (flat_map inner_of (joined (take n ps))) (flat_map inner_of (joined (drop n ps))))
           ∙ ap (flat_map of_box) (sym (flat_map-append inner_of (joined (take n ps)) (joined (drop n ps))) ∙ ap (flat_map inner_of) (sym (flat_map-append (λ (part : List Item). part) (take n ps) (drop n ps)) ∙ ap joined (take-append-drop n ps)))
 
-  pub content-shown : (tree : BoxTree) (w : World) (b : ℕ) (inner : List (Option (Inner ℤ))) (cb : Band ℤ) (y least : ℤ) (floats : List FloatBox) → all_shown (lines tree w b inner cb y least floats).entries ≡ all_inner (content tree b)
-  content-shown tree w b inner cb y least floats =
-      let c : InlineContext = record { tree = tree; world = w; container = b; inner = inner; cb = cb } in
-      let parts = stretches tree (content tree b) in
-      lines-shown (length parts) c (before_all y least floats) parts (omega arith) ∙ ap all_inner (cut-joined (is_break (may_part tree)) [] (content tree b))
+  pub content-shown : (c : InlineContext) (y least : ℤ) (floats : List FloatBox) → all_shown (lines_in c y least floats).entries ≡ all_inner (content c.tree c.container)
+  content-shown c y least floats =
+      let parts = stretches c.tree (content c.tree c.container) in
+      lines-shown (length parts) c (before_all y least floats) parts (omega arith) ∙ ap all_inner (cut-joined (is_break (may_part c.tree)) [] (content c.tree c.container))

@@ -17,10 +17,10 @@ use Rattle.layout_semantics.specs.Lists.{one_if}
 use Rattle.layout_semantics.specs.Order.{kids_of, page_order}
 use Rattle.layout_semantics.specs.Blocks.{kind_of}
 use Rattle.layout_semantics.specs.FlowBoxes.{across}
-use Rattle.layout_semantics.specs.InlineContent.{Item, start, finish, word, atomic, forced, float, Sort, a_float, an_atomic, a_break, a_text, an_inline, sort_of, text_of, text_items, character_before, letter_before, items_to, content, float_boxes, inner_boxes, is_floated_at, holds_inline, has_line, makes_line}
-use Rattle.layout_semantics.specs.Lines.{LineList, lines}
-use Rattle.layout_semantics.specs.Lists.{table_of}
-use Rattle.layout_semantics.specs.Flow.{Progress, alone, entry_boxes, inner_size, line_content}
+use Rattle.layout_semantics.specs.InlineContent.{Item, start, finish, word, atomic, forced, float, Sort, a_float, an_atomic, a_break, a_text, an_inline, sort_of, text_of, text_items, character_before, letter_before, items_to, content, float_boxes, is_floated_at, holds_inline, has_line, makes_line}
+use Rattle.layout_semantics.specs.LineHeights.{InlineContext}
+use Rattle.layout_semantics.specs.Lines.{LineList, lines_in}
+use Rattle.layout_semantics.specs.Flow.{Progress, alone, entry_boxes, inline_context, line_content}
 use Rattle.layout_semantics.specs.Page.{page_rendering}
 use Rattle.layout_semantics.proofs.Forest.{IsKid}
 use Rattle.layout_semantics.proofs.Pages.{forest}
@@ -206,6 +206,7 @@ module _ (tree : BoxTree) (w : World) (height : ℕ) where
   flow-by b false e = record { same = refl; inside = kids_after b (kids_of tree.boxes b) ((forest tree).kids b) }
 
   flows : (b : ℕ) → b < length tree.boxes → has_line tree b ≡ false → IsFlow tree w height is_whole b
+  unfolding has_line
   flows b l e = let own = flow-by b (holds_inline tree b) e in record { same = own.same; inside = own.inside }
 
   -- ---- boxes with lines
@@ -236,12 +237,12 @@ module _ (tree : BoxTree) (w : World) (height : ℕ) where
     lines-fill : (b : ℕ) (cb : Band ℤ) (top : ℤ) (p : Progress) → length tree.boxes ≤ suc levels + b
         → entries tree w height is_whole (line_content tree w height inside b cb top p).boxes ≡ entries tree w height is_whole p.boxes ++ flat_map every (kids_of tree.boxes b)
     lines-fill b cb top p m =
-        let inner = table_of (length tree.boxes) (map (λ k. (k, inner_size tree w height inside cb k)) (inner_boxes tree b)) in
-        let l : LineList = lines tree w b inner cb top (unwrap_or p.least top) p.floats in
+        let c : InlineContext = inline_context tree w height inside b cb in
+        let l : LineList = lines_in c top (unwrap_or p.least top) p.floats in
         flat_map-append (of_entry tree w height is_whole) p.boxes (flat_map (entry_boxes tree w height inside cb) l.entries)
         ∙ ap (λ (l : List (Kind × ℕ)). entries tree w height is_whole p.boxes ++ l)
         (entries-shown cb l.entries
-        ∙ (content-shown (one_alone cb) tree w b inner cb top (unwrap_or p.least top) p.floats
+        ∙ (content-shown (one_alone cb) c top (unwrap_or p.least top) p.floats
         ∙ (alone-each cb b (flat_map inner_of (content tree b)) m (content-within b) ∙ content-all b)))
 
   -- ---- the page
