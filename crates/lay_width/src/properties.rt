@@ -222,6 +222,7 @@ fn box_floats(tree: &BoxTree, node: &BoxNode) -> bool
     }
 }
 
+#[tactic(auto, unfolding(layout_semantics::specs::InlineContent::is_floated_at))]
 /// Whether the box at a place floats.
 pub fn floats_at(tree: &BoxTree, b: u32) -> bool
     ensures { result ≡ is_floated_at tree.now b }
