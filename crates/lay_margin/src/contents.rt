@@ -124,6 +124,7 @@ pub fn holds_inline(tree: &BoxTree, b: u32) -> bool
         .any(|kid| inline_level_at(tree, *kid))
 }
 
+#[tactic(auto, unfolding(layout_semantics::specs::InlineContent::has_line))]
 /// Whether a box has a line that exists.
 pub fn has_line(tree: &BoxTree, b: u32) -> bool
     requires { b < length tree.now.boxes }

@@ -27,6 +27,7 @@ pub fn kids_at(tree: &BoxTree, b: u32) -> &[u32]
     lay_width::properties::kids_at(tree, b)
 }
 
+#[tactic(auto, unfolding(layout_semantics::specs::FlowBoxes::is_replaced_at))]
 /// Whether a box is replaced.
 pub fn is_replaced(tree: &BoxTree, b: u32) -> bool
     ensures { result ≡ is_replaced_at tree.now b }
@@ -34,6 +35,7 @@ pub fn is_replaced(tree: &BoxTree, b: u32) -> bool
     matches!(kind_at(tree, b), Kind::Replaced)
 }
 
+#[tactic(auto, unfolding(layout_semantics::specs::FlowBoxes::is_context_root))]
 /// Whether a box starts a block formatting context (CSS 2.1, 9.4.1).
 pub fn starts_context(tree: &BoxTree, b: u32) -> bool
     ensures { result ≡ is_context_root tree.now b }
@@ -149,6 +151,7 @@ fn counts_as_auto(tree: &BoxTree, b: u32, height: &Length) -> bool
     }
 }
 
+#[tactic(auto, unfolding(layout_semantics::specs::DefiniteHeights::has_auto_height))]
 /// Whether the height of a box is `auto`.
 pub fn is_auto_high(tree: &BoxTree, b: u32) -> bool
     ensures { result ≡ has_auto_height tree.now b }
@@ -156,6 +159,7 @@ pub fn is_auto_high(tree: &BoxTree, b: u32) -> bool
     counts_as_auto(tree, b, &own_height(tree, b))
 }
 
+#[tactic(auto, unfolding(layout_semantics::specs::DefiniteHeights::has_no_minimum))]
 /// Whether a box has no minimum height, or a computed one of zero.
 pub fn is_without_minimum(tree: &BoxTree, b: u32) -> bool
     ensures { result ≡ has_no_minimum tree.now b }
