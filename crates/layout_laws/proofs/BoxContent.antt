@@ -1,5 +1,5 @@
 -- Which nodes have boxes, and which boxes hold none.
-use Rattle.std.proofs.Common.{◌≡◌, ℕ, zero, suc, ◌<◌, Bool, true, false, not, ◌==◌, ◌||◌, List, [], ◌∷◌, flat_map, length, get_or, Contains, Option, Some, None, slice_get, refl, sym, ◌∙◌, ap, subst, arith, if◌then◌else◌}
+use Rattle.std.proofs.Common.{◌≡◌, ℕ, zero, suc, ◌<◌, Bool, true, false, not, ◌==◌, ◌||◌, List, [], ◌∷◌, flat_map, length, Contains, Option, Some, None, slice_get, refl, sym, ◌∙◌, ap, subst, arith, if◌then◌else◌}
 use Rattle.std.specs.Prelude.{unwrap_or}
 use Rattle.std.specs.List.{list_all}
 use Rattle.std.specs.Option.{option_map_or}
@@ -20,28 +20,19 @@ use Rattle.layout_semantics.specs.Elements.{is_closed, is_hidden, is_shown, node
 use Rattle.layout_semantics.specs.Parts.{Part, Level, kind_of_node, level_kind, level_of, inline_kind}
 use Rattle.layout_semantics.specs.WhiteSpace.{is_in}
 use Rattle.layout_semantics.specs.BoxTrees.{Item, kid_place, items_in, items_of, page_parts, page_boxes, tree_styles}
-use Rattle.layout_laws.proofs.Members.{In, from_filter}
+use Rattle.layout_laws.proofs.Members.{from_filter, no_member, first_member, by_member, all_in}
 use Rattle.layout_laws.proofs.Places.{node_of}
 use Rattle.layout_laws.proofs.Nesting.{IsBoxOf}
 use Rattle.layout_laws.proofs.Above.{not_or, parent_is, parent_shown}
 use Rattle.layout_laws.proofs.Runs.{is_in_some, run_parent}
 use Rattle.layout_laws.proofs.PageParts.{part_parent, slice_some}
-use Rattle.layout_laws.proofs.BoxLaws.{in_from}
 use Rattle.layout_laws.proofs.BoxFacts.{item_known, page_box_is, hidden_alike}
 
 -- ---- lists
 
-empty_list : {A : Type 0} (xs : List A) → ((x : A) → In x xs → ⊥) → xs ≡ []
+empty_list : {A : Type 0} (xs : List A) → ((x : A) → Contains xs x → ⊥) → xs ≡ []
 empty_list [] none = refl
-empty_list (x ∷ xs) none = absurd (none x In.here)
-
-all_at : (test : ℕ → Bool) (xs : List ℕ) (x : ℕ) → list_all test xs ≡ true → Contains xs x → test x ≡ true
-all_at test [] x all h = absurd (omega (arith, h.1))
-all_at test (y ∷ ys) x all h = by_place h.0 h.1 h.2 (and_parts (test y) (list_all test ys) all) (λ a g. all_at test ys x a g)
-  where
-    by_place : (k : ℕ) → k < suc (length ys) → get_or (y ∷ ys) k x ≡ x → ((test y ≡ true) × (list_all test ys ≡ true)) → (list_all test ys ≡ true → Contains ys x → test x ≡ true) → test x ≡ true
-    by_place zero l e both again = subst (λ z. test z ≡ true) e both.0
-    by_place (suc k) l e both again = again both.1 (k, omega (arith, l), e)
+empty_list (x ∷ xs) none = absurd (none x (first_member _ refl))
 
 -- ---- leaves
 
@@ -79,16 +70,17 @@ leaf_is_closed body is_root s e l = by_replaced (is_replaced body) refl (by_leve
 
 -- ---- what is above a node
 
-pub upwards_within : (more : ℕ) (nodes : List Node) (page : IsPage nodes) (o : Option ℕ) (above : ℕ) → ((q : ℕ) → o ≡ Some q → q < length nodes) → In above (upwards more nodes o) → above < length nodes
-upwards_within zero nodes page o above f i = elim i [ ]
-upwards_within (suc more) nodes page None above f i = elim i [ ]
-upwards_within (suc more) nodes page (Some q) _ f In.here = f q refl
-upwards_within (suc more) nodes page (Some q) above f (In.there i) =
-    upwards_within more nodes page (parent_of nodes q) above (λ r e. let below = (parent_is nodes page q r e).0 in let here = f q refl in omega (arith, below, here)) i
+pub upwards_within : (more : ℕ) (nodes : List Node) (page : IsPage nodes) (o : Option ℕ) (above : ℕ) → ((q : ℕ) → o ≡ Some q → q < length nodes) → Contains (upwards more nodes o) above → above < length nodes
+upwards_within zero nodes page o above f i = no_member i
+upwards_within (suc more) nodes page None above f i = no_member i
+upwards_within (suc more) nodes page (Some q) above f i =
+    by_member (λ a. a < length nodes) q (upwards more nodes (parent_of nodes q)) above i
+    (f q refl)
+    (λ j. upwards_within more nodes page (parent_of nodes q) above (λ r e. let below = (parent_is nodes page q r e).0 in let here = f q refl in omega (arith, below, here)) j)
 
 pub ancestor_within : (nodes : List Node) (page : IsPage nodes) (at above : ℕ) → at < length nodes → Contains (ancestors nodes at) above → above < length nodes
 ancestor_within nodes page at above l h =
-    upwards_within (length nodes) nodes page (parent_of nodes at) above (λ q e. let below = (parent_is nodes page at q e).0 in omega (arith, below, l)) (in_from (ancestors nodes at) above h)
+    upwards_within (length nodes) nodes page (parent_of nodes at) above (λ q e. let below = (parent_is nodes page at q e).0 in omega (arith, below, l)) h
 
 -- ---- boxes
 
@@ -125,7 +117,7 @@ module _ (nodes : List Node) (styles : List Style) (page : IsPage nodes) where
       let shown = box_shown at b e in
       let parts = and_parts (not (is_hidden (tree_styles nodes styles) b.node)) (list_all (λ above. not (is_hidden (tree_styles nodes styles) above || node_passes is_closed nodes above)) (ancestors nodes b.node)) shown.0 in
       not_or (is_hidden (tree_styles nodes styles) above) (node_passes is_closed nodes above)
-      (all_at (λ above. not (is_hidden (tree_styles nodes styles) above || node_passes is_closed nodes above)) (ancestors nodes b.node) above parts.1 h)
+      (all_in (λ above. not (is_hidden (tree_styles nodes styles) above || node_passes is_closed nodes above)) (ancestors nodes b.node) above parts.1 h)
 
   pub above_not_closed : (at : ℕ) (b : BoxNode) (above : ℕ) → slice_get (page_boxes nodes styles) at ≡ Some b → Contains (ancestors nodes b.node) above → node_passes is_closed nodes above ≡ false
   above_not_closed at b above e h = (above_open at b above e h).1
@@ -137,7 +129,7 @@ module _ (nodes : List Node) (styles : List Style) (page : IsPage nodes) where
       hidden_in above (ancestor_within nodes page b.node above shown.1 h) (above_open at b above e h).0
 
   -- no part is in a leaf
-  none_in : (x : Item) → In x (items_of (page_parts nodes styles)) → is_leaf x.part.kind ≡ true → (y : Item) → In y (items_in (items_of (page_parts nodes styles)) (node_of x)) → ⊥
+  none_in : (x : Item) → Contains (items_of (page_parts nodes styles)) x → is_leaf x.part.kind ≡ true → (y : Item) → Contains (items_in (items_of (page_parts nodes styles)) (node_of x)) y → ⊥
   none_in x i l y j =
       let k = item_known nodes styles page x i in
       let from = from_filter (λ (item : Item). is_in (node_of x) item.part.parent) (items_of (page_parts nodes styles)) y j in

@@ -1,5 +1,5 @@
 -- What each box of a page is, by the part that it comes from.
-use Rattle.std.proofs.Common.{◌≡◌, ℕ, zero, suc, ◌+◌, ◌<◌, Bool, true, false, ◌==◌, List, [], ◌∷◌, zip, Option, Some, None, is_some, option_map, slice_get, refl, sym, ◌∙◌, ap, subst, arith, ◌⊎◌, inl, inr, if◌then◌else◌, eq-or-lt_of_le, nat_lt, ltb-true, ltb-false, ap₂}
+use Rattle.std.proofs.Common.{◌≡◌, ℕ, zero, suc, ◌+◌, ◌<◌, Bool, true, false, ◌==◌, List, [], ◌∷◌, zip, Option, Some, None, is_some, option_map, slice_get, refl, sym, ◌∙◌, ap, subst, arith, ◌⊎◌, inl, inr, if◌then◌else◌, eq-or-lt_of_le, nat_lt, ltb-true, ltb-false, ap₂, Contains}
 use Rattle.std.specs.List.{enumerate_from}
 use Rattle.std.specs.Option.{option_map_or}
 use Rattle.std.proofs.lemmas.Option.{slice_get-map}
@@ -17,7 +17,7 @@ use Rattle.viz_base.specs.declared.trees.Kind.TheVariants as of_kind
 use Rattle.layout_semantics.specs.Elements.{is_hidden, is_none_display, intrinsic_size}
 use Rattle.layout_semantics.specs.Parts.{Part, Level, kind_of_node, level_kind, level_of, inline_kind}
 use Rattle.layout_semantics.specs.BoxTrees.{Item, run_around, own_place, items_of, page_parts, page_boxes, tree_styles, tree_style_of, viewport_clip}
-use Rattle.layout_laws.proofs.Members.{In, from_map}
+use Rattle.layout_laws.proofs.Members.{from_map}
 use Rattle.layout_laws.proofs.Places.{node_of}
 use Rattle.layout_laws.proofs.Kids.{IsArranged, order, own_place_from, own_place_within}
 use Rattle.layout_laws.proofs.Nesting.{IsBoxOf, box_is}
@@ -66,10 +66,10 @@ sized body is_root s size = by_test (is_replaced body) (level_not_replaced (leve
 
 -- ---- the part of an item
 
-pub item_part : (parts : List Part) (x : Item) → In x (items_of parts) → In x.part parts
-item_part parts x i = let from = from_map (λ p. record { part = p; run = run_around parts p }) parts x i in subst (λ (p : Part). In p parts) (ap (λ (y : Item). y.part) from.2) from.1
+pub item_part : (parts : List Part) (x : Item) → Contains (items_of parts) x → Contains parts x.part
+item_part parts x i = let from = from_map (λ p. record { part = p; run = run_around parts p }) parts x i in subst (λ (p : Part). Contains parts p) (ap (λ (y : Item). y.part) from.2) from.1
 
-own_order : (items : List Item) (arranged : IsArranged items) (first second : ℕ) (a b : BoxNode) (x y : Item) → first < second → In x items → In y items → first ≡ own_place items (node_of x) → second ≡ own_place items (node_of y)
+own_order : (items : List Item) (arranged : IsArranged items) (first second : ℕ) (a b : BoxNode) (x y : Item) → first < second → Contains items x → Contains items y → first ≡ own_place items (node_of x) → second ≡ own_place items (node_of y)
     → a.node ≡ node_of x → b.node ≡ node_of y → a.node < b.node
 own_order items arranged first second a b x y l i j p q s u = by_order (nat_lt (node_of x) (node_of y)) refl
   where
@@ -112,7 +112,7 @@ hidden_alike nodes styles at n e = ap (λ (o : Option Style). option_map_or (λ 
     by_style (Some s) = refl
 
 module _ (nodes : List Node) (styles : List Style) (page : IsPage nodes) where
-  pub item_known : (x : Item) → In x (items_of (page_parts nodes styles)) → IsPagePart nodes (tree_styles nodes styles) x.part
+  pub item_known : (x : Item) → Contains (items_of (page_parts nodes styles)) x → IsPagePart nodes (tree_styles nodes styles) x.part
   item_known x i = from_page nodes (tree_styles nodes styles) x.part (item_part (page_parts nodes styles) x i)
 
   pub page_box_is : (at : ℕ) (b : BoxNode) → slice_get (page_boxes nodes styles) at ≡ Some b → IsBoxOf (items_of (page_parts nodes styles)) at b

@@ -1,5 +1,5 @@
 -- Each text and each anonymous box that is built of a page is in an element that has a box.
-use Rattle.std.proofs.Common.{◌≡◌, ℕ, Bool, true, false, ◌==◌, ◌&&◌, List, Option, Some, None, option_map, option_and_then, slice_get, IsTrue, refl, sym, ap, ◌∙◌, subst, eq-eqb, eqb-true}
+use Rattle.std.proofs.Common.{◌≡◌, ℕ, Bool, true, false, ◌==◌, ◌&&◌, List, Option, Some, None, option_map, option_and_then, slice_get, IsTrue, refl, sym, ap, ◌∙◌, subst, eq-eqb, eqb-true, Contains}
 use Rattle.std.specs.Prelude.{unwrap_or}
 use Rattle.std.specs.Option.{option_map_or}
 use Rattle.std.proofs.lemmas.Option.{slice_get-map}
@@ -14,7 +14,7 @@ use Rattle.viz_base.specs.declared.trees.BoxNode.{BoxNode}
 use Rattle.viz_base.specs.declared.trees.Kind.TheVariants as of_kind
 use Rattle.layout_semantics.specs.Parts.{Part, kind_of_node}
 use Rattle.layout_semantics.specs.BoxTrees.{Item, items_of, own_box, own_place, run_around, page_parts, page_boxes, tree_styles, tree_parents}
-use Rattle.layout_laws.proofs.Members.{In, any_from, to_map}
+use Rattle.layout_laws.proofs.Members.{any_from, to_map}
 use Rattle.layout_laws.proofs.Kids.{own_box_at}
 use Rattle.layout_laws.proofs.Nesting.{IsBoxOf}
 use Rattle.layout_laws.proofs.Above.{parent_is}
@@ -36,7 +36,7 @@ module _ (nodes : List Node) (styles : List Style) (page : IsPage nodes) where
   item p = record { part = p; run = run_around (page_parts nodes styles) p }
 
   -- an element that has a part has a box
-  part-boxed : (p : Part) (q : ℕ) → In p (page_parts nodes styles) → p.node ≡ q → is_element_at nodes q ≡ true → has_element (page_boxes nodes styles) q ≡ true
+  part-boxed : (p : Part) (q : ℕ) → Contains (page_parts nodes styles) p → p.node ≡ q → is_element_at nodes q ≡ true → has_element (page_boxes nodes styles) q ≡ true
   part-boxed p q i same element =
       let there = own_box_at items (page_arranged nodes styles page) (item p) (to_map item (page_parts nodes styles) p i) in
       let k = from_page nodes (tree_styles nodes styles) p i in
@@ -47,7 +47,7 @@ module _ (nodes : List Node) (styles : List Style) (page : IsPage nodes) where
       (ap (λ (b : Bool). b && (p.node == q)) kind ∙ eq-eqb p.node q same)
 
   -- so has the element around a part
-  parent-boxed : (x : Item) (q : ℕ) → In x items → x.part.parent ≡ Some q → has_element (page_boxes nodes styles) q ≡ true
+  parent-boxed : (x : Item) (q : ℕ) → Contains items x → x.part.parent ≡ Some q → has_element (page_boxes nodes styles) q ≡ true
   parent-boxed x q i e =
       let up = (parts_of_page nodes (tree_styles nodes styles) page).parents x.part q (item_part (page_parts nodes styles) x i) e in
       let above = parent_is nodes page x.part.node q (part_parent nodes (tree_styles nodes styles) page x.part (item_known nodes styles page x i) ∙ e) in

@@ -1,51 +1,62 @@
 -- Lemmas on elements of lists and on ascending lists.
-use Rattle.std.proofs.Common.{◌≡◌, ℕ, suc, ◌≤◌, Bool, true, false, ◌&&◌, ◌||◌, List, [], ◌∷◌, ◌++◌, map, flat_map, refl, sym, ◌∙◌, ap, subst, arith, ◌⊎◌, inl, inr, filter, if◌then◌else◌}
+use Rattle.std.proofs.Common.{◌≡◌, ℕ, zero, suc, ◌≤◌, Bool, true, false, List, [], ◌∷◌, get_or, map, flat_map, filter, Contains, refl, sym, ◌∙◌, ap, subst, arith, ◌⊎◌, inl, inr, ⊎_elim, if◌then◌else◌}
 use Rattle.std.specs.List.{list_any, list_all}
 use Rattle.std.specs.Prelude.{⊤}
+use Rattle.std.proofs.lemmas.List.{length-map, get_or-map}
+use Rattle.std.proofs.lemmas.List.Elements.{All-map, All-filter, filter_passes, All-contains, All-contains_itself, Contains-get_or, Contains-append_left, Contains-append_right, Contains-append_cases}
+use Rattle.std.proofs.lemmas.List.Folds.{Any-from_list_any, list_any-from_Any}
+use Rattle.std.proofs.lemmas.List.Sums.{AllPass-from_list_all, list_all-from_AllPass}
 use Rattle.layout_semantics.specs.Lists.{one_if}
 
--- x is one of a list
-pub data In {A : Type 0} (x : A) : List A → Type 0 where
-  here : {xs : List A} → In x (x ∷ xs)
-  there : {y : A} {xs : List A} → In x xs → In x (y ∷ xs)
+-- ---- the first element and the later ones
+
+pub no_member : {A P : Type 0} {x : A} → Contains [] x → P
+no_member i = absurd (omega (arith, i.1))
+
+pub first_member : {A : Type 0} {y x : A} (ys : List A) → y ≡ x → Contains (y ∷ ys) x
+first_member ys e = (0, omega arith, e)
+
+pub later_member : {A : Type 0} {y x : A} (ys : List A) → Contains ys x → Contains (y ∷ ys) x
+later_member ys i = (suc i.0, omega (arith, i.1), i.2)
+
+pub first_or_later : {A : Type 0} (y : A) (ys : List A) (x : A) → Contains (y ∷ ys) x → (y ≡ x) ⊎ Contains ys x
+first_or_later y ys x (zero, l, e) = inl e
+first_or_later y ys x (suc k, l, e) = inr (k, omega (arith, l), e)
+
+pub only_member : {A : Type 0} (y x : A) → Contains (y ∷ []) x → y ≡ x
+only_member y x i = ⊎_elim (λ e. e) (λ j. no_member j) (first_or_later y [] x i)
+
+-- what holds of the first element, and of x where it is a later one, holds of x
+pub by_member : {A : Type 0} (P : A → Type 0) (y : A) (ys : List A) (x : A) → Contains (y ∷ ys) x → P y → (Contains ys x → P x) → P x
+by_member P y ys x i here there = ⊎_elim (λ e. subst P e here) there (first_or_later y ys x i)
 
 -- ---- chosen elements
 
-filter_one : {A : Type 0} (test : A → Bool) (y : A) (b : Bool) (rest : List A) (x : A) → test y ≡ b → In x (if b then y ∷ rest else rest) → ((In x rest) ⊎ ((x ≡ y) × (test y ≡ true)))
-filter_one test y true rest _ e In.here = inr (refl, e)
-filter_one test y true rest x e (In.there i) = inl i
-filter_one test y false rest x e i = inl i
-
 -- an element of the chosen ones is one of the list, and passes
-pub from_filter : {A : Type 0} (test : A → Bool) (xs : List A) (x : A) → In x (filter test xs) → In x xs × (test x ≡ true)
-from_filter test [] x i = elim i [ ]
-from_filter {A} test (y ∷ ys) x i = by_case (filter_one test y (test y) (filter test ys) x refl i) (λ j. from_filter test ys x j)
-  where
-    by_case : ((In x (filter test ys)) ⊎ ((x ≡ y) × (test y ≡ true))) → (In x (filter test ys) → In x ys × (test x ≡ true)) → In x (y ∷ ys) × (test x ≡ true)
-    by_case (inl j) again = let r = again j in (In.there r.0, r.1)
-    by_case (inr s) again = (subst (λ (z : A). In x (z ∷ ys)) s.0 In.here, ap test s.0 ∙ s.1)
+pub from_filter : {A : Type 0} (test : A → Bool) (xs : List A) (x : A) → Contains (filter test xs) x → Contains xs x × (test x ≡ true)
+from_filter test xs x i = (All-contains (Contains xs) (filter test xs) x (All-filter test (Contains xs) xs (All-contains_itself xs)) i, All-contains (λ y. test y ≡ true) (filter test xs) x (filter_passes test xs) i)
 
 -- an element that passes is a chosen one
-pub to_filter : {A : Type 0} (test : A → Bool) (xs : List A) (x : A) → In x xs → test x ≡ true → In x (filter test xs)
-to_filter test [] x i p = elim i [ ]
-to_filter test (x ∷ xs) _ In.here p = subst (λ b. In x (if b then x ∷ filter test xs else filter test xs)) (sym p) In.here
-to_filter test (y ∷ ys) x (In.there i) p = by_test (test y) (to_filter test ys x i p)
+pub to_filter : {A : Type 0} (test : A → Bool) (xs : List A) (x : A) → Contains xs x → test x ≡ true → Contains (filter test xs) x
+to_filter test [] x i p = no_member i
+to_filter test (y ∷ ys) x i p = by_test (test y) refl (first_or_later y ys x i) (λ j. to_filter test ys x j p)
   where
-    by_test : (b : Bool) → In x (filter test ys) → In x (if b then y ∷ filter test ys else filter test ys)
-    by_test true j = In.there j
-    by_test false j = j
+    by_test : (b : Bool) → test y ≡ b → (y ≡ x) ⊎ Contains ys x → (Contains ys x → Contains (filter test ys) x) → Contains (if b then y ∷ filter test ys else filter test ys) x
+    by_test true t (inl e) again = first_member _ e
+    by_test true t (inr j) again = later_member _ (again j)
+    by_test false t (inl e) again = absurd (cc)
+    by_test false t (inr j) again = again j
 
 -- ---- images
 
-pub to_map : {A B : Type 0} (f : A → B) (xs : List A) (x : A) → In x xs → In (f x) (map f xs)
-to_map f [] x i = elim i [ ]
-to_map f (x ∷ xs) _ In.here = In.here
-to_map f (y ∷ ys) x (In.there i) = In.there (to_map f ys x i)
+pub to_map : {A B : Type 0} (f : A → B) (xs : List A) (x : A) → Contains xs x → Contains (map f xs) (f x)
+to_map f xs x i = (i.0, omega (arith, length-map xs f, i.1), get_or-map f xs i.0 x (f x) i.1 ∙ ap f i.2)
 
-pub from_map : {A B : Type 0} (f : A → B) (xs : List A) (y : B) → In y (map f xs) → (x : A) × In x xs × (f x ≡ y)
-from_map f [] y i = elim i [ ]
-from_map f (x ∷ xs) _ In.here = (x, In.here, refl)
-from_map f (x ∷ xs) y (In.there i) = let r = from_map f xs y i in (r.0, In.there r.1, r.2)
+pub from_map : {A B : Type 0} (f : A → B) (xs : List A) (y : B) → Contains (map f xs) y → (x : A) × Contains xs x × (f x ≡ y)
+from_map {A} {B} f xs y = All-contains Image (map f xs) y (All-map Image f xs (λ k d l. (get_or xs k d, Contains-get_or xs k d l, refl)))
+  where
+    Image : B → Type 0
+    Image z = (x : A) × Contains xs x × (f x ≡ z)
 
 -- ---- ascending numbers
 
@@ -54,10 +65,9 @@ abbrev pub Rises : ℕ → List ℕ → Type 0
 Rises low [] = ⊤
 Rises low (n ∷ ns) = (low ≤ n) × Rises (suc n) ns
 
-pub rises_from : (low : ℕ) (ns : List ℕ) (n : ℕ) → Rises low ns → In n ns → low ≤ n
-rises_from low [] n r i = elim i [ ]
-rises_from low (n ∷ ns) _ r In.here = r.0
-rises_from low (m ∷ ns) n r (In.there i) = let above = rises_from (suc m) ns n r.1 i in omega (arith, r.0)
+pub rises_from : (low : ℕ) (ns : List ℕ) (n : ℕ) → Rises low ns → Contains ns n → low ≤ n
+rises_from low [] n r i = no_member i
+rises_from low (m ∷ ns) n r i = ⊎_elim (λ e. omega (arith, r.0, e)) (λ j. let above = rises_from (suc m) ns n r.1 j in omega (arith, r.0, above)) (first_or_later m ns n i)
 
 pub rises_lower : (low high : ℕ) (ns : List ℕ) → low ≤ high → Rises high ns → Rises low ns
 rises_lower low high [] l r = tt
@@ -73,95 +83,54 @@ rises_filter f test low (x ∷ xs) r = by_test (test x) (rises_filter f test (su
     by_test false s = let l : low ≤ suc (f x) = omega (arith, r.0) in rises_lower low (suc (f x)) (map f (filter test xs)) l s
 
 -- an element of a list of lists joined is one of one of them
-pub from_append : {A : Type 0} (xs ys : List A) (x : A) → In x (xs ++ ys) → In x xs ⊎ In x ys
-from_append [] ys x i = inr i
-from_append (z ∷ xs) ys _ In.here = inl In.here
-from_append (z ∷ xs) ys x (In.there i) = by_part (from_append xs ys x i)
-  where
-    by_part : In x xs ⊎ In x ys → In x (z ∷ xs) ⊎ In x ys
-    by_part (inl j) = inl (In.there j)
-    by_part (inr j) = inr j
+pub from_flat_map : {A B : Type 0} (f : A → List B) (xs : List A) (b : B) → Contains (flat_map f xs) b → (x : A) × Contains xs x × Contains (f x) b
+from_flat_map f [] b i = no_member i
+from_flat_map f (x ∷ xs) b i =
+    ⊎_elim
+    (λ j. (x, first_member _ refl, j))
+    (λ j. let r = from_flat_map f xs b j in (r.0, later_member _ r.1, r.2))
+    (Contains-append_cases (f x) (flat_map f xs) b i)
 
-pub from_flat_map : {A B : Type 0} (f : A → List B) (xs : List A) (b : B) → In b (flat_map f xs) → (x : A) × In x xs × In b (f x)
-from_flat_map f [] b i = elim i [ ]
-from_flat_map {A} f (x ∷ xs) b i = by_part (from_append (f x) (flat_map f xs) b i) (λ j. from_flat_map f xs b j)
-  where
-    by_part : In b (f x) ⊎ In b (flat_map f xs) → (In b (flat_map f xs) → (y : A) × In y xs × In b (f y)) → (y : A) × In y (x ∷ xs) × In b (f y)
-    by_part (inl j) again = (x, In.here, j)
-    by_part (inr j) again = let r = again j in (r.0, In.there r.1, r.2)
-
-pub from_one_if : {A : Type 0} (t : Bool) (a x : A) → In x (one_if t a) → (x ≡ a) × (t ≡ true)
-from_one_if true a _ In.here = (refl, refl)
-from_one_if true a x (In.there i) = elim i [ ]
-from_one_if false a x i = elim i [ ]
+pub from_one_if : {A : Type 0} (t : Bool) (a x : A) → Contains (one_if t a) x → (x ≡ a) × (t ≡ true)
+from_one_if true a x i = (sym (only_member a x i), refl)
+from_one_if false a x i = no_member i
 
 -- ---- tests of all elements and of some
 
-pub any_in : {A : Type 0} (test : A → Bool) (xs : List A) → list_any test xs ≡ true → (x : A) × In x xs × (test x ≡ true)
-any_in test [] e = absurd (cc)
-any_in {A} test (x ∷ xs) e = by_test (test x) refl e (λ f. any_in test xs f)
-  where
-    by_test : (b : Bool) → test x ≡ b → (b || list_any test xs) ≡ true → (list_any test xs ≡ true → (y : A) × In y xs × (test y ≡ true)) → (y : A) × In y (x ∷ xs) × (test y ≡ true)
-    by_test true t f again = (x, In.here, t)
-    by_test false t f again = let r = again f in (r.0, In.there r.1, r.2)
+pub any_in : {A : Type 0} (test : A → Bool) (xs : List A) → list_any test xs ≡ true → (x : A) × Contains xs x × (test x ≡ true)
+any_in test xs e = let some = Any-from_list_any test xs e in (some.1, (some.0, some.2, some.3), some.4)
 
-pub any_from : {A : Type 0} (test : A → Bool) (xs : List A) (x : A) → In x xs → test x ≡ true → list_any test xs ≡ true
-any_from test [] x i t = elim i [ ]
-any_from test (x ∷ xs) _ In.here t = ap (λ b. b || list_any test xs) t
-any_from test (y ∷ xs) x (In.there i) t = or_true (test y) (list_any test xs) (any_from test xs x i t)
-  where
-    or_true : (a b : Bool) → b ≡ true → (a || b) ≡ true
-    or_true true b e = refl
-    or_true false b e = e
+pub any_from : {A : Type 0} (test : A → Bool) (xs : List A) (x : A) → Contains xs x → test x ≡ true → list_any test xs ≡ true
+any_from test xs x i t = list_any-from_Any test xs (i.0, x, i.1, i.2, t)
 
-pub any_none : {A : Type 0} (test : A → Bool) (xs : List A) (x : A) → list_any test xs ≡ false → In x xs → test x ≡ false
-any_none test [] x e i = elim i [ ]
-any_none test (x ∷ xs) _ e In.here = (or_parts (test x) (list_any test xs) e).0
+pub any_none : {A : Type 0} (test : A → Bool) (xs : List A) (x : A) → list_any test xs ≡ false → Contains xs x → test x ≡ false
+any_none test xs x e i = by_test (test x) refl
   where
-    or_parts : (a b : Bool) → (a || b) ≡ false → (a ≡ false) × (b ≡ false)
-    or_parts true b e = absurd (cc)
-    or_parts false b e = (refl, e)
-any_none test (y ∷ xs) x e (In.there i) = any_none test xs x (or_parts (test y) (list_any test xs) e).1 i
-  where
-    or_parts : (a b : Bool) → (a || b) ≡ false → (a ≡ false) × (b ≡ false)
-    or_parts true b e = absurd (cc)
-    or_parts false b e = (refl, e)
+    by_test : (b : Bool) → test x ≡ b → b ≡ false
+    by_test true t = let some = any_from test xs x i t in absurd (cc)
+    by_test false t = refl
 
-pub all_from : {A : Type 0} (test : A → Bool) (xs : List A) → ((x : A) → In x xs → test x ≡ true) → list_all test xs ≡ true
-all_from test [] f = refl
-all_from test (x ∷ xs) f = ap (λ b. b && list_all test xs) (f x In.here) ∙ all_from test xs (λ y i. f y (In.there i))
+pub all_from : {A : Type 0} (test : A → Bool) (xs : List A) → ((x : A) → Contains xs x → test x ≡ true) → list_all test xs ≡ true
+all_from test xs f = list_all-from_AllPass test xs (λ k d l. f (get_or xs k d) (Contains-get_or xs k d l))
 
-pub all_in : {A : Type 0} (test : A → Bool) (xs : List A) (x : A) → list_all test xs ≡ true → In x xs → test x ≡ true
-all_in test [] x e i = elim i [ ]
-all_in test (x ∷ xs) _ e In.here = (and_both (test x) (list_all test xs) e).0
-  where
-    and_both : (a b : Bool) → (a && b) ≡ true → (a ≡ true) × (b ≡ true)
-    and_both true b e = (refl, e)
-    and_both false b e = absurd (cc)
-all_in test (y ∷ xs) x e (In.there i) = all_in test xs x (and_both (test y) (list_all test xs) e).1 i
-  where
-    and_both : (a b : Bool) → (a && b) ≡ true → (a ≡ true) × (b ≡ true)
-    and_both true b e = (refl, e)
-    and_both false b e = absurd (cc)
+pub all_in : {A : Type 0} (test : A → Bool) (xs : List A) (x : A) → list_all test xs ≡ true → Contains xs x → test x ≡ true
+all_in test xs x e i = All-contains (λ y. test y ≡ true) xs x (AllPass-from_list_all test xs e) i
 
 -- elements with the same number in a list that ascends are the same
-pub unique_in : {A : Type 0} (f : A → ℕ) (low : ℕ) (xs : List A) (x y : A) → Rises low (map f xs) → In x xs → In y xs → f x ≡ f y → x ≡ y
-unique_in f low [] x y r i j e = elim i [ ]
-unique_in f low (x ∷ xs) _ _ r In.here In.here e = refl
-unique_in f low (x ∷ xs) _ y r In.here (In.there j) e = let above = rises_from (suc (f x)) (map f xs) (f y) r.1 (to_map f xs y j) in absurd (omega (arith, above, e))
-unique_in f low (y ∷ xs) x _ r (In.there i) In.here e = let above = rises_from (suc (f y)) (map f xs) (f x) r.1 (to_map f xs x i) in absurd (omega (arith, above, e))
-unique_in f low (z ∷ xs) x y r (In.there i) (In.there j) e = unique_in f (suc (f z)) xs x y r.1 i j e
+pub unique_in : {A : Type 0} (f : A → ℕ) (low : ℕ) (xs : List A) (x y : A) → Rises low (map f xs) → Contains xs x → Contains xs y → f x ≡ f y → x ≡ y
+unique_in f low [] x y r i j e = no_member i
+unique_in f low (z ∷ xs) x y r i j e = by_places (first_or_later z xs x i) (first_or_later z xs y j) (λ g h. unique_in f (suc (f z)) xs x y r.1 g h e)
+  where
+    by_places : (z ≡ x) ⊎ Contains xs x → (z ≡ y) ⊎ Contains xs y → (Contains xs x → Contains xs y → x ≡ y) → x ≡ y
+    by_places (inl g) (inl h) again = sym g ∙ h
+    by_places (inl g) (inr h) again = let above = rises_from (suc (f z)) (map f xs) (f y) r.1 (to_map f xs y h) in absurd (omega (arith, above, e, ap f g))
+    by_places (inr g) (inl h) again = let above = rises_from (suc (f z)) (map f xs) (f x) r.1 (to_map f xs x g) in absurd (omega (arith, above, e, ap f h))
+    by_places (inr g) (inr h) again = again g h
 
-pub to_append_left : {A : Type 0} (xs ys : List A) (x : A) → In x xs → In x (xs ++ ys)
-to_append_left [] ys x i = elim i [ ]
-to_append_left (z ∷ xs) ys _ In.here = In.here
-to_append_left (z ∷ xs) ys x (In.there i) = In.there (to_append_left xs ys x i)
-
-pub to_append_right : {A : Type 0} (xs ys : List A) (x : A) → In x ys → In x (xs ++ ys)
-to_append_right [] ys x i = i
-to_append_right (z ∷ xs) ys x i = In.there (to_append_right xs ys x i)
-
-pub to_flat_map : {A B : Type 0} (f : A → List B) (xs : List A) (x : A) (b : B) → In x xs → In b (f x) → In b (flat_map f xs)
-to_flat_map f [] x b i j = elim i [ ]
-to_flat_map f (x ∷ xs) _ b In.here j = to_append_left (f x) (flat_map f xs) b j
-to_flat_map f (z ∷ xs) x b (In.there i) j = to_append_right (f z) (flat_map f xs) b (to_flat_map f xs x b i j)
+pub to_flat_map : {A B : Type 0} (f : A → List B) (xs : List A) (x : A) (b : B) → Contains xs x → Contains (f x) b → Contains (flat_map f xs) b
+to_flat_map f [] x b i j = no_member i
+to_flat_map f (z ∷ xs) x b i j =
+    ⊎_elim
+    (λ e. Contains-append_left (f z) (flat_map f xs) b (subst (λ y. Contains (f y) b) (sym e) j))
+    (λ k. Contains-append_right (f z) (flat_map f xs) b (to_flat_map f xs x b k j))
+    (first_or_later z xs x i)

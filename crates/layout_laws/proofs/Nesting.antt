@@ -1,5 +1,5 @@
 -- Boxes and the boxes in them: each stands after the one that holds it, in ascending order, and names it.
-use Rattle.std.proofs.Common.{◌≡◌, ℕ, zero, suc, ◌+◌, ◌<◌, ◌≤◌, Bool, true, false, ◌==◌, List, [], ◌∷◌, ◌++◌, map, flat_map, Option, Some, None, option_map, slice_get, IsTrue, refl, sym, ◌∙◌, ap, subst, arith, if◌then◌else◌, lt-ltb, eq-eqb, eqb-true}
+use Rattle.std.proofs.Common.{◌≡◌, ℕ, zero, suc, ◌+◌, ◌<◌, ◌≤◌, Bool, true, false, ◌==◌, List, [], ◌∷◌, ◌++◌, map, flat_map, Option, Some, None, option_map, slice_get, IsTrue, refl, sym, ◌∙◌, ap, subst, arith, if◌then◌else◌, lt-ltb, eq-eqb, eqb-true, Contains}
 use Rattle.std.specs.List.{list_all}
 use Rattle.std.specs.Option.{option_map_or}
 use Rattle.viz_base.specs.Trees.{ascends, box_passes, is_kid_of}
@@ -8,7 +8,7 @@ use Rattle.layout_semantics.specs.Lists.{one_if}
 use Rattle.layout_semantics.specs.Parts.{Part}
 use Rattle.layout_semantics.specs.WhiteSpace.{is_in}
 use Rattle.layout_semantics.specs.BoxTrees.{Item, box_count, boxes_before, begins_run, own_place, first_of, outer_place, kid_place, kid_places, items_in, own_box, anonymous_box, with_anonymous, boxes_at, boxes_of}
-use Rattle.layout_laws.proofs.Members.{In, Rises, rises_from, rises_lower, rises_filter, to_map, from_map, from_filter, from_flat_map, from_one_if}
+use Rattle.layout_laws.proofs.Members.{Rises, rises_from, rises_lower, rises_filter, to_map, from_map, from_filter, from_flat_map, from_one_if, no_member, first_member, later_member, only_member, by_member}
 use Rattle.layout_laws.proofs.Places.{node_of, found}
 use Rattle.layout_laws.proofs.Kids.{IsArranged, IsMember, counts, order, own_place_is, own_place_from, own_place_within, own_box_at, anonymous_box_at}
 
@@ -30,7 +30,7 @@ count_least false = omega arith
 
 module _ (items : List Item) (arranged : IsArranged items) where
   -- the place of a kid lies among those of its node
-  rise_at : (p : Part) (run : Option (List ℕ)) (ks : List ℕ) → In (record { part = p; run = run }) items
+  rise_at : (p : Part) (run : Option (List ℕ)) (ks : List ℕ) → Contains items (record { part = p; run = run })
       → Rises (boxes_before items p.node + box_count (record { part = p; run = run })) ks → Rises (boxes_before items p.node) (kid_place items (record { part = p; run = run }) ++ ks)
   rise_at p None ks i r =
       let from = own_place_from items arranged (record { part = p; run = None }) i in
@@ -42,18 +42,18 @@ module _ (items : List Item) (arranged : IsArranged items) where
       by_test true l r = (omega arith, rises_lower (suc (boxes_before items p.node)) (boxes_before items p.node + 2) ks (omega arith) r)
       by_test false l r = rises_lower (boxes_before items p.node) (boxes_before items p.node + 1) ks (omega arith) r
 
-  rise_in : (low n : ℕ) (ys : List Item) → Rises n (map node_of ys) → ((y : Item) → In y ys → In y items × (low ≤ boxes_before items (node_of y))) → Rises low (flat_map (kid_place items) ys)
+  rise_in : (low n : ℕ) (ys : List Item) → Rises n (map node_of ys) → ((y : Item) → Contains ys y → Contains items y × (low ≤ boxes_before items (node_of y))) → Rises low (flat_map (kid_place items) ys)
   rise_in low n [] r f = tt
   rise_in low n (y ∷ ys) r f =
-      let here = f y In.here in
+      let here = f y (first_member _ refl) in
       let rest = rise_in (boxes_before items (node_of y) + box_count y) (suc (node_of y)) ys r.1
-      (λ z i. let there = f z (In.there i) in
+      (λ z i. let there = f z (later_member _ i) in
       let after = rises_from (suc (node_of y)) (map node_of ys) (node_of z) r.1 (to_map node_of ys z i) in
       (there.0, order items arranged y z here.0 there.0 after)) in
       rises_lower low (boxes_before items (node_of y)) (kid_place items y ++ flat_map (kid_place items) ys) here.1 (rise_at y.part y.run (flat_map (kid_place items) ys) here.0 rest)
 
   -- the parts in a node's box stand after it
-  after_parent : (x y : Item) → In x items → In y (items_in items (node_of x)) → In y items × (own_place items (node_of x) < boxes_before items (node_of y))
+  after_parent : (x y : Item) → Contains items x → Contains (items_in items (node_of x)) y → Contains items y × (own_place items (node_of x) < boxes_before items (node_of y))
   after_parent x y i j =
       let chosen_y = from_filter (λ (item : Item). is_in (node_of x) item.part.parent) items y j in
       let up = arranged.parents y (node_of x) chosen_y.0 (some_from_is_in (node_of x) y.part.parent chosen_y.1) in
@@ -61,15 +61,18 @@ module _ (items : List Item) (arranged : IsArranged items) where
       let l = order items arranged x y i chosen_y.0 up.before in
       (chosen_y.0, omega (arith, within, l))
 
-  pub own_kids_rise : (x : Item) → In x items → Rises (suc (own_place items (node_of x))) (kid_places items (node_of x))
+  pub own_kids_rise : (x : Item) → Contains items x → Rises (suc (own_place items (node_of x))) (kid_places items (node_of x))
   own_kids_rise x i =
       rise_in (suc (own_place items (node_of x))) 0 (items_in items (node_of x))
       (rises_filter node_of (λ (item : Item). is_in (node_of x) item.part.parent) 0 items arranged.rises)
       (λ y j. after_parent x y i j)
 
-  kid_at : (p : Part) (run : Option (List ℕ)) (k : ℕ) → In (record { part = p; run = run }) items → In k (kid_place items (record { part = p; run = run })) → IsKidPlace items (record { part = p; run = run }) k
-  kid_at p None _ i In.here = record { box = own_box items (record { part = p; run = None }); at_box = own_box_at items arranged (record { part = p; run = None }) i; parent = refl }
-  kid_at p None k i (In.there j) = elim j [ ]
+  kid_at : (p : Part) (run : Option (List ℕ)) (k : ℕ) → Contains items (record { part = p; run = run }) → Contains (kid_place items (record { part = p; run = run })) k → IsKidPlace items (record { part = p; run = run }) k
+  kid_at p None k i j = record {
+    box = own_box items (record { part = p; run = None });
+    at_box = ap (slice_get (boxes_of items)) (sym (only_member (own_place items p.node) k j)) ∙ own_box_at items arranged (record { part = p; run = None }) i;
+    parent = refl;
+  }
   kid_at p (Some run) k i j =
       let here = from_one_if (first_of run == p.node) (boxes_before items p.node) k j in
       record {
@@ -79,7 +82,7 @@ module _ (items : List Item) (arranged : IsArranged items) where
       }
 
   -- each kid of a node's own box names it
-  pub own_kids_name : (x : Item) (k : ℕ) → In x items → In k (kid_places items (node_of x)) → (b : BoxNode) × (slice_get (boxes_of items) k ≡ Some b) × (b.parent ≡ Some (own_place items (node_of x)))
+  pub own_kids_name : (x : Item) (k : ℕ) → Contains items x → Contains (kid_places items (node_of x)) k → (b : BoxNode) × (slice_get (boxes_of items) k ≡ Some b) × (b.parent ≡ Some (own_place items (node_of x)))
   own_kids_name x k i j =
       let from = from_flat_map (kid_place items) (items_in items (node_of x)) k j in
       let y = from.0 in
@@ -105,29 +108,29 @@ module _ (items : List Item) (arranged : IsArranged items) where
       let o_k = rw (e, f) at o in
       omega (arith, within_j, from_k, o_k)
 
-  members_rise : (run : List ℕ) (low n : ℕ) (ks : List ℕ) → Rises n ks → ((k : ℕ) → In k ks → IsMember items run k × (low ≤ own_place items k)) → Rises low (map (own_place items) ks)
+  members_rise : (run : List ℕ) (low n : ℕ) (ks : List ℕ) → Rises n ks → ((k : ℕ) → Contains ks k → IsMember items run k × (low ≤ own_place items k)) → Rises low (map (own_place items) ks)
   members_rise run low n [] r f = tt
   members_rise run low n (k ∷ ks) r f =
-      let here = f k In.here in (
+      let here = f k (first_member _ refl) in (
         here.1,
         members_rise run (suc (own_place items k)) (suc k) ks r.1
-            (λ j i. let there = f j (In.there i) in (there.0, members_order run k j here.0 there.0 (rises_from (suc k) ks j r.1 i))),
+            (λ j i. let there = f j (later_member _ i) in (there.0, members_order run k j here.0 there.0 (rises_from (suc k) ks j r.1 i))),
       )
 
   -- each place in a run is after that of the anonymous block box
-  after_anonymous : (x : Item) (run : List ℕ) → In x items → x.run ≡ Some run → (first_of run == node_of x) ≡ true → (k : ℕ) → In k run → suc (boxes_before items (node_of x)) ≤ own_place items k
-  after_anonymous x [] i e t k j = elim j [ ]
-  after_anonymous x (f ∷ run) i e t _ In.here =
+  after_anonymous : (x : Item) (run : List ℕ) → Contains items x → x.run ≡ Some run → (first_of run == node_of x) ≡ true → (k : ℕ) → Contains run k → suc (boxes_before items (node_of x)) ≤ own_place items k
+  after_anonymous x [] i e t k j = no_member j
+  after_anonymous x (f ∷ run) i e t k j =
       let same = eqb-true f (node_of x) t in
-      let begins : begins_run x ≡ true = ap (λ (o : Option (List ℕ)). option_map_or (λ run. first_of run == node_of x) o false) e ∙ t in
+      by_member (λ m. suc (boxes_before items (node_of x)) ≤ own_place items m) f run k j
+      (let begins : begins_run x ≡ true = ap (λ (o : Option (List ℕ)). option_map_or (λ run. first_of run == node_of x) o false) e ∙ t in
       let is = own_place_is items arranged x i ∙ ap (λ (b : Bool). boxes_before items (node_of x) + (if b then 1 else 0)) begins in
       let there = ap (own_place items) same ∙ is in
-      omega (arith, there)
-  after_anonymous x (f ∷ run) i e t k (In.there j) =
-      let same = eqb-true f (node_of x) t in
+      omega (arith, there))
+      (λ h.
       let known = arranged.runs x (f ∷ run) i e in
-      let m = known.members k (In.there j) in
-      let after = rises_from (suc f) run k known.rises.1 j in
+      let m = known.members k (later_member _ h) in
+      let after = rises_from (suc f) run k known.rises.1 h in
       let within = own_place_within items arranged x i in
       let from_x = own_place_from items arranged x i in
       let from = own_place_from items arranged m.item m.inside in
@@ -135,14 +138,14 @@ module _ (items : List Item) (arranged : IsArranged items) where
       let node = m.node in
       let from_k = rw node at from in
       let o_k = rw node at o in
-      omega (arith, within, from_x, from_k, o_k)
+      omega (arith, within, from_x, from_k, o_k))
 
-  pub anonymous_kids_rise : (x : Item) (run : List ℕ) → In x items → x.run ≡ Some run → (first_of run == node_of x) ≡ true → Rises (suc (boxes_before items (node_of x))) (map (own_place items) run)
+  pub anonymous_kids_rise : (x : Item) (run : List ℕ) → Contains items x → x.run ≡ Some run → (first_of run == node_of x) ≡ true → Rises (suc (boxes_before items (node_of x))) (map (own_place items) run)
   anonymous_kids_rise x run i e t =
       let known = arranged.runs x run i e in
       members_rise run (suc (boxes_before items (node_of x))) 0 run known.rises (λ k j. (known.members k j, after_anonymous x run i e t k j))
 
-  pub anonymous_kids_name : (x : Item) (run : List ℕ) (place : ℕ) → In x items → x.run ≡ Some run → (first_of run == node_of x) ≡ true → In place (map (own_place items) run)
+  pub anonymous_kids_name : (x : Item) (run : List ℕ) (place : ℕ) → Contains items x → x.run ≡ Some run → (first_of run == node_of x) ≡ true → Contains (map (own_place items) run) place
       → (b : BoxNode) × (slice_get (boxes_of items) place ≡ Some b) × (b.parent ≡ Some (boxes_before items (node_of x)))
   anonymous_kids_name x run place i e t j =
       let from = from_map (own_place items) run place j in
@@ -163,14 +166,14 @@ module _ (items : List Item) (arranged : IsArranged items) where
 -- ---- each box is a node's own or an anonymous block box
 
 pub data IsBoxOf (items : List Item) (at : ℕ) (b : BoxNode) : Type 0 where
-  own : (x : Item) → In x items → at ≡ own_place items (node_of x) → b ≡ own_box items x → IsBoxOf items at b
-  anonymous : (x : Item) (run : List ℕ) → In x items → x.run ≡ Some run → (first_of run == node_of x) ≡ true → at ≡ boxes_before items (node_of x) → b ≡ anonymous_box items x.part run → IsBoxOf items at b
+  own : (x : Item) → Contains items x → at ≡ own_place items (node_of x) → b ≡ own_box items x → IsBoxOf items at b
+  anonymous : (x : Item) (run : List ℕ) → Contains items x → x.run ≡ Some run → (first_of run == node_of x) ≡ true → at ≡ boxes_before items (node_of x) → b ≡ anonymous_box items x.part run → IsBoxOf items at b
 
 module _ (items : List Item) (arranged : IsArranged items) (at : ℕ) (b : BoxNode) where
-  own_from : (x : Item) (offset : ℕ) → In x items → at ≡ boxes_before items (node_of x) + offset → (if begins_run x then 1 else 0) ≡ offset → own_box items x ≡ b → IsBoxOf items at b
+  own_from : (x : Item) (offset : ℕ) → Contains items x → at ≡ boxes_before items (node_of x) + offset → (if begins_run x then 1 else 0) ≡ offset → own_box items x ≡ b → IsBoxOf items at b
   own_from x offset i p o e = let is = own_place_is items arranged x i in IsBoxOf.own x i (omega (arith, p, o, is)) (sym e)
 
-  by_test : (p : Part) (run : List ℕ) (offset : ℕ) (t : Bool) → In (record { part = p; run = Some run }) items → at ≡ boxes_before items p.node + offset → (first_of run == p.node) ≡ t
+  by_test : (p : Part) (run : List ℕ) (offset : ℕ) (t : Bool) → Contains items (record { part = p; run = Some run }) → at ≡ boxes_before items p.node + offset → (first_of run == p.node) ≡ t
       → slice_get (with_anonymous items (record { part = p; run = Some run }) t (Some run)) offset ≡ Some b → IsBoxOf items at b
   by_test p run zero true i a s e = IsBoxOf.anonymous (record { part = p; run = Some run }) run i refl s (omega (arith, a)) (sym (some_same e))
     where
@@ -187,7 +190,7 @@ module _ (items : List Item) (arranged : IsArranged items) (at : ℕ) (b : BoxNo
       some_same e = cc
   by_test p run (suc offset) false i a s e = absurd (cc)
 
-  by_run : (p : Part) (run : Option (List ℕ)) (offset : ℕ) → In (record { part = p; run = run }) items → at ≡ boxes_before items p.node + offset
+  by_run : (p : Part) (run : Option (List ℕ)) (offset : ℕ) → Contains items (record { part = p; run = run }) → at ≡ boxes_before items p.node + offset
       → slice_get (boxes_at items (record { part = p; run = run })) offset ≡ Some b → IsBoxOf items at b
   by_run p None zero i a e = own_from (record { part = p; run = None }) 0 i a refl (some_same e)
     where
@@ -207,24 +210,24 @@ pub ascends_from : (low : ℕ) (ks : List ℕ) → Rises (suc low) ks → IsTrue
 ascends_from low [] r = refl
 ascends_from low (k ∷ ks) r = let l = lt-ltb low k r.0 in rw l (ascends_from k ks r.1)
 
-named_all : (boxes : List BoxNode) (at : ℕ) (ks : List ℕ) → ((k : ℕ) → In k ks → (b : BoxNode) × (slice_get boxes k ≡ Some b) × (b.parent ≡ Some at)) → IsTrue (list_all (box_passes (is_kid_of at) boxes) ks)
+named_all : (boxes : List BoxNode) (at : ℕ) (ks : List ℕ) → ((k : ℕ) → Contains ks k → (b : BoxNode) × (slice_get boxes k ≡ Some b) × (b.parent ≡ Some at)) → IsTrue (list_all (box_passes (is_kid_of at) boxes) ks)
 named_all boxes at [] f = refl
 named_all boxes at (k ∷ ks) f =
-    let here = f k In.here in
+    let here = f k (first_member _ refl) in
     let passes : box_passes (is_kid_of at) boxes k ≡ true = ap (λ (o : Option BoxNode). option_map_or (is_kid_of at) o false) here.1 ∙ (ap (λ (o : Option ℕ). option_map_or (λ p. p == at) o false) here.2 ∙ eq-eqb at at refl) in
-    rw passes (named_all boxes at ks (λ j i. f j (In.there i)))
+    rw passes (named_all boxes at ks (λ j i. f j (later_member _ i)))
 
 module _ (items : List Item) (arranged : IsArranged items) where
   rising_kids : (at : ℕ) (b : BoxNode) → IsBoxOf items at b → Rises (suc at) b.kids
   rising_kids at b (IsBoxOf.own x i p e) = subst (λ (c : BoxNode). Rises (suc at) c.kids) (sym e) (subst (λ n. Rises (suc n) (kid_places items (node_of x))) (sym p) (own_kids_rise items arranged x i))
   rising_kids at b (IsBoxOf.anonymous x run i r t p e) = subst (λ (c : BoxNode). Rises (suc at) c.kids) (sym e) (subst (λ n. Rises (suc n) (map (own_place items) run)) (sym p) (anonymous_kids_rise items arranged x run i r t))
 
-  naming_kids : (at : ℕ) (b : BoxNode) → IsBoxOf items at b → (k : ℕ) → In k b.kids → (c : BoxNode) × (slice_get (boxes_of items) k ≡ Some c) × (c.parent ≡ Some at)
+  naming_kids : (at : ℕ) (b : BoxNode) → IsBoxOf items at b → (k : ℕ) → Contains b.kids k → (c : BoxNode) × (slice_get (boxes_of items) k ≡ Some c) × (c.parent ≡ Some at)
   naming_kids at b (IsBoxOf.own x i p e) k j =
-      let there = own_kids_name items arranged x k i (subst (λ (c : BoxNode). In k c.kids) e j) in
+      let there = own_kids_name items arranged x k i (subst (λ (c : BoxNode). Contains c.kids k) e j) in
       (there.0, there.1, there.2 ∙ ap Some (sym p))
   naming_kids at b (IsBoxOf.anonymous x run i r t p e) k j =
-      let there = anonymous_kids_name items arranged x run k i r t (subst (λ (c : BoxNode). In k c.kids) e j) in
+      let there = anonymous_kids_name items arranged x run k i r t (subst (λ (c : BoxNode). Contains c.kids k) e j) in
       (there.0, there.1, there.2 ∙ ap Some (sym p))
 
   pub kids_ascend : (at : ℕ) (b : BoxNode) → slice_get (boxes_of items) at ≡ Some b → IsTrue (ascends at b.kids)
@@ -233,5 +236,5 @@ module _ (items : List Item) (arranged : IsArranged items) where
   pub kids_name : (at : ℕ) (b : BoxNode) → slice_get (boxes_of items) at ≡ Some b → IsTrue (list_all (box_passes (is_kid_of at) (boxes_of items)) b.kids)
   kids_name at b e = named_all (boxes_of items) at b.kids (λ k i. naming_kids at b (box_is items arranged at b e) k i)
 
-  pub kids_place : (at : ℕ) (b : BoxNode) → slice_get (boxes_of items) at ≡ Some b → (k : ℕ) → In k b.kids → (c : BoxNode) × (slice_get (boxes_of items) k ≡ Some c) × (c.parent ≡ Some at)
+  pub kids_place : (at : ℕ) (b : BoxNode) → slice_get (boxes_of items) at ≡ Some b → (k : ℕ) → Contains b.kids k → (c : BoxNode) × (slice_get (boxes_of items) k ≡ Some c) × (c.parent ≡ Some at)
   kids_place at b e k i = naming_kids at b (box_is items arranged at b e) k i

@@ -1,5 +1,5 @@
 -- The parts of a page, after white space has gone: what each one is, and that they are arranged.
-use Rattle.std.proofs.Common.{◌≡◌, ℕ, suc, Bool, true, false, not, ◌==◌, ◌&&◌, List, [], ◌∷◌, map, length, Option, Some, None, option_and_then, slice_get, refl, sym, ◌∙◌, ap, subst, arith, if◌then◌else◌}
+use Rattle.std.proofs.Common.{◌≡◌, ℕ, suc, Bool, true, false, not, ◌==◌, ◌&&◌, List, [], ◌∷◌, map, length, Option, Some, None, option_and_then, slice_get, refl, sym, ◌∙◌, ap, subst, arith, if◌then◌else◌, Contains}
 use Rattle.std.specs.Option.{option_map_or}
 use Rattle.std.proofs.lemmas.Option.{slice_get_within}
 use Rattle.std.proofs.lemmas.Bool.{not-true}
@@ -17,7 +17,7 @@ use Rattle.layout_semantics.specs.Elements.{is_shown, parent_of}
 use Rattle.layout_semantics.specs.Parts.{Part, Level, kind_of_node, level_kind, inline_kind, level_of, part_of, shown_parts}
 use Rattle.layout_semantics.specs.WhiteSpace.{collapsed, collapsed_part, is_bare}
 pub use Rattle.layout_semantics.proofs.Pages.{slice_some}
-use Rattle.layout_laws.proofs.Members.{In, Rises, rises_filter, to_map, from_map, from_filter, to_filter}
+use Rattle.layout_laws.proofs.Members.{Rises, rises_filter, to_map, from_map, from_filter, to_filter}
 use Rattle.layout_laws.proofs.Shown.{from_shown, to_shown, shown_rise}
 use Rattle.layout_laws.proofs.Above.{parent_is, parent_shown}
 use Rattle.layout_laws.proofs.Runs.{AreParts}
@@ -72,7 +72,7 @@ part_shape : (parts : List Part) (q r p : Part) → q ≡ r → collapsed_part p
 part_shape parts q r p e f = sym f ∙ (ap (λ (t : List ℕ). record q { text = t }) (ap (λ (o : Part). o.text) f) ∙ ap (λ (o : Part). record o { text = p.text }) e)
 
 module _ (nodes : List Node) (styles : List Style) where
-  pub from_page : (p : Part) → In p (collapsed (shown_parts nodes styles)) → IsPagePart nodes styles p
+  pub from_page : (p : Part) → Contains (collapsed (shown_parts nodes styles)) p → IsPagePart nodes styles p
   from_page p i =
       let all = shown_parts nodes styles in
       let kept = from_filter (λ p. not (is_bare p)) (map (collapsed_part all) all) p i in
@@ -101,7 +101,7 @@ module _ (nodes : List Node) (styles : List Style) where
 
   -- an element that is shown has a part
   pub to_page : (at : ℕ) (n : Node) (s : Style) → slice_get nodes at ≡ Some n → slice_get styles at ≡ Some s → is_shown nodes styles at ≡ true → is_element n.body ≡ true
-      → (p : Part) × In p (collapsed (shown_parts nodes styles)) × (p.node ≡ at)
+      → (p : Part) × Contains (collapsed (shown_parts nodes styles)) p × (p.node ≡ at)
   to_page at n s e t h element =
       let all = shown_parts nodes styles in
       let bare : not (is_bare (collapsed_part all (part_of nodes styles at n s))) ≡ true = by_kind (is_chars (kind_of_node (at == 0) n.body s)) (no_chars n.body (at == 0) s element) (length (collapsed_part all (part_of nodes styles at n s)).text == 0) in

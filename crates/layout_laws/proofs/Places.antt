@@ -1,9 +1,9 @@
 -- The places of boxes: where each one stands in the list of boxes, and that places rise with nodes.
-use Rattle.std.proofs.Common.{◌≡◌, ℕ, zero, suc, ◌+◌, ◌<◌, ◌≤◌, Bool, true, false, nat_lt, List, [], ◌∷◌, ◌++◌, map, sum, flat_map, length, Some, slice_get, refl, sym, ◌∙◌, ap, subst, arith, if◌then◌else◌, zero-add, ltb-true, ltb-false, lt-ltb, le-ltb, ◌-◌, filter}
+use Rattle.std.proofs.Common.{◌≡◌, ℕ, zero, suc, ◌+◌, ◌<◌, ◌≤◌, Bool, true, false, nat_lt, List, [], ◌∷◌, ◌++◌, map, sum, flat_map, length, Some, slice_get, refl, sym, ◌∙◌, ap, subst, arith, if◌then◌else◌, zero-add, ltb-true, ltb-false, lt-ltb, le-ltb, ◌-◌, filter, Contains}
 use Rattle.std.proofs.lemmas.List.Sums.{sum_by-cons}
 use Rattle.viz_base.specs.declared.trees.BoxNode.{BoxNode}
 use Rattle.layout_semantics.specs.BoxTrees.{Item, box_count, is_before, boxes_before}
-use Rattle.layout_laws.proofs.Members.{In, Rises, rises_from, to_map}
+use Rattle.layout_laws.proofs.Members.{Rises, rises_from, to_map, no_member, first_member, later_member, by_member}
 
 abbrev pub node_of : Item → ℕ
 node_of item = item.part.node
@@ -42,23 +42,25 @@ slice_back [] ys j = ap (slice_get ys) (zero-add j)
 slice_back (x ∷ xs) ys j = let e : suc (length xs) + j ≡ suc (length xs + j) = omega arith in rw e (slice_back xs ys j)
 
 module _ (f : Item → List BoxNode) (counts : (y : Item) → length (f y) ≡ box_count y) where
-  pub box_at : (low : ℕ) (items : List Item) (x : Item) (j : ℕ) → Rises low (map node_of items) → In x items → j < length (f x) → slice_get (flat_map f items) (boxes_before items (node_of x) + j) ≡ slice_get (f x) j
-  box_at low [] x j r i l = elim i [ ]
-  box_at low (x ∷ xs) _ j r In.here l =
-      let first = before_first x xs (node_of x) (omega arith) ∙ before_none (suc (node_of x)) xs (node_of x) r.1 (omega arith) in
+  pub box_at : (low : ℕ) (items : List Item) (x : Item) (j : ℕ) → Rises low (map node_of items) → Contains items x → j < length (f x) → slice_get (flat_map f items) (boxes_before items (node_of x) + j) ≡ slice_get (f x) j
+  box_at low [] x j r i l = no_member i
+  box_at low (y ∷ xs) x j r i l =
+      by_member (λ z. j < length (f z) → slice_get (flat_map f (y ∷ xs)) (boxes_before (y ∷ xs) (node_of z) + j) ≡ slice_get (f z) j) y xs x i
+      (λ h.
+      let first = before_first y xs (node_of y) (omega arith) ∙ before_none (suc (node_of y)) xs (node_of y) r.1 (omega arith) in
       let none = zero-add j in
-      rw (first, none) (slice_front (f x) (flat_map f xs) j l)
-  box_at low (y ∷ xs) x j r (In.there i) l =
-      let after = rises_from (suc (node_of y)) (map node_of xs) (node_of x) r.1 (to_map node_of xs x i) in
+      rw (first, none) (slice_front (f y) (flat_map f xs) j h))
+      (λ k h.
+      let after = rises_from (suc (node_of y)) (map node_of xs) (node_of x) r.1 (to_map node_of xs x k) in
       let later = before_later y xs (node_of x) (omega (arith, after)) in
       let c = counts y in
       let e : (box_count y + boxes_before xs (node_of x)) + j ≡ length (f y) + (boxes_before xs (node_of x) + j) = omega (arith, c) in
-      rw (later, e) (slice_back (f y) (flat_map f xs) (boxes_before xs (node_of x) + j) ∙ box_at (suc (node_of y)) xs x j r.1 i l)
+      rw (later, e) (slice_back (f y) (flat_map f xs) (boxes_before xs (node_of x) + j) ∙ box_at (suc (node_of y)) xs x j r.1 k h)) l
 
 -- a box of the list is one of those at a node
 pub record Found (f : Item → List BoxNode) (items : List Item) (at : ℕ) (b : BoxNode) : Type 0 where
   pub item : Item
-  pub inside : In item items
+  pub inside : Contains items item
   pub offset : ℕ
   pub place : at ≡ boxes_before items (node_of item) + offset
   pub is : slice_get (f item) offset ≡ Some b
@@ -70,7 +72,7 @@ module _ (f : Item → List BoxNode) (counts : (y : Item) → length (f y) ≡ b
       let later = before_later x xs (node_of t.item) (omega (arith, after)) in
       let c = counts x in
       let p = t.place in
-      record { item = t.item; inside = In.there t.inside; offset = t.offset; place = omega (arith, later, c, p, e); is = t.is }
+      record { item = t.item; inside = later_member _ t.inside; offset = t.offset; place = omega (arith, later, c, p, e); is = t.is }
 
   pub found : (low : ℕ) (items : List Item) (at : ℕ) (b : BoxNode) → Rises low (map node_of items) → slice_get (flat_map f items) at ≡ Some b → Found f items at b
   found low [] at b r e = absurd (cc)
@@ -80,7 +82,7 @@ module _ (f : Item → List BoxNode) (counts : (y : Item) → length (f y) ≡ b
       by_test true s again =
           let l = ltb-true at (length (f x)) s in
           let first = before_first x xs (node_of x) (omega arith) ∙ before_none (suc (node_of x)) xs (node_of x) r.1 (omega arith) in
-          record { item = x; inside = In.here; offset = at; place = omega (arith, first); is = sym (slice_front (f x) (flat_map f xs) at l) ∙ e }
+          record { item = x; inside = first_member _ refl; offset = at; place = omega (arith, first); is = sym (slice_front (f x) (flat_map f xs) at l) ∙ e }
       by_test false s again =
           let l = ltb-false at (length (f x)) s in
           let k : at ≡ length (f x) + (at - length (f x)) = omega (arith, l) in

@@ -1,5 +1,6 @@
 -- Where the blocks of a page stand in normal flow without floats and clearance.
-use Rattle.std.proofs.Common.{◌≡◌, ℕ, zero, suc, ◌+◌, ◌<◌, ◌≤◌, ℤ, ◌+ℤ◌, Bool, true, false, ◌⊎◌, inl, inr, IsTrue, List, [], ◌∷◌, ◌++◌, flat_map, length, fold, refl, sym, ap, ◌∙◌, subst, arith, append-nil, append_assoc}
+use Rattle.std.proofs.Common.{◌≡◌, ℕ, zero, suc, ◌+◌, ◌<◌, ◌≤◌, ℤ, ◌+ℤ◌, Bool, true, false, ◌⊎◌, inl, inr, IsTrue, List, [], ◌∷◌, ◌++◌, flat_map, length, fold, refl, sym, ap, ◌∙◌, subst, arith, append-nil, append_assoc, Contains}
+use Rattle.std.proofs.lemmas.List.Elements.{Contains-append_left, Contains-append_right, Contains-append_cases}
 use Rattle.std.specs.List.{list_all, AllByRecursion}
 use Rattle.std.proofs.lemmas.Grind.{fold-append}
 use Rattle.std.proofs.lemmas.Int.{ints}
@@ -14,25 +15,10 @@ use Rattle.layout_semantics.specs.FlowBoxes.{is_replaced_at, is_context_root, is
 use Rattle.layout_semantics.specs.Flow.{Standing, at_top, below, Progress, Reached, reached, child, flow_to}
 use Rattle.layout_semantics.proofs.Forest.{both}
 use Rattle.layout_laws.specs.PlainFlow.{HasPlainBlocks, content_of, leading, all_margins, collapses, trailing}
-use Rattle.layout_laws.proofs.Members.{In, from_append}
+use Rattle.layout_laws.proofs.Members.{no_member, first_member, later_member, first_or_later}
 use Rattle.layout_laws.proofs.Flowing.{frame_of}
 use Rattle.layout_laws.proofs.PlainSteps.{IsPlain, edge_after, passed_by, started, inner_start, inner_height, entry_of, reached-plain, Behaves, step, plain-after, kids_reached, flow-is, flow-behaves}
 use Rattle.layout_laws.proofs.PlainTraces.{Tracing, content_trace, child_trace, children_trace, children_trace-append, trace_to, AreTraced, inner-floats, inner-standing, children-traced, children-ordered}
-
--- ---- members
-
-pub in_left : {A : Type 0} (x : A) (xs ys : List A) → In x xs → In x (xs ++ ys)
-in_left x [] ys i = elim i [ ]
-in_left _ (x ∷ xs) ys In.here = In.here
-in_left x (y ∷ xs) ys (In.there i) = In.there (in_left x xs ys i)
-
-in_right : {A : Type 0} (x : A) (xs ys : List A) → In x ys → In x (xs ++ ys)
-in_right x [] ys i = i
-in_right x (y ∷ xs) ys i = In.there (in_right x xs ys i)
-
-pub from_cons : {A : Type 0} (x y : A) (xs : List A) → In x (y ∷ xs) → (x ≡ y) ⊎ In x xs
-from_cons x _ xs In.here = inl refl
-from_cons x y xs (In.there i) = inr i
 
 all_left : (P : ℕ → Type 0) (xs ys : List ℕ) → AllByRecursion P (xs ++ ys) → AllByRecursion P xs
 all_left P [] ys a = tt
@@ -57,21 +43,21 @@ passed-twice (below edge run stuck) m n = ap (λ (l : List ℤ). below edge l st
 module _ (tree : BoxTree) (w : World) (height : ℕ) where
   pub record KidsStand (trace : List (ℕ × Placed ℤ)) (b : ℕ) (cb : Band ℤ) (top y : ℤ) (opens : Bool) : Type 0 where
     pub first : (passed : List ℕ) (c : ℕ) (after : List ℕ) → kids_of tree.boxes b ≡ passed ++ c ∷ after → IsTrue (list_all (collapses tree w height) passed)
-        → (p : Placed ℤ) × In (c, p) trace × (p.border.top ≡ edge_after (passed_by (started y top opens) (flat_map (all_margins tree w height cb) passed)) (leading tree w height cb c))
+        → (p : Placed ℤ) × Contains trace (c, p) × (p.border.top ≡ edge_after (passed_by (started y top opens) (flat_map (all_margins tree w height cb) passed)) (leading tree w height cb c))
     pub next : (before : List ℕ) (u : ℕ) (passed : List ℕ) (c : ℕ) (after : List ℕ) → kids_of tree.boxes b ≡ before ++ u ∷ (passed ++ c ∷ after)
         → collapses tree w height u ≡ false → IsTrue (list_all (collapses tree w height) passed)
-        → (q : Placed ℤ) × (p : Placed ℤ) × In (u, q) trace × In (c, p) trace
+        → (q : Placed ℤ) × (p : Placed ℤ) × Contains trace (u, q) × Contains trace (c, p)
         × (p.border.top ≡ q.border.bottom +ℤ collapsed (trailing tree w height cb u ++ (flat_map (all_margins tree w height cb) passed ++ leading tree w height cb c)))
 
   -- in a longer trace
-  pub stand-more : (trace more : List (ℕ × Placed ℤ)) (b : ℕ) (cb : Band ℤ) (top y : ℤ) (opens : Bool) → ((e : ℕ × Placed ℤ) → In e trace → In e more) → KidsStand trace b cb top y opens → KidsStand more b cb top y opens
+  pub stand-more : (trace more : List (ℕ × Placed ℤ)) (b : ℕ) (cb : Band ℤ) (top y : ℤ) (opens : Bool) → ((e : ℕ × Placed ℤ) → Contains trace e → Contains more e) → KidsStand trace b cb top y opens → KidsStand more b cb top y opens
   stand-more trace more b cb top y opens f k = record {
     first = λ passed c after e t. let r = k.first passed c after e t in (r.0, f (c, r.0) r.1, r.2);
     next = λ before u passed c after e n t. let r = k.next before u passed c after e n t in (r.0, r.1, f (u, r.0) r.2, f (c, r.1) r.3, r.4);
   }
 
   abbrev pub EachStands : List (ℕ × Placed ℤ) → Type 0
-  EachStands trace = (a : ℕ) (p : Placed ℤ) → In (a, p) trace → KidsStand trace a (content_of p) p.content.top p.border.top (is_open_above tree a)
+  EachStands trace = (a : ℕ) (p : Placed ℤ) → Contains trace (a, p) → KidsStand trace a (content_of p) p.content.top p.border.top (is_open_above tree a)
 
   abbrev pub AllStand : (ℕ → Band ℤ → ℤ → Progress → Progress) → Tracing → ℕ → Type 0
   AllStand inside traced levels = (b : ℕ) (cb : Band ℤ) (top y : ℤ) (p : Progress) (opens : Bool) → b < length tree.boxes → length tree.boxes ≤ levels + b
@@ -100,10 +86,10 @@ module _ (tree : BoxTree) (w : World) (height : ℕ) where
         ∙ passed-twice p.standing (all_margins tree w height cb k) (flat_map (all_margins tree w height cb) ks))
 
     in-trace : (cb : Band ℤ) (top : ℤ) (p : Progress) (pre : List ℕ) (c : ℕ) (post : List ℕ)
-        → In (c, entry_of tree w height inside cb (fold (child tree w height inside cb top) p pre) c) (children_trace tree w height inside traced cb top p (pre ++ c ∷ post))
+        → Contains (children_trace tree w height inside traced cb top p (pre ++ c ∷ post)) (c, entry_of tree w height inside cb (fold (child tree w height inside cb top) p pre) c)
     in-trace cb top p pre c post =
-        subst (λ (l : List (ℕ × Placed ℤ)). In (c, entry_of tree w height inside cb (fold (child tree w height inside cb top) p pre) c) l) (sym (children_trace-append tree w height inside traced cb top p pre (c ∷ post)))
-        (in_right _ (children_trace tree w height inside traced cb top p pre) _ In.here)
+        subst (λ (l : List (ℕ × Placed ℤ)). Contains l (c, entry_of tree w height inside cb (fold (child tree w height inside cb top) p pre) c)) (sym (children_trace-append tree w height inside traced cb top p pre (c ∷ post)))
+        (Contains-append_right (children_trace tree w height inside traced cb top p pre) _ _ (first_member _ refl))
 
     entry-top : (cb : Band ℤ) (p : Progress) (c : ℕ) → IsPlain p.standing → (entry_of tree w height inside cb p c).border.top ≡ edge_after p.standing (leading tree w height cb c)
     entry-top cb p c i = ap (λ (r : Reached). r.top) (reached-plain tree w height plain inside cb p c i)
@@ -124,9 +110,9 @@ module _ (tree : BoxTree) (w : World) (height : ℕ) where
       after : List ℕ → Progress
       after ks = fold (child tree w height inside cb top) p ks
 
-      in-all : (pre : List ℕ) (c : ℕ) (post : List ℕ) → kids_of tree.boxes b ≡ pre ++ c ∷ post → In (c, entry_of tree w height inside cb (after pre) c) all
+      in-all : (pre : List ℕ) (c : ℕ) (post : List ℕ) → kids_of tree.boxes b ≡ pre ++ c ∷ post → Contains all (c, entry_of tree w height inside cb (after pre) c)
       unfolding after
-      in-all pre c post e = subst (λ (ks : List ℕ). In (c, entry_of tree w height inside cb (after pre) c) (children_trace tree w height inside traced cb top p ks)) (sym e) (in-trace cb top p pre c post)
+      in-all pre c post e = subst (λ (ks : List ℕ). Contains (children_trace tree w height inside traced cb top p ks) (c, entry_of tree w height inside cb (after pre) c)) (sym e) (in-trace cb top p pre c post)
 
       reach-left : (pre post : List ℕ) → kids_of tree.boxes b ≡ pre ++ post → AllByRecursion Reach pre
       reach-left pre post e = all_left Reach pre post (subst (AllByRecursion Reach) e reach)
@@ -202,7 +188,7 @@ module _ (tree : BoxTree) (w : World) (height : ℕ) where
         )
 
     child-each : (cb : Band ℤ) (p : Progress) (k : ℕ) → Reach k → p.floats ≡ [] → EachStands (child_trace tree w height inside traced cb p k)
-    child-each cb p k r none a q i = by_part (from_cons (a, q) (k, entry_of tree w height inside cb p k) content i)
+    child-each cb p k r none a q i = by_part (first_or_later (k, entry_of tree w height inside cb p k) content (a, q) i)
       where
         content : List (ℕ × Placed ℤ)
         content = content_trace tree w height inside traced cb p k (framed cb p k)
@@ -213,16 +199,16 @@ module _ (tree : BoxTree) (w : World) (height : ℕ) where
         stands_as : ℕ × Placed ℤ → Type 0
         stands_as e = KidsStand (child_trace tree w height inside traced cb p k) e.0 (content_of e.1) e.1.content.top e.1.border.top (is_open_above tree e.0)
 
-        by_part : (◌≡◌ {A = ℕ × Placed ℤ} (a, q) (k, entry_of tree w height inside cb p k)) ⊎ In (a, q) content → stands_as (a, q)
-        by_part (inl same) = subst stands_as (sym same) (stand-more content (child_trace tree w height inside traced cb p k) k _ _ _ (is_open_above tree k) (λ e j. In.there j) own.0)
-        by_part (inr j) = stand-more content (child_trace tree w height inside traced cb p k) a _ _ _ (is_open_above tree a) (λ e h. In.there h) (own.1 a q j)
+        by_part : (◌≡◌ {A = ℕ × Placed ℤ} (k, entry_of tree w height inside cb p k) (a, q)) ⊎ Contains content (a, q) → stands_as (a, q)
+        by_part (inl same) = subst stands_as same (stand-more content (child_trace tree w height inside traced cb p k) k _ _ _ (is_open_above tree k) (λ e j. later_member _ j) own.0)
+        by_part (inr j) = stand-more content (child_trace tree w height inside traced cb p k) a _ _ _ (is_open_above tree a) (λ e h. later_member _ h) (own.1 a q j)
 
     children-each : (cb : Band ℤ) (top : ℤ) (ks : List ℕ) (p : Progress) → AllByRecursion Reach ks → p.floats ≡ [] → IsPlain p.standing → EachStands (children_trace tree w height inside traced cb top p ks)
-    children-each cb top [] p r none i a q j = elim j [ ]
+    children-each cb top [] p r none i a q j = no_member j
     children-each cb top (k ∷ ks) p r none i a q j =
         let s = step tree w height plain inside levels behaves cb top p k r.0.0 r.0.1 none i in
         let next = child tree w height inside cb top p k in
-        by_part (from_append (child_trace tree w height inside traced cb p k) (children_trace tree w height inside traced cb top next ks) (a, q) j)
+        by_part (Contains-append_cases (child_trace tree w height inside traced cb p k) (children_trace tree w height inside traced cb top next ks) (a, q) j)
         (children-each cb top ks next r.1 s.floats (plain-after tree w height plain inside levels behaves cb top p k i s))
       where
         first : List (ℕ × Placed ℤ)
@@ -231,9 +217,9 @@ module _ (tree : BoxTree) (w : World) (height : ℕ) where
         rest : List (ℕ × Placed ℤ)
         rest = children_trace tree w height inside traced cb top (child tree w height inside cb top p k) ks
 
-        by_part : In (a, q) first ⊎ In (a, q) rest → EachStands rest → KidsStand (first ++ rest) a (content_of q) q.content.top q.border.top (is_open_above tree a)
-        by_part (inl h) again = stand-more first (first ++ rest) a _ _ _ (is_open_above tree a) (λ e g. in_left e first rest g) (child-each cb p k r.0 none a q h)
-        by_part (inr h) again = stand-more rest (first ++ rest) a _ _ _ (is_open_above tree a) (λ e g. in_right e first rest g) (again a q h)
+        by_part : Contains first (a, q) ⊎ Contains rest (a, q) → EachStands rest → KidsStand (first ++ rest) a (content_of q) q.content.top q.border.top (is_open_above tree a)
+        by_part (inl h) again = stand-more first (first ++ rest) a _ _ _ (is_open_above tree a) (λ e g. Contains-append_left first rest e g) (child-each cb p k r.0 none a q h)
+        by_part (inr h) again = stand-more rest (first ++ rest) a _ _ _ (is_open_above tree a) (λ e g. Contains-append_right first rest e g) (again a q h)
 
   -- ---- all levels
 

@@ -1,5 +1,6 @@
 -- Where the blocks of a whole page stand in normal flow without floats and clearance.
-use Rattle.std.proofs.Common.{◌≡◌, ℕ, zero, suc, ◌<◌, ◌*◌, ℤ, pos, ◌+ℤ◌, Bool, true, false, ◌⊎◌, inl, inr, IsTrue, List, [], ◌∷◌, ◌++◌, map, flat_map, length, slice_get, refl, sym, ap, ◌∙◌, subst, arith, append-nil, Option, Some}
+use Rattle.std.proofs.Common.{◌≡◌, ℕ, zero, suc, ◌<◌, ◌*◌, ℤ, pos, ◌+ℤ◌, Bool, true, false, ◌⊎◌, inl, inr, IsTrue, List, [], ◌∷◌, ◌++◌, map, flat_map, length, slice_get, refl, sym, ap, ◌∙◌, subst, arith, append-nil, Option, Some, Contains}
+use Rattle.std.proofs.lemmas.Option.{slice_get_read}
 use Rattle.std.specs.List.{list_all}
 use Rattle.std.specs.Option.{option_map_or}
 use Rattle.std.proofs.lemmas.Bool.{cases_order}
@@ -23,18 +24,16 @@ use Rattle.layout_semantics.specs.Page.{page_rendering}
 use Rattle.layout_semantics.proofs.Pages.{forest, page-distinct}
 use Rattle.layout_semantics.proofs.Orders.{document_order-is}
 use Rattle.layout_laws.specs.PlainFlow.{HasPlainBlocks, IsEntryOf, content_of, leading, all_margins, collapses, trailing}
-use Rattle.layout_laws.proofs.Members.{In}
+use Rattle.layout_laws.proofs.Members.{first_member, later_member, first_or_later}
 use Rattle.layout_laws.proofs.Flowing.{replaced_holds_none}
 use Rattle.layout_laws.proofs.PlainSteps.{edge_after, passed_by, started}
 use Rattle.layout_laws.proofs.PlainTraces.{boxes_in, entries_in, trace_to, IsTrace, map_none}
-use Rattle.layout_laws.proofs.PlainLaws.{KidsStand, EachStands, stand-more, from_cons, flow-traced, flow-stands}
+use Rattle.layout_laws.proofs.PlainLaws.{KidsStand, EachStands, stand-more, flow-traced, flow-stands}
 
 -- ---- places in lists
 
-in_place : {A : Type 0} (x : A) (xs : List A) → In x xs → (i : ℕ) × (i < length xs) × (slice_get xs i ≡ Some x)
-in_place x [] i = elim i [ ]
-in_place _ (x ∷ xs) In.here = (zero, omega arith, refl)
-in_place x (y ∷ xs) (In.there i) = let r = in_place x xs i in (suc r.0, omega (arith, r.1), r.2)
+in_place : {A : Type 0} (x : A) (xs : List A) → Contains xs x → (i : ℕ) × (i < length xs) × (slice_get xs i ≡ Some x)
+in_place x xs i = (i.0, i.1, slice_get_read xs (length xs) i.0 x refl i.1 (sym i.2))
 
 map_place : {A B : Type 0} (f : A → B) (xs : List A) (i : ℕ) (x : A) → slice_get xs i ≡ Some x → slice_get (map f xs) i ≡ Some (f x)
 map_place f [] i x e = absurd (cc)
@@ -44,7 +43,7 @@ map_place {A} f (y ∷ ys) zero x e = ap Some (ap f (some_same y x e))
     some_same y x e = cc
 map_place f (y ∷ ys) (suc i) x e = map_place f ys i x e
 
-from_places : (trace : List (ℕ × Placed ℤ)) (i b : ℕ) (p : Placed ℤ) → slice_get (boxes_in trace) i ≡ Some b → slice_get (entries_in trace) i ≡ Some p → In (b, p) trace
+from_places : (trace : List (ℕ × Placed ℤ)) (i b : ℕ) (p : Placed ℤ) → slice_get (boxes_in trace) i ≡ Some b → slice_get (entries_in trace) i ≡ Some p → Contains trace (b, p)
 from_places [] i b p e f = absurd (cc)
 from_places (t ∷ ts) zero b p e f = by_same t (box_same t.0 b e) (entry_same t.1 p f)
   where
@@ -54,9 +53,9 @@ from_places (t ∷ ts) zero b p e f = by_same t (box_same t.0 b e) (entry_same t
     entry_same : (y x : Placed ℤ) → Some y ≡ Some x → y ≡ x
     entry_same y x e = cc
 
-    by_same : (t : ℕ × Placed ℤ) → t.0 ≡ b → t.1 ≡ p → In (b, p) (t ∷ ts)
-    by_same t e f = subst (λ (x : ℕ). In (x, p) (t ∷ ts)) e (subst (λ (q : Placed ℤ). In (t.0, q) (t ∷ ts)) f In.here)
-from_places (t ∷ ts) (suc i) b p e f = In.there (from_places ts i b p e f)
+    by_same : (t : ℕ × Placed ℤ) → t.0 ≡ b → t.1 ≡ p → Contains (t ∷ ts) (b, p)
+    by_same t e f = subst (λ (x : ℕ). Contains (t ∷ ts) (x, p)) e (subst (λ (q : Placed ℤ). Contains (t ∷ ts) (t.0, q)) f (first_member _ refl))
+from_places (t ∷ ts) (suc i) b p e f = later_member _ (from_places ts i b p e f)
 
 module _ (tree : BoxTree) (w : World) (height : ℕ) (plain : HasPlainBlocks tree) where
   -- ---- the root
@@ -123,11 +122,11 @@ module _ (tree : BoxTree) (w : World) (height : ℕ) (plain : HasPlainBlocks tre
 
   -- ---- entries
 
-  is_in : (b : ℕ) (p : Placed ℤ) → IsEntryOf tree w height b p → In (b, p) trace
+  is_in : (b : ℕ) (p : Placed ℤ) → IsEntryOf tree w height b p → Contains trace (b, p)
   is_in b p i = from_places trace i.place b p (ap (λ (l : List ℕ). slice_get l i.place) (sym order-is) ∙ i.box) (ap (λ (l : List (Placed ℤ)). slice_get l i.place) (sym rendering-is) ∙ i.entry)
 
   -- a box has one entry
-  only_one : (b : ℕ) (p q : Placed ℤ) → In (b, p) trace → In (b, q) trace → p ≡ q
+  only_one : (b : ℕ) (p q : Placed ℤ) → Contains trace (b, p) → Contains trace (b, q) → p ≡ q
   only_one b p q i j = by_order (cases_order m n)
     where
       m : ℕ
@@ -136,10 +135,10 @@ module _ (tree : BoxTree) (w : World) (height : ℕ) (plain : HasPlainBlocks tre
       n : ℕ
       n = (in_place (b, q) trace j).0
 
-      box_at : (x : Placed ℤ) (i : In (b, x) trace) → slice_get (page_order tree.boxes) (in_place (b, x) trace i).0 ≡ Some b
+      box_at : (x : Placed ℤ) (i : Contains trace (b, x)) → slice_get (page_order tree.boxes) (in_place (b, x) trace i).0 ≡ Some b
       box_at x i = ap (λ (l : List ℕ). slice_get l (in_place (b, x) trace i).0) order-is ∙ map_place (λ (e : ℕ × Placed ℤ). e.0) trace (in_place (b, x) trace i).0 (b, x) (in_place (b, x) trace i).2
 
-      within : (x : Placed ℤ) (i : In (b, x) trace) → (in_place (b, x) trace i).0 < length (page_order tree.boxes)
+      within : (x : Placed ℤ) (i : Contains trace (b, x)) → (in_place (b, x) trace i).0 < length (page_order tree.boxes)
       within x i = let l = (in_place (b, x) trace i).1 in let same = ap (λ (l : List ℕ). length l) order-is in let map_same = length-map trace (λ (e : ℕ × Placed ℤ). e.0) in omega (arith, l, same, map_same)
 
       by_order : (m ≡ n) ⊎ ((m < n) ⊎ (n < m)) → p ≡ q
@@ -156,9 +155,9 @@ module _ (tree : BoxTree) (w : World) (height : ℕ) (plain : HasPlainBlocks tre
 
   record PageStands (t : List (ℕ × Placed ℤ)) : Type 0 where
     root : Placed ℤ
-    root_in : In (0, root) t
+    root_in : Contains t (0, root)
     root_stands : KidsStand tree w height t 0 (content_of root) root.content.top root.border.top false
-    others : (a : ℕ) (p : Placed ℤ) → In (a, p) t → (◌≡◌ {A = ℕ × Placed ℤ} (a, p) (0, root)) ⊎ KidsStand tree w height t a (content_of p) p.content.top p.border.top (is_open_above tree a)
+    others : (a : ℕ) (p : Placed ℤ) → Contains t (a, p) → (◌≡◌ {A = ℕ × Placed ℤ} (a, p) (0, root)) ⊎ KidsStand tree w height t a (content_of p) p.content.top p.border.top (is_open_above tree a)
 
   root-band : content_from (pos 0) root_frame.x ≡ content_of root_entry
   root-band = same_band _ _ _ _ (omega (arith, ints)) (omega (arith, ints))
@@ -184,15 +183,15 @@ module _ (tree : BoxTree) (w : World) (height : ℕ) (plain : HasPlainBlocks tre
       let own = root-content (omega arith) in
       record {
         root = root_entry;
-        root_in = In.here;
-        root_stands = stand-more tree w height root_content ((0, root_entry) ∷ root_content) 0 (content_of root_entry) root_entry.content.top root_entry.border.top false (λ x i. In.there i) own.0;
-        others = λ a p i. by_part a p own.1 (from_cons (a, p) (0, root_entry) root_content i);
+        root_in = first_member _ refl;
+        root_stands = stand-more tree w height root_content ((0, root_entry) ∷ root_content) 0 (content_of root_entry) root_entry.content.top root_entry.border.top false (λ x i. later_member _ i) own.0;
+        others = λ a p i. by_part a p own.1 (first_or_later (0, root_entry) root_content (a, p) i);
       }
     where
-      by_part : (a : ℕ) (p : Placed ℤ) → EachStands tree w height root_content → (◌≡◌ {A = ℕ × Placed ℤ} (a, p) (0, root_entry)) ⊎ In (a, p) root_content
+      by_part : (a : ℕ) (p : Placed ℤ) → EachStands tree w height root_content → (◌≡◌ {A = ℕ × Placed ℤ} (0, root_entry) (a, p)) ⊎ Contains root_content (a, p)
           → (◌≡◌ {A = ℕ × Placed ℤ} (a, p) (0, root_entry)) ⊎ KidsStand tree w height ((0, root_entry) ∷ root_content) a (content_of p) p.content.top p.border.top (is_open_above tree a)
-      by_part a p each (inl e) = inl e
-      by_part a p each (inr i) = inr (stand-more tree w height root_content ((0, root_entry) ∷ root_content) a (content_of p) p.content.top p.border.top (is_open_above tree a) (λ x i. In.there i) (each a p i))
+      by_part a p each (inl e) = inl (sym e)
+      by_part a p each (inr i) = inr (stand-more tree w height root_content ((0, root_entry) ∷ root_content) a (content_of p) p.content.top p.border.top (is_open_above tree a) (λ x i. later_member _ i) (each a p i))
 
   stands : (a : ℕ) (outer : Placed ℤ) → IsEntryOf tree w height a outer → PageStands trace
   stands a outer i = page-stands tree.boxes refl (not_empty tree.boxes i.place a i.box)

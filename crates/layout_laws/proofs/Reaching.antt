@@ -1,5 +1,5 @@
 -- How far boxes reach, against the box around them and the bound.
-use Rattle.std.proofs.Common.{◌≡◌, ℕ, zero, suc, ◌+◌, ◌-◌, ◌*◌, ◌^◌, ◌<◌, ◌≤◌, min, max, Bool, true, false, not, nat_lt, ◌==◌, ◌||◌, List, [], ◌∷◌, sum, position, length, Option, Some, None, option_map, option_and_then, slice_get, refl, ap, subst, arith, if◌then◌else◌, ltb-true, ltb-false, le-div_iff_mul-le, mul-le-mul_left}
+use Rattle.std.proofs.Common.{◌≡◌, ℕ, zero, suc, ◌+◌, ◌-◌, ◌*◌, ◌^◌, ◌<◌, ◌≤◌, min, max, Bool, true, false, not, nat_lt, ◌==◌, ◌||◌, List, [], ◌∷◌, sum, position, length, Option, Some, None, option_map, option_and_then, slice_get, refl, ap, subst, arith, if◌then◌else◌, ltb-true, ltb-false, le-div_iff_mul-le, mul-le-mul_left, Contains}
 use Rattle.std.specs.List.{enumerate_from, prefix_len, position_or_len}
 use Rattle.std.specs.Option.{option_map_or, option_or}
 use Rattle.std.proofs.lemmas.Bool.{eqb-false, not-true}
@@ -9,7 +9,7 @@ use Rattle.viz_base.specs.declared.fonts.Font.{Font}
 use Rattle.viz_base.specs.declared.styles.Style.{Style}
 use Rattle.viz_base.specs.declared.trees.BoxNode.{BoxNode}
 use Rattle.viz_base.specs.Reaches.{whole, quotient_up, is_of_element, ratio, growth, box_growth, own_extent, text_extent, box_extents, total_extent, reach_in, reach_to, reaches, sums, passes_most, node_of_place, beyond_reach}
-use Rattle.layout_laws.proofs.Members.{In}
+use Rattle.layout_laws.proofs.Members.{no_member, first_member, later_member, by_member}
 use Rattle.layout_laws.proofs.TreeFacts.{slice_in, length_mapped}
 use Rattle.layout_laws.proofs.PageParts.{slice_some}
 
@@ -61,20 +61,16 @@ cond_none : (b : Bool) (n : ℕ) → (if b then Some n else None) ≡ None → b
 cond_none true n e = absurd (cc)
 cond_none false n e = refl
 
-in_first : {A : Type 0} (test : A → Bool) (y : A) (ys : List A) (x : A) → test y ≡ true → In x (y ∷ ys) → (In x ys → test x ≡ true) → test x ≡ true
-in_first test y ys _ e In.here again = e
-in_first test y ys x e (In.there j) again = again j
-
-all_in_prefix : {A : Type 0} (test : A → Bool) (xs : List A) (x : A) → length xs ≤ prefix_len test xs → In x xs → test x ≡ true
-all_in_prefix test [] x l i = elim i [ ]
+all_in_prefix : {A : Type 0} (test : A → Bool) (xs : List A) (x : A) → length xs ≤ prefix_len test xs → Contains xs x → test x ≡ true
+all_in_prefix test [] x l i = no_member i
 all_in_prefix test (y ∷ ys) x l i = by_test (test y) refl l (λ m j. all_in_prefix test ys x m j)
   where
-    by_test : (b : Bool) → test y ≡ b → suc (length ys) ≤ (if b then 1 + prefix_len test ys else 0) → (length ys ≤ prefix_len test ys → In x ys → test x ≡ true) → test x ≡ true
+    by_test : (b : Bool) → test y ≡ b → suc (length ys) ≤ (if b then 1 + prefix_len test ys else 0) → (length ys ≤ prefix_len test ys → Contains ys x → test x ≡ true) → test x ≡ true
     by_test false e m again = absurd (omega (arith, m))
-    by_test true e m again = in_first test y ys x e i (again (omega (arith, m)))
+    by_test true e m again = by_member (λ z. test z ≡ true) y ys x i e (again (omega (arith, m)))
 
 -- where no place passes, no element does
-none_passes : {A : Type 0} (test : A → Bool) (xs : List A) (x : A) → position test xs ≡ None → In x xs → test x ≡ false
+none_passes : {A : Type 0} (test : A → Bool) (xs : List A) (x : A) → position test xs ≡ None → Contains xs x → test x ≡ false
 none_passes test xs x e i =
     let past = ltb-false (position_or_len test xs) (length xs) (cond_none (nat_lt (position_or_len test xs) (length xs)) (position_or_len test xs) e) in
     not-true (test x) (all_in_prefix (λ y. not (test y)) xs x past i)
@@ -95,11 +91,11 @@ module _ (styles : List Style) (parents : List (Option ℕ)) (fonts : List Font)
   length_sums s (x ∷ xs) = ap suc (length_sums (s + x) xs)
 
   -- the last sum is that of all
-  total_in_sums : (s x : ℕ) (xs : List ℕ) → In (s + sum (x ∷ xs)) (sums styles parents fonts s (x ∷ xs))
-  total_in_sums s x [] = let e : s + x ≡ s + sum (x ∷ []) = let f = sum_by-cons (λ (n : ℕ). n) x [] in omega (arith, f) in subst (λ n. In n ((s + x) ∷ [])) e In.here
+  total_in_sums : (s x : ℕ) (xs : List ℕ) → Contains (sums styles parents fonts s (x ∷ xs)) (s + sum (x ∷ xs))
+  total_in_sums s x [] = let e : s + x ≡ s + sum (x ∷ []) = let f = sum_by-cons (λ (n : ℕ). n) x [] in omega (arith, f) in first_member [] e
   total_in_sums s x (y ∷ ys) =
       let e : (s + x) + sum (y ∷ ys) ≡ s + sum (x ∷ y ∷ ys) = let f = sum_by-cons (λ (n : ℕ). n) x (y ∷ ys) in omega (arith, f) in
-      In.there (subst (λ n. In n (sums styles parents fonts (s + x) (y ∷ ys))) e (total_in_sums (s + x) y ys))
+      later_member (sums styles parents fonts (s + x) (y ∷ ys)) (subst (λ n. Contains (sums styles parents fonts (s + x) (y ∷ ys)) n) e (total_in_sums (s + x) y ys))
 
   total_by : (xs : List ℕ) → position (passes_most styles parents fonts) (sums styles parents fonts (2 ^ 21) xs) ≡ None → 2 ^ 21 + sum xs ≤ 2 ^ 40
   total_by [] e = omega arith

@@ -17,99 +17,100 @@ use Rattle.layout_semantics.specs.Parts.{Part, Level, kind_of_node, level_kind, 
 use Rattle.layout_semantics.specs.WhiteSpace.{is_in}
 use Rattle.layout_semantics.specs.BoxTrees.{Item, boxes_before, begins_run, own_place, first_of, has_node, nodes_of, kid_place, kid_places, items_in, items_of, own_box, run_around, parts_in, runs_of, wrapped_in, with_part, needs_box, is_block_part, is_block_level, is_floated_level, page_parts, page_boxes, tree_styles}
 use Rattle.layout_laws.specs.Apart.{IsBlockBetween}
-use Rattle.layout_laws.proofs.Members.{In, Rises, rises_from, from_map, to_map, from_filter, to_filter, from_flat_map, to_flat_map, from_one_if, rises_filter, any_in, unique_in}
+use Rattle.layout_laws.proofs.Members.{Rises, rises_from, from_map, to_map, from_filter, to_filter, from_flat_map, to_flat_map, from_one_if, rises_filter, any_in, unique_in, no_member, first_member, later_member, first_or_later, only_member, by_member}
 use Rattle.layout_laws.proofs.Places.{node_of}
 use Rattle.layout_laws.proofs.Kids.{IsMember, order, own_box_at, own_place_from, own_place_within}
 use Rattle.layout_laws.proofs.Nesting.{IsBoxOf}
 use Rattle.layout_laws.proofs.Runs.{found_in, from_runs, is_in_some, run_parent}
 use Rattle.layout_laws.proofs.PageParts.{page_rises}
-use Rattle.layout_laws.proofs.BoxLaws.{page_arranged, in_from}
+use Rattle.layout_laws.proofs.BoxLaws.{page_arranged}
 use Rattle.layout_laws.proofs.BoxFacts.{item_known, item_part, no_anon, page_box_is}
 use Rattle.layout_laws.proofs.Sorts.{own_inline_level, run_in, run_no_block}
 use Rattle.layout_laws.proofs.TreeFacts.{one_at_least}
-use Rattle.layout_laws.proofs.Whole.{contains_from}
 
 -- ---- runs in order
 
 -- one list stands before another in a list of lists
 data Before {A : Type 0} (r s : List A) : List (List A) → Type 0 where
-  first : {rest : List (List A)} → In s rest → Before r s (r ∷ rest)
+  first : {rest : List (List A)} → Contains rest s → Before r s (r ∷ rest)
   later : {q : List A} {rest : List (List A)} → Before r s rest → Before r s (q ∷ rest)
 
-before_or : {A : Type 0} (runs : List (List A)) (r s : List A) → In r runs → In s runs → (r ≡ s) ⊎ (Before r s runs ⊎ Before s r runs)
-before_or [] r s i j = elim i [ ]
-before_or (q ∷ runs) _ _ In.here In.here = inl refl
-before_or (q ∷ runs) _ s In.here (In.there j) = inr (inl (Before.first j))
-before_or (q ∷ runs) r _ (In.there i) In.here = inr (inr (Before.first i))
-before_or (q ∷ runs) r s (In.there i) (In.there j) = by_rest (before_or runs r s i j)
+before_or : {A : Type 0} (runs : List (List A)) (r s : List A) → Contains runs r → Contains runs s → (r ≡ s) ⊎ (Before r s runs ⊎ Before s r runs)
+before_or [] r s i j = no_member i
+before_or (q ∷ runs) r s i j = by_places (first_or_later q runs r i) (first_or_later q runs s j) (λ h k. before_or runs r s h k)
   where
     by_rest : (r ≡ s) ⊎ (Before r s runs ⊎ Before s r runs) → (r ≡ s) ⊎ (Before r s (q ∷ runs) ⊎ Before s r (q ∷ runs))
     by_rest (inl e) = inl e
     by_rest (inr (inl b)) = inr (inl (Before.later b))
     by_rest (inr (inr b)) = inr (inr (Before.later b))
 
+    by_places : (q ≡ r) ⊎ Contains runs r → (q ≡ s) ⊎ Contains runs s → (Contains runs r → Contains runs s → (r ≡ s) ⊎ (Before r s runs ⊎ Before s r runs)) → (r ≡ s) ⊎ (Before r s (q ∷ runs) ⊎ Before s r (q ∷ runs))
+    by_places (inl e) (inl f) again = inl (sym e ∙ f)
+    by_places (inl e) (inr k) again = inr (inl (subst (λ t. Before t s (q ∷ runs)) e (Before.first k)))
+    by_places (inr h) (inl f) again = inr (inr (subst (λ t. Before t r (q ∷ runs)) f (Before.first h)))
+    by_places (inr h) (inr k) again = by_rest (again h k)
+
 -- a block between two parts
 record IsBetween (kids : List Part) (low high : ℕ) : Type 0 where
   part : Part
-  inside : In part kids
+  inside : Contains kids part
   block : is_block_level part.level ≡ true
   above : low < part.node
   below : part.node < high
 
 between_later : (p : Part) (ps : List Part) (low high : ℕ) → IsBetween ps low high → IsBetween (p ∷ ps) low high
-between_later p ps low high b = record { part = b.part; inside = In.there b.inside; block = b.block; above = b.above; below = b.below }
+between_later p ps low high b = record { part = b.part; inside = later_member _ b.inside; block = b.block; above = b.above; below = b.below }
 
 -- between the parts of the first run and those of any later one
 abbrev FirstApart : List Part → List (List Part) → Type 0
 FirstApart kids [] = Unit {0}
-FirstApart kids (r ∷ rest) = (s : List Part) (b : Part) → In s rest → In b s → (z : Part) × In z kids × (is_block_level z.level ≡ true) × (z.node < b.node) × ((a : Part) → In a r → a.node < z.node)
+FirstApart kids (r ∷ rest) = (s : List Part) (b : Part) → Contains rest s → Contains s b → (z : Part) × Contains kids z × (is_block_level z.level ≡ true) × (z.node < b.node) × ((a : Part) → Contains r a → a.node < z.node)
 
 first_apart : (kids : List Part) (low : ℕ) → Rises low (map (λ (p : Part). p.node) kids) → FirstApart kids (runs_of kids)
 first_apart [] low rise = λ s b i j. absurd (none s i)
   where
-    none : (s : List Part) → In s [] → ⊥
-    none s i = elim i [ ]
+    none : (s : List Part) → Contains [] s → ⊥
+    none s i = no_member i
 first_apart (p ∷ ps) low rise = by_level p.level refl (runs_of ps) (first_apart ps (suc p.node) rise.1) (λ s b i j. from_runs ps s b i j)
   where
-    after : (z : Part) → In z ps → p.node < z.node
+    after : (z : Part) → Contains ps z → p.node < z.node
     after z i = rises_from (suc p.node) (map (λ (p : Part). p.node) ps) z.node rise.1 (to_map (λ (p : Part). p.node) ps z i)
 
-    none_in : (a : Part) (z : Part) → In a [] → a.node < z.node
-    none_in a z i = elim i [ ]
+    none_in : (a : Part) (z : Part) → Contains [] a → a.node < z.node
+    none_in a z i = no_member i
 
-    no_run : (s : List Part) → In s [] → ⊥
-    no_run s i = elim i [ ]
+    no_run : (s : List Part) → Contains [] s → ⊥
+    no_run s i = no_member i
 
-    longer : (q : List Part) (z : Part) → In z ps → ((a : Part) → In a q → a.node < z.node) → (a : Part) → In a (p ∷ q) → a.node < z.node
-    longer q z i below _ In.here = after z i
-    longer q z i below a (In.there j) = below a j
+    longer : (q : List Part) (z : Part) → Contains ps z → ((a : Part) → Contains q a → a.node < z.node) → (a : Part) → Contains (p ∷ q) a → a.node < z.node
+    longer q z i below a k = by_member (λ (b : Part). b.node < z.node) p q a k (after z i) (λ j. below a j)
 
-    by_level : (l : Level) → p.level ≡ l → (runs : List (List Part)) → FirstApart ps runs → ((s : List Part) (b : Part) → In s runs → In b s → In b ps) → FirstApart (p ∷ ps) (with_part l p runs)
-    by_level Level.block e runs again within = λ s b i j. (p, In.here, ap is_block_level e, after b (within s b i j), λ a k. none_in a p k)
+    by_level : (l : Level) → p.level ≡ l → (runs : List (List Part)) → FirstApart ps runs → ((s : List Part) (b : Part) → Contains runs s → Contains s b → Contains ps b) → FirstApart (p ∷ ps) (with_part l p runs)
+    by_level Level.block e runs again within = λ s b i j. (p, first_member _ refl, ap is_block_level e, after b (within s b i j), λ a k. none_in a p k)
     by_level Level.floated e [] again within = λ s b i j. absurd (no_run s i)
-    by_level Level.floated e (q ∷ runs) again within = λ s b i j. let f = again s b i j in (f.0, In.there f.1, f.2, f.3, longer q f.0 f.1 f.4)
+    by_level Level.floated e (q ∷ runs) again within = λ s b i j. let f = again s b i j in (f.0, later_member _ f.1, f.2, f.3, longer q f.0 f.1 f.4)
     by_level Level.inline e [] again within = λ s b i j. absurd (no_run s i)
-    by_level Level.inline e (q ∷ runs) again within = λ s b i j. let f = again s b i j in (f.0, In.there f.1, f.2, f.3, longer q f.0 f.1 f.4)
+    by_level Level.inline e (q ∷ runs) again within = λ s b i j. let f = again s b i j in (f.0, later_member _ f.1, f.2, f.3, longer q f.0 f.1 f.4)
 
 -- between the parts of a run and those of a later one
-apart : (kids : List Part) (low : ℕ) → Rises low (map (λ (p : Part). p.node) kids) → (r s : List Part) → Before r s (runs_of kids) → (a b : Part) → In a r → In b s → IsBetween kids a.node b.node
-apart [] low rise _ s (Before.first i) a b j k = elim i [ ]
+apart : (kids : List Part) (low : ℕ) → Rises low (map (λ (p : Part). p.node) kids) → (r s : List Part) → Before r s (runs_of kids) → (a b : Part) → Contains r a → Contains s b → IsBetween kids a.node b.node
+apart [] low rise _ s (Before.first i) a b j k = no_member i
 apart [] low rise r s (Before.later h) a b j k = elim h [ ]
 apart (p ∷ ps) low rise r s h a b j k = by_level p.level (runs_of ps) (first_apart (p ∷ ps) low rise) r s h (λ h. apart ps (suc p.node) rise.1 r s h a b j k) j k
   where
-    none_in : {A : Type 0} {a : Part} → In a [] → A
-    none_in i = elim i [ ]
+    none_in : {A : Type 0} {a : Part} → Contains [] a → A
+    none_in i = no_member i
 
-    no_run : {A : Type 0} {s : List Part} → In s [] → A
-    no_run i = elim i [ ]
+    no_run : {A : Type 0} {s : List Part} → Contains [] s → A
+    no_run i = no_member i
 
     no_before : {A : Type 0} {r s : List Part} → Before r s [] → A
     no_before h = elim h [ ]
 
-    from_first : (q : List Part) (runs : List (List Part)) → FirstApart (p ∷ ps) (q ∷ runs) → (s : List Part) (a b : Part) → In s runs → In a q → In b s → IsBetween (p ∷ ps) a.node b.node
+    from_first : (q : List Part) (runs : List (List Part)) → FirstApart (p ∷ ps) (q ∷ runs) → (s : List Part) (a b : Part) → Contains runs s → Contains q a → Contains s b → IsBetween (p ∷ ps) a.node b.node
     from_first q runs f s a b i j k = let z = f s b i k in record { part = z.0; inside = z.1; block = z.2; above = z.4 a j; below = z.3 }
 
-    by_level : (l : Level) (runs : List (List Part)) → FirstApart (p ∷ ps) (with_part l p runs) → (r s : List Part) → Before r s (with_part l p runs) → (Before r s runs → IsBetween ps a.node b.node) → In a r → In b s → IsBetween (p ∷ ps) a.node b.node
+    by_level : (l : Level) (runs : List (List Part)) → FirstApart (p ∷ ps) (with_part l p runs) → (r s : List Part) → Before r s (with_part l p runs) → (Before r s runs → IsBetween ps a.node b.node) → Contains r a → Contains s b → IsBetween (p ∷ ps) a.node b.node
     by_level Level.block runs f _ s (Before.first i) again j k = none_in j
     by_level Level.block runs f r s (Before.later h) again j k = between_later p ps a.node b.node (again h)
     by_level Level.floated [] f _ s (Before.first i) again j k = no_run i
@@ -153,7 +154,7 @@ block_stays styles c Level.block body s e b f k = subst (λ (kind : Kind). is_fl
 -- a kid that is an anonymous block box
 record IsAnonymousKid (items : List Item) (n k : ℕ) : Type 0 where
   item : Item
-  inside : In item items
+  inside : Contains items item
   parent : item.part.parent ≡ Some n
   run : List ℕ
   run_is : item.run ≡ Some run
@@ -161,14 +162,14 @@ record IsAnonymousKid (items : List Item) (n k : ℕ) : Type 0 where
   place : k ≡ boxes_before items (node_of item)
 
 module _ (nodes : List Node) (styles : List Style) (page : IsPage nodes) where
-  own_not_anonymous : (x : Item) → In x (items_of (page_parts nodes styles)) → is_anon x.part.kind ≡ false
+  own_not_anonymous : (x : Item) → Contains (items_of (page_parts nodes styles)) x → is_anon x.part.kind ≡ false
   own_not_anonymous x i = let k = item_known nodes styles page x i in ap (λ (p : Part). is_anon p.kind) k.is ∙ no_anon k.entry.body (x.part.node == 0) k.style
 
-  anonymous_by_run : (n : ℕ) (p : Part) (run : Option (List ℕ)) (k : ℕ) (c : BoxNode) → In (record { part = p; run = run }) (items_of (page_parts nodes styles)) → p.parent ≡ Some n → In k (kid_place (items_of (page_parts nodes styles)) (record { part = p; run = run }))
+  anonymous_by_run : (n : ℕ) (p : Part) (run : Option (List ℕ)) (k : ℕ) (c : BoxNode) → Contains (items_of (page_parts nodes styles)) (record { part = p; run = run }) → p.parent ≡ Some n → Contains (kid_place (items_of (page_parts nodes styles)) (record { part = p; run = run })) k
       → slice_get (page_boxes nodes styles) k ≡ Some c → is_anon c.kind ≡ true → IsAnonymousKid (items_of (page_parts nodes styles)) n k
-  anonymous_by_run n p None k c i e (In.there j) f a = elim j [ ]
-  anonymous_by_run n p None _ c i e In.here f a =
-      let own = own_box_at (items_of (page_parts nodes styles)) (page_arranged nodes styles page) (record { part = p; run = None }) i in
+  anonymous_by_run n p None k c i e j f a =
+      let there = only_member (own_place (items_of (page_parts nodes styles)) p.node) k j in
+      let own = ap (slice_get (page_boxes nodes styles)) (sym there) ∙ own_box_at (items_of (page_parts nodes styles)) (page_arranged nodes styles page) (record { part = p; run = None }) i in
       let same : own_box (items_of (page_parts nodes styles)) (record { part = p; run = None }) ≡ c = some_same (sym own ∙ f) in
       let kind : is_anon p.kind ≡ is_anon c.kind = ap (λ (b : BoxNode). is_anon b.kind) same in
       let not_anon = own_not_anonymous (record { part = p; run = None }) i in
@@ -180,31 +181,31 @@ module _ (nodes : List Node) (styles : List Style) (page : IsPage nodes) where
       let here = from_one_if (first_of run == p.node) (boxes_before (items_of (page_parts nodes styles)) p.node) k j in
       record { item = record { part = p; run = Some run }; inside = i; parent = e; run = run; run_is = refl; begins = here.1; place = here.0 }
 
-  anonymous_kid : (n k : ℕ) (c : BoxNode) → In k (kid_places (items_of (page_parts nodes styles)) n) → slice_get (page_boxes nodes styles) k ≡ Some c → is_anon c.kind ≡ true → IsAnonymousKid (items_of (page_parts nodes styles)) n k
+  anonymous_kid : (n k : ℕ) (c : BoxNode) → Contains (kid_places (items_of (page_parts nodes styles)) n) k → slice_get (page_boxes nodes styles) k ≡ Some c → is_anon c.kind ≡ true → IsAnonymousKid (items_of (page_parts nodes styles)) n k
   anonymous_kid n k c j f a =
       let from = from_flat_map (kid_place (items_of (page_parts nodes styles))) (items_in (items_of (page_parts nodes styles)) n) k j in
       let y = from_filter (λ (item : Item). is_in n item.part.parent) (items_of (page_parts nodes styles)) from.0 from.1 in
       anonymous_by_run n from.0.part from.0.run k c y.0 (is_in_some n from.0.part.parent y.1) from.2 f a
 
   -- the list of parts that a run is
-  parts_run : (x : Item) (n : ℕ) (run : List ℕ) → In x (items_of (page_parts nodes styles)) → x.part.parent ≡ Some n → x.run ≡ Some run
-      → (r : List Part) × In r (wrapped_in (parts_in (page_parts nodes styles) n)) × (nodes_of r ≡ run)
+  parts_run : (x : Item) (n : ℕ) (run : List ℕ) → Contains (items_of (page_parts nodes styles)) x → x.part.parent ≡ Some n → x.run ≡ Some run
+      → (r : List Part) × Contains (wrapped_in (parts_in (page_parts nodes styles) n)) r × (nodes_of r ≡ run)
   parts_run x n run i up e =
       let f = found_in (has_node (node_of x)) (map nodes_of (wrapped_in (parts_in (page_parts nodes styles) n))) run (sym (run_in nodes styles page x n i up) ∙ e) in
       from_map nodes_of (wrapped_in (parts_in (page_parts nodes styles) n)) run f.0
 
-  of_runs : (kids : List Part) (r : List Part) → In r (wrapped_in kids) → In r (runs_of kids) × (needs_box r ≡ true)
+  of_runs : (kids : List Part) (r : List Part) → Contains (wrapped_in kids) r → Contains (runs_of kids) r × (needs_box r ≡ true)
   of_runs kids r i = by_test (list_any is_block_part kids) i
     where
-      by_test : (b : Bool) → In r (if b then filter needs_box (runs_of kids) else []) → In r (runs_of kids) × (needs_box r ≡ true)
+      by_test : (b : Bool) → Contains (if b then filter needs_box (runs_of kids) else []) r → Contains (runs_of kids) r × (needs_box r ≡ true)
       by_test true i = from_filter needs_box (runs_of kids) r i
-      by_test false i = elim i [ ]
+      by_test false i = no_member i
 
   -- the part with which a run begins
-  first_part : (n k : ℕ) (kid : IsAnonymousKid (items_of (page_parts nodes styles)) n k) (r : List Part) → nodes_of r ≡ kid.run → (a : Part) × In a r × (a.node ≡ node_of kid.item)
+  first_part : (n k : ℕ) (kid : IsAnonymousKid (items_of (page_parts nodes styles)) n k) (r : List Part) → nodes_of r ≡ kid.run → (a : Part) × Contains r a × (a.node ≡ node_of kid.item)
   first_part n k kid r e =
       let known = (page_arranged nodes styles page).runs kid.item kid.run kid.inside kid.run_is in
-      let from = from_map (λ (p : Part). p.node) r (first_of kid.run) (subst (In (first_of kid.run)) (sym e) known.first_in) in
+      let from = from_map (λ (p : Part). p.node) r (first_of kid.run) (subst (λ l. Contains l (first_of kid.run)) (sym e) known.first_in) in
       (from.0, from.1, from.2 ∙ eqb-true (first_of kid.run) (node_of kid.item) kid.begins)
 
   kids_order : (n k l : ℕ) (a : IsAnonymousKid (items_of (page_parts nodes styles)) n k) (b : IsAnonymousKid (items_of (page_parts nodes styles)) n l) → k < l → node_of a.item < node_of b.item
@@ -228,7 +229,7 @@ module _ (nodes : List Node) (styles : List Style) (page : IsPage nodes) where
       let q = first_part n l b s.0 s.2 in
       by_place r.0 s.0 r.2 s.2 p q rising (before_or (runs_of kids) r.0 s.0 (of_runs kids r.0 r.1).0 (of_runs kids s.0 s.1).0)
     where
-      by_place : (r s : List Part) → nodes_of r ≡ a.run → nodes_of s ≡ b.run → (p : (z : Part) × In z r × (z.node ≡ node_of a.item)) → (q : (z : Part) × In z s × (z.node ≡ node_of b.item))
+      by_place : (r s : List Part) → nodes_of r ≡ a.run → nodes_of s ≡ b.run → (p : (z : Part) × Contains r z × (z.node ≡ node_of a.item)) → (q : (z : Part) × Contains s z × (z.node ≡ node_of b.item))
           → Rises 0 (map (λ (p : Part). p.node) (parts_in (page_parts nodes styles) n))
           → (r ≡ s) ⊎ (Before r s (runs_of (parts_in (page_parts nodes styles) n)) ⊎ Before s r (runs_of (parts_in (page_parts nodes styles) n))) → IsBetween (parts_in (page_parts nodes styles) n) (node_of a.item) (node_of b.item)
       by_place r s e f p q rising (inl same) =
@@ -251,11 +252,11 @@ module _ (nodes : List Node) (styles : List Style) (page : IsPage nodes) where
           absurd (omega (arith, above, below, node_a, node_b, o))
 
 module _ (nodes : List Node) (styles : List Style) (page : IsPage nodes) where
-  own_kid : (p : Part) (o : Option (List ℕ)) → o ≡ None → In (own_place (items_of (page_parts nodes styles)) p.node) (kid_place (items_of (page_parts nodes styles)) (record { part = p; run = o }))
-  own_kid p None e = In.here
+  own_kid : (p : Part) (o : Option (List ℕ)) → o ≡ None → Contains (kid_place (items_of (page_parts nodes styles)) (record { part = p; run = o })) (own_place (items_of (page_parts nodes styles)) p.node)
+  own_kid p None e = first_member [] refl
   own_kid p (Some run) e = absurd (cc)
 
-  no_run : (x : Item) → In x (items_of (page_parts nodes styles)) → is_block_level x.part.level ≡ true → x.run ≡ None
+  no_run : (x : Item) → Contains (items_of (page_parts nodes styles)) x → is_block_level x.part.level ≡ true → x.run ≡ None
   no_run x i block = by_run x.run refl
     where
       by_run : (o : Option (List ℕ)) → x.run ≡ o → o ≡ None
@@ -263,7 +264,7 @@ module _ (nodes : List Node) (styles : List Style) (page : IsPage nodes) where
       by_run (Some run) e = absurd (let n = run_no_block nodes styles page x run i e in cc)
 
   -- the box of a block in normal flow in an element does not float
-  block_box : (n : ℕ) (x : Item) → In x (items_of (page_parts nodes styles)) → x.part.parent ≡ Some n → is_block_level x.part.level ≡ true → is_floated (tree_styles nodes styles) (own_box (items_of (page_parts nodes styles)) x) ≡ false
+  block_box : (n : ℕ) (x : Item) → Contains (items_of (page_parts nodes styles)) x → x.part.parent ≡ Some n → is_block_level x.part.level ≡ true → is_floated (tree_styles nodes styles) (own_box (items_of (page_parts nodes styles)) x) ≡ false
   block_box n x i up block =
       let known = item_known nodes styles page x i in
       let parent = (page_arranged nodes styles page).parents x n i up in
@@ -276,7 +277,7 @@ module _ (nodes : List Node) (styles : List Style) (page : IsPage nodes) where
       (kind ∙ ap (λ (l : Level). if is_replaced known.entry.body then of_kind.Replaced else level_kind l known.entry.body known.style.display) (sym level))
 
   block_at : (n k l : ℕ) (a : IsAnonymousKid (items_of (page_parts nodes styles)) n k) (b : IsAnonymousKid (items_of (page_parts nodes styles)) n l) (x : Item)
-      → In x (items_of (page_parts nodes styles)) → x.part.parent ≡ Some n → is_block_level x.part.level ≡ true → node_of a.item < node_of x → node_of x < node_of b.item
+      → Contains (items_of (page_parts nodes styles)) x → x.part.parent ≡ Some n → is_block_level x.part.level ≡ true → node_of a.item < node_of x → node_of x < node_of b.item
       → IsBlockBetween (tree_styles nodes styles) (page_boxes nodes styles) (kid_places (items_of (page_parts nodes styles)) n) k l
   block_at n k l a b x i up block low high =
       let first = order (items_of (page_parts nodes styles)) (page_arranged nodes styles page) a.item x a.inside i low in
@@ -289,9 +290,8 @@ module _ (nodes : List Node) (styles : List Style) (page : IsPage nodes) where
       record {
         place = own_place (items_of (page_parts nodes styles)) (node_of x);
         box = own_box (items_of (page_parts nodes styles)) x;
-        inside = contains_from (kid_places (items_of (page_parts nodes styles)) n) (own_place (items_of (page_parts nodes styles)) (node_of x))
-            (to_flat_map (kid_place (items_of (page_parts nodes styles))) (items_in (items_of (page_parts nodes styles)) n) x (own_place (items_of (page_parts nodes styles)) (node_of x))
-            (to_filter (λ (item : Item). is_in n item.part.parent) (items_of (page_parts nodes styles)) x i (ap (is_in n) up ∙ eq-eqb n n refl)) (own_kid x.part x.run (no_run x i block)));
+        inside = to_flat_map (kid_place (items_of (page_parts nodes styles))) (items_in (items_of (page_parts nodes styles)) n) x (own_place (items_of (page_parts nodes styles)) (node_of x))
+            (to_filter (λ (item : Item). is_in n item.part.parent) (items_of (page_parts nodes styles)) x i (ap (is_in n) up ∙ eq-eqb n n refl)) (own_kid x.part x.run (no_run x i block));
         is = own_box_at (items_of (page_parts nodes styles)) (page_arranged nodes styles page) x i;
         above = omega (arith, first, from, least, here);
         below = omega (arith, second, within, there);
@@ -315,13 +315,13 @@ module _ (nodes : List Node) (styles : List Style) (page : IsPage nodes) where
       by_box : IsBoxOf (items_of (page_parts nodes styles)) at b → IsBlockBetween (tree_styles nodes styles) (page_boxes nodes styles) b.kids k l
       by_box (IsBoxOf.own x i p s) =
           let kids = ap (λ (c : BoxNode). c.kids) s in
-          let first = anonymous_kid nodes styles page (node_of x) k c (subst (In k) kids (in_from b.kids k h)) f anon_c in
-          let second = anonymous_kid nodes styles page (node_of x) l d (subst (In l) kids (in_from b.kids l g)) q anon_d in
+          let first = anonymous_kid nodes styles page (node_of x) k c (subst (λ ks. Contains ks k) kids h) f anon_c in
+          let second = anonymous_kid nodes styles page (node_of x) l d (subst (λ ks. Contains ks l) kids g) q anon_d in
           subst (λ ks. IsBlockBetween (tree_styles nodes styles) (page_boxes nodes styles) ks k l) (sym kids)
           (block_kid (node_of x) k l first second (block_between nodes styles page (node_of x) k l first second less))
       by_box (IsBoxOf.anonymous x run i r t p s) =
           let arranged = page_arranged nodes styles page in
-          let from = from_map (own_place (items_of (page_parts nodes styles))) run k (subst (In k) (ap (λ (c : BoxNode). c.kids) s) (in_from b.kids k h)) in
+          let from = from_map (own_place (items_of (page_parts nodes styles))) run k (subst (λ ks. Contains ks k) (ap (λ (c : BoxNode). c.kids) s) h) in
           let m = (arranged.runs x run i r).members from.0 from.1 in
           let place : own_place (items_of (page_parts nodes styles)) (node_of m.item) ≡ k = ap (own_place (items_of (page_parts nodes styles))) m.node ∙ from.2 in
           let own = ap (slice_get (page_boxes nodes styles)) (sym place) ∙ own_box_at (items_of (page_parts nodes styles)) arranged m.item m.inside in
@@ -334,12 +334,12 @@ module _ (nodes : List Node) (styles : List Style) (page : IsPage nodes) where
           some_same e = cc
 
   -- a part of a run that does not float is the part of an item of that run
-  member_part : (m : Item) (q : ℕ) (r : List Part) (z : Part) → In m (items_of (page_parts nodes styles)) → In r (runs_of (parts_in (page_parts nodes styles) q)) → In z r → node_of m ≡ z.node → m.part ≡ z
+  member_part : (m : Item) (q : ℕ) (r : List Part) (z : Part) → Contains (items_of (page_parts nodes styles)) m → Contains (runs_of (parts_in (page_parts nodes styles) q)) r → Contains r z → node_of m ≡ z.node → m.part ≡ z
   member_part m q r z i runs j e =
       let kid = from_filter (λ (p : Part). is_in q p.parent) (page_parts nodes styles) z (from_runs (parts_in (page_parts nodes styles) q) r z runs j) in
       unique_in (λ (p : Part). p.node) 0 (page_parts nodes styles) m.part z (page_rises nodes (tree_styles nodes styles)) (item_part (page_parts nodes styles) m i) kid.0 e
 
-  inline_member : (run : List ℕ) (q : ℕ) (r : List Part) (z : Part) (m : IsMember (items_of (page_parts nodes styles)) run z.node) → In r (runs_of (parts_in (page_parts nodes styles) q)) → In z r → is_floated_level z.level ≡ false
+  inline_member : (run : List ℕ) (q : ℕ) (r : List Part) (z : Part) (m : IsMember (items_of (page_parts nodes styles)) run z.node) → Contains (runs_of (parts_in (page_parts nodes styles) q)) r → Contains r z → is_floated_level z.level ≡ false
       → (slice_get (page_boxes nodes styles) (own_place (items_of (page_parts nodes styles)) z.node) ≡ Some (own_box (items_of (page_parts nodes styles)) m.item)) × (is_inline_level (own_box (items_of (page_parts nodes styles)) m.item) ≡ true)
   inline_member run q r z m runs j f =
       let same = member_part m.item q r z m.inside runs j m.node in (
@@ -347,13 +347,13 @@ module _ (nodes : List Node) (styles : List Style) (page : IsPage nodes) where
         own_inline_level nodes styles page m.item m.inside (run_no_block nodes styles page m.item run m.inside m.run_is) (ap (λ (p : Part). is_floated_level p.level) same ∙ f),
       )
 
-  inline_in_run : (x : Item) (run : List ℕ) (q : ℕ) → In x (items_of (page_parts nodes styles)) → x.run ≡ Some run → x.part.parent ≡ Some q
-      → (k : ℕ) × (c : BoxNode) × In k (map (own_place (items_of (page_parts nodes styles))) run) × (slice_get (page_boxes nodes styles) k ≡ Some c) × (is_inline_level c ≡ true)
+  inline_in_run : (x : Item) (run : List ℕ) (q : ℕ) → Contains (items_of (page_parts nodes styles)) x → x.run ≡ Some run → x.part.parent ≡ Some q
+      → (k : ℕ) × (c : BoxNode) × Contains (map (own_place (items_of (page_parts nodes styles))) run) k × (slice_get (page_boxes nodes styles) k ≡ Some c) × (is_inline_level c ≡ true)
   inline_in_run x run q i r up =
       let list = parts_run nodes styles page x q run i up r in
       let needs = of_runs nodes styles page (parts_in (page_parts nodes styles) q) list.0 list.1 in
       let z = any_in (λ (p : Part). not (is_floated_level p.level)) list.0 needs.1 in
-      let in_run : In z.0.node run = subst (In z.0.node) list.2 (to_map (λ (p : Part). p.node) list.0 z.0 z.1) in
+      let in_run : Contains run z.0.node = subst (λ l. Contains l z.0.node) list.2 (to_map (λ (p : Part). p.node) list.0 z.0 z.1) in
       let m = ((page_arranged nodes styles page).runs x run i r).members z.0.node in_run in
       let here = inline_member run q list.0 z.0 m needs.0 z.1 (not-true (is_floated_level z.0.level) z.2) in
       (own_place (items_of (page_parts nodes styles)) z.0.node, own_box (items_of (page_parts nodes styles)) m.item, to_map (own_place (items_of (page_parts nodes styles))) run z.0.node in_run, here.0, here.1)
@@ -370,4 +370,4 @@ module _ (nodes : List Node) (styles : List Style) (page : IsPage nodes) where
       by_box (IsBoxOf.anonymous x run i r t p s) =
           let up = run_parent (page_parts nodes styles) x run i r in
           let f = inline_in_run x run up.0 i r up.1 in
-          (f.0, f.1, contains_from b.kids f.0 (subst (λ (c : BoxNode). In f.0 c.kids) (sym s) f.2), f.3, f.4)
+          (f.0, f.1, subst (λ (c : BoxNode). Contains c.kids f.0) (sym s) f.2, f.3, f.4)

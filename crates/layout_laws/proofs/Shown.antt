@@ -1,46 +1,51 @@
 -- The parts of a page: which nodes have one, and that what they are in has one too.
-use Rattle.std.proofs.Common.{◌≡◌, ℕ, zero, suc, ◌+◌, Bool, true, false, List, [], ◌∷◌, map, filter_map, Option, Some, None, option_map, slice_get, refl, sym, ◌∙◌, ap, subst, arith, if◌then◌else◌, add-one}
+use Rattle.std.proofs.Common.{◌≡◌, ℕ, zero, suc, ◌+◌, Bool, true, false, List, [], ◌∷◌, map, filter_map, Option, Some, None, option_map, slice_get, refl, sym, ◌∙◌, ap, subst, arith, if◌then◌else◌, add-one, Contains, ⊎_elim}
 use Rattle.std.specs.List.{enumerate_from, cons_option}
 use Rattle.viz_base.specs.declared.nodes.Node.{Node}
 use Rattle.viz_base.specs.declared.styles.Style.{Style}
 use Rattle.layout_semantics.specs.Elements.{is_shown}
 use Rattle.layout_semantics.specs.Parts.{Part, part_of, shown_part, shown_parts}
-use Rattle.layout_laws.proofs.Members.{In, Rises, rises_lower}
+use Rattle.layout_laws.proofs.Members.{Rises, rises_lower, no_member, first_member, later_member, first_or_later, by_member}
 
 -- ---- lists
 
-from_filter_map : {A B : Type 0} (h : A → Option B) (xs : List A) (y : B) → In y (filter_map h xs) → (x : A) × In x xs × (h x ≡ Some y)
-from_filter_map h [] y i = elim i [ ]
+from_filter_map : {A B : Type 0} (h : A → Option B) (xs : List A) (y : B) → Contains (filter_map h xs) y → (x : A) × Contains xs x × (h x ≡ Some y)
+from_filter_map h [] y i = no_member i
 from_filter_map {A} h (x ∷ xs) y i = by_case (h x) refl i (λ j. from_filter_map h xs y j)
   where
-    by_case : (o : Option _) → h x ≡ o → In y (cons_option o (filter_map h xs)) → (In y (filter_map h xs) → (z : A) × In z xs × (h z ≡ Some y)) → (z : A) × In z (x ∷ xs) × (h z ≡ Some y)
-    by_case None e j again = let r = again j in (r.0, In.there r.1, r.2)
-    by_case (Some b) e In.here again = (x, In.here, e)
-    by_case (Some b) e (In.there j) again = let r = again j in (r.0, In.there r.1, r.2)
+    by_case : (o : Option _) → h x ≡ o → Contains (cons_option o (filter_map h xs)) y → (Contains (filter_map h xs) y → (z : A) × Contains xs z × (h z ≡ Some y)) → (z : A) × Contains (x ∷ xs) z × (h z ≡ Some y)
+    by_case None e j again = let r = again j in (r.0, later_member _ r.1, r.2)
+    by_case (Some b) e j again =
+        ⊎_elim (λ s. (x, first_member _ refl, e ∙ ap Some s)) (λ k. let r = again k in (r.0, later_member _ r.1, r.2)) (first_or_later b (filter_map h xs) y j)
 
-to_filter_map : {A B : Type 0} (h : A → Option B) (xs : List A) (x : A) (y : B) → In x xs → h x ≡ Some y → In y (filter_map h xs)
-to_filter_map h [] x y i e = elim i [ ]
-to_filter_map h (x ∷ xs) _ y In.here e = subst (λ o. In y (cons_option o (filter_map h xs))) (sym e) In.here
-to_filter_map h (z ∷ xs) x y (In.there i) e = by_case (h z) (to_filter_map h xs x y i e)
+to_filter_map : {A B : Type 0} (h : A → Option B) (xs : List A) (x : A) (y : B) → Contains xs x → h x ≡ Some y → Contains (filter_map h xs) y
+to_filter_map h [] x y i e = no_member i
+to_filter_map h (z ∷ xs) x y i e =
+    ⊎_elim
+    (λ s. subst (λ o. Contains (cons_option o (filter_map h xs)) y) (sym (ap h s ∙ e)) (first_member _ refl))
+    (λ j. by_case (h z) (to_filter_map h xs x y j e))
+    (first_or_later z xs x i)
   where
-    by_case : (o : Option _) → In y (filter_map h xs) → In y (cons_option o (filter_map h xs))
+    by_case : (o : Option _) → Contains (filter_map h xs) y → Contains (cons_option o (filter_map h xs)) y
     by_case None j = j
-    by_case (Some b) j = In.there j
+    by_case (Some b) j = later_member _ j
 
-from_enumerate : {A : Type 0} (k : ℕ) (xs : List A) (e : ℕ × A) → In e (enumerate_from k xs) → (j : ℕ) × (e.0 ≡ k + j) × (slice_get xs j ≡ Some e.1)
-from_enumerate k [] e i = elim i [ ]
-from_enumerate k (x ∷ xs) _ In.here = (0, omega arith, refl)
-from_enumerate k (x ∷ xs) e (In.there i) = let r = from_enumerate (k + 1) xs e i in let p = r.1 in (suc r.0, omega (arith, p), r.2)
+from_enumerate : {A : Type 0} (k : ℕ) (xs : List A) (e : ℕ × A) → Contains (enumerate_from k xs) e → (j : ℕ) × (e.0 ≡ k + j) × (slice_get xs j ≡ Some e.1)
+from_enumerate k [] e i = no_member i
+from_enumerate {A} k (x ∷ xs) e i =
+    by_member (λ (d : ℕ × A). (j : ℕ) × (d.0 ≡ k + j) × (slice_get (x ∷ xs) j ≡ Some d.1)) (k, x) (enumerate_from (k + 1) xs) e i
+    (0, omega arith, refl)
+    (λ h. let r = from_enumerate (k + 1) xs e h in let p = r.1 in (suc r.0, omega (arith, p), r.2))
 
-to_enumerate : {A : Type 0} (k j : ℕ) (xs : List A) (x : A) → slice_get xs j ≡ Some x → In (k + j, x) (enumerate_from k xs)
+to_enumerate : {A : Type 0} (k j : ℕ) (xs : List A) (x : A) → slice_get xs j ≡ Some x → Contains (enumerate_from k xs) (k + j, x)
 to_enumerate k j [] x e = absurd (cc)
 to_enumerate k zero (y ∷ xs) x e =
     let same : y ≡ x = cc in
     let none : k ≡ k + 0 = omega arith in
-    subst (λ n. In (n, x) ((k, y) ∷ enumerate_from (k + 1) xs)) none (subst (λ z. In (k, z) ((k, y) ∷ enumerate_from (k + 1) xs)) same In.here)
+    subst (λ n. Contains ((k, y) ∷ enumerate_from (k + 1) xs) (n, x)) none (subst (λ z. Contains ((k, y) ∷ enumerate_from (k + 1) xs) (k, z)) same (first_member _ refl))
 to_enumerate k (suc j) (y ∷ xs) x e =
     let next : (k + 1) + j ≡ k + suc j = omega arith in
-    In.there (subst (λ n. In (n, x) (enumerate_from (k + 1) xs)) next (to_enumerate (k + 1) j xs x e))
+    later_member _ (subst (λ n. Contains (enumerate_from (k + 1) xs) (n, x)) next (to_enumerate (k + 1) j xs x e))
 
 -- ---- parts of nodes
 
@@ -53,7 +58,7 @@ pub record IsShownPart (nodes : List Node) (styles : List Style) (p : Part) : Ty
   pub shown : is_shown nodes styles p.node ≡ true
   pub is : p ≡ part_of nodes styles p.node entry style
 
-pub from_shown : (nodes : List Node) (styles : List Style) (p : Part) → In p (shown_parts nodes styles) → IsShownPart nodes styles p
+pub from_shown : (nodes : List Node) (styles : List Style) (p : Part) → Contains (shown_parts nodes styles) p → IsShownPart nodes styles p
 from_shown nodes styles p i =
     let from = from_filter_map (shown_part nodes styles) (enumerate_from 0 nodes) p i in
     let there = from_enumerate 0 nodes from.0 from.1 in
@@ -76,11 +81,11 @@ from_shown nodes styles p i =
           is = subst (λ k. p ≡ part_of nodes styles k n style) node (sym is);
         }
 
-pub to_shown : (nodes : List Node) (styles : List Style) (at : ℕ) (n : Node) (s : Style) → slice_get nodes at ≡ Some n → slice_get styles at ≡ Some s → is_shown nodes styles at ≡ true → In (part_of nodes styles at n s) (shown_parts nodes styles)
+pub to_shown : (nodes : List Node) (styles : List Style) (at : ℕ) (n : Node) (s : Style) → slice_get nodes at ≡ Some n → slice_get styles at ≡ Some s → is_shown nodes styles at ≡ true → Contains (shown_parts nodes styles) (part_of nodes styles at n s)
 to_shown nodes styles at n s e t h =
     let none : 0 + at ≡ at = omega arith in
     to_filter_map (shown_part nodes styles) (enumerate_from 0 nodes) (at, n) (part_of nodes styles at n s)
-    (subst (λ k. In (k, n) (enumerate_from 0 nodes)) none (to_enumerate 0 at nodes n e))
+    (subst (λ k. Contains (enumerate_from 0 nodes) (k, n)) none (to_enumerate 0 at nodes n e))
     (ap (λ b. if b then option_map (part_of nodes styles at n) (slice_get styles at) else None) h ∙ ap (option_map (part_of nodes styles at n)) t)
 
 -- their nodes ascend

@@ -1,5 +1,5 @@
 -- The text of a box has no more characters than the text of its node.
-use Rattle.std.proofs.Common.{◌≡◌, ℕ, zero, suc, ◌+◌, ◌-◌, ◌*◌, ◌/◌, ◌%◌, ◌<◌, ◌≤◌, Bool, true, false, not, cond, nat_lt, ◌==◌, List, [], ◌∷◌, ◌++◌, map, flat_map, zip, length, Option, Some, None, encode_utf8_all, refl, sym, ◌∙◌, ap, subst, arith, ltb-true, length-append, eq-eqb, ne_eqb, filter}
+use Rattle.std.proofs.Common.{◌≡◌, ℕ, zero, suc, ◌+◌, ◌-◌, ◌*◌, ◌/◌, ◌%◌, ◌<◌, ◌≤◌, Bool, true, false, not, cond, nat_lt, ◌==◌, List, [], ◌∷◌, ◌++◌, map, flat_map, zip, length, Option, Some, None, encode_utf8_all, refl, sym, ◌∙◌, ap, subst, arith, ltb-true, length-append, eq-eqb, ne_eqb, filter, Contains, ⊎_elim}
 use Rattle.std.specs.Str.{chars, chars_after, continuation_len, lead_bits}
 use Rattle.std.specs.Prelude.{if◌then◌else◌}
 use Rattle.std.proofs.lemmas.Grind.{flat_map-append}
@@ -12,7 +12,7 @@ use Rattle.viz_base.specs.declared.trees.Kind.TheVariants as of_kind
 use Rattle.layout_semantics.specs.Lists.{one_if}
 use Rattle.layout_semantics.specs.Parts.{Part, Level, shown_parts}
 use Rattle.layout_semantics.specs.WhiteSpace.{Thing, stays, is_white, keeps_white, collapsed_things, letter_of, letters_of, things_of, things_in, level_things, inline_things, is_in, is_bare, collapsed, collapsed_part}
-use Rattle.layout_laws.proofs.Members.{In, Rises, rises_from, to_map, from_map, from_filter}
+use Rattle.layout_laws.proofs.Members.{Rises, rises_from, to_map, from_map, from_filter, no_member, first_or_later}
 use Rattle.layout_laws.proofs.Shown.{from_shown, shown_rise}
 use lib.Utf8.{encode}
 
@@ -140,24 +140,28 @@ module _ (node : ℕ) where
         let rest = none_of (suc p.node) ps (omega (arith, l, r.0)) r.1 in
         omega (arith, all, here, rest)
 
-    own_of : (low : ℕ) (ps : List Part) (p : Part) → Rises low (map (λ (p : Part). p.node) ps) → In p ps → p.node ≡ node → length (letters_of node (flat_map things_of (filter test ps))) ≤ length p.text
-    own_of low [] p r i e = elim i [ ]
-    own_of low (p ∷ ps) _ r In.here e =
-        let all = length_all p ps in
-        let here = own_things p p.level e in
-        let rest = none_of (suc p.node) ps (omega (arith, e)) r.1 in
-        omega (arith, all, here, rest)
-    own_of low (q ∷ ps) p r (In.there i) e =
-        let after = rises_from (suc q.node) (map (λ (p : Part). p.node) ps) p.node r.1 (to_map (λ (p : Part). p.node) ps p i) in
+    own_of : (low : ℕ) (ps : List Part) (p : Part) → Rises low (map (λ (p : Part). p.node) ps) → Contains ps p → p.node ≡ node → length (letters_of node (flat_map things_of (filter test ps))) ≤ length p.text
+    own_of low [] p r i e = no_member i
+    own_of low (q ∷ ps) p r i e =
         let all = length_all q ps in
+        ⊎_elim
+        (λ s.
+        let same = ap (λ (z : Part). z.node) s ∙ e in
+        let text = ap (λ (z : Part). length z.text) s in
+        let here = own_things q q.level same in
+        let rest = none_of (suc q.node) ps (omega (arith, same)) r.1 in
+        omega (arith, all, here, rest, text))
+        (λ j.
+        let after = rises_from (suc q.node) (map (λ (p : Part). p.node) ps) p.node r.1 (to_map (λ (p : Part). p.node) ps p j) in
         let here = ap length (other_things q q.level (λ f. omega (arith, f, e, after))) in
-        let rest = own_of (suc q.node) ps p r.1 i e in
-        omega (arith, all, here, rest)
+        let rest = own_of (suc q.node) ps p r.1 j e in
+        omega (arith, all, here, rest))
+        (first_or_later q ps p i)
 
 -- ---- the texts of a page
 
 module _ (nodes : List Node) (styles : List Style) (page : IsPage nodes) where
-  pub collapsed_within : (p : Part) (o : Option ℕ) → In p (shown_parts nodes styles)
+  pub collapsed_within : (p : Part) (o : Option ℕ) → Contains (shown_parts nodes styles) p
       → length (option_map_or (λ c. letters_of p.node (collapsed_things (things_in (shown_parts nodes styles) c))) o []) ≤ length p.text
   collapsed_within p None i = omega arith
   collapsed_within p (Some c) i =
@@ -165,7 +169,7 @@ module _ (nodes : List Node) (styles : List Style) (page : IsPage nodes) where
       let own = own_of p.node (λ (q : Part). is_in c q.container) 0 (shown_parts nodes styles) p (shown_rise nodes styles) i refl in
       omega (arith, fewer, own)
 
-  pub text_within : (p : Part) → In p (collapsed (shown_parts nodes styles)) → length p.text ≤ 262144
+  pub text_within : (p : Part) → Contains (collapsed (shown_parts nodes styles)) p → length p.text ≤ 262144
   text_within p i =
       let all = shown_parts nodes styles in
       let kept = from_filter (λ p. not (is_bare p)) (map (collapsed_part all) all) p i in

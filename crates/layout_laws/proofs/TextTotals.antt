@@ -1,5 +1,5 @@
 -- The texts of all boxes of a page together have no more characters than its nodes.
-use Rattle.std.proofs.Common.{◌≡◌, ℕ, ◌+◌, ◌≤◌, Bool, true, false, not, List, [], ◌∷◌, ◌++◌, map, flat_map, length, Option, Some, None, option_map, slice_get, sum_by, refl, arith, filter}
+use Rattle.std.proofs.Common.{◌≡◌, ℕ, ◌+◌, ◌≤◌, Bool, true, false, not, List, [], ◌∷◌, map, flat_map, length, Option, Some, None, option_map, slice_get, sum_by, refl, arith, filter, Contains}
 use Rattle.std.specs.Prelude.{if◌then◌else◌, filter_map}
 use Rattle.std.specs.List.{enumerate_from, cons_option}
 use Rattle.std.specs.Str.{chars}
@@ -12,7 +12,7 @@ use Rattle.layout_semantics.specs.Elements.{is_shown}
 use Rattle.layout_semantics.specs.Parts.{Part, part_of, shown_part, shown_parts}
 use Rattle.layout_semantics.specs.WhiteSpace.{is_bare, collapsed_part}
 use Rattle.layout_semantics.specs.BoxTrees.{Item, run_around, items_of, begins_run, with_anonymous, boxes_at, own_box, page_parts, page_boxes, tree_styles}
-use Rattle.layout_laws.proofs.Members.{In}
+use Rattle.layout_laws.proofs.Members.{first_member, later_member}
 use Rattle.layout_laws.proofs.TextLengths.{length_encoded, collapsed_within}
 
 -- ---- sums
@@ -26,13 +26,13 @@ sum-flat f g h each (x ∷ xs) =
     let rest = sum-flat f g h each xs in
     omega (arith, join, all, first, rest)
 
-sum-within : {A : Type 0} (f g : A → ℕ) (xs : List A) → ((x : A) → In x xs → f x ≤ g x) → sum_by f xs ≤ sum_by g xs
+sum-within : {A : Type 0} (f g : A → ℕ) (xs : List A) → ((x : A) → Contains xs x → f x ≤ g x) → sum_by f xs ≤ sum_by g xs
 sum-within f g [] each = omega arith
 sum-within f g (x ∷ xs) each =
     let front = sum_by-cons f x xs in
     let all = sum_by-cons g x xs in
-    let first = each x In.here in
-    let rest = sum-within f g xs (λ y i. each y (In.there i)) in
+    let first = each x (first_member _ refl) in
+    let rest = sum-within f g xs (λ y i. each y (later_member _ i)) in
     omega (arith, front, all, first, rest)
 
 sum-map : {A B : Type 0} (f : B → ℕ) (h : A → B) (xs : List A) → sum_by f (map h xs) ≡ sum_by (λ x. f (h x)) xs

@@ -1,9 +1,9 @@
 -- The boxes of a page keep what a box tree does.
-use Rattle.std.proofs.Common.{◌≡◌, ℕ, zero, suc, ◌+◌, ◌<◌, ◌≤◌, Bool, true, false, not, nat_lt, ◌==◌, ◌&&◌, ◌||◌, List, [], ◌∷◌, map, zip, length, Option, Some, None, option_map, option_and_then, slice_get, IsTrue, refl, sym, ◌∙◌, ap, subst, arith, if◌then◌else◌, eq-eqb, eqb-true, lt-ltb}
+use Rattle.std.proofs.Common.{◌≡◌, ℕ, zero, suc, ◌<◌, ◌≤◌, Bool, true, false, not, nat_lt, ◌==◌, ◌&&◌, ◌||◌, List, [], ◌∷◌, map, zip, length, Option, Some, None, option_map, option_and_then, slice_get, IsTrue, refl, sym, ◌∙◌, ap, subst, arith, if◌then◌else◌, eq-eqb, eqb-true, lt-ltb, Contains}
 use Rattle.std.specs.List.{list_any, list_all, enumerate_from}
 use Rattle.std.specs.Option.{option_map_or}
 use Rattle.std.specs.Str.{chars}
-use Rattle.std.proofs.lemmas.Option.{slice_get_within, slice_get-map}
+use Rattle.std.proofs.lemmas.Option.{slice_get_within, slice_get-map, get_or_from_slice_get, slice_get_read}
 use Rattle.std.proofs.lemmas.List.FromFn.{length-enumerate_from}
 use Rattle.viz_base.specs.Pages.{IsPage, is_element}
 use Rattle.viz_base.specs.Orders.{IsInOrder}
@@ -20,7 +20,7 @@ use Rattle.layout_semantics.specs.WhiteSpace.{is_in}
 use Rattle.layout_semantics.specs.BoxTrees.{Item, items_of, own_box, own_place, boxes_before, outer_place, box_count, run_around, page_parts, page_boxes, tree_styles, tree_style, tree_style_of, tree_parents, viewport_clip, styled_element}
 use Rattle.layout_semantics.specs.Refusals.{blocks_in_inlines}
 use Rattle.layout_laws.specs.Styled.{AreStylesOf, is_at_or_above}
-use Rattle.layout_laws.proofs.Members.{In, any_in, any_from, all_from, all_in, to_map}
+use Rattle.layout_laws.proofs.Members.{any_in, any_from, all_from, all_in, to_map, no_member, by_member}
 use Rattle.layout_laws.proofs.Places.{node_of}
 use Rattle.layout_laws.proofs.Kids.{IsArranged, order, own_place_from, own_box_at}
 use Rattle.layout_laws.proofs.Nesting.{IsBoxOf, kids_ascend, kids_name}
@@ -87,15 +87,8 @@ alike_tree a b s t e = record {
 
 -- ---- lists
 
-in_slice : {A : Type 0} (xs : List A) (x : A) → In x xs → (k : ℕ) × (slice_get xs k ≡ Some x)
-in_slice [] x i = elim i [ ]
-in_slice (x ∷ xs) _ In.here = (0, refl)
-in_slice (y ∷ xs) x (In.there i) = let r = in_slice xs x i in (suc r.0, r.1)
-
-pub slice_in : {A : Type 0} (xs : List A) (k : ℕ) (x : A) → slice_get xs k ≡ Some x → In x xs
-slice_in [] k x e = absurd (cc)
-slice_in {A} (y ∷ xs) zero x e = let same : y ≡ x = cc in subst (λ (z : A). In z (y ∷ xs)) same In.here
-slice_in (y ∷ xs) (suc k) x e = In.there (slice_in xs k x e)
+pub slice_in : {A : Type 0} (xs : List A) (k : ℕ) (x : A) → slice_get xs k ≡ Some x → Contains xs x
+slice_in xs k x e = (k, slice_get_within xs k x e, get_or_from_slice_get xs k x x e)
 
 -- ---- the root
 
@@ -108,14 +101,14 @@ outer_none items p None e f = ap (option_map (own_place items)) e
 outer_none items p (Some run) e f = absurd (cc)
 
 module _ (items : List Item) (arranged : IsArranged items) where
-  after_parents : (x : Item) (q : ℕ) → In x items → x.part.parent ≡ Some q → 1 ≤ boxes_before items (node_of x)
+  after_parents : (x : Item) (q : ℕ) → Contains items x → x.part.parent ≡ Some q → 1 ≤ boxes_before items (node_of x)
   after_parents x q i e =
       let up = arranged.parents x q i e in
       let o = order items arranged up.parent x up.inside i (subst (λ n. n < node_of x) (sym up.node) up.before) in
       let least : 1 ≤ box_count up.parent = one_at_least _ in
       omega (arith, o, least)
 
-  pub no_parent : (x : Item) → In x items → boxes_before items (node_of x) ≡ 0 → x.part.parent ≡ None
+  pub no_parent : (x : Item) → Contains items x → boxes_before items (node_of x) ≡ 0 → x.part.parent ≡ None
   no_parent x i z = by_parent x.part.parent refl
     where
       by_parent : (o : Option ℕ) → x.part.parent ≡ o → o ≡ None
@@ -126,7 +119,7 @@ module _ (nodes : List Node) (styles : List Style) (page : IsPage nodes) where
   pub root_alone : (b : BoxNode) → slice_get (page_boxes nodes styles) 0 ≡ Some b → b.parent ≡ None
   root_alone b e = by_box (page_box_is nodes styles page 0 b e)
     where
-      by_run : (x : Item) → In x (items_of (page_parts nodes styles)) → x.part.parent ≡ None → (o : Option (List ℕ)) → x.run ≡ o → o ≡ None
+      by_run : (x : Item) → Contains (items_of (page_parts nodes styles)) x → x.part.parent ≡ None → (o : Option (List ℕ)) → x.run ≡ o → o ≡ None
       by_run x i n None e = refl
       by_run x i n (Some run) e = absurd (let up = run_parent (page_parts nodes styles) x run i e in let p = up.1 in cc)
 
@@ -174,8 +167,8 @@ module _ (nodes : List Node) (styles : List Style) (page : IsPage nodes) where
   boxed_shown : (node : ℕ) → has_box (page_boxes nodes styles) node ≡ true → (is_shown nodes (tree_styles nodes styles) node ≡ true) × (node < length nodes)
   boxed_shown node h =
       let there = any_in (λ (b : BoxNode). b.node == node) (page_boxes nodes styles) h in
-      let place = in_slice (page_boxes nodes styles) there.0 there.1 in
-      subst (λ n. (is_shown nodes (tree_styles nodes styles) n ≡ true) × (n < length nodes)) (eqb-true there.0.node node there.2) (box_shown nodes styles page place.0 there.0 place.1)
+      let place = slice_get_read (page_boxes nodes styles) (length (page_boxes nodes styles)) there.1.0 there.0 refl there.1.1 (sym there.1.2) in
+      subst (λ n. (is_shown nodes (tree_styles nodes styles) n ≡ true) × (n < length nodes)) (eqb-true there.0.node node there.2) (box_shown nodes styles page there.1.0 there.0 place)
 
   pub shown_boxed : (at : ℕ) (n : Node) (s : Style) → slice_get nodes at ≡ Some n → slice_get (tree_styles nodes styles) at ≡ Some s → is_shown nodes (tree_styles nodes styles) at ≡ true → is_element n.body ≡ true → has_box (page_boxes nodes styles) at ≡ true
   shown_boxed at n s e f h element =
@@ -200,11 +193,13 @@ module _ (nodes : List Node) (styles : List Style) (page : IsPage nodes) where
       let s = slice_some (tree_styles nodes styles) q (omega (arith, above.0, here.1, size)) in
       shown_boxed q n.0 s.0 n.1 s.1 shown.0 n.2
 
-  above_boxed : length styles ≡ length nodes → (more : ℕ) (o : Option ℕ) (above : ℕ) → ((q : ℕ) → o ≡ Some q → has_box (page_boxes nodes styles) q ≡ true) → In above (upwards more nodes o) → has_box (page_boxes nodes styles) above ≡ true
-  above_boxed each zero o above f i = elim i [ ]
-  above_boxed each (suc more) None above f i = elim i [ ]
-  above_boxed each (suc more) (Some q) _ f In.here = f q refl
-  above_boxed each (suc more) (Some q) above f (In.there i) = above_boxed each more (parent_of nodes q) above (λ r e. parent_boxed each q r (f q refl) e) i
+  above_boxed : length styles ≡ length nodes → (more : ℕ) (o : Option ℕ) (above : ℕ) → ((q : ℕ) → o ≡ Some q → has_box (page_boxes nodes styles) q ≡ true) → Contains (upwards more nodes o) above → has_box (page_boxes nodes styles) above ≡ true
+  above_boxed each zero o above f i = no_member i
+  above_boxed each (suc more) None above f i = no_member i
+  above_boxed each (suc more) (Some q) above f i =
+      by_member (λ a. has_box (page_boxes nodes styles) a ≡ true) q (upwards more nodes (parent_of nodes q)) above i
+      (f q refl)
+      (λ j. above_boxed each more (parent_of nodes q) above (λ r e. parent_boxed each q r (f q refl) e) j)
 
 -- ---- the whole
 
@@ -235,7 +230,7 @@ module _ (nodes : List Node) (styles : List Style) (fonts : List Font) (page : I
   names_at at s e = let g = (given_at at s e).2 in subst (λ (t : Style). list_all (is_at_or_above nodes at) (named_nodes t) ≡ true) (sym g.is) (styled.names_above at g.given g.there)
 
   -- what is at or above a node has what it and what is above it have
-  at_or_above : (P : ℕ → Type 0) (at above : ℕ) → is_at_or_above nodes at above ≡ true → P at → ((a : ℕ) → In a (ancestors nodes at) → P a) → P above
+  at_or_above : (P : ℕ → Type 0) (at above : ℕ) → is_at_or_above nodes at above ≡ true → P at → ((a : ℕ) → Contains (ancestors nodes at) a → P a) → P above
   at_or_above P at above h here up = by_first (above == at) refl h
     where
       by_first : (b : Bool) → (above == at) ≡ b → (b || list_any (λ a. a == above) (ancestors nodes at)) ≡ true → P above

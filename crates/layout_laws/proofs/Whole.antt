@@ -1,5 +1,5 @@
 -- Each box is in the box that it names, so each is on the page; and each shown element has a box.
-use Rattle.std.proofs.Common.{◌≡◌, ◌≢◌, ℕ, zero, suc, ◌+◌, ◌<◌, Bool, true, false, not, ◌==◌, ◌&&◌, ◌||◌, List, [], ◌∷◌, map, length, Contains, Option, Some, None, option_map, option_and_then, slice_get, encode_utf8_all, IsTrue, refl, sym, ◌∙◌, ap, subst, arith, if◌then◌else◌, eq-eqb, eqb-true, ltb-true, nat_lt}
+use Rattle.std.proofs.Common.{◌≡◌, ◌≢◌, ℕ, zero, suc, ◌+◌, ◌<◌, Bool, true, false, not, ◌==◌, ◌&&◌, ◌||◌, List, [], ◌∷◌, map, length, Contains, Option, Some, None, option_map, option_and_then, slice_get, encode_utf8_all, IsTrue, refl, sym, ◌∙◌, ap, subst, arith, if◌then◌else◌, eq-eqb, eqb-true, ltb-true, nat_lt, ⊎_elim}
 use Rattle.std.proofs.lemmas.Bool.{and_parts}
 use Rattle.std.specs.List.{list_all, list_any}
 use Rattle.std.specs.Option.{option_map_or}
@@ -18,7 +18,7 @@ use Rattle.layout_semantics.specs.Lists.{one_if}
 use Rattle.layout_semantics.specs.Parts.{Part, Level, level_of, is_context, kind_of_node}
 use Rattle.layout_semantics.specs.WhiteSpace.{is_in}
 use Rattle.layout_semantics.specs.BoxTrees.{Item, boxes_before, own_place, outer_place, first_of, has_node, nodes_of, kid_place, kid_places, items_in, items_of, own_box, anonymous_box, begins_run, parts_in, wrapped_in, page_parts, page_boxes, tree_styles, tree_style_of, viewport_clip, is_block_level, is_floated_level}
-use Rattle.layout_laws.proofs.Members.{In, to_map, to_filter, to_flat_map, any_in, any_from}
+use Rattle.layout_laws.proofs.Members.{to_map, to_filter, to_flat_map, any_in, any_from, no_member, first_member, later_member, first_or_later}
 use Rattle.layout_laws.proofs.Places.{node_of, before_none}
 use Rattle.layout_laws.proofs.Kids.{own_box_at, anonymous_box_at, own_place_is, own_place_from}
 use Rattle.layout_laws.proofs.Nesting.{IsBoxOf}
@@ -32,27 +32,20 @@ use Rattle.layout_laws.proofs.TextLengths.{length_encoded}
 use Rattle.layout_laws.proofs.TreeFacts.{element_of, no_parent, root_alone, shown_boxed}
 use Rattle.layout_laws.proofs.Sorts.{run_in}
 
--- ---- lists
-
-pub contains_from : (xs : List ℕ) (x : ℕ) → In x xs → Contains xs x
-contains_from [] x i = elim i [ ]
-contains_from (x ∷ xs) _ In.here = (0, omega arith, refl)
-contains_from (y ∷ xs) x (In.there i) = let r = contains_from xs x i in let l = r.1 in (suc r.0, omega (arith, l), r.2)
-
 -- ---- each box is in the box that it names
 
 module _ (nodes : List Node) (styles : List Style) (page : IsPage nodes) where
   -- a part is in the run around it
-  in_its_run : (x : Item) (run : List ℕ) → In x (items_of (page_parts nodes styles)) → x.run ≡ Some run → In (node_of x) run
+  in_its_run : (x : Item) (run : List ℕ) → Contains (items_of (page_parts nodes styles)) x → x.run ≡ Some run → Contains run (node_of x)
   in_its_run x run i e =
       let up = run_parent (page_parts nodes styles) x run i e in
       let f = found_in (has_node (node_of x)) (map nodes_of (wrapped_in (parts_in (page_parts nodes styles) up.0))) run (sym (run_in nodes styles page x up.0 i up.1) ∙ e) in
       let has = any_in (λ k. k == node_of x) run f.1 in
-      subst (λ k. In k run) (eqb-true has.0 (node_of x) has.2) has.1
+      subst (λ k. Contains run k) (eqb-true has.0 (node_of x) has.2) has.1
 
   -- the kids of an element's own box: those of the parts in it
-  in_own_kids : (y : Item) (q k : ℕ) → In y (items_of (page_parts nodes styles)) → y.part.parent ≡ Some q → In k (kid_place (items_of (page_parts nodes styles)) y)
-      → (b : BoxNode) × (slice_get (page_boxes nodes styles) (own_place (items_of (page_parts nodes styles)) q) ≡ Some b) × In k b.kids
+  in_own_kids : (y : Item) (q k : ℕ) → Contains (items_of (page_parts nodes styles)) y → y.part.parent ≡ Some q → Contains (kid_place (items_of (page_parts nodes styles)) y) k
+      → (b : BoxNode) × (slice_get (page_boxes nodes styles) (own_place (items_of (page_parts nodes styles)) q) ≡ Some b) × Contains b.kids k
   in_own_kids y q k i e j =
       let arranged = page_arranged nodes styles page in
       let up = arranged.parents y q i e in
@@ -60,21 +53,21 @@ module _ (nodes : List Node) (styles : List Style) (page : IsPage nodes) where
       let there = to_flat_map (kid_place (items_of (page_parts nodes styles))) (items_in (items_of (page_parts nodes styles)) q) y k kid j in (
         own_box (items_of (page_parts nodes styles)) up.parent,
         ap (λ n. slice_get (page_boxes nodes styles) (own_place (items_of (page_parts nodes styles)) n)) (sym up.node) ∙ own_box_at (items_of (page_parts nodes styles)) arranged up.parent up.inside,
-        subst (λ n. In k (kid_places (items_of (page_parts nodes styles)) n)) (sym up.node) there,
+        subst (λ n. Contains (kid_places (items_of (page_parts nodes styles)) n) k) (sym up.node) there,
       )
 
   some_same : {x y : ℕ} → Some x ≡ Some y → x ≡ y
   some_same e = cc
 
-  own_by_parent : (p : Part) (o : Option ℕ) (at : ℕ) → p.parent ≡ o → In (record { part = p; run = None }) (items_of (page_parts nodes styles)) → option_map (own_place (items_of (page_parts nodes styles))) o ≡ Some at
-      → (b : BoxNode) × (slice_get (page_boxes nodes styles) at ≡ Some b) × In (own_place (items_of (page_parts nodes styles)) p.node) b.kids
+  own_by_parent : (p : Part) (o : Option ℕ) (at : ℕ) → p.parent ≡ o → Contains (items_of (page_parts nodes styles)) (record { part = p; run = None }) → option_map (own_place (items_of (page_parts nodes styles))) o ≡ Some at
+      → (b : BoxNode) × (slice_get (page_boxes nodes styles) at ≡ Some b) × Contains b.kids (own_place (items_of (page_parts nodes styles)) p.node)
   own_by_parent p None at up i e = absurd (cc)
   own_by_parent p (Some q) at up i e =
-      let there = in_own_kids (record { part = p; run = None }) q (own_place (items_of (page_parts nodes styles)) p.node) i up In.here in
+      let there = in_own_kids (record { part = p; run = None }) q (own_place (items_of (page_parts nodes styles)) p.node) i up (first_member [] refl) in
       (there.0, ap (slice_get (page_boxes nodes styles)) (sym (some_same e)) ∙ there.1, there.2)
 
-  own_by_run : (p : Part) (run : Option (List ℕ)) (at : ℕ) → In (record { part = p; run = run }) (items_of (page_parts nodes styles)) → outer_place (items_of (page_parts nodes styles)) (record { part = p; run = run }) ≡ Some at
-      → (b : BoxNode) × (slice_get (page_boxes nodes styles) at ≡ Some b) × In (own_place (items_of (page_parts nodes styles)) p.node) b.kids
+  own_by_run : (p : Part) (run : Option (List ℕ)) (at : ℕ) → Contains (items_of (page_parts nodes styles)) (record { part = p; run = run }) → outer_place (items_of (page_parts nodes styles)) (record { part = p; run = run }) ≡ Some at
+      → (b : BoxNode) × (slice_get (page_boxes nodes styles) at ≡ Some b) × Contains b.kids (own_place (items_of (page_parts nodes styles)) p.node)
   own_by_run p None at i e = own_by_parent p p.parent at refl i e
   own_by_run p (Some run) at i e =
       let arranged = page_arranged nodes styles page in
@@ -86,33 +79,33 @@ module _ (nodes : List Node) (styles : List Style) (page : IsPage nodes) where
         to_map (own_place (items_of (page_parts nodes styles))) run p.node (in_its_run (record { part = p; run = Some run }) run i refl),
       )
 
-  begin_place : (p : Part) (o : Option (List ℕ)) (run : List ℕ) → o ≡ Some run → (first_of run == p.node) ≡ true → In (boxes_before (items_of (page_parts nodes styles)) p.node) (kid_place (items_of (page_parts nodes styles)) (record { part = p; run = o }))
+  begin_place : (p : Part) (o : Option (List ℕ)) (run : List ℕ) → o ≡ Some run → (first_of run == p.node) ≡ true → Contains (kid_place (items_of (page_parts nodes styles)) (record { part = p; run = o })) (boxes_before (items_of (page_parts nodes styles)) p.node)
   begin_place p None run e t = absurd (cc)
   begin_place p (Some r) run e t = by_same (run_same e)
     where
       run_same : {x y : List ℕ} → Some x ≡ Some y → x ≡ y
       run_same e = cc
 
-      one : (b : Bool) → b ≡ true → In (boxes_before (items_of (page_parts nodes styles)) p.node) (one_if b (boxes_before (items_of (page_parts nodes styles)) p.node))
-      one true e = In.here
+      one : (b : Bool) → b ≡ true → Contains (one_if b (boxes_before (items_of (page_parts nodes styles)) p.node)) (boxes_before (items_of (page_parts nodes styles)) p.node)
+      one true e = first_member [] refl
       one false e = absurd (cc)
 
-      by_same : r ≡ run → In (boxes_before (items_of (page_parts nodes styles)) p.node) (kid_place (items_of (page_parts nodes styles)) (record { part = p; run = Some r }))
+      by_same : r ≡ run → Contains (kid_place (items_of (page_parts nodes styles)) (record { part = p; run = Some r })) (boxes_before (items_of (page_parts nodes styles)) p.node)
       by_same s = one (first_of r == p.node) (ap (λ (l : List ℕ). first_of l == p.node) s ∙ t)
 
-  pub kid_in_box : (k : ℕ) (c : BoxNode) (at : ℕ) → slice_get (page_boxes nodes styles) k ≡ Some c → c.parent ≡ Some at → (b : BoxNode) × (slice_get (page_boxes nodes styles) at ≡ Some b) × In k b.kids
+  pub kid_in_box : (k : ℕ) (c : BoxNode) (at : ℕ) → slice_get (page_boxes nodes styles) k ≡ Some c → c.parent ≡ Some at → (b : BoxNode) × (slice_get (page_boxes nodes styles) at ≡ Some b) × Contains b.kids k
   kid_in_box k c at e up = by_box (page_box_is nodes styles page k c e)
     where
-      by_box : IsBoxOf (items_of (page_parts nodes styles)) k c → (b : BoxNode) × (slice_get (page_boxes nodes styles) at ≡ Some b) × In k b.kids
+      by_box : IsBoxOf (items_of (page_parts nodes styles)) k c → (b : BoxNode) × (slice_get (page_boxes nodes styles) at ≡ Some b) × Contains b.kids k
       by_box (IsBoxOf.own y i p s) =
           let there = own_by_run y.part y.run at i (ap (λ (c : BoxNode). c.parent) (sym s) ∙ up) in
-          (there.0, there.1, subst (λ n. In n there.0.kids) (sym p) there.2)
+          (there.0, there.1, subst (λ n. Contains there.0.kids n) (sym p) there.2)
       by_box (IsBoxOf.anonymous y run i r t p s) =
           let parent = run_parent (page_parts nodes styles) y run i r in
           let outer : option_map (own_place (items_of (page_parts nodes styles))) y.part.parent ≡ Some at = ap (λ (c : BoxNode). c.parent) (sym s) ∙ up in
           let place : own_place (items_of (page_parts nodes styles)) parent.0 ≡ at = some_same (ap (option_map (own_place (items_of (page_parts nodes styles)))) (sym parent.1) ∙ outer) in
           let there = in_own_kids y parent.0 (boxes_before (items_of (page_parts nodes styles)) (node_of y)) i parent.1 (begin_place y.part y.run run r t) in
-          (there.0, ap (slice_get (page_boxes nodes styles)) (sym place) ∙ there.1, subst (λ n. In n there.0.kids) (sym p) there.2)
+          (there.0, ap (slice_get (page_boxes nodes styles)) (sym place) ∙ there.1, subst (λ n. Contains there.0.kids n) (sym p) there.2)
 
   pub in_its_box : (at kid : ℕ) → parent_of_box (page_boxes nodes styles) kid ≡ Some at → Contains (kids_of (page_boxes nodes styles) at) kid
   in_its_box at kid e = by_kid (slice_get (page_boxes nodes styles) kid) refl e
@@ -121,24 +114,24 @@ module _ (nodes : List Node) (styles : List Style) (page : IsPage nodes) where
       by_kid None f up = absurd (cc)
       by_kid (Some c) f up =
           let there = kid_in_box kid c at f up in
-          contains_from (kids_of (page_boxes nodes styles) at) kid (subst (λ (o : Option BoxNode). In kid (option_map_or (λ (b : BoxNode). b.kids) o [])) (sym there.1) there.2)
+          subst (λ (o : Option BoxNode). Contains (option_map_or (λ (b : BoxNode). b.kids) o []) kid) (sym there.1) there.2
 
   -- ---- the root
 
   -- a part in no element is the root's
-  root_node : (x : Item) → In x (items_of (page_parts nodes styles)) → x.part.parent ≡ None → node_of x ≡ 0
+  root_node : (x : Item) → Contains (items_of (page_parts nodes styles)) x → x.part.parent ≡ None → node_of x ≡ 0
   root_node x i e =
       let k = item_known nodes styles page x i in
       let parent : k.entry.parent ≡ None = sym (ap (λ (p : Part). p.parent) k.is) ∙ e in
       let fits : IsTrue (parent_fits nodes (node_of x) k.entry.parent) = page.parents (node_of x) k.entry k.node_is in
       eqb-true (node_of x) 0 (subst (λ (o : Option ℕ). IsTrue (parent_fits nodes (node_of x) o)) parent fits)
 
-  no_run : (x : Item) → In x (items_of (page_parts nodes styles)) → x.part.parent ≡ None → (o : Option (List ℕ)) → x.run ≡ o → o ≡ None
+  no_run : (x : Item) → Contains (items_of (page_parts nodes styles)) x → x.part.parent ≡ None → (o : Option (List ℕ)) → x.run ≡ o → o ≡ None
   no_run x i n None e = refl
   no_run x i n (Some run) e = absurd (let up = run_parent (page_parts nodes styles) x run i e in let p = up.1 in cc)
 
   -- its place is the first
-  root_place : (x : Item) → In x (items_of (page_parts nodes styles)) → x.part.parent ≡ None → own_place (items_of (page_parts nodes styles)) (node_of x) ≡ 0
+  root_place : (x : Item) → Contains (items_of (page_parts nodes styles)) x → x.part.parent ≡ None → own_place (items_of (page_parts nodes styles)) (node_of x) ≡ 0
   root_place x i e =
       let arranged = page_arranged nodes styles page in
       let node = root_node x i e in
@@ -190,14 +183,15 @@ module _ (nodes : List Node) (styles : List Style) (page : IsPage nodes) where
 
   -- ---- each box is on the page
 
-  ascends_above : (low : ℕ) (ks : List ℕ) (k : ℕ) → IsTrue (ascends low ks) → In k ks → low < k
-  ascends_above low [] k a i = elim i [ ]
-  ascends_above low (j ∷ ks) _ a In.here = ltb-true low j (and_parts (nat_lt low j) (ascends j ks) a).0
-  ascends_above low (j ∷ ks) k a (In.there i) =
+  ascends_above : (low : ℕ) (ks : List ℕ) (k : ℕ) → IsTrue (ascends low ks) → Contains ks k → low < k
+  ascends_above low [] k a i = no_member i
+  ascends_above low (j ∷ ks) k a i =
       let both = and_parts (nat_lt low j) (ascends j ks) a in
       let first = ltb-true low j both.0 in
-      let rest = ascends_above j ks k both.1 i in
-      omega (arith, first, rest)
+      ⊎_elim
+      (λ e. omega (arith, first, e))
+      (λ h. let rest = ascends_above j ks k both.1 h in omega (arith, first, rest))
+      (first_or_later j ks k i)
 
   on_page_to : (n k : ℕ) → k < n → k < length (page_boxes nodes styles) → IsOnPage (page_boxes nodes styles) k
   on_page_to zero k l h = absurd (omega (arith, l))
@@ -213,9 +207,9 @@ module _ (nodes : List Node) (styles : List Style) (page : IsPage nodes) where
           subst (IsOnPage (page_boxes nodes styles)) (sym first) (IsOnPage.root 0 (roots_first (page_boxes nodes styles) (omega (arith, h))))
       by_parent c e (Some at) up again =
           let there = kid_in_box k c at e up in
-          let kids : In k (kids_of (page_boxes nodes styles) at) = subst (λ (o : Option BoxNode). In k (option_map_or (λ (b : BoxNode). b.kids) o [])) (sym there.1) there.2 in
+          let kids : Contains (kids_of (page_boxes nodes styles) at) k = subst (λ (o : Option BoxNode). Contains (option_map_or (λ (b : BoxNode). b.kids) o []) k) (sym there.1) there.2 in
           let below = ascends_above at (kids_of (page_boxes nodes styles) at) k (ascending nodes styles page at) kids in
-          IsOnPage.inside at k (again at (omega (arith, below, l)) (omega (arith, below, h))) (contains_from (kids_of (page_boxes nodes styles) at) k kids)
+          IsOnPage.inside at k (again at (omega (arith, below, l)) (omega (arith, below, h))) kids
 
       by_box : (c : BoxNode) × (slice_get (page_boxes nodes styles) k ≡ Some c) → ((j : ℕ) → j < n → j < length (page_boxes nodes styles) → IsOnPage (page_boxes nodes styles) j) → IsOnPage (page_boxes nodes styles) k
       by_box f again = by_parent f.0 f.1 f.0.parent refl again
@@ -225,9 +219,9 @@ module _ (nodes : List Node) (styles : List Style) (page : IsPage nodes) where
 
 -- ---- which nodes have boxes
 
-all_same : (f g : ℕ → Bool) (xs : List ℕ) → ((x : ℕ) → In x xs → f x ≡ g x) → list_all f xs ≡ list_all g xs
+all_same : (f g : ℕ → Bool) (xs : List ℕ) → ((x : ℕ) → Contains xs x → f x ≡ g x) → list_all f xs ≡ list_all g xs
 all_same f g [] h = refl
-all_same f g (x ∷ xs) h = let here = h x In.here in let rest = all_same f g xs (λ y i. h y (In.there i)) in ap (λ b. b && list_all f xs) here ∙ ap (λ b. g x && b) rest
+all_same f g (x ∷ xs) h = let here = h x (first_member _ refl) in let rest = all_same f g xs (λ y i. h y (later_member _ i)) in ap (λ b. b && list_all f xs) here ∙ ap (λ b. g x && b) rest
 
 module _ (nodes : List Node) (styles : List Style) (page : IsPage nodes) where
   hidden_same : (at : ℕ) → at < length nodes → is_hidden (tree_styles nodes styles) at ≡ is_hidden styles at
