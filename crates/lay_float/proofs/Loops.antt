@@ -1,5 +1,6 @@
 -- Loops over lists that go on from a state.
 use Rattle.std.proofs.Common.{◌≡◌, ℕ, zero, suc, ◌+◌, ◌<◌, ◌≤◌, ℤ, Bool, true, false, ◌||◌, inl, inr, arith, List, [], ◌∷◌, ◌++◌, drop, get_or, length, map, Option, refl, sym, ap, ◌∙◌}
+use Rattle.std.proofs.Math.Bool.{or_assoc}
 use Rattle.std.specs.Int.{int_max}
 use Rattle.std.specs.List.{list_any}
 use Rattle.std.proofs.lemmas.List.{at_drop_more, at_drop_all, map-append, append_assoc, append-nil}
@@ -63,10 +64,6 @@ any-passed test b xs k x lt is miss = sym (
     ∙ ap (λ y. test (b y) || list_any test (map b (drop (k + 1) xs))) (sym is)
     ∙ ap (λ c. c || list_any test (map b (drop (k + 1) xs))) (sym miss))
 
-or_joined : (a b c : Bool) → (a || b) || c ≡ a || (b || c)
-or_joined true b c = refl
-or_joined false b c = refl
-
 or_false : (a : Bool) → a ≡ a || false
 or_false true = refl
 or_false false = refl
@@ -75,7 +72,7 @@ pub some-more : {A : Type 0} (test : A → Bool) (xs : List A) (k : ℕ) (x : A)
     → (next || list_any test (drop (k + 1) xs)) ≡ (s || list_any test (drop k xs))
 some-more test xs k x s next lt is e =
     ap (λ b. b || list_any test (drop (k + 1) xs)) e
-    ∙ or_joined s (test x) (list_any test (drop (k + 1) xs))
+    ∙ or_assoc s (test x) (list_any test (drop (k + 1) xs))
     ∙ ap (λ y. s || (test y || list_any test (drop (k + 1) xs))) is
     ∙ sym (at_drop_more (λ l. s || list_any test l) xs k x lt)
 

@@ -1,7 +1,8 @@
--- Bands and bottoms, found float by float, are those of the definitions.
-use Rattle.std.proofs.Common.{◌≡◌, ℤ, Bool, true, false, ◌||◌, List, [], ◌∷◌, map, filter, Some, None, refl, sym, ap, ◌∙◌, subst, inl, inr, ◌⊎◌}
+-- Bands and bottoms, found float by float, are those of the definitions; the highest top of a float.
+use Rattle.std.proofs.Common.{◌≡◌, ℤ, Bool, true, false, ◌||◌, List, [], ◌∷◌, map, filter, ◌++◌, Contains, Option, Some, None, refl, sym, ap, ◌∙◌, subst, inl, inr, ◌⊎◌}
 use Rattle.std.specs.Int.{int_max}
-use Rattle.std.specs.List.{list_any}
+use Rattle.std.specs.List.{AllByRecursion, list_any}
+use Rattle.std.specs.Option.{option_to_list}
 use Rattle.viz_base.specs.declared.layouts.Band.{Band}
 use Rattle.viz_base.specs.declared.styles.Clear.{Clear}
 use Rattle.viz_base.specs.declared.styles.Clear.TheVariants as of_clear
@@ -13,13 +14,16 @@ use Rattle.layout_semantics.specs.Extremes.{greatest_from, least_from}
 use Rattle.layout_semantics.specs.Floats.{FloatBox, left_ones, right_ones, beside, is_relevant, lowest_bottom}
 use Rattle.layout_laws.proofs.Among.{Among, contains, filtered, source}
 use Rattle.layout_laws.proofs.Extremes.{greatest_is_one}
-use Rattle.lay_float.specs.Limits.{AreHalf}
+use Rattle.layout_laws.proofs.Greatest.{greatest_from-any}
+use Rattle.layout_laws.proofs.Levels.{All-append}
+use Rattle.lay_float.specs.Limits.{AllHalf, AreHalf, IsHalf}
+use Rattle.lay_float.specs.Places.{top_from}
 use Rattle.lay_float.specs.Readings.{box_at, boxes_at}
 use Rattle.lay_float.specs.declared.floats.PlacedFloat.{PlacedFloat}
 use Rattle.lay_float.specs.steps.Shelves.{facing}
 use Rattle.lay_float.specs.steps.Bands.{meets_between, narrowed, room_beside, room_from, is_relevant_side, lower, lowest_from}
 use Rattle.lay_float.proofs.Orders.{greatest-first, least-first}
-use Rattle.lay_float.proofs.Spots.{edges_fit}
+use Rattle.lay_float.proofs.Spots.{edges_fit, half_small}
 
 -- ---- bands
 
@@ -87,22 +91,49 @@ any_relevant {N} at clear (f ∷ fs) e =
     ap (λ b. b || list_any (λ (f : PlacedFloat N). is_relevant_side clear f.side) fs) (relevant_is clear (box_at at f e))
     ∙ ap (λ b. is_relevant clear (box_at at f e) || b) (any_relevant at clear fs e)
 
-pub bottom_small : (clear : Clear) (fs : List FloatBox) (z : ℤ) → AreHalf fs [] → Some z ≡ lowest_bottom clear fs → IsSmall z
-bottom_small clear fs z half e = by (filter (is_relevant clear) fs) refl
+-- what each bottom has, the lowest has
+pub lowest_has : (P : ℤ → Type 0) (clear : Clear) (fs : List FloatBox) (z : ℤ) → ((f : FloatBox) → Contains fs f → P f.box.bottom) → lowest_bottom clear fs ≡ Some z → P z
+lowest_has P clear fs z each e = by (filter (is_relevant clear) fs) refl
   where
-    half_of : (g : FloatBox) → Among (filter (is_relevant clear) fs) g → IsSmall g.box.bottom
-    half_of g i = (edges_fit fs g half (contains fs g (filtered (is_relevant clear) fs g i).0)).1.1.1.0
+    one_of : (g : FloatBox) → Among (filter (is_relevant clear) fs) g → P g.box.bottom
+    one_of g i = each g (contains fs g (filtered (is_relevant clear) fs g i).0)
 
-    by : (gs : List FloatBox) → filter (is_relevant clear) fs ≡ gs → IsSmall z
-    by [] s = let t : Some z ≡ None = (rw s at e) in absurd (cc)
+    by : (gs : List FloatBox) → filter (is_relevant clear) fs ≡ gs → P z
+    by [] s = let t : None ≡ Some z = (rw s at e) in absurd (cc)
     by (g ∷ gs) s =
-        let t : Some z ≡ Some (greatest_from g.box.bottom (map (λ (f : FloatBox). f.box.bottom) gs)) = (rw s at e) in
+        let t : Some (greatest_from g.box.bottom (map (λ (f : FloatBox). f.box.bottom) gs)) ≡ Some z = (rw s at e) in
         let same : greatest_from g.box.bottom (map (λ (f : FloatBox). f.box.bottom) gs) ≡ z = cc in
-        subst IsSmall same (one (greatest_is_one g.box.bottom (map (λ (f : FloatBox). f.box.bottom) gs)))
+        subst P same (one (greatest_is_one g.box.bottom (map (λ (f : FloatBox). f.box.bottom) gs)))
       where
         one : (greatest_from g.box.bottom (map (λ (f : FloatBox). f.box.bottom) gs) ≡ g.box.bottom) ⊎ Among (map (λ (f : FloatBox). f.box.bottom) gs) (greatest_from g.box.bottom (map (λ (f : FloatBox). f.box.bottom) gs))
-            → IsSmall (greatest_from g.box.bottom (map (λ (f : FloatBox). f.box.bottom) gs))
-        one (inl u) = subst IsSmall (sym u) (half_of g (subst (λ (l : List FloatBox). Among l g) (sym s) (inl refl)))
+            → P (greatest_from g.box.bottom (map (λ (f : FloatBox). f.box.bottom) gs))
+        one (inl u) = subst P (sym u) (one_of g (subst (λ (l : List FloatBox). Among l g) (sym s) (inl refl)))
         one (inr i) =
             let f = source (λ (f : FloatBox). f.box.bottom) gs (greatest_from g.box.bottom (map (λ (f : FloatBox). f.box.bottom) gs)) i in
-            subst IsSmall f.2 (half_of f.0 (subst (λ (l : List FloatBox). Among l f.0) (sym s) (inr f.1)))
+            subst P f.2 (one_of f.0 (subst (λ (l : List FloatBox). Among l f.0) (sym s) (inr f.1)))
+
+pub bottom_small : (clear : Clear) (fs : List FloatBox) (z : ℤ) → AreHalf fs [] → Some z ≡ lowest_bottom clear fs → IsSmall z
+bottom_small clear fs z half e = lowest_has IsSmall clear fs z (λ f i. (edges_fit fs f half i).1.1.1.0) (sym e)
+
+-- ---- the highest top of a float
+
+-- what each bottom and the numbers given have, it has
+pub top_has : (P : ℤ → Type 0) (clear : Clear) (fs : List FloatBox) (least : Option ℤ) (y : ℤ) → ((f : FloatBox) → Contains fs f → P f.box.bottom) → P y → AllByRecursion P (option_to_list least)
+    → P (top_from clear fs least y)
+top_has P clear fs least y each own rest =
+    greatest_from-any P y (option_to_list least ++ option_to_list (lowest_bottom clear fs)) own
+    (All-append P (option_to_list least) (option_to_list (lowest_bottom clear fs)) rest (by (lowest_bottom clear fs) refl))
+  where
+    by : (o : Option ℤ) → lowest_bottom clear fs ≡ o → AllByRecursion P (option_to_list o)
+    by None e = tt
+    by (Some z) e = (lowest_has P clear fs z each e, tt)
+
+pub top_half : (clear : Clear) (fs : List FloatBox) (least : Option ℤ) (y : ℤ) → AreHalf fs (y ∷ option_to_list least) → IsHalf (top_from clear fs least y)
+top_half clear fs least y half = top_has IsHalf clear fs least y (λ f i. (half.edges f i).1.1.1.0) half.numbers.0 (all least half.numbers.1)
+  where
+    all : (o : Option ℤ) → AllHalf (option_to_list o) → AllByRecursion IsHalf (option_to_list o)
+    all None a = tt
+    all (Some z) a = (a.0, tt)
+
+pub top_small : (clear : Clear) (fs : List FloatBox) (least : Option ℤ) (y : ℤ) → AreHalf fs (y ∷ option_to_list least) → IsSmall (top_from clear fs least y)
+top_small clear fs least y half = half_small (top_from clear fs least y) (top_half clear fs least y half)

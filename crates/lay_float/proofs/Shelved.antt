@@ -1,5 +1,6 @@
 -- What is on a shelf, in terms of the floats that end below its top.
 use Rattle.std.proofs.Common.{◌≡◌, ℤ, Bool, true, false, not, cond, ◌&&◌, int_le, List, [], ◌∷◌, map, filter, Option, Some, None, refl, sym, ap, ◌∙◌}
+use Rattle.std.proofs.Math.Bool.{and_assoc}
 use Rattle.std.specs.List.{list_all}
 use Rattle.viz_base.specs.declared.layouts.Band.{Band}
 use Rattle.viz_base.specs.declared.styles.Side.{Side}
@@ -69,10 +70,6 @@ both_turn true false true = refl
 both_turn true false false = refl
 both_turn false b c = refl
 
-both_joined : (a b c : Bool) → (a && b) && c ≡ a && (b && c)
-both_joined true b c = refl
-both_joined false b c = refl
-
 both_true : (a : Bool) → a ≡ a && true
 both_true true = refl
 both_true false = refl
@@ -120,7 +117,7 @@ all_clear side cb x y (f ∷ fs) s = all_clear side cb x y fs (with_float side y
     by true e = rw e refl
     by false e = rw e (
         ap (λ c. c && list_all (clears side cb x) (filter (ends_below y) fs)) (one_more side cb x s f)
-        ∙ both_joined (roomy side cb x s) (clears side cb x f) (list_all (clears side cb x) (filter (ends_below y) fs)))
+        ∙ and_assoc (roomy side cb x s) (clears side cb x f) (list_all (clears side cb x) (filter (ends_below y) fs)))
 
 pub free_is : (side : Side) (width : ℤ) (cb : Band ℤ) (y : ℤ) (fs : List FloatBox)
     → is_free side width cb (shelf_on fs side cb y) ≡ list_all (clears side cb (far_edge side (side_edge side (beside (filter (ends_below y) fs) cb)) width)) (filter (ends_below y) fs)

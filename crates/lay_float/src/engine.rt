@@ -1,13 +1,15 @@
 //! Floats over arithmetic that goes on after a halt, for crates whose own work is over such arithmetic too.
 ghost use Rattle.std.specs.Prelude.{◌≡◌, ◌+ℤ◌, ◌∷◌, [], ◌++◌, ⊤, IsTrue, is_some, map};
 ghost use Rattle.std.specs.List.{list_any};
+ghost use Rattle.std.specs.Option.{option_to_list};
 ghost use Rattle.viz_calc.specs.World.{Reading};
 ghost use Rattle.viz_calc.specs.Run.{Stands, Goes, Blames, BlamesButMem, Fits};
+ghost use Rattle.layout_semantics.specs.Extremes.{greatest_from};
 ghost use Rattle.layout_semantics.specs.Floats.{FloatBox, placed_float, highest_top, highest_free, float_at, meets, band_at, is_relevant, lowest_bottom};
 ghost use Rattle.lay_float.specs.Limits.{AreHalf};
-ghost use Rattle.lay_float.specs.Places.{IsHighest};
+ghost use Rattle.lay_float.specs.Places.{IsHighest, top_from};
 ghost use Rattle.lay_float.specs.Readings.{box_at, boxes_at, floats_at, extent_at, spot_at, stretch_at, option_at};
-ghost use Rattle.lay_float.specs.steps.Lent.{place_at};
+ghost use Rattle.lay_float.specs.steps.Lent.{lent_at, place_at};
 ghost use Rattle.lay_float.specs.steps.Shelves.{place_on, spot_on};
 
 use crate::bands::{any_between, room_between};
@@ -221,6 +223,49 @@ pub fn bottom<S: Steady>(
     match crate::bands::lowest_bottom(calc, floats, clear) {
         Some(bottom) => Some(calc.copy(bottom)),
         None => None,
+    }
+}
+
+/// The lowest of y and the outer bottoms of the floats that `clear` looks at (CSS 2.1, 9.5.2).
+fn lowest_or<'a, S: Steady>(
+    calc: &mut S,
+    floats: &'a [PlacedFloat<S::Num>],
+    clear: Clear,
+    y: &'a S::Num,
+) -> &'a S::Num
+    ensures goes { Goes (S.run calc.old) (S.run calc.new) }
+    ensures value { Stands (S.run calc.new) (S.at result.now) (λ e. greatest_from (S.at y.now e)
+        (option_to_list (lowest_bottom clear (boxes_at S.at floats.now e)))) }
+    ensures cause { Blames (S.run calc.old) (S.run calc.new) ⊤ }
+{
+    match crate::bands::lowest_bottom(calc, floats, clear) {
+        Some(below) => larger(calc, below, y),
+        None => y,
+    }
+}
+
+/// The highest top that a float with this `clear` may have that comes at y: not above `least`, if there is one, nor
+/// above the outer bottoms of the earlier floats that `clear` looks at (CSS 2.1, 9.5.1, rules 5 and 6; 9.5.2).
+pub fn float_top<S: Steady>(
+    calc: &mut S,
+    floats: &[PlacedFloat<S::Num>],
+    clear: Clear,
+    least: Option<&S::Num>,
+    y: &S::Num,
+) -> S::Num
+    ensures goes { Goes (S.run calc.old) (S.run calc.new) }
+    ensures value { Stands (S.run calc.new) (S.at result) (λ e. top_from clear (boxes_at S.at floats.now e)
+        (lent_at S.at least.entry e) (S.at y.now e)) }
+    ensures cause { Blames (S.run calc.old) (S.run calc.new) ((e : Reading) → IsTrue ((S.run calc.old).is_open e)
+        → AreHalf (boxes_at S.at floats.now e) (S.at y.now e ∷ option_to_list (lent_at S.at least.entry e))) }
+{
+    let lowest = lowest_or(calc, floats, clear, y);
+    match least {
+        Some(least) => {
+            let top = larger(calc, least, lowest);
+            calc.copy(top)
+        }
+        None => calc.copy(lowest),
     }
 }
 
