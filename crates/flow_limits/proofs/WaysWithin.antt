@@ -25,7 +25,7 @@ use Rattle.lay_margin.specs.Runs.{with_margin, collapse}
 use Rattle.lay_margin.specs.steps.Leads.{enters, stops, inner_band, margin_above, margin_below}
 use Rattle.flow_steps.specs.Runs.{edge_at}
 use Rattle.flow_steps.specs.Forward.{End, goes_on, solid, cleared, Found, found, then_on, decided_found, closed_found, passed_box, kid_of, bottom_to_clear, clear_edge, is_to_clear, forward_to}
-use Rattle.flow_steps.proofs.LeadCases.{found-float, found-flow, closed-through, closed-stops, way_to, kids_way, inner_way, decision, entered, way-stops, way-enters}
+use Rattle.flow_steps.proofs.LeadCases.{on_ground, found-float, found-flow, closed-through, closed-stops, way_to, kids_way, inner_way, decision, entered, way-stops, way-enters}
 use Rattle.flow_steps.proofs.Sound.{IsFlowKid, enters-no-line, lead-sound}
 use Rattle.flow_limits.specs.Bounds.{Bounds, AreInside, grown, no_bounds, all_around, together, IsLevelIn, IsBandIn, IsExtentIn, IsFloatIn, levels_of}
 use Rattle.flow_limits.specs.Inline.{IsSmall}
@@ -144,7 +144,7 @@ module _ (tree : BoxTree) (w : World) (height : ℕ) (own turned : ℕ → Bound
           by (stands edge) i = level-wider start (grown start (all_around (2 * s))) edge (inside-grown start (all_around (2 * s))) i
 
       bottom-in : (b : Bounds) (k : ℕ) (ws : List (Waiting ℤ)) (y : ℤ) → DoWaitIn b ws → IsLevelIn (grown start (all_around (2 * s))) y
-          → AllByRecursion (IsLevelIn (grown b (all_around (4 * s)))) (option_to_list (bottom_to_clear tree w size base floats least k ws y))
+          → AllByRecursion (IsLevelIn (grown b (all_around (4 * s)))) (option_to_list (bottom_to_clear (on_ground tree w size base floats least) k ws y))
       unfolding bottom_to_clear
       bottom-in b k ws y d l =
           let from : Bounds = record { up = start.up + 2 * s; down = start.down + 2 * s; aside = start.aside + 2 * s + b.aside } in
@@ -157,11 +157,11 @@ module _ (tree : BoxTree) (w : World) (height : ℕ) (own turned : ℕ → Bound
           All-implied (IsLevelIn (grown from (wait_charges ws))) (IsLevelIn (grown b (all_around (4 * s)))) (option_to_list (lowest_bottom (clear_of tree k) (with_waiting tree size ws floats least y)))
           (λ z h. (let a = h.top in let c = h.bottom in record { top = omega (arith, ints, up); bottom = omega (arith, ints, down) })) lowest
 
-      clear-edge-in : (b : Bounds) (k : ℕ) (run : Run ℤ) (ws : List (Waiting ℤ)) → IsRunLow s run → DoWaitIn b ws → IsLevelIn (grown b (all_around (4 * s))) (clear_edge tree w size base floats least k run ws)
+      clear-edge-in : (b : Bounds) (k : ℕ) (run : Run ℤ) (ws : List (Waiting ℤ)) → IsRunLow s run → DoWaitIn b ws → IsLevelIn (grown b (all_around (4 * s))) (clear_edge (on_ground tree w size base floats least) k run ws)
       clear-edge-in b k run ws r d =
           let up = d.room.up in let down = d.room.down in
           let y = edge-in run r in
-          by (bottom_to_clear tree w size base floats least k ws (edge_at base run)) (bottom-in b k ws (edge_at base run) d y)
+          by (bottom_to_clear (on_ground tree w size base floats least) k ws (edge_at base run)) (bottom-in b k ws (edge_at base run) d y)
           (let a = y.top in let c = y.bottom in record { top = omega (arith, ints, up); bottom = omega (arith, ints, down) })
         where
           by : (o : Option ℤ) → AllByRecursion (IsLevelIn (grown b (all_around (4 * s)))) (option_to_list o) → IsLevelIn (grown b (all_around (4 * s))) (edge_at base run) → IsLevelIn (grown b (all_around (4 * s))) (unwrap_or o (edge_at base run))
@@ -169,9 +169,9 @@ module _ (tree : BoxTree) (w : World) (height : ℕ) (own turned : ℕ → Bound
           by (Some z) a l = a.0
 
       decided-in : (b : Bounds) (cb : Band ℤ) (k : ℕ) (run : Run ℤ) (ws : List (Waiting ℤ)) → IsRunLow s run → DoWaitIn b ws → AllByRecursion (IsLevelIn (grown b (all_around (4 * s)))) (option_to_list (decision tree w size base floats least cb k run ws))
-      decided-in b cb k run ws r d = by (is_to_clear tree w size base floats least cb k run ws)
+      decided-in b cb k run ws r d = by (is_to_clear (on_ground tree w size base floats least) cb k run ws)
         where
-          by : (c : Bool) → AllByRecursion (IsLevelIn (grown b (all_around (4 * s)))) (option_to_list (elim c as (λ _. Option ℤ) [ true ↦ Some (clear_edge tree w size base floats least k run ws) | false ↦ None ]))
+          by : (c : Bool) → AllByRecursion (IsLevelIn (grown b (all_around (4 * s)))) (option_to_list (elim c as (λ _. Option ℤ) [ true ↦ Some (clear_edge (on_ground tree w size base floats least) k run ws) | false ↦ None ]))
           by true = (clear-edge-in b k run ws r d, tt)
           by false = tt
 

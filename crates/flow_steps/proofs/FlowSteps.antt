@@ -49,6 +49,7 @@ use Rattle.flow_steps.specs.Forward.{Found, goes_on, cleared_of, forward}
 use Rattle.flow_steps.specs.Progress.{squeezed, context_of}
 use Rattle.flow_steps.specs.Flow.{Standing, at_top, below, Context, fresh, Step, step, next_edge, is_at_top, Laid, context_height, block_height, joined_run, line_tops, after_lines, children, frame_at, corner_frame, context_box, block_box, whole, alone, size_of, float_placed, float_child, reached_at, reached, opened, closed, laid_context, laid_block, laid, run_forward, own_run, standing_after, child, inner_size, entry_boxes, line_content, content_step}
 use Rattle.flow_steps.specs.Tables.{outside_of}
+use Rattle.flow_steps.proofs.LeadCases.{on_ground}
 use Rattle.flow_steps.proofs.Passed.{all-passed}
 use Rattle.flow_steps.proofs.Through.{way-on}
 use Rattle.flow_steps.proofs.TopStays.{IsOther, IsTopFree, at-cleared, reached-clears, goes-through}
@@ -83,7 +84,7 @@ edge-same (landed.below edge run stuck) = refl
 -- a box that comes below a run of margins
 pub below-found : (tree : BoxTree) (w : World) (size : Waiting ℤ → Extent ℤ) (floats : List FloatBox) (least : Option ℤ) (k end : ℕ) → k < length tree.boxes → IsTrue (is_before tree.boxes k end)
     → (cb : Band ℤ) (edge : ℤ) (run : List ℤ)
-    → IsFoundBy (run_of run) (resolve tree w size (hangs edge) run cb floats least k none_passed) (forward tree w size (hangs edge) floats least none_passed cb k (run_of run))
+    → IsFoundBy (run_of run) (resolve tree w size (hangs edge) run cb floats least k none_passed) (forward (on_ground tree w size (hangs edge) floats least) none_passed cb k (run_of run))
 below-found tree w size floats least k end within order cb edge run =
     resolve-found tree w size (hangs edge) floats least run (run_of run) (λ more. ap (λ (r : Run ℤ). edge +ℤ collapse r) (run-append run more)) cb k end within order none_passed none-prefix
 
@@ -204,7 +205,7 @@ module _ (tree : BoxTree) (w : World) (height : ℕ) where
         (floats-served b above fine.kid.sound.page fine.kid.sound.block (enters-no-line tree b i)))
 
     size-same : (base : Base) (floats : List FloatBox) (least : Option ℤ) (p : ℕ → Bool) (cb : Band ℤ) (k : ℕ) (run : Run ℤ) → IsFine cb k
-        → forward tree w (landed.waiting_size tree w height inside) base floats least p cb k run ≡ forward tree w (size_of tree w height content apart) base floats least p cb k run
+        → forward (on_ground tree w (landed.waiting_size tree w height inside) base floats least) p cb k run ≡ forward (on_ground tree w (size_of tree w height content apart) base floats least) p cb k run
     size-same base floats least p cb k run fine =
         (sizes-alike tree w base floats least (landed.waiting_size tree w height inside) (size_of tree w height content apart) IsFine closes p (length tree.boxes) cb k run [] fine tt).same
 
@@ -227,7 +228,7 @@ module _ (tree : BoxTree) (w : World) (height : ℕ) where
     module _ (k end : ℕ) (within : k < length tree.boxes) (order : IsTrue (is_before tree.boxes k end)) where
       opened-same : (cb : Band ℤ) (p : Progress) (y : ℤ) → IsFine cb k
           → (resolve tree w (landed.waiting_size tree w height inside) (stands y) [] cb p.floats p.least k (is_up_to k)).cleared
-          ≡ cleared_of (forward tree w (size_of tree w height content apart) (stands y) p.floats p.least (is_up_to k) cb k no_run).end
+          ≡ cleared_of (forward (on_ground tree w (size_of tree w height content apart) (stands y) p.floats p.least) (is_up_to k) cb k no_run).end
       opened-same cb p y fine =
           (resolve-found tree w (landed.waiting_size tree w height inside) (stands y) p.floats p.least [] no_run (λ more. refl) cb k end within order (is_up_to k) (up-prefix k)).cleared
           ∙ ap (λ (f : Found). cleared_of f.end) (size-same (stands y) p.floats p.least (is_up_to k) cb k no_run fine)
@@ -255,7 +256,7 @@ module _ (tree : BoxTree) (w : World) (height : ℕ) where
               let found = below-found tree w size p.floats p.least k end within order cb edge run in
               rw e (at-same cb p (edge +ℤ collapse (run_of (run ++ r.margins))) r.cleared fine
               ∙ ap (λ (c : Cleared). reached_at tree w height content apart cb s k (edge +ℤ collapse (run_of (run ++ r.margins))) c) found.cleared
-              ∙ ap (λ (x : Run ℤ). reached_at tree w height content apart cb s k (edge +ℤ collapse x) (cleared_of (forward tree w size (hangs edge) p.floats p.least none_passed cb k (run_of run)).end)) (run-append run r.margins ∙ found.run)
+              ∙ ap (λ (x : Run ℤ). reached_at tree w height content apart cb s k (edge +ℤ collapse x) (cleared_of (forward (on_ground tree w size (hangs edge) p.floats p.least) none_passed cb k (run_of run)).end)) (run-append run r.margins ∙ found.run)
               ∙ ap (λ (f : Found). reached_at tree w height content apart cb s k (edge +ℤ collapse f.run) (cleared_of f.end)) (size-same (hangs edge) p.floats p.least none_passed cb k (run_of run) fine))
 
     -- ---- a box in flow that is laid out

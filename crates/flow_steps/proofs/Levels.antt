@@ -19,6 +19,7 @@ use Rattle.lay_margin.specs.Runs.{no_run, with_margin}
 use Rattle.lay_margin.specs.steps.Leads.{inner_band, margin_above}
 use Rattle.flow_steps.specs.Forward.{Found, found, goes_on, then_on, inside_found, passed_box, kid_of, kids_found, box_found, forward_step, forward_to}
 use Rattle.flow_steps.specs.Flow.{at_top, below, Context, fresh, Step, step, followed, children, frame_at, reached, opened, Laid, laid, own_run, standing_after, child, content_step, content_to, content_of}
+use Rattle.flow_steps.proofs.LeadCases.{on_ground}
 
 -- ---- the way forward
 
@@ -31,22 +32,22 @@ module _ (tree : BoxTree) (w : World) (size : Waiting ℤ → Extent ℤ) (base 
       ∙ ap (then_on (g run ws k)) (kids-same f g P ks (g run ws k).run (g run ws k).waiting a.1 same)
 
   way-enough : (n m b : ℕ) (cb : Band ℤ) (run : Run ℤ) (ws : List (Waiting ℤ)) → b < length tree.boxes → length tree.boxes ≤ n + b → length tree.boxes ≤ m + b
-      → forward_to tree w size base floats least p n cb b run ws ≡ forward_to tree w size base floats least p m cb b run ws
+      → forward_to (on_ground tree w size base floats least) p n cb b run ws ≡ forward_to (on_ground tree w size base floats least) p m cb b run ws
   unfolding forward_to kid_of
   way-enough zero m b cb run ws l i j = absurd (omega arith)
   way-enough (suc n) zero b cb run ws l i j = absurd (omega arith)
   way-enough (suc n) (suc m) b cb run ws l i j =
       let band = inner_band tree w cb b in
       let own = with_margin run (margin_above tree w cb b) in
-      ap (λ (t : Found). box_found tree w size base floats least p cb b run ws (inside_found tree b own ws t))
-      (kids-same (kid_of tree w (forward_to tree w size base floats least p n band) band) (kid_of tree w (forward_to tree w size base floats least p m band) band) (IsFrom tree.boxes (suc b)) (flow_children tree b) own ws (children-from tree b)
+      ap (λ (t : Found). box_found (on_ground tree w size base floats least) p cb b run ws (inside_found tree b own ws t))
+      (kids-same (kid_of tree w (forward_to (on_ground tree w size base floats least) p n band) band) (kid_of tree w (forward_to (on_ground tree w size base floats least) p m band) band) (IsFrom tree.boxes (suc b)) (flow_children tree b) own ws (children-from tree b)
       (λ k r v f. let after = f.from in
       ap (λ (t : Found). elim (is_floated_at tree k) as (λ _. Found) [ true ↦ found r (v ++ record { at = k; cb = band } ∷ []) goes_on | false ↦ passed_box tree w band k t ])
       (way-enough n m k band r v f.within (omega arith) (omega arith))))
 
   pub way-is : (b : ℕ) (cb : Band ℤ) (run : Run ℤ) (ws : List (Waiting ℤ)) → b < length tree.boxes
-      → forward_to tree w size base floats least p (length tree.boxes) cb b run ws
-      ≡ forward_step tree w size base floats least p (forward_to tree w size base floats least p (length tree.boxes)) cb b run ws
+      → forward_to (on_ground tree w size base floats least) p (length tree.boxes) cb b run ws
+      ≡ forward_step (on_ground tree w size base floats least) p (forward_to (on_ground tree w size base floats least) p (length tree.boxes)) cb b run ws
   unfolding forward_to
   way-is b cb run ws l = way-enough (length tree.boxes) (suc (length tree.boxes)) b cb run ws l (omega arith) (omega arith)
 

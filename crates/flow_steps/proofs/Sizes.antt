@@ -17,7 +17,7 @@ use Rattle.lay_margin.specs.Runs.{with_margin}
 use Rattle.lay_margin.specs.steps.Leads.{enters, stops, inner_band, margin_above, margin_below}
 use Rattle.flow_steps.specs.Runs.{edge_at}
 use Rattle.flow_steps.specs.Forward.{End, goes_on, solid, cleared, Found, found, then_on, decided_found, closed_found, passed_box, kid_of, hypothetical_edge, bottom_to_clear, is_above, clear_edge, forward_to}
-use Rattle.flow_steps.proofs.LeadCases.{found-float, found-flow, closed-through, closed-stops, way_to, kids_way, inner_way, decision, entered, way-stops, way-enters}
+use Rattle.flow_steps.proofs.LeadCases.{on_ground, found-float, found-flow, closed-through, closed-stops, way_to, kids_way, inner_way, decision, entered, way-stops, way-enters}
 
 module _ (tree : BoxTree) (w : World) (base : Base) (floats : List FloatBox) (least : Option ℤ) (one other : Waiting ℤ → Extent ℤ) where
   abbrev Same : Waiting ℤ → Type 0
@@ -29,21 +29,21 @@ module _ (tree : BoxTree) (w : World) (base : Base) (floats : List FloatBox) (le
       ap (λ (size : Extent ℤ). with_waiting tree one fs (with_float (floating tree f.at size f.cb) floats least y) least y) a.0
       ∙ with_waiting-same fs (with_float (floating tree f.at (other f) f.cb) floats least y) y a.1
 
-  bottom-same : (b : ℕ) (ws : List (Waiting ℤ)) (y : ℤ) → AllByRecursion Same ws → bottom_to_clear tree w one base floats least b ws y ≡ bottom_to_clear tree w other base floats least b ws y
+  bottom-same : (b : ℕ) (ws : List (Waiting ℤ)) (y : ℤ) → AllByRecursion Same ws → bottom_to_clear (on_ground tree w one base floats least) b ws y ≡ bottom_to_clear (on_ground tree w other base floats least) b ws y
   unfolding bottom_to_clear
   bottom-same b ws y a = ap (lowest_bottom (clear_of tree b)) (with_waiting-same ws floats y a)
 
-  edge-same : (cb : Band ℤ) (b : ℕ) (run : Run ℤ) → hypothetical_edge tree w one base floats least cb b run ≡ hypothetical_edge tree w other base floats least cb b run
+  edge-same : (cb : Band ℤ) (b : ℕ) (run : Run ℤ) → hypothetical_edge (on_ground tree w one base floats least) cb b run ≡ hypothetical_edge (on_ground tree w other base floats least) cb b run
   unfolding hypothetical_edge
   edge-same cb b run = refl
 
   decision-same : (cb : Band ℤ) (b : ℕ) (run : Run ℤ) (ws : List (Waiting ℤ)) → AllByRecursion Same ws → decision tree w one base floats least cb b run ws ≡ decision tree w other base floats least cb b run ws
   decision-same cb b run ws a =
-      let y = hypothetical_edge tree w other base floats least cb b run in
+      let y = hypothetical_edge (on_ground tree w other base floats least) cb b run in
       let z = edge_at base run in
-      ap (λ (y : ℤ). elim (is_above tree w one base floats least y (bottom_to_clear tree w one base floats least b ws y)) as (λ _. Option ℤ) [ true ↦ Some (clear_edge tree w one base floats least b run ws) | false ↦ None ]) (edge-same cb b run)
-      ∙ ap (λ (o : Option ℤ). elim (is_above tree w one base floats least y o) as (λ _. Option ℤ) [ true ↦ Some (clear_edge tree w one base floats least b run ws) | false ↦ None ]) (bottom-same b ws y a)
-      ∙ ap (λ (o : Option ℤ). elim (is_above tree w one base floats least y (bottom_to_clear tree w other base floats least b ws y)) as (λ _. Option ℤ) [ true ↦ Some (unwrap_or o z) | false ↦ None ]) (bottom-same b ws z a)
+      ap (λ (y : ℤ). elim (is_above y (bottom_to_clear (on_ground tree w one base floats least) b ws y)) as (λ _. Option ℤ) [ true ↦ Some (clear_edge (on_ground tree w one base floats least) b run ws) | false ↦ None ]) (edge-same cb b run)
+      ∙ ap (λ (o : Option ℤ). elim (is_above y o) as (λ _. Option ℤ) [ true ↦ Some (clear_edge (on_ground tree w one base floats least) b run ws) | false ↦ None ]) (bottom-same b ws y a)
+      ∙ ap (λ (o : Option ℤ). elim (is_above y (bottom_to_clear (on_ground tree w other base floats least) b ws y)) as (λ _. Option ℤ) [ true ↦ Some (unwrap_or o z) | false ↦ None ]) (bottom-same b ws z a)
 
   -- ---- what waits
 

@@ -1,5 +1,5 @@
 -- The table of boxes outside the flow holds each of them as it is laid out; with it the steps of a page are its rendering.
-use Rattle.std.proofs.Common.{◌≡◌, ◌≢◌, ℕ, zero, suc, ◌+◌, ◌-◌, ◌<◌, ◌≤◌, inl, inr, ◌*◌, ℤ, pos, Bool, true, false, cond, Contains, List, [], ◌∷◌, filter, fold, length, set, Option, None, Some, refl, sym, ap, ◌∙◌, subst, arith}
+use Rattle.std.proofs.Common.{◌≡◌, ◌≢◌, ℕ, zero, suc, ◌+◌, ◌-◌, ◌<◌, ◌≤◌, inl, inr, ◌*◌, ℤ, pos, Bool, true, false, Contains, List, [], ◌∷◌, filter, fold, length, set, Option, None, Some, refl, sym, ap, ◌∙◌, subst, arith}
 use Rattle.std.specs.Prelude.{unwrap_or}
 use Rattle.std.specs.List.{AllByRecursion}
 use Rattle.std.specs.Option.{option_map_or}
@@ -12,14 +12,14 @@ use Rattle.viz_base.specs.declared.trees.BoxNode.{BoxNode}
 use Rattle.viz_base.specs.declared.trees.BoxTree.{BoxTree}
 use Rattle.viz_base.specs.declared.worlds.World.{World}
 use Rattle.layout_semantics.specs.Blocks.{kind_of}
-use Rattle.layout_semantics.specs.Order.{kids_of, roots, IsOnPage}
+use Rattle.layout_semantics.specs.Order.{roots, IsOnPage}
 use Rattle.layout_semantics.specs.FlowBoxes.{flow_children, room, room_inside, room_to}
 use Rattle.layout_semantics.specs.InlineContent.{is_floated_at, has_line, inner_boxes}
 use Rattle.layout_semantics.specs.Flow as landed
 use Rattle.layout_semantics.specs.Flow.{Alone, Progress}
 use Rattle.layout_semantics.specs.Page.{page_rendering}
-use Rattle.layout_semantics.proofs.Forest.{IsKid}
-use Rattle.layout_semantics.proofs.Pages.{forest, root-alone, root_place, Each-contains}
+use Rattle.layout_semantics.proofs.Pages.{forest, root-alone, within-page}
+use Rattle.layout_laws.proofs.Greatest.{filter-implied}
 use Rattle.layout_laws.proofs.Levels.{IsFrom, All-implied, inner_boxes-from}
 use Rattle.layout_laws.proofs.LeadLevels.{children-from}
 use Rattle.layout_laws.proofs.FlowLevels.{flow-is}
@@ -33,25 +33,13 @@ use Rattle.flow_steps.proofs.FlowSteps.{Follows, band_in, alone-same, step-agree
 
 -- ---- boxes of the page, and outside a flow
 
-page-within : (tree : BoxTree) (b : ℕ) → IsOnPage tree.boxes b → b < length tree.boxes
-page-within tree b (IsOnPage.root at c) = let place = root_place tree.boxes at c in let l = place.1 in subst (λ (x : ℕ). x < length tree.boxes) place.0 l
-page-within tree b (IsOnPage.inside at kid p c) = (Each-contains (IsKid tree.boxes at) (kids_of tree.boxes at) kid ((forest tree).kids at) c).within
-
-All-filter : (P : ℕ → Type 0) (test : ℕ → Bool) (ks : List ℕ) → AllByRecursion P ks → AllByRecursion P (filter test ks)
-All-filter P test [] a = tt
-All-filter P test (k ∷ ks) a = by (test k) (All-filter P test ks a.1)
-  where
-    by : (t : Bool) → AllByRecursion P (filter test ks) → AllByRecursion P (cond t (k ∷ filter test ks) (filter test ks))
-    by true rest = (a.0, rest)
-    by false rest = rest
-
 -- of the boxes outside the flow of a box, by its lines or by its blocks
 outside-by : (tree : BoxTree) (b : ℕ) (P : ℕ → Type 0) → AllByRecursion P (inner_boxes tree b) → AllByRecursion P (flow_children tree b) → AllByRecursion P (outside_of tree b)
 outside-by tree b P inner flow = by (has_line tree b)
   where
     by : (l : Bool) → AllByRecursion P (elim l as (λ _. List ℕ) [ true ↦ inner_boxes tree b | false ↦ filter (is_floated_at tree) (flow_children tree b) ])
     by true = inner
-    by false = All-filter P (is_floated_at tree) (flow_children tree b) flow
+    by false = filter-implied P P (is_floated_at tree) (flow_children tree b) (λ k h t. h) flow
 
 -- ---- one place of a table
 
@@ -95,10 +83,10 @@ module _ (tree : BoxTree) (w : World) (height : ℕ) where
   pub flow-agrees : (table : List (Option Alone)) (low : ℕ) → AllServed table low → (n b : ℕ) (left wide top : ℤ) (p : Progress) → low ≤ b → IsSound tree w height b wide → length tree.boxes ≤ n + b
       → Follows p (landed.flow tree w height b (band_in tree w height left b wide) top p) (content_to tree w height (laid_at table) n b (band_in tree w height left b wide) top (context_of p))
   unfolding content_to
-  flow-agrees table low served zero b left wide top p l s m = absurd (let within = page-within tree b s.page in omega arith)
+  flow-agrees table low served zero b left wide top p l s m = absurd (let within = within-page tree b s.page in omega arith)
   flow-agrees table low served (suc n) b left wide top p l s m =
       subst (λ (end : Progress). Follows p end (content_to tree w height (laid_at table) (suc n) b (band_in tree w height left b wide) top (context_of p)))
-      (sym (flow-is tree w height b (band_in tree w height left b wide) top p (page-within tree b s.page)))
+      (sym (flow-is tree w height b (band_in tree w height left b wide) top p (within-page tree b s.page)))
       (step-agrees tree w height (landed.flow tree w height) (content_to tree w height (laid_at table) n) (laid_at table) b
       (λ k left wide top p above sound. flow-agrees table low served n k left wide top p (omega arith) sound (omega arith))
       (λ c above page block. served c (omega arith) page block)
@@ -196,7 +184,7 @@ module _ (tree : BoxTree) (w : World) (height : ℕ) where
 
   filled : (count low : ℕ) → count + low ≡ length tree.boxes → IsFilled (table_to tree w height count) low
   unfolding table_to
-  filled zero low e = record { long = length-replicate (length tree.boxes) None; served = λ c l p i. absurd (let within = page-within tree c p in omega arith) }
+  filled zero low e = record { long = length-replicate (length tree.boxes) None; served = λ c l p i. absurd (let within = within-page tree c p in omega arith) }
   filled (suc count) low e =
       let b : length tree.boxes - suc count ≡ low = omega arith in
       subst (λ (x : ℕ). IsFilled (with_container tree w height (table_to tree w height count) x) low) (sym b)

@@ -188,7 +188,14 @@ module _ (tree : BoxTree) (w : World) (height : ℕ) where
     -- ---- where a box in flow is reached
 
     abbrev pub run_forward : Base → (ℕ → Bool) → Band ℤ → Context → ℕ → Run ℤ → Found
-    run_forward base passed cb s b run = forward tree w size_of base s.floats s.least passed cb b run
+    run_forward base passed cb s b run = forward (record {
+      tree = tree;
+      world = w;
+      size = size_of;
+      base = base;
+      floats = s.floats;
+      least = s.least;
+    }) passed cb b run
 
     -- all before the cleared box stand at y, and that one at its border edge, from which its own lead goes on
     abbrev pub reached_at : Band ℤ → Context → ℕ → ℤ → Cleared → Reached

@@ -17,6 +17,16 @@ use Rattle.lay_margin.specs.Runs.{with_margin}
 use Rattle.lay_margin.specs.steps.Leads.{enters, stops, margin_above, margin_below, inner_band, lead_of}
 use Rattle.flow_steps.specs.Runs.{edge_at}
 
+-- what stays the same along a way forward: the tree and the world, the outer sizes of floats, what the edge
+-- at the run's end goes by, and the floats of the context with its greatest top
+pub record Ground : Type 0 where
+  pub tree : BoxTree
+  pub world : World
+  pub size : Waiting ℤ → Extent ℤ
+  pub base : Base
+  pub floats : List FloatBox
+  pub least : Option ℤ
+
 -- where it ends: the box's own bottom margin adjoins; at the content, the border or
 -- the padding of a box; or at a box that is cleared, with its border edge
 pub data End : Type 0 where
@@ -79,66 +89,68 @@ module _ (tree : BoxTree) (w : World) where
   kids_found kid (k ∷ ks) run waiting =
       then_on (kid run waiting k) (kids_found kid ks (kid run waiting k).run (kid run waiting k).waiting)
 
-  -- `size` gives the outer sizes of floats; the context has these floats and this greatest top
-  module _ (size : Waiting ℤ → Extent ℤ) (base : Base) (floats : List FloatBox) (least : Option ℤ) where
-    -- ---- a box with `clear`, reached with this run and these floats that wait
+-- whether a border edge is above such a bottom, if there is one
+abbrev pub is_above : ℤ → Option ℤ → Bool
+is_above y bottom = option_map_or (int_lt y) bottom false
 
-    -- its border edge if it were not cleared: its own top margin and its
-    -- leading descendants' join, up to the next box with `clear`
-    unfoldable pub hypothetical_edge : Band ℤ → ℕ → Run ℤ → ℤ
-    hypothetical_edge cb b run = edge_at base (lead_of tree w (is_up_to b) cb b run []).run
+module _ (g : Ground) where
+  -- ---- a box with `clear`, reached with this run and these floats that wait
 
-    -- the lowest bottom that it is to clear, the floats that wait being placed at y
-    unfoldable pub bottom_to_clear : ℕ → List (Waiting ℤ) → ℤ → Option ℤ
-    bottom_to_clear b waiting y = lowest_bottom (clear_of tree b) (with_waiting tree size waiting floats least y)
+  -- its border edge if it were not cleared: its own top margin and its
+  -- leading descendants' join, up to the next box with `clear`
+  unfoldable pub hypothetical_edge : Band ℤ → ℕ → Run ℤ → ℤ
+  hypothetical_edge cb b run = edge_at g.base (lead_of g.tree g.world (is_up_to b) cb b run []).run
 
-    -- whether it is cleared: that edge is above such a bottom
-    abbrev pub is_above : ℤ → Option ℤ → Bool
-    is_above y bottom = option_map_or (int_lt y) bottom false
+  -- the lowest bottom that it is to clear, the floats that wait being placed at y
+  unfoldable pub bottom_to_clear : ℕ → List (Waiting ℤ) → ℤ → Option ℤ
+  bottom_to_clear b waiting y =
+      lowest_bottom (clear_of g.tree b) (with_waiting g.tree g.size waiting g.floats g.least y)
 
-    abbrev pub is_to_clear : Band ℤ → ℕ → Run ℤ → List (Waiting ℤ) → Bool
-    is_to_clear cb b run waiting = by_edge (hypothetical_edge cb b run)
-      where
-        by_edge : ℤ → Bool
-        by_edge y = is_above y (bottom_to_clear b waiting y)
+  -- whether it is cleared: that edge is above such a bottom
+  abbrev pub is_to_clear : Band ℤ → ℕ → Run ℤ → List (Waiting ℤ) → Bool
+  is_to_clear cb b run waiting = by_edge (hypothetical_edge cb b run)
+    where
+      by_edge : ℤ → Bool
+      by_edge y = is_above y (bottom_to_clear b waiting y)
 
-    -- its border edge then
-    abbrev pub clear_edge : ℕ → Run ℤ → List (Waiting ℤ) → ℤ
-    clear_edge b run waiting = by_edge (edge_at base run)
-      where
-        by_edge : ℤ → ℤ
-        by_edge y = unwrap_or (bottom_to_clear b waiting y) y
+  -- its border edge then
+  abbrev pub clear_edge : ℕ → Run ℤ → List (Waiting ℤ) → ℤ
+  clear_edge b run waiting = by_edge (edge_at g.base run)
+    where
+      by_edge : ℤ → ℤ
+      by_edge y = unwrap_or (bottom_to_clear b waiting y) y
 
-    abbrev pub decided : Band ℤ → ℕ → Run ℤ → List (Waiting ℤ) → Option ℤ
-    decided cb b run waiting =
-        elim (is_to_clear cb b run waiting) [ true ↦ Some (clear_edge b run waiting) | false ↦ None ]
+  abbrev pub decided : Band ℤ → ℕ → Run ℤ → List (Waiting ℤ) → Option ℤ
+  decided cb b run waiting =
+      elim (is_to_clear cb b run waiting) [ true ↦ Some (clear_edge b run waiting) | false ↦ None ]
 
-    -- ---- the way forward; boxes that pass the test count as not cleared
+  -- ---- the way forward; boxes that pass the test count as not cleared
 
-    module _ (passed : ℕ → Bool) where
-      abbrev pub box_found : Band ℤ → ℕ → Run ℤ → List (Waiting ℤ) → Found → Found
-      box_found cb b run waiting inner = elim (stops tree passed b) [
-        | true ↦ decided_found b run waiting (decided cb b run waiting) inner
-        | false ↦ inner
-      ]
+  module _ (passed : ℕ → Bool) where
+    abbrev pub box_found : Band ℤ → ℕ → Run ℤ → List (Waiting ℤ) → Found → Found
+    box_found cb b run waiting inner = elim (stops g.tree passed b) [
+      | true ↦ decided_found b run waiting (decided cb b run waiting) inner
+      | false ↦ inner
+    ]
 
-      abbrev pub inner_step : (Band ℤ → ℕ → Run ℤ → List (Waiting ℤ) → Found) → Band ℤ → ℕ → Run ℤ → List (Waiting ℤ)
-          → Found
-      inner_step go cb b run waiting = inside_found tree b (with_margin run (margin_above tree w cb b)) waiting
-          (kids_found (kid_of (go (inner_band tree w cb b)) (inner_band tree w cb b)) (flow_children tree b)
-          (with_margin run (margin_above tree w cb b)) waiting)
+    abbrev pub inner_step : (Band ℤ → ℕ → Run ℤ → List (Waiting ℤ) → Found) → Band ℤ → ℕ → Run ℤ → List (Waiting ℤ)
+        → Found
+    inner_step go cb b run waiting = inside_found g.tree b (with_margin run (margin_above g.tree g.world cb b)) waiting
+        (kids_found g.tree g.world
+        (kid_of g.tree g.world (go (inner_band g.tree g.world cb b)) (inner_band g.tree g.world cb b))
+        (flow_children g.tree b) (with_margin run (margin_above g.tree g.world cb b)) waiting)
 
-      abbrev pub forward_step : (Band ℤ → ℕ → Run ℤ → List (Waiting ℤ) → Found) → Band ℤ → ℕ → Run ℤ
-          → List (Waiting ℤ) → Found
-      forward_step go cb b run waiting = box_found cb b run waiting (inner_step go cb b run waiting)
+    abbrev pub forward_step : (Band ℤ → ℕ → Run ℤ → List (Waiting ℤ) → Found) → Band ℤ → ℕ → Run ℤ
+        → List (Waiting ℤ) → Found
+    forward_step go cb b run waiting = box_found cb b run waiting (inner_step go cb b run waiting)
 
-      -- down to so many levels
-      unfoldable pub forward_to : ℕ → Band ℤ → ℕ → Run ℤ → List (Waiting ℤ) → Found
-      forward_to zero cb b run waiting = found run waiting goes_on
-      forward_to (suc levels) cb b run waiting = forward_step (forward_to levels) cb b run waiting
+    -- down to so many levels
+    unfoldable pub forward_to : ℕ → Band ℤ → ℕ → Run ℤ → List (Waiting ℤ) → Found
+    forward_to zero cb b run waiting = found run waiting goes_on
+    forward_to (suc levels) cb b run waiting = forward_step (forward_to levels) cb b run waiting
 
-      abbrev pub way : Band ℤ → ℕ → Run ℤ → List (Waiting ℤ) → Found
-      way cb b run waiting = forward_to (length tree.boxes) cb b run waiting
+    abbrev pub way : Band ℤ → ℕ → Run ℤ → List (Waiting ℤ) → Found
+    way cb b run waiting = forward_to (length g.tree.boxes) cb b run waiting
 
-      abbrev pub forward : Band ℤ → ℕ → Run ℤ → Found
-      forward cb b run = way cb b run []
+    abbrev pub forward : Band ℤ → ℕ → Run ℤ → Found
+    forward cb b run = way cb b run []

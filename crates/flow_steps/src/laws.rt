@@ -5,7 +5,7 @@ ghost use Rattle.viz_base.specs.declared.layouts.Band.{Band};
 ghost use Rattle.viz_base.specs.declared.layouts.Extent.{Extent};
 ghost use Rattle.viz_base.specs.declared.layouts.Waiting.{Waiting};
 ghost use Rattle.layout_semantics.specs.Blocks.{kind_of};
-ghost use Rattle.layout_semantics.specs.Clearance.{Base, hangs, stands, resolve};
+ghost use Rattle.layout_semantics.specs.Clearance.{hangs, stands, resolve};
 ghost use Rattle.layout_semantics.specs.Floats.{FloatBox};
 ghost use Rattle.layout_semantics.specs.Flow.{Alone, Progress, flow, whole_alone};
 ghost use Rattle.layout_semantics.specs.Leads.{is_up_to, none_passed};
@@ -15,7 +15,7 @@ ghost use Rattle.layout_semantics.specs.Page.{page_rendering};
 ghost use Rattle.lay_margin.specs.Runs.{no_run};
 ghost use Rattle.lay_margin.specs.declared.runs.Run.{Run};
 ghost use Rattle.flow_steps.specs.Flow.{Context, content_of, content_step};
-ghost use Rattle.flow_steps.specs.Forward.{cleared_of, forward, forward_step, way};
+ghost use Rattle.flow_steps.specs.Forward.{Ground, cleared_of, forward, forward_step, way};
 ghost use Rattle.flow_steps.specs.Order.{is_in_order};
 ghost use Rattle.flow_steps.specs.Progress.{context_of};
 ghost use Rattle.flow_steps.specs.Runs.{run_of};
@@ -36,23 +36,42 @@ pub fn clearance_is_decided_on_the_way(tree: &BoxTree, world: World, at: usize)
     ensures margins { (size : Waiting ℤ → Extent ℤ) (edge : ℤ) (run : List ℤ) (cb : Band ℤ) (floats : List FloatBox)
         (least : Option ℤ) → run_of (run ++ (resolve tree.now world size (hangs edge) run cb floats least at
         none_passed).margins)
-        ≡ (forward tree.now world size (hangs edge) floats least none_passed cb at (run_of run)).run }
+        ≡ (forward (record {
+          tree = tree.now;
+          world = world;
+          size = size;
+          base = hangs edge;
+          floats = floats;
+          least = least;
+        }) none_passed cb at (run_of run)).run }
     ensures cleared { (size : Waiting ℤ → Extent ℤ) (edge : ℤ) (run : List ℤ) (cb : Band ℤ) (floats : List FloatBox)
         (least : Option ℤ) → (resolve tree.now world size (hangs edge) run cb floats least at
         none_passed).cleared
-        ≡ cleared_of (forward tree.now world size (hangs edge) floats least none_passed cb at (run_of run)).end }
+        ≡ cleared_of (forward (record {
+          tree = tree.now;
+          world = world;
+          size = size;
+          base = hangs edge;
+          floats = floats;
+          least = least;
+        }) none_passed cb at (run_of run)).end }
     ensures opened { (size : Waiting ℤ → Extent ℤ) (y : ℤ) (cb : Band ℤ) (floats : List FloatBox) (least : Option ℤ)
         → (resolve tree.now world size (stands y) [] cb floats least at (is_up_to at)).cleared
-        ≡ cleared_of (forward tree.now world size (stands y) floats least (is_up_to at) cb at no_run).end }
+        ≡ cleared_of (forward (record {
+          tree = tree.now;
+          world = world;
+          size = size;
+          base = stands y;
+          floats = floats;
+          least = least;
+        }) (is_up_to at) cb at no_run).end }
 {}
 
 /// The way forward from a box, by that of the boxes in it: more levels would change nothing.
-pub fn a_way_forward_comes_from_inside(tree: &BoxTree, world: World, at: usize)
+pub fn a_way_forward_comes_from_inside(tree: &BoxTree, at: usize)
     requires within { at < length tree.now.boxes }
-    ensures { (size : Waiting ℤ → Extent ℤ) (base : Base) (floats : List FloatBox) (least : Option ℤ)
-        (passed : ℕ → Bool) (cb : Band ℤ) (run : Run ℤ) (waiting : List (Waiting ℤ))
-        → way tree.now world size base floats least passed cb at run waiting ≡ forward_step tree.now world size base
-        floats least passed (way tree.now world size base floats least passed) cb at run waiting }
+    ensures { (g : Ground) (passed : ℕ → Bool) (cb : Band ℤ) (run : Run ℤ) (waiting : List (Waiting ℤ))
+        → g.tree ≡ tree.now → way g passed cb at run waiting ≡ forward_step g passed (way g passed) cb at run waiting }
 {}
 
 /// The steps through what is in a box, by those through what is in later boxes, whatever the table of boxes outside the
