@@ -6,3 +6,4 @@ pub mod Sound
 pub mod Trees
 pub mod Values
 pub mod FitDefs
+pub mod Variables

@@ -16,6 +16,7 @@ use Rattle.lin_proof.specs.declared.derivation.Answer.{Answer}
 use Rattle.lin_proof.specs.Derivations.{Refutes}
 use Rattle.lin_proof.specs.Law.{Meets}
 use Rattle.lin_proof.proofs.Sound.{law}
+use Rattle.cert_path.specs.Axes.{axis_count}
 use Rattle.cert_path.specs.Paths.{def, first, second, Path, variables, with_value, values_at, values_along, IsOn, AreSound, IsSound}
 use Rattle.cert_path.specs.Facts.{row_of, range_facts, step_facts, facts}
 use Rattle.cert_path.specs.Derived.{below_floors, AreFloors, IsAnswer, denial, IsRefuted}
@@ -48,10 +49,10 @@ all_more n (f ∷ fs) h = (more_local n (n + 1) (omega arith) f h.0, all_more n 
 -- the facts of a sound path name its variables alone
 facts_local : (range : Rect) (path : Path) → AreSound path → AllByRecursion (Local (variables path)) (facts range path)
 facts_local range [] sound = (
-  row_local 2 (neg_ℤ (pos range.wl)) (pos 1) 0 (omega arith),
+  row_local axis_count (neg_ℤ (pos range.wl)) (pos 1) 0 (omega arith),
   (
-    row_local 2 (pos range.wh) (negsuc 0) 0 (omega arith),
-    (row_local 2 (neg_ℤ (pos range.sl)) (pos 1) 1 (omega arith), (row_local 2 (pos range.sh) (negsuc 0) 1 (omega arith), tt)),
+    row_local axis_count (pos range.wh) (negsuc 0) 0 (omega arith),
+    (row_local axis_count (neg_ℤ (pos range.sl)) (pos 1) 1 (omega arith), (row_local axis_count (pos range.sh) (negsuc 0) 1 (omega arith), tt)),
   ),
 )
 facts_local range (def f d ∷ outer) sound =
@@ -145,7 +146,7 @@ at_root range v h =
       values = values w.0 s.0 w.1 s.1;
     }
   where
-    values : (w s : ℕ) → v 0 ≡ pos w → v 1 ≡ pos s → (x : ℕ) → x < 2 → v x ≡ values_at (record { w = w; s = s }) x
+    values : (w s : ℕ) → v 0 ≡ pos w → v 1 ≡ pos s → (x : ℕ) → x < axis_count → v x ≡ values_at (record { w = w; s = s }) x
     values w s e f zero less = e
     values w s e f (suc zero) less = f
     values w s e f (suc (suc x)) less = absurd (omega arith)

@@ -1,19 +1,22 @@
 -- The rectangle of a path has the worlds at which its unit splits are taken.
-use Rattle.std.proofs.Common.{◌≡◌, ℕ, ◌<◌, ◌==◌, ℤ, pos, negsuc, neg_ℤ, ◌+ℤ◌, ◌*ℤ◌, ◌≤ℤ◌, Bool, true, false, cond, [], ◌∷◌, Some, None, refl, sym, ap, subst, arith, inl, inr, IsTrue}
+use Rattle.std.proofs.Common.{◌≡◌, ℕ, ◌==◌, ℤ, pos, negsuc, neg_ℤ, ◌+ℤ◌, ◌*ℤ◌, ◌≤ℤ◌, Bool, true, false, cond, [], ◌∷◌, refl, sym, ◌∙◌, ap, subst, arith, inl, inr, IsTrue}
 use Rattle.std.specs.Prelude.{◌⊎◌, ◌↔◌}
 use Rattle.std.specs.Ordering.{int_eq}
 use Rattle.std.specs.Int.{int_max, int_min}
 use Rattle.std.proofs.lemmas.Int.{ints, int_max_is, int_min_is}
 use Rattle.std.proofs.lemmas.Bool.Decides.{nat_tests, Decides-int_eq}
 use Rattle.viz_base.specs.declared.worlds.World.{World}
+use Rattle.viz_base.specs.declared.worlds.Axis.{Axis}
 use Rattle.viz_base.specs.declared.worlds.Axis.TheVariants.{Width, Size}
 use Rattle.viz_base.specs.declared.worlds.Rect.{Rect}
+use Rattle.viz_base.specs.Worlds.{along}
 use Rattle.logic_semantics.specs.Ranges.{IsInRange}
 use Rattle.lin_row.specs.Form.{Form, Terms, value, denied, opposites}
 use Rattle.lin_row.proofs.Values.{value-denied}
 use Rattle.lin_proof.specs.Derivations.{are_declared}
+use Rattle.cert_path.specs.Axes.{variable_of, axis_count}
 use Rattle.cert_path.specs.Paths.{def, first, second, Path, values_at, values_along}
-use Rattle.cert_path.specs.Rectangles.{Side, Sides, cut_side, cut_axis, cut_sides, left_by_terms, left_by, rectangle}
+use Rattle.cert_path.specs.Rectangles.{Side, Sides, cut_side, cut_sides, left_by_terms, left_by, whole, rectangle}
 use Rattle.cert_path.specs.Laws.{IsOnSide, IsInside, IsUnit, UnitsAreTaken}
 use Rattle.cert_path.proofs.Values.{declared_local, axes_along}
 
@@ -26,14 +29,17 @@ head_of : ℕ × ℤ → Terms → ℕ × ℤ
 head_of none [] = none
 head_of none (t ∷ ts) = t
 
-unit_parts : (k : ℤ) (t : ℕ × ℤ) → IsUnit (record { k = k; terms = t ∷ [] }) → (t.0 < 2) × IsOne t.1
+-- the row's variable is that of the axis
+unit_at : (k : ℤ) (t : ℕ × ℤ) (u : IsUnit (record { k = k; terms = t ∷ [] })) → t.0 ≡ variable_of u.axis
 unfolding head_of
-unit_parts k t u =
-    let same : t ≡ (u.variable, u.coefficient) = ap (head_of t) u.terms in
-    (subst (λ (s : ℕ × ℤ). s.0 < 2) (sym same) u.axis, subst (λ (s : ℕ × ℤ). IsOne s.1) (sym same) u.unit)
+unit_at k t u = ap (λ ts. (head_of t ts).0) u.terms
 
-make_unit : (k : ℤ) (t : ℕ × ℤ) → t.0 < 2 → IsOne t.1 → IsUnit (record { k = k; terms = t ∷ [] })
-make_unit k t axis one = record { variable = t.0; coefficient = t.1; terms = refl; axis = axis; unit = one }
+unit_one : (k : ℤ) (t : ℕ × ℤ) → IsUnit (record { k = k; terms = t ∷ [] }) → IsOne t.1
+unfolding head_of
+unit_one k t u = subst IsOne (sym (ap (λ ts. (head_of t ts).1) u.terms)) u.unit
+
+make_unit : (k : ℤ) (t : ℕ × ℤ) (axis : Axis) → t.0 ≡ variable_of axis → IsOne t.1 → IsUnit (record { k = k; terms = t ∷ [] })
+make_unit k t axis at one = record { axis = axis; coefficient = t.1; terms = λ i. (at i, t.1) ∷ []; unit = one }
 
 opposite_one : (c : ℤ) → IsOne c → IsOne (neg_ℤ c)
 opposite_one c (inl e) = inr (ap neg_ℤ e)
@@ -46,26 +52,28 @@ one_opposite c (inr e) = inl (omega (arith, ints, e))
 -- a row is a unit row exactly where its denial is one
 unit_denied : (row : Form) → IsUnit row → IsUnit (denied row)
 unit_denied row u = record {
-  variable = u.variable;
+  axis = u.axis;
   coefficient = neg_ℤ u.coefficient;
   terms = ap opposites u.terms;
-  axis = u.axis;
   unit = opposite_one u.coefficient u.unit;
 }
 
 denied_unit_terms : (k m : ℤ) (ts : Terms) → IsUnit (record { k = m; terms = opposites ts }) → IsUnit (record { k = k; terms = ts })
 denied_unit_terms k m [] u = absurd (cc (u.terms))
-denied_unit_terms k m (t ∷ []) u = let parts = unit_parts m (t.0, neg_ℤ t.1) u in make_unit k t parts.0 (one_opposite t.1 parts.1)
+denied_unit_terms k m (t ∷ []) u = make_unit k t u.axis (unit_at m (t.0, neg_ℤ t.1) u) (one_opposite t.1 (unit_one m (t.0, neg_ℤ t.1) u))
 denied_unit_terms k m (t ∷ s ∷ ts) u = absurd (cc (u.terms))
 
 denied_unit : (row : Form) → IsUnit (denied row) → IsUnit row
 denied_unit row u = denied_unit_terms row.k (denied row).k row.terms u
 
+axis_declared : (axis : Axis) (c : ℤ) → IsTrue (are_declared axis_count ((variable_of axis, c) ∷ []))
+axis_declared Width c = refl
+axis_declared Size c = refl
+
 -- its value is that at the world, all along a path
 unit_value : (row : Form) → IsUnit row → (world : World) (path : Path) → value row (values_along world path) ≡ value row (values_at world)
 unit_value row u world path =
-    let less : IsTrue (are_declared 2 ((u.variable, u.coefficient) ∷ [])) = let axis = u.axis in grind (arith, nat_tests) in
-    declared_local 2 row (subst (λ ts. IsTrue (are_declared 2 ts)) (sym u.terms) less) (values_along world path) (values_at world) (axes_along world path)
+    declared_local axis_count row (subst (λ ts. IsTrue (are_declared axis_count ts)) (sym u.terms) (axis_declared u.axis u.coefficient)) (values_along world path) (values_at world) (axes_along world path)
 
 -- ---- sides
 
@@ -114,37 +122,44 @@ cut_side_is k c side n = by_test (int_eq c (pos 1)) refl (int_eq c (negsuc 0)) r
 abbrev Keeps : Form → World → Type 0
 Keeps row world = IsUnit row → pos 0 ≤ℤ value row (values_at world)
 
--- a row of one term, by the values of its variable
-keeps_by : (k : ℤ) (t : ℕ × ℤ) (world : World) (n : ℕ) → t.0 < 2 → values_at world t.0 ≡ pos n
-    → (IsOne t.1 → pos 0 ≤ℤ (k +ℤ (t.1 *ℤ pos n +ℤ pos 0))) ↔ Keeps (record { k = k; terms = t ∷ [] }) world
-keeps_by k t world n less is = (
-  λ h u. subst (λ z. pos 0 ≤ℤ (k +ℤ (t.1 *ℤ z +ℤ pos 0))) (sym is) (h (unit_parts k t u).1),
-  λ h one. subst (λ z. pos 0 ≤ℤ (k +ℤ (t.1 *ℤ z +ℤ pos 0))) is (h (make_unit k t less one)),
+value_at : (axis : Axis) (world : World) → values_at world (variable_of axis) ≡ pos (along axis world)
+value_at Width world = refl
+value_at Size world = refl
+
+-- the same of a row of one term, by the axes that its variable stands for
+abbrev KeepsOn : ℤ → ℕ × ℤ → World → Axis → Type 0
+KeepsOn k t world axis = t.0 ≡ variable_of axis → IsOne t.1 → pos 0 ≤ℤ (k +ℤ (t.1 *ℤ pos (along axis world) +ℤ pos 0))
+
+valued : (k : ℤ) (t : ℕ × ℤ) (world : World) (axis : Axis) → t.0 ≡ variable_of axis → values_at world t.0 ≡ pos (along axis world)
+valued k t world axis at = ap (values_at world) at ∙ value_at axis world
+
+keeps_by : (k : ℤ) (t : ℕ × ℤ) (world : World) → ((axis : Axis) → KeepsOn k t world axis) ↔ Keeps (record { k = k; terms = t ∷ [] }) world
+keeps_by k t world = (
+  λ h u.
+      let at = unit_at k t u in
+      subst (λ z. pos 0 ≤ℤ (k +ℤ (t.1 *ℤ z +ℤ pos 0))) (sym (valued k t world u.axis at)) (h u.axis at (unit_one k t u)),
+  λ h axis at one. subst (λ z. pos 0 ≤ℤ (k +ℤ (t.1 *ℤ z +ℤ pos 0))) (valued k t world axis at) (h (make_unit k t axis at one)),
 )
 
-term_is : (k : ℤ) (t : ℕ × ℤ) (sides : Sides) (world : World) → IsInside (cut_sides k t sides) world ↔ (IsInside sides world × Keeps (record { k = k; terms = t ∷ [] }) world)
-term_is k t sides world = by_test (t.0 == 0) refl (t.0 == 1) refl
+side_is : (k : ℤ) (t : ℕ × ℤ) (sides : Sides) (world : World) (axis : Axis)
+    → IsOnSide (cut_sides k t sides axis) (along axis world) ↔ (IsOnSide (sides axis) (along axis world) × KeepsOn k t world axis)
+side_is k t sides world axis = by_test (t.0 == variable_of axis) refl
   where
-    by_test : (a : Bool) → (t.0 == 0) ≡ a → (b : Bool) → (t.0 == 1) ≡ b
-        → IsInside (cut_axis (cond a (Some Width) (cond b (Some Size) None)) k t.1 sides) world
-        ↔ (IsInside sides world × Keeps (record { k = k; terms = t ∷ [] }) world)
-    by_test true e b f =
-        let zero : t.0 ≡ 0 = grind (arith, nat_tests) in
-        let keeps = keeps_by k t world world.w (omega arith) (ap (values_at world) zero) in
-        let cut = cut_side_is k t.1 sides.widths world.w in (
-          λ h. let all = cut.0 h.0 in ((all.0, h.1), keeps.0 all.1),
-          λ h. (cut.1 (h.0.0, keeps.1 h.1), h.0.1),
-        )
-    by_test false e true f =
-        let one : t.0 ≡ 1 = grind (arith, nat_tests) in
-        let keeps = keeps_by k t world world.s (omega arith) (ap (values_at world) one) in
-        let cut = cut_side_is k t.1 sides.sizes world.s in (
-          λ h. let all = cut.0 h.1 in ((h.0, all.0), keeps.0 all.1),
-          λ h. (h.0.0, cut.1 (h.0.1, keeps.1 h.1)),
-        )
-    by_test false e false f =
-        let other : (t.0 < 2) → ⊥ = λ less. absurd (grind (arith, nat_tests)) in
-        (λ h. (h, λ u. absurd (other (unit_parts k t u).0)), λ h. h.0)
+    by_test : (b : Bool) → (t.0 == variable_of axis) ≡ b
+        → IsOnSide (cond b (cut_side k t.1 (sides axis)) (sides axis)) (along axis world) ↔ (IsOnSide (sides axis) (along axis world) × KeepsOn k t world axis)
+    by_test true e =
+        let at : t.0 ≡ variable_of axis = grind (arith, nat_tests) in
+        let cut = cut_side_is k t.1 (sides axis) (along axis world) in
+        (λ h. let all = cut.0 h in (all.0, λ same. all.1), λ h. cut.1 (h.0, h.1 at))
+    by_test false e =
+        let other : t.0 ≡ variable_of axis → ⊥ = λ at. absurd (grind (arith, nat_tests)) in
+        (λ h. (h, λ at. absurd (other at)), λ h. h.0)
+
+term_is : (k : ℤ) (t : ℕ × ℤ) (sides : Sides) (world : World) → IsInside (cut_sides k t sides) world ↔ (IsInside sides world × Keeps (record { k = k; terms = t ∷ [] }) world)
+term_is k t sides world = (
+  λ h. (λ axis. ((side_is k t sides world axis).0 (h axis)).0, (keeps_by k t world).0 (λ axis. ((side_is k t sides world axis).0 (h axis)).1)),
+  λ h axis. (side_is k t sides world axis).1 (h.0 axis, (keeps_by k t world).1 h.1 axis),
+)
 
 terms_is : (k : ℤ) (ts : Terms) (sides : Sides) (world : World) → IsInside (left_by_terms k ts sides) world ↔ (IsInside sides world × Keeps (record { k = k; terms = ts }) world)
 terms_is k [] sides world = (λ h. (h, λ u. absurd (cc (u.terms))), λ h. h.0)
@@ -158,22 +173,23 @@ left_by_is row sides world = terms_is row.k row.terms sides world
 
 pub rectangle_is_units : (range : Rect) (path : Path) (world : World) → IsInside (rectangle range path) world ↔ (IsInRange range world × UnitsAreTaken path world)
 rectangle_is_units range [] world = (
-  λ h. (
-    record {
-      width_least = omega (arith, ints, h.0.0);
-      width_most = omega (arith, ints, h.0.1);
-      size_least = omega (arith, ints, h.1.0);
-      size_most = omega (arith, ints, h.1.1);
-    },
-    tt,
-  ),
   λ h.
-      let a = h.0.width_least in
-      let b = h.0.width_most in
-      let c = h.0.size_least in
-      let d = h.0.size_most in
-      ((omega (arith, ints), omega (arith, ints)), (omega (arith, ints), omega (arith, ints))),
+      let widths = h Width in
+      let sizes = h Size in (
+        record {
+          width_least = omega (arith, ints, widths.0);
+          width_most = omega (arith, ints, widths.1);
+          size_least = omega (arith, ints, sizes.0);
+          size_most = omega (arith, ints, sizes.1);
+        },
+        tt,
+      ),
+  λ h. whole_is h.0,
 )
+  where
+    whole_is : IsInRange range world → IsInside (whole range) world
+    whole_is i Width = let a = i.width_least in let b = i.width_most in (omega (arith, ints), omega (arith, ints))
+    whole_is i Size = let a = i.size_least in let b = i.size_most in (omega (arith, ints), omega (arith, ints))
 rectangle_is_units range (def row d ∷ outer) world =
     let above = rectangle_is_units range outer world in (
       λ h. ((above.0 h).0, (tt, (above.0 h).1)),

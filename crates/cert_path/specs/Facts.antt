@@ -1,12 +1,12 @@
 -- Facts: the rows that a path gives to derivations. Each is at least 0 on the path.
 use Rattle.std.specs.Prelude.{ℕ, ℤ, pos, negsuc, neg_ℤ, ◌-ℤ◌, List, [], ◌∷◌, ◌++◌}
+use Rattle.std.specs.List.{flat_map}
 use Rattle.viz_base.specs.declared.worlds.Axis.{Axis}
-use Rattle.viz_base.specs.declared.worlds.Axis.TheVariants.{Width, Size}
 use Rattle.viz_base.specs.declared.worlds.Span.{Span}
 use Rattle.viz_base.specs.declared.worlds.Rect.{Rect}
 use Rattle.viz_base.specs.Worlds.{side_of}
 use Rattle.lin_row.specs.Form.{Form, plus, denied}
-use Rattle.cert_path.specs.Axes.{variable_of}
+use Rattle.cert_path.specs.Axes.{variable_of, axes}
 use Rattle.cert_path.specs.Paths.{Step, def, first, second, Path, variables}
 
 -- the row k + c*x
@@ -20,9 +20,9 @@ side_facts axis side =
     ∷ row_of (pos side.most) (negsuc 0) (variable_of axis)
     ∷ []
 
--- those of each axis
+-- those of each axis, in the order of their variables
 abbrev pub range_facts : Rect → List Form
-range_facts r = side_facts Width (side_of Width r) ++ side_facts Size (side_of Size r)
+range_facts r = flat_map (λ axis. side_facts axis (side_of axis r)) axes
 
 -- what a step adds, x being the next variable: a def the rows f - d*x and d*x + d - 1 - f, a split its row on the first
 -- side, and its denial -f - 1 on the second

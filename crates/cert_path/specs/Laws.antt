@@ -1,8 +1,10 @@
 -- Laws over paths.
-use Rattle.std.specs.Prelude.{◌≡◌, ◌≢◌, ◌⊎◌, ◌↔◌, ℕ, ◌<◌, ℤ, pos, negsuc, ◌≤ℤ◌, ◌<ℤ◌, List, [], ◌∷◌, ◌++◌, length, IsTrue, Some, slice_get, ⊤}
+use Rattle.std.specs.Prelude.{◌≡◌, ◌≢◌, ◌⊎◌, ◌↔◌, ℕ, ◌<◌, nat_lt, ℤ, pos, negsuc, ◌≤ℤ◌, ◌<ℤ◌, List, [], ◌∷◌, ◌++◌, length, IsTrue, Some, is_some, slice_get, ⊤}
 use Rattle.std.specs.List.{All}
 use Rattle.viz_base.specs.declared.worlds.World.{World}
+use Rattle.viz_base.specs.declared.worlds.Axis.{Axis}
 use Rattle.viz_base.specs.declared.worlds.Rect.{Rect}
+use Rattle.viz_base.specs.Worlds.{along}
 use Rattle.logic_semantics.specs.Ranges.{IsInRange}
 use Rattle.lin_row.specs.Form.{Form, value}
 use Rattle.lin_proof.specs.declared.derivation.Derivation.{Derivation}
@@ -12,12 +14,21 @@ use Rattle.lin_proof.specs.Law.{Meets}
 use Rattle.cert_text.specs.declared.certificate.Cert.{Cert}
 use Rattle.cert_text.specs.declared.certificate.CertNode.{CertNode}
 use Rattle.cert_text.specs.declared.certificate.CertNode.TheVariants.{Def, Split, Void, Grid, Leaf}
+use Rattle.cert_path.specs.Axes.{variable_of, axis_of, axis_count}
 use Rattle.cert_path.specs.Paths.{Step, def, first, second, Path, variables, values_along, IsTaken, IsOn, AreSound}
 use Rattle.cert_path.specs.Facts.{facts}
 use Rattle.cert_path.specs.Nodes.{names, splits, is_empty, by_worlds, by_answers, is_end, is_laid_out, Node, node_on, nodes_from, nodes_of}
 use Rattle.cert_path.specs.Rectangles.{Side, Sides, rectangle}
 use Rattle.cert_path.specs.Derived.{below_floors, AreFloors, IsAnswer, IsRefuted, IsReasoned}
 use Rattle.cert_path.specs.Shapes.{is_shaped, AreShapedBefore, IsFirstFault}
+
+-- ---- axes
+
+-- each axis has a variable, which stands for no other, and these are those below the count of axes
+pub record HaveVariables : Type 0 where
+  pub own : (axis : Axis) → axis_of (variable_of axis) ≡ Some axis
+  pub one : (x : ℕ) (axis : Axis) → axis_of x ≡ Some axis → x ≡ variable_of axis
+  pub below : (x : ℕ) → is_some (axis_of x) ≡ nat_lt x axis_count
 
 -- ---- facts
 
@@ -133,15 +144,15 @@ OneFirstFault = (range : Rect) (cert : Cert) (n m : ℕ) → IsFirstFault range 
 abbrev pub IsOnSide : Side → ℕ → Type 0
 IsOnSide side n = (side.least ≤ℤ pos n) × (pos n ≤ℤ side.most)
 
+-- so is a world's on each axis
 abbrev pub IsInside : Sides → World → Type 0
-IsInside sides world = IsOnSide sides.widths world.w × IsOnSide sides.sizes world.s
+IsInside sides world = (axis : Axis) → IsOnSide (sides axis) (along axis world)
 
--- a row with one variable, w or s, and the coefficient 1 or -1
+-- a row with one variable, which stands for an axis, and the coefficient 1 or -1
 pub record IsUnit (row : Form) : Type 0 where
-  pub variable : ℕ
+  pub axis : Axis
   pub coefficient : ℤ
-  pub terms : row.terms ≡ (variable, coefficient) ∷ []
-  pub axis : variable < 2
+  pub terms : row.terms ≡ (variable_of axis, coefficient) ∷ []
   pub unit : (coefficient ≡ pos 1) ⊎ (coefficient ≡ negsuc 0)
 
 -- a step that is no unit split, or is taken

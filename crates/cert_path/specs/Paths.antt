@@ -5,7 +5,7 @@ use Rattle.std.specs.Int.{int_div_euclid}
 use Rattle.viz_base.specs.declared.worlds.World.{World}
 use Rattle.lin_row.specs.Form.{Form, value}
 use Rattle.lin_proof.specs.Derivations.{are_declared}
-use Rattle.cert_path.specs.Axes.{axis_of, number_on}
+use Rattle.cert_path.specs.Axes.{axis_count, axis_of, number_on}
 
 -- a step from a node down to a child of it
 pub data Step : Type 0 where
@@ -24,7 +24,7 @@ Path = List Step
 
 -- how many variables are declared along a path
 abbrev pub variables : Path → ℕ
-variables [] = 2
+variables [] = axis_count
 variables (def row d ∷ outer) = variables outer + 1
 variables (first row ∷ outer) = variables outer
 variables (second row ∷ outer) = variables outer

@@ -1,7 +1,10 @@
 //! Paths of certificates: what the variables are along them, which facts they give, and which worlds lie on them.
 #![tactic(auto)]
 
+pub mod axes;
 pub mod examples;
 pub mod facts;
 pub mod nodes;
 pub mod shapes;
+
+pub use axes::{AXIS_COUNT, along, axis_of, variable_of};

@@ -1,13 +1,19 @@
 -- The facts and floors of a certificate's path.
 use Rattle.std.proofs.Common.{◌≡◌, ℕ, ◌+◌, ◌<◌, ◌^◌, ℤ, pos, negsuc, neg_ℤ, true, List, [], ◌∷◌, ◌++◌, length, refl, sym, ◌∙◌, ap, subst, arith, length-append, IsTrue}
+use Rattle.std.specs.List.{flat_map}
 use Rattle.std.proofs.lemmas.Bool.{and_parts}
 use Rattle.viz_base.specs.declared.worlds.World.{World}
+use Rattle.viz_base.specs.declared.worlds.Axis.{Axis}
+use Rattle.viz_base.specs.declared.worlds.Axis.TheVariants.{Width, Size}
+use Rattle.viz_base.specs.declared.worlds.Span.{Span}
 use Rattle.viz_base.specs.declared.worlds.Rect.{Rect}
+use Rattle.viz_base.specs.Worlds.{side_of}
 use Rattle.logic_semantics.specs.Ranges.{IsInRange}
 use Rattle.lin_row.specs.Form.{Form, denied}
 use Rattle.lin_proof.specs.Derivations.{are_declared}
+use Rattle.cert_path.specs.Axes.{variable_of, axes, axis_count}
 use Rattle.cert_path.specs.Paths.{def, first, second, Path as Steps, variables, with_floor, values_at, values_along, IsOn}
-use Rattle.cert_path.specs.Facts.{row_of, range_facts, step_facts, facts}
+use Rattle.cert_path.specs.Facts.{row_of, side_facts, range_facts, step_facts, facts}
 use Rattle.cert_path.specs.Laws.{AreAlong}
 use Rattle.cert_path.proofs.Values.{declared_local, denied_local, row_local, axes_along}
 use Rattle.cert_path.proofs.PathFacts.{facts_hold, facts_say_all, to_meets, from_meets}
@@ -19,7 +25,7 @@ use Rattle.sym_calc.proofs.Knowing.{met_all, all_met, are_met-append, Declared, 
 
 -- ---- the values along a path
 
-pub variables_of : (steps : Steps) → variables steps ≡ length (floors_of steps) + 2
+pub variables_of : (steps : Steps) → variables steps ≡ length (floors_of steps) + axis_count
 variables_of [] = omega arith
 variables_of (def row d ∷ outer) =
     let above = variables_of outer in
@@ -45,7 +51,7 @@ kept_are_those range steps sound world = (forth, back)
     is : v ≡ values_along world steps
     is = values_by_along steps world
 
-    axis : (a : AreAlong range steps v) → (x : ℕ) → x < 2 → values_at a.world x ≡ values_at world x
+    axis : (a : AreAlong range steps v) → (x : ℕ) → x < axis_count → values_at a.world x ≡ values_at world x
     axis a x less =
         sym (axes_along a.world steps x less)
         ∙ sym (a.values x (let n = variables_of steps in omega (arith, n, less)))
@@ -78,7 +84,7 @@ open_are_on range steps sound e met =
     let a = facts_say_all range steps sound v (to_meets v (facts range steps) (met_all v (facts range steps) met)) in
     subst (λ w. IsInRange range w × IsOn steps w) (world_is a) (a.in_range, a.on_path)
   where
-    axis : (a : AreAlong range steps (values_of e)) → (x : ℕ) → x < 2 → values_of e x ≡ values_at a.world x
+    axis : (a : AreAlong range steps (values_of e)) → (x : ℕ) → x < axis_count → values_of e x ≡ values_at a.world x
     axis a x less = a.values x (let n = variables_of steps in omega (arith, n, less)) ∙ axes_along a.world steps x less
 
     number : (m n : ℕ) → pos m ≡ pos n → m ≡ n
@@ -92,26 +98,38 @@ open_are_on range steps sound e met =
 
 -- ---- what is known along a path
 
-known_row : (fs : List Form) (named : List Floor) (f : Form) → AreKnown fs named → Declared (length named + 2) (f ∷ []) → AreKnown (fs ++ f ∷ []) named
+known_row : (fs : List Form) (named : List Floor) (f : Form) → AreKnown fs named → Declared (length named + axis_count) (f ∷ []) → AreKnown (fs ++ f ∷ []) named
 known_row fs named f known local = record {
   few = known.few;
-  declared = declared_append (length named + 2) fs (f ∷ []) known.declared local;
+  declared = declared_append (length named + axis_count) fs (f ∷ []) known.declared local;
   floors = λ v met n g at. known.floors v (both v met) n g at;
 }
   where
     both : (v : ℕ → ℤ) → are_met (fs ++ f ∷ []) v ≡ true → are_met fs v ≡ true
     both v met = (and_parts (are_met fs v) (are_met (f ∷ []) v) (sym (are_met-append fs (f ∷ []) v) ∙ met)).0
 
+known_side : (axis : Axis) (side : Span) → Declared axis_count (side_facts axis side)
+known_side axis side =
+    let low = row_of (neg_ℤ (pos side.least)) (pos 1) (variable_of axis) in
+    let high = row_of (pos side.most) (negsuc 0) (variable_of axis) in
+    declared_append axis_count (low ∷ []) (high ∷ [])
+    (declared_row axis_count low (row_local axis_count low.k (pos 1) (variable_of axis) (axis_low axis)))
+    (declared_row axis_count high (row_local axis_count high.k (negsuc 0) (variable_of axis) (axis_low axis)))
+  where
+    axis_low : (axis : Axis) → variable_of axis < axis_count
+    axis_low Width = omega arith
+    axis_low Size = omega arith
+
+known_sides : (range : Rect) (some : List Axis) → Declared axis_count (flat_map (λ axis. side_facts axis (side_of axis range)) some)
+known_sides range [] v w same = refl
+known_sides range (axis ∷ some) =
+    declared_append axis_count (side_facts axis (side_of axis range)) (flat_map (λ other. side_facts other (side_of other range)) some)
+    (known_side axis (side_of axis range)) (known_sides range some)
+
 pub known_range : (range : Rect) → AreKnown (range_facts range) []
 known_range range = record {
   few = omega arith;
-  declared = declared_append 2 (row_of (neg_ℤ (pos range.wl)) (pos 1) 0 ∷ row_of (pos range.wh) (negsuc 0) 0 ∷ []) (row_of (neg_ℤ (pos range.sl)) (pos 1) 1 ∷ row_of (pos range.sh) (negsuc 0) 1 ∷ [])
-      (declared_append 2 (row_of (neg_ℤ (pos range.wl)) (pos 1) 0 ∷ []) (row_of (pos range.wh) (negsuc 0) 0 ∷ [])
-      (declared_row 2 (row_of (neg_ℤ (pos range.wl)) (pos 1) 0) (row_local 2 (neg_ℤ (pos range.wl)) (pos 1) 0 (omega arith)))
-      (declared_row 2 (row_of (pos range.wh) (negsuc 0) 0) (row_local 2 (pos range.wh) (negsuc 0) 0 (omega arith))))
-      (declared_append 2 (row_of (neg_ℤ (pos range.sl)) (pos 1) 1 ∷ []) (row_of (pos range.sh) (negsuc 0) 1 ∷ [])
-      (declared_row 2 (row_of (neg_ℤ (pos range.sl)) (pos 1) 1) (row_local 2 (neg_ℤ (pos range.sl)) (pos 1) 1 (omega arith)))
-      (declared_row 2 (row_of (pos range.sh) (negsuc 0) 1) (row_local 2 (pos range.sh) (negsuc 0) 1 (omega arith))));
+  declared = known_sides range axes;
   floors = λ v met n f at. absurd (cc);
 }
 
@@ -121,7 +139,7 @@ sound_is_known range (def row d ∷ outer) sound few =
     let x = variables_of outer in
     let above = sound_is_known range outer sound.1 (omega arith) in
     let floor : Floor = record { row = row; by = d } in
-    let room : length (floors_of outer) + 3 < 2 ^ 32 = omega (arith, x, few) in
+    let room : length (floors_of outer) + axis_count + 1 < 2 ^ 32 = omega (arith, x, few) in
     let fits = subst (λ n. IsTrue (are_declared n row.terms)) x sound.0.0 in
     subst (λ n. AreKnown (facts range outer ++ step_facts n (def row d)) (floors_of outer ++ floor ∷ [])) (sym x)
     (known_floor (facts range outer) (floors_of outer) floor above (fits, sound.0.1) room)
@@ -129,10 +147,10 @@ sound_is_known range (first row ∷ outer) sound few =
     let x = variables_of outer in
     let above = sound_is_known range outer sound.1 few in
     let fits = subst (λ n. IsTrue (are_declared n row.terms)) x sound.0 in
-    known_row (facts range outer) (floors_of outer) row above (declared_row (length (floors_of outer) + 2) row (declared_local (length (floors_of outer) + 2) row fits))
+    known_row (facts range outer) (floors_of outer) row above (declared_row (length (floors_of outer) + axis_count) row (declared_local (length (floors_of outer) + axis_count) row fits))
 sound_is_known range (second row ∷ outer) sound few =
     let x = variables_of outer in
     let above = sound_is_known range outer sound.1 few in
     let fits = subst (λ n. IsTrue (are_declared n row.terms)) x sound.0 in
-    let n = length (floors_of outer) + 2 in
+    let n = length (floors_of outer) + axis_count in
     known_row (facts range outer) (floors_of outer) (denied row) above (declared_row n (denied row) (denied_local n row (declared_local n row fits)))

@@ -11,6 +11,7 @@ use Rattle.std.proofs.lemmas.Option.{same_Some}
 use Rattle.lin_row.specs.Form.{Form}
 use Rattle.lin_proof.specs.declared.derivation.Answer.{Answer}
 use Rattle.lin_proof.specs.Derivations.{are_declared, first_fault}
+use Rattle.cert_path.specs.Axes.{axis_count}
 use Rattle.cert_path.specs.Paths.{def}
 use Rattle.cert_path.specs.Facts.{step_facts}
 use Rattle.cert_path.specs.Shapes.{has_variable, has_remainders, same_row}
@@ -154,7 +155,7 @@ module _ (facts : List Form) (along own : List Floor) where
 
 -- ---- floors
 
-pub fit_by : (along own : List Floor) (f : Floor) → are_declared (length (along ++ own) + 2) f.row.terms ≡ true → has_variable f.row ≡ true → lt_z (pos 1) f.by ≡ true
+pub fit_by : (along own : List Floor) (f : Floor) → are_declared (length (along ++ own) + axis_count) f.row.terms ≡ true → has_variable f.row ≡ true → lt_z (pos 1) f.by ≡ true
     → has_remainders f.by f.row ≡ true → list_any (same_floor f) along ≡ false → list_any (same_floor f) own ≡ false → is_fit (along ++ own) f ≡ true
 fit_by along own f declared some number rests before behind =
     let new = list_any-append (same_floor f) along own ∙ (λ i. before i || behind i) in
@@ -272,21 +273,21 @@ facts_from-push x (g ∷ fs) f =
     ap (λ more. step_facts x (def g.row g.by) ++ more) (facts_from-push (x + 1) fs f ∙ ap (λ n. facts_from (x + 1) fs ++ step_facts n (def f.row f.by)) here)
     ∙ sym (append_assoc (step_facts x (def g.row g.by)) (facts_from (x + 1) fs) (step_facts (length (g ∷ fs) + x) (def f.row f.by)))
 
-pub made_push : (along own now : List Floor) (rows after : List Form) (f : Floor) (x : ℕ) → x ≡ length (along ++ own) + 2 → now ≡ own ++ f ∷ []
-    → rows ≡ facts_from (length along + 2) own → after ≡ rows ++ step_facts x (def f.row f.by) → after ≡ facts_from (length along + 2) now
+pub made_push : (along own now : List Floor) (rows after : List Form) (f : Floor) (x : ℕ) → x ≡ length (along ++ own) + axis_count → now ≡ own ++ f ∷ []
+    → rows ≡ facts_from (length along + axis_count) own → after ≡ rows ++ step_facts x (def f.row f.by) → after ≡ facts_from (length along + axis_count) now
 made_push along own now rows after f x at floors old new =
-    let here : x ≡ length own + (length along + 2) = omega (arith, at, length-append along own) in
-    new ∙ (λ i. old i ++ step_facts (here i) (def f.row f.by)) ∙ sym (facts_from-push (length along + 2) own f) ∙ ap (facts_from (length along + 2)) (sym floors)
+    let here : x ≡ length own + (length along + axis_count) = omega (arith, at, length-append along own) in
+    new ∙ (λ i. old i ++ step_facts (here i) (def f.row f.by)) ∙ sym (facts_from-push (length along + axis_count) own f) ∙ ap (facts_from (length along + axis_count)) (sym floors)
 
 -- ---- the derivation of an answer to the row that was asked for
 
-pub fault_is : (facts rows : List Form) (along own : List Floor) (row other : Form) (a : Answer) (line : Option ℕ) → rows ≡ facts_from (length along + 2) own
-    → same_row row a.row ≡ true → other ≡ contrary a.yes row → line ≡ first_fault (facts ++ rows ++ other ∷ []) (length (along ++ own) + 2) a.why
+pub fault_is : (facts rows : List Form) (along own : List Floor) (row other : Form) (a : Answer) (line : Option ℕ) → rows ≡ facts_from (length along + axis_count) own
+    → same_row row a.row ≡ true → other ≡ contrary a.yes row → line ≡ first_fault (facts ++ rows ++ other ∷ []) (length (along ++ own) + axis_count) a.why
     → fault_below facts along own a ≡ line
 fault_is facts rows along own row other a line made same is found =
     let as_asked = (decides_same_row row a.row).0 same in
     let denial : contrary a.yes a.row ≡ other = ap (contrary a.yes) (sym as_asked) ∙ sym is in
-    (λ i. first_fault (facts ++ sym made i ++ denial i ∷ []) (length (along ++ own) + 2) a.why) ∙ sym found
+    (λ i. first_fault (facts ++ sym made i ++ denial i ∷ []) (length (along ++ own) + axis_count) a.why) ∙ sym found
 
 -- ---- answers of a tape by number
 

@@ -13,6 +13,7 @@ use Rattle.viz_base.specs.declared.worlds.World.{World}
 use Rattle.viz_calc.specs.World.{Reading}
 use Rattle.lin_row.specs.Form.{Form, value, plus}
 use Rattle.lin_proof.specs.Derivations.{are_declared}
+use Rattle.cert_path.specs.Axes.{axis_count}
 use Rattle.cert_path.specs.Paths.{def, with_value, with_floor, values_at}
 use Rattle.cert_path.specs.Facts.{row_of, step_facts}
 use Rattle.cert_path.proofs.Values.{Agree, Local, declared_local, plus_local, row_local, more_local, with_old, with_new}
@@ -90,8 +91,8 @@ get_push (x ∷ xs) y z (suc n) e = more (get_push xs y z n e)
     more (inl found) = inl found
     more (inr last) = inr (ap suc last.0, last.1)
 
-pub known_floor : (facts : List Form) (named : List Floor) (f : Floor) → AreKnown facts named → FitsAt (length named + 2) f → length named + 3 < 2 ^ 32
-    → AreKnown (facts ++ step_facts (length named + 2) (def f.row f.by)) (named ++ f ∷ [])
+pub known_floor : (facts : List Form) (named : List Floor) (f : Floor) → AreKnown facts named → FitsAt (length named + axis_count) f → length named + axis_count + 1 < 2 ^ 32
+    → AreKnown (facts ++ step_facts (length named + axis_count) (def f.row f.by)) (named ++ f ∷ [])
 known_floor facts named f known fits few = record {
   few = omega (arith, length-append named (f ∷ []), few);
   declared = declared;
@@ -99,30 +100,30 @@ known_floor facts named f known fits few = record {
 }
   where
     x : ℕ
-    x = length named + 2
+    x = length named + axis_count
 
     more : List Form
-    more = step_facts (length named + 2) (def f.row f.by)
+    more = step_facts (length named + axis_count) (def f.row f.by)
 
-    declared : Declared (length (named ++ f ∷ []) + 2) (facts ++ step_facts (length named + 2) (def f.row f.by))
+    declared : Declared (length (named ++ f ∷ []) + axis_count) (facts ++ step_facts (length named + axis_count) (def f.row f.by))
     declared =
-        let here : length named + 2 + 1 ≡ length (named ++ f ∷ []) + 2 = omega (arith, length-append named (f ∷ [])) in
-        subst (λ n. Declared n (facts ++ step_facts (length named + 2) (def f.row f.by))) here
-        (declared_append (length named + 2 + 1) facts (step_facts (length named + 2) (def f.row f.by))
-        (declared_more (length named + 2) (length named + 2 + 1) (omega arith) facts known.declared)
-        (declared_floor (length named + 2) f.row f.by (local_row (length named + 2) f fits)))
+        let here : length named + axis_count + 1 ≡ length (named ++ f ∷ []) + axis_count = omega (arith, length-append named (f ∷ [])) in
+        subst (λ n. Declared n (facts ++ step_facts (length named + axis_count) (def f.row f.by))) here
+        (declared_append (length named + axis_count + 1) facts (step_facts (length named + axis_count) (def f.row f.by))
+        (declared_more (length named + axis_count) (length named + axis_count + 1) (omega arith) facts known.declared)
+        (declared_floor (length named + axis_count) f.row f.by (local_row (length named + axis_count) f fits)))
 
-    by_place : (v : ℕ → ℤ) (n : ℕ) (g : Floor) → are_met facts v ≡ true → are_met (step_facts (length named + 2) (def f.row f.by)) v ≡ true
-        → (slice_get named n ≡ Some g) ⊎ ((n ≡ length named) × (f ≡ g)) → v (n + 2) ≡ int_div_euclid (value g.row v) g.by
+    by_place : (v : ℕ → ℤ) (n : ℕ) (g : Floor) → are_met facts v ≡ true → are_met (step_facts (length named + axis_count) (def f.row f.by)) v ≡ true
+        → (slice_get named n ≡ Some g) ⊎ ((n ≡ length named) × (f ≡ g)) → v (n + axis_count) ≡ int_div_euclid (value g.row v) g.by
     by_place v n g old new (inl found) = known.floors v old n g found
     by_place v n g old new (inr last) =
-        let said = floor_said f.row f.by (length named + 2) v v fits.1 refl (met_all v (step_facts (length named + 2) (def f.row f.by)) new) in
-        subst (λ (h : Floor). v (n + 2) ≡ int_div_euclid (value h.row v) h.by) last.1 (ap (λ m. v (m + 2)) last.0 ∙ said)
+        let said = floor_said f.row f.by (length named + axis_count) v v fits.1 refl (met_all v (step_facts (length named + axis_count) (def f.row f.by)) new) in
+        subst (λ (h : Floor). v (n + axis_count) ≡ int_div_euclid (value h.row v) h.by) last.1 (ap (λ m. v (m + axis_count)) last.0 ∙ said)
 
-    floors : (v : ℕ → ℤ) → IsTrue (are_met (facts ++ step_facts (length named + 2) (def f.row f.by)) v) → (n : ℕ) (g : Floor) → slice_get (named ++ f ∷ []) n ≡ Some g
-        → v (n + 2) ≡ int_div_euclid (value g.row v) g.by
+    floors : (v : ℕ → ℤ) → IsTrue (are_met (facts ++ step_facts (length named + axis_count) (def f.row f.by)) v) → (n : ℕ) (g : Floor) → slice_get (named ++ f ∷ []) n ≡ Some g
+        → v (n + axis_count) ≡ int_div_euclid (value g.row v) g.by
     floors v met n g is =
-        let both = and_parts (are_met facts v) (are_met (step_facts (length named + 2) (def f.row f.by)) v) (sym (are_met-append facts (step_facts (length named + 2) (def f.row f.by)) v) ∙ met) in
+        let both = and_parts (are_met facts v) (are_met (step_facts (length named + axis_count) (def f.row f.by)) v) (sym (are_met-append facts (step_facts (length named + axis_count) (def f.row f.by)) v) ∙ met) in
         by_place v n g both.0 both.1 (get_push named f g n is)
 
 -- ---- no world is lost
@@ -134,25 +135,25 @@ with_floors-push (g ∷ fs) f x v =
     let here : length fs + (x + 1) ≡ length (g ∷ fs) + x = omega arith in
     with_floors-push fs f (x + 1) next ∙ (λ i. with_floor f.row f.by (with_floors fs (x + 1) next) (here i))
 
-pub values_by-push : (fs : List Floor) (f : Floor) (world : World) → values_by (fs ++ f ∷ []) world ≡ with_floor f.row f.by (values_by fs world) (length fs + 2)
-values_by-push fs f world = with_floors-push fs f 2 (values_at world)
+pub values_by-push : (fs : List Floor) (f : Floor) (world : World) → values_by (fs ++ f ∷ []) world ≡ with_floor f.row f.by (values_by fs world) (length fs + axis_count)
+values_by-push fs f world = with_floors-push fs f axis_count (values_at world)
 
 -- the facts of a floor are met where its variable is the floor, and the old facts where they were
-met_floor : (facts : List Form) (named : List Floor) (f : Floor) → AreKnown facts named → FitsAt (length named + 2) f → (v w : ℕ → ℤ)
-    → Agree (length named + 2) w v → w (length named + 2) ≡ int_div_euclid (value f.row v) f.by
-    → are_met (facts ++ step_facts (length named + 2) (def f.row f.by)) w ≡ are_met facts v
+met_floor : (facts : List Form) (named : List Floor) (f : Floor) → AreKnown facts named → FitsAt (length named + axis_count) f → (v w : ℕ → ℤ)
+    → Agree (length named + axis_count) w v → w (length named + axis_count) ≡ int_div_euclid (value f.row v) f.by
+    → are_met (facts ++ step_facts (length named + axis_count) (def f.row f.by)) w ≡ are_met facts v
 met_floor facts named f known fits v w same is =
-    let x = length named + 2 in
+    let x = length named + axis_count in
     let more = step_facts x (def f.row f.by) in
     let old = known.declared w v same in
     let row = local_row x f fits w v same in
     let new = all_met w more (floor_holds f.row f.by x v w fits.1 row is) in
     are_met-append facts more w ∙ (λ i. old i && new i) ∙ and-true (are_met facts v)
 
-pub kept_floor : (facts : List Form) (named : List Floor) (f : Floor) → AreKnown facts named → FitsAt (length named + 2) f → (world : World)
-    → are_met (facts ++ step_facts (length named + 2) (def f.row f.by)) (values_by (named ++ f ∷ []) world) ≡ are_met facts (values_by named world)
+pub kept_floor : (facts : List Form) (named : List Floor) (f : Floor) → AreKnown facts named → FitsAt (length named + axis_count) f → (world : World)
+    → are_met (facts ++ step_facts (length named + axis_count) (def f.row f.by)) (values_by (named ++ f ∷ []) world) ≡ are_met facts (values_by named world)
 kept_floor facts named f known fits world =
-    let x = length named + 2 in
+    let x = length named + axis_count in
     let v = values_by named world in
     let q = int_div_euclid (value f.row v) f.by in
     ap (are_met (facts ++ step_facts x (def f.row f.by))) (values_by-push named f world)
@@ -164,7 +165,7 @@ kept_floor facts named f known fits world =
 abbrev pub with_term : Reading → ℕ → ℤ → Reading
 with_term e x q = record { world = e.world; terms = with_value e.terms x q }
 
-values_with_term : (e : Reading) (x : ℕ) (q : ℤ) → 2 ≤ x → (y : ℕ) → values_of (with_term e x q) y ≡ with_value (values_of e) x q y
+values_with_term : (e : Reading) (x : ℕ) (q : ℤ) → axis_count ≤ x → (y : ℕ) → values_of (with_term e x q) y ≡ with_value (values_of e) x q y
 values_with_term e x q two y = by_test (y == 1) refl (y == 0) refl (y == x) refl
   where
     by_test : (one : Bool) → (y == 1) ≡ one → (none : Bool) → (y == 0) ≡ none → (here : Bool) → (y == x) ≡ here
@@ -176,10 +177,10 @@ values_with_term e x q two y = by_test (y == 1) refl (y == 0) refl (y == x) refl
     by_test false a false b true c = refl
     by_test false a false b false c = refl
 
-pub open_floor : (facts : List Form) (named : List Floor) (f : Floor) → AreKnown facts named → FitsAt (length named + 2) f → (e : Reading)
-    → are_met (facts ++ step_facts (length named + 2) (def f.row f.by)) (values_of (with_term e (length named + 2) (int_div_euclid (value f.row (values_of e)) f.by))) ≡ are_met facts (values_of e)
+pub open_floor : (facts : List Form) (named : List Floor) (f : Floor) → AreKnown facts named → FitsAt (length named + axis_count) f → (e : Reading)
+    → are_met (facts ++ step_facts (length named + axis_count) (def f.row f.by)) (values_of (with_term e (length named + axis_count) (int_div_euclid (value f.row (values_of e)) f.by))) ≡ are_met facts (values_of e)
 open_floor facts named f known fits e =
-    let x = length named + 2 in
+    let x = length named + axis_count in
     let v = values_of e in
     let q = int_div_euclid (value f.row v) f.by in
     let is = values_with_term e x q (omega arith) in

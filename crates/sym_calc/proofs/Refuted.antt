@@ -11,6 +11,7 @@ use Rattle.viz_base.specs.declared.worlds.Rect.{Rect}
 use Rattle.lin_row.specs.Form.{Form}
 use Rattle.lin_proof.specs.declared.derivation.Answer.{Answer}
 use Rattle.lin_proof.specs.Derivations.{are_declared, first_fault}
+use Rattle.cert_path.specs.Axes.{axis_count}
 use Rattle.cert_path.specs.Paths.{def, first, second, Path as Steps, variables}
 use Rattle.cert_path.specs.Facts.{step_facts, facts}
 use Rattle.cert_path.specs.Nodes.{names}
@@ -87,7 +88,7 @@ fault_at range path fs a =
     let all = denied_facts range (below_floors path (pairs fs)) a.yes a.row
     ∙ (λ i. facts_below range path fs i ++ contrary a.yes a.row ∷ [])
     ∙ (λ i. facts range path ++ facts_from (variables_of path i) fs ++ contrary a.yes a.row ∷ []) in
-    let count = variables_of (below_floors path (pairs fs)) ∙ (λ i. length (floors_below path fs i) + 2) in
+    let count = variables_of (below_floors path (pairs fs)) ∙ (λ i. length (floors_below path fs i) + axis_count) in
     λ i. first_fault (all i) (count i) a.why
 
 -- ---- floors in two parts

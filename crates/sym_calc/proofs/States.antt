@@ -12,6 +12,7 @@ use Rattle.lin_row.specs.Form.{Form, value}
 use Rattle.lin_row.specs.Exact.{IsExact}
 use Rattle.lin_row.specs.declared.row.RowFault.{RowFault}
 use Rattle.lin_proof.specs.Derivations.{are_declared}
+use Rattle.cert_path.specs.Axes.{axis_count}
 use Rattle.cert_path.specs.Paths.{def}
 use Rattle.cert_path.specs.Facts.{step_facts}
 use Rattle.sym_calc.specs.declared.floors.Floor.{Floor}
@@ -39,7 +40,7 @@ counted_is answer exact (Ok row) h is = (subst (λ a. IsExact a exact) is h).0
 -- ---- floors that are named already
 
 pub floor_before : (facts : List Form) (first more : List Floor) → AreKnown facts (first ++ more) → (f : Floor) (n : ℕ) → position (same_floor f) first ≡ Some n
-    → (v : ℕ → ℤ) → IsTrue (are_met facts v) → v (n + 2) ≡ int_div_euclid (value f.row v) f.by
+    → (v : ℕ → ℤ) → IsTrue (are_met facts v) → v (n + axis_count) ≡ int_div_euclid (value f.row v) f.by
 floor_before facts first more known f n is v met =
     let found = position-Some (same_floor f) first n f is in
     let here = slice_get-get_or first n f found.0 in
@@ -52,7 +53,7 @@ floor_before facts first more known f n is v met =
     before (x ∷ xs) ys (suc k) z e = before xs ys k z e
 
 pub floor_behind : (facts : List Form) (first more : List Floor) → AreKnown facts (first ++ more) → (f : Floor) (n : ℕ) → position (same_floor f) more ≡ Some n
-    → (v : ℕ → ℤ) → IsTrue (are_met facts v) → v (length first + n + 2) ≡ int_div_euclid (value f.row v) f.by
+    → (v : ℕ → ℤ) → IsTrue (are_met facts v) → v (length first + n + axis_count) ≡ int_div_euclid (value f.row v) f.by
 floor_behind facts first more known f n is v met =
     let found = position-Some (same_floor f) more n f is in
     let here = slice_get-get_or more n f found.0 in
@@ -67,7 +68,7 @@ floor_behind facts first more known f n is v met =
 
 -- the facts and floors behind those of a path, before and after a floor is named
 pub record IsNamed (path : List Form) (rows after : List Form) (along : List Floor) (own now : List Floor) (f : Floor) (x : ℕ) : Type 0 where
-  pub variable : x ≡ length (along ++ own) + 2
+  pub variable : x ≡ length (along ++ own) + axis_count
   pub rows_are : after ≡ rows ++ step_facts x (def f.row f.by)
   pub floors_are : now ≡ own ++ f ∷ []
   pub known : AreKnown (path ++ rows) (along ++ own)
@@ -82,31 +83,31 @@ module _ (path rows after : List Form) (along own now : List Floor) (f : Floor) 
   named : List Floor
   named = along ++ own
 
-  fits : FitsAt (length (along ++ own) + 2) f
+  fits : FitsAt (length (along ++ own) + axis_count) f
   fits = (subst (λ n. IsTrue (are_declared n f.row.terms)) h.variable h.declared, h.above)
 
-  facts_are : (path ++ rows) ++ step_facts (length (along ++ own) + 2) (def f.row f.by) ≡ path ++ after
+  facts_are : (path ++ rows) ++ step_facts (length (along ++ own) + axis_count) (def f.row f.by) ≡ path ++ after
   facts_are =
       let at = h.variable in
-      append_assoc path rows (step_facts (length (along ++ own) + 2) (def f.row f.by))
+      append_assoc path rows (step_facts (length (along ++ own) + axis_count) (def f.row f.by))
       ∙ ap (λ fs. path ++ fs) (ap (λ n. rows ++ step_facts n (def f.row f.by)) (sym at) ∙ sym h.rows_are)
 
   named_are : (along ++ own) ++ f ∷ [] ≡ along ++ now
   named_are = append_assoc along own (f ∷ []) ∙ ap (λ fs. along ++ fs) (sym h.floors_are)
 
   -- a property of the facts and floors after
-  after_by : (P : List Form → List Floor → Type 0) → P ((path ++ rows) ++ step_facts (length (along ++ own) + 2) (def f.row f.by)) ((along ++ own) ++ f ∷ []) → P (path ++ after) (along ++ now)
-  after_by P p = subst (λ fs. P fs (along ++ now)) facts_are (subst (λ gs. P ((path ++ rows) ++ step_facts (length (along ++ own) + 2) (def f.row f.by)) gs) named_are p)
+  after_by : (P : List Form → List Floor → Type 0) → P ((path ++ rows) ++ step_facts (length (along ++ own) + axis_count) (def f.row f.by)) ((along ++ own) ++ f ∷ []) → P (path ++ after) (along ++ now)
+  after_by P p = subst (λ fs. P fs (along ++ now)) facts_are (subst (λ gs. P ((path ++ rows) ++ step_facts (length (along ++ own) + axis_count) (def f.row f.by)) gs) named_are p)
 
   pub named_known : AreKnown (path ++ after) (along ++ now)
   named_known =
-      let few : length (along ++ own) + 3 < 2 ^ 32 = let at = h.variable in let last = h.few in omega (arith, at, last) in
+      let few : length (along ++ own) + axis_count + 1 < 2 ^ 32 = let at = h.variable in let last = h.few in omega (arith, at, last) in
       after_by AreKnown (known_floor (path ++ rows) (along ++ own) f h.known fits few)
 
   pub named_grows : (t c o : ℕ) → Grows (sym_state t (path ++ rows) (along ++ own) c o) (sym_state t (path ++ after) (along ++ now) c o)
   named_grows t c o = after_by (λ fs gs. Grows (sym_state t (path ++ rows) (along ++ own) c o) (sym_state t fs gs c o)) (record {
-    closes = λ e met. (and_parts (are_met (path ++ rows) (values_of e)) (are_met (step_facts (length (along ++ own) + 2) (def f.row f.by)) (values_of e))
-        (sym (are_met-append (path ++ rows) (step_facts (length (along ++ own) + 2) (def f.row f.by)) (values_of e)) ∙ met)).0;
+    closes = λ e met. (and_parts (are_met (path ++ rows) (values_of e)) (are_met (step_facts (length (along ++ own) + axis_count) (def f.row f.by)) (values_of e))
+        (sym (are_met-append (path ++ rows) (step_facts (length (along ++ own) + axis_count) (def f.row f.by)) (values_of e)) ∙ met)).0;
     lean = refl;
     coeffs = omega arith;
     opens = omega arith;
@@ -116,7 +117,7 @@ module _ (path rows after : List Form) (along own now : List Floor) (f : Floor) 
   pub named_worlds : (t c o : ℕ) → KeepsWorlds (sym_state t (path ++ rows) (along ++ own) c o) (sym_state t (path ++ after) (along ++ now) c o)
   named_worlds t c o = after_by (λ fs gs. KeepsWorlds (sym_state t (path ++ rows) (along ++ own) c o) (sym_state t fs gs c o)) (record {
     keeps = λ w was. record {
-      reading = with_term was.reading (length (along ++ own) + 2) (int_div_euclid (value f.row (values_of was.reading)) f.by);
+      reading = with_term was.reading (length (along ++ own) + axis_count) (int_div_euclid (value f.row (values_of was.reading)) f.by);
       world = was.world;
       is_open = open_floor (path ++ rows) (along ++ own) f h.known fits was.reading ∙ was.is_open;
     };
@@ -125,7 +126,7 @@ module _ (path rows after : List Form) (along own now : List Floor) (f : Floor) 
   pub named_value : (e : Reading) → IsTrue (are_met (path ++ after) (values_of e)) → values_of e x ≡ int_div_euclid (value f.row (values_of e)) f.by
   named_value e met =
       let known = named_known in
-      let at : x ≡ length (along ++ own) + 2 = h.variable in
+      let at : x ≡ length (along ++ own) + axis_count = h.variable in
       let last : slice_get ((along ++ own) ++ f ∷ []) (length (along ++ own)) ≡ Some f = at_end (along ++ own) f in
       ap (values_of e) at ∙ known.floors (values_of e) met (length (along ++ own)) f (ap (λ gs. slice_get gs (length (along ++ own))) (sym named_are) ∙ last)
     where

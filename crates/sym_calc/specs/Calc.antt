@@ -3,6 +3,7 @@ use Rattle.std.specs.Prelude.{◌≡◌, ℕ, ◌+◌, List, ◌++◌, length, O
 use Rattle.viz_calc.specs.State.{State}
 use Rattle.lin_row.specs.Form.{Form}
 use Rattle.lin_proof.specs.declared.derivation.Answer.{Answer}
+use Rattle.cert_path.specs.Axes.{axis_count}
 use Rattle.sym_calc.specs.declared.floors.Floor.{Floor}
 use Rattle.sym_calc.specs.declared.sym.Sym.{Sym}
 use Rattle.sym_calc.specs.declared.troubles.Trouble.{Trouble}
@@ -36,8 +37,8 @@ pub record KeepsRest (s t : Sym) : Type 0 where
 
 -- why the next answer leaves a row open, if it does
 abbrev pub next_trouble : Sym → Form → Option Trouble
-next_trouble s row = trouble_at (facts_of s) (length (named_of s) + 2) s.tape.now s.taken row
+next_trouble s row = trouble_at (facts_of s) (length (named_of s) + axis_count) s.tape.now s.taken row
 
 -- the same of this answer
 abbrev pub trouble_by_answer : Sym → Form → Answer → Option Trouble
-trouble_by_answer s row answer = trouble_of (facts_of s) (length (named_of s) + 2) s.taken row answer
+trouble_by_answer s row answer = trouble_of (facts_of s) (length (named_of s) + axis_count) s.taken row answer

@@ -2,6 +2,7 @@
 use Rattle.std.specs.Prelude.{ℕ, ◌+◌, ℤ, pos, negsuc, ◌-ℤ◌, Bool, ◌&&◌, List, [], ◌∷◌, ◌++◌}
 use Rattle.std.specs.Ordering.{int_eq}
 use Rattle.viz_base.specs.declared.worlds.World.{World}
+use Rattle.cert_path.specs.Axes.{axis_count}
 use Rattle.cert_path.specs.Paths.{def, first, second, Path as Steps, with_floor, values_at}
 use Rattle.lin_row.specs.Form.{plus, form_fits}
 use Rattle.cert_path.specs.Facts.{row_of}
@@ -22,9 +23,9 @@ abbrev pub with_floors : List Floor → ℕ → (ℕ → ℤ) → ℕ → ℤ
 with_floors [] x v = v
 with_floors (f ∷ fs) x v = with_floors fs (x + 1) (with_floor f.row f.by v x)
 
--- what the variables are at a world: w, s and then the floors
+-- what the variables are at a world: the numbers on the axes, and then the floors
 abbrev pub values_by : List Floor → World → ℕ → ℤ
-values_by floors world = with_floors floors 2 (values_at world)
+values_by floors world = with_floors floors axis_count (values_at world)
 
 -- the floors that the defs of a path name, in the order of their variables
 abbrev pub floors_of : Steps → List Floor

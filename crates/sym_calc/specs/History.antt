@@ -6,6 +6,7 @@ use Rattle.std.specs.Int.Signed.{lt_z}
 use Rattle.lin_row.specs.Form.{Form}
 use Rattle.lin_proof.specs.declared.derivation.Answer.{Answer}
 use Rattle.lin_proof.specs.Derivations.{are_declared, first_fault}
+use Rattle.cert_path.specs.Axes.{axis_count}
 use Rattle.cert_path.specs.Paths.{def}
 use Rattle.cert_path.specs.Facts.{step_facts}
 use Rattle.cert_path.specs.Shapes.{has_variable, has_remainders, same_row}
@@ -25,7 +26,7 @@ facts_from x (f ∷ fs) = step_facts x (def f.row f.by) ++ facts_from (x + 1) fs
 -- whether a floor is new among those before it, and well shaped as that of a def behind them
 abbrev pub is_fit : List Floor → Floor → Bool
 is_fit before f =
-    are_declared (length before + 2) f.row.terms && has_variable f.row && lt_z (pos 1) f.by && has_remainders f.by f.row
+    are_declared (length before + axis_count) f.row.terms && has_variable f.row && lt_z (pos 1) f.by && has_remainders f.by f.row
     && not (list_any (same_floor f) before)
 
 -- whether each is, behind those before it
@@ -39,8 +40,8 @@ are_fit before (f ∷ fs) = is_fit before f && are_fit (before ++ f ∷ []) fs
 -- answer is wrong
 abbrev pub fault_below : List Form → List Floor → List Floor → Answer → Option ℕ
 fault_below facts along own answer =
-    first_fault (facts ++ facts_from (length along + 2) own ++ contrary answer.yes answer.row ∷ [])
-    (length (along ++ own) + 2) answer.why
+    first_fault (facts ++ facts_from (length along + axis_count) own ++ contrary answer.yes answer.row ∷ [])
+    (length (along ++ own) + axis_count) answer.why
 
 -- whether a test is met by a number that is at most n
 unfoldable pub any_up_to : ℕ → (ℕ → Bool) → Bool

@@ -6,6 +6,7 @@ use Rattle.std.proofs.lemmas.Bool.Decides.{nat_tests}
 use Rattle.viz_base.specs.declared.worlds.World.{World}
 use Rattle.viz_calc.specs.World.{Reading}
 use Rattle.lin_row.specs.Form.{Form, value}
+use Rattle.cert_path.specs.Axes.{axis_count}
 use Rattle.cert_path.specs.Paths.{with_floor, values_at}
 use Rattle.cert_path.proofs.Values.{with_old}
 use Rattle.sym_calc.specs.declared.floors.Floor.{Floor}
@@ -29,10 +30,10 @@ values_of_reading named world = λ i y. along y i
         → cond one (pos world.s) (cond none (pos world.w) (values_by named world y)) ≡ values_by named world y
     by_test y true a none b =
         let is : y ≡ 1 = grind (arith, nat_tests) in
-        sym (ap (values_by named world) is ∙ values_by_axis named 2 (values_at world) 1 (omega arith))
+        sym (ap (values_by named world) is ∙ values_by_axis named axis_count (values_at world) 1 (omega arith))
     by_test y false a true b =
         let is : y ≡ 0 = grind (arith, nat_tests) in
-        sym (ap (values_by named world) is ∙ values_by_axis named 2 (values_at world) 0 (omega arith))
+        sym (ap (values_by named world) is ∙ values_by_axis named axis_count (values_at world) 0 (omega arith))
     by_test y false a false b = refl
 
     along : (y : ℕ) → values_of (reading_by named world) y ≡ values_by named world y

@@ -1,18 +1,20 @@
 -- What a symbolic calc knows: facts, each a row that is at least 0, and floors.
 use Rattle.std.specs.Prelude.{◌≡◌, ℕ, ◌+◌, ◌<◌, ◌^◌, ℤ, pos, Bool, true, false, IsTrue, List, length, Some, slice_get}
-use Rattle.std.specs.List.{list_all}
+use Rattle.std.specs.List.{list_all, fold}
 use Rattle.std.specs.Int.{int_div_euclid}
 use Rattle.std.specs.Int.RustNames.{int_le}
+use Rattle.viz_base.specs.Worlds.{along}
 use Rattle.viz_calc.specs.World.{Reading}
 use Rattle.viz_calc.specs.State.{State}
 use Rattle.lin_row.specs.Form.{Form, value, denied}
+use Rattle.cert_path.specs.Axes.{variable_of, axes, axis_count}
 use Rattle.cert_path.specs.Paths.{with_value}
 use Rattle.sym_calc.specs.declared.floors.Floor.{Floor}
 use Rattle.sym_calc.specs.Floors.{values_by}
 
--- what the variables are at a reading: w and s are those of its world, and all others are its terms
+-- what the variables are at a reading: those of the axes are the numbers of its world, and all others are its terms
 abbrev pub values_of : Reading → ℕ → ℤ
-values_of e = with_value (with_value e.terms 0 (pos e.world.w)) 1 (pos e.world.s)
+values_of e = fold (λ values axis. with_value values (variable_of axis) (pos (along axis e.world))) e.terms axes
 
 -- what a number is at a reading
 abbrev pub number_at : Form → Reading → ℤ
@@ -35,10 +37,10 @@ sym_state tag facts floors coeffs opens = record {
 
 -- The facts name no variable from n on, and say of each floor what it is.
 pub record AreKnown (facts : List Form) (named : List Floor) : Type 0 where
-  pub few : length named + 2 < 2 ^ 32
-  pub declared : (v w : ℕ → ℤ) → ((x : ℕ) → x < length named + 2 → v x ≡ w x) → are_met facts v ≡ are_met facts w
+  pub few : length named + axis_count < 2 ^ 32
+  pub declared : (v w : ℕ → ℤ) → ((x : ℕ) → x < length named + axis_count → v x ≡ w x) → are_met facts v ≡ are_met facts w
   pub floors : (v : ℕ → ℤ) → IsTrue (are_met facts v) → (n : ℕ) (f : Floor) → slice_get named n ≡ Some f
-      → v (n + 2) ≡ int_div_euclid (value f.row v) f.by
+      → v (n + axis_count) ≡ int_div_euclid (value f.row v) f.by
 
 -- what is at least 0 where an answer on a row is wrong: for a `yes` the row's denial, and for a `no` the row
 abbrev pub contrary : Bool → Form → Form

@@ -1,24 +1,26 @@
-ghost use Rattle.std.specs.Prelude.{◌≡◌, ◌+◌, ◌<ℤ◌, ◌++◌, [], ◌∷◌, false, length, pos, negsuc, neg_ℤ, take, Err, IfOk, OnErr, OnOk};
+ghost use Rattle.std.specs.Prelude.{◌≡◌, ◌+◌, ◌<ℤ◌, ◌++◌, [], ◌∷◌, false, length, pos, take, Err, IfOk, OnErr, OnOk};
 ghost use Rattle.std.specs.List.{list_any};
 ghost use Rattle.lin_row.specs.Form.{denied, form_fits};
+ghost use Rattle.cert_path.specs.Axes.{axis_count};
 ghost use Rattle.cert_path.specs.Paths.{def};
-ghost use Rattle.cert_path.specs.Facts.{range_facts, row_of, step_facts};
+ghost use Rattle.cert_path.specs.Facts.{range_facts, side_facts, step_facts};
 ghost use Rattle.lin_row.specs.declared.row.RowFault.TheVariants.{Coeff};
 ghost use Rattle.sym_calc.specs.Floors.{same_floor, floor_fits};
 ghost use Rattle.sym_calc.specs.Knowledge.{AreKnown};
 
 use crate::facts::{add_both, add_floor};
 use crate::floors::{Floor, Floors};
+use cert_path::variable_of;
 use lin_row::{Row, RowFault};
 use std::alloc::{AllocError, Global};
-use viz_base::{List, Rect};
+use viz_base::{Axis, List, Rect, Span};
 
 /// What holds on the way to a node of a certificate.
 #[derive(Drop)]
 pub struct Path {
     /// Rows that are at least 0, numbered from 0.
     pub facts: List<Row>,
-    /// The floors that are named, numbered from 2 as variables.
+    /// The floors that are named. Their variables are numbered behind those of the axes.
     pub floors: Floors,
 }
 
@@ -30,8 +32,8 @@ impl Path {
         ensures known { IfOk result (λ path. AreKnown path.facts path.floors) }
     {
         let mut facts = List::new(alloc);
-        add_side(&mut facts, 0, range.wl, range.wh)?;
-        add_side(&mut facts, 1, range.sl, range.sh)?;
+        add_side(&mut facts, Axis::Width, range.side(Axis::Width))?;
+        add_side(&mut facts, Axis::Size, range.side(Axis::Size))?;
         Ok(Path {
             facts,
             floors: Floors::new(alloc),
@@ -43,7 +45,7 @@ impl Path {
     pub fn define(&mut self, floor: Floor, variable: u32) -> Result<(), RowFault>
         requires above { pos 0 <ℤ floor.by }
         requires new { list_any (same_floor floor) self.old.floors ≡ false }
-        requires next { variable ≡ length self.old.floors + 2 }
+        requires next { variable ≡ length self.old.floors + axis_count }
         ensures facts { OnOk result (self.new.facts ≡ self.old.facts ++ step_facts variable (def floor.row floor.by)) }
         ensures floors { OnOk result (self.new.floors ≡ self.old.floors ++ floor ∷ []) }
         ensures same_facts { OnErr result (self.new.facts ≡ self.old.facts) }
@@ -85,13 +87,13 @@ impl Path {
     }
 }
 
-/// Adds that a variable is from the least number to the most.
-fn add_side(facts: &mut List<Row>, variable: u32, least: u32, most: u32) -> Result<(), AllocError>
-    ensures { OnOk result (facts.new ≡ facts.old
-        ++ row_of (neg_ℤ (pos least)) (pos 1) variable ∷ row_of (pos most) (negsuc 0) variable ∷ []) }
+/// Adds that the variable of an axis is one of the numbers of a side.
+fn add_side(facts: &mut List<Row>, axis: Axis, side: Span) -> Result<(), AllocError>
+    ensures { OnOk result (facts.new ≡ facts.old ++ side_facts axis side) }
 {
     let alloc = facts.allocator();
-    let low = Row::of_term(alloc, -i128::from(least), variable, 1)?;
-    let high = Row::of_term(alloc, i128::from(most), variable, -1)?;
+    let variable = variable_of(axis);
+    let low = Row::of_term(alloc, -i128::from(side.least), variable, 1)?;
+    let high = Row::of_term(alloc, i128::from(side.most), variable, -1)?;
     add_both(facts, low, high)
 }

@@ -7,6 +7,7 @@ ghost use Rattle.std.specs.Int.RustNames.{int_le};
 ghost use Rattle.lin_row.specs.Form.{Form, denied, form_fits, plus, value};
 ghost use Rattle.lin_row.specs.Exact.{IsExact};
 ghost use Rattle.lin_proof.specs.Derivations.{are_declared, first_fault, lines_of};
+ghost use Rattle.cert_path.specs.Axes.{axis_count, variable_of};
 ghost use Rattle.cert_path.specs.Facts.{row_of};
 ghost use Rattle.cert_path.specs.Shapes.{has_remainders, has_variable};
 ghost use Rattle.viz_calc.specs.World.{Reading};
@@ -23,9 +24,11 @@ use crate::facts::add_floor;
 use crate::floors::{Floor, Floors, same_row};
 use crate::paths::Path;
 use crate::troubles::Trouble;
+use cert_path::{AXIS_COUNT, variable_of};
 use lin_proof::{Answer, Derivation, Facts, first_fault_among, line_count};
 use lin_row::{Row, RowFault};
-use viz_base::{List, Mem};
+use std::alloc::{AllocError, Global};
+use viz_base::{Axis, List, Mem};
 use viz_calc::{Calc, Halt};
 
 /// Arithmetic at all worlds of a path at once. A number is a row over the path's variables and floors of its own; a
@@ -42,7 +45,7 @@ pub struct Sym<'a> {
     opens: u64,
     ghost known: { AreKnown (path.now.facts ++ rows) (path.now.floors ++ floors) },
     ghost told: { is_some trouble ≡ nat_lt 0 opens },
-    ghost made: { rows ≡ facts_from (length path.now.floors + 2) floors },
+    ghost made: { rows ≡ facts_from (length path.now.floors + axis_count) floors },
     ghost fit: { IsTrue (are_fit path.now.floors floors) },
     ghost accounted: { IsTrue (is_accounted path.now.facts path.now.floors floors tape.now taken trouble) },
 }
@@ -118,10 +121,10 @@ impl<'a> Sym<'a> {
         ensures decided { IsDecided result }
     {
         if let Some(place) = self.path.floors.place_of(&floor) {
-            return Ok(place as u32 + 2);
+            return Ok(place as u32 + AXIS_COUNT);
         }
         if let Some(place) = self.floors.place_of(&floor) {
-            return Ok((self.path.floors.len() + place) as u32 + 2);
+            return Ok((self.path.floors.len() + place) as u32 + AXIS_COUNT);
         }
         self.name(floor)
     }
@@ -161,9 +164,9 @@ impl<'a> Sym<'a> {
 
     /// How many variables there are.
     fn variables(&self) -> u32
-        ensures { result ≡ length (self.now.path.now.floors ++ self.now.floors) + 2 }
+        ensures { result ≡ length (self.now.path.now.floors ++ self.now.floors) + axis_count }
     {
-        (self.path.floors.len() + self.floors.len()) as u32 + 2
+        (self.path.floors.len() + self.floors.len()) as u32 + AXIS_COUNT
     }
 
     /// A row above 0, divided by a number and rounded down.
@@ -250,7 +253,7 @@ impl<'a> Sym<'a> {
     /// The first wrong line of a derivation from all facts and from one more, which is taken back.
     fn fault_of(&mut self, contrary: Row, why: &Derivation) -> Result<Option<u32>, Mem>
         ensures line { IfOk result (λ line.
-            line ≡ first_fault (facts_of self.old ++ contrary ∷ []) (length (named_of self.old) + 2) why.now) }
+            line ≡ first_fault (facts_of self.old ++ contrary ∷ []) (length (named_of self.old) + axis_count) why.now) }
         ensures state { state_of self.new ≡ state_of self.old }
         ensures rest { KeepsRest self.old self.new }
     {
@@ -303,6 +306,13 @@ impl<'a> Sym<'a> {
     {
         self.coeffs
     }
+}
+
+/// The row of the number on an axis, in 1/64 px.
+fn on_axis(alloc: Global, axis: Axis) -> Result<Row, AllocError>
+    ensures { IfOk result (λ row. row ≡ row_of (pos 0) (pos 64) (variable_of axis)) }
+{
+    Row::of_term(alloc, 0, variable_of(axis), 64)
 }
 
 /// A row plus a variable.
@@ -393,7 +403,7 @@ impl<'a> Calc for Sym<'a> {
         ensures decided { IsDecided result }
         ensures free { IfErr result (λ halt. halt ≡ Halt.Mem) }
     {
-        Ok(Row::of_term(self.path.facts.allocator(), 0, 0, 64)?)
+        Ok(on_axis(self.path.facts.allocator(), Axis::Width)?)
     }
 
     fn size(&mut self) -> Result<Row, Halt>
@@ -406,7 +416,7 @@ impl<'a> Calc for Sym<'a> {
         ensures decided { IsDecided result }
         ensures free { IfErr result (λ halt. halt ≡ Halt.Mem) }
     {
-        Ok(Row::of_term(self.path.facts.allocator(), 0, 1, 64)?)
+        Ok(on_axis(self.path.facts.allocator(), Axis::Size)?)
     }
 
     fn copy(&mut self, a: &Row) -> Result<Row, Halt>
