@@ -169,27 +169,29 @@ terms_is k (t ∷ u ∷ ts) sides world = (λ h. (h, λ v. absurd (cc (v.terms))
 left_by_is : (row : Form) (sides : Sides) (world : World) → IsInside (left_by row sides) world ↔ (IsInside sides world × Keeps row world)
 left_by_is row sides world = terms_is row.k row.terms sides world
 
--- ---- paths
-
-pub rectangle_is_units : (range : Rect) (path : Path) (world : World) → IsInside (rectangle range path) world ↔ (IsInRange range world × UnitsAreTaken path world)
-rectangle_is_units range [] world = (
-  λ h.
-      let widths = h Width in
-      let sizes = h Size in (
+-- the worlds of a whole rectangle
+pub whole_is : (r : Rect) (world : World) → IsInside (whole r) world ↔ IsInRange r world
+whole_is r world = (forth, back)
+  where
+    forth : IsInside (whole r) world → IsInRange r world
+    forth h =
+        let widths = h Width in
+        let sizes = h Size in
         record {
           width_least = omega (arith, ints, widths.0);
           width_most = omega (arith, ints, widths.1);
           size_least = omega (arith, ints, sizes.0);
           size_most = omega (arith, ints, sizes.1);
-        },
-        tt,
-      ),
-  λ h. whole_is h.0,
-)
-  where
-    whole_is : IsInRange range world → IsInside (whole range) world
-    whole_is i Width = let a = i.width_least in let b = i.width_most in (omega (arith, ints), omega (arith, ints))
-    whole_is i Size = let a = i.size_least in let b = i.size_most in (omega (arith, ints), omega (arith, ints))
+        }
+
+    back : IsInRange r world → IsInside (whole r) world
+    back i Width = let a = i.width_least in let b = i.width_most in (omega (arith, ints), omega (arith, ints))
+    back i Size = let a = i.size_least in let b = i.size_most in (omega (arith, ints), omega (arith, ints))
+
+-- ---- paths
+
+pub rectangle_is_units : (range : Rect) (path : Path) (world : World) → IsInside (rectangle range path) world ↔ (IsInRange range world × UnitsAreTaken path world)
+rectangle_is_units range [] world = let whole = whole_is range world in (λ h. (whole.0 h, tt), λ h. whole.1 h.0)
 rectangle_is_units range (def row d ∷ outer) world =
     let above = rectangle_is_units range outer world in (
       λ h. ((above.0 h).0, (tt, (above.0 h).1)),

@@ -121,7 +121,7 @@ known_side axis side =
     axis_low Size = omega arith
 
 known_sides : (range : Rect) (some : List Axis) → Declared axis_count (flat_map (λ axis. side_facts axis (side_of axis range)) some)
-known_sides range [] v w same = refl
+known_sides range [] = λ v w same. refl
 known_sides range (axis ∷ some) =
     declared_append axis_count (side_facts axis (side_of axis range)) (flat_map (λ other. side_facts other (side_of other range)) some)
     (known_side axis (side_of axis range)) (known_sides range some)
