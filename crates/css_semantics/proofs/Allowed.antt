@@ -6,6 +6,7 @@ use Rattle.std.specs.Str.{chars}
 use Rattle.std.proofs.lemmas.Bool.Decides.{nat_tests}
 use Rattle.viz_base.specs.Decimals.{decimal_of, is_number, millionths_of}
 use Rattle.viz_base.specs.Numbers.{floor_of}
+use Rattle.viz_base.specs.declared.lengths.Sides.{Sides}
 use Rattle.viz_base.specs.declared.settings.Prop.{Prop}
 use Rattle.viz_base.specs.declared.settings.Prop.TheVariants.{BorderTopWidth, BorderRightWidth, BorderBottomWidth, BorderLeftWidth, BorderTopStyle, BorderRightStyle, BorderBottomStyle, BorderLeftStyle, FontSize, FontFamily, LineHeight}
 use Rattle.viz_base.specs.declared.settings.Setting.{Setting}
@@ -222,20 +223,22 @@ inherited_allowed : (ps : List Prop) → AreAllowed (inherited ps)
 inherited_allowed [] = tt
 inherited_allowed (p ∷ ps) = (tt, inherited_allowed ps)
 
-four_allowed : (t r b l : Prop) (a x y z : Part) → IsCounted a → IsCounted x → IsCounted y → IsCounted z → Allowed (four t r b l a x y z)
-four_allowed t r b l a x y z ha hx hy hz =
-    allowed_then t (part_value t a) _ (part_wins t a ha) (λ u hu. allowed_then r (part_value r x) _ (part_wins r x hx) (λ v hv. allowed_then b (part_value b y) _ (part_wins b y hy) (λ w hw. allowed_then l (part_value l z) _ (part_wins l z hz) (λ q hq. (hu, (hv, (hw, (hq, tt))))))))
+four_allowed : (on : Sides Prop) (a : Sides Part) → IsCounted a.top → IsCounted a.right → IsCounted a.bottom → IsCounted a.left → Allowed (four on a)
+four_allowed on a ht hr hb hl =
+    allowed_then on.top (part_value on.top a.top) _ (part_wins on.top a.top ht) (λ t t_wins. allowed_then on.right (part_value on.right a.right) _ (part_wins on.right a.right hr) (λ r r_wins. allowed_then on.bottom (part_value on.bottom a.bottom) _ (part_wins on.bottom a.bottom hb) (λ b b_wins. allowed_then on.left (part_value on.left a.left) _ (part_wins on.left a.left hl) (λ l l_wins. (t_wins, (r_wins, (b_wins, (l_wins, tt))))))))
 
-spread_allowed : (t r b l : Prop) (ps : List Part) → AreCounted ps → Allowed (spread (four t r b l) ps)
-spread_allowed t r b l [] h = tt
-spread_allowed t r b l (a ∷ []) h = four_allowed t r b l a a a a h.0 h.0 h.0 h.0
-spread_allowed t r b l (a ∷ x ∷ []) h = four_allowed t r b l a x a x h.0 h.1.0 h.0 h.1.0
-spread_allowed t r b l (a ∷ x ∷ y ∷ []) h = four_allowed t r b l a x y x h.0 h.1.0 h.1.1.0 h.1.0
-spread_allowed t r b l (a ∷ x ∷ y ∷ z ∷ []) h = four_allowed t r b l a x y z h.0 h.1.0 h.1.1.0 h.1.1.1.0
-spread_allowed t r b l (a ∷ x ∷ y ∷ z ∷ q ∷ ps) h = tt
+spread_allowed : (on : Sides Prop) (ps : List Part) → AreCounted ps → Allowed (spread (four on) ps)
+spread_allowed on [] h = tt
+spread_allowed on (a ∷ []) h = four_allowed on _ h.0 h.0 h.0 h.0
+spread_allowed on (a ∷ b ∷ []) h = four_allowed on _ h.0 h.1.0 h.0 h.1.0
+spread_allowed on (a ∷ b ∷ c ∷ []) h = four_allowed on _ h.0 h.1.0 h.1.1.0 h.1.0
+spread_allowed on (a ∷ b ∷ c ∷ d ∷ []) h = four_allowed on _ h.0 h.1.0 h.1.1.0 h.1.1.1.0
+spread_allowed on (a ∷ b ∷ c ∷ d ∷ e ∷ ps) h = tt
 
-sides_allowed : (t r b l : Prop) (ps : List Part) → AreCounted ps → Allowed (sides t r b l ps)
-sides_allowed t r b l ps h = allowed_if (is_inherit ps) (Ok (inherited (t ∷ r ∷ b ∷ l ∷ []))) (spread (four t r b l) ps) (inherited_allowed (t ∷ r ∷ b ∷ l ∷ [])) (spread_allowed t r b l ps h)
+sides_allowed : (on : Sides Prop) (ps : List Part) → AreCounted ps → Allowed (sides on ps)
+sides_allowed on ps h =
+    let all = on.top ∷ on.right ∷ on.bottom ∷ on.left ∷ [] in
+    allowed_if (is_inherit ps) (Ok (inherited all)) (spread (four on) ps) (inherited_allowed all) (spread_allowed on ps h)
 
 -- ---- borders
 
@@ -319,10 +322,10 @@ font_allowed ps h =
 -- ---- declarations
 
 shorthand_allowed : (s : Shorthand) (ps : List Part) → AreCounted ps → Allowed (shorthand s ps)
-shorthand_allowed Margin ps h = sides_allowed _ _ _ _ ps h
-shorthand_allowed Padding ps h = sides_allowed _ _ _ _ ps h
-shorthand_allowed BorderWidth ps h = sides_allowed _ _ _ _ ps h
-shorthand_allowed BorderStyle ps h = sides_allowed _ _ _ _ ps h
+shorthand_allowed Margin ps h = sides_allowed _ ps h
+shorthand_allowed Padding ps h = sides_allowed _ ps h
+shorthand_allowed BorderWidth ps h = sides_allowed _ ps h
+shorthand_allowed BorderStyle ps h = sides_allowed _ ps h
 shorthand_allowed Border ps h = lines_allowed (BorderTopWidth ∷ BorderRightWidth ∷ BorderBottomWidth ∷ BorderLeftWidth ∷ []) (BorderTopStyle ∷ BorderRightStyle ∷ BorderBottomStyle ∷ BorderLeftStyle ∷ []) ps h (omega arith, (omega arith, (omega arith, (omega arith, tt)))) (omega arith, (omega arith, (omega arith, (omega arith, tt))))
 shorthand_allowed BorderTop ps h = lines_allowed (BorderTopWidth ∷ []) (BorderTopStyle ∷ []) ps h (omega arith, tt) (omega arith, tt)
 shorthand_allowed BorderRight ps h = lines_allowed (BorderRightWidth ∷ []) (BorderRightStyle ∷ []) ps h (omega arith, tt) (omega arith, tt)

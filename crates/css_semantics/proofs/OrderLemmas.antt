@@ -1,5 +1,6 @@
 -- The settings of declarations in the order of the table.
 use Rattle.std.proofs.Common.{◌≡◌, ℕ, zero, suc, Bool, true, false, cond, List, [], ◌∷◌, ◌++◌, take, drop, Option, Some, None, Result, Ok, Err, refl, sym, ap, ◌∙◌, subst}
+use Rattle.viz_base.specs.declared.lengths.Sides.{Sides}
 use Rattle.viz_base.specs.declared.settings.Prop.{Prop}
 use Rattle.viz_base.specs.declared.settings.Prop.TheVariants.{Display, Position, Float, Clear, Overflow, Direction, Width, Height, MinWidth, MinHeight, MaxWidth, MaxHeight, MarginTop, MarginRight, MarginBottom, MarginLeft, PaddingTop, PaddingRight, PaddingBottom, PaddingLeft, BorderTopWidth, BorderRightWidth, BorderBottomWidth, BorderLeftWidth, BorderTopStyle, BorderRightStyle, BorderBottomStyle, BorderLeftStyle, FontSize, FontFamily, LineHeight, VerticalAlign, TextAlign, WhiteSpace, TextIndent, LetterSpacing, WordSpacing, TextTransform, ListStylePosition}
 use Rattle.viz_base.specs.declared.settings.Value.{Value}
@@ -37,20 +38,23 @@ inherited_sets : (ps : List Prop) → props (inherited ps) ≡ ps
 inherited_sets [] = refl
 inherited_sets (p ∷ ps) = ap (λ qs. p ∷ qs) (inherited_sets ps)
 
-four_sets : (t r b l : Prop) (a x y z : Part) → Sets (t ∷ r ∷ b ∷ l ∷ []) (four t r b l a x y z)
-four_sets t r b l a x y z =
-    sets_then (t ∷ r ∷ b ∷ l ∷ []) (part_value t a) _ (λ u. sets_then (t ∷ r ∷ b ∷ l ∷ []) (part_value r x) _ (λ v. sets_then (t ∷ r ∷ b ∷ l ∷ []) (part_value b y) _ (λ w. sets_then (t ∷ r ∷ b ∷ l ∷ []) (part_value l z) _ (λ q. refl))))
+abbrev all_of : Sides Prop → List Prop
+all_of on = on.top ∷ on.right ∷ on.bottom ∷ on.left ∷ []
 
-spread_sets : (t r b l : Prop) (ps : List Part) → Sets (t ∷ r ∷ b ∷ l ∷ []) (spread (four t r b l) ps)
-spread_sets t r b l [] = tt
-spread_sets t r b l (a ∷ []) = four_sets t r b l a a a a
-spread_sets t r b l (a ∷ x ∷ []) = four_sets t r b l a x a x
-spread_sets t r b l (a ∷ x ∷ y ∷ []) = four_sets t r b l a x y x
-spread_sets t r b l (a ∷ x ∷ y ∷ z ∷ []) = four_sets t r b l a x y z
-spread_sets t r b l (a ∷ x ∷ y ∷ z ∷ q ∷ ps) = tt
+four_sets : (on : Sides Prop) (a : Sides Part) → Sets (all_of on) (four on a)
+four_sets on a =
+    sets_then (all_of on) (part_value on.top a.top) _ (λ t. sets_then (all_of on) (part_value on.right a.right) _ (λ r. sets_then (all_of on) (part_value on.bottom a.bottom) _ (λ b. sets_then (all_of on) (part_value on.left a.left) _ (λ l. refl))))
 
-sides_sets : (t r b l : Prop) (ps : List Part) → Sets (t ∷ r ∷ b ∷ l ∷ []) (sides t r b l ps)
-sides_sets t r b l ps = sets_if _ (is_inherit ps) _ _ refl (spread_sets t r b l ps)
+spread_sets : (on : Sides Prop) (ps : List Part) → Sets (all_of on) (spread (four on) ps)
+spread_sets on [] = tt
+spread_sets on (a ∷ []) = four_sets on _
+spread_sets on (a ∷ b ∷ []) = four_sets on _
+spread_sets on (a ∷ b ∷ c ∷ []) = four_sets on _
+spread_sets on (a ∷ b ∷ c ∷ d ∷ []) = four_sets on _
+spread_sets on (a ∷ b ∷ c ∷ d ∷ e ∷ ps) = tt
+
+sides_sets : (on : Sides Prop) (ps : List Part) → Sets (all_of on) (sides on ps)
+sides_sets on ps = sets_if _ (is_inherit ps) _ _ refl (spread_sets on ps)
 
 each_sets : (test : Part → Bool) (v : Value) (ps : List Part) (qs : List Prop) → Sets qs (each_line test v ps qs)
 each_sets test v ps [] = refl
@@ -104,10 +108,10 @@ font_sets ps =
     (sets_if font_props (is_system ps) (Ok system_font) (written_font ps) refl (written_sets ps))
 
 pub shorthand_sets : (s : Shorthand) (ps : List Part) → Sets (longhands s) (shorthand s ps)
-shorthand_sets Margin ps = sides_sets _ _ _ _ ps
-shorthand_sets Padding ps = sides_sets _ _ _ _ ps
-shorthand_sets BorderWidth ps = sides_sets _ _ _ _ ps
-shorthand_sets BorderStyle ps = sides_sets _ _ _ _ ps
+shorthand_sets Margin ps = sides_sets _ ps
+shorthand_sets Padding ps = sides_sets _ ps
+shorthand_sets BorderWidth ps = sides_sets _ ps
+shorthand_sets BorderStyle ps = sides_sets _ ps
 shorthand_sets Border ps = lines_set (BorderTopWidth ∷ BorderRightWidth ∷ BorderBottomWidth ∷ BorderLeftWidth ∷ []) (BorderTopStyle ∷ BorderRightStyle ∷ BorderBottomStyle ∷ BorderLeftStyle ∷ []) ps
 shorthand_sets BorderTop ps = lines_set (BorderTopWidth ∷ []) (BorderTopStyle ∷ []) ps
 shorthand_sets BorderRight ps = lines_set (BorderRightWidth ∷ []) (BorderRightStyle ∷ []) ps

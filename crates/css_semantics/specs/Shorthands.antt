@@ -2,6 +2,7 @@
 use Rattle.std.specs.Prelude.{◌≡◌, ℕ, ℤ, pos, negsuc, ◌%◌, ◌==◌, nat_le, Bool, true, false, not, ◌&&◌, ◌||◌, List, [], ◌∷◌, ◌++◌, map, length, take, drop, Option, Some, None, Result, Ok, Err, if◌then◌else◌, codes, is_ok}
 use Rattle.std.specs.List.{list_any, list_all, count_by, find, prefix_len}
 use Rattle.css_semantics.specs.Pieces.{Token}
+use Rattle.viz_base.specs.declared.lengths.Sides.{Sides}
 use Rattle.viz_base.specs.declared.settings.Prop.{Prop}
 use Rattle.viz_base.specs.declared.settings.Prop.TheVariants.{MarginTop, MarginRight, MarginBottom, MarginLeft, PaddingTop, PaddingRight, PaddingBottom, PaddingLeft, BorderTopWidth, BorderRightWidth, BorderBottomWidth, BorderLeftWidth, BorderTopStyle, BorderRightStyle, BorderBottomStyle, BorderLeftStyle, FontSize, FontFamily, LineHeight, ListStylePosition}
 use Rattle.viz_base.specs.declared.settings.Value.{Value}
@@ -43,34 +44,46 @@ shorthand_named name = find (λ s. same_name name (shorthand_name s)) shorthands
 
 -- ---- four sides (CSS 2.1, 8.3, 8.4, 8.5.1 and 8.5.3)
 
-abbrev pub from_values : (Value → Value → Value → Value → List Setting) → Result Value Refusal → Result Value Refusal
-    → Result Value Refusal → Result Value Refusal → Result (List Setting) Refusal
-from_values f a b c d = then_on a (λ u. then_on b (λ v. then_on c (λ w. then_on d (λ x. Ok (f u v w x)))))
-
--- the settings of the top, right, bottom and left property from a part for each
-abbrev pub four : Prop → Prop → Prop → Prop → Part → Part → Part → Part → Result (List Setting) Refusal
-four top right bottom left a b c d =
-    from_values (λ u v w x. setting top u ∷ setting right v ∷ setting bottom w ∷ setting left x ∷ [])
-    (part_value top a) (part_value right b) (part_value bottom c) (part_value left d)
+-- a setting for each side, of its property from its part, in the order top, right, bottom, left
+abbrev pub four : Sides Prop → Sides Part → Result (List Setting) Refusal
+four on parts =
+    then_on (part_value on.top parts.top) (λ top.
+    then_on (part_value on.right parts.right) (λ right.
+    then_on (part_value on.bottom parts.bottom) (λ bottom.
+    then_on (part_value on.left parts.left) (λ left.
+    Ok (setting on.top top ∷ setting on.right right ∷ setting on.bottom bottom ∷ setting on.left left ∷ [])))))
 
 -- One value is for all sides; of two the first is for top and bottom and the second for
 -- right and left; of three the first is for the top, the second for right and left, the
 -- third for the bottom; four are for top, right, bottom and left.
-abbrev pub spread : (Part → Part → Part → Part → Result (List Setting) Refusal) → List Part
-    → Result (List Setting) Refusal
-spread f (a ∷ []) = f a a a a
-spread f (a ∷ b ∷ []) = f a b a b
-spread f (a ∷ b ∷ c ∷ []) = f a b c b
-spread f (a ∷ b ∷ c ∷ d ∷ []) = f a b c d
+abbrev pub spread : (Sides Part → Result (List Setting) Refusal) → List Part → Result (List Setting) Refusal
+spread f (a ∷ []) = f (record { top = a; right = a; bottom = a; left = a })
+spread f (a ∷ b ∷ []) = f (record { top = a; right = b; bottom = a; left = b })
+spread f (a ∷ b ∷ c ∷ []) = f (record { top = a; right = b; bottom = c; left = b })
+spread f (a ∷ b ∷ c ∷ d ∷ []) = f (record { top = a; right = b; bottom = c; left = d })
 spread f _ = Err Ignored
 
 -- the settings by which properties inherit
 abbrev pub inherited : List Prop → List Setting
 inherited ps = map (λ p. setting p Inherit) ps
 
-abbrev pub sides : Prop → Prop → Prop → Prop → List Part → Result (List Setting) Refusal
-sides top right bottom left ps = if is_inherit ps then Ok (inherited (top ∷ right ∷ bottom ∷ left ∷ []))
-    else spread (four top right bottom left) ps
+abbrev pub sides : Sides Prop → List Part → Result (List Setting) Refusal
+sides on ps = if is_inherit ps then Ok (inherited (on.top ∷ on.right ∷ on.bottom ∷ on.left ∷ []))
+    else spread (four on) ps
+
+abbrev pub margins : Sides Prop
+margins = record { top = MarginTop; right = MarginRight; bottom = MarginBottom; left = MarginLeft }
+
+abbrev pub paddings : Sides Prop
+paddings = record { top = PaddingTop; right = PaddingRight; bottom = PaddingBottom; left = PaddingLeft }
+
+abbrev pub border_widths : Sides Prop
+border_widths =
+    record { top = BorderTopWidth; right = BorderRightWidth; bottom = BorderBottomWidth; left = BorderLeftWidth }
+
+abbrev pub border_styles : Sides Prop
+border_styles =
+    record { top = BorderTopStyle; right = BorderRightStyle; bottom = BorderBottomStyle; left = BorderLeftStyle }
 
 -- ---- borders (CSS 2.1, 8.5.4)
 
@@ -216,10 +229,10 @@ list_style ps = Err (if list_any (is_keyword (codes "inside")) ps then Unsupport
 -- ---- declarations
 
 abbrev pub shorthand : Shorthand → List Part → Result (List Setting) Refusal
-shorthand Margin ps = sides MarginTop MarginRight MarginBottom MarginLeft ps
-shorthand Padding ps = sides PaddingTop PaddingRight PaddingBottom PaddingLeft ps
-shorthand BorderWidth ps = sides BorderTopWidth BorderRightWidth BorderBottomWidth BorderLeftWidth ps
-shorthand BorderStyle ps = sides BorderTopStyle BorderRightStyle BorderBottomStyle BorderLeftStyle ps
+shorthand Margin ps = sides margins ps
+shorthand Padding ps = sides paddings ps
+shorthand BorderWidth ps = sides border_widths ps
+shorthand BorderStyle ps = sides border_styles ps
 shorthand Border ps =
     lines (BorderTopWidth ∷ BorderRightWidth ∷ BorderBottomWidth ∷ BorderLeftWidth ∷ [])
     (BorderTopStyle ∷ BorderRightStyle ∷ BorderBottomStyle ∷ BorderLeftStyle ∷ []) ps

@@ -1,5 +1,6 @@
 -- Laws of values, in terms of the table of properties and of what each shorthand is short for.
 use Rattle.std.specs.Prelude.{◌≡◌, ℤ, pos, ◌<◌, ◌≤ℤ◌, List, [], ◌∷◌, map, length, Ok, false}
+use Rattle.viz_base.specs.declared.lengths.Sides.{Sides}
 use Rattle.viz_base.specs.declared.settings.Prop.{Prop}
 use Rattle.viz_base.specs.declared.settings.Prop.TheVariants.{MarginTop, MarginRight, MarginBottom, MarginLeft, PaddingTop, PaddingRight, PaddingBottom, PaddingLeft, BorderTopWidth, BorderRightWidth, BorderBottomWidth, BorderLeftWidth, BorderTopStyle, BorderRightStyle, BorderBottomStyle, BorderLeftStyle, FontSize, FontFamily, LineHeight}
 use Rattle.viz_base.specs.declared.settings.Value.{Value}
@@ -62,13 +63,11 @@ HasValue r (Names names) = ⊥
 -- ---- sides
 
 -- what fewer than four values of a shorthand for four sides stand for (CSS 2.1, 8.3)
-pub record FewerSides (top right bottom left : Prop) : Type 0 where
-  pub one : (a : Part) → is_inherit (a ∷ []) ≡ false
-      → sides top right bottom left (a ∷ []) ≡ sides top right bottom left (a ∷ a ∷ a ∷ a ∷ [])
-  pub two : (a b : Part) → sides top right bottom left (a ∷ b ∷ []) ≡ sides top right bottom left (a ∷ b ∷ a ∷ b ∷ [])
-  pub three : (a b c : Part)
-      → sides top right bottom left (a ∷ b ∷ c ∷ []) ≡ sides top right bottom left (a ∷ b ∷ c ∷ b ∷ [])
-  pub four : (a b c d : Part) (u v w x : Value) → part_value top a ≡ Ok u → part_value right b ≡ Ok v
-      → part_value bottom c ≡ Ok w → part_value left d ≡ Ok x
-      → sides top right bottom left (a ∷ b ∷ c ∷ d ∷ [])
-      ≡ Ok (setting top u ∷ setting right v ∷ setting bottom w ∷ setting left x ∷ [])
+pub record FewerSides (on : Sides Prop) : Type 0 where
+  pub one : (a : Part) → is_inherit (a ∷ []) ≡ false → sides on (a ∷ []) ≡ sides on (a ∷ a ∷ a ∷ a ∷ [])
+  pub two : (a b : Part) → sides on (a ∷ b ∷ []) ≡ sides on (a ∷ b ∷ a ∷ b ∷ [])
+  pub three : (a b c : Part) → sides on (a ∷ b ∷ c ∷ []) ≡ sides on (a ∷ b ∷ c ∷ b ∷ [])
+  pub four : (a b c d : Part) (v : Sides Value) → part_value on.top a ≡ Ok v.top → part_value on.right b ≡ Ok v.right
+      → part_value on.bottom c ≡ Ok v.bottom → part_value on.left d ≡ Ok v.left
+      → sides on (a ∷ b ∷ c ∷ d ∷ [])
+      ≡ Ok (setting on.top v.top ∷ setting on.right v.right ∷ setting on.bottom v.bottom ∷ setting on.left v.left ∷ [])

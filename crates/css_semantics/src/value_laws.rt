@@ -1,4 +1,5 @@
 ghost use Rattle.std.specs.Prelude.{◌≡◌, ℕ, [], ◌∷◌, List as Seq, Ok, Result};
+ghost use Rattle.viz_base.specs.declared.lengths.Sides.{Sides};
 ghost use Rattle.viz_base.specs.declared.settings.Prop.{Prop};
 ghost use Rattle.viz_base.specs.declared.settings.Value.{Value};
 ghost use Rattle.viz_base.specs.declared.settings.Setting.{Setting};
@@ -36,7 +37,7 @@ pub fn values_allowed()
 
 /// A law: what one, two, three and four values of a shorthand for four sides stand for (CSS 2.1, 8.3).
 pub fn fewer_sides()
-    ensures { (top right bottom left : Prop) → FewerSides top right bottom left }
+    ensures { (on : Sides Prop) → FewerSides on }
 {}
 
 /// A law: no name and text have two answers.

@@ -3,7 +3,7 @@
 use Rattle.std.specs.Prelude.{◌≡◌, ℕ, Bool, true, false, List, [], ◌∷◌, ◌++◌, Some, Result, Ok, Err}
 use Rattle.std.specs.List.{list_any, list_all}
 use Rattle.viz_base.specs.declared.settings.Prop.{Prop}
-use Rattle.viz_base.specs.declared.settings.Prop.TheVariants.{MarginTop, MarginRight, MarginBottom, MarginLeft, PaddingTop, PaddingRight, PaddingBottom, PaddingLeft, BorderTopWidth, BorderRightWidth, BorderBottomWidth, BorderLeftWidth, BorderTopStyle, BorderRightStyle, BorderBottomStyle, BorderLeftStyle, FontSize, FontFamily, LineHeight}
+use Rattle.viz_base.specs.declared.settings.Prop.TheVariants.{BorderTopWidth, BorderRightWidth, BorderBottomWidth, BorderLeftWidth, BorderTopStyle, BorderRightStyle, BorderBottomStyle, BorderLeftStyle, FontSize, FontFamily, LineHeight}
 use Rattle.viz_base.specs.declared.settings.Value.{Value}
 use Rattle.viz_base.specs.declared.settings.Setting.{Setting}
 use Rattle.css_semantics.specs.declared.parts.Part.{Part}
@@ -14,7 +14,7 @@ use Rattle.css_semantics.specs.declared.parts.Refusal.{Refusal}
 use Rattle.css_semantics.specs.declared.parts.Refusal.TheVariants.{Ignored}
 use Rattle.css_semantics.specs.Properties.{row}
 use Rattle.css_semantics.specs.Values.{setting, part_value, is_inherit}
-use Rattle.css_semantics.specs.Shorthands.{sides, inherited, is_line, is_line_width, is_line_style, is_before_size, is_front, is_system, system_font, font_names, font_settings, list_style}
+use Rattle.css_semantics.specs.Shorthands.{sides, margins, paddings, border_widths, border_styles, inherited, is_line, is_line_width, is_line_style, is_before_size, is_front, is_system, system_font, font_names, font_settings, list_style}
 
 -- ---- borders: [ <border-width> || <border-style> || <border-top-color> ] | inherit
 
@@ -63,10 +63,10 @@ pub data ByGrammar (IsSaid : List Setting → Type 0) : Result (List Setting) Re
   dropped : ((settings : List Setting) → IsSaid settings → ⊥) → ByGrammar IsSaid (Err Ignored)
 
 abbrev pub IsShorthand : Shorthand → List Part → Result (List Setting) Refusal → Type 0
-IsShorthand Margin ps answer = answer ≡ sides MarginTop MarginRight MarginBottom MarginLeft ps
-IsShorthand Padding ps answer = answer ≡ sides PaddingTop PaddingRight PaddingBottom PaddingLeft ps
-IsShorthand BorderWidth ps answer = answer ≡ sides BorderTopWidth BorderRightWidth BorderBottomWidth BorderLeftWidth ps
-IsShorthand BorderStyle ps answer = answer ≡ sides BorderTopStyle BorderRightStyle BorderBottomStyle BorderLeftStyle ps
+IsShorthand Margin ps answer = answer ≡ sides margins ps
+IsShorthand Padding ps answer = answer ≡ sides paddings ps
+IsShorthand BorderWidth ps answer = answer ≡ sides border_widths ps
+IsShorthand BorderStyle ps answer = answer ≡ sides border_styles ps
 IsShorthand Border ps answer =
     ByGrammar (IsBorder (BorderTopWidth ∷ BorderRightWidth ∷ BorderBottomWidth ∷ BorderLeftWidth ∷ [])
     (BorderTopStyle ∷ BorderRightStyle ∷ BorderBottomStyle ∷ BorderLeftStyle ∷ []) ps) answer

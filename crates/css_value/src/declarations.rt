@@ -11,13 +11,13 @@ use crate::fault::ValueFault;
 use crate::fonts::font;
 use crate::lines::lines;
 use crate::rows::property_named;
-use crate::sides::{Sides, four_sides};
+use crate::sides::four_sides;
 use crate::splitting::split;
 use crate::values::{is_keyword, longhand};
 use css_semantics::{Part, Shorthand};
 use css_token::{close_by_end, same_name, tokens};
 use std::alloc::Global;
-use viz_base::{List, Prop, Setting};
+use viz_base::{List, Prop, Setting, Sides};
 
 const SHORTHANDS: [Shorthand; 11] = [
     Shorthand::Margin,
@@ -47,28 +47,28 @@ const LINE_STYLES: [Prop; 4] = [
     Prop::BorderLeftStyle,
 ];
 
-const MARGINS: Sides = Sides {
+const MARGINS: Sides<Prop> = Sides {
     top: Prop::MarginTop,
     right: Prop::MarginRight,
     bottom: Prop::MarginBottom,
     left: Prop::MarginLeft,
 };
 
-const PADDINGS: Sides = Sides {
+const PADDINGS: Sides<Prop> = Sides {
     top: Prop::PaddingTop,
     right: Prop::PaddingRight,
     bottom: Prop::PaddingBottom,
     left: Prop::PaddingLeft,
 };
 
-const WIDTHS: Sides = Sides {
+const WIDTHS: Sides<Prop> = Sides {
     top: Prop::BorderTopWidth,
     right: Prop::BorderRightWidth,
     bottom: Prop::BorderBottomWidth,
     left: Prop::BorderLeftWidth,
 };
 
-const STYLES: Sides = Sides {
+const STYLES: Sides<Prop> = Sides {
     top: Prop::BorderTopStyle,
     right: Prop::BorderRightStyle,
     bottom: Prop::BorderBottomStyle,

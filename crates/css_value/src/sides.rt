@@ -9,16 +9,7 @@ use crate::fault::ValueFault;
 use crate::values::{is_inherit, part_value};
 use css_semantics::Part;
 use std::alloc::Global;
-use viz_base::{List, Prop, Setting, Value};
-
-/// The properties of the top, right, bottom and left side.
-#[derive(Clone, Copy)]
-pub struct Sides {
-    pub top: Prop,
-    pub right: Prop,
-    pub bottom: Prop,
-    pub left: Prop,
-}
+use viz_base::{List, Prop, Setting, Sides, Value};
 
 /// Adds a setting.
 pub fn set(settings: &mut List<Setting>, prop: Prop, value: Value) -> Result<(), ValueFault>
@@ -43,14 +34,14 @@ pub fn inherit(settings: &mut List<Setting>, props: &[Prop]) -> Result<(), Value
 /// The settings of the sides from a part for each.
 fn four(
     alloc: Global,
-    sides: Sides,
+    sides: Sides<Prop>,
     top: &Part,
     right: &Part,
     bottom: &Part,
     left: &Part,
 ) -> Result<List<Setting>, ValueFault>
     ensures { Gives (λ x. x) refusal_of result
-        (four sides.top sides.right sides.bottom sides.left top.now right.now bottom.now left.now) }
+        (four sides (record { top = top.now; right = right.now; bottom = bottom.now; left = left.now })) }
 {
     let top = part_value(sides.top, top)?;
     let right = part_value(sides.right, right)?;
@@ -64,8 +55,8 @@ fn four(
     Ok(settings)
 }
 
-fn spread(alloc: Global, sides: Sides, parts: &[Part]) -> Result<List<Setting>, ValueFault>
-    ensures { Gives (λ x. x) refusal_of result (spread (four sides.top sides.right sides.bottom sides.left) parts.now) }
+fn spread(alloc: Global, sides: Sides<Prop>, parts: &[Part]) -> Result<List<Setting>, ValueFault>
+    ensures { Gives (λ x. x) refusal_of result (spread (four sides) parts.now) }
 {
     match parts {
         [all] => four(alloc, sides, all, all, all, all),
@@ -77,8 +68,12 @@ fn spread(alloc: Global, sides: Sides, parts: &[Part]) -> Result<List<Setting>, 
 }
 
 /// What the value of a shorthand for four sides gives (CSS 2.1, 8.3, 8.4, 8.5.1 and 8.5.3).
-pub fn four_sides(alloc: Global, on: Sides, parts: &[Part]) -> Result<List<Setting>, ValueFault>
-    ensures { Gives (λ x. x) refusal_of result (sides on.top on.right on.bottom on.left parts.now) }
+pub fn four_sides(
+    alloc: Global,
+    on: Sides<Prop>,
+    parts: &[Part],
+) -> Result<List<Setting>, ValueFault>
+    ensures { Gives (λ x. x) refusal_of result (sides on parts.now) }
 {
     if is_inherit(parts) {
         let mut settings = List::new(alloc);
