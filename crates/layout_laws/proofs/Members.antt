@@ -1,8 +1,9 @@
 -- Lemmas on elements of lists and on ascending lists.
-use Rattle.std.proofs.Common.{◌≡◌, ℕ, zero, suc, ◌≤◌, Bool, true, false, List, [], ◌∷◌, get_or, map, flat_map, filter, Contains, refl, sym, ◌∙◌, ap, subst, arith, ◌⊎◌, inl, inr, ⊎_elim, if◌then◌else◌}
+use Rattle.std.proofs.Common.{◌≡◌, ℕ, zero, suc, ◌≤◌, Bool, true, false, List, [], ◌∷◌, length, get_or, slice_get, Some, map, flat_map, filter, Contains, refl, sym, ◌∙◌, ap, subst, arith, ◌⊎◌, inl, inr, ⊎_elim, if◌then◌else◌}
 use Rattle.std.specs.List.{list_any, list_all}
 use Rattle.std.specs.Prelude.{⊤}
 use Rattle.std.proofs.lemmas.List.{length-map, get_or-map}
+use Rattle.std.proofs.lemmas.Option.{slice_get_read}
 use Rattle.std.proofs.lemmas.List.Elements.{All-map, All-filter, filter_passes, All-contains, All-contains_itself, Contains-get_or, Contains-append_left, Contains-append_right, Contains-append_cases}
 use Rattle.std.proofs.lemmas.List.Folds.{Any-from_list_any, list_any-from_Any}
 use Rattle.std.proofs.lemmas.List.Sums.{AllPass-from_list_all, list_all-from_AllPass}
@@ -25,6 +26,9 @@ first_or_later y ys x (suc k, l, e) = inr (k, omega (arith, l), e)
 
 pub only_member : {A : Type 0} (y x : A) → Contains (y ∷ []) x → y ≡ x
 only_member y x i = ⊎_elim (λ e. e) (λ j. no_member j) (first_or_later y [] x i)
+
+pub member_place : {A : Type 0} (xs : List A) (x : A) (i : Contains xs x) → slice_get xs i.0 ≡ Some x
+member_place xs x i = slice_get_read xs (length xs) i.0 x refl i.1 (sym i.2)
 
 -- what holds of the first element, and of x where it is a later one, holds of x
 pub by_member : {A : Type 0} (P : A → Type 0) (y : A) (ys : List A) (x : A) → Contains (y ∷ ys) x → P y → (Contains ys x → P x) → P x
@@ -57,6 +61,10 @@ from_map {A} {B} f xs y = All-contains Image (map f xs) y (All-map Image f xs (�
   where
     Image : B → Type 0
     Image z = (x : A) × Contains xs x × (f x ≡ z)
+
+pub map_same : {A B : Type 0} (f g : A → B) (xs : List A) → ((x : A) → Contains xs x → f x ≡ g x) → map f xs ≡ map g xs
+map_same f g [] h = refl
+map_same f g (x ∷ xs) h = ap (λ y. y ∷ map f xs) (h x (first_member _ refl)) ∙ ap (λ ys. g x ∷ ys) (map_same f g xs (λ y i. h y (later_member _ i)))
 
 -- ---- ascending numbers
 

@@ -1,6 +1,5 @@
 -- Where the blocks of a whole page stand in normal flow without floats and clearance.
 use Rattle.std.proofs.Common.{◌≡◌, ℕ, zero, suc, ◌<◌, ◌*◌, ℤ, pos, ◌+ℤ◌, Bool, true, false, ◌⊎◌, inl, inr, IsTrue, List, [], ◌∷◌, ◌++◌, map, flat_map, length, slice_get, refl, sym, ap, ◌∙◌, subst, arith, append-nil, Option, Some, Contains}
-use Rattle.std.proofs.lemmas.Option.{slice_get_read}
 use Rattle.std.specs.List.{list_all}
 use Rattle.std.specs.Option.{option_map_or}
 use Rattle.std.proofs.lemmas.Bool.{cases_order}
@@ -24,16 +23,13 @@ use Rattle.layout_semantics.specs.Page.{page_rendering}
 use Rattle.layout_semantics.proofs.Pages.{forest, page-distinct}
 use Rattle.layout_semantics.proofs.Orders.{document_order-is}
 use Rattle.layout_laws.specs.PlainFlow.{HasPlainBlocks, IsEntryOf, content_of, leading, all_margins, collapses, trailing}
-use Rattle.layout_laws.proofs.Members.{first_member, later_member, first_or_later}
+use Rattle.layout_laws.proofs.Members.{first_member, later_member, first_or_later, member_place}
 use Rattle.layout_laws.proofs.Flowing.{replaced_holds_none}
 use Rattle.layout_laws.proofs.PlainSteps.{edge_after, passed_by, started}
 use Rattle.layout_laws.proofs.PlainTraces.{boxes_in, entries_in, trace_to, IsTrace, map_none}
 use Rattle.layout_laws.proofs.PlainLaws.{KidsStand, EachStands, stand-more, flow-traced, flow-stands}
 
 -- ---- places in lists
-
-in_place : {A : Type 0} (x : A) (xs : List A) → Contains xs x → (i : ℕ) × (i < length xs) × (slice_get xs i ≡ Some x)
-in_place x xs i = (i.0, i.1, slice_get_read xs (length xs) i.0 x refl i.1 (sym i.2))
 
 map_place : {A B : Type 0} (f : A → B) (xs : List A) (i : ℕ) (x : A) → slice_get xs i ≡ Some x → slice_get (map f xs) i ≡ Some (f x)
 map_place f [] i x e = absurd (cc)
@@ -130,21 +126,21 @@ module _ (tree : BoxTree) (w : World) (height : ℕ) (plain : HasPlainBlocks tre
   only_one b p q i j = by_order (cases_order m n)
     where
       m : ℕ
-      m = (in_place (b, p) trace i).0
+      m = i.0
 
       n : ℕ
-      n = (in_place (b, q) trace j).0
+      n = j.0
 
-      box_at : (x : Placed ℤ) (i : Contains trace (b, x)) → slice_get (page_order tree.boxes) (in_place (b, x) trace i).0 ≡ Some b
-      box_at x i = ap (λ (l : List ℕ). slice_get l (in_place (b, x) trace i).0) order-is ∙ map_place (λ (e : ℕ × Placed ℤ). e.0) trace (in_place (b, x) trace i).0 (b, x) (in_place (b, x) trace i).2
+      box_at : (x : Placed ℤ) (i : Contains trace (b, x)) → slice_get (page_order tree.boxes) i.0 ≡ Some b
+      box_at x i = ap (λ (l : List ℕ). slice_get l i.0) order-is ∙ map_place (λ (e : ℕ × Placed ℤ). e.0) trace i.0 (b, x) (member_place trace (b, x) i)
 
-      within : (x : Placed ℤ) (i : Contains trace (b, x)) → (in_place (b, x) trace i).0 < length (page_order tree.boxes)
-      within x i = let l = (in_place (b, x) trace i).1 in let same = ap (λ (l : List ℕ). length l) order-is in let map_same = length-map trace (λ (e : ℕ × Placed ℤ). e.0) in omega (arith, l, same, map_same)
+      within : (x : Placed ℤ) (i : Contains trace (b, x)) → i.0 < length (page_order tree.boxes)
+      within x i = let l = i.1 in let same = ap (λ (l : List ℕ). length l) order-is in let map_same = length-map trace (λ (e : ℕ × Placed ℤ). e.0) in omega (arith, l, same, map_same)
 
       by_order : (m ≡ n) ⊎ ((m < n) ⊎ (n < m)) → p ≡ q
       by_order (inl e) =
           ap (λ (o : Option (ℕ × Placed ℤ)). option_map_or (λ (e : ℕ × Placed ℤ). e.1) o p)
-          (sym (in_place (b, p) trace i).2 ∙ (ap (slice_get trace) e ∙ (in_place (b, q) trace j).2))
+          (sym (member_place trace (b, p) i) ∙ (ap (slice_get trace) e ∙ member_place trace (b, q) j))
       by_order (inr (inl l)) = absurd (page-distinct tree.boxes m n (forest tree) l (within q j) (box_at p i ∙ sym (box_at q j)))
       by_order (inr (inr l)) = absurd (page-distinct tree.boxes n m (forest tree) l (within p i) (box_at q j ∙ sym (box_at p i)))
 

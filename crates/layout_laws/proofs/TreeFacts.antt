@@ -3,7 +3,7 @@ use Rattle.std.proofs.Common.{◌≡◌, ℕ, zero, suc, ◌<◌, ◌≤◌, Boo
 use Rattle.std.specs.List.{list_any, list_all, enumerate_from}
 use Rattle.std.specs.Option.{option_map_or}
 use Rattle.std.specs.Str.{chars}
-use Rattle.std.proofs.lemmas.Option.{slice_get_within, slice_get-map, get_or_from_slice_get, slice_get_read}
+use Rattle.std.proofs.lemmas.Option.{slice_get_within, slice_get-map, get_or_from_slice_get}
 use Rattle.std.proofs.lemmas.List.FromFn.{length-enumerate_from}
 use Rattle.viz_base.specs.Pages.{IsPage, is_element}
 use Rattle.viz_base.specs.Orders.{IsInOrder}
@@ -20,7 +20,7 @@ use Rattle.layout_semantics.specs.WhiteSpace.{is_in}
 use Rattle.layout_semantics.specs.BoxTrees.{Item, items_of, own_box, own_place, boxes_before, outer_place, box_count, run_around, page_parts, page_boxes, tree_styles, tree_style, tree_style_of, tree_parents, viewport_clip, styled_element}
 use Rattle.layout_semantics.specs.Refusals.{blocks_in_inlines}
 use Rattle.layout_laws.specs.Styled.{AreStylesOf, is_at_or_above}
-use Rattle.layout_laws.proofs.Members.{any_in, any_from, all_from, all_in, to_map, no_member, by_member}
+use Rattle.layout_laws.proofs.Members.{any_in, any_from, all_from, all_in, to_map, no_member, by_member, member_place}
 use Rattle.layout_laws.proofs.Places.{node_of}
 use Rattle.layout_laws.proofs.Kids.{IsArranged, order, own_place_from, own_box_at}
 use Rattle.layout_laws.proofs.Nesting.{IsBoxOf, kids_ascend, kids_name}
@@ -167,7 +167,7 @@ module _ (nodes : List Node) (styles : List Style) (page : IsPage nodes) where
   boxed_shown : (node : ℕ) → has_box (page_boxes nodes styles) node ≡ true → (is_shown nodes (tree_styles nodes styles) node ≡ true) × (node < length nodes)
   boxed_shown node h =
       let there = any_in (λ (b : BoxNode). b.node == node) (page_boxes nodes styles) h in
-      let place = slice_get_read (page_boxes nodes styles) (length (page_boxes nodes styles)) there.1.0 there.0 refl there.1.1 (sym there.1.2) in
+      let place = member_place (page_boxes nodes styles) there.0 there.1 in
       subst (λ n. (is_shown nodes (tree_styles nodes styles) n ≡ true) × (n < length nodes)) (eqb-true there.0.node node there.2) (box_shown nodes styles page there.1.0 there.0 place)
 
   pub shown_boxed : (at : ℕ) (n : Node) (s : Style) → slice_get nodes at ≡ Some n → slice_get (tree_styles nodes styles) at ≡ Some s → is_shown nodes (tree_styles nodes styles) at ≡ true → is_element n.body ≡ true → has_box (page_boxes nodes styles) at ≡ true

@@ -1,5 +1,5 @@
 -- The boxes of a page stand in document order, and the first is no inline box; so they are a box tree.
-use Rattle.std.proofs.Common.{◌≡◌, ℕ, suc, ◌+◌, ◌<◌, ◌≤◌, ◌==◌, Bool, true, false, List, [], ◌∷◌, map, Option, Some, None, option_map, slice_get, IsTrue, refl, sym, ◌∙◌, ap, subst, arith, inl, inr, ◌⊎◌, if◌then◌else◌, eq-or-lt_of_le, eqb-true, eq-eqb, lt-ltb, ltb-true, filter}
+use Rattle.std.proofs.Common.{◌≡◌, ℕ, suc, ◌+◌, ◌<◌, ◌≤◌, ◌==◌, Bool, true, false, List, [], ◌∷◌, map, Option, Some, None, option_map, slice_get, IsTrue, refl, sym, ◌∙◌, ap, subst, arith, inl, inr, ◌⊎◌, if◌then◌else◌, eq-or-lt_of_le, eqb-true, eq-eqb, lt-ltb, ltb-true, filter, Contains, ⊎_elim}
 use Rattle.std.specs.List.{list_any}
 use Rattle.std.proofs.lemmas.Bool.{cases_order}
 use Rattle.std.proofs.lemmas.Option.{same_Some, slice_get-map}
@@ -15,11 +15,11 @@ use Rattle.layout_semantics.specs.WhiteSpace.{is_in}
 use Rattle.layout_semantics.specs.BoxTrees.{Item, begins_run, boxes_before, first_of, has_node, is_block_part, items_of, needs_box, nodes_of, outer_place, own_place, page_boxes, page_parts, parts_in, runs_of, tree_parents, tree_styles, with_part, wrapped_in}
 use Rattle.layout_semantics.specs.Refusals.{blocks_in_inlines}
 use Rattle.layout_laws.specs.Styled.{AreStylesOf}
-use Rattle.layout_laws.proofs.Members.{In, Rises, any_in, from_filter, from_map, rises_filter, rises_from, to_filter, to_map, unique_in}
+use Rattle.layout_laws.proofs.Members.{Rises, any_in, from_filter, from_map, rises_filter, rises_from, to_filter, to_map, unique_in, no_member, first_member, later_member, first_or_later}
 use Rattle.layout_laws.proofs.Places.{node_of}
 use Rattle.layout_laws.proofs.Kids.{IsArranged, HasParent, order, own_place_from, own_place_is, own_place_within}
 use Rattle.layout_laws.proofs.Nesting.{IsBoxOf}
-use Rattle.layout_laws.proofs.Runs.{find_run, found_in, from_runs, is_in_some, rises_wrapped, run_parent}
+use Rattle.layout_laws.proofs.Runs.{find_run, found_in, from_runs, is_in_some, rises_wrapped, run_parent, past_empty}
 use Rattle.layout_laws.proofs.PageParts.{page_rises}
 use Rattle.layout_laws.proofs.BoxLaws.{page_arranged}
 use Rattle.layout_laws.proofs.BoxFacts.{item_known, item_part, page_box_is}
@@ -31,85 +31,93 @@ use Rattle.page_boxes.proofs.PageSteps.{root_has_none, root_whole}
 
 -- ---- runs leave out nothing
 
-none_in : {A B : Type 0} {a : A} → In a [] → B
-none_in i = elim i [ ]
-
-module _ (p : Part) (ps : List Part) (after : (z : Part) → In z ps → p.node < z.node) where
+module _ (p : Part) (ps : List Part) (after : (z : Part) → Contains ps z → p.node < z.node) where
   -- a list that leaves out nothing before one of its parts keeps to that with an earlier part in front
-  longer : (run : List Part) → ((b z : Part) → In b run → In z ps → z.node < b.node → In z run) → (b z : Part) → In b (p ∷ run) → In z (p ∷ ps) → z.node < b.node → In z (p ∷ run)
-  longer run again b _ i In.here l = In.here
-  longer run again _ z In.here (In.there j) l = let later = after z j in absurd (omega (arith, later, l))
-  longer run again b z (In.there i) (In.there j) l = In.there (again b z i j l)
+  longer : (run : List Part) → ((b z : Part) → Contains run b → Contains ps z → z.node < b.node → Contains run z) → (b z : Part) → Contains (p ∷ run) b → Contains (p ∷ ps) z → z.node < b.node → Contains (p ∷ run) z
+  longer run again b z i j l =
+      ⊎_elim
+      (λ e. first_member _ e)
+      (λ h.
+      ⊎_elim
+      (λ s. let later = after z h in absurd (omega (arith, later, l, ap (λ (q : Part). q.node) s)))
+      (λ k. later_member _ (again b z k h l))
+      (first_or_later p run b i))
+      (first_or_later p ps z j)
 
 -- the first run leaves out nothing before a part of it
 abbrev FirstIsWhole : List Part → List (List Part) → Type 0
 FirstIsWhole kids [] = Unit {0}
-FirstIsWhole kids (run ∷ runs) = (b z : Part) → In b run → In z kids → z.node < b.node → In z run
+FirstIsWhole kids (run ∷ runs) = (b z : Part) → Contains run b → Contains kids z → z.node < b.node → Contains run z
 
 first_whole : (kids : List Part) (low : ℕ) → Rises low (map (λ (p : Part). p.node) kids) → FirstIsWhole kids (runs_of kids)
-first_whole [] low rise = λ b z i j l. none_in i
+first_whole [] low rise = λ b z i j l. no_member i
 first_whole (p ∷ ps) low rise = by_level p.level (runs_of ps) (first_whole ps (suc p.node) rise.1)
   where
-    after : (z : Part) → In z ps → p.node < z.node
+    after : (z : Part) → Contains ps z → p.node < z.node
     after z i = rises_from (suc p.node) (map (λ (p : Part). p.node) ps) z.node rise.1 (to_map (λ (p : Part). p.node) ps z i)
 
     by_level : (level : Level) (runs : List (List Part)) → FirstIsWhole ps runs → FirstIsWhole (p ∷ ps) (with_part level p runs)
-    by_level Level.block runs again = λ b z i j l. none_in i
-    by_level Level.floated [] again = longer p ps after [] (λ b z i j l. none_in i)
+    by_level Level.block runs again = λ b z i j l. no_member i
+    by_level Level.floated [] again = longer p ps after [] (λ b z i j l. no_member i)
     by_level Level.floated (run ∷ runs) again = longer p ps after run again
-    by_level Level.inline [] again = longer p ps after [] (λ b z i j l. none_in i)
+    by_level Level.inline [] again = longer p ps after [] (λ b z i j l. no_member i)
     by_level Level.inline (run ∷ runs) again = longer p ps after run again
 
 -- no run leaves out anything between two parts of it
-whole : (kids : List Part) (low : ℕ) → Rises low (map (λ (p : Part). p.node) kids) → (run : List Part) (a b z : Part) → In run (runs_of kids) → In a run → In b run → In z kids → a.node < z.node → z.node < b.node → In z run
-whole [] low rise run a b z i j k h l m = none_in h
-whole (p ∷ ps) low rise run a b _ i j k In.here l m =
+whole : (kids : List Part) (low : ℕ) → Rises low (map (λ (p : Part). p.node) kids) → (run : List Part) (a b z : Part) → Contains (runs_of kids) run → Contains run a → Contains run b → Contains kids z → a.node < z.node → z.node < b.node → Contains run z
+whole [] low rise run a b z i j k h l m = no_member h
+whole (p ∷ ps) low rise run a b z i j k h l m =
+    ⊎_elim
+    (λ e.
     let rising : Rises p.node (map (λ (p : Part). p.node) (p ∷ ps)) = (omega arith, rise.1) in
     let first = rises_from p.node (map (λ (p : Part). p.node) (p ∷ ps)) a.node rising (to_map (λ (p : Part). p.node) (p ∷ ps) a (from_runs (p ∷ ps) run a i j)) in
-    absurd (omega (arith, first, l))
-whole (p ∷ ps) low rise run a b z i j k (In.there h) l m =
-    by_level p.level (runs_of ps) (first_whole ps (suc p.node) rise.1) run i j k (λ r e f g. whole ps (suc p.node) rise.1 r a b z e f g h l m)
+    absurd (omega (arith, first, l, ap (λ (q : Part). q.node) e)))
+    (λ g. by_level g p.level (runs_of ps) (first_whole ps (suc p.node) rise.1) run i j k (λ r e f h. whole ps (suc p.node) rise.1 r a b z e f h g l m))
+    (first_or_later p ps z h)
   where
-    after : (z : Part) → In z ps → p.node < z.node
+    after : (z : Part) → Contains ps z → p.node < z.node
     after z i = rises_from (suc p.node) (map (λ (p : Part). p.node) ps) z.node rise.1 (to_map (λ (p : Part). p.node) ps z i)
 
-    by_level : (level : Level) (runs : List (List Part)) → FirstIsWhole ps runs → (run : List Part) → In run (with_part level p runs) → In a run → In b run
-        → ((r : List Part) → In r runs → In a r → In b r → In z r) → In z run
-    by_level Level.block runs first _ In.here j k again = none_in j
-    by_level Level.block runs first run (In.there i) j k again = again run i j k
-    by_level Level.floated [] first _ In.here j k again = longer p ps after [] (λ b z i j l. none_in i) b z k (In.there h) m
-    by_level Level.floated [] first run (In.there i) j k again = none_in i
-    by_level Level.floated (r ∷ runs) first _ In.here j k again = longer p ps after r first b z k (In.there h) m
-    by_level Level.floated (r ∷ runs) first run (In.there i) j k again = again run (In.there i) j k
-    by_level Level.inline [] first _ In.here j k again = longer p ps after [] (λ b z i j l. none_in i) b z k (In.there h) m
-    by_level Level.inline [] first run (In.there i) j k again = none_in i
-    by_level Level.inline (r ∷ runs) first _ In.here j k again = longer p ps after r first b z k (In.there h) m
-    by_level Level.inline (r ∷ runs) first run (In.there i) j k again = again run (In.there i) j k
+    grown : Contains ps z → (r : List Part) (runs : List (List Part)) → ((c y : Part) → Contains r c → Contains ps y → y.node < c.node → Contains r y) → (run : List Part) → Contains ((p ∷ r) ∷ runs) run → Contains run b
+        → (Contains runs run → Contains run z) → Contains run z
+    grown g r runs first run i k again =
+        ⊎_elim
+        (λ e. subst (λ s. Contains s z) e (longer p ps after r first b z (subst (λ s. Contains s b) (sym e) k) (later_member ps g) m))
+        again
+        (first_or_later (p ∷ r) runs run i)
 
-wrapped_runs : (kids : List Part) (run : List Part) → In run (wrapped_in kids) → In run (runs_of kids)
+    by_level : Contains ps z → (level : Level) (runs : List (List Part)) → FirstIsWhole ps runs → (run : List Part) → Contains (with_part level p runs) run → Contains run a → Contains run b
+        → ((r : List Part) → Contains runs r → Contains r a → Contains r b → Contains r z) → Contains run z
+    by_level g Level.block runs first run i j k again = again run (past_empty runs run a i j) j k
+    by_level g Level.floated [] first run i j k again = grown g [] [] (λ c y e f h. no_member e) run i k (λ h. no_member h)
+    by_level g Level.floated (r ∷ runs) first run i j k again = grown g r runs first run i k (λ h. again run (later_member runs h) j k)
+    by_level g Level.inline [] first run i j k again = grown g [] [] (λ c y e f h. no_member e) run i k (λ h. no_member h)
+    by_level g Level.inline (r ∷ runs) first run i j k again = grown g r runs first run i k (λ h. again run (later_member runs h) j k)
+
+wrapped_runs : (kids : List Part) (run : List Part) → Contains (wrapped_in kids) run → Contains (runs_of kids) run
 wrapped_runs kids run i = by_test (list_any is_block_part kids) i
   where
-    by_test : (b : Bool) → In run (if b then filter needs_box (runs_of kids) else []) → In run (runs_of kids)
+    by_test : (b : Bool) → Contains (if b then filter needs_box (runs_of kids) else []) run → Contains (runs_of kids) run
     by_test true i = (from_filter needs_box (runs_of kids) run i).0
-    by_test false i = none_in i
+    by_test false i = no_member i
 
 -- ---- what is known of the items of a page
 
 -- the item with which a run begins
 record HasFirst (items : List Item) (run : List ℕ) (q : ℕ) : Type 0 where
   item : Item
-  inside : In item items
+  inside : Contains items item
   node : node_of item ≡ first_of run
   run_is : item.run ≡ Some run
   parent : item.part.parent ≡ Some q
 
 record AreInOrder (items : List Item) : Type 0 where
   -- what stands between an element and a part in it is in that element
-  between : (x y : Item) (p : ℕ) → In x items → In y items → y.part.parent ≡ Some p → p < node_of x → node_of x < node_of y → (q : ℕ) × (x.part.parent ≡ Some q) × (p ≤ q)
+  between : (x y : Item) (p : ℕ) → Contains items x → Contains items y → y.part.parent ≡ Some p → p < node_of x → node_of x < node_of y → (q : ℕ) × (x.part.parent ≡ Some q) × (p ≤ q)
   -- the parts of a run are in one element
-  firsts : (x : Item) (run : List ℕ) → In x items → x.run ≡ Some run → (q : ℕ) × (x.part.parent ≡ Some q) × HasFirst items run q
+  firsts : (x : Item) (run : List ℕ) → Contains items x → x.run ≡ Some run → (q : ℕ) × (x.part.parent ≡ Some q) × HasFirst items run q
   -- what is in that element and between two of them is in that run
-  unbroken : (a x b : Item) (run : List ℕ) (q : ℕ) → In a items → In x items → In b items → a.run ≡ Some run → b.run ≡ Some run
+  unbroken : (a x b : Item) (run : List ℕ) (q : ℕ) → Contains items a → Contains items x → Contains items b → a.run ≡ Some run → b.run ≡ Some run
       → a.part.parent ≡ Some q → x.part.parent ≡ Some q → b.part.parent ≡ Some q → node_of a < node_of x → node_of x < node_of b → x.run ≡ Some run
 
 -- ---- the order of boxes
@@ -135,16 +143,16 @@ begins_none p (Some run) e = absurd (cc)
 
 module _ (items : List Item) (arranged : IsArranged items) (known : AreInOrder items) where
   -- without a run around it, a node's own box is its only one
-  own_alone : (x : Item) → In x items → x.run ≡ None → own_place items (node_of x) ≡ boxes_before items (node_of x)
+  own_alone : (x : Item) → Contains items x → x.run ≡ None → own_place items (node_of x) ≡ boxes_before items (node_of x)
   own_alone x i e =
       let none : own_place items (node_of x) ≡ boxes_before items (node_of x) + 0 = own_place_is items arranged x i ∙ ap (λ (b : Bool). boxes_before items (node_of x) + (if b then 1 else 0)) (begins_none x.part x.run e) in
       omega (arith, none)
 
-  same_item : (x y : Item) → In x items → In y items → node_of x ≡ node_of y → x ≡ y
+  same_item : (x y : Item) → Contains items x → Contains items y → node_of x ≡ node_of y → x ≡ y
   same_item x y i j e = unique_in node_of 0 items x y arranged.rises i j e
 
   -- a box before all of a node's is of an earlier node
-  earlier : (x y : Item) (k : ℕ) → In x items → In y items → boxes_before items (node_of x) ≤ k → k < boxes_before items (node_of y) → node_of x < node_of y
+  earlier : (x y : Item) (k : ℕ) → Contains items x → Contains items y → boxes_before items (node_of x) ≤ k → k < boxes_before items (node_of y) → node_of x < node_of y
   earlier x y k i j l m = by_order (cases_order (node_of x) (node_of y))
     where
       by_order : (node_of x ≡ node_of y) ⊎ ((node_of x < node_of y) ⊎ (node_of y < node_of x)) → node_of x < node_of y
@@ -153,7 +161,7 @@ module _ (items : List Item) (arranged : IsArranged items) (known : AreInOrder i
       by_order (inr (inr more)) = let o = order items arranged y x j i more in absurd (omega (arith, o, l, m))
 
   -- and one after all of them is of a later node
-  later : (x y : Item) (k : ℕ) → In x items → In y items → own_place items (node_of x) < k → k ≤ own_place items (node_of y) → node_of x < node_of y
+  later : (x y : Item) (k : ℕ) → Contains items x → Contains items y → own_place items (node_of x) < k → k ≤ own_place items (node_of y) → node_of x < node_of y
   later x y k i j l m = by_order (cases_order (node_of x) (node_of y))
     where
       by_order : (node_of x ≡ node_of y) ⊎ ((node_of x < node_of y) ⊎ (node_of y < node_of x)) → node_of x < node_of y
@@ -166,7 +174,7 @@ module _ (items : List Item) (arranged : IsArranged items) (known : AreInOrder i
           absurd (omega (arith, o, within, from, l, m))
 
   -- places of own boxes rise with their nodes
-  own_rises : (x y : Item) → In x items → In y items → node_of x ≤ node_of y → own_place items (node_of x) ≤ own_place items (node_of y)
+  own_rises : (x y : Item) → Contains items x → Contains items y → node_of x ≤ node_of y → own_place items (node_of x) ≤ own_place items (node_of y)
   own_rises x y i j l = by_order (eq-or-lt_of_le l)
     where
       by_order : (node_of x ≡ node_of y) ⊎ (node_of x < node_of y) → own_place items (node_of x) ≤ own_place items (node_of y)
@@ -178,7 +186,7 @@ module _ (items : List Item) (arranged : IsArranged items) (known : AreInOrder i
           omega (arith, o, within, from)
 
   -- what is in an element, or in an anonymous block box in it, is in a box from the element's on
-  outer_from : (x : Item) (q low : ℕ) → In x items → x.part.parent ≡ Some q → low ≤ own_place items q → is_from low (outer_place items x) ≡ true
+  outer_from : (x : Item) (q low : ℕ) → Contains items x → x.part.parent ≡ Some q → low ≤ own_place items q → is_from low (outer_place items x) ≡ true
   outer_from x q low i up l = by_run x.run refl
     where
       by_run : (o : Option (List ℕ)) → x.run ≡ o → is_from low (outer_place items x) ≡ true
@@ -202,7 +210,7 @@ module _ (items : List Item) (arranged : IsArranged items) (known : AreInOrder i
   -- the item of a box, and what is known of the box's place and of the box that it is in
   record StandsBy (at : ℕ) (b : BoxNode) : Type 0 where
     item : Item
-    inside : In item items
+    inside : Contains items item
     low : boxes_before items (node_of item) ≤ at
     high : at ≤ own_place items (node_of item)
     parent : (q low : ℕ) → item.part.parent ≡ Some q → low ≤ own_place items q → is_from low b.parent ≡ true
@@ -223,7 +231,7 @@ module _ (items : List Item) (arranged : IsArranged items) (known : AreInOrder i
     parent = λ q low up l. ap (λ (c : BoxNode). is_from low c.parent) s ∙ (ap (λ (o : Option ℕ). is_from low (option_map (own_place items) o)) up ∙ from_place low (own_place items q) l);
   }
 
-  in_element : (between : ℕ) (b : BoxNode) (y : Item) (p : ℕ) → IsBoxOf items between b → In y items → y.part.parent ≡ Some p → own_place items p < between → between < boxes_before items (node_of y) → is_from (own_place items p) b.parent ≡ true
+  in_element : (between : ℕ) (b : BoxNode) (y : Item) (p : ℕ) → IsBoxOf items between b → Contains items y → y.part.parent ≡ Some p → own_place items p < between → between < boxes_before items (node_of y) → is_from (own_place items p) b.parent ≡ true
   in_element between b y p box j up l m =
       let same = ap (own_place items) above.node in
       let same_there = ap (own_place items) there.node in
@@ -255,7 +263,7 @@ module _ (items : List Item) (arranged : IsArranged items) (known : AreInOrder i
   -- ---- between an anonymous block box and one in it
 
   -- what is between the first part of a run and another of it is in the run, or in an element from that first part on
-  in_run_or_later : (a : Item) (x b : Item) (run : List ℕ) (p : ℕ) → In a items → In x items → In b items → a.run ≡ Some run → b.run ≡ Some run → a.part.parent ≡ Some p → b.part.parent ≡ Some p
+  in_run_or_later : (a : Item) (x b : Item) (run : List ℕ) (p : ℕ) → Contains items a → Contains items x → Contains items b → a.run ≡ Some run → b.run ≡ Some run → a.part.parent ≡ Some p → b.part.parent ≡ Some p
       → node_of a < node_of x → node_of x < node_of b → (q : ℕ) × (x.part.parent ≡ Some q) × ((x.run ≡ Some run) ⊎ (boxes_before items (node_of a) ≤ own_place items q))
   in_run_or_later a x b run p i j k r t up over l m = by_order (eq-or-lt_of_le q.2)
     where
@@ -289,7 +297,7 @@ module _ (items : List Item) (arranged : IsArranged items) (known : AreInOrder i
       by_order (inl same) = (q.0, q.1, inl (known.unbroken a x b run p i j k r t up (q.1 ∙ ap Some (sym same)) over l m))
       by_order (inr less) = (q.0, q.1, inr (from_first less))
 
-  in_anonymous : (between : ℕ) (b : BoxNode) (y : Item) (run : List ℕ) → IsBoxOf items between b → In y items → y.run ≡ Some run → boxes_before items (first_of run) < between → between < own_place items (node_of y)
+  in_anonymous : (between : ℕ) (b : BoxNode) (y : Item) (run : List ℕ) → IsBoxOf items between b → Contains items y → y.run ≡ Some run → boxes_before items (first_of run) < between → between < own_place items (node_of y)
       → is_from (boxes_before items (first_of run)) b.parent ≡ true
   in_anonymous between b y run box j r l m = by_box box
     where
@@ -306,10 +314,10 @@ module _ (items : List Item) (arranged : IsArranged items) (known : AreInOrder i
       in_run_from : (x : Item) → x.run ≡ Some run → is_from (boxes_before items (first_of run)) (outer_place items x) ≡ true
       in_run_from x e = ap (is_from (boxes_before items (first_of run))) (outer_run items x.part x.run run e) ∙ from_place (boxes_before items (first_of run)) (boxes_before items (first_of run)) (omega arith)
 
-      find_parent : (x : Item) → In x items → node_of first.item < node_of x → node_of x < node_of y → (q : ℕ) × (x.part.parent ≡ Some q) × ((x.run ≡ Some run) ⊎ (boxes_before items (node_of first.item) ≤ own_place items q))
+      find_parent : (x : Item) → Contains items x → node_of first.item < node_of x → node_of x < node_of y → (q : ℕ) × (x.part.parent ≡ Some q) × ((x.run ≡ Some run) ⊎ (boxes_before items (node_of first.item) ≤ own_place items q))
       find_parent x i after before = in_run_or_later first.item x y run f.0 first.inside i j first.run_is r first.parent f.1 after before
 
-      own_from : (x : Item) → In x items → between ≡ own_place items (node_of x) → is_from (boxes_before items (first_of run)) (outer_place items x) ≡ true
+      own_from : (x : Item) → Contains items x → between ≡ own_place items (node_of x) → is_from (boxes_before items (first_of run)) (outer_place items x) ≡ true
       own_from x i p = by_order (cases_order (node_of first.item) (node_of x))
         where
           before : node_of x < node_of y
@@ -327,7 +335,7 @@ module _ (items : List Item) (arranged : IsArranged items) (known : AreInOrder i
               let within = own_place_within items arranged x i in
               absurd (omega (arith, o, within, first_place, p, l))
 
-      anonymous_from : (x : Item) (other : List ℕ) → In x items → x.run ≡ Some other → (first_of other == node_of x) ≡ true → between ≡ boxes_before items (node_of x)
+      anonymous_from : (x : Item) (other : List ℕ) → Contains items x → x.run ≡ Some other → (first_of other == node_of x) ≡ true → between ≡ boxes_before items (node_of x)
           → is_from (boxes_before items (first_of run)) (option_map (own_place items) x.part.parent) ≡ true
       anonymous_from x other i e t p = by_found (find_parent x i after before)
         where
@@ -392,44 +400,44 @@ module _ (items : List Item) (arranged : IsArranged items) (known : AreInOrder i
 
 module _ (nodes : List Node) (styles : List Style) (page : IsPage nodes) where
   -- a part is in the run around it
-  pub in_run : (x : Item) (run : List ℕ) → In x (items_of (page_parts nodes styles)) → x.run ≡ Some run → In (node_of x) run
+  pub in_run : (x : Item) (run : List ℕ) → Contains (items_of (page_parts nodes styles)) x → x.run ≡ Some run → Contains run (node_of x)
   in_run x run i e =
       let up = run_parent (page_parts nodes styles) x run i e in
       let found = found_in (has_node (node_of x)) (map nodes_of (wrapped_in (parts_in (page_parts nodes styles) up.0))) run (sym (run_in nodes styles page x up.0 i up.1) ∙ e) in
       let has = any_in (λ k. k == node_of x) run found.1 in
-      subst (λ k. In k run) (eqb-true has.0 (node_of x) has.2) has.1
+      subst (λ k. Contains run k) (eqb-true has.0 (node_of x) has.2) has.1
 
   kids_rise : (q : ℕ) → Rises 0 (map (λ (p : Part). p.node) (parts_in (page_parts nodes styles) q))
   kids_rise q = rises_filter (λ (p : Part). p.node) (λ (p : Part). is_in q p.parent) 0 (page_parts nodes styles) (page_rises nodes (tree_styles nodes styles))
 
-  kid_of : (x : Item) (q : ℕ) → In x (items_of (page_parts nodes styles)) → x.part.parent ≡ Some q → In x.part (parts_in (page_parts nodes styles) q)
+  kid_of : (x : Item) (q : ℕ) → Contains (items_of (page_parts nodes styles)) x → x.part.parent ≡ Some q → Contains (parts_in (page_parts nodes styles) q) x.part
   kid_of x q i up = to_filter (λ (p : Part). is_in q p.parent) (page_parts nodes styles) x.part (item_part (page_parts nodes styles) x i) (ap (is_in q) up ∙ eq-eqb q q refl)
 
-  same_part : (x : Item) (p : Part) → In x (items_of (page_parts nodes styles)) → In p (page_parts nodes styles) → node_of x ≡ p.node → x.part ≡ p
+  same_part : (x : Item) (p : Part) → Contains (items_of (page_parts nodes styles)) x → Contains (page_parts nodes styles) p → node_of x ≡ p.node → x.part ≡ p
   same_part x p i j e = unique_in (λ (p : Part). p.node) 0 (page_parts nodes styles) x.part p (page_rises nodes (tree_styles nodes styles)) (item_part (page_parts nodes styles) x i) j e
 
   -- a run as a list of parts
   record IsListOf (q : ℕ) (run : List ℕ) : Type 0 where
     list : List Part
-    inside : In list (wrapped_in (parts_in (page_parts nodes styles) q))
+    inside : Contains (wrapped_in (parts_in (page_parts nodes styles) q)) list
     nodes_are : nodes_of list ≡ run
 
-  list_of : (x : Item) (run : List ℕ) (q : ℕ) → In x (items_of (page_parts nodes styles)) → x.run ≡ Some run → x.part.parent ≡ Some q → IsListOf q run
+  list_of : (x : Item) (run : List ℕ) (q : ℕ) → Contains (items_of (page_parts nodes styles)) x → x.run ≡ Some run → x.part.parent ≡ Some q → IsListOf q run
   list_of x run q i e up =
       let found = found_in (has_node (node_of x)) (map nodes_of (wrapped_in (parts_in (page_parts nodes styles) q))) run (sym (run_in nodes styles page x q i up) ∙ e) in
       let from = from_map nodes_of (wrapped_in (parts_in (page_parts nodes styles) q)) run found.0 in
       record { list = from.0; inside = from.1; nodes_are = from.2 }
 
   -- the part of a node in it
-  part_in : (q : ℕ) (run : List ℕ) (l : IsListOf q run) (k : ℕ) → In k run → (p : Part) × In p l.list × (p.node ≡ k)
-  part_in q run l k i = from_map (λ (p : Part). p.node) l.list k (subst (In k) (sym l.nodes_are) i)
+  part_in : (q : ℕ) (run : List ℕ) (l : IsListOf q run) (k : ℕ) → Contains run k → (p : Part) × Contains l.list p × (p.node ≡ k)
+  part_in q run l k i = from_map (λ (p : Part). p.node) l.list k (subst (λ l. Contains l k) (sym l.nodes_are) i)
 
-  kid_in : (q : ℕ) (run : List ℕ) (l : IsListOf q run) (p : Part) → In p l.list → In p (page_parts nodes styles) × (p.parent ≡ Some q)
+  kid_in : (q : ℕ) (run : List ℕ) (l : IsListOf q run) (p : Part) → Contains l.list p → Contains (page_parts nodes styles) p × (p.parent ≡ Some q)
   kid_in q run l p i =
       let kid = from_filter (λ (p : Part). is_in q p.parent) (page_parts nodes styles) p (from_runs (parts_in (page_parts nodes styles) q) l.list p (wrapped_runs (parts_in (page_parts nodes styles) q) l.list l.inside) i) in
       (kid.0, is_in_some q p.parent kid.1)
 
-  entry_parent : (x : Item) → In x (items_of (page_parts nodes styles)) → slice_get (map (λ (n : Node). n.parent) nodes) (node_of x) ≡ Some x.part.parent
+  entry_parent : (x : Item) → Contains (items_of (page_parts nodes styles)) x → slice_get (map (λ (n : Node). n.parent) nodes) (node_of x) ≡ Some x.part.parent
   entry_parent x i =
       let k = item_known nodes styles page x i in
       slice_get-map (λ (n : Node). n.parent) nodes (node_of x) ∙ (ap (option_map (λ (n : Node). n.parent)) k.node_is ∙ ap Some (sym (ap (λ (p : Part). p.parent) k.is)))
@@ -458,9 +466,9 @@ module _ (nodes : List Node) (styles : List Style) (page : IsPage nodes) where
         let node_z = z.2 in
         let kids = parts_in (page_parts nodes styles) q in
         let inside = whole kids 0 (kids_rise q) list.list p.0 z.0 x.part (wrapped_runs kids list.list list.inside) p.1 z.1 (kid_of x q j up_x) (omega (arith, node_p, l)) (omega (arith, node_z, m)) in
-        let has : In (node_of x) run = subst (In (node_of x)) list.nodes_are (to_map (λ (p : Part). p.node) list.list x.part inside) in
+        let has : Contains run (node_of x) = subst (λ l. Contains l (node_of x)) list.nodes_are (to_map (λ (p : Part). p.node) list.list x.part inside) in
         let runs = map nodes_of (wrapped_in kids) in
-        let there : In run runs = subst (λ n. In n runs) list.nodes_are (to_map nodes_of (wrapped_in kids) list.list list.inside) in
+        let there : Contains runs run = subst (λ n. Contains runs n) list.nodes_are (to_map nodes_of (wrapped_in kids) list.list list.inside) in
         run_in nodes styles page x q j up_x ∙ find_run 0 runs run (node_of x) (rises_wrapped 0 kids (kids_rise q)) there has;
   }
 

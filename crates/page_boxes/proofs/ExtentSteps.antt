@@ -1,5 +1,6 @@
 -- Extents as the code has them, against those of the definition.
-use Rattle.std.proofs.Common.{◌≡◌, ℕ, zero, suc, ◌+◌, ◌*◌, ◌<◌, ◌≤◌, pos, unsigned_abs, Bool, true, false, nat_le, List, [], ◌∷◌, ◌++◌, map, sum, sum_by, Option, Some, None, option_and_then, slice_get, refl, sym, ◌∙◌, ap, subst, arith, if◌then◌else◌, inl, inr, ◌⊎◌, ◌==◌, ◌||◌, ◌-◌, min, max, le-div_iff_mul-le}
+use Rattle.std.proofs.Common.{◌≡◌, ℕ, zero, suc, ◌+◌, ◌*◌, ◌<◌, ◌≤◌, pos, unsigned_abs, Bool, true, false, nat_le, List, [], ◌∷◌, ◌++◌, map, sum, sum_by, Option, Some, None, option_and_then, slice_get, refl, sym, ◌∙◌, ap, subst, arith, if◌then◌else◌, inl, inr, ◌⊎◌, ◌==◌, ◌||◌, ◌-◌, min, max, le-div_iff_mul-le, Contains}
+use Rattle.std.proofs.lemmas.List.Elements.{Contains-append_left, Contains-append_right, Contains-append_cases}
 use Rattle.std.proofs.Math.Nat.{mul-le-mul_right}
 use Rattle.std.proofs.lemmas.Bool.{and_parts, eqb-false}
 use Rattle.std.specs.Option.{option_map_or, option_to_list}
@@ -18,7 +19,7 @@ use Rattle.viz_base.specs.declared.styles.Style.{Style}
 use Rattle.viz_base.specs.declared.trees.BoxNode.{BoxNode}
 use Rattle.viz_base.specs.FontSizes.{advance, computed_line, font_size_in, fraction, line_height_in, measured, node_measure_in, text_width_in}
 use Rattle.viz_base.specs.Reaches.{extent, font_extent, intrinsic_extent, is_of_element, largest_size, lengths_of, own_extent, quotient_up, raise_extent, ratio, style_extent, text_extent, whole}
-use Rattle.layout_laws.proofs.Members.{In, from_append, to_append_left, to_append_right}
+use Rattle.layout_laws.proofs.Members.{no_member, first_member}
 use Rattle.viz_base.specs.Trees.{length_nodes, line_nodes, maximum_nodes, named_nodes, sides_nodes, valign_nodes}
 use Rattle.page_boxes.specs.steps.Extents.{capped, extent_in, font_extent_in, font_in, lengths_extent, line_in, measured_in, most_extent, own_in, part_of, raise_in, sides_extent, size_at, style_extent_in, text_in, widths_in}
 use Rattle.page_boxes.proofs.Capped.{Alike, alike_add, alike_capped, alike_times, alike_trans}
@@ -96,29 +97,29 @@ ratio_least (Some size) = by_zero (size.0 == 0) refl (size.1 == 0) refl
 module _ (styles : List Style) (parents : List (Option ℕ)) (fonts : List Font) where
   -- ---- lengths
 
-  extent_alike : (l : Length) → ((m : ℕ) → In m (length_nodes l) → IsExact styles parents m) → extent_in (sizes_of styles parents) l ≡ capped (extent styles parents fonts l)
+  extent_alike : (l : Length) → ((m : ℕ) → Contains (length_nodes l) m → IsExact styles parents m) → extent_in (sizes_of styles parents) l ≡ capped (extent styles parents fonts l)
   extent_alike of_length.Auto f = refl
   extent_alike (of_length.Px c) f = refl
-  extent_alike (of_length.Em k m) f = ap (λ z. capped (unsigned_abs (fraction k 1000000 z))) (sym (f m In.here).is)
+  extent_alike (of_length.Em k m) f = ap (λ z. capped (unsigned_abs (fraction k 1000000 z))) (sym (f m (first_member [] refl)).is)
   extent_alike (of_length.Pct p) f = refl
 
-  total_alike : (ls : List Length) → ((m : ℕ) → In m (sides_nodes ls) → IsExact styles parents m) → Alike (total (extent_in (sizes_of styles parents)) ls) (total (extent styles parents fonts) ls)
+  total_alike : (ls : List Length) → ((m : ℕ) → Contains (sides_nodes ls) m → IsExact styles parents m) → Alike (total (extent_in (sizes_of styles parents)) ls) (total (extent styles parents fonts) ls)
   unfolding total
   total_alike [] f = Alike.same refl
   total_alike (l ∷ ls) f =
       alike_add (extent_in (sizes_of styles parents) l) (extent styles parents fonts l) (total (extent_in (sizes_of styles parents)) ls) (total (extent styles parents fonts) ls)
-      (subst (λ n. Alike n (extent styles parents fonts l)) (sym (extent_alike l (λ m i. f m (to_append_left (length_nodes l) (sides_nodes ls) m i)))) (alike_capped (extent styles parents fonts l)))
-      (total_alike ls (λ m i. f m (to_append_right (length_nodes l) (sides_nodes ls) m i)))
+      (subst (λ n. Alike n (extent styles parents fonts l)) (sym (extent_alike l (λ m i. f m (Contains-append_left (length_nodes l) (sides_nodes ls) m i)))) (alike_capped (extent styles parents fonts l)))
+      (total_alike ls (λ m i. f m (Contains-append_right (length_nodes l) (sides_nodes ls) m i)))
 
-  most_alike : (o : Option Length) → ((m : ℕ) → In m (maximum_nodes o) → IsExact styles parents m) → Alike (total (extent_in (sizes_of styles parents)) (option_to_list o)) (total (extent styles parents fonts) (option_to_list o))
-  most_alike None f = total_alike [] (λ m i. elim i [ ])
-  most_alike (Some l) f = total_alike (l ∷ []) (λ m i. by_end m (from_append (length_nodes l) [] m i))
+  most_alike : (o : Option Length) → ((m : ℕ) → Contains (maximum_nodes o) m → IsExact styles parents m) → Alike (total (extent_in (sizes_of styles parents)) (option_to_list o)) (total (extent styles parents fonts) (option_to_list o))
+  most_alike None f = total_alike [] (λ m i. no_member i)
+  most_alike (Some l) f = total_alike (l ∷ []) (λ m i. by_end m (Contains-append_cases (length_nodes l) [] m i))
     where
-      by_end : (m : ℕ) → In m (length_nodes l) ⊎ In m [] → IsExact styles parents m
+      by_end : (m : ℕ) → Contains (length_nodes l) m ⊎ Contains [] m → IsExact styles parents m
       by_end m (inl j) = f m j
-      by_end m (inr j) = elim j [ ]
+      by_end m (inr j) = no_member j
 
-  lengths_alike : (s : Style) → ((m : ℕ) → In m (named_nodes s) → IsExact styles parents m) → Alike (lengths_extent (sizes_of styles parents) s) (sum (map (extent styles parents fonts) (lengths_of s)))
+  lengths_alike : (s : Style) → ((m : ℕ) → Contains (named_nodes s) m → IsExact styles parents m) → Alike (lengths_extent (sizes_of styles parents) s) (sum (map (extent styles parents fonts) (lengths_of s)))
   lengths_alike s f =
       let e = extent_in (sizes_of styles parents) in
       let x = extent styles parents fonts in
@@ -129,34 +130,34 @@ module _ (styles : List Style) (parents : List (Option ℕ)) (fonts : List Font)
       let n4 = sides_nodes (sides_of s.margin) ++ n5 in
       let n3 = maximum_nodes s.max_height ++ n4 in
       let n2 = maximum_nodes s.max_width ++ n3 in
-      let g2 : (m : ℕ) → In m n2 → IsExact styles parents m = λ m i. f m (to_append_right (sides_nodes own) n2 m i) in
-      let g3 : (m : ℕ) → In m n3 → IsExact styles parents m = λ m i. g2 m (to_append_right (maximum_nodes s.max_width) n3 m i) in
-      let g4 : (m : ℕ) → In m n4 → IsExact styles parents m = λ m i. g3 m (to_append_right (maximum_nodes s.max_height) n4 m i) in
-      let g5 : (m : ℕ) → In m n5 → IsExact styles parents m = λ m i. g4 m (to_append_right (sides_nodes (sides_of s.margin)) n5 m i) in
-      let g6 : (m : ℕ) → In m n6 → IsExact styles parents m = λ m i. g5 m (to_append_right (sides_nodes (sides_of s.padding)) n6 m i) in
-      let a1 = total_alike own (λ m i. f m (to_append_left (sides_nodes own) n2 m i)) in
-      let a2 = most_alike s.max_width (λ m i. g2 m (to_append_left (maximum_nodes s.max_width) n3 m i)) in
-      let a3 = most_alike s.max_height (λ m i. g3 m (to_append_left (maximum_nodes s.max_height) n4 m i)) in
-      let a4 = total_alike (sides_of s.margin) (λ m i. g4 m (to_append_left (sides_nodes (sides_of s.margin)) n5 m i)) in
-      let a5 = total_alike (sides_of s.padding) (λ m i. g5 m (to_append_left (sides_nodes (sides_of s.padding)) n6 m i)) in
-      let a6 = total_alike (sides_of s.border) (λ m i. g6 m (to_append_left (sides_nodes (sides_of s.border)) n7 m i)) in
+      let g2 : (m : ℕ) → Contains n2 m → IsExact styles parents m = λ m i. f m (Contains-append_right (sides_nodes own) n2 m i) in
+      let g3 : (m : ℕ) → Contains n3 m → IsExact styles parents m = λ m i. g2 m (Contains-append_right (maximum_nodes s.max_width) n3 m i) in
+      let g4 : (m : ℕ) → Contains n4 m → IsExact styles parents m = λ m i. g3 m (Contains-append_right (maximum_nodes s.max_height) n4 m i) in
+      let g5 : (m : ℕ) → Contains n5 m → IsExact styles parents m = λ m i. g4 m (Contains-append_right (sides_nodes (sides_of s.margin)) n5 m i) in
+      let g6 : (m : ℕ) → Contains n6 m → IsExact styles parents m = λ m i. g5 m (Contains-append_right (sides_nodes (sides_of s.padding)) n6 m i) in
+      let a1 = total_alike own (λ m i. f m (Contains-append_left (sides_nodes own) n2 m i)) in
+      let a2 = most_alike s.max_width (λ m i. g2 m (Contains-append_left (maximum_nodes s.max_width) n3 m i)) in
+      let a3 = most_alike s.max_height (λ m i. g3 m (Contains-append_left (maximum_nodes s.max_height) n4 m i)) in
+      let a4 = total_alike (sides_of s.margin) (λ m i. g4 m (Contains-append_left (sides_nodes (sides_of s.margin)) n5 m i)) in
+      let a5 = total_alike (sides_of s.padding) (λ m i. g5 m (Contains-append_left (sides_nodes (sides_of s.padding)) n6 m i)) in
+      let a6 = total_alike (sides_of s.border) (λ m i. g6 m (Contains-append_left (sides_nodes (sides_of s.border)) n7 m i)) in
       subst (λ k. Alike k (sum (map x (lengths_of s)))) (sym (code_total (sizes_of styles parents) s))
       (subst (λ k. Alike (parts_total e s) k) (sym (lengths_total x s))
       (alike_add _ _ _ _ a1 (alike_add _ _ _ _ a2 (alike_add _ _ _ _ a3 (alike_add _ _ _ _ a4 (alike_add _ _ _ _ a5 a6))))))
 
   -- ---- lines, raises and fonts
 
-  line_by : (node : ℕ) (l : LineHeight) → is_good_line l ≡ true → IsExact styles parents node → ((m : ℕ) → In m (line_nodes l) → IsExact styles parents m)
+  line_by : (node : ℕ) (l : LineHeight) → is_good_line l ≡ true → IsExact styles parents node → ((m : ℕ) → Contains (line_nodes l) m → IsExact styles parents m)
       → IsSize (computed_line styles parents 256 node l) (line_in (sizes_of styles parents) node l)
   line_by node (of_line.Own num den) g own f =
       subst (λ z. IsSize (fraction num den z) (line_in (sizes_of styles parents) node (of_line.Own num den))) (sym own.is)
       (is_size (fraction num den (pos (size_at (sizes_of styles parents) (Some node)))) (fraction_is num den (size_at (sizes_of styles parents) (Some node)) (and_parts (is_nonnegative num) (nat_le 1 den) g).0))
   line_by node (of_line.Px c) g own f = is_size c (nonnegative c g)
   line_by node (of_line.OfNode from num den) g own f =
-      subst (λ z. IsSize (fraction num den z) (line_in (sizes_of styles parents) node (of_line.OfNode from num den))) (sym (f from In.here).is)
+      subst (λ z. IsSize (fraction num den z) (line_in (sizes_of styles parents) node (of_line.OfNode from num den))) (sym (f from (first_member [] refl)).is)
       (is_size (fraction num den (pos (size_at (sizes_of styles parents) (Some from)))) (fraction_is num den (size_at (sizes_of styles parents) (Some from)) (and_parts (is_nonnegative num) (nat_le 1 den) g).0))
 
-  raise_by : (node line : ℕ) → line_height_in styles parents 256 node ≡ pos line → (v : Valign) → ((m : ℕ) → In m (valign_nodes v) → IsExact styles parents m)
+  raise_by : (node line : ℕ) → line_height_in styles parents 256 node ≡ pos line → (v : Valign) → ((m : ℕ) → Contains (valign_nodes v) m → IsExact styles parents m)
       → Alike (raise_in (sizes_of styles parents) line v) (raise_extent styles parents fonts node v)
   raise_by node line e of_valign.Baseline f = Alike.same refl
   raise_by node line e of_valign.Sub f = Alike.same refl
@@ -187,30 +188,30 @@ module _ (styles : List Style) (parents : List (Option ℕ)) (fonts : List Font)
       lengths_extent (sizes_of styles parents) s + raise_in (sizes_of styles parents) line s.valign + font_extent_in (size_at (sizes_of styles parents) (Some b.node)) line font + intrinsic_extent b.size
 
   inner_alike : (b : BoxNode) (s : Style) (font : Font) → slice_get styles b.node ≡ Some s → font_in styles fonts b.node ≡ Some font → IsSize (font_size_in styles parents 256 b.node) (size_at (sizes_of styles parents) (Some b.node))
-      → ((m : ℕ) → In m (named_nodes s) → (m ≡ b.node) ⊎ IsExact styles parents m) → Alike (code_inner b s font) (inner_of b s)
+      → ((m : ℕ) → Contains (named_nodes s) m → (m ≡ b.node) ⊎ IsExact styles parents m) → Alike (code_inner b s font) (inner_of b s)
   inner_alike b s font e g (IsSize.past l n) names = Alike.past (omega (arith, n)) (omega (arith, l))
   inner_alike b s font e g (IsSize.exact is within) names = by_line (line_by b.node s.line s.ok.line_good own (λ m i. exact m (line_named m i)))
     where
       own : IsExact styles parents b.node
       own = record { is = is; within = within }
 
-      exact : (m : ℕ) → In m (named_nodes s) → IsExact styles parents m
+      exact : (m : ℕ) → Contains (named_nodes s) m → IsExact styles parents m
       exact m i = by_sort (names m i)
         where
           by_sort : (m ≡ b.node) ⊎ IsExact styles parents m → IsExact styles parents m
           by_sort (inl same) = subst (λ k. IsExact styles parents k) (sym same) own
           by_sort (inr known) = known
 
-      ends_named : (m : ℕ) → In m (line_nodes s.line ++ valign_nodes s.valign) → In m (named_nodes s)
+      ends_named : (m : ℕ) → Contains (line_nodes s.line ++ valign_nodes s.valign) m → Contains (named_nodes s) m
       ends_named m i =
-          to_append_right (sides_nodes (s.width ∷ s.min_width ∷ s.height ∷ s.min_height ∷ [])) _ m (to_append_right (maximum_nodes s.max_width) _ m (to_append_right (maximum_nodes s.max_height) _ m
-          (to_append_right (sides_nodes (sides_of s.margin)) _ m (to_append_right (sides_nodes (sides_of s.padding)) _ m (to_append_right (sides_nodes (sides_of s.border)) (line_nodes s.line ++ valign_nodes s.valign) m i)))))
+          Contains-append_right (sides_nodes (s.width ∷ s.min_width ∷ s.height ∷ s.min_height ∷ [])) _ m (Contains-append_right (maximum_nodes s.max_width) _ m (Contains-append_right (maximum_nodes s.max_height) _ m
+          (Contains-append_right (sides_nodes (sides_of s.margin)) _ m (Contains-append_right (sides_nodes (sides_of s.padding)) _ m (Contains-append_right (sides_nodes (sides_of s.border)) (line_nodes s.line ++ valign_nodes s.valign) m i)))))
 
-      line_named : (m : ℕ) → In m (line_nodes s.line) → In m (named_nodes s)
-      line_named m i = ends_named m (to_append_left (line_nodes s.line) (valign_nodes s.valign) m i)
+      line_named : (m : ℕ) → Contains (line_nodes s.line) m → Contains (named_nodes s) m
+      line_named m i = ends_named m (Contains-append_left (line_nodes s.line) (valign_nodes s.valign) m i)
 
-      valign_named : (m : ℕ) → In m (valign_nodes s.valign) → In m (named_nodes s)
-      valign_named m i = ends_named m (to_append_right (line_nodes s.line) (valign_nodes s.valign) m i)
+      valign_named : (m : ℕ) → Contains (valign_nodes s.valign) m → Contains (named_nodes s) m
+      valign_named m i = ends_named m (Contains-append_right (line_nodes s.line) (valign_nodes s.valign) m i)
 
       line_is : line_height_in styles parents 256 b.node ≡ computed_line styles parents 256 b.node s.line
       line_is = ap (λ (o : Option Style). option_map_or (λ (t : Style). computed_line styles parents 256 b.node t.line) o (pos 0)) e
@@ -239,7 +240,7 @@ module _ (styles : List Style) (parents : List (Option ℕ)) (fonts : List Font)
       omega (arith, whole_extent, more)
 
   pub own_alike : (b : BoxNode) (s : Style) (font : Font) → slice_get styles b.node ≡ Some s → slice_get fonts s.font ≡ Some font → IsSize (font_size_in styles parents 256 b.node) (size_at (sizes_of styles parents) (Some b.node))
-      → (is_of_element b.kind ≡ true → (m : ℕ) → In m (named_nodes s) → (m ≡ b.node) ⊎ IsExact styles parents m) → Alike (own_in (sizes_of styles parents) styles fonts b) (own_extent styles parents fonts b)
+      → (is_of_element b.kind ≡ true → (m : ℕ) → Contains (named_nodes s) m → (m ≡ b.node) ⊎ IsExact styles parents m) → Alike (own_in (sizes_of styles parents) styles fonts b) (own_extent styles parents fonts b)
   own_alike b s font e g size names = by_kind (is_of_element b.kind) refl
     where
       font_is : font_in styles fonts b.node ≡ Some font

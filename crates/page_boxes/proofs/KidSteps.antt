@@ -1,10 +1,11 @@
 -- Boxes that are named one after another in the boxes that they are in hold what those of a page do.
-use Rattle.std.proofs.Common.{◌≡◌, ◌≢◌, ℕ, zero, suc, ◌<◌, ◌≤◌, nat_lt, Bool, true, false, List, [], ◌∷◌, ◌++◌, map, take, length, Option, Some, None, slice_get, refl, sym, ◌∙◌, ap, subst, arith, take_all, lt-ltb, ltb-true, inl, inr, ◌⊎◌, filter, if◌then◌else◌}
+use Rattle.std.proofs.Common.{◌≡◌, ◌≢◌, ℕ, zero, suc, ◌<◌, ◌≤◌, nat_lt, Bool, true, false, List, [], ◌∷◌, ◌++◌, map, take, length, Option, Some, None, slice_get, refl, sym, ◌∙◌, ap, subst, arith, take_all, lt-ltb, ltb-true, inl, inr, ◌⊎◌, filter, if◌then◌else◌, Contains}
+use Rattle.std.proofs.lemmas.Map.Made.{Contains-tail}
 use Rattle.std.proofs.lemmas.List.{length-map, length-take-le, map-append}
 use Rattle.std.proofs.lemmas.Bool.{cases_eq, ltb-false}
 use Rattle.std.proofs.lemmas.Option.{slice_get_within}
 use Rattle.viz_base.specs.declared.trees.BoxNode.{BoxNode}
-use Rattle.layout_laws.proofs.Members.{In, Rises, rises_from}
+use Rattle.layout_laws.proofs.Members.{Rises, rises_from, no_member, first_member, later_member}
 use Rattle.layout_laws.proofs.PageParts.{slice_some}
 use Rattle.page_boxes.proofs.Lists.{with_all_append}
 use Rattle.page_boxes.specs.steps.Places.{with_all, with_box, with_kid_at, with_kid_in}
@@ -33,28 +34,24 @@ none_below low m (k ∷ ks) r l =
     ap (λ t. if t then k ∷ below m ks else below m ks) (not_below k m (omega (arith, l, lower))) ∙ none_below (suc k) m ks r.1 (omega (arith, l, lower))
 
 -- a place that is none of the kids changes nothing
-below_same : (m : ℕ) (ks : List ℕ) → (In m ks → ⊥) → below m ks ≡ below (suc m) ks
+below_same : (m : ℕ) (ks : List ℕ) → (Contains ks m → ⊥) → below m ks ≡ below (suc m) ks
 below_same m [] f = refl
-below_same m (k ∷ ks) f = ap (λ t. if t then k ∷ below m ks else below m ks) (by_place (cases_eq k m)) ∙ ap (λ l. if nat_lt k (suc m) then k ∷ l else l) (below_same m ks (λ i. f (In.there i)))
+below_same m (k ∷ ks) f = ap (λ t. if t then k ∷ below m ks else below m ks) (by_place (cases_eq k m)) ∙ ap (λ l. if nat_lt k (suc m) then k ∷ l else l) (below_same m ks (λ i. f (later_member _ i)))
   where
     by_less : (t : Bool) → nat_lt k m ≡ t → k ≢ m → nat_lt k m ≡ nat_lt k (suc m)
     by_less true e ne = let lower = ltb-true k m e in e ∙ sym (lt-ltb k (suc m) (omega (arith, lower)))
     by_less false e ne = let higher = ltb-false k m e in e ∙ sym (not_below k (suc m) (omega (arith, higher, ne)))
 
     by_place : (k ≡ m) ⊎ (k ≢ m) → nat_lt k m ≡ nat_lt k (suc m)
-    by_place (inl e) = absurd (f (subst (λ j. In j (k ∷ ks)) e In.here))
+    by_place (inl e) = absurd (f (first_member ks e))
     by_place (inr ne) = by_less (nat_lt k m) refl ne
 
-in_rest : (k m : ℕ) (ks : List ℕ) → k ≢ m → In m (k ∷ ks) → In m ks
-in_rest k _ ks ne In.here = absurd (ne refl)
-in_rest k m ks ne (In.there j) = j
-
 -- one that is one of them comes last
-below_more : (low m : ℕ) (ks : List ℕ) → Rises low ks → In m ks → below m ks ++ m ∷ [] ≡ below (suc m) ks
-below_more low m [] r i = elim i [ ]
+below_more : (low m : ℕ) (ks : List ℕ) → Rises low ks → Contains ks m → below m ks ++ m ∷ [] ≡ below (suc m) ks
+below_more low m [] r i = no_member i
 below_more low m (k ∷ ks) r i = by_place (cases_eq k m) (λ j. below_more (suc k) m ks r.1 j) i
   where
-    by_place : (k ≡ m) ⊎ (k ≢ m) → (In m ks → below m ks ++ m ∷ [] ≡ below (suc m) ks) → In m (k ∷ ks) → below m (k ∷ ks) ++ m ∷ [] ≡ below (suc m) (k ∷ ks)
+    by_place : (k ≡ m) ⊎ (k ≢ m) → (Contains ks m → below m ks ++ m ∷ [] ≡ below (suc m) ks) → Contains (k ∷ ks) m → below m (k ∷ ks) ++ m ∷ [] ≡ below (suc m) (k ∷ ks)
     by_place (inl e) again i =
         ap (λ t. (if t then k ∷ below m ks else below m ks) ++ m ∷ []) (not_below k m (omega (arith, e)))
         ∙ (ap (λ l. l ++ m ∷ []) (none_below (suc k) m ks r.1 (omega (arith, e)))
@@ -62,26 +59,26 @@ below_more low m (k ∷ ks) r i = by_place (cases_eq k m) (λ j. below_more (suc
         ∙ (ap (λ l. k ∷ l) (sym (none_below (suc k) (suc m) ks r.1 (omega (arith, e))))
         ∙ ap (λ t. if t then k ∷ below (suc m) ks else below (suc m) ks) (sym (lt-ltb k (suc m) (omega (arith, e)))))))
     by_place (inr ne) again i =
-        let j = in_rest k m ks ne i in
+        let j = Contains-tail k ks m ne i in
         let lower : k < m = let up = rises_from (suc k) ks m r.1 j in omega (arith, up) in
         ap (λ t. (if t then k ∷ below m ks else below m ks) ++ m ∷ []) (lt-ltb k m lower)
         ∙ (ap (λ l. k ∷ l) (again j)
         ∙ ap (λ t. if t then k ∷ below (suc m) ks else below (suc m) ks) (sym (lt-ltb k (suc m) (omega (arith, lower)))))
 
-all_below : (m : ℕ) (ks : List ℕ) → ((k : ℕ) → In k ks → k < m) → below m ks ≡ ks
+all_below : (m : ℕ) (ks : List ℕ) → ((k : ℕ) → Contains ks k → k < m) → below m ks ≡ ks
 all_below m [] f = refl
-all_below m (k ∷ ks) f = ap (λ t. if t then k ∷ below m ks else below m ks) (lt-ltb k m (f k In.here)) ∙ ap (λ l. k ∷ l) (all_below m ks (λ j i. f j (In.there i)))
+all_below m (k ∷ ks) f = ap (λ t. if t then k ∷ below m ks else below m ks) (lt-ltb k m (f k (first_member _ refl))) ∙ ap (λ l. k ∷ l) (all_below m ks (λ j i. f j (later_member _ i)))
 
 -- ---- lists of boxes
 
-others_same : (m : ℕ) (bs : List BoxNode) → ((j : ℕ) (b : BoxNode) → slice_get bs j ≡ Some b → In m b.kids → ⊥) → map (partial m) bs ≡ map (partial (suc m)) bs
+others_same : (m : ℕ) (bs : List BoxNode) → ((j : ℕ) (b : BoxNode) → slice_get bs j ≡ Some b → Contains b.kids m → ⊥) → map (partial m) bs ≡ map (partial (suc m)) bs
 others_same m [] f = refl
 others_same m (b ∷ bs) f =
     ap (λ ks. record b { kids = ks } ∷ map (partial m) bs) (below_same m b.kids (f 0 b refl))
     ∙ ap (λ l. partial (suc m) b ∷ l) (others_same m bs (λ j c e. f (suc j) c e))
 
-one_more : (m at : ℕ) (bs : List BoxNode) (low : ℕ → ℕ) → ((j : ℕ) (b : BoxNode) → slice_get bs j ≡ Some b → Rises (low j) b.kids) → ((j : ℕ) (b : BoxNode) → slice_get bs j ≡ Some b → In m b.kids → j ≡ at)
-    → ((b : BoxNode) → slice_get bs at ≡ Some b → In m b.kids) → with_kid_at at m (map (partial m) bs) ≡ map (partial (suc m)) bs
+one_more : (m at : ℕ) (bs : List BoxNode) (low : ℕ → ℕ) → ((j : ℕ) (b : BoxNode) → slice_get bs j ≡ Some b → Rises (low j) b.kids) → ((j : ℕ) (b : BoxNode) → slice_get bs j ≡ Some b → Contains b.kids m → j ≡ at)
+    → ((b : BoxNode) → slice_get bs at ≡ Some b → Contains b.kids m) → with_kid_at at m (map (partial m) bs) ≡ map (partial (suc m)) bs
 one_more m at [] low r f g = refl
 one_more m zero (b ∷ bs) low r f g =
     ap (λ ks. record b { kids = ks } ∷ map (partial m) bs) (below_more (low 0) m b.kids (r 0 b refl) (g b refl))
@@ -94,8 +91,8 @@ one_more m (suc at) (b ∷ bs) low r f g =
 
 pub record AreNested (boxes : List BoxNode) : Type 0 where
   pub rise : (at : ℕ) (b : BoxNode) → slice_get boxes at ≡ Some b → Rises (suc at) b.kids
-  pub name : (at k : ℕ) (b : BoxNode) → slice_get boxes at ≡ Some b → In k b.kids → (c : BoxNode) × (slice_get boxes k ≡ Some c) × (c.parent ≡ Some at)
-  pub inside : (k at : ℕ) (c : BoxNode) → slice_get boxes k ≡ Some c → c.parent ≡ Some at → (b : BoxNode) × (slice_get boxes at ≡ Some b) × In k b.kids
+  pub name : (at k : ℕ) (b : BoxNode) → slice_get boxes at ≡ Some b → Contains b.kids k → (c : BoxNode) × (slice_get boxes k ≡ Some c) × (c.parent ≡ Some at)
+  pub inside : (k at : ℕ) (c : BoxNode) → slice_get boxes k ≡ Some c → c.parent ≡ Some at → (b : BoxNode) × (slice_get boxes at ≡ Some b) × Contains b.kids k
 
 module _ (boxes : List BoxNode) (nested : AreNested boxes) where
   -- the front of the list
@@ -139,7 +136,7 @@ module _ (boxes : List BoxNode) (nested : AreNested boxes) where
           let there = front_get m at boxes b f in
           let up = nested.inside m at c e p in
           let same : up.0 ≡ b = some_same (sym up.1 ∙ there.0) in
-          subst (λ (x : BoxNode). In m x.kids) same up.2)
+          subst (λ (x : BoxNode). Contains x.kids m) same up.2)
 
   built_to : (m : ℕ) → m ≤ length boxes → with_all [] (map bare (take m boxes)) ≡ map (partial m) (take m boxes)
   built_to zero l = refl
@@ -156,7 +153,7 @@ module _ (boxes : List BoxNode) (nested : AreNested boxes) where
       ∙ (ap (λ ks. map (partial (suc m)) (take m boxes) ++ record c.0 { kids = ks } ∷ []) (sym (none_below (suc m) (suc m) c.0.kids (nested.rise m c.0 c.1) (omega arith)))
       ∙ (sym (map-append (partial (suc m)) (take m boxes) (c.0 ∷ [])) ∙ ap (map (partial (suc m))) (sym next))))))))
 
-  whole_kids : (n : ℕ) (bs : List BoxNode) → ((j : ℕ) (b : BoxNode) → slice_get bs j ≡ Some b → (k : ℕ) → In k b.kids → k < n) → map (partial n) bs ≡ bs
+  whole_kids : (n : ℕ) (bs : List BoxNode) → ((j : ℕ) (b : BoxNode) → slice_get bs j ≡ Some b → (k : ℕ) → Contains b.kids k → k < n) → map (partial n) bs ≡ bs
   whole_kids n [] f = refl
   whole_kids n (b ∷ bs) f = ap (λ ks. record b { kids = ks } ∷ map (partial n) bs) (all_below n b.kids (f 0 b refl)) ∙ ap (λ l. b ∷ l) (whole_kids n bs (λ j c e. f (suc j) c e))
 

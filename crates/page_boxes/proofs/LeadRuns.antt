@@ -1,9 +1,10 @@
 -- The runs of the boxes in one element, from one box on.
-use Rattle.std.proofs.Common.{◌≡◌, ◌≢◌, ℕ, ◌==◌, Bool, true, false, not, ◌&&◌, ◌||◌, List, [], ◌∷◌, ◌++◌, map, find, Option, Some, None, option_map, refl, sym, ◌∙◌, ap, if◌then◌else◌, append_assoc, eq-eqb, eqb-true, filter}
+use Rattle.std.proofs.Common.{◌≡◌, ◌≢◌, ℕ, ◌==◌, Bool, true, false, not, ◌&&◌, ◌||◌, List, [], ◌∷◌, ◌++◌, map, find, Option, Some, None, option_map, refl, sym, subst, ◌∙◌, ap, if◌then◌else◌, append_assoc, eq-eqb, eqb-true, filter, Contains, ⊎_elim}
+use Rattle.std.proofs.lemmas.List.Elements.{Contains-append_cases}
 use Rattle.std.proofs.lemmas.List.{append-nil}
 use Rattle.layout_semantics.specs.Parts.{Part, Level}
 use Rattle.layout_semantics.specs.BoxTrees.{first_of, has_node, is_floated_level, needs_box, nodes_of, runs_of, with_part}
-use Rattle.layout_laws.proofs.Members.{In}
+use Rattle.layout_laws.proofs.Members.{no_member, first_member, later_member, only_member}
 use Rattle.page_boxes.specs.steps.Leads.{is_ahead}
 
 pub other_number : (a b : ℕ) → a ≢ b → (a == b) ≡ false
@@ -109,11 +110,11 @@ first_needs done ps = any_append done (front ps) ∙ ap (λ b. needs_box done ||
 -- ---- runs by a node
 
 abbrev pub IsApart : ℕ → List Part → Type 0
-IsApart n ps = (p : Part) → In p ps → p.node ≢ n
+IsApart n ps = (p : Part) → Contains ps p → p.node ≢ n
 
 has_none : (n : ℕ) (ps : List Part) → IsApart n ps → has_node n (nodes_of ps) ≡ false
 has_none n [] h = refl
-has_none n (p ∷ ps) h = ap (λ t. t || has_node n (nodes_of ps)) (other_number p.node n (h p In.here)) ∙ has_none n ps (λ q i. h q (In.there i))
+has_none n (p ∷ ps) h = ap (λ t. t || has_node n (nodes_of ps)) (other_number p.node n (h p (first_member _ refl))) ∙ has_none n ps (λ q i. h q (later_member _ i))
 
 abbrev pub found_in : ℕ → List (List Part) → Option (List ℕ)
 found_in n runs = find (has_node n) (map nodes_of (filter needs_box runs))
@@ -126,22 +127,16 @@ found_skip n run runs h = by_need (needs_box run)
     by_need true = ap (λ b. if b then Some (nodes_of run) else found_in n runs) (has_none n run h)
 
 apart_append : (n : ℕ) (xs ys : List Part) → IsApart n xs → IsApart n ys → IsApart n (xs ++ ys)
-apart_append n [] ys f g = g
-apart_append n (x ∷ xs) ys f g = λ p i. by_place p i (apart_append n xs ys (λ q j. f q (In.there j)) g)
-  where
-    by_place : (p : Part) → In p (x ∷ (xs ++ ys)) → IsApart n (xs ++ ys) → p.node ≢ n
-    by_place _ In.here rest = f x In.here
-    by_place p (In.there i) rest = rest p i
+apart_append n xs ys f g = λ p i. ⊎_elim (λ j. f p j) (λ j. g p j) (Contains-append_cases xs ys p i)
 
 pub none_found : (n : ℕ) (done ps : List Part) → IsApart n done → IsApart n ps → found_in n (runs_on done ps) ≡ None
 none_found n done [] f g = found_skip n done [] f
 none_found n done (p ∷ ps) f g =
-    by_level p.level (none_found n [] ps (λ q i. elim i [ ]) (λ q i. g q (In.there i)))
-    (none_found n (done ++ p ∷ []) ps (apart_append n done (p ∷ []) f (λ q i. one_apart q i)) (λ q i. g q (In.there i)))
+    by_level p.level (none_found n [] ps (λ q i. no_member i) (λ q i. g q (later_member _ i)))
+    (none_found n (done ++ p ∷ []) ps (apart_append n done (p ∷ []) f (λ q i. one_apart q i)) (λ q i. g q (later_member _ i)))
   where
-    one_apart : (q : Part) → In q (p ∷ []) → q.node ≢ n
-    one_apart _ In.here = g p In.here
-    one_apart q (In.there i) = elim i [ ]
+    one_apart : (q : Part) → Contains (p ∷ []) q → q.node ≢ n
+    one_apart q i = subst (λ (r : Part). r.node ≢ n) (only_member p q i) (g p (first_member _ refl))
 
     by_level : (l : Level) → found_in n (runs_on [] ps) ≡ None → found_in n (runs_on (done ++ p ∷ []) ps) ≡ None → found_in n (at_level l (done ∷ runs_on [] ps) (runs_on (done ++ p ∷ []) ps)) ≡ None
     by_level Level.block a b = found_skip n done (runs_on [] ps) f ∙ a
@@ -151,7 +146,7 @@ none_found n done (p ∷ ps) f g =
 -- what is behind the first run, too
 pub none_behind : (n : ℕ) (ps : List Part) → IsApart n ps → found_in n (behind ps) ≡ None
 none_behind n [] g = refl
-none_behind n (p ∷ ps) g = by_level p.level (none_behind n ps (λ q i. g q (In.there i))) (none_found n [] ps (λ q i. elim i [ ]) (λ q i. g q (In.there i)))
+none_behind n (p ∷ ps) g = by_level p.level (none_behind n ps (λ q i. g q (later_member _ i))) (none_found n [] ps (λ q i. no_member i) (λ q i. g q (later_member _ i)))
   where
     by_level : (l : Level) → found_in n (behind ps) ≡ None → found_in n (runs_on [] ps) ≡ None → found_in n (at_level l (runs_on [] ps) (behind ps)) ≡ None
     by_level Level.block a b = b

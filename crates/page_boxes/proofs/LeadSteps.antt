@@ -1,12 +1,13 @@
 -- The walks over boxes find the anonymous block boxes that the definition does.
 use Rattle.std.proofs.lemmas.List.{length-replicate, get_or-replicate}
-use Rattle.std.proofs.Common.{replicate, ◌≡◌, ◌≢◌, ℕ, ◌+◌, ◌==◌, ◌<◌, ◌≤◌, suc, Bool, true, false, not, ◌&&◌, ◌||◌, List, [], ◌∷◌, ◌++◌, map, find, length, get_or, set, Option, Some, None, option_map, option_and_then, refl, sym, ◌∙◌, ap, arith, if◌then◌else◌, eq-eqb, eqb-true, length-set, get_or-set_same, get_or-set_other, inl, inr, ◌⊎◌, filter}
+use Rattle.std.proofs.Common.{replicate, ◌≡◌, ◌≢◌, ℕ, ◌+◌, ◌==◌, ◌<◌, ◌≤◌, suc, Bool, true, false, not, ◌&&◌, ◌||◌, List, [], ◌∷◌, ◌++◌, map, find, length, get_or, set, Option, Some, None, option_map, option_and_then, refl, sym, ◌∙◌, ap, arith, if◌then◌else◌, eq-eqb, eqb-true, length-set, get_or-set_same, get_or-set_other, inl, inr, ◌⊎◌, filter, Contains}
+use Rattle.std.proofs.lemmas.List.Elements.{Contains-push_cases}
 use Rattle.std.proofs.lemmas.Bool.{cases_eq}
 use Rattle.std.specs.List.{list_any}
 use Rattle.layout_semantics.specs.Parts.{Part, Level}
 use Rattle.layout_semantics.specs.WhiteSpace.{is_in}
 use Rattle.layout_semantics.specs.BoxTrees.{first_of, has_node, is_block_part, is_floated_level, needs_box, nodes_of, parts_in, run_around, runs_of, wrapped_in}
-use Rattle.layout_laws.proofs.Members.{In, Rises, rises_from, from_filter}
+use Rattle.layout_laws.proofs.Members.{Rises, rises_from, from_filter, no_member, first_member, later_member, map_same, to_map}
 use Rattle.page_boxes.specs.steps.Leads.{ahead_of, ahead_table, is_ahead, lead_of, leads_walk, with_blocks}
 use Rattle.page_boxes.specs.steps.Tables.{held, put}
 use Rattle.page_boxes.proofs.LeadRuns.{IsApart, any_append, at_level, first_needs, found_here, found_in, found_skip, front, is_ahead_in, lead_in, led_with, none_found, other_number, runs_are, runs_on}
@@ -80,7 +81,7 @@ lead_here hb done p ps f g = by_level p.level refl
 
     block_none : (b : Bool) → option_map first_of (if b then found_in p.node (done ∷ runs_on [] ps) else None) ≡ None
     block_none false = refl
-    block_none true = ap (option_map first_of) (found_skip p.node done (runs_on [] ps) g ∙ none_found p.node [] ps (λ q i. elim i [ ]) f)
+    block_none true = ap (option_map first_of) (found_skip p.node done (runs_on [] ps) g ∙ none_found p.node [] ps (λ q i. no_member i) f)
 
     by_level : (l : Level) → p.level ≡ l → option_map first_of (if hb then found_in p.node (at_level l (done ∷ runs_on [] ps) (runs_on (done ++ p ∷ []) ps)) else None)
         ≡ lead_of (led_with hb done (is_ahead (is_ahead_in ps) l)) hb (is_ahead (is_ahead_in ps) l) l p.node
@@ -212,7 +213,7 @@ module _ (hb : ℕ → Bool) (n : ℕ) where
   record IsState (low : ℕ) (led : List (Option ℕ)) (done : ℕ → List Part) (qs : List Part) : Type 0 where
     size : length led ≡ n
     each : (q : ℕ) → q < n → get_or led q None ≡ led_with (hb q) (done q) (is_ahead_in (parts_in qs q))
-    below : (q : ℕ) (x : Part) → In x (done q) → x.node < low
+    below : (q : ℕ) (x : Part) → Contains (done q) x → x.node < low
 
   record Fits (p : Part) : Type 0 where
     pub within : (q : ℕ) → p.parent ≡ Some q → q < n
@@ -224,7 +225,7 @@ module _ (hb : ℕ → Bool) (n : ℕ) where
 
   head_is : (low : ℕ) (led : List (Option ℕ)) (blocks : List Bool) (done : ℕ → List Part) (p : Part) (qs : List Part) (a : Bool) → IsState low led done (p ∷ qs) → Fits p
       → ((q : ℕ) → q < n → get_or blocks q false ≡ hb q) → ((q : ℕ) → p.parent ≡ Some q → a ≡ is_ahead_in (p ∷ parts_in qs q))
-      → low ≤ p.node → ((x : Part) → In x qs → p.node < x.node)
+      → low ≤ p.node → ((x : Part) → Contains qs x → p.node < x.node)
       → lead_of (held led p.parent None) (held blocks p.parent false) a p.level p.node ≡ lead_from done (p ∷ qs) p
   unfolding lead_from
   head_is low led blocks done p qs a state fits blocked aheads l above = by_parent p.parent refl
@@ -251,7 +252,7 @@ module _ (hb : ℕ → Bool) (n : ℕ) where
           ∙ (sym (lead_here (hb q) (done q) p (parts_in qs q) (apart_kids q) (apart_done q))
           ∙ ap (λ ks. lead_in (hb q) (done q) ks p.node) (sym same))))
 
-  tail_is : (low : ℕ) (done : ℕ → List Part) (p : Part) (qs : List Part) (x : Part) → ((q : ℕ) (y : Part) → In y (done q) → y.node < low) → low ≤ x.node
+  tail_is : (low : ℕ) (done : ℕ → List Part) (p : Part) (qs : List Part) (x : Part) → ((q : ℕ) (y : Part) → Contains (done q) y → y.node < low) → low ≤ x.node
       → lead_from done (p ∷ qs) x ≡ lead_from (moved done p) qs x
   unfolding lead_from moved
   tail_is low done p qs x below l = by_parent x.parent
@@ -286,44 +287,25 @@ module _ (hb : ℕ → Bool) (n : ℕ) where
       by_parent q w None e = state.each q w ∙ ap (λ o. led_with (hb q) (done q) (is_ahead_in (if is_in q o then p ∷ parts_in qs q else parts_in qs q))) e
       by_parent q w (Some a) e = by_test q a w e (a == q) refl (state.each q w ∙ ap (λ o. led_with (hb q) (done q) (is_ahead_in (if is_in q o then p ∷ parts_in qs q else parts_in qs q))) e)
 
-      in_more : (xs : List Part) (x : Part) → In x (xs ++ p ∷ []) → In x xs ⊎ (x ≡ p)
-      in_more [] _ In.here = inr refl
-      in_more [] x (In.there i) = elim i [ ]
-      in_more (y ∷ xs) _ In.here = inl In.here
-      in_more (y ∷ xs) x (In.there i) = by_rest (in_more xs x i)
-        where
-          by_rest : In x xs ⊎ (x ≡ p) → In x (y ∷ xs) ⊎ (x ≡ p)
-          by_rest (inl j) = inl (In.there j)
-          by_rest (inr e) = inr e
-
-      below_run : (q : ℕ) (x : Part) → In x (done q) ⊎ (x ≡ p) → x.node < suc p.node
+      below_run : (q : ℕ) (x : Part) → Contains (done q) x ⊎ (p ≡ x) → x.node < suc p.node
       below_run q x (inl i) = let lower = state.below q x i in omega (arith, lower, l)
       below_run q x (inr e) = let same = ap (λ (r : Part). r.node) e in omega (arith, same)
 
-      below_level : (q : ℕ) (x : Part) (lv : Level) → In x (at_level lv [] (done q ++ p ∷ [])) → x.node < suc p.node
-      below_level q x Level.block i = elim i [ ]
-      below_level q x Level.floated i = below_run q x (in_more (done q) x i)
-      below_level q x Level.inline i = below_run q x (in_more (done q) x i)
+      below_level : (q : ℕ) (x : Part) (lv : Level) → Contains (at_level lv [] (done q ++ p ∷ [])) x → x.node < suc p.node
+      below_level q x Level.block i = no_member i
+      below_level q x Level.floated i = below_run q x (Contains-push_cases (done q) p x i)
+      below_level q x Level.inline i = below_run q x (Contains-push_cases (done q) p x i)
 
-      below_test : (q : ℕ) (x : Part) (t : Bool) → In x (if t then at_level p.level [] (done q ++ p ∷ []) else done q) → x.node < suc p.node
+      below_test : (q : ℕ) (x : Part) (t : Bool) → Contains (if t then at_level p.level [] (done q ++ p ∷ []) else done q) x → x.node < suc p.node
       below_test q x true i = below_level q x p.level i
       below_test q x false i = below_run q x (inl i)
 
   abbrev node_of : Part → ℕ
   node_of p = p.node
 
-  in_nodes : (qs : List Part) (p : Part) → In p qs → In p.node (map node_of qs)
-  in_nodes [] p i = elim i [ ]
-  in_nodes (p ∷ qs) _ In.here = In.here
-  in_nodes (q ∷ qs) p (In.there i) = In.there (in_nodes qs p i)
-
-  map_same : {A B : Type 0} (f g : A → B) (xs : List A) → ((x : A) → In x xs → f x ≡ g x) → map f xs ≡ map g xs
-  map_same f g [] h = refl
-  map_same f g (x ∷ xs) h = ap (λ y. y ∷ map f xs) (h x In.here) ∙ ap (λ ys. g x ∷ ys) (map_same f g xs (λ y i. h y (In.there i)))
-
   walk_is : (table : List Bool) (low : ℕ) (led : List (Option ℕ)) (blocks ahead : List Bool) (at : ℕ) (done : ℕ → List Part) (qs : List Part)
       → length table ≡ n → ((q : ℕ) → q < n → get_or table q false ≡ false)
-      → IsState low led done qs → ((p : Part) → In p qs → Fits p) → ((q : ℕ) → q < n → get_or blocks q false ≡ hb q) → ((j : ℕ) → get_or ahead (at + j) false ≡ get_or (ahead_of table qs) j false)
+      → IsState low led done qs → ((p : Part) → Contains qs p → Fits p) → ((q : ℕ) → q < n → get_or blocks q false ≡ hb q) → ((j : ℕ) → get_or ahead (at + j) false ≡ get_or (ahead_of table qs) j false)
       → Rises low (map node_of qs) → leads_walk led blocks ahead at qs ≡ map (lead_from done qs) qs
   walk_is table low led blocks ahead at done [] size none state fits blocked aheads rises = refl
   walk_is table low led blocks ahead at done (p ∷ qs) size none state fits blocked aheads rises =
@@ -331,18 +313,18 @@ module _ (hb : ℕ → Bool) (n : ℕ) where
       let now : get_or ahead at false ≡ is_ahead (held (ahead_table table qs) p.parent false) p.level = ap (λ k. get_or ahead k false) (sym zero_more) ∙ aheads 0 in
       let own : (q : ℕ) → p.parent ≡ Some q → get_or ahead at false ≡ is_ahead_in (p ∷ parts_in qs q) =
       λ q e. now ∙ (ap (λ o. is_ahead (held (ahead_table table qs) o false) p.level) e ∙ ap (λ b. is_ahead b p.level)
-      (table_ahead table qs q (let w = (fits p In.here).within q e in omega (arith, w, size)) (none q ((fits p In.here).within q e)))) in
-      let above : (x : Part) → In x qs → p.node < x.node = λ x i. let up = rises_from (suc p.node) (map node_of qs) x.node rises.1 (in_nodes qs x i) in omega (arith, up) in
-      let head = head_is low led blocks done p qs (get_or ahead at false) state (fits p In.here) blocked own rises.0 above in
+      (table_ahead table qs q (let w = (fits p (first_member _ refl)).within q e in omega (arith, w, size)) (none q ((fits p (first_member _ refl)).within q e)))) in
+      let above : (x : Part) → Contains qs x → p.node < x.node = λ x i. let up = rises_from (suc p.node) (map node_of qs) x.node rises.1 (to_map node_of qs x i) in omega (arith, up) in
+      let head = head_is low led blocks done p qs (get_or ahead at false) state (fits p (first_member _ refl)) blocked own rises.0 above in
       let lead_is : (q : ℕ) → p.parent ≡ Some q → lead_of (held led p.parent None) (held blocks p.parent false) (get_or ahead at false) p.level p.node
       ≡ lead_of (led_with (hb q) (done q) (is_ahead_in (p ∷ parts_in qs q))) (hb q) (is_ahead_in (p ∷ parts_in qs q)) p.level p.node =
-      λ q e. let w = (fits p In.here).within q e in
+      λ q e. let w = (fits p (first_member _ refl)).within q e in
       ap (λ o. lead_of (held led o None) (held blocks o false) (get_or ahead at false) p.level p.node) e
       ∙ (ap (λ o. lead_of o (get_or blocks q false) (get_or ahead at false) p.level p.node) (state.each q w ∙ ap (λ ks. led_with (hb q) (done q) (is_ahead_in ks)) (kids_in p qs q e))
       ∙ (ap (λ b. lead_of (led_with (hb q) (done q) (is_ahead_in (p ∷ parts_in qs q))) b (get_or ahead at false) p.level p.node) (blocked q w)
       ∙ ap (λ b. lead_of (led_with (hb q) (done q) (is_ahead_in (p ∷ parts_in qs q))) (hb q) b p.level p.node) (own q e))) in
       let next : (j : ℕ) → (at + 1) + j ≡ at + suc j = λ j. omega arith in
-      let rest = walk_is table (suc p.node) _ blocks ahead (at + 1) (moved done p) qs size none (state_moved low led done p qs _ state rises.0 lead_is) (λ x i. fits x (In.there i)) blocked
+      let rest = walk_is table (suc p.node) _ blocks ahead (at + 1) (moved done p) qs size none (state_moved low led done p qs _ state rises.0 lead_is) (λ x i. fits x (later_member _ i)) blocked
       (λ j. ap (λ k. get_or ahead k false) (next j) ∙ aheads (suc j)) rises.1 in
       let later = map_same (lead_from done (p ∷ qs)) (lead_from (moved done p) qs) qs (λ x i. tail_is low done p qs x state.below (let up = above x i in let l = rises.0 in omega (arith, up, l))) in
       ap (λ l. lead_of (held led p.parent None) (held blocks p.parent false) (get_or ahead at false) p.level p.node ∷ l) (rest ∙ sym later)
@@ -352,16 +334,16 @@ abbrev has_blocks : List Part → ℕ → Bool
 has_blocks parts q = list_any is_block_part (parts_in parts q)
 
 -- the leads of all boxes: the first nodes of their runs, where anonymous block boxes hold these
-pub leads_are : (n low : ℕ) (parts : List Part) → Rises low (map (λ (p : Part). p.node) parts) → ((p : Part) (q : ℕ) → In p parts → p.parent ≡ Some q → q < n) → ((p : Part) → In p parts → p.parent ≡ None → p.level ≡ Level.block)
+pub leads_are : (n low : ℕ) (parts : List Part) → Rises low (map (λ (p : Part). p.node) parts) → ((p : Part) (q : ℕ) → Contains parts p → p.parent ≡ Some q → q < n) → ((p : Part) → Contains parts p → p.parent ≡ None → p.level ≡ Level.block)
     → leads_walk (replicate n None) (with_blocks (replicate n false) parts) (ahead_of (replicate n false) parts) 0 parts ≡ map (λ p. option_map first_of (run_around parts p)) parts
 unfolding lead_from
 leads_are n low parts rises within root =
     walk_is (has_blocks parts) n (replicate n false) low (replicate n None) (with_blocks (replicate n false) parts) (ahead_of (replicate n false) parts) 0 (λ q. []) parts (length-replicate n false) (λ q l. get_or-replicate n q false false l)
-    (record { size = length-replicate n None; each = λ q l. get_or-replicate n q None None l; below = λ q x i. elim i [ ] })
+    (record { size = length-replicate n None; each = λ q l. get_or-replicate n q None None l; below = λ q x i. no_member i })
     (λ p i. record { within = λ q e. within p q i e; root = λ e. root p i e })
     (λ q l. let size = length-replicate n false in blocks_are (replicate n false) parts q (omega (arith, l, size)) ∙ ap (λ b. b || list_any is_block_part (parts_in parts q)) (get_or-replicate n q false false l))
     (λ j. ap (λ k. get_or (ahead_of (replicate n false) parts) k false) (omega arith)) rises
-    ∙ map_same (has_blocks parts) n (lead_from (has_blocks parts) n (λ q. []) parts) (λ p. option_map first_of (run_around parts p)) parts (λ p i. lead_is p)
+    ∙ map_same (lead_from (has_blocks parts) n (λ q. []) parts) (λ p. option_map first_of (run_around parts p)) parts (λ p i. lead_is p)
   where
     lead_is : (p : Part) → lead_from (has_blocks parts) n (λ q. []) parts p ≡ option_map first_of (run_around parts p)
     lead_is p = by_parent p.parent

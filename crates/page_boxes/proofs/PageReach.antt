@@ -1,5 +1,6 @@
 -- What the walk over reaches needs of the boxes of a page.
-use Rattle.std.proofs.Common.{◌≡◌, ℕ, zero, suc, ◌==◌, ◌<◌, ◌≤◌, Bool, true, false, not, ◌||◌, List, [], ◌∷◌, length, replicate, Option, Some, None, option_map, unwrap_or, slice_get, encode_utf8_all, refl, sym, ◌∙◌, ap, subst, arith, inl, inr, ◌⊎◌, eqb-true}
+use Rattle.std.proofs.Common.{◌≡◌, ℕ, zero, suc, ◌==◌, ◌<◌, ◌≤◌, Bool, true, false, not, ◌||◌, List, [], ◌∷◌, length, replicate, Option, Some, None, option_map, unwrap_or, slice_get, encode_utf8_all, refl, sym, ◌∙◌, ap, subst, arith, inl, inr, ◌⊎◌, eqb-true, Contains}
+use Rattle.std.proofs.lemmas.List.Elements.{Contains-append_cases}
 use Rattle.std.specs.List.{list_any}
 use Rattle.std.specs.Option.{option_map_or}
 use Rattle.std.specs.Str.{chars}
@@ -24,7 +25,7 @@ use Rattle.layout_semantics.specs.BoxTrees.{Item, boxes_before, items_of, own_bo
 use Rattle.viz_base.specs.Reaches.{is_of_element}
 use Rattle.layout_semantics.specs.Refusals.{blocks_in_inlines}
 use Rattle.layout_laws.specs.Styled.{AreStylesOf, is_at_or_above}
-use Rattle.layout_laws.proofs.Members.{In, all_in, any_in, from_append, from_one_if, rises_from}
+use Rattle.layout_laws.proofs.Members.{all_in, any_in, from_one_if, rises_from, no_member, first_member, later_member, first_or_later}
 use Rattle.layout_laws.proofs.Places.{node_of}
 use Rattle.layout_laws.proofs.Kids.{order, own_box_at, own_place_from, own_place_within}
 use Rattle.layout_laws.proofs.Nesting.{IsBoxOf}
@@ -65,16 +66,16 @@ of_three of_kind.Line a b c = absurd (cc)
 of_three of_kind.Break a b c = refl
 
 -- what is left of a box's text comes from its text
-in_walk : (table : List Bool) (qs : List Part) (p : Part) → In p (spaces_walk table qs) → (q : Part) × In q qs × ((keeps : Bool) × (p ≡ squeezed_part keeps q))
-in_walk table [] p i = elim i [ ]
+in_walk : (table : List Bool) (qs : List Part) (p : Part) → Contains (spaces_walk table qs) p → (q : Part) × Contains qs q × ((keeps : Bool) × (p ≡ squeezed_part keeps q))
+in_walk table [] p i = no_member i
 in_walk table (q ∷ qs) p i =
-    by_place (from_append (one_if (not (is_bare (squeezed_part (held table q.container false) q))) (squeezed_part (held table q.container false) q)) (spaces_walk (put table q.container (keeps_behind_part (held table q.container false) q)) qs) p i)
+    by_place (Contains-append_cases (one_if (not (is_bare (squeezed_part (held table q.container false) q))) (squeezed_part (held table q.container false) q)) (spaces_walk (put table q.container (keeps_behind_part (held table q.container false) q)) qs) p i)
     (λ j. in_walk (put table q.container (keeps_behind_part (held table q.container false) q)) qs p j)
   where
-    by_place : In p (one_if (not (is_bare (squeezed_part (held table q.container false) q))) (squeezed_part (held table q.container false) q)) ⊎ In p (spaces_walk (put table q.container (keeps_behind_part (held table q.container false) q)) qs)
-        → (In p (spaces_walk (put table q.container (keeps_behind_part (held table q.container false) q)) qs) → (r : Part) × In r qs × ((keeps : Bool) × (p ≡ squeezed_part keeps r))) → (r : Part) × In r (q ∷ qs) × ((keeps : Bool) × (p ≡ squeezed_part keeps r))
-    by_place (inl j) again = let here = from_one_if (not (is_bare (squeezed_part (held table q.container false) q))) (squeezed_part (held table q.container false) q) p j in (q, In.here, (held table q.container false, here.0))
-    by_place (inr j) again = let r = again j in (r.0, In.there r.1, r.2)
+    by_place : Contains (one_if (not (is_bare (squeezed_part (held table q.container false) q))) (squeezed_part (held table q.container false) q)) p ⊎ Contains (spaces_walk (put table q.container (keeps_behind_part (held table q.container false) q)) qs) p
+        → (Contains (spaces_walk (put table q.container (keeps_behind_part (held table q.container false) q)) qs) p → (r : Part) × Contains qs r × ((keeps : Bool) × (p ≡ squeezed_part keeps r))) → (r : Part) × Contains (q ∷ qs) r × ((keeps : Bool) × (p ≡ squeezed_part keeps r))
+    by_place (inl j) again = let here = from_one_if (not (is_bare (squeezed_part (held table q.container false) q))) (squeezed_part (held table q.container false) q) p j in (q, first_member _ refl, (held table q.container false, here.0))
+    by_place (inr j) again = let r = again j in (r.0, later_member _ r.1, r.2)
 
 module _ (nodes : List Node) (styles : List Style) (fonts : List Font) (page : IsPage nodes) (styled : AreStylesOf nodes styles fonts) (none : blocks_in_inlines (page_parts nodes styles) ≡ []) where
   tree : IsBoxTree (page_boxes nodes styles) (tree_styles nodes styles) fonts (tree_parents nodes)
@@ -83,11 +84,11 @@ module _ (nodes : List Node) (styles : List Style) (fonts : List Font) (page : I
   abbrev items : List Item
   items = items_of (page_parts nodes styles)
 
-  parent_of_item : (x : Item) → In x items → parent_of nodes (node_of x) ≡ x.part.parent
+  parent_of_item : (x : Item) → Contains items x → parent_of nodes (node_of x) ≡ x.part.parent
   parent_of_item x i = part_parent nodes (tree_styles nodes styles) page x.part (item_known nodes styles page x i)
 
   -- the box of an element that a part is in stands before it
-  up_box : (x : Item) (q at : ℕ) → In x items → x.part.parent ≡ Some q → boxes_before items (node_of x) ≤ at → HasBox (page_boxes nodes styles) at q
+  up_box : (x : Item) (q at : ℕ) → Contains items x → x.part.parent ≡ Some q → boxes_before items (node_of x) ≤ at → HasBox (page_boxes nodes styles) at q
   up_box x q at i e l =
       let arranged = page_arranged nodes styles page in
       let up = arranged.parents x q i e in
@@ -114,31 +115,27 @@ module _ (nodes : List Node) (styles : List Style) (fonts : List Font) (page : I
       by_length zero = refl
       by_length (suc n) = refl
 
-  in_first : (q m : ℕ) (qs : List ℕ) → In m (q ∷ qs) → (m ≡ q) ⊎ In m qs
-  in_first q _ qs In.here = inl refl
-  in_first q m qs (In.there i) = inr i
-
-  one_up : (x : Item) (m at : ℕ) → In x items → In m (ancestors nodes (node_of x)) → boxes_before items (node_of x) ≤ at
-      → ((y : Item) → In y items → node_of y < node_of x → In m (ancestors nodes (node_of y)) → boxes_before items (node_of y) ≤ at → HasBox (page_boxes nodes styles) at m) → HasBox (page_boxes nodes styles) at m
+  one_up : (x : Item) (m at : ℕ) → Contains items x → Contains (ancestors nodes (node_of x)) m → boxes_before items (node_of x) ≤ at
+      → ((y : Item) → Contains items y → node_of y < node_of x → Contains (ancestors nodes (node_of y)) m → boxes_before items (node_of y) ≤ at → HasBox (page_boxes nodes styles) at m) → HasBox (page_boxes nodes styles) at m
   one_up x m at i j b again = by_parent (parent_of nodes (node_of x)) refl
     where
-      by_sort : (q : ℕ) → parent_of nodes (node_of x) ≡ Some q → (m ≡ q) ⊎ In m (ancestors nodes q) → HasBox (page_boxes nodes styles) at m
-      by_sort q e (inl same) = subst (HasBox (page_boxes nodes styles) at) (sym same) (up_box x q at i (sym (parent_of_item x i) ∙ e) b)
+      by_sort : (q : ℕ) → parent_of nodes (node_of x) ≡ Some q → (q ≡ m) ⊎ Contains (ancestors nodes q) m → HasBox (page_boxes nodes styles) at m
+      by_sort q e (inl same) = subst (HasBox (page_boxes nodes styles) at) same (up_box x q at i (sym (parent_of_item x i) ∙ e) b)
       by_sort q e (inr up_in) =
           let arranged = page_arranged nodes styles page in
           let up = arranged.parents x q i (sym (parent_of_item x i) ∙ e) in
           let before : node_of up.parent < node_of x = let l = up.before in let s = up.node in omega (arith, l, s) in
           let ordered = order items arranged up.parent x up.inside i before in
-          again up.parent up.inside before (subst (λ k. In m (ancestors nodes k)) (sym up.node) up_in) (omega (arith, ordered, b))
+          again up.parent up.inside before (subst (λ k. Contains (ancestors nodes k) m) (sym up.node) up_in) (omega (arith, ordered, b))
 
       by_parent : (o : Option ℕ) → parent_of nodes (node_of x) ≡ o → HasBox (page_boxes nodes styles) at m
-      by_parent None e = elim (subst (In m) (above_none (node_of x) e) j) [ ]
+      by_parent None e = no_member (subst (λ l. Contains l m) (above_none (node_of x) e) j)
       by_parent (Some q) e =
           let known = item_known nodes styles page x i in
           let here = slice_get_within nodes (node_of x) known.entry known.node_is in
-          by_sort q e (in_first q m (ancestors nodes q) (subst (In m) (ancestors_are nodes page (node_of x) q here e) j))
+          by_sort q e (first_or_later q (ancestors nodes q) m (subst (λ l. Contains l m) (ancestors_are nodes page (node_of x) q here e) j))
 
-  above_box : (k : ℕ) (x : Item) (m at : ℕ) → In x items → node_of x ≤ k → In m (ancestors nodes (node_of x)) → boxes_before items (node_of x) ≤ at → HasBox (page_boxes nodes styles) at m
+  above_box : (k : ℕ) (x : Item) (m at : ℕ) → Contains items x → node_of x ≤ k → Contains (ancestors nodes (node_of x)) m → boxes_before items (node_of x) ≤ at → HasBox (page_boxes nodes styles) at m
   above_box zero x m at i l j b = one_up x m at i j b (λ y a lower c d. absurd (omega (arith, l, lower)))
   above_box (suc k) x m at i l j b = one_up x m at i j b (λ y a lower c d. above_box k y m at a (omega (arith, l, lower)) c d)
 
@@ -169,16 +166,16 @@ module _ (nodes : List Node) (styles : List Style) (fonts : List Font) (page : I
       by_style None g h = absurd (cc)
       by_style (Some t) g h = let same : tree_style_of (viewport_clip nodes styles) ((at, n), t) ≡ s = cc in (t, g, ap named_nodes (sym same))
 
-  named : (at m : ℕ) (b : BoxNode) (s : Style) → slice_get (page_boxes nodes styles) at ≡ Some b → slice_get (tree_styles nodes styles) b.node ≡ Some s → is_of_element b.kind ≡ true → In m (named_nodes s)
+  named : (at m : ℕ) (b : BoxNode) (s : Style) → slice_get (page_boxes nodes styles) at ≡ Some b → slice_get (tree_styles nodes styles) b.node ≡ Some s → is_of_element b.kind ≡ true → Contains (named_nodes s) m
       → (m ≡ b.node) ⊎ HasBox (page_boxes nodes styles) at m
   named at m b s e f o i = by_box (page_box_is nodes styles page at b e)
     where
-      by_test : (x : Item) → In x items → b.node ≡ node_of x → boxes_before items (node_of x) ≤ at → (t : Bool) → (m == b.node) ≡ t → (t || list_any (λ a. a == m) (ancestors nodes b.node)) ≡ true → (m ≡ b.node) ⊎ HasBox (page_boxes nodes styles) at m
+      by_test : (x : Item) → Contains items x → b.node ≡ node_of x → boxes_before items (node_of x) ≤ at → (t : Bool) → (m == b.node) ≡ t → (t || list_any (λ a. a == m) (ancestors nodes b.node)) ≡ true → (m ≡ b.node) ⊎ HasBox (page_boxes nodes styles) at m
       by_test x j node l true g h = inl (eqb-true m b.node g)
       by_test x j node l false g h =
           let found = any_in (λ a. a == m) (ancestors nodes b.node) h in
           let same = eqb-true found.0 m found.2 in
-          inr (above_box (node_of x) x m at j (omega arith) (subst (λ k. In m (ancestors nodes k)) node (subst (λ k. In k (ancestors nodes b.node)) same found.1)) l)
+          inr (above_box (node_of x) x m at j (omega arith) (subst (λ k. Contains (ancestors nodes k) m) node (subst (λ k. Contains (ancestors nodes b.node) k) same found.1)) l)
 
       by_box : IsBoxOf items at b → (m ≡ b.node) ⊎ HasBox (page_boxes nodes styles) at m
       by_box (IsBoxOf.anonymous x run j r t place k) = let kind : is_of_element of_kind.Anon ≡ true = ap (λ (c : BoxNode). is_of_element c.kind) (sym k) ∙ o in absurd (cc)
@@ -187,7 +184,7 @@ module _ (nodes : List Node) (styles : List Style) (fonts : List Font) (page : I
           let known = item_known nodes styles page x j in
           let given = given_names b.node known.entry s (ap (slice_get nodes) node ∙ known.node_is) f in
           let all = styled.names_above b.node given.0 given.1 in
-          let here = all_in (is_at_or_above nodes b.node) (named_nodes given.0) m all (subst (In m) given.2 i) in
+          let here = all_in (is_at_or_above nodes b.node) (named_nodes given.0) m all (subst (λ l. Contains l m) given.2 i) in
           let from = own_place_from items (page_arranged nodes styles page) x j in
           by_test x j node (omega (arith, from, place)) (m == b.node) refl here
 
@@ -195,7 +192,7 @@ module _ (nodes : List Node) (styles : List Style) (fonts : List Font) (page : I
       → (chars b.chars ≡ []) ⊎ ((q : ℕ) × (parent_in (tree_parents nodes) b.node ≡ Some q) × (s.size ≡ of_size.Same))
   texts at b s e f = by_box (page_box_is nodes styles page at b e)
     where
-      by_kind : (x : Item) → In x items → b ≡ own_box items x → (t : Bool) → is_chars b.kind ≡ t → (chars b.chars ≡ []) ⊎ ((q : ℕ) × (parent_in (tree_parents nodes) b.node ≡ Some q) × (s.size ≡ of_size.Same))
+      by_kind : (x : Item) → Contains items x → b ≡ own_box items x → (t : Bool) → is_chars b.kind ≡ t → (chars b.chars ≡ []) ⊎ ((q : ℕ) × (parent_in (tree_parents nodes) b.node ≡ Some q) × (s.size ≡ of_size.Same))
       by_kind x i k true c =
           let known = item_known nodes styles page x i in
           let node : b.node ≡ node_of x = ap (λ (c : BoxNode). c.node) k in
@@ -207,9 +204,9 @@ module _ (nodes : List Node) (styles : List Style) (fonts : List Font) (page : I
           let text : x.part.text ≡ [] = text_none x.part (item_part (page_parts nodes styles) x i) (ap (λ (c : BoxNode). is_chars c.kind) (sym k) ∙ c) in
           inl (ap (λ (c : BoxNode). chars c.chars) k ∙ (ap (λ cs. chars (encode_utf8_all cs)) text ∙ chars-nil))
         where
-          text_none : (p : Part) → In p (page_parts nodes styles) → is_chars p.kind ≡ false → p.text ≡ []
+          text_none : (p : Part) → Contains (page_parts nodes styles) p → is_chars p.kind ≡ false → p.text ≡ []
           text_none p i c =
-              let from = in_walk (replicate (length nodes) false) (shown_parts nodes (tree_styles nodes styles)) p (subst (In p) (sym (spaces_are nodes (tree_styles nodes styles) page)) i) in
+              let from = in_walk (replicate (length nodes) false) (shown_parts nodes (tree_styles nodes styles)) p (subst (λ l. Contains l p) (sym (spaces_are nodes (tree_styles nodes styles) page)) i) in
               by_sort from.0 from.2.0 from.2.1 (shown_fits nodes (tree_styles nodes styles) page from.0 from.1).text
             where
               by_sort : (q : Part) (keeps : Bool) → p ≡ squeezed_part keeps q → HasText q → p.text ≡ []

@@ -1,6 +1,6 @@
 -- What the walks need of the boxes of a page.
 use Rattle.std.proofs.lemmas.List.{length-replicate, get_or-replicate}
-use Rattle.std.proofs.Common.{◌≡◌, ℕ, zero, suc, ◌==◌, ◌<◌, ◌≤◌, Bool, true, false, not, List, [], find, length, replicate, IsTrue, Option, Some, None, option_and_then, slice_get, refl, sym, ◌∙◌, ap, subst, arith, if◌then◌else◌, inl, inr, ◌⊎◌, eqb-true, eq-eqb}
+use Rattle.std.proofs.Common.{◌≡◌, ℕ, zero, suc, ◌==◌, ◌<◌, ◌≤◌, Bool, true, false, not, List, [], find, length, replicate, IsTrue, Option, Some, None, option_and_then, slice_get, refl, sym, ◌∙◌, ap, subst, arith, if◌then◌else◌, inl, inr, ◌⊎◌, eqb-true, eq-eqb, Contains}
 use Rattle.std.specs.Option.{option_map_or}
 use Rattle.std.specs.Str.{chars}
 use Rattle.std.proofs.lemmas.Option.{slice_get_within}
@@ -16,7 +16,6 @@ use Rattle.viz_base.specs.declared.trees.Kind.TheVariants as of_kind
 use Rattle.layout_semantics.specs.Elements.{ancestors, parent_of}
 use Rattle.layout_semantics.specs.Parts.{Part, Level, container_of, is_inline_at, kind_of_node, level_of, shown_parts}
 use Rattle.layout_semantics.specs.WhiteSpace.{collapsed}
-use Rattle.layout_laws.proofs.Members.{In}
 use Rattle.layout_laws.proofs.Shown.{IsShownPart, from_shown, shown_rise}
 use Rattle.layout_laws.proofs.Above.{parent_is, ancestors_are}
 use Rattle.layout_laws.proofs.BoxContent.{upwards_within}
@@ -109,7 +108,7 @@ module _ (nodes : List Node) (styles : List Style) (page : IsPage nodes) where
       let root : is_element_at nodes 0 ≡ true = page.root in
       sym (ap (λ (o : Option Node). option_map_or (λ (m : Node). is_element m.body) o false) (ap (slice_get nodes) (sym zero_at) ∙ e)) ∙ root
 
-  pub shown_fits : (p : Part) → In p (shown_parts nodes styles) → Fits (length nodes) p
+  pub shown_fits : (p : Part) → Contains (shown_parts nodes styles) p → Fits (length nodes) p
   shown_fits p i =
       let k = from_shown nodes styles p i in
       let text_is : p.text ≡ chars (text_of k.entry.body) = ap (λ (q : Part). q.text) k.is in
@@ -145,14 +144,14 @@ module _ (nodes : List Node) (styles : List Style) (page : IsPage nodes) where
 
   -- ---- boxes that are left
 
-  pub parent_within : (p : Part) (q : ℕ) → In p (collapsed (shown_parts nodes styles)) → p.parent ≡ Some q → q < length nodes
+  pub parent_within : (p : Part) (q : ℕ) → Contains (collapsed (shown_parts nodes styles)) p → p.parent ≡ Some q → q < length nodes
   parent_within p q i e =
       let k = from_page nodes styles p i in
       let before = (parent_is nodes page p.node q (part_parent nodes styles page p k ∙ e)).0 in
       let here = slice_get_within nodes p.node k.entry k.node_is in
       omega (arith, before, here)
 
-  pub root_level : (p : Part) → In p (collapsed (shown_parts nodes styles)) → p.parent ≡ None → p.level ≡ Level.block
+  pub root_level : (p : Part) → Contains (collapsed (shown_parts nodes styles)) p → p.parent ≡ None → p.level ≡ Level.block
   root_level p i e =
       let k = from_page nodes styles p i in
       let alone : k.entry.parent ≡ None = sym (ap (λ (q : Part). q.parent) k.is) ∙ e in

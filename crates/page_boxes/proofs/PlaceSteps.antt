@@ -1,5 +1,6 @@
 -- The walk over boxes gives each the place that the definition does.
-use Rattle.std.proofs.Common.{◌≡◌, ◌≢◌, ℕ, suc, ◌+◌, ◌-◌, ◌==◌, ◌<◌, ◌≤◌, nat_lt, Bool, true, false, List, [], ◌∷◌, ◌++◌, map, flat_map, length, get_or, set, Option, Some, None, option_map, option_and_then, slice_get, IsTrue, refl, sym, ◌∙◌, ap, subst, arith, if◌then◌else◌, append_assoc, length-append, eq-eqb, length-set, get_or-set_same, get_or-set_other, ltb-true, inl, inr, ◌⊎◌}
+use Rattle.std.proofs.Common.{◌≡◌, ◌≢◌, ℕ, suc, ◌+◌, ◌-◌, ◌==◌, ◌<◌, ◌≤◌, nat_lt, Bool, true, false, List, [], ◌∷◌, ◌++◌, map, flat_map, length, get_or, set, Option, Some, None, option_map, option_and_then, slice_get, IsTrue, refl, sym, ◌∙◌, ap, subst, arith, if◌then◌else◌, append_assoc, length-append, eq-eqb, length-set, get_or-set_same, get_or-set_other, ltb-true, inl, inr, ◌⊎◌, Contains, ⊎_elim}
+use Rattle.std.proofs.lemmas.List.Elements.{Contains-append_right, Contains-push_cases}
 use Rattle.std.proofs.lemmas.Bool.{and_parts, cases_eq}
 use Rattle.std.proofs.lemmas.List.{map-append}
 use Rattle.std.specs.Option.{option_map_or}
@@ -8,14 +9,13 @@ use Rattle.viz_base.specs.Trees.{ascends}
 use Rattle.viz_base.specs.declared.nodes.Node.{Node}
 use Rattle.viz_base.specs.declared.styles.Style.{Style}
 use Rattle.viz_base.specs.declared.trees.BoxNode.{BoxNode}
-use Rattle.layout_semantics.specs.Order.{kids_of}
 use Rattle.layout_semantics.specs.Parts.{Part}
 use Rattle.layout_semantics.specs.BoxTrees.{Item, begins_run, box_count, boxes_at, boxes_before, first_of, items_of, outer_place, own_place, page_boxes, page_parts, with_anonymous}
-use Rattle.layout_laws.proofs.Members.{In, Rises, rises_from, to_map}
+use Rattle.layout_laws.proofs.Members.{Rises, rises_from, to_map, no_member, first_member, later_member, first_or_later}
 use Rattle.layout_laws.proofs.Places.{node_of, before_first, before_later, before_none}
 use Rattle.layout_laws.proofs.Kids.{IsArranged, counts, own_place_is}
 use Rattle.layout_laws.proofs.Nesting.{kids_ascend, kids_place}
-use Rattle.layout_laws.proofs.BoxLaws.{page_arranged, in_from}
+use Rattle.layout_laws.proofs.BoxLaws.{page_arranged}
 use Rattle.layout_laws.proofs.Whole.{in_its_box}
 use Rattle.page_boxes.specs.steps.Places.{bare_anonymous, bare_begun, bare_boxes, bare_own, begins, count_walk, outer_in, own_place_at, place_around, places_walk}
 use Rattle.page_boxes.proofs.KidSteps.{AreNested, bare}
@@ -42,36 +42,38 @@ counted (d ∷ done) = box_count d + counted done
 before_at : (low : ℕ) (done : List Item) (x : Item) (rest : List Item) → Rises low (map node_of (done ++ x ∷ rest)) → boxes_before (done ++ x ∷ rest) (node_of x) ≡ counted done
 before_at low [] x rest r = before_first x rest (node_of x) (omega arith) ∙ before_none (suc (node_of x)) rest (node_of x) r.1 (omega arith)
 before_at low (d ∷ done) x rest r =
-    let above = rises_from (suc (node_of d)) (map node_of (done ++ x ∷ rest)) (node_of x) r.1 (to_map node_of (done ++ x ∷ rest) x (in_right done x rest)) in
+    let above = rises_from (suc (node_of d)) (map node_of (done ++ x ∷ rest)) (node_of x) r.1 (to_map node_of (done ++ x ∷ rest) x (Contains-append_right done (x ∷ rest) x (first_member _ refl))) in
     before_later d (done ++ x ∷ rest) (node_of x) (omega (arith, above)) ∙ ap (λ k. box_count d + k) (before_at (suc (node_of d)) done x rest r.1)
-  where
-    in_right : (xs : List Item) (y : Item) (ys : List Item) → In y (xs ++ y ∷ ys)
-    in_right [] y ys = In.here
-    in_right (z ∷ xs) y ys = In.there (in_right xs y ys)
 
-in_before : (low : ℕ) (done : List Item) (x : Item) (rest : List Item) (y : Item) → Rises low (map node_of (done ++ x ∷ rest)) → In y (done ++ x ∷ rest) → node_of y < node_of x → In y done
-in_before low [] x rest _ r In.here l = absurd (omega (arith, l))
-in_before low [] x rest y r (In.there i) l = let above = rises_from (suc (node_of x)) (map node_of rest) (node_of y) r.1 (to_map node_of rest y i) in absurd (omega (arith, above, l))
-in_before low (d ∷ done) x rest _ r In.here l = In.here
-in_before low (d ∷ done) x rest y r (In.there i) l = In.there (in_before (suc (node_of d)) done x rest y r.1 i l)
+in_before : (low : ℕ) (done : List Item) (x : Item) (rest : List Item) (y : Item) → Rises low (map node_of (done ++ x ∷ rest)) → Contains (done ++ x ∷ rest) y → node_of y < node_of x → Contains done y
+in_before low [] x rest y r i l =
+    ⊎_elim
+    (λ e. absurd (omega (arith, l, ap node_of e)))
+    (λ j. let above = rises_from (suc (node_of x)) (map node_of rest) (node_of y) r.1 (to_map node_of rest y j) in absurd (omega (arith, above, l)))
+    (first_or_later x rest y i)
+in_before low (d ∷ done) x rest y r i l =
+    ⊎_elim (λ e. first_member done e) (λ j. later_member done (in_before (suc (node_of d)) done x rest y r.1 j l)) (first_or_later d (done ++ x ∷ rest) y i)
 
-in_upto : (low : ℕ) (done : List Item) (x : Item) (rest : List Item) (y : Item) → Rises low (map node_of (done ++ x ∷ rest)) → In y (done ++ x ∷ rest) → node_of y ≤ node_of x → In y (done ++ x ∷ [])
-in_upto low [] x rest _ r In.here l = In.here
-in_upto low [] x rest y r (In.there i) l = let above = rises_from (suc (node_of x)) (map node_of rest) (node_of y) r.1 (to_map node_of rest y i) in absurd (omega (arith, above, l))
-in_upto low (d ∷ done) x rest _ r In.here l = In.here
-in_upto low (d ∷ done) x rest y r (In.there i) l = In.there (in_upto (suc (node_of d)) done x rest y r.1 i l)
+in_upto : (low : ℕ) (done : List Item) (x : Item) (rest : List Item) (y : Item) → Rises low (map node_of (done ++ x ∷ rest)) → Contains (done ++ x ∷ rest) y → node_of y ≤ node_of x → Contains (done ++ x ∷ []) y
+in_upto low [] x rest y r i l =
+    ⊎_elim
+    (λ e. first_member [] e)
+    (λ j. let above = rises_from (suc (node_of x)) (map node_of rest) (node_of y) r.1 (to_map node_of rest y j) in absurd (omega (arith, above, l)))
+    (first_or_later x rest y i)
+in_upto low (d ∷ done) x rest y r i l =
+    ⊎_elim (λ e. first_member (done ++ x ∷ []) e) (λ j. later_member (done ++ x ∷ []) (in_upto (suc (node_of d)) done x rest y r.1 j l)) (first_or_later d (done ++ x ∷ rest) y i)
 
 -- ---- the boxes of one part
 
 module _ (items : List Item) (arranged : IsArranged items) where
   pub record TableIs (n : ℕ) (places : List ℕ) (done : List Item) : Type 0 where
     pub size : length places ≡ n
-    pub each : (y : Item) → In y done → get_or places (node_of y) 0 ≡ own_place items (node_of y)
+    pub each : (y : Item) → Contains done y → get_or places (node_of y) 0 ≡ own_place items (node_of y)
 
   pub table_start : (n : ℕ) (places : List ℕ) → length places ≡ n → TableIs n places []
-  table_start n places size = record { size = size; each = λ y i. elim i [ ] }
+  table_start n places size = record { size = size; each = λ y i. no_member i }
 
-  around_is : (n : ℕ) (places : List ℕ) (done : List Item) (x : Item) (rest : List Item) → items ≡ done ++ x ∷ rest → TableIs n places done → In x items → place_around places x.part.parent ≡ option_map (own_place items) x.part.parent
+  around_is : (n : ℕ) (places : List ℕ) (done : List Item) (x : Item) (rest : List Item) → items ≡ done ++ x ∷ rest → TableIs n places done → Contains items x → place_around places x.part.parent ≡ option_map (own_place items) x.part.parent
   around_is n places done x rest split table i = by_parent x.part.parent refl
     where
       by_parent : (o : Option ℕ) → x.part.parent ≡ o → option_map (λ node. get_or places node 0) o ≡ option_map (own_place items) o
@@ -79,29 +81,29 @@ module _ (items : List Item) (arranged : IsArranged items) where
       by_parent (Some q) e =
           let up = arranged.parents x q i e in
           let before : node_of up.parent < node_of x = let b = up.before in let s = up.node in omega (arith, b, s) in
-          let there = in_before 0 done x rest up.parent (subst (λ l. Rises 0 (map node_of l)) split arranged.rises) (subst (λ l. In up.parent l) split up.inside) before in
+          let there = in_before 0 done x rest up.parent (subst (λ l. Rises 0 (map node_of l)) split arranged.rises) (subst (λ l. Contains l up.parent) split up.inside) before in
           ap Some (ap (λ k. get_or places k 0) (sym up.node) ∙ (table.each up.parent there ∙ ap (own_place items) up.node))
 
-  place_is : (done : List Item) (x : Item) (rest : List Item) → items ≡ done ++ x ∷ rest → In x items → own_place_at (counted done) x.part (lead_of_run x.run) ≡ own_place items (node_of x)
+  place_is : (done : List Item) (x : Item) (rest : List Item) → items ≡ done ++ x ∷ rest → Contains items x → own_place_at (counted done) x.part (lead_of_run x.run) ≡ own_place items (node_of x)
   place_is done x rest split i =
       let before : boxes_before items (node_of x) ≡ counted done = ap (λ l. boxes_before l (node_of x)) split ∙ before_at 0 done x rest (subst (λ l. Rises 0 (map node_of l)) split arranged.rises) in
       ap (λ b. counted done + (if b then 1 else 0)) (begins_is x) ∙ (ap (λ k. k + (if begins_run x then 1 else 0)) (sym before) ∙ sym (own_place_is items arranged x i))
 
   -- a run begins with its least node
-  first_least : (run : List ℕ) (k : ℕ) → Rises 0 run → In k run → first_of run ≤ k
-  first_least [] k r i = elim i [ ]
-  first_least (f ∷ run) _ r In.here = omega arith
-  first_least (f ∷ run) k r (In.there i) = let above = rises_from (suc f) run k r.1 i in omega (arith, above)
+  first_least : (run : List ℕ) (k : ℕ) → Rises 0 run → Contains run k → first_of run ≤ k
+  first_least [] k r i = no_member i
+  first_least (f ∷ run) k r i =
+      ⊎_elim (λ e. omega (arith, e)) (λ j. let above = rises_from (suc f) run k r.1 j in omega (arith, above)) (first_or_later f run k i)
 
-  outer_is : ((x : Item) (run : List ℕ) → In x items → x.run ≡ Some run → In (node_of x) run) → (n : ℕ) (changed : List ℕ) (done : List Item) (p : Part) (run : Option (List ℕ)) (rest : List Item)
-      → items ≡ done ++ record { part = p; run = run } ∷ rest → TableIs n changed (done ++ record { part = p; run = run } ∷ []) → In (record { part = p; run = run }) items
+  outer_is : ((x : Item) (run : List ℕ) → Contains items x → x.run ≡ Some run → Contains run (node_of x)) → (n : ℕ) (changed : List ℕ) (done : List Item) (p : Part) (run : Option (List ℕ)) (rest : List Item)
+      → items ≡ done ++ record { part = p; run = run } ∷ rest → TableIs n changed (done ++ record { part = p; run = run } ∷ []) → Contains items (record { part = p; run = run })
       → outer_in changed (option_map (own_place items) p.parent) (lead_of_run run) ≡ outer_place items (record { part = p; run = run })
   outer_is holds n changed done p None rest split next i = refl
   outer_is holds n changed done p (Some run) rest split next i =
       let known = arranged.runs (record { part = p; run = Some run }) run i refl in
       let first = known.members (first_of run) known.first_in in
       let least = first_least run p.node known.rises (holds (record { part = p; run = Some run }) run i refl) in
-      let there = in_upto 0 done (record { part = p; run = Some run }) rest first.item (subst (λ l. Rises 0 (map node_of l)) split arranged.rises) (subst (λ l. In first.item l) split first.inside) (let s = first.node in omega (arith, s, least)) in
+      let there = in_upto 0 done (record { part = p; run = Some run }) rest first.item (subst (λ l. Rises 0 (map node_of l)) split arranged.rises) (subst (λ l. Contains l first.item) split first.inside) (let s = first.node in omega (arith, s, least)) in
       let begun : begins_run first.item ≡ true = ap (λ (o : Option (List ℕ)). option_map_or (λ r. first_of r == node_of first.item) o false) first.run_is ∙ eq-eqb (first_of run) (node_of first.item) (sym first.node) in
       let own : own_place items (node_of first.item) ≡ boxes_before items (node_of first.item) + 1 = own_place_is items arranged first.item first.inside ∙ ap (λ b. boxes_before items (node_of first.item) + (if b then 1 else 0)) begun in
       ap (λ k. Some (k - 1)) (ap (λ k. get_or changed k 0) (sym first.node) ∙ (next.each first.item there ∙ own))
@@ -133,33 +135,23 @@ module _ (items : List Item) (arranged : IsArranged items) where
   table_more : (n : ℕ) (places : List ℕ) (done : List Item) (x : Item) (place : ℕ) → TableIs n places done → node_of x < n → place ≡ own_place items (node_of x) → TableIs n (set places (node_of x) place) (done ++ x ∷ [])
   table_more n places done x place table l is = record {
     size = length-set places (node_of x) place ∙ table.size;
-    each = λ y i. by_place y (in_either done x y i) (cases_eq (node_of y) (node_of x));
+    each = λ y i. by_place y (Contains-push_cases done x y i) (cases_eq (node_of y) (node_of x));
   }
     where
-      in_either : (done : List Item) (x y : Item) → In y (done ++ x ∷ []) → In y done ⊎ (y ≡ x)
-      in_either [] x _ In.here = inr refl
-      in_either [] x y (In.there i) = elim i [ ]
-      in_either (d ∷ done) x _ In.here = inl In.here
-      in_either (d ∷ done) x y (In.there i) = by_rest (in_either done x y i)
-        where
-          by_rest : In y done ⊎ (y ≡ x) → In y (d ∷ done) ⊎ (y ≡ x)
-          by_rest (inl j) = inl (In.there j)
-          by_rest (inr e) = inr e
-
-      by_place : (y : Item) → In y done ⊎ (y ≡ x) → (node_of y ≡ node_of x) ⊎ (node_of y ≢ node_of x) → get_or (set places (node_of x) place) (node_of y) 0 ≡ own_place items (node_of y)
+      by_place : (y : Item) → Contains done y ⊎ (x ≡ y) → (node_of y ≡ node_of x) ⊎ (node_of y ≢ node_of x) → get_or (set places (node_of x) place) (node_of y) 0 ≡ own_place items (node_of y)
       by_place y j (inl e) =
           ap (λ k. get_or (set places (node_of x) place) k 0) e
           ∙ (get_or-set_same places (node_of x) place 0 (let s = table.size in omega (arith, l, s)) ∙ (is ∙ ap (own_place items) (sym e)))
       by_place y (inl j) (inr ne) = get_or-set_other places (node_of x) (node_of y) place 0 ne ∙ table.each y j
-      by_place y (inr e) (inr ne) = absurd (ne (ap node_of e))
+      by_place y (inr e) (inr ne) = absurd (ne (ap node_of (sym e)))
 
-  pub walk_is : ((x : Item) (run : List ℕ) → In x items → x.run ≡ Some run → In (node_of x) run) → (n : ℕ) → ((x : Item) → In x items → node_of x < n)
+  pub walk_is : ((x : Item) (run : List ℕ) → Contains items x → x.run ≡ Some run → Contains run (node_of x)) → (n : ℕ) → ((x : Item) → Contains items x → node_of x < n)
       → (places : List ℕ) (leads : List (Option ℕ)) (at : ℕ) (done rest : List Item) → items ≡ done ++ rest → TableIs n places done
       → ((j : ℕ) (x : Item) → slice_get rest j ≡ Some x → get_or leads (at + j) None ≡ lead_of_run x.run)
       → places_walk places (counted done) leads at (map part_of_item rest) ≡ map bare (flat_map (boxes_at items) rest)
   walk_is holds n within places leads at done [] split table known = refl
   walk_is holds n within places leads at done (x ∷ rest) split table known =
-      let i : In x items = subst (λ l. In x l) (sym split) (in_here done) in
+      let i : Contains items x = subst (λ l. Contains l x) (sym split) (Contains-append_right done (x ∷ rest) x (first_member _ refl)) in
       let zero_more : at + 0 ≡ at = omega arith in
       let lead : get_or leads at None ≡ lead_of_run x.run = ap (λ k. get_or leads k None) (sym zero_more) ∙ known 0 x refl in
       let place = place_is done x rest split i in
@@ -177,10 +169,6 @@ module _ (items : List Item) (arranged : IsArranged items) where
       ∙ (ap (λ o. (bare_begun x.part (lead_of_run x.run) (option_map (own_place items) x.part.parent) ++ bare_own x.part o ∷ []) ++ map bare (flat_map (boxes_at items) rest)) own
       ∙ (ap (λ l. l ++ map bare (flat_map (boxes_at items) rest)) (sym (bare_is x.part x.run))
       ∙ sym (map-append bare (boxes_at items x) (flat_map (boxes_at items) rest)))))))
-    where
-      in_here : (xs : List Item) → In x (xs ++ x ∷ rest)
-      in_here [] = In.here
-      in_here (y ∷ xs) = In.there (in_here xs)
 
   pub count_is : (leads : List (Option ℕ)) (at : ℕ) (rest : List Item) → ((j : ℕ) (x : Item) → slice_get rest j ≡ Some x → get_or leads (at + j) None ≡ lead_of_run x.run)
       → count_walk leads at (map part_of_item rest) ≡ length (flat_map (boxes_at items) rest)
@@ -205,9 +193,9 @@ pub page_nested : (nodes : List Node) (styles : List Style) → IsPage nodes →
 page_nested nodes styles page = record {
   rise = λ at b e. rises_of at b.kids (kids_ascend (items_of (page_parts nodes styles)) (page_arranged nodes styles page) at b e);
   name = λ at k b e i. kids_place (items_of (page_parts nodes styles)) (page_arranged nodes styles page) at b e k i;
-  inside = λ k at c e p. by_box k at (slice_get (page_boxes nodes styles) at) refl (in_from (kids_of (page_boxes nodes styles) at) k (in_its_box nodes styles page at k (ap (option_and_then (λ (x : BoxNode). x.parent)) e ∙ p)));
+  inside = λ k at c e p. by_box k at (slice_get (page_boxes nodes styles) at) refl (in_its_box nodes styles page at k (ap (option_and_then (λ (x : BoxNode). x.parent)) e ∙ p));
 }
   where
-    by_box : (k at : ℕ) (o : Option BoxNode) → slice_get (page_boxes nodes styles) at ≡ o → In k (option_map_or (λ (b : BoxNode). b.kids) o []) → (b : BoxNode) × (slice_get (page_boxes nodes styles) at ≡ Some b) × In k b.kids
-    by_box k at None e i = elim i [ ]
+    by_box : (k at : ℕ) (o : Option BoxNode) → slice_get (page_boxes nodes styles) at ≡ o → Contains (option_map_or (λ (b : BoxNode). b.kids) o []) k → (b : BoxNode) × (slice_get (page_boxes nodes styles) at ≡ Some b) × Contains b.kids k
+    by_box k at None e i = no_member i
     by_box k at (Some b) e i = (b, e, i)

@@ -1,5 +1,5 @@
 -- The walks over boxes find the first that reaches too far, as the definition does.
-use Rattle.std.proofs.Common.{◌≡◌, ◌≢◌, ℕ, zero, suc, ◌+◌, ◌*◌, ◌^◌, ◌<◌, ◌≤◌, nat_lt, Bool, true, false, cond, List, [], ◌∷◌, ◌++◌, map, sum, length, get_or, Option, Some, None, Result, Ok, Err, option_map, option_and_then, slice_get, position, refl, sym, ◌∙◌, ap, subst, arith, if◌then◌else◌, inl, inr, ◌⊎◌, ltb-true, lt-ltb, length-append, lit≤}
+use Rattle.std.proofs.Common.{◌≡◌, ◌≢◌, ℕ, zero, suc, ◌+◌, ◌*◌, ◌^◌, ◌<◌, ◌≤◌, nat_lt, Bool, true, false, cond, List, [], ◌∷◌, ◌++◌, map, sum, length, get_or, Option, Some, None, Result, Ok, Err, option_map, option_and_then, slice_get, position, refl, sym, ◌∙◌, ap, subst, arith, if◌then◌else◌, inl, inr, ◌⊎◌, ltb-true, lt-ltb, length-append, lit≤, Contains}
 use Rattle.std.specs.List.{enumerate_from, position_from}
 use Rattle.std.specs.Option.{option_map_or, option_or}
 use Rattle.std.specs.Str.{chars}
@@ -15,7 +15,6 @@ use Rattle.viz_base.specs.declared.styles.Style.{Style}
 use Rattle.viz_base.specs.declared.trees.BoxNode.{BoxNode}
 use Rattle.viz_base.specs.FontSizes.{font_size_in, parent_in}
 use Rattle.viz_base.specs.Reaches.{beyond_reach, box_extents, box_growth, is_of_element, node_of_place, own_extent, passes_most, quotient_up, ratio, reach_in, reach_to, reaches, sums, text_extent, total_extent, whole}
-use Rattle.layout_laws.proofs.Members.{In}
 use Rattle.layout_laws.proofs.FontSizes.{ParentsBefore}
 use Rattle.page_boxes.specs.steps.Extents.{capped, far_by, far_of, first_far, most, own_in, size_at, sum_walk, text_in}
 use Rattle.page_boxes.specs.steps.Tables.{held}
@@ -38,7 +37,7 @@ pub record AreKnown (styles : List Style) (parents : List (Option ℕ)) (fonts :
   pub styled : (at : ℕ) (b : BoxNode) → slice_get boxes at ≡ Some b → (s : Style) × (slice_get styles b.node ≡ Some s)
   pub fonts_there : (node : ℕ) (s : Style) → slice_get styles node ≡ Some s → (font : Font) × (slice_get fonts s.font ≡ Some font)
   pub above : (at q : ℕ) (b : BoxNode) → slice_get boxes at ≡ Some b → parent_in parents b.node ≡ Some q → HasBox boxes at q
-  pub named : (at m : ℕ) (b : BoxNode) (s : Style) → slice_get boxes at ≡ Some b → slice_get styles b.node ≡ Some s → is_of_element b.kind ≡ true → In m (named_nodes s) → (m ≡ b.node) ⊎ HasBox boxes at m
+  pub named : (at m : ℕ) (b : BoxNode) (s : Style) → slice_get boxes at ≡ Some b → slice_get styles b.node ≡ Some s → is_of_element b.kind ≡ true → Contains (named_nodes s) m → (m ≡ b.node) ⊎ HasBox boxes at m
   pub texts : (at : ℕ) (b : BoxNode) (s : Style) → slice_get boxes at ≡ Some b → slice_get styles b.node ≡ Some s → (chars b.chars ≡ []) ⊎ ((q : ℕ) × (parent_in parents b.node ≡ Some q) × (s.size ≡ of_size.Same))
   pub around : (at p : ℕ) (b : BoxNode) → slice_get boxes at ≡ Some b → b.parent ≡ Some p → p < at
 

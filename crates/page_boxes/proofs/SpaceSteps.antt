@@ -1,5 +1,5 @@
 -- The walk over boxes keeps the characters that the definition does.
-use Rattle.std.proofs.Common.{◌≡◌, ◌≢◌, ℕ, suc, ◌==◌, ◌<◌, ◌≤◌, Bool, true, false, not, List, [], ◌∷◌, ◌++◌, map, flat_map, zip, length, get_or, set, Option, Some, None, refl, sym, ◌∙◌, ap, arith, if◌then◌else◌, append_assoc, eq-eqb, eqb-true, length-set, get_or-set_same, get_or-set_other, inl, inr, ◌⊎◌, filter}
+use Rattle.std.proofs.Common.{◌≡◌, ◌≢◌, ℕ, suc, ◌==◌, ◌<◌, ◌≤◌, Bool, true, false, not, List, [], ◌∷◌, ◌++◌, map, flat_map, zip, length, get_or, set, Option, Some, None, refl, sym, ◌∙◌, ap, arith, if◌then◌else◌, append_assoc, eq-eqb, eqb-true, length-set, get_or-set_same, get_or-set_other, inl, inr, ◌⊎◌, filter, Contains}
 use Rattle.std.proofs.lemmas.Bool.{cases_eq}
 use Rattle.std.proofs.lemmas.Grind.{flat_map-append}
 use Rattle.std.specs.Option.{option_map_or}
@@ -9,7 +9,7 @@ use Rattle.viz_base.specs.declared.trees.Kind.TheVariants as of_kind
 use Rattle.layout_semantics.specs.Lists.{one_if}
 use Rattle.layout_semantics.specs.Parts.{Part, Level}
 use Rattle.layout_semantics.specs.WhiteSpace.{Thing, is_bare, is_in, is_white, keeps_white, stays, things_of, level_things, inline_things, things_in, letter_of, letters_of, collapsed}
-use Rattle.layout_laws.proofs.Members.{In, Rises, rises_from}
+use Rattle.layout_laws.proofs.Members.{Rises, rises_from, first_member, later_member, map_same, to_map}
 use Rattle.page_boxes.specs.steps.Spaces.{squeezed, squeezed_part, keeps_behind, keeps_behind_inline, keeps_behind_level, keeps_behind_part, spaces_walk}
 use Rattle.page_boxes.specs.steps.Tables.{held, put}
 
@@ -141,17 +141,8 @@ own_letters b p (inr h) = by_level p.level ∙ ap (squeezed (keeps_white b)) (sy
 
 -- ---- lists
 
-map_same : {A B : Type 0} (f g : A → B) (xs : List A) → ((x : A) → In x xs → f x ≡ g x) → map f xs ≡ map g xs
-map_same f g [] h = refl
-map_same f g (x ∷ xs) h = ap (λ y. y ∷ map f xs) (h x In.here) ∙ ap (λ ys. g x ∷ ys) (map_same f g xs (λ y i. h y (In.there i)))
-
 abbrev node_of : Part → ℕ
 node_of p = p.node
-
-in_nodes : (qs : List Part) (p : Part) → In p qs → In p.node (map node_of qs)
-in_nodes [] p i = elim i [ ]
-in_nodes (p ∷ qs) _ In.here = In.here
-in_nodes (q ∷ qs) p (In.there i) = In.there (in_nodes qs p i)
 
 other_number : (a b : ℕ) → a ≢ b → (a == b) ≡ false
 other_number a b ne = by_test (a == b) refl
@@ -161,15 +152,15 @@ other_number a b ne = by_test (a == b) refl
     by_test true e = absurd (ne (eqb-true a b e))
 
 -- no letters of a node where it is none of the boxes
-none_of : (node : ℕ) (b : Thing) (c : ℕ) (qs : List Part) → ((p : Part) → In p qs → (p.node == node) ≡ false) → letters_of node (left_behind b (things_in qs c)) ≡ []
+none_of : (node : ℕ) (b : Thing) (c : ℕ) (qs : List Part) → ((p : Part) → Contains qs p → (p.node == node) ≡ false) → letters_of node (left_behind b (things_in qs c)) ≡ []
 none_of node b c [] h = refl
-none_of node b c (q ∷ qs) h = by_test (is_in c q.container) (λ before. none_of node before c qs (λ p i. h p (In.there i)))
+none_of node b c (q ∷ qs) h = by_test (is_in c q.container) (λ before. none_of node before c qs (λ p i. h p (later_member _ i)))
   where
     by_test : (t : Bool) → ((before : Thing) → letters_of node (left_behind before (things_in qs c)) ≡ []) → letters_of node (left_behind b (flat_map things_of (if t then q ∷ filter (λ (p : Part). is_in c p.container) qs else filter (λ (p : Part). is_in c p.container) qs))) ≡ []
     by_test false rest = rest b
     by_test true rest =
         letters_left node b (things_of q) (things_in qs c)
-        ∙ (ap (λ l. l ++ letters_of node (left_behind (last_of b (things_of q)) (things_in qs c))) (other_part node b q (h q In.here))
+        ∙ (ap (λ l. l ++ letters_of node (left_behind (last_of b (things_of q)) (things_in qs c))) (other_part node b q (h q (first_member _ refl)))
         ∙ rest (last_of b (things_of q)))
 
 -- ---- the walk
@@ -192,7 +183,7 @@ record TableIs (n : ℕ) (table : List Bool) (before : ℕ → Thing) : Type 0 w
   size : length table ≡ n
   each : (c : ℕ) → c < n → get_or table c false ≡ keeps_white (before c)
 
-first_left : (n : ℕ) (table : List Bool) (before : ℕ → Thing) (q : Part) (qs : List Part) → TableIs n table before → Fits n q → ((p : Part) → In p qs → (p.node == q.node) ≡ false)
+first_left : (n : ℕ) (table : List Bool) (before : ℕ → Thing) (q : Part) (qs : List Part) → TableIs n table before → Fits n q → ((p : Part) → Contains qs p → (p.node == q.node) ≡ false)
     → left_part before (q ∷ qs) q ≡ squeezed_part (held table q.container false) q
 first_left n table before q qs is fits apart = ap (λ t. record q { text = t }) (by_container q.container refl)
   where
@@ -252,18 +243,18 @@ kept : (b : Bool) (p : Part) (rest : List Part) → one_if b p ++ rest ≡ (if b
 kept true p rest = refl
 kept false p rest = refl
 
-walk_is : (n low : ℕ) (table : List Bool) (before : ℕ → Thing) (qs : List Part) → TableIs n table before → Rises low (map node_of qs) → ((p : Part) → In p qs → Fits n p)
+walk_is : (n low : ℕ) (table : List Bool) (before : ℕ → Thing) (qs : List Part) → TableIs n table before → Rises low (map node_of qs) → ((p : Part) → Contains qs p → Fits n p)
     → spaces_walk table qs ≡ filter (λ p. not (is_bare p)) (map (left_part before qs) qs)
 walk_is n low table before [] is rises fits = refl
 walk_is n low table before (q ∷ qs) is rises fits =
-    let above : (p : Part) → In p qs → suc q.node ≤ p.node = λ p i. rises_from (suc q.node) (map node_of qs) p.node rises.1 (in_nodes qs p i) in
-    let first = first_left n table before q qs is (fits q In.here) (λ p i. other_number p.node q.node (λ e. let l = above p i in absurd (omega (arith, l, e)))) in
+    let above : (p : Part) → Contains qs p → suc q.node ≤ p.node = λ p i. rises_from (suc q.node) (map node_of qs) p.node rises.1 (to_map node_of qs p i) in
+    let first = first_left n table before q qs is (fits q (first_member _ refl)) (λ p i. other_number p.node q.node (λ e. let l = above p i in absurd (omega (arith, l, e)))) in
     let later = map_same (left_part before (q ∷ qs)) (left_part (moved before q) qs) qs (λ p i. later_left before q qs p (other_number q.node p.node (λ e. let l = above p i in absurd (omega (arith, l, e))))) in
-    let rest = walk_is n (suc q.node) _ (moved before q) qs (table_moved n table before q is (fits q In.here)) rises.1 (λ p i. fits p (In.there i)) in
+    let rest = walk_is n (suc q.node) _ (moved before q) qs (table_moved n table before q is (fits q (first_member _ refl))) rises.1 (λ p i. fits p (later_member _ i)) in
     ap (λ (r : Part). one_if (not (is_bare r)) r ++ spaces_walk (put table q.container (keeps_behind_part (held table q.container false) q)) qs) (sym first)
     ∙ (kept (not (is_bare (left_part before (q ∷ qs) q))) (left_part before (q ∷ qs) q) _
     ∙ ap (λ l. if not (is_bare (left_part before (q ∷ qs) q)) then left_part before (q ∷ qs) q ∷ l else l) (rest ∙ ap (filter (λ p. not (is_bare p))) (sym later)))
 
-pub spaces_walk_is : (n low : ℕ) (table : List Bool) (qs : List Part) → length table ≡ n → ((c : ℕ) → c < n → get_or table c false ≡ false) → Rises low (map (λ (p : Part). p.node) qs) → ((p : Part) → In p qs → Fits n p)
+pub spaces_walk_is : (n low : ℕ) (table : List Bool) (qs : List Part) → length table ≡ n → ((c : ℕ) → c < n → get_or table c false ≡ false) → Rises low (map (λ (p : Part). p.node) qs) → ((p : Part) → Contains qs p → Fits n p)
     → spaces_walk table qs ≡ collapsed qs
 spaces_walk_is n low table qs size none rises fits = walk_is n low table (λ c. Thing.edge) qs (record { size = size; each = none }) rises fits

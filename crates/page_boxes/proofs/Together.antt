@@ -1,6 +1,6 @@
 -- What the parts of the code come to together.
 use Rattle.std.proofs.lemmas.List.{length-replicate, get_or-replicate}
-use Rattle.std.proofs.Common.{◌≡◌, ℕ, suc, ◌+◌, ◌<◌, ◌≤◌, nat_lt, Bool, true, false, List, [], ◌∷◌, map, zip, length, replicate, get_or, Option, Some, None, Ok, Err, option_map, slice_get, refl, sym, ◌∙◌, ap, subst, arith, ltb-true}
+use Rattle.std.proofs.Common.{◌≡◌, ℕ, suc, ◌+◌, ◌<◌, ◌≤◌, nat_lt, Bool, true, false, List, [], ◌∷◌, map, zip, length, replicate, get_or, Option, Some, None, Ok, Err, option_map, slice_get, refl, sym, ◌∙◌, ap, subst, arith, ltb-true, Contains}
 use Rattle.std.specs.List.{enumerate_from}
 use Rattle.std.proofs.lemmas.Option.{slice_get_within, slice_get-map, get_or_from_slice_get}
 use Rattle.std.proofs.lemmas.List.FromFn.{length-enumerate_from}
@@ -18,7 +18,7 @@ use Rattle.viz_base.specs.Reaches.{beyond_reach}
 use Rattle.layout_semantics.specs.Refusals.{BoxRefusal, blocks_in_inlines, first_refusal, page_refusal, right_to_left_letters}
 use Rattle.layout_semantics.specs.WhiteSpace.{collapsed}
 use Rattle.layout_laws.specs.Styled.{AreStylesOf}
-use Rattle.layout_laws.proofs.Members.{In, Rises, from_map}
+use Rattle.layout_laws.proofs.Members.{Rises, from_map, first_member, later_member}
 use Rattle.layout_laws.proofs.Places.{node_of}
 use Rattle.layout_laws.proofs.PageParts.{from_page, page_rises}
 use Rattle.layout_laws.proofs.BoxFacts.{item_known}
@@ -53,11 +53,11 @@ length_styles nodes styles e =
 
 -- ---- how many boxes of nodes there are
 
-few_numbers : (low most : ℕ) (ns : List ℕ) → Rises low ns → ((n : ℕ) → In n ns → n < most) → low ≤ most → low + length ns ≤ most
+few_numbers : (low most : ℕ) (ns : List ℕ) → Rises low ns → ((n : ℕ) → Contains ns n → n < most) → low ≤ most → low + length ns ≤ most
 few_numbers low most [] r f l = omega (arith, l)
 few_numbers low most (n ∷ ns) r f l =
-    let here = f n In.here in
-    let rest = few_numbers (suc n) most ns r.1 (λ k i. f k (In.there i)) (omega (arith, here)) in
+    let here = f n (first_member _ refl) in
+    let rest = few_numbers (suc n) most ns r.1 (λ k i. f k (later_member _ i)) (omega (arith, here)) in
     let first = r.0 in
     omega (arith, rest, first)
 
@@ -68,7 +68,7 @@ few_parts nodes styles =
     let size = length_mapped (λ (p : Part). p.node) parts in
     omega (arith, few, size)
   where
-    within : (n : ℕ) → (p : Part) × In p (collapsed (shown_parts nodes styles)) × (p.node ≡ n) → n < length nodes
+    within : (n : ℕ) → (p : Part) × Contains (collapsed (shown_parts nodes styles)) p × (p.node ≡ n) → n < length nodes
     within n (p, i, e) = let k = from_page nodes styles p i in let l = slice_get_within nodes p.node k.entry k.node_is in omega (arith, l, e)
 
 -- ---- refusals of boxes of nodes
@@ -77,7 +77,7 @@ pub block_first : (nodes : List Node) (styles : List Style) → IsPage nodes →
     → block_in (inline_nodes (replicate (length nodes) false) parts) parts ≡ option_map (λ (p : Part). p.node) (slice_get (blocks_in_inlines parts) 0)
 block_first nodes styles page parts e =
     first_block 0 (length nodes) (replicate (length nodes) false) parts (subst (λ ps. Rises 0 (map (λ (p : Part). p.node) ps)) (sym e) (page_rises nodes styles)) (length-replicate (length nodes) false) (λ q l. get_or-replicate (length nodes) q false false l)
-    (λ p q i f. parent_within nodes styles page p q (subst (In p) e i) f)
+    (λ p q i f. parent_within nodes styles page p q (subst (λ l. Contains l p) e i) f)
 
 pub none_at_front : {A : Type 0} (xs : List A) → slice_get xs 0 ≡ None → xs ≡ []
 none_at_front [] e = refl
@@ -115,7 +115,7 @@ module _ (nodes : List Node) (styles : List Style) (page : IsPage nodes) where
   pub page_leads : leads_walk (replicate (length nodes) None) (with_blocks (replicate (length nodes) false) parts) (ahead_of (replicate (length nodes) false) parts) 0 parts ≡ leads
   page_leads = leads_are (length nodes) 0 parts (page_rises nodes (tree_styles nodes styles)) (λ p q i e. parent_within nodes (tree_styles nodes styles) page p q i e) (λ p i e. root_level nodes (tree_styles nodes styles) page p i e)
 
-  item_within : (x : Item) → In x (items_of parts) → node_of x < length nodes
+  item_within : (x : Item) → Contains (items_of parts) x → node_of x < length nodes
   item_within x i = let k = item_known nodes styles page x i in slice_get_within nodes (node_of x) k.entry k.node_is
 
   lead_known : (j : ℕ) (x : Item) → slice_get (items_of parts) j ≡ Some x → get_or leads (0 + j) None ≡ lead_of_run x.run
