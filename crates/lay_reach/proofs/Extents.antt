@@ -1,10 +1,10 @@
 -- The lengths and the font sizes of a small page are bounded.
-use Rattle.std.proofs.Common.{◌≡◌, ℕ, zero, suc, ◌+◌, ◌*◌, ◌^◌, ◌≤◌, true, ◌==◌, ℤ, unsigned_abs, List, [], ◌∷◌, ◌++◌, map, sum, Option, Some, None, IsTrue, slice_get, refl, sym, ap, ◌∙◌, subst, arith, mul-le-mul_left}
+use Rattle.std.proofs.Common.{◌≡◌, ℕ, zero, suc, ◌+◌, ◌*◌, ◌^◌, ◌≤◌, true, ◌==◌, ℤ, unsigned_abs, List, [], ◌∷◌, ◌++◌, map, sum, Option, Some, None, IsTrue, slice_get, refl, sym, ap, ◌∙◌, subst, arith, mul-le-mul_left, Contains}
 use Rattle.std.specs.Prelude.{if◌then◌else◌, ◌&&◌}
 use Rattle.std.specs.List.{list_all, AllByRecursion}
 use Rattle.std.specs.Option.{option_map_or, option_and_then, option_to_list}
 use Rattle.std.proofs.lemmas.Bool.Decides.{nat_tests}
-use Rattle.std.proofs.lemmas.List.Sums.{sum_by-cons}
+use Rattle.std.proofs.lemmas.List.Sums.{sum_by-cons, get_or-le-sum_by, sum-map}
 use Rattle.std.proofs.lemmas.List.Folds.{list_all-append}
 use Rattle.viz_base.specs.Trees.{has_box, has_element, is_element_box, is_chars, is_line, is_same_size, length_nodes, sides_nodes, maximum_nodes}
 use Rattle.viz_base.specs.Styles.{is_bounded, sides_of}
@@ -23,7 +23,7 @@ use Rattle.viz_base.specs.declared.worlds.World.{World}
 use Rattle.viz_calc.specs.State.{AllSmall}
 use Rattle.layout_semantics.specs.Lengths.{used}
 use Rattle.layout_semantics.proofs.Forest.{both}
-use Rattle.layout_laws.proofs.Members.{In, any_in, any_from}
+use Rattle.layout_laws.proofs.Members.{any_in, any_from, member_place}
 use Rattle.layout_laws.proofs.TreeFacts.{slice_in}
 use Rattle.layout_laws.proofs.PageParts.{slice_some}
 use Rattle.layout_laws.proofs.Reaching.{ratio_least, total_bounded}
@@ -52,10 +52,11 @@ pub record IsElementOf (tree : BoxTree) (k : ℕ) (x : BoxNode) (s : Style) : Ty
   pub style : slice_get tree.styles x.node ≡ Some s
   pub element : is_of_element x.kind ≡ true
 
-in_sum : {A : Type 0} (f : A → ℕ) (xs : List A) (x : A) → In x xs → f x ≤ sum (map f xs)
-in_sum f [] x i = elim i [ ]
-in_sum f (x ∷ xs) _ In.here = let all = sum_by-cons (λ (n : ℕ). n) (f x) (map f xs) in omega (arith, all)
-in_sum f (y ∷ xs) x (In.there i) = let all = sum_by-cons (λ (n : ℕ). n) (f y) (map f xs) in let rest = in_sum f xs x i in omega (arith, all, rest)
+in_sum : {A : Type 0} (f : A → ℕ) (xs : List A) (x : A) → Contains xs x → f x ≤ sum (map f xs)
+in_sum f xs x i =
+    let most = get_or-le-sum_by f xs i.0 x i.1 in
+    let all = sum-map f xs in
+    omega (arith, most, all, ap f i.2)
 
 at_least_once : (r x : ℕ) → 1 ≤ r → x ≤ r * x
 at_least_once r x l = let more : x * 1 ≤ x * r = mul-le-mul_left x l in omega (arith, more)
@@ -72,13 +73,13 @@ module _ (tree : BoxTree) (low : IsLowTree tree) (w : World) (small : w.s ≤ 25
       ap (λ is. if is then option_map_or (style_extent tree.styles tree.parents tree.fonts x) (slice_get tree.styles x.node) 0 else 0) b.element
       ∙ ap (λ o. option_map_or (style_extent tree.styles tree.parents tree.fonts x) o 0) b.style
 
-  pub own_low : (x : BoxNode) → In x tree.boxes → own_extent tree.styles tree.parents tree.fonts x ≤ 2 ^ 40
+  pub own_low : (x : BoxNode) → Contains tree.boxes x → own_extent tree.styles tree.parents tree.fonts x ≤ 2 ^ 40
   own_low x i =
       let total = low.total in
       let one = in_sum (λ (b : BoxNode). own_extent tree.styles tree.parents tree.fonts b + text_extent tree.styles tree.parents tree.fonts b) tree.boxes x i in
       omega (arith, total, one)
 
-  pub text_low : (x : BoxNode) → In x tree.boxes → text_extent tree.styles tree.parents tree.fonts x ≤ 2 ^ 40
+  pub text_low : (x : BoxNode) → Contains tree.boxes x → text_extent tree.styles tree.parents tree.fonts x ≤ 2 ^ 40
   text_low x i =
       let total = low.total in
       let one = in_sum (λ (b : BoxNode). own_extent tree.styles tree.parents tree.fonts b + text_extent tree.styles tree.parents tree.fonts b) tree.boxes x i in
@@ -94,7 +95,7 @@ module _ (tree : BoxTree) (low : IsLowTree tree) (w : World) (small : w.s ≤ 25
 
   -- ---- fonts
 
-  fonts_in : (x : BoxNode) → In x tree.boxes → (k : ℕ) (s : Style) → IsElementOf tree k x s → unsigned_abs (font_size_in tree.styles tree.parents w.s x.node) ≤ 2 ^ 40
+  fonts_in : (x : BoxNode) → Contains tree.boxes x → (k : ℕ) (s : Style) → IsElementOf tree k x s → unsigned_abs (font_size_in tree.styles tree.parents w.s x.node) ≤ 2 ^ 40
   fonts_in x i k s b =
       let own = own_low x i in
       let all = lengths-low k x s b in
@@ -105,20 +106,15 @@ module _ (tree : BoxTree) (low : IsLowTree tree) (w : World) (small : w.s ≤ 25
   pub style-of : (k : ℕ) (x : BoxNode) → slice_get tree.boxes k ≡ Some x → (s : Style) × (slice_get tree.styles x.node ≡ Some s)
   style-of k x e = slice_some tree.styles x.node (tree.ok.each k x e).node
 
-  place_of : {A : Type 0} (xs : List A) (x : A) → In x xs → (k : ℕ) × (slice_get xs k ≡ Some x)
-  place_of [] x i = elim i [ ]
-  place_of (x ∷ xs) _ In.here = (0, refl)
-  place_of (y ∷ xs) x (In.there i) = let p = place_of xs x i in (suc p.0, p.1)
-
   -- the element's box of a node that has one
   pub element-box : (node : ℕ) → IsTrue (has_element tree.boxes node) → (k : ℕ) × (x : BoxNode) × (s : Style) × IsElementOf tree k x s × (x.node ≡ node)
   element-box node t =
       let found = any_in (λ (b : BoxNode). is_of_element b.kind && (b.node == node)) tree.boxes t in
       let parts = both (is_of_element (found.0).kind) ((found.0).node == node) found.2 in
-      let place = place_of tree.boxes found.0 found.1 in
-      let style = style-of place.0 found.0 place.1 in
+      let place = member_place tree.boxes found.0 found.1 in
+      let style = style-of (found.1).0 found.0 place in
       let same : (found.0).node ≡ node = grind (arith, nat_tests, parts.1) in
-      (place.0, found.0, style.0, record { place = place.1; style = style.1; element = parts.0 }, same)
+      ((found.1).0, found.0, style.0, record { place = place; style = style.1; element = parts.0 }, same)
 
   element-font : (node : ℕ) → IsTrue (has_element tree.boxes node) → unsigned_abs (font_size_in tree.styles tree.parents w.s node) ≤ 2 ^ 40
   element-font node t =
@@ -166,9 +162,9 @@ module _ (tree : BoxTree) (low : IsLowTree tree) (w : World) (small : w.s ≤ 25
   pub font-low : (node : ℕ) → IsTrue (has_box tree.boxes node) → unsigned_abs (font_size_in tree.styles tree.parents w.s node) ≤ 2 ^ 40
   font-low node t =
       let found = any_in (λ (b : BoxNode). b.node == node) tree.boxes t in
-      let place = place_of tree.boxes found.0 found.1 in
+      let place = member_place tree.boxes found.0 found.1 in
       let same : (found.0).node ≡ node = grind (arith, nat_tests, found.2) in
-      subst (λ n. unsigned_abs (font_size_in tree.styles tree.parents w.s n) ≤ 2 ^ 40) same (box-font place.0 found.0 (found.0).kind place.1 refl)
+      subst (λ n. unsigned_abs (font_size_in tree.styles tree.parents w.s n) ≤ 2 ^ 40) same (box-font (found.1).0 found.0 (found.0).kind place refl)
 
   pub sizes-small : (levels node : ℕ) → IsTrue (has_box tree.boxes node) → AllSmall (size_way_to levels tree.styles tree.parents w.s node)
   unfolding size_way_to

@@ -20,18 +20,13 @@ use Rattle.layout_semantics.specs.Fonts.{font_size, line_height, ascent, descent
 use Rattle.layout_semantics.specs.Lengths.{used}
 use Rattle.layout_semantics.specs.LineHeights.{half_leading, inline_extent}
 use Rattle.layout_semantics.proofs.Forest.{both}
-use Rattle.layout_laws.proofs.Members.{In, any_in}
+use Rattle.layout_laws.proofs.Members.{any_in, member_place}
 use Rattle.lay_length.specs.Ways.{part_way, line_way, used_way}
 use Rattle.lay_line.specs.Fits.{InlineFits, FontFits}
 use Rattle.lay_reach.proofs.Extents.{IsLowTree, sizes-small}
 use Rattle.lay_reach.proofs.Numbers.{size-+, size--, size-floor}
 use Rattle.page_limits.proofs.HeightsFonts.{font_cost, box-cost}
 use Rattle.page_limits.proofs.InlinesFonts.{fonts-within}
-
-place-of : {A : Type 0} (xs : List A) (x : A) → In x xs → (k : ℕ) × (slice_get xs k ≡ Some x)
-place-of [] x i = elim i [ ]
-place-of (x ∷ xs) _ In.here = (0, refl)
-place-of (y ∷ xs) x (In.there i) = let p = place-of xs x i in (suc p.0, p.1)
 
 -- a node that has a box, and several that do
 abbrev pub IsBoxed : BoxTree → ℕ → Type 0
@@ -102,9 +97,9 @@ module _ (tree : BoxTree) (low : IsLowTree tree) (w : World) (small : w.s ≤ 25
   node-cost : (node : ℕ) → IsBoxed tree node → font_cost tree low w small node ≤ 2 ^ 40
   node-cost node t =
       let found = any_in (λ (b : BoxNode). b.node == node) tree.boxes t in
-      let place = place-of tree.boxes found.0 found.1 in
+      let place = member_place tree.boxes found.0 found.1 in
       let same : (found.0).node ≡ node = grind (arith, nat_tests, found.2) in
-      let cost = box-cost tree low w small place.0 found.0 place.1 in
+      let cost = box-cost tree low w small (found.1).0 found.0 place in
       subst (λ (n : ℕ). font_cost tree low w small n ≤ 2 ^ 40) same (omega (arith, cost))
 
   pub node-low : (node : ℕ) → IsBoxed tree node → IsNodeLow node
