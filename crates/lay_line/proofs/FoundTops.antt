@@ -5,7 +5,8 @@ use Rattle.layout_semantics.specs.Extremes.{least_from}
 use Rattle.layout_semantics.specs.Floats.{FloatBox, candidate_tops}
 use Rattle.layout_semantics.specs.LineHeights.{InlineContext}
 use Rattle.layout_semantics.specs.LineFilling.{least_or, line_top}
-use Rattle.lay_line.specs.steps.Tops.{with_top, with_float, top_or, may_stand, top_found}
+use Rattle.layout_laws.specs.Standing.{may_stand}
+use Rattle.lay_line.specs.steps.Tops.{with_top, with_float, top_or, top_found}
 
 least-more : (a b : ℤ) (xs : List ℤ) → least_from (int_min b a) xs ≡ int_min b (least_from a xs)
 least-more a b [] = refl

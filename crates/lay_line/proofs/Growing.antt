@@ -1,5 +1,6 @@
 -- One line after another stays within the room that all have.
 use Rattle.std.proofs.Common.{◌≡◌, ℕ, suc, ◌+◌, ◌*◌, ◌<◌, ◌≤◌, ◌^◌, ℤ, pos, ◌+ℤ◌, Bool, true, false, cond, List, [], ◌∷◌, ◌++◌, length, take, drop, refl, sym, subst, ap, ◌∙◌, append_assoc, append-nil, arith}
+use Rattle.std.proofs.Math.Seq.{take-append_seam}
 use Rattle.std.specs.Int.{int_max}
 use Rattle.std.proofs.lemmas.Int.{ints}
 use Rattle.std.proofs.lemmas.List.{length-append, take-append-drop}
@@ -22,7 +23,7 @@ use Rattle.lay_line.specs.steps.Meeting.{Slot, placed_all}
 use Rattle.lay_line.specs.steps.Words.{strut_in}
 use Rattle.lay_line.proofs.Filling.{weight_joined, held_grows, bare_joined, boxes_joined}
 use Rattle.lay_line.proofs.Growth.{MetFits, LoadFits, floats_more, reach_joined, all_placed, as_places, all_met, items_high, boxes_high, top_in_within, all_loaded}
-use Rattle.lay_line.proofs.Parts.{take-front, taken-front}
+use Rattle.lay_line.proofs.Parts.{taken-front}
 use Rattle.lay_line.proofs.Placing.{max_within, all_half}
 
 -- ---- lists
@@ -151,7 +152,7 @@ module _ (c : InlineContext) (tall : ℤ) (now : SoFar) (first : List Measured) 
       ∙ reach_joined c (float_boxes (bare items)) (float_boxes (bare (joined_parts full.1))))
 
   begun_again : take (length now.floats) full.0.met.floats ≡ now.floats
-  begun_again = ap (take (length now.floats)) full_fits.met.front ∙ take-front now.floats full_fits.met.more
+  begun_again = ap (take (length now.floats)) full_fits.met.front ∙ take-append_seam now.floats full_fits.met.more
 
   -- what the calls of a line ask
   pub top_room : RoomFits c before.floats now.y tall

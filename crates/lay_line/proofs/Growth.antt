@@ -27,7 +27,6 @@ use Rattle.lay_line.specs.steps.Words.{size_in, spot_in, floats_with, reach_in}
 use Rattle.std.proofs.Common.{inl, inr}
 use Rattle.layout_laws.proofs.Among.{among, contains}
 use Rattle.lay_line.proofs.Filling.{weight_joined, held_grows, bare_joined, boxes_joined}
-use Rattle.lay_line.proofs.FloatSteps.{tops}
 use Rattle.lay_line.proofs.Placing.{Within, max_within, IsNear, more_within, spot_near, grown_within, top_within}
 
 -- ---- floats
@@ -83,7 +82,7 @@ module _ (c : InlineContext) (total : ℕ) (limit : total ≤ 2 ^ 99) (old : Lis
       spot = float_at met.floats side size c.cb top
 
       top_is : Within p.most top
-      top_is = subst (Within p.most) (tops least y (lowest_bottom clear met.floats)) (top_within p.most met.floats clear least y p.floats p.numbers.1.1.0 p.numbers.1.1.1.0)
+      top_is = top_within p.most met.floats clear least y p.floats p.numbers.1.1.0 p.numbers.1.1.1.0
 
       one : List FloatBox
       one = placed_float side size spot ∷ []

@@ -5,12 +5,13 @@ use Rattle.layout_semantics.specs.Floats.{FloatBox}
 use Rattle.layout_semantics.specs.InlineContent.{Item, float_boxes, makes_line, content}
 use Rattle.layout_semantics.specs.Stretches.{stretches, what_stays}
 use Rattle.layout_semantics.specs.Fragments.{set_out}
-use Rattle.layout_semantics.specs.LineHeights.{InlineContext, line_extent, height_of_extent, extended_boxes, tallest}
+use Rattle.layout_semantics.specs.LineHeights.{InlineContext, LineExtent, line_extent, height_of_extent, extended_boxes, tallest}
 use Rattle.layout_semantics.specs.LineFilling.{Met, Line, place_each, line_top, before_line, item_width, width_held, first_items, met_after, stretches_held}
 use Rattle.layout_semantics.specs.Lines.{SoFar, LaidLines, LineList, before_all, next_line, laid_line, laid_no_line, laid_stretches, laid_next, followed, go_on, lines_to, lines_in}
 use Rattle.lay_line.specs.steps.Held.{nothing_held, with_items}
 use Rattle.lay_line.specs.steps.Filling.{Filled, first_filled, filled}
-use Rattle.lay_line.specs.steps.Laying.{tallest_of, none_met, left_of, line_from, laid, laid_empty, line_closed, line_step, laid_to, lines_by_steps}
+use Rattle.lay_line.specs.steps.Laying.{tallest_of, left_of, line_from, laid, laid_empty, line_closed, line_step, laid_to, lines_by_steps}
+use Rattle.lay_line.specs.steps.Lining.{no_floats}
 use Rattle.lay_line.specs.steps.Staying.{stand}
 use Rattle.lay_line.proofs.Stands.{stand-same}
 use Rattle.lay_line.proofs.Lasts.{solid-same}
@@ -36,13 +37,17 @@ module _ (c : InlineContext) (now : SoFar) (line : Line) where
       met : Met
       met = met_after c line n
 
-      full : laid c now line met f.extent f.opened f.held.width (stand c (left_of c line met f.held.width) false f.span.solid items) ≡ laid_line c now line items met
-      full =
-          ap (laid c now line met f.extent f.opened f.held.width) (ap (λ k. stand c (left_of c line met f.held.width) false k items) (solid-same items) ∙ stand-same c (left_of c line met f.held.width) items)
-          ∙ (ap (λ e. laid c now line met e f.opened f.held.width (set_out c (left_of c line met f.held.width) (what_stays items))) (sym (extent-same c now.opened items))
-          ∙ ap (λ w. laid c now line met (line_extent c (now.opened ++ extended_boxes items)) f.opened w (set_out c (left_of c line met w) (what_stays items))) (sym (width-same c items)))
+      -- reaching so far and so wide
+      shaped : LineExtent → ℤ → Filled
+      shaped e w = record f { extent = e; held = record f.held { width = w } }
 
-      by : (b : Bool) → with_rest n (cond b (laid c now line met f.extent f.opened f.held.width (stand c (left_of c line met f.held.width) false f.span.solid items)) (laid_empty c now f.opened items))
+      full : laid c now line f (stand c (left_of c line met f.held.width) false f.span.solid items) ≡ laid_line c now line items met
+      full =
+          ap (laid c now line f) (ap (λ k. stand c (left_of c line met f.held.width) false k items) (solid-same items) ∙ stand-same c (left_of c line met f.held.width) items)
+          ∙ (ap (λ (e : LineExtent). laid c now line (shaped e f.held.width) (set_out c (left_of c line met f.held.width) (what_stays items))) (sym (extent-same c now.opened items))
+          ∙ ap (λ (w : ℤ). laid c now line (shaped (line_extent c (now.opened ++ extended_boxes items)) w) (set_out c (left_of c line met w) (what_stays items))) (sym (width-same c items)))
+
+      by : (b : Bool) → with_rest n (cond b (laid c now line f (stand c (left_of c line met f.held.width) false f.span.solid items)) (laid_empty c now f.opened items))
           ≡ with_rest n (elim b as (λ (x : Bool). LaidLines) [ true ↦ laid_line c now line items met | false ↦ laid_no_line c now items ])
       by true = ap (with_rest n) full
       by false = refl
@@ -52,7 +57,7 @@ line-same : (c : InlineContext) (tall : ℤ) (now : SoFar) (first : List Item) (
 line-same c tall now first parts width e = ap (made width) (top-same c before.floats now.y tall width) ∙ ap (λ w. made w (line_top c before.floats now.y tall w)) (sym e)
   where
     before : Met
-    before = place_each c now.least now.y (none_met now.floats) (float_boxes (before_line c.tree first))
+    before = place_each c now.least now.y (no_floats now.floats) (float_boxes (before_line c.tree first))
 
     made : ℤ → ℤ → Line
     made w top = record { top = top; tall = tall; least = now.least; before = before; parts = parts }

@@ -3,7 +3,7 @@ use Rattle.std.proofs.Common.{◌≡◌, ℕ, zero, suc, ◌≤◌, ℤ, ◌+ℤ
 use Rattle.std.specs.Prelude.{◌&&◌}
 use Rattle.std.specs.Int.{int_max}
 use Rattle.std.proofs.lemmas.List.{length-map, length-drop}
-use Rattle.layout_semantics.specs.Floats.{FloatBox, band_at}
+use Rattle.layout_semantics.specs.Floats.{FloatBox}
 use Rattle.layout_semantics.specs.InlineContent.{Item, float_boxes, content}
 use Rattle.layout_semantics.specs.Stretches.{may_part}
 use Rattle.layout_semantics.specs.LineHeights.{InlineContext, LineExtent, height_of_extent, strut}
@@ -12,7 +12,7 @@ use Rattle.layout_semantics.specs.Fragments.{ItemPlace, float_entries}
 use Rattle.layout_semantics.specs.Lines.{SoFar, LaidLines, LineList, before_all, followed, lines_in}
 use Rattle.lay_line.specs.steps.Filling.{Filled, with_stretch, first_filled, takes, past, filled, extent_at_start}
 use Rattle.lay_line.specs.steps.Held.{Held, nothing_held, with_items}
-use Rattle.lay_line.specs.steps.Laying.{tallest_of, none_met, left_of, line_from, line_added, laid, laid_empty, line_step, laid_to}
+use Rattle.lay_line.specs.steps.Laying.{tallest_of, left_of, line_from, line_added, laid, laid_empty, line_step, laid_to}
 use Rattle.lay_line.specs.steps.Loading.{Load, bare, ahead, reaching_boxes, loaded, loading, tallest_by}
 use Rattle.lay_line.specs.steps.Lining.{no_floats, met_before, slot_for, first_load, left_in, places_of, entries_in, box_in, full_line, empty_line, ended_line, joined_parts, taken, next_in, going_on, laying, lined}
 use Rattle.lay_line.specs.steps.Marks.{marks, marked_parts}
@@ -130,11 +130,11 @@ module _ (c : InlineContext) (now : SoFar) (line : Line) (f : Filled) (xs : List
   abbrev full_with : Met → List ItemPlace → LaidLines
   full_with late places = record {
     after = record { y = line.top +ℤ height_of_extent f.extent; least = int_max now.least line.top; floats = late.floats; opened = f.opened; baseline = Some (line.top +ℤ f.extent.above) };
-    entries = line_added c now line f.extent f.held.width (band_at f.met.floats c.cb line.top line.tall) (left_of c line f.met f.held.width) places late;
+    entries = line_added c now line f places late;
   }
 
   full-same : full_line c now (slot_of line) (load_of f) (measured (item_width c) xs)
-      ≡ laid c now line f.met f.extent f.opened f.held.width (stand c (left_of c line f.met f.held.width) false solid xs)
+      ≡ laid c now line f (stand c (left_of c line f.met f.held.width) false solid xs)
   unfolding full_line left_in entries_in box_in room_in
   full-same =
       let late : Met = record { spots = f.met.spots; floats = f.met.floats; waiting = [] } in
@@ -150,14 +150,14 @@ module _ (c : InlineContext) (now : SoFar) (line : Line) (f : Filled) (xs : List
   empty-same g =
       ap (λ fs. empty_with (placed_all c now.least now.y (no_floats fs) (float_boxes (bare (measured (item_width c) xs))))) (grows-front now.floats f.met.floats g)
       ∙ (ap (λ l. empty_with (placed_all c now.least now.y (no_floats now.floats) (float_boxes l))) (bare-measured (item_width c) xs)
-      ∙ ap empty_with (placed-same c now.least now.y (none_met now.floats) (float_boxes xs)))
+      ∙ ap empty_with (placed-same c now.least now.y (no_floats now.floats) (float_boxes xs)))
 
   ended-same : Grows now.floats f.met.floats → ended_line c now (slot_of line) (load_of f) (measured (item_width c) xs)
-      ≡ cond f.is_line (laid c now line f.met f.extent f.opened f.held.width (stand c (left_of c line f.met f.held.width) false solid xs)) (laid_empty c now f.opened xs)
+      ≡ cond f.is_line (laid c now line f (stand c (left_of c line f.met f.held.width) false solid xs)) (laid_empty c now f.opened xs)
   unfolding ended_line
   ended-same g =
       ap (λ l. cond f.is_line l (empty_line c now (load_of f) (measured (item_width c) xs))) full-same
-      ∙ ap (cond f.is_line (laid c now line f.met f.extent f.opened f.held.width (stand c (left_of c line f.met f.held.width) false solid xs))) (empty-same g)
+      ∙ ap (cond f.is_line (laid c now line f (stand c (left_of c line f.met f.held.width) false solid xs))) (empty-same g)
 
 module _ (c : InlineContext) (tall : ℤ) (now : SoFar) (first : List Item) (rest : List (List Item)) where
   abbrev w : Item → ℤ
@@ -167,7 +167,7 @@ module _ (c : InlineContext) (tall : ℤ) (now : SoFar) (first : List Item) (res
   held = with_items w nothing_held first
 
   abbrev before : Met
-  before = place_each c now.least now.y (none_met now.floats) (float_boxes (before_line c.tree first))
+  before = place_each c now.least now.y (no_floats now.floats) (float_boxes (before_line c.tree first))
 
   abbrev line : Line
   line = line_from c tall now first (first ∷ rest) held.width
@@ -183,7 +183,7 @@ module _ (c : InlineContext) (tall : ℤ) (now : SoFar) (first : List Item) (res
   before-same =
       ap (λ l. placed_all c now.least now.y (no_floats now.floats) (float_boxes (take (ahead c l) l))) (bare-measured w first)
       ∙ (ap (λ l. placed_all c now.least now.y (no_floats now.floats) (float_boxes l)) (ahead-same c first)
-      ∙ placed-same c now.least now.y (none_met now.floats) (float_boxes (before_line c.tree first)))
+      ∙ placed-same c now.least now.y (no_floats now.floats) (float_boxes (before_line c.tree first)))
 
   slot-same : slot_for c tall now before held.width ≡ slot_of line
   slot-same = ap (λ t. slot_at t) (top-same c before.floats now.y tall held.width)
@@ -203,7 +203,7 @@ module _ (c : InlineContext) (tall : ℤ) (now : SoFar) (first : List Item) (res
       ∙ loaded-same c line (nothing_with (extent_at_start c now.opened)) first (float_boxes (from_line_on c.tree first)) held))
 
   begun-grows : Grows now.floats begun.met.floats
-  begun-grows = grows-then now.floats before.floats begun.met.floats (placed-grows c now.least now.y (none_met now.floats) (float_boxes (before_line c.tree first)))
+  begun-grows = grows-then now.floats before.floats begun.met.floats (placed-grows c now.least now.y (no_floats now.floats) (float_boxes (before_line c.tree first)))
       (met-grows c line held.width before (float_boxes (from_line_on c.tree first)))
 
   full-grows : Grows now.floats full.met.floats
@@ -242,7 +242,7 @@ module _ (c : InlineContext) (tall : ℤ) (now : SoFar) (first : List Item) (res
       ∙ (ap (λ l. of_loaded (slot_of line) (load_of full, map m l)) (sym (left-same c line begun parts rest refl))
       ∙ (ap (λ xs. (ended_line c now (slot_of line) (load_of full) xs, map m (drop full.count parts))) (items-same full.count)
       ∙ (ap (λ l. paired l (drop full.count parts)) (ended-same c now line full (first_items line full.count) full-grows)
-      ∙ ap (λ k. paired (cond full.is_line (laid c now line full.met full.extent full.opened full.held.width (stand c (left_of c line full.met full.held.width) false k (first_items line full.count)))
+      ∙ ap (λ k. paired (cond full.is_line (laid c now line full (stand c (left_of c line full.met full.held.width) false k (first_items line full.count)))
       (laid_empty c now full.opened (first_items line full.count))) (drop full.count parts)) (sym span-same))))))))
     where
       of_loaded : Slot → Load × List (List Measured) → LaidLines × List (List Measured)

@@ -1,5 +1,6 @@
 -- Lists in the parts that marks make.
 use Rattle.std.proofs.Common.{◌≡◌, ℕ, zero, suc, ◌+◌, ◌-◌, ◌≤◌, ◌<◌, ℤ, Bool, true, false, List, [], ◌∷◌, ◌++◌, map, flat_map, length, take, drop, Option, Some, None, option_map, refl, sym, ap, ◌∙◌, append_assoc, append-nil, subst, arith}
+use Rattle.std.proofs.Math.Seq.{take-append_seam}
 use Rattle.std.specs.List.{onto_first}
 use Rattle.std.proofs.lemmas.List.{length-append, length-drop}
 use Rattle.layout_semantics.specs.InlineContent.{Item}
@@ -51,12 +52,8 @@ parts-few (x ∷ xs) (m ∷ marks) = let one = parted-few x m (parts_of xs marks
 
 -- ---- a beginning by what is left
 
-pub take-front : {A : Type 0} (a b : List A) → take (length a) (a ++ b) ≡ a
-take-front [] b = refl
-take-front (x ∷ a) b = ap (λ l. x ∷ l) (take-front a b)
-
 pub taken-front : (a b : List Measured) → taken (a ++ b) b ≡ a
-taken-front a b = let all = length-append a b in let n : length (a ++ b) - length b ≡ length a = omega (arith, all) in ap (λ k. take k (a ++ b)) n ∙ take-front a b
+taken-front a b = let all = length-append a b in let n : length (a ++ b) - length b ≡ length a = omega (arith, all) in ap (λ k. take k (a ++ b)) n ∙ take-append_seam a b
 
 pub joined-split : {A : Type 0} (n : ℕ) (parts : List (List A)) → flat_map (λ part. part) parts ≡ flat_map (λ part. part) (take n parts) ++ flat_map (λ part. part) (drop n parts)
 joined-split zero parts = refl

@@ -9,12 +9,13 @@ use Rattle.layout_semantics.specs.InlineContent.{Item, start, finish, word, spac
 use Rattle.layout_semantics.specs.LineHeights.{InlineContext, LineExtent, strut}
 use Rattle.layout_semantics.specs.LineFilling.{Met, Line, fits, meet, none_waits, leaves_room, line_spot, with_spot, with_waiting, place_each, item_width, before_line, from_line_on}
 use Rattle.layout_semantics.specs.Lines.{opened_after}
+use Rattle.layout_laws.specs.Standing.{may_stand}
 use Rattle.lay_line.specs.steps.Held.{Held, with_items}
 use Rattle.lay_line.specs.steps.Filling.{Filled, with_stretch, takes, past, filled, with_item_box, with_box, extent_at_start}
 use Rattle.lay_line.specs.steps.Loading.{Load, bare, with_reach, reaching, reaching_boxes, opened_by, has_forced, has_maker, loaded, takes_more, loading, ahead_by, ahead}
 use Rattle.lay_line.specs.steps.Measured.{Measured, measured}
 use Rattle.lay_line.specs.steps.Meeting.{Slot, placed_next, placed_all, met_next, met_all, stands_at, top_in}
-use Rattle.lay_line.specs.steps.Tops.{lower, with_float, top_or, may_stand, top_found}
+use Rattle.lay_line.specs.steps.Tops.{lower, with_float, top_or, top_found}
 use Rattle.lay_line.specs.steps.Words.{own_reach, raised, reach_in, strut_in, makes, spot_in, floats_with, room_in}
 use Rattle.lay_line.proofs.Fills.{drop-next}
 use Rattle.lay_line.proofs.Measures.{held-same}

@@ -1,5 +1,5 @@
 -- How far floats of lines can come to stand.
-use Rattle.std.proofs.Common.{◌≡◌, ℕ, ◌+◌, ◌≤◌, ◌^◌, ℤ, ◌+ℤ◌, ◌-ℤ◌, Bool, true, false, cond, int_lt, unsigned_abs, List, [], ◌∷◌, ◌++◌, map, filter, Option, Some, None, IsTrue, refl, sym, subst, inl, inr, ◌⊎◌, arith}
+use Rattle.std.proofs.Common.{◌≡◌, ℕ, ◌+◌, ◌≤◌, ◌^◌, ℤ, ◌+ℤ◌, ◌-ℤ◌, Bool, true, false, cond, int_lt, unsigned_abs, List, [], ◌∷◌, ◌++◌, map, filter, None, Some, IsTrue, sym, subst, inl, inr, ◌⊎◌, arith}
 use Rattle.std.specs.Prelude.{unwrap_or}
 use Rattle.std.specs.Int.{int_max}
 use Rattle.std.proofs.lemmas.Int.{ints, clamps}
@@ -10,7 +10,7 @@ use Rattle.viz_base.specs.declared.styles.Clear.{Clear}
 use Rattle.viz_base.specs.declared.styles.Side.{Side}
 use Rattle.viz_base.specs.declared.styles.Side.TheVariants as of_side
 use Rattle.layout_semantics.specs.Extremes.{greatest_from}
-use Rattle.layout_semantics.specs.Floats.{FloatBox, is_left, beside, is_next_to, is_relevant, highest_top, candidate_tops, below_all, highest_free, farthest_at, float_at, is_allowed, lowest_bottom, placed_float, band_at, meets}
+use Rattle.layout_semantics.specs.Floats.{FloatBox, is_left, beside, is_next_to, highest_top, candidate_tops, below_all, highest_free, farthest_at, float_at, is_allowed, lowest_bottom, placed_float, band_at, meets}
 use Rattle.layout_laws.proofs.Among.{Among, among, contains, filtered, source}
 use Rattle.layout_laws.proofs.Beside.{left_edge, right_edge}
 use Rattle.layout_laws.proofs.Extremes.{greatest_is_one, least_is_one}
@@ -21,12 +21,13 @@ use Rattle.layout_semantics.specs.Lengths.{own}
 use Rattle.layout_semantics.specs.LineFilling.{Met, float_size, none_waits, with_waiting}
 use Rattle.layout_semantics.specs.LineHeights.{InlineContext}
 use Rattle.lay_float.specs.Limits.{IsHalf, AllHalf, AreHalf}
+use Rattle.lay_float.specs.Places.{top_from}
+use Rattle.lay_float.proofs.Rooms.{top_has}
 use Rattle.lay_float.proofs.Spots.{half_small}
 use Rattle.viz_calc.specs.State.{IsSmall, AllSmall}
 use Rattle.lay_line.specs.Limits.{AllWithin, FloatsWithin, PlacesFit, RoomFits, float_reach, floats_reach}
-use Rattle.lay_line.specs.steps.Meeting.{Slot, top_below, kept_at, placed_next, met_at_spot, met_next, leaves}
+use Rattle.lay_line.specs.steps.Meeting.{Slot, kept_at, placed_next, met_at_spot, met_next, leaves}
 use Rattle.lay_line.specs.steps.Words.{size_in, spot_in, floats_with, room_in}
-use Rattle.lay_line.proofs.FloatSteps.{tops}
 
 abbrev pub Within : ℕ → ℤ → Type 0
 Within m z = unsigned_abs z ≤ m
@@ -91,27 +92,6 @@ spot_near m fs side size cb top edges l r t =
     by of_side.Left y w room = let left = room.0 in record { x = omega (arith, ints); far = omega (arith, ints); y = w }
     by of_side.Right y w room = let right = room.1 in record { x = omega (arith, ints); far = omega (arith, ints); y = w }
 
--- the lowest bottom is one
-pub lowest_within : (m : ℕ) (fs : List FloatBox) (clear : Clear) (z : ℤ) → FloatsWithin m fs → lowest_bottom clear fs ≡ Some z → Within m z
-lowest_within m fs clear z edges e = by (filter (is_relevant clear) fs) refl
-  where
-    one_of : (g : FloatBox) → Among (filter (is_relevant clear) fs) g → Within m g.box.bottom
-    one_of g i = (edges g (contains fs g (filtered (is_relevant clear) fs g i).0)).1.1.1.0
-
-    by : (gs : List FloatBox) → filter (is_relevant clear) fs ≡ gs → Within m z
-    by [] s = let t : None ≡ Some z = (rw s at e) in absurd (cc)
-    by (g ∷ gs) s =
-        let t : Some (greatest_from g.box.bottom (map (λ (f : FloatBox). f.box.bottom) gs)) ≡ Some z = (rw s at e) in
-        let same : greatest_from g.box.bottom (map (λ (f : FloatBox). f.box.bottom) gs) ≡ z = cc in
-        subst (Within m) same (one (greatest_is_one g.box.bottom (map (λ (f : FloatBox). f.box.bottom) gs)))
-      where
-        one : (greatest_from g.box.bottom (map (λ (f : FloatBox). f.box.bottom) gs) ≡ g.box.bottom) ⊎ Among (map (λ (f : FloatBox). f.box.bottom) gs) (greatest_from g.box.bottom (map (λ (f : FloatBox). f.box.bottom) gs))
-            → Within m (greatest_from g.box.bottom (map (λ (f : FloatBox). f.box.bottom) gs))
-        one (inl u) = subst (Within m) (sym u) (one_of g (subst (λ (l : List FloatBox). Among l g) (sym s) (inl refl)))
-        one (inr i) =
-            let f = source (λ (f : FloatBox). f.box.bottom) gs (greatest_from g.box.bottom (map (λ (f : FloatBox). f.box.bottom) gs)) i in
-            subst (Within m) f.2 (one_of f.0 (subst (λ (l : List FloatBox). Among l f.0) (sym s) (inr f.1)))
-
 -- ---- one float more
 
 among_or : (fs : List FloatBox) (x f : FloatBox) → Among (fs ++ x ∷ []) f → Among fs f ⊎ (x ≡ f)
@@ -139,12 +119,8 @@ grown_within m fs side size spot edges near f i = by (among_or fs (placed_float 
     by (inl j) = more_within m (m + (unsigned_abs size.width + unsigned_abs size.height)) (f.box.left ∷ f.box.top ∷ f.box.right ∷ f.box.bottom ∷ []) (omega arith) (edges f (contains fs f j))
     by (inr e) = subst (λ (g : FloatBox). AllWithin (m + (unsigned_abs size.width + unsigned_abs size.height)) (g.box.left ∷ g.box.top ∷ g.box.right ∷ g.box.bottom ∷ [])) e new
 
-pub top_within : (m : ℕ) (fs : List FloatBox) (clear : Clear) (least y : ℤ) → FloatsWithin m fs → Within m least → Within m y → Within m (top_below least y (lowest_bottom clear fs))
-top_within m fs clear least y edges l w = by (lowest_bottom clear fs) refl
-  where
-    by : (o : Option ℤ) → lowest_bottom clear fs ≡ o → Within m (top_below least y o)
-    by None e = max_within m least y l w
-    by (Some b) e = max_within m least (int_max b y) l (max_within m b y (lowest_within m fs clear b edges e) w)
+pub top_within : (m : ℕ) (fs : List FloatBox) (clear : Clear) (least y : ℤ) → FloatsWithin m fs → Within m least → Within m y → Within m (top_from clear fs (Some least) y)
+top_within m fs clear least y edges l w = top_has (Within m) clear fs (Some least) y (λ f i. (edges f i).1.1.1.0) w (l, tt)
 
 -- ---- as the clauses have it
 
@@ -195,7 +171,7 @@ module _ (c : InlineContext) (fs : List FloatBox) (least y : ℤ) where
       top = greatest_from y (option_to_list (Some least) ++ option_to_list (lowest_bottom clear fs))
 
       top_is : Within p.most top
-      top_is = subst (Within p.most) (tops least y (lowest_bottom clear fs)) (top_within p.most fs clear least y p.floats_within p.numbers.1.1.0 p.numbers.1.1.1.0)
+      top_is = top_within p.most fs clear least y p.floats_within p.numbers.1.1.0 p.numbers.1.1.1.0
 
   pub skip_place : (at : ℕ) (boxes : List ℕ) → PlacesFit c fs least y (at ∷ boxes) → PlacesFit c fs least y boxes
   skip_place at boxes p =
@@ -210,9 +186,6 @@ module _ (c : InlineContext) (fs : List FloatBox) (least y : ℤ) where
   pub room_fits : (tall : ℤ) (boxes : List ℕ) → PlacesFit c fs least y boxes → IsHalf tall → RoomFits c fs y tall
   room_fits tall boxes p t = let h = numbers_half boxes p in are_half boxes (c.cb.left ∷ c.cb.right ∷ y ∷ tall ∷ []) p (h.0, (h.1.0, (h.1.1.1.0, (t, tt))))
 
-  pub numbers_small : (boxes : List ℕ) → PlacesFit c fs least y boxes → AllSmall (y ∷ least ∷ [])
-  numbers_small boxes p = let h = numbers_half boxes p in (half_small y h.1.1.1.0, (half_small least h.1.1.0, tt))
-
   pub size_half : (at : ℕ) → PlacesFit c fs least y (at ∷ []) → IsHalf (size_in c at).width × IsHalf (size_in c at).height
   size_half at p = (first p.most (unsigned_abs (size_in c at).width) (unsigned_abs (size_in c at).height) (2 ^ 99) p.room, second p.most (unsigned_abs (size_in c at).width) (unsigned_abs (size_in c at).height) (2 ^ 99) p.room)
     where
@@ -225,15 +198,12 @@ module _ (c : InlineContext) (fs : List FloatBox) (least y : ℤ) where
   pub size_small : (at : ℕ) → PlacesFit c fs least y (at ∷ []) → AllSmall ((size_in c at).width ∷ (size_in c at).height ∷ [])
   size_small at p = let h = size_half at p in (half_small (size_in c at).width h.0, (half_small (size_in c at).height h.1, tt))
 
-  -- a float and its top
-  pub place_fits : (at : ℕ) (clear : Clear) → PlacesFit c fs least y (at ∷ [])
-      → AreHalf fs ((size_in c at).width ∷ (size_in c at).height ∷ c.cb.left ∷ c.cb.right ∷ top_below least y (lowest_bottom clear fs) ∷ [])
-  place_fits at clear p =
+  -- a float and where it comes
+  pub place_fits : (at : ℕ) → PlacesFit c fs least y (at ∷ []) → AreHalf fs ((size_in c at).width ∷ (size_in c at).height ∷ c.cb.left ∷ c.cb.right ∷ y ∷ least ∷ [])
+  place_fits at p =
       let h = numbers_half (at ∷ []) p in
       let s = size_half at p in
-      let top = all_half p.most (top_below least y (lowest_bottom clear fs) ∷ []) (half p.most (floats_reach c (at ∷ [])) (2 ^ 99) p.room)
-      (top_within p.most fs clear least y p.floats_within p.numbers.1.1.0 p.numbers.1.1.1.0, tt) in
-      are_half (at ∷ []) ((size_in c at).width ∷ (size_in c at).height ∷ c.cb.left ∷ c.cb.right ∷ top_below least y (lowest_bottom clear fs) ∷ []) p (s.0, (s.1, (h.0, (h.1.0, top))))
+      are_half (at ∷ []) ((size_in c at).width ∷ (size_in c at).height ∷ c.cb.left ∷ c.cb.right ∷ y ∷ least ∷ []) p (s.0, (s.1, (h.0, (h.1.0, (h.1.1.1.0, (h.1.1.0, tt))))))
 
 pub placed_places : (c : InlineContext) (least y : ℤ) (met : Met) (at : ℕ) (boxes : List ℕ) → PlacesFit c met.floats least y (at ∷ boxes) → PlacesFit c (placed_next c least y met at).floats least y boxes
 unfolding placed_next

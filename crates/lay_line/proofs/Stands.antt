@@ -1,6 +1,5 @@
 use Rattle.std.proofs.Common.{◌≡◌, ℤ, ◌+ℤ◌, Bool, true, false, cond, List, [], ◌∷◌, ◌++◌, reverse, refl, sym, ◌∙◌, ap}
 use Rattle.std.specs.Prelude.{◌||◌}
-use Rattle.std.specs.List.{list_any}
 use Rattle.std.proofs.lemmas.List.{reverse-append}
 use Rattle.layout_semantics.specs.InlineContent.{Item, start, finish, word, space, atomic, forced, float}
 use Rattle.layout_semantics.specs.Stretches.{without_leading, what_stays}
@@ -9,9 +8,7 @@ use Rattle.layout_semantics.specs.LineFilling.{item_width}
 use Rattle.layout_semantics.specs.Fragments.{ItemPlace, set_out}
 use Rattle.lay_line.specs.steps.Staying.{is_solid, is_some_left, stays, put, stand}
 use Rattle.lay_line.proofs.Lasts.{any-reversed, last_where, some-where, fewer-where}
-
-abbrev has_solid : List Item → Bool
-has_solid items = list_any is_solid items
+use Rattle.lay_line.proofs.Widths.{has_solid}
 
 -- an item at the end of others, where it stays
 abbrev late : Bool → Item → List Item

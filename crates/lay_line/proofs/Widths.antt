@@ -12,7 +12,7 @@ use Rattle.lay_line.specs.steps.Staying.{is_solid}
 use Rattle.lay_line.specs.steps.Held.{Held, nothing_held, with_item, with_items}
 use Rattle.lay_line.proofs.Lasts.{any-reversed}
 
-abbrev has_solid : List Item → Bool
+abbrev pub has_solid : List Item → Bool
 has_solid items = list_any is_solid items
 
 module _ (w : Item → ℤ) where

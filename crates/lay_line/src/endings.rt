@@ -11,13 +11,14 @@ ghost use Rattle.lay_line.specs.steps.Lining.{full_line, empty_line, ended_line}
 
 use crate::containers::Container;
 use crate::entries::{add_entry, add_floats};
-use crate::extents::{greater, height};
+use crate::extents::height;
 use crate::held::Piece;
 use crate::line_content::{Content, add_content, content_left, line_box, place_waiting};
 use crate::loads::Load;
 use crate::meeting::{Met, Slot, floats_of, place_each};
 use lay_float::Floats;
 use lay_float::engine::band;
+use lay_width::limits::greater;
 use std::alloc::Global;
 use viz_base::{Entry, List};
 use viz_calc::Steady;

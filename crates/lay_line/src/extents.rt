@@ -1,12 +1,12 @@
 //! How far a line reaches above and below its baseline (CSS 2.1, 10.8).
 ghost use Rattle.std.specs.Prelude.{◌≡◌, ⊤, IsTrue, ◌∷◌, []};
-ghost use Rattle.std.specs.Int.{int_max};
 ghost use Rattle.viz_calc.specs.World.{Reading};
 ghost use Rattle.viz_calc.specs.Run.{Stands, Goes, Fits, Blames};
 ghost use Rattle.layout_semantics.specs.LineHeights.{height_of_extent};
 ghost use Rattle.lay_line.specs.Readings.{line_extent_at};
 ghost use Rattle.lay_line.specs.steps.Filling.{with_extent as extent_with};
 
+use lay_width::limits::greater;
 use viz_calc::Steady;
 
 /// How far something reaches above and below a baseline, in units of 1/64 px.
@@ -14,15 +14,6 @@ use viz_calc::Steady;
 pub struct LineExtent<N> {
     pub above: N,
     pub below: N,
-}
-
-/// The greater of two numbers.
-pub fn greater<S: Steady>(calc: &mut S, a: S::Num, b: S::Num) -> S::Num
-    ensures goes { Goes (S.run calc.old) (S.run calc.new) }
-    ensures value { Stands (S.run calc.new) (S.at result) (λ e. int_max (S.at a e) (S.at b e)) }
-    ensures cause { Blames (S.run calc.old) (S.run calc.new) ⊤ }
-{
-    if calc.le(&a, &b) { b } else { a }
 }
 
 /// As far as both.

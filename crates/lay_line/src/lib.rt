@@ -10,6 +10,7 @@ pub mod endings;
 pub mod entries;
 pub mod existence;
 pub mod extents;
+pub mod floating;
 pub mod fragments;
 mod front;
 pub mod held;

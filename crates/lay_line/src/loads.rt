@@ -20,12 +20,13 @@ ghost use Rattle.lay_line.specs.Limits.{BoxesReach, PlacesFit, RoomFits, FillFit
 
 use crate::containers::Container;
 use crate::existence::makes_line;
-use crate::extents::{LineExtent, greater, height, with_extent};
+use crate::extents::{LineExtent, height, with_extent};
 use crate::held::{Held, Piece, with_pieces};
 use crate::items::{Item, is_forced};
 use crate::meeting::{Met, Slot, fits, floats_of, meet_each};
 use crate::shifts::{reach, strut};
 use crate::stretches::{Stretches, cut_first};
+use lay_width::limits::greater;
 use std::alloc::{AllocError, Global};
 use viz_base::BoxTree;
 use viz_calc::Steady;

@@ -2,31 +2,28 @@
 ghost use Rattle.std.specs.Prelude.{◌≡◌, ◌++◌, ◌∷◌, [], IsTrue, IfOk, ⊤};
 ghost use Rattle.std.specs.Ordering.{int_eq};
 ghost use Rattle.viz_calc.specs.World.{Reading};
-ghost use Rattle.viz_calc.specs.Run.{Stands, Goes, Fits, Blames, BlamesButMem};
-ghost use Rattle.layout_semantics.specs.Floats.{lowest_bottom};
+ghost use Rattle.viz_calc.specs.Run.{Goes, Fits, Blames, BlamesButMem};
 ghost use Rattle.layout_semantics.specs.InlineContent.{float_boxes};
 ghost use Rattle.layout_semantics.specs.LineFilling.{fits as fits_in};
 ghost use Rattle.lay_float.specs.Readings.{boxes_at, floats_at, extent_at, spot_at};
 ghost use Rattle.lay_line.specs.Contexts.{context_at};
 ghost use Rattle.lay_line.specs.Items.{item_of, bare_of};
 ghost use Rattle.lay_line.specs.Readings.{met_at, slot_at, spots_at};
-ghost use Rattle.lay_line.specs.steps.Meeting.{float_in, top_below, leaves, placed_next, placed_all, met_next, met_all};
+ghost use Rattle.lay_line.specs.steps.Meeting.{float_in, leaves, placed_next, placed_all, met_next, met_all};
 ghost use Rattle.lay_line.specs.steps.Words.{size_in, spot_in, floats_with, room_in};
-ghost use Rattle.viz_calc.specs.State.{AllSmall};
-ghost use Rattle.lay_float.specs.Limits.{IsHalf, AreHalf};
+ghost use Rattle.lay_float.specs.Limits.{IsHalf};
 ghost use Rattle.lay_line.specs.Limits.{PlacesFit, RoomFits};
 
 use crate::containers::{Container, inner_of};
-use crate::extents::greater;
+use crate::floating::place_float;
 use crate::held::Piece;
 use crate::items::Item;
 use crate::sizes::band_width;
-use crate::trees::{clear_at, side_at};
-use lay_float::engine::{band, bottom, place};
+use lay_float::engine::band;
 use lay_float::{Floats, PlacedFloat};
 use lay_length::lengths::zero;
 use std::alloc::{AllocError, Global};
-use viz_base::{Clear, Extent, Spot};
+use viz_base::{Extent, Spot};
 use viz_calc::Steady;
 
 /// Floats that were placed, in their order, with the list that they then stand in, and those that wait for the line's
@@ -75,33 +72,8 @@ fn float_size<S: Steady>(calc: &mut S, container: &Container<'_, S::Num>, at: u3
     }
 }
 
-/// The highest top that a float with this `clear` may have that comes at y.
-fn float_top<S: Steady>(
-    calc: &mut S,
-    floats: &[PlacedFloat<S::Num>],
-    clear: Clear,
-    least: &S::Num,
-    y: &S::Num,
-) -> S::Num
-    ensures goes { Goes (S.run calc.old) (S.run calc.new) }
-    ensures value { Stands (S.run calc.new) (S.at result) (λ e. top_below (S.at least.now e) (S.at y.now e)
-        (lowest_bottom clear (boxes_at S.at floats.now e))) }
-    ensures cause { Blames (S.run calc.old) (S.run calc.new) ((e : Reading) → IsTrue ((S.run calc.old).is_open e)
-        → AreHalf (boxes_at S.at floats.now e) [] × AllSmall (S.at y.now e ∷ S.at least.now e ∷ [])) }
-{
-    let from = calc.copy(y);
-    let least = calc.copy(least);
-    match bottom(calc, floats, clear) {
-        Some(below) => {
-            let from = greater(calc, below, from);
-            greater(calc, least, from)
-        }
-        None => greater(calc, least, from),
-    }
-}
-
 /// Places a float of a line that comes at y.
-fn place_float<S: Steady>(
+fn place_of_line<S: Steady>(
     calc: &mut S,
     container: &Container<'_, S::Num>,
     floats: &mut Floats<S::Num>,
@@ -118,11 +90,17 @@ fn place_float<S: Steady>(
         → PlacesFit (context_at S.at container.now e) (floats_at S.at floats.old e) (S.at least.now e) (S.at y.now e)
         (at ∷ [])) }
 {
-    let side = side_at(container.tree, at);
-    let clear = clear_at(container.tree, at);
     let size = float_size(calc, container, at);
-    let top = float_top(calc, floats.placed.as_slice(), clear, least, y);
-    place(calc, floats, side, &size, container.cb, &top)
+    place_float(
+        calc,
+        container.tree,
+        floats,
+        at,
+        &size,
+        container.cb,
+        Some(least),
+        y,
+    )
 }
 
 /// A float more that stands.
@@ -171,7 +149,7 @@ fn place_next<S: Steady>(
         → PlacesFit (context_at S.at container.now e) (floats_at S.at met.old.floats e) (S.at least.now e)
         (S.at y.now e) (at ∷ [])) }
 {
-    let spot = place_float(calc, container, &mut met.floats, at, least, y);
+    let spot = place_of_line(calc, container, &mut met.floats, at, least, y);
     add_spot(calc, &mut met.spots, at, spot);
 }
 
@@ -271,7 +249,7 @@ fn meet<S: Steady>(
         return;
     }
     let before = met.floats.placed.len();
-    let spot = place_float(calc, container, &mut met.floats, at, &slot.least, &slot.top);
+    let spot = place_of_line(calc, container, &mut met.floats, at, &slot.least, &slot.top);
     if leaves_room(
         calc,
         container,

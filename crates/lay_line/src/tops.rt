@@ -1,6 +1,5 @@
 //! The top of a line (CSS 2.1, 9.5).
 ghost use Rattle.std.specs.Prelude.{◌≡◌, None, fold, IsTrue, ⊤, ◌∷◌, []};
-ghost use Rattle.std.specs.Int.{int_min};
 ghost use Rattle.viz_calc.specs.World.{Reading};
 ghost use Rattle.viz_calc.specs.Run.{Stands, Goes, Blames};
 ghost use Rattle.lay_float.specs.Readings.{box_at, boxes_at, option_at};
@@ -14,6 +13,7 @@ use crate::containers::Container;
 use crate::meeting::fits;
 use lay_float::PlacedFloat;
 use lay_float::engine::meets_any;
+use lay_width::limits::lesser;
 use viz_calc::Steady;
 
 /// A place that is wanted for a line, in units of 1/64 px.
@@ -28,15 +28,6 @@ pub struct Wanted<'w, 'a, N> {
     pub tall: &'w N,
     /// The width of its first stretch.
     pub width: &'w N,
-}
-
-/// The lesser of two numbers.
-fn lesser<S: Steady>(calc: &mut S, a: S::Num, b: S::Num) -> S::Num
-    ensures goes { Goes (S.run calc.old) (S.run calc.new) }
-    ensures value { Stands (S.run calc.new) (S.at result) (λ e. int_min (S.at a e) (S.at b e)) }
-    ensures cause { Blames (S.run calc.old) (S.run calc.new) ⊤ }
-{
-    if calc.le(&a, &b) { a } else { b }
 }
 
 /// The lower of the best number so far and one more.

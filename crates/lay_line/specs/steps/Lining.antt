@@ -18,6 +18,7 @@ use Rattle.lay_line.specs.steps.Meeting.{Slot, placed_all, top_in}
 use Rattle.lay_line.specs.steps.Staying.{no_items, spanned}
 use Rattle.lay_line.specs.steps.Words.{strut_in, room_in}
 
+-- no float yet, behind these
 abbrev pub no_floats : List FloatBox → Met
 no_floats floats = record { spots = []; floats = floats; waiting = [] }
 

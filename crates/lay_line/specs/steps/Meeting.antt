@@ -1,6 +1,5 @@
 -- Floats that a line meets, one by one, and its top.
 use Rattle.std.specs.Prelude.{ℕ, ℤ, Bool, not, cond, ◌&&◌, ◌||◌, List, [], ◌∷◌, ◌++◌, fold, Option, Some, None}
-use Rattle.std.specs.Int.{int_max}
 use Rattle.std.specs.List.{list_any}
 use Rattle.std.specs.Ordering.{int_eq}
 use Rattle.viz_base.specs.declared.layouts.Spot.{Spot}
@@ -21,11 +20,6 @@ pub record Slot : Type 0 where
 abbrev pub float_in : Item → Option ℕ
 float_in (float at) = Some at
 float_in _ = None
-
--- the highest top that a float may have, by the lowest bottom that its `clear` looks at
-abbrev pub top_below : ℤ → ℤ → Option ℤ → ℤ
-top_below least y None = int_max least y
-top_below least y (Some below) = int_max least (int_max below y)
 
 -- with one that stands
 abbrev pub kept_at : InlineContext → Met → ℕ → Spot ℤ → Met

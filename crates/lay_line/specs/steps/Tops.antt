@@ -1,9 +1,9 @@
 -- The top of a line in one pass over the floats.
-use Rattle.std.specs.Prelude.{ℤ, Bool, cond, ◌||◌, int_lt, List, fold, Option, Some, None}
+use Rattle.std.specs.Prelude.{ℤ, Bool, cond, int_lt, List, fold, Option, Some, None}
 use Rattle.std.specs.Int.{int_min}
-use Rattle.layout_semantics.specs.Floats.{FloatBox, band_at}
+use Rattle.layout_semantics.specs.Floats.{FloatBox}
 use Rattle.layout_semantics.specs.LineHeights.{InlineContext}
-use Rattle.layout_semantics.specs.LineFilling.{fits, meets_none}
+use Rattle.layout_laws.specs.Standing.{may_stand}
 
 abbrev pub lower : Option ℤ → ℤ → ℤ
 lower None t = t
@@ -19,9 +19,6 @@ with_float passes y best f = cond (int_lt y f.box.bottom) (with_top passes best 
 abbrev pub top_or : ℤ → Option ℤ → ℤ
 top_or y None = y
 top_or y (Some best) = best
-
-abbrev pub may_stand : InlineContext → List FloatBox → ℤ → ℤ → ℤ → Bool
-may_stand c floats tall width top = fits width (band_at floats c.cb top tall) || meets_none floats top tall
 
 abbrev pub top_found : InlineContext → List FloatBox → ℤ → ℤ → ℤ → ℤ
 top_found c floats y tall width =

@@ -29,17 +29,17 @@ returns-clause-value g c = λ e o.
     let held = at c.args.held.now e in
     let met = c.args.met.now in
     let b = c.args.at in
-    let spot = spot_at at c.place_float-spot.result e in
+    let spot = spot_at at c.place_of_line-spot.result e in
     let o1 = c.add_waiting-2.ensures.goes.closes e o in
     let o2 = c.leaves_room.ensures.goes.closes e o1 in
-    let grown = c.place_float-spot.ensures.appended e o2 in
+    let grown = c.place_of_line-spot.ensures.appended e o2 in
     let len : met.waiting.len ≡ length met.waiting.items = omega (arith, met.waiting.ok.0) in
     let none : met.waiting.items ≡ [] = none-is c.is_empty.result met.waiting.items (cc) (c.is_empty.ensures ∙ ap (λ n. n == 0) len) in
     let refuses = c.if-leaves_room.ensures.value e o1 ∙ ap (λ l. leaves ctx slot held (boxes_at at l e) spot.y) c.as_slice.ensures in
-    let floats = ap (λ l. boxes_at at l e) c.truncate.ensures ∙ back-to at e ctx met.floats.placed c.place_float-spot.new.floats.placed c.len-before.result b spot c.len-before.ensures grown in
+    let floats = ap (λ l. boxes_at at l e) c.truncate.ensures ∙ back-to at e ctx met.floats.placed c.place_of_line-spot.new.floats.placed c.len-before.result b spot c.len-before.ensures grown in
     ap (λ w. made (spots_at at met.spots.items e) (boxes_at at c.truncate.new.self e) w) (c.add_waiting-2.ensures.value e o)
     ∙ (ap (λ fs. made (spots_at at met.spots.items e) fs (met.waiting.items ++ b ∷ [])) floats
-    ∙ waits-after ctx slot held (met_at at met e) b spot _ none (c.place_float-spot.ensures.value e o2) grown refuses)
+    ∙ waits-after ctx slot held (met_at at met e) b spot _ none (c.place_of_line-spot.ensures.value e o2) grown refuses)
   where
     made : List (ℕ × Spot ℤ) → List FloatBox → List ℕ → Met
     made s f w = record { spots = s; floats = f; waiting = w }
@@ -53,11 +53,11 @@ returns-then-leaves_room-clause-cause g c =
     let ctx = (λ (e : Reading). context_at at c.args.container.now e) in
     let slot = (λ (e : Reading). slot_at at c.args.slot.now e) in
     let floats = (λ (e : Reading). floats_at at c.args.met.now.floats e) in
-    let placed = c.place_float-spot.ensures in
+    let placed = c.place_of_line-spot.ensures in
     let room = c.leaves_room.ensures in
     let more = (e : Reading) → IsTrue (start.is_open e) → PlacesFit (ctx e) (floats e) (slot e).least (slot e).top (b ∷ []) × IsHalf (slot e).tall in
-    let first : BlamesButMem start (run c.place_float-spot.new.calc) more = record { coeff = λ f. placed.cause.coeff (λ e o. (f e o).0); opens = placed.cause.opens } in
-    let second = BlamesButMem-then start (run c.place_float-spot.new.calc) (run c.leaves_room.new.calc) _ more placed.goes room.goes first
+    let first : BlamesButMem start (run c.place_of_line-spot.new.calc) more = record { coeff = λ f. placed.cause.coeff (λ e o. (f e o).0); opens = placed.cause.opens } in
+    let second = BlamesButMem-then start (run c.place_of_line-spot.new.calc) (run c.leaves_room.new.calc) _ more placed.goes room.goes first
     (λ f e o.
     let p = f e (placed.goes.closes e o) in
     let grown = placed.appended e o ∙ ap (floats_with (ctx e) (floats e) b) (placed.value e o) in
@@ -77,11 +77,11 @@ returns-clause-cause g c =
     let ctx = (λ (e : Reading). context_at at c.args.container.now e) in
     let slot = (λ (e : Reading). slot_at at c.args.slot.now e) in
     let floats = (λ (e : Reading). floats_at at c.args.met.now.floats e) in
-    let placed = c.place_float-spot.ensures in
+    let placed = c.place_of_line-spot.ensures in
     let room = c.leaves_room.ensures in
     let more = (e : Reading) → IsTrue (start.is_open e) → PlacesFit (ctx e) (floats e) (slot e).least (slot e).top (b ∷ []) × IsHalf (slot e).tall in
-    let first : BlamesButMem start (run c.place_float-spot.new.calc) more = record { coeff = λ f. placed.cause.coeff (λ e o. (f e o).0); opens = placed.cause.opens } in
-    let second = BlamesButMem-then start (run c.place_float-spot.new.calc) (run c.leaves_room.new.calc) _ more placed.goes room.goes first
+    let first : BlamesButMem start (run c.place_of_line-spot.new.calc) more = record { coeff = λ f. placed.cause.coeff (λ e o. (f e o).0); opens = placed.cause.opens } in
+    let second = BlamesButMem-then start (run c.place_of_line-spot.new.calc) (run c.leaves_room.new.calc) _ more placed.goes room.goes first
     (λ f e o.
     let p = f e (placed.goes.closes e o) in
     let grown = placed.appended e o ∙ ap (floats_with (ctx e) (floats e) b) (placed.value e o) in
