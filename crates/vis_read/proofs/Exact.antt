@@ -9,7 +9,7 @@ use Rattle.vis_read.specs.declared.lexemes.Lexeme.TheVariants.{Unknown}
 use Rattle.vis_read.specs.declared.lexemes.Token.{Token}
 use Rattle.vis_read.specs.declared.reading.Reading.{Reading}
 use Rattle.vis_read.specs.Grammar.{Check, fine, unbound, too_deep, Judged, judged, token_of, tokens_of, AreFine, AreFormula, BeginFormula, IsFormula, IsBad, IsFirst, start_of, Outcome, formula_is, bad_at as is_bad_at, unbound_at, too_deep_at}
-use Rattle.vis_read.specs.steps.Machine.{Step, ended, initial, step}
+use Rattle.vis_read.specs.steps.Machine.{Step, ended, formula_read, initial, step, taken}
 use Rattle.vis_read.specs.steps.Verdicts.{end_with, run, then_end, then_run, verdict}
 use Rattle.vis_read.proofs.Walks.{Walk, stop, take, walk_on, walk_before}
 use Rattle.vis_read.proofs.Complete.{completes}
@@ -173,13 +173,13 @@ first_at check tokens front next rest w fines e s = record {
   are_fine = fines;
 }
 
-ends_read : (tokens : List Token) (end : ℕ) (front : List Judged) {m : Reading} (x : Option Formula) → Walk initial front [] m → AreFine front → tokens ≡ tokens_of front → ended m ≡ x → IsReading tokens end (end_with end x)
+ends_read : (tokens : List Token) (end : ℕ) (front : List Judged) {m : Reading} (x : Option Formula) → Walk initial front [] m → AreFine front → tokens ≡ tokens_of front → ended m ≡ x → IsReading tokens end (end_with end (formula_read x))
 ends_read tokens end front None w fines e n = bad_end tokens end front w fines e n
 ends_read tokens end front (Some f) w fines e n = (front, sym e, fines, sounds w n)
 
 reads_step : (tokens : List Token) (end : ℕ) (front : List Judged) (t : Token) (ts : List Token) {m : Reading} (x : Step) → Walk initial front [] m → AreFine front
     → tokens ≡ tokens_of front ++ t ∷ ts → step m t.lexeme ≡ x → ((next : Reading) → step m t.lexeme ≡ Some (next, fine) → IsReading tokens end (then_end end (run next ts)))
-    → IsReading tokens end (then_end end (then_run t.at x (λ next. run next ts)))
+    → IsReading tokens end (then_end end (then_run t.at (taken x) (λ next. run next ts)))
 reads_step tokens end front t ts None w fines e s further = bad_at tokens end front t ts w fines e s
 reads_step tokens end front t ts (Some (next, fine)) w fines e s further = further next s
 reads_step tokens end front t ts (Some (next, unbound)) w fines e s further = first_at unbound tokens front t ts w fines e s
@@ -220,7 +220,7 @@ run_walk : (front : List Judged) (rest : List Token) {s m : Reading} → Walk s 
 run_walk [] rest w h = ap (λ x. run x rest) (end_of w refl refl)
 run_walk (j ∷ front) rest {s = s} {m = m} w h =
     let a = head_of j front w refl refl in
-    ap (λ x. then_run j.at x (λ next. run next (tokens_of front ++ rest))) (a.steps ∙ ap (λ c. Some (a.next, c)) h.0) ∙ run_walk front rest a.walk h.1
+    ap (λ x. then_run j.at (taken x) (λ next. run next (tokens_of front ++ rest))) (a.steps ∙ ap (λ c. Some (a.next, c)) h.0) ∙ run_walk front rest a.walk h.1
 
 record Split (s t : Reading) (front more : List Judged) : Type 0 where
   between : Reading
@@ -238,11 +238,11 @@ formula_reading : (tokens : List Token) (end : ℕ) (f : Formula) → IsFormula 
 formula_reading tokens end f h =
     let c = completes h.3 in
     let same : tokens ≡ tokens_of h.0 ++ [] = sym h.1 ∙ sym (append-nil (tokens_of h.0)) in
-    ap (then_end end) (ap (run initial) same ∙ run_walk h.0 [] c.1 h.2) ∙ ap (end_with end) c.2
+    ap (then_end end) (ap (run initial) same ∙ run_walk h.0 [] c.1 h.2) ∙ ap (λ x. end_with end (formula_read x)) c.2
 
 -- what a token says that may not stand where it stands
 first_reading : (tokens : List Token) (end at : ℕ) (check : Check) (h : IsFirst check tokens at)
-    → (m : Reading) × (n : Reading) × (step m h.lexeme ≡ Some (n, check)) × (verdict end tokens ≡ then_end end (then_run at (step m h.lexeme) (λ next. run next h.rest)))
+    → (m : Reading) × (n : Reading) × (step m h.lexeme ≡ Some (n, check)) × (verdict end tokens ≡ then_end end (then_run at (taken (step m h.lexeme)) (λ next. run next h.rest)))
 first_reading tokens end at check h =
     let j = judged check h.lexeme at in
     let b = h.begins in
@@ -255,21 +255,21 @@ first_reading tokens end at check h =
 unbound_reading : (tokens : List Token) (end at : ℕ) → IsFirst unbound tokens at → verdict end tokens ≡ Err (of_fault.Unbound at)
 unbound_reading tokens end at h =
     let x = first_reading tokens end at unbound h in
-    x.3 ∙ ap (λ y. then_end end (then_run at y (λ next. run next h.rest))) x.2
+    x.3 ∙ ap (λ y. then_end end (then_run at (taken y) (λ next. run next h.rest))) x.2
 
 deep_reading : (tokens : List Token) (end at : ℕ) → IsFirst too_deep tokens at → verdict end tokens ≡ Err (of_fault.TooDeep at)
 deep_reading tokens end at h =
     let x = first_reading tokens end at too_deep h in
-    x.3 ∙ ap (λ y. then_end end (then_run at y (λ next. run next h.rest))) x.2
+    x.3 ∙ ap (λ y. then_end end (then_run at (taken y) (λ next. run next h.rest))) x.2
 
 bad_end_reading : (tokens : List Token) (end : ℕ) (front : List Judged) {m : Reading} → Walk initial front [] m → tokens ≡ tokens_of front
-    → ((ts : List Judged) (f : Formula) → tokens_of ts ≡ tokens → AreFormula ts f → ⊥) → (x : Option Formula) → ended m ≡ x → end_with end x ≡ Err (of_fault.Bad end)
+    → ((ts : List Judged) (f : Formula) → tokens_of ts ≡ tokens → AreFormula ts f → ⊥) → (x : Option Formula) → ended m ≡ x → end_with end (formula_read x) ≡ Err (of_fault.Bad end)
 bad_end_reading tokens end front w e none None h = refl
 bad_end_reading tokens end front w e none (Some f) h = absurd (none front f (sym e) (sounds w h))
 
 bad_step_reading : (tokens : List Token) (end : ℕ) (front : List Judged) (t : Token) (ts : List Token) {m : Reading} → Walk initial front [] m → tokens ≡ tokens_of front ++ t ∷ ts
     → ((us : List Judged) (others : List Token) → tokens ≡ tokens_of us ++ others → BeginFormula us → length us ≤ length front) → (x : Step) → step m t.lexeme ≡ x
-    → then_end end (then_run t.at x (λ next. run next ts)) ≡ Err (of_fault.Bad t.at)
+    → then_end end (then_run t.at (taken x) (λ next. run next ts)) ≡ Err (of_fault.Bad t.at)
 bad_step_reading tokens end front t ts w e longest None s = refl
 bad_step_reading tokens end front t ts w e longest (Some (next, check)) s =
     let j = judged check t.lexeme t.at in

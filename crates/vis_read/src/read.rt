@@ -1,8 +1,8 @@
 ghost use Rattle.std.specs.Prelude.{◌≡◌, ◌≤◌, length, true, IfOk, MatchResult};
 ghost use Rattle.viz_base.specs.Formulas.{has_small_terms, is_bound_in};
 ghost use Rattle.vis_read.specs.Texts.{IsFault, IsFormulaText};
-ghost use Rattle.vis_read.specs.steps.Machine.{ended, initial};
-ghost use Rattle.vis_read.specs.steps.Verdicts.{IsAt, Judges, end_with, run, verdict};
+ghost use Rattle.vis_read.specs.steps.Machine.{ended, formula_read, initial};
+ghost use Rattle.vis_read.specs.steps.Verdicts.{Judges, end_with, fault_at, run, verdict};
 
 use crate::faults::{FormulaFault, Stop};
 use crate::lexemes::Token;
@@ -15,7 +15,7 @@ use viz_base::{Formula, List, Page};
 
 /// The fault of a token at a place.
 fn fault_at(stop: Stop, at: u32) -> FormulaFault
-    ensures { IsAt stop at result }
+    ensures { result ≡ fault_at stop at }
 {
     match stop {
         Stop::Mem => FormulaFault::Mem,
@@ -41,7 +41,7 @@ fn run(alloc: Global, tokens: List<Token>) -> Result<Reading, FormulaFault>
 
 /// What is read, where the text ends.
 fn finish(alloc: Global, reading: Reading, end: u32) -> Result<Formula, FormulaFault>
-    ensures { Judges result (end_with end (ended reading)) }
+    ensures { Judges result (end_with end (formula_read (ended reading))) }
 {
     match ended(alloc, reading) {
         Ok(formula) => Ok(formula),

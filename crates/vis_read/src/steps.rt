@@ -1,7 +1,6 @@
 ghost use Rattle.std.specs.Prelude.{◌≡◌, ◌∷◌, ◌+◌, ◌<◌, IfOk, MatchResult};
 ghost use Rattle.vis_read.specs.Grammar.{comparison};
-ghost use Rattle.vis_read.specs.steps.Verdicts.{Ends};
-ghost use Rattle.vis_read.specs.steps.Machine.{Gives, Moves, at_first, at_operand, at_quantifier, at_second, bind, close_parens, compared_with, ended, implied, inner, ored, step, step_added, step_behind, step_binder, step_comma, step_compared, step_domain, step_first, step_last, step_number, step_operand, step_pair, step_quantifier, step_ranged, step_second, step_start, closing, ended_added, move_at, negated, opened, quantifier, step_sign, whole, with_and, with_or, with_part};
+ghost use Rattle.vis_read.specs.steps.Machine.{Ends, Moves, Steps, at_first, at_operand, at_quantifier, at_second, bind, close_parens, compared_with, ended, implied, inner, ored, step, step_added, step_behind, step_binder, step_comma, step_compared, step_domain, step_first, step_last, step_number, step_operand, step_pair, step_quantifier, step_ranged, step_second, step_start, closing, ended_added, move_at, negated, opened, quantifier, step_sign, whole, with_and, with_or, with_part};
 
 use crate::acts::{closed, ored, outside_of, paired};
 use crate::faults::Stop;
@@ -28,7 +27,7 @@ fn refused(_reading: Reading, stop: Stop) -> Stop
 
 /// Behind the parentheses around what has ended.
 fn close_parens(alloc: Global, closed: Closed) -> Result<Reading, Stop>
-    ensures { Gives result (close_parens closed) }
+    ensures { Steps result (close_parens closed) }
 {
     let Closed {
         parens,
@@ -145,7 +144,7 @@ fn step_behind(
     formula: Formula,
     lexeme: Lexeme,
 ) -> Result<Reading, Stop>
-    ensures { Gives result (step_behind reading formula lexeme) }
+    ensures { Steps result (step_behind reading formula lexeme) }
 {
     match lexeme {
         Lexeme::And => Ok(with_and(reading, formula)),
@@ -163,7 +162,7 @@ fn step_sign(
     parts: List<Summand>,
     lexeme: Lexeme,
 ) -> Result<Reading, Stop>
-    ensures { Gives result (step_sign reading parts lexeme) }
+    ensures { Steps result (step_sign reading parts lexeme) }
 {
     match lexeme {
         Lexeme::Sign(sign) => {
@@ -185,7 +184,7 @@ fn compared_with(right: List<Summand>, compared: Compared) -> Formula
 }
 
 fn step_compared(alloc: Global, reading: Reading, sum: Sum, lexeme: Lexeme) -> Result<Reading, Stop>
-    ensures { Gives result (step_compared reading sum sum.compared lexeme) }
+    ensures { Steps result (step_compared reading sum sum.compared lexeme) }
 {
     let Sum {
         compared,
@@ -202,7 +201,7 @@ fn step_compared(alloc: Global, reading: Reading, sum: Sum, lexeme: Lexeme) -> R
 }
 
 fn step_added(alloc: Global, reading: Reading, sum: Sum, lexeme: Lexeme) -> Result<Reading, Stop>
-    ensures { Gives result (step_added reading sum lexeme) }
+    ensures { Steps result (step_added reading sum lexeme) }
 {
     match lexeme {
         Lexeme::Plus => Ok(reading.at(Place::Part(with_sign(sum, false)))),
@@ -219,7 +218,7 @@ fn after_number(
     number: u32,
     lexeme: Lexeme,
 ) -> Result<Reading, Stop>
-    ensures { Gives result (step_added reading (with_part sum number Edge.One) lexeme) }
+    ensures { Steps result (step_added reading (with_part sum number Edge.One) lexeme) }
 {
     match with_part(sum, u64::from(number), Edge::One) {
         Ok(sum) => step_added(alloc, reading, sum, lexeme),
@@ -234,7 +233,7 @@ fn step_number(
     number: u32,
     lexeme: Lexeme,
 ) -> Result<Reading, Stop>
-    ensures { Gives result (step_number reading sum number lexeme) }
+    ensures { Steps result (step_number reading sum number lexeme) }
 {
     match lexeme {
         Lexeme::Star => Ok(reading.at(Place::Factor(sum, number))),
@@ -263,7 +262,7 @@ fn with_nots(reading: Reading, nots: u32) -> Reading
 /// Behind a `not` that may stand there.
 fn with_not(reading: Reading) -> Result<Reading, Stop>
     requires { reading.nested < 64 }
-    ensures { Gives result (negated reading) }
+    ensures { Steps result (negated reading) }
 {
     match one_more(reading.nots) {
         Ok(nots) => Ok(with_nots(reading, nots)),
@@ -273,7 +272,7 @@ fn with_not(reading: Reading) -> Result<Reading, Stop>
 
 /// Behind a `not`.
 fn negated(reading: Reading) -> Result<Reading, Stop>
-    ensures { Gives result (negated reading) }
+    ensures { Steps result (negated reading) }
 {
     if reading.nested < MOST_NESTED {
         with_not(reading)
@@ -318,7 +317,7 @@ fn inner(reading: Reading) -> Result<Reading, Mem>
 
 /// Inside a parenthesis that may stand there.
 fn opened(reading: Reading) -> Result<Reading, Stop>
-    ensures { Gives result (opened reading) }
+    ensures { Steps result (opened reading) }
 {
     if reading.nested < MOST_NESTED {
         Ok(inner(reading)?)
@@ -328,7 +327,7 @@ fn opened(reading: Reading) -> Result<Reading, Stop>
 }
 
 fn step_operand(alloc: Global, reading: Reading, lexeme: Lexeme) -> Result<Reading, Stop>
-    ensures { Gives result (step_operand reading lexeme) }
+    ensures { Steps result (step_operand reading lexeme) }
 {
     match lexeme {
         Lexeme::Not => negated(reading),
@@ -354,7 +353,7 @@ fn with_quantifier(reading: Reading, q: Quantifier) -> Reading
 
 /// Behind a quantifier.
 fn quantifier(reading: Reading, q: Quantifier) -> Result<Reading, Stop>
-    ensures { Gives result (quantifier reading q) }
+    ensures { Steps result (quantifier reading q) }
 {
     if reading.names.len() < MOST_NAMES && reading.nested < MOST_NESTED {
         Ok(with_quantifier(reading, q))
@@ -364,7 +363,7 @@ fn quantifier(reading: Reading, q: Quantifier) -> Result<Reading, Stop>
 }
 
 fn step_start(alloc: Global, reading: Reading, lexeme: Lexeme) -> Result<Reading, Stop>
-    ensures { Gives result (step_start reading lexeme) }
+    ensures { Steps result (step_start reading lexeme) }
 {
     let fresh = reading.fresh();
     match lexeme {
@@ -434,7 +433,7 @@ fn step_ranged(
     set: Set,
     lexeme: Lexeme,
 ) -> Result<Reading, Stop>
-    ensures { Gives result (step_ranged reading q name set lexeme) }
+    ensures { Steps result (step_ranged reading q name set lexeme) }
 {
     match lexeme {
         Lexeme::Colon => Ok(bind(reading, q, name, set)?),
@@ -491,7 +490,7 @@ fn step_last(
     names: (u32, u32),
     lexeme: Lexeme,
 ) -> Result<Reading, Stop>
-    ensures { Gives result (step_last reading pair names.0 names.1 lexeme) }
+    ensures { Steps result (step_last reading pair names.0 names.1 lexeme) }
 {
     match lexeme {
         Lexeme::Close => Ok(reading.completed(alloc, paired(pair, names.0, names.1))?),
@@ -521,7 +520,7 @@ fn move_on(reading: &Reading, place: Place, lexeme: Lexeme) -> Result<Place, Sto
 
 /// Behind one more token.
 pub fn step(alloc: Global, reading: Reading, lexeme: Lexeme) -> Result<Reading, Stop>
-    ensures { Gives result (step reading lexeme) }
+    ensures { Steps result (step reading lexeme) }
 {
     let (rest, place) = reading.split();
     match place {

@@ -1,5 +1,7 @@
 -- Reading a formula token by token: what the next token does at each place, and whether it may stand there.
-use Rattle.std.specs.Prelude.{◌≡◌, ℕ, ◌+◌, nat_le, Bool, true, false, List, [], ◌∷◌, ◌++◌, zero, suc, Option, Some, None, Result, Ok, Err}
+use Rattle.std.specs.Prelude.{ℕ, ◌+◌, nat_le, Bool, true, false, List, [], ◌∷◌, ◌++◌, zero, suc, Option, Some, None, Result, Ok, Err}
+use Rattle.std.specs.Option.{ok_or}
+use Rattle.viz_base.specs.Answers.{Gives}
 use Rattle.viz_base.specs.declared.formulas.Edge.{Edge}
 use Rattle.viz_base.specs.declared.formulas.Edge.TheVariants as of_edge
 use Rattle.viz_base.specs.declared.formulas.Formula.{Formula}
@@ -387,22 +389,28 @@ initial = record {
 
 -- ---- which answer of the code stands for which step. Want of memory is free.
 
--- whether a token may stand where it stands, if a formula can have it there
-abbrev pub check_of : Step → Option Check
-check_of None = None
-check_of (Some (s, check)) = Some check
+-- the reading behind a token, or why the token may not stand where it stands
+abbrev pub taken : Step → Result Reading Stop
+taken None = Err of_stop.Bad
+taken (Some (s, fine)) = Ok s
+taken (Some (s, unbound)) = Err of_stop.Unbound
+taken (Some (s, too_deep)) = Err of_stop.TooDeep
 
-abbrev pub Stops : Stop → Step → Type 0
-Stops of_stop.Mem answer = Unit {0}
-Stops of_stop.Bad answer = answer ≡ None
-Stops of_stop.Unbound answer = check_of answer ≡ Some unbound
-Stops of_stop.TooDeep answer = check_of answer ≡ Some too_deep
+-- the refusal that a stop names: itself
+abbrev pub refusal_of : Stop → Option Stop
+refusal_of of_stop.Mem = None
+refusal_of stop = Some stop
 
-abbrev pub Gives : Result Reading Stop → Step → Type 0
-Gives (Ok s) answer = answer ≡ go s
-Gives (Err stop) answer = Stops stop answer
+abbrev pub Steps : Result Reading Stop → Step → Type 0
+Steps result step = Gives (λ s. s) refusal_of result (taken step)
 
 -- the same of an answer that changes the place alone
 abbrev pub Moves : Reading → Result Place Stop → Step → Type 0
-Moves s (Ok place) answer = answer ≡ go (at s place)
-Moves s (Err stop) answer = Stops stop answer
+Moves s result step = Gives (at s) refusal_of result (taken step)
+
+-- the formula, or that the text may not end there
+abbrev pub formula_read : Option Formula → Result Formula Stop
+formula_read formula = ok_or formula of_stop.Bad
+
+abbrev pub Ends : Result Formula Stop → Option Formula → Type 0
+Ends result formula = Gives (λ f. f) refusal_of result (formula_read formula)

@@ -8,34 +8,31 @@ use Rattle.vis_read.specs.declared.faults.Stop.{Stop}
 use Rattle.vis_read.specs.declared.faults.Stop.TheVariants as of_stop
 use Rattle.vis_read.specs.declared.lexemes.Token.{Token}
 use Rattle.vis_read.specs.declared.reading.Reading.{Reading}
-use Rattle.vis_read.specs.Grammar.{fine, unbound, too_deep}
-use Rattle.vis_read.specs.steps.Machine.{Step, step, ended, initial}
+use Rattle.vis_read.specs.steps.Machine.{ended, formula_read, initial, step, taken}
 
--- the fault of a token at a place
-abbrev pub IsAt : Stop → ℕ → FormulaFault → Type 0
-IsAt of_stop.Mem at fault = fault ≡ of_fault.Mem
-IsAt of_stop.Bad at fault = fault ≡ of_fault.Bad at
-IsAt of_stop.Unbound at fault = fault ≡ of_fault.Unbound at
-IsAt of_stop.TooDeep at fault = fault ≡ of_fault.TooDeep at
+-- the fault that a stop is at a place
+abbrev pub fault_at : Stop → ℕ → FormulaFault
+fault_at of_stop.Mem at = of_fault.Mem
+fault_at of_stop.Bad at = of_fault.Bad at
+fault_at of_stop.Unbound at = of_fault.Unbound at
+fault_at of_stop.TooDeep at = of_fault.TooDeep at
 
--- what a token's check says of what follows
-abbrev pub then_run : ℕ → Step → (Reading → Result Reading FormulaFault) → Result Reading FormulaFault
-then_run at None f = Err (of_fault.Bad at)
-then_run at (Some (s, fine)) f = f s
-then_run at (Some (s, unbound)) f = Err (of_fault.Unbound at)
-then_run at (Some (s, too_deep)) f = Err (of_fault.TooDeep at)
+-- what follows a token at a place
+abbrev pub then_run : ℕ → Result Reading Stop → (Reading → Result Reading FormulaFault) → Result Reading FormulaFault
+then_run at (Ok s) f = f s
+then_run at (Err stop) f = Err (fault_at stop at)
 
 -- all tokens, up to the first that may not stand where it stands
 abbrev pub run : Reading → List Token → Result Reading FormulaFault
 run s [] = Ok s
-run s (t ∷ ts) = then_run t.at (step s t.lexeme) (λ next. run next ts)
+run s (t ∷ ts) = then_run t.at (taken (step s t.lexeme)) (λ next. run next ts)
 
-abbrev pub end_with : ℕ → Option Formula → Result Formula FormulaFault
-end_with end None = Err (of_fault.Bad end)
-end_with end (Some f) = Ok f
+abbrev pub end_with : ℕ → Result Formula Stop → Result Formula FormulaFault
+end_with end (Ok f) = Ok f
+end_with end (Err stop) = Err (fault_at stop end)
 
 abbrev pub then_end : ℕ → Result Reading FormulaFault → Result Formula FormulaFault
-then_end end (Ok s) = end_with end (ended s)
+then_end end (Ok s) = end_with end (formula_read (ended s))
 then_end end (Err fault) = Err fault
 
 -- what the tokens of a text that ends at a place are
@@ -52,12 +49,3 @@ Fails fault answer = FailsWith (refusal_of fault) (λ given. answer ≡ given)
 
 abbrev pub Judges : {A : Type 0} → Result A FormulaFault → Result A FormulaFault → Type 0
 Judges result answer = Gives (λ x. x) refusal_of result answer
-
-abbrev pub EndsBadly : Stop → Option Formula → Type 0
-EndsBadly of_stop.Mem answer = Unit {0}
-EndsBadly of_stop.Bad answer = answer ≡ None
-EndsBadly _ answer = ⊥
-
-abbrev pub Ends : Result Formula Stop → Option Formula → Type 0
-Ends (Ok f) answer = answer ≡ Some f
-Ends (Err stop) answer = EndsBadly stop answer
