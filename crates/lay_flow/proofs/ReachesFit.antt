@@ -34,7 +34,7 @@ use Rattle.flow_limits.proofs.FlowWithin.{IsContextIn, IsStandingIn}
 use Rattle.lay_flow.specs.Low.{IsBandLow, IsClearedLow, IsRunLow, IsStandingLow}
 use Rattle.lay_flow.specs.WayFits.{ForwardFits, FromFits, StandingFits, ReachFits}
 use Rattle.lay_flow.specs.steps.Flow.{reached_from, reached_of}
-use Rattle.lay_flow.specs.steps.Walk.{size_in, way_in}
+use Rattle.lay_flow.specs.steps.Walk.{ground_of, size_in, way_in}
 use Rattle.lay_flow.proofs.WaysFit.{ways-fit}
 
 module _ (tree : BoxTree) (w : World) (height : ℕ) (own turned : ℕ → Bounds) (s t : ℕ) (fine : 8 * t ≤ s)
@@ -66,7 +66,7 @@ module _ (tree : BoxTree) (w : World) (height : ℕ) (own turned : ℕ → Bound
       (record { bands = tt; room = record { up = omega arith; down = omega arith; aside = omega arith } }) n
 
   found-in : (b : Bounds) (base : Base) (passed : ℕ → Bool) (run : Run ℤ) (begun : IsBegun b base) (floats : AllByRecursion (IsFloatIn b) c.floats) (least : AllByRecursion (IsLevelIn b) (option_to_list c.least)) → IsBandIn b cb
-      → within.IsRunLow s run → IsBoxFound tree w height own turned s t fine boxes (size_in apart) base c.floats c.least b (sized base b) begun floats least b k (way_in tree w apart base c.floats c.least passed cb k run [])
+      → within.IsRunLow s run → IsBoxFound tree w height own turned s t fine boxes (size_in apart) base c.floats c.least b (sized base b) begun floats least b k (way_in (ground_of tree w apart base c) passed cb k run [])
   unfolding way_in
   found-in b base passed run begun floats least band r =
       way-in tree w height own turned s t fine boxes (size_in apart) base c.floats c.least b (sized base b) begun floats least passed (length tree.boxes) b cb k run [] l i f band r
@@ -132,7 +132,7 @@ module _ (tree : BoxTree) (w : World) (height : ℕ) (own turned : ℕ → Bound
       )
       by (below edge run stuck) q o =
           let found = found-in b (hangs edge) none_passed run q.0 h.floats h.least band q.1 in
-          let x = way_in tree w apart (hangs edge) c.floats c.least none_passed cb k run [] in
+          let x = way_in (ground_of tree w apart (hangs edge) c) none_passed cb k run [] in
           (o.0, o.1, forward-fits b (hangs edge) none_passed run q.0 h.floats h.least band q.1 narrow, run-low x.run found.run, ended (hangs edge) q.0 x.waiting x.end found.end)
 
   -- the box that is cleared ahead of it is low
@@ -151,11 +151,11 @@ module _ (tree : BoxTree) (w : World) (height : ℕ) (own turned : ℕ → Bound
       same-number d e = grind (arith, nat_tests)
 
       -- where it is cleared itself
-      itself : (edge : ℤ) → IsLevelIn (near b) edge → IsClearedLow (cleared_of (way_in tree w apart (stands edge) c.floats c.least (is_up_to k) cb k no_run []).end)
+      itself : (edge : ℤ) → IsLevelIn (near b) edge → IsClearedLow (cleared_of (way_in (ground_of tree w apart (stands edge) c) (is_up_to k) cb k no_run []).end)
       itself edge e =
           let floats = floats-wider b (near b) c.floats wide h.floats in
           let least = levels-wider b (near b) (option_to_list c.least) wide h.least in
-          let x = way_in tree w apart (stands edge) c.floats c.least (is_up_to k) cb k no_run [] in
+          let x = way_in (ground_of tree w apart (stands edge) c) (is_up_to k) cb k no_run [] in
           end-low (near b) (stands edge) e floats least x.waiting x.end n (found-in (near b) (stands edge) (is_up_to k) no_run e floats least (band-wider b (near b) wide band) (none-low s)).end
 
       from : (y : ℤ) (o : Cleared) (r : Run ℤ) → IsPending tree own turned s b (k ∷ ks) o → IsClearedLow o → IsClearedLow (reached_from tree w apart cb c k y o r).0.cleared
@@ -163,7 +163,7 @@ module _ (tree : BoxTree) (w : World) (height : ℕ) (own turned : ℕ → Bound
       from y (Some d) r p l = met (d.0 == k) refl
         where
           own_way : Found
-          own_way = way_in tree w apart (stands d.1) c.floats c.least (is_up_to k) cb k no_run []
+          own_way = way_in (ground_of tree w apart (stands d.1) c) (is_up_to k) cb k no_run []
 
           met : (m : Bool) → (d.0 == k) ≡ m → IsClearedLow (elim m as (λ _. Reached × Run ℤ) [
             | true ↦ (record { top = d.1; clears = true; cleared = cleared_of own_way.end }, own_way.run)
@@ -182,5 +182,5 @@ module _ (tree : BoxTree) (w : World) (height : ℕ) (own turned : ℕ → Bound
       by (at_top y next) q o = from y next no_run q.1 o.1
       by (below edge run stuck) q o =
           let found = found-in b (hangs edge) none_passed run q.0 h.floats h.least band q.1 in
-          let x = way_in tree w apart (hangs edge) c.floats c.least none_passed cb k run [] in
+          let x = way_in (ground_of tree w apart (hangs edge) c) none_passed cb k run [] in
           from (edge +ℤ collapse x.run) (cleared_of x.end) x.run (pending (hangs edge) q.0 x.waiting x.end found.end) (end-low b (hangs edge) q.0 h.floats h.least x.waiting x.end narrow found.end)

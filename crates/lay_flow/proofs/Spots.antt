@@ -1,7 +1,8 @@
 -- Floats and boxes that are moved fit where their numbers are low.
-use Rattle.std.proofs.Common.{◌≡◌, ℕ, ◌+◌, ◌≤◌, ◌^◌, ℤ, unsigned_abs, Bool, true, false, cond, fold, List, [], ◌∷◌, ◌++◌, Option, Some, None, refl, arith}
+use Rattle.std.proofs.Common.{◌≡◌, ℕ, ◌+◌, ◌≤◌, ◌^◌, ℤ, unsigned_abs, Bool, true, false, cond, fold, List, [], ◌∷◌, Option, Some, None, ap, sym, subst, ◌∙◌, arith}
 use Rattle.std.specs.List.{AllByRecursion}
-use Rattle.std.specs.Option.{option_to_list}
+use Rattle.std.specs.Option.{option_copied, option_to_list}
+use denote.Ref.{Bor}
 use Rattle.viz_base.specs.declared.layouts.Band.{Band}
 use Rattle.viz_base.specs.Trees.{is_line}
 use Rattle.viz_base.specs.declared.layouts.Entry.{Entry}
@@ -9,15 +10,16 @@ use Rattle.viz_base.specs.declared.layouts.Entry.TheVariants as of_entry
 use Rattle.viz_base.specs.declared.layouts.Extent.{Extent}
 use Rattle.viz_base.specs.declared.layouts.Spot.{Spot}
 use Rattle.viz_base.specs.declared.renderings.Quad.{Quad}
-use Rattle.viz_base.specs.declared.styles.Clear.{Clear}
 use Rattle.viz_calc.specs.State.{AllSmall}
-use Rattle.layout_laws.proofs.Greatest.{greatest_from-any, All-at}
-use Rattle.layout_laws.proofs.Levels.{All-implied, All-append}
-use Rattle.layout_semantics.specs.Floats.{FloatBox, Floating, float_spot, lowest_bottom}
+use Rattle.viz_calc.specs.World.{Reading}
+use Rattle.layout_laws.proofs.Greatest.{All-at}
+use Rattle.layout_laws.proofs.Levels.{All-implied}
+use Rattle.layout_semantics.specs.Floats.{FloatBox, Floating, float_spot}
 use Rattle.layout_semantics.specs.Flow.{raised}
 use Rattle.layout_semantics.specs.Rectangles.{shifted_quad}
 use Rattle.lay_float.specs.Limits.{IsHalf, AllHalf, AreHalf}
-use Rattle.lay_line.proofs.Placing.{lowest_within}
+use Rattle.lay_float.specs.Readings.{option_at}
+use Rattle.lay_float.specs.steps.Lent.{lent_at}
 use Rattle.lay_frame.specs.Fitting.{quad_way}
 use Rattle.flow_limits.proofs.FloatSpots.{spot-in}
 use Rattle.flow_limits.proofs.Levels.{quad-wider, level-wider, level-max}
@@ -26,7 +28,6 @@ use Rattle.flow_limits.specs.Inline.{IsSmall}
 use Rattle.flow_steps.specs.Flow.{line_tops}
 use Rattle.lay_flow.specs.Low.{reach, IsLevelLow, AreLevelsLow, IsBandLow}
 use Rattle.lay_flow.specs.Fits.{IsNear, IsSpotNear, IsEntryLow}
-use Rattle.lay_flow.specs.steps.Walk.{top_of}
 use Rattle.lay_flow.proofs.Sizes.{wider, plus, level, level-size, size-level, quad-size, IsQuadSmall, quad-fits}
 
 -- ---- half of what a number may be
@@ -39,9 +40,6 @@ half-aside x s = wider (2 ^ 90) (2 ^ 99) x s (omega arith)
 
 half-near : (x : ℤ) → IsNear x → IsHalf x
 half-near x s = wider (2 ^ 95) (2 ^ 99) x s (omega arith)
-
-pub half-fits : (x : ℤ) → IsHalf x → AllSmall (x ∷ [])
-half-fits x s = (wider (2 ^ 99) (2 ^ 100) x s (omega arith), tt)
 
 pub floats-half : (floats : List FloatBox) (numbers : List ℤ) → AllByRecursion (IsFloatIn reach) floats → AllHalf numbers → AreHalf floats numbers
 floats-half floats numbers a n = record {
@@ -60,22 +58,23 @@ pub place-half : (floats : List FloatBox) (size : Extent ℤ) (cb : Band ℤ) (l
 place-half floats size cb least y a e i l n = floats-half floats (size.width ∷ size.height ∷ cb.left ∷ cb.right ∷ levels_of least y) a
     (half-aside size.width e.width, (half-level size.height e.height, (half-aside cb.left i.left, (half-aside cb.right i.right, (half-near y n, levels-half (option_to_list least) l)))))
 
--- the highest top that a float may have is half where what it is made of is
-half-all : (ys : List ℤ) → AllHalf ys → AllByRecursion IsHalf ys
-half-all [] a = tt
-half-all (y ∷ ys) a = (a.0, half-all ys a.1)
-
-pub top-half : (clear : Clear) (floats : List FloatBox) (least : Option ℤ) (y : ℤ) (numbers : List ℤ) → AreHalf floats numbers → AllHalf (levels_of least y) → IsHalf (top_of least y (lowest_bottom clear floats))
-unfolding top_of
-top-half clear floats least y numbers a l =
-    greatest_from-any IsHalf y (option_to_list least ++ option_to_list (lowest_bottom clear floats)) l.0
-    (All-append IsHalf (option_to_list least) (option_to_list (lowest_bottom clear floats)) (half-all (option_to_list least) l.1) (by (lowest_bottom clear floats) refl))
-  where
-    by : (o : Option ℤ) → lowest_bottom clear floats ≡ o → AllByRecursion IsHalf (option_to_list o)
-    by None e = tt
-    by (Some z) e = (lowest_within (2 ^ 99) floats clear z a.edges e, tt)
-
 -- ---- where a float comes
+
+-- the highest top in the context so far is lent
+module _ {N : Type 0} (at : N → Reading → ℤ) (e : Reading) (lent : Option (Bor N)) (least : Option N) (is : option_copied lent ≡ least) where
+  lent-is : lent_at at lent e ≡ option_at at least e
+  lent-is = by lent is
+    where
+      by : (l : Option (Bor N)) → option_copied l ≡ least → lent_at at l e ≡ option_at at least e
+      by None i = ap (λ o. option_at at o e) i
+      by (Some x) i = ap (λ o. option_at at o e) i
+
+  pub spot-lent : (f : Floating) (floats : List FloatBox) (y : ℤ) (spot : Spot ℤ) → spot ≡ float_spot f floats (lent_at at lent e) y → spot ≡ float_spot f floats (option_at at least e) y
+  spot-lent f floats y spot v = v ∙ ap (λ o. float_spot f floats o y) lent-is
+
+  pub half-lent : (floats : List FloatBox) (size : Extent ℤ) (cb : Band ℤ) (y : ℤ) → AreHalf floats (size.width ∷ size.height ∷ cb.left ∷ cb.right ∷ levels_of (option_at at least e) y)
+      → AreHalf floats (size.width ∷ size.height ∷ cb.left ∷ cb.right ∷ y ∷ option_to_list (lent_at at lent e))
+  half-lent floats size cb y h = subst (λ o. AreHalf floats (size.width ∷ size.height ∷ cb.left ∷ cb.right ∷ levels_of o y)) (sym lent-is) h
 
 -- a float that comes at a number made of few stays as near
 abbrev around_spots : Bounds

@@ -19,6 +19,7 @@ use Rattle.lay_margin.specs.declared.runs.Run.{Run}
 use Rattle.lay_margin.specs.steps.Leads.{lead_of}
 use Rattle.flow_steps.specs.Forward.{hypothetical_edge}
 use Rattle.flow_steps.specs.Runs.{edge_at}
+use Rattle.flow_steps.proofs.LeadCases.{on_ground}
 use Rattle.flow_limits.specs.Bounds.{AreInside, all_around, levels_of, IsLevelIn, IsBandIn, IsExtentIn, IsFloatIn, IsQuadIn}
 use Rattle.flow_limits.proofs.FloatSpots.{with-float}
 use Rattle.flow_limits.proofs.FloatsMet.{floats-wider, band-wider}
@@ -105,7 +106,7 @@ way-waits size base floats least run ws y g go l =
 
 -- from where the run of a box would end if it were not cleared, and from where the run before it ends
 module _ (tree : BoxTree) (w : World) (size : Waiting ℤ → Extent ℤ) (base : Base) (floats : List FloatBox) (least : Option ℤ) (run : Run ℤ) (ws : List (Waiting ℤ)) where
-  pub hypothetical-waits : (cb : Band ℤ) (b : ℕ) → IsDecisionLow tree w size base floats least cb b run ws → WaitingFits size floats least (hypothetical_edge tree w size base floats least cb b run) ws
+  pub hypothetical-waits : (cb : Band ℤ) (b : ℕ) → IsDecisionLow (on_ground tree w size base floats least) cb b run ws → WaitingFits size floats least (hypothetical_edge (on_ground tree w size base floats least) cb b run) ws
   unfolding hypothetical_edge
   hypothetical-waits cb b f =
       let own = (lead_of tree w (is_up_to b) cb b run []).run in

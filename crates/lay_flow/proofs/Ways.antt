@@ -9,12 +9,12 @@ use Rattle.lay_margin.specs.declared.runs.Run.{Run}
 use Rattle.flow_steps.specs.Forward.{box_found}
 use Rattle.flow_steps.proofs.Levels.{way-is}
 use Rattle.lay_flow.specs.Readings.{apart_at, base_at}
-use Rattle.lay_flow.specs.Ways.{way_at, inner_at}
+use Rattle.lay_flow.specs.Ways.{ground_at, way_at, inner_at}
 use Rattle.lay_flow.specs.steps.Walk.{size_in}
 use Rattle.lay_flow.specs.declared.forward.Way.{Way}
 
 pub way-inside : {N : Type 0} (at : N → Reading → ℤ) (x : Way N) (e : Reading) (cb : Band ℤ) (b : ℕ) (run : Run ℤ) (ws : List (Waiting ℤ)) → b < length x.page.now.tree.now.boxes
-    → way_at at x e cb b run ws ≡ box_found x.page.now.tree.now e.world (size_in (apart_at at x.page.now.apart.now e)) (base_at at x.base.now e) (boxes_at at x.floats.now e) (option_at at x.least.now e) (passed_by x.past) cb b run ws (inner_at at x e cb b run ws)
+    → way_at at x e cb b run ws ≡ box_found (ground_at at x e) (passed_by x.past) cb b run ws (inner_at at x e cb b run ws)
 unfolding way_at
 way-inside at x e cb b run ws l =
     way-is x.page.now.tree.now e.world (size_in (apart_at at x.page.now.apart.now e)) (base_at at x.base.now e) (boxes_at at x.floats.now e) (option_at at x.least.now e) (passed_by x.past) b cb run ws l

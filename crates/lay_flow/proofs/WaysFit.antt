@@ -22,7 +22,7 @@ use Rattle.lay_margin.specs.Fitting.{inside as leads_inside}
 use Rattle.lay_margin.specs.Runs.{with_margin}
 use Rattle.lay_margin.specs.steps.Leads.{enters, inner_band, margin_above, margin_below}
 use Rattle.flow_steps.specs.Forward.{Found, End, goes_on, solid, cleared, found, kid_of, passed_box, way}
-use Rattle.flow_steps.proofs.LeadCases.{found-float, found-flow}
+use Rattle.flow_steps.proofs.LeadCases.{on_ground, found-float, found-flow}
 use Rattle.flow_steps.proofs.Sound.{IsFlowKid, enters-no-line, lead-sound}
 use Rattle.flow_limits.specs.Bounds.{Bounds, AreInside, grown, all_around, together, IsLevelIn, IsBandIn, IsFloatIn}
 use Rattle.flow_limits.specs.Boxes.{AreWidthsSmall, IsWhole, IsBoxSmall}
@@ -117,7 +117,7 @@ module _ (tree : BoxTree) (w : World) (height : ℕ) (own turned : ℕ → Bound
     charges ws = together (λ (f : Waiting ℤ). grown (own f.at) (all_around s)) ws
 
     abbrev go : Band ℤ → ℕ → Run ℤ → List (Waiting ℤ) → Found
-    go = way tree w size base floats least p
+    go = way (on_ground tree w size base floats least) p
 
     waits-wider : (b around : Bounds) (ws : List (Waiting ℤ)) → AreInside b around → DoesWait b ws → DoesWait around ws
     waits-wider b around ws i d = record {
@@ -219,7 +219,7 @@ module _ (tree : BoxTree) (w : World) (height : ℕ) (own turned : ℕ → Bound
 
     -- a way from a box, where it and all in it stay within 2^88
     pub ways-fit : (b : Bounds) (cb : Band ℤ) (k : ℕ) (run : Run ℤ) (ws : List (Waiting ℤ)) → k < length tree.boxes → Kid cb k → is_floated_at tree k ≡ false → IsBandIn b cb → IsRunIn run → DoesWait b ws
-        → AreInside (grown b (rises k)) (all_around (2 ^ 88)) → WayFits tree w go size base floats least cb k run ws
+        → AreInside (grown b (rises k)) (all_around (2 ^ 88)) → WayFits (on_ground tree w size base floats least) go cb k run ws
     ways-fit b cb k run ws l i f band r d j = record {
       ground = record { edge = begin base base_in; before = floats-wider start reach floats narrow floats_in; tops = levels-wider start reach (option_to_list least) narrow least_in };
       lead = λ other n to. lead-low cb k other n to b l i f band j;

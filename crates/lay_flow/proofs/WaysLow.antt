@@ -1,19 +1,16 @@
 -- What fits on a way fits on what is left of it.
-use Rattle.std.proofs.Common.{◌≡◌, ℕ, suc, ℤ, true, List, ◌∷◌, Option, ap, arith}
+use Rattle.std.proofs.Common.{◌≡◌, ℕ, suc, ℤ, true, List, ◌∷◌, ap, arith}
 use Rattle.viz_base.specs.declared.layouts.Band.{Band}
-use Rattle.viz_base.specs.declared.layouts.Extent.{Extent}
 use Rattle.viz_base.specs.declared.layouts.Waiting.{Waiting}
 use Rattle.viz_base.specs.declared.trees.BoxTree.{BoxTree}
 use Rattle.viz_base.specs.declared.worlds.World.{World}
-use Rattle.layout_semantics.specs.Floats.{FloatBox}
 use Rattle.layout_semantics.specs.FlowBoxes.{flow_children}
 use Rattle.layout_semantics.specs.Lengths.{margins}
-use Rattle.layout_semantics.specs.Clearance.{Base}
 use Rattle.lay_margin.specs.declared.runs.Run.{Run}
 use Rattle.lay_margin.specs.Fitting.{MarginFits, InsideFits, itself}
 use Rattle.lay_margin.specs.Runs.{with_margin}
 use Rattle.lay_margin.specs.steps.Leads.{enters, inner_band, margin_above}
-use Rattle.flow_steps.specs.Forward.{End, goes_on, solid, cleared, Found, kid_of, kids_found}
+use Rattle.flow_steps.specs.Forward.{Ground, End, goes_on, solid, cleared, Found, kid_of, kids_found}
 use Rattle.lay_flow.specs.WayFits.{here, inside, first, later, IsDecisionLow, WayFits, KidsFit, KidFits}
 use Rattle.lay_flow.proofs.LeadsLow.{lead-inner}
 
@@ -23,15 +20,21 @@ pub kids-on : (tree : BoxTree) (w : World) (kid : Run ℤ → List (Waiting ℤ)
 kids-on tree w kid k ks run ws e =
     ap (λ (x : End). elim x as (λ _. Found) [ goes_on ↦ kids_found tree w kid ks (kid run ws k).run (kid run ws k).waiting | solid ↦ kid run ws k | cleared b edge ↦ kid run ws k ]) e
 
-module _ (tree : BoxTree) (w : World) (go : Band ℤ → ℕ → Run ℤ → List (Waiting ℤ) → Found) (size : Waiting ℤ → Extent ℤ) (base : Base) (floats : List FloatBox) (least : Option ℤ) (cb : Band ℤ) where
+module _ (g : Ground) (go : Band ℤ → ℕ → Run ℤ → List (Waiting ℤ) → Found) (cb : Band ℤ) where
+  abbrev tree : BoxTree
+  tree = g.tree
+
+  abbrev w : World
+  w = g.world
+
   abbrev Way : ℕ → Run ℤ → List (Waiting ℤ) → Type 0
-  Way b run ws = WayFits tree w go size base floats least cb b run ws
+  Way b run ws = WayFits g go cb b run ws
 
   abbrev Kids : Band ℤ → List ℕ → Run ℤ → List (Waiting ℤ) → Type 0
-  Kids band ks run ws = KidsFit tree w go size base floats least band ks run ws
+  Kids band ks run ws = KidsFit g go band ks run ws
 
   module _ (b : ℕ) (run : Run ℤ) (ws : List (Waiting ℤ)) (f : Way b run ws) where
-    pub way-decides : IsDecisionLow tree w size base floats least cb b run ws
+    pub way-decides : IsDecisionLow g cb b run ws
     way-decides = record { ground = f.ground; lead = f.lead; going = f.ways run ws here }
 
     pub way-above : MarginFits tree w (margins tree b).top cb
@@ -48,7 +51,7 @@ module _ (tree : BoxTree) (w : World) (go : Band ℤ → ℕ → Run ℤ → Lis
 
   module _ (k : ℕ) (ks : List ℕ) (run : Run ℤ) (ws : List (Waiting ℤ)) (f : Kids cb (k ∷ ks) run ws) where
     -- the first of some boxes, and those after it
-    pub kids-first : KidFits tree w go size base floats least cb k run ws
+    pub kids-first : KidFits g go cb k run ws
     kids-first = record { band = f.kids.0; way = λ n. record { ground = f.ground; lead = f.kids.1 0 (omega arith) n; ways = λ end all c. f.ways end all (first n c) } }
 
     pub kids-later : (kid_of tree w (go cb) cb run ws k).end ≡ goes_on → Kids cb ks (kid_of tree w (go cb) cb run ws k).run (kid_of tree w (go cb) cb run ws k).waiting

@@ -18,10 +18,10 @@ use Rattle.lay_margin.specs.Fitting.{edges, BoxFits, LeadsTo}
 use Rattle.lay_margin.specs.Runs.{no_run, with_margin}
 use Rattle.lay_margin.specs.steps.Leads.{enters, inner_band, margin_above, margin_below}
 use Rattle.flow_steps.specs.Flow.{Standing, at_top, below, Context}
-use Rattle.flow_steps.specs.Forward.{Found, goes_on, cleared_of, kid_of}
+use Rattle.flow_steps.specs.Forward.{Found, Ground, goes_on, cleared_of, kid_of}
 use Rattle.flow_limits.specs.Bounds.{all_around, levels_of, IsLevelIn, IsBandIn, IsFloatIn}
 use Rattle.lay_flow.specs.Low.{reach, IsLevelLow, AreLevelsLow, IsAsideLow, IsRunLow, IsClearedLow, IsBaseLow, IsWaitingLow}
-use Rattle.lay_flow.specs.steps.Walk.{size_in, way_in}
+use Rattle.lay_flow.specs.steps.Walk.{ground_of, way_in}
 
 -- ---- boxes whose margins may adjoin
 
@@ -73,12 +73,10 @@ pub record IsGoingLow (size : Waiting ℤ → Extent ℤ) (run : Run ℤ) (ws : 
   pub room : waiting_reach size ws ≤ 2 ^ 90
 
 -- whether such a box is cleared can be decided
-pub record IsDecisionLow (tree : BoxTree) (w : World) (size : Waiting ℤ → Extent ℤ) (base : Base)
-    (floats : List FloatBox) (least : Option ℤ) (cb : Band ℤ) (b : ℕ) (run : Run ℤ) (ws : List (Waiting ℤ))
-    : Type 0 where
-  pub ground : IsGroundLow base floats least
-  pub lead : IsLeadLow tree w cb b
-  pub going : IsGoingLow size run ws
+pub record IsDecisionLow (g : Ground) (cb : Band ℤ) (b : ℕ) (run : Run ℤ) (ws : List (Waiting ℤ)) : Type 0 where
+  pub ground : IsGroundLow g.base g.floats g.least
+  pub lead : IsLeadLow g.tree g.world cb b
+  pub going : IsGoingLow g.size run ws
 
 -- ---- the way
 
@@ -104,28 +102,28 @@ module _ (tree : BoxTree) (w : World) (go : Band ℤ → ℕ → Run ℤ → Lis
         → ComesTo cb (several ks) (kid_of tree w (go cb) cb run ws k).run (kid_of tree w (go cb) cb run ws k).waiting
         end all → ComesTo cb (several (k ∷ ks)) run ws end all
 
-  module _ (size : Waiting ℤ → Extent ℤ) (base : Base) (floats : List FloatBox) (least : Option ℤ) where
-    -- wherever it comes to, runs and floats that wait are low
-    abbrev pub IsWayLow : Band ℤ → Stage → Run ℤ → List (Waiting ℤ) → Type 0
-    IsWayLow cb stage run ws = (end : Run ℤ) (all : List (Waiting ℤ)) → ComesTo cb stage run ws end all
-        → IsGoingLow size end all
+module _ (g : Ground) (go : Band ℤ → ℕ → Run ℤ → List (Waiting ℤ) → Found) where
+  -- wherever it comes to, runs and floats that wait are low
+  abbrev pub IsWayLow : Band ℤ → Stage → Run ℤ → List (Waiting ℤ) → Type 0
+  IsWayLow cb stage run ws = (end : Run ℤ) (all : List (Waiting ℤ))
+      → ComesTo g.tree g.world go cb stage run ws end all → IsGoingLow g.size end all
 
-    -- from a box
-    pub record WayFits (cb : Band ℤ) (b : ℕ) (run : Run ℤ) (ws : List (Waiting ℤ)) : Type 0 where
-      pub ground : IsGroundLow base floats least
-      pub lead : IsLeadLow tree w cb b
-      pub ways : IsWayLow cb (one b) run ws
+  -- from a box
+  pub record WayFits (cb : Band ℤ) (b : ℕ) (run : Run ℤ) (ws : List (Waiting ℤ)) : Type 0 where
+    pub ground : IsGroundLow g.base g.floats g.least
+    pub lead : IsLeadLow g.tree g.world cb b
+    pub ways : IsWayLow cb (one b) run ws
 
-    -- from boxes one after another
-    pub record KidsFit (cb : Band ℤ) (ks : List ℕ) (run : Run ℤ) (ws : List (Waiting ℤ)) : Type 0 where
-      pub ground : IsGroundLow base floats least
-      pub kids : AreKidsLow tree w cb ks
-      pub ways : IsWayLow cb (several ks) run ws
+  -- from boxes one after another
+  pub record KidsFit (cb : Band ℤ) (ks : List ℕ) (run : Run ℤ) (ws : List (Waiting ℤ)) : Type 0 where
+    pub ground : IsGroundLow g.base g.floats g.least
+    pub kids : AreKidsLow g.tree g.world cb ks
+    pub ways : IsWayLow cb (several ks) run ws
 
-    -- from one of them, which may float
-    pub record KidFits (cb : Band ℤ) (k : ℕ) (run : Run ℤ) (ws : List (Waiting ℤ)) : Type 0 where
-      pub band : AllSmall (edges cb)
-      pub way : is_floated_at tree k ≡ false → WayFits cb k run ws
+  -- from one of them, which may float
+  pub record KidFits (cb : Band ℤ) (k : ℕ) (run : Run ℤ) (ws : List (Waiting ℤ)) : Type 0 where
+    pub band : AllSmall (edges cb)
+    pub way : is_floated_at g.tree k ≡ false → WayFits cb k run ws
 
 -- ---- where a box in flow is reached
 
@@ -133,8 +131,7 @@ module _ (tree : BoxTree) (w : World) (apart : ℕ → Alone) (cb : Band ℤ) (s
   -- the way from a box in a context
   abbrev pub ForwardFits : Base → (ℕ → Bool) → Run ℤ → Type 0
   ForwardFits base passed run =
-      WayFits tree w (way_in tree w apart base s.floats s.least passed) (size_in apart) base s.floats s.least cb b run
-      []
+      WayFits (ground_of tree w apart base s) (way_in (ground_of tree w apart base s) passed) cb b run []
 
   -- by the cleared box ahead: where it is this one, its own way begins at its edge
   abbrev pub FromFits : Cleared → Type 0
@@ -142,7 +139,7 @@ module _ (tree : BoxTree) (w : World) (apart : ℕ → Alone) (cb : Band ℤ) (s
       × ((edge : ℤ) → cleared ≡ Some (b, edge) → ForwardFits (stands edge) (is_up_to b) no_run)
 
   abbrev found_from : ℤ → Run ℤ → Found
-  found_from edge run = way_in tree w apart (hangs edge) s.floats s.least none_passed cb b run []
+  found_from edge run = way_in (ground_of tree w apart (hangs edge) s) none_passed cb b run []
 
   abbrev pub StandingFits : Standing → Type 0
   StandingFits (at_top y cleared) = IsLevelLow y × FromFits cleared

@@ -1,7 +1,6 @@
 -- A way forward at a reading.
 use Rattle.std.specs.Prelude.{ℕ, ℤ, cond, List}
 use Rattle.viz_base.specs.declared.layouts.Band.{Band}
-use Rattle.viz_base.specs.declared.layouts.Extent.{Extent}
 use Rattle.viz_base.specs.declared.layouts.Waiting.{Waiting}
 use Rattle.viz_base.specs.declared.trees.BoxTree.{BoxTree}
 use Rattle.viz_calc.specs.World.{Reading}
@@ -10,7 +9,7 @@ use Rattle.lay_float.specs.Readings.{boxes_at, option_at}
 use Rattle.lay_margin.specs.Readings.{passed_by}
 use Rattle.lay_margin.specs.declared.runs.Run.{Run}
 use Rattle.flow_steps.specs.Forward as forward
-use Rattle.flow_steps.specs.Forward.{Found, way}
+use Rattle.flow_steps.specs.Forward.{Found, Ground, way}
 use Rattle.lay_flow.specs.Readings.{apart_at, base_at}
 use Rattle.lay_flow.specs.steps.Walk.{size_in}
 use Rattle.lay_flow.specs.WayFits.{IsDecisionLow, WayFits, KidsFit, KidFits}
@@ -19,16 +18,23 @@ use Rattle.lay_flow.specs.declared.parts.End.TheVariants.{GoesOn, Solid, Ends}
 use Rattle.lay_flow.specs.declared.forward.Way.{Way}
 
 module _ {N : Type 0} (at : N → Reading → ℤ) (x : Way N) (e : Reading) where
+  -- what stays the same along it
+  abbrev pub ground_at : Ground
+  ground_at = record {
+    tree = x.page.now.tree.now;
+    world = e.world;
+    size = size_in (apart_at at x.page.now.apart.now e);
+    base = base_at at x.base.now e;
+    floats = boxes_at at x.floats.now e;
+    least = option_at at x.least.now e;
+  }
+
   unfoldable pub way_at : Band ℤ → ℕ → Run ℤ → List (Waiting ℤ) → Found
-  way_at = way x.page.now.tree.now e.world (size_in (apart_at at x.page.now.apart.now e)) (base_at at x.base.now e)
-      (boxes_at at x.floats.now e) (option_at at x.least.now e) (passed_by x.past)
+  way_at = way ground_at (passed_by x.past)
 
   -- from a box that is not cleared
   abbrev pub inner_at : Band ℤ → ℕ → Run ℤ → List (Waiting ℤ) → Found
-  inner_at cb b run waiting =
-      forward.inner_step x.page.now.tree.now e.world (size_in (apart_at at x.page.now.apart.now e))
-      (base_at at x.base.now e) (boxes_at at x.floats.now e) (option_at at x.least.now e) (passed_by x.past) way_at cb
-      b run waiting
+  inner_at cb b run waiting = forward.inner_step ground_at (passed_by x.past) way_at cb b run waiting
 
   -- through one box of a container
   abbrev pub kid_at : Band ℤ → ℕ → Run ℤ → List (Waiting ℤ) → Found
@@ -47,22 +53,15 @@ closed_end tree b Solid = Solid
 closed_end tree b (Ends c) = Ends c
 
 module _ {N : Type 0} (at : N → Reading → ℤ) (x : Way N) (e : Reading) where
-  abbrev size : Waiting ℤ → Extent ℤ
-  size = size_in (apart_at at x.page.now.apart.now e)
-
   -- what is computed on it fits
   abbrev pub DecisionFitsAt : Band ℤ → ℕ → Run ℤ → List (Waiting ℤ) → Type 0
-  DecisionFitsAt = IsDecisionLow x.page.now.tree.now e.world size (base_at at x.base.now e)
-      (boxes_at at x.floats.now e) (option_at at x.least.now e)
+  DecisionFitsAt = IsDecisionLow (ground_at at x e)
 
   abbrev pub WayFitsAt : Band ℤ → ℕ → Run ℤ → List (Waiting ℤ) → Type 0
-  WayFitsAt = WayFits x.page.now.tree.now e.world (way_at at x e) size (base_at at x.base.now e)
-      (boxes_at at x.floats.now e) (option_at at x.least.now e)
+  WayFitsAt = WayFits (ground_at at x e) (way_at at x e)
 
   abbrev pub KidsFitAt : Band ℤ → List ℕ → Run ℤ → List (Waiting ℤ) → Type 0
-  KidsFitAt = KidsFit x.page.now.tree.now e.world (way_at at x e) size (base_at at x.base.now e)
-      (boxes_at at x.floats.now e) (option_at at x.least.now e)
+  KidsFitAt = KidsFit (ground_at at x e) (way_at at x e)
 
   abbrev pub KidFitsAt : Band ℤ → ℕ → Run ℤ → List (Waiting ℤ) → Type 0
-  KidFitsAt = KidFits x.page.now.tree.now e.world (way_at at x e) size (base_at at x.base.now e)
-      (boxes_at at x.floats.now e) (option_at at x.least.now e)
+  KidFitsAt = KidFits (ground_at at x e) (way_at at x e)

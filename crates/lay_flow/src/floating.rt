@@ -1,28 +1,21 @@
-//! Floats between blocks (CSS 2.1, 9.5), and boxes in coordinates of their own.
-ghost use Rattle.std.specs.Prelude.{◌≡◌, ◌++◌, ◌∷◌, IsTrue};
+//! Floats and atomic boxes, from coordinates of their own to their places (CSS 2.1, 9.5).
+ghost use Rattle.std.specs.Prelude.{◌≡◌, ◌++◌, IsTrue};
 ghost use Rattle.viz_calc.specs.World.{Reading};
-ghost use Rattle.viz_calc.specs.Run.{Stands, Goes, Blames, BlamesButMem};
+ghost use Rattle.viz_calc.specs.Run.{Goes, Blames, BlamesButMem};
 ghost use Rattle.viz_calc.specs.Renderings.{placed_at, quad_at};
-ghost use Rattle.layout_semantics.specs.Floats.{floating, lowest_bottom, float_spot, with_float_at};
 ghost use Rattle.layout_semantics.specs.Rectangles.{shifted, shifted_box, shifted_quad};
 ghost use Rattle.lay_frame.specs.Readings.{boxes_at};
-ghost use Rattle.lay_float.specs.Readings.{boxes_at as floats_in, floats_at, extent_at, spot_at, stretch_at, option_at};
+ghost use Rattle.lay_float.specs.Readings.{extent_at, spot_at};
 ghost use Rattle.lay_flow.specs.Readings.{apart_at};
-ghost use Rattle.lay_flow.specs.steps.Walk.{top_of};
 ghost use Rattle.std.specs.List.{AllByRecursion};
 ghost use Rattle.lay_flow.specs.Low.{IsAloneLow, reach};
-ghost use Rattle.lay_float.specs.Limits.{AreHalf};
-ghost use Rattle.flow_limits.specs.Bounds.{levels_of, IsExtentIn, IsPlacedIn, IsQuadIn};
+ghost use Rattle.flow_limits.specs.Bounds.{IsExtentIn, IsPlacedIn, IsQuadIn};
 ghost use Rattle.lay_flow.specs.Fits.{IsSpotNear};
 
 use crate::parts::Alone;
-use lay_float::engine::{bottom, place};
-use lay_float::{Floats, PlacedFloat};
 use lay_frame::lists::append;
 use lay_length::lengths::zero;
-use lay_line::trees::{clear_at, side_at};
-use lay_width::limits::greater;
-use viz_base::{Band, BoxTree, Clear, Extent, Placed, Quad, Spot};
+use viz_base::{Extent, Placed, Quad, Spot};
 use viz_calc::Steady;
 
 /// A size again.
@@ -55,64 +48,6 @@ pub fn size_of<S: Steady>(calc: &mut S, apart: &[Option<Alone<S::Num>>], at: u32
             Extent { width, height }
         }
     }
-}
-
-#[tactic(auto, unfolding(crate::specs::steps::Walk::top_of))]
-/// The highest top that a float with this `clear` may have that comes at y.
-fn float_top<S: Steady>(
-    calc: &mut S,
-    floats: &[PlacedFloat<S::Num>],
-    clear: Clear,
-    least: &Option<S::Num>,
-    y: &S::Num,
-) -> S::Num
-    ensures goes { Goes (S.run calc.old) (S.run calc.new) }
-    ensures value { Stands (S.run calc.new) (S.at result) (λ e. top_of (option_at S.at least.now e) (S.at y.now e)
-        (lowest_bottom clear (floats_in S.at floats.now e))) }
-    ensures cause { Blames (S.run calc.old) (S.run calc.new) ((e : Reading) → IsTrue ((S.run calc.old).is_open e)
-        → AreHalf (floats_in S.at floats.now e) (levels_of (option_at S.at least.now e) (S.at y.now e))) }
-{
-    let from = calc.copy(y);
-    let from = match bottom(calc, floats, clear) {
-        Some(below) => greater(calc, below, from),
-        None => from,
-    };
-    match least {
-        Some(least) => {
-            let least = calc.copy(least);
-            greater(calc, least, from)
-        }
-        None => from,
-    }
-}
-
-#[tactic(auto, unfolding(crate::specs::steps::Walk::top_of))]
-/// Places a float of this size that comes at y after the earlier ones, and gives its place (CSS 2.1, 9.5.1).
-pub fn place_float<S: Steady>(
-    calc: &mut S,
-    tree: &BoxTree,
-    floats: &mut Floats<S::Num>,
-    at: u32,
-    size: &Extent<S::Num>,
-    cb: &Band<S::Num>,
-    least: &Option<S::Num>,
-    y: &S::Num,
-) -> Spot<S::Num>
-    ensures goes { Goes (S.run calc.old) (S.run calc.new) }
-    ensures value { (e : Reading) → IsTrue ((S.run calc.new).is_open e) → spot_at S.at result e
-        ≡ float_spot (floating tree.now at (extent_at S.at size.now e) (stretch_at S.at cb.now e))
-        (floats_at S.at floats.old e) (option_at S.at least.now e) (S.at y.now e) }
-    ensures appended { (e : Reading) → IsTrue ((S.run calc.new).is_open e) → floats_at S.at floats.new e
-        ≡ with_float_at (floating tree.now at (extent_at S.at size.now e) (stretch_at S.at cb.now e))
-        (floats_at S.at floats.old e) (spot_at S.at result e) }
-    ensures cause { BlamesButMem (S.run calc.old) (S.run calc.new) ((e : Reading) → IsTrue ((S.run calc.old).is_open e)
-        → AreHalf (floats_at S.at floats.old e) (S.at size.now.width e ∷ S.at size.now.height e
-        ∷ S.at cb.now.left e ∷ S.at cb.now.right e ∷ levels_of (option_at S.at least.now e) (S.at y.now e))) }
-{
-    let side = side_at(tree, at);
-    let clear = clear_at(tree, at);
-    let top = float_top(calc, floats.placed.as_slice(), clear, least, y);
-    place(calc, floats, side, size, cb, &top)
 }
 
 /// A rectangle moved by a spot.

@@ -17,14 +17,15 @@ ghost use Rattle.flow_steps.specs.Forward.{decided as decided_of};
 ghost use Rattle.lay_flow.specs.Low.{IsBaseLow, IsRunLow};
 ghost use Rattle.lay_flow.specs.Readings.{apart_at, base_at, found_at};
 ghost use Rattle.lay_flow.specs.WayFits.{IsLeadLow, WaitingFits, IsGroundLow, IsGoingLow};
-ghost use Rattle.lay_flow.specs.Ways.{way_at, inner_at, kids_at_reading, kid_at, closed_end};
+ghost use Rattle.lay_flow.specs.Ways.{ground_at, way_at, inner_at, kids_at_reading, kid_at, closed_end};
 ghost use Rattle.lay_flow.specs.Ways.{DecisionFitsAt, WayFitsAt, KidsFitAt, KidFitsAt};
 ghost use Rattle.lay_flow.specs.steps.Walk.{size_in};
 
-use crate::floating::{place_float, size_of};
+use crate::floating::size_of;
 use crate::parts::{Base, Cleared, End, Going, Page};
 use lay_float::engine::{bottom, copy};
 use lay_float::{Floats, PlacedFloat};
+use lay_line::floating::place_float;
 use lay_margin::Run;
 use lay_margin::contents::{collapses_through, enters, floats_in, holds_inline};
 use lay_margin::engine::value;
@@ -91,10 +92,8 @@ fn hypothetical_edge<S: Steady>(
 ) -> S::Num
     requires { b < length way.now.page.now.tree.now.boxes }
     ensures goes { Goes (S.run calc.old) (S.run calc.new) }
-    ensures value { Stands (S.run calc.new) (S.at result) (λ e. hypothetical_of way.now.page.now.tree.now e.world
-        (size_in (apart_at S.at way.now.page.now.apart.now e)) (base_at S.at way.now.base.now e)
-        (floats_in S.at way.now.floats.now e) (option_at S.at way.now.least.now e) (stretch_at S.at cb.now e) b
-        (run_at S.at run.now e)) }
+    ensures value { Stands (S.run calc.new) (S.at result) (λ e. hypothetical_of (ground_at S.at way.now e)
+        (stretch_at S.at cb.now e) b (run_at S.at run.now e)) }
     ensures cause { BlamesButMem (S.run calc.old) (S.run calc.new) ((e : Reading) → IsTrue ((S.run calc.old).is_open e)
         → IsBaseLow (base_at S.at way.now.base.now e) × IsRunLow (run_at S.at run.now e)
         × IsLeadLow way.now.page.now.tree.now e.world (stretch_at S.at cb.now e) b) }
@@ -140,7 +139,7 @@ fn place_waiting<S: Steady>(
             float.at,
             &size,
             &float.cb,
-            way.least,
+            way.least.as_ref(),
             y,
         );
     }
@@ -158,9 +157,7 @@ fn bottom_to_clear<S: Steady>(
 ) -> Option<S::Num>
     ensures goes { Goes (S.run calc.old) (S.run calc.new) }
     ensures value { (e : Reading) → IsTrue ((S.run calc.new).is_open e) → option_at S.at result e
-        ≡ bottom_of way.now.page.now.tree.now e.world (size_in (apart_at S.at way.now.page.now.apart.now e))
-        (base_at S.at way.now.base.now e) (floats_in S.at way.now.floats.now e) (option_at S.at way.now.least.now e) b
-        (waiting_all S.at waiting.now e) (S.at y.now e) }
+        ≡ bottom_of (ground_at S.at way.now e) b (waiting_all S.at waiting.now e) (S.at y.now e) }
     ensures cause { BlamesButMem (S.run calc.old) (S.run calc.new) ((e : Reading) → IsTrue ((S.run calc.old).is_open e)
         → WaitingFits (size_in (apart_at S.at way.now.page.now.apart.now e)) (floats_in S.at way.now.floats.now e)
         (option_at S.at way.now.least.now e) (S.at y.now e) (waiting_all S.at waiting.now e)) }
@@ -199,9 +196,8 @@ fn is_to_clear<S: Steady>(
     requires { b < length way.now.page.now.tree.now.boxes }
     ensures goes { Goes (S.run calc.old) (S.run calc.new) }
     ensures value { (e : Reading) → IsTrue ((S.run calc.new).is_open e) → result
-        ≡ to_clear_of way.now.page.now.tree.now e.world (size_in (apart_at S.at way.now.page.now.apart.now e))
-        (base_at S.at way.now.base.now e) (floats_in S.at way.now.floats.now e) (option_at S.at way.now.least.now e)
-        (stretch_at S.at cb.now e) b (run_at S.at going.now.run e) (waiting_all S.at going.now.waiting e) }
+        ≡ to_clear_of (ground_at S.at way.now e) (stretch_at S.at cb.now e) b (run_at S.at going.now.run e)
+        (waiting_all S.at going.now.waiting e) }
     ensures cause { BlamesButMem (S.run calc.old) (S.run calc.new) ((e : Reading) → IsTrue ((S.run calc.old).is_open e)
         → DecisionFitsAt S.at way.now e (stretch_at S.at cb.now e) b (run_at S.at going.now.run e)
         (waiting_all S.at going.now.waiting e)) }
@@ -220,10 +216,8 @@ fn clear_edge<S: Steady>(
     going: &Going<S::Num>,
 ) -> S::Num
     ensures goes { Goes (S.run calc.old) (S.run calc.new) }
-    ensures value { Stands (S.run calc.new) (S.at result) (λ e. clear_edge_of way.now.page.now.tree.now e.world
-        (size_in (apart_at S.at way.now.page.now.apart.now e)) (base_at S.at way.now.base.now e)
-        (floats_in S.at way.now.floats.now e) (option_at S.at way.now.least.now e) b (run_at S.at going.now.run e)
-        (waiting_all S.at going.now.waiting e)) }
+    ensures value { Stands (S.run calc.new) (S.at result) (λ e. clear_edge_of (ground_at S.at way.now e) b
+        (run_at S.at going.now.run e) (waiting_all S.at going.now.waiting e)) }
     ensures cause { BlamesButMem (S.run calc.old) (S.run calc.new) ((e : Reading) → IsTrue ((S.run calc.old).is_open e)
         → IsGroundLow (base_at S.at way.now.base.now e) (floats_in S.at way.now.floats.now e)
         (option_at S.at way.now.least.now e) × IsGoingLow (size_in (apart_at S.at way.now.page.now.apart.now e))
@@ -248,9 +242,8 @@ fn decided<S: Steady>(
     requires { b < length way.now.page.now.tree.now.boxes }
     ensures goes { Goes (S.run calc.old) (S.run calc.new) }
     ensures value { (e : Reading) → IsTrue ((S.run calc.new).is_open e) → option_at S.at result e
-        ≡ decided_of way.now.page.now.tree.now e.world (size_in (apart_at S.at way.now.page.now.apart.now e))
-        (base_at S.at way.now.base.now e) (floats_in S.at way.now.floats.now e) (option_at S.at way.now.least.now e)
-        (stretch_at S.at cb.now e) b (run_at S.at going.now.run e) (waiting_all S.at going.now.waiting e) }
+        ≡ decided_of (ground_at S.at way.now e) (stretch_at S.at cb.now e) b (run_at S.at going.now.run e)
+        (waiting_all S.at going.now.waiting e) }
     ensures cause { BlamesButMem (S.run calc.old) (S.run calc.new) ((e : Reading) → IsTrue ((S.run calc.old).is_open e)
         → DecisionFitsAt S.at way.now e (stretch_at S.at cb.now e) b (run_at S.at going.now.run e)
         (waiting_all S.at going.now.waiting e)) }

@@ -32,6 +32,7 @@ use lay_line::content::content;
 use lay_line::items::Item;
 use lay_line::lining::{Laid, lines};
 use lay_margin::trees::is_replaced;
+use lay_preferred::places::places;
 use lay_width::properties::{floats_at, own_style};
 use std::alloc::{AllocError, Global};
 use viz_base::{Band, BoxTree, Entry, Inner, Kind, Placed};
@@ -108,17 +109,6 @@ fn inner_of<S: Steady>(calc: &mut S, page: &Page<'_, S::Num>, at: u32) -> Inner<
             }
         }
     }
-}
-
-/// So many places with nothing in them.
-fn places<N: Drop>(alloc: Global, count: usize) -> Result<Vec<Option<Inner<N>>>, AllocError>
-    ensures { IfOk result (λ places. places.items ≡ replicate count None) }
-{
-    let mut places = Vec::new(alloc);
-    for _ in 0..count {
-        places.push(None)?;
-    }
-    Ok(places)
 }
 
 /// Puts what a box takes on a line to its place.

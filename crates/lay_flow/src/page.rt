@@ -21,6 +21,7 @@ use crate::parts::{Alone, Page};
 use lay_margin::contents::{floats_in, has_line, holds_inline};
 use lay_margin::trees::kids_at;
 use lay_preferred::found::{Found, nothing_found};
+use lay_preferred::places::places;
 use lay_width::properties::{floats_at, kind_at};
 use std::alloc::{AllocError, Global};
 use viz_base::{BoxTree, Kind, List, Placed, Rendering};
@@ -150,17 +151,6 @@ fn add_container<S: Steady>(
         Ok(boxes) => add_boxes(alloc, calc, tree, height, found, boxes.as_slice(), table),
         Err(_) => calc.stop(),
     }
-}
-
-/// So many places with nothing in them.
-fn places<N: Drop>(alloc: Global, count: usize) -> Result<Vec<Option<Alone<N>>>, AllocError>
-    ensures { IfOk result (λ places. places.items ≡ replicate count None) }
-{
-    let mut places = Vec::new(alloc);
-    for _ in 0..count {
-        places.push(None)?;
-    }
-    Ok(places)
 }
 
 /// A place for each box of a tree, and how many there are; none where there is no memory for them, or more boxes than

@@ -13,7 +13,7 @@ ghost use Rattle.lay_flow.specs.steps.Flow.{float_of, left, laid_replaced as rep
 ghost use Rattle.lay_flow.specs.Low.{AreLevelsLow, IsAloneLow, IsBandLow, IsContextLow, IsFrameLow};
 ghost use Rattle.lay_flow.specs.Fits.{IsNear, IsReplacedFit};
 
-use crate::floating::{add_apart, place_float, size_of};
+use crate::floating::{add_apart, size_of};
 use crate::frames::{block_box, context_box, replaced_box, shape};
 use crate::heights::{joined_run, next_edge};
 use crate::lines::in_lines;
@@ -23,6 +23,7 @@ use lay_float::Floats;
 use lay_frame::boxes::joins_last_child;
 use lay_frame::frames::{Shape, content_top};
 use lay_frame::lists::{append, keep, put};
+use lay_line::floating::place_float;
 use lay_margin::Run;
 use lay_margin::contents::{collapses_through, floats_in, has_line, holds_inline};
 use lay_margin::engine::empty;
@@ -85,7 +86,7 @@ fn float<S: Steady>(
         k,
         &size,
         cb,
-        &context.least,
+        context.least.as_ref(),
         &y,
     );
     add_apart(calc, page.apart, k, &spot, out);

@@ -1,11 +1,12 @@
 //! The preferred widths that were found of boxes.
-ghost use Rattle.std.specs.Prelude.{◌≡◌, ℕ, IsTrue, IfOk, IfSome, Some, None, [], ◌∷◌, ⊤, replicate, slice_get, slice_set};
+ghost use Rattle.std.specs.Prelude.{◌≡◌, ℕ, IsTrue, IfSome, Some, None, [], ◌∷◌, ⊤, slice_get, slice_set};
 ghost use Rattle.viz_calc.specs.World.{Reading};
 ghost use Rattle.viz_calc.specs.Run.{Goes, Fits, Blames, BlamesButMem};
 ghost use Rattle.lay_width.specs.Readings.{preferred_at};
 ghost use Rattle.lay_preferred.specs.Readings.{AreFound};
 
-use std::alloc::{AllocError, Global};
+use crate::places::places;
+use std::alloc::Global;
 use viz_base::{BoxTree, Preferred};
 use viz_calc::Steady;
 
@@ -28,17 +29,6 @@ pub fn copy_of<S: Steady>(calc: &mut S, widths: &Preferred<S::Num>) -> Preferred
     let least = calc.copy(&widths.least);
     let most = calc.copy(&widths.most);
     Preferred { least, most }
-}
-
-/// So many places with nothing in them.
-fn places<N: Drop>(alloc: Global, count: usize) -> Result<Vec<Option<Preferred<N>>>, AllocError>
-    ensures { IfOk result (λ places. places.items ≡ replicate count None) }
-{
-    let mut places = Vec::new(alloc);
-    for _ in 0..count {
-        places.push(None)?;
-    }
-    Ok(places)
 }
 
 /// Nothing found of any box of a tree.

@@ -12,5 +12,6 @@ pub mod inlines;
 mod laws;
 pub mod outer;
 pub mod parts;
+pub mod places;
 
 pub use front::preferred;

@@ -28,7 +28,7 @@ use Rattle.flow_steps.specs.Flow as flow
 use Rattle.flow_steps.specs.Flow.{Standing, at_top, below, Context, fresh, Step, step, Laid, next_edge, is_at_top, joined_run, context_height, block_height, after_lines, followed, children}
 use Rattle.flow_steps.specs.Forward.{Found, cleared_of}
 use Rattle.flow_steps.specs.Tables.{laid_at, outside_of}
-use Rattle.lay_flow.specs.steps.Walk.{way_in}
+use Rattle.lay_flow.specs.steps.Walk.{ground_of, way_in}
 
 -- the auto height of a box that starts a context
 unfoldable pub tall_of : ℤ → Context → ℤ
@@ -82,7 +82,7 @@ closed f through run end box =
 module _ (tree : BoxTree) (w : World) (apart : ℕ → Alone) where
   -- the way forward from a box in a context
   abbrev pub forward_of : Base → (ℕ → Bool) → Band ℤ → Context → ℕ → Run ℤ → Found
-  forward_of base passed cb s b run = way_in tree w apart base s.floats s.least passed cb b run []
+  forward_of base passed cb s b run = way_in (ground_of tree w apart base s) passed cb b run []
 
   -- where a box is reached, and the run before it: all before the cleared box stand at y
   unfoldable pub reached_from : Band ℤ → Context → ℕ → ℤ → Cleared → Run ℤ → Reached × Run ℤ

@@ -6,17 +6,16 @@ use Rattle.viz_calc.specs.World.{Reading}
 use Rattle.viz_calc.proofs.Runs.{Goes-then, BlamesButMem-then}
 use Rattle.layout_semantics.specs.FlowBoxes.{flow_children}
 use Rattle.layout_semantics.specs.InlineContent.{is_floated_at, holds_inline}
-use Rattle.lay_float.specs.Readings.{boxes_at, option_at, stretch_at}
+use Rattle.lay_float.specs.Readings.{stretch_at}
 use Rattle.lay_line.proofs.Chains.{but_mem, start_but_mem, next_but_mem}
 use Rattle.lay_margin.specs.Readings.{floats_at}
 use Rattle.lay_margin.specs.Runs.{run_at}
 use Rattle.lay_margin.specs.steps.Leads.{enters, inner_band}
 use Rattle.lay_margin.proofs.Kids.{flow-kids}
 use Rattle.flow_steps.specs.Forward.{Found, kid_of}
-use Rattle.lay_flow.specs.Readings.{apart_at, base_at, end_at}
-use Rattle.lay_flow.specs.Ways.{way_at, kids_at_reading, WayFitsAt, KidsFitAt, KidFitsAt}
+use Rattle.lay_flow.specs.Readings.{end_at}
+use Rattle.lay_flow.specs.Ways.{ground_at, way_at, kids_at_reading, WayFitsAt, KidsFitAt, KidFitsAt}
 use Rattle.lay_flow.specs.declared.parts.End.TheVariants.{GoesOn}
-use Rattle.lay_flow.specs.steps.Walk.{size_in}
 use Rattle.lay_flow.proofs.Ways.{way-inside as one-step}
 use Rattle.lay_flow.proofs.WaysLow.{kids-on, way-decides, way-above, way-below, way-band, way-inside, kids-first, kids-later}
 use Rattle.lay_flow.proofs.forward.+forward.Goals.{forward-else-stops_at-via-else-stops_at, forward-else-stops_at-via-then-stops_at+in-None-1}
@@ -47,7 +46,7 @@ forward-returns-clause-cause g t c =
     let run = (λ (e : Reading). run_at at c.args.going.now.run e) in
     let waiting = (λ (e : Reading). floats_at at c.args.going.now.waiting e) in
     (start_but_mem {asks = λ (e : Reading). WayFitsAt at way e (cb e) c.args.b (run e) (waiting e)} c.decided.ensures.goes c.decided.ensures.cause
-    (λ f e o. way-decides way.page.now.tree.now e.world (way_at at way e) (size_in (apart_at at way.page.now.apart.now e)) (base_at at way.base.now e) (boxes_at at way.floats.now e) (option_at at way.least.now e) (cb e) c.args.b (run e) (waiting e) (f e o))).cause
+    (λ f e o. way-decides (ground_at at way e) (way_at at way e) (cb e) c.args.b (run e) (waiting e) (f e o))).cause
 
 pub forward-returns-2-clause-cause : goal.forward-returns-2-clause-cause
 forward-returns-2-clause-cause g t c = elim c.else-stops_at.branch [
@@ -65,7 +64,7 @@ forward-returns-2-clause-cause g t c = elim c.else-stops_at.branch [
       let run = (λ (e : Reading). run_at at c.args.going.now.run e) in
       let waiting = (λ (e : Reading). floats_at at c.args.going.now.waiting e) in
       let one = start_but_mem {asks = λ (e : Reading). WayFitsAt at way e (cb e) c.args.b (run e) (waiting e)} w.decided.ensures.goes w.decided.ensures.cause
-      (λ f e o. way-decides way.page.now.tree.now e.world (way_at at way e) (size_in (apart_at at way.page.now.apart.now e)) (base_at at way.base.now e) (boxes_at at way.floats.now e) (option_at at way.least.now e) (cb e) c.args.b (run e) (waiting e) (f e o)) in
+      (λ f e o. way-decides (ground_at at way e) (way_at at way e) (cb e) c.args.b (run e) (waiting e) (f e o)) in
       let same : c.else-stops_at.calc ≡ w.decided.new.calc = grind arith in
       let last = subst (λ k. Goes (g.S.Steady.run k) (g.S.Steady.run c.inner.new.calc)) same c.inner.ensures.goes in
       let cause = subst (λ k. BlamesButMem (g.S.Steady.run k) (g.S.Steady.run c.inner.new.calc)
@@ -81,7 +80,7 @@ inner-returns-then-not-enters-clause-cause g t c =
     let run = (λ (e : Reading). run_at at c.args.going.now.run e) in
     let waiting = (λ (e : Reading). floats_at at c.args.going.now.waiting e) in
     (start_but_mem {asks = λ (e : Reading). WayFitsAt at way e (cb e) c.args.b (run e) (waiting e)} c.join_top.ensures.goes (but_mem c.join_top.ensures.cause)
-    (λ f e o. way-above way.page.now.tree.now e.world (way_at at way e) (size_in (apart_at at way.page.now.apart.now e)) (base_at at way.base.now e) (boxes_at at way.floats.now e) (option_at at way.least.now e) (cb e) c.args.b (run e) (waiting e) (f e o))).cause
+    (λ f e o. way-above (ground_at at way e) (way_at at way e) (cb e) c.args.b (run e) (waiting e) (f e o))).cause
 
 pub inner-returns-clause-cause : goal.inner-returns-clause-cause
 inner-returns-clause-cause g t c =
@@ -96,13 +95,13 @@ inner-returns-clause-cause g t c =
     let top = c.join_top.ensures in
     let band = c.band_inside-band.ensures in
     let one = start_but_mem {asks = λ (e : Reading). WayFitsAt at way e (cb e) b (run e) (waiting e)} top.goes (but_mem top.cause)
-    (λ f e o. way-above tree e.world (way_at at way e) (size_in (apart_at at way.page.now.apart.now e)) (base_at at way.base.now e) (boxes_at at way.floats.now e) (option_at at way.least.now e) (cb e) b (run e) (waiting e) (f e o)) in
+    (λ f e o. way-above (ground_at at way e) (way_at at way e) (cb e) b (run e) (waiting e) (f e o)) in
     let two = next_but_mem one band.goes (but_mem band.cause)
-    (λ f e o. way-band tree e.world (way_at at way e) (size_in (apart_at at way.page.now.apart.now e)) (base_at at way.base.now e) (boxes_at at way.floats.now e) (option_at at way.least.now e) (cb e) b (run e) (waiting e) (f e o) goes_in) in
+    (λ f e o. way-band (ground_at at way e) (way_at at way e) (cb e) b (run e) (waiting e) (f e o) goes_in) in
     (next_but_mem two c.content-end.ensures.goes c.content-end.ensures.cause (λ f e o.
     subst (λ x. KidsFitAt at way e x (flow_children tree b) (run_at at c.join_top.new.run e) (waiting e)) (sym (band.value e o))
     (subst (λ r. KidsFitAt at way e (inner_band tree e.world (cb e) b) (flow_children tree b) r (waiting e)) (sym (top.value e (band.goes.closes e o)))
-    (way-inside tree e.world (way_at at way e) (size_in (apart_at at way.page.now.apart.now e)) (base_at at way.base.now e) (boxes_at at way.floats.now e) (option_at at way.least.now e) (cb e) b (run e) (waiting e) (f e o) goes_in)))).cause
+    (way-inside (ground_at at way e) (way_at at way e) (cb e) b (run e) (waiting e) (f e o) goes_in)))).cause
 
 pub content-returns-then-not-holds_inline-clause-cause : goal.content-returns-then-not-holds_inline-clause-cause
 content-returns-then-not-holds_inline-clause-cause g t c =
@@ -125,7 +124,7 @@ kid-returns-then-matches-clause-cause g t c =
     let in_flow : is_floated_at tree k ≡ false = grind arith in
     let one = start_but_mem {asks = λ (e : Reading). KidFitsAt at way e (band e) k (run e) (waiting e)} c.forward-end.ensures.goes c.forward-end.ensures.cause (λ f e o. (f e o).way in_flow) in
     (next_but_mem one c.join_bottom.ensures.goes (but_mem c.join_bottom.ensures.cause)
-    (λ f e o. way-below tree e.world (way_at at way e) (size_in (apart_at at way.page.now.apart.now e)) (base_at at way.base.now e) (boxes_at at way.floats.now e) (option_at at way.least.now e) (band e) k (run e) (waiting e) ((f e o).way in_flow))).cause
+    (λ f e o. way-below (ground_at at way e) (way_at at way e) (band e) k (run e) (waiting e) ((f e o).way in_flow))).cause
 
 pub kids-returns-then-not-matches-clause-cause : goal.kids-returns-then-not-matches-clause-cause
 kids-returns-then-not-matches-clause-cause g t c =
@@ -139,7 +138,7 @@ kids-returns-then-not-matches-clause-cause g t c =
     let run = (λ (e : Reading). run_at at c.loop-place.going.run e) in
     let waiting = (λ (e : Reading). floats_at at c.loop-place.going.waiting e) in
     BlamesButMem-then _ _ _ _ _ inv.goes c.kid-end.ensures.goes inv.cause
-    (λ f e o. kids-first way.page.now.tree.now e.world (way_at at way e) (size_in (apart_at at way.page.now.apart.now e)) (base_at at way.base.now e) (boxes_at at way.floats.now e) (option_at at way.least.now e) (band e) (get_or all k 0) (drop (k + 1) all) (run e) (waiting e)
+    (λ f e o. kids-first (ground_at at way e) (way_at at way e) (band e) (get_or all k 0) (drop (k + 1) all) (run e) (waiting e)
     (subst (λ ks. KidsFitAt at way e (band e) ks (run e) (waiting e)) is (inv.fits e o (f e (inv.goes.closes e o)))))
     c.kid-end.ensures.cause
 
@@ -156,7 +155,6 @@ kids-loop-place-preserved g t c =
     let inv = c.loop-place.invariant in
     let own = c.kid-end.ensures in
     let ends : c.kid-end.result ≡ GoesOn = grind (arith, common_steps) in
-    let size = (λ (e : Reading). size_in (apart_at at way.page.now.apart.now e)) in
     let band = (λ (e : Reading). stretch_at at c.args.band.now e) in
     let run = (λ (e : Reading). run_at at c.loop-place.going.run e) in
     let waiting = (λ (e : Reading). floats_at at c.loop-place.going.waiting e) in
@@ -172,8 +170,8 @@ kids-loop-place-preserved g t c =
           ∙ inv.so_far e (own.goes.closes e o);
       fits = λ e o f.
           subst (λ (x : Found). KidsFitAt at way e (band e) (drop (k + 1) all) x.run x.waiting) (sym (own.value e o))
-          (kids-later tree e.world (way_at at way e) (size e) (base_at at way.base.now e) (boxes_at at way.floats.now e) (option_at at way.least.now e) (band e) b (drop (k + 1) all) (run e) (waiting e) (here e (inv.fits e (own.goes.closes e o) f)) (goes e o));
+          (kids-later (ground_at at way e) (way_at at way e) (band e) b (drop (k + 1) all) (run e) (waiting e) (here e (inv.fits e (own.goes.closes e o) f)) (goes e o));
       cause = BlamesButMem-then _ _ _ _ _ inv.goes own.goes inv.cause
-          (λ f e o. kids-first tree e.world (way_at at way e) (size e) (base_at at way.base.now e) (boxes_at at way.floats.now e) (option_at at way.least.now e) (band e) b (drop (k + 1) all) (run e) (waiting e) (here e (inv.fits e o (f e (inv.goes.closes e o)))))
+          (λ f e o. kids-first (ground_at at way e) (way_at at way e) (band e) b (drop (k + 1) all) (run e) (waiting e) (here e (inv.fits e o (f e (inv.goes.closes e o)))))
           own.cause;
     }

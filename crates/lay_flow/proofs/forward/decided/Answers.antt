@@ -1,19 +1,13 @@
-use Rattle.std.proofs.Common.{◌≡◌, ℕ, ℤ, true, List, [], ◌∷◌, length, Option, None, ap, refl, sym, ◌∙◌, arith}
+use Rattle.std.proofs.Common.{◌≡◌, ℕ, ℤ, true, List, [], ◌∷◌, length, None, ap, refl, sym, ◌∙◌, arith}
 use Rattle.std.specs.Prelude.{◌==◌}
 use Rattle.viz_base.specs.declared.layouts.Band.{Band}
-use Rattle.viz_base.specs.declared.layouts.Extent.{Extent}
 use Rattle.viz_base.specs.declared.layouts.Waiting.{Waiting}
-use Rattle.viz_base.specs.declared.trees.BoxTree.{BoxTree}
-use Rattle.viz_base.specs.declared.worlds.World.{World}
-use Rattle.layout_semantics.specs.Floats.{FloatBox}
-use Rattle.layout_semantics.specs.Clearance.{Base}
-use Rattle.lay_float.specs.Readings.{boxes_at, option_at, stretch_at}
+use Rattle.lay_float.specs.Readings.{boxes_at, stretch_at}
 use Rattle.lay_margin.specs.Readings.{floats_at}
 use Rattle.lay_margin.specs.Runs.{run_at}
 use Rattle.lay_margin.specs.declared.runs.Run.{Run}
-use Rattle.flow_steps.specs.Forward.{decided, bottom_to_clear}
-use Rattle.lay_flow.specs.Readings.{apart_at, base_at}
-use Rattle.lay_flow.specs.steps.Walk.{size_in}
+use Rattle.flow_steps.specs.Forward.{Ground, decided, bottom_to_clear}
+use Rattle.lay_flow.specs.Ways.{ground_at}
 use Rattle.lay_flow.proofs.forward.decided.Goals as goal
 
 no-items : {A : Type 0} (xs : List A) → true ≡ (length xs == 0) → xs ≡ []
@@ -21,10 +15,9 @@ no-items [] e = refl
 no-items (x ∷ xs) e = absurd (grind arith)
 
 -- without floats nothing is cleared
-none-decided : (tree : BoxTree) (w : World) (size : Waiting ℤ → Extent ℤ) (base : Base) (floats : List FloatBox) (least : Option ℤ) (cb : Band ℤ) (b : ℕ) (run : Run ℤ) (ws : List (Waiting ℤ))
-    → floats ≡ [] → ws ≡ [] → None ≡ decided tree w size base floats least cb b run ws
+none-decided : (g : Ground) (cb : Band ℤ) (b : ℕ) (run : Run ℤ) (ws : List (Waiting ℤ)) → g.floats ≡ [] → ws ≡ [] → None ≡ decided g cb b run ws
 unfolding bottom_to_clear
-none-decided tree w size base floats least cb b run ws e f = rw (e, f) refl
+none-decided g cb b run ws e f = rw (e, f) refl
 
 pub returns-then-is_empty-2-clause-value : goal.returns-then-is_empty-2-clause-value
 returns-then-is_empty-2-clause-value g c = λ e o.
@@ -32,6 +25,5 @@ returns-then-is_empty-2-clause-value g c = λ e o.
     let way = c.args.way.now in
     let no_floats = no-items way.floats.now (sym c.if-is_empty.true ∙ c.is_empty.ensures) in
     let none_wait : c.args.going.now.waiting ≡ [] = grind arith in
-    none-decided way.page.now.tree.now e.world (size_in (apart_at at way.page.now.apart.now e)) (base_at at way.base.now e) (boxes_at at way.floats.now e) (option_at at way.least.now e)
-    (stretch_at at c.args.cb.now e) c.args.b (run_at at c.args.going.now.run e) (floats_at at c.args.going.now.waiting e)
+    none-decided (ground_at at way e) (stretch_at at c.args.cb.now e) c.args.b (run_at at c.args.going.now.run e) (floats_at at c.args.going.now.waiting e)
     (ap (λ fs. boxes_at at fs e) no_floats) (ap (λ ws. floats_at at ws e) none_wait)

@@ -18,6 +18,7 @@ use Rattle.flow_limits.specs.Bounds.{levels_of}
 use Rattle.lay_flow.specs.Readings.{apart_at}
 use Rattle.lay_flow.specs.WayFits.{WaitingFits}
 use Rattle.lay_flow.specs.steps.Walk.{size_in}
+use Rattle.lay_flow.proofs.Spots.{spot-lent, half-lent}
 use Rattle.lay_flow.proofs.WaitingLow.{next-waits, first-size, first-half}
 use Rattle.lay_flow.proofs.forward.place_waiting.Goals as goal
 
@@ -53,7 +54,8 @@ loop-float-preserved g c =
     let rest = (λ (e : Reading). waiting_at at (drop (k + 1) all) e) in
     let next = (λ (e : Reading) (o : IsTrue ((run c.place_float.new.calc).is_open e)).
     next-floats tree float.at (extent_at at c.size_of-size.result e) (sizes e (waiting_in at float e)) (stretch_at at float.cb e) (before e) (floats_at at c.place_float.new.floats e)
-    (spot_at at c.place_float.result e) (least e) (y e) (size.value e (placed.goes.closes e o)) (placed.appended e o) (placed.value e o)) in
+    (spot_at at c.place_float.result e) (least e) (y e) (size.value e (placed.goes.closes e o)) (placed.appended e o)
+    (spot-lent at e c.as_ref.result c.args.way.now.least.now c.as_ref.ensures.value (floating tree float.at (extent_at at c.size_of-size.result e) (stretch_at at float.cb e)) (before e) (y e) (spot_at at c.place_float.result e) (placed.value e o))) in
     let here = (λ (e : Reading) (f : WaitingFits (sizes e) (before e) (least e) (y e) (waiting_at at (drop k all) e)).
     subst (λ ws. WaitingFits (sizes e) (before e) (least e) (y e) (waiting_at at ws e)) is f) in
     let goes = Goes-then _ _ _ c.loop-float.invariant.goes size.goes in
@@ -75,7 +77,8 @@ loop-float-preserved g c =
           BlamesButMem-then _ _ _ _ _ goes placed.goes first
           (λ f e o.
           let o1 = size.goes.closes e o in
-          subst (λ (s : Extent ℤ). AreHalf (before e) (s.width ∷ s.height ∷ at float.cb.left e ∷ at float.cb.right e ∷ levels_of (least e) (y e))) (sym (size.value e o))
-          (first-half tree (sizes e) (least e) (y e) (before e) (waiting_in at float e) (rest e) (here e (c.loop-float.invariant.fits e o1 (f e (goes.closes e o))))))
+          half-lent at e c.as_ref.result c.args.way.now.least.now c.as_ref.ensures.value (before e) (extent_at at c.size_of-size.result e) (stretch_at at float.cb e) (y e)
+          (subst (λ (s : Extent ℤ). AreHalf (before e) (s.width ∷ s.height ∷ at float.cb.left e ∷ at float.cb.right e ∷ levels_of (least e) (y e))) (sym (size.value e o))
+          (first-half tree (sizes e) (least e) (y e) (before e) (waiting_in at float e) (rest e) (here e (c.loop-float.invariant.fits e o1 (f e (goes.closes e o)))))))
           placed.cause;
     }

@@ -12,7 +12,7 @@ use Rattle.lay_flow.specs.Fits.{IsNear, IsSpotNear}
 use Rattle.lay_flow.specs.Readings.{apart_at, context_at}
 use Rattle.lay_flow.proofs.Framed.{next-edge-small}
 use Rattle.lay_flow.proofs.Sizes.{wider, greater, near-fits}
-use Rattle.lay_flow.proofs.Spots.{place-half, spot-near}
+use Rattle.lay_flow.proofs.Spots.{place-half, spot-near, spot-lent, half-lent}
 use Rattle.lay_flow.proofs.WalkSteps.{float-context, float-boxes}
 use Rattle.lay_flow.proofs.walk.float.Goals as goal
 
@@ -29,7 +29,9 @@ returns-clause-context g c = λ e o.
     float-context page.tree.now e.world (apart_at at page.apart.now e) (stretch_at at c.args.cb.now e) (at c.args.top.now e) (context_at at c.args.context.now e) c.args.k
     (extent_at at c.size_of-size.result e) (at c.next_edge-edge.result e) (at c.greater-y.result e) (spot_at at c.place_float-spot.result e) (floats_at at c.place_float-spot.new.floats e)
     (c.size_of-size.ensures.value e (c.next_edge-edge.ensures.goes.closes e o4)) (c.next_edge-edge.ensures.value e o4) (y ∙ ap (λ f. int_max f (at c.next_edge-edge.result e)) from)
-    (c.place_float-spot.ensures.value e o1) (c.place_float-spot.ensures.appended e o1)
+    (spot-lent at e c.as_ref.result c.args.context.now.least c.as_ref.ensures.value (floating page.tree.now c.args.k (extent_at at c.size_of-size.result e) (stretch_at at c.args.cb.now e)) (floats_at at c.args.context.now.floats e)
+    (at c.greater-y.result e) (spot_at at c.place_float-spot.result e) (c.place_float-spot.ensures.value e o1))
+    (c.place_float-spot.ensures.appended e o1)
 
 pub returns-clause-boxes : goal.returns-clause-boxes
 returns-clause-boxes g c = λ e o.
@@ -46,7 +48,8 @@ returns-clause-boxes g c = λ e o.
     (float-boxes page.tree.now e.world (apart_at at page.apart.now e) (stretch_at at c.args.cb.now e) (at c.args.top.now e) (context_at at c.args.context.now e) c.args.k
     (extent_at at c.size_of-size.result e) (at c.next_edge-edge.result e) (at c.greater-y.result e) (spot_at at c.place_float-spot.result e)
     (c.size_of-size.ensures.value e (c.next_edge-edge.ensures.goes.closes e o4)) (c.next_edge-edge.ensures.value e o4) (y ∙ ap (λ f. int_max f (at c.next_edge-edge.result e)) from)
-    (c.place_float-spot.ensures.value e o1))
+    (spot-lent at e c.as_ref.result c.args.context.now.least c.as_ref.ensures.value (floating page.tree.now c.args.k (extent_at at c.size_of-size.result e) (stretch_at at c.args.cb.now e)) (floats_at at c.args.context.now.floats e)
+    (at c.greater-y.result e) (spot_at at c.place_float-spot.result e) (c.place_float-spot.ensures.value e o1)))
 
 pub returns-clause-cause : goal.returns-clause-cause
 returns-clause-cause g c =
@@ -78,11 +81,12 @@ returns-clause-cause g c =
     subst IsNear (sym (y.value e o)) (greater (2 ^ 95) (at c.copy-from.result e) (at c.next_edge-edge.result e) (subst IsNear (sym (from.value e o3)) a.1.1.0) low)) in
     let five = next_but_mem four spot.goes spot.cause (λ f e o.
     let a = f e o in
-    place-half (floats e) (extent e) (band e) (least e) (at c.greater-y.result e) a.0.floats (sized e o a) a.1.0 a.0.least (comes e o a)) in
+    half-lent at e c.as_ref.result context.least c.as_ref.ensures.value (floats e) (extent e) (band e) (at c.greater-y.result e)
+    (place-half (floats e) (extent e) (band e) (least e) (at c.greater-y.result e) a.0.floats (sized e o a) a.1.0 a.0.least (comes e o a))) in
     (next_but_mem five c.add_apart.ensures.goes c.add_apart.ensures.cause (λ f e o.
     let a = f e o in
     let o4 = spot.goes.closes e o in (
-      subst IsSpotNear (sym (spot.value e o))
+      subst IsSpotNear (sym (spot-lent at e c.as_ref.result context.least c.as_ref.ensures.value (floating tree c.args.k (extent e) (band e)) (floats e) (at c.greater-y.result e) (spot_at at c.place_float-spot.result e) (spot.value e o)))
           (spot-near (floating tree c.args.k (extent e) (band e)) (floats e) (least e) (at c.greater-y.result e) a.0.floats (sized e o4 a) a.1.0 a.0.least (comes e o4 a)),
       a.1.1.1,
     ))).cause

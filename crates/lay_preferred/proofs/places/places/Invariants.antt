@@ -1,6 +1,6 @@
 use Rattle.std.proofs.Common.{◌≡◌, None}
 use Rattle.std.specs.Prelude.{replicate}
-use Rattle.lay_preferred.proofs.found.places.Given as goal
+use Rattle.lay_preferred.proofs.places.places.Given as goal
 
 abbrev pub invariant-loop : goal.invariant-loop
 invariant-loop g l = l.places.items ≡ replicate l.counter None
