@@ -1,6 +1,6 @@
+pub mod Attributes
 pub mod Chains
 pub mod Machine
-pub mod Gives
-pub mod Attributes
 pub mod Outcomes
+pub mod Stops
 pub mod Trees

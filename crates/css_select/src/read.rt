@@ -2,11 +2,12 @@ ghost use Rattle.std.specs.Prelude.{◌≡◌, map, IfOk, MatchResult};
 ghost use Rattle.std.specs.List.{All};
 ghost use Rattle.css_semantics.specs.SelectorGrammar.{IsGroupOf};
 ghost use Rattle.css_semantics.specs.Specificity.{IsCountable};
-ghost use Rattle.css_select.specs.steps.Gives.{Gives};
+ghost use Rattle.viz_base.specs.Answers.{Gives};
+ghost use Rattle.css_select.specs.steps.Stops.{place_of};
 ghost use Rattle.css_select.specs.steps.Machine.{initial, may_end, parts_of, run, state_of};
 ghost use Rattle.css_select.specs.Verdicts.{IsFault, Says, finished, verdict_of};
 
-use crate::faults::SelFault;
+use crate::faults::{SelFault, Stop};
 use crate::reading::{Place, Reading};
 use crate::steps::{place, step};
 use crate::terminals::is_comment;
@@ -16,8 +17,8 @@ use std::alloc::Global;
 use viz_base::{List, Selector};
 
 /// Reads all tokens.
-fn run(alloc: Global, tokens: &[Token<'_>]) -> Result<Reading, SelFault>
-    ensures { Gives result (run initial tokens.now) }
+fn run(alloc: Global, tokens: &[Token<'_>]) -> Result<Reading, Stop>
+    ensures { Gives state_of place_of result (run initial tokens.now) }
 {
     let mut reading = Reading::new(alloc);
     for token in tokens {
