@@ -233,6 +233,7 @@ module _ (tree : BoxTree) (w : World) (height : ℕ) where
 
   -- a float, an atomic box, and any other box that is in no line
   pub float-whole : (k : ℕ) → is_floated_at tree k ≡ true → IsWhole tree k
+  unfolding is_floated_at
   float-whole k e = by (slice_get tree.boxes k) e
     where
       of_box : (node : ℕ) (kind : Kind) → floats_by node kind ≡ true → is_fragmented kind ≡ false
@@ -246,6 +247,7 @@ module _ (tree : BoxTree) (w : World) (height : ℕ) where
       by (Some x) f = of_box x.node x.kind f
 
   pub flow-whole : (k : ℕ) → is_inline_level_at tree k ≡ false → IsWhole tree k
+  unfolding is_floated_at
   flow-whole k e = by (slice_get tree.boxes k) e
     where
       of_box : (node : ℕ) (block_level : Bool) (kind : Kind) → (level_by block_level kind && not (floats_by node kind)) ≡ false → is_fragmented kind ≡ false

@@ -2,9 +2,9 @@
 ghost use Rattle.std.specs.Prelude.{◌≡◌, ◌<◌, [], length, IsTrue, IfOk, IfErr, OnErr};
 ghost use Rattle.viz_calc.specs.World.{Reading};
 ghost use Rattle.viz_calc.specs.State.{Grows, AreOpen, CauseButMem};
-ghost use Rattle.layout_semantics.specs.Lines.{lines as lines_of, lines_in};
-ghost use Rattle.lay_float.specs.Readings.{floats_at, stretch_at};
-ghost use Rattle.lay_line.specs.Contexts.{table_at, context_at};
+ghost use Rattle.layout_semantics.specs.Lines.{lines_in};
+ghost use Rattle.lay_float.specs.Readings.{floats_at};
+ghost use Rattle.lay_line.specs.Contexts.{context_at};
 ghost use Rattle.lay_line.specs.LinesFit.{LinesFit};
 ghost use Rattle.lay_line.specs.Lining.{laid_at, list_at};
 
@@ -37,7 +37,6 @@ fn laid<C: Calc>(
     latch.finish(laid)
 }
 
-#[tactic(auto, unfolding(crate::specs::Contexts::context_at))]
 /// The lines of a block container that holds inline content, from y on, in 1/64 px: their entries in order, the bottom
 /// and the baseline of the last one. Their floats are placed after those before, none with its top above `least` (CSS
 /// 2.1, 9.4.2, 9.5, 10.8).
@@ -54,9 +53,8 @@ pub fn lines<C: Calc>(
     requires { container.now.at < length container.now.tree.now.boxes }
     ensures grows { Grows (C.state calc.old) (C.state calc.new) }
     ensures value { IfOk result (λ r. (e : Reading) → IsTrue ((C.state calc.new).is_open e)
-        → list_at C.at r floats.new e ≡ lines_of container.now.tree.now e.world container.now.at
-        (table_at C.at container.now.inner.now e) (stretch_at C.at container.now.cb.now e) (C.at y.now e)
-        (C.at least.now e) (floats_at C.at floats.old e)) }
+        → list_at C.at r floats.new e ≡ lines_in (context_at C.at container.now e) (C.at y.now e) (C.at least.now e)
+        (floats_at C.at floats.old e)) }
     ensures halted { OnErr result (floats.new.placed ≡ []) }
     ensures kept { AreOpen (C.state calc.old).kept (C.state calc.new) }
     ensures cause { IfErr result (CauseButMem (C.state calc.old) (C.state calc.new) ((e : Reading)

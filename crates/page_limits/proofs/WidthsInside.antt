@@ -150,6 +150,7 @@ module _ (tree : BoxTree) (w : World) where
     -- ---- sorts of boxes
 
     float-whole : (k : ℕ) → is_floated_at tree k ≡ true → is_fragmented (kind_of tree k) ≡ false
+    unfolding is_floated_at
     float-whole k e = by (slice_get tree.boxes k) refl e
       where
         kinds : (b : BoxNode) (kind : Kind) → b.kind ≡ kind → is_floated tree.styles b ≡ true → is_fragmented kind ≡ false
@@ -169,6 +170,7 @@ module _ (tree : BoxTree) (w : World) where
 
     -- a box that isn't in a line is whole
     apart-whole : (k : ℕ) → is_inline_level_at tree k ≡ false → is_fragmented (kind_of tree k) ≡ false
+    unfolding is_floated_at
     apart-whole k e = by (slice_get tree.boxes k) refl e
       where
         kinds : (b : BoxNode) (kind : Kind) → b.kind ≡ kind → (is_inline_level b && not (is_floated tree.styles b)) ≡ false → is_fragmented kind ≡ false

@@ -5,7 +5,6 @@ use Rattle.lay_line.specs.Contexts.{context_at}
 use Rattle.lay_line.proofs.front.lines.Goals as goal
 
 pub returns-clause-value : goal.returns-clause-value
-unfolding context_at
 returns-clause-value g c = λ e o.
     let at = g.C.Calc.at in
     c.in_ok-laid.ensures.value e o
