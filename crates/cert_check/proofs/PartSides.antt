@@ -1,6 +1,6 @@
 -- The part of the range that unit splits leave, and the sides that the rectangle of a path has.
-use Rattle.std.proofs.Common.{◌≡◌, ℕ, ◌+◌, ◌*◌, ◌<◌, ◌≤◌, ℤ, pos, negsuc, neg_ℤ, ◌+ℤ◌, ◌-ℤ◌, ◌≤ℤ◌, ◌<ℤ◌, Bool, true, false, cond, nat_lt, nat_le, [], ◌∷◌, min, max, Option, Some, None, inl, inr, refl, sym, ◌∙◌, ap, subst, arith}
-use Rattle.std.specs.Prelude.{◌⊎◌, IfSome}
+use Rattle.std.proofs.Common.{◌≡◌, ℕ, ◌+◌, ◌-◌, ◌*◌, ◌==◌, ◌<◌, ◌≤◌, ℤ, pos, negsuc, neg_ℤ, ◌+ℤ◌, ◌-ℤ◌, ◌≤ℤ◌, ◌<ℤ◌, Bool, true, false, cond, nat_lt, nat_le, [], ◌∷◌, min, max, Option, Some, None, refl, sym, ◌∙◌, ap, subst, arith}
+use Rattle.std.specs.Prelude.{IfSome}
 use Rattle.std.specs.Ordering.{int_eq}
 use Rattle.std.specs.Option.{option_map, option_and_then}
 use Rattle.std.specs.Int.{int_gap, int_max, int_min}
@@ -15,10 +15,12 @@ use Rattle.viz_base.specs.Worlds.{side_of, with_side}
 use Rattle.viz_base.specs.declared.jobs.Job.{Job}
 use Rattle.logic_semantics.specs.Ranges.{IsInRange}
 use Rattle.lin_row.specs.Form.{Form, Terms, denied}
-use Rattle.cert_path.specs.Axes.{axis_of}
-use Rattle.cert_path.specs.Rectangles.{Side, Sides, cut_axis, cut_sides, cut_side as cut_a_side, left_by, left_by_terms, whole, rectangle, count, world_count}
+use Rattle.cert_path.specs.Axes.{variable_of, axis_of}
+use Rattle.cert_path.specs.Rectangles.{Side, Sides, cut_sides, cut_side as cut_a_side, left_by, left_by_terms, side_from, whole, rectangle, count, world_count}
 use Rattle.cert_path.specs.Paths.{Step, first, second, Path, variables}
 use Rattle.cert_path.specs.Laws.{IsInside}
+use Rattle.cert_path.proofs.Variables.{axis_has, of_no_axis}
+use Rattle.cert_path.proofs.Sides.{whole_is}
 use Rattle.cert_check.specs.declared.cuts.Child.{Child}
 use Rattle.cert_check.specs.declared.cuts.Child.TheVariants.{First, Second}
 use Rattle.cert_check.specs.declared.cuts.Cut.{Cut}
@@ -31,13 +33,10 @@ use Rattle.cert_check.proofs.Parts.{int_test, child_within}
 
 -- ---- one side
 
-abbrev as_side : Span → Side
-as_side s = record { least = pos s.least; most = pos s.most }
-
 -- the numbers that are left are those of a span, or none
 abbrev IsSide : Option Span → Side → Type 0
 IsSide None s = s.most <ℤ s.least
-IsSide (Some t) s = (t.least ≤ t.most) × (s ≡ as_side t)
+IsSide (Some t) s = (t.least ≤ t.most) × (s ≡ side_from t)
 
 rises : (k : ℤ) (s : Span) → s.least ≤ s.most → (b : ℤ) → b ≡ neg_ℤ k -ℤ pos 1 → IsSide (above b s) (record { least = int_max (neg_ℤ k) (pos s.least); most = pos s.most })
 rises k s proper (pos b) is = by_test (nat_lt b s.most) refl
@@ -89,10 +88,10 @@ cut_by p q k axis = cond p (Some (record { axis = axis; opens = Above; bound = n
 abbrev side_by : Bool → Bool → ℤ → Side → Side
 side_by p q k s = cond p (record { least = int_max (neg_ℤ k) s.least; most = s.most }) (cond q (record { least = s.least; most = int_min k s.most }) s)
 
-coefficient_after : (k c : ℤ) (axis : Axis) (child : Child) (s : Span) → s.least ≤ s.most → IsSide (span_after (coefficient_cut k axis c) child s) (side_after k c child (as_side s))
+coefficient_after : (k c : ℤ) (axis : Axis) (child : Child) (s : Span) → s.least ≤ s.most → IsSide (span_after (coefficient_cut k axis c) child s) (side_after k c child (side_from s))
 coefficient_after k c axis First s proper = by_tests (int_eq c (pos 1)) refl (int_eq c (negsuc 0)) refl
   where
-    by_tests : (p : Bool) → int_eq c (pos 1) ≡ p → (q : Bool) → int_eq c (negsuc 0) ≡ q → IsSide (span_after (cut_by p q k axis) First s) (side_by p q k (as_side s))
+    by_tests : (p : Bool) → int_eq c (pos 1) ≡ p → (q : Bool) → int_eq c (negsuc 0) ≡ q → IsSide (span_after (cut_by p q k axis) First s) (side_by p q k (side_from s))
     by_tests true e q f = rises k s proper (neg_ℤ k -ℤ pos 1) refl
     by_tests false e true f = falls k s proper
     by_tests false e false f = (proper, refl)
@@ -112,7 +111,7 @@ coefficient_after k c axis Second s proper = by_tests (int_eq c (pos 1)) refl (i
     apart false e f = absurd (cc)
 
     by_tests : (p : Bool) → int_eq c (pos 1) ≡ p → (q : Bool) → int_eq c (negsuc 0) ≡ q → (t : Bool) → int_eq (neg_ℤ c) (pos 1) ≡ t → (u : Bool) → int_eq (neg_ℤ c) (negsuc 0) ≡ u
-        → IsSide (span_after (cut_by p q k axis) Second s) (side_by t u (neg_ℤ k -ℤ pos 1) (as_side s))
+        → IsSide (span_after (cut_by p q k axis) Second s) (side_by t u (neg_ℤ k -ℤ pos 1) (side_from s))
     by_tests true e q f true g u h = absurd (let a = is_one c e in let b = is_one (neg_ℤ c) g in omega (arith, ints, a, b))
     by_tests true e q f false g true h = falls (neg_ℤ k -ℤ pos 1) s proper
     by_tests true e q f false g false h = absurd (apart (int_eq (neg_ℤ c) (negsuc 0)) ((Decides-int_eq (neg_ℤ c) (negsuc 0)).1 (ap neg_ℤ (is_one c e))) h)
@@ -128,15 +127,20 @@ abbrev pub left_child : Form → Child → Sides → Sides
 left_child row First sides = left_by row sides
 left_child row Second sides = left_by (denied row) sides
 
-widths_part : (r : Rect) (o : Option Span) (side : Side) → IsProper r → IsSide o side → IsPart (option_map (with_side Width r) o) (record { widths = side; sizes = record { least = pos r.sl; most = pos r.sh } })
-widths_part r None side proper h = inl h
-widths_part r (Some t) side proper h =
-    (record { widths = h.0; sizes = proper.sizes }, λ i. record { widths = h.1 i; sizes = record { least = pos r.sl; most = pos r.sh } })
-
-sizes_part : (r : Rect) (o : Option Span) (side : Side) → IsProper r → IsSide o side → IsPart (option_map (with_side Size r) o) (record { widths = record { least = pos r.wl; most = pos r.wh }; sizes = side })
-sizes_part r None side proper h = inr h
-sizes_part r (Some t) side proper h =
-    (record { widths = proper.widths; sizes = h.0 }, λ i. record { widths = record { least = pos r.wl; most = pos r.wh }; sizes = h.1 i })
+-- where another side is left on one axis, the others being a rectangle's
+part_by : (axis : Axis) (r : Rect) (o : Option Span) (sides : Sides) → IsProper r → IsSide o (sides axis) → ((other : Axis) → (variable_of axis == variable_of other) ≡ false → sides other ≡ whole r other)
+    → IsPart (option_map (with_side axis r) o) sides
+part_by axis r None sides proper h rest = (axis, h)
+part_by Width r (Some t) sides proper h rest = (record { widths = h.0; sizes = proper.sizes }, λ i other. at other i)
+  where
+    at : (other : Axis) → sides other ≡ whole (with_side Width r t) other
+    at Width = h.1
+    at Size = rest Size refl
+part_by Size r (Some t) sides proper h rest = (record { widths = proper.widths; sizes = h.0 }, λ i other. at other i)
+  where
+    at : (other : Axis) → sides other ≡ whole (with_side Size r t) other
+    at Width = rest Width refl
+    at Size = h.1
 
 -- a cut of an axis leaves what it leaves of the axis's side
 axis_cut : (k c : ℤ) (axis : Axis) (child : Child) (r : Rect) → cut_at (coefficient_cut k axis c) child r ≡ option_map (with_side axis r) (span_after (coefficient_cut k axis c) child (side_of axis r))
@@ -153,32 +157,36 @@ abbrev sides_of_term : ℤ → ℕ × ℤ → Child → Sides → Sides
 sides_of_term k t First sides = cut_sides k t sides
 sides_of_term k t Second sides = cut_sides (neg_ℤ k -ℤ pos 1) (t.0, neg_ℤ t.1) sides
 
-abbrev axis_after : Option Axis → ℤ → ℤ → Child → Rect → Sides
-axis_after o k c First r = cut_axis o k c (whole r)
-axis_after o k c Second r = cut_axis o (neg_ℤ k -ℤ pos 1) (neg_ℤ c) (whole r)
+cut_at_axis : (k : ℤ) (t : ℕ × ℤ) (sides : Sides) (axis : Axis) → t.0 ≡ variable_of axis → cut_sides k t sides axis ≡ cut_a_side k t.1 (sides axis)
+cut_at_axis k t sides axis at = let same : (t.0 == variable_of axis) ≡ true = grind (arith, nat_tests) in ap (λ b. cond b (cut_a_side k t.1 (sides axis)) (sides axis)) same
 
-wide : (k c : ℤ) (child : Child) (r : Rect) → IsProper r → IsPart (cut_at (coefficient_cut k Width c) child r) (record { widths = side_after k c child (whole r).widths; sizes = (whole r).sizes })
-wide k c child r proper =
-    subst (λ o. IsPart o (record { widths = side_after k c child (whole r).widths; sizes = (whole r).sizes })) (sym (axis_cut k c Width child r))
-    (widths_part r (span_after (coefficient_cut k Width c) child (side_of Width r)) (side_after k c child (whole r).widths) proper (coefficient_after k c Width child (side_of Width r) proper.widths))
+cut_besides : (k : ℤ) (t : ℕ × ℤ) (sides : Sides) (axis : Axis) → (t.0 == variable_of axis) ≡ false → cut_sides k t sides axis ≡ sides axis
+cut_besides k t sides axis other = ap (λ b. cond b (cut_a_side k t.1 (sides axis)) (sides axis)) other
 
-high : (k c : ℤ) (child : Child) (r : Rect) → IsProper r → IsPart (cut_at (coefficient_cut k Size c) child r) (record { widths = (whole r).widths; sizes = side_after k c child (whole r).sizes })
-high k c child r proper =
-    subst (λ o. IsPart o (record { widths = (whole r).widths; sizes = side_after k c child (whole r).sizes })) (sym (axis_cut k c Size child r))
-    (sizes_part r (span_after (coefficient_cut k Size c) child (side_of Size r)) (side_after k c child (whole r).sizes) proper (coefficient_after k c Size child (side_of Size r) proper.sizes))
+sides_at : (k : ℤ) (t : ℕ × ℤ) (child : Child) (sides : Sides) (axis : Axis) → t.0 ≡ variable_of axis → sides_of_term k t child sides axis ≡ side_after k t.1 child (sides axis)
+sides_at k t First sides axis at = cut_at_axis k t sides axis at
+sides_at k t Second sides axis at = cut_at_axis (neg_ℤ k -ℤ pos 1) (t.0, neg_ℤ t.1) sides axis at
 
-axis_part : (k c : ℤ) (r : Rect) → IsProper r → (o : Option Axis) (child : Child)
-    → IsPart (cut_at (option_and_then (λ axis. coefficient_cut k axis c) o) child r) (axis_after o k c child r)
-axis_part k c r proper None First = (proper, refl)
-axis_part k c r proper None Second = (proper, refl)
-axis_part k c r proper (Some Width) First = wide k c First r proper
-axis_part k c r proper (Some Width) Second = wide k c Second r proper
-axis_part k c r proper (Some Size) First = high k c First r proper
-axis_part k c r proper (Some Size) Second = high k c Second r proper
+sides_besides : (k : ℤ) (t : ℕ × ℤ) (child : Child) (sides : Sides) (axis : Axis) → (t.0 == variable_of axis) ≡ false → sides_of_term k t child sides axis ≡ sides axis
+sides_besides k t First sides axis other = cut_besides k t sides axis other
+sides_besides k t Second sides axis other = cut_besides (neg_ℤ k -ℤ pos 1) (t.0, neg_ℤ t.1) sides axis other
+
+proper_side : (axis : Axis) (r : Rect) → IsProper r → (side_of axis r).least ≤ (side_of axis r).most
+proper_side Width r proper = proper.widths
+proper_side Size r proper = proper.sizes
 
 term_part : (k : ℤ) (t : ℕ × ℤ) (child : Child) (r : Rect) → IsProper r → IsPart (cut_at (terms_cut k (t ∷ [])) child r) (sides_of_term k t child (whole r))
-term_part k t First r proper = axis_part k t.1 r proper (axis_of t.0) First
-term_part k t Second r proper = axis_part k t.1 r proper (axis_of t.0) Second
+term_part k t child r proper = by_axis (axis_of t.0) refl
+  where
+    by_axis : (o : Option Axis) → axis_of t.0 ≡ o → IsPart (cut_at (option_and_then (λ axis. coefficient_cut k axis t.1) o) child r) (sides_of_term k t child (whole r))
+    by_axis None e = (proper, λ i axis. sides_besides k t child (whole r) axis (of_no_axis t.0 e axis) i)
+    by_axis (Some axis) e =
+        let at = axis_has t.0 axis e in
+        let left = span_after (coefficient_cut k axis t.1) child (side_of axis r) in
+        let is = coefficient_after k t.1 axis child (side_of axis r) (proper_side axis r proper) in
+        subst (λ o. IsPart o (sides_of_term k t child (whole r))) (sym (axis_cut k t.1 axis child r))
+        (part_by axis r left (sides_of_term k t child (whole r)) proper (subst (IsSide left) (sym (sides_at k t child (whole r) axis at)) is)
+        (λ other apart. sides_besides k t child (whole r) other (subst (λ x. (x == variable_of other) ≡ false) (sym at) apart)))
 
 terms_part : (k : ℤ) (ts : Terms) (child : Child) (r : Rect) → IsProper r → IsPart (cut_at (terms_cut k ts) child r) (left_child (record { k = k; terms = ts }) child (whole r))
 terms_part k [] First r proper = (proper, refl)
@@ -190,18 +198,18 @@ terms_part k (t ∷ u ∷ ts) Second r proper = (proper, refl)
 
 -- where nothing is left, nothing is
 abbrev IsEmpty : Sides → Type 0
-IsEmpty sides = (sides.widths.most <ℤ sides.widths.least) ⊎ (sides.sizes.most <ℤ sides.sizes.least)
+IsEmpty sides = (axis : Axis) × ((sides axis).most <ℤ (sides axis).least)
 
-axis_empty : (o : Option Axis) (k c : ℤ) (sides : Sides) → IsEmpty sides → IsEmpty (cut_axis o k c sides)
-axis_empty None k c sides h = h
-axis_empty (Some Width) k c sides (inl w) = inl (none_stays k c sides.widths w)
-axis_empty (Some Width) k c sides (inr s) = inr s
-axis_empty (Some Size) k c sides (inl w) = inl w
-axis_empty (Some Size) k c sides (inr s) = inr (none_stays k c sides.sizes s)
+term_empty : (k : ℤ) (t : ℕ × ℤ) (sides : Sides) → IsEmpty sides → IsEmpty (cut_sides k t sides)
+term_empty k t sides h = (h.0, by_test (t.0 == variable_of h.0))
+  where
+    by_test : (b : Bool) → (cond b (cut_a_side k t.1 (sides h.0)) (sides h.0)).most <ℤ (cond b (cut_a_side k t.1 (sides h.0)) (sides h.0)).least
+    by_test true = none_stays k t.1 (sides h.0) h.1
+    by_test false = h.1
 
 terms_empty : (k : ℤ) (ts : Terms) (sides : Sides) → IsEmpty sides → IsEmpty (left_by_terms k ts sides)
 terms_empty k [] sides h = h
-terms_empty k (t ∷ []) sides h = axis_empty (axis_of t.0) k t.1 sides h
+terms_empty k (t ∷ []) sides h = term_empty k t sides h
 terms_empty k (t ∷ u ∷ ts) sides h = h
 
 child_empty : (row : Form) (child : Child) (sides : Sides) → IsEmpty sides → IsEmpty (left_child row child sides)
@@ -224,38 +232,37 @@ none_counted : (s : Side) → s.most <ℤ s.least → count s ≡ 0
 none_counted s h = gap_none s.least (s.most +ℤ pos 1) (omega (arith, ints, h))
 
 pub none_small : (sides : Sides) → IsPart None sides → nat_le (world_count sides) 64 ≡ true
-none_small sides (inl w) = ap (λ n. nat_le (n * count sides.sizes) 64) (none_counted sides.widths w) ∙ zero_small (count sides.sizes)
+none_small sides h = by_axis h.0 (none_counted (sides h.0) h.1)
   where
-    zero_small : (n : ℕ) → nat_le (0 * n) 64 ≡ true
-    zero_small n = let none : 0 * n ≡ 0 = omega arith in ap (λ m. nat_le m 64) none
-none_small sides (inr s) = ap (λ n. nat_le (count sides.widths * n) 64) (none_counted sides.sizes s) ∙ zero_small (count sides.widths)
-  where
-    zero_small : (n : ℕ) → nat_le (n * 0) 64 ≡ true
-    zero_small n = let none : n * 0 ≡ 0 = omega arith in ap (λ m. nat_le m 64) none
+    zero_first : (n : ℕ) → nat_le (1 * 0 * n) 64 ≡ true
+    zero_first n = let none : 1 * 0 * n ≡ 0 = omega arith in ap (λ m. nat_le m 64) none
+
+    zero_last : (n : ℕ) → nat_le (1 * n * 0) 64 ≡ true
+    zero_last n = let none : 1 * n * 0 ≡ 0 = omega arith in ap (λ m. nat_le m 64) none
+
+    by_axis : (axis : Axis) → count (sides axis) ≡ 0 → nat_le (world_count sides) 64 ≡ true
+    by_axis Width e = ap (λ n. nat_le (1 * n * count (sides Size)) 64) e ∙ zero_first (count (sides Size))
+    by_axis Size e = ap (λ n. nat_le (1 * count (sides Width) * n) 64) e ∙ zero_last (count (sides Width))
 
 pub some_count : (r : Rect) (sides : Sides) → IsPart (Some r) sides → world_count sides ≡ count_of r
-some_count r sides h = ap world_count h.1
+some_count r sides h = ap world_count h.1 ∙ ap (λ n. n * (r.sh + 1 - r.sl)) (once (r.wh + 1 - r.wl))
+  where
+    once : (n : ℕ) → 1 * n ≡ n
+    once n = omega arith
 
 pub none_inside : (sides : Sides) → IsPart None sides → (world : World) → IsInside sides world → ⊥
-none_inside sides (inl w) world i = let a = i.0.0 in let b = i.0.1 in absurd (omega (arith, ints, w, a, b))
-none_inside sides (inr s) world i = let a = i.1.0 in let b = i.1.1 in absurd (omega (arith, ints, s, a, b))
+none_inside sides h world i =
+    let at = i h.0 in
+    let a = at.0 in
+    let b = at.1 in
+    let none = h.1 in
+    absurd (omega (arith, ints, none, a, b))
 
 pub inside_part : (r : Rect) (sides : Sides) → IsPart (Some r) sides → (world : World) → IsInside sides world → IsInRange r world
-inside_part r sides h world i =
-    let at = subst (λ s. IsInside s world) h.1 i in
-    let a = at.0.0 in
-    let b = at.0.1 in
-    let c = at.1.0 in
-    let d = at.1.1 in
-    record { width_least = omega (arith, ints, a); width_most = omega (arith, ints, b); size_least = omega (arith, ints, c); size_most = omega (arith, ints, d) }
+inside_part r sides h world i = (whole_is r world).0 (subst (λ s. IsInside s world) h.1 i)
 
 pub part_inside : (r : Rect) (sides : Sides) → IsPart (Some r) sides → (world : World) → IsInRange r world → IsInside sides world
-part_inside r sides h world i =
-    let a = i.width_least in
-    let b = i.width_most in
-    let c = i.size_least in
-    let d = i.size_most in
-    subst (λ s. IsInside s world) (sym h.1) ((omega (arith, ints, a), omega (arith, ints, b)), (omega (arith, ints, c), omega (arith, ints, d)))
+part_inside r sides h world i = subst (λ s. IsInside s world) (sym h.1) ((whole_is r world).1 i)
 
 -- ---- the part under a child
 

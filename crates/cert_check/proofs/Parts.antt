@@ -1,9 +1,9 @@
 -- Which rows are unit rows, and where the parts of a rectangle lie.
-use Rattle.std.proofs.Common.{◌≡◌, ℕ, ◌+◌, ◌<◌, ◌≤◌, ◌==◌, ℤ, pos, negsuc, neg_ℤ, ◌-ℤ◌, Bool, true, false, cond, nat_lt, nat_le, [], ◌∷◌, min, max, Option, Some, None, refl, sym, subst, arith, inl, inr, IsTrue}
+use Rattle.std.proofs.Common.{◌≡◌, ◌+◌, ◌≤◌, ℤ, pos, negsuc, neg_ℤ, ◌-ℤ◌, Bool, true, false, cond, nat_lt, nat_le, [], ◌∷◌, min, max, Option, Some, None, refl, sym, subst, arith, inl, inr, IsTrue}
 use Rattle.std.specs.Prelude.{◌⊎◌, ◌↔◌, IfSome}
 use Rattle.std.specs.Ordering.{int_eq}
 use Rattle.std.specs.Option.{option_map, option_and_then, is_some}
-use Rattle.std.proofs.lemmas.Bool.Decides.{nat_tests, Decides-int_eq}
+use Rattle.std.proofs.lemmas.Bool.Decides.{Decides-int_eq}
 use Rattle.std.proofs.lemmas.Option.{same_Some}
 use Rattle.viz_base.specs.declared.worlds.Axis.{Axis}
 use Rattle.viz_base.specs.declared.worlds.Axis.TheVariants.{Width, Size}
@@ -16,7 +16,8 @@ use Rattle.cert_check.specs.declared.cuts.Child.{Child}
 use Rattle.cert_check.specs.declared.cuts.Opens.{Opens}
 use Rattle.cert_check.specs.declared.cuts.Opens.TheVariants.{Above, UpTo}
 use Rattle.cert_check.specs.declared.cuts.Cut.{Cut}
-use Rattle.cert_path.specs.Axes.{axis_of}
+use Rattle.cert_path.specs.Axes.{variable_of, axis_of}
+use Rattle.cert_path.proofs.Variables.{own_axis, axis_has}
 use Rattle.cert_check.specs.Rectangles.{IsWithin, coefficient_cut, terms_cut, at_most, above, cut_side, toward, part_of, is_unit}
 
 -- ---- unit rows
@@ -34,21 +35,14 @@ unit_coefficient k axis c h = by_test (int_eq c (pos 1)) refl (int_eq c (negsuc 
     by_test false e true f h = inr (int_test c (negsuc 0) f)
     by_test false e false f h = absurd (cc)
 
--- a variable that has an axis
-axis_low : (x : ℕ) (axis : Axis) → axis_of x ≡ Some axis → x < 2
-axis_low x axis is = by_test (x == 0) refl (x == 1) refl is
-  where
-    by_test : (a : Bool) → (x == 0) ≡ a → (b : Bool) → (x == 1) ≡ b → cond a (Some Width) (cond b (Some Size) None) ≡ Some axis → x < 2
-    by_test true e b f is = let zero : x ≡ 0 = grind (arith, nat_tests) in omega arith
-    by_test false e true f is = let one : x ≡ 1 = grind (arith, nat_tests) in omega arith
-    by_test false e false f is = absurd (cc)
-
 unit_terms : (k : ℤ) (ts : Terms) → IsTrue (is_some (terms_cut k ts)) → IsUnit (record { k = k; terms = ts })
 unit_terms k [] h = absurd (cc)
 unit_terms k (t ∷ []) h = by_axis (axis_of t.0) refl h
   where
     by_axis : (o : Option Axis) → axis_of t.0 ≡ o → IsTrue (is_some (option_and_then (λ axis. coefficient_cut k axis t.1) o)) → IsUnit (record { k = k; terms = t ∷ [] })
-    by_axis (Some axis) e h = record { variable = t.0; coefficient = t.1; terms = refl; axis = axis_low t.0 axis e; unit = unit_coefficient k axis t.1 h }
+    by_axis (Some axis) e h =
+        let at = axis_has t.0 axis e in
+        record { axis = axis; coefficient = t.1; terms = λ i. (at i, t.1) ∷ []; unit = unit_coefficient k axis t.1 h }
     by_axis None e h = absurd (cc)
 unit_terms k (t ∷ u ∷ ts) h = absurd (cc)
 
@@ -56,16 +50,11 @@ cut_coefficient : (k : ℤ) (axis : Axis) (c : ℤ) → (c ≡ pos 1) ⊎ (c ≡
 cut_coefficient k axis c (inl e) = subst (λ d. IsTrue (is_some (coefficient_cut k axis d))) (sym e) refl
 cut_coefficient k axis c (inr e) = subst (λ d. IsTrue (is_some (coefficient_cut k axis d))) (sym e) refl
 
-cut_variable : (k : ℤ) (x : ℕ) (c : ℤ) → x < 2 → (c ≡ pos 1) ⊎ (c ≡ negsuc 0) → IsTrue (is_some (option_and_then (λ axis. coefficient_cut k axis c) (axis_of x)))
-cut_variable k x c low unit = by_test (x == 0) refl (x == 1) refl
-  where
-    by_test : (a : Bool) → (x == 0) ≡ a → (b : Bool) → (x == 1) ≡ b → IsTrue (is_some (option_and_then (λ axis. coefficient_cut k axis c) (cond a (Some Width) (cond b (Some Size) None))))
-    by_test true e b f = cut_coefficient k Width c unit
-    by_test false e true f = cut_coefficient k Size c unit
-    by_test false e false f = absurd (grind (arith, nat_tests))
+cut_variable : (k : ℤ) (axis : Axis) (c : ℤ) → (c ≡ pos 1) ⊎ (c ≡ negsuc 0) → IsTrue (is_some (option_and_then (λ other. coefficient_cut k other c) (axis_of (variable_of axis))))
+cut_variable k axis c unit = subst (λ o. IsTrue (is_some (option_and_then (λ other. coefficient_cut k other c) o))) (sym (own_axis axis)) (cut_coefficient k axis c unit)
 
 cut_unit : (row : Form) → IsUnit row → IsTrue (is_unit row)
-cut_unit row h = subst (λ ts. IsTrue (is_some (terms_cut row.k ts))) (sym h.terms) (cut_variable row.k h.variable h.coefficient h.axis h.unit)
+cut_unit row h = subst (λ ts. IsTrue (is_some (terms_cut row.k ts))) (sym h.terms) (cut_variable row.k h.axis h.coefficient h.unit)
 
 pub unit_is_unit_row : (row : Form) → IsTrue (is_unit row) ↔ IsUnit row
 unit_is_unit_row row = (unit_terms row.k row.terms, cut_unit row)

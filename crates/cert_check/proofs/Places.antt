@@ -1,7 +1,7 @@
 -- Where a world lies by the steps above a grid, one after another.
 use Rattle.std.proofs.Common.{◌≡◌, ℕ, zero, suc, ◌==◌, ℤ, pos, ◌+ℤ◌, ◌*ℤ◌, ◌≤ℤ◌, ◌<ℤ◌, Bool, true, false, cond, ◌&&◌, ◌||◌, List, [], ◌∷◌, ◌++◌, length, Option, Some, None, refl, sym, ◌∙◌, ap, subst, arith, length-append}
 use Rattle.std.proofs.lemmas.Bool.{and_parts}
-use Rattle.std.specs.Prelude.{is_some, option_and_then, ⊤}
+use Rattle.std.specs.Prelude.{is_some, map, option_and_then, ⊤}
 use Rattle.std.specs.Option.{option_map}
 use Rattle.std.specs.Int.{int_div_euclid}
 use Rattle.std.specs.Int.RustNames.{int_le}
@@ -13,7 +13,8 @@ use Rattle.viz_base.specs.declared.worlds.World.{World}
 use Rattle.viz_base.specs.declared.worlds.Axis.TheVariants.{Width, Size}
 use Rattle.lin_row.specs.Form.{Form, Terms, value, terms_value}
 use Rattle.lin_row.specs.Number.{in_i128}
-use Rattle.cert_path.specs.Axes.{number_on}
+use Rattle.viz_base.specs.Worlds.{along}
+use Rattle.cert_path.specs.Axes.{axes, number_on}
 use Rattle.cert_path.specs.Paths.{def, first, second, Path, variables, with_value, with_floor, values_at, values_along}
 use Rattle.cert_check.specs.Rectangles.{is_unit}
 use Rattle.cert_check.specs.declared.descent.Above.{Above}
@@ -53,7 +54,7 @@ computed_is row v z e = sum_is row.k row.terms v z e
 -- ---- the values of the variables as a list
 
 numbers_at : World → Path → List ℤ
-numbers_at world [] = pos world.w ∷ pos world.s ∷ []
+numbers_at world [] = map (λ axis. pos (along axis world)) axes
 numbers_at world (def row d ∷ outer) = numbers_at world outer ++ int_div_euclid (value row (value_in (numbers_at world outer))) d ∷ []
 numbers_at world (first row ∷ outer) = numbers_at world outer
 numbers_at world (second row ∷ outer) = numbers_at world outer
@@ -72,7 +73,7 @@ numbers-second world row path = refl
 
 count_is : (world : World) (path : Path) → length (numbers_at world path) ≡ variables path
 unfolding numbers_at
-count_is world [] = omega arith
+count_is world [] = refl
 count_is world (def row d ∷ outer) =
     omega (arith, count_is world outer, length-append (numbers_at world outer) (int_div_euclid (value row (value_in (numbers_at world outer))) d ∷ []))
 count_is world (first row ∷ outer) = count_is world outer
@@ -102,7 +103,7 @@ values_are : (world : World) (path : Path) → values_along world path ≡ value
 unfolding numbers_at
 values_are world [] = λ i x. at_axis x i
   where
-    at_axis : (x : ℕ) → values_at world x ≡ value_in (pos world.w ∷ pos world.s ∷ []) x
+    at_axis : (x : ℕ) → values_at world x ≡ value_in (map (λ axis. pos (along axis world)) axes) x
     at_axis zero = refl
     at_axis (suc zero) = refl
     at_axis (suc (suc x)) = by_tests (suc (suc x) == 0) refl (suc (suc x) == 1) refl

@@ -1,9 +1,9 @@
 ghost use Rattle.std.specs.Prelude.{◌≡◌, ◌^◌, ◌<◌, ◌≤◌, Some, None, IfSome, OnSome};
 ghost use Rattle.std.specs.Option.{option_map};
 ghost use Rattle.viz_base.specs.Worlds.{side_of, with_side};
-ghost use Rattle.cert_path.specs.Axes.{axis_of, variable_of};
 ghost use Rattle.cert_check.specs.Rectangles.{world_count, coefficient_cut, cut_of, at_most, above, cut_side, toward, part_of};
 
+use cert_path::axis_of;
 use lin_row::Row;
 use viz_base::{Axis, Rect, Span};
 
@@ -45,27 +45,6 @@ pub struct Cut {
     pub opens: Opens,
     /// The bound, any number of `i128`.
     pub bound: i128,
-}
-
-/// The axis that a variable of a row stands for.
-pub fn axis_of(variable: u32) -> Option<Axis>
-    ensures { result ≡ axis_of variable }
-{
-    match variable {
-        0 => Some(Axis::Width),
-        1 => Some(Axis::Size),
-        _ => None,
-    }
-}
-
-/// The variable that stands for an axis.
-pub fn variable_of(axis: Axis) -> u32
-    ensures { result ≡ variable_of axis }
-{
-    match axis {
-        Axis::Width => 0,
-        Axis::Size => 1,
-    }
 }
 
 /// Where `k + coefficient * number` is at least 0 for the number on the axis, the coefficient being 1 or -1.

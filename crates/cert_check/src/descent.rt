@@ -7,6 +7,7 @@ ghost use Rattle.cert_path.specs.Shapes.{is_shaped};
 ghost use Rattle.sym_calc.specs.Floors.{floors_of};
 ghost use Rattle.cert_check.specs.steps.Descent.{path_of, are_sound, is_below_def, is_below_split, outer_of};
 
+use cert_path::AXIS_COUNT;
 use lin_row::{Row, RowFault};
 use std::alloc::{AllocError, Global};
 use sym_calc::{Floor, Path};
@@ -82,7 +83,7 @@ impl<'a> Descent<'a> {
         requires { variables (path_of self.now.above) < 2 ^ 32 }
         ensures { result ≡ variables (path_of self.now.above) }
     {
-        self.path.floors.len() as u32 + 2
+        self.path.floors.len() as u32 + AXIS_COUNT
     }
 
     /// Goes below a well shaped def.

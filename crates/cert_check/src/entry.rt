@@ -1,5 +1,6 @@
 ghost use Rattle.std.specs.Prelude.{◌≡◌, ◌↔◌, ◌+◌, ◌<◌, ◌^◌, ℕ, List, length, IsTrue, IfOk};
 ghost use Rattle.cert_text.specs.Texts.{CertText};
+ghost use Rattle.cert_path.specs.Axes.{axis_count};
 ghost use Rattle.cert_path.specs.Nodes.{nodes_of};
 ghost use Rattle.cert_check.specs.Truths.{Holds};
 ghost use Rattle.cert_check.specs.Right.{Right, IsPlainlyComputed, AreUnitsAndGrids};
@@ -20,7 +21,7 @@ use viz_base::{Job, Mem};
 /// Each leaf takes one layout of the page, and so does each world of a grid's path; each line of a derivation is
 /// checked once. The call goes as deep as the certificate's defs and splits stand in one another.
 pub fn check(alloc: Global, job: &Job, cert: &Cert) -> Result<Verdict, Mem>
-    requires few { length (nodes_of cert.now) + 2 < 2 ^ 32 }
+    requires few { length (nodes_of cert.now) + axis_count < 2 ^ 32 }
     ensures verdict { IfOk result (λ verdict. IsVerdict job.now cert.now verdict) }
     ensures exact { IfOk result (λ verdict. IsPlainlyComputed job.now cert.now
         → (verdict ≡ Accepted) ↔ Right job.now cert.now) }

@@ -13,7 +13,7 @@ mod verdicts;
 mod walk;
 mod worlds;
 
-pub use cuts::{Child, Cut, Opens, axis_of, cut_of, part_of, variable_of, world_count};
+pub use cuts::{Child, Cut, Opens, cut_of, part_of, world_count};
 pub use entry::check;
 pub use laws::{
     no_more_nodes_than_bytes, one_verdict_each, right_holds, unit_rows, units_are_plain,

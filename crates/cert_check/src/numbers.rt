@@ -6,9 +6,10 @@ ghost use Rattle.cert_check.specs.steps.Grids.{value_in, pass, place_of, are_abo
 
 use crate::cuts::cut_of;
 use crate::descent::Above;
+use cert_path::along;
 use lin_row::Row;
 use std::alloc::Global;
-use viz_base::{List, Mem, World};
+use viz_base::{Axis, List, Mem, World};
 
 /// What a variable is, which counts 0 where it is not declared.
 fn value_in(values: &List<i128>, variable: u32) -> i128
@@ -76,8 +77,8 @@ pub fn place_of(alloc: Global, above: &[Above<'_>], world: World) -> Result<Opti
     ensures { IfOk result (λ place. place ≡ place_of above.now world) }
 {
     let mut values = List::new(alloc);
-    values.push(i128::from(world.w))?;
-    values.push(i128::from(world.s))?;
+    values.push(i128::from(along(Axis::Width, world)))?;
+    values.push(i128::from(along(Axis::Size, world)))?;
     let mut on = true;
     for step in above {
         match pass(&mut values, *step, on)? {

@@ -3,6 +3,7 @@ ghost use Rattle.viz_base.specs.declared.jobs.Job.{Job};
 ghost use Rattle.std.specs.Option.{option_and_then};
 ghost use Rattle.lin_row.specs.Form.{denied, form_fits};
 ghost use Rattle.cert_path.specs.Nodes.{names, splits, is_empty, by_worlds, by_answers, Node, node_on, nodes_from};
+ghost use Rattle.cert_path.specs.Axes.{axis_count};
 ghost use Rattle.cert_path.specs.Paths.{def, first, second, is_declared, variables};
 ghost use Rattle.cert_path.specs.Rectangles.{rectangle};
 ghost use Rattle.cert_path.specs.Shapes.{is_shaped};
@@ -206,8 +207,8 @@ pub fn check_node<'a>(
     number: u32,
     part: Option<Rect>,
 ) -> Result<u32, Stop>
-    requires few { number + node_count node.now + 2 < 2 ^ 32 }
-    requires variables { variables (path_of descent.old.above) ≤ number + 2 }
+    requires few { number + node_count node.now + axis_count < 2 ^ 32 }
+    requires variables { variables (path_of descent.old.above) ≤ number + axis_count }
     requires part { IsPart part (rectangle descent.old.job.now.range (path_of descent.old.above)) }
     requires within { IfSome part (IsWithin descent.old.job.now.range) }
     ensures tells { Tells descent.old.job.now (nodes_from node.now (path_of descent.old.above)) number result }
@@ -259,8 +260,8 @@ fn check_below<'a>(
     number: u32,
     part: Option<Rect>,
 ) -> Result<u32, Stop>
-    requires few { number + node_count node.now + 2 < 2 ^ 32 }
-    requires variables { variables (path_of descent.old.above) + 1 ≤ number + 2 }
+    requires few { number + node_count node.now + axis_count < 2 ^ 32 }
+    requires variables { variables (path_of descent.old.above) + 1 ≤ number + axis_count }
     requires shaped { IsTrue (is_shaped descent.old.job.now.range (path_of descent.old.above) (names row.now by)) }
     requires part { IsPart part (rectangle descent.old.job.now.range (path_of descent.old.above)) }
     requires within { IfSome part (IsWithin descent.old.job.now.range) }
@@ -291,8 +292,8 @@ fn check_parts<'a>(
     number: u32,
     part: Option<Rect>,
 ) -> Result<u32, Stop>
-    requires few { number + (node_count one.now + node_count other.now) + 2 < 2 ^ 32 }
-    requires variables { variables (path_of descent.old.above) ≤ number + 2 }
+    requires few { number + (node_count one.now + node_count other.now) + axis_count < 2 ^ 32 }
+    requires variables { variables (path_of descent.old.above) ≤ number + axis_count }
     requires declared { IsTrue (is_declared (path_of descent.old.above) row.now) }
     requires fits { IsTrue (form_fits (denied row.now)) }
     requires part { IsPart part (rectangle descent.old.job.now.range (path_of descent.old.above)) }
@@ -319,8 +320,8 @@ fn check_first<'a>(
     number: u32,
     part: Option<Rect>,
 ) -> Result<u32, Stop>
-    requires few { number + node_count node.now + 2 < 2 ^ 32 }
-    requires variables { variables (path_of descent.old.above) ≤ number + 2 }
+    requires few { number + node_count node.now + axis_count < 2 ^ 32 }
+    requires variables { variables (path_of descent.old.above) ≤ number + axis_count }
     requires declared { IsTrue (is_declared (path_of descent.old.above) row.now) }
     requires part { IsPart part (rectangle descent.old.job.now.range (path_of descent.old.above)) }
     requires within { IfSome part (IsWithin descent.old.job.now.range) }
@@ -351,8 +352,8 @@ fn check_second<'a>(
     number: u32,
     part: Option<Rect>,
 ) -> Result<u32, Stop>
-    requires few { number + node_count node.now + 2 < 2 ^ 32 }
-    requires variables { variables (path_of descent.old.above) ≤ number + 2 }
+    requires few { number + node_count node.now + axis_count < 2 ^ 32 }
+    requires variables { variables (path_of descent.old.above) ≤ number + axis_count }
     requires declared { IsTrue (is_declared (path_of descent.old.above) row.now) }
     requires fits { IsTrue (form_fits (denied row.now)) }
     requires part { IsPart part (rectangle descent.old.job.now.range (path_of descent.old.above)) }

@@ -26,8 +26,8 @@ facts_from x (f ∷ fs) = step_facts x (def f.row f.by) ++ facts_from (x + 1) fs
 -- whether a floor is new among those before it, and well shaped as that of a def behind them
 abbrev pub is_fit : List Floor → Floor → Bool
 is_fit before f =
-    are_declared (length before + axis_count) f.row.terms && has_variable f.row && lt_z (pos 1) f.by && has_remainders f.by f.row
-    && not (list_any (same_floor f) before)
+    are_declared (length before + axis_count) f.row.terms && has_variable f.row && lt_z (pos 1) f.by
+    && has_remainders f.by f.row && not (list_any (same_floor f) before)
 
 -- whether each is, behind those before it
 unfoldable pub are_fit : List Floor → List Floor → Bool

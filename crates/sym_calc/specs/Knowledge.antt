@@ -38,7 +38,8 @@ sym_state tag facts floors coeffs opens = record {
 -- The facts name no variable from n on, and say of each floor what it is.
 pub record AreKnown (facts : List Form) (named : List Floor) : Type 0 where
   pub few : length named + axis_count < 2 ^ 32
-  pub declared : (v w : ℕ → ℤ) → ((x : ℕ) → x < length named + axis_count → v x ≡ w x) → are_met facts v ≡ are_met facts w
+  pub declared : (v w : ℕ → ℤ) → ((x : ℕ) → x < length named + axis_count → v x ≡ w x)
+      → are_met facts v ≡ are_met facts w
   pub floors : (v : ℕ → ℤ) → IsTrue (are_met facts v) → (n : ℕ) (f : Floor) → slice_get named n ≡ Some f
       → v (n + axis_count) ≡ int_div_euclid (value f.row v) f.by
 

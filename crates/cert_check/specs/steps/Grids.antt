@@ -1,13 +1,16 @@
 -- The worlds of a grid, one after another.
-use Rattle.std.specs.Prelude.{◌≡◌, ◌⊎◌, ℕ, ◌+◌, ◌-◌, ℤ, pos, ◌<ℤ◌, Bool, true, false, ◌&&◌, List, [], ◌∷◌, ◌++◌, Option, Some, None, is_some, if◌then◌else◌, slice_get, option_and_then}
+use Rattle.std.specs.Prelude.{◌≡◌, ℕ, ◌+◌, ◌-◌, ℤ, pos, ◌<ℤ◌, Bool, true, false, ◌&&◌, List, [], ◌∷◌, ◌++◌, Option, Some, None, is_some, if◌then◌else◌, map, slice_get, option_and_then}
 use Rattle.std.specs.Option.{option_map, option_map_or}
 use Rattle.std.specs.List.{list_all}
 use Rattle.std.specs.Int.{int_div_euclid}
 use Rattle.std.specs.Int.RustNames.{int_le}
 use Rattle.std.specs.Int.Signed.{lt_z}
 use Rattle.viz_base.specs.declared.worlds.World.{World}
+use Rattle.viz_base.specs.declared.worlds.Axis.{Axis}
 use Rattle.viz_base.specs.declared.worlds.Rect.{Rect}
 use Rattle.viz_base.specs.declared.jobs.Job.{Job}
+use Rattle.viz_base.specs.Worlds.{along}
+use Rattle.cert_path.specs.Axes.{axes}
 use Rattle.cert_path.specs.Rectangles.{Sides, whole}
 use Rattle.cert_check.specs.Rectangles.{is_unit}
 use Rattle.cert_check.specs.Rectangles.{IsProper}
@@ -48,7 +51,7 @@ place_from [] values on = Some on
 place_from (step ∷ steps) values on = option_and_then (λ p. place_from steps p.0 p.1) (pass step values on)
 
 abbrev pub place_of : List Above → World → Option Bool
-place_of above world = place_from above (pos world.w ∷ pos world.s ∷ []) true
+place_of above world = place_from above (map (λ axis. pos (along axis world)) axes) true
 
 -- ---- all worlds of a rectangle, by width and then by size
 
@@ -82,4 +85,4 @@ first_untrue job above r = seek (untrue_of_width job above r) r.wl (r.wh + 1 - r
 -- the rectangle is what is left of the sides, on one of which nothing is left otherwise
 abbrev pub IsPart : Option Rect → Sides → Type 0
 IsPart (Some r) sides = IsProper r × (sides ≡ whole r)
-IsPart None sides = (sides.widths.most <ℤ sides.widths.least) ⊎ (sides.sizes.most <ℤ sides.sizes.least)
+IsPart None sides = (axis : Axis) × ((sides axis).most <ℤ (sides axis).least)

@@ -2,6 +2,7 @@ use Rattle.std.proofs.Common.{◌≡◌, ◌+◌, ◌∷◌, ◌++◌, ◌∙◌
 use Rattle.std.proofs.lemmas.Bool.{and_parts}
 use Rattle.std.specs.Int.{w128}
 use Rattle.cert_text.specs.declared.certificate.CertNode.TheVariants.{Def, Split}
+use Rattle.cert_path.specs.Axes.{axis_count}
 use Rattle.cert_path.specs.Paths.{def, first, second, is_declared}
 use Rattle.cert_path.specs.Nodes.{names, splits, node_on, nodes_from}
 use Rattle.cert_path.specs.Shapes.{has_variable}
@@ -109,7 +110,7 @@ check_first-check_node-requires t c =
       (
         c.requires.few,
         (
-          variables_under c.args.row.now First old.job.now now.job.now path (path_of now.above) c.args.part under job down is (c.args.number + 2) c.requires.variables,
+          variables_under c.args.row.now First old.job.now now.job.now path (path_of now.above) c.args.part under job down is (c.args.number + axis_count) c.requires.variables,
           (
             part_under c.args.row.now First old.job.now now.job.now path (path_of now.above) c.args.part under job down is c.requires.part,
             within_under c.args.row.now First old.job.now now.job.now path (path_of now.above) c.args.part under job down is c.requires.within,
@@ -134,7 +135,7 @@ check_second-check_node-requires t c =
       (
         c.requires.few,
         (
-          variables_under c.args.row.now Second old.job.now now.job.now path (path_of now.above) c.args.part under job down is (c.args.number + 2) c.requires.variables,
+          variables_under c.args.row.now Second old.job.now now.job.now path (path_of now.above) c.args.part under job down is (c.args.number + axis_count) c.requires.variables,
           (
             part_under c.args.row.now Second old.job.now now.job.now path (path_of now.above) c.args.part under job down is c.requires.part,
             within_under c.args.row.now Second old.job.now now.job.now path (path_of now.above) c.args.part under job down is c.requires.within,

@@ -1,5 +1,4 @@
-use Rattle.std.proofs.Common.{Result, Err, refl, ap, sym, subst}
-use Rattle.cert_check.specs.declared.walk.Stop.{Stop}
+use Rattle.std.proofs.Common.{Err, refl, sym, subst}
 use Rattle.cert_check.specs.declared.walk.Stop.TheVariants.{Rejected}
 use Rattle.cert_check.specs.Leaves.{node_in}
 use Rattle.cert_check.specs.steps.Tells.{Judges}
