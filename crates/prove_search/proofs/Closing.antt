@@ -24,12 +24,11 @@ use Rattle.cert_text.specs.Texts.{Nested, node_nested, node_text, node_has_text}
 use Rattle.cert_text.specs.steps.Write.{row_bytes}
 use Rattle.cert_path.specs.Paths.{def, first, second, Path, variables}
 use Rattle.cert_path.specs.Rectangles.{rectangle, left_by}
-use Rattle.cert_path.specs.Rectangles.{world_count as count_of_sides}
 use Rattle.cert_path.specs.Nodes.{by_worlds, splits, node_on, nodes_from}
 use Rattle.cert_path.specs.Shapes.{is_shaped}
 use Rattle.cert_path.proofs.Sides.{rectangle_is_units}
 use Rattle.cert_path.proofs.Trees.{preorder}
-use Rattle.cert_path.proofs.Values.{all_append, two_variables}
+use Rattle.cert_path.proofs.Values.{all_append, axes_declared}
 use Rattle.cert_check.specs.Rectangles.{world_count, IsWithin, is_unit}
 use Rattle.cert_check.specs.Truths.{is_true_at}
 use Rattle.cert_check.specs.Truths.{IsTrueIn, IsFirstUntrueIn}
@@ -37,7 +36,7 @@ use Rattle.cert_check.specs.Rectangles.{IsProper}
 use Rattle.cert_check.specs.Numbers.{are_computed}
 use Rattle.cert_check.specs.Right.{IsGood}
 use Rattle.cert_check.proofs.GridWorlds.{on_units}
-use Rattle.cert_check.proofs.PartSides.{inside_part}
+use Rattle.cert_check.proofs.PartSides.{inside_part, some_count}
 use Rattle.prove_search.specs.declared.halves.Halves.{Halves}
 use Rattle.prove_search.specs.declared.plain.Closed.{Closed}
 use Rattle.prove_search.specs.declared.plain.Stop.{Stop}
@@ -86,7 +85,7 @@ grid_is_good job r proper small holds path way =
     let few : nat_le (world_count r) 64 ≡ true = grind (arith, nat_tests) in
     let inside = rectangle_is_units job.range path in
     record {
-      shaped = ap (λ sides. nat_le (count_of_sides sides) 64) way.left ∙ few;
+      shaped = ap (λ n. nat_le n 64) (some_count r (rectangle job.range path) (proper, way.left)) ∙ few;
       decides = (
         λ world within. units_computed path way.units world,
         λ world in_range on.
@@ -192,11 +191,11 @@ unit_row Size m = refl
 -- its variable is declared along each path
 split_shaped : (range : Rect) (path : Path) (axis : Axis) (m : ℕ) → is_shaped range path (splits (row_up_to axis m)) ≡ true
 split_shaped range path Width m =
-    let two = two_variables path in
+    let two : 2 ≤ variables path = axes_declared path in
     let less : nat_lt 0 (variables path) ≡ true = grind (arith, nat_tests) in
     rw less refl
 split_shaped range path Size m =
-    let two = two_variables path in
+    let two : 2 ≤ variables path = axes_declared path in
     let less : nat_lt 1 (variables path) ≡ true = grind (arith, nat_tests) in
     rw less refl
 

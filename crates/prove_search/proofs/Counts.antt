@@ -8,6 +8,7 @@ use Rattle.cert_text.specs.declared.certificate.CertNode.{CertNode}
 use Rattle.cert_text.specs.declared.certificate.CertNode.TheOpen.{CertNode-F}
 use Rattle.cert_text.specs.declared.certificate.CertNode.TheFolds.{fold-roll-CertNode}
 use Rattle.cert_text.specs.Texts.{node_step, node_text, cert_text, CertText}
+use Rattle.cert_path.specs.Axes.{axis_count}
 use Rattle.cert_path.specs.Paths.{def, first, second, Path}
 use Rattle.cert_path.specs.Nodes.{nodes_from, nodes_of}
 use Rattle.cert_path.proofs.Trees.{def_node, split_node, void_node, grid_node, leaf_node, by_nodes, nodes-def, nodes-split, nodes-void, nodes-grid, nodes-leaf}
@@ -39,7 +40,7 @@ is_longer = by_nodes IsLonger (record {
   leaf = λ answers path. rw (nodes-leaf, text-leaf) (simp length-append (omega arith));
 })
 
-pub few_nodes : (cert : Cert) (text : List ℕ) → CertText cert text → length text ≤ 2 ^ 26 → length (nodes_of cert) + 2 < 2 ^ 32
+pub few_nodes : (cert : Cert) (text : List ℕ) → CertText cert text → length text ≤ 2 ^ 26 → length (nodes_of cert) + axis_count < 2 ^ 32
 few_nodes cert text spelled short =
     let nodes = is_longer cert.root [] in
     let whole : length (node_text cert.root) ≤ length (cert_text cert) = simp length-append (omega arith) in

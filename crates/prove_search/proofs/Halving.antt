@@ -1,16 +1,17 @@
 -- The halves of a rectangle: they lie within it, cover it, and each has at least a third of its worlds.
-use Rattle.std.proofs.Common.{◌≡◌, ℕ, zero, suc, ◌+◌, ◌-◌, ◌*◌, ◌/◌, ◌^◌, ◌<◌, ◌≤◌, pos, neg_ℤ, ◌-ℤ◌, Bool, true, false, cond, nat_le, refl, sym, ap, ◌∙◌, arith, inl, inr}
+use Rattle.std.proofs.Common.{◌≡◌, ℕ, zero, suc, ◌+◌, ◌-◌, ◌*◌, ◌/◌, ◌^◌, ◌<◌, ◌≤◌, ℤ, pos, neg_ℤ, ◌-ℤ◌, Bool, true, false, cond, nat_le, refl, sym, ap, ◌∙◌, arith, inl, inr}
 use Rattle.std.specs.Prelude.{◌⊎◌}
 use Rattle.std.specs.Int.{int_max, int_min}
 use Rattle.std.proofs.lemmas.Int.{ints}
 use Rattle.std.proofs.Math.Nat.{add-mul, mul-add, mul-le-mul_left, pow-succ'}
 use Rattle.std.proofs.lemmas.Bool.Decides.{nat_tests}
 use Rattle.viz_base.specs.declared.worlds.World.{World}
+use Rattle.viz_base.specs.declared.worlds.Axis.{Axis}
 use Rattle.viz_base.specs.declared.worlds.Axis.TheVariants.{Width, Size}
 use Rattle.viz_base.specs.declared.worlds.Rect.{Rect}
 use Rattle.logic_semantics.specs.Ranges.{IsInRange}
 use Rattle.lin_row.specs.Form.{denied}
-use Rattle.cert_path.specs.Rectangles.{Sides, whole, left_by}
+use Rattle.cert_path.specs.Rectangles.{Side, whole, left_by}
 use Rattle.cert_check.specs.Rectangles.{world_count, IsWithin}
 use Rattle.cert_check.specs.Rectangles.{IsProper}
 use Rattle.prove_search.specs.declared.halves.Halves.{Halves}
@@ -71,6 +72,9 @@ above_bound l m low =
     let back : neg_ℤ (neg_ℤ (pos m) -ℤ pos 1) ≡ pos (m + 1) = omega (arith, ints) in
     ap (λ k. int_max k (pos l)) back ∙ grind (arith, ints, nat_tests)
 
+abbrev side_between : ℤ → ℤ → Side
+side_between least most = record { least = least; most = most }
+
 below_or_above : (x m : ℕ) → (x ≤ m) ⊎ (m + 1 ≤ x)
 below_or_above x m = by_test (nat_le x m) refl
   where
@@ -120,8 +124,8 @@ at_width r m proper mid =
     let a = m + 1 - r.wl in
     let b = r.wh + 1 - (m + 1) in
     record {
-      first_left = ap (λ most. let left : Sides = record { widths = record { least = pos r.wl; most = most }; sizes = (whole r).sizes } in left) (up_to_bound m r.wh high);
-      second_left = ap (λ least. let left : Sides = record { widths = record { least = least; most = pos r.wh }; sizes = (whole r).sizes } in left) (above_bound r.wl m low);
+      first_left = λ i axis. first_at axis i;
+      second_left = λ i axis. second_at axis i;
       first_proper = record { widths = low; sizes = proper.sizes };
       second_proper = record { widths = omega arith; sizes = proper.sizes };
       first_within = record { width_least = omega arith; width_most = omega arith; size_least = omega arith; size_most = omega arith };
@@ -134,6 +138,14 @@ at_width r m proper mid =
       bound = λ wh sh. omega arith;
     }
   where
+    first_at : (axis : Axis) → left_by (row_up_to Width m) (whole r) axis ≡ whole (halves_at Width r m).first axis
+    first_at Width = ap (λ most. side_between (pos r.wl) most) (up_to_bound m r.wh mid.high)
+    first_at Size = refl
+
+    second_at : (axis : Axis) → left_by (denied (row_up_to Width m)) (whole r) axis ≡ whole (halves_at Width r m).second axis
+    second_at Width = ap (λ least. side_between least (pos r.wh)) (above_bound r.wl m mid.low)
+    second_at Size = refl
+
     place : (world : World) → IsInRange r world → (world.w ≤ m) ⊎ (m + 1 ≤ world.w) → IsInRange (halves_at Width r m).first world ⊎ IsInRange (halves_at Width r m).second world
     place world i (inl le) = inl (record { width_least = i.width_least; width_most = le; size_least = i.size_least; size_most = i.size_most })
     place world i (inr le) = inr (record { width_least = le; width_most = i.width_most; size_least = i.size_least; size_most = i.size_most })
@@ -146,8 +158,8 @@ at_size r m proper mid =
     let a = m + 1 - r.sl in
     let b = r.sh + 1 - (m + 1) in
     record {
-      first_left = ap (λ most. let left : Sides = record { widths = (whole r).widths; sizes = record { least = pos r.sl; most = most } } in left) (up_to_bound m r.sh high);
-      second_left = ap (λ least. let left : Sides = record { widths = (whole r).widths; sizes = record { least = least; most = pos r.sh } } in left) (above_bound r.sl m low);
+      first_left = λ i axis. first_at axis i;
+      second_left = λ i axis. second_at axis i;
       first_proper = record { widths = proper.widths; sizes = low };
       second_proper = record { widths = proper.widths; sizes = omega arith };
       first_within = record { width_least = omega arith; width_most = omega arith; size_least = omega arith; size_most = omega arith };
@@ -160,6 +172,14 @@ at_size r m proper mid =
       bound = λ wh sh. omega arith;
     }
   where
+    first_at : (axis : Axis) → left_by (row_up_to Size m) (whole r) axis ≡ whole (halves_at Size r m).first axis
+    first_at Width = refl
+    first_at Size = ap (λ most. side_between (pos r.sl) most) (up_to_bound m r.sh mid.high)
+
+    second_at : (axis : Axis) → left_by (denied (row_up_to Size m)) (whole r) axis ≡ whole (halves_at Size r m).second axis
+    second_at Width = refl
+    second_at Size = ap (λ least. side_between least (pos r.sh)) (above_bound r.sl m mid.low)
+
     place : (world : World) → IsInRange r world → (world.s ≤ m) ⊎ (m + 1 ≤ world.s) → IsInRange (halves_at Size r m).first world ⊎ IsInRange (halves_at Size r m).second world
     place world i (inl le) = inl (record { width_least = i.width_least; width_most = i.width_most; size_least = i.size_least; size_most = le })
     place world i (inr le) = inr (record { width_least = i.width_least; width_most = i.width_most; size_least = le; size_most = i.size_most })

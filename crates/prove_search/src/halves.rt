@@ -1,4 +1,4 @@
-ghost use Rattle.std.specs.Prelude.{◌≡◌, ◌+◌, ◌<◌, ◌≤◌, ◌^◌};
+ghost use Rattle.std.specs.Prelude.{◌≡◌, ◌<◌, ◌≤◌, ◌^◌, max};
 ghost use Rattle.cert_check.specs.Rectangles.{IsProper};
 ghost use Rattle.prove_search.specs.steps.Halves.{middle, longer_axis, halves_at, halves_of};
 
@@ -18,12 +18,11 @@ pub struct Halves {
 }
 
 /// The number in the middle of others, the lower one of two.
-fn middle(least: u32, most: u32) -> u32
-    requires { least ≤ most }
+pub fn middle(least: u32, most: u32) -> u32
     ensures middle { result ≡ middle least most }
-    ensures bound { result ≤ most }
+    ensures bound { result ≤ max least most }
 {
-    least + (most - least) / 2
+    least + most.saturating_sub(least) / 2
 }
 
 /// The axis on which a rectangle has more numbers; of two that have as many the width.

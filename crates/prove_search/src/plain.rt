@@ -10,7 +10,8 @@ ghost use Rattle.prove_search.specs.Outcomes.{IsOutcome, Decides};
 
 use crate::halves::halves_of;
 use crate::outcome::Outcome;
-use cert_check::{first_untrue, variable_of, world_count};
+use cert_check::{first_untrue, world_count};
+use cert_path::variable_of;
 use cert_text::{Cert, CertNode};
 use lin_row::Row;
 use std::alloc::Global;

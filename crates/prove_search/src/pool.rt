@@ -1,9 +1,10 @@
 use crate::values::{floor_of, value_of};
+use cert_path::{along, variable_of};
 use lin_row::Row;
 use std::alloc::Global;
-use viz_base::{Mem, World};
+use viz_base::{Axis, Mem, World};
 
-/// A world of a path, with what the path's variables are there: the width, the size, and the floors.
+/// A world of a path, with what the path's variables are there: the numbers on the axes, and the floors.
 #[derive(Debug, Drop)]
 pub struct Known {
     /// By the variables' numbers.
@@ -32,16 +33,22 @@ impl Known {
     /// A world of the range, where no floor is named yet.
     pub fn new(alloc: Global, world: World) -> Result<Self, Mem> {
         let mut values = Vec::new(alloc);
-        values.push(i128::from(world.w))?;
-        values.push(i128::from(world.s))?;
+        values.push(i128::from(along(Axis::Width, world)))?;
+        values.push(i128::from(along(Axis::Size, world)))?;
         Ok(Known { values })
     }
 
     /// The world.
     pub fn world(&self) -> Option<World> {
-        let w = u32::try_from(*self.values.first()?).ok()?;
-        let s = u32::try_from(*self.values.get(1)?).ok()?;
+        let w = self.number_on(Axis::Width)?;
+        let s = self.number_on(Axis::Size)?;
         Some(World { w, s })
+    }
+
+    /// The world's number on an axis.
+    fn number_on(&self, axis: Axis) -> Option<u32> {
+        let number = *self.values.get(variable_of(axis) as usize)?;
+        u32::try_from(number).ok()
     }
 
     /// Whether a row is at least 0 here, if its value is in `i128`.

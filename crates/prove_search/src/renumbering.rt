@@ -1,4 +1,5 @@
 use crate::trail::{Found, Spot};
+use cert_path::AXIS_COUNT;
 use lin_proof::{Branch, Derivation, Ending, Step};
 use lin_row::{Row, RowFault};
 use std::alloc::Global;
@@ -55,7 +56,9 @@ impl Numbering<'_> {
         };
         let (Ok(at) | Err(at)) = self.found.cone.places.as_slice().binary_search(&place);
         match self.spot(at) {
-            Some(Spot::Named(place)) => u32::try_from(place).unwrap_or(u32::MAX).saturating_add(2),
+            Some(Spot::Named(place)) => u32::try_from(place)
+                .unwrap_or(u32::MAX)
+                .saturating_add(AXIS_COUNT),
             Some(Spot::New(place)) => self.base.saturating_add(place),
             None => variable,
         }

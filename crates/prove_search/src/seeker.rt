@@ -5,12 +5,13 @@ use crate::cones::{cone_of, renumbered, renumbered_floors};
 use crate::pool::{Known, Pool, Signs};
 use crate::renumbering::{Numbering, copied};
 use crate::trail::{Found, Ranks};
+use cert_path::{AXIS_COUNT, variable_of};
 use lin_proof::Answer;
 use lin_row::{Row, RowFault};
 use lin_search::{Search, refute};
 use std::alloc::Global;
 use sym_calc::{Floor, Floors, Path, add_floor, quotient, remainder};
-use viz_base::{List, Mem};
+use viz_base::{Axis, List, Mem};
 use viz_calc::{Calc, Halt};
 
 /// How many cases and pairs of rows are tried for one answer.
@@ -125,7 +126,7 @@ impl<'a> Seeker<'a> {
 
     /// How many variables the path has.
     fn base(&self) -> Result<u32, Mem> {
-        match u32::try_from(self.path.floors.len().saturating_add(2)) {
+        match u32::try_from(self.path.floors.len().saturating_add(AXIS_COUNT as usize)) {
             Ok(base) => Ok(base),
             Err(_) => Err(Mem),
         }
@@ -170,7 +171,7 @@ impl<'a> Seeker<'a> {
     {
         if let Some(place) = self.path.floors.place_of(&floor) {
             self.ranks.use_named(place)?;
-            return numbered(place, 2);
+            return numbered(place, AXIS_COUNT);
         }
         let base = self.base()?;
         if let Some(place) = self.floors.place_of(&floor) {
@@ -349,7 +350,7 @@ impl<'a> Seeker<'a> {
 
     /// What stands at the end of a run.
     pub fn finish(self) -> Remains {
-        let variables = self.path.floors.len().saturating_add(2);
+        let variables = self.path.floors.len().saturating_add(AXIS_COUNT as usize);
         let mut pool = self.pool;
         pool.forget(variables);
         Remains {
@@ -428,11 +429,11 @@ impl<'a> Calc for Seeker<'a> {
     }
 
     fn width(&mut self) -> Result<Row, Halt> {
-        Ok(Row::of_term(self.alloc(), 0, 0, 64)?)
+        Ok(Row::of_term(self.alloc(), 0, variable_of(Axis::Width), 64)?)
     }
 
     fn size(&mut self) -> Result<Row, Halt> {
-        Ok(Row::of_term(self.alloc(), 0, 1, 64)?)
+        Ok(Row::of_term(self.alloc(), 0, variable_of(Axis::Size), 64)?)
     }
 
     fn copy(&mut self, a: &Row) -> Result<Row, Halt> {

@@ -1,13 +1,14 @@
 ghost use Rattle.std.specs.Prelude.{◌≡◌, ◌≤◌};
 
-use crate::halves::longer_axis;
+use crate::halves::{longer_axis, middle};
 use crate::pool::{Known, Pool};
 use crate::rectangles::{Budget, budget_of, rectangle};
 use crate::runs::{Outcome, run};
 use crate::seeker::{LIMIT, Opening};
 use crate::trail::Found;
 use crate::values::{floor_of, value_of};
-use cert_check::{Child, axis_of, cut_of, holds_at, part_of, variable_of};
+use cert_check::{Child, cut_of, holds_at, part_of};
+use cert_path::{AXIS_COUNT, axis_of, variable_of};
 use cert_text::{Cert, CertNode};
 use lin_row::{Row, RowFault};
 use lin_search::{Search, refute};
@@ -147,10 +148,6 @@ pub fn first_pool(place: &Place<'_>, rect: Rect) -> Result<Pool, Stop> {
         }
     }
     Ok(pool)
-}
-
-fn middle(least: u32, most: u32) -> u32 {
-    least.saturating_add(most.saturating_sub(least) / 2)
 }
 
 /// Stops at a world of the range at which the formula is false.
@@ -374,7 +371,8 @@ fn name(place: &mut Place<'_>, pool: &mut Pool, floor: Floor) -> Result<(), Stop
     if floor.by <= 0 || place.path.floors.place_of(&floor).is_some() {
         return Err(Stop::GaveUp);
     }
-    let Ok(variable) = u32::try_from(place.path.floors.len().saturating_add(2)) else {
+    let Ok(variable) = u32::try_from(place.path.floors.len().saturating_add(AXIS_COUNT as usize))
+    else {
         return Err(Stop::GaveUp);
     };
     if !pool.name(&floor.row, floor.by)? {
@@ -443,7 +441,7 @@ fn side(place: &mut Place<'_>, pool: Pool, rect: Option<Rect>, depth: u32) -> Re
 {
     let mut pool = pool;
     if pool.worlds.is_empty() {
-        let variables = place.path.floors.len().saturating_add(2);
+        let variables = place.path.floors.len().saturating_add(AXIS_COUNT as usize);
         let Ok(variables) = u32::try_from(variables) else {
             return Err(Stop::GaveUp);
         };
