@@ -121,7 +121,8 @@ fn step_name_behind_colon(
     colon: u32,
     token: &Token<'_>,
 ) -> Result<Reading, Stop>
-    ensures { Gives state_of place_of result (step_pseudo (state_of reading) colon token.now (pseudo (text_of token.now))) }
+    ensures { Gives state_of place_of result
+        (step_pseudo (state_of reading) colon token.now (pseudo (text_of token.now))) }
 {
     match pseudo(alloc, token)? {
         Some(Pseudo::Class(test)) => Ok(reading.tested(test)?),
