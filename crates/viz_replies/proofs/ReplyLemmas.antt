@@ -9,6 +9,7 @@ use Rattle.logic_semantics.specs.Scenes.{scene_of}
 use Rattle.logic_semantics.specs.Blame.{blame}
 use Rattle.vis_truth.specs.Scenes.{IsBoundedRendering}
 use Rattle.cert_text.specs.declared.certificate.Cert.{Cert}
+use Rattle.cert_path.specs.Axes.{axis_count}
 use Rattle.cert_path.specs.Nodes.{nodes_of}
 use Rattle.cert_check.specs.Truths.{rendering_of}
 use Rattle.cert_check.specs.declared.verdicts.Verdict.TheVariants.{Accepted, Rejected}
@@ -28,7 +29,7 @@ use Rattle.viz_replies.specs.steps.Answers.{IsOutcomeReply, IsProveReply, IsTria
 -- ---- certificates that were read
 
 -- a certificate of at most 64 MiB has few nodes
-pub few_nodes : (bytes : List ℕ) (cert : Cert) → SpellsCert bytes cert → length (nodes_of cert) + 2 < 2 ^ 32
+pub few_nodes : (bytes : List ℕ) (cert : Cert) → SpellsCert bytes cert → length (nodes_of cert) + axis_count < 2 ^ 32
 few_nodes bytes cert held =
     let below = few cert bytes held.spelled in
     let short = held.short in

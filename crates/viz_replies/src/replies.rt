@@ -1,5 +1,6 @@
 ghost use Rattle.std.specs.Prelude.{◌≡◌, ◌+◌, ◌≤◌, ◌<◌, ◌^◌, ℕ, List, [], ◌∷◌, ◌++◌, codes, length, IfOk};
 ghost use Rattle.std.specs.List.{flat_map};
+ghost use Rattle.cert_path.specs.Axes.{axis_count};
 ghost use Rattle.cert_path.specs.Nodes.{nodes_of};
 ghost use Rattle.cert_text.specs.Texts.{CertText};
 ghost use Rattle.viz_replies.specs.Lines.{numbered};
@@ -194,7 +195,7 @@ fn verdict_reply(alloc: Global, verdict: &Verdict) -> Result<Reply, Mem>
 
 /// What `check` replies for a certificate that was read.
 fn judged(alloc: Global, job: &Job, cert: &Cert) -> Result<Reply, Mem>
-    requires few { length (nodes_of cert.now) + 2 < 2 ^ 32 }
+    requires few { length (nodes_of cert.now) + axis_count < 2 ^ 32 }
     ensures { IfOk result (λ r. IsVerdictOn job.now cert.now r.answer r.output.items) }
 {
     let verdict = check(alloc, job, cert)?;
