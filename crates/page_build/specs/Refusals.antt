@@ -1,5 +1,7 @@
 -- Which refusal of a job the refusal of a part of it is.
-use Rattle.std.specs.Prelude.{◌≡◌, ℕ, ◌&&◌, nat_le, List, map, take, if◌then◌else◌}
+use Rattle.std.specs.Prelude.{◌≡◌, ℕ, ◌-◌, ◌&&◌, nat_le, List, length, map, take, drop, if◌then◌else◌}
+use Rattle.std.specs.List.{prefix_len, suffix_len}
+use Rattle.std.specs.Char.{is_ascii_whitespace}
 use Rattle.viz_base.specs.declared.nodes.Node.{Node}
 use Rattle.css_semantics.specs.Cascade.{Fault, selector_at, value_at}
 use Rattle.css_semantics.specs.SheetsReading.{Refusal, import_at, media_at, too_many}
@@ -60,9 +62,16 @@ of_formula (of_text.TooDeep place) = TooDeep place
 abbrev pub printable : ℕ → ℕ
 printable byte = if nat_le 32 byte && nat_le byte 126 then byte else 63
 
--- the first 64 bytes of a value
+-- a text without the white space at both ends (CSS 2.1, 4.1.1)
+abbrev pub without_outer_space : List ℕ → List ℕ
+without_outer_space text = without_last (drop (prefix_len is_ascii_whitespace text) text)
+  where
+    without_last : List ℕ → List ℕ
+    without_last rest = take (length rest - suffix_len is_ascii_whitespace rest) rest
+
+-- the first 64 bytes of a value without the white space at both ends, also where it ends an escape
 abbrev pub shown : List ℕ → List ℕ
-shown value = map printable (take 64 value)
+shown value = map printable (take 64 (without_outer_space value))
 
 -- of its cascade: a value is shown as it stands in its text
 abbrev pub IsTold : List Node → List (List ℕ) → Fault → JobRefusal → Type 0

@@ -1,6 +1,6 @@
 //! The text of a refused value, as it is shown.
 ghost use Rattle.std.specs.Prelude.{◌≡◌, ◌<◌, ◌∷◌, ◌++◌, [], take, IfOk, OnOk};
-ghost use Rattle.page_build.specs.Refusals.{printable, shown};
+ghost use Rattle.page_build.specs.Refusals.{printable, shown, without_outer_space};
 
 use std::alloc::{AllocError, Global};
 use viz_base::Text;
@@ -36,12 +36,20 @@ fn front(bytes: &[u8]) -> &[u8]
     }
 }
 
-/// The first 64 bytes of a value, those that cannot be printed as `?`.
+#[tactic(auto, using(crate::proofs::Values::trimmed_is))]
+/// The bytes without the white space at both ends.
+fn without_outer_space(bytes: &[u8]) -> &[u8]
+    ensures { result.now ≡ without_outer_space bytes.now }
+{
+    bytes.trim_ascii()
+}
+
+/// The first 64 bytes of a value without the white space at both ends, those that cannot be printed as `?`.
 pub(crate) fn shown(alloc: Global, value: &str) -> Result<Text, AllocError>
     ensures { IfOk result (λ text. text ≡ shown value.now) }
 {
     let mut text = Text::new(alloc);
-    let front = front(value.as_bytes());
+    let front = front(without_outer_space(value.as_bytes()));
     for byte in front {
         push_letter(&mut text, printable(*byte))?;
     }
