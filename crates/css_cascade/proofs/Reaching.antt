@@ -1,6 +1,6 @@
 -- What a loop over items has joined, and what the rest gives behind it.
-use Rattle.std.proofs.Common.{◌≡◌, ℕ, ◌+◌, ◌<◌, ◌≤◌, suc, zero, List, [], ◌∷◌, ◌++◌, length, drop, get_or, map, Result, Ok, Err, refl, sym, ap, subst, append_assoc, add-one, drop-cons, arith}
-use Rattle.std.proofs.lemmas.List.{append-nil}
+use Rattle.std.proofs.Common.{◌≡◌, ℕ, ◌+◌, ◌<◌, ◌≤◌, suc, List, [], ◌∷◌, ◌++◌, length, drop, get_or, map, Result, Ok, Err, refl, sym, ap, subst, append_assoc, add-one, drop-cons, arith}
+use Rattle.std.proofs.lemmas.List.{append-nil, drop_all}
 use Rattle.viz_base.specs.declared.sheets.Rule.{Rule}
 use Rattle.viz_base.specs.declared.sheets.Sheet.{Sheet}
 use Rattle.css_semantics.specs.declared.claims.Origin.{Origin}
@@ -37,14 +37,8 @@ reached_more {Gives = Gives} {xs = xs} {i = i} {items = items} x ys l e r g = re
 pub reached_refusal : {A B E : Type 0} {Gives : A → Result (List B) E → Type 0} {xs : List A} {i : ℕ} {items : List B} (x : A) (e : E) → i < length xs → x ≡ get_or xs i x → Reached Gives xs i items → Gives x (Err e) → Each Gives xs (Err e)
 reached_refusal {Gives = Gives} {xs = xs} {i = i} x e l at r g = r.goes (Err e) (subst (λ rest. Each Gives rest (Err e)) (sym (drop_at xs i x l at)) (refused g))
 
-pub drop_all : {A : Type 0} (xs : List A) (i : ℕ) → length xs ≤ i → drop i xs ≡ []
-drop_all [] zero h = refl
-drop_all [] (suc i) h = refl
-drop_all (x ∷ xs) zero h = absurd (omega arith)
-drop_all (x ∷ xs) (suc i) h = drop_all xs i (omega arith)
-
 pub reached_end : {A B E : Type 0} {Gives : A → Result (List B) E → Type 0} {xs : List A} {i : ℕ} {items : List B} → length xs ≤ i → Reached Gives xs i items → Each Gives xs (Ok items)
-reached_end {Gives = Gives} {xs = xs} {i = i} {items = items} h r = subst (λ all. Each Gives xs (Ok all)) (append-nil items) (r.goes (Ok []) (subst (λ rest. Each Gives rest (Ok [])) (sym (drop_all xs i h)) nothing))
+reached_end {Gives = Gives} {xs = xs} {i = i} {items = items} h r = subst (λ all. Each Gives xs (Ok all)) (append-nil items) (r.goes (Ok []) (subst (λ rest. Each Gives rest (Ok [])) (sym (drop_all i xs h)) nothing))
 
 -- ---- what reads the rules of one sheet after another
 
@@ -94,4 +88,4 @@ no_rules at (t ∷ texts) (s ∷ sheets) e = cc
 pub sheets_end : (texts : List (List ℕ)) (sheets : List Sheet) (at : ℕ) (items : List Ruleset) → length sheets ≤ at → ReachedSheets texts sheets at items → AreRulesets texts sheets (Ok items)
 sheets_end texts sheets at items h r =
     subst (λ all. AreRulesets texts sheets (Ok all)) (append-nil items)
-    (r.goes (Ok []) (subst (λ rules. Each Rulesets rules (Ok [])) (sym (no_rules at (drop at texts) (drop at sheets) (drop_all sheets at h))) nothing))
+    (r.goes (Ok []) (subst (λ rules. Each Rulesets rules (Ok [])) (sym (no_rules at (drop at texts) (drop at sheets) (drop_all at sheets h))) nothing))

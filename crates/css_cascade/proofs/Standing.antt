@@ -1,6 +1,6 @@
 -- Selectors in buckets, and which of them may match an element.
 use Rattle.std.proofs.Common.{◌≡◌, ◌≢◌, ℕ, ◌+◌, ◌<◌, ◌≤◌, ◌==◌, ◌⊎◌, inl, inr, zero, suc, true, List, [], ◌∷◌, ◌++◌, length, drop, get_or, set, slice_get, map, Some, refl, sym, ◌∙◌, ap, subst, arith, add-one, append_assoc}
-use Rattle.std.proofs.lemmas.List.{map-append, append-nil}
+use Rattle.std.proofs.lemmas.List.{map-append, append-nil, drop_all}
 use Rattle.std.specs.Prelude.{flat_map}
 use Rattle.std.specs.List.{Contains}
 use Rattle.std.proofs.lemmas.Bool.Decides.{nat_tests}
@@ -19,7 +19,6 @@ use Rattle.css_cascade.specs.declared.trimming.Trimmed.{Trimmed}
 use Rattle.css_cascade.specs.steps.Buckets.{AllStand, IsWordOfLast, Numbered, Stands, bucket_of, element_buckets, numbered, numbered_from}
 use Rattle.css_cascade.specs.steps.Trimming.{rules_of}
 use Rattle.css_cascade.specs.steps.Trying.{AreAll, MayMatch}
-use Rattle.css_cascade.proofs.Reaching.{drop_all}
 use Rattle.css_cascade.proofs.Words.{in_bucket}
 
 -- ---- one more selector
@@ -99,7 +98,7 @@ in_flat_at f (z ∷ xs) x y (suc k, l, e) h = Contains-append_right (f z) (flat_
 
 pub numbers_end : (f : ℕ → List ℕ) (numbers others items words : List ℕ) (k : ℕ) → length items ≤ k → numbers ++ flat_map f (drop k items) ≡ others ++ flat_map f items → items ≡ words → numbers ≡ others ++ flat_map f words
 numbers_end f numbers others items words k past reached same =
-    sym (append-nil numbers) ∙ ap (λ left. numbers ++ flat_map f left) (sym (drop_all items k past)) ∙ reached ∙ ap (λ ws. others ++ flat_map f ws) same
+    sym (append-nil numbers) ∙ ap (λ left. numbers ++ flat_map f left) (sym (drop_all k items past)) ∙ reached ∙ ap (λ ws. others ++ flat_map f ws) same
 
 abbrev pub bucket_in : List (List ℕ) → ℕ → List ℕ
 bucket_in named at = get_or named at []
@@ -126,10 +125,10 @@ group_more done more whole i r rest from is added reached =
     ∙ reached
 
 pub group_end : (more whole : List Numbered) (i : ℕ) (group : List Ranked) (k : ℕ) → length group ≤ k → more ++ map (λ s. (i, s)) (drop k group) ≡ whole → more ≡ whole
-group_end more whole i group k past reached = sym (append-nil more) ∙ ap (λ rs. more ++ map (λ s. (i, s)) rs) (sym (drop_all group k past)) ∙ reached
+group_end more whole i group k past reached = sym (append-nil more) ∙ ap (λ rs. more ++ map (λ s. (i, s)) rs) (sym (drop_all k group past)) ∙ reached
 
 pub rulesets_end : (more whole : List Numbered) (i : ℕ) (rulesets : List Trimmed) → length rulesets ≤ i → more ++ numbered_from i (map rules_of (drop i rulesets)) ≡ whole → more ≡ whole
-rulesets_end more whole i rulesets past reached = sym (append-nil more) ∙ ap (λ ts. more ++ numbered_from i (map rules_of ts)) (sym (drop_all rulesets i past)) ∙ reached
+rulesets_end more whole i rulesets past reached = sym (append-nil more) ∙ ap (λ ts. more ++ numbered_from i (map rules_of ts)) (sym (drop_all i rulesets past)) ∙ reached
 
 pub rulesets_more : (done group : List Numbered) (i : ℕ) (rulesets rest : List Trimmed) (t : Trimmed) (more whole : List Numbered) → rest ≡ t ∷ rulesets → group ≡ map (λ r. (i, r)) (rules_of t).group → more ≡ done ++ group → done ++ numbered_from i (map rules_of rest) ≡ whole → more ++ numbered_from (i + 1) (map rules_of rulesets) ≡ whole
 rulesets_more done group i rulesets rest t more whole is of_t added reached =

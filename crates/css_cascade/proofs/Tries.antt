@@ -1,5 +1,6 @@
 -- What the loop over the numbers has tried, and what the selectors from there on give behind it.
 use Rattle.std.proofs.Common.{◌≡◌, ℕ, ◌+◌, ◌<◌, ◌≤◌, zero, suc, List, [], ◌∷◌, length, drop, get_or, slice_get, Option, Some, None, refl, sym, ◌∙◌, ap, subst, arith, add-one, drop-cons}
+use Rattle.std.proofs.lemmas.List.{drop_all}
 use Rattle.std.specs.Prelude.{slice_index}
 use Rattle.std.specs.List.{Contains}
 use Rattle.std.specs.List.Sorted.{IsStrictlyIncreasing}
@@ -10,7 +11,6 @@ use Rattle.css_cascade.specs.declared.trimming.Trimmed.{Trimmed}
 use Rattle.css_cascade.specs.declared.trying.Found.{Found}
 use Rattle.css_cascade.specs.steps.Buckets.{Numbered}
 use Rattle.css_cascade.specs.steps.Trying.{AreTried, Behind, IsTried, Matched, Rises}
-use Rattle.css_cascade.proofs.Reaching.{drop_all}
 
 -- ---- numbers that rise
 
@@ -101,8 +101,8 @@ try_past nodes n rulesets selectors numbers k start best going x numbered is rea
 pub try_end : (nodes : List Node) (n : ℕ) (rulesets : List Trimmed) (selectors : List Numbered) (numbers : List ℕ) (k : ℕ) (start best after : List (Option Applied)) (going : Option Found) → length numbers ≤ k → ReachedTry nodes n rulesets selectors numbers k start best going → after ≡ Behind rulesets best going [] → AreTried nodes n rulesets selectors start after
 try_end nodes n rulesets selectors numbers k start best after going past reached is =
     let high = reached.next + length selectors in
-    let none = subst (λ ss. Matched nodes n ss []) (sym (drop_all selectors high (omega arith))) Matched.none in
+    let none = subst (λ ss. Matched nodes n ss []) (sym (drop_all high selectors (omega arith))) Matched.none in
     let left = missed nodes n selectors reached.next high [] (omega arith)
-    (λ at s l u e m. let h = subst (λ xs. Contains xs at) (drop_all numbers k past) (reached.named at s l e m) in absurd (omega (arith, h.1))) none in
+    (λ at s l u e m. let h = subst (λ xs. Contains xs at) (drop_all k numbers past) (reached.named at s l e m) in absurd (omega (arith, h.1))) none in
     let g = reached.goes [] left in
     (g.0, g.1, is ∙ g.2)

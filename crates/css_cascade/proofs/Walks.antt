@@ -1,5 +1,6 @@
 -- What the loop over the nodes has made, and what the rest gives behind it.
 use Rattle.std.proofs.Common.{◌≡◌, ℕ, ◌+◌, ◌<◌, ◌≤◌, List, [], ◌∷◌, ◌++◌, length, drop, get_or, Result, Ok, Err, sym, ap, subst, length-append}
+use Rattle.std.proofs.lemmas.List.{drop_all}
 use Rattle.viz_base.specs.declared.nodes.Node.{Node}
 use Rattle.viz_base.specs.declared.settings.Setting.{Setting}
 use Rattle.css_semantics.specs.declared.claims.Claim.{Claim}
@@ -10,7 +11,7 @@ use Rattle.css_cascade.specs.declared.faults.CascadeFault.{CascadeFault}
 use Rattle.css_cascade.specs.declared.faults.CascadeFault.TheVariants.{Mem, Selector, Value}
 use Rattle.viz_base.specs.Answers.{FailsWith}
 use Rattle.css_cascade.specs.Faults.{Judges, refusal_of}
-use Rattle.css_cascade.proofs.Reaching.{drop_at, drop_all}
+use Rattle.css_cascade.proofs.Reaching.{drop_at}
 
 abbrev Answer : Type 0
 Answer = Result (List (List Setting)) Fault
@@ -39,4 +40,4 @@ nodes_refusal nodes rulesets at standings winners node (Value n p source) l e r 
     rw (h.1, h.2, h.3) is
 
 pub nodes_end : (nodes : List Node) (rulesets : List Ruleset) (at : ℕ) (standings : List Standing) (winners : List (List Setting)) → length nodes ≤ at → ReachedNodes nodes rulesets at standings winners → Goes nodes rulesets [] [] nodes (Ok winners)
-nodes_end nodes rulesets at standings winners h r = r.goes (Ok winners) (subst (λ ns. Goes nodes rulesets standings winners ns (Ok winners)) (sym (drop_all nodes at h)) Goes.ends)
+nodes_end nodes rulesets at standings winners h r = r.goes (Ok winners) (subst (λ ns. Goes nodes rulesets standings winners ns (Ok winners)) (sym (drop_all at nodes h)) Goes.ends)
