@@ -12,14 +12,13 @@ ghost use Rattle.css_cascade.specs.steps.Trying.{AreBuckets};
 use crate::applying::{applied, styled};
 use crate::buckets::{Buckets, buckets_of};
 use crate::faults::CascadeFault;
-use crate::nodes::{
-    first_refused, is_hidden, is_replaced, number, settings_of, standing_around, standing_of,
-};
+use crate::nodes::{first_refused, is_hidden, number, settings_of, standing_around, standing_of};
 use crate::order::claims_among;
 use crate::reading::read_rulesets;
 use crate::trimming::{Trimmed, trim};
 use css_select::{Siblings, find_siblings};
 use css_semantics::{Claim, Standing};
+use page_nodes::is_replaced;
 use std::alloc::Global;
 use viz_base::{Body, Cascaded, List, Node, Page, Setting, Sheet, Text};
 

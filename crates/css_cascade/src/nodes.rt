@@ -1,7 +1,6 @@
 ghost use Rattle.std.specs.Prelude.{◌≡◌, ◌≤◌, ◌^◌, ◌++◌, map, flat_map, option_map, IfOk, MatchResult};
 ghost use Rattle.std.specs.List.{list_any};
 ghost use Rattle.std.specs.Option.{option_to_list};
-ghost use Rattle.viz_base.specs.Pages.{is_replaced};
 ghost use Rattle.css_semantics.specs.CascadeNodes.{around_root, first_refused, hides, is_above_zero, is_hidden};
 ghost use Rattle.css_semantics.specs.CascadeNodes.{is_limit, is_refused, sets_limit, sets_max_height};
 ghost use Rattle.css_semantics.specs.CascadeNodes.{sets_min_height, sets_min_width, set_by, settings_by, settings_of};
@@ -9,7 +8,7 @@ ghost use Rattle.css_semantics.specs.CascadeNodes.{standing_around, standing_of}
 
 use css_semantics::{Claim, Standing};
 use std::alloc::Global;
-use viz_base::{Body, List, Mem, Prop, Setting, Value};
+use viz_base::{List, Mem, Prop, Setting, Value};
 
 /// A number of a node or of a sheet. Of `2^32` and more it may not fit, which counts as want of memory.
 pub fn number(at: usize) -> Result<u32, Mem>
@@ -25,19 +24,6 @@ const AROUND_ROOT: Standing = Standing {
     min_height: false,
     max_height: false,
 };
-
-/// Whether an element is replaced: an `img`, and each other with a size of its own but for `br`.
-pub fn is_replaced(body: &Body) -> bool
-    ensures { result ≡ is_replaced body.now }
-{
-    match body {
-        Body::Element(element) => {
-            let tag = element.tag.as_str();
-            tag == "img" || (element.size.is_some() && tag != "br")
-        }
-        Body::Chars(_) => false,
-    }
-}
 
 /// Whether a minimum is other than zero, where the parent's is or isn't.
 fn is_above_zero(outer: bool, value: &Value) -> bool

@@ -1,6 +1,6 @@
 //! Which nodes of a page make boxes, and of what kind (CSS 2.1, 9.2).
 ghost use Rattle.std.specs.Prelude.{◌≡◌, ◌++◌, ◌∷◌, ◌^◌, ◌<◌, [], length, chars, IfOk, OnOk, if◌then◌else◌, Some, None};
-ghost use Rattle.viz_base.specs.Pages.{is_break, is_sized, is_replaced, text_of};
+ghost use Rattle.viz_base.specs.Pages.{is_replaced, text_of};
 ghost use Rattle.viz_base.specs.Trees.{is_inline};
 ghost use Rattle.layout_semantics.specs.Elements.{intrinsic_size, is_closed};
 ghost use Rattle.layout_semantics.specs.Lists.{one_if};
@@ -10,8 +10,8 @@ ghost use Rattle.page_boxes.specs.steps.Nodes.{is_shown_in, nodes_walk, part_in,
 
 use crate::letters::letters_of;
 use crate::parts::{Level, Part};
-use crate::styles::has_tag;
 use crate::tables::held;
+use page_nodes::{is_break, is_replaced};
 use std::alloc::{AllocError, Global};
 use viz_base::{Body, Display, Kind, List, Mem, Node, Page, Style};
 
@@ -28,28 +28,6 @@ const OUTSIDE: Spot = Spot {
     shows: true,
     container: None,
 };
-
-fn is_break(body: &Body) -> bool
-    ensures { result ≡ is_break body.now }
-{
-    has_tag(body, "br")
-}
-
-fn is_sized(body: &Body) -> bool
-    ensures { result ≡ is_sized body.now }
-{
-    match body {
-        Body::Element(element) => element.size.is_some(),
-        Body::Chars(_) => false,
-    }
-}
-
-/// Whether an element is replaced (CSS 2.1, 3.1).
-fn is_replaced(body: &Body) -> bool
-    ensures { result ≡ is_replaced body.now }
-{
-    has_tag(body, "img") || (is_sized(body) && !is_break(body))
-}
 
 fn intrinsic_size(body: &Body) -> (u32, u32)
     ensures { result ≡ intrinsic_size body.now }

@@ -6,18 +6,9 @@ ghost use Rattle.layout_semantics.specs.Elements.{node_passes};
 ghost use Rattle.layout_semantics.specs.WhiteSpace.{is_in};
 ghost use Rattle.layout_laws.specs.Viewport.{is_body};
 
+use page_nodes::has_tag;
 use std::alloc::{AllocError, Global};
 use viz_base::{Body, List, Node, Page, Style};
-
-/// Whether a node is an element with this tag.
-pub fn has_tag(body: &Body, tag: &str) -> bool
-    ensures { result ≡ has_tag tag.now body.now }
-{
-    match body {
-        Body::Element(element) => element.tag.as_str() == tag,
-        Body::Chars(_) => false,
-    }
-}
 
 /// The element whose style a node has: a text has its parent's.
 fn styled_element(at: u32, node: &Node) -> u32
