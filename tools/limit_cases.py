@@ -14,9 +14,13 @@ ACCEPTED = ["Done", "accepted\n"]
 FONT = {**square("Square"), "advances": []}
 
 
+def compact(value):
+    return json.dumps(value, ensure_ascii=False, separators=(",", ":"))
+
+
 def job(page, widths, sizes, assertion="true", css=()):
     parts = {"vizlog": 1, "widths": widths, "sizes": sizes, "height": 600, "fonts": [square("Square")], "css": css, "page": page, "assert": assertion}
-    return json.dumps(parts, ensure_ascii=False, separators=(",", ":"))
+    return compact(parts)
 
 
 def block(style="", children=()):
@@ -105,6 +109,33 @@ def reads():
     yield asked(job(reaching(parts + 1), *ONE), refused("reach 1"))
     for letters, answer in ((262144, READ), (262145, refused("limit text 262145"))):
         yield asked(job(nested_page(59, "\u00e9" * letters), *ONE), answer)
+    yield from bounds(asked, html)
+    # white space goes from both ends of a value, also where it ends an escape, before 64 bytes are taken
+    for value, shown in (("absolut\\65 ", "absolut\\65"), ("fixe\\64\t", "fixe\\64"), (" /*" + "x" * 70 + "*/fixed", "/*" + "x" * 62)):
+        yield asked(job(block(f"position:{value}"), *ONE), refused(f"unsupported-value 0 position {shown}"))
+
+
+def bounds(asked, html):
+    """Rules, sheets, boxes, fonts and advances at their bounds, and past them."""
+    yield asked(job(html, *ONE, css=["p{}" * 8192]))
+    yield asked(job(html, *ONE, css=["", "p{}" * 8193]), refused("too-many-rules 1"))
+    yield asked(job(html, *ONE, css=["", "", "", "", "@import 'x';"]), refused("import 4 0"))
+    for size, answer in ((2**20, READ), (2**20 + 1, refused("limit css 1048577"))):
+        yield asked(job(html, *ONE, css=["/*" + "x" * (size - 4) + "*/"]), answer)
+    for texts, answer in ((16382, READ), (16383, refused("too-many-boxes"))):
+        body = {"tag": "body", "children": ["a"] * texts}
+        yield asked(job({"tag": "html", "children": [body]}, *ONE), answer)
+    elements = [block("height:1px") for _ in range(4094)] + [block("", ["a"])]
+    yield asked(job(block("", elements), *ONE))
+    fonts = [square(f"F{at}") for at in range(64)]
+    fonts[63]["default"] = 250
+    text = job({"tag": "html", "attrs": {"style": "font-family:F63"}, "children": []}, *ONE).replace(compact([square("Square")]), compact(fonts))
+    yield ["words", text, 320, 16, [[0, "aa"]]], [512]
+    image = {"tag": "img", "size": [1, 16384], "attrs": {"style": "width:1000000px;height:1000000px"}, "children": []}
+    yield asked(job(block("", [image]), *ONE), refused("reach 1"))
+    for count, answer in ((65536, READ), (65537, refused("limit advances 65537"))):
+        font = {**square("Square"), "advances": [[256 + at, 1] for at in range(count)]}
+        yield asked(job(html, *ONE).replace(compact([square("Square")]), compact([font])), answer)
 
 
 # ---- lengths
@@ -188,15 +219,55 @@ def certificates():
     yield check(job(page, [1, 160], [1, 64], wide), grids, ["CertRefused", f"rejected untrue {node} 157 61\n"])
 
 
+def answered(line, facts, multiples, number=4):
+    """An answer of a leaf: what it is to, and the sum of facts, the last its denial, of this number, that is below 0."""
+    listed = "".join(f"fact {fact}\n" for fact in (*facts, number))
+    return f"{line}\n{listed}sum {' '.join(f'{times}:{at}' for at, times in enumerate(multiples))}\nclosed\n"
+
+
 def leaves():
-    """Leaves on a page without boxes, whose layout compares nothing: the assertion alone asks for answers."""
+    """Leaves on a page without boxes, whose layout compares nothing: the assertion alone asks for answers. The facts are w - 320 and 400 - w
+    in px, two of the size, those of the path, and the answer's denial, which is what it denies in 1/64 px, negated, less 1."""
+    def text_of(assertion):
+        return job(block("display:none"), [320, 400], [16, 16], assertion)
+
     def leaf(assertion, answers, answer=ACCEPTED):
-        text = job(block("display:none"), [320, 400], [16, 16], assertion)
-        return check(text, f"leaf\n{answers}end\n", answer)
+        return check(text_of(assertion), f"leaf\n{answers}end\n", answer)
+
+    def rejected(line):
+        return ["CertRefused", f"rejected {line}\n"]
+    least, most = answered("yes -20480 0:64", [0], (64, 1)), answered("yes 25600 0:-64", [1], (64, 1))
+    weak, other = answered("yes -20480 0:64", [0], (63, 1)), answered("yes -20480 0:63", [0], (63, 1))
+    both = "view.width >= 320px and view.width <= 400px"
     yield leaf("true", "")
-    yield leaf("true", "yes 0\nclosed\nyes 0\nclosed\n", ["CertRefused", "rejected left 0 2\n"])
-    yield leaf("false", "", ["CertRefused", "rejected unmet 0\n"])
-    yield leaf("view.width >= 400px", "", ["CertRefused", "rejected short 0\n"])
+    yield leaf("true", "yes 0\nclosed\nyes 0\nclosed\n", rejected("left 0 2"))
+    yield leaf("false", "", rejected("unmet 0"))
+    yield leaf("view.width >= 400px", "", rejected("short 0"))
+    yield leaf("view.width >= 320px", least)
+    yield leaf("view.width >= 320px", least + most, rejected("left 0 1"))
+    yield leaf("view.width >= 320px", weak, rejected("line 0 0 3"))
+    yield leaf("view.width >= 320px", other, rejected("differs 0 0 -20480 0:64 / -20480 0:63"))
+    yield leaf("view.width >= 320px", least.replace("yes", "no"), rejected("line 0 0 3"))
+    yield leaf("view.width < 320px", least, rejected("unmet 0"))
+    yield leaf("view.width < 320px", weak, rejected("line 0 0 3"))
+    yield leaf("view.width >= 401px", answered("no -25664 0:64", [1], (64, 1)), rejected("unmet 0"))
+    yield leaf("not view.width >= 401px", answered("no -25664 0:64", [1], (64, 1)))
+    yield leaf(both, least + most)
+    yield leaf(both, least, rejected("short 0"))
+    yield leaf(both, least + answered("yes 25600 0:-64", [1], (63, 1)), rejected("line 0 1 3"))
+    yield leaf(both, least + answered("yes 25599 0:-64", [1], (64, 1)), rejected("differs 0 1 25600 0:-64 / 25599 0:-64"))
+    # two leaves, below a split whose row, or the denial of it, is fact 4
+    halves = [answered("yes -23040 0:64", [4], (64, 1), 5), answered("no -23040 0:64", [4], (64, 1), 5)]
+    split = "split -360 0:1\nleaf\n{}end\nleaf\n{}end\n"
+    one = text_of("view.width >= 360px or view.width < 360px")
+    yield check(one, split.format(halves[0], halves[1] * 2))
+    yield check(one, split.format(halves[0], halves[1]), rejected("short 2"))
+    yield check(one, split.format(halves[0], halves[1] + halves[1].replace("64:0", "63:0")), rejected("line 2 1 3"))
+    yield ["leaf", text_of("view.width >= 320px"), certificate("", f"leaf\n{least}end\n")], "Accepted"
+    yield ["leaf", text_of("view.width >= 320px"), certificate("", f"leaf\n{least + most}end\n")], "Rejected(Left(0, 1))"
+    yield ["leaf", text_of("view.width >= 320px"), certificate("", f"leaf\n{weak}end\n")], "Rejected(Line(0, 0, 3))"
+    yield ["leaf", text_of("view.width < 320px"), certificate("", f"leaf\n{least}end\n")], "Rejected(Unmet(0))"
+    yield ["leaf", text_of(both), certificate("", f"leaf\n{least}end\n")], "Rejected(Short(0))"
 
 
 PLACES = (("", 0), ("grid\n\n", 5), ("split 07 0:1", 7), ("split -0 0:1\n", 7), ("split 0 0:-0\n", 11), ("split 0 4294967294:1 5:1\n", 21),

@@ -9,6 +9,7 @@ mod floats;
 mod formulas;
 mod json;
 mod leads;
+mod leaves;
 mod lengths;
 mod lines;
 mod margins;
@@ -38,7 +39,7 @@ fn decimal(alloc: Global, text: &str) -> Result<String, Fault> {
     }
 }
 
-/// The answer to a case of layout, of rows or of derivations.
+/// The answer to a case of layout, of rows, of derivations or of a leaf.
 fn answer_below(alloc: Global, name: &str, case: &Value) -> Result<String, Fault> {
     match name {
         "float_at" => floats::place(alloc, case),
@@ -52,6 +53,7 @@ fn answer_below(alloc: Global, name: &str, case: &Value) -> Result<String, Fault
         "cut" => rows::cut(alloc, case),
         "derivation" => derivations::judged(alloc, case),
         "boxes" => boxes::answer(alloc, case),
+        "leaf" => leaves::judged(alloc, case),
         _ => trees::answer(alloc, name, case),
     }
 }

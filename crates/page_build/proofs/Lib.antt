@@ -5,4 +5,4 @@ pub mod SameFields
 pub mod OneStyle
 pub mod ReadPages
 pub mod OneJob
-pub mod Values
+pub mod Shown
