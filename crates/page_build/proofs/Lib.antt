@@ -5,4 +5,3 @@ pub mod SameFields
 pub mod OneStyle
 pub mod ReadPages
 pub mod OneJob
-pub mod Shown

@@ -36,7 +36,6 @@ fn front(bytes: &[u8]) -> &[u8]
     }
 }
 
-#[tactic(auto, using(crate::proofs::Shown::trimmed_is))]
 /// The bytes without the white space at both ends.
 fn without_outer_space(bytes: &[u8]) -> &[u8]
     ensures { result.now ≡ without_outer_space bytes.now }
