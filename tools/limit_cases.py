@@ -134,7 +134,7 @@ def bounds(asked, html):
     image = {"tag": "img", "size": [1, 16384], "attrs": {"style": "width:1000000px;height:1000000px"}, "children": []}
     yield asked(job(block("", [image]), *ONE), refused("reach 1"))
     for count, answer in ((65536, READ), (65537, refused("limit advances 65537"))):
-        font = {**square("Square"), "advances": [[256 + at, 1] for at in range(count)]}
+        font = {**square("Square"), "advances": [[0xE000 + at, 1] for at in range(count)]}
         yield asked(job(html, *ONE).replace(compact([square("Square")]), compact([font])), answer)
 
 
