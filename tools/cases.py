@@ -279,12 +279,12 @@ def jobs(folder):
 
 
 def refusals(folder):
-    """Jobs that are refused."""
+    """Jobs that are refused, but those of over 100,000 characters and those that are no text."""
     for line in (folder / "refusals.jsonl").read_text(encoding="utf-8").split("\n"):
         case = json.loads(line) if line else {"pieces": []}
-        text = "".join(piece * times for kind, piece, times in case["pieces"] if kind == "text" and len(piece) * times < 20000)
-        whole = all(kind == "text" and len(piece) * times < 20000 for kind, piece, times in case["pieces"]) and len(text) < 20000
-        if whole and "line" in case:
+        size = sum(len(piece) * times for _, piece, times in case["pieces"])
+        if "line" in case and size < 100000 and all(kind == "text" for kind, _, _ in case["pieces"]):
+            text = "".join(piece * times for _, piece, times in case["pieces"])
             yield ["lay", text, case["w"], case["s"]], ["JobRefused", case["line"] + "\n"]
 
 

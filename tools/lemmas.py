@@ -46,7 +46,7 @@ def is_own(line, name):
 
 
 def shape(statement):
-    """A statement without its layout, its universe levels and the names of what it binds."""
+    """A statement without its layout, its universe levels and the names of what it binds; tests of numbers by their names in lemmas."""
     statement = re.sub(r"\{ℓ[^}]*\}\s*(→)?", "", statement)
     statement = re.sub(r"\bType (?:\d+|\w+)", "Type", statement)
     statement = re.sub(r"([({][\w' ]+ : [^(){}]*[)}]) → (?=[({])", r"\1 ", statement)
@@ -55,7 +55,9 @@ def shape(statement):
         bound += names.split()
     numbers = {name: f"v{at}" for at, name in enumerate(dict.fromkeys(bound))}
     statement = WORDS.sub(lambda it: numbers.get(it.group(0), it.group(0)), statement)
-    return re.sub(r"[\s(){}]+", " ", statement).strip()
+    statement = re.sub(r"[\s(){}]+", " ", statement).strip()
+    statement = re.sub(r"(\S+) == (\S+)", r"eqb \1 \2", statement)
+    return re.sub(r"\bnat_l([te])\b", lambda it: {"t": "ltb", "e": "leb"}[it.group(1)], statement)
 
 
 def statements(path):
@@ -80,7 +82,7 @@ def restated(crates):
         for name, statement in re.findall(rf"^pub ({NAME}) : (.*)$", page.read_text(encoding="utf-8"), re.M):
             known.setdefault(shape(statement), name)
     for path in sources(crates):
-        if path.suffix == ".antt" and "proofs" in path.parts and path.name not in GOALS:
+        if path.suffix == ".antt" and "proofs" in path.parts:
             for at, name, statement in statements(path):
                 if shape(statement) in known:
                     yield path.relative_to(crates), at, name, known[shape(statement)]

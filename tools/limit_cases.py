@@ -33,6 +33,9 @@ def line(node, left, top, right, bottom):
     return f"block {node} m {edges} b {edges} p {edges} c {edges}\n"
 
 
+WORD = ""
+
+
 # ---- layouts: a block of so many others, each 1 px high
 
 def column(count):
@@ -51,6 +54,9 @@ def layouts():
     page = [[None, "div", [], None]]
     text, steps = "true" + " and true" * 1820, [["Const", True]] + [["Const", True], ["And"]] * 1820
     assert len(text) == 16384
+    # one word of as many letters as a page may have, in a line 32 * 262144 units wide: its width is that of its container
+    word = block("", ["a" * 262144])
+    yield ["lay", job(word, [320, 320], [16, 16]), 320, 16], ["Done", WORD]
     yield ["formulas", page, text, steps], True
     yield ["lay", job(column(0), [320, 320], [16, 16], text), 320, 16], ["Done", column_text(0, 320)]
     yield ["lay", job(column(0), [320, 320], [16, 16], text + " "), 320, 16], ["JobRefused", "job-refused limit formula 16385\n"]
@@ -109,10 +115,16 @@ def reads():
     yield asked(job(reaching(parts + 1), *ONE), refused("reach 1"))
     for letters, answer in ((262144, READ), (262145, refused("limit text 262145"))):
         yield asked(job(nested_page(59, "\u00e9" * letters), *ONE), answer)
+    yield laid_out(job(nested_page(59, "\u00e9" * 262144), *ONE))
     yield from bounds(asked, html)
     # white space goes from both ends of a value, also where it ends an escape, before 64 bytes are taken
     for value, shown in (("absolut\\65 ", "absolut\\65"), ("fixe\\64\t", "fixe\\64"), (" /*" + "x" * 70 + "*/fixed", "/*" + "x" * 62)):
         yield asked(job(block(f"position:{value}"), *ONE), refused(f"unsupported-value 0 position {shown}"))
+
+
+def laid_out(text):
+    """A search of one turn, which lays out the page at each world, here the only one."""
+    return ["prove", text, 1], ACCEPTED
 
 
 def bounds(asked, html):
@@ -125,6 +137,7 @@ def bounds(asked, html):
     for texts, answer in ((16382, READ), (16383, refused("too-many-boxes"))):
         body = {"tag": "body", "children": ["a"] * texts}
         yield asked(job({"tag": "html", "children": [body]}, *ONE), answer)
+    yield laid_out(job({"tag": "html", "children": [{"tag": "body", "children": ["a"] * 16382}]}, *ONE))
     elements = [block("height:1px") for _ in range(4094)] + [block("", ["a"])]
     yield asked(job(block("", elements), *ONE))
     fonts = [square(f"F{at}") for at in range(64)]
@@ -217,6 +230,11 @@ def certificates():
     yield check(job(page, [1, 160], [1, 64], "forall b in block: 2 * b.content.left = view.width and b.bottom <= 64px"), grids)
     wide = "forall b in block: view.width != 157px or b.bottom != 61px"
     yield check(job(page, [1, 160], [1, 64], wide), grids, ["CertRefused", f"rejected untrue {node} 157 61\n"])
+    # some 90 kB
+    many, (grids, _) = job(block("display:none"), [1, 4096], [16, 16]), columns(1, 4096, 0, 1)
+    yield check(many, grids)
+    text = certificate(many, grids)
+    yield ["check", many, text[:-1] + "x"], ["CertRefused", f"rejected grammar {len(text) - 1}\n"]
 
 
 def answered(line, facts, multiples, number=4):
@@ -292,6 +310,8 @@ def searches(folder):
     yield ["prove", job(column(2), [320, 400], [16, 16], "forall b in block: b.left >= 0"), 1], ACCEPTED
     yield ["prove", text, 0], ["Undecided", "undecided 320 400 16 16\n"]
     yield ["prove", job(block(), [320, 400], [16, 16], "view.width < 400px"), 161], ["Violated", "violated 400 16\n" + column_text(0, 400)]
+    # one leaf, whose certificate is longer than 64 KiB
+    yield ["prove", job(column(1500), [320, 400], [16, 16], "forall b in block: b.left >= 0"), 1], ACCEPTED
     blamed = "forall a in block: a.top >= 100px implies forall b in block: b.top < 200px"
     yield ["prove", job(column(299), [320, 320], [16, 16], blamed), 1], ["Violated", "violated 320 16\nblame 101\nblame 201\n" + column_text(299, 320)]
     yield ["prove", "{", 1], ["JobRefused", "job-refused not-json\n"]
@@ -317,16 +337,17 @@ def generated_text(seed, count):
 
 
 def generated(folder):
-    """The texts of generated jobs, and trials of those without sections, which hold."""
+    """The texts of generated jobs, trials of them without turns, and trials of those without sections, which hold."""
     for told in filter(None, (folder / "gen.jsonl").read_text(encoding="utf-8").split("\n")):
         case = json.loads(told)
         text = generated_text(case["seed"], case["n"])
         assert (len(text), hashlib.sha256(text.encode()).hexdigest()) == (case["bytes"], case["sha256"]), case
         yield ["gen", case["seed"], case["n"]], ["Done", text]
+        about = f"trial boxes {case['boxes']} worlds {1601 * 13}"
+        yield ["trial", case["seed"], case["n"], 0], ["Undecided", about + " undecided\n"]
         if case["n"] == 0:
-            about = f"trial boxes {case['boxes']} worlds {1601 * 13}"
             yield ["trial", case["seed"], 0, 2 * 1601 * 13 - 1], ["Done", about + " proved\n"]
-            yield ["trial", case["seed"], 0, 0], ["Undecided", about + " undecided\n"]
+    yield ["gen", 1, 1000], ["Done", generated_text(1, 1000)]
     yield ["gen", 1, 1001], None
 
 
