@@ -32,7 +32,7 @@ use Rattle.layout_semantics.specs.Leads.{lead as landed_lead}
 use Rattle.layout_semantics.specs.Lengths.{own}
 use Rattle.layout_semantics.specs.LineHeights.{InlineContext}
 use Rattle.layout_semantics.specs.Lines.{LineList, lines_in}
-use Rattle.layout_semantics.specs.Clearance.{Base, hangs, stands, resolve}
+use Rattle.layout_semantics.specs.Clearance.{Base, hangs, stands, on_ground, resolve}
 use Rattle.layout_semantics.specs.Flow as landed
 use Rattle.layout_semantics.specs.Flow.{Cleared, Alone, Reached, Progress, raised, content_height}
 use Rattle.layout_laws.proofs.Levels.{IsFrom, All-implied, map-same}
@@ -47,9 +47,8 @@ use Rattle.flow_steps.specs.Order.{is_before}
 use Rattle.flow_steps.specs.Runs.{run_of}
 use Rattle.flow_steps.specs.Forward.{Found, goes_on, cleared_of, forward}
 use Rattle.flow_steps.specs.Progress.{squeezed, context_of}
-use Rattle.flow_steps.specs.Flow.{Standing, at_top, below, Context, fresh, Step, step, next_edge, is_at_top, Laid, context_height, block_height, joined_run, line_tops, after_lines, children, frame_at, corner_frame, context_box, block_box, whole, alone, size_of, float_placed, float_child, reached_at, reached, opened, closed, laid_context, laid_block, laid, run_forward, own_run, standing_after, child, inner_size, entry_boxes, line_content, content_step}
+use Rattle.flow_steps.specs.Flow.{Standing, at_top, below, Context, fresh, Step, step, next_edge, is_at_top, Laid, met, context_height, block_height, joined_run, line_tops, after_lines, children, frame_at, corner_frame, context_box, block_box, whole, alone, size_in, float_placed, float_child, reached_at, reached, opened, closed, laid_context, laid_block, laid, run_forward, own_run, standing_after, child, inner_size, entry_boxes, line_content, content_step}
 use Rattle.flow_steps.specs.Tables.{outside_of}
-use Rattle.flow_steps.proofs.LeadCases.{on_ground}
 use Rattle.flow_steps.proofs.Passed.{all-passed}
 use Rattle.flow_steps.proofs.Through.{way-on}
 use Rattle.flow_steps.proofs.TopStays.{IsOther, IsTopFree, at-cleared, reached-clears, goes-through}
@@ -84,7 +83,7 @@ edge-same (landed.below edge run stuck) = refl
 -- a box that comes below a run of margins
 pub below-found : (tree : BoxTree) (w : World) (size : Waiting ℤ → Extent ℤ) (floats : List FloatBox) (least : Option ℤ) (k end : ℕ) → k < length tree.boxes → IsTrue (is_before tree.boxes k end)
     → (cb : Band ℤ) (edge : ℤ) (run : List ℤ)
-    → IsFoundBy (run_of run) (resolve tree w size (hangs edge) run cb floats least k none_passed) (forward (on_ground tree w size (hangs edge) floats least) none_passed cb k (run_of run))
+    → IsFoundBy (run_of run) (resolve (on_ground tree w size (hangs edge) floats least) run cb k none_passed) (forward (on_ground tree w size (hangs edge) floats least) none_passed cb k (run_of run))
 below-found tree w size floats least k end within order cb edge run =
     resolve-found tree w size (hangs edge) floats least run (run_of run) (λ more. ap (λ (r : Run ℤ). edge +ℤ collapse r) (run-append run more)) cb k end within order none_passed none-prefix
 
@@ -178,7 +177,7 @@ module _ (tree : BoxTree) (w : World) (height : ℕ) where
     -- ---- sizes of the floats that wait
 
     abbrev SameSize : Waiting ℤ → Type 0
-    SameSize f = landed.waiting_size tree w height inside f ≡ size_of tree w height content apart f
+    SameSize f = landed.waiting_size tree w height inside f ≡ size_in apart f
 
     pub record IsFine (cb : Band ℤ) (k : ℕ) : Type 0 where
       pub kid : IsFlowKid tree w height k (across cb)
@@ -205,9 +204,9 @@ module _ (tree : BoxTree) (w : World) (height : ℕ) where
         (floats-served b above fine.kid.sound.page fine.kid.sound.block (enters-no-line tree b i)))
 
     size-same : (base : Base) (floats : List FloatBox) (least : Option ℤ) (p : ℕ → Bool) (cb : Band ℤ) (k : ℕ) (run : Run ℤ) → IsFine cb k
-        → forward (on_ground tree w (landed.waiting_size tree w height inside) base floats least) p cb k run ≡ forward (on_ground tree w (size_of tree w height content apart) base floats least) p cb k run
+        → forward (on_ground tree w (landed.waiting_size tree w height inside) base floats least) p cb k run ≡ forward (on_ground tree w (size_in apart) base floats least) p cb k run
     size-same base floats least p cb k run fine =
-        (sizes-alike tree w base floats least (landed.waiting_size tree w height inside) (size_of tree w height content apart) IsFine closes p (length tree.boxes) cb k run [] fine tt).same
+        (sizes-alike tree w base floats least (landed.waiting_size tree w height inside) (size_in apart) IsFine closes p (length tree.boxes) cb k run [] fine tt).same
 
     -- ---- floats
 
@@ -227,8 +226,8 @@ module _ (tree : BoxTree) (w : World) (height : ℕ) where
 
     module _ (k end : ℕ) (within : k < length tree.boxes) (order : IsTrue (is_before tree.boxes k end)) where
       opened-same : (cb : Band ℤ) (p : Progress) (y : ℤ) → IsFine cb k
-          → (resolve tree w (landed.waiting_size tree w height inside) (stands y) [] cb p.floats p.least k (is_up_to k)).cleared
-          ≡ cleared_of (forward (on_ground tree w (size_of tree w height content apart) (stands y) p.floats p.least) (is_up_to k) cb k no_run).end
+          → (resolve (on_ground tree w (landed.waiting_size tree w height inside) (stands y) p.floats p.least) [] cb k (is_up_to k)).cleared
+          ≡ cleared_of (forward (on_ground tree w (size_in apart) (stands y) p.floats p.least) (is_up_to k) cb k no_run).end
       opened-same cb p y fine =
           (resolve-found tree w (landed.waiting_size tree w height inside) (stands y) p.floats p.least [] no_run (λ more. refl) cb k end within order (is_up_to k) (up-prefix k)).cleared
           ∙ ap (λ (f : Found). cleared_of f.end) (size-same (stands y) p.floats p.least (is_up_to k) cb k no_run fine)
@@ -252,7 +251,7 @@ module _ (tree : BoxTree) (w : World) (height : ℕ) where
           by (landed.at_top y cleared) e = rw e (at-same cb p y cleared fine)
           by (landed.below edge run stuck) e =
               let size = landed.waiting_size tree w height inside in
-              let r = resolve tree w size (hangs edge) run cb p.floats p.least k none_passed in
+              let r = resolve (on_ground tree w size (hangs edge) p.floats p.least) run cb k none_passed in
               let found = below-found tree w size p.floats p.least k end within order cb edge run in
               rw e (at-same cb p (edge +ℤ collapse (run_of (run ++ r.margins))) r.cleared fine
               ∙ ap (λ (c : Cleared). reached_at tree w height content apart cb s k (edge +ℤ collapse (run_of (run ++ r.margins))) c) found.cleared
@@ -376,7 +375,7 @@ module _ (tree : BoxTree) (w : World) (height : ℕ) where
     IsOwn cb k false (landed.below edge run stuck) own = run_of (run ++ lead_margins cb k) ≡ own
 
     standing-same : (cb : Band ℤ) (s : landed.Standing) (k : ℕ) (own : Run ℤ) (r : Reached) (p : Progress) (l : landed.Laid) (m : Laid) → LaidSame p l m → (m.through ≡ true → IsOwn cb k r.clears s own)
-        → squeezed (landed.standing_after tree w height inside cb s k r l) ≡ standing_after tree w height content apart cb (squeezed s) k own r m
+        → squeezed (landed.standing_after tree w height inside cb s k r l) ≡ standing_after tree w height content apart cb (squeezed s) k (met r own) m
     unfolding margin_below lead_margins
     standing-same cb s k own r p l m same right = by l.through r.clears s refl refl right
       where
@@ -384,7 +383,7 @@ module _ (tree : BoxTree) (w : World) (height : ℕ) where
         mb = bottom_margin tree w cb k
 
         by : (t c : Bool) (s : landed.Standing) → l.through ≡ t → r.clears ≡ c → (m.through ≡ true → IsOwn cb k c s own)
-            → squeezed (landed.standing_after tree w height inside cb s k r l) ≡ standing_after tree w height content apart cb (squeezed s) k own r m
+            → squeezed (landed.standing_after tree w height inside cb s k r l) ≡ standing_after tree w height content apart cb (squeezed s) k (met r own) m
         by false c s e f o =
             let g = sym same.through ∙ e in
             rw (e, g) (ap (λ (b : ℤ). below b (run_of l.margins) false) same.bottom ∙ ap (λ (x : Run ℤ). below m.bottom x false) same.margins)
@@ -406,7 +405,7 @@ module _ (tree : BoxTree) (w : World) (height : ℕ) where
         → (run_forward tree w height content apart base q cb s k (run_of run)).end ≡ goes_on → run_of (run ++ lead_margins cb k) ≡ (run_forward tree w height content apart base q cb s k (run_of run)).run
     way-whole base q cb s k run within e =
         through-same cb k run within
-        ∙ (way-on tree w (size_of tree w height content apart) base s.floats s.least q (is_up_to (length tree.boxes)) (λ k l. grind (arith, nat_tests)) (length tree.boxes) cb k (run_of run) [] within e).run
+        ∙ (way-on tree w (size_in apart) base s.floats s.least q (is_up_to (length tree.boxes)) (λ k l. grind (arith, nat_tests)) (length tree.boxes) cb k (run_of run) [] within e).run
 
     own-right : (cb : Band ℤ) (p : Progress) (k : ℕ) → k < length tree.boxes → suc low ≤ k
         → (let r = reached tree w height content apart cb (context_of p) k in (laid tree w height content apart cb (context_of p) k r).through ≡ true
@@ -420,7 +419,7 @@ module _ (tree : BoxTree) (w : World) (height : ℕ) where
         r = reached tree w height content apart cb s k
 
         size : Waiting ℤ → Extent ℤ
-        size = size_of tree w height content apart
+        size = size_in apart
 
         by : (c : Bool) (x : landed.Standing) → r.clears ≡ c → p.standing ≡ x → IsOwn cb k c x (own_run tree w height content apart cb s k r)
         by true x e f =
@@ -471,7 +470,7 @@ module _ (tree : BoxTree) (w : World) (height : ℕ) where
         after r = record (landed.laid tree w height inside cb p k r).after { standing = landed.standing_after tree w height inside cb p.standing k r (landed.laid tree w height inside cb p k r) }
 
         stepped : Reached → Step
-        stepped r = step (record (laid tree w height content apart cb s k r).after.context { standing = standing_after tree w height content apart cb s.standing k (own_run tree w height content apart cb s k r) r (laid tree w height content apart cb s k r) }) (laid tree w height content apart cb s k r).after.boxes
+        stepped r = step (record (laid tree w height content apart cb s k r).after.context { standing = standing_after tree w height content apart cb s.standing k (met r (own_run tree w height content apart cb s k r)) (laid tree w height content apart cb s k r) }) (laid tree w height content apart cb s k r).after.boxes
 
         r : Reached
         r = reached tree w height content apart cb s k
@@ -486,7 +485,7 @@ module _ (tree : BoxTree) (w : World) (height : ℕ) where
             let standing = standing-same cb p.standing k own r p (landed.laid tree w height inside cb p k r) m same (own-right cb p k placed.within placed.above) in
             record {
               context = ap (λ (x : Standing). let c : Context = record (context_of (landed.laid tree w height inside cb p k r).after) { standing = x } in c) standing
-                  ∙ ap (λ (c : Context). let d : Context = record c { standing = standing_after tree w height content apart cb s.standing k own r m } in d) same.after.context;
+                  ∙ ap (λ (c : Context). let d : Context = record c { standing = standing_after tree w height content apart cb s.standing k (met r own) m } in d) same.after.context;
               boxes = same.after.boxes;
             }
 

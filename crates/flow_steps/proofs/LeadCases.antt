@@ -10,12 +10,12 @@ use Rattle.viz_base.specs.declared.worlds.World.{World}
 use Rattle.layout_semantics.specs.Floats.{FloatBox}
 use Rattle.layout_semantics.specs.FlowBoxes.{may_collapse_through, flow_children}
 use Rattle.layout_semantics.specs.InlineContent.{is_floated_at}
-use Rattle.layout_semantics.specs.Clearance.{Base}
+use Rattle.layout_semantics.specs.Clearance.{Base, Ground, on_ground}
 use Rattle.lay_margin.specs.declared.runs.Run.{Run}
 use Rattle.lay_margin.specs.Runs.{with_margin}
 use Rattle.lay_margin.specs.steps.Leads.{Going, ending, through, going_on, passed_kid, kids_going, closed_end, ended_by, enters, stops, inner_band, margin_above, lead_to}
 use Rattle.lay_margin.specs.steps.Leads.{kid_of as lead_kid}
-use Rattle.flow_steps.specs.Forward.{Ground, goes_on, solid, Found, found, decided_found, closed_found, passed_box, kid_of, kids_found, decided, forward_to}
+use Rattle.flow_steps.specs.Forward.{goes_on, solid, Found, found, decided_found, closed_found, passed_box, kid_of, kids_found, decided, forward_to}
 
 -- ---- what goes on
 
@@ -122,11 +122,11 @@ module _ (tree : BoxTree) (w : World) where
   closed-stops b run ws m = ap (closed_by b (found run ws goes_on)) m
 
 module _ (tree : BoxTree) (w : World) (size : Waiting ℤ → Extent ℤ) (base : Base) (floats : List FloatBox) (least : Option ℤ) where
-  abbrev pub on_ground : Ground
-  on_ground = record { tree = tree; world = w; size = size; base = base; floats = floats; least = least }
+  abbrev ground : Ground
+  ground = on_ground tree w size base floats least
 
   abbrev pub way_to : (ℕ → Bool) → ℕ → Band ℤ → ℕ → Run ℤ → List (Waiting ℤ) → Found
-  way_to p n cb b run ws = forward_to on_ground p n cb b run ws
+  way_to p n cb b run ws = forward_to ground p n cb b run ws
 
   abbrev pub kids_way : (ℕ → Bool) → ℕ → Band ℤ → List ℕ → Run ℤ → List (Waiting ℤ) → Found
   kids_way p n band ks run ws = kids_found tree w (kid_of tree w (way_to p n band) band) ks run ws
@@ -136,7 +136,7 @@ module _ (tree : BoxTree) (w : World) (size : Waiting ℤ → Extent ℤ) (base 
   inner_way p n cb b run ws = kids_way p n (inner_band tree w cb b) (flow_children tree b) (with_margin run (margin_above tree w cb b)) ws
 
   abbrev pub decision : Band ℤ → ℕ → Run ℤ → List (Waiting ℤ) → Option ℤ
-  decision cb d run ws = decided on_ground cb d run ws
+  decision cb d run ws = decided ground cb d run ws
 
   -- of a box that counts as not cleared, from the way of what is in it
   abbrev pub entered : Band ℤ → ℕ → Run ℤ → List (Waiting ℤ) → Found → Bool → Found

@@ -11,15 +11,14 @@ use Rattle.layout_semantics.specs.Rectangles.{Frame, content_top}
 use Rattle.layout_semantics.specs.FlowBoxes.{is_replaced_at, is_context_root, is_open_above, flow_children, across, content_from}
 use Rattle.layout_semantics.specs.InlineContent.{is_floated_at, has_line}
 use Rattle.layout_semantics.specs.Flow.{Alone, Reached}
-use Rattle.layout_semantics.specs.Clearance.{Base}
+use Rattle.layout_semantics.specs.Clearance.{Base, on_ground}
 use Rattle.layout_laws.proofs.Levels.{IsFrom}
 use Rattle.layout_laws.proofs.LeadLevels.{children-from}
 use Rattle.lay_margin.specs.declared.runs.Run.{Run}
 use Rattle.lay_margin.specs.Runs.{no_run, with_margin}
 use Rattle.lay_margin.specs.steps.Leads.{inner_band, margin_above}
 use Rattle.flow_steps.specs.Forward.{Found, found, goes_on, then_on, inside_found, passed_box, kid_of, kids_found, box_found, forward_step, forward_to}
-use Rattle.flow_steps.specs.Flow.{at_top, below, Context, fresh, Step, step, followed, children, frame_at, reached, opened, Laid, laid, own_run, standing_after, child, content_step, content_to, content_of}
-use Rattle.flow_steps.proofs.LeadCases.{on_ground}
+use Rattle.flow_steps.specs.Flow.{at_top, below, Context, fresh, Step, step, followed, children, frame_at, reached, opened, Laid, met, laid, own_run, standing_after, child, content_step, content_to, content_of}
 
 -- ---- the way forward
 
@@ -75,7 +74,7 @@ module _ (tree : BoxTree) (w : World) (height : ℕ) (apart : ℕ → Alone) (f 
       by true e = rw e refl
       by false e =
           let r = reached tree w height g apart cb s k in
-          rw e (ap (λ (l : Laid). step (record l.after.context { standing = standing_after tree w height g apart cb s.standing k (own_run tree w height g apart cb s k r) r l }) l.after.boxes) (laid-same cb s k r h))
+          rw e (ap (λ (l : Laid). step (record l.after.context { standing = standing_after tree w height g apart cb s.standing k (met r (own_run tree w height g apart cb s k r)) l }) l.after.boxes) (laid-same cb s k r h))
 
   children-same : (cb : Band ℤ) (top : ℤ) (s : Context) (ks : List ℕ) → AllByRecursion (IsFrom tree.boxes (suc b)) ks
       → children (child tree w height f apart cb top) s ks ≡ children (child tree w height g apart cb top) s ks

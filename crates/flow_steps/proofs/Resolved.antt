@@ -14,7 +14,7 @@ use Rattle.layout_semantics.specs.Floats.{FloatBox, lowest_bottom}
 use Rattle.layout_semantics.specs.FlowBoxes.{clear_of}
 use Rattle.layout_semantics.specs.Leads.{Leading, is_up_to, none_passed}
 use Rattle.layout_semantics.specs.Leads.{lead as landed_lead}
-use Rattle.layout_semantics.specs.Clearance.{Base, run_end, Resolved, with_waiting, resolve_to, resolve}
+use Rattle.layout_semantics.specs.Clearance.{Base, Ground, on_ground, run_end, Resolved, with_waiting, resolve_to, resolve}
 use Rattle.layout_semantics.specs.Clearance as landed
 use Rattle.layout_laws.proofs.LeadLevels.{EndsWell, lead-leads}
 use Rattle.lay_margin.specs.declared.runs.Run.{Run}
@@ -24,7 +24,6 @@ use Rattle.lay_margin.proofs.Joined.{lead-joined}
 use Rattle.flow_steps.specs.Order.{is_before}
 use Rattle.flow_steps.specs.Runs.{edge_at}
 use Rattle.flow_steps.specs.Forward.{goes_on, solid, cleared, cleared_of, Found, found, decided_found, hypothetical_edge, bottom_to_clear, is_to_clear, clear_edge, forward}
-use Rattle.flow_steps.proofs.LeadCases.{on_ground}
 use Rattle.flow_steps.proofs.Decided.{IsPrefix, way, way-through, way-solid, way-cleared, forward-way}
 
 joined-append : (r : Run ℤ) (xs ys : List ℤ) → joined_all r (xs ++ ys) ≡ joined_all (joined_all r xs) ys
@@ -48,32 +47,35 @@ pub record IsFoundBy (start : Run ℤ) (r : Resolved) (f : Found) : Type 0 where
 
 module _ (tree : BoxTree) (w : World) (size : Waiting ℤ → Extent ℤ) (base : Base) (floats : List FloatBox) (least : Option ℤ)
     (before : List ℤ) (run : Run ℤ) (same : (more : List ℤ) → run_end base (before ++ more) ≡ edge_at base (joined_all run more)) where
+  abbrev ground : Ground
+  ground = on_ground tree w size base floats least
+
   -- the edge that a box would have
-  edge-same : (cb : Band ℤ) (b d : ℕ) (l : Leading)
-      → landed.hypothetical_edge tree w size base before cb floats least b l d ≡ hypothetical_edge (on_ground tree w size base floats least) l.cb d (joined_all run l.margins)
+  edge-same : (d : ℕ) (l : Leading)
+      → landed.hypothetical_edge ground before l d ≡ hypothetical_edge ground l.cb d (joined_all run l.margins)
   unfolding hypothetical_edge
-  edge-same cb b d l =
+  edge-same d l =
       let own = landed_lead tree w (is_up_to d) l.cb d in
       same (l.margins ++ own.margins)
       ∙ ap (edge_at base) (joined-append run l.margins own.margins ∙ sym (ap (λ (g : Going). g.run) (lead-joined tree w (is_up_to d) l.cb d (joined_all run l.margins) [])))
 
-  test-same : (cb : Band ℤ) (b d : ℕ) (l : Leading)
-      → landed.is_cleared tree w size base before cb floats least b l d ≡ is_to_clear (on_ground tree w size base floats least) l.cb d (joined_all run l.margins) l.waiting
+  test-same : (d : ℕ) (l : Leading)
+      → landed.is_cleared ground before l d ≡ is_to_clear ground l.cb d (joined_all run l.margins) l.waiting
   unfolding bottom_to_clear
-  test-same cb b d l = ap (λ (y : ℤ). option_map_or (int_lt y) (lowest_bottom (clear_of tree d) (with_waiting tree size l.waiting floats least y)) false) (edge-same cb b d l)
+  test-same d l = ap (λ (y : ℤ). option_map_or (int_lt y) (lowest_bottom (clear_of tree d) (with_waiting tree size l.waiting floats least y)) false) (edge-same d l)
 
-  place-same : (cb : Band ℤ) (b d : ℕ) (l : Leading)
-      → landed.cleared_edge tree w size base before cb floats least b l d ≡ clear_edge (on_ground tree w size base floats least) d (joined_all run l.margins) l.waiting
+  place-same : (d : ℕ) (l : Leading)
+      → landed.cleared_edge ground before l d ≡ clear_edge ground d (joined_all run l.margins) l.waiting
   unfolding bottom_to_clear
-  place-same cb b d l =
+  place-same d l =
       ap (λ (y : ℤ). option_map_or (λ bottom. bottom) (lowest_bottom (clear_of tree d) (with_waiting tree size l.waiting floats least y)) y) (same l.margins)
       ∙ (let y = edge_at base (joined_all run l.margins) in chosen-same (lowest_bottom (clear_of tree d) (with_waiting tree size l.waiting floats least y)) y)
 
   abbrev tried : ℕ → (ℕ → Bool) → Band ℤ → ℕ → Resolved
-  tried left p cb b = resolve_to tree w size base before cb floats least b left p
+  tried left p cb b = resolve_to ground before cb b left p
 
   abbrev going : (ℕ → Bool) → Band ℤ → ℕ → Found
-  going p cb b = forward (on_ground tree w size base floats least) p cb b run
+  going p cb b = forward ground p cb b run
 
   module _ (cb : Band ℤ) (b : ℕ) (end : ℕ) (within : b < length tree.boxes) (order : IsTrue (is_before tree.boxes b end)) where
     -- the way forward by the landed lead
@@ -90,17 +92,17 @@ module _ (tree : BoxTree) (w : World) (size : Waiting ℤ → Extent ℤ) (base 
     Left left p = (d : ℕ) → p d ≡ false → d < length tree.boxes → length tree.boxes ≤ left + d
 
     abbrev chosen : Leading → Resolved → ℕ → Bool → Resolved
-    chosen l again d c = elim c as (λ _. Resolved) [ true ↦ record { margins = l.margins; cleared = Some (d, landed.cleared_edge tree w size base before cb floats least b l d) } | false ↦ again ]
+    chosen l again d c = elim c as (λ _. Resolved) [ true ↦ record { margins = l.margins; cleared = Some (d, landed.cleared_edge ground before l d) } | false ↦ again ]
 
     abbrev tried_by : Leading → (ℕ → Resolved) → LeadEnd → Resolved
     tried_by l again end = elim end as (λ _. Resolved) [
       | of_end.Through ↦ record { margins = l.margins; cleared = None }
       | of_end.Solid d ↦ record { margins = l.margins; cleared = None }
-      | of_end.Cleared d ↦ chosen l (again d) d (landed.is_cleared tree w size base before cb floats least b l d)
+      | of_end.Cleared d ↦ chosen l (again d) d (landed.is_cleared ground before l d)
     ]
 
     abbrev decided_by : ℕ → Run ℤ → List (Waiting ℤ) → Bool → Option ℤ
-    decided_by d r ws c = elim c as (λ _. Option ℤ) [ true ↦ Some (clear_edge (on_ground tree w size base floats least) d r ws) | false ↦ None ]
+    decided_by d r ws c = elim c as (λ _. Option ℤ) [ true ↦ Some (clear_edge ground d r ws) | false ↦ None ]
 
     abbrev IsMade : Resolved → Found → Type 0
     IsMade r f = IsFoundBy run r f
@@ -129,15 +131,15 @@ module _ (tree : BoxTree) (w : World) (size : Waiting ℤ → Extent ℤ) (base 
         moved : (r : Resolved) (f : Found) → tried_by l off l.end ≡ r → from_lead p ≡ f → IsMade r f → IsMade (tried_by l off l.end) (from_lead p)
         moved r f x y m = subst (λ (z : Resolved). IsMade z (from_lead p)) (sym x) (subst (IsMade r) (sym y) m)
 
-        by_test : (d : ℕ) (c : Bool) → l.end ≡ of_end.Cleared d → p d ≡ false → d < length tree.boxes → is_to_clear (on_ground tree w size base floats least) l.cb d own l.waiting ≡ c → IsMade (tried_by l off l.end) (from_lead p)
+        by_test : (d : ℕ) (c : Bool) → l.end ≡ of_end.Cleared d → p d ≡ false → d < length tree.boxes → is_to_clear ground l.cb d own l.waiting ≡ c → IsMade (tried_by l off l.end) (from_lead p)
         by_test d true e o m c =
-            moved (record { margins = l.margins; cleared = Some (d, landed.cleared_edge tree w size base before cb floats least b l d) }) (found own l.waiting (cleared d (clear_edge (on_ground tree w size base floats least) d own l.waiting)))
-            (ap (tried_by l off) e ∙ ap (chosen l (off d) d) (test-same cb b d l ∙ c))
+            moved (record { margins = l.margins; cleared = Some (d, landed.cleared_edge ground before l d) }) (found own l.waiting (cleared d (clear_edge ground d own l.waiting)))
+            (ap (tried_by l off) e ∙ ap (chosen l (off d) d) (test-same d l ∙ c))
             (way-cleared tree w size base floats least on g d e ∙ ap (λ (x : Bool). decided_found d own l.waiting (decided_by d own l.waiting x) (on d)) c)
-            (record { run = refl; cleared = ap (λ (y : ℤ). Some (d, y)) (place-same cb b d l) })
+            (record { run = refl; cleared = ap (λ (y : ℤ). Some (d, y)) (place-same d l) })
         by_test d false e o m c =
             moved (off d) (on d)
-            (ap (tried_by l off) e ∙ ap (chosen l (off d) d) (test-same cb b d l ∙ c))
+            (ap (tried_by l off) e ∙ ap (chosen l (off d) d) (test-same d l ∙ c))
             (way-cleared tree w size base floats least on g d e ∙ ap (λ (x : Bool). decided_found d own l.waiting (decided_by d own l.waiting x) (on d)) c)
             (again d o m)
 
@@ -146,7 +148,7 @@ module _ (tree : BoxTree) (w : World) (size : Waiting ℤ → Extent ℤ) (base 
         by (of_end.Solid d) e = moved (record { margins = l.margins; cleared = None }) (found own l.waiting solid) (ap (tried_by l off) e) (way-solid tree w size base floats least on g d e) (record { run = refl; cleared = refl })
         by (of_end.Cleared d) e =
             let ends = subst (EndsWell tree w p) e (lead-leads tree w p cb b within).ends in
-            by_test d (is_to_clear (on_ground tree w size base floats least) l.cb d own l.waiting) e ends.1 ends.0 refl
+            by_test d (is_to_clear ground l.cb d own l.waiting) e ends.1 ends.0 refl
 
     tried-found : (left : ℕ) (p : ℕ → Bool) → IsPrefix p → Left left p → IsMade (tried (suc left) p cb b) (going p cb b)
     tried-found zero p prefix room = tried-step zero p prefix (λ d o l. absurd (let m = room d o l in omega arith))
@@ -154,5 +156,5 @@ module _ (tree : BoxTree) (w : World) (size : Waiting ℤ → Extent ℤ) (base 
         tried-step (suc left) p prefix (λ d o l. tried-found left (is_up_to d) (up-prefix d) (λ x k m. let r = room d o l in let after : d < x = grind (arith, nat_tests, k) in omega arith))
 
     -- from boxes that pass up to one, or none
-    pub resolve-found : (p : ℕ → Bool) → IsPrefix p → IsMade (resolve tree w size base before cb floats least b p) (going p cb b)
+    pub resolve-found : (p : ℕ → Bool) → IsPrefix p → IsMade (resolve ground before cb b p) (going p cb b)
     resolve-found p prefix = tried-found (length tree.boxes) p prefix (λ d o k. omega arith)

@@ -10,14 +10,14 @@ use Rattle.viz_base.specs.declared.worlds.World.{World}
 use Rattle.layout_semantics.specs.Floats.{FloatBox, floating, with_float, lowest_bottom}
 use Rattle.layout_semantics.specs.FlowBoxes.{clear_of, may_collapse_through, flow_children}
 use Rattle.layout_semantics.specs.InlineContent.{is_floated_at}
-use Rattle.layout_semantics.specs.Clearance.{Base, with_waiting}
+use Rattle.layout_semantics.specs.Clearance.{Base, on_ground, with_waiting}
 use Rattle.layout_laws.proofs.Levels.{All-append}
 use Rattle.lay_margin.specs.declared.runs.Run.{Run}
 use Rattle.lay_margin.specs.Runs.{with_margin}
 use Rattle.lay_margin.specs.steps.Leads.{enters, stops, inner_band, margin_above, margin_below}
 use Rattle.flow_steps.specs.Runs.{edge_at}
 use Rattle.flow_steps.specs.Forward.{End, goes_on, solid, cleared, Found, found, then_on, decided_found, closed_found, passed_box, kid_of, hypothetical_edge, bottom_to_clear, is_above, clear_edge, forward_to}
-use Rattle.flow_steps.proofs.LeadCases.{on_ground, found-float, found-flow, closed-through, closed-stops, way_to, kids_way, inner_way, decision, entered, way-stops, way-enters}
+use Rattle.flow_steps.proofs.LeadCases.{found-float, found-flow, closed-through, closed-stops, way_to, kids_way, inner_way, decision, entered, way-stops, way-enters}
 
 module _ (tree : BoxTree) (w : World) (base : Base) (floats : List FloatBox) (least : Option ℤ) (one other : Waiting ℤ → Extent ℤ) where
   abbrev Same : Waiting ℤ → Type 0

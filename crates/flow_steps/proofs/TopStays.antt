@@ -20,7 +20,7 @@ use Rattle.lay_margin.specs.declared.runs.Run.{Run}
 use Rattle.lay_margin.specs.Runs.{no_run, with_margin, collapse}
 use Rattle.lay_margin.specs.steps.Leads.{enters, stops, inner_band, margin_above, margin_below}
 use Rattle.flow_steps.specs.Forward.{End, goes_on, solid, cleared, cleared_of, Found, found, then_on, decided_found, closed_found, kid_of, forward_to}
-use Rattle.flow_steps.specs.Flow.{Standing, at_top, below, Context, Step, is_at_top, children, frame_at, run_forward, reached_at, reached, opened, Laid, laid, own_run, standing_after, child, content_step, content_to}
+use Rattle.flow_steps.specs.Flow.{Standing, at_top, below, Context, Step, is_at_top, children, frame_at, run_forward, reached_at, reached, opened, Laid, met, laid, own_run, standing_after, child, content_step, content_to}
 use Rattle.flow_steps.proofs.LeadCases.{found-float, found-flow, closed-through, way_to, kids_way, inner_way, decision, entered, way-stops, way-enters}
 
 -- ---- ends that a box at the top may have
@@ -94,11 +94,11 @@ module _ (tree : BoxTree) (w : World) (height : ℕ) (apart : ℕ → Alone) whe
 
   module _ (content : ℕ → Band ℤ → ℤ → Context → Step) where
     after-below : (cb : Band ℤ) (s : Standing) (k : ℕ) (own : Run ℤ) (r : Reached) (l : Laid)
-        → is_at_top (standing_after tree w height content apart cb s k own r l) ≡ true → (l.through ≡ true) × (r.clears ≡ false) × (standing_after tree w height content apart cb s k own r l ≡ s) × (is_at_top s ≡ true)
+        → is_at_top (standing_after tree w height content apart cb s k (met r own) l) ≡ true → (l.through ≡ true) × (r.clears ≡ false) × (standing_after tree w height content apart cb s k (met r own) l ≡ s) × (is_at_top s ≡ true)
     after-below cb s k own r l h = by l.through r.clears s refl refl h
       where
-        by : (t c : Bool) (s : Standing) → l.through ≡ t → r.clears ≡ c → is_at_top (standing_after tree w height content apart cb s k own r l) ≡ true
-            → (l.through ≡ true) × (r.clears ≡ false) × (standing_after tree w height content apart cb s k own r l ≡ s) × (is_at_top s ≡ true)
+        by : (t c : Bool) (s : Standing) → l.through ≡ t → r.clears ≡ c → is_at_top (standing_after tree w height content apart cb s k (met r own) l) ≡ true
+            → (l.through ≡ true) × (r.clears ≡ false) × (standing_after tree w height content apart cb s k (met r own) l ≡ s) × (is_at_top s ≡ true)
         by false c s e f h = absurd (let g = rw e at h in cc)
         by true true s e f h = absurd (let g = rw (e, f) at h in cc)
         by true false (at_top y box) e f h = (e, f, rw (e, f) refl, refl)

@@ -30,7 +30,7 @@ use Rattle.layout_semantics.specs.Horizontal.{widths}
 use Rattle.layout_semantics.specs.InlineContent.{is_floated_at, has_line, inner_boxes}
 use Rattle.layout_semantics.specs.Lines.{LineList}
 use Rattle.layout_semantics.specs.Flow.{Cleared, Alone, Reached, raised, content_height}
-use Rattle.layout_semantics.specs.Clearance.{Base, hangs, stands}
+use Rattle.layout_semantics.specs.Clearance.{Base, hangs, stands, Ground, on_ground}
 use Rattle.lay_line.specs.steps.Laying.{lines_by_steps}
 use Rattle.lay_margin.specs.declared.runs.Run.{Run}
 use Rattle.lay_margin.specs.Runs.{no_run, with_margin, collapse}
@@ -77,6 +77,23 @@ pub record Laid : Type 0 where
   pub bottom : ℤ
   pub margins : Run ℤ
   pub after : Step
+
+-- a box in flow that is reached, with the run before it, its lead joined
+pub record Met : Type 0 where
+  pub reached : Reached
+  pub run : Run ℤ
+
+abbrev pub met : Reached → Run ℤ → Met
+met reached run = record { reached = reached; run = run }
+
+-- the outer size of a float that waits, where `apart` holds the boxes that are laid out in coordinates of
+-- their own, by their numbers
+unfoldable pub size_in : (ℕ → Alone) → Waiting ℤ → Extent ℤ
+size_in apart f = (apart f.at).size
+
+-- what stays the same along the way forward from a box in a context
+abbrev pub ground_of : BoxTree → World → (ℕ → Alone) → Base → Context → Ground
+ground_of tree w apart base s = on_ground tree w (size_in apart) base s.floats s.least
 
 -- ---- heights
 
@@ -167,9 +184,6 @@ module _ (tree : BoxTree) (w : World) (height : ℕ) where
 
   -- `apart` holds the boxes that are laid out in coordinates of their own, by their numbers
   module _ (content : ℕ → Band ℤ → ℤ → Context → Step) (apart : ℕ → Alone) where
-    abbrev pub size_of : Waiting ℤ → Extent ℤ
-    size_of f = (apart f.at).size
-
     -- ---- floats
 
     -- a float that is laid out, and whose place is at y, among the floats of the context
@@ -188,14 +202,7 @@ module _ (tree : BoxTree) (w : World) (height : ℕ) where
     -- ---- where a box in flow is reached
 
     abbrev pub run_forward : Base → (ℕ → Bool) → Band ℤ → Context → ℕ → Run ℤ → Found
-    run_forward base passed cb s b run = forward (record {
-      tree = tree;
-      world = w;
-      size = size_of;
-      base = base;
-      floats = s.floats;
-      least = s.least;
-    }) passed cb b run
+    run_forward base passed cb s b run = forward (ground_of tree w apart base s) passed cb b run
 
     -- all before the cleared box stand at y, and that one at its border edge, from which its own lead goes on
     abbrev pub reached_at : Band ℤ → Context → ℕ → ℤ → Cleared → Reached
@@ -286,15 +293,15 @@ module _ (tree : BoxTree) (w : World) (height : ℕ) where
           [ at_top y cleared ↦ no_run | below edge run stuck ↦ (run_forward (hangs edge) none_passed cb s b run).run ]
     ]
 
-    abbrev pub standing_after : Band ℤ → Standing → ℕ → Run ℤ → Reached → Laid → Standing
-    standing_after cb before b own r l = by_sort l.through r.clears before
+    abbrev pub standing_after : Band ℤ → Standing → ℕ → Met → Laid → Standing
+    standing_after cb before b met l = by_sort l.through met.reached.clears before
       where
         ended : Run ℤ
-        ended = with_margin own (margin_below tree w cb b)
+        ended = with_margin met.run (margin_below tree w cb b)
 
         by_sort : Bool → Bool → Standing → Standing
         by_sort false any s = below l.bottom l.margins false
-        by_sort true true s = below (r.top -ℤ collapse own) ended true
+        by_sort true true s = below (met.reached.top -ℤ collapse met.run) ended true
         by_sort true false (at_top y cleared) = at_top y cleared
         by_sort true false (below edge run stuck) = below edge ended stuck
 
@@ -303,7 +310,7 @@ module _ (tree : BoxTree) (w : World) (height : ℕ) where
       where
         by_laid : Reached → Laid → Step
         by_laid r l = step
-            (record l.after.context { standing = standing_after cb s.standing b (own_run cb s b r) r l }) l.after.boxes
+            (record l.after.context { standing = standing_after cb s.standing b (met r (own_run cb s b r)) l }) l.after.boxes
 
         by_reached : Reached → Step
         by_reached r = by_laid r (laid cb s b r)

@@ -3,29 +3,18 @@
 use Rattle.std.specs.Prelude.{ℕ, zero, suc, ℤ, Bool, true, false, int_lt, List, [], ◌∷◌, ◌++◌, length, Option, Some, None, unwrap_or}
 use Rattle.std.specs.Option.{option_map_or}
 use Rattle.viz_base.specs.declared.layouts.Band.{Band}
-use Rattle.viz_base.specs.declared.layouts.Extent.{Extent}
 use Rattle.viz_base.specs.declared.layouts.Waiting.{Waiting}
 use Rattle.viz_base.specs.declared.trees.BoxTree.{BoxTree}
 use Rattle.viz_base.specs.declared.worlds.World.{World}
-use Rattle.layout_semantics.specs.Floats.{FloatBox, lowest_bottom}
+use Rattle.layout_semantics.specs.Floats.{lowest_bottom}
 use Rattle.layout_semantics.specs.FlowBoxes.{clear_of, may_collapse_through, flow_children}
 use Rattle.layout_semantics.specs.InlineContent.{is_floated_at}
 use Rattle.layout_semantics.specs.Leads.{is_up_to}
-use Rattle.layout_semantics.specs.Clearance.{Base, with_waiting}
+use Rattle.layout_semantics.specs.Clearance.{Ground, with_waiting}
 use Rattle.lay_margin.specs.declared.runs.Run.{Run}
 use Rattle.lay_margin.specs.Runs.{with_margin}
 use Rattle.lay_margin.specs.steps.Leads.{enters, stops, margin_above, margin_below, inner_band, lead_of}
 use Rattle.flow_steps.specs.Runs.{edge_at}
-
--- what stays the same along a way forward: the tree and the world, the outer sizes of floats, what the edge
--- at the run's end goes by, and the floats of the context with its greatest top
-pub record Ground : Type 0 where
-  pub tree : BoxTree
-  pub world : World
-  pub size : Waiting ℤ → Extent ℤ
-  pub base : Base
-  pub floats : List FloatBox
-  pub least : Option ℤ
 
 -- where it ends: the box's own bottom margin adjoins; at the content, the border or
 -- the padding of a box; or at a box that is cleared, with its border edge

@@ -5,7 +5,7 @@ ghost use Rattle.viz_base.specs.declared.layouts.Band.{Band};
 ghost use Rattle.viz_base.specs.declared.layouts.Extent.{Extent};
 ghost use Rattle.viz_base.specs.declared.layouts.Waiting.{Waiting};
 ghost use Rattle.layout_semantics.specs.Blocks.{kind_of};
-ghost use Rattle.layout_semantics.specs.Clearance.{hangs, stands, resolve};
+ghost use Rattle.layout_semantics.specs.Clearance.{Ground, hangs, stands, on_ground, resolve};
 ghost use Rattle.layout_semantics.specs.Floats.{FloatBox};
 ghost use Rattle.layout_semantics.specs.Flow.{Alone, Progress, flow, whole_alone};
 ghost use Rattle.layout_semantics.specs.Leads.{is_up_to, none_passed};
@@ -15,7 +15,7 @@ ghost use Rattle.layout_semantics.specs.Page.{page_rendering};
 ghost use Rattle.lay_margin.specs.Runs.{no_run};
 ghost use Rattle.lay_margin.specs.declared.runs.Run.{Run};
 ghost use Rattle.flow_steps.specs.Flow.{Context, content_of, content_step};
-ghost use Rattle.flow_steps.specs.Forward.{Ground, cleared_of, forward, forward_step, way};
+ghost use Rattle.flow_steps.specs.Forward.{cleared_of, forward, forward_step, way};
 ghost use Rattle.flow_steps.specs.Order.{is_in_order};
 ghost use Rattle.flow_steps.specs.Progress.{context_of};
 ghost use Rattle.flow_steps.specs.Runs.{run_of};
@@ -34,37 +34,16 @@ pub fn boxes_stand_in_document_order(tree: &BoxTree)
 pub fn clearance_is_decided_on_the_way(tree: &BoxTree, world: World, at: usize)
     requires within { at < length tree.now.boxes }
     ensures margins { (size : Waiting ℤ → Extent ℤ) (edge : ℤ) (run : List ℤ) (cb : Band ℤ) (floats : List FloatBox)
-        (least : Option ℤ) → run_of (run ++ (resolve tree.now world size (hangs edge) run cb floats least at
-        none_passed).margins)
-        ≡ (forward (record {
-          tree = tree.now;
-          world = world;
-          size = size;
-          base = hangs edge;
-          floats = floats;
-          least = least;
-        }) none_passed cb at (run_of run)).run }
+        (least : Option ℤ) → run_of (run ++ (resolve (on_ground tree.now world size (hangs edge) floats least)
+        run cb at none_passed).margins)
+        ≡ (forward (on_ground tree.now world size (hangs edge) floats least) none_passed cb at (run_of run)).run }
     ensures cleared { (size : Waiting ℤ → Extent ℤ) (edge : ℤ) (run : List ℤ) (cb : Band ℤ) (floats : List FloatBox)
-        (least : Option ℤ) → (resolve tree.now world size (hangs edge) run cb floats least at
-        none_passed).cleared
-        ≡ cleared_of (forward (record {
-          tree = tree.now;
-          world = world;
-          size = size;
-          base = hangs edge;
-          floats = floats;
-          least = least;
-        }) none_passed cb at (run_of run)).end }
+        (least : Option ℤ) → (resolve (on_ground tree.now world size (hangs edge) floats least)
+        run cb at none_passed).cleared
+        ≡ cleared_of (forward (on_ground tree.now world size (hangs edge) floats least) none_passed cb at (run_of run)).end }
     ensures opened { (size : Waiting ℤ → Extent ℤ) (y : ℤ) (cb : Band ℤ) (floats : List FloatBox) (least : Option ℤ)
-        → (resolve tree.now world size (stands y) [] cb floats least at (is_up_to at)).cleared
-        ≡ cleared_of (forward (record {
-          tree = tree.now;
-          world = world;
-          size = size;
-          base = stands y;
-          floats = floats;
-          least = least;
-        }) (is_up_to at) cb at no_run).end }
+        → (resolve (on_ground tree.now world size (stands y) floats least) [] cb at (is_up_to at)).cleared
+        ≡ cleared_of (forward (on_ground tree.now world size (stands y) floats least) (is_up_to at) cb at no_run).end }
 {}
 
 /// The way forward from a box, by that of the boxes in it: more levels would change nothing.

@@ -27,8 +27,8 @@ use Rattle.layout_semantics.specs.InlineContent.{is_floated_at, has_line, inner_
 use Rattle.layout_semantics.specs.LineHeights.{InlineContext}
 use Rattle.layout_semantics.specs.Lines.{LineList, lines_in}
 use Rattle.layout_semantics.specs.Leads.{Leading, is_up_to, none_passed, lead}
-use Rattle.layout_semantics.specs.Clearance.{Base, hangs, stands, Resolved, with_waiting, is_cleared, cleared_edge, resolve_step, resolve_to, resolve}
-use Rattle.layout_semantics.specs.Flow.{Standing, at_top, below, Cleared, Progress, Alone, Reached, Laid, fresh, opened, alone, waiting_size, next_edge, after_float, float_child, reached_at, reached, laid, child, standing_after, inner_size, entry_boxes, after_lines, line_content, flow_step, flow_to, flow}
+use Rattle.layout_semantics.specs.Clearance.{Base, hangs, stands, Ground, on_ground, Resolved, with_waiting, is_cleared, cleared_edge, resolve_step, resolve_to, resolve}
+use Rattle.layout_semantics.specs.Flow.{Standing, at_top, below, Cleared, Progress, Alone, Reached, Laid, fresh, opened, alone, waiting_size, ground_of, next_edge, after_float, float_child, reached_at, reached, laid, child, standing_after, inner_size, entry_boxes, after_lines, line_content, flow_step, flow_to, flow}
 use Rattle.layout_semantics.proofs.Pages.{forest}
 use Rattle.layout_laws.proofs.Levels.{IsFrom, All-implied, map-same, inner_boxes-from}
 use Rattle.layout_laws.proofs.WholeLines.{shown, content-shown}
@@ -47,12 +47,15 @@ module _ (tree : BoxTree) (w : World) (one other : Waiting ℤ → Extent ℤ) (
       ∙ with_waiting-same fs (with_float (floating tree f.at (other f) f.cb) floats least y) least y a.1
 
   module _ (base : Base) (run : List ℤ) (cb : Band ℤ) (floats : List FloatBox) (least : Option ℤ) where
+    abbrev ground : (Waiting ℤ → Extent ℤ) → Ground
+    ground size = on_ground tree w size base floats least
+
     abbrev Same : ℕ → (ℕ → Bool) → Type 0
     Same n passed =
-        resolve_step tree w one base run cb floats least b (λ d. resolve_to tree w one base run cb floats least b n (is_up_to d)) (lead tree w passed cb b)
-        ≡ resolve_step tree w other base run cb floats least b (λ d. resolve_to tree w other base run cb floats least b n (is_up_to d)) (lead tree w passed cb b)
+        resolve_step (ground one) run (λ d. resolve_to (ground one) run cb b n (is_up_to d)) (lead tree w passed cb b)
+        ≡ resolve_step (ground other) run (λ d. resolve_to (ground other) run cb b n (is_up_to d)) (lead tree w passed cb b)
 
-    pub resolve-same : (n : ℕ) (passed : ℕ → Bool) → resolve_to tree w one base run cb floats least b n passed ≡ resolve_to tree w other base run cb floats least b n passed
+    pub resolve-same : (n : ℕ) (passed : ℕ → Bool) → resolve_to (ground one) run cb b n passed ≡ resolve_to (ground other) run cb b n passed
     unfolding resolve_to
     resolve-same zero passed = refl
     resolve-same (suc n) passed = by_end found.end refl (λ d. resolve-same n (is_up_to d))
@@ -63,61 +66,61 @@ module _ (tree : BoxTree) (w : World) (one other : Waiting ℤ → Extent ℤ) (
         waits : (y : ℤ) → with_waiting tree one found.waiting floats least y ≡ with_waiting tree other found.waiting floats least y
         waits y = with_waiting-same found.waiting floats least y (lead-leads tree w passed cb b l).waits
 
-        cleared-same : (d : ℕ) → is_cleared tree w one base run cb floats least b found d ≡ is_cleared tree w other base run cb floats least b found d
+        cleared-same : (d : ℕ) → is_cleared (ground one) run found d ≡ is_cleared (ground other) run found d
         cleared-same d = rw (waits _) refl
 
-        edge-same : (d : ℕ) → cleared_edge tree w one base run cb floats least b found d ≡ cleared_edge tree w other base run cb floats least b found d
+        edge-same : (d : ℕ) → cleared_edge (ground one) run found d ≡ cleared_edge (ground other) run found d
         edge-same d = rw (waits _) refl
 
-        by_clearance : (d : ℕ) (c : Bool) → found.end ≡ of_end.Cleared d → is_cleared tree w other base run cb floats least b found d ≡ c
-            → resolve_to tree w one base run cb floats least b n (is_up_to d) ≡ resolve_to tree w other base run cb floats least b n (is_up_to d) → Same n passed
+        by_clearance : (d : ℕ) (c : Bool) → found.end ≡ of_end.Cleared d → is_cleared (ground other) run found d ≡ c
+            → resolve_to (ground one) run cb b n (is_up_to d) ≡ resolve_to (ground other) run cb b n (is_up_to d) → Same n passed
         by_clearance d true e c again = rw (e, cleared-same d, c, edge-same d) refl
         by_clearance d false e c again = rw (e, cleared-same d, c) again
 
-        by_end : (end : LeadEnd) → found.end ≡ end → ((d : ℕ) → resolve_to tree w one base run cb floats least b n (is_up_to d) ≡ resolve_to tree w other base run cb floats least b n (is_up_to d)) → Same n passed
+        by_end : (end : LeadEnd) → found.end ≡ end → ((d : ℕ) → resolve_to (ground one) run cb b n (is_up_to d) ≡ resolve_to (ground other) run cb b n (is_up_to d)) → Same n passed
         by_end of_end.Through e again = rw e refl
         by_end (of_end.Solid d) e again = rw e refl
-        by_end (of_end.Cleared d) e again = by_clearance d (is_cleared tree w other base run cb floats least b found d) e refl (again d)
+        by_end (of_end.Cleared d) e again = by_clearance d (is_cleared (ground other) run found d) e refl (again d)
 
 -- ---- levels enough to find where a box stands
 
-module _ (tree : BoxTree) (w : World) (size : Waiting ℤ → Extent ℤ) (base : Base) (run : List ℤ) (cb : Band ℤ) (floats : List FloatBox) (least : Option ℤ) (b : ℕ) (l : b < length tree.boxes) where
-  step-same : (go on : ℕ → Resolved) (passed : ℕ → Bool) → ((d : ℕ) → d < length tree.boxes → passed d ≡ false → go d ≡ on d)
-      → resolve_step tree w size base run cb floats least b go (lead tree w passed cb b) ≡ resolve_step tree w size base run cb floats least b on (lead tree w passed cb b)
+module _ (g : Ground) (run : List ℤ) (cb : Band ℤ) (b : ℕ) (l : b < length g.tree.boxes) where
+  step-same : (go on : ℕ → Resolved) (passed : ℕ → Bool) → ((d : ℕ) → d < length g.tree.boxes → passed d ≡ false → go d ≡ on d)
+      → resolve_step g run go (lead g.tree g.world passed cb b) ≡ resolve_step g run on (lead g.tree g.world passed cb b)
   step-same go on passed same = by_end found.end refl
     where
       found : Leading
-      found = lead tree w passed cb b
+      found = lead g.tree g.world passed cb b
 
-      by_clearance : (d : ℕ) (c : Bool) → found.end ≡ of_end.Cleared d → is_cleared tree w size base run cb floats least b found d ≡ c → go d ≡ on d
-          → resolve_step tree w size base run cb floats least b go found ≡ resolve_step tree w size base run cb floats least b on found
+      by_clearance : (d : ℕ) (c : Bool) → found.end ≡ of_end.Cleared d → is_cleared g run found d ≡ c → go d ≡ on d
+          → resolve_step g run go found ≡ resolve_step g run on found
       by_clearance d true e c again = rw (e, c) refl
       by_clearance d false e c again = rw (e, c) again
 
-      by_end : (end : LeadEnd) → found.end ≡ end → resolve_step tree w size base run cb floats least b go found ≡ resolve_step tree w size base run cb floats least b on found
+      by_end : (end : LeadEnd) → found.end ≡ end → resolve_step g run go found ≡ resolve_step g run on found
       by_end of_end.Through e = rw e refl
       by_end (of_end.Solid d) e = rw e refl
       by_end (of_end.Cleared d) e =
-          let ends = subst (EndsWell tree w passed) e (lead-leads tree w passed cb b l).ends in
-          by_clearance d (is_cleared tree w size base run cb floats least b found d) e refl (same d ends.0 ends.1)
+          let ends = subst (EndsWell g.tree g.world passed) e (lead-leads g.tree g.world passed cb b l).ends in
+          by_clearance d (is_cleared g run found d) e refl (same d ends.0 ends.1)
 
-  resolve-enough : (n m d : ℕ) → d < length tree.boxes → length tree.boxes ≤ n + d → length tree.boxes ≤ m + d
-      → resolve_to tree w size base run cb floats least b n (is_up_to d) ≡ resolve_to tree w size base run cb floats least b m (is_up_to d)
+  resolve-enough : (n m d : ℕ) → d < length g.tree.boxes → length g.tree.boxes ≤ n + d → length g.tree.boxes ≤ m + d
+      → resolve_to g run cb b n (is_up_to d) ≡ resolve_to g run cb b m (is_up_to d)
   unfolding resolve_to
   resolve-enough zero m d k p q = absurd (omega arith)
   resolve-enough (suc n) zero d k p q = absurd (omega arith)
   resolve-enough (suc n) (suc m) d k p q =
-      step-same (λ e. resolve_to tree w size base run cb floats least b n (is_up_to e)) (λ e. resolve_to tree w size base run cb floats least b m (is_up_to e)) (is_up_to d)
+      step-same (λ e. resolve_to g run cb b n (is_up_to e)) (λ e. resolve_to g run cb b m (is_up_to e)) (is_up_to d)
       (λ e within past. let later = after e d past in resolve-enough n m e within (omega arith) (omega arith))
     where
       after : (e d : ℕ) → nat_le e d ≡ false → d < e
       after e d h = grind (arith, nat_tests)
 
-  pub resolve-is : (passed : ℕ → Bool) → resolve tree w size base run cb floats least b passed ≡ resolve_step tree w size base run cb floats least b (λ d. resolve tree w size base run cb floats least b (is_up_to d)) (lead tree w passed cb b)
+  pub resolve-is : (passed : ℕ → Bool) → resolve g run cb b passed ≡ resolve_step g run (λ d. resolve g run cb b (is_up_to d)) (lead g.tree g.world passed cb b)
   unfolding resolve_to
   resolve-is passed =
-      step-same (λ e. resolve_to tree w size base run cb floats least b (length tree.boxes) (is_up_to e)) (λ e. resolve tree w size base run cb floats least b (is_up_to e)) passed
-      (λ d within past. resolve-enough (length tree.boxes) (suc (length tree.boxes)) d within (omega arith) (omega arith))
+      step-same (λ e. resolve_to g run cb b (length g.tree.boxes) (is_up_to e)) (λ e. resolve g run cb b (is_up_to e)) passed
+      (λ d within past. resolve-enough (length g.tree.boxes) (suc (length g.tree.boxes)) d within (omega arith) (omega arith))
 
 -- ---- the flow, by that of later boxes
 
@@ -150,7 +153,7 @@ module _ (tree : BoxTree) (w : World) (height : ℕ) (f g : Inside) (b : ℕ)
   size-same k h x i = ap (λ (a : Alone). a.size) (alone-same x.at (across x.cb) (record { from = let low = h.from in let high = i.from in omega arith; within = i.within }))
 
   abbrev resolved : Inside → Base → List ℤ → Band ℤ → Progress → ℕ → (ℕ → Bool) → Resolved
-  resolved inside base run cb p k passed = resolve tree w (waiting_size tree w height inside) base run cb p.floats p.least k passed
+  resolved inside base run cb p k passed = resolve (ground_of tree w height inside base p) run cb k passed
 
   resolved-same : (base : Base) (run : List ℤ) (cb : Band ℤ) (p : Progress) (k : ℕ) (passed : ℕ → Bool) → Late k → resolved f base run cb p k passed ≡ resolved g base run cb p k passed
   resolved-same base run cb p k passed h =

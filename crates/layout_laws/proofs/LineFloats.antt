@@ -41,7 +41,7 @@ pub spot-low : (c : InlineContext) (floats : List FloatBox) (least y : ℤ) (at 
 spot-low c floats least y at =
     let f = line_float c at in
     let cleared = option_to_list (lowest_bottom f.clear floats) in
-    let top = float_top f floats (Some least) y in
+    let top = float_top f.clear floats (Some least) y in
     let below = low-of f.side floats f.size.width f.cb top (line_spot c floats least y at) (highest_obeys floats f.size.width f.cb top f.side) in
     let above = (greatest_from-bound y (least ∷ cleared)).0 in
     omega (arith, ints)

@@ -9,12 +9,11 @@ use Rattle.viz_base.specs.declared.layouts.LeadEnd.TheVariants as of_end
 use Rattle.viz_base.specs.declared.layouts.Waiting.{Waiting}
 use Rattle.viz_base.specs.declared.styles.Clear.{Clear}
 use Rattle.viz_base.specs.declared.trees.BoxTree.{BoxTree}
-use Rattle.viz_base.specs.declared.worlds.World.{World}
 use Rattle.layout_semantics.specs.Extremes.{greatest_from}
 use Rattle.layout_semantics.specs.Floats.{FloatBox, is_relevant, lowest_bottom, floating, with_float}
 use Rattle.layout_semantics.specs.FlowBoxes.{clear_of}
 use Rattle.layout_semantics.specs.Leads.{Leading, is_up_to, lead}
-use Rattle.layout_semantics.specs.Clearance.{Base, run_end, Resolved, with_waiting, is_cleared, cleared_edge, resolve_step, resolve_to}
+use Rattle.layout_semantics.specs.Clearance.{run_end, Ground, Resolved, with_waiting, is_cleared, cleared_edge, resolve_step, resolve_to}
 use Rattle.layout_laws.specs.Clearance.{IsLowestBottom}
 use Rattle.layout_laws.proofs.Among.{Among, among, contains, filtered, filters, image, source}
 use Rattle.layout_laws.proofs.Extremes.{below_greatest, start_below_greatest, greatest_is_one}
@@ -91,16 +90,16 @@ kept tree size (g ∷ gs) floats least y f i = kept tree size gs (with_float (fl
 
 -- ---- a cleared box
 
-module _ (tree : BoxTree) (w : World) (size : Waiting ℤ → Extent ℤ) (base : Base) (run : List ℤ) (cb : Band ℤ) (floats : List FloatBox) (least : Option ℤ) (b : ℕ) (d : ℕ) (y : ℤ) where
+module _ (g : Ground) (run : List ℤ) (d : ℕ) (y : ℤ) where
   abbrev Stands : Type 0
-  Stands = (f : FloatBox) → Contains floats f → IsTrue (is_relevant (clear_of tree d) f) → f.box.bottom ≤ℤ y
+  Stands = (f : FloatBox) → Contains g.floats f → IsTrue (is_relevant (clear_of g.tree d) f) → f.box.bottom ≤ℤ y
 
   abbrev edge_of : Leading → ℕ → ℤ
-  edge_of found at = cleared_edge tree w size base run cb floats least b found at
+  edge_of found at = cleared_edge g run found at
 
-  below_floats : (found : Leading) (f : FloatBox) → Contains floats f → IsTrue (is_relevant (clear_of tree d) f) → f.box.bottom ≤ℤ edge_of found d
-  below_floats found f i r = no_higher (clear_of tree d) (with_waiting tree size found.waiting floats least (run_end base (run ++ found.margins))) (run_end base (run ++ found.margins)) f
-      (contains _ f (kept tree size found.waiting floats least (run_end base (run ++ found.margins)) f (among floats f i))) r
+  below_floats : (found : Leading) (f : FloatBox) → Contains g.floats f → IsTrue (is_relevant (clear_of g.tree d) f) → f.box.bottom ≤ℤ edge_of found d
+  below_floats found f i r = no_higher (clear_of g.tree d) (with_waiting g.tree g.size found.waiting g.floats g.least (run_end g.base (run ++ found.margins))) (run_end g.base (run ++ found.margins)) f
+      (contains _ f (kept g.tree g.size found.waiting g.floats g.least (run_end g.base (run ++ found.margins)) f (among g.floats f i))) r
 
   abbrev Ends : Option (ℕ × ℤ) → Type 0
   Ends o = MatchOption o (⊥) (λ p. (p.0 ≡ d) × (p.1 ≡ y))
@@ -108,7 +107,7 @@ module _ (tree : BoxTree) (w : World) (size : Waiting ℤ → Extent ℤ) (base 
   ends : (o : Option (ℕ × ℤ)) → o ≡ Some (d, y) → Ends o
   ends o e = subst Ends (sym e) (refl, refl)
 
-  step : (go_on : ℕ → Resolved) → ((at : ℕ) → (go_on at).cleared ≡ Some (d, y) → Stands) → (found : Leading) → (resolve_step tree w size base run cb floats least b go_on found).cleared ≡ Some (d, y) → Stands
+  step : (go_on : ℕ → Resolved) → ((at : ℕ) → (go_on at).cleared ≡ Some (d, y) → Stands) → (found : Leading) → (resolve_step g run go_on found).cleared ≡ Some (d, y) → Stands
   step go_on rest found h = by_end found.end refl h
     where
       cleared_here : (at : ℕ) → at ≡ d → edge_of found at ≡ y → Stands
@@ -116,16 +115,16 @@ module _ (tree : BoxTree) (w : World) (size : Waiting ℤ → Extent ℤ) (base 
           let t = subst (λ (z : ℕ). edge_of found z ≡ y) same e in
           let l = below_floats found f i r in omega (arith, ints, t)
 
-      by_clearance : (at : ℕ) (c : Bool) → found.end ≡ of_end.Cleared at → is_cleared tree w size base run cb floats least b found at ≡ c → (resolve_step tree w size base run cb floats least b go_on found).cleared ≡ Some (d, y) → Stands
+      by_clearance : (at : ℕ) (c : Bool) → found.end ≡ of_end.Cleared at → is_cleared g run found at ≡ c → (resolve_step g run go_on found).cleared ≡ Some (d, y) → Stands
       by_clearance at true e c h = let k = rw (e, c) at h in let t = ends (Some (at, edge_of found at)) k in cleared_here at t.0 t.1
       by_clearance at false e c h = rest at (rw (e, c) at h)
 
-      by_end : (end : LeadEnd) → found.end ≡ end → (resolve_step tree w size base run cb floats least b go_on found).cleared ≡ Some (d, y) → Stands
+      by_end : (end : LeadEnd) → found.end ≡ end → (resolve_step g run go_on found).cleared ≡ Some (d, y) → Stands
       by_end of_end.Through e h = absurd (ends None (rw e at h))
       by_end (of_end.Solid at) e h = absurd (ends None (rw e at h))
-      by_end (of_end.Cleared at) e h = by_clearance at (is_cleared tree w size base run cb floats least b found at) e refl h
+      by_end (of_end.Cleared at) e h = by_clearance at (is_cleared g run found at) e refl h
 
-  pub stands : (left : ℕ) (passed : ℕ → Bool) → (resolve_to tree w size base run cb floats least b left passed).cleared ≡ Some (d, y) → Stands
+  pub stands : (cb : Band ℤ) (b left : ℕ) (passed : ℕ → Bool) → (resolve_to g run cb b left passed).cleared ≡ Some (d, y) → Stands
   unfolding resolve_to
-  stands zero passed h = absurd (ends None h)
-  stands (suc left) passed h = step (λ at. resolve_to tree w size base run cb floats least b left (is_up_to at)) (λ at k. stands left (is_up_to at) k) (lead tree w passed cb b) h
+  stands cb b zero passed h = absurd (ends None h)
+  stands cb b (suc left) passed h = step (λ at. resolve_to g run cb b left (is_up_to at)) (λ at k. stands cb b left (is_up_to at) k) (lead g.tree g.world passed cb b) h

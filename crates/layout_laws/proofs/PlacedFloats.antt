@@ -21,7 +21,7 @@ use Rattle.layout_laws.specs.PlacedFloats.{ArePlacedAfter, none, next, IsClearOf
 
 -- a float that comes next is placed after those before it
 pub float_next : (f : Floating) (before floats : List FloatBox) (least : Option ℤ) (y : ℤ) → ArePlacedAfter before floats → ArePlacedAfter before (with_float f floats least y)
-float_next f before floats least y h = next floats f.side f.size f.cb (float_top f floats least y) h
+float_next f before floats least y h = next floats f.side f.size f.cb (float_top f.clear floats least y) h
 
 -- ---- lines
 

@@ -12,7 +12,7 @@ use Rattle.layout_semantics.specs.Floats.{FloatBox}
 use Rattle.layout_semantics.specs.FlowBoxes.{clear_of, is_open_above, may_collapse_through, flow_children, block_band}
 use Rattle.layout_semantics.specs.InlineContent.{is_floated_at, has_line}
 use Rattle.layout_semantics.specs.Leads.{Leading, top_margin, bottom_margin, followed_by, through, child_lead, children_lead, lead_step, lead_to, lead, all_passed}
-use Rattle.layout_semantics.specs.Clearance.{Base, Resolved, resolve, resolve_to}
+use Rattle.layout_semantics.specs.Clearance.{Base, on_ground, Resolved, resolve, resolve_to}
 
 abbrev pub ends_cleared : LeadEnd → Bool
 ends_cleared (of_end.Cleared d) = true
@@ -100,16 +100,16 @@ module _ (tree : BoxTree) (w : World) where
         (children-same go one (λ k. lead-plain levels passed band k) (λ k. lead-same levels passed band k) band (flow_children tree b))
         ∙ sym (step-is (lead_to tree w levels all_passed) all_passed cb b))
 
-    pub resolve-plain : (size : Waiting ℤ → Extent ℤ) (base : Base) (run : List ℤ) (cb : Band ℤ) (floats : List FloatBox) (least : Option ℤ) (b : ℕ) (passed : ℕ → Bool)
-        → resolve tree w size base run cb floats least b passed ≡ record { margins = (lead tree w all_passed cb b).margins; cleared = None }
+    pub resolve-plain : (size : Waiting ℤ → Extent ℤ) (base : Base) (floats : List FloatBox) (least : Option ℤ) (run : List ℤ) (cb : Band ℤ) (b : ℕ) (passed : ℕ → Bool)
+        → resolve (on_ground tree w size base floats least) run cb b passed ≡ record { margins = (lead tree w all_passed cb b).margins; cleared = None }
     unfolding resolve_to
-    resolve-plain size base run cb floats least b passed =
+    resolve-plain size base floats least run cb b passed =
         by_end (lead tree w passed cb b).end refl ∙ ap (λ (l : Leading). from l.margins) (lead-same (length tree.boxes) passed cb b)
       where
         from : List ℤ → Resolved
         from margins = record { margins = margins; cleared = None }
 
-        by_end : (end : LeadEnd) → (lead tree w passed cb b).end ≡ end → resolve tree w size base run cb floats least b passed ≡ from (lead tree w passed cb b).margins
+        by_end : (end : LeadEnd) → (lead tree w passed cb b).end ≡ end → resolve (on_ground tree w size base floats least) run cb b passed ≡ from (lead tree w passed cb b).margins
         by_end of_end.Through g = rw g
         by_end (of_end.Solid d) g = rw g
         by_end (of_end.Cleared d) g = absurd (different (sym (ap ends_cleared g) ∙ lead-plain (length tree.boxes) passed cb b))

@@ -1,9 +1,7 @@
-ghost use Rattle.std.specs.Prelude.{◌≡◌, ◌<◌, ℕ, ℤ, Bool, List, [], ◌∷◌, length, Option, Contains, false};
+ghost use Rattle.std.specs.Prelude.{◌≡◌, ◌<◌, ℕ, ℤ, Bool, List, [], ◌∷◌, length, Contains, false};
 ghost use Rattle.std.specs.List.{flat_map};
 ghost use Rattle.viz_base.specs.Trees.{is_inline};
 ghost use Rattle.viz_base.specs.declared.layouts.Band.{Band};
-ghost use Rattle.viz_base.specs.declared.layouts.Extent.{Extent};
-ghost use Rattle.viz_base.specs.declared.layouts.Waiting.{Waiting};
 ghost use Rattle.layout_semantics.specs.Order.{kids_of, IsOnPage};
 ghost use Rattle.layout_semantics.specs.DefiniteHeights.{percentage_container, definite_height};
 ghost use Rattle.layout_semantics.specs.InlineContent.{Item, content};
@@ -12,10 +10,9 @@ ghost use Rattle.layout_semantics.specs.LineHeights.{InlineContext, LineExtent, 
 ghost use Rattle.layout_semantics.specs.Lines.{SoFar, laid_next, laid_none, go_on};
 ghost use Rattle.layout_semantics.specs.Blocks.{kind_of};
 ghost use Rattle.layout_semantics.specs.FlowBoxes.{across, block_band, content_band, room, room_inside};
-ghost use Rattle.layout_semantics.specs.Floats.{FloatBox};
 ghost use Rattle.layout_semantics.specs.Horizontal.{placing_of, block_flow};
 ghost use Rattle.layout_semantics.specs.Leads.{is_up_to, lead, lead_step};
-ghost use Rattle.layout_semantics.specs.Clearance.{Base, resolve, resolve_step};
+ghost use Rattle.layout_semantics.specs.Clearance.{Ground, resolve, resolve_step};
 ghost use Rattle.layout_semantics.specs.Flow.{Progress, flow, flow_step};
 ghost use Rattle.layout_laws.specs.Nested.{box_items, preferred_by_inside, container_by_parent, definite_height_by_container, shift_by_parent, lines_of};
 
@@ -99,14 +96,11 @@ pub fn a_lead_comes_from_inside(tree: &BoxTree, world: World, at: usize)
 
 /// Where a box stands: a box of its lead that has `clear` and is not cleared is passed, and the lead goes on, as
 /// often as there is one (CSS 2.1, 9.5.2).
-pub fn a_lead_goes_on_through_what_is_not_cleared(tree: &BoxTree, world: World, at: usize)
+pub fn a_lead_goes_on_through_what_is_not_cleared(tree: &BoxTree, at: usize)
     requires within { at < length tree.now.boxes }
-    ensures { (size : Waiting ℤ → Extent ℤ) (base : Base) (run : List ℤ) (cb : Band ℤ) (floats : List FloatBox)
-        (least : Option ℤ) (passed : ℕ → Bool)
-        → resolve tree.now world size base run cb floats least at passed
-        ≡ resolve_step tree.now world size base run cb floats least at
-        (λ d. resolve tree.now world size base run cb floats least at (is_up_to d))
-        (lead tree.now world passed cb at) }
+    ensures { (g : Ground) (run : List ℤ) (cb : Band ℤ) (passed : ℕ → Bool) → g.tree ≡ tree.now
+        → resolve g run cb at passed
+        ≡ resolve_step g run (λ d. resolve g run cb at (is_up_to d)) (lead g.tree g.world passed cb at) }
 {}
 
 /// The flow of what is in a box, by that of what is in later boxes: more levels would change nothing (CSS 2.1, 9.4).

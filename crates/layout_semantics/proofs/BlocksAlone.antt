@@ -22,6 +22,7 @@ module _ (tree : BoxTree) (no_inline : (k : ℕ) → is_inline_level_at tree k �
   none_inline (k ∷ ks) = ap (λ c. c || list_any (is_inline_level_at tree) ks) (no_inline k) ∙ none_inline ks
 
   pub holds_none : (b : ℕ) → holds_inline tree b ≡ false
+  unfolding holds_inline
   holds_none b = none_inline (kids_of tree.boxes b)
 
   pub no_lines : (b : ℕ) → has_line tree b ≡ false

@@ -39,53 +39,66 @@ pub record Resolved : Type 0 where
   pub margins : List ℤ
   pub cleared : Option (ℕ × ℤ)
 
-module _ (tree : BoxTree) (w : World) where
-  -- Where a box that comes next stands, by its lead, which joins a run: `base` is what the end
-  -- of the run goes by, and `size` gives the outer sizes of the floats that wait.
-  module _ (size : Waiting ℤ → Extent ℤ) (base : Base) (run : List ℤ) (cb : Band ℤ) (floats : List FloatBox)
-      (least : Option ℤ) (b : ℕ) where
-    -- the border edge that ends the run together with these margins
-    abbrev pub edge_after : List ℤ → ℤ
-    edge_after more = run_end base (run ++ more)
+-- what stays the same while the lead of a box is gone through: the tree and the world, the outer sizes of the floats
+-- that wait, what the edge at the run's end goes by, and the floats of the context with its greatest top
+pub record Ground : Type 0 where
+  pub tree : BoxTree
+  pub world : World
+  pub size : Waiting ℤ → Extent ℤ
+  pub base : Base
+  pub floats : List FloatBox
+  pub least : Option ℤ
 
-    -- A lead was found that ends at a box d with `clear`. Its border edge if it were not cleared: after the
-    -- margins before it, its own top margin and its leading descendants' up to the next box with `clear`.
-    abbrev pub hypothetical_edge : Leading → ℕ → ℤ
-    hypothetical_edge found d = edge_after (found.margins ++ (lead tree w (is_up_to d) found.cb d).margins)
+abbrev pub on_ground : BoxTree → World → (Waiting ℤ → Extent ℤ) → Base → List FloatBox → Option ℤ → Ground
+on_ground tree w size base floats least =
+    record { tree = tree; world = w; size = size; base = base; floats = floats; least = least }
 
-    -- the lowest outer bottom of the floats that the `clear` of a box names, those that wait being placed at y
-    abbrev pub bottom_to_clear : Leading → ℕ → ℤ → Option ℤ
-    bottom_to_clear found d y = lowest_bottom (clear_of tree d) (with_waiting tree size found.waiting floats least y)
+-- Where a box that comes next stands, by its lead, which joins a run.
+module _ (g : Ground) (run : List ℤ) where
+  -- the border edge that ends the run together with these margins
+  abbrev pub edge_after : List ℤ → ℤ
+  edge_after more = run_end g.base (run ++ more)
 
-    -- d is cleared where that edge is above such a bottom, the floats that wait being tried at that edge
-    abbrev pub is_cleared : Leading → ℕ → Bool
-    is_cleared found d =
-        option_map_or (int_lt (hypothetical_edge found d)) (bottom_to_clear found d (hypothetical_edge found d)) false
+  -- A lead was found that ends at a box d with `clear`. Its border edge if it were not cleared: after the
+  -- margins before it, its own top margin and its leading descendants' up to the next box with `clear`.
+  abbrev pub hypothetical_edge : Leading → ℕ → ℤ
+  hypothetical_edge found d = edge_after (found.margins ++ (lead g.tree g.world (is_up_to d) found.cb d).margins)
 
-    -- its border edge is then the lowest such bottom, the floats that wait
-    -- standing where the run ends without d's margins
-    abbrev pub cleared_edge : Leading → ℕ → ℤ
-    cleared_edge found d =
-        option_map_or (λ bottom. bottom) (bottom_to_clear found d (edge_after found.margins)) (edge_after found.margins)
+  -- the lowest outer bottom of the floats that the `clear` of a box names, those that wait being placed at y
+  abbrev pub bottom_to_clear : Leading → ℕ → ℤ → Option ℤ
+  bottom_to_clear found d y =
+      lowest_bottom (clear_of g.tree d) (with_waiting g.tree g.size found.waiting g.floats g.least y)
 
-    -- a lead that ends at a box with `clear` ends there where that one is cleared; else it counts as
-    -- not cleared, and the lead goes on through it; any other lead joins the run as it is
-    abbrev pub resolve_step : (ℕ → Resolved) → Leading → Resolved
-    resolve_step go_on found = by_end found.end
-      where
-        by_clearance : ℕ → Bool → Resolved
-        by_clearance d true = record { margins = found.margins; cleared = Some (d, cleared_edge found d) }
-        by_clearance d false = go_on d
+  -- d is cleared where that edge is above such a bottom, the floats that wait being tried at that edge
+  abbrev pub is_cleared : Leading → ℕ → Bool
+  is_cleared found d =
+      option_map_or (int_lt (hypothetical_edge found d)) (bottom_to_clear found d (hypothetical_edge found d)) false
 
-        by_end : LeadEnd → Resolved
-        by_end (of_end.Cleared d) = by_clearance d (is_cleared found d)
-        by_end _ = record { margins = found.margins; cleared = None }
+  -- its border edge is then the lowest such bottom, the floats that wait
+  -- standing where the run ends without d's margins
+  abbrev pub cleared_edge : Leading → ℕ → ℤ
+  cleared_edge found d =
+      option_map_or (λ bottom. bottom) (bottom_to_clear found d (edge_after found.margins)) (edge_after found.margins)
 
-    -- so many boxes being left that may be passed
-    unfoldable pub resolve_to : ℕ → (ℕ → Bool) → Resolved
-    resolve_to zero passed = record { margins = []; cleared = None }
-    resolve_to (suc left) passed = resolve_step (λ d. resolve_to left (is_up_to d)) (lead tree w passed cb b)
+  -- a lead that ends at a box with `clear` ends there where that one is cleared; else it counts as
+  -- not cleared, and the lead goes on through it; any other lead joins the run as it is
+  abbrev pub resolve_step : (ℕ → Resolved) → Leading → Resolved
+  resolve_step go_on found = by_end found.end
+    where
+      by_clearance : ℕ → Bool → Resolved
+      by_clearance d true = record { margins = found.margins; cleared = Some (d, cleared_edge found d) }
+      by_clearance d false = go_on d
 
-    -- where the boxes that pass the test count as not cleared from the first
-    abbrev pub resolve : (ℕ → Bool) → Resolved
-    resolve passed = resolve_to (suc (length tree.boxes)) passed
+      by_end : LeadEnd → Resolved
+      by_end (of_end.Cleared d) = by_clearance d (is_cleared found d)
+      by_end _ = record { margins = found.margins; cleared = None }
+
+  -- so many boxes being left that may be passed
+  unfoldable pub resolve_to : Band ℤ → ℕ → ℕ → (ℕ → Bool) → Resolved
+  resolve_to cb b zero passed = record { margins = []; cleared = None }
+  resolve_to cb b (suc left) passed =
+      resolve_step (λ d. resolve_to cb b left (is_up_to d)) (lead g.tree g.world passed cb b)
+
+  -- where the boxes that pass the test count as not cleared from the first
+  abbrev pub resolve : Band ℤ → ℕ → (ℕ → Bool) → Resolved
+  resolve cb b passed = resolve_to cb b (suc (length g.tree.boxes)) passed

@@ -161,14 +161,14 @@ floating tree at size cb = record {
   cb = cb;
 }
 
--- the highest top that it may have where it comes at y: not above the outer top of an earlier block
--- or the top of an earlier line of its context (rules 5 and 6), of which `least` is the greatest,
--- nor above the outer bottoms of the earlier floats that its `clear` names
-abbrev pub float_top : Floating → List FloatBox → Option ℤ → ℤ → ℤ
-float_top f floats least y = greatest_from y (option_to_list least ++ option_to_list (lowest_bottom f.clear floats))
+-- the highest top that a float with this `clear` may have where it comes at y: not above the outer top of
+-- an earlier block or the top of an earlier line of its context (rules 5 and 6), of which `least` is the
+-- greatest, nor above the outer bottoms of the earlier floats that its `clear` names
+abbrev pub float_top : Clear → List FloatBox → Option ℤ → ℤ → ℤ
+float_top clear floats least y = greatest_from y (option_to_list least ++ option_to_list (lowest_bottom clear floats))
 
 abbrev pub float_spot : Floating → List FloatBox → Option ℤ → ℤ → Spot ℤ
-float_spot f floats least y = float_at floats f.side f.size f.cb (float_top f floats least y)
+float_spot f floats least y = float_at floats f.side f.size f.cb (float_top f.clear floats least y)
 
 -- the floats of the context after it, where it stands at this place
 abbrev pub with_float_at : Floating → List FloatBox → Spot ℤ → List FloatBox

@@ -24,7 +24,7 @@ use Rattle.layout_semantics.specs.Verticals.{Verticals, verticals}
 use Rattle.layout_semantics.specs.Rectangles.{Frame, content_top, placed_box, shifted, outer_extent}
 use Rattle.layout_semantics.specs.FlowBoxes.{is_replaced_at, is_context_root, is_open_above, may_collapse_through, joins_last_child, flow_children, across, content_from}
 use Rattle.layout_semantics.specs.Leads.{none_passed, all_passed, is_up_to, lead, bottom_margin}
-use Rattle.layout_semantics.specs.Clearance.{hangs, stands, Resolved, resolve}
+use Rattle.layout_semantics.specs.Clearance.{Base, hangs, stands, Ground, on_ground, Resolved, resolve}
 use Rattle.layout_semantics.specs.Lengths.{own}
 use Rattle.layout_semantics.specs.DefiniteHeights.{given_height, held_height}
 use Rattle.layout_semantics.specs.Replaced.{replaced_size}
@@ -160,6 +160,10 @@ module _ (tree : BoxTree) (w : World) (height : ℕ) where
 
     -- ---- boxes in flow
 
+    -- what the lead of a box that comes next is gone through by
+    abbrev pub ground_of : Base → Progress → Ground
+    ground_of base p = on_ground tree w waiting_size base p.floats p.least
+
     -- Where a box is reached, given the cleared box of its lead, if there is one, and y, at which all before that one
     -- stands: at y; but the cleared box itself is reached at its border edge, and its own lead goes on from there.
     abbrev pub reached_at : Band ℤ → Progress → ℕ → ℤ → Cleared → Reached
@@ -167,7 +171,7 @@ module _ (tree : BoxTree) (w : World) (height : ℕ) where
     reached_at cb p b y (Some cleared) = by_match (cleared.0 == b)
       where
         opened : Resolved
-        opened = resolve tree w waiting_size (stands cleared.1) [] cb p.floats p.least b (is_up_to b)
+        opened = resolve (ground_of (stands cleared.1) p) [] cb b (is_up_to b)
 
         by_match : Bool → Reached
         by_match true = record { top = cleared.1; clears = true; cleared = opened.cleared }
@@ -184,7 +188,7 @@ module _ (tree : BoxTree) (w : World) (height : ℕ) where
         by_standing : Standing → Reached
         by_standing (at_top y cleared) = reached_at cb p b y cleared
         by_standing (below edge run stuck) = by_resolved edge run
-            (resolve tree w waiting_size (hangs edge) run cb p.floats p.least b none_passed)
+            (resolve (ground_of (hangs edge) p) run cb b none_passed)
 
     -- the context as a box that is opened leaves it: its outer top counts, which is the higher
     -- of the tops of its margin and border boxes (our own reading of 9.5.1, rule 5)

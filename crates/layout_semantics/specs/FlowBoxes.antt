@@ -25,14 +25,14 @@ unfoldable pub is_context_root : BoxTree → ℕ → Bool
 is_context_root tree b =
     option_map_or (λ (x : BoxNode). not (is_replaced x.kind) && x.context) (slice_get tree.boxes b) false
 
-abbrev pub is_block_level_at : BoxTree → ℕ → Bool
+unfoldable pub is_block_level_at : BoxTree → ℕ → Bool
 is_block_level_at tree b = option_map_or (λ (x : BoxNode). x.block_level) (slice_get tree.boxes b) false
 
 -- ---- clear (9.5.2)
 
 -- an in-flow block that starts a context, and an in-flow block-level replaced box, are treated as
 -- `clear: both`, so that they overlap no float (our own reading; 9.5 allows to place them below)
-abbrev pub stands_clear_of_floats : BoxTree → ℕ → Bool
+unfoldable pub stands_clear_of_floats : BoxTree → ℕ → Bool
 stands_clear_of_floats tree b = (is_context_root tree b || is_replaced_at tree b) && is_block_level_at tree b
     && not (is_floated_at tree b)
 

@@ -21,11 +21,11 @@ use Rattle.layout_semantics.specs.Lengths.{margins, borders, paddings}
 unfoldable pub is_floated_at : BoxTree → ℕ → Bool
 is_floated_at tree at = box_passes (is_floated tree.styles) tree.boxes at
 
-abbrev pub is_inline_level_at : BoxTree → ℕ → Bool
+unfoldable pub is_inline_level_at : BoxTree → ℕ → Bool
 is_inline_level_at tree at = box_passes is_inline_level tree.boxes at && not (is_floated_at tree at)
 
 -- a block container holds inline content, or else blocks (CSS 2.1, 9.2.1)
-abbrev pub holds_inline : BoxTree → ℕ → Bool
+unfoldable pub holds_inline : BoxTree → ℕ → Bool
 holds_inline tree at = list_any (is_inline_level_at tree) (kids_of tree.boxes at)
 
 -- ---- items

@@ -18,7 +18,7 @@ is_thing (forced at) = true
 is_thing _ = false
 
 -- `white-space` of a box's node lets lines break (CSS 2.1, 16.6)
-abbrev pub wraps : BoxTree → ℕ → Bool
+unfoldable pub wraps : BoxTree → ℕ → Bool
 wraps tree at = option_map_or (λ (s : Style). s.wraps) (style_of tree at) false
 
 -- a line may break at a space of text that wraps

@@ -1,5 +1,7 @@
+use Rattle.std.proofs.Common.{◌<◌, length, sym, subst}
+use Rattle.viz_base.specs.declared.trees.BoxTree.{BoxTree}
 use Rattle.layout_laws.proofs.FlowLevels.{resolve-is}
 use Rattle.layout_laws.proofs.recursions.a_lead_goes_on_through_what_is_not_cleared.Goals as goal
 
 pub returns : goal.returns
-returns c size base run cb floats least passed = resolve-is c.args.tree.now c.args.world size base run cb floats least c.args.at c.requires.within passed
+returns c g run cb passed same = resolve-is g run cb c.args.at (subst (λ (t : BoxTree). c.args.at < length t.boxes) (sym same) c.requires.within) passed
