@@ -190,6 +190,7 @@ module _ (tree : BoxTree) (w : World) (height : ℕ) where
 
     closes : (cb : Band ℤ) (b : ℕ) → IsFine cb b → enters tree b ≡ true
         → AllByRecursion (λ k. (is_floated_at tree k ≡ true → SameSize (record { at = k; cb = inner_band tree w cb b })) × (is_floated_at tree k ≡ false → IsFine (inner_band tree w cb b) k)) (flow_children tree b)
+    unfolding size_in
     closes cb b fine i =
         let band = inner_band tree w cb b in
         let above = fine.above in

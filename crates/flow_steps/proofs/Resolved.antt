@@ -18,17 +18,13 @@ use Rattle.layout_semantics.specs.Clearance.{Base, Ground, on_ground, run_end, R
 use Rattle.layout_semantics.specs.Clearance as landed
 use Rattle.layout_laws.proofs.LeadLevels.{EndsWell, lead-leads}
 use Rattle.lay_margin.specs.declared.runs.Run.{Run}
-use Rattle.lay_margin.specs.Runs.{with_margin, joined_all}
+use Rattle.lay_margin.specs.Runs.{joined_all}
 use Rattle.lay_margin.specs.steps.Leads.{Going, led_by}
-use Rattle.lay_margin.proofs.Joined.{lead-joined}
+use Rattle.lay_margin.proofs.Joined.{joined-append, lead-joined}
 use Rattle.flow_steps.specs.Order.{is_before}
 use Rattle.flow_steps.specs.Runs.{edge_at}
 use Rattle.flow_steps.specs.Forward.{goes_on, solid, cleared, cleared_of, Found, found, decided_found, hypothetical_edge, bottom_to_clear, is_to_clear, clear_edge, forward}
 use Rattle.flow_steps.proofs.Decided.{IsPrefix, way, way-through, way-solid, way-cleared, forward-way}
-
-joined-append : (r : Run ℤ) (xs ys : List ℤ) → joined_all r (xs ++ ys) ≡ joined_all (joined_all r xs) ys
-joined-append r [] ys = refl
-joined-append r (x ∷ xs) ys = joined-append (with_margin r x) xs ys
 
 pub none-prefix : IsPrefix none_passed
 none-prefix d x o t = absurd (cc)

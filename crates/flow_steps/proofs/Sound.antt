@@ -58,7 +58,7 @@ floated-kind tree k e = by (slice_get tree.boxes k) e
     by (Some x) f = of_box x.node x.kind f
 
 level-kind : (tree : BoxTree) (k : ℕ) → is_inline_level_at tree k ≡ false → is_inline (kind_of tree k) ≡ false
-unfolding is_floated_at
+unfolding is_floated_at is_inline_level_at
 level-kind tree k e = by (slice_get tree.boxes k) e
   where
     of_box : (node : ℕ) (block_level : Bool) (kind : Kind) → (level_by block_level kind && not (floats_by tree.styles node kind)) ≡ false → is_inline kind ≡ false
@@ -78,7 +78,7 @@ placing_by _ _ _ = block_flow
 
 -- a box in a block container's flow, in no line and not replaced
 flow-placing : (tree : BoxTree) (k : ℕ) → is_floated_at tree k ≡ false → is_inline_level_at tree k ≡ false → is_replaced_at tree k ≡ false → placing_of tree k ≡ block_flow
-unfolding is_floated_at is_replaced_at
+unfolding is_floated_at is_inline_level_at is_replaced_at
 flow-placing tree k e l r = by (slice_get tree.boxes k) e l r
   where
     of_box : (node : ℕ) (block_level : Bool) (kind : Kind) → floats_by tree.styles node kind ≡ false → (level_by block_level kind && not (floats_by tree.styles node kind)) ≡ false → is_replaced kind ≡ false
@@ -255,6 +255,7 @@ module _ (tree : BoxTree) (w : World) (height : ℕ) where
   )
 
   children-sound : (b : ℕ) (wide : ℤ) → IsSound b wide → AllByRecursion (λ k. IsFlowKid k (inner_width b wide)) (flow_children tree b)
+  unfolding holds_inline
   children-sound b wide s = by (holds_inline tree b) refl
     where
       by : (h : Bool) → holds_inline tree b ≡ h → AllByRecursion (λ k. IsFlowKid k (inner_width b wide)) (flow_children tree b)

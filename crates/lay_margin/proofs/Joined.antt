@@ -22,7 +22,7 @@ use Rattle.lay_margin.specs.steps.Leads.{Going, ending, led_by, through, going_o
 
 -- ---- runs
 
-joined-append : (r : Run ℤ) (xs ys : List ℤ) → joined_all r (xs ++ ys) ≡ joined_all (joined_all r xs) ys
+pub joined-append : (r : Run ℤ) (xs ys : List ℤ) → joined_all r (xs ++ ys) ≡ joined_all (joined_all r xs) ys
 joined-append r [] ys = refl
 joined-append r (x ∷ xs) ys = joined-append (with_margin r x) xs ys
 

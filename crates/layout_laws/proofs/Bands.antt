@@ -2,7 +2,6 @@ use Rattle.std.proofs.Common.{◌≡◌, ℤ, ◌+ℤ◌, Bool, false, ◌&&◌,
 use Rattle.viz_base.specs.declared.layouts.Band.{Band}
 use Rattle.layout_semantics.specs.Floats.{FloatBox, is_left, meets, band_at}
 use Rattle.layout_laws.specs.Bands.{MeetsSpan, IsLeftOver}
-use Rattle.layout_laws.proofs.Among.{Among, among, contains}
 use Rattle.layout_laws.proofs.Beside.{room_after, room_before, room_from, room_to, left_edge, right_edge}
 use Rattle.layout_laws.proofs.Truths.{lt, is_lt, left_of, right_of, both_of}
 
@@ -30,20 +29,20 @@ module _ (y h : ℤ) (f : FloatBox) where
 
 pub band_is_left : (floats : List FloatBox) (cb : Band ℤ) (y h : ℤ) → IsLeftOver floats cb y h (band_at floats cb y h)
 band_is_left floats cb y h = record {
-  after_left_ones = λ f i l m. room_after floats cb (meets y h) f (among floats f i) (meeting y h f m) l;
-  before_right_ones = λ f i l m. room_before floats cb (meets y h) f (among floats f i) (meeting y h f m) l;
+  after_left_ones = λ f i l m. room_after floats cb (meets y h) f i (meeting y h f m) l;
+  before_right_ones = λ f i l m. room_before floats cb (meets y h) f i (meeting y h f m) l;
   within_left = room_from floats cb (meets y h);
   within_right = room_to floats cb (meets y h);
   left_edge = on_left (left_edge floats cb (meets y h));
   right_edge = on_right (right_edge floats cb (meets y h));
 }
   where
-    on_left : (((band_at floats cb y h).left ≡ cb.left) ⊎ ((f : FloatBox) × Among floats f × IsTrue (meets y h f) × IsTrue (is_left f) × (f.box.right ≡ (band_at floats cb y h).left)))
+    on_left : (((band_at floats cb y h).left ≡ cb.left) ⊎ ((f : FloatBox) × Contains floats f × IsTrue (meets y h f) × IsTrue (is_left f) × (f.box.right ≡ (band_at floats cb y h).left)))
         → ((band_at floats cb y h).left ≡ cb.left) ⊎ ((f : FloatBox) × Contains floats f × IsTrue (is_left f) × MeetsSpan y h f × (f.box.right ≡ (band_at floats cb y h).left))
     on_left (inl e) = inl e
-    on_left (inr f) = inr (f.0, contains floats f.0 f.1, f.3, met y h f.0 f.2, f.4)
+    on_left (inr f) = inr (f.0, f.1, f.3, met y h f.0 f.2, f.4)
 
-    on_right : (((band_at floats cb y h).right ≡ cb.right) ⊎ ((f : FloatBox) × Among floats f × IsTrue (meets y h f) × (is_left f ≡ false) × (f.box.left ≡ (band_at floats cb y h).right)))
+    on_right : (((band_at floats cb y h).right ≡ cb.right) ⊎ ((f : FloatBox) × Contains floats f × IsTrue (meets y h f) × (is_left f ≡ false) × (f.box.left ≡ (band_at floats cb y h).right)))
         → ((band_at floats cb y h).right ≡ cb.right) ⊎ ((f : FloatBox) × Contains floats f × (is_left f ≡ false) × MeetsSpan y h f × (f.box.left ≡ (band_at floats cb y h).right))
     on_right (inl e) = inl e
-    on_right (inr f) = inr (f.0, contains floats f.0 f.1, f.3, met y h f.0 f.2, f.4)
+    on_right (inr f) = inr (f.0, f.1, f.3, met y h f.0 f.2, f.4)

@@ -94,7 +94,7 @@ module _ (tree : BoxTree) (no_inline : (k : ℕ) → is_inline_level_at tree k �
 
 module _ (tree : BoxTree) (alone : IsTrue (holds_blocks_alone tree)) where
   no_inline : (k : ℕ) → is_inline_level_at tree k ≡ false
-  unfolding is_floated_at
+  unfolding is_floated_at is_inline_level_at
   no_inline k = by_box (slice_get tree.boxes k) refl
     where
       by_test : (floated inline : Bool) → IsTrue (floated || not inline) → (inline && not floated) ≡ false

@@ -31,7 +31,6 @@ pub mod LineTops
 pub mod Cuts
 pub mod Breaks
 pub mod ChildWidths
-pub mod Among
 pub mod Extremes
 pub mod FloatPlaces
 pub mod Beside

@@ -14,8 +14,7 @@ use Rattle.layout_semantics.specs.LineFilling.{Met, Line, joined, first_items, p
 use Rattle.layout_semantics.specs.Fragments.{float_entries, line_entries}
 use Rattle.layout_semantics.specs.Lines.{LaidLines, followed, laid_none, before_all, opened_after, next_line, laid_line, laid_no_line, laid_stretches, lines_to, lines_in, line_box, set_line, content_left}
 use Rattle.layout_laws.specs.LineStacks.{line_rectangles, IsStack, HasMoreFloats}
-use Rattle.layout_laws.proofs.Among.{contains}
-use Rattle.layout_laws.proofs.Greatest.{all_from, greatest_from-fewer}
+use Rattle.layout_laws.proofs.Greatest.{All-from, greatest_from-fewer}
 use Rattle.layout_laws.proofs.Levels.{All-append}
 use Rattle.layout_laws.proofs.Cuts.{cut-joined}
 use Rattle.layout_laws.proofs.LineTops.{line_top-stands}
@@ -38,7 +37,7 @@ height-most c boxes each =
     omega (arith, ints, clamps)
 
 members : (xs : List ℕ) → AllByRecursion (Contains xs) xs
-members xs = all_from (Contains xs) xs (contains xs)
+members xs = All-from (Contains xs) xs (λ x i. i)
 
 extended-append : (xs ys : List Item) → extended_boxes (xs ++ ys) ≡ extended_boxes xs ++ extended_boxes ys
 extended-append [] ys = refl

@@ -1,4 +1,4 @@
-use Rattle.std.proofs.Common.{◌≡◌, ℤ, ◌+ℤ◌, ◌≤ℤ◌, ◌<ℤ◌, Bool, true, false, not, cond, int_lt, int_le, IsTrue, List, [], ◌∷◌, map, filter, refl, subst, arith}
+use Rattle.std.proofs.Common.{◌≡◌, ℤ, ◌+ℤ◌, ◌≤ℤ◌, ◌<ℤ◌, Bool, true, false, not, cond, int_lt, int_le, IsTrue, List, [], ◌∷◌, map, filter, Contains, refl, subst, arith}
 use Rattle.std.specs.Prelude.{◌&&◌, ◌||◌}
 use Rattle.std.specs.List.{AllByRecursion, list_any}
 use Rattle.std.proofs.lemmas.Int.{ints}
@@ -8,30 +8,30 @@ use Rattle.layout_semantics.specs.Floats.{FloatBox, is_left, meets, band_at, can
 use Rattle.layout_semantics.specs.LineHeights.{InlineContext}
 use Rattle.layout_semantics.specs.LineFilling.{fits, band_width, meets_none, least_or, line_top}
 use Rattle.layout_laws.specs.Standing.{may_stand}
-use Rattle.layout_laws.proofs.Among.{Among, filtered, filters, image, source}
+use Rattle.layout_laws.proofs.Members.{from_filter, to_filter, to_map, from_map}
 use Rattle.layout_laws.proofs.Extremes.{start_below_greatest, start_above_least}
-use Rattle.layout_laws.proofs.Greatest.{all_at, filter-implied, filter-all, filter-passes, All-map, greatest-subset, least-subset, greatest_from-any, least_from-any, greatest_from-bound, least_from-bound, greatest_from-least}
+use Rattle.layout_laws.proofs.Greatest.{All-at, filter-implied, filter-all, filter-passes, All-map, greatest-subset, least-subset, greatest_from-any, least_from-any, greatest_from-bound, least_from-bound, greatest_from-least}
 use Rattle.layout_laws.proofs.Levels.{All-implied}
 
 -- ---- lists of fewer members
 
 -- an image of one that passes two tests is an image of one that passes wider ones
-kept_among : {A : Type 0} (f : A → ℤ) (p q side : A → Bool) (xs : List A) → AllByRecursion (λ x. IsTrue (p x) → IsTrue (q x)) xs
-    → (y : ℤ) → Among (map f (filter side (filter p xs))) y → Among (map f (filter side (filter q xs))) y
-kept_among f p q side xs i y j =
-    let s = source f (filter side (filter p xs)) y j in
-    let t = filtered side (filter p xs) s.0 s.1 in
-    let u = filtered p xs s.0 t.0 in
-    let stays = filters q xs s.0 u.0 (all_at (λ x. IsTrue (p x) → IsTrue (q x)) xs s.0 i u.0 u.1) in
-    subst (Among (map f (filter side (filter q xs)))) s.2 (image f (filter side (filter q xs)) s.0 (filters side (filter q xs) s.0 stays t.1))
+kept_member : {A : Type 0} (f : A → ℤ) (p q side : A → Bool) (xs : List A) → AllByRecursion (λ x. IsTrue (p x) → IsTrue (q x)) xs
+    → (y : ℤ) → Contains (map f (filter side (filter p xs))) y → Contains (map f (filter side (filter q xs))) y
+kept_member f p q side xs i y j =
+    let s = from_map f (filter side (filter p xs)) y j in
+    let t = from_filter side (filter p xs) s.0 s.1 in
+    let u = from_filter p xs s.0 t.0 in
+    let stays = to_filter q xs s.0 u.0 (All-at (λ x. IsTrue (p x) → IsTrue (q x)) xs s.0 i u.0 u.1) in
+    subst (Contains (map f (filter side (filter q xs)))) s.2 (to_map f (filter side (filter q xs)) s.0 (to_filter side (filter q xs) s.0 stays t.1))
 
 greatest-fewer : {A : Type 0} (f : A → ℤ) (a : ℤ) (p q side : A → Bool) (xs : List A) → AllByRecursion (λ x. IsTrue (p x) → IsTrue (q x)) xs
     → greatest_from a (map f (filter side (filter p xs))) ≤ℤ greatest_from a (map f (filter side (filter q xs)))
-greatest-fewer f a p q side xs i = greatest-subset a (map f (filter side (filter p xs))) (map f (filter side (filter q xs))) (kept_among f p q side xs i)
+greatest-fewer f a p q side xs i = greatest-subset a (map f (filter side (filter p xs))) (map f (filter side (filter q xs))) (kept_member f p q side xs i)
 
 least-fewer : {A : Type 0} (f : A → ℤ) (a : ℤ) (p q side : A → Bool) (xs : List A) → AllByRecursion (λ x. IsTrue (p x) → IsTrue (q x)) xs
     → least_from a (map f (filter side (filter q xs))) ≤ℤ least_from a (map f (filter side (filter p xs)))
-least-fewer f a p q side xs i = least-subset a (map f (filter side (filter p xs))) (map f (filter side (filter q xs))) (kept_among f p q side xs i)
+least-fewer f a p q side xs i = least-subset a (map f (filter side (filter p xs))) (map f (filter side (filter q xs))) (kept_member f p q side xs i)
 
 any-fewer : {A : Type 0} (p q : A → Bool) (xs : List A) → AllByRecursion (λ x. IsTrue (p x) → IsTrue (q x)) xs → IsTrue (not (list_any q xs)) → IsTrue (not (list_any p xs))
 any-fewer p q [] i none = refl

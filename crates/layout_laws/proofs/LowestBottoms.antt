@@ -1,7 +1,8 @@
 -- The lowest bottom of floats, and where a cleared box stands.
-use Rattle.std.proofs.Common.{◌≡◌, ℕ, zero, suc, ℤ, ◌≤ℤ◌, Bool, true, false, IsTrue, List, [], ◌∷◌, ◌++◌, map, filter, Contains, Option, Some, None, MatchOption, refl, sym, subst, inl, inr, ◌⊎◌, arith}
+use Rattle.std.proofs.Common.{◌≡◌, ℕ, zero, suc, ℤ, ◌≤ℤ◌, Bool, true, false, IsTrue, List, [], ◌∷◌, ◌++◌, map, filter, Contains, Option, Some, None, MatchOption, refl, sym, subst, inl, inr, ◌⊎◌, ⊎_elim, arith}
 use Rattle.std.specs.Option.{option_map_or}
 use Rattle.std.proofs.lemmas.Int.{ints}
+use Rattle.std.proofs.lemmas.List.Elements.{Contains-append_left}
 use Rattle.viz_base.specs.declared.layouts.Band.{Band}
 use Rattle.viz_base.specs.declared.layouts.Extent.{Extent}
 use Rattle.viz_base.specs.declared.layouts.LeadEnd.{LeadEnd}
@@ -15,7 +16,7 @@ use Rattle.layout_semantics.specs.FlowBoxes.{clear_of}
 use Rattle.layout_semantics.specs.Leads.{Leading, is_up_to, lead}
 use Rattle.layout_semantics.specs.Clearance.{run_end, Ground, Resolved, with_waiting, is_cleared, cleared_edge, resolve_step, resolve_to}
 use Rattle.layout_laws.specs.Clearance.{IsLowestBottom}
-use Rattle.layout_laws.proofs.Among.{Among, among, contains, filtered, filters, image, source}
+use Rattle.layout_laws.proofs.Members.{no_member, first_member, later_member, first_or_later, from_filter, to_filter, to_map, from_map}
 use Rattle.layout_laws.proofs.Extremes.{below_greatest, start_below_greatest, greatest_is_one}
 
 module _ (clear : Clear) (floats : List FloatBox) where
@@ -34,33 +35,36 @@ module _ (clear : Clear) (floats : List FloatBox) where
   abbrev Answer : Option ℤ → Type 0
   Answer answer = MatchOption answer ((f : FloatBox) → Contains floats f → is_relevant clear f ≡ false) (IsLowestBottom clear floats)
 
-  named : (f : FloatBox) → Contains floats f → IsTrue (is_relevant clear f) → Among relevant f
-  named f i r = filters (is_relevant clear) floats f (among floats f i) r
+  named : (f : FloatBox) → Contains floats f → IsTrue (is_relevant clear f) → Contains relevant f
+  named f i r = to_filter (is_relevant clear) floats f i r
 
   when_none : relevant ≡ [] → (f : FloatBox) → Contains floats f → is_relevant clear f ≡ false
   when_none e f i = by (is_relevant clear f) refl
     where
       by : (b : Bool) → is_relevant clear f ≡ b → b ≡ false
-      by true t = absurd (subst (λ (fs : List FloatBox). Among fs f) e (named f i t))
+      by true t = no_member (subst (λ (fs : List FloatBox). Contains fs f) e (named f i t))
       by false t = refl
 
   when_some : (g : FloatBox) (gs : List FloatBox) → relevant ≡ g ∷ gs → IsLowestBottom clear floats (greatest_from g.box.bottom (map bottom gs))
   when_some g gs e = record {
-    bound = λ f i r. of_member f (image bottom (g ∷ gs) f (subst (λ (fs : List FloatBox). Among fs f) e (named f i r)));
+    bound = λ f i r. of_member f (to_map bottom (g ∷ gs) f (subst (λ (fs : List FloatBox). Contains fs f) e (named f i r)));
     reached = to_member (greatest_is_one g.box.bottom (map bottom gs));
   }
     where
-      of_member : (f : FloatBox) → Among (map bottom (g ∷ gs)) f.box.bottom → f.box.bottom ≤ℤ greatest_from g.box.bottom (map bottom gs)
-      of_member f (inl same) = let t = start_below_greatest g.box.bottom (map bottom gs) in omega (arith, ints, same)
-      of_member f (inr i) = below_greatest g.box.bottom (map bottom gs) f.box.bottom i
+      of_member : (f : FloatBox) → Contains (map bottom (g ∷ gs)) f.box.bottom → f.box.bottom ≤ℤ greatest_from g.box.bottom (map bottom gs)
+      of_member f i =
+          ⊎_elim
+          (λ same. let t = start_below_greatest g.box.bottom (map bottom gs) in omega (arith, ints, same))
+          (λ j. below_greatest g.box.bottom (map bottom gs) f.box.bottom j)
+          (first_or_later g.box.bottom (map bottom gs) f.box.bottom i)
 
-      of_named : (f : FloatBox) → Among (g ∷ gs) f → (f.box.bottom ≡ greatest_from g.box.bottom (map bottom gs)) → (f : FloatBox) × Contains floats f × IsTrue (is_relevant clear f) × (f.box.bottom ≡ greatest_from g.box.bottom (map bottom gs))
-      of_named f i same = let r = filtered (is_relevant clear) floats f (subst (λ (fs : List FloatBox). Among fs f) (sym e) i) in (f, contains floats f r.0, r.1, same)
+      of_named : (f : FloatBox) → Contains (g ∷ gs) f → (f.box.bottom ≡ greatest_from g.box.bottom (map bottom gs)) → (f : FloatBox) × Contains floats f × IsTrue (is_relevant clear f) × (f.box.bottom ≡ greatest_from g.box.bottom (map bottom gs))
+      of_named f i same = let r = from_filter (is_relevant clear) floats f (subst (λ (fs : List FloatBox). Contains fs f) (sym e) i) in (f, r.0, r.1, same)
 
-      to_member : ((greatest_from g.box.bottom (map bottom gs) ≡ g.box.bottom) ⊎ Among (map bottom gs) (greatest_from g.box.bottom (map bottom gs)))
+      to_member : ((greatest_from g.box.bottom (map bottom gs) ≡ g.box.bottom) ⊎ Contains (map bottom gs) (greatest_from g.box.bottom (map bottom gs)))
           → (f : FloatBox) × Contains floats f × IsTrue (is_relevant clear f) × (f.box.bottom ≡ greatest_from g.box.bottom (map bottom gs))
-      to_member (inl same) = of_named g (inl refl) (sym same)
-      to_member (inr i) = let f = source bottom gs (greatest_from g.box.bottom (map bottom gs)) i in of_named f.0 (inr f.1) f.2
+      to_member (inl same) = of_named g (first_member gs refl) (sym same)
+      to_member (inr i) = let f = from_map bottom gs (greatest_from g.box.bottom (map bottom gs)) i in of_named f.0 (later_member gs f.1) f.2
 
   pub lowest : Answer (lowest_bottom clear floats)
   lowest = by relevant refl
@@ -79,14 +83,9 @@ module _ (clear : Clear) (floats : List FloatBox) where
 
 -- ---- floats that are placed stay in the list
 
-among_before : {A : Type 0} (xs ys : List A) (x : A) → Among xs x → Among (xs ++ ys) x
-among_before [] ys x i = elim i [ ]
-among_before (y ∷ xs) ys x (inl e) = inl e
-among_before (y ∷ xs) ys x (inr i) = inr (among_before xs ys x i)
-
-kept : (tree : BoxTree) (size : Waiting ℤ → Extent ℤ) (fs : List (Waiting ℤ)) (floats : List FloatBox) (least : Option ℤ) (y : ℤ) (f : FloatBox) → Among floats f → Among (with_waiting tree size fs floats least y) f
+kept : (tree : BoxTree) (size : Waiting ℤ → Extent ℤ) (fs : List (Waiting ℤ)) (floats : List FloatBox) (least : Option ℤ) (y : ℤ) (f : FloatBox) → Contains floats f → Contains (with_waiting tree size fs floats least y) f
 kept tree size [] floats least y f i = i
-kept tree size (g ∷ gs) floats least y f i = kept tree size gs (with_float (floating tree g.at (size g) g.cb) floats least y) least y f (among_before floats _ f i)
+kept tree size (g ∷ gs) floats least y f i = kept tree size gs (with_float (floating tree g.at (size g) g.cb) floats least y) least y f (Contains-append_left floats _ f i)
 
 -- ---- a cleared box
 
@@ -99,7 +98,7 @@ module _ (g : Ground) (run : List ℤ) (d : ℕ) (y : ℤ) where
 
   below_floats : (found : Leading) (f : FloatBox) → Contains g.floats f → IsTrue (is_relevant (clear_of g.tree d) f) → f.box.bottom ≤ℤ edge_of found d
   below_floats found f i r = no_higher (clear_of g.tree d) (with_waiting g.tree g.size found.waiting g.floats g.least (run_end g.base (run ++ found.margins))) (run_end g.base (run ++ found.margins)) f
-      (contains _ f (kept g.tree g.size found.waiting g.floats g.least (run_end g.base (run ++ found.margins)) f (among g.floats f i))) r
+      (kept g.tree g.size found.waiting g.floats g.least (run_end g.base (run ++ found.margins)) f i) r
 
   abbrev Ends : Option (ℕ × ℤ) → Type 0
   Ends o = MatchOption o (⊥) (λ p. (p.0 ≡ d) × (p.1 ≡ y))

@@ -1,5 +1,5 @@
 -- Floats are placed one after another by the rules, in lines and in flow.
-use Rattle.std.proofs.Common.{◌≡◌, ℕ, zero, suc, ◌<◌, ℤ, ◌+ℤ◌, ◌≤ℤ◌, Bool, true, false, cond, List, [], ◌∷◌, ◌++◌, length, drop, fold, slice_get, slice_index_or, ◌&&◌, Option, Some, refl, ap, subst, inl, inr, ◌⊎◌, arith}
+use Rattle.std.proofs.Common.{◌≡◌, ℕ, zero, suc, ◌<◌, ℤ, ◌+ℤ◌, ◌≤ℤ◌, Bool, true, false, cond, List, [], ◌∷◌, ◌++◌, length, drop, fold, slice_get, slice_index_or, ◌&&◌, Contains, Option, Some, refl, ap, subst, inl, inr, ◌⊎◌, arith}
 use Rattle.std.specs.List.{list_any}
 use Rattle.std.specs.Int.{int_max}
 use Rattle.std.proofs.lemmas.Option.{none-some, same_Some}
@@ -14,7 +14,7 @@ use Rattle.layout_semantics.specs.LineHeights.{InlineContext, line_extent, heigh
 use Rattle.layout_semantics.specs.LineFilling.{Met, Line, line_float, line_spot, with_spot, with_waiting, place_each, none_waits, leaves_room, meet, met_after, floats_met, first_items, width_held, stretches_held, before_line}
 use Rattle.layout_semantics.specs.Lines.{SoFar, LaidLines, before_all, next_line, laid_line, laid_no_line, laid_stretches, lines_to, lines_in}
 use Rattle.layout_laws.specs.FloatRules.{ObeysRules}
-use Rattle.layout_laws.proofs.Among.{Among, contains}
+use Rattle.layout_laws.proofs.Members.{first_member, later_member}
 use Rattle.layout_laws.proofs.Apart.{apart}
 use Rattle.layout_laws.proofs.FloatPlaces.{highest_obeys}
 use Rattle.layout_laws.specs.PlacedFloats.{ArePlacedAfter, none, next, IsClearOf, AreClear}
@@ -81,10 +81,10 @@ of_lines c y least floats = lines_placed c floats (length (stretches c.tree (con
 
 -- ---- floats that are placed so are clear of those before them
 
-get_among : (xs : List FloatBox) (i : ℕ) (f : FloatBox) → slice_get xs i ≡ Some f → Among xs f
-get_among [] i f e = absurd (none-some f e)
-get_among (x ∷ xs) zero f e = inl (same_Some x f e)
-get_among (x ∷ xs) (suc i) f e = inr (get_among xs i f e)
+get_member : (xs : List FloatBox) (i : ℕ) (f : FloatBox) → slice_get xs i ≡ Some f → Contains xs f
+get_member [] i f e = absurd (none-some f e)
+get_member (x ∷ xs) zero f e = first_member xs (same_Some x f e)
+get_member (x ∷ xs) (suc i) f e = later_member xs (get_member xs i f e)
 
 get_below : (xs : List FloatBox) (i : ℕ) (f : FloatBox) → slice_get xs i ≡ Some f → i < length xs
 get_below [] i f e = absurd (none-some f e)
@@ -102,9 +102,9 @@ get_append (y ∷ xs) x (suc i) f e = by (get_append xs x i f e)
     by (inr g) = inr (ap suc g.0, g.1)
 
 -- a float at its place is clear of each earlier one
-clear_of_each : (floats : List FloatBox) (side : Side) (size : Extent ℤ) (cb : Band ℤ) (top : ℤ) (f : FloatBox) → Among floats f → IsClearOf (placed_float side size (float_at floats side size cb top)) f
+clear_of_each : (floats : List FloatBox) (side : Side) (size : Extent ℤ) (cb : Band ℤ) (top : ℤ) (f : FloatBox) → Contains floats f → IsClearOf (placed_float side size (float_at floats side size cb top)) f
 clear_of_each floats side size cb top f i = record {
-  apart = apart floats size cb top (float_at floats side size cb top) side obeys f (contains floats f i);
+  apart = apart floats size cb top (float_at floats side size cb top) side obeys f i;
   not_above = low side obeys;
 }
   where
@@ -112,16 +112,16 @@ clear_of_each floats side size cb top f i = record {
     obeys = highest_obeys floats size.width cb top side
 
     low : (s : Side) → ObeysRules floats s size.width cb top (float_at floats side size cb top) → f.box.top ≤ℤ (float_at floats side size cb top).y
-    low of_side.Left o = o.low_enough.below_floats f (contains floats f i)
-    low of_side.Right o = o.low_enough.below_floats f (contains floats f i)
+    low of_side.Left o = o.low_enough.below_floats f i
+    low of_side.Right o = o.low_enough.below_floats f i
 
-clear_more : (floats : List FloatBox) (g : FloatBox) → AreClear floats → ((f : FloatBox) → Among floats f → IsClearOf g f) → AreClear (floats ++ g ∷ [])
+clear_more : (floats : List FloatBox) (g : FloatBox) → AreClear floats → ((f : FloatBox) → Contains floats f → IsClearOf g f) → AreClear (floats ++ g ∷ [])
 clear_more floats g h each i j a b l ea eb = by (get_append floats g j b eb) (get_append floats g i a ea)
   where
     by : ((slice_get floats j ≡ Some b) ⊎ ((j ≡ length floats) × (g ≡ b))) → ((slice_get floats i ≡ Some a) ⊎ ((i ≡ length floats) × (g ≡ a))) → IsClearOf b a
     by (inl eb) (inl ea) = h i j a b l ea eb
     by (inl eb) (inr ea) = absurd (let t = get_below floats j b eb in omega (arith, ea.0))
-    by (inr eb) (inl ea) = subst (λ (z : FloatBox). IsClearOf z a) eb.1 (each a (get_among floats i a ea))
+    by (inr eb) (inl ea) = subst (λ (z : FloatBox). IsClearOf z a) eb.1 (each a (get_member floats i a ea))
     by (inr eb) (inr ea) = absurd (omega (arith, ea.0, eb.0))
 
 pub are_clear : (floats : List FloatBox) → ArePlacedAfter [] floats → AreClear floats
