@@ -310,7 +310,8 @@ module _ (tree : BoxTree) (w : World) (height : ℕ) where
       where
         by_laid : Reached → Laid → Step
         by_laid r l = step
-            (record l.after.context { standing = standing_after cb s.standing b (met r (own_run cb s b r)) l }) l.after.boxes
+            (record l.after.context { standing = standing_after cb s.standing b (met r (own_run cb s b r)) l })
+            l.after.boxes
 
         by_reached : Reached → Step
         by_reached r = by_laid r (laid cb s b r)

@@ -34,13 +34,15 @@ pub fn boxes_stand_in_document_order(tree: &BoxTree)
 pub fn clearance_is_decided_on_the_way(tree: &BoxTree, world: World, at: usize)
     requires within { at < length tree.now.boxes }
     ensures margins { (size : Waiting ℤ → Extent ℤ) (edge : ℤ) (run : List ℤ) (cb : Band ℤ) (floats : List FloatBox)
-        (least : Option ℤ) → run_of (run ++ (resolve (on_ground tree.now world size (hangs edge) floats least)
-        run cb at none_passed).margins)
+        (least : Option ℤ)
+        → run_of (run ++
+        (resolve (on_ground tree.now world size (hangs edge) floats least) run cb at none_passed).margins)
         ≡ (forward (on_ground tree.now world size (hangs edge) floats least) none_passed cb at (run_of run)).run }
     ensures cleared { (size : Waiting ℤ → Extent ℤ) (edge : ℤ) (run : List ℤ) (cb : Band ℤ) (floats : List FloatBox)
-        (least : Option ℤ) → (resolve (on_ground tree.now world size (hangs edge) floats least)
-        run cb at none_passed).cleared
-        ≡ cleared_of (forward (on_ground tree.now world size (hangs edge) floats least) none_passed cb at (run_of run)).end }
+        (least : Option ℤ)
+        → (resolve (on_ground tree.now world size (hangs edge) floats least) run cb at none_passed).cleared
+        ≡ cleared_of
+        (forward (on_ground tree.now world size (hangs edge) floats least) none_passed cb at (run_of run)).end }
     ensures opened { (size : Waiting ℤ → Extent ℤ) (y : ℤ) (cb : Band ℤ) (floats : List FloatBox) (least : Option ℤ)
         → (resolve (on_ground tree.now world size (stands y) floats least) [] cb at (is_up_to at)).cleared
         ≡ cleared_of (forward (on_ground tree.now world size (stands y) floats least) (is_up_to at) cb at no_run).end }
