@@ -1,5 +1,5 @@
 -- Loops over lists that go on from a state.
-use Rattle.std.proofs.Common.{◌≡◌, ℕ, zero, suc, ◌+◌, ◌<◌, ◌≤◌, ℤ, Bool, true, false, ◌||◌, inl, inr, arith, List, [], ◌∷◌, ◌++◌, drop, get_or, length, map, Option, refl, sym, ap, ◌∙◌}
+use Rattle.std.proofs.Common.{◌≡◌, ℕ, ◌+◌, ◌<◌, ◌≤◌, ℤ, Bool, true, false, ◌||◌, List, [], ◌∷◌, ◌++◌, drop, get_or, length, map, Option, refl, sym, ap, ◌∙◌}
 use Rattle.std.proofs.Math.Bool.{or_assoc}
 use Rattle.std.specs.Int.{int_max}
 use Rattle.std.specs.List.{list_any}
@@ -9,7 +9,6 @@ use Rattle.viz_base.specs.declared.styles.Clear.{Clear}
 use Rattle.viz_base.specs.declared.styles.Side.{Side}
 use Rattle.layout_semantics.specs.Extremes.{greatest_from}
 use Rattle.layout_semantics.specs.Floats.{FloatBox}
-use Rattle.layout_laws.proofs.Among.{Among}
 use Rattle.lay_float.specs.steps.Shelves.{Shelf, with_float, shelf_from, sooner, soonest}
 use Rattle.lay_float.specs.steps.Bands.{room_beside, room_from, lower, lowest_from}
 use Rattle.lay_float.proofs.Orders.{greatest-first}
@@ -80,13 +79,6 @@ some-more test xs k x s next lt is e =
 
 pub greatest-step : (x : ℤ) (xs : List ℤ) (s next : ℤ) → next ≡ int_max x s → greatest_from s (x ∷ xs) ≡ greatest_from next xs
 greatest-step x xs s next e = sym (ap (λ m. greatest_from m xs) e ∙ greatest-first x s xs)
-
--- ---- an item of a list is a member of its images
-
-pub among-at : {A B : Type 0} (b : A → B) (xs : List A) (k : ℕ) (x : A) → k < length xs → x ≡ get_or xs k x → Among (map b xs) (b x)
-among-at b [] k x lt is = absurd (omega arith)
-among-at b (y ∷ ys) zero x lt is = inl (ap b (sym is))
-among-at b (y ∷ ys) (suc k) x lt is = inr (among-at b ys k x (omega arith) is)
 
 -- ---- a list that is copied item by item
 

@@ -11,13 +11,12 @@ use Rattle.viz_base.specs.declared.styles.Side.TheVariants as of_side
 use Rattle.viz_calc.specs.State.{IsSmall}
 use Rattle.viz_calc.specs.World.{Reading}
 use Rattle.layout_semantics.specs.Extremes.{greatest_from, least_from}
-use Rattle.layout_semantics.specs.Floats.{FloatBox, left_ones, right_ones, beside, is_relevant, lowest_bottom}
-use Rattle.layout_laws.proofs.Among.{Among, contains, filtered, source}
+use Rattle.layout_semantics.specs.Floats.{FloatBox, left_ones, right_ones, beside, is_relevant, lowest_bottom, float_top}
+use Rattle.layout_laws.proofs.Members.{first_member, later_member, from_filter, from_map}
 use Rattle.layout_laws.proofs.Extremes.{greatest_is_one}
 use Rattle.layout_laws.proofs.Greatest.{greatest_from-any}
 use Rattle.layout_laws.proofs.Levels.{All-append}
 use Rattle.lay_float.specs.Limits.{AllHalf, AreHalf, IsHalf}
-use Rattle.lay_float.specs.Places.{top_from}
 use Rattle.lay_float.specs.Readings.{box_at, boxes_at}
 use Rattle.lay_float.specs.declared.floats.PlacedFloat.{PlacedFloat}
 use Rattle.lay_float.specs.steps.Shelves.{facing}
@@ -95,8 +94,8 @@ any_relevant {N} at clear (f ∷ fs) e =
 pub lowest_has : (P : ℤ → Type 0) (clear : Clear) (fs : List FloatBox) (z : ℤ) → ((f : FloatBox) → Contains fs f → P f.box.bottom) → lowest_bottom clear fs ≡ Some z → P z
 lowest_has P clear fs z each e = by (filter (is_relevant clear) fs) refl
   where
-    one_of : (g : FloatBox) → Among (filter (is_relevant clear) fs) g → P g.box.bottom
-    one_of g i = each g (contains fs g (filtered (is_relevant clear) fs g i).0)
+    one_of : (g : FloatBox) → Contains (filter (is_relevant clear) fs) g → P g.box.bottom
+    one_of g i = each g (from_filter (is_relevant clear) fs g i).0
 
     by : (gs : List FloatBox) → filter (is_relevant clear) fs ≡ gs → P z
     by [] s = let t : None ≡ Some z = (rw s at e) in absurd (cc)
@@ -105,12 +104,12 @@ lowest_has P clear fs z each e = by (filter (is_relevant clear) fs) refl
         let same : greatest_from g.box.bottom (map (λ (f : FloatBox). f.box.bottom) gs) ≡ z = cc in
         subst P same (one (greatest_is_one g.box.bottom (map (λ (f : FloatBox). f.box.bottom) gs)))
       where
-        one : (greatest_from g.box.bottom (map (λ (f : FloatBox). f.box.bottom) gs) ≡ g.box.bottom) ⊎ Among (map (λ (f : FloatBox). f.box.bottom) gs) (greatest_from g.box.bottom (map (λ (f : FloatBox). f.box.bottom) gs))
+        one : (greatest_from g.box.bottom (map (λ (f : FloatBox). f.box.bottom) gs) ≡ g.box.bottom) ⊎ Contains (map (λ (f : FloatBox). f.box.bottom) gs) (greatest_from g.box.bottom (map (λ (f : FloatBox). f.box.bottom) gs))
             → P (greatest_from g.box.bottom (map (λ (f : FloatBox). f.box.bottom) gs))
-        one (inl u) = subst P (sym u) (one_of g (subst (λ (l : List FloatBox). Among l g) (sym s) (inl refl)))
+        one (inl u) = subst P (sym u) (one_of g (subst (λ (l : List FloatBox). Contains l g) (sym s) (first_member gs refl)))
         one (inr i) =
-            let f = source (λ (f : FloatBox). f.box.bottom) gs (greatest_from g.box.bottom (map (λ (f : FloatBox). f.box.bottom) gs)) i in
-            subst P f.2 (one_of f.0 (subst (λ (l : List FloatBox). Among l f.0) (sym s) (inr f.1)))
+            let f = from_map (λ (f : FloatBox). f.box.bottom) gs (greatest_from g.box.bottom (map (λ (f : FloatBox). f.box.bottom) gs)) i in
+            subst P f.2 (one_of f.0 (subst (λ (l : List FloatBox). Contains l f.0) (sym s) (later_member gs f.1)))
 
 pub bottom_small : (clear : Clear) (fs : List FloatBox) (z : ℤ) → AreHalf fs [] → Some z ≡ lowest_bottom clear fs → IsSmall z
 bottom_small clear fs z half e = lowest_has IsSmall clear fs z (λ f i. (edges_fit fs f half i).1.1.1.0) (sym e)
@@ -119,7 +118,7 @@ bottom_small clear fs z half e = lowest_has IsSmall clear fs z (λ f i. (edges_f
 
 -- what each bottom and the numbers given have, it has
 pub top_has : (P : ℤ → Type 0) (clear : Clear) (fs : List FloatBox) (least : Option ℤ) (y : ℤ) → ((f : FloatBox) → Contains fs f → P f.box.bottom) → P y → AllByRecursion P (option_to_list least)
-    → P (top_from clear fs least y)
+    → P (float_top clear fs least y)
 top_has P clear fs least y each own rest =
     greatest_from-any P y (option_to_list least ++ option_to_list (lowest_bottom clear fs)) own
     (All-append P (option_to_list least) (option_to_list (lowest_bottom clear fs)) rest (by (lowest_bottom clear fs) refl))
@@ -128,12 +127,12 @@ top_has P clear fs least y each own rest =
     by None e = tt
     by (Some z) e = (lowest_has P clear fs z each e, tt)
 
-pub top_half : (clear : Clear) (fs : List FloatBox) (least : Option ℤ) (y : ℤ) → AreHalf fs (y ∷ option_to_list least) → IsHalf (top_from clear fs least y)
+pub top_half : (clear : Clear) (fs : List FloatBox) (least : Option ℤ) (y : ℤ) → AreHalf fs (y ∷ option_to_list least) → IsHalf (float_top clear fs least y)
 top_half clear fs least y half = top_has IsHalf clear fs least y (λ f i. (half.edges f i).1.1.1.0) half.numbers.0 (all least half.numbers.1)
   where
     all : (o : Option ℤ) → AllHalf (option_to_list o) → AllByRecursion IsHalf (option_to_list o)
     all None a = tt
     all (Some z) a = (a.0, tt)
 
-pub top_small : (clear : Clear) (fs : List FloatBox) (least : Option ℤ) (y : ℤ) → AreHalf fs (y ∷ option_to_list least) → IsSmall (top_from clear fs least y)
-top_small clear fs least y half = half_small (top_from clear fs least y) (top_half clear fs least y half)
+pub top_small : (clear : Clear) (fs : List FloatBox) (least : Option ℤ) (y : ℤ) → AreHalf fs (y ∷ option_to_list least) → IsSmall (float_top clear fs least y)
+top_small clear fs least y half = half_small (float_top clear fs least y) (top_half clear fs least y half)

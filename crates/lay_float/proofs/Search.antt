@@ -1,5 +1,5 @@
 -- The top that is found, from the highest one downwards, is the highest free one.
-use Rattle.std.proofs.Common.{◌≡◌, ℕ, zero, suc, ◌<◌, ◌≤◌, ℤ, ◌≤ℤ◌, ◌<ℤ◌, Bool, true, false, not, int_le, int_lt, IsTrue, List, [], ◌∷◌, length, map, filter, Option, Some, None, refl, sym, ap, ◌∙◌, subst, inl, inr, ◌⊎◌, arith}
+use Rattle.std.proofs.Common.{◌≡◌, ℕ, zero, suc, ◌<◌, ◌≤◌, ℤ, ◌≤ℤ◌, ◌<ℤ◌, Bool, true, false, not, int_le, int_lt, IsTrue, List, [], ◌∷◌, length, map, filter, Option, Some, None, refl, sym, ap, ◌∙◌, subst, inl, inr, ◌⊎◌, arith, Contains, ⊎_elim}
 use Rattle.std.specs.Prelude.{unwrap_or}
 use Rattle.std.specs.Int.{int_min}
 use Rattle.std.proofs.lemmas.Int.{ints}
@@ -7,7 +7,7 @@ use Rattle.viz_base.specs.declared.layouts.Band.{Band}
 use Rattle.viz_base.specs.declared.styles.Side.{Side}
 use Rattle.layout_semantics.specs.Extremes.{least_from}
 use Rattle.layout_semantics.specs.Floats.{FloatBox, is_allowed, farthest_at, highest_top, candidate_tops, below_all, highest_free}
-use Rattle.layout_laws.proofs.Among.{Among, filtered, filters, image, source}
+use Rattle.layout_laws.proofs.Members.{no_member, first_member, later_member, first_or_later, by_member, from_filter, to_filter, to_map, from_map}
 use Rattle.layout_laws.proofs.Extremes.{below_greatest, start_below_greatest, above_least, start_above_least, least_at_least, least_is_one}
 use Rattle.layout_laws.proofs.Truths.{le, is_le, lt, is_lt}
 use Rattle.lay_float.specs.steps.Shelves.{shelf_on, is_free, sooner, soonest, next_top, free_top}
@@ -62,23 +62,26 @@ no_more y m (f ∷ fs) l = by (int_le f.box.bottom y) (int_le f.box.bottom m) re
     by false true p q rest = rw (p, q) (omega arith)
     by false false p q rest = rw (p, q) (omega arith)
 
-fewer : (y m : ℤ) (fs : List FloatBox) (g : FloatBox) → y ≤ℤ m → Among fs g → IsTrue (ends_below y g) → int_le g.box.bottom m ≡ true → length (filter (ends_below m) fs) < length (filter (ends_below y) fs)
-fewer y m [] g l i p q = elim i [ ]
-fewer y m (f ∷ fs) g l (inl e) p q =
-    let before : int_le f.box.bottom y ≡ false = by (int_le f.box.bottom y) (subst (λ (h : FloatBox). IsTrue (ends_below y h)) (sym e) p) in
-    let after : int_le f.box.bottom m ≡ true = subst (λ (h : FloatBox). int_le h.box.bottom m ≡ true) (sym e) q in
-    rw (before, after) (let rest = no_more y m fs l in omega arith)
+fewer : (y m : ℤ) (fs : List FloatBox) (g : FloatBox) → y ≤ℤ m → Contains fs g → IsTrue (ends_below y g) → int_le g.box.bottom m ≡ true → length (filter (ends_below m) fs) < length (filter (ends_below y) fs)
+fewer y m [] g l i p q = no_member i
+fewer y m (f ∷ fs) g l i p q = at (first_or_later f fs g i) (λ j. fewer y m fs g l j p q)
   where
-    by : (b : Bool) → IsTrue (not b) → b ≡ false
-    by true h = absurd (cc)
-    by false h = refl
-fewer y m (f ∷ fs) g l (inr i) p q = by (int_le f.box.bottom y) (int_le f.box.bottom m) refl refl (fewer y m fs g l i p q)
-  where
+    fails : (b : Bool) → IsTrue (not b) → b ≡ false
+    fails true h = absurd (cc)
+    fails false h = refl
+
     by : (a b : Bool) → int_le f.box.bottom y ≡ a → int_le f.box.bottom m ≡ b → length (filter (ends_below m) fs) < length (filter (ends_below y) fs) → length (filter (ends_below m) (f ∷ fs)) < length (filter (ends_below y) (f ∷ fs))
     by true true s t rest = rw (s, t) rest
     by true false s t rest = let above = le f.box.bottom y s in let u = is_le f.box.bottom m (omega (arith, ints)) in absurd (cc)
     by false true s t rest = rw (s, t) (omega arith)
     by false false s t rest = rw (s, t) (omega arith)
+
+    at : (f ≡ g) ⊎ Contains fs g → (Contains fs g → length (filter (ends_below m) fs) < length (filter (ends_below y) fs)) → length (filter (ends_below m) (f ∷ fs)) < length (filter (ends_below y) (f ∷ fs))
+    at (inl e) again =
+        let before : int_le f.box.bottom y ≡ false = fails (int_le f.box.bottom y) (subst (λ (h : FloatBox). IsTrue (ends_below y h)) (sym e) p) in
+        let after : int_le f.box.bottom m ≡ true = subst (λ (h : FloatBox). int_le h.box.bottom m ≡ true) (sym e) q in
+        rw (before, after) (let rest = no_more y m fs l in omega arith)
+    at (inr j) again = by (int_le f.box.bottom y) (int_le f.box.bottom m) refl refl (again j)
 
 pub at_most : (y : ℤ) (fs : List FloatBox) → length (filter (ends_below y) fs) ≤ length fs
 at_most y [] = omega arith
@@ -102,15 +105,14 @@ module _ (floats : List FloatBox) (side : Side) (width : ℤ) (cb : Band ℤ) (t
 
   -- a top that may be the one looked for
   abbrev Candidate : ℤ → Type 0
-  Candidate y = (y ≡ high) ⊎ ((high <ℤ y) × Among (bottoms floats) y)
+  Candidate y = (y ≡ high) ⊎ ((high <ℤ y) × Contains (bottoms floats) y)
 
-  candidate : (y : ℤ) → Among (candidate_tops floats high) y → Candidate y
-  candidate y (inl e) = inl (sym e)
-  candidate y (inr i) = let f = filtered (int_lt high) (bottoms floats) y i in inr (lt high y f.1, f.0)
+  candidate : (y : ℤ) → Contains (candidate_tops floats high) y → Candidate y
+  candidate y i = ⊎_elim (λ e. inl (sym e)) (λ j. let f = from_filter (int_lt high) (bottoms floats) y j in inr (lt high y f.1, f.0)) (first_or_later high (filter (int_lt high) (bottoms floats)) y i)
 
-  is_candidate : (y : ℤ) → Candidate y → Among (candidate_tops floats high) y
-  is_candidate y (inl e) = inl (sym e)
-  is_candidate y (inr c) = inr (filters (int_lt high) (bottoms floats) y c.1 (is_lt high y c.0))
+  is_candidate : (y : ℤ) → Candidate y → Contains (candidate_tops floats high) y
+  is_candidate y (inl e) = first_member _ (sym e)
+  is_candidate y (inr c) = later_member _ (to_filter (int_lt high) (bottoms floats) y c.1 (is_lt high y c.0))
 
   record Found (y : ℤ) : Type 0 where
     allows : IsTrue (free y)
@@ -120,7 +122,7 @@ module _ (floats : List FloatBox) (side : Side) (width : ℤ) (cb : Band ℤ) (t
   same : (y : ℤ) → high ≤ℤ y → stands y ≡ free y
   same y h = free_is_allowed floats width cb top y
       (let t = start_below_greatest top (map (λ (f : FloatBox). f.box.top) floats) in omega (arith, ints))
-      (λ f i. let t = below_greatest top (map (λ (f : FloatBox). f.box.top) floats) f.box.top (image (λ (f : FloatBox). f.box.top) floats f i) in omega (arith, ints))
+      (λ f i. let t = below_greatest top (map (λ (f : FloatBox). f.box.top) floats) f.box.top (to_map (λ (f : FloatBox). f.box.top) floats f i) in omega (arith, ints))
       side
 
   stands_alone : (y : ℤ) → filter (ends_below y) floats ≡ [] → stands y ≡ true
@@ -129,8 +131,8 @@ module _ (floats : List FloatBox) (side : Side) (width : ℤ) (cb : Band ℤ) (t
   -- where there is no place at a top, the next one is the highest bottom below it
   record Next (y m : ℤ) : Type 0 where
     lower : y <ℤ m
-    bottom : Among (bottoms floats) m
-    highest : (f : FloatBox) → Among floats f → IsTrue (ends_below y f) → m ≤ℤ f.box.bottom
+    bottom : Contains (bottoms floats) m
+    highest : (f : FloatBox) → Contains floats f → IsTrue (ends_below y f) → m ≤ℤ f.box.bottom
     fewer : length (filter (ends_below m) floats) < length (filter (ends_below y) floats)
 
   next_of : (y : ℤ) (g : FloatBox) (gs : List FloatBox) → filter (ends_below y) floats ≡ g ∷ gs → Next y (next_top floats y)
@@ -139,28 +141,28 @@ module _ (floats : List FloatBox) (side : Side) (width : ℤ) (cb : Band ℤ) (t
       m : ℤ
       m = least_from g.box.bottom (bottoms gs)
 
-      one : (f : FloatBox) × Among (g ∷ gs) f × (f.box.bottom ≡ m)
+      one : (f : FloatBox) × Contains (g ∷ gs) f × (f.box.bottom ≡ m)
       one = at (least_is_one g.box.bottom (bottoms gs))
         where
-          at : ((m ≡ g.box.bottom) ⊎ Among (bottoms gs) m) → (f : FloatBox) × Among (g ∷ gs) f × (f.box.bottom ≡ m)
-          at (inl s) = (g, inl refl, sym s)
-          at (inr i) = let s = source (λ (f : FloatBox). f.box.bottom) gs m i in (s.0, inr s.1, s.2)
+          at : ((m ≡ g.box.bottom) ⊎ Contains (bottoms gs) m) → (f : FloatBox) × Contains (g ∷ gs) f × (f.box.bottom ≡ m)
+          at (inl s) = (g, first_member gs refl, sym s)
+          at (inr i) = let s = from_map (λ (f : FloatBox). f.box.bottom) gs m i in (s.0, later_member gs s.1, s.2)
 
-      inside : Among floats one.0 × IsTrue (ends_below y one.0)
-      inside = filtered (ends_below y) floats one.0 (subst (λ (fs : List FloatBox). Among fs one.0) (sym e) one.1)
+      inside : Contains floats one.0 × IsTrue (ends_below y one.0)
+      inside = from_filter (ends_below y) floats one.0 (subst (λ (fs : List FloatBox). Contains fs one.0) (sym e) one.1)
 
       lower : y <ℤ m
       lower = subst (λ (z : ℤ). y <ℤ z) one.2 (below y one.0 inside.1)
 
-      not_below : (f : FloatBox) → Among (g ∷ gs) f → m ≤ℤ f.box.bottom
-      not_below f (inl s) = subst (λ (h : FloatBox). m ≤ℤ h.box.bottom) s (start_above_least g.box.bottom (bottoms gs))
-      not_below f (inr i) = above_least g.box.bottom (bottoms gs) f.box.bottom (image (λ (f : FloatBox). f.box.bottom) gs f i)
+      not_below : (f : FloatBox) → Contains (g ∷ gs) f → m ≤ℤ f.box.bottom
+      not_below f i = by_member (λ (h : FloatBox). m ≤ℤ h.box.bottom) g gs f i (start_above_least g.box.bottom (bottoms gs))
+          (λ j. above_least g.box.bottom (bottoms gs) f.box.bottom (to_map (λ (f : FloatBox). f.box.bottom) gs f j))
 
       found : Next y m
       found = record {
         lower = lower;
-        bottom = subst (λ (z : ℤ). Among (bottoms floats) z) one.2 (image (λ (f : FloatBox). f.box.bottom) floats one.0 inside.0);
-        highest = λ f i b. not_below f (subst (λ (fs : List FloatBox). Among fs f) e (filters (ends_below y) floats f i b));
+        bottom = subst (λ (z : ℤ). Contains (bottoms floats) z) one.2 (to_map (λ (f : FloatBox). f.box.bottom) floats one.0 inside.0);
+        highest = λ f i b. not_below f (subst (λ (fs : List FloatBox). Contains fs f) e (to_filter (ends_below y) floats f i b));
         fewer = fewer y m floats one.0 (omega (arith, ints, lower)) inside.0 inside.1 (is_le one.0.box.bottom m (omega (arith, ints, one.2)));
       }
 
@@ -194,7 +196,7 @@ module _ (floats : List FloatBox) (side : Side) (width : ℤ) (cb : Band ℤ) (t
       at : Candidate c → y <ℤ c → next_top floats y ≤ℤ c
       at (inl s) lower = absurd (omega (arith, ints))
       at (inr j) lower =
-          let f = source (λ (f : FloatBox). f.box.bottom) floats c j.1 in
+          let f = from_map (λ (f : FloatBox). f.box.bottom) floats c j.1 in
           subst (λ (z : ℤ). next_top floats y ≤ℤ z) f.2 ((next y e).highest f.0 f.1 (is_below y f.0 (subst (λ (z : ℤ). y <ℤ z) (sym f.2) lower)))
 
   search : (n : ℕ) (y : ℤ) → length (filter (ends_below y) floats) ≤ n → high ≤ℤ y → Candidate y → ((c : ℤ) → Candidate c → IsTrue (free c) → y ≤ℤ c) → Found (free_top n floats side width cb y)
@@ -228,7 +230,7 @@ module _ (floats : List FloatBox) (side : Side) (width : ℤ) (cb : Band ℤ) (t
 
     up : highest_free floats side width cb top high ≤ℤ free_top n floats side width cb high
     up = above_least (below_all floats high) (filter free (candidate_tops floats high)) (free_top n floats side width cb high)
-        (filters free (candidate_tops floats high) (free_top n floats side width cb high) (is_candidate (free_top n floats side width cb high) found.among) found.allows)
+        (to_filter free (candidate_tops floats high) (free_top n floats side width cb high) (is_candidate (free_top n floats side width cb high) found.among) found.allows)
 
     not_lower : (y : ℤ) → Candidate y → y ≤ℤ below_all floats high
     not_lower y (inl s) = subst (λ (z : ℤ). z ≤ℤ below_all floats high) (sym s) (start_below_greatest high (bottoms floats))
@@ -237,7 +239,7 @@ module _ (floats : List FloatBox) (side : Side) (width : ℤ) (cb : Band ℤ) (t
     lowest : free_top n floats side width cb high ≤ℤ highest_free floats side width cb top high
     lowest = least_at_least (below_all floats high) (filter free (candidate_tops floats high)) (free_top n floats side width cb high)
         (not_lower (free_top n floats side width cb high) found.among)
-        (λ c i. let s = filtered free (candidate_tops floats high) c i in found.above c (candidate c s.0) s.1)
+        (λ c i. let s = from_filter free (candidate_tops floats high) c i in found.above c (candidate c s.0) s.1)
 
     pub free_top_is : free_top n floats side width cb high ≡ highest_free floats side width cb top high
     free_top_is = omega (arith, ints, up, lowest)

@@ -1,11 +1,11 @@
 -- Floats that end above a top do nothing at the tops from there on.
-use Rattle.std.proofs.Common.{◌≡◌, ℕ, zero, suc, ◌≤◌, ℤ, ◌≤ℤ◌, Bool, true, false, cond, int_le, List, [], ◌∷◌, length, filter, Option, refl, sym, ap, ◌∙◌, subst, inr, arith}
+use Rattle.std.proofs.Common.{◌≡◌, ℕ, zero, suc, ◌≤◌, ℤ, ◌≤ℤ◌, Bool, true, false, cond, int_le, List, [], ◌∷◌, length, filter, Option, refl, sym, ap, ◌∙◌, subst, arith, Contains}
 use Rattle.std.specs.Prelude.{None, unwrap_or}
 use Rattle.std.proofs.lemmas.Int.{ints}
 use Rattle.viz_base.specs.declared.layouts.Band.{Band}
 use Rattle.viz_base.specs.declared.styles.Side.{Side}
 use Rattle.layout_semantics.specs.Floats.{FloatBox}
-use Rattle.layout_laws.proofs.Among.{Among, among, contains}
+use Rattle.layout_laws.proofs.Members.{later_member}
 use Rattle.layout_laws.proofs.Truths.{le, is_le}
 use Rattle.lay_float.specs.Limits.{AreHalf}
 use Rattle.lay_float.specs.steps.Shelves.{Shelf, with_float, shelf_from, shelf_on, is_free, sooner, soonest, next_top, free_top, place_on, open_from}
@@ -42,18 +42,18 @@ filter_skips h (f ∷ fs) = by (int_le f.box.bottom h) refl (filter_skips h fs)
     by true e rest = rw e rest
     by false e rest = rw (e, e) refl
 
-among_skips : (h : ℤ) (fs : List FloatBox) (g : FloatBox) → Among (open_from h fs) g → Among fs g
+member_skips : (h : ℤ) (fs : List FloatBox) (g : FloatBox) → Contains (open_from h fs) g → Contains fs g
 unfolding open_from
-among_skips h [] g i = i
-among_skips h (f ∷ fs) g i = by (int_le f.box.bottom h) (among_skips h fs g) i
+member_skips h [] g i = i
+member_skips h (f ∷ fs) g i = by (int_le f.box.bottom h) (member_skips h fs g) i
   where
-    by : (b : Bool) → (Among (open_from h fs) g → Among fs g) → Among (cond b (open_from h fs) (f ∷ fs)) g → Among (f ∷ fs) g
-    by true rest j = inr (rest j)
+    by : (b : Bool) → (Contains (open_from h fs) g → Contains fs g) → Contains (cond b (open_from h fs) (f ∷ fs)) g → Contains (f ∷ fs) g
+    by true rest j = later_member fs (rest j)
     by false rest j = j
 
 pub half_skips : (h : ℤ) (fs : List FloatBox) (zs : List ℤ) → AreHalf fs zs → AreHalf (open_from h fs) zs
 half_skips h fs zs half = record {
-  edges = λ f i. half.edges f (contains fs f (among_skips h fs f (among (open_from h fs) f i)));
+  edges = λ f i. half.edges f (member_skips h fs f i);
   numbers = half.numbers;
 }
 

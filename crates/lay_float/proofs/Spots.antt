@@ -8,7 +8,7 @@ use Rattle.viz_base.specs.declared.styles.Side.{Side}
 use Rattle.viz_base.specs.declared.styles.Side.TheVariants as of_side
 use Rattle.viz_calc.specs.State.{IsSmall, AllSmall}
 use Rattle.layout_semantics.specs.Floats.{FloatBox, is_left, beside, farthest_at, highest_top, candidate_tops, below_all, highest_free, float_at, is_allowed}
-use Rattle.layout_laws.proofs.Among.{Among, contains, filtered, image, source}
+use Rattle.layout_laws.proofs.Members.{by_member, from_filter, to_map, from_map}
 use Rattle.layout_laws.proofs.Beside.{left_edge, right_edge}
 use Rattle.layout_laws.proofs.Extremes.{below_greatest, greatest_is_one, least_is_one}
 use Rattle.lay_float.specs.Limits.{IsHalf, AllHalf, AreHalf}
@@ -49,7 +49,7 @@ at-end n k fs side width cb y le = let none : n - k ≡ 0 = omega arith in rw no
 
 -- ---- the place
 
-farthest_is : (fs : List FloatBox) (side : Side) (width : ℤ) (cb : Band ℤ) (y : ℤ) → ((f : FloatBox) → Among fs f → f.box.top ≤ℤ y) → spot_on side width (place_on fs side cb y) ≡ farthest_at fs side width cb y
+farthest_is : (fs : List FloatBox) (side : Side) (width : ℤ) (cb : Band ℤ) (y : ℤ) → ((f : FloatBox) → Contains fs f → f.box.top ≤ℤ y) → spot_on side width (place_on fs side cb y) ≡ farthest_at fs side width cb y
 farthest_is fs of_side.Left width cb y low = ap (λ x. record { x = x; y = y }) (edge_is of_side.Left cb y fs ∙ ap (λ near. (beside near cb).left) (next_ones y fs low))
 farthest_is fs of_side.Right width cb y low = ap (λ x. record { x = x -ℤ width; y = y }) (edge_is of_side.Right cb y fs ∙ ap (λ near. (beside near cb).right) (next_ones y fs low))
 
@@ -74,7 +74,7 @@ spot_is fs side size cb top =
     farthest_is fs side size.width cb (highest_free fs side size.width cb top (highest_top fs top))
     (λ f i.
     let low = high_low fs side size.width cb top in
-    let t = below_greatest top (map (λ (f : FloatBox). f.box.top) fs) f.box.top (image (λ (f : FloatBox). f.box.top) fs f i) in
+    let t = below_greatest top (map (λ (f : FloatBox). f.box.top) fs) f.box.top (to_map (λ (f : FloatBox). f.box.top) fs f i) in
     omega (arith, ints))
 
 -- ---- sizes
@@ -93,13 +93,13 @@ room_half : (fs : List FloatBox) (cb : Band ℤ) (test : FloatBox → Bool) → 
     → IsHalf (beside (filter test fs) cb).left × IsHalf (beside (filter test fs) cb).right
 room_half fs cb test half l r = (on_left (left_edge fs cb test), on_right (right_edge fs cb test))
   where
-    on_left : (((beside (filter test fs) cb).left ≡ cb.left) ⊎ ((f : FloatBox) × Among fs f × IsTrue (test f) × IsTrue (is_left f) × (f.box.right ≡ (beside (filter test fs) cb).left))) → IsHalf (beside (filter test fs) cb).left
+    on_left : (((beside (filter test fs) cb).left ≡ cb.left) ⊎ ((f : FloatBox) × Contains fs f × IsTrue (test f) × IsTrue (is_left f) × (f.box.right ≡ (beside (filter test fs) cb).left))) → IsHalf (beside (filter test fs) cb).left
     on_left (inl e) = subst IsHalf (sym e) l
-    on_left (inr f) = subst IsHalf f.4 (half f.0 (contains fs f.0 f.1)).1.1.0
+    on_left (inr f) = subst IsHalf f.4 (half f.0 f.1).1.1.0
 
-    on_right : (((beside (filter test fs) cb).right ≡ cb.right) ⊎ ((f : FloatBox) × Among fs f × IsTrue (test f) × (is_left f ≡ false) × (f.box.left ≡ (beside (filter test fs) cb).right))) → IsHalf (beside (filter test fs) cb).right
+    on_right : (((beside (filter test fs) cb).right ≡ cb.right) ⊎ ((f : FloatBox) × Contains fs f × IsTrue (test f) × (is_left f ≡ false) × (f.box.left ≡ (beside (filter test fs) cb).right))) → IsHalf (beside (filter test fs) cb).right
     on_right (inl e) = subst IsHalf (sym e) r
-    on_right (inr f) = subst IsHalf f.4 (half f.0 (contains fs f.0 f.1)).0
+    on_right (inr f) = subst IsHalf f.4 (half f.0 f.1).0
 
 side_half : (side : Side) (b : Band ℤ) → IsHalf b.left × IsHalf b.right → IsHalf (side_edge side b)
 side_half of_side.Left b h = h.0
@@ -119,12 +119,12 @@ module _ (fs : List FloatBox) (side : Side) (width : ℤ) (cb : Band ℤ) (top :
   high_half : IsHalf (highest_top fs top)
   high_half = by (greatest_is_one top (map (λ (f : FloatBox). f.box.top) fs))
     where
-      by : (highest_top fs top ≡ top) ⊎ Among (map (λ (f : FloatBox). f.box.top) fs) (highest_top fs top) → IsHalf (highest_top fs top)
+      by : (highest_top fs top ≡ top) ⊎ Contains (map (λ (f : FloatBox). f.box.top) fs) (highest_top fs top) → IsHalf (highest_top fs top)
       by (inl e) = subst IsHalf (sym e) half.numbers.1.1.1.0
-      by (inr i) = let f = source (λ (f : FloatBox). f.box.top) fs (highest_top fs top) i in subst IsHalf f.2 (half.edges f.0 (contains fs f.0 f.1)).1.0
+      by (inr i) = let f = from_map (λ (f : FloatBox). f.box.top) fs (highest_top fs top) i in subst IsHalf f.2 (half.edges f.0 f.1).1.0
 
-  bottom_half : (y : ℤ) → Among (map (λ (f : FloatBox). f.box.bottom) fs) y → IsHalf y
-  bottom_half y i = let f = source (λ (f : FloatBox). f.box.bottom) fs y i in subst IsHalf f.2 (half.edges f.0 (contains fs f.0 f.1)).1.1.1.0
+  bottom_half : (y : ℤ) → Contains (map (λ (f : FloatBox). f.box.bottom) fs) y → IsHalf y
+  bottom_half y i = let f = from_map (λ (f : FloatBox). f.box.bottom) fs y i in subst IsHalf f.2 (half.edges f.0 f.1).1.1.1.0
 
   top_half : IsHalf (highest_free fs side width cb top (highest_top fs top))
   top_half = by (least_is_one (below_all fs (highest_top fs top)) (filter free (candidate_tops fs (highest_top fs top))))
@@ -132,18 +132,18 @@ module _ (fs : List FloatBox) (side : Side) (width : ℤ) (cb : Band ℤ) (top :
       free : ℤ → Bool
       free y = is_allowed fs side width cb top (farthest_at fs side width cb y)
 
-      below : (below_all fs (highest_top fs top) ≡ highest_top fs top) ⊎ Among (map (λ (f : FloatBox). f.box.bottom) fs) (below_all fs (highest_top fs top)) → IsHalf (below_all fs (highest_top fs top))
+      below : (below_all fs (highest_top fs top) ≡ highest_top fs top) ⊎ Contains (map (λ (f : FloatBox). f.box.bottom) fs) (below_all fs (highest_top fs top)) → IsHalf (below_all fs (highest_top fs top))
       below (inl e) = subst IsHalf (sym e) high_half
       below (inr i) = bottom_half (below_all fs (highest_top fs top)) i
 
-      candidate : (y : ℤ) → Among (candidate_tops fs (highest_top fs top)) y → IsHalf y
-      candidate y (inl e) = subst IsHalf e high_half
-      candidate y (inr i) = bottom_half y (filtered (int_lt (highest_top fs top)) (map (λ (f : FloatBox). f.box.bottom) fs) y i).0
+      candidate : (y : ℤ) → Contains (candidate_tops fs (highest_top fs top)) y → IsHalf y
+      candidate y i = by_member IsHalf (highest_top fs top) (filter (int_lt (highest_top fs top)) (map (λ (f : FloatBox). f.box.bottom) fs)) y i high_half
+          (λ j. bottom_half y (from_filter (int_lt (highest_top fs top)) (map (λ (f : FloatBox). f.box.bottom) fs) y j).0)
 
-      by : (highest_free fs side width cb top (highest_top fs top) ≡ below_all fs (highest_top fs top)) ⊎ Among (filter free (candidate_tops fs (highest_top fs top))) (highest_free fs side width cb top (highest_top fs top))
+      by : (highest_free fs side width cb top (highest_top fs top) ≡ below_all fs (highest_top fs top)) ⊎ Contains (filter free (candidate_tops fs (highest_top fs top))) (highest_free fs side width cb top (highest_top fs top))
           → IsHalf (highest_free fs side width cb top (highest_top fs top))
       by (inl e) = subst IsHalf (sym e) (below (greatest_is_one (highest_top fs top) (map (λ (f : FloatBox). f.box.bottom) fs)))
-      by (inr i) = candidate (highest_free fs side width cb top (highest_top fs top)) (filtered free (candidate_tops fs (highest_top fs top)) (highest_free fs side width cb top (highest_top fs top)) i).0
+      by (inr i) = candidate (highest_free fs side width cb top (highest_top fs top)) (from_filter free (candidate_tops fs (highest_top fs top)) (highest_free fs side width cb top (highest_top fs top)) i).0
 
   -- the corner of the float that is placed
   corner_small : IsSmall (spot_on side width (place_on fs side cb (highest_free fs side width cb top (highest_top fs top)))).x

@@ -1,7 +1,7 @@
-ghost use Rattle.std.specs.Prelude.{◌≡◌, ◌+ℤ◌, ⊤, ◌∷◌, [], None, IsTrue, map, is_some, ◌||◌};
+ghost use Rattle.std.specs.Prelude.{◌≡◌, ⊤, None, IsTrue, is_some, ◌||◌};
 ghost use Rattle.std.specs.List.{list_any};
 ghost use Rattle.viz_calc.specs.World.{Reading};
-ghost use Rattle.viz_calc.specs.Run.{Stands, Goes, Blames};
+ghost use Rattle.viz_calc.specs.Run.{Goes, Blames};
 ghost use Rattle.lay_float.specs.Readings.{box_at, boxes_at, stretch_at};
 ghost use Rattle.lay_float.specs.steps.Bands.{meets_between, narrowed, room_beside, room_from, is_relevant_side, lower, lowest_from};
 ghost use Rattle.lay_float.specs.steps.Lent.{lent_at, room_at};

@@ -1,16 +1,16 @@
 //! Floats over arithmetic that goes on after a halt, for crates whose own work is over such arithmetic too.
-ghost use Rattle.std.specs.Prelude.{◌≡◌, ◌+ℤ◌, ◌∷◌, [], ◌++◌, ⊤, IsTrue, is_some, map};
+ghost use Rattle.std.specs.Prelude.{◌≡◌, ◌+ℤ◌, ◌∷◌, [], ◌++◌, ⊤, IsTrue, is_some};
 ghost use Rattle.std.specs.List.{list_any};
 ghost use Rattle.std.specs.Option.{option_to_list};
 ghost use Rattle.viz_calc.specs.World.{Reading};
 ghost use Rattle.viz_calc.specs.Run.{Stands, Goes, Blames, BlamesButMem, Fits};
 ghost use Rattle.layout_semantics.specs.Extremes.{greatest_from};
-ghost use Rattle.layout_semantics.specs.Floats.{FloatBox, placed_float, highest_top, highest_free, float_at, meets, band_at, is_relevant, lowest_bottom};
+ghost use Rattle.layout_semantics.specs.Floats.{placed_float, highest_top, float_at, float_top, meets, band_at, is_relevant, lowest_bottom};
 ghost use Rattle.lay_float.specs.Limits.{AreHalf};
-ghost use Rattle.lay_float.specs.Places.{IsHighest, top_from};
+ghost use Rattle.lay_float.specs.Places.{IsHighest};
 ghost use Rattle.lay_float.specs.Readings.{box_at, boxes_at, floats_at, extent_at, spot_at, stretch_at, option_at};
 ghost use Rattle.lay_float.specs.steps.Lent.{lent_at, place_at};
-ghost use Rattle.lay_float.specs.steps.Shelves.{place_on, spot_on};
+ghost use Rattle.lay_float.specs.steps.Shelves.{spot_on};
 
 use crate::bands::{any_between, room_between};
 use crate::extremes::larger;
@@ -254,7 +254,7 @@ pub fn float_top<S: Steady>(
     y: &S::Num,
 ) -> S::Num
     ensures goes { Goes (S.run calc.old) (S.run calc.new) }
-    ensures value { Stands (S.run calc.new) (S.at result) (λ e. top_from clear (boxes_at S.at floats.now e)
+    ensures value { Stands (S.run calc.new) (S.at result) (λ e. float_top clear (boxes_at S.at floats.now e)
         (lent_at S.at least.entry e) (S.at y.now e)) }
     ensures cause { Blames (S.run calc.old) (S.run calc.new) ((e : Reading) → IsTrue ((S.run calc.old).is_open e)
         → AreHalf (boxes_at S.at floats.now e) (S.at y.now e ∷ option_to_list (lent_at S.at least.entry e))) }

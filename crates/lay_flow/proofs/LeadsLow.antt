@@ -45,7 +45,7 @@ edge-near (stands edge) run l r = let t = l.top in let u = l.bottom in record { 
 module _ (tree : BoxTree) (w : World) where
   pub lead-inner : (cb : Band ℤ) (b : ℕ) → enters tree b ≡ true → IsLeadLow tree w cb b → AreKidsLow tree w (inner_band tree w cb b) (flow_children tree b)
   unfolding inner_band
-  lead-inner cb b goes l = ((kids-fit tree w cb b goes (λ band k r. (l band k r).fits)).0, λ i h f band k r. l band k (inside cb band b i k goes h f r))
+  lead-inner cb b goes l = ((kids-fit tree w cb b goes (λ band k r. (l band k r).fits)).0, λ i h f band k r. l band k (inside goes h f r))
 
   module _ (p : ℕ → Bool) where
     on-low : (g rest : Going) → IsRunLow g.run → IsRunLow rest.run → IsRunLow (going_on g rest).run

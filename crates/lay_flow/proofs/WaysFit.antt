@@ -102,7 +102,7 @@ module _ (tree : BoxTree) (w : World) (height : ℕ) (own turned : ℕ → Bound
   lead-low : (cb : Band ℤ) (k : ℕ) (band : Band ℤ) (d : ℕ) → LeadsTo tree w cb k band d → (b : Bounds) → k < length tree.boxes → Kid cb k → is_floated_at tree k ≡ false → IsBandIn b cb → IsNarrow (grown b (rises k)) → IsBoxLow tree w band d
   unfolding inner_band
   lead-low _ _ _ _ (itself cb k) b l i f at n = box-low b cb k (inside-more b (grown b (rises k)) (all_around (2 ^ 88)) (inside-grown b (rises k)) n) at i f
-  lead-low _ _ _ _ (leads_inside cb band k j d goes lt h r) b l i f at n =
+  lead-low _ _ _ _ (leads_inside {cb = cb} {band = band} {b = k} {i = j} {k = d} goes lt h r) b l i f at n =
       lead-low (block_band tree w cb k) (slice_index_or (flow_children tree k) j 0) band d r (grown b (all_around (16 * s)))
       (at-place (λ m. m < length tree.boxes) (flow_children tree k) j (all-within k) lt)
       (at-place (Kid (block_band tree w cb k)) (flow_children tree k) j (inner-kids cb k i f goes) lt) h

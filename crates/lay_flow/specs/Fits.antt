@@ -13,7 +13,7 @@ use Rattle.layout_semantics.specs.Horizontal.{placing_of, widths}
 use Rattle.layout_semantics.specs.Preferred.{preferred}
 use Rattle.layout_semantics.specs.Replaced.{by_ratio, intrinsic, replaced_size}
 use Rattle.layout_semantics.specs.Verticals.{verticals}
-use Rattle.lay_width.specs.Fitting.{VerticalsFit, HeldFits, WidthsFit, DefiniteFits_to, HeightFits, GivenFits, ReplacedFits}
+use Rattle.lay_width.specs.Fitting.{VerticalsFit, HeldFits, in_block, WidthsFit, DefiniteFits_to, HeightFits, GivenFits, ReplacedFits}
 use Rattle.flow_limits.specs.Bounds.{Bounds, all_around, IsPlacedIn}
 use Rattle.flow_limits.specs.Boxes.{AreWidthsSmall, AreSidesSmall, IsHeightHeld}
 use Rattle.flow_limits.specs.Inline.{IsSmall}
@@ -52,7 +52,7 @@ module _ (tree : BoxTree) (w : World) (height b : ℕ) where
 
   -- its terms across and down, before its height
   pub record IsShapeFit (room : ℤ) : Type 0 where
-    pub across : WidthsFit tree w height b room (placing_of tree b) (preferred tree w b)
+    pub across : WidthsFit (in_block tree w height b room) (placing_of tree b) (preferred tree w b)
     pub down : VerticalsFit tree w b room
     pub widths : AreWidthsSmall (2 ^ 90) (widths tree w height b room)
     pub sides : AreSidesSmall (2 ^ 90) (verticals tree w b room)

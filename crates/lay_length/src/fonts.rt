@@ -1,13 +1,12 @@
 //! Font sizes, line heights and the measures of fonts (CSS 2.1, 10.8.1, 15.7).
-ghost use Rattle.std.specs.Prelude.{◌≡◌, ◌≤◌, ◌*◌, ℤ, pos, length, slice_get, sum_by, option_and_then, IsTrue, IfSome, option_map, [], ◌∷◌};
+ghost use Rattle.std.specs.Prelude.{◌≡◌, ◌≤◌, ◌*◌, length, slice_get, option_and_then, IsTrue, IfSome, option_map, [], ◌∷◌};
 ghost use Rattle.std.specs.Option.{option_map_or, option_copied};
 ghost use Rattle.std.specs.Str.{chars};
 ghost use Rattle.viz_base.specs.Styles.{is_good_size, is_good_line};
 ghost use Rattle.viz_base.specs.declared.lengths.Size.TheVariants as of_size;
 ghost use Rattle.viz_base.specs.declared.styles.Style.{Style as StyleOf};
-ghost use Rattle.viz_calc.specs.World.{Reading};
 ghost use Rattle.viz_calc.specs.Run.{Stands, Goes, Fits, Blames};
-ghost use Rattle.viz_base.specs.FontSizes.{fraction, default_size, parent_in, advance, measured};
+ghost use Rattle.viz_base.specs.FontSizes.{fraction, default_size, parent_in};
 ghost use Rattle.layout_semantics.specs.Fonts.{font_size as font_size_of, line_height as line_height_of};
 ghost use Rattle.layout_semantics.specs.Fonts.{ascent as ascent_of, descent as descent_of, text_width as text_width_of};
 ghost use Rattle.lay_length.specs.Ways.{size_way, part_way, line_way};

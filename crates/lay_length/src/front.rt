@@ -1,5 +1,5 @@
 //! The public calls over any `Calc`, each its engine within a `Latch`.
-ghost use Rattle.std.specs.Prelude.{◌≡◌, ◌≤◌, length, IfOk, IfErr};
+ghost use Rattle.std.specs.Prelude.{◌≤◌, length, IfOk, IfErr};
 ghost use Rattle.std.specs.Str.{chars};
 ghost use Rattle.viz_calc.specs.State.{Stands, Grows, AreOpen, Fits, Cause};
 ghost use Rattle.layout_semantics.specs.Fonts.{font_size as font_size_of, line_height as line_height_of};

@@ -1,6 +1,5 @@
 //! Used lengths (CSS 2.1, 4.3.2).
-ghost use Rattle.std.specs.Prelude.{◌≡◌, pos, [], ◌∷◌};
-ghost use Rattle.viz_calc.specs.World.{Reading};
+ghost use Rattle.std.specs.Prelude.{pos, [], ◌∷◌};
 ghost use Rattle.viz_calc.specs.Run.{Stands, Goes, Fits, Blames};
 ghost use Rattle.viz_base.specs.FontSizes.{fraction};
 ghost use Rattle.layout_semantics.specs.Lengths.{used as used_length};

@@ -50,9 +50,9 @@ module _ {N : Type 0} (at : N → Reading → ℤ) (e : Reading) (c : InlineCont
       ∙ (ap (λ x. listed (laying (length ms) c x start parts)) tall_is
       ∙ (ap (λ x. listed (laying (length ms) c (tallest_by c items) x parts)) start_is
       ∙ (ap (λ x. listed (laying (length ms) c (tallest_by c items) (before_all y least floats) x)) (parts-read at e s)
-      ∙ (ap (λ x. lined c items x s.marks.now y least floats) m
-      ∙ (ap (λ x. lined c items (measured (width_in c) items) x y least floats) k
-      ∙ (ap (λ x. lined c x (measured (width_in c) x) (marks (may_part c.tree) None None x) y least floats) i
+      ∙ (ap (λ x. lined c items x s.marks.now (before_all y least floats)) m
+      ∙ (ap (λ x. lined c items (measured (width_in c) items) x (before_all y least floats)) k
+      ∙ (ap (λ x. lined c x (measured (width_in c) x) (marks (may_part c.tree) None None x) (before_all y least floats)) i
       ∙ lined-is c y least floats))))))))
     where
       listed : LaidLines → LineList

@@ -12,17 +12,17 @@ use Rattle.layout_semantics.specs.Lines.{align_of}
 use Rattle.lay_float.specs.Limits.{AreHalf}
 use Rattle.lay_line.specs.Limits.{floats_reach, PlacesFit}
 use Rattle.lay_line.specs.LineFits.{OnLine, SpotsOnLine, ContentFits}
-use Rattle.lay_line.specs.LinesFit.{EndFits}
+use Rattle.lay_line.specs.LinesFit.{Start, EndFits}
 use Rattle.lay_line.specs.steps.Lining.{no_floats, left_in}
 use Rattle.lay_line.specs.steps.Loading.{Load, bare}
 use Rattle.lay_line.specs.steps.Measured.{Measured}
 use Rattle.lay_line.specs.steps.Meeting.{Slot, placed_all}
 use Rattle.lay_line.specs.steps.Words.{room_in}
-use Rattle.lay_line.proofs.Growth.{MetFits, all_placed, floats_more}
+use Rattle.lay_line.proofs.Growth.{ground_at, MetFits, all_placed, floats_more}
 use Rattle.lay_line.proofs.OnLines.{all_small, begin_within}
 use Rattle.lay_line.proofs.Placing.{Within, max_within, more_within, all_half, room_within}
 
-module _ (c : InlineContext) (y least : ℤ) (n : ℕ) (slot : Slot) (f : Load) (items : List Measured) (fits : EndFits c y least n slot f items) where
+module _ (c : InlineContext) (start : Start) (slot : Slot) (f : Load) (items : List Measured) (fits : EndFits c start slot f items) where
   abbrev bottom : ℤ
   bottom = slot.top +ℤ height_of_extent f.extent
 
@@ -30,7 +30,7 @@ module _ (c : InlineContext) (y least : ℤ) (n : ℕ) (slot : Slot) (f : Load) 
   room = room_in c f.met.floats slot.top slot.tall
 
   abbrev late : Met
-  late = placed_all c (int_max least slot.top) bottom (record { spots = f.met.spots; floats = f.met.floats; waiting = [] }) f.met.waiting
+  late = placed_all c (int_max start.least slot.top) bottom (record { spots = f.met.spots; floats = f.met.floats; waiting = [] }) f.met.waiting
 
   pub high_small : IsSmall (height_of_extent f.extent)
   high_small = let a = fits.numbers.1.1.1.1.1.0 in let b = fits.numbers.1.1.1.1.1.1.0 in omega (arith, ints)
@@ -51,18 +51,18 @@ module _ (c : InlineContext) (y least : ℤ) (n : ℕ) (slot : Slot) (f : Load) 
   pub top_small : AllSmall (slot.top ∷ [])
   top_small = all_small (2 ^ 95) (slot.top ∷ []) (omega arith) (fits.numbers.1.1.1.0, tt)
 
-  late_starts : MetFits c (2 ^ 99) f.met.floats (int_max least slot.top) bottom (record { spots = f.met.spots; floats = f.met.floats; waiting = [] }) (f.met.waiting ++ [])
+  late_starts : MetFits (ground_at c (2 ^ 99) f.met.floats (int_max start.least slot.top) bottom) (record { spots = f.met.spots; floats = f.met.floats; waiting = [] }) (f.met.waiting ++ [])
   late_starts = record {
     most = 2 ^ 97;
     floats = floats_more (2 ^ 95) (2 ^ 97) f.met.floats (omega arith) fits.floats;
-    numbers = let p = fits.numbers.0 in let q = fits.numbers.1.0 in let l = fits.numbers.1.1.0 in let t = fits.numbers.1.1.1.0 in let b = bottom_within in (omega arith, (omega arith, (max_within (2 ^ 97) least slot.top (omega arith) (omega arith), (b, tt))));
+    numbers = let p = fits.numbers.0 in let q = fits.numbers.1.0 in let l = fits.numbers.1.1.0 in let t = fits.numbers.1.1.1.0 in let b = bottom_within in (omega arith, (omega arith, (max_within (2 ^ 97) start.least slot.top (omega arith) (omega arith), (b, tt))));
     more = [];
     front = sym (append-nil f.met.floats);
     spots = fits.spots;
     room = let none = ap (floats_reach c) (append-nil f.met.waiting) in let w = fits.waiting in omega arith;
   }
 
-  pub late_places : PlacesFit c f.met.floats (int_max least slot.top) bottom f.met.waiting
+  pub late_places : PlacesFit c f.met.floats (int_max start.least slot.top) bottom f.met.waiting
   late_places = record {
     most = late_starts.most;
     floats_within = late_starts.floats;
@@ -71,7 +71,7 @@ module _ (c : InlineContext) (y least : ℤ) (n : ℕ) (slot : Slot) (f : Load) 
   }
 
   late_spots : SpotsOnLine late.spots
-  late_spots = (all_placed c (2 ^ 99) (omega arith) f.met.floats (int_max least slot.top) bottom (record { spots = f.met.spots; floats = f.met.floats; waiting = [] }) f.met.waiting [] late_starts).spots
+  late_spots = (all_placed c (2 ^ 99) (omega arith) f.met.floats (int_max start.least slot.top) bottom (record { spots = f.met.spots; floats = f.met.floats; waiting = [] }) f.met.waiting [] late_starts).spots
 
   room_near : Within (2 ^ 95) room.left × Within (2 ^ 95) room.right
   unfolding room_in
@@ -103,16 +103,16 @@ module _ (c : InlineContext) (y least : ℤ) (n : ℕ) (slot : Slot) (f : Load) 
       at_most : {a : ℕ} → a ≤ 4 * 2 ^ 95 → a ≤ 2 ^ 97
       at_most w = omega arith
 
-  pub empty_spots : SpotsOnLine (placed_all c least y (no_floats (take n f.met.floats)) (float_boxes (bare items))).spots
-  empty_spots = (all_placed c (2 ^ 99) (omega arith) (take n f.met.floats) least y (no_floats (take n f.met.floats)) (float_boxes (bare items)) [] starts).spots
+  pub empty_spots : SpotsOnLine (placed_all c start.least start.y (no_floats (take start.floats f.met.floats)) (float_boxes (bare items))).spots
+  empty_spots = (all_placed c (2 ^ 99) (omega arith) (take start.floats f.met.floats) start.least start.y (no_floats (take start.floats f.met.floats)) (float_boxes (bare items)) [] starts).spots
     where
-      starts : MetFits c (2 ^ 99) (take n f.met.floats) least y (no_floats (take n f.met.floats)) (float_boxes (bare items) ++ [])
+      starts : MetFits (ground_at c (2 ^ 99) (take start.floats f.met.floats) start.least start.y) (no_floats (take start.floats f.met.floats)) (float_boxes (bare items) ++ [])
       starts = record {
         most = fits.empty.most;
         floats = fits.empty.floats_within;
         numbers = fits.empty.numbers;
         more = [];
-        front = sym (append-nil (take n f.met.floats));
+        front = sym (append-nil (take start.floats f.met.floats));
         spots = tt;
         room = let none = ap (floats_reach c) (append-nil (float_boxes (bare items))) in let r = fits.empty.room in omega arith;
       }

@@ -22,7 +22,7 @@ use Rattle.lay_line.specs.steps.Measured.{Measured, held_with}
 use Rattle.lay_line.specs.steps.Meeting.{Slot, placed_all}
 use Rattle.lay_line.specs.steps.Words.{strut_in}
 use Rattle.lay_line.proofs.Filling.{weight_joined, held_grows, bare_joined, boxes_joined}
-use Rattle.lay_line.proofs.Growth.{MetFits, LoadFits, floats_more, reach_joined, all_placed, as_places, all_met, items_high, boxes_high, top_in_within, all_loaded}
+use Rattle.lay_line.proofs.Growth.{ground_at, on_slot, MetFits, LoadFits, floats_more, reach_joined, all_placed, as_places, all_met, items_high, boxes_high, top_in_within, all_loaded}
 use Rattle.lay_line.proofs.Parts.{taken-front}
 use Rattle.lay_line.proofs.Placing.{max_within, all_half}
 
@@ -75,7 +75,7 @@ module _ (c : InlineContext) (tall : ℤ) (now : SoFar) (first : List Measured) 
       ∙ (boxes_joined (bare first) (bare (joined_parts rest))
       ∙ (ap (λ l. l ++ rest_boxes) first_boxes ∙ append_assoc ahead_boxes late_boxes rest_boxes))
 
-  begins : MetFits c reached now.floats now.least now.y (no_floats now.floats) (ahead_boxes ++ (late_boxes ++ rest_boxes))
+  begins : MetFits (ground_at c reached now.floats now.least now.y) (no_floats now.floats) (ahead_boxes ++ (late_boxes ++ rest_boxes))
   begins = record {
     most = r.most;
     floats = r.floats;
@@ -92,14 +92,14 @@ module _ (c : InlineContext) (tall : ℤ) (now : SoFar) (first : List Measured) 
   abbrev before : Met
   before = met_before c now first
 
-  before_fits : MetFits c reached now.floats now.least now.y before (late_boxes ++ rest_boxes)
+  before_fits : MetFits (ground_at c reached now.floats now.least now.y) before (late_boxes ++ rest_boxes)
   unfolding met_before
   before_fits = all_placed c reached within_limit now.floats now.least now.y (no_floats now.floats) ahead_boxes (late_boxes ++ rest_boxes) begins
 
   abbrev slot : Slot
   slot = slot_for c tall now before held.width
 
-  top_fits : MetFits c reached now.floats slot.least slot.top before (late_boxes ++ rest_boxes)
+  top_fits : MetFits (on_slot c reached now.floats slot) before (late_boxes ++ rest_boxes)
   top_fits = record {
     most = before_fits.most;
     floats = before_fits.floats;
@@ -122,7 +122,7 @@ module _ (c : InlineContext) (tall : ℤ) (now : SoFar) (first : List Measured) 
   abbrev load : Load
   load = first_load c slot before now.opened first held
 
-  load_fits : LoadFits c reached r.high now.floats slot load (joined_parts rest)
+  load_fits : LoadFits (on_slot c reached now.floats slot) r.high load (joined_parts rest)
   unfolding first_load loaded
   load_fits = record {
     held = let one = weight_joined first (joined_parts rest) in let grows = held_grows nothing_held first in let widths = r.widths in omega arith;
@@ -133,7 +133,7 @@ module _ (c : InlineContext) (tall : ℤ) (now : SoFar) (first : List Measured) 
   abbrev full : Load × List (List Measured)
   full = loading c slot load rest
 
-  full_fits : LoadFits c reached r.high now.floats slot full.0 (joined_parts full.1)
+  full_fits : LoadFits (on_slot c reached now.floats slot) r.high full.0 (joined_parts full.1)
   full_fits = all_loaded c reached r.high within_limit now.floats slot r.reaches load rest load_fits
 
   abbrev items : List Measured
@@ -211,7 +211,7 @@ module _ (c : InlineContext) (tall : ℤ) (now : SoFar) (first : List Measured) 
     reach = λ at. (r.boxes at).reach;
   }
 
-  pub end_fits : EndFits c now.y now.least (length now.floats) slot full.0 items
+  pub end_fits : EndFits c (record { y = now.y; least = now.least; floats = length now.floats }) slot full.0 items
   end_fits = record {
     boxes = r.boxes;
     numbers = (
@@ -241,7 +241,7 @@ module _ (c : InlineContext) (tall : ℤ) (now : SoFar) (first : List Measured) 
         (record { most = r.most; floats_within = r.floats; numbers = r.numbers; room = let room = r.room in let s = split_boxes in omega arith });
   }
     where
-      m : MetFits c reached now.floats slot.least slot.top full.0.met (float_boxes (bare (joined_parts full.1)))
+      m : MetFits (on_slot c reached now.floats slot) full.0.met (float_boxes (bare (joined_parts full.1)))
       m = full_fits.met
 
       reached_low : reached ≤ 2 ^ 95
@@ -286,7 +286,7 @@ module _ (c : InlineContext) (tall : ℤ) (now : SoFar) (first : List Measured) 
   unfolding full_line
   after_full fewer = made _ late.most late.floats late.numbers late_room fewer
     where
-      m : MetFits c reached now.floats slot.least slot.top full.0.met (float_boxes (bare (joined_parts full.1)))
+      m : MetFits (on_slot c reached now.floats slot) full.0.met (float_boxes (bare (joined_parts full.1)))
       m = full_fits.met
 
       least : ℤ
@@ -301,7 +301,7 @@ module _ (c : InlineContext) (tall : ℤ) (now : SoFar) (first : List Measured) 
       high : ℕ
       high = m.most + 2 * r.high
 
-      starts : MetFits c (high + floats_reach c full.0.met.waiting) now.floats least bottom met (full.0.met.waiting ++ [])
+      starts : MetFits (ground_at c (high + floats_reach c full.0.met.waiting) now.floats least bottom) met (full.0.met.waiting ++ [])
       starts = record {
         most = high;
         floats = floats_more m.most high full.0.met.floats (omega arith) m.floats;
@@ -316,7 +316,7 @@ module _ (c : InlineContext) (tall : ℤ) (now : SoFar) (first : List Measured) 
       limit : high + floats_reach c full.0.met.waiting ≤ 2 ^ 99
       limit = let room = m.room in let l = r.low in let all_room = r.room in omega arith
 
-      late : MetFits c (high + floats_reach c full.0.met.waiting) now.floats least bottom (placed_all c least bottom met full.0.met.waiting) []
+      late : MetFits (ground_at c (high + floats_reach c full.0.met.waiting) now.floats least bottom) (placed_all c least bottom met full.0.met.waiting) []
       late = all_placed c (high + floats_reach c full.0.met.waiting) limit now.floats least bottom met full.0.met.waiting [] starts
 
       late_room : late.most + floats_reach c (float_boxes (bare (joined_parts full.1))) ≤ reached + 2 * r.high
@@ -327,7 +327,7 @@ module _ (c : InlineContext) (tall : ℤ) (now : SoFar) (first : List Measured) 
   after_empty fewer = subst (λ fs. RestAfter (record { y = now.y; least = now.least; floats = (placed_all c now.least now.y (no_floats fs) (float_boxes (bare items))).floats; opened = full.0.opened; baseline = now.baseline }))
       (sym begun_again) (made _ again.most again.floats again.numbers again_room fewer)
     where
-      starts : MetFits c reached now.floats now.least now.y (no_floats now.floats) (float_boxes (bare items) ++ float_boxes (bare (joined_parts full.1)))
+      starts : MetFits (ground_at c reached now.floats now.least now.y) (no_floats now.floats) (float_boxes (bare items) ++ float_boxes (bare (joined_parts full.1)))
       starts = record {
         most = r.most;
         floats = r.floats;
@@ -338,7 +338,7 @@ module _ (c : InlineContext) (tall : ℤ) (now : SoFar) (first : List Measured) 
         room = let s = split_boxes in let j = reach_joined c (float_boxes (bare items)) (float_boxes (bare (joined_parts full.1))) in omega arith;
       }
 
-      again : MetFits c reached now.floats now.least now.y (placed_all c now.least now.y (no_floats now.floats) (float_boxes (bare items))) (float_boxes (bare (joined_parts full.1)))
+      again : MetFits (ground_at c reached now.floats now.least now.y) (placed_all c now.least now.y (no_floats now.floats) (float_boxes (bare items))) (float_boxes (bare (joined_parts full.1)))
       again = all_placed c reached within_limit now.floats now.least now.y (no_floats now.floats) (float_boxes (bare items)) (float_boxes (bare (joined_parts full.1))) starts
 
       again_room : again.most + floats_reach c (float_boxes (bare (joined_parts full.1))) ≤ reached + 2 * r.high

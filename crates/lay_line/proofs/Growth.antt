@@ -1,7 +1,6 @@
 -- How far the floats and the numbers of lines come to stand, line by line.
 use Rattle.std.proofs.Common.{◌≡◌, ℕ, ◌+◌, ◌≤◌, ◌^◌, ℤ, Bool, true, false, cond, int_lt, List, [], ◌∷◌, ◌++◌, fold, Option, Some, None, refl, subst, ap, ◌∙◌, append_assoc, arith}
 use Rattle.std.specs.Prelude.{unwrap_or}
-use Rattle.std.specs.Option.{option_to_list}
 use Rattle.std.proofs.lemmas.Int.{ints, clamps}
 use Rattle.viz_base.specs.declared.layouts.Extent.{Extent}
 use Rattle.viz_base.specs.declared.layouts.Spot.{Spot}
@@ -10,8 +9,7 @@ use Rattle.viz_base.specs.declared.styles.Clear.TheVariants as of_clear
 use Rattle.viz_base.specs.declared.styles.Side.{Side}
 use Rattle.viz_base.specs.declared.styles.Side.TheVariants as of_side
 use Rattle.viz_base.specs.declared.styles.Style.{Style}
-use Rattle.layout_semantics.specs.Extremes.{greatest_from}
-use Rattle.layout_semantics.specs.Floats.{FloatBox, float_at, lowest_bottom, placed_float}
+use Rattle.layout_semantics.specs.Floats.{FloatBox, float_at, float_top, placed_float}
 use Rattle.layout_semantics.specs.InlineContent.{Item, float_boxes}
 use Rattle.layout_semantics.specs.Lengths.{own}
 use Rattle.layout_semantics.specs.LineFilling.{Met, float_size, none_waits, with_waiting}
@@ -24,8 +22,7 @@ use Rattle.lay_line.specs.steps.Measured.{Measured, held_with}
 use Rattle.lay_line.specs.steps.Meeting.{Slot, kept_at, placed_next, placed_all, met_at_spot, met_next, met_all, leaves, stands_at, top_in}
 use Rattle.lay_line.specs.steps.Tops.{lower, with_top, with_float, top_or}
 use Rattle.lay_line.specs.steps.Words.{size_in, spot_in, floats_with, reach_in}
-use Rattle.std.proofs.Common.{inl, inr}
-use Rattle.layout_laws.proofs.Among.{among, contains}
+use Rattle.layout_laws.proofs.Members.{first_member, later_member}
 use Rattle.lay_line.proofs.Filling.{weight_joined, held_grows, bare_joined, boxes_joined}
 use Rattle.lay_line.proofs.Placing.{Within, max_within, IsNear, more_within, spot_near, grown_within, top_within}
 
@@ -42,19 +39,34 @@ spots_joined : (a : List (ℕ × Spot ℤ)) (s : ℕ × Spot ℤ) → SpotsOnLin
 spots_joined [] s on one = (one, tt)
 spots_joined (x ∷ a) s on one = (on.0, spots_joined a s on.1 one)
 
--- floats met behind those of `old`, with these boxes still to come, within `total` with all that wait or come
-pub record MetFits (c : InlineContext) (total : ℕ) (old : List FloatBox) (least y : ℤ) (met : Met) (boxes : List ℕ) : Type 0 where
+-- what stays the same while floats are met: the content, how far all of them may come to stand,
+-- the floats that stood before, and where those that are met come, none standing above `least`
+pub record Ground : Type 0 where
+  pub c : InlineContext
+  pub total : ℕ
+  pub old : List FloatBox
+  pub least : ℤ
+  pub y : ℤ
+
+abbrev pub ground_at : InlineContext → ℕ → List FloatBox → ℤ → ℤ → Ground
+ground_at c total old least y = record { c = c; total = total; old = old; least = least; y = y }
+
+abbrev pub on_slot : InlineContext → ℕ → List FloatBox → Slot → Ground
+on_slot c total old slot = ground_at c total old slot.least slot.top
+
+-- floats met behind the old ones, with these boxes still to come, within the total with all that wait or come
+pub record MetFits (g : Ground) (met : Met) (boxes : List ℕ) : Type 0 where
   pub most : ℕ
   pub floats : FloatsWithin most met.floats
-  pub numbers : AllWithin most (c.cb.left ∷ c.cb.right ∷ least ∷ y ∷ [])
+  pub numbers : AllWithin most (g.c.cb.left ∷ g.c.cb.right ∷ g.least ∷ g.y ∷ [])
   pub more : List FloatBox
-  pub front : met.floats ≡ old ++ more
+  pub front : met.floats ≡ g.old ++ more
   pub spots : SpotsOnLine met.spots
-  pub room : most + floats_reach c met.waiting + floats_reach c boxes ≤ total
+  pub room : most + floats_reach g.c met.waiting + floats_reach g.c boxes ≤ g.total
 
 module _ (c : InlineContext) (total : ℕ) (limit : total ≤ 2 ^ 99) (old : List FloatBox) (least y : ℤ) where
   -- a float more stands
-  keeps : (met : Met) (at : ℕ) (boxes : List ℕ) → MetFits c total old least y met (at ∷ boxes) → MetFits c total old least y (kept_at c met at (spot_in c met.floats least y at)) boxes
+  keeps : (met : Met) (at : ℕ) (boxes : List ℕ) → MetFits (ground_at c total old least y) met (at ∷ boxes) → MetFits (ground_at c total old least y) (kept_at c met at (spot_in c met.floats least y at)) boxes
   unfolding spot_in floats_with size_in
   keeps met at boxes p = record {
     most = p.most + float_reach c at;
@@ -76,7 +88,7 @@ module _ (c : InlineContext) (total : ℕ) (limit : total ≤ 2 ^ 99) (old : Lis
       size = float_size c at
 
       top : ℤ
-      top = greatest_from y (option_to_list (Some least) ++ option_to_list (lowest_bottom clear met.floats))
+      top = float_top clear met.floats (Some least) y
 
       spot : Spot ℤ
       spot = float_at met.floats side size c.cb top
@@ -94,7 +106,7 @@ module _ (c : InlineContext) (total : ℕ) (limit : total ≤ 2 ^ 99) (old : Lis
       on = let x = near.x in let far = near.y in let room = p.room in (omega arith, (omega arith, tt))
 
   -- or waits
-  waits : (met : Met) (at : ℕ) (boxes : List ℕ) → MetFits c total old least y met (at ∷ boxes) → MetFits c total old least y (with_waiting met at) boxes
+  waits : (met : Met) (at : ℕ) (boxes : List ℕ) → MetFits (ground_at c total old least y) met (at ∷ boxes) → MetFits (ground_at c total old least y) (with_waiting met at) boxes
   waits met at boxes p = record {
     most = p.most;
     floats = p.floats;
@@ -105,35 +117,35 @@ module _ (c : InlineContext) (total : ℕ) (limit : total ≤ 2 ^ 99) (old : Lis
     room = let room = p.room in let all = reach_joined c met.waiting (at ∷ []) in omega arith;
   }
 
-  placed_fits : (met : Met) (at : ℕ) (boxes : List ℕ) → MetFits c total old least y met (at ∷ boxes) → MetFits c total old least y (placed_next c least y met at) boxes
+  placed_fits : (met : Met) (at : ℕ) (boxes : List ℕ) → MetFits (ground_at c total old least y) met (at ∷ boxes) → MetFits (ground_at c total old least y) (placed_next c least y met at) boxes
   unfolding placed_next
   placed_fits met at boxes p = keeps met at boxes p
 
-  pub all_placed : (met : Met) (a b : List ℕ) → MetFits c total old least y met (a ++ b) → MetFits c total old least y (placed_all c least y met a) b
+  pub all_placed : (met : Met) (a b : List ℕ) → MetFits (ground_at c total old least y) met (a ++ b) → MetFits (ground_at c total old least y) (placed_all c least y met a) b
   all_placed met [] b p = p
   all_placed met (at ∷ a) b p = all_placed (placed_next c least y met at) a b (placed_fits met at (a ++ b) p)
 
   -- as the clauses have it
-  pub as_places : (met : Met) (boxes : List ℕ) → MetFits c total old least y met boxes → PlacesFit c met.floats least y boxes
+  pub as_places : (met : Met) (boxes : List ℕ) → MetFits (ground_at c total old least y) met boxes → PlacesFit c met.floats least y boxes
   as_places met boxes p = record { most = p.most; floats_within = p.floats; numbers = p.numbers; room = let room = p.room in omega arith }
 
 module _ (c : InlineContext) (total : ℕ) (limit : total ≤ 2 ^ 99) (old : List FloatBox) (slot : Slot) (held : ℤ) where
-  met_fits : (met : Met) (at : ℕ) (boxes : List ℕ) → MetFits c total old slot.least slot.top met (at ∷ boxes) → MetFits c total old slot.least slot.top (met_next c slot held met at) boxes
+  met_fits : (met : Met) (at : ℕ) (boxes : List ℕ) → MetFits (on_slot c total old slot) met (at ∷ boxes) → MetFits (on_slot c total old slot) (met_next c slot held met at) boxes
   unfolding met_next
   met_fits met at boxes p = outer (none_waits met)
     where
       spot : Spot ℤ
       spot = spot_in c met.floats slot.least slot.top at
 
-      inner : (b : Bool) → MetFits c total old slot.least slot.top (cond b (kept_at c met at spot) (with_waiting met at)) boxes
+      inner : (b : Bool) → MetFits (on_slot c total old slot) (cond b (kept_at c met at spot) (with_waiting met at)) boxes
       inner true = keeps c total limit old slot.least slot.top met at boxes p
       inner false = waits c total limit old slot.least slot.top met at boxes p
 
-      outer : (b : Bool) → MetFits c total old slot.least slot.top (cond b (met_at_spot c slot held met at spot) (with_waiting met at)) boxes
+      outer : (b : Bool) → MetFits (on_slot c total old slot) (cond b (met_at_spot c slot held met at spot) (with_waiting met at)) boxes
       outer true = inner (leaves c slot held (floats_with c met.floats at spot) spot.y)
       outer false = waits c total limit old slot.least slot.top met at boxes p
 
-  pub all_met : (met : Met) (a b : List ℕ) → MetFits c total old slot.least slot.top met (a ++ b) → MetFits c total old slot.least slot.top (met_all c slot held met a) b
+  pub all_met : (met : Met) (a b : List ℕ) → MetFits (on_slot c total old slot) met (a ++ b) → MetFits (on_slot c total old slot) (met_all c slot held met a) b
   all_met met [] b p = p
   all_met met (at ∷ a) b p = all_met (met_next c slot held met at) a b (met_fits met at (a ++ b) p)
 
@@ -183,7 +195,7 @@ module _ (m : ℕ) (c : InlineContext) (tall width y : ℤ) (w : Within m y) (fl
 
   fold_within : (p : ℤ → Bool) (best : Option ℤ) (fs : List FloatBox) → SomeWithin best → FloatsWithin m fs → SomeWithin (fold (with_float p y) best fs)
   fold_within p best [] b on = b
-  fold_within p best (f ∷ fs) b on = fold_within p (with_float p y best f) fs (with_within p best f b (on f (contains (f ∷ fs) f (inl refl))).1.1.1.0) (λ g i. on g (contains (f ∷ fs) g (inr (among fs g i))))
+  fold_within p best (f ∷ fs) b on = fold_within p (with_float p y best f) fs (with_within p best f b (on f (first_member fs refl)).1.1.1.0) (λ g i. on g (later_member fs i))
 
   or_within : (o : Option ℤ) → SomeWithin o → Within m (top_or y o)
   or_within None b = w
@@ -200,24 +212,24 @@ module _ (m : ℕ) (c : InlineContext) (tall width y : ℤ) (w : Within m y) (fl
 -- ---- a line takes stretches
 
 -- with these pieces still to come
-pub record LoadFits (c : InlineContext) (total high : ℕ) (old : List FloatBox) (slot : Slot) (f : Load) (pieces : List Measured) : Type 0 where
+pub record LoadFits (g : Ground) (high : ℕ) (f : Load) (pieces : List Measured) : Type 0 where
   pub held : held_size f.held + weight pieces ≤ 2 ^ 95
-  pub met : MetFits c total old slot.least slot.top f.met (float_boxes (bare pieces))
+  pub met : MetFits g f.met (float_boxes (bare pieces))
   pub extent : AllWithin high (f.extent.above ∷ f.extent.below ∷ [])
 
 module _ (c : InlineContext) (total high : ℕ) (limit : total ≤ 2 ^ 99) (old : List FloatBox) (slot : Slot) (reaches : (at : ℕ) → AllWithin high ((reach_in c at).above ∷ (reach_in c at).below ∷ [])) where
-  next_load : (f : Load) (first rest : List Measured) → LoadFits c total high old slot f (first ++ rest)
-      → LoadFits c total high old slot (loaded c slot f (bare first) (float_boxes (bare first)) (held_with f.held first)) rest
+  next_load : (f : Load) (first rest : List Measured) → LoadFits (on_slot c total old slot) high f (first ++ rest)
+      → LoadFits (on_slot c total old slot) high (loaded c slot f (bare first) (float_boxes (bare first)) (held_with f.held first)) rest
   unfolding loaded
   next_load f first rest p = record {
     held = let one = weight_joined first rest in let grows = held_grows f.held first in let held = p.held in omega arith;
     met = all_met c total limit old slot (held_with f.held first).width f.met (float_boxes (bare first)) (float_boxes (bare rest))
-        (subst (λ (l : List ℕ). MetFits c total old slot.least slot.top f.met l) (ap float_boxes (bare_joined first rest) ∙ boxes_joined (bare first) (bare rest)) p.met);
+        (subst (λ (l : List ℕ). MetFits (on_slot c total old slot) f.met l) (ap float_boxes (bare_joined first rest) ∙ boxes_joined (bare first) (bare rest)) p.met);
     extent = items_high c high reaches f.extent (bare first) p.extent;
   }
 
-  pub all_loaded : (f : Load) (parts : List (List Measured)) → LoadFits c total high old slot f (joined_parts parts)
-      → LoadFits c total high old slot (loading c slot f parts).0 (joined_parts (loading c slot f parts).1)
+  pub all_loaded : (f : Load) (parts : List (List Measured)) → LoadFits (on_slot c total old slot) high f (joined_parts parts)
+      → LoadFits (on_slot c total old slot) high (loading c slot f parts).0 (joined_parts (loading c slot f parts).1)
   all_loaded f [] p = p
   all_loaded f (part ∷ parts) p =
       let next = loaded c slot f (bare part) (float_boxes (bare part)) (held_with f.held part) in
@@ -226,7 +238,7 @@ module _ (c : InlineContext) (total high : ℕ) (limit : total ≤ 2 ^ 99) (old 
       after : Load
       after = loaded c slot f (bare part) (float_boxes (bare part)) (held_with f.held part)
 
-      by : (b : Bool) → LoadFits c total high old slot (loading c slot after parts).0 (joined_parts (loading c slot after parts).1)
-          → LoadFits c total high old slot (cond b (loading c slot after parts) (f, part ∷ parts)).0 (joined_parts (cond b (loading c slot after parts) (f, part ∷ parts)).1)
+      by : (b : Bool) → LoadFits (on_slot c total old slot) high (loading c slot after parts).0 (joined_parts (loading c slot after parts).1)
+          → LoadFits (on_slot c total old slot) high (cond b (loading c slot after parts) (f, part ∷ parts)).0 (joined_parts (cond b (loading c slot after parts) (f, part ∷ parts)).1)
       by true again = again
       by false again = p

@@ -33,28 +33,43 @@ module _ (c : InlineContext) (now : SoFar) (slot : Slot) (f : Load) (items : Lis
   unfolding ended_line
   ended-empty t = sym (ap (λ b. cond b (full_line c now slot f items) (empty_line c now f items)) t)
 
+-- what the end of a line is made of
+pub record LineEnd : Type 0 where
+  pub bottom : ℤ
+  pub least : ℤ
+  pub room : Band ℤ
+  pub late : Met
+  pub left : ℤ
+  pub baseline : ℤ
+
 module _ (c : InlineContext) (now : SoFar) (f : Load) (items : List Measured) where
-  abbrev pub full_of : Slot → (bottom least : ℤ) → Band ℤ → Met → (left baseline : ℤ) → LaidLines
-  full_of slot bottom least room late left baseline = record {
-    after = record { y = bottom; least = least; floats = late.floats; opened = f.opened; baseline = Some baseline };
-    entries = box_in c room slot.top bottom ∷ entries_in c (record { baseline = baseline; left = left; right = left +ℤ f.held.width; places = places_of left items; spots = late.spots }) now.opened;
+  abbrev pub full_of : Slot → LineEnd → LaidLines
+  full_of slot end = record {
+    after = record { y = end.bottom; least = end.least; floats = end.late.floats; opened = f.opened; baseline = Some end.baseline };
+    entries = box_in c end.room slot.top end.bottom
+        ∷ entries_in c (record { baseline = end.baseline; left = end.left; right = end.left +ℤ f.held.width; places = places_of end.left items; spots = end.late.spots }) now.opened;
   }
 
-  pub full-is : (slot : Slot) (bottom least : ℤ) (room : Band ℤ) (late : Met) (left baseline : ℤ)
-      → bottom ≡ slot.top +ℤ height_of_extent f.extent → least ≡ int_max now.least slot.top → room ≡ room_in c f.met.floats slot.top slot.tall
-      → late ≡ late_in c least bottom f.met → left ≡ left_in c room f.held.width → baseline ≡ slot.top +ℤ f.extent.above
-      → full_of slot bottom least room late left baseline ≡ full_line c now slot f items
+  pub full-is : (slot : Slot) (end : LineEnd)
+      → end.bottom ≡ slot.top +ℤ height_of_extent f.extent → end.least ≡ int_max now.least slot.top → end.room ≡ room_in c f.met.floats slot.top slot.tall
+      → end.late ≡ late_in c end.least end.bottom f.met → end.left ≡ left_in c end.room f.held.width → end.baseline ≡ slot.top +ℤ f.extent.above
+      → full_of slot end ≡ full_line c now slot f items
   unfolding full_line
-  full-is slot bottom least room late left baseline b l r t x y =
-      let bottom_is = slot.top +ℤ height_of_extent f.extent in
-      let least_is = int_max now.least slot.top in
-      let room_is = room_in c f.met.floats slot.top slot.tall in
-      ap (full_of slot bottom least room late left) y
-      ∙ (ap (λ k. full_of slot bottom least room late k (slot.top +ℤ f.extent.above)) x
-      ∙ (ap (λ k. full_of slot bottom least room k (left_in c room f.held.width) (slot.top +ℤ f.extent.above)) t
-      ∙ (ap (λ k. full_of slot bottom least k (late_in c least bottom f.met) (left_in c k f.held.width) (slot.top +ℤ f.extent.above)) r
-      ∙ (ap (λ k. full_of slot bottom k room_is (late_in c k bottom f.met) (left_in c room_is f.held.width) (slot.top +ℤ f.extent.above)) l
-      ∙ ap (λ k. full_of slot k least_is room_is (late_in c least_is k f.met) (left_in c room_is f.held.width) (slot.top +ℤ f.extent.above)) b))))
+  full-is slot end b l r t x y =
+      ap (λ k. full_of slot (record end { baseline = k })) y
+      ∙ (ap (λ k. full_of slot (record end { left = k; baseline = base })) x
+      ∙ (ap (λ k. full_of slot (record end { late = k; left = left_in c end.room f.held.width; baseline = base })) t
+      ∙ (ap (λ k. full_of slot (record end { room = k; late = late_in c end.least end.bottom f.met; left = left_in c k f.held.width; baseline = base })) r
+      ∙ (ap (λ k. full_of slot (in_room end.bottom k)) l ∙ ap (λ k. full_of slot (in_room k (int_max now.least slot.top))) b))))
+    where
+      base : ℤ
+      base = slot.top +ℤ f.extent.above
+
+      room : Band ℤ
+      room = room_in c f.met.floats slot.top slot.tall
+
+      in_room : (bottom least : ℤ) → LineEnd
+      in_room bottom least = record { bottom = bottom; least = least; room = room; late = late_in c least bottom f.met; left = left_in c room f.held.width; baseline = base }
 
   abbrev pub empty_of : Met → LaidLines
   empty_of met = record { after = record { y = now.y; least = now.least; floats = met.floats; opened = f.opened; baseline = now.baseline }; entries = float_entries met.spots }

@@ -273,7 +273,7 @@ unfolding tallest_by strut_in
 tallest-by c items = ap (λ x. int_max (pos 1) (height_of_extent x)) (reaching-same c (strut c) items)
 
 pub lined-is : (c : InlineContext) (y least : ℤ) (floats : List FloatBox)
-    → lined c (content c.tree c.container) (measured (width_in c) (content c.tree c.container)) (marks (may_part c.tree) None None (content c.tree c.container)) y least floats ≡ lines_in c y least floats
+    → lined c (content c.tree c.container) (measured (width_in c) (content c.tree c.container)) (marks (may_part c.tree) None None (content c.tree c.container)) (before_all y least floats) ≡ lines_in c y least floats
 unfolding lined width_in
 lined-is c y least floats =
     let items = content c.tree c.container in

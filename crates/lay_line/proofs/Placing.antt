@@ -1,5 +1,5 @@
 -- How far floats of lines can come to stand.
-use Rattle.std.proofs.Common.{◌≡◌, ℕ, ◌+◌, ◌≤◌, ◌^◌, ℤ, ◌+ℤ◌, ◌-ℤ◌, Bool, true, false, cond, int_lt, unsigned_abs, List, [], ◌∷◌, ◌++◌, map, filter, None, Some, IsTrue, sym, subst, inl, inr, ◌⊎◌, arith}
+use Rattle.std.proofs.Common.{◌≡◌, ℕ, ◌+◌, ◌≤◌, ◌^◌, ℤ, ◌+ℤ◌, ◌-ℤ◌, Bool, true, false, cond, int_lt, unsigned_abs, List, [], ◌∷◌, ◌++◌, map, filter, None, Some, IsTrue, sym, subst, inl, inr, ◌⊎◌, arith, Contains}
 use Rattle.std.specs.Prelude.{unwrap_or}
 use Rattle.std.specs.Int.{int_max}
 use Rattle.std.proofs.lemmas.Int.{ints, clamps}
@@ -9,19 +9,17 @@ use Rattle.viz_base.specs.declared.layouts.Spot.{Spot}
 use Rattle.viz_base.specs.declared.styles.Clear.{Clear}
 use Rattle.viz_base.specs.declared.styles.Side.{Side}
 use Rattle.viz_base.specs.declared.styles.Side.TheVariants as of_side
-use Rattle.layout_semantics.specs.Extremes.{greatest_from}
-use Rattle.layout_semantics.specs.Floats.{FloatBox, is_left, beside, is_next_to, highest_top, candidate_tops, below_all, highest_free, farthest_at, float_at, is_allowed, lowest_bottom, placed_float, band_at, meets}
-use Rattle.layout_laws.proofs.Among.{Among, among, contains, filtered, source}
+use Rattle.layout_semantics.specs.Floats.{FloatBox, is_left, beside, is_next_to, highest_top, candidate_tops, below_all, highest_free, farthest_at, float_at, is_allowed, float_top, placed_float, band_at, meets}
+use Rattle.std.proofs.lemmas.List.Elements.{Contains-append_cases}
+use Rattle.layout_laws.proofs.Members.{only_member, by_member, from_filter, from_map}
 use Rattle.layout_laws.proofs.Beside.{left_edge, right_edge}
 use Rattle.layout_laws.proofs.Extremes.{greatest_is_one, least_is_one}
-use Rattle.std.specs.Option.{option_to_list}
 use Rattle.viz_base.specs.declared.styles.Clear.TheVariants as of_clear
 use Rattle.viz_base.specs.declared.styles.Style.{Style}
 use Rattle.layout_semantics.specs.Lengths.{own}
 use Rattle.layout_semantics.specs.LineFilling.{Met, float_size, none_waits, with_waiting}
 use Rattle.layout_semantics.specs.LineHeights.{InlineContext}
 use Rattle.lay_float.specs.Limits.{IsHalf, AllHalf, AreHalf}
-use Rattle.lay_float.specs.Places.{top_from}
 use Rattle.lay_float.proofs.Rooms.{top_has}
 use Rattle.lay_float.proofs.Spots.{half_small}
 use Rattle.viz_calc.specs.State.{IsSmall, AllSmall}
@@ -36,27 +34,27 @@ pub max_within : (m : ℕ) (a b : ℤ) → Within m a → Within m b → Within 
 max_within m a b p q = omega (arith, ints, clamps)
 
 module _ (m : ℕ) (fs : List FloatBox) (edges : FloatsWithin m fs) where
-  pub bottom_within : (y : ℤ) → Among (map (λ (f : FloatBox). f.box.bottom) fs) y → Within m y
-  bottom_within y i = let f = source (λ (f : FloatBox). f.box.bottom) fs y i in subst (Within m) f.2 (edges f.0 (contains fs f.0 f.1)).1.1.1.0
+  pub bottom_within : (y : ℤ) → Contains (map (λ (f : FloatBox). f.box.bottom) fs) y → Within m y
+  bottom_within y i = let f = from_map (λ (f : FloatBox). f.box.bottom) fs y i in subst (Within m) f.2 (edges f.0 f.1).1.1.1.0
 
   -- the edges of what floats leave of a stretch
   pub room_within : (cb : Band ℤ) (test : FloatBox → Bool) → Within m cb.left → Within m cb.right → Within m (beside (filter test fs) cb).left × Within m (beside (filter test fs) cb).right
   room_within cb test l r = (on_left (left_edge fs cb test), on_right (right_edge fs cb test))
     where
-      on_left : (((beside (filter test fs) cb).left ≡ cb.left) ⊎ ((f : FloatBox) × Among fs f × IsTrue (test f) × IsTrue (is_left f) × (f.box.right ≡ (beside (filter test fs) cb).left))) → Within m (beside (filter test fs) cb).left
+      on_left : (((beside (filter test fs) cb).left ≡ cb.left) ⊎ ((f : FloatBox) × Contains fs f × IsTrue (test f) × IsTrue (is_left f) × (f.box.right ≡ (beside (filter test fs) cb).left))) → Within m (beside (filter test fs) cb).left
       on_left (inl e) = subst (Within m) (sym e) l
-      on_left (inr f) = subst (Within m) f.4 (edges f.0 (contains fs f.0 f.1)).1.1.0
+      on_left (inr f) = subst (Within m) f.4 (edges f.0 f.1).1.1.0
 
-      on_right : (((beside (filter test fs) cb).right ≡ cb.right) ⊎ ((f : FloatBox) × Among fs f × IsTrue (test f) × (is_left f ≡ false) × (f.box.left ≡ (beside (filter test fs) cb).right))) → Within m (beside (filter test fs) cb).right
-      on_right (inr f) = subst (Within m) f.4 (edges f.0 (contains fs f.0 f.1)).0
+      on_right : (((beside (filter test fs) cb).right ≡ cb.right) ⊎ ((f : FloatBox) × Contains fs f × IsTrue (test f) × (is_left f ≡ false) × (f.box.left ≡ (beside (filter test fs) cb).right))) → Within m (beside (filter test fs) cb).right
+      on_right (inr f) = subst (Within m) f.4 (edges f.0 f.1).0
       on_right (inl e) = subst (Within m) (sym e) r
 
   high_within : (top : ℤ) → Within m top → Within m (highest_top fs top)
   high_within top t = by (greatest_is_one top (map (λ (f : FloatBox). f.box.top) fs))
     where
-      by : (highest_top fs top ≡ top) ⊎ Among (map (λ (f : FloatBox). f.box.top) fs) (highest_top fs top) → Within m (highest_top fs top)
+      by : (highest_top fs top ≡ top) ⊎ Contains (map (λ (f : FloatBox). f.box.top) fs) (highest_top fs top) → Within m (highest_top fs top)
       by (inl e) = subst (Within m) (sym e) t
-      by (inr i) = let f = source (λ (f : FloatBox). f.box.top) fs (highest_top fs top) i in subst (Within m) f.2 (edges f.0 (contains fs f.0 f.1)).1.0
+      by (inr i) = let f = from_map (λ (f : FloatBox). f.box.top) fs (highest_top fs top) i in subst (Within m) f.2 (edges f.0 f.1).1.0
 
   free_within : (side : Side) (width : ℤ) (cb : Band ℤ) (top : ℤ) → Within m top → Within m (highest_free fs side width cb top (highest_top fs top))
   free_within side width cb top t = by (least_is_one (below_all fs (highest_top fs top)) (filter free (candidate_tops fs (highest_top fs top))))
@@ -64,18 +62,18 @@ module _ (m : ℕ) (fs : List FloatBox) (edges : FloatsWithin m fs) where
       free : ℤ → Bool
       free y = is_allowed fs side width cb top (farthest_at fs side width cb y)
 
-      below : (below_all fs (highest_top fs top) ≡ highest_top fs top) ⊎ Among (map (λ (f : FloatBox). f.box.bottom) fs) (below_all fs (highest_top fs top)) → Within m (below_all fs (highest_top fs top))
+      below : (below_all fs (highest_top fs top) ≡ highest_top fs top) ⊎ Contains (map (λ (f : FloatBox). f.box.bottom) fs) (below_all fs (highest_top fs top)) → Within m (below_all fs (highest_top fs top))
       below (inl e) = subst (Within m) (sym e) (high_within top t)
       below (inr i) = bottom_within (below_all fs (highest_top fs top)) i
 
-      candidate : (y : ℤ) → Among (candidate_tops fs (highest_top fs top)) y → Within m y
-      candidate y (inl e) = subst (Within m) e (high_within top t)
-      candidate y (inr i) = bottom_within y (filtered (int_lt (highest_top fs top)) (map (λ (f : FloatBox). f.box.bottom) fs) y i).0
+      candidate : (y : ℤ) → Contains (candidate_tops fs (highest_top fs top)) y → Within m y
+      candidate y i = by_member (Within m) (highest_top fs top) (filter (int_lt (highest_top fs top)) (map (λ (f : FloatBox). f.box.bottom) fs)) y i (high_within top t)
+          (λ j. bottom_within y (from_filter (int_lt (highest_top fs top)) (map (λ (f : FloatBox). f.box.bottom) fs) y j).0)
 
-      by : (highest_free fs side width cb top (highest_top fs top) ≡ below_all fs (highest_top fs top)) ⊎ Among (filter free (candidate_tops fs (highest_top fs top))) (highest_free fs side width cb top (highest_top fs top))
+      by : (highest_free fs side width cb top (highest_top fs top) ≡ below_all fs (highest_top fs top)) ⊎ Contains (filter free (candidate_tops fs (highest_top fs top))) (highest_free fs side width cb top (highest_top fs top))
           → Within m (highest_free fs side width cb top (highest_top fs top))
       by (inl e) = subst (Within m) (sym e) (below (greatest_is_one (highest_top fs top) (map (λ (f : FloatBox). f.box.bottom) fs)))
-      by (inr i) = candidate (highest_free fs side width cb top (highest_top fs top)) (filtered free (candidate_tops fs (highest_top fs top)) (highest_free fs side width cb top (highest_top fs top)) i).0
+      by (inr i) = candidate (highest_free fs side width cb top (highest_top fs top)) (from_filter free (candidate_tops fs (highest_top fs top)) (highest_free fs side width cb top (highest_top fs top)) i).0
 
 -- a float's corner, and its other edge
 pub record IsNear (m : ℕ) (width : ℤ) (spot : Spot ℤ) : Type 0 where
@@ -94,32 +92,22 @@ spot_near m fs side size cb top edges l r t =
 
 -- ---- one float more
 
-among_or : (fs : List FloatBox) (x f : FloatBox) → Among (fs ++ x ∷ []) f → Among fs f ⊎ (x ≡ f)
-among_or [] x f (inl e) = inr e
-among_or [] x f (inr i) = elim i [ ]
-among_or (g ∷ fs) x f (inl e) = inl (inl e)
-among_or (g ∷ fs) x f (inr i) = by (among_or fs x f i)
-  where
-    by : Among fs f ⊎ (x ≡ f) → Among (g ∷ fs) f ⊎ (x ≡ f)
-    by (inl i) = inl (inr i)
-    by (inr e) = inr e
-
 pub more_within : (m n : ℕ) (zs : List ℤ) → m ≤ n → AllWithin m zs → AllWithin n zs
 more_within m n [] le w = tt
 more_within m n (z ∷ zs) le w = let one = w.0 in (omega arith, more_within m n zs le w.1)
 
 pub grown_within : (m : ℕ) (fs : List FloatBox) (side : Side) (size : Extent ℤ) (spot : Spot ℤ) → FloatsWithin m fs → IsNear m size.width spot
     → FloatsWithin (m + (unsigned_abs size.width + unsigned_abs size.height)) (fs ++ placed_float side size spot ∷ [])
-grown_within m fs side size spot edges near f i = by (among_or fs (placed_float side size spot) f (among (fs ++ placed_float side size spot ∷ []) f i))
+grown_within m fs side size spot edges near f i = by (Contains-append_cases fs (placed_float side size spot ∷ []) f i)
   where
     new : AllWithin (m + (unsigned_abs size.width + unsigned_abs size.height)) (spot.x ∷ spot.y ∷ (spot.x +ℤ size.width) ∷ (spot.y +ℤ size.height) ∷ [])
     new = let x = near.x in let far = near.far in let y = near.y in (omega (arith, ints), (omega (arith, ints), (omega (arith, ints), (omega (arith, ints), tt))))
 
-    by : Among fs f ⊎ (placed_float side size spot ≡ f) → AllWithin (m + (unsigned_abs size.width + unsigned_abs size.height)) (f.box.left ∷ f.box.top ∷ f.box.right ∷ f.box.bottom ∷ [])
-    by (inl j) = more_within m (m + (unsigned_abs size.width + unsigned_abs size.height)) (f.box.left ∷ f.box.top ∷ f.box.right ∷ f.box.bottom ∷ []) (omega arith) (edges f (contains fs f j))
-    by (inr e) = subst (λ (g : FloatBox). AllWithin (m + (unsigned_abs size.width + unsigned_abs size.height)) (g.box.left ∷ g.box.top ∷ g.box.right ∷ g.box.bottom ∷ [])) e new
+    by : Contains fs f ⊎ Contains (placed_float side size spot ∷ []) f → AllWithin (m + (unsigned_abs size.width + unsigned_abs size.height)) (f.box.left ∷ f.box.top ∷ f.box.right ∷ f.box.bottom ∷ [])
+    by (inl j) = more_within m (m + (unsigned_abs size.width + unsigned_abs size.height)) (f.box.left ∷ f.box.top ∷ f.box.right ∷ f.box.bottom ∷ []) (omega arith) (edges f j)
+    by (inr j) = subst (λ (g : FloatBox). AllWithin (m + (unsigned_abs size.width + unsigned_abs size.height)) (g.box.left ∷ g.box.top ∷ g.box.right ∷ g.box.bottom ∷ [])) (only_member (placed_float side size spot) f j) new
 
-pub top_within : (m : ℕ) (fs : List FloatBox) (clear : Clear) (least y : ℤ) → FloatsWithin m fs → Within m least → Within m y → Within m (top_from clear fs (Some least) y)
+pub top_within : (m : ℕ) (fs : List FloatBox) (clear : Clear) (least y : ℤ) → FloatsWithin m fs → Within m least → Within m y → Within m (float_top clear fs (Some least) y)
 top_within m fs clear least y edges l w = top_has (Within m) clear fs (Some least) y (λ f i. (edges f i).1.1.1.0) w (l, tt)
 
 -- ---- as the clauses have it
@@ -168,7 +156,7 @@ module _ (c : InlineContext) (fs : List FloatBox) (least y : ℤ) where
       size = float_size c at
 
       top : ℤ
-      top = greatest_from y (option_to_list (Some least) ++ option_to_list (lowest_bottom clear fs))
+      top = float_top clear fs (Some least) y
 
       top_is : Within p.most top
       top_is = top_within p.most fs clear least y p.floats_within p.numbers.1.1.0 p.numbers.1.1.1.0

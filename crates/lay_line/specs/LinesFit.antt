@@ -26,18 +26,23 @@ FirstFits c slot met first =
 
 -- ---- a line ends
 
--- having begun at y with n floats, it holds these items: its numbers, the
--- floats met, those that wait, and those that it has if it doesn't exist
-pub record EndFits (c : InlineContext) (y least : ℤ) (n : ℕ) (slot : Slot) (f : Load) (items : List Measured)
-    : Type 0 where
+-- where it began: at y, behind so many floats, none standing above `least`
+pub record Start : Type 0 where
+  pub y : ℤ
+  pub least : ℤ
+  pub floats : ℕ
+
+-- having begun there, it holds these items: its numbers, the floats met,
+-- those that wait, and those that it has if it doesn't exist
+pub record EndFits (c : InlineContext) (start : Start) (slot : Slot) (f : Load) (items : List Measured) : Type 0 where
   pub boxes : BoxesFit c
   pub numbers : AllWithin (2 ^ 95)
-      (c.cb.left ∷ c.cb.right ∷ least ∷ slot.top ∷ slot.tall ∷ f.extent.above ∷ f.extent.below ∷ f.held.width ∷ [])
+      (c.cb.left ∷ c.cb.right ∷ start.least ∷ slot.top ∷ slot.tall ∷ f.extent.above ∷ f.extent.below ∷ f.held.width ∷ [])
   pub floats : FloatsWithin (2 ^ 95) f.met.floats
   pub waiting : floats_reach c f.met.waiting ≤ 2 ^ 95
   pub spots : SpotsOnLine f.met.spots
   pub widths : weight items ≤ 2 ^ 95
-  pub empty : PlacesFit c (take n f.met.floats) least y (float_boxes (bare items))
+  pub empty : PlacesFit c (take start.floats f.met.floats) start.least start.y (float_boxes (bare items))
 
 -- ---- line by line
 

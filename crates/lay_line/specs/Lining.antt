@@ -10,6 +10,7 @@ use Rattle.layout_semantics.specs.Lines as lines
 use Rattle.lay_float.specs.Readings.{floats_at, option_at}
 use Rattle.lay_float.specs.declared.floats.Floats.{Floats}
 use Rattle.lay_line.specs.Contexts.{context_at}
+use Rattle.lay_line.specs.LinesFit.{Start}
 use Rattle.lay_line.specs.Readings.{pieces_at, spots_at, parts_at, entries_at}
 use Rattle.lay_line.specs.declared.endings.Begun.{Begun}
 use Rattle.lay_line.specs.declared.endings.SoFar.{SoFar}
@@ -57,6 +58,10 @@ begun_at at b floats e =
       opened = b.opened.items;
       baseline = option_at at b.baseline e;
     }
+
+-- with how many there are alone
+abbrev pub start_at : {N : Type 0} → (N → Reading → ℤ) → Begun N → Reading → Start
+start_at at b e = record { y = at b.y e; least = at b.least e; floats = b.floats }
 
 -- the next line, and the stretches behind it
 abbrev pub next_of : {N : Type 0} → (N → Reading → ℤ) → Frame N → SoFar N → Cut N → Reading → lines.LaidLines

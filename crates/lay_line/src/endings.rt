@@ -5,7 +5,7 @@ ghost use Rattle.viz_calc.specs.Run.{Goes, BlamesButMem};
 ghost use Rattle.layout_semantics.specs.Floats.{FloatBox};
 ghost use Rattle.lay_line.specs.Contexts.{context_at};
 ghost use Rattle.lay_line.specs.LinesFit.{EndFits};
-ghost use Rattle.lay_line.specs.Lining.{so_far_at, begun_at};
+ghost use Rattle.lay_line.specs.Lining.{so_far_at, begun_at, start_at};
 ghost use Rattle.lay_line.specs.Readings.{load_at, slot_at, pieces_at, entries_at};
 ghost use Rattle.lay_line.specs.steps.Lining.{full_line, empty_line, ended_line};
 
@@ -79,8 +79,8 @@ fn end_full<S: Steady>(
         ++ (full_line (context_at S.at container.now e) (begun_at S.at begun floats e) (slot_at S.at line.entry.slot e)
         (load_at S.at line.entry.load e) (pieces_at S.at line.entry.pieces.now e)).entries }
     ensures cause { BlamesButMem (S.run calc.old) (S.run calc.new) ((e : Reading) → IsTrue ((S.run calc.old).is_open e)
-        → EndFits (context_at S.at container.now e) (S.at begun.y e) (S.at begun.least e) begun.floats
-        (slot_at S.at line.entry.slot e) (load_at S.at line.entry.load e) (pieces_at S.at line.entry.pieces.now e)) }
+        → EndFits (context_at S.at container.now e) (start_at S.at begun e) (slot_at S.at line.entry.slot e)
+        (load_at S.at line.entry.load e) (pieces_at S.at line.entry.pieces.now e)) }
 {
     let FullLine { slot, load, pieces } = line;
     let Load {
@@ -156,8 +156,8 @@ fn end_empty<S: Steady>(
         ++ (empty_line (context_at S.at container.now e) (begun_at S.at begun floats e) (load_at S.at line.entry.load e)
         (pieces_at S.at line.entry.pieces.now e)).entries }
     ensures cause { BlamesButMem (S.run calc.old) (S.run calc.new) ((e : Reading) → IsTrue ((S.run calc.old).is_open e)
-        → EndFits (context_at S.at container.now e) (S.at begun.y e) (S.at begun.least e) begun.floats
-        (slot_at S.at line.entry.slot e) (load_at S.at line.entry.load e) (pieces_at S.at line.entry.pieces.now e)) }
+        → EndFits (context_at S.at container.now e) (start_at S.at begun e) (slot_at S.at line.entry.slot e)
+        (load_at S.at line.entry.load e) (pieces_at S.at line.entry.pieces.now e)) }
 {
     let load = line.load;
     let before = load.met;
@@ -207,8 +207,8 @@ pub fn end_line<S: Steady>(
         (slot_at S.at line.entry.slot e) (load_at S.at line.entry.load e)
         (pieces_at S.at line.entry.pieces.now e)).entries }
     ensures cause { BlamesButMem (S.run calc.old) (S.run calc.new) ((e : Reading) → IsTrue ((S.run calc.old).is_open e)
-        → EndFits (context_at S.at container.now e) (S.at begun.y e) (S.at begun.least e) begun.floats
-        (slot_at S.at line.entry.slot e) (load_at S.at line.entry.load e) (pieces_at S.at line.entry.pieces.now e)) }
+        → EndFits (context_at S.at container.now e) (start_at S.at begun e) (slot_at S.at line.entry.slot e)
+        (load_at S.at line.entry.load e) (pieces_at S.at line.entry.pieces.now e)) }
 {
     if line.load.is_line {
         end_full(alloc, calc, container, begun, line, entries)

@@ -4,7 +4,7 @@ ghost use Rattle.layout_semantics.specs.LineFilling.{item_width, width_held};
 ghost use Rattle.layout_semantics.specs.Floats.{FloatBox};
 ghost use Rattle.layout_semantics.specs.InlineContent.{Item};
 ghost use Rattle.layout_semantics.specs.LineHeights.{InlineContext};
-ghost use Rattle.layout_semantics.specs.Lines.{lines_in};
+ghost use Rattle.layout_semantics.specs.Lines.{before_all, lines_in};
 ghost use Rattle.layout_semantics.specs.Stretches.{stretches, pieces, may_part, never, what_stays};
 ghost use Rattle.layout_semantics.specs.Fragments.{set_out};
 ghost use Rattle.lay_line.specs.steps.Cutting.{cut};
@@ -53,5 +53,6 @@ pub fn measured_items_stand_in_their_places()
 pub fn lines_of_measured_items_are_the_lines()
     ensures { (c : InlineContext) (y least : ℤ) (floats : List FloatBox)
         → lined c (content c.tree c.container) (measured (width_in c) (content c.tree c.container))
-        (marks (may_part c.tree) None None (content c.tree c.container)) y least floats ≡ lines_in c y least floats }
+        (marks (may_part c.tree) None None (content c.tree c.container)) (before_all y least floats)
+        ≡ lines_in c y least floats }
 {}

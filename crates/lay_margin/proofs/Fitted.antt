@@ -14,4 +14,4 @@ pub kids-fit : (tree : BoxTree) (w : World) (cb : Band ℤ) (b : ℕ) → enters
 unfolding inner_band
 kids-fit tree w cb b goes f =
     let here = (f cb b (itself cb b)).inside goes in
-    (here.1.1.1.1, λ i l h band k r. f band k (inside cb band b i k goes l h r))
+    (here.1.1.1.1, λ i l h band k r. f band k (inside goes l h r))

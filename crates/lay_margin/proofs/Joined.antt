@@ -109,15 +109,16 @@ module _ (tree : BoxTree) (w : World) (passed : ℕ → Bool) where
       by (of_end.Solid d) e = rw e refl
       by (of_end.Cleared d) e = rw e refl
 
-  -- a box from what is in it, by whether it stops the lead and whether the lead goes into it
-  abbrev box_by : Band ℤ → ℕ → Run ℤ → List (Waiting ℤ) → (clears opens : Bool) → Going → Going
-  box_by cb b run ws clears opens inner = elim clears [
-    | true ↦ ending run ws (of_end.Cleared b) cb
-    | false ↦ elim opens [ false ↦ ending (with_margin run (top_margin tree w cb b)) ws (of_end.Solid b) cb | true ↦ ended_by tree w passed cb b inner ]
-  ]
+  -- a box from what is in it, by whether the lead goes into it, and whether it stops the lead
+  abbrev entered_by : Band ℤ → ℕ → Run ℤ → List (Waiting ℤ) → Bool → Going → Going
+  entered_by cb b own ws opens inner = elim opens [ false ↦ ending own ws (of_end.Solid b) cb | true ↦ ended_by tree w passed cb b inner ]
+
+  abbrev stopped_by : Band ℤ → ℕ → Run ℤ → List (Waiting ℤ) → Bool → Going → Going
+  stopped_by cb b run ws clears inner = elim clears [ true ↦ ending run ws (of_end.Cleared b) cb | false ↦ inner ]
 
   box-led : (cb : Band ℤ) (b : ℕ) (run : Run ℤ) (ws : List (Waiting ℤ)) (inner : Leading) (clears opens : Bool)
-      → box_by cb b run ws clears opens (led_by (with_margin run (top_margin tree w cb b)) ws inner) ≡ led_by run ws (lead_from tree w cb b inner opens clears)
+      → stopped_by cb b run ws clears (entered_by cb b (with_margin run (top_margin tree w cb b)) ws opens (led_by (with_margin run (top_margin tree w cb b)) ws inner))
+      ≡ led_by run ws (lead_from tree w cb b inner opens clears)
   box-led cb b run ws inner true opens = ends-here run ws (of_end.Cleared b) cb []
   box-led cb b run ws inner false false = ends-here run ws (of_end.Solid b) cb (top_margin tree w cb b ∷ [])
   box-led cb b run ws inner false true = ended-led cb b (with_margin run (top_margin tree w cb b)) ws inner
@@ -131,7 +132,7 @@ module _ (tree : BoxTree) (w : World) (passed : ℕ → Bool) where
       let clears = clears_something (clear_of tree b) && not (passed b) in
       let opens = is_open_above tree b && not (has_line tree b) in
       let inner = inner_lead tree w (landed_to tree w n passed) cb b in
-      ap (box_by cb b run ws clears opens)
+      ap (λ g. stopped_by cb b run ws clears (entered_by cb b own ws opens g))
       (kids-led (lead_to tree w passed n band) (landed_to tree w n passed band) band (flow_children tree b) own ws (λ k r v. lead-led n band k r v))
       ∙ box-led cb b run ws inner clears opens
       ∙ ap (led_by run ws) (sym (lead-from tree w (landed_to tree w n passed) passed cb b))

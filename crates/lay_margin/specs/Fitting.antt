@@ -45,7 +45,7 @@ pub record BoxFits (tree : BoxTree) (w : World) (cb : Band ℤ) (b : ℕ) : Type
 -- adjoin the top of the first may go on to the second
 pub data LeadsTo (tree : BoxTree) (w : World) : Band ℤ → ℕ → Band ℤ → ℕ → Type 0 where
   itself : (cb : Band ℤ) (b : ℕ) → LeadsTo tree w cb b cb b
-  inside : (cb band : Band ℤ) (b i k : ℕ) → enters tree b ≡ true → i < length (flow_children tree b)
+  inside : {cb band : Band ℤ} {b i k : ℕ} → enters tree b ≡ true → i < length (flow_children tree b)
       → is_floated_at tree (slice_index_or (flow_children tree b) i 0) ≡ false
       → LeadsTo tree w (block_band tree w cb b) (slice_index_or (flow_children tree b) i 0) band k
       → LeadsTo tree w cb b band k

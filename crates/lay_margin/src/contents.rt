@@ -1,6 +1,6 @@
 //! What of inline content adjoining margins look at (CSS 2.1, 9.4.2).
 ghost use Rattle.std.specs.Prelude.{◌≡◌, ◌<◌, ◌++◌, ◌==◌, ℕ, true, not, length, slice_index_or, IfOk, OnOk};
-ghost use Rattle.std.specs.List.{list_all, list_any};
+ghost use Rattle.std.specs.List.{list_any};
 ghost use Rattle.std.specs.Str.{chars};
 ghost use Rattle.layout_semantics.specs.FlowBoxes.{may_collapse_through, flow_children};
 ghost use Rattle.layout_semantics.specs.InlineContent.{content, float_boxes, all_zero, makes_line};

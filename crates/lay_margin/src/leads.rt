@@ -9,7 +9,7 @@ ghost use Rattle.layout_semantics.specs.InlineContent.{is_floated_at};
 ghost use Rattle.lay_margin.specs.Fitting.{edges, ends, content_way, MarginFits, InsideFits, LeadFits, KidsFit};
 ghost use Rattle.layout_semantics.specs.FlowBoxes.{across as width_of, content_from, flow_children};
 ghost use Rattle.lay_width.specs.Readings.{widths_at};
-ghost use Rattle.lay_margin.specs.Readings.{band_at, waiting_at, floats_at, passed_by};
+ghost use Rattle.lay_margin.specs.Readings.{band_at, floats_at, passed_by};
 ghost use Rattle.layout_semantics.specs.Leads.{lead as landed};
 ghost use Rattle.lay_margin.specs.Runs.{run_at, with_margin, IsRunOf};
 ghost use Rattle.lay_margin.specs.steps.Leads.{going_at, joined_at, led_by, ended_at, closed_end, stops, margin_above, margin_below, inner_band, kid_going, lead_of, inner_of, content_of};

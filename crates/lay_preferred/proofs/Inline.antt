@@ -1,5 +1,5 @@
 -- Inline content, part by part, has the preferred widths of the box that holds it.
-use Rattle.std.proofs.Common.{◌≡◌, ◌<◌, inl, inr, ℕ, zero, suc, ℤ, pos, ◌+ℤ◌, ◌*ℤ◌, Bool, true, false, List, [], ◌∷◌, ◌++◌, map, length, Option, Some, None, option_map, slice_index_or, refl, sym, ap, ◌∙◌, arith}
+use Rattle.std.proofs.Common.{◌≡◌, ◌<◌, ℕ, zero, suc, ℤ, pos, ◌+ℤ◌, ◌*ℤ◌, Bool, true, false, List, [], ◌∷◌, ◌++◌, map, length, Option, Some, None, option_map, slice_index_or, refl, sym, ap, ◌∙◌, arith, Contains}
 use Rattle.std.specs.Option.{option_map_or}
 use Rattle.std.proofs.lemmas.Int.{ints}
 use Rattle.viz_base.specs.Numbers.{floor_of}
@@ -17,7 +17,7 @@ use Rattle.layout_semantics.specs.LineFilling.{item_width}
 use Rattle.layout_semantics.specs.LineHeights.{InlineContext}
 use Rattle.layout_semantics.specs.Preferred.{absolute_part, measured_width, preferred_item, preferred_stretch, preferred_floats, preferred_inline, greatest, with_least, with_most}
 use Rattle.layout_semantics.specs.Stretches.{stretches, pieces, may_part, never, what_stays}
-use Rattle.layout_laws.proofs.Among.{Among}
+use Rattle.layout_laws.proofs.Members.{first_member, later_member}
 use Rattle.layout_laws.proofs.Greatest.{all_at}
 use Rattle.layout_laws.proofs.Levels.{IsFrom, inner_boxes-from}
 use Rattle.layout_laws.specs.Outer.{outer_widths}
@@ -231,7 +231,7 @@ module _ (tree : BoxTree) (w : World) (least most : List (Option ℤ)) where
 
 -- ---- the tables of the boxes in inline content
 
-module _ (tree : BoxTree) (w : World) (ks : List ℕ) (within : (k : ℕ) → Among ks k → k < length tree.boxes) where
+module _ (tree : BoxTree) (w : World) (ks : List ℕ) (within : (k : ℕ) → Contains ks k → k < length tree.boxes) where
   abbrev least_table : List (Option ℤ)
   least_table = table_of (length tree.boxes) (with_least (outer_widths tree w ks))
 
@@ -241,7 +241,7 @@ module _ (tree : BoxTree) (w : World) (ks : List ℕ) (within : (k : ℕ) → Am
   abbrev pair : ℤ → ℤ → Preferred ℤ
   pair x y = record { least = x; most = y }
 
-  box-tabled : (at : ℕ) → Among ks at → outer tree w at ≡ pair (measured_width least_table at) (measured_width most_table at)
+  box-tabled : (at : ℕ) → Contains ks at → outer tree w at ≡ pair (measured_width least_table at) (measured_width most_table at)
   unfolding outer
   box-tabled at i =
       sym (ap (λ x. pair x (measured_width most_table at)) (measured-is (outer tree w) (λ p. p.least) at (length tree.boxes) ks (within at i) i)
@@ -253,11 +253,11 @@ module _ (tree : BoxTree) (w : World) (ks : List ℕ) (within : (k : ℕ) → Am
   abbrev by_table : Item → Sized
   by_table i = one i (tabled tree w least_table most_table i)
 
-  all-tabled : (items : List Item) → ((k : ℕ) → Among (inner_items items) k → Among ks k) → sized (widths_of tree w) items ≡ sized (tabled tree w least_table most_table) items
+  all-tabled : (items : List Item) → ((k : ℕ) → Contains (inner_items items) k → Contains ks k) → sized (widths_of tree w) items ≡ sized (tabled tree w least_table most_table) items
   unfolding width_of start_of end_of
   all-tabled [] inner = refl
-  all-tabled (float at ∷ items) inner = ap (λ p. one (float at) p ∷ sized (widths_of tree w) items) (box-tabled at (inner at (inl refl))) ∙ ap (λ ss. by_table (float at) ∷ ss) (all-tabled items (λ k i. inner k (inr i)))
-  all-tabled (atomic at ∷ items) inner = ap (λ p. one (atomic at) p ∷ sized (widths_of tree w) items) (box-tabled at (inner at (inl refl))) ∙ ap (λ ss. by_table (atomic at) ∷ ss) (all-tabled items (λ k i. inner k (inr i)))
+  all-tabled (float at ∷ items) inner = ap (λ p. one (float at) p ∷ sized (widths_of tree w) items) (box-tabled at (inner at (first_member _ refl))) ∙ ap (λ ss. by_table (float at) ∷ ss) (all-tabled items (λ k i. inner k (later_member _ i)))
+  all-tabled (atomic at ∷ items) inner = ap (λ p. one (atomic at) p ∷ sized (widths_of tree w) items) (box-tabled at (inner at (first_member _ refl))) ∙ ap (λ ss. by_table (atomic at) ∷ ss) (all-tabled items (λ k i. inner k (later_member _ i)))
   all-tabled (word at text ∷ items) inner = ap (λ ss. by_table (word at text) ∷ ss) (all-tabled items inner)
   all-tabled (space at ∷ items) inner = ap (λ ss. by_table (space at) ∷ ss) (all-tabled items inner)
   all-tabled (start at ∷ items) inner = ap (λ ss. by_table (start at) ∷ ss) (all-tabled items inner)
@@ -269,7 +269,7 @@ pub inline-same : (tree : BoxTree) (w : World) (at : ℕ) → inline_in tree w a
 unfolding inline_in
 inline-same tree w at =
     let ks = inner_boxes tree at in
-    let within = λ (k : ℕ) (i : Among ks k). (all_at (IsFrom tree.boxes (suc at)) ks k (inner_boxes-from tree at (forest tree)) i).within in
+    let within = λ (k : ℕ) (i : Contains ks k). (all_at (IsFrom tree.boxes (suc at)) ks k (inner_boxes-from tree at (forest tree)) i).within in
     ap (inline_of tree (content tree at)) (all-tabled tree w ks within (content tree at) (λ k i. i))
     ∙ tabled-is tree w (least_table tree w ks within) (most_table tree w ks within) (content tree at)
 

@@ -1,11 +1,11 @@
 -- What a table holds of the boxes that it was made of.
-use Rattle.std.proofs.Common.{◌≡◌, inl, inr, ◌<◌, ℕ, zero, suc, ℤ, pos, List, [], ◌∷◌, map, fold, length, Option, Some, None, slice_index_or, refl, sym, ap, subst, arith}
+use Rattle.std.proofs.Common.{◌≡◌, inl, inr, ◌<◌, ℕ, zero, suc, ℤ, pos, List, [], ◌∷◌, map, fold, length, Option, Some, None, slice_index_or, refl, sym, ap, subst, arith, Contains, ◌⊎◌}
 use Rattle.std.specs.Prelude.{replicate, slice_set, unwrap_or}
 use Rattle.std.proofs.lemmas.List.{length-replicate}
 use Rattle.viz_base.specs.declared.layouts.Preferred.{Preferred}
 use Rattle.layout_semantics.specs.Lists.{table_of}
 use Rattle.layout_semantics.specs.Preferred.{measured_width}
-use Rattle.layout_laws.proofs.Among.{Among}
+use Rattle.layout_laws.proofs.Members.{no_member, first_or_later}
 
 abbrev Table : Type 0
 Table = List (Option ℤ)
@@ -41,14 +41,18 @@ module _ (outer : ℕ → Preferred ℤ) (part : Preferred ℤ → ℤ) (at : �
   stays-set t [] e = e
   stays-set t (k ∷ ks) e = stays-set (slice_set t k (Some (part (outer k)))) ks (set-keeps t k at (part (outer k)) (part (outer at)) (λ s. ap (λ j. part (outer j)) s) e)
 
-  is-set : (t : Table) (ks : List ℕ) → at < length t → Among ks at → slice_index_or (set_all t ks) at None ≡ Some (part (outer at))
-  is-set t [] l i = elim i [ ]
-  is-set t (k ∷ ks) l (inl e) =
-      stays-set (slice_set t k (Some (part (outer k)))) ks
-      (subst (λ j. slice_index_or (slice_set t k (Some (part (outer k)))) j None ≡ Some (part (outer j))) e (set-here t k (part (outer k)) (subst (λ j. j < length t) (sym e) l)))
-  is-set t (k ∷ ks) l (inr i) = let long = set-long t k (Some (part (outer k))) in is-set (slice_set t k (Some (part (outer k)))) ks (omega (arith, long)) i
+  is-set : (t : Table) (ks : List ℕ) → at < length t → Contains ks at → slice_index_or (set_all t ks) at None ≡ Some (part (outer at))
+  is-set t [] l i = no_member i
+  is-set t (k ∷ ks) l i = by (first_or_later k ks at i) (λ j. let long = set-long t k (Some (part (outer k))) in is-set (slice_set t k (Some (part (outer k)))) ks (omega (arith, long)) j)
+    where
+      set : Table
+      set = slice_set t k (Some (part (outer k)))
 
-  pub measured-is : (n : ℕ) (ks : List ℕ) → at < n → Among ks at → measured_width (table_of n (entries ks)) at ≡ part (outer at)
-  measured-is n [] l i = elim i [ ]
+      by : (k ≡ at) ⊎ Contains ks at → (Contains ks at → slice_index_or (set_all set ks) at None ≡ Some (part (outer at))) → slice_index_or (set_all set ks) at None ≡ Some (part (outer at))
+      by (inl e) again = stays-set set ks (subst (λ j. slice_index_or set j None ≡ Some (part (outer j))) e (set-here t k (part (outer k)) (subst (λ j. j < length t) (sym e) l)))
+      by (inr j) again = again j
+
+  pub measured-is : (n : ℕ) (ks : List ℕ) → at < n → Contains ks at → measured_width (table_of n (entries ks)) at ≡ part (outer at)
+  measured-is n [] l i = no_member i
   measured-is n (k ∷ ks) l i =
       ap (λ o. unwrap_or o (pos 0)) (is-set (replicate n empty) (k ∷ ks) (subst (λ m. at < m) (sym (length-replicate n empty)) l) i)

@@ -1,6 +1,5 @@
 //! The greatest of numbers, one after another.
-ghost use Rattle.std.specs.Prelude.{◌≡◌, ⊤};
-ghost use Rattle.viz_calc.specs.World.{Reading};
+ghost use Rattle.std.specs.Prelude.{⊤};
 ghost use Rattle.viz_calc.specs.Run.{Stands, Goes, Blames};
 ghost use Rattle.lay_width.specs.Readings.{option_at};
 ghost use Rattle.lay_preferred.specs.steps.Extremes.{larger as larger_of, or_zero as of_or_zero};

@@ -1,5 +1,5 @@
 //! The preferred widths that were found of boxes.
-ghost use Rattle.std.specs.Prelude.{◌≡◌, ℕ, IsTrue, IfSome, Some, None, [], ◌∷◌, ⊤, slice_get, slice_set};
+ghost use Rattle.std.specs.Prelude.{◌≡◌, IsTrue, IfSome, Some, None, [], ◌∷◌, ⊤, slice_get, slice_set};
 ghost use Rattle.viz_calc.specs.World.{Reading};
 ghost use Rattle.viz_calc.specs.Run.{Goes, Fits, Blames, BlamesButMem};
 ghost use Rattle.lay_width.specs.Readings.{preferred_at};

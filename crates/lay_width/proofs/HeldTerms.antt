@@ -5,17 +5,14 @@ use Rattle.std.specs.Option.{option_map_or}
 use Rattle.viz_base.specs.declared.layouts.Widths.{Widths}
 use Rattle.viz_base.specs.declared.lengths.Length.{Length}
 use Rattle.viz_base.specs.declared.lengths.Length.TheVariants as of_length
-use Rattle.viz_base.specs.declared.styles.Style.{Style}
 use Rattle.viz_base.specs.declared.trees.BoxTree.{BoxTree}
 use Rattle.viz_base.specs.declared.worlds.World.{World}
-use Rattle.layout_semantics.specs.Lengths.{own, used, used_unless_auto}
+use Rattle.layout_semantics.specs.Lengths.{used, used_unless_auto}
 use Rattle.layout_semantics.specs.Horizontal.{is_auto, terms_around, fixed_terms, auto_terms, block_terms, shrunk_terms, held_terms, at_most, at_least, again_unless, shrink_to_fit, available}
 use Rattle.layout_semantics.specs.Preferred.{preferred}
 use Rattle.layout_laws.specs.Terms.{own_width, own_maximum, own_minimum}
-use Rattle.lay_width.specs.steps.Terms.{around, above, below, again, held_again, filled_block, given_block, fitted_by}
-
-abbrev pub own_width_of : BoxTree → ℕ → Length
-own_width_of tree at = own tree at (λ (s : Style). s.width) of_length.Auto
+use Rattle.lay_width.specs.Fitting.{own_width_of}
+use Rattle.lay_width.specs.steps.Terms.{around, below, again, held_again, filled_block, given_block, fitted_by}
 
 floor-again : (terms : Option ℤ → Widths ℤ) (least : ℤ) (t : Widths ℤ) (b : Bool) → again_unless b terms least t ≡ option_map_or (λ x. terms (Some x)) (cond b None (Some least)) t
 floor-again terms least t true = refl

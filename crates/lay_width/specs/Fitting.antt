@@ -159,16 +159,17 @@ GivenBlockFits tree w at cb length edges =
     UsedFits tree w length cb
     × (HoldFits tree w at cb × FixedBlockFits tree at edges cb (held_again tree w at cb (used tree w length cb)))
 
+abbrev pub own_width_of : BoxTree → ℕ → Length
+own_width_of tree at = own tree at (λ (s : Style). s.width) of_length.Auto
+
 -- to the terms of a block with these edges, its `width` being `auto` or not
-abbrev pub BlockFitsBy : Bool → BoxTree → World → ℕ → ℤ → Length → Widths ℤ → Type 0
-BlockFitsBy true tree w at cb length edges = FillingFits tree w at cb edges
-BlockFitsBy false tree w at cb length edges = GivenBlockFits tree w at cb length edges
+abbrev pub BlockFitsBy : Bool → BoxTree → World → ℕ → ℤ → Widths ℤ → Type 0
+BlockFitsBy true tree w at cb edges = FillingFits tree w at cb edges
+BlockFitsBy false tree w at cb edges = GivenBlockFits tree w at cb (own_width_of tree at) edges
 
 abbrev pub BlockFits : BoxTree → World → ℕ → ℤ → Type 0
-BlockFits tree w at cb = EdgesFit tree w at cb × by_width (own tree at (λ (s : Style). s.width) of_length.Auto)
-  where
-    by_width : Length → Type 0
-    by_width length = BlockFitsBy (is_auto length) tree w at cb length (terms_around tree w at cb (pos 0))
+BlockFits tree w at cb = EdgesFit tree w at cb
+    × BlockFitsBy (is_auto (own_width_of tree at)) tree w at cb (terms_around tree w at cb (pos 0))
 
 -- to a width that shrinks to fit
 abbrev pub fit_way : Preferred ℤ → List ℤ
@@ -182,8 +183,7 @@ FittedFits tree w length cb p edges = UsedFits tree w length cb
 abbrev pub ShrunkFits : BoxTree → World → ℕ → ℤ → Preferred ℤ → Type 0
 ShrunkFits tree w at cb p =
     EdgesFit tree w at cb
-    × (FittedFits tree w (own tree at (λ (s : Style). s.width) of_length.Auto) cb p
-    (terms_around tree w at cb (pos 0)) × HoldFits tree w at cb)
+    × (FittedFits tree w (own_width_of tree at) cb p (terms_around tree w at cb (pos 0)) × HoldFits tree w at cb)
 
 -- to the terms of a replaced block with these edges
 abbrev pub ReplacedBetweenFits : BoxTree → World → ℕ → ℕ → ℤ → Widths ℤ → Type 0
@@ -194,9 +194,21 @@ abbrev pub ReplacedBlockFits : BoxTree → World → ℕ → ℕ → ℤ → Typ
 ReplacedBlockFits tree w viewport at cb = EdgesFit tree w at cb
     × ReplacedBetweenFits tree w viewport at cb (terms_around tree w at cb (pos 0))
 
+-- a box in a containing block of this width
+pub record InBlock : Type 0 where
+  pub tree : BoxTree
+  pub world : World
+  pub viewport : ℕ
+  pub at : ℕ
+  pub cb : ℤ
+
+abbrev pub in_block : BoxTree → World → ℕ → ℕ → ℤ → InBlock
+in_block tree w viewport at cb = record { tree = tree; world = w; viewport = viewport; at = at; cb = cb }
+
 -- to the terms of a box of this placing, with these preferred widths
-abbrev pub WidthsFit : BoxTree → World → ℕ → ℕ → ℤ → Placing → Preferred ℤ → Type 0
-WidthsFit tree w viewport at cb block_flow p = BlockFits tree w at cb
-WidthsFit tree w viewport at cb shrunk p = ShrunkFits tree w at cb p
-WidthsFit tree w viewport at cb replaced_block p = ReplacedBlockFits tree w viewport at cb
-WidthsFit tree w viewport at cb replaced_shrunk p = EdgesFit tree w at cb × ReplacedFits tree w viewport at cb
+abbrev pub WidthsFit : InBlock → Placing → Preferred ℤ → Type 0
+WidthsFit b block_flow p = BlockFits b.tree b.world b.at b.cb
+WidthsFit b shrunk p = ShrunkFits b.tree b.world b.at b.cb p
+WidthsFit b replaced_block p = ReplacedBlockFits b.tree b.world b.viewport b.at b.cb
+WidthsFit b replaced_shrunk p = EdgesFit b.tree b.world b.at b.cb
+    × ReplacedFits b.tree b.world b.viewport b.at b.cb

@@ -12,7 +12,7 @@ ghost use Rattle.layout_semantics.specs.Preferred.{preferred as preferred_of};
 ghost use Rattle.layout_semantics.specs.Replaced.{replaced_size};
 ghost use Rattle.lay_width.specs.Readings.{widths_at, preferred_at, AreItsOwn};
 ghost use Rattle.lay_width.specs.Fitting.{BlockFits, FillingFits, FixedBlockFits, GivenBlockFits, FittedFits, ShrunkFits};
-ghost use Rattle.lay_width.specs.Fitting.{EdgesFit, ReplacedFits, ReplacedBetweenFits, ReplacedBlockFits, WidthsFit, fit_way};
+ghost use Rattle.lay_width.specs.Fitting.{EdgesFit, ReplacedFits, ReplacedBetweenFits, ReplacedBlockFits, in_block, WidthsFit, fit_way};
 ghost use Rattle.lay_width.specs.steps.Terms.{fixed_around, filled_block, given_block, fitted_by};
 ghost use Rattle.lay_width.specs.steps.Terms.{around as around_of};
 
@@ -267,7 +267,7 @@ pub fn widths<S: Steady>(
         → AreItsOwn tree.now e.world b (preferred_at S.at preferred.now e)
         → widths_at S.at result e ≡ widths_of tree.now e.world height b (S.at cb.now e) }
     ensures cause { Blames (S.run calc.old) (S.run calc.new) ((e : Reading) → IsTrue ((S.run calc.old).is_open e)
-        → WidthsFit tree.now e.world height b (S.at cb.now e) (placing_of tree.now b)
+        → WidthsFit (in_block tree.now e.world height b (S.at cb.now e)) (placing_of tree.now b)
         (preferred_at S.at preferred.now e)) }
 {
     match placed_as(tree, b) {

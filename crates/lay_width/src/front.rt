@@ -5,7 +5,7 @@ ghost use Rattle.viz_calc.specs.State.{Grows, AreOpen, Cause};
 ghost use Rattle.layout_semantics.specs.Horizontal.{placing_of};
 ghost use Rattle.layout_semantics.specs.Horizontal.{widths as widths_of};
 ghost use Rattle.lay_width.specs.Readings.{widths_at, preferred_at, AreItsOwn};
-ghost use Rattle.lay_width.specs.Fitting.{WidthsFit};
+ghost use Rattle.lay_width.specs.Fitting.{in_block, WidthsFit};
 
 use crate::engine;
 use viz_base::{BoxTree, Preferred, Widths};
@@ -31,7 +31,7 @@ pub fn widths<C: Calc>(
     ensures kept { AreOpen (C.state calc.old).kept (C.state calc.new) }
     ensures cause { IfErr result (Cause (C.state calc.old) (C.state calc.new) ((e : Reading)
         → IsTrue ((C.state calc.old).is_open e)
-        → WidthsFit tree.now e.world height b (C.at cb.now e) (placing_of tree.now b)
+        → WidthsFit (in_block tree.now e.world height b (C.at cb.now e)) (placing_of tree.now b)
         (preferred_at C.at preferred.now e))) }
 {
     let mut latch = Latch::new(calc);

@@ -1,8 +1,8 @@
 //! Minimum and maximum widths (CSS 2.1, 10.4).
-ghost use Rattle.std.specs.Prelude.{◌≡◌, ℤ, pos, IsTrue, None, unwrap_or, ⊤};
+ghost use Rattle.std.specs.Prelude.{◌≡◌, pos, IsTrue, None, unwrap_or, ⊤};
 ghost use Rattle.viz_base.specs.declared.styles.Style.{Style as StyleOf};
 ghost use Rattle.viz_calc.specs.World.{Reading};
-ghost use Rattle.viz_calc.specs.Run.{Stands, Goes, Fits, Blames};
+ghost use Rattle.viz_calc.specs.Run.{Stands, Goes, Blames};
 ghost use Rattle.layout_semantics.specs.Lengths.{own};
 ghost use Rattle.layout_semantics.specs.Lengths.{used_unless_auto as unless_auto, used_if_absolute as if_absolute};
 ghost use Rattle.layout_laws.specs.Terms.{own_minimum};

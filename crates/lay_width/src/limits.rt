@@ -1,8 +1,7 @@
 //! The greater and the lesser of two numbers.
-ghost use Rattle.std.specs.Prelude.{◌≡◌, ⊤};
+ghost use Rattle.std.specs.Prelude.{⊤};
 ghost use Rattle.std.specs.Int.{int_max, int_min};
 ghost use Rattle.std.specs.Option.{option_map_or};
-ghost use Rattle.viz_calc.specs.World.{Reading};
 ghost use Rattle.viz_calc.specs.Run.{Stands, Goes, Blames};
 ghost use Rattle.layout_semantics.specs.Lengths.{held};
 ghost use Rattle.lay_width.specs.Readings.{option_at};

@@ -1,5 +1,5 @@
 //! What the tree says of a box.
-ghost use Rattle.std.specs.Prelude.{◌≡◌, ℕ, slice_get, None, is_some, false};
+ghost use Rattle.std.specs.Prelude.{◌≡◌, slice_get, None, is_some, false};
 ghost use Rattle.std.specs.Option.{option_map_or, option_copied};
 ghost use Rattle.viz_base.specs.declared.lengths.Length.TheVariants as of_length;
 ghost use Rattle.viz_base.specs.declared.styles.Style.{Style as StyleOf};

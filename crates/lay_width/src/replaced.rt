@@ -1,9 +1,8 @@
 //! The widths of replaced elements (CSS 2.1, 10.3.2, 10.4).
-ghost use Rattle.std.specs.Prelude.{◌≡◌, IsTrue, None, [], ◌∷◌};
+ghost use Rattle.std.specs.Prelude.{IsTrue, None, [], ◌∷◌};
 ghost use Rattle.viz_base.specs.declared.lengths.Length.TheVariants as of_length;
 ghost use Rattle.viz_base.specs.declared.styles.Style.{Style as StyleOf};
 ghost use Rattle.viz_calc.specs.World.{Reading};
-ghost use Rattle.viz_calc.specs.State.{AllSmall};
 ghost use Rattle.viz_calc.specs.Run.{Stands, Goes, Fits, Blames};
 ghost use Rattle.layout_semantics.specs.Lengths.{own};
 ghost use Rattle.layout_semantics.specs.DefiniteHeights.{given_height as given_height_of};

@@ -1,5 +1,5 @@
 //! The seven horizontal terms of a box (CSS 2.1, 10.3.3).
-ghost use Rattle.std.specs.Prelude.{◌≡◌, ℤ, pos, ◌-ℤ◌, int_le, true, IsTrue, [], ◌∷◌};
+ghost use Rattle.std.specs.Prelude.{◌≡◌, pos, ◌-ℤ◌, int_le, true, IsTrue, [], ◌∷◌};
 ghost use Rattle.std.specs.Int.{int_max};
 ghost use Rattle.viz_base.specs.Numbers.{floor_of};
 ghost use Rattle.viz_calc.specs.World.{Reading};

@@ -201,7 +201,7 @@ module _ (tree : BoxTree) (low : IsLowTree tree) (w : World) (small : w.s ≤ 25
   pub block-fits : BlockFits tree w k cb
   block-fits = by (is_auto (width_in (own_style tree k)))
     where
-      by : (b : Bool) → EdgesFit tree w k cb × BlockFitsBy b tree w k cb (width_in (own_style tree k)) edges
+      by : (b : Bool) → EdgesFit tree w k cb × BlockFitsBy b tree w k cb edges
       by true = (edges-fit, filling-fits)
       by false = (edges-fit, given-fits)
 

@@ -20,7 +20,7 @@ use Rattle.layout_semantics.specs.Order.{IsOnPage}
 use Rattle.layout_semantics.specs.Preferred.{preferred}
 use Rattle.layout_semantics.specs.Replaced.{intrinsic, by_ratio, replaced_size}
 use Rattle.layout_laws.proofs.Reaching.{ratio_least}
-use Rattle.lay_width.specs.Fitting.{UsedFits, VerticalsFit, WidthsFit, BlockFits, ReplacedFits, TentativeFits, RatioFits}
+use Rattle.lay_width.specs.Fitting.{UsedFits, VerticalsFit, in_block, WidthsFit, BlockFits, ReplacedFits, TentativeFits, RatioFits}
 use Rattle.lay_margin.specs.Fitting.{BoxFits, InsideFits, MarginFits, content_way}
 use Rattle.lay_reach.proofs.Numbers.{size-+, size--}
 use Rattle.flow_limits.specs.Boxes.{AreWidthsSmall, IsWhole}
@@ -133,10 +133,10 @@ module _ (tree : BoxTree) (page : IsFarPage tree) (w : World) (small : w.s ≤ 2
     pub by_width-fits : AllSmall (by_ratio (replaced_size tree w height k cb).width (intrinsic tree k).0 (intrinsic tree k).1 ∷ [])
     by_width-fits = (by_width-low k b (replaced_size tree w height k cb).width replaced_width-low, tt)
 
-    pub widths-fit : WidthsFit tree w height k cb (placing_of tree k) (preferred tree w k)
+    pub widths-fit : WidthsFit (in_block tree w height k cb) (placing_of tree k) (preferred tree w k)
     widths-fit = by (placing_of tree k)
       where
-        by : (p : Placing) → WidthsFit tree w height k cb p (preferred tree w k)
+        by : (p : Placing) → WidthsFit (in_block tree w height k cb) p (preferred tree w k)
         by block_flow = block-fits tree page.low w small height k lengths wide
         by shrunk = shrunk-fits tree page.low w small height k lengths wide
         by replaced_block = (

@@ -10,7 +10,7 @@ use Rattle.layout_semantics.specs.InlineContent.{Item, float_boxes}
 use Rattle.layout_semantics.specs.LineHeights.{InlineContext, height_of_extent}
 use Rattle.layout_semantics.specs.LineFilling.{Met}
 use Rattle.layout_semantics.specs.Fragments.{ItemPlace, SetLine, line_entries, float_entries}
-use Rattle.layout_semantics.specs.Lines.{SoFar, LaidLines, LineList, before_all, followed, laid_none, line_box, content_left}
+use Rattle.layout_semantics.specs.Lines.{SoFar, LaidLines, LineList, followed, laid_none, line_box, content_left}
 use Rattle.lay_line.specs.steps.Held.{Held, nothing_held}
 use Rattle.lay_line.specs.steps.Loading.{Load, bare, ahead, reaching_boxes, loaded, loading, tallest_by, parts_of}
 use Rattle.lay_line.specs.steps.Measured.{Measured, held_with, rows, first_row}
@@ -140,10 +140,9 @@ laying zero c tall now parts = laid_none now
 laying (suc lines) c tall now [] = laid_none now
 laying (suc lines) c tall now (first ∷ parts) = going_on (laying lines c tall) (next_in c tall now first parts)
 
--- the lines of measured items, in the parts that marks make
-unfoldable pub lined : InlineContext → List Item → List Measured → List Bool → ℤ → ℤ → List FloatBox → LineList
-lined c items ms marks y least floats =
-    listed (laying (length ms) c (tallest_by c items) (before_all y least floats) (parts_of ms marks))
+-- the lines of measured items, in the parts that marks make, from what stands before them
+unfoldable pub lined : InlineContext → List Item → List Measured → List Bool → SoFar → LineList
+lined c items ms marks now = listed (laying (length ms) c (tallest_by c items) now (parts_of ms marks))
   where
     listed : LaidLines → LineList
     listed l = record { entries = l.entries; bottom = l.after.y; baseline = l.after.baseline; floats = l.after.floats }

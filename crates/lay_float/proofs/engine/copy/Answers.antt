@@ -1,9 +1,9 @@
-use Rattle.std.proofs.Common.{◌∙◌, arith}
+use Rattle.std.proofs.Common.{◌∙◌, sym, arith}
 use Rattle.std.specs.Prelude.{⊤}
 use Rattle.viz_calc.proofs.Runs.{Goes-then, BlamesButMem-then}
-use Rattle.layout_laws.proofs.Among.{contains}
+use Rattle.layout_laws.proofs.Members.{to_map}
 use Rattle.lay_float.specs.Readings.{box_at, boxes_at}
-use Rattle.lay_float.proofs.Loops.{among-at, copied, all-copied}
+use Rattle.lay_float.proofs.Loops.{copied, all-copied}
 use Rattle.lay_float.proofs.Spots.{edges_fit}
 use Rattle.lay_float.proofs.engine.copy.Goals as goal
 
@@ -23,7 +23,7 @@ loop-f-preserved g c =
           let first = BlamesButMem-then (run c.args.calc.now) (run c.loop-f.calc) (run c.copy_float-copied.new.calc) _ _ c.loop-f.invariant.goes c.copy_float-copied.ensures.goes c.loop-f.invariant.cause
           (λ f e o.
           edges_fit (boxes_at at c.args.floats.now e) (box_at at c.f-item.result e) (f e (c.loop-f.invariant.goes.closes e o))
-          (contains (boxes_at at c.args.floats.now e) (box_at at c.f-item.result e) (among-at (λ f. box_at at f e) c.args.floats.now c.loop-f.f-index c.f-item.result c.loop-f-test.true c.f-item.is)))
+          (to_map (λ f. box_at at f e) c.args.floats.now c.f-item.result (c.loop-f.f-index, c.loop-f-test.true, sym c.f-item.is)))
           (record { coeff = c.copy_float-copied.ensures.cause.coeff; opens = c.copy_float-copied.ensures.cause.opens }) in
           BlamesButMem-then (run c.args.calc.now) (run c.copy_float-copied.new.calc) (run c.append.new.calc) ⊤ _ goes c.append.ensures.goes first (λ _. tt) c.append.ensures.cause;
     }

@@ -5,8 +5,8 @@ use Rattle.std.specs.Prelude.{⊤}
 use Rattle.viz_calc.specs.State.{IsSmall}
 use Rattle.viz_calc.specs.World.{Reading}
 use Rattle.viz_calc.proofs.Runs.{Goes-then, Blames-then}
+use Rattle.layout_semantics.specs.Floats.{float_top}
 use Rattle.lay_float.specs.Limits.{AreHalf}
-use Rattle.lay_float.specs.Places.{top_from}
 use Rattle.lay_float.specs.Readings.{boxes_at}
 use Rattle.lay_float.specs.steps.Lent.{lent_at}
 use Rattle.lay_float.proofs.Rooms.{top_small}
@@ -28,7 +28,7 @@ returns-in-Some-clause-cause g c =
     Blames-then start (run c.larger-top.new.calc) (run c.copy.new.self) _ more (Goes-then _ _ _ lowest.goes top.goes) c.copy.ensures.goes found
     (λ f e o. (
       subst IsSmall (sym (top.value e o ∙ ap (int_max (at c.in-Some.least.now e)) (lowest.value e (top.goes.closes e o))))
-          (subst (λ l. IsSmall (top_from c.args.clear (fs e) (lent_at at l e) (y e))) c.in-Some.is
+          (subst (λ l. IsSmall (float_top c.args.clear (fs e) (lent_at at l e) (y e))) c.in-Some.is
           (top_small c.args.clear (fs e) (lent_at at c.args.least e) (y e) (f e (lowest.goes.closes e (top.goes.closes e o))))),
       tt,
     ))
@@ -47,7 +47,7 @@ returns-in-None-clause-cause g c =
     (record { mem = lowest.cause.mem; coeff = λ f. lowest.cause.coeff tt; opens = lowest.cause.opens })
     (λ f e o. (
       subst IsSmall (sym (lowest.value e o))
-          (subst (λ l. IsSmall (top_from c.args.clear (fs e) (lent_at at l e) (y e))) c.in-None.is
+          (subst (λ l. IsSmall (float_top c.args.clear (fs e) (lent_at at l e) (y e))) c.in-None.is
           (top_small c.args.clear (fs e) (lent_at at c.args.least e) (y e) (f e (lowest.goes.closes e o)))),
       tt,
     ))

@@ -3,7 +3,7 @@ use Rattle.viz_calc.specs.World.{Reading}
 use Rattle.layout_semantics.specs.Horizontal.{placing_of, block_flow, shrunk, replaced_block, replaced_shrunk}
 use Rattle.layout_semantics.specs.Preferred.{preferred}
 use Rattle.lay_preferred.specs.Fitting.{BoxesFit}
-use Rattle.lay_width.specs.Fitting.{WidthsFit, ShrunkFits}
+use Rattle.lay_width.specs.Fitting.{in_block, WidthsFit, ShrunkFits}
 use Rattle.lay_line.proofs.Chains.{but_mem}
 use Rattle.lay_flow.specs.Fits.{IsShapeFit}
 use Rattle.lay_flow.proofs.Following.{first, then}
@@ -33,7 +33,7 @@ returns-in-Block-clause-cause g c =
     let placed : placing_of tree b ≡ block_flow = grind arith in
     let cause = c.block.ensures.cause in
     record {
-      coeff = λ f. cause.coeff (λ e o. subst (λ p. WidthsFit tree e.world c.args.height b (at c.args.room.now e) p (preferred tree e.world b)) placed (f.1 e o).across);
+      coeff = λ f. cause.coeff (λ e o. subst (λ p. WidthsFit (in_block tree e.world c.args.height b (at c.args.room.now e)) p (preferred tree e.world b)) placed (f.1 e o).across);
       opens = cause.opens;
     }
 
@@ -45,7 +45,7 @@ returns-in-ReplacedBlock-clause-cause g c =
     let placed : placing_of tree b ≡ replaced_block = grind arith in
     let cause = c.replaced_block.ensures.cause in
     record {
-      coeff = λ f. cause.coeff (λ e o. subst (λ p. WidthsFit tree e.world c.args.height b (at c.args.room.now e) p (preferred tree e.world b)) placed (f.1 e o).across);
+      coeff = λ f. cause.coeff (λ e o. subst (λ p. WidthsFit (in_block tree e.world c.args.height b (at c.args.room.now e)) p (preferred tree e.world b)) placed (f.1 e o).across);
       opens = cause.opens;
     }
 
@@ -57,7 +57,7 @@ returns-in-ReplacedShrunk-clause-cause g c =
     let placed : placing_of tree b ≡ replaced_shrunk = grind arith in
     let cause = c.replaced_shrunk.ensures.cause in
     record {
-      coeff = λ f. cause.coeff (λ e o. subst (λ p. WidthsFit tree e.world c.args.height b (at c.args.room.now e) p (preferred tree e.world b)) placed (f.1 e o).across);
+      coeff = λ f. cause.coeff (λ e o. subst (λ p. WidthsFit (in_block tree e.world c.args.height b (at c.args.room.now e)) p (preferred tree e.world b)) placed (f.1 e o).across);
       opens = cause.opens;
     }
 
@@ -73,4 +73,4 @@ returns-in-Shrunk-clause-cause g c =
     let one = first {more = All} both.goes both.cause (λ f. f.0) in
     (then one c.shrunk.ensures.goes (but_mem c.shrunk.ensures.cause) (λ so_far f e o.
     subst (λ p. ShrunkFits tree e.world b (at c.args.room.now e) p) (sym (both.value e o))
-    (subst (λ p. WidthsFit tree e.world c.args.height b (at c.args.room.now e) p (preferred tree e.world b)) placed (f.1 e (so_far.closes e o)).across))).cause
+    (subst (λ p. WidthsFit (in_block tree e.world c.args.height b (at c.args.room.now e)) p (preferred tree e.world b)) placed (f.1 e (so_far.closes e o)).across))).cause

@@ -14,7 +14,7 @@ use Rattle.layout_semantics.specs.InlineContent.{float_boxes}
 use Rattle.layout_semantics.specs.Lines.{LaidLines}
 use Rattle.lay_float.specs.Readings.{box_at, boxes_at, floats_at}
 use Rattle.lay_line.specs.Contexts.{context_at}
-use Rattle.lay_line.specs.Lining.{begun_at}
+use Rattle.lay_line.specs.Lining.{begun_at, start_at}
 use Rattle.lay_line.specs.Readings.{load_at, met_at, pieces_at, slot_at, spots_at, entries_at}
 use Rattle.lay_line.specs.steps.Meeting.{placed_all}
 use Rattle.lay_line.proofs.LineBegins.{none-met}
@@ -62,13 +62,14 @@ returns-clause-cause g c =
     let y = (λ (e : Reading). at c.args.begun.y e) in
     let least = (λ (e : Reading). at c.args.begun.least e) in
     let n = c.args.begun.floats in
+    let start = (λ (e : Reading). start_at at c.args.begun e) in
     let slot = (λ (e : Reading). slot_at at c.args.line.slot e) in
     let load = (λ (e : Reading). load_at at c.args.line.load e) in
     let items = (λ (e : Reading). pieces_at at c.args.line.pieces.now e) in
     let floats = c.floats_of-boxes.ensures in
     let placed = c.place_each.ensures in
     let cut = (λ (e : Reading). ap (λ l. boxes_at at l e) c.truncate.ensures ∙ sym (take-map (λ f. box_at at f e) n c.args.line.load.met.floats.placed)) in
-    let first = start_but_mem {asks = λ (e : Reading). EndFits (ctx e) (y e) (least e) n (slot e) (load e) (items e)} floats.goes floats.cause (λ f. tt) in
+    let first = start_but_mem {asks = λ (e : Reading). EndFits (ctx e) (start e) (slot e) (load e) (items e)} floats.goes floats.cause (λ f. tt) in
     let second = next_but_mem first placed.goes placed.cause (λ f e o.
     let boxes = c.as_slice.ensures.value ∙ (floats.value e o ∙ ap float_boxes (sym (bare-same at e c.args.line.pieces.now))) in
     subst (λ l. PlacesFit (ctx e) l (least e) (y e) c.as_slice.result.now) (sym (cut e)) (subst (λ l. PlacesFit (ctx e) (take n (load e).met.floats) (least e) (y e) l) (sym boxes) (f e o).empty)) in
@@ -79,4 +80,4 @@ returns-clause-cause g c =
     let met = placed.value e o ∙ (ap (λ m. placed_all (ctx e) (least e) (y e) m c.as_slice.result.now) none
     ∙ (ap (λ l. placed_all (ctx e) (least e) (y e) (no_floats l) c.as_slice.result.now) (cut e) ∙ ap (λ l. placed_all (ctx e) (least e) (y e) (no_floats (take n (load e).met.floats)) l) boxes)) in
     subst (λ l. SpotsOnLine (spots_at at l e)) (sym c.as_slice-2.ensures.value)
-    (subst (λ (m : MetOf). SpotsOnLine m.spots) (sym met) (empty_spots (ctx e) (y e) (least e) n (slot e) (load e) (items e) (f e o))))).cause
+    (subst (λ (m : MetOf). SpotsOnLine m.spots) (sym met) (empty_spots (ctx e) (start e) (slot e) (load e) (items e) (f e o))))).cause

@@ -13,7 +13,7 @@ use Rattle.layout_semantics.specs.Floats.{band_at}
 use Rattle.layout_semantics.specs.Lines.{LaidLines}
 use Rattle.lay_float.specs.Readings.{boxes_at, floats_at, stretch_at}
 use Rattle.lay_line.specs.Contexts.{context_at}
-use Rattle.lay_line.specs.Lining.{begun_at, late_in}
+use Rattle.lay_line.specs.Lining.{begun_at, start_at, late_in}
 use Rattle.lay_line.specs.Readings.{entry_at, entries_at, load_at, met_at, pieces_at, slot_at, spots_at}
 use Rattle.lay_line.specs.steps.Lining.{entries_in, places_of, left_in}
 use Rattle.lay_line.specs.steps.Words.{room_in}
@@ -57,7 +57,7 @@ returns-clause-after g c = λ e o floats len.
     let room = room-is ctx (floats_at at c.args.line.load.met.floats e) slot.top slot.tall (stretch_at at c.band-room.result e)
     (c.band-room.ensures.value e o9 ∙ ap (λ l. band_at (boxes_at at l e) ctx.cb slot.top slot.tall) c.as_slice.ensures) in
     let is = full-is ctx (begun_at at c.args.begun floats e) load (pieces_at at c.args.line.pieces.now e) slot
-    (at c.add-bottom.result e) (at c.greater-least.result e) (stretch_at at c.band-room.result e) (met_at at c.place_waiting-late.result e) (at c.content_left-left.result e) (at c.add-baseline.result e)
+    (record { bottom = at c.add-bottom.result e; least = at c.greater-least.result e; room = stretch_at at c.band-room.result e; late = met_at at c.place_waiting-late.result e; left = at c.content_left-left.result e; baseline = at c.add-baseline.result e })
     (c.add-bottom.ensures.value e o10 ∙ ap (λ h. slot.top +ℤ h) (c.height-whole.ensures.value e o11))
     (c.greater-least.ensures.value e o7 ∙ ap (int_max (at c.args.begun.least e)) (c.copy-top.ensures.value e o8))
     room (c.place_waiting-late.ensures.value e o6) (c.content_left-left.ensures.value e o2) (c.add-baseline.ensures.value e o3) in
@@ -84,7 +84,7 @@ returns-clause-added g c = λ e o floats len.
     let room = room-is ctx (floats_at at c.args.line.load.met.floats e) slot.top slot.tall (stretch_at at c.band-room.result e)
     (c.band-room.ensures.value e o9 ∙ ap (λ l. band_at (boxes_at at l e) ctx.cb slot.top slot.tall) c.as_slice.ensures) in
     let is = full-is ctx (begun_at at c.args.begun floats e) load (pieces_at at c.args.line.pieces.now e) slot
-    (at c.add-bottom.result e) (at c.greater-least.result e) (stretch_at at c.band-room.result e) (met_at at c.place_waiting-late.result e) (at c.content_left-left.result e) (at c.add-baseline.result e)
+    (record { bottom = at c.add-bottom.result e; least = at c.greater-least.result e; room = stretch_at at c.band-room.result e; late = met_at at c.place_waiting-late.result e; left = at c.content_left-left.result e; baseline = at c.add-baseline.result e })
     (c.add-bottom.ensures.value e o10 ∙ ap (λ h. slot.top +ℤ h) (c.height-whole.ensures.value e o11))
     (c.greater-least.ensures.value e o7 ∙ ap (int_max (at c.args.begun.least e)) (c.copy-top.ensures.value e o8))
     room (c.place_waiting-late.ensures.value e o6) (c.content_left-left.ensures.value e o2) (c.add-baseline.ensures.value e o3) in
@@ -104,9 +104,7 @@ returns-clause-cause g c =
     let at = g.S.Steady.at in
     let run = g.S.Steady.run in
     let ctx = (λ (e : Reading). context_at at c.args.container.now e) in
-    let y = (λ (e : Reading). at c.args.begun.y e) in
-    let begun = (λ (e : Reading). at c.args.begun.least e) in
-    let n = c.args.begun.floats in
+    let start = (λ (e : Reading). start_at at c.args.begun e) in
     let slot = (λ (e : Reading). slot_at at c.args.line.slot e) in
     let load = (λ (e : Reading). load_at at c.args.line.load e) in
     let items = (λ (e : Reading). pieces_at at c.args.line.pieces.now e) in
@@ -121,36 +119,36 @@ returns-clause-cause g c =
     let base = c.add-baseline.ensures in
     let left = c.content_left-left.ensures in
     let again = c.copy-again.ensures in
-    let asks = (λ (e : Reading). EndFits (ctx e) (y e) (begun e) n (slot e) (load e) (items e)) in
+    let asks = (λ (e : Reading). EndFits (ctx e) (start e) (slot e) (load e) (items e)) in
     let bottom_is = (λ (e : Reading) (o : IsTrue ((run c.add-bottom.new.self).is_open e)). down.value e o ∙ ap (λ h. (slot e).top +ℤ h) (whole.value e (down.goes.closes e o))) in
     let room_is = (λ (e : Reading) (o : IsTrue ((run c.band-room.new.calc).is_open e)). room-is (ctx e) (load e).met.floats (slot e).top (slot e).tall (stretch_at at c.band-room.result e)
     (band.value e o ∙ ap (λ l. band_at (boxes_at at l e) (ctx e).cb (slot e).top (slot e).tall) c.as_slice.ensures)) in
-    let least_is = (λ (e : Reading) (o : IsTrue ((run c.greater-least.new.calc).is_open e)). greater.value e o ∙ ap (int_max (begun e)) (copied.value e (greater.goes.closes e o))) in
-    let one = start_but_mem {asks = asks} whole.goes (but_mem whole.cause) (λ f e o. (high_small (ctx e) (y e) (begun e) n (slot e) (load e) (items e) (f e o), tt)) in
+    let least_is = (λ (e : Reading) (o : IsTrue ((run c.greater-least.new.calc).is_open e)). greater.value e o ∙ ap (int_max (start e).least) (copied.value e (greater.goes.closes e o))) in
+    let one = start_but_mem {asks = asks} whole.goes (but_mem whole.cause) (λ f e o. (high_small (ctx e) (start e) (slot e) (load e) (items e) (f e o), tt)) in
     let two = next_but_mem one down.goes (but_mem down.cause) (λ f e o.
-    (subst IsSmall (sym (ap (λ h. (slot e).top +ℤ h) (whole.value e o))) (bottom_small (ctx e) (y e) (begun e) n (slot e) (load e) (items e) (f e o)), tt)) in
+    (subst IsSmall (sym (ap (λ h. (slot e).top +ℤ h) (whole.value e o))) (bottom_small (ctx e) (start e) (slot e) (load e) (items e) (f e o)), tt)) in
     let three = next_but_mem two band.goes (but_mem band.cause) (λ f e o.
-    subst (λ l. AreHalf (boxes_at at l e) ((ctx e).cb.left ∷ (ctx e).cb.right ∷ (slot e).top ∷ (slot e).tall ∷ [])) (sym c.as_slice.ensures) (room_half (ctx e) (y e) (begun e) n (slot e) (load e) (items e) (f e o))) in
-    let four = next_but_mem three copied.goes (but_mem copied.cause) (λ f e o. top_small (ctx e) (y e) (begun e) n (slot e) (load e) (items e) (f e o)) in
+    subst (λ l. AreHalf (boxes_at at l e) ((ctx e).cb.left ∷ (ctx e).cb.right ∷ (slot e).top ∷ (slot e).tall ∷ [])) (sym c.as_slice.ensures) (room_half (ctx e) (start e) (slot e) (load e) (items e) (f e o))) in
+    let four = next_but_mem three copied.goes (but_mem copied.cause) (λ f e o. top_small (ctx e) (start e) (slot e) (load e) (items e) (f e o)) in
     let five = next_but_mem four greater.goes (but_mem greater.cause) (λ f. tt) in
     let six = next_but_mem five late.goes late.cause (λ f e o.
     let o1 = band.goes.closes e (copied.goes.closes e (greater.goes.closes e o)) in
     subst (λ x. PlacesFit (ctx e) (load e).met.floats x (at c.add-bottom.result e) (load e).met.waiting) (sym (least_is e o))
-    (subst (λ x. PlacesFit (ctx e) (load e).met.floats (int_max (begun e) (slot e).top) x (load e).met.waiting) (sym (bottom_is e o1))
-    (late_places (ctx e) (y e) (begun e) n (slot e) (load e) (items e) (f e o)))) in
+    (subst (λ x. PlacesFit (ctx e) (load e).met.floats (int_max (start e).least (slot e).top) x (load e).met.waiting) (sym (bottom_is e o1))
+    (late_places (ctx e) (start e) (slot e) (load e) (items e) (f e o)))) in
     let seven = next_but_mem six entry.goes (but_mem entry.cause) (λ f e o.
     let o1 = copied.goes.closes e (greater.goes.closes e (late.goes.closes e o)) in
     let o2 = band.goes.closes e o1 in
     subst (λ (b : Band ℤ). AllSmall (b.left ∷ (slot e).top ∷ b.right ∷ at c.add-bottom.result e ∷ [])) (sym (room_is e o1))
     (subst (λ x. AllSmall ((room_in (ctx e) (load e).met.floats (slot e).top (slot e).tall).left ∷ (slot e).top ∷ (room_in (ctx e) (load e).met.floats (slot e).top (slot e).tall).right ∷ x ∷ [])) (sym (bottom_is e o2))
-    (box_small (ctx e) (y e) (begun e) n (slot e) (load e) (items e) (f e o)))) in
+    (box_small (ctx e) (start e) (slot e) (load e) (items e) (f e o)))) in
     let eight = next_but_mem seven added.goes added.cause (λ f. tt) in
-    let nine = next_but_mem eight base.goes (but_mem base.cause) (λ f e o. (baseline_small (ctx e) (y e) (begun e) n (slot e) (load e) (items e) (f e o), tt)) in
+    let nine = next_but_mem eight base.goes (but_mem base.cause) (λ f e o. (baseline_small (ctx e) (start e) (slot e) (load e) (items e) (f e o), tt)) in
     let ten = next_but_mem nine left.goes (but_mem left.cause) (λ f e o.
     let o1 = copied.goes.closes e (greater.goes.closes e (late.goes.closes e (entry.goes.closes e (added.goes.closes e (base.goes.closes e o))))) in
-    subst (λ (b : Band ℤ). OnLine (b.left ∷ b.right ∷ (load e).held.width ∷ [])) (sym (room_is e o1)) (begin_on_line (ctx e) (y e) (begun e) n (slot e) (load e) (items e) (f e o))) in
+    subst (λ (b : Band ℤ). OnLine (b.left ∷ b.right ∷ (load e).held.width ∷ [])) (sym (room_is e o1)) (begin_on_line (ctx e) (start e) (slot e) (load e) (items e) (f e o))) in
     let eleven = next_but_mem ten again.goes (but_mem again.cause) (λ f e o.
-    (subst IsSmall (sym (base.value e (left.goes.closes e o))) (baseline_small (ctx e) (y e) (begun e) n (slot e) (load e) (items e) (f e o)), tt)) in
+    (subst IsSmall (sym (base.value e (left.goes.closes e o))) (baseline_small (ctx e) (start e) (slot e) (load e) (items e) (f e o)), tt)) in
     (next_but_mem eleven c.add_content.ensures.goes c.add_content.ensures.cause (λ f e o.
     let o1 = again.goes.closes e o in
     let o2 = left.goes.closes e o1 in
@@ -165,6 +163,6 @@ returns-clause-cause g c =
           (subst (λ x. ContentFits ((slot e).top +ℤ (load e).extent.above) x (load e).held.width (spots_at at c.place_waiting-late.result.spots.items e) (items e))
           (sym (left.value e o1 ∙ ap (λ b. left_in (ctx e) b (load e).held.width) (room_is e o6)))
           (subst (λ (m : MetOf). ContentFits ((slot e).top +ℤ (load e).extent.above) (left_in (ctx e) (room_in (ctx e) (load e).met.floats (slot e).top (slot e).tall) (load e).held.width) (load e).held.width m.spots (items e))
-          (sym (late.value e o4 ∙ (ap (λ x. late_in (ctx e) x (at c.add-bottom.result e) (load e).met) (least_is e o5) ∙ ap (λ x. late_in (ctx e) (int_max (begun e) (slot e).top) x (load e).met) (bottom_is e o7))))
-          (content_fits (ctx e) (y e) (begun e) n (slot e) (load e) (items e) fits))),
+          (sym (late.value e o4 ∙ (ap (λ x. late_in (ctx e) x (at c.add-bottom.result e) (load e).met) (least_is e o5) ∙ ap (λ x. late_in (ctx e) (int_max (start e).least (slot e).top) x (load e).met) (bottom_is e o7))))
+          (content_fits (ctx e) (start e) (slot e) (load e) (items e) fits))),
     ))).cause

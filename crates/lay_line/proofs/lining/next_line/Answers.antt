@@ -1,4 +1,4 @@
-use Rattle.std.proofs.Common.{◌++◌, ◌∷◌, IsTrue, List, sym, subst, ap, ◌∙◌}
+use Rattle.std.proofs.Common.{ℕ, ◌++◌, ◌∷◌, IsTrue, List, sym, subst, ap, ◌∙◌}
 use Rattle.std.proofs.lemmas.List.{length-map}
 use Rattle.viz_calc.specs.World.{Reading}
 use Rattle.viz_calc.proofs.Runs.{Goes-then}
@@ -9,7 +9,7 @@ use Rattle.lay_line.specs.Lining.{so_far_at}
 use Rattle.lay_line.specs.Readings.{entries_at, held_at, load_at, loaded_at, met_at, parts_at, pieces_at}
 use Rattle.layout_semantics.specs.LineFilling.{Met as MetOf}
 use Rattle.lay_line.specs.Limits.{HoldFits, RoomFits, FillFits}
-use Rattle.lay_line.specs.LinesFit.{FirstFits, EndFits, RestFits}
+use Rattle.lay_line.specs.LinesFit.{FirstFits, Start, EndFits, RestFits}
 use Rattle.lay_line.specs.steps.Held.{Held, nothing_held}
 use Rattle.lay_line.specs.steps.Lining.{met_before, slot_for, first_load, joined_parts, taken}
 use Rattle.lay_line.specs.steps.Loading.{Load, loading}
@@ -63,6 +63,7 @@ returns g c =
     let ctx = (λ (e : Reading). context_at at c.args.frame.now.container.now e) in
     let tall = (λ (e : Reading). at c.args.frame.now.tall e) in
     let so_far = (λ (e : Reading). so_far_at at c.args.now e) in
+    let start = (λ (e : Reading) (n : ℕ). let s : Start = record { y = (so_far e).y; least = (so_far e).least; floats = n } in s) in
     let first = (λ (e : Reading). pieces_at at cut.first.now e) in
     let rest = (λ (e : Reading). parts_at at cut.rest e) in
     let nothing = c.nothing-start.ensures in
@@ -136,9 +137,9 @@ returns g c =
           ∙ ap (λ (x : LaidLines × List (List Measured)). entries_at at c.args.entries.now e ++ x.0.entries) (sym (is e o));
       rest = λ e o. ap (λ (x : LaidLines × List (List Measured)). x.1) (sym (is e o));
       cause = (next_but_mem eight c.end_line-now.ensures.goes c.end_line-now.ensures.cause (λ f e o.
-          subst (λ (x : Slot). EndFits (ctx e) (so_far e).y (so_far e).least c.len.result x (load_at at c.fill-filled.result.load e) (pieces_at at c.split_at.result.0.now e)) (sym (slot_is e (load.goes.closes e (fill.goes.closes e o))))
-          (subst (λ (x : Load × List (List Measured)). EndFits (ctx e) (so_far e).y (so_far e).least c.len.result (the_slot e) x.0 (pieces_at at c.split_at.result.0.now e)) (sym (full_is e o))
-          (subst (λ (l : List Measured). EndFits (ctx e) (so_far e).y (so_far e).least c.len.result (the_slot e) (loading (ctx e) (the_slot e) (the_load e) (rest e)).0 l) (sym (items_is e o))
-          (subst (λ n. EndFits (ctx e) (so_far e).y (so_far e).least n (the_slot e) (loading (ctx e) (the_slot e) (the_load e) (rest e)).0 (taken (joined_parts (first e ∷ rest e)) (joined_parts (loading (ctx e) (the_slot e) (the_load e) (rest e)).1))) (length-map c.args.now.floats.placed (λ x. box_at at x e) ∙ sym c.len.ensures)
+          subst (λ (x : Slot). EndFits (ctx e) (start e c.len.result) x (load_at at c.fill-filled.result.load e) (pieces_at at c.split_at.result.0.now e)) (sym (slot_is e (load.goes.closes e (fill.goes.closes e o))))
+          (subst (λ (x : Load × List (List Measured)). EndFits (ctx e) (start e c.len.result) (the_slot e) x.0 (pieces_at at c.split_at.result.0.now e)) (sym (full_is e o))
+          (subst (λ (l : List Measured). EndFits (ctx e) (start e c.len.result) (the_slot e) (loading (ctx e) (the_slot e) (the_load e) (rest e)).0 l) (sym (items_is e o))
+          (subst (λ n. EndFits (ctx e) (start e n) (the_slot e) (loading (ctx e) (the_slot e) (the_load e) (rest e)).0 (taken (joined_parts (first e ∷ rest e)) (joined_parts (loading (ctx e) (the_slot e) (the_load e) (rest e)).1))) (length-map c.args.now.floats.placed (λ x. box_at at x e) ∙ sym c.len.ensures)
           (end_fits (ctx e) (tall e) (so_far e) (first e) (rest e) (whole e (f e o)))))))).cause;
     }

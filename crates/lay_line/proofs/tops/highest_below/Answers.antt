@@ -1,9 +1,8 @@
-use Rattle.std.proofs.Common.{arith}
+use Rattle.std.proofs.Common.{sym, arith}
 use Rattle.std.proofs.lemmas.Grind.{common_steps}
 use Rattle.viz_calc.specs.World.{Reading}
-use Rattle.layout_laws.proofs.Among.{contains}
+use Rattle.layout_laws.proofs.Members.{to_map}
 use Rattle.lay_float.specs.Readings.{box_at, boxes_at}
-use Rattle.lay_float.proofs.Loops.{among-at}
 use Rattle.lay_float.proofs.Spots.{half_small}
 use Rattle.lay_line.specs.Contexts.{context_at}
 use Rattle.lay_line.specs.Limits.{RoomFits}
@@ -21,7 +20,7 @@ loop-f-preserved g c =
     record { goes = c.loop-f.invariant.goes; cause = c.loop-f.invariant.cause } in
     let then = next so_far c.with_bottom-best.ensures.goes c.with_bottom-best.ensures.cause (λ half e o.
     let room = half e o in
-    let edges = room.edges (box_at at f e) (contains (boxes_at at all e) (box_at at f e) (among-at (λ x. box_at at x e) all c.loop-f.f-index f c.loop-f-test.true c.f-item.is)) in
+    let edges = room.edges (box_at at f e) (to_map (λ x. box_at at x e) all f (c.loop-f.f-index, c.loop-f-test.true, sym c.f-item.is)) in
     (record { edges = room.edges; numbers = (room.numbers.0, (room.numbers.1.0, (edges.1.1.1.0, (room.numbers.1.1.1.0, tt)))) }, (half_small (at f.outer.bottom e) edges.1.1.1.0, tt))) in
     record {
       goes = then.goes;

@@ -4,8 +4,8 @@ use Rattle.viz_calc.specs.Run.{Blames}
 use Rattle.viz_calc.proofs.Runs.{Blames-then}
 use Rattle.layout_semantics.specs.Horizontal.{is_auto, terms_around}
 use Rattle.lay_width.specs.Readings.{widths_at}
-use Rattle.lay_width.specs.Fitting.{BlockFits, BlockFitsBy, GivenBlockFits}
-use Rattle.lay_width.proofs.HeldTerms.{own_width_of, block-auto, block-length}
+use Rattle.lay_width.specs.Fitting.{own_width_of, BlockFits, BlockFitsBy, GivenBlockFits}
+use Rattle.lay_width.proofs.HeldTerms.{block-auto, block-length}
 use Rattle.lay_width.proofs.engine.block.Goals as goal
 
 pub returns-then-is_auto-clause-value : goal.returns-then-is_auto-clause-value
@@ -39,5 +39,5 @@ returns-else-is_auto-clause-cause g c =
     ((e : Reading) → IsTrue ((run c.edges-edges.new.calc).is_open e) → GivenBlockFits tree e.world b (at c.args.cb.now e) length (widths_at at c.edges-edges.result e))
     more edges.goes c.given_block.ensures.goes first
     (λ f e o. subst (λ t. GivenBlockFits tree e.world b (at c.args.cb.now e) length t) (sym (edges.value e o))
-    (subst (λ x. BlockFitsBy x tree e.world b (at c.args.cb.now e) length (terms_around tree e.world b (at c.args.cb.now e) (pos 0))) given (f e (edges.goes.closes e o)).1))
+    (subst (λ x. BlockFitsBy x tree e.world b (at c.args.cb.now e) (terms_around tree e.world b (at c.args.cb.now e) (pos 0))) given (f e (edges.goes.closes e o)).1))
     c.given_block.ensures.cause

@@ -2,7 +2,7 @@ use Rattle.std.proofs.Common.{◌≡◌, arith, subst}
 use Rattle.layout_semantics.specs.Horizontal.{block_flow, shrunk, replaced_block, replaced_shrunk, placing_of}
 use Rattle.layout_laws.proofs.HorizontalTerms.{widths-placed}
 use Rattle.lay_width.specs.Readings.{preferred_at}
-use Rattle.lay_width.specs.Fitting.{WidthsFit}
+use Rattle.lay_width.specs.Fitting.{in_block, WidthsFit}
 use Rattle.lay_width.proofs.engine.widths.Goals as goal
 
 pub returns-in-Block-clause-value : goal.returns-in-Block-clause-value
@@ -36,6 +36,6 @@ returns-in-ReplacedBlock-clause-cause g c =
     let cause = c.replaced_block.ensures.cause in
     record {
       mem = cause.mem;
-      coeff = λ f. cause.coeff (λ e o. subst (λ p. WidthsFit c.args.tree.now e.world c.args.height c.args.b (g.S.Steady.at c.args.cb.now e) p (preferred_at g.S.Steady.at c.args.preferred.now e)) placed (f e o));
+      coeff = λ f. cause.coeff (λ e o. subst (λ p. WidthsFit (in_block c.args.tree.now e.world c.args.height c.args.b (g.S.Steady.at c.args.cb.now e)) p (preferred_at g.S.Steady.at c.args.preferred.now e)) placed (f e o));
       opens = cause.opens;
     }
