@@ -19,6 +19,7 @@ pub enum Parting {
     Never,
 }
 
+#[tactic(auto, unfolding(layout_semantics::specs::Stretches::wraps))]
 /// Whether `white-space` of a box's node lets lines break (CSS 2.1, 16.6).
 fn wraps(tree: &BoxTree, at: u32) -> bool
     ensures { result ≡ wraps_at tree.now at }

@@ -114,6 +114,7 @@ fn is_in_lines(tree: &BoxTree, b: u32) -> bool
     false
 }
 
+#[tactic(auto, unfolding(layout_semantics::specs::InlineContent::holds_inline))]
 /// Whether a block container holds inline content (CSS 2.1, 9.2.1).
 pub fn holds_inline(tree: &BoxTree, b: u32) -> bool
     requires { b < length tree.now.boxes }

@@ -46,6 +46,7 @@ pub fn starts_context(tree: &BoxTree, b: u32) -> bool
     }
 }
 
+#[tactic(auto, unfolding(layout_semantics::specs::FlowBoxes::is_block_level_at))]
 /// Whether a box is block-level (CSS 2.1, 9.2.1).
 fn is_block_level(tree: &BoxTree, b: u32) -> bool
     ensures { result ≡ is_block_level_at tree.now b }
@@ -56,6 +57,7 @@ fn is_block_level(tree: &BoxTree, b: u32) -> bool
     }
 }
 
+#[tactic(auto, unfolding(layout_semantics::specs::FlowBoxes::stands_clear_of_floats))]
 /// Whether a box is treated as `clear: both`, so that it overlaps no float.
 pub fn stands_clear(tree: &BoxTree, b: u32) -> bool
     ensures { result ≡ stands_clear_of_floats tree.now b }

@@ -18,7 +18,7 @@ use Rattle.layout_semantics.specs.LineHeights.{InlineContext}
 use Rattle.layout_semantics.specs.Preferred.{absolute_part, measured_width, preferred_item, preferred_stretch, preferred_floats, preferred_inline, greatest, with_least, with_most}
 use Rattle.layout_semantics.specs.Stretches.{stretches, pieces, may_part, never, what_stays}
 use Rattle.layout_laws.proofs.Members.{first_member, later_member}
-use Rattle.layout_laws.proofs.Greatest.{all_at}
+use Rattle.layout_laws.proofs.Greatest.{All-at}
 use Rattle.layout_laws.proofs.Levels.{IsFrom, inner_boxes-from}
 use Rattle.layout_laws.specs.Outer.{outer_widths}
 use Rattle.layout_semantics.proofs.Pages.{forest}
@@ -269,7 +269,7 @@ pub inline-same : (tree : BoxTree) (w : World) (at : ℕ) → inline_in tree w a
 unfolding inline_in
 inline-same tree w at =
     let ks = inner_boxes tree at in
-    let within = λ (k : ℕ) (i : Contains ks k). (all_at (IsFrom tree.boxes (suc at)) ks k (inner_boxes-from tree at (forest tree)) i).within in
+    let within = λ (k : ℕ) (i : Contains ks k). (All-at (IsFrom tree.boxes (suc at)) ks k (inner_boxes-from tree at (forest tree)) i).within in
     ap (inline_of tree (content tree at)) (all-tabled tree w ks within (content tree at) (λ k i. i))
     ∙ tabled-is tree w (least_table tree w ks within) (most_table tree w ks within) (content tree at)
 

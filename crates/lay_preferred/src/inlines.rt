@@ -56,6 +56,7 @@ pub enum Sort {
     Blocks,
 }
 
+#[tactic(auto, unfolding(layout_semantics::specs::InlineContent::holds_inline))]
 /// Whether a block container holds inline content (CSS 2.1, 9.2.1).
 fn holds_inline(tree: &BoxTree, at: u32) -> bool
     ensures { result ≡ holds_lines tree.now at }

@@ -244,6 +244,7 @@ fn box_is_inline_level(node: &BoxNode) -> bool
     }
 }
 
+#[tactic(auto, unfolding(layout_semantics::specs::InlineContent::is_inline_level_at))]
 /// Whether the box at a place is inline-level and does not float.
 pub fn inline_level_at(tree: &BoxTree, b: u32) -> bool
     ensures { result ≡ is_inline_level_at tree.now b }
