@@ -17,12 +17,12 @@ use Rattle.layout_semantics.specs.Replaced.{intrinsic}
 use Rattle.layout_semantics.specs.Stretches.{may_part, never}
 use Rattle.layout_laws.proofs.Levels.{IsFrom, All-implied, kids-within}
 use Rattle.lay_line.specs.steps.Marks.{marks}
-use Rattle.lay_width.specs.Fitting.{MostFits, RatioFits}
+use Rattle.lay_width.specs.Fitting.{own_width_of, MostFits, RatioFits}
 use Rattle.lay_width.specs.steps.Terms.{tentative}
 use Rattle.lay_reach.proofs.Numbers.{size-+, size-max, size-min}
 use Rattle.lay_preferred.specs.Fitting.{side_way, SideFits, StartFits, EndFits, AroundFits, GivenFits, ReplacedFits, leasts, mosts, LengthFits, MaximumFits, LengthsFit, room_of, room_by, room_inside, BoxFits, AreWithin}
 use Rattle.lay_preferred.specs.steps.Columns.{no_children}
-use Rattle.lay_preferred.specs.steps.Outer.{edge, start_of, end_of, edges_of, held_of, with_edges, own_width, is_given, given, around, replaced, outer}
+use Rattle.lay_preferred.specs.steps.Outer.{edge, start_of, end_of, edges_of, held_of, with_edges, is_given, given, around, replaced, outer}
 use Rattle.lay_preferred.specs.steps.Parts.{Sized, sized, widths_of, inline_of, inline_in, blocks_in, IsInside}
 use Rattle.lay_preferred.proofs.Levels.{of-replaced, of-inline, of-blocks, content-inside}
 use Rattle.lay_preferred.proofs.OuterWidths.{outer-given, outer-inside}
@@ -129,7 +129,7 @@ module _ (tree : BoxTree) (w : World) where
         )
 
     pub given-fits : n ≤ 2 ^ 90 → GivenFits tree w at
-    given-fits l = (f.width.way, around-fits n (edge tree w (own_width tree at)) (omega arith) l f.width.size)
+    given-fits l = (f.width.way, around-fits n (edge tree w (own_width_of tree at)) (omega arith) l f.width.size)
 
     pub replaced-size : AreWithin n (replaced tree w at)
     unfolding replaced edge
@@ -202,7 +202,7 @@ module _ (tree : BoxTree) (w : World) (lengths cap : ℕ → ℕ) (fits : (at : 
       by true e = subst (AreWithin (cap at)) (outer-given tree w at e) held_by
         where
           held_by : AreWithin (cap at) (given tree w at)
-          held_by = let s = around-size tree w (lengths at) at box.own (lengths at) (edge tree w (own_width tree at)) (omega arith) box.own.width.size in
+          held_by = let s = around-size tree w (lengths at) at box.own (lengths at) (edge tree w (own_width_of tree at)) (omega arith) box.own.width.size in
               (omega (arith, s, room), omega (arith, s, room))
       by false e = subst (AreWithin (cap at)) (outer-inside tree w at e) held_by
         where

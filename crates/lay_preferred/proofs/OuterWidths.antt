@@ -11,13 +11,14 @@ use Rattle.viz_base.specs.declared.worlds.World.{World}
 use Rattle.layout_semantics.specs.Blocks.{kind_of}
 use Rattle.layout_semantics.specs.Lengths.{used_if_absolute}
 use Rattle.layout_semantics.specs.Preferred.{absolute_part, outer_edges, held_absolute, outer_width, preferred}
-use Rattle.lay_preferred.specs.steps.Outer.{edge, edges_of, held_of, with_edges, own_width, has_own, is_absolute, is_given, given, around, outer}
+use Rattle.lay_width.specs.Fitting.{own_width_of}
+use Rattle.lay_preferred.specs.steps.Outer.{edge, edges_of, held_of, with_edges, has_own, is_absolute, is_given, given, around, outer}
 
 module _ (tree : BoxTree) (w : World) (at : ℕ) where
   abbrev so_wide : ℤ → ℤ
   so_wide y = held_absolute tree w at y +ℤ outer_edges tree w at
 
-  by-own : (x : ℤ) (k : Kind) → kind_of tree at ≡ k → has_own k ≡ true → outer_width tree w at x ≡ so_wide (unwrap_or (used_if_absolute tree w (own_width tree at)) x)
+  by-own : (x : ℤ) (k : Kind) → kind_of tree at ≡ k → has_own k ≡ true → outer_width tree w at x ≡ so_wide (unwrap_or (used_if_absolute tree w (own_width_of tree at)) x)
   by-own x of_kind.Replaced e f = absurd (cc)
   by-own x of_kind.Block e f = cc
   by-own x of_kind.Anon e f = cc
@@ -51,20 +52,20 @@ module _ (tree : BoxTree) (w : World) (at : ℕ) where
   relative-is x (of_length.Px c) e = absurd (cc)
   relative-is x (of_length.Em n d) e = absurd (cc)
 
-  width-given : (x : ℤ) → is_given tree at ≡ true → outer_width tree w at x ≡ so_wide (absolute_part tree w (own_width tree at))
+  width-given : (x : ℤ) → is_given tree at ≡ true → outer_width tree w at x ≡ so_wide (absolute_part tree w (own_width_of tree at))
   unfolding is_given
   width-given x e = by (has_own (kind_of tree at)) refl e
     where
-      by : (b : Bool) → has_own (kind_of tree at) ≡ b → (b && is_absolute (own_width tree at)) ≡ true → outer_width tree w at x ≡ so_wide (absolute_part tree w (own_width tree at))
-      by true f g = by-own x (kind_of tree at) refl f ∙ ap so_wide (absolute-is x (own_width tree at) g)
+      by : (b : Bool) → has_own (kind_of tree at) ≡ b → (b && is_absolute (own_width_of tree at)) ≡ true → outer_width tree w at x ≡ so_wide (absolute_part tree w (own_width_of tree at))
+      by true f g = by-own x (kind_of tree at) refl f ∙ ap so_wide (absolute-is x (own_width_of tree at) g)
       by false f g = absurd (cc)
 
   width-inside : (x : ℤ) → is_given tree at ≡ false → outer_width tree w at x ≡ so_wide x
   unfolding is_given
   width-inside x e = by (has_own (kind_of tree at)) refl e
     where
-      by : (b : Bool) → has_own (kind_of tree at) ≡ b → (b && is_absolute (own_width tree at)) ≡ false → outer_width tree w at x ≡ so_wide x
-      by true f g = by-own x (kind_of tree at) refl f ∙ ap so_wide (relative-is x (own_width tree at) g)
+      by : (b : Bool) → has_own (kind_of tree at) ≡ b → (b && is_absolute (own_width_of tree at)) ≡ false → outer_width tree w at x ≡ so_wide x
+      by true f g = by-own x (kind_of tree at) refl f ∙ ap so_wide (relative-is x (own_width_of tree at) g)
       by false f g = by-inside x (kind_of tree at) refl f
 
   abbrev pair : ℤ → ℤ → Preferred ℤ
@@ -73,7 +74,7 @@ module _ (tree : BoxTree) (w : World) (at : ℕ) where
   -- a box of a given width, whatever is in it
   pub outer-given : is_given tree at ≡ true → given tree w at ≡ outer tree w at
   unfolding given outer with_edges held_of edges_of edge
-  outer-given e = ap (λ x. pair x (so_wide (absolute_part tree w (own_width tree at)))) (sym (width-given (preferred tree w at).least e))
+  outer-given e = ap (λ x. pair x (so_wide (absolute_part tree w (own_width_of tree at)))) (sym (width-given (preferred tree w at).least e))
       ∙ ap (pair (outer_width tree w at (preferred tree w at).least)) (sym (width-given (preferred tree w at).most e))
 
   -- another by what is in it

@@ -11,7 +11,8 @@ use Rattle.lay_line.specs.Ways.{item_way}
 use Rattle.lay_line.specs.steps.Held.{Held, nothing_held}
 use Rattle.lay_line.specs.steps.Loading.{parted_by, parts_of}
 use Rattle.lay_reach.proofs.Numbers.{size-+, size-max}
-use Rattle.lay_preferred.specs.Fitting.{after_way, reach, leasts, mosts, IsHalf, AreWithin}
+use Rattle.lay_line.specs.Limits.{held_size}
+use Rattle.lay_preferred.specs.Fitting.{after_way, leasts, mosts, IsHalf, AreWithin}
 use Rattle.lay_preferred.specs.declared.columns.Column.{Column}
 use Rattle.lay_preferred.specs.steps.Columns.{beside, with_in_flow, with_float, with_child, with_children, whole}
 use Rattle.lay_preferred.specs.steps.Extremes.{larger, or_zero}
@@ -19,7 +20,7 @@ use Rattle.lay_preferred.specs.steps.Parts.{Sized, held_after, held_least, held_
 
 -- ---- a part
 
-pub after-fits : (x : ℤ) (h : Held) (i : Item) → IsHalf (reach h + unsigned_abs x) → AllSmall (after_way x h i)
+pub after-fits : (x : ℤ) (h : Held) (i : Item) → IsHalf (held_size h + unsigned_abs x) → AllSmall (after_way x h i)
 after-fits x h i l = by i
   where
     solid : AllSmall (item_way x h (atomic 0))
@@ -42,20 +43,20 @@ after-fits x h i l = by i
     by (float at) = tt
 
 -- with an item more, and the floats so far with it
-pub after-reach : (x : ℤ) (h : Held) (i : Item) → reach (held_after x h i) ≤ reach h + unsigned_abs x
+pub after-reach : (x : ℤ) (h : Held) (i : Item) → held_size (held_after x h i) ≤ held_size h + unsigned_abs x
 after-reach x h i = by i
   where
-    solid : unsigned_abs (h.width +ℤ h.spaces +ℤ x) + 0 ≤ reach h + unsigned_abs x
+    solid : unsigned_abs (h.width +ℤ h.spaces +ℤ x) + 0 ≤ held_size h + unsigned_abs x
     solid = let s = size-+ h.width h.spaces in let t = size-+ (h.width +ℤ h.spaces) x in omega (arith, s, t)
 
-    other : unsigned_abs (h.width +ℤ x) + unsigned_abs h.spaces ≤ reach h + unsigned_abs x
+    other : unsigned_abs (h.width +ℤ x) + unsigned_abs h.spaces ≤ held_size h + unsigned_abs x
     other = let s = size-+ h.width x in omega (arith, s)
 
-    spaced : (b : Bool) → unsigned_abs h.width + unsigned_abs (cond b (h.spaces +ℤ x) (pos 0)) ≤ reach h + unsigned_abs x
+    spaced : (b : Bool) → unsigned_abs h.width + unsigned_abs (cond b (h.spaces +ℤ x) (pos 0)) ≤ held_size h + unsigned_abs x
     spaced true = let s = size-+ h.spaces x in omega (arith, s)
     spaced false = omega arith
 
-    by : (j : Item) → reach (held_after x h j) ≤ reach h + unsigned_abs x
+    by : (j : Item) → held_size (held_after x h j) ≤ held_size h + unsigned_abs x
     by (word at text) = solid
     by (atomic at) = solid
     by (space at) = spaced h.begun
@@ -73,12 +74,12 @@ sum-reach sum s (start at) = omega arith
 sum-reach sum s (finish at) = omega arith
 sum-reach sum s (forced at) = omega arith
 
-pub least-reach : (h : Held) (ss : List Sized) → reach (held_least h ss) ≤ reach h + leasts ss
+pub least-reach : (h : Held) (ss : List Sized) → held_size (held_least h ss) ≤ held_size h + leasts ss
 least-reach h [] = omega arith
 least-reach h (s ∷ ss) = let first = after-reach s.widths.least h s.item in let rest = least-reach (held_after s.widths.least h s.item) ss in omega (arith, first, rest)
 
 -- an item is either a float or not
-both-reach : (x : ℤ) (h : Held) (sum : ℤ) (s : Sized) (i : Item) → s.widths.most ≡ x → reach (held_after x h i) + unsigned_abs (sum_after sum s i) ≤ reach h + unsigned_abs sum + unsigned_abs x
+both-reach : (x : ℤ) (h : Held) (sum : ℤ) (s : Sized) (i : Item) → s.widths.most ≡ x → held_size (held_after x h i) + unsigned_abs (sum_after sum s i) ≤ held_size h + unsigned_abs sum + unsigned_abs x
 both-reach x h sum s (float at) e = let t = size-+ sum s.widths.most in let same = ap unsigned_abs e in omega (arith, t, same)
 both-reach x h sum s (word at text) e = let t = after-reach x h (word at text) in omega (arith, t)
 both-reach x h sum s (atomic at) e = let t = after-reach x h (atomic at) in omega (arith, t)
@@ -87,7 +88,7 @@ both-reach x h sum s (start at) e = let t = after-reach x h (start at) in omega 
 both-reach x h sum s (finish at) e = let t = after-reach x h (finish at) in omega (arith, t)
 both-reach x h sum s (forced at) e = let t = after-reach x h (forced at) in omega (arith, t)
 
-pub most-reach : (h : Held) (sum : ℤ) (ss : List Sized) → reach (held_most h ss) + unsigned_abs (floats_from sum ss) ≤ reach h + unsigned_abs sum + mosts ss
+pub most-reach : (h : Held) (sum : ℤ) (ss : List Sized) → held_size (held_most h ss) + unsigned_abs (floats_from sum ss) ≤ held_size h + unsigned_abs sum + mosts ss
 most-reach h sum [] = omega arith
 most-reach h sum (s ∷ ss) =
     let first = both-reach s.widths.most h sum s s.item refl in

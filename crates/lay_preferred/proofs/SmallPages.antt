@@ -21,6 +21,7 @@ use Rattle.viz_base.specs.declared.trees.Kind.TheVariants as of_kind
 use Rattle.viz_base.specs.declared.worlds.World.{World}
 use Rattle.viz_calc.specs.World.{Reading}
 use Rattle.viz_calc.specs.State.{AllSmall}
+use Rattle.layout_semantics.specs.DefiniteHeights.{own_height}
 use Rattle.layout_semantics.specs.Blocks.{kind_of, node_of, style_of}
 use Rattle.layout_semantics.specs.InlineContent.{Item, text_of, text_items}
 use Rattle.layout_semantics.specs.Lengths.{used_if_absolute, own_style, own, nothing, no_sides}
@@ -35,7 +36,7 @@ use Rattle.lay_reach.proofs.Fonts.{em-up}
 use Rattle.lay_reach.proofs.Numbers.{size-fraction}
 use Rattle.lay_reach.proofs.Texts.{IsTextAt, text-only, texts-low}
 use Rattle.lay_width.specs.steps.Terms.{tentative}
-use Rattle.lay_preferred.specs.Fitting.{own_height, LengthFits, SidesFit, MaximumFits, LengthsFit, WordFits, room_of, WholeTextFits, AreSmallBoxes}
+use Rattle.lay_preferred.specs.Fitting.{LengthFits, SidesFit, MaximumFits, LengthsFit, WordFits, room_of, WholeTextFits, AreSmallBoxes}
 use Rattle.lay_preferred.specs.steps.Outer.{edge}
 use Rattle.lay_preferred.specs.steps.Parts.{width_of}
 

@@ -4,7 +4,6 @@ use Rattle.std.specs.Prelude.{◌≤◌, ◌<◌, ℕ, ◌+◌, ◌*◌, ◌^◌
 use Rattle.std.specs.List.{AllByRecursion}
 use Rattle.viz_base.specs.declared.layouts.Preferred.{Preferred}
 use Rattle.viz_base.specs.declared.lengths.Length.{Length}
-use Rattle.viz_base.specs.declared.lengths.Length.TheVariants as of_length
 use Rattle.viz_base.specs.declared.lengths.Sides.{Sides}
 use Rattle.viz_base.specs.declared.styles.Style.{Style}
 use Rattle.viz_base.specs.declared.trees.BoxTree.{BoxTree}
@@ -12,6 +11,7 @@ use Rattle.viz_base.specs.declared.worlds.World.{World}
 use Rattle.viz_calc.specs.State.{AllSmall}
 use Rattle.viz_calc.specs.World.{Reading}
 use Rattle.layout_semantics.specs.Blocks.{node_of}
+use Rattle.layout_semantics.specs.DefiniteHeights.{own_height}
 use Rattle.layout_semantics.specs.Fonts.{text_width}
 use Rattle.layout_semantics.specs.InlineContent.{Item, start, finish, word, space, atomic, float, text_of, text_items, content}
 use Rattle.layout_semantics.specs.Lengths.{used_if_absolute, own, nothing, margins, borders, paddings}
@@ -21,9 +21,9 @@ use Rattle.layout_semantics.specs.Replaced.{intrinsic}
 use Rattle.lay_length.specs.Ways.{part_way}
 use Rattle.lay_line.specs.Ways.{item_way}
 use Rattle.lay_line.specs.steps.Held.{Held}
-use Rattle.lay_width.specs.Fitting.{UsedFits, HoldFits, RatioFits}
+use Rattle.lay_width.specs.Fitting.{own_width_of, UsedFits, HoldFits, RatioFits}
 use Rattle.lay_width.specs.steps.Terms.{tentative}
-use Rattle.lay_preferred.specs.steps.Outer.{edge, end_of, with_edges, own_width, replaced}
+use Rattle.lay_preferred.specs.steps.Outer.{edge, end_of, with_edges, replaced}
 use Rattle.lay_preferred.specs.steps.Parts.{Sized, width_of}
 
 -- ---- what is computed of a box by itself
@@ -53,11 +53,8 @@ abbrev pub AroundFits : BoxTree → World → ℕ → ℤ → Type 0
 AroundFits tree w at x = HoldFits tree w at (pos 0) × (EdgesFit tree w at × AllSmall (with_edges tree w at x ∷ []))
 
 abbrev pub GivenFits : BoxTree → World → ℕ → Type 0
-GivenFits tree w at = UsedFits tree w (own_width tree at) (pos 0)
-    × AroundFits tree w at (edge tree w (own_width tree at))
-
-abbrev pub own_height : BoxTree → ℕ → Length
-own_height tree at = own tree at (λ (s : Style). s.height) of_length.Auto
+GivenFits tree w at = UsedFits tree w (own_width_of tree at) (pos 0)
+    × AroundFits tree w at (edge tree w (own_width_of tree at))
 
 -- to the width of a replaced box
 abbrev pub ByHeightFits : BoxTree → World → ℕ → Type 0
@@ -66,7 +63,7 @@ ByHeightFits tree w at = UsedFits tree w (own_height tree at) (pos 0)
 
 abbrev pub ReplacedFits : BoxTree → World → ℕ → Type 0
 ReplacedFits tree w at =
-    UsedFits tree w (own_width tree at) (pos 0)
+    UsedFits tree w (own_width_of tree at) (pos 0)
     × (ByHeightFits tree w at × (HoldFits tree w at (pos 0) × AllSmall ((replaced tree w at).least ∷ [])))
 
 -- to the width of a text
@@ -87,10 +84,6 @@ ItemFits tree w i = Unit {0}
 abbrev pub after_way : ℤ → Held → Item → List ℤ
 after_way width h (float at) = []
 after_way width h i = item_way width h i
-
--- how far a part reaches with the spaces at its end
-abbrev pub reach : Held → ℕ
-reach h = unsigned_abs h.width + unsigned_abs h.spaces
 
 -- the preferred minimum widths of items together, each without its sign, and the preferred ones
 abbrev pub leasts : List Sized → ℕ
@@ -125,7 +118,7 @@ pub record LengthsFit (tree : BoxTree) (w : World) (most at : ℕ) : Type 0 wher
   pub margin : SidesFit tree w most (margins tree at)
   pub border : SidesFit tree w most (borders tree at)
   pub padding : SidesFit tree w most (paddings tree at)
-  pub width : LengthFits tree w most (own_width tree at)
+  pub width : LengthFits tree w most (own_width_of tree at)
   pub least : LengthFits tree w most (own tree at (λ (s : Style). s.min_width) nothing)
   pub greatest : MaximumFits tree w most (own tree at (λ (s : Style). s.max_width) None)
   pub height : LengthFits tree w most (own_height tree at)

@@ -8,11 +8,11 @@ ghost use Rattle.viz_calc.specs.Run.{Stands, Goes, Blames};
 ghost use Rattle.layout_semantics.specs.Lengths.{own, maximum};
 ghost use Rattle.layout_semantics.specs.Lengths.{used_if_absolute as if_absolute};
 ghost use Rattle.layout_semantics.specs.Replaced.{intrinsic as intrinsic_of};
-ghost use Rattle.lay_width.specs.Fitting.{UsedFits, MostFits, HoldFits};
+ghost use Rattle.lay_width.specs.Fitting.{own_width_of as width_of, UsedFits, MostFits, HoldFits};
 ghost use Rattle.lay_width.specs.Readings.{option_at, preferred_at};
 ghost use Rattle.lay_width.specs.steps.Terms.{tentative as tentative_of};
 ghost use Rattle.lay_preferred.specs.Fitting.{SideFits, StartFits, EndFits, EdgesFit, AroundFits, GivenFits, ByHeightFits, ReplacedFits};
-ghost use Rattle.lay_preferred.specs.steps.Outer.{own_width as width_of, edge, start_of, end_of, edges_of, held_of, with_edges as edged, is_given as given_width, given as given_of, around as around_of, replaced as replaced_of};
+ghost use Rattle.lay_preferred.specs.steps.Outer.{edge, start_of, end_of, edges_of, held_of, with_edges as edged, is_given as given_width, given as given_of, around as around_of, replaced as replaced_of};
 
 use lay_length::lengths::{pixels, zero};
 use lay_width::holding::used_if_absolute;

@@ -5,7 +5,8 @@ ghost use Rattle.viz_calc.specs.Run.{Stands, Goes, Fits, Blames};
 ghost use Rattle.lay_width.specs.Readings.{option_at};
 ghost use Rattle.lay_line.specs.Items.{item_of};
 ghost use Rattle.lay_line.specs.Readings.{held_at};
-ghost use Rattle.lay_preferred.specs.Fitting.{after_way, reach, leasts, mosts, IsHalf};
+ghost use Rattle.lay_line.specs.Limits.{held_size};
+ghost use Rattle.lay_preferred.specs.Fitting.{after_way, leasts, mosts, IsHalf};
 ghost use Rattle.lay_preferred.specs.Readings.{size_at, sizes_at, parts_at};
 ghost use Rattle.lay_preferred.specs.steps.Parts.{held_after, held_least, held_most, least_width as least_of, most_width as most_of, sum_after, floats_from, widest, past_float as float_past, widest_float as float_of};
 
@@ -66,7 +67,7 @@ fn least_held<S: Steady>(
         ≡ held_least (held_at S.at start e) (sizes_at S.at part.now e) }
     ensures cause { Blames (S.run calc.old) (S.run calc.new)
         ((e : Reading) → IsTrue ((S.run calc.old).is_open e)
-        → IsHalf (reach (held_at S.at start e) + leasts (sizes_at S.at part.now e))) }
+        → IsHalf (held_size (held_at S.at start e) + leasts (sizes_at S.at part.now e))) }
 {
     let mut held = start;
     for piece in part {
@@ -86,7 +87,7 @@ fn most_held<S: Steady>(
         ≡ held_most (held_at S.at start e) (sizes_at S.at part.now e) }
     ensures cause { Blames (S.run calc.old) (S.run calc.new)
         ((e : Reading) → IsTrue ((S.run calc.old).is_open e)
-        → IsHalf (reach (held_at S.at start e) + mosts (sizes_at S.at part.now e))) }
+        → IsHalf (held_size (held_at S.at start e) + mosts (sizes_at S.at part.now e))) }
 {
     let mut held = start;
     for piece in part {

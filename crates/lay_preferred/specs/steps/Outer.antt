@@ -3,16 +3,16 @@ use Rattle.std.specs.Prelude.{ℕ, ℤ, ◌+ℤ◌, Bool, true, false, ◌&&◌,
 use Rattle.viz_base.specs.declared.layouts.Preferred.{Preferred}
 use Rattle.viz_base.specs.declared.lengths.Length.{Length}
 use Rattle.viz_base.specs.declared.lengths.Length.TheVariants as of_length
-use Rattle.viz_base.specs.declared.styles.Style.{Style}
 use Rattle.viz_base.specs.declared.trees.BoxTree.{BoxTree}
 use Rattle.viz_base.specs.declared.trees.Kind.{Kind}
 use Rattle.viz_base.specs.declared.trees.Kind.TheVariants as of_kind
 use Rattle.viz_base.specs.declared.worlds.World.{World}
 use Rattle.layout_semantics.specs.Blocks.{kind_of}
 use Rattle.layout_semantics.specs.InlineContent.{start_edges, end_edges}
-use Rattle.layout_semantics.specs.Lengths.{total, own}
+use Rattle.layout_semantics.specs.Lengths.{total}
 use Rattle.layout_semantics.specs.Preferred.{absolute_part, outer_edges, held_absolute, outer_preferred, preferred}
 use Rattle.layout_semantics.specs.Replaced.{preferred_replaced}
+use Rattle.lay_width.specs.Fitting.{own_width_of}
 
 -- a width that is both
 abbrev pub both : ℤ → Preferred ℤ
@@ -37,9 +37,6 @@ held_of tree w at x = held_absolute tree w at x
 unfoldable pub with_edges : BoxTree → World → ℕ → ℤ → ℤ
 with_edges tree w at x = held_of tree w at x +ℤ edges_of tree w at
 
-abbrev pub own_width : BoxTree → ℕ → Length
-own_width tree at = own tree at (λ (s : Style). s.width) of_length.Auto
-
 -- the width of a box is what its `width` says: the box isn't replaced, and that is neither a percentage nor `auto`
 abbrev pub has_own : Kind → Bool
 has_own of_kind.Replaced = false
@@ -51,10 +48,10 @@ is_absolute (of_length.Pct p) = false
 is_absolute length = true
 
 unfoldable pub is_given : BoxTree → ℕ → Bool
-is_given tree at = has_own (kind_of tree at) && is_absolute (own_width tree at)
+is_given tree at = has_own (kind_of tree at) && is_absolute (own_width_of tree at)
 
 unfoldable pub given : BoxTree → World → ℕ → Preferred ℤ
-given tree w at = both (with_edges tree w at (edge tree w (own_width tree at)))
+given tree w at = both (with_edges tree w at (edge tree w (own_width_of tree at)))
 
 unfoldable pub around : BoxTree → World → ℕ → Preferred ℤ → Preferred ℤ
 around tree w at inside = record { least = with_edges tree w at inside.least; most = with_edges tree w at inside.most }

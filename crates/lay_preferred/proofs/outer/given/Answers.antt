@@ -4,9 +4,9 @@ use Rattle.viz_calc.specs.World.{Reading}
 use Rattle.viz_calc.specs.State.{AllSmall}
 use Rattle.viz_calc.specs.Run.{Blames}
 use Rattle.viz_calc.proofs.Runs.{Goes-then, Blames-then}
-use Rattle.lay_width.specs.Fitting.{UsedFits}
+use Rattle.lay_width.specs.Fitting.{own_width_of, UsedFits}
 use Rattle.lay_preferred.specs.Fitting.{AroundFits, GivenFits}
-use Rattle.lay_preferred.specs.steps.Outer.{own_width, edge, with_edges}
+use Rattle.lay_preferred.specs.steps.Outer.{edge, with_edges}
 use Rattle.lay_preferred.proofs.outer.given.Goals as goal
 
 pub returns-clause-cause : goal.returns-clause-cause
@@ -21,7 +21,7 @@ returns-clause-cause g c =
     let r1 = run c.absolute_part-width.new.calc in
     let r2 = run c.with_edges-least.new.calc in
     let fits = (e : Reading) → IsTrue (r0.is_open e) → GivenFits tree e.world b in
-    let same : (e : Reading) → IsTrue (r1.is_open e) → at c.absolute_part-width.result e ≡ edge tree e.world (own_width tree b) =
+    let same : (e : Reading) → IsTrue (r1.is_open e) → at c.absolute_part-width.result e ≡ edge tree e.world (own_width_of tree b) =
     λ e o. width.value e o ∙ ap (edge tree e.world) c.own_width.ensures in
     let first : Blames r0 r1 fits = record {
       mem = width.cause.mem;

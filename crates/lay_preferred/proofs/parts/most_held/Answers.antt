@@ -3,7 +3,7 @@ use Rattle.std.proofs.lemmas.Grind.{common_steps}
 use Rattle.viz_calc.proofs.Runs.{Goes-then, Blames-then}
 use Rattle.lay_line.specs.Items.{item_of}
 use Rattle.lay_line.specs.Readings.{held_at}
-use Rattle.lay_preferred.specs.Fitting.{reach}
+use Rattle.lay_line.specs.Limits.{held_size}
 use Rattle.lay_preferred.proofs.PartLoops.{mosts-next}
 use Rattle.lay_preferred.proofs.Sizes.{after-fits, after-reach}
 use Rattle.lay_preferred.proofs.parts.most_held.Goals as goal
@@ -24,7 +24,7 @@ loop-piece-preserved g c =
           let so_far = before.room e (step.goes.closes e o) in
           let next = mosts-next at e c.args.part.now c.loop-piece.piece-index c.piece-item.result c.loop-piece-test.true c.piece-item.is in
           let grown = after-reach (at c.piece-item.result.width.most e) (held_at at c.loop-piece.held e) (item_of c.piece-item.result.item) in
-          let same = ap reach (step.value e o) in
+          let same = ap held_size (step.value e o) in
           omega (arith, next, so_far, grown, same);
       cause = Blames-then (run c.args.calc.now) (run c.loop-piece.calc) (run c.most_after-held.new.calc) _ _ before.goes step.goes before.cause
           (λ f e o.

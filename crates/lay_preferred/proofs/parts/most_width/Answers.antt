@@ -3,7 +3,8 @@ use Rattle.viz_calc.specs.World.{Reading}
 use Rattle.viz_calc.specs.Run.{Blames}
 use Rattle.viz_calc.proofs.Runs.{Goes-then, Blames-then}
 use Rattle.lay_line.specs.steps.Held.{Held, nothing_held}
-use Rattle.lay_preferred.specs.Fitting.{reach, mosts, IsHalf}
+use Rattle.lay_line.specs.Limits.{held_size}
+use Rattle.lay_preferred.specs.Fitting.{mosts, IsHalf}
 use Rattle.lay_preferred.specs.Readings.{sizes_at}
 use Rattle.lay_preferred.specs.steps.Parts.{held_most, floats_from}
 use Rattle.lay_reach.proofs.Numbers.{size-+}
@@ -28,7 +29,7 @@ returns-clause-cause g c =
     let second = Blames-then r0 r1 r2 _ fits start.goes held.goes first
     (λ f e o.
     let half = f e (start.goes.closes e o) in
-    subst (λ (h : Held). IsHalf (reach h + mosts (sizes_at at c.args.part.now e))) (sym (start.value e o)) (omega (arith, half))) held.cause in
+    subst (λ (h : Held). IsHalf (held_size h + mosts (sizes_at at c.args.part.now e))) (sym (start.value e o)) (omega (arith, half))) held.cause in
     let to_held = Goes-then r0 r1 r2 start.goes held.goes in
     let third = Blames-then r0 r2 r3 _ fits to_held none.goes second (λ f e o. (omega arith, tt)) none.cause in
     let to_none = Goes-then r0 r2 r3 to_held none.goes in
