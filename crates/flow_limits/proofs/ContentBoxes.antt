@@ -1,5 +1,5 @@
 -- The boxes of a container's inline content: where they are, and what sorts of boxes.
-use Rattle.std.proofs.Common.{◌≡◌, inl, inr, ℕ, zero, suc, ℤ, Bool, true, false, not, ◌&&◌, slice_get, List, [], ◌∷◌, ◌++◌, length, Contains, Option, Some, None, refl, sym, ◌∙◌, ap, subst, arith}
+use Rattle.std.proofs.Common.{◌≡◌, ℕ, zero, suc, ℤ, Bool, true, false, not, ◌&&◌, slice_get, List, [], ◌∷◌, ◌++◌, length, Contains, Option, Some, None, refl, sym, ◌∙◌, ap, subst, arith}
 use Rattle.std.specs.Prelude.{◌==◌, cond}
 use Rattle.std.specs.List.{AllByRecursion, flat_map}
 use Rattle.std.specs.Option.{option_map_or}
@@ -16,9 +16,9 @@ use Rattle.layout_semantics.specs.Horizontal.{widths}
 use Rattle.layout_semantics.specs.InlineContent.{Item, start, finish, word, space, atomic, forced, float, Sort, a_float, an_atomic, a_break, a_text, an_inline, sort_of, text_of, text_items, letter_before, character_before, items_to, content, inner_items, is_floated_at, is_inline_level_at}
 use Rattle.layout_semantics.specs.Order.{kids_of, IsOnPage}
 use Rattle.layout_laws.specs.Nested.{items_of_sort}
-use Rattle.layout_laws.proofs.Among.{Among, contains}
-use Rattle.layout_laws.proofs.Greatest.{all_from}
+use Rattle.layout_laws.proofs.Greatest.{All-from}
 use Rattle.layout_laws.proofs.Levels.{All-append, All-implied}
+use Rattle.layout_laws.proofs.Members.{first_member, later_member}
 use Rattle.layout_laws.proofs.Rooms.{room-by-parent}
 use Rattle.flow_steps.proofs.LeadEnds.{sort_by, sort-float}
 use Rattle.flow_steps.proofs.Sound.{IsSound}
@@ -146,9 +146,6 @@ module _ (tree : BoxTree) (w : World) (height : ℕ) where
   sort-in wide k inside a_text e i a = text-in wide k i
   sort-in wide k inside an_inline e i a = ((i, e), All-append (ItemIn wide) inside (finish k ∷ []) (a refl) ((i, e), tt))
 
-  all-kids : (P : ℕ → Type 0) (k : ℕ) → ((j : ℕ) → Contains (kids_of tree.boxes k) j → P j) → AllByRecursion P (kids_of tree.boxes k)
-  all-kids P k f = all_from P (kids_of tree.boxes k) (λ j a. f j (contains (kids_of tree.boxes k) j a))
-
   each-in : (wide : ℤ) (f : ℕ → List Item) (ks : List ℕ) → AllByRecursion (λ k. AllByRecursion (ItemIn wide) (f k)) ks → AllByRecursion (ItemIn wide) (flat_map f ks)
   each-in wide f [] a = tt
   each-in wide f (k ∷ ks) a = All-append (ItemIn wide) (f k) (flat_map f ks) a.0 (each-in wide f ks a.1)
@@ -164,7 +161,7 @@ module _ (tree : BoxTree) (w : World) (height : ℕ) where
   unfolding items_to
   items-in zero k wide i = tt
   items-in (suc n) k wide i = sort-in wide k (flat_map (items_to n tree) (kids_of tree.boxes k)) (sort_of tree k) refl i (λ e.
-      each-in wide (items_to n tree) (kids_of tree.boxes k) (all-kids (λ j. AllByRecursion (ItemIn wide) (items_to n tree j)) k (λ j c.
+      each-in wide (items_to n tree) (kids_of tree.boxes k) (All-from (λ j. AllByRecursion (ItemIn wide) (items_to n tree j)) (kids_of tree.boxes k) (λ j c.
       items-in n j wide (record {
         page = IsOnPage.inside k j i.page c;
         room = room-by-parent tree w height k j i.page c
@@ -175,7 +172,7 @@ module _ (tree : BoxTree) (w : World) (height : ℕ) where
   pub content-items : (k : ℕ) (wide : ℤ) → IsSound tree w height k wide → AllByRecursion (ItemIn (widths tree w height k wide).content) (content tree k)
   content-items k wide s =
       let inner = (widths tree w height k wide).content in
-      each-in inner (items_to (length tree.boxes) tree) (kids_of tree.boxes k) (all-kids (λ j. AllByRecursion (ItemIn inner) (items_to (length tree.boxes) tree j)) k (λ j c.
+      each-in inner (items_to (length tree.boxes) tree) (kids_of tree.boxes k) (All-from (λ j. AllByRecursion (ItemIn inner) (items_to (length tree.boxes) tree j)) (kids_of tree.boxes k) (λ j c.
       items-in (length tree.boxes) j inner (record {
         page = IsOnPage.inside k j s.page c;
         room = room-by-parent tree w height k j s.page c
@@ -185,14 +182,14 @@ module _ (tree : BoxTree) (w : World) (height : ℕ) where
 
   -- which of them the table has
   abbrev pub IsHeldIn : List ℕ → Item → Type 0
-  IsHeldIn all (atomic at) = Among all at
-  IsHeldIn all (float at) = Among all at
+  IsHeldIn all (atomic at) = Contains all at
+  IsHeldIn all (float at) = Contains all at
   IsHeldIn all _ = Unit {0}
 
-  pub held-in : (all : List ℕ) (items : List Item) → ((x : ℕ) → Among (inner_items items) x → Among all x) → AllByRecursion (IsHeldIn all) items
+  pub held-in : (all : List ℕ) (items : List Item) → ((x : ℕ) → Contains (inner_items items) x → Contains all x) → AllByRecursion (IsHeldIn all) items
   held-in all [] f = tt
-  held-in all (atomic at ∷ items) f = (f at (inl refl), held-in all items (λ x a. f x (inr a)))
-  held-in all (float at ∷ items) f = (f at (inl refl), held-in all items (λ x a. f x (inr a)))
+  held-in all (atomic at ∷ items) f = (f at (first_member _ refl), held-in all items (λ x a. f x (later_member _ a)))
+  held-in all (float at ∷ items) f = (f at (first_member _ refl), held-in all items (λ x a. f x (later_member _ a)))
   held-in all (start at ∷ items) f = (tt, held-in all items f)
   held-in all (finish at ∷ items) f = (tt, held-in all items f)
   held-in all (word at text ∷ items) f = (tt, held-in all items f)
@@ -247,7 +244,7 @@ module _ (tree : BoxTree) (w : World) (height : ℕ) where
       by (Some x) f = of_box x.node x.kind f
 
   pub flow-whole : (k : ℕ) → is_inline_level_at tree k ≡ false → IsWhole tree k
-  unfolding is_floated_at
+  unfolding is_floated_at is_inline_level_at
   flow-whole k e = by (slice_get tree.boxes k) e
     where
       of_box : (node : ℕ) (block_level : Bool) (kind : Kind) → (level_by block_level kind && not (floats_by node kind)) ≡ false → is_fragmented kind ≡ false

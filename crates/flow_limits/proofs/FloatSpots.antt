@@ -78,7 +78,7 @@ module _ (b : Bounds) where
   pub spot-in : (f : Floating) (floats : List FloatBox) (least : Option ℤ) (y : ℤ) → AllFloats floats → AllByRecursion (IsLevelIn b) (levels_of least y) → IsBandIn b f.cb
       → IsSpotIn b f.size.width (float_spot f floats least y)
   spot-in f floats least y a l i =
-      place-in floats f.side f.size f.cb (float_top f floats least y) a i
+      place-in floats f.side f.size f.cb (float_top f.clear floats least y) a i
       (greatest_from-any (IsLevelIn b) y (option_to_list least ++ option_to_list (lowest_bottom f.clear floats)) l.0 (All-append (IsLevelIn b) (option_to_list least) (option_to_list (lowest_bottom f.clear floats)) l.1 (lowest-in f.clear floats a)))
 
   placed-in : (own : Bounds) (side : Side) (size : Extent ℤ) (at : Spot ℤ) → IsSpotIn b size.width at → IsExtentIn own size → IsFloatIn (grown b own) (placed_float side size at)

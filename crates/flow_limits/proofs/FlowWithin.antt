@@ -29,7 +29,7 @@ use Rattle.lay_margin.specs.declared.runs.Run.{Run}
 use Rattle.lay_margin.specs.Runs.{no_run, with_margin, collapse}
 use Rattle.lay_margin.specs.steps.Leads.{margin_below}
 use Rattle.flow_steps.specs.Forward.{Found, End, goes_on, solid, cleared, cleared_of}
-use Rattle.flow_steps.specs.Flow.{Standing, at_top, below, Context, Step, step, Laid, fresh, next_edge, children, frame_at, replaced_box, context_box, block_box, size_of, float_child, run_forward, reached_at, reached, opened, closed, laid_replaced, laid_context, laid_block, laid, own_run, standing_after, flow_child, child, is_at_top, context_height, block_height, joined_run}
+use Rattle.flow_steps.specs.Flow.{Standing, at_top, below, Context, Step, step, Laid, fresh, next_edge, children, frame_at, replaced_box, context_box, block_box, size_in, met, float_child, run_forward, reached_at, reached, opened, closed, laid_replaced, laid_context, laid_block, laid, own_run, standing_after, flow_child, child, is_at_top, context_height, block_height, joined_run}
 use Rattle.flow_steps.proofs.Sound.{IsSound, IsFlowKid}
 use Rattle.flow_limits.specs.Bounds.{Bounds, AreInside, grown, no_bounds, all_around, together, IsLevelIn, IsAsideIn, IsBandIn, IsExtentIn, IsFloatIn, IsPlacedIn, IsPutIn}
 use Rattle.flow_limits.specs.Inline.{IsSmall}
@@ -42,7 +42,7 @@ use Rattle.flow_limits.proofs.LinesWithin.{levels-wider}
 use Rattle.flow_limits.proofs.Rising.{rise-float, rise-box}
 use Rattle.flow_limits.proofs.ContentBoxes.{flow-whole}
 use Rattle.flow_limits.proofs.Ahead.{rise, Ahead, here, inside, later, Pending, ahead, gone, behind, IsPending, step-pending, match-pending, enter-pending}
-use Rattle.flow_limits.proofs.WaysWithin.{IsRunLow, run-with, collapse-small, margin-small, IsBaseIn, IsBoxEndIn, way-in}
+use Rattle.flow_limits.proofs.WaysWithin.{IsRunLow, run-with, collapse-small, margin-small, IsBaseIn, IsSizeIn, IsBoxEndIn, way-in}
 use Rattle.flow_limits.proofs.BoxesWithin.{box-wider, boxes-wider, boxes-put, top-in, placed-box-in, held-in, edge-in, raised-in, StandsIn, next-edge-in, context-bottom-in, block-bottom-in, none-low, joined-low}
 
 inside-both : (b c more : Bounds) → AreInside b c → AreInside (grown b more) (grown c more)
@@ -147,7 +147,11 @@ module _ (tree : BoxTree) (w : World) (height : ℕ) (own turned : ℕ → Bound
 
   module _ (content : ℕ → Band ℤ → ℤ → Context → Step) where
     abbrev pub size : Waiting ℤ → Extent ℤ
-    size f = size_of tree w height content apart f
+    size = size_in apart
+
+    sized : (base : Base) (c : Context) (b : Bounds) (g : Waiting ℤ) → IsSizeIn tree w height own turned s t fine boxes size base c.floats c.least b g
+    unfolding size_in
+    sized base c b g = let a = alone_in g.at in record { wide = a.width; tall = a.height }
 
     -- ---- the way forward from a box
 
@@ -163,11 +167,11 @@ module _ (tree : BoxTree) (w : World) (height : ℕ) (own turned : ℕ → Bound
         → IsWayFound b ks k (way base passed cb c k run)
     found-in b base passed cb c k ks run l i f band base_in floats least r =
         let found = way-in tree w height own turned s t fine boxes size base c.floats c.least b
-        (λ g. (let a = alone_in g.at in record { wide = a.width; tall = a.height })) base_in floats least passed (length tree.boxes) b cb k run [] l i f band r
+        (sized base c b) base_in floats least passed (length tree.boxes) b cb k run [] l i f band r
         (record { bands = tt; room = record { up = omega arith; down = omega arith; aside = omega arith } }) in
         record { run = found.run; pends = by (way base passed cb c k run).waiting (way base passed cb c k run).end found.end }
       where
-        by : (ws : List (Waiting ℤ)) (end : End) → IsBoxEndIn tree w height own turned s t fine boxes size base c.floats c.least b (λ g. (let a = alone_in g.at in record { wide = a.width; tall = a.height })) base_in floats least b k ws end
+        by : (ws : List (Waiting ℤ)) (end : End) → IsBoxEndIn tree w height own turned s t fine boxes size base c.floats c.least b (sized base c b) base_in floats least b k ws end
             → IsPending tree own turned s b (k ∷ ks) (cleared_of end)
         by ws goes_on e = tt
         by ws solid e = tt
@@ -420,7 +424,7 @@ module _ (tree : BoxTree) (w : World) (height : ℕ) (own turned : ℕ → Bound
     -- ---- the next one
 
     standing-after-in : (b : Bounds) (cb : Band ℤ) (k : ℕ) (ks : List ℕ) (run : Run ℤ) (r : Reached) (l : Laid) (st : Standing) → Kid cb k → is_floated_at tree k ≡ false → IsRunLow s run → IsReachedIn b ks k r → IsLaidIn (grown b (rises k)) l → IsStandingIn b (k ∷ ks) st
-        → IsStandingIn (grown b (rises k)) ks (standing_after tree w height content apart cb st k run r l)
+        → IsStandingIn (grown b (rises k)) ks (standing_after tree w height content apart cb st k (met r run) l)
     standing-after-in b cb k ks run r l st i fl low q h a = by l.through r.clears st refl refl a
       where
         after : Bounds
@@ -435,7 +439,7 @@ module _ (tree : BoxTree) (w : World) (height : ℕ) (own turned : ℕ → Bound
         at : IsLevelIn after (r.top -ℤ collapse run)
         at = let c = collapse-small s run low in let u = q.top.top in let d = q.top.bottom in record { top = omega (arith, ints, c); bottom = omega (arith, ints, c) }
 
-        by : (x y : Bool) (st : Standing) → l.through ≡ x → r.clears ≡ y → IsStandingIn b (k ∷ ks) st → IsStandingIn after ks (standing_after tree w height content apart cb st k run r l)
+        by : (x y : Bool) (st : Standing) → l.through ≡ x → r.clears ≡ y → IsStandingIn b (k ∷ ks) st → IsStandingIn after ks (standing_after tree w height content apart cb st k (met r run) l)
         by false y st e f a = rw e (h.bottom, h.margins)
         by true true st e f a = rw (e, f) (at, ended)
         by true false (at_top y None) e f a = rw (e, f) (level-wider b after y inside_is a.0, tt)

@@ -12,8 +12,7 @@ use Rattle.layout_semantics.specs.Order.{kids_of}
 use Rattle.layout_semantics.proofs.Forest.{IsKid}
 use Rattle.layout_semantics.proofs.Pages.{forest, Each-contains}
 use Rattle.layout_laws.specs.Nested.{items_of_sort}
-use Rattle.layout_laws.proofs.Among.{contains}
-use Rattle.layout_laws.proofs.Greatest.{all_from}
+use Rattle.layout_laws.proofs.Greatest.{All-from}
 use Rattle.layout_laws.proofs.Levels.{All-append}
 use Rattle.flow_steps.proofs.LeadEnds.{sort_by}
 use Rattle.flow_limits.proofs.Raised.{IsInLines}
@@ -49,8 +48,8 @@ module _ (tree : BoxTree) (container : ℕ) where
   of-sort k inside an_inline e i a = (i, All-append IsItemInLines inside (finish k ∷ []) (a refl) (i, tt))
 
   each-kid : (f : ℕ → List Item) (k : ℕ) → ((j : ℕ) → parent_of tree.boxes j ≡ Some k → AllByRecursion IsItemInLines (f j)) → AllByRecursion IsItemInLines (flat_map f (kids_of tree.boxes k))
-  each-kid f k g = join (kids_of tree.boxes k) (all_from (λ j. AllByRecursion IsItemInLines (f j)) (kids_of tree.boxes k)
-      (λ j a. g j (Each-contains (IsKid tree.boxes k) (kids_of tree.boxes k) j ((forest tree).kids k) (contains (kids_of tree.boxes k) j a)).parent))
+  each-kid f k g = join (kids_of tree.boxes k) (All-from (λ j. AllByRecursion IsItemInLines (f j)) (kids_of tree.boxes k)
+      (λ j a. g j (Each-contains (IsKid tree.boxes k) (kids_of tree.boxes k) j ((forest tree).kids k) a).parent))
     where
       join : (ks : List ℕ) → AllByRecursion (λ j. AllByRecursion IsItemInLines (f j)) ks → AllByRecursion IsItemInLines (flat_map f ks)
       join [] a = tt

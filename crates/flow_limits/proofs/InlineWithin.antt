@@ -1,5 +1,5 @@
 -- The inline content of a block container is small where the terms of its boxes are, and the boxes apart stay within bounds.
-use Rattle.std.proofs.Common.{◌≡◌, inl, inr, ℕ, suc, ◌+◌, ◌-◌, ◌*◌, ◌≤◌, ℤ, pos, negsuc, ◌+ℤ◌, ◌-ℤ◌, unsigned_abs, Bool, true, false, ◌||◌, List, [], ◌∷◌, ◌++◌, length, Option, Some, None, refl, sym, ◌∙◌, ap, subst, arith}
+use Rattle.std.proofs.Common.{◌≡◌, inl, inr, ℕ, suc, ◌+◌, ◌-◌, ◌*◌, ◌≤◌, ℤ, pos, negsuc, ◌+ℤ◌, ◌-ℤ◌, unsigned_abs, Bool, true, false, ◌||◌, List, [], ◌∷◌, ◌++◌, length, Contains, Option, Some, None, refl, sym, ◌∙◌, ap, subst, arith}
 use Rattle.std.specs.Prelude.{◌==◌, min, if◌then◌else◌}
 use Rattle.std.specs.Int.{int_min}
 use Rattle.std.specs.List.{AllByRecursion}
@@ -29,8 +29,7 @@ use Rattle.layout_semantics.specs.LineFilling.{item_width, band_width, float_siz
 use Rattle.layout_semantics.specs.LineHeights.{InlineContext, LineExtent, inner_of, height_of_extent, inline_extent, box_extent, extent_in_line, shift, inline_shift}
 use Rattle.layout_semantics.specs.Order.{IsOnPage}
 use Rattle.layout_semantics.proofs.Pages.{forest, within-page}
-use Rattle.layout_laws.proofs.Among.{Among}
-use Rattle.layout_laws.proofs.Greatest.{all_at}
+use Rattle.layout_laws.proofs.Greatest.{All-at}
 use Rattle.layout_laws.proofs.Levels.{IsFrom, All-implied, inner_boxes-from}
 use Rattle.flow_steps.specs.Flow.{content_to, inner_size}
 use Rattle.flow_steps.proofs.Sound.{IsSound}
@@ -170,7 +169,7 @@ module _ (tree : BoxTree) (w : World) (height : ℕ) where
 
     no-inner : (at : ℕ) → sort_of tree at ≡ an_inline → inner_of c at ≡ None
     unfolding IsNoInline
-    no-inner at e = not-held inner_at at (length tree.boxes) (inner_boxes tree k) (λ a. all_at (IsNoInline tree w height) (inner_boxes tree k) at (no-inlines tree w height inside (content tree k) (content-items tree w height k wide sound)) a e)
+    no-inner at e = not-held inner_at at (length tree.boxes) (inner_boxes tree k) (λ a. All-at (IsNoInline tree w height) (inner_boxes tree k) at (no-inlines tree w height inside (content tree k) (content-items tree w height k wide sound)) a e)
 
     inline-small : (at : ℕ) → IsIn tree w height inside at → IsInLines tree k at → sort_of tree at ≡ an_inline → IsInlineSmall c own turned greatest_length at
     inline-small at i l e =
@@ -202,17 +201,17 @@ module _ (tree : BoxTree) (w : World) (height : ℕ) where
     width-small : (at : ℕ) (part : List ℕ) → IsOnPage tree.boxes at → IsPartOf part (text_of tree at) → IsSmall greatest_length (text_width tree w (node_of tree at) part)
     width-small at part p q = let x = (terms at p).text part q in omega (arith, x, fine)
 
-    inner-held : (at : ℕ) → IsOnPage tree.boxes at → Among (inner_boxes tree k) at → inner_of c at ≡ Some (inner_at at)
+    inner-held : (at : ℕ) → IsOnPage tree.boxes at → Contains (inner_boxes tree k) at → inner_of c at ≡ Some (inner_at at)
     inner-held at p a = held inner_at at (length tree.boxes) (inner_boxes tree k) (within-page tree at p) a
 
-    atom-width : (at : ℕ) → IsOnPage tree.boxes at → Among (inner_boxes tree k) at → IsSmall greatest_length (item_width c (atomic at))
+    atom-width : (at : ℕ) → IsOnPage tree.boxes at → Contains (inner_boxes tree k) at → IsSmall greatest_length (item_width c (atomic at))
     atom-width at p a =
         let i = inner-of (own at) apart n at (alone_in at) in
         let w_ = (alone_in at).width in
         subst (λ (o : Option (Inner ℤ)). unsigned_abs (option_map_or (λ (j : Inner ℤ). j.width) o (pos 0)) ≤ greatest_length) (sym (inner-held at p a))
         (subst (λ (z : ℤ). unsigned_abs z ≤ greatest_length) (sym i.wide) w_)
 
-    float-small : (at : ℕ) → IsOnPage tree.boxes at → Among (inner_boxes tree k) at → IsFloatSmall c own turned greatest_length at
+    float-small : (at : ℕ) → IsOnPage tree.boxes at → Contains (inner_boxes tree k) at → IsFloatSmall c own turned greatest_length at
     float-small at p a =
         let i = inner-of (own at) apart n at (alone_in at) in
         let w_ = (alone_in at).width in
@@ -227,7 +226,7 @@ module _ (tree : BoxTree) (w : World) (height : ℕ) where
         sized x y = record { width = x; height = y }
 
     -- by its own middle, or by its baseline
-    atom-in : (at : ℕ) → IsOnPage tree.boxes at → IsInLines tree k at → Among (inner_boxes tree k) at → (at == k) ≡ false → IsAtomIn (own at) (turned at) greatest_length (extent_in_line c at)
+    atom-in : (at : ℕ) → IsOnPage tree.boxes at → IsInLines tree k at → Contains (inner_boxes tree k) at → (at == k) ≡ false → IsAtomIn (own at) (turned at) greatest_length (extent_in_line c at)
     atom-in at p l a apart_is =
         let i = inner-of (own at) apart n at (alone_in at) in
         let e : LineExtent = made (inner_at at).above (inner_at at).below in
@@ -275,8 +274,8 @@ module _ (tree : BoxTree) (w : World) (height : ℕ) where
 
     -- ---- each item
 
-    apart-from : (at : ℕ) → Among (inner_boxes tree k) at → (at == k) ≡ false
-    apart-from at a = by (at == k) refl (all_at (IsFrom tree.boxes (suc k)) (inner_boxes tree k) at (inner_boxes-from tree k (forest tree)) a).from
+    apart-from : (at : ℕ) → Contains (inner_boxes tree k) at → (at == k) ≡ false
+    apart-from at a = by (at == k) refl (All-at (IsFrom tree.boxes (suc k)) (inner_boxes tree k) at (inner_boxes-from tree k (forest tree)) a).from
       where
         by : (b : Bool) → (at == k) ≡ b → suc k ≤ at → b ≡ false
         by false e l = refl

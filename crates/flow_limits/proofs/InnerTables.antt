@@ -1,9 +1,9 @@
 -- What the table of a container's floats and atomic boxes holds.
-use Rattle.std.proofs.Common.{◌≡◌, inl, inr, ◌<◌, ℕ, zero, suc, List, [], ◌∷◌, map, fold, length, Option, Some, None, slice_index_or, refl, sym, ap, subst, arith}
+use Rattle.std.proofs.Common.{◌≡◌, ◌<◌, ℕ, zero, suc, List, [], ◌∷◌, map, fold, length, Contains, Option, Some, None, slice_index_or, refl, sym, ap, subst, ⊎_elim, arith}
 use Rattle.std.specs.Prelude.{replicate, slice_set}
 use Rattle.std.proofs.lemmas.List.{length-replicate}
 use Rattle.layout_semantics.specs.Lists.{table_of, room_for}
-use Rattle.layout_laws.proofs.Among.{Among}
+use Rattle.layout_laws.proofs.Members.{no_member, first_member, later_member, first_or_later}
 
 module _ {A : Type 0} (f : ℕ → A) (at : ℕ) where
   set-long : (t : List (Option A)) (k : ℕ) (o : Option A) → length (slice_set t k o) ≡ length t
@@ -30,15 +30,17 @@ module _ {A : Type 0} (f : ℕ → A) (at : ℕ) where
   stays-set t [] e = e
   stays-set t (k ∷ ks) e = stays-set (slice_set t k (Some (f k))) ks (set-keeps t k at (f k) (Some (f at)) (λ s. ap (λ j. Some (f j)) s) e)
 
-  is-set : (t : List (Option A)) (ks : List ℕ) → at < length t → Among ks at → slice_index_or (set_all t ks) at None ≡ Some (f at)
-  is-set t [] l i = elim i [ ]
-  is-set t (k ∷ ks) l (inl e) =
-      stays-set (slice_set t k (Some (f k))) ks (subst (λ j. slice_index_or (slice_set t k (Some (f k))) j None ≡ Some (f j)) e (set-here t k (f k) (subst (λ j. j < length t) (sym e) l)))
-  is-set t (k ∷ ks) l (inr i) = let long = set-long t k (Some (f k)) in is-set (slice_set t k (Some (f k))) ks (omega (arith, long)) i
+  is-set : (t : List (Option A)) (ks : List ℕ) → at < length t → Contains ks at → slice_index_or (set_all t ks) at None ≡ Some (f at)
+  is-set t [] l i = no_member i
+  is-set t (k ∷ ks) l i =
+      ⊎_elim
+      (λ e. stays-set (slice_set t k (Some (f k))) ks (subst (λ j. slice_index_or (slice_set t k (Some (f k))) j None ≡ Some (f j)) e (set-here t k (f k) (subst (λ j. j < length t) (sym e) l))))
+      (λ j. let long = set-long t k (Some (f k)) in is-set (slice_set t k (Some (f k))) ks (omega (arith, long)) j)
+      (first_or_later k ks at i)
 
-  is-unset : (t : List (Option A)) (ks : List ℕ) → (Among ks at → ⊥) → slice_index_or t at None ≡ None → slice_index_or (set_all t ks) at None ≡ None
+  is-unset : (t : List (Option A)) (ks : List ℕ) → (Contains ks at → ⊥) → slice_index_or t at None ≡ None → slice_index_or (set_all t ks) at None ≡ None
   is-unset t [] n e = e
-  is-unset t (k ∷ ks) n e = is-unset (slice_set t k (Some (f k))) ks (λ i. n (inr i)) (set-keeps t k at (f k) None (λ s. absurd (n (inl s))) e)
+  is-unset t (k ∷ ks) n e = is-unset (slice_set t k (Some (f k))) ks (λ i. n (later_member ks i)) (set-keeps t k at (f k) None (λ s. absurd (n (first_member ks s))) e)
 
   abbrev empty : Option A
   empty = None
@@ -50,10 +52,10 @@ module _ {A : Type 0} (f : ℕ → A) (at : ℕ) where
   none-there (suc n) (suc j) = none-there n j
 
   -- it has each of them
-  pub held : (n : ℕ) (ks : List ℕ) → at < n → Among ks at → slice_index_or (table_of n (map (λ k. (k, f k)) ks)) at None ≡ Some (f at)
-  held n [] l i = elim i [ ]
+  pub held : (n : ℕ) (ks : List ℕ) → at < n → Contains ks at → slice_index_or (table_of n (map (λ k. (k, f k)) ks)) at None ≡ Some (f at)
+  held n [] l i = no_member i
   held n (k ∷ ks) l i = is-set (replicate n empty) (k ∷ ks) (subst (λ m. at < m) (sym (length-replicate n empty)) l) i
 
   -- and no other
-  pub not-held : (n : ℕ) (ks : List ℕ) → (Among ks at → ⊥) → slice_index_or (table_of n (map (λ k. (k, f k)) ks)) at None ≡ None
+  pub not-held : (n : ℕ) (ks : List ℕ) → (Contains ks at → ⊥) → slice_index_or (table_of n (map (λ k. (k, f k)) ks)) at None ≡ None
   not-held n ks i = is-unset (replicate (room_for n (map (λ k. (k, f k)) ks)) empty) ks i (none-there (room_for n (map (λ k. (k, f k)) ks)) at)

@@ -1,5 +1,5 @@
 -- Each box that stands outside the flow stays within bounds, from the last one on; and so does the page.
-use Rattle.std.proofs.Common.{◌≡◌, ◌⊎◌, inl, inr, ℕ, zero, suc, ◌+◌, ◌-◌, ◌*◌, ◌<◌, ◌≤◌, ℤ, pos, unsigned_abs, Bool, true, false, not, ◌&&◌, ◌||◌, nat_lt, List, [], ◌∷◌, length, get_or, filter, IsTrue, Option, Some, None, refl, sym, ◌∙◌, ap, subst, arith}
+use Rattle.std.proofs.Common.{◌≡◌, ◌⊎◌, inl, inr, ℕ, zero, suc, ◌+◌, ◌-◌, ◌*◌, ◌<◌, ◌≤◌, ℤ, pos, unsigned_abs, Bool, true, false, not, ◌&&◌, nat_lt, List, [], ◌∷◌, length, get_or, filter, Contains, IsTrue, Option, Some, None, refl, sym, ◌∙◌, ap, subst, arith}
 use Rattle.std.specs.Prelude.{◌==◌, unwrap_or, min}
 use Rattle.std.specs.Int.{int_min}
 use Rattle.std.specs.List.{AllByRecursion, list_any}
@@ -11,7 +11,6 @@ use Rattle.viz_base.specs.declared.lengths.Valign.{Valign}
 use Rattle.viz_base.specs.declared.lengths.Valign.TheVariants as of_valign
 use Rattle.viz_base.specs.declared.styles.Style.{Style}
 use Rattle.viz_base.specs.declared.trees.BoxTree.{BoxTree}
-use Rattle.viz_base.specs.declared.trees.Kind.TheVariants as of_kind
 use Rattle.viz_base.specs.declared.worlds.World.{World}
 use Rattle.layout_semantics.specs.Blocks.{kind_of}
 use Rattle.layout_semantics.specs.Flow as landed
@@ -22,9 +21,9 @@ use Rattle.layout_semantics.specs.InlineContent.{has_line, inner_boxes, is_float
 use Rattle.layout_semantics.specs.Lengths.{own}
 use Rattle.layout_semantics.specs.Order.{page_order, IsOnPage}
 use Rattle.layout_semantics.proofs.Pages.{forest, placed_on_page, page_placed, within-page}
-use Rattle.layout_laws.proofs.Among.{Among, among, contains}
 use Rattle.layout_laws.proofs.Greatest.{filter-passes}
 use Rattle.layout_laws.proofs.Levels.{IsFrom, All-implied, inner_boxes-from}
+use Rattle.layout_laws.proofs.Members.{any_in, any_from}
 use Rattle.layout_laws.proofs.LeadLevels.{children-from}
 use Rattle.flow_steps.specs.Flow.{content_of, inner_size}
 use Rattle.flow_steps.specs.Tables.{outside_of, laid_at, nothing_alone}
@@ -40,25 +39,6 @@ use Rattle.flow_limits.proofs.ContentBoxes.{content-items, inner-whole, float-wh
 use Rattle.flow_limits.proofs.Loads.{IsFew, load-is, alone-few, load-rank, rank}
 use Rattle.flow_limits.proofs.ContentWithin.{line_context}
 use Rattle.flow_limits.proofs.AloneWithin.{alone_rise, alone-within}
-
--- ---- boxes on the page, by a test
-
-any-among : (p : ℕ → Bool) (xs : List ℕ) → list_any p xs ≡ true → (x : ℕ) × Among xs x × (p x ≡ true)
-any-among p [] e = absurd (cc)
-any-among p (x ∷ xs) e = by (p x) refl e (λ f. any-among p xs f)
-  where
-    by : (b : Bool) → p x ≡ b → (b || list_any p xs) ≡ true → (list_any p xs ≡ true → (y : ℕ) × Among xs y × (p y ≡ true)) → (y : ℕ) × Among (x ∷ xs) y × (p y ≡ true)
-    by true f e again = (x, inl refl, f)
-    by false f e again = let rest = again e in (rest.0, inr rest.1, rest.2)
-
-any-of : (p : ℕ → Bool) (xs : List ℕ) (x : ℕ) → Among xs x → p x ≡ true → list_any p xs ≡ true
-any-of p [] x i e = elim i [ ]
-any-of p (y ∷ xs) x (inl same) e = ap (λ b. b || list_any p xs) (ap p same ∙ e)
-any-of p (y ∷ xs) x (inr i) e = by (p y) (any-of p xs x i e)
-  where
-    by : (b : Bool) → list_any p xs ≡ true → (b || list_any p xs) ≡ true
-    by true rest = refl
-    by false rest = rest
 
 -- ---- a table by a function
 
@@ -129,14 +109,14 @@ module _ (tree : BoxTree) (w : World) (height t : ℕ) (fine : 8 * t ≤ greates
       by false i f g h = absurd (cc)
       by true true f g h = absurd (cc)
       by true false f g h =
-          let found = any-among (λ j. j == k) (page_order tree.boxes) f in
+          let found = any_in (λ j. j == k) (page_order tree.boxes) f in
           let same : found.0 ≡ k = let e = found.2 in grind (arith, nat_tests, e) in
-          (record { page = placed_on_page tree.boxes k (contains (page_order tree.boxes) k (subst (λ (x : ℕ). Among (page_order tree.boxes) x) same found.1)); room = refl; block = whole_no_inline (kind_of tree k) g }, g)
+          (record { page = placed_on_page tree.boxes k (subst (Contains (page_order tree.boxes)) same found.1); room = refl; block = whole_no_inline (kind_of tree k) g }, g)
 
   good-from : (k : ℕ) → Good k → is_good k ≡ true
   unfolding is_good
   good-from k g =
-      let any = any-of (λ j. j == k) (page_order tree.boxes) k (among (page_order tree.boxes) k (page_placed tree.boxes k (forest tree) g.0.page)) (same k) in
+      let any = any_from (λ j. j == k) (page_order tree.boxes) k (page_placed tree.boxes k (forest tree) g.0.page) (same k) in
       ap (λ b. b && not (is_fragmented (kind_of tree k))) any ∙ ap (λ b. not b) g.1
     where
       same : (k : ℕ) → (k == k) ≡ true

@@ -1,5 +1,5 @@
 -- On the way forward to the next box that is cleared, all stays within bounds.
-use Rattle.std.proofs.Common.{◌≡◌, inl, inr, ℕ, zero, suc, ◌+◌, ◌*◌, ◌<◌, ◌≤◌, ℤ, ◌+ℤ◌, unsigned_abs, Bool, true, false, List, [], ◌∷◌, ◌++◌, length, Option, Some, None, refl, sym, ◌∙◌, ap, subst, arith}
+use Rattle.std.proofs.Common.{◌≡◌, ℕ, zero, suc, ◌+◌, ◌*◌, ◌<◌, ◌≤◌, ℤ, ◌+ℤ◌, unsigned_abs, Bool, true, false, List, [], ◌∷◌, ◌++◌, length, Contains, Option, Some, None, refl, sym, ◌∙◌, ap, subst, arith}
 use Rattle.std.specs.Prelude.{unwrap_or}
 use Rattle.std.specs.List.{AllByRecursion}
 use Rattle.std.specs.Option.{option_to_list}
@@ -9,23 +9,23 @@ use Rattle.viz_base.specs.declared.layouts.Extent.{Extent}
 use Rattle.viz_base.specs.declared.layouts.Waiting.{Waiting}
 use Rattle.viz_base.specs.declared.trees.BoxTree.{BoxTree}
 use Rattle.viz_base.specs.declared.worlds.World.{World}
-use Rattle.layout_semantics.specs.Clearance.{Base, hangs, stands, with_waiting}
+use Rattle.layout_semantics.specs.Clearance.{Base, hangs, stands, with_waiting, on_ground}
 use Rattle.layout_semantics.specs.Floats.{FloatBox, floating, with_float, lowest_bottom}
 use Rattle.layout_semantics.specs.FlowBoxes.{clear_of, may_collapse_through, flow_children, across}
 use Rattle.layout_semantics.specs.Horizontal.{flow_widths}
 use Rattle.layout_semantics.specs.InlineContent.{is_floated_at, has_line}
 use Rattle.layout_semantics.specs.Order.{IsOnPage}
 use Rattle.layout_semantics.specs.Verticals.{verticals}
-use Rattle.layout_laws.proofs.Among.{Among}
-use Rattle.layout_laws.proofs.Greatest.{all_at}
+use Rattle.layout_laws.proofs.Greatest.{All-at}
 use Rattle.layout_laws.proofs.Levels.{IsFrom, All-append, All-implied}
 use Rattle.layout_laws.proofs.LeadLevels.{children-from}
+use Rattle.layout_laws.proofs.Members.{first_member, later_member}
 use Rattle.lay_margin.specs.declared.runs.Run.{Run}
 use Rattle.lay_margin.specs.Runs.{with_margin, collapse}
 use Rattle.lay_margin.specs.steps.Leads.{enters, stops, inner_band, margin_above, margin_below}
 use Rattle.flow_steps.specs.Runs.{edge_at}
 use Rattle.flow_steps.specs.Forward.{End, goes_on, solid, cleared, Found, found, then_on, decided_found, closed_found, passed_box, kid_of, bottom_to_clear, clear_edge, is_to_clear, forward_to}
-use Rattle.flow_steps.proofs.LeadCases.{on_ground, found-float, found-flow, closed-through, closed-stops, way_to, kids_way, inner_way, decision, entered, way-stops, way-enters}
+use Rattle.flow_steps.proofs.LeadCases.{found-float, found-flow, closed-through, closed-stops, way_to, kids_way, inner_way, decision, entered, way-stops, way-enters}
 use Rattle.flow_steps.proofs.Sound.{IsFlowKid, enters-no-line, lead-sound}
 use Rattle.flow_limits.specs.Bounds.{Bounds, AreInside, grown, no_bounds, all_around, together, IsLevelIn, IsBandIn, IsExtentIn, IsFloatIn, levels_of}
 use Rattle.flow_limits.specs.Inline.{IsSmall}
@@ -189,7 +189,7 @@ module _ (tree : BoxTree) (w : World) (height : ℕ) (own turned : ℕ → Bound
       pub record IsAheadOf (b : Bounds) (ks : List ℕ) (d : ℕ) (e : ℤ) : Type 0 where
         pub ahead : Ahead tree own turned s b ks d e
         pub owner : ℕ
-        pub among : Among ks owner
+        pub among : Contains ks owner
         pub flows : is_floated_at tree owner ≡ false
         pub from : owner ≤ d
 
@@ -242,7 +242,7 @@ module _ (tree : BoxTree) (w : World) (height : ℕ) (own turned : ℕ → Bound
       then-kids : (b : Bounds) (k : ℕ) (ks : List ℕ) (run : Run ℤ) (ws : List (Waiting ℤ)) (end : End) (rest : Found) → AllByRecursion (IsBeforeIn tree k) ks → IsKidFound b k (found run ws end)
           → (end ≡ goes_on → AreKidsFound (grown b (rises k)) ks rest) → AreKidsFound b (k ∷ ks) (then_on (found run ws end) rest)
       then-kids b k ks run ws solid rest o h r = record { run = h.run; end = tt }
-      then-kids b k ks run ws (cleared d e) rest o h r = record { run = h.run; end = record { ahead = h.end.0 ks; owner = k; among = inl refl; flows = h.end.2; from = h.end.1 } }
+      then-kids b k ks run ws (cleared d e) rest o h r = record { run = h.run; end = record { ahead = h.end.0 ks; owner = k; among = first_member ks refl; flows = h.end.2; from = h.end.1 } }
       then-kids b k ks run ws goes_on rest o h r = by rest.run rest.waiting rest.end (r refl)
         where
           by : (run : Run ℤ) (ws : List (Waiting ℤ)) (end : End) → AreKidsFound (grown b (rises k)) ks (found run ws end) → AreKidsFound b (k ∷ ks) (found run ws end)
@@ -250,13 +250,13 @@ module _ (tree : BoxTree) (w : World) (height : ℕ) (own turned : ℕ → Bound
           by run ws solid q = record { run = q.run; end = tt }
           by run ws (cleared d e) q =
               let a = q.end in
-              let before = all_at (IsBeforeIn tree k) ks a.owner o a.among in
+              let before = All-at (IsBeforeIn tree k) ks a.owner o a.among in
               record {
                 run = q.run;
                 end = record {
                   ahead = later (λ f. (let both = before f a.flows in record { end = a.owner; to = a.from; here = both.0; closes = both.1 })) a.ahead;
                   owner = a.owner;
-                  among = inr a.among;
+                  among = later_member ks a.among;
                   flows = a.flows;
                   from = a.from;
                 };
@@ -278,7 +278,7 @@ module _ (tree : BoxTree) (w : World) (height : ℕ) (own turned : ℕ → Bound
       closed-in b k run ws solid l f n h = record { run = h.run; end = tt }
       closed-in b k run ws (cleared d e) l f n h =
           let a = h.end in
-          let kid = all_at (IsFrom tree.boxes (suc k)) (flow_children tree k) a.owner (children-from tree k) a.among in
+          let kid = All-at (IsFrom tree.boxes (suc k)) (flow_children tree k) a.owner (children-from tree k) a.among in
           let from = kid.from in
           let to = a.from in
           record { run = h.run; end = ((λ ks. inside l (omega arith) f n a.ahead), omega arith) }

@@ -1,6 +1,5 @@
 ghost use Rattle.std.specs.Prelude.{ℤ, List, Option};
 ghost use Rattle.std.specs.List.{AllByRecursion};
-ghost use Rattle.viz_base.specs.declared.layouts.Extent.{Extent};
 ghost use Rattle.layout_semantics.specs.Floats.{FloatBox, Floating, with_float};
 ghost use Rattle.flow_limits.specs.Bounds.{Bounds, IsBandIn, IsExtentIn, IsFloatIn, IsLevelIn, grown, levels_of};
 

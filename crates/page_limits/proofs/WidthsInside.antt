@@ -170,7 +170,7 @@ module _ (tree : BoxTree) (w : World) where
 
     -- a box that isn't in a line is whole
     apart-whole : (k : ℕ) → is_inline_level_at tree k ≡ false → is_fragmented (kind_of tree k) ≡ false
-    unfolding is_floated_at
+    unfolding is_floated_at is_inline_level_at
     apart-whole k e = by (slice_get tree.boxes k) refl e
       where
         kinds : (b : BoxNode) (kind : Kind) → b.kind ≡ kind → (is_inline_level b && not (is_floated tree.styles b)) ≡ false → is_fragmented kind ≡ false
@@ -313,7 +313,7 @@ module _ (tree : BoxTree) (w : World) where
       both-hold P Q (k ∷ ks) a b = ((a.0, b.0), both-hold P Q ks a.1 b.1)
 
       kids-fine : (n k : ℕ) → IsFine n → holds_inline tree k ≡ false → AllByRecursion (λ j. exact n j ≤ cap j) (kids_of tree.boxes k)
-      unfolding IsFine
+      unfolding IsFine holds_inline
       kids-fine n k f e =
           All-implied (λ j. IsKid tree.boxes k j × (is_inline_level_at tree j ≡ false)) (λ j. exact n j ≤ cap j) (kids_of tree.boxes k)
           (λ j i. f j (i.0).within (apart-whole j i.1))

@@ -1,4 +1,4 @@
-ghost use Rattle.std.specs.Prelude.{◌≤◌, ◌^◌, ℕ, length, chars, sum_by};
+ghost use Rattle.std.specs.Prelude.{◌≤◌, ◌^◌, length, chars, sum_by};
 ghost use Rattle.std.specs.List.{AllByRecursion};
 ghost use Rattle.viz_base.specs.declared.trees.BoxNode.{BoxNode};
 ghost use Rattle.layout_semantics.specs.Page.{page_rendering};
