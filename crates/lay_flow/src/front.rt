@@ -15,9 +15,9 @@ use viz_calc::{Calc, Halt, Latch, Plain};
 
 /// The rendering of a page in a viewport of a height in pixels, at each world that is open at the end.
 ///
-/// Lengths are in 1/64 px. `Mem` for want of memory, `Open` where a comparison is left open, and
-/// `Coeff` where a coefficient passes its limit: on a page within the profile's limits only where the calc counts such
-/// a fault, so never over exact numbers.
+/// Lengths are in 1/64 px. `Open` where a comparison is left open, and `Coeff` where a coefficient passes its limit: on
+/// a page within the profile's limits only where the calc counts such a fault, so never over exact numbers. No clause
+/// says when `Mem` comes.
 pub fn render<C: Calc>(
     alloc: Global,
     calc: &mut C,
@@ -38,7 +38,7 @@ pub fn render<C: Calc>(
 }
 
 /// The rendering of a page within the profile's limits at one world, in a viewport of a height in pixels. Each edge of
-/// each rectangle is at most 2^70 units in size. Its only fault is want of memory.
+/// each rectangle is at most 2^70 units in size. Its only fault is `Mem`; no clause says when that comes.
 pub fn render_at(
     alloc: Global,
     world: World,

@@ -153,8 +153,7 @@ fn add_container<S: Steady>(
     }
 }
 
-/// A place for each box of a tree, and how many there are; none where there is no memory for them, or more boxes than
-/// numbers.
+/// A place for each box of a tree, and how many there are. No clause says when there is none.
 fn table_of<N: Drop>(alloc: Global, tree: &BoxTree) -> Option<(u32, Outside<N>)>
     ensures { IfSome result (λ made. (made.0 ≡ length tree.now.boxes)
         × (made.1.places.items ≡ replicate (length tree.now.boxes) None)) }

@@ -2,7 +2,7 @@
 #![tactic(auto)]
 
 ghost use Rattle.std.specs.Prelude.{◌≡◌, ◌++◌, OnOk, IfOk};
-ghost use Rattle.lay_print.specs.Print.{spaced, print_quad, print_line, print_kind, print_box, printed};
+ghost use Rattle.lay_print.specs.Print.{spaced, print_quad, print_line, print_box, printed};
 
 use itoa::Buffer;
 use std::alloc::{AllocError, Global};
@@ -61,7 +61,8 @@ fn push_box(out: &mut Vec<u8>, placed: &Placed<i128>) -> Result<(), AllocError>
     }
 }
 
-/// The rendering as text: a line for each box, in units of 1/64 px. Its only error is want of memory.
+/// The rendering as text: a line for each box, in units of 1/64 px. Its only error is `Mem`; no clause says when
+/// that comes.
 pub fn print(alloc: Global, rendering: &Rendering<i128>) -> Result<Vec<u8>, Mem>
     ensures { IfOk result (λ text. text.items ≡ printed rendering.now) }
 {
