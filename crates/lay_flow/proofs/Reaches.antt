@@ -4,28 +4,28 @@ use Rattle.std.specs.Prelude.{◌==◌, ◌+ℤ◌}
 use Rattle.viz_base.specs.declared.layouts.Band.{Band}
 use Rattle.viz_base.specs.declared.trees.BoxTree.{BoxTree}
 use Rattle.viz_base.specs.declared.worlds.World.{World}
-use Rattle.layout_semantics.specs.Flow.{Alone, Reached, Cleared}
+use Rattle.layout_semantics.specs.Flow.{Alone, Cleared}
 use Rattle.layout_semantics.specs.Leads.{is_up_to, none_passed}
 use Rattle.layout_semantics.specs.Clearance.{hangs, stands}
 use Rattle.lay_margin.specs.declared.runs.Run.{Run}
 use Rattle.lay_margin.specs.Runs.{no_run, collapse}
-use Rattle.flow_steps.specs.Flow.{Standing, at_top, below, Context}
+use Rattle.flow_steps.specs.Flow.{Standing, at_top, below, Context, Met, met}
 use Rattle.flow_steps.specs.Forward.{Found, cleared_of}
 use Rattle.lay_flow.specs.steps.Flow.{forward_of, reached_from, reached_of}
 
 module _ (tree : BoxTree) (w : World) (apart : ℕ → Alone) (cb : Band ℤ) (s : Context) (b : ℕ) where
   -- the cleared box itself
   pub from-itself : (y : ℤ) (c : ℕ × ℤ) (own : Run ℤ) (f : Found) → (c.0 == b) ≡ true → f ≡ forward_of tree w apart (stands c.1) (is_up_to b) cb s b no_run
-      → (record { top = c.1; clears = true; cleared = cleared_of f.end }, f.run) ≡ reached_from tree w apart cb s b y (Some c) own
+      → met (record { top = c.1; clears = true; cleared = cleared_of f.end }) f.run ≡ reached_from tree w apart cb s b y (Some c) own
   unfolding reached_from
   from-itself y c own f t is =
-      ap (λ (g : Found). let r : Reached × Run ℤ = (record { top = c.1; clears = true; cleared = cleared_of g.end }, g.run) in r) is
+      ap (λ (g : Found). met (record { top = c.1; clears = true; cleared = cleared_of g.end }) g.run) is
       ∙ sym (ap (λ (x : Bool). by x) t)
     where
-      by : Bool → Reached × Run ℤ
+      by : Bool → Met
       by x = elim x [
-        | true ↦ (record { top = c.1; clears = true; cleared = cleared_of (forward_of tree w apart (stands c.1) (is_up_to b) cb s b no_run).end }, (forward_of tree w apart (stands c.1) (is_up_to b) cb s b no_run).run)
-        | false ↦ (record { top = y; clears = false; cleared = Some c }, own)
+        | true ↦ met (record { top = c.1; clears = true; cleared = cleared_of (forward_of tree w apart (stands c.1) (is_up_to b) cb s b no_run).end }) (forward_of tree w apart (stands c.1) (is_up_to b) cb s b no_run).run
+        | false ↦ met (record { top = y; clears = false; cleared = Some c }) own
       ]
 
   -- below an edge
@@ -36,7 +36,7 @@ module _ (tree : BoxTree) (w : World) (apart : ℕ → Alone) (cb : Band ℤ) (s
       ap (λ (g : Found). reached_from tree w apart cb s b (edge +ℤ collapse g.run) (cleared_of g.end) g.run) is
       ∙ sym (ap by standing)
     where
-      by : Standing → Reached × Run ℤ
+      by : Standing → Met
       by x = elim x [
         | at_top y cleared ↦ reached_from tree w apart cb s b y cleared no_run
         | below edge run stuck ↦ reached_from tree w apart cb s b (edge +ℤ collapse (forward_of tree w apart (hangs edge) none_passed cb s b run).run) (cleared_of (forward_of tree w apart (hangs edge) none_passed cb s b run).end) (forward_of tree w apart (hangs edge) none_passed cb s b run).run
@@ -45,10 +45,10 @@ module _ (tree : BoxTree) (w : World) (apart : ℕ → Alone) (cb : Band ℤ) (s
   -- the same from what the code has of it
   pub itself-found : (y : ℤ) (o : Cleared) (c : ℕ × ℤ) (own start : Run ℤ) (f : Found) (top : ℤ) (cleared : Cleared) → o ≡ Some c → c.0 ≡ b → top ≡ c.1 → start ≡ no_run
       → f ≡ forward_of tree w apart (stands c.1) (is_up_to b) cb s b start → cleared ≡ cleared_of f.end
-      → (record { top = top; clears = true; cleared = cleared }, f.run) ≡ reached_from tree w apart cb s b y o own
+      → met (record { top = top; clears = true; cleared = cleared }) f.run ≡ reached_from tree w apart cb s b y o own
   itself-found y o c own start f top cleared some same edge none is ahead =
-      ap (λ (x : ℤ). let r : Reached × Run ℤ = (record { top = x; clears = true; cleared = cleared }, f.run) in r) edge
-      ∙ ap (λ (x : Cleared). let r : Reached × Run ℤ = (record { top = c.1; clears = true; cleared = x }, f.run) in r) ahead
+      ap (λ (x : ℤ). met (record { top = x; clears = true; cleared = cleared }) f.run) edge
+      ∙ ap (λ (x : Cleared). met (record { top = c.1; clears = true; cleared = x }) f.run) ahead
       ∙ from-itself y c own f (eq-eqb c.0 b same) (is ∙ ap (λ r. forward_of tree w apart (stands c.1) (is_up_to b) cb s b r) none)
       ∙ sym (ap (λ x. reached_from tree w apart cb s b y x own) some)
 

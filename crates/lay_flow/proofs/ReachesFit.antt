@@ -9,7 +9,7 @@ use Rattle.viz_base.specs.declared.layouts.Band.{Band}
 use Rattle.viz_base.specs.declared.layouts.Waiting.{Waiting}
 use Rattle.viz_base.specs.declared.trees.BoxTree.{BoxTree}
 use Rattle.viz_base.specs.declared.worlds.World.{World}
-use Rattle.layout_semantics.specs.Flow.{Alone, Cleared, Reached}
+use Rattle.layout_semantics.specs.Flow.{Alone, Cleared}
 use Rattle.layout_semantics.specs.FlowBoxes.{across}
 use Rattle.layout_semantics.specs.InlineContent.{is_floated_at}
 use Rattle.layout_semantics.specs.Leads.{is_up_to, none_passed}
@@ -18,8 +18,8 @@ use Rattle.layout_semantics.specs.Clearance.{Base, hangs, stands}
 use Rattle.lay_margin.specs.declared.runs.Run.{Run}
 use Rattle.lay_margin.specs.Fitting.{BoxFits}
 use Rattle.lay_margin.specs.Runs.{no_run, collapse}
-use Rattle.flow_steps.specs.Flow.{Standing, at_top, below, Context}
-use Rattle.flow_steps.specs.Forward.{End, Found, goes_on, solid, cleared, cleared_of}
+use Rattle.flow_steps.specs.Flow.{Standing, at_top, below, Context, Met, met, ground_of, size_in}
+use Rattle.flow_steps.specs.Forward.{End, Found, goes_on, solid, cleared, cleared_of, forward}
 use Rattle.flow_steps.proofs.Sound.{IsFlowKid}
 use Rattle.flow_limits.specs.Bounds.{Bounds, AreInside, grown, all_around, IsLevelIn, IsBandIn, IsFloatIn}
 use Rattle.flow_limits.specs.Boxes.{IsWhole, IsBoxSmall, IsAloneIn}
@@ -34,7 +34,6 @@ use Rattle.flow_limits.proofs.FlowWithin.{IsContextIn, IsStandingIn}
 use Rattle.lay_flow.specs.Low.{IsBandLow, IsClearedLow, IsRunLow, IsStandingLow}
 use Rattle.lay_flow.specs.WayFits.{ForwardFits, FromFits, StandingFits, ReachFits}
 use Rattle.lay_flow.specs.steps.Flow.{reached_from, reached_of}
-use Rattle.lay_flow.specs.steps.Walk.{ground_of, size_in, way_in}
 use Rattle.lay_flow.proofs.WaysFit.{ways-fit}
 
 module _ (tree : BoxTree) (w : World) (height : ℕ) (own turned : ℕ → Bounds) (s t : ℕ) (fine : 8 * t ≤ s)
@@ -60,14 +59,12 @@ module _ (tree : BoxTree) (w : World) (height : ℕ) (own turned : ℕ → Bound
 
   forward-fits : (b : Bounds) (base : Base) (passed : ℕ → Bool) (run : Run ℤ) → IsBegun b base → AllByRecursion (IsFloatIn b) c.floats → AllByRecursion (IsLevelIn b) (option_to_list c.least) → IsBandIn b cb
       → within.IsRunLow s run → IsNarrow (grown b (rises k)) → ForwardFits tree w apart cb c k base passed run
-  unfolding way_in
   forward-fits b base passed run begun floats least band r n =
       ways-fit tree w height own turned s t fine boxes low fits (size_in apart) base c.floats c.least b (sized base b) begun floats least passed b cb k run [] l i f band r
       (record { bands = tt; room = record { up = omega arith; down = omega arith; aside = omega arith } }) n
 
   found-in : (b : Bounds) (base : Base) (passed : ℕ → Bool) (run : Run ℤ) (begun : IsBegun b base) (floats : AllByRecursion (IsFloatIn b) c.floats) (least : AllByRecursion (IsLevelIn b) (option_to_list c.least)) → IsBandIn b cb
-      → within.IsRunLow s run → IsBoxFound tree w height own turned s t fine boxes (size_in apart) base c.floats c.least b (sized base b) begun floats least b k (way_in (ground_of tree w apart base c) passed cb k run [])
-  unfolding way_in
+      → within.IsRunLow s run → IsBoxFound tree w height own turned s t fine boxes (size_in apart) base c.floats c.least b (sized base b) begun floats least b k (forward (ground_of tree w apart base c) passed cb k run)
   found-in b base passed run begun floats least band r =
       way-in tree w height own turned s t fine boxes (size_in apart) base c.floats c.least b (sized base b) begun floats least passed (length tree.boxes) b cb k run [] l i f band r
       (record { bands = tt; room = record { up = omega arith; down = omega arith; aside = omega arith } })
@@ -132,12 +129,12 @@ module _ (tree : BoxTree) (w : World) (height : ℕ) (own turned : ℕ → Bound
       )
       by (below edge run stuck) q o =
           let found = found-in b (hangs edge) none_passed run q.0 h.floats h.least band q.1 in
-          let x = way_in (ground_of tree w apart (hangs edge) c) none_passed cb k run [] in
+          let x = forward (ground_of tree w apart (hangs edge) c) none_passed cb k run in
           (o.0, o.1, forward-fits b (hangs edge) none_passed run q.0 h.floats h.least band q.1 narrow, run-low x.run found.run, ended (hangs edge) q.0 x.waiting x.end found.end)
 
   -- the box that is cleared ahead of it is low
   pub ahead-of-reached-low : (b : Bounds) (ks : List ℕ) → IsBandIn b cb → IsContextIn tree w height own turned s t fine boxes apart alone_in b (k ∷ ks) c → IsStandingLow c.standing → IsNarrow (grown (near b) (rises k))
-      → IsClearedLow (reached_of tree w apart cb c k).0.cleared
+      → IsClearedLow (reached_of tree w apart cb c k).reached.cleared
   unfolding reached_of reached_from
   ahead-of-reached-low b ks band h low_is n = by c.standing h.standing low_is
     where
@@ -151,26 +148,26 @@ module _ (tree : BoxTree) (w : World) (height : ℕ) (own turned : ℕ → Bound
       same-number d e = grind (arith, nat_tests)
 
       -- where it is cleared itself
-      itself : (edge : ℤ) → IsLevelIn (near b) edge → IsClearedLow (cleared_of (way_in (ground_of tree w apart (stands edge) c) (is_up_to k) cb k no_run []).end)
+      itself : (edge : ℤ) → IsLevelIn (near b) edge → IsClearedLow (cleared_of (forward (ground_of tree w apart (stands edge) c) (is_up_to k) cb k no_run).end)
       itself edge e =
           let floats = floats-wider b (near b) c.floats wide h.floats in
           let least = levels-wider b (near b) (option_to_list c.least) wide h.least in
-          let x = way_in (ground_of tree w apart (stands edge) c) (is_up_to k) cb k no_run [] in
+          let x = forward (ground_of tree w apart (stands edge) c) (is_up_to k) cb k no_run in
           end-low (near b) (stands edge) e floats least x.waiting x.end n (found-in (near b) (stands edge) (is_up_to k) no_run e floats least (band-wider b (near b) wide band) (none-low s)).end
 
-      from : (y : ℤ) (o : Cleared) (r : Run ℤ) → IsPending tree own turned s b (k ∷ ks) o → IsClearedLow o → IsClearedLow (reached_from tree w apart cb c k y o r).0.cleared
+      from : (y : ℤ) (o : Cleared) (r : Run ℤ) → IsPending tree own turned s b (k ∷ ks) o → IsClearedLow o → IsClearedLow (reached_from tree w apart cb c k y o r).reached.cleared
       from y None r p l = tt
-      from y (Some d) r p l = met (d.0 == k) refl
+      from y (Some d) r p l = by_match (d.0 == k) refl
         where
           own_way : Found
-          own_way = way_in (ground_of tree w apart (stands d.1) c) (is_up_to k) cb k no_run []
+          own_way = forward (ground_of tree w apart (stands d.1) c) (is_up_to k) cb k no_run
 
-          met : (m : Bool) → (d.0 == k) ≡ m → IsClearedLow (elim m as (λ _. Reached × Run ℤ) [
-            | true ↦ (record { top = d.1; clears = true; cleared = cleared_of own_way.end }, own_way.run)
-            | false ↦ (record { top = y; clears = false; cleared = Some d }, r)
-          ]).0.cleared
-          met true e = itself d.1 (match-pending tree own turned s b k ks d.0 d.1 (same-number d.0 e) f p)
-          met false e = l
+          by_match : (m : Bool) → (d.0 == k) ≡ m → IsClearedLow (elim m as (λ _. Met) [
+            | true ↦ met (record { top = d.1; clears = true; cleared = cleared_of own_way.end }) own_way.run
+            | false ↦ met (record { top = y; clears = false; cleared = Some d }) r
+          ]).reached.cleared
+          by_match true e = itself d.1 (match-pending tree own turned s b k ks d.0 d.1 (same-number d.0 e) f p)
+          by_match false e = l
 
       pending : (base : Base) (begun : IsBegun b base) (ws : List (Waiting ℤ)) (end : End) → IsBoxEndIn tree w height own turned s t fine boxes (size_in apart) base c.floats c.least b (sized base b) begun h.floats h.least b k ws end
           → IsPending tree own turned s b (k ∷ ks) (cleared_of end)
@@ -178,9 +175,9 @@ module _ (tree : BoxTree) (w : World) (height : ℕ) (own turned : ℕ → Bound
       pending base begun ws solid q = tt
       pending base begun ws (cleared d y) q = ahead (q.0 ks)
 
-      by : (st : Standing) → IsStandingIn tree w height own turned s t fine boxes apart alone_in b (k ∷ ks) st → IsStandingLow st → IsClearedLow (reached_of tree w apart cb (record c { standing = st }) k).0.cleared
+      by : (st : Standing) → IsStandingIn tree w height own turned s t fine boxes apart alone_in b (k ∷ ks) st → IsStandingLow st → IsClearedLow (reached_of tree w apart cb (record c { standing = st }) k).reached.cleared
       by (at_top y next) q o = from y next no_run q.1 o.1
       by (below edge run stuck) q o =
           let found = found-in b (hangs edge) none_passed run q.0 h.floats h.least band q.1 in
-          let x = way_in (ground_of tree w apart (hangs edge) c) none_passed cb k run [] in
+          let x = forward (ground_of tree w apart (hangs edge) c) none_passed cb k run in
           from (edge +ℤ collapse x.run) (cleared_of x.end) x.run (pending (hangs edge) q.0 x.waiting x.end found.end) (end-low b (hangs edge) q.0 h.floats h.least x.waiting x.end narrow found.end)

@@ -16,12 +16,11 @@ use Rattle.lay_line.proofs.Lays.{lines-are}
 use Rattle.lay_margin.specs.declared.runs.Run.{Run}
 use Rattle.lay_margin.specs.Runs.{no_run, collapse}
 use Rattle.flow_steps.specs.Flow as flow
-use Rattle.flow_steps.specs.Flow.{Standing, at_top, below, Context, Step, step, Laid, after_lines, children, followed}
+use Rattle.flow_steps.specs.Flow.{Standing, at_top, below, Context, Step, step, Laid, Met, met, after_lines, children, followed}
 use Rattle.flow_steps.specs.Forward.{Found, cleared_of}
 use Rattle.flow_steps.proofs.Levels.{content-is}
 use Rattle.lay_flow.specs.steps.Flow as named
-use Rattle.lay_flow.specs.steps.Walk as walk
-use Rattle.lay_flow.specs.steps.Flow.{reached_from, reached_of, standing_after, float_of, in_lines, in_flow, laid_of, child_of, content_by}
+use Rattle.lay_flow.specs.steps.Flow.{ending_of, reached_from, reached_of, standing_after, float_of, in_lines, in_flow, laid_of, child_of, content_by}
 
 module _ (tree : BoxTree) (w : World) (height : ℕ) (apart : ℕ → Alone) where
   abbrev content : ℕ → Band ℤ → ℤ → Context → Step
@@ -50,13 +49,13 @@ module _ (tree : BoxTree) (w : World) (height : ℕ) (apart : ℕ → Alone) whe
     before (at_top y cleared) = no_run
     before (below edge run stuck) = (flow.run_forward tree w height content apart (hangs edge) none_passed cb s b run).run
 
-    abbrev met : Reached → Reached × Run ℤ
-    met r = (r, flow.own_run tree w height content apart cb s b r)
+    abbrev met_by : Reached → Met
+    met_by r = met r (flow.own_run tree w height content apart cb s b r)
 
     from-same : (y : ℤ) (cleared : Cleared) (own : Run ℤ) → own ≡ before s.standing
-        → reached_from tree w apart cb s b y cleared own ≡ met (flow.reached_at tree w height content apart cb s b y cleared)
-    unfolding named.reached_from walk.way_in walk.size_in
-    from-same y None own e = ap (λ r. (record { top = y; clears = false; cleared = None }, r)) e
+        → reached_from tree w apart cb s b y cleared own ≡ met_by (flow.reached_at tree w height content apart cb s b y cleared)
+    unfolding named.reached_from
+    from-same y None own e = ap (met (record { top = y; clears = false; cleared = None })) e
     from-same y (Some c) own e = by (c.0 == b)
       where
         cleared : Found
@@ -68,16 +67,16 @@ module _ (tree : BoxTree) (w : World) (height : ℕ) (apart : ℕ → Alone) whe
         ahead : Reached
         ahead = record { top = y; clears = false; cleared = Some c }
 
-        by : (x : Bool) → elim x as (λ _. Reached × Run ℤ) [ true ↦ (here, cleared.run) | false ↦ (ahead, own) ] ≡ met (elim x as (λ _. Reached) [ true ↦ here | false ↦ ahead ])
+        by : (x : Bool) → elim x as (λ _. Met) [ true ↦ met here cleared.run | false ↦ met ahead own ] ≡ met_by (elim x as (λ _. Reached) [ true ↦ here | false ↦ ahead ])
         by true = refl
-        by false = ap (λ r. (ahead, r)) e
+        by false = ap (met ahead) e
 
-  pub reached-same : (cb : Band ℤ) (s : Context) (b : ℕ) → reached_of tree w apart cb s b ≡ met cb s b (flow.reached tree w height content apart cb s b)
-  unfolding named.reached_of walk.way_in walk.size_in
+  pub reached-same : (cb : Band ℤ) (s : Context) (b : ℕ) → reached_of tree w apart cb s b ≡ met_by cb s b (flow.reached tree w height content apart cb s b)
+  unfolding named.reached_of
   reached-same cb s b = by s.standing
     where
       by : (x : Standing) → reached_of tree w apart cb (record s { standing = x }) b
-          ≡ met cb (record s { standing = x }) b (flow.reached tree w height content apart cb (record s { standing = x }) b)
+          ≡ met_by cb (record s { standing = x }) b (flow.reached tree w height content apart cb (record s { standing = x }) b)
       by (at_top y cleared) = from-same cb (record s { standing = at_top y cleared }) b y cleared no_run refl
       by (below edge run stuck) =
           let f = flow.run_forward tree w height content apart (hangs edge) none_passed cb s b run in
@@ -92,12 +91,12 @@ module _ (tree : BoxTree) (w : World) (height : ℕ) (apart : ℕ → Alone) whe
   flow-same : (cb : Band ℤ) (s : Context) (b : ℕ) → in_flow tree w height apart cb s b ≡ flow.flow_child tree w height content apart cb s b
   unfolding named.in_flow named.standing_after
   flow-same cb s b =
-      let m = met cb s b (flow.reached tree w height content apart cb s b) in
-      ap (λ (m : Reached × Run ℤ). after m (laid_of tree w height apart cb s b m.0)) (reached-same cb s b)
-      ∙ ap (after m) (laid-same cb s b m.0)
+      let m = met_by cb s b (flow.reached tree w height content apart cb s b) in
+      ap (λ (m : Met). after m (laid_of tree w height apart cb s b m.reached)) (reached-same cb s b)
+      ∙ ap (after m) (laid-same cb s b m.reached)
     where
-      after : Reached × Run ℤ → Laid → Step
-      after m l = step (record l.after.context { standing = standing_after tree w apart cb s.standing b m l.through l.bottom l.margins }) l.after.boxes
+      after : Met → Laid → Step
+      after m l = step (record l.after.context { standing = standing_after tree w cb s.standing b m (ending_of l) }) l.after.boxes
 
   -- ---- one after another
 

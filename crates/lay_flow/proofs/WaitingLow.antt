@@ -9,7 +9,7 @@ use Rattle.viz_base.specs.declared.layouts.Waiting.{Waiting}
 use Rattle.viz_base.specs.declared.renderings.Quad.{Quad}
 use Rattle.viz_base.specs.declared.trees.BoxTree.{BoxTree}
 use Rattle.viz_base.specs.declared.worlds.World.{World}
-use Rattle.layout_semantics.specs.Clearance.{Base, with_waiting}
+use Rattle.layout_semantics.specs.Clearance.{Base, with_waiting, on_ground}
 use Rattle.layout_semantics.specs.Floats.{FloatBox, floating, with_float}
 use Rattle.layout_semantics.specs.Leads.{is_up_to}
 use Rattle.layout_laws.proofs.Greatest.{All-at}
@@ -19,7 +19,6 @@ use Rattle.lay_margin.specs.declared.runs.Run.{Run}
 use Rattle.lay_margin.specs.steps.Leads.{lead_of}
 use Rattle.flow_steps.specs.Forward.{hypothetical_edge}
 use Rattle.flow_steps.specs.Runs.{edge_at}
-use Rattle.flow_steps.proofs.LeadCases.{on_ground}
 use Rattle.flow_limits.specs.Bounds.{AreInside, all_around, levels_of, IsLevelIn, IsBandIn, IsExtentIn, IsFloatIn, IsQuadIn}
 use Rattle.flow_limits.proofs.FloatSpots.{with-float}
 use Rattle.flow_limits.proofs.FloatsMet.{floats-wider, band-wider}

@@ -5,19 +5,18 @@ use Rattle.viz_base.specs.declared.layouts.Band.{Band}
 use Rattle.viz_base.specs.declared.layouts.Widths.{Widths}
 use Rattle.viz_base.specs.declared.trees.BoxTree.{BoxTree}
 use Rattle.viz_base.specs.declared.worlds.World.{World}
-use Rattle.layout_semantics.specs.Flow.{Alone, Reached}
+use Rattle.layout_semantics.specs.Flow.{Alone}
 use Rattle.layout_semantics.specs.FlowBoxes.{flow_children}
 use Rattle.layout_semantics.specs.InlineContent.{has_line, is_floated_at}
 use Rattle.layout_semantics.specs.Verticals.{Verticals}
-use Rattle.lay_margin.specs.declared.runs.Run.{Run}
-use Rattle.flow_steps.specs.Flow.{Context, Standing, Step, at_top, below}
+use Rattle.flow_steps.specs.Flow.{Context, Met, Standing, Step, at_top, below}
 use Rattle.flow_limits.specs.Bounds.{Bounds, AreInside, all_around}
 use Rattle.flow_limits.specs.Boxes.{AreSidesSmall, AreWidthsSmall, IsAloneIn}
 use Rattle.flow_limits.proofs.BoxesWithin.{boxes-wider}
 use Rattle.flow_limits.proofs.Levels.{level-wider}
 use Rattle.flow_limits.proofs.LinesWithin.{levels-wider}
 use Rattle.lay_flow.specs.Low.{reach, IsAloneLow, IsClearedLow}
-use Rattle.lay_flow.specs.steps.Flow.{child_of, children_of, content_by, content_of, float_of, in_flow, in_lines, standing_after}
+use Rattle.lay_flow.specs.steps.Flow.{Ending, child_of, children_of, content_by, content_of, float_of, in_flow, in_lines, standing_after}
 use Rattle.lay_flow.proofs.Same.{content-named}
 
 -- ---- numbers that are small are low
@@ -70,15 +69,15 @@ IsAheadLow (at_top y cleared) = IsClearedLow cleared
 IsAheadLow (below edge run stuck) = Unit {0}
 
 module _ (tree : BoxTree) (w : World) (height : ℕ) (apart : ℕ → Alone) where
-  after-ahead : (cb : Band ℤ) (st : Standing) (b : ℕ) (met : Reached × Run ℤ) (through : Bool) (bottom : ℤ) (margins : Run ℤ) → IsAheadLow st → IsAheadLow (standing_after tree w apart cb st b met through bottom margins)
+  after-ahead : (cb : Band ℤ) (st : Standing) (b : ℕ) (m : Met) (end : Ending) → IsAheadLow st → IsAheadLow (standing_after tree w cb st b m end)
   unfolding standing_after
-  after-ahead cb st b met false bottom margins h = tt
-  after-ahead cb st b met true bottom margins h = by met.0.clears st refl h
+  after-ahead cb st b m end h = by end.through m.reached.clears st refl refl h
     where
-      by : (x : Bool) (st : Standing) → met.0.clears ≡ x → IsAheadLow st → IsAheadLow (standing_after tree w apart cb st b met true bottom margins)
-      by true st e h = rw e tt
-      by false (at_top y cleared) e h = rw e h
-      by false (below edge run stuck) e h = rw e tt
+      by : (t c : Bool) (st : Standing) → end.through ≡ t → m.reached.clears ≡ c → IsAheadLow st → IsAheadLow (standing_after tree w cb st b m end)
+      by false c st t e h = rw t tt
+      by true true st t e h = rw (t, e) tt
+      by true false (at_top y cleared) t e h = rw (t, e) h
+      by true false (below edge run stuck) t e h = rw (t, e) tt
 
   pub child-ahead : (cb : Band ℤ) (top : ℤ) (s : Context) (k : ℕ) → IsAheadLow s.standing → IsAheadLow (child_of tree w height apart cb top s k).context.standing
   unfolding child_of float_of in_flow
@@ -86,7 +85,7 @@ module _ (tree : BoxTree) (w : World) (height : ℕ) (apart : ℕ → Alone) whe
     where
       by : (f : Bool) → IsAheadLow (elim f as (λ _. Step) [ true ↦ float_of tree w apart cb top s k | false ↦ in_flow tree w height apart cb s k ]).context.standing
       by true = h
-      by false = after-ahead cb s.standing k _ _ _ _ h
+      by false = after-ahead cb s.standing k _ _ h
 
   children-ahead : (cb : Band ℤ) (top : ℤ) (s : Context) (ks : List ℕ) → IsAheadLow s.standing → IsAheadLow (children_of tree w height apart cb top s ks).context.standing
   children-ahead cb top s [] h = h

@@ -21,7 +21,7 @@ use Rattle.layout_laws.proofs.Levels.{All-implied}
 use Rattle.lay_margin.specs.declared.runs.Run.{Run}
 use Rattle.lay_margin.specs.Fitting.{BoxFits}
 use Rattle.flow_steps.specs.Flow as flow
-use Rattle.flow_steps.specs.Flow.{Context, Step, content_of, fresh, Standing, at_top, below}
+use Rattle.flow_steps.specs.Flow.{Context, Met, Step, content_of, fresh, met, Standing, at_top, below}
 use Rattle.flow_steps.proofs.Sound.{IsFlowKid, IsSound}
 use Rattle.flow_limits.specs.Bounds.{Bounds, AreInside, grown, all_around, IsBandIn, IsLevelIn}
 use Rattle.flow_limits.specs.Boxes.{IsAloneIn, IsBoxSmall, IsWhole}
@@ -217,11 +217,11 @@ module _ (tree : BoxTree) (w : World) (height : ℕ) (own turned : ℕ → Bound
   flow-fits cb c k h = record {
     reach = reach-fits tree w height own turned s t fine boxes less lead-fits apart alone_in cb c k n.0 n.1 n.2 h.b h.ks n.3 h.begun so_far.standing wide;
     standing = so_far.standing;
-    inside = subst (λ (m : Reached × Run ℤ). ReachedHere cb c k m.0.top m.0.cleared) (sym same) at;
+    inside = subst (λ (m : Met). ReachedHere cb c k m.reached.top m.reached.cleared) (sym same) at;
     band = band-wider h.b reach narrow n.3;
     down = (shape-fit cb k n.1 n.2).down;
-    top_low = subst (λ (m : Reached × Run ℤ). IsLevelLow m.0.top) (sym same) (level-wider (grown h.b (all_around (4 * s))) reach met.top (near-low cb c k h) found.top);
-    run = subst (λ (m : Reached × Run ℤ). IsRunLow m.1) (sym same) (run-low (flow.own_run tree w height inside apart cb c k met) (within.own-run-low tree w height own turned s t fine boxes apart alone_in inside h.b cb c k h.ks met n h.begun found.top));
+    top_low = subst (λ (m : Met). IsLevelLow m.reached.top) (sym same) (level-wider (grown h.b (all_around (4 * s))) reach here.top (near-low cb c k h) found.top);
+    run = subst (λ (m : Met). IsRunLow m.run) (sym same) (run-low (flow.own_run tree w height inside apart cb c k here) (within.own-run-low tree w height own turned s t fine boxes apart alone_in inside h.b cb c k h.ks here n h.begun found.top));
   }
     where
       n : within.IsNext tree w height own turned s t fine boxes apart alone_in inside h.b cb k
@@ -239,21 +239,21 @@ module _ (tree : BoxTree) (w : World) (height : ℕ) (own turned : ℕ → Bound
       wide : AreInside (grown (grown h.b (all_around (4 * s))) (rises k)) (all_around (2 ^ 88))
       wide = let i = h.room in let u = i.up in let d = i.down in let a = i.aside in record { up = omega (arith, u, low); down = omega (arith, d, low); aside = omega (arith, a, low) }
 
-      met : Reached
-      met = flow.reached tree w height inside apart cb c k
+      here : Reached
+      here = flow.reached tree w height inside apart cb c k
 
-      same : reached_of tree w apart cb c k ≡ (met, flow.own_run tree w height inside apart cb c k met)
+      same : reached_of tree w apart cb c k ≡ met here (flow.own_run tree w height inside apart cb c k here)
       same = reached-same tree w height apart cb c k
 
-      found : within.IsReachedIn tree w height own turned s t fine boxes apart alone_in inside h.b h.ks k met
+      found : within.IsReachedIn tree w height own turned s t fine boxes apart alone_in inside h.b h.ks k here
       found = within.reached-in tree w height own turned s t fine boxes apart alone_in inside h.b cb k h.ks c.standing c.floats c.least c.baseline n h.begun.standing h.begun.floats h.begun.least
 
-      at : ReachedHere cb c k met.top met.cleared
+      at : ReachedHere cb c k here.top here.cleared
       at = record {
         flows = h;
         top = found.top;
         pends = found.pends;
-        cleared_low = subst (λ (m : Reached × Run ℤ). IsClearedLow m.0.cleared) same (ahead-of-reached-low tree w height own turned s t fine boxes less lead-fits apart alone_in cb c k n.0 n.1 n.2 h.b h.ks n.3 h.begun so_far.standing wide);
+        cleared_low = subst (λ (m : Met). IsClearedLow m.reached.cleared) same (ahead-of-reached-low tree w height own turned s t fine boxes less lead-fits apart alone_in cb c k n.0 n.1 n.2 h.b h.ks n.3 h.begun so_far.standing wide);
       }
 
       run-low : (run : Run ℤ) → ways.IsRunLow s run → IsRunLow run

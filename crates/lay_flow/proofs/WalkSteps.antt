@@ -1,5 +1,5 @@
 -- What the walk has of a box, put together as its steps have it.
-use Rattle.std.proofs.Common.{◌≡◌, ℕ, ℤ, Bool, List, None, refl, ap, ◌∙◌}
+use Rattle.std.proofs.Common.{◌≡◌, ℕ, ℤ, List, None, refl, ap, ◌∙◌}
 use Rattle.std.specs.Int.{int_max}
 use Rattle.viz_base.specs.declared.layouts.Band.{Band}
 use Rattle.viz_base.specs.declared.layouts.Extent.{Extent}
@@ -7,12 +7,11 @@ use Rattle.viz_base.specs.declared.layouts.Spot.{Spot}
 use Rattle.viz_base.specs.declared.trees.BoxTree.{BoxTree}
 use Rattle.viz_base.specs.declared.worlds.World.{World}
 use Rattle.layout_semantics.specs.Floats.{FloatBox, floating, float_spot, with_float_at}
-use Rattle.layout_semantics.specs.Flow.{Alone, Reached}
+use Rattle.layout_semantics.specs.Flow.{Alone}
 use Rattle.layout_semantics.specs.Rectangles.{shifted}
-use Rattle.lay_margin.specs.declared.runs.Run.{Run}
-use Rattle.flow_steps.specs.Flow.{Standing, Context, Laid, next_edge}
+use Rattle.flow_steps.specs.Flow.{Standing, Context, Laid, Met, met, next_edge}
 use Rattle.lay_flow.specs.Readings.{without_boxes}
-use Rattle.lay_flow.specs.steps.Flow.{float_of, reached_of, laid_of, standing_after, in_flow}
+use Rattle.lay_flow.specs.steps.Flow.{Ending, ending_of, float_of, reached_of, laid_of, standing_after, in_flow}
 
 module _ (tree : BoxTree) (w : World) (apart : ℕ → Alone) (cb : Band ℤ) (top : ℤ) (s : Context) (k : ℕ) where
   -- where a float stands, by what was found of its size and of the place where it comes
@@ -40,22 +39,22 @@ module _ (tree : BoxTree) (w : World) (apart : ℕ → Alone) (cb : Band ℤ) (t
 
 module _ (tree : BoxTree) (w : World) (height : ℕ) (apart : ℕ → Alone) (cb : Band ℤ) (s : Context) (b : ℕ) where
   -- a standing asks nothing of the cleared box ahead
-  after-same : (before : Standing) (met : Reached × Run ℤ) (through : Bool) (bottom : ℤ) (margins : Run ℤ)
-      → standing_after tree w apart cb before b (record met.0 { cleared = None }, met.1) through bottom margins ≡ standing_after tree w apart cb before b met through bottom margins
+  after-same : (before : Standing) (m : Met) (end : Ending)
+      → standing_after tree w cb before b (met (record m.reached { cleared = None }) m.run) end ≡ standing_after tree w cb before b m end
   unfolding standing_after
-  after-same before met through bottom margins = refl
+  after-same before m end = refl
 
-  abbrev done : Reached × Run ℤ → Context
-  done met = record (laid_of tree w height apart cb s b met.0).after.context {
-    standing = standing_after tree w apart cb s.standing b met (laid_of tree w height apart cb s b met.0).through (laid_of tree w height apart cb s b met.0).bottom (laid_of tree w height apart cb s b met.0).margins;
+  abbrev done : Met → Context
+  done m = record (laid_of tree w height apart cb s b m.reached).after.context {
+    standing = standing_after tree w cb s.standing b m (ending_of (laid_of tree w height apart cb s b m.reached));
   }
 
-  pub flow-context : (met : Reached × Run ℤ) (l : Laid) (before after : Standing) → met ≡ reached_of tree w apart cb s b → l ≡ without_boxes (laid_of tree w height apart cb s b met.0)
-      → before ≡ s.standing → after ≡ standing_after tree w apart cb before b (record met.0 { cleared = None }, met.1) l.through l.bottom l.margins
+  pub flow-context : (m : Met) (l : Laid) (before after : Standing) → m ≡ reached_of tree w apart cb s b → l ≡ without_boxes (laid_of tree w height apart cb s b m.reached)
+      → before ≡ s.standing → after ≡ standing_after tree w cb before b (met (record m.reached { cleared = None }) m.run) (ending_of l)
       → record l.after.context { standing = after } ≡ (in_flow tree w height apart cb s b).context
   unfolding in_flow
-  flow-context met l before after is laid same next =
+  flow-context m l before after is laid same next =
       ap (λ (x : Standing). record l.after.context { standing = x })
-      (next ∙ after-same before met l.through l.bottom l.margins ∙ ap (λ (x : Standing). standing_after tree w apart cb x b met l.through l.bottom l.margins) same)
-      ∙ ap (λ (x : Laid). record x.after.context { standing = standing_after tree w apart cb s.standing b met x.through x.bottom x.margins }) laid
+      (next ∙ after-same before m (ending_of l) ∙ ap (λ (x : Standing). standing_after tree w cb x b m (ending_of l)) same)
+      ∙ ap (λ (x : Laid). record x.after.context { standing = standing_after tree w cb s.standing b m (ending_of x) }) laid
       ∙ ap done is

@@ -8,9 +8,9 @@ use Rattle.lay_margin.specs.Readings.{passed_by}
 use Rattle.lay_margin.specs.declared.runs.Run.{Run}
 use Rattle.flow_steps.specs.Forward.{box_found}
 use Rattle.flow_steps.proofs.Levels.{way-is}
+use Rattle.flow_steps.specs.Flow.{size_in}
 use Rattle.lay_flow.specs.Readings.{apart_at, base_at}
 use Rattle.lay_flow.specs.Ways.{ground_at, way_at, inner_at}
-use Rattle.lay_flow.specs.steps.Walk.{size_in}
 use Rattle.lay_flow.specs.declared.forward.Way.{Way}
 
 pub way-inside : {N : Type 0} (at : N → Reading → ℤ) (x : Way N) (e : Reading) (cb : Band ℤ) (b : ℕ) (run : Run ℤ) (ws : List (Waiting ℤ)) → b < length x.page.now.tree.now.boxes

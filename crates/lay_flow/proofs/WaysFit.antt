@@ -13,7 +13,7 @@ use Rattle.layout_semantics.specs.FlowBoxes.{flow_children, across, block_band}
 use Rattle.layout_semantics.specs.Horizontal.{flow_widths}
 use Rattle.layout_semantics.specs.InlineContent.{is_floated_at}
 use Rattle.layout_semantics.specs.Order.{IsOnPage}
-use Rattle.layout_semantics.specs.Clearance.{Base, hangs, stands}
+use Rattle.layout_semantics.specs.Clearance.{Base, hangs, stands, on_ground}
 use Rattle.layout_laws.proofs.Levels.{IsFrom, All-append, All-implied}
 use Rattle.layout_laws.proofs.LeadLevels.{children-from}
 use Rattle.lay_margin.specs.declared.runs.Run.{Run}
@@ -22,7 +22,7 @@ use Rattle.lay_margin.specs.Fitting.{inside as leads_inside}
 use Rattle.lay_margin.specs.Runs.{with_margin}
 use Rattle.lay_margin.specs.steps.Leads.{enters, inner_band, margin_above, margin_below}
 use Rattle.flow_steps.specs.Forward.{Found, End, goes_on, solid, cleared, found, kid_of, passed_box, way}
-use Rattle.flow_steps.proofs.LeadCases.{on_ground, found-float, found-flow}
+use Rattle.flow_steps.proofs.LeadCases.{found-float, found-flow}
 use Rattle.flow_steps.proofs.Sound.{IsFlowKid, enters-no-line, lead-sound}
 use Rattle.flow_limits.specs.Bounds.{Bounds, AreInside, grown, all_around, together, IsLevelIn, IsBandIn, IsFloatIn}
 use Rattle.flow_limits.specs.Boxes.{AreWidthsSmall, IsWhole, IsBoxSmall}

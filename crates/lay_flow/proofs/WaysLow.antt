@@ -6,11 +6,12 @@ use Rattle.viz_base.specs.declared.trees.BoxTree.{BoxTree}
 use Rattle.viz_base.specs.declared.worlds.World.{World}
 use Rattle.layout_semantics.specs.FlowBoxes.{flow_children}
 use Rattle.layout_semantics.specs.Lengths.{margins}
+use Rattle.layout_semantics.specs.Clearance.{Ground}
 use Rattle.lay_margin.specs.declared.runs.Run.{Run}
 use Rattle.lay_margin.specs.Fitting.{MarginFits, InsideFits, itself}
 use Rattle.lay_margin.specs.Runs.{with_margin}
 use Rattle.lay_margin.specs.steps.Leads.{enters, inner_band, margin_above}
-use Rattle.flow_steps.specs.Forward.{Ground, End, goes_on, solid, cleared, Found, kid_of, kids_found}
+use Rattle.flow_steps.specs.Forward.{End, goes_on, solid, cleared, Found, kid_of, kids_found}
 use Rattle.lay_flow.specs.WayFits.{here, inside, first, later, IsDecisionLow, WayFits, KidsFit, KidFits}
 use Rattle.lay_flow.proofs.LeadsLow.{lead-inner}
 

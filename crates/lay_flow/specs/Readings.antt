@@ -10,6 +10,7 @@ use Rattle.flow_steps.specs.Flow as steps
 use Rattle.flow_steps.specs.Forward as forward
 use Rattle.layout_semantics.specs.Clearance as clearance
 use Rattle.flow_steps.specs.Tables.{laid_at}
+use Rattle.lay_flow.specs.steps.Flow.{Ending}
 use Rattle.lay_flow.specs.declared.parts.Cleared.{Cleared as ClearedBox}
 use Rattle.lay_flow.specs.declared.parts.Standing.{Standing}
 use Rattle.lay_flow.specs.declared.parts.Standing.TheVariants.{AtTop, Below}
@@ -23,7 +24,6 @@ use Rattle.lay_flow.specs.declared.parts.End.TheVariants.{GoesOn, Solid, Ends}
 use Rattle.lay_flow.specs.declared.parts.Reached.{Reached as ReachedBox}
 use Rattle.lay_flow.specs.declared.parts.Laid.{Laid}
 use Rattle.lay_flow.specs.declared.parts.Met.{Met}
-use Rattle.lay_margin.specs.declared.runs.Run.{Run}
 
 -- ---- how far the flow has come
 
@@ -74,8 +74,11 @@ found_at at g x e = forward.found (run_at at g.run e) (margins.floats_at at g.wa
 abbrev pub reached_at : {N : Type 0} → (N → Reading → ℤ) → ReachedBox N → Reading → Reached
 reached_at at r e = record { top = at r.top e; clears = r.clears; cleared = cleared_at at r.cleared e }
 
-abbrev pub met_at : {N : Type 0} → (N → Reading → ℤ) → Met N → Reading → Reached × Run ℤ
-met_at at m e = (reached_at at m.reached e, run_at at m.own e)
+abbrev pub met_at : {N : Type 0} → (N → Reading → ℤ) → Met N → Reading → steps.Met
+met_at at m e = steps.met (reached_at at m.reached e) (run_at at m.own e)
+
+abbrev pub ending_at : {N : Type 0} → (N → Reading → ℤ) → Laid N → Reading → Ending
+ending_at at l e = record { through = l.through; bottom = at l.bottom e; margins = run_at at l.margins e }
 
 -- a box that is laid out, without the boxes that it adds
 abbrev pub laid_with : {N : Type 0} → (N → Reading → ℤ) → Laid N → Context N → Reading → steps.Laid

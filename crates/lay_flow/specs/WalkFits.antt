@@ -80,11 +80,11 @@ module _ (tree : BoxTree) (w : World) (height : ℕ) (apart : ℕ → Alone) whe
       pub reach : ReachFits tree w apart cb s b
       pub standing : IsStandingLow s.standing
       pub inside : next
-          (when_reached cb s b (reached_of tree w apart cb s b).0.top (reached_of tree w apart cb s b).0.cleared)
+          (when_reached cb s b (reached_of tree w apart cb s b).reached.top (reached_of tree w apart cb s b).reached.cleared)
       pub band : IsBandLow cb
       pub down : VerticalsFit tree w b (across cb)
-      pub top_low : IsLevelLow (reached_of tree w apart cb s b).0.top
-      pub run : IsRunLow (reached_of tree w apart cb s b).1
+      pub top_low : IsLevelLow (reached_of tree w apart cb s b).reached.top
+      pub run : IsRunLow (reached_of tree w apart cb s b).run
 
     pub record LaidFits (cb : Band ℤ) (s : Context) (b : ℕ) (top : ℤ) (cleared : Cleared) : Type 0 where
       pub band : IsBandLow cb

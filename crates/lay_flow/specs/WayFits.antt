@@ -12,16 +12,15 @@ use Rattle.layout_semantics.specs.Flow.{Alone, Cleared}
 use Rattle.layout_semantics.specs.FlowBoxes.{flow_children}
 use Rattle.layout_semantics.specs.InlineContent.{is_floated_at}
 use Rattle.layout_semantics.specs.Leads.{is_up_to, none_passed}
-use Rattle.layout_semantics.specs.Clearance.{Base, hangs, stands}
+use Rattle.layout_semantics.specs.Clearance.{Base, hangs, stands, Ground}
 use Rattle.lay_margin.specs.declared.runs.Run.{Run}
 use Rattle.lay_margin.specs.Fitting.{edges, BoxFits, LeadsTo}
 use Rattle.lay_margin.specs.Runs.{no_run, with_margin}
 use Rattle.lay_margin.specs.steps.Leads.{enters, inner_band, margin_above, margin_below}
-use Rattle.flow_steps.specs.Flow.{Standing, at_top, below, Context}
-use Rattle.flow_steps.specs.Forward.{Found, Ground, goes_on, cleared_of, kid_of}
+use Rattle.flow_steps.specs.Flow.{Standing, at_top, below, Context, ground_of}
+use Rattle.flow_steps.specs.Forward.{Found, goes_on, cleared_of, kid_of, forward, way}
 use Rattle.flow_limits.specs.Bounds.{all_around, levels_of, IsLevelIn, IsBandIn, IsFloatIn}
 use Rattle.lay_flow.specs.Low.{reach, IsLevelLow, AreLevelsLow, IsAsideLow, IsRunLow, IsClearedLow, IsBaseLow, IsWaitingLow}
-use Rattle.lay_flow.specs.steps.Walk.{ground_of, way_in}
 
 -- ---- boxes whose margins may adjoin
 
@@ -131,7 +130,7 @@ module _ (tree : BoxTree) (w : World) (apart : ℕ → Alone) (cb : Band ℤ) (s
   -- the way from a box in a context
   abbrev pub ForwardFits : Base → (ℕ → Bool) → Run ℤ → Type 0
   ForwardFits base passed run =
-      WayFits (ground_of tree w apart base s) (way_in (ground_of tree w apart base s) passed) cb b run []
+      WayFits (ground_of tree w apart base s) (way (ground_of tree w apart base s) passed) cb b run []
 
   -- by the cleared box ahead: where it is this one, its own way begins at its edge
   abbrev pub FromFits : Cleared → Type 0
@@ -139,7 +138,7 @@ module _ (tree : BoxTree) (w : World) (apart : ℕ → Alone) (cb : Band ℤ) (s
       × ((edge : ℤ) → cleared ≡ Some (b, edge) → ForwardFits (stands edge) (is_up_to b) no_run)
 
   abbrev found_from : ℤ → Run ℤ → Found
-  found_from edge run = way_in (ground_of tree w apart (hangs edge) s) none_passed cb b run []
+  found_from edge run = forward (ground_of tree w apart (hangs edge) s) none_passed cb b run
 
   abbrev pub StandingFits : Standing → Type 0
   StandingFits (at_top y cleared) = IsLevelLow y × FromFits cleared

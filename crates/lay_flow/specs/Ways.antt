@@ -4,14 +4,15 @@ use Rattle.viz_base.specs.declared.layouts.Band.{Band}
 use Rattle.viz_base.specs.declared.layouts.Waiting.{Waiting}
 use Rattle.viz_base.specs.declared.trees.BoxTree.{BoxTree}
 use Rattle.viz_calc.specs.World.{Reading}
+use Rattle.layout_semantics.specs.Clearance.{Ground, on_ground}
 use Rattle.layout_semantics.specs.FlowBoxes.{may_collapse_through}
 use Rattle.lay_float.specs.Readings.{boxes_at, option_at}
 use Rattle.lay_margin.specs.Readings.{passed_by}
 use Rattle.lay_margin.specs.declared.runs.Run.{Run}
 use Rattle.flow_steps.specs.Forward as forward
-use Rattle.flow_steps.specs.Forward.{Found, Ground, way}
+use Rattle.flow_steps.specs.Flow.{size_in}
+use Rattle.flow_steps.specs.Forward.{Found, way}
 use Rattle.lay_flow.specs.Readings.{apart_at, base_at}
-use Rattle.lay_flow.specs.steps.Walk.{size_in}
 use Rattle.lay_flow.specs.WayFits.{IsDecisionLow, WayFits, KidsFit, KidFits}
 use Rattle.lay_flow.specs.declared.parts.End.{End}
 use Rattle.lay_flow.specs.declared.parts.End.TheVariants.{GoesOn, Solid, Ends}
@@ -20,14 +21,9 @@ use Rattle.lay_flow.specs.declared.forward.Way.{Way}
 module _ {N : Type 0} (at : N → Reading → ℤ) (x : Way N) (e : Reading) where
   -- what stays the same along it
   abbrev pub ground_at : Ground
-  ground_at = record {
-    tree = x.page.now.tree.now;
-    world = e.world;
-    size = size_in (apart_at at x.page.now.apart.now e);
-    base = base_at at x.base.now e;
-    floats = boxes_at at x.floats.now e;
-    least = option_at at x.least.now e;
-  }
+  ground_at =
+      on_ground x.page.now.tree.now e.world (size_in (apart_at at x.page.now.apart.now e)) (base_at at x.base.now e)
+      (boxes_at at x.floats.now e) (option_at at x.least.now e)
 
   unfoldable pub way_at : Band ℤ → ℕ → Run ℤ → List (Waiting ℤ) → Found
   way_at = way ground_at (passed_by x.past)

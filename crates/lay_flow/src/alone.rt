@@ -1,5 +1,5 @@
 //! Boxes in coordinates of their own: floats, atomic boxes and the root (CSS 2.1, 9.4.1, 9.5).
-ghost use Rattle.std.specs.Prelude.{◌≡◌, ◌<◌, length, pos, IsTrue};
+ghost use Rattle.std.specs.Prelude.{◌≡◌, ◌<◌, length, IsTrue};
 ghost use Rattle.viz_calc.specs.World.{Reading};
 ghost use Rattle.viz_calc.specs.Run.{Stands, Goes, Blames, BlamesButMem};
 ghost use Rattle.viz_calc.specs.Renderings.{placed_at};

@@ -14,12 +14,12 @@ ghost use Rattle.flow_steps.specs.Runs.{edge_at};
 ghost use Rattle.flow_steps.specs.Forward.{hypothetical_edge as hypothetical_of, bottom_to_clear as bottom_of};
 ghost use Rattle.flow_steps.specs.Forward.{is_to_clear as to_clear_of, clear_edge as clear_edge_of};
 ghost use Rattle.flow_steps.specs.Forward.{decided as decided_of};
+ghost use Rattle.flow_steps.specs.Flow.{size_in};
 ghost use Rattle.lay_flow.specs.Low.{IsBaseLow, IsRunLow};
 ghost use Rattle.lay_flow.specs.Readings.{apart_at, base_at, found_at};
 ghost use Rattle.lay_flow.specs.WayFits.{IsLeadLow, WaitingFits, IsGroundLow, IsGoingLow};
 ghost use Rattle.lay_flow.specs.Ways.{ground_at, way_at, inner_at, kids_at_reading, kid_at, closed_end};
 ghost use Rattle.lay_flow.specs.Ways.{DecisionFitsAt, WayFitsAt, KidsFitAt, KidFitsAt};
-ghost use Rattle.lay_flow.specs.steps.Walk.{size_in};
 
 use crate::floating::size_of;
 use crate::parts::{Base, Cleared, End, Going, Page};

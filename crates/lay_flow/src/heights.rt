@@ -11,7 +11,7 @@ ghost use Rattle.flow_steps.specs.Flow.{next_edge as edge_of, block_height as ta
 ghost use Rattle.lay_float.specs.Readings.{boxes_at as floats_in};
 ghost use Rattle.lay_flow.specs.Readings.{standing_at, context_at};
 ghost use Rattle.lay_flow.specs.steps.Flow.{tall_of};
-ghost use Rattle.lay_flow.specs.steps.Walk.{lowest_of};
+ghost use Rattle.lay_flow.specs.steps.Flow.{lowest_of};
 ghost use Rattle.std.specs.List.{AllByRecursion};
 ghost use Rattle.lay_flow.specs.Low.{IsContextLow, IsStandingLow, reach};
 ghost use Rattle.flow_limits.specs.Bounds.{IsFloatIn};

@@ -1,16 +1,16 @@
 //! Where a box in flow stands, and what stands after it (CSS 2.1, 8.3.1, 9.5.2).
-ghost use Rattle.std.specs.Prelude.{◌≡◌, ◌<◌, ℕ, ℤ, ◌-ℤ◌, false, length, IsTrue};
+ghost use Rattle.std.specs.Prelude.{◌≡◌, ◌<◌, ℤ, ◌-ℤ◌, false, length, IsTrue};
 ghost use Rattle.std.specs.Int.{int_max, int_min};
 ghost use Rattle.viz_calc.specs.World.{Reading};
 ghost use Rattle.viz_calc.specs.Run.{Stands, Goes, Blames, BlamesButMem};
-ghost use Rattle.layout_semantics.specs.Flow.{raised as raised_of, Alone as AloneOf};
+ghost use Rattle.layout_semantics.specs.Flow.{raised as raised_of};
 ghost use Rattle.lay_frame.specs.Readings.{frame_at};
 ghost use Rattle.lay_float.specs.Readings.{stretch_at, option_at};
 ghost use Rattle.lay_margin.specs.Readings.{passed_by};
 ghost use Rattle.lay_margin.specs.Runs.{run_at, no_run};
 ghost use Rattle.flow_steps.specs.Flow.{is_at_top as at_top, below as below_of};
 ghost use Rattle.flow_steps.specs.Forward.{cleared_of as cleared_in};
-ghost use Rattle.lay_flow.specs.Readings.{apart_at, base_at, cleared_at, context_at, end_at, found_at, met_at, standing_at};
+ghost use Rattle.lay_flow.specs.Readings.{apart_at, base_at, cleared_at, context_at, end_at, ending_at, found_at, met_at, standing_at};
 ghost use Rattle.lay_flow.specs.WayFits.{ForwardFits, FromFits, ReachFits};
 ghost use Rattle.lay_flow.specs.steps.Flow.{forward_of, opened, reached_from as from_of, reached_of, standing_after as after_of, standing_in};
 ghost use Rattle.lay_flow.specs.Low.{AreLevelsLow, IsBandLow, IsClearedLow, IsFrameLow, IsLevelLow, IsRunLow, IsStandingLow};
@@ -37,7 +37,7 @@ struct Gone<N> {
     end: End<N>,
 }
 
-#[tactic(auto, unfolding(crate::specs::Ways::way_at, crate::specs::steps::Walk::way_in))]
+#[tactic(auto, unfolding(crate::specs::Ways::way_at))]
 /// Goes forward from a box in a context.
 fn go<S: Steady>(
     alloc: Global,
@@ -366,10 +366,9 @@ pub fn standing_after<S: Steady>(
     laid: Laid<S::Num>,
 ) -> Standing<S::Num>
     ensures goes { Goes (S.run calc.old) (S.run calc.new) }
-    ensures value { (apart : ℕ → AloneOf) (e : Reading) → IsTrue ((S.run calc.new).is_open e)
-        → standing_at S.at result e ≡ after_of tree.now e.world apart (stretch_at S.at cb.now e)
-        (standing_at S.at before e) b (met_at S.at met e) laid.through (S.at laid.bottom e)
-        (run_at S.at laid.margins e) }
+    ensures value { (e : Reading) → IsTrue ((S.run calc.new).is_open e) → standing_at S.at result e
+        ≡ after_of tree.now e.world (stretch_at S.at cb.now e) (standing_at S.at before e) b (met_at S.at met e)
+        (ending_at S.at laid e) }
     ensures cause { Blames (S.run calc.old) (S.run calc.new) ((e : Reading) → IsTrue ((S.run calc.old).is_open e)
         → IsBandLow (stretch_at S.at cb.now e)
         × (VerticalsFit tree.now e.world b (across_of (stretch_at S.at cb.now e))

@@ -12,7 +12,8 @@ use Rattle.viz_base.specs.declared.renderings.Placed.{Placed}
 use Rattle.viz_base.specs.declared.trees.BoxTree.{BoxTree}
 use Rattle.viz_base.specs.declared.worlds.World.{World}
 use Rattle.layout_semantics.specs.Blocks.{kind_of}
-use Rattle.layout_semantics.specs.Floats.{floating, float_spot, with_float_at}
+use Rattle.layout_semantics.specs.Extremes.{greatest_from}
+use Rattle.layout_semantics.specs.Floats.{FloatBox, floating, float_spot, with_float_at}
 use Rattle.layout_semantics.specs.Flow.{Alone, Reached, Cleared, raised, content_height}
 use Rattle.layout_semantics.specs.FlowBoxes.{is_replaced_at, is_context_root, is_open_above, may_collapse_through, joins_last_child, flow_children, across, content_from, room}
 use Rattle.layout_semantics.specs.InlineContent.{is_floated_at, has_line, inner_boxes}
@@ -25,10 +26,13 @@ use Rattle.lay_margin.specs.declared.runs.Run.{Run}
 use Rattle.lay_margin.specs.Runs.{no_run, with_margin, collapse}
 use Rattle.lay_margin.specs.steps.Leads.{margin_below}
 use Rattle.flow_steps.specs.Flow as flow
-use Rattle.flow_steps.specs.Flow.{Standing, at_top, below, Context, fresh, Step, step, Laid, next_edge, is_at_top, joined_run, context_height, block_height, after_lines, followed, children}
-use Rattle.flow_steps.specs.Forward.{Found, cleared_of}
+use Rattle.flow_steps.specs.Flow.{Standing, at_top, below, Context, fresh, Step, step, Laid, Met, met, ground_of, next_edge, is_at_top, joined_run, context_height, after_lines, children}
+use Rattle.flow_steps.specs.Forward.{Found, cleared_of, forward}
 use Rattle.flow_steps.specs.Tables.{laid_at, outside_of}
-use Rattle.lay_flow.specs.steps.Walk.{ground_of, way_in}
+
+-- how far the lowest of some floats reaches below a top; at least 0
+abbrev pub lowest_of : ℤ → List FloatBox → ℤ
+lowest_of top floats = greatest_from (pos 0) (map (λ y. y -ℤ top) (map (λ (f : FloatBox). f.box.bottom) floats))
 
 -- the auto height of a box that starts a context
 unfoldable pub tall_of : ℤ → Context → ℤ
@@ -69,6 +73,15 @@ standing_in tree b cleared f =
 unfoldable pub left : Context → Frame → Context → Context
 left s f end = record (opened s f end.standing) { baseline = option_or end.baseline s.baseline }
 
+-- how a box in flow ends: whether it collapses through, its border bottom, and the margins that end it
+pub record Ending : Type 0 where
+  pub through : Bool
+  pub bottom : ℤ
+  pub margins : Run ℤ
+
+abbrev pub ending_of : Laid → Ending
+ending_of l = record { through = l.through; bottom = l.bottom; margins = l.margins }
+
 -- a box after its content
 abbrev pub closed : Frame → Bool → Run ℤ → Step → Placed ℤ → Laid
 closed f through run end box =
@@ -79,48 +92,46 @@ closed f through run end box =
       after = step end.context (box ∷ end.boxes);
     }
 
+-- where boxes stand after a box, by where they stood before it, and by how it was met and how it ends
+module _ (tree : BoxTree) (w : World) where
+  unfoldable pub standing_after : Band ℤ → Standing → ℕ → Met → Ending → Standing
+  standing_after cb before b m end = by_sort end.through m.reached.clears before
+    where
+      ended : Run ℤ
+      ended = with_margin m.run (margin_below tree w cb b)
+
+      by_sort : Bool → Bool → Standing → Standing
+      by_sort false any s = below end.bottom end.margins false
+      by_sort true true s = below (m.reached.top -ℤ collapse m.run) ended true
+      by_sort true false (at_top y cleared) = at_top y cleared
+      by_sort true false (below edge run stuck) = below edge ended stuck
+
 module _ (tree : BoxTree) (w : World) (apart : ℕ → Alone) where
   -- the way forward from a box in a context
   abbrev pub forward_of : Base → (ℕ → Bool) → Band ℤ → Context → ℕ → Run ℤ → Found
-  forward_of base passed cb s b run = way_in (ground_of tree w apart base s) passed cb b run []
+  forward_of base passed cb s b run = forward (ground_of tree w apart base s) passed cb b run
 
   -- where a box is reached, and the run before it: all before the cleared box stand at y
-  unfoldable pub reached_from : Band ℤ → Context → ℕ → ℤ → Cleared → Run ℤ → Reached × Run ℤ
-  reached_from cb s b y None own = (record { top = y; clears = false; cleared = None }, own)
+  unfoldable pub reached_from : Band ℤ → Context → ℕ → ℤ → Cleared → Run ℤ → Met
+  reached_from cb s b y None own = met (record { top = y; clears = false; cleared = None }) own
   reached_from cb s b y (Some c) own = elim (c.0 == b) [
-    | true ↦ (
-      record {
-        top = c.1;
-        clears = true;
-        cleared = cleared_of (forward_of (stands c.1) (is_up_to b) cb s b no_run).end;
-      },
-      (forward_of (stands c.1) (is_up_to b) cb s b no_run).run,
-    )
-    | false ↦ (record { top = y; clears = false; cleared = Some c }, own)
+    | true ↦ met (record {
+      top = c.1;
+      clears = true;
+      cleared = cleared_of (forward_of (stands c.1) (is_up_to b) cb s b no_run).end;
+    }) (forward_of (stands c.1) (is_up_to b) cb s b no_run).run
+    | false ↦ met (record { top = y; clears = false; cleared = Some c }) own
   ]
 
-  unfoldable pub reached_of : Band ℤ → Context → ℕ → Reached × Run ℤ
+  unfoldable pub reached_of : Band ℤ → Context → ℕ → Met
   reached_of cb s b = by_standing s.standing
     where
-      by_found : ℤ → Found → Reached × Run ℤ
+      by_found : ℤ → Found → Met
       by_found edge f = reached_from cb s b (edge +ℤ collapse f.run) (cleared_of f.end) f.run
 
-      by_standing : Standing → Reached × Run ℤ
+      by_standing : Standing → Met
       by_standing (at_top y cleared) = reached_from cb s b y cleared no_run
       by_standing (below edge run stuck) = by_found edge (forward_of (hangs edge) none_passed cb s b run)
-
-  unfoldable pub standing_after : Band ℤ → Standing → ℕ → Reached × Run ℤ → (through : Bool) → (bottom : ℤ)
-      → (margins : Run ℤ) → Standing
-  standing_after cb before b met through bottom margins = by_sort through met.0.clears before
-    where
-      ended : Run ℤ
-      ended = with_margin met.1 (margin_below tree w cb b)
-
-      by_sort : Bool → Bool → Standing → Standing
-      by_sort false any s = below bottom margins false
-      by_sort true true s = below (met.0.top -ℤ collapse met.1) ended true
-      by_sort true false (at_top y cleared) = at_top y cleared
-      by_sort true false (below edge run stuck) = below edge ended stuck
 
   -- ---- floats
 
@@ -197,15 +208,12 @@ module _ (tree : BoxTree) (w : World) (height : ℕ) (apart : ℕ → Alone) whe
   unfoldable pub in_flow : Band ℤ → Context → ℕ → Step
   in_flow cb s b = by_reached (reached_of tree w apart cb s b)
     where
-      by_laid : Reached × Run ℤ → Laid → Step
-      by_laid met l = step
-          (record l.after.context {
-            standing =
-                standing_after tree w apart cb s.standing b met l.through l.bottom l.margins;
-          }) l.after.boxes
+      by_laid : Met → Laid → Step
+      by_laid m l = step
+          (record l.after.context { standing = standing_after tree w cb s.standing b m (ending_of l) }) l.after.boxes
 
-      by_reached : Reached × Run ℤ → Step
-      by_reached met = by_laid met (laid_of cb s b met.0)
+      by_reached : Met → Step
+      by_reached m = by_laid m (laid_of cb s b m.reached)
 
   unfoldable pub child_of : Band ℤ → ℤ → Context → ℕ → Step
   child_of cb top s k = elim (is_floated_at tree k) [ true ↦ float_of tree w apart cb top s k | false ↦ in_flow cb s k ]

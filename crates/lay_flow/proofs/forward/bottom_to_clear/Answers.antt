@@ -5,9 +5,9 @@ use Rattle.lay_float.specs.Limits.{AreHalf}
 use Rattle.lay_float.specs.Readings.{boxes_at, option_at}
 use Rattle.lay_line.proofs.Chains.{but_mem, start_but_mem, next_but_mem}
 use Rattle.lay_margin.specs.Readings.{floats_at as waiting_at}
+use Rattle.flow_steps.specs.Flow.{size_in}
 use Rattle.lay_flow.specs.Readings.{apart_at}
 use Rattle.lay_flow.specs.WayFits.{WaitingFits}
-use Rattle.lay_flow.specs.steps.Walk.{size_in}
 use Rattle.lay_flow.proofs.WaitingLow.{before-half, after-half}
 use Rattle.lay_flow.proofs.forward.bottom_to_clear.Goals as goal
 

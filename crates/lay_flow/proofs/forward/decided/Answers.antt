@@ -6,7 +6,8 @@ use Rattle.lay_float.specs.Readings.{boxes_at, stretch_at}
 use Rattle.lay_margin.specs.Readings.{floats_at}
 use Rattle.lay_margin.specs.Runs.{run_at}
 use Rattle.lay_margin.specs.declared.runs.Run.{Run}
-use Rattle.flow_steps.specs.Forward.{Ground, decided, bottom_to_clear}
+use Rattle.layout_semantics.specs.Clearance.{Ground}
+use Rattle.flow_steps.specs.Forward.{decided, bottom_to_clear}
 use Rattle.lay_flow.specs.Ways.{ground_at}
 use Rattle.lay_flow.proofs.forward.decided.Goals as goal
 

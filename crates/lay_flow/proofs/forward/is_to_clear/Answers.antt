@@ -4,10 +4,10 @@ use Rattle.lay_float.specs.Readings.{boxes_at, option_at, stretch_at}
 use Rattle.lay_line.proofs.Chains.{but_mem, start_but_mem, next_but_mem}
 use Rattle.lay_margin.specs.Readings.{floats_at as waiting_at}
 use Rattle.lay_margin.specs.Runs.{run_at}
+use Rattle.flow_steps.specs.Flow.{size_in}
 use Rattle.lay_flow.specs.Readings.{apart_at, base_at}
 use Rattle.lay_flow.specs.WayFits.{WaitingFits}
 use Rattle.lay_flow.specs.Ways.{DecisionFitsAt}
-use Rattle.lay_flow.specs.steps.Walk.{size_in}
 use Rattle.lay_flow.proofs.WaitingLow.{hypothetical-waits}
 use Rattle.lay_flow.proofs.forward.is_to_clear.Goals as goal
 

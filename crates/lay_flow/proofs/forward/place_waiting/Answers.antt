@@ -15,9 +15,9 @@ use Rattle.lay_float.specs.Readings.{floats_at, extent_at, option_at, stretch_at
 use Rattle.lay_line.proofs.Chains.{but_mem}
 use Rattle.lay_margin.specs.Readings.{floats_at as waiting_at, waiting_at as waiting_in}
 use Rattle.flow_limits.specs.Bounds.{levels_of}
+use Rattle.flow_steps.specs.Flow.{size_in}
 use Rattle.lay_flow.specs.Readings.{apart_at}
 use Rattle.lay_flow.specs.WayFits.{WaitingFits}
-use Rattle.lay_flow.specs.steps.Walk.{size_in}
 use Rattle.lay_flow.proofs.Spots.{spot-lent, half-lent}
 use Rattle.lay_flow.proofs.WaitingLow.{next-waits, first-size, first-half}
 use Rattle.lay_flow.proofs.forward.place_waiting.Goals as goal

@@ -4,9 +4,9 @@ use Rattle.viz_calc.specs.Run.{Goes, BlamesButMem}
 use Rattle.layout_semantics.specs.Clearance.{with_waiting}
 use Rattle.lay_float.specs.Readings.{floats_at, option_at}
 use Rattle.lay_margin.specs.Readings.{floats_at as waiting_at}
+use Rattle.flow_steps.specs.Flow.{size_in}
 use Rattle.lay_flow.specs.Readings.{apart_at}
 use Rattle.lay_flow.specs.WayFits.{WaitingFits}
-use Rattle.lay_flow.specs.steps.Walk.{size_in}
 use Rattle.lay_flow.proofs.forward.place_waiting.Given as goal
 
 -- placing those that are left gives what placing all gives

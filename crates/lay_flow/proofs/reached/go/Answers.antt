@@ -1,20 +1,20 @@
 use Rattle.std.proofs.Common.{List, ap, sym, subst, ◌∙◌}
 use Rattle.viz_calc.specs.World.{Reading}
 use Rattle.layout_semantics.specs.Floats.{FloatBox}
+use Rattle.layout_semantics.specs.Clearance.{on_ground, Ground}
 use Rattle.lay_float.specs.Readings.{boxes_at, option_at, stretch_at}
 use Rattle.lay_line.proofs.Chains.{start_but_mem}
 use Rattle.lay_margin.specs.Readings.{floats_at, passed_by}
 use Rattle.lay_margin.specs.Runs.{run_at}
-use Rattle.flow_steps.specs.Forward.{Ground, way}
-use Rattle.flow_steps.proofs.LeadCases.{on_ground}
+use Rattle.flow_steps.specs.Flow.{size_in}
+use Rattle.flow_steps.specs.Forward.{way}
 use Rattle.lay_flow.specs.Readings.{apart_at, base_at, context_at}
 use Rattle.lay_flow.specs.WayFits.{WayFits, ForwardFits}
 use Rattle.lay_flow.specs.Ways.{way_at}
-use Rattle.lay_flow.specs.steps.Walk.{size_in, way_in}
 use Rattle.lay_flow.proofs.reached.go.Goals as goal
 
 pub returns-clause-value : goal.returns-clause-value
-unfolding way_at way_in
+unfolding way_at
 returns-clause-value g c = λ e o.
     let at = g.S.Steady.at in
     let page = c.args.page.now in
@@ -28,7 +28,7 @@ returns-clause-value g c = λ e o.
     ∙ ap (λ ws. way (on (boxes_at at context.floats.placed e)) passed cb c.args.b run (floats_at at ws e)) c.new.ensures
 
 pub returns-clause-cause : goal.returns-clause-cause
-unfolding way_at way_in
+unfolding way_at
 returns-clause-cause g c =
     let at = g.S.Steady.at in
     let page = c.args.page.now in

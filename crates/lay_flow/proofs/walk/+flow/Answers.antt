@@ -3,21 +3,20 @@ use Rattle.viz_base.specs.declared.renderings.Placed.{Placed}
 use Rattle.viz_calc.specs.State.{AllSmall}
 use Rattle.viz_calc.specs.World.{Reading}
 use Rattle.viz_calc.proofs.Runs.{Goes-then, BlamesButMem-then}
-use Rattle.layout_semantics.specs.Flow.{Cleared, Reached}
+use Rattle.layout_semantics.specs.Flow.{Cleared}
 use Rattle.layout_semantics.specs.FlowBoxes.{content_from, is_context_root, is_replaced_at}
 use Rattle.layout_semantics.specs.InlineContent.{has_line, holds_inline, is_floated_at}
 use Rattle.layout_semantics.specs.Rectangles.{Frame, content_top}
 use Rattle.lay_frame.specs.Readings.{boxes_at, frame_at}
 use Rattle.lay_float.specs.Readings.{stretch_at}
 use Rattle.lay_margin.proofs.Kids.{flow-kids}
-use Rattle.lay_margin.specs.declared.runs.Run.{Run}
-use Rattle.flow_steps.specs.Flow.{Context, Step, fresh}
+use Rattle.flow_steps.specs.Flow.{Context, Met, Step, fresh, met}
 use Rattle.lay_margin.specs.Runs.{run_at}
 use Rattle.lay_flow.specs.Fits.{IsNear, IsReplacedFit}
 use Rattle.lay_flow.specs.Low.{IsContextLow, IsFrameLow, IsLevelLow, IsRunLow}
 use Rattle.lay_flow.specs.WalkFits.{WalkFits, before_content, before_children, before_child, before_flow, when_reached, when_starting, when_going_on}
 use Rattle.lay_flow.specs.steps.Flow.{block_of, child_of, children_of, laid_of, opened, root_of, standing_after, standing_in}
-use Rattle.lay_flow.specs.Readings.{apart_at, context_at, laid_with, met_at, standing_at, cleared_at, without_boxes}
+use Rattle.lay_flow.specs.Readings.{apart_at, context_at, ending_at, laid_with, met_at, standing_at, cleared_at, without_boxes}
 use Rattle.lay_flow.proofs.Around.{across-fits, band-fits, kept-fits}
 use Rattle.lay_flow.proofs.ContentCases.{by-lines, by-children}
 use Rattle.lay_flow.proofs.Framed.{top-fits, top-near}
@@ -98,10 +97,10 @@ flow-returns-clause-context g t c = λ e o.
     ∙ ap (λ x. without_boxes (laid_of page.tree.now e.world page.height (apart_at at page.apart.now e) (stretch_at at c.args.cb.now e) (context_at at c.args.context.now e) c.args.b
     (record { top = at c.reach-met.result.reached.top e; clears = c.reach-met.result.reached.clears; cleared = cleared_at at x e }))) is)
     (c.copy_standing-before.ensures.value e o2)
-    (c.standing_after.ensures.value (apart_at at page.apart.now e) e o
-    ∙ ap (λ x. standing_after page.tree.now e.world (apart_at at page.apart.now e) (stretch_at at c.args.cb.now e) (standing_at at c.copy_standing-before.result e) c.args.b
-    (record { top = at c.reach-met.result.reached.top e; clears = c.reach-met.result.reached.clears; cleared = cleared_at at x e }, run_at at c.reach-met.result.own e)
-    c.lay-laid.result.through (at c.lay-laid.result.bottom e) (run_at at c.lay-laid.result.margins e)) after)
+    (c.standing_after.ensures.value e o
+    ∙ ap (λ x. standing_after page.tree.now e.world (stretch_at at c.args.cb.now e) (standing_at at c.copy_standing-before.result e) c.args.b
+    (met (record { top = at c.reach-met.result.reached.top e; clears = c.reach-met.result.reached.clears; cleared = cleared_at at x e }) (run_at at c.reach-met.result.own e))
+    (ending_at at c.lay-laid.result e)) after)
 
 -- ---- causes
 
@@ -298,7 +297,7 @@ flow-returns-clause-cause g t c =
       a.0,
       λ e o.
           subst (λ (x : Cleared). WalkFits tree e.world page.height (apart e) (when_reached (cb e) (s e) b (at c.reach-met.result.reached.top e) x)) (sym (ap (λ x. cleared_at at x e) c.replace-cleared.ensures.value))
-          (subst (λ (x : Reached × Run ℤ). WalkFits tree e.world page.height (apart e) (when_reached (cb e) (s e) b x.0.top x.0.cleared)) (sym (met-is e o)) (at_start e (a.1 e o)).inside),
+          (subst (λ (x : Met). WalkFits tree e.world page.height (apart e) (when_reached (cb e) (s e) b x.reached.top x.reached.cleared)) (sym (met-is e o)) (at_start e (a.1 e o)).inside),
     )) in
     (more_at three after.goes after.cause (λ a e o.
     let x = at_start e (a e o) in
@@ -306,7 +305,7 @@ flow-returns-clause-cause g t c =
       x.band,
       (
         x.down,
-        (subst (λ (m : Reached × Run ℤ). IsLevelLow m.0.top) (sym is) x.top_low, subst (λ (m : Reached × Run ℤ). IsRunLow m.1) (sym is) x.run),
+        (subst (λ (m : Met). IsLevelLow m.reached.top) (sym is) x.top_low, subst (λ (m : Met). IsRunLow m.run) (sym is) x.run),
       ),
     ))).cause
 
