@@ -10,7 +10,8 @@ use Rattle.css_semantics.specs.SelectorGrammar.{at_start, none_earlier, IsGroup,
 use Rattle.css_select.specs.declared.reading.Place.{Place}
 use Rattle.css_select.specs.declared.reading.Place.TheVariants.{Compound as InCompound, Gap, Element}
 use Rattle.css_select.specs.steps.Machine.{State, initial, ended, may_end, step, then_run}
-use Rattle.css_select.specs.Verdicts.{Verdict, group_is, unsupported_at, bad_at, judged, verdict, verdict_of, IsReading}
+use Rattle.css_select.specs.Refusals.{Refusal, unsupported_at, bad_at}
+use Rattle.css_select.specs.Verdicts.{Verdict, judged, verdict, verdict_of, IsReading}
 use Rattle.css_select.proofs.Following.{follow, follow_on, run_follow, leads_on}
 use Rattle.css_select.proofs.Held.{Part, first_of, ReadsAt, Reads}
 use Rattle.css_select.proofs.Sound.{IsFinal, some_final, spaced_final, ended_final, final_group}
@@ -31,10 +32,10 @@ initial_reads = record {
   is_first = refl;
 }
 
-reads_by : (r : Result State ℕ) (s : State) (ts : List Token) (t : Token) (us : List Token) (next : State) → step s t ≡ r → Reads s ts
+reads_by : (r : Result State Refusal) (s : State) (ts : List Token) (t : Token) (us : List Token) (next : State) → step s t ≡ r → Reads s ts
     → ((m : State) → Reads m (ts ++ t ∷ []) → follow m us ≡ Ok next → Reads next ((ts ++ t ∷ []) ++ us)) → then_run r (λ m. follow m us) ≡ Ok next → Reads next (ts ++ t ∷ us)
 reads_by (Ok m) s ts t us next is h k e = subst (Reads next) (append_assoc ts (t ∷ []) us) (k m (step_reads s ts t m h is) e)
-reads_by (Err place) s ts t us next is h k e = absurd (cc)
+reads_by (Err refusal) s ts t us next is h k e = absurd (cc)
 
 follow_reads : (s : State) (ts us : List Token) (next : State) → Reads s ts → follow s us ≡ Ok next → Reads next (ts ++ us)
 follow_reads s ts [] next h e = subst (λ n. Reads n (ts ++ [])) (same_Ok s next e) (subst (Reads s) (sym (append-nil ts)) h)
@@ -59,28 +60,28 @@ begins ts s e =
 
 -- ---- where reading stops
 
-record Stuck (s : State) (ts : List Token) (place : ℕ) : Type 0 where
+record Stuck (s : State) (ts : List Token) (refusal : Refusal) : Type 0 where
   front : List Token
   token : Token
   rest : List Token
   whole : ts ≡ front ++ token ∷ rest
   state : State
   read : follow s front ≡ Ok state
-  stuck : step state token ≡ Err place
+  stuck : step state token ≡ Err refusal
 
-stuck_by : (r : Result State ℕ) (s : State) (t : Token) (ts : List Token) (place : ℕ) → step s t ≡ r → ((m : State) → follow m ts ≡ Err place → Stuck m ts place) → then_run r (λ m. follow m ts) ≡ Err place → Stuck s (t ∷ ts) place
-stuck_by (Ok m) s t ts place is k e =
+stuck_by : (r : Result State Refusal) (s : State) (t : Token) (ts : List Token) (refusal : Refusal) → step s t ≡ r → ((m : State) → follow m ts ≡ Err refusal → Stuck m ts refusal) → then_run r (λ m. follow m ts) ≡ Err refusal → Stuck s (t ∷ ts) refusal
+stuck_by (Ok m) s t ts refusal is k e =
     let h = k m e in
     record { front = t ∷ h.front; token = h.token; rest = h.rest; whole = ap (λ x. t ∷ x) h.whole; state = h.state; read = ap (λ r. then_run r (λ n. follow n h.front)) is ∙ h.read; stuck = h.stuck }
-stuck_by (Err other) s t ts place is k e = record { front = []; token = t; rest = ts; whole = refl; state = s; read = refl; stuck = is ∙ e }
+stuck_by (Err other) s t ts refusal is k e = record { front = []; token = t; rest = ts; whole = refl; state = s; read = refl; stuck = is ∙ e }
 
-stuck_at : (s : State) (ts : List Token) (place : ℕ) → follow s ts ≡ Err place → Stuck s ts place
-stuck_at s [] place e = absurd (cc)
-stuck_at s (t ∷ ts) place e = stuck_by (step s t) s t ts place refl (λ m f. stuck_at m ts place f) e
+stuck_at : (s : State) (ts : List Token) (refusal : Refusal) → follow s ts ≡ Err refusal → Stuck s ts refusal
+stuck_at s [] refusal e = absurd (cc)
+stuck_at s (t ∷ ts) refusal e = stuck_by (step s t) s t ts refusal refl (λ m f. stuck_at m ts refusal f) e
 
 -- no group begins with more
-stuck_follow : (s : State) (ts : List Token) (place : ℕ) (h : Stuck s ts place) (us : List Token) → follow s (h.front ++ h.token ∷ us) ≡ Err place
-stuck_follow s ts place h us = follow_on s h.state h.front (h.token ∷ us) h.read ∙ ap (λ r. then_run r (λ n. follow n us)) h.stuck
+stuck_follow : (s : State) (ts : List Token) (refusal : Refusal) (h : Stuck s ts refusal) (us : List Token) → follow s (h.front ++ h.token ∷ us) ≡ Err refusal
+stuck_follow s ts refusal h us = follow_on s h.state h.front (h.token ∷ us) h.read ∙ ap (λ r. then_run r (λ n. follow n us)) h.stuck
 
 longer : (front : List Token) (t : Token) (rest p r : List Token) → front ++ t ∷ rest ≡ p ++ r → length front < length p → (q : List Token) × (p ≡ front ++ t ∷ q)
 longer [] t rest [] r e l = absurd (omega arith)
@@ -99,26 +100,28 @@ true_false e = cc
 nat_le_by : (m n : ℕ) → (n < m → m ≤ n) → m ≤ n
 nat_le_by m n h = grind arith
 
-no_more : (ts : List Token) (place : ℕ) (h : Stuck initial ts place) (p r : List Token) → ts ≡ p ++ r → BeginsGroup p → length p ≤ length h.front
-no_more ts place h p r e b =
+no_more : (ts : List Token) (refusal : Refusal) (h : Stuck initial ts refusal) (p r : List Token) → ts ≡ p ++ r → BeginsGroup p → length p ≤ length h.front
+no_more ts refusal h p r e b =
     nat_le_by (length p) (length h.front) (λ more.
     let l = longer h.front h.token h.rest p r (sym h.whole ∙ e) more in
     let g = follow_group b.3 in
     let whole : p ++ b.0 ≡ h.front ++ h.token ∷ (l.0 ++ b.0) = ap (λ x. x ++ b.0) l.1 ∙ append_assoc h.front (h.token ∷ l.0) b.0 in
-    let fails = ap (follow initial) whole ∙ stuck_follow initial ts place h (l.0 ++ b.0) in
+    let fails = ap (follow initial) whole ∙ stuck_follow initial ts refusal h (l.0 ++ b.0) in
     absurd (cc (g.is, fails)))
 
-stuck_bad : (end : ℕ) (ts : List Token) (place : ℕ) → follow initial ts ≡ Err place → IsNoGroup ts end place
-stuck_bad end ts place e =
-    let h = stuck_at initial ts place e in record {
+stuck_bad : (end : ℕ) (ts : List Token) (refusal : Refusal) → follow initial ts ≡ Err refusal → IsReading end ts (Err refusal)
+stuck_bad end ts refusal e =
+    let h = stuck_at initial ts refusal e in
+    let bad : IsNoGroup ts end h.token.at = record {
       no_group = λ group refused g. let k = follow_group g in absurd (cc (k.is, e));
       front = h.front;
       rest = h.token ∷ h.rest;
       whole = h.whole;
-      place = step_fails h.state h.token place h.stuck;
+      place = refl;
       begins = begins h.front h.state h.read;
-      longest = λ p r f g. no_more ts place h p r f g;
-    }
+      longest = λ p r f g. no_more ts refusal h p r f g;
+    } in
+    subst (λ r. IsReading end ts (Err r)) (sym (step_fails h.state h.token refusal h.stuck)) bad
 
 -- ---- where the text ends
 
@@ -151,13 +154,13 @@ judged_reads : (end : ℕ) (ts : List Token) (s : State) (first : Option ℕ) �
 judged_reads end ts s None e all f g = subst (IsGroup ts (ended s).group) (first_none all (sym f ∙ e)) g
 judged_reads end ts s (Some x) e all f g = let k = first_some all x (sym f ∙ e) in ((ended s).group, k.0, subst (IsGroup ts (ended s).group) k.1 g)
 
-finished_reads : (end : ℕ) (ts : List Token) (s : State) → follow initial ts ≡ Ok s → (yes : Bool) → may_end s.place ≡ yes → IsReading end ts (cond yes (judged s.refused (ended s)) (bad_at end))
+finished_reads : (end : ℕ) (ts : List Token) (s : State) → follow initial ts ≡ Ok s → (yes : Bool) → may_end s.place ≡ yes → IsReading end ts (cond yes (judged s.refused (ended s)) (Err (bad_at end)))
 finished_reads end ts s e true m = let g = sound ts s e m in judged_reads end ts s s.refused refl g.0 g.1 g.2
 finished_reads end ts s e false m = ended_bad end ts s e m
 
-verdict_reads : (end : ℕ) (ts : List Token) (r : Result State ℕ) → follow initial ts ≡ r → IsReading end ts (verdict end r)
+verdict_reads : (end : ℕ) (ts : List Token) (r : Result State Refusal) → follow initial ts ≡ r → IsReading end ts (verdict end r)
 verdict_reads end ts (Ok s) e = finished_reads end ts s e (may_end s.place) refl
-verdict_reads end ts (Err place) e = stuck_bad end ts place e
+verdict_reads end ts (Err refusal) e = stuck_bad end ts refusal e
 
 -- the answer for tokens is what they are without comments
 pub reads_all : (end : ℕ) (ts : List Token) → IsReading end (without_comments ts) (verdict_of end ts)
@@ -166,13 +169,13 @@ reads_all end ts = subst (λ r. IsReading end (without_comments ts) (verdict end
 -- ---- nothing else
 
 judged_same : (first : Option ℕ) (s : State) (group : List (List Part)) → s.group ≡ group → judged first s ≡ judged first (record initial { group = group })
-judged_same None s group e = ap group_is e
+judged_same None s group e = ap Ok e
 judged_same (Some place) s group e = refl
 
 group_only : (end : ℕ) (ts : List Token) (group : List (List Part)) (all : List ℕ) → IsGroup ts group all → verdict end (follow initial ts) ≡ judged (first_of all) (record initial { group = group })
 group_only end ts group all g =
     let k = follow_group g in
-    ap (verdict end) k.is ∙ ap (λ b. cond b (judged k.state.refused (ended k.state)) (bad_at end)) k.ends ∙ ap (λ r. judged r (ended k.state)) k.first ∙ judged_same (first_of all) (ended k.state) group k.gives
+    ap (verdict end) k.is ∙ ap (λ b. cond b (judged k.state.refused (ended k.state)) (Err (bad_at end))) k.ends ∙ ap (λ r. judged r (ended k.state)) k.first ∙ judged_same (first_of all) (ended k.state) group k.gives
 
 same_rest : (p q r s : List Token) → p ++ q ≡ r ++ s → length p ≡ length r → q ≡ s
 same_rest [] q [] s e l = e
@@ -187,30 +190,30 @@ nothing_left [] end e = refl
 nothing_left (t ∷ rest) end e = absurd (omega (arith, e))
 
 bad_finished : (end : ℕ) (ts : List Token) (place : ℕ) → IsNoGroup ts end place → (s : State) → follow initial ts ≡ Ok s → (yes : Bool) → may_end s.place ≡ yes
-    → cond yes (judged s.refused (ended s)) (bad_at end) ≡ bad_at place
+    → cond yes (judged s.refused (ended s)) (Err (bad_at end)) ≡ Err (bad_at place)
 bad_finished end ts place h s e true m = let g = sound ts s e m in absurd (h.no_group (ended s).group g.0 g.2)
 bad_finished end ts place h s e false m =
     let all = h.longest ts [] (sym (append-nil ts)) (begins ts s e) in
     let size = ap length h.whole ∙ length-append h.front h.rest in
     let none : length h.rest ≡ 0 = omega (arith, all, size) in
-    ap bad_at (sym (h.place ∙ nothing_left h.rest end none))
+    ap (λ n. Err (bad_at n)) (sym (h.place ∙ nothing_left h.rest end none))
 
-bad_by : (end : ℕ) (ts : List Token) (place : ℕ) → IsNoGroup ts end place → (r : Result State ℕ) → follow initial ts ≡ r → verdict end r ≡ bad_at place
+bad_by : (end : ℕ) (ts : List Token) (place : ℕ) → IsNoGroup ts end place → (r : Result State Refusal) → follow initial ts ≡ r → verdict end r ≡ Err (bad_at place)
 bad_by end ts place h (Ok s) e = bad_finished end ts place h s e (may_end s.place) refl
 bad_by end ts place h (Err other) e =
     let k = stuck_at initial ts other e in
     let upper = no_more ts other k h.front h.rest h.whole h.begins in
     let lower = h.longest k.front (k.token ∷ k.rest) k.whole (begins k.front k.state k.read) in
     let same : h.rest ≡ k.token ∷ k.rest = same_rest h.front h.rest k.front (k.token ∷ k.rest) (sym h.whole ∙ k.whole) (omega (arith, upper, lower)) in
-    ap bad_at (step_fails k.state k.token other k.stuck ∙ sym (h.place ∙ ap (start_of end) same))
+    ap Err (step_fails k.state k.token other k.stuck ∙ ap bad_at (sym (h.place ∙ ap (start_of end) same)))
 
-bad_only : (end : ℕ) (ts : List Token) (place : ℕ) → IsNoGroup ts end place → verdict end (follow initial ts) ≡ bad_at place
+bad_only : (end : ℕ) (ts : List Token) (place : ℕ) → IsNoGroup ts end place → verdict end (follow initial ts) ≡ Err (bad_at place)
 bad_only end ts place h = bad_by end ts place h (follow initial ts) refl
 
 only : (end : ℕ) (ts : List Token) (v : Verdict) → IsReading end ts v → verdict end (follow initial ts) ≡ v
-only end ts (group_is group) h = group_only end ts group [] h
-only end ts (unsupported_at place) h = group_only end ts h.0 (place ∷ h.1) h.2
-only end ts (bad_at place) h = bad_only end ts place h
+only end ts (Ok group) h = group_only end ts group [] h
+only end ts (Err (unsupported_at place)) h = group_only end ts h.0 (place ∷ h.1) h.2
+only end ts (Err (bad_at place)) h = bad_only end ts place h
 
 pub one_reading : (end : ℕ) (ts : List Token) (v w : Verdict) → IsReading end ts v → IsReading end ts w → v ≡ w
 one_reading end ts v w h k = sym (only end ts v h) ∙ only end ts w k

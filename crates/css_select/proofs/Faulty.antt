@@ -1,4 +1,4 @@
--- A step that fails gives the place of its token.
+-- A step that fails says that its token is bad, at its place.
 use Rattle.std.proofs.Common.{◌≡◌, ℕ, Bool, true, false, List, Option, Some, None, Result, Ok, Err, refl}
 use Rattle.std.specs.Prelude.{codes}
 use Rattle.viz_base.specs.declared.selectors.Join.TheVariants.{Descendant}
@@ -14,12 +14,13 @@ use Rattle.css_semantics.specs.SelectorTerminals.{terminal, pseudo, comparison, 
 use Rattle.css_semantics.specs.SheetsMarks.{text_of}
 use Rattle.css_select.specs.declared.reading.Place.{Place}
 use Rattle.css_select.specs.declared.reading.Place.TheVariants.{Fresh, Compound as InCompound, Gap, Dot, Colon, Language, LanguageEnd, Element, Bracket, Name, Sign, Value}
+use Rattle.css_select.specs.Refusals.{Refusal, bad_at}
 use Rattle.css_select.specs.steps.Machine.{State, at, joined, step, step_at, step_bracket, step_closing, step_colon, step_compound, step_dot, step_element, step_fresh, step_function, step_gap, step_language, step_language_end, step_name, step_operand, step_pseudo, step_sign, step_test, step_value}
 
--- where an answer fails, it is at the place
-abbrev FailsAt : ℕ → Result State ℕ → Type 0
+-- where an answer fails, a token is bad at the place
+abbrev FailsAt : ℕ → Result State Refusal → Type 0
 FailsAt place (Ok s) = Unit {0}
-FailsAt place (Err other) = other ≡ place
+FailsAt place (Err refusal) = refusal ≡ bad_at place
 
 test_fails : (s : State) (t : Token) (sign : Terminal) → FailsAt t.at (step_test s t sign)
 test_fails s t a.Id = tt
@@ -122,9 +123,9 @@ at_fails (Name name) s t = name_fails s name t (terminal t)
 at_fails (Sign name how) s t = value_fails s name how t (terminal t)
 at_fails (Value test) s t = closing_fails s test t (terminal t)
 
-fails_by : (r : Result State ℕ) (place other : ℕ) → FailsAt place r → r ≡ Err other → other ≡ place
+fails_by : (r : Result State Refusal) (place : ℕ) (other : Refusal) → FailsAt place r → r ≡ Err other → other ≡ bad_at place
 fails_by (Ok s) place other h e = absurd (cc)
-fails_by (Err at_place) place other h e = cc
+fails_by (Err refusal) place other h e = cc
 
-pub step_fails : (s : State) (t : Token) (place : ℕ) → step s t ≡ Err place → place ≡ t.at
-step_fails s t place e = fails_by (step s t) t.at place (at_fails s.place (at s Fresh) t) e
+pub step_fails : (s : State) (t : Token) (refusal : Refusal) → step s t ≡ Err refusal → refusal ≡ bad_at t.at
+step_fails s t refusal e = fails_by (step s t) t.at refusal (at_fails s.place (at s Fresh) t) e

@@ -12,15 +12,16 @@ use Rattle.css_select.specs.declared.reading.Place.{Place}
 use Rattle.css_select.specs.declared.reading.Place.TheVariants.{Fresh, Compound as InCompound, Gap, Dot, Colon, Language, LanguageEnd, Element, Bracket, Name, Sign, Value}
 use Rattle.css_semantics.specs.declared.terminals.Pseudo.TheVariants as of_pseudo
 use Rattle.viz_base.specs.declared.selectors.Test.TheVariants as of_test
+use Rattle.css_select.specs.Refusals.{Refusal}
 use Rattle.css_select.specs.steps.Machine.{State, run, step, step_pseudo, at, tagged, tested, refused, then_run, may_end}
 
-abbrev pub follow : State → List Token → Result State ℕ
+abbrev pub follow : State → List Token → Result State Refusal
 follow s [] = Ok s
 follow s (t ∷ ts) = then_run (step s t) (λ next. follow next ts)
 
-then_same : (r : Result State ℕ) (f g : State → Result State ℕ) → ((s : State) → f s ≡ g s) → then_run r f ≡ then_run r g
+then_same : (r : Result State Refusal) (f g : State → Result State Refusal) → ((s : State) → f s ≡ g s) → then_run r f ≡ then_run r g
 then_same (Ok s) f g h = h s
-then_same (Err place) f g h = refl
+then_same (Err refusal) f g h = refl
 
 run_by : (b : Bool) (s : State) (t : Token) (ts : List Token) → ((next : State) → run next ts ≡ follow next (without_comments ts))
     → cond b (run s ts) (then_run (step s t) (λ next. run next ts)) ≡ follow s (cond b (without_comments ts) (t ∷ without_comments ts))
@@ -31,10 +32,10 @@ pub run_follow : (s : State) (ts : List Token) → run s ts ≡ follow s (withou
 run_follow s [] = refl
 run_follow s (t ∷ ts) = run_by (is_comment t.kind) s t ts (λ next. run_follow next ts)
 
-append_by : (r : Result State ℕ) (ts us : List Token) → ((s : State) → follow s (ts ++ us) ≡ then_run (follow s ts) (λ next. follow next us))
+append_by : (r : Result State Refusal) (ts us : List Token) → ((s : State) → follow s (ts ++ us) ≡ then_run (follow s ts) (λ next. follow next us))
     → then_run r (λ next. follow next (ts ++ us)) ≡ then_run (then_run r (λ next. follow next ts)) (λ next. follow next us)
 append_by (Ok s) ts us h = h s
-append_by (Err place) ts us h = refl
+append_by (Err refusal) ts us h = refl
 
 pub follow_append : (s : State) (ts us : List Token) → follow s (ts ++ us) ≡ then_run (follow s ts) (λ next. follow next us)
 follow_append s [] us = refl

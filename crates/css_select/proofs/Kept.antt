@@ -17,6 +17,7 @@ use Rattle.css_semantics.specs.SheetsMarks.{text_of}
 use Rattle.css_semantics.specs.SelectorGrammar.{IsTest, id, class, has, compares, pseudo_class, language, star, tag, child, adjacent, with_element}
 use Rattle.css_select.specs.declared.reading.Place.{Place}
 use Rattle.css_select.specs.declared.reading.Place.TheVariants.{Fresh, Compound as InCompound, Gap, Dot, Colon, Language, LanguageEnd, Element, Bracket, Name, Sign, Value}
+use Rattle.css_select.specs.Refusals.{Refusal, bad_at}
 use Rattle.css_select.specs.steps.Machine.{State, at, ended, joined, or_first, refused, tagged, tested, step, step_at, step_bracket, step_closing, step_colon, step_compound, step_dot, step_element, step_fresh, step_function, step_gap, step_language, step_language_end, step_name, step_operand, step_pseudo, step_sign, step_test, step_value}
 use Rattle.css_select.proofs.Held.{first_of, first_more, IsHeld, IsSome, IsFresh, IsSpaced, IsEnded, IsOpen, DotOnly, ColonOnly, LanguageOpen, LanguageClosing, BracketOpen, NameRead, SignRead, ValueRead, ReadsAt, Reads, gap_more, held_test}
 use Rattle.css_select.proofs.Sound.{IsFinal, fresh_held, before_space, fresh_head, some_final, spaced_final, ended_final, final_comma, some_joined, spaced_joined, spaced_child, spaced_next}
@@ -24,10 +25,10 @@ use Rattle.css_select.proofs.Sound.{IsFinal, fresh_held, before_space, fresh_hea
 same_Ok : {A E : Type 0} (x y : A) → ◌≡◌ {A = Result A E} (Ok x) (Ok y) → x ≡ y
 same_Ok x y h = cc
 
-got : (x next : State) (us : List Token) → ◌≡◌ {A = Result State ℕ} (Ok x) (Ok next) → Reads x us → Reads next us
+got : (x next : State) (us : List Token) → ◌≡◌ {A = Result State Refusal} (Ok x) (Ok next) → Reads x us → Reads next us
 got x next us e h = subst (λ n. Reads n us) (same_Ok x next e) h
 
-never : {P : Type 0} (place : ℕ) (next : State) → ◌≡◌ {A = Result State ℕ} (Err place) (Ok next) → P
+never : {P : Type 0} (place : ℕ) (next : State) → ◌≡◌ {A = Result State Refusal} (Err (bad_at place)) (Ok next) → P
 never place next e = absurd (cc)
 
 unchanged : {first : Option ℕ} (xs : List ℕ) → first ≡ first_of xs → first ≡ first_of (xs ++ [])

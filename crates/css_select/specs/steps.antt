@@ -2,5 +2,4 @@ pub mod Attributes
 pub mod Chains
 pub mod Machine
 pub mod Outcomes
-pub mod Stops
 pub mod Trees

@@ -1,13 +1,12 @@
-ghost use Rattle.std.specs.Prelude.{◌≡◌, map, IfOk, MatchResult};
+ghost use Rattle.std.specs.Prelude.{◌≡◌, map, IfOk};
 ghost use Rattle.std.specs.List.{All};
-ghost use Rattle.css_semantics.specs.SelectorGrammar.{IsGroupOf};
 ghost use Rattle.css_semantics.specs.Specificity.{IsCountable};
-ghost use Rattle.viz_base.specs.Answers.{Gives};
-ghost use Rattle.css_select.specs.steps.Stops.{place_of};
+ghost use Rattle.viz_base.specs.Answers.{Gives, GivesOneOf};
+ghost use Rattle.css_select.specs.Refusals.{refusal_of};
 ghost use Rattle.css_select.specs.steps.Machine.{initial, may_end, parts_of, run, state_of};
-ghost use Rattle.css_select.specs.Verdicts.{IsFault, Says, finished, verdict_of};
+ghost use Rattle.css_select.specs.Verdicts.{IsReadingOf, finished, verdict_of};
 
-use crate::faults::{SelFault, Stop};
+use crate::faults::SelFault;
 use crate::reading::{Place, Reading};
 use crate::steps::{place, step};
 use crate::terminals::is_comment;
@@ -17,8 +16,8 @@ use std::alloc::Global;
 use viz_base::{List, Selector};
 
 /// Reads all tokens.
-fn run(alloc: Global, tokens: &[Token<'_>]) -> Result<Reading, Stop>
-    ensures { Gives state_of place_of result (run initial tokens.now) }
+fn run(alloc: Global, tokens: &[Token<'_>]) -> Result<Reading, SelFault>
+    ensures { Gives state_of refusal_of result (run initial tokens.now) }
 {
     let mut reading = Reading::new(alloc);
     for token in tokens {
@@ -38,7 +37,7 @@ fn may_end(place: &Place) -> bool
 
 /// What is read, where the text ends.
 fn finish(alloc: Global, reading: Reading, end: u32) -> Result<List<Selector>, SelFault>
-    ensures { Says result (finished end (state_of reading)) }
+    ensures { Gives (map parts_of) refusal_of result (finished end (state_of reading)) }
 {
     if !may_end(&reading.place) {
         return Err(SelFault::Bad(end));
@@ -51,7 +50,7 @@ fn finish(alloc: Global, reading: Reading, end: u32) -> Result<List<Selector>, S
 }
 
 fn read_tokens(alloc: Global, tokens: &[Token<'_>], end: u32) -> Result<List<Selector>, SelFault>
-    ensures { Says result (verdict_of end tokens.now) }
+    ensures { Gives (map parts_of) refusal_of result (verdict_of end tokens.now) }
 {
     let reading = run(alloc, tokens)?;
     finish(alloc, reading, end)
@@ -64,8 +63,7 @@ fn read_tokens(alloc: Global, tokens: &[Token<'_>], end: u32) -> Result<List<Sel
 /// the text's end; `Unsupported` where it spells one with these alone, at the colon of the first of them; `Mem` for
 /// want of memory, as which a text of `2^32` bytes and more counts.
 pub fn read_selector(alloc: Global, text: &str) -> Result<List<Selector>, SelFault>
-    ensures answer { MatchResult result (λ group. IsGroupOf text.now (map parts_of group))
-        (λ fault. IsFault fault text.now) }
+    ensures answer { GivesOneOf (map parts_of) refusal_of result (IsReadingOf text.now) }
     ensures countable { IfOk result (All (λ s. IsCountable s.parts)) }
 {
     let end = place(text.len())?;

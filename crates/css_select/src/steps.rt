@@ -2,12 +2,12 @@ ghost use Rattle.std.specs.Prelude.{◌≡◌, ◌<◌, ◌≤◌, ◌^◌, code
 ghost use Rattle.css_semantics.specs.SheetsMarks.{text_of};
 ghost use Rattle.css_semantics.specs.Names.{same_name};
 ghost use Rattle.css_semantics.specs.SelectorTerminals.{comparison, is_value, pseudo};
-ghost use Rattle.css_select.specs.declared.faults.Stop.TheVariants.{Bad};
-ghost use Rattle.viz_base.specs.Answers.{Gives};
-ghost use Rattle.css_select.specs.steps.Stops.{Stops, place_of};
-ghost use Rattle.css_select.specs.steps.Machine.{state_of, step, step_at, step_bracket, step_closing, step_colon, step_compound, step_dot, step_element, step_fresh, step_gap, step_language, step_language_end, step_name, step_function, step_pseudo, step_sign, step_test, step_value};
+ghost use Rattle.viz_base.specs.Answers.{FailsWith, Gives};
+ghost use Rattle.css_select.specs.declared.faults.SelFault.TheVariants.{Bad};
+ghost use Rattle.css_select.specs.Refusals.{bad_at, refusal_of};
+ghost use Rattle.css_select.specs.steps.Machine.{State, state_of, step, step_at, step_bracket, step_closing, step_colon, step_compound, step_dot, step_element, step_fresh, step_gap, step_language, step_language_end, step_name, step_function, step_pseudo, step_sign, step_test, step_value};
 
-use crate::faults::Stop;
+use crate::faults::SelFault;
 use crate::names::{compared, comparison, is_lang, is_value, name_of, pseudo, text_of};
 use crate::reading::{Place, Reading};
 use crate::terminals::terminal;
@@ -23,14 +23,14 @@ pub fn place(at: usize) -> Result<u32, Mem>
     u32::try_from(at).map_err(|_| Mem)
 }
 
-/// Why reading stops at a token that can't stand where it stands.
-fn bad(token: &Token<'_>) -> Stop
-    ensures stops { Stops result (Err token.now.at) }
+/// The fault of a token that can't stand where it stands.
+fn bad(token: &Token<'_>) -> SelFault
+    ensures fails { FailsWith {B = State} (refusal_of result) (λ given. Err (bad_at token.now.at) ≡ given) }
     ensures named { token.now.at < 2 ^ 32 → result ≡ Bad token.now.at }
 {
     match place(token.at) {
-        Ok(at) => Stop::Bad(at),
-        Err(_) => Stop::Mem,
+        Ok(at) => SelFault::Bad(at),
+        Err(_) => SelFault::Mem,
     }
 }
 
@@ -39,8 +39,8 @@ fn step_test(
     reading: Reading,
     token: &Token<'_>,
     sign: Terminal,
-) -> Result<Reading, Stop>
-    ensures { Gives state_of place_of result (step_test (state_of reading) token.now sign) }
+) -> Result<Reading, SelFault>
+    ensures { Gives state_of refusal_of result (step_test (state_of reading) token.now sign) }
 {
     match sign {
         Terminal::Id => Ok(reading.tested(Test::Id(text_of(alloc, token)?))?),
@@ -56,8 +56,8 @@ fn step_fresh(
     reading: Reading,
     token: &Token<'_>,
     sign: Terminal,
-) -> Result<Reading, Stop>
-    ensures { Gives state_of place_of result (step_fresh (state_of reading) token.now sign) }
+) -> Result<Reading, SelFault>
+    ensures { Gives state_of refusal_of result (step_fresh (state_of reading) token.now sign) }
 {
     match sign {
         Terminal::Space => Ok(reading.at(Place::Fresh)),
@@ -72,8 +72,8 @@ fn step_compound(
     reading: Reading,
     token: &Token<'_>,
     sign: Terminal,
-) -> Result<Reading, Stop>
-    ensures { Gives state_of place_of result (step_compound (state_of reading) token.now sign) }
+) -> Result<Reading, SelFault>
+    ensures { Gives state_of refusal_of result (step_compound (state_of reading) token.now sign) }
 {
     match sign {
         Terminal::Space => Ok(reading.at(Place::Gap)),
@@ -89,8 +89,8 @@ fn step_gap(
     reading: Reading,
     token: &Token<'_>,
     sign: Terminal,
-) -> Result<Reading, Stop>
-    ensures { Gives state_of place_of result (step_gap (state_of reading) token.now sign) }
+) -> Result<Reading, SelFault>
+    ensures { Gives state_of refusal_of result (step_gap (state_of reading) token.now sign) }
 {
     match sign {
         Terminal::Space => Ok(reading.at(Place::Gap)),
@@ -106,8 +106,8 @@ fn step_dot(
     reading: Reading,
     token: &Token<'_>,
     sign: Terminal,
-) -> Result<Reading, Stop>
-    ensures { Gives state_of place_of result (step_dot (state_of reading) token.now sign) }
+) -> Result<Reading, SelFault>
+    ensures { Gives state_of refusal_of result (step_dot (state_of reading) token.now sign) }
 {
     match sign {
         Terminal::Ident => Ok(reading.tested(Test::Class(text_of(alloc, token)?))?),
@@ -120,8 +120,8 @@ fn step_name_behind_colon(
     reading: Reading,
     colon: u32,
     token: &Token<'_>,
-) -> Result<Reading, Stop>
-    ensures { Gives state_of place_of result
+) -> Result<Reading, SelFault>
+    ensures { Gives state_of refusal_of result
         (step_pseudo (state_of reading) colon token.now (pseudo (text_of token.now))) }
 {
     match pseudo(alloc, token)? {
@@ -136,8 +136,8 @@ fn step_function_behind_colon(
     reading: Reading,
     colon: u32,
     token: &Token<'_>,
-) -> Result<Reading, Stop>
-    ensures { Gives state_of place_of result (step_function (state_of reading) colon token.now
+) -> Result<Reading, SelFault>
+    ensures { Gives state_of refusal_of result (step_function (state_of reading) colon token.now
         (same_name (text_of token.now) (codes "lang"))) }
 {
     if is_lang(alloc, token)? {
@@ -153,8 +153,8 @@ fn step_colon(
     colon: u32,
     token: &Token<'_>,
     sign: Terminal,
-) -> Result<Reading, Stop>
-    ensures { Gives state_of place_of result (step_colon (state_of reading) colon token.now sign) }
+) -> Result<Reading, SelFault>
+    ensures { Gives state_of refusal_of result (step_colon (state_of reading) colon token.now sign) }
 {
     match sign {
         Terminal::Ident => step_name_behind_colon(alloc, reading, colon, token),
@@ -168,8 +168,8 @@ fn step_language(
     colon: u32,
     token: &Token<'_>,
     sign: Terminal,
-) -> Result<Reading, Stop>
-    ensures { Gives state_of place_of result (step_language (state_of reading) colon token.now sign) }
+) -> Result<Reading, SelFault>
+    ensures { Gives state_of refusal_of result (step_language (state_of reading) colon token.now sign) }
 {
     match sign {
         Terminal::Space => Ok(reading.at(Place::Language(colon))),
@@ -183,8 +183,8 @@ fn step_language_end(
     colon: u32,
     token: &Token<'_>,
     sign: Terminal,
-) -> Result<Reading, Stop>
-    ensures { Gives state_of place_of result (step_language_end (state_of reading) colon token.now sign) }
+) -> Result<Reading, SelFault>
+    ensures { Gives state_of refusal_of result (step_language_end (state_of reading) colon token.now sign) }
 {
     match sign {
         Terminal::Space => Ok(reading.at(Place::LanguageEnd(colon))),
@@ -198,8 +198,8 @@ fn step_element(
     reading: Reading,
     token: &Token<'_>,
     sign: Terminal,
-) -> Result<Reading, Stop>
-    ensures { Gives state_of place_of result (step_element (state_of reading) token.now sign) }
+) -> Result<Reading, SelFault>
+    ensures { Gives state_of refusal_of result (step_element (state_of reading) token.now sign) }
 {
     match sign {
         Terminal::Space => Ok(reading.at(Place::Element)),
@@ -213,8 +213,8 @@ fn step_bracket(
     reading: Reading,
     token: &Token<'_>,
     sign: Terminal,
-) -> Result<Reading, Stop>
-    ensures { Gives state_of place_of result (step_bracket (state_of reading) token.now sign) }
+) -> Result<Reading, SelFault>
+    ensures { Gives state_of refusal_of result (step_bracket (state_of reading) token.now sign) }
 {
     match sign {
         Terminal::Space => Ok(reading.at(Place::Bracket)),
@@ -228,8 +228,8 @@ fn step_sign(
     name: Text,
     token: &Token<'_>,
     sign: Terminal,
-) -> Result<Reading, Stop>
-    ensures { Gives state_of place_of result (step_sign (state_of reading) name token.now (comparison sign)) }
+) -> Result<Reading, SelFault>
+    ensures { Gives state_of refusal_of result (step_sign (state_of reading) name token.now (comparison sign)) }
 {
     match comparison(sign) {
         Some(how) => Ok(reading.at(Place::Sign(name, how))),
@@ -242,8 +242,8 @@ fn step_name(
     name: Text,
     token: &Token<'_>,
     sign: Terminal,
-) -> Result<Reading, Stop>
-    ensures { Gives state_of place_of result (step_name (state_of reading) name token.now sign) }
+) -> Result<Reading, SelFault>
+    ensures { Gives state_of refusal_of result (step_name (state_of reading) name token.now sign) }
 {
     match sign {
         Terminal::Space => Ok(reading.at(Place::Name(name))),
@@ -259,8 +259,8 @@ fn step_value(
     how: Comparison,
     token: &Token<'_>,
     sign: Terminal,
-) -> Result<Reading, Stop>
-    ensures { Gives state_of place_of result (step_value (state_of reading) name how token.now sign) }
+) -> Result<Reading, SelFault>
+    ensures { Gives state_of refusal_of result (step_value (state_of reading) name how token.now sign) }
 {
     match sign {
         Terminal::Space => Ok(reading.at(Place::Sign(name, how))),
@@ -280,8 +280,8 @@ fn step_closing(
     test: Test,
     token: &Token<'_>,
     sign: Terminal,
-) -> Result<Reading, Stop>
-    ensures { Gives state_of place_of result (step_closing (state_of reading) test token.now sign) }
+) -> Result<Reading, SelFault>
+    ensures { Gives state_of refusal_of result (step_closing (state_of reading) test token.now sign) }
 {
     match sign {
         Terminal::Space => Ok(reading.at(Place::Value(test))),
@@ -291,8 +291,8 @@ fn step_closing(
 }
 
 /// Behind one more token.
-pub fn step(alloc: Global, reading: Reading, token: &Token<'_>) -> Result<Reading, Stop>
-    ensures { Gives state_of place_of result (step (state_of reading) token.now) }
+pub fn step(alloc: Global, reading: Reading, token: &Token<'_>) -> Result<Reading, SelFault>
+    ensures { Gives state_of refusal_of result (step (state_of reading) token.now) }
 {
     let sign = terminal(token);
     let Reading {

@@ -3,7 +3,8 @@ use Rattle.std.proofs.Common.{◌≡◌, ℕ, ◌+◌, true, false, List, [], �
 use Rattle.std.proofs.lemmas.Bool.{false≢true}
 use Rattle.std.proofs.lemmas.Option.{none-some, same_Some}
 use Rattle.css_semantics.proofs.PieceLemmas.{same_fronts}
-use Rattle.css_select.specs.Verdicts.{Verdict, group_is, unsupported_at, bad_at}
+use Rattle.css_select.specs.Refusals.{Refusal, unsupported_at, bad_at}
+use Rattle.css_select.specs.Verdicts.{Verdict}
 use Rattle.css_select.proofs.Answers.{one_reading_of}
 use Rattle.viz_base.specs.declared.formulas.Formula.{Formula}
 use Rattle.viz_base.specs.declared.formulas.Set.TheVariants.{Nodes}
@@ -68,24 +69,21 @@ matched_same {nodes = nodes} {group = group} (AreMatched.passed n xs h is) (AreM
     let same : n ≡ m = omega (arith, e) in absurd (is (subst (MatchesOne nodes group) (sym same) js))
 matched_same (AreMatched.passed n xs h is) (AreMatched.passed m ys k js) e = let same : n ≡ m = omega (arith, e) in matched_same h k same
 
-group_not_bad : {g : Group} {n : ℕ} → group_is g ≡ bad_at n → ⊥
-group_not_bad e = cc
-
-group_not_refused : {g : Group} {n : ℕ} → group_is g ≡ unsupported_at n → ⊥
+group_not_refused : {g : Group} {reason : Refusal} → ◌≡◌ {A = Verdict} (Ok g) (Err reason) → ⊥
 group_not_refused e = cc
 
 abbrev group_or : Group → Verdict → Group
-group_or g (group_is h) = h
+group_or g (Ok h) = h
 group_or g v = g
 
 one_set : {nodes : List Node} {text : List ℕ} {l m : Lexeme} → IsSet nodes text l → IsSet nodes text m → l ≡ m
 one_set {nodes = nodes} {text = text} (IsSet.set g xs h are) (IsSet.set k ys i bre) =
-    let same : g ≡ k = ap (group_or g) (one_reading_of text (group_is g) (group_is k) h i) in
+    let same : g ≡ k = ap (group_or g) (one_reading_of text (Ok g) (Ok k) h i) in
     ap (λ found. a.Members (Nodes found)) (matched_same (subst (λ x. AreMatched nodes x (length nodes) xs) same are) bre refl)
-one_set {text = text} (IsSet.set g xs h are) (IsSet.bad at i) = absurd (group_not_bad (one_reading_of text (group_is g) (bad_at at) h i))
-one_set {text = text} (IsSet.set g xs h are) (IsSet.unsupported at i) = absurd (group_not_refused (one_reading_of text (group_is g) (unsupported_at at) h i))
-one_set {text = text} (IsSet.bad at h) (IsSet.set k ys i bre) = absurd (group_not_bad (one_reading_of text (group_is k) (bad_at at) i h))
-one_set {text = text} (IsSet.unsupported at h) (IsSet.set k ys i bre) = absurd (group_not_refused (one_reading_of text (group_is k) (unsupported_at at) i h))
+one_set {text = text} (IsSet.set g xs h are) (IsSet.bad at i) = absurd (group_not_refused (one_reading_of text (Ok g) (Err (bad_at at)) h i))
+one_set {text = text} (IsSet.set g xs h are) (IsSet.unsupported at i) = absurd (group_not_refused (one_reading_of text (Ok g) (Err (unsupported_at at)) h i))
+one_set {text = text} (IsSet.bad at h) (IsSet.set k ys i bre) = absurd (group_not_refused (one_reading_of text (Ok k) (Err (bad_at at)) i h))
+one_set {text = text} (IsSet.unsupported at h) (IsSet.set k ys i bre) = absurd (group_not_refused (one_reading_of text (Ok k) (Err (unsupported_at at)) i h))
 one_set (IsSet.bad at h) (IsSet.bad other i) = refl
 one_set (IsSet.bad at h) (IsSet.unsupported other i) = refl
 one_set (IsSet.unsupported at h) (IsSet.bad other i) = refl

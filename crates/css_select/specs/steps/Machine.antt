@@ -18,6 +18,7 @@ use Rattle.css_semantics.specs.SheetsMarks.{text_of}
 use Rattle.css_select.specs.declared.reading.Place.{Place}
 use Rattle.css_select.specs.declared.reading.Place.TheVariants.{Fresh, Compound as InCompound, Gap, Dot, Colon, Language, LanguageEnd, Element, Bracket, Name, Sign, Value}
 use Rattle.css_select.specs.declared.reading.Reading.{Reading}
+use Rattle.css_select.specs.Refusals.{Refusal, bad_at}
 
 pub record State : Type 0 where
   pub place : Place
@@ -83,96 +84,96 @@ ended s = record {
   refused = s.refused;
 }
 
--- ---- what the next token does at each place, or the place at which it can't stand
+-- ---- what the next token does at each place, or that it can't stand there
 
-abbrev pub step_test : State → Token → Terminal → Result State ℕ
+abbrev pub step_test : State → Token → Terminal → Result State Refusal
 step_test s t a.Id = Ok (tested s (of_test.Id (text_of t)))
 step_test s t a.Dot = Ok (at s Dot)
 step_test s t a.LeftBracket = Ok (at s Bracket)
 step_test s t a.Colon = Ok (at s (Colon t.at))
-step_test s t _ = Err t.at
+step_test s t _ = Err (bad_at t.at)
 
-abbrev pub step_fresh : State → Token → Terminal → Result State ℕ
+abbrev pub step_fresh : State → Token → Terminal → Result State Refusal
 step_fresh s t a.Space = Ok (at s Fresh)
 step_fresh s t a.Ident = Ok (tagged s (Some (name_of t)))
 step_fresh s t a.Star = Ok (tagged s None)
 step_fresh s t sign = step_test s t sign
 
-abbrev pub step_compound : State → Token → Terminal → Result State ℕ
+abbrev pub step_compound : State → Token → Terminal → Result State Refusal
 step_compound s t a.Space = Ok (at s Gap)
 step_compound s t a.Greater = Ok (joined s Child)
 step_compound s t a.Plus = Ok (joined s Next)
 step_compound s t a.Comma = Ok (ended s)
 step_compound s t sign = step_test s t sign
 
-abbrev pub step_gap : State → Token → Terminal → Result State ℕ
+abbrev pub step_gap : State → Token → Terminal → Result State Refusal
 step_gap s t a.Space = Ok (at s Gap)
 step_gap s t a.Greater = Ok (joined s Child)
 step_gap s t a.Plus = Ok (joined s Next)
 step_gap s t a.Comma = Ok (ended s)
 step_gap s t sign = step_fresh (joined s Descendant) t sign
 
-abbrev pub step_dot : State → Token → Terminal → Result State ℕ
+abbrev pub step_dot : State → Token → Terminal → Result State Refusal
 step_dot s t a.Ident = Ok (tested s (of_test.Class (text_of t)))
-step_dot s t _ = Err t.at
+step_dot s t _ = Err (bad_at t.at)
 
-abbrev pub step_pseudo : State → ℕ → Token → Option Pseudo → Result State ℕ
-step_pseudo s colon t None = Err t.at
+abbrev pub step_pseudo : State → ℕ → Token → Option Pseudo → Result State Refusal
+step_pseudo s colon t None = Err (bad_at t.at)
 step_pseudo s colon t (Some (of_pseudo.Class test)) = Ok (tested s test)
 step_pseudo s colon t (Some of_pseudo.Element) = Ok (refused s colon Element)
 
-abbrev pub step_function : State → ℕ → Token → Bool → Result State ℕ
+abbrev pub step_function : State → ℕ → Token → Bool → Result State Refusal
 step_function s colon t true = Ok (at s (Language colon))
-step_function s colon t false = Err t.at
+step_function s colon t false = Err (bad_at t.at)
 
-abbrev pub step_colon : State → ℕ → Token → Terminal → Result State ℕ
+abbrev pub step_colon : State → ℕ → Token → Terminal → Result State Refusal
 step_colon s colon t a.Ident = step_pseudo s colon t (pseudo (text_of t))
 step_colon s colon t a.Function = step_function s colon t (same_name (text_of t) (codes "lang"))
-step_colon s colon t _ = Err t.at
+step_colon s colon t _ = Err (bad_at t.at)
 
-abbrev pub step_language : State → ℕ → Token → Terminal → Result State ℕ
+abbrev pub step_language : State → ℕ → Token → Terminal → Result State Refusal
 step_language s colon t a.Space = Ok (at s (Language colon))
 step_language s colon t a.Ident = Ok (at s (LanguageEnd colon))
-step_language s colon t _ = Err t.at
+step_language s colon t _ = Err (bad_at t.at)
 
-abbrev pub step_language_end : State → ℕ → Token → Terminal → Result State ℕ
+abbrev pub step_language_end : State → ℕ → Token → Terminal → Result State Refusal
 step_language_end s colon t a.Space = Ok (at s (LanguageEnd colon))
 step_language_end s colon t a.RightParen = Ok (refused s colon InCompound)
-step_language_end s colon t _ = Err t.at
+step_language_end s colon t _ = Err (bad_at t.at)
 
-abbrev pub step_element : State → Token → Terminal → Result State ℕ
+abbrev pub step_element : State → Token → Terminal → Result State Refusal
 step_element s t a.Space = Ok (at s Element)
 step_element s t a.Comma = Ok (ended s)
-step_element s t _ = Err t.at
+step_element s t _ = Err (bad_at t.at)
 
-abbrev pub step_bracket : State → Token → Terminal → Result State ℕ
+abbrev pub step_bracket : State → Token → Terminal → Result State Refusal
 step_bracket s t a.Space = Ok (at s Bracket)
 step_bracket s t a.Ident = Ok (at s (Name (name_of t)))
-step_bracket s t _ = Err t.at
+step_bracket s t _ = Err (bad_at t.at)
 
-abbrev pub step_sign : State → List ℕ → Token → Option Comparison → Result State ℕ
-step_sign s name t None = Err t.at
+abbrev pub step_sign : State → List ℕ → Token → Option Comparison → Result State Refusal
+step_sign s name t None = Err (bad_at t.at)
 step_sign s name t (Some how) = Ok (at s (Sign name how))
 
-abbrev pub step_name : State → List ℕ → Token → Terminal → Result State ℕ
+abbrev pub step_name : State → List ℕ → Token → Terminal → Result State Refusal
 step_name s name t a.Space = Ok (at s (Name name))
 step_name s name t a.RightBracket = Ok (tested s (of_test.Has name))
 step_name s name t sign = step_sign s name t (comparison sign)
 
-abbrev pub step_operand : State → List ℕ → Comparison → Token → Bool → Result State ℕ
+abbrev pub step_operand : State → List ℕ → Comparison → Token → Bool → Result State Refusal
 step_operand s name how t true = Ok (at s (Value (compared how name (text_of t))))
-step_operand s name how t false = Err t.at
+step_operand s name how t false = Err (bad_at t.at)
 
-abbrev pub step_value : State → List ℕ → Comparison → Token → Terminal → Result State ℕ
+abbrev pub step_value : State → List ℕ → Comparison → Token → Terminal → Result State Refusal
 step_value s name how t a.Space = Ok (at s (Sign name how))
 step_value s name how t sign = step_operand s name how t (is_value sign)
 
-abbrev pub step_closing : State → Test → Token → Terminal → Result State ℕ
+abbrev pub step_closing : State → Test → Token → Terminal → Result State Refusal
 step_closing s test t a.Space = Ok (at s (Value test))
 step_closing s test t a.RightBracket = Ok (tested s test)
-step_closing s test t _ = Err t.at
+step_closing s test t _ = Err (bad_at t.at)
 
-abbrev pub step_at : Place → State → Token → Terminal → Result State ℕ
+abbrev pub step_at : Place → State → Token → Terminal → Result State Refusal
 step_at Fresh s t sign = step_fresh s t sign
 step_at InCompound s t sign = step_compound s t sign
 step_at Gap s t sign = step_gap s t sign
@@ -186,16 +187,16 @@ step_at (Name name) s t sign = step_name s name t sign
 step_at (Sign name how) s t sign = step_value s name how t sign
 step_at (Value test) s t sign = step_closing s test t sign
 
-abbrev pub step : State → Token → Result State ℕ
+abbrev pub step : State → Token → Result State Refusal
 step s t = step_at s.place (at s Fresh) t (terminal t)
 
 -- ---- all tokens
 
-abbrev pub then_run : Result State ℕ → (State → Result State ℕ) → Result State ℕ
+abbrev pub then_run : Result State Refusal → (State → Result State Refusal) → Result State Refusal
 then_run (Ok s) f = f s
-then_run (Err place) f = Err place
+then_run (Err refusal) f = Err refusal
 
-abbrev pub run : State → List Token → Result State ℕ
+abbrev pub run : State → List Token → Result State Refusal
 run s [] = Ok s
 run s (t ∷ ts) = if is_comment t.kind then run s ts else then_run (step s t) (λ next. run next ts)
 
