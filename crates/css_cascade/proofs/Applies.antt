@@ -1,5 +1,5 @@
 -- What a ruleset says that applies.
-use Rattle.std.proofs.Common.{◌≡◌, ℕ, Bool, List, Result, Ok, Err, IfOk, MatchResult, sym, subst}
+use Rattle.std.proofs.Common.{◌≡◌, ℕ, Bool, List, Result, Ok, Err, IfOk, sym, subst}
 use Rattle.viz_base.specs.declared.nodes.Node.{Node}
 use Rattle.viz_base.specs.declared.settings.Setting.{Setting}
 use Rattle.viz_base.specs.declared.sheets.Decl.{Decl}
@@ -15,7 +15,8 @@ use Rattle.css_semantics.specs.CascadeNodes.{judged, standing_around, winners_of
 use Rattle.css_semantics.specs.Cascade.{ComesTo, comes_to}
 use Rattle.css_cascade.specs.declared.faults.CascadeFault.{CascadeFault}
 use Rattle.css_cascade.specs.declared.faults.CascadeFault.TheVariants.{Mem, Selector, Value}
-use Rattle.css_cascade.specs.Faults.{Judges}
+use Rattle.css_cascade.specs.Faults.{ByValue, refusal_of}
+use Rattle.viz_base.specs.Answers.{GivesOneOf}
 
 pub if_ok : {T E : Type 0} {P Q : T → Type 0} (r : Result T E) → ((x : T) → P x → Q x) → IfOk r P → IfOk r Q
 if_ok (Ok x) f h = f x h
@@ -29,9 +30,9 @@ pub comes : (nodes : List Node) (rulesets : List Ruleset) (standings : List Stan
 comes nodes rulesets standings n node replaced outer all winners applied r o same = rw (r, o, same) (comes_to applied)
 
 pub comes_by : (nodes : List Node) (rulesets : List Ruleset) (standings : List Standing) (n : ℕ) (node : Node) (answer : Result (List Setting × Standing) Claim) → ComesTo nodes rulesets standings n node answer → (r : Result (List Setting × Standing) CascadeFault)
-    → MatchResult r (λ p. answer ≡ Ok (p.0, p.1)) (λ fault. Judges n fault (λ a. a ≡ answer))
-    → MatchResult r (λ p. ComesTo nodes rulesets standings n node (Ok (p.0, p.1))) (λ fault. Judges n fault (ComesTo nodes rulesets standings n node))
-comes_by nodes rulesets standings n node answer is (Ok p) h = subst (ComesTo nodes rulesets standings n node) h is
+    → GivesOneOf (λ p. (p.0, p.1)) refusal_of r (ByValue n (λ a. a ≡ answer))
+    → GivesOneOf (λ p. (p.0, p.1)) refusal_of r (ByValue n (ComesTo nodes rulesets standings n node))
+comes_by nodes rulesets standings n node answer is (Ok p) h = subst (ComesTo nodes rulesets standings n node) (sym h) is
 comes_by nodes rulesets standings n node answer is (Err Mem) h = h
-comes_by nodes rulesets standings n node answer is (Err (Selector s at)) h = h
-comes_by nodes rulesets standings n node answer is (Err (Value m p source)) h = (h.0, h.1, h.2, h.3, subst (ComesTo nodes rulesets standings n node) (sym h.4) is)
+comes_by nodes rulesets standings n node answer is (Err (Selector s at)) h = (h.0, h.1, subst (ComesTo nodes rulesets standings n node) (sym h.2) is)
+comes_by nodes rulesets standings n node answer is (Err (Value m p source)) h = (h.0, h.1, subst (ComesTo nodes rulesets standings n node) (sym h.2) is)

@@ -34,7 +34,8 @@ use Rattle.css_semantics.specs.Specificity.{spec_of}
 use Rattle.css_semantics.specs.ValuesParts.{parts}
 use Rattle.css_semantics.proofs.Declarations.{declarations_are}
 use Rattle.css_semantics.proofs.PieceLemmas.{pieces_same}
-use Rattle.css_select.specs.Verdicts.{Verdict, group_is, unsupported_at as no_support_at, bad_at}
+use Rattle.css_select.specs.Refusals.{Refusal, unsupported_at as no_support_at, bad_at}
+use Rattle.css_select.specs.Verdicts.{Verdict}
 use Rattle.css_select.proofs.Answers.{one_reading_of}
 
 -- ---- one after another
@@ -116,45 +117,42 @@ same_claims {origin = origin} {text = text} {xs = xs} {ys = ys} h k =
 abbrev sketch : Ruleset → List (Parts × Spec) × List Claim
 sketch one = (map parts_and_spec one.group, one.claims)
 
-group_not_bad : {g : List Parts} {n : ℕ} → group_is g ≡ bad_at n → ⊥
-group_not_bad h = cc
-
-group_not_refused : {g : List Parts} {n : ℕ} → group_is g ≡ no_support_at n → ⊥
+group_not_refused : {g : List Parts} {reason : Refusal} → ◌≡◌ {A = Verdict} (Ok g) (Err reason) → ⊥
 group_not_refused h = cc
 
-bad_not_refused : {m n : ℕ} → bad_at n ≡ no_support_at m → ⊥
+bad_not_refused : {m n : ℕ} → ◌≡◌ {A = Verdict} (Err (bad_at n)) (Err (no_support_at m)) → ⊥
 bad_not_refused h = cc
 
 abbrev groups_or : List Parts → Verdict → List Parts
-groups_or g (group_is h) = h
+groups_or g (Ok h) = h
 groups_or g v = g
 
 abbrev place_or : ℕ → Verdict → ℕ
-place_or n (no_support_at at) = at
+place_or n (Err (no_support_at at)) = at
 place_or n v = n
 
 one_ruleset : {origin : Origin} {text : List ℕ} {rule : Rule} {r s : Result (List Ruleset) Refused} → IsRuleset origin text rule r → IsRuleset origin text rule s → image sketch r ≡ image sketch s
 one_ruleset (IsRuleset.read {selector = t} {selectors = g} {one = x} a h ranked claimed) (IsRuleset.read {selector = u} {selectors = k} {one = y} b i other claims) =
-    let same : g ≡ k = ap (groups_or g) (one_reading_of u (group_is g) (group_is k) (subst (λ p. IsGroupOf p g) (same_slice a b) h) i) in
+    let same : g ≡ k = ap (groups_or g) (one_reading_of u (Ok g) (Ok k) (subst (λ p. IsGroupOf p g) (same_slice a b) h) i) in
     let group : map parts_and_spec x.group ≡ map parts_and_spec y.group = ranked ∙ (ap (map (λ p. (p, spec_of p))) same ∙ sym other) in
     ap (λ p. Ok ((p, x.claims) ∷ [])) group ∙ ap (λ cs. Ok ((map parts_and_spec y.group, cs) ∷ [])) (same_claims claimed claims)
 one_ruleset (IsRuleset.read {selectors = g} a h ranked claimed) (IsRuleset.bad {selector = u} {at = n} b i) =
-    absurd (group_not_bad (one_reading_of u (group_is g) (bad_at n) (subst (λ p. IsGroupOf p g) (same_slice a b) h) i))
+    absurd (group_not_refused (one_reading_of u (Ok g) (Err (bad_at n)) (subst (λ p. IsGroupOf p g) (same_slice a b) h) i))
 one_ruleset (IsRuleset.read {selectors = g} a h ranked claimed) (IsRuleset.not_supported {selector = u} {at = n} b i) =
-    absurd (group_not_refused (one_reading_of u (group_is g) (no_support_at n) (subst (λ p. IsGroupOf p g) (same_slice a b) h) i))
+    absurd (group_not_refused (one_reading_of u (Ok g) (Err (no_support_at n)) (subst (λ p. IsGroupOf p g) (same_slice a b) h) i))
 one_ruleset (IsRuleset.read a h ranked claimed) (IsRuleset.nothing_there none) = absurd (slice_or_none a none)
 one_ruleset (IsRuleset.bad {selector = u} {at = n} a h) (IsRuleset.read {selectors = g} b i ranked claimed) =
-    absurd (group_not_bad (one_reading_of u (group_is g) (bad_at n) (subst (λ p. IsGroupOf p g) (same_slice b a) i) h))
+    absurd (group_not_refused (one_reading_of u (Ok g) (Err (bad_at n)) (subst (λ p. IsGroupOf p g) (same_slice b a) i) h))
 one_ruleset (IsRuleset.bad a h) (IsRuleset.bad b i) = refl
 one_ruleset (IsRuleset.bad {selector = u} {at = n} a h) (IsRuleset.not_supported {at = m} b i) =
-    absurd (bad_not_refused (one_reading_of u (bad_at n) (no_support_at m) h (subst (λ p. IsUnsupportedAt p m) (same_slice b a) i)))
+    absurd (bad_not_refused (one_reading_of u (Err (bad_at n)) (Err (no_support_at m)) h (subst (λ p. IsUnsupportedAt p m) (same_slice b a) i)))
 one_ruleset (IsRuleset.bad a h) (IsRuleset.nothing_there none) = refl
 one_ruleset (IsRuleset.not_supported {selector = u} {at = n} a h) (IsRuleset.read {selectors = g} b i ranked claimed) =
-    absurd (group_not_refused (one_reading_of u (group_is g) (no_support_at n) (subst (λ p. IsGroupOf p g) (same_slice b a) i) h))
+    absurd (group_not_refused (one_reading_of u (Ok g) (Err (no_support_at n)) (subst (λ p. IsGroupOf p g) (same_slice b a) i) h))
 one_ruleset (IsRuleset.not_supported {at = m} a h) (IsRuleset.bad {selector = u} {at = n} b i) =
-    absurd (bad_not_refused (one_reading_of u (bad_at n) (no_support_at m) i (subst (λ p. IsUnsupportedAt p m) (same_slice a b) h)))
+    absurd (bad_not_refused (one_reading_of u (Err (bad_at n)) (Err (no_support_at m)) i (subst (λ p. IsUnsupportedAt p m) (same_slice a b) h)))
 one_ruleset {origin = origin} {rule = rule} (IsRuleset.not_supported {at = m} a h) (IsRuleset.not_supported {selector = u} {at = n} b i) =
-    let same : m ≡ n = ap (place_or m) (one_reading_of u (no_support_at m) (no_support_at n) (subst (λ p. IsUnsupportedAt p m) (same_slice a b) h) i) in
+    let same : m ≡ n = ap (place_or m) (one_reading_of u (Err (no_support_at m)) (Err (no_support_at n)) (subst (λ p. IsUnsupportedAt p m) (same_slice a b) h) i) in
     ap (λ k. image sketch (unsupported_at origin (rule.at + k))) same
 one_ruleset (IsRuleset.not_supported a h) (IsRuleset.nothing_there none) = absurd (slice_or_none a none)
 one_ruleset (IsRuleset.nothing_there none) (IsRuleset.read b i ranked claimed) = absurd (slice_or_none b none)

@@ -1,5 +1,5 @@
 -- What the answers of the code on one rule say.
-use Rattle.std.proofs.Common.{◌≡◌, ℕ, ◌<◌, List, length, get_or, Option, Result, Ok, Err, MatchResult, sym, subst}
+use Rattle.std.proofs.Common.{◌≡◌, ℕ, ◌<◌, List, length, get_or, Option, Result, Ok, Err, sym, subst}
 use Rattle.std.specs.Option.{option_to_list}
 use Rattle.viz_base.specs.declared.nodes.Node.{Node}
 use Rattle.viz_base.specs.declared.settings.Cascaded.{Cascaded}
@@ -14,40 +14,42 @@ use Rattle.css_cascade.specs.declared.faults.CascadeFault.{CascadeFault}
 use Rattle.css_cascade.specs.declared.faults.CascadeFault.TheVariants.{Mem, Selector as SelectorAt, Value}
 use Rattle.css_select.specs.declared.faults.SelFault.{SelFault}
 use Rattle.css_select.specs.declared.faults.SelFault.TheVariants as of_selector
-use Rattle.css_select.specs.Verdicts.{IsFault}
+use Rattle.css_select.specs.Refusals.{refusal_of as reason_of}
+use Rattle.css_select.specs.Verdicts.{IsReadingOf}
 use Rattle.viz_base.specs.Answers.{FailsWith, GivesOneOf}
-use Rattle.css_cascade.specs.Faults.{IsUnread, Reads, refusal_of}
+use Rattle.css_cascade.specs.Faults.{BySelector, IsUnread, refusal_of}
 use Rattle.css_cascade.proofs.Reaching.{Reached, ReachedSheets, reached_refusal, sheets_refusal}
 
 -- a fault says the same of two readings of which the first refuses where the second does
-pub reads_on : {B C : Type 0} (fault : CascadeFault) (P : Result (List B) Refused → Type 0) (Q : Result (List C) Refused → Type 0) → ((e : Refused) → P (Err e) → Q (Err e)) → Reads fault P → Reads fault Q
-reads_on Mem P Q f h = h
-reads_on (SelectorAt s at) P Q f h = f (s, at) h
-reads_on (Value n p source) P Q f h = h
+pub fails_on : {B C : Type 0} (fault : CascadeFault) (P : Result (List B) Refused → Type 0) (Q : Result (List C) Refused → Type 0) → ((e : Refused) → P (Err e) → Q (Err e)) → FailsWith (refusal_of fault) (BySelector P) → FailsWith (refusal_of fault) (BySelector Q)
+fails_on Mem P Q f h = h
+fails_on (SelectorAt s at) P Q f h = f (s, at) h
+fails_on (Value n p source) P Q f h = h
 
-unread_at : (origin : Origin) (text : List ℕ) (rule : Rule) (selector : List ℕ) (fault : SelFault) → IsSlice text rule.at rule.len selector → IsFault fault selector → (answer : Result (List Ruleset) Refused) → IsUnread origin rule.at fault answer → IsRuleset origin text rule answer
+unread_at : (origin : Origin) (text : List ℕ) (rule : Rule) (selector : List ℕ) (fault : SelFault) → IsSlice text rule.at rule.len selector → FailsWith (reason_of fault) (IsReadingOf selector) → (answer : Result (List Ruleset) Refused) → IsUnread origin rule.at fault answer → IsRuleset origin text rule answer
 unread_at origin text rule selector of_selector.Mem s f answer h = absurd h
 unread_at origin text rule selector (of_selector.Bad at) s f answer h = subst (IsRuleset origin text rule) (sym h) (IsRuleset.bad s f)
 unread_at origin text rule selector (of_selector.Unsupported at) s f answer h = subst (IsRuleset origin text rule) (sym h) (IsRuleset.not_supported s f)
 
-pub unread_is : (origin : Origin) (text : List ℕ) (rule : Rule) (selector : List ℕ) (fault : SelFault) → IsSlice text rule.at rule.len selector → IsFault fault selector → (r : Result (Option Ruleset) CascadeFault)
-    → MatchResult r (λ found. IsUnread origin rule.at fault (Ok (option_to_list found))) (λ answered. Reads answered (IsUnread origin rule.at fault))
-    → MatchResult r (λ found. IsRuleset origin text rule (Ok (option_to_list found))) (λ answered. Reads answered (IsRuleset origin text rule))
+pub unread_is : (origin : Origin) (text : List ℕ) (rule : Rule) (selector : List ℕ) (fault : SelFault) → IsSlice text rule.at rule.len selector → FailsWith (reason_of fault) (IsReadingOf selector) → (r : Result (Option Ruleset) CascadeFault)
+    → GivesOneOf option_to_list refusal_of r (BySelector (IsUnread origin rule.at fault))
+    → GivesOneOf option_to_list refusal_of r (BySelector (IsRuleset origin text rule))
 unread_is origin text rule selector fault s f (Ok found) h = unread_at origin text rule selector fault s f _ h
-unread_is origin text rule selector fault s f (Err answered) h = reads_on answered (IsUnread origin rule.at fault) (IsRuleset origin text rule) (λ e. unread_at origin text rule selector fault s f (Err e)) h
+unread_is origin text rule selector fault s f (Err answered) h = fails_on answered (IsUnread origin rule.at fault) (IsRuleset origin text rule) (λ e. unread_at origin text rule selector fault s f (Err e)) h
 
-pub reads_refusal : {A B : Type 0} (Gives : A → Result (List B) Refused → Type 0) (xs : List A) (i : ℕ) (items : List B) (x : A) (fault : CascadeFault) → i < length xs → x ≡ get_or xs i x → Reached Gives xs i items → Reads fault (Gives x) → Reads fault (Each Gives xs)
-reads_refusal Gives xs i items x fault l at r h = reads_on fault (Gives x) (Each Gives xs) (λ e k. reached_refusal x e l at r k) h
+pub fails_refusal : {A B : Type 0} (Gives : A → Result (List B) Refused → Type 0) (xs : List A) (i : ℕ) (items : List B) (x : A) (fault : CascadeFault) → i < length xs → x ≡ get_or xs i x → Reached Gives xs i items → FailsWith (refusal_of fault) (BySelector (Gives x))
+    → FailsWith (refusal_of fault) (BySelector (Each Gives xs))
+fails_refusal Gives xs i items x fault l at r h = fails_on fault (Gives x) (Each Gives xs) (λ e k. reached_refusal x e l at r k) h
 
 pub each_at : {o p : Origin} {t u : List ℕ} {rules others : List Rule} (answer : Result (List Ruleset) Refused) → o ≡ p → t ≡ u → rules ≡ others → Each (IsRuleset o t) rules answer → Each (IsRuleset p u) others answer
 each_at {o = o} {p = p} {t = t} {u = u} {rules = rules} {others = others} answer e f g h =
     subst (λ x. Each (IsRuleset x u) others answer) e (subst (λ x. Each (IsRuleset o x) others answer) f (subst (λ x. Each (IsRuleset o t) x answer) g h))
 
-pub reads_sheets : (texts : List (List ℕ)) (sheets : List Sheet) (at : ℕ) (items : List Ruleset) (t : List ℕ) (s : Sheet) (fault : CascadeFault) (o : Origin) (u : List ℕ) (rules : List Rule) → at < length texts → t ≡ get_or texts at t → at < length sheets → s ≡ get_or sheets at s → ReachedSheets texts sheets at items
-    → o ≡ sheet_origin at → u ≡ t → rules ≡ s.rules → Reads fault (Each (IsRuleset o u) rules) → Reads fault (AreRulesets texts sheets)
-reads_sheets texts sheets at items t s fault o u rules l e m f r same text all h = reads_on fault (Each (IsRuleset o u) rules) (AreRulesets texts sheets) (λ x k. sheets_refusal texts sheets at items t s x l e m f r (each_at (Err x) same text all k)) h
+pub fails_sheets : (texts : List (List ℕ)) (sheets : List Sheet) (at : ℕ) (items : List Ruleset) (t : List ℕ) (s : Sheet) (fault : CascadeFault) (o : Origin) (u : List ℕ) (rules : List Rule) → at < length texts → t ≡ get_or texts at t → at < length sheets → s ≡ get_or sheets at s → ReachedSheets texts sheets at items
+    → o ≡ sheet_origin at → u ≡ t → rules ≡ s.rules → FailsWith (refusal_of fault) (BySelector (Each (IsRuleset o u) rules)) → FailsWith (refusal_of fault) (BySelector (AreRulesets texts sheets))
+fails_sheets texts sheets at items t s fault o u rules l e m f r same text all h = fails_on fault (Each (IsRuleset o u) rules) (AreRulesets texts sheets) (λ x k. sheets_refusal texts sheets at items t s x l e m f r (each_at (Err x) same text all k)) h
 
-pub refused_page : (nodes : List Node) (texts : List (List ℕ)) (sheets : List Sheet) (fault : CascadeFault) → Reads fault (AreRulesets texts sheets) → FailsWith (refusal_of fault) (IsCascade nodes texts sheets)
+pub refused_page : (nodes : List Node) (texts : List (List ℕ)) (sheets : List Sheet) (fault : CascadeFault) → FailsWith (refusal_of fault) (BySelector (AreRulesets texts sheets)) → FailsWith (refusal_of fault) (IsCascade nodes texts sheets)
 refused_page nodes texts sheets Mem h = h
 refused_page nodes texts sheets (SelectorAt s at) h = refused_selector h
 refused_page nodes texts sheets (Value n p source) h = absurd h

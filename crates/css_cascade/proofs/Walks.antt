@@ -6,11 +6,11 @@ use Rattle.viz_base.specs.declared.settings.Setting.{Setting}
 use Rattle.css_semantics.specs.declared.claims.Claim.{Claim}
 use Rattle.css_semantics.specs.declared.claims.Ruleset.{Ruleset}
 use Rattle.css_semantics.specs.declared.claims.Standing.{Standing}
-use Rattle.css_semantics.specs.Cascade.{ComesTo, Goes, Fault, value_at}
+use Rattle.css_semantics.specs.Cascade.{ComesTo, Goes, Fault, selector_at, value_at}
 use Rattle.css_cascade.specs.declared.faults.CascadeFault.{CascadeFault}
 use Rattle.css_cascade.specs.declared.faults.CascadeFault.TheVariants.{Mem, Selector, Value}
 use Rattle.viz_base.specs.Answers.{FailsWith}
-use Rattle.css_cascade.specs.Faults.{Judges, refusal_of}
+use Rattle.css_cascade.specs.Faults.{ByValue, refusal_of}
 use Rattle.css_cascade.proofs.Reaching.{drop_at}
 
 abbrev Answer : Type 0
@@ -32,12 +32,13 @@ refused_node nodes rulesets at standings winners node c l e r h =
     (subst (λ n. Goes nodes rulesets standings winners (node ∷ drop (at + 1) nodes) (Err (value_at n c.prop c.source))) r.count
     (Goes.refuses (subst (λ n. ComesTo nodes rulesets standings n node (Err c)) (sym r.count) h))))
 
-pub nodes_refusal : (nodes : List Node) (rulesets : List Ruleset) (at : ℕ) (standings : List Standing) (winners : List (List Setting)) (node : Node) (fault : CascadeFault) → at < length nodes → node ≡ get_or nodes at node → ReachedNodes nodes rulesets at standings winners → Judges at fault (ComesTo nodes rulesets standings at node) → FailsWith (refusal_of fault) (Goes nodes rulesets [] [] nodes)
+refused_by : (nodes : List Node) (rulesets : List Ruleset) (at : ℕ) (standings : List Standing) (winners : List (List Setting)) (node : Node) (fault : Fault) → at < length nodes → node ≡ get_or nodes at node → ReachedNodes nodes rulesets at standings winners → ByValue at (ComesTo nodes rulesets standings at node) (Err fault) → Goes nodes rulesets [] [] nodes (Err fault)
+refused_by nodes rulesets at standings winners node fault l e r h = subst (λ f. Goes nodes rulesets [] [] nodes (Err f)) (sym h.1) (refused_node nodes rulesets at standings winners node h.0 l e r h.2)
+
+pub nodes_refusal : (nodes : List Node) (rulesets : List Ruleset) (at : ℕ) (standings : List Standing) (winners : List (List Setting)) (node : Node) (fault : CascadeFault) → at < length nodes → node ≡ get_or nodes at node → ReachedNodes nodes rulesets at standings winners → FailsWith (refusal_of fault) (ByValue at (ComesTo nodes rulesets standings at node)) → FailsWith (refusal_of fault) (Goes nodes rulesets [] [] nodes)
 nodes_refusal nodes rulesets at standings winners node Mem l e r h = h
-nodes_refusal nodes rulesets at standings winners node (Selector s place) l e r h = absurd h
-nodes_refusal nodes rulesets at standings winners node (Value n p source) l e r h =
-    let is = refused_node nodes rulesets at standings winners node h.0 l e r h.4 in
-    rw (h.1, h.2, h.3) is
+nodes_refusal nodes rulesets at standings winners node (Selector s place) l e r h = refused_by nodes rulesets at standings winners node (selector_at s place) l e r h
+nodes_refusal nodes rulesets at standings winners node (Value n p source) l e r h = refused_by nodes rulesets at standings winners node (value_at n p source) l e r h
 
 pub nodes_end : (nodes : List Node) (rulesets : List Ruleset) (at : ℕ) (standings : List Standing) (winners : List (List Setting)) → length nodes ≤ at → ReachedNodes nodes rulesets at standings winners → Goes nodes rulesets [] [] nodes (Ok winners)
 nodes_end nodes rulesets at standings winners h r = r.goes (Ok winners) (subst (λ ns. Goes nodes rulesets standings winners ns (Ok winners)) (sym (drop_all at nodes h)) Goes.ends)

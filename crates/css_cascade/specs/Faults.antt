@@ -1,5 +1,5 @@
 -- Which answer of the code stands for which answer of the definition.
-use Rattle.std.specs.Prelude.{◌≡◌, ℕ, suc, ◌+◌, ◌^◌, ◌<◌, ◌≤◌, length, List, [], Option, Some, None, Result, Ok, Err}
+use Rattle.std.specs.Prelude.{◌≡◌, ℕ, suc, ◌+◌, ◌<◌, length, List, [], MatchOption, Option, Some, None, Result, Ok, Err}
 use Rattle.viz_base.specs.declared.nodes.Node.{Node}
 use Rattle.viz_base.specs.declared.settings.Setting.{Setting}
 use Rattle.css_semantics.specs.declared.claims.Claim.{Claim}
@@ -8,7 +8,7 @@ use Rattle.css_semantics.specs.declared.claims.Ruleset.{Ruleset}
 use Rattle.css_semantics.specs.declared.claims.Standing.{Standing}
 use Rattle.css_semantics.specs.CascadeReading.{Refused, unsupported_at}
 use Rattle.css_select.specs.declared.faults.SelFault.{SelFault}
-use Rattle.css_select.specs.declared.faults.SelFault.TheVariants as of_selector
+use Rattle.css_select.specs.Refusals.{Refusal, bad_at, unsupported_at as no_support_at, refusal_of as reason_of}
 use Rattle.css_semantics.specs.Cascade.{Fault, selector_at, value_at}
 use Rattle.css_semantics.specs.Sources.{IsValueAt}
 use Rattle.css_cascade.specs.declared.faults.CascadeFault.{CascadeFault}
@@ -26,27 +26,23 @@ IsPlaced nodes texts (selector_at sheet at) = suc sheet < length texts
 IsPlaced nodes texts (value_at n p source) = (n < length nodes)
     × ((value : List ℕ) × IsValueAt nodes texts source value)
 
--- What reads sheets gives, where want of memory is free: only a selector refuses them.
-abbrev pub Reads : {B : Type 0} → CascadeFault → (Result (List B) Refused → Type 0) → Type 0
-Reads Mem Answer = Unit {0}
-Reads (Selector sheet at) Answer = Answer (Err (sheet, at))
-Reads (Value node p source) Answer = ⊥
+-- Answers about sheets, as answers about a page: only a selector refuses them.
+abbrev pub BySelector : {B : Type 0} → (Result (List B) Refused → Type 0) → Result (List B) Fault → Type 0
+BySelector Answer (Ok found) = Answer (Ok found)
+BySelector Answer (Err (selector_at sheet at)) = Answer (Err (sheet, at))
+BySelector Answer (Err (value_at n p source)) = ⊥
 
--- What judges a node gives: only a value refuses it.
-abbrev pub Judges : ℕ → CascadeFault → (Result (List Setting × Standing) Claim → Type 0) → Type 0
-Judges n Mem Answer = Unit {0}
-Judges n (Selector sheet at) Answer = ⊥
-Judges n (Value node p source) Answer = (c : Claim) × (node ≡ n) × (p ≡ c.prop) × (source ≡ c.source) × Answer (Err c)
+-- Answers about a node, as answers about a page: only a value refuses it.
+abbrev pub ByValue : ℕ → (Result (List Setting × Standing) Claim → Type 0)
+    → Result (List Setting × Standing) Fault → Type 0
+ByValue n Answer (Ok judged) = Answer (Ok judged)
+ByValue n Answer (Err fault) = (c : Claim) × (fault ≡ value_at n c.prop c.source) × Answer (Err c)
 
--- what a rule comes to where reading its selector ends with this fault
+-- what a rule at a place comes to whose selector is refused so
+abbrev pub unread : Origin → ℕ → Refusal → Result (List Ruleset) Refused
+unread origin rule (bad_at at) = Ok []
+unread origin rule (no_support_at at) = unsupported_at origin (rule + at)
+
+-- what it comes to where reading its selector ends with this fault; where memory is wanting, nothing
 abbrev pub IsUnread : Origin → ℕ → SelFault → Result (List Ruleset) Refused → Type 0
-IsUnread origin rule of_selector.Mem answer = ⊥
-IsUnread origin rule (of_selector.Bad at) answer = answer ≡ Ok []
-IsUnread origin rule (of_selector.Unsupported at) answer = answer ≡ unsupported_at origin (rule + at)
-
--- Reading the selector ended for want of memory, or the place of what is
--- refused in it, at this place of its rule, is past the numbers.
-abbrev pub IsSpent : ℕ → SelFault → Type 0
-IsSpent rule of_selector.Mem = Unit {0}
-IsSpent rule (of_selector.Bad at) = ⊥
-IsSpent rule (of_selector.Unsupported at) = 2 ^ 32 ≤ rule + at
+IsUnread origin rule fault answer = MatchOption (reason_of fault) ⊥ (λ reason. answer ≡ unread origin rule reason)

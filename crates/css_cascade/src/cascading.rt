@@ -1,11 +1,11 @@
-ghost use Rattle.std.specs.Prelude.{◌≡◌, [], map, slice_get, IfErr, IfOk, IfSome, MatchResult, Ok, Some, length};
+ghost use Rattle.std.specs.Prelude.{◌≡◌, [], map, slice_get, IfErr, IfOk, IfSome, Some, length};
 ghost use Rattle.std.specs.List.{AllByRecursion};
 ghost use Rattle.css_semantics.specs.Cascade.{ComesTo, Goes, IsCascade};
 ghost use Rattle.css_semantics.specs.CascadeNodes.{judged};
 ghost use Rattle.css_semantics.specs.Winners.{AreWinners};
 ghost use Rattle.viz_base.specs.Answers.{GivesOneOf};
 ghost use Rattle.css_select.specs.steps.Trees.{AreSiblings};
-ghost use Rattle.css_cascade.specs.Faults.{IsPlaced, Judges, refusal_of};
+ghost use Rattle.css_cascade.specs.Faults.{ByValue, IsPlaced, refusal_of};
 ghost use Rattle.css_cascade.specs.steps.Trimming.{IsTrimmed, rules_of};
 ghost use Rattle.css_cascade.specs.steps.Trying.{AreBuckets};
 
@@ -30,8 +30,8 @@ fn judge(
     outer: Standing,
     winners: &[&Claim],
 ) -> Result<(List<Setting>, Standing), CascadeFault>
-    ensures { MatchResult result (λ p. judged replaced outer (map (λ c. c.now) winners.now) ≡ Ok (p.0, p.1))
-        (λ fault. Judges node fault (λ answer. answer ≡ judged replaced outer (map (λ c. c.now) winners.now))) }
+    ensures { GivesOneOf (λ p. (p.0, p.1)) refusal_of result
+        (ByValue node (λ answer. answer ≡ judged replaced outer (map (λ c. c.now) winners.now))) }
 {
     let hidden = is_hidden(outer, winners);
     if !hidden {
@@ -59,9 +59,8 @@ fn come_to(
     requires siblings { AreSiblings page.now.nodes siblings.now }
     requires trimmed { AllByRecursion IsTrimmed rulesets.now }
     requires buckets { AreBuckets page.now.nodes (map rules_of rulesets.now) buckets.now }
-    ensures { MatchResult result (λ p. ComesTo page.now.nodes (map rules_of rulesets.now) standings.now at node.now
-        (Ok (p.0, p.1))) (λ fault. Judges at fault
-        (ComesTo page.now.nodes (map rules_of rulesets.now) standings.now at node.now)) }
+    ensures { GivesOneOf (λ p. (p.0, p.1)) refusal_of result
+        (ByValue at (ComesTo page.now.nodes (map rules_of rulesets.now) standings.now at node.now)) }
 {
     let outer = standing_around(standings, node.parent);
     let replaced = is_replaced(&node.body);
@@ -127,7 +126,7 @@ fn cascade_nodes(
 /// `Selector` for the first selector in an author's sheet that is refused by name, at its place in the sheet; `Value`,
 /// where no selector is refused, for the first node that isn't hidden at which a refused value wins, and there for the
 /// first property in the order of the table, with where the value stands in its text, at characters; `Mem` for want of
-/// memory alone.
+/// memory, as which a number of a node or of a sheet or a place in a sheet counts from `2^32` on; no clause says when.
 pub fn cascade(
     alloc: Global,
     page: &Page,

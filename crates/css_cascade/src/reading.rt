@@ -1,4 +1,4 @@
-ghost use Rattle.std.specs.Prelude.{◌≡◌, ◌+◌, ◌^◌, ◌≤◌, ◌<◌, ◌∷◌, ◌++◌, [], map, length, IfErr, IfOk, MatchOption, MatchResult, Ok, OnOk, Some};
+ghost use Rattle.std.specs.Prelude.{◌≡◌, ◌+◌, ◌^◌, ◌≤◌, ◌<◌, ◌∷◌, ◌++◌, [], map, length, ℕ, IfErr, IfOk, IfSome, MatchOption, MatchResult, Ok, OnOk, Some};
 ghost use Rattle.std.specs.List.{AllByRecursion};
 ghost use Rattle.std.specs.Option.{option_to_list};
 ghost use Rattle.std.specs.Prelude.{List as Seq, Result, None};
@@ -8,7 +8,9 @@ ghost use Rattle.css_semantics.specs.Shorthands.{Says};
 ghost use Rattle.css_semantics.specs.Specificity.{IsCountable};
 ghost use Rattle.css_semantics.specs.CascadeReading.{AreClaimed, AreRulesets, Each, IsClaimed, IsNoSlice, IsRanked, IsRuleset, IsSlice, claim_of, claims_of, sheet_origin, source_of, unsupported_at, weight_of};
 ghost use Rattle.css_select.specs.steps.Machine.{parts_of};
-ghost use Rattle.css_cascade.specs.Faults.{IsSpent, IsUnread, Reads};
+ghost use Rattle.css_select.specs.Refusals.{refusal_of as reason_of, unsupported_at as no_support_at};
+ghost use Rattle.viz_base.specs.Answers.{GivesOneOf};
+ghost use Rattle.css_cascade.specs.Faults.{BySelector, IsUnread, refusal_of};
 
 use crate::faults::CascadeFault;
 use crate::nodes::number;
@@ -144,8 +146,8 @@ fn ranked(alloc: Global, selectors: List<Selector>) -> Result<List<Ranked>, Mem>
 
 /// What a selector that is refused by name comes to, at this place of its ruleset.
 fn unsupported_at(origin: Origin, rule: u32, at: u32) -> Result<Option<Ruleset>, CascadeFault>
-    ensures is { MatchResult result (λ found. unsupported_at origin (rule + at) ≡ Ok (option_to_list found))
-        (λ fault. Reads fault (λ answer. answer ≡ unsupported_at origin (rule + at))) }
+    ensures is { GivesOneOf option_to_list refusal_of result
+        (BySelector (λ answer. answer ≡ unsupported_at origin (rule + at))) }
     ensures room { IfErr result (λ fault. fault ≡ CascadeFault.Mem → 2 ^ 32 ≤ rule + at) }
 {
     match origin {
@@ -159,9 +161,9 @@ fn unsupported_at(origin: Origin, rule: u32, at: u32) -> Result<Option<Ruleset>,
 
 /// What a rule comes to, at this place, of which the selector can't be read.
 fn unread(origin: Origin, rule: u32, fault: SelFault) -> Result<Option<Ruleset>, CascadeFault>
-    ensures is { MatchResult result (λ found. IsUnread origin rule fault (Ok (option_to_list found)))
-        (λ answered. Reads answered (IsUnread origin rule fault)) }
-    ensures room { IfErr result (λ answered. answered ≡ CascadeFault.Mem → IsSpent rule fault) }
+    ensures is { GivesOneOf option_to_list refusal_of result (BySelector (IsUnread origin rule fault)) }
+    ensures room { IfErr result (λ answered. answered ≡ CascadeFault.Mem → IfSome (reason_of fault)
+        (λ reason. (at : ℕ) × (reason ≡ no_support_at at) × (2 ^ 32 ≤ rule + at))) }
 {
     match fault {
         SelFault::Bad(_) => Ok(None),
@@ -196,8 +198,7 @@ fn ruleset_with(
     selector: &str,
 ) -> Result<Option<Ruleset>, CascadeFault>
     requires { IsSlice text.now rule.now.at rule.now.len selector.now }
-    ensures { MatchResult result (λ found. IsRuleset origin text.now rule.now (Ok (option_to_list found)))
-        (λ fault. Reads fault (IsRuleset origin text.now rule.now)) }
+    ensures { GivesOneOf option_to_list refusal_of result (BySelector (IsRuleset origin text.now rule.now)) }
 {
     match read_selector(alloc, selector) {
         Ok(selectors) => Ok(Some(ruleset_of(alloc, origin, text, rule, selectors)?)),
@@ -212,8 +213,7 @@ fn ruleset_at(
     text: &str,
     rule: &Rule,
 ) -> Result<Option<Ruleset>, CascadeFault>
-    ensures { MatchResult result (λ found. IsRuleset origin text.now rule.now (Ok (option_to_list found)))
-        (λ fault. Reads fault (IsRuleset origin text.now rule.now)) }
+    ensures { GivesOneOf option_to_list refusal_of result (BySelector (IsRuleset origin text.now rule.now)) }
 {
     match slice(text, rule.at, rule.len) {
         Some(selector) => ruleset_with(alloc, origin, text, rule, selector),
@@ -237,8 +237,8 @@ fn rulesets_in(
     text: &str,
     rules: &[Rule],
 ) -> Result<Vec<Ruleset>, CascadeFault>
-    ensures { MatchResult result (λ found. Each (IsRuleset origin text.now) rules.now (Ok found.items))
-        (λ fault. Reads fault (Each (IsRuleset origin text.now) rules.now)) }
+    ensures { GivesOneOf (λ found. found.items) refusal_of result
+        (BySelector (Each (IsRuleset origin text.now) rules.now)) }
 {
     let mut rulesets = Vec::new(alloc);
     for rule in rules {
@@ -264,8 +264,7 @@ pub fn read_rulesets(
     sheets: &[Sheet],
 ) -> Result<Vec<Ruleset>, CascadeFault>
     requires { length texts.now ≡ length sheets.now }
-    ensures { MatchResult result (λ found. AreRulesets texts.now sheets.now (Ok found.items))
-        (λ fault. Reads fault (AreRulesets texts.now sheets.now)) }
+    ensures { GivesOneOf (λ found. found.items) refusal_of result (BySelector (AreRulesets texts.now sheets.now)) }
 {
     let mut rulesets = Vec::new(alloc);
     for at in 0..sheets.len() {

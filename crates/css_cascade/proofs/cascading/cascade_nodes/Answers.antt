@@ -1,7 +1,7 @@
 use Rattle.std.proofs.Common.{◌≡◌, ◌++◌, ◌∷◌, ◌<◌, ◌≤◌, ◌+◌, [], length, map, get_or, Ok, rules, sym, subst}
 use Rattle.css_semantics.specs.Cascade.{ComesTo, Goes}
 use Rattle.viz_base.specs.Answers.{FailsWith}
-use Rattle.css_cascade.specs.Faults.{Judges, refusal_of}
+use Rattle.css_cascade.specs.Faults.{ByValue, refusal_of}
 use Rattle.css_cascade.specs.steps.Trimming.{rules_of}
 use Rattle.css_cascade.proofs.Walks.{ReachedNodes, nodes_more, nodes_refusal, nodes_end}
 use Rattle.css_cascade.proofs.cascading.cascade_nodes.Goals as goal
@@ -9,8 +9,8 @@ use Rattle.css_cascade.proofs.cascading.cascade_nodes.Goals as goal
 pub returns-in_err-settings : goal.returns-in_err-settings
 returns-in_err-settings c =
     let within : c.loop-at.at < length c.args.page.now.nodes = rw c.as_slice-nodes.ensures at c.loop-at-test.true in
-    let h = subst (λ n. Judges n c.in_err-settings.field-0.0 (ComesTo c.args.page.now.nodes (map rules_of c.args.rulesets.now) c.loop-at.standings.items n c.index-nodes-at.result)) c.in_ok-number.ensures
-    (subst (λ ss. Judges c.in_ok-number.number c.in_err-settings.field-0.0 (ComesTo c.args.page.now.nodes (map rules_of c.args.rulesets.now) ss c.in_ok-number.number c.index-nodes-at.result)) c.as_slice.ensures.value c.in_err-settings.ensures) in
+    let h = subst (λ n. FailsWith (refusal_of c.in_err-settings.field-0.0) (ByValue n (ComesTo c.args.page.now.nodes (map rules_of c.args.rulesets.now) c.loop-at.standings.items n c.index-nodes-at.result))) c.in_ok-number.ensures
+    (subst (λ ss. FailsWith (refusal_of c.in_err-settings.field-0.0) (ByValue c.in_ok-number.number (ComesTo c.args.page.now.nodes (map rules_of c.args.rulesets.now) ss c.in_ok-number.number c.index-nodes-at.result))) c.as_slice.ensures.value c.in_err-settings.ensures) in
     let k : FailsWith (refusal_of c.in_err-settings.field-0.0) (Goes c.args.page.now.nodes (map rules_of c.args.rulesets.now) [] [] c.args.page.now.nodes) =
     nodes_refusal _ _ c.loop-at.at _ _ c.index-nodes-at.result c.in_err-settings.field-0.0 within
     (subst (λ ns. c.index-nodes-at.result ≡ get_or ns c.loop-at.at c.index-nodes-at.result) c.as_slice-nodes.ensures c.index-nodes-at.is) c.loop-at.invariant h in
