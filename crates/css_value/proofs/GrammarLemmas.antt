@@ -6,6 +6,7 @@ use Rattle.std.proofs.lemmas.List.{take-append-drop}
 use Rattle.std.proofs.lemmas.List.Sums.{length-filter}
 use Rattle.std.proofs.lemmas.Bool.Decides.{nat_tests}
 use Rattle.std.proofs.lemmas.Bool.{and_parts}
+use Rattle.viz_base.specs.declared.lengths.Sides.{Sides}
 use Rattle.viz_base.specs.declared.settings.Prop.{Prop}
 use Rattle.viz_base.specs.declared.settings.Prop.TheVariants.{BorderTopWidth, BorderRightWidth, BorderBottomWidth, BorderLeftWidth, BorderTopStyle, BorderRightStyle, BorderBottomStyle, BorderLeftStyle, FontSize, FontFamily, LineHeight}
 use Rattle.viz_base.specs.declared.settings.Value.{Value}
@@ -22,8 +23,8 @@ use Rattle.css_semantics.specs.declared.parts.Takes.TheVariants.{Nothing, All, N
 use Rattle.css_semantics.specs.Names.{same_name}
 use Rattle.css_semantics.specs.Properties.{row}
 use Rattle.css_semantics.specs.Values.{then_on, setting, placed, judged, number_value, part_value, is_zero, is_negative, half, is_inherit}
-use Rattle.css_semantics.specs.Shorthands.{shorthand, inherited, is_line, is_line_width, is_line_style, is_colour, is_at_most_one, value_or, each_line, joined, written_lines, lines, is_before_size, is_front, is_system, system_font, font, font_names, named_font, sized_font, height_behind, font_behind, font_from_size, front_len, written_font, font_settings}
-use Rattle.css_value.specs.Grammars.{Gets, Sets, IsBorder, IsHeight, IsFont, ByGrammar, IsShorthand}
+use Rattle.css_semantics.specs.Shorthands.{shorthand, sides, spread, four, margins, paddings, border_widths, border_styles, inherited, is_line, is_line_width, is_line_style, is_colour, is_at_most_one, value_or, each_line, joined, written_lines, lines, is_before_size, is_front, is_system, system_font, font, font_names, named_font, sized_font, height_behind, font_behind, font_from_size, front_len, written_font, font_settings}
+use Rattle.css_value.specs.Grammars.{AreSides, IsSides, Gets, Sets, IsBorder, IsHeight, IsFont, ByGrammar, IsShorthand}
 use Rattle.css_semantics.proofs.Pairs.{by_bool}
 
 -- ---- answers
@@ -109,6 +110,94 @@ part_mild p h part.Comma = refl
 part_mild p h part.Solidus = refl
 part_mild p h part.Colour = refl
 part_mild p h part.Other = refl
+
+-- ---- four sides
+
+abbrev all_sides : Sides Prop → List Setting
+all_sides on = inherited (on.top ∷ on.right ∷ on.bottom ∷ on.left ∷ [])
+
+abbrev quad : Sides Prop → Value → Value → Value → Value → List Setting
+quad on t r b l = setting on.top t ∷ setting on.right r ∷ setting on.bottom b ∷ setting on.left l ∷ []
+
+-- what the four sides come to
+record AreFour (on : Sides Prop) (parts : Sides Part) (settings : List Setting) : Type 0 where
+  top : Value
+  right : Value
+  bottom : Value
+  left : Value
+  top_is : part_value on.top parts.top ≡ Ok top
+  right_is : part_value on.right parts.right ≡ Ok right
+  bottom_is : part_value on.bottom parts.bottom ≡ Ok bottom
+  left_is : part_value on.left parts.left ≡ Ok left
+  are : quad on top right bottom left ≡ settings
+
+four_said : (on : Sides Prop) (parts : Sides Part) (settings : List Setting) → four on parts ≡ Ok settings → AreFour on parts settings
+four_said on parts settings e =
+    let t = then_ok (part_value on.top parts.top) _ settings e in
+    let r = then_ok (part_value on.right parts.right) _ settings t.2 in
+    let b = then_ok (part_value on.bottom parts.bottom) _ settings r.2 in
+    let l = then_ok (part_value on.left parts.left) _ settings b.2 in
+    record { top = t.0; right = r.0; bottom = b.0; left = l.0; top_is = t.1; right_is = r.1; bottom_is = b.1; left_is = l.1; are = same_settings (quad on t.0 r.0 b.0 l.0) settings l.2 }
+
+said_four : (on : Sides Prop) (parts : Sides Part) (t r b l : Value) → part_value on.top parts.top ≡ Ok t → part_value on.right parts.right ≡ Ok r → part_value on.bottom parts.bottom ≡ Ok b → part_value on.left parts.left ≡ Ok l → four on parts ≡ answered (quad on t r b l)
+said_four on parts t r b l i j k m =
+    ap (λ x. then_on x (λ top. then_on (part_value on.right parts.right) (λ right. then_on (part_value on.bottom parts.bottom) (λ bottom. then_on (part_value on.left parts.left) (λ left. answered (quad on top right bottom left)))))) i
+    ∙ ap (λ x. then_on x (λ right. then_on (part_value on.bottom parts.bottom) (λ bottom. then_on (part_value on.left parts.left) (λ left. answered (quad on t right bottom left))))) j
+    ∙ ap (λ x. then_on x (λ bottom. then_on (part_value on.left parts.left) (λ left. answered (quad on t r bottom left)))) k
+    ∙ ap (λ x. then_on x (λ left. answered (quad on t r b left))) m
+
+spread_is : (f : Sides Part → Settings) {ps : List Part} {parts : Sides Part} → AreSides ps parts → spread f ps ≡ f parts
+spread_is f (AreSides.one a) = refl
+spread_is f (AreSides.two a b) = refl
+spread_is f (AreSides.three a b c) = refl
+spread_is f (AreSides.four a b c d) = refl
+
+written_by : (on : Sides Prop) (ps : List Part) (parts : Sides Part) (settings : List Setting) → is_inherit ps ≡ false → AreSides ps parts → four on parts ≡ Ok settings → IsSides on ps settings
+written_by on ps parts settings i are e =
+    let h = four_said on parts settings e in subst (IsSides on ps) h.are (IsSides.written i are h.top_is h.right_is h.bottom_is h.left_is)
+
+written_said : (on : Sides Prop) (ps : List Part) (settings : List Setting) → is_inherit ps ≡ false → spread (four on) ps ≡ Ok settings → IsSides on ps settings
+written_said on [] settings i e = cc
+written_said on (a ∷ []) settings i e = written_by on _ _ settings i (AreSides.one a) e
+written_said on (a ∷ b ∷ []) settings i e = written_by on _ _ settings i (AreSides.two a b) e
+written_said on (a ∷ b ∷ c ∷ []) settings i e = written_by on _ _ settings i (AreSides.three a b c) e
+written_said on (a ∷ b ∷ c ∷ d ∷ []) settings i e = written_by on _ _ settings i (AreSides.four a b c d) e
+written_said on (a ∷ b ∷ c ∷ d ∷ x ∷ ps) settings i e = cc
+
+sides_said : (on : Sides Prop) (ps : List Part) (settings : List Setting) → sides on ps ≡ Ok settings → IsSides on ps settings
+sides_said on ps settings e =
+    by_if (is_inherit ps) (answered (all_sides on)) (spread (four on) ps) (Ok settings) e
+    (λ t same. subst (IsSides on ps) (same_settings (all_sides on) settings same) (IsSides.inherits t))
+    (λ f same. written_said on ps settings f same)
+
+said_sides : (on : Sides Prop) (ps : List Part) (settings : List Setting) → IsSides on ps settings → sides on ps ≡ Ok settings
+said_sides on ps _ (IsSides.inherits i) = ap (λ b. cond b (answered (all_sides on)) (spread (four on) ps)) i
+said_sides on ps _ (IsSides.written {parts = parts} {top = t} {right = r} {bottom = b} {left = l} i are h j k m) =
+    ap (λ x. cond x (answered (all_sides on)) (spread (four on) ps)) i ∙ spread_is (four on) are ∙ said_four on parts t r b l h j k m
+
+record ArePlain (on : Sides Prop) : Type 0 where
+  top : IsPlain on.top
+  right : IsPlain on.right
+  bottom : IsPlain on.bottom
+  left : IsPlain on.left
+
+four_mild : (on : Sides Prop) → ArePlain on → (parts : Sides Part) → Mild (four on parts)
+four_mild on h parts =
+    mild_then (part_value on.top parts.top) _ (part_mild on.top h.top parts.top) (λ top.
+    mild_then (part_value on.right parts.right) _ (part_mild on.right h.right parts.right) (λ right.
+    mild_then (part_value on.bottom parts.bottom) _ (part_mild on.bottom h.bottom parts.bottom) (λ bottom.
+    mild_then (part_value on.left parts.left) _ (part_mild on.left h.left parts.left) (λ left. tt))))
+
+spread_mild : (f : Sides Part → Settings) → ((parts : Sides Part) → Mild (f parts)) → (ps : List Part) → Mild (spread f ps)
+spread_mild f h [] = refl
+spread_mild f h (a ∷ []) = h _
+spread_mild f h (a ∷ b ∷ []) = h _
+spread_mild f h (a ∷ b ∷ c ∷ []) = h _
+spread_mild f h (a ∷ b ∷ c ∷ d ∷ []) = h _
+spread_mild f h (a ∷ b ∷ c ∷ d ∷ x ∷ ps) = refl
+
+sides_mild : (on : Sides Prop) → ArePlain on → (ps : List Part) → Mild (sides on ps)
+sides_mild on h ps = mild_if (is_inherit ps) (answered (all_sides on)) (spread (four on) ps) tt (spread_mild (four on) (four_mild on h) ps)
 
 -- ---- the part of a kind
 
@@ -447,17 +536,23 @@ border_same : (widths styles : List Prop) (ps : List Part) → BorderProps width
 border_same widths styles ps b =
     grammar_same (IsBorder widths styles ps) (lines widths styles ps) (λ settings e. lines_said widths styles ps settings b e) (λ settings e. said_lines widths styles ps settings b e) (lines_mild widths styles ps b)
 
+abbrev plain : {p : Prop} → (row p).refused ≡ [] → NotZeroAlone (row p).lengths → NotZeroAlone (row p).percentages → NotZeroAlone (row p).numbers → IsPlain p
+plain w l q n = record { words = w; lengths = l; percentages = q; numbers = n }
+
 abbrev begin : {v : Value} {p : Prop} → (row p).initial ≡ v → (row p).refused ≡ [] → NotZeroAlone (row p).lengths → NotZeroAlone (row p).percentages → NotZeroAlone (row p).numbers → Begins v p
-begin i w l q n = (i, record { words = w; lengths = l; percentages = q; numbers = n })
+begin i w l q n = (i, plain w l q n)
+
+sides_same : (on : Sides Prop) (ps : List Part) → ArePlain on → Same (sides on ps) (ByGrammar (IsSides on ps))
+sides_same on ps h = grammar_same (IsSides on ps) (sides on ps) (sides_said on ps) (said_sides on ps) (sides_mild on h ps)
 
 abbrev itself : (r : Settings) → Same r (λ answer. answer ≡ r)
 itself r = (refl, λ answer e. e)
 
 pub shorthand_same : (s : Shorthand) (ps : List Part) → Same (shorthand s ps) (IsShorthand s ps)
-shorthand_same short_of.Margin ps = itself _
-shorthand_same short_of.Padding ps = itself _
-shorthand_same short_of.BorderWidth ps = itself _
-shorthand_same short_of.BorderStyle ps = itself _
+shorthand_same short_of.Margin ps = sides_same margins ps (record { top = plain refl tt tt tt; right = plain refl tt tt tt; bottom = plain refl tt tt tt; left = plain refl tt tt tt })
+shorthand_same short_of.Padding ps = sides_same paddings ps (record { top = plain refl tt tt tt; right = plain refl tt tt tt; bottom = plain refl tt tt tt; left = plain refl tt tt tt })
+shorthand_same short_of.BorderWidth ps = sides_same border_widths ps (record { top = plain refl tt tt tt; right = plain refl tt tt tt; bottom = plain refl tt tt tt; left = plain refl tt tt tt })
+shorthand_same short_of.BorderStyle ps = sides_same border_styles ps (record { top = plain refl tt tt tt; right = plain refl tt tt tt; bottom = plain refl tt tt tt; left = plain refl tt tt tt })
 shorthand_same short_of.Border ps =
     border_same (BorderTopWidth ∷ BorderRightWidth ∷ BorderBottomWidth ∷ BorderLeftWidth ∷ []) (BorderTopStyle ∷ BorderRightStyle ∷ BorderBottomStyle ∷ BorderLeftStyle ∷ []) ps
     ((begin refl refl tt tt tt, (begin refl refl tt tt tt, (begin refl refl tt tt tt, (begin refl refl tt tt tt, tt)))), (begin refl refl tt tt tt, (begin refl refl tt tt tt, (begin refl refl tt tt tt, (begin refl refl tt tt tt, tt)))))

@@ -1,7 +1,9 @@
--- The value of a declaration after the grammars that CSS 2.1 prints: of the shorthands for borders
--- (8.5.4) and of `font` (15.8). A part in `< >` is one that the property of that name takes.
+-- The value of a declaration after the grammars that CSS 2.1 prints: of the shorthands for four sides (8.3,
+-- 8.4, 8.5.1 and 8.5.3), for borders (8.5.4) and of `font` (15.8). A part in `< >` is one that the property of
+-- that name takes.
 use Rattle.std.specs.Prelude.{◌≡◌, ℕ, Bool, true, false, List, [], ◌∷◌, ◌++◌, Some, Result, Ok, Err}
 use Rattle.std.specs.List.{list_any, list_all}
+use Rattle.viz_base.specs.declared.lengths.Sides.{Sides}
 use Rattle.viz_base.specs.declared.settings.Prop.{Prop}
 use Rattle.viz_base.specs.declared.settings.Prop.TheVariants.{BorderTopWidth, BorderRightWidth, BorderBottomWidth, BorderLeftWidth, BorderTopStyle, BorderRightStyle, BorderBottomStyle, BorderLeftStyle, FontSize, FontFamily, LineHeight}
 use Rattle.viz_base.specs.declared.settings.Value.{Value}
@@ -14,7 +16,27 @@ use Rattle.css_semantics.specs.declared.parts.Refusal.{Refusal}
 use Rattle.css_semantics.specs.declared.parts.Refusal.TheVariants.{Ignored}
 use Rattle.css_semantics.specs.Properties.{row}
 use Rattle.css_semantics.specs.Values.{setting, part_value, is_inherit}
-use Rattle.css_semantics.specs.Shorthands.{sides, margins, paddings, border_widths, border_styles, inherited, is_line, is_line_width, is_line_style, is_before_size, is_front, is_system, system_font, font_names, font_settings, list_style}
+use Rattle.css_semantics.specs.Shorthands.{margins, paddings, border_widths, border_styles, inherited, is_line, is_line_width, is_line_style, is_before_size, is_front, is_system, system_font, font_names, font_settings, list_style}
+
+-- ---- four sides: <margin-width>{1,4} | inherit, and so <padding-width>, <border-width> and <border-style>
+
+-- the part that is for each side: of one to four parts
+pub data AreSides : List Part → Sides Part → Type 0 where
+  one : (all : Part) → AreSides (all ∷ []) (record { top = all; right = all; bottom = all; left = all })
+  two : (ends sides : Part)
+      → AreSides (ends ∷ sides ∷ []) (record { top = ends; right = sides; bottom = ends; left = sides })
+  three : (top sides bottom : Part)
+      → AreSides (top ∷ sides ∷ bottom ∷ []) (record { top = top; right = sides; bottom = bottom; left = sides })
+  four : (top right bottom left : Part)
+      → AreSides (top ∷ right ∷ bottom ∷ left ∷ []) (record { top = top; right = right; bottom = bottom; left = left })
+
+pub data IsSides (on : Sides Prop) (ps : List Part) : List Setting → Type 0 where
+  inherits : is_inherit ps ≡ true → IsSides on ps (inherited (on.top ∷ on.right ∷ on.bottom ∷ on.left ∷ []))
+  written : {parts : Sides Part} {top right bottom left : Value} → is_inherit ps ≡ false → AreSides ps parts
+      → part_value on.top parts.top ≡ Ok top → part_value on.right parts.right ≡ Ok right
+      → part_value on.bottom parts.bottom ≡ Ok bottom → part_value on.left parts.left ≡ Ok left
+      → IsSides on ps (setting on.top top ∷ setting on.right right ∷ setting on.bottom bottom ∷ setting on.left left
+      ∷ [])
 
 -- ---- borders: [ <border-width> || <border-style> || <border-top-color> ] | inherit
 
@@ -62,11 +84,12 @@ pub data ByGrammar (IsSaid : List Setting → Type 0) : Result (List Setting) Re
   said : {settings : List Setting} → IsSaid settings → ByGrammar IsSaid (Ok settings)
   dropped : ((settings : List Setting) → IsSaid settings → ⊥) → ByGrammar IsSaid (Err Ignored)
 
+-- `list-style` has no grammar here: of it one word alone is asked for
 abbrev pub IsShorthand : Shorthand → List Part → Result (List Setting) Refusal → Type 0
-IsShorthand Margin ps answer = answer ≡ sides margins ps
-IsShorthand Padding ps answer = answer ≡ sides paddings ps
-IsShorthand BorderWidth ps answer = answer ≡ sides border_widths ps
-IsShorthand BorderStyle ps answer = answer ≡ sides border_styles ps
+IsShorthand Margin ps answer = ByGrammar (IsSides margins ps) answer
+IsShorthand Padding ps answer = ByGrammar (IsSides paddings ps) answer
+IsShorthand BorderWidth ps answer = ByGrammar (IsSides border_widths ps) answer
+IsShorthand BorderStyle ps answer = ByGrammar (IsSides border_styles ps) answer
 IsShorthand Border ps answer =
     ByGrammar (IsBorder (BorderTopWidth ∷ BorderRightWidth ∷ BorderBottomWidth ∷ BorderLeftWidth ∷ [])
     (BorderTopStyle ∷ BorderRightStyle ∷ BorderBottomStyle ∷ BorderLeftStyle ∷ []) ps) answer

@@ -184,7 +184,7 @@ fn declared(alloc: Global, name: &str, parts: &[Part]) -> Result<List<Setting>, 
 /// what is open there. Absolute lengths are in 1/64 px, other amounts in millionths.
 ///
 /// `Ignored` where the declaration is dropped, since the property is unknown or the value illegal; `Unsupported` where
-/// the value is one that the property refuses by name; `Mem` for want of memory alone.
+/// the value is one that the property refuses by name; `Mem` for want of memory, and no clause says when.
 pub fn read_declaration(alloc: Global, name: &str, value: &str) -> Result<List<Setting>, ValueFault>
     ensures { GivesOneOf (λ x. x) refusal_of result (Says name.now value.now) }
 {

@@ -7,7 +7,7 @@ ghost use Rattle.css_semantics.specs.Shorthands.{shorthand};
 ghost use Rattle.css_value.specs.Grammars.{IsShorthand};
 
 /// A law: what the value of a shorthand says is what the grammar that CSS 2.1 prints for it says, and nothing else
-/// (8.5.4 and 15.8).
+/// (8.3, 8.4, 8.5 and 15.8); but for `list-style`, of which it is what the definition says.
 pub fn shorthands_by_grammar()
     ensures { (s : Shorthand) (ps : Seq Part) (a : Result (Seq Setting) Refusal)
         → (a ≡ shorthand s ps) ↔ IsShorthand s ps a }
