@@ -1,4 +1,4 @@
-ghost use Rattle.std.specs.Prelude.{◌≡◌, ◌<◌, true, false, length, Some, IfOk};
+ghost use Rattle.std.specs.Prelude.{◌≡◌, ◌<◌, ◌≤◌, ◌^◌, true, false, length, Some, IfErr, IfOk, MatchResult};
 ghost use Rattle.std.specs.List.{AllByRecursion};
 ghost use Rattle.std.specs.Option.{option_copied};
 ghost use Rattle.viz_base.specs.Pages.{is_element};
@@ -36,6 +36,7 @@ fn node_style(
         → IsComputed fonts.now at winners.now drawn (option_copied parent.entry) s) }
     ensures text { IfOk result (λ s. is_element node.now.body ≡ false
         → (t : Style) → option_copied parent.entry ≡ Some t → IsOfText t s) }
+    ensures room { IfErr result (λ _. 2 ^ 32 ≤ length fonts.now) }
 {
     match (&node.body, parent) {
         (Body::Chars(_), Some(parent)) => Ok(text_style(parent)),
@@ -45,14 +46,16 @@ fn node_style(
 
 /// A place as the number of a node. Of `2^32` and more it may not fit, which counts as want of memory.
 fn number(at: usize) -> Result<u32, Mem>
-    ensures { IfOk result (λ n. n ≡ at) }
+    ensures { MatchResult result (λ n. n ≡ at) (λ _. 2 ^ 32 ≤ at) }
 {
     u32::try_from(at).map_err(|_| Mem)
 }
 
 /// The style of each node of a page, in the order of the nodes (CSS 2.1, 6.1 and 6.2). An element's is what wins there,
 /// what it inherits and what is initial, computed; a text's is its parent's with the size `Same`. Lengths are in units
-/// of 1/64 px. `Mem` for want of memory alone.
+/// of 1/64 px.
+///
+/// `Mem` for want of memory, as which a number of a node or of a font from `2^32` on counts; no clause says when.
 pub fn compute(
     alloc: Global,
     page: &Page,

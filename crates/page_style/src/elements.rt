@@ -1,4 +1,4 @@
-ghost use Rattle.std.specs.Prelude.{IfOk};
+ghost use Rattle.std.specs.Prelude.{◌≤◌, ◌^◌, length, IfErr, IfOk};
 ghost use Rattle.std.specs.List.{AllByRecursion};
 ghost use Rattle.std.specs.Option.{option_copied};
 ghost use Rattle.css_semantics.specs.ComputedValues.{IsComputed, IsOfText};
@@ -19,7 +19,8 @@ pub fn element_style(
     parent: Option<&Style>,
 ) -> Result<Style, Mem>
     requires { AllByRecursion IsAllowed winners.now }
-    ensures { IfOk result (IsComputed fonts.now node winners.now drawn (option_copied parent.entry)) }
+    ensures is { IfOk result (IsComputed fonts.now node winners.now drawn (option_copied parent.entry)) }
+    ensures room { IfErr result (λ _. 2 ^ 32 ≤ length fonts.now) }
 {
     Ok(Style {
         display: display(winners, parent),

@@ -1,4 +1,4 @@
-ghost use Rattle.std.specs.Prelude.{◌≡◌, true, false, None, IfOk};
+ghost use Rattle.std.specs.Prelude.{◌≡◌, ◌≤◌, ◌^◌, true, false, length, None, IfErr, IfOk};
 ghost use Rattle.std.specs.Option.{option_copied};
 ghost use Rattle.viz_base.specs.declared.lengths.Sides.{Sides};
 ghost use Rattle.viz_base.specs.declared.lengths.Size.TheVariants as of_size;
@@ -121,8 +121,9 @@ pub fn size(winners: &[Setting], parent: Option<&Style>) -> Size
 
 /// The place of the computed font.
 pub fn font(winners: &[Setting], fonts: &[Font], parent: Option<&Style>) -> Result<u32, Mem>
-    ensures { IfOk result (λ font. font ≡ computed FontFamily (font_of fonts.now)
+    ensures is { IfOk result (λ font. font ≡ computed FontFamily (font_of fonts.now)
         (λ (t : Style). t.font) (option_copied parent.entry) winners.now) }
+    ensures room { IfErr result (λ _. 2 ^ 32 ≤ length fonts.now) }
 {
     let parents = parent.map(|t| t.font);
     font_place(winners, fonts, parents)

@@ -1,4 +1,4 @@
-ghost use Rattle.std.specs.Prelude.{◌≡◌, false, IfOk};
+ghost use Rattle.std.specs.Prelude.{◌≡◌, ◌≤◌, ◌^◌, false, length, IfErr, IfOk};
 ghost use Rattle.css_semantics.specs.ComputedValues.{by_word, font_of, length_of, line_of, maximum_of, resolved, size_of, specified, valign_of, width_of};
 ghost use Rattle.css_semantics.specs.ComputedValues.{aligns, clears, clippings, displays, drawings, floats, raises, sizes, widths, wrappings};
 ghost use Rattle.css_semantics.specs.Properties.{row};
@@ -161,7 +161,8 @@ fn valign_of(node: u32, value: &Value) -> Valign
 
 /// The font that a list of families says.
 fn font_of(fonts: &[Font], value: &Value) -> usize
-    ensures { result ≡ font_of fonts.now value.now }
+    ensures is { result ≡ font_of fonts.now value.now }
+    ensures there { result ≤ length fonts.now }
 {
     match value {
         Value::Names(names) => first_named(fonts, names.as_slice()),
@@ -250,10 +251,11 @@ pub fn font_size(winners: &[Setting], parents: Option<Size>) -> Size
     }
 }
 
-/// The computed font.
+/// The computed font. Past `2^32` fonts its place may not fit, which counts as want of memory.
 pub fn font_place(winners: &[Setting], fonts: &[Font], parents: Option<u32>) -> Result<u32, Mem>
-    ensures { IfOk result (λ font. font ≡ resolved (font_of fonts.now)
+    ensures is { IfOk result (λ font. font ≡ resolved (font_of fonts.now)
         parents (row FontFamily).initial (specified FontFamily winners.now)) }
+    ensures room { IfErr result (λ _. 2 ^ 32 ≤ length fonts.now) }
 {
     match specified_value(winners, Prop::FontFamily, true) {
         Specified::Value(value) => u32::try_from(font_of(fonts, value)).map_err(|_| Mem),
