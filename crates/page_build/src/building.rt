@@ -56,7 +56,8 @@ fn job_of(alloc: Global, digest: [u8; 32], raw: &RawJob) -> Result<Job, JobRefus
 /// SHA-256 of the bytes.
 ///
 /// The refusal is that of the first of these that refuses: the file, its style sheets by number, the selectors, the
-/// values that win, the boxes, the assertion; `Mem` is for want of memory alone.
+/// values that win, the boxes, the assertion. `Mem` is for want of memory; no clause says when, nor which of these come
+/// before it.
 pub fn build_job(alloc: Global, bytes: &[u8]) -> Result<Job, JobRefusal>
     ensures { MatchResult result (IsJobOf bytes.now)
         (λ refusal. refusal ≢ JobRefusal.Mem → IsRefusedAs bytes.now refusal) }

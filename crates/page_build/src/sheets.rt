@@ -1,5 +1,5 @@
 //! The style sheets of a job.
-ghost use Rattle.std.specs.Prelude.{◌≡◌, ◌≢◌, ◌∷◌, IfOk, MatchResult, Ok, Err};
+ghost use Rattle.std.specs.Prelude.{◌≡◌, ◌≢◌, ◌≤◌, ◌^◌, ◌∷◌, IfErr, IfOk, MatchResult, Ok, Err};
 ghost use Rattle.css_semantics.specs.DefaultSheet.{default_text};
 ghost use Rattle.css_semantics.specs.SheetsGrammar.{IsSheetOf};
 ghost use Rattle.css_semantics.specs.SheetsReading.{Refusal};
@@ -29,7 +29,8 @@ fn author_sheet(alloc: Global, number: u32, text: &str) -> Result<Sheet, JobRefu
 
 /// A place as a number. Of `2^32` and more it may not fit, which counts as want of memory.
 fn number_of(at: usize) -> Result<u32, JobRefusal>
-    ensures { MatchResult result (λ number. number ≡ at) (λ refusal. refusal ≡ JobRefusal.Mem) }
+    ensures is { MatchResult result (λ number. number ≡ at) (λ refusal. refusal ≡ JobRefusal.Mem) }
+    ensures room { IfErr result (λ _. 2 ^ 32 ≤ at) }
 {
     match u32::try_from(at) {
         Ok(number) => Ok(number),

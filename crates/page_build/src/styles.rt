@@ -38,8 +38,10 @@ fn shown_value(
 /// How the refusal of a cascade is told.
 fn told(alloc: Global, page: &Page, texts: &[Text], fault: CascadeFault) -> JobRefusal
     requires { IfSome (refusal_of fault) (IsPlaced page.now.nodes texts.now) }
-    ensures { result ≢ JobRefusal.Mem
+    ensures given { result ≢ JobRefusal.Mem
         → (why : Fault) × (refusal_of fault ≡ Some why) × IsTold page.now.nodes texts.now why result }
+    ensures selectors { (sheet at : ℕ) → fault ≡ CascadeFault.Selector sheet at
+        → result ≡ JobRefusal.Selector sheet at }
 {
     match fault {
         CascadeFault::Mem => JobRefusal::Mem,

@@ -18,7 +18,7 @@ returns-in_err-author_sheet c =
       c.loop-number.number,
       found.0,
       first_refused c.args.css.now c.loop-number.number c.loop-number.sheets.items c.index-css-number.result found.0 l c.index-css-number.is c.loop-number.invariant is,
-      subst (λ n. c.in_err-author_sheet.field-0.0 ≡ of_sheet n found.0) c.in_ok-place.ensures found.2,
+      subst (λ n. c.in_err-author_sheet.field-0.0 ≡ of_sheet n found.0) c.in_ok-place.ensures.is found.2,
     )) in
     search rules
 
