@@ -1,5 +1,5 @@
 -- Selectors that laws speak of.
-use Rattle.std.specs.Prelude.{ℕ, List, [], ◌∷◌, Option}
+use Rattle.std.specs.Prelude.{ℕ, List, [], ◌∷◌, ◌++◌, Option}
 use Rattle.viz_base.specs.declared.selectors.Compound.{Compound}
 use Rattle.viz_base.specs.declared.selectors.Join.{Join}
 use Rattle.viz_base.specs.declared.selectors.Join.TheVariants.{First}
@@ -10,9 +10,9 @@ use Rattle.viz_base.specs.declared.selectors.Test.{Test}
 abbrev pub alone : Option (List ℕ) → List Test → List (Join × Compound)
 alone tag tests = (First, record { tag = tag; tests = tests }) ∷ []
 
--- one of two
-abbrev pub two : Compound → Join → Compound → List (Join × Compound)
-two outer join inner = (First, outer) ∷ (join, inner) ∷ []
+-- a selector with one more simple selector joined behind it
+abbrev pub joined : List (Join × Compound) → Join → Compound → List (Join × Compound)
+joined outer join inner = outer ++ (join, inner) ∷ []
 
 -- so many ids, then attributes, classes and pseudo-classes, then tags
 abbrev pub counts : ℕ → ℕ → ℕ → Spec

@@ -15,7 +15,9 @@ mod value_laws;
 mod winners;
 
 pub use claims::{Claim, Origin, Ranked, Ruleset, Standing, Weight};
-pub use laws::{escapes_resolve, ids_are_identifiers, tokens_are_unique, tokens_join};
+pub use laws::{
+    escapes_by_number, escapes_resolve, ids_are_identifiers, tokens_are_unique, tokens_join,
+};
 pub use parts::{Part, Refusal, Shorthand, Takes};
 pub use selectors::{joins_say_where, specificity_counts, specificity_order};
 pub use sheets::{one_list_of_declarations, one_sheet, one_stretch};

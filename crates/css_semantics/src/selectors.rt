@@ -1,23 +1,30 @@
-ghost use Rattle.std.specs.Prelude.{◌≡◌, ℕ, List as Seq, [], ◌∷◌, Some, None};
+ghost use Rattle.std.specs.Prelude.{◌≡◌, ◌↔◌, ℕ, List as Seq, [], ◌∷◌, Some, None};
 ghost use Rattle.std.specs.declared.cmp.Ordering.TheVariants.{Greater};
 ghost use Rattle.viz_base.specs.declared.nodes.Node.{Node};
 ghost use Rattle.viz_base.specs.declared.selectors.Compound.{Compound};
+ghost use Rattle.viz_base.specs.declared.selectors.Join.{Join};
 ghost use Rattle.viz_base.specs.declared.selectors.Join.TheVariants as of_join;
 ghost use Rattle.viz_base.specs.declared.selectors.Test.TheVariants as of_test;
 ghost use Rattle.css_semantics.specs.CascadeOrder.{spec_cmp, style_spec};
 ghost use Rattle.css_semantics.specs.Matching.{IsAncestor, IsParent, IsPrevious, Match, MatchesCompound};
-ghost use Rattle.css_semantics.specs.SelectorLaws.{alone, counts, two};
+ghost use Rattle.css_semantics.specs.SelectorLaws.{alone, counts, joined};
 ghost use Rattle.css_semantics.specs.Specificity.{spec_of};
 
-/// Law: before a `>` the parent matches, before white space any element around the node may match, and before a `+` the
-/// element directly before it matches (CSS 2.1, 5.5 to 5.7).
+/// Law: a selector of one simple selector matches a node exactly where that does. `A > B` matches it exactly where `B`
+/// does and `A` matches its parent, `A B` exactly where `B` does and `A` matches some element around it, and `A + B`
+/// exactly where `B` does and `A` matches the element directly before it, `A` being any selector (CSS 2.1, 5.5 to 5.7).
 pub fn joins_say_where()
-    ensures child { (nodes : Seq Node) (n : ℕ) (a b : Compound) → Match (two a of_join.Child b) nodes n
-        → (p : ℕ) × IsParent nodes p n × MatchesCompound nodes a p }
-    ensures descendant { (nodes : Seq Node) (top n : ℕ) (a b : Compound) → IsAncestor nodes top n
-        → MatchesCompound nodes a top → MatchesCompound nodes b n → Match (two a of_join.Descendant b) nodes n }
-    ensures next { (nodes : Seq Node) (n : ℕ) (a b : Compound) → Match (two a of_join.Next b) nodes n
-        → (s : ℕ) × IsPrevious nodes s n × MatchesCompound nodes a s }
+    ensures one { (nodes : Seq Node) (n : ℕ) (b : Compound)
+        → Match ((of_join.First, b) ∷ []) nodes n ↔ MatchesCompound nodes b n }
+    ensures child { (nodes : Seq Node) (n : ℕ) (a : Seq (Join × Compound)) (b : Compound)
+        → Match (joined a of_join.Child b) nodes n
+        ↔ (MatchesCompound nodes b n × ((p : ℕ) × IsParent nodes p n × Match a nodes p)) }
+    ensures descendant { (nodes : Seq Node) (n : ℕ) (a : Seq (Join × Compound)) (b : Compound)
+        → Match (joined a of_join.Descendant b) nodes n
+        ↔ (MatchesCompound nodes b n × ((top : ℕ) × IsAncestor nodes top n × Match a nodes top)) }
+    ensures next { (nodes : Seq Node) (n : ℕ) (a : Seq (Join × Compound)) (b : Compound)
+        → Match (joined a of_join.Next b) nodes n
+        ↔ (MatchesCompound nodes b n × ((s : ℕ) × IsPrevious nodes s n × Match a nodes s)) }
 {}
 
 /// Law: what one id, one class and one tag count (CSS 2.1, 6.4.3).
