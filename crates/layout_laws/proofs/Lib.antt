@@ -62,3 +62,4 @@ pub mod WholeLines
 pub mod WholePage
 pub mod EdgeLaws
 pub mod TextTotals
+pub mod OwnBoxes

@@ -18,4 +18,5 @@ pub mod Nested
 pub mod Clearance
 pub mod PlacedFloats
 pub mod Heights
+pub mod Sorts
 pub mod Edges

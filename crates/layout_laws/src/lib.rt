@@ -1,6 +1,8 @@
 //! Laws of the layout that layout_semantics defines: what holds of all pages, said without the definitions' recursions.
 #![tactic(auto)]
 
+pub mod auto_heights;
+pub mod baselines;
 pub mod boxes;
 pub mod clearance;
 pub mod contexts;
@@ -15,6 +17,7 @@ pub mod minima;
 pub mod reaches;
 pub mod recursions;
 pub mod sides;
+pub mod sorts_of_boxes;
 pub mod spaces;
 pub mod stretches;
 pub mod widths;
