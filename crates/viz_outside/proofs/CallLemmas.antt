@@ -5,8 +5,8 @@ use Rattle.std.proofs.lemmas.Bool.Decides.{nat_tests}
 use Rattle.viz_outside.specs.declared.shelf.Loaded.{Loaded}
 use Rattle.viz_outside.specs.declared.shelf.ShelfFault.{ShelfFault}
 use Rattle.viz_outside.specs.declared.shelf.ShelfFault.TheVariants.{Failed}
-use Rattle.viz_outside.specs.Shelf.{loaded_of}
-use Rattle.viz_outside.specs.MemoryShelf.{ShelfState, Answers, answer_of, bytes_at, counted, is_sure}
+use Rattle.viz_outside.specs.Shelf.{counted, loaded_of}
+use Rattle.viz_outside.specs.MemoryShelf.{ShelfState, Answers, answer_of, bytes_at, is_sure}
 
 -- where all chosen calls are before the next, the next is none of them
 pub not_next : (ns : List ℕ) (k : ℕ) → list_all (λ n. nat_lt n k) ns ≡ true → list_any (λ n. n == k) ns ≡ false

@@ -5,7 +5,7 @@ use Rattle.viz_outside.specs.declared.shelf.Loaded.{Loaded}
 use Rattle.viz_outside.specs.declared.shelf.ShelfFault.{ShelfFault}
 use Rattle.viz_outside.specs.declared.shelf.ShelfFault.TheVariants.{Mem, Failed}
 use Rattle.viz_outside.specs.Fault.{raised}
-use Rattle.viz_outside.specs.Shelf.{loaded_of}
+use Rattle.viz_outside.specs.Shelf.{counted, loaded_of}
 
 -- its files with their names, the numbers of the calls that fail, and how many calls and faults there were
 pub record ShelfState : Type 0 where
@@ -35,12 +35,6 @@ answer_of s name cap = answer_at s.files s.fails s.calls name cap
 abbrev pub Answers : Result Loaded ShelfFault → Result Loaded ShelfFault → Type 0
 Answers answer wanted = (answer ≡ wanted) ⊎ ((answer ≡ Err Mem) × IsOk wanted)
 
--- the count of faults after an answer
-abbrev pub counted : ℕ → Result Loaded ShelfFault → ℕ
-counted faults (Ok loaded) = faults
-counted faults (Err Mem) = faults
-counted faults (Err Failed) = raised faults
-
 -- what the next call leaves
 abbrev pub after_load : ShelfState → List ℕ → ℕ → ShelfState
 after_load s name cap = record {
@@ -49,6 +43,10 @@ after_load s name cap = record {
   calls = raised s.calls;
   faults = counted s.faults (answer_of s name cap);
 }
+
+-- a load answers what the next call does, and leaves what it leaves
+abbrev pub IsLoad : ShelfState → List ℕ → ℕ → Result Loaded ShelfFault → ShelfState → Type 0
+IsLoad s name cap answer left = Answers answer (answer_of s name cap) × (left ≡ after_load s name cap)
 
 -- the name is there, and no call still to come fails
 abbrev pub is_sure : ShelfState → List ℕ → Bool

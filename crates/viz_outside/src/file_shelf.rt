@@ -1,8 +1,9 @@
 ghost use Rattle.std.specs.Prelude.{◌≡◌, ◌≢◌, ◌≤◌, IfErr, IfOk, IfSome, Err, None, false, length};
 ghost use Rattle.std.specs.IoError.{error_kind};
 ghost use Rattle.viz_outside.specs.declared.shelf.ShelfFault.TheVariants.{Mem, Failed};
-ghost use Rattle.viz_outside.specs.Shelf.{bytes_of, loaded_of};
+ghost use Rattle.viz_outside.specs.Shelf.{bytes_of, counted, loaded_of};
 
+use crate::shelf::counted;
 use crate::{Loaded, Shelf, ShelfFault};
 use std::alloc::Global;
 use std::fs;
@@ -106,11 +107,12 @@ impl<R: Files + AllocGlobal> Shelf for FileShelf<R> {
 
     ghost sure = { λ _ _. false };
 
+    // Of what was asked for and given only the fault is counted.
+    ghost loads = { λ s _ _ answer left. left ≡ counted s answer };
+
     fn load(&mut self, name: &str, cap: usize) -> Result<Loaded, ShelfFault> {
         let answer = read_file(&self.rt, name, cap);
-        if let Err(ShelfFault::Failed) = answer {
-            self.faults = self.faults.saturating_add(1);
-        }
+        self.faults = counted(self.faults, &answer);
         answer
     }
 }

@@ -1,8 +1,9 @@
 ghost use Rattle.std.specs.Prelude.{◌≡◌, ◌≤◌, ℕ, List, IsErrOf, IsTrue, Some, option_map};
 ghost use Rattle.viz_outside.specs.declared.shelf.ShelfFault.TheVariants.{Failed};
-ghost use Rattle.viz_outside.specs.MemoryShelf.{bytes_at, file_of, answer_at, answer_of, counted, Answers, after_load, is_sure};
+ghost use Rattle.viz_outside.specs.MemoryShelf.{bytes_at, file_of, answer_at, answer_of, Answers, IsLoad, after_load, is_sure};
 
 use crate::calls::lists_call;
+use crate::shelf::counted;
 use crate::{Loaded, Shelf, ShelfFault};
 use std::marker::Model;
 use viz_base::{List, Text, Text8};
@@ -80,22 +81,14 @@ fn call(
     copy(files, name, cap)
 }
 
-// The count of faults after an answer.
-fn counted(faults: u64, answer: &Result<Loaded, ShelfFault>) -> u64
-    ensures { result ≡ counted faults answer.now }
-{
-    match answer {
-        Err(ShelfFault::Failed) => faults.saturating_add(1),
-        _ => faults,
-    }
-}
-
 impl Shelf for MemShelf {
     ghost files = { λ s. Some (bytes_at s.files) };
 
     ghost faults = { λ s. s.faults };
 
     ghost sure = { is_sure };
+
+    ghost loads = { IsLoad };
 
     fn load(&mut self, name: &str, cap: usize) -> Result<Loaded, ShelfFault>
         ensures answer { Answers result (answer_of self.old name.now cap) }

@@ -1,7 +1,7 @@
 ghost use Rattle.std.specs.Prelude.{◌≡◌, ◌≤◌, ℕ, Bool, List, Option, IfOk, IfSome, IsErrOf, IsTrue, Some, length, option_map};
 ghost use Rattle.viz_outside.specs.declared.shelf.ShelfFault.TheVariants.{Mem, Failed};
 ghost use Rattle.viz_outside.specs.Fault.{Rose};
-ghost use Rattle.viz_outside.specs.Shelf.{bytes_of, loaded_of};
+ghost use Rattle.viz_outside.specs.Shelf.{bytes_of, counted, loaded_of};
 
 use std::alloc::AllocError;
 use thiserror::Error;
@@ -43,8 +43,22 @@ impl From<viz_base::Mem> for ShelfFault {
     }
 }
 
+// The count of faults after an answer.
+pub(crate) fn counted(faults: u64, answer: &Result<Loaded, ShelfFault>) -> u64
+    ensures { result ≡ counted faults answer.now }
+{
+    match answer {
+        Err(ShelfFault::Failed) => faults.saturating_add(1),
+        _ => faults,
+    }
+}
+
 /// Named files that can be loaded.
 pub trait Shelf {
+    ghost use Rattle.std.specs.Prelude.{Result};
+    ghost use Rattle.viz_outside.specs.declared.shelf.Loaded.{Loaded};
+    ghost use Rattle.viz_outside.specs.declared.shelf.ShelfFault.{ShelfFault};
+
     /// The files by name, where the shelf tells them.
     ghost files: { Self → Option (List ℕ → Option (List ℕ)) };
 
@@ -54,6 +68,10 @@ pub trait Shelf {
     /// Whether the file of a name is sure to load.
     ghost sure: { Self → List ℕ → Bool };
 
+    /// That a load of the file of a name, within a cap, answered so and led from one state to another. Each shelf says
+    /// what that is. To callers that are proved for every shelf, only a load shows it.
+    ghost loads: { Self → List ℕ → ℕ → Result Loaded ShelfFault → Self → Type 0 };
+
     /// The bytes of the file `name`, where they are at most `cap`.
     fn load(&mut self, name: &str, cap: usize) -> Result<Loaded, ShelfFault>
         // It gives no more than it was asked for, whether it tells its files or not.
@@ -61,6 +79,7 @@ pub trait Shelf {
         // What it gives is what the files say, and a name that isn't there gives nothing.
         ensures told { IfOk result (λ loaded. IfSome (files self.old) (λ held.
             option_map (loaded_of cap) (held name.now) ≡ Some loaded)) }
+        ensures loaded { loads self.old name.now cap result self.new }
         ensures same { files self.new ≡ files self.old }
         ensures counts { faults self.old ≤ faults self.new }
         ensures failed { IsErrOf result Failed → Rose (faults self.old) (faults self.new) }
