@@ -1,3 +1,4 @@
+use cert_text::CertFault;
 use page_build::JobRefusal;
 use std::alloc::{AllocError, AllocFailed};
 use std::io;
@@ -63,6 +64,15 @@ impl From<JobRefusal> for Fault {
         match refusal {
             JobRefusal::Mem => Fault::Mem,
             _ => Fault::NoCase,
+        }
+    }
+}
+
+impl From<CertFault> for Fault {
+    fn from(fault: CertFault) -> Self {
+        match fault {
+            CertFault::Mem => Fault::Mem,
+            CertFault::Grammar(_) => Fault::NoCase,
         }
     }
 }

@@ -1,25 +1,16 @@
 use crate::faults::Fault;
 use crate::json::text_at;
 use cert_check::check_leaf;
-use cert_text::{Cert, CertFault, CertNode, read_cert};
+use cert_text::{CertNode, read_cert};
 use page_build::build_job;
 use serde_json::Value;
 use std::alloc::Global;
 use sym_calc::{Path, Sym};
 
-/// The certificate that a text spells.
-fn certificate(alloc: Global, text: &str) -> Result<Cert, Fault> {
-    match read_cert(alloc, text.as_bytes()) {
-        Ok(cert) => Ok(cert),
-        Err(CertFault::Mem) => Err(Fault::Mem),
-        Err(CertFault::Grammar(_)) => Err(Fault::NoCase),
-    }
-}
-
 /// The verdict on a certificate of one leaf, given the job and the certificate.
 pub fn judged(alloc: Global, case: &Value) -> Result<String, Fault> {
     let job = build_job(alloc, text_at(case, 1)?.as_bytes())?;
-    let cert = certificate(alloc, text_at(case, 2)?)?;
+    let cert = read_cert(alloc, text_at(case, 2)?.as_bytes())?;
     let CertNode::Leaf(answers) = &cert.root else {
         return Err(Fault::NoCase);
     };
