@@ -13,7 +13,7 @@ use Rattle.vizlog.specs.declared.status.Status.TheVariants as ends
 use Rattle.vizlog.specs.declared.words.Command.{Command}
 use Rattle.vizlog.specs.declared.words.Command.TheVariants as asks_for
 use Rattle.vizlog.specs.Words.{AreOfGenerated, Asks, word_at}
-use Rattle.vizlog.specs.Files.{Files}
+use Rattle.vizlog.specs.Files.{Shelved}
 use Rattle.vizlog.specs.Run.{IsCheckOfFile, IsReplied, Sunk, IsWritten, Obeys, IsOutcome}
 use Rattle.vizlog.specs.Headline.{IsTrueOfFile, IsFalseOfFile, IsTrueOfGenerated, IsFalseOfGenerated}
 use Rattle.vizlog.specs.steps.Loads.{IsFileless, IsSureCert, IsSureJob}
@@ -74,51 +74,53 @@ cert_word sure words (asks_for.Trial seed sections turns) asks is = tt
 
 -- ---- replies
 
-accepted_on : (files : Files) (cert bytes output : List ℕ) → IsRefusal bytes gives.Done output ⊎ IsCheckOfFile files cert bytes gives.Done output
+accepted_on : {F : Type 0} (shelf : Shelved F) (between : F) (cert bytes output : List ℕ)
+    → ((shelf.new ≡ between) × IsRefusal bytes gives.Done output) ⊎ IsCheckOfFile shelf between cert bytes gives.Done output
     → IsTrueEverywhere bytes
-accepted_on files cert bytes output (inl refusal) = absurd (let other = refusal.refused in cc)
-accepted_on files cert bytes output (inr found) =
+accepted_on shelf between cert bytes output (inl (same, refusal)) = absurd (let other = refusal.refused in cc)
+accepted_on shelf between cert bytes output (inr found) =
     accepts bytes found.cert_bytes (question.Check found.cert_bytes) gives.Done output (inl found.reply) refl refl
 
-checks_reply : (files : Files) (c : Command) (words : List (List ℕ)) (output : List ℕ) → Asks words c → letter c ≡ 99
-    → IsReplied files c gives.Done output → IsTrueOfFile files (word_at words 1)
-checks_reply files (asks_for.Lay job screen) words output asks verb reply = absurd (omega arith)
-checks_reply files (asks_for.Prove job turns) words output asks verb reply = absurd (omega arith)
-checks_reply files (asks_for.Check job cert) words output asks verb reply =
+checks_reply : {F : Type 0} (shelf : Shelved F) (c : Command) (words : List (List ℕ)) (output : List ℕ) → Asks words c → letter c ≡ 99
+    → IsReplied shelf c gives.Done output → IsTrueOfFile shelf (word_at words 1)
+checks_reply shelf (asks_for.Lay job screen) words output asks verb reply = absurd (omega arith)
+checks_reply shelf (asks_for.Prove job turns) words output asks verb reply = absurd (omega arith)
+checks_reply shelf (asks_for.Check job cert) words output asks verb reply =
     let name = ap (λ ws. word_at ws 1) asks.words_are in
-    rw name (record { bytes = reply.bytes; told = reply.told; holds = accepted_on files cert.now reply.bytes output reply.reply })
-checks_reply files (asks_for.Gen seed sections) words output asks verb reply = absurd (omega arith)
-checks_reply files (asks_for.Trial seed sections turns) words output asks verb reply = absurd (omega arith)
+    let holds = accepted_on shelf reply.between cert.now reply.bytes output reply.reply in
+    rw name (record { bytes = reply.bytes; between = reply.between; given = reply.given; holds = holds })
+checks_reply shelf (asks_for.Gen seed sections) words output asks verb reply = absurd (omega arith)
+checks_reply shelf (asks_for.Trial seed sections turns) words output asks verb reply = absurd (omega arith)
 
-proves_reply : (files : Files) (c : Command) (words : List (List ℕ)) (output : List ℕ) → Asks words c → letter c ≡ 112
-    → IsReplied files c gives.Done output → IsTrueOfFile files (word_at words 1)
-proves_reply files (asks_for.Lay job screen) words output asks verb reply = absurd (omega arith)
-proves_reply files (asks_for.Prove job turns) words output asks verb reply =
+proves_reply : {F : Type 0} (shelf : Shelved F) (c : Command) (words : List (List ℕ)) (output : List ℕ) → Asks words c → letter c ≡ 112
+    → IsReplied shelf c gives.Done output → IsTrueOfFile shelf (word_at words 1)
+proves_reply shelf (asks_for.Lay job screen) words output asks verb reply = absurd (omega arith)
+proves_reply shelf (asks_for.Prove job turns) words output asks verb reply =
     let name = ap (λ ws. word_at ws 1) asks.words_are in
     let holds = proves_true reply.bytes turns (question.Prove turns) gives.Done output reply.reply refl refl in
-    rw name (record { bytes = reply.bytes; told = reply.told; holds = holds })
-proves_reply files (asks_for.Check job cert) words output asks verb reply = absurd (omega arith)
-proves_reply files (asks_for.Gen seed sections) words output asks verb reply = absurd (omega arith)
-proves_reply files (asks_for.Trial seed sections turns) words output asks verb reply = absurd (omega arith)
+    rw name (record { bytes = reply.bytes; between = shelf.new; given = reply.given; holds = holds })
+proves_reply shelf (asks_for.Check job cert) words output asks verb reply = absurd (omega arith)
+proves_reply shelf (asks_for.Gen seed sections) words output asks verb reply = absurd (omega arith)
+proves_reply shelf (asks_for.Trial seed sections turns) words output asks verb reply = absurd (omega arith)
 
-violates_reply : (files : Files) (c : Command) (words : List (List ℕ)) (old new : Option (List ℕ)) (output : List ℕ) → Asks words c
-    → letter c ≡ 112 → IsReplied files c gives.Violated output → new ≡ grown old output → IsFalseOfFile files (word_at words 1) old new
-violates_reply files (asks_for.Lay job screen) words old new output asks verb reply written = absurd (omega arith)
-violates_reply files (asks_for.Prove job turns) words old new output asks verb reply written =
+violates_reply : {F : Type 0} (shelf : Shelved F) (c : Command) (words : List (List ℕ)) (old new : Option (List ℕ)) (output : List ℕ) → Asks words c
+    → letter c ≡ 112 → IsReplied shelf c gives.Violated output → new ≡ grown old output → IsFalseOfFile shelf (word_at words 1) old new
+violates_reply shelf (asks_for.Lay job screen) words old new output asks verb reply written = absurd (omega arith)
+violates_reply shelf (asks_for.Prove job turns) words old new output asks verb reply written =
     let name = ap (λ ws. word_at ws 1) asks.words_are in
     let untrue = violates reply.bytes (question.Prove turns) gives.Violated output reply.reply refl in
-    rw name (record { bytes = reply.bytes; told = reply.told; output = output; untrue = untrue; written = written })
-violates_reply files (asks_for.Check job cert) words old new output asks verb reply written = absurd (omega arith)
-violates_reply files (asks_for.Gen seed sections) words old new output asks verb reply written = absurd (omega arith)
-violates_reply files (asks_for.Trial seed sections turns) words old new output asks verb reply written = absurd (omega arith)
+    rw name (record { bytes = reply.bytes; given = reply.given; output = output; untrue = untrue; written = written })
+violates_reply shelf (asks_for.Check job cert) words old new output asks verb reply written = absurd (omega arith)
+violates_reply shelf (asks_for.Gen seed sections) words old new output asks verb reply written = absurd (omega arith)
+violates_reply shelf (asks_for.Trial seed sections turns) words old new output asks verb reply written = absurd (omega arith)
 
-tries_reply : (files : Files) (c : Command) (words : List (List ℕ)) (output : List ℕ) → Asks words c → letter c ≡ 116
-    → IsReplied files c gives.Done output → IsTrueOfGenerated words
-tries_reply files (asks_for.Lay job screen) words output asks verb reply = absurd (omega arith)
-tries_reply files (asks_for.Prove job turns) words output asks verb reply = absurd (omega arith)
-tries_reply files (asks_for.Check job cert) words output asks verb reply = absurd (omega arith)
-tries_reply files (asks_for.Gen seed sections) words output asks verb reply = absurd (omega arith)
-tries_reply files (asks_for.Trial seed sections turns) words output asks verb reply = record {
+tries_reply : {F : Type 0} (shelf : Shelved F) (c : Command) (words : List (List ℕ)) (output : List ℕ) → Asks words c → letter c ≡ 116
+    → IsReplied shelf c gives.Done output → IsTrueOfGenerated words
+tries_reply shelf (asks_for.Lay job screen) words output asks verb reply = absurd (omega arith)
+tries_reply shelf (asks_for.Prove job turns) words output asks verb reply = absurd (omega arith)
+tries_reply shelf (asks_for.Check job cert) words output asks verb reply = absurd (omega arith)
+tries_reply shelf (asks_for.Gen seed sections) words output asks verb reply = absurd (omega arith)
+tries_reply shelf (asks_for.Trial seed sections turns) words output asks verb reply = record {
   seed = seed;
   seed_is = ap (λ ws. word_at ws 1) asks.words_are;
   sections = sections.count;
@@ -126,13 +128,13 @@ tries_reply files (asks_for.Trial seed sections turns) words output asks verb re
   holds = trial_proves (job_text seed sections.count) turns gives.Done output reply refl;
 }
 
-fails_reply : (files : Files) (c : Command) (words : List (List ℕ)) (old new : Option (List ℕ)) (output : List ℕ) → Asks words c
-    → letter c ≡ 116 → IsReplied files c gives.Violated output → new ≡ grown old output → IsFalseOfGenerated words old new
-fails_reply files (asks_for.Lay job screen) words old new output asks verb reply written = absurd (omega arith)
-fails_reply files (asks_for.Prove job turns) words old new output asks verb reply written = absurd (omega arith)
-fails_reply files (asks_for.Check job cert) words old new output asks verb reply written = absurd (omega arith)
-fails_reply files (asks_for.Gen seed sections) words old new output asks verb reply written = absurd (omega arith)
-fails_reply files (asks_for.Trial seed sections turns) words old new output asks verb reply written = record {
+fails_reply : {F : Type 0} (shelf : Shelved F) (c : Command) (words : List (List ℕ)) (old new : Option (List ℕ)) (output : List ℕ) → Asks words c
+    → letter c ≡ 116 → IsReplied shelf c gives.Violated output → new ≡ grown old output → IsFalseOfGenerated words old new
+fails_reply shelf (asks_for.Lay job screen) words old new output asks verb reply written = absurd (omega arith)
+fails_reply shelf (asks_for.Prove job turns) words old new output asks verb reply written = absurd (omega arith)
+fails_reply shelf (asks_for.Check job cert) words old new output asks verb reply written = absurd (omega arith)
+fails_reply shelf (asks_for.Gen seed sections) words old new output asks verb reply written = absurd (omega arith)
+fails_reply shelf (asks_for.Trial seed sections turns) words old new output asks verb reply written = record {
   seed = seed;
   seed_is = ap (λ ws. word_at ws 1) asks.words_are;
   sections = sections.count;
@@ -145,60 +147,60 @@ fails_reply files (asks_for.Trial seed sections turns) words old new output asks
 -- ---- runs
 
 -- a run that ends with an answer wrote the output that goes with it
-replied : {S : Type 0} (files : Files) (c : Command) (sink : Sunk S) (result : Status) (wanted : Answer) → Obeys files c sink result
-    → result ≡ ends.Replied wanted → (output : List ℕ) × IsReplied files c wanted output × IsWritten sink output
-replied files c sink result wanted (inl (answer, output, reply, inl (ended, written))) is =
+replied : {F S : Type 0} (shelf : Shelved F) (c : Command) (sink : Sunk S) (result : Status) (wanted : Answer) → Obeys shelf c sink result
+    → result ≡ ends.Replied wanted → (output : List ℕ) × IsReplied shelf c wanted output × IsWritten sink output
+replied shelf c sink result wanted (inl (answer, output, reply, inl (ended, written))) is =
     let same : answer ≡ wanted = cc in
     (output, rw same at reply, written)
-replied files c sink result wanted (inl (answer, output, reply, inr (ended, cut))) is = absurd (cc)
-replied files c sink result wanted (inr (inl (file, unread, inl (ended, written)))) is = absurd (cc)
-replied files c sink result wanted (inr (inl (file, unread, inr (ended, cut)))) is = absurd (cc)
-replied files c sink result wanted (inr (inr (ended, same))) is = absurd (cc)
+replied shelf c sink result wanted (inl (answer, output, reply, inr (ended, cut))) is = absurd (cc)
+replied shelf c sink result wanted (inr (inl (file, unread, inl (ended, written)))) is = absurd (cc)
+replied shelf c sink result wanted (inr (inl (file, unread, inr (ended, cut)))) is = absurd (cc)
+replied shelf c sink result wanted (inr (inr (ended, same))) is = absurd (cc)
 
 -- a run that ends with an answer has words of a command
-record Answers {S : Type 0} (files : Files) (words : List (List ℕ)) (sink : Sunk S) (wanted : Answer) : Type 0 where
+record Answers {F S : Type 0} (shelf : Shelved F) (words : List (List ℕ)) (sink : Sunk S) (wanted : Answer) : Type 0 where
   pub c : Command
   pub asks : Asks words c
   pub output : List ℕ
-  pub reply : IsReplied files c wanted output
+  pub reply : IsReplied shelf c wanted output
   pub written : IsWritten sink output
 
-answered : {S : Type 0} (files : Files) (words : List (List ℕ)) (sink : Sunk S) (result : Status) (wanted : Answer) → IsOutcome files words sink result
-    → result ≡ ends.Replied wanted → Answers files words sink wanted
-answered files words sink result wanted (inl (nothing, inl (ended, written))) is = absurd (cc)
-answered files words sink result wanted (inl (nothing, inr (ended, cut))) is = absurd (cc)
-answered files words sink result wanted (inr (c, asks, obeyed)) is =
-    let found = replied files c sink result wanted obeyed is in
+answered : {F S : Type 0} (shelf : Shelved F) (words : List (List ℕ)) (sink : Sunk S) (result : Status) (wanted : Answer) → IsOutcome shelf words sink result
+    → result ≡ ends.Replied wanted → Answers shelf words sink wanted
+answered shelf words sink result wanted (inl (nothing, same, inl (ended, written))) is = absurd (cc)
+answered shelf words sink result wanted (inl (nothing, same, inr (ended, cut))) is = absurd (cc)
+answered shelf words sink result wanted (inr (c, asks, obeyed)) is =
+    let found = replied shelf c sink result wanted obeyed is in
     record { c = c; asks = asks; output = found.0; reply = found.1; written = found.2 }
 
-pub run_accepts : {S : Type 0} (files : Files) (words : List (List ℕ)) (sink : Sunk S) (result : Status) → IsOutcome files words sink result
-    → result ≡ ends.Replied gives.Done → word_at words 0 ≡ codes "check" → IsTrueOfFile files (word_at words 1)
-run_accepts files words sink result outcome is verb =
-    let found = answered files words sink result gives.Done outcome is in
-    checks_reply files found.c words found.output found.asks (same_letter words found.c (codes "check") found.asks verb) found.reply
+pub run_accepts : {F S : Type 0} (shelf : Shelved F) (words : List (List ℕ)) (sink : Sunk S) (result : Status) → IsOutcome shelf words sink result
+    → result ≡ ends.Replied gives.Done → word_at words 0 ≡ codes "check" → IsTrueOfFile shelf (word_at words 1)
+run_accepts shelf words sink result outcome is verb =
+    let found = answered shelf words sink result gives.Done outcome is in
+    checks_reply shelf found.c words found.output found.asks (same_letter words found.c (codes "check") found.asks verb) found.reply
 
-pub run_proves : {S : Type 0} (files : Files) (words : List (List ℕ)) (sink : Sunk S) (result : Status) → IsOutcome files words sink result
-    → result ≡ ends.Replied gives.Done → word_at words 0 ≡ codes "prove" → IsTrueOfFile files (word_at words 1)
-run_proves files words sink result outcome is verb =
-    let found = answered files words sink result gives.Done outcome is in
-    proves_reply files found.c words found.output found.asks (same_letter words found.c (codes "prove") found.asks verb) found.reply
+pub run_proves : {F S : Type 0} (shelf : Shelved F) (words : List (List ℕ)) (sink : Sunk S) (result : Status) → IsOutcome shelf words sink result
+    → result ≡ ends.Replied gives.Done → word_at words 0 ≡ codes "prove" → IsTrueOfFile shelf (word_at words 1)
+run_proves shelf words sink result outcome is verb =
+    let found = answered shelf words sink result gives.Done outcome is in
+    proves_reply shelf found.c words found.output found.asks (same_letter words found.c (codes "prove") found.asks verb) found.reply
 
-pub run_violates : {S : Type 0} (files : Files) (words : List (List ℕ)) (sink : Sunk S) (result : Status) → IsOutcome files words sink result
+pub run_violates : {F S : Type 0} (shelf : Shelved F) (words : List (List ℕ)) (sink : Sunk S) (result : Status) → IsOutcome shelf words sink result
     → result ≡ ends.Replied gives.Violated → word_at words 0 ≡ codes "prove"
-    → IsFalseOfFile files (word_at words 1) (sink.written sink.old) (sink.written sink.new)
-run_violates files words sink result outcome is verb =
-    let found = answered files words sink result gives.Violated outcome is in
-    violates_reply files found.c words _ _ found.output found.asks (same_letter words found.c (codes "prove") found.asks verb) found.reply found.written.whole
+    → IsFalseOfFile shelf (word_at words 1) (sink.written sink.old) (sink.written sink.new)
+run_violates shelf words sink result outcome is verb =
+    let found = answered shelf words sink result gives.Violated outcome is in
+    violates_reply shelf found.c words _ _ found.output found.asks (same_letter words found.c (codes "prove") found.asks verb) found.reply found.written.whole
 
-pub run_tries : {S : Type 0} (files : Files) (words : List (List ℕ)) (sink : Sunk S) (result : Status) → IsOutcome files words sink result
+pub run_tries : {F S : Type 0} (shelf : Shelved F) (words : List (List ℕ)) (sink : Sunk S) (result : Status) → IsOutcome shelf words sink result
     → result ≡ ends.Replied gives.Done → word_at words 0 ≡ codes "trial" → IsTrueOfGenerated words
-run_tries files words sink result outcome is verb =
-    let found = answered files words sink result gives.Done outcome is in
-    tries_reply files found.c words found.output found.asks (same_letter words found.c (codes "trial") found.asks verb) found.reply
+run_tries shelf words sink result outcome is verb =
+    let found = answered shelf words sink result gives.Done outcome is in
+    tries_reply shelf found.c words found.output found.asks (same_letter words found.c (codes "trial") found.asks verb) found.reply
 
-pub run_fails : {S : Type 0} (files : Files) (words : List (List ℕ)) (sink : Sunk S) (result : Status) → IsOutcome files words sink result
+pub run_fails : {F S : Type 0} (shelf : Shelved F) (words : List (List ℕ)) (sink : Sunk S) (result : Status) → IsOutcome shelf words sink result
     → result ≡ ends.Replied gives.Violated → word_at words 0 ≡ codes "trial"
     → IsFalseOfGenerated words (sink.written sink.old) (sink.written sink.new)
-run_fails files words sink result outcome is verb =
-    let found = answered files words sink result gives.Violated outcome is in
-    fails_reply files found.c words _ _ found.output found.asks (same_letter words found.c (codes "trial") found.asks verb) found.reply found.written.whole
+run_fails shelf words sink result outcome is verb =
+    let found = answered shelf words sink result gives.Violated outcome is in
+    fails_reply shelf found.c words _ _ found.output found.asks (same_letter words found.c (codes "trial") found.asks verb) found.reply found.written.whole

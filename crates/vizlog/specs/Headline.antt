@@ -3,19 +3,23 @@ use Rattle.std.specs.Prelude.{◌≡◌, ℕ, List, Option, decimal}
 use Rattle.viz_outside.specs.Sink.{grown}
 use Rattle.page_gen.specs.Jobs.{job_text}
 use Rattle.viz_replies.specs.Headline.{IsTrueEverywhere, IsFalseWherePrinted, IsFalseWhereNamed}
-use Rattle.vizlog.specs.Files.{Files, MayHold}
+use Rattle.viz_replies.specs.Jobs.{job_most}
+use Rattle.vizlog.specs.Files.{Shelved, IsGiven}
 use Rattle.vizlog.specs.Words.{word_at}
 
--- the assertion of the file's job is true at every world of its range
-pub record IsTrueOfFile (files : Files) (name : List ℕ) : Type 0 where
+-- the first load was of the file of the name, and the assertion of the job that
+-- it gave is true at every world of its range
+pub record IsTrueOfFile {F : Type 0} (shelf : Shelved F) (name : List ℕ) : Type 0 where
   pub bytes : List ℕ
-  pub told : MayHold files name bytes
+  pub between : F
+  pub given : IsGiven shelf name job_most shelf.old between bytes
   pub holds : IsTrueEverywhere bytes
 
--- the assertion of the file's job is false at a world of its range, which was written with the boxes there
-pub record IsFalseOfFile (files : Files) (name : List ℕ) (old new : Option (List ℕ)) : Type 0 where
+-- the only load was of the file of the name, and the assertion of the job that it
+-- gave is false at a world of its range, which was written with the boxes there
+pub record IsFalseOfFile {F : Type 0} (shelf : Shelved F) (name : List ℕ) (old new : Option (List ℕ)) : Type 0 where
   pub bytes : List ℕ
-  pub told : MayHold files name bytes
+  pub given : IsGiven shelf name job_most shelf.old shelf.new bytes
   pub output : List ℕ
   pub untrue : IsFalseWherePrinted bytes output
   pub written : new ≡ grown old output

@@ -6,6 +6,8 @@ use Rattle.viz_replies.specs.declared.reply.Answer.{Answer}
 use Rattle.viz_replies.specs.declared.reply.Answer.TheVariants as gives
 use Rattle.viz_replies.specs.declared.question.Question.{Question}
 use Rattle.viz_replies.specs.declared.question.Question.TheVariants as asks
+use Rattle.viz_replies.specs.Jobs.{job_most}
+use Rattle.viz_replies.specs.Certificates.{cert_most}
 use Rattle.viz_replies.specs.Replies.{IsReply, IsReplyOnJob, IsRefusal}
 use Rattle.viz_replies.specs.Trials.{IsGenerated, IsTrial}
 use Rattle.vizlog.specs.declared.status.File.{File}
@@ -15,7 +17,7 @@ use Rattle.vizlog.specs.declared.status.Status.TheVariants as ends
 use Rattle.vizlog.specs.declared.words.Command.{Command}
 use Rattle.vizlog.specs.declared.words.Command.TheVariants as asks_for
 use Rattle.vizlog.specs.Words.{AskNothing, Asks}
-use Rattle.vizlog.specs.Files.{Files, MayHold, HoldsJob}
+use Rattle.vizlog.specs.Files.{Shelved, IsGiven, HoldsJob}
 
 -- the number that the program ends with
 abbrev pub code_of : Status → ℕ
@@ -31,41 +33,47 @@ code_of (ends.Replied gives.CertRefused) = 8
 
 -- ---- replies
 
--- the reply to a question about the job file of this name
-pub record IsReplyOfFile (files : Files) (name : List ℕ) (question : Question) (answer : Answer) (output : List ℕ)
-    : Type 0 where
+-- the only load was of the job file of this name, and this is the reply to a question about the bytes that it gave
+pub record IsReplyOfFile {F : Type 0} (shelf : Shelved F) (name : List ℕ) (question : Question) (answer : Answer)
+    (output : List ℕ) : Type 0 where
   pub bytes : List ℕ
-  pub told : MayHold files name bytes
+  pub given : IsGiven shelf name job_most shelf.old shelf.new bytes
   pub reply : IsReply bytes question answer output
 
--- the reply to `check` about the bytes of a job file that spell a job, and the certificate file of this name
-pub record IsCheckOfFile (files : Files) (cert bytes : List ℕ) (answer : Answer) (output : List ℕ) : Type 0 where
+-- from here on the only load was of the certificate file of this name, and this is the reply to
+-- `check` about the bytes of a job file, which spell a job, and the bytes that it gave
+pub record IsCheckOfFile {F : Type 0} (shelf : Shelved F) (here : F) (cert bytes : List ℕ) (answer : Answer)
+    (output : List ℕ) : Type 0 where
   pub cert_bytes : List ℕ
-  pub told : MayHold files cert cert_bytes
+  pub given : IsGiven shelf cert cert_most here shelf.new cert_bytes
   pub reply : IsReplyOnJob bytes (asks.Check cert_bytes) answer output
 
--- the reply to `check` about the files of these names; where the job file spells no job, no certificate is looked for
-pub record IsCheckOfFiles (files : Files) (job cert : List ℕ) (answer : Answer) (output : List ℕ) : Type 0 where
+-- the reply to `check` about the files of these names: the job file is loaded, and, where its bytes
+-- spell a job, the certificate file behind it
+pub record IsCheckOfFiles {F : Type 0} (shelf : Shelved F) (job cert : List ℕ) (answer : Answer) (output : List ℕ)
+    : Type 0 where
   pub bytes : List ℕ
-  pub told : MayHold files job bytes
-  pub reply : IsRefusal bytes answer output ⊎ IsCheckOfFile files cert bytes answer output
+  pub between : F
+  pub given : IsGiven shelf job job_most shelf.old between bytes
+  pub reply : ((shelf.new ≡ between) × IsRefusal bytes answer output)
+      ⊎ IsCheckOfFile shelf between cert bytes answer output
 
 -- the reply to a command
-abbrev pub IsReplied : Files → Command → Answer → List ℕ → Type 0
-IsReplied files (asks_for.Lay job screen) answer output = IsReplyOfFile files job.now (asks.Lay screen) answer output
-IsReplied files (asks_for.Prove job turns) answer output = IsReplyOfFile files job.now (asks.Prove turns) answer output
-IsReplied files (asks_for.Check job cert) answer output = IsCheckOfFiles files job.now cert.now answer output
-IsReplied files (asks_for.Gen seed sections) answer output = IsGenerated seed sections.count answer output
-IsReplied files (asks_for.Trial seed sections turns) answer output = IsTrial seed sections.count turns answer output
+abbrev pub IsReplied : {F : Type 0} → Shelved F → Command → Answer → List ℕ → Type 0
+IsReplied shelf (asks_for.Lay job screen) answer output = IsReplyOfFile shelf job.now (asks.Lay screen) answer output
+IsReplied shelf (asks_for.Prove job turns) answer output = IsReplyOfFile shelf job.now (asks.Prove turns) answer output
+IsReplied shelf (asks_for.Check job cert) answer output = IsCheckOfFiles shelf job.now cert.now answer output
+IsReplied shelf (asks_for.Gen seed sections) answer output = IsGenerated seed sections.count answer output
+IsReplied shelf (asks_for.Trial seed sections turns) answer output = IsTrial seed sections.count turns answer output
 
 -- the file that could not be read: the job file, or a certificate file, which is looked
 -- for where the job file spells a job; about a generated job no file is read
-abbrev pub IsUnread : Files → Command → File → Type 0
-IsUnread files (asks_for.Lay job screen) of_the.Job = Unit {0}
-IsUnread files (asks_for.Prove job turns) of_the.Job = Unit {0}
-IsUnread files (asks_for.Check job cert) of_the.Job = Unit {0}
-IsUnread files (asks_for.Check job cert) of_the.Certificate = HoldsJob files job.now
-IsUnread files c file = ⊥
+abbrev pub IsUnread : {F : Type 0} → Shelved F → Command → File → Type 0
+IsUnread shelf (asks_for.Lay job screen) of_the.Job = Unit {0}
+IsUnread shelf (asks_for.Prove job turns) of_the.Job = Unit {0}
+IsUnread shelf (asks_for.Check job cert) of_the.Job = Unit {0}
+IsUnread shelf (asks_for.Check job cert) of_the.Certificate = HoldsJob shelf job.now
+IsUnread shelf c file = ⊥
 
 -- ---- output
 
@@ -95,23 +103,23 @@ Delivers sink result status output =
 -- ---- runs
 
 -- a command was replied to
-abbrev pub Replies : {S : Type 0} → Files → Command → Sunk S → Status → Type 0
-Replies files c sink result =
-    (answer : Answer) × (output : List ℕ) × IsReplied files c answer output
+abbrev pub Replies : {F S : Type 0} → Shelved F → Command → Sunk S → Status → Type 0
+Replies shelf c sink result =
+    (answer : Answer) × (output : List ℕ) × IsReplied shelf c answer output
     × Delivers sink result (ends.Replied answer) output
 
 -- a file could not be read
-abbrev pub Misses : {S : Type 0} → Files → Command → Sunk S → Status → Type 0
-Misses files c sink result = (file : File) × IsUnread files c file
+abbrev pub Misses : {F S : Type 0} → Shelved F → Command → Sunk S → Status → Type 0
+Misses shelf c sink result = (file : File) × IsUnread shelf c file
     × Delivers sink result (ends.ReadFault file) (codes "read-fault\n")
 
 -- a command was replied to, or a file could not be read, or memory was wanted and the sink not called
-abbrev pub Obeys : {S : Type 0} → Files → Command → Sunk S → Status → Type 0
-Obeys files c sink result = Replies files c sink result
-    ⊎ (Misses files c sink result ⊎ ((result ≡ ends.Memory) × (sink.new ≡ sink.old)))
+abbrev pub Obeys : {F S : Type 0} → Shelved F → Command → Sunk S → Status → Type 0
+Obeys shelf c sink result = Replies shelf c sink result
+    ⊎ (Misses shelf c sink result ⊎ ((result ≡ ends.Memory) × (sink.new ≡ sink.old)))
 
--- how a run ends: words of no form are answered by one line, and a command is replied to
-abbrev pub IsOutcome : {S : Type 0} → Files → List (List ℕ) → Sunk S → Status → Type 0
-IsOutcome files words sink result =
-    (AskNothing words × Delivers sink result ends.Usage (codes "usage\n"))
-    ⊎ ((c : Command) × Asks words c × Obeys files c sink result)
+-- how a run ends: words of no form are answered by one line, with no load, and a command is replied to
+abbrev pub IsOutcome : {F S : Type 0} → Shelved F → List (List ℕ) → Sunk S → Status → Type 0
+IsOutcome shelf words sink result =
+    (AskNothing words × (shelf.new ≡ shelf.old) × Delivers sink result ends.Usage (codes "usage\n"))
+    ⊎ ((c : Command) × Asks words c × Obeys shelf c sink result)

@@ -1,7 +1,8 @@
 ghost use Rattle.std.specs.Prelude.{◌≡◌, ◌≤◌, ℕ, List, IfOk, IsErrOf, IsTrue};
 ghost use Rattle.viz_outside.specs.Fault.{Rose};
 ghost use Rattle.viz_replies.specs.Replies.{IsReplyAbout};
-ghost use Rattle.vizlog.specs.Files.{HoldsJob, MayHold};
+ghost use Rattle.viz_replies.specs.Certificates.{cert_most};
+ghost use Rattle.vizlog.specs.Files.{HoldsJob, IsGiven, shelved};
 ghost use Rattle.vizlog.specs.Run.{IsCheckOfFiles, IsReplied, IsReplyOfFile, IsUnread};
 ghost use Rattle.vizlog.specs.steps.Loads.{IsFileless, IsJobFile, IsSureCert, IsSureJob};
 
@@ -17,7 +18,7 @@ use viz_replies::{
 
 /// What the job file of this name comes to.
 fn load_job<F: Shelf>(alloc: Global, name: &str, shelf: &mut F) -> Result<JobRead, ShelfFault>
-    ensures file { IfOk result (IsJobFile (F.files shelf.old) name.now) }
+    ensures file { IfOk result (IsJobFile (shelved F.files F.loads shelf.old shelf.new) name.now) }
     ensures files { F.files shelf.new ≡ F.files shelf.old }
     ensures failed { IsErrOf result ShelfFault.Failed → Rose (F.faults shelf.old) (F.faults shelf.new) }
     ensures sure { IsTrue (F.sure shelf.old name.now) → ¬ IsErrOf result ShelfFault.Failed }
@@ -39,7 +40,8 @@ fn reply_by_file<F: Shelf>(
     name: &str,
     shelf: &mut F,
 ) -> Result<Reply, ShelfFault>
-    ensures reply { IfOk result (λ r. (bytes : _) × MayHold (F.files shelf.old) name.now bytes
+    ensures reply { IfOk result (λ r. (bytes : _)
+        × IsGiven (shelved F.files F.loads shelf.old shelf.new) name.now cert_most shelf.old shelf.new bytes
         × IsReplyAbout job.now (Question.Check bytes) r.answer r.output.items) }
     ensures failed { IsErrOf result ShelfFault.Failed → Rose (F.faults shelf.old) (F.faults shelf.new) }
     ensures sure { IsTrue (F.sure shelf.old name.now) → ¬ IsErrOf result ShelfFault.Failed }
@@ -79,7 +81,8 @@ fn reply_of_file<F: Shelf>(
     question: &Question,
     shelf: &mut F,
 ) -> Result<Reply, NoReply>
-    ensures reply { IfOk result (λ r. IsReplyOfFile (F.files shelf.old) name.now question.now r.answer r.output.items) }
+    ensures reply { IfOk result (λ r.
+        IsReplyOfFile (shelved F.files F.loads shelf.old shelf.new) name.now question.now r.answer r.output.items) }
     ensures unread { IsErrOf result (NoReply.Unread File.Job) → Rose (F.faults shelf.old) (F.faults shelf.new) }
     ensures sure { IsTrue (F.sure shelf.old name.now) → ¬ IsErrOf result (NoReply.Unread File.Job) }
     ensures one_file { ¬ IsErrOf result (NoReply.Unread File.Certificate) }
@@ -100,10 +103,12 @@ fn check_of_files<F: Shelf>(
     cert: &str,
     shelf: &mut F,
 ) -> Result<Reply, NoReply>
-    ensures reply { IfOk result (λ r. IsCheckOfFiles (F.files shelf.old) job.now cert.now r.answer r.output.items) }
+    ensures reply { IfOk result (λ r.
+        IsCheckOfFiles (shelved F.files F.loads shelf.old shelf.new) job.now cert.now r.answer r.output.items) }
     ensures job_unread { IsErrOf result (NoReply.Unread File.Job) → Rose (F.faults shelf.old) (F.faults shelf.new) }
     ensures cert_unread { IsErrOf result (NoReply.Unread File.Certificate)
-        → HoldsJob (F.files shelf.old) job.now × Rose (F.faults shelf.old) (F.faults shelf.new) }
+        → HoldsJob (shelved F.files F.loads shelf.old shelf.new) job.now
+        × Rose (F.faults shelf.old) (F.faults shelf.new) }
     ensures job_sure { IsTrue (F.sure shelf.old job.now) → ¬ IsErrOf result (NoReply.Unread File.Job) }
     ensures cert_sure { IsTrue (F.sure shelf.old cert.now) → ¬ IsErrOf result (NoReply.Unread File.Certificate) }
     ensures unlooked { IsTrue (F.sure shelf.old job.now) → IfOk result (λ r.
@@ -127,11 +132,14 @@ pub fn reply_over<F: Shelf>(
     command: Command,
     shelf: &mut F,
 ) -> Result<Reply, NoReply>
-    ensures reply { IfOk result (λ r. IsReplied (F.files shelf.old) command.entry r.answer r.output.items) }
+    ensures reply { IfOk result (λ r.
+        IsReplied (shelved F.files F.loads shelf.old shelf.new) command.entry r.answer r.output.items) }
     ensures job_unread { IsErrOf result (NoReply.Unread File.Job)
-        → IsUnread (F.files shelf.old) command.entry File.Job × Rose (F.faults shelf.old) (F.faults shelf.new) }
+        → IsUnread (shelved F.files F.loads shelf.old shelf.new) command.entry File.Job
+        × Rose (F.faults shelf.old) (F.faults shelf.new) }
     ensures cert_unread { IsErrOf result (NoReply.Unread File.Certificate)
-        → IsUnread (F.files shelf.old) command.entry File.Certificate × Rose (F.faults shelf.old) (F.faults shelf.new) }
+        → IsUnread (shelved F.files F.loads shelf.old shelf.new) command.entry File.Certificate
+        × Rose (F.faults shelf.old) (F.faults shelf.new) }
     ensures job_sure { IsSureJob (F.sure shelf.old) command.entry → ¬ IsErrOf result (NoReply.Unread File.Job) }
     ensures cert_sure { IsSureCert (F.sure shelf.old) command.entry
         → ¬ IsErrOf result (NoReply.Unread File.Certificate) }

@@ -1,6 +1,7 @@
 ghost use Rattle.std.specs.Prelude.{◌≡◌, ◌≢◌, codes, IsTrue, map, string_bytes};
 ghost use Rattle.viz_outside.specs.Fault.{Rose};
 ghost use Rattle.vizlog.specs.Words.{AreOfGenerated, word_at};
+ghost use Rattle.vizlog.specs.Files.{shelved};
 ghost use Rattle.vizlog.specs.Run.{Delivers, Obeys, IsOutcome};
 ghost use Rattle.vizlog.specs.steps.Loads.{IsFileless, IsSureCert, IsSureJob};
 ghost use Rattle.vizlog.specs.Headline.{IsTrueOfFile, IsFalseOfFile, IsTrueOfGenerated, IsFalseOfGenerated};
@@ -28,7 +29,7 @@ fn deliver<K: Sink>(sink: &mut K, status: Status, output: &[u8]) -> Status
 
 /// Replies to a command, if there is memory.
 fn obey<F: Shelf, K: Sink>(alloc: Global, command: Command, shelf: &mut F, sink: &mut K) -> Status
-    ensures outcome { Obeys (F.files shelf.old) command.entry
+    ensures outcome { Obeys (shelved F.files F.loads shelf.old shelf.new) command.entry
         (record { written = K.written; faults = K.faults; old = sink.old; new = sink.new }) result }
     ensures read_fault { (file : File) → result ≡ Status.ReadFault file
         → Rose (F.faults shelf.old) (F.faults shelf.new) }
@@ -48,7 +49,7 @@ fn obey<F: Shelf, K: Sink>(alloc: Global, command: Command, shelf: &mut F, sink:
 
 /// What `run` does, with its outcome alone.
 fn answer<F: Shelf, K: Sink>(alloc: Global, words: &[String], shelf: &mut F, sink: &mut K) -> Status
-    ensures outcome { IsOutcome (F.files shelf.old) (map string_bytes words.now)
+    ensures outcome { IsOutcome (shelved F.files F.loads shelf.old shelf.new) (map string_bytes words.now)
         (record { written = K.written; faults = K.faults; old = sink.old; new = sink.new }) result }
     ensures read_fault { (file : File) → result ≡ Status.ReadFault file
         → Rose (F.faults shelf.old) (F.faults shelf.new) }
@@ -76,13 +77,13 @@ pub fn run<F: Shelf, K: Sink>(
 ) -> Status
     // Where `check` accepts, the job's assertion is true of the CSS 2.1 rendering at every world of its range.
     ensures accepted { result ≡ Status.Replied Answer.Done → word_at (map string_bytes words.now) 0 ≡ codes "check"
-        → IsTrueOfFile (F.files shelf.old) (word_at (map string_bytes words.now) 1) }
+        → IsTrueOfFile (shelved F.files F.loads shelf.old shelf.new) (word_at (map string_bytes words.now) 1) }
     // So it is where `prove` says that it is proved,
     ensures proved { result ≡ Status.Replied Answer.Done → word_at (map string_bytes words.now) 0 ≡ codes "prove"
-        → IsTrueOfFile (F.files shelf.old) (word_at (map string_bytes words.now) 1) }
+        → IsTrueOfFile (shelved F.files F.loads shelf.old shelf.new) (word_at (map string_bytes words.now) 1) }
     // and where `prove` says that it is violated, it is false at the world of the range that is written.
     ensures violated { result ≡ Status.Replied Answer.Violated → word_at (map string_bytes words.now) 0 ≡ codes "prove"
-        → IsFalseOfFile (F.files shelf.old) (word_at (map string_bytes words.now) 1)
+        → IsFalseOfFile (shelved F.files F.loads shelf.old shelf.new) (word_at (map string_bytes words.now) 1)
         (K.written sink.old) (K.written sink.new) }
     // What `trial` says is so of the job that is generated.
     ensures trial_proved { result ≡ Status.Replied Answer.Done → word_at (map string_bytes words.now) 0 ≡ codes "trial"
@@ -91,7 +92,7 @@ pub fn run<F: Shelf, K: Sink>(
         → word_at (map string_bytes words.now) 0 ≡ codes "trial"
         → IsFalseOfGenerated (map string_bytes words.now) (K.written sink.old) (K.written sink.new) }
     // The words are of no form, or the reply to the command that they ask for is written.
-    ensures outcome { IsOutcome (F.files shelf.old) (map string_bytes words.now)
+    ensures outcome { IsOutcome (shelved F.files F.loads shelf.old shelf.new) (map string_bytes words.now)
         (record { written = K.written; faults = K.faults; old = sink.old; new = sink.new }) result }
     ensures read_fault { (file : File) → result ≡ Status.ReadFault file
         → Rose (F.faults shelf.old) (F.faults shelf.new) }

@@ -6,17 +6,17 @@ pub returns-in-Ok-clause-reply : goal.returns-in-Ok-clause-reply
 returns-in-Ok-clause-reply g c =
     let file = rw c.in-Ok-Read.field-0-is at c.in-Ok-Read.ensures.file in
     let about = rw c.in-Ok-Read.ensures.files at c.in-Ok.ensures.reply in
-    checked_about (g.F.Shelf.files c.args.shelf.now) c.args.job.now c.args.cert.now c.in-Ok-Read.job _ _ file about
+    checked_about (record { files = g.F.Shelf.files c.args.shelf.now; loads = g.F.Shelf.loads; old = c.args.shelf.now; new = _ }) c.args.job.now c.args.cert.now _ c.in-Ok-Read.job _ _ file about
 
 pub returns-in-Ok-Refused-clause-reply : goal.returns-in-Ok-Refused-clause-reply
 returns-in-Ok-Refused-clause-reply g c =
     let file = rw c.in-Ok-Refused.field-0-is at c.in-Ok-Refused.ensures.file in
-    check_refused (g.F.Shelf.files c.args.shelf.now) c.args.job.now c.args.cert.now c.in-Ok-Refused.refusal file
+    check_refused (record { files = g.F.Shelf.files c.args.shelf.now; loads = g.F.Shelf.loads; old = c.args.shelf.now; new = _ }) c.args.job.now c.args.cert.now c.in-Ok-Refused.refusal file
 
 pub returns-in-Err-Failed-reply_by_file-clause-cert_unread : goal.returns-in-Err-Failed-reply_by_file-clause-cert_unread
 returns-in-Err-Failed-reply_by_file-clause-cert_unread g c = λ _.
     let file = rw c.in-Ok-Read.field-0-is at c.in-Ok-Read.ensures.file in
     let failed = rw c.in-Err-Failed-reply_by_file.field-0-is at c.in-Err-Failed-reply_by_file.ensures.failed in (
-      holds_job (g.F.Shelf.files c.args.shelf.now) c.args.job.now c.in-Ok-Read.job file,
+      holds_job (record { files = g.F.Shelf.files c.args.shelf.now; loads = g.F.Shelf.loads; old = c.args.shelf.now; new = _ }) c.args.job.now _ c.in-Ok-Read.job file,
       rose_later _ _ _ c.in-Ok-Read.ensures.counts c.in-Err-Failed-reply_by_file.ensures.counts (failed refl),
     )
