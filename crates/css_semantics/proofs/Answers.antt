@@ -2,6 +2,7 @@
 use Rattle.std.proofs.Common.{◌≡◌, ℕ, ◌<◌, ◌≤◌, Bool, true, false, cond, not, ◌||◌, List, [], ◌∷◌, ◌++◌, length, Result, Ok, Err, refl, sym, ◌∙◌, ap, subst, ◌⊎◌, inl, inr, arith, append_assoc, nat_lt}
 use Rattle.std.specs.List.{list_any}
 use Rattle.std.proofs.lemmas.List.{append-nil}
+use Rattle.std.proofs.lemmas.Bool.{ltb-true, ltb-false}
 use Rattle.std.proofs.lemmas.Bool.Decides.{nat_tests}
 use Rattle.css_semantics.specs.Pieces.{Token}
 use Rattle.viz_base.specs.declared.sheets.Rule.{Rule}
@@ -157,17 +158,11 @@ refused_answer ss Page h = let e : false ≡ true = h.refused in absurd (false_t
 refused_answer ss (MediaQuery place) h = (Err (media_at place), refused_query h)
 refused_answer ss (Media held) h = let e : false ≡ true = h.refused in absurd (false_true e)
 
-lt_of : (n m : ℕ) → nat_lt n m ≡ true → n < m
-lt_of n m h = grind (arith, nat_tests)
-
-le_of : (n m : ℕ) → nat_lt n m ≡ false → m ≤ n
-le_of n m h = grind (arith, nat_tests)
-
 some_answer : (ss : List Statement) → Judged ss → (answer : Result (List Rule) Refusal) × IsAnswer ss answer
 some_answer ss (inl h) =
     by_bool (nat_lt 8192 (length (rules_of ss)))
-    (λ e. (Err too_many, too_long h (lt_of _ _ e)))
-    (λ e. (Ok (rules_of ss), rules_are h (le_of _ _ e)))
+    (λ e. (Err too_many, too_long h (ltb-true _ _ e)))
+    (λ e. (Ok (rules_of ss), rules_are h (ltb-false _ _ e)))
 some_answer ss (inr h) = refused_answer ss h.0 h.1
 
 pub is_answer : (ss : List Statement) → IsAnswer ss (read_on true [] ss)

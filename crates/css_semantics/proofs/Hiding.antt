@@ -3,8 +3,7 @@ use Rattle.std.proofs.Common.{◌≡◌, ℕ, ◌+◌, ◌<◌, ◌≤◌, zero,
 use Rattle.std.specs.Prelude.{nat_lt}
 use Rattle.std.specs.List.{list_any}
 use Rattle.std.specs.Option.{option_map_or}
-use Rattle.std.proofs.lemmas.Bool.{cases_lt, or_cases, or_left, or_right}
-use Rattle.std.proofs.lemmas.Bool.Decides.{nat_tests}
+use Rattle.std.proofs.lemmas.Bool.{cases_lt, ltb-true, or_cases, or_left, or_right}
 use Rattle.std.proofs.lemmas.List.Folds.{list_any-append}
 use Rattle.std.proofs.lemmas.Option.{same_Some, slice_get-get_or, slice_get_within}
 use Rattle.viz_base.specs.Pages.{IsPage, is_element_at, parent_fits}
@@ -84,11 +83,8 @@ first_true : (a b : Bool) → (a && b) ≡ true → a ≡ true
 first_true true b e = refl
 first_true false b e = cc
 
-below : (p n : ℕ) → nat_lt p n ≡ true → p < n
-below p n t = grind (arith, nat_tests)
-
 parent_before : (nodes : List Node) → IsPage nodes → (p n : ℕ) → IsParent nodes p n → p < n
-parent_before nodes page p n h = below p n (first_true (nat_lt p n) (is_element_at nodes p) (subst (λ o. IsTrue (parent_fits nodes n o)) h.2 (page.parents n h.0 h.1)))
+parent_before nodes page p n h = ltb-true p n (first_true (nat_lt p n) (is_element_at nodes p) (subst (λ o. IsTrue (parent_fits nodes n o)) h.2 (page.parents n h.0 h.1)))
 
 ancestor_before : {nodes : List Node} {top n : ℕ} → IsPage nodes → IsAncestor nodes top n → top < n
 ancestor_before {nodes} {top} {n} page (IsAncestor.parent h) = parent_before nodes page top n h

@@ -2,7 +2,7 @@
 use Rattle.std.proofs.Common.{◌≡◌, ◌≢◌, ℕ, zero, suc, ◌<◌, ◌≤◌, nat_lt, Bool, true, false, List, [], ◌∷◌, ◌++◌, map, take, length, Option, Some, None, slice_get, refl, sym, ◌∙◌, ap, subst, arith, take_all, lt-ltb, ltb-true, inl, inr, ◌⊎◌, filter, if◌then◌else◌, Contains}
 use Rattle.std.proofs.lemmas.Map.Made.{Contains-tail}
 use Rattle.std.proofs.lemmas.List.{length-map, length-take-le, map-append}
-use Rattle.std.proofs.lemmas.Bool.{cases_eq, ltb-false}
+use Rattle.std.proofs.lemmas.Bool.{cases_eq, le-ltb, ltb-false}
 use Rattle.std.proofs.lemmas.Option.{slice_get_within}
 use Rattle.viz_base.specs.declared.trees.BoxNode.{BoxNode}
 use Rattle.layout_laws.proofs.Members.{Rises, rises_from, no_member, first_member, later_member}
@@ -20,18 +20,11 @@ below m ks = filter (λ k. nat_lt k m) ks
 abbrev partial : ℕ → BoxNode → BoxNode
 partial m b = record b { kids = below m b.kids }
 
-not_below : (k m : ℕ) → m ≤ k → nat_lt k m ≡ false
-not_below k m l = by_test (nat_lt k m) refl
-  where
-    by_test : (t : Bool) → nat_lt k m ≡ t → nat_lt k m ≡ false
-    by_test false e = e
-    by_test true e = absurd (let lower = ltb-true k m e in omega (arith, lower, l))
-
 none_below : (low m : ℕ) (ks : List ℕ) → Rises low ks → m ≤ low → below m ks ≡ []
 none_below low m [] r l = refl
 none_below low m (k ∷ ks) r l =
     let lower = r.0 in
-    ap (λ t. if t then k ∷ below m ks else below m ks) (not_below k m (omega (arith, l, lower))) ∙ none_below (suc k) m ks r.1 (omega (arith, l, lower))
+    ap (λ t. if t then k ∷ below m ks else below m ks) (le-ltb k m (omega (arith, l, lower))) ∙ none_below (suc k) m ks r.1 (omega (arith, l, lower))
 
 -- a place that is none of the kids changes nothing
 below_same : (m : ℕ) (ks : List ℕ) → (Contains ks m → ⊥) → below m ks ≡ below (suc m) ks
@@ -40,7 +33,7 @@ below_same m (k ∷ ks) f = ap (λ t. if t then k ∷ below m ks else below m ks
   where
     by_less : (t : Bool) → nat_lt k m ≡ t → k ≢ m → nat_lt k m ≡ nat_lt k (suc m)
     by_less true e ne = let lower = ltb-true k m e in e ∙ sym (lt-ltb k (suc m) (omega (arith, lower)))
-    by_less false e ne = let higher = ltb-false k m e in e ∙ sym (not_below k (suc m) (omega (arith, higher, ne)))
+    by_less false e ne = let higher = ltb-false k m e in e ∙ sym (le-ltb k (suc m) (omega (arith, higher, ne)))
 
     by_place : (k ≡ m) ⊎ (k ≢ m) → nat_lt k m ≡ nat_lt k (suc m)
     by_place (inl e) = absurd (f (first_member ks e))
@@ -53,7 +46,7 @@ below_more low m (k ∷ ks) r i = by_place (cases_eq k m) (λ j. below_more (suc
   where
     by_place : (k ≡ m) ⊎ (k ≢ m) → (Contains ks m → below m ks ++ m ∷ [] ≡ below (suc m) ks) → Contains (k ∷ ks) m → below m (k ∷ ks) ++ m ∷ [] ≡ below (suc m) (k ∷ ks)
     by_place (inl e) again i =
-        ap (λ t. (if t then k ∷ below m ks else below m ks) ++ m ∷ []) (not_below k m (omega (arith, e)))
+        ap (λ t. (if t then k ∷ below m ks else below m ks) ++ m ∷ []) (le-ltb k m (omega (arith, e)))
         ∙ (ap (λ l. l ++ m ∷ []) (none_below (suc k) m ks r.1 (omega (arith, e)))
         ∙ (ap (λ j. j ∷ []) (sym e)
         ∙ (ap (λ l. k ∷ l) (sym (none_below (suc k) (suc m) ks r.1 (omega (arith, e))))

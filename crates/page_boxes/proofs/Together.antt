@@ -1,6 +1,6 @@
 -- What the parts of the code come to together.
 use Rattle.std.proofs.lemmas.List.{length-replicate, get_or-replicate}
-use Rattle.std.proofs.Common.{◌≡◌, ℕ, suc, ◌+◌, ◌<◌, ◌≤◌, nat_lt, Bool, true, false, List, [], ◌∷◌, map, zip, length, replicate, get_or, Option, Some, None, Ok, Err, option_map, slice_get, refl, sym, ◌∙◌, ap, subst, arith, ltb-true, Contains}
+use Rattle.std.proofs.Common.{◌≡◌, ℕ, suc, ◌+◌, ◌<◌, ◌≤◌, nat_lt, Bool, true, false, List, [], ◌∷◌, map, zip, length, replicate, get_or, Option, Some, None, Ok, Err, option_map, slice_get, refl, sym, ◌∙◌, ap, subst, arith, Contains}
 use Rattle.std.specs.List.{enumerate_from}
 use Rattle.std.proofs.lemmas.Option.{slice_get_within, slice_get-map, get_or_from_slice_get}
 use Rattle.std.proofs.lemmas.List.FromFn.{length-enumerate_from}
@@ -157,13 +157,6 @@ module _ (nodes : List Node) (styles : List Style) (page : IsPage nodes) where
       ap (λ m. with_all [] (places_walk (replicate m 0) 0 ls 0 ps)) d
       ∙ (ap (λ l. with_all [] (places_walk (replicate (length nodes) 0) 0 l 0 ps)) e
       ∙ (ap (λ qs. with_all [] (places_walk (replicate (length nodes) 0) 0 leads 0 qs)) f ∙ boxes_are))
-
-pub not_more : (most n : ℕ) → n ≤ most → nat_lt most n ≡ false
-not_more most n l = by_test (nat_lt most n) refl
-  where
-    by_test : (t : Bool) → nat_lt most n ≡ t → nat_lt most n ≡ false
-    by_test false e = e
-    by_test true e = absurd (let up = ltb-true most n e in omega (arith, up, l))
 
 -- ---- the answer
 

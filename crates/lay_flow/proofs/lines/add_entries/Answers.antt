@@ -1,5 +1,6 @@
 use Rattle.std.proofs.Common.{◌≡◌, List, [], ◌∷◌, ◌++◌, flat_map, length, refl, ap, sym, subst, inl, arith, ◌∙◌}
 use Rattle.std.specs.List.{AllByRecursion}
+use Rattle.std.proofs.lemmas.List.{nil_from_length}
 use Rattle.viz_calc.specs.World.{Reading}
 use Rattle.viz_calc.proofs.Runs.{Goes-then}
 use Rattle.lay_frame.specs.Readings.{boxes_at}
@@ -11,10 +12,6 @@ use Rattle.lay_flow.specs.Readings.{apart_at}
 use Rattle.lay_flow.specs.steps.Flow.{entry_of}
 use Rattle.lay_flow.proofs.InLines.{one-added, none-added}
 use Rattle.lay_flow.proofs.lines.add_entries.Goals as goal
-
-no-items : {A : Type 0} (xs : List A) → length xs ≡ 0 → xs ≡ []
-no-items [] e = refl
-no-items (x ∷ xs) e = absurd (omega (arith, e))
 
 pub loop-entry-init : goal.loop-entry-init
 loop-entry-init g c =
@@ -50,5 +47,5 @@ loop-entry-preserved g c =
 pub returns-clause-value : goal.returns-clause-value
 returns-clause-value g c = λ e o.
     let at = g.S.Steady.at in
-    none-added at e (entry_of c.args.page.now.tree.now e.world (apart_at at c.args.page.now.apart.now e)) c.loop-entry.entry-iterator.rest.items (boxes_at at c.loop-entry.out.items e) (no-items c.loop-entry.entry-iterator.rest.items (grind arith))
+    none-added at e (entry_of c.args.page.now.tree.now e.world (apart_at at c.args.page.now.apart.now e)) c.loop-entry.entry-iterator.rest.items (boxes_at at c.loop-entry.out.items e) (nil_from_length c.loop-entry.entry-iterator.rest.items (grind arith))
     ∙ c.loop-entry.invariant.value e o
