@@ -1,5 +1,6 @@
 pub mod Along
 pub mod Answering
+pub mod Fitting
 pub mod Knowing
 pub mod Numbers
 pub mod Quotients

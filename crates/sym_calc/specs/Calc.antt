@@ -1,13 +1,14 @@
 -- What a symbolic calc is for its contracts.
-use Rattle.std.specs.Prelude.{◌≡◌, ℕ, ◌+◌, List, ◌++◌, length, Option}
+use Rattle.std.specs.Prelude.{◌≡◌, ℕ, ◌+◌, Bool, true, not, ◌&&◌, ◌||◌, List, ◌++◌, length, Option, Some, None, slice_get}
 use Rattle.viz_calc.specs.State.{State}
-use Rattle.lin_row.specs.Form.{Form}
+use Rattle.lin_row.specs.Form.{Form, form_fits}
 use Rattle.lin_proof.specs.declared.derivation.Answer.{Answer}
 use Rattle.cert_path.specs.Axes.{axis_count}
+use Rattle.cert_path.specs.Shapes.{has_variable}
 use Rattle.sym_calc.specs.declared.floors.Floor.{Floor}
 use Rattle.sym_calc.specs.declared.sym.Sym.{Sym}
 use Rattle.sym_calc.specs.declared.troubles.Trouble.{Trouble}
-use Rattle.sym_calc.specs.Knowledge.{sym_state}
+use Rattle.sym_calc.specs.Knowledge.{contrary, sym_state}
 use Rattle.sym_calc.specs.Tags.{tag}
 use Rattle.sym_calc.specs.Troubles.{trouble_of, trouble_at}
 
@@ -42,3 +43,14 @@ next_trouble s row = trouble_at (facts_of s) (length (named_of s) + axis_count) 
 -- the same of this answer
 abbrev pub trouble_by_answer : Sym → Form → Answer → Option Trouble
 trouble_by_answer s row answer = trouble_of (facts_of s) (length (named_of s) + axis_count) s.taken row answer
+
+-- whether the row that is at least 0 where an answer on a row is wrong has its numbers in `i128`
+abbrev pub contrary_fits : Form → Option Answer → Bool
+contrary_fits row None = true
+contrary_fits row (Some answer) = form_fits (contrary answer.yes row)
+
+-- whether a comparison by a row has its numbers in `i128`: those of the row, and where the row has a variable those of
+-- the row that is at least 0 where the next answer is wrong
+abbrev pub comparison_fits : Sym → Form → Bool
+comparison_fits s row =
+    form_fits row && (not (has_variable row) || contrary_fits row (slice_get s.tape.now s.taken))

@@ -1,5 +1,5 @@
 -- What a call of a symbolic calc answers where the exact row is known.
-use Rattle.std.specs.Prelude.{◌≡◌, true, false, Result, Ok, Err, ⊤}
+use Rattle.std.specs.Prelude.{◌≡◌, Bool, true, false, Result, Ok, Err, ⊤}
 use Rattle.viz_calc.specs.declared.calc.Halt.{Halt}
 use Rattle.viz_calc.specs.declared.calc.Halt.TheVariants.{Mem, Coeff, Open}
 use Rattle.lin_row.specs.Form.{Form, form_fits}
@@ -10,3 +10,18 @@ IsGiven (Ok row) exact = (row ≡ exact) × (form_fits exact ≡ true)
 IsGiven (Err Mem) exact = ⊤
 IsGiven (Err Coeff) exact = form_fits exact ≡ false
 IsGiven (Err Open) exact = ⊥
+
+-- Whether all numbers that a call computes are in `i128`. Coeff: one is not; want of memory says nothing; any other
+-- answer: each is
+abbrev pub IsWithin : {A : Type 0} → Result A Halt → Bool → Type 0
+IsWithin (Ok answer) fits = fits ≡ true
+IsWithin (Err Mem) fits = ⊤
+IsWithin (Err Coeff) fits = fits ≡ false
+IsWithin (Err Open) fits = fits ≡ true
+
+-- the same, where the answer is this one
+abbrev pub IsGivenWithin : {A : Type 0} → Result A Halt → A → Bool → Type 0
+IsGivenWithin (Ok answer) exact fits = (answer ≡ exact) × (fits ≡ true)
+IsGivenWithin (Err Mem) exact fits = ⊤
+IsGivenWithin (Err Coeff) exact fits = fits ≡ false
+IsGivenWithin (Err Open) exact fits = ⊥

@@ -1,4 +1,5 @@
 pub mod Calc
+pub mod Divided
 pub mod Division
 pub mod Floors
 pub mod Given

@@ -1,4 +1,4 @@
-ghost use Rattle.std.specs.Prelude.{◌≡◌, ◌<ℤ◌, ◌-ℤ◌, ◌++◌, [], ◌∷◌, false, pos, negsuc, Err, OnOk, OnErr};
+ghost use Rattle.std.specs.Prelude.{◌≡◌, ◌<ℤ◌, ◌-ℤ◌, ◌++◌, [], ◌∷◌, false, true, pos, negsuc, Err, OnOk, OnErr};
 ghost use Rattle.std.specs.List.{list_any};
 ghost use Rattle.lin_row.specs.Form.{plus};
 ghost use Rattle.lin_row.specs.Exact.{IsExact};
@@ -48,6 +48,7 @@ pub fn add_floor(
     ensures floors { OnOk result (floors.new ≡ floors.old ++ floor ∷ []) }
     ensures same_rows { OnErr result (rows.new ≡ rows.old) }
     ensures same_floors { OnErr result (floors.new ≡ floors.old) }
+    ensures within { OnOk result (floor_fits variable floor ≡ true) }
     ensures outside { result ≡ Err Coeff → floor_fits variable floor ≡ false }
 {
     let lower = lower_fact(&floor, variable)?;

@@ -1,10 +1,10 @@
-ghost use Rattle.std.specs.Prelude.{◌≡◌, ◌≢◌, ◌≤◌, ◌<◌, ◌^◌, ◌+◌, ◌-◌, ◌<ℤ◌, ◌++◌, [], ◌∷◌, false, true, Bool, None, Some, is_some, nat_lt, length, pos, negsuc, ◌-ℤ◌, Ok, ⊤, IfOk, IfErr, IsTrue, OnOk, OnErr, slice_get};
+ghost use Rattle.std.specs.Prelude.{◌≡◌, ◌≢◌, ◌≤◌, ◌<◌, ◌^◌, ◌+◌, ◌-◌, ◌<ℤ◌, ◌++◌, ◌&&◌, [], ◌∷◌, false, true, Bool, None, Some, is_some, nat_lt, length, pos, negsuc, ◌-ℤ◌, Ok, ⊤, IfOk, IfErr, IsTrue, OnOk, OnErr, slice_get};
 ghost use Rattle.std.specs.List.{list_any};
 ghost use Rattle.std.specs.Option.{option_copied};
 ghost use Rattle.std.specs.Int.{int_div_euclid};
 ghost use Rattle.std.specs.Int.Signed.{lt_z};
 ghost use Rattle.std.specs.Int.RustNames.{int_le};
-ghost use Rattle.lin_row.specs.Form.{Form, denied, form_fits, plus, value};
+ghost use Rattle.lin_row.specs.Form.{Form, form_fits, plus, value};
 ghost use Rattle.lin_row.specs.Exact.{IsExact};
 ghost use Rattle.lin_proof.specs.Derivations.{are_declared, first_fault, lines_of};
 ghost use Rattle.cert_path.specs.Axes.{axis_count, variable_of};
@@ -12,7 +12,8 @@ ghost use Rattle.cert_path.specs.Facts.{row_of};
 ghost use Rattle.cert_path.specs.Shapes.{has_remainders, has_variable};
 ghost use Rattle.viz_calc.specs.World.{Reading};
 ghost use Rattle.sym_calc.specs.Floors.{same_floor};
-ghost use Rattle.sym_calc.specs.Given.{IsGiven};
+ghost use Rattle.sym_calc.specs.Divided.{can_be, divided, division_fits, floor_variable, is_floor, multiple};
+ghost use Rattle.sym_calc.specs.Given.{IsGiven, IsGivenWithin, IsWithin};
 ghost use Rattle.sym_calc.specs.Knowledge.{values_of};
 ghost use Rattle.sym_calc.specs.Knowledge.{AreKnown, contrary, sym_state};
 ghost use Rattle.sym_calc.specs.History.{are_fit, facts_from, is_accounted};
@@ -62,7 +63,7 @@ impl<'a> Sym<'a> {
     ghost use Rattle.viz_calc.specs.State.{Grows, KeepsWorlds, Cause, IsDecided};
     ghost use Rattle.viz_calc.specs.declared.calc.Halt.TheVariants.{Open};
     ghost use Rattle.sym_calc.specs.Troubles.{first_of};
-    ghost use Rattle.sym_calc.specs.Calc.{facts_of, named_of, state_of, next_trouble, trouble_by_answer, KeepsRest};
+    ghost use Rattle.sym_calc.specs.Calc.{facts_of, named_of, state_of, next_trouble, trouble_by_answer, contrary_fits, KeepsRest};
 
     /// The calc of a path and of a tape of answers, none of which is taken yet. Takes no memory.
     pub fn new(path: &'a Path, tape: &'a [Answer]) -> Self
@@ -118,6 +119,8 @@ impl<'a> Sym<'a> {
         ensures value { IfOk result (λ x. (e : Reading) → IsTrue ((state_of self.new).is_open e)
             → values_of e x ≡ int_div_euclid (value floor.row (values_of e)) floor.by) }
         ensures cause { IfErr result (Cause (state_of self.old) (state_of self.new) ⊤) }
+        ensures exact { IsGivenWithin result (floor_variable (named_of self.old) floor)
+            (is_floor (named_of self.old) floor) }
         ensures decided { IsDecided result }
     {
         if let Some(place) = self.path.floors.place_of(&floor) {
@@ -142,6 +145,8 @@ impl<'a> Sym<'a> {
         ensures value { IfOk result (λ x. (e : Reading) → IsTrue ((state_of self.new).is_open e)
             → values_of e x ≡ int_div_euclid (value floor.row (values_of e)) floor.by) }
         ensures cause { IfErr result (Cause (state_of self.old) (state_of self.new) ⊤) }
+        ensures exact { let next = length (named_of self.old) + axis_count in
+            IsGivenWithin result next (can_be next floor) }
         ensures decided { IsDecided result }
     {
         let variable = self.variables();
@@ -177,6 +182,8 @@ impl<'a> Sym<'a> {
         ensures value { IfOk result (λ r. (e : Reading) → IsTrue ((state_of self.new).is_open e)
             → value r (values_of e) ≡ int_div_euclid (value row.now (values_of e)) by) }
         ensures cause { IfErr result (Cause (state_of self.old) (state_of self.new) ⊤) }
+        ensures exact { IsGivenWithin result (divided (named_of self.old) by row.now)
+            (division_fits (named_of self.old) by row.now) }
         ensures decided { IsDecided result }
     {
         let whole = quotient(row, by)?;
@@ -191,10 +198,12 @@ impl<'a> Sym<'a> {
 
     /// Whether a row with variables is at least 0, by the next answer of the tape.
     fn answered(&mut self, row: Row) -> Result<bool, Halt>
+        requires { IsTrue (form_fits row) }
         ensures grows { Grows (state_of self.old) (state_of self.new) }
         ensures value { IfOk result (λ yes. (e : Reading) → IsTrue ((state_of self.new).is_open e)
             → yes ≡ int_le (pos 0) (value row (values_of e))) }
         ensures cause { IfErr result (Cause (state_of self.old) (state_of self.new) ⊤) }
+        ensures within { IsWithin result (contrary_fits row (slice_get self.old.tape.now self.old.taken)) }
         ensures answer { IfOk result (λ yes. next_trouble self.old row ≡ None) }
         ensures taken { OnOk result (self.new.taken ≡ self.old.taken + 1) }
         ensures opened { result ≡ Err Open → is_some (next_trouble self.old row) ≡ true }
@@ -211,10 +220,12 @@ impl<'a> Sym<'a> {
     fn answered_by(&mut self, answer: &Answer, row: Row) -> Result<bool, Halt>
         requires next { slice_get self.old.tape.now self.old.taken ≡ Some answer.now }
         requires room { self.old.taken + 1 < 2 ^ 64 }
+        requires fits { IsTrue (form_fits row) }
         ensures grows { Grows (state_of self.old) (state_of self.new) }
         ensures value { IfOk result (λ yes. (e : Reading) → IsTrue ((state_of self.new).is_open e)
             → yes ≡ int_le (pos 0) (value row (values_of e))) }
         ensures cause { IfErr result (Cause (state_of self.old) (state_of self.new) ⊤) }
+        ensures within { IsWithin result (form_fits (contrary answer.now.yes row)) }
         ensures answer { IfOk result (λ yes. trouble_by_answer self.old row answer.now ≡ None) }
         ensures taken { OnOk result (self.new.taken ≡ self.old.taken + 1) }
         ensures opened { result ≡ Err Open → is_some (trouble_by_answer self.old row answer.now) ≡ true }
@@ -240,8 +251,9 @@ impl<'a> Sym<'a> {
 
     /// The row that is at least 0 where an answer is wrong.
     fn contrary_of(&mut self, yes: bool, row: &Row) -> Result<Row, Halt>
+        requires { IsTrue (form_fits row.now) }
         ensures grows { Grows (state_of self.old) (state_of self.new) }
-        ensures row { IfOk result (λ other. other ≡ contrary yes row.now) }
+        ensures exact { IsGiven result (contrary yes row.now) }
         ensures rest { KeepsRest self.old self.new }
         ensures decided { IsDecided result }
         ensures cause { IfErr result (Cause (state_of self.old) (state_of self.new) ⊤) }
@@ -325,7 +337,8 @@ fn with_variable(row: &Row, variable: u32) -> Result<Row, RowFault>
 
 /// The row that is at least 0 where an answer is wrong.
 fn contrary_of(yes: bool, row: &Row) -> Result<Row, RowFault>
-    ensures { IfOk result (λ other. other ≡ contrary yes row.now) }
+    requires { IsTrue (form_fits row.now) }
+    ensures { IsExact result (contrary yes row.now) }
 {
     if yes { row.negate() } else { Ok(row.clone()?) }
 }
@@ -365,7 +378,7 @@ impl<'a> Calc for Sym<'a> {
     ghost use Rattle.viz_calc.specs.declared.calc.Halt.TheVariants.{Open};
     ghost use Rattle.sym_calc.specs.Knowledge.{number_at};
     ghost use Rattle.sym_calc.specs.Troubles.{first_of};
-    ghost use Rattle.sym_calc.specs.Calc.{facts_of, named_of, state_of, next_trouble};
+    ghost use Rattle.sym_calc.specs.Calc.{facts_of, named_of, state_of, next_trouble, comparison_fits};
     ghost use Rattle.sym_calc.specs.Kept.{reading_by, kept_is_open};
 
     type Num = Row;
@@ -462,7 +475,20 @@ impl<'a> Calc for Sym<'a> {
         self.counted(difference)
     }
 
-    fn scale_floor(&mut self, a: &Row, num: i64, den: u64) -> Result<Row, Halt> {
+    fn scale_floor(&mut self, a: &Row, num: i64, den: u64) -> Result<Row, Halt>
+        requires { 1 ≤ den }
+        ensures grows { Grows (state_of self.old) (state_of self.new) }
+        ensures worlds { KeepsWorlds (state_of self.old) (state_of self.new) }
+        ensures value { IfOk result (λ r. Stands (state_of self.new) (number_at r)
+            (λ e. int_div_euclid (num *ℤ number_at a.now e) (pos den))) }
+        ensures cause { IfErr result (Cause (state_of self.old) (state_of self.new)
+            (Fits (state_of self.new) (λ e. int_div_euclid (num *ℤ number_at a.now e) (pos den) ∷ []))) }
+        ensures counted { IfErr result (IsCounted true (state_of self.old) (state_of self.new)) }
+        ensures decided { IsDecided result }
+        ensures exact { let row = multiple num a.now in let floors = named_of self.old in
+            IsGivenWithin result (divided floors (pos den) row)
+            (form_fits row && division_fits floors (pos den) row) }
+    {
         let zero = Row::constant(self.path.facts.allocator(), 0);
         let product = zero.add_scaled(i128::from(num), a);
         let product = self.counted(product)?;
@@ -474,6 +500,7 @@ impl<'a> Calc for Sym<'a> {
         ensures value { IfOk result (λ r. (e : Reading) → IsTrue ((state_of self.new).is_open e)
             → r ≡ int_le (number_at a.now e) (number_at b.now e)) }
         ensures cause { IfErr result (Cause (state_of self.old) (state_of self.new) ⊤) }
+        ensures within { IsWithin result (comparison_fits self.old (plus b.now (negsuc 0) a.now)) }
         ensures answer { let row = plus b.now (negsuc 0) a.now in
             IfOk result (λ r. (row.terms ≡ []) ⊎ (next_trouble self.old row ≡ None)) }
         ensures opened { let row = plus b.now (negsuc 0) a.now in

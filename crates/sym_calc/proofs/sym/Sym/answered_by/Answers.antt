@@ -20,7 +20,7 @@ returns-in-None-clause-value c =
     let same = c.in_ok-fault_of.ensures.state in
     let line = sym c.in_ok-fault_of.ensures.line ∙ c.in-None.is in
     λ e met. answer_right (facts_of c.contrary_of.new.self) c.args.answer.now.yes c.args.row c.in_ok-contrary.contrary _ c.args.answer.now.why
-    c.in_ok-contrary.ensures.row line (values_of e) (ap (λ (s : State). s.is_open e) (sym same) ∙ met)
+    c.in_ok-contrary.ensures.exact.0 line (values_of e) (ap (λ (s : State). s.is_open e) (sym same) ∙ met)
 
 pub returns-clause-grows : goal.returns-clause-grows
 returns-clause-grows c =
@@ -49,7 +49,7 @@ invariant_of-self-clause-accounted c =
     let same : same_row c.args.row answer.row ≡ true = search rules in
     let is = (λ i. slice_get (rest.tape i) (rest.taken i)) ∙ c.requires.next in
     let right = fault_is s.path.now.facts s.rows s.path.now.floors s.floors c.args.row c.in_ok-contrary.contrary answer c.in_ok-fault_of.field-0 s.made same
-    c.in_ok-contrary.ensures.row c.in_ok-fault_of.ensures.line ∙ c.in-None.is in
+    c.in_ok-contrary.ensures.exact.0 c.in_ok-fault_of.ensures.line ∙ c.in-None.is in
     (λ i. is_accounted (later.path i).facts (later.path i).floors (later.floors i) (later.tape i) (later.taken i + 1) (later.trouble i))
     ∙ accounted_took s.path.now.facts s.path.now.floors s.floors s.tape.now s.taken answer is right s.trouble s.accounted
 
@@ -63,7 +63,7 @@ stuck-requires-in-Some c =
     let same : same_row c.args.row answer.row ≡ true = search rules in
     let is = (λ i. slice_get (rest.tape i) (rest.taken i)) ∙ c.requires.next in
     let wrong = fault_is s.path.now.facts s.rows s.path.now.floors s.floors c.args.row c.in_ok-contrary.contrary answer c.in_ok-fault_of.field-0 s.made same
-    c.in_ok-contrary.ensures.row c.in_ok-fault_of.ensures.line ∙ c.in-Some.is in
+    c.in_ok-contrary.ensures.exact.0 c.in_ok-fault_of.ensures.line ∙ c.in-Some.is in
     (λ i. is_accounted (later.path i).facts (later.path i).floors (later.floors i) (later.tape i) (later.taken i + 1)
     (first_of (later.trouble i) (Some (Line ((number ∙ sym rest.taken) i) c.in-Some.line))))
     ∙ accounted_line s.path.now.facts s.path.now.floors s.floors s.tape.now s.taken (s.taken + 1) answer c.in-Some.line s.trouble is wrong s.accounted

@@ -1,11 +1,14 @@
-use Rattle.std.proofs.Common.{◌≡◌, negsuc, rules, refl, sym, ap, ◌∙◌, subst, FitsSigned, to_z-of_z}
+use Rattle.std.proofs.Common.{◌≡◌, ◌≢◌, negsuc, [], rules, refl, sym, ap, ◌∙◌, subst, true≢false, FitsSigned, to_z-of_z}
 use Rattle.std.specs.Int.{w128}
 use Rattle.std.specs.Int.RustNames.{int_le}
-use Rattle.std.specs.Prelude.{pos}
-use Rattle.std.proofs.lemmas.Result.{IfOk-weaker}
+use Rattle.std.specs.Prelude.{pos, Bool, slice_get}
+use Rattle.std.proofs.lemmas.Result.{IfOk-weaker, err_from_is_err_and}
 use Rattle.lin_row.specs.Form.{Form, plus}
 use Rattle.lin_row.specs.Exact.{IsExact}
 use Rattle.sym_calc.specs.Knowledge.{values_of}
+use Rattle.sym_calc.specs.Calc.{contrary_fits}
+use Rattle.sym_calc.proofs.Fitting.{halted_within, within_same, constant_fits, variable_fits}
+use Rattle.sym_calc.proofs.Rests.{some_variable}
 use Rattle.sym_calc.proofs.Numbers.{constant_le, row_le}
 use Rattle.sym_calc.proofs.States.{grows_then}
 use Rattle.sym_calc.proofs.sym.SymCalc.le.Goals as goal
@@ -29,3 +32,27 @@ returns-clause-value c =
     let d = c.in_ok-difference.difference in
     let is : d ≡ exact = (subst (λ a. IsExact a exact) c.in_ok-difference.ensures.row c.add_scaled-difference.ensures).0 in
     IfOk-weaker c.answered.result _ _ (λ r h e met. h e met ∙ row_le c.args.a.now c.args.b.now d (values_of e) is) c.answered.ensures.value
+
+pub returns-in_err-difference-clause-within : goal.returns-in_err-difference-clause-within
+returns-in_err-difference-clause-within c =
+    let exact = plus c.args.b.now (negsuc 0) c.args.a.now in
+    let p = err_from_is_err_and c.from_residual.result c.from_residual.ensures.1 in
+    rw (p.1, p.2) (halted_within Bool c.in_err-difference.field-0.0 exact _ (c.in_err-difference.ensures.exact exact c.add_scaled-difference.ensures))
+
+pub returns-then-is_empty-clause-within : goal.returns-then-is_empty-clause-within
+returns-then-is_empty-clause-within c =
+    let exact = plus c.args.b.now (negsuc 0) c.args.a.now in
+    let given = c.in_ok-difference.ensures.exact exact c.add_scaled-difference.ensures in
+    let none : c.in_ok-difference.difference.terms ≡ _ = ap (λ (f : Form). f.terms) (sym c.difference.view_is) ∙ c.if-is_empty.ensures.0 refl in
+    constant_fits exact _ (ap (λ (f : Form). f.terms) (sym given.0) ∙ none) given.1
+
+pub returns-clause-within : goal.returns-clause-within
+returns-clause-within c =
+    let s = c.args.self.now in
+    let exact = plus c.args.b.now (negsuc 0) c.args.a.now in
+    let given = c.in_ok-difference.ensures.exact exact c.add_scaled-difference.ensures in
+    let rest = c.in_ok-difference.ensures.rest in
+    let some : exact.terms ≢ [] = λ none. true≢false (sym (c.is_empty.ensures.1 (ap (λ (f : Form). f.terms) (c.difference.view_is ∙ given.0) ∙ none)) ∙ c.if-is_empty.false) in
+    within_same c.answered.result _ _
+    ((λ i. contrary_fits (given.0 i) (slice_get (rest.tape i) (rest.taken i))) ∙ variable_fits exact _ (some_variable exact some) given.1)
+    c.answered.ensures.within
