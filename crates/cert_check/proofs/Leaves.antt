@@ -103,7 +103,7 @@ module _ (job : Job) (old new : Sym) (grows : Grows (state_of old) (state_of new
     accounted trouble is =
         (λ i. is_accounted (sym facts_are i) (sym floors_are i) new.floors (sym same.tape_is i) new.taken (sym is i)) ∙ new.accounted
 
-    taken_right : new.trouble ≡ None → AreRefuted job.range path (take new.taken old.tape.now)
+    pub taken_right : new.trouble ≡ None → AreRefuted job.range path (take new.taken old.tape.now)
     taken_right none = right_taken job path new.floors old.tape.now new.taken fit (accounted None none)
 
     -- at each world of the path the calc has an open reading
@@ -137,9 +137,9 @@ module _ (job : Job) (old new : Sym) (grows : Grows (state_of old) (state_of new
           },
         )
 
-    pub leaf_unmet : (n : ℕ) → ((e : Reading) → IsTrue ((state_of new).is_open e) → false ≡ is_true_at job e.world) → new.trouble ≡ None
+    pub leaf_unmet : (n : ℕ) → ((e : Reading) → IsTrue ((state_of new).is_open e) → false ≡ is_true_at job e.world)
         → IsLeafVerdict job n path old.tape.now (Rejected (Unmet n))
-    leaf_unmet n value none = (refl, record { untrue = throughout false value; taken = new.taken; right = taken_right none })
+    leaf_unmet n value = (refl, throughout false value)
 
     pub leaf_coeff : (n : ℕ) → IsLeafVerdict job n path old.tape.now (Rejected (Coeff n))
     leaf_coeff n = (refl, tt)

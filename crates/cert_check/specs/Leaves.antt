@@ -1,8 +1,9 @@
 -- What the verdict on a leaf says.
-use Rattle.std.specs.Prelude.{◌≡◌, ◌≢◌, ℕ, ◌<◌, ◌≤◌, ◌-◌, false, List, length, take, Option, Some, None, slice_get}
+use Rattle.std.specs.Prelude.{◌≡◌, ◌≢◌, ℕ, ◌<◌, ◌≤◌, ◌-◌, Bool, true, false, IsTrue, List, length, take, Option, Some, None, slice_get}
 use Rattle.viz_base.specs.declared.worlds.Rect.{Rect}
 use Rattle.viz_base.specs.declared.worlds.World.{World}
 use Rattle.viz_base.specs.declared.jobs.Job.{Job}
+use Rattle.viz_calc.specs.World.{Reading}
 use Rattle.viz_calc.specs.State.{Rose}
 use Rattle.lin_row.specs.Form.{Form}
 use Rattle.lin_proof.specs.declared.derivation.Answer.{Answer}
@@ -20,7 +21,7 @@ use Rattle.cert_check.specs.declared.verdicts.Verdict.{Verdict}
 use Rattle.cert_check.specs.declared.verdicts.Verdict.TheVariants.{Accepted, Rejected}
 use Rattle.cert_check.specs.declared.verdicts.Reject.{Reject}
 use Rattle.cert_check.specs.declared.verdicts.Reject.TheVariants.{OtherJob, Shape, Line, Untrue, Unmet, Differs, Short, Left, Coeff}
-use Rattle.cert_check.specs.Truths.{IsThroughout, IsTrueOn}
+use Rattle.cert_check.specs.Truths.{is_true_at, IsThroughout, IsTrueOn}
 
 -- the calc stands over this path of a range, and keeps its worlds
 pub record StandsOver (range : Rect) (path : Path) (s : Sym) : Type 0 where
@@ -48,13 +49,8 @@ pub record IsToAnother (range : Rect) (path : Path) (answers : List Answer) (num
   pub theirs_is : answer.row ≡ theirs
   pub other : ours ≢ theirs
 
--- the formula is false at each world of the path, and the answers that were taken are right
-pub record IsUnmet (job : Job) (path : Path) (answers : List Answer) : Type 0 where
-  pub untrue : IsThroughout job path false
-  pub taken : ℕ
-  pub right : AreRefuted job.range path (take taken answers)
-
--- the formula is true at each world of the path, and so many answers are left behind those that are right
+-- the formula is true at each world of the path, and so many answers are left behind those that were taken, which are
+-- right
 pub record AreLeft (job : Job) (path : Path) (answers : List Answer) (count : ℕ) : Type 0 where
   pub holds : IsTrueOn job path
   pub some : 0 < count
@@ -69,7 +65,7 @@ IsLeafFault job path answers (Untrue n world) = ⊥
 IsLeafFault job path answers (Line n number line) = IsWrongAnswer job.range path answers number line
 IsLeafFault job path answers (Differs n number ours theirs) = IsToAnother job.range path answers number ours theirs
 IsLeafFault job path answers (Short n) = AreRefuted job.range path answers
-IsLeafFault job path answers (Unmet n) = IsUnmet job path answers
+IsLeafFault job path answers (Unmet n) = IsThroughout job path false
 IsLeafFault job path answers (Left n count) = AreLeft job path answers count
 IsLeafFault job path answers (Coeff n) = Unit {0}
 
@@ -102,16 +98,25 @@ reject_of n of_trouble.Short = Short n
 abbrev pub left_of : Sym → ℕ
 left_of s = length s.tape.now - s.taken
 
--- the verdicts that tell of no trouble: a number outside `i128` only where the calc counted one, and answers that are
--- left as it counts them
-abbrev pub IsUntroubled : Sym → Sym → Verdict → Type 0
-IsUntroubled old new Accepted = left_of new ≡ 0
-IsUntroubled old new (Rejected (Unmet n)) = Unit {0}
-IsUntroubled old new (Rejected (Left n count)) = count ≡ left_of new
-IsUntroubled old new (Rejected (Coeff n)) = Rose old.coeffs new.coeffs
-IsUntroubled old new (Rejected _) = ⊥
+-- where the calc met no trouble, each answer that it took is right
+abbrev pub TakesRight : Rect → Sym → Sym → Type 0
+TakesRight range old new = new.trouble ≡ None → (path : Path) → StandsOver range path old
+    → AreRefuted range path (take new.taken old.tape.now)
+
+-- the formula has this truth at each reading that the calc still has open, after the answers that it took
+abbrev pub IsKnown : Job → Sym → Bool → Type 0
+IsKnown job s wanted = (e : Reading) → IsTrue ((state_of s).is_open e) → is_true_at job e.world ≡ wanted
+
+-- the verdicts that tell of no trouble: the truth is what the calc knows after the answers that it took, none or so
+-- many are left behind these, and a number is outside `i128` only where it counted one
+abbrev pub IsUntroubled : Job → Sym → Sym → Verdict → Type 0
+IsUntroubled job old new Accepted = IsKnown job new true × (left_of new ≡ 0)
+IsUntroubled job old new (Rejected (Unmet n)) = IsKnown job new false
+IsUntroubled job old new (Rejected (Left n count)) = IsKnown job new true × (count ≡ left_of new)
+IsUntroubled job old new (Rejected (Coeff n)) = Rose old.coeffs new.coeffs
+IsUntroubled job old new (Rejected _) = ⊥
 
 -- a trouble is told exactly where the calc met it
-abbrev pub IsTold : ℕ → Sym → Sym → Option Trouble → Verdict → Type 0
-IsTold n old new (Some trouble) verdict = verdict ≡ Rejected (reject_of n trouble)
-IsTold n old new None verdict = IsUntroubled old new verdict
+abbrev pub IsTold : Job → ℕ → Sym → Sym → Option Trouble → Verdict → Type 0
+IsTold job n old new (Some trouble) verdict = verdict ≡ Rejected (reject_of n trouble)
+IsTold job n old new None verdict = IsUntroubled job old new verdict

@@ -67,7 +67,7 @@ pub record IsReached (job : Job) (cert : Cert) (n : ℕ) (node : Node) : Type 0 
   pub is_node : slice_get (nodes_of cert) n ≡ Some node
   pub before : (k : ℕ) (other : Node) → k < n → slice_get (nodes_of cert) k ≡ Some other → IsGood job other
 
--- the first node that is not good is rejected so
+-- a node is rejected so, and each before it is good
 pub record IsFirstRejected (job : Job) (cert : Cert) (reject : Reject) : Type 0 where
   pub node : Node
   pub reached : IsReached job cert (node_in reject) node

@@ -1,11 +1,11 @@
-ghost use Rattle.std.specs.Prelude.{◌≡◌, ◌<◌, true, Ok, Some, None, IsTrue, IfOk, IfErr, IfSome};
+ghost use Rattle.std.specs.Prelude.{◌≡◌, ◌<◌, true, Ok, Some, None, IsTrue, IfOk, IfErr, IfSome, OnOk};
 ghost use Rattle.std.specs.Bool.{Decides};
 ghost use Rattle.viz_calc.specs.World.{Reading};
 ghost use Rattle.viz_calc.specs.State.{Grows, Rose, is_told};
 ghost use Rattle.sym_calc.specs.Calc.{state_of};
 ghost use Rattle.cert_check.specs.Truths.{is_true_at};
 ghost use Rattle.cert_path.specs.Paths.{Path};
-ghost use Rattle.cert_check.specs.Leaves.{StandsOver, IsLeafVerdict, IsTold, reject_of};
+ghost use Rattle.cert_check.specs.Leaves.{StandsOver, IsLeafVerdict, IsTold, TakesRight, reject_of};
 
 use crate::verdicts::{Reject, Verdict};
 use lay_flow::render;
@@ -58,7 +58,8 @@ fn judge_leaf(
 ) -> Result<Option<Verdict>, Mem>
     ensures verdict { IfOk result (λ judged. IfSome judged (λ verdict. (path : Path)
         → StandsOver job.now.range path sym.old → IsLeafVerdict job.now node path sym.old.tape.now verdict)) }
-    ensures told { IfOk result (λ judged. IfSome judged (IsTold node sym.old sym.new sym.new.trouble)) }
+    ensures told { IfOk result (λ judged. IfSome judged (IsTold job.now node sym.old sym.new sym.new.trouble)) }
+    ensures right { TakesRight job.now.range sym.old sym.new }
     ensures untroubled { result ≡ Ok None → sym.new.trouble ≡ None }
     ensures counted { result ≡ Ok None → 0 < sym.new.coeffs }
 {
@@ -90,7 +91,8 @@ pub fn check_new_leaf(
     requires { sym.old.coeffs ≡ 0 }
     ensures verdict { IfOk result (λ verdict. (path : Path) → StandsOver job.now.range path sym.old
         → IsLeafVerdict job.now node path sym.old.tape.now verdict) }
-    ensures told { IfOk result (IsTold node sym.old sym.new sym.new.trouble) }
+    ensures told { IfOk result (IsTold job.now node sym.old sym.new sym.new.trouble) }
+    ensures right { OnOk result (TakesRight job.now.range sym.old sym.new) }
 {
     match judge_leaf(alloc, job, node, sym)? {
         Some(verdict) => Ok(verdict),
@@ -107,7 +109,8 @@ pub fn check_new_leaf(
 pub fn check_leaf(alloc: Global, job: &Job, node: u32, sym: &mut Sym<'_>) -> Result<Verdict, Mem>
     ensures verdict { IfOk result (λ verdict. (path : Path) → StandsOver job.now.range path sym.old
         → IsLeafVerdict job.now node path sym.old.tape.now verdict) }
-    ensures told { IfOk result (IsTold node sym.old sym.new sym.new.trouble) }
+    ensures told { IfOk result (IsTold job.now node sym.old sym.new sym.new.trouble) }
+    ensures right { OnOk result (TakesRight job.now.range sym.old sym.new) }
 {
     let before = sym.coeffs();
     match judge_leaf(alloc, job, node, sym)? {

@@ -11,7 +11,9 @@ pub enum Verdict {
 }
 
 /// Why a certificate is rejected. Nodes are numbered from 0 in preorder: a node, then those of its
-/// first child, then those of its second. The first node that is not good is the one that is named.
+/// first child, then those of its second. Each node before the one that is named is good, and that
+/// one is not, unless it is a leaf: a leaf may be rejected though the formula is true in its part and
+/// all its answers are right, where these are not the ones that are asked for, or for a number.
 #[derive(Debug, Drop, Error)]
 pub enum Reject {
     /// The certificate names another digest than the job's.

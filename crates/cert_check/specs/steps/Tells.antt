@@ -26,7 +26,7 @@ Judges job node n (Err (Rejected reject)) = (node_in reject ≡ n) × IsRejected
 abbrev pub AllGood : Job → List Node → Type 0
 AllGood job = AllByRecursion (IsGood job)
 
--- the first node that is not good is rejected so
+-- a node is rejected so, and each before it is good
 abbrev pub Rejects : Job → List Node → ℕ → Reject → Type 0
 Rejects job [] n reject = ⊥
 Rejects job (x ∷ xs) n reject = ((node_in reject ≡ n) × IsRejected job x reject)
