@@ -80,7 +80,8 @@ module _ (tree : BoxTree) (w : World) (height : ℕ) (apart : ℕ → Alone) whe
       pub reach : ReachFits tree w apart cb s b
       pub standing : IsStandingLow s.standing
       pub inside : next
-          (when_reached cb s b (reached_of tree w apart cb s b).reached.top (reached_of tree w apart cb s b).reached.cleared)
+          (when_reached cb s b (reached_of tree w apart cb s b).reached.top
+          (reached_of tree w apart cb s b).reached.cleared)
       pub band : IsBandLow cb
       pub down : VerticalsFit tree w b (across cb)
       pub top_low : IsLevelLow (reached_of tree w apart cb s b).reached.top
