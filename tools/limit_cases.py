@@ -33,9 +33,6 @@ def line(node, left, top, right, bottom):
     return f"block {node} m {edges} b {edges} p {edges} c {edges}\n"
 
 
-WORD = ""
-
-
 # ---- layouts: a block of so many others, each 1 px high
 
 def column(count):
@@ -54,9 +51,10 @@ def layouts():
     page = [[None, "div", [], None]]
     text, steps = "true" + " and true" * 1820, [["Const", True]] + [["Const", True], ["And"]] * 1820
     assert len(text) == 16384
-    # one word of as many letters as a page may have, in a line 32 * 262144 units wide: its width is that of its container
-    word = block("", ["a" * 262144])
-    yield ["lay", job(word, [320, 320], [16, 16]), 320, 16], ["Done", WORD]
+    # one word of as many letters as a page may have, each half of 1024 units wide, and no line breaks it
+    word, box, letters = block("", ["a" * 262144]), "0 0 20480 1228", f"0 102 {512 * 262144} 1125"
+    told = "".join(f"{name} m {edges} b {edges} p {edges} c {edges}\n" for name, edges in (("block 0", box), ("line 0", box), ("text 1", letters)))
+    yield ["lay", job(word, [320, 320], [16, 16]), 320, 16], ["Done", told]
     yield ["formulas", page, text, steps], True
     yield ["lay", job(column(0), [320, 320], [16, 16], text), 320, 16], ["Done", column_text(0, 320)]
     yield ["lay", job(column(0), [320, 320], [16, 16], text + " "), 320, 16], ["JobRefused", "job-refused limit formula 16385\n"]

@@ -13,7 +13,6 @@ use Rattle.viz_replies.specs.declared.reply.Answer.{Answer}
 use Rattle.viz_replies.specs.declared.reply.Reply.{Reply}
 use Rattle.viz_replies.specs.declared.question.Question.TheVariants as asks
 use Rattle.viz_replies.specs.declared.jobs.JobRead.TheVariants as of_job
-use Rattle.viz_replies.specs.Jobs.{job_most}
 use Rattle.viz_replies.specs.Certificates.{cert_most}
 use Rattle.viz_replies.specs.Replies.{IsReplyAbout}
 use Rattle.vizlog.specs.Files.{Files, Shelved, MayHold, IsGiven, HoldsJob}
