@@ -71,7 +71,7 @@ one_at (s ∷ selectors) zero r is = let same : s ≡ r = cc in ap (λ y. y ∷ 
 one_at (s ∷ selectors) (suc x) r is = one_at selectors x r is
 
 pub try_more : (nodes : List Node) (n : ℕ) (rulesets : List Trimmed) (selectors : List Numbered) (numbers : List ℕ) (k : ℕ) (start before after : List (Option Applied)) (going next : Option Found) (x : ℕ) (r : Numbered) → drop k numbers ≡ x ∷ drop (k + 1) numbers → slice_get selectors x ≡ Some r
-    → ReachedTry nodes n rulesets selectors numbers k start before going → IsTried nodes n rulesets r before going after next → ReachedTry nodes n rulesets selectors numbers (k + 1) start after next
+    → ReachedTry nodes n rulesets selectors numbers k start before going → IsTried nodes n r (Behind rulesets before going) (Behind rulesets after next) → ReachedTry nodes n rulesets selectors numbers (k + 1) start after next
 try_more nodes n rulesets selectors numbers k start before after going next x r numbered is reached tried =
     let rise = subst (Rises reached.next) numbered reached.rise in
     let named : (at : ℕ) (s : Numbered) → reached.next ≤ at → slice_get selectors at ≡ Some s → Match s.1.selector.parts nodes n → Contains (x ∷ drop (k + 1) numbers) at =

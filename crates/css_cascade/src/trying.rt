@@ -127,8 +127,9 @@ fn try_one<'a: 'b, 'b>(
     requires len { length best.old.items ≡ 39 }
     requires siblings { AreSiblings page.now.nodes siblings.now }
     ensures len { length best.new.items ≡ 39 }
-    ensures tried { IsTried page.now.nodes node rulesets.now (numbered candidate.now)
-        (map (option_map seen) best.old.items) going (map (option_map seen) best.new.items) result }
+    ensures tried { IsTried page.now.nodes node (numbered candidate.now)
+        (Behind rulesets.now (map (option_map seen) best.old.items) going)
+        (Behind rulesets.now (map (option_map seen) best.new.items) result) }
 {
     let ranked = candidate.ranked;
     if matches_beside(&ranked.selector, page, siblings, node) {

@@ -56,11 +56,10 @@ abbrev pub Behind : List Trimmed → List (Option Applied) → Option Found → 
 Behind rulesets best going all = kept_found rulesets best (strongest_behind going all)
 
 -- One more selector is tried: whatever is found behind it, the winners are those behind what was found before.
-abbrev pub IsTried : List Node → ℕ → List Trimmed → Numbered → List (Option Applied) → Option Found
-    → List (Option Applied) → Option Found → Type 0
-IsTried nodes n rulesets r before going after next =
+abbrev pub IsTried : List Node → ℕ → Numbered → (before after : List Found → List (Option Applied)) → Type 0
+IsTried nodes n r before after =
     (rest : List Numbered) (behind : List Found) → Matched nodes n rest behind → (all : List Found)
-    × Matched nodes n (r ∷ rest) all × (Behind rulesets after next behind ≡ Behind rulesets before going all)
+    × Matched nodes n (r ∷ rest) all × (after behind ≡ before all)
 
 -- The winners behind what is said by those of these selectors that match.
 abbrev pub AreTried : List Node → ℕ → List Trimmed → List Numbered → List (Option Applied) → List (Option Applied)
