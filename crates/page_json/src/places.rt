@@ -1,5 +1,5 @@
 //! The nodes of a job file's page in document order.
-ghost use Rattle.std.specs.Prelude.{◌≡◌, ◌≤◌, ◌+◌, ◌^◌, ◌++◌, length, map, IfErr, MatchResult};
+ghost use Rattle.std.specs.Prelude.{◌≡◌, ◌+◌, ◌++◌, length, map, MatchResult};
 ghost use Rattle.serde_json.specs.View.{view};
 ghost use Rattle.page_json.specs.Documents.{children_of, depth_of, listed, places_of};
 ghost use Rattle.page_json.specs.Seen.{seen};
@@ -31,8 +31,7 @@ fn children_of(value: &Value) -> &[Value]
 
 /// The depth of children; there is no memory for greater ones.
 fn below(depth: u64) -> Result<u64, JobFault>
-    ensures is { MatchResult result (λ n. n ≡ depth + 1) (λ fault. fault ≡ JobFault.Mem) }
-    ensures room { IfErr result (λ _. 2 ^ 64 ≤ depth + 1) }
+    ensures { MatchResult result (λ n. n ≡ depth + 1) (λ fault. fault ≡ JobFault.Mem) }
 {
     match depth.checked_add(1) {
         Some(below) => Ok(below),

@@ -1,5 +1,5 @@
 //! What is read from a JSON value.
-ghost use Rattle.std.specs.Prelude.{◌≡◌, ◌≤◌, ◌^◌, map, option_map, IfErr, IfSome, MatchResult};
+ghost use Rattle.std.specs.Prelude.{◌≡◌, ◌≤◌, map, option_map, IfSome, MatchResult};
 ghost use Rattle.std.specs.Option.{option_copied};
 ghost use Rattle.serde_json.specs.Find.{as_str};
 ghost use Rattle.serde_json.specs.View.{view};
@@ -84,8 +84,7 @@ pub(crate) fn text_at<'a>(value: &'a Value, key: &str) -> Option<&'a str>
 
 /// A place as the number of a font, sheet or node; there is no memory for more.
 pub(crate) fn number_of(place: usize) -> Result<u32, JobFault>
-    ensures is { MatchResult result (λ n. n ≡ place) (λ fault. fault ≡ JobFault.Mem) }
-    ensures room { IfErr result (λ _. 2 ^ 32 ≤ place) }
+    ensures { MatchResult result (λ n. n ≡ place) (λ fault. fault ≡ JobFault.Mem) }
 {
     match u32::try_from(place) {
         Ok(number) => Ok(number),

@@ -30,5 +30,5 @@ returns t c =
     ap (map seen) c.in_ok-push.ensures.items ∙ map-append seen c.args.places.now.items _ in
     each_end (view c.args.value.now) c.args.parent c.args.depth c.in_ok-below.below c.in_ok-at.at (length c.loop-child.places.items) (length c.push.new.self.items)
     (map seen c.args.places.now.items) (map seen c.push.new.self.items) (map seen c.loop-child.places.items) c.children_of-child-items.result.now c.loop-child.child-index
-    pushed (length-map c.push.new.self.items seen) (omega (arith, length-map c.args.places.now.items seen)) c.in_ok-below.ensures.is c.children_of-child-items.ensures c.loop-child-test.false c.loop-child.invariant
+    pushed (length-map c.push.new.self.items seen) (omega (arith, length-map c.args.places.now.items seen)) c.in_ok-below.ensures c.children_of-child-items.ensures c.loop-child-test.false c.loop-child.invariant
     ∙ ap (λ n. map seen c.args.places.now.items ++ listed (view c.args.value.now) c.args.parent c.args.depth n) (length-map c.args.places.now.items seen)
