@@ -34,7 +34,7 @@ use Rattle.css_semantics.specs.Specificity.{spec_of}
 use Rattle.css_semantics.specs.ValuesParts.{parts}
 use Rattle.css_semantics.proofs.Declarations.{declarations_are}
 use Rattle.css_semantics.proofs.PieceLemmas.{pieces_same}
-use Rattle.css_select.specs.Refusals.{Refusal, unsupported_at as no_support_at, bad_at}
+use Rattle.css_select.specs.Refusals.{Refusal as SelectorRefusal, unsupported_at as no_support_at, bad_at}
 use Rattle.css_select.specs.Verdicts.{Verdict}
 use Rattle.css_select.proofs.Answers.{one_reading_of}
 
@@ -117,7 +117,7 @@ same_claims {origin = origin} {text = text} {xs = xs} {ys = ys} h k =
 abbrev sketch : Ruleset → List (Parts × Spec) × List Claim
 sketch one = (map parts_and_spec one.group, one.claims)
 
-group_not_refused : {g : List Parts} {reason : Refusal} → ◌≡◌ {A = Verdict} (Ok g) (Err reason) → ⊥
+group_not_refused : {g : List Parts} {reason : SelectorRefusal} → ◌≡◌ {A = Verdict} (Ok g) (Err reason) → ⊥
 group_not_refused h = cc
 
 bad_not_refused : {m n : ℕ} → ◌≡◌ {A = Verdict} (Err (bad_at n)) (Err (no_support_at m)) → ⊥
