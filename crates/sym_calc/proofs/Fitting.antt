@@ -39,14 +39,6 @@ halted_within A Mem row rest h = tt
 halted_within A Coeff row rest h = ap (λ b. b && rest) h
 halted_within A Open row rest h = absurd h
 
-pub within_of_given : (A : Type 0) (halt : Halt) (row : Form) → IsGiven (Err halt) row → IsWithin {A = A} (Err halt) (form_fits row)
-within_of_given A Mem row h = tt
-within_of_given A Coeff row h = h
-within_of_given A Open row h = absurd h
-
-pub open_within : (A : Type 0) (halt : Halt) (fits : Bool) → halt ≡ Open → fits ≡ true → IsWithin {A = A} (Err halt) fits
-open_within A halt fits is h = subst (λ e. IsWithin {A = A} (Err e) fits) (sym is) h
-
 -- ---- rows without variables
 
 no_variable : (ts : Terms) → ts ≡ [] → nat_lt 0 (length ts) ≡ false
@@ -129,16 +121,6 @@ module _ (f : Floor) (xs ys : List Floor) where
       given_same r _ _ _ _ (ap (λ m. m + axis_count) (sym (no_place (same_floor f) (xs ++ ys) none))) (λ i. sym none i || next) h
 
 -- ---- a floor that can be the next
-
-pub cannot_be : (x y : ℕ) (f : Floor) → x ≡ y → are_declared x f.row.terms ≡ false → can_be y f ≡ false
-cannot_be x y f is none = λ i. (ap (λ z. are_declared z f.row.terms) (sym is) ∙ none) i && floor_fits y f
-
-pub cannot_fit : (x y : ℕ) (f : Floor) → x ≡ y → floor_fits x f ≡ false → can_be y f ≡ false
-cannot_fit x y f is none = (λ i. are_declared y f.row.terms && (ap (λ z. floor_fits z f) (sym is) ∙ none) i) ∙ never (are_declared y f.row.terms)
-  where
-    never : (b : Bool) → (b && false) ≡ false
-    never true = refl
-    never false = refl
 
 pub is_next : (x y : ℕ) (f : Floor) → x ≡ y → are_declared x f.row.terms ≡ true → floor_fits x f ≡ true → can_be y f ≡ true
 is_next x y f is declared fits =
