@@ -1,4 +1,4 @@
-"""Finds lemmas that nobody uses, and lemmas that the standard library states already, by their text."""
+"""Finds lemmas that nobody uses, lemmas that stand twice, and lemmas that the standard library states already, by their text."""
 import collections
 import pathlib
 import re
@@ -86,3 +86,17 @@ def restated(crates):
             for at, name, statement in statements(path):
                 if shape(statement) in known:
                     yield path.relative_to(crates), at, name, known[shape(statement)]
+
+
+def twice(crates):
+    """The lemmas of proofs/ of which another crate, or the same, states one of the same shape: place, name, and the first one's place."""
+    first = {}
+    for path in sources(crates):
+        if path.suffix == ".antt" and "proofs" in path.parts and path.name not in GOALS:
+            for at, name, statement in statements(path):
+                key = shape(statement)
+                if "→" in key and not key.startswith("Lang") and "→ Lang" not in key:
+                    if key in first:
+                        yield path.relative_to(crates), at, name, first[key]
+                    else:
+                        first[key] = path.relative_to(crates)

@@ -5,6 +5,7 @@ use Rattle.std.proofs.lemmas.Bool.Decides.{nat_tests}
 use Rattle.std.proofs.lemmas.Option.{same_Some}
 use Rattle.viz_base.specs.declared.worlds.World.{World}
 use Rattle.viz_base.specs.declared.jobs.Job.{Job}
+use Rattle.viz_base.proofs.Truths.{not_both}
 use Rattle.lin_proof.specs.Derivations.{first_fault}
 use Rattle.cert_text.specs.declared.certificate.Cert.{Cert}
 use Rattle.cert_path.specs.Paths.{Path, variables}
@@ -22,7 +23,7 @@ use Rattle.cert_check.specs.Leaves.{node_in}
 use Rattle.cert_check.specs.Numbers.{are_computed}
 use Rattle.cert_check.specs.Right.{IsTrueIfGrid, Right, IsWithin128, IsPlainlyComputed, DecidesWell, IsGood}
 use Rattle.cert_check.specs.Verdicts.{IsFirstUntrue, IsFault, IsRejected, IsFirstRejected, IsCause, IsVerdict}
-use Rattle.cert_check.proofs.Tellings.{not_both, right_of, no_fault, not_rejected, cause_not_right, holds_of}
+use Rattle.cert_check.proofs.Tellings.{right_of, no_fault, not_rejected, cause_not_right, holds_of}
 
 -- ---- what is right and plainly computed is good
 

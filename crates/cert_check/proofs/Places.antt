@@ -16,6 +16,7 @@ use Rattle.lin_row.specs.Number.{in_i128}
 use Rattle.viz_base.specs.Worlds.{along}
 use Rattle.cert_path.specs.Axes.{axes, number_on}
 use Rattle.cert_path.specs.Paths.{def, first, second, Path, variables, with_value, with_floor, values_at, values_along}
+use Rattle.sym_calc.proofs.Knowing.{to_le}
 use Rattle.cert_check.specs.Rectangles.{is_unit}
 use Rattle.cert_check.specs.declared.descent.Above.{Above}
 use Rattle.cert_check.specs.declared.descent.Above.TheVariants.{Def, First, Second}
@@ -164,9 +165,6 @@ Passes world path a (Some p) = IsSoFar world (step_of a ∷ path) p.0 p.1
 as_along : (world : World) (path : Path) (ns : List ℤ) (row : Form) → ns ≡ numbers_at world path → computed row (value_in ns) ≡ computed row (values_along world path)
 as_along world path ns row is = ap (λ (l : List ℤ). computed row (value_in l)) is ∙ ap (computed row) (sym (values_are world path))
 
-is_le : (z : ℤ) → int_le (pos 0) z ≡ true → pos 0 ≤ℤ z
-is_le z e = omega (arith, ints, e)
-
 not_le : (z : ℤ) → int_le (pos 0) z ≡ false → pos 0 ≤ℤ z → ⊥
 not_le z e h = absurd (omega (arith, ints, e, h))
 
@@ -213,7 +211,7 @@ passes world path ns on h (First row) = by_unit (is_unit row.now) refl
         record {
           values = h.values ∙ sym (numbers-first world row.now path);
           computed = λ i. past i && (u i || some i);
-          on = λ t. let b = and_parts on (int_le (pos 0) z) t in (λ _. subst (λ y. pos 0 ≤ℤ y) z_is (is_le z b.1), h.on b.0);
+          on = λ t. let b = and_parts on (int_le (pos 0) z) t in (λ _. subst (λ y. pos 0 ≤ℤ y) z_is (to_le z b.1), h.on b.0);
           off = λ f b. one_false on (int_le (pos 0) z) ⊥ f (λ o. h.off o b.1) (λ l. not_le z l (subst (λ y. pos 0 ≤ℤ y) (sym z_is) (b.0 u)));
         }
 

@@ -1,6 +1,6 @@
 -- Certificates of unit splits and grids keep their numbers in `i128`.
-use Rattle.std.proofs.Common.{◌≡◌, ℕ, ◌<◌, ◌^◌, ◌-◌, ℤ, pos, negsuc, neg_ℤ, ◌-ℤ◌, true, ◌&&◌, ◌||◌, nat_lt, List, [], ◌∷◌, ◌++◌, refl, sym, ◌∙◌, subst, arith, inl, inr, IsTrue, FitsSigned}
-use Rattle.std.specs.Prelude.{◌⊎◌, is_some, ⊤}
+use Rattle.std.proofs.Common.{◌≡◌, ℕ, ◌<◌, ◌^◌, ◌-◌, ℤ, pos, negsuc, neg_ℤ, ◌-ℤ◌, true, ◌&&◌, ◌||◌, nat_lt, List, [], ◌∷◌, ◌++◌, refl, sym, ◌∙◌, subst, arith, inl, inr, FitsSigned}
+use Rattle.std.specs.Prelude.{◌⊎◌, is_some}
 use Rattle.std.specs.Int.{w128}
 use Rattle.std.specs.List.{AllByRecursion}
 use Rattle.std.proofs.lemmas.Int.{ints}
@@ -9,6 +9,7 @@ use Rattle.std.proofs.lemmas.Bool.Decides.{nat_tests}
 use Rattle.std.proofs.lemmas.List.Elements.{recursion_from_All}
 use Rattle.viz_base.specs.declared.worlds.World.{World}
 use Rattle.viz_base.specs.declared.jobs.Job.{Job}
+use Rattle.viz_base.proofs.ListLemmas.{all_append, all_parts}
 use Rattle.lin_row.specs.Number.{in_i128}
 use Rattle.lin_row.specs.Form.{Form, terms_fit, opposites, form_fits, denied}
 use Rattle.lin_row.proofs.Opposites.{in_i128-fit}
@@ -20,9 +21,8 @@ use Rattle.cert_path.specs.Paths.{def, first, second, Path, values_along}
 use Rattle.cert_path.specs.Nodes.{splits, Node, nodes_from, nodes_of}
 use Rattle.cert_path.specs.Laws.{IsUnit}
 use Rattle.cert_path.proofs.Trees.{by_nodes, nodes-def, nodes-split, nodes-void, nodes-grid, nodes-leaf}
-use Rattle.cert_path.proofs.Values.{all_append, all_parts}
 use Rattle.cert_check.specs.Numbers.{computed, are_computed}
-use Rattle.cert_check.specs.Rectangles.{is_unit}
+use Rattle.cert_check.specs.Rectangles.{AreUnits}
 use Rattle.cert_check.specs.Right.{IsWithin128, IsUnitOrGrid}
 use Rattle.cert_check.specs.Laws.{UnitsArePlain}
 use Rattle.cert_check.proofs.Parts.{unit_is_unit_row}
@@ -53,13 +53,8 @@ denied_fits row e u =
 
 -- ---- paths of unit splits
 
-abbrev AreUnits : Path → Type 0
-AreUnits [] = ⊤
-AreUnits (def row d ∷ outer) = ⊥
-AreUnits (first row ∷ outer) = IsTrue (is_unit row) × AreUnits outer
-AreUnits (second row ∷ outer) = IsTrue (is_unit row) × AreUnits outer
-
-units_computed : (path : Path) → AreUnits path → (world : World) → are_computed path world ≡ true
+-- they have no numbers to compute
+pub units_computed : (path : Path) → AreUnits path → (world : World) → are_computed path world ≡ true
 units_computed [] h world = refl
 units_computed (def row d ∷ outer) h world = absurd h
 units_computed (first row ∷ outer) h world =

@@ -1,11 +1,13 @@
 -- From what the walk tells of nodes to the verdict on a certificate.
-use Rattle.std.proofs.Common.{◌≡◌, ℕ, zero, suc, ◌+◌, ◌<◌, Bool, true, false, not, nat_eq, ℤ, List, [], ◌∷◌, ◌++◌, length, Some, Result, Ok, Err, refl, sym, ◌∙◌, ap, subst, arith, inl, inr, IsTrue, rules}
+use Rattle.std.proofs.Common.{◌≡◌, ℕ, zero, suc, ◌+◌, ◌<◌, Bool, true, false, not, nat_eq, ℤ, List, [], ◌∷◌, ◌++◌, length, Some, Result, Ok, Err, refl, sym, ◌∙◌, ap, subst, arith, inl, inr, IsTrue, rules, length-append}
 use Rattle.std.specs.Prelude.{slice_get}
 use Rattle.std.specs.Cmp.Lexicographic.{pointwise, same_text}
 use Rattle.std.specs.List.{AllByRecursion}
 use Rattle.std.proofs.lemmas.Option.{same_Some}
 use Rattle.viz_base.specs.declared.worlds.World.{World}
 use Rattle.viz_base.specs.declared.jobs.Job.{Job}
+use Rattle.viz_base.proofs.Truths.{not_both}
+use Rattle.viz_base.proofs.ListLemmas.{all_append}
 use Rattle.logic_semantics.specs.Ranges.{IsInRange}
 use Rattle.lin_row.specs.Form.{Form, form_fits, denied}
 use Rattle.cert_text.specs.declared.certificate.Cert.{Cert}
@@ -13,6 +15,7 @@ use Rattle.cert_text.specs.declared.certificate.CertNode.{CertNode}
 use Rattle.cert_text.specs.declared.certificate.CertNode.TheVariants.{Def, Split}
 use Rattle.cert_text.specs.declared.certificate.CertNode.TheViews.{the_lemmas}
 use Rattle.cert_text.specs.declared.certificate.CertNode.TheFolds.{fold-roll-CertNode, fold_out-CertNode}
+use Rattle.cert_text.specs.Nodes.{node_count}
 use Rattle.cert_path.specs.Paths.{def, first, second, Path, IsOn}
 use Rattle.cert_path.specs.Nodes.{Decision, names, splits, is_empty, by_worlds, by_answers, is_laid_out, Node, node_on, nodes_from, nodes_of}
 use Rattle.cert_path.specs.Shapes.{is_shaped}
@@ -25,7 +28,7 @@ use Rattle.cert_check.specs.declared.verdicts.Reject.TheVariants.{OtherJob, Shap
 use Rattle.cert_check.specs.declared.walk.Stop.{Stop}
 use Rattle.cert_check.specs.declared.walk.Stop.TheVariants as of_stop
 use Rattle.cert_check.specs.Truths.{Holds, is_true_at}
-use Rattle.cert_check.specs.steps.Tells.{Judges, AllGood, Rejects, Tells, node_count}
+use Rattle.cert_check.specs.steps.Tells.{Judges, AllGood, Rejects, Tells}
 use Rattle.cert_check.specs.Leaves.{node_in}
 use Rattle.cert_check.specs.Right.{IsTrueIfGrid, IsRightNode, Right, IsWithin128, IsPlainlyComputed, DecidesWell, IsGood}
 use Rattle.cert_check.specs.Numbers.{are_computed}
@@ -33,10 +36,6 @@ use Rattle.cert_check.specs.Verdicts.{IsFault, IsRejected, IsFirstRejected, IsCa
 use Rattle.cert_check.proofs.Judging.{is_judged}
 
 -- ---- nodes in their order
-
-good_append : (job : Job) (xs ys : List Node) → AllGood job xs → AllGood job ys → AllGood job (xs ++ ys)
-good_append job [] ys h k = k
-good_append job (x ∷ xs) ys h k = (h.0, good_append job xs ys h.1 k)
 
 rejects_first : (job : Job) (xs ys : List Node) (n : ℕ) (reject : Reject) → Rejects job xs n reject → Rejects job (xs ++ ys) n reject
 rejects_first job [] ys n reject h = absurd h
@@ -65,7 +64,7 @@ tells_first job xs ys n (of_stop.Rejected reject) h = rejects_first job xs ys n 
 
 pub tells_second : (job : Job) (xs ys : List Node) (n m : ℕ) (answer : Result ℕ Stop) → m ≡ n + length xs → AllGood job xs → Tells job ys m answer → Tells job (xs ++ ys) n answer
 unfolding Tells
-tells_second job xs ys n m (Ok next) e good h = good_append job xs ys good h
+tells_second job xs ys n m (Ok next) e good h = all_append (IsGood job) xs ys good h
 tells_second job xs ys n m (Err of_stop.Mem) e good h = tt
 tells_second job xs ys n m (Err (of_stop.Rejected reject)) e good h = rejects_second job xs ys n m reject e good h
 
@@ -93,14 +92,10 @@ count-Def row d below = search (rules, the_lemmas, fold-roll-CertNode, fold_out-
 pub count-Split : (row : Form) (one other : CertNode) → node_count (Split row one other) ≡ 1 + (node_count one + node_count other)
 count-Split row one other = search (rules, the_lemmas, fold-roll-CertNode, fold_out-CertNode)
 
-length_append : (xs ys : List Node) → length (xs ++ ys) ≡ length xs + length ys
-length_append [] ys = omega arith
-length_append (x ∷ xs) ys = omega (arith, length_append xs ys)
-
 pub count_is : (node : CertNode) (path : Path) → length (nodes_from node path) ≡ node_count node
 count_is = by_nodes (λ node. (path : Path) → length (nodes_from node path) ≡ node_count node) (record {
   def = λ row d below one path. rw (nodes-def, fold-roll-CertNode) (omega (arith, one (def row d ∷ path)));
-  split = λ row one other h k path. rw (nodes-split, fold-roll-CertNode) (omega (arith, length_append (nodes_from one (first row ∷ path)) (nodes_from other (second row ∷ path)), h (first row ∷ path), k (second row ∷ path)));
+  split = λ row one other h k path. rw (nodes-split, fold-roll-CertNode) (omega (arith, length-append (nodes_from one (first row ∷ path)) (nodes_from other (second row ∷ path)), h (first row ∷ path), k (second row ∷ path)));
   void = λ why path. rw (nodes-void, fold-roll-CertNode) refl;
   grid = λ path. rw (nodes-grid, fold-roll-CertNode) refl;
   leaf = λ answers path. rw (nodes-leaf, fold-roll-CertNode) refl;
@@ -272,10 +267,6 @@ pub rejects : (job : Job) (cert : Cert) (path : Path) (reject : Reject) → IsTo
 rejects job cert path reject h = cause_of job cert reject h.1 (tells_bad job (nodes_of cert) 0 reject (at_root job cert path (Err (of_stop.Rejected reject)) h))
 
 -- ---- certificates that are computed without leaves
-
-pub not_both : (b : Bool) → b ≡ true → b ≡ false → ⊥
-not_both true e f = absurd (cc)
-not_both false e f = absurd (cc)
 
 -- a node that is right and within `i128` is not rejected
 pub no_fault : (job : Job) (path : Path) (d : Decision) (reject : Reject) → HasReasons job.range path d → IsTrueIfGrid job path d → IsWithin128 job path d → IsFault job path d reject → ⊥

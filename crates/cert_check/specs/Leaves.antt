@@ -1,10 +1,10 @@
 -- What the verdict on a leaf says.
 use Rattle.std.specs.Prelude.{◌≡◌, ◌≢◌, ℕ, ◌<◌, ◌≤◌, ◌-◌, Bool, true, false, IsTrue, List, length, take, Option, Some, None, slice_get}
+use Rattle.viz_base.specs.Numbers.{Rose}
 use Rattle.viz_base.specs.declared.worlds.Rect.{Rect}
 use Rattle.viz_base.specs.declared.worlds.World.{World}
 use Rattle.viz_base.specs.declared.jobs.Job.{Job}
 use Rattle.viz_calc.specs.World.{Reading}
-use Rattle.viz_calc.specs.State.{Rose}
 use Rattle.lin_row.specs.Form.{Form}
 use Rattle.lin_proof.specs.declared.derivation.Answer.{Answer}
 use Rattle.cert_path.specs.Paths.{Path, AreSound}

@@ -1,5 +1,5 @@
 -- Rectangles of worlds, and what cutting by unit rows leaves of them.
-use Rattle.std.specs.Prelude.{ℕ, ◌+◌, ◌-◌, ◌*◌, ◌≤◌, ℤ, pos, negsuc, neg_ℤ, ◌-ℤ◌, Bool, nat_lt, nat_le, [], ◌∷◌, min, max, Option, Some, None, is_some, if◌then◌else◌}
+use Rattle.std.specs.Prelude.{ℕ, ◌+◌, ◌-◌, ◌*◌, ◌≤◌, ℤ, pos, negsuc, neg_ℤ, ◌-ℤ◌, Bool, IsTrue, nat_lt, nat_le, [], ◌∷◌, min, max, Option, Some, None, is_some, ⊤, if◌then◌else◌}
 use Rattle.std.specs.Ordering.{int_eq}
 use Rattle.std.specs.Option.{option_map, option_and_then}
 use Rattle.viz_base.specs.declared.worlds.Rect.{Rect}
@@ -8,6 +8,7 @@ use Rattle.viz_base.specs.declared.worlds.Span.{Span}
 use Rattle.viz_base.specs.Worlds.{side_of, with_side}
 use Rattle.lin_row.specs.Form.{Form, Terms}
 use Rattle.cert_path.specs.Axes.{axis_of}
+use Rattle.cert_path.specs.Paths.{def, first, second, Path}
 use Rattle.cert_check.specs.declared.cuts.Child.{Child}
 use Rattle.cert_check.specs.declared.cuts.Child.TheVariants.{First, Second}
 use Rattle.cert_check.specs.declared.cuts.Opens.{Opens}
@@ -50,6 +51,13 @@ cut_of row = terms_cut row.k row.terms
 
 abbrev pub is_unit : Form → Bool
 is_unit row = is_some (cut_of row)
+
+-- each step of the path is to a child of a split by a unit row
+abbrev pub AreUnits : Path → Type 0
+AreUnits [] = ⊤
+AreUnits (def row d ∷ outer) = ⊥
+AreUnits (first row ∷ outer) = IsTrue (is_unit row) × AreUnits outer
+AreUnits (second row ∷ outer) = IsTrue (is_unit row) × AreUnits outer
 
 -- ---- cutting
 

@@ -1,7 +1,8 @@
 ghost use Rattle.std.specs.Prelude.{◌≡◌, ◌<◌, true, Ok, Some, None, IsTrue, IfOk, IfErr, IfSome, OnOk};
 ghost use Rattle.std.specs.Bool.{Decides};
+ghost use Rattle.viz_base.specs.Numbers.{Rose};
 ghost use Rattle.viz_calc.specs.World.{Reading};
-ghost use Rattle.viz_calc.specs.State.{Grows, Rose, is_told};
+ghost use Rattle.viz_calc.specs.State.{Grows, is_told};
 ghost use Rattle.sym_calc.specs.Calc.{state_of};
 ghost use Rattle.cert_check.specs.Truths.{is_true_at};
 ghost use Rattle.cert_path.specs.Paths.{Path};

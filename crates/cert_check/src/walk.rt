@@ -2,6 +2,7 @@ ghost use Rattle.std.specs.Prelude.{◌≡◌, ◌+◌, ◌<◌, ◌≤◌, ◌^
 ghost use Rattle.viz_base.specs.declared.jobs.Job.{Job};
 ghost use Rattle.std.specs.Option.{option_and_then};
 ghost use Rattle.lin_row.specs.Form.{denied, form_fits};
+ghost use Rattle.cert_text.specs.Nodes.{node_count};
 ghost use Rattle.cert_path.specs.Nodes.{names, splits, is_empty, by_worlds, by_answers, Node, node_on, nodes_from};
 ghost use Rattle.cert_path.specs.Axes.{axis_count};
 ghost use Rattle.cert_path.specs.Paths.{def, first, second, is_declared, variables};
@@ -12,7 +13,7 @@ ghost use Rattle.cert_check.specs.Rectangles.{IsWithin, cut_of, cut_at};
 ghost use Rattle.cert_check.specs.Verdicts.{IsRejected};
 ghost use Rattle.cert_check.specs.steps.Descent.{path_of};
 ghost use Rattle.cert_check.specs.steps.Grids.{IsPart};
-ghost use Rattle.cert_check.specs.steps.Tells.{Judges, Tells, node_count};
+ghost use Rattle.cert_check.specs.steps.Tells.{Judges, Tells};
 
 use crate::cuts::{Child, cut_of, part_of, world_count};
 use crate::descent::Descent;

@@ -5,6 +5,7 @@ use Rattle.std.specs.List.{AllByRecursion}
 use Rattle.std.proofs.lemmas.Int.{ints}
 use Rattle.std.proofs.lemmas.Option.{same_Some}
 use Rattle.viz_base.specs.declared.worlds.World.{World}
+use Rattle.viz_base.proofs.ListLemmas.{all_append}
 use Rattle.lin_row.specs.Form.{Form, value}
 use Rattle.cert_text.specs.declared.certificate.Cert.{Cert}
 use Rattle.cert_text.specs.declared.certificate.CertNode.{CertNode}
@@ -12,7 +13,6 @@ use Rattle.cert_path.specs.Paths.{def, first, second, Path, values_along, IsOn}
 use Rattle.cert_path.specs.Nodes.{Decision, names, splits, is_empty, by_worlds, by_answers, is_end, Node, nodes_from, nodes_of}
 use Rattle.cert_path.specs.Laws.{IsEndOf}
 use Rattle.cert_path.proofs.Trees.{def_node, split_node, by_nodes, nodes-def, nodes-split, nodes-void, nodes-grid, nodes-leaf}
-use Rattle.cert_path.proofs.Values.{all_append}
 
 -- the node is an end on whose path the world lies
 pub record TakesIn (world : World) (node : Node) : Type 0 where

@@ -7,6 +7,7 @@ use Rattle.std.proofs.lemmas.Bool.Decides.{nat_tests}
 use Rattle.std.proofs.lemmas.Option.{same_Some}
 use Rattle.viz_base.specs.declared.worlds.World.{World}
 use Rattle.viz_base.specs.declared.worlds.Rect.{Rect}
+use Rattle.viz_base.proofs.ListLemmas.{all_append, all_parts}
 use Rattle.logic_semantics.specs.Ranges.{IsInRange}
 use Rattle.lin_row.specs.Form.{Form, value, plus, denied}
 use Rattle.lin_row.proofs.Values.{value-plus, value-denied}
@@ -22,7 +23,7 @@ use Rattle.cert_path.specs.Facts.{row_of, range_facts, step_facts, facts}
 use Rattle.cert_path.specs.Derived.{below_floors, AreFloors, IsAnswer, denial, IsRefuted}
 use Rattle.cert_path.specs.Laws.{AreAlong}
 use Rattle.cert_path.proofs.Sound.{def_sound}
-use Rattle.cert_path.proofs.Values.{Agree, Local, all_append, all_parts, declared_local, denied_local, plus_local, row_local, more_local, with_old, with_new, one_floor}
+use Rattle.cert_path.proofs.Values.{Agree, Local, declared_local, denied_local, plus_local, row_local, more_local, with_old, with_new, one_floor}
 
 -- ---- lists of rows
 

@@ -7,6 +7,7 @@ use Rattle.std.proofs.lemmas.Bool.{and_parts}
 use Rattle.std.proofs.lemmas.Bool.Decides.{nat_tests}
 use Rattle.std.proofs.lemmas.Option.{same_Some}
 use Rattle.viz_base.specs.declared.worlds.Rect.{Rect}
+use Rattle.viz_base.proofs.Truths.{not_both}
 use Rattle.lin_row.specs.Form.{Form}
 use Rattle.cert_text.specs.declared.certificate.Cert.{Cert}
 use Rattle.cert_text.specs.declared.certificate.CertNode.{CertNode}
@@ -117,9 +118,6 @@ first_fault_or_none range cert = by_list (first_or_none range (nodes_of cert))
     by_list : FirstOrNone range (nodes_of cert) → ((n : ℕ) × IsFirstFault range cert n) ⊎ AreShapedBefore range cert (length (nodes_of cert))
     by_list (inl found) = inl (found.0, record { node = found.1.node; is_node = found.1.is_node; bad = found.1.bad; before = found.1.before })
     by_list (inr none) = inr none
-
-not_both : (b : Bool) → b ≡ true → b ≡ false → ⊥
-not_both b t f = absurd (cc)
 
 not_before : (range : Rect) (cert : Cert) (n m : ℕ) → IsFirstFault range cert n → IsFirstFault range cert m → n < m → ⊥
 not_before range cert n m h k less = not_both (has_shape range h.node) (k.before n h.node less h.is_node) h.bad

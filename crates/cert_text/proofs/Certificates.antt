@@ -163,13 +163,13 @@ good_answers =
 text_Def : (row : Form) (d : ℤ) (below : CertNode) → node_text (Def row d below) ≡ concat (codes "def " ∷ row_bytes row ∷ codes " by " ∷ int_bytes d ∷ codes "\n" ∷ node_text below ∷ [])
 text_Def row d below = search (rules, the_lemmas, fold-roll-CertNode, fold_out-CertNode)
 
-text_Split : (row : Form) (first second : CertNode) → node_text (Split row first second) ≡ concat (codes "split " ∷ row_bytes row ∷ codes "\n" ∷ node_text first ∷ node_text second ∷ [])
+pub text_Split : (row : Form) (first second : CertNode) → node_text (Split row first second) ≡ concat (codes "split " ∷ row_bytes row ∷ codes "\n" ∷ node_text first ∷ node_text second ∷ [])
 text_Split row first second = search (rules, the_lemmas, fold-roll-CertNode, fold_out-CertNode)
 
 text_Void : (why : Derivation) → node_text (Void why) ≡ concat (codes "void\n" ∷ derivation_text why ∷ [])
 text_Void why = search (rules, the_lemmas, fold-roll-CertNode, fold_out-CertNode)
 
-text_Grid : node_text Grid ≡ codes "grid\n"
+pub text_Grid : node_text Grid ≡ codes "grid\n"
 text_Grid = search (rules, the_lemmas, fold-roll-CertNode, fold_out-CertNode)
 
 text_Leaf : (answers : List Reason) → node_text (Leaf answers) ≡ concat (codes "leaf\n" ∷ flat_map answer_text answers ∷ codes "end\n" ∷ [])
@@ -178,13 +178,13 @@ text_Leaf answers = search (rules, the_lemmas, fold-roll-CertNode, fold_out-Cert
 nested_Def : (row : Form) (d : ℤ) (below : CertNode) → ◌≡◌ {A = Nested} (node_has_text (Def row d below)) (node_nested (CertNode-F.Def row d (node_has_text below)))
 nested_Def row d below = search (rules, the_lemmas, fold-roll-CertNode, fold_out-CertNode)
 
-nested_Split : (row : Form) (first second : CertNode) → ◌≡◌ {A = Nested} (node_has_text (Split row first second)) (node_nested (CertNode-F.Split row (node_has_text first) (node_has_text second)))
+pub nested_Split : (row : Form) (first second : CertNode) → ◌≡◌ {A = Nested} (node_has_text (Split row first second)) (node_nested (CertNode-F.Split row (node_has_text first) (node_has_text second)))
 nested_Split row first second = search (rules, the_lemmas, fold-roll-CertNode, fold_out-CertNode)
 
 nested_Void : (why : Derivation) → ◌≡◌ {A = Nested} (node_has_text (Void why)) (node_nested (CertNode-F.Void why))
 nested_Void why = search (rules, the_lemmas, fold-roll-CertNode, fold_out-CertNode)
 
-nested_Grid : ◌≡◌ {A = Nested} (node_has_text Grid) (node_nested CertNode-F.Grid)
+pub nested_Grid : ◌≡◌ {A = Nested} (node_has_text Grid) (node_nested CertNode-F.Grid)
 nested_Grid = search (rules, the_lemmas, fold-roll-CertNode, fold_out-CertNode)
 
 nested_Leaf : (answers : List Reason) → ◌≡◌ {A = Nested} (node_has_text (Leaf answers)) (node_nested (CertNode-F.Leaf answers))

@@ -1,6 +1,7 @@
 -- What a whole reading says of the bytes: the one certificate that they spell, or how far they could be one's text.
-use Rattle.std.proofs.Common.{◌≡◌, ℕ, zero, suc, ◌-◌, ◌≤◌, List, [], ◌∷◌, ◌++◌, length, take, Result, Ok, Err, refl, sym, ◌∙◌, ap, subst, arith, length-append}
+use Rattle.std.proofs.Common.{◌≡◌, ℕ, zero, suc, ◌-◌, ◌≤◌, List, [], ◌∷◌, ◌++◌, length, take, Ok, Err, refl, sym, ◌∙◌, ap, subst, arith, length-append}
 use Rattle.std.proofs.lemmas.List.{append-nil}
+use Rattle.viz_base.proofs.Sameness.{same_Ok}
 use Rattle.cert_text.specs.declared.certificate.Cert.{Cert}
 use Rattle.cert_text.specs.Texts.{CertText}
 use Rattle.cert_text.specs.Fault.{IsNoText}
@@ -32,12 +33,9 @@ take_front : (read rest : List ℕ) → take (length read) (read ++ rest) ≡ re
 take_front [] rest = refl
 take_front (c ∷ read) rest = ap (λ t. c ∷ t) (take_front read rest)
 
-same_Ok : {A E : Type 0} (x y : A) → ◌≡◌ {A = Result A E} (Ok x) (Ok y) → x ≡ y
-same_Ok x y h = cc
-
 spelled_end : (text : List ℕ) (v c : Cert) (rest left : List ℕ) → IsTaken CertText text v rest → at_end v rest ≡ Ok (c, left) → CertText c text
 spelled_end text v c [] left h is =
-    let same : v ≡ c = ap (λ (p : Cert × List ℕ). p.0) (same_Ok {E = List ℕ} (v, []) (c, left) is) in
+    let same : v ≡ c = ap (λ (p : Cert × List ℕ). p.0) (same_Ok {E = List ℕ} is) in
     subst (λ x. CertText x text) same (subst (λ t. CertText v t) (sym (h.whole ∙ append-nil h.read)) h.is_text)
 spelled_end text v c (x ∷ xs) left h is = absurd (cc)
 

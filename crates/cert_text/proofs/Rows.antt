@@ -3,6 +3,7 @@ use Rattle.std.proofs.Common.{◌≡◌, ℕ, zero, suc, ◌+◌, ◌-◌, ◌^�
 use Rattle.std.specs.Fmt.{decimal}
 use Rattle.std.specs.List.{flat_map}
 use Rattle.std.specs.Ordering.{int_eq}
+use Rattle.std.proofs.Math.Bool.{or-false, or-true}
 use Rattle.std.proofs.lemmas.Bool.{false≢true, and_parts}
 use Rattle.std.proofs.lemmas.Bool.Decides.{nat_tests}
 use Rattle.std.proofs.lemmas.List.{append-nil}
@@ -112,14 +113,6 @@ abbrev pub MayCome : Bool → ℕ → Type 0
 MayCome false least = least ≤ most
 MayCome true least = least ≤ most + 1
 
-or_no : (b : Bool) → (b || false) ≡ b
-or_no true = refl
-or_no false = refl
-
-or_yes : (b : Bool) → (b || true) ≡ true
-or_yes true = refl
-or_yes false = refl
-
 good_def_by : (b : Bool) (least : ℕ) → nat_lt most least ≡ b → Grammar (Either By (OneTerm true least)) (λ text. cond (begins 98 text || b) (read_by text) (read_one_term true least text))
 good_def_by true least is =
     let lt : most < least = grind (arith, nat_tests) in
@@ -127,7 +120,7 @@ good_def_by true least is =
     record {
       plain = g.plain;
       some = g.some;
-      read = λ text. subst (λ c. IsRead (Either By (OneTerm true least)) text (cond c (read_by text) (read_one_term true least text))) (sym (or_yes (begins 98 text))) (g.read text);
+      read = λ text. subst (λ c. IsRead (Either By (OneTerm true least)) text (cond c (read_by text) (read_one_term true least text))) (sym (or-true (begins 98 text))) (g.read text);
     }
   where
     only : (v : Turn Term (Option Term)) (t : List ℕ) → most < least → Either By (OneTerm true least) v t → By v t
@@ -139,7 +132,7 @@ good_def_by false least is =
     record {
       plain = g.plain;
       some = g.some;
-      read = λ text. subst (λ c. IsRead (Either By (OneTerm true least)) text (cond c (read_by text) (read_one_term true least text))) (sym (or_no (begins 98 text))) (g.read text);
+      read = λ text. subst (λ c. IsRead (Either By (OneTerm true least)) text (cond c (read_by text) (read_one_term true least text))) (sym (or-false (begins 98 text))) (g.read text);
     }
 
 good_item : (is_def : Bool) (least : ℕ) → MayCome is_def least → Grammar (TermItem is_def least) (read_term is_def least)

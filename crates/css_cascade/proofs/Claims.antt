@@ -11,6 +11,7 @@ use Rattle.viz_base.specs.declared.settings.Value.{Value}
 use Rattle.viz_base.specs.declared.sheets.Decl.{Decl}
 use Rattle.viz_base.specs.declared.sheets.Rule.{Rule}
 use Rattle.viz_base.specs.declared.sheets.Sheet.{Sheet}
+use Rattle.viz_base.proofs.ListLemmas.{all_append}
 use Rattle.css_semantics.specs.declared.claims.Claim.{Claim}
 use Rattle.css_semantics.specs.declared.claims.Origin.{Origin}
 use Rattle.css_semantics.specs.declared.claims.Origin.TheVariants as of_origin
@@ -22,7 +23,7 @@ use Rattle.css_semantics.specs.CascadeReading.{AppliesTo, AreApplied, AreRuleset
 use Rattle.css_semantics.specs.Sources.{IsValueAt, style_text}
 use Rattle.css_semantics.specs.Values.{setting}
 use Rattle.css_semantics.specs.Winners.{IsAllowed}
-use Rattle.css_semantics.proofs.Allowed.{all_append, declared_allowed}
+use Rattle.css_semantics.proofs.Allowed.{declared_allowed}
 
 pub record IsStated (nodes : List Node) (texts : List (List ℕ)) (c : Claim) : Type 0 where
   pub allowed : (v : Value) → c.value ≡ Some v → IsAllowed (setting c.prop v)

@@ -1,26 +1,26 @@
 -- Of what a ruleset says of a property, its own winner alone decides, by whatever specificity the ruleset applies.
-use Rattle.std.proofs.Common.{◌≡◌, ℕ, ◌+◌, drop, Bool, true, false, cond, ◌==◌, List, [], ◌∷◌, ◌++◌, map, filter, Option, Some, None, refl, sym, ap, ◌∙◌, subst, arith}
+use Rattle.std.proofs.Common.{◌≡◌, ℕ, ◌+◌, drop, Bool, true, false, cond, List, [], ◌∷◌, ◌++◌, map, filter, Option, Some, None, refl, sym, ap, ◌∙◌, subst}
 use Rattle.std.specs.Prelude.{flat_map}
 use Rattle.std.specs.List.{AllByRecursion}
 use Rattle.std.specs.Ordering.{nat_cmp, on, is_gt, ordering_reverse, ordering_then}
 use Rattle.std.specs.declared.cmp.Ordering.{Ordering}
 use Rattle.std.specs.declared.cmp.Ordering.TheVariants.{Less, Equal, Greater}
-use Rattle.std.proofs.lemmas.Bool.Decides.{nat_tests}
 use Rattle.std.proofs.lemmas.Cmp.{upto}
 use Rattle.viz_base.specs.declared.selectors.Spec.{Spec}
 use Rattle.viz_base.specs.declared.settings.Prop.{Prop}
 use Rattle.viz_base.specs.declared.settings.Prop.TheVariants as prop
+use Rattle.viz_base.proofs.Truths.{by_bool, not_both, same_number}
 use Rattle.css_semantics.specs.declared.claims.Claim.{Claim}
 use Rattle.css_semantics.specs.declared.claims.Ruleset.{Ruleset}
 use Rattle.css_semantics.specs.CascadeNodes.{winners_for}
 use Rattle.css_semantics.specs.CascadeOrder.{Applied, applied, cascade_cmp, greatest, greatest_from, is_prop, later_of, of_prop, place_of, spec_cmp, weight_number, winner_of}
 use Rattle.css_semantics.specs.Properties.{properties}
 use Rattle.css_semantics.proofs.Greatest.{cascade_total, spec_total}
-use Rattle.css_semantics.proofs.Pairs.{by_bool}
+use Rattle.css_semantics.proofs.PropLemmas.{same_prop}
 use Rattle.css_cascade.specs.steps.Seen.{claims_in, greatest_on, kept_all, later_or, winner_on}
 use Rattle.css_cascade.specs.declared.trimming.Trimmed.{Trimmed}
 use Rattle.css_cascade.specs.steps.Trimming.{IsTrimmed, LastsAs, rules_of}
-use Rattle.css_cascade.proofs.Orders.{HasProp, same_prop, winner_has}
+use Rattle.css_cascade.proofs.Orders.{HasProp, winner_has}
 use Rattle.css_cascade.proofs.Slots.{all_kept, claims_are, slots_are}
 use Rattle.css_cascade.proofs.Winners.{kept, nothing}
 
@@ -36,9 +36,6 @@ passes x y = is_gt (cascade_cmp x y)
 
 abbrev Joined : Applied → Applied → Applied → Bool → Bool → Type 0
 Joined x y z a b = cond (passes (cond a x y) z) (cond a x y) z ≡ cond (passes x (cond b y z)) x (cond b y z)
-
-not_both : (b : Bool) → b ≡ true → b ≡ false → ⊥
-not_both b t f = let wrong : true ≡ false = sym t ∙ f in cc
 
 passes_through : (x y z : Applied) → passes x y ≡ true → passes y z ≡ true → passes x z ≡ false → passes x y ≡ false
 passes_through x y z p q r = upto cascade_total x z y r (gt_back (cascade_cmp y z) (cascade_cmp z y) (cascade_total.antisymm y z) q)
@@ -105,9 +102,6 @@ all_for p s (c ∷ cs) = one_for s c (of_prop p (map (applied s) cs)) (claims_fo
 decides : (s : Spec) (b : Option Applied) (c : Claim) (cs : List Claim) → Some (later_or b (applied s (greatest_from weigh c cs))) ≡ greatest_on cascade_cmp b (map (applied s) (c ∷ cs))
 decides s None c cs = ap Some (sym (from_claims s c cs))
 decides s (Some x) c cs = ap Some (ap (later_of cascade_cmp x) (sym (from_claims s c cs)) ∙ sym (grown_from x (applied s c) (map (applied s) cs)))
-
-same_number : (n : ℕ) → (n == n) ≡ true
-same_number n = grind (arith, nat_tests)
 
 abbrev behind : Prop → Spec → Option Applied → Option Applied → Option Applied
 behind p s b o = winner_on p b (map (applied s) (claims_in o))

@@ -14,6 +14,7 @@ use Rattle.viz_base.specs.declared.sheets.Decl.{Decl}
 use Rattle.viz_base.specs.declared.sheets.Rule.{Rule}
 use Rattle.viz_base.specs.declared.sheets.Sheet.{Sheet}
 use Rattle.viz_base.specs.Pages.{is_replaced}
+use Rattle.viz_base.proofs.Sameness.{same_Ok, same_Err, no_Ok, no_cons, same_head, same_tail}
 use Rattle.css_semantics.specs.declared.claims.Claim.{Claim}
 use Rattle.css_semantics.specs.declared.claims.Origin.{Origin}
 use Rattle.css_semantics.specs.declared.claims.Origin.TheVariants as of_origin
@@ -45,21 +46,6 @@ abbrev image : {B D E : Type 0} → (B → D) → Result (List B) E → Result (
 image f (Ok ys) = Ok (map f ys)
 image f (Err e) = Err e
 
-same_ok : {A E : Type 0} {x y : A} → ◌≡◌ {A = Result A E} (Ok x) (Ok y) → x ≡ y
-same_ok h = cc
-
-no_ok : {A E : Type 0} {x : A} {e : E} → ◌≡◌ {A = Result A E} (Ok x) (Err e) → ⊥
-no_ok h = cc
-
-no_cons : {A : Type 0} {x : A} {xs : List A} → [] ≡ x ∷ xs → ⊥
-no_cons h = cc
-
-same_head : {A : Type 0} {x y : A} {xs ys : List A} → x ∷ xs ≡ y ∷ ys → x ≡ y
-same_head h = cc
-
-same_tail : {A : Type 0} {x y : A} {xs ys : List A} → x ∷ xs ≡ y ∷ ys → xs ≡ ys
-same_tail h = cc
-
 -- items of the same keys give the same, as far as it is kept
 abbrev Agrees : {A B C D E : Type 0} → (A → Result (List B) E → Type 0) → (A → C) → (B → D) → Type 0
 Agrees {A} {B} {C} {D} {E} Gives key f = (x y : A) (r s : Result (List B) E) → key x ≡ key y → Gives x r → Gives y s → image f r ≡ image f s
@@ -74,16 +60,16 @@ each_same Gives key f agree (Each.joined g h) Each.nothing e = absurd (no_cons (
 each_same Gives key f agree (Each.refused g) Each.nothing e = absurd (no_cons (sym e))
 each_same Gives key f agree (Each.refused_behind g h) Each.nothing e = absurd (no_cons (sym e))
 each_same Gives key f agree (Each.joined {x = x} {ys = ps} {zs = bs} g h) (Each.joined {x = y} {ys = cs} {zs = ds} i k) e =
-    let first : map f ps ≡ map f cs = same_ok (agree x y (Ok ps) (Ok cs) (same_head e) g i) in
-    let behind : map f bs ≡ map f ds = same_ok (each_same Gives key f agree h k (same_tail e)) in
+    let first : map f ps ≡ map f cs = same_Ok (agree x y (Ok ps) (Ok cs) (same_head e) g i) in
+    let behind : map f bs ≡ map f ds = same_Ok (each_same Gives key f agree h k (same_tail e)) in
     ap Ok (map-append f ps bs ∙ (ap (λ l. l ++ map f bs) first ∙ (ap (λ l. map f cs ++ l) behind ∙ sym (map-append f cs ds))))
-each_same Gives key f agree (Each.joined {x = x} {ys = ps} g h) (Each.refused {x = y} {e = fault} i) e = absurd (no_ok (agree x y (Ok ps) (Err fault) (same_head e) g i))
-each_same Gives key f agree (Each.joined g h) (Each.refused_behind i k) e = absurd (no_ok (each_same Gives key f agree h k (same_tail e)))
-each_same Gives key f agree (Each.refused {x = x} {e = fault} g) (Each.joined {x = y} {ys = cs} i k) e = absurd (no_ok (sym (agree x y (Err fault) (Ok cs) (same_head e) g i)))
+each_same Gives key f agree (Each.joined {x = x} {ys = ps} g h) (Each.refused {x = y} {e = fault} i) e = absurd (no_Ok (agree x y (Ok ps) (Err fault) (same_head e) g i))
+each_same Gives key f agree (Each.joined g h) (Each.refused_behind i k) e = absurd (no_Ok (each_same Gives key f agree h k (same_tail e)))
+each_same Gives key f agree (Each.refused {x = x} {e = fault} g) (Each.joined {x = y} {ys = cs} i k) e = absurd (no_Ok (sym (agree x y (Err fault) (Ok cs) (same_head e) g i)))
 each_same Gives key f agree (Each.refused {x = x} {e = fault} g) (Each.refused {x = y} {e = other} i) e = agree x y (Err fault) (Err other) (same_head e) g i
-each_same Gives key f agree (Each.refused {x = x} {e = fault} g) (Each.refused_behind {x = y} {ys = cs} i k) e = absurd (no_ok (sym (agree x y (Err fault) (Ok cs) (same_head e) g i)))
-each_same Gives key f agree (Each.refused_behind g h) (Each.joined i k) e = absurd (no_ok (sym (each_same Gives key f agree h k (same_tail e))))
-each_same Gives key f agree (Each.refused_behind {x = x} {ys = ps} g h) (Each.refused {x = y} {e = other} i) e = absurd (no_ok (agree x y (Ok ps) (Err other) (same_head e) g i))
+each_same Gives key f agree (Each.refused {x = x} {e = fault} g) (Each.refused_behind {x = y} {ys = cs} i k) e = absurd (no_Ok (sym (agree x y (Err fault) (Ok cs) (same_head e) g i)))
+each_same Gives key f agree (Each.refused_behind g h) (Each.joined i k) e = absurd (no_Ok (sym (each_same Gives key f agree h k (same_tail e))))
+each_same Gives key f agree (Each.refused_behind {x = x} {ys = ps} g h) (Each.refused {x = y} {e = other} i) e = absurd (no_Ok (agree x y (Ok ps) (Err other) (same_head e) g i))
 each_same Gives key f agree (Each.refused_behind g h) (Each.refused_behind i k) e = each_same Gives key f agree h k (same_tail e)
 
 -- ---- declarations
@@ -109,7 +95,7 @@ claims_agree origin text d e r s same h k = ap (image (λ c. c)) (one_claim (sub
 
 same_claims : {origin : Origin} {text : List ℕ} {decls : List Decl} {xs ys : List Claim} → AreClaimed origin text decls xs → AreClaimed origin text decls ys → xs ≡ ys
 same_claims {origin = origin} {text = text} {xs = xs} {ys = ys} h k =
-    sym (map-id xs) ∙ (same_ok (each_same (IsClaimed origin text) (λ d. d) (λ c. c) (claims_agree origin text) h k refl) ∙ map-id ys)
+    sym (map-id xs) ∙ (same_Ok (each_same (IsClaimed origin text) (λ d. d) (λ c. c) (claims_agree origin text) h k refl) ∙ map-id ys)
 
 -- ---- rulesets
 
@@ -206,7 +192,7 @@ no_text h = cc
 
 same_applied : {nodes : List Node} {rs qs : List Ruleset} {n : ℕ} {b c : Body} {xs ys : List Applied} → AreApplied nodes rs n b xs → AreApplied nodes qs n c ys → b ≡ c → map sketch rs ≡ map sketch qs → xs ≡ ys
 same_applied {nodes = nodes} {n = n} (AreApplied.to_element {all = all} {style = x} h s) (AreApplied.to_element {all = every} {style = y} k t) e same =
-    let rules : all ≡ every = sym (map-id all) ∙ (same_ok (each_same (AppliesTo nodes n) sketch (λ z. z) (applies_agree nodes n) h k same) ∙ map-id every) in
+    let rules : all ≡ every = sym (map-id all) ∙ (same_Ok (each_same (AppliesTo nodes n) sketch (λ z. z) (applies_agree nodes n) h k same) ∙ map-id every) in
     let style : x ≡ y = same_style (subst (λ l. IsStyled n l x) (ap attrs_or e) s) t in
     ap (λ l. l ++ map (applied style_spec) x) rules ∙ ap (λ l. every ++ map (applied style_spec) l) style
 same_applied (AreApplied.to_element h s) AreApplied.to_text e same = absurd (no_text e)
@@ -218,9 +204,6 @@ same_applied AreApplied.to_text AreApplied.to_text e same = refl
 same_node : {nodes : List Node} {rs qs : List Ruleset} {st : List Standing} {n : ℕ} {node : Node} {r s : Result (List Setting × Standing) Claim} → ComesTo nodes rs st n node r → ComesTo nodes qs st n node s → map sketch rs ≡ map sketch qs → r ≡ s
 same_node {st = st} {node = node} (ComesTo.comes_to h) (ComesTo.comes_to k) same =
     ap (λ all. judged (is_replaced node.body) (standing_around st node.parent) (winners_of all)) (same_applied h k refl same)
-
-same_err : {A E : Type 0} {x y : E} → ◌≡◌ {A = Result A E} (Err x) (Err y) → x ≡ y
-same_err h = cc
 
 -- what two nodes of the same number come to after the same nodes
 alike : {nodes : List Node} {rs qs : List Ruleset} {st su : List Standing} {ws vs : List (List Setting)} {x y : Node} {r s : Result (List Setting × Standing) Claim}
@@ -236,17 +219,17 @@ same_goes Goes.ends (Goes.goes_on k more) e f g same = absurd (no_cons g)
 same_goes (Goes.refuses h) Goes.ends e f g same = absurd (no_cons (sym g))
 same_goes (Goes.goes_on h more) Goes.ends e f g same = absurd (no_cons (sym g))
 same_goes (Goes.refuses {winners = ws} {c = c} h) (Goes.refuses {winners = vs} {c = d} k) e f g same =
-    ap (λ (w : List (List Setting)). Err (value_at (length w) c.prop c.source)) f ∙ ap (λ (x : Claim). Err (value_at (length vs) x.prop x.source)) (same_err (alike h k e f (same_head g) same))
-same_goes (Goes.refuses h) (Goes.goes_on k more) e f g same = absurd (no_ok (sym (alike h k e f (same_head g) same)))
-same_goes (Goes.goes_on h more) (Goes.refuses k) e f g same = absurd (no_ok (alike h k e f (same_head g) same))
+    ap (λ (w : List (List Setting)). Err (value_at (length w) c.prop c.source)) f ∙ ap (λ (x : Claim). Err (value_at (length vs) x.prop x.source)) (same_Err (alike h k e f (same_head g) same))
+same_goes (Goes.refuses h) (Goes.goes_on k more) e f g same = absurd (no_Ok (sym (alike h k e f (same_head g) same)))
+same_goes (Goes.goes_on h more) (Goes.refuses k) e f g same = absurd (no_Ok (alike h k e f (same_head g) same))
 same_goes (Goes.goes_on {standings = st} {winners = ws} {settings = x} {standing = a} h more) (Goes.goes_on {standings = su} {winners = vs} {settings = y} {standing = b} k rest) e f g same =
-    let come : (x, a) ≡ (y, b) = same_ok (alike h k e f (same_head g) same) in
+    let come : (x, a) ≡ (y, b) = same_Ok (alike h k e f (same_head g) same) in
     let standing : st ++ a ∷ [] ≡ su ++ b ∷ [] = ap (λ l. l ++ a ∷ []) e ∙ ap (λ (p : List Setting × Standing). su ++ p.1 ∷ []) come in
     let settings : ws ++ x ∷ [] ≡ vs ++ y ∷ [] = ap (λ l. l ++ x ∷ []) f ∙ ap (λ (p : List Setting × Standing). vs ++ p.0 ∷ []) come in
     same_goes more rest standing settings (same_tail g) same
 
 pub one_cascade : (nodes : List Node) (texts : List (List ℕ)) (sheets : List Sheet) (r s : Result (List (List Setting)) Fault) → IsCascade nodes texts sheets r → IsCascade nodes texts sheets s → r ≡ s
-one_cascade nodes texts sheets r s (IsCascade.refused_selector h) (IsCascade.refused_selector k) = ap (λ (p : Refused). Err (selector_at p.0 p.1)) (same_err (same_rulesets texts sheets h k))
-one_cascade nodes texts sheets r s (IsCascade.refused_selector h) (IsCascade.cascaded k goes) = absurd (no_ok (sym (same_rulesets texts sheets h k)))
-one_cascade nodes texts sheets r s (IsCascade.cascaded h goes) (IsCascade.refused_selector k) = absurd (no_ok (same_rulesets texts sheets h k))
-one_cascade nodes texts sheets r s (IsCascade.cascaded h goes) (IsCascade.cascaded k more) = same_goes goes more refl refl refl (same_ok (same_rulesets texts sheets h k))
+one_cascade nodes texts sheets r s (IsCascade.refused_selector h) (IsCascade.refused_selector k) = ap (λ (p : Refused). Err (selector_at p.0 p.1)) (same_Err (same_rulesets texts sheets h k))
+one_cascade nodes texts sheets r s (IsCascade.refused_selector h) (IsCascade.cascaded k goes) = absurd (no_Ok (sym (same_rulesets texts sheets h k)))
+one_cascade nodes texts sheets r s (IsCascade.cascaded h goes) (IsCascade.refused_selector k) = absurd (no_Ok (same_rulesets texts sheets h k))
+one_cascade nodes texts sheets r s (IsCascade.cascaded h goes) (IsCascade.cascaded k more) = same_goes goes more refl refl refl (same_Ok (same_rulesets texts sheets h k))

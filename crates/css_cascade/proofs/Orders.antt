@@ -1,81 +1,29 @@
 -- The settings of a node: each property at most once, in the order of the table.
-use Rattle.std.proofs.Common.{◌≡◌, ℕ, Bool, true, false, cond, ◌&&◌, ◌==◌, List, [], ◌∷◌, ◌++◌, map, filter, slice_get, Option, Some, None, Result, Ok, Err, refl, sym, ap, ◌∙◌, subst, arith}
+use Rattle.std.proofs.Common.{◌≡◌, ℕ, Bool, true, false, cond, ◌&&◌, List, [], ◌∷◌, ◌++◌, map, filter, Option, Some, None, Result, Ok, Err, refl, sym, ap, ◌∙◌, subst}
 use Rattle.std.specs.Prelude.{flat_map}
 use Rattle.std.specs.List.{list_all}
 use Rattle.std.specs.Option.{option_to_list}
 use Rattle.std.specs.Ordering.{is_gt}
-use Rattle.std.proofs.lemmas.Bool.Decides.{nat_tests}
 use Rattle.std.proofs.lemmas.Bool.{and_parts}
 use Rattle.viz_base.specs.declared.nodes.Node.{Node}
 use Rattle.viz_base.specs.declared.settings.Prop.{Prop}
 use Rattle.viz_base.specs.declared.settings.Prop.TheVariants as prop
 use Rattle.viz_base.specs.declared.settings.Setting.{Setting}
 use Rattle.viz_base.specs.declared.settings.Value.{Value}
+use Rattle.viz_base.proofs.Truths.{by_bool}
+use Rattle.css_cascade.proofs.Winners.{is_of}
 use Rattle.css_semantics.specs.declared.claims.Claim.{Claim}
 use Rattle.css_semantics.specs.declared.claims.Ruleset.{Ruleset}
 use Rattle.css_semantics.specs.declared.claims.Standing.{Standing}
 use Rattle.css_semantics.specs.Cascade.{ComesTo, comes_to}
 use Rattle.css_semantics.specs.CascadeNodes.{first_refused, is_hidden, is_refused, judged, node_outcome, refused_at, set_by, settings_of, winners_for, winners_of}
-use Rattle.css_semantics.specs.CascadeOrder.{Applied, cascade_cmp, greatest, greatest_from, is_prop, later_of, of_prop, place_of, winner_of}
+use Rattle.css_semantics.specs.CascadeOrder.{Applied, cascade_cmp, greatest, greatest_from, later_of, of_prop, winner_of}
 use Rattle.css_semantics.specs.Properties.{properties}
 use Rattle.css_semantics.specs.ValuesLaws.{IsAmong, none, passed, props, taken}
-use Rattle.css_semantics.proofs.Pairs.{by_bool}
 use Rattle.css_semantics.specs.Winners.{IsInOrder}
+use Rattle.css_semantics.proofs.PropLemmas.{same_prop}
 
 -- ---- the property of a winner
-
-at_place : (p : Prop) → slice_get properties (place_of p) ≡ Some p
-at_place prop.Display = refl
-at_place prop.Position = refl
-at_place prop.Float = refl
-at_place prop.Clear = refl
-at_place prop.Overflow = refl
-at_place prop.Direction = refl
-at_place prop.Width = refl
-at_place prop.Height = refl
-at_place prop.MinWidth = refl
-at_place prop.MinHeight = refl
-at_place prop.MaxWidth = refl
-at_place prop.MaxHeight = refl
-at_place prop.MarginTop = refl
-at_place prop.MarginRight = refl
-at_place prop.MarginBottom = refl
-at_place prop.MarginLeft = refl
-at_place prop.PaddingTop = refl
-at_place prop.PaddingRight = refl
-at_place prop.PaddingBottom = refl
-at_place prop.PaddingLeft = refl
-at_place prop.BorderTopWidth = refl
-at_place prop.BorderRightWidth = refl
-at_place prop.BorderBottomWidth = refl
-at_place prop.BorderLeftWidth = refl
-at_place prop.BorderTopStyle = refl
-at_place prop.BorderRightStyle = refl
-at_place prop.BorderBottomStyle = refl
-at_place prop.BorderLeftStyle = refl
-at_place prop.FontSize = refl
-at_place prop.FontFamily = refl
-at_place prop.LineHeight = refl
-at_place prop.VerticalAlign = refl
-at_place prop.TextAlign = refl
-at_place prop.WhiteSpace = refl
-at_place prop.TextIndent = refl
-at_place prop.LetterSpacing = refl
-at_place prop.WordSpacing = refl
-at_place prop.TextTransform = refl
-at_place prop.ListStylePosition = refl
-
-same_some : (p q : Prop) → Some p ≡ Some q → p ≡ q
-same_some p q e = cc
-
-same_place : (m n : ℕ) → (m == n) ≡ true → m ≡ n
-same_place m n e = grind (arith, nat_tests)
-
-pub same_prop : (q p : Prop) → is_prop q p ≡ true → q ≡ p
-same_prop q p e = same_some q p (sym (at_place q) ∙ ap (slice_get properties) (same_place (place_of q) (place_of p) e) ∙ at_place p)
-
-abbrev is_of : Prop → Applied → Bool
-is_of p a = is_prop a.claim.prop p
 
 all_pass : (p : Prop) (all : List Applied) → list_all (is_of p) (filter (is_of p) all) ≡ true
 all_pass p [] = refl

@@ -12,6 +12,7 @@ use Rattle.viz_base.specs.declared.settings.Prop.{Prop}
 use Rattle.viz_base.specs.declared.settings.Setting.{Setting}
 use Rattle.viz_base.specs.declared.settings.Value.{Value}
 use Rattle.viz_base.specs.declared.sheets.Sheet.{Sheet}
+use Rattle.viz_base.proofs.ListLemmas.{all_append}
 use Rattle.css_semantics.specs.declared.claims.Claim.{Claim}
 use Rattle.css_semantics.specs.declared.claims.Ruleset.{Ruleset}
 use Rattle.css_semantics.specs.declared.claims.Standing.{Standing}
@@ -20,7 +21,6 @@ use Rattle.css_semantics.specs.CascadeNodes.{first_refused, is_hidden, is_refuse
 use Rattle.css_semantics.specs.CascadeOrder.{Applied, cascade_cmp, greatest, greatest_from, is_prop, later_of, of_prop}
 use Rattle.css_semantics.specs.Properties.{properties}
 use Rattle.css_semantics.specs.Winners.{AreWinners, IsAllowed, IsInOrder}
-use Rattle.css_semantics.proofs.Allowed.{all_append}
 use Rattle.css_cascade.specs.declared.faults.CascadeFault.{CascadeFault}
 use Rattle.css_cascade.specs.declared.faults.CascadeFault.TheVariants.{Mem, Selector, Value as ValueAt}
 use Rattle.css_cascade.specs.Faults.{IsPlaced, refusal_of}

@@ -1,8 +1,9 @@
 -- What a loop over items has joined, and what the rest gives behind it.
-use Rattle.std.proofs.Common.{◌≡◌, ℕ, ◌+◌, ◌<◌, ◌≤◌, suc, List, [], ◌∷◌, ◌++◌, length, drop, get_or, map, Result, Ok, Err, refl, sym, ap, subst, append_assoc, add-one, drop-cons, arith}
+use Rattle.std.proofs.Common.{◌≡◌, ℕ, ◌+◌, ◌<◌, ◌≤◌, List, [], ◌∷◌, ◌++◌, length, drop, get_or, map, Result, Ok, Err, refl, sym, ap, subst, append_assoc, add-one}
 use Rattle.std.proofs.lemmas.List.{append-nil, drop_all}
 use Rattle.viz_base.specs.declared.sheets.Rule.{Rule}
 use Rattle.viz_base.specs.declared.sheets.Sheet.{Sheet}
+use Rattle.viz_base.proofs.ListLemmas.{drop_at}
 use Rattle.css_semantics.specs.declared.claims.Origin.{Origin}
 use Rattle.css_semantics.specs.declared.claims.Ruleset.{Ruleset}
 use Rattle.css_semantics.specs.CascadeReading.{Each, nothing, joined, refused, refused_behind, AreRulesets, IsRuleset, Placed, Refused, placed, rules_from, sheet_origin}
@@ -25,9 +26,6 @@ behind_both xs ys (Err e) = refl
 pub one_more : {A B E : Type 0} {Gives : A → Result (List B) E → Type 0} {x : A} {xs : List A} (ys : List B) (answer : Result (List B) E) → Gives x (Ok ys) → Each Gives xs answer → Each Gives (x ∷ xs) (behind ys answer)
 one_more ys (Ok zs) g h = joined g h
 one_more ys (Err e) g h = refused_behind g h
-
-pub drop_at : {A : Type 0} (xs : List A) (i : ℕ) (x : A) → i < length xs → x ≡ get_or xs i x → drop i xs ≡ x ∷ drop (i + 1) xs
-drop_at xs i x l e = rw add-one (subst (λ y. drop i xs ≡ y ∷ drop (suc i) xs) (sym e) (drop-cons xs i x l))
 
 pub reached_more : {A B E : Type 0} {Gives : A → Result (List B) E → Type 0} {xs : List A} {i : ℕ} {items : List B} (x : A) (ys : List B) → i < length xs → x ≡ get_or xs i x → Reached Gives xs i items → Gives x (Ok ys) → Reached Gives xs (i + 1) (items ++ ys)
 reached_more {Gives = Gives} {xs = xs} {i = i} {items = items} x ys l e r g = record {

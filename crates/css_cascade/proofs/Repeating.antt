@@ -1,10 +1,10 @@
 -- A selector that repeats the last one of its ruleset adds nothing.
-use Rattle.std.proofs.Common.{◌≡◌, ℕ, ◌==◌, ◌⊎◌, inl, inr, Bool, true, false, cond, List, [], ◌∷◌, ◌++◌, Some, None, refl, sym, ◌∙◌, ap, subst, arith, append_assoc}
+use Rattle.std.proofs.Common.{◌≡◌, ℕ, ◌==◌, ◌⊎◌, inl, inr, Bool, true, false, cond, List, [], ◌∷◌, ◌++◌, Some, None, refl, sym, ◌∙◌, ap, subst, append_assoc}
 use Rattle.std.proofs.lemmas.List.{append-nil}
 use Rattle.std.specs.Ordering.{is_gt}
-use Rattle.std.proofs.lemmas.Bool.Decides.{nat_tests}
 use Rattle.viz_base.specs.declared.nodes.Node.{Node}
 use Rattle.viz_base.specs.declared.selectors.Spec.{Spec}
+use Rattle.viz_base.proofs.Truths.{same_number}
 use Rattle.css_semantics.specs.declared.claims.Ranked.{Ranked}
 use Rattle.css_semantics.specs.CascadeOrder.{later_of, spec_cmp}
 use Rattle.css_semantics.specs.Matching.{Match}
@@ -80,9 +80,6 @@ behind_all [] more = refl
 behind_all (f ∷ all) more = behind_some f all more
 
 -- ---- twice the same
-
-same_number : (i : ℕ) → (i == i) ≡ true
-same_number i = grind (arith, nat_tests)
 
 either_same : {A : Type 0} (b : Bool) (x : A) → cond b x x ≡ x
 either_same true x = refl

@@ -10,9 +10,10 @@ use Rattle.std.proofs.lemmas.Option.{same_Some, slice_get-get_or}
 use Rattle.std.proofs.lemmas.List.Elements.{Contains-append_left, Contains-append_right, Contains-push}
 use Rattle.viz_base.specs.declared.nodes.Element.{Element}
 use Rattle.viz_base.specs.declared.nodes.Node.{Node}
+use Rattle.viz_base.proofs.ListLemmas.{in_flat_map}
+use Rattle.viz_base.proofs.Truths.{by_bool}
 use Rattle.css_semantics.specs.declared.claims.Ranked.{Ranked}
 use Rattle.css_semantics.specs.Matching.{IsElementAt, Match}
-use Rattle.css_semantics.proofs.Pairs.{by_bool}
 use Rattle.css_cascade.specs.declared.buckets.Buckets.{Buckets}
 use Rattle.css_cascade.specs.declared.buckets.Candidate.{Candidate}
 use Rattle.css_cascade.specs.declared.trimming.Trimmed.{Trimmed}
@@ -91,11 +92,6 @@ none_stand b e at r is = absurd (past_end at r (subst (λ cs. slice_get (map num
 
 -- ---- what may match
 
-pub in_flat_at : {A B : Type 0} (f : A → List B) (xs : List A) (x : A) (y : B) → Contains xs x → Contains (f x) y → Contains (flat_map f xs) y
-in_flat_at f [] x y (k, l, e) h = absurd (omega arith)
-in_flat_at f (z ∷ xs) x y (zero, l, e) h = Contains-append_left (f z) (flat_map f xs) y (subst (λ w. Contains (f w) y) (sym e) h)
-in_flat_at f (z ∷ xs) x y (suc k, l, e) h = Contains-append_right (f z) (flat_map f xs) y (in_flat_at f xs x y (k, omega (arith, l), e) h)
-
 pub numbers_end : (f : ℕ → List ℕ) (numbers others items words : List ℕ) (k : ℕ) → length items ≤ k → numbers ++ flat_map f (drop k items) ≡ others ++ flat_map f items → items ≡ words → numbers ≡ others ++ flat_map f words
 numbers_end f numbers others items words k past reached same =
     sym (append-nil numbers) ∙ ap (λ left. numbers ++ flat_map f left) (sym (drop_all k items past)) ∙ reached ∙ ap (λ ws. others ++ flat_map f ws) same
@@ -106,7 +102,7 @@ bucket_in named at = get_or named at []
 pub gathered_all : (b : Buckets) (e : Element) (words numbers : List ℕ) → numbers ≡ b.others ++ flat_map (bucket_in b.named.items) words → ((at : ℕ) → Contains (element_buckets e) at → Contains words at) → (at : ℕ) → MayMatch b e at → Contains numbers at
 gathered_all b e words numbers is all at (inl h) = subst (λ xs. Contains xs at) (sym is) (Contains-append_left b.others (flat_map (bucket_in b.named.items) words) at h)
 gathered_all b e words numbers is all at (inr h) =
-    subst (λ xs. Contains xs at) (sym is) (Contains-append_right b.others (flat_map (bucket_in b.named.items) words) at (in_flat_at (bucket_in b.named.items) words h.0 at (all h.0 h.1) h.2))
+    subst (λ xs. Contains xs at) (sym is) (Contains-append_right b.others (flat_map (bucket_in b.named.items) words) at (in_flat_map (bucket_in b.named.items) words h.0 at (all h.0 h.1) h.2))
 
 may_match : (nodes : List Node) (n : ℕ) (e : Element) (b : Buckets) (at : ℕ) (r : Ranked) → IsElementAt nodes n e → Match r.selector.parts nodes n → Stands b at r → MayMatch b e at
 may_match nodes n e b at r is m (inl h) = inl h

@@ -1,18 +1,19 @@
 -- Of each ruleset the most specific selector that matches gives what applies to a node.
-use Rattle.std.proofs.Common.{◌≡◌, ℕ, ◌<◌, ◌==◌, zero, suc, true, false, cond, List, [], ◌∷◌, ◌++◌, length, map, slice_get, Option, Some, None, Result, Ok, refl, sym, ◌∙◌, ap, subst, arith, append_assoc, length-append}
+use Rattle.std.proofs.Common.{◌≡◌, ℕ, ◌<◌, ◌==◌, zero, suc, false, cond, List, [], ◌∷◌, ◌++◌, length, map, slice_get, Option, Some, None, Result, Ok, refl, sym, ◌∙◌, ap, subst, arith, append_assoc, length-append}
 use Rattle.std.specs.Prelude.{flat_map}
 use Rattle.std.specs.List.{AllByRecursion}
 use Rattle.std.proofs.lemmas.Bool.Decides.{nat_tests}
 use Rattle.viz_base.specs.declared.nodes.Node.{Node}
 use Rattle.viz_base.specs.declared.selectors.Spec.{Spec}
 use Rattle.viz_base.specs.declared.settings.Prop.{Prop}
+use Rattle.viz_base.proofs.ListLemmas.{all_append}
+use Rattle.viz_base.proofs.Truths.{same_number}
 use Rattle.css_semantics.specs.declared.claims.Claim.{Claim}
 use Rattle.css_semantics.specs.declared.claims.Ranked.{Ranked}
 use Rattle.css_semantics.specs.declared.claims.Ruleset.{Ruleset}
 use Rattle.css_semantics.specs.CascadeOrder.{Applied, applied, greatest, greatest_from, later_of, spec_cmp, style_spec}
 use Rattle.css_semantics.specs.CascadeReading.{AppliesTo, Each, Matching, Refused, all_applied, applies, joined as each_joined, nothing}
 use Rattle.css_semantics.specs.Properties.{properties}
-use Rattle.css_semantics.proofs.Allowed.{all_append}
 use Rattle.css_cascade.specs.declared.trimming.Trimmed.{Trimmed}
 use Rattle.css_cascade.specs.declared.trying.Found.{Found}
 use Rattle.css_cascade.specs.steps.Buckets.{Numbered, numbered_from}
@@ -64,9 +65,6 @@ group_past i j l (r ∷ group) = (l, group_past i j l group)
 all_past : (i j : ℕ) → i < j → (rulesets : List Ruleset) → AllByRecursion (IsPast i) (numbered_from j rulesets)
 all_past i j l [] = tt
 all_past i j l (one ∷ rulesets) = all_append (IsPast i) (map (λ r. (j, r)) one.group) (numbered_from (suc j) rulesets) (group_past i j l one.group) (all_past i (suc j) (omega (arith, l)) rulesets)
-
-same_number : (i : ℕ) → (i == i) ≡ true
-same_number i = grind (arith, nat_tests)
 
 other_number : (i j : ℕ) → i < j → (i == j) ≡ false
 other_number i j l = grind (arith, nat_tests)

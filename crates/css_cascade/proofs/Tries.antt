@@ -1,16 +1,18 @@
 -- What the loop over the numbers has tried, and what the selectors from there on give behind it.
-use Rattle.std.proofs.Common.{◌≡◌, ℕ, ◌+◌, ◌<◌, ◌≤◌, zero, suc, List, [], ◌∷◌, length, drop, get_or, slice_get, Option, Some, None, refl, sym, ◌∙◌, ap, subst, arith, add-one, drop-cons}
+use Rattle.std.proofs.Common.{◌≡◌, ℕ, ◌+◌, ◌<◌, ◌≤◌, zero, suc, List, [], ◌∷◌, length, drop, slice_get, Option, Some, None, refl, sym, ◌∙◌, ap, subst, arith}
 use Rattle.std.proofs.lemmas.List.{drop_all}
 use Rattle.std.specs.Prelude.{slice_index}
 use Rattle.std.specs.List.{Contains}
 use Rattle.std.specs.List.Sorted.{IsStrictlyIncreasing}
 use Rattle.viz_base.specs.declared.nodes.Node.{Node}
+use Rattle.viz_base.proofs.ListLemmas.{rises_from, rises_lower}
+use Rattle.viz_base.specs.Orders.{Rises}
 use Rattle.css_semantics.specs.CascadeOrder.{Applied}
 use Rattle.css_semantics.specs.Matching.{Match}
 use Rattle.css_cascade.specs.declared.trimming.Trimmed.{Trimmed}
 use Rattle.css_cascade.specs.declared.trying.Found.{Found}
 use Rattle.css_cascade.specs.steps.Buckets.{Numbered}
-use Rattle.css_cascade.specs.steps.Trying.{AreTried, Behind, IsTried, Matched, Rises}
+use Rattle.css_cascade.specs.steps.Trying.{AreTried, Behind, IsTried, Matched}
 
 -- ---- numbers that rise
 
@@ -22,18 +24,9 @@ rises low [] first up = tt
 rises low (x ∷ xs) first up =
     (first (omega arith), rises (suc x) xs (λ some. let h = up 0 (omega (arith, some)) in omega (arith, h)) (λ k l. up_further x xs k (up (suc k) (omega (arith, l)))))
 
-rises_less : (low high : ℕ) (xs : List ℕ) → low ≤ high → Rises high xs → Rises low xs
-rises_less low high [] h r = tt
-rises_less low high (x ∷ xs) h r = (omega (arith, h, r.0), r.1)
-
 in_tail : (x y : ℕ) (xs : List ℕ) → (x ≡ y → ⊥) → Contains (x ∷ xs) y → Contains xs y
 in_tail x y xs other (zero, l, e) = absurd (other e)
 in_tail x y xs other (suc k, l, e) = (k, omega (arith, l), e)
-
-least : (low : ℕ) (xs : List ℕ) (y : ℕ) → Rises low xs → Contains xs y → low ≤ y
-least low [] y r h = absurd (omega (arith, h.1))
-least low (x ∷ xs) y r (zero, l, e) = subst (λ z. low ≤ z) e r.0
-least low (x ∷ xs) y r (suc k, l, e) = let h = least (suc x) xs y r.1 (k, omega (arith, l), e) in omega (arith, h, r.0)
 
 -- ---- selectors that no number names
 
@@ -54,9 +47,6 @@ missed nodes n (r ∷ selectors) (suc low) (suc high) all l none m =
     missed nodes n selectors low high all (omega (arith, l)) (λ at s a b is. none (suc at) s (omega (arith, a)) (omega (arith, b)) is) m
 
 -- ---- the loop
-
-pub number_at : (numbers : List ℕ) (k : ℕ) → k < length numbers → drop k numbers ≡ get_or numbers k 0 ∷ drop (k + 1) numbers
-number_at numbers k l = rw add-one (drop-cons numbers k 0 l)
 
 pub record ReachedTry (nodes : List Node) (n : ℕ) (rulesets : List Trimmed) (selectors : List Numbered) (numbers : List ℕ) (k : ℕ) (start best : List (Option Applied)) (going : Option Found) : Type 0 where
   pub next : ℕ
@@ -83,7 +73,7 @@ try_more nodes n rulesets selectors numbers k start before after going next x r 
       goes = λ behind m.
           let t = tried (drop (suc x) selectors) behind m in
           let here = subst (λ ss. Matched nodes n ss t.0) (sym (one_at selectors x r is)) t.1 in
-          let g = reached.goes t.0 (missed nodes n selectors reached.next x t.0 rise.0 (λ at s l u e mm. let h = least x (x ∷ drop (k + 1) numbers) at (omega arith, rise.1) (named at s l e mm) in omega (arith, h, u)) here) in
+          let g = reached.goes t.0 (missed nodes n selectors reached.next x t.0 rise.0 (λ at s l u e mm. let h = rises_from x (x ∷ drop (k + 1) numbers) at (omega arith, rise.1) (named at s l e mm) in omega (arith, h, u)) here) in
           (g.0, g.1, t.2 ∙ g.2);
     }
 
@@ -93,7 +83,7 @@ try_past nodes n rulesets selectors numbers k start best going x numbered is rea
     let rise = subst (Rises reached.next) numbered reached.rise in
     record {
       next = reached.next;
-      rise = rises_less reached.next (suc x) (drop (k + 1) numbers) (omega (arith, rise.0)) rise.1;
+      rise = rises_lower reached.next (suc x) (drop (k + 1) numbers) (omega (arith, rise.0)) rise.1;
       named = λ at s l e m. in_tail x at (drop (k + 1) numbers) (λ same. let h : None ≡ Some s = sym is ∙ ap (slice_get selectors) same ∙ e in cc) (subst (λ xs. Contains xs at) numbered (reached.named at s l e m));
       goes = reached.goes;
     }

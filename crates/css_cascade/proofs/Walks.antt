@@ -10,8 +10,8 @@ use Rattle.css_semantics.specs.Cascade.{ComesTo, Goes, Fault, selector_at, value
 use Rattle.css_cascade.specs.declared.faults.CascadeFault.{CascadeFault}
 use Rattle.css_cascade.specs.declared.faults.CascadeFault.TheVariants.{Mem, Selector, Value}
 use Rattle.viz_base.specs.Answers.{FailsWith}
+use Rattle.viz_base.proofs.ListLemmas.{drop_at}
 use Rattle.css_cascade.specs.Faults.{ByValue, refusal_of}
-use Rattle.css_cascade.proofs.Reaching.{drop_at}
 
 abbrev Answer : Type 0
 Answer = Result (List (List Setting)) Fault

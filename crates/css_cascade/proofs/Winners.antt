@@ -4,7 +4,7 @@ use Rattle.viz_base.specs.declared.settings.Prop.{Prop}
 use Rattle.css_semantics.specs.CascadeOrder.{Applied, cascade_cmp, is_prop, winner_of}
 use Rattle.css_cascade.specs.steps.Seen.{greatest_on, later_or, winner_on}
 
-abbrev is_of : Prop → Applied → Bool
+abbrev pub is_of : Prop → Applied → Bool
 is_of p a = is_prop a.claim.prop p
 
 grown : (best : Option Applied) (a : Applied) (all : List Applied) → greatest_on cascade_cmp (Some (later_or best a)) all ≡ greatest_on cascade_cmp best (a ∷ all)

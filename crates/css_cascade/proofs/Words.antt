@@ -16,6 +16,7 @@ use Rattle.viz_base.specs.declared.selectors.Join.{Join}
 use Rattle.viz_base.specs.declared.selectors.Join.TheVariants.{First, Descendant, Child, Next}
 use Rattle.viz_base.specs.declared.selectors.Test.{Test}
 use Rattle.viz_base.specs.declared.selectors.Test.TheVariants.{Id, Class}
+use Rattle.viz_base.proofs.ListLemmas.{later_member}
 use Rattle.css_semantics.specs.Matching.{BeginsWhite, EndsWhite, HasAttribute, HasTag, IsElementAt, IsWordOf, Match, MatchesCompound, MatchesParts, Passes}
 use Rattle.css_semantics.specs.Names.{same_name}
 use Rattle.css_semantics.specs.TokensLetters.{is_space}
@@ -24,9 +25,6 @@ use Rattle.css_cascade.proofs.Keeping.{all_at}
 
 pub first_in : {A : Type 0} (x : A) (xs : List A) → Contains (x ∷ xs) x
 first_in x xs = (zero, omega arith, refl)
-
-pub later_in : {A : Type 0} (x y : A) (xs : List A) → Contains xs y → Contains (x ∷ xs) y
-later_in x y xs h = (suc h.0, omega (arith, h.1), h.2)
 
 pub in_flat : {A B : Type 0} (f : A → List B) (before : List A) (x : A) (after : List A) (y : B) → Contains (f x) y → Contains (flat_map f (before ++ x ∷ after)) y
 in_flat f [] x after y h = Contains-append_left (f x) (flat_map f after) y h
@@ -72,11 +70,11 @@ at_front at (c ∷ cs) after solid end =
     (at_front (bucket_behind at c) cs after solid.1 end)
 
 behind_white : (at : ℕ) (front : List ℕ) (c : ℕ) (rest : List ℕ) (x : ℕ) → is_space c ≡ true → Contains (buckets_from 0 rest) x → Contains (buckets_from at ((front ++ c ∷ []) ++ rest)) x
-behind_white at [] c rest x white h = taken (is_space c) (at ∷ buckets_from 0 rest) (buckets_from (bucket_behind at c) rest) x white (later_in at x (buckets_from 0 rest) h)
+behind_white at [] c rest x white h = taken (is_space c) (at ∷ buckets_from 0 rest) (buckets_from (bucket_behind at c) rest) x white (later_member (buckets_from 0 rest) h)
 behind_white at (d ∷ front) c rest x white h =
     let more = (front ++ c ∷ []) ++ rest in
     either (is_space d) (at ∷ buckets_from 0 more) (buckets_from (bucket_behind at d) more) x
-    (later_in at x (buckets_from 0 more) (behind_white 0 front c rest x white h))
+    (later_member (buckets_from 0 more) (behind_white 0 front c rest x white h))
     (behind_white (bucket_behind at d) front c rest x white h)
 
 behind_start : (before rest : List ℕ) (x : ℕ) → EndsWhite before → Contains (buckets_from 0 rest) x → Contains (buckets_from 0 (before ++ rest)) x
@@ -92,7 +90,7 @@ word_piece text word h =
 
 by_attribute : (e : Element) (name : List ℕ) (P : List ℕ → Type 0) (x : ℕ) → ((a : Attr) → same_name name a.name ≡ true → P a.value → Contains (attribute_buckets a) x) → HasAttribute e name P → Contains (element_buckets e) x
 by_attribute e name P x each h =
-    later_in (bucket_of e.tag) x (flat_map attribute_buckets e.attrs)
+    later_member (flat_map attribute_buckets e.attrs)
     (subst (λ attrs. Contains (flat_map attribute_buckets attrs) x) (sym h.among)
     (in_flat attribute_buckets h.before h.attribute h.after x (each h.attribute h.named h.passes)))
 

@@ -4,7 +4,8 @@ ghost use Rattle.css_semantics.specs.CascadeOrder.{greatest, later_of, spec_cmp}
 ghost use Rattle.css_select.specs.steps.Trees.{AreSiblings};
 ghost use Rattle.css_cascade.specs.steps.Buckets.{element_buckets, numbered};
 ghost use Rattle.css_cascade.specs.steps.Seen.{kept_all, seen};
-ghost use Rattle.css_cascade.specs.steps.Trying.{AreAll, AreTried, Behind, IsTried, MayMatch, Rises, found, said};
+ghost use Rattle.viz_base.specs.Orders.{Rises};
+ghost use Rattle.css_cascade.specs.steps.Trying.{AreAll, AreTried, Behind, IsTried, MayMatch, found, said};
 
 use crate::buckets::{Buckets, Candidate};
 use crate::names::element_buckets;

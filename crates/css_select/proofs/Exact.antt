@@ -3,6 +3,8 @@ use Rattle.std.proofs.Common.{◌≡◌, ℕ, ◌<◌, ◌≤◌, Bool, true, fa
 use Rattle.std.proofs.lemmas.List.{append-nil}
 use Rattle.viz_base.specs.declared.selectors.Compound.{Compound}
 use Rattle.viz_base.specs.declared.selectors.Join.{Join}
+use Rattle.viz_base.proofs.Sameness.{same_Ok}
+use Rattle.viz_base.proofs.Truths.{not_both}
 use Rattle.css_semantics.specs.Pieces.{Token}
 use Rattle.css_semantics.specs.SheetsReading.{start_of}
 use Rattle.css_semantics.specs.SelectorTerminals.{without_comments}
@@ -18,9 +20,6 @@ use Rattle.css_select.proofs.Sound.{IsFinal, some_final, spaced_final, ended_fin
 use Rattle.css_select.proofs.Kept.{step_reads}
 use Rattle.css_select.proofs.Complete.{follow_group}
 use Rattle.css_select.proofs.Faulty.{step_fails}
-
-same_Ok : {A E : Type 0} (x y : A) → ◌≡◌ {A = Result A E} (Ok x) (Ok y) → x ≡ y
-same_Ok x y h = cc
 
 -- ---- reading keeps what the tokens are
 
@@ -38,7 +37,7 @@ reads_by (Ok m) s ts t us next is h k e = subst (Reads next) (append_assoc ts (t
 reads_by (Err refusal) s ts t us next is h k e = absurd (cc)
 
 follow_reads : (s : State) (ts us : List Token) (next : State) → Reads s ts → follow s us ≡ Ok next → Reads next (ts ++ us)
-follow_reads s ts [] next h e = subst (λ n. Reads n (ts ++ [])) (same_Ok s next e) (subst (Reads s) (sym (append-nil ts)) h)
+follow_reads s ts [] next h e = subst (λ n. Reads n (ts ++ [])) (same_Ok e) (subst (Reads s) (sym (append-nil ts)) h)
 follow_reads s ts (t ∷ us) next h e = reads_by (step s t) s ts t us next refl h (λ m k f. follow_reads m (ts ++ t ∷ []) us next k f) e
 
 reads_final : (place : Place) (group : List (List Part)) (parts : List Part) (join : Join) (c : Compound) (first : Option ℕ) (ts : List Token) → ReadsAt place group parts join c first ts → may_end place ≡ true
@@ -93,9 +92,6 @@ longer (x ∷ front) t rest (u ∷ p) r e l =
     let h = longer front t rest p r others (omega arith) in
     (h.0, ap (λ y. y ∷ p) (sym same) ∙ ap (λ y. x ∷ y) h.1)
 
-true_false : true ≡ false → ⊥
-true_false e = cc
-
 -- an order that holds since its contrary can't
 nat_le_by : (m n : ℕ) → (n < m → m ≤ n) → m ≤ n
 nat_le_by m n h = grind arith
@@ -132,8 +128,8 @@ ended_bad : (end : ℕ) (ts : List Token) (s : State) → follow initial ts ≡ 
 ended_bad end ts s e m = record {
   no_group = λ group refused g.
       let k = follow_group g in
-      let same : k.state ≡ s = same_Ok k.state s (sym k.is ∙ e) in
-      absurd (true_false (sym k.ends ∙ ap (λ (x : State). may_end x.place) same ∙ m));
+      let same : k.state ≡ s = same_Ok (sym k.is ∙ e) in
+      absurd (not_both (may_end k.state.place) k.ends (ap (λ (x : State). may_end x.place) same ∙ m));
   front = ts;
   rest = [];
   whole = sym (append-nil ts);

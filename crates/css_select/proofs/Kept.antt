@@ -5,6 +5,7 @@ use Rattle.std.specs.Prelude.{codes}
 use Rattle.viz_base.specs.declared.selectors.Join.TheVariants.{Descendant, Child, Next}
 use Rattle.viz_base.specs.declared.selectors.Test.{Test}
 use Rattle.viz_base.specs.declared.selectors.Test.TheVariants as of_test
+use Rattle.viz_base.proofs.Sameness.{same_Ok}
 use Rattle.css_semantics.specs.Pieces.{Token}
 use Rattle.css_semantics.specs.declared.terminals.Comparison.{Comparison}
 use Rattle.css_semantics.specs.declared.terminals.Pseudo.{Pseudo}
@@ -22,11 +23,8 @@ use Rattle.css_select.specs.steps.Machine.{State, at, ended, joined, or_first, r
 use Rattle.css_select.proofs.Held.{first_of, first_more, IsHeld, IsSome, IsFresh, IsSpaced, IsEnded, IsOpen, DotOnly, ColonOnly, LanguageOpen, LanguageClosing, BracketOpen, NameRead, SignRead, ValueRead, ReadsAt, Reads, gap_more, held_test}
 use Rattle.css_select.proofs.Sound.{IsFinal, fresh_held, before_space, fresh_head, some_final, spaced_final, ended_final, final_comma, some_joined, spaced_joined, spaced_child, spaced_next}
 
-same_Ok : {A E : Type 0} (x y : A) → ◌≡◌ {A = Result A E} (Ok x) (Ok y) → x ≡ y
-same_Ok x y h = cc
-
 got : (x next : State) (us : List Token) → ◌≡◌ {A = Result State Refusal} (Ok x) (Ok next) → Reads x us → Reads next us
-got x next us e h = subst (λ n. Reads n us) (same_Ok x next e) h
+got x next us e h = subst (λ n. Reads n us) (same_Ok e) h
 
 never : {P : Type 0} (place : ℕ) (next : State) → ◌≡◌ {A = Result State Refusal} (Err (bad_at place)) (Ok next) → P
 never place next e = absurd (cc)

@@ -18,7 +18,7 @@ use Rattle.css_semantics.specs.TokensTable.{Matches}
 use Rattle.css_semantics.specs.SelectorGrammar.{IsGroupOf}
 use Rattle.css_semantics.specs.SelectorTerminals.{terminal_of, terminal_of_character, is_comment, without_comments}
 use Rattle.css_semantics.specs.Specificity.{IsCountable}
-use Rattle.css_semantics.proofs.PieceLemmas.{some, pieces_join}
+use Rattle.css_semantics.proofs.PieceLemmas.{some_matches, pieces_join}
 use Rattle.css_select.specs.steps.Machine.{parts_of}
 use Rattle.css_select.proofs.Sizes.{bytes, IsFull, AreFull, AreWithin, group_size}
 
@@ -59,7 +59,7 @@ hash_size p h =
 
 full_piece : (t : Token) (letters : List ℕ) → t.text ≡ encode_utf8_all letters → Matches t.kind letters → IsFull t
 full_piece t letters e m = record {
-  some = let n = some t.kind letters m in omega (arith, encoded letters, ap length e);
+  some = let n = some_matches t.kind letters m in omega (arith, encoded letters, ap length e);
   of_id = λ k. let two = hash_size letters (subst (λ x. Matches x letters) (id_hash t.kind t.text k) m) in omega (arith, encoded letters, ap length e);
 }
 

@@ -9,8 +9,9 @@ use Rattle.viz_base.specs.declared.nodes.Element.{Element}
 use Rattle.viz_base.specs.declared.nodes.Node.{Node}
 use Rattle.viz_base.specs.Pages.{IsPage}
 use Rattle.css_semantics.specs.Matching.{IsChildElement, IsParent}
+use Rattle.css_semantics.proofs.Parents.{child_after, one_parent}
 use Rattle.css_select.specs.steps.Trees.{AreLast, AreSiblingsTo, IsLast, IsLastChildBefore}
-use Rattle.css_select.proofs.Nodes.{child_after, eq_or_not, one_parent}
+use Rattle.css_select.proofs.Nodes.{eq_or_not}
 
 -- ---- the last children
 

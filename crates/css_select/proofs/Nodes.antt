@@ -1,17 +1,14 @@
 -- Parents and siblings of a page's nodes.
-use Rattle.std.proofs.Common.{◌≡◌, ℕ, ◌<◌, ◌≤◌, ◌⊎◌, inl, inr, Bool, true, false, ◌&&◌, ◌==◌, ◌≢◌, ◌-◌, List, Option, Some, None, refl, sym, ◌∙◌, ap, subst, arith}
+use Rattle.std.proofs.Common.{◌≡◌, ℕ, ◌<◌, ◌≤◌, ◌⊎◌, inl, inr, Bool, true, false, ◌==◌, ◌≢◌, ◌-◌, List, Option, Some, None, refl, sym, subst, arith}
 use Rattle.std.specs.Prelude.{MatchOption, slice_get, IsTrue, nat_lt}
 use Rattle.viz_base.specs.declared.nodes.Node.{Node}
 use Rattle.viz_base.specs.Pages.{IsPage, is_element_at, parent_fits}
+use Rattle.viz_base.proofs.Truths.{and_first}
 use Rattle.css_semantics.specs.Matching.{IsParent, IsAncestor, parent, further, IsChildElement, IsFirstChild, IsPrevious}
+use Rattle.css_semantics.proofs.Parents.{one_parent}
 use Rattle.css_select.specs.steps.Trees.{IsLastChildBefore, NoChildBefore}
 use Rattle.std.specs.Bool.{Decides}
 use Rattle.std.proofs.lemmas.Bool.Decides.{Decides-eqb, Decides-ltb}
-use Rattle.std.proofs.lemmas.Option.{same_Some}
-
-and_first : (a b : Bool) → (a && b) ≡ true → a ≡ true
-and_first true b e = refl
-and_first false b e = e
 
 before_by : (nodes : List Node) (n : ℕ) (o : Option ℕ) → IsTrue (parent_fits nodes n o) → MatchOption o (Unit {0}) (λ p. p < n)
 before_by nodes n None h = tt
@@ -20,18 +17,6 @@ before_by nodes n (Some p) h = let e = and_first (nat_lt p n) (is_element_at nod
 -- a node's parent stands before it
 pub parent_before : (nodes : List Node) → IsPage nodes → (n : ℕ) (node : Node) → slice_get nodes n ≡ Some node → MatchOption node.parent (Unit {0}) (λ p. p < n)
 parent_before nodes page n node e = before_by nodes n node.parent (page.parents n node e)
-
-before_of : (o : Option ℕ) (p n : ℕ) → o ≡ Some p → MatchOption o (Unit {0}) (λ q. q < n) → p < n
-before_of o p n e h = subst (λ x. MatchOption x (Unit {0}) (λ q. q < n)) e h
-
-pub child_after : (nodes : List Node) → IsPage nodes → (p n : ℕ) → IsParent nodes p n → p < n
-child_after nodes page p n h = before_of h.0.parent p n h.2 (parent_before nodes page n h.0 h.1)
-
--- a node has one parent
-pub one_parent : (nodes : List Node) (p q n : ℕ) → IsParent nodes p n → IsParent nodes q n → p ≡ q
-one_parent nodes p q n h k =
-    let same : h.0 ≡ k.0 = same_Some h.0 k.0 (sym h.1 ∙ k.1) in
-    same_Some p q (sym h.2 ∙ ap (λ (x : Node). x.parent) same ∙ k.2)
 
 -- ---- the last child before a node
 

@@ -6,6 +6,7 @@ use Rattle.std.proofs.lemmas.Bool.Decides.{Decides-and, Decides-at}
 use Rattle.std.proofs.lemmas.Slice.Eq.{bytes_eq-Decides}
 use Rattle.std.specs.List.{list_any}
 use Rattle.std.specs.Str.{bytes_eq}
+use Rattle.std.proofs.Math.Bool.{or-true}
 use Rattle.viz_base.specs.declared.nodes.Attr.{Attr}
 use Rattle.viz_base.specs.declared.nodes.Element.{Element}
 use Rattle.viz_base.specs.declared.nodes.Node.{Node}
@@ -36,13 +37,9 @@ any_passes : (p : Attr → Bool) (xs : List Attr) → list_any p xs ≡ true →
 any_passes p [] e = absurd (cc)
 any_passes p (x ∷ xs) e = any_by p x xs (p x) refl (λ f. any_passes p xs f) e
 
-or_true : (b : Bool) → (b || true) ≡ true
-or_true true = refl
-or_true false = refl
-
 passes_any : (p : Attr → Bool) (before : List Attr) (one : Attr) (after : List Attr) → p one ≡ true → list_any p (before ++ one ∷ after) ≡ true
 passes_any p [] one after e = ap (λ b. b || list_any p after) e
-passes_any p (x ∷ before) one after e = ap (λ b. p x || b) (passes_any p before one after e) ∙ or_true (p x)
+passes_any p (x ∷ before) one after e = ap (λ b. p x || b) (passes_any p before one after e) ∙ or-true (p x)
 
 attribute_is : (e : Element) (test : Test) (name : List ℕ) (P : List ℕ → Type 0) → ((a : Attr) → Decides (attribute_passes test a) ((same_name name a.name ≡ true) × P a.value)) → Decides (list_any (attribute_passes test) e.attrs) (HasAttribute e name P)
 attribute_is e test name P each = (

@@ -6,10 +6,11 @@ use Rattle.viz_base.specs.declared.selectors.Compound.{Compound}
 use Rattle.viz_base.specs.declared.selectors.Join.{Join}
 use Rattle.viz_base.specs.declared.selectors.Join.TheVariants.{Child, Next}
 use Rattle.css_semantics.specs.Matching.{IsAncestor, parent, further, IsParent, IsPrevious, MatchesCompound, MatchesParts}
+use Rattle.css_semantics.proofs.Parents.{one_parent}
 use Rattle.css_select.specs.declared.matching.Outcome.{Outcome}
 use Rattle.css_select.specs.declared.matching.Outcome.TheVariants.{Found, Failed, Hopeless}
 use Rattle.css_select.specs.steps.Outcomes.{IsAbove, IsOutcome, IsOutcomeAround, NoneAround}
-use Rattle.css_select.proofs.Nodes.{one_parent, one_previous, ancestor_cases, ancestor_trans, same_around}
+use Rattle.css_select.proofs.Nodes.{one_previous, ancestor_cases, ancestor_trans, same_around}
 
 around_by : (nodes : List Node) (p q : ℕ) → (q ≡ p) ⊎ IsAncestor nodes q p → IsAbove nodes q p
 around_by nodes p q (inl e) = λ top a. subst (IsAncestor nodes top) e a

@@ -4,14 +4,11 @@ use Rattle.std.proofs.lemmas.Bool.{and_parts, or_left, or_right, or_cases, not-t
 use Rattle.std.proofs.lemmas.List.{append-nil}
 use Rattle.std.specs.Prelude.{MatchOption}
 use Rattle.std.specs.List.{AllByRecursion, list_any}
+use Rattle.viz_base.proofs.Truths.{same_number, by_bool}
 use denote.Bor.{Bor}
 use Rattle.css_semantics.specs.TokensLetters.{is_space}
 use Rattle.css_semantics.specs.Matching.{EndsWhite, BeginsWhite, IsWordOf, IsDashed}
 use Rattle.css_select.specs.steps.Attributes.{behind, ends_white, begins_word, found, is_nothing, is_solid, has_word, ends_dash, is_dashed}
-
-by_bool : {P : Type 0} (b : Bool) → (b ≡ true → P) → (b ≡ false → P) → P
-by_bool true yes_case no_case = yes_case refl
-by_bool false yes_case no_case = no_case refl
 
 -- ---- the front of a text
 
@@ -19,12 +16,9 @@ behind_more : (b : Bool) (o rest : Option (List ℕ)) → b ≡ true → o ≡ r
 behind_more true o rest e h = h
 behind_more false o rest e h = absurd (cc)
 
-same_self : (c : ℕ) → (c == c) ≡ true
-same_self c = grind arith
-
 pub behind_append : (word rest : List ℕ) → behind word (word ++ rest) ≡ Some rest
 behind_append [] rest = refl
-behind_append (w ∷ ws) rest = behind_more (w == w) (behind ws (ws ++ rest)) (Some rest) (same_self w) (behind_append ws rest)
+behind_append (w ∷ ws) rest = behind_more (w == w) (behind ws (ws ++ rest)) (Some rest) (same_number w) (behind_append ws rest)
 
 behind_step : (b : Bool) (w c : ℕ) (ws cs rest : List ℕ) → (b ≡ true → w ≡ c) → (behind ws cs ≡ Some rest → cs ≡ ws ++ rest) → cond b (behind ws cs) None ≡ Some rest → c ∷ cs ≡ w ∷ (ws ++ rest)
 behind_step true w c ws cs rest same h e = let front = same refl in let tail = h e in cc

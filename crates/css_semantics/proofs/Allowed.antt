@@ -15,6 +15,7 @@ use Rattle.viz_base.specs.declared.settings.Value.TheVariants as value
 use Rattle.css_semantics.specs.Pieces.{Token}
 use Rattle.viz_base.specs.declared.tokens.TokenKind.{TokenKind}
 use Rattle.viz_base.specs.declared.tokens.TokenKind.TheVariants.{Ident, Str, Hash, Number, Percentage, Dimension, RightParen, Function, Delim}
+use Rattle.viz_base.proofs.ListLemmas.{all_append}
 use Rattle.css_semantics.specs.declared.parts.Part.{Part}
 use Rattle.css_semantics.specs.declared.parts.Part.TheVariants as part
 use Rattle.css_semantics.specs.declared.parts.Refusal.{Refusal}
@@ -106,10 +107,6 @@ AreCounted ps = AllByRecursion IsCounted ps
 item_counted : (t : Token) (ts : List Token) (b : Bool) → AreCounted (cond b [] (part_of t.kind t ts ∷ []))
 item_counted t ts true = tt
 item_counted t ts false = (kind_counted t.kind t ts, tt)
-
-pub all_append : {A : Type 0} (P : A → Type 0) (xs ys : List A) → AllByRecursion P xs → AllByRecursion P ys → AllByRecursion P (xs ++ ys)
-all_append P [] ys h k = k
-all_append P (x ∷ xs) ys h k = (h.0, all_append P xs ys h.1 k)
 
 gathered_counted : (n : ℕ) (ts : List Token) → AreCounted (gathered part_item after_part n ts)
 gathered_counted n [] = tt

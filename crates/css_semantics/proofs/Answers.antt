@@ -4,41 +4,34 @@ use Rattle.std.specs.List.{list_any}
 use Rattle.std.proofs.lemmas.List.{append-nil}
 use Rattle.std.proofs.lemmas.Bool.{ltb-true, ltb-false}
 use Rattle.std.proofs.lemmas.Bool.Decides.{nat_tests}
+use Rattle.std.proofs.Math.Bool.{or-true, or-false}
 use Rattle.css_semantics.specs.Pieces.{Token}
 use Rattle.viz_base.specs.declared.sheets.Rule.{Rule}
+use Rattle.viz_base.proofs.Truths.{by_bool}
 use Rattle.css_semantics.specs.declared.statements.Statement.{Statement}
 use Rattle.css_semantics.specs.declared.statements.Statement.TheVariants.{Ruleset, Import, Page, MediaQuery, Media}
 use Rattle.css_semantics.specs.SheetsReading.{Refusal, import_at, media_at, too_many, closed_by_end}
 use Rattle.css_semantics.specs.steps.Sheets.{capped, with_statement, if_ok, read_on, sheet_of, statements}
 use Rattle.css_semantics.specs.SheetsGrammar.{rules_of, ends_imports, is_refused, IsAccepted, IsFirstRefused, IsAnswer, refused_import, refused_query, too_long, rules_are, IsSheet}
-use Rattle.css_semantics.proofs.Pairs.{by_bool}
 use Rattle.css_semantics.proofs.Rules.{are_statements, statements_are}
 
 -- whether an `@import` may still come behind statements
 abbrev early : List Statement → Bool
 early ss = not (list_any ends_imports ss)
 
-or_true : (b : Bool) → (b || true) ≡ true
-or_true true = refl
-or_true false = refl
-
-or_false : (b : Bool) → (b || false) ≡ b
-or_false true = refl
-or_false false = refl
-
 or_assoc : (a b c : Bool) → (a || (b || c)) ≡ ((a || b) || c)
 or_assoc true b c = refl
 or_assoc false b c = refl
 
 any_push : (ss : List Statement) (s : Statement) → list_any ends_imports (ss ++ s ∷ []) ≡ (list_any ends_imports ss || ends_imports s)
-any_push [] s = or_false (ends_imports s)
+any_push [] s = or-false (ends_imports s)
 any_push (x ∷ ss) s = ap (λ b. ends_imports x || b) (any_push ss s) ∙ or_assoc (ends_imports x) (list_any ends_imports ss) (ends_imports s)
 
 late : (ss : List Statement) (s : Statement) → ends_imports s ≡ true → false ≡ early (ss ++ s ∷ [])
-late ss s e = sym (ap not (any_push ss s ∙ ap (λ b. list_any ends_imports ss || b) e ∙ or_true (list_any ends_imports ss)))
+late ss s e = sym (ap not (any_push ss s ∙ ap (λ b. list_any ends_imports ss || b) e ∙ or-true (list_any ends_imports ss)))
 
 still : (ss : List Statement) (s : Statement) → ends_imports s ≡ false → early ss ≡ early (ss ++ s ∷ [])
-still ss s e = sym (ap not (any_push ss s ∙ ap (λ b. list_any ends_imports ss || b) e ∙ or_false (list_any ends_imports ss)))
+still ss s e = sym (ap not (any_push ss s ∙ ap (λ b. list_any ends_imports ss || b) e ∙ or-false (list_any ends_imports ss)))
 
 rules_append : (ss us : List Statement) → rules_of (ss ++ us) ≡ rules_of ss ++ rules_of us
 rules_append [] us = refl

@@ -1,18 +1,19 @@
 -- A list of tokens is a declaration exactly where it is read as one.
-use Rattle.std.proofs.Common.{◌≡◌, ℕ, ◌+◌, suc, Bool, true, false, cond, not, ◌&&◌, List, [], ◌∷◌, ◌++◌, take, drop, Option, Some, None, refl, sym, ◌∙◌, ap, subst, arith}
+use Rattle.std.proofs.Common.{◌≡◌, ◌+◌, Bool, true, false, cond, not, ◌&&◌, List, [], ◌∷◌, ◌++◌, take, drop, Option, Some, None, refl, sym, ◌∙◌, ap, subst}
 use Rattle.std.specs.List.{list_all, prefix_len}
 use Rattle.std.specs.Option.{option_to_list}
 use Rattle.std.proofs.lemmas.List.{take-append-drop}
 use Rattle.std.proofs.lemmas.Bool.{and_from, not-true}
+use Rattle.std.proofs.Math.Numerals.{one-add}
 use Rattle.css_semantics.specs.Pieces.{Token}
 use Rattle.viz_base.specs.declared.tokens.TokenKind.{TokenKind}
 use Rattle.viz_base.specs.declared.tokens.TokenKind.TheVariants.{Colon}
 use Rattle.viz_base.specs.declared.sheets.Decl.{Decl}
+use Rattle.viz_base.proofs.Truths.{by_bool, and_first, and_second}
 use Rattle.css_semantics.specs.SheetsMarks.{is_ident, is_at_keyword, is_colon, is_gap, ends_declaration}
 use Rattle.css_semantics.specs.SheetsReading.{goes_on, before_important, declared_at, trim_start, is_blank}
 use Rattle.css_semantics.specs.steps.Sheets.{is_value, declared, declaration, declaration_item, after_declaration, declarations, front, behind, after_at_rule}
 use Rattle.css_semantics.specs.SheetsGrammar.{IsDeclaration, DeclarationItem, blank, at_rule, well_formed, malformed, AreDeclarations}
-use Rattle.css_semantics.proofs.Pairs.{by_bool}
 use Rattle.css_semantics.proofs.Stretches.{is_stretch, stretch_front, stretch_behind}
 use Rattle.css_semantics.proofs.Values.{standing_goes, goes_standing}
 use Rattle.css_semantics.proofs.Items.{Takes, TakesOnly, listed, listed_only, is_at_rule, at_rule_after}
@@ -21,34 +22,23 @@ use Rattle.css_semantics.proofs.Tails.{declaration_tails}
 abbrev gap_token : Token → Bool
 gap_token t = is_gap t.kind
 
-both_first : (a b : Bool) → (a && b) ≡ true → a ≡ true
-both_first true b h = refl
-both_first false b h = cc
-
-both_second : (a b : Bool) → (a && b) ≡ true → b ≡ true
-both_second true b h = h
-both_second false b h = cc
-
 colon_no_gap : (kind : TokenKind) → is_colon kind ≡ true → is_gap kind ≡ false
 colon_no_gap Colon h = refl
 colon_no_gap _ h = cc
-
-one_plus : (n : ℕ) → 1 + n ≡ suc n
-one_plus n = omega arith
 
 -- white space and comments before a token that is neither
 gap_len : (gap : List Token) (c : Token) (v : List Token) → list_all gap_token gap ≡ true → is_gap c.kind ≡ false → drop (prefix_len gap_token (gap ++ c ∷ v)) (gap ++ c ∷ v) ≡ c ∷ v
 gap_len [] c v h e = ap (λ b. drop (cond b (1 + prefix_len gap_token v) 0) (c ∷ v)) e
 gap_len (g ∷ gap) c v h e =
-    ap (λ b. drop (cond b (1 + prefix_len gap_token (gap ++ c ∷ v)) 0) (g ∷ (gap ++ c ∷ v))) (both_first (gap_token g) _ h)
-    ∙ ap (λ n. drop n (g ∷ (gap ++ c ∷ v))) (one_plus (prefix_len gap_token (gap ++ c ∷ v)))
-    ∙ gap_len gap c v (both_second (gap_token g) _ h) e
+    ap (λ b. drop (cond b (1 + prefix_len gap_token (gap ++ c ∷ v)) 0) (g ∷ (gap ++ c ∷ v))) (and_first (gap_token g) _ h)
+    ∙ ap (λ n. drop n (g ∷ (gap ++ c ∷ v))) (one-add (prefix_len gap_token (gap ++ c ∷ v)))
+    ∙ gap_len gap c v (and_second (gap_token g) _ h) e
 
 gap_front : (ts : List Token) → list_all gap_token (take (prefix_len gap_token ts) ts) ≡ true
 gap_front [] = refl
 gap_front (t ∷ ts) =
     by_bool (gap_token t)
-    (λ e. ap (λ b. list_all gap_token (take (cond b (1 + prefix_len gap_token ts) 0) (t ∷ ts))) e ∙ ap (λ n. list_all gap_token (take n (t ∷ ts))) (one_plus (prefix_len gap_token ts)) ∙ and_from (gap_token t) _ e (gap_front ts))
+    (λ e. ap (λ b. list_all gap_token (take (cond b (1 + prefix_len gap_token ts) 0) (t ∷ ts))) e ∙ ap (λ n. list_all gap_token (take n (t ∷ ts))) (one-add (prefix_len gap_token ts)) ∙ and_from (gap_token t) _ e (gap_front ts))
     (λ e. ap (λ b. list_all gap_token (take (cond b (1 + prefix_len gap_token ts) 0) (t ∷ ts))) e)
 
 -- ---- a declaration is read
@@ -86,8 +76,8 @@ declared_is name (c ∷ v) d h =
       colon = c;
       value = v;
       whole = refl;
-      parted = both_first (is_colon c.kind) _ e;
-      is = both_second (is_colon c.kind) _ e;
+      parted = and_first (is_colon c.kind) _ e;
+      is = and_second (is_colon c.kind) _ e;
       gives = sym (same_some _ d (sym (ap (λ b. cond b (Some (declared_at name v (before_important v))) None) e) ∙ h));
     })
     (λ e. absurd (no_some d (sym (ap (λ b. cond b (Some (declared_at name v (before_important v))) None) e) ∙ h)))
@@ -107,8 +97,8 @@ read_declaration (t ∷ ts) d h =
       named = e;
       blank = gap_front ts;
       parted = k.parted;
-      standing = goes_standing k.value (both_first (goes_on [] k.value) _ k.is);
-      some = not-true _ (both_second (goes_on [] k.value) _ k.is);
+      standing = goes_standing k.value (and_first (goes_on [] k.value) _ k.is);
+      some = not-true _ (and_second (goes_on [] k.value) _ k.is);
       gives = k.gives;
     })
     (λ e. absurd (no_some d (sym (ap (λ b. cond b (declared t (trim_start is_gap ts)) None) e) ∙ h)))

@@ -1,26 +1,20 @@
 -- What each escape in a text gives.
-use Rattle.std.proofs.Common.{◌≡◌, ℕ, suc, ◌+◌, ◌-◌, ◌*◌, ◌==◌, nat_lt, ◌≤◌, Bool, true, false, not, ◌&&◌, List, [], ◌∷◌, ◌++◌, length, refl, ◌∙◌, ap, ◌⊎◌, inl, inr, arith}
-use Rattle.std.proofs.lemmas.Bool.{and_parts, and_left, and_right, not-true}
+use Rattle.std.proofs.Common.{◌≡◌, ℕ, suc, ◌+◌, ◌-◌, ◌*◌, ◌==◌, nat_lt, ◌≤◌, true, false, not, ◌&&◌, List, [], ◌∷◌, ◌++◌, length, refl, ◌∙◌, ap, ◌⊎◌, inl, inr, arith}
+use Rattle.std.proofs.lemmas.Bool.{and_parts, and_left, and_right, not-true, eqb-true}
 use Rattle.std.proofs.lemmas.Bool.Decides.{nat_tests}
+use Rattle.viz_base.proofs.Truths.{by_bool}
 use Rattle.css_semantics.specs.TokensLetters.{is_hex, is_newline, is_space}
 use Rattle.css_semantics.specs.TokensMacros.{Each, IsNewline, IsOneWhite, is_escaped}
 use Rattle.css_semantics.specs.TokensUnescaped.{Extent, resolved, numbered, returned, hex_value, scalar}
 use Rattle.css_semantics.specs.TokensEscapes.{number_from, begins, IsWholeNumber, ResolvesEscapes}
 
-by_bool : {P : Type 0} (b : Bool) → (b ≡ true → P) → (b ≡ false → P) → P
-by_bool true at_true at_false = at_true refl
-by_bool false at_true at_false = at_false refl
-
-eq_true : (a b : ℕ) → (a == b) ≡ true → a ≡ b
-eq_true a b h = grind (arith, nat_tests)
-
-space_not_hex : (c : ℕ) → is_space c ≡ true → is_hex c ≡ false
+pub space_not_hex : (c : ℕ) → is_space c ≡ true → is_hex c ≡ false
 space_not_hex c h = grind (arith, nat_tests)
 
-newline_not_hex : (c : ℕ) → is_newline c ≡ true → is_hex c ≡ false
+pub newline_not_hex : (c : ℕ) → is_newline c ≡ true → is_hex c ≡ false
 newline_not_hex c h = grind (arith, nat_tests)
 
-no_return : (c : ℕ) → is_space c ≡ false → (c == 13) ≡ false
+pub no_return : (c : ℕ) → is_space c ≡ false → (c == 13) ≡ false
 no_return c h = grind (arith, nat_tests)
 
 none_left : (left : ℕ) → 0 ≡ left → nat_lt 0 left ≡ false
@@ -42,7 +36,7 @@ number_ends e left n white (c ∷ rest) (inl none) digits space line =
 number_ends e left n white rest (inr (inl w)) digits space line =
     let over = and_left (is_hex w.0) (nat_lt 0 left) (space_not_hex w.0 w.2) in
     by_bool (w.0 == 13)
-    (λ r. let cr : white ≡ 13 ∷ [] = w.1 ∙ ap (λ x. x ∷ []) (eq_true w.0 13 r) in
+    (λ r. let cr : white ≡ 13 ∷ [] = w.1 ∙ ap (λ x. x ∷ []) (eqb-true w.0 13 r) in
     rw w.1 (rw (over, r) (ap (λ t. scalar n ∷ t) (returned_same e rest (line cr)))))
     (λ r. rw w.1 (rw (over, w.2, r) refl))
 number_ends e left n white rest (inr (inr lines)) digits space line = rw lines refl
@@ -74,7 +68,7 @@ number_resolves e (d ∷ digits) white rest w =
 line_resolves : (e : Extent) (line rest : List ℕ) → IsNewline line → (line ≡ 13 ∷ [] → begins (λ c. c == 10) rest ≡ false) → resolved e (92 ∷ (line ++ rest)) ≡ resolved e rest
 line_resolves e line rest (inl n) whole =
     by_bool (n.0 == 13)
-    (λ r. let cr : line ≡ 13 ∷ [] = n.1 ∙ ap (λ x. x ∷ []) (eq_true n.0 13 r) in
+    (λ r. let cr : line ≡ 13 ∷ [] = n.1 ∙ ap (λ x. x ∷ []) (eqb-true n.0 13 r) in
     rw n.1 (rw (newline_not_hex n.0 n.2, r) (returned_same e rest (whole cr))))
     (λ r. rw n.1 (rw (newline_not_hex n.0 n.2, n.2, r) refl))
 line_resolves e line rest (inr lines) whole = rw lines refl

@@ -7,6 +7,7 @@ use Rattle.std.specs.declared.cmp.Ordering.{Ordering}
 use Rattle.std.specs.declared.cmp.Ordering.TheVariants.{Less, Equal, Greater}
 use Rattle.std.proofs.lemmas.List.{append-nil}
 use Rattle.std.proofs.lemmas.Cmp.{upto, then_total, on_total, nat_cmp_total}
+use Rattle.viz_base.proofs.ListLemmas.{all_append}
 use Rattle.css_semantics.specs.CascadeOrder.{IsGreatest, cascade_cmp, greatest, greatest_from, later_of, spec_cmp, weight_number}
 
 -- ---- the orders
@@ -38,10 +39,6 @@ all_on : {A : Type 0} {P Q : A → Type 0} → ((x : A) → P x → Q x) → (xs
 all_on f [] h = h
 all_on f (x ∷ xs) h = (f x h.0, all_on f xs h.1)
 
-all_joined : {A : Type 0} (P : A → Type 0) (xs ys : List A) → AllByRecursion P xs → AllByRecursion P ys → AllByRecursion P (xs ++ ys)
-all_joined P [] ys h k = k
-all_joined P (x ∷ xs) ys h k = (h.0, all_joined P xs ys h.1 k)
-
 all_middle : {A : Type 0} (P : A → Type 0) (xs : List A) (y : A) (ys : List A) → AllByRecursion P (xs ++ y ∷ ys) → P y
 all_middle P [] y ys h = h.0
 all_middle P (x ∷ xs) y ys h = all_middle P xs y ys h.1
@@ -54,7 +51,7 @@ kept_best {R = R} o front best x e g = record {
   after = g.after ++ x ∷ [];
   whole = ap (λ l. l ++ x ∷ []) g.whole ∙ append_assoc g.before (best ∷ g.after) (x ∷ []);
   none_greater = g.none_greater;
-  each_less = all_joined (λ y. is_lt (R y best) ≡ true) g.after (x ∷ []) g.each_less (less_back (R best x) (R x best) (o.antisymm best x) e, tt);
+  each_less = all_append (λ y. is_lt (R y best) ≡ true) g.after (x ∷ []) g.each_less (less_back (R best x) (R x best) (o.antisymm best x) e, tt);
 }
 
 new_best : {A : Type 0} {R : A → A → Ordering} (o : IsTotalOrder R) (front : List A) (best x : A) → is_gt (R best x) ≡ false → IsGreatest R front best → IsGreatest R (front ++ x ∷ []) x
@@ -63,7 +60,7 @@ new_best {R = R} o front best x e g = record {
   after = [];
   whole = refl;
   none_greater = subst (AllByRecursion (λ y. is_gt (R y x) ≡ false)) (sym g.whole)
-      (all_joined (λ y. is_gt (R y x) ≡ false) g.before (best ∷ g.after)
+      (all_append (λ y. is_gt (R y x) ≡ false) g.before (best ∷ g.after)
       (all_on (λ y h. upto o y best x h e) g.before g.none_greater)
       (e, all_on (λ y h. upto o y best x (not_greater (R y best) h) e) g.after g.each_less));
   each_less = tt;

@@ -1,17 +1,19 @@
 -- A standing says that its node is hidden exactly where `display: none` wins at the node or around it.
-use Rattle.std.proofs.Common.{◌≡◌, ℕ, ◌+◌, ◌<◌, ◌≤◌, zero, suc, Bool, true, false, cond, ◌&&◌, ◌||◌, inl, inr, ◌↔◌, List, [], ◌∷◌, ◌++◌, length, slice_get, Option, Some, None, Result, Ok, Err, IsTrue, refl, sym, ap, ◌∙◌, subst, arith, length-append}
-use Rattle.std.specs.Prelude.{nat_lt}
+use Rattle.std.proofs.Common.{◌≡◌, ℕ, ◌+◌, ◌<◌, ◌≤◌, Bool, true, false, cond, ◌&&◌, ◌||◌, inl, inr, ◌↔◌, List, [], ◌∷◌, ◌++◌, length, slice_get, Option, Some, None, Result, Ok, Err, refl, sym, ap, ◌∙◌, subst, arith, length-append}
 use Rattle.std.specs.List.{list_any}
 use Rattle.std.specs.Option.{option_map_or}
-use Rattle.std.proofs.lemmas.Bool.{cases_lt, ltb-true, or_cases, or_left, or_right}
+use Rattle.std.proofs.lemmas.Bool.{cases_lt, or_cases, or_left, or_right}
 use Rattle.std.proofs.lemmas.List.Folds.{list_any-append}
 use Rattle.std.proofs.lemmas.Option.{same_Some, slice_get-get_or, slice_get_within}
-use Rattle.viz_base.specs.Pages.{IsPage, is_element_at, parent_fits}
+use Rattle.std.proofs.Math.Bool.{or-false}
+use Rattle.viz_base.specs.Pages.{IsPage}
 use Rattle.viz_base.specs.declared.nodes.Node.{Node}
 use Rattle.viz_base.specs.declared.settings.Prop.{Prop}
 use Rattle.viz_base.specs.declared.settings.Prop.TheVariants as of_prop
 use Rattle.viz_base.specs.declared.settings.Setting.{Setting}
 use Rattle.viz_base.specs.declared.settings.Value.{Value}
+use Rattle.viz_base.proofs.Truths.{by_bool}
+use Rattle.viz_base.proofs.ListLemmas.{get_before}
 use Rattle.css_semantics.specs.declared.claims.Claim.{Claim}
 use Rattle.css_semantics.specs.declared.claims.Ruleset.{Ruleset}
 use Rattle.css_semantics.specs.declared.claims.Standing.{Standing}
@@ -20,7 +22,7 @@ use Rattle.css_semantics.specs.CascadeNodes.{around_root, first_refused, found_o
 use Rattle.css_semantics.specs.CascadeOrder.{is_prop}
 use Rattle.css_semantics.specs.Hidden.{HaveCome, IsHidden, has_none, inside, is_none, itself}
 use Rattle.css_semantics.specs.Matching.{IsAncestor, IsParent, further, parent}
-use Rattle.css_semantics.proofs.Pairs.{by_bool}
+use Rattle.css_semantics.proofs.Parents.{child_after, one_parent}
 
 -- ---- what hides a node is among its settings
 
@@ -37,10 +39,7 @@ one_hides replaced outer p None = sym (refused_hides_not replaced outer p None r
 one_hides replaced outer p (Some v) =
     by_bool (refuses replaced outer p (Some v))
     (λ t. ap (λ b. list_any is_none (cond b [] (set_by p (Some v)))) t ∙ sym (refused_hides_not replaced outer p (Some v) t))
-    (λ f. ap (λ b. list_any is_none (cond b [] (set_by p (Some v)))) f ∙ or_false (is_prop p of_prop.Display && is_word 0 (Some v))) where
-      or_false : (b : Bool) → (b || false) ≡ b
-      or_false true = refl
-      or_false false = refl
+    (λ f. ap (λ b. list_any is_none (cond b [] (set_by p (Some v)))) f ∙ or-false (is_prop p of_prop.Display && is_word 0 (Some v)))
 
 settings_hide : (replaced : Bool) (outer : Standing) (cs : List Claim) → list_any is_none (settings_of replaced outer cs) ≡ list_any hides cs
 settings_hide replaced outer [] = refl
@@ -68,27 +67,15 @@ node_hides {standings = standings} {node = node} (comes_to {all = all} applied) 
 
 -- ---- one more item
 
-get_before : {A : Type 0} (xs ys : List A) (n : ℕ) → n < length xs → slice_get (xs ++ ys) n ≡ slice_get xs n
-get_before [] ys n l = absurd (omega arith)
-get_before (x ∷ xs) ys zero l = refl
-get_before (x ∷ xs) ys (suc n) l = get_before xs ys n (omega arith)
-
 get_last : {A : Type 0} (xs : List A) (x : A) → slice_get (xs ++ x ∷ []) (length xs) ≡ Some x
 get_last [] x = refl
 get_last (y ∷ xs) x = get_last xs x
 
 -- ---- parents stand before
 
-first_true : (a b : Bool) → (a && b) ≡ true → a ≡ true
-first_true true b e = refl
-first_true false b e = cc
-
-parent_before : (nodes : List Node) → IsPage nodes → (p n : ℕ) → IsParent nodes p n → p < n
-parent_before nodes page p n h = ltb-true p n (first_true (nat_lt p n) (is_element_at nodes p) (subst (λ o. IsTrue (parent_fits nodes n o)) h.2 (page.parents n h.0 h.1)))
-
 ancestor_before : {nodes : List Node} {top n : ℕ} → IsPage nodes → IsAncestor nodes top n → top < n
-ancestor_before {nodes} {top} {n} page (IsAncestor.parent h) = parent_before nodes page top n h
-ancestor_before {nodes} {top} {n} page (IsAncestor.further {p = p} h more) = let a = parent_before nodes page p n h in let b = ancestor_before page more in omega arith
+ancestor_before {nodes} {top} {n} page (IsAncestor.parent h) = child_after nodes page top n h
+ancestor_before {nodes} {top} {n} page (IsAncestor.further {p = p} h more) = let a = child_after nodes page p n h in let b = ancestor_before page more in omega arith
 
 -- ---- one more node
 
@@ -114,13 +101,10 @@ inside_hidden : {nodes : List Node} {winners : List (List Setting)} {p n : ℕ} 
 inside_hidden h (IsHidden.itself e) = inside (parent h) e
 inside_hidden h (IsHidden.inside a e) = inside (further h a) e
 
-same_parent : (nodes : List Node) (p q n : ℕ) → IsParent nodes p n → IsParent nodes q n → p ≡ q
-same_parent nodes p q n h k = same_Some p q (sym h.2 ∙ ap (λ (m : Node). m.parent) (same_Some h.0 k.0 (sym h.1 ∙ k.1)) ∙ k.2)
-
 around_hidden : {nodes : List Node} {winners : List (List Setting)} {p n : ℕ} → IsParent nodes p n → IsHidden nodes winners n → has_none winners n ≡ false → IsHidden nodes winners p
 around_hidden h (IsHidden.itself e) f = let k : true ≡ false = sym e ∙ f in cc
-around_hidden {nodes} {winners} {p} {n} h (IsHidden.inside {top = top} (IsAncestor.parent k) e) f = itself (ap (has_none winners) (same_parent nodes p top n h k) ∙ e)
-around_hidden {nodes} {winners} {p} {n} h (IsHidden.inside (IsAncestor.further {p = q} k a) e) f = subst (IsHidden nodes winners) (sym (same_parent nodes p q n h k)) (inside a e)
+around_hidden {nodes} {winners} {p} {n} h (IsHidden.inside {top = top} (IsAncestor.parent k) e) f = itself (ap (has_none winners) (one_parent nodes p top n h k) ∙ e)
+around_hidden {nodes} {winners} {p} {n} h (IsHidden.inside (IsAncestor.further {p = q} k a) e) f = subst (IsHidden nodes winners) (sym (one_parent nodes p q n h k)) (inside a e)
 
 none_is : (nodes : List Node) (p n : ℕ) (node : Node) → slice_get nodes n ≡ Some node → node.parent ≡ None → IsParent nodes p n → ⊥
 none_is nodes p n node at e k =
@@ -147,7 +131,7 @@ last_agrees nodes standings winners node x s None page all at e h =
     (λ t. itself (none_last winners x ∙ sym h ∙ t), λ k. h ∙ sym (none_last winners x) ∙ no_parent node at e k)
 last_agrees nodes standings winners node x s (Some p) page all at e h =
     let is_parent : IsParent nodes p (length winners) = (node, at, e) in
-    let before : p < length winners = parent_before nodes page p (length winners) is_parent in
+    let before : p < length winners = child_after nodes page p (length winners) is_parent in
     behind is_parent before (slice_get standings p) refl where
       behind : IsParent nodes p (length winners) → p < length winners → (found : Option Standing) → slice_get standings p ≡ found → Agrees nodes (Longer winners x) (length winners) s
       behind is_parent before None f = let l = all.0 in absurd (past (slice_get-get_or standings p around_root (omega arith)) f) where

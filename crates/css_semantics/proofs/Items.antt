@@ -1,12 +1,12 @@
 -- Lists that are read one item after another have exactly one reading, where each item has.
 use Rattle.std.proofs.Common.{◌≡◌, ℕ, zero, suc, ◌≤◌, true, false, cond, List, [], ◌∷◌, ◌++◌, length, drop, refl, sym, ◌∙◌, ap, subst, arith}
+use Rattle.viz_base.proofs.Truths.{by_bool}
 use Rattle.css_semantics.specs.Pieces.{Token}
 use Rattle.css_semantics.specs.SheetsMarks.{is_left_brace, ends_prelude, ends_block}
 use Rattle.css_semantics.specs.SheetsReading.{gathered}
 use Rattle.css_semantics.specs.steps.Sheets.{front, behind, after_block, after_prelude, after_at_rule, in_block}
 use Rattle.css_semantics.specs.SheetsGrammar.{IsBlock, IsBody, at_end, at_semicolon, at_block, IsAtRule, Listed, done, more}
 use Rattle.css_semantics.proofs.Gathering.{HasTails, gathered_cons, length-tail}
-use Rattle.css_semantics.proofs.Pairs.{by_bool}
 use Rattle.css_semantics.proofs.Stretches.{is_stretch, stretch_front, stretch_behind}
 
 -- each first token has this item, with this rest

@@ -1,4 +1,6 @@
 pub mod PieceLemmas
+pub mod PropLemmas
+pub mod Parents
 pub mod EscapeLemmas
 pub mod Gathering
 pub mod Tails

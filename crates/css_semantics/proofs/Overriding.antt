@@ -1,7 +1,6 @@
 -- What beats what by its weight alone, and what is hidden.
-use Rattle.std.proofs.Common.{◌≡◌, ℕ, Bool, true, false, cond, ◌==◌, ◌||◌, List, [], ◌∷◌, filter, Option, Some, None, refl, sym, ap, ◌∙◌, subst, arith}
+use Rattle.std.proofs.Common.{◌≡◌, Bool, true, false, cond, ◌||◌, List, [], ◌∷◌, filter, Option, Some, None, refl, sym, ap, ◌∙◌, subst}
 use Rattle.std.proofs.Math.Bool.{or-true}
-use Rattle.std.proofs.lemmas.Bool.Decides.{nat_tests}
 use Rattle.std.specs.Ordering.{nat_cmp, is_gt, ordering_then}
 use Rattle.std.specs.declared.cmp.Ordering.{Ordering}
 use Rattle.std.specs.declared.cmp.Ordering.TheVariants.{Less, Greater}
@@ -9,6 +8,7 @@ use Rattle.std.specs.List.{list_any}
 use Rattle.viz_base.specs.declared.settings.Prop.{Prop}
 use Rattle.viz_base.specs.declared.settings.Setting.{Setting}
 use Rattle.viz_base.specs.declared.sheets.Decl.{Decl}
+use Rattle.viz_base.proofs.Truths.{same_number}
 use Rattle.css_semantics.specs.declared.claims.Claim.{Claim}
 use Rattle.css_semantics.specs.declared.claims.Origin.{Origin}
 use Rattle.css_semantics.specs.declared.claims.Origin.TheVariants as of_origin
@@ -19,9 +19,6 @@ use Rattle.css_semantics.specs.CascadeOrder.{Applied, applied, cascade_cmp, grea
 use Rattle.css_semantics.specs.CascadeReading.{claim_of, weight_of}
 use Rattle.css_semantics.specs.CascadeNodes.{hides, is_hidden, judged, node_outcome, settings_of, first_refused, refused_at}
 use Rattle.css_semantics.specs.CascadeLaws.{Beats, Overrides, IsHiddenOutcome, IsImportant, IsShownOutcome, is_author}
-
-same_place : (n : ℕ) → (n == n) ≡ true
-same_place n = grind (arith, nat_tests)
 
 in_turn : (o r : Ordering) → o ≡ Greater → ordering_then o r ≡ Greater
 in_turn o r e = ap (λ x. ordering_then x r) e
@@ -43,7 +40,7 @@ by_weight p a b e f h = (
 )
 
 overrides_by : (o q : Origin) (d e : Decl) → Outweighs (weight_of o d.important) (weight_of q e.important) → Overrides o d q e
-overrides_by o q d e h = λ p s t v w. by_weight p (applied s (claim_of o d p v)) (applied t (claim_of q e p w)) (same_place (place_of p)) (same_place (place_of p)) h
+overrides_by o q d e h = λ p s t v w. by_weight p (applied s (claim_of o d p v)) (applied t (claim_of q e p w)) (same_number (place_of p)) (same_number (place_of p)) h
 
 author_weight : (o : Origin) (b : Bool) → is_author o ≡ true → weight_of o b ≡ cond b Important Normal
 author_weight of_origin.Default b h = cc

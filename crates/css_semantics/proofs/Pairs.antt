@@ -1,22 +1,14 @@
 -- All pairs are matched exactly where no mark is awaited behind the tokens.
-use Rattle.std.proofs.Common.{◌≡◌, Bool, true, false, cond, List, [], ◌∷◌, ◌++◌, Option, Some, None, refl, sym, ◌∙◌, ap, subst, append_assoc}
+use Rattle.std.proofs.Common.{◌≡◌, true, false, cond, List, [], ◌∷◌, ◌++◌, Option, Some, None, refl, sym, ◌∙◌, ap, subst, append_assoc}
 use Rattle.css_semantics.specs.Pieces.{Token}
 use Rattle.viz_base.specs.declared.tokens.TokenKind.{TokenKind}
 use Rattle.viz_base.specs.declared.tokens.TokenKind.TheVariants.{RightBrace, RightParen, RightBracket}
+use Rattle.viz_base.proofs.Truths.{by_bool}
 use Rattle.css_semantics.specs.SheetsMarks.{closing_mark, is_mark, is_paren, is_bracket, is_brace}
-use Rattle.css_semantics.specs.SheetsReading.{passed, opened, awaited}
+use Rattle.css_semantics.specs.SheetsReading.{passed, opened, awaited, still_awaited}
 use Rattle.css_semantics.specs.SheetsGrammar.{Paired, nothing, single, pair, is_awaited}
 
-pub by_bool : {P : Type 0} (b : Bool) → (b ≡ true → P) → (b ≡ false → P) → P
-by_bool true h k = h refl
-by_bool false h k = k refl
-
--- the marks awaited behind tokens
-abbrev pub marks_after : List TokenKind → List Token → List TokenKind
-marks_after marks [] = marks
-marks_after marks (t ∷ ts) = marks_after (awaited t.kind marks) ts
-
-marks_append : (marks : List TokenKind) (p q : List Token) → marks_after marks (p ++ q) ≡ marks_after (marks_after marks p) q
+marks_append : (marks : List TokenKind) (p q : List Token) → still_awaited marks (p ++ q) ≡ still_awaited (still_awaited marks p) q
 marks_append marks [] q = refl
 marks_append marks (t ∷ p) q = marks_append (awaited t.kind marks) p q
 
@@ -52,17 +44,17 @@ stays (Some m) marks kind e f = ap (λ o. opened o kind (m ∷ marks)) e ∙ ap 
 closes : (m kind : TokenKind) (marks : List TokenKind) → is_mark m kind ≡ true → awaited kind (m ∷ marks) ≡ marks
 closes m kind marks e = ap (λ o. opened o kind (m ∷ marks)) (mark_closes m kind e) ∙ ap (λ b. cond b marks (m ∷ marks)) e
 
-pub paired_marks : {within : Option TokenKind} {p : List Token} → Paired within p → (marks : List TokenKind) → marks_after (around within marks) p ≡ around within marks
+pub paired_marks : {within : Option TokenKind} {p : List Token} → Paired within p → (marks : List TokenKind) → still_awaited (around within marks) p ≡ around within marks
 paired_marks {within} nothing marks = refl
 paired_marks {within} (single {t = t} {ts = ts} e f rest) marks =
-    ap (λ m. marks_after m ts) (stays within marks t.kind e f) ∙ paired_marks rest marks
+    ap (λ m. still_awaited m ts) (stays within marks t.kind e f) ∙ paired_marks rest marks
 paired_marks {within} (pair {opener = opener} {ts = ts} mark inner close rest whole e within_pair f after) marks =
     let outer = around within marks in
-    ap (λ o. marks_after (opened o opener.kind outer) ts) e
-    ∙ ap (marks_after (mark ∷ outer)) whole
+    ap (λ o. still_awaited (opened o opener.kind outer) ts) e
+    ∙ ap (still_awaited (mark ∷ outer)) whole
     ∙ marks_append (mark ∷ outer) inner (close ∷ rest)
-    ∙ ap (λ m. marks_after m (close ∷ rest)) (paired_marks within_pair outer)
-    ∙ ap (λ m. marks_after m rest) (closes mark close.kind outer f)
+    ∙ ap (λ m. still_awaited m (close ∷ rest)) (paired_marks within_pair outer)
+    ∙ ap (λ m. still_awaited m rest) (closes mark close.kind outer f)
     ∙ paired_marks after marks
 
 -- ---- and where no mark is left, the pairs are matched
@@ -93,28 +85,28 @@ closing_pair (k ∷ marks) t p m e h =
 closing_mark_first : (m : TokenKind) (marks : List TokenKind) (t : Token) (p : List Token) → is_mark m t.kind ≡ true → Closing marks p → Closing (m ∷ marks) (t ∷ p)
 closing_mark_first m marks t p e h = ([], t, p, refl, nothing, e, h)
 
-by_option : {P : Type 0} (o : Option TokenKind) → (o ≡ None → P) → ((m : TokenKind) → o ≡ Some m → P) → P
+pub by_option : {P : Type 0} (o : Option TokenKind) → (o ≡ None → P) → ((m : TokenKind) → o ≡ Some m → P) → P
 by_option None h k = h refl
 by_option (Some m) h k = k m refl
 
 head_of : (m k : TokenKind) (ms ks : List TokenKind) → (m ∷ ms) ≡ (k ∷ ks) → m ≡ k
 head_of m k ms ks h = cc
 
-closing_passed : (marks : List TokenKind) (t : Token) (p : List Token) → closing_mark t.kind ≡ None → ((ms : List TokenKind) → marks_after ms p ≡ [] → Closing ms p) → marks_after (passed t.kind marks) p ≡ [] → Closing marks (t ∷ p)
+closing_passed : (marks : List TokenKind) (t : Token) (p : List Token) → closing_mark t.kind ≡ None → ((ms : List TokenKind) → still_awaited ms p ≡ [] → Closing ms p) → still_awaited (passed t.kind marks) p ≡ [] → Closing marks (t ∷ p)
 closing_passed [] t p e ih h = single e refl (ih [] h)
 closing_passed (m ∷ marks) t p e ih h =
     by_bool (is_mark m t.kind)
-    (λ yes1. closing_mark_first m marks t p yes1 (ih marks (sym (ap (λ b. marks_after (cond b marks (m ∷ marks)) p) yes1) ∙ h)))
+    (λ yes1. closing_mark_first m marks t p yes1 (ih marks (sym (ap (λ b. still_awaited (cond b marks (m ∷ marks)) p) yes1) ∙ h)))
     (λ no1. closing_single (m ∷ marks) t p e (ap (λ b. cond b marks (m ∷ marks)) no1) (λ k ks same. subst (λ x. is_mark x t.kind ≡ false) (head_of m k marks ks same) no1)
-    (ih (m ∷ marks) (sym (ap (λ b. marks_after (cond b marks (m ∷ marks)) p) no1) ∙ h)))
+    (ih (m ∷ marks) (sym (ap (λ b. still_awaited (cond b marks (m ∷ marks)) p) no1) ∙ h)))
 
-closing : (p : List Token) (marks : List TokenKind) → marks_after marks p ≡ [] → Closing marks p
+closing : (p : List Token) (marks : List TokenKind) → still_awaited marks p ≡ [] → Closing marks p
 closing [] [] h = nothing
 closing [] (m ∷ marks) h = cc
 closing (t ∷ p) marks h =
     by_option (closing_mark t.kind)
-    (λ e. closing_passed marks t p e (closing p) (sym (ap (λ o. marks_after (opened o t.kind marks) p) e) ∙ h))
-    (λ m e. closing_pair marks t p m e (closing p (m ∷ marks) (sym (ap (λ o. marks_after (opened o t.kind marks) p) e) ∙ h)))
+    (λ e. closing_passed marks t p e (closing p) (sym (ap (λ o. still_awaited (opened o t.kind marks) p) e) ∙ h))
+    (λ m e. closing_pair marks t p m e (closing p (m ∷ marks) (sym (ap (λ o. still_awaited (opened o t.kind marks) p) e) ∙ h)))
 
-pub marks_paired : (p : List Token) → marks_after [] p ≡ [] → Paired None p
+pub marks_paired : (p : List Token) → still_awaited [] p ≡ [] → Paired None p
 marks_paired p h = closing p [] h

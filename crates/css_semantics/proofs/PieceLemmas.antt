@@ -46,35 +46,35 @@ bad_string_long p (inr s) = long_first _ _ p s (mark_long 39 s.front s.first)
 opening_long : (p : List ℕ) → IsUrlOpening p → 0 < length p
 opening_long p o = long_first _ _ p o (mark_long o.first.0 o.front o.first.1)
 
-pub some : (k : TokenKind) (p : List ℕ) → Matches k p → 0 < length p
-some Ident p m = ident_long p m
-some AtKeyword p m = long_first _ _ p m (mark_long 64 m.front m.first)
-some Str p m = string_long p m
-some BadString p m = bad_string_long p m
-some BadUri p m = long_first _ _ p m (opening_long m.front m.first)
-some BadComment p m = long_first _ _ p m (rw m.first (omega arith))
-some Hash p m = long_first _ _ p m (mark_long 35 m.front m.first)
-some Number p m = num_long p m
-some Percentage p m = long_first _ _ p m (num_long m.front m.first)
-some Dimension p m = long_first _ _ p m (num_long m.front m.first)
-some Uri p m = long_first _ _ p m (opening_long m.front m.first)
-some UnicodeRange p m = long_first _ _ p m (mark_long m.first.0 m.front m.first.1)
-some Cdo p m = rw m (omega arith)
-some Cdc p m = rw m (omega arith)
-some Colon p m = mark_long 58 p m
-some Semicolon p m = mark_long 59 p m
-some LeftBrace p m = mark_long 123 p m
-some RightBrace p m = mark_long 125 p m
-some LeftParen p m = mark_long 40 p m
-some RightParen p m = mark_long 41 p m
-some LeftBracket p m = mark_long 91 p m
-some RightBracket p m = mark_long 93 p m
-some Space p m = m.0
-some Comment p m = long_first _ _ p m (rw m.first (omega arith))
-some Function p m = long_first _ _ p m (ident_long m.front m.first)
-some Includes p m = rw m (omega arith)
-some DashMatch p m = rw m (omega arith)
-some Delim p m = omega (arith, m)
+pub some_matches : (k : TokenKind) (p : List ℕ) → Matches k p → 0 < length p
+some_matches Ident p m = ident_long p m
+some_matches AtKeyword p m = long_first _ _ p m (mark_long 64 m.front m.first)
+some_matches Str p m = string_long p m
+some_matches BadString p m = bad_string_long p m
+some_matches BadUri p m = long_first _ _ p m (opening_long m.front m.first)
+some_matches BadComment p m = long_first _ _ p m (rw m.first (omega arith))
+some_matches Hash p m = long_first _ _ p m (mark_long 35 m.front m.first)
+some_matches Number p m = num_long p m
+some_matches Percentage p m = long_first _ _ p m (num_long m.front m.first)
+some_matches Dimension p m = long_first _ _ p m (num_long m.front m.first)
+some_matches Uri p m = long_first _ _ p m (opening_long m.front m.first)
+some_matches UnicodeRange p m = long_first _ _ p m (mark_long m.first.0 m.front m.first.1)
+some_matches Cdo p m = rw m (omega arith)
+some_matches Cdc p m = rw m (omega arith)
+some_matches Colon p m = mark_long 58 p m
+some_matches Semicolon p m = mark_long 59 p m
+some_matches LeftBrace p m = mark_long 123 p m
+some_matches RightBrace p m = mark_long 125 p m
+some_matches LeftParen p m = mark_long 40 p m
+some_matches RightParen p m = mark_long 41 p m
+some_matches LeftBracket p m = mark_long 91 p m
+some_matches RightBracket p m = mark_long 93 p m
+some_matches Space p m = m.0
+some_matches Comment p m = long_first _ _ p m (rw m.first (omega arith))
+some_matches Function p m = long_first _ _ p m (ident_long m.front m.first)
+some_matches Includes p m = rw m (omega arith)
+some_matches DashMatch p m = rw m (omega arith)
+some_matches Delim p m = omega (arith, m)
 
 -- ---- a row of the table has one kind
 
@@ -151,7 +151,7 @@ piece_same p q kind at bytes =
 
 nothing_left : (at : ℕ) (p : Token) (ps : List Token) → ArePieces at [] (p ∷ ps) → ⊥
 nothing_left at p ps a =
-    let long = some p.kind a.0 a.4.matches in
+    let long = some_matches p.kind a.0 a.4.matches in
     omega (arith, ap length a.4.whole, length-append a.0 a.1)
 
 pub pieces_same : (first second : List Token) (at : ℕ) (text : List ℕ) → ArePieces at text first → ArePieces at text second → first ≡ second

@@ -5,13 +5,13 @@ use Rattle.std.specs.Option.{option_to_list}
 use Rattle.std.proofs.lemmas.Bool.{or_left, or_right}
 use Rattle.css_semantics.specs.Pieces.{Token}
 use Rattle.viz_base.specs.declared.sheets.Rule.{Rule}
+use Rattle.viz_base.proofs.Truths.{by_bool, not_both}
 use Rattle.css_semantics.specs.declared.statements.Statement.{Statement}
 use Rattle.css_semantics.specs.declared.statements.Statement.TheVariants.{Ruleset, Import, Page, MediaQuery, Media}
 use Rattle.css_semantics.specs.SheetsMarks.{is_at_keyword, is_gap, is_space, is_word, has_paren, ends_prelude, ends_selector, ends_block, ends_entry}
 use Rattle.css_semantics.specs.SheetsReading.{start_of, extent, trimmed, is_screen, is_between}
 use Rattle.css_semantics.specs.steps.Sheets.{rule_of, ruleset_of, block_rule, after_selector, after_ruleset, rule_item, after_rule, rules_in, entry_item, after_entry, entries, holds, media_of, at_rule, statement_item, after_statement, statements, in_block, front, behind, after_at_rule}
 use Rattle.css_semantics.specs.SheetsGrammar.{IsStretch, Listed, RulesetAt, ruleset_with, unfinished, RuleItem, blank_rule, dropped_at_rule, kept_rule, AreRules, EntryItem, entry, HasMedium, every_medium, screen_medium, AtStatement, an_import, a_page, a_query, held_media, other_media, unknown, StatementItem, between, at_statement, rule_statement, AreStatements}
-use Rattle.css_semantics.proofs.Pairs.{by_bool}
 use Rattle.css_semantics.proofs.Stretches.{is_stretch, stretch_front, stretch_behind}
 use Rattle.css_semantics.proofs.Items.{Takes, TakesOnly, listed, listed_only, is_block, block_front, block_after, is_at_rule, at_rule_prelude, at_rule_block, at_rule_after}
 use Rattle.css_semantics.proofs.Declarations.{are_declarations, declarations_are}
@@ -102,9 +102,6 @@ holds_medium prelude h =
 
 -- ---- at-rules
 
-true_false : {b : Bool} → b ≡ true → b ≡ false → ⊥
-true_false h k = let e : true ≡ false = sym h ∙ k in cc
-
 abbrev said_by : Bool → Bool → Bool → Token → List Token → Option Statement
 said_by i p m t ts = cond i (Some (Import t.at)) (cond p (Some Page) (cond m (Some (media_of t.at (front ends_prelude ts) (in_block (behind ends_prelude ts)))) None))
 
@@ -132,7 +129,7 @@ media_said t ts e f g =
     (λ q. subst (λ x. Said t ts (x ∷ [])) (sym (media_is t.at prelude block true _ q refl)) (a_query e f g q))
     (λ q. by_bool (holds prelude)
     (λ h. subst (λ x. Said t ts (x ∷ [])) (sym (media_is t.at prelude block false true q h)) (held_media e f g q (holds_medium prelude h) (are_rules block)))
-    (λ h. subst (λ x. Said t ts (x ∷ [])) (sym (media_is t.at prelude block false false q h)) (other_media e f g q (λ k. true_false (medium_holds k) h))))
+    (λ h. subst (λ x. Said t ts (x ∷ [])) (sym (media_is t.at prelude block false false q h)) (other_media e f g q (λ k. not_both (holds prelude) (medium_holds k) h))))
 
 at_said : (t : Token) (ts : List Token) → Said t ts (option_to_list (at_rule t ts))
 at_said t ts =

@@ -2,36 +2,27 @@
 use Rattle.std.proofs.Common.{◌≡◌, ℕ, suc, ◌+◌, ◌≤◌, Bool, true, false, cond, ◌&&◌, List, [], ◌∷◌, ◌++◌, length, take, drop, None, refl, sym, ◌∙◌, ap, subst, ◌⊎◌, inl, inr, arith, length-append, length-take, length-drop}
 use Rattle.std.proofs.lemmas.List.{take-append-drop}
 use Rattle.std.proofs.Math.Seq.{take-append_seam, drop-append_seam}
+use Rattle.std.proofs.Math.Numerals.{one-add}
 use Rattle.css_semantics.specs.Pieces.{Token}
 use Rattle.viz_base.specs.declared.tokens.TokenKind.{TokenKind}
-use Rattle.css_semantics.specs.SheetsReading.{awaited, is_none, stretch_len}
+use Rattle.viz_base.proofs.Truths.{by_bool, and_first, and_second}
+use Rattle.css_semantics.specs.SheetsReading.{awaited, is_none, stretch_len, still_awaited}
 use Rattle.css_semantics.specs.steps.Sheets.{front, behind}
 use Rattle.css_semantics.specs.SheetsGrammar.{Paired, EndsAt, IsStretch}
-use Rattle.css_semantics.proofs.Pairs.{by_bool, marks_after, paired_marks, marks_paired}
+use Rattle.css_semantics.proofs.Pairs.{paired_marks, marks_paired}
 
 none_is : (marks : List TokenKind) → is_none marks ≡ true → marks ≡ []
 none_is [] h = refl
 none_is (m ∷ marks) h = cc
 
-both_first : (a b : Bool) → (a && b) ≡ true → a ≡ true
-both_first true b h = refl
-both_first false b h = cc
-
-both_second : (a b : Bool) → (a && b) ≡ true → b ≡ true
-both_second true b h = h
-both_second false b h = cc
-
 len_here : (stop : Token → Bool) (marks : List TokenKind) (t : Token) (ts : List Token) → (is_none marks && stop t) ≡ true → stretch_len stop marks (t ∷ ts) ≡ 0
 len_here stop marks t ts e = ap (λ b. cond b 0 (1 + stretch_len stop (awaited t.kind marks) ts)) e
 
-one_plus : (n : ℕ) → 1 + n ≡ suc n
-one_plus n = omega arith
-
 len_later : (stop : Token → Bool) (marks : List TokenKind) (t : Token) (ts : List Token) → (is_none marks && stop t) ≡ false → stretch_len stop marks (t ∷ ts) ≡ suc (stretch_len stop (awaited t.kind marks) ts)
-len_later stop marks t ts e = ap (λ b. cond b 0 (1 + stretch_len stop (awaited t.kind marks) ts)) e ∙ one_plus _
+len_later stop marks t ts e = ap (λ b. cond b 0 (1 + stretch_len stop (awaited t.kind marks) ts)) e ∙ one-add _
 
 -- no shorter front will do
-least : (stop : Token → Bool) (p : List Token) (marks : List TokenKind) (t : Token) (r : List Token) → marks_after marks p ≡ [] → stop t ≡ true → stretch_len stop marks (p ++ t ∷ r) ≤ length p
+least : (stop : Token → Bool) (p : List Token) (marks : List TokenKind) (t : Token) (r : List Token) → still_awaited marks p ≡ [] → stop t ≡ true → stretch_len stop marks (p ++ t ∷ r) ≤ length p
 least stop [] marks t r h e =
     let none : (is_none marks && stop t) ≡ true = subst (λ m. (is_none m && stop t) ≡ true) (sym h) e in
     omega (arith, len_here stop marks t r none)
@@ -42,14 +33,14 @@ least stop (q ∷ p) marks t r h e =
 
 -- what stands behind so many tokens: nothing, or a token that stops where no mark is awaited
 abbrev Stops : (Token → Bool) → List TokenKind → List Token → ℕ → Type 0
-Stops stop marks ts n = (drop n ts ≡ []) ⊎ ((t : Token) × (r : List Token) × (drop n ts ≡ t ∷ r) × (marks_after marks (take n ts) ≡ []) × (stop t ≡ true))
+Stops stop marks ts n = (drop n ts ≡ []) ⊎ ((t : Token) × (r : List Token) × (drop n ts ≡ t ∷ r) × (still_awaited marks (take n ts) ≡ []) × (stop t ≡ true))
 
 later_stops : (stop : Token → Bool) (marks : List TokenKind) (t : Token) (ts : List Token) (n : ℕ) → Stops stop (awaited t.kind marks) ts n → Stops stop marks (t ∷ ts) (suc n)
 later_stops stop marks t ts n (inl h) = inl h
 later_stops stop marks t ts n (inr h) = inr h
 
 here_stops : (stop : Token → Bool) (marks : List TokenKind) (t : Token) (ts : List Token) → (is_none marks && stop t) ≡ true → Stops stop marks (t ∷ ts) 0
-here_stops stop marks t ts e = inr (t, ts, refl, none_is marks (both_first (is_none marks) (stop t) e), both_second (is_none marks) (stop t) e)
+here_stops stop marks t ts e = inr (t, ts, refl, none_is marks (and_first (is_none marks) (stop t) e), and_second (is_none marks) (stop t) e)
 
 stops_there : (stop : Token → Bool) (ts : List Token) (marks : List TokenKind) → Stops stop marks ts (stretch_len stop marks ts)
 stops_there stop [] marks = inl refl

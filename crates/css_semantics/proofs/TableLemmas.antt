@@ -6,6 +6,7 @@ use Rattle.std.proofs.lemmas.List.Quantifiers.{position-Some}
 use Rattle.viz_base.specs.declared.settings.Prop.{Prop}
 use Rattle.viz_base.specs.declared.settings.Value.{Value}
 use Rattle.viz_base.specs.declared.settings.Value.TheVariants as value
+use Rattle.viz_base.proofs.Sameness.{same_Ok}
 use Rattle.css_semantics.specs.declared.parts.Part.{Part}
 use Rattle.css_semantics.specs.declared.parts.Part.TheVariants as part
 use Rattle.css_semantics.specs.declared.parts.Refusal.{Refusal}
@@ -20,18 +21,12 @@ use Rattle.css_semantics.specs.ValuesLaws.{Admits, HasValue}
 refused : {A : Type 0} (refusal : Refusal) (x : A) → Err refusal ≡ Ok x → ⊥
 refused refusal x e = cc
 
-abbrev given : Value → Result Value Refusal
-given v = Ok v
-
-same_ok : (x y : Value) → given x ≡ given y → x ≡ y
-same_ok x y e = cc
-
 from_else : (b : Bool) (refusal : Refusal) (v w : Value) → cond b (Err refusal) (Ok v) ≡ Ok w → (b ≡ false) × (v ≡ w)
 from_else true refusal v w e = absurd (refused refusal w e)
-from_else false refusal v w e = (refl, same_ok v w e)
+from_else false refusal v w e = (refl, same_Ok e)
 
 from_then : (b : Bool) (refusal : Refusal) (v w : Value) → cond b (Ok v) (Err refusal) ≡ Ok w → (b ≡ true) × (v ≡ w)
-from_then true refusal v w e = (refl, same_ok v w e)
+from_then true refusal v w e = (refl, same_Ok e)
 from_then false refusal v w e = absurd (refused refusal w e)
 
 from_test : (b : Bool) (r : Result Value Refusal) (refusal : Refusal) (w : Value) → cond b r (Err refusal) ≡ Ok w → (b ≡ true) × (r ≡ Ok w)
@@ -52,7 +47,7 @@ half_above (negsuc n) e = cc
 
 judged_admits : (p : Prop) (t : Takes) (written n : ℤ) (v w : Value) → (is_negative written ≡ false → is_negative n ≡ false) → judged p t written n v ≡ Ok w → (v ≡ w) × Admits t n
 judged_admits p Nothing written n v w h e = absurd (refused Ignored w e)
-judged_admits p All written n v w h e = (same_ok v w e, tt)
+judged_admits p All written n v w h e = (same_Ok e, tt)
 judged_admits p NotNegative written n v w h e = let k = from_else (is_negative written) Ignored v w e in (k.1, above n (h k.0))
 judged_admits p ZeroAlone written n v w h e = let k = from_then (is_zero n) (Unsupported p) v w e in (k.1, zero_is n k.0)
 
@@ -70,7 +65,7 @@ refused_both true r s w e = refused r w e
 refused_both false r s w e = refused s w e
 
 word_has : (p : Prop) (word : List ℕ) (o : Option ℕ) (v : Value) → position (same_name word) (row p).words ≡ o → placed p word o ≡ Ok v → HasValue (row p) v
-word_has p word (Some place) v s e = subst (HasValue (row p)) (same_ok (value.Word place) v e) ((position-Some (same_name word) (row p).words place [] s).0)
+word_has p word (Some place) v s e = subst (HasValue (row p)) (same_Ok e) ((position-Some (same_name word) (row p).words place [] s).0)
 word_has p word None v s e = absurd (refused_both (list_any (same_name word) (row p).refused) (Unsupported p) Ignored v e)
 
 pub part_has : (p : Prop) (a : Part) (v : Value) → part_value p a ≡ Ok v → HasValue (row p) v

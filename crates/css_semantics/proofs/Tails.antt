@@ -1,5 +1,6 @@
 -- What follows an item is an end of the tokens behind the item's first.
-use Rattle.std.proofs.Common.{◌≡◌, ℕ, suc, ◌+◌, Bool, true, false, cond, ◌||◌, List, [], ◌∷◌, drop, refl, ◌∙◌, ap, arith}
+use Rattle.std.proofs.Common.{◌≡◌, suc, ◌+◌, Bool, true, false, cond, ◌||◌, List, [], ◌∷◌, drop, refl, ◌∙◌, ap}
+use Rattle.std.proofs.Math.Numerals.{add-one, one-add}
 use Rattle.css_semantics.specs.Pieces.{Token}
 use Rattle.css_semantics.specs.SheetsMarks.{is_left_brace, is_gap, is_semicolon, is_at_keyword, ends_prelude, ends_selector, ends_block, ends_declaration, ends_entry}
 use Rattle.css_semantics.specs.SheetsReading.{stretch_len, awaited, is_blank, is_between}
@@ -14,18 +15,12 @@ pub second_false : (a b : Bool) → (a || b) ≡ false → b ≡ false
 second_false true b h = cc
 second_false false b h = h
 
-one_more : (n : ℕ) → n + 1 ≡ suc n
-one_more n = omega arith
-
-more_one : (n : ℕ) → 1 + n ≡ suc n
-more_one n = omega arith
-
 pub tail_less : (u : Token) (us : List Token) (t : Token) (ts : List Token) → IsTail (u ∷ us) (t ∷ ts) → IsTail us ts
-tail_less u us t ts h = (h.0, ap (drop 1) h.1 ∙ drop-drop 1 h.0 (t ∷ ts) ∙ ap (λ k. drop k (t ∷ ts)) (one_more h.0))
+tail_less u us t ts h = (h.0, ap (drop 1) h.1 ∙ drop-drop 1 h.0 (t ∷ ts) ∙ ap (λ k. drop k (t ∷ ts)) (add-one h.0))
 
 -- a stretch that begins with a token takes it
 pub stretch_later : (stop : Token → Bool) (t : Token) (ts : List Token) → stop t ≡ false → stretch_len stop [] (t ∷ ts) ≡ suc (stretch_len stop (awaited t.kind []) ts)
-stretch_later stop t ts e = ap (λ b. cond b 0 (1 + stretch_len stop (awaited t.kind []) ts)) e ∙ more_one _
+stretch_later stop t ts e = ap (λ b. cond b 0 (1 + stretch_len stop (awaited t.kind []) ts)) e ∙ one-add _
 
 pub tail_behind : (stop : Token → Bool) (ts : List Token) → IsTail (behind stop ts) ts
 tail_behind stop ts = (stretch_len stop [] ts, refl)
@@ -66,4 +61,4 @@ statement_tails t ts =
 
 pub entry_tails : HasTails after_entry
 entry_tails t ts =
-    (stretch_len ends_entry [] (t ∷ ts), drop-drop 1 (stretch_len ends_entry [] (t ∷ ts)) (t ∷ ts) ∙ ap (λ k. drop k (t ∷ ts)) (one_more (stretch_len ends_entry [] (t ∷ ts))))
+    (stretch_len ends_entry [] (t ∷ ts), drop-drop 1 (stretch_len ends_entry [] (t ∷ ts)) (t ∷ ts) ∙ ap (λ k. drop k (t ∷ ts)) (add-one (stretch_len ends_entry [] (t ∷ ts))))

@@ -4,14 +4,11 @@ use Rattle.std.specs.Option.{option_to_list}
 use Rattle.css_semantics.specs.Pieces.{Token}
 use Rattle.viz_base.specs.declared.tokens.TokenKind.{TokenKind}
 use Rattle.viz_base.specs.declared.tokens.TokenKind.TheVariants.{RightBrace, RightParen, RightBracket}
+use Rattle.viz_base.proofs.Truths.{by_bool}
 use Rattle.css_semantics.specs.SheetsMarks.{closing_mark, is_mark, is_bad, is_paren, is_bracket, is_brace}
 use Rattle.css_semantics.specs.SheetsReading.{is_closing, may_stand, value_closed, value_opened, value_step, if_some, goes_on}
 use Rattle.css_semantics.specs.SheetsGrammar.{Standing, nothing_more, stands, closed_pair, open_pair}
-use Rattle.css_semantics.proofs.Pairs.{by_bool, mark_closes, around}
-
-by_option : {P : Type 0} (o : Option TokenKind) → (o ≡ None → P) → ((m : TokenKind) → o ≡ Some m → P) → P
-by_option None h k = h refl
-by_option (Some m) h k = k m refl
+use Rattle.css_semantics.proofs.Pairs.{mark_closes, around, by_option}
 
 first_of_three : (a b c : Bool) → a ≡ true → (a || b || c) ≡ true
 first_of_three true b c h = refl

@@ -1,5 +1,5 @@
 -- What the winners at a node come to: its settings, or a value that is refused by name (CSS 2.1, 6.1 and 6.4).
-use Rattle.std.specs.Prelude.{ℕ, ◌==◌, ℤ, pos, negsuc, Bool, true, false, not, ◌&&◌, ◌||◌, List, [], ◌∷◌, map, Option, Some, None, Result, Ok, Err, slice_get, if◌then◌else◌}
+use Rattle.std.specs.Prelude.{ℕ, ◌==◌, Bool, true, false, not, ◌&&◌, ◌||◌, List, [], ◌∷◌, map, Option, Some, None, Result, Ok, Err, slice_get, if◌then◌else◌}
 use Rattle.std.specs.List.{list_any, flat_map}
 use Rattle.std.specs.Option.{option_to_list}
 use Rattle.viz_base.specs.declared.settings.Prop.{Prop}
@@ -11,6 +11,7 @@ use Rattle.css_semantics.specs.declared.claims.Claim.{Claim}
 use Rattle.css_semantics.specs.declared.claims.Standing.{Standing}
 use Rattle.css_semantics.specs.CascadeOrder.{Applied, winner_of, is_prop}
 use Rattle.css_semantics.specs.Properties.{properties}
+use Rattle.css_semantics.specs.Values.{is_zero}
 
 -- ---- winners
 
@@ -22,10 +23,6 @@ abbrev pub winners_of : List Applied → List Claim
 winners_of all = flat_map (λ p. winners_for p all) properties
 
 -- ---- what is refused
-
-abbrev pub is_zero : ℤ → Bool
-is_zero (pos n) = n == 0
-is_zero (negsuc n) = false
 
 -- Whether a minimum is other than zero; `inherit` is what the parent's is (CSS 2.1, 6.2.1).
 abbrev pub is_above_zero : Bool → Value → Bool

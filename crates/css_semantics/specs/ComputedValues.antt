@@ -29,6 +29,7 @@ use Rattle.viz_base.specs.declared.styles.Display.TheVariants as of_display
 use Rattle.viz_base.specs.declared.styles.Side.{Side}
 use Rattle.viz_base.specs.declared.styles.Side.TheVariants as of_side
 use Rattle.viz_base.specs.declared.styles.Style.{Style}
+use Rattle.viz_base.specs.Styles.{nothing}
 use Rattle.css_semantics.specs.CascadeOrder.{is_prop}
 use Rattle.css_semantics.specs.Names.{same_name}
 use Rattle.css_semantics.specs.Properties.{row}
@@ -94,9 +95,6 @@ wrappings = true ∷ false ∷ []
 -- whether a border of each style has a width: of all but `none` and `hidden` (CSS 2.1, 8.5.3)
 abbrev pub drawings : List Bool
 drawings = false ∷ false ∷ true ∷ true ∷ true ∷ true ∷ true ∷ true ∷ true ∷ true ∷ []
-
-abbrev pub nothing : Length
-nothing = of_length.Px (pos 0)
 
 -- Lengths in em name the node on which they are set (CSS 2.1, 4.3.2). Keywords here are `auto`.
 abbrev pub length_of : ℕ → Value → Length
@@ -180,42 +178,67 @@ pub record AreDrawn (winners : List Setting) (parent : Option (Sides Bool)) (dra
       (λ (d : Sides Bool). d.bottom) parent winners
   pub left : drawn.left ≡ computed BorderLeftStyle (by_word drawings false) (λ (d : Sides Bool). d.left) parent winners
 
+-- the lengths that an element's style has of its own
+pub record OwnLengths : Type 0 where
+  pub width : Length
+  pub min_width : Length
+  pub max_width : Option Length
+  pub height : Length
+  pub min_height : Length
+  pub max_height : Option Length
+  pub margin : Sides Length
+  pub padding : Sides Length
+  pub border : Sides Length
+
+abbrev pub own_lengths : Style → OwnLengths
+own_lengths s = record {
+  width = s.width;
+  min_width = s.min_width;
+  max_width = s.max_width;
+  height = s.height;
+  min_height = s.min_height;
+  max_height = s.max_height;
+  margin = s.margin;
+  padding = s.padding;
+  border = s.border;
+}
+
 -- The table of computed values, in two parts. First the lengths of the box of an element, by what wins there, by which
 -- of its borders are drawn, and by its parent's style (CSS 2.1, 8.3 to 8.5 and 10.2 to 10.7).
 pub record AreLengths (node : ℕ) (winners : List Setting) (drawn : Sides Bool) (parent : Option Style)
-    (width min_width : Length) (max_width : Option Length) (height min_height : Length) (max_height : Option Length)
-    (margin padding border : Sides Length) : Type 0 where
-  pub width_is : width ≡ computed Width (length_of node) (λ (t : Style). t.width) parent winners
-  pub min_width_is : min_width ≡ computed MinWidth (length_of node) (λ (t : Style). t.min_width) parent winners
-  pub max_width_is : max_width ≡ computed MaxWidth (maximum_of node) (λ (t : Style). t.max_width) parent winners
-  pub height_is : height ≡ computed Height (length_of node) (λ (t : Style). t.height) parent winners
-  pub min_height_is : min_height ≡ computed MinHeight (length_of node) (λ (t : Style). t.min_height) parent winners
-  pub max_height_is : max_height ≡ computed MaxHeight (maximum_of node) (λ (t : Style). t.max_height) parent winners
-  pub margin_top : margin.top ≡ computed MarginTop (length_of node) (λ (t : Style). t.margin.top) parent winners
-  pub margin_right : margin.right ≡ computed MarginRight (length_of node) (λ (t : Style). t.margin.right) parent winners
-  pub margin_bottom : margin.bottom ≡ computed MarginBottom (length_of node)
+    (own : OwnLengths) : Type 0 where
+  pub width_is : own.width ≡ computed Width (length_of node) (λ (t : Style). t.width) parent winners
+  pub min_width_is : own.min_width ≡ computed MinWidth (length_of node) (λ (t : Style). t.min_width) parent winners
+  pub max_width_is : own.max_width ≡ computed MaxWidth (maximum_of node) (λ (t : Style). t.max_width) parent winners
+  pub height_is : own.height ≡ computed Height (length_of node) (λ (t : Style). t.height) parent winners
+  pub min_height_is : own.min_height ≡ computed MinHeight (length_of node) (λ (t : Style). t.min_height) parent winners
+  pub max_height_is : own.max_height ≡ computed MaxHeight (maximum_of node) (λ (t : Style). t.max_height) parent winners
+  pub margin_top : own.margin.top ≡ computed MarginTop (length_of node) (λ (t : Style). t.margin.top) parent winners
+  pub margin_right : own.margin.right ≡ computed MarginRight (length_of node)
+      (λ (t : Style). t.margin.right) parent winners
+  pub margin_bottom : own.margin.bottom ≡ computed MarginBottom (length_of node)
       (λ (t : Style). t.margin.bottom) parent winners
-  pub margin_left : margin.left ≡ computed MarginLeft (length_of node) (λ (t : Style). t.margin.left) parent winners
-  pub padding_top : padding.top ≡ computed PaddingTop (length_of node) (λ (t : Style). t.padding.top) parent winners
-  pub padding_right : padding.right ≡ computed PaddingRight (length_of node)
+  pub margin_left : own.margin.left ≡ computed MarginLeft (length_of node) (λ (t : Style). t.margin.left) parent winners
+  pub padding_top : own.padding.top ≡ computed PaddingTop (length_of node) (λ (t : Style). t.padding.top) parent winners
+  pub padding_right : own.padding.right ≡ computed PaddingRight (length_of node)
       (λ (t : Style). t.padding.right) parent winners
-  pub padding_bottom : padding.bottom ≡ computed PaddingBottom (length_of node)
+  pub padding_bottom : own.padding.bottom ≡ computed PaddingBottom (length_of node)
       (λ (t : Style). t.padding.bottom) parent winners
-  pub padding_left : padding.left ≡ computed PaddingLeft (length_of node) (λ (t : Style). t.padding.left) parent winners
-  pub border_top : border.top ≡ if_drawn drawn.top (computed BorderTopWidth (width_of node)
+  pub padding_left : own.padding.left ≡ computed PaddingLeft (length_of node)
+      (λ (t : Style). t.padding.left) parent winners
+  pub border_top : own.border.top ≡ if_drawn drawn.top (computed BorderTopWidth (width_of node)
       (λ (t : Style). t.border.top) parent winners)
-  pub border_right : border.right ≡ if_drawn drawn.right (computed BorderRightWidth (width_of node)
+  pub border_right : own.border.right ≡ if_drawn drawn.right (computed BorderRightWidth (width_of node)
       (λ (t : Style). t.border.right) parent winners)
-  pub border_bottom : border.bottom ≡ if_drawn drawn.bottom (computed BorderBottomWidth (width_of node)
+  pub border_bottom : own.border.bottom ≡ if_drawn drawn.bottom (computed BorderBottomWidth (width_of node)
       (λ (t : Style). t.border.bottom) parent winners)
-  pub border_left : border.left ≡ if_drawn drawn.left (computed BorderLeftWidth (width_of node)
+  pub border_left : own.border.left ≡ if_drawn drawn.left (computed BorderLeftWidth (width_of node)
       (λ (t : Style). t.border.left) parent winners)
 
 -- and then all else
 pub record IsComputed (fonts : List Font) (node : ℕ) (winners : List Setting) (drawn : Sides Bool)
     (parent : Option Style) (s : Style) : Type 0 where
-  pub lengths : AreLengths node winners drawn parent s.width s.min_width s.max_width
-      s.height s.min_height s.max_height s.margin s.padding s.border
+  pub lengths : AreLengths node winners drawn parent (own_lengths s)
   pub display : s.display ≡ computed Display (by_word displays of_display.Inline)
       (λ (t : Style). t.display) parent winners
   pub float : s.float ≡ computed Float (by_word floats None) (λ (t : Style). t.float) parent winners

@@ -127,7 +127,8 @@ fn read_rules<'a>(alloc: Global, tokens: &'a [Token<'a>]) -> Result<Sheet, Sheet
 /// the value alone may be at fault. Places and lengths are in bytes of the text, which is shorter than `2^32` bytes.
 ///
 /// `Import` and `MediaQuery` for the first statement that is refused, at the place of its keyword; `TooManyRules` for
-/// more than 8,192 rules where none is refused; `Mem` for want of memory alone.
+/// more than 8,192 rules where none is refused; `Mem` for want of memory, as which a place or a length from `2^32` on
+/// counts: no clause says when.
 pub fn read_sheet(alloc: Global, text: &str) -> Result<Sheet, SheetFault>
     ensures { GivesOneOf rules_in refusal_of result (IsSheetOf text.now) }
 {
@@ -139,7 +140,7 @@ pub fn read_sheet(alloc: Global, text: &str) -> Result<Sheet, SheetFault>
 /// The declarations of a style attribute, read as what stands in a block (CSS 2.1, 4.1.8 and 4.2). Places and lengths
 /// are in bytes of the text, which is shorter than `2^32` bytes.
 ///
-/// `Mem` for want of memory alone.
+/// `Mem` for want of memory, as which a place or a length from `2^32` on counts; no clause says when.
 pub fn read_declarations(alloc: Global, text: &str) -> Result<List<Decl>, Mem>
     ensures { IfOk result (AreDeclarationsOf text.now) }
 {

@@ -1,7 +1,6 @@
 -- A piece of a kind leads the scanner to a state of this kind or of an earlier one.
 use Rattle.std.proofs.Common.{◌≡◌, ℕ, ◌-◌, ◌==◌, nat_lt, ◌≤◌, true, false, List, [], ◌∷◌, ◌++◌, length, Some, refl, sym, ◌∙◌, ap, ◌⊎◌, inl, inr, arith}
 use Rattle.std.proofs.lemmas.Bool.Decides.{nat_tests}
-use Rattle.std.proofs.lemmas.List.{append-nil}
 use Rattle.viz_base.specs.declared.tokens.TokenKind.{TokenKind}
 use Rattle.viz_base.specs.declared.tokens.TokenKind.TheVariants.{Ident, AtKeyword, Str, BadString, BadUri, BadComment, Hash, Number, Percentage, Dimension, Uri, UnicodeRange, Cdo, Cdc, Colon, Semicolon, LeftBrace, RightBrace, LeftParen, RightParen, LeftBracket, RightBracket, Space, Comment, Function, Includes, DashMatch, Delim}
 use Rattle.css_semantics.specs.TokensLetters.{is_hex, is_space, is_start, is_u, is_range}
@@ -15,10 +14,7 @@ use Rattle.css_token.specs.steps.Scan.{kind_in_row}
 use Rattle.css_token.proofs.Reading.{reads}
 use Rattle.css_token.proofs.Rows.{Passed, ready_kind}
 use Rattle.css_token.proofs.Words.{at_passes, hash_passes, num_counts, number_reads, measure_passes, ident_spells, wordy_kind, wordy_open}
-use Rattle.css_token.proofs.Quotes.{string_reads, bad_string_reads, bad_uri_reads, uri_reads, bad_comment_reads, comment_reads}
-
-nothing_more : (state : State) (piece : List ℕ) → reads state (piece ++ []) ≡ reads state piece
-nothing_more state piece = ap (reads state) (append-nil piece)
+use Rattle.css_token.proofs.Quotes.{nothing_more, string_reads, bad_string_reads, bad_uri_reads, uri_reads, bad_comment_reads, comment_reads}
 
 row_reads : (state : State) (row : Row) (piece : List ℕ) → Passed state row piece → reads state piece ≡ Some (kind_in_row row)
 row_reads state row piece x = sym (nothing_more state piece) ∙ (x.same [] ∙ ready_kind row x.after x.ready)

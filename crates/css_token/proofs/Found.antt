@@ -5,17 +5,19 @@ use Rattle.std.specs.Option.{option_and_then}
 use Rattle.std.proofs.lemmas.Bool.Decides.{nat_tests}
 use Rattle.std.proofs.lemmas.List.{append_assoc}
 use Rattle.std.proofs.lemmas.Option.{same_Some}
-use Rattle.std.proofs.lemmas.Bool.{and_parts}
+use Rattle.std.proofs.lemmas.Bool.{and_parts, eqb-true}
 use Rattle.viz_base.specs.declared.tokens.TokenKind.{TokenKind}
+use Rattle.viz_base.proofs.Truths.{by_bool}
 use Rattle.css_semantics.specs.TokensLetters.{is_hex, is_newline, is_space}
 use Rattle.css_semantics.specs.TokensMacros.{Each, IsNewline, IsOneWhite}
+use Rattle.css_semantics.proofs.EscapeLemmas.{no_return}
 use Rattle.css_token.specs.declared.states.Row.{Row}
 use Rattle.css_token.specs.declared.states.Going.TheVariants.{Plain, Backslash, Digits, Return}
 use Rattle.css_token.specs.declared.states.State.{State}
 use Rattle.css_token.specs.declared.states.State.TheVariants.{End, Within}
 use Rattle.css_token.specs.steps.Scan.{goes_on, holds_lines, kind_in_row, step_end, step_plain}
 use Rattle.css_token.proofs.Reading.{reads, no_kind}
-use Rattle.css_token.proofs.Rows.{by_bool, eq_true, InRow}
+use Rattle.css_token.proofs.Rows.{InRow}
 
 -- a text is read from a state that may follow this step
 abbrev pub ReadsFrom : Option State → List ℕ → TokenKind → Type 0
@@ -105,14 +107,11 @@ return_line : (more : List ℕ) → (more ≡ []) ⊎ (more ≡ 10 ∷ []) → I
 return_line more (inl e) = rw e (inl (13, refl, refl))
 return_line more (inr e) = rw e (inr refl)
 
-newline_return : (c : ℕ) → is_space c ≡ false → (c == 13) ≡ false
-newline_return c h = grind (arith, nat_tests)
-
 -- a character of the row, or its end
 plain_more : (row : Row) (k : TokenKind) (c : ℕ) (p : List ℕ) → (reads (Within row Plain) p ≡ Some k → RowRest row k p) → (reads (Within row Backslash) p ≡ Some k → AfterSlash row k p) → ReadsFrom (step_plain row c) p k → RowRest row k (c ∷ p)
 plain_more row k c p plain slash h =
     by_bool (c == 92)
-    (λ e. subst (λ x. RowRest row k (x ∷ p)) (sym (eq_true c 92 e)) (slash_more row k p (slash (rw e at h))))
+    (λ e. subst (λ x. RowRest row k (x ∷ p)) (sym (eqb-true c 92 e)) (slash_more row k p (slash (rw e at h))))
     (λ e. by_bool (goes_on row c)
     (λ g. one_more row k (c ∷ []) p (inl (c, refl, g)) (plain (rw (e, g) at h)))
     (λ g. ends_here row k (c ∷ p) (inr (inr (c, p, refl, rw (e, g) at h)))))
@@ -125,7 +124,7 @@ line_more row k c p true holds newline plain return h =
       tail = c ∷ r.more;
       rest = r.rest;
       whole = ap (λ t. c ∷ t) r.whole;
-      unit = subst (λ x. InRow row (92 ∷ x ∷ r.more)) (sym (eq_true c 13 e)) (line_unit row (13 ∷ r.more) holds (return_line r.more r.one));
+      unit = subst (λ x. InRow row (92 ∷ x ∷ r.more)) (sym (eqb-true c 13 e)) (line_unit row (13 ∷ r.more) holds (return_line r.more r.one));
       row_rest = r.row_rest;
     })
     (λ e. record { tail = c ∷ []; rest = p; whole = refl; unit = line_unit row (c ∷ []) holds (inl (c, refl, newline)); row_rest = plain (rw e at h) })
@@ -188,7 +187,7 @@ mutual
         whole = ap (λ t. c ∷ t) x.whole;
         each = tt;
         few = omega arith;
-        one = subst (λ y. IsOneWhite (y ∷ x.more)) (sym (eq_true c 13 r)) (return_white x.more x.one);
+        one = subst (λ y. IsOneWhite (y ∷ x.more)) (sym (eqb-true c 13 r)) (return_white x.more x.one);
         row_rest = x.row_rest;
       })
       (λ r. record {
@@ -209,14 +208,14 @@ mutual
         each = tt;
         few = omega arith;
         one = inl refl;
-        row_rest = plain_more row k c p (found_plain p row k) (found_slash p row k) (rw (e, s, newline_return c s) at h);
+        row_rest = plain_more row k c p (found_plain p row k) (found_slash p row k) (rw (e, s, no_return c s) at h);
       }))
 
   found_return : (p : List ℕ) (row : Row) (k : TokenKind) → reads (Within row Return) p ≡ Some k → ReturnRest row k p
   found_return [] row k h = record { more = []; rest = []; whole = refl; one = inl refl; row_rest = ends_here row k [] (inl (refl, same_kind (kind_in_row row) k h)) }
   found_return (c ∷ p) row k h =
       by_bool (c == 10)
-      (λ e. record { more = c ∷ []; rest = p; whole = refl; one = inr (ap (λ x. x ∷ []) (eq_true c 10 e)); row_rest = found_plain p row k (rw e at h) })
+      (λ e. record { more = c ∷ []; rest = p; whole = refl; one = inr (ap (λ x. x ∷ []) (eqb-true c 10 e)); row_rest = found_plain p row k (rw e at h) })
       (λ e. record { more = []; rest = c ∷ p; whole = refl; one = inl refl; row_rest = plain_more row k c p (found_plain p row k) (found_slash p row k) (rw e at h) })
 
 -- nothing is read behind the end of a piece

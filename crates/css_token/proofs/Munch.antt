@@ -3,7 +3,7 @@ use Rattle.std.proofs.Common.{◌≡◌, ℕ, ◌<◌, ◌≤◌, List, [], ◌�
 use Rattle.std.proofs.lemmas.Option.{same_Some}
 use Rattle.viz_base.specs.declared.tokens.TokenKind.{TokenKind}
 use Rattle.viz_base.specs.declared.tokens.TokenKind.TheVariants.{Ident, AtKeyword, Str, BadString, BadUri, BadComment, Hash, Number, Percentage, Dimension, Uri, UnicodeRange, Cdo, Cdc, Colon, Semicolon, LeftBrace, RightBrace, LeftParen, RightParen, LeftBracket, RightBracket, Space, Comment, Function, Includes, DashMatch, Delim}
-use Rattle.css_semantics.specs.TokensTable.{Matches, row_of}
+use Rattle.css_semantics.specs.TokensTable.{row_of}
 use Rattle.css_semantics.specs.Tokens.{IsLongest}
 use Rattle.css_token.specs.declared.states.State.TheVariants.{Begin}
 use Rattle.css_token.specs.steps.Scan.{Cut, cut_of}
@@ -95,12 +95,4 @@ munched c cs =
     elim (outcome (c ∷ cs) Begin (Delim, cs)) [
       | inl t ↦ taken_munch (c ∷ cs) (cut_of (c ∷ cs)) t
       | inr t ↦ single_munch c cs (cut_of (c ∷ cs)) t
-    ]
-
--- no kind has the empty piece
-pub some_matches : (kind : TokenKind) (p : List ℕ) → Matches kind p → 0 < length p
-some_matches kind p m =
-    elim (reached kind p m) [
-      | inl one ↦ omega (arith, one.0)
-      | inr x ↦ some_piece p x.0 x.1
     ]

@@ -3,9 +3,10 @@ use Rattle.std.proofs.Common.{◌≡◌, ℕ, ◌==◌, true, false, nat_lt, Lis
 use Rattle.std.specs.List.{AllByRecursion, concat}
 use Rattle.std.proofs.lemmas.Bool.Decides.{nat_tests}
 use Rattle.std.proofs.lemmas.List.{append_assoc, append-nil}
-use Rattle.std.proofs.lemmas.Bool.{and_left}
+use Rattle.std.proofs.lemmas.Bool.{and_left, eqb-true}
 use Rattle.viz_base.specs.declared.tokens.TokenKind.{TokenKind}
 use Rattle.viz_base.specs.declared.tokens.TokenKind.TheVariants.{Str, BadString, BadUri, BadComment, Uri, Comment}
+use Rattle.viz_base.proofs.Truths.{by_bool}
 use Rattle.css_semantics.specs.TokensLetters.{is_hex, is_space, is_url, is_u, is_r, is_l}
 use Rattle.css_semantics.specs.TokensMacros.{Mark, Then, Maybe, Many, IsWhite, OneOrEscape, IsQuoted, IsStringIn, IsString, IsBadStringIn, IsBadString, IsUrl, IsOpen}
 use Rattle.css_semantics.specs.TokensTable.{IsUrlOpening, IsAddress, IsBadAddress}
@@ -19,7 +20,7 @@ use Rattle.css_token.specs.declared.states.State.{State}
 use Rattle.css_token.specs.declared.states.State.TheVariants.{Begin, Within, AddressStart, AddressEnd, InComment, Star}
 use Rattle.css_token.specs.steps.Scan.{mark_of, step}
 use Rattle.css_token.proofs.Reading.{reads}
-use Rattle.css_token.proofs.Rows.{by_bool, eq_true, apart, InRow, Ready, Passed, escape_passes, then_passes, units_pass, many_passes, each_to, ready_kind}
+use Rattle.css_token.proofs.Rows.{apart, InRow, Ready, Passed, escape_passes, then_passes, units_pass, many_passes, each_to, ready_kind}
 
 -- ---- strings
 
@@ -234,7 +235,7 @@ then_white piece x white w =
     let y = closing_white x.after white x.closing w in
     record { after = y.after; closing = y.closing; same = λ t. ap (reads AddressStart) (append_assoc piece white t) ∙ (x.same (white ++ t) ∙ y.same t) }
 
-nothing_more : (state : State) (piece : List ℕ) → reads state (piece ++ []) ≡ reads state piece
+pub nothing_more : (state : State) (piece : List ℕ) → reads state (piece ++ []) ≡ reads state piece
 nothing_more state piece = ap (reads state) (append-nil piece)
 
 kind_addressed : (piece : List ℕ) → Addressed AddressStart piece → reads AddressStart piece ≡ Some BadUri
@@ -292,16 +293,16 @@ mutual
   comment_on [] h = record { after = InComment; inside = inl refl; same = λ t. refl }
   comment_on (c ∷ piece) h =
       by_bool (c == 42)
-      (λ e. let x = star_on piece (subst (λ s. IsOpen (s ∷ piece)) (eq_true c 42 e) h) in record { after = x.after; inside = x.inside; same = λ t. rw e (x.same t) })
+      (λ e. let x = star_on piece (subst (λ s. IsOpen (s ∷ piece)) (eqb-true c 42 e) h) in record { after = x.after; inside = x.inside; same = λ t. rw e (x.same t) })
       (λ e. let x = comment_on piece (open_tail c piece h) in record { after = x.after; inside = x.inside; same = λ t. rw e (x.same t) })
 
   star_on : (piece : List ℕ) → IsOpen (42 ∷ piece) → Comments Star piece
   star_on [] h = record { after = Star; inside = inr refl; same = λ t. refl }
   star_on (c ∷ piece) h =
       by_bool (c == 47)
-      (λ e. absurd (h [] piece (ap (λ s. 42 ∷ s ∷ piece) (eq_true c 47 e))))
+      (λ e. absurd (h [] piece (ap (λ s. 42 ∷ s ∷ piece) (eqb-true c 47 e))))
       (λ e. by_bool (c == 42)
-      (λ s. let x = star_on piece (subst (λ s. IsOpen (s ∷ piece)) (eq_true c 42 s) (open_tail 42 (c ∷ piece) h)) in record { after = x.after; inside = x.inside; same = λ t. rw (e, s) (x.same t) })
+      (λ s. let x = star_on piece (subst (λ s. IsOpen (s ∷ piece)) (eqb-true c 42 s) (open_tail 42 (c ∷ piece) h)) in record { after = x.after; inside = x.inside; same = λ t. rw (e, s) (x.same t) })
       (λ s. let x = comment_on piece (open_tail c piece (open_tail 42 (c ∷ piece) h)) in record { after = x.after; inside = x.inside; same = λ t. rw (e, s) (x.same t) }))
 
 inside_kind : (state : State) → Commented state → reads state [] ≡ Some BadComment

@@ -1,11 +1,13 @@
 -- Strings, addresses and comments: what the scanner takes for one is one.
 use Rattle.std.proofs.Common.{◌≡◌, ℕ, ◌==◌, true, false, List, [], ◌∷◌, ◌++◌, Some, None, refl, sym, ◌∙◌, ap, subst, ◌⊎◌, inl, inr, arith, if◌then◌else◌}
 use Rattle.std.specs.List.{AllByRecursion, concat}
-use Rattle.std.proofs.lemmas.Bool.{false≢true}
+use Rattle.std.proofs.lemmas.Bool.{false≢true, eqb-true}
 use Rattle.std.proofs.lemmas.Bool.Decides.{nat_tests}
 use Rattle.std.proofs.lemmas.List.{append_assoc, append-nil}
 use Rattle.viz_base.specs.declared.tokens.TokenKind.{TokenKind}
 use Rattle.viz_base.specs.declared.tokens.TokenKind.TheVariants.{Str, BadString, BadUri, BadComment, Uri, Space, Comment}
+use Rattle.viz_base.proofs.Truths.{by_bool}
+use Rattle.viz_base.proofs.Sameness.{same_head, same_tail}
 use Rattle.css_semantics.specs.TokensLetters.{is_space, is_url, is_u, is_r, is_l}
 use Rattle.css_semantics.specs.TokensMacros.{Mark, Then, Maybe, Each, IsWhite, OneOrEscape, IsQuoted, IsStringIn, IsString, IsBadStringIn, IsBadString, IsUrl, IsOpen}
 use Rattle.css_semantics.specs.TokensTable.{Matches, IsUrlOpening, IsAddress, IsBadAddress}
@@ -16,7 +18,7 @@ use Rattle.css_token.specs.declared.states.Going.TheVariants.{Plain}
 use Rattle.css_token.specs.declared.states.State.TheVariants.{End, Within, Solidus, InComment, Star, Spaces, AddressStart, AddressEnd}
 use Rattle.css_token.specs.steps.Scan.{mark_of, step_plain}
 use Rattle.css_token.proofs.Reading.{reads, no_kind}
-use Rattle.css_token.proofs.Rows.{by_bool, eq_true, InRow, each_to}
+use Rattle.css_token.proofs.Rows.{InRow, each_to}
 use Rattle.css_token.proofs.Found.{RowEnd, found_plain, end_reads, same_kind, choose}
 
 -- ---- strings
@@ -61,7 +63,7 @@ string_end quote k p tail units each whole (inr (inl e)) = inr (bad_string quote
 string_end quote k p tail units each whole (inr (inr x)) =
     by_bool (x.0 == mark_of quote)
     (λ e. let n = end_reads Str k x.1 (rw e at x.3) in
-    inl (good_string quote p units each (whole ∙ ap (λ t. concat units ++ t) (x.2 ∙ (ap (λ c. c ∷ x.1) (eq_true x.0 (mark_of quote) e) ∙ ap (λ t. mark_of quote ∷ t) n.0))), n.1))
+    inl (good_string quote p units each (whole ∙ ap (λ t. concat units ++ t) (x.2 ∙ (ap (λ c. c ∷ x.1) (eqb-true x.0 (mark_of quote) e) ∙ ap (λ t. mark_of quote ∷ t) n.0))), n.1))
     (λ e. absurd (no_kind k (rw e at x.3)))
 
 string_found : (quote : Quote) (k : TokenKind) (p : List ℕ) → reads (Within (Quoted quote) Plain) p ≡ Some k → StringFound quote k p
@@ -96,7 +98,7 @@ more_white k c p e (inr x) = inr (record { front = c ∷ x.0.front; back = x.0.b
 closed_here : (k : TokenKind) (c : ℕ) (p : List ℕ) → (c == 41) ≡ true → reads (End Uri) p ≡ Some k → Closed k (c ∷ p)
 closed_here k c p e h =
     let n = end_reads Uri k p h in
-    inr (record { front = []; back = c ∷ p; whole = refl; first = tt; second = ap (λ d. d ∷ p) (eq_true c 41 e) ∙ ap (λ t. 41 ∷ t) n.0 }, n.1)
+    inr (record { front = []; back = c ∷ p; whole = refl; first = tt; second = ap (λ d. d ∷ p) (eqb-true c 41 e) ∙ ap (λ t. 41 ∷ t) n.0 }, n.1)
 
 address_end : (k : TokenKind) (p : List ℕ) → reads AddressEnd p ≡ Some k → Closed k p
 address_end k [] h = inl (tt, same_kind BadUri k h)
@@ -151,7 +153,7 @@ quoted_end quote k p tail units each whole (inr (inr x)) =
     by_bool (x.0 == mark_of quote)
     (λ e.
     let body = concat units ++ (mark_of quote ∷ []) in
-    let parts : p ≡ body ++ x.1 = whole ∙ (ap (λ t. concat units ++ t) (x.2 ∙ ap (λ c. c ∷ x.1) (eq_true x.0 (mark_of quote) e)) ∙ sym (append_assoc (concat units) (mark_of quote ∷ []) x.1)) in
+    let parts : p ≡ body ++ x.1 = whole ∙ (ap (λ t. concat units ++ t) (x.2 ∙ ap (λ c. c ∷ x.1) (eqb-true x.0 (mark_of quote) e)) ∙ sym (append_assoc (concat units) (mark_of quote ∷ []) x.1)) in
     string_closed k (mark_of quote ∷ p) (mark_of quote ∷ body) x.1 (ap (λ t. mark_of quote ∷ t) parts) (some_string quote (mark_of quote ∷ body) (good_string quote body units each refl)) (address_end k x.1 (rw e at x.3)))
     (λ e. absurd (no_kind k (rw e at x.3)))
 
@@ -176,9 +178,9 @@ address_found k (c ∷ p) h =
     choose (is_space c) (Some AddressStart) (if c == 34 then Some (Within (QuotedAddress Double) Plain) else (if c == 39 then Some (Within (QuotedAddress Single) Plain) else step_plain Address c)) p k h
     (λ e g. let x = address_found k p g in record { white = c ∷ x.white; rest = x.rest; whole = ap (λ t. c ∷ t) x.whole; is_white = (e, x.is_white); address_rest = x.address_rest })
     (λ _ g. choose (c == 34) (Some (Within (QuotedAddress Double) Plain)) (if c == 39 then Some (Within (QuotedAddress Single) Plain) else step_plain Address c) p k g
-    (λ e i. no_white k (c ∷ p) (subst (λ x. AddressRest k (x ∷ p)) (sym (eq_true c 34 e)) (quoted_found Double k p i)))
+    (λ e i. no_white k (c ∷ p) (subst (λ x. AddressRest k (x ∷ p)) (sym (eqb-true c 34 e)) (quoted_found Double k p i)))
     (λ _ i. choose (c == 39) (Some (Within (QuotedAddress Single) Plain)) (step_plain Address c) p k i
-    (λ e j. no_white k (c ∷ p) (subst (λ x. AddressRest k (x ∷ p)) (sym (eq_true c 39 e)) (quoted_found Single k p j)))
+    (λ e j. no_white k (c ∷ p) (subst (λ x. AddressRest k (x ∷ p)) (sym (eqb-true c 39 e)) (quoted_found Single k p j)))
     (λ _ j. no_white k (c ∷ p) (url_found k (c ∷ p) j))))
 
 opening : (u r l : ℕ) → is_u u ≡ true → is_r r ≡ true → is_l l ≡ true → IsUrlOpening (u ∷ r ∷ l ∷ 40 ∷ [])
@@ -219,19 +221,10 @@ nil_open (c ∷ before) after e = not_cons e
 
 open_more : (c : ℕ) (p : List ℕ) → IsOpen p → ((after : List ℕ) → c ∷ p ≡ 42 ∷ 47 ∷ after → ⊥) → IsOpen (c ∷ p)
 open_more c p h first [] after e = first after e
-open_more c p h first (d ∷ before) after e = h before after (tails c d p (before ++ (42 ∷ 47 ∷ after)) e)
-  where
-    tails : (c d : ℕ) (p q : List ℕ) → c ∷ p ≡ d ∷ q → p ≡ q
-    tails c d p q e = cc
-
-head_of : (c d : ℕ) (p q : List ℕ) → c ∷ p ≡ d ∷ q → c ≡ d
-head_of c d p q e = cc
-
-tail_of : (c d : ℕ) (p q : List ℕ) → c ∷ p ≡ d ∷ q → p ≡ q
-tail_of c d p q e = cc
+open_more c p h first (d ∷ before) after e = h before after (same_tail e)
 
 not_star : (c : ℕ) (p after : List ℕ) → (c == 42) ≡ false → c ∷ p ≡ 42 ∷ 47 ∷ after → ⊥
-not_star c p after n e = let same : c ≡ 42 = head_of c 42 p (47 ∷ after) e in false≢true (sym n ∙ rw same refl)
+not_star c p after n e = let same : c ≡ 42 = same_head e in false≢true (sym n ∙ rw same refl)
 
 -- the rest of a comment
 abbrev CommentRest : TokenKind → List ℕ → Type 0
@@ -252,7 +245,7 @@ rest_more k c p first (inr x) =
     )
 
 star_alone : IsOpen (42 ∷ [])
-star_alone = open_more 42 [] nil_open (λ after e. not_cons after (tail_of 42 42 [] (47 ∷ after) e))
+star_alone = open_more 42 [] nil_open (λ after e. not_cons after (same_tail e))
   where
     not_cons : (after : List ℕ) → [] ≡ 47 ∷ after → ⊥
     not_cons after e = cc
@@ -260,7 +253,7 @@ star_alone = open_more 42 [] nil_open (λ after e. not_cons after (tail_of 42 42
 -- a front of a text that begins with one character doesn't begin with another
 front_first : (c d : ℕ) (p q r after : List ℕ) → (c == d) ≡ false → c ∷ p ≡ q ++ r → q ≡ d ∷ after → ⊥
 front_first c d p q r after n whole e =
-    let same : c ≡ d = head_of c d p (after ++ r) (whole ∙ ap (λ t. t ++ r) e) in
+    let same : c ≡ d = same_head (whole ∙ ap (λ t. t ++ r) e) in
     false≢true (sym n ∙ eq_same c d same)
   where
     eq_same : (c d : ℕ) → c ≡ d → (c == d) ≡ true
@@ -271,7 +264,7 @@ mutual
   comment_found [] k h = inl (nil_open, same_kind BadComment k h)
   comment_found (c ∷ p) k h =
       by_bool (c == 42)
-      (λ e. subst (λ x. CommentRest k (x ∷ p)) (sym (eq_true c 42 e)) (star_found p k (rw e at h)))
+      (λ e. subst (λ x. CommentRest k (x ∷ p)) (sym (eqb-true c 42 e)) (star_found p k (rw e at h)))
       (λ e. rest_more k c p (λ q r after w x. not_star c q after e x) (comment_found p k (rw e at h)))
 
   -- behind a star
@@ -280,11 +273,11 @@ mutual
   star_found (c ∷ p) k h =
       by_bool (c == 47)
       (λ e. let n = end_reads Comment k p (rw e at h) in
-      inr (record { front = []; back = 42 ∷ c ∷ p; whole = refl; first = nil_open; second = ap (λ x. 42 ∷ x ∷ p) (eq_true c 47 e) ∙ ap (λ t. 42 ∷ 47 ∷ t) n.0 }, n.1))
+      inr (record { front = []; back = 42 ∷ c ∷ p; whole = refl; first = nil_open; second = ap (λ x. 42 ∷ x ∷ p) (eqb-true c 47 e) ∙ ap (λ t. 42 ∷ 47 ∷ t) n.0 }, n.1))
       (λ e. by_bool (c == 42)
-      (λ s. rest_more k 42 (c ∷ p) (λ q r after w x. front_first c 47 p q r after e w (tail_of 42 42 q (47 ∷ after) x))
-      (subst (λ x. CommentRest k (x ∷ p)) (sym (eq_true c 42 s)) (star_found p k (rw (e, s) at h))))
-      (λ s. rest_more k 42 (c ∷ p) (λ q r after w x. front_first c 47 p q r after e w (tail_of 42 42 q (47 ∷ after) x))
+      (λ s. rest_more k 42 (c ∷ p) (λ q r after w x. front_first c 47 p q r after e w (same_tail x))
+      (subst (λ x. CommentRest k (x ∷ p)) (sym (eqb-true c 42 s)) (star_found p k (rw (e, s) at h))))
+      (λ s. rest_more k 42 (c ∷ p) (λ q r after w x. front_first c 47 p q r after e w (same_tail x))
       (rest_more k c p (λ q r after w x. not_star c q after s x) (comment_found p k (rw (e, s) at h)))))
 
 pub solidus_found : (k : TokenKind) (p : List ℕ) → reads Solidus p ≡ Some k → Matches k (47 ∷ p)
@@ -292,8 +285,8 @@ solidus_found k [] h = absurd (no_kind k h)
 solidus_found k (c ∷ p) h =
     by_bool (c == 42)
     (λ e. elim (comment_found p k (rw e at h)) [
-      | inl x ↦ rw x.1 (record { front = 47 ∷ c ∷ []; back = p; whole = refl; first = ap (λ d. 47 ∷ d ∷ []) (eq_true c 42 e); second = x.0 })
-      | inr x ↦ rw x.1 (record { front = 47 ∷ c ∷ []; back = p; whole = refl; first = ap (λ d. 47 ∷ d ∷ []) (eq_true c 42 e); second = x.0 })
+      | inl x ↦ rw x.1 (record { front = 47 ∷ c ∷ []; back = p; whole = refl; first = ap (λ d. 47 ∷ d ∷ []) (eqb-true c 42 e); second = x.0 })
+      | inr x ↦ rw x.1 (record { front = 47 ∷ c ∷ []; back = p; whole = refl; first = ap (λ d. 47 ∷ d ∷ []) (eqb-true c 42 e); second = x.0 })
     ])
     (λ e. absurd (no_kind k (rw e at h)))
 

@@ -1,11 +1,13 @@
 -- Rows of characters and escapes: each of them leads the scanner on within the row.
-use Rattle.std.proofs.Common.{◌≡◌, ℕ, ◌-◌, ◌==◌, nat_lt, ◌≤◌, Bool, true, false, not, ◌&&◌, List, [], ◌∷◌, ◌++◌, length, Some, refl, sym, ◌∙◌, ap, subst, ◌⊎◌, inl, inr, arith}
+use Rattle.std.proofs.Common.{◌≡◌, ℕ, ◌-◌, ◌==◌, nat_lt, ◌≤◌, true, false, not, ◌&&◌, List, [], ◌∷◌, ◌++◌, length, Some, refl, sym, ◌∙◌, ap, subst, ◌⊎◌, inl, inr, arith}
 use Rattle.std.specs.List.{AllByRecursion, concat}
 use Rattle.std.proofs.lemmas.Bool.{and_parts, and_left, not-true}
 use Rattle.std.proofs.lemmas.Bool.Decides.{nat_tests}
 use Rattle.std.proofs.lemmas.List.{append_assoc}
+use Rattle.viz_base.proofs.Truths.{by_bool}
 use Rattle.css_semantics.specs.TokensLetters.{is_hex, is_newline, is_space, is_name, is_quoted, is_url}
 use Rattle.css_semantics.specs.TokensMacros.{One, Mark, Then, Many, Each, UpToSix, IsNewline, IsOneWhite, is_escaped, IsEscape}
+use Rattle.css_semantics.proofs.EscapeLemmas.{space_not_hex, newline_not_hex}
 use Rattle.css_token.specs.declared.states.Row.{Row}
 use Rattle.css_token.specs.declared.states.Row.TheVariants.{Word, AtWord, Name, Measure, Quoted, Address, QuotedAddress}
 use Rattle.css_token.specs.declared.states.Going.{Going}
@@ -16,19 +18,6 @@ use Rattle.css_token.specs.steps.Scan.{mark_of, goes_on, holds_lines, kind_in_ro
 use Rattle.css_token.proofs.Reading.{reads}
 
 -- ---- tests
-
-pub by_bool : {P : Type 0} (b : Bool) → (b ≡ true → P) → (b ≡ false → P) → P
-by_bool true at_true at_false = at_true refl
-by_bool false at_true at_false = at_false refl
-
-pub eq_true : (a b : ℕ) → (a == b) ≡ true → a ≡ b
-eq_true a b h = grind (arith, nat_tests)
-
-space_not_hex : (c : ℕ) → is_space c ≡ true → is_hex c ≡ false
-space_not_hex c h = grind (arith, nat_tests)
-
-newline_not_hex : (c : ℕ) → is_newline c ≡ true → is_hex c ≡ false
-newline_not_hex c h = grind (arith, nat_tests)
 
 name_apart : (c : ℕ) → is_name c ≡ true → ((c == 92) ≡ false) × ((c == 13) ≡ false)
 name_apart c h = (grind (arith, nat_tests), grind (arith, nat_tests))

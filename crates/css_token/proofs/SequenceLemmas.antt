@@ -7,8 +7,9 @@ use Rattle.std.proofs.Math.Seq.{drop-append_seam}
 use Rattle.std.proofs.lemmas.Str.{encodes-chars, chars-nil}
 use Rattle.css_semantics.specs.Pieces.{Token}
 use Rattle.css_semantics.specs.Tokens.{IsToken, ArePieces, AreTokens}
+use Rattle.css_semantics.proofs.PieceLemmas.{some_matches}
 use Rattle.css_token.specs.steps.Scan.{cut_of}
-use Rattle.css_token.proofs.Munch.{munched, some_matches}
+use Rattle.css_token.proofs.Munch.{munched}
 
 -- the tokens behind a place complete those before it
 abbrev pub Goes : List ℕ → List Token → ℕ → Type 0

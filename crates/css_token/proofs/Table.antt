@@ -1,7 +1,9 @@
 -- What leads the scanner from its start to a kind is a piece of this kind.
 use Rattle.std.proofs.Common.{◌≡◌, ℕ, ◌==◌, true, List, [], ◌∷◌, Some, None, refl, sym, ◌∙◌, ap, subst, if◌then◌else◌}
+use Rattle.std.proofs.lemmas.Bool.{eqb-true}
 use Rattle.viz_base.specs.declared.tokens.TokenKind.{TokenKind}
 use Rattle.viz_base.specs.declared.tokens.TokenKind.TheVariants.{Cdo, Colon, Semicolon, LeftBrace, RightBrace, LeftParen, RightParen, LeftBracket, RightBracket, Includes, DashMatch}
+use Rattle.viz_base.proofs.Truths.{by_bool}
 use Rattle.css_semantics.specs.TokensLetters.{is_digit, is_space, is_start, is_u}
 use Rattle.css_semantics.specs.TokensTable.{Matches}
 use Rattle.css_token.specs.declared.states.Row.TheVariants.{Word}
@@ -9,7 +11,6 @@ use Rattle.css_token.specs.declared.states.Going.TheVariants.{Plain, Backslash}
 use Rattle.css_token.specs.declared.states.State.TheVariants.{Begin, End, Within, Less, LessBang, LessBangDash, Tilde, Bar}
 use Rattle.css_token.specs.steps.Scan.{step_mark, step_sign}
 use Rattle.css_token.proofs.Reading.{reads, no_kind}
-use Rattle.css_token.proofs.Rows.{by_bool, eq_true}
 use Rattle.css_token.proofs.Found.{ReadsFrom, end_reads}
 use Rattle.css_token.proofs.WordsFound.{word_found, dash_found, at_found, hash_found, number_found, fraction_number, u_found}
 use Rattle.css_token.proofs.QuotesFound.{double_found, single_found, uri_found, solidus_found, space_found}
@@ -18,7 +19,7 @@ use Rattle.css_token.proofs.QuotesFound.{double_found, single_found, uri_found, 
 mark_found : (kind k : TokenKind) (c mark : ℕ) (p : List ℕ) → (c == mark) ≡ true → Matches kind (mark ∷ []) → reads (End kind) p ≡ Some k → Matches k (c ∷ p)
 mark_found kind k c mark p e m h =
     let n = end_reads kind k p h in
-    subst (λ x. Matches x (c ∷ p)) (sym n.1) (subst (Matches kind) (sym (ap (λ d. d ∷ p) (eq_true c mark e) ∙ ap (λ t. mark ∷ t) n.0)) m)
+    subst (λ x. Matches x (c ∷ p)) (sym n.1) (subst (Matches kind) (sym (ap (λ d. d ∷ p) (eqb-true c mark e) ∙ ap (λ t. mark ∷ t) n.0)) m)
 
 marks_found : (k : TokenKind) (c : ℕ) (p : List ℕ) → ReadsFrom (step_mark c) p k → Matches k (c ∷ p)
 marks_found k c p h =
@@ -36,7 +37,7 @@ marks_found k c p h =
 equals_found : (kind k : TokenKind) (c : ℕ) (p : List ℕ) → ReadsFrom (if c == 61 then Some (End kind) else None) p k → (k ≡ kind) × (c ∷ p ≡ 61 ∷ [])
 equals_found kind k c p h =
     by_bool (c == 61)
-    (λ e. let n = end_reads kind k p (rw e at h) in (n.1, ap (λ d. d ∷ p) (eq_true c 61 e) ∙ ap (λ t. 61 ∷ t) n.0))
+    (λ e. let n = end_reads kind k p (rw e at h) in (n.1, ap (λ d. d ∷ p) (eqb-true c 61 e) ∙ ap (λ t. 61 ∷ t) n.0))
     (λ e. absurd (no_kind k (rw e at h)))
 
 tilde_found : (k : TokenKind) (p : List ℕ) → reads Tilde p ≡ Some k → Matches k (126 ∷ p)
@@ -51,26 +52,26 @@ bang_dash_found : (k : TokenKind) (p : List ℕ) → reads LessBangDash p ≡ So
 bang_dash_found k [] h = absurd (no_kind k h)
 bang_dash_found k (c ∷ p) h =
     by_bool (c == 45)
-    (λ e. let n = end_reads Cdo k p (rw e at h) in (n.1, ap (λ d. d ∷ p) (eq_true c 45 e) ∙ ap (λ t. 45 ∷ t) n.0))
+    (λ e. let n = end_reads Cdo k p (rw e at h) in (n.1, ap (λ d. d ∷ p) (eqb-true c 45 e) ∙ ap (λ t. 45 ∷ t) n.0))
     (λ e. absurd (no_kind k (rw e at h)))
 
 bang_found : (k : TokenKind) (p : List ℕ) → reads LessBang p ≡ Some k → (k ≡ Cdo) × (p ≡ 45 ∷ 45 ∷ [])
 bang_found k [] h = absurd (no_kind k h)
 bang_found k (c ∷ p) h =
     by_bool (c == 45)
-    (λ e. let n = bang_dash_found k p (rw e at h) in (n.0, ap (λ d. d ∷ p) (eq_true c 45 e) ∙ ap (λ t. 45 ∷ t) n.1))
+    (λ e. let n = bang_dash_found k p (rw e at h) in (n.0, ap (λ d. d ∷ p) (eqb-true c 45 e) ∙ ap (λ t. 45 ∷ t) n.1))
     (λ e. absurd (no_kind k (rw e at h)))
 
 less_found : (k : TokenKind) (p : List ℕ) → reads Less p ≡ Some k → Matches k (60 ∷ p)
 less_found k [] h = absurd (no_kind k h)
 less_found k (c ∷ p) h =
     by_bool (c == 33)
-    (λ e. let n = bang_found k p (rw e at h) in rw n.0 (ap (λ d. 60 ∷ d ∷ p) (eq_true c 33 e) ∙ ap (λ t. 60 ∷ 33 ∷ t) n.1))
+    (λ e. let n = bang_found k p (rw e at h) in rw n.0 (ap (λ d. 60 ∷ d ∷ p) (eqb-true c 33 e) ∙ ap (λ t. 60 ∷ 33 ∷ t) n.1))
     (λ e. absurd (no_kind k (rw e at h)))
 
 -- the first character is known
 at_mark : (k : TokenKind) (c mark : ℕ) (p : List ℕ) → (c == mark) ≡ true → Matches k (mark ∷ p) → Matches k (c ∷ p)
-at_mark k c mark p e m = subst (λ x. Matches k (x ∷ p)) (sym (eq_true c mark e)) m
+at_mark k c mark p e m = subst (λ x. Matches k (x ∷ p)) (sym (eqb-true c mark e)) m
 
 signs_found : (k : TokenKind) (c : ℕ) (p : List ℕ) → ReadsFrom (step_sign c) p k → Matches k (c ∷ p)
 signs_found k c p h =

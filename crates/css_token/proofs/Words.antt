@@ -5,6 +5,7 @@ use Rattle.std.proofs.lemmas.Bool.Decides.{nat_tests}
 use Rattle.std.proofs.lemmas.List.{append_assoc}
 use Rattle.viz_base.specs.declared.tokens.TokenKind.{TokenKind}
 use Rattle.viz_base.specs.declared.tokens.TokenKind.TheVariants.{Ident, BadUri, Number, Percentage, Function}
+use Rattle.viz_base.proofs.Truths.{by_bool}
 use Rattle.css_semantics.specs.TokensLetters.{is_digit, is_space, is_start, is_name, is_u, is_r, is_l}
 use Rattle.css_semantics.specs.TokensMacros.{Then, Many, Each, OneOrMore, IsStart, IsNameChar, IsIdent, IsName, IsNum}
 use Rattle.css_semantics.specs.TokensTable.{row_of}
@@ -16,7 +17,7 @@ use Rattle.css_token.specs.declared.states.State.{State}
 use Rattle.css_token.specs.declared.states.State.TheVariants.{Begin, Within, U, Ur, Url, Dash, At, AtDash, HashMark, Whole, Point, Fraction, NumberDash}
 use Rattle.css_token.specs.steps.Scan.{kind_of, step}
 use Rattle.css_token.proofs.Reading.{reads}
-use Rattle.css_token.proofs.Rows.{by_bool, apart, InRow, Ready, Passed, plain_steps, unit_passes, escape_passes, then_passes, many_passes, ready_kind}
+use Rattle.css_token.proofs.Rows.{apart, InRow, Ready, Passed, plain_steps, unit_passes, escape_passes, then_passes, many_passes, ready_kind}
 
 -- ---- tests
 

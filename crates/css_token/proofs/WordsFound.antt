@@ -1,11 +1,12 @@
 -- Identifiers, names, numbers and ranges: what the scanner takes for one is one.
 use Rattle.std.proofs.Common.{◌≡◌, ℕ, ◌-◌, ◌==◌, nat_lt, ◌<◌, ◌≤◌, true, false, ◌&&◌, List, [], ◌∷◌, ◌++◌, length, Option, Some, refl, sym, ◌∙◌, ap, subst, ◌⊎◌, inl, inr, arith}
 use Rattle.std.specs.List.{AllByRecursion, concat}
-use Rattle.std.proofs.lemmas.Bool.{false≢true, and_parts}
+use Rattle.std.proofs.lemmas.Bool.{false≢true, and_parts, eqb-true}
 use Rattle.std.proofs.lemmas.Bool.Decides.{nat_tests}
 use Rattle.std.proofs.lemmas.List.{append_assoc, append-nil}
 use Rattle.viz_base.specs.declared.tokens.TokenKind.{TokenKind}
 use Rattle.viz_base.specs.declared.tokens.TokenKind.TheVariants.{Ident, AtKeyword, Hash, Number, Percentage, Dimension, UnicodeRange, Cdc, Function}
+use Rattle.viz_base.proofs.Truths.{by_bool}
 use Rattle.css_semantics.specs.TokensLetters.{is_digit, is_hex, is_start, is_name, is_u, is_r, is_l, is_range}
 use Rattle.css_semantics.specs.TokensMacros.{Mark, Then, Maybe, Each, OneOrMore, UpToSix, IsEscape, IsStart, IsNameChar, IsIdent, IsName, IsNum}
 use Rattle.css_semantics.specs.TokensTable.{Matches}
@@ -14,7 +15,7 @@ use Rattle.css_token.specs.declared.states.Row.TheVariants.{Word, AtWord, Name, 
 use Rattle.css_token.specs.declared.states.State.TheVariants.{U, Ur, Url, UPlus, RangeFirst, RangeDash, RangeSecond, Dash, DashDash, At, AtDash, HashMark, Whole, Point, Fraction, NumberDash, AddressStart}
 use Rattle.css_token.specs.steps.Scan.{holds_lines, step_plain, step_start, step_unit}
 use Rattle.css_token.proofs.Reading.{reads, no_kind}
-use Rattle.css_token.proofs.Rows.{by_bool, eq_true, apart, InRow, each_to}
+use Rattle.css_token.proofs.Rows.{apart, InRow, each_to}
 use Rattle.css_token.proofs.Found.{ReadsFrom, RowEnd, RowRest, one_more, found_plain, found_slash, end_reads, same_kind, choose}
 
 -- ---- rows of names
@@ -63,7 +64,7 @@ found_start row k c p plain h =
       | inr x ↦ record {
         first = 92 ∷ x.tail;
         rest = x.rest;
-        whole = ap (λ d. d ∷ p) (eq_true c 92 s) ∙ ap (λ t. 92 ∷ t) x.whole;
+        whole = ap (λ d. d ∷ p) (eqb-true c 92 s) ∙ ap (λ t. 92 ∷ t) x.whole;
         start = inr (slash_escape row x.tail plain x.unit);
         row_rest = x.row_rest;
       }
@@ -103,7 +104,7 @@ word_end k tail (inl e) = inl e
 word_end k tail (inr (inl e)) = absurd (false≢true e.1)
 word_end k tail (inr (inr x)) =
     by_bool (x.0 == 40)
-    (λ e. let n = end_reads Function k x.1 (rw e at x.3) in inr (x.2 ∙ (ap (λ c. c ∷ x.1) (eq_true x.0 40 e) ∙ ap (λ t. 40 ∷ t) n.0), n.1))
+    (λ e. let n = end_reads Function k x.1 (rw e at x.3) in inr (x.2 ∙ (ap (λ c. c ∷ x.1) (eqb-true x.0 40 e) ∙ ap (λ t. 40 ∷ t) n.0), n.1))
     (λ e. absurd (no_kind k (rw e at x.3)))
 
 word_matches : (k : TokenKind) (p : List ℕ) → IdentFound Word k p → Matches k p
@@ -124,14 +125,14 @@ pub dash_found : (k : TokenKind) (p : List ℕ) → reads Dash p ≡ Some k → 
 dash_found k [] h = absurd (no_kind k h)
 dash_found k (c ∷ p) h =
     by_bool (c == 45)
-    (λ e. rw (eq_true c 45 e) (dashes_found p (rw e at h)))
+    (λ e. rw (eqb-true c 45 e) (dashes_found p (rw e at h)))
     (λ e. word_matches k (45 ∷ c ∷ p) (start_ident Word k (45 ∷ []) (c ∷ p) from_word (inr refl) (found_start Word k c p refl (rw e at h))))
   where
     dashes_found : (q : List ℕ) → reads DashDash q ≡ Some k → Matches k (45 ∷ 45 ∷ q)
     dashes_found [] g = absurd (no_kind k g)
     dashes_found (d ∷ q) g =
         by_bool (d == 62)
-        (λ e. let n = end_reads Cdc k q (rw e at g) in rw (n.1, n.0, eq_true d 62 e) refl)
+        (λ e. let n = end_reads Cdc k q (rw e at g) in rw (n.1, n.0, eqb-true d 62 e) refl)
         (λ e. absurd (no_kind k (rw e at g)))
 
 -- ---- at-keywords
@@ -150,7 +151,7 @@ pub at_found : (k : TokenKind) (p : List ℕ) → reads At p ≡ Some k → Matc
 at_found k [] h = absurd (no_kind k h)
 at_found k (c ∷ p) h =
     by_bool (c == 45)
-    (λ e. rw (eq_true c 45 e) (dashed p (rw e at h)))
+    (λ e. rw (eqb-true c 45 e) (dashed p (rw e at h)))
     (λ e. at_matches k (c ∷ p) (start_ident AtWord k [] (c ∷ p) from_at_word (inl refl) (found_start AtWord k c p refl (rw e at h))))
   where
     dashed : (q : List ℕ) → reads AtDash q ≡ Some k → Matches k (64 ∷ 45 ∷ q)
@@ -201,9 +202,9 @@ measure_is k p i = let e = measure_end k i.tail i.ends in (subst IsIdent (sym (i
 unit_found : (k : TokenKind) (c : ℕ) (p : List ℕ) → ReadsFrom (step_unit c) p k → UnitFound k (c ∷ p)
 unit_found k c p h =
     by_bool (c == 37)
-    (λ e. let n = end_reads Percentage k p (rw e at h) in inr (inl (ap (λ d. d ∷ p) (eq_true c 37 e) ∙ ap (λ t. 37 ∷ t) n.0, n.1)))
+    (λ e. let n = end_reads Percentage k p (rw e at h) in inr (inl (ap (λ d. d ∷ p) (eqb-true c 37 e) ∙ ap (λ t. 37 ∷ t) n.0, n.1)))
     (λ e. by_bool (c == 45)
-    (λ d. inr (inr (subst (λ x. IsIdent (x ∷ p) × (k ≡ Dimension)) (sym (eq_true c 45 d)) (dashed p (rw (e, d) at h)))))
+    (λ d. inr (inr (subst (λ x. IsIdent (x ∷ p) × (k ≡ Dimension)) (sym (eqb-true c 45 d)) (dashed p (rw (e, d) at h)))))
     (λ d. inr (inr (measure_is k (c ∷ p) (start_ident Measure k [] (c ∷ p) from_measure (inl refl) (found_start Measure k c p refl (rw (e, d) at h)))))))
   where
     dashed : (q : List ℕ) → reads NumberDash q ≡ Some k → IsIdent (45 ∷ q) × (k ≡ Dimension)
@@ -255,7 +256,7 @@ whole_found k (c ∷ p) h =
     by_bool (is_digit c)
     (λ e. let x = whole_found k p (rw e at h) in record { num = c ∷ x.num; rest = x.rest; whole = ap (λ t. c ∷ t) x.whole; is = point_more c x.num e x.is; unit = x.unit })
     (λ e. by_bool (c == 46)
-    (λ d. subst (λ x. NumFound k (x ∷ p)) (sym (eq_true c 46 d)) (point_found k p (rw (e, d) at h)))
+    (λ d. subst (λ x. NumFound k (x ∷ p)) (sym (eqb-true c 46 d)) (point_found k p (rw (e, d) at h)))
     (λ d. record { num = []; rest = c ∷ p; whole = refl; is = inl tt; unit = unit_found k c p (rw (e, d) at h) }))
 
 num_matches : (k : TokenKind) (p num rest : List ℕ) → p ≡ num ++ rest → IsNum num → UnitFound k rest → Matches k p
@@ -318,7 +319,7 @@ range_first_found k left (c ∷ p) h =
     record { digits = c ∷ x.digits; rest = x.rest; whole = ap (λ t. c ∷ t) x.whole; each = (both.0, x.each); few = omega (arith, x.few); second = x.second; kind = x.kind })
     (λ e. by_bool (c == 45)
     (λ d. let x = range_dash_found k p (rw (e, d) at h) in
-    record { digits = []; rest = c ∷ p; whole = refl; each = tt; few = omega arith; second = inr (record { front = c ∷ []; back = p; whole = refl; first = ap (λ y. y ∷ []) (eq_true c 45 d); second = x.0 }); kind = x.1 })
+    record { digits = []; rest = c ∷ p; whole = refl; each = tt; few = omega arith; second = inr (record { front = c ∷ []; back = p; whole = refl; first = ap (λ y. y ∷ []) (eqb-true c 45 d); second = x.0 }); kind = x.1 })
     (λ d. absurd (no_kind k (rw (e, d) at h))))
 
 range_found : (k : TokenKind) (u : ℕ) (p : List ℕ) → is_u u ≡ true → reads UPlus p ≡ Some k → Matches k (u ∷ 43 ∷ p)
@@ -363,7 +364,7 @@ url_rest : (k : TokenKind) (p : List ℕ) → reads Url p ≡ Some k → RowRest
 url_rest k [] h = inl (no_more k h)
 url_rest k (c ∷ p) h =
     choose (c == 40) (Some AddressStart) (step_plain Word c) p k h
-    (λ e g. inr (p, ap (λ d. d ∷ p) (eq_true c 40 e), g))
+    (λ e g. inr (p, ap (λ d. d ∷ p) (eqb-true c 40 e), g))
     (λ e g. inl (found_plain (c ∷ p) Word k g))
 
 -- behind `ur`
@@ -381,7 +382,7 @@ pub u_found : (k : TokenKind) (u : ℕ) (p : List ℕ) → is_u u ≡ true → (
 u_found k u [] hu address h = spelled k (u ∷ []) [] (inl (u, refl, u_starts u hu)) (no_more k h)
 u_found k u (c ∷ p) hu address h =
     by_bool (c == 43)
-    (λ e. rw (eq_true c 43 e) (range_found k u p hu (rw e at h)))
+    (λ e. rw (eqb-true c 43 e) (range_found k u p hu (rw e at h)))
     (λ e. by_bool (is_r c)
     (λ r. elim (ur_rest k p (rw (e, r) at h)) [
       | inl x ↦ spelled k (u ∷ []) (c ∷ p) (inl (u, refl, u_starts u hu)) (named k c p (r_names c r) x)

@@ -257,7 +257,7 @@ fn address(alloc: Global, text: &str) -> Result<Text, Mem>
 /// What a token says: its text with escapes resolved, without the quotes, the `#`, the `@` or the `(` of its kind, and
 /// of an address the address alone (CSS 2.1, 4.1.3).
 ///
-/// `Mem` for want of memory alone.
+/// `Mem` for want of memory; no clause says when.
 pub fn unescape(alloc: Global, token: &Token<'_>) -> Result<Text, Mem>
     ensures { IfOk result (λ t. t ≡ encode_utf8_all (unescaped token.now.kind (chars token.now.text))) }
 {

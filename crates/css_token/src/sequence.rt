@@ -16,7 +16,7 @@ fn len_of(token: &Token<'_>) -> usize
 
 /// The tokens of a text, read in one pass (CSS 2.1, 4.1.1).
 ///
-/// `Mem` for want of memory alone.
+/// `Mem` for want of memory; no clause says when.
 pub fn tokens(alloc: Global, text: &str) -> Result<List<Token<'_>>, Mem>
     ensures { IfOk result (AreTokens text.now) }
 {

@@ -1,17 +1,20 @@
 -- What the steps of a shorthand come to is what its grammar says, and nothing else is.
-use Rattle.std.proofs.Common.{◌≡◌, ℕ, suc, ◌≤◌, ◌+◌, ℤ, Bool, true, false, cond, ◌&&◌, ◌||◌, List, [], ◌∷◌, ◌++◌, filter, take, drop, length, Option, Some, None, Result, Ok, Err, refl, sym, ap, ◌∙◌, subst, arith, nat_le}
+use Rattle.std.proofs.Common.{◌≡◌, ℕ, ◌≤◌, ◌+◌, ℤ, Bool, true, false, cond, ◌&&◌, ◌||◌, List, [], ◌∷◌, ◌++◌, filter, take, drop, length, Option, Some, None, Result, Ok, Err, refl, sym, ap, ◌∙◌, subst, arith, nat_le}
 use Rattle.std.specs.List.{AllByRecursion, list_any, list_all, count_by, find, position}
 use Rattle.std.proofs.Math.Seq.{drop-append_seam, take-append_seam}
 use Rattle.std.proofs.lemmas.List.{take-append-drop}
 use Rattle.std.proofs.lemmas.List.Sums.{length-filter}
 use Rattle.std.proofs.lemmas.Bool.Decides.{nat_tests}
 use Rattle.std.proofs.lemmas.Bool.{and_parts}
+use Rattle.std.proofs.Math.Numerals.{one-add}
 use Rattle.viz_base.specs.declared.lengths.Sides.{Sides}
 use Rattle.viz_base.specs.declared.settings.Prop.{Prop}
 use Rattle.viz_base.specs.declared.settings.Prop.TheVariants.{BorderTopWidth, BorderRightWidth, BorderBottomWidth, BorderLeftWidth, BorderTopStyle, BorderRightStyle, BorderBottomStyle, BorderLeftStyle, FontSize, FontFamily, LineHeight}
 use Rattle.viz_base.specs.declared.settings.Value.{Value}
 use Rattle.viz_base.specs.declared.settings.Value.TheVariants as value
 use Rattle.viz_base.specs.declared.settings.Setting.{Setting}
+use Rattle.viz_base.proofs.Truths.{by_bool}
+use Rattle.viz_base.proofs.Sameness.{same_Ok}
 use Rattle.css_semantics.specs.declared.parts.Part.{Part}
 use Rattle.css_semantics.specs.declared.parts.Part.TheVariants as part
 use Rattle.css_semantics.specs.declared.parts.Refusal.{Refusal}
@@ -25,7 +28,6 @@ use Rattle.css_semantics.specs.Properties.{row}
 use Rattle.css_semantics.specs.Values.{then_on, setting, placed, judged, number_value, part_value, is_zero, is_negative, half, is_inherit}
 use Rattle.css_semantics.specs.Shorthands.{shorthand, sides, spread, four, margins, paddings, border_widths, border_styles, inherited, is_line, is_line_width, is_line_style, is_colour, is_at_most_one, value_or, each_line, joined, written_lines, lines, is_before_size, is_front, is_system, system_font, font, font_names, named_font, sized_font, height_behind, font_behind, font_from_size, front_len, written_font, font_settings}
 use Rattle.css_value.specs.Grammars.{AreSides, IsSides, Gets, Sets, IsBorder, IsHeight, IsFont, ByGrammar, IsShorthand}
-use Rattle.css_semantics.proofs.Pairs.{by_bool}
 
 -- ---- answers
 
@@ -40,9 +42,6 @@ same_settings x y e = cc
 
 abbrev valued : Value → Result Value Refusal
 valued v = Ok v
-
-same_value : (x y : Value) → valued x ≡ valued y → x ≡ y
-same_value x y e = cc
 
 then_ok : {A B : Type 0} (r : Result A Refusal) (f : A → Result B Refusal) (y : B) → then_on r f ≡ Ok y → (x : A) × (r ≡ Ok x) × (f x ≡ Ok y)
 then_ok (Ok x) f y e = (x, refl, e)
@@ -256,7 +255,7 @@ abbrev Begins : Value → Prop → Type 0
 Begins v p = ((row p).initial ≡ v) × IsPlain p
 
 value_gets : (kind : Part → Bool) (ps : List Part) (p : Prop) (v u : Value) (o : Option Part) → Begins v p → find kind ps ≡ o → value_or v p o ≡ Ok u → Gets kind ps p u
-value_gets kind ps p v u None b f e = subst (Gets kind ps p) (b.0 ∙ same_value v u e) (Gets.initial (find_none kind ps f))
+value_gets kind ps p v u None b f e = subst (Gets kind ps p) (b.0 ∙ same_Ok e) (Gets.initial (find_none kind ps f))
 value_gets kind ps p v u (Some a) b f e = let h = find_some kind ps a f in Gets.from h.0 h.1 a h.2 h.3 e
 
 gets_value : (kind : Part → Bool) (ps : List Part) (p : Prop) (v u : Value) → length (filter kind ps) ≤ 1 → Begins v p → Gets kind ps p u → value_or v p (find kind ps) ≡ Ok u
@@ -364,14 +363,11 @@ font_mild ps =
 
 -- what the steps say stands in the grammar
 
-one_more : (n : ℕ) → 1 + n ≡ suc n
-one_more n = omega arith
-
 front_passes : (ps : List Part) → list_all is_before_size (take (front_len ps) ps) ≡ true
 front_passes [] = refl
 front_passes (a ∷ ps) =
     by_bool (is_before_size a)
-    (λ t. subst (λ b. list_all is_before_size (take (cond b (1 + front_len ps) 0) (a ∷ ps)) ≡ true) (sym t) (subst (λ n. list_all is_before_size (take n (a ∷ ps)) ≡ true) (sym (one_more (front_len ps))) (ap (λ b. b && list_all is_before_size (take (front_len ps) ps)) t ∙ front_passes ps)))
+    (λ t. subst (λ b. list_all is_before_size (take (cond b (1 + front_len ps) 0) (a ∷ ps)) ≡ true) (sym t) (subst (λ n. list_all is_before_size (take n (a ∷ ps)) ≡ true) (sym (one-add (front_len ps))) (ap (λ b. b && list_all is_before_size (take (front_len ps) ps)) t ∙ front_passes ps)))
     (λ f. subst (λ b. list_all is_before_size (take (cond b (1 + front_len ps) 0) (a ∷ ps)) ≡ true) (sym f) refl)
 
 abbrev is_behind : List Part → Option (Part × List Part) → Type 0
@@ -416,7 +412,7 @@ front_stops : (ps : List Part) → IsStop (drop (front_len ps) ps)
 front_stops [] = tt
 front_stops (a ∷ ps) =
     by_bool (is_before_size a)
-    (λ t. subst (λ b. IsStop (drop (cond b (1 + front_len ps) 0) (a ∷ ps))) (sym t) (subst (λ n. IsStop (drop n (a ∷ ps))) (sym (one_more (front_len ps))) (front_stops ps)))
+    (λ t. subst (λ b. IsStop (drop (cond b (1 + front_len ps) 0) (a ∷ ps))) (sym t) (subst (λ n. IsStop (drop n (a ∷ ps))) (sym (one-add (front_len ps))) (front_stops ps)))
     (λ f. subst (λ b. IsStop (drop (cond b (1 + front_len ps) 0) (a ∷ ps))) (sym f) f)
 
 size_said : (whole front ps : List Part) (settings : List Setting) → whole ≡ front ++ ps → list_all is_before_size front ≡ true → is_front front ≡ true → IsStop ps → font_from_size ps ≡ Ok settings → IsFont whole settings
@@ -468,7 +464,7 @@ stops : (front : List Part) (size : Part) (ps : List Part) → list_all is_befor
 stops [] size ps a e = ap (λ b. cond b (1 + front_len ps) 0) e
 stops (b ∷ front) size ps a e =
     let h = and_parts (is_before_size b) (list_all is_before_size front) a in
-    ap (λ x. cond x (1 + front_len (front ++ size ∷ ps)) 0) h.0 ∙ ap (λ n. 1 + n) (stops front size ps h.1 e) ∙ one_more (length front)
+    ap (λ x. cond x (1 + front_len (front ++ size ∷ ps)) 0) h.0 ∙ ap (λ n. 1 + n) (stops front size ps h.1 e) ∙ one-add (length front)
 
 no_height_in : (family : List Part) (names : List (List ℕ)) → font_names family ≡ Some names → height_behind family ≡ None
 no_height_in [] names e = refl

@@ -10,6 +10,7 @@ use Rattle.viz_base.specs.declared.trees.BoxTree.{BoxTree}
 use Rattle.viz_base.specs.declared.trees.Kind.{Kind}
 use Rattle.viz_base.specs.declared.trees.Kind.TheVariants as of_kind
 use Rattle.viz_base.specs.declared.worlds.World.{World}
+use Rattle.viz_base.proofs.ListLemmas.{all_append, later_member}
 use Rattle.layout_semantics.specs.Blocks.{kind_of}
 use Rattle.layout_semantics.specs.FlowBoxes.{room}
 use Rattle.layout_semantics.specs.Horizontal.{widths}
@@ -17,10 +18,10 @@ use Rattle.layout_semantics.specs.InlineContent.{Item, start, finish, word, spac
 use Rattle.layout_semantics.specs.Order.{kids_of, IsOnPage}
 use Rattle.layout_laws.specs.Nested.{items_of_sort}
 use Rattle.layout_laws.proofs.Greatest.{All-from}
-use Rattle.layout_laws.proofs.Levels.{All-append, All-implied}
-use Rattle.layout_laws.proofs.Members.{first_member, later_member}
+use Rattle.layout_laws.proofs.Levels.{All-implied, sort_by}
+use Rattle.layout_laws.proofs.Members.{first_member}
 use Rattle.layout_laws.proofs.Rooms.{room-by-parent}
-use Rattle.flow_steps.proofs.LeadEnds.{sort_by, sort-float}
+use Rattle.flow_steps.proofs.LeadEnds.{sort-float}
 use Rattle.flow_steps.proofs.Sound.{IsSound}
 use Rattle.flow_limits.specs.Boxes.{IsPartOf, IsWhole}
 
@@ -144,11 +145,11 @@ module _ (tree : BoxTree) (w : World) (height : ℕ) where
   sort-in wide k inside an_atomic e i a = ((i, e), tt)
   sort-in wide k inside a_break e i a = (tt, tt)
   sort-in wide k inside a_text e i a = text-in wide k i
-  sort-in wide k inside an_inline e i a = ((i, e), All-append (ItemIn wide) inside (finish k ∷ []) (a refl) ((i, e), tt))
+  sort-in wide k inside an_inline e i a = ((i, e), all_append (ItemIn wide) inside (finish k ∷ []) (a refl) ((i, e), tt))
 
   each-in : (wide : ℤ) (f : ℕ → List Item) (ks : List ℕ) → AllByRecursion (λ k. AllByRecursion (ItemIn wide) (f k)) ks → AllByRecursion (ItemIn wide) (flat_map f ks)
   each-in wide f [] a = tt
-  each-in wide f (k ∷ ks) a = All-append (ItemIn wide) (f k) (flat_map f ks) a.0 (each-in wide f ks a.1)
+  each-in wide f (k ∷ ks) a = all_append (ItemIn wide) (f k) (flat_map f ks) a.0 (each-in wide f ks a.1)
 
   pub is-inline : (f : Bool) (kind : Kind) → sort_by f kind ≡ an_inline → is_inline kind ≡ true
   is-inline true kind e = absurd (cc)

@@ -9,6 +9,7 @@ use Rattle.viz_base.specs.declared.layouts.Entry.{Entry}
 use Rattle.viz_base.specs.declared.layouts.Entry.TheVariants as of_entry
 use Rattle.viz_base.specs.declared.trees.BoxTree.{BoxTree}
 use Rattle.viz_base.specs.declared.worlds.World.{World}
+use Rattle.viz_base.proofs.ListLemmas.{all_append}
 use Rattle.layout_semantics.specs.Flow.{Alone, raised}
 use Rattle.layout_semantics.specs.FlowBoxes.{flow_children, content_from}
 use Rattle.layout_semantics.specs.Horizontal.{widths}
@@ -17,7 +18,7 @@ use Rattle.layout_semantics.specs.LineHeights.{InlineContext}
 use Rattle.layout_semantics.specs.Lines.{LineList, lines_in}
 use Rattle.layout_semantics.specs.Lists.{table_of}
 use Rattle.layout_semantics.specs.Order.{IsOnPage}
-use Rattle.layout_laws.proofs.Levels.{IsFrom, All-append, All-implied}
+use Rattle.layout_laws.proofs.Levels.{IsFrom, All-implied}
 use Rattle.layout_laws.proofs.LeadLevels.{children-from}
 use Rattle.lay_line.proofs.Lays.{lines-are}
 use Rattle.lay_line.specs.steps.Laying.{lines_by_steps}
@@ -56,7 +57,7 @@ module _ (tree : BoxTree) (w : World) (height : ℕ) (own turned : ℕ → Bound
   entries-placed content b [] a = tt
   entries-placed content b (of_entry.Here p ∷ es) a = (a.0, entries-placed content b es a.1)
   entries-placed content b (of_entry.Goes k at ∷ es) a =
-      All-append (IsPlacedIn b) (entry_boxes tree w height content apart (of_entry.Goes k at)) (flat_map (entry_boxes tree w height content apart) es) (boxes-put b (own k) at (apart k).boxes a.0 (alone_in k).boxes) (entries-placed content b es a.1)
+      all_append (IsPlacedIn b) (entry_boxes tree w height content apart (of_entry.Goes k at)) (flat_map (entry_boxes tree w height content apart) es) (boxes-put b (own k) at (apart k).boxes a.0 (alone_in k).boxes) (entries-placed content b es a.1)
 
   tops-in : (b : Bounds) (es : List (Entry ℤ)) → AllByRecursion (IsEntryIn own b) es → AllByRecursion (IsLevelIn b) (flat_map line_tops es)
   tops-in b [] a = tt

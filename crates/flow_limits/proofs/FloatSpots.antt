@@ -9,9 +9,10 @@ use Rattle.viz_base.specs.declared.layouts.Spot.{Spot}
 use Rattle.viz_base.specs.declared.styles.Clear.{Clear}
 use Rattle.viz_base.specs.declared.styles.Side.{Side}
 use Rattle.viz_base.specs.declared.styles.Side.TheVariants as of_side
+use Rattle.viz_base.proofs.ListLemmas.{all_append}
 use Rattle.layout_semantics.specs.Floats.{FloatBox, placed_float, is_left, left_ones, right_ones, beside, is_next_to, is_allowed, farthest_at, highest_top, candidate_tops, below_all, highest_free, float_at, is_relevant, lowest_bottom, Floating, float_top, float_spot, with_float_at, with_float}
 use Rattle.layout_laws.proofs.Greatest.{greatest_from-any, least_from-any}
-use Rattle.layout_laws.proofs.Levels.{All-append, All-implied}
+use Rattle.layout_laws.proofs.Levels.{All-implied}
 use Rattle.flow_limits.specs.Bounds.{Bounds, grown, IsLevelIn, IsAsideIn, IsBandIn, IsExtentIn, IsFloatIn, levels_of}
 use Rattle.flow_limits.proofs.Levels.{All-map, All-filter, level-sum, level-wider, quad-wider, inside-grown}
 
@@ -79,7 +80,7 @@ module _ (b : Bounds) where
       → IsSpotIn b f.size.width (float_spot f floats least y)
   spot-in f floats least y a l i =
       place-in floats f.side f.size f.cb (float_top f.clear floats least y) a i
-      (greatest_from-any (IsLevelIn b) y (option_to_list least ++ option_to_list (lowest_bottom f.clear floats)) l.0 (All-append (IsLevelIn b) (option_to_list least) (option_to_list (lowest_bottom f.clear floats)) l.1 (lowest-in f.clear floats a)))
+      (greatest_from-any (IsLevelIn b) y (option_to_list least ++ option_to_list (lowest_bottom f.clear floats)) l.0 (all_append (IsLevelIn b) (option_to_list least) (option_to_list (lowest_bottom f.clear floats)) l.1 (lowest-in f.clear floats a)))
 
   placed-in : (own : Bounds) (side : Side) (size : Extent ℤ) (at : Spot ℤ) → IsSpotIn b size.width at → IsExtentIn own size → IsFloatIn (grown b own) (placed_float side size at)
   placed-in own side size at s e =
@@ -93,7 +94,7 @@ module _ (b : Bounds) where
 
   pub at-spot : (own : Bounds) (f : Floating) (floats : List FloatBox) (at : Spot ℤ) → AllFloats floats → IsSpotIn b f.size.width at → IsExtentIn own f.size
       → AllByRecursion (IsFloatIn (grown b own)) (with_float_at f floats at)
-  at-spot own f floats at a s e = All-append (IsFloatIn (grown b own)) floats (placed_float f.side f.size at ∷ []) (more-floats own floats a) (placed-in own f.side f.size at s e, tt)
+  at-spot own f floats at a s e = all_append (IsFloatIn (grown b own)) floats (placed_float f.side f.size at ∷ []) (more-floats own floats a) (placed-in own f.side f.size at s e, tt)
 
   pub with-float : (own : Bounds) (f : Floating) (floats : List FloatBox) (least : Option ℤ) (y : ℤ) → AllFloats floats → AllByRecursion (IsLevelIn b) (levels_of least y) → IsBandIn b f.cb → IsExtentIn own f.size
       → AllByRecursion (IsFloatIn (grown b own)) (with_float f floats least y)

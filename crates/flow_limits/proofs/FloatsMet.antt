@@ -4,11 +4,12 @@ use Rattle.std.specs.Prelude.{◌&&◌}
 use Rattle.std.specs.List.{AllByRecursion, position_or_len}
 use Rattle.std.proofs.lemmas.Int.{ints}
 use Rattle.viz_base.specs.declared.layouts.Spot.{Spot}
+use Rattle.viz_base.proofs.ListLemmas.{all_append}
 use Rattle.layout_semantics.specs.Floats.{FloatBox}
 use Rattle.layout_semantics.specs.InlineContent.{Item, float_boxes, makes_line}
 use Rattle.layout_semantics.specs.LineFilling.{Met, Line, float_size, line_float, line_spot, with_spot, with_waiting, place_each, none_waits, leaves_room, meet, met_after, joined, first_items, width_held, before_line, from_line_on}
 use Rattle.layout_semantics.specs.LineHeights.{InlineContext}
-use Rattle.layout_laws.proofs.Levels.{All-append, All-implied}
+use Rattle.layout_laws.proofs.Levels.{All-implied}
 use Rattle.flow_limits.specs.Bounds.{Bounds, AreInside, grown, no_bounds, all_around, together, IsLevelIn, IsBandIn, IsExtentIn, IsFloatIn, IsPutIn}
 use Rattle.flow_limits.specs.Inline.{IsFloatSmall}
 use Rattle.flow_limits.proofs.Levels.{level-wider, aside-wider, quad-wider, inside-grown, put-wider, none-grown, grown-assoc, together-append}
@@ -66,7 +67,7 @@ module _ (c : InlineContext) (own rise : ℕ → Bounds) (s : ℕ) where
       record {
         floats = floats-wider (grown b size) (grown b (float_charge at)) (with_spot c met at spot).floats (record { up = omega arith; down = omega arith; aside = omega arith })
             (at-spot b size (line_float c at) met.floats spot m.floats place extent);
-        spots = All-append (λ (e : ℕ × Spot ℤ). IsPutIn (grown b (float_charge at)) (own e.0) e.1) met.spots ((at, spot) ∷ [])
+        spots = all_append (λ (e : ℕ × Spot ℤ). IsPutIn (grown b (float_charge at)) (own e.0) e.1) met.spots ((at, spot) ∷ [])
             (puts-wider b (grown b (float_charge at)) met.spots (inside-grown b (float_charge at)) m.spots) (spot-put b at spot f place, tt);
       }
 
@@ -124,7 +125,7 @@ module _ (c : InlineContext) (own rise : ℕ → Bounds) (s : ℕ) where
             bounds = m.bounds;
             around = m.around;
             there = record { floats = m.there.floats; spots = m.there.spots };
-            waits = All-append (IsFloatSmall c own rise s) met.waiting (at ∷ []) m.waits (f, tt);
+            waits = all_append (IsFloatSmall c own rise s) met.waiting (at ∷ []) m.waits (f, tt);
             room = record { up = omega (arith, up, all_up); down = omega (arith, down, all_down); aside = omega (arith, aside, all_aside) };
           }
 

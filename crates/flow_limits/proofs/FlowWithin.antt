@@ -13,6 +13,7 @@ use Rattle.viz_base.specs.declared.layouts.Waiting.{Waiting}
 use Rattle.viz_base.specs.declared.renderings.Placed.{Placed}
 use Rattle.viz_base.specs.declared.trees.BoxTree.{BoxTree}
 use Rattle.viz_base.specs.declared.worlds.World.{World}
+use Rattle.viz_base.proofs.ListLemmas.{all_append}
 use Rattle.layout_semantics.specs.Floats.{FloatBox, floating, float_spot, with_float_at}
 use Rattle.layout_semantics.specs.Flow.{Cleared, Alone, Reached, content_height}
 use Rattle.layout_semantics.specs.FlowBoxes.{is_replaced_at, is_context_root, is_open_above, may_collapse_through, joins_last_child, flow_children, across, content_from}
@@ -24,7 +25,6 @@ use Rattle.layout_semantics.specs.Rectangles.{Frame, content_top, placed_box}
 use Rattle.layout_semantics.specs.Replaced.{replaced_size}
 use Rattle.layout_semantics.specs.Verticals.{verticals}
 use Rattle.layout_semantics.specs.Clearance.{Base, hangs, stands}
-use Rattle.layout_laws.proofs.Levels.{All-append}
 use Rattle.lay_margin.specs.declared.runs.Run.{Run}
 use Rattle.lay_margin.specs.Runs.{no_run, with_margin, collapse}
 use Rattle.lay_margin.specs.steps.Leads.{margin_below}
@@ -485,4 +485,4 @@ module _ (tree : BoxTree) (w : World) (height : ℕ) (own turned : ℕ → Bound
         let most = grown b (together rises (k ∷ ks)) in
         let last = step-wider (grown next (together rises ks)) most [] rest (record { up = omega arith; down = omega arith; aside = omega arith })
         (children-in next cb top one.context ks again.1 l.1 i.1 (band-wider b next inside_is band) (level-wider b next top inside_is at) done.context) in
-        record { context = last.context; placed = All-append (IsPlacedIn most) one.boxes rest.boxes (boxes-wider next most one.boxes (record { up = omega arith; down = omega arith; aside = omega arith }) done.placed) last.placed }
+        record { context = last.context; placed = all_append (IsPlacedIn most) one.boxes rest.boxes (boxes-wider next most one.boxes (record { up = omega arith; down = omega arith; aside = omega arith }) done.placed) last.placed }

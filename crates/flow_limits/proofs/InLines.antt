@@ -6,6 +6,7 @@ use Rattle.viz_base.specs.Trees.{is_inline}
 use Rattle.viz_base.specs.declared.trees.BoxTree.{BoxTree}
 use Rattle.viz_base.specs.declared.trees.Kind.{Kind}
 use Rattle.viz_base.specs.declared.trees.Kind.TheVariants as of_kind
+use Rattle.viz_base.proofs.ListLemmas.{all_append}
 use Rattle.layout_semantics.specs.Blocks.{kind_of, parent_of}
 use Rattle.layout_semantics.specs.InlineContent.{Item, start, finish, word, space, atomic, forced, float, box_of, Sort, a_float, an_atomic, a_break, a_text, an_inline, sort_of, text_of, text_items, letter_before, character_before, items_to, content, is_floated_at}
 use Rattle.layout_semantics.specs.Order.{kids_of}
@@ -13,8 +14,7 @@ use Rattle.layout_semantics.proofs.Forest.{IsKid}
 use Rattle.layout_semantics.proofs.Pages.{forest, Each-contains}
 use Rattle.layout_laws.specs.Nested.{items_of_sort}
 use Rattle.layout_laws.proofs.Greatest.{All-from}
-use Rattle.layout_laws.proofs.Levels.{All-append}
-use Rattle.flow_steps.proofs.LeadEnds.{sort_by}
+use Rattle.layout_laws.proofs.Levels.{sort_by}
 use Rattle.flow_limits.proofs.Raised.{IsInLines}
 
 -- what words and spaces of a text have in common
@@ -45,7 +45,7 @@ module _ (tree : BoxTree) (container : ℕ) where
   of-sort k inside an_atomic e i a = (i, tt)
   of-sort k inside a_break e i a = (i, tt)
   of-sort k inside a_text e i a = own-text (IsInLines tree container) k (text_of tree k) i
-  of-sort k inside an_inline e i a = (i, All-append IsItemInLines inside (finish k ∷ []) (a refl) (i, tt))
+  of-sort k inside an_inline e i a = (i, all_append IsItemInLines inside (finish k ∷ []) (a refl) (i, tt))
 
   each-kid : (f : ℕ → List Item) (k : ℕ) → ((j : ℕ) → parent_of tree.boxes j ≡ Some k → AllByRecursion IsItemInLines (f j)) → AllByRecursion IsItemInLines (flat_map f (kids_of tree.boxes k))
   each-kid f k g = join (kids_of tree.boxes k) (All-from (λ j. AllByRecursion IsItemInLines (f j)) (kids_of tree.boxes k)
@@ -53,7 +53,7 @@ module _ (tree : BoxTree) (container : ℕ) where
     where
       join : (ks : List ℕ) → AllByRecursion (λ j. AllByRecursion IsItemInLines (f j)) ks → AllByRecursion IsItemInLines (flat_map f ks)
       join [] a = tt
-      join (j ∷ ks) a = All-append IsItemInLines (f j) (flat_map f ks) a.0 (join ks a.1)
+      join (j ∷ ks) a = all_append IsItemInLines (f j) (flat_map f ks) a.0 (join ks a.1)
 
   items-in : (n k : ℕ) → IsInLines tree container k → AllByRecursion IsItemInLines (items_to n tree k)
   unfolding items_to

@@ -2,8 +2,9 @@
 use Rattle.std.proofs.Common.{◌≡◌, ◌<◌, ℕ, zero, suc, List, [], ◌∷◌, map, fold, length, Contains, Option, Some, None, slice_index_or, refl, sym, ap, subst, ⊎_elim, arith}
 use Rattle.std.specs.Prelude.{replicate, slice_set}
 use Rattle.std.proofs.lemmas.List.{length-replicate}
+use Rattle.viz_base.proofs.ListLemmas.{later_member}
 use Rattle.layout_semantics.specs.Lists.{table_of, room_for}
-use Rattle.layout_laws.proofs.Members.{no_member, first_member, later_member, first_or_later}
+use Rattle.layout_laws.proofs.Members.{no_member, first_member, first_or_later}
 
 module _ {A : Type 0} (f : ℕ → A) (at : ℕ) where
   set-long : (t : List (Option A)) (k : ℕ) (o : Option A) → length (slice_set t k o) ≡ length t

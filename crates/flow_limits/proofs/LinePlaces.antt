@@ -16,6 +16,7 @@ use Rattle.viz_base.specs.declared.renderings.Quad.{Quad}
 use Rattle.viz_base.specs.declared.styles.Align.{Align}
 use Rattle.viz_base.specs.declared.styles.Align.TheVariants as of_align
 use Rattle.viz_base.specs.Styles.{sides_of}
+use Rattle.viz_base.proofs.ListLemmas.{all_append}
 use Rattle.layout_semantics.specs.Blocks.{node_of, parent_of}
 use Rattle.layout_semantics.specs.InlineContent.{Item, start, finish, word, space, atomic, forced, float}
 use Rattle.layout_semantics.specs.Lengths.{used, total, margins, borders, paddings}
@@ -24,7 +25,6 @@ use Rattle.layout_semantics.specs.LineFilling.{item_width, band_width, width_hel
 use Rattle.layout_semantics.specs.LineHeights.{InlineContext, inline_shift}
 use Rattle.layout_semantics.specs.Fragments.{ItemPlace, SetLine, set_out, is_end_of, is_text_of, text_area, text_right, text_entry, text_fragment, grown as grown_quad, fragment_edges, around, inline_fragment, atomic_entry, float_entries, item_entries, spots_after, entries_after, opened_entries, line_entries}
 use Rattle.layout_semantics.specs.Lines.{aligned}
-use Rattle.layout_laws.proofs.Levels.{All-append}
 use Rattle.flow_limits.specs.Bounds.{Bounds, IsLevelIn, IsQuadIn, IsPlacedIn}
 use Rattle.flow_limits.specs.Inline.{IsSmall, IsInlineSmall, IsTextSmall, IsItemBoxSmall, IsItemSmall, IsEntryIn}
 use Rattle.flow_limits.proofs.LineSizes.{IsAtomBelow, IsItemBelow}
@@ -300,7 +300,7 @@ module _ (c : InlineContext) (own rise : ℕ → Bounds) (s : ℕ) where
     unfolding AllPlaces
     after-in before [] spots l a w = tt
     after-in before (p ∷ places) spots l a w =
-        All-append (IsEntryIn own b) (item_entries c line before p places spots) (entries_after c line (Some p) places (spots_after p.item spots))
+        all_append (IsEntryIn own b) (item_entries c line before p places spots) (entries_after c line (Some p) places (spots_after p.item spots))
         (item-in before p.item p.left p.right places spots l a.0 a.1 w) (after-in (Some p) places (spots_after p.item spots) l a.1 (drop-put p.item spots w))
 
     open-in : (opened : List ℕ) → IsLineIn → AllByRecursion (IsInlineSmall c own rise s) opened → AllPlaces line.places → AllEntries (opened_entries c line opened)
@@ -309,4 +309,4 @@ module _ (c : InlineContext) (own rise : ℕ → Bounds) (s : ℕ) where
 
     pub entries-in : (opened : List ℕ) → IsLineIn → AllByRecursion (IsInlineSmall c own rise s) opened → AllByRecursion (IsPlaceIn above d m) line.places → ArePut c own rise s b line.spots → AllEntries (line_entries c line opened)
     unfolding AllPlaces
-    entries-in opened l o a w = All-append (IsEntryIn own b) (opened_entries c line opened) (entries_after c line None line.places line.spots) (open-in opened l o a) (after-in None line.places line.spots l a w)
+    entries-in opened l o a w = all_append (IsEntryIn own b) (opened_entries c line opened) (entries_after c line None line.places line.spots) (open-in opened l o a) (after-in None line.places line.spots l a w)

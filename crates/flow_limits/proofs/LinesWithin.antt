@@ -7,6 +7,7 @@ use Rattle.std.specs.Option.{option_to_list}
 use Rattle.std.proofs.lemmas.Int.{ints}
 use Rattle.viz_base.specs.declared.layouts.Entry.{Entry}
 use Rattle.viz_base.specs.declared.layouts.Entry.TheVariants as of_entry
+use Rattle.viz_base.proofs.ListLemmas.{all_append, all_parts}
 use Rattle.layout_semantics.specs.Floats.{FloatBox, band_at, meets, candidate_tops}
 use Rattle.layout_semantics.specs.InlineContent.{Item, start, finish, word, space, atomic, forced, float, float_boxes, content, makes_line}
 use Rattle.layout_semantics.specs.Stretches.{stretches, is_break, may_part}
@@ -15,7 +16,7 @@ use Rattle.layout_semantics.specs.LineFilling.{Met, Line, place_each, line_spot,
 use Rattle.layout_semantics.specs.Lines.{SoFar, LaidLines, opened_after, next_line, align_of, content_left, set_line, laid_line, laid_no_line, laid_stretches, laid_none, lines_to, before_all, lines_in}
 use Rattle.layout_laws.proofs.Cuts.{cut-joined}
 use Rattle.layout_laws.proofs.Greatest.{least_from-any}
-use Rattle.layout_laws.proofs.Levels.{All-append, All-implied}
+use Rattle.layout_laws.proofs.Levels.{All-implied}
 use Rattle.flow_limits.specs.Bounds.{Bounds, AreInside, grown, together, IsLevelIn, IsBandIn, IsFloatIn, IsQuadIn}
 use Rattle.flow_limits.specs.Inline.{IsInlineSmall, IsItemBoxSmall, IsItemSmall, IsContentSmall, IsFloatSmall, rise_of, float_rise, charge, IsEntryIn, AreLinesIn}
 use Rattle.flow_limits.proofs.Levels.{All-filter, level-wider, level-max, quad-wider, put-wider, inside-grown, inside-more, together-append}
@@ -40,13 +41,9 @@ joined-split zero parts = refl
 joined-split (suc n) [] = refl
 joined-split (suc n) (part ∷ parts) = append_assoc part (joined (take n parts)) (joined (drop n parts)) ∙ ap (λ l. part ++ l) (joined-split n parts)
 
-All-first : {A : Type 0} (P : A → Type 0) (xs ys : List A) → AllByRecursion P (xs ++ ys) → AllByRecursion P xs × AllByRecursion P ys
-All-first P [] ys a = (tt, a)
-All-first P (x ∷ xs) ys a = let rest = All-first P xs ys a.1 in ((a.0, rest.0), rest.1)
-
 All-parts : (P : Item → Type 0) (parts : List (List Item)) → AllByRecursion P (joined parts) → AllByRecursion (AllByRecursion P) parts
 All-parts P [] a = tt
-All-parts P (part ∷ parts) a = let both = All-first P part (joined parts) a in (both.0, All-parts P parts both.1)
+All-parts P (part ∷ parts) a = let both = all_parts P part (joined parts) a in (both.0, All-parts P parts both.1)
 
 module _ (c : InlineContext) (own rise : ℕ → Bounds) (s : ℕ) where
   abbrev AllItems : List Item → Type 0
@@ -102,7 +99,7 @@ module _ (c : InlineContext) (own rise : ℕ → Bounds) (s : ℕ) where
   opened-in : (opened : List ℕ) (items : List Item) → AllByRecursion (IsInlineSmall c own rise s) opened → AllItems items → AllByRecursion (IsInlineSmall c own rise s) (fold opened_after opened items)
   unfolding IsItemBoxSmall
   opened-in opened [] o a = o
-  opened-in opened (start at ∷ items) o a = opened-in (opened ++ at ∷ []) items (All-append (IsInlineSmall c own rise s) opened (at ∷ []) o ((a.0).box, tt)) a.1
+  opened-in opened (start at ∷ items) o a = opened-in (opened ++ at ∷ []) items (all_append (IsInlineSmall c own rise s) opened (at ∷ []) o ((a.0).box, tt)) a.1
   opened-in opened (finish at ∷ items) o a = opened-in (filter (λ other. not (other == at)) opened) items (All-filter (IsInlineSmall c own rise s) (λ other. not (other == at)) opened o) a.1
   opened-in opened (word at text ∷ items) o a = opened-in opened items o a.1
   opened-in opened (space at ∷ items) o a = opened-in opened items o a.1
@@ -256,7 +253,7 @@ module _ (c : InlineContext) (own rise : ℕ → Bounds) (s : ℕ) where
     taken-in : (n : ℕ) (parts : List (List Item)) → AllParts parts → AllItems (joined (take n parts))
     taken-in zero parts a = tt
     taken-in (suc n) [] a = tt
-    taken-in (suc n) (part ∷ parts) a = All-append (IsItemSmall c own rise s) part (joined (take n parts)) a.0 (taken-in n parts a.1)
+    taken-in (suc n) (part ∷ parts) a = all_append (IsItemSmall c own rise s) part (joined (take n parts)) a.0 (taken-in n parts a.1)
 
     dropped-in : (n : ℕ) (parts : List (List Item)) → AllParts parts → AllParts (drop n parts)
     dropped-in zero parts a = a
@@ -340,7 +337,7 @@ module _ (c : InlineContext) (own rise : ℕ → Bounds) (s : ℕ) where
         let rest_most : AreInside (grown (grown b (charge_of taken)) (charge_of left)) most = record { up = omega (arith, up); down = omega (arith, down); aside = omega (arith, aside) } in
         let one_most : AreInside (grown b (charge_of taken)) most = record { up = omega (arith, up); down = omega (arith, down); aside = omega (arith, aside) } in
         let last = laid-wider (grown (grown b (charge_of taken)) (charge_of left)) most rest rest_most rest_in in
-        record { after = last.after; entries = All-append (IsEntryIn own most) one.entries rest.entries (entries-wider (grown b (charge_of taken)) most one.entries one_most one_in.entries) last.entries }
+        record { after = last.after; entries = all_append (IsEntryIn own most) one.entries rest.entries (entries-wider (grown b (charge_of taken)) most one.entries one_most one_in.entries) last.entries }
 
     pub lines-within : (b : Bounds) (y least : ℤ) (floats : List FloatBox) → IsBandIn b c.cb → AllByRecursion (IsLevelIn b) (y ∷ least ∷ []) → AllByRecursion (IsFloatIn b) floats
         → AreLinesIn own (grown b (charge_of (content c.tree c.container))) (lines_in c y least floats)

@@ -12,6 +12,7 @@ use Rattle.viz_base.specs.declared.lengths.Valign.TheVariants as of_valign
 use Rattle.viz_base.specs.declared.styles.Style.{Style}
 use Rattle.viz_base.specs.declared.trees.BoxTree.{BoxTree}
 use Rattle.viz_base.specs.declared.worlds.World.{World}
+use Rattle.viz_base.proofs.Truths.{and_first, and_second}
 use Rattle.layout_semantics.specs.Blocks.{kind_of}
 use Rattle.layout_semantics.specs.Flow as landed
 use Rattle.layout_semantics.specs.Flow.{Alone}
@@ -141,15 +142,7 @@ module _ (tree : BoxTree) (w : World) (height t : ℕ) (fine : 8 * t ≤ greates
 
       by_entry : (b : Bool) → (nat_lt low k && is_good k) ≡ b → k < length tree.boxes → ((laid_at (tabled (entry low) 0 (length tree.boxes)) k ≡ right k) × (low < k) × Good k) ⊎ (laid_at (tabled (entry low) 0 (length tree.boxes)) k ≡ nothing_alone)
       by_entry false e l = inr (at l ∙ ap (λ (b : Bool). unwrap_or (elim b as (λ _. Option Alone) [ true ↦ Some (right k) | false ↦ None ]) nothing_alone) e)
-      by_entry true e l = inl (at l ∙ ap (λ (b : Bool). unwrap_or (elim b as (λ _. Option Alone) [ true ↦ Some (right k) | false ↦ None ]) nothing_alone) e, (let f = first (nat_lt low k) (is_good k) e in grind (arith, nat_tests, f)), good-is k (second (nat_lt low k) (is_good k) e))
-        where
-          first : (a b : Bool) → (a && b) ≡ true → a ≡ true
-          first true b e = refl
-          first false b e = e
-
-          second : (a b : Bool) → (a && b) ≡ true → b ≡ true
-          second true b e = e
-          second false b e = absurd (cc)
+      by_entry true e l = inl (at l ∙ ap (λ (b : Bool). unwrap_or (elim b as (λ _. Option Alone) [ true ↦ Some (right k) | false ↦ None ]) nothing_alone) e, (let f = and_first (nat_lt low k) (is_good k) e in grind (arith, nat_tests, f)), good-is k (and_second (nat_lt low k) (is_good k) e))
 
       by_place : (b : Bool) → nat_lt k (length tree.boxes) ≡ b → ((laid_at (tabled (entry low) 0 (length tree.boxes)) k ≡ right k) × (low < k) × Good k) ⊎ (laid_at (tabled (entry low) 0 (length tree.boxes)) k ≡ nothing_alone)
       by_place true e = by_entry (nat_lt low k && is_good k) refl (grind (arith, nat_tests, e))

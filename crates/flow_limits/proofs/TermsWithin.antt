@@ -9,11 +9,12 @@ use Rattle.viz_base.specs.declared.lengths.Length.TheVariants as of_length
 use Rattle.viz_base.specs.declared.styles.Style.{Style}
 use Rattle.viz_base.specs.declared.trees.BoxTree.{BoxTree}
 use Rattle.viz_base.specs.declared.worlds.World.{World}
+use Rattle.viz_base.specs.Styles.{nothing}
 use Rattle.layout_semantics.specs.DefiniteHeights.{given_height, held_height, definite_height, height_around, least_height}
 use Rattle.layout_semantics.specs.Flow.{content_height}
 use Rattle.layout_semantics.specs.FlowBoxes.{room}
 use Rattle.layout_semantics.specs.Horizontal.{terms_around, sum_of, available, left_margin, fixed_terms, auto_terms, block_terms, shrink_to_fit, shrunk_terms, again_unless, at_most, at_least, held_terms, is_auto, Placing, block_flow, shrunk, replaced_block, replaced_shrunk, placing_of, flow_widths, widths}
-use Rattle.layout_semantics.specs.Lengths.{used, used_unless_auto, maximum, own, nothing, margins}
+use Rattle.layout_semantics.specs.Lengths.{used, used_unless_auto, maximum, own, margins}
 use Rattle.layout_semantics.specs.Preferred.{preferred}
 use Rattle.layout_semantics.specs.Replaced.{replaced_size}
 use Rattle.lay_reach.proofs.Numbers.{held-from, held-to}

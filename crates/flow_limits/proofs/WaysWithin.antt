@@ -9,6 +9,7 @@ use Rattle.viz_base.specs.declared.layouts.Extent.{Extent}
 use Rattle.viz_base.specs.declared.layouts.Waiting.{Waiting}
 use Rattle.viz_base.specs.declared.trees.BoxTree.{BoxTree}
 use Rattle.viz_base.specs.declared.worlds.World.{World}
+use Rattle.viz_base.proofs.ListLemmas.{all_append, later_member}
 use Rattle.layout_semantics.specs.Clearance.{Base, hangs, stands, with_waiting, on_ground}
 use Rattle.layout_semantics.specs.Floats.{FloatBox, floating, with_float, lowest_bottom}
 use Rattle.layout_semantics.specs.FlowBoxes.{clear_of, may_collapse_through, flow_children, across}
@@ -17,9 +18,9 @@ use Rattle.layout_semantics.specs.InlineContent.{is_floated_at, has_line}
 use Rattle.layout_semantics.specs.Order.{IsOnPage}
 use Rattle.layout_semantics.specs.Verticals.{verticals}
 use Rattle.layout_laws.proofs.Greatest.{All-at}
-use Rattle.layout_laws.proofs.Levels.{IsFrom, All-append, All-implied}
+use Rattle.layout_laws.proofs.Levels.{IsFrom, All-implied}
 use Rattle.layout_laws.proofs.LeadLevels.{children-from}
-use Rattle.layout_laws.proofs.Members.{first_member, later_member}
+use Rattle.layout_laws.proofs.Members.{first_member}
 use Rattle.lay_margin.specs.declared.runs.Run.{Run}
 use Rattle.lay_margin.specs.Runs.{with_margin, collapse}
 use Rattle.lay_margin.specs.steps.Leads.{enters, stops, inner_band, margin_above, margin_below}
@@ -115,7 +116,7 @@ module _ (tree : BoxTree) (w : World) (height : ℕ) (own turned : ℕ → Bound
         let ou = ap (λ (x : Bounds). x.up) own_is in let od = ap (λ (x : Bounds). x.down) own_is in let oa = ap (λ (x : Bounds). x.aside) own_is in
         let inside = inside-grown b (rises k) in
         record {
-          bands = All-append (λ (f : Waiting ℤ). IsBandIn (grown b (rises k)) f.cb) ws (record { at = k; cb = cb } ∷ [])
+          bands = all_append (λ (f : Waiting ℤ). IsBandIn (grown b (rises k)) f.cb) ws (record { at = k; cb = cb } ∷ [])
               (All-implied (λ (f : Waiting ℤ). IsBandIn b f.cb) (λ (f : Waiting ℤ). IsBandIn (grown b (rises k)) f.cb) ws (λ f h. band-wider b (grown b (rises k)) inside h) d.bands)
               (band-wider b (grown b (rises k)) inside band, tt);
           room = record { up = omega (arith, up, au, ou); down = omega (arith, down, ad, od); aside = omega (arith, aside, aa, oa) };

@@ -4,7 +4,7 @@ use Rattle.std.specs.Int.{int_max}
 use Rattle.std.specs.List.{AllByRecursion}
 use Rattle.std.specs.Option.{option_to_list}
 use Rattle.viz_base.specs.Numbers.{floor_of}
-use Rattle.viz_base.specs.Styles.{sides_of}
+use Rattle.viz_base.specs.Styles.{sides_of, nothing}
 use Rattle.viz_base.specs.Trees.{is_fragmented, is_inline}
 use Rattle.viz_base.specs.declared.layouts.Widths.{Widths}
 use Rattle.viz_base.specs.declared.lengths.Length.TheVariants as of_length
@@ -19,7 +19,7 @@ use Rattle.layout_semantics.specs.FlowBoxes.{room}
 use Rattle.layout_semantics.specs.Fonts.{ascent, descent, text_width}
 use Rattle.layout_semantics.specs.Horizontal.{flow_widths, widths}
 use Rattle.layout_semantics.specs.InlineContent.{text_of}
-use Rattle.layout_semantics.specs.Lengths.{used, used_unless_auto, own, nothing, margins, borders, paddings}
+use Rattle.layout_semantics.specs.Lengths.{used, used_unless_auto, own, margins, borders, paddings}
 use Rattle.layout_semantics.specs.LineHeights.{InlineContext, LineExtent, height_of_extent, inline_extent}
 use Rattle.layout_semantics.specs.Preferred.{preferred}
 use Rattle.layout_semantics.specs.Replaced.{replaced_size}

@@ -18,6 +18,7 @@ use Rattle.viz_base.specs.declared.trees.Kind.{Kind}
 use Rattle.viz_base.specs.declared.trees.Kind.TheVariants as of_kind
 use Rattle.viz_base.specs.declared.worlds.World.{World}
 use Rattle.viz_base.specs.Trees.{is_inline}
+use Rattle.viz_base.proofs.ListLemmas.{all_parts}
 use Rattle.layout_semantics.specs.Blocks.{kind_of}
 use Rattle.layout_semantics.specs.Order.{IsOnPage}
 use Rattle.layout_semantics.specs.Horizontal.{widths}
@@ -537,13 +538,9 @@ module _ (tree : BoxTree) (w : World) (height : ℕ) where
     names-served cb [] a = tt
     names-served cb (k ∷ ks) a = (a.0, names-served cb ks a.1)
 
-    all-right : (P : Kind × ℕ → Type 0) (xs ys : List (Kind × ℕ)) → AllByRecursion P (xs ++ ys) → AllByRecursion P ys
-    all-right P [] ys a = a
-    all-right P (x ∷ xs) ys a = all-right P xs ys a.1
-
     entries-served : (cb : Band ℤ) (es : List (Entry ℤ)) → AllByRecursion (IsServedName cb) (flat_map (shown of_box) es) → AllByRecursion (IsServedEntry cb) es
     entries-served cb [] a = tt
-    entries-served cb (of_entry.Here p ∷ es) a = (tt, entries-served cb es (all-right (IsServedName cb) (shown of_box (of_entry.Here p)) (flat_map (shown of_box) es) a))
+    entries-served cb (of_entry.Here p ∷ es) a = (tt, entries-served cb es (all_parts (IsServedName cb) (shown of_box (of_entry.Here p)) (flat_map (shown of_box) es) a).1)
     entries-served cb (of_entry.Goes k at ∷ es) a = (a.0, entries-served cb es a.1)
 
     boxes-same : (cb : Band ℤ) (es : List (Entry ℤ)) → AllByRecursion (IsServedEntry cb) es → flat_map (landed.entry_boxes tree w height inside cb) es ≡ flat_map (entry_boxes tree w height content apart) es

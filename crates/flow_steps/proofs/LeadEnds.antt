@@ -13,6 +13,7 @@ use Rattle.viz_base.specs.declared.trees.BoxTree.{BoxTree}
 use Rattle.viz_base.specs.declared.trees.Kind.{Kind}
 use Rattle.viz_base.specs.declared.trees.Kind.TheVariants as of_kind
 use Rattle.viz_base.specs.declared.worlds.World.{World}
+use Rattle.viz_base.proofs.ListLemmas.{all_append}
 use Rattle.layout_semantics.specs.Order.{kids_of}
 use Rattle.layout_semantics.specs.FlowBoxes.{clear_of, may_collapse_through, flow_children}
 use Rattle.layout_semantics.specs.Blocks.{kind_of}
@@ -21,7 +22,7 @@ use Rattle.layout_semantics.specs.Leads.{clears_something}
 use Rattle.layout_semantics.proofs.Forest.{both, ascends-each}
 use Rattle.layout_semantics.proofs.Pages.{forest}
 use Rattle.layout_laws.specs.Nested.{items_of_sort}
-use Rattle.layout_laws.proofs.Levels.{All-implied, All-append}
+use Rattle.layout_laws.proofs.Levels.{All-implied, sort_by}
 use Rattle.lay_margin.specs.declared.runs.Run.{Run}
 use Rattle.lay_margin.specs.Runs.{with_margin}
 use Rattle.lay_margin.specs.steps.Leads.{Going, through, going_on, kid_of, kids_going, ended_by, enters, stops, inner_band, margin_above, margin_below, lead_to}
@@ -112,14 +113,7 @@ text-floats tree at (c ∷ cs) = by (c == 32) (text_items at cs) (text-floats tr
 
 each-floats : (tree : BoxTree) (f : ℕ → List Item) (ks : List ℕ) → ((k : ℕ) → AllByRecursion (IsOwnFloat tree) (f k)) → AllByRecursion (IsOwnFloat tree) (flat_map f ks)
 each-floats tree f [] own = tt
-each-floats tree f (k ∷ ks) own = All-append (IsOwnFloat tree) (f k) (flat_map f ks) (own k) (each-floats tree f ks own)
-
-abbrev pub sort_by : Bool → Kind → Sort
-sort_by true kind = a_float
-sort_by false of_kind.Chars = a_text
-sort_by false of_kind.Break = a_break
-sort_by false of_kind.Inline = an_inline
-sort_by false _ = an_atomic
+each-floats tree f (k ∷ ks) own = all_append (IsOwnFloat tree) (f k) (flat_map f ks) (own k) (each-floats tree f ks own)
 
 pub sort-float : (f : Bool) (kind : Kind) → sort_by f kind ≡ a_float → f ≡ true
 sort-float true kind e = refl
@@ -134,7 +128,7 @@ sort-floats tree at inside a_float f a = (f refl, tt)
 sort-floats tree at inside an_atomic f a = (tt, tt)
 sort-floats tree at inside a_break f a = (tt, tt)
 sort-floats tree at inside a_text f a = text-floats tree at (text_of tree at)
-sort-floats tree at inside an_inline f a = (tt, All-append (IsOwnFloat tree) inside (finish at ∷ []) a (tt, tt))
+sort-floats tree at inside an_inline f a = (tt, all_append (IsOwnFloat tree) inside (finish at ∷ []) a (tt, tt))
 
 items-floats : (n : ℕ) (tree : BoxTree) (at : ℕ) → AllByRecursion (IsOwnFloat tree) (items_to n tree at)
 unfolding items_to

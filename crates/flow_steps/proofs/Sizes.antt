@@ -7,11 +7,11 @@ use Rattle.viz_base.specs.declared.layouts.Extent.{Extent}
 use Rattle.viz_base.specs.declared.layouts.Waiting.{Waiting}
 use Rattle.viz_base.specs.declared.trees.BoxTree.{BoxTree}
 use Rattle.viz_base.specs.declared.worlds.World.{World}
+use Rattle.viz_base.proofs.ListLemmas.{all_append}
 use Rattle.layout_semantics.specs.Floats.{FloatBox, floating, with_float, lowest_bottom}
 use Rattle.layout_semantics.specs.FlowBoxes.{clear_of, may_collapse_through, flow_children}
 use Rattle.layout_semantics.specs.InlineContent.{is_floated_at}
 use Rattle.layout_semantics.specs.Clearance.{Base, on_ground, with_waiting}
-use Rattle.layout_laws.proofs.Levels.{All-append}
 use Rattle.lay_margin.specs.declared.runs.Run.{Run}
 use Rattle.lay_margin.specs.Runs.{with_margin}
 use Rattle.lay_margin.specs.steps.Leads.{enters, stops, inner_band, margin_above, margin_below}
@@ -99,7 +99,7 @@ module _ (tree : BoxTree) (w : World) (base : Base) (floats : List FloatBox) (le
         by : (f : Bool) → is_floated_at tree k ≡ f → Alike (kid_of tree w (go one p n band) band run ws k) (kid_of tree w (go other p n band) band run ws k)
         by true f = record {
           same = found-float tree w (go one p n band) band k run ws f ∙ sym (found-float tree w (go other p n band) band k run ws f);
-          waits = subst Waits (sym (found-float tree w (go one p n band) band k run ws f)) (All-append Same ws (record { at = k; cb = band } ∷ []) a (fine.0 f, tt));
+          waits = subst Waits (sym (found-float tree w (go one p n band) band k run ws f)) (all_append Same ws (record { at = k; cb = band } ∷ []) a (fine.0 f, tt));
         }
         by false f =
             let own = again band k run ws (fine.1 f) a in

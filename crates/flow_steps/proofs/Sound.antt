@@ -13,6 +13,7 @@ use Rattle.viz_base.specs.declared.trees.BoxTree.{BoxTree}
 use Rattle.viz_base.specs.declared.trees.Kind.{Kind}
 use Rattle.viz_base.specs.declared.trees.Kind.TheVariants as of_kind
 use Rattle.viz_base.specs.declared.worlds.World.{World}
+use Rattle.viz_base.proofs.ListLemmas.{all_append}
 use Rattle.layout_semantics.specs.Blocks.{kind_of}
 use Rattle.layout_semantics.specs.Order.{kids_of, IsOnPage}
 use Rattle.layout_semantics.specs.Horizontal.{Placing, block_flow, shrunk, replaced_block, replaced_shrunk, placing_of, widths}
@@ -21,10 +22,10 @@ use Rattle.layout_semantics.specs.InlineContent.{Item, start, finish, word, spac
 use Rattle.layout_semantics.specs.Lengths.{borders, paddings}
 use Rattle.layout_laws.specs.Nested.{items_of_sort}
 use Rattle.layout_laws.proofs.HorizontalTerms.{widths-placed}
-use Rattle.layout_laws.proofs.Levels.{All-append, All-implied}
+use Rattle.layout_laws.proofs.Levels.{All-implied, sort_by}
 use Rattle.layout_laws.proofs.Rooms.{room-by-parent}
 use Rattle.lay_margin.specs.steps.Leads.{enters, inner_band}
-use Rattle.flow_steps.proofs.LeadEnds.{sort_by, sort-float, content-floats}
+use Rattle.flow_steps.proofs.LeadEnds.{sort-float, content-floats}
 
 -- ---- kinds of boxes
 
@@ -187,7 +188,7 @@ module _ (tree : BoxTree) (w : World) (height : ℕ) where
 
   each-sound : (wide : ℤ) (f : ℕ → List Item) (ks : List ℕ) → AllByRecursion (λ k. AllByRecursion (ItemSound wide) (f k)) ks → AllByRecursion (ItemSound wide) (flat_map f ks)
   each-sound wide f [] own = tt
-  each-sound wide f (k ∷ ks) own = All-append (ItemSound wide) (f k) (flat_map f ks) own.0 (each-sound wide f ks own.1)
+  each-sound wide f (k ∷ ks) own = all_append (ItemSound wide) (f k) (flat_map f ks) own.0 (each-sound wide f ks own.1)
 
   sort-sound : (at : ℕ) (wide : ℤ) (inside : List Item) (s : Sort) → sort_of tree at ≡ s → IsOnPage tree.boxes at → room tree w height at ≡ wide
       → (s ≡ an_inline → AllByRecursion (ItemSound wide) inside) → AllByRecursion (ItemSound wide) (items_of_sort tree at inside s)
@@ -195,7 +196,7 @@ module _ (tree : BoxTree) (w : World) (height : ℕ) where
   sort-sound at wide inside an_atomic e p r a = (record { page = p; room = sym r; block = sort-kind (is_floated_at tree at) (kind_of tree at) e }, tt)
   sort-sound at wide inside a_break e p r a = (tt, tt)
   sort-sound at wide inside a_text e p r a = text-sound wide at (text_of tree at)
-  sort-sound at wide inside an_inline e p r a = (tt, All-append (ItemSound wide) inside (finish at ∷ []) (a refl) (tt, tt))
+  sort-sound at wide inside an_inline e p r a = (tt, all_append (ItemSound wide) inside (finish at ∷ []) (a refl) (tt, tt))
 
   items-sound : (n at : ℕ) (wide : ℤ) → IsOnPage tree.boxes at → room tree w height at ≡ wide → AllByRecursion (ItemSound wide) (items_to n tree at)
   unfolding items_to

@@ -1,5 +1,5 @@
 -- A box that collapses through has a way forward that goes through: nothing in it stops the margins or is cleared.
-use Rattle.std.proofs.Common.{◌≡◌, ℕ, zero, suc, ◌+◌, ◌<◌, ◌≤◌, ℤ, ◌+ℤ◌, Bool, true, false, ◌&&◌, ◌==◌, List, [], ◌∷◌, length, Option, None, Some, refl, sym, ap, ◌∙◌, subst, arith}
+use Rattle.std.proofs.Common.{◌≡◌, ℕ, zero, suc, ◌+◌, ◌<◌, ◌≤◌, ℤ, ◌+ℤ◌, Bool, true, false, ◌==◌, List, [], ◌∷◌, length, Option, None, Some, refl, sym, ap, ◌∙◌, subst, arith}
 use Rattle.std.specs.List.{AllByRecursion}
 use Rattle.std.proofs.lemmas.Bool.Decides.{nat_tests}
 use Rattle.viz_base.specs.declared.layouts.Band.{Band}
@@ -7,6 +7,7 @@ use Rattle.viz_base.specs.declared.layouts.Extent.{Extent}
 use Rattle.viz_base.specs.declared.layouts.Waiting.{Waiting}
 use Rattle.viz_base.specs.declared.trees.BoxTree.{BoxTree}
 use Rattle.viz_base.specs.declared.worlds.World.{World}
+use Rattle.viz_base.proofs.Truths.{and_first, and_second}
 use Rattle.layout_semantics.specs.Floats.{FloatBox}
 use Rattle.layout_semantics.specs.Rectangles.{Frame, content_top}
 use Rattle.layout_semantics.specs.FlowBoxes.{is_replaced_at, is_context_root, is_open_above, may_collapse_through, flow_children, across, content_from}
@@ -116,24 +117,16 @@ module _ (tree : BoxTree) (w : World) (height : ℕ) (apart : ℕ → Alone) whe
         f : Frame
         f = frame_at tree w height k (across cb) cb.left r.top
 
-        and-first : (a b : Bool) → (a && b) ≡ true → a ≡ true
-        and-first true b e = refl
-        and-first false b e = absurd (cc)
-
-        and-second : (a b : Bool) → (a && b) ≡ true → b ≡ true
-        and-second true b e = e
-        and-second false b e = absurd (cc)
-
         by : (d c o t : Bool) → is_replaced_at tree k ≡ d → is_context_root tree k ≡ c → is_open_above tree k ≡ o → may_collapse_through tree k ≡ t
             → (laid tree w height content apart cb s k r).through ≡ true → IsThrough cb s k r
         by true c o t d e i m h = absurd (let g = rw d at h in cc)
         by false true o t d e i m h = absurd (let g = rw (d, e) at h in cc)
         by false false false t d e i m h =
             let g = rw (d, e, i) at h in
-            absurd (let b = free.begun (content_from cb.left f.x) (content_top f) (opened tree w height content apart s f (below (content_top f) no_run false)) (and-first _ (may_collapse_through tree k) g) in cc)
+            absurd (let b = free.begun (content_from cb.left f.x) (content_top f) (opened tree w height content apart s f (below (content_top f) no_run false)) (and_first _ (may_collapse_through tree k) g) in cc)
         by false false true t d e i m h =
             let g = rw (d, e, i) at h in
-            record { opens = i; collapses = and-second _ (may_collapse_through tree k) g; top = and-first _ (may_collapse_through tree k) g }
+            record { opens = i; collapses = and_second _ (may_collapse_through tree k) g; top = and_first _ (may_collapse_through tree k) g }
 
     pub at-cleared : (cb : Band ℤ) (s : Context) (k : ℕ) (y : ℤ) (c : Cleared) → (reached_at tree w height content apart cb s k y c).clears ≡ false
         → ((reached_at tree w height content apart cb s k y c).cleared ≡ c) × IsOther c k

@@ -6,9 +6,10 @@ use Rattle.viz_base.specs.declared.layouts.Band.{Band}
 use Rattle.viz_base.specs.declared.layouts.Spot.{Spot}
 use Rattle.viz_base.specs.declared.styles.Side.{Side}
 use Rattle.viz_base.specs.declared.styles.Side.TheVariants as of_side
+use Rattle.viz_base.proofs.ListLemmas.{later_member}
 use Rattle.layout_semantics.specs.Floats.{FloatBox, is_left, beside, is_next_to, is_allowed, farthest_at}
 use Rattle.layout_laws.specs.FloatRules.{IsLowEnough}
-use Rattle.layout_laws.proofs.Members.{first_member, later_member, all_in, all_from, from_filter, to_filter}
+use Rattle.layout_laws.proofs.Members.{first_member, all_in, all_from, from_filter, to_filter}
 use Rattle.layout_laws.proofs.Truths.{is_le, right_of, both_of, on_true, on_false, by_cond}
 use Rattle.layout_laws.proofs.Beside.{room_after, room_before, room_from, room_to}
 use Rattle.layout_laws.proofs.FloatPlaces.{allowed, fits_next}

@@ -63,10 +63,6 @@ any-passed test b xs k x lt is miss = sym (
     ∙ ap (λ y. test (b y) || list_any test (map b (drop (k + 1) xs))) (sym is)
     ∙ ap (λ c. c || list_any test (map b (drop (k + 1) xs))) (sym miss))
 
-or_false : (a : Bool) → a ≡ a || false
-or_false true = refl
-or_false false = refl
-
 pub some-more : {A : Type 0} (test : A → Bool) (xs : List A) (k : ℕ) (x : A) (s next : Bool) → k < length xs → x ≡ get_or xs k x → next ≡ s || test x
     → (next || list_any test (drop (k + 1) xs)) ≡ (s || list_any test (drop k xs))
 some-more test xs k x s next lt is e =

@@ -8,14 +8,14 @@ use Rattle.viz_base.specs.declared.styles.Clear.{Clear}
 use Rattle.viz_base.specs.declared.styles.Clear.TheVariants as of_clear
 use Rattle.viz_base.specs.declared.styles.Side.{Side}
 use Rattle.viz_base.specs.declared.styles.Side.TheVariants as of_side
+use Rattle.viz_base.proofs.ListLemmas.{all_append, later_member}
 use Rattle.viz_calc.specs.State.{IsSmall}
 use Rattle.viz_calc.specs.World.{Reading}
 use Rattle.layout_semantics.specs.Extremes.{greatest_from, least_from}
 use Rattle.layout_semantics.specs.Floats.{FloatBox, left_ones, right_ones, beside, is_relevant, lowest_bottom, float_top}
-use Rattle.layout_laws.proofs.Members.{first_member, later_member, from_filter, from_map}
+use Rattle.layout_laws.proofs.Members.{first_member, from_filter, from_map}
 use Rattle.layout_laws.proofs.Extremes.{greatest_is_one}
 use Rattle.layout_laws.proofs.Greatest.{greatest_from-any}
-use Rattle.layout_laws.proofs.Levels.{All-append}
 use Rattle.lay_float.specs.Limits.{AllHalf, AreHalf, IsHalf}
 use Rattle.lay_float.specs.Readings.{box_at, boxes_at}
 use Rattle.lay_float.specs.declared.floats.PlacedFloat.{PlacedFloat}
@@ -121,7 +121,7 @@ pub top_has : (P : ℤ → Type 0) (clear : Clear) (fs : List FloatBox) (least :
     → P (float_top clear fs least y)
 top_has P clear fs least y each own rest =
     greatest_from-any P y (option_to_list least ++ option_to_list (lowest_bottom clear fs)) own
-    (All-append P (option_to_list least) (option_to_list (lowest_bottom clear fs)) rest (by (lowest_bottom clear fs) refl))
+    (all_append P (option_to_list least) (option_to_list (lowest_bottom clear fs)) rest (by (lowest_bottom clear fs) refl))
   where
     by : (o : Option ℤ) → lowest_bottom clear fs ≡ o → AllByRecursion P (option_to_list o)
     by None e = tt

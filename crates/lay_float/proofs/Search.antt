@@ -5,9 +5,10 @@ use Rattle.std.specs.Int.{int_min}
 use Rattle.std.proofs.lemmas.Int.{ints}
 use Rattle.viz_base.specs.declared.layouts.Band.{Band}
 use Rattle.viz_base.specs.declared.styles.Side.{Side}
+use Rattle.viz_base.proofs.ListLemmas.{later_member}
 use Rattle.layout_semantics.specs.Extremes.{least_from}
 use Rattle.layout_semantics.specs.Floats.{FloatBox, is_allowed, farthest_at, highest_top, candidate_tops, below_all, highest_free}
-use Rattle.layout_laws.proofs.Members.{no_member, first_member, later_member, first_or_later, by_member, from_filter, to_filter, to_map, from_map}
+use Rattle.layout_laws.proofs.Members.{no_member, first_member, first_or_later, by_member, from_filter, to_filter, to_map, from_map}
 use Rattle.layout_laws.proofs.Extremes.{below_greatest, start_below_greatest, above_least, start_above_least, least_at_least, least_is_one}
 use Rattle.layout_laws.proofs.Truths.{le, is_le, lt, is_lt}
 use Rattle.lay_float.specs.steps.Shelves.{shelf_on, is_free, sooner, soonest, next_top, free_top}

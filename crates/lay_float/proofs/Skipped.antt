@@ -4,8 +4,8 @@ use Rattle.std.specs.Prelude.{None, unwrap_or}
 use Rattle.std.proofs.lemmas.Int.{ints}
 use Rattle.viz_base.specs.declared.layouts.Band.{Band}
 use Rattle.viz_base.specs.declared.styles.Side.{Side}
+use Rattle.viz_base.proofs.ListLemmas.{later_member}
 use Rattle.layout_semantics.specs.Floats.{FloatBox}
-use Rattle.layout_laws.proofs.Members.{later_member}
 use Rattle.layout_laws.proofs.Truths.{le, is_le}
 use Rattle.lay_float.specs.Limits.{AreHalf}
 use Rattle.lay_float.specs.steps.Shelves.{Shelf, with_float, shelf_from, shelf_on, is_free, sooner, soonest, next_top, free_top, place_on, open_from}

@@ -1,8 +1,6 @@
--- Floats, bands, sizes and places at a reading.
+-- Floats and sizes at a reading.
 use Rattle.std.specs.Prelude.{ℤ, List, map, Option, option_map}
-use Rattle.viz_base.specs.declared.layouts.Band.{Band}
 use Rattle.viz_base.specs.declared.layouts.Extent.{Extent}
-use Rattle.viz_base.specs.declared.layouts.Spot.{Spot}
 use Rattle.viz_calc.specs.World.{Reading}
 use Rattle.viz_calc.specs.Renderings.{quad_at}
 use Rattle.layout_semantics.specs.Floats.{FloatBox}
@@ -21,14 +19,8 @@ boxes_at at fs e = map (λ f. box_at at f e) fs
 abbrev pub floats_at : {N : Type 0} → (N → Reading → ℤ) → Floats N → Reading → List FloatBox
 floats_at at floats e = boxes_at at floats.placed e
 
-abbrev pub stretch_at : {N : Type 0} → (N → Reading → ℤ) → Band N → Reading → Band ℤ
-stretch_at at b e = record { left = at b.left e; right = at b.right e }
-
 abbrev pub extent_at : {N : Type 0} → (N → Reading → ℤ) → Extent N → Reading → Extent ℤ
 extent_at at s e = record { width = at s.width e; height = at s.height e }
-
-abbrev pub spot_at : {N : Type 0} → (N → Reading → ℤ) → Spot N → Reading → Spot ℤ
-spot_at at s e = record { x = at s.x e; y = at s.y e }
 
 -- a number at a reading, where there is one
 abbrev pub option_at : {N : Type 0} → (N → Reading → ℤ) → Option N → Reading → Option ℤ

@@ -2,7 +2,8 @@ ghost use Rattle.std.specs.Prelude.{◌≡◌, ⊤, None, IsTrue, is_some, ◌||
 ghost use Rattle.std.specs.List.{list_any};
 ghost use Rattle.viz_calc.specs.World.{Reading};
 ghost use Rattle.viz_calc.specs.Run.{Goes, Blames};
-ghost use Rattle.lay_float.specs.Readings.{box_at, boxes_at, stretch_at};
+ghost use Rattle.viz_calc.specs.Renderings.{band_at};
+ghost use Rattle.lay_float.specs.Readings.{box_at, boxes_at};
 ghost use Rattle.lay_float.specs.steps.Bands.{meets_between, narrowed, room_beside, room_from, is_relevant_side, lower, lowest_from};
 ghost use Rattle.lay_float.specs.steps.Lent.{lent_at, room_at};
 
@@ -94,7 +95,7 @@ pub fn room_between<'a, S: Steady>(
     ensures goes { Goes (S.run calc.old) (S.run calc.new) }
     ensures value { (e : Reading) → IsTrue ((S.run calc.new).is_open e)
         → room_at S.at result e ≡ room_from (S.at y.now e) (S.at end.now e) (boxes_at S.at floats.now e)
-        (stretch_at S.at cb.now e) }
+        (band_at S.at cb.now e) }
     ensures cause { Blames (S.run calc.old) (S.run calc.new) ⊤ }
 {
     let mut room = Room {

@@ -4,11 +4,12 @@ ghost use Rattle.std.specs.List.{list_any};
 ghost use Rattle.std.specs.Option.{option_to_list};
 ghost use Rattle.viz_calc.specs.World.{Reading};
 ghost use Rattle.viz_calc.specs.Run.{Stands, Goes, Blames, BlamesButMem, Fits};
+ghost use Rattle.viz_calc.specs.Renderings.{spot_at, band_at as stretch_at};
 ghost use Rattle.layout_semantics.specs.Extremes.{greatest_from};
 ghost use Rattle.layout_semantics.specs.Floats.{placed_float, highest_top, float_at, float_top, meets, band_at, is_relevant, lowest_bottom};
 ghost use Rattle.lay_float.specs.Limits.{AreHalf};
 ghost use Rattle.lay_float.specs.Places.{IsHighest};
-ghost use Rattle.lay_float.specs.Readings.{box_at, boxes_at, floats_at, extent_at, spot_at, stretch_at, option_at};
+ghost use Rattle.lay_float.specs.Readings.{box_at, boxes_at, floats_at, extent_at, option_at};
 ghost use Rattle.lay_float.specs.steps.Lent.{lent_at, place_at};
 ghost use Rattle.lay_float.specs.steps.Shelves.{spot_on};
 

@@ -2,10 +2,11 @@ ghost use Rattle.std.specs.Prelude.{◌≡◌, ◌∷◌, [], ◌++◌, IsTrue, 
 ghost use Rattle.std.specs.List.{list_any};
 ghost use Rattle.viz_calc.specs.World.{Reading};
 ghost use Rattle.viz_calc.specs.State.{Grows, AreOpen, CauseButMem, Cause};
+ghost use Rattle.viz_calc.specs.Renderings.{spot_at, band_at as stretch_at};
 ghost use Rattle.layout_semantics.specs.Floats.{placed_float, float_at, band_at, is_relevant, lowest_bottom};
 ghost use Rattle.lay_float.specs.Limits.{AreHalf};
 ghost use Rattle.lay_float.specs.Places.{IsHighest};
-ghost use Rattle.lay_float.specs.Readings.{floats_at, extent_at, spot_at, stretch_at, option_at};
+ghost use Rattle.lay_float.specs.Readings.{floats_at, extent_at, option_at};
 
 use crate::engine;
 use crate::floats::Floats;

@@ -1,7 +1,8 @@
 ghost use Rattle.std.specs.Prelude.{◌≡◌, ⊤, ◌∷◌, [], None, IsTrue, length};
 ghost use Rattle.viz_calc.specs.World.{Reading};
 ghost use Rattle.viz_calc.specs.Run.{Stands, Goes, Blames, Fits};
-ghost use Rattle.lay_float.specs.Readings.{box_at, boxes_at, stretch_at};
+ghost use Rattle.viz_calc.specs.Renderings.{band_at};
+ghost use Rattle.lay_float.specs.Readings.{box_at, boxes_at};
 ghost use Rattle.lay_float.specs.steps.Lent.{lent_at, shelf_at, place_at, FitsAnywhere};
 ghost use Rattle.lay_float.specs.steps.Shelves.{opposite, facing, side_edge, is_same_side, set_beside, with_float, shelf_on, limit_of, far_edge, reaches_to, stays_within, is_free, sooner, soonest, next_top, stand, place_on, free_top, open_from};
 
@@ -136,7 +137,7 @@ fn shelf_on<'a, S: Steady>(
 ) -> Shelf<'a, S::Num>
     ensures goes { Goes (S.run calc.old) (S.run calc.new) }
     ensures value { (e : Reading) → IsTrue ((S.run calc.new).is_open e)
-        → shelf_at S.at result e ≡ shelf_on (boxes_at S.at floats.now e) side (stretch_at S.at cb.now e)
+        → shelf_at S.at result e ≡ shelf_on (boxes_at S.at floats.now e) side (band_at S.at cb.now e)
         (S.at y.now e) }
     ensures cause { Blames (S.run calc.old) (S.run calc.new) ⊤ }
 {
@@ -161,7 +162,7 @@ fn limit_of<'a, S: Steady>(
 ) -> Option<&'a S::Num>
     ensures goes { Goes (S.run calc.old) (S.run calc.new) }
     ensures value { (e : Reading) → IsTrue ((S.run calc.new).is_open e)
-        → lent_at S.at result e ≡ limit_of side (stretch_at S.at cb.now e) is_bounded (lent_at S.at limit.entry e) }
+        → lent_at S.at result e ≡ limit_of side (band_at S.at cb.now e) is_bounded (lent_at S.at limit.entry e) }
     ensures cause { Blames (S.run calc.old) (S.run calc.new) ⊤ }
 {
     if is_bounded {
@@ -231,7 +232,7 @@ fn is_free<'a, S: Steady>(
 ) -> bool
     ensures goes { Goes (S.run calc.old) (S.run calc.new) }
     ensures value { (e : Reading) → IsTrue ((S.run calc.new).is_open e)
-        → result ≡ is_free side (S.at width.now e) (stretch_at S.at cb.now e) (shelf_at S.at shelf.now e) }
+        → result ≡ is_free side (S.at width.now e) (band_at S.at cb.now e) (shelf_at S.at shelf.now e) }
     ensures cause { Blames (S.run calc.old) (S.run calc.new)
         (Fits (S.run calc.old) (λ e. far_edge side (S.at shelf.now.edge.now e) (S.at width.now e) ∷ [])) }
 {
@@ -306,7 +307,7 @@ fn stand<'a, S: Steady>(
     ensures goes { Goes (S.run calc.old) (S.run calc.new) }
     ensures value { (e : Reading) → IsTrue ((S.run calc.new).is_open e)
         → lent_at S.at result e ≡ stand (boxes_at S.at floats.now e) side (S.at width.now e)
-        (stretch_at S.at cb.now e) (S.at y.now e) }
+        (band_at S.at cb.now e) (S.at y.now e) }
     ensures cause { Blames (S.run calc.old) (S.run calc.new)
         (FitsAnywhere (S.run calc.old) S.at floats.now side cb.now width.now) }
 {
@@ -328,7 +329,7 @@ fn farthest<'a, S: Steady>(
 ) -> Place<'a, S::Num>
     ensures goes { Goes (S.run calc.old) (S.run calc.new) }
     ensures value { (e : Reading) → IsTrue ((S.run calc.new).is_open e)
-        → place_at S.at result e ≡ place_on (boxes_at S.at floats.now e) side (stretch_at S.at cb.now e)
+        → place_at S.at result e ≡ place_on (boxes_at S.at floats.now e) side (band_at S.at cb.now e)
         (S.at y.now e) }
     ensures cause { Blames (S.run calc.old) (S.run calc.new) ⊤ }
 {
@@ -371,8 +372,8 @@ pub fn free_place<'a, S: Steady>(
 ) -> Place<'a, S::Num>
     ensures goes { Goes (S.run calc.old) (S.run calc.new) }
     ensures value { (e : Reading) → IsTrue ((S.run calc.new).is_open e)
-        → place_at S.at result e ≡ place_on (boxes_at S.at floats.now e) side (stretch_at S.at cb.now e)
-        (free_top (length floats.now) (boxes_at S.at floats.now e) side (S.at width.now e) (stretch_at S.at cb.now e)
+        → place_at S.at result e ≡ place_on (boxes_at S.at floats.now e) side (band_at S.at cb.now e)
+        (free_top (length floats.now) (boxes_at S.at floats.now e) side (S.at width.now e) (band_at S.at cb.now e)
         (S.at high.now e)) }
     ensures cause { Blames (S.run calc.old) (S.run calc.new)
         (FitsAnywhere (S.run calc.old) S.at floats.now side cb.now width.now) }

@@ -8,13 +8,14 @@ use Rattle.viz_base.specs.declared.layouts.Extent.{Extent}
 use Rattle.viz_base.specs.declared.layouts.Waiting.{Waiting}
 use Rattle.viz_base.specs.declared.trees.BoxTree.{BoxTree}
 use Rattle.viz_base.specs.declared.worlds.World.{World}
+use Rattle.viz_base.proofs.ListLemmas.{all_append}
 use Rattle.layout_semantics.specs.Floats.{FloatBox}
 use Rattle.layout_semantics.specs.FlowBoxes.{flow_children, across, block_band}
 use Rattle.layout_semantics.specs.Horizontal.{flow_widths}
 use Rattle.layout_semantics.specs.InlineContent.{is_floated_at}
 use Rattle.layout_semantics.specs.Order.{IsOnPage}
 use Rattle.layout_semantics.specs.Clearance.{Base, hangs, stands, on_ground}
-use Rattle.layout_laws.proofs.Levels.{IsFrom, All-append, All-implied}
+use Rattle.layout_laws.proofs.Levels.{IsFrom, All-implied}
 use Rattle.layout_laws.proofs.LeadLevels.{children-from}
 use Rattle.lay_margin.specs.declared.runs.Run.{Run}
 use Rattle.lay_margin.specs.Fitting.{BoxFits, LeadsTo, itself}
@@ -135,7 +136,7 @@ module _ (tree : BoxTree) (w : World) (height : ℕ) (own turned : ℕ → Bound
         let ou = ap (λ (x : Bounds). x.up) own_is in let od = ap (λ (x : Bounds). x.down) own_is in let oa = ap (λ (x : Bounds). x.aside) own_is in
         let i = inside-grown b (rises k) in
         record {
-          bands = All-append (λ (f : Waiting ℤ). IsBandIn (grown b (rises k)) f.cb) ws (record { at = k; cb = cb } ∷ [])
+          bands = all_append (λ (f : Waiting ℤ). IsBandIn (grown b (rises k)) f.cb) ws (record { at = k; cb = cb } ∷ [])
               (waits-wider b (grown b (rises k)) ws i d).bands (band-wider b (grown b (rises k)) i band, tt);
           room = record { up = omega (arith, up, au, ou); down = omega (arith, down, ad, od); aside = omega (arith, aside, aa, oa) };
         }

@@ -2,10 +2,10 @@
 ghost use Rattle.std.specs.Prelude.{◌≡◌, ◌++◌, IsTrue};
 ghost use Rattle.viz_calc.specs.World.{Reading};
 ghost use Rattle.viz_calc.specs.Run.{Goes, Blames, BlamesButMem};
-ghost use Rattle.viz_calc.specs.Renderings.{placed_at, quad_at};
+ghost use Rattle.viz_calc.specs.Renderings.{placed_at, quad_at, spot_at};
 ghost use Rattle.layout_semantics.specs.Rectangles.{shifted, shifted_box, shifted_quad};
 ghost use Rattle.lay_frame.specs.Readings.{boxes_at};
-ghost use Rattle.lay_float.specs.Readings.{extent_at, spot_at};
+ghost use Rattle.lay_float.specs.Readings.{extent_at};
 ghost use Rattle.lay_flow.specs.Readings.{apart_at};
 ghost use Rattle.std.specs.List.{AllByRecursion};
 ghost use Rattle.lay_flow.specs.Low.{IsAloneLow, reach};

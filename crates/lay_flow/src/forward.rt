@@ -4,9 +4,10 @@ ghost use Rattle.std.specs.Prelude.{◌≡◌, ◌<◌, ◌++◌, ◌∷◌, [],
 ghost use Rattle.std.specs.Option.{option_map_or};
 ghost use Rattle.viz_calc.specs.World.{Reading};
 ghost use Rattle.viz_calc.specs.Run.{Stands, Goes, Fits, Blames, BlamesButMem};
+ghost use Rattle.viz_calc.specs.Renderings.{band_at};
 ghost use Rattle.layout_semantics.specs.Clearance.{with_waiting as with_all};
 ghost use Rattle.layout_semantics.specs.FlowBoxes.{clear_of, flow_children};
-ghost use Rattle.lay_float.specs.Readings.{boxes_at as floats_in, floats_at, option_at, stretch_at};
+ghost use Rattle.lay_float.specs.Readings.{boxes_at as floats_in, floats_at, option_at};
 ghost use Rattle.lay_margin.specs.Fitting.{edges};
 ghost use Rattle.lay_margin.specs.Readings.{floats_at as waiting_all};
 ghost use Rattle.lay_margin.specs.Runs.{run_at};
@@ -93,10 +94,10 @@ fn hypothetical_edge<S: Steady>(
     requires { b < length way.now.page.now.tree.now.boxes }
     ensures goes { Goes (S.run calc.old) (S.run calc.new) }
     ensures value { Stands (S.run calc.new) (S.at result) (λ e. hypothetical_of (ground_at S.at way.now e)
-        (stretch_at S.at cb.now e) b (run_at S.at run.now e)) }
+        (band_at S.at cb.now e) b (run_at S.at run.now e)) }
     ensures cause { BlamesButMem (S.run calc.old) (S.run calc.new) ((e : Reading) → IsTrue ((S.run calc.old).is_open e)
         → IsBaseLow (base_at S.at way.now.base.now e) × IsRunLow (run_at S.at run.now e)
-        × IsLeadLow way.now.page.now.tree.now e.world (stretch_at S.at cb.now e) b) }
+        × IsLeadLow way.now.page.now.tree.now e.world (band_at S.at cb.now e) b) }
 {
     let mut own = copy_run(calc, run);
     let mut waiting = List::new(alloc);
@@ -196,10 +197,10 @@ fn is_to_clear<S: Steady>(
     requires { b < length way.now.page.now.tree.now.boxes }
     ensures goes { Goes (S.run calc.old) (S.run calc.new) }
     ensures value { (e : Reading) → IsTrue ((S.run calc.new).is_open e) → result
-        ≡ to_clear_of (ground_at S.at way.now e) (stretch_at S.at cb.now e) b (run_at S.at going.now.run e)
+        ≡ to_clear_of (ground_at S.at way.now e) (band_at S.at cb.now e) b (run_at S.at going.now.run e)
         (waiting_all S.at going.now.waiting e) }
     ensures cause { BlamesButMem (S.run calc.old) (S.run calc.new) ((e : Reading) → IsTrue ((S.run calc.old).is_open e)
-        → DecisionFitsAt S.at way.now e (stretch_at S.at cb.now e) b (run_at S.at going.now.run e)
+        → DecisionFitsAt S.at way.now e (band_at S.at cb.now e) b (run_at S.at going.now.run e)
         (waiting_all S.at going.now.waiting e)) }
 {
     let y = hypothetical_edge(alloc, calc, way, cb, b, &going.run);
@@ -242,10 +243,10 @@ fn decided<S: Steady>(
     requires { b < length way.now.page.now.tree.now.boxes }
     ensures goes { Goes (S.run calc.old) (S.run calc.new) }
     ensures value { (e : Reading) → IsTrue ((S.run calc.new).is_open e) → option_at S.at result e
-        ≡ decided_of (ground_at S.at way.now e) (stretch_at S.at cb.now e) b (run_at S.at going.now.run e)
+        ≡ decided_of (ground_at S.at way.now e) (band_at S.at cb.now e) b (run_at S.at going.now.run e)
         (waiting_all S.at going.now.waiting e) }
     ensures cause { BlamesButMem (S.run calc.old) (S.run calc.new) ((e : Reading) → IsTrue ((S.run calc.old).is_open e)
-        → DecisionFitsAt S.at way.now e (stretch_at S.at cb.now e) b (run_at S.at going.now.run e)
+        → DecisionFitsAt S.at way.now e (band_at S.at cb.now e) b (run_at S.at going.now.run e)
         (waiting_all S.at going.now.waiting e)) }
 {
     if way.floats.is_empty() && going.waiting.is_empty() {
@@ -262,9 +263,9 @@ fn decided<S: Steady>(
 fn wait<S: Steady>(calc: &mut S, cb: &Band<S::Num>, at: u32, waiting: &mut List<Waiting<S::Num>>)
     ensures goes { Goes (S.run calc.old) (S.run calc.new) }
     ensures value { (e : Reading) → IsTrue ((S.run calc.new).is_open e) → waiting_all S.at waiting.new e
-        ≡ waiting_all S.at waiting.old e ++ record { at = at; cb = stretch_at S.at cb.now e } ∷ [] }
+        ≡ waiting_all S.at waiting.old e ++ record { at = at; cb = band_at S.at cb.now e } ∷ [] }
     ensures cause { BlamesButMem (S.run calc.old) (S.run calc.new) (Fits (S.run calc.old)
-        (λ e. edges (stretch_at S.at cb.now e))) }
+        (λ e. edges (band_at S.at cb.now e))) }
 {
     let cb = copy_band(calc, cb);
     match waiting.push(Waiting { at, cb }) {
@@ -287,10 +288,10 @@ pub fn forward<S: Steady>(
     requires { b < length way.now.page.now.tree.now.boxes }
     ensures goes { Goes (S.run calc.old) (S.run calc.new) }
     ensures value { (e : Reading) → IsTrue ((S.run calc.new).is_open e) → found_at S.at going.new result e
-        ≡ way_at S.at way.now e (stretch_at S.at cb.now e) b (run_at S.at going.old.run e)
+        ≡ way_at S.at way.now e (band_at S.at cb.now e) b (run_at S.at going.old.run e)
         (waiting_all S.at going.old.waiting e) }
     ensures cause { BlamesButMem (S.run calc.old) (S.run calc.new) ((e : Reading) → IsTrue ((S.run calc.old).is_open e)
-        → WayFitsAt S.at way.now e (stretch_at S.at cb.now e) b (run_at S.at going.old.run e)
+        → WayFitsAt S.at way.now e (band_at S.at cb.now e) b (run_at S.at going.old.run e)
         (waiting_all S.at going.old.waiting e)) }
 {
     if stops_at(way.page.tree, way.past, b)
@@ -314,10 +315,10 @@ fn inner<S: Steady>(
     requires { b < length way.now.page.now.tree.now.boxes }
     ensures goes { Goes (S.run calc.old) (S.run calc.new) }
     ensures value { (e : Reading) → IsTrue ((S.run calc.new).is_open e) → found_at S.at going.new result e
-        ≡ inner_at S.at way.now e (stretch_at S.at cb.now e) b (run_at S.at going.old.run e)
+        ≡ inner_at S.at way.now e (band_at S.at cb.now e) b (run_at S.at going.old.run e)
         (waiting_all S.at going.old.waiting e) }
     ensures cause { BlamesButMem (S.run calc.old) (S.run calc.new) ((e : Reading) → IsTrue ((S.run calc.old).is_open e)
-        → WayFitsAt S.at way.now e (stretch_at S.at cb.now e) b (run_at S.at going.old.run e)
+        → WayFitsAt S.at way.now e (band_at S.at cb.now e) b (run_at S.at going.old.run e)
         (waiting_all S.at going.old.waiting e)) }
 {
     join_top(calc, way.page.tree, cb, b, &mut going.run);
@@ -359,10 +360,10 @@ fn content<S: Steady>(
     requires { b < length way.now.page.now.tree.now.boxes }
     ensures goes { Goes (S.run calc.old) (S.run calc.new) }
     ensures value { (e : Reading) → IsTrue ((S.run calc.new).is_open e) → found_at S.at going.new result e
-        ≡ kids_at_reading S.at way.now e (stretch_at S.at band.now e) (flow_children way.now.page.now.tree.now b)
+        ≡ kids_at_reading S.at way.now e (band_at S.at band.now e) (flow_children way.now.page.now.tree.now b)
         (run_at S.at going.old.run e) (waiting_all S.at going.old.waiting e) }
     ensures cause { BlamesButMem (S.run calc.old) (S.run calc.new) ((e : Reading) → IsTrue ((S.run calc.old).is_open e)
-        → KidsFitAt S.at way.now e (stretch_at S.at band.now e) (flow_children way.now.page.now.tree.now b)
+        → KidsFitAt S.at way.now e (band_at S.at band.now e) (flow_children way.now.page.now.tree.now b)
         (run_at S.at going.old.run e) (waiting_all S.at going.old.waiting e)) }
 {
     let tree = way.page.tree;
@@ -395,10 +396,10 @@ fn kids<S: Steady>(
         → (b < slice_index_or boxes.now i 0) × (slice_index_or boxes.now i 0 < length way.now.page.now.tree.now.boxes) }
     ensures goes { Goes (S.run calc.old) (S.run calc.new) }
     ensures value { (e : Reading) → IsTrue ((S.run calc.new).is_open e) → found_at S.at going.new result e
-        ≡ kids_at_reading S.at way.now e (stretch_at S.at band.now e) boxes.now
+        ≡ kids_at_reading S.at way.now e (band_at S.at band.now e) boxes.now
         (run_at S.at going.old.run e) (waiting_all S.at going.old.waiting e) }
     ensures cause { BlamesButMem (S.run calc.old) (S.run calc.new) ((e : Reading) → IsTrue ((S.run calc.old).is_open e)
-        → KidsFitAt S.at way.now e (stretch_at S.at band.now e) boxes.now (run_at S.at going.old.run e)
+        → KidsFitAt S.at way.now e (band_at S.at band.now e) boxes.now (run_at S.at going.old.run e)
         (waiting_all S.at going.old.waiting e)) }
 {
     for place in boxes {
@@ -423,10 +424,10 @@ fn kid<S: Steady>(
     requires { k < length way.now.page.now.tree.now.boxes }
     ensures goes { Goes (S.run calc.old) (S.run calc.new) }
     ensures value { (e : Reading) → IsTrue ((S.run calc.new).is_open e) → found_at S.at going.new result e
-        ≡ kid_at S.at way.now e (stretch_at S.at band.now e) k (run_at S.at going.old.run e)
+        ≡ kid_at S.at way.now e (band_at S.at band.now e) k (run_at S.at going.old.run e)
         (waiting_all S.at going.old.waiting e) }
     ensures cause { BlamesButMem (S.run calc.old) (S.run calc.new) ((e : Reading) → IsTrue ((S.run calc.old).is_open e)
-        → KidFitsAt S.at way.now e (stretch_at S.at band.now e) k (run_at S.at going.old.run e)
+        → KidFitsAt S.at way.now e (band_at S.at band.now e) k (run_at S.at going.old.run e)
         (waiting_all S.at going.old.waiting e)) }
 {
     if floats_at(way.page.tree, k) {

@@ -2,11 +2,10 @@
 ghost use Rattle.std.specs.Prelude.{◌≡◌, ◌<◌, length, IsTrue};
 ghost use Rattle.viz_calc.specs.World.{Reading};
 ghost use Rattle.viz_calc.specs.Run.{Goes, Blames, BlamesButMem};
-ghost use Rattle.viz_calc.specs.Renderings.{placed_at};
+ghost use Rattle.viz_calc.specs.Renderings.{placed_at, band_at};
 ghost use Rattle.layout_semantics.specs.FlowBoxes.{across as across_of};
 ghost use Rattle.layout_semantics.specs.Horizontal.{widths as widths_of};
 ghost use Rattle.lay_frame.specs.Readings.{frame_at};
-ghost use Rattle.lay_float.specs.Readings.{stretch_at};
 ghost use Rattle.lay_width.specs.Readings.{widths_at};
 ghost use Rattle.lay_flow.specs.Readings.{context_at};
 ghost use Rattle.lay_flow.specs.steps.Flow.{frame_of, replaced_of, root_of, block_of};
@@ -70,12 +69,12 @@ pub fn shape<S: Steady>(
     requires { b < length page.now.tree.now.boxes }
     ensures goes { Goes (S.run calc.old) (S.run calc.new) }
     ensures value { (e : Reading) → IsTrue ((S.run calc.new).is_open e) → frame_at S.at result e
-        ≡ frame_of page.now.tree.now e.world page.now.height b (across_of (stretch_at S.at cb.now e))
+        ≡ frame_of page.now.tree.now e.world page.now.height b (across_of (band_at S.at cb.now e))
         (S.at cb.now.left e) (S.at top.now e) }
     ensures cause { BlamesButMem (S.run calc.old) (S.run calc.new) (BoxesFit page.now.tree.now (S.run calc.old).is_open
         × ((e : Reading) → IsTrue ((S.run calc.old).is_open e)
-        → IsBandLow (stretch_at S.at cb.now e) × (IsLevelLow (S.at top.now e)
-        × IsShapeFit page.now.tree.now e.world page.now.height b (across_of (stretch_at S.at cb.now e))))) }
+        → IsBandLow (band_at S.at cb.now e) × (IsLevelLow (S.at top.now e)
+        × IsShapeFit page.now.tree.now e.world page.now.height b (across_of (band_at S.at cb.now e))))) }
 {
     let room = across(calc, cb);
     let x = widths(alloc, calc, page, b, &room);

@@ -4,12 +4,13 @@ ghost use Rattle.std.specs.List.{flat_map, AllByRecursion};
 ghost use Rattle.viz_base.specs.declared.styles.Style.{Style as StyleOf};
 ghost use Rattle.viz_calc.specs.World.{Reading};
 ghost use Rattle.viz_calc.specs.Run.{Stands, Goes, Blames, BlamesButMem};
+ghost use Rattle.viz_calc.specs.Renderings.{band_at};
 ghost use Rattle.layout_semantics.specs.Flow.{raised as raised_of};
 ghost use Rattle.layout_semantics.specs.InlineContent.{inner_boxes as inner_of_box, inner_items};
 ghost use Rattle.layout_semantics.specs.Lengths.{own};
 ghost use Rattle.layout_semantics.specs.Lists.{room_for as room_of};
 ghost use Rattle.lay_frame.specs.Readings.{boxes_at};
-ghost use Rattle.lay_float.specs.Readings.{stretch_at, option_at};
+ghost use Rattle.lay_float.specs.Readings.{option_at};
 ghost use Rattle.lay_line.specs.Contexts.{inner_at, table_at};
 ghost use Rattle.lay_line.specs.Items.{items_of};
 ghost use Rattle.lay_line.specs.Lining.{laid_at};
@@ -298,11 +299,11 @@ fn lines_in<S: Steady>(
     requires { b < length page.now.tree.now.boxes }
     ensures goes { Goes (S.run calc.old) (S.run calc.new) }
     ensures value { (e : Reading) → IsTrue ((S.run calc.new).is_open e) → laid_at S.at result e
-        ≡ lines_of page.now.tree.now e.world (apart_at S.at page.now.apart.now e) b (stretch_at S.at cb.now e)
+        ≡ lines_of page.now.tree.now e.world (apart_at S.at page.now.apart.now e) b (band_at S.at cb.now e)
         (S.at top.now e) (context_at S.at context.old e) }
     ensures least { context.new.least ≡ context.old.least }
     ensures cause { BlamesButMem (S.run calc.old) (S.run calc.new) ((e : Reading) → IsTrue ((S.run calc.old).is_open e)
-        → InLinesFit page.now.tree.now e.world (apart_at S.at page.now.apart.now e) b (stretch_at S.at cb.now e)
+        → InLinesFit page.now.tree.now e.world (apart_at S.at page.now.apart.now e) b (band_at S.at cb.now e)
         (S.at top.now e) (context_at S.at context.old e)) }
 {
     let table = inner_table(alloc, calc, page, b);
@@ -331,14 +332,14 @@ pub fn in_lines<S: Steady>(
     requires { b < length page.now.tree.now.boxes }
     ensures goes { Goes (S.run calc.old) (S.run calc.new) }
     ensures context { (e : Reading) → IsTrue ((S.run calc.new).is_open e) → context_at S.at context.new e
-        ≡ (lines_step page.now.tree.now e.world (apart_at S.at page.now.apart.now e) b (stretch_at S.at cb.now e)
+        ≡ (lines_step page.now.tree.now e.world (apart_at S.at page.now.apart.now e) b (band_at S.at cb.now e)
         (S.at top.now e) (context_at S.at context.old e)).context }
     ensures boxes { (e : Reading) → IsTrue ((S.run calc.new).is_open e) → boxes_at S.at out.new.items e
         ≡ boxes_at S.at out.old.items e ++ (lines_step page.now.tree.now e.world
-        (apart_at S.at page.now.apart.now e) b (stretch_at S.at cb.now e) (S.at top.now e)
+        (apart_at S.at page.now.apart.now e) b (band_at S.at cb.now e) (S.at top.now e)
         (context_at S.at context.old e)).boxes }
     ensures cause { BlamesButMem (S.run calc.old) (S.run calc.new) ((e : Reading) → IsTrue ((S.run calc.old).is_open e)
-        → InLinesFit page.now.tree.now e.world (apart_at S.at page.now.apart.now e) b (stretch_at S.at cb.now e)
+        → InLinesFit page.now.tree.now e.world (apart_at S.at page.now.apart.now e) b (band_at S.at cb.now e)
         (S.at top.now e) (context_at S.at context.old e)) }
 {
     let Laid { lines, floats } = lines_in(alloc, calc, page, b, cb, top, context);

@@ -3,9 +3,10 @@ ghost use Rattle.std.specs.Prelude.{◌≡◌, ◌<◌, ℤ, ◌-ℤ◌, false, 
 ghost use Rattle.std.specs.Int.{int_max, int_min};
 ghost use Rattle.viz_calc.specs.World.{Reading};
 ghost use Rattle.viz_calc.specs.Run.{Stands, Goes, Blames, BlamesButMem};
+ghost use Rattle.viz_calc.specs.Renderings.{band_at};
 ghost use Rattle.layout_semantics.specs.Flow.{raised as raised_of};
 ghost use Rattle.lay_frame.specs.Readings.{frame_at};
-ghost use Rattle.lay_float.specs.Readings.{stretch_at, option_at};
+ghost use Rattle.lay_float.specs.Readings.{option_at};
 ghost use Rattle.lay_margin.specs.Readings.{passed_by};
 ghost use Rattle.lay_margin.specs.Runs.{run_at, no_run};
 ghost use Rattle.flow_steps.specs.Flow.{is_at_top as at_top, below as below_of};
@@ -54,9 +55,9 @@ fn go<S: Steady>(
     ensures goes { Goes (S.run calc.old) (S.run calc.new) }
     ensures value { (e : Reading) → IsTrue ((S.run calc.new).is_open e) → found_at S.at result.going result.end e
         ≡ forward_of page.now.tree.now e.world (apart_at S.at page.now.apart.now e) (base_at S.at base.now e)
-        (passed_by past) (stretch_at S.at cb.now e) (context_at S.at context.now e) b (run_at S.at run e) }
+        (passed_by past) (band_at S.at cb.now e) (context_at S.at context.now e) b (run_at S.at run e) }
     ensures cause { BlamesButMem (S.run calc.old) (S.run calc.new) ((e : Reading) → IsTrue ((S.run calc.old).is_open e)
-        → ForwardFits page.now.tree.now e.world (apart_at S.at page.now.apart.now e) (stretch_at S.at cb.now e)
+        → ForwardFits page.now.tree.now e.world (apart_at S.at page.now.apart.now e) (band_at S.at cb.now e)
         (context_at S.at context.now e) b (base_at S.at base.now e) (passed_by past) (run_at S.at run e)) }
 {
     let mut going = Going {
@@ -123,10 +124,10 @@ fn reached_from<S: Steady>(
     requires { b < length page.now.tree.now.boxes }
     ensures goes { Goes (S.run calc.old) (S.run calc.new) }
     ensures value { (e : Reading) → IsTrue ((S.run calc.new).is_open e) → met_at S.at result e
-        ≡ from_of page.now.tree.now e.world (apart_at S.at page.now.apart.now e) (stretch_at S.at cb.now e)
+        ≡ from_of page.now.tree.now e.world (apart_at S.at page.now.apart.now e) (band_at S.at cb.now e)
         (context_at S.at context.now e) b (S.at y e) (cleared_at S.at cleared e) (run_at S.at own e) }
     ensures cause { BlamesButMem (S.run calc.old) (S.run calc.new) ((e : Reading) → IsTrue ((S.run calc.old).is_open e)
-        → FromFits page.now.tree.now e.world (apart_at S.at page.now.apart.now e) (stretch_at S.at cb.now e)
+        → FromFits page.now.tree.now e.world (apart_at S.at page.now.apart.now e) (band_at S.at cb.now e)
         (context_at S.at context.now e) b (cleared_at S.at cleared e)) }
 {
     match cleared {
@@ -179,10 +180,10 @@ pub fn reach<S: Steady>(
     requires { b < length page.now.tree.now.boxes }
     ensures goes { Goes (S.run calc.old) (S.run calc.new) }
     ensures value { (e : Reading) → IsTrue ((S.run calc.new).is_open e) → met_at S.at result e
-        ≡ reached_of page.now.tree.now e.world (apart_at S.at page.now.apart.now e) (stretch_at S.at cb.now e)
+        ≡ reached_of page.now.tree.now e.world (apart_at S.at page.now.apart.now e) (band_at S.at cb.now e)
         (context_at S.at context.now e) b }
     ensures cause { BlamesButMem (S.run calc.old) (S.run calc.new) ((e : Reading) → IsTrue ((S.run calc.old).is_open e)
-        → ReachFits page.now.tree.now e.world (apart_at S.at page.now.apart.now e) (stretch_at S.at cb.now e)
+        → ReachFits page.now.tree.now e.world (apart_at S.at page.now.apart.now e) (band_at S.at cb.now e)
         (context_at S.at context.now e) b) }
 {
     match &context.standing {
@@ -367,11 +368,11 @@ pub fn standing_after<S: Steady>(
 ) -> Standing<S::Num>
     ensures goes { Goes (S.run calc.old) (S.run calc.new) }
     ensures value { (e : Reading) → IsTrue ((S.run calc.new).is_open e) → standing_at S.at result e
-        ≡ after_of tree.now e.world (stretch_at S.at cb.now e) (standing_at S.at before e) b (met_at S.at met e)
+        ≡ after_of tree.now e.world (band_at S.at cb.now e) (standing_at S.at before e) b (met_at S.at met e)
         (ending_at S.at laid e) }
     ensures cause { Blames (S.run calc.old) (S.run calc.new) ((e : Reading) → IsTrue ((S.run calc.old).is_open e)
-        → IsBandLow (stretch_at S.at cb.now e)
-        × (VerticalsFit tree.now e.world b (across_of (stretch_at S.at cb.now e))
+        → IsBandLow (band_at S.at cb.now e)
+        × (VerticalsFit tree.now e.world b (across_of (band_at S.at cb.now e))
         × (IsLevelLow (S.at met.reached.top e) × IsRunLow (run_at S.at met.own e)))) }
 {
     if !laid.through {

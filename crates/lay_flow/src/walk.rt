@@ -3,8 +3,9 @@ ghost use Rattle.std.specs.Prelude.{◌≡◌, ◌<◌, ◌++◌, ℕ, ℤ, Bool
 ghost use Rattle.std.specs.Option.{option_or};
 ghost use Rattle.viz_calc.specs.World.{Reading};
 ghost use Rattle.viz_calc.specs.Run.{Goes, Blames, BlamesButMem};
+ghost use Rattle.viz_calc.specs.Renderings.{band_at};
 ghost use Rattle.lay_frame.specs.Readings.{frame_at, boxes_at};
-ghost use Rattle.lay_float.specs.Readings.{stretch_at, option_at};
+ghost use Rattle.lay_float.specs.Readings.{option_at};
 ghost use Rattle.lay_margin.specs.Runs.{run_at, with_margin};
 ghost use Rattle.flow_steps.specs.Flow.{fresh as fresh_of};
 ghost use Rattle.lay_flow.specs.WalkFits.{AllFit, WalkFits, before_content, before_children, before_child, before_flow, when_reached, when_starting, when_going_on};
@@ -65,14 +66,14 @@ fn float<S: Steady>(
 )
     ensures goes { Goes (S.run calc.old) (S.run calc.new) }
     ensures context { (e : Reading) → IsTrue ((S.run calc.new).is_open e) → context_at S.at context.new e
-        ≡ (float_of page.now.tree.now e.world (apart_at S.at page.now.apart.now e) (stretch_at S.at cb.now e)
+        ≡ (float_of page.now.tree.now e.world (apart_at S.at page.now.apart.now e) (band_at S.at cb.now e)
         (S.at top.now e) (context_at S.at context.old e) k).context }
     ensures boxes { (e : Reading) → IsTrue ((S.run calc.new).is_open e) → boxes_at S.at out.new.items e
         ≡ boxes_at S.at out.old.items e ++ (float_of page.now.tree.now e.world (apart_at S.at page.now.apart.now e)
-        (stretch_at S.at cb.now e) (S.at top.now e) (context_at S.at context.old e) k).boxes }
+        (band_at S.at cb.now e) (S.at top.now e) (context_at S.at context.old e) k).boxes }
     ensures cause { BlamesButMem (S.run calc.old) (S.run calc.new) ((e : Reading) → IsTrue ((S.run calc.old).is_open e)
         → IsContextLow (context_at S.at context.old e)
-        × (IsBandLow (stretch_at S.at cb.now e) × (IsNear (S.at top.now e)
+        × (IsBandLow (band_at S.at cb.now e) × (IsNear (S.at top.now e)
         × IsAloneLow (apart_at S.at page.now.apart.now e k)))) }
 {
     let size = size_of(calc, page.apart, k);
@@ -197,15 +198,15 @@ fn lay_context<S: Steady>(
     ensures goes { Goes (S.run calc.old) (S.run calc.new) }
     ensures value { (e : Reading) → IsTrue ((S.run calc.new).is_open e) → laid_with S.at result context.new e
         ≡ without_boxes (context_step page.now.tree.now e.world page.now.height
-        (apart_at S.at page.now.apart.now e) (stretch_at S.at cb.now e) (context_at S.at context.old e) b
+        (apart_at S.at page.now.apart.now e) (band_at S.at cb.now e) (context_at S.at context.old e) b
         (frame_at S.at shape.now e)) }
     ensures boxes { (e : Reading) → IsTrue ((S.run calc.new).is_open e) → boxes_at S.at out.new.items e
         ≡ boxes_at S.at out.old.items e ++ (context_step page.now.tree.now e.world page.now.height
-        (apart_at S.at page.now.apart.now e) (stretch_at S.at cb.now e) (context_at S.at context.old e) b
+        (apart_at S.at page.now.apart.now e) (band_at S.at cb.now e) (context_at S.at context.old e) b
         (frame_at S.at shape.now e)).after.boxes }
     ensures cause { BlamesButMem (S.run calc.old) (S.run calc.new)
         (AllFit page.now.tree.now (S.run calc.old).is_open (λ e. WalkFits page.now.tree.now e.world page.now.height
-        (apart_at S.at page.now.apart.now e) (when_starting (stretch_at S.at cb.now e)
+        (apart_at S.at page.now.apart.now e) (when_starting (band_at S.at cb.now e)
         (context_at S.at context.old e) b (frame_at S.at shape.now e)))) }
 {
     let band = content_between(calc, &cb.left, &shape.x);
@@ -244,15 +245,15 @@ fn lay_block<S: Steady>(
     ensures goes { Goes (S.run calc.old) (S.run calc.new) }
     ensures value { (e : Reading) → IsTrue ((S.run calc.new).is_open e) → laid_with S.at result context.new e
         ≡ without_boxes (block_step page.now.tree.now e.world page.now.height
-        (apart_at S.at page.now.apart.now e) (stretch_at S.at cb.now e) (context_at S.at context.old e) b
+        (apart_at S.at page.now.apart.now e) (band_at S.at cb.now e) (context_at S.at context.old e) b
         (cleared_at S.at cleared e) (frame_at S.at shape.now e)) }
     ensures boxes { (e : Reading) → IsTrue ((S.run calc.new).is_open e) → boxes_at S.at out.new.items e
         ≡ boxes_at S.at out.old.items e ++ (block_step page.now.tree.now e.world page.now.height
-        (apart_at S.at page.now.apart.now e) (stretch_at S.at cb.now e) (context_at S.at context.old e) b
+        (apart_at S.at page.now.apart.now e) (band_at S.at cb.now e) (context_at S.at context.old e) b
         (cleared_at S.at cleared e) (frame_at S.at shape.now e)).after.boxes }
     ensures cause { BlamesButMem (S.run calc.old) (S.run calc.new)
         (AllFit page.now.tree.now (S.run calc.old).is_open (λ e. WalkFits page.now.tree.now e.world page.now.height
-        (apart_at S.at page.now.apart.now e) (when_going_on (stretch_at S.at cb.now e)
+        (apart_at S.at page.now.apart.now e) (when_going_on (band_at S.at cb.now e)
         (context_at S.at context.old e) b (cleared_at S.at cleared e) (frame_at S.at shape.now e)))) }
 {
     let band = content_between(calc, &cb.left, &shape.x);
@@ -292,16 +293,16 @@ fn lay<S: Steady>(
     ensures goes { Goes (S.run calc.old) (S.run calc.new) }
     ensures value { (clears : Bool) (e : Reading) → IsTrue ((S.run calc.new).is_open e)
         → laid_with S.at result context.new e ≡ without_boxes (laid_of page.now.tree.now e.world page.now.height
-        (apart_at S.at page.now.apart.now e) (stretch_at S.at cb.now e) (context_at S.at context.old e) b
+        (apart_at S.at page.now.apart.now e) (band_at S.at cb.now e) (context_at S.at context.old e) b
         (record { top = S.at top.now e; clears = clears; cleared = cleared_at S.at cleared e })) }
     ensures boxes { (clears : Bool) (e : Reading) → IsTrue ((S.run calc.new).is_open e)
         → boxes_at S.at out.new.items e ≡ boxes_at S.at out.old.items e
         ++ (laid_of page.now.tree.now e.world page.now.height (apart_at S.at page.now.apart.now e)
-        (stretch_at S.at cb.now e) (context_at S.at context.old e) b
+        (band_at S.at cb.now e) (context_at S.at context.old e) b
         (record { top = S.at top.now e; clears = clears; cleared = cleared_at S.at cleared e })).after.boxes }
     ensures cause { BlamesButMem (S.run calc.old) (S.run calc.new)
         (AllFit page.now.tree.now (S.run calc.old).is_open (λ e. WalkFits page.now.tree.now e.world page.now.height
-        (apart_at S.at page.now.apart.now e) (when_reached (stretch_at S.at cb.now e)
+        (apart_at S.at page.now.apart.now e) (when_reached (band_at S.at cb.now e)
         (context_at S.at context.old e) b (S.at top.now e) (cleared_at S.at cleared e)))) }
 {
     let shape = shape(alloc, calc, page, cb, b, top);
@@ -331,13 +332,13 @@ fn flow<S: Steady>(
     ensures goes { Goes (S.run calc.old) (S.run calc.new) }
     ensures context { (e : Reading) → IsTrue ((S.run calc.new).is_open e) → context_at S.at context.new e
         ≡ (in_flow page.now.tree.now e.world page.now.height (apart_at S.at page.now.apart.now e)
-        (stretch_at S.at cb.now e) (context_at S.at context.old e) b).context }
+        (band_at S.at cb.now e) (context_at S.at context.old e) b).context }
     ensures boxes { (e : Reading) → IsTrue ((S.run calc.new).is_open e) → boxes_at S.at out.new.items e
         ≡ boxes_at S.at out.old.items e ++ (in_flow page.now.tree.now e.world page.now.height
-        (apart_at S.at page.now.apart.now e) (stretch_at S.at cb.now e) (context_at S.at context.old e) b).boxes }
+        (apart_at S.at page.now.apart.now e) (band_at S.at cb.now e) (context_at S.at context.old e) b).boxes }
     ensures cause { BlamesButMem (S.run calc.old) (S.run calc.new)
         (AllFit page.now.tree.now (S.run calc.old).is_open (λ e. WalkFits page.now.tree.now e.world page.now.height
-        (apart_at S.at page.now.apart.now e) (before_flow (stretch_at S.at cb.now e)
+        (apart_at S.at page.now.apart.now e) (before_flow (band_at S.at cb.now e)
         (context_at S.at context.old e) b))) }
 {
     let mut met = reach(alloc, calc, page, cb, context, b);
@@ -374,14 +375,14 @@ fn child<S: Steady>(
     ensures goes { Goes (S.run calc.old) (S.run calc.new) }
     ensures context { (e : Reading) → IsTrue ((S.run calc.new).is_open e) → context_at S.at context.new e
         ≡ (child_of page.now.tree.now e.world page.now.height (apart_at S.at page.now.apart.now e)
-        (stretch_at S.at cb.now e) (S.at top.now e) (context_at S.at context.old e) k).context }
+        (band_at S.at cb.now e) (S.at top.now e) (context_at S.at context.old e) k).context }
     ensures boxes { (e : Reading) → IsTrue ((S.run calc.new).is_open e) → boxes_at S.at out.new.items e
         ≡ boxes_at S.at out.old.items e ++ (child_of page.now.tree.now e.world page.now.height
-        (apart_at S.at page.now.apart.now e) (stretch_at S.at cb.now e) (S.at top.now e)
+        (apart_at S.at page.now.apart.now e) (band_at S.at cb.now e) (S.at top.now e)
         (context_at S.at context.old e) k).boxes }
     ensures cause { BlamesButMem (S.run calc.old) (S.run calc.new)
         (AllFit page.now.tree.now (S.run calc.old).is_open (λ e. WalkFits page.now.tree.now e.world page.now.height
-        (apart_at S.at page.now.apart.now e) (before_child (stretch_at S.at cb.now e) (S.at top.now e)
+        (apart_at S.at page.now.apart.now e) (before_child (band_at S.at cb.now e) (S.at top.now e)
         (context_at S.at context.old e) k))) }
 {
     if floats_at(page.tree, k) {
@@ -410,14 +411,14 @@ fn children<S: Steady>(
     ensures goes { Goes (S.run calc.old) (S.run calc.new) }
     ensures context { (e : Reading) → IsTrue ((S.run calc.new).is_open e) → context_at S.at context.new e
         ≡ (children_of page.now.tree.now e.world page.now.height (apart_at S.at page.now.apart.now e)
-        (stretch_at S.at cb.now e) (S.at top.now e) (context_at S.at context.old e) boxes.now).context }
+        (band_at S.at cb.now e) (S.at top.now e) (context_at S.at context.old e) boxes.now).context }
     ensures boxes { (e : Reading) → IsTrue ((S.run calc.new).is_open e) → boxes_at S.at out.new.items e
         ≡ boxes_at S.at out.old.items e ++ (children_of page.now.tree.now e.world page.now.height
-        (apart_at S.at page.now.apart.now e) (stretch_at S.at cb.now e) (S.at top.now e)
+        (apart_at S.at page.now.apart.now e) (band_at S.at cb.now e) (S.at top.now e)
         (context_at S.at context.old e) boxes.now).boxes }
     ensures cause { BlamesButMem (S.run calc.old) (S.run calc.new)
         (AllFit page.now.tree.now (S.run calc.old).is_open (λ e. WalkFits page.now.tree.now e.world page.now.height
-        (apart_at S.at page.now.apart.now e) (before_children (stretch_at S.at cb.now e) (S.at top.now e)
+        (apart_at S.at page.now.apart.now e) (before_children (band_at S.at cb.now e) (S.at top.now e)
         (context_at S.at context.old e) boxes.now))) }
 {
     for k in boxes {
@@ -441,14 +442,14 @@ pub fn content<S: Steady>(
     ensures goes { Goes (S.run calc.old) (S.run calc.new) }
     ensures context { (e : Reading) → IsTrue ((S.run calc.new).is_open e) → context_at S.at context.new e
         ≡ (content_of page.now.tree.now e.world page.now.height (apart_at S.at page.now.apart.now e) b
-        (stretch_at S.at cb.now e) (S.at top.now e) (context_at S.at context.old e)).context }
+        (band_at S.at cb.now e) (S.at top.now e) (context_at S.at context.old e)).context }
     ensures boxes { (e : Reading) → IsTrue ((S.run calc.new).is_open e) → boxes_at S.at out.new.items e
         ≡ boxes_at S.at out.old.items e ++ (content_of page.now.tree.now e.world page.now.height
-        (apart_at S.at page.now.apart.now e) b (stretch_at S.at cb.now e) (S.at top.now e)
+        (apart_at S.at page.now.apart.now e) b (band_at S.at cb.now e) (S.at top.now e)
         (context_at S.at context.old e)).boxes }
     ensures cause { BlamesButMem (S.run calc.old) (S.run calc.new)
         (AllFit page.now.tree.now (S.run calc.old).is_open (λ e. WalkFits page.now.tree.now e.world page.now.height
-        (apart_at S.at page.now.apart.now e) (before_content b (stretch_at S.at cb.now e)
+        (apart_at S.at page.now.apart.now e) (before_content b (band_at S.at cb.now e)
         (S.at top.now e) (context_at S.at context.old e)))) }
 {
     let tree = page.tree;

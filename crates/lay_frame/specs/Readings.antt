@@ -1,17 +1,13 @@
 -- What boxes of the flow mean at a reading.
 use Rattle.std.specs.Prelude.{ℤ, List, map}
-use Rattle.viz_base.specs.declared.layouts.Spot.{Spot}
 use Rattle.viz_base.specs.declared.renderings.Placed.{Placed}
 use Rattle.viz_calc.specs.World.{Reading}
-use Rattle.viz_calc.specs.Renderings.{placed_at}
+use Rattle.viz_calc.specs.Renderings.{placed_at, spot_at}
 use Rattle.layout_semantics.specs.Verticals.{Verticals}
 use Rattle.layout_semantics.specs.Rectangles.{Frame}
 use Rattle.lay_width.specs.Readings.{widths_at}
 use Rattle.lay_frame.specs.declared.frames.Edges.{Edges}
 use Rattle.lay_frame.specs.declared.frames.Shape.{Shape}
-
-abbrev pub spot_at : {N : Type 0} → (N → Reading → ℤ) → Spot N → Reading → Spot ℤ
-spot_at at s e = record { x = at s.x e; y = at s.y e }
 
 abbrev pub verticals_at : {N : Type 0} → (N → Reading → ℤ) → Edges N → Reading → Verticals
 verticals_at at v e = record {

@@ -1,4 +1,4 @@
-use Rattle.std.proofs.Common.{◌≡◌, ◌==◌, ℕ, ◌≤◌, ◌*◌, List, [], ◌∷◌, Option, Some, None, true, false, Bool, find, IsTrue, length, sum_by, refl, arith}
+use Rattle.std.proofs.Common.{◌≡◌, ◌==◌, ℕ, ◌≤◌, ◌*◌, List, [], ◌∷◌, Some, true, false, Bool, find, IsTrue, length, sum_by, refl, arith}
 use Rattle.std.specs.Prelude.{nat_le, ◌&&◌, cond}
 use Rattle.std.specs.List.{list_all}
 use Rattle.std.specs.Option.{option_map_or}

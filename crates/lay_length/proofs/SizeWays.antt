@@ -1,5 +1,5 @@
 use Rattle.std.proofs.Common.{◌≡◌, ℕ, zero, suc, ◌<◌, ℤ, List, [], ◌∷◌, Option, Some, None, slice_get, refl, sym, ap, ◌∙◌, arith}
-use Rattle.std.specs.Option.{option_map_or, option_and_then}
+use Rattle.std.specs.Option.{option_map_or}
 use Rattle.viz_base.specs.declared.lengths.Size.{Size}
 use Rattle.viz_base.specs.declared.lengths.Size.TheVariants as of_size
 use Rattle.viz_base.specs.declared.styles.Style.{Style}
@@ -7,15 +7,8 @@ use Rattle.viz_base.specs.declared.trees.BoxTree.{BoxTree}
 use Rattle.viz_base.specs.declared.worlds.World.{World}
 use Rattle.viz_base.specs.FontSizes.{default_size, parent_in, computed_size, font_size_in}
 use Rattle.layout_semantics.specs.Fonts.{font_size}
-use Rattle.layout_laws.proofs.FontSizes.{ParentsBefore, font-by-parent}
+use Rattle.layout_laws.proofs.FontSizes.{ParentsBefore, font-by-parent, parent-before}
 use Rattle.lay_length.specs.Ways.{size_way_to, size_way_in, size_way}
-
-pub parent-before : (parents : List (Option ℕ)) (node p : ℕ) → ParentsBefore parents → parent_in parents node ≡ Some p → p < node
-parent-before parents node p before e = before node p (by (slice_get parents node) e)
-  where
-    by : (o : Option (Option ℕ)) → option_and_then (λ parent. parent) o ≡ Some p → o ≡ Some (Some p)
-    by None e = absurd (cc)
-    by (Some o) e = ap Some e
 
 abbrev with_own : List Style → List (Option ℕ) → ℕ → ℕ → List ℤ → List ℤ
 with_own styles parents s node above = default_size s ∷ font_size_in styles parents s node ∷ above

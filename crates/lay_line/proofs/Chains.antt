@@ -2,9 +2,10 @@
 use Rattle.std.proofs.Common.{◌≡◌, ◌⊎◌, IsTrue, Option, Some, None, inl, inr}
 use Rattle.std.specs.Borrow.{GName}
 use Rattle.std.specs.Prelude.{Result, Ok, Err, IfErr}
+use Rattle.viz_base.specs.Numbers.{Rose}
 use Rattle.viz_calc.specs.World.{Reading}
 use Rattle.viz_calc.specs.Run.{Run, Goes, Blames, BlamesButMem, run_of}
-use Rattle.viz_calc.specs.State.{State, Rose, CauseButMem}
+use Rattle.viz_calc.specs.State.{State, CauseButMem}
 use Rattle.viz_calc.specs.declared.calc.Halt.{Halt}
 use Rattle.viz_calc.specs.declared.calc.Halt.TheVariants.{Mem, Coeff, Open}
 use Rattle.viz_calc.proofs.Runs.{Goes-then, Blames-then, BlamesButMem-then}

@@ -3,6 +3,7 @@ use Rattle.std.proofs.Common.{◌≡◌, ℕ, zero, suc, ◌+◌, ◌<◌, ◌�
 use Rattle.std.specs.Prelude.{ℤ}
 use Rattle.std.specs.List.{AllByRecursion}
 use Rattle.std.proofs.lemmas.List.{drop_more, at_drop_more, at_drop_all}
+use Rattle.viz_base.proofs.ListLemmas.{drop_at}
 use Rattle.layout_semantics.specs.Fragments.{ItemPlace, is_text_of, text_right}
 
 module _ {A B : Type 0} (test : B → Bool) (f : A → B) (xs : List A) (k : ℕ) where
@@ -43,11 +44,8 @@ all-later P f xs k a = let one : suc k ≡ k + 1 = omega arith in subst (λ n. A
 
 -- ---- an item of a list
 
-pub drop_is : {A : Type 0} (xs : List A) (k : ℕ) (x : A) → k < length xs → x ≡ get_or xs k x → drop k xs ≡ x ∷ drop (k + 1) xs
-drop_is xs k x lt is = at_drop_more (λ l. l) xs k x lt ∙ ap (λ y. y ∷ drop (k + 1) xs) (sym is)
-
 pub all-here : {A B : Type 0} (P : B → Type 0) (f : A → B) (xs : List A) (k : ℕ) (x : A) → k < length xs → x ≡ get_or xs k x → AllByRecursion P (map f (drop k xs)) → P (f x)
-all-here {A} P f xs k x lt is a = (subst (λ (l : List A). AllByRecursion P (map f l)) (drop_is xs k x lt is) a).0
+all-here {A} P f xs k x lt is a = (subst (λ (l : List A). AllByRecursion P (map f l)) (drop_at xs k x lt is) a).0
 
 pub all-from : {A B : Type 0} (P : B → Type 0) (f : A → B) (xs : List A) (k : ℕ) → AllByRecursion P (map f xs) → AllByRecursion P (map f (drop k xs))
 all-from P f [] zero a = a

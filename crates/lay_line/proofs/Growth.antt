@@ -9,6 +9,7 @@ use Rattle.viz_base.specs.declared.styles.Clear.TheVariants as of_clear
 use Rattle.viz_base.specs.declared.styles.Side.{Side}
 use Rattle.viz_base.specs.declared.styles.Side.TheVariants as of_side
 use Rattle.viz_base.specs.declared.styles.Style.{Style}
+use Rattle.viz_base.proofs.ListLemmas.{later_member}
 use Rattle.layout_semantics.specs.Floats.{FloatBox, float_at, float_top, placed_float}
 use Rattle.layout_semantics.specs.InlineContent.{Item, float_boxes}
 use Rattle.layout_semantics.specs.Lengths.{own}
@@ -22,7 +23,7 @@ use Rattle.lay_line.specs.steps.Measured.{Measured, held_with}
 use Rattle.lay_line.specs.steps.Meeting.{Slot, kept_at, placed_next, placed_all, met_at_spot, met_next, met_all, leaves, stands_at, top_in}
 use Rattle.lay_line.specs.steps.Tops.{lower, with_top, with_float, top_or}
 use Rattle.lay_line.specs.steps.Words.{size_in, spot_in, floats_with, reach_in}
-use Rattle.layout_laws.proofs.Members.{first_member, later_member}
+use Rattle.layout_laws.proofs.Members.{first_member}
 use Rattle.lay_line.proofs.Filling.{weight_joined, held_grows, bare_joined, boxes_joined}
 use Rattle.lay_line.proofs.Placing.{Within, max_within, IsNear, more_within, spot_near, grown_within, top_within}
 

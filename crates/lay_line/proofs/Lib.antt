@@ -1,4 +1,3 @@
-pub mod Kids
 pub mod Contents
 pub mod Lasts
 pub mod Ends

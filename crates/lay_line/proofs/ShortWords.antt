@@ -6,10 +6,11 @@ use Rattle.std.specs.Option.{option_map_or}
 use Rattle.std.specs.Str.{chars}
 use Rattle.viz_base.specs.declared.trees.BoxNode.{BoxNode}
 use Rattle.viz_base.specs.declared.trees.BoxTree.{BoxTree}
+use Rattle.viz_base.proofs.ListLemmas.{all_append}
 use Rattle.layout_semantics.specs.Order.{kids_of}
 use Rattle.layout_semantics.specs.InlineContent.{Item, start, finish, word, space, atomic, forced, float, Sort, a_float, an_atomic, a_break, a_text, an_inline, sort_of, text_of, text_items, letter_before, character_before, items_to, content}
 use Rattle.layout_laws.specs.Nested.{items_of_sort}
-use Rattle.layout_laws.proofs.Levels.{All-append, All-implied}
+use Rattle.layout_laws.proofs.Levels.{All-implied}
 use Rattle.lay_line.specs.steps.Content.{letters_in, IsShort}
 
 text-short : (at : ℕ) (cs : List ℕ) → AllByRecursion (λ i. letters_in i ≤ length cs) (text_items at cs)
@@ -48,7 +49,7 @@ text-most tree at = by (slice_get tree.boxes at) refl
 
 each-flat : (P : Item → Type 0) (f : ℕ → List Item) → ((k : ℕ) → AllByRecursion P (f k)) → (ks : List ℕ) → AllByRecursion P (flat_map f ks)
 each-flat P f all [] = tt
-each-flat P f all (k ∷ ks) = All-append P (f k) (flat_map f ks) (all k) (each-flat P f all ks)
+each-flat P f all (k ∷ ks) = all_append P (f k) (flat_map f ks) (all k) (each-flat P f all ks)
 
 items-short : (n : ℕ) (tree : BoxTree) (at : ℕ) → AllByRecursion IsShort (items_to n tree at)
 unfolding items_to
@@ -63,7 +64,7 @@ items-short (suc n) tree at = by (sort_of tree at) (each-flat IsShort (items_to 
     by an_atomic a = (none, tt)
     by a_break a = (none, tt)
     by a_text a = All-implied (λ i. letters_in i ≤ length (text_of tree at)) IsShort (text_items at (text_of tree at)) (λ i l. let most = text-most tree at in omega arith) (text-short at (text_of tree at))
-    by an_inline a = (none, All-append IsShort (flat_map (items_to n tree) (kids_of tree.boxes at)) (finish at ∷ []) a (none, tt))
+    by an_inline a = (none, all_append IsShort (flat_map (items_to n tree) (kids_of tree.boxes at)) (finish at ∷ []) a (none, tt))
 
 pub content-short : (tree : BoxTree) (at : ℕ) → AllByRecursion IsShort (content tree at)
 content-short tree at = each-flat IsShort (items_to (length tree.boxes) tree) (items-short (length tree.boxes) tree) (kids_of tree.boxes at)

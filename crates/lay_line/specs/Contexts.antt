@@ -2,8 +2,8 @@
 use Rattle.std.specs.Prelude.{ℤ, List, map, Option, option_map}
 use Rattle.viz_base.specs.declared.layouts.Inner.{Inner}
 use Rattle.viz_calc.specs.World.{Reading}
+use Rattle.viz_calc.specs.Renderings.{band_at}
 use Rattle.layout_semantics.specs.LineHeights.{InlineContext}
-use Rattle.lay_float.specs.Readings.{stretch_at}
 use Rattle.lay_line.specs.declared.containers.Container.{Container}
 
 abbrev pub inner_at : {N : Type 0} → (N → Reading → ℤ) → Inner N → Reading → Inner ℤ
@@ -19,5 +19,5 @@ context_at at c e =
       world = e.world;
       container = c.at;
       inner = table_at at c.inner.now e;
-      cb = stretch_at at c.cb.now e;
+      cb = band_at at c.cb.now e;
     }

@@ -4,12 +4,12 @@ use denote.Ref.{Bor}
 use Rattle.viz_base.specs.declared.layouts.Entry.{Entry}
 use Rattle.viz_base.specs.declared.layouts.Entry.TheVariants as of_entry
 use Rattle.viz_base.specs.declared.layouts.Spot.{Spot}
-use Rattle.viz_calc.specs.Renderings.{placed_at}
+use Rattle.viz_calc.specs.Renderings.{placed_at, spot_at}
 use Rattle.viz_calc.specs.World.{Reading}
 use Rattle.layout_semantics.specs.Fragments as fragments
 use Rattle.layout_semantics.specs.LineFilling as filling
 use Rattle.layout_semantics.specs.LineHeights as heights
-use Rattle.lay_float.specs.Readings.{floats_at, spot_at}
+use Rattle.lay_float.specs.Readings.{floats_at}
 use Rattle.lay_line.specs.Items.{item_of}
 use Rattle.lay_line.specs.declared.held.Held.{Held}
 use Rattle.lay_line.specs.declared.held.Piece.{Piece}

@@ -3,9 +3,10 @@ ghost use Rattle.std.specs.Prelude.{◌≡◌, ◌∷◌, IsTrue};
 ghost use Rattle.std.specs.Option.{option_to_list};
 ghost use Rattle.viz_calc.specs.World.{Reading};
 ghost use Rattle.viz_calc.specs.Run.{Goes, BlamesButMem};
+ghost use Rattle.viz_calc.specs.Renderings.{spot_at, band_at};
 ghost use Rattle.layout_semantics.specs.Floats.{floating, float_spot, with_float_at};
 ghost use Rattle.lay_float.specs.Limits.{AreHalf};
-ghost use Rattle.lay_float.specs.Readings.{floats_at, extent_at, spot_at, stretch_at};
+ghost use Rattle.lay_float.specs.Readings.{floats_at, extent_at};
 ghost use Rattle.lay_float.specs.steps.Lent.{lent_at};
 
 use crate::trees::{clear_at, side_at};
@@ -27,10 +28,10 @@ pub fn place_float<S: Steady>(
 ) -> Spot<S::Num>
     ensures goes { Goes (S.run calc.old) (S.run calc.new) }
     ensures value { (e : Reading) → IsTrue ((S.run calc.new).is_open e) → spot_at S.at result e
-        ≡ float_spot (floating tree.now at (extent_at S.at size.now e) (stretch_at S.at cb.now e))
+        ≡ float_spot (floating tree.now at (extent_at S.at size.now e) (band_at S.at cb.now e))
         (floats_at S.at floats.old e) (lent_at S.at least.entry e) (S.at y.now e) }
     ensures appended { (e : Reading) → IsTrue ((S.run calc.new).is_open e) → floats_at S.at floats.new e
-        ≡ with_float_at (floating tree.now at (extent_at S.at size.now e) (stretch_at S.at cb.now e))
+        ≡ with_float_at (floating tree.now at (extent_at S.at size.now e) (band_at S.at cb.now e))
         (floats_at S.at floats.old e) (spot_at S.at result e) }
     ensures cause { BlamesButMem (S.run calc.old) (S.run calc.new) ((e : Reading) → IsTrue ((S.run calc.old).is_open e)
         → AreHalf (floats_at S.at floats.old e) (S.at size.now.width e ∷ S.at size.now.height e

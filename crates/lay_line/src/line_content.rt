@@ -3,9 +3,10 @@ ghost use Rattle.std.specs.Prelude.{◌≡◌, ◌-ℤ◌, pos, ◌++◌, ◌∷
 ghost use Rattle.std.specs.Int.{int_max};
 ghost use Rattle.viz_calc.specs.World.{Reading};
 ghost use Rattle.viz_calc.specs.Run.{Stands, Goes, Fits, Blames, BlamesButMem};
+ghost use Rattle.viz_calc.specs.Renderings.{band_at};
 ghost use Rattle.layout_semantics.specs.LineFilling.{band_width as width_of};
 ghost use Rattle.layout_semantics.specs.Lines.{aligned};
-ghost use Rattle.lay_float.specs.Readings.{floats_at, stretch_at};
+ghost use Rattle.lay_float.specs.Readings.{floats_at};
 ghost use Rattle.lay_line.specs.Contexts.{context_at};
 ghost use Rattle.lay_line.specs.Items.{bare_of};
 ghost use Rattle.lay_line.specs.Limits.{PlacesFit, StandFits};
@@ -34,7 +35,7 @@ use viz_calc::Steady;
 fn spare<S: Steady>(calc: &mut S, room: &Band<S::Num>, held: &S::Num) -> S::Num
     ensures goes { Goes (S.run calc.old) (S.run calc.new) }
     ensures value { Stands (S.run calc.new) (S.at result)
-        (λ e. int_max (pos 0) (width_of (stretch_at S.at room.now e) -ℤ S.at held.now e)) }
+        (λ e. int_max (pos 0) (width_of (band_at S.at room.now e) -ℤ S.at held.now e)) }
     ensures cause { Blames (S.run calc.old) (S.run calc.new) ((e : Reading) → IsTrue ((S.run calc.old).is_open e)
         → OnLine (S.at room.now.left e ∷ S.at room.now.right e ∷ S.at held.now e ∷ [])) }
 {
@@ -50,7 +51,7 @@ fn spare<S: Steady>(calc: &mut S, room: &Band<S::Num>, held: &S::Num) -> S::Num
 fn moved<S: Steady>(calc: &mut S, align: Align, room: &Band<S::Num>, held: &S::Num) -> S::Num
     ensures goes { Goes (S.run calc.old) (S.run calc.new) }
     ensures value { Stands (S.run calc.new) (S.at result)
-        (λ e. aligned align (width_of (stretch_at S.at room.now e) -ℤ S.at held.now e)) }
+        (λ e. aligned align (width_of (band_at S.at room.now e) -ℤ S.at held.now e)) }
     ensures cause { Blames (S.run calc.old) (S.run calc.new) ((e : Reading) → IsTrue ((S.run calc.old).is_open e)
         → OnLine (S.at room.now.left e ∷ S.at room.now.right e ∷ S.at held.now e ∷ [])) }
 {
@@ -74,7 +75,7 @@ pub fn content_left<S: Steady>(
 ) -> S::Num
     ensures goes { Goes (S.run calc.old) (S.run calc.new) }
     ensures value { Stands (S.run calc.new) (S.at result) (λ e. left_in (context_at S.at container.now e)
-        (stretch_at S.at room.now e) (S.at held.now e)) }
+        (band_at S.at room.now e) (S.at held.now e)) }
     ensures cause { Blames (S.run calc.old) (S.run calc.new) ((e : Reading) → IsTrue ((S.run calc.old).is_open e)
         → OnLine (S.at room.now.left e ∷ S.at room.now.right e ∷ S.at held.now e ∷ [])) }
 {
@@ -94,7 +95,7 @@ pub fn line_box<S: Steady>(
 ) -> Entry<S::Num>
     ensures goes { Goes (S.run calc.old) (S.run calc.new) }
     ensures value { (e : Reading) → IsTrue ((S.run calc.new).is_open e) → entry_at S.at result e
-        ≡ box_in (context_at S.at container.now e) (stretch_at S.at room.now e) (S.at top.now e) (S.at bottom.now e) }
+        ≡ box_in (context_at S.at container.now e) (band_at S.at room.now e) (S.at top.now e) (S.at bottom.now e) }
     ensures cause { Blames (S.run calc.old) (S.run calc.new) (Fits (S.run calc.old) (λ e. S.at room.now.left e
         ∷ S.at top.now e ∷ S.at room.now.right e ∷ S.at bottom.now e ∷ [])) }
 {

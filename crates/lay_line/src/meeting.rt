@@ -3,9 +3,10 @@ ghost use Rattle.std.specs.Prelude.{◌≡◌, ◌++◌, ◌∷◌, [], IsTrue, 
 ghost use Rattle.std.specs.Ordering.{int_eq};
 ghost use Rattle.viz_calc.specs.World.{Reading};
 ghost use Rattle.viz_calc.specs.Run.{Goes, Fits, Blames, BlamesButMem};
+ghost use Rattle.viz_calc.specs.Renderings.{spot_at};
 ghost use Rattle.layout_semantics.specs.InlineContent.{float_boxes};
 ghost use Rattle.layout_semantics.specs.LineFilling.{fits as fits_in};
-ghost use Rattle.lay_float.specs.Readings.{boxes_at, floats_at, extent_at, spot_at};
+ghost use Rattle.lay_float.specs.Readings.{boxes_at, floats_at, extent_at};
 ghost use Rattle.lay_line.specs.Contexts.{context_at};
 ghost use Rattle.lay_line.specs.Items.{item_of, bare_of};
 ghost use Rattle.lay_line.specs.Readings.{met_at, slot_at, spots_at};

@@ -3,11 +3,11 @@ ghost use Rattle.std.specs.Prelude.{◌≡◌, ◌++◌, ◌∷◌, [], IsTrue, 
 ghost use Rattle.std.specs.List.{AllByRecursion};
 ghost use Rattle.viz_calc.specs.World.{Reading};
 ghost use Rattle.viz_calc.specs.Run.{Stands, Goes, Fits, Blames, BlamesButMem};
+ghost use Rattle.viz_calc.specs.Renderings.{band_at};
 ghost use Rattle.layout_semantics.specs.Blocks.{node_of};
 ghost use Rattle.layout_semantics.specs.Fonts.{text_width as text_width_of};
 ghost use Rattle.layout_semantics.specs.InlineContent.{start, finish, atomic};
 ghost use Rattle.layout_semantics.specs.LineFilling.{band_width as width_of, used_edges};
-ghost use Rattle.lay_float.specs.Readings.{stretch_at};
 ghost use Rattle.lay_line.specs.Contexts.{context_at};
 ghost use Rattle.lay_line.specs.Items.{item_of, items_of};
 ghost use Rattle.lay_line.specs.Readings.{piece_at, pieces_at};
@@ -31,9 +31,9 @@ use viz_calc::Steady;
 /// From edge to edge.
 pub fn band_width<S: Steady>(calc: &mut S, band: &Band<S::Num>) -> S::Num
     ensures goes { Goes (S.run calc.old) (S.run calc.new) }
-    ensures value { Stands (S.run calc.new) (S.at result) (λ e. width_of (stretch_at S.at band.now e)) }
+    ensures value { Stands (S.run calc.new) (S.at result) (λ e. width_of (band_at S.at band.now e)) }
     ensures cause { Blames (S.run calc.old) (S.run calc.new)
-        (Fits (S.run calc.old) (λ e. width_of (stretch_at S.at band.now e) ∷ [])) }
+        (Fits (S.run calc.old) (λ e. width_of (band_at S.at band.now e) ∷ [])) }
 {
     calc.sub(&band.right, &band.left)
 }
@@ -51,7 +51,7 @@ fn edges_width<S: Steady>(
     ensures value { Stands (S.run calc.new) (S.at result) (λ e. used_edges (context_at S.at container.now e)
         (margin.now ∷ border.now ∷ padding.now ∷ [])) }
     ensures cause { Blames (S.run calc.old) (S.run calc.new) ((e : Reading) → IsTrue ((S.run calc.old).is_open e)
-        → SideFits container.now.tree.now e.world (width_of (stretch_at S.at container.now.cb.now e)) margin.now
+        → SideFits container.now.tree.now e.world (width_of (band_at S.at container.now.cb.now e)) margin.now
         border.now padding.now) }
 {
     let room = band_width(calc, container.cb);

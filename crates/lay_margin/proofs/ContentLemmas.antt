@@ -3,15 +3,16 @@ use Rattle.std.proofs.Common.{◌≡◌, ℕ, Bool, true, false, not, List, [], 
 use Rattle.std.specs.Prelude.{◌==◌, ◌||◌}
 use Rattle.std.specs.List.{list_any}
 use Rattle.std.proofs.lemmas.List.Folds.{list_any-append}
+use Rattle.std.proofs.Math.Bool.{or-false}
 use Rattle.viz_base.specs.declared.trees.BoxTree.{BoxTree}
 use Rattle.viz_base.specs.declared.trees.Kind.{Kind}
 use Rattle.viz_base.specs.declared.trees.Kind.TheVariants as of_kind
 use Rattle.layout_semantics.specs.Blocks.{kind_of}
 use Rattle.layout_semantics.specs.Order.{kids_of}
-use Rattle.layout_semantics.specs.InlineContent.{Item, start, finish, word, space, atomic, forced, float, Sort, a_float, an_atomic, a_break, a_text, an_inline, sort_of, text_of, text_items, letter_before, character_before, content, float_boxes, makes_line, is_floated_at}
+use Rattle.layout_semantics.specs.InlineContent.{Item, start, finish, word, space, atomic, forced, float, an_inline, sort_of, text_of, text_items, letter_before, character_before, content, float_boxes, makes_line, is_floated_at}
 use Rattle.layout_semantics.proofs.Pages.{forest}
 use Rattle.layout_laws.specs.Nested.{box_items, items_of_sort}
-use Rattle.layout_laws.proofs.Levels.{content-by-boxes}
+use Rattle.layout_laws.proofs.Levels.{content-by-boxes, sort_by}
 use Rattle.lay_margin.specs.steps.Contents.{begins_with_edges, finishes_with_edges, in_line_by, in_line, own_floats_by, own_floats}
 
 -- ---- texts
@@ -55,16 +56,7 @@ text-floats at (c ∷ cs) = by (c == 32) (text_items at cs) (text-floats at cs)
 
 -- ---- boxes
 
--- what a box is in inline content, by whether it floats and by its kind
-sort_by : Bool → Kind → Sort
-sort_by true kind = a_float
-sort_by false of_kind.Chars = a_text
-sort_by false of_kind.Break = a_break
-sort_by false of_kind.Inline = an_inline
-sort_by false _ = an_atomic
-
 sort-by : (tree : BoxTree) (b : ℕ) (f : Bool) (k : Kind) → is_floated_at tree b ≡ f → kind_of tree b ≡ k → sort_of tree b ≡ sort_by f k
-unfolding sort_by
 sort-by tree b true k e g = rw e refl
 sort-by tree b false of_kind.Chars e g = rw (e, g) refl
 sort-by tree b false of_kind.Break e g = rw (e, g) refl
@@ -81,14 +73,9 @@ module _ (tree : BoxTree) (b : ℕ) where
       ≡ (begins_with_edges tree b || (list_any (makes_line tree) (content tree b) || finishes_with_edges tree b))
   inline-line =
       ap (λ rest. begins_with_edges tree b || rest) (list_any-append (makes_line tree) (content tree b) (finish b ∷ [])
-      ∙ ap (λ last. list_any (makes_line tree) (content tree b) || last) (or_false (finishes_with_edges tree b)))
-    where
-      or_false : (x : Bool) → (x || false) ≡ x
-      or_false true = refl
-      or_false false = refl
+      ∙ ap (λ last. list_any (makes_line tree) (content tree b) || last) (or-false (finishes_with_edges tree b)))
 
   line-sorted : (f : Bool) (k : Kind) → list_any (makes_line tree) (items_of_sort tree b (content tree b) (sort_by f k)) ≡ in_line_by tree b f k
-  unfolding sort_by
   line-sorted true k = refl
   line-sorted false of_kind.Chars = text-line tree b (text_of tree b)
   line-sorted false of_kind.Break = refl
@@ -111,7 +98,6 @@ module _ (tree : BoxTree) (b : ℕ) where
   floats-append (float at ∷ xs) ys = ap (λ fs. at ∷ fs) (floats-append xs ys)
 
   floats-sorted : (f : Bool) (k : Kind) → float_boxes (items_of_sort tree b (content tree b) (sort_by f k)) ≡ own_floats_by tree b f k
-  unfolding sort_by
   floats-sorted true k = refl
   floats-sorted false of_kind.Chars = text-floats b (text_of tree b)
   floats-sorted false of_kind.Break = refl

@@ -5,18 +5,8 @@ use Rattle.viz_base.specs.declared.trees.BoxTree.{BoxTree}
 use Rattle.layout_semantics.specs.Order.{kids_of}
 use Rattle.layout_semantics.specs.FlowBoxes.{flow_children}
 use Rattle.layout_semantics.specs.InlineContent.{content, float_boxes, holds_inline}
-use Rattle.layout_semantics.proofs.Forest.{IsKid}
-use Rattle.layout_semantics.proofs.Pages.{forest}
 use Rattle.layout_laws.proofs.Levels.{IsFrom}
 use Rattle.layout_laws.proofs.LeadLevels.{children-from}
-
-kid-in : (tree : BoxTree) (b : ℕ) (ks : List ℕ) (i : ℕ) → AllByRecursion (IsKid tree.boxes b) ks → i < length ks → (b < slice_index_or ks i 0) × (slice_index_or ks i 0 < length tree.boxes)
-kid-in tree b [] i a l = absurd (omega arith)
-kid-in tree b (k ∷ ks) zero a l = (a.0.after, a.0.within)
-kid-in tree b (k ∷ ks) (suc i) a l = kid-in tree b ks i a.1 (omega arith)
-
-pub kid-at : (tree : BoxTree) (b i : ℕ) (kids : List ℕ) → kids ≡ kids_of tree.boxes b → i < length kids → (b < slice_index_or kids i 0) × (slice_index_or kids i 0 < length tree.boxes)
-kid-at tree b i kids e l = kid-in tree b kids i (subst (AllByRecursion (IsKid tree.boxes b)) (sym e) ((forest tree).kids b)) l
 
 child-in : (tree : BoxTree) (b : ℕ) (ks : List ℕ) (i : ℕ) → AllByRecursion (IsFrom tree.boxes (suc b)) ks → i < length ks → (b < slice_index_or ks i 0) × (slice_index_or ks i 0 < length tree.boxes)
 child-in tree b [] i a l = absurd (omega arith)

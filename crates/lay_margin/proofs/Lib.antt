@@ -4,5 +4,4 @@ pub mod ContentLemmas
 pub mod Levels
 pub mod Definite
 pub mod Joined
-pub mod Blamed
 pub mod Fitted

@@ -1,13 +1,10 @@
 -- What adjoining margins, with the floats between them, mean at a reading.
 use Rattle.std.specs.Prelude.{◌≡◌, ℕ, ℤ, List, map, Bool, Option, Some, None}
-use Rattle.viz_base.specs.declared.layouts.Band.{Band}
 use Rattle.viz_base.specs.declared.layouts.Lead.{Lead}
 use Rattle.viz_base.specs.declared.layouts.Waiting.{Waiting}
 use Rattle.viz_calc.specs.World.{Reading}
+use Rattle.viz_calc.specs.Renderings.{band_at}
 use Rattle.layout_semantics.specs.Leads.{Leading, is_up_to, none_passed}
-
-abbrev pub band_at : {N : Type 0} → (N → Reading → ℤ) → Band N → Reading → Band ℤ
-band_at at b e = record { left = at b.left e; right = at b.right e }
 
 abbrev pub waiting_at : {N : Type 0} → (N → Reading → ℤ) → Waiting N → Reading → Waiting ℤ
 waiting_at at f e = record { at = f.at; cb = band_at at f.cb e }

@@ -2,8 +2,9 @@
 ghost use Rattle.std.specs.Prelude.{◌≡◌, ◌<◌, ℤ, List, ◌++◌, length, IsTrue, IfOk, IfErr};
 ghost use Rattle.viz_calc.specs.World.{Reading};
 ghost use Rattle.viz_calc.specs.State.{Grows, AreOpen, AllSmall, CauseButMem};
+ghost use Rattle.viz_calc.specs.Renderings.{band_at};
 ghost use Rattle.layout_semantics.specs.Leads.{lead as lead_of};
-ghost use Rattle.lay_margin.specs.Readings.{IsLeadAt, band_at, passed_by};
+ghost use Rattle.lay_margin.specs.Readings.{IsLeadAt, passed_by};
 ghost use Rattle.lay_margin.specs.Runs.{run_at, IsRunOf};
 ghost use Rattle.lay_margin.specs.Fitting.{ends, LeadFits};
 

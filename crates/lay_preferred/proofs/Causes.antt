@@ -8,7 +8,7 @@ use Rattle.viz_base.specs.declared.trees.BoxTree.{BoxTree}
 use Rattle.viz_base.specs.declared.worlds.World.{World}
 use Rattle.viz_calc.specs.State.{AllSmall}
 use Rattle.viz_calc.specs.World.{Reading}
-use Rattle.viz_calc.specs.Run.{Run, Goes, Blames, BlamesButMem}
+use Rattle.viz_calc.specs.Run.{Run, Goes}
 use Rattle.layout_semantics.specs.InlineContent.{Item, start, finish, word, space, atomic, forced, float, content}
 use Rattle.layout_semantics.specs.Order.{kids_of}
 use Rattle.layout_semantics.specs.Preferred.{inline_content, blocks, inside_of, preferred}
@@ -19,12 +19,6 @@ use Rattle.lay_preferred.specs.steps.Parts.{sized, width_of, widths_of, IsInside
 use Rattle.lay_preferred.proofs.Caps.{is-capped, inside-capped, given-fits, around-fits, replaced-fits, start-fits, end-fits, content-sizes}
 use Rattle.lay_preferred.proofs.Levels.{content-inside}
 use Rattle.lay_preferred.proofs.Sizes.{run_reach, beside-size}
-
-pub ButMem-from : (a b : Run) (fits more : Type 0) → (more → fits) → Blames a b fits → BlamesButMem a b more
-ButMem-from a b fits more w p = record { coeff = λ m. p.coeff (w m); opens = p.opens }
-
-pub ButMem-given : (a b : Run) (fits more : Type 0) → (more → fits) → BlamesButMem a b fits → BlamesButMem a b more
-ButMem-given a b fits more w p = record { coeff = λ m. p.coeff (w m); opens = p.opens }
 
 -- ---- one item of a list
 

@@ -10,6 +10,7 @@ use Rattle.viz_base.specs.declared.lengths.Length.{Length}
 use Rattle.viz_base.specs.declared.lengths.Length.TheVariants as of_length
 use Rattle.viz_base.specs.declared.trees.BoxTree.{BoxTree}
 use Rattle.viz_base.specs.declared.worlds.World.{World}
+use Rattle.viz_base.proofs.ListLemmas.{later_member}
 use Rattle.layout_semantics.specs.InlineContent.{Item, start, finish, word, space, atomic, forced, float, content, inner_items, inner_boxes, start_edges, end_edges}
 use Rattle.layout_semantics.specs.Lengths.{used, total}
 use Rattle.layout_semantics.specs.Lists.{table_of}
@@ -17,7 +18,7 @@ use Rattle.layout_semantics.specs.LineFilling.{item_width}
 use Rattle.layout_semantics.specs.LineHeights.{InlineContext}
 use Rattle.layout_semantics.specs.Preferred.{absolute_part, measured_width, preferred_item, preferred_stretch, preferred_floats, preferred_inline, greatest, with_least, with_most}
 use Rattle.layout_semantics.specs.Stretches.{stretches, pieces, may_part, never, what_stays}
-use Rattle.layout_laws.proofs.Members.{first_member, later_member}
+use Rattle.layout_laws.proofs.Members.{first_member}
 use Rattle.layout_laws.proofs.Greatest.{All-at}
 use Rattle.layout_laws.proofs.Levels.{IsFrom, inner_boxes-from}
 use Rattle.layout_laws.specs.Outer.{outer_widths}

@@ -1,35 +1,29 @@
 -- The preferred widths of a box by those of the boxes in it, as the code finds them.
-use Rattle.std.proofs.Common.{◌≡◌, ℕ, ◌<◌, ◌+◌, zero, suc, List, [], ◌∷◌, map, drop, length, sym, subst, ap, ◌∙◌, arith}
+use Rattle.std.proofs.Common.{◌≡◌, ℕ, ◌<◌, ◌+◌, zero, suc, List, [], ◌∷◌, map, drop, length, sym, subst, ◌∙◌, arith}
 use Rattle.std.specs.List.{AllByRecursion}
 use Rattle.viz_base.specs.declared.trees.BoxTree.{BoxTree}
 use Rattle.viz_base.specs.declared.worlds.World.{World}
-use Rattle.layout_semantics.specs.InlineContent.{box_of, content, inner_boxes}
+use Rattle.layout_semantics.specs.InlineContent.{box_of, content}
 use Rattle.layout_semantics.specs.Order.{kids_of}
-use Rattle.layout_semantics.specs.Preferred.{Inside, a_replaced, inline_content, blocks, inside_of, preferred}
+use Rattle.layout_semantics.specs.Preferred.{a_replaced, inline_content, blocks, inside_of, preferred}
 use Rattle.layout_semantics.proofs.Pages.{forest}
-use Rattle.layout_laws.specs.Nested.{preferred_of_sort}
-use Rattle.layout_laws.specs.Outer.{outer_widths}
 use Rattle.layout_laws.proofs.Levels.{IsFrom, All-implied, content-from}
-use Rattle.layout_laws.proofs.PreferredWidths.{by_sort}
+use Rattle.layout_laws.proofs.PreferredWidths.{with_sort}
 use Rattle.lay_preferred.specs.steps.Outer.{replaced, outer}
 use Rattle.lay_preferred.specs.steps.Parts.{IsInside, inline_in, blocks_in}
 use Rattle.lay_preferred.proofs.ChildColumns.{blocks-same}
 use Rattle.lay_preferred.proofs.Inline.{inline-same}
 
-with-sort : (tree : BoxTree) (w : World) (at : ℕ) (s : Inside) → at < length tree.boxes → inside_of tree at ≡ s
-    → preferred tree w at ≡ preferred_of_sort tree w at (outer_widths tree w (inner_boxes tree at)) (outer_widths tree w (kids_of tree.boxes at)) s
-with-sort tree w at s l e = by_sort tree w at l ∙ ap (preferred_of_sort tree w at (outer_widths tree w (inner_boxes tree at)) (outer_widths tree w (kids_of tree.boxes at))) e
-
 pub of-replaced : (tree : BoxTree) (w : World) (at : ℕ) → at < length tree.boxes → inside_of tree at ≡ a_replaced → replaced tree w at ≡ preferred tree w at
 unfolding replaced
-of-replaced tree w at l e = sym (with-sort tree w at a_replaced l e)
+of-replaced tree w at l e = sym (with_sort tree w at a_replaced l e)
 
 pub of-inline : (tree : BoxTree) (w : World) (at : ℕ) → at < length tree.boxes → inside_of tree at ≡ inline_content → inline_in tree w at ≡ preferred tree w at
-of-inline tree w at l e = inline-same tree w at ∙ sym (with-sort tree w at inline_content l e)
+of-inline tree w at l e = inline-same tree w at ∙ sym (with_sort tree w at inline_content l e)
 
 pub of-blocks : (tree : BoxTree) (w : World) (at : ℕ) → at < length tree.boxes → inside_of tree at ≡ blocks → blocks_in tree w at ≡ preferred tree w at
 unfolding blocks_in outer
-of-blocks tree w at l e = blocks-same tree (outer tree w) (kids_of tree.boxes at) ∙ sym (with-sort tree w at blocks l e)
+of-blocks tree w at l e = blocks-same tree (outer tree w) (kids_of tree.boxes at) ∙ sym (with_sort tree w at blocks l e)
 
 -- the boxes of inline content are inside
 pub content-inside : (tree : BoxTree) (b : ℕ) → AllByRecursion (IsInside tree b) (content tree b)

@@ -10,6 +10,7 @@ use Rattle.viz_base.specs.Trees.{ascends}
 use Rattle.viz_base.specs.declared.trees.BoxNode.{BoxNode}
 use Rattle.viz_base.specs.declared.trees.BoxTree.{BoxTree}
 use Rattle.viz_base.specs.declared.worlds.World.{World}
+use Rattle.viz_base.proofs.ListLemmas.{all_append}
 use Rattle.viz_calc.specs.World.{Reading}
 use Rattle.layout_semantics.specs.Blocks.{parent_of}
 use Rattle.layout_semantics.specs.InlineContent.{Item, start, finish, atomic, forced, float, Sort, a_float, an_atomic, a_break, a_text, an_inline, sort_of, text_of, text_items, content}
@@ -19,7 +20,7 @@ use Rattle.layout_semantics.proofs.Forest.{IsKid, both}
 use Rattle.layout_semantics.proofs.Orders.{document_order-is}
 use Rattle.layout_semantics.proofs.Pages.{forest}
 use Rattle.layout_laws.specs.Nested.{items_of_sort, box_items}
-use Rattle.layout_laws.proofs.Levels.{All-append, content-by-boxes}
+use Rattle.layout_laws.proofs.Levels.{content-by-boxes}
 use Rattle.lay_reach.proofs.Texts.{IsTextAt, text-only}
 use Rattle.lay_preferred.specs.Fitting.{LengthsFit, WordFits, WholeTextFits, room_of, room_by, room_inside, BoxFits, BoxesFit, AreWithin, AreSmallBoxes}
 use Rattle.lay_preferred.specs.steps.Outer.{outer}
@@ -29,7 +30,7 @@ use Rattle.lay_preferred.proofs.Caps.{start-size, end-size, is-capped, inside-ca
 -- ---- how many boxes are in a box
 
 -- a child of a box that is between two places is before the second
-abbrev IsClosed : List BoxNode → ℕ → ℕ → Type 0
+abbrev pub IsClosed : List BoxNode → ℕ → ℕ → Type 0
 IsClosed boxes from stop = (x p : ℕ) → parent_of boxes x ≡ Some p → from ≤ p → p < stop → x < stop
 
 module _ (tree : BoxTree) where
@@ -41,7 +42,7 @@ module _ (tree : BoxTree) where
       by (Some b) e = ap Some e
 
   -- what is in a child stands before the next child
-  before-next : (at k next : ℕ) → IsKid tree.boxes at k → IsKid tree.boxes at next → k < next → IsClosed tree.boxes k next
+  pub before-next : (at k next : ℕ) → IsKid tree.boxes at k → IsKid tree.boxes at next → k < next → IsClosed tree.boxes k next
   before-next at k next i j l = λ x p e f m. by x p e f m (nat_lt x next) refl (x == next) refl
     where
       by : (x p : ℕ) → parent_of tree.boxes x ≡ Some p → k ≤ p → p < next → (a : Bool) → nat_lt x next ≡ a → (b : Bool) → (x == next) ≡ b → x < next
@@ -176,7 +177,7 @@ module _ (tree : BoxTree) where
           let inside = h.size in
           let is = cap-is k l in
           record {
-            words = (tt, All-append (WordFits tree w) (content tree k) (finish k ∷ []) h.words (tt, tt));
+            words = (tt, all_append (WordFits tree w) (content tree k) (finish k ∷ []) h.words (tt, tt));
             size = omega (arith, before, behind, first, last, parts, inside, is);
           }
 
@@ -192,7 +193,7 @@ module _ (tree : BoxTree) where
           let all = sum_by-cons (λ (n : ℕ). n) (cap_of k) (map cap_of ks) in
           let parts = rooms-append (box_items tree k) (flat_map (box_items tree) ks) in
           record {
-            words = All-append (WordFits tree w) (box_items tree k) (flat_map (box_items tree) ks) one.words rest.words;
+            words = all_append (WordFits tree w) (box_items tree k) (flat_map (box_items tree) ks) one.words rest.words;
             size = omega (arith, own, others, all, parts);
           }
 

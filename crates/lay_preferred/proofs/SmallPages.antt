@@ -8,7 +8,7 @@ use Rattle.std.proofs.lemmas.Bool.{eqb-false}
 use Rattle.std.proofs.lemmas.Bool.Decides.{nat_tests}
 use Rattle.std.proofs.lemmas.List.Sums.{sum_by-cons}
 use Rattle.viz_base.specs.Reaches.{is_of_element, ratio, quotient_up, lengths_of, raise_extent, font_extent, intrinsic_extent, style_extent}
-use Rattle.viz_base.specs.Styles.{sides_of}
+use Rattle.viz_base.specs.Styles.{sides_of, nothing}
 use Rattle.viz_base.specs.Trees.{AreAlikeButSize, has_box, is_chars, is_line, is_replaced}
 use Rattle.viz_base.specs.declared.lengths.Length.{Length}
 use Rattle.viz_base.specs.declared.lengths.Length.TheVariants as of_length
@@ -19,14 +19,14 @@ use Rattle.viz_base.specs.declared.trees.BoxTree.{BoxTree}
 use Rattle.viz_base.specs.declared.trees.Kind.{Kind}
 use Rattle.viz_base.specs.declared.trees.Kind.TheVariants as of_kind
 use Rattle.viz_base.specs.declared.worlds.World.{World}
+use Rattle.viz_base.proofs.ListLemmas.{slice_some}
 use Rattle.viz_calc.specs.World.{Reading}
 use Rattle.viz_calc.specs.State.{AllSmall}
 use Rattle.layout_semantics.specs.DefiniteHeights.{own_height}
 use Rattle.layout_semantics.specs.Blocks.{kind_of, node_of, style_of}
 use Rattle.layout_semantics.specs.InlineContent.{Item, text_of, text_items}
-use Rattle.layout_semantics.specs.Lengths.{used_if_absolute, own_style, own, nothing, no_sides}
+use Rattle.layout_semantics.specs.Lengths.{used_if_absolute, own_style, own, no_sides}
 use Rattle.layout_semantics.specs.Replaced.{intrinsic, by_ratio}
-use Rattle.layout_laws.proofs.PageParts.{slice_some}
 use Rattle.layout_laws.proofs.TreeFacts.{slice_in}
 use Rattle.layout_laws.proofs.Reaching.{ratio_least}
 use Rattle.lay_length.specs.Ways.{size_way}

@@ -8,13 +8,14 @@ use Rattle.viz_base.specs.declared.lengths.Sides.{Sides}
 use Rattle.viz_base.specs.declared.styles.Style.{Style}
 use Rattle.viz_base.specs.declared.trees.BoxTree.{BoxTree}
 use Rattle.viz_base.specs.declared.worlds.World.{World}
+use Rattle.viz_base.specs.Styles.{nothing}
 use Rattle.viz_calc.specs.State.{AllSmall}
 use Rattle.viz_calc.specs.World.{Reading}
 use Rattle.layout_semantics.specs.Blocks.{node_of}
 use Rattle.layout_semantics.specs.DefiniteHeights.{own_height}
 use Rattle.layout_semantics.specs.Fonts.{text_width}
 use Rattle.layout_semantics.specs.InlineContent.{Item, start, finish, word, space, atomic, float, text_of, text_items, content}
-use Rattle.layout_semantics.specs.Lengths.{used_if_absolute, own, nothing, margins, borders, paddings}
+use Rattle.layout_semantics.specs.Lengths.{used_if_absolute, own, margins, borders, paddings}
 use Rattle.layout_semantics.specs.Order.{kids_of}
 use Rattle.layout_semantics.specs.Preferred.{Inside, a_replaced, inline_content, blocks, inside_of}
 use Rattle.layout_semantics.specs.Replaced.{intrinsic}

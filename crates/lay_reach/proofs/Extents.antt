@@ -20,12 +20,12 @@ use Rattle.viz_base.specs.declared.trees.BoxTree.{BoxTree}
 use Rattle.viz_base.specs.declared.trees.Kind.{Kind}
 use Rattle.viz_base.specs.declared.trees.Kind.TheVariants as of_kind
 use Rattle.viz_base.specs.declared.worlds.World.{World}
+use Rattle.viz_base.proofs.ListLemmas.{slice_some}
 use Rattle.viz_calc.specs.State.{AllSmall}
 use Rattle.layout_semantics.specs.Lengths.{used}
 use Rattle.layout_semantics.proofs.Forest.{both}
 use Rattle.layout_laws.proofs.Members.{any_in, any_from, member_place}
 use Rattle.layout_laws.proofs.TreeFacts.{slice_in}
-use Rattle.layout_laws.proofs.PageParts.{slice_some}
 use Rattle.layout_laws.proofs.Reaching.{ratio_least, total_bounded}
 use Rattle.layout_laws.proofs.FontSizes.{font-of-style}
 use Rattle.lay_length.specs.Ways.{size_way_to, used_way}

@@ -1,5 +1,5 @@
 -- What goes up or down a number of levels, one level further.
-use Rattle.std.proofs.Common.{◌≡◌, ℕ, suc, ◌*◌, pos, Bool, true, false, Option, Some, None, refl, ◌∙◌, ap, subst}
+use Rattle.std.proofs.Common.{◌≡◌, ℕ, suc, ◌*◌, pos, Bool, true, false, Option, Some, None, ◌∙◌, ap, subst}
 use Rattle.std.specs.Prelude.{option_and_then, [], ◌∷◌}
 use Rattle.std.specs.Option.{option_map_or}
 use Rattle.viz_base.specs.declared.trees.BoxTree.{BoxTree}

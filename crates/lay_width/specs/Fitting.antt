@@ -9,8 +9,9 @@ use Rattle.viz_base.specs.declared.lengths.Length.TheVariants as of_length
 use Rattle.viz_base.specs.declared.styles.Style.{Style}
 use Rattle.viz_base.specs.declared.trees.BoxTree.{BoxTree}
 use Rattle.viz_base.specs.declared.worlds.World.{World}
+use Rattle.viz_base.specs.Styles.{nothing}
 use Rattle.viz_calc.specs.State.{AllSmall}
-use Rattle.layout_semantics.specs.Lengths.{used, own, nothing, margins, borders, paddings}
+use Rattle.layout_semantics.specs.Lengths.{used, own, margins, borders, paddings}
 use Rattle.layout_semantics.specs.Horizontal.{sum_of, is_auto, left_margin, terms_around, Placing, block_flow, shrunk, replaced_block, replaced_shrunk}
 use Rattle.layout_semantics.specs.Replaced.{by_ratio, intrinsic, replaced_size}
 use Rattle.layout_semantics.specs.DefiniteHeights.{percentage_container, least_height, definite_height_to, definite_height, given_height}

@@ -16,6 +16,7 @@ use Rattle.viz_base.specs.declared.styles.Display.TheVariants as of_display
 use Rattle.viz_base.specs.declared.trees.BoxNode.{BoxNode}
 use Rattle.viz_base.specs.declared.trees.Kind.{Kind}
 use Rattle.viz_base.specs.declared.trees.Kind.TheVariants as of_kind
+use Rattle.viz_base.proofs.ListLemmas.{slice_some}
 use Rattle.layout_semantics.specs.Elements.{is_closed, is_hidden, is_shown, node_passes, parent_of, ancestors, upwards}
 use Rattle.layout_semantics.specs.Parts.{Part, Level, kind_of_node, level_kind, level_of, inline_kind}
 use Rattle.layout_semantics.specs.WhiteSpace.{is_in}
@@ -25,7 +26,7 @@ use Rattle.layout_laws.proofs.Places.{node_of}
 use Rattle.layout_laws.proofs.Nesting.{IsBoxOf}
 use Rattle.layout_laws.proofs.Above.{not_or, parent_is, parent_shown}
 use Rattle.layout_laws.proofs.Runs.{is_in_some, run_parent}
-use Rattle.layout_laws.proofs.PageParts.{part_parent, slice_some}
+use Rattle.layout_laws.proofs.PageParts.{part_parent}
 use Rattle.layout_laws.proofs.BoxFacts.{item_known, page_box_is, hidden_alike}
 
 -- ---- lists

@@ -1,10 +1,11 @@
 use Rattle.std.proofs.Common.{◌≡◌, ◌<◌, ℤ, pos, ◌+ℤ◌, List, [], ◌∷◌, ◌++◌, map, length, Contains, refl, sym, ◌∙◌, ap, subst, ◌⊎◌, inl, inr, append_assoc, ◌↔◌, arith, ⊎_elim}
 use Rattle.std.proofs.lemmas.List.Elements.{Contains-append_left, Contains-append_right, Contains-append_cases}
 use Rattle.std.proofs.lemmas.Int.{ints}
+use Rattle.viz_base.proofs.ListLemmas.{later_member}
 use Rattle.layout_semantics.specs.Lengths.{total}
 use Rattle.layout_semantics.specs.Preferred.{Child, in_flow, floated, sums_from, leading_floats, block_widths}
 use Rattle.layout_laws.specs.FloatRuns.{IsRunSum, IsChildWidth}
-use Rattle.layout_laws.proofs.Members.{no_member, first_member, later_member, first_or_later, by_member}
+use Rattle.layout_laws.proofs.Members.{no_member, first_member, first_or_later, by_member}
 
 -- ---- sums of beginnings
 

@@ -2,10 +2,11 @@ use Rattle.std.proofs.Common.{◌≡◌, ℕ, ℤ, pos, ◌+ℤ◌, ◌-ℤ◌, 
 use Rattle.std.proofs.lemmas.Int.{ints}
 use Rattle.viz_base.specs.declared.trees.BoxTree.{BoxTree}
 use Rattle.viz_base.specs.declared.worlds.World.{World}
+use Rattle.viz_base.proofs.ListLemmas.{later_member}
 use Rattle.layout_semantics.specs.Floats.{FloatBox}
 use Rattle.layout_semantics.specs.Flow.{Progress, next_edge, context_height}
 use Rattle.layout_laws.specs.Heights.{ReachesDown}
-use Rattle.layout_laws.proofs.Members.{first_member, later_member, first_or_later, to_map, from_map}
+use Rattle.layout_laws.proofs.Members.{first_member, first_or_later, to_map, from_map}
 use Rattle.layout_laws.proofs.Extremes.{below_greatest, start_below_greatest, greatest_is_one}
 
 module _ (tree : BoxTree) (w : World) (height : ℕ) (top : ℤ) (end : Progress) where

@@ -2,7 +2,6 @@
 use Rattle.std.specs.Int.{int_max}
 use Rattle.std.specs.Ordering.{int_eq}
 use Rattle.std.proofs.Common.{◌≡◌, ◌≢◌, ℕ, zero, suc, ◌<◌, ℤ, pos, negsuc, ◌+ℤ◌, ◌-ℤ◌, ◌≤ℤ◌, Bool, true, false, not, ◌&&◌, ◌||◌, int_le, [], ◌∷◌, length, Option, Some, None, refl, sym, ◌∙◌, ap, inl, inr, subst, arith}
-use Rattle.std.proofs.lemmas.Bool.Decides.{Decides-int_eq}
 use Rattle.std.proofs.lemmas.Int.{ints, clamps}
 use Rattle.viz_base.specs.Numbers.{floor_of}
 use Rattle.viz_base.specs.declared.layouts.Band.{Band}
@@ -24,7 +23,7 @@ use Rattle.layout_semantics.specs.LineFilling.{band_width}
 use Rattle.layout_semantics.specs.Lines.{aligned}
 use Rattle.layout_semantics.specs.Rectangles.{Frame, placed_box}
 use Rattle.layout_semantics.specs.Replaced.{replaced_size}
-use Rattle.layout_laws.specs.Edges.{HasEdges}
+use Rattle.layout_laws.specs.Edges.{HasEdges, IsSome}
 use Rattle.layout_laws.specs.Terms.{IsInFlowBlock, own_width, own_maximum, own_minimum}
 use Rattle.layout_laws.proofs.HorizontalTerms.{widths-placed, held-any}
 
@@ -127,16 +126,15 @@ module _ (tree : BoxTree) (w : World) (b : ℕ) (within : b < length tree.boxes)
 
 -- ---- minimum heights
 
-not_zero : (definite : Bool) (c : ℤ) → c ≢ pos 0 → (l : Length) → l ≡ of_length.Px c → (counts_as_auto definite l || is_zero l) ≡ false
-not_zero definite c n l e = ap (λ (l : Length). counts_as_auto definite l || is_zero l) e ∙ different (int_eq c (pos 0)) refl
-  where
-    different : (t : Bool) → int_eq c (pos 0) ≡ t → t ≡ false
-    different true e = absurd (n ((Decides-int_eq c (pos 0)).0 e))
-    different false e = refl
+not_zero : (definite : Bool) (l : Length) → IsSome l → (counts_as_auto definite l || is_zero l) ≡ false
+not_zero definite (of_length.Px c) some = let zero : int_eq c (pos 0) ≡ false = grind (arith, ints) in zero
+not_zero definite (of_length.Em k node) some = let zero : int_eq k (pos 0) ≡ false = grind (arith, ints) in zero
+not_zero definite of_length.Auto some = absurd some
+not_zero definite (of_length.Pct p) some = absurd some
 
-has_minimum : (tree : BoxTree) (b : ℕ) → (c : ℤ) × (c ≢ pos 0) × (least_height tree b ≡ of_length.Px c) → has_no_minimum tree b ≡ false
+has_minimum : (tree : BoxTree) (b : ℕ) → IsSome (least_height tree b) → has_no_minimum tree b ≡ false
 unfolding has_no_minimum
-has_minimum tree b m = not_zero (is_definite tree b) m.0 m.1 (least_height tree b) m.2
+has_minimum tree b m = not_zero (is_definite tree b) (least_height tree b) m
 
 last_of_three : (a b c : Bool) → c ≡ false → (a && b && c) ≡ false
 last_of_three true true c e = e
@@ -148,11 +146,11 @@ third_of_five true true c d e f = rw f refl
 third_of_five true false c d e f = refl
 third_of_five false b c d e f = refl
 
-pub minimum-apart : (tree : BoxTree) (b : ℕ) → (c : ℤ) × (c ≢ pos 0) × (least_height tree b ≡ of_length.Px c) → may_collapse_through tree b ≡ false
+pub minimum-apart : (tree : BoxTree) (b : ℕ) → IsSome (least_height tree b) → may_collapse_through tree b ≡ false
 unfolding may_collapse_through
 minimum-apart tree b m = third_of_five (is_open_above tree b) (is_open_below tree b) (has_no_minimum tree b) (has_auto_height tree b || is_zero (own_height tree b)) (not (has_line tree b)) (has_minimum tree b m)
 
-pub minimum-keeps : (tree : BoxTree) (b : ℕ) → (c : ℤ) × (c ≢ pos 0) × (least_height tree b ≡ of_length.Px c) → joins_last_child tree b ≡ false
+pub minimum-keeps : (tree : BoxTree) (b : ℕ) → IsSome (least_height tree b) → joins_last_child tree b ≡ false
 unfolding joins_last_child
 minimum-keeps tree b m = last_of_three (is_open_below tree b) (has_auto_height tree b) (has_no_minimum tree b) (has_minimum tree b m)
 

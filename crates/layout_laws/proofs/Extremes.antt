@@ -2,8 +2,9 @@
 use Rattle.std.proofs.Common.{◌≡◌, ℤ, ◌≤ℤ◌, Bool, true, false, cond, int_lt, List, [], ◌∷◌, Contains, refl, sym, ◌∙◌, subst, inl, inr, ◌⊎◌, ⊎_elim, arith}
 use Rattle.std.specs.Int.{int_max, int_min}
 use Rattle.std.proofs.lemmas.Int.{ints, clamps}
+use Rattle.viz_base.proofs.ListLemmas.{later_member}
 use Rattle.layout_semantics.specs.Extremes.{greatest_from, least_from}
-use Rattle.layout_laws.proofs.Members.{no_member, first_member, later_member, first_or_later}
+use Rattle.layout_laws.proofs.Members.{no_member, first_member, first_or_later}
 
 pub below_greatest : (a : ℤ) (xs : List ℤ) (x : ℤ) → Contains xs x → x ≤ℤ greatest_from a xs
 below_greatest a [] x i = no_member i

@@ -6,12 +6,13 @@ use Rattle.viz_base.specs.declared.layouts.Band.{Band}
 use Rattle.viz_base.specs.declared.layouts.Spot.{Spot}
 use Rattle.viz_base.specs.declared.styles.Side.{Side}
 use Rattle.viz_base.specs.declared.styles.Side.TheVariants as of_side
+use Rattle.viz_base.proofs.ListLemmas.{later_member}
 use Rattle.layout_semantics.specs.Extremes.{greatest_from}
 use Rattle.layout_semantics.specs.Floats.{FloatBox, is_left, left_ones, right_ones, beside, is_next_to, fits_beside, is_inside, is_allowed, farthest_at, highest_top, candidate_tops, below_all, highest_free}
 use Rattle.layout_laws.specs.FloatRules.{IsNextTo, IsLowEnough, LeftObeys, RightObeys, ObeysRules, IsNoFarther}
 use Rattle.layout_laws.proofs.Beside.{rights, lefts, room_after, room_before}
 use Rattle.layout_laws.proofs.Truths.{le, is_le, lt, is_lt, left_of, right_of, both_of, implied, implies, on_true, on_false, by_cond}
-use Rattle.layout_laws.proofs.Members.{first_member, later_member, all_in, all_from, from_filter, to_filter, to_map, from_map}
+use Rattle.layout_laws.proofs.Members.{first_member, all_in, all_from, from_filter, to_filter, to_map, from_map}
 use Rattle.layout_laws.proofs.Extremes.{below_greatest, start_below_greatest, greatest_at_most, greatest_is_one, above_least, start_above_least, least_at_least, least_is_one}
 
 -- ---- the rules

@@ -16,6 +16,7 @@ use Rattle.viz_base.specs.declared.trees.BoxTree.{BoxTree}
 use Rattle.viz_base.specs.declared.trees.Kind.{Kind}
 use Rattle.viz_base.specs.declared.trees.Kind.TheVariants as of_kind
 use Rattle.viz_base.specs.declared.worlds.World.{World}
+use Rattle.viz_base.proofs.ListLemmas.{all_parts}
 use Rattle.layout_semantics.specs.Lists.{table_of}
 use Rattle.layout_semantics.specs.Floats.{FloatBox, floating, with_float}
 use Rattle.layout_semantics.specs.Margins.{collapsed}
@@ -124,10 +125,6 @@ module _ (g : Ground) (run : List ℤ) (cb : Band ℤ) (b : ℕ) (l : b < length
 
 -- ---- the flow, by that of later boxes
 
-all_right : {A : Type 0} (P : A → Type 0) (xs ys : List A) → AllByRecursion P (xs ++ ys) → AllByRecursion P ys
-all_right P [] ys a = a
-all_right P (x ∷ xs) ys a = all_right P xs ys a.1
-
 abbrev Inside : Type 0
 Inside = ℕ → Band ℤ → ℤ → Progress → Progress
 
@@ -226,7 +223,7 @@ module _ (tree : BoxTree) (w : World) (height : ℕ) (f g : Inside) (b : ℕ)
 
   entries-late : (es : List (Entry ℤ)) → AllByRecursion LateName (flat_map (shown of_box) es) → AllByRecursion LateEntry es
   entries-late [] a = tt
-  entries-late (of_entry.Here p ∷ es) a = (tt, entries-late es (all_right LateName (shown of_box (of_entry.Here p)) (flat_map (shown of_box) es) a))
+  entries-late (of_entry.Here p ∷ es) a = (tt, entries-late es (all_parts LateName (shown of_box (of_entry.Here p)) (flat_map (shown of_box) es) a).1)
   entries-late (of_entry.Goes k at ∷ es) a = (a.0, entries-late es a.1)
 
   boxes-same : (cb : Band ℤ) (es : List (Entry ℤ)) → AllByRecursion LateEntry es → flat_map (entry_boxes tree w height f cb) es ≡ flat_map (entry_boxes tree w height g cb) es

@@ -7,7 +7,7 @@ use Rattle.viz_base.specs.FontSizes.{default_size, parent_in, computed_size, fon
 abbrev pub ParentsBefore : List (Option ℕ) → Type 0
 ParentsBefore parents = (node p : ℕ) → slice_get parents node ≡ Some (Some p) → p < node
 
-parent-before : (parents : List (Option ℕ)) (node p : ℕ) → ParentsBefore parents → parent_in parents node ≡ Some p → p < node
+pub parent-before : (parents : List (Option ℕ)) (node p : ℕ) → ParentsBefore parents → parent_in parents node ≡ Some p → p < node
 parent-before parents node p before e = before node p (by (slice_get parents node) e)
   where
     by : (o : Option (Option ℕ)) → option_and_then (λ parent. parent) o ≡ Some p → o ≡ Some (Some p)

@@ -1,10 +1,11 @@
 -- The greatest and the least of a number and of a list, where facts are said of all members of the list.
 use Rattle.std.proofs.Common.{◌≡◌, ℤ, ◌≤ℤ◌, Bool, IsTrue, List, [], ◌∷◌, Contains, map, filter, refl, sym, subst, inl, inr, ◌⊎◌, ⊎_elim}
 use Rattle.std.specs.List.{AllByRecursion}
+use Rattle.viz_base.proofs.ListLemmas.{later_member}
 use Rattle.layout_semantics.specs.Extremes.{greatest_from, least_from}
 use Rattle.layout_semantics.specs.Preferred.{greatest}
 use Rattle.layout_laws.specs.Greatest.{IsGreatestOf}
-use Rattle.layout_laws.proofs.Members.{no_member, first_member, later_member, first_or_later, from_filter, to_filter, to_map, from_map}
+use Rattle.layout_laws.proofs.Members.{no_member, first_member, first_or_later, from_filter, to_filter, to_map, from_map}
 use Rattle.layout_laws.proofs.Extremes.{below_greatest, start_below_greatest, greatest_at_most, greatest_is_one, above_least, start_above_least, least_at_least, least_is_one}
 
 -- ---- all members

@@ -1,10 +1,13 @@
 -- Boxes and the boxes in them: each stands after the one that holds it, in ascending order, and names it.
 use Rattle.std.proofs.Common.{◌≡◌, ℕ, suc, ◌+◌, ◌<◌, ◌≤◌, Bool, true, false, ◌==◌, ◌&&◌, ◌||◌, List, [], ◌∷◌, map, length, Option, Some, None, slice_get, refl, sym, ◌∙◌, ap, subst, arith, if◌then◌else◌, eq-eqb, ne_eqb, Contains, ⊎_elim}
 use Rattle.std.specs.Option.{option_map_or}
+use Rattle.std.proofs.Math.Bool.{or-false}
 use Rattle.viz_base.specs.declared.trees.BoxNode.{BoxNode}
+use Rattle.viz_base.proofs.ListLemmas.{rises_from}
+use Rattle.viz_base.specs.Orders.{Rises}
 use Rattle.layout_semantics.specs.Parts.{Part}
 use Rattle.layout_semantics.specs.BoxTrees.{Item, box_count, boxes_before, begins_run, begins_at, own_place, first_of, own_box, anonymous_box, with_anonymous, boxes_at, boxes_of}
-use Rattle.layout_laws.proofs.Members.{Rises, rises_from, to_map, no_member, first_or_later, by_member}
+use Rattle.layout_laws.proofs.Members.{to_map, no_member, first_or_later, by_member}
 use Rattle.layout_laws.proofs.Places.{node_of, box_at, before_later, before_first, before_none}
 
 -- ---- what is known of the items of a page
@@ -67,15 +70,11 @@ begins_at_is low (y ∷ xs) x r i =
     by_member (λ z. begins_at (y ∷ xs) (node_of z) ≡ begins_run z) y xs x i
     (let same = eq-eqb (node_of y) (node_of y) refl in
     let rest = none_begins (suc (node_of y)) xs (node_of y) r.1 (omega arith) in
-    ap (λ b. (b && begins_run y) || begins_at xs (node_of y)) same ∙ (ap (λ b. begins_run y || b) rest ∙ or_false (begins_run y)))
+    ap (λ b. (b && begins_run y) || begins_at xs (node_of y)) same ∙ (ap (λ b. begins_run y || b) rest ∙ or-false (begins_run y)))
     (λ j.
     let after = rises_from (suc (node_of y)) (map node_of xs) (node_of x) r.1 (to_map node_of xs x j) in
     let other = ne_eqb (node_of y) (node_of x) (λ e. omega (arith, e, after)) in
     ap (λ b. (b && begins_run y) || begins_at xs (node_of x)) other ∙ begins_at_is (suc (node_of y)) xs x r.1 j)
-  where
-    or_false : (b : Bool) → (b || false) ≡ b
-    or_false true = refl
-    or_false false = refl
 
 -- ---- places rise with nodes
 

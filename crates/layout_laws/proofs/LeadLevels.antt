@@ -7,11 +7,12 @@ use Rattle.viz_base.specs.declared.layouts.LeadEnd.TheVariants as of_end
 use Rattle.viz_base.specs.declared.layouts.Waiting.{Waiting}
 use Rattle.viz_base.specs.declared.trees.BoxTree.{BoxTree}
 use Rattle.viz_base.specs.declared.worlds.World.{World}
+use Rattle.viz_base.proofs.ListLemmas.{all_append}
 use Rattle.layout_semantics.specs.FlowBoxes.{clear_of, is_open_above, may_collapse_through, flow_children, block_band}
 use Rattle.layout_semantics.specs.InlineContent.{Item, start, finish, word, space, atomic, forced, float, content, float_boxes, box_of, holds_inline, is_floated_at, has_line}
 use Rattle.layout_semantics.specs.Leads.{Leading, clears_something, top_margin, bottom_margin, followed_by, through, child_lead, children_lead, lead_step, lead_to, lead}
 use Rattle.layout_semantics.proofs.Pages.{forest}
-use Rattle.layout_laws.proofs.Levels.{IsFrom, All-implied, All-append, content-from, kids-within}
+use Rattle.layout_laws.proofs.Levels.{IsFrom, All-implied, content-from, kids-within}
 use Rattle.layout_laws.proofs.PlainLeads.{child_from, box_from, last_of}
 
 -- ---- the children in the flow of a box come after it
@@ -91,7 +92,7 @@ module _ (tree : BoxTree) (w : World) where
     followed-from first rest a b = by_end first.end refl
       where
         by_end : (end : LeadEnd) → first.end ≡ end → IsLeadFrom passed low (followed_by tree w first rest)
-        by_end of_end.Through g = rw g (record { ends = b.ends; waits = All-append (λ (f : Waiting ℤ). IsFrom tree.boxes low f.at) first.waiting rest.waiting a.waits b.waits })
+        by_end of_end.Through g = rw g (record { ends = b.ends; waits = all_append (λ (f : Waiting ℤ). IsFrom tree.boxes low f.at) first.waiting rest.waiting a.waits b.waits })
         by_end (of_end.Solid d) g = rw g (record { ends = tt; waits = a.waits })
         by_end (of_end.Cleared d) g = let ends = subst (EndsWell passed) g a.ends in rw g (record { ends = ends; waits = a.waits })
 

@@ -1,16 +1,20 @@
 -- Recursions down a tree have enough levels: more of them change nothing.
-use Rattle.std.proofs.Common.{◌≡◌, ℕ, zero, suc, ◌+◌, ◌<◌, ◌≤◌, ℤ, Bool, true, false, List, [], ◌∷◌, ◌++◌, map, length, refl, ◌∙◌, ap, arith}
+use Rattle.std.proofs.Common.{◌≡◌, ℕ, zero, suc, ◌+◌, ◌<◌, ◌≤◌, ℤ, Bool, true, false, List, [], ◌∷◌, ◌++◌, map, length, slice_index_or, sym, subst, refl, ◌∙◌, ap, arith}
 use Rattle.std.specs.Prelude.{◌==◌}
 use Rattle.std.specs.List.{flat_map, AllByRecursion}
 use Rattle.viz_base.specs.declared.layouts.Preferred.{Preferred}
 use Rattle.viz_base.specs.declared.trees.BoxNode.{BoxNode}
 use Rattle.viz_base.specs.declared.trees.BoxTree.{BoxTree}
+use Rattle.viz_base.specs.declared.trees.Kind.{Kind}
+use Rattle.viz_base.specs.declared.trees.Kind.TheVariants as of_kind
 use Rattle.viz_base.specs.declared.worlds.World.{World}
+use Rattle.viz_base.proofs.ListLemmas.{all_append}
 use Rattle.layout_semantics.specs.Order.{kids_of}
 use Rattle.layout_semantics.specs.InlineContent.{Item, start, finish, word, space, atomic, forced, float, Sort, a_float, an_atomic, a_break, a_text, an_inline, sort_of, text_of, text_items, letter_before, character_before, items_to, content, box_of, inner_items, inner_boxes}
 use Rattle.layout_semantics.specs.Preferred.{inside_of, outer_preferred, preferred_to, preferred}
 use Rattle.layout_laws.specs.Nested.{items_of_sort, box_items, preferred_of_sort}
 use Rattle.layout_semantics.proofs.Forest.{IsForest, IsKid}
+use Rattle.layout_semantics.proofs.Pages.{forest}
 
 -- ---- lists
 
@@ -26,9 +30,15 @@ pub All-implied : {A : Type 0} (P Q : A → Type 0) (xs : List A) → ((x : A) �
 All-implied P Q [] f a = tt
 All-implied P Q (x ∷ xs) f a = (f x a.0, All-implied P Q xs f a.1)
 
-pub All-append : {A : Type 0} (P : A → Type 0) (xs ys : List A) → AllByRecursion P xs → AllByRecursion P ys → AllByRecursion P (xs ++ ys)
-All-append P [] ys a b = b
-All-append P (x ∷ xs) ys a b = (a.0, All-append P xs ys a.1 b)
+-- ---- sorts in inline content
+
+-- what a box is in inline content, by whether it floats and by its kind
+abbrev pub sort_by : Bool → Kind → Sort
+sort_by true kind = a_float
+sort_by false of_kind.Chars = a_text
+sort_by false of_kind.Break = a_break
+sort_by false of_kind.Inline = an_inline
+sort_by false _ = an_atomic
 
 -- ---- places of the boxes of inline content
 
@@ -66,13 +76,13 @@ sort-from tree at inside a_float l a = (record { from = omega arith; within = l 
 sort-from tree at inside an_atomic l a = (record { from = omega arith; within = l }, tt)
 sort-from tree at inside a_break l a = (record { from = omega arith; within = l }, tt)
 sort-from tree at inside a_text l a = text-from tree.boxes at (text_of tree at) l
-sort-from tree at inside an_inline l a = (record { from = omega arith; within = l }, All-append (λ i. IsFrom tree.boxes at (box_of i)) inside (finish at ∷ []) a (record { from = omega arith; within = l }, tt))
+sort-from tree at inside an_inline l a = (record { from = omega arith; within = l }, all_append (λ i. IsFrom tree.boxes at (box_of i)) inside (finish at ∷ []) a (record { from = omega arith; within = l }, tt))
 
 kids-from : (tree : BoxTree) (at : ℕ) (f : ℕ → List Item) (ks : List ℕ) → AllByRecursion (IsKid tree.boxes at) ks → ((k : ℕ) → k < length tree.boxes → ItemsFrom tree.boxes k (f k)) → ItemsFrom tree.boxes (suc at) (flat_map f ks)
 kids-from tree at f [] is each = tt
 kids-from tree at f (k ∷ ks) is each =
     let first = is.0 in
-    All-append (λ i. IsFrom tree.boxes (suc at) (box_of i)) (f k) (flat_map f ks)
+    all_append (λ i. IsFrom tree.boxes (suc at) (box_of i)) (f k) (flat_map f ks)
     (All-implied (λ i. IsFrom tree.boxes k (box_of i)) (λ i. IsFrom tree.boxes (suc at) (box_of i)) (f k) (λ i h. from-lower tree.boxes (suc at) k (box_of i) (omega (arith, first.after)) h) (each k first.within))
     (kids-from tree at f ks is.1 each)
 
@@ -102,6 +112,15 @@ inner_boxes-from tree at t = inner-from tree.boxes (suc at) (content tree at) (c
 
 pub kids-within : (tree : BoxTree) (at : ℕ) → IsForest tree.boxes → AllByRecursion (IsFrom tree.boxes (suc at)) (kids_of tree.boxes at)
 kids-within tree at t = All-implied (IsKid tree.boxes at) (IsFrom tree.boxes (suc at)) (kids_of tree.boxes at) (λ k is. record { from = let a = is.after in omega arith; within = is.within }) (t.kids at)
+
+-- a box in a box is behind it
+each-behind : (tree : BoxTree) (at : ℕ) (ks : List ℕ) (i : ℕ) → AllByRecursion (IsKid tree.boxes at) ks → i < length ks → (at < slice_index_or ks i 0) × (slice_index_or ks i 0 < length tree.boxes)
+each-behind tree at [] i a l = absurd (omega arith)
+each-behind tree at (k ∷ ks) zero a l = (a.0.after, a.0.within)
+each-behind tree at (k ∷ ks) (suc i) a l = each-behind tree at ks i a.1 (omega arith)
+
+pub kid-behind : (tree : BoxTree) (at i : ℕ) (kids : List ℕ) → kids ≡ kids_of tree.boxes at → i < length kids → (at < slice_index_or kids i 0) × (slice_index_or kids i 0 < length tree.boxes)
+kid-behind tree at i kids e l = each-behind tree at kids i (subst (AllByRecursion (IsKid tree.boxes at)) (sym e) ((forest tree).kids at)) l
 
 -- ---- enough levels
 

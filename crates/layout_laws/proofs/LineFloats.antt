@@ -6,6 +6,7 @@ use Rattle.viz_base.specs.declared.layouts.Band.{Band}
 use Rattle.viz_base.specs.declared.layouts.Spot.{Spot}
 use Rattle.viz_base.specs.declared.styles.Side.{Side}
 use Rattle.viz_base.specs.declared.styles.Side.TheVariants as of_side
+use Rattle.viz_base.proofs.ListLemmas.{all_append}
 use Rattle.layout_semantics.specs.Floats.{FloatBox, placed_float, lowest_bottom, float_top}
 use Rattle.layout_semantics.specs.LineHeights.{InlineContext}
 use Rattle.layout_semantics.specs.LineFilling.{Met, Line, line_float, line_spot, with_spot, with_waiting, place_each, none_waits, leaves_room, meet, met_after, floats_met, first_items, width_held}
@@ -13,7 +14,6 @@ use Rattle.layout_laws.specs.FloatRules.{ObeysRules}
 use Rattle.layout_laws.specs.LineStacks.{HasMoreFloats}
 use Rattle.layout_laws.proofs.FloatPlaces.{highest_obeys}
 use Rattle.layout_laws.proofs.Greatest.{greatest_from-bound}
-use Rattle.layout_laws.proofs.Levels.{All-append}
 
 -- ---- lists of floats that grow
 
@@ -28,7 +28,7 @@ pub more-one : (m : ℤ) (before after : List FloatBox) (f : FloatBox) → HasMo
 more-one m before after f h l = record {
   more = h.more ++ f ∷ [];
   whole = ap (λ fs. fs ++ f ∷ []) h.whole ∙ append_assoc before h.more (f ∷ []);
-  low = All-append (λ (g : FloatBox). m ≤ℤ g.box.top) h.more (f ∷ []) h.low (l, tt);
+  low = all_append (λ (g : FloatBox). m ≤ℤ g.box.top) h.more (f ∷ []) h.low (l, tt);
 }
 
 -- ---- the place of a float isn't above `least`

@@ -6,6 +6,7 @@ use Rattle.std.proofs.lemmas.Int.{ints, clamps}
 use Rattle.viz_base.specs.declared.layouts.Entry.{Entry}
 use Rattle.viz_base.specs.declared.layouts.Band.{Band}
 use Rattle.viz_base.specs.declared.renderings.Quad.{Quad}
+use Rattle.viz_base.proofs.ListLemmas.{all_append, all_parts}
 use Rattle.layout_semantics.specs.Floats.{FloatBox, band_at}
 use Rattle.layout_semantics.specs.InlineContent.{Item, start, finish, word, space, atomic, forced, float, content, float_boxes, makes_line}
 use Rattle.layout_semantics.specs.Stretches.{stretches, is_break, may_part}
@@ -15,7 +16,6 @@ use Rattle.layout_semantics.specs.Fragments.{float_entries, line_entries}
 use Rattle.layout_semantics.specs.Lines.{LaidLines, followed, laid_none, before_all, opened_after, next_line, laid_line, laid_no_line, laid_stretches, lines_to, lines_in, line_box, set_line, content_left}
 use Rattle.layout_laws.specs.LineStacks.{line_rectangles, IsStack, HasMoreFloats}
 use Rattle.layout_laws.proofs.Greatest.{All-from, greatest_from-fewer}
-use Rattle.layout_laws.proofs.Levels.{All-append}
 use Rattle.layout_laws.proofs.Cuts.{cut-joined}
 use Rattle.layout_laws.proofs.LineTops.{line_top-stands}
 use Rattle.layout_laws.proofs.LineEntries.{rectangles-append, entries-none, floats-none}
@@ -49,16 +49,12 @@ extended-append (atomic at ∷ xs) ys = ap (λ l. at ∷ l) (extended-append xs 
 extended-append (forced at ∷ xs) ys = extended-append xs ys
 extended-append (float at ∷ xs) ys = extended-append xs ys
 
-All-first : (P : ℕ → Type 0) (xs ys : List ℕ) → AllByRecursion P (xs ++ ys) → AllByRecursion P xs × AllByRecursion P ys
-All-first P [] ys a = (tt, a)
-All-first P (x ∷ xs) ys a = let rest = All-first P xs ys a.1 in ((a.0, rest.0), rest.1)
-
 abbrev PartsOf : InlineContext → List (List Item) → Type 0
 PartsOf c parts = AllByRecursion (λ part. OfContent c (extended_boxes part)) parts
 
 parts-of : (c : InlineContext) (parts : List (List Item)) → OfContent c (extended_boxes (joined parts)) → PartsOf c parts
 parts-of c [] a = tt
-parts-of c (part ∷ parts) a = let both = All-first (Contains (all_boxes c)) (extended_boxes part) (extended_boxes (joined parts)) (subst (OfContent c) (extended-append part (joined parts)) a) in (both.0, parts-of c parts both.1)
+parts-of c (part ∷ parts) a = let both = all_parts (Contains (all_boxes c)) (extended_boxes part) (extended_boxes (joined parts)) (subst (OfContent c) (extended-append part (joined parts)) a) in (both.0, parts-of c parts both.1)
 
 stretches-of : (c : InlineContext) → PartsOf c (stretches c.tree (content c.tree c.container))
 stretches-of c =
@@ -68,7 +64,7 @@ stretches-of c =
 taken-of : (c : InlineContext) (n : ℕ) (parts : List (List Item)) → PartsOf c parts → OfContent c (extended_boxes (joined (take n parts)))
 taken-of c zero parts a = tt
 taken-of c (suc n) [] a = tt
-taken-of c (suc n) (part ∷ parts) a = subst (OfContent c) (sym (extended-append part (joined (take n parts)))) (All-append (Contains (all_boxes c)) (extended_boxes part) (extended_boxes (joined (take n parts))) a.0 (taken-of c n parts a.1))
+taken-of c (suc n) (part ∷ parts) a = subst (OfContent c) (sym (extended-append part (joined (take n parts)))) (all_append (Contains (all_boxes c)) (extended_boxes part) (extended_boxes (joined (take n parts))) a.0 (taken-of c n parts a.1))
 
 dropped-of : (c : InlineContext) (n : ℕ) (parts : List (List Item)) → PartsOf c parts → PartsOf c (drop n parts)
 dropped-of c zero parts a = a
@@ -85,7 +81,7 @@ filter-of P q (x ∷ xs) a = by (q x) (filter-of P q xs a.1)
 
 opened-of : (c : InlineContext) (opened : List ℕ) (items : List Item) → OfContent c opened → OfContent c (extended_boxes items) → OfContent c (fold opened_after opened items)
 opened-of c opened [] o e = o
-opened-of c opened (start at ∷ items) o e = opened-of c (opened ++ at ∷ []) items (All-append (Contains (all_boxes c)) opened (at ∷ []) o (e.0, tt)) e.1
+opened-of c opened (start at ∷ items) o e = opened-of c (opened ++ at ∷ []) items (all_append (Contains (all_boxes c)) opened (at ∷ []) o (e.0, tt)) e.1
 opened-of c opened (finish at ∷ items) o e = opened-of c (filter (λ other. not (other == at)) opened) items (filter-of (Contains (all_boxes c)) (λ other. not (other == at)) opened o) e
 opened-of c opened (word at text ∷ items) o e = opened-of c opened items o e
 opened-of c opened (space at ∷ items) o e = opened-of c opened items o e
@@ -122,7 +118,7 @@ laid_line-holds : (c : InlineContext) (y least : ℤ) (floats : List FloatBox) (
     → Holds c y least floats l → l.after.y ≤ℤ line.top → OfContent c (extended_boxes items) → HasMoreFloats least floats met.floats → Holds c y least floats (followed l (laid_line c l.after line items met))
 laid_line-holds c y least floats l line items met h order of more =
     let now = l.after in
-    let boxes = All-append (Contains (all_boxes c)) now.opened (extended_boxes items) h.opened of in
+    let boxes = all_append (Contains (all_boxes c)) now.opened (extended_boxes items) h.opened of in
     let e = line_extent c (now.opened ++ extended_boxes items) in
     let high = height-most c (now.opened ++ extended_boxes items) boxes in
     let room = band_at met.floats c.cb line.top line.tall in
@@ -134,7 +130,7 @@ laid_line-holds c y least floats l line items met h order of more =
     let known = h.least_more in
     record {
       stacked = subst (λ qs. IsStack y qs bottom) same (stack-more y (line_rectangles l.entries) now.y q h.stacked order);
-      low = subst (λ qs. AllByRecursion (IsLowLine c) qs) same (All-append (IsLowLine c) (line_rectangles l.entries) (q ∷ []) h.low (omega (arith, ints), tt));
+      low = subst (λ qs. AllByRecursion (IsLowLine c) qs) same (all_append (IsLowLine c) (line_rectangles l.entries) (q ∷ []) h.low (omega (arith, ints), tt));
       opened = opened-of c now.opened items h.opened of;
       least_more = omega (arith, ints, clamps);
       more = each-more c least (int_max now.least line.top) bottom floats (record met { waiting = [] }) met.waiting (omega (arith, ints, clamps)) more;

@@ -12,6 +12,7 @@ use Rattle.layout_laws.proofs.Members.{from_filter, to_filter, to_map, from_map}
 use Rattle.layout_laws.proofs.Extremes.{start_below_greatest, start_above_least}
 use Rattle.layout_laws.proofs.Greatest.{All-at, filter-implied, filter-all, filter-passes, All-map, greatest-subset, least-subset, greatest_from-any, least_from-any, greatest_from-bound, least_from-bound, greatest_from-least}
 use Rattle.layout_laws.proofs.Levels.{All-implied}
+use Rattle.layout_laws.proofs.Truths.{left_of, right_of, both_of, is_lt}
 
 -- ---- lists of fewer members
 
@@ -84,13 +85,6 @@ may_stand-fewer c floats tall width a b i t =
 
 abbrev below : ℤ → List FloatBox → List ℤ
 below y floats = filter (int_lt y) (map (λ (f : FloatBox). f.box.bottom) floats)
-
-yes-lt : (a b : ℤ) → a <ℤ b → IsTrue (int_lt a b)
-yes-lt a b l = by (int_lt a b) refl
-  where
-    by : (t : Bool) → int_lt a b ≡ t → IsTrue t
-    by true e = refl
-    by false e = absurd (omega (arith, ints))
 
 no-lt : (a b : ℤ) → b ≤ℤ a → int_lt a b ≡ false
 no-lt a b l = by (int_lt a b) refl
@@ -181,28 +175,16 @@ line_top-stands c floats y tall width =
 
 -- ---- no higher top
 
-and-first : (x y : Bool) → IsTrue (x && y) → IsTrue x
-and-first true y t = refl
-and-first false y t = absurd (cc)
-
-and-second : (x y : Bool) → IsTrue (x && y) → IsTrue y
-and-second true y t = t
-and-second false y t = absurd (cc)
-
-and-both : (x y : Bool) → IsTrue x → IsTrue y → IsTrue (x && y)
-and-both true y a b = b
-and-both false y a b = absurd (cc)
-
 -- a float met at a lower top that is not above its bottom is met at the higher one
 met-later : (tall y a b : ℤ) (f : FloatBox) → y ≤ℤ a → a ≤ℤ b → (IsTrue (int_lt y f.box.bottom) → IsTrue (int_le f.box.bottom b) → f.box.bottom ≤ℤ a) → MeetsMore tall a b f
 met-later tall y a b f low order h m =
-    let front = and-first (int_lt f.box.top f.box.bottom && int_lt f.box.top (a +ℤ tall)) (int_lt a f.box.bottom) m in
-    let ends = and-second (int_lt f.box.top f.box.bottom && int_lt f.box.top (a +ℤ tall)) (int_lt a f.box.bottom) m in
-    let high = and-first (int_lt f.box.top f.box.bottom) (int_lt f.box.top (a +ℤ tall)) front in
-    let starts = and-second (int_lt f.box.top f.box.bottom) (int_lt f.box.top (a +ℤ tall)) front in
-    and-both (int_lt f.box.top f.box.bottom && int_lt f.box.top (b +ℤ tall)) (int_lt b f.box.bottom)
-    (and-both (int_lt f.box.top f.box.bottom) (int_lt f.box.top (b +ℤ tall)) high (yes-lt f.box.top (b +ℤ tall) (omega (arith, ints))))
-    (past (int_lt b f.box.bottom) refl (yes-lt y f.box.bottom (omega (arith, ints))) ends)
+    let front = left_of (int_lt f.box.top f.box.bottom && int_lt f.box.top (a +ℤ tall)) (int_lt a f.box.bottom) m in
+    let ends = right_of (int_lt f.box.top f.box.bottom && int_lt f.box.top (a +ℤ tall)) (int_lt a f.box.bottom) m in
+    let high = left_of (int_lt f.box.top f.box.bottom) (int_lt f.box.top (a +ℤ tall)) front in
+    let starts = right_of (int_lt f.box.top f.box.bottom) (int_lt f.box.top (a +ℤ tall)) front in
+    both_of (int_lt f.box.top f.box.bottom && int_lt f.box.top (b +ℤ tall)) (int_lt b f.box.bottom)
+    (both_of (int_lt f.box.top f.box.bottom) (int_lt f.box.top (b +ℤ tall)) high (is_lt f.box.top (b +ℤ tall) (omega (arith, ints))))
+    (past (int_lt b f.box.bottom) refl (is_lt y f.box.bottom (omega (arith, ints))) ends)
   where
     past : (t : Bool) → int_lt b f.box.bottom ≡ t → IsTrue (int_lt y f.box.bottom) → IsTrue (int_lt a f.box.bottom) → IsTrue t
     past true e l k = refl

@@ -10,13 +10,14 @@ use Rattle.viz_base.specs.declared.layouts.LeadEnd.TheVariants as of_end
 use Rattle.viz_base.specs.declared.layouts.Waiting.{Waiting}
 use Rattle.viz_base.specs.declared.styles.Clear.{Clear}
 use Rattle.viz_base.specs.declared.trees.BoxTree.{BoxTree}
+use Rattle.viz_base.proofs.ListLemmas.{later_member}
 use Rattle.layout_semantics.specs.Extremes.{greatest_from}
 use Rattle.layout_semantics.specs.Floats.{FloatBox, is_relevant, lowest_bottom, floating, with_float}
 use Rattle.layout_semantics.specs.FlowBoxes.{clear_of}
 use Rattle.layout_semantics.specs.Leads.{Leading, is_up_to, lead}
 use Rattle.layout_semantics.specs.Clearance.{run_end, Ground, Resolved, with_waiting, is_cleared, cleared_edge, resolve_step, resolve_to}
 use Rattle.layout_laws.specs.Clearance.{IsLowestBottom}
-use Rattle.layout_laws.proofs.Members.{no_member, first_member, later_member, first_or_later, from_filter, to_filter, to_map, from_map}
+use Rattle.layout_laws.proofs.Members.{no_member, first_member, first_or_later, from_filter, to_filter, to_map, from_map}
 use Rattle.layout_laws.proofs.Extremes.{below_greatest, start_below_greatest, greatest_is_one}
 
 module _ (clear : Clear) (floats : List FloatBox) where

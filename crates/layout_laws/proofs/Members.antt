@@ -4,9 +4,11 @@ use Rattle.std.specs.List.{list_any, list_all}
 use Rattle.std.specs.Prelude.{⊤}
 use Rattle.std.proofs.lemmas.List.{length-map, get_or-map}
 use Rattle.std.proofs.lemmas.Option.{slice_get_read}
-use Rattle.std.proofs.lemmas.List.Elements.{All-map, All-filter, filter_passes, All-contains, All-contains_itself, Contains-get_or, Contains-append_left, Contains-append_right, Contains-append_cases}
+use Rattle.std.proofs.lemmas.List.Elements.{All-map, All-filter, filter_passes, All-contains, All-contains_itself, Contains-get_or, Contains-append_cases}
 use Rattle.std.proofs.lemmas.List.Folds.{Any-from_list_any, list_any-from_Any}
 use Rattle.std.proofs.lemmas.List.Sums.{AllPass-from_list_all, list_all-from_AllPass}
+use Rattle.viz_base.proofs.ListLemmas.{rises_from, rises_lower, later_member}
+use Rattle.viz_base.specs.Orders.{Rises}
 use Rattle.layout_semantics.specs.Lists.{one_if}
 
 -- ---- the first element and the later ones
@@ -16,9 +18,6 @@ no_member i = absurd (omega (arith, i.1))
 
 pub first_member : {A : Type 0} {y x : A} (ys : List A) → y ≡ x → Contains (y ∷ ys) x
 first_member ys e = (0, omega arith, e)
-
-pub later_member : {A : Type 0} {y x : A} (ys : List A) → Contains ys x → Contains (y ∷ ys) x
-later_member ys i = (suc i.0, omega (arith, i.1), i.2)
 
 pub first_or_later : {A : Type 0} (y : A) (ys : List A) (x : A) → Contains (y ∷ ys) x → (y ≡ x) ⊎ Contains ys x
 first_or_later y ys x (zero, l, e) = inl e
@@ -67,19 +66,6 @@ map_same f g [] h = refl
 map_same f g (x ∷ xs) h = ap (λ y. y ∷ map f xs) (h x (first_member _ refl)) ∙ ap (λ ys. g x ∷ ys) (map_same f g xs (λ y i. h y (later_member _ i)))
 
 -- ---- ascending numbers
-
--- strictly ascending, from `low` on
-abbrev pub Rises : ℕ → List ℕ → Type 0
-Rises low [] = ⊤
-Rises low (n ∷ ns) = (low ≤ n) × Rises (suc n) ns
-
-pub rises_from : (low : ℕ) (ns : List ℕ) (n : ℕ) → Rises low ns → Contains ns n → low ≤ n
-rises_from low [] n r i = no_member i
-rises_from low (m ∷ ns) n r i = ⊎_elim (λ e. omega (arith, r.0, e)) (λ j. let above = rises_from (suc m) ns n r.1 j in omega (arith, r.0, above)) (first_or_later m ns n i)
-
-pub rises_lower : (low high : ℕ) (ns : List ℕ) → low ≤ high → Rises high ns → Rises low ns
-rises_lower low high [] l r = tt
-rises_lower low high (n ∷ ns) l r = (omega (arith, r.0), r.1)
 
 -- the numbers of the chosen elements ascend, as those of all do
 pub rises_filter : {A : Type 0} (f : A → ℕ) (test : A → Bool) (low : ℕ) (xs : List A) → Rises low (map f xs) → Rises low (map f (filter test xs))
@@ -134,11 +120,3 @@ unique_in f low (z ∷ xs) x y r i j e = by_places (first_or_later z xs x i) (fi
     by_places (inl g) (inr h) again = let above = rises_from (suc (f z)) (map f xs) (f y) r.1 (to_map f xs y h) in absurd (omega (arith, above, e, ap f g))
     by_places (inr g) (inl h) again = let above = rises_from (suc (f z)) (map f xs) (f x) r.1 (to_map f xs x g) in absurd (omega (arith, above, e, ap f h))
     by_places (inr g) (inr h) again = again g h
-
-pub to_flat_map : {A B : Type 0} (f : A → List B) (xs : List A) (x : A) (b : B) → Contains xs x → Contains (f x) b → Contains (flat_map f xs) b
-to_flat_map f [] x b i j = no_member i
-to_flat_map f (z ∷ xs) x b i j =
-    ⊎_elim
-    (λ e. Contains-append_left (f z) (flat_map f xs) b (subst (λ y. Contains (f y) b) (sym e) j))
-    (λ k. Contains-append_right (f z) (flat_map f xs) b (to_flat_map f xs x b k j))
-    (first_or_later z xs x i)

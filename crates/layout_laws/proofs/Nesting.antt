@@ -4,13 +4,16 @@ use Rattle.std.specs.List.{list_all}
 use Rattle.std.specs.Option.{option_map_or}
 use Rattle.viz_base.specs.Trees.{ascends, box_passes, is_kid_of}
 use Rattle.viz_base.specs.declared.trees.BoxNode.{BoxNode}
+use Rattle.viz_base.proofs.ListLemmas.{rises_from, rises_lower, later_member}
+use Rattle.viz_base.specs.Orders.{Rises}
 use Rattle.layout_semantics.specs.Lists.{one_if}
 use Rattle.layout_semantics.specs.Parts.{Part}
 use Rattle.layout_semantics.specs.WhiteSpace.{is_in}
 use Rattle.layout_semantics.specs.BoxTrees.{Item, box_count, boxes_before, begins_run, own_place, first_of, outer_place, kid_place, kid_places, items_in, own_box, anonymous_box, with_anonymous, boxes_at, boxes_of}
-use Rattle.layout_laws.proofs.Members.{Rises, rises_from, rises_lower, rises_filter, to_map, from_map, from_filter, from_flat_map, from_one_if, no_member, first_member, later_member, only_member, by_member}
+use Rattle.layout_laws.proofs.Members.{rises_filter, to_map, from_map, from_filter, from_flat_map, from_one_if, no_member, first_member, only_member, by_member}
 use Rattle.layout_laws.proofs.Places.{node_of, found}
 use Rattle.layout_laws.proofs.Kids.{IsArranged, IsMember, counts, order, own_place_is, own_place_from, own_place_within, own_box_at, anonymous_box_at}
+use Rattle.layout_laws.proofs.Runs.{is_in_some}
 
 -- ---- the kids of a node's own box
 
@@ -20,11 +23,7 @@ pub record IsKidPlace (items : List Item) (y : Item) (k : ℕ) : Type 0 where
   pub at_box : slice_get (boxes_of items) k ≡ Some box
   pub parent : box.parent ≡ option_map (own_place items) y.part.parent
 
-some_from_is_in : (n : ℕ) (o : Option ℕ) → is_in n o ≡ true → o ≡ Some n
-some_from_is_in n None t = absurd (cc)
-some_from_is_in n (Some m) t = ap Some (eqb-true m n t)
-
-count_least : (b : Bool) → 1 ≤ (if b then 2 else 1)
+pub count_least : (b : Bool) → 1 ≤ (if b then 2 else 1)
 count_least true = omega arith
 count_least false = omega arith
 
@@ -56,7 +55,7 @@ module _ (items : List Item) (arranged : IsArranged items) where
   after_parent : (x y : Item) → Contains items x → Contains (items_in items (node_of x)) y → Contains items y × (own_place items (node_of x) < boxes_before items (node_of y))
   after_parent x y i j =
       let chosen_y = from_filter (λ (item : Item). is_in (node_of x) item.part.parent) items y j in
-      let up = arranged.parents y (node_of x) chosen_y.0 (some_from_is_in (node_of x) y.part.parent chosen_y.1) in
+      let up = arranged.parents y (node_of x) chosen_y.0 (is_in_some (node_of x) y.part.parent chosen_y.1) in
       let within = own_place_within items arranged x i in
       let l = order items arranged x y i chosen_y.0 up.before in
       (chosen_y.0, omega (arith, within, l))
@@ -88,7 +87,7 @@ module _ (items : List Item) (arranged : IsArranged items) where
       let y = from.0 in
       let chosen_y = from_filter (λ (item : Item). is_in (node_of x) item.part.parent) items y from.1 in
       let here = kid_at y.part y.run k chosen_y.0 from.2 in
-      (here.box, here.at_box, here.parent ∙ ap (option_map (own_place items)) (some_from_is_in (node_of x) y.part.parent chosen_y.1))
+      (here.box, here.at_box, here.parent ∙ ap (option_map (own_place items)) (is_in_some (node_of x) y.part.parent chosen_y.1))
 
 -- ---- the kids of an anonymous block box
 

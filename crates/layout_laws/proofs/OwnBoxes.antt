@@ -1,8 +1,9 @@
 -- What a box of a page is, from its node and the node's style.
-use Rattle.std.proofs.Common.{◌≡◌, ℕ, ◌<◌, Bool, true, false, ◌==◌, ◌&&◌, ◌||◌, List, Option, Some, None, option_map, slice_get, is_some, refl, sym, ◌∙◌, ap, subst, arith, if◌then◌else◌, eqb-true, codes}
+use Rattle.std.proofs.Common.{◌≡◌, ℕ, ◌<◌, Bool, true, false, ◌==◌, ◌||◌, List, Option, Some, None, option_map, slice_get, is_some, refl, sym, ◌∙◌, ap, subst, arith, if◌then◌else◌, eqb-true, codes}
 use Rattle.std.specs.Option.{option_map_or}
 use Rattle.std.proofs.lemmas.Bool.Decides.{nat_tests}
 use Rattle.std.proofs.lemmas.Slice.Eq.{bytes_eq-Decides}
+use Rattle.std.proofs.Math.Bool.{and-false}
 use Rattle.viz_base.specs.Pages.{IsPage, is_element, is_break, is_replaced as is_replaced_body}
 use Rattle.viz_base.specs.Trees.{floats, is_anon, is_floated, is_replaced}
 use Rattle.viz_base.specs.declared.nodes.Body.{Body}
@@ -246,11 +247,7 @@ module _ (nodes : List Node) (styles : List Style) (page : IsPage nodes) where
   -- a `br` is not replaced
   no_image : (body : Body) → is_break body ≡ true → is_replaced_body body ≡ false
   no_image (of_body.Chars text) e = refl
-  no_image (of_body.Element element) e = let tag = (bytes_eq-Decides element.tag (codes "br")).0 e in rw tag (neither (is_some element.size))
-    where
-      neither : (sized : Bool) → (sized && false) ≡ false
-      neither true = refl
-      neither false = refl
+  no_image (of_body.Element element) e = let tag = (bytes_eq-Decides element.tag (codes "br")).0 e in rw tag (and-false (is_some element.size))
 
   pub break-law : (b : BoxNode) (n : Node) (s : Style) → IsOwnBox nodes styles b n s → 0 < b.node → is_break n.body ≡ true → IsInPieces (tree_styles nodes styles) b of_kind.Break
   break-law b n s i l e =

@@ -13,11 +13,12 @@ use Rattle.viz_base.specs.declared.styles.Display.TheVariants as of_display
 use Rattle.viz_base.specs.declared.styles.Style.{Style}
 use Rattle.viz_base.specs.declared.trees.Kind.{Kind}
 use Rattle.viz_base.specs.declared.trees.Kind.TheVariants as of_kind
+use Rattle.viz_base.proofs.ListLemmas.{slice_some}
+use Rattle.viz_base.specs.Orders.{Rises}
 use Rattle.layout_semantics.specs.Elements.{is_shown, parent_of}
 use Rattle.layout_semantics.specs.Parts.{Part, Level, kind_of_node, level_kind, inline_kind, level_of, part_of, shown_parts}
 use Rattle.layout_semantics.specs.WhiteSpace.{collapsed, collapsed_part, is_bare}
-pub use Rattle.layout_semantics.proofs.Pages.{slice_some}
-use Rattle.layout_laws.proofs.Members.{Rises, rises_filter, to_map, from_map, from_filter, to_filter}
+use Rattle.layout_laws.proofs.Members.{rises_filter, to_map, from_map, from_filter, to_filter}
 use Rattle.layout_laws.proofs.Shown.{from_shown, to_shown, shown_rise}
 use Rattle.layout_laws.proofs.Above.{parent_is, parent_shown}
 use Rattle.layout_laws.proofs.Runs.{AreParts}

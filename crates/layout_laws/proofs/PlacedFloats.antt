@@ -7,6 +7,7 @@ use Rattle.viz_base.specs.declared.layouts.Band.{Band}
 use Rattle.viz_base.specs.declared.layouts.Extent.{Extent}
 use Rattle.viz_base.specs.declared.styles.Side.{Side}
 use Rattle.viz_base.specs.declared.styles.Side.TheVariants as of_side
+use Rattle.viz_base.proofs.ListLemmas.{later_member}
 use Rattle.layout_semantics.specs.Floats.{FloatBox, Floating, float_top, with_float, placed_float, float_at}
 use Rattle.layout_semantics.specs.InlineContent.{Item, content, float_boxes, makes_line}
 use Rattle.layout_semantics.specs.Stretches.{stretches}
@@ -14,7 +15,7 @@ use Rattle.layout_semantics.specs.LineHeights.{InlineContext, line_extent, heigh
 use Rattle.layout_semantics.specs.LineFilling.{Met, Line, line_float, line_spot, with_spot, with_waiting, place_each, none_waits, leaves_room, meet, met_after, floats_met, first_items, width_held, stretches_held, before_line}
 use Rattle.layout_semantics.specs.Lines.{SoFar, LaidLines, before_all, next_line, laid_line, laid_no_line, laid_stretches, lines_to, lines_in}
 use Rattle.layout_laws.specs.FloatRules.{ObeysRules}
-use Rattle.layout_laws.proofs.Members.{first_member, later_member}
+use Rattle.layout_laws.proofs.Members.{first_member}
 use Rattle.layout_laws.proofs.Apart.{apart}
 use Rattle.layout_laws.proofs.FloatPlaces.{highest_obeys}
 use Rattle.layout_laws.specs.PlacedFloats.{ArePlacedAfter, none, next, IsClearOf, AreClear}

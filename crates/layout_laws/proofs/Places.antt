@@ -1,9 +1,11 @@
 -- The places of boxes: where each one stands in the list of boxes, and that places rise with nodes.
-use Rattle.std.proofs.Common.{◌≡◌, ℕ, zero, suc, ◌+◌, ◌<◌, ◌≤◌, Bool, true, false, nat_lt, List, [], ◌∷◌, ◌++◌, map, sum, flat_map, length, Some, slice_get, refl, sym, ◌∙◌, ap, subst, arith, if◌then◌else◌, zero-add, ltb-true, ltb-false, lt-ltb, le-ltb, ◌-◌, filter, Contains}
+use Rattle.std.proofs.Common.{◌≡◌, ℕ, suc, ◌+◌, ◌<◌, ◌≤◌, Bool, true, false, nat_lt, List, [], ◌∷◌, ◌++◌, map, sum, flat_map, length, Some, slice_get, refl, sym, ◌∙◌, ap, subst, arith, if◌then◌else◌, zero-add, ltb-true, ltb-false, lt-ltb, le-ltb, ◌-◌, filter, Contains}
 use Rattle.std.proofs.lemmas.List.Sums.{sum_by-cons}
 use Rattle.viz_base.specs.declared.trees.BoxNode.{BoxNode}
+use Rattle.viz_base.proofs.ListLemmas.{get_before, rises_from, later_member}
+use Rattle.viz_base.specs.Orders.{Rises}
 use Rattle.layout_semantics.specs.BoxTrees.{Item, box_count, is_before, boxes_before}
-use Rattle.layout_laws.proofs.Members.{Rises, rises_from, to_map, no_member, first_member, later_member, by_member}
+use Rattle.layout_laws.proofs.Members.{to_map, no_member, first_member, by_member}
 
 abbrev pub node_of : Item → ℕ
 node_of item = item.part.node
@@ -32,11 +34,6 @@ before_none low (x ∷ xs) n r l = let e : n ≤ node_of x = omega (arith, r.0) 
 
 -- ---- where the boxes of a node stand
 
-slice_front : {A : Type 0} (xs ys : List A) (j : ℕ) → j < length xs → slice_get (xs ++ ys) j ≡ slice_get xs j
-slice_front [] ys j l = absurd (omega (arith, l))
-slice_front (x ∷ xs) ys zero l = refl
-slice_front (x ∷ xs) ys (suc j) l = slice_front xs ys j (omega (arith, l))
-
 slice_back : {A : Type 0} (xs ys : List A) (j : ℕ) → slice_get (xs ++ ys) (length xs + j) ≡ slice_get ys j
 slice_back [] ys j = ap (slice_get ys) (zero-add j)
 slice_back (x ∷ xs) ys j = let e : suc (length xs) + j ≡ suc (length xs + j) = omega arith in rw e (slice_back xs ys j)
@@ -49,7 +46,7 @@ module _ (f : Item → List BoxNode) (counts : (y : Item) → length (f y) ≡ b
       (λ h.
       let first = before_first y xs (node_of y) (omega arith) ∙ before_none (suc (node_of y)) xs (node_of y) r.1 (omega arith) in
       let none = zero-add j in
-      rw (first, none) (slice_front (f y) (flat_map f xs) j h))
+      rw (first, none) (get_before (f y) (flat_map f xs) j h))
       (λ k h.
       let after = rises_from (suc (node_of y)) (map node_of xs) (node_of x) r.1 (to_map node_of xs x k) in
       let later = before_later y xs (node_of x) (omega (arith, after)) in
@@ -82,7 +79,7 @@ module _ (f : Item → List BoxNode) (counts : (y : Item) → length (f y) ≡ b
       by_test true s again =
           let l = ltb-true at (length (f x)) s in
           let first = before_first x xs (node_of x) (omega arith) ∙ before_none (suc (node_of x)) xs (node_of x) r.1 (omega arith) in
-          record { item = x; inside = first_member _ refl; offset = at; place = omega (arith, first); is = sym (slice_front (f x) (flat_map f xs) at l) ∙ e }
+          record { item = x; inside = first_member _ refl; offset = at; place = omega (arith, first); is = sym (get_before (f x) (flat_map f xs) at l) ∙ e }
       by_test false s again =
           let l = ltb-false at (length (f x)) s in
           let k : at ≡ length (f x) + (at - length (f x)) = omega (arith, l) in

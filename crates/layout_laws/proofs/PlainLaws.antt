@@ -8,6 +8,7 @@ use Rattle.viz_base.specs.declared.layouts.Band.{Band}
 use Rattle.viz_base.specs.declared.trees.BoxTree.{BoxTree}
 use Rattle.viz_base.specs.declared.worlds.World.{World}
 use Rattle.viz_base.specs.declared.renderings.Placed.{Placed}
+use Rattle.viz_base.proofs.ListLemmas.{all_parts, later_member}
 use Rattle.layout_semantics.specs.Order.{kids_of}
 use Rattle.layout_semantics.specs.Margins.{collapsed}
 use Rattle.layout_semantics.specs.Rectangles.{Frame, content_top, placed_box}
@@ -15,18 +16,10 @@ use Rattle.layout_semantics.specs.FlowBoxes.{is_replaced_at, is_context_root, is
 use Rattle.layout_semantics.specs.Flow.{Standing, at_top, below, Progress, Reached, reached, child, flow_to}
 use Rattle.layout_semantics.proofs.Forest.{both}
 use Rattle.layout_laws.specs.PlainFlow.{HasPlainBlocks, content_of, leading, all_margins, collapses, trailing}
-use Rattle.layout_laws.proofs.Members.{no_member, first_member, later_member, first_or_later}
+use Rattle.layout_laws.proofs.Members.{no_member, first_member, first_or_later}
 use Rattle.layout_laws.proofs.Flowing.{frame_of}
 use Rattle.layout_laws.proofs.PlainSteps.{IsPlain, edge_after, passed_by, started, inner_start, inner_height, entry_of, reached-plain, Behaves, step, plain-after, kids_reached, flow-is, flow-behaves}
 use Rattle.layout_laws.proofs.PlainTraces.{Tracing, content_trace, child_trace, children_trace, children_trace-append, trace_to, AreTraced, inner-floats, inner-standing, children-traced, children-ordered}
-
-all_left : (P : ℕ → Type 0) (xs ys : List ℕ) → AllByRecursion P (xs ++ ys) → AllByRecursion P xs
-all_left P [] ys a = tt
-all_left P (x ∷ xs) ys a = (a.0, all_left P xs ys a.1)
-
-all_right : (P : ℕ → Type 0) (xs ys : List ℕ) → AllByRecursion P (xs ++ ys) → AllByRecursion P ys
-all_right P [] ys a = a
-all_right P (x ∷ xs) ys a = all_right P xs ys a.1
 
 -- ---- passing boxes that collapse through
 
@@ -115,10 +108,10 @@ module _ (tree : BoxTree) (w : World) (height : ℕ) where
       in-all pre c post e = subst (λ (ks : List ℕ). Contains (children_trace tree w height inside traced cb top p ks) (c, entry_of tree w height inside cb (after pre) c)) (sym e) (in-trace cb top p pre c post)
 
       reach-left : (pre post : List ℕ) → kids_of tree.boxes b ≡ pre ++ post → AllByRecursion Reach pre
-      reach-left pre post e = all_left Reach pre post (subst (AllByRecursion Reach) e reach)
+      reach-left pre post e = (all_parts Reach pre post (subst (AllByRecursion Reach) e reach)).0
 
       reach-right : (pre post : List ℕ) → kids_of tree.boxes b ≡ pre ++ post → AllByRecursion Reach post
-      reach-right pre post e = all_right Reach pre post (subst (AllByRecursion Reach) e reach)
+      reach-right pre post e = (all_parts Reach pre post (subst (AllByRecursion Reach) e reach)).1
 
       first-stands : (passed : List ℕ) (c : ℕ) (post : List ℕ) → kids_of tree.boxes b ≡ passed ++ c ∷ post → IsTrue (list_all (collapses tree w height) passed)
           → (entry_of tree w height inside cb (after passed) c).border.top ≡ edge_after (passed_by (started y top opens) (flat_map (all_margins tree w height cb) passed)) (leading tree w height cb c)
@@ -136,7 +129,7 @@ module _ (tree : BoxTree) (w : World) (height : ℕ) where
       next-stands before u passed c post e n t =
           let ra = reach-left before (u ∷ (passed ++ c ∷ post)) e in
           let rb = reach-right before (u ∷ (passed ++ c ∷ post)) e in
-          let rc = all_left Reach passed (c ∷ post) rb.1 in
+          let rc = (all_parts Reach passed (c ∷ post) rb.1).0 in
           let k = kept cb top before p ra none start-plain in
           let s = step tree w height plain inside levels behaves cb top (after before) u rb.0.0 rb.0.1 k.0 k.1 in
           let i = plain-after tree w height plain inside levels behaves cb top (after before) u k.1 s in

@@ -11,6 +11,7 @@ use Rattle.viz_base.specs.declared.trees.BoxTree.{BoxTree}
 use Rattle.viz_base.specs.declared.worlds.World.{World}
 use Rattle.viz_base.specs.declared.renderings.Placed.{Placed}
 use Rattle.viz_base.specs.declared.renderings.Rendering.{Rendering}
+use Rattle.viz_base.proofs.ListLemmas.{later_member}
 use Rattle.layout_semantics.specs.Order.{kids_of, document_order, page_order, roots}
 use Rattle.layout_semantics.specs.Margins.{collapsed}
 use Rattle.layout_semantics.specs.Rectangles.{Frame, content_top, placed_box}
@@ -23,7 +24,7 @@ use Rattle.layout_semantics.specs.Page.{page_rendering}
 use Rattle.layout_semantics.proofs.Pages.{forest, page-distinct}
 use Rattle.layout_semantics.proofs.Orders.{document_order-is}
 use Rattle.layout_laws.specs.PlainFlow.{HasPlainBlocks, IsEntryOf, content_of, leading, all_margins, collapses, trailing}
-use Rattle.layout_laws.proofs.Members.{first_member, later_member, first_or_later, member_place}
+use Rattle.layout_laws.proofs.Members.{first_member, first_or_later, member_place}
 use Rattle.layout_laws.proofs.Flowing.{replaced_holds_none}
 use Rattle.layout_laws.proofs.PlainSteps.{edge_after, passed_by, started}
 use Rattle.layout_laws.proofs.PlainTraces.{boxes_in, entries_in, trace_to, IsTrace, map_none}

@@ -1,6 +1,7 @@
 -- The steps of normal flow without floats and clearance: where a block is reached, and where the next one stands after it.
 use Rattle.std.proofs.Common.{◌≡◌, ℕ, zero, suc, ◌+◌, ◌<◌, ◌≤◌, ℤ, ◌+ℤ◌, Bool, true, false, not, ◌&&◌, ◌||◌, List, [], ◌∷◌, ◌++◌, length, fold, refl, sym, ap, ◌∙◌, subst, arith, None, Some}
 use Rattle.std.specs.List.{list_all, AllByRecursion}
+use Rattle.std.proofs.Math.Bool.{and-false}
 use Rattle.viz_base.specs.declared.layouts.Band.{Band}
 use Rattle.viz_base.specs.declared.trees.BoxTree.{BoxTree}
 use Rattle.viz_base.specs.declared.worlds.World.{World}
@@ -69,10 +70,6 @@ both_ways t false a m e f = ap (λ c. c && m) e ∙ ap (λ c. c && a) (sym (f re
 and_true : (t : Bool) → (t && true) ≡ t
 and_true true = refl
 and_true false = refl
-
-and_false : (t : Bool) → (t && false) ≡ false
-and_false true = refl
-and_false false = refl
 
 and_assoc : (a b c : Bool) → ((a && b) && c) ≡ (a && (b && c))
 and_assoc true b c = refl
@@ -283,7 +280,7 @@ module _ (tree : BoxTree) (w : World) (height : ℕ) (plain : HasPlainBlocks tre
       where
         by_sort : (c : Bool) → collapses tree w height k ≡ c → Follows tree w height (child tree w height inside cb top p k).standing (after_child tree w height (trailing tree w height) cb run k) (t && collapses tree w height k)
         by_sort true e = rw (s.passed e, e) (follows-passed p.standing run (all_margins tree w height cb k) t f)
-        by_sort false e = rw (s.stands e, e) (record { top = sym (and_false t); joined = λ g. refl; is_plain = refl })
+        by_sort false e = rw (s.stands e, e) (record { top = sym (and-false t); joined = λ g. refl; is_plain = refl })
 
     pub record HasEnded (cb : Band ℤ) (ks : List ℕ) (run : List ℤ) (t : Bool) (end : Progress) : Type 0 where
       floats : end.floats ≡ []

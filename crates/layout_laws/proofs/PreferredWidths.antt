@@ -17,7 +17,7 @@ pub by_sort : (tree : BoxTree) (w : World) (at : ℕ) → at < length tree.boxes
     → preferred tree w at ≡ preferred_of_sort tree w at (outer_widths tree w (inner_boxes tree at)) (outer_widths tree w (kids_of tree.boxes at)) (inside_of tree at)
 by_sort tree w at l = preferred-by-inside tree w at (IsForest-from tree.boxes tree.styles tree.fonts tree.parents tree.ok) l
 
-with_sort : (tree : BoxTree) (w : World) (at : ℕ) (s : Inside) → at < length tree.boxes → inside_of tree at ≡ s
+pub with_sort : (tree : BoxTree) (w : World) (at : ℕ) (s : Inside) → at < length tree.boxes → inside_of tree at ≡ s
     → preferred tree w at ≡ preferred_of_sort tree w at (outer_widths tree w (inner_boxes tree at)) (outer_widths tree w (kids_of tree.boxes at)) s
 with_sort tree w at s l e = by_sort tree w at l ∙ ap (preferred_of_sort tree w at (outer_widths tree w (inner_boxes tree at)) (outer_widths tree w (kids_of tree.boxes at))) e
 

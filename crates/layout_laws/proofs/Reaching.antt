@@ -5,13 +5,14 @@ use Rattle.std.specs.Option.{option_map_or, option_or}
 use Rattle.std.proofs.lemmas.Bool.{eqb-false, not-true}
 use Rattle.std.proofs.lemmas.List.Sums.{sum_by-cons}
 use Rattle.std.proofs.lemmas.List.FromFn.{length-enumerate_from}
+use Rattle.std.proofs.lemmas.List.{length-map}
 use Rattle.viz_base.specs.declared.fonts.Font.{Font}
 use Rattle.viz_base.specs.declared.styles.Style.{Style}
 use Rattle.viz_base.specs.declared.trees.BoxNode.{BoxNode}
 use Rattle.viz_base.specs.Reaches.{whole, quotient_up, is_of_element, ratio, growth, box_growth, own_extent, text_extent, box_extents, total_extent, reach_in, reach_to, reaches, sums, passes_most, node_of_place, beyond_reach}
-use Rattle.layout_laws.proofs.Members.{no_member, first_member, later_member, by_member}
-use Rattle.layout_laws.proofs.TreeFacts.{slice_in, length_mapped}
-use Rattle.layout_laws.proofs.PageParts.{slice_some}
+use Rattle.viz_base.proofs.ListLemmas.{slice_some, later_member}
+use Rattle.layout_laws.proofs.Members.{no_member, first_member, by_member}
+use Rattle.layout_laws.proofs.TreeFacts.{slice_in}
 
 -- ---- from the box around
 
@@ -114,13 +115,13 @@ module _ (styles : List Style) (parents : List (Option ℕ)) (fonts : List Font)
       by_lists None a None b f = (refl, refl)
       by_lists None a (Some k) b f =
           let within = position_within (passes_most styles parents fonts) (reaches styles parents fonts boxes) k b in
-          let size = length_mapped (λ (e : ℕ × BoxNode). reach_to styles parents fonts (length boxes) boxes (total_extent styles parents fonts boxes) e.0) (enumerate_from 0 boxes) in
+          let size = length-map (enumerate_from 0 boxes) (λ (e : ℕ × BoxNode). reach_to styles parents fonts (length boxes) boxes (total_extent styles parents fonts boxes) e.0) in
           let all = length-enumerate_from 0 boxes in
           absurd (named k (omega (arith, within, size, all)) f)
       by_lists (Some k) a p b f =
           let within = position_within (passes_most styles parents fonts) (sums styles parents fonts (2 ^ 21) (box_extents styles parents fonts boxes)) k a in
           let size = length_sums (2 ^ 21) (box_extents styles parents fonts boxes) in
-          let all = length_mapped (λ (b : BoxNode). own_extent styles parents fonts b + text_extent styles parents fonts b) boxes in
+          let all = length-map boxes (λ (b : BoxNode). own_extent styles parents fonts b + text_extent styles parents fonts b) in
           absurd (named k (omega (arith, within, size, all)) f)
 
   pub total_bounded : (boxes : List BoxNode) → beyond_reach styles parents fonts boxes ≡ None → total_extent styles parents fonts boxes ≤ 2 ^ 40

@@ -3,10 +3,12 @@ use Rattle.std.proofs.Common.{◌≡◌, ℕ, suc, ◌<◌, ◌≤◌, Bool, tru
 use Rattle.std.proofs.lemmas.List.Elements.{Contains-append_right, Contains-get_or}
 use Rattle.std.proofs.lemmas.List.Folds.{list_any_none}
 use Rattle.std.specs.List.{list_any}
+use Rattle.viz_base.proofs.ListLemmas.{in_flat_map, rises_from, rises_lower, later_member}
+use Rattle.viz_base.specs.Orders.{Rises}
 use Rattle.layout_semantics.specs.Parts.{Part, Level}
 use Rattle.layout_semantics.specs.WhiteSpace.{is_in}
 use Rattle.layout_semantics.specs.BoxTrees.{Item, items_of, run_around, first_of, has_node, nodes_of, parts_in, wrapped_in, runs_of, with_part, needs_box, is_block_part}
-use Rattle.layout_laws.proofs.Members.{Rises, rises_from, rises_lower, rises_filter, to_map, from_map, from_filter, no_member, first_member, later_member, first_or_later, by_member, to_flat_map, any_from}
+use Rattle.layout_laws.proofs.Members.{rises_filter, to_map, from_map, from_filter, no_member, first_member, first_or_later, by_member, any_from}
 use Rattle.layout_laws.proofs.Places.{node_of}
 use Rattle.layout_laws.proofs.Kids.{IsArranged, IsRun}
 
@@ -53,7 +55,7 @@ find_run low (other ∷ runs) run k r i j =
     ⊎_elim
     (λ e. ap (λ b. if b then Some other else find (has_node k) runs) (has_its_node other k (subst (λ ks. Contains ks k) (sym e) j)) ∙ ap Some e)
     (λ m.
-    let none = has_no_later_node other k (λ a h. rises_cross low other (flat_map (λ run. run) runs) a k r h (to_flat_map (λ ks. ks) runs run k m j)) in
+    let none = has_no_later_node other k (λ a h. rises_cross low other (flat_map (λ run. run) runs) a k r h (in_flat_map (λ ks. ks) runs run k m j)) in
     ap (λ b. if b then Some other else find (has_node k) runs) none ∙ find_run low runs run k (rises_right low other (flat_map (λ run. run) runs) r) m j)
     (first_or_later other runs run i)
 

@@ -13,20 +13,21 @@ use Rattle.viz_base.specs.declared.styles.Style.{Style}
 use Rattle.viz_base.specs.declared.trees.BoxNode.{BoxNode}
 use Rattle.viz_base.specs.declared.trees.Kind.{Kind}
 use Rattle.viz_base.specs.declared.trees.Kind.TheVariants as of_kind
+use Rattle.viz_base.proofs.ListLemmas.{in_flat_map, rises_from, later_member}
+use Rattle.viz_base.specs.Orders.{Rises}
 use Rattle.layout_semantics.specs.Parts.{Part, Level, kind_of_node, level_kind, level_of, style_level, display_level}
 use Rattle.layout_semantics.specs.WhiteSpace.{is_in}
 use Rattle.layout_semantics.specs.BoxTrees.{Item, boxes_before, begins_run, own_place, first_of, has_node, nodes_of, kid_place, kid_places, items_in, items_of, own_box, run_around, parts_in, runs_of, wrapped_in, with_part, needs_box, is_block_part, is_block_level, is_floated_level, page_parts, page_boxes, tree_styles}
 use Rattle.layout_laws.specs.Apart.{IsBlockBetween}
-use Rattle.layout_laws.proofs.Members.{Rises, rises_from, from_map, to_map, from_filter, to_filter, from_flat_map, to_flat_map, from_one_if, rises_filter, any_in, unique_in, no_member, first_member, later_member, first_or_later, only_member, by_member}
+use Rattle.layout_laws.proofs.Members.{from_map, to_map, from_filter, to_filter, from_flat_map, from_one_if, rises_filter, any_in, unique_in, no_member, first_member, first_or_later, only_member, by_member}
 use Rattle.layout_laws.proofs.Places.{node_of}
 use Rattle.layout_laws.proofs.Kids.{IsMember, order, own_box_at, own_place_from, own_place_within}
-use Rattle.layout_laws.proofs.Nesting.{IsBoxOf}
+use Rattle.layout_laws.proofs.Nesting.{IsBoxOf, count_least}
 use Rattle.layout_laws.proofs.Runs.{found_in, from_runs, is_in_some, run_parent}
 use Rattle.layout_laws.proofs.PageParts.{page_rises}
 use Rattle.layout_laws.proofs.BoxLaws.{page_arranged}
 use Rattle.layout_laws.proofs.BoxFacts.{item_known, item_part, no_anon, page_box_is}
 use Rattle.layout_laws.proofs.Sorts.{own_inline_level, run_in, run_no_block}
-use Rattle.layout_laws.proofs.TreeFacts.{one_at_least}
 
 -- ---- runs in order
 
@@ -284,13 +285,13 @@ module _ (nodes : List Node) (styles : List Style) (page : IsPage nodes) where
       let second = order (items_of (page_parts nodes styles)) (page_arranged nodes styles page) x b.item i b.inside high in
       let from = own_place_from (items_of (page_parts nodes styles)) (page_arranged nodes styles page) x i in
       let within = own_place_within (items_of (page_parts nodes styles)) (page_arranged nodes styles page) x i in
-      let least = one_at_least (begins_run a.item) in
+      let least = count_least (begins_run a.item) in
       let here = a.place in
       let there = b.place in
       record {
         place = own_place (items_of (page_parts nodes styles)) (node_of x);
         box = own_box (items_of (page_parts nodes styles)) x;
-        inside = to_flat_map (kid_place (items_of (page_parts nodes styles))) (items_in (items_of (page_parts nodes styles)) n) x (own_place (items_of (page_parts nodes styles)) (node_of x))
+        inside = in_flat_map (kid_place (items_of (page_parts nodes styles))) (items_in (items_of (page_parts nodes styles)) n) x (own_place (items_of (page_parts nodes styles)) (node_of x))
             (to_filter (λ (item : Item). is_in n item.part.parent) (items_of (page_parts nodes styles)) x i (ap (is_in n) up ∙ eq-eqb n n refl)) (own_kid x.part x.run (no_run x i block));
         is = own_box_at (items_of (page_parts nodes styles)) (page_arranged nodes styles page) x i;
         above = omega (arith, first, from, least, here);

@@ -3,9 +3,11 @@ use Rattle.std.proofs.Common.{◌≡◌, ℕ, zero, suc, ◌+◌, Bool, true, fa
 use Rattle.std.specs.List.{enumerate_from, cons_option}
 use Rattle.viz_base.specs.declared.nodes.Node.{Node}
 use Rattle.viz_base.specs.declared.styles.Style.{Style}
+use Rattle.viz_base.proofs.ListLemmas.{rises_lower, later_member}
+use Rattle.viz_base.specs.Orders.{Rises}
 use Rattle.layout_semantics.specs.Elements.{is_shown}
 use Rattle.layout_semantics.specs.Parts.{Part, part_of, shown_part, shown_parts}
-use Rattle.layout_laws.proofs.Members.{Rises, rises_lower, no_member, first_member, later_member, first_or_later, by_member}
+use Rattle.layout_laws.proofs.Members.{no_member, first_member, first_or_later, by_member}
 
 -- ---- lists
 

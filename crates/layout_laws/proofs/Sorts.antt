@@ -15,11 +15,12 @@ use Rattle.viz_base.specs.declared.styles.Style.{Style}
 use Rattle.viz_base.specs.declared.trees.BoxNode.{BoxNode}
 use Rattle.viz_base.specs.declared.trees.Kind.{Kind}
 use Rattle.viz_base.specs.declared.trees.Kind.TheVariants as of_kind
+use Rattle.viz_base.proofs.ListLemmas.{later_member}
 use Rattle.layout_semantics.specs.Parts.{Part, Level, kind_of_node, level_kind, inline_kind, level_of, style_level, display_level}
 use Rattle.layout_semantics.specs.WhiteSpace.{is_in}
 use Rattle.layout_semantics.specs.BoxTrees.{Item, boxes_before, own_place, first_of, has_node, nodes_of, kid_place, kid_places, items_in, items_of, own_box, anonymous_box, boxes_of, run_around, parts_in, runs_of, wrapped_in, with_part, needs_box, is_block_part, is_block_level, is_floated_level, page_parts, page_boxes, tree_styles}
 use Rattle.layout_semantics.specs.Refusals.{blocks_in_inlines, is_inline_box}
-use Rattle.layout_laws.proofs.Members.{from_map, to_map, from_filter, to_filter, from_flat_map, from_one_if, rises_filter, any_in, any_from, any_none, all_from, unique_in, no_member, first_member, later_member, first_or_later, only_member, by_member}
+use Rattle.layout_laws.proofs.Members.{from_map, to_map, from_filter, to_filter, from_flat_map, from_one_if, rises_filter, any_in, any_from, any_none, all_from, unique_in, no_member, first_member, first_or_later, only_member, by_member}
 use Rattle.layout_laws.proofs.Places.{node_of}
 use Rattle.layout_laws.proofs.Kids.{IsArranged, own_box_at, anonymous_box_at}
 use Rattle.layout_laws.proofs.Nesting.{IsBoxOf}

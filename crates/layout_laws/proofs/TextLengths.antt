@@ -9,10 +9,12 @@ use Rattle.viz_base.specs.declared.nodes.Node.{Node}
 use Rattle.viz_base.specs.declared.styles.Style.{Style}
 use Rattle.viz_base.specs.declared.trees.Kind.{Kind}
 use Rattle.viz_base.specs.declared.trees.Kind.TheVariants as of_kind
+use Rattle.viz_base.proofs.ListLemmas.{rises_from}
+use Rattle.viz_base.specs.Orders.{Rises}
 use Rattle.layout_semantics.specs.Lists.{one_if}
 use Rattle.layout_semantics.specs.Parts.{Part, Level, shown_parts}
 use Rattle.layout_semantics.specs.WhiteSpace.{Thing, stays, is_white, keeps_white, collapsed_things, letter_of, letters_of, things_of, things_in, level_things, inline_things, is_in, is_bare, collapsed, collapsed_part}
-use Rattle.layout_laws.proofs.Members.{Rises, rises_from, to_map, from_map, from_filter, no_member, first_or_later}
+use Rattle.layout_laws.proofs.Members.{to_map, from_map, from_filter, no_member, first_or_later}
 use Rattle.layout_laws.proofs.Shown.{from_shown, shown_rise}
 use lib.Utf8.{encode}
 

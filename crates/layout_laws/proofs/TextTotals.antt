@@ -8,11 +8,12 @@ use Rattle.viz_base.specs.Pages.{IsPage, text_of}
 use Rattle.viz_base.specs.declared.nodes.Node.{Node}
 use Rattle.viz_base.specs.declared.styles.Style.{Style}
 use Rattle.viz_base.specs.declared.trees.BoxNode.{BoxNode}
+use Rattle.viz_base.proofs.ListLemmas.{later_member}
 use Rattle.layout_semantics.specs.Elements.{is_shown}
 use Rattle.layout_semantics.specs.Parts.{Part, part_of, shown_part, shown_parts}
 use Rattle.layout_semantics.specs.WhiteSpace.{is_bare, collapsed_part}
 use Rattle.layout_semantics.specs.BoxTrees.{Item, run_around, items_of, begins_run, with_anonymous, boxes_at, own_box, page_parts, page_boxes, tree_styles}
-use Rattle.layout_laws.proofs.Members.{first_member, later_member}
+use Rattle.layout_laws.proofs.Members.{first_member}
 use Rattle.layout_laws.proofs.TextLengths.{length_encoded, collapsed_within}
 
 -- ---- sums

@@ -1,10 +1,11 @@
 -- The boxes of a page keep what a box tree does.
-use Rattle.std.proofs.Common.{◌≡◌, ℕ, zero, suc, ◌<◌, ◌≤◌, Bool, true, false, not, nat_lt, ◌==◌, ◌&&◌, ◌||◌, List, [], ◌∷◌, map, zip, length, Option, Some, None, option_map, option_and_then, slice_get, IsTrue, refl, sym, ◌∙◌, ap, subst, arith, if◌then◌else◌, eq-eqb, eqb-true, lt-ltb, Contains}
+use Rattle.std.proofs.Common.{◌≡◌, ℕ, zero, suc, ◌<◌, ◌≤◌, Bool, true, false, not, nat_lt, ◌==◌, ◌&&◌, ◌||◌, List, [], map, zip, length, Option, Some, None, option_map, option_and_then, slice_get, IsTrue, refl, sym, ◌∙◌, ap, subst, arith, if◌then◌else◌, eq-eqb, eqb-true, lt-ltb, Contains}
 use Rattle.std.specs.List.{list_any, list_all, enumerate_from}
 use Rattle.std.specs.Option.{option_map_or}
 use Rattle.std.specs.Str.{chars}
 use Rattle.std.proofs.lemmas.Option.{slice_get_within, slice_get-map, get_or_from_slice_get}
 use Rattle.std.proofs.lemmas.List.FromFn.{length-enumerate_from}
+use Rattle.std.proofs.lemmas.List.{length-map}
 use Rattle.viz_base.specs.Pages.{IsPage, is_element}
 use Rattle.viz_base.specs.Orders.{IsInOrder}
 use Rattle.viz_base.specs.Trees.{IsBoxTree, IsBoxAt, AreAlikeButSize, has_box, has_element, is_chars, is_element_box, is_fragmented, is_in_parent, is_leaf, is_line, is_same_size, named_nodes}
@@ -14,6 +15,7 @@ use Rattle.viz_base.specs.declared.nodes.Node.{Node}
 use Rattle.viz_base.specs.declared.styles.Style.{Style}
 use Rattle.viz_base.specs.declared.trees.BoxNode.{BoxNode}
 use Rattle.viz_base.specs.declared.trees.Kind.TheVariants as of_kind
+use Rattle.viz_base.proofs.ListLemmas.{slice_some, length_zip}
 use Rattle.layout_semantics.specs.Elements.{is_shown, parent_of, ancestors, upwards}
 use Rattle.layout_semantics.specs.Parts.{Part, kind_of_node}
 use Rattle.layout_semantics.specs.WhiteSpace.{is_in}
@@ -23,10 +25,10 @@ use Rattle.layout_laws.specs.Styled.{AreStylesOf, is_at_or_above}
 use Rattle.layout_laws.proofs.Members.{any_in, any_from, all_from, all_in, to_map, no_member, by_member, member_place}
 use Rattle.layout_laws.proofs.Places.{node_of}
 use Rattle.layout_laws.proofs.Kids.{IsArranged, order, own_place_from, own_box_at}
-use Rattle.layout_laws.proofs.Nesting.{IsBoxOf, kids_ascend, kids_name}
+use Rattle.layout_laws.proofs.Nesting.{IsBoxOf, kids_ascend, kids_name, count_least}
 use Rattle.layout_laws.proofs.Above.{parent_is, parent_shown}
 use Rattle.layout_laws.proofs.Runs.{run_parent}
-use Rattle.layout_laws.proofs.PageParts.{no_chars, slice_some, to_page}
+use Rattle.layout_laws.proofs.PageParts.{no_chars, to_page}
 use Rattle.layout_laws.proofs.BoxLaws.{page_arranged}
 use Rattle.layout_laws.proofs.BoxFacts.{item_known, item_part, no_line, page_box_is, size_where_replaced, tree_style_at}
 use Rattle.layout_laws.proofs.BoxContent.{box_shown, leaf_has_none, upwards_within}
@@ -35,19 +37,9 @@ use Rattle.layout_laws.proofs.Sorts.{one_sort}
 
 -- ---- the styles of the tree
 
-length_zip : {A B : Type 0} (xs : List A) (ys : List B) → length xs ≡ length ys → length (zip xs ys) ≡ length ys
-length_zip [] [] e = refl
-length_zip [] (y ∷ ys) e = absurd (omega (arith, e))
-length_zip (x ∷ xs) [] e = absurd (omega (arith, e))
-length_zip (x ∷ xs) (y ∷ ys) e = ap suc (length_zip xs ys (omega (arith, e)))
-
-pub length_mapped : {A B : Type 0} (f : A → B) (xs : List A) → length (map f xs) ≡ length xs
-length_mapped f [] = refl
-length_mapped f (x ∷ xs) = ap suc (length_mapped f xs)
-
-tree_styles_length : (nodes : List Node) (styles : List Style) → length styles ≡ length nodes → length (tree_styles nodes styles) ≡ length nodes
+pub tree_styles_length : (nodes : List Node) (styles : List Style) → length styles ≡ length nodes → length (tree_styles nodes styles) ≡ length nodes
 tree_styles_length nodes styles e =
-    length_mapped (tree_style_of (viewport_clip nodes styles)) (zip (enumerate_from 0 nodes) styles)
+    length-map (zip (enumerate_from 0 nodes) styles) (tree_style_of (viewport_clip nodes styles))
     ∙ (length_zip (enumerate_from 0 nodes) styles (length-enumerate_from 0 nodes ∙ sym e) ∙ e)
 
 -- a style of the tree is one that was given
@@ -92,10 +84,6 @@ slice_in xs k x e = (k, slice_get_within xs k x e, get_or_from_slice_get xs k x 
 
 -- ---- the root
 
-pub one_at_least : (b : Bool) → 1 ≤ (if b then 2 else 1)
-one_at_least true = omega arith
-one_at_least false = omega arith
-
 outer_none : (items : List Item) (p : Part) (run : Option (List ℕ)) → p.parent ≡ None → run ≡ None → outer_place items (record { part = p; run = run }) ≡ None
 outer_none items p None e f = ap (option_map (own_place items)) e
 outer_none items p (Some run) e f = absurd (cc)
@@ -105,7 +93,7 @@ module _ (items : List Item) (arranged : IsArranged items) where
   after_parents x q i e =
       let up = arranged.parents x q i e in
       let o = order items arranged up.parent x up.inside i (subst (λ n. n < node_of x) (sym up.node) up.before) in
-      let least : 1 ≤ box_count up.parent = one_at_least _ in
+      let least : 1 ≤ box_count up.parent = count_least _ in
       omega (arith, o, least)
 
   pub no_parent : (x : Item) → Contains items x → boxes_before items (node_of x) ≡ 0 → x.part.parent ≡ None
@@ -343,7 +331,7 @@ module _ (nodes : List Node) (styles : List Style) (fonts : List Font) (page : I
     each = λ at b e. box_fits none at b e;
     fonts_there = fonts_there;
     nodes_there = nodes_there;
-    one_parent_each = length_mapped (λ (n : Node). n.parent) nodes ∙ sym size_of_styles;
+    one_parent_each = length-map nodes (λ (n : Node). n.parent) ∙ sym size_of_styles;
     parents_before = λ at q e. (parent_is nodes page at q (parent_from at q e)).0;
     parents_boxed = parents_boxed;
     names_boxed = names_boxed;

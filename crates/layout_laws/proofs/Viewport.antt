@@ -2,12 +2,12 @@
 use Rattle.std.proofs.Common.{◌≡◌, ℕ, zero, suc, ◌+◌, ◌<◌, Bool, true, false, not, ◌&&◌, ◌==◌, List, [], ◌∷◌, find, IsTrue, Option, None, Some, option_map, slice_get, refl, sym, ap, ◌∙◌, arith, codes, if◌then◌else◌}
 use Rattle.std.specs.List.{enumerate_from}
 use Rattle.std.specs.Option.{option_map_or}
-use Rattle.std.proofs.lemmas.Bool.Decides.{nat_tests}
 use Rattle.viz_base.specs.Pages.{is_element, is_element_at, has_tag}
 use Rattle.viz_base.specs.declared.nodes.Body.{Body}
 use Rattle.viz_base.specs.declared.nodes.Body.TheVariants as of_body
 use Rattle.viz_base.specs.declared.nodes.Node.{Node}
 use Rattle.viz_base.specs.declared.styles.Style.{Style}
+use Rattle.viz_base.proofs.Truths.{same_number}
 use Rattle.layout_semantics.specs.Elements.{node_passes}
 use Rattle.layout_semantics.specs.WhiteSpace.{is_in}
 use Rattle.layout_semantics.specs.BoxTrees.{clips_at, first_body, viewport_clip, tree_style_of, tree_styles}
@@ -30,9 +30,6 @@ find_first i (m ∷ ms) (suc at) n e b f =
 tagged : (tag : List ℕ) (b : Body) → has_tag tag b ≡ true → is_element b ≡ true
 tagged tag (of_body.Element e) t = refl
 tagged tag (of_body.Chars text) t = absurd (cc)
-
-itself : (at : ℕ) → (at == at) ≡ true
-itself at = grind (arith, nat_tests)
 
 module _ (nodes : List Node) (styles : List Style) (at : ℕ) where
   -- an element clips in the tree where its own style does and its overflow does not go to the viewport
@@ -60,7 +57,7 @@ module _ (nodes : List Node) (styles : List Style) (at : ℕ) where
       by_node None e t = absurd (cc)
       by_node (Some n) e t =
           element-clips n e (tagged (codes "body") n.body (both (option_map_or (λ p. p == 0) n.parent false) (has_tag (codes "body") n.body) t).1)
-          ∙ (ap (λ (o : Option ℕ). not (is_in at o) && clips_at styles at) (given n e t) ∙ ap (λ (b : Bool). not b && clips_at styles at) (itself at))
+          ∙ (ap (λ (o : Option ℕ). not (is_in at o) && clips_at styles at) (given n e t) ∙ ap (λ (b : Bool). not b && clips_at styles at) (same_number at))
 
   pub others-do : IsTrue (is_element_at nodes at) → clips_at styles 0 ≡ true → clips_at (tree_styles nodes styles) at ≡ clips_at styles at
   others-do element clips = by_node (slice_get nodes at) refl element

@@ -11,6 +11,7 @@ use Rattle.viz_base.specs.declared.nodes.Node.{Node}
 use Rattle.viz_base.specs.declared.styles.Style.{Style}
 use Rattle.viz_base.specs.declared.trees.BoxNode.{BoxNode}
 use Rattle.viz_base.specs.declared.trees.Kind.TheVariants as of_kind
+use Rattle.viz_base.proofs.ListLemmas.{slice_some, in_flat_map, later_member}
 use Rattle.layout_semantics.specs.Blocks.{parent_of as parent_of_box}
 use Rattle.layout_semantics.specs.Order.{kids_of, roots, IsOnPage}
 use Rattle.layout_semantics.specs.Elements.{is_closed, is_hidden, is_shown, node_passes, ancestors, parent_of}
@@ -18,13 +19,12 @@ use Rattle.layout_semantics.specs.Lists.{one_if}
 use Rattle.layout_semantics.specs.Parts.{Part, Level, level_of, is_context, kind_of_node}
 use Rattle.layout_semantics.specs.WhiteSpace.{is_in}
 use Rattle.layout_semantics.specs.BoxTrees.{Item, boxes_before, own_place, outer_place, first_of, has_node, nodes_of, kid_place, kid_places, items_in, items_of, own_box, anonymous_box, begins_run, parts_in, wrapped_in, page_parts, page_boxes, tree_styles, tree_style_of, viewport_clip, is_block_level, is_floated_level}
-use Rattle.layout_laws.proofs.Members.{to_map, to_filter, to_flat_map, any_in, any_from, no_member, first_member, later_member, first_or_later}
+use Rattle.layout_laws.proofs.Members.{to_map, to_filter, any_in, any_from, no_member, first_member, first_or_later}
 use Rattle.layout_laws.proofs.Places.{node_of, before_none}
 use Rattle.layout_laws.proofs.Kids.{own_box_at, anonymous_box_at, own_place_is, own_place_from}
 use Rattle.layout_laws.proofs.Nesting.{IsBoxOf}
 use Rattle.layout_laws.proofs.Above.{parent_is}
 use Rattle.layout_laws.proofs.Runs.{run_parent, found_in}
-use Rattle.layout_laws.proofs.PageParts.{slice_some}
 use Rattle.layout_laws.proofs.BoxLaws.{page_arranged, ascending}
 use Rattle.layout_laws.proofs.BoxFacts.{item_known, page_box_is, hidden_alike, tree_style_at}
 use Rattle.layout_laws.proofs.BoxContent.{upwards_within}
@@ -50,7 +50,7 @@ module _ (nodes : List Node) (styles : List Style) (page : IsPage nodes) where
       let arranged = page_arranged nodes styles page in
       let up = arranged.parents y q i e in
       let kid = to_filter (λ (item : Item). is_in q item.part.parent) (items_of (page_parts nodes styles)) y i (ap (is_in q) e ∙ eq-eqb q q refl) in
-      let there = to_flat_map (kid_place (items_of (page_parts nodes styles))) (items_in (items_of (page_parts nodes styles)) q) y k kid j in (
+      let there = in_flat_map (kid_place (items_of (page_parts nodes styles))) (items_in (items_of (page_parts nodes styles)) q) y k kid j in (
         own_box (items_of (page_parts nodes styles)) up.parent,
         ap (λ n. slice_get (page_boxes nodes styles) (own_place (items_of (page_parts nodes styles)) n)) (sym up.node) ∙ own_box_at (items_of (page_parts nodes styles)) arranged up.parent up.inside,
         subst (λ n. Contains (kid_places (items_of (page_parts nodes styles)) n) k) (sym up.node) there,

@@ -13,6 +13,7 @@ use Rattle.viz_base.specs.declared.trees.BoxTree.{BoxTree}
 use Rattle.viz_base.specs.declared.trees.Kind.{Kind}
 use Rattle.viz_base.specs.declared.trees.Kind.TheVariants as of_kind
 use Rattle.viz_base.specs.declared.worlds.World.{World}
+use Rattle.viz_base.proofs.ListLemmas.{all_append}
 use Rattle.layout_semantics.specs.Lists.{one_if}
 use Rattle.layout_semantics.specs.Order.{kids_of, page_order}
 use Rattle.layout_semantics.specs.Blocks.{kind_of}
@@ -29,6 +30,7 @@ use Rattle.layout_laws.proofs.Flowing.{Fills, entries, of_entry, all_of, all_of-
 use Rattle.layout_laws.proofs.Entries.{IsFlow, page-entries}
 use Rattle.layout_laws.proofs.WholeItems.{inner_of, floats-alone}
 use Rattle.layout_laws.proofs.WholeLines.{shown, content-shown}
+use Rattle.layout_laws.proofs.Levels.{sort_by}
 
 -- ---- boxes that hold no other
 
@@ -46,31 +48,20 @@ leaf_holds_none tree b e = by_box (slice_get tree.boxes b) refl e
 
 -- ---- sorts in inline content
 
-sort_by : Bool → Kind → Sort
-sort_by true kind = a_float
-sort_by false of_kind.Chars = a_text
-sort_by false of_kind.Break = a_break
-sort_by false of_kind.Inline = an_inline
-sort_by false _ = an_atomic
-
 sort-is : (tree : BoxTree) (at : ℕ) → sort_of tree at ≡ sort_by (is_floated_at tree at) (kind_of tree at)
-unfolding sort_by
 sort-is tree at = refl
 
 break-kind : (f : Bool) (k : Kind) → sort_by f k ≡ a_break → k ≡ of_kind.Break
-unfolding sort_by
 break-kind true k e = absurd (cc)
 break-kind false of_kind.Break e = refl
 break-kind false _ e = absurd (cc)
 
 text-kind : (f : Bool) (k : Kind) → sort_by f k ≡ a_text → k ≡ of_kind.Chars
-unfolding sort_by
 text-kind true k e = absurd (cc)
 text-kind false of_kind.Chars e = refl
 text-kind false _ e = absurd (cc)
 
 inline-kind : (f : Bool) (k : Kind) → sort_by f k ≡ an_inline → k ≡ of_kind.Inline
-unfolding sort_by
 inline-kind true k e = absurd (cc)
 inline-kind false of_kind.Inline e = refl
 inline-kind false _ e = absurd (cc)
@@ -147,17 +138,13 @@ module _ (tree : BoxTree) (w : World) (height : ℕ) where
   within-lower low high [] l a = tt
   within-lower low high (k ∷ ks) l a = let above = a.0.0 in ((omega arith, a.0.1), within-lower low high ks l a.1)
 
-  within-both : (low : ℕ) (xs ys : List ℕ) → AllByRecursion (Within low) xs → AllByRecursion (Within low) ys → AllByRecursion (Within low) (xs ++ ys)
-  within-both low [] ys a b = b
-  within-both low (x ∷ xs) ys a b = (a.0, within-both low xs ys a.1 b)
-
   kids-within : (levels at : ℕ) (ks : List ℕ) → AllByRecursion (IsKid tree.boxes at) ks → ((k : ℕ) → k < length tree.boxes → AllByRecursion (Within k) (flat_map inner_of (items_to levels tree k)))
       → AllByRecursion (Within (suc at)) (flat_map inner_of (flat_map (items_to levels tree) ks))
   kids-within levels at [] a f = tt
   kids-within levels at (k ∷ ks) a f =
       let after = a.0.after in
       subst (AllByRecursion (Within (suc at))) (sym (flat_map-append inner_of (items_to levels tree k) (flat_map (items_to levels tree) ks)))
-      (within-both (suc at) (flat_map inner_of (items_to levels tree k)) (flat_map inner_of (flat_map (items_to levels tree) ks)) (within-lower (suc at) k (flat_map inner_of (items_to levels tree k)) (omega arith) (f k a.0.within)) (kids-within levels at ks a.1 f))
+      (all_append (Within (suc at)) (flat_map inner_of (items_to levels tree k)) (flat_map inner_of (flat_map (items_to levels tree) ks)) (within-lower (suc at) k (flat_map inner_of (items_to levels tree k)) (omega arith) (f k a.0.within)) (kids-within levels at ks a.1 f))
 
   items-within : (levels at : ℕ) → at < length tree.boxes → AllByRecursion (Within at) (flat_map inner_of (items_to levels tree at))
   unfolding items_to

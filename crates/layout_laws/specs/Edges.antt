@@ -1,5 +1,7 @@
 -- The edges of boxes, and their least heights, as CSS says them.
-use Rattle.std.specs.Prelude.{◌≡◌, ℕ, ℤ, pos, ◌+ℤ◌, unwrap_or}
+use Rattle.std.specs.Prelude.{◌≡◌, ◌≢◌, ℕ, ℤ, pos, ◌+ℤ◌, unwrap_or}
+use Rattle.viz_base.specs.declared.lengths.Length.{Length}
+use Rattle.viz_base.specs.declared.lengths.Length.TheVariants as of_length
 use Rattle.viz_base.specs.declared.layouts.Widths.{Widths}
 use Rattle.viz_base.specs.declared.renderings.Placed.{Placed}
 use Rattle.viz_base.specs.declared.trees.BoxTree.{BoxTree}
@@ -29,3 +31,9 @@ pub record HasEdges (x : Widths ℤ) (v : Verticals) (high : ℤ) (p : Placed �
 abbrev pub used_minimum : BoxTree → World → ℕ → ℕ → ℤ
 used_minimum tree w height at =
     unwrap_or (height_around tree w (definite_height tree w height at) (least_height tree at)) (pos 0)
+
+-- an absolute length that is not zero: of pixels, or of a font size
+abbrev pub IsSome : Length → Type 0
+IsSome (of_length.Px c) = c ≢ pos 0
+IsSome (of_length.Em k node) = k ≢ pos 0
+IsSome _ = ⊥

@@ -3,7 +3,8 @@ use Rattle.viz_base.specs.declared.lengths.Length.TheVariants as of_length
 use Rattle.viz_base.specs.declared.styles.Style.{Style}
 use Rattle.viz_base.specs.declared.trees.BoxTree.{BoxTree}
 use Rattle.viz_base.specs.declared.worlds.World.{World}
-use Rattle.layout_semantics.specs.Lengths.{used, used_unless_auto, maximum, held, own, nothing}
+use Rattle.viz_base.specs.Styles.{nothing}
+use Rattle.layout_semantics.specs.Lengths.{used, used_unless_auto, maximum, held, own}
 use Rattle.layout_semantics.specs.Horizontal.{placing_of, block_flow, replaced_block}
 
 -- a block-level box in normal flow, replaced or not

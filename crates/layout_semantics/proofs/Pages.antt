@@ -1,12 +1,13 @@
 use Rattle.std.proofs.Common.{◌≡◌, ℕ, zero, suc, ◌+◌, ◌<◌, ◌≤◌, ◌⊎◌, inl, inr, false, ◌==◌, ◌||◌, ap, eqb-true, List, [], ◌∷◌, ◌++◌, length, Option, None, Some, slice_get, Contains, get_or, refl, sym, subst, arith, IsTrue, nat_lt}
 use Rattle.std.specs.List.{flat_map, list_any, AllByRecursion}
 use Rattle.std.specs.Option.{option_and_then, option_map_or}
-use Rattle.std.proofs.lemmas.List.Elements.{Contains-append_left, Contains-append_right, Contains-append_cases}
+use Rattle.std.proofs.lemmas.List.Elements.{Contains-append_cases}
 use Rattle.std.proofs.lemmas.Map.Views.{Contains-from_any}
 use Rattle.std.proofs.lemmas.Option.{slice_get-get_or}
 use Rattle.viz_base.specs.Trees.{ascends, has_box, is_in_parent}
 use Rattle.viz_base.specs.declared.trees.BoxNode.{BoxNode}
 use Rattle.viz_base.specs.declared.trees.BoxTree.{BoxTree}
+use Rattle.viz_base.proofs.ListLemmas.{slice_some, in_flat_map}
 use Rattle.layout_semantics.specs.Order.{kids_of, order_to, document_order, roots, page_order, IsOnPage}
 use Rattle.layout_semantics.specs.Blocks.{parent_of}
 use Rattle.layout_semantics.proofs.Forest.{IsForest, IsKid, IsForest-from, both, ascends-each}
@@ -40,11 +41,6 @@ Contains-later : (x : ℕ) (xs : List ℕ) (y : ℕ) → Contains xs y → Conta
 Contains-later x xs y (i, l, e) = (suc i, omega arith, e)
 
 -- what one of several lists has
-in_flat_map : (f : ℕ → List ℕ) (ks : List ℕ) (k x : ℕ) → Contains ks k → Contains (f k) x → Contains (flat_map f ks) x
-in_flat_map f [] k x (i, l, e) c = absurd (omega arith)
-in_flat_map f (j ∷ ks) k x (zero, l, e) c = Contains-append_left (f j) (flat_map f ks) x (subst (λ z. Contains (f z) x) (sym e) c)
-in_flat_map f (j ∷ ks) k x (suc i, l, e) c = Contains-append_right (f j) (flat_map f ks) x (in_flat_map f ks k x (i, omega arith, e) c)
-
 from_flat_map : (f : ℕ → List ℕ) (ks : List ℕ) (x : ℕ) → Contains (flat_map f ks) x → (k : ℕ) × Contains ks k × Contains (f k) x
 from_flat_map f [] x (i, l, e) = absurd (omega arith)
 from_flat_map f (j ∷ ks) x c = by_part (Contains-append_cases (f j) (flat_map f ks) x c) (λ rest. from_flat_map f ks x rest)
@@ -102,12 +98,6 @@ root_place (b ∷ bs) at (suc i, l, e) = absurd (omega arith)
 pub within-page : (tree : BoxTree) (x : ℕ) → IsOnPage tree.boxes x → x < length tree.boxes
 within-page tree x (IsOnPage.root at c) = let place = root_place tree.boxes at c in let same = place.0 in let some = place.1 in omega (arith, same, some)
 within-page tree x (IsOnPage.inside at kid p k) = (Each-contains (IsKid tree.boxes at) (kids_of tree.boxes at) kid ((forest tree).kids at) k).within
-
--- each box is on the page
-pub slice_some : {A : Type 0} (xs : List A) (k : ℕ) → k < length xs → (x : A) × (slice_get xs k ≡ Some x)
-slice_some [] k l = absurd (omega (arith, l))
-slice_some (x ∷ xs) zero l = (x, refl)
-slice_some (x ∷ xs) (suc k) l = slice_some xs k (omega (arith, l))
 
 first_root : (boxes : List BoxNode) → 0 < length boxes → Contains (roots boxes) 0
 first_root [] l = absurd (omega (arith, l))

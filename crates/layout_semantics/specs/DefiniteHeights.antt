@@ -10,8 +10,9 @@ use Rattle.viz_base.specs.declared.trees.Kind.TheVariants as of_kind
 use Rattle.viz_base.specs.declared.worlds.World.{World}
 use Rattle.layout_semantics.specs.Blocks.{kind_of, parent_of}
 use Rattle.viz_base.specs.FontSizes.{fraction}
+use Rattle.viz_base.specs.Styles.{nothing}
 use Rattle.layout_semantics.specs.InlineContent.{is_zero}
-use Rattle.layout_semantics.specs.Lengths.{used, maximum, held, own, nothing}
+use Rattle.layout_semantics.specs.Lengths.{used, maximum, held, own}
 
 -- ---- the containing block of a percentage height
 

@@ -2,7 +2,7 @@
 use Rattle.std.specs.Prelude.{[], ◌∷◌, Some}
 use Rattle.viz_base.specs.declared.styles.Clear.TheVariants as of_clear
 use Rattle.viz_base.specs.declared.styles.Side.TheVariants as of_side
-use Rattle.layout_semantics.specs.Lengths.{nothing}
+use Rattle.viz_base.specs.Styles.{nothing}
 use Rattle.layout_semantics.specs.PlainPages.{PlainTree}
 use Rattle.layout_semantics.specs.Examples.{sides, px, block_style, block_box, floated_box, page}
 

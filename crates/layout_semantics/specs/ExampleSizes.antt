@@ -4,7 +4,7 @@ use Rattle.viz_base.specs.declared.lengths.Length.TheVariants as of_length
 use Rattle.viz_base.specs.declared.lengths.Size.TheVariants as of_size
 use Rattle.viz_base.specs.declared.styles.Display.TheVariants as of_display
 use Rattle.viz_base.specs.declared.styles.Side.TheVariants as of_side
-use Rattle.layout_semantics.specs.Lengths.{nothing}
+use Rattle.viz_base.specs.Styles.{nothing}
 use Rattle.layout_semantics.specs.PlainPages.{PlainTree}
 use Rattle.layout_semantics.specs.Examples.{sides, px, percent, block_style, block_box, floated_box, image_box, page}
 

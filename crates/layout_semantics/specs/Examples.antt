@@ -16,7 +16,7 @@ use Rattle.viz_base.specs.declared.styles.Side.TheVariants as of_side
 use Rattle.viz_base.specs.declared.trees.BoxNode.{BoxNode}
 use Rattle.viz_base.specs.declared.trees.Kind.{Kind}
 use Rattle.viz_base.specs.declared.trees.Kind.TheVariants as of_kind
-use Rattle.layout_semantics.specs.Lengths.{nothing}
+use Rattle.viz_base.specs.Styles.{nothing}
 use Rattle.layout_semantics.specs.Page.{page_rendering}
 use Rattle.layout_semantics.specs.PlainPages.{PlainStyle, PlainFont, PlainTree, TreeKeeps, tree}
 

@@ -11,8 +11,9 @@ use Rattle.viz_base.specs.declared.trees.BoxTree.{BoxTree}
 use Rattle.viz_base.specs.declared.trees.Kind.{Kind}
 use Rattle.viz_base.specs.declared.trees.Kind.TheVariants as of_kind
 use Rattle.viz_base.specs.declared.worlds.World.{World}
+use Rattle.viz_base.specs.Styles.{nothing}
 use Rattle.layout_semantics.specs.Blocks.{kind_of}
-use Rattle.layout_semantics.specs.Lengths.{used, used_unless_auto, maximum, own, nothing, margins, borders, paddings}
+use Rattle.layout_semantics.specs.Lengths.{used, used_unless_auto, maximum, own, margins, borders, paddings}
 use Rattle.layout_semantics.specs.Replaced.{replaced_size}
 use Rattle.layout_semantics.specs.InlineContent.{is_floated_at, is_inline_level_at}
 use Rattle.layout_semantics.specs.Preferred.{preferred}

@@ -12,6 +12,7 @@ use Rattle.viz_base.specs.declared.trees.Kind.TheVariants as of_kind
 use Rattle.viz_base.specs.declared.worlds.World.{World}
 use Rattle.layout_semantics.specs.Blocks.{kind_of, style_of}
 use Rattle.viz_base.specs.FontSizes.{fraction, em_in}
+use Rattle.viz_base.specs.Styles.{nothing}
 
 -- ---- used lengths
 
@@ -59,9 +60,6 @@ own_style tree at = by_kind (kind_of tree at)
 -- a property of a box, and its initial value where it has no style of its own
 abbrev pub own : {A : Type 0} → BoxTree → ℕ → (Style → A) → A → A
 own tree at property initial = option_map_or property (own_style tree at) initial
-
-abbrev pub nothing : Length
-nothing = of_length.Px (pos 0)
 
 abbrev pub no_sides : Sides Length
 no_sides = record { top = nothing; right = nothing; bottom = nothing; left = nothing }

@@ -8,12 +8,13 @@ use Rattle.viz_base.specs.declared.trees.BoxTree.{BoxTree}
 use Rattle.viz_base.specs.declared.trees.Kind.{Kind}
 use Rattle.viz_base.specs.declared.trees.Kind.TheVariants as of_kind
 use Rattle.viz_base.specs.declared.worlds.World.{World}
+use Rattle.viz_base.specs.Styles.{nothing}
 use Rattle.layout_semantics.specs.Lists.{table_of}
 use Rattle.layout_semantics.specs.Extremes.{greatest_from}
 use Rattle.layout_semantics.specs.Order.{kids_of}
 use Rattle.layout_semantics.specs.Blocks.{kind_of, node_of}
 use Rattle.layout_semantics.specs.Fonts.{text_width}
-use Rattle.layout_semantics.specs.Lengths.{used_if_absolute, maximum, held, total, own, nothing}
+use Rattle.layout_semantics.specs.Lengths.{used_if_absolute, maximum, held, total, own}
 use Rattle.layout_semantics.specs.Replaced.{preferred_replaced}
 use Rattle.layout_semantics.specs.InlineContent.{Item, start, finish, word, space, atomic, forced, float, content, holds_inline, is_floated_at, inner_boxes, float_boxes, start_edges, end_edges}
 use Rattle.layout_semantics.specs.Stretches.{stretches, pieces, what_stays}

@@ -9,7 +9,8 @@ use Rattle.viz_base.specs.declared.trees.BoxTree.{BoxTree}
 use Rattle.viz_base.specs.declared.worlds.World.{World}
 use Rattle.std.specs.Prelude.{slice_get}
 use Rattle.viz_base.specs.FontSizes.{fraction}
-use Rattle.layout_semantics.specs.Lengths.{used, used_unless_auto, used_if_absolute, maximum, held, own, nothing}
+use Rattle.viz_base.specs.Styles.{nothing}
+use Rattle.layout_semantics.specs.Lengths.{used, used_unless_auto, used_if_absolute, maximum, held, own}
 use Rattle.layout_semantics.specs.DefiniteHeights.{given_height, held_height}
 
 -- the intrinsic width and height, in pixels

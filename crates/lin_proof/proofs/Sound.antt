@@ -7,6 +7,7 @@ use Rattle.std.proofs.lemmas.Int.{ints, by_lt_z}
 use Rattle.std.proofs.lemmas.Bool.{and_parts, cases_lt, false≢true}
 use Rattle.std.proofs.lemmas.Bool.Decides.{nat_tests}
 use Rattle.std.proofs.lemmas.Option.{cond_some, option_and_then_some, same_Some}
+use Rattle.viz_base.proofs.Sameness.{same_Ok}
 use Rattle.lin_proof.specs.declared.derivation.Step.{Step}
 use Rattle.lin_proof.specs.declared.derivation.Step.TheVariants.{Fact, Sum, Cut}
 use Rattle.lin_proof.specs.declared.derivation.Derivation.{Derivation}
@@ -39,9 +40,6 @@ cond_ok false x y e h = absurd (cc)
 cond_then : {A : Type 0} {x y : Option A} (b : Bool) → cond b x None ≡ y → y ≢ None → (b ≡ true) × (x ≡ y)
 cond_then true h some = (refl, h)
 cond_then false h some = absurd (some (sym h))
-
-same_Ok : {A E : Type 0} (x y : A) → ◌≡◌ {A = Result A E} (Ok x) (Ok y) → x ≡ y
-same_Ok x y h = cc
 
 no_fault : {A E : Type 0} (r : Result A E) → result_err r ≡ None → (x : A) × (r ≡ Ok x)
 no_fault (Ok x) h = (x, refl)
@@ -91,7 +89,7 @@ step_form-meets v facts known (Cut d n) f at_facts at_known is =
     subst (λ e. pos 0 ≤ℤ value e v) c.1 ((value-cut g d c.0 v).0 (at_known n g at)))
 
 run_steps-meets : (v : ℕ → ℤ) (facts known : List Form) (line : ℕ) (steps : List Step) (after : List Form × ℕ) → Meets v facts → Meets v known → run_steps facts known line steps ≡ Ok after → Meets v after.0
-run_steps-meets v facts known line [] after at_facts at_known is = subst (Meets v) (ap (λ (p : List Form × ℕ). p.0) (same_Ok (known, line) after is)) at_known
+run_steps-meets v facts known line [] after at_facts at_known is = subst (Meets v) (ap (λ (p : List Form × ℕ). p.0) (same_Ok is)) at_known
 run_steps-meets v facts known line (step ∷ steps) after at_facts at_known is =
     let b = bind_ok (ok_or (step_form facts known step) line) (λ f. run_steps facts (known ++ f ∷ []) (line + 1) steps) after is in
     let made = ok_or_ok (step_form facts known step) line b.0 b.1 in

@@ -1,5 +1,5 @@
 -- What turning the signs of a row's terms keeps, and where it leaves `i128`.
-use Rattle.std.proofs.Common.{◌≡◌, ◌≢◌, ℕ, ◌<◌, ℤ, pos, negsuc, neg_ℤ, true, false, cond, ◌&&◌, Bool, [], ◌∷◌, length, get_or, Some, None, refl, sym, ◌∙◌, ap, subst, arith, FitsSigned}
+use Rattle.std.proofs.Common.{◌≡◌, ◌≢◌, ℕ, ◌<◌, ℤ, pos, negsuc, neg_ℤ, true, false, cond, Bool, [], ◌∷◌, length, get_or, Some, None, refl, sym, ◌∙◌, ap, subst, arith, FitsSigned}
 use Rattle.std.specs.Int.{w128}
 use Rattle.std.proofs.lemmas.Int.{ints}
 use Rattle.std.proofs.lemmas.List.Folds.{list_all_at, list_all-map}
@@ -46,7 +46,3 @@ opposites_misfit ts i e lt out =
     list_all-map (λ (u : ℕ × ℤ). in_i128 u.1) (λ (u : ℕ × ℤ). (u.0, neg_ℤ u.1)) ts
     ∙ list_all_at (λ (u : ℕ × ℤ). in_i128 (neg_ℤ u.1)) ts i e lt (in_i128-misfit (neg_ℤ (get_or ts i e).1) out) in
     ap (λ b. cond b (Some (opposites ts)) None) misfit
-
-pub and_false : (b : Bool) → (b && false) ≡ false
-and_false true = refl
-and_false false = refl

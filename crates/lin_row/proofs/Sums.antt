@@ -8,7 +8,7 @@ use Rattle.std.specs.Int.{w128}
 use Rattle.lin_row.specs.steps.Front.{checked}
 use Rattle.lin_row.specs.Form.{Terms, IsAbove, IsCanonical, put, plus_term, plus_terms}
 
-above_lower : (x y : ℕ) (ts : Terms) → x < y → IsAbove y ts → IsAbove x ts
+pub above_lower : (x y : ℕ) (ts : Terms) → x < y → IsAbove y ts → IsAbove x ts
 above_lower x y [] lt above = tt
 above_lower x y (t ∷ ts) lt above = (omega arith, above_lower x y ts lt above.1)
 

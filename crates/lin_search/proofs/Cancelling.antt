@@ -8,6 +8,7 @@ use Rattle.std.proofs.lemmas.Bool.{false≢true, cases_lt}
 use Rattle.std.proofs.lemmas.Bool.Decides.{nat_tests}
 use Rattle.lin_row.specs.Number.{in_i128}
 use Rattle.lin_search.specs.steps.Multiples.{Cancels, IsLeast, IsLowest, NoneCancel}
+use Rattle.lin_search.proofs.Divisors.{positive}
 
 opposite_sizes : (x y : ℤ) → x +ℤ y ≡ pos 0 → unsigned_abs x ≡ unsigned_abs y
 opposite_sizes (pos m) (pos n) h = omega (arith, ints, h)
@@ -32,10 +33,6 @@ cancel_by (pos m) (negsuc n) p q h same = omega (arith, ints, same)
 cancel_by (negsuc m) (pos n) p q h same = omega (arith, ints, same)
 cancel_by (negsuc m) (negsuc n) p q h same = absurd (h refl)
 
-some_factor : (t p k : ℕ) → 0 < k → k ≡ t * p → 0 < t
-some_factor zero p k some is = absurd (omega (arith, is))
-some_factor (suc t) p k some is = omega arith
-
 pub IsLeast-of : (c e : ℤ) (p q : ℕ) → (lt_z c (pos 0) ≡ lt_z e (pos 0) → ⊥) → IsLowest (unsigned_abs c) (unsigned_abs e) p q → IsLeast c e (record { first = pos p; second = pos q })
 IsLeast-of c e p q opposite h = record {
   cancels = record { first = omega (arith, ints, h.first); second = omega (arith, ints, h.second); sum = cancel_by c e p q opposite h.same };
@@ -44,7 +41,7 @@ IsLeast-of c e p q opposite h = record {
       let a_is = of_size a cancels.first in
       let b_is = of_size b cancels.second in
       let some : 0 < unsigned_abs a = omega (arith, ints, a_is, cancels.first) in
-      let above = some_factor t.0 p (unsigned_abs a) some t.1 in
+      let above = positive t.0 p (unsigned_abs a) some t.1 in
       (pos t.0, omega (arith, ints, above), a_is ∙ ap pos t.1, b_is ∙ ap pos t.2);
 }
 

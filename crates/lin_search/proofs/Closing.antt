@@ -9,7 +9,7 @@ use Rattle.std.proofs.lemmas.Bool.Decides.{nat_tests}
 use Rattle.std.proofs.lemmas.Option.{cond_some}
 use Rattle.lin_row.specs.Number.{in_i128}
 use Rattle.lin_row.specs.Form.{Form, Terms, IsAbove, IsCanonical, terms_value, terms_fit, form_fits, checked_form, plus, plus_terms}
-use Rattle.lin_row.proofs.Sums.{IsCanonical-plus_terms, front_right}
+use Rattle.lin_row.proofs.Sums.{above_lower, IsCanonical-plus_terms, front_right}
 use Rattle.lin_row.proofs.Merges.{put_nonzero}
 use Rattle.lin_row.proofs.Values.{terms_value-plus_terms}
 use Rattle.lin_row.proofs.Whole.{distribute_left, associate, times_above}
@@ -146,10 +146,6 @@ unit_first t ts above = omega (arith, ints, ap (λ z. t.1 *ℤ z) (unit_same t.0
 pub no_terms : (ts : Terms) → IsCanonical ts → ((v : ℕ → ℤ) → terms_value ts v ≡ pos 0) → ts ≡ []
 no_terms [] h zero_everywhere = refl
 no_terms (t ∷ ts) h zero_everywhere = absurd (h.1 (sym (unit_first t ts h.0) ∙ zero_everywhere (unit t.0)))
-
-above_lower : (x y : ℕ) (ts : Terms) → x < y → IsAbove y ts → IsAbove x ts
-above_lower x y [] lt above = tt
-above_lower x y (t ∷ ts) lt above = (omega arith, above_lower x y ts lt above.1)
 
 scaled_fit : (t m : ℤ) (ts : Terms) → pos 0 <ℤ t → pos 0 <ℤ m → IsCanonical ts → terms_fit (plus_terms [] (t *ℤ m) ts) ≡ true → terms_fit (plus_terms [] m ts) ≡ true
 scaled_fit t m [] some more h fits = refl

@@ -179,11 +179,11 @@ record IsFirstOf (find : ℕ → Option (List ℕ)) (p q : ℕ → Bool) (a n m 
   none_before : (k : ℕ) → a ≤ k → k < m → q k ≡ true → p k ≡ true
   blamed : unwrap_or (first_wrong find (filter q (range_with_len a n))) [] ≡ m ∷ unwrap_or (find m) []
 
-first_here : (find : ℕ → Option (List ℕ)) (m : ℕ) (o rest : Option (List ℕ)) → is_none o ≡ false → unwrap_or (with_member m o rest) [] ≡ m ∷ unwrap_or o []
-first_here find m None rest h = absurd (cc)
-first_here find m (Some x) rest h = refl
+pub first_here : (m : ℕ) (o rest : Option (List ℕ)) → is_none o ≡ false → unwrap_or (with_member m o rest) [] ≡ m ∷ unwrap_or o []
+first_here m None rest h = absurd (cc)
+first_here m (Some x) rest h = refl
 
-first_later : (m : ℕ) (o rest : Option (List ℕ)) → is_none o ≡ true → with_member m o rest ≡ rest
+pub first_later : (m : ℕ) (o rest : Option (List ℕ)) → is_none o ≡ true → with_member m o rest ≡ rest
 first_later m None rest h = refl
 first_later m (Some x) rest h = absurd (cc)
 
@@ -222,7 +222,7 @@ first_of_range find p q same a (suc n) h = by_member (q a) (p a) refl refl (firs
         fails = is;
         at_least = omega arith;
         none_before = λ k low below member. absurd (omega arith);
-        blamed = rw within (first_here find a (find a) (first_wrong find (filter q (range_with_len (a + 1) n))) (same a ∙ is));
+        blamed = rw within (first_here a (find a) (first_wrong find (filter q (range_with_len (a + 1) n))) (same a ∙ is));
       },
     )
 

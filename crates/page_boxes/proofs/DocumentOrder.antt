@@ -3,19 +3,20 @@ use Rattle.std.proofs.Common.{◌≡◌, ℕ, suc, ◌+◌, ◌<◌, ◌≤◌, 
 use Rattle.std.specs.List.{list_any}
 use Rattle.std.proofs.lemmas.Bool.{cases_order}
 use Rattle.std.proofs.lemmas.Option.{same_Some, slice_get-map}
-use Rattle.viz_base.specs.Orders.{IsInOrder, is_from}
+use Rattle.viz_base.specs.Orders.{IsInOrder, is_from, Rises}
 use Rattle.viz_base.specs.Pages.{IsPage}
 use Rattle.viz_base.specs.Trees.{IsBoxTree, is_fragmented}
 use Rattle.viz_base.specs.declared.fonts.Font.{Font}
 use Rattle.viz_base.specs.declared.nodes.Node.{Node}
 use Rattle.viz_base.specs.declared.styles.Style.{Style}
 use Rattle.viz_base.specs.declared.trees.BoxNode.{BoxNode}
+use Rattle.viz_base.proofs.ListLemmas.{rises_from, later_member}
 use Rattle.layout_semantics.specs.Parts.{Part, Level, kind_of_node}
 use Rattle.layout_semantics.specs.WhiteSpace.{is_in}
 use Rattle.layout_semantics.specs.BoxTrees.{Item, begins_run, boxes_before, first_of, has_node, is_block_part, items_of, needs_box, nodes_of, outer_place, own_place, page_boxes, page_parts, parts_in, runs_of, tree_parents, tree_styles, with_part, wrapped_in}
 use Rattle.layout_semantics.specs.Refusals.{blocks_in_inlines}
 use Rattle.layout_laws.specs.Styled.{AreStylesOf}
-use Rattle.layout_laws.proofs.Members.{Rises, any_in, from_filter, from_map, rises_filter, rises_from, to_filter, to_map, unique_in, no_member, first_member, later_member, first_or_later}
+use Rattle.layout_laws.proofs.Members.{any_in, from_filter, from_map, rises_filter, to_filter, to_map, unique_in, no_member, first_member, first_or_later}
 use Rattle.layout_laws.proofs.Places.{node_of}
 use Rattle.layout_laws.proofs.Kids.{IsArranged, HasParent, order, own_place_from, own_place_is, own_place_within}
 use Rattle.layout_laws.proofs.Nesting.{IsBoxOf}

@@ -1,8 +1,8 @@
 -- Extents as the code has them, against those of the definition.
-use Rattle.std.proofs.Common.{◌≡◌, ℕ, zero, suc, ◌+◌, ◌*◌, ◌<◌, ◌≤◌, pos, unsigned_abs, Bool, true, false, nat_le, List, [], ◌∷◌, ◌++◌, map, sum, sum_by, Option, Some, None, option_and_then, slice_get, refl, sym, ◌∙◌, ap, subst, arith, if◌then◌else◌, inl, inr, ◌⊎◌, ◌==◌, ◌||◌, ◌-◌, min, max, le-div_iff_mul-le, Contains}
+use Rattle.std.proofs.Common.{◌≡◌, ℕ, ◌+◌, ◌*◌, ◌≤◌, pos, unsigned_abs, Bool, true, false, nat_le, List, [], ◌∷◌, ◌++◌, map, sum, sum_by, Option, Some, None, option_and_then, slice_get, refl, sym, ◌∙◌, ap, subst, arith, if◌then◌else◌, inl, inr, ◌⊎◌, ◌-◌, Contains}
 use Rattle.std.proofs.lemmas.List.Elements.{Contains-append_left, Contains-append_right, Contains-append_cases}
 use Rattle.std.proofs.Math.Nat.{mul-le-mul_right}
-use Rattle.std.proofs.lemmas.Bool.{and_parts, eqb-false}
+use Rattle.std.proofs.lemmas.Bool.{and_parts}
 use Rattle.std.specs.Option.{option_map_or, option_to_list}
 use Rattle.std.specs.Str.{chars}
 use Rattle.std.proofs.lemmas.List.Sums.{sum_by-cons}
@@ -18,8 +18,9 @@ use Rattle.viz_base.specs.declared.lengths.Valign.TheVariants as of_valign
 use Rattle.viz_base.specs.declared.styles.Style.{Style}
 use Rattle.viz_base.specs.declared.trees.BoxNode.{BoxNode}
 use Rattle.viz_base.specs.FontSizes.{advance, computed_line, font_size_in, fraction, line_height_in, measured, node_measure_in, text_width_in}
-use Rattle.viz_base.specs.Reaches.{extent, font_extent, intrinsic_extent, is_of_element, largest_size, lengths_of, own_extent, quotient_up, raise_extent, ratio, style_extent, text_extent, whole}
+use Rattle.viz_base.specs.Reaches.{extent, font_extent, intrinsic_extent, is_of_element, largest_size, lengths_of, own_extent, raise_extent, ratio, style_extent, text_extent, whole}
 use Rattle.layout_laws.proofs.Members.{no_member, first_member}
+use Rattle.layout_laws.proofs.Reaching.{ratio_least}
 use Rattle.viz_base.specs.Trees.{length_nodes, line_nodes, maximum_nodes, named_nodes, sides_nodes, valign_nodes}
 use Rattle.page_boxes.specs.steps.Extents.{capped, extent_in, font_extent_in, font_in, lengths_extent, line_in, measured_in, most_extent, own_in, part_of, raise_in, sides_extent, size_at, style_extent_in, text_in, widths_in}
 use Rattle.page_boxes.proofs.Capped.{Alike, alike_add, alike_capped, alike_times, alike_trans}
@@ -74,25 +75,6 @@ code_total sizes s =
     let d = code_sides sizes s.padding in
     let e = code_sides sizes s.border in
     omega (arith, a, b, c, d, e)
-
--- ---- ratios
-
-least_above : (a b : ℕ) → (a ≡ 0 → ⊥) → (b ≡ 0 → ⊥) → 0 < min a b
-least_above zero b f g = absurd (f refl)
-least_above (suc a) zero f g = absurd (g refl)
-least_above (suc a) (suc b) f g = omega arith
-
-pub ratio_least : (size : Option (ℕ × ℕ)) → 1 ≤ ratio size
-ratio_least None = omega arith
-ratio_least (Some size) = by_zero (size.0 == 0) refl (size.1 == 0) refl
-  where
-    by_zero : (a : Bool) → (size.0 == 0) ≡ a → (b : Bool) → (size.1 == 0) ≡ b → 1 ≤ (if a || b then 1 else quotient_up (max size.0 size.1) (min size.0 size.1))
-    by_zero true e b f = omega arith
-    by_zero false e true f = omega arith
-    by_zero false e false f =
-        let some = least_above size.0 size.1 (eqb-false size.0 0 e) (eqb-false size.1 0 f) in
-        let more : 1 * min size.0 size.1 ≤ max size.0 size.1 + (min size.0 size.1 - 1) = omega (arith, some) in
-        (le-div_iff_mul-le some).1 more
 
 module _ (styles : List Style) (parents : List (Option ℕ)) (fonts : List Font) where
   -- ---- lengths

@@ -2,7 +2,7 @@
 use Rattle.std.proofs.Common.{◌≡◌, ℕ, zero, suc, ◌+◌, ◌*◌, ◌/◌, ◌<◌, ◌≤◌, ℤ, pos, negsuc, unsigned_abs, true, nat_le, List, [], ◌∷◌, ◌++◌, length, get_or, Option, Some, None, slice_get, refl, sym, ◌∙◌, ap, subst, arith, length-append, inl, inr, ◌⊎◌, lit≤}
 use Rattle.std.proofs.Math.IntN.{pos-*ℤ-pos}
 use Rattle.std.proofs.lemmas.List.{get_or_at, get_or_append_left}
-use Rattle.std.specs.Option.{option_map_or, option_and_then}
+use Rattle.std.specs.Option.{option_map_or}
 use Rattle.viz_base.specs.Numbers.{floor_of}
 use Rattle.viz_base.specs.Styles.{is_good_size, is_nonnegative}
 use Rattle.viz_base.specs.declared.lengths.Size.{Size}
@@ -10,17 +10,10 @@ use Rattle.viz_base.specs.declared.lengths.Size.TheVariants as of_size
 use Rattle.viz_base.specs.declared.styles.Style.{Style}
 use Rattle.viz_base.specs.FontSizes.{fraction, computed_size, default_size, font_size_in, parent_in}
 use Rattle.std.proofs.lemmas.Bool.{and_parts}
-use Rattle.layout_laws.proofs.FontSizes.{ParentsBefore, font-of-style}
+use Rattle.layout_laws.proofs.FontSizes.{ParentsBefore, font-of-style, parent-before}
 use Rattle.page_boxes.specs.steps.Extents.{capped, default, most, size_at, size_in, sizes_walk}
 use Rattle.page_boxes.specs.steps.Tables.{held}
 use Rattle.page_boxes.proofs.Capped.{capped_past, capped_within, past_or_within}
-
-parent-before : (parents : List (Option ℕ)) (node p : ℕ) → ParentsBefore parents → parent_in parents node ≡ Some p → p < node
-parent-before parents node p before e = before node p (by_entry (slice_get parents node) e)
-  where
-    by_entry : (o : Option (Option ℕ)) → option_and_then (λ parent. parent) o ≡ Some p → o ≡ Some (Some p)
-    by_entry None e = absurd (cc)
-    by_entry (Some o) e = ap Some e
 
 -- ---- numbers that are not negative
 

@@ -5,8 +5,9 @@ use Rattle.std.proofs.lemmas.List.{length-map, length-take-le, map-append}
 use Rattle.std.proofs.lemmas.Bool.{cases_eq, le-ltb, ltb-false}
 use Rattle.std.proofs.lemmas.Option.{slice_get_within}
 use Rattle.viz_base.specs.declared.trees.BoxNode.{BoxNode}
-use Rattle.layout_laws.proofs.Members.{Rises, rises_from, no_member, first_member, later_member}
-use Rattle.layout_laws.proofs.PageParts.{slice_some}
+use Rattle.viz_base.proofs.ListLemmas.{slice_some, rises_from, later_member}
+use Rattle.viz_base.specs.Orders.{Rises}
+use Rattle.layout_laws.proofs.Members.{no_member, first_member}
 use Rattle.page_boxes.proofs.Lists.{with_all_append}
 use Rattle.page_boxes.specs.steps.Places.{with_all, with_box, with_kid_at, with_kid_in}
 

@@ -1,18 +1,14 @@
 -- The runs of the boxes in one element, from one box on.
-use Rattle.std.proofs.Common.{◌≡◌, ◌≢◌, ℕ, ◌==◌, Bool, true, false, not, ◌&&◌, ◌||◌, List, [], ◌∷◌, ◌++◌, map, find, Option, Some, None, option_map, refl, sym, subst, ◌∙◌, ap, if◌then◌else◌, append_assoc, eq-eqb, eqb-true, filter, Contains, ⊎_elim}
+use Rattle.std.proofs.Common.{◌≡◌, ◌≢◌, ℕ, ◌==◌, Bool, true, false, not, ◌&&◌, ◌||◌, List, [], ◌∷◌, ◌++◌, map, find, Option, Some, None, option_map, refl, sym, subst, ◌∙◌, ap, if◌then◌else◌, append_assoc, eq-eqb, filter, Contains, ⊎_elim}
 use Rattle.std.proofs.lemmas.List.Elements.{Contains-append_cases}
 use Rattle.std.proofs.lemmas.List.{append-nil}
+use Rattle.std.proofs.Math.Bool.{or-true}
+use Rattle.viz_base.proofs.Truths.{other_number}
+use Rattle.viz_base.proofs.ListLemmas.{later_member}
 use Rattle.layout_semantics.specs.Parts.{Part, Level}
 use Rattle.layout_semantics.specs.BoxTrees.{first_of, has_node, is_floated_level, needs_box, nodes_of, runs_of, with_part}
-use Rattle.layout_laws.proofs.Members.{no_member, first_member, later_member, only_member}
+use Rattle.layout_laws.proofs.Members.{no_member, first_member, only_member}
 use Rattle.page_boxes.specs.steps.Leads.{is_ahead}
-
-pub other_number : (a b : ℕ) → a ≢ b → (a == b) ≡ false
-other_number a b ne = by_test (a == b) refl
-  where
-    by_test : (t : Bool) → (a == b) ≡ t → (a == b) ≡ false
-    by_test false e = e
-    by_test true e = absurd (ne (eqb-true a b e))
 
 -- ---- runs behind what is already in one
 
@@ -155,11 +151,7 @@ none_behind n (p ∷ ps) g = by_level p.level (none_behind n ps (λ q i. g q (la
 
 has_in : (done : List Part) (p : Part) (rest : List Part) → has_node p.node (nodes_of ((done ++ p ∷ []) ++ rest)) ≡ true
 has_in [] p rest = ap (λ t. t || has_node p.node (nodes_of rest)) (eq-eqb p.node p.node refl)
-has_in (d ∷ done) p rest = ap (λ b. (d.node == p.node) || b) (has_in done p rest) ∙ or_true (d.node == p.node)
-  where
-    or_true : (b : Bool) → (b || true) ≡ true
-    or_true true = refl
-    or_true false = refl
+has_in (d ∷ done) p rest = ap (λ b. (d.node == p.node) || b) (has_in done p rest) ∙ or-true (d.node == p.node)
 
 -- the run of a box that is not a block: the one at whose end it stands
 pub found_here : (done : List Part) (p : Part) (ps : List Part) → IsApart p.node ps

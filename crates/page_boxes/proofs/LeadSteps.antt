@@ -4,19 +4,19 @@ use Rattle.std.proofs.Common.{replicate, ◌≡◌, ◌≢◌, ℕ, ◌+◌, ◌
 use Rattle.std.proofs.lemmas.List.Elements.{Contains-push_cases}
 use Rattle.std.proofs.lemmas.Bool.{cases_eq}
 use Rattle.std.specs.List.{list_any}
+use Rattle.std.proofs.Math.Bool.{or-false}
+use Rattle.viz_base.proofs.Truths.{other_number, same_number}
+use Rattle.viz_base.proofs.ListLemmas.{rises_from, later_member}
+use Rattle.viz_base.specs.Orders.{Rises}
 use Rattle.layout_semantics.specs.Parts.{Part, Level}
 use Rattle.layout_semantics.specs.WhiteSpace.{is_in}
 use Rattle.layout_semantics.specs.BoxTrees.{first_of, has_node, is_block_part, is_floated_level, needs_box, nodes_of, parts_in, run_around, runs_of, wrapped_in}
-use Rattle.layout_laws.proofs.Members.{Rises, rises_from, from_filter, no_member, first_member, later_member, map_same, to_map}
+use Rattle.layout_laws.proofs.Members.{from_filter, no_member, first_member, map_same, to_map}
 use Rattle.page_boxes.specs.steps.Leads.{ahead_of, ahead_table, is_ahead, lead_of, leads_walk, with_blocks}
 use Rattle.page_boxes.specs.steps.Tables.{held, put}
-use Rattle.page_boxes.proofs.LeadRuns.{IsApart, any_append, at_level, first_needs, found_here, found_in, found_skip, front, is_ahead_in, lead_in, led_with, none_found, other_number, runs_are, runs_on}
+use Rattle.page_boxes.proofs.LeadRuns.{IsApart, any_append, at_level, first_needs, found_here, found_in, found_skip, front, is_ahead_in, lead_in, led_with, none_found, runs_are, runs_on}
 
 -- ---- whether a run gets a box, with one more box in it
-
-no_more : (b : Bool) → (b || false) ≡ b
-no_more true = refl
-no_more false = refl
 
 with_float : (b a : Bool) → ((b || (false || false)) || a) ≡ (b || a)
 with_float true a = refl
@@ -128,11 +128,8 @@ lead_later hb done p ps node f = by_level p.level hb
 
 -- ---- tables
 
-same_node : (n : ℕ) → (n == n) ≡ true
-same_node n = eq-eqb n n refl
-
 in_own : (q : ℕ) (o : Option ℕ) → o ≡ Some q → is_in q o ≡ true
-in_own q o e = ap (is_in q) e ∙ same_node q
+in_own q o e = ap (is_in q) e ∙ same_number q
 
 abbrev kids : Bool → Part → List Part → List Part
 kids t p rest = if t then p ∷ rest else rest
@@ -178,7 +175,7 @@ table_ahead table (p ∷ ps) q l none =
 -- ---- which elements have blocks
 
 pub blocks_are : (table : List Bool) (ps : List Part) (q : ℕ) → q < length table → get_or (with_blocks table ps) q false ≡ (get_or table q false || list_any is_block_part (parts_in ps q))
-blocks_are table [] q l = sym (no_more (get_or table q false))
+blocks_are table [] q l = sym (or-false (get_or table q false))
 blocks_are table (p ∷ ps) q l = by_block (is_block_part p) refl (blocks_are (put table p.parent true) ps q (let size = length_put table p.parent true in omega (arith, l, size))) (blocks_are table ps q l)
   where
     or_true : (b c : Bool) → (true || c) ≡ (b || (true || c))

@@ -1,5 +1,5 @@
 -- Lists that change at one place.
-use Rattle.std.proofs.Common.{◌≡◌, ℕ, Bool, true, false, if◌then◌else◌, zero, suc, ◌<◌, ◌≤◌, List, [], ◌∷◌, ◌++◌, ◌+◌, Option, Some, None, length, get_or, slice_set, drop, refl, sym, ◌∙◌, ap, arith, length-append}
+use Rattle.std.proofs.Common.{◌≡◌, ℕ, Bool, true, false, if◌then◌else◌, zero, suc, ◌<◌, ◌≤◌, List, [], ◌∷◌, ◌++◌, ◌+◌, Option, Some, None, length, get_or, slice_set, refl, sym, ◌∙◌, ap, arith, length-append}
 use Rattle.viz_base.specs.declared.trees.BoxNode.{BoxNode}
 use Rattle.layout_semantics.specs.Parts.{Part}
 use Rattle.page_boxes.specs.steps.Places.{bare_anonymous, bare_begun, bare_boxes, bare_own, begins, own_place_at, count_walk, outer_in, place_around, places_walk, with_kid, with_kid_at, with_kid_in, with_box, with_all}
@@ -95,11 +95,3 @@ count_step boxes mid places leads at p ps rest lead e l m =
     by_test : (t : Bool) → (if t then 1 else 0) + 1 ≡ (if t then 2 else 1)
     by_test true = omega arith
     by_test false = omega arith
-
-drop_suc : {A : Type 0} (xs : List A) (k : ℕ) (x : A) → k < length xs → x ≡ get_or xs k x → drop k xs ≡ x ∷ drop (suc k) xs
-drop_suc [] k x l e = absurd (omega (arith, l))
-drop_suc (y ∷ xs) zero x l e = ap (λ z. z ∷ xs) (sym e)
-drop_suc (y ∷ xs) (suc k) x l e = drop_suc xs k x (omega (arith, l)) e
-
-pub drop_step : {A : Type 0} (xs : List A) (k : ℕ) (x : A) → k < length xs → x ≡ get_or xs k x → drop k xs ≡ x ∷ drop (k + 1) xs
-drop_step xs k x l e = let one : suc k ≡ k + 1 = omega arith in drop_suc xs k x l e ∙ ap (λ n. x ∷ drop n xs) one

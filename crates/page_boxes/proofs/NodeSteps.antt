@@ -9,11 +9,11 @@ use Rattle.viz_base.specs.Pages.{IsPage}
 use Rattle.viz_base.specs.Trees.{is_inline}
 use Rattle.viz_base.specs.declared.nodes.Node.{Node}
 use Rattle.viz_base.specs.declared.styles.Style.{Style}
+use Rattle.viz_base.proofs.ListLemmas.{slice_some}
 use Rattle.layout_semantics.specs.Elements.{is_closed, is_hidden, is_none_display, is_shown, node_passes, parent_of, ancestors, upwards}
 use Rattle.layout_semantics.specs.Lists.{one_if}
 use Rattle.layout_semantics.specs.Parts.{Part, container_of, is_inline_at, kind_of_node, part_of, shown_part, shown_parts}
 use Rattle.layout_laws.proofs.Above.{parent_is, ancestors_are}
-use Rattle.layout_laws.proofs.PageParts.{slice_some}
 use Rattle.page_boxes.specs.declared.nodes.Spot.{Spot}
 use Rattle.page_boxes.specs.steps.Nodes.{outside, spot_around, is_shown_in, spot_in, part_in, nodes_walk}
 use Rattle.page_boxes.specs.steps.Tables.{held}

@@ -23,15 +23,16 @@ use Rattle.layout_semantics.specs.Parts.{Part, kind_of_node, shown_parts}
 use Rattle.layout_semantics.specs.WhiteSpace.{is_bare}
 use Rattle.layout_semantics.specs.BoxTrees.{Item, boxes_before, items_of, own_box, own_place, page_boxes, page_parts, tree_parents, tree_style_of, tree_styles, viewport_clip}
 use Rattle.viz_base.specs.Reaches.{is_of_element}
+use Rattle.viz_base.proofs.ListLemmas.{slice_some, rises_from, later_member}
 use Rattle.layout_semantics.specs.Refusals.{blocks_in_inlines}
 use Rattle.layout_laws.specs.Styled.{AreStylesOf, is_at_or_above}
-use Rattle.layout_laws.proofs.Members.{all_in, any_in, from_one_if, rises_from, no_member, first_member, later_member, first_or_later}
+use Rattle.layout_laws.proofs.Members.{all_in, any_in, from_one_if, no_member, first_member, first_or_later}
 use Rattle.layout_laws.proofs.Places.{node_of}
 use Rattle.layout_laws.proofs.Kids.{order, own_box_at, own_place_from, own_place_within}
 use Rattle.layout_laws.proofs.Nesting.{IsBoxOf}
 use Rattle.layout_laws.proofs.Runs.{run_parent}
 use Rattle.layout_laws.proofs.Above.{ancestors_are, parent_is}
-use Rattle.layout_laws.proofs.PageParts.{no_chars, part_parent, slice_some}
+use Rattle.layout_laws.proofs.PageParts.{no_chars, part_parent}
 use Rattle.layout_laws.proofs.BoxLaws.{page_arranged}
 use Rattle.layout_laws.proofs.BoxFacts.{item_known, item_part, no_anon, no_line, page_box_is, tree_style_at}
 use Rattle.page_boxes.proofs.DocumentOrder.{tree_of_page}

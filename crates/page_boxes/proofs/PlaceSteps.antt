@@ -9,9 +9,11 @@ use Rattle.viz_base.specs.Trees.{ascends}
 use Rattle.viz_base.specs.declared.nodes.Node.{Node}
 use Rattle.viz_base.specs.declared.styles.Style.{Style}
 use Rattle.viz_base.specs.declared.trees.BoxNode.{BoxNode}
+use Rattle.viz_base.proofs.ListLemmas.{rises_from, later_member}
+use Rattle.viz_base.specs.Orders.{Rises}
 use Rattle.layout_semantics.specs.Parts.{Part}
 use Rattle.layout_semantics.specs.BoxTrees.{Item, begins_run, box_count, boxes_at, boxes_before, first_of, items_of, outer_place, own_place, page_boxes, page_parts, with_anonymous}
-use Rattle.layout_laws.proofs.Members.{Rises, rises_from, to_map, no_member, first_member, later_member, first_or_later}
+use Rattle.layout_laws.proofs.Members.{to_map, no_member, first_member, first_or_later}
 use Rattle.layout_laws.proofs.Places.{node_of, before_first, before_later, before_none}
 use Rattle.layout_laws.proofs.Kids.{IsArranged, counts, own_place_is}
 use Rattle.layout_laws.proofs.Nesting.{kids_ascend, kids_place}

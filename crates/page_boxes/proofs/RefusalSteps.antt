@@ -1,26 +1,19 @@
 -- The walks over boxes find the refusals that the definition does.
-use Rattle.std.proofs.Common.{◌≡◌, ◌≢◌, ℕ, ◌==◌, ◌<◌, suc, Bool, true, false, ◌&&◌, ◌||◌, List, [], ◌∷◌, ◌++◌, map, length, get_or, set, Option, Some, None, option_map, slice_get, refl, sym, ◌∙◌, ap, arith, if◌then◌else◌, eq-eqb, eqb-true, length-set, get_or-set_same, get_or-set_other, inl, inr, ◌⊎◌, filter, Contains}
+use Rattle.std.proofs.Common.{◌≡◌, ◌≢◌, ℕ, ◌==◌, ◌<◌, suc, Bool, true, false, ◌&&◌, ◌||◌, List, [], ◌∷◌, ◌++◌, map, length, get_or, set, Option, Some, None, option_map, slice_get, refl, sym, ◌∙◌, ap, arith, if◌then◌else◌, eq-eqb, length-set, get_or-set_same, get_or-set_other, inl, inr, ◌⊎◌, filter, Contains}
 use Rattle.std.proofs.lemmas.Bool.{cases_eq}
 use Rattle.std.specs.Option.{option_map_or}
+use Rattle.std.proofs.Math.Bool.{or-false}
 use Rattle.viz_base.specs.Trees.{is_inline}
+use Rattle.viz_base.proofs.Truths.{other_number}
+use Rattle.viz_base.proofs.ListLemmas.{rises_from, later_member}
+use Rattle.viz_base.specs.Orders.{Rises}
 use Rattle.layout_semantics.specs.Directions.{is_right_to_left}
 use Rattle.layout_semantics.specs.Parts.{Part}
 use Rattle.layout_semantics.specs.BoxTrees.{is_block_part}
 use Rattle.layout_semantics.specs.Refusals.{is_inline_box, blocks_in_inlines, right_to_left_letters}
-use Rattle.layout_laws.proofs.Members.{Rises, rises_from, first_member, later_member, to_map}
+use Rattle.layout_laws.proofs.Members.{first_member, to_map}
 use Rattle.page_boxes.specs.steps.Refusing.{inline_nodes, block_in, first_turned, turned, turned_by, turned_in}
 use Rattle.page_boxes.specs.steps.Tables.{held}
-
-other_number : (a b : ℕ) → a ≢ b → (a == b) ≡ false
-other_number a b ne = by_test (a == b) refl
-  where
-    by_test : (t : Bool) → (a == b) ≡ t → (a == b) ≡ false
-    by_test false e = e
-    by_test true e = absurd (ne (eqb-true a b e))
-
-or_none : (b : Bool) → (b || false) ≡ b
-or_none true = refl
-or_none false = refl
 
 abbrev node_of : Part → ℕ
 node_of p = p.node
@@ -53,7 +46,7 @@ marked low table (p ∷ ps) q r l none = by_place (cases_eq q p.node) (λ next s
         untouched (set table p.node (is_inline p.kind)) ps q (apart e)
         ∙ (ap (λ k. get_or (set table p.node (is_inline p.kind)) k false) e
         ∙ (get_or-set_same table p.node (is_inline p.kind) false here
-        ∙ (sym (or_none (is_inline p.kind))
+        ∙ (sym (or-false (is_inline p.kind))
         ∙ (ap (λ b. is_inline p.kind || b) (sym (none_inline ps q (apart e)))
         ∙ ap (λ t. (t && is_inline p.kind) || is_inline_box ps q) (sym (eq-eqb p.node q (sym e)))))))
     by_place (inr ne) again =

@@ -1,15 +1,18 @@
 -- The walk over boxes keeps the characters that the definition does.
-use Rattle.std.proofs.Common.{◌≡◌, ◌≢◌, ℕ, suc, ◌==◌, ◌<◌, ◌≤◌, Bool, true, false, not, List, [], ◌∷◌, ◌++◌, map, flat_map, zip, length, get_or, set, Option, Some, None, refl, sym, ◌∙◌, ap, arith, if◌then◌else◌, append_assoc, eq-eqb, eqb-true, length-set, get_or-set_same, get_or-set_other, inl, inr, ◌⊎◌, filter, Contains}
+use Rattle.std.proofs.Common.{◌≡◌, ◌≢◌, ℕ, suc, ◌==◌, ◌<◌, ◌≤◌, Bool, true, false, not, List, [], ◌∷◌, ◌++◌, map, flat_map, zip, length, get_or, set, Option, Some, None, refl, sym, ◌∙◌, ap, arith, if◌then◌else◌, append_assoc, eq-eqb, length-set, get_or-set_same, get_or-set_other, inl, inr, ◌⊎◌, filter, Contains}
 use Rattle.std.proofs.lemmas.Bool.{cases_eq}
 use Rattle.std.proofs.lemmas.Grind.{flat_map-append}
 use Rattle.std.specs.Option.{option_map_or}
 use Rattle.std.proofs.lemmas.List.{append-nil}
 use Rattle.viz_base.specs.declared.trees.Kind.{Kind}
 use Rattle.viz_base.specs.declared.trees.Kind.TheVariants as of_kind
+use Rattle.viz_base.proofs.Truths.{other_number, same_number}
+use Rattle.viz_base.proofs.ListLemmas.{rises_from, later_member}
+use Rattle.viz_base.specs.Orders.{Rises}
 use Rattle.layout_semantics.specs.Lists.{one_if}
 use Rattle.layout_semantics.specs.Parts.{Part, Level}
 use Rattle.layout_semantics.specs.WhiteSpace.{Thing, is_bare, is_in, is_white, keeps_white, stays, things_of, level_things, inline_things, things_in, letter_of, letters_of, collapsed}
-use Rattle.layout_laws.proofs.Members.{Rises, rises_from, first_member, later_member, map_same, to_map}
+use Rattle.layout_laws.proofs.Members.{first_member, map_same, to_map}
 use Rattle.page_boxes.specs.steps.Spaces.{squeezed, squeezed_part, keeps_behind, keeps_behind_inline, keeps_behind_level, keeps_behind_part, spaces_walk}
 use Rattle.page_boxes.specs.steps.Tables.{held, put}
 
@@ -33,17 +36,14 @@ letters_append node xs ys = flat_map-append (letter_of node) xs ys
 letters_left : (node : ℕ) (b : Thing) (xs ys : List Thing) → letters_of node (left_behind b (xs ++ ys)) ≡ letters_of node (left_behind b xs) ++ letters_of node (left_behind (last_of b xs) ys)
 letters_left node b xs ys = ap (letters_of node) (left_append b xs ys) ∙ letters_append node (left_behind b xs) (left_behind (last_of b xs) ys)
 
-same_node : (n : ℕ) → (n == n) ≡ true
-same_node n = eq-eqb n n refl
-
 -- ---- the letters of a text
 
 kept_letter : (node c : ℕ) (b : Thing) (rest : List ℕ) → letters_of node (stays b (Thing.letter node c)) ++ rest ≡ (if not (is_white c) then c ∷ [] else one_if (keeps_white b) 32) ++ rest
 kept_letter node c b rest = by_white (is_white c) (keeps_white b)
   where
     by_white : (w k : Bool) → letters_of node (if not w then Thing.letter node c ∷ [] else (if k then Thing.letter node 32 ∷ [] else [])) ++ rest ≡ (if not w then c ∷ [] else one_if k 32) ++ rest
-    by_white false k = ap (λ t. (one_if t c ++ []) ++ rest) (same_node node)
-    by_white true true = ap (λ t. (one_if t 32 ++ []) ++ rest) (same_node node)
+    by_white false k = ap (λ t. (one_if t c ++ []) ++ rest) (same_number node)
+    by_white true true = ap (λ t. (one_if t 32 ++ []) ++ rest) (same_number node)
     by_white true false = refl
 
 text_letters : (node : ℕ) (b : Thing) (cs : List ℕ) → letters_of node (left_behind b (map (Thing.letter node) cs)) ≡ squeezed (keeps_white b) cs
@@ -144,13 +144,6 @@ own_letters b p (inr h) = by_level p.level ∙ ap (squeezed (keeps_white b)) (sy
 abbrev node_of : Part → ℕ
 node_of p = p.node
 
-other_number : (a b : ℕ) → a ≢ b → (a == b) ≡ false
-other_number a b ne = by_test (a == b) refl
-  where
-    by_test : (t : Bool) → (a == b) ≡ t → (a == b) ≡ false
-    by_test false e = e
-    by_test true e = absurd (ne (eqb-true a b e))
-
 -- no letters of a node where it is none of the boxes
 none_of : (node : ℕ) (b : Thing) (c : ℕ) (qs : List Part) → ((p : Part) → Contains qs p → (p.node == node) ≡ false) → letters_of node (left_behind b (things_in qs c)) ≡ []
 none_of node b c [] h = refl
@@ -190,7 +183,7 @@ first_left n table before q qs is fits apart = ap (λ t. record q { text = t }) 
     by_container : (o : Option ℕ) → q.container ≡ o → option_map_or (λ c. letters_of q.node (left_behind (before c) (things_in (q ∷ qs) c))) o [] ≡ squeezed (held table o false) q.text
     by_container None e = ap (squeezed false) (sym (fits.outside e))
     by_container (Some c) e =
-        let inside : is_in c q.container ≡ true = ap (is_in c) e ∙ same_node c in
+        let inside : is_in c q.container ≡ true = ap (is_in c) e ∙ same_number c in
         ap (λ t. letters_of q.node (left_behind (before c) (flat_map things_of (if t then q ∷ filter (λ (p : Part). is_in c p.container) qs else filter (λ (p : Part). is_in c p.container) qs)))) inside
         ∙ (letters_left q.node (before c) (things_of q) (things_in qs c)
         ∙ (ap (λ l. letters_of q.node (left_behind (before c) (things_of q)) ++ l) (none_of q.node (last_of (before c) (things_of q)) c qs apart)

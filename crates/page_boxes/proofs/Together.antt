@@ -1,10 +1,7 @@
 -- What the parts of the code come to together.
-use Rattle.std.proofs.lemmas.List.{length-replicate, get_or-replicate}
-use Rattle.std.proofs.Common.{◌≡◌, ℕ, suc, ◌+◌, ◌<◌, ◌≤◌, nat_lt, Bool, true, false, List, [], ◌∷◌, map, zip, length, replicate, get_or, Option, Some, None, Ok, Err, option_map, slice_get, refl, sym, ◌∙◌, ap, subst, arith, Contains}
-use Rattle.std.specs.List.{enumerate_from}
+use Rattle.std.proofs.lemmas.List.{length-replicate, get_or-replicate, length-map}
+use Rattle.std.proofs.Common.{◌≡◌, ℕ, suc, ◌+◌, ◌<◌, ◌≤◌, nat_lt, Bool, true, false, List, [], ◌∷◌, map, length, replicate, get_or, Option, Some, None, Ok, Err, option_map, slice_get, refl, sym, ◌∙◌, ap, subst, arith, Contains}
 use Rattle.std.proofs.lemmas.Option.{slice_get_within, slice_get-map, get_or_from_slice_get}
-use Rattle.std.proofs.lemmas.List.FromFn.{length-enumerate_from}
-use Rattle.std.proofs.lemmas.List.FromFn.{length-enumerate_from}
 use Rattle.viz_base.specs.Answers.{FailsWith}
 use Rattle.viz_base.specs.Pages.{IsPage}
 use Rattle.viz_base.specs.Trees.{IsBoxTree}
@@ -12,18 +9,19 @@ use Rattle.viz_base.specs.declared.fonts.Font.{Font}
 use Rattle.viz_base.specs.declared.nodes.Node.{Node}
 use Rattle.viz_base.specs.declared.styles.Style.{Style}
 use Rattle.viz_base.specs.declared.trees.BoxNode.{BoxNode}
-use Rattle.layout_semantics.specs.BoxTrees.{Item, first_of, items_of, page_boxes, page_parts, run_around, tree_parents, tree_style_of, tree_styles, viewport_clip}
+use Rattle.layout_semantics.specs.BoxTrees.{Item, first_of, items_of, page_boxes, page_parts, run_around, tree_parents, tree_styles}
 use Rattle.layout_semantics.specs.Parts.{Part, shown_parts}
 use Rattle.viz_base.specs.Reaches.{beyond_reach}
+use Rattle.viz_base.proofs.ListLemmas.{later_member}
+use Rattle.viz_base.specs.Orders.{Rises}
 use Rattle.layout_semantics.specs.Refusals.{BoxRefusal, blocks_in_inlines, first_refusal, page_refusal, right_to_left_letters}
 use Rattle.layout_semantics.specs.WhiteSpace.{collapsed}
 use Rattle.layout_laws.specs.Styled.{AreStylesOf}
-use Rattle.layout_laws.proofs.Members.{Rises, from_map, first_member, later_member}
+use Rattle.layout_laws.proofs.Members.{from_map, first_member}
 use Rattle.layout_laws.proofs.Places.{node_of}
 use Rattle.layout_laws.proofs.PageParts.{from_page, page_rises}
 use Rattle.layout_laws.proofs.BoxFacts.{item_known}
 use Rattle.layout_laws.proofs.BoxLaws.{page_arranged}
-use Rattle.layout_laws.proofs.TreeFacts.{length_mapped}
 use Rattle.page_boxes.specs.Trees.{IfNamed, page_tree, unless_refused}
 use Rattle.page_boxes.specs.steps.Leads.{ahead_of, leads_walk, with_blocks}
 use Rattle.page_boxes.specs.steps.Places.{count_walk, places_walk, with_all}
@@ -37,19 +35,6 @@ use Rattle.page_boxes.proofs.LeadSteps.{leads_are}
 use Rattle.page_boxes.proofs.PageSteps.{parent_within, root_level}
 use Rattle.page_boxes.proofs.PlaceSteps.{count_is, lead_of_run, page_nested, part_of_item, table_start, walk_is}
 use Rattle.page_boxes.proofs.RefusalSteps.{first_block}
-
--- ---- styles
-
-length_zip : {A B : Type 0} (xs : List A) (ys : List B) → length xs ≡ length ys → length (zip xs ys) ≡ length ys
-length_zip [] [] e = refl
-length_zip [] (y ∷ ys) e = absurd (omega (arith, e))
-length_zip (x ∷ xs) [] e = absurd (omega (arith, e))
-length_zip (x ∷ xs) (y ∷ ys) e = ap suc (length_zip xs ys (omega (arith, e)))
-
-pub length_styles : (nodes : List Node) (styles : List Style) → length styles ≡ length nodes → length (tree_styles nodes styles) ≡ length nodes
-length_styles nodes styles e =
-    length_mapped (tree_style_of (viewport_clip nodes styles)) (zip (enumerate_from 0 nodes) styles)
-    ∙ (length_zip (enumerate_from 0 nodes) styles (length-enumerate_from 0 nodes ∙ sym e) ∙ e)
 
 -- ---- how many boxes of nodes there are
 
@@ -65,7 +50,7 @@ pub few_parts : (nodes : List Node) (styles : List Style) → length (collapsed 
 few_parts nodes styles =
     let parts = collapsed (shown_parts nodes styles) in
     let few = few_numbers 0 (length nodes) (map (λ (p : Part). p.node) parts) (page_rises nodes styles) (λ n i. within n (from_map (λ (p : Part). p.node) parts n i)) (omega arith) in
-    let size = length_mapped (λ (p : Part). p.node) parts in
+    let size = length-map parts (λ (p : Part). p.node) in
     omega (arith, few, size)
   where
     within : (n : ℕ) → (p : Part) × Contains (collapsed (shown_parts nodes styles)) p × (p.node ≡ n) → n < length nodes

@@ -11,6 +11,7 @@ use Rattle.viz_base.specs.declared.settings.Source.{Source}
 use Rattle.viz_base.specs.declared.sheets.Rule.{Rule}
 use Rattle.viz_base.specs.declared.sheets.Sheet.{Sheet}
 use Rattle.viz_base.specs.declared.styles.Style.{Style}
+use Rattle.viz_base.proofs.Sameness.{same_Ok, same_Err, no_Ok, no_cons, same_head, same_tail}
 use Rattle.css_semantics.specs.Cascade.{Fault, IsCascade, selector_at, value_at}
 use Rattle.css_semantics.specs.ComputedValues.{AreComputed}
 use Rattle.css_semantics.specs.DefaultSheet.{default_text}
@@ -36,24 +37,6 @@ use Rattle.page_build.proofs.OneStyle.{one_styles}
 use Rattle.page_build.proofs.ReadPages.{raw_nodes}
 use Rattle.page_build.proofs.SameFields.{same_fonts, same_job, same_tree}
 
-same_ok : {A E : Type 0} {x y : A} → ◌≡◌ {A = Result A E} (Ok x) (Ok y) → x ≡ y
-same_ok e = cc
-
-same_err : {A E : Type 0} {x y : E} → ◌≡◌ {A = Result A E} (Err x) (Err y) → x ≡ y
-same_err e = cc
-
-no_ok : {A E : Type 0} {x : A} {e : E} → ◌≡◌ {A = Result A E} (Ok x) (Err e) → ⊥
-no_ok h = cc
-
-no_cons : {A : Type 0} {x : A} {xs : List A} → [] ≡ x ∷ xs → ⊥
-no_cons h = cc
-
-same_head : {A : Type 0} {x y : A} {xs ys : List A} → x ∷ xs ≡ y ∷ ys → x ≡ y
-same_head h = cc
-
-same_tail : {A : Type 0} {x y : A} {xs ys : List A} → x ∷ xs ≡ y ∷ ys → xs ≡ ys
-same_tail h = cc
-
 -- ---- sheets
 
 one_sheet : {text same : List ℕ} {a b : Result (List Rule) Refusal} → text ≡ same → IsSheetOf text a → IsSheetOf same b → a ≡ b
@@ -69,11 +52,11 @@ one_reading AreRead.nothing AreRead.nothing e = refl
 one_reading AreRead.nothing (AreRead.first k ks) e = absurd (no_cons e)
 one_reading (AreRead.first h hs) AreRead.nothing e = absurd (no_cons (sym e))
 one_reading (AreRead.first {sheet = s} {sheets = ss} h hs) (AreRead.first {sheet = t} {sheets = ts} k ks) e =
-    ap (λ x. x ∷ ss) (same_sheet {s = s} {t = t} (same_ok (one_sheet (same_head e) h k))) ∙ ap (λ xs. t ∷ xs) (one_reading hs ks (same_tail e))
+    ap (λ x. x ∷ ss) (same_sheet {s = s} {t = t} (same_Ok (one_sheet (same_head e) h k))) ∙ ap (λ xs. t ∷ xs) (one_reading hs ks (same_tail e))
 
 one_default : {css : List (List ℕ)} {s t : List Sheet} → AreSheets css s → AreSheets css t → s ≡ t
 one_default h k =
-    let default = same_sheet {s = h.default} {t = k.default} (same_ok (one_sheet refl h.default_read k.default_read)) in
+    let default = same_sheet {s = h.default} {t = k.default} (same_Ok (one_sheet refl h.default_read k.default_read)) in
     h.all ∙ (ap (λ x. x ∷ h.authors) default ∙ (ap (λ xs. k.default ∷ xs) (one_reading h.authors_read k.authors_read refl) ∙ sym k.all))
 
 -- texts that are read have none that is refused
@@ -81,7 +64,7 @@ none_refused : {texts : List (List ℕ)} {s : List Sheet} {why : Refusal} (befor
     → AreRead texts s → texts ≡ before ++ text ∷ behind → IsSheetOf text (Err why) → ⊥
 none_refused [] text behind AreRead.nothing e refused = no_cons e
 none_refused (b ∷ bs) text behind AreRead.nothing e refused = no_cons e
-none_refused [] text behind (AreRead.first h hs) e refused = no_ok (one_sheet (same_head e) h refused)
+none_refused [] text behind (AreRead.first h hs) e refused = no_Ok (one_sheet (same_head e) h refused)
 none_refused (b ∷ bs) text behind (AreRead.first h hs) e refused = none_refused bs text behind hs (same_tail e) refused
 
 read_or_refused : {css : List (List ℕ)} {s : List Sheet} {number : ℕ} {why : Refusal} → AreSheets css s → IsFirstRefused css number why → ⊥
@@ -90,9 +73,9 @@ read_or_refused h k = none_refused k.before k.text k.behind h.authors_read k.par
 -- a refused text behind some that are read: how many they are, and why it is refused
 one_first : {before others : List (List ℕ)} {s t : List Sheet} {why reason : Refusal} (text : List ℕ) (behind : List (List ℕ)) (word : List ℕ) (rest : List (List ℕ)) → AreRead before s → AreRead others t
     → before ++ text ∷ behind ≡ others ++ word ∷ rest → IsSheetOf text (Err why) → IsSheetOf word (Err reason) → (length before ≡ length others) × (why ≡ reason)
-one_first text behind word rest AreRead.nothing AreRead.nothing e h k = (refl, same_err (one_sheet (same_head e) h k))
-one_first text behind word rest AreRead.nothing (AreRead.first i is) e h k = absurd (no_ok (sym (one_sheet (same_head e) h i)))
-one_first text behind word rest (AreRead.first i is) AreRead.nothing e h k = absurd (no_ok (one_sheet (same_head e) i k))
+one_first text behind word rest AreRead.nothing AreRead.nothing e h k = (refl, same_Err (one_sheet (same_head e) h k))
+one_first text behind word rest AreRead.nothing (AreRead.first i is) e h k = absurd (no_Ok (sym (one_sheet (same_head e) h i)))
+one_first text behind word rest (AreRead.first i is) AreRead.nothing e h k = absurd (no_Ok (one_sheet (same_head e) i k))
 one_first text behind word rest (AreRead.first i is) (AreRead.first j js) e h k = let found = one_first text behind word rest is js (same_tail e) h k in (ap suc found.0, found.1)
 
 one_sheet_refusal : {css : List (List ℕ)} {m n : ℕ} {why reason : Refusal} → IsFirstRefused css m why → IsFirstRefused css n reason → of_sheet m why ≡ of_sheet n reason
@@ -123,18 +106,18 @@ one_refusal (AreRefused.sheet h) (AreRefused.sheet k) = one_sheet_refusal h k
 one_refusal (AreRefused.sheet h) (AreRefused.cascade k told) = absurd (read_or_refused k.read h)
 one_refusal (AreRefused.cascade h told) (AreRefused.sheet k) = absurd (read_or_refused h.read k)
 one_refusal {nodes = nodes} {css = css} {a = a} {b = b} (AreRefused.cascade {why = v} h told) (AreRefused.cascade {why = w} k other) =
-    one_telling nodes (default_text ∷ css) w (subst (λ why. IsTold nodes (default_text ∷ css) why a) (same_err (one_winners h k)) told) other
+    one_telling nodes (default_text ∷ css) w (subst (λ why. IsTold nodes (default_text ∷ css) why a) (same_Err (one_winners h k)) told) other
 
 -- ---- boxes
 
 styled_or_refused : {nodes : List Node} {css : List (List ℕ)} {fonts : List Font} {s : List Style} {refusal : JobRefusal} → AreStyles nodes css fonts s → AreRefused nodes css refusal → ⊥
 styled_or_refused h (AreRefused.sheet k) = read_or_refused h.cascaded.read k
-styled_or_refused h (AreRefused.cascade k told) = no_ok (one_winners h.cascaded k)
+styled_or_refused h (AreRefused.cascade k told) = no_Ok (one_winners h.cascaded k)
 
 one_styling : {nodes : List Node} {css : List (List ℕ)} {fonts : List Font} {s t : List Style} → IsDocument nodes → AreStyles nodes css fonts s → AreStyles nodes css fonts t → s ≡ t
 one_styling {nodes = nodes} {css = css} {fonts = fonts} {s = s} {t = t} page h k =
     let each = (lists_on (Ok (record { winners = h.winners })) nodes (default_text ∷ css) h.cascaded.sheets h.cascaded.cascaded).each in
-    one_styles page each h.computed (subst (λ winners. AreComputed nodes winners fonts t) (sym (same_ok (one_winners h.cascaded k.cascaded))) k.computed)
+    one_styles page each h.computed (subst (λ winners. AreComputed nodes winners fonts t) (sym (same_Ok (one_winners h.cascaded k.cascaded))) k.computed)
 
 one_tree : {raw : Raw} {a b : Result TreeLists BoxRefusal} → IsDocument raw.nodes → HasBoxes raw a → HasBoxes raw b → a ≡ b
 one_tree {raw = raw} page h k =
@@ -146,41 +129,41 @@ one_tree {raw = raw} page h k =
 
 one_build : {raw : Raw} {a b : Job} → OneFormula → IsDocument raw.nodes → IsBuiltOf raw a → IsBuiltOf raw b → a.digest ≡ b.digest → a ≡ b
 one_build {raw = raw} {a = a} {b = b} law page h k digest =
-    same_job a b digest (h.range ∙ sym k.range) (h.height ∙ sym k.height) (same_tree a.tree b.tree (same_ok (one_tree page h.tree k.tree)))
-    (same_ok (law raw.nodes raw.formula (Ok a.formula) (Ok b.formula) h.assertion k.assertion))
+    same_job a b digest (h.range ∙ sym k.range) (h.height ∙ sym k.height) (same_tree a.tree b.tree (same_Ok (one_tree page h.tree k.tree)))
+    (same_Ok (law raw.nodes raw.formula (Ok a.formula) (Ok b.formula) h.assertion k.assertion))
 
 built_or_refused : {raw : Raw} {job : Job} {refusal : JobRefusal} → OneFormula → IsDocument raw.nodes → IsBuiltOf raw job → IsRefusedLater raw refusal → ⊥
 built_or_refused law page h (IsRefusedLater.styles k) = styled_or_refused h.tree.styled k
-built_or_refused law page h (IsRefusedLater.boxes k) = no_ok (one_tree page h.tree k)
-built_or_refused {raw = raw} {job = job} law page h (IsRefusedLater.assertion fault k answer) = no_ok (law raw.nodes raw.formula (Ok job.formula) (Err fault) h.assertion answer)
+built_or_refused law page h (IsRefusedLater.boxes k) = no_Ok (one_tree page h.tree k)
+built_or_refused {raw = raw} {job = job} law page h (IsRefusedLater.assertion fault k answer) = no_Ok (law raw.nodes raw.formula (Ok job.formula) (Err fault) h.assertion answer)
 
 one_later : {raw : Raw} {a b : JobRefusal} → OneFormula → IsDocument raw.nodes → IsRefusedLater raw a → IsRefusedLater raw b → a ≡ b
 one_later law page (IsRefusedLater.styles h) (IsRefusedLater.styles k) = one_refusal h k
 one_later law page (IsRefusedLater.styles h) (IsRefusedLater.boxes k) = absurd (styled_or_refused k.styled h)
 one_later law page (IsRefusedLater.styles h) (IsRefusedLater.assertion fault k answer) = absurd (styled_or_refused k.styled h)
 one_later law page (IsRefusedLater.boxes h) (IsRefusedLater.styles k) = absurd (styled_or_refused h.styled k)
-one_later law page (IsRefusedLater.boxes h) (IsRefusedLater.boxes k) = ap of_boxes (same_err (one_tree page h k))
-one_later law page (IsRefusedLater.boxes h) (IsRefusedLater.assertion fault k answer) = absurd (no_ok (one_tree page k h))
+one_later law page (IsRefusedLater.boxes h) (IsRefusedLater.boxes k) = ap of_boxes (same_Err (one_tree page h k))
+one_later law page (IsRefusedLater.boxes h) (IsRefusedLater.assertion fault k answer) = absurd (no_Ok (one_tree page k h))
 one_later law page (IsRefusedLater.assertion fault h answer) (IsRefusedLater.styles k) = absurd (styled_or_refused h.styled k)
-one_later law page (IsRefusedLater.assertion fault h answer) (IsRefusedLater.boxes k) = absurd (no_ok (one_tree page h k))
+one_later law page (IsRefusedLater.assertion fault h answer) (IsRefusedLater.boxes k) = absurd (no_Ok (one_tree page h k))
 one_later {raw = raw} law page (IsRefusedLater.assertion fault h answer) (IsRefusedLater.assertion other k same) =
-    ap of_formula (same_err (law raw.nodes raw.formula (Err fault) (Err other) answer same))
+    ap of_formula (same_Err (law raw.nodes raw.formula (Err fault) (Err other) answer same))
 
 job_or_refusal : {bytes : List ℕ} {job : Job} {refusal : JobRefusal} → OneFormula → IsJobOf bytes job → IsRefusedAs bytes refusal → ⊥
-job_or_refusal law h (IsRefusedAs.file e) = no_ok (sym h.read ∙ e)
+job_or_refusal law h (IsRefusedAs.file e) = no_Ok (sym h.read ∙ e)
 job_or_refusal {bytes = bytes} {job = job} law h (IsRefusedAs.later {raw = raw} e later) =
-    built_or_refused law (raw_nodes bytes raw e) (subst (λ said. IsBuiltOf said job) (same_ok (sym h.read ∙ e)) h.built) later
+    built_or_refused law (raw_nodes bytes raw e) (subst (λ said. IsBuiltOf said job) (same_Ok (sym h.read ∙ e)) h.built) later
 
 same_refusal : {bytes : List ℕ} {a b : JobRefusal} → OneFormula → IsRefusedAs bytes a → IsRefusedAs bytes b → a ≡ b
-same_refusal law (IsRefusedAs.file e) (IsRefusedAs.file f) = ap of_file (same_err (sym e ∙ f))
-same_refusal law (IsRefusedAs.file e) (IsRefusedAs.later f later) = absurd (no_ok (sym f ∙ e))
-same_refusal law (IsRefusedAs.later e later) (IsRefusedAs.file f) = absurd (no_ok (sym e ∙ f))
+same_refusal law (IsRefusedAs.file e) (IsRefusedAs.file f) = ap of_file (same_Err (sym e ∙ f))
+same_refusal law (IsRefusedAs.file e) (IsRefusedAs.later f later) = absurd (no_Ok (sym f ∙ e))
+same_refusal law (IsRefusedAs.later e later) (IsRefusedAs.file f) = absurd (no_Ok (sym e ∙ f))
 same_refusal {bytes = bytes} {a = a} law (IsRefusedAs.later e later) (IsRefusedAs.later {raw = raw} f other) =
-    one_later law (raw_nodes bytes raw f) (subst (λ said. IsRefusedLater said a) (same_ok (sym e ∙ f)) later) other
+    one_later law (raw_nodes bytes raw f) (subst (λ said. IsRefusedLater said a) (same_Ok (sym e ∙ f)) later) other
 
 pub one_answer : OneFormula → (bytes : List ℕ) (a b : Result Job JobRefusal) → ComesTo bytes a → ComesTo bytes b → a ≡ b
 one_answer law bytes (Ok a) (Ok b) h k =
-    let built = subst (λ said. IsBuiltOf said a) (same_ok (sym h.read ∙ k.read)) h.built in
+    let built = subst (λ said. IsBuiltOf said a) (same_Ok (sym h.read ∙ k.read)) h.built in
     ap Ok (one_build law (raw_nodes bytes k.raw k.read) built k.built (h.digest ∙ sym k.digest))
 one_answer law bytes (Ok a) (Err b) h k = absurd (job_or_refusal law h k)
 one_answer law bytes (Err a) (Ok b) h k = absurd (job_or_refusal law k h)

@@ -12,6 +12,7 @@ use Rattle.viz_base.specs.declared.nodes.Node.{Node}
 use Rattle.viz_base.specs.declared.settings.Setting.{Setting}
 use Rattle.viz_base.specs.declared.styles.Style.{Style}
 use Rattle.viz_base.specs.Pages.{is_element, is_element_at, parent_fits}
+use Rattle.viz_base.proofs.ListLemmas.{slice_some}
 use Rattle.css_semantics.specs.ComputedValues.{AreComputed, AreDrawn, IsComputed, IsOfText, of_parent}
 use Rattle.page_json.specs.Pages.{IsDocument}
 use Rattle.page_build.proofs.SameFields.{same_style}
@@ -76,13 +77,6 @@ one_text {s = s} {t = t} h k =
 
 -- ---- one node after another
 
-there : {A : Type 0} (xs : List A) (at : ℕ) → at < length xs → (x : A) × (slice_get xs at ≡ Some x)
-there {A} xs at l = by_cases (slice_get_cases xs at).1
-  where
-    by_cases : ((x : A) × (at < length xs) × (slice_get xs at ≡ Some x) × (get_or xs at x ≡ x)) ⊎ ((length xs ≤ at) × (slice_get xs at ≡ None)) → (x : A) × (slice_get xs at ≡ Some x)
-    by_cases (inl h) = (h.0, h.2)
-    by_cases (inr h) = absurd (omega (arith, h.0))
-
 same_items : {A : Type 0} (xs ys : List A) → ((at : ℕ) → slice_get xs at ≡ slice_get ys at) → xs ≡ ys
 same_items [] [] e = refl
 same_items [] (y ∷ ys) e = absurd (none-some y (e 0))
@@ -110,8 +104,8 @@ one_each {A} nodes xs ys page lx ly follows = same_items xs ys (λ at. below (su
         → slice_get xs at ≡ slice_get ys at
     step at before (inr h) = slice_get_past xs at (omega (arith, h.0, lx)) ∙ sym (slice_get_past ys at (omega (arith, h.0, ly)))
     step at before (inl h) =
-        let x = there xs at (omega (arith, h.1, lx)) in
-        let y = there ys at (omega (arith, h.1, ly)) in
+        let x = slice_some xs at (omega (arith, h.1, lx)) in
+        let y = slice_some ys at (omega (arith, h.1, ly)) in
         x.1 ∙ (ap Some (follows at h.0 x.0 y.0 h.2 x.1 y.1 (of_parents at h.0.parent before (page.parents at h.0 h.2))) ∙ sym y.1)
 
     below : (k at : ℕ) → at < k → slice_get xs at ≡ slice_get ys at
@@ -141,18 +135,18 @@ one_styles {nodes = nodes} {winners = winners} {fonts = fonts} {s = s} {t = t} p
   where
     drawn : h.drawn ≡ k.drawn
     drawn = one_each nodes h.drawn k.drawn page h.one_drawn_each k.one_drawn_each (λ at n x y en ex ey before.
-        (let ws = there winners at (omega (arith, slice_get_within nodes at n en, lw)) in
+        (let ws = slice_some winners at (omega (arith, slice_get_within nodes at n en, lw)) in
         one_drawn (h.borders at n ws.0 x en ws.1 ex) (subst (λ o. AreDrawn ws.0 o y) (sym before) (k.borders at n ws.0 y en ws.1 ey))))
 
     by_body : (b : Bool) (at : ℕ) (n : Node) (x y : Style) → is_element n.body ≡ b → slice_get nodes at ≡ Some n → slice_get s at ≡ Some x → slice_get t at ≡ Some y → of_parent s n ≡ of_parent t n → x ≡ y
     by_body true at n x y is en ex ey before =
         let l : at < length nodes = slice_get_within nodes at n en in
-        let ws = there winners at (omega (arith, l, lw)) in
-        let d = there h.drawn at (omega (arith, l, h.one_drawn_each)) in
+        let ws = slice_some winners at (omega (arith, l, lw)) in
+        let d = slice_some h.drawn at (omega (arith, l, h.one_drawn_each)) in
         let other = k.elements at n ws.0 d.0 y en is ws.1 (subst (λ ds. slice_get ds at ≡ Some d.0) drawn d.1) ey in
         one_element (h.elements at n ws.0 d.0 x en is ws.1 d.1 ex) (subst (λ o. IsComputed fonts at ws.0 d.0 o y) (sym before) other)
     by_body false at n x y is en ex ey before =
         let p = text_parent page en is in
-        let parent = there s p.0 (omega (arith, p.2, slice_get_within nodes at n en, h.one_style_each)) in
+        let parent = slice_some s p.0 (omega (arith, p.2, slice_get_within nodes at n en, h.one_style_each)) in
         let of : of_parent s n ≡ Some parent.0 = ap (option_and_then (slice_get s)) p.1 ∙ parent.1 in
         one_text (h.texts at n parent.0 x en is of ex) (k.texts at n parent.0 y en is (sym before ∙ of) ey)

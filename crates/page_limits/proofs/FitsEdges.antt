@@ -5,7 +5,7 @@ use Rattle.std.specs.List.{AllByRecursion}
 use Rattle.std.specs.Option.{option_and_then}
 use Rattle.std.proofs.Math.Nat.{mul-le-mul}
 use Rattle.viz_base.specs.Reaches.{is_of_element}
-use Rattle.viz_base.specs.Styles.{sides_of}
+use Rattle.viz_base.specs.Styles.{sides_of, nothing}
 use Rattle.viz_base.specs.Trees.{AreAlikeButSize, is_chars, is_line}
 use Rattle.viz_base.specs.declared.layouts.Band.{Band}
 use Rattle.viz_base.specs.declared.layouts.Inner.{Inner}
@@ -18,7 +18,7 @@ use Rattle.viz_base.specs.declared.trees.Kind.{Kind}
 use Rattle.viz_base.specs.declared.trees.Kind.TheVariants as of_kind
 use Rattle.viz_base.specs.declared.worlds.World.{World}
 use Rattle.layout_semantics.specs.Blocks.{kind_of, style_of}
-use Rattle.layout_semantics.specs.Lengths.{used, own_style, nothing, no_sides}
+use Rattle.layout_semantics.specs.Lengths.{used, own_style, no_sides}
 use Rattle.layout_semantics.specs.LineFilling.{band_width}
 use Rattle.layout_semantics.specs.LineHeights.{InlineContext}
 use Rattle.lay_line.specs.Fits.{EdgesFit, SideFits}

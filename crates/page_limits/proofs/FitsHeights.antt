@@ -9,6 +9,7 @@ use Rattle.viz_base.specs.declared.trees.BoxTree.{BoxTree}
 use Rattle.viz_base.specs.declared.trees.Kind.{Kind}
 use Rattle.viz_base.specs.declared.trees.Kind.TheVariants as of_kind
 use Rattle.viz_base.specs.declared.worlds.World.{World}
+use Rattle.viz_base.proofs.ListLemmas.{slice_some}
 use Rattle.viz_calc.specs.State.{AllSmall}
 use Rattle.layout_semantics.specs.Blocks.{kind_of, parent_of}
 use Rattle.layout_semantics.specs.DefiniteHeights.{own_height, least_height, is_passed_over, percentage_container, own_height_around, definite_height, definite_height_to}
@@ -16,7 +17,6 @@ use Rattle.layout_semantics.specs.Lengths.{own_style}
 use Rattle.layout_semantics.specs.Order.{kids_of, roots, IsOnPage}
 use Rattle.layout_semantics.proofs.Forest.{IsKid}
 use Rattle.layout_semantics.proofs.Pages.{forest, root-alone, root_place, Each-contains, within-page}
-use Rattle.layout_laws.proofs.PageParts.{slice_some}
 use Rattle.layout_laws.proofs.Upward.{container-by-parent, definite-by-container}
 use Rattle.lay_width.specs.Fitting.{HeightFits, MostHeightFits, HeldFits, OwnHeightFits, DefiniteFits_to, GivenFits}
 use Rattle.lay_reach.proofs.Extents.{IsLowTree}

@@ -4,7 +4,7 @@ use Rattle.std.specs.List.{AllByRecursion}
 use Rattle.std.specs.Option.{option_map_or}
 use Rattle.std.proofs.Math.Nat.{mul-le-mul}
 use Rattle.viz_base.specs.Reaches.{is_of_element}
-use Rattle.viz_base.specs.Styles.{sides_of}
+use Rattle.viz_base.specs.Styles.{sides_of, nothing}
 use Rattle.viz_base.specs.Trees.{is_fragmented, is_line}
 use Rattle.viz_base.specs.declared.lengths.Length.{Length}
 use Rattle.viz_base.specs.declared.lengths.Length.TheVariants as of_length
@@ -14,7 +14,7 @@ use Rattle.viz_base.specs.declared.trees.BoxTree.{BoxTree}
 use Rattle.viz_base.specs.declared.trees.Kind.{Kind}
 use Rattle.viz_base.specs.declared.trees.Kind.TheVariants as of_kind
 use Rattle.viz_base.specs.declared.worlds.World.{World}
-use Rattle.layout_semantics.specs.Lengths.{own_style, nothing, no_sides}
+use Rattle.layout_semantics.specs.Lengths.{own_style, no_sides}
 use Rattle.lay_width.specs.Fitting.{UsedFits, MostFits}
 use Rattle.lay_reach.proofs.Extents.{IsLowTree, IsElementOf, IsLowLength, style-of, style-low, used-size, way-small}
 use Rattle.flow_limits.specs.Boxes.{IsWhole}

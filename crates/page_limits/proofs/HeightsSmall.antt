@@ -6,11 +6,11 @@ use Rattle.viz_base.specs.declared.lengths.Valign.{Valign}
 use Rattle.viz_base.specs.declared.lengths.Valign.TheVariants as of_valign
 use Rattle.viz_base.specs.declared.trees.BoxTree.{BoxTree}
 use Rattle.viz_base.specs.declared.worlds.World.{World}
+use Rattle.viz_base.proofs.ListLemmas.{slice_some}
 use Rattle.layout_semantics.specs.Blocks.{parent_of}
 use Rattle.layout_semantics.specs.LineHeights.{InlineContext, LineExtent}
 use Rattle.layout_semantics.specs.Order.{IsOnPage}
 use Rattle.layout_semantics.proofs.Pages.{within-page}
-use Rattle.layout_laws.proofs.PageParts.{slice_some}
 use Rattle.lay_reach.proofs.Extents.{IsLowTree}
 use Rattle.flow_limits.specs.Boxes.{IsWhole, middle_of}
 use Rattle.flow_limits.specs.Raises.{AreRaisedBy, AreRaisesSmall, own_raise, raise_around}

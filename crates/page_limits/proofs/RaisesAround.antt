@@ -10,11 +10,11 @@ use Rattle.viz_base.specs.declared.trees.BoxTree.{BoxTree}
 use Rattle.viz_base.specs.declared.trees.Kind.{Kind}
 use Rattle.viz_base.specs.declared.trees.Kind.TheVariants as of_kind
 use Rattle.viz_base.specs.declared.worlds.World.{World}
+use Rattle.viz_base.proofs.ListLemmas.{slice_some}
 use Rattle.layout_semantics.specs.Blocks.{kind_of, node_of, parent_of}
 use Rattle.layout_semantics.specs.LineHeights.{InlineContext, LineExtent, inline_extent, raise}
 use Rattle.layout_semantics.specs.Order.{IsOnPage}
 use Rattle.layout_semantics.proofs.Pages.{within-page}
-use Rattle.layout_laws.proofs.PageParts.{slice_some}
 use Rattle.layout_laws.proofs.Upward.{HasParent, parent-of}
 use Rattle.lay_reach.proofs.Extents.{IsLowTree}
 use Rattle.page_limits.proofs.HeightsFonts.{valign_of, own-cost, box-cost}

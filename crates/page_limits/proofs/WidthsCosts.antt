@@ -16,12 +16,12 @@ use Rattle.viz_base.specs.declared.trees.BoxTree.{BoxTree}
 use Rattle.viz_base.specs.declared.trees.Kind.{Kind}
 use Rattle.viz_base.specs.declared.trees.Kind.TheVariants as of_kind
 use Rattle.viz_base.specs.declared.worlds.World.{World}
+use Rattle.viz_base.proofs.ListLemmas.{slice_some}
 use Rattle.layout_semantics.specs.Blocks.{kind_of, style_of}
 use Rattle.layout_semantics.specs.InlineContent.{start_edges, end_edges}
 use Rattle.layout_semantics.specs.Lengths.{used_if_absolute, maximum, held, total, own_style}
 use Rattle.layout_semantics.specs.Preferred.{absolute_part, outer_width}
 use Rattle.layout_semantics.specs.Replaced.{intrinsic, by_ratio, preferred_replaced}
-use Rattle.layout_laws.proofs.PageParts.{slice_some}
 use Rattle.layout_laws.proofs.Reaching.{ratio_least}
 use Rattle.lay_preferred.proofs.SmallPages.{by_ratio-size}
 use Rattle.lay_reach.proofs.Extents.{IsLowTree, IsElementOf, ext, own-is, style-of, by-groups}

@@ -11,6 +11,7 @@ use Rattle.viz_base.specs.declared.trees.BoxTree.{BoxTree}
 use Rattle.viz_base.specs.declared.trees.Kind.{Kind}
 use Rattle.viz_base.specs.declared.trees.Kind.TheVariants as of_kind
 use Rattle.viz_base.specs.declared.worlds.World.{World}
+use Rattle.viz_base.proofs.ListLemmas.{all_append}
 use Rattle.layout_semantics.specs.Blocks.{kind_of, node_of}
 use Rattle.layout_semantics.specs.Fonts.{text_width}
 use Rattle.layout_semantics.specs.InlineContent.{Item, start, finish, word, space, atomic, forced, float, Sort, a_float, an_atomic, a_break, a_text, an_inline, sort_of, text_of, text_items, items_to, content, is_floated_at, is_inline_level_at, holds_inline, inner_boxes, start_edges, end_edges}
@@ -23,7 +24,7 @@ use Rattle.layout_semantics.specs.Stretches.{is_break, may_part, never, what_sta
 use Rattle.layout_semantics.proofs.Forest.{IsKid}
 use Rattle.layout_semantics.proofs.Orders.{document_order-is}
 use Rattle.layout_semantics.proofs.Pages.{forest}
-use Rattle.layout_laws.proofs.Levels.{All-append, All-implied}
+use Rattle.layout_laws.proofs.Levels.{All-implied}
 use Rattle.flow_limits.proofs.Levels.{All-map}
 use Rattle.page_limits.proofs.WidthsLists.{costs, costs-append, costs-both, each-within, IsSized, greatest-size, total-size, child_size, block-sizes, stays-cost, parts-cost, entries, measured-size}
 
@@ -75,7 +76,7 @@ module _ (tree : BoxTree) (w : World) where
         let both = costs-both plain_cost float_cost items in
         let parts = parts-cost item_cost (is_break (may_part tree)) [] items in
         greatest-size n (map (preferred_stretch tree w inner) (stretches tree items) ++ preferred_floats inner items)
-        (All-append (IsSized n) (map (preferred_stretch tree w inner) (stretches tree items)) (preferred_floats inner items)
+        (all_append (IsSized n) (map (preferred_stretch tree w inner) (stretches tree items)) (preferred_floats inner items)
         (All-map (IsSized n) (preferred_stretch tree w inner) (stretches tree items)
         (All-implied (λ part. costs item_cost part ≤ n) (λ part. IsSized n (preferred_stretch tree w inner part)) (stretches tree items)
         (λ part m. (let size = stretch-size part in let split = costs-both plain_cost float_cost part in omega (arith, size, split, m)))

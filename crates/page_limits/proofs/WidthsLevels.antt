@@ -15,6 +15,7 @@ use Rattle.viz_base.specs.declared.trees.BoxTree.{BoxTree}
 use Rattle.viz_base.specs.declared.trees.Kind.{Kind}
 use Rattle.viz_base.specs.declared.trees.Kind.TheVariants as of_kind
 use Rattle.viz_base.specs.declared.worlds.World.{World}
+use Rattle.viz_base.proofs.ListLemmas.{slice_some}
 use Rattle.layout_semantics.specs.Blocks.{kind_of, parent_of}
 use Rattle.layout_semantics.specs.DefiniteHeights.{own_height, least_height, height_around, own_height_around, is_passed_over, percentage_container, definite_height}
 use Rattle.layout_semantics.specs.FlowBoxes.{room, room_inside, room_to}
@@ -25,7 +26,6 @@ use Rattle.layout_semantics.specs.Preferred.{preferred}
 use Rattle.layout_semantics.proofs.Forest.{IsKid}
 use Rattle.layout_semantics.proofs.Pages.{forest, root-alone, root_place, Each-contains}
 use Rattle.layout_laws.specs.Terms.{own_minimum}
-use Rattle.layout_laws.proofs.PageParts.{slice_some}
 use Rattle.layout_laws.proofs.Reaching.{ratio_least, reach_around}
 use Rattle.layout_laws.proofs.Rooms.{room-by-parent}
 use Rattle.layout_laws.proofs.Upward.{container-by-parent, definite-by-container}

@@ -4,13 +4,13 @@ use Rattle.std.specs.Prelude.{replicate, slice_set, unwrap_or}
 use Rattle.std.specs.List.{AllByRecursion, onto_first}
 use Rattle.std.proofs.lemmas.Int.{ints, clamps}
 use Rattle.viz_base.specs.declared.layouts.Preferred.{Preferred}
+use Rattle.viz_base.proofs.ListLemmas.{all_append}
 use Rattle.layout_semantics.specs.Extremes.{greatest_from}
 use Rattle.layout_semantics.specs.InlineContent.{Item, start, finish, word, space, atomic, forced, float}
 use Rattle.layout_semantics.specs.Lengths.{total}
 use Rattle.layout_semantics.specs.Lists.{table_of}
 use Rattle.layout_semantics.specs.Preferred.{Child, in_flow, floated, greatest, sums_from, leading_floats, block_widths, measured_width}
 use Rattle.layout_semantics.specs.Stretches.{cut_where, without_leading, what_stays}
-use Rattle.layout_laws.proofs.Levels.{All-append}
 use mathlib.Core.List.{reverse_aux}
 
 -- ---- costs
@@ -76,7 +76,7 @@ block-sizes n [] l = tt
 block-sizes n (in_flow x ∷ children) l = (omega (arith, l), block-sizes n children (omega (arith, l)))
 block-sizes n (floated x ∷ children) l =
     let all = leading-size (floated x ∷ children) in
-    All-append (IsSized n) (sums_from (pos 0) (leading_floats (floated x ∷ children))) (block_widths children)
+    all_append (IsSized n) (sums_from (pos 0) (leading_floats (floated x ∷ children))) (block_widths children)
     (sums-size n (pos 0) (leading_floats (floated x ∷ children)) (omega (arith, all, l))) (block-sizes n children (omega (arith, l)))
 
 -- ---- parts of inline content

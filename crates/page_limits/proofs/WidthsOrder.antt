@@ -1,9 +1,9 @@
 -- What the boxes in a box cost together is no more than what all boxes do.
-use Rattle.std.proofs.Common.{◌≡◌, ℕ, zero, suc, ◌+◌, ◌<◌, ◌≤◌, Bool, true, false, nat_lt, ◌==◌, List, [], ◌∷◌, map, flat_map, length, Option, None, Some, option_map, slice_get, IsTrue, refl, sym, subst, ap, ◌∙◌, arith, ltb-true, ltb-false}
+use Rattle.std.proofs.Common.{◌≡◌, ℕ, zero, suc, ◌+◌, ◌<◌, ◌≤◌, Bool, true, false, nat_lt, List, [], ◌∷◌, flat_map, length, Option, None, Some, slice_get, IsTrue, refl, sym, subst, arith}
 use Rattle.std.specs.List.{AllByRecursion}
 use Rattle.std.specs.Option.{option_map_or, option_and_then}
 use Rattle.std.proofs.lemmas.Bool.Decides.{nat_tests}
-use Rattle.std.proofs.lemmas.Option.{slice_get-map, slice_get_within}
+use Rattle.std.proofs.lemmas.Option.{slice_get_within}
 use Rattle.viz_base.specs.Trees.{ascends}
 use Rattle.viz_base.specs.declared.trees.BoxNode.{BoxNode}
 use Rattle.viz_base.specs.declared.trees.BoxTree.{BoxTree}
@@ -11,6 +11,7 @@ use Rattle.layout_semantics.specs.Blocks.{parent_of}
 use Rattle.layout_semantics.specs.Order.{kids_of, order_to, document_order}
 use Rattle.layout_semantics.proofs.Forest.{IsKid, both}
 use Rattle.layout_semantics.proofs.Pages.{forest}
+use Rattle.lay_preferred.proofs.SmallBoxes.{IsClosed, before-next}
 use Rattle.page_limits.proofs.WidthsLists.{costs, costs-append}
 
 -- ---- the values of a function before a number together
@@ -45,39 +46,7 @@ rank-of-list g (x ∷ xs) =
 
 -- ---- boxes in their order
 
--- a child of a box that is between two places is before the second
-abbrev IsClosed : List BoxNode → ℕ → ℕ → Type 0
-IsClosed boxes from stop = (x p : ℕ) → parent_of boxes x ≡ Some p → from ≤ p → p < stop → x < stop
-
 module _ (tree : BoxTree) (cost : ℕ → ℕ) where
-  parent-read : (x p : ℕ) → parent_of tree.boxes x ≡ Some p → slice_get (map (λ (b : BoxNode). b.parent) tree.boxes) x ≡ Some (Some p)
-  parent-read x p e = slice_get-map (λ (b : BoxNode). b.parent) tree.boxes x ∙ by (slice_get tree.boxes x) e
-    where
-      by : (o : Option BoxNode) → option_and_then (λ (b : BoxNode). b.parent) o ≡ Some p → option_map (λ (b : BoxNode). b.parent) o ≡ Some (Some p)
-      by None e = absurd (cc)
-      by (Some b) e = ap Some e
-
-  -- what is in a child stands before the next child
-  before-next : (at k next : ℕ) → IsKid tree.boxes at k → IsKid tree.boxes at next → k < next → IsClosed tree.boxes k next
-  before-next at k next i j l = λ x p e f m. by x p e f m (nat_lt x next) refl (x == next) refl
-    where
-      by : (x p : ℕ) → parent_of tree.boxes x ≡ Some p → k ≤ p → p < next → (a : Bool) → nat_lt x next ≡ a → (b : Bool) → (x == next) ≡ b → x < next
-      by x p e f m true t b u = ltb-true x next t
-      by x p e f m false t true u =
-          let same : x ≡ next = grind (arith, nat_tests) in
-          let parent = ap (parent_of tree.boxes) same in
-          let own = j.parent in
-          let up : Some p ≡ Some at = cc in
-          let is : p ≡ at = cc in
-          absurd (let after = i.after in omega (arith, after, f, is))
-      by x p e f m false t false u =
-          let past = ltb-false x next t in
-          let other : x ≡ next → ⊥ = grind (arith, nat_tests) in
-          let later : next < x = grind (arith, past, other) in
-          let from = tree.ok.in_order p next x (Some at) (parent-read x p e) (parent-read next at j.parent) m later in
-          let up : p < suc at = grind (arith, nat_tests, from) in
-          absurd (let after = i.after in omega (arith, after, f, up))
-
   abbrev ordered : ℕ → ℕ → List ℕ
   ordered n k = order_to n tree.boxes k
 
@@ -95,7 +64,7 @@ module _ (tree : BoxTree) (cost : ℕ → ℕ) where
       let rising = both (nat_lt low k) (ascends k (j ∷ ks)) r in
       let next = both (nat_lt k j) (ascends j ks) rising.1 in
       let up : k < j = grind (arith, nat_tests, next.0) in
-      let own = each k j up (before-next at k j a.0 (a.1).0 up) in
+      let own = each k j up (before-next tree at k j a.0 (a.1).0 up) in
       let rest = kids-span n at stop k j ks each c l rising.1 a.1 in
       let size = costs-append cost (ordered n k) (flat_map (ordered n) (j ∷ ks)) in
       omega (arith, own, rest, size)

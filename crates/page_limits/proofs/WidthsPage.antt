@@ -13,6 +13,7 @@ use Rattle.viz_base.specs.declared.trees.BoxTree.{BoxTree}
 use Rattle.viz_base.specs.declared.trees.Kind.{Kind}
 use Rattle.viz_base.specs.declared.trees.Kind.TheVariants as of_kind
 use Rattle.viz_base.specs.declared.worlds.World.{World}
+use Rattle.viz_base.proofs.ListLemmas.{slice_some}
 use Rattle.layout_semantics.specs.Blocks.{kind_of}
 use Rattle.layout_semantics.specs.DefiniteHeights.{own_height, given_height, definite_height}
 use Rattle.layout_semantics.specs.FlowBoxes.{room}
@@ -22,7 +23,6 @@ use Rattle.layout_semantics.specs.Preferred.{preferred}
 use Rattle.layout_semantics.specs.Replaced.{intrinsic, replaced_size}
 use Rattle.layout_semantics.proofs.Pages.{within-page}
 use Rattle.layout_laws.specs.Terms.{own_width, own_maximum, own_minimum}
-use Rattle.layout_laws.proofs.PageParts.{slice_some}
 use Rattle.layout_laws.proofs.Reaching.{ratio_least}
 use Rattle.page_limits.proofs.WidthsCosts.{by_height, by_height-size, held-size, kind-at}
 use Rattle.page_limits.proofs.WidthsTerms.{IsTerm, far, term-cost, height-cost, sides_at, width_in, height_in, used-of}

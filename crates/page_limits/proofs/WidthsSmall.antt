@@ -11,6 +11,7 @@ use Rattle.viz_base.specs.declared.lengths.Length.TheVariants as of_length
 use Rattle.viz_base.specs.declared.trees.BoxNode.{BoxNode}
 use Rattle.viz_base.specs.declared.trees.BoxTree.{BoxTree}
 use Rattle.viz_base.specs.declared.worlds.World.{World}
+use Rattle.viz_base.proofs.ListLemmas.{all_append}
 use Rattle.layout_semantics.specs.Blocks.{kind_of}
 use Rattle.layout_semantics.specs.FlowBoxes.{room}
 use Rattle.layout_semantics.specs.Lengths.{used, margins, borders}
@@ -18,7 +19,6 @@ use Rattle.layout_semantics.specs.Order.{IsOnPage}
 use Rattle.layout_semantics.specs.Verticals.{verticals}
 use Rattle.layout_semantics.proofs.Forest.{both}
 use Rattle.layout_laws.proofs.Reaching.{reach_bounded}
-use Rattle.layout_laws.proofs.Levels.{All-append}
 use Rattle.lay_reach.specs.Limits.{IsSmallPage}
 use Rattle.lay_reach.proofs.Extents.{low-tree}
 use Rattle.flow_limits.specs.Boxes.{IsWhole}
@@ -88,4 +88,4 @@ module _ (tree : BoxTree) (page : IsFarPage tree) (w : World) (small : w.s ≤ 2
   pub inline-bounded : (k : ℕ) → IsOnPage tree.boxes k → is_inline (kind_of tree k) ≡ true → AreEdgesSmall tree w height (2 ^ 42) k
   inline-bounded k on e =
       let sides = sides-bounded tree page w small narrow height flat k (inline-on tree page w small narrow height flat k on e) in
-      (sides.padding.0, (sides.padding.1.0, (sides.padding.1.1.0, (sides.padding.1.1.1.0, All-append (λ (l : Length). unsigned_abs (used tree w l (room tree w height k)) ≤ 2 ^ 42) (sides_of (borders tree k)) (sides_of (margins tree k)) sides.border sides.margin))))
+      (sides.padding.0, (sides.padding.1.0, (sides.padding.1.1.0, (sides.padding.1.1.1.0, all_append (λ (l : Length). unsigned_abs (used tree w l (room tree w height k)) ≤ 2 ^ 42) (sides_of (borders tree k)) (sides_of (margins tree k)) sides.border sides.margin))))

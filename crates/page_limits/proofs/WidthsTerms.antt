@@ -6,7 +6,7 @@ use Rattle.std.specs.List.{AllByRecursion}
 use Rattle.std.specs.Option.{option_map_or}
 use Rattle.std.proofs.Math.Nat.{mul-le-mul_left, mul-le-mul_right, le_of_mul-le-mul_left}
 use Rattle.viz_base.specs.Reaches.{whole, growth, percentage, own_extent}
-use Rattle.viz_base.specs.Styles.{sides_of}
+use Rattle.viz_base.specs.Styles.{sides_of, nothing}
 use Rattle.viz_base.specs.declared.lengths.Length.{Length}
 use Rattle.viz_base.specs.declared.lengths.Length.TheVariants as of_length
 use Rattle.viz_base.specs.declared.lengths.Sides.{Sides}
@@ -16,7 +16,7 @@ use Rattle.viz_base.specs.declared.trees.BoxTree.{BoxTree}
 use Rattle.viz_base.specs.declared.worlds.World.{World}
 use Rattle.layout_semantics.specs.DefiniteHeights.{own_height, least_height, height_around, held_around, own_height_around}
 use Rattle.layout_semantics.specs.Horizontal.{block_flow, shrunk, placing_of, widths, terms_around, available, block_terms, shrunk_terms}
-use Rattle.layout_semantics.specs.Lengths.{used, used_unless_auto, maximum, own_style, margins, borders, paddings, nothing, no_sides}
+use Rattle.layout_semantics.specs.Lengths.{used, used_unless_auto, maximum, own_style, margins, borders, paddings, no_sides}
 use Rattle.layout_semantics.specs.Preferred.{preferred}
 use Rattle.layout_laws.specs.Terms.{own_width, own_maximum, own_minimum}
 use Rattle.layout_laws.proofs.HorizontalTerms.{block-held, shrunk-held}

@@ -1,13 +1,13 @@
 -- What the properties of a box give across, and its edges at all sides.
 use Rattle.std.specs.Prelude.{◌≡◌, ℕ, ◌+◌, ◌*◌, ◌≤◌, ℤ, unsigned_abs, Some, ◌++◌}
 use Rattle.std.specs.List.{AllByRecursion}
-use Rattle.viz_base.specs.Styles.{sides_of}
+use Rattle.viz_base.specs.Styles.{sides_of, nothing}
 use Rattle.viz_base.specs.declared.lengths.Length.TheVariants as of_length
 use Rattle.viz_base.specs.declared.styles.Style.{Style}
 use Rattle.viz_base.specs.declared.trees.BoxTree.{BoxTree}
 use Rattle.viz_base.specs.declared.worlds.World.{World}
 use Rattle.layout_semantics.specs.FlowBoxes.{room}
-use Rattle.layout_semantics.specs.Lengths.{used, used_unless_auto, own, nothing, margins, borders, paddings}
+use Rattle.layout_semantics.specs.Lengths.{used, used_unless_auto, own, margins, borders, paddings}
 use Rattle.layout_semantics.specs.Preferred.{preferred}
 use Rattle.layout_semantics.specs.Replaced.{replaced_size}
 use Rattle.layout_semantics.specs.Verticals.{verticals}

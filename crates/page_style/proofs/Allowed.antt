@@ -1,32 +1,20 @@
 -- A computed value is what an allowed value says, or what the parent has.
-use Rattle.std.proofs.Common.{◌≡◌, Bool, true, false, cond, List, [], ◌∷◌, Option, Some, None, option_map, slice_get, refl, sym, ap, subst, ◌∙◌}
+use Rattle.std.proofs.Common.{◌≡◌, Bool, true, false, cond, List, [], ◌∷◌, Option, Some, None, option_map, refl, subst}
 use Rattle.std.specs.List.{AllByRecursion, find}
 use Rattle.std.specs.Option.{option_map_or}
-use Rattle.std.proofs.lemmas.Bool.{eqb-true}
 use Rattle.viz_base.specs.declared.settings.Prop.{Prop}
 use Rattle.viz_base.specs.declared.settings.Prop.TheVariants as of_prop
 use Rattle.viz_base.specs.declared.settings.Setting.{Setting}
 use Rattle.viz_base.specs.declared.settings.Value.{Value}
 use Rattle.viz_base.specs.declared.settings.Value.TheVariants as of_value
-use Rattle.css_semantics.specs.CascadeOrder.{is_prop, place_of}
+use Rattle.css_semantics.specs.CascadeOrder.{is_prop}
 use Rattle.css_semantics.specs.ComputedValues.{computed, resolved, specified, unless_inherit, unset, winner}
-use Rattle.css_semantics.specs.Properties.{properties, row}
+use Rattle.css_semantics.specs.Properties.{row}
 use Rattle.css_semantics.specs.Winners.{IsAllowed, MayWin}
-
-at_place : (p : Prop) → slice_get properties (place_of p) ≡ Some p
-at_place of_prop.Display = refl
-at_place _ = refl
-
-abbrev some_prop : Prop → Option Prop
-some_prop p = Some p
+use Rattle.css_semantics.proofs.PropLemmas.{same_prop}
 
 abbrev some_value : Value → Option Value
 some_value v = Some v
-
-same_prop : (p q : Prop) → is_prop p q ≡ true → p ≡ q
-same_prop p q e =
-    let same : some_prop p ≡ some_prop q = sym (at_place p) ∙ ap (slice_get properties) (eqb-true (place_of p) (place_of q) e) ∙ at_place q in
-    cc
 
 same_value : (v w : Value) → some_value v ≡ some_value w → v ≡ w
 same_value v w e = cc

@@ -11,7 +11,7 @@ use Rattle.viz_base.specs.declared.settings.Setting.{Setting}
 use Rattle.viz_base.specs.declared.settings.Value.{Value}
 use Rattle.viz_base.specs.declared.settings.Value.TheVariants as of_value
 use Rattle.viz_base.specs.declared.styles.Style.{Style}
-use Rattle.css_semantics.specs.ComputedValues.{AreLengths, computed, if_drawn, length_of, maximum_of, width_of}
+use Rattle.css_semantics.specs.ComputedValues.{AreLengths, computed, if_drawn, length_of, maximum_of, width_of, OwnLengths, own_lengths}
 use Rattle.css_semantics.specs.Properties.{Row, row}
 use Rattle.css_semantics.specs.Winners.{IsAllowed, MayWin}
 use Rattle.page_style.proofs.Allowed.{computed_is}
@@ -26,20 +26,19 @@ abbrev pub OfMaximum : (Length → Type 0) → Option Length → Type 0
 OfMaximum Q o = (l : Length) → o ≡ Some l → Q l
 
 -- of those that may be `auto`, and of those that may not
-pub record AllLengths (P Q : Length → Type 0) (width min_width : Length) (max_width : Option Length) (height min_height : Length) (max_height : Option Length)
-    (margin padding border : Sides Length) : Type 0 where
-  pub width_is : P width
-  pub min_width_is : Q min_width
-  pub max_width_is : OfMaximum Q max_width
-  pub height_is : P height
-  pub min_height_is : Q min_height
-  pub max_height_is : OfMaximum Q max_height
-  pub margins : EachSide P margin
-  pub paddings : EachSide Q padding
-  pub borders : EachSide Q border
+pub record AllLengths (P Q : Length → Type 0) (own : OwnLengths) : Type 0 where
+  pub width_is : P own.width
+  pub min_width_is : Q own.min_width
+  pub max_width_is : OfMaximum Q own.max_width
+  pub height_is : P own.height
+  pub min_height_is : Q own.min_height
+  pub max_height_is : OfMaximum Q own.max_height
+  pub margins : EachSide P own.margin
+  pub paddings : EachSide Q own.padding
+  pub borders : EachSide Q own.border
 
 abbrev pub OfStyle : (P Q : Length → Type 0) → Style → Type 0
-OfStyle P Q t = AllLengths P Q t.width t.min_width t.max_width t.height t.min_height t.max_height t.margin t.padding t.border
+OfStyle P Q t = AllLengths P Q (own_lengths t)
 
 some_length : (a b : Length) → Some a ≡ Some b → a ≡ b
 some_length a b e = cc
@@ -105,32 +104,30 @@ module _ (P Q : Length → Type 0) (node : ℕ)
     a_border : (p : Prop) (part : Style → Length) (d : Bool) (l : Length) → l ≡ if_drawn d (computed p (width_of node) part parent ws) → MayWin (row p) (row p).initial → ((t : Style) → OfStyle P Q t → Q (part t)) → Q l
     a_border p part d l e m f = subst Q (sym e) (by_drawn d _ (computed_is p ws allowed m Q (width_of node) part parent (says_width (row p)) (λ t h. f t (up t h))))
 
-    pub lengths_are : (width min_width : Length) (max_width : Option Length) (height min_height : Length) (max_height : Option Length) (margin padding border : Sides Length)
-        → AreLengths node ws drawn parent width min_width max_width height min_height max_height margin padding border
-        → AllLengths P Q width min_width max_width height min_height max_height margin padding border
-    lengths_are width min_width max_width height min_height max_height margin padding border a = record {
-      width_is = a_length Width (λ t. t.width) width a.width_is (search rules) (λ t h. h.width_is);
-      min_width_is = a_fixed MinWidth (λ t. t.min_width) min_width a.min_width_is refl (search rules) (λ t h. h.min_width_is);
-      max_width_is = a_maximum MaxWidth (λ t. t.max_width) max_width a.max_width_is (search rules) (λ t h. h.max_width_is);
-      height_is = a_length Height (λ t. t.height) height a.height_is (search rules) (λ t h. h.height_is);
-      min_height_is = a_fixed MinHeight (λ t. t.min_height) min_height a.min_height_is refl (search rules) (λ t h. h.min_height_is);
-      max_height_is = a_maximum MaxHeight (λ t. t.max_height) max_height a.max_height_is (search rules) (λ t h. h.max_height_is);
+    pub lengths_are : (own : OwnLengths) → AreLengths node ws drawn parent own → AllLengths P Q own
+    lengths_are own a = record {
+      width_is = a_length Width (λ t. t.width) own.width a.width_is (search rules) (λ t h. h.width_is);
+      min_width_is = a_fixed MinWidth (λ t. t.min_width) own.min_width a.min_width_is refl (search rules) (λ t h. h.min_width_is);
+      max_width_is = a_maximum MaxWidth (λ t. t.max_width) own.max_width a.max_width_is (search rules) (λ t h. h.max_width_is);
+      height_is = a_length Height (λ t. t.height) own.height a.height_is (search rules) (λ t h. h.height_is);
+      min_height_is = a_fixed MinHeight (λ t. t.min_height) own.min_height a.min_height_is refl (search rules) (λ t h. h.min_height_is);
+      max_height_is = a_maximum MaxHeight (λ t. t.max_height) own.max_height a.max_height_is (search rules) (λ t h. h.max_height_is);
       margins = record {
-        top = a_length MarginTop (λ t. t.margin.top) margin.top a.margin_top tt (λ t h. h.margins.top);
-        right = a_length MarginRight (λ t. t.margin.right) margin.right a.margin_right tt (λ t h. h.margins.right);
-        bottom = a_length MarginBottom (λ t. t.margin.bottom) margin.bottom a.margin_bottom tt (λ t h. h.margins.bottom);
-        left = a_length MarginLeft (λ t. t.margin.left) margin.left a.margin_left tt (λ t h. h.margins.left);
+        top = a_length MarginTop (λ t. t.margin.top) own.margin.top a.margin_top tt (λ t h. h.margins.top);
+        right = a_length MarginRight (λ t. t.margin.right) own.margin.right a.margin_right tt (λ t h. h.margins.right);
+        bottom = a_length MarginBottom (λ t. t.margin.bottom) own.margin.bottom a.margin_bottom tt (λ t h. h.margins.bottom);
+        left = a_length MarginLeft (λ t. t.margin.left) own.margin.left a.margin_left tt (λ t h. h.margins.left);
       };
       paddings = record {
-        top = a_fixed PaddingTop (λ t. t.padding.top) padding.top a.padding_top refl (search rules) (λ t h. h.paddings.top);
-        right = a_fixed PaddingRight (λ t. t.padding.right) padding.right a.padding_right refl (search rules) (λ t h. h.paddings.right);
-        bottom = a_fixed PaddingBottom (λ t. t.padding.bottom) padding.bottom a.padding_bottom refl (search rules) (λ t h. h.paddings.bottom);
-        left = a_fixed PaddingLeft (λ t. t.padding.left) padding.left a.padding_left refl (search rules) (λ t h. h.paddings.left);
+        top = a_fixed PaddingTop (λ t. t.padding.top) own.padding.top a.padding_top refl (search rules) (λ t h. h.paddings.top);
+        right = a_fixed PaddingRight (λ t. t.padding.right) own.padding.right a.padding_right refl (search rules) (λ t h. h.paddings.right);
+        bottom = a_fixed PaddingBottom (λ t. t.padding.bottom) own.padding.bottom a.padding_bottom refl (search rules) (λ t h. h.paddings.bottom);
+        left = a_fixed PaddingLeft (λ t. t.padding.left) own.padding.left a.padding_left refl (search rules) (λ t h. h.paddings.left);
       };
       borders = record {
-        top = a_border BorderTopWidth (λ t. t.border.top) drawn.top border.top a.border_top (search rules) (λ t h. h.borders.top);
-        right = a_border BorderRightWidth (λ t. t.border.right) drawn.right border.right a.border_right (search rules) (λ t h. h.borders.right);
-        bottom = a_border BorderBottomWidth (λ t. t.border.bottom) drawn.bottom border.bottom a.border_bottom (search rules) (λ t h. h.borders.bottom);
-        left = a_border BorderLeftWidth (λ t. t.border.left) drawn.left border.left a.border_left (search rules) (λ t h. h.borders.left);
+        top = a_border BorderTopWidth (λ t. t.border.top) drawn.top own.border.top a.border_top (search rules) (λ t h. h.borders.top);
+        right = a_border BorderRightWidth (λ t. t.border.right) drawn.right own.border.right a.border_right (search rules) (λ t h. h.borders.right);
+        bottom = a_border BorderBottomWidth (λ t. t.border.bottom) drawn.bottom own.border.bottom a.border_bottom (search rules) (λ t h. h.borders.bottom);
+        left = a_border BorderLeftWidth (λ t. t.border.left) drawn.left own.border.left a.border_left (search rules) (λ t h. h.borders.left);
       };
     }

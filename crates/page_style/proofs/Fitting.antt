@@ -21,7 +21,8 @@ use Rattle.viz_base.specs.declared.settings.Setting.{Setting}
 use Rattle.viz_base.specs.declared.settings.Value.{Value}
 use Rattle.viz_base.specs.declared.settings.Value.TheVariants as of_value
 use Rattle.viz_base.specs.declared.styles.Style.{Style}
-use Rattle.css_semantics.specs.ComputedValues.{AreComputed, IsComputed, IsOfText, first_named, font_named, font_of, line_of, of_parent, valign_of}
+use Rattle.viz_base.proofs.ListLemmas.{slice_some}
+use Rattle.css_semantics.specs.ComputedValues.{AreComputed, IsComputed, IsOfText, first_named, font_named, font_of, line_of, of_parent, valign_of, own_lengths}
 use Rattle.css_semantics.specs.Names.{same_name}
 use Rattle.css_semantics.specs.Properties.{row}
 use Rattle.css_semantics.specs.Winners.{AreWinners, IsAllowed, MayWin}
@@ -30,7 +31,6 @@ use Rattle.layout_laws.specs.Styled.{AreStylesOf, is_at_or_above}
 use Rattle.layout_laws.proofs.Above.{ancestors_are, parent_is}
 use Rattle.page_style.proofs.Allowed.{computed_is}
 use Rattle.page_style.proofs.BoxLengths.{EachSide, OfMaximum, OfStyle, lengths_are}
-use Rattle.page_style.proofs.Reaching.{get_there}
 
 -- ---- the nodes that a style names pass a test
 
@@ -125,7 +125,7 @@ module _ (T : ℕ → Bool) where
 
     of_element : (fonts : List Font) (ws : List Setting) (allowed : AllByRecursion IsAllowed ws) (drawn : Sides Bool) (parent : Option Style) (s : Style) → IsComputed fonts node ws drawn parent s → ((t : Style) → parent ≡ Some t → Names t) → Names s
     of_element fonts ws allowed drawn parent s c up = record {
-      lengths = lengths_are Named Named node (λ n. refl) refl (λ k. one) (λ r n m. refl) (λ l f h. h) ws allowed drawn parent (λ t e. (up t e).lengths) s.width s.min_width s.max_width s.height s.min_height s.max_height s.margin s.padding s.border c.lengths;
+      lengths = lengths_are Named Named node (λ n. refl) refl (λ k. one) (λ r n m. refl) (λ l f h. h) ws allowed drawn parent (λ t e. (up t e).lengths) (own_lengths s) c.lengths;
       line = subst LineNamed (sym c.line) (computed_is LineHeightProp ws allowed (omega arith) LineNamed (line_of node) (λ (t : Style). t.line) parent line_says (λ t e. (up t e).line));
       valign = subst ValignNamed (sym c.valign) (computed_is VerticalAlign ws allowed (omega arith) ValignNamed (valign_of node) (λ (t : Style). t.valign) parent valign_says (λ t e. (up t e).valign));
     }
@@ -134,7 +134,7 @@ module _ (T : ℕ → Bool) where
 
 module _ (fonts : List Font) (some : 0 < length fonts) where
   named_below : (name : List ℕ) (k : ℕ) → font_named fonts name ≡ Some k → k < length fonts
-  named_below name k e = (position-Some (λ (f : Font). same_name name f.name) fonts k (get_there fonts 0 some).0 e).0
+  named_below name k e = (position-Some (λ (f : Font). same_name name f.name) fonts k (slice_some fonts 0 some).0 e).0
 
   first_by : (name : List ℕ) (rest : ℕ) (o : Option ℕ) → font_named fonts name ≡ o → rest < length fonts → unwrap_or o rest < length fonts
   first_by name rest None e l = l
@@ -221,14 +221,14 @@ module _ (nodes : List Node) (winners : List (List Setting)) (fonts : List Font)
         let is : parent_of nodes at ≡ Some q = subst (λ (o : Option Node). option_and_then (λ (m : Node). m.parent) o ≡ Some q) (sym is_n) p in
         let below = (parent_is nodes page at q is).0 in
         let each = c.one_style_each in
-        get_there styles q (omega (arith, below, l, each))
+        slice_some styles q (omega (arith, below, l, each))
 
     fits_by : (s : Style) → slice_get styles at ≡ Some s → (b : Bool) → is_element n.body ≡ b → Fits at s
     fits_by s e true b =
         let each = c.one_drawn_each in
         let wins_each = wins.each in
-        let d = get_there c.drawn at (omega (arith, l, each)) in
-        let ws = get_there winners at (omega (arith, l, wins_each)) in
+        let d = slice_some c.drawn at (omega (arith, l, each)) in
+        let ws = slice_some winners at (omega (arith, l, wins_each)) in
         element_fits ws.0 d.0 s ws.1 (c.elements at n ws.0 d.0 s is_n b ws.1 d.1 e)
     fits_by s e false b = let t = has_parent b n.parent refl in text_fits t.0 s t.1 (c.texts at n t.0 s is_n b t.1 e)
 
@@ -238,7 +238,7 @@ module _ (nodes : List Node) (winners : List (List Setting)) (fonts : List Font)
       let within = slice_get_within styles at s e in
       let each = c.one_style_each in
       let below : at < length nodes = omega (arith, within, each) in
-      let n = get_there nodes at below in
+      let n = slice_some nodes at below in
       fits_by at below n.0 n.1 (λ q t m f. all_fit k q (omega (arith, m, l)) t f) s e (is_element n.0.body) refl
 
   fit : (at : ℕ) (s : Style) → slice_get styles at ≡ Some s → Fits at s

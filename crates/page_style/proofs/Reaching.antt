@@ -23,11 +23,6 @@ get_kept [] y at l = absurd (omega (arith, l))
 get_kept (x ∷ xs) y zero l = refl
 get_kept (x ∷ xs) y (suc at) l = get_kept xs y at (omega (arith, l))
 
-pub get_there : {X : Type 0} (xs : List X) (at : ℕ) → at < length xs → (x : X) × (slice_get xs at ≡ Some x)
-get_there [] at l = absurd (omega (arith, l))
-get_there (x ∷ xs) zero l = (x, refl)
-get_there (x ∷ xs) (suc at) l = get_there xs at (omega (arith, l))
-
 module _ (nodes : List Node) (winners : List (List Setting)) (fonts : List Font) (page : IsPage nodes) where
   -- the first of the nodes have these
   pub record Reached (k : ℕ) (styles : List Style) (drawn : List (Sides Bool)) : Type 0 where

@@ -19,7 +19,7 @@ use Rattle.viz_base.specs.declared.settings.Setting.{Setting}
 use Rattle.viz_base.specs.declared.settings.Value.{Value}
 use Rattle.viz_base.specs.declared.settings.Value.TheVariants as of_value
 use Rattle.viz_base.specs.declared.styles.Style.{Style}
-use Rattle.css_semantics.specs.ComputedValues.{AreLengths, computed, if_drawn, width_of, line_of, size_of, valign_of}
+use Rattle.css_semantics.specs.ComputedValues.{AreLengths, computed, if_drawn, width_of, line_of, size_of, valign_of, OwnLengths}
 use Rattle.css_semantics.specs.Properties.{Row, row}
 use Rattle.css_semantics.specs.Winners.{IsAllowed, MayWin}
 use Rattle.std.proofs.lemmas.Bool.{and_parts}
@@ -168,28 +168,28 @@ module _ (node : ℕ) (ws : List Setting) (allowed : AllByRecursion IsAllowed ws
       subst Plain (sym e) (drawn_plain d _ (computed_is p ws allowed m Plain (width_of node) part parent (λ v h. width_says (row p) node v none h) (λ t h. f t (plain_sides t))))
 
   -- what the table gives keeps the facts
-  pub is_style : (width min_width : Length) (max_width : Option Length) (height min_height : Length) (max_height : Option Length) (margin padding border : Sides Length) (size : Size) (line : LineHeight) (valign : Valign)
-      → AreLengths node ws drawn parent width min_width max_width height min_height max_height margin padding border
+  pub is_style : (own : OwnLengths) (size : Size) (line : LineHeight) (valign : Valign)
+      → AreLengths node ws drawn parent own
       → size ≡ computed FontSize size_of (λ (t : Style). of_size.Same) parent ws
       → line ≡ computed LineHeightProp (line_of node) (λ (t : Style). t.line) parent ws
       → valign ≡ computed VerticalAlign (valign_of node) (λ (t : Style). t.valign) parent ws
-      → IsStyle width min_width max_width height min_height max_height margin padding border size line valign
-  is_style width min_width max_width height min_height max_height margin padding border size line valign a s i v =
-      let l = lengths_are Bounded Good node (λ n. refl) refl (λ k. refl) pct_bounded (λ x f b. (b, f)) ws allowed drawn parent (λ t e. of_style t) width min_width max_width height min_height max_height margin padding border a in
+      → IsStyle own.width own.min_width own.max_width own.height own.min_height own.max_height own.margin own.padding own.border size line valign
+  is_style own size line valign a s i v =
+      let l = lengths_are Bounded Good node (λ n. refl) refl (λ k. refl) pct_bounded (λ x f b. (b, f)) ws allowed drawn parent (λ t e. of_style t) own a in
       record {
         percentages = and_from _ _ (and_from _ _ l.width_is (and_from _ _ l.min_width_is.0 (and_from _ _ l.height_is (and_from _ _ l.min_height_is.0 refl))))
-            (and_from _ _ (maxima is_bounded max_width max_height (λ x e. (l.max_width_is x e).0) (λ x e. (l.max_height_is x e).0))
+            (and_from _ _ (maxima is_bounded own.max_width own.max_height (λ x e. (l.max_width_is x e).0) (λ x e. (l.max_height_is x e).0))
             (and_from _ _ l.margins.top (and_from _ _ l.margins.right (and_from _ _ l.margins.bottom (and_from _ _ l.margins.left
             (and_from _ _ l.paddings.top.0 (and_from _ _ l.paddings.right.0 (and_from _ _ l.paddings.bottom.0 (and_from _ _ l.paddings.left.0
             (and_from _ _ l.borders.top.0 (and_from _ _ l.borders.right.0 (and_from _ _ l.borders.bottom.0 (and_from _ _ l.borders.left.0 refl)))))))))))));
         fixed = and_from _ _ (and_from _ _ l.min_width_is.1 (and_from _ _ l.min_height_is.1 refl))
-            (and_from _ _ (maxima is_fixed max_width max_height (λ x e. (l.max_width_is x e).1) (λ x e. (l.max_height_is x e).1))
+            (and_from _ _ (maxima is_fixed own.max_width own.max_height (λ x e. (l.max_width_is x e).1) (λ x e. (l.max_height_is x e).1))
             (and_from _ _ l.paddings.top.1 (and_from _ _ l.paddings.right.1 (and_from _ _ l.paddings.bottom.1 (and_from _ _ l.paddings.left.1
             (and_from _ _ l.borders.top.1 (and_from _ _ l.borders.right.1 (and_from _ _ l.borders.bottom.1 (and_from _ _ l.borders.left.1 refl)))))))));
-        plain_borders = and_from _ _ (plain_width BorderTopWidth (λ t. t.border.top) drawn.top border.top a.border_top (omega arith) (λ n m. m.0) (λ t h. h.top))
-            (and_from _ _ (plain_width BorderRightWidth (λ t. t.border.right) drawn.right border.right a.border_right (omega arith) (λ n m. m.0) (λ t h. h.right))
-            (and_from _ _ (plain_width BorderBottomWidth (λ t. t.border.bottom) drawn.bottom border.bottom a.border_bottom (omega arith) (λ n m. m.0) (λ t h. h.bottom))
-            (and_from _ _ (plain_width BorderLeftWidth (λ t. t.border.left) drawn.left border.left a.border_left (omega arith) (λ n m. m.0) (λ t h. h.left)) refl)));
+        plain_borders = and_from _ _ (plain_width BorderTopWidth (λ t. t.border.top) drawn.top own.border.top a.border_top (omega arith) (λ n m. m.0) (λ t h. h.top))
+            (and_from _ _ (plain_width BorderRightWidth (λ t. t.border.right) drawn.right own.border.right a.border_right (omega arith) (λ n m. m.0) (λ t h. h.right))
+            (and_from _ _ (plain_width BorderBottomWidth (λ t. t.border.bottom) drawn.bottom own.border.bottom a.border_bottom (omega arith) (λ n m. m.0) (λ t h. h.bottom))
+            (and_from _ _ (plain_width BorderLeftWidth (λ t. t.border.left) drawn.left own.border.left a.border_left (omega arith) (λ n m. m.0) (λ t h. h.left)) refl)));
         size_good = subst GoodSize (sym s) (computed_is FontSize ws allowed (omega arith) GoodSize size_of (λ (t : Style). of_size.Same) parent size_says (λ t e. refl));
         line_good = subst GoodLine (sym i) (computed_is LineHeightProp ws allowed (omega arith) GoodLine (line_of node) (λ (t : Style). t.line) parent (line_says node) (λ t e. t.ok.line_good));
         valign_good = subst GoodValign (sym v) (computed_is VerticalAlign ws allowed (omega arith) GoodValign (valign_of node) (λ (t : Style). t.valign) parent (valign_says node) (λ t e. t.ok.valign_good));

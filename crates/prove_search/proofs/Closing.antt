@@ -1,5 +1,5 @@
 -- What is found of a rectangle, from what is found of its halves.
-use Rattle.std.proofs.Common.{◌≡◌, ℕ, zero, suc, ◌+◌, ◌-◌, ◌*◌, ◌<◌, ◌≤◌, pos, negsuc, neg_ℤ, ◌-ℤ◌, Bool, true, nat_lt, nat_le, ◌&&◌, ◌||◌, List, [], ◌∷◌, length, max, Result, Ok, Err, refl, sym, ap, subst, ◌∙◌, arith, inl, inr, rules, codes, IsTrue, length-append}
+use Rattle.std.proofs.Common.{◌≡◌, ℕ, zero, suc, ◌+◌, ◌-◌, ◌*◌, ◌<◌, ◌≤◌, pos, negsuc, neg_ℤ, ◌-ℤ◌, Bool, true, nat_lt, nat_le, ◌&&◌, List, [], ◌∷◌, length, max, Result, Ok, Err, refl, sym, ap, subst, ◌∙◌, arith, inl, inr, rules, codes, IsTrue, length-append}
 use Rattle.std.specs.Prelude.{◌⊎◌}
 use Rattle.std.specs.List.{AllByRecursion, concat}
 use Rattle.std.specs.Result.{IsErr, IsErrAnd}
@@ -12,38 +12,39 @@ use Rattle.viz_base.specs.declared.worlds.Axis.{Axis}
 use Rattle.viz_base.specs.declared.worlds.Axis.TheVariants.{Width, Size}
 use Rattle.viz_base.specs.declared.worlds.Rect.{Rect}
 use Rattle.viz_base.specs.declared.jobs.Job.{Job}
+use Rattle.viz_base.proofs.ListLemmas.{all_append}
 use Rattle.logic_semantics.specs.Ranges.{IsInRange}
 use Rattle.lin_row.specs.Form.{Form, denied, form_fits}
 use Rattle.lin_row.specs.Number.{in_i128}
 use Rattle.cert_text.specs.declared.certificate.CertNode.{CertNode}
 use Rattle.cert_text.specs.declared.certificate.CertNode.TheVariants.{Grid, Split}
-use Rattle.cert_text.specs.declared.certificate.CertNode.TheOpen.{CertNode-F}
 use Rattle.cert_text.specs.declared.certificate.CertNode.TheViews.{the_lemmas}
 use Rattle.cert_text.specs.declared.certificate.CertNode.TheFolds.{fold-roll-CertNode, fold_out-CertNode}
-use Rattle.cert_text.specs.Texts.{Nested, node_nested, node_text, node_has_text}
+use Rattle.cert_text.specs.Texts.{Nested, node_text, node_has_text}
 use Rattle.cert_text.specs.steps.Write.{row_bytes}
-use Rattle.cert_path.specs.Paths.{def, first, second, Path, variables}
+use Rattle.cert_text.proofs.Certificates.{text_Grid, text_Split, nested_Grid, nested_Split}
+use Rattle.cert_path.specs.Paths.{first, second, Path, variables}
 use Rattle.cert_path.specs.Rectangles.{rectangle, left_by}
 use Rattle.cert_path.specs.Nodes.{by_worlds, splits, node_on, nodes_from}
 use Rattle.cert_path.specs.Shapes.{is_shaped}
 use Rattle.cert_path.proofs.Sides.{rectangle_is_units}
 use Rattle.cert_path.proofs.Trees.{preorder}
-use Rattle.cert_path.proofs.Values.{all_append, axes_declared}
+use Rattle.cert_path.proofs.Values.{axes_declared}
 use Rattle.cert_check.specs.Rectangles.{world_count, IsWithin, is_unit}
 use Rattle.cert_check.specs.Truths.{is_true_at}
 use Rattle.cert_check.specs.Truths.{IsTrueIn, IsFirstUntrueIn}
 use Rattle.cert_check.specs.Rectangles.{IsProper}
-use Rattle.cert_check.specs.Numbers.{are_computed}
 use Rattle.cert_check.specs.Right.{IsGood}
 use Rattle.cert_check.proofs.GridWorlds.{on_units}
 use Rattle.cert_check.proofs.PartSides.{inside_part, some_count}
+use Rattle.cert_check.proofs.PlainUnits.{units_computed}
 use Rattle.prove_search.specs.declared.halves.Halves.{Halves}
 use Rattle.prove_search.specs.declared.plain.Closed.{Closed}
 use Rattle.prove_search.specs.declared.plain.Stop.{Stop}
 use Rattle.prove_search.specs.declared.plain.Stop.TheVariants.{Mem, Violated, Undecided}
 use Rattle.prove_search.specs.steps.Halves.{row_up_to, halves_of}
 use Rattle.prove_search.specs.Outcomes.{laid_out_count, IsViolation}
-use Rattle.prove_search.specs.steps.Finds.{HasLevels, AreUnits, LeadsTo, IsClosed, IsFinding}
+use Rattle.prove_search.specs.steps.Finds.{HasLevels, LeadsTo, IsClosed, IsFinding}
 use Rattle.prove_search.proofs.Halving.{IsHalving, halves_are}
 use Rattle.prove_search.proofs.Texts.{in_width, row_spelled, row_short}
 
@@ -55,29 +56,7 @@ count_Grid = search (rules, the_lemmas, fold-roll-CertNode, fold_out-CertNode)
 count_Split : (row : Form) (one other : CertNode) → laid_out_count (Split row one other) ≡ laid_out_count one + laid_out_count other
 count_Split row one other = search (rules, the_lemmas, fold-roll-CertNode, fold_out-CertNode)
 
-text_Grid : node_text Grid ≡ codes "grid\n"
-text_Grid = search (rules, the_lemmas, fold_out-CertNode)
-
-text_Split : (row : Form) (one other : CertNode) → node_text (Split row one other) ≡ concat (codes "split " ∷ row_bytes row ∷ codes "\n" ∷ node_text one ∷ node_text other ∷ [])
-text_Split row one other = search (rules, the_lemmas, fold_out-CertNode)
-
-nested_Grid : ◌≡◌ {A = Nested} (node_has_text Grid) (node_nested CertNode-F.Grid)
-nested_Grid = search (rules, the_lemmas, fold_out-CertNode)
-
-nested_Split : (row : Form) (one other : CertNode) → ◌≡◌ {A = Nested} (node_has_text (Split row one other)) (node_nested (CertNode-F.Split row (node_has_text one) (node_has_text other)))
-nested_Split row one other = search (rules, the_lemmas, fold_out-CertNode)
-
 -- ---- a grid
-
-computed_by : (a b c : Bool) → a ≡ true → b ≡ true → (a && (b || c)) ≡ true
-computed_by a b c e f = rw (e, f) refl
-
--- a path of unit splits has no numbers to compute
-units_computed : (path : Path) → AreUnits path → (world : World) → IsTrue (are_computed path world)
-units_computed [] units world = refl
-units_computed (def row d ∷ outer) units world = absurd units
-units_computed (first row ∷ outer) units world = computed_by _ _ _ (units_computed outer units.1 world) units.0
-units_computed (second row ∷ outer) units world = computed_by _ _ _ (units_computed outer units.1 world) units.0
 
 grid_is_good : (job : Job) (r : Rect) → IsProper r → world_count r ≤ 64 → IsTrueIn job r
     → (path : Path) → LeadsTo job.range path r → IsGood job (node_on path by_worlds)

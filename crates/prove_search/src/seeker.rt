@@ -74,7 +74,8 @@ impl<'a> Seeker<'a> {
     ghost use Rattle.std.specs.Prelude.{◌<ℤ◌, ⊤, false, pos};
     ghost use Rattle.std.specs.List.{list_any};
     ghost use Rattle.sym_calc.specs.Floors.{same_floor};
-    ghost use Rattle.viz_calc.specs.State.{Grows, Cause, IsDecided, Rose};
+    ghost use Rattle.viz_base.specs.Numbers.{Rose};
+    ghost use Rattle.viz_calc.specs.State.{Grows, Cause, IsDecided};
 
     /// The calc of a path, with known worlds of it, and with the answers of the run that led to it.
     pub fn new(path: &'a Path, pool: Pool, found: Vec<Found>) -> Result<Self, Mem> {

@@ -24,7 +24,7 @@ use Rattle.sym_calc.specs.Knowledge.{values_of, are_met, AreKnown}
 
 -- ---- facts that are met
 
-to_le : (z : ℤ) → int_le (pos 0) z ≡ true → pos 0 ≤ℤ z
+pub to_le : (z : ℤ) → int_le (pos 0) z ≡ true → pos 0 ≤ℤ z
 to_le z e = omega (arith, ints, e)
 
 from_le : (z : ℤ) → pos 0 ≤ℤ z → int_le (pos 0) z ≡ true

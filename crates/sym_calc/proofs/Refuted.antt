@@ -4,6 +4,7 @@ use Rattle.std.specs.Ordering.{int_eq}
 use Rattle.std.specs.Option.{option_map_or}
 use Rattle.std.specs.List.{list_any}
 use Rattle.std.specs.Int.Signed.{lt_z}
+use Rattle.std.proofs.Math.Bool.{or-false, or_comm}
 use Rattle.std.proofs.lemmas.Bool.{and_parts}
 use Rattle.std.proofs.lemmas.Bool.Decides.{nat_tests}
 use Rattle.std.proofs.lemmas.List.Folds.{list_any-append}
@@ -27,16 +28,6 @@ use Rattle.sym_calc.proofs.Histories.{first_right, any_met}
 
 -- ---- a fit floor is that of a well shaped def
 
-or_swap : (a b : Bool) → (a || b) ≡ (b || a)
-or_swap true true = refl
-or_swap true false = refl
-or_swap false true = refl
-or_swap false false = refl
-
-or_none : (a : Bool) → (a || false) ≡ a
-or_none true = refl
-or_none false = refl
-
 pub named_is : (f : Floor) (steps : Steps) → is_named f.row f.by steps ≡ list_any (same_floor f) (floors_of steps)
 named_is f [] = refl
 named_is f (def row d ∷ outer) =
@@ -44,8 +35,8 @@ named_is f (def row d ∷ outer) =
     let here = same_floor f (record { row = row; by = d }) in
     let others = list_any (same_floor f) (floors_of outer) in
     (λ i. (same_row f.row row && int_eq f.by d) || rest i)
-    ∙ or_swap (same_row f.row row && int_eq f.by d) others
-    ∙ (λ i. others || sym (or_none (same_row f.row row && int_eq f.by d)) i)
+    ∙ or_comm (same_row f.row row && int_eq f.by d) others
+    ∙ (λ i. others || sym (or-false (same_row f.row row && int_eq f.by d)) i)
     ∙ sym (list_any-append (same_floor f) (floors_of outer) (record { row = row; by = d } ∷ []))
 named_is f (first row ∷ outer) = named_is f outer
 named_is f (second row ∷ outer) = named_is f outer

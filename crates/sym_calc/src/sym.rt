@@ -4,6 +4,7 @@ ghost use Rattle.std.specs.Option.{option_copied};
 ghost use Rattle.std.specs.Int.{int_div_euclid};
 ghost use Rattle.std.specs.Int.Signed.{lt_z};
 ghost use Rattle.std.specs.Int.RustNames.{int_le};
+ghost use Rattle.viz_base.specs.Numbers.{Rose};
 ghost use Rattle.lin_row.specs.Form.{Form, form_fits, plus, value};
 ghost use Rattle.lin_row.specs.Exact.{IsExact};
 ghost use Rattle.lin_proof.specs.Derivations.{are_declared, first_fault, lines_of};
@@ -18,7 +19,6 @@ ghost use Rattle.sym_calc.specs.Knowledge.{values_of};
 ghost use Rattle.sym_calc.specs.Knowledge.{AreKnown, contrary, sym_state};
 ghost use Rattle.sym_calc.specs.History.{are_fit, facts_from, is_accounted};
 ghost use Rattle.sym_calc.specs.Tags.{tag};
-ghost use Rattle.viz_calc.specs.State.{Rose};
 
 use crate::divisions::{quotient, remainder};
 use crate::facts::add_floor;

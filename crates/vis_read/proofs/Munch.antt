@@ -8,10 +8,10 @@ use Rattle.std.proofs.lemmas.Bool.Decides.{nat_tests}
 use Rattle.std.proofs.lemmas.List.{append_assoc, append-nil, drop_at, length-drop, length-take-le, take-append-drop, take_at, take_more}
 use Rattle.std.proofs.lemmas.List.Sums.{prefix_len-le-length, prefix_len_stops}
 use Rattle.std.proofs.lemmas.Option.{none-some}
-use Rattle.std.proofs.lemmas.Str.{digit_value_digit}
-use Rattle.css_semantics.proofs.Pairs.{by_bool}
 use Rattle.viz_base.specs.declared.formulas.Sign.{Sign as Comparison}
 use Rattle.viz_base.specs.declared.formulas.Sign.TheVariants.{Lt, Le, Eq, Ne, Ge, Gt}
+use Rattle.viz_base.proofs.Truths.{by_bool}
+use Rattle.viz_base.proofs.DecimalLemmas.{digit_is}
 use Rattle.vis_read.specs.declared.pieces.Piece.{Piece}
 use Rattle.vis_read.specs.declared.pieces.Piece.TheVariants.{Word, Number, Pixels, Quoted, Sign, Mark}
 use Rattle.vis_read.specs.Pieces.{is_mark, is_quote, is_word_byte, IsNumber, IsPiece, BeginsWithNone, sign_text}
@@ -20,13 +20,6 @@ use Rattle.vis_read.specs.steps.Next.{IsCut}
 use Rattle.vis_read.specs.steps.Scan.{begins_with_equal, digits_on, mark_at, number_at, number_behind, one_more, piece_at, quoted_at, sign_or, unequal_or_none, with_more, with_unit}
 
 -- ---- digits
-
-digit_is : (c : ℕ) → is_ascii_digit c ≡ true → digit_value c ≡ c - 48
-digit_is c h =
-    let low : 48 ≤ c = grind (arith, nat_tests) in
-    let high : c ≤ 57 = grind (arith, nat_tests) in
-    let e : digit_value c + 48 ≡ c = digit_value_digit c (low, high) in
-    omega arith
 
 -- what one more digit makes of a number
 record Goes (n c m : ℕ) : Type 0 where

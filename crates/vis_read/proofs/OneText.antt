@@ -9,6 +9,7 @@ use Rattle.css_select.proofs.Answers.{one_reading_of}
 use Rattle.viz_base.specs.declared.formulas.Formula.{Formula}
 use Rattle.viz_base.specs.declared.formulas.Set.TheVariants.{Nodes}
 use Rattle.viz_base.specs.declared.nodes.Node.{Node}
+use Rattle.viz_base.proofs.Sameness.{no_cons, same_head, same_tail}
 use Rattle.vis_read.specs.declared.faults.FormulaFault.{FormulaFault}
 use Rattle.vis_read.specs.declared.faults.FormulaFault.TheVariants as of_fault
 use Rattle.vis_read.specs.declared.lexemes.Lexeme.{Lexeme}
@@ -23,15 +24,6 @@ use Rattle.vis_read.specs.steps.Verdicts.{verdict}
 use Rattle.vis_read.proofs.Munch.{kind_at, of_kind, white_none}
 use Rattle.vis_read.proofs.Exact.{IsReading, reading_is}
 use Rattle.vis_read.proofs.Texts.{some_piece}
-
-no_cons : {A : Type 0} (x : A) (xs : List A) → [] ≡ x ∷ xs → ⊥
-no_cons x xs e = omega (arith, ap length e)
-
-heads : (c d : ℕ) (p q : List ℕ) → c ∷ p ≡ d ∷ q → c ≡ d
-heads c d p q e = cc
-
-tails : (c d : ℕ) (p q : List ℕ) → c ∷ p ≡ d ∷ q → p ≡ q
-tails c d p q e = cc
 
 -- ---- the longest piece is one
 
@@ -50,7 +42,7 @@ longest_same text j k p q r s a b =
 not_white : {kind : Piece} (piece behind : List ℕ) (c : ℕ) (rest : List ℕ) → IsPiece kind piece → c ∷ rest ≡ piece ++ behind → is_white c ≡ true → ⊥
 not_white [] behind c rest is e w = omega (arith, some_piece is)
 not_white (d ∷ piece) behind c rest is e w =
-    none-some _ (sym (white_none d piece (subst (λ x. is_white x ≡ true) (heads c d rest (piece ++ behind) e) w)) ∙ of_kind is)
+    none-some _ (sym (white_none d piece (subst (λ x. is_white x ≡ true) (same_head e) w)) ∙ of_kind is)
 
 -- ---- a string says one set
 
@@ -91,7 +83,7 @@ one_set (IsSet.unsupported at h) (IsSet.unsupported other i) = refl
 
 same_inside : (p q : List ℕ) → 34 ∷ (p ++ 34 ∷ []) ≡ 34 ∷ (q ++ 34 ∷ []) → p ≡ q
 same_inside p q e =
-    let more = tails 34 34 (p ++ 34 ∷ []) (q ++ 34 ∷ []) e in
+    let more = same_tail e in
     (same_fronts p q (34 ∷ []) (34 ∷ []) more (omega (arith, ap length more, length-append p (34 ∷ []), length-append q (34 ∷ [])))).0
 
 one_meaning : (nodes : List Node) (kind : Piece) (piece : List ℕ) (l m : Lexeme) → Means nodes kind piece l → Means nodes kind piece m → l ≡ m
@@ -108,18 +100,18 @@ abbrev token : Lexeme → ℕ → Token
 token lexeme at = record { lexeme = lexeme; at = at }
 
 white_or : {c d : ℕ} {rest others : List ℕ} → c ∷ rest ≡ d ∷ others → is_white c ≡ true → is_white d ≡ false → ⊥
-white_or {c = c} {d = d} {rest = rest} {others = others} e w black = false≢true (sym black ∙ (ap is_white (sym (heads c d rest others e)) ∙ w))
+white_or {c = c} {d = d} {rest = rest} {others = others} e w black = false≢true (sym black ∙ (ap is_white (sym (same_head e)) ∙ w))
 
 no_piece_left : {text : List ℕ} (kind : Piece) (piece rest : List ℕ) → [] ≡ text → IsLongest text kind piece rest → ⊥
 no_piece_left kind piece rest e h = omega (arith, ap length (e ∙ h.whole), length-append piece rest, some_piece h.is)
 
 one_tokens : {nodes : List Node} {at other : ℕ} {text same : List ℕ} {ts us : List Token} → AreTokens nodes at text ts → AreTokens nodes other same us → at ≡ other → text ≡ same → ts ≡ us
 one_tokens (AreTokens.no_more i) (AreTokens.no_more j) n e = refl
-one_tokens (AreTokens.no_more i) (AreTokens.white j d others us v more) n e = absurd (no_cons d others e)
+one_tokens (AreTokens.no_more i) (AreTokens.white j d others us v more) n e = absurd (no_cons e)
 one_tokens (AreTokens.no_more i) (AreTokens.next j text piece rest kind lexeme us longest means more) n e = absurd (no_piece_left kind piece rest e longest)
-one_tokens (AreTokens.no_more i) (AreTokens.unknown j d others v none) n e = absurd (no_cons d others e)
-one_tokens (AreTokens.white i c rest ts w h) (AreTokens.no_more j) n e = absurd (no_cons c rest (sym e))
-one_tokens (AreTokens.white i c rest ts w h) (AreTokens.white j d others us v k) n e = one_tokens h k (ap (λ x. x + 1) n) (tails c d rest others e)
+one_tokens (AreTokens.no_more i) (AreTokens.unknown j d others v none) n e = absurd (no_cons e)
+one_tokens (AreTokens.white i c rest ts w h) (AreTokens.no_more j) n e = absurd (no_cons (sym e))
+one_tokens (AreTokens.white i c rest ts w h) (AreTokens.white j d others us v k) n e = one_tokens h k (ap (λ x. x + 1) n) (same_tail e)
 one_tokens (AreTokens.white i c rest ts w h) (AreTokens.next j text piece behind kind lexeme us longest means more) n e = absurd (not_white piece behind c rest longest.is (e ∙ longest.whole) w)
 one_tokens (AreTokens.white i c rest ts w h) (AreTokens.unknown j d others v none) n e = absurd (white_or e w v)
 one_tokens (AreTokens.next i text piece rest kind lexeme ts longest means h) (AreTokens.no_more j) n e = absurd (no_piece_left kind piece rest (sym e) longest)
@@ -130,7 +122,7 @@ one_tokens {nodes = nodes} (AreTokens.next i text piece rest kind lexeme ts long
     let place : i + length piece ≡ j + length q = omega (arith, n, ap length x.piece) in
     ap (λ l. token l i ∷ ts) same ∙ (ap (λ p. token meaning p ∷ ts) n ∙ ap (λ vs. token meaning j ∷ vs) (one_tokens h k place x.rest))
 one_tokens (AreTokens.next i text piece rest kind lexeme ts longest means h) (AreTokens.unknown j d others v none) n e = absurd (none kind piece rest longest.is (sym e ∙ longest.whole))
-one_tokens (AreTokens.unknown i c rest w none) (AreTokens.no_more j) n e = absurd (no_cons c rest (sym e))
+one_tokens (AreTokens.unknown i c rest w none) (AreTokens.no_more j) n e = absurd (no_cons (sym e))
 one_tokens (AreTokens.unknown i c rest w none) (AreTokens.white j d others us v k) n e = absurd (white_or (sym e) v w)
 one_tokens (AreTokens.unknown i c rest w none) (AreTokens.next j text piece behind kind lexeme us longest means more) n e = absurd (none kind piece behind longest.is (e ∙ longest.whole))
 one_tokens (AreTokens.unknown i c rest w none) (AreTokens.unknown j d others v silent) n e = ap (λ p. token a.Unknown p ∷ []) n

@@ -2,13 +2,13 @@
 use Rattle.std.proofs.Common.{◌≡◌, ℕ, ◌≤◌, ◌==◌, bytes_eq, true, List, ◌∷◌, ◌++◌, length, Option, Some, None, IfOk, MatchResult, Result, Ok, Err, option_map, unwrap_or, sym, ap, subst, arith, codes, length-append}
 use Rattle.std.proofs.lemmas.List.{length-map}
 use Rattle.std.specs.Option.{option_or}
-use Rattle.css_semantics.proofs.Pairs.{by_bool}
 use Rattle.viz_base.specs.declared.formulas.Formula.{Formula}
 use Rattle.viz_base.specs.declared.nodes.Node.{Node}
 use Rattle.viz_base.specs.declared.formulas.Set.TheVariants.{Of}
 use Rattle.viz_base.specs.declared.formulas.Sign.{Sign as Comparison}
 use Rattle.viz_base.specs.declared.formulas.Sign.TheVariants.{Lt, Le, Eq, Ne, Ge, Gt}
 use Rattle.viz_base.specs.Formulas.{has_small_terms, is_bound_in}
+use Rattle.viz_base.proofs.Truths.{by_bool}
 use Rattle.vis_read.specs.declared.faults.FormulaFault.{FormulaFault}
 use Rattle.vis_read.specs.declared.faults.FormulaFault.TheVariants as of_fault
 use Rattle.vis_read.specs.declared.lexemes.Lexeme.{Lexeme}

@@ -1,4 +1,4 @@
-use Rattle.std.proofs.Common.{◌≡◌, ℕ, zero, suc, ◌+◌, ◌<◌, Bool, true, false, not, ◌&&◌, ◌||◌, List, [], ◌∷◌, filter, take, length, Option, Some, None, unwrap_or, refl, ap, ◌∙◌, arith}
+use Rattle.std.proofs.Common.{◌≡◌, ℕ, zero, suc, ◌+◌, ◌<◌, Bool, true, false, not, ◌&&◌, List, [], ◌∷◌, filter, take, length, Option, Some, None, unwrap_or, refl, ap, ◌∙◌, arith}
 use denote.Hole.Carrier.{roll}
 use Rattle.std.specs.Option.{is_none}
 use Rattle.std.specs.List.{find, list_any, range_with_len}
@@ -11,8 +11,8 @@ use Rattle.viz_base.specs.declared.formulas.Formula.TheViews.{roll-Formula}
 use Rattle.viz_base.specs.declared.formulas.Formula.TheFolds.{ind-Formula}
 use Rattle.logic_semantics.specs.Scenes.{Scene, is_member_at}
 use Rattle.logic_semantics.specs.Truth.{truth_in}
-use Rattle.logic_semantics.specs.Blame.{with_member, first_wrong, wrong_where, finding_in, blame_in}
-use Rattle.logic_semantics.proofs.Findings.{blame-Const, blame-Exists, blame-Or, blame-Not, blame-Cmp, blame-Overlap, blame-Same, none_is_true, finding-Forall, finding-Implies}
+use Rattle.logic_semantics.specs.Blame.{first_wrong, wrong_where, finding_in, blame_in}
+use Rattle.logic_semantics.proofs.Findings.{blame-Const, blame-Exists, blame-Or, blame-Not, blame-Cmp, blame-Overlap, blame-Same, none_is_true, first_here, first_later, finding-Forall, finding-Implies}
 use Rattle.vis_truth.specs.Scenes.{is_witness}
 
 -- ---- the first number of a range that passes a test
@@ -34,14 +34,6 @@ find-at p n i before lt here = let same : 0 + i ≡ i = omega arith in find-from
 
 -- ---- whom a `forall` blames
 
-wrong-here : (m : ℕ) (o rest : Option (List ℕ)) → is_none o ≡ false → unwrap_or (with_member m o rest) [] ≡ m ∷ unwrap_or o []
-wrong-here m None rest h = absurd (cc)
-wrong-here m (Some x) rest h = refl
-
-wrong-later : (m : ℕ) (o rest : Option (List ℕ)) → is_none o ≡ true → with_member m o rest ≡ rest
-wrong-later m None rest h = refl
-wrong-later m (Some x) rest h = absurd (cc)
-
 -- what the first number that passes the test and has something wrong with it says
 first-wrong_found : (f : ℕ → Option (List ℕ)) (q p : ℕ → Bool) → ((m : ℕ) → is_none (f m) ≡ p m) → (xs : List ℕ) (m : ℕ)
     → find (λ x. q x && not (p x)) xs ≡ Some m → unwrap_or (first_wrong f (filter q xs)) [] ≡ m ∷ unwrap_or (f m) []
@@ -51,10 +43,10 @@ first-wrong_found f q p same (x ∷ xs) m h = by_cases (q x) (p x) refl refl (fi
     by_cases : (a b : Bool) → q x ≡ a → p x ≡ b → (find (λ x. q x && not (p x)) xs ≡ Some m → unwrap_or (first_wrong f (filter q xs)) [] ≡ m ∷ unwrap_or (f m) [])
         → unwrap_or (first_wrong f (filter q (x ∷ xs))) [] ≡ m ∷ unwrap_or (f m) []
     by_cases false b out is rest = rw out (rest (rw out at h))
-    by_cases true true within is rest = rw (within, wrong-later x (f x) (first_wrong f (filter q xs)) (same x ∙ is)) (rest (rw (within, is) at h))
+    by_cases true true within is rest = rw (within, first_later x (f x) (first_wrong f (filter q xs)) (same x ∙ is)) (rest (rw (within, is) at h))
     by_cases true false within is rest =
         let here : x ≡ m = (let found = rw (within, is) at h in cc) in
-        rw within (wrong-here x (f x) (first_wrong f (filter q xs)) (same x ∙ is) ∙ ap (λ k. k ∷ unwrap_or (f k) []) here)
+        rw within (first_here x (f x) (first_wrong f (filter q xs)) (same x ∙ is) ∙ ap (λ k. k ∷ unwrap_or (f k) []) here)
 
 first-wrong_none : (f : ℕ → Option (List ℕ)) (q p : ℕ → Bool) → ((m : ℕ) → is_none (f m) ≡ p m) → (xs : List ℕ)
     → find (λ x. q x && not (p x)) xs ≡ None → unwrap_or (first_wrong f (filter q xs)) [] ≡ []
@@ -64,7 +56,7 @@ first-wrong_none f q p same (x ∷ xs) h = by_cases (q x) (p x) refl refl (first
     by_cases : (a b : Bool) → q x ≡ a → p x ≡ b → (find (λ x. q x && not (p x)) xs ≡ None → unwrap_or (first_wrong f (filter q xs)) [] ≡ [])
         → unwrap_or (first_wrong f (filter q (x ∷ xs))) [] ≡ []
     by_cases false b out is rest = rw out (rest (rw out at h))
-    by_cases true true within is rest = rw (within, wrong-later x (f x) (first_wrong f (filter q xs)) (same x ∙ is)) (rest (rw (within, is) at h))
+    by_cases true true within is rest = rw (within, first_later x (f x) (first_wrong f (filter q xs)) (same x ∙ is)) (rest (rw (within, is) at h))
     by_cases true false within is rest = absurd (let found = rw (within, is) at h in cc)
 
 pub blame-Forall_found : (scene : Scene) (set : Set) (body : Formula) (names : List ℕ) (m : ℕ)

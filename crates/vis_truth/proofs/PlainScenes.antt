@@ -5,8 +5,9 @@ use Rattle.viz_base.specs.declared.worlds.World.{World}
 use Rattle.viz_base.specs.declared.renderings.Placed.{Placed}
 use Rattle.viz_base.specs.declared.renderings.Rendering.{Rendering}
 use Rattle.viz_base.specs.Formulas.{has_small_terms}
+use Rattle.viz_base.specs.Numbers.{Rose}
 use Rattle.viz_calc.specs.World.{Reading}
-use Rattle.viz_calc.specs.State.{Rose, Cause}
+use Rattle.viz_calc.specs.State.{Cause}
 use Rattle.viz_calc.specs.Plain.{plain_state}
 use Rattle.viz_calc.specs.Renderings.{placed_at, rendering_at}
 use Rattle.viz_calc.specs.declared.calc.Halt.{Halt}

@@ -1,9 +1,9 @@
-use Rattle.std.proofs.Common.{◌≡◌, ℕ, suc, ◌+◌, ◌<◌, ◌≤◌, ℤ, Bool, true, false, not, ◌&&◌, ◌||◌, List, [], ◌∷◌, map, take, length, slice_get, Option, Some, None, refl, ap, sym, ◌∙◌, rules, arith, zero-add}
+use Rattle.std.proofs.Common.{◌≡◌, ℕ, ◌+◌, ◌<◌, ◌≤◌, ℤ, Bool, true, false, not, ◌&&◌, ◌||◌, List, [], ◌∷◌, take, length, slice_get, Option, Some, None, refl, ap, sym, ◌∙◌, rules, arith, zero-add}
 use Rattle.std.specs.Option.{option_map, option_map_or}
 use Rattle.std.specs.List.{list_all, list_any, range_with_len}
 use Rattle.std.specs.Borrow.{Bor}
 use Rattle.std.proofs.lemmas.Option.{slice_get-map}
-use Rattle.std.proofs.lemmas.List.{take_all}
+use Rattle.std.proofs.lemmas.List.{length-map, take_all}
 use Rattle.std.proofs.lemmas.List.Folds.{list_any_more, list_any_at}
 use Rattle.std.proofs.lemmas.List.FromFn.{length-range_with_len, get_or-range_with_len}
 use Rattle.viz_base.specs.declared.formulas.Set.{Set}
@@ -66,16 +66,12 @@ no_counterexample q p (x ∷ xs) = by_cases (q x) (p x) (no_counterexample q p x
     by_cases true false rest = refl
     by_cases false b rest = rest
 
-boxes-length : {N M : Type 0} (f : N → M) (xs : List N) → length (map f xs) ≡ length xs
-boxes-length f [] = refl
-boxes-length f (x ∷ xs) = ap suc (boxes-length f xs)
-
 pub forall-witness : {N : Type 0} (at : N → Reading → ℤ) (r : Rendering N) (height : ℕ) (e : Reading) (set : Set) (body : Formula) (names : List ℕ)
     → not (list_any (is_witness (scene_at at r height e) set body false names) (range_with_len 0 (length r.boxes))) ≡ truth_in (scene_at at r height e) (Forall set body) names
 forall-witness at r height e set body names =
     let scene = scene_at at r height e in
     no_counterexample (is_member_at set scene.boxes) (λ m. truth_in scene body (m ∷ names)) (range_with_len 0 (length r.boxes))
-    ∙ ap (λ n. list_all (λ m. not (is_member_at set scene.boxes m) || truth_in scene body (m ∷ names)) (range_with_len 0 n)) (sym (boxes-length (λ p. placed_at at p e) r.boxes))
+    ∙ ap (λ n. list_all (λ m. not (is_member_at set scene.boxes m) || truth_in scene body (m ∷ names)) (range_with_len 0 n)) (sym (length-map r.boxes (λ p. placed_at at p e)))
     ∙ sym (list_all-filter (λ m. truth_in scene body (m ∷ names)) (is_member_at set scene.boxes) (range_with_len 0 (length scene.boxes)))
     ∙ sym (truth-Forall scene set body names)
 
@@ -83,6 +79,6 @@ pub exists-witness : {N : Type 0} (at : N → Reading → ℤ) (r : Rendering N)
     → list_any (is_witness (scene_at at r height e) set body true names) (range_with_len 0 (length r.boxes)) ≡ truth_in (scene_at at r height e) (Exists set body) names
 exists-witness at r height e set body names =
     let scene = scene_at at r height e in
-    ap (λ n. list_any (λ m. is_member_at set scene.boxes m && truth_in scene body (m ∷ names)) (range_with_len 0 n)) (sym (boxes-length (λ p. placed_at at p e) r.boxes))
+    ap (λ n. list_any (λ m. is_member_at set scene.boxes m && truth_in scene body (m ∷ names)) (range_with_len 0 n)) (sym (length-map r.boxes (λ p. placed_at at p e)))
     ∙ sym (list_any-filter (λ m. truth_in scene body (m ∷ names)) (is_member_at set scene.boxes) (range_with_len 0 (length scene.boxes)))
     ∙ sym (truth-Exists scene set body names)

@@ -1,5 +1,4 @@
 use Rattle.std.proofs.Common.{rules, arith, sym, subst, take-append-drop, pos, refl, ap, ◌∙◌, ◌≡◌, ◌≤◌, ◌^◌, ◌+◌, ◌-◌, ◌*◌, ℕ, Bool, true, false, List, [], ◌∷◌, ◌++◌, length, take, drop, replicate, Option, Some, None}
-use Rattle.std.proofs.lemmas.Bool.{false≢true}
 use Rattle.std.proofs.lemmas.Bool.Decides.{nat_tests}
 use Rattle.std.proofs.lemmas.List.{drop-replicate, take_min}
 use Rattle.std.proofs.lemmas.List.Folds.{list_all-append}
@@ -8,17 +7,14 @@ use Rattle.std.specs.Char.{is_ascii_digit, digit_value}
 use Rattle.std.specs.List.{list_all, position, before_first, after_first}
 use Rattle.std.specs.Option.{option_and_then, option_map, option_map_or}
 use Rattle.std.specs.Str.Parse.{digits_value_after}
+use Rattle.viz_base.proofs.Truths.{by_bool, and_first, and_second}
 use Rattle.viz_base.specs.Decimals.{is_point, read_digits, number_of, six_digits, number_parts, number_read, decimal_of}
 
 -- the value of a list of digits, held at the first number past the bound
 abbrev held : ℕ → List ℕ → Option ℕ
 held n cs = cond (list_all is_ascii_digit cs) (Some (min (digits_value_after 10 n cs) (2 ^ 40 + 1))) None
 
-by_bool : {P : Type 0} → (b : Bool) → (b ≡ true → P) → (b ≡ false → P) → P
-by_bool true = λ yes no. yes refl
-by_bool false = λ yes no. no refl
-
-digit_is : (c : ℕ) → is_ascii_digit c ≡ true → digit_value c ≡ c - 48
+pub digit_is : (c : ℕ) → is_ascii_digit c ≡ true → digit_value c ≡ c - 48
 digit_is c h = grind (arith, nat_tests)
 
 step_is : (n d : ℕ) → min (min n (2 ^ 40 + 1) * 10 + d) (2 ^ 40 + 1) ≡ min (n * 10 + d) (2 ^ 40 + 1)
@@ -37,20 +33,12 @@ reads_more n (x ∷ xs) ys = by_bool (is_ascii_digit x)
     (λ yes. rw yes (reads_more (min (n * 10 + (x - 48)) (2 ^ 40 + 1)) xs ys))
     (λ no. rw no refl)
 
-and_left : (a b : Bool) → a && b ≡ true → a ≡ true
-and_left true b h = refl
-and_left false b h = h
-
-and_right : (a b : Bool) → a && b ≡ true → b ≡ true
-and_right true b h = h
-and_right false b h = absurd (false≢true h)
-
 -- a front and a rest of digits are digits
 parts_digits : (k : ℕ) (cs : List ℕ) → list_all is_ascii_digit cs ≡ true
     → (list_all is_ascii_digit (take k cs) ≡ true) × (list_all is_ascii_digit (drop k cs) ≡ true)
 parts_digits k cs h =
     let whole = sym (list_all-append is_ascii_digit (take k cs) (drop k cs)) ∙ ap (list_all is_ascii_digit) (take-append-drop k cs) ∙ h in
-    (and_left _ _ whole, and_right _ _ whole)
+    (and_first _ _ whole, and_second _ _ whole)
 
 six_are_digits : (cs : List ℕ) → list_all is_ascii_digit cs ≡ true → list_all is_ascii_digit (six_digits cs) ≡ true
 six_are_digits cs h =

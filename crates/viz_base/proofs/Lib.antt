@@ -1,1 +1,4 @@
 pub mod DecimalLemmas
+pub mod ListLemmas
+pub mod Sameness
+pub mod Truths

@@ -18,6 +18,10 @@ is_bounded (of_length.Px c) = true
 is_bounded (of_length.Em k node) = true
 is_bounded (of_length.Pct p) = nat_le (unsigned_abs p) (2 ^ 40)
 
+-- the length of nothing, 0
+abbrev pub nothing : Length
+nothing = of_length.Px (pos 0)
+
 -- a length other than `auto`
 abbrev pub is_fixed : Length → Bool
 is_fixed of_length.Auto = false

@@ -1,3 +1,4 @@
 pub mod PlainLemmas
 mod Floors
+pub mod Blamed
 pub mod Runs

@@ -1,7 +1,8 @@
 use Rattle.std.specs.Prelude.{◌≡◌, ◌≤◌, ◌⊎◌, ℕ, ℤ, Bool, false, IsTrue, List, Option, Some, None}
 use Rattle.std.specs.Borrow.{GName}
+use Rattle.viz_base.specs.Numbers.{Rose}
 use Rattle.viz_calc.specs.World.{Reading}
-use Rattle.viz_calc.specs.State.{State, Kept, Rose, AllSmall}
+use Rattle.viz_calc.specs.State.{State, Kept, AllSmall}
 use Rattle.viz_calc.specs.declared.calc.Halt.{Halt}
 use Rattle.viz_calc.specs.declared.calc.Halt.TheVariants.{Mem, Coeff, Open}
 

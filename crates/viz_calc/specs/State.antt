@@ -1,6 +1,7 @@
-use Rattle.std.specs.Prelude.{◌≡◌, ◌-◌, ◌<◌, ◌≤◌, ◌⊎◌, ◌^◌, ℕ, ℤ, Bool, true, false, not, ◌||◌, nat_lt, IsTrue, unsigned_abs, List, [], ◌∷◌, Option, Some, Result, IfErr}
+use Rattle.std.specs.Prelude.{◌≡◌, ◌≤◌, ◌⊎◌, ◌^◌, ℕ, ℤ, Bool, true, false, not, ◌||◌, nat_lt, IsTrue, unsigned_abs, List, [], ◌∷◌, Option, Some, Result, IfErr}
 use Rattle.viz_calc.specs.World.{Reading}
 use Rattle.viz_base.specs.declared.worlds.World.{World}
+use Rattle.viz_base.specs.Numbers.{Rose}
 use Rattle.viz_calc.specs.declared.calc.Halt.{Halt}
 use Rattle.viz_calc.specs.declared.calc.Halt.TheVariants.{Mem, Coeff, Open}
 
@@ -31,10 +32,6 @@ pub record IsOpenWorld (s : State) (w : World) : Type 0 where
 -- no world was closed
 pub record KeepsWorlds (old new : State) : Type 0 where
   pub keeps : (w : World) → IsOpenWorld old w → IsOpenWorld new w
-
--- a count rose, or stands at its end
-abbrev pub Rose : ℕ → ℕ → Type 0
-Rose old new = (old < new) ⊎ (new ≡ 2 ^ 64 - 1)
 
 -- nothing that was known is lost, and the same worlds are kept
 pub record Grows (old new : State) : Type 0 where

@@ -1,5 +1,5 @@
 -- A shelf in memory: what each call answers, and what it leaves.
-use Rattle.std.specs.Prelude.{◌≡◌, ◌⊎◌, ◌==◌, ◌&&◌, Bool, ℕ, List, [], ◌∷◌, Option, Some, None, Result, Ok, Err, IsOk, is_some, bytes_eq, nat_lt, ok_or, option_map, if◌then◌else◌}
+use Rattle.std.specs.Prelude.{◌≡◌, ◌⊎◌, ◌==◌, ◌&&◌, Bool, ℕ, List, [], ◌∷◌, Option, Some, None, Result, Err, IsOk, is_some, bytes_eq, nat_lt, ok_or, option_map, if◌then◌else◌}
 use Rattle.std.specs.List.{list_all, list_any}
 use Rattle.viz_outside.specs.declared.shelf.Loaded.{Loaded}
 use Rattle.viz_outside.specs.declared.shelf.ShelfFault.{ShelfFault}

@@ -1,5 +1,5 @@
 ghost use Rattle.std.specs.Prelude.{◌≡◌, ◌≤◌, ◌<◌, [], IfOk, Some, Ok, length};
-ghost use Rattle.viz_outside.specs.Fault.{Rose};
+ghost use Rattle.viz_base.specs.Numbers.{Rose};
 ghost use Rattle.viz_outside.specs.MemorySink.{answer_of, after_write};
 
 use crate::calls::lists_call;

@@ -1,6 +1,6 @@
 ghost use Rattle.std.specs.Prelude.{◌≡◌, ◌≤◌, ℕ, Bool, List, Option, IfOk, IfSome, IsErrOf, IsTrue, Some, length, option_map};
 ghost use Rattle.viz_outside.specs.declared.shelf.ShelfFault.TheVariants.{Mem, Failed};
-ghost use Rattle.viz_outside.specs.Fault.{Rose};
+ghost use Rattle.viz_base.specs.Numbers.{Rose};
 ghost use Rattle.viz_outside.specs.Shelf.{bytes_of, counted, loaded_of};
 
 use std::alloc::AllocError;

@@ -1,5 +1,5 @@
 ghost use Rattle.std.specs.Prelude.{◌≡◌, ◌≤◌, ◌<◌, ℕ, List, Option, [], IfOk, IsErr, IsOk, OnErr, OnOk, Ok, length, take};
-ghost use Rattle.viz_outside.specs.Fault.{Rose};
+ghost use Rattle.viz_base.specs.Numbers.{Rose};
 ghost use Rattle.viz_outside.specs.Sink.{grown, GrewByPart};
 
 use thiserror::Error;

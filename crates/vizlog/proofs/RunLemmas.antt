@@ -6,7 +6,7 @@ use Rattle.viz_outside.specs.declared.shelf.Loaded.{Loaded}
 use Rattle.viz_outside.specs.declared.shelf.Loaded.TheVariants.{Whole, Longer}
 use Rattle.viz_outside.specs.declared.shelf.ShelfFault.{ShelfFault}
 use Rattle.viz_outside.specs.Shelf.{loaded_of}
-use Rattle.viz_outside.specs.Fault.{Rose}
+use Rattle.viz_base.specs.Numbers.{Rose}
 use Rattle.viz_outside.proofs.FaultLemmas.{rose_within}
 use Rattle.viz_base.specs.declared.jobs.Job.{Job}
 use Rattle.viz_replies.specs.declared.reply.Answer.{Answer}

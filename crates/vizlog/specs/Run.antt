@@ -1,6 +1,6 @@
 -- How a run ends.
 use Rattle.std.specs.Prelude.{◌≡◌, ◌≢◌, ◌⊎◌, ℕ, List, [], Option, codes}
-use Rattle.viz_outside.specs.Fault.{Rose}
+use Rattle.viz_base.specs.Numbers.{Rose}
 use Rattle.viz_outside.specs.Sink.{grown, GrewByPart}
 use Rattle.viz_replies.specs.declared.reply.Answer.{Answer}
 use Rattle.viz_replies.specs.declared.reply.Answer.TheVariants as gives

@@ -1,5 +1,5 @@
 ghost use Rattle.std.specs.Prelude.{◌≡◌, ◌≤◌, ℕ, List, IfOk, IsErrOf, IsTrue};
-ghost use Rattle.viz_outside.specs.Fault.{Rose};
+ghost use Rattle.viz_base.specs.Numbers.{Rose};
 ghost use Rattle.viz_replies.specs.Replies.{IsReplyAbout};
 ghost use Rattle.viz_replies.specs.Certificates.{cert_most};
 ghost use Rattle.vizlog.specs.Files.{HoldsJob, IsGiven, shelved};

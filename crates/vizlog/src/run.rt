@@ -1,5 +1,5 @@
 ghost use Rattle.std.specs.Prelude.{◌≡◌, ◌≢◌, codes, IsTrue, map, string_bytes};
-ghost use Rattle.viz_outside.specs.Fault.{Rose};
+ghost use Rattle.viz_base.specs.Numbers.{Rose};
 ghost use Rattle.vizlog.specs.Words.{AreOfGenerated, word_at};
 ghost use Rattle.vizlog.specs.Files.{shelved};
 ghost use Rattle.vizlog.specs.Run.{Delivers, Obeys, IsOutcome};

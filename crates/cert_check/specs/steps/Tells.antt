@@ -2,9 +2,6 @@
 use Rattle.std.specs.Prelude.{◌≡◌, ◌⊎◌, ℕ, ◌+◌, List, [], ◌∷◌, Result, Ok, Err, ⊤}
 use Rattle.std.specs.List.{AllByRecursion}
 use Rattle.viz_base.specs.declared.jobs.Job.{Job}
-use Rattle.cert_text.specs.declared.certificate.CertNode.{CertNode}
-use Rattle.cert_text.specs.declared.certificate.CertNode.TheOpen.{CertNode-F}
-use Rattle.cert_text.specs.declared.certificate.CertNode.TheFolds.{fold-CertNode}
 use Rattle.cert_path.specs.Nodes.{Node}
 use Rattle.cert_check.specs.declared.verdicts.Reject.{Reject}
 use Rattle.cert_check.specs.declared.walk.Stop.{Stop}
@@ -36,14 +33,3 @@ unfoldable pub Tells : Job → List Node → ℕ → Result ℕ Stop → Type 0
 Tells job nodes n (Ok next) = AllGood job nodes
 Tells job nodes n (Err Mem) = ⊤
 Tells job nodes n (Err (Rejected reject)) = Rejects job nodes n reject
-
--- how many nodes there are
-abbrev pub count_step : CertNode-F ℕ → ℕ
-count_step (CertNode-F.Def row d below) = 1 + below
-count_step (CertNode-F.Split row first second) = 1 + (first + second)
-count_step (CertNode-F.Void why) = 1
-count_step CertNode-F.Grid = 1
-count_step (CertNode-F.Leaf answers) = 1
-
-abbrev pub node_count : CertNode → ℕ
-node_count = fold-CertNode ℕ count_step

@@ -1,5 +1,5 @@
 -- Which selectors match a node, and what wins by them.
-use Rattle.std.specs.Prelude.{◌≡◌, ℕ, suc, ◌==◌, ◌≤◌, ◌⊎◌, List, [], ◌∷◌, map, slice_get, get_or, Option, Some, None, if◌then◌else◌, flat_map}
+use Rattle.std.specs.Prelude.{◌≡◌, ℕ, ◌==◌, ◌⊎◌, List, [], ◌∷◌, map, slice_get, get_or, Option, Some, None, if◌then◌else◌, flat_map}
 use Rattle.std.specs.List.{Contains}
 use Rattle.viz_base.specs.declared.nodes.Element.{Element}
 use Rattle.viz_base.specs.declared.nodes.Node.{Node}
@@ -78,11 +78,6 @@ abbrev pub AreBuckets : List Node → List Ruleset → Buckets → Type 0
 AreBuckets nodes rulesets b = StandFor nodes (map numbered b.candidates.items) (numbered_from 0 rulesets) × AllStand b
 
 -- ---- the numbers of the selectors that are tried
-
--- numbers that rise, from this one on
-abbrev pub Rises : ℕ → List ℕ → Type 0
-Rises low [] = Unit {0}
-Rises low (x ∷ xs) = (low ≤ x) × Rises (suc x) xs
 
 -- The selector of this number may match the element: it asks for no word,
 -- or stands in the bucket of one of the element's.

@@ -6,7 +6,8 @@ use Rattle.viz_base.specs.declared.styles.Side.{Side}
 use Rattle.viz_calc.specs.World.{Reading}
 use Rattle.viz_calc.specs.State.{IsSmall}
 use Rattle.viz_calc.specs.Run.{Run}
-use Rattle.lay_float.specs.Readings.{boxes_at, stretch_at}
+use Rattle.viz_calc.specs.Renderings.{band_at}
+use Rattle.lay_float.specs.Readings.{boxes_at}
 use Rattle.lay_float.specs.declared.floats.PlacedFloat.{PlacedFloat}
 use Rattle.lay_float.specs.steps.Shelves as steps
 use Rattle.lay_float.specs.steps.Shelves.{far_edge, shelf_on}
@@ -27,7 +28,7 @@ place_at at p e = record { top = at p.top.now e; edge = at p.edge.now e }
 -- at whatever top a float stands, its other edge is at most 2^100 in size
 abbrev pub FitsAnywhere : {N : Type 0} → Run → (N → Reading → ℤ) → List (PlacedFloat N) → Side → Band N → N → Type 0
 FitsAnywhere s at floats side cb width = (e : Reading) → IsTrue (s.is_open e) → (y : ℤ)
-    → IsSmall (far_edge side (shelf_on (boxes_at at floats e) side (stretch_at at cb e) y).edge (at width e))
+    → IsSmall (far_edge side (shelf_on (boxes_at at floats e) side (band_at at cb e) y).edge (at width e))
 
 abbrev pub room_at : {N : Type 0} → (N → Reading → ℤ) → Room N → Reading → Band ℤ
 room_at at r e = record { left = at r.left.now e; right = at r.right.now e }

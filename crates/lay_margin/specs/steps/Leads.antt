@@ -8,13 +8,14 @@ use Rattle.viz_base.specs.declared.layouts.Waiting.{Waiting}
 use Rattle.viz_base.specs.declared.trees.BoxTree.{BoxTree}
 use Rattle.viz_base.specs.declared.worlds.World.{World}
 use Rattle.viz_calc.specs.World.{Reading}
+use Rattle.viz_calc.specs.Renderings.{band_at}
 use Rattle.layout_semantics.specs.FlowBoxes.{clear_of, is_open_above, may_collapse_through, flow_children, block_band}
 use Rattle.layout_semantics.specs.InlineContent.{is_floated_at, has_line}
 use Rattle.layout_semantics.specs.Leads.{Leading, clears_something, top_margin, bottom_margin}
 use Rattle.lay_margin.specs.declared.leads.Ended.{Ended}
 use Rattle.lay_margin.specs.declared.leads.Joined.{Joined}
 use Rattle.lay_margin.specs.declared.runs.Run.{Run}
-use Rattle.lay_margin.specs.Readings.{band_at, floats_at}
+use Rattle.lay_margin.specs.Readings.{floats_at}
 use Rattle.lay_margin.specs.Runs.{run_at, with_margin, joined_all}
 
 -- so far: the run, the floats that wait, where the margins end and the containing block of the box at which they do

@@ -1,13 +1,13 @@
 -- What the plain prover finds of a rectangle with so many turns.
-use Rattle.std.specs.Prelude.{◌≡◌, ℕ, ◌+◌, ◌-◌, ◌*◌, ◌^◌, ◌≤◌, max, [], ◌∷◌, length, Result, Ok, Err, IsTrue, ⊤}
+use Rattle.std.specs.Prelude.{◌≡◌, ℕ, ◌+◌, ◌-◌, ◌*◌, ◌^◌, ◌≤◌, max, length, Result, Ok, Err, IsTrue}
 use Rattle.std.specs.List.{AllByRecursion}
 use Rattle.viz_base.specs.declared.worlds.Rect.{Rect}
 use Rattle.viz_base.specs.declared.jobs.Job.{Job}
 use Rattle.cert_text.specs.Texts.{node_text, node_has_text}
-use Rattle.cert_path.specs.Paths.{def, first, second, Path}
+use Rattle.cert_path.specs.Paths.{Path}
 use Rattle.cert_path.specs.Rectangles.{whole, rectangle}
 use Rattle.cert_path.specs.Nodes.{nodes_from}
-use Rattle.cert_check.specs.Rectangles.{world_count, is_unit}
+use Rattle.cert_check.specs.Rectangles.{world_count, AreUnits}
 use Rattle.cert_check.specs.Truths.{IsTrueIn}
 use Rattle.cert_check.specs.Right.{IsGood}
 use Rattle.prove_search.specs.declared.plain.Closed.{Closed}
@@ -22,13 +22,6 @@ pub record HasLevels (levels : ℕ) (r : Rect) : Type 0 where
   pub whole : of_width + of_size ≡ levels
   pub widths : r.wh + 1 - r.wl ≤ 2 ^ of_width
   pub sizes : r.sh + 1 - r.sl ≤ 2 ^ of_size
-
--- each step of the path is to a child of a split by a unit row
-abbrev pub AreUnits : Path → Type 0
-AreUnits [] = ⊤
-AreUnits (def row d ∷ outer) = ⊥
-AreUnits (first row ∷ outer) = IsTrue (is_unit row) × AreUnits outer
-AreUnits (second row ∷ outer) = IsTrue (is_unit row) × AreUnits outer
 
 -- such a path, and what it leaves of a range is this rectangle
 pub record LeadsTo (range : Rect) (path : Path) (r : Rect) : Type 0 where

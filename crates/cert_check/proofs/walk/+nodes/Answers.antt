@@ -2,13 +2,13 @@ use Rattle.std.proofs.Common.{◌≡◌, ◌+◌, ◌∷◌, ◌++◌, ◌∙◌
 use Rattle.std.proofs.lemmas.Bool.{and_parts}
 use Rattle.std.specs.Int.{w128}
 use Rattle.cert_text.specs.declared.certificate.CertNode.TheVariants.{Def, Split}
+use Rattle.cert_text.specs.Nodes.{node_count}
 use Rattle.cert_path.specs.Axes.{axis_count}
 use Rattle.cert_path.specs.Paths.{def, first, second, is_declared}
 use Rattle.cert_path.specs.Nodes.{names, splits, node_on, nodes_from}
 use Rattle.cert_path.specs.Shapes.{has_variable}
 use Rattle.cert_check.specs.declared.cuts.Child.TheVariants.{First, Second}
 use Rattle.cert_check.specs.steps.Descent.{path_of}
-use Rattle.cert_check.specs.steps.Tells.{node_count}
 use Rattle.cert_check.proofs.Judging.{is_judged}
 use Rattle.cert_check.proofs.PartSides.{variables_under, part_under, within_under}
 use Rattle.cert_check.proofs.Tellings.{tells_mem, tells_first, both_told, head_told, rest_told, def_nodes, split_nodes, count-Def, count-Split}

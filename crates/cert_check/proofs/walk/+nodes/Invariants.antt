@@ -1,5 +1,5 @@
 use Rattle.std.proofs.Common.{◌+◌, ◌*◌}
-use Rattle.cert_check.specs.steps.Tells.{node_count}
+use Rattle.cert_text.specs.Nodes.{node_count}
 use Rattle.cert_check.proofs.walk.+nodes.Given as goal
 
 abbrev pub decreases-check_node : goal.decreases-check_node

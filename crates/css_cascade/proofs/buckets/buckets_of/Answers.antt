@@ -1,8 +1,8 @@
 use Rattle.std.proofs.Common.{◌++◌, ◌∙◌, map, [], refl, ap, subst}
+use Rattle.viz_base.proofs.ListLemmas.{drop_at}
 use Rattle.css_semantics.specs.declared.claims.Ranked.{Ranked}
 use Rattle.css_cascade.specs.steps.Buckets.{Numbered, numbered}
 use Rattle.css_cascade.specs.steps.Trying.{StandFor}
-use Rattle.css_cascade.proofs.Reaching.{drop_at}
 use Rattle.css_cascade.proofs.Repeating.{nothing_for_nothing}
 use Rattle.css_cascade.proofs.Standing.{none_stand, rulesets_end, rulesets_more}
 use Rattle.css_cascade.proofs.buckets.buckets_of.Goals as goal

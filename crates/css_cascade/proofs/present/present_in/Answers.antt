@@ -1,6 +1,6 @@
 use Rattle.std.proofs.Common.{◌+◌, ◌∙◌, drop, sym, ap}
+use Rattle.viz_base.proofs.ListLemmas.{drop_at}
 use Rattle.css_cascade.specs.steps.Present.{marked_nodes, present_in}
-use Rattle.css_cascade.proofs.Reaching.{drop_at}
 use Rattle.css_cascade.proofs.present.present_in.Goals as goal
 
 pub loop-node-init : goal.loop-node-init

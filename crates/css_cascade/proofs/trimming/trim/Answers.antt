@@ -1,7 +1,7 @@
 use Rattle.std.proofs.Common.{map, subst}
+use Rattle.viz_base.proofs.ListLemmas.{drop_at}
 use Rattle.css_cascade.specs.steps.Trimming.{LastsAs}
 use Rattle.css_cascade.proofs.Deciding.{trim_more}
-use Rattle.css_cascade.proofs.Reaching.{drop_at}
 use Rattle.css_cascade.proofs.trimming.trim.Goals as goal
 
 pub loop-rules-preserved : goal.loop-rules-preserved

@@ -1,8 +1,9 @@
 use Rattle.std.proofs.Common.{◌≡◌, ◌+◌, ◌∙◌, length, get_or, map, option_map, refl, sym, ap, subst}
 use Rattle.std.proofs.lemmas.Option.{slice_get-map, slice_get_past, slice_get_read}
+use Rattle.std.proofs.lemmas.List.{drop_more}
 use Rattle.css_cascade.specs.steps.Buckets.{numbered}
 use Rattle.css_cascade.specs.steps.Seen.{seen}
-use Rattle.css_cascade.proofs.Tries.{ReachedTry, number_at, try_end, try_more, try_past}
+use Rattle.css_cascade.proofs.Tries.{ReachedTry, try_end, try_more, try_past}
 use Rattle.css_cascade.proofs.trying.try_all.Goals.{in-Some, in_default}
 use Rattle.css_cascade.proofs.trying.try_all.Goals as goal
 
@@ -12,7 +13,7 @@ loop-number-preserved c =
     let numbers = c.args.numbers.now in
     let k = c.loop-number.number-index in
     let x = get_or numbers k 0 in
-    let at = number_at numbers k c.loop-number-test.true in
+    let at = drop_more numbers k 0 c.loop-number-test.true in
     let reached = c.loop-number.invariant.1 in
     elim c.match-get.branch [
       | in-Some w ↦

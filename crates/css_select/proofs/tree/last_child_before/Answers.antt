@@ -1,6 +1,7 @@
 use Rattle.std.proofs.Common.{arith}
 use Rattle.css_semantics.specs.Matching.{IsChildElement}
-use Rattle.css_select.proofs.Nodes.{child_after, none_step, not_here}
+use Rattle.css_semantics.proofs.Parents.{child_after}
+use Rattle.css_select.proofs.Nodes.{none_step, not_here}
 use Rattle.css_select.proofs.tree.last_child_before.Goals as goal
 
 pub returns-then-is_child_element : goal.returns-then-is_child_element

@@ -2,7 +2,8 @@ use Rattle.std.proofs.Common.{◌≡◌, drop, IsTrue}
 use Rattle.std.specs.Prelude.{⊤}
 use Rattle.viz_calc.specs.World.{Reading}
 use Rattle.viz_calc.specs.Run.{Goes, Blames}
-use Rattle.lay_float.specs.Readings.{boxes_at, stretch_at}
+use Rattle.viz_calc.specs.Renderings.{band_at}
+use Rattle.lay_float.specs.Readings.{boxes_at}
 use Rattle.lay_float.specs.steps.Bands.{room_from}
 use Rattle.lay_float.specs.steps.Lent.{room_at}
 use Rattle.lay_float.proofs.bands.room_between.Given as goal
@@ -16,6 +17,6 @@ invariant-loop-f g l =
       goes : Goes (run l.initial.calc) (run l.calc);
       value : (e : Reading) → IsTrue ((run l.calc).is_open e)
           → room_from (at l.y e) (at l.end e) (boxes_at at (drop l.f-index l.floats) e) (room_at at l.room e)
-          ≡ room_from (at l.y e) (at l.end e) (boxes_at at l.floats e) (stretch_at at l.cb e);
+          ≡ room_from (at l.y e) (at l.end e) (boxes_at at l.floats e) (band_at at l.cb e);
       cause : Blames (run l.fn.calc) (run l.calc) ⊤;
     }

@@ -1,8 +1,9 @@
 use Rattle.std.proofs.Common.{ap, ◌∙◌}
 use Rattle.std.specs.Prelude.{⊤}
 use Rattle.viz_calc.proofs.Runs.{Goes-then, Blames-then}
+use Rattle.viz_calc.specs.Renderings.{band_at}
 use Rattle.layout_semantics.specs.Floats.{meets}
-use Rattle.lay_float.specs.Readings.{boxes_at, stretch_at}
+use Rattle.lay_float.specs.Readings.{boxes_at}
 use Rattle.lay_float.specs.steps.Bands.{room_from}
 use Rattle.lay_float.specs.steps.Lent.{room_at}
 use Rattle.lay_float.proofs.Rooms.{room_is}
@@ -18,8 +19,8 @@ returns-clause-value g c = λ e o.
     ap (λ x. record { left = x; right = at c.copy-right.result e }) (c.copy-left.ensures.value e o1)
     ∙ ap (λ x. record { left = at c.room_between-room.result.left.now e; right = x }) (c.copy-right.ensures.value e o)
     ∙ c.room_between-room.ensures.value e o2
-    ∙ ap (λ z. room_from (at c.args.y.now e) z (boxes_at at c.args.floats.now e) (stretch_at at c.args.cb.now e)) (c.add-end.ensures.value e o3)
-    ∙ room_is (at c.args.y.now e) _ (boxes_at at c.args.floats.now e) (stretch_at at c.args.cb.now e)
+    ∙ ap (λ z. room_from (at c.args.y.now e) z (boxes_at at c.args.floats.now e) (band_at at c.args.cb.now e)) (c.add-end.ensures.value e o3)
+    ∙ room_is (at c.args.y.now e) _ (boxes_at at c.args.floats.now e) (band_at at c.args.cb.now e)
 
 pub returns-clause-cause : goal.returns-clause-cause
 returns-clause-cause g c =
@@ -38,9 +39,9 @@ returns-clause-cause g c =
     let o3 = c.room_between-room.ensures.goes.closes e o in
     let half = f e (c.add-end.ensures.goes.closes e o3) in
     let room = c.room_between-room.ensures.value e o
-    ∙ ap (λ z. room_from (at c.args.y.now e) z (boxes_at at c.args.floats.now e) (stretch_at at c.args.cb.now e)) (c.add-end.ensures.value e o3)
-    ∙ room_is (at c.args.y.now e) _ (boxes_at at c.args.floats.now e) (stretch_at at c.args.cb.now e) in
-    (room_fits (boxes_at at c.args.floats.now e) (stretch_at at c.args.cb.now e) (meets (at c.args.y.now e) (at c.args.h.now e)) (room_at at c.room_between-room.result e)
+    ∙ ap (λ z. room_from (at c.args.y.now e) z (boxes_at at c.args.floats.now e) (band_at at c.args.cb.now e)) (c.add-end.ensures.value e o3)
+    ∙ room_is (at c.args.y.now e) _ (boxes_at at c.args.floats.now e) (band_at at c.args.cb.now e) in
+    (room_fits (boxes_at at c.args.floats.now e) (band_at at c.args.cb.now e) (meets (at c.args.y.now e) (at c.args.h.now e)) (room_at at c.room_between-room.result e)
     half.edges half.numbers.0 half.numbers.1.0 room).0)
     c.copy-left.ensures.cause in
     Blames-then (run c.args.calc.now) (run c.copy-left.new.self) (run c.copy-right.new.self) _ _ (Goes-then _ _ _ goes c.copy-left.ensures.goes) c.copy-right.ensures.goes second
@@ -49,8 +50,8 @@ returns-clause-cause g c =
     let o3 = c.room_between-room.ensures.goes.closes e o2 in
     let half = f e (c.add-end.ensures.goes.closes e o3) in
     let room = c.room_between-room.ensures.value e o2
-    ∙ ap (λ z. room_from (at c.args.y.now e) z (boxes_at at c.args.floats.now e) (stretch_at at c.args.cb.now e)) (c.add-end.ensures.value e o3)
-    ∙ room_is (at c.args.y.now e) _ (boxes_at at c.args.floats.now e) (stretch_at at c.args.cb.now e) in
-    (room_fits (boxes_at at c.args.floats.now e) (stretch_at at c.args.cb.now e) (meets (at c.args.y.now e) (at c.args.h.now e)) (room_at at c.room_between-room.result e)
+    ∙ ap (λ z. room_from (at c.args.y.now e) z (boxes_at at c.args.floats.now e) (band_at at c.args.cb.now e)) (c.add-end.ensures.value e o3)
+    ∙ room_is (at c.args.y.now e) _ (boxes_at at c.args.floats.now e) (band_at at c.args.cb.now e) in
+    (room_fits (boxes_at at c.args.floats.now e) (band_at at c.args.cb.now e) (meets (at c.args.y.now e) (at c.args.h.now e)) (room_at at c.room_between-room.result e)
     half.edges half.numbers.0 half.numbers.1.0 room).1)
     c.copy-right.ensures.cause

@@ -3,10 +3,11 @@ use Rattle.std.specs.Prelude.{⊤}
 use Rattle.viz_base.specs.declared.layouts.Spot.{Spot}
 use Rattle.viz_calc.specs.State.{AllSmall}
 use Rattle.viz_calc.proofs.Runs.{Goes-then, BlamesButMem-then}
+use Rattle.viz_calc.specs.Renderings.{band_at}
 use Rattle.layout_semantics.specs.Floats.{float_at}
 use Rattle.lay_float.specs.Limits.{AreHalf}
 use Rattle.lay_float.specs.Places.{IsHighest}
-use Rattle.lay_float.specs.Readings.{boxes_at, floats_at, extent_at, stretch_at}
+use Rattle.lay_float.specs.Readings.{boxes_at, floats_at, extent_at}
 use Rattle.lay_float.specs.declared.floats.PlacedFloat.{PlacedFloat}
 use Rattle.lay_float.proofs.Highest.{highest_is}
 use Rattle.lay_float.proofs.Spots.{placed_small}
@@ -17,9 +18,9 @@ returns-clause-highest g c = λ e o.
     let at = g.S.Steady.at in
     let o1 = c.append.ensures.goes.closes e o in
     let o2 = c.outer_box-placed.ensures.goes.closes e o1 in
-    subst (IsHighest (floats_at at c.args.floats.now e) c.args.side (at c.args.size.now.width e) (stretch_at at c.args.cb.now e) (at c.args.top.now e))
-    (sym (c.float_at-spot.ensures.value e o2 ∙ ap (λ l. float_at (boxes_at at l e) c.args.side (extent_at at c.args.size.now e) (stretch_at at c.args.cb.now e) (at c.args.top.now e)) c.as_slice.ensures))
-    (highest_is (floats_at at c.args.floats.now e) c.args.side (extent_at at c.args.size.now e) (stretch_at at c.args.cb.now e) (at c.args.top.now e))
+    subst (IsHighest (floats_at at c.args.floats.now e) c.args.side (at c.args.size.now.width e) (band_at at c.args.cb.now e) (at c.args.top.now e))
+    (sym (c.float_at-spot.ensures.value e o2 ∙ ap (λ l. float_at (boxes_at at l e) c.args.side (extent_at at c.args.size.now e) (band_at at c.args.cb.now e) (at c.args.top.now e)) c.as_slice.ensures))
+    (highest_is (floats_at at c.args.floats.now e) c.args.side (extent_at at c.args.size.now e) (band_at at c.args.cb.now e) (at c.args.top.now e))
 
 pub returns-clause-cause : goal.returns-clause-cause
 returns-clause-cause g c =
@@ -35,7 +36,7 @@ returns-clause-cause g c =
     })
     (λ f e o.
     subst (λ (s : Spot ℤ). AllSmall (s.x ∷ s.y ∷ (s.x +ℤ at c.args.size.now.width e) ∷ (s.y +ℤ at c.args.size.now.height e) ∷ []))
-    (sym (c.float_at-spot.ensures.value e o ∙ ap (λ l. float_at (boxes_at at l e) c.args.side (extent_at at c.args.size.now e) (stretch_at at c.args.cb.now e) (at c.args.top.now e)) c.as_slice.ensures))
-    (placed_small (floats_at at c.args.floats.now e) c.args.side (extent_at at c.args.size.now e) (stretch_at at c.args.cb.now e) (at c.args.top.now e) (f e (c.float_at-spot.ensures.goes.closes e o))))
+    (sym (c.float_at-spot.ensures.value e o ∙ ap (λ l. float_at (boxes_at at l e) c.args.side (extent_at at c.args.size.now e) (band_at at c.args.cb.now e) (at c.args.top.now e)) c.as_slice.ensures))
+    (placed_small (floats_at at c.args.floats.now e) c.args.side (extent_at at c.args.size.now e) (band_at at c.args.cb.now e) (at c.args.top.now e) (f e (c.float_at-spot.ensures.goes.closes e o))))
     (record { coeff = c.outer_box-placed.ensures.cause.coeff; opens = c.outer_box-placed.ensures.cause.opens }) in
     BlamesButMem-then (run c.args.calc.now) (run c.outer_box-placed.new.calc) (run c.append.new.calc) ⊤ _ goes c.append.ensures.goes second (λ _. tt) c.append.ensures.cause

@@ -1,7 +1,8 @@
 use Rattle.std.proofs.Common.{◌-◌, ◌+◌, length, ap, sym, ◌∙◌, arith}
 use Rattle.std.specs.Prelude.{⊤}
 use Rattle.viz_calc.proofs.Runs.{Goes-then, Blames-then}
-use Rattle.lay_float.specs.Readings.{boxes_at, stretch_at}
+use Rattle.viz_calc.specs.Renderings.{band_at}
+use Rattle.lay_float.specs.Readings.{boxes_at}
 use Rattle.lay_float.specs.steps.Lent.{FitsAnywhere}
 use Rattle.lay_float.specs.steps.Shelves.{free_top, place_on}
 use Rattle.lay_float.proofs.Spots.{found-here, not-here, at-end}
@@ -10,7 +11,7 @@ use Rattle.lay_float.proofs.shelves.free_place.Goals as goal
 pub returns-in-Some-clause-value : goal.returns-in-Some-clause-value
 returns-in-Some-clause-value g c = λ e o.
     let at = g.S.Steady.at in
-    found-here (length c.args.floats.now) c.loop-passed.passed (boxes_at at c.args.floats.now e) c.args.side (at c.args.width.now e) (stretch_at at c.args.cb.now e)
+    found-here (length c.args.floats.now) c.loop-passed.passed (boxes_at at c.args.floats.now e) c.args.side (at c.args.width.now e) (band_at at c.args.cb.now e)
     (at c.loop-passed.y.now e) (at c.in-Some.edge.now e) _ (omega arith) (c.in-Some.ensures.value e o)
     (c.loop-passed.invariant.value e (c.stand.ensures.goes.closes e o))
 
@@ -22,9 +23,9 @@ loop-passed-preserved g c =
       goes = Goes-then _ _ _ c.loop-passed.invariant.goes (Goes-then _ _ _ c.stand.ensures.goes c.next_top-y.ensures.goes);
       value = λ e o.
           let o1 = c.next_top-y.ensures.goes.closes e o in
-          ap (free_top (length c.args.floats.now - (c.loop-passed.passed + 1)) (boxes_at at c.args.floats.now e) c.args.side (at c.args.width.now e) (stretch_at at c.args.cb.now e))
+          ap (free_top (length c.args.floats.now - (c.loop-passed.passed + 1)) (boxes_at at c.args.floats.now e) c.args.side (at c.args.width.now e) (band_at at c.args.cb.now e))
           (c.next_top-y.ensures.value e o)
-          ∙ not-here (length c.args.floats.now) c.loop-passed.passed (boxes_at at c.args.floats.now e) c.args.side (at c.args.width.now e) (stretch_at at c.args.cb.now e)
+          ∙ not-here (length c.args.floats.now) c.loop-passed.passed (boxes_at at c.args.floats.now e) c.args.side (at c.args.width.now e) (band_at at c.args.cb.now e)
           (at c.loop-passed.y.now e) (omega arith) (c.in_default.ensures.value e o1)
           ∙ c.loop-passed.invariant.value e (c.stand.ensures.goes.closes e o1);
       cause =
@@ -40,6 +41,6 @@ pub returns-clause-value : goal.returns-clause-value
 returns-clause-value g c = λ e o.
     let at = g.S.Steady.at in
     c.farthest.ensures.value e o
-    ∙ ap (place_on (boxes_at at c.args.floats.now e) c.args.side (stretch_at at c.args.cb.now e))
-    (sym (at-end (length c.args.floats.now) c.loop-passed.passed (boxes_at at c.args.floats.now e) c.args.side (at c.args.width.now e) (stretch_at at c.args.cb.now e) (at c.loop-passed.y.now e) (omega arith))
+    ∙ ap (place_on (boxes_at at c.args.floats.now e) c.args.side (band_at at c.args.cb.now e))
+    (sym (at-end (length c.args.floats.now) c.loop-passed.passed (boxes_at at c.args.floats.now e) c.args.side (at c.args.width.now e) (band_at at c.args.cb.now e) (at c.loop-passed.y.now e) (omega arith))
     ∙ c.loop-passed.invariant.value e (c.farthest.ensures.goes.closes e o))

@@ -1,7 +1,8 @@
 use Rattle.std.proofs.Common.{◌≡◌, ◌-◌, length, IsTrue}
 use Rattle.viz_calc.specs.World.{Reading}
 use Rattle.viz_calc.specs.Run.{Goes, Blames}
-use Rattle.lay_float.specs.Readings.{boxes_at, stretch_at}
+use Rattle.viz_calc.specs.Renderings.{band_at}
+use Rattle.lay_float.specs.Readings.{boxes_at}
 use Rattle.lay_float.specs.steps.Lent.{FitsAnywhere}
 use Rattle.lay_float.specs.steps.Shelves.{free_top}
 use Rattle.lay_float.proofs.shelves.free_place.Given as goal
@@ -14,7 +15,7 @@ invariant-loop-passed g l =
     record {
       goes : Goes (run l.initial.calc) (run l.calc);
       value : (e : Reading) → IsTrue ((run l.calc).is_open e)
-          → free_top (length l.floats - l.passed) (boxes_at at l.floats e) l.side (at l.width e) (stretch_at at l.cb e) (at l.y e)
-          ≡ free_top (length l.floats) (boxes_at at l.floats e) l.side (at l.width e) (stretch_at at l.cb e) (at l.high e);
+          → free_top (length l.floats - l.passed) (boxes_at at l.floats e) l.side (at l.width e) (band_at at l.cb e) (at l.y e)
+          ≡ free_top (length l.floats) (boxes_at at l.floats e) l.side (at l.width e) (band_at at l.cb e) (at l.high e);
       cause : Blames (run l.fn.calc) (run l.calc) (FitsAnywhere (run l.fn.calc) at l.floats l.side l.cb l.width);
     }

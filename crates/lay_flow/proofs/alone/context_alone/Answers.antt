@@ -1,12 +1,12 @@
 use Rattle.std.proofs.Common.{IsTrue, ◌^◌, ℤ, pos, ap, sym, subst, ◌∙◌}
 use Rattle.viz_base.specs.declared.renderings.Placed.{Placed}
 use Rattle.viz_calc.specs.World.{Reading}
+use Rattle.viz_calc.specs.Renderings.{band_at}
 use Rattle.layout_semantics.specs.FlowBoxes.{content_from}
 use Rattle.layout_semantics.specs.Rectangles.{content_top}
 use Rattle.flow_limits.specs.Bounds.{IsQuadIn}
 use Rattle.flow_steps.specs.Flow.{fresh}
 use Rattle.lay_frame.specs.Readings.{frame_at}
-use Rattle.lay_float.specs.Readings.{stretch_at}
 use Rattle.lay_flow.specs.AloneFits.{RootFits}
 use Rattle.lay_flow.specs.Fits.{IsNear, near}
 use Rattle.lay_flow.specs.Low.{IsAsideLow, IsContextLow}
@@ -50,12 +50,12 @@ returns-clause-cause g c =
     let six = more five inside.goes inside.cause (λ a. (
       a.0,
       λ e o.
-          content-moved tree e.world page.height (apart e) b (stretch_at at c.content_between-band.result e) (content_from (pos 0) (f e).x) (at c.content_top-top.result e) (content_top (f e)) (context_at at c.fresh-context.result e) (fresh (content_top (f e)))
+          content-moved tree e.world page.height (apart e) b (band_at at c.content_between-band.result e) (content_from (pos 0) (f e).x) (at c.content_top-top.result e) (content_top (f e)) (context_at at c.fresh-context.result e) (fresh (content_top (f e)))
           (band-is e o) (top-is e o) (own-is e o) (a.1 e o).inside,
     )) in
     let end-is = (λ (e : Reading) (o : IsTrue ((g.S.Steady.run c.content.new.calc).is_open e)).
     inside.context e o
-    ∙ end-moved tree e.world page.height (apart e) b (stretch_at at c.content_between-band.result e) (content_from (pos 0) (f e).x) (at c.content_top-top.result e) (content_top (f e)) (context_at at c.fresh-context.result e) (fresh (content_top (f e)))
+    ∙ end-moved tree e.world page.height (apart e) b (band_at at c.content_between-band.result e) (content_from (pos 0) (f e).x) (at c.content_top-top.result e) (content_top (f e)) (context_at at c.fresh-context.result e) (fresh (content_top (f e)))
     (band-is e (inside.goes.closes e o)) (top-is e (inside.goes.closes e o)) (own-is e (inside.goes.closes e o))) in
     let seven = more_at six placed.goes placed.cause (λ a e o.
     let x = a e o in (x.own_height, (x.frame, subst IsContextLow (sym (end-is e o)) x.end))) in

@@ -2,8 +2,8 @@ use Rattle.std.proofs.Common.{◌≡◌, sym, subst, arith}
 use Rattle.std.proofs.lemmas.Grind.{common_steps}
 use Rattle.std.specs.List.{AllByRecursion}
 use Rattle.viz_calc.specs.World.{Reading}
+use Rattle.viz_calc.specs.Renderings.{spot_at}
 use Rattle.lay_frame.specs.Readings.{boxes_at}
-use Rattle.lay_float.specs.Readings.{spot_at}
 use Rattle.lay_line.proofs.Chains.{start_but_mem}
 use Rattle.flow_limits.specs.Bounds.{IsPlacedIn}
 use Rattle.lay_flow.specs.Low.{reach, IsAloneLow}

@@ -4,11 +4,10 @@ use Rattle.viz_base.specs.declared.layouts.Spot.{Spot}
 use Rattle.viz_base.specs.declared.renderings.Placed.{Placed}
 use Rattle.std.specs.List.{AllByRecursion}
 use Rattle.viz_calc.specs.World.{Reading}
-use Rattle.viz_calc.specs.Renderings.{placed_at}
+use Rattle.viz_calc.specs.Renderings.{placed_at, spot_at}
 use Rattle.viz_calc.proofs.Runs.{Goes-then}
 use Rattle.layout_semantics.specs.Rectangles.{shifted, shifted_box}
 use Rattle.lay_frame.specs.Readings.{boxes_at}
-use Rattle.lay_float.specs.Readings.{spot_at}
 use Rattle.lay_line.proofs.Chains.{ChainButMem, next_but_mem, but_mem}
 use Rattle.lay_line.proofs.Found.{all-here, all-from}
 use Rattle.flow_limits.specs.Bounds.{IsPlacedIn}

@@ -1,13 +1,13 @@
 use Rattle.std.proofs.Common.{◌≡◌, ◌++◌, drop, IsTrue}
 use Rattle.viz_calc.specs.World.{Reading}
 use Rattle.viz_calc.specs.Run.{Goes, BlamesButMem}
+use Rattle.viz_calc.specs.Renderings.{spot_at}
 use Rattle.std.specs.List.{AllByRecursion}
 use Rattle.flow_limits.specs.Bounds.{IsPlacedIn}
 use Rattle.lay_flow.specs.Low.{reach}
 use Rattle.lay_flow.specs.Fits.{IsSpotNear}
 use Rattle.layout_semantics.specs.Rectangles.{shifted}
 use Rattle.lay_frame.specs.Readings.{boxes_at}
-use Rattle.lay_float.specs.Readings.{spot_at}
 use Rattle.lay_flow.proofs.floating.add_each.Given as goal
 
 -- what was added, with what is left, is all

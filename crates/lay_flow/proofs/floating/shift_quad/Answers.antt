@@ -1,6 +1,5 @@
 use Rattle.viz_calc.specs.World.{Reading}
-use Rattle.viz_calc.specs.Renderings.{quad_at}
-use Rattle.lay_float.specs.Readings.{spot_at}
+use Rattle.viz_calc.specs.Renderings.{quad_at, spot_at}
 use Rattle.lay_line.proofs.Chains.{start, next}
 use Rattle.flow_limits.specs.Bounds.{IsQuadIn}
 use Rattle.lay_flow.specs.Low.{reach}

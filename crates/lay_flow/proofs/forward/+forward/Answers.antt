@@ -4,9 +4,9 @@ use Rattle.std.proofs.lemmas.Grind.{common_steps}
 use Rattle.viz_calc.specs.Run.{Goes, BlamesButMem}
 use Rattle.viz_calc.specs.World.{Reading}
 use Rattle.viz_calc.proofs.Runs.{Goes-then, BlamesButMem-then}
+use Rattle.viz_calc.specs.Renderings.{band_at}
 use Rattle.layout_semantics.specs.FlowBoxes.{flow_children}
 use Rattle.layout_semantics.specs.InlineContent.{is_floated_at, holds_inline}
-use Rattle.lay_float.specs.Readings.{stretch_at}
 use Rattle.lay_line.proofs.Chains.{but_mem, start_but_mem, next_but_mem}
 use Rattle.lay_margin.specs.Readings.{floats_at}
 use Rattle.lay_margin.specs.Runs.{run_at}
@@ -24,13 +24,13 @@ use Rattle.lay_flow.proofs.forward.+forward.Goals as goal
 pub forward-returns-clause-value : goal.forward-returns-clause-value
 forward-returns-clause-value g t c = λ e o.
     let at = g.S.Steady.at in
-    let is = one-step at c.args.way.now e (stretch_at at c.args.cb.now e) c.args.b (run_at at c.args.going.now.run e) (floats_at at c.args.going.now.waiting e) c.requires in
+    let is = one-step at c.args.way.now e (band_at at c.args.cb.now e) c.args.b (run_at at c.args.going.now.run e) (floats_at at c.args.going.now.waiting e) c.requires in
     grind (arith, common_steps)
 
 pub forward-returns-2-clause-value : goal.forward-returns-2-clause-value
 forward-returns-2-clause-value g t c = λ e o.
     let at = g.S.Steady.at in
-    let is = one-step at c.args.way.now e (stretch_at at c.args.cb.now e) c.args.b (run_at at c.args.going.now.run e) (floats_at at c.args.going.now.waiting e) c.requires in
+    let is = one-step at c.args.way.now e (band_at at c.args.cb.now e) c.args.b (run_at at c.args.going.now.run e) (floats_at at c.args.going.now.waiting e) c.requires in
     elim c.else-stops_at.branch [
       | forward-else-stops_at-via-else-stops_at w ↦ grind (arith, common_steps)
       | forward-else-stops_at-via-then-stops_at+in-None-1 w ↦ grind (arith, common_steps)
@@ -42,7 +42,7 @@ pub forward-returns-clause-cause : goal.forward-returns-clause-cause
 forward-returns-clause-cause g t c =
     let at = g.S.Steady.at in
     let way = c.args.way.now in
-    let cb = (λ (e : Reading). stretch_at at c.args.cb.now e) in
+    let cb = (λ (e : Reading). band_at at c.args.cb.now e) in
     let run = (λ (e : Reading). run_at at c.args.going.now.run e) in
     let waiting = (λ (e : Reading). floats_at at c.args.going.now.waiting e) in
     (start_but_mem {asks = λ (e : Reading). WayFitsAt at way e (cb e) c.args.b (run e) (waiting e)} c.decided.ensures.goes c.decided.ensures.cause
@@ -55,12 +55,12 @@ forward-returns-2-clause-cause g t c = elim c.else-stops_at.branch [
       let run = g.S.Steady.run in
       let same : c.else-stops_at.calc ≡ c.args.calc.now = grind arith in
       subst (λ k. BlamesButMem (run k) (run c.inner.new.calc)
-      ((e : Reading) → IsTrue ((run k).is_open e) → WayFitsAt at c.args.way.now e (stretch_at at c.args.cb.now e) c.args.b (run_at at c.args.going.now.run e) (floats_at at c.args.going.now.waiting e)))
+      ((e : Reading) → IsTrue ((run k).is_open e) → WayFitsAt at c.args.way.now e (band_at at c.args.cb.now e) c.args.b (run_at at c.args.going.now.run e) (floats_at at c.args.going.now.waiting e)))
       same c.inner.ensures.cause
   | forward-else-stops_at-via-then-stops_at+in-None-1 w ↦
       let at = g.S.Steady.at in
       let way = c.args.way.now in
-      let cb = (λ (e : Reading). stretch_at at c.args.cb.now e) in
+      let cb = (λ (e : Reading). band_at at c.args.cb.now e) in
       let run = (λ (e : Reading). run_at at c.args.going.now.run e) in
       let waiting = (λ (e : Reading). floats_at at c.args.going.now.waiting e) in
       let one = start_but_mem {asks = λ (e : Reading). WayFitsAt at way e (cb e) c.args.b (run e) (waiting e)} w.decided.ensures.goes w.decided.ensures.cause
@@ -76,7 +76,7 @@ pub inner-returns-then-not-enters-clause-cause : goal.inner-returns-then-not-ent
 inner-returns-then-not-enters-clause-cause g t c =
     let at = g.S.Steady.at in
     let way = c.args.way.now in
-    let cb = (λ (e : Reading). stretch_at at c.args.cb.now e) in
+    let cb = (λ (e : Reading). band_at at c.args.cb.now e) in
     let run = (λ (e : Reading). run_at at c.args.going.now.run e) in
     let waiting = (λ (e : Reading). floats_at at c.args.going.now.waiting e) in
     (start_but_mem {asks = λ (e : Reading). WayFitsAt at way e (cb e) c.args.b (run e) (waiting e)} c.join_top.ensures.goes (but_mem c.join_top.ensures.cause)
@@ -88,7 +88,7 @@ inner-returns-clause-cause g t c =
     let way = c.args.way.now in
     let tree = way.page.now.tree.now in
     let b = c.args.b in
-    let cb = (λ (e : Reading). stretch_at at c.args.cb.now e) in
+    let cb = (λ (e : Reading). band_at at c.args.cb.now e) in
     let run = (λ (e : Reading). run_at at c.args.going.now.run e) in
     let waiting = (λ (e : Reading). floats_at at c.args.going.now.waiting e) in
     let goes_in : enters tree b ≡ true = grind arith in
@@ -109,8 +109,8 @@ content-returns-then-not-holds_inline-clause-cause g t c =
     let way = c.args.way.now in
     let tree = way.page.now.tree.now in
     let no_lines : holds_inline tree c.args.b ≡ false = grind arith in
-    (start_but_mem {asks = λ (e : Reading). KidsFitAt at way e (stretch_at at c.args.band.now e) (flow_children tree c.args.b) (run_at at c.args.going.now.run e) (floats_at at c.args.going.now.waiting e)} c.kids.ensures.goes c.kids.ensures.cause
-    (λ f e o. subst (λ ks. KidsFitAt at way e (stretch_at at c.args.band.now e) ks (run_at at c.args.going.now.run e) (floats_at at c.args.going.now.waiting e)) (flow-kids tree c.args.b no_lines ∙ sym c.kids_at.ensures.value) (f e o))).cause
+    (start_but_mem {asks = λ (e : Reading). KidsFitAt at way e (band_at at c.args.band.now e) (flow_children tree c.args.b) (run_at at c.args.going.now.run e) (floats_at at c.args.going.now.waiting e)} c.kids.ensures.goes c.kids.ensures.cause
+    (λ f e o. subst (λ ks. KidsFitAt at way e (band_at at c.args.band.now e) ks (run_at at c.args.going.now.run e) (floats_at at c.args.going.now.waiting e)) (flow-kids tree c.args.b no_lines ∙ sym c.kids_at.ensures.value) (f e o))).cause
 
 pub kid-returns-then-matches-clause-cause : goal.kid-returns-then-matches-clause-cause
 kid-returns-then-matches-clause-cause g t c =
@@ -118,7 +118,7 @@ kid-returns-then-matches-clause-cause g t c =
     let way = c.args.way.now in
     let tree = way.page.now.tree.now in
     let k = c.args.k in
-    let band = (λ (e : Reading). stretch_at at c.args.band.now e) in
+    let band = (λ (e : Reading). band_at at c.args.band.now e) in
     let run = (λ (e : Reading). run_at at c.args.going.now.run e) in
     let waiting = (λ (e : Reading). floats_at at c.args.going.now.waiting e) in
     let in_flow : is_floated_at tree k ≡ false = grind arith in
@@ -134,7 +134,7 @@ kids-returns-then-not-matches-clause-cause g t c =
     let k = c.loop-place.place-index in
     let is = drop_more all k 0 c.loop-place-test.true in
     let inv = c.loop-place.invariant in
-    let band = (λ (e : Reading). stretch_at at c.args.band.now e) in
+    let band = (λ (e : Reading). band_at at c.args.band.now e) in
     let run = (λ (e : Reading). run_at at c.loop-place.going.run e) in
     let waiting = (λ (e : Reading). floats_at at c.loop-place.going.waiting e) in
     BlamesButMem-then _ _ _ _ _ inv.goes c.kid-end.ensures.goes inv.cause
@@ -155,7 +155,7 @@ kids-loop-place-preserved g t c =
     let inv = c.loop-place.invariant in
     let own = c.kid-end.ensures in
     let ends : c.kid-end.result ≡ GoesOn = grind (arith, common_steps) in
-    let band = (λ (e : Reading). stretch_at at c.args.band.now e) in
+    let band = (λ (e : Reading). band_at at c.args.band.now e) in
     let run = (λ (e : Reading). run_at at c.loop-place.going.run e) in
     let waiting = (λ (e : Reading). floats_at at c.loop-place.going.waiting e) in
     let kid = (λ (e : Reading). kid_of tree e.world (way_at at way e (band e)) (band e)) in

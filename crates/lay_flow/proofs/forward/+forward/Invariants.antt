@@ -1,7 +1,7 @@
 use Rattle.std.proofs.Common.{◌≡◌, ◌-◌, ◌+◌, ◌*◌, length, drop, IsTrue}
 use Rattle.viz_calc.specs.World.{Reading}
 use Rattle.viz_calc.specs.Run.{Goes, BlamesButMem}
-use Rattle.lay_float.specs.Readings.{stretch_at}
+use Rattle.viz_calc.specs.Renderings.{band_at}
 use Rattle.lay_margin.specs.Readings.{floats_at}
 use Rattle.lay_margin.specs.Runs.{run_at}
 use Rattle.lay_flow.specs.Ways.{kids_at_reading, KidsFitAt}
@@ -29,11 +29,11 @@ invariant-kids-loop-place g l =
     record {
       goes : Goes (run l.initial.calc) (run l.calc);
       so_far : (e : Reading) → IsTrue ((run l.calc).is_open e)
-          → kids_at_reading at l.way e (stretch_at at l.band e) (drop l.place-index l.boxes) (run_at at l.going.run e) (floats_at at l.going.waiting e)
-          ≡ kids_at_reading at l.way e (stretch_at at l.band e) l.boxes (run_at at l.initial.going.run e) (floats_at at l.initial.going.waiting e);
+          → kids_at_reading at l.way e (band_at at l.band e) (drop l.place-index l.boxes) (run_at at l.going.run e) (floats_at at l.going.waiting e)
+          ≡ kids_at_reading at l.way e (band_at at l.band e) l.boxes (run_at at l.initial.going.run e) (floats_at at l.initial.going.waiting e);
       fits : (e : Reading) → IsTrue ((run l.calc).is_open e)
-          → KidsFitAt at l.way e (stretch_at at l.band e) l.boxes (run_at at l.initial.going.run e) (floats_at at l.initial.going.waiting e)
-          → KidsFitAt at l.way e (stretch_at at l.band e) (drop l.place-index l.boxes) (run_at at l.going.run e) (floats_at at l.going.waiting e);
+          → KidsFitAt at l.way e (band_at at l.band e) l.boxes (run_at at l.initial.going.run e) (floats_at at l.initial.going.waiting e)
+          → KidsFitAt at l.way e (band_at at l.band e) (drop l.place-index l.boxes) (run_at at l.going.run e) (floats_at at l.going.waiting e);
       cause : BlamesButMem (run l.initial.calc) (run l.calc) ((e : Reading) → IsTrue ((run l.initial.calc).is_open e)
-          → KidsFitAt at l.way e (stretch_at at l.band e) l.boxes (run_at at l.initial.going.run e) (floats_at at l.initial.going.waiting e));
+          → KidsFitAt at l.way e (band_at at l.band e) l.boxes (run_at at l.initial.going.run e) (floats_at at l.initial.going.waiting e));
     }

@@ -2,7 +2,8 @@ use Rattle.std.proofs.Common.{◌≡◌, ℕ, ℤ, true, List, [], ◌∷◌, le
 use Rattle.std.specs.Prelude.{◌==◌}
 use Rattle.viz_base.specs.declared.layouts.Band.{Band}
 use Rattle.viz_base.specs.declared.layouts.Waiting.{Waiting}
-use Rattle.lay_float.specs.Readings.{boxes_at, stretch_at}
+use Rattle.viz_calc.specs.Renderings.{band_at}
+use Rattle.lay_float.specs.Readings.{boxes_at}
 use Rattle.lay_margin.specs.Readings.{floats_at}
 use Rattle.lay_margin.specs.Runs.{run_at}
 use Rattle.lay_margin.specs.declared.runs.Run.{Run}
@@ -26,5 +27,5 @@ returns-then-is_empty-2-clause-value g c = λ e o.
     let way = c.args.way.now in
     let no_floats = no-items way.floats.now (sym c.if-is_empty.true ∙ c.is_empty.ensures) in
     let none_wait : c.args.going.now.waiting ≡ [] = grind arith in
-    none-decided (ground_at at way e) (stretch_at at c.args.cb.now e) c.args.b (run_at at c.args.going.now.run e) (floats_at at c.args.going.now.waiting e)
+    none-decided (ground_at at way e) (band_at at c.args.cb.now e) c.args.b (run_at at c.args.going.now.run e) (floats_at at c.args.going.now.waiting e)
     (ap (λ fs. boxes_at at fs e) no_floats) (ap (λ ws. floats_at at ws e) none_wait)

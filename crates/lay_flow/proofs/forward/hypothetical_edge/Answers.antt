@@ -1,6 +1,6 @@
 use Rattle.std.proofs.Common.{Some, ap, sym, subst, length}
 use Rattle.viz_calc.specs.World.{Reading}
-use Rattle.lay_float.specs.Readings.{stretch_at}
+use Rattle.viz_calc.specs.Renderings.{band_at}
 use Rattle.lay_line.proofs.Chains.{but_mem, start_but_mem, next_but_mem}
 use Rattle.lay_margin.specs.Readings.{floats_at, passed_by}
 use Rattle.lay_margin.specs.Runs.{run_at}
@@ -18,7 +18,7 @@ returns-clause-cause g c =
     let tree = c.args.way.now.page.now.tree.now in
     let b = c.args.b in
     let run = (λ (e : Reading). run_at at c.args.run.now e) in
-    let cb = (λ (e : Reading). stretch_at at c.args.cb.now e) in
+    let cb = (λ (e : Reading). band_at at c.args.cb.now e) in
     let asks = (λ (e : Reading). IsBaseLow (base_at at c.args.way.now.base.now e) × IsRunLow (run e) × IsLeadLow tree e.world (cb e) b) in
     let own = c.copy_run-own.ensures in
     let led = c.lead.ensures in

@@ -1,6 +1,7 @@
 use Rattle.std.proofs.Common.{sym, subst}
 use Rattle.viz_calc.specs.World.{Reading}
-use Rattle.lay_float.specs.Readings.{boxes_at, option_at, stretch_at}
+use Rattle.viz_calc.specs.Renderings.{band_at}
+use Rattle.lay_float.specs.Readings.{boxes_at, option_at}
 use Rattle.lay_line.proofs.Chains.{but_mem, start_but_mem, next_but_mem}
 use Rattle.lay_margin.specs.Readings.{floats_at as waiting_at}
 use Rattle.lay_margin.specs.Runs.{run_at}
@@ -21,7 +22,7 @@ returns-clause-cause g c =
     let base = (λ (e : Reading). base_at at way.base.now e) in
     let floats = (λ (e : Reading). boxes_at at way.floats.now e) in
     let least = (λ (e : Reading). option_at at way.least.now e) in
-    let cb = (λ (e : Reading). stretch_at at c.args.cb.now e) in
+    let cb = (λ (e : Reading). band_at at c.args.cb.now e) in
     let run = (λ (e : Reading). run_at at going.run e) in
     let waiting = (λ (e : Reading). waiting_at at going.waiting e) in
     let asks = (λ (e : Reading). DecisionFitsAt at way e (cb e) c.args.b (run e) (waiting e)) in

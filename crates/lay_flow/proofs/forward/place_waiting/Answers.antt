@@ -7,11 +7,12 @@ use Rattle.viz_base.specs.declared.layouts.Waiting.{Waiting}
 use Rattle.viz_base.specs.declared.trees.BoxTree.{BoxTree}
 use Rattle.viz_calc.specs.World.{Reading}
 use Rattle.viz_calc.proofs.Runs.{Goes-then, BlamesButMem-then}
+use Rattle.viz_calc.specs.Renderings.{band_at, spot_at}
 use Rattle.layout_semantics.specs.Clearance.{with_waiting}
 use Rattle.layout_semantics.specs.Floats.{FloatBox, floating, float_spot, with_float_at, with_float}
 use Rattle.lay_float.specs.Limits.{AreHalf}
 use Rattle.lay_float.proofs.Loops.{goes-on}
-use Rattle.lay_float.specs.Readings.{floats_at, extent_at, option_at, stretch_at, spot_at}
+use Rattle.lay_float.specs.Readings.{floats_at, extent_at, option_at}
 use Rattle.lay_line.proofs.Chains.{but_mem}
 use Rattle.lay_margin.specs.Readings.{floats_at as waiting_at, waiting_at as waiting_in}
 use Rattle.flow_limits.specs.Bounds.{levels_of}
@@ -53,9 +54,9 @@ loop-float-preserved g c =
     let before = (λ (e : Reading). floats_at at c.loop-float.floats e) in
     let rest = (λ (e : Reading). waiting_at at (drop (k + 1) all) e) in
     let next = (λ (e : Reading) (o : IsTrue ((run c.place_float.new.calc).is_open e)).
-    next-floats tree float.at (extent_at at c.size_of-size.result e) (sizes e (waiting_in at float e)) (stretch_at at float.cb e) (before e) (floats_at at c.place_float.new.floats e)
+    next-floats tree float.at (extent_at at c.size_of-size.result e) (sizes e (waiting_in at float e)) (band_at at float.cb e) (before e) (floats_at at c.place_float.new.floats e)
     (spot_at at c.place_float.result e) (least e) (y e) (size.value e (placed.goes.closes e o)) (placed.appended e o)
-    (spot-lent at e c.as_ref.result c.args.way.now.least.now c.as_ref.ensures.value (floating tree float.at (extent_at at c.size_of-size.result e) (stretch_at at float.cb e)) (before e) (y e) (spot_at at c.place_float.result e) (placed.value e o))) in
+    (spot-lent at e c.as_ref.result c.args.way.now.least.now c.as_ref.ensures.value (floating tree float.at (extent_at at c.size_of-size.result e) (band_at at float.cb e)) (before e) (y e) (spot_at at c.place_float.result e) (placed.value e o))) in
     let here = (λ (e : Reading) (f : WaitingFits (sizes e) (before e) (least e) (y e) (waiting_at at (drop k all) e)).
     subst (λ ws. WaitingFits (sizes e) (before e) (least e) (y e) (waiting_at at ws e)) is f) in
     let goes = Goes-then _ _ _ c.loop-float.invariant.goes size.goes in
@@ -77,7 +78,7 @@ loop-float-preserved g c =
           BlamesButMem-then _ _ _ _ _ goes placed.goes first
           (λ f e o.
           let o1 = size.goes.closes e o in
-          half-lent at e c.as_ref.result c.args.way.now.least.now c.as_ref.ensures.value (before e) (extent_at at c.size_of-size.result e) (stretch_at at float.cb e) (y e)
+          half-lent at e c.as_ref.result c.args.way.now.least.now c.as_ref.ensures.value (before e) (extent_at at c.size_of-size.result e) (band_at at float.cb e) (y e)
           (subst (λ (s : Extent ℤ). AreHalf (before e) (s.width ∷ s.height ∷ at float.cb.left e ∷ at float.cb.right e ∷ levels_of (least e) (y e))) (sym (size.value e o))
           (first-half tree (sizes e) (least e) (y e) (before e) (waiting_in at float e) (rest e) (here e (c.loop-float.invariant.fits e o1 (f e (goes.closes e o)))))))
           placed.cause;

@@ -1,7 +1,7 @@
 use Rattle.std.proofs.Common.{◌^◌, ℤ, IsTrue, sym, subst}
 use Rattle.viz_calc.specs.World.{Reading}
+use Rattle.viz_calc.specs.Renderings.{band_at}
 use Rattle.layout_semantics.specs.FlowBoxes.{across}
-use Rattle.lay_float.specs.Readings.{stretch_at}
 use Rattle.lay_line.proofs.Chains.{but_mem}
 use Rattle.lay_preferred.specs.Fitting.{BoxesFit}
 use Rattle.lay_preferred.proofs.Causes.{fits-later}
@@ -19,7 +19,7 @@ returns-clause-cause g c =
     let tree = c.args.page.now.tree.now in
     let cb = c.args.cb.now in
     let fits = (λ (e : Reading) (z : ℤ). IsShapeFit tree e.world c.args.page.now.height c.args.b z) in
-    let asks = (λ (e : Reading). IsBandLow (stretch_at at cb e) × (IsLevelLow (at c.args.top.now e) × fits e (across (stretch_at at cb e)))) in
+    let asks = (λ (e : Reading). IsBandLow (band_at at cb e) × (IsLevelLow (at c.args.top.now e) × fits e (across (band_at at cb e)))) in
     let All = BoxesFit tree (run c.args.calc.now).is_open × ((e : Reading) → IsTrue ((run c.args.calc.now).is_open e) → asks e) in
     let room = c.across-room.ensures in
     let x = c.widths-x.ensures in

@@ -2,13 +2,14 @@ use Rattle.std.proofs.Common.{IsTrue, ◌++◌, fold, flat_map, ap, sym, subst, 
 use Rattle.viz_calc.proofs.Runs.{Goes-then}
 use Rattle.layout_semantics.specs.Flow.{raised}
 use Rattle.lay_frame.specs.Readings.{boxes_at}
-use Rattle.lay_float.specs.Readings.{stretch_at, option_at}
+use Rattle.lay_float.specs.Readings.{option_at}
 use Rattle.lay_line.specs.Readings.{entries_at}
 use Rattle.flow_steps.specs.Flow.{line_tops}
 use Rattle.lay_line.specs.Lining.{laid_at}
 use Rattle.lay_flow.specs.Readings.{apart_at, context_at, standing_at}
 use Rattle.layout_semantics.specs.Lines.{LineList}
 use Rattle.viz_calc.specs.World.{Reading}
+use Rattle.viz_calc.specs.Renderings.{band_at}
 use Rattle.lay_line.proofs.Chains.{but_mem, start_but_mem, next_but_mem}
 use Rattle.lay_flow.specs.Fits.{IsEntryLow, IsNear}
 use Rattle.lay_flow.specs.Low.{AreLevelsLow}
@@ -30,7 +31,7 @@ returns-clause-context g c = λ e o.
     let o1 = c.add_entries.ensures.goes.closes e o in
     let o2 = c.raised_by-least.ensures.goes.closes e o1 in
     let o3 = c.below-standing.ensures.goes.closes e o2 in
-    context-after page.tree.now e.world (apart_at at page.apart.now e) c.args.b (stretch_at at c.args.cb.now e) (at c.args.top.now e) (context_at at c.args.context.now e)
+    context-after page.tree.now e.world (apart_at at page.apart.now e) c.args.b (band_at at c.args.cb.now e) (at c.args.top.now e) (context_at at c.args.context.now e)
     (laid_at at laid e) (standing_at at c.below-standing.result e) (option_at at c.raised_by-least.result e)
     (c.below-standing.ensures.value e o2)
     (c.raised_by-least.ensures.value e o1
@@ -50,7 +51,7 @@ returns-clause-boxes g c = λ e o.
     let old = boxes_at at c.args.out.now.items e in
     c.add_entries.ensures.value e o
     ∙ (ap (λ es. old ++ flat_map (entry_of page.tree.now e.world apart) (entries_at at es e)) c.into_vec.ensures
-    ∙ ap (λ bs. old ++ bs) (boxes-after page.tree.now e.world apart c.args.b (stretch_at at c.args.cb.now e) (at c.args.top.now e) (context_at at c.args.context.now e) (laid_at at laid e) (c.lines_in-lines.ensures.value e o3)))
+    ∙ ap (λ bs. old ++ bs) (boxes-after page.tree.now e.world apart c.args.b (band_at at c.args.cb.now e) (at c.args.top.now e) (context_at at c.args.context.now e) (laid_at at laid e) (c.lines_in-lines.ensures.value e o3)))
 
 pub returns-clause-cause : goal.returns-clause-cause
 returns-clause-cause g c =
@@ -58,7 +59,7 @@ returns-clause-cause g c =
     let page = c.args.page.now in
     let tree = page.tree.now in
     let b = c.args.b in
-    let cb = (λ (e : Reading). stretch_at at c.args.cb.now e) in
+    let cb = (λ (e : Reading). band_at at c.args.cb.now e) in
     let y = (λ (e : Reading). at c.args.top.now e) in
     let s = (λ (e : Reading). context_at at c.args.context.now e) in
     let apart = (λ (e : Reading). apart_at at page.apart.now e) in

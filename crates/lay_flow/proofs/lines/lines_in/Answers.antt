@@ -1,11 +1,12 @@
 use Rattle.std.proofs.Common.{ap, ◌∙◌}
 use Rattle.viz_calc.proofs.Runs.{Goes-then}
 use Rattle.layout_semantics.specs.Lines.{lines_in}
-use Rattle.lay_float.specs.Readings.{stretch_at, floats_at}
+use Rattle.lay_float.specs.Readings.{floats_at}
 use Rattle.lay_line.specs.Contexts.{table_at}
 use Rattle.lay_line.specs.Contexts as line
 use Rattle.lay_line.proofs.Chains.{but_mem, start_but_mem, next_but_mem}
 use Rattle.viz_calc.specs.World.{Reading}
+use Rattle.viz_calc.specs.Renderings.{band_at}
 use Rattle.lay_flow.specs.Readings.{apart_at, context_at}
 use Rattle.lay_flow.specs.WalkFits.{InLinesFit}
 use Rattle.lay_flow.proofs.LinesMoved.{lines-moved}
@@ -25,7 +26,7 @@ returns-clause-value g c = λ e o.
     let o2 = c.least_top-least.ensures.goes.closes e o1 in
     c.lines.ensures.value e o
     ∙ (ap (λ floats. lines_in (line.context_at at (record { tree = page.tree; at = c.args.b; inner = c.as_slice.result; cb = c.args.cb }) e) (at c.args.top.now e) (at c.least_top-least.result e) (floats_at at floats e)) c.replace-floats.ensures.value
-    ∙ lines-named page.tree.now e.world (apart_at at page.apart.now e) c.args.b (stretch_at at c.args.cb.now e) (at c.args.top.now e) (at c.least_top-least.result e) s (table_at at c.as_slice.result.now e)
+    ∙ lines-named page.tree.now e.world (apart_at at page.apart.now e) c.args.b (band_at at c.args.cb.now e) (at c.args.top.now e) (at c.least_top-least.result e) s (table_at at c.as_slice.result.now e)
     (ap (λ t. table_at at t e) c.as_slice.ensures.value ∙ c.inner_table-table.ensures.value e o2) (c.least_top-least.ensures.value e o1))
 
 pub returns-clause-cause : goal.returns-clause-cause
@@ -35,7 +36,7 @@ returns-clause-cause g c =
     let page = c.args.page.now in
     let tree = page.tree.now in
     let b = c.args.b in
-    let cb = (λ (e : Reading). stretch_at at c.args.cb.now e) in
+    let cb = (λ (e : Reading). band_at at c.args.cb.now e) in
     let y = (λ (e : Reading). at c.args.top.now e) in
     let s = (λ (e : Reading). context_at at c.args.context.now e) in
     let apart = (λ (e : Reading). apart_at at page.apart.now e) in

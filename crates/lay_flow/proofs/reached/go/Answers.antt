@@ -1,8 +1,9 @@
 use Rattle.std.proofs.Common.{List, ap, sym, subst, ◌∙◌}
 use Rattle.viz_calc.specs.World.{Reading}
+use Rattle.viz_calc.specs.Renderings.{band_at}
 use Rattle.layout_semantics.specs.Floats.{FloatBox}
 use Rattle.layout_semantics.specs.Clearance.{on_ground, Ground}
-use Rattle.lay_float.specs.Readings.{boxes_at, option_at, stretch_at}
+use Rattle.lay_float.specs.Readings.{boxes_at, option_at}
 use Rattle.lay_line.proofs.Chains.{start_but_mem}
 use Rattle.lay_margin.specs.Readings.{floats_at, passed_by}
 use Rattle.lay_margin.specs.Runs.{run_at}
@@ -20,7 +21,7 @@ returns-clause-value g c = λ e o.
     let page = c.args.page.now in
     let context = c.args.context.now in
     let passed = passed_by c.args.past in
-    let cb = stretch_at at c.args.cb.now e in
+    let cb = band_at at c.args.cb.now e in
     let run = run_at at c.args.run e in
     let on : List FloatBox → Ground = λ floats. on_ground page.tree.now e.world (size_in (apart_at at page.apart.now e)) (base_at at c.args.base.now e) floats (option_at at context.least e) in
     c.forward-end.ensures.value e o
@@ -36,7 +37,7 @@ returns-clause-cause g c =
     let b = c.args.b in
     let base = (λ (e : Reading). base_at at c.args.base.now e) in
     let on : Reading → List FloatBox → Ground = λ e floats. on_ground tree e.world (size_in (apart_at at page.apart.now e)) (base e) floats (option_at at c.args.context.now.least e) in
-    let cb = (λ (e : Reading). stretch_at at c.args.cb.now e) in
+    let cb = (λ (e : Reading). band_at at c.args.cb.now e) in
     let run = (λ (e : Reading). run_at at c.args.run e) in
     let passed = passed_by c.args.past in
     let asks = (λ (e : Reading). ForwardFits tree e.world (apart_at at page.apart.now e) (cb e) (context_at at c.args.context.now e) b (base e) passed (run e)) in

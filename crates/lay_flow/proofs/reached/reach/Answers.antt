@@ -2,9 +2,9 @@ use Rattle.std.proofs.Common.{[], ◌∷◌, IsTrue, ap, sym, subst, ◌∙◌}
 use Rattle.std.specs.Prelude.{◌+ℤ◌}
 use Rattle.viz_calc.specs.State.{AllSmall}
 use Rattle.viz_calc.specs.World.{Reading}
+use Rattle.viz_calc.specs.Renderings.{band_at}
 use Rattle.layout_semantics.specs.Leads.{none_passed}
 use Rattle.layout_semantics.specs.Clearance.{hangs}
-use Rattle.lay_float.specs.Readings.{stretch_at}
 use Rattle.lay_line.proofs.Chains.{but_mem, start_but_mem, next_but_mem}
 use Rattle.lay_margin.specs.Runs.{run_at}
 use Rattle.flow_steps.specs.Forward.{Found, cleared_of}
@@ -26,7 +26,7 @@ returns-in-Below-clause-value g c = λ e o.
     let o3 = c.value-margin.ensures.goes.closes e o2 in
     let o4 = c.go-gone.ensures.goes.closes e o3 in
     c.reached_from-in-Below.ensures.value e o
-    ∙ below-found page.tree.now e.world (apart_at at page.apart.now e) (stretch_at at c.args.cb.now e) (context_at at c.args.context.now e) c.args.b
+    ∙ below-found page.tree.now e.world (apart_at at page.apart.now e) (band_at at c.args.cb.now e) (context_at at c.args.context.now e) c.args.b
     (at c.in-Below.edge e) (at c.copy-from.result e) (run_at at c.in-Below.run' e) (run_at at c.copy_run-run.result e) c.in-Below.stuck
     (found_at at c.go-gone.result.going c.go-gone.result.end e) (at c.add-y.result e) (at c.value-margin.result e) (cleared_at at c.cleared_of-cleared.result e)
     (ap (λ x. standing_at at x e) c.in-Below.is) (c.copy-from.ensures.value e o4) (c.copy_run-run.ensures.value e (c.copy-from.ensures.goes.closes e o4))
@@ -38,7 +38,7 @@ returns-in-AtTop-clause-cause g c =
     let page = c.args.page.now in
     let tree = page.tree.now in
     let apart = (λ (e : Reading). apart_at at page.apart.now e) in
-    let cb = (λ (e : Reading). stretch_at at c.args.cb.now e) in
+    let cb = (λ (e : Reading). band_at at c.args.cb.now e) in
     let ctx = (λ (e : Reading). context_at at c.args.context.now e) in
     let asks = (λ (e : Reading). ReachFits tree e.world (apart e) (cb e) (ctx e) c.args.b) in
     let here = (λ (e : Reading) (f : asks e). subst (StandingFits tree e.world (apart e) (cb e) (ctx e) c.args.b) (ap (λ x. standing_at at x e) c.in-AtTop.is) f) in
@@ -55,7 +55,7 @@ returns-in-Below-clause-cause g c =
     let tree = page.tree.now in
     let b = c.args.b in
     let apart = (λ (e : Reading). apart_at at page.apart.now e) in
-    let cb = (λ (e : Reading). stretch_at at c.args.cb.now e) in
+    let cb = (λ (e : Reading). band_at at c.args.cb.now e) in
     let ctx = (λ (e : Reading). context_at at c.args.context.now e) in
     let edge = (λ (e : Reading). at c.in-Below.edge e) in
     let run = (λ (e : Reading). run_at at c.in-Below.run' e) in

@@ -1,6 +1,6 @@
 use Rattle.std.proofs.Common.{Some, ap, sym, subst, ◌∙◌}
 use Rattle.viz_calc.specs.World.{Reading}
-use Rattle.lay_float.specs.Readings.{stretch_at}
+use Rattle.viz_calc.specs.Renderings.{band_at}
 use Rattle.lay_line.proofs.Chains.{but_mem, start_but_mem, next_but_mem}
 use Rattle.lay_margin.specs.Readings.{passed_by}
 use Rattle.lay_margin.specs.Runs.{run_at}
@@ -18,7 +18,7 @@ returns-then-cleared-b-clause-value g c = λ e o.
     let at = g.S.Steady.at in
     let page = c.args.page.now in
     let o1 = c.go-gone.ensures.goes.closes e o in
-    itself-found page.tree.now e.world (apart_at at page.apart.now e) (stretch_at at c.args.cb.now e) (context_at at c.args.context.now e) c.args.b
+    itself-found page.tree.now e.world (apart_at at page.apart.now e) (band_at at c.args.cb.now e) (context_at at c.args.context.now e) c.args.b
     (at c.args.y e) (cleared_at at c.args.cleared e) (c.in-Some.cleared.at, at c.in-Some.cleared.edge e) (run_at at c.args.own e) (run_at at c.empty-run.result e)
     (found_at at c.go-gone.result.going c.go-gone.result.end e) (at c.copy-top.result e) (cleared_at at c.cleared_of.result e)
     (ap (λ x. cleared_at at x e) c.in-Some.is) c.if-cleared-b.true (c.copy-top.ensures.value e (c.empty-run.ensures.goes.closes e o1)) (c.empty-run.ensures.exact e o1)
@@ -31,7 +31,7 @@ returns-then-cleared-b-clause-cause g c =
     let tree = page.tree.now in
     let b = c.args.b in
     let apart = (λ (e : Reading). apart_at at page.apart.now e) in
-    let cb = (λ (e : Reading). stretch_at at c.args.cb.now e) in
+    let cb = (λ (e : Reading). band_at at c.args.cb.now e) in
     let ctx = (λ (e : Reading). context_at at c.args.context.now e) in
     let edge = (λ (e : Reading). at c.in-Some.cleared.edge e) in
     let some = (λ (e : Reading). ap (λ x. cleared_at at x e) c.in-Some.is) in

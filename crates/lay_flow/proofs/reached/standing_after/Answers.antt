@@ -1,8 +1,8 @@
 use Rattle.std.proofs.Common.{sym, subst}
 use Rattle.viz_calc.specs.World.{Reading}
+use Rattle.viz_calc.specs.Renderings.{band_at}
 use Rattle.layout_semantics.specs.FlowBoxes.{across}
 use Rattle.lay_width.specs.Fitting.{VerticalsFit}
-use Rattle.lay_float.specs.Readings.{stretch_at}
 use Rattle.lay_line.proofs.Chains.{start, next}
 use Rattle.lay_margin.specs.Runs.{run_at}
 use Rattle.lay_flow.specs.Low.{IsBandLow, IsLevelLow, IsRunLow}
@@ -17,7 +17,7 @@ returns-then-reached-clause-cause g c =
     let cb = c.args.cb.now in
     let met = c.args.met in
     let own = (λ (e : Reading). run_at at met.own e) in
-    let asks = (λ (e : Reading). IsBandLow (stretch_at at cb e) × (VerticalsFit tree e.world c.args.b (across (stretch_at at cb e)) × (IsLevelLow (at met.reached.top e) × IsRunLow (own e)))) in
+    let asks = (λ (e : Reading). IsBandLow (band_at at cb e) × (VerticalsFit tree e.world c.args.b (across (band_at at cb e)) × (IsLevelLow (at met.reached.top e) × IsRunLow (own e)))) in
     let ended = c.copy_run-ended.ensures in
     let joined = c.join_bottom.ensures in
     let margin = c.value-margin.ensures in

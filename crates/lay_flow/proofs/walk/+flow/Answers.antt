@@ -3,12 +3,12 @@ use Rattle.viz_base.specs.declared.renderings.Placed.{Placed}
 use Rattle.viz_calc.specs.State.{AllSmall}
 use Rattle.viz_calc.specs.World.{Reading}
 use Rattle.viz_calc.proofs.Runs.{Goes-then, BlamesButMem-then}
+use Rattle.viz_calc.specs.Renderings.{band_at}
 use Rattle.layout_semantics.specs.Flow.{Cleared}
 use Rattle.layout_semantics.specs.FlowBoxes.{content_from, is_context_root, is_replaced_at}
 use Rattle.layout_semantics.specs.InlineContent.{has_line, holds_inline, is_floated_at}
 use Rattle.layout_semantics.specs.Rectangles.{Frame, content_top}
 use Rattle.lay_frame.specs.Readings.{boxes_at, frame_at}
-use Rattle.lay_float.specs.Readings.{stretch_at}
 use Rattle.lay_margin.proofs.Kids.{flow-kids}
 use Rattle.flow_steps.specs.Flow.{Context, Met, Step, fresh, met}
 use Rattle.lay_margin.specs.Runs.{run_at}
@@ -33,7 +33,7 @@ content-returns-then-has_line-clause-context g t c = λ e o.
     let page = c.args.page.now in
     let lines : has_line page.tree.now c.args.b ≡ true = grind arith in
     c.in_lines.ensures.context e o
-    ∙ ap (λ (x : Step). x.context) (by-lines page.tree.now e.world page.height (apart_at at page.apart.now e) c.args.b (stretch_at at c.args.cb.now e) (at c.args.top.now e) (context_at at c.args.context.now e) c.requires lines)
+    ∙ ap (λ (x : Step). x.context) (by-lines page.tree.now e.world page.height (apart_at at page.apart.now e) c.args.b (band_at at c.args.cb.now e) (at c.args.top.now e) (context_at at c.args.context.now e) c.requires lines)
 
 pub content-returns-then-has_line-clause-boxes : goal.content-returns-then-has_line-clause-boxes
 content-returns-then-has_line-clause-boxes g t c = λ e o.
@@ -41,7 +41,7 @@ content-returns-then-has_line-clause-boxes g t c = λ e o.
     let page = c.args.page.now in
     let lines : has_line page.tree.now c.args.b ≡ true = grind arith in
     c.in_lines.ensures.boxes e o
-    ∙ ap (λ (x : Step). boxes_at at c.args.out.now.items e ++ x.boxes) (by-lines page.tree.now e.world page.height (apart_at at page.apart.now e) c.args.b (stretch_at at c.args.cb.now e) (at c.args.top.now e) (context_at at c.args.context.now e) c.requires lines)
+    ∙ ap (λ (x : Step). boxes_at at c.args.out.now.items e ++ x.boxes) (by-lines page.tree.now e.world page.height (apart_at at page.apart.now e) c.args.b (band_at at c.args.cb.now e) (at c.args.top.now e) (context_at at c.args.context.now e) c.requires lines)
 
 pub content-returns-then-not-holds_inline-clause-context : goal.content-returns-then-not-holds_inline-clause-context
 content-returns-then-not-holds_inline-clause-context g t c = λ e o.
@@ -50,7 +50,7 @@ content-returns-then-not-holds_inline-clause-context g t c = λ e o.
     let lines : has_line page.tree.now c.args.b ≡ false = grind arith in
     let blocks : holds_inline page.tree.now c.args.b ≡ false = grind arith in
     c.children.ensures.context e o
-    ∙ ap (λ (x : Step). x.context) (by-children page.tree.now e.world page.height (apart_at at page.apart.now e) c.args.b (stretch_at at c.args.cb.now e) (at c.args.top.now e) (context_at at c.args.context.now e) c.requires
+    ∙ ap (λ (x : Step). x.context) (by-children page.tree.now e.world page.height (apart_at at page.apart.now e) c.args.b (band_at at c.args.cb.now e) (at c.args.top.now e) (context_at at c.args.context.now e) c.requires
     c.kids_at.result.now lines (c.kids_at.ensures.value ∙ sym (flow-kids page.tree.now c.args.b blocks)))
 
 pub content-returns-then-not-holds_inline-clause-boxes : goal.content-returns-then-not-holds_inline-clause-boxes
@@ -60,7 +60,7 @@ content-returns-then-not-holds_inline-clause-boxes g t c = λ e o.
     let lines : has_line page.tree.now c.args.b ≡ false = grind arith in
     let blocks : holds_inline page.tree.now c.args.b ≡ false = grind arith in
     c.children.ensures.boxes e o
-    ∙ ap (λ (x : Step). boxes_at at c.args.out.now.items e ++ x.boxes) (by-children page.tree.now e.world page.height (apart_at at page.apart.now e) c.args.b (stretch_at at c.args.cb.now e) (at c.args.top.now e) (context_at at c.args.context.now e) c.requires
+    ∙ ap (λ (x : Step). boxes_at at c.args.out.now.items e ++ x.boxes) (by-children page.tree.now e.world page.height (apart_at at page.apart.now e) c.args.b (band_at at c.args.cb.now e) (at c.args.top.now e) (context_at at c.args.context.now e) c.requires
     c.kids_at.result.now lines (c.kids_at.ensures.value ∙ sym (flow-kids page.tree.now c.args.b blocks)))
 
 pub content-returns-in-Ok-clause-context : goal.content-returns-in-Ok-clause-context
@@ -69,7 +69,7 @@ content-returns-in-Ok-clause-context g t c = λ e o.
     let page = c.args.page.now in
     let lines : has_line page.tree.now c.args.b ≡ false = grind arith in
     c.children-in-Ok.ensures.context e o
-    ∙ ap (λ (x : Step). x.context) (by-children page.tree.now e.world page.height (apart_at at page.apart.now e) c.args.b (stretch_at at c.args.cb.now e) (at c.args.top.now e) (context_at at c.args.context.now e) c.requires
+    ∙ ap (λ (x : Step). x.context) (by-children page.tree.now e.world page.height (apart_at at page.apart.now e) c.args.b (band_at at c.args.cb.now e) (at c.args.top.now e) (context_at at c.args.context.now e) c.requires
     c.as_slice.result.now lines (c.as_slice.ensures.value ∙ c.in-Ok.ensures.value))
 
 pub content-returns-in-Ok-clause-boxes : goal.content-returns-in-Ok-clause-boxes
@@ -78,7 +78,7 @@ content-returns-in-Ok-clause-boxes g t c = λ e o.
     let page = c.args.page.now in
     let lines : has_line page.tree.now c.args.b ≡ false = grind arith in
     c.children-in-Ok.ensures.boxes e o
-    ∙ ap (λ (x : Step). boxes_at at c.args.out.now.items e ++ x.boxes) (by-children page.tree.now e.world page.height (apart_at at page.apart.now e) c.args.b (stretch_at at c.args.cb.now e) (at c.args.top.now e) (context_at at c.args.context.now e) c.requires
+    ∙ ap (λ (x : Step). boxes_at at c.args.out.now.items e ++ x.boxes) (by-children page.tree.now e.world page.height (apart_at at page.apart.now e) c.args.b (band_at at c.args.cb.now e) (at c.args.top.now e) (context_at at c.args.context.now e) c.requires
     c.as_slice.result.now lines (c.as_slice.ensures.value ∙ c.in-Ok.ensures.value))
 
 pub flow-returns-clause-context : goal.flow-returns-clause-context
@@ -90,15 +90,15 @@ flow-returns-clause-context g t c = λ e o.
     let o3 = c.copy_standing-before.ensures.goes.closes e o2 in
     let is = c.replace-cleared.ensures.value in
     let after = c.replace-cleared.ensures.after in
-    flow-context page.tree.now e.world page.height (apart_at at page.apart.now e) (stretch_at at c.args.cb.now e) (context_at at c.args.context.now e) c.args.b
+    flow-context page.tree.now e.world page.height (apart_at at page.apart.now e) (band_at at c.args.cb.now e) (context_at at c.args.context.now e) c.args.b
     (met_at at c.reach-met.result e) (laid_with at c.lay-laid.result c.lay-laid.new.context e) (standing_at at c.copy_standing-before.result e) (standing_at at c.standing_after.result e)
     (c.reach-met.ensures.value e o3)
     (c.lay-laid.ensures.value c.reach-met.result.reached.clears e o1
-    ∙ ap (λ x. without_boxes (laid_of page.tree.now e.world page.height (apart_at at page.apart.now e) (stretch_at at c.args.cb.now e) (context_at at c.args.context.now e) c.args.b
+    ∙ ap (λ x. without_boxes (laid_of page.tree.now e.world page.height (apart_at at page.apart.now e) (band_at at c.args.cb.now e) (context_at at c.args.context.now e) c.args.b
     (record { top = at c.reach-met.result.reached.top e; clears = c.reach-met.result.reached.clears; cleared = cleared_at at x e }))) is)
     (c.copy_standing-before.ensures.value e o2)
     (c.standing_after.ensures.value e o
-    ∙ ap (λ x. standing_after page.tree.now e.world (stretch_at at c.args.cb.now e) (standing_at at c.copy_standing-before.result e) c.args.b
+    ∙ ap (λ x. standing_after page.tree.now e.world (band_at at c.args.cb.now e) (standing_at at c.copy_standing-before.result e) c.args.b
     (met (record { top = at c.reach-met.result.reached.top e; clears = c.reach-met.result.reached.clears; cleared = cleared_at at x e }) (run_at at c.reach-met.result.own e))
     (ending_at at c.lay-laid.result e)) after)
 
@@ -110,7 +110,7 @@ lay_context-returns-clause-cause g t c =
     let page = c.args.page.now in
     let tree = page.tree.now in
     let b = c.args.b in
-    let cb = (λ (e : Reading). stretch_at at c.args.cb.now e) in
+    let cb = (λ (e : Reading). band_at at c.args.cb.now e) in
     let s = (λ (e : Reading). context_at at c.args.context.now e) in
     let f = (λ (e : Reading). frame_at at c.args.shape.now e) in
     let apart = (λ (e : Reading). apart_at at page.apart.now e) in
@@ -132,12 +132,12 @@ lay_context-returns-clause-cause g t c =
     let five = more four inside.goes inside.cause (λ a. (
       a.0,
       λ e o.
-          content-moved tree e.world page.height (apart e) b (stretch_at at c.content_between-band.result e) (content_from (cb e).left (f e).x) (at c.content_top-top.result e) (content_top (f e)) (context_at at c.fresh-own.result e) (fresh (content_top (f e)))
+          content-moved tree e.world page.height (apart e) b (band_at at c.content_between-band.result e) (content_from (cb e).left (f e).x) (at c.content_top-top.result e) (content_top (f e)) (context_at at c.fresh-own.result e) (fresh (content_top (f e)))
           (band-is e o) (top-is e o) (own-is e o) (at_start e (a.1 e o)).around.inside,
     )) in
     let end-is = (λ (e : Reading) (o : IsTrue ((g.S.Steady.run c.content.new.calc).is_open e)).
     inside.context e o
-    ∙ end-moved tree e.world page.height (apart e) b (stretch_at at c.content_between-band.result e) (content_from (cb e).left (f e).x) (at c.content_top-top.result e) (content_top (f e)) (context_at at c.fresh-own.result e) (fresh (content_top (f e)))
+    ∙ end-moved tree e.world page.height (apart e) b (band_at at c.content_between-band.result e) (content_from (cb e).left (f e).x) (at c.content_top-top.result e) (content_top (f e)) (context_at at c.fresh-own.result e) (fresh (content_top (f e)))
     (band-is e (inside.goes.closes e o)) (top-is e (inside.goes.closes e o)) (own-is e (inside.goes.closes e o))) in
     let six = more_at five placed.goes placed.cause (λ a e o.
     let x = (at_start e (a e o)).around in (x.own_height, (x.frame, subst IsContextLow (sym (end-is e o)) x.end))) in
@@ -158,7 +158,7 @@ lay_block-returns-clause-cause g t c =
     let page = c.args.page.now in
     let tree = page.tree.now in
     let b = c.args.b in
-    let cb = (λ (e : Reading). stretch_at at c.args.cb.now e) in
+    let cb = (λ (e : Reading). band_at at c.args.cb.now e) in
     let s = (λ (e : Reading). context_at at c.args.context.now e) in
     let f = (λ (e : Reading). frame_at at c.args.shape.now e) in
     let ahead = (λ (e : Reading). cleared_at at c.args.cleared e) in
@@ -184,12 +184,12 @@ lay_block-returns-clause-cause g t c =
     let six = more five inside.goes inside.cause (λ a. (
       a.0,
       λ e o.
-          content-moved tree e.world page.height (apart e) b (stretch_at at c.content_between-band.result e) (content_from (cb e).left (f e).x) (at c.content_top-top.result e) (content_top (f e)) (context_at at c.open.new.context e) (inner e)
+          content-moved tree e.world page.height (apart e) b (band_at at c.content_between-band.result e) (content_from (cb e).left (f e).x) (at c.content_top-top.result e) (content_top (f e)) (context_at at c.open.new.context e) (inner e)
           (band-is e o) (top-is e o) (inner-is e o) (at_start e (a.1 e o)).around.inside,
     )) in
     let end-is = (λ (e : Reading) (o : IsTrue ((g.S.Steady.run c.content.new.calc).is_open e)).
     inside.context e o
-    ∙ end-moved tree e.world page.height (apart e) b (stretch_at at c.content_between-band.result e) (content_from (cb e).left (f e).x) (at c.content_top-top.result e) (content_top (f e)) (context_at at c.open.new.context e) (inner e)
+    ∙ end-moved tree e.world page.height (apart e) b (band_at at c.content_between-band.result e) (content_from (cb e).left (f e).x) (at c.content_top-top.result e) (content_top (f e)) (context_at at c.open.new.context e) (inner e)
     (band-is e (inside.goes.closes e o)) (top-is e (inside.goes.closes e o)) (inner-is e (inside.goes.closes e o))) in
     let end-low = (λ (e : Reading) (o : IsTrue ((g.S.Steady.run c.content.new.calc).is_open e)) (a : asks e). subst IsContextLow (sym (end-is e o)) (at_start e a).around.end) in
     let seven = more_at six placed.goes placed.cause (λ a e o. let x = (at_start e (a e o)).around in (x.own_height, (x.frame, end-low e o (a e o)))) in
@@ -208,7 +208,7 @@ lay-returns-then-is_replaced-clause-cause g t c =
     let page = c.args.page.now in
     let tree = page.tree.now in
     let b = c.args.b in
-    let cb = (λ (e : Reading). stretch_at at c.args.cb.now e) in
+    let cb = (λ (e : Reading). band_at at c.args.cb.now e) in
     let s = (λ (e : Reading). context_at at c.args.context.now e) in
     let y = (λ (e : Reading). at c.args.top.now e) in
     let ahead = (λ (e : Reading). cleared_at at c.args.cleared e) in
@@ -233,7 +233,7 @@ lay-returns-then-starts_context-clause-cause g t c =
     let page = c.args.page.now in
     let tree = page.tree.now in
     let b = c.args.b in
-    let cb = (λ (e : Reading). stretch_at at c.args.cb.now e) in
+    let cb = (λ (e : Reading). band_at at c.args.cb.now e) in
     let s = (λ (e : Reading). context_at at c.args.context.now e) in
     let y = (λ (e : Reading). at c.args.top.now e) in
     let ahead = (λ (e : Reading). cleared_at at c.args.cleared e) in
@@ -257,7 +257,7 @@ lay-returns-clause-cause g t c =
     let page = c.args.page.now in
     let tree = page.tree.now in
     let b = c.args.b in
-    let cb = (λ (e : Reading). stretch_at at c.args.cb.now e) in
+    let cb = (λ (e : Reading). band_at at c.args.cb.now e) in
     let s = (λ (e : Reading). context_at at c.args.context.now e) in
     let y = (λ (e : Reading). at c.args.top.now e) in
     let ahead = (λ (e : Reading). cleared_at at c.args.cleared e) in
@@ -281,7 +281,7 @@ flow-returns-clause-cause g t c =
     let page = c.args.page.now in
     let tree = page.tree.now in
     let b = c.args.b in
-    let cb = (λ (e : Reading). stretch_at at c.args.cb.now e) in
+    let cb = (λ (e : Reading). band_at at c.args.cb.now e) in
     let s = (λ (e : Reading). context_at at c.args.context.now e) in
     let apart = (λ (e : Reading). apart_at at page.apart.now e) in
     let asks = (λ (e : Reading). WalkFits tree e.world page.height (apart e) (before_flow (cb e) (s e) b)) in
@@ -315,7 +315,7 @@ content-returns-then-has_line-clause-cause g t c =
     let page = c.args.page.now in
     let tree = page.tree.now in
     let b = c.args.b in
-    let cb = (λ (e : Reading). stretch_at at c.args.cb.now e) in
+    let cb = (λ (e : Reading). band_at at c.args.cb.now e) in
     let y = (λ (e : Reading). at c.args.top.now e) in
     let s = (λ (e : Reading). context_at at c.args.context.now e) in
     let apart = (λ (e : Reading). apart_at at page.apart.now e) in
@@ -330,7 +330,7 @@ content-returns-then-not-holds_inline-clause-cause g t c =
     let page = c.args.page.now in
     let tree = page.tree.now in
     let b = c.args.b in
-    let cb = (λ (e : Reading). stretch_at at c.args.cb.now e) in
+    let cb = (λ (e : Reading). band_at at c.args.cb.now e) in
     let y = (λ (e : Reading). at c.args.top.now e) in
     let s = (λ (e : Reading). context_at at c.args.context.now e) in
     let apart = (λ (e : Reading). apart_at at page.apart.now e) in
@@ -350,7 +350,7 @@ content-returns-in-Ok-clause-cause g t c =
     let page = c.args.page.now in
     let tree = page.tree.now in
     let b = c.args.b in
-    let cb = (λ (e : Reading). stretch_at at c.args.cb.now e) in
+    let cb = (λ (e : Reading). band_at at c.args.cb.now e) in
     let y = (λ (e : Reading). at c.args.top.now e) in
     let s = (λ (e : Reading). context_at at c.args.context.now e) in
     let apart = (λ (e : Reading). apart_at at page.apart.now e) in
@@ -373,7 +373,7 @@ children-loop-k-preserved g t c =
     let within : i < length boxes = grind arith in
     let inv = c.loop-k.invariant in
     let own = c.child.ensures in
-    let cb = (λ (e : Reading). stretch_at at c.args.cb.now e) in
+    let cb = (λ (e : Reading). band_at at c.args.cb.now e) in
     let y = (λ (e : Reading). at c.args.top.now e) in
     let s = (λ (e : Reading). context_at at c.loop-k.context e) in
     let apart = (λ (e : Reading). apart_at at page.apart.now e) in
@@ -405,7 +405,7 @@ child-returns-then-floats_at-clause-cause g t c =
     let page = c.args.page.now in
     let tree = page.tree.now in
     let k = c.args.k in
-    let cb = (λ (e : Reading). stretch_at at c.args.cb.now e) in
+    let cb = (λ (e : Reading). band_at at c.args.cb.now e) in
     let y = (λ (e : Reading). at c.args.top.now e) in
     let s = (λ (e : Reading). context_at at c.args.context.now e) in
     let apart = (λ (e : Reading). apart_at at page.apart.now e) in
@@ -420,7 +420,7 @@ child-returns-else-floats_at-clause-cause g t c =
     let page = c.args.page.now in
     let tree = page.tree.now in
     let k = c.args.k in
-    let cb = (λ (e : Reading). stretch_at at c.args.cb.now e) in
+    let cb = (λ (e : Reading). band_at at c.args.cb.now e) in
     let y = (λ (e : Reading). at c.args.top.now e) in
     let s = (λ (e : Reading). context_at at c.args.context.now e) in
     let apart = (λ (e : Reading). apart_at at page.apart.now e) in

@@ -1,9 +1,10 @@
 use Rattle.std.proofs.Common.{◌^◌, ◌++◌, ap, sym, subst, ◌∙◌, IsTrue, arith}
 use Rattle.viz_calc.specs.World.{Reading}
+use Rattle.viz_calc.specs.Renderings.{band_at, spot_at}
 use Rattle.std.specs.Int.{int_max}
 use Rattle.lay_frame.specs.Readings.{boxes_at}
 use Rattle.layout_semantics.specs.Floats.{floating}
-use Rattle.lay_float.specs.Readings.{stretch_at, extent_at, spot_at, floats_at, option_at}
+use Rattle.lay_float.specs.Readings.{extent_at, floats_at, option_at}
 use Rattle.lay_line.proofs.Chains.{start_but_mem, next_but_mem, but_mem}
 use Rattle.flow_limits.specs.Bounds.{IsExtentIn}
 use Rattle.flow_steps.specs.Flow.{next_edge}
@@ -26,10 +27,10 @@ returns-clause-context g c = λ e o.
     let o4 = c.copy-from.ensures.goes.closes e o3 in
     let y = c.greater-y.ensures.value e o2 in
     let from = c.copy-from.ensures.value e o3 in
-    float-context page.tree.now e.world (apart_at at page.apart.now e) (stretch_at at c.args.cb.now e) (at c.args.top.now e) (context_at at c.args.context.now e) c.args.k
+    float-context page.tree.now e.world (apart_at at page.apart.now e) (band_at at c.args.cb.now e) (at c.args.top.now e) (context_at at c.args.context.now e) c.args.k
     (extent_at at c.size_of-size.result e) (at c.next_edge-edge.result e) (at c.greater-y.result e) (spot_at at c.place_float-spot.result e) (floats_at at c.place_float-spot.new.floats e)
     (c.size_of-size.ensures.value e (c.next_edge-edge.ensures.goes.closes e o4)) (c.next_edge-edge.ensures.value e o4) (y ∙ ap (λ f. int_max f (at c.next_edge-edge.result e)) from)
-    (spot-lent at e c.as_ref.result c.args.context.now.least c.as_ref.ensures.value (floating page.tree.now c.args.k (extent_at at c.size_of-size.result e) (stretch_at at c.args.cb.now e)) (floats_at at c.args.context.now.floats e)
+    (spot-lent at e c.as_ref.result c.args.context.now.least c.as_ref.ensures.value (floating page.tree.now c.args.k (extent_at at c.size_of-size.result e) (band_at at c.args.cb.now e)) (floats_at at c.args.context.now.floats e)
     (at c.greater-y.result e) (spot_at at c.place_float-spot.result e) (c.place_float-spot.ensures.value e o1))
     (c.place_float-spot.ensures.appended e o1)
 
@@ -45,10 +46,10 @@ returns-clause-boxes g c = λ e o.
     let from = c.copy-from.ensures.value e o3 in
     c.add_apart.ensures.value e o
     ∙ ap (λ l. boxes_at at c.args.out.now.items e ++ l)
-    (float-boxes page.tree.now e.world (apart_at at page.apart.now e) (stretch_at at c.args.cb.now e) (at c.args.top.now e) (context_at at c.args.context.now e) c.args.k
+    (float-boxes page.tree.now e.world (apart_at at page.apart.now e) (band_at at c.args.cb.now e) (at c.args.top.now e) (context_at at c.args.context.now e) c.args.k
     (extent_at at c.size_of-size.result e) (at c.next_edge-edge.result e) (at c.greater-y.result e) (spot_at at c.place_float-spot.result e)
     (c.size_of-size.ensures.value e (c.next_edge-edge.ensures.goes.closes e o4)) (c.next_edge-edge.ensures.value e o4) (y ∙ ap (λ f. int_max f (at c.next_edge-edge.result e)) from)
-    (spot-lent at e c.as_ref.result c.args.context.now.least c.as_ref.ensures.value (floating page.tree.now c.args.k (extent_at at c.size_of-size.result e) (stretch_at at c.args.cb.now e)) (floats_at at c.args.context.now.floats e)
+    (spot-lent at e c.as_ref.result c.args.context.now.least c.as_ref.ensures.value (floating page.tree.now c.args.k (extent_at at c.size_of-size.result e) (band_at at c.args.cb.now e)) (floats_at at c.args.context.now.floats e)
     (at c.greater-y.result e) (spot_at at c.place_float-spot.result e) (c.place_float-spot.ensures.value e o1)))
 
 pub returns-clause-cause : goal.returns-clause-cause
@@ -58,7 +59,7 @@ returns-clause-cause g c =
     let context = c.args.context.now in
     let top = c.args.top.now in
     let alone = (λ (e : Reading). apart_at at c.args.page.now.apart.now e c.args.k) in
-    let band = (λ (e : Reading). stretch_at at c.args.cb.now e) in
+    let band = (λ (e : Reading). band_at at c.args.cb.now e) in
     let asks = (λ (e : Reading). IsContextLow (context_at at context e) × (IsBandLow (band e) × (IsNear (at top e) × IsAloneLow (alone e)))) in
     let size = c.size_of-size.ensures in
     let edge = c.next_edge-edge.ensures in

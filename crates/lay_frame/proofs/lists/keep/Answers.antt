@@ -1,7 +1,7 @@
 use Rattle.std.proofs.Common.{ℤ, IsTrue, sym, subst}
 use Rattle.viz_calc.specs.World.{Reading}
 use Rattle.viz_calc.proofs.Runs.{Goes-then, BlamesButMem-then}
-use Rattle.lay_margin.proofs.Blamed.{Blames-but-mem}
+use Rattle.viz_calc.proofs.Blamed.{Blames-but-mem}
 use Rattle.lay_frame.specs.Fitting.{KeptFits, PlaceFits}
 use Rattle.lay_frame.specs.Readings.{frame_at}
 use Rattle.lay_frame.proofs.lists.keep.Goals as goal

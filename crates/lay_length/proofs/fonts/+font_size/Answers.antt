@@ -1,7 +1,5 @@
-use Rattle.std.proofs.Common.{◌≡◌, ◌<◌, IsTrue, Some, arith, sym, ◌∙◌}
+use Rattle.std.proofs.Common.{arith}
 use Rattle.viz_calc.specs.World.{Reading}
-use Rattle.viz_calc.specs.State.{AllSmall}
-use Rattle.lay_length.specs.Ways.{size_way}
 use Rattle.lay_length.proofs.SizeWays.{size-known, way-known}
 use Rattle.lay_length.proofs.fonts.+font_size.Goals as goal
 

@@ -1,7 +1,7 @@
-use Rattle.std.proofs.Common.{◌≡◌, ◌+◌, ◌∷◌, arith, ap, sum_by}
+use Rattle.std.proofs.Common.{arith, ap, sum_by}
 use Rattle.std.specs.Str.{chars}
 use Rattle.viz_base.specs.FontSizes.{advance}
-use Rattle.lay_length.proofs.Advances.{advance-most, sum-most}
+use Rattle.lay_length.proofs.Advances.{sum-most}
 use Rattle.lay_length.proofs.texts.advances_of.Goals as goal
 
 pub overflow_add-units : goal.overflow_add-units

@@ -9,9 +9,10 @@ use Rattle.lay_line.specs.LinesFit.{EndFits}
 use Rattle.layout_semantics.specs.LineFilling.{Met as MetOf}
 use Rattle.std.specs.Int.{int_max}
 use Rattle.viz_calc.proofs.Runs.{Goes-then}
+use Rattle.viz_calc.specs.Renderings.{band_at as stretch_at}
 use Rattle.layout_semantics.specs.Floats.{band_at}
 use Rattle.layout_semantics.specs.Lines.{LaidLines}
-use Rattle.lay_float.specs.Readings.{boxes_at, floats_at, stretch_at}
+use Rattle.lay_float.specs.Readings.{boxes_at, floats_at}
 use Rattle.lay_line.specs.Contexts.{context_at}
 use Rattle.lay_line.specs.Lining.{begun_at, start_at, late_in}
 use Rattle.lay_line.specs.Readings.{entry_at, entries_at, load_at, met_at, pieces_at, slot_at, spots_at}

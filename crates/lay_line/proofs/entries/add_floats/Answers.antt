@@ -1,7 +1,7 @@
 use Rattle.std.proofs.Common.{◌∷◌, [], ◌^◌, arith}
 use Rattle.std.proofs.lemmas.Grind.{common_steps}
 use Rattle.viz_calc.specs.World.{Reading}
-use Rattle.lay_float.specs.Readings.{spot_at}
+use Rattle.viz_calc.specs.Renderings.{spot_at}
 use Rattle.lay_line.specs.LineFits.{SpotOnLine, SpotsOnLine}
 use Rattle.lay_line.specs.Readings.{spots_at}
 use Rattle.lay_line.proofs.Chains.{ChainButMem, next_but_mem}

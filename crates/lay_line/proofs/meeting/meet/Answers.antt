@@ -4,7 +4,7 @@ use Rattle.std.specs.Prelude.{ℤ}
 use Rattle.viz_base.specs.declared.layouts.Spot.{Spot}
 use Rattle.layout_semantics.specs.Floats.{FloatBox}
 use Rattle.layout_semantics.specs.LineFilling.{Met}
-use Rattle.lay_float.specs.Readings.{boxes_at, spot_at}
+use Rattle.lay_float.specs.Readings.{boxes_at}
 use Rattle.lay_line.specs.Contexts.{context_at}
 use Rattle.lay_line.specs.Readings.{met_at, slot_at, spots_at}
 use Rattle.lay_line.specs.steps.Meeting.{leaves}
@@ -17,6 +17,7 @@ use Rattle.lay_float.specs.Limits.{IsHalf}
 use Rattle.viz_calc.proofs.Runs.{Goes-then, BlamesButMem-then}
 use Rattle.viz_calc.specs.World.{Reading}
 use Rattle.viz_calc.specs.Run.{BlamesButMem}
+use Rattle.viz_calc.specs.Renderings.{spot_at}
 use Rattle.std.specs.Prelude.{⊤}
 use Rattle.std.proofs.Common.{IsTrue, sym, subst}
 use Rattle.lay_line.proofs.meeting.meet.Goals as goal

@@ -2,9 +2,10 @@ use Rattle.std.proofs.Common.{◌∷◌, [], ap, sym, subst, ◌∙◌}
 use Rattle.std.specs.Prelude.{Some}
 use Rattle.viz_base.specs.declared.layouts.Extent.{Extent}
 use Rattle.viz_calc.specs.World.{Reading}
+use Rattle.viz_calc.specs.Renderings.{spot_at}
 use Rattle.layout_semantics.specs.Floats.{floating, float_spot, with_float_at}
 use Rattle.lay_float.specs.Limits.{AreHalf}
-use Rattle.lay_float.specs.Readings.{floats_at, spot_at}
+use Rattle.lay_float.specs.Readings.{floats_at}
 use Rattle.lay_line.specs.Contexts.{context_at}
 use Rattle.lay_line.specs.Limits.{PlacesFit}
 use Rattle.lay_line.specs.steps.Words.{size_in, spot_in, floats_with}

@@ -1,4 +1,4 @@
-use Rattle.lay_line.proofs.Kids.{kid-behind}
+use Rattle.layout_laws.proofs.Levels.{kid-behind}
 use Rattle.lay_line.proofs.trees.kids_at.Goals as goal
 
 pub returns-clause-each : goal.returns-clause-each

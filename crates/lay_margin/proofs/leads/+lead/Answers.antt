@@ -2,13 +2,14 @@ use Rattle.std.proofs.Common.{◌≡◌, true, false, arith, sym, subst, ◌∙�
 use Rattle.std.proofs.lemmas.Grind.{common_steps}
 use Rattle.viz_calc.specs.World.{Reading}
 use Rattle.viz_calc.proofs.Runs.{Goes-then, BlamesButMem-then}
+use Rattle.viz_calc.specs.Renderings.{band_at}
 use Rattle.layout_semantics.specs.FlowBoxes.{flow_children}
 use Rattle.layout_semantics.specs.InlineContent.{holds_inline, is_floated_at}
 use Rattle.lay_margin.specs.Fitting.{LeadFits, KidsFit}
-use Rattle.lay_margin.specs.Readings.{band_at, floats_at, passed_by}
+use Rattle.lay_margin.specs.Readings.{floats_at, passed_by}
 use Rattle.lay_margin.specs.Runs.{run_at}
 use Rattle.lay_margin.specs.steps.Leads.{enters, going_at, lead_of}
-use Rattle.lay_margin.proofs.Blamed.{ButMem-given, Blames-but-mem}
+use Rattle.viz_calc.proofs.Blamed.{ButMem-given, Blames-but-mem}
 use Rattle.lay_margin.proofs.Fitted.{box-fits, kids-fit}
 use Rattle.lay_margin.proofs.Kids.{flow-kids}
 use Rattle.lay_margin.proofs.KidSteps.{kid-through}

@@ -1,7 +1,8 @@
 use Rattle.std.proofs.Common.{◌≡◌, ◌-◌, ◌+◌, ◌*◌, length, drop, IsTrue}
 use Rattle.viz_calc.specs.World.{Reading}
 use Rattle.viz_calc.specs.Run.{Goes, BlamesButMem}
-use Rattle.lay_margin.specs.Readings.{band_at, floats_at, passed_by}
+use Rattle.viz_calc.specs.Renderings.{band_at}
+use Rattle.lay_margin.specs.Readings.{floats_at, passed_by}
 use Rattle.lay_margin.specs.Runs.{run_at}
 use Rattle.lay_margin.specs.Fitting.{KidsFit}
 use Rattle.lay_margin.specs.steps.Leads.{kids_going, kid_of, lead_of}

@@ -6,7 +6,7 @@ use Rattle.layout_semantics.specs.Horizontal.{flow_widths}
 use Rattle.lay_width.specs.Fitting.{BlockFits}
 use Rattle.lay_margin.specs.Fitting.{content_way}
 use Rattle.lay_margin.specs.steps.Leads.{inner_band}
-use Rattle.lay_margin.proofs.Blamed.{Blames-given}
+use Rattle.viz_calc.proofs.Blamed.{Blames-given}
 use Rattle.lay_margin.proofs.leads.band_inside.Goals as goal
 
 pub returns-clause-value : goal.returns-clause-value

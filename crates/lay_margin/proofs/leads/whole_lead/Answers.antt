@@ -1,5 +1,6 @@
 use Rattle.std.proofs.Common.{[], ◌++◌, ap, ◌∙◌, sym, subst}
-use Rattle.lay_margin.specs.Readings.{band_at, floats_at, passed_by}
+use Rattle.viz_calc.specs.Renderings.{band_at}
+use Rattle.lay_margin.specs.Readings.{floats_at, passed_by}
 use Rattle.lay_margin.specs.Runs.{run_at, IsRunOf}
 use Rattle.lay_margin.specs.steps.Leads.{Going, lead_of}
 use Rattle.layout_semantics.specs.Leads.{lead}

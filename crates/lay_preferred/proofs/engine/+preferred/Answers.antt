@@ -5,10 +5,11 @@ use Rattle.std.proofs.lemmas.Grind.{common_steps}
 use Rattle.viz_base.specs.declared.layouts.Preferred.{Preferred}
 use Rattle.viz_calc.specs.State.{AllSmall}
 use Rattle.viz_calc.proofs.Runs.{Goes-then, BlamesButMem-then}
+use Rattle.viz_calc.proofs.Blamed.{ButMem-given, Blames-but-mem}
 use Rattle.lay_width.specs.Readings.{preferred_at}
 use Rattle.lay_preferred.specs.declared.columns.Column.{Column}
 use Rattle.lay_preferred.specs.Fitting.{AroundFits, ItemFits, leasts, mosts, IsHalf, AreWithin}
-use Rattle.lay_preferred.proofs.Causes.{ButMem-from, ButMem-given, all-at, item-copied, fits-later, outer-within, given-small, replaced-small, around-small, inside-small, content-half, items-fit, kids-low, caps-next, beside-fits}
+use Rattle.lay_preferred.proofs.Causes.{all-at, item-copied, fits-later, outer-within, given-small, replaced-small, around-small, inside-small, content-half, items-fit, kids-low, caps-next, beside-fits}
 use Rattle.lay_preferred.proofs.Sizes.{run_reach, child-reach}
 use Rattle.layout_semantics.specs.InlineContent.{content}
 use Rattle.layout_semantics.specs.Preferred.{a_replaced, inline_content, blocks, inside_of}
@@ -34,7 +35,7 @@ outer-returns-then-is_given-clause-value g t c = λ e o.
 pub outer-returns-then-is_given-clause-cause : goal.outer-returns-then-is_given-clause-cause
 outer-returns-then-is_given-clause-cause g t c =
     let run = g.S.Steady.run in
-    ButMem-from (run c.args.calc.now) (run c.given.new.calc) _ _ (λ f e o. given-small c.args.tree.now (run c.args.calc.now).is_open f e o c.args.at c.requires.within) c.given.ensures.cause
+    Blames-but-mem (run c.args.calc.now) (run c.given.new.calc) _ _ (λ f e o. given-small c.args.tree.now (run c.args.calc.now).is_open f e o c.args.at c.requires.within) c.given.ensures.cause
 
 pub outer-returns-clause-cause : goal.outer-returns-clause-cause
 outer-returns-clause-cause g t c =
@@ -45,7 +46,7 @@ outer-returns-clause-cause g t c =
     BlamesButMem-then (run c.args.calc.now) (run c.preferred-inside.new.calc) (run c.around.new.calc) _ _ inside.goes c.around.ensures.goes inside.cause
     (λ f e o. subst (λ (p : Preferred ℤ). AroundFits tree e.world c.args.at p.least × AroundFits tree e.world c.args.at p.most) (sym (inside.value e o))
     (around-small tree (run c.args.calc.now).is_open f e (inside.goes.closes e o) c.args.at c.requires.within))
-    (ButMem-from (run c.preferred-inside.new.calc) (run c.around.new.calc) _ _ (λ f. f) c.around.ensures.cause)
+    (Blames-but-mem (run c.preferred-inside.new.calc) (run c.around.new.calc) _ _ (λ f. f) c.around.ensures.cause)
 
 pub outer-returns-clause-found : goal.outer-returns-clause-found
 outer-returns-clause-found g t c = found-later g.S.Steady.at c.args.tree.now (g.S.Steady.run c.preferred-inside.new.calc) (g.S.Steady.run c.around.new.calc) _ c.around.ensures.goes c.preferred-inside.ensures.found
@@ -63,7 +64,7 @@ computed-returns-in-Replaced-clause-found g t c = found-later g.S.Steady.at c.ar
 pub computed-returns-in-Replaced-clause-cause : goal.computed-returns-in-Replaced-clause-cause
 computed-returns-in-Replaced-clause-cause g t c =
     let run = g.S.Steady.run in
-    ButMem-from (run c.args.calc.now) (run c.replaced.new.calc) _ _ (λ f e o. replaced-small c.args.tree.now (run c.args.calc.now).is_open f e o c.args.b c.requires.within) c.replaced.ensures.cause
+    Blames-but-mem (run c.args.calc.now) (run c.replaced.new.calc) _ _ (λ f e o. replaced-small c.args.tree.now (run c.args.calc.now).is_open f e o c.args.b c.requires.within) c.replaced.ensures.cause
 
 pub computed-returns-in-Inline-clause-cause : goal.computed-returns-in-Inline-clause-cause
 computed-returns-in-Inline-clause-cause g t c =
@@ -103,9 +104,9 @@ item_widths-returns-in_default g t c =
           (found-later at c.args.tree.now (run c.args.calc.now) (run c.item_width-width.new.calc) _ own.goes c.requires.found);
       value = λ e o. let width = own.value e (c.both.ensures.goes.closes e o) in let same = c.both.ensures.value e o in grind arith;
       cause = BlamesButMem-then (run c.args.calc.now) (run c.item_width-width.new.calc) (run c.both.new.calc) _ _ own.goes c.both.ensures.goes
-          (ButMem-from (run c.args.calc.now) (run c.item_width-width.new.calc) _ _ (λ f. f.1) own.cause)
+          (Blames-but-mem (run c.args.calc.now) (run c.item_width-width.new.calc) _ _ (λ f. f.1) own.cause)
           (λ f e o. subst (λ x. AllSmall (x ∷ [])) (sym (own.value e o)) (item-copied c.args.tree.now e.world (item_of c.args.item.now) (f.1 e (own.goes.closes e o))))
-          (ButMem-from (run c.item_width-width.new.calc) (run c.both.new.calc) _ _ (λ f. f) c.both.ensures.cause);
+          (Blames-but-mem (run c.item_width-width.new.calc) (run c.both.new.calc) _ _ (λ f. f) c.both.ensures.cause);
     }
 
 pub measure-loop-item-preserved : goal.measure-loop-item-preserved
@@ -189,7 +190,7 @@ of_blocks-loop-kid-preserved g t c =
           let child = (subst (AreWithin ((f.0).cap kid)) (sym (one.value e o)) (outer-within tree r0.is_open f.0 e o3 kid there)).1 in
           let low = kids-low tree r0.is_open f.0 e o3 c.args.b c.requires.within f.1 in
           beside-fits (column_at at c.loop-kid.column e).floats (at c.outer-child.result.most e) (2 ^ 90) (omega (arith, so_far, left, child, low)) (omega arith))
-          (ButMem-from r2 r3 _ _ (λ f. f) add.cause);
+          (Blames-but-mem r2 r3 _ _ (λ f. f) add.cause);
     }
 
 pub of_blocks-returns-clause-found : goal.of_blocks-returns-clause-found
@@ -252,7 +253,7 @@ preferred-returns-in-Some-clause-cause g t c =
     let run = g.S.Steady.run in
     let at = g.S.Steady.at in
     let tree = c.args.tree.now in
-    ButMem-from (run c.args.calc.now) (run c.copy_of.new.calc) _ _
+    Blames-but-mem (run c.args.calc.now) (run c.copy_of.new.calc) _ _
     (λ f e o. subst (λ (p : Preferred ℤ). AllSmall (p.least ∷ p.most ∷ []))
     (sym (found-at at tree (run c.args.calc.now) c.args.found.now.widths.items c.args.b c.in-Some.widths.now c.requires.found c.in-Some.ensures e o))
     (inside-small tree (run c.args.calc.now).is_open f e o c.args.b c.requires.within))
@@ -265,7 +266,7 @@ preferred-returns-in-None-clause-cause g t c =
     let all = c.computed-widths.ensures in
     BlamesButMem-then (run c.args.calc.now) (run c.computed-widths.new.calc) (run c.copy_of-same.new.calc) _ _ all.goes c.copy_of-same.ensures.goes all.cause
     (λ f e o. subst (λ (p : Preferred ℤ). AllSmall (p.least ∷ p.most ∷ [])) (sym (all.value e o)) (inside-small tree (run c.args.calc.now).is_open f e (all.goes.closes e o) c.args.b c.requires.within))
-    (ButMem-from (run c.computed-widths.new.calc) (run c.copy_of-same.new.calc) _ _ (λ f. f) c.copy_of-same.ensures.cause)
+    (Blames-but-mem (run c.computed-widths.new.calc) (run c.copy_of-same.new.calc) _ _ (λ f. f) c.copy_of-same.ensures.cause)
 
 pub preferred-returns-in-Some-clause-value : goal.preferred-returns-in-Some-clause-value
 preferred-returns-in-Some-clause-value g t c = λ e o.

@@ -3,7 +3,8 @@ use Rattle.viz_calc.specs.World.{Reading}
 use Rattle.viz_calc.specs.Run.{unless}
 use Rattle.viz_calc.proofs.Runs.{BlamesButMem-then}
 use Rattle.lay_preferred.specs.Fitting.{AreSmallBoxes}
-use Rattle.lay_preferred.proofs.Causes.{ButMem-given, fits-closed}
+use Rattle.viz_calc.proofs.Blamed.{ButMem-given}
+use Rattle.lay_preferred.proofs.Causes.{fits-closed}
 use Rattle.lay_preferred.proofs.SmallBoxes.{boxes-fit}
 use Rattle.lay_preferred.proofs.front.preferred.Goals as goal
 

@@ -1,4 +1,4 @@
-use Rattle.std.proofs.Common.{◌≡◌, arith}
+use Rattle.std.proofs.Common.{arith}
 use Rattle.lay_width.proofs.HeldTerms.{shrunk-by}
 use Rattle.lay_width.proofs.engine.shrunk.Goals as goal
 

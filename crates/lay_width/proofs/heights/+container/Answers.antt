@@ -1,4 +1,4 @@
-use Rattle.std.proofs.Common.{◌≡◌, suc, ◌-◌, Some, None, true, false, arith, sym, ◌∙◌}
+use Rattle.std.proofs.Common.{◌≡◌, suc, ◌-◌, Some, None, true, false, arith, sym}
 use Rattle.layout_semantics.specs.Blocks.{kind_of, parent_of}
 use Rattle.layout_semantics.specs.DefiniteHeights.{is_passed_over}
 use Rattle.lay_width.proofs.Levels.{container-none, container-root, container-past, container-here}

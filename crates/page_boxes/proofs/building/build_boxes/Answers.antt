@@ -4,13 +4,14 @@ use Rattle.layout_semantics.specs.BoxTrees.{page_parts, tree_parents}
 use Rattle.layout_semantics.specs.Parts.{shown_parts}
 use Rattle.layout_semantics.specs.Refusals.{blocks_in_inlines, right_to_left_letters}
 use Rattle.layout_semantics.specs.WhiteSpace.{collapsed}
+use Rattle.layout_laws.proofs.TreeFacts.{tree_styles_length}
 use Rattle.page_boxes.specs.Seen.{all_seen}
 use Rattle.page_boxes.specs.Trees.{page_tree, refusal_named}
-use Rattle.page_boxes.proofs.Together.{fails_far, fails_judged, fails_many, far_eq, keeps_facts, length_styles, passes}
+use Rattle.page_boxes.proofs.Together.{fails_far, fails_judged, fails_many, far_eq, keeps_facts, passes}
 use Rattle.page_boxes.proofs.building.build_boxes.Goals as goal
 
 pub parts_of-requires-clause-styled : goal.parts_of-requires-clause-styled
-parts_of-requires-clause-styled c = ap length c.in_ok-used.ensures ∙ length_styles c.args.page.now.nodes c.args.styles.now c.requires.styled.one_each
+parts_of-requires-clause-styled c = ap length c.in_ok-used.ensures ∙ tree_styles_length c.args.page.now.nodes c.args.styles.now c.requires.styled.one_each
 
 pub returns-in_err-judge : goal.returns-in_err-judge
 returns-in_err-judge c =

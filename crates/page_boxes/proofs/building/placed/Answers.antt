@@ -1,7 +1,7 @@
 use Rattle.std.proofs.Common.{◌≡◌, ◌∙◌, length, refl, ap, arith, lt-ltb}
 use Rattle.std.proofs.lemmas.Bool.{le-ltb}
+use Rattle.std.proofs.lemmas.List.{length-map}
 use Rattle.layout_semantics.specs.BoxTrees.{page_boxes, tree_styles}
-use Rattle.layout_laws.proofs.TreeFacts.{length_mapped}
 use Rattle.page_boxes.specs.Seen.{all_seen, seen}
 use Rattle.page_boxes.proofs.Together.{boxes_eq, count_eq, few_parts, leads_eq}
 use Rattle.page_boxes.proofs.building.placed.Goals as goal
@@ -10,7 +10,7 @@ pub count-requires : goal.count-requires
 count-requires c =
     let few = few_parts c.args.page.now.nodes (tree_styles c.args.page.now.nodes c.args.styles.now) in
     let same = ap length c.requires.parts in
-    let size = length_mapped seen c.args.parts.now in
+    let size = length-map c.args.parts.now seen in
     omega (arith, few, same, size, c.requires.few)
 
 pub returns-then-count-gt-MOST_BOXES : goal.returns-then-count-gt-MOST_BOXES

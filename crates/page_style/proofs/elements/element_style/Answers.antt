@@ -1,11 +1,22 @@
 use Rattle.std.specs.Option.{option_copied}
-use Rattle.css_semantics.specs.ComputedValues.{AreLengths}
+use Rattle.css_semantics.specs.ComputedValues.{AreLengths, OwnLengths}
 use Rattle.page_style.proofs.StyleFacts.{is_style}
 use Rattle.page_style.proofs.elements.element_style.Goals as goal
 
 pub invariant_of-result : goal.invariant_of-result
 invariant_of-result c =
-    let lengths : AreLengths c.args.node c.args.winners.now c.args.drawn (option_copied c.args.parent) c.width.result c.min_width.result c.max_width.result c.height.result c.min_height.result c.max_height.result c.margin.result c.padding.result c.border.result = record {
+    let own : OwnLengths = record {
+      width = c.width.result;
+      min_width = c.min_width.result;
+      max_width = c.max_width.result;
+      height = c.height.result;
+      min_height = c.min_height.result;
+      max_height = c.max_height.result;
+      margin = c.margin.result;
+      padding = c.padding.result;
+      border = c.border.result;
+    } in
+    let lengths : AreLengths c.args.node c.args.winners.now c.args.drawn (option_copied c.args.parent) own = record {
       width_is = c.width.ensures;
       min_width_is = c.min_width.ensures;
       max_width_is = c.max_width.ensures;
@@ -25,4 +36,4 @@ invariant_of-result c =
       border_bottom = c.border.ensures.bottom;
       border_left = c.border.ensures.left;
     } in
-    record { ok = is_style c.args.node c.args.winners.now c.requires c.args.drawn (option_copied c.args.parent) _ _ _ _ _ _ _ _ _ _ _ _ lengths c.size.ensures c.line.ensures c.valign.ensures }
+    record { ok = is_style c.args.node c.args.winners.now c.requires c.args.drawn (option_copied c.args.parent) own _ _ _ lengths c.size.ensures c.line.ensures c.valign.ensures }

@@ -5,7 +5,8 @@ use Rattle.logic_semantics.specs.Truth.{truth_in}
 use Rattle.vis_truth.specs.Names.{places_of}
 use Rattle.vis_truth.specs.Scenes.{scene_at, agrees, is_witness, IsTame}
 use Rattle.viz_calc.proofs.Runs.{Goes-then, Blames-then}
-use Rattle.vis_truth.proofs.Runs.{Blames-given, IsTame-later}
+use Rattle.viz_calc.proofs.Blamed.{Blames-given}
+use Rattle.vis_truth.proofs.Runs.{IsTame-later}
 use Rattle.vis_truth.proofs.Bounds.{term-small, small-Cmp}
 use Rattle.vis_truth.proofs.Witnesses.{places-Inner, member-at, any_more, any_none, any_found, forall-witness, exists-witness}
 use Rattle.vis_truth.proofs.engine.+truth.Goals as goal

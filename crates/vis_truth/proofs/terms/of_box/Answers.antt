@@ -7,7 +7,7 @@ use Rattle.viz_base.specs.declared.formulas.Edge.TheVariants as of_edge
 use Rattle.vis_truth.specs.Names.{places_of}
 use Rattle.vis_truth.specs.Scenes.{scene_at}
 use Rattle.vis_truth.proofs.Edges.{edge-some, edge-none}
-use Rattle.vis_truth.proofs.Runs.{Blames-given}
+use Rattle.viz_calc.proofs.Blamed.{Blames-given}
 use Rattle.vis_truth.proofs.terms.of_box.Goals as goal
 
 pub returns-in-Some-clause-value : goal.returns-in-Some-clause-value

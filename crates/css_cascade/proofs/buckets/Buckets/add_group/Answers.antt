@@ -1,7 +1,7 @@
 use Rattle.std.proofs.Common.{◌++◌, ◌∷◌, [], map, refl, subst}
+use Rattle.viz_base.proofs.ListLemmas.{drop_at}
 use Rattle.css_cascade.specs.steps.Buckets.{numbered}
 use Rattle.css_cascade.specs.steps.Trying.{StandFor}
-use Rattle.css_cascade.proofs.Reaching.{drop_at}
 use Rattle.css_cascade.proofs.Standing.{group_end, group_more}
 use Rattle.css_cascade.proofs.buckets.Buckets.add_group.Goals as goal
 

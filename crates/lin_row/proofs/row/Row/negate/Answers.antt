@@ -1,7 +1,8 @@
 use Rattle.std.proofs.Common.{◌≡◌, ◌-ℤ◌, neg_ℤ, pos, negsuc, ◌∙◌, sym, true, refl, rules, arith, to_z, of_z, FitsSigned, to_z-of_z}
 use Rattle.std.specs.Int.{w128}
+use Rattle.std.proofs.Math.Bool.{and-false}
 use Rattle.std.proofs.lemmas.Int.{ints}
-use Rattle.lin_row.proofs.Opposites.{canonical_opposites, told_opposites, not_told_opposites, and_false, in_i128-fit}
+use Rattle.lin_row.proofs.Opposites.{canonical_opposites, told_opposites, not_told_opposites, in_i128-fit}
 use Rattle.lin_row.specs.Number.{in_i128}
 use Rattle.lin_row.proofs.row.Row.negate.Goals as goal
 
@@ -26,4 +27,4 @@ pub returns-in-None : goal.returns-in-None
 returns-in-None c =
     let out = not_told_opposites c.as_slice.result.now (sym c.in-None.is ∙ c.in_ok-terms.ensures) in
     let ts_out = rw c.as_slice.ensures at out in
-    rw (← c.self.view_is, ts_out, and_false) refl
+    rw (← c.self.view_is, ts_out, and-false) refl

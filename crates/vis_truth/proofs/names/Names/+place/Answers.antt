@@ -1,14 +1,7 @@
-use Rattle.std.proofs.Common.{◌≡◌, refl, ℕ, zero, suc, ◌-◌, ◌∷◌, List, slice_get, rules, ap, sym, ◌∙◌, arith}
+use Rattle.std.proofs.Common.{◌≡◌, refl, ℕ, zero, suc, ◌-◌, ◌∷◌, List, slice_get, ap, sym, ◌∙◌, arith}
 use Rattle.vis_truth.specs.Names.{places_of}
-use Rattle.vis_truth.specs.declared.names.Names.{Names}
-use Rattle.vis_truth.specs.declared.names.Names.TheVariants.{Inner}
-use Rattle.vis_truth.specs.declared.names.Names.TheViews.{the_lemmas}
-use Rattle.vis_truth.specs.declared.names.Names.TheFolds.{fold-roll-Names, fold_out-Names}
-use Rattle.std.specs.Borrow.{Bor}
+use Rattle.vis_truth.proofs.Witnesses.{places-Inner}
 use Rattle.vis_truth.proofs.names.Names.+place.Goals as goal
-
-places-Inner : (place : ℕ) (outer : Bor Names) → places_of (Inner place outer) ≡ place ∷ places_of outer.now
-places-Inner place outer = search (rules, the_lemmas, fold-roll-Names, fold_out-Names)
 
 slice_get-later : (p : ℕ) (ps : List ℕ) (n : ℕ) → (n ≡ 0 → ⊥) → slice_get ps (n - 1) ≡ slice_get (p ∷ ps) n
 slice_get-later p ps zero h = absurd (h refl)
