@@ -6,9 +6,9 @@
 FOLDER has files of JSON Lines, each named after a call: decimals, tokens, sheets, declarations, selectors, matches, values, cascade,
 formulas and truths; in jobs/ and certs/ jobs and certificates with what the program replies; refusals.jsonl, jobs that are refused; and
 grammar.jsonl, texts with the place up to which some certificate's text begins so, or null where they are a certificate's.
-Long cases come behind these, the cases of layout that tools/layout_cases.py reads, and those of tools/limit_cases.py. What is called goes to
-crates/cases/stdin and what it must give to crates/cases/stdout, a line of JSON each. A page goes flat: its nodes in document order, each
-with its parent's place; a formula as steps, each part before what it is a part of.
+Long cases come behind these, the cases of layout that tools/layout_cases.py reads, those of tools/limit_cases.py and the documents of
+tools/worked_pages.py. What is called goes to crates/cases/stdin and what it must give to crates/cases/stdout, a line of JSON each. A page
+goes flat: its nodes in document order, each with its parent's place; a formula as steps, each part before what it is a part of.
 """
 import json
 import pathlib
@@ -18,6 +18,7 @@ import sys
 sys.dont_write_bytecode = True
 import layout_cases  # noqa: E402
 import limit_cases  # noqa: E402
+import worked_pages  # noqa: E402
 
 TOP = pathlib.Path(__file__).resolve().parent.parent
 
@@ -347,7 +348,7 @@ def main():
                 given.write(compact([call.__name__] + arguments) + "\n")
                 wanted.write(compact(answer) + "\n")
         whole = [*jobs(folder), *refusals(folder), *certificates(folder), *grammar(folder)]
-        for called, answer in [*whole, *long_cases(), *layout_cases.cases(folder), *limit_cases.cases(folder)]:
+        for called, answer in [*whole, *long_cases(), *layout_cases.cases(folder), *limit_cases.cases(folder), *worked_pages.cases()]:
             given.write(compact(called) + "\n")
             wanted.write(compact(answer) + "\n")
 
