@@ -1,6 +1,7 @@
 """Documents of the worked pages, whose renderings `layout_semantics` states as laws: each is read from its definition in specs/Example*.antt.
 
-A law of a worked page speaks of any proof that its tree is one. Here the program builds that very tree from a document, so each page has such a proof.
+A law of a worked page speaks of any proof that its tree is one. Here the program builds that tree from a document, so each page has such a
+proof; a font size of 2/1 of the parent's stands in millionths then. The words of Examples.antt, as `block_style`, stand here once more.
 """
 import pathlib
 import re
