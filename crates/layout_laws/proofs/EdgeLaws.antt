@@ -23,7 +23,7 @@ use Rattle.layout_semantics.specs.LineFilling.{band_width}
 use Rattle.layout_semantics.specs.Lines.{aligned}
 use Rattle.layout_semantics.specs.Rectangles.{Frame, placed_box}
 use Rattle.layout_semantics.specs.Replaced.{replaced_size}
-use Rattle.layout_laws.specs.Edges.{HasEdges, IsSome}
+use Rattle.layout_laws.specs.Edges.{HasEdges, IsNonzero}
 use Rattle.layout_laws.specs.Terms.{IsInFlowBlock, own_width, own_maximum, own_minimum}
 use Rattle.layout_laws.proofs.HorizontalTerms.{widths-placed, held-any}
 
@@ -126,13 +126,13 @@ module _ (tree : BoxTree) (w : World) (b : ℕ) (within : b < length tree.boxes)
 
 -- ---- minimum heights
 
-not_zero : (definite : Bool) (l : Length) → IsSome l → (counts_as_auto definite l || is_zero l) ≡ false
+not_zero : (definite : Bool) (l : Length) → IsNonzero l → (counts_as_auto definite l || is_zero l) ≡ false
 not_zero definite (of_length.Px c) some = let zero : int_eq c (pos 0) ≡ false = grind (arith, ints) in zero
 not_zero definite (of_length.Em k node) some = let zero : int_eq k (pos 0) ≡ false = grind (arith, ints) in zero
 not_zero definite of_length.Auto some = absurd some
 not_zero definite (of_length.Pct p) some = absurd some
 
-has_minimum : (tree : BoxTree) (b : ℕ) → IsSome (least_height tree b) → has_no_minimum tree b ≡ false
+has_minimum : (tree : BoxTree) (b : ℕ) → IsNonzero (least_height tree b) → has_no_minimum tree b ≡ false
 unfolding has_no_minimum
 has_minimum tree b m = not_zero (is_definite tree b) (least_height tree b) m
 
@@ -146,11 +146,11 @@ third_of_five true true c d e f = rw f refl
 third_of_five true false c d e f = refl
 third_of_five false b c d e f = refl
 
-pub minimum-apart : (tree : BoxTree) (b : ℕ) → IsSome (least_height tree b) → may_collapse_through tree b ≡ false
+pub minimum-apart : (tree : BoxTree) (b : ℕ) → IsNonzero (least_height tree b) → may_collapse_through tree b ≡ false
 unfolding may_collapse_through
 minimum-apart tree b m = third_of_five (is_open_above tree b) (is_open_below tree b) (has_no_minimum tree b) (has_auto_height tree b || is_zero (own_height tree b)) (not (has_line tree b)) (has_minimum tree b m)
 
-pub minimum-keeps : (tree : BoxTree) (b : ℕ) → IsSome (least_height tree b) → joins_last_child tree b ≡ false
+pub minimum-keeps : (tree : BoxTree) (b : ℕ) → IsNonzero (least_height tree b) → joins_last_child tree b ≡ false
 unfolding joins_last_child
 minimum-keeps tree b m = last_of_three (is_open_below tree b) (has_auto_height tree b) (has_no_minimum tree b) (has_minimum tree b m)
 

@@ -33,7 +33,7 @@ used_minimum tree w height at =
     unwrap_or (height_around tree w (definite_height tree w height at) (least_height tree at)) (pos 0)
 
 -- an absolute length that is not zero: of pixels, or of a font size
-abbrev pub IsSome : Length → Type 0
-IsSome (of_length.Px c) = c ≢ pos 0
-IsSome (of_length.Em k node) = k ≢ pos 0
-IsSome _ = ⊥
+abbrev pub IsNonzero : Length → Type 0
+IsNonzero (of_length.Px c) = c ≢ pos 0
+IsNonzero (of_length.Em k node) = k ≢ pos 0
+IsNonzero _ = ⊥
