@@ -19,7 +19,7 @@ pub fn world_count(rect: Rect) -> u64
 }
 
 /// One of a split's two children.
-#[derive(Clone, Copy, Debug)]
+#[derive(Clone, Copy)]
 pub enum Child {
     /// The one where the split's row is at least 0.
     First,
@@ -28,7 +28,7 @@ pub enum Child {
 }
 
 /// Which numbers a cut takes.
-#[derive(Clone, Copy, Debug)]
+#[derive(Clone, Copy)]
 pub enum Opens {
     /// Those above its bound.
     Above,
@@ -37,7 +37,7 @@ pub enum Opens {
 }
 
 /// Where a unit row is at least 0: at the numbers of one axis on one side of a bound.
-#[derive(Clone, Copy, Debug)]
+#[derive(Clone, Copy)]
 pub struct Cut {
     /// The axis of the row's variable.
     pub axis: Axis,

@@ -4,7 +4,7 @@ use thiserror::Error;
 use viz_base::{Boxed, List};
 
 /// Why a page's assertion holds at every world of its range.
-#[derive(Debug, Drop)]
+#[derive(Drop)]
 pub struct Cert {
     /// SHA-256 of the job's bytes.
     pub job: [u8; 32],
@@ -14,7 +14,7 @@ pub struct Cert {
 
 /// A part of the range, and how it is decided there. Whatever a node says, it takes 32 bytes: what is larger lies in
 /// boxes, so that a grid beside a split does not take a row's room.
-#[derive(Debug, Drop)]
+#[derive(Drop)]
 pub enum CertNode {
     /// In the part below, the next variable is the row divided by a number and rounded down.
     Def(Boxed<Row>, Boxed<i128>, Boxed<CertNode>),

@@ -80,7 +80,7 @@ fn matches_compound(
 }
 
 /// How far matching the simple selectors of a selector came at a node.
-#[derive(Clone, Copy, Debug)]
+#[derive(Clone, Copy)]
 enum Outcome {
     /// They match.
     Found,

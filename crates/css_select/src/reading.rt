@@ -4,7 +4,7 @@ use css_semantics::Comparison;
 use viz_base::{Compound, Join, List, Selector, Test, Text};
 
 /// Where in a group of selectors reading stands.
-#[derive(Debug, Drop)]
+#[derive(Drop)]
 pub enum Place {
     /// Before a simple selector, of which nothing is read.
     Fresh,
@@ -33,7 +33,7 @@ pub enum Place {
 }
 
 /// The simple selectors of a selector that are read, and how the next is joined.
-#[derive(Debug, Drop)]
+#[derive(Drop)]
 pub struct Chain {
     pub parts: List<(Join, Compound)>,
     pub join: Join,
@@ -43,7 +43,7 @@ pub struct Chain {
 
 /// What is read of a group: its earlier selectors, the simple selectors of the last one, what is read of the next
 /// simple selector, and the place of the first refused selector.
-#[derive(Debug, Drop)]
+#[derive(Drop)]
 pub struct Reading {
     pub place: Place,
     pub group: List<Selector>,

@@ -6,7 +6,7 @@ use std::alloc::Global;
 use viz_base::{Body, Mem, Node, Page};
 
 /// For each node of a page the last element before it that is a child of its parent.
-#[derive(Debug, Drop)]
+#[derive(Drop)]
 pub struct Siblings {
     pub previous: Vec<Option<u32>>,
 }

@@ -1,7 +1,7 @@
 use viz_base::{List, Prop, Selector, Source, Spec, Value};
 
 /// Where declarations stand (CSS 2.1, 6.4).
-#[derive(Clone, Copy, Debug, PartialEq, Eq)]
+#[derive(Clone, Copy, PartialEq, Eq)]
 pub enum Origin {
     /// The default style sheet.
     Default,
@@ -12,7 +12,7 @@ pub enum Origin {
 }
 
 /// How much a declaration weighs by its origin and its importance, in ascending order (CSS 2.1, 6.4.1).
-#[derive(Clone, Copy, Debug, PartialEq, Eq)]
+#[derive(Clone, Copy, PartialEq, Eq)]
 pub enum Weight {
     /// It stands in the default style sheet.
     Default,
@@ -23,7 +23,7 @@ pub enum Weight {
 }
 
 /// What a declaration says of one property.
-#[derive(Debug, Drop)]
+#[derive(Drop)]
 pub struct Claim {
     pub prop: Prop,
     /// The value; none where it is refused by name.
@@ -33,14 +33,14 @@ pub struct Claim {
 }
 
 /// A selector with its specificity (CSS 2.1, 6.4.3).
-#[derive(Debug, Drop)]
+#[derive(Drop)]
 pub struct Ranked {
     pub selector: Selector,
     pub spec: Spec,
 }
 
 /// A ruleset: the selectors of its group, and what its declarations say, in order (CSS 2.1, 4.1.7 and 5.2.1).
-#[derive(Debug, Drop)]
+#[derive(Drop)]
 pub struct Ruleset {
     pub group: List<Ranked>,
     pub claims: List<Claim>,
@@ -48,7 +48,7 @@ pub struct Ruleset {
 
 /// What the nodes inside a node take from it: whether it is hidden, and whether the values that they inherit are other
 /// than zero, for the maximum other than `none`.
-#[derive(Clone, Copy, Debug, PartialEq, Eq)]
+#[derive(Clone, Copy, PartialEq, Eq)]
 pub struct Standing {
     /// The node or one around it has `display: none`.
     pub hidden: bool,

@@ -1,7 +1,7 @@
 use viz_base::{Prop, Text};
 
 /// A part of the value of a declaration (CSS 2.1, 4.3 and 1.4.2.1).
-#[derive(Debug, Drop, PartialEq, Eq)]
+#[derive(Drop, PartialEq, Eq)]
 pub enum Part {
     /// An identifier, after escapes.
     Word(Text),
@@ -28,7 +28,7 @@ pub enum Part {
 }
 
 /// The shorthand properties (CSS 2.1, 1.4.3).
-#[derive(Clone, Copy, Debug, PartialEq, Eq)]
+#[derive(Clone, Copy, PartialEq, Eq)]
 pub enum Shorthand {
     Margin,
     Padding,
@@ -44,7 +44,7 @@ pub enum Shorthand {
 }
 
 /// Which amounts of a kind a property takes.
-#[derive(Clone, Copy, Debug, PartialEq, Eq)]
+#[derive(Clone, Copy, PartialEq, Eq)]
 pub enum Takes {
     Nothing,
     All,
@@ -55,7 +55,7 @@ pub enum Takes {
 }
 
 /// Why a declaration gives no setting.
-#[derive(Clone, Copy, Debug, PartialEq, Eq)]
+#[derive(Clone, Copy, PartialEq, Eq)]
 pub enum Refusal {
     /// The property is unknown, or its value is illegal: the declaration is dropped (CSS 2.1, 4.2).
     Ignored,

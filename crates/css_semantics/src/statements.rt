@@ -2,7 +2,7 @@ use viz_base::{List, Rule};
 
 /// A statement of a style sheet that says something of the sheet (CSS 2.1, 4.1.5, 4.1.7, 6.3
 /// and 7.2.1). Places are those of at-keywords, in bytes of the sheet.
-#[derive(Debug, Drop)]
+#[derive(Drop)]
 pub enum Statement {
     /// A ruleset.
     Ruleset(Rule),

@@ -1,7 +1,7 @@
 use viz_base::Test;
 
 /// What a token is in the grammar of selectors (CSS 2.1, appendix G.1 and G.2).
-#[derive(Clone, Copy, Debug, PartialEq, Eq)]
+#[derive(Clone, Copy, PartialEq, Eq)]
 pub enum Terminal {
     /// White space.
     Space,
@@ -42,7 +42,7 @@ pub enum Terminal {
 }
 
 /// How a selector compares an attribute's value with its own (CSS 2.1, 5.8.1).
-#[derive(Clone, Copy, Debug, PartialEq, Eq)]
+#[derive(Clone, Copy, PartialEq, Eq)]
 pub enum Comparison {
     /// `=`.
     Equals,
@@ -53,7 +53,7 @@ pub enum Comparison {
 }
 
 /// What a name behind a colon says (CSS 2.1, 5.10).
-#[derive(Debug, Drop, PartialEq, Eq)]
+#[derive(Drop)]
 pub enum Pseudo {
     /// A pseudo-class.
     Class(Test),

@@ -2,7 +2,7 @@ use std::marker::Model;
 use viz_base::TokenKind;
 
 /// A piece of a style sheet, and the place of its first byte. Contracts see it without where it lies in memory.
-#[derive(Debug, Drop)]
+#[derive(Drop)]
 pub struct Token<'a> {
     pub kind: TokenKind,
     pub at: usize,

@@ -4,7 +4,7 @@ use std::alloc::Global;
 use viz_base::{List, Quad, Side};
 
 /// A float that is placed.
-#[derive(Debug, Drop)]
+#[derive(Drop)]
 pub struct PlacedFloat<N> {
     /// The side to which it floats.
     pub side: Side,
@@ -13,7 +13,7 @@ pub struct PlacedFloat<N> {
 }
 
 /// The floats of a block formatting context, in the order in which they were placed (CSS 2.1, 9.5).
-#[derive(Debug, Drop)]
+#[derive(Drop)]
 pub struct Floats<N> {
     /// Their sides and outer boxes.
     pub placed: List<PlacedFloat<N>>,

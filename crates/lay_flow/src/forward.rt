@@ -38,7 +38,7 @@ use viz_base::{Band, BoxTree, Clear, List, Waiting};
 use viz_calc::Steady;
 
 /// What a way forward starts from.
-#[derive(Debug, Drop)]
+#[derive(Drop)]
 pub struct Way<'a, N> {
     pub page: &'a Page<'a, N>,
     pub base: &'a Base<N>,

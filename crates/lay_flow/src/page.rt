@@ -57,7 +57,7 @@ fn outside_of(alloc: Global, tree: &BoxTree, b: u32) -> Result<Vec<u32>, AllocEr
 }
 
 /// Boxes that are laid out by themselves, each at the place of its number.
-#[derive(Debug, Drop)]
+#[derive(Drop)]
 struct Outside<N> {
     places: Vec<Option<Alone<N>>>,
 }

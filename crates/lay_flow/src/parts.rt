@@ -4,7 +4,7 @@ use lay_margin::Run;
 use viz_base::{BoxTree, Extent, List, Placed, Waiting};
 
 /// A box ahead that is cleared, with its border edge (CSS 2.1, 9.5.2).
-#[derive(Debug, Drop)]
+#[derive(Drop)]
 pub struct Cleared<N> {
     /// Its place in the tree.
     pub at: u32,
@@ -12,7 +12,7 @@ pub struct Cleared<N> {
 }
 
 /// Where the next child of a box stands.
-#[derive(Debug, Drop)]
+#[derive(Drop)]
 pub enum Standing<N> {
     /// So far only margins that adjoin the box's own top margin have come: at its content top, but for a cleared box.
     AtTop { y: N, cleared: Option<Cleared<N>> },
@@ -22,7 +22,7 @@ pub enum Standing<N> {
 }
 
 /// How far the flow of a block formatting context has come (CSS 2.1, 9.4.1).
-#[derive(Debug, Drop)]
+#[derive(Drop)]
 pub struct Context<N> {
     pub standing: Standing<N>,
     /// Its floats so far.
@@ -34,7 +34,7 @@ pub struct Context<N> {
 }
 
 /// A box that is laid out in coordinates whose origin is the corner of its outer box.
-#[derive(Debug, Drop)]
+#[derive(Drop)]
 pub struct Alone<N> {
     /// The size of its outer box.
     pub size: Extent<N>,
@@ -45,7 +45,7 @@ pub struct Alone<N> {
 }
 
 /// What stays the same while the flow goes on.
-#[derive(Debug, Drop)]
+#[derive(Drop)]
 pub struct Page<'a, N> {
     pub tree: &'a BoxTree,
     /// The height of the viewport in pixels.
@@ -55,7 +55,7 @@ pub struct Page<'a, N> {
 }
 
 /// The border edge at which a run of margins ends.
-#[derive(Debug, Drop)]
+#[derive(Drop)]
 pub enum Base<N> {
     /// The run begins at this edge.
     Hangs(N),
@@ -64,7 +64,7 @@ pub enum Base<N> {
 }
 
 /// Where the margins that adjoin the top of a box end.
-#[derive(Debug, Drop)]
+#[derive(Drop)]
 pub enum End<N> {
     /// The box's own bottom margin adjoins.
     GoesOn,
@@ -75,7 +75,7 @@ pub enum End<N> {
 }
 
 /// What the way forward from a box has found.
-#[derive(Debug, Drop)]
+#[derive(Drop)]
 pub struct Going<N> {
     /// The run of margins so far.
     pub run: Run<N>,
@@ -84,7 +84,7 @@ pub struct Going<N> {
 }
 
 /// A box in flow that is reached.
-#[derive(Debug, Drop)]
+#[derive(Drop)]
 pub struct Reached<N> {
     /// Its border top.
     pub top: N,
@@ -95,7 +95,7 @@ pub struct Reached<N> {
 }
 
 /// A box in flow that is laid out.
-#[derive(Debug, Drop)]
+#[derive(Drop)]
 pub struct Laid<N> {
     /// Whether it collapses through.
     pub through: bool,
@@ -106,7 +106,7 @@ pub struct Laid<N> {
 }
 
 /// A box in flow that is reached, and the run before it with its lead joined.
-#[derive(Debug, Drop)]
+#[derive(Drop)]
 pub struct Met<N> {
     pub reached: Reached<N>,
     /// At the top of its container no margins.

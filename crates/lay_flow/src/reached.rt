@@ -32,7 +32,7 @@ use viz_base::{Band, BoxTree, List};
 use viz_calc::Steady;
 
 /// The way forward from a box, with its run.
-#[derive(Debug, Drop)]
+#[derive(Drop)]
 struct Gone<N> {
     going: Going<N>,
     end: End<N>,

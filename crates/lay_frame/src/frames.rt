@@ -14,7 +14,7 @@ use viz_base::{BoxTree, Spot, Widths};
 use viz_calc::Steady;
 
 /// Used margins, borders and paddings above and below the content of a box, in 1/64 px (CSS 2.1, 8.3 to 8.5).
-#[derive(Debug, Drop)]
+#[derive(Drop)]
 pub struct Edges<N> {
     pub margin_top: N,
     pub border_top: N,
@@ -25,7 +25,7 @@ pub struct Edges<N> {
 }
 
 /// A box before its height is known, in 1/64 px: its used terms, and the upper left corner of its border box.
-#[derive(Debug, Drop)]
+#[derive(Drop)]
 pub struct Shape<N> {
     pub x: Widths<N>,
     pub v: Edges<N>,

@@ -11,7 +11,7 @@ use std::alloc::{AllocError, Global};
 use viz_base::BoxTree;
 
 /// Between which things content is parted.
-#[derive(Clone, Copy, Debug, PartialEq, Eq)]
+#[derive(Clone, Copy, PartialEq, Eq)]
 pub enum Parting {
     /// Wherever a line may break.
     Lines,
@@ -147,7 +147,7 @@ fn without(alloc: Global, at: u32, starts: &[(u32, usize)]) -> Result<Vec<(u32, 
 }
 
 /// What is known of the items of a run that are behind.
-#[derive(Debug, Drop)]
+#[derive(Drop)]
 pub struct Run {
     /// The boxes that have started and not ended, each with the place behind the last end before it.
     pub starts: Vec<(u32, usize)>,

@@ -5,7 +5,7 @@ ghost use Rattle.std.specs.Option.{option_copied};
 use viz_base::{Band, BoxTree, Inner};
 
 /// A block container with the edges of its content, in units of 1/64 px.
-#[derive(Debug, Drop)]
+#[derive(Drop)]
 pub struct Container<'a, N> {
     pub tree: &'a BoxTree,
     /// Its place in the tree.

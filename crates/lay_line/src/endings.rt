@@ -24,7 +24,7 @@ use viz_base::{Entry, List};
 use viz_calc::Steady;
 
 /// What lines leave to the next one, in units of 1/64 px.
-#[derive(Debug, Drop)]
+#[derive(Drop)]
 pub struct SoFar<N> {
     /// Where it begins.
     pub y: N,
@@ -39,7 +39,7 @@ pub struct SoFar<N> {
 }
 
 /// The same, with how many floats there are in place of them.
-#[derive(Debug, Drop)]
+#[derive(Drop)]
 pub struct Begun<N> {
     pub y: N,
     pub least: N,
@@ -50,7 +50,7 @@ pub struct Begun<N> {
 }
 
 /// A line that is full, in units of 1/64 px.
-#[derive(Debug, Drop)]
+#[derive(Drop)]
 pub struct FullLine<'p, 'a, N> {
     /// Where it is.
     pub slot: Slot<N>,

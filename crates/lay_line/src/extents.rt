@@ -10,7 +10,7 @@ use lay_width::limits::greater;
 use viz_calc::Steady;
 
 /// How far something reaches above and below a baseline, in units of 1/64 px.
-#[derive(Debug, Drop)]
+#[derive(Drop)]
 pub struct LineExtent<N> {
     pub above: N,
     pub below: N,

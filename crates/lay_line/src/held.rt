@@ -13,14 +13,14 @@ use crate::items::Item;
 use viz_calc::Steady;
 
 /// An item with the width that it takes, in units of 1/64 px.
-#[derive(Debug, Drop)]
+#[derive(Drop)]
 pub struct Piece<'a, N> {
     pub item: Item<'a>,
     pub width: N,
 }
 
 /// What a line holds so far, in units of 1/64 px.
-#[derive(Debug, Drop)]
+#[derive(Drop)]
 pub struct Held<N> {
     /// Its width without the spaces at its ends.
     pub width: N,

@@ -41,7 +41,7 @@ struct Frame<'w, 'a, N> {
 }
 
 /// Where the next line begins, and the stretches that are left.
-#[derive(Debug, Drop)]
+#[derive(Drop)]
 struct Next<'p, 'a, N> {
     now: SoFar<N>,
     rest: Stretches<'p, 'a, N>,
@@ -198,7 +198,7 @@ fn marks_in<S: Steady>(alloc: Global, calc: &mut S, tree: &BoxTree, items: &[Ite
 }
 
 /// Lines, with the floats of the block formatting context behind them.
-#[derive(Debug, Drop)]
+#[derive(Drop)]
 pub struct Laid<N> {
     /// Their entries, their bottom, and the last one's baseline.
     pub lines: Lines<N>,

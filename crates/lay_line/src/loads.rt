@@ -255,7 +255,7 @@ pub fn ahead<N>(tree: &BoxTree, pieces: &[Piece<N>]) -> usize
 }
 
 /// What a line holds so far, in units of 1/64 px.
-#[derive(Debug, Drop)]
+#[derive(Drop)]
 pub struct Load<N> {
     /// Its width.
     pub held: Held<N>,
@@ -272,7 +272,7 @@ pub struct Load<N> {
 }
 
 /// A stretch that a line takes.
-#[derive(Debug, Drop)]
+#[derive(Drop)]
 pub struct Taken<'p, 'a, N> {
     pub part: &'p [Piece<'a, N>],
     /// The floats that are met at its end.
@@ -369,7 +369,7 @@ fn takes_more<S: Steady>(
 }
 
 /// A line that is full, and the stretches that are left.
-#[derive(Debug, Drop)]
+#[derive(Drop)]
 pub struct Loaded<'p, 'a, N> {
     pub load: Load<N>,
     pub rest: Stretches<'p, 'a, N>,

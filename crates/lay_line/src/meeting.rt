@@ -29,7 +29,7 @@ use viz_calc::Steady;
 
 /// Floats that were placed, in their order, with the list that they then stand in, and those that wait for the line's
 /// bottom.
-#[derive(Debug, Drop)]
+#[derive(Drop)]
 pub struct Met<N> {
     /// The places of their boxes in the tree, and where they stand, in units of 1/64 px.
     pub spots: Vec<(u32, Spot<N>)>,
@@ -40,7 +40,7 @@ pub struct Met<N> {
 }
 
 /// Where a line is, in units of 1/64 px.
-#[derive(Debug, Drop)]
+#[derive(Drop)]
 pub struct Slot<N> {
     /// Its top.
     pub top: N,

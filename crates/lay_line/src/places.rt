@@ -14,7 +14,7 @@ use std::alloc::Global;
 use viz_calc::Steady;
 
 /// An item between its left and its right edge, in units of 1/64 px.
-#[derive(Debug, Drop)]
+#[derive(Drop)]
 pub struct ItemPlace<'a, N> {
     pub item: Item<'a>,
     pub left: N,
@@ -83,7 +83,7 @@ fn keep<'a, S: Steady>(
 }
 
 /// The items of a line so far.
-#[derive(Debug, Drop)]
+#[derive(Drop)]
 pub struct Row<'a, N> {
     /// Where the next item stands, in units of 1/64 px.
     pub x: N,

@@ -26,7 +26,7 @@ use viz_base::{Band, BoxTree, Lead, LeadEnd, Length, List, Waiting, Widths};
 use viz_calc::Steady;
 
 /// Where margins end, and the containing block of the box at which they do.
-#[derive(Debug, Drop)]
+#[derive(Drop)]
 pub struct Ended<N> {
     /// Where they end.
     pub end: LeadEnd,
@@ -427,7 +427,7 @@ fn kid<S: Steady>(
 }
 
 /// A lead, and the run with its margins.
-#[derive(Debug, Drop)]
+#[derive(Drop)]
 pub struct Joined<N> {
     /// The lead.
     pub lead: Lead<N>,

@@ -8,7 +8,7 @@ use crate::engine;
 use viz_calc::{Calc, Halt, Latch};
 
 /// Margins that adjoin, in 1/64 px: the greatest of them and of 0, and the least (CSS 2.1, 8.3.1).
-#[derive(Debug, Drop)]
+#[derive(Drop)]
 pub struct Run<N> {
     /// The greatest of 0 and the margins.
     pub pos: N,

@@ -13,7 +13,7 @@ use viz_base::Preferred;
 use viz_calc::Steady;
 
 /// The greatest widths of children so far, in units of 1/64 px.
-#[derive(Debug, Drop)]
+#[derive(Drop)]
 pub struct Column<N> {
     /// The greatest preferred minimum width.
     pub least: Option<N>,

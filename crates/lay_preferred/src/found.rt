@@ -13,7 +13,7 @@ use viz_calc::Steady;
 /// Preferred widths by the number of their box, as far as they were asked for, in units of 1/64 px.
 ///
 /// Whoever lays out a page makes one table for it, and hands it on from call to call: so each box is measured once.
-#[derive(Debug, Drop)]
+#[derive(Drop)]
 pub struct Found<N> {
     pub widths: Vec<Option<Preferred<N>>>,
 }

@@ -46,7 +46,7 @@ pub fn both<S: Steady>(calc: &mut S, width: S::Num) -> Preferred<S::Num>
 }
 
 /// What decides the preferred widths of a box.
-#[derive(Clone, Copy, Debug, PartialEq, Eq)]
+#[derive(Clone, Copy, PartialEq, Eq)]
 pub enum Sort {
     /// It is replaced.
     Replaced,

@@ -19,7 +19,7 @@ ghost use Rattle.lay_width.specs.steps.Placings.{placing};
 use viz_base::{BoxNode, BoxTree, Kind, Length, Sides, Style};
 
 /// How the horizontal terms of a box come about (CSS 2.1, 10.3).
-#[derive(Clone, Copy, Debug, PartialEq, Eq)]
+#[derive(Clone, Copy, PartialEq, Eq)]
 pub enum Placing {
     /// A block in normal flow.
     Block,

@@ -3,7 +3,7 @@ use viz_base::{Boxed, List};
 
 /// A row made of facts and of earlier rows. Facts are named by their places in the list of facts,
 /// earlier rows by the order in which they came to be known, both from 0.
-#[derive(Debug, Drop)]
+#[derive(Drop)]
 pub enum Step {
     /// A fact.
     Fact(u32),
@@ -15,7 +15,7 @@ pub enum Step {
 
 /// Rows one after another, and then an end.
 #[cycle(derivation)]
-#[derive(Debug, Drop)]
+#[derive(Drop)]
 pub struct Derivation {
     /// The rows.
     pub steps: List<Step>,
@@ -25,7 +25,7 @@ pub struct Derivation {
 
 /// How a derivation ends.
 #[cycle(derivation)]
-#[derive(Debug, Drop)]
+#[derive(Drop)]
 pub enum Ending {
     /// The last row says that a number below 0 is at least 0.
     Closed,
@@ -35,7 +35,7 @@ pub enum Ending {
 
 /// Both cases of a row: it is at least 0 in the first derivation, and below 0 in the second.
 #[cycle(derivation)]
-#[derive(Debug, Drop)]
+#[derive(Drop)]
 pub struct Branch {
     /// The row.
     pub row: Row,
@@ -46,7 +46,7 @@ pub struct Branch {
 }
 
 /// What a comparison of two numbers comes to: whether the row, their difference, is at least 0.
-#[derive(Debug, Drop)]
+#[derive(Drop)]
 pub struct Answer {
     /// Whether it is.
     pub yes: bool,

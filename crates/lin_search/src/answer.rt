@@ -2,7 +2,7 @@ use lin_proof::Derivation;
 use viz_base::List;
 
 /// What a search for a contradiction among facts comes to.
-#[derive(Debug, Drop)]
+#[derive(Drop)]
 pub enum Search {
     /// No values of the variables meet all facts, as this derivation shows.
     Found(Derivation),

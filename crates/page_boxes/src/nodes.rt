@@ -16,7 +16,7 @@ use std::alloc::{AllocError, Global};
 use viz_base::{Body, Display, Kind, List, Mem, Node, Page, Style};
 
 /// What a node's kids stand in.
-#[derive(Clone, Copy, Debug)]
+#[derive(Clone, Copy)]
 struct Spot {
     /// Whether they make boxes, where they are not hidden themselves.
     shows: bool,

@@ -1,7 +1,7 @@
 use viz_base::{Kind, List};
 
 /// How a box takes part in layout (CSS 2.1, 9.2 and 9.5).
-#[derive(Clone, Copy, Debug, PartialEq, Eq)]
+#[derive(Clone, Copy, PartialEq, Eq)]
 pub enum Level {
     /// Block-level in normal flow.
     Block,
@@ -11,7 +11,7 @@ pub enum Level {
 }
 
 /// The box of a node.
-#[derive(Debug, Drop)]
+#[derive(Drop)]
 pub struct Part {
     pub node: u32,
     /// The element that it is in.

@@ -7,7 +7,7 @@ use viz_calc::{Calc, Halt, Plain};
 const FACTOR: u64 = 6_364_136_223_846_793_005;
 
 /// The numbers of one world, with a digest of the answers that were given there, in their order.
-#[derive(Clone, Copy, Debug)]
+#[derive(Clone, Copy)]
 pub struct Digesting {
     plain: Plain,
     /// The digest. Layouts that answer differently have different ones, but for rare chances.

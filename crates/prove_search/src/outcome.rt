@@ -2,7 +2,7 @@ use cert_text::Cert;
 use viz_base::{Rect, World};
 
 /// What was found of a job.
-#[derive(Debug, Drop)]
+#[derive(Drop)]
 pub enum Outcome {
     /// The job holds, and this certificate is right for it.
     Proved(Cert),

@@ -5,14 +5,14 @@ use std::alloc::Global;
 use viz_base::{Axis, Mem, World};
 
 /// A world of a path, with what the path's variables are there: the numbers on the axes, and the floors.
-#[derive(Debug, Drop)]
+#[derive(Drop)]
 pub struct Known {
     /// By the variables' numbers.
     pub values: Vec<i128>,
 }
 
 /// What the known worlds tell of the sign of a row.
-#[derive(Clone, Copy, Debug)]
+#[derive(Clone, Copy)]
 pub enum Signs {
     /// Nothing.
     Unknown,
@@ -23,7 +23,7 @@ pub enum Signs {
 }
 
 /// Worlds of a path. The first stands for all.
-#[derive(Debug, Drop)]
+#[derive(Drop)]
 pub struct Pool {
     /// The worlds.
     pub worlds: Vec<Known>,

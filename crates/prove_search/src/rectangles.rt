@@ -9,7 +9,7 @@ use cert_text::CertNode;
 use viz_base::{Boxed, Rect};
 
 /// How many leaves a tree is to have at most.
-#[derive(Clone, Copy, Debug)]
+#[derive(Clone, Copy)]
 pub enum Budget {
     /// As few as can be read and checked in the time of grids.
     Ample,

@@ -17,7 +17,7 @@ const FACTOR: u64 = 6_364_136_223_846_793_005;
 const ADDEND: u64 = 1_442_695_040_888_963_407;
 
 /// A layout that was met.
-#[derive(Clone, Copy, Debug)]
+#[derive(Clone, Copy)]
 struct Kind {
     /// A digest of its answers.
     digest: u64,
@@ -26,7 +26,7 @@ struct Kind {
 }
 
 /// What the page comes to at some worlds of a rectangle.
-#[derive(Debug, Drop)]
+#[derive(Drop)]
 pub struct Sample {
     /// The different layouts.
     kinds: Vec<Kind>,

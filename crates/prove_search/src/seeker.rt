@@ -18,7 +18,7 @@ use viz_calc::{Calc, Halt};
 pub const LIMIT: u64 = 4096;
 
 /// A comparison that was answered.
-#[derive(Clone, Copy, Debug)]
+#[derive(Clone, Copy)]
 struct Asked {
     /// The number of its row among all that were asked about.
     row: usize,
@@ -27,7 +27,7 @@ struct Asked {
 }
 
 /// A row whose sign is left open on a path.
-#[derive(Debug, Drop)]
+#[derive(Drop)]
 pub struct Opening {
     /// The floors on which it rests and that the path doesn't name yet, in order.
     pub floors: Vec<Floor>,

@@ -17,7 +17,7 @@ use sym_calc::{Floor, Path};
 use viz_base::{Axis, Boxed, Job, Mem, Rect, World};
 
 /// What a search comes to. None of it is certain.
-#[derive(Debug, Drop)]
+#[derive(Drop)]
 pub enum Finding {
     /// The job may hold by this certificate.
     Proof(Cert),

@@ -3,7 +3,7 @@ use std::alloc::Global;
 use viz_base::Mem;
 
 /// An answer that was found, with its reason. It stands on the path where it was found, and on all below.
-#[derive(Debug, Drop)]
+#[derive(Drop)]
 pub struct Found {
     /// Whether the row is at least 0.
     pub yes: bool,
@@ -18,7 +18,7 @@ pub struct Found {
 }
 
 /// Floors behind those of a path, in their order.
-#[derive(Debug, Drop)]
+#[derive(Drop)]
 pub struct Cone {
     /// Their places.
     pub places: Vec<u32>,
@@ -27,7 +27,7 @@ pub struct Cone {
 }
 
 /// Where a floor stands in a run.
-#[derive(Clone, Copy, Debug)]
+#[derive(Clone, Copy)]
 pub enum Spot {
     /// At this place on the path.
     Named(usize),
@@ -37,7 +37,7 @@ pub enum Spot {
 
 /// The floors of a run by their ranks: the order in which it used them first. All runs below a split begin with the
 /// floors of the run that led to it, whichever of them are named meanwhile.
-#[derive(Debug, Drop)]
+#[derive(Drop)]
 pub struct Ranks {
     /// By their ranks.
     pub spots: Vec<Spot>,

@@ -11,7 +11,7 @@ use std::marker::Model;
 use viz_base::Mem;
 
 /// A row divided by a number and rounded down.
-#[derive(Debug, Drop)]
+#[derive(Drop)]
 pub struct Floor {
     /// The row.
     pub row: Row,

@@ -1,7 +1,7 @@
 use lin_row::Row;
 
 /// Why a comparison is left open. Answers and lines are numbered from 0.
-#[derive(Debug, Drop)]
+#[derive(Drop)]
 pub enum Trouble {
     /// The derivation of this answer is wrong at this line, and at none before it.
     Line(u32, u32),

@@ -53,7 +53,7 @@ impl<T: Drop> From<AllocFailed<T>> for FormulaFault {
 }
 
 /// Why a token can't be taken, wherever it stands.
-#[derive(Clone, Copy, Debug, PartialEq, Eq)]
+#[derive(Clone, Copy, PartialEq, Eq)]
 pub enum Stop {
     Mem,
     Bad,

@@ -1,21 +1,21 @@
 use viz_base::{Face, Ring, Set, Sign, Text};
 
 /// `forall` or `exists`.
-#[derive(Clone, Copy, Debug, PartialEq, Eq)]
+#[derive(Clone, Copy, PartialEq, Eq)]
 pub enum Quantifier {
     Forall,
     Exists,
 }
 
 /// What is said of two names: `overlap` or `same`.
-#[derive(Clone, Copy, Debug, PartialEq, Eq)]
+#[derive(Clone, Copy, PartialEq, Eq)]
 pub enum Pair {
     Overlap,
     Same,
 }
 
 /// What a number counts.
-#[derive(Clone, Copy, Debug, PartialEq, Eq)]
+#[derive(Clone, Copy, PartialEq, Eq)]
 pub enum Unit {
     /// Units of 1/64 px, or edges.
     One,
@@ -24,7 +24,7 @@ pub enum Unit {
 }
 
 /// What a token is in the grammar of formulas.
-#[derive(Debug, Drop, PartialEq, Eq)]
+#[derive(Drop, PartialEq, Eq)]
 pub enum Lexeme {
     Quantifier(Quantifier),
     In,
@@ -59,7 +59,7 @@ pub enum Lexeme {
 }
 
 /// A token, with the place of its first byte in the text.
-#[derive(Debug, Drop)]
+#[derive(Drop)]
 pub struct Token {
     pub lexeme: Lexeme,
     pub at: u32,

@@ -3,7 +3,7 @@ use crate::stacks::Stack;
 use viz_base::{Formula, List, Ring, Set, Sign, Summand, Term, Text};
 
 /// What stood around the inside of a parenthesis.
-#[derive(Debug, Drop)]
+#[derive(Drop)]
 pub struct Outside {
     pub level: u32,
     pub nested: u32,
@@ -13,7 +13,7 @@ pub struct Outside {
 }
 
 /// What stands inside of which parentheses, and what is read of that.
-#[derive(Debug, Drop)]
+#[derive(Drop)]
 pub struct Closed {
     /// None where no parenthesis is open.
     pub parens: Option<Outside>,
@@ -23,7 +23,7 @@ pub struct Closed {
 }
 
 /// What a formula that is being read belongs to.
-#[derive(Debug, Drop)]
+#[derive(Drop)]
 pub enum Frame {
     /// It is the body of a quantifier, over a set.
     Quantified(Quantifier, Set),
@@ -34,14 +34,14 @@ pub enum Frame {
 }
 
 /// The left side of a comparison.
-#[derive(Debug, Drop)]
+#[derive(Drop)]
 pub struct Compared {
     pub left: Term,
     pub sign: Sign,
 }
 
 /// What is read of a term, and of the comparison that it is in.
-#[derive(Debug, Drop)]
+#[derive(Drop)]
 pub struct Sum {
     /// Nothing on the left side.
     pub compared: Option<Compared>,
@@ -51,7 +51,7 @@ pub struct Sum {
 }
 
 /// How far an edge is read.
-#[derive(Clone, Copy, Debug, PartialEq, Eq)]
+#[derive(Clone, Copy, PartialEq, Eq)]
 pub enum Spot {
     /// Behind a name.
     Name(u32),
@@ -68,7 +68,7 @@ pub enum Spot {
 }
 
 /// Where in a formula reading stands.
-#[derive(Debug, Drop)]
+#[derive(Drop)]
 pub enum Place {
     /// Before a formula.
     Start,
@@ -109,7 +109,7 @@ pub enum Place {
 }
 
 /// What is read of a formula.
-#[derive(Debug, Drop)]
+#[derive(Drop)]
 pub struct Reading {
     /// What the formula that is being read belongs to, the innermost first.
     pub frames: Stack<Frame>,
@@ -129,7 +129,7 @@ pub struct Reading {
 }
 
 /// What is read of a formula, but for the place.
-#[derive(Debug, Drop)]
+#[derive(Drop)]
 pub struct Held {
     pub frames: Stack<Frame>,
     pub names: Stack<Text>,

@@ -6,7 +6,7 @@ use std::marker::Model;
 use viz_base::Text;
 
 /// A stack, which contracts see as the list of its items, the top first.
-#[derive(Debug, Drop)]
+#[derive(Drop)]
 pub struct Stack<T> {
     items: Vec<T>,
 }

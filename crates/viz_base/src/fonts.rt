@@ -3,7 +3,7 @@ ghost use Rattle.viz_base.specs.Fonts.{IsFont};
 use crate::{List, Text};
 
 /// The measures of a font, in units of its own em square.
-#[derive(Debug, Drop)]
+#[derive(Drop)]
 pub struct Font {
     /// The family name that style sheets call it by.
     pub name: Text,

@@ -1,7 +1,7 @@
 use crate::{Boxed, Kind, List};
 
 /// A formula of visual logic. A name is the number of quantifiers between it and its own.
-#[derive(Debug, Drop, PartialEq, Eq)]
+#[derive(Drop, PartialEq, Eq)]
 pub enum Formula {
     Const(bool),
     /// Each member of the set, in place of the innermost name, makes the formula true.
@@ -21,7 +21,7 @@ pub enum Formula {
 }
 
 /// A set of boxes of a rendering.
-#[derive(Debug, Drop, PartialEq, Eq)]
+#[derive(Drop, PartialEq, Eq)]
 pub enum Set {
     /// Those of a kind.
     Of(Kind),
@@ -32,7 +32,7 @@ pub enum Set {
 }
 
 /// A comparison.
-#[derive(Clone, Copy, Debug, PartialEq, Eq)]
+#[derive(Clone, Copy, PartialEq, Eq)]
 pub enum Sign {
     Lt,
     Le,
@@ -43,20 +43,20 @@ pub enum Sign {
 }
 
 /// A sum, in units of 1/64 px.
-#[derive(Debug, Drop, PartialEq, Eq)]
+#[derive(Drop, PartialEq, Eq)]
 pub struct Term {
     pub parts: List<Summand>,
 }
 
 /// A multiple of an edge.
-#[derive(Clone, Copy, Debug, PartialEq, Eq)]
+#[derive(Clone, Copy, PartialEq, Eq)]
 pub struct Summand {
     pub times: i64,
     pub edge: Edge,
 }
 
 /// What a term may name.
-#[derive(Clone, Copy, Debug, PartialEq, Eq)]
+#[derive(Clone, Copy, PartialEq, Eq)]
 pub enum Edge {
     /// One unit.
     One,
@@ -69,7 +69,7 @@ pub enum Edge {
 }
 
 /// One of a box's rectangles (CSS 2.1, 8.1).
-#[derive(Clone, Copy, Debug, PartialEq, Eq)]
+#[derive(Clone, Copy, PartialEq, Eq)]
 pub enum Ring {
     Margin,
     Border,
@@ -78,7 +78,7 @@ pub enum Ring {
 }
 
 /// One of a rectangle's edges.
-#[derive(Clone, Copy, Debug, PartialEq, Eq)]
+#[derive(Clone, Copy, PartialEq, Eq)]
 pub enum Face {
     Left,
     Top,

@@ -3,7 +3,7 @@ ghost use Rattle.viz_base.specs.Jobs.{IsJob};
 use crate::{BoxTree, Formula, Rect};
 
 /// A job that was read: a page's boxes, the worlds it is to be right at, and the assertion.
-#[derive(Debug, Drop)]
+#[derive(Drop)]
 pub struct Job {
     /// SHA-256 of the job file.
     pub digest: [u8; 32],

@@ -1,28 +1,28 @@
 use crate::{List, Placed};
 
 /// The outer size of a box, in units of 1/64 px.
-#[derive(Clone, Copy, Debug, PartialEq, Eq)]
+#[derive(Clone, Copy)]
 pub struct Extent<N> {
     pub width: N,
     pub height: N,
 }
 
 /// The stretch between two vertical edges, in units of 1/64 px.
-#[derive(Clone, Copy, Debug, PartialEq, Eq)]
+#[derive(Clone, Copy)]
 pub struct Band<N> {
     pub left: N,
     pub right: N,
 }
 
 /// The place of a box's upper left corner, in units of 1/64 px.
-#[derive(Clone, Copy, Debug, PartialEq, Eq)]
+#[derive(Clone, Copy)]
 pub struct Spot<N> {
     pub x: N,
     pub y: N,
 }
 
 /// The used horizontal terms of a box, in units of 1/64 px (CSS 2.1, 10.3.3).
-#[derive(Clone, Copy, Debug, PartialEq, Eq)]
+#[derive(Clone, Copy)]
 pub struct Widths<N> {
     pub margin_left: N,
     pub border_left: N,
@@ -34,7 +34,7 @@ pub struct Widths<N> {
 }
 
 /// The preferred widths of a box, in units of 1/64 px (CSS 2.1, 10.3.5).
-#[derive(Clone, Copy, Debug, PartialEq, Eq)]
+#[derive(Clone, Copy)]
 pub struct Preferred<N> {
     /// The preferred minimum width.
     pub least: N,
@@ -43,7 +43,7 @@ pub struct Preferred<N> {
 }
 
 /// The outer size of a float or of an atomic inline-level box, in units of 1/64 px.
-#[derive(Clone, Copy, Debug, PartialEq, Eq)]
+#[derive(Clone, Copy)]
 pub struct Inner<N> {
     /// The place of the box in its tree.
     pub b: u32,
@@ -55,7 +55,7 @@ pub struct Inner<N> {
 }
 
 /// What a block container's lines add to the rendering (CSS 2.1, 9.4.2).
-#[derive(Clone, Copy, Debug, PartialEq, Eq)]
+#[derive(Clone, Copy)]
 pub enum Entry<N> {
     /// A line, or the piece of an inline box or of a text on one.
     Here(Placed<N>),
@@ -65,7 +65,7 @@ pub enum Entry<N> {
 }
 
 /// The lines of a block container, in units of 1/64 px (CSS 2.1, 9.4.2).
-#[derive(Debug, Drop)]
+#[derive(Drop)]
 pub struct Lines<N> {
     /// Each line, then what is on it in document order; floats where no line exists too.
     pub entries: List<Entry<N>>,
@@ -76,7 +76,7 @@ pub struct Lines<N> {
 }
 
 /// Where the margins that adjoin a box's top end (CSS 2.1, 8.3.1).
-#[derive(Clone, Copy, Debug, PartialEq, Eq)]
+#[derive(Clone, Copy, PartialEq, Eq)]
 pub enum LeadEnd {
     /// The box's own bottom margin adjoins them.
     Through,
@@ -87,7 +87,7 @@ pub enum LeadEnd {
 }
 
 /// A float between margins that adjoin (CSS 2.1, 8.3.1, 9.5).
-#[derive(Clone, Copy, Debug, PartialEq, Eq)]
+#[derive(Clone, Copy)]
 pub struct Waiting<N> {
     /// The place of the float in its tree.
     pub at: u32,
@@ -96,7 +96,7 @@ pub struct Waiting<N> {
 }
 
 /// The margins that adjoin a box's top, with the floats between them (CSS 2.1, 8.3.1).
-#[derive(Debug, Drop)]
+#[derive(Drop)]
 pub struct Lead<N> {
     pub end: LeadEnd,
     /// The containing block of the box at which they end.

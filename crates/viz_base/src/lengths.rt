@@ -1,5 +1,5 @@
 /// A computed length (CSS 2.1, 4.3.2).
-#[derive(Clone, Copy, Debug, PartialEq, Eq)]
+#[derive(Clone, Copy, Debug)]
 pub enum Length {
     /// `auto`.
     Auto,
@@ -12,7 +12,7 @@ pub enum Length {
 }
 
 /// A value for each side of a box.
-#[derive(Clone, Copy, Debug, PartialEq, Eq)]
+#[derive(Clone, Copy)]
 pub struct Sides<T> {
     pub top: T,
     pub right: T,
@@ -21,7 +21,7 @@ pub struct Sides<T> {
 }
 
 /// How a node's font size comes about (CSS 2.1, 15.7).
-#[derive(Clone, Copy, Debug, PartialEq, Eq)]
+#[derive(Clone, Copy)]
 pub enum Size {
     /// The parent's.
     Same,
@@ -34,7 +34,7 @@ pub enum Size {
 }
 
 /// How a node's line height comes about (CSS 2.1, 10.8.1).
-#[derive(Clone, Copy, Debug, PartialEq, Eq)]
+#[derive(Clone, Copy)]
 pub enum LineHeight {
     /// A fraction of the node's own font size.
     Own { num: i64, den: u64 },
@@ -45,7 +45,7 @@ pub enum LineHeight {
 }
 
 /// How an inline-level box stands to its parent's baseline (CSS 2.1, 10.8.1).
-#[derive(Clone, Copy, Debug, PartialEq, Eq)]
+#[derive(Clone, Copy, Debug)]
 pub enum Valign {
     Baseline,
     Sub,

@@ -1,14 +1,14 @@
 use crate::{List, Text};
 
 /// An element or a text, with the place of the element that it is in.
-#[derive(Debug, Drop)]
+#[derive(Drop)]
 pub struct Node {
     pub parent: Option<u32>,
     pub body: Body,
 }
 
 /// What a node is.
-#[derive(Debug, Drop)]
+#[derive(Drop)]
 pub enum Body {
     Element(Element),
     /// A text, with its characters.
@@ -16,7 +16,7 @@ pub enum Body {
 }
 
 /// An element. Its tag and the names of its attributes are in lower case.
-#[derive(Debug, Drop)]
+#[derive(Drop)]
 pub struct Element {
     pub tag: Text,
     pub attrs: List<Attr>,
@@ -25,7 +25,7 @@ pub struct Element {
 }
 
 /// An attribute.
-#[derive(Debug, Drop)]
+#[derive(Drop)]
 pub struct Attr {
     pub name: Text,
     pub value: Text,

@@ -1,7 +1,7 @@
 use crate::{Font, List, Page, Rect, Text};
 
 /// What a job file says, within all limits, before its style sheets and its assertion are read.
-#[derive(Debug, Drop)]
+#[derive(Drop)]
 pub struct RawJob {
     /// The worlds.
     pub range: Rect,

@@ -1,7 +1,7 @@
 use crate::{Kind, List};
 
 /// The edges of a rectangle, in units of 1/64 px from the viewport's top left corner.
-#[derive(Clone, Copy, Debug, PartialEq, Eq)]
+#[derive(Clone, Copy)]
 pub struct Quad<N> {
     pub left: N,
     pub top: N,
@@ -10,7 +10,7 @@ pub struct Quad<N> {
 }
 
 /// A box with its four rectangles (CSS 2.1, 8.1).
-#[derive(Clone, Copy, Debug, PartialEq, Eq)]
+#[derive(Clone, Copy)]
 pub struct Placed<N> {
     pub kind: Kind,
     /// The node that it comes from, or the nearest element around it.
@@ -22,7 +22,7 @@ pub struct Placed<N> {
 }
 
 /// The boxes of a page after layout, in document order, a container before its content.
-#[derive(Debug, Drop)]
+#[derive(Drop)]
 pub struct Rendering<N> {
     pub boxes: List<Placed<N>>,
 }

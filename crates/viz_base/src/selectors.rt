@@ -14,7 +14,7 @@ pub enum Join {
 }
 
 /// A simple selector: an element's tag, any where there is none, and what else is asked of it (CSS 2.1, 5.2).
-#[derive(Debug, Drop, PartialEq, Eq)]
+#[derive(Drop)]
 pub struct Compound {
     pub tag: Option<Text>,
     pub tests: List<Test>,
@@ -22,7 +22,7 @@ pub struct Compound {
 
 /// What a simple selector asks of an element beside its tag. Of two texts the first is an attribute's name
 /// and the second its value.
-#[derive(Debug, Drop, PartialEq, Eq)]
+#[derive(Drop)]
 pub enum Test {
     /// `#id` (CSS 2.1, 5.9).
     Id(Text),
@@ -46,7 +46,7 @@ pub enum Test {
 
 /// Specificity: whether the declaration is a style attribute's, and the counts of ids, of attributes, classes
 /// and pseudo-classes, and of tags (CSS 2.1, 6.4.3).
-#[derive(Clone, Copy, Debug, PartialEq, Eq)]
+#[derive(Clone, Copy)]
 pub struct Spec {
     pub style: u32,
     pub ids: u32,

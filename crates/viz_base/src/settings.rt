@@ -45,7 +45,7 @@ pub enum Prop {
 }
 
 /// The value of a declaration.
-#[derive(Debug, Drop, PartialEq, Eq)]
+#[derive(Drop)]
 pub enum Value {
     /// `inherit` (CSS 2.1, 6.2.1).
     Inherit,
@@ -64,14 +64,14 @@ pub enum Value {
 }
 
 /// A property with its value.
-#[derive(Debug, Drop, PartialEq, Eq)]
+#[derive(Drop)]
 pub struct Setting {
     pub prop: Prop,
     pub value: Value,
 }
 
 /// The settings that win for each node, in the order of the properties (CSS 2.1, 6.4).
-#[derive(Debug, Drop, PartialEq, Eq)]
+#[derive(Drop)]
 pub struct Cascaded {
     pub winners: List<List<Setting>>,
 }

@@ -1,14 +1,14 @@
 use crate::{List, Text};
 
 /// The rulesets of a style sheet that apply to the medium, in order (CSS 2.1, 4.1).
-#[derive(Debug, Drop, PartialEq, Eq)]
+#[derive(Drop)]
 pub struct Sheet {
     pub rules: List<Rule>,
 }
 
 /// A ruleset: the slice of its selector, in bytes of the sheet, and its declarations in order
 /// (CSS 2.1, 4.1.7).
-#[derive(Debug, Drop, PartialEq, Eq)]
+#[derive(Drop)]
 pub struct Rule {
     pub at: u32,
     pub len: u32,
@@ -17,7 +17,7 @@ pub struct Rule {
 
 /// A declaration: the property's name without escapes, the slice of its value, in bytes of the
 /// text, and whether it is `!important` (CSS 2.1, 4.1.8 and 6.4.2).
-#[derive(Debug, Drop, PartialEq, Eq)]
+#[derive(Drop)]
 pub struct Decl {
     pub name: Text,
     pub at: u32,

@@ -38,7 +38,7 @@ pub enum Align {
 }
 
 /// The computed values of a node, as far as layout needs them (CSS 2.1, 6.1.2).
-#[derive(Debug, Drop)]
+#[derive(Drop)]
 pub struct Style {
     pub display: Display,
     pub float: Option<Side>,

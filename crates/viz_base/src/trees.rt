@@ -26,7 +26,7 @@ pub enum Kind {
 }
 
 /// A box of a page before layout.
-#[derive(Debug, Drop)]
+#[derive(Drop)]
 pub struct BoxNode {
     pub kind: Kind,
     /// The node that it comes from, or the nearest element around it.
@@ -46,7 +46,7 @@ pub struct BoxNode {
 }
 
 /// The boxes of a page with all that layout needs of its nodes and fonts.
-#[derive(Debug, Drop)]
+#[derive(Drop)]
 pub struct BoxTree {
     /// The boxes; the first is the root's.
     pub boxes: List<BoxNode>,

@@ -11,7 +11,7 @@ pub struct World {
 }
 
 /// One of the numbers that a world consists of.
-#[derive(Clone, Copy, Debug, PartialEq, Eq)]
+#[derive(Clone, Copy, PartialEq, Eq)]
 pub enum Axis {
     /// The viewport's width.
     Width,
@@ -20,7 +20,7 @@ pub enum Axis {
 }
 
 /// The whole numbers from one to another, both included.
-#[derive(Clone, Copy, Debug, PartialEq, Eq)]
+#[derive(Clone, Copy)]
 pub struct Span {
     /// The first of them.
     pub least: u32,
@@ -29,7 +29,7 @@ pub struct Span {
 }
 
 /// A rectangle of worlds, both ends of both ranges included.
-#[derive(Clone, Copy, Debug, PartialEq, Eq)]
+#[derive(Clone, Copy)]
 pub struct Rect {
     /// The least width in pixels.
     pub wl: u32,

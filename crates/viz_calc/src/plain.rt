@@ -11,7 +11,7 @@ use crate::calc::{Calc, Halt};
 use viz_base::World;
 
 /// Numbers as they are at one world, in 1/64 px, each at most 2^100 in size.
-#[derive(Clone, Copy, Debug)]
+#[derive(Clone, Copy)]
 pub struct Plain {
     /// The world, the only one that is open.
     pub world: World,

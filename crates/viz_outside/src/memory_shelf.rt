@@ -9,7 +9,7 @@ use std::marker::Model;
 use viz_base::{List, Text, Text8};
 
 /// Files in memory. Calls of chosen numbers, counted from 0, fail.
-#[derive(Debug, Drop)]
+#[derive(Drop)]
 pub struct MemShelf {
     files: List<(Text, Text8)>,
     fails: List<u32>,

@@ -9,7 +9,7 @@ use std::marker::Model;
 use viz_base::{List, Mem};
 
 /// Bytes in memory, with room for a fixed number. Calls of chosen numbers, counted from 0, fail.
-#[derive(Debug, Drop)]
+#[derive(Drop)]
 pub struct MemSink {
     bytes: Vec<u8>,
     most: usize,

@@ -8,7 +8,7 @@ use thiserror::Error;
 use viz_base::Text8;
 
 /// What a load gives of a file.
-#[derive(Debug, Drop, PartialEq, Eq)]
+#[derive(Drop, PartialEq, Eq)]
 pub enum Loaded {
     /// All its bytes, which are at most as many as were asked for.
     Whole(Text8),

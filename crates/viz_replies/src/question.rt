@@ -5,7 +5,7 @@ use page_gen::SECTIONS_MOST;
 use viz_base::{Text8, World};
 
 /// A world of a width and a default font size at which pages can be laid out.
-#[derive(Clone, Copy, Debug)]
+#[derive(Clone, Copy)]
 pub struct Screen {
     /// The width and the default font size.
     pub world: World,
@@ -14,7 +14,7 @@ pub struct Screen {
 }
 
 /// What is asked about a job.
-#[derive(Debug, Drop)]
+#[derive(Drop)]
 pub enum Question {
     /// The rendering of its page at a world.
     Lay(Screen),
@@ -25,7 +25,7 @@ pub enum Question {
 }
 
 /// How many sections a generated job has.
-#[derive(Clone, Copy, Debug)]
+#[derive(Clone, Copy)]
 pub struct Sections {
     pub count: u32,
     ghost few: { count ≤ sections_most },

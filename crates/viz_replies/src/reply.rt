@@ -19,7 +19,7 @@ pub enum Answer {
 }
 
 /// An answer with the whole output that goes with it.
-#[derive(Debug, Drop)]
+#[derive(Drop)]
 pub struct Reply {
     pub answer: Answer,
     pub output: Vec<u8>,

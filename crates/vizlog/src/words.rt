@@ -7,7 +7,7 @@ use viz_base::World;
 use viz_replies::{Screen, Sections};
 
 /// What the words ask for, with the names of its files.
-#[derive(Clone, Copy, Debug)]
+#[derive(Clone, Copy)]
 pub enum Command<'a> {
     /// The rendering of a job's page at a world.
     Lay {
