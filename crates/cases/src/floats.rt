@@ -99,19 +99,24 @@ pub fn place(alloc: Global, case: &Value) -> Result<String, Fault> {
     spot_text(alloc, &spot)
 }
 
+/// The place of the next float.
+fn place_next(alloc: Global, floats: &mut Floats<i128>, value: &Value) -> Result<String, Fault> {
+    let spot = place_one(
+        floats,
+        text_at(value, 0)?,
+        at(value, 1)?,
+        at(value, 2)?,
+        units_at(value, 3)?,
+    )?;
+    spot_text(alloc, &spot)
+}
+
 /// The places of floats that come one after another.
 pub fn place_all(alloc: Global, case: &Value) -> Result<String, Fault> {
     let mut floats = Floats::new(alloc);
     let mut spots = Vec::new(alloc);
     for value in list_at(case, 1)? {
-        let spot = place_one(
-            &mut floats,
-            text_at(value, 0)?,
-            at(value, 1)?,
-            at(value, 2)?,
-            units_at(value, 3)?,
-        )?;
-        spots.push(spot_text(alloc, &spot)?)?;
+        spots.push(place_next(alloc, &mut floats, value)?)?;
     }
     Ok(listed(alloc, spots.as_slice())?)
 }
@@ -128,8 +133,9 @@ pub fn band(alloc: Global, case: &Value) -> Result<String, Fault> {
 
 /// The lowest bottom of the floats that `clear` looks at, in a copy of a list, or null.
 pub fn bottom(alloc: Global, case: &Value) -> Result<String, Fault> {
+    let clear = clear(text_at(case, 2)?)?;
     let floats = floats_at(alloc, case, 1)?.copy(&mut calc())?;
-    match floats.bottom(&mut calc(), clear(text_at(case, 2)?)?)? {
+    match floats.bottom(&mut calc(), clear)? {
         Some(bottom) => Ok(format!(in alloc; "{bottom}")?),
         None => Ok(String::from_str(alloc, "null")?),
     }

@@ -109,6 +109,50 @@ fn popped(alloc: Global, stack: &mut Vec<Formula>) -> Result<Boxed<Formula>, Fau
     Ok(Boxed::new(alloc, top)?)
 }
 
+/// The two latest formulas, the earlier one first.
+fn two(alloc: Global, stack: &mut Vec<Formula>) -> Result<(Boxed<Formula>, Boxed<Formula>), Fault> {
+    let second = popped(alloc, stack)?;
+    Ok((popped(alloc, stack)?, second))
+}
+
+fn constant(step: &Value) -> Result<Formula, Fault> {
+    Ok(Formula::Const(at(step, 1)?.as_bool().ok_or(Fault::NoCase)?))
+}
+
+/// The two variables of a step.
+fn pair(step: &Value) -> Result<(u32, u32), Fault> {
+    Ok((number_at(step, 1)?, number_at(step, 2)?))
+}
+
+fn comparison(alloc: Global, step: &Value) -> Result<Formula, Fault> {
+    let sign = sign(text_at(step, 2)?)?;
+    let first = term(alloc, list_at(step, 1)?)?;
+    let second = term(alloc, list_at(step, 3)?)?;
+    Ok(Formula::Cmp(first, sign, second))
+}
+
+/// The set of a quantifier and the formula in it.
+fn quantified(
+    alloc: Global,
+    page: &Page,
+    step: &Value,
+    stack: &mut Vec<Formula>,
+) -> Result<(Set, Boxed<Formula>), Fault> {
+    let set = set(alloc, page, at(step, 1)?)?;
+    Ok((set, popped(alloc, stack)?))
+}
+
+/// What a step of this name makes of two formulas.
+fn joined(alloc: Global, name: &str, stack: &mut Vec<Formula>) -> Result<Formula, Fault> {
+    let (first, second) = two(alloc, stack)?;
+    match name {
+        "Implies" => Ok(Formula::Implies(first, second)),
+        "Or" => Ok(Formula::Or(first, second)),
+        "And" => Ok(Formula::And(first, second)),
+        _ => Err(Fault::NoCase),
+    }
+}
+
 /// What a step makes of the formulas that the earlier steps made.
 fn made(
     alloc: Global,
@@ -116,29 +160,28 @@ fn made(
     step: &Value,
     stack: &mut Vec<Formula>,
 ) -> Result<Formula, Fault> {
-    Ok(match text_at(step, 0)? {
-        "Const" => Formula::Const(at(step, 1)?.as_bool().ok_or(Fault::NoCase)?),
-        "Overlap" => Formula::Overlap(number_at(step, 1)?, number_at(step, 2)?),
-        "Same" => Formula::Same(number_at(step, 1)?, number_at(step, 2)?),
-        "Cmp" => Formula::Cmp(
-            term(alloc, list_at(step, 1)?)?,
-            sign(text_at(step, 2)?)?,
-            term(alloc, list_at(step, 3)?)?,
-        ),
-        "Not" => Formula::Not(popped(alloc, stack)?),
-        "Forall" => Formula::Forall(set(alloc, page, at(step, 1)?)?, popped(alloc, stack)?),
-        "Exists" => Formula::Exists(set(alloc, page, at(step, 1)?)?, popped(alloc, stack)?),
-        name => {
-            let second = popped(alloc, stack)?;
-            let first = popped(alloc, stack)?;
-            match name {
-                "Implies" => Formula::Implies(first, second),
-                "Or" => Formula::Or(first, second),
-                "And" => Formula::And(first, second),
-                _ => return Err(Fault::NoCase),
-            }
+    match text_at(step, 0)? {
+        "Const" => constant(step),
+        "Overlap" => {
+            let (first, second) = pair(step)?;
+            Ok(Formula::Overlap(first, second))
         }
-    })
+        "Same" => {
+            let (first, second) = pair(step)?;
+            Ok(Formula::Same(first, second))
+        }
+        "Cmp" => comparison(alloc, step),
+        "Not" => Ok(Formula::Not(popped(alloc, stack)?)),
+        "Forall" => {
+            let (set, inner) = quantified(alloc, page, step, stack)?;
+            Ok(Formula::Forall(set, inner))
+        }
+        "Exists" => {
+            let (set, inner) = quantified(alloc, page, step, stack)?;
+            Ok(Formula::Exists(set, inner))
+        }
+        name => joined(alloc, name, stack),
+    }
 }
 
 /// The formula that steps make, a part before what it is a part of.
@@ -151,17 +194,35 @@ pub fn formula(alloc: Global, page: &Page, steps: &[Value]) -> Result<Formula, F
     stack.pop().ok_or(Fault::NoCase)
 }
 
+/// Why a text spells no formula, and where.
+fn refusal(alloc: Global, fault: FormulaFault) -> Result<String, Fault> {
+    let (name, at) = match fault {
+        FormulaFault::Bad(at) => ("Bad", at),
+        FormulaFault::Unbound(at) => ("Unbound", at),
+        FormulaFault::TooDeep(at) => ("TooDeep", at),
+        FormulaFault::Mem => return Err(Fault::Mem),
+    };
+    Ok(format!(in alloc; "\"{name} {at}\"")?)
+}
+
+/// Whether a formula is the one that steps make.
+fn is_made(alloc: Global, page: &Page, read: &Formula, steps: &[Value]) -> Result<bool, Fault> {
+    Ok(*read == formula(alloc, page, steps)?)
+}
+
+/// What is read of the text of a case on its page.
+fn told(alloc: Global, page: &Page, case: &Value) -> Result<String, Fault> {
+    match read_formula(alloc, text_at(case, 2)?, page) {
+        Ok(read) => {
+            let same = is_made(alloc, page, &read, list_at(case, 3)?)?;
+            Ok(format!(in alloc; "{same}")?)
+        }
+        Err(fault) => refusal(alloc, fault),
+    }
+}
+
 /// Whether the text of a case spells the formula that its steps make, of its page, or why it spells none.
 pub fn answer(alloc: Global, case: &Value) -> Result<String, Fault> {
     let page = page_at(alloc, case, 1)?;
-    match read_formula(alloc, text_at(case, 2)?, &page) {
-        Ok(read) => {
-            let same = read == formula(alloc, &page, list_at(case, 3)?)?;
-            Ok(format!(in alloc; "{same}")?)
-        }
-        Err(FormulaFault::Mem) => Err(Fault::Mem),
-        Err(FormulaFault::Bad(at)) => Ok(format!(in alloc; "\"Bad {at}\"")?),
-        Err(FormulaFault::Unbound(at)) => Ok(format!(in alloc; "\"Unbound {at}\"")?),
-        Err(FormulaFault::TooDeep(at)) => Ok(format!(in alloc; "\"TooDeep {at}\"")?),
-    }
+    told(alloc, &page, case)
 }

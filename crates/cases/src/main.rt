@@ -58,25 +58,28 @@ fn answer_below(alloc: Global, name: &str, case: &Value) -> Result<String, Fault
     }
 }
 
+/// The answer to a case of a style sheet, of a formula or of a whole job.
+fn answer_above(alloc: Global, name: &str, case: &Value) -> Result<String, Fault> {
+    match name {
+        "decimals" => decimal(alloc, text_at(case, 1)?),
+        "tokens" => tokens::answer(alloc, text_at(case, 1)?),
+        "sheets" => sheets::sheet(alloc, text_at(case, 1)?),
+        "declarations" => sheets::declarations(alloc, text_at(case, 1)?),
+        "selectors" => selectors::group(alloc, text_at(case, 1)?),
+        "matches" => selectors::matched(alloc, case),
+        "values" => values::answer(alloc, text_at(case, 1)?, text_at(case, 2)?),
+        "cascade" => cascades::answer(alloc, case),
+        "formulas" => formulas::answer(alloc, case),
+        "truths" => truths::answer(alloc, case),
+        "lay" | "check" | "prove" | "gen" | "trial" => replies::answered(alloc, name, case),
+        _ => answer_below(alloc, name, case),
+    }
+}
+
 /// The answer to a case: an array of the call's name and what it is called with.
 fn answer(alloc: Global, line: &str) -> Result<String, Fault> {
     let case = Value::from_str(alloc, line)?;
-    match text_at(&case, 0)? {
-        "decimals" => decimal(alloc, text_at(&case, 1)?),
-        "tokens" => tokens::answer(alloc, text_at(&case, 1)?),
-        "sheets" => sheets::sheet(alloc, text_at(&case, 1)?),
-        "declarations" => sheets::declarations(alloc, text_at(&case, 1)?),
-        "selectors" => selectors::group(alloc, text_at(&case, 1)?),
-        "matches" => selectors::matched(alloc, &case),
-        "values" => values::answer(alloc, text_at(&case, 1)?, text_at(&case, 2)?),
-        "cascade" => cascades::answer(alloc, &case),
-        "formulas" => formulas::answer(alloc, &case),
-        "truths" => truths::answer(alloc, &case),
-        name @ ("lay" | "check" | "prove" | "gen" | "trial") => replies::answered(
-            alloc, name, &case,
-        ),
-        name => answer_below(alloc, name, &case),
-    }
+    answer_above(alloc, text_at(&case, 0)?, &case)
 }
 
 fn main(rt: HostRuntime) -> Result<(), Fault> {

@@ -6,7 +6,7 @@ use crate::pages::page_at;
 use css_select::{SelFault, matches, read_selector, specificity};
 use serde_json::Value;
 use std::alloc::Global;
-use viz_base::{Compound, List, Page, Selector, Test};
+use viz_base::{Compound, Join, List, Page, Selector, Test};
 
 /// A test with its texts.
 fn named(alloc: Global, name: &str, texts: &[&str]) -> Result<String, Fault> {
@@ -32,35 +32,52 @@ fn test(alloc: Global, test: &Test) -> Result<String, Fault> {
     }
 }
 
+fn tests(alloc: Global, tests: &[Test]) -> Result<String, Fault> {
+    let mut found = Vec::new(alloc);
+    for one in tests {
+        found.push(test(alloc, one)?)?;
+    }
+    Ok(listed(alloc, found.as_slice())?)
+}
+
 /// A compound: its tag or null, and its tests.
 fn compound(alloc: Global, compound: &Compound) -> Result<String, Fault> {
+    let tests = tests(alloc, compound.tests.as_slice())?;
     let tag = match &compound.tag {
         Some(tag) => quoted(alloc, tag.as_str())?,
         None => String::from_str(alloc, "null")?,
     };
-    let mut tests = Vec::new(alloc);
-    for one in compound.tests.as_slice() {
-        tests.push(test(alloc, one)?)?;
-    }
-    let tests = listed(alloc, tests.as_slice())?;
     Ok(format!(in alloc; "{tag},{tests}")?)
+}
+
+/// Compounds, each with how it is joined.
+fn compounds(alloc: Global, parts: &[(Join, Compound)]) -> Result<String, Fault> {
+    let mut found = Vec::new(alloc);
+    for (join, one) in parts {
+        let one = compound(alloc, one)?;
+        found.push(format!(in alloc; "[\"{join:?}\",{one}]")?)?;
+    }
+    Ok(listed(alloc, found.as_slice())?)
 }
 
 /// A selector: its compounds, each with how it is joined, and its specificity.
 fn selector(alloc: Global, selector: &Selector) -> Result<String, Fault>
     requires { IsCountable selector.now.parts }
 {
-    let mut parts = Vec::new(alloc);
-    for (join, one) in selector.parts.as_slice() {
-        let one = compound(alloc, one)?;
-        parts.push(format!(in alloc; "[\"{join:?}\",{one}]")?)?;
-    }
-    let parts = listed(alloc, parts.as_slice())?;
+    let parts = compounds(alloc, selector.parts.as_slice())?;
     let spec = specificity(selector);
     Ok(format!(in alloc;
         "[{parts},[{},{},{},{}]]",
         spec.style, spec.ids, spec.attrs, spec.types
     )?)
+}
+
+fn refusal(alloc: Global, fault: SelFault) -> Result<String, Fault> {
+    match fault {
+        SelFault::Bad(at) => Ok(format!(in alloc; "\"Bad {at}\"")?),
+        SelFault::Unsupported(at) => Ok(format!(in alloc; "\"Unsupported {at}\"")?),
+        SelFault::Mem => Err(Fault::Mem),
+    }
 }
 
 /// The group of selectors that a text spells, or why it is none.
@@ -73,9 +90,7 @@ pub fn group(alloc: Global, text: &str) -> Result<String, Fault> {
             }
             Ok(listed(alloc, found.as_slice())?)
         }
-        Err(SelFault::Bad(at)) => Ok(format!(in alloc; "\"Bad {at}\"")?),
-        Err(SelFault::Unsupported(at)) => Ok(format!(in alloc; "\"Unsupported {at}\"")?),
-        Err(SelFault::Mem) => Err(Fault::Mem),
+        Err(fault) => refusal(alloc, fault),
     }
 }
 
@@ -111,14 +126,18 @@ pub fn numbers(alloc: Global, numbers: &[u32]) -> Result<String, Fault> {
     Ok(listed(alloc, found.as_slice())?)
 }
 
+/// The nodes of the page that a group of selectors matches, as a list.
+fn matches_of(alloc: Global, page: &Page, text: &Value) -> Result<String, Fault> {
+    let nodes = matched_nodes(alloc, page, text.as_str().ok_or(Fault::NoCase)?)?;
+    numbers(alloc, nodes.as_slice())
+}
+
 /// For each of the groups of selectors the nodes of the page that it matches.
 pub fn matched(alloc: Global, case: &Value) -> Result<String, Fault> {
     let page = page_at(alloc, case, 1)?;
     let mut found = Vec::new(alloc);
     for text in list_at(case, 2)? {
-        let text = text.as_str().ok_or(Fault::NoCase)?;
-        let nodes = matched_nodes(alloc, &page, text)?;
-        found.push(numbers(alloc, nodes.as_slice())?)?;
+        found.push(matches_of(alloc, &page, text)?)?;
     }
     Ok(listed(alloc, found.as_slice())?)
 }

@@ -24,14 +24,20 @@ fn ruled(alloc: Global, rules: &[Rule]) -> Result<String, Fault> {
     Ok(listed(alloc, found.as_slice())?)
 }
 
+fn refusal(alloc: Global, fault: SheetFault) -> Result<String, Fault> {
+    match fault {
+        SheetFault::Import(at) => Ok(format!(in alloc; "\"Import {at}\"")?),
+        SheetFault::MediaQuery(at) => Ok(format!(in alloc; "\"MediaQuery {at}\"")?),
+        SheetFault::TooManyRules => Ok(String::from_str(alloc, "\"TooManyRules\"")?),
+        SheetFault::Mem => Err(Fault::Mem),
+    }
+}
+
 /// The rulesets of a sheet, or what refuses it.
 pub fn sheet(alloc: Global, text: &str) -> Result<String, Fault> {
     match read_sheet(alloc, text) {
         Ok(sheet) => ruled(alloc, sheet.rules.as_slice()),
-        Err(SheetFault::Import(at)) => Ok(format!(in alloc; "\"Import {at}\"")?),
-        Err(SheetFault::MediaQuery(at)) => Ok(format!(in alloc; "\"MediaQuery {at}\"")?),
-        Err(SheetFault::TooManyRules) => Ok(String::from_str(alloc, "\"TooManyRules\"")?),
-        Err(SheetFault::Mem) => Err(Fault::Mem),
+        Err(fault) => refusal(alloc, fault),
     }
 }
 

@@ -69,15 +69,24 @@ fn placing(alloc: Global, style: &Style) -> Result<String, AllocError> {
     format!(in alloc; "\"{display:?}\",{float},\"{clear:?}\",{clips}")
 }
 
+/// A size with its minimum and its maximum.
+fn bounded(
+    alloc: Global,
+    size: &Length,
+    least: &Length,
+    most: &Option<Length>,
+) -> Result<String, AllocError> {
+    let size = length(alloc, size)?;
+    let least = length(alloc, least)?;
+    let most = maximum(alloc, most)?;
+    format!(in alloc; "{size},{least},{most}")
+}
+
 /// The sizes of a style with their minima and maxima.
 fn extents(alloc: Global, style: &Style) -> Result<String, AllocError> {
-    let width = length(alloc, &style.width)?;
-    let min_width = length(alloc, &style.min_width)?;
-    let max_width = maximum(alloc, &style.max_width)?;
-    let height = length(alloc, &style.height)?;
-    let min_height = length(alloc, &style.min_height)?;
-    let max_height = maximum(alloc, &style.max_height)?;
-    format!(in alloc; "{width},{min_width},{max_width},{height},{min_height},{max_height}")
+    let width = bounded(alloc, &style.width, &style.min_width, &style.max_width)?;
+    let height = bounded(alloc, &style.height, &style.min_height, &style.max_height)?;
+    format!(in alloc; "{width},{height}")
 }
 
 /// The margins, paddings and borders of a style.
