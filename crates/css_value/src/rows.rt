@@ -92,12 +92,12 @@ const EMPTY: TableRow = TableRow {
 };
 
 /// The row of a property in the table.
-fn table(prop: Prop) -> TableRow
-    ensures is { filled prop result ≡ row prop }
-    ensures few { length result.words.now < 256 }
+fn table(prop: Prop) -> &'static TableRow
+    ensures is { filled prop result.now ≡ row prop }
+    ensures few { length result.now.words.now < 256 }
 {
     match prop {
-        Prop::Display => TableRow {
+        Prop::Display => &TableRow {
             name: "display",
             words: &["none", "block", "inline", "inline-block", "list-item"],
             refused: &[
@@ -114,182 +114,182 @@ fn table(prop: Prop) -> TableRow
             ],
             ..EMPTY
         },
-        Prop::Position => TableRow {
+        Prop::Position => &TableRow {
             name: "position",
             words: &["static"],
             refused: &["relative", "absolute", "fixed"],
             ..EMPTY
         },
-        Prop::Float => TableRow {
+        Prop::Float => &TableRow {
             name: "float",
             words: &["none", "left", "right"],
             ..EMPTY
         },
-        Prop::Clear => TableRow {
+        Prop::Clear => &TableRow {
             name: "clear",
             words: &["none", "left", "right", "both"],
             ..EMPTY
         },
-        Prop::Overflow => TableRow {
+        Prop::Overflow => &TableRow {
             name: "overflow",
             words: &["visible", "hidden", "scroll", "auto"],
             ..EMPTY
         },
-        Prop::Direction => TableRow {
+        Prop::Direction => &TableRow {
             name: "direction",
             words: &["ltr"],
             refused: &["rtl"],
             ..EMPTY
         },
-        Prop::Width => TableRow {
+        Prop::Width => &TableRow {
             name: "width",
             words: &["auto"],
             lengths: Takes::NotNegative,
             percentages: Takes::NotNegative,
             ..EMPTY
         },
-        Prop::Height => TableRow {
+        Prop::Height => &TableRow {
             name: "height",
             words: &["auto"],
             lengths: Takes::NotNegative,
             percentages: Takes::NotNegative,
             ..EMPTY
         },
-        Prop::MinWidth => TableRow {
+        Prop::MinWidth => &TableRow {
             name: "min-width",
             lengths: Takes::NotNegative,
             percentages: Takes::NotNegative,
             ..EMPTY
         },
-        Prop::MinHeight => TableRow {
+        Prop::MinHeight => &TableRow {
             name: "min-height",
             lengths: Takes::NotNegative,
             percentages: Takes::NotNegative,
             ..EMPTY
         },
-        Prop::MaxWidth => TableRow {
+        Prop::MaxWidth => &TableRow {
             name: "max-width",
             words: &["none"],
             lengths: Takes::NotNegative,
             percentages: Takes::NotNegative,
             ..EMPTY
         },
-        Prop::MaxHeight => TableRow {
+        Prop::MaxHeight => &TableRow {
             name: "max-height",
             words: &["none"],
             lengths: Takes::NotNegative,
             percentages: Takes::NotNegative,
             ..EMPTY
         },
-        Prop::MarginTop => TableRow {
+        Prop::MarginTop => &TableRow {
             name: "margin-top",
             words: &["auto"],
             lengths: Takes::All,
             percentages: Takes::All,
             ..EMPTY
         },
-        Prop::MarginRight => TableRow {
+        Prop::MarginRight => &TableRow {
             name: "margin-right",
             words: &["auto"],
             lengths: Takes::All,
             percentages: Takes::All,
             ..EMPTY
         },
-        Prop::MarginBottom => TableRow {
+        Prop::MarginBottom => &TableRow {
             name: "margin-bottom",
             words: &["auto"],
             lengths: Takes::All,
             percentages: Takes::All,
             ..EMPTY
         },
-        Prop::MarginLeft => TableRow {
+        Prop::MarginLeft => &TableRow {
             name: "margin-left",
             words: &["auto"],
             lengths: Takes::All,
             percentages: Takes::All,
             ..EMPTY
         },
-        Prop::PaddingTop => TableRow {
+        Prop::PaddingTop => &TableRow {
             name: "padding-top",
             lengths: Takes::NotNegative,
             percentages: Takes::NotNegative,
             ..EMPTY
         },
-        Prop::PaddingRight => TableRow {
+        Prop::PaddingRight => &TableRow {
             name: "padding-right",
             lengths: Takes::NotNegative,
             percentages: Takes::NotNegative,
             ..EMPTY
         },
-        Prop::PaddingBottom => TableRow {
+        Prop::PaddingBottom => &TableRow {
             name: "padding-bottom",
             lengths: Takes::NotNegative,
             percentages: Takes::NotNegative,
             ..EMPTY
         },
-        Prop::PaddingLeft => TableRow {
+        Prop::PaddingLeft => &TableRow {
             name: "padding-left",
             lengths: Takes::NotNegative,
             percentages: Takes::NotNegative,
             ..EMPTY
         },
-        Prop::BorderTopWidth => TableRow {
+        Prop::BorderTopWidth => &TableRow {
             name: "border-top-width",
             words: LINE_WIDTHS,
             lengths: Takes::NotNegative,
             ..EMPTY
         },
-        Prop::BorderRightWidth => TableRow {
+        Prop::BorderRightWidth => &TableRow {
             name: "border-right-width",
             words: LINE_WIDTHS,
             lengths: Takes::NotNegative,
             ..EMPTY
         },
-        Prop::BorderBottomWidth => TableRow {
+        Prop::BorderBottomWidth => &TableRow {
             name: "border-bottom-width",
             words: LINE_WIDTHS,
             lengths: Takes::NotNegative,
             ..EMPTY
         },
-        Prop::BorderLeftWidth => TableRow {
+        Prop::BorderLeftWidth => &TableRow {
             name: "border-left-width",
             words: LINE_WIDTHS,
             lengths: Takes::NotNegative,
             ..EMPTY
         },
-        Prop::BorderTopStyle => TableRow {
+        Prop::BorderTopStyle => &TableRow {
             name: "border-top-style",
             words: LINE_STYLES,
             ..EMPTY
         },
-        Prop::BorderRightStyle => TableRow {
+        Prop::BorderRightStyle => &TableRow {
             name: "border-right-style",
             words: LINE_STYLES,
             ..EMPTY
         },
-        Prop::BorderBottomStyle => TableRow {
+        Prop::BorderBottomStyle => &TableRow {
             name: "border-bottom-style",
             words: LINE_STYLES,
             ..EMPTY
         },
-        Prop::BorderLeftStyle => TableRow {
+        Prop::BorderLeftStyle => &TableRow {
             name: "border-left-style",
             words: LINE_STYLES,
             ..EMPTY
         },
-        Prop::FontSize => TableRow {
+        Prop::FontSize => &TableRow {
             name: "font-size",
             words: SIZE_WORDS,
             lengths: Takes::NotNegative,
             percentages: Takes::NotNegative,
             ..EMPTY
         },
-        Prop::FontFamily => TableRow {
+        Prop::FontFamily => &TableRow {
             name: "font-family",
             families: true,
             ..EMPTY
         },
-        Prop::LineHeight => TableRow {
+        Prop::LineHeight => &TableRow {
             name: "line-height",
             words: &["normal"],
             numbers: Takes::NotNegative,
@@ -297,7 +297,7 @@ fn table(prop: Prop) -> TableRow
             percentages: Takes::NotNegative,
             ..EMPTY
         },
-        Prop::VerticalAlign => TableRow {
+        Prop::VerticalAlign => &TableRow {
             name: "vertical-align",
             words: &["baseline", "sub", "super", "middle"],
             refused: &["top", "bottom", "text-top", "text-bottom"],
@@ -305,42 +305,42 @@ fn table(prop: Prop) -> TableRow
             percentages: Takes::All,
             ..EMPTY
         },
-        Prop::TextAlign => TableRow {
+        Prop::TextAlign => &TableRow {
             name: "text-align",
             words: &["left", "right", "center", "justify"],
             ..EMPTY
         },
-        Prop::WhiteSpace => TableRow {
+        Prop::WhiteSpace => &TableRow {
             name: "white-space",
             words: &["normal", "nowrap"],
             refused: &["pre", "pre-wrap", "pre-line"],
             ..EMPTY
         },
-        Prop::TextIndent => TableRow {
+        Prop::TextIndent => &TableRow {
             name: "text-indent",
             lengths: Takes::ZeroAlone,
             percentages: Takes::ZeroAlone,
             ..EMPTY
         },
-        Prop::LetterSpacing => TableRow {
+        Prop::LetterSpacing => &TableRow {
             name: "letter-spacing",
             words: &["normal"],
             lengths: Takes::ZeroAlone,
             ..EMPTY
         },
-        Prop::WordSpacing => TableRow {
+        Prop::WordSpacing => &TableRow {
             name: "word-spacing",
             words: &["normal"],
             lengths: Takes::ZeroAlone,
             ..EMPTY
         },
-        Prop::TextTransform => TableRow {
+        Prop::TextTransform => &TableRow {
             name: "text-transform",
             words: &["none"],
             refused: &["capitalize", "uppercase", "lowercase"],
             ..EMPTY
         },
-        Prop::ListStylePosition => TableRow {
+        Prop::ListStylePosition => &TableRow {
             name: "list-style-position",
             words: &["outside"],
             refused: &["inside"],
@@ -360,7 +360,7 @@ pub fn row(prop: Prop) -> TableRow
     ensures numbers { result.numbers ≡ (row prop).numbers }
     ensures families { result.families ≡ (row prop).families }
 {
-    table(prop)
+    *table(prop)
 }
 
 /// The properties in the order of the table.
