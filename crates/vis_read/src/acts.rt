@@ -6,6 +6,7 @@ use crate::lexemes::{Pair, Quantifier};
 use crate::reading::{Closed, Frame, Held, Outside, Place, Reading};
 use crate::stacks::Stack;
 use std::alloc::Global;
+use std::mem::{drop, replace};
 use viz_base::{Boxed, Formula, Mem, Set, Text};
 
 /// A formula behind so many `not`s.
@@ -147,7 +148,7 @@ impl Reading {
     pub fn at(mut self, place: Place) -> Self
         ensures { result ≡ at self place }
     {
-        self.place = place;
+        drop(replace(&mut self.place, place));
         self
     }
 
@@ -190,8 +191,9 @@ impl Reading {
             nots,
             disjunct,
             conjunct,
-            place: _place,
+            place,
         } = self;
+        drop(place);
         Held {
             frames,
             names,
@@ -209,8 +211,8 @@ impl Reading {
     {
         self.nested = self.level;
         self.nots = 0;
-        self.disjunct = None;
-        self.conjunct = None;
+        drop(self.disjunct.take());
+        drop(self.conjunct.take());
         self
     }
 
@@ -220,8 +222,8 @@ impl Reading {
     {
         self.nested = self.level;
         self.nots = 0;
-        self.conjunct = None;
-        self.place = Place::Behind(formula);
+        drop(self.conjunct.take());
+        drop(replace(&mut self.place, Place::Behind(formula)));
         self
     }
 

@@ -10,6 +10,7 @@ use crate::reading::{Closed, Compared, Frame, Held, Outside, Place, Reading, Sum
 use crate::stacks::Stack;
 use crate::terms::{empty_sum, step_edge, step_part, step_side, step_spot, with_part, with_sign};
 use std::alloc::Global;
+use std::mem::drop;
 use viz_base::{Edge, Formula, List, Mem, Set, Sign, Summand, Term, Text};
 
 /// How many quantifiers, parentheses and `not`s may be around one.
@@ -19,9 +20,10 @@ const MOST_NESTED: u32 = 64;
 const MOST_NAMES: usize = 2;
 
 /// Why a token can't be taken, with nothing kept of what is read.
-fn refused(_reading: Reading, stop: Stop) -> Stop
+fn refused(reading: Reading, stop: Stop) -> Stop
     ensures { result ≡ stop }
 {
+    drop(reading);
     stop
 }
 
@@ -105,8 +107,9 @@ fn with_implies(alloc: Global, reading: Reading, formula: Formula) -> Result<Rea
         nested: _,
         nots: _,
         disjunct,
-        conjunct: _conjunct,
+        conjunct,
     } = reading.held();
+    drop(conjunct);
     let left = ored(alloc, disjunct, formula)?;
     let frames = pushed(frames, Frame::Implied(left))?;
     Ok(Reading {
@@ -132,8 +135,9 @@ fn closing(alloc: Global, reading: Reading, formula: Formula) -> Result<Closed, 
         nested: _,
         nots: _,
         disjunct,
-        conjunct: _conjunct,
+        conjunct,
     } = reading.held();
+    drop(conjunct);
     let value = ored(alloc, disjunct, formula)?;
     closed(alloc, frames, names, value)
 }
@@ -544,12 +548,18 @@ fn whole(closed: Closed) -> Result<Formula, Stop>
 {
     let Closed {
         parens,
-        frames: _frames,
-        names: _names,
+        frames,
+        names,
         value,
     } = closed;
+    drop(frames);
+    drop(names);
     match parens {
-        Some(_) => Err(Stop::Bad),
+        Some(outside) => {
+            drop(outside);
+            drop(value);
+            Err(Stop::Bad)
+        }
         None => Ok(value),
     }
 }
