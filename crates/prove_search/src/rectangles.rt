@@ -126,13 +126,11 @@ fn in_halves(place: &mut Place<'_>, rect: Rect, depth: u32) -> Result<CertNode, 
     let facts = place.path.facts.len();
     let floors = place.path.floors.len();
     place.path.enter_first(&row)?;
-    let first = rectangle(place, low, depth)?;
+    let first = Boxed::new(place.alloc, rectangle(place, low, depth)?)?;
     leave(place, facts, floors);
     place.path.enter_second(&row)?;
-    let second = rectangle(place, high, depth)?;
+    let second = Boxed::new(place.alloc, rectangle(place, high, depth)?)?;
     leave(place, facts, floors);
     let row = Boxed::new(place.alloc, row)?;
-    let first = Boxed::new(place.alloc, first)?;
-    let second = Boxed::new(place.alloc, second)?;
     Ok(CertNode::Split(row, first, second))
 }

@@ -414,15 +414,15 @@ fn split(
     let (first_pool, second_pool) = pool.parted(place.alloc, &row)?;
     place.path.enter_first(&row)?;
     let first = side(place, first_pool, part(&row, Child::First, rect), depth)?;
+    let first = Boxed::new(place.alloc, first)?;
     leave(place, facts, named);
     place.found.truncate(known);
     place.path.enter_second(&row)?;
     let second = side(place, second_pool, part(&row, Child::Second, rect), depth)?;
+    let second = Boxed::new(place.alloc, second)?;
     leave(place, facts, named);
     place.found.truncate(known);
     let row = Boxed::new(place.alloc, row)?;
-    let first = Boxed::new(place.alloc, first)?;
-    let second = Boxed::new(place.alloc, second)?;
     Ok(CertNode::Split(row, first, second))
 }
 
