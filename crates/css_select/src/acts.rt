@@ -1,7 +1,7 @@
-ghost use Rattle.std.specs.Prelude.{◌≡◌, ◌++◌, [], ◌∷◌, IfOk, false};
+ghost use Rattle.std.specs.Prelude.{◌≡◌, ◌++◌, [], ◌∷◌, IfOk, false, map};
 ghost use Rattle.viz_base.specs.Selectors.{is_first};
 ghost use Rattle.viz_base.specs.declared.selectors.Join.TheVariants.{First};
-ghost use Rattle.css_select.specs.steps.Machine.{at, empty, ended, initial, joined, refused, state_of, tagged, tested};
+ghost use Rattle.css_select.specs.steps.Machine.{at, empty, ended, initial, joined, parts_of, refused, state_of, tagged, tested};
 
 use crate::reading::{Chain, Place, Reading};
 use std::alloc::Global;
@@ -49,6 +49,17 @@ impl Chain {
     }
 }
 
+/// A group with one more selector, which a last simple selector ends.
+fn with_end(group: List<Selector>, chain: Chain, compound: Compound) -> Result<List<Selector>, Mem>
+    ensures { IfOk result (λ all. map parts_of all
+        ≡ map parts_of group ++ (chain.parts ++ (chain.join, compound) ∷ []) ∷ []) }
+{
+    let selector = chain.end(compound)?;
+    let mut group = group;
+    group.push(selector)?;
+    Ok(group)
+}
+
 impl Reading {
     /// Before a group, of which nothing is read.
     pub fn new(alloc: Global) -> Self
@@ -75,29 +86,35 @@ impl Reading {
     pub fn tagged(mut self, tag: Option<Text>) -> Self
         ensures { state_of result ≡ tagged (state_of self) tag }
     {
-        self.place = Place::Compound;
         self.compound.tag = tag;
-        self
+        self.at(Place::Compound)
     }
 
     /// Behind a test.
     pub fn tested(mut self, test: Test) -> Result<Self, Mem>
         ensures { IfOk result (λ next. state_of next ≡ tested (state_of self) test) }
     {
-        self.place = Place::Compound;
-        self.compound.tests.push(test)?;
-        Ok(self)
+        match self.compound.tests.push(test) {
+            Ok(()) => Ok(self.at(Place::Compound)),
+            Err(_) => Err(self.given_up(Mem)),
+        }
     }
 
     /// Behind a refused selector, with the place of its colon.
     pub fn refused(mut self, colon: u32, place: Place) -> Self
         ensures { state_of result ≡ refused (state_of self) colon place }
     {
-        self.place = place;
         if self.refused.is_none() {
             self.refused = Some(colon);
         }
-        self
+        self.at(place)
+    }
+
+    /// A fault, for which all that is read is given up.
+    pub fn given_up<E>(self, fault: E) -> E
+        ensures { result ≡ fault }
+    {
+        fault
     }
 
     /// Behind a simple selector that another one follows.
@@ -106,33 +123,44 @@ impl Reading {
         ensures { IfOk result (λ next. state_of next ≡ joined (state_of self) join) }
     {
         let Reading {
+            place,
             group,
             chain,
             compound,
             refused,
-            ..
         } = self;
+        drop(place);
+        let chain = chain.with(compound, join)?;
         Ok(Reading {
             place: Place::Fresh,
             group,
-            chain: chain.with(compound, join)?,
+            chain,
             compound: empty(alloc),
             refused,
         })
+    }
+
+    /// The group that a last simple selector ends.
+    pub fn end(self) -> Result<List<Selector>, Mem>
+        ensures { IfOk result (λ all. map parts_of all ≡ (ended (state_of self)).group) }
+    {
+        let Reading {
+            place,
+            group,
+            chain,
+            compound,
+            ..
+        } = self;
+        drop(place);
+        with_end(group, chain, compound)
     }
 
     /// Behind a selector.
     pub fn ended(self, alloc: Global) -> Result<Self, Mem>
         ensures { IfOk result (λ next. state_of next ≡ ended (state_of self)) }
     {
-        let Reading {
-            mut group,
-            chain,
-            compound,
-            refused,
-            ..
-        } = self;
-        group.push(chain.end(compound)?)?;
+        let refused = self.refused;
+        let group = self.end()?;
         Ok(Reading {
             place: Place::Fresh,
             group,

@@ -36,24 +36,23 @@ fn may_end(place: &Place) -> bool
 }
 
 /// What is read, where the text ends.
-fn finish(alloc: Global, reading: Reading, end: u32) -> Result<List<Selector>, SelFault>
+fn finish(reading: Reading, end: u32) -> Result<List<Selector>, SelFault>
     ensures { Gives (map parts_of) refusal_of result (finished end (state_of reading)) }
 {
     if !may_end(&reading.place) {
-        return Err(SelFault::Bad(end));
+        return Err(reading.given_up(SelFault::Bad(end)));
     }
     if let Some(at) = reading.refused {
-        return Err(SelFault::Unsupported(at));
+        return Err(reading.given_up(SelFault::Unsupported(at)));
     }
-    let Reading { group, .. } = reading.ended(alloc)?;
-    Ok(group)
+    Ok(reading.end()?)
 }
 
 fn read_tokens(alloc: Global, tokens: &[Token<'_>], end: u32) -> Result<List<Selector>, SelFault>
     ensures { Gives (map parts_of) refusal_of result (verdict_of end tokens.now) }
 {
     let reading = run(alloc, tokens)?;
-    finish(alloc, reading, end)
+    finish(reading, end)
 }
 
 /// The group of selectors that a text spells (CSS 2.1, chapter 5 and appendix G.1).

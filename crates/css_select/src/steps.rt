@@ -1,11 +1,13 @@
-ghost use Rattle.std.specs.Prelude.{◌≡◌, ◌<◌, ◌≤◌, ◌^◌, codes, Err, IfOk, MatchResult};
+ghost use Rattle.std.specs.Prelude.{◌≡◌, ◌<◌, ◌≤◌, ◌^◌, codes, Err, IfOk, MatchResult, Ok, Some};
 ghost use Rattle.css_semantics.specs.SheetsMarks.{text_of};
 ghost use Rattle.css_semantics.specs.Names.{same_name};
-ghost use Rattle.css_semantics.specs.SelectorTerminals.{comparison, is_value, pseudo};
+ghost use Rattle.css_semantics.specs.SelectorTerminals.{compared, comparison, is_value, name_of, pseudo};
 ghost use Rattle.viz_base.specs.Answers.{FailsWith, Gives};
 ghost use Rattle.css_select.specs.declared.faults.SelFault.TheVariants.{Bad};
 ghost use Rattle.css_select.specs.Refusals.{bad_at, refusal_of};
-ghost use Rattle.css_select.specs.steps.Machine.{State, state_of, step, step_at, step_bracket, step_closing, step_colon, step_compound, step_dot, step_element, step_fresh, step_gap, step_language, step_language_end, step_name, step_function, step_pseudo, step_sign, step_test, step_value};
+ghost use Rattle.css_select.specs.declared.reading.Place.TheVariants.{Colon, Name, Value};
+ghost use Rattle.viz_base.specs.declared.selectors.Test.TheVariants.{Class, Id};
+ghost use Rattle.css_select.specs.steps.Machine.{State, at, state_of, step, step_at, step_bracket, step_closing, step_colon, step_compound, step_dot, step_element, step_fresh, step_gap, step_language, step_language_end, step_name, step_function, step_pseudo, step_sign, step_test, step_value, tagged, tested};
 
 use crate::faults::SelFault;
 use crate::names::{compared, comparison, is_lang, is_value, name_of, pseudo, text_of};
@@ -34,6 +36,80 @@ fn bad(token: &Token<'_>) -> SelFault
     }
 }
 
+/// Behind a test.
+fn with_test(reading: Reading, test: Test) -> Result<Reading, SelFault>
+    ensures { Gives state_of refusal_of result (Ok (tested (state_of reading) test)) }
+{
+    Ok(reading.tested(test)?)
+}
+
+/// Behind an id.
+fn with_id(alloc: Global, reading: Reading, token: &Token<'_>) -> Result<Reading, SelFault>
+    ensures { Gives state_of refusal_of result (Ok (tested (state_of reading) (Id (text_of token.now)))) }
+{
+    match text_of(alloc, token) {
+        Ok(name) => with_test(reading, Test::Id(name)),
+        Err(_) => Err(reading.given_up(SelFault::Mem)),
+    }
+}
+
+/// Behind a class.
+fn with_class(alloc: Global, reading: Reading, token: &Token<'_>) -> Result<Reading, SelFault>
+    ensures { Gives state_of refusal_of result (Ok (tested (state_of reading) (Class (text_of token.now)))) }
+{
+    match text_of(alloc, token) {
+        Ok(name) => with_test(reading, Test::Class(name)),
+        Err(_) => Err(reading.given_up(SelFault::Mem)),
+    }
+}
+
+/// Behind a tag.
+fn with_tag(alloc: Global, reading: Reading, token: &Token<'_>) -> Result<Reading, SelFault>
+    ensures { Gives state_of refusal_of result (Ok (tagged (state_of reading) (Some (name_of token.now)))) }
+{
+    match name_of(alloc, token) {
+        Ok(name) => Ok(reading.tagged(Some(name))),
+        Err(_) => Err(reading.given_up(SelFault::Mem)),
+    }
+}
+
+/// Behind an attribute's name.
+fn with_name(alloc: Global, reading: Reading, token: &Token<'_>) -> Result<Reading, SelFault>
+    ensures { Gives state_of refusal_of result (Ok (at (state_of reading) (Name (name_of token.now)))) }
+{
+    match name_of(alloc, token) {
+        Ok(name) => Ok(reading.at(Place::Name(name))),
+        Err(_) => Err(reading.given_up(SelFault::Mem)),
+    }
+}
+
+/// Behind an attribute's value.
+fn with_value(
+    alloc: Global,
+    reading: Reading,
+    name: Text,
+    how: Comparison,
+    token: &Token<'_>,
+) -> Result<Reading, SelFault>
+    ensures { Gives state_of refusal_of result
+        (Ok (at (state_of reading) (Value (compared how name (text_of token.now))))) }
+{
+    match text_of(alloc, token) {
+        Ok(value) => Ok(reading.at(Place::Value(compared(how, name, value)))),
+        Err(_) => Err(reading.given_up(SelFault::Mem)),
+    }
+}
+
+/// Behind a colon.
+fn behind_colon(reading: Reading, token: &Token<'_>) -> Result<Reading, SelFault>
+    ensures { Gives state_of refusal_of result (Ok (at (state_of reading) (Colon token.now.at))) }
+{
+    let Ok(colon) = place(token.at) else {
+        return Err(reading.given_up(SelFault::Mem));
+    };
+    Ok(reading.at(Place::Colon(colon)))
+}
+
 fn step_test(
     alloc: Global,
     reading: Reading,
@@ -43,11 +119,11 @@ fn step_test(
     ensures { Gives state_of refusal_of result (step_test (state_of reading) token.now sign) }
 {
     match sign {
-        Terminal::Id => Ok(reading.tested(Test::Id(text_of(alloc, token)?))?),
+        Terminal::Id => with_id(alloc, reading, token),
         Terminal::Dot => Ok(reading.at(Place::Dot)),
         Terminal::LeftBracket => Ok(reading.at(Place::Bracket)),
-        Terminal::Colon => Ok(reading.at(Place::Colon(place(token.at)?))),
-        _ => Err(bad(token)),
+        Terminal::Colon => behind_colon(reading, token),
+        _ => Err(reading.given_up(bad(token))),
     }
 }
 
@@ -61,7 +137,7 @@ fn step_fresh(
 {
     match sign {
         Terminal::Space => Ok(reading.at(Place::Fresh)),
-        Terminal::Ident => Ok(reading.tagged(Some(name_of(alloc, token)?))),
+        Terminal::Ident => with_tag(alloc, reading, token),
         Terminal::Star => Ok(reading.tagged(None)),
         sign => step_test(alloc, reading, token, sign),
     }
@@ -110,8 +186,8 @@ fn step_dot(
     ensures { Gives state_of refusal_of result (step_dot (state_of reading) token.now sign) }
 {
     match sign {
-        Terminal::Ident => Ok(reading.tested(Test::Class(text_of(alloc, token)?))?),
-        _ => Err(bad(token)),
+        Terminal::Ident => with_class(alloc, reading, token),
+        _ => Err(reading.given_up(bad(token))),
     }
 }
 
@@ -124,10 +200,11 @@ fn step_name_behind_colon(
     ensures { Gives state_of refusal_of result
         (step_pseudo (state_of reading) colon token.now (pseudo (text_of token.now))) }
 {
-    match pseudo(alloc, token)? {
-        Some(Pseudo::Class(test)) => Ok(reading.tested(test)?),
-        Some(Pseudo::Element) => Ok(reading.refused(colon, Place::Element)),
-        None => Err(bad(token)),
+    match pseudo(alloc, token) {
+        Ok(Some(Pseudo::Class(test))) => with_test(reading, test),
+        Ok(Some(Pseudo::Element)) => Ok(reading.refused(colon, Place::Element)),
+        Ok(None) => Err(reading.given_up(bad(token))),
+        Err(_) => Err(reading.given_up(SelFault::Mem)),
     }
 }
 
@@ -140,10 +217,10 @@ fn step_function_behind_colon(
     ensures { Gives state_of refusal_of result (step_function (state_of reading) colon token.now
         (same_name (text_of token.now) (codes "lang"))) }
 {
-    if is_lang(alloc, token)? {
-        Ok(reading.at(Place::Language(colon)))
-    } else {
-        Err(bad(token))
+    match is_lang(alloc, token) {
+        Ok(true) => Ok(reading.at(Place::Language(colon))),
+        Ok(false) => Err(reading.given_up(bad(token))),
+        Err(_) => Err(reading.given_up(SelFault::Mem)),
     }
 }
 
@@ -159,7 +236,7 @@ fn step_colon(
     match sign {
         Terminal::Ident => step_name_behind_colon(alloc, reading, colon, token),
         Terminal::Function => step_function_behind_colon(alloc, reading, colon, token),
-        _ => Err(bad(token)),
+        _ => Err(reading.given_up(bad(token))),
     }
 }
 
@@ -174,7 +251,7 @@ fn step_language(
     match sign {
         Terminal::Space => Ok(reading.at(Place::Language(colon))),
         Terminal::Ident => Ok(reading.at(Place::LanguageEnd(colon))),
-        _ => Err(bad(token)),
+        _ => Err(reading.given_up(bad(token))),
     }
 }
 
@@ -189,7 +266,7 @@ fn step_language_end(
     match sign {
         Terminal::Space => Ok(reading.at(Place::LanguageEnd(colon))),
         Terminal::RightParen => Ok(reading.refused(colon, Place::Compound)),
-        _ => Err(bad(token)),
+        _ => Err(reading.given_up(bad(token))),
     }
 }
 
@@ -204,7 +281,7 @@ fn step_element(
     match sign {
         Terminal::Space => Ok(reading.at(Place::Element)),
         Terminal::Comma => Ok(reading.ended(alloc)?),
-        _ => Err(bad(token)),
+        _ => Err(reading.given_up(bad(token))),
     }
 }
 
@@ -218,8 +295,8 @@ fn step_bracket(
 {
     match sign {
         Terminal::Space => Ok(reading.at(Place::Bracket)),
-        Terminal::Ident => Ok(reading.at(Place::Name(name_of(alloc, token)?))),
-        _ => Err(bad(token)),
+        Terminal::Ident => with_name(alloc, reading, token),
+        _ => Err(reading.given_up(bad(token))),
     }
 }
 
@@ -233,7 +310,7 @@ fn step_sign(
 {
     match comparison(sign) {
         Some(how) => Ok(reading.at(Place::Sign(name, how))),
-        None => Err(bad(token)),
+        None => Err(reading.given_up(bad(token))),
     }
 }
 
@@ -247,7 +324,7 @@ fn step_name(
 {
     match sign {
         Terminal::Space => Ok(reading.at(Place::Name(name))),
-        Terminal::RightBracket => Ok(reading.tested(Test::Has(name))?),
+        Terminal::RightBracket => with_test(reading, Test::Has(name)),
         sign => step_sign(reading, name, token, sign),
     }
 }
@@ -266,10 +343,9 @@ fn step_value(
         Terminal::Space => Ok(reading.at(Place::Sign(name, how))),
         sign => {
             if is_value(sign) {
-                let test = compared(how, name, text_of(alloc, token)?);
-                Ok(reading.at(Place::Value(test)))
+                with_value(alloc, reading, name, how, token)
             } else {
-                Err(bad(token))
+                Err(reading.given_up(bad(token)))
             }
         }
     }
@@ -285,8 +361,8 @@ fn step_closing(
 {
     match sign {
         Terminal::Space => Ok(reading.at(Place::Value(test))),
-        Terminal::RightBracket => Ok(reading.tested(test)?),
-        _ => Err(bad(token)),
+        Terminal::RightBracket => with_test(reading, test),
+        _ => Err(reading.given_up(bad(token))),
     }
 }
 
