@@ -5,6 +5,7 @@ ghost use Rattle.css_select.specs.steps.Machine.{at, empty, ended, initial, join
 
 use crate::reading::{Chain, Place, Reading};
 use std::alloc::Global;
+use std::mem::replace;
 use viz_base::{Compound, Join, List, Mem, Selector, Test, Text};
 
 fn empty(alloc: Global) -> Compound
@@ -78,7 +79,7 @@ impl Reading {
     pub fn at(mut self, place: Place) -> Self
         ensures { state_of result ≡ at (state_of self) place }
     {
-        self.place = place;
+        drop(replace(&mut self.place, place));
         self
     }
 
@@ -114,6 +115,7 @@ impl Reading {
     pub fn given_up<E>(self, fault: E) -> E
         ensures { result ≡ fault }
     {
+        drop(self);
         fault
     }
 

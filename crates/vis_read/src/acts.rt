@@ -6,7 +6,7 @@ use crate::lexemes::{Pair, Quantifier};
 use crate::reading::{Closed, Frame, Held, Outside, Place, Reading};
 use crate::stacks::Stack;
 use std::alloc::Global;
-use std::mem::{drop, replace};
+use std::mem::replace;
 use viz_base::{Boxed, Formula, Mem, Set, Text};
 
 /// A formula behind so many `not`s.

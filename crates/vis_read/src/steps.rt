@@ -10,7 +10,6 @@ use crate::reading::{Closed, Compared, Frame, Held, Outside, Place, Reading, Sum
 use crate::stacks::Stack;
 use crate::terms::{empty_sum, step_edge, step_part, step_side, step_spot, with_part, with_sign};
 use std::alloc::Global;
-use std::mem::drop;
 use viz_base::{Edge, Formula, List, Mem, Set, Sign, Summand, Term, Text};
 
 /// How many quantifiers, parentheses and `not`s may be around one.
