@@ -1,4 +1,4 @@
-ghost use Rattle.std.specs.Prelude.{◌≡◌, ◌++◌, ℕ, List, IfOk, OnOk};
+ghost use Rattle.std.specs.Prelude.{◌≡◌, ◌++◌, ℕ, List, IfOk, OnOk, codes};
 ghost use Rattle.std.specs.List.{flat_map};
 ghost use Rattle.hex.specs.Hex.{encode_lower};
 ghost use Rattle.cert_text.specs.steps.Write.{int_bytes, term_bytes, row_bytes};
@@ -176,34 +176,59 @@ fn push_answers(text: &mut Vec<u8>, answers: &[Answer]) -> Result<(), AllocError
     Ok(())
 }
 
+/// A def, up to the node below it.
+fn push_def(text: &mut Vec<u8>, row: &Row, divisor: i128) -> Result<(), AllocError>
+    ensures { OnOk result (text.new.items
+        ≡ text.old.items ++ codes "def " ++ row_bytes row.now ++ codes " by " ++ int_bytes divisor ++ codes "\n") }
+{
+    text.extend_from_slice(b"def ")?;
+    push_row(text, row)?;
+    text.extend_from_slice(b" by ")?;
+    push_int(text, divisor)?;
+    text.extend_from_slice(b"\n")
+}
+
+/// A split, up to the nodes below it.
+fn push_split(text: &mut Vec<u8>, row: &Row) -> Result<(), AllocError>
+    ensures { OnOk result
+        (text.new.items ≡ text.old.items ++ codes "split " ++ row_bytes row.now ++ codes "\n") }
+{
+    text.extend_from_slice(b"split ")?;
+    push_row(text, row)?;
+    text.extend_from_slice(b"\n")
+}
+
+fn push_void(text: &mut Vec<u8>, why: &Derivation) -> Result<(), AllocError>
+    ensures { OnOk result (text.new.items ≡ text.old.items ++ codes "void\n" ++ derivation_text why.now) }
+{
+    text.extend_from_slice(b"void\n")?;
+    push_derivation(text, why)
+}
+
+fn push_leaf(text: &mut Vec<u8>, answers: &[Answer]) -> Result<(), AllocError>
+    ensures { OnOk result
+        (text.new.items ≡ text.old.items ++ codes "leaf\n" ++ flat_map answer_text answers.now ++ codes "end\n") }
+{
+    text.extend_from_slice(b"leaf\n")?;
+    push_answers(text, answers)?;
+    text.extend_from_slice(b"end\n")
+}
+
 fn push_node(text: &mut Vec<u8>, node: &CertNode) -> Result<(), AllocError>
     ensures { OnOk result (text.new.items ≡ text.old.items ++ node_text node.now) }
 {
     match node {
         CertNode::Def(row, divisor, below) => {
-            text.extend_from_slice(b"def ")?;
-            push_row(text, row.get())?;
-            text.extend_from_slice(b" by ")?;
-            push_int(text, *divisor.get())?;
-            text.extend_from_slice(b"\n")?;
+            push_def(text, row.get(), *divisor.get())?;
             push_node(text, below.get())
         }
         CertNode::Split(row, first, second) => {
-            text.extend_from_slice(b"split ")?;
-            push_row(text, row.get())?;
-            text.extend_from_slice(b"\n")?;
+            push_split(text, row.get())?;
             push_node(text, first.get())?;
             push_node(text, second.get())
         }
-        CertNode::Void(why) => {
-            text.extend_from_slice(b"void\n")?;
-            push_derivation(text, why.get())
-        }
+        CertNode::Void(why) => push_void(text, why.get()),
         CertNode::Grid => text.extend_from_slice(b"grid\n"),
-        CertNode::Leaf(answers) => {
-            text.extend_from_slice(b"leaf\n")?;
-            push_answers(text, answers.as_slice())?;
-            text.extend_from_slice(b"end\n")
-        }
+        CertNode::Leaf(answers) => push_leaf(text, answers.as_slice()),
     }
 }
