@@ -1,6 +1,6 @@
 ghost use Rattle.std.specs.Prelude.{◌≡◌, MatchResult, IfOk};
 ghost use Rattle.cert_text.specs.steps.Read.{Reads};
-ghost use Rattle.cert_text.specs.steps.Parts.{ends_behind, read_term, with_last, read_terms, read_row, read_part, read_one_part, read_parts, read_step, read_behind_c, read_steps, read_cases, read_derivation};
+ghost use Rattle.cert_text.specs.steps.Parts.{ends_behind, read_term, with_last, read_terms, read_row, read_part, read_one_part, read_parts, read_fact, read_sum, read_step, read_behind_c, read_steps, read_cases, read_derivation};
 ghost use Rattle.cert_text.specs.steps.Whole.{read_reason, read_answer, read_answers, read_flat, read_def, read_split, read_node, read_front, read_whole};
 ghost use Rattle.cert_text.specs.Fault.{IsFault};
 ghost use Rattle.cert_text.specs.Texts.{CertText};
@@ -170,18 +170,31 @@ fn read_parts(alloc: Global, cursor: &mut Cursor) -> Result<List<(i128, u32)>, S
     Err(Stop::Refused)
 }
 
+fn read_fact(cursor: &mut Cursor) -> Result<Turn<Step, bool>, Stop>
+    ensures { Reads result (read_fact cursor.old.rest.now) cursor.new.rest.now }
+{
+    cursor.word(b"fact ")?;
+    let (number, _) = natural(cursor, (b'\n', b'\n'), 0, MOST)?;
+    Ok(Turn::More(Step::Fact(number as u32)))
+}
+
+fn read_sum(alloc: Global, cursor: &mut Cursor) -> Result<Turn<Step, bool>, Stop>
+    ensures { Reads result (read_sum cursor.old.rest.now) cursor.new.rest.now }
+{
+    cursor.word(b"sum ")?;
+    let parts = read_parts(alloc, cursor)?;
+    Ok(Turn::More(Step::Sum(parts)))
+}
+
 /// A step, or how the steps end: whether in "closed".
 fn read_step(alloc: Global, cursor: &mut Cursor, cases: u8) -> Result<Turn<Step, bool>, Stop>
     ensures { Reads result (read_step cases cursor.old.rest.now) cursor.new.rest.now }
 {
     if cursor.begins(b'f') {
-        cursor.word(b"fact ")?;
-        let (number, _) = natural(cursor, (b'\n', b'\n'), 0, MOST)?;
-        return Ok(Turn::More(Step::Fact(number as u32)));
+        return read_fact(cursor);
     }
     if cursor.begins(b's') {
-        cursor.word(b"sum ")?;
-        return Ok(Turn::More(Step::Sum(read_parts(alloc, cursor)?)));
+        return read_sum(alloc, cursor);
     }
     cursor.word(b"c")?;
     read_behind_c(cursor, cases)
