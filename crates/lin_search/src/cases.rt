@@ -54,6 +54,53 @@ struct Halving {
     is_concerned: bool,
 }
 
+/// Both cases of a range that is halved.
+#[derive(Drop)]
+struct Halves {
+    row: Row,
+    first: Case,
+    second: Case,
+}
+
+impl Halves {
+    /// Both cases of a range with these bounds: a row, and the other one, is known by this number.
+    fn new(place: u32, whole: Bounds, number: u32, row: Row, other: Row) -> Result<Halves, Mem> {
+        let here = Some(Source::Known(number));
+        let below = Bounds {
+            low: whole.low,
+            high: here,
+        };
+        let above = Bounds {
+            low: here,
+            high: whole.high,
+        };
+        Ok(Halves {
+            first: Case {
+                place,
+                whole,
+                bounds: below,
+                row: row.clone()?,
+            },
+            second: Case {
+                place,
+                whole,
+                bounds: above,
+                row: other,
+            },
+            row,
+        })
+    }
+}
+
+/// A case: the row that is known in it, by which the variable at a place is bounded.
+#[derive(Drop)]
+struct Case {
+    place: u32,
+    whole: Bounds,
+    bounds: Bounds,
+    row: Row,
+}
+
 /// Goes through cases of the variables that are bounded by themselves, down to single values.
 #[cycle(cases)]
 pub fn by_cases(
@@ -128,41 +175,71 @@ fn halved(
     depth: u32,
     halving: Halving,
 ) -> Result<Outcome, Mem> {
-    let Some(whole) = scope.bounds.get(halving.place as usize).copied() else {
+    let Some(halves) = halves_of(alloc, scope, halving)? else {
         return Ok(Outcome::Stuck);
+    };
+    match in_case(alloc, ground, scope, depth, halves.first)? {
+        Outcome::Closed(first) => {
+            other_half(
+                alloc,
+                ground,
+                scope,
+                depth,
+                halves.second,
+                halves.row,
+                first,
+            )
+        }
+        outcome => Ok(outcome),
+    }
+}
+
+/// The other case of a row, and with it both.
+#[cycle(cases)]
+fn other_half(
+    alloc: Global,
+    ground: Ground<'_>,
+    scope: &mut Scope,
+    depth: u32,
+    case: Case,
+    row: Row,
+    first: Derivation,
+) -> Result<Outcome, Mem> {
+    match in_case(alloc, ground, scope, depth, case)? {
+        Outcome::Closed(second) => both(alloc, row, first, second),
+        outcome => Ok(outcome),
+    }
+}
+
+/// What a search comes to in a case; it stands where it did after it.
+#[cycle(cases)]
+fn in_case(
+    alloc: Global,
+    ground: Ground<'_>,
+    scope: &mut Scope,
+    depth: u32,
+    case: Case,
+) -> Result<Outcome, Mem> {
+    let count = scope.known.len();
+    enter(scope, case.place, case.bounds, case.row)?;
+    let outcome = by_cases(alloc, ground, scope, depth)?;
+    leave(scope, case.place, case.whole, count);
+    Ok(outcome)
+}
+
+/// Both cases of a range, if their rows have numbers.
+fn halves_of(alloc: Global, scope: &Scope, halving: Halving) -> Result<Option<Halves>, Mem> {
+    let Some(whole) = scope.bounds.get(halving.place as usize).copied() else {
+        return Ok(None);
+    };
+    let Ok(number) = u32::try_from(scope.known.len()) else {
+        return Ok(None);
     };
     let row = Row::of_term(alloc, halving.middle, halving.variable, -1)?;
-    let Some(other) = denied(&row)? else {
-        return Ok(Outcome::Stuck);
-    };
-    let count = scope.known.len();
-    let Ok(number) = u32::try_from(count) else {
-        return Ok(Outcome::Stuck);
-    };
-    let here = Some(Source::Known(number));
-    let below = Bounds {
-        low: whole.low,
-        high: here,
-    };
-    let above = Bounds {
-        low: here,
-        high: whole.high,
-    };
-
-    enter(scope, halving.place, below, row.clone()?)?;
-    let first = by_cases(alloc, ground, scope, depth)?;
-    leave(scope, halving.place, whole, count);
-    let Outcome::Closed(first) = first else {
-        return Ok(first);
-    };
-
-    enter(scope, halving.place, above, other)?;
-    let second = by_cases(alloc, ground, scope, depth)?;
-    leave(scope, halving.place, whole, count);
-    let Outcome::Closed(second) = second else {
-        return Ok(second);
-    };
-    both(alloc, row, first, second)
+    match denied(&row)? {
+        Some(other) => Ok(Some(Halves::new(halving.place, whole, number, row, other)?)),
+        None => Ok(None),
+    }
 }
 
 /// The derivation by both cases of a row.
@@ -280,30 +357,64 @@ fn closed_here(
     left: &mut u64,
 ) -> Result<Option<List<Step>>, Mem> {
     let mut sums = Vec::new(alloc);
-    if let Some(end) = empty_range(alloc, view, &mut sums)? {
-        return written(alloc, view, &sums, end);
+    closed_with(alloc, view, outline, left, &mut sums)
+}
+
+/// Steps to a contradiction from a range without numbers, or from the last fact.
+fn closed_with(
+    alloc: Global,
+    view: View<'_>,
+    outline: &Outline,
+    left: &mut u64,
+    sums: &mut Vec<Sum>,
+) -> Result<Option<List<Step>>, Mem> {
+    if let Some(end) = empty_range(alloc, view, sums)? {
+        return written(alloc, view, sums, end);
     }
     let Some(last) = last_fact(view) else {
         return Ok(None);
     };
-    if let Some(steps) = closed_by(alloc, view, &mut sums, last)? {
+    match closed_by_facts(alloc, view, outline, sums, last)? {
+        Some(steps) => Ok(Some(steps)),
+        None => closed_by_pairs(alloc, view, outline, left, sums, last),
+    }
+}
+
+/// Steps to a contradiction from the last fact or a split alone.
+fn closed_by_facts(
+    alloc: Global,
+    view: View<'_>,
+    outline: &Outline,
+    sums: &mut Vec<Sum>,
+    last: Source,
+) -> Result<Option<List<Step>>, Mem> {
+    if let Some(steps) = closed_by(alloc, view, sums, last)? {
         return Ok(Some(steps));
     }
     for split in &outline.splits {
-        if let Some(steps) = closed_by(alloc, view, &mut sums, Source::Fact(*split))? {
+        if let Some(steps) = closed_by(alloc, view, sums, Source::Fact(*split))? {
             return Ok(Some(steps));
         }
     }
-    if let Some(steps) = closed_finely(alloc, view, &mut sums, last)? {
-        return Ok(Some(steps));
-    }
+    closed_finely(alloc, view, sums, last)
+}
+
+/// Steps to a contradiction from the last fact and a split, if so many pairs of rows may still be tried.
+fn closed_by_pairs(
+    alloc: Global,
+    view: View<'_>,
+    outline: &Outline,
+    left: &mut u64,
+    sums: &mut Vec<Sum>,
+    last: Source,
+) -> Result<Option<List<Step>>, Mem> {
     let pairs = outline.splits.len() as u64;
     if *left < pairs {
         return Ok(None);
     }
     *left -= pairs;
-    match paired(alloc, view, &mut sums, last, &outline.splits, outline.base)? {
-        Some(end) => written(alloc, view, &sums, end),
+    match paired(alloc, view, sums, last, &outline.splits, outline.base)? {
+        Some(end) => written(alloc, view, sums, end),
         None => Ok(None),
     }
 }

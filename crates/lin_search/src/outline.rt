@@ -17,57 +17,66 @@ pub struct Outline {
     pub concerned: Vec<bool>,
 }
 
+impl Outline {
+    /// No facts, but with these variables.
+    fn new(alloc: Global, variables: Vec<u32>) -> Result<Outline, AllocError> {
+        let none = Bounds {
+            low: None,
+            high: None,
+        };
+        Ok(Outline {
+            bounds: vec![in alloc; none; variables.len()]?,
+            splits: Vec::new(alloc),
+            base: 0,
+            concerned: vec![in alloc; false; variables.len()]?,
+            variables,
+        })
+    }
+}
+
 /// Reads a list of facts.
 pub fn read_facts(alloc: Global, facts: &[Row]) -> Result<Outline, AllocError> {
-    let variables = variables_of(alloc, facts)?;
-    let none = Bounds {
-        low: None,
-        high: None,
-    };
-    let mut bounds = vec![in alloc; none; variables.len()]?;
-    let mut splits = Vec::new(alloc);
+    let mut outline = Outline::new(alloc, variables_of(alloc, facts)?)?;
+    read_to(facts, &mut outline)?;
+    Ok(outline)
+}
+
+/// Reads a list of facts to an outline that has their variables.
+fn read_to(facts: &[Row], outline: &mut Outline) -> Result<(), AllocError> {
     for (number, fact) in facts.iter().enumerate() {
         let Ok(number) = u32::try_from(number) else {
             break;
         };
-        let is_bound = note(facts, &variables, &mut bounds, number, fact);
+        let is_bound = note(facts, &outline.variables, &mut outline.bounds, number, fact);
         if !is_bound && number as usize + 1 < facts.len() {
-            splits.push(number)?;
+            outline.splits.push(number)?;
         }
     }
-    let base = base_of(facts, &bounds);
-    let concerned = concerned(alloc, facts, &variables, &bounds, &splits)?;
-    Ok(Outline {
-        variables,
-        bounds,
-        splits,
-        base,
-        concerned,
-    })
+    outline.base = base_of(facts, &outline.bounds);
+    mark_concerned(facts, outline);
+    Ok(())
 }
 
-/// Which variables the last fact is about, with what bounds them, and the splits that share one with it.
-fn concerned(
-    alloc: Global,
-    facts: &[Row],
-    variables: &[u32],
-    bounds: &[Bounds],
-    splits: &[u32],
-) -> Result<Vec<bool>, AllocError> {
-    let mut marks = vec![in alloc; false; variables.len()]?;
+/// Marks the variables that the last fact is about, with what bounds them, and the splits that share one with it.
+fn mark_concerned(facts: &[Row], outline: &mut Outline) {
+    let marks = &mut outline.concerned;
     if let Some(last) = facts.last() {
-        mark(variables, &mut marks, last);
+        mark(&outline.variables, marks, last);
     }
-    mark_bounds(facts, variables, bounds, &mut marks);
+    mark_bounds(facts, &outline.variables, &outline.bounds, marks);
+    mark_splits(facts, &outline.variables, &outline.splits, marks);
+    mark_bounds(facts, &outline.variables, &outline.bounds, marks);
+}
+
+/// Marks the variables of the splits that have a marked one.
+fn mark_splits(facts: &[Row], variables: &[u32], splits: &[u32], marks: &mut [bool]) {
     for split in splits {
         if let Some(fact) = facts.get(*split as usize) {
-            if is_touched(variables, &marks, fact) {
-                mark(variables, &mut marks, fact);
+            if is_touched(variables, marks, fact) {
+                mark(variables, marks, fact);
             }
         }
     }
-    mark_bounds(facts, variables, bounds, &mut marks);
-    Ok(marks)
 }
 
 /// Marks the variables of a row.

@@ -38,17 +38,22 @@ pub fn most_of(view: View<'_>, row: &Row) -> Option<i128> {
 fn most_without(view: View<'_>, ranges: &[Range], row: &Row, without: Option<u32>) -> Option<i128> {
     let mut most = row.k;
     for term in row.terms.as_slice() {
-        let (variable, coefficient) = *term;
-        if without != Some(variable) {
-            let place = view.place_of(variable)?;
-            let range = *ranges.get(place as usize)?;
-            let end = if coefficient > 0 {
-                range.greatest?
-            } else {
-                range.least?
-            };
-            most = most.checked_add(coefficient.checked_mul(end)?)?;
+        if without != Some(term.0) {
+            most = most.checked_add(most_of_term(view, ranges, *term)?)?;
         }
     }
     Some(most)
+}
+
+/// The greatest value of a term.
+fn most_of_term(view: View<'_>, ranges: &[Range], term: (u32, i128)) -> Option<i128> {
+    let (variable, coefficient) = term;
+    let place = view.place_of(variable)?;
+    let range = *ranges.get(place as usize)?;
+    let end = if coefficient > 0 {
+        range.greatest?
+    } else {
+        range.least?
+    };
+    coefficient.checked_mul(end)
 }

@@ -16,32 +16,41 @@ const DEPTH: u32 = 64;
 /// What elimination, pairs and cases come to, the last fact being the one that is to be refuted.
 pub fn tried(alloc: Global, facts: &[Row], variables: u32, limit: u64) -> Result<Search, Mem> {
     let outline = read_facts(alloc, facts)?;
-    if let Some(derivation) = quickly(alloc, facts, &outline)? {
+    let ground = Ground {
+        facts,
+        outline: &outline,
+    };
+    tried_on(alloc, ground, variables, limit)
+}
+
+/// What elimination, pairs and cases come to where the facts have been read.
+fn tried_on(alloc: Global, ground: Ground<'_>, variables: u32, limit: u64) -> Result<Search, Mem> {
+    if let Some(derivation) = quickly(alloc, ground.facts, ground.outline)? {
         return Ok(Search::Found(derivation));
     }
     if limit == 0 {
         return Ok(Search::GaveUp);
     }
-    let ground = Ground {
-        facts,
-        outline: &outline,
-    };
-    let mut scope = Scope {
-        bounds: outline.bounds.clone()?,
-        known: Vec::new(alloc),
-        left: limit,
-    };
-    let outcome = by_cases(alloc, ground, &mut scope, DEPTH)?;
-    match outcome {
+    match all_cases(alloc, ground, limit)? {
         Outcome::Closed(derivation) => Ok(Search::Found(derivation)),
         Outcome::Met(values) => Ok(Search::Point(spread(
             alloc,
-            &outline.variables,
+            &ground.outline.variables,
             &values,
             variables,
         )?)),
         Outcome::Stuck => Ok(Search::GaveUp),
     }
+}
+
+/// What cases come to, from where nothing but the facts is known.
+fn all_cases(alloc: Global, ground: Ground<'_>, limit: u64) -> Result<Outcome, Mem> {
+    let mut scope = Scope {
+        bounds: ground.outline.bounds.clone()?,
+        known: Vec::new(alloc),
+        left: limit,
+    };
+    by_cases(alloc, ground, &mut scope, DEPTH)
 }
 
 /// A derivation by elimination from the last fact, or from it and one split.

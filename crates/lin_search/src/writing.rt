@@ -15,11 +15,34 @@ struct Draft {
     sums: Vec<Option<u32>>,
 }
 
+impl Draft {
+    /// No steps yet, for so many variables and sums, where so many rows come before.
+    fn new(alloc: Global, next: u32, variables: usize, sums: usize) -> Result<Draft, Mem> {
+        Ok(Draft {
+            steps: List::new(alloc),
+            next,
+            lows: vec![in alloc; None; variables]?,
+            highs: vec![in alloc; None; variables]?,
+            sums: vec![in alloc; None; sums]?,
+        })
+    }
+}
+
 /// Which ends of the variables' ranges are needed.
 #[derive(Drop)]
 struct Needs {
     lows: Vec<bool>,
     highs: Vec<bool>,
+}
+
+impl Needs {
+    /// None of the ends of so many variables' ranges.
+    fn new(alloc: Global, variables: usize) -> Result<Needs, Mem> {
+        Ok(Needs {
+            lows: vec![in alloc; false; variables]?,
+            highs: vec![in alloc; false; variables]?,
+        })
+    }
 }
 
 /// The steps that make the row of a source, where `known` rows come before them. None where there are too many rows,
@@ -33,25 +56,55 @@ pub fn written(
     let Ok(next) = u32::try_from(view.known.len()) else {
         return Ok(None);
     };
+    let mut draft = Draft::new(alloc, next, view.variables.len(), sums.len())?;
+    match write_to(alloc, view, sums, target, &mut draft)? {
+        Some(()) => Ok(Some(draft.steps)),
+        None => Ok(None),
+    }
+}
+
+/// Writes the steps that make the row of a source.
+fn write_to(
+    alloc: Global,
+    view: View<'_>,
+    sums: &[Sum],
+    target: Source,
+    draft: &mut Draft,
+) -> Result<Option<()>, Mem> {
     let wanted = wanted(alloc, sums, target)?;
-    let needs = needed_ends(alloc, view, sums, &wanted)?;
-    let mut draft = Draft {
-        steps: List::new(alloc),
-        next,
-        lows: vec![in alloc; None; view.variables.len()]?,
-        highs: vec![in alloc; None; view.variables.len()]?,
-        sums: vec![in alloc; None; sums.len()]?,
-    };
-    if write_ranges(alloc, view, &needs, &mut draft)?.is_none() {
+    if write_wanted(alloc, view, sums, &wanted, draft)?.is_none() {
         return Ok(None);
     }
-    if write_sums(alloc, sums, &wanted, &mut draft)?.is_none() {
+    match number_of(draft, target)? {
+        Some(_) => Ok(Some(())),
+        None => Ok(None),
+    }
+}
+
+/// Writes the wanted sums, after the ends of ranges that they are made of.
+fn write_wanted(
+    alloc: Global,
+    view: View<'_>,
+    sums: &[Sum],
+    wanted: &[bool],
+    draft: &mut Draft,
+) -> Result<Option<()>, Mem> {
+    if write_needed(alloc, view, sums, wanted, draft)?.is_none() {
         return Ok(None);
     }
-    if number_of(&mut draft, target)?.is_none() {
-        return Ok(None);
-    }
-    Ok(Some(draft.steps))
+    write_sums(alloc, sums, wanted, draft)
+}
+
+/// Writes the ends of ranges that the wanted sums are made of.
+fn write_needed(
+    alloc: Global,
+    view: View<'_>,
+    sums: &[Sum],
+    wanted: &[bool],
+    draft: &mut Draft,
+) -> Result<Option<()>, Mem> {
+    let needs = needed_ends(alloc, view, sums, wanted)?;
+    write_ranges(alloc, view, &needs, draft)
 }
 
 /// Which sums a source is made of.
@@ -77,25 +130,32 @@ fn want(wanted: &mut [bool], source: Source) {
 
 /// Which ends of ranges the wanted sums are made of, and which those are made of in turn.
 fn needed_ends(alloc: Global, view: View<'_>, sums: &[Sum], wanted: &[bool]) -> Result<Needs, Mem> {
-    let mut needs = Needs {
-        lows: vec![in alloc; false; view.variables.len()]?,
-        highs: vec![in alloc; false; view.variables.len()]?,
-    };
+    let mut needs = Needs::new(alloc, view.variables.len())?;
+    need_parts(&mut needs, sums, wanted);
+    need_further(view, &mut needs);
+    Ok(needs)
+}
+
+/// Needs the ends of ranges in the wanted sums.
+fn need_parts(needs: &mut Needs, sums: &[Sum], wanted: &[bool]) {
     for (number, sum) in sums.iter().enumerate() {
         if wanted.get(number).copied() == Some(true) {
-            need(&mut needs, sum.first.of);
-            need(&mut needs, sum.second.of);
+            need(needs, sum.first.of);
+            need(needs, sum.second.of);
         }
     }
+}
+
+/// Needs what the needed ends are made of, from the highest variable down.
+fn need_further(view: View<'_>, needs: &mut Needs) {
     for (place, bounds) in view.bounds.iter().enumerate().rev() {
         if needs.lows.get(place).copied() == Some(true) {
-            need_ends(view, &mut needs, place, bounds.low);
+            need_ends(view, needs, place, bounds.low);
         }
         if needs.highs.get(place).copied() == Some(true) {
-            need_ends(view, &mut needs, place, bounds.high);
+            need_ends(view, needs, place, bounds.high);
         }
     }
-    Ok(needs)
 }
 
 fn need(needs: &mut Needs, source: Source) {
@@ -226,6 +286,20 @@ fn write_end(
     };
     let mut parts = List::new(alloc);
     parts.push((1, number))?;
+    match add_ends(view, draft, place, row, &mut parts)? {
+        Some(own) => put_end(draft, number, parts, own),
+        None => Ok(None),
+    }
+}
+
+/// Adds the ends of the other variables in a bound of the variable at a place, and gives the size of its coefficient.
+fn add_ends(
+    view: View<'_>,
+    draft: &mut Draft,
+    place: usize,
+    row: &Row,
+    parts: &mut List<(i128, u32)>,
+) -> Result<Option<i128>, Mem> {
     let mut own = 1;
     for term in row.terms.as_slice() {
         let (Some(other), Some(size)) = (view.place_of(term.0), term.1.checked_abs()) else {
@@ -240,6 +314,16 @@ fn write_end(
             parts.push((size, end))?;
         }
     }
+    Ok(Some(own))
+}
+
+/// Writes the sum of the parts, of which the row of this number is the first, divided by the size of a coefficient.
+fn put_end(
+    draft: &mut Draft,
+    number: u32,
+    parts: List<(i128, u32)>,
+    own: i128,
+) -> Result<Option<u32>, Mem> {
     let sum = if parts.len() > 1 {
         put(draft, Step::Sum(parts))?
     } else {
@@ -259,27 +343,62 @@ fn write_sums(
     draft: &mut Draft,
 ) -> Result<Option<()>, Mem> {
     let mut parts = List::new(alloc);
+    match write_closed(alloc, sums, wanted, draft, &mut parts)? {
+        Some(last) => close(draft, parts, last),
+        None => Ok(None),
+    }
+}
+
+/// Writes the wanted sums but the parts of the last one, and gives its number.
+fn write_closed(
+    alloc: Global,
+    sums: &[Sum],
+    wanted: &[bool],
+    draft: &mut Draft,
+    parts: &mut List<(i128, u32)>,
+) -> Result<Option<usize>, Mem> {
     let mut last = 0;
     for (number, sum) in sums.iter().enumerate() {
         if wanted.get(number).copied() == Some(true) {
-            if !(goes_on(sum.first, last) && !parts.is_empty()) {
-                if close(draft, parts, last)?.is_none() {
-                    return Ok(None);
-                }
-                parts = List::new(alloc);
-                let Some(first) = number_of(draft, sum.first.of)? else {
-                    return Ok(None);
-                };
-                parts.push((sum.first.times, first))?;
-            }
-            let Some(second) = number_of(draft, sum.second.of)? else {
+            if add_sum(alloc, draft, parts, last, sum)?.is_none() {
                 return Ok(None);
-            };
-            parts.push((sum.second.times, second))?;
+            }
             last = number;
         }
     }
-    close(draft, parts, last)
+    Ok(Some(last))
+}
+
+/// Adds a sum to the parts that go up to the sum of this number, or writes those and begins anew.
+fn add_sum(
+    alloc: Global,
+    draft: &mut Draft,
+    parts: &mut List<(i128, u32)>,
+    last: usize,
+    sum: &Sum,
+) -> Result<Option<()>, Mem> {
+    if !(goes_on(sum.first, last) && !parts.is_empty()) {
+        let before = std::mem::replace(parts, List::new(alloc));
+        if close(draft, before, last)?.is_none() {
+            return Ok(None);
+        }
+        if add_part(draft, parts, sum.first)?.is_none() {
+            return Ok(None);
+        }
+    }
+    add_part(draft, parts, sum.second)
+}
+
+fn add_part(
+    draft: &mut Draft,
+    parts: &mut List<(i128, u32)>,
+    part: Part,
+) -> Result<Option<()>, Mem> {
+    let Some(number) = number_of(draft, part.of)? else {
+        return Ok(None);
+    };
+    parts.push((part.times, number))?;
+    Ok(Some(()))
 }
 
 /// Whether a part is the sum of this number once.

@@ -2,7 +2,13 @@ use Rattle.std.proofs.Common.{◌+◌, ◌*◌}
 use Rattle.lin_search.proofs.cases.+cases.Given as goal
 
 abbrev pub decreases-by_cases : goal.decreases-by_cases
-decreases-by_cases l = 2 * l.depth
+decreases-by_cases l = 4 * l.depth
 
 abbrev pub decreases-halved : goal.decreases-halved
-decreases-halved l = 2 * l.depth + 1
+decreases-halved l = 4 * l.depth + 3
+
+abbrev pub decreases-other_half : goal.decreases-other_half
+decreases-other_half l = 4 * l.depth + 2
+
+abbrev pub decreases-in_case : goal.decreases-in_case
+decreases-in_case l = 4 * l.depth + 1
