@@ -44,16 +44,31 @@ fn joined(
     second: Source,
 ) -> Result<Option<Source>, Mem> {
     for pair in opposites(alloc, view, sums, first, second)? {
-        let count = sums.len();
-        if let Some(sum) = cancel(alloc, view, sums, first, second, pair.0, pair.1)? {
-            if let Some(end) = eliminate(alloc, view, sums, sum, 0, Manner::Exact)? {
-                if is_closed(view, sums, end) {
-                    return Ok(Some(end));
-                }
+        if let Some(end) = joined_by(alloc, view, sums, first, second, pair)? {
+            return Ok(Some(end));
+        }
+    }
+    Ok(None)
+}
+
+/// A contradiction from two rows, a variable with these coefficients in them being taken away first.
+fn joined_by(
+    alloc: Global,
+    view: View<'_>,
+    sums: &mut Vec<Sum>,
+    first: Source,
+    second: Source,
+    pair: (i128, i128),
+) -> Result<Option<Source>, Mem> {
+    let count = sums.len();
+    if let Some(sum) = cancel(alloc, view, sums, first, second, pair.0, pair.1)? {
+        if let Some(end) = eliminate(alloc, view, sums, sum, 0, Manner::Exact)? {
+            if is_closed(view, sums, end) {
+                return Ok(Some(end));
             }
         }
-        sums.truncate(count);
     }
+    sums.truncate(count);
     Ok(None)
 }
 

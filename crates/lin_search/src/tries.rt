@@ -101,10 +101,14 @@ fn spread(
     variables: u32,
 ) -> Result<List<i128>, Mem> {
     let mut all = vec![in alloc; 0; variables as usize]?;
+    set_all(&mut all, places, values);
+    Ok(List::from(all))
+}
+
+fn set_all(all: &mut [i128], places: &[u32], values: &[i128]) {
     for (variable, value) in places.iter().zip(values) {
         if let Some(here) = all.get_mut(*variable as usize) {
             *here = *value;
         }
     }
-    Ok(List::from(all))
 }

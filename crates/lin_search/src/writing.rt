@@ -111,13 +111,18 @@ fn write_needed(
 fn wanted(alloc: Global, sums: &[Sum], target: Source) -> Result<Vec<bool>, Mem> {
     let mut wanted = vec![in alloc; false; sums.len()]?;
     want(&mut wanted, target);
+    want_parts(&mut wanted, sums);
+    Ok(wanted)
+}
+
+/// Wants what the wanted sums are made of, from the last one down.
+fn want_parts(wanted: &mut [bool], sums: &[Sum]) {
     for (number, sum) in sums.iter().enumerate().rev() {
         if wanted.get(number).copied() == Some(true) {
-            want(&mut wanted, sum.first.of);
-            want(&mut wanted, sum.second.of);
+            want(wanted, sum.first.of);
+            want(wanted, sum.second.of);
         }
     }
-    Ok(wanted)
 }
 
 fn want(wanted: &mut [bool], source: Source) {
@@ -149,12 +154,17 @@ fn need_parts(needs: &mut Needs, sums: &[Sum], wanted: &[bool]) {
 /// Needs what the needed ends are made of, from the highest variable down.
 fn need_further(view: View<'_>, needs: &mut Needs) {
     for (place, bounds) in view.bounds.iter().enumerate().rev() {
-        if needs.lows.get(place).copied() == Some(true) {
-            need_ends(view, needs, place, bounds.low);
-        }
-        if needs.highs.get(place).copied() == Some(true) {
-            need_ends(view, needs, place, bounds.high);
-        }
+        need_below(view, needs, place, *bounds);
+    }
+}
+
+/// Needs what the needed ends of the range of the variable at a place are made of.
+fn need_below(view: View<'_>, needs: &mut Needs, place: usize, bounds: Bounds) {
+    if needs.lows.get(place).copied() == Some(true) {
+        need_ends(view, needs, place, bounds.low);
+    }
+    if needs.highs.get(place).copied() == Some(true) {
+        need_ends(view, needs, place, bounds.high);
     }
 }
 
