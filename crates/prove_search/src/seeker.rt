@@ -6,7 +6,7 @@ use crate::pool::{Known, Pool, Signs};
 use crate::renumbering::{Numbering, copied};
 use crate::trail::{Found, Ranks};
 use cert_path::{AXIS_COUNT, variable_of};
-use lin_proof::Answer;
+use lin_proof::{Answer, Derivation};
 use lin_row::{Row, RowFault};
 use lin_search::{Search, refute};
 use std::alloc::Global;
@@ -245,19 +245,29 @@ impl<'a> Seeker<'a> {
         let cone = cone_of(self.alloc(), &self.floors, base, &question.row)?;
         match self.refuted(contrary, cone.as_slice())? {
             Search::Found(why) => {
-                let found = Found {
-                    yes,
-                    why,
-                    path: self.path_facts()?,
-                    base,
-                    cone: self.ranks.cone_at(self.alloc(), cone)?,
-                };
-                self.found.push(found)?;
+                self.keep(yes, why, base, cone)?;
                 Ok(self.recall(question, floors)?)
             }
             Search::Point(values) => self.left_open(&question.row, Some(values)),
             Search::GaveUp => self.left_open(&question.row, None),
         }
+    }
+
+    /// Keeps an answer with its derivation, over so many variables of the path and these floors behind it.
+    fn keep(&mut self, yes: bool, why: Derivation, base: u32, cone: Vec<u32>) -> Result<(), Mem>
+        ensures coeffs { self.new.coeffs ≡ self.old.coeffs }
+        ensures opens { self.new.opens ≡ self.old.opens }
+    {
+        let path = self.path_facts()?;
+        let cone = self.ranks.cone_at(self.alloc(), cone)?;
+        self.found.push(Found {
+            yes,
+            why,
+            path,
+            base,
+            cone,
+        })?;
+        Ok(())
     }
 
     /// The answer to a question that this run didn't ask before, where it is the next one.
