@@ -8,7 +8,7 @@ formulas and truths; in jobs/ and certs/ jobs and certificates with what the pro
 grammar.jsonl, texts with the place up to which some certificate's text begins so, or null where they are a certificate's.
 Long cases come behind these, the cases of layout that tools/layout_cases.py reads, those of tools/limit_cases.py and the documents of
 tools/worked_pages.py. What is called goes to crates/cases/stdin and what it must give to crates/cases/stdout, a line of JSON each. A page
-goes flat: its nodes in document order, each with its parent's place; a formula as steps, each part before what it is a part of.
+goes as a job that has it; a formula as steps, each part before what it is a part of.
 """
 import json
 import pathlib
@@ -29,21 +29,13 @@ def compact(value):
 
 # ---- pages
 
-def nodes_of(element):
-    nodes = []
+FONT = {"name": "f", "upem": 1, "ascent": 0, "descent": 0, "default": 0}
 
-    def walk(node, parent):
-        at = len(nodes)
-        if isinstance(node, str):
-            nodes.append([parent, node])
-            return
-        attrs = [[name.lower(), value] for name, value in node.get("attrs", {}).items()]
-        nodes.append([parent, node["tag"].lower(), attrs, node.get("size")])
-        for child in node.get("children", []):
-            walk(child, at)
 
-    walk(element, None)
-    return nodes
+def job_of(element):
+    """A job that has the page."""
+    ends = {"widths": [320, 320], "sizes": [16, 16], "height": 600}
+    return compact({"vizlog": 1, **ends, "fonts": [FONT], "page": element, "assert": ""})
 
 
 # ---- formulas
@@ -217,7 +209,7 @@ def selectors(case):
 
 
 def matches(case):
-    return [nodes_of(case["page"]), [selector for selector, _ in case["cases"]]], [nodes for _, nodes in case["cases"]]
+    return [job_of(case["page"]), [selector for selector, _ in case["cases"]]], [nodes for _, nodes in case["cases"]]
 
 
 def decimals(case):
@@ -231,7 +223,7 @@ def values(case):
 
 
 def cascade(case):
-    given = [nodes_of(case["page"]), case["css"]]
+    given = [job_of(case["page"]), case["css"]]
     if "fault" in case:
         return given, fault(case)
     return given, [[node, prop, without_keyword(value)] for node, prop, value in case["winners"]]
@@ -248,14 +240,14 @@ def steps_in(formula):
 
 
 def formulas(case):
-    given = [nodes_of(case["page"]), case["text"]]
+    given = [job_of(case["page"]), case["text"]]
     if "fault" in case:
         return given + [[]], fault(case)
     return given + [steps_in(case["formula"])], True
 
 
 def truths(case):
-    given = [nodes_of(case["page"]), steps_of(case["formula"]), case["w"], case["s"], case["height"], case["boxes"]]
+    given = [job_of(case["page"]), steps_of(case["formula"]), case["w"], case["s"], case["height"], case["boxes"]]
     return given, case["truth"]
 
 
@@ -320,7 +312,8 @@ def long_cases():
     yield ["declarations", "/*" + "x" * 70000 + "*/a:b"], [["a", 70006, 1, False]]
     yield ["selectors", "p" + ".a" * 300], [[[["First", "p", [["Class", "a"]] * 300]], [0, 0, 300, 1]]]
     yield ["selectors", "a" * 70000 + "&"], "Bad 70000"
-    page = [[None, "html", [], None], [0, "body", [], None]] + [[1, "p", [["class", "a"]], None] for _ in range(1000)]
+    paragraph = {"tag": "p", "attrs": {"class": "a"}}
+    page = job_of({"tag": "html", "children": [{"tag": "body", "children": [paragraph] * 1000}]})
     yield ["matches", page, ["p.a:first-child,body", "p+p"]], [[1, 2], list(range(3, 1002))]
     block = ["Display", ["Word", 1]]
     margins = [[side, ["Px", 64]] for side in ("MarginTop", "MarginRight", "MarginBottom", "MarginLeft")]
@@ -331,7 +324,7 @@ def long_cases():
     yield ["values", "font-family", ",".join(names)], [["FontFamily", ["Names", names]]]
     box = ["Block", 0] + [0, 0, 64, 64] * 4
     steps = [["Cmp", [[1, ["Name", 0, "Border", "Right"]]] * 70, "Le", [[1, ["One"]]] * 4480], ["Forall", ["Of", "Block"]]]
-    yield ["truths", [[None, "html", [], None]], steps, 320, 16, 600, [box] * 300], True
+    yield ["truths", job_of({"tag": "html"}), steps, 320, 16, 600, [box] * 300], True
 
 
 CALLS = [decimals, tokens, sheets, declarations, selectors, matches, values, cascade, formulas, truths]

@@ -48,14 +48,13 @@ def layouts():
     """As many elements as a page may have, and an assertion as long as one may be."""
     yield ["lay", job(column(4095), [320, 320], [16, 16]), 320, 16], ["Done", column_text(4095, 320)]
     yield ["lay", job(column(4096), [320, 320], [16, 16]), 320, 16], ["JobRefused", "job-refused limit elements 4097\n"]
-    page = [[None, "div", [], None]]
     text, steps = "true" + " and true" * 1820, [["Const", True]] + [["Const", True], ["And"]] * 1820
     assert len(text) == 16384
     # one word of as many letters as a page may have, each half of 1024 units wide, and no line breaks it
     word, box, letters = block("", ["a" * 262144]), "0 0 20480 1228", f"0 102 {512 * 262144} 1125"
     told = "".join(f"{name} m {edges} b {edges} p {edges} c {edges}\n" for name, edges in (("block 0", box), ("line 0", box), ("text 1", letters)))
     yield ["lay", job(word, [320, 320], [16, 16]), 320, 16], ["Done", told]
-    yield ["formulas", page, text, steps], True
+    yield ["formulas", job(column(0), [320, 320], [16, 16]), text, steps], True
     yield ["lay", job(column(0), [320, 320], [16, 16], text), 320, 16], ["Done", column_text(0, 320)]
     yield ["lay", job(column(0), [320, 320], [16, 16], text + " "), 320, 16], ["JobRefused", "job-refused limit formula 16385\n"]
 
