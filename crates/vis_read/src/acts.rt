@@ -29,6 +29,19 @@ fn anded(alloc: Global, left: Option<Formula>, right: Formula) -> Result<Formula
     }
 }
 
+/// A conjunction with a formula behind so many `not`s as its last operand.
+fn conjoined(
+    alloc: Global,
+    nots: u32,
+    left: Option<Formula>,
+    formula: Formula,
+) -> Result<Formula, Mem>
+    ensures { IfOk result (λ f. f ≡ anded left (notted nots formula)) }
+{
+    let right = notted(alloc, nots, formula)?;
+    anded(alloc, left, right)
+}
+
 /// A disjunction with what stands on its left, where there is such; its only error is want of memory.
 pub fn ored(alloc: Global, left: Option<Formula>, right: Formula) -> Result<Formula, Mem>
     ensures { IfOk result (λ f. f ≡ ored left right) }
@@ -228,31 +241,20 @@ impl Reading {
     }
 
     /// With the conjunction of which it has one more operand, and behind it.
-    pub fn joined(self, alloc: Global, formula: Formula) -> Result<(Self, Formula), Mem>
+    pub fn joined(mut self, alloc: Global, formula: Formula) -> Result<(Self, Formula), Mem>
         ensures { IfOk result (λ p. p ≡ (settled self, joined self formula)) }
     {
-        let Reading {
-            frames,
-            names,
-            level,
-            nots,
-            disjunct,
-            conjunct,
-            place,
-            ..
-        } = self;
-        let formula = anded(alloc, conjunct, notted(alloc, nots, formula)?)?;
-        let rest = Reading {
-            frames,
-            names,
-            level,
-            nested: level,
-            nots: 0,
-            disjunct,
-            conjunct: None,
-            place,
-        };
-        Ok((rest, formula))
+        match conjoined(alloc, self.nots, self.conjunct.take(), formula) {
+            Ok(formula) => {
+                self.nested = self.level;
+                self.nots = 0;
+                Ok((self, formula))
+            }
+            Err(mem) => {
+                drop(self);
+                Err(mem)
+            }
+        }
     }
 
     /// Behind an operand.

@@ -1,4 +1,4 @@
-ghost use Rattle.std.specs.Prelude.{◌≡◌, ◌∷◌, ◌+◌, ◌<◌, IfOk, MatchResult};
+ghost use Rattle.std.specs.Prelude.{◌≡◌, ◌∷◌, ◌+◌, ◌<◌, IfOk, MatchResult, OnOk};
 ghost use Rattle.vis_read.specs.Grammar.{comparison};
 ghost use Rattle.vis_read.specs.steps.Machine.{Ends, Moves, Steps, at_first, at_operand, at_quantifier, at_second, bind, close_parens, compared_with, ended, implied, inner, ored, step, step_added, step_behind, step_binder, step_comma, step_compared, step_domain, step_first, step_last, step_number, step_operand, step_pair, step_quantifier, step_ranged, step_second, step_start, closing, ended_added, move_at, negated, opened, quantifier, step_sign, whole, with_and, with_or, with_part};
 
@@ -51,13 +51,19 @@ fn pushed(frames: Stack<Frame>, frame: Frame) -> Result<Stack<Frame>, Mem>
     Ok(frames)
 }
 
-/// With one more name that is bound.
-fn bound(names: Stack<Text>, name: Text) -> Result<Stack<Text>, Mem>
-    ensures { IfOk result (λ all. all ≡ name ∷ names) }
+/// With one more thing that is open, and a name that is bound in it.
+fn open_frame(
+    frames: &mut Stack<Frame>,
+    names: &mut Stack<Text>,
+    frame: Frame,
+    name: Text,
+) -> Result<(), Mem>
+    ensures frames { OnOk result (frames.new ≡ frame ∷ frames.old) }
+    ensures names { OnOk result (names.new ≡ name ∷ names.old) }
 {
-    let mut names = names;
+    frames.push(frame)?;
     names.push(name)?;
-    Ok(names)
+    Ok(())
 }
 
 /// Behind `and`.
@@ -406,27 +412,20 @@ fn step_domain(reading: &Reading, q: Quantifier, name: Text, lexeme: Lexeme) -> 
 fn bind(reading: Reading, q: Quantifier, name: Text, set: Set) -> Result<Reading, Mem>
     ensures { IfOk result (λ next. next ≡ bind reading q name set) }
 {
-    let Held {
-        frames,
-        names,
-        level: _,
-        nested,
-        nots,
-        disjunct,
-        conjunct,
-    } = reading.held();
-    let frames = pushed(frames, Frame::Quantified(q, set))?;
-    let names = bound(names, name)?;
-    Ok(Reading {
-        frames,
-        names,
-        level: nested,
-        nested,
-        nots,
-        disjunct,
-        conjunct,
-        place: Place::Start,
-    })
+    let mut next = reading.at(Place::Start);
+    next.level = next.nested;
+    match open_frame(
+        &mut next.frames,
+        &mut next.names,
+        Frame::Quantified(q, set),
+        name,
+    ) {
+        Ok(()) => Ok(next),
+        Err(mem) => {
+            drop(next);
+            Err(mem)
+        }
+    }
 }
 
 fn step_ranged(
