@@ -38,13 +38,25 @@ fn call(
     }
 }
 
-/// What the calls of a case give: a job whose page has the box tree, the world, and a list of what to call it with.
-pub fn answer(alloc: Global, name: &str, case: &Value) -> Result<String, Fault> {
-    let job = build_job(alloc, text_at(case, 1)?.as_bytes())?;
-    let mut calc = calc_in(case)?;
+/// What the calls on the box tree of a job give.
+fn calls(
+    alloc: Global,
+    name: &str,
+    calc: &mut Plain,
+    job: &Job,
+    values: &[Value],
+) -> Result<String, Fault> {
     let mut found = Vec::new(alloc);
-    for value in list_at(case, 4)? {
-        found.push(call(alloc, name, &mut calc, &job, value)?)?;
+    for value in values {
+        found.push(call(alloc, name, calc, job, value)?)?;
     }
     Ok(listed(alloc, found.as_slice())?)
+}
+
+/// What the calls of a case give: a job whose page has the box tree, the world, and a list of what to call it with.
+pub fn answer(alloc: Global, name: &str, case: &Value) -> Result<String, Fault> {
+    let values = list_at(case, 4)?;
+    let mut calc = calc_in(case)?;
+    let job = build_job(alloc, text_at(case, 1)?.as_bytes())?;
+    calls(alloc, name, &mut calc, &job, values)
 }

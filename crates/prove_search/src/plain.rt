@@ -75,10 +75,10 @@ fn split(
 ) -> Result<CertNode, Mem>
     ensures { IfOk result (λ node. node ≡ Split (row_up_to axis middle) first second) }
 {
-    let row = Row::of_term(alloc, i128::from(middle), variable_of(axis), -1)?;
-    let row = Boxed::new(alloc, row)?;
     let first = Boxed::new(alloc, first)?;
     let second = Boxed::new(alloc, second)?;
+    let row = Row::of_term(alloc, i128::from(middle), variable_of(axis), -1)?;
+    let row = Boxed::new(alloc, row)?;
     Ok(CertNode::Split(row, first, second))
 }
 

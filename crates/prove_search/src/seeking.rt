@@ -128,26 +128,32 @@ fn sought(place: &mut Place<'_>) -> Result<CertNode, Stop> {
 /// The corners of a rectangle, the middles of its edges, and its own, each where the formula is true.
 pub fn first_pool(place: &Place<'_>, rect: Rect) -> Result<Pool, Stop> {
     let mut pool = Pool::new(place.alloc);
-    let mut widths = Vec::new(place.alloc);
-    for w in [middle(rect.wl, rect.wh), rect.wl, rect.wh] {
-        if !widths.contains(&w) {
-            widths.push(w)?;
-        }
-    }
-    let mut sizes = Vec::new(place.alloc);
-    for s in [middle(rect.sl, rect.sh), rect.sl, rect.sh] {
-        if !sizes.contains(&s) {
-            sizes.push(s)?;
-        }
-    }
+    let widths = middle_and_ends(place.alloc, rect.wl, rect.wh)?;
+    let sizes = middle_and_ends(place.alloc, rect.sl, rect.sh)?;
     for w in &widths {
         for s in &sizes {
-            let world = World { w: *w, s: *s };
-            try_world(place, world)?;
-            pool.worlds.push(Known::new(place.alloc, world)?)?;
+            try_known(place, &mut pool, World { w: *w, s: *s })?;
         }
     }
     Ok(pool)
+}
+
+/// The middle of a range and its ends, each once.
+fn middle_and_ends(alloc: Global, least: u32, most: u32) -> Result<Vec<u32>, AllocError> {
+    let mut found = Vec::new(alloc);
+    for number in [middle(least, most), least, most] {
+        if !found.contains(&number) {
+            found.push(number)?;
+        }
+    }
+    Ok(found)
+}
+
+/// Adds a world to the known ones, or stops at it where the formula is false.
+fn try_known(place: &Place<'_>, pool: &mut Pool, world: World) -> Result<(), Stop> {
+    try_world(place, world)?;
+    pool.worlds.push(Known::new(place.alloc, world)?)?;
+    Ok(())
 }
 
 /// Stops at a world of the range at which the formula is false.
@@ -354,14 +360,24 @@ fn define(
         name(place, &mut pool, floor)?;
         below = below.saturating_sub(1);
     }
-    let mut node = split(place, pool, rect, below, row)?;
+    let node = split(place, pool, rect, below, row)?;
     leave(place, facts, named);
+    Ok(defined(place.alloc, defs, node)?)
+}
+
+/// A node below the definitions of floors, each a row and what it is divided by.
+fn defined(alloc: Global, defs: Vec<(Row, i128)>, node: CertNode) -> Result<CertNode, Mem> {
+    let mut whole = node;
     for (row, by) in defs.into_iter().rev() {
-        let row = Boxed::new(place.alloc, row)?;
-        let by = Boxed::new(place.alloc, by)?;
-        node = CertNode::Def(row, by, Boxed::new(place.alloc, node)?);
+        whole = below_def(alloc, row, by, whole)?;
     }
-    Ok(node)
+    Ok(whole)
+}
+
+fn below_def(alloc: Global, row: Row, by: i128, node: CertNode) -> Result<CertNode, Mem> {
+    let node = Boxed::new(alloc, node)?;
+    let row = Boxed::new(alloc, row)?;
+    Ok(CertNode::Def(row, Boxed::new(alloc, by)?, node))
 }
 
 /// Names a floor on the path.

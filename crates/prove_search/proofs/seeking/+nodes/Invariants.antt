@@ -21,6 +21,3 @@ decreases-split l = 6 * l.place.now.turns + 2
 
 abbrev pub invariant-define-loop-floor : goal.invariant-define-loop-floor
 invariant-define-loop-floor l = l.place.turns ≤ l.fn.place.turns
-
-abbrev pub invariant-define-loop-row : goal.invariant-define-loop-row
-invariant-define-loop-row l = l.place.turns ≤ l.fn.place.turns
