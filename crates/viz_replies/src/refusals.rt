@@ -1,5 +1,5 @@
 //! The lines of jobs that are refused.
-ghost use Rattle.std.specs.Prelude.{◌≡◌, ◌≢◌, IfOk};
+ghost use Rattle.std.specs.Prelude.{◌≡◌, ◌≢◌, [], ◌∷◌, IfOk};
 ghost use Rattle.viz_replies.specs.Lines.{numbered};
 ghost use Rattle.viz_replies.specs.Jobs.{limit_words, refusal_line, shape_words, value_line};
 
@@ -59,6 +59,21 @@ fn refused(alloc: Global, words: &[u8], numbers: &[u64]) -> Result<Reply, Mem>
     numbered_line(alloc, Answer::JobRefused, words, numbers)
 }
 
+/// A reply of one line of words and a place.
+fn refused_at(alloc: Global, words: &[u8], at: u32) -> Result<Reply, Mem>
+    ensures { IfOk result (λ r. (r.answer ≡ Answer.JobRefused) × (r.output.items ≡ numbered words.now (at ∷ []))) }
+{
+    refused(alloc, words, &[u64::from(at)])
+}
+
+/// A reply of one line of words, a sheet or a node, and a place or a character in it.
+fn refused_in(alloc: Global, words: &[u8], number: u32, at: u32) -> Result<Reply, Mem>
+    ensures { IfOk result (λ r. (r.answer ≡ Answer.JobRefused)
+        × (r.output.items ≡ numbered words.now (number ∷ at ∷ []))) }
+{
+    refused(alloc, words, &[u64::from(number), u64::from(at)])
+}
+
 /// The reply where a job is refused.
 pub fn refusal(alloc: Global, fault: JobRefusal) -> Result<Reply, Mem>
     ensures { IfOk result (λ r. (fault ≢ JobRefusal.Mem) × (r.answer ≡ Answer.JobRefused)
@@ -67,55 +82,33 @@ pub fn refusal(alloc: Global, fault: JobRefusal) -> Result<Reply, Mem>
     match fault {
         JobRefusal::Mem => Err(Mem),
         JobRefusal::NotJson => line(alloc, Answer::JobRefused, b"job-refused not-json\n"),
-        JobRefusal::Shape(part, place) => refused(alloc, shape_words(part), &[u64::from(place)]),
+        JobRefusal::Shape(part, place) => refused_at(alloc, shape_words(part), place),
         JobRefusal::Limit(which, count) => refused(alloc, limit_words(which), &[count]),
         JobRefusal::Range => line(alloc, Answer::JobRefused, b"job-refused range\n"),
-        JobRefusal::Import(sheet, at) => refused(
-            alloc,
-            b"job-refused import",
-            &[u64::from(sheet), u64::from(at)],
-        ),
-        JobRefusal::MediaQuery(sheet, at) => refused(
-            alloc,
-            b"job-refused media-query",
-            &[u64::from(sheet), u64::from(at)],
-        ),
-        JobRefusal::TooManyRules(sheet) => refused(
-            alloc,
-            b"job-refused too-many-rules",
-            &[u64::from(sheet)],
-        ),
-        JobRefusal::Selector(sheet, at) => refused(
-            alloc,
-            b"job-refused unsupported-selector",
-            &[u64::from(sheet), u64::from(at)],
-        ),
+        JobRefusal::Import(sheet, at) => refused_in(alloc, b"job-refused import", sheet, at),
+        JobRefusal::MediaQuery(sheet, at) => {
+            refused_in(alloc, b"job-refused media-query", sheet, at)
+        }
+        JobRefusal::TooManyRules(sheet) => refused_at(alloc, b"job-refused too-many-rules", sheet),
+        JobRefusal::Selector(sheet, at) => {
+            refused_in(alloc, b"job-refused unsupported-selector", sheet, at)
+        }
         JobRefusal::Value(node, prop, value) => Ok(Reply {
             answer: Answer::JobRefused,
             output: value_line(alloc, node, prop, value.as_str())?,
         }),
-        JobRefusal::BlockInInline(node) => refused(
-            alloc,
-            b"job-refused block-in-inline",
-            &[u64::from(node)],
-        ),
-        JobRefusal::RightToLeft(node, letter) => refused(
-            alloc,
-            b"job-refused right-to-left",
-            &[u64::from(node), u64::from(u32::from(letter))],
-        ),
+        JobRefusal::BlockInInline(node) => refused_at(alloc, b"job-refused block-in-inline", node),
+        JobRefusal::RightToLeft(node, letter) => {
+            refused_in(alloc, b"job-refused right-to-left", node, u32::from(letter))
+        }
         JobRefusal::TooManyBoxes => line(
             alloc,
             Answer::JobRefused,
             b"job-refused too-many-boxes\n",
         ),
-        JobRefusal::Reach(node) => refused(alloc, b"job-refused reach", &[u64::from(node)]),
-        JobRefusal::Bad(at) => refused(alloc, b"job-refused formula-bad", &[u64::from(at)]),
-        JobRefusal::Unbound(at) => {
-            refused(alloc, b"job-refused formula-unbound", &[u64::from(at)])
-        }
-        JobRefusal::TooDeep(at) => {
-            refused(alloc, b"job-refused formula-too-deep", &[u64::from(at)])
-        }
+        JobRefusal::Reach(node) => refused_at(alloc, b"job-refused reach", node),
+        JobRefusal::Bad(at) => refused_at(alloc, b"job-refused formula-bad", at),
+        JobRefusal::Unbound(at) => refused_at(alloc, b"job-refused formula-unbound", at),
+        JobRefusal::TooDeep(at) => refused_at(alloc, b"job-refused formula-too-deep", at),
     }
 }
