@@ -86,7 +86,11 @@ fn refusal(alloc: Global, refusal: &JobRefusal) -> Result<String, Fault> {
 /// The box tree of a job, or what refuses it.
 pub fn answer(alloc: Global, case: &Value) -> Result<String, Fault> {
     match build_job(alloc, text_at(case, 1)?.as_bytes()) {
-        Ok(job) => Ok(tree_text(alloc, &job.tree)?),
+        Ok(job) => {
+            let text = tree_text(alloc, &job.tree);
+            drop(job);
+            Ok(text?)
+        }
         Err(fault) => refusal(alloc, &fault),
     }
 }

@@ -207,16 +207,24 @@ fn refusal(alloc: Global, fault: FormulaFault) -> Result<String, Fault> {
 
 /// Whether a formula is the one that steps make.
 fn is_made(alloc: Global, page: &Page, read: &Formula, steps: &[Value]) -> Result<bool, Fault> {
-    Ok(*read == formula(alloc, page, steps)?)
+    let made = formula(alloc, page, steps)?;
+    let same = *read == made;
+    drop(made);
+    Ok(same)
+}
+
+/// Whether what is read is the formula that steps make.
+fn compared(alloc: Global, page: &Page, read: Formula, steps: &[Value]) -> Result<String, Fault> {
+    let same = is_made(alloc, page, &read, steps);
+    drop(read);
+    Ok(format!(in alloc; "{}", same?)?)
 }
 
 /// What is read of the text of a case on its page.
 fn told(alloc: Global, page: &Page, case: &Value) -> Result<String, Fault> {
+    let steps = list_at(case, 3)?;
     match read_formula(alloc, text_at(case, 2)?, page) {
-        Ok(read) => {
-            let same = is_made(alloc, page, &read, list_at(case, 3)?)?;
-            Ok(format!(in alloc; "{same}")?)
-        }
+        Ok(read) => compared(alloc, page, read, steps),
         Err(fault) => refusal(alloc, fault),
     }
 }

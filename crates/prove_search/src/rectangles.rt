@@ -6,6 +6,7 @@ use crate::sampling::Sample;
 use crate::seeking::{GRID, Place, Stop, count_of, explore, first_pool, halving, leave, part};
 use cert_check::Child;
 use cert_text::CertNode;
+use std::alloc::Global;
 use viz_base::{Boxed, Rect};
 
 /// How many leaves a tree is to have at most.
@@ -104,6 +105,11 @@ fn tree(place: &mut Place<'_>, pool: Pool, rect: Rect, depth: u32) -> Result<Cer
     node
 }
 
+/// A node that was found, in a box.
+pub fn boxed(alloc: Global, node: Result<CertNode, Stop>) -> Result<Boxed<CertNode>, Stop> {
+    Ok(Boxed::new(alloc, node?)?)
+}
+
 /// The node of a rectangle by its halves on the longer side, where the turns that are left can be enough for them.
 #[cycle(rectangles)]
 fn in_halves(place: &mut Place<'_>, rect: Rect, depth: u32) -> Result<CertNode, Stop>
@@ -126,10 +132,10 @@ fn in_halves(place: &mut Place<'_>, rect: Rect, depth: u32) -> Result<CertNode, 
     let facts = place.path.facts.len();
     let floors = place.path.floors.len();
     place.path.enter_first(&row)?;
-    let first = Boxed::new(place.alloc, rectangle(place, low, depth)?)?;
+    let first = boxed(place.alloc, rectangle(place, low, depth))?;
     leave(place, facts, floors);
     place.path.enter_second(&row)?;
-    let second = Boxed::new(place.alloc, rectangle(place, high, depth)?)?;
+    let second = boxed(place.alloc, rectangle(place, high, depth))?;
     leave(place, facts, floors);
     let row = Boxed::new(place.alloc, row)?;
     Ok(CertNode::Split(row, first, second))

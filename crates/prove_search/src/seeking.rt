@@ -2,7 +2,7 @@ ghost use Rattle.std.specs.Prelude.{◌≡◌, ◌≤◌};
 
 use crate::halves::{longer_axis, middle};
 use crate::pool::{Known, Pool};
-use crate::rectangles::{Budget, budget_of, rectangle};
+use crate::rectangles::{Budget, boxed, budget_of, rectangle};
 use crate::runs::{Outcome, run};
 use crate::seeker::{LIMIT, Opening};
 use crate::trail::Found;
@@ -429,13 +429,13 @@ fn split(
     let known = place.found.len();
     let (first_pool, second_pool) = pool.parted(place.alloc, &row)?;
     place.path.enter_first(&row)?;
-    let first = side(place, first_pool, part(&row, Child::First, rect), depth)?;
-    let first = Boxed::new(place.alloc, first)?;
+    let first = side(place, first_pool, part(&row, Child::First, rect), depth);
+    let first = boxed(place.alloc, first)?;
     leave(place, facts, named);
     place.found.truncate(known);
     place.path.enter_second(&row)?;
-    let second = side(place, second_pool, part(&row, Child::Second, rect), depth)?;
-    let second = Boxed::new(place.alloc, second)?;
+    let second = side(place, second_pool, part(&row, Child::Second, rect), depth);
+    let second = boxed(place.alloc, second)?;
     leave(place, facts, named);
     place.found.truncate(known);
     let row = Boxed::new(place.alloc, row)?;
