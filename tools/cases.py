@@ -29,13 +29,9 @@ def compact(value):
 
 # ---- pages
 
-FONT = {"name": "f", "upem": 1, "ascent": 0, "descent": 0, "default": 0}
-
-
 def job_of(element):
     """A job that has the page."""
-    ends = {"widths": [320, 320], "sizes": [16, 16], "height": 600}
-    return compact({"vizlog": 1, **ends, "fonts": [FONT], "page": element, "assert": ""})
+    return limit_cases.job(element, [320, 320], [16, 16])
 
 
 # ---- formulas
