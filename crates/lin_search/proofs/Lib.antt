@@ -1,5 +1,2 @@
-mod Cancelling
-mod Closing
-mod Divisors
 mod TermSums
 mod Walks

@@ -1,23 +1,15 @@
 -- What a search for a contradiction among facts answers.
-use Rattle.std.specs.Prelude.{◌≡◌, ℕ, ◌*◌, ◌≤◌, ℤ, pos, Bool, false, ◌&&◌, List, [], ◌∷◌, length, Option, Some, slice_get, slice_index_or}
-use Rattle.lin_row.specs.Number.{in_i128}
+use Rattle.std.specs.Prelude.{◌≡◌, ℕ, ◌*◌, ◌≤◌, ℤ, pos, false, List, length, Some, slice_get, slice_index_or}
 use Rattle.lin_row.specs.Form.{Form}
 use Rattle.lin_proof.specs.Law.{Meets}
-use Rattle.lin_proof.specs.Derivations.{Refutes, is_contradiction, sum_from, zero_form}
+use Rattle.lin_proof.specs.Derivations.{Refutes, is_contradiction}
+use Rattle.lin_pairs.specs.Pairs.{closes}
 use Rattle.lin_search.specs.declared.answer.Search.{Search}
 use Rattle.lin_search.specs.declared.answer.Search.TheVariants.{Found, Point, GaveUp}
 
 -- the values of the variables by their numbers, 0 past the last
 abbrev pub at_point : List ℤ → ℕ → ℤ
 at_point values n = slice_index_or values n (pos 0)
-
--- the sum of positive multiples of two forms, one added after the other, if every number on the way is in `i128`
-abbrev pub sum_of_two : Form → ℤ → Form → ℤ → Option Form
-sum_of_two f a g b = sum_from (f ∷ g ∷ []) zero_form ((a, 0) ∷ (b, 1) ∷ [])
-
--- whether such a sum, its multiples in `i128` too, has no variable and is below 0
-abbrev pub closes : Form → Form → ℤ → ℤ → Bool
-closes f g a b = in_i128 a && in_i128 b && is_contradiction (sum_of_two f a g b)
 
 -- no fact, and no sum of positive multiples of two facts, has no variable and is below 0
 pub record NoneAtHand (facts : List Form) : Type 0 where

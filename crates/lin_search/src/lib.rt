@@ -3,18 +3,8 @@
 
 mod answer;
 mod at_hand;
-mod cases;
-mod multiples;
-mod outline;
-mod pairing;
-mod pairs;
 mod points;
-mod ranges;
 mod refutation;
-mod sources;
-mod sums;
-mod tries;
-mod writing;
 
 pub use answer::Search;
 pub use refutation::refute;

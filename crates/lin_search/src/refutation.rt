@@ -6,9 +6,9 @@ ghost use Rattle.lin_search.specs.steps.Checked.{IsSound};
 use crate::answer::Search;
 use crate::at_hand::refuted_at_hand;
 use crate::points::meets_all;
-use crate::tries::tried;
 use lin_proof::{Derivation, Facts, first_fault_among, line_count};
 use lin_row::Row;
+use lin_stages::{Proposal, propose};
 use std::alloc::Global;
 use viz_base::Mem;
 
@@ -17,7 +17,7 @@ use viz_base::Mem;
 pub fn refute(alloc: Global, facts: &[Row], variables: u32, limit: u64) -> Result<Search, Mem>
     ensures { IfOk result (IsRight facts.now variables limit) }
 {
-    let proposed = tried(alloc, facts, variables, limit)?;
+    let proposed = propose(alloc, facts, variables, limit)?;
     match checked(alloc, facts, variables, proposed)? {
         Search::GaveUp if reaches_pairs(facts.len(), limit) => {
             let found = refuted_at_hand(alloc, facts)?;
@@ -40,22 +40,22 @@ fn reaches_pairs(count: usize, limit: u64) -> bool
     }
 }
 
-/// What a search came to, if it is right; else that it gave up.
-fn checked(alloc: Global, facts: &[Row], variables: u32, answer: Search) -> Result<Search, Mem>
+/// What was proposed, if it is right; else that the search gave up.
+fn checked(alloc: Global, facts: &[Row], variables: u32, proposed: Proposal) -> Result<Search, Mem>
     ensures { IfOk result (IsSound facts.now variables) }
 {
-    match answer {
-        Search::Found(derivation) => {
+    match proposed {
+        Proposal::Found(derivation) => {
             if is_refutation(alloc, facts, variables, &derivation)? {
                 return Ok(Search::Found(derivation));
             }
         }
-        Search::Point(values) => {
+        Proposal::Point(values) => {
             if values.len() == variables as usize && meets_all(facts, values.as_slice()) {
                 return Ok(Search::Point(values));
             }
         }
-        Search::GaveUp => {}
+        Proposal::GaveUp => {}
     }
     Ok(Search::GaveUp)
 }

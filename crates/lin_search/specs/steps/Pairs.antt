@@ -1,20 +1,10 @@
--- Multiples of two forms whose sum may be a contradiction.
-use Rattle.std.specs.Prelude.{◌≡◌, true, false, ℕ, ℤ, pos, ◌<ℤ◌, List, ◌∷◌, Some, slice_get}
-use Rattle.lin_row.specs.Form.{Form, Terms}
-use Rattle.lin_search.specs.declared.multiples.Multiples.{Multiples}
+-- Which facts, and which pairs of facts, are contradictions.
+use Rattle.std.specs.Prelude.{◌≡◌, true, false, ℕ, ℤ, List, Some, slice_get}
+use Rattle.lin_row.specs.Form.{Form}
+use Rattle.lin_pairs.specs.declared.multiples.Multiples.{Multiples}
 use Rattle.lin_proof.specs.Derivations.{is_contradiction}
 use Rattle.lin_search.specs.declared.at_hand.Pair.{Pair}
-use Rattle.lin_search.specs.Answers.{closes}
-
--- positive multiples that close f and g if any do
-pub record IsBest (f g : Form) (m : Multiples) : Type 0 where
-  pub first : pos 0 <ℤ m.first
-  pub second : pos 0 <ℤ m.second
-  pub best : (a b : ℤ) → closes f g a b ≡ true → closes f g m.first m.second ≡ true
-
--- the terms begin with t
-abbrev pub IsFirst : Terms → ℕ × ℤ → Type 0
-IsFirst terms t = (rest : Terms) × (terms ≡ t ∷ rest)
+use Rattle.lin_pairs.specs.Pairs.{closes}
 
 -- no fact is a contradiction by itself
 abbrev pub NoneAlone : List Form → Type 0

@@ -1,6 +1,5 @@
-use crate::multiples::{Multiples, least_multiples};
-use crate::pairs::added;
 use crate::sources::{Source, View, top_term};
+use lin_pairs::{Multiples, added, is_contradiction, least_multiples};
 use lin_row::Row;
 use std::alloc::Global;
 use viz_base::Mem;
@@ -48,7 +47,7 @@ pub fn row_of<'a>(view: View<'a>, sums: &'a [Sum], source: Source) -> Option<&'a
 /// Whether the row of a source says that a number below 0 is at least 0.
 pub fn is_closed(view: View<'_>, sums: &[Sum], source: Source) -> bool {
     match row_of(view, sums, source) {
-        Some(row) => row.terms.is_empty() && row.k < 0,
+        Some(row) => is_contradiction(row),
         None => false,
     }
 }

@@ -1,5 +1,5 @@
 use Rattle.std.proofs.Common.{◌+◌, ◌*◌}
-use Rattle.lin_search.proofs.cases.+cases.Given as goal
+use Rattle.lin_stages.proofs.cases.+cases.Given as goal
 
 abbrev pub decreases-by_cases : goal.decreases-by_cases
 decreases-by_cases l = 4 * l.depth

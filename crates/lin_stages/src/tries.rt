@@ -1,7 +1,7 @@
-use crate::answer::Search;
 use crate::cases::{Ground, Outcome, Scope, by_cases, last_fact};
 use crate::outline::{Outline, read_facts};
 use crate::pairing::paired;
+use crate::proposal::Proposal;
 use crate::sources::{Source, View};
 use crate::sums::{Manner, Sum, eliminate, is_closed};
 use crate::writing::written;
@@ -14,32 +14,37 @@ use viz_base::{List, Mem};
 const DEPTH: u32 = 64;
 
 /// What elimination, pairs and cases come to, the last fact being the one that is to be refuted.
-pub fn tried(alloc: Global, facts: &[Row], variables: u32, limit: u64) -> Result<Search, Mem> {
+pub fn propose(alloc: Global, facts: &[Row], variables: u32, limit: u64) -> Result<Proposal, Mem> {
     let outline = read_facts(alloc, facts)?;
     let ground = Ground {
         facts,
         outline: &outline,
     };
-    tried_on(alloc, ground, variables, limit)
+    proposed_on(alloc, ground, variables, limit)
 }
 
 /// What elimination, pairs and cases come to where the facts have been read.
-fn tried_on(alloc: Global, ground: Ground<'_>, variables: u32, limit: u64) -> Result<Search, Mem> {
+fn proposed_on(
+    alloc: Global,
+    ground: Ground<'_>,
+    variables: u32,
+    limit: u64,
+) -> Result<Proposal, Mem> {
     if let Some(derivation) = quickly(alloc, ground.facts, ground.outline)? {
-        return Ok(Search::Found(derivation));
+        return Ok(Proposal::Found(derivation));
     }
     if limit == 0 {
-        return Ok(Search::GaveUp);
+        return Ok(Proposal::GaveUp);
     }
     match all_cases(alloc, ground, limit)? {
-        Outcome::Closed(derivation) => Ok(Search::Found(derivation)),
-        Outcome::Met(values) => Ok(Search::Point(spread(
+        Outcome::Closed(derivation) => Ok(Proposal::Found(derivation)),
+        Outcome::Met(values) => Ok(Proposal::Point(spread(
             alloc,
             &ground.outline.variables,
             &values,
             variables,
         )?)),
-        Outcome::Stuck => Ok(Search::GaveUp),
+        Outcome::Stuck => Ok(Proposal::GaveUp),
     }
 }
 

@@ -1,8 +1,8 @@
 ghost use Rattle.std.specs.Prelude.{◌≡◌, ◌<ℤ◌, [], false, true, pos, Some, ℤ, IfOk, MatchOption};
 ghost use Rattle.lin_row.specs.Form.{IsCanonical, checked_form, plus};
 ghost use Rattle.lin_proof.specs.Derivations.{is_contradiction};
-ghost use Rattle.lin_search.specs.Answers.{closes, sum_of_two};
-ghost use Rattle.lin_search.specs.steps.Pairs.{IsBest, IsFirst};
+ghost use Rattle.lin_pairs.specs.Pairs.{closes, sum_of_two};
+ghost use Rattle.lin_pairs.specs.Pairs.{IsBest, IsFirst};
 
 use crate::multiples::{Multiples, least_multiples};
 use lin_row::{Row, RowFault};

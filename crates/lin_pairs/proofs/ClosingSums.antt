@@ -14,10 +14,10 @@ use Rattle.lin_row.proofs.Merges.{put_nonzero}
 use Rattle.lin_row.proofs.Values.{terms_value-plus_terms}
 use Rattle.lin_row.proofs.Whole.{distribute_left, associate, times_above}
 use Rattle.lin_proof.specs.Derivations.{zero_form, checked_plus, sum_from, is_contradiction}
-use Rattle.lin_search.specs.declared.multiples.Multiples.{Multiples}
-use Rattle.lin_search.specs.steps.Multiples.{Cancels, IsLeast, NoneCancel}
-use Rattle.lin_search.specs.steps.Pairs.{IsBest, IsFirst}
-use Rattle.lin_search.specs.Answers.{closes, sum_of_two}
+use Rattle.lin_pairs.specs.declared.multiples.Multiples.{Multiples}
+use Rattle.lin_pairs.specs.Multiples.{Cancels, IsLeast, NoneCancel}
+use Rattle.lin_pairs.specs.Pairs.{IsBest, IsFirst}
+use Rattle.lin_pairs.specs.Pairs.{closes, sum_of_two}
 
 -- ---- what a sum that closes is made of
 

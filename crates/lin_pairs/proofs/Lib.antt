@@ -1,0 +1,3 @@
+mod Cancelling
+mod ClosingSums
+mod Divisors
