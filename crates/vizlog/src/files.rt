@@ -55,7 +55,7 @@ fn reply_by_file<F: Shelf>(
 }
 
 /// Why there is no reply to a command.
-#[derive(Clone, Copy, PartialEq, Eq)]
+#[derive(Clone, Copy)]
 pub enum NoReply {
     /// Want of memory.
     Mem,

@@ -5,8 +5,6 @@
 mod files;
 mod run;
 mod status;
-#[cfg(test)]
-mod tests;
 mod words;
 
 use crate::run::run;

@@ -4,14 +4,14 @@ ghost use Rattle.vizlog.specs.Run.{code_of};
 use viz_replies::Answer;
 
 /// A file that a command names.
-#[derive(Clone, Copy, Debug, PartialEq, Eq)]
+#[derive(Clone, Copy)]
 pub enum File {
     Job,
     Certificate,
 }
 
 /// How a run ends.
-#[derive(Clone, Copy, Debug, PartialEq, Eq)]
+#[derive(Clone, Copy)]
 pub enum Status {
     /// The command was replied to.
     Replied(Answer),
