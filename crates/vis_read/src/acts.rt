@@ -2,6 +2,7 @@ ghost use Rattle.std.specs.Prelude.{◌≡◌, IfOk};
 ghost use Rattle.vis_read.specs.Grammar.{paired, quantified};
 ghost use Rattle.vis_read.specs.steps.Machine.{anded, at, behind, closed, completed, fresh, held, initial, inner, joined, notted, ored, others, outside_of, settled};
 
+use crate::faults::given_up;
 use crate::lexemes::{Pair, Quantifier};
 use crate::reading::{Closed, Frame, Held, Outside, Place, Reading};
 use crate::stacks::Stack;
@@ -20,11 +21,28 @@ fn notted(alloc: Global, nots: u32, formula: Formula) -> Result<Formula, Mem>
     Ok(whole)
 }
 
+/// Two formulas, each in a box of its own.
+fn boxed(
+    alloc: Global,
+    left: Formula,
+    right: Formula,
+) -> Result<(Boxed<Formula>, Boxed<Formula>), Mem>
+    ensures { IfOk result (λ both. both ≡ (left, right)) }
+{
+    match Boxed::new(alloc, left) {
+        Ok(left) => Ok((left, Boxed::new(alloc, right)?)),
+        Err(_) => Err(given_up(right, Mem)),
+    }
+}
+
 fn anded(alloc: Global, left: Option<Formula>, right: Formula) -> Result<Formula, Mem>
     ensures { IfOk result (λ f. f ≡ anded left right) }
 {
     match left {
-        Some(left) => Ok(Formula::And(Boxed::new(alloc, left)?, Boxed::new(alloc, right)?)),
+        Some(left) => {
+            let (left, right) = boxed(alloc, left, right)?;
+            Ok(Formula::And(left, right))
+        }
         None => Ok(right),
     }
 }
@@ -38,8 +56,10 @@ fn conjoined(
 ) -> Result<Formula, Mem>
     ensures { IfOk result (λ f. f ≡ anded left (notted nots formula)) }
 {
-    let right = notted(alloc, nots, formula)?;
-    anded(alloc, left, right)
+    match notted(alloc, nots, formula) {
+        Ok(right) => anded(alloc, left, right),
+        Err(mem) => Err(given_up(left, mem)),
+    }
 }
 
 /// A disjunction with what stands on its left, where there is such; its only error is want of memory.
@@ -47,7 +67,10 @@ pub fn ored(alloc: Global, left: Option<Formula>, right: Formula) -> Result<Form
     ensures { IfOk result (λ f. f ≡ ored left right) }
 {
     match left {
-        Some(left) => Ok(Formula::Or(Boxed::new(alloc, left)?, Boxed::new(alloc, right)?)),
+        Some(left) => {
+            let (left, right) = boxed(alloc, left, right)?;
+            Ok(Formula::Or(left, right))
+        }
         None => Ok(right),
     }
 }
@@ -55,7 +78,8 @@ pub fn ored(alloc: Global, left: Option<Formula>, right: Formula) -> Result<Form
 fn implied(alloc: Global, left: Formula, right: Formula) -> Result<Formula, Mem>
     ensures { IfOk result (λ f. f ≡ Formula.Implies left right) }
 {
-    Ok(Formula::Implies(Boxed::new(alloc, left)?, Boxed::new(alloc, right)?))
+    let (left, right) = boxed(alloc, left, right)?;
+    Ok(Formula::Implies(left, right))
 }
 
 fn quantified(alloc: Global, q: Quantifier, set: Set, body: Formula) -> Result<Formula, Mem>

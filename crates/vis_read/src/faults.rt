@@ -1,3 +1,5 @@
+ghost use Rattle.std.specs.Prelude.{◌≡◌};
+
 use std::alloc::{AllocError, AllocFailed};
 use thiserror::Error;
 use viz_base::Mem;
@@ -53,7 +55,7 @@ impl<T: Drop> From<AllocFailed<T>> for FormulaFault {
 }
 
 /// Why a token can't be taken, wherever it stands.
-#[derive(Clone, Copy, PartialEq, Eq)]
+#[derive(Clone, Copy)]
 pub enum Stop {
     Mem,
     Bad,
@@ -70,6 +72,14 @@ impl From<Mem> for Stop {
     fn from(_: Mem) -> Self {
         Stop::Mem
     }
+}
+
+/// An error, for which something is given up.
+pub fn given_up<T: Drop, E>(thing: T, error: E) -> E
+    ensures { result ≡ error }
+{
+    drop(thing);
+    error
 }
 
 impl From<AllocError> for Stop {

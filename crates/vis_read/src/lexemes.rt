@@ -1,21 +1,21 @@
 use viz_base::{Face, Ring, Set, Sign, Text};
 
 /// `forall` or `exists`.
-#[derive(Clone, Copy, PartialEq, Eq)]
+#[derive(Clone, Copy)]
 pub enum Quantifier {
     Forall,
     Exists,
 }
 
 /// What is said of two names: `overlap` or `same`.
-#[derive(Clone, Copy, PartialEq, Eq)]
+#[derive(Clone, Copy)]
 pub enum Pair {
     Overlap,
     Same,
 }
 
 /// What a number counts.
-#[derive(Clone, Copy, PartialEq, Eq)]
+#[derive(Clone, Copy)]
 pub enum Unit {
     /// Units of 1/64 px, or edges.
     One,
@@ -24,7 +24,7 @@ pub enum Unit {
 }
 
 /// What a token is in the grammar of formulas.
-#[derive(Drop, PartialEq, Eq)]
+#[derive(Drop)]
 pub enum Lexeme {
     Quantifier(Quantifier),
     In,

@@ -10,7 +10,7 @@ use viz_base::Sign;
 const MOST: u64 = 2_147_483_647;
 
 /// A kind of pieces of a text.
-#[derive(Clone, Copy, PartialEq, Eq)]
+#[derive(Clone, Copy)]
 pub enum Piece {
     Word,
     /// A number without a unit.

@@ -51,7 +51,7 @@ pub struct Sum {
 }
 
 /// How far an edge is read.
-#[derive(Clone, Copy, PartialEq, Eq)]
+#[derive(Clone, Copy)]
 pub enum Spot {
     /// Behind a name.
     Name(u32),

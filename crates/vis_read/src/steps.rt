@@ -1,15 +1,16 @@
-ghost use Rattle.std.specs.Prelude.{◌≡◌, ◌∷◌, ◌+◌, ◌<◌, IfOk, MatchResult, OnOk};
+ghost use Rattle.std.specs.Prelude.{◌≡◌, ◌∷◌, ◌+◌, ◌<◌, IfOk, MatchResult, OnOk, false};
 ghost use Rattle.vis_read.specs.Grammar.{comparison};
-ghost use Rattle.vis_read.specs.steps.Machine.{Ends, Moves, Steps, at_first, at_operand, at_quantifier, at_second, bind, close_parens, compared_with, ended, implied, inner, ored, step, step_added, step_behind, step_binder, step_comma, step_compared, step_domain, step_first, step_last, step_number, step_operand, step_pair, step_quantifier, step_ranged, step_second, step_start, closing, ended_added, move_at, negated, opened, quantifier, step_sign, whole, with_and, with_or, with_part};
+ghost use Rattle.vis_read.specs.steps.Machine.{Ends, Moves, Steps, at_first, at_operand, at_quantifier, at_second, bind, close_parens, compared_with, ended, implied, inner, keeps, ored, step, step_added, step_at, step_behind, step_binder, step_comma, step_compared, step_domain, step_first, step_last, step_number, step_operand, step_pair, step_quantifier, step_ranged, step_second, step_start, closing, ended_added, move_at, negated, opened, quantifier, step_sign, whole, with_and, with_or, with_part};
 
 use crate::acts::{closed, ored, outside_of, paired};
-use crate::faults::Stop;
+use crate::faults::{Stop, given_up};
 use crate::lexemes::{Lexeme, Pair, Quantifier};
 use crate::places::place;
 use crate::reading::{Closed, Compared, Frame, Held, Outside, Place, Reading, Sum};
 use crate::stacks::Stack;
 use crate::terms::{empty_sum, step_edge, step_part, step_side, step_spot, with_part, with_sign};
 use std::alloc::Global;
+use std::mem::replace;
 use viz_base::{Edge, Formula, List, Mem, Set, Sign, Summand, Term, Text};
 
 /// How many quantifiers, parentheses and `not`s may be around one.
@@ -17,14 +18,6 @@ const MOST_NESTED: u32 = 64;
 
 /// How many quantifiers may be around a quantifier, plus one.
 const MOST_NAMES: usize = 2;
-
-/// Why a token can't be taken, with nothing kept of what is read.
-fn refused(reading: Reading, stop: Stop) -> Stop
-    ensures { result ≡ stop }
-{
-    drop(reading);
-    stop
-}
 
 /// Behind the parentheses around what has ended.
 fn close_parens(alloc: Global, closed: Closed) -> Result<Reading, Stop>
@@ -38,7 +31,7 @@ fn close_parens(alloc: Global, closed: Closed) -> Result<Reading, Stop>
     } = closed;
     match parens {
         Some(outside) => Ok(outside_of(outside, frames, names).completed(alloc, value)?),
-        None => Err(Stop::Bad),
+        None => Err(given_up(((frames, names), value), Stop::Bad)),
     }
 }
 
@@ -71,7 +64,7 @@ fn with_and(reading: Reading, formula: Formula) -> Reading
     ensures { result ≡ with_and reading formula }
 {
     let mut next = reading.at(Place::Operand);
-    next.conjunct = Some(formula);
+    drop(replace(&mut next.conjunct, Some(formula)));
     next
 }
 
@@ -79,26 +72,14 @@ fn with_and(reading: Reading, formula: Formula) -> Reading
 fn with_or(alloc: Global, reading: Reading, formula: Formula) -> Result<Reading, Mem>
     ensures { IfOk result (λ next. next ≡ with_or reading formula) }
 {
-    let Held {
-        frames,
-        names,
-        level,
-        nested,
-        nots,
-        disjunct,
-        conjunct,
-    } = reading.held();
-    let left = ored(alloc, disjunct, formula)?;
-    Ok(Reading {
-        frames,
-        names,
-        level,
-        nested,
-        nots,
-        disjunct: Some(left),
-        conjunct,
-        place: Place::Operand,
-    })
+    let mut next = reading.at(Place::Operand);
+    match ored(alloc, next.disjunct.take(), formula) {
+        Ok(left) => {
+            drop(replace(&mut next.disjunct, Some(left)));
+            Ok(next)
+        }
+        Err(mem) => Err(given_up(next, mem)),
+    }
 }
 
 /// Behind `implies`.
@@ -151,16 +132,16 @@ fn step_behind(
     alloc: Global,
     reading: Reading,
     formula: Formula,
-    lexeme: Lexeme,
+    lexeme: &Lexeme,
 ) -> Result<Reading, Stop>
-    ensures { Steps result (step_behind reading formula lexeme) }
+    ensures { Steps result (step_behind reading formula lexeme.now) }
 {
     match lexeme {
         Lexeme::And => Ok(with_and(reading, formula)),
         Lexeme::Or => Ok(with_or(alloc, reading, formula)?),
         Lexeme::Implies => Ok(with_implies(alloc, reading, formula)?),
         Lexeme::Close => close_parens(alloc, closing(alloc, reading, formula)?),
-        _ => Err(refused(reading, Stop::Bad)),
+        _ => Err(given_up((reading, formula), Stop::Bad)),
     }
 }
 
@@ -169,19 +150,19 @@ fn step_sign(
     alloc: Global,
     reading: Reading,
     parts: List<Summand>,
-    lexeme: Lexeme,
+    lexeme: &Lexeme,
 ) -> Result<Reading, Stop>
-    ensures { Steps result (step_sign reading parts lexeme) }
+    ensures { Steps result (step_sign reading parts lexeme.now) }
 {
     match lexeme {
         Lexeme::Sign(sign) => {
             let compared = Compared {
                 left: Term { parts },
-                sign,
+                sign: *sign,
             };
             Ok(reading.at(Place::Side(empty_sum(alloc, Some(compared)))))
         }
-        _ => Err(refused(reading, Stop::Bad)),
+        _ => Err(given_up(reading, Stop::Bad)),
     }
 }
 
@@ -192,8 +173,13 @@ fn compared_with(right: List<Summand>, compared: Compared) -> Formula
     Formula::Cmp(compared.left, compared.sign, Term { parts: right })
 }
 
-fn step_compared(alloc: Global, reading: Reading, sum: Sum, lexeme: Lexeme) -> Result<Reading, Stop>
-    ensures { Steps result (step_compared reading sum sum.compared lexeme) }
+fn step_compared(
+    alloc: Global,
+    reading: Reading,
+    sum: Sum,
+    lexeme: &Lexeme,
+) -> Result<Reading, Stop>
+    ensures { Steps result (step_compared reading sum sum.compared lexeme.now) }
 {
     let Sum {
         compared,
@@ -209,8 +195,8 @@ fn step_compared(alloc: Global, reading: Reading, sum: Sum, lexeme: Lexeme) -> R
     }
 }
 
-fn step_added(alloc: Global, reading: Reading, sum: Sum, lexeme: Lexeme) -> Result<Reading, Stop>
-    ensures { Steps result (step_added reading sum lexeme) }
+fn step_added(alloc: Global, reading: Reading, sum: Sum, lexeme: &Lexeme) -> Result<Reading, Stop>
+    ensures { Steps result (step_added reading sum lexeme.now) }
 {
     match lexeme {
         Lexeme::Plus => Ok(reading.at(Place::Part(with_sign(sum, false)))),
@@ -225,13 +211,13 @@ fn after_number(
     reading: Reading,
     sum: Sum,
     number: u32,
-    lexeme: Lexeme,
+    lexeme: &Lexeme,
 ) -> Result<Reading, Stop>
-    ensures { Steps result (step_added reading (with_part sum number Edge.One) lexeme) }
+    ensures { Steps result (step_added reading (with_part sum number Edge.One) lexeme.now) }
 {
     match with_part(sum, u64::from(number), Edge::One) {
         Ok(sum) => step_added(alloc, reading, sum, lexeme),
-        Err(_) => Err(refused(reading, Stop::Mem)),
+        Err(_) => Err(given_up(reading, Stop::Mem)),
     }
 }
 
@@ -240,9 +226,9 @@ fn step_number(
     reading: Reading,
     sum: Sum,
     number: u32,
-    lexeme: Lexeme,
+    lexeme: &Lexeme,
 ) -> Result<Reading, Stop>
-    ensures { Steps result (step_number reading sum number lexeme) }
+    ensures { Steps result (step_number reading sum number lexeme.now) }
 {
     match lexeme {
         Lexeme::Star => Ok(reading.at(Place::Factor(sum, number))),
@@ -275,7 +261,7 @@ fn with_not(reading: Reading) -> Result<Reading, Stop>
 {
     match one_more(reading.nots) {
         Ok(nots) => Ok(with_nots(reading, nots)),
-        Err(stop) => Err(refused(reading, stop)),
+        Err(stop) => Err(given_up(reading, stop)),
     }
 }
 
@@ -286,7 +272,7 @@ fn negated(reading: Reading) -> Result<Reading, Stop>
     if reading.nested < MOST_NESTED {
         with_not(reading)
     } else {
-        Err(refused(reading, Stop::TooDeep))
+        Err(given_up(reading, Stop::TooDeep))
     }
 }
 
@@ -331,21 +317,21 @@ fn opened(reading: Reading) -> Result<Reading, Stop>
     if reading.nested < MOST_NESTED {
         Ok(inner(reading)?)
     } else {
-        Err(refused(reading, Stop::TooDeep))
+        Err(given_up(reading, Stop::TooDeep))
     }
 }
 
-fn step_operand(alloc: Global, reading: Reading, lexeme: Lexeme) -> Result<Reading, Stop>
-    ensures { Steps result (step_operand reading lexeme) }
+fn step_operand(alloc: Global, reading: Reading, lexeme: &Lexeme) -> Result<Reading, Stop>
+    ensures { Steps result (step_operand reading lexeme.now) }
 {
     match lexeme {
         Lexeme::Not => negated(reading),
         Lexeme::Open => opened(reading),
-        Lexeme::Truth(value) => Ok(reading.completed(alloc, Formula::Const(value))?),
-        Lexeme::Pair(pair) => Ok(reading.at(Place::Pair(pair))),
+        Lexeme::Truth(value) => Ok(reading.completed(alloc, Formula::Const(*value))?),
+        Lexeme::Pair(pair) => Ok(reading.at(Place::Pair(*pair))),
         lexeme => match step_side(&reading, empty_sum(alloc, None), lexeme) {
             Ok(place) => Ok(reading.at(place)),
-            Err(stop) => Err(refused(reading, stop)),
+            Err(stop) => Err(given_up(reading, stop)),
         },
     }
 }
@@ -367,31 +353,31 @@ fn quantifier(reading: Reading, q: Quantifier) -> Result<Reading, Stop>
     if reading.names.len() < MOST_NAMES && reading.nested < MOST_NESTED {
         Ok(with_quantifier(reading, q))
     } else {
-        Err(refused(reading, Stop::TooDeep))
+        Err(given_up(reading, Stop::TooDeep))
     }
 }
 
-fn step_start(alloc: Global, reading: Reading, lexeme: Lexeme) -> Result<Reading, Stop>
-    ensures { Steps result (step_start reading lexeme) }
+fn step_start(alloc: Global, reading: Reading, lexeme: &Lexeme) -> Result<Reading, Stop>
+    ensures { Steps result (step_start reading lexeme.now) }
 {
     let fresh = reading.fresh();
     match lexeme {
-        Lexeme::Quantifier(q) => quantifier(fresh, q),
+        Lexeme::Quantifier(q) => quantifier(fresh, *q),
         lexeme => step_operand(alloc, fresh, lexeme),
     }
 }
 
-fn step_quantifier(reading: &Reading, q: Quantifier, lexeme: Lexeme) -> Result<Place, Stop>
-    ensures { Moves reading.now result (step_quantifier reading.now q lexeme) }
+fn step_quantifier(reading: Reading, q: Quantifier, lexeme: Lexeme) -> Result<Reading, Stop>
+    ensures { Steps result (step_quantifier reading q lexeme) }
 {
     match lexeme {
-        Lexeme::Name(name) => Ok(Place::Binder(q, name)),
-        _ => Err(Stop::Bad),
+        Lexeme::Name(name) => Ok(reading.at(Place::Binder(q, name))),
+        lexeme => Err(given_up((reading, lexeme), Stop::Bad)),
     }
 }
 
-fn step_binder(reading: &Reading, q: Quantifier, name: Text, lexeme: Lexeme) -> Result<Place, Stop>
-    ensures { Moves reading.now result (step_binder reading.now q name lexeme) }
+fn step_binder(reading: &Reading, q: Quantifier, name: Text, lexeme: &Lexeme) -> Result<Place, Stop>
+    ensures { Moves reading.now result (step_binder reading.now q name lexeme.now) }
 {
     match lexeme {
         Lexeme::In => Ok(Place::Domain(q, name)),
@@ -399,12 +385,12 @@ fn step_binder(reading: &Reading, q: Quantifier, name: Text, lexeme: Lexeme) -> 
     }
 }
 
-fn step_domain(reading: &Reading, q: Quantifier, name: Text, lexeme: Lexeme) -> Result<Place, Stop>
-    ensures { Moves reading.now result (step_domain reading.now q name lexeme) }
+fn step_domain(reading: Reading, q: Quantifier, name: Text, lexeme: Lexeme) -> Result<Reading, Stop>
+    ensures { Steps result (step_domain reading q name lexeme) }
 {
     match lexeme {
-        Lexeme::Members(set) => Ok(Place::Ranged(q, name, set)),
-        _ => Err(Stop::Bad),
+        Lexeme::Members(set) => Ok(reading.at(Place::Ranged(q, name, set))),
+        lexeme => Err(given_up(((reading, name), lexeme), Stop::Bad)),
     }
 }
 
@@ -433,18 +419,18 @@ fn step_ranged(
     q: Quantifier,
     name: Text,
     set: Set,
-    lexeme: Lexeme,
+    lexeme: &Lexeme,
 ) -> Result<Reading, Stop>
-    ensures { Steps result (step_ranged reading q name set lexeme) }
+    ensures { Steps result (step_ranged reading q name set lexeme.now) }
 {
     match lexeme {
         Lexeme::Colon => Ok(bind(reading, q, name, set)?),
-        _ => Err(refused(reading, Stop::Bad)),
+        _ => Err(given_up(((reading, name), set), Stop::Bad)),
     }
 }
 
-fn step_pair(reading: &Reading, pair: Pair, lexeme: Lexeme) -> Result<Place, Stop>
-    ensures { Moves reading.now result (step_pair reading.now pair lexeme) }
+fn step_pair(reading: &Reading, pair: Pair, lexeme: &Lexeme) -> Result<Place, Stop>
+    ensures { Moves reading.now result (step_pair reading.now pair lexeme.now) }
 {
     match lexeme {
         Lexeme::Open => Ok(Place::First(pair)),
@@ -452,8 +438,8 @@ fn step_pair(reading: &Reading, pair: Pair, lexeme: Lexeme) -> Result<Place, Sto
     }
 }
 
-fn step_first(reading: &Reading, pair: Pair, lexeme: Lexeme) -> Result<Place, Stop>
-    ensures { Moves reading.now result (step_first reading.now pair lexeme) }
+fn step_first(reading: &Reading, pair: Pair, lexeme: &Lexeme) -> Result<Place, Stop>
+    ensures { Moves reading.now result (step_first reading.now pair lexeme.now) }
 {
     match lexeme {
         Lexeme::Name(name) => match reading.names.above(name.as_str()) {
@@ -464,8 +450,8 @@ fn step_first(reading: &Reading, pair: Pair, lexeme: Lexeme) -> Result<Place, St
     }
 }
 
-fn step_comma(reading: &Reading, pair: Pair, first: u32, lexeme: Lexeme) -> Result<Place, Stop>
-    ensures { Moves reading.now result (step_comma reading.now pair first lexeme) }
+fn step_comma(reading: &Reading, pair: Pair, first: u32, lexeme: &Lexeme) -> Result<Place, Stop>
+    ensures { Moves reading.now result (step_comma reading.now pair first lexeme.now) }
 {
     match lexeme {
         Lexeme::Comma => Ok(Place::Second(pair, first)),
@@ -473,8 +459,8 @@ fn step_comma(reading: &Reading, pair: Pair, first: u32, lexeme: Lexeme) -> Resu
     }
 }
 
-fn step_second(reading: &Reading, pair: Pair, first: u32, lexeme: Lexeme) -> Result<Place, Stop>
-    ensures { Moves reading.now result (step_second reading.now pair first lexeme) }
+fn step_second(reading: &Reading, pair: Pair, first: u32, lexeme: &Lexeme) -> Result<Place, Stop>
+    ensures { Moves reading.now result (step_second reading.now pair first lexeme.now) }
 {
     match lexeme {
         Lexeme::Name(name) => match reading.names.above(name.as_str()) {
@@ -490,24 +476,23 @@ fn step_last(
     reading: Reading,
     pair: Pair,
     names: (u32, u32),
-    lexeme: Lexeme,
+    lexeme: &Lexeme,
 ) -> Result<Reading, Stop>
-    ensures { Steps result (step_last reading pair names.0 names.1 lexeme) }
+    ensures { Steps result (step_last reading pair names.0 names.1 lexeme.now) }
 {
     match lexeme {
         Lexeme::Close => Ok(reading.completed(alloc, paired(pair, names.0, names.1))?),
-        _ => Err(refused(reading, Stop::Bad)),
+        _ => Err(given_up(reading, Stop::Bad)),
     }
 }
 
 /// Where the next token leads from a place where nothing but the place changes.
-fn move_on(reading: &Reading, place: Place, lexeme: Lexeme) -> Result<Place, Stop>
-    ensures { Moves reading.now result (move_at place reading.now lexeme) }
+fn move_on(reading: &Reading, place: Place, lexeme: &Lexeme) -> Result<Place, Stop>
+    requires { keeps place ≡ false }
+    ensures { Moves reading.now result (move_at place reading.now lexeme.now) }
 {
     match place {
-        Place::Quantifier(q) => step_quantifier(reading, q, lexeme),
         Place::Binder(q, name) => step_binder(reading, q, name, lexeme),
-        Place::Domain(q, name) => step_domain(reading, q, name, lexeme),
         Place::Pair(pair) => step_pair(reading, pair, lexeme),
         Place::First(pair) => step_first(reading, pair, lexeme),
         Place::Comma(pair, first) => step_comma(reading, pair, first, lexeme),
@@ -516,15 +501,15 @@ fn move_on(reading: &Reading, place: Place, lexeme: Lexeme) -> Result<Place, Sto
         Place::Part(sum) => step_part(reading, sum, lexeme),
         Place::Factor(sum, times) => step_edge(reading, sum, times, lexeme),
         Place::Edge(sum, times, spot) => step_spot(reading, sum, times, spot, lexeme),
-        _ => Err(Stop::Bad),
+        place => Err(given_up(place, Stop::Bad)),
     }
 }
 
-/// Behind one more token.
-pub fn step(alloc: Global, reading: Reading, lexeme: Lexeme) -> Result<Reading, Stop>
-    ensures { Steps result (step reading lexeme) }
+/// Behind one more token, of which nothing is kept.
+fn step_from(alloc: Global, rest: Reading, place: Place, lexeme: &Lexeme) -> Result<Reading, Stop>
+    requires { keeps place ≡ false }
+    ensures { Steps result (step_at place rest lexeme.now) }
 {
-    let (rest, place) = reading.split();
     match place {
         Place::Start => step_start(alloc, rest, lexeme),
         Place::Operand => step_operand(alloc, rest, lexeme),
@@ -535,8 +520,24 @@ pub fn step(alloc: Global, reading: Reading, lexeme: Lexeme) -> Result<Reading, 
         Place::Added(sum) => step_added(alloc, rest, sum, lexeme),
         place => match move_on(&rest, place, lexeme) {
             Ok(next) => Ok(rest.at(next)),
-            Err(stop) => Err(refused(rest, stop)),
+            Err(stop) => Err(given_up(rest, stop)),
         },
+    }
+}
+
+/// Behind one more token.
+pub fn step(alloc: Global, reading: Reading, lexeme: Lexeme) -> Result<Reading, Stop>
+    ensures { Steps result (step reading lexeme) }
+{
+    let (rest, place) = reading.split();
+    match place {
+        Place::Quantifier(q) => step_quantifier(rest, q, lexeme),
+        Place::Domain(q, name) => step_domain(rest, q, name, lexeme),
+        place => {
+            let next = step_from(alloc, rest, place, &lexeme);
+            drop(lexeme);
+            next
+        }
     }
 }
 
@@ -553,11 +554,7 @@ fn whole(closed: Closed) -> Result<Formula, Stop>
     drop(frames);
     drop(names);
     match parens {
-        Some(outside) => {
-            drop(outside);
-            drop(value);
-            Err(Stop::Bad)
-        }
+        Some(outside) => Err(given_up((outside, value), Stop::Bad)),
         None => Ok(value),
     }
 }
@@ -581,7 +578,7 @@ fn end_added(alloc: Global, reading: Reading, sum: Sum) -> Result<Formula, Stop>
             let (rest, formula) = reading.joined(alloc, compared_with(parts, compared))?;
             end_behind(alloc, rest, formula)
         }
-        None => Err(refused(reading, Stop::Bad)),
+        None => Err(given_up(reading, Stop::Bad)),
     }
 }
 
@@ -594,9 +591,9 @@ pub fn ended(alloc: Global, reading: Reading) -> Result<Formula, Stop>
         Place::Behind(formula) => end_behind(alloc, rest, formula),
         Place::Number(sum, number) => match with_part(sum, u64::from(number), Edge::One) {
             Ok(sum) => end_added(alloc, rest, sum),
-            Err(_) => Err(refused(rest, Stop::Mem)),
+            Err(_) => Err(given_up(rest, Stop::Mem)),
         },
         Place::Added(sum) => end_added(alloc, rest, sum),
-        _ => Err(refused(rest, Stop::Bad)),
+        place => Err(given_up((rest, place), Stop::Bad)),
     }
 }

@@ -2,7 +2,7 @@ ghost use Rattle.std.specs.Prelude.{◌≡◌, ◌<◌, ◌^◌, nat_le, IfOk};
 ghost use Rattle.vis_read.specs.Grammar.{multiple};
 ghost use Rattle.vis_read.specs.steps.Machine.{Moves, at, at_number, empty_sum, step_dot, step_edge, step_face, step_part, step_ring, step_side, step_spot, step_view, with_part, with_sign};
 
-use crate::faults::Stop;
+use crate::faults::{Stop, given_up};
 use crate::lexemes::{Lexeme, Unit};
 use crate::places::place;
 use crate::reading::{Compared, Place, Reading, Spot, Sum};
@@ -70,16 +70,19 @@ fn added(sum: Sum, times: u64, edge: Edge) -> Result<Place, Mem>
 }
 
 /// After a number of times in a sum: the name of a box, or the viewport.
-pub fn step_edge(reading: &Reading, sum: Sum, times: u32, lexeme: Lexeme) -> Result<Place, Stop>
-    ensures { Moves reading.now result (step_edge reading.now sum times lexeme) }
+pub fn step_edge(reading: &Reading, sum: Sum, times: u32, lexeme: &Lexeme) -> Result<Place, Stop>
+    ensures { Moves reading.now result (step_edge reading.now sum times lexeme.now) }
 {
     match lexeme {
         Lexeme::Name(name) => match reading.names.above(name.as_str()) {
-            Some(above) => Ok(Place::Edge(sum, times, Spot::Name(place(above)?))),
-            None => Err(Stop::Unbound),
+            Some(above) => match place(above) {
+                Ok(name) => Ok(Place::Edge(sum, times, Spot::Name(name))),
+                Err(_) => Err(given_up(sum, Stop::Mem)),
+            },
+            None => Err(given_up(sum, Stop::Unbound)),
         },
         Lexeme::View => Ok(Place::Edge(sum, times, Spot::View)),
-        _ => Err(Stop::Bad),
+        _ => Err(given_up(sum, Stop::Bad)),
     }
 }
 
@@ -95,19 +98,19 @@ fn at_number(reading: &Reading, sum: Sum, number: u32) -> Result<Place, Mem>
 }
 
 /// After the sign of a part of a sum: a number, or an edge taken once.
-pub fn step_part(reading: &Reading, sum: Sum, lexeme: Lexeme) -> Result<Place, Stop>
-    ensures { Moves reading.now result (step_part reading.now sum lexeme) }
+pub fn step_part(reading: &Reading, sum: Sum, lexeme: &Lexeme) -> Result<Place, Stop>
+    ensures { Moves reading.now result (step_part reading.now sum lexeme.now) }
 {
     match lexeme {
-        Lexeme::Number(number, Unit::One) => Ok(at_number(reading, sum, number)?),
-        Lexeme::Number(number, Unit::Px) => Ok(added(sum, u64::from(number) * 64, Edge::One)?),
+        Lexeme::Number(number, Unit::One) => Ok(at_number(reading, sum, *number)?),
+        Lexeme::Number(number, Unit::Px) => Ok(added(sum, u64::from(*number) * 64, Edge::One)?),
         lexeme => step_edge(reading, sum, 1, lexeme),
     }
 }
 
 /// At the beginning of a sum: a minus, or its first part.
-pub fn step_side(reading: &Reading, sum: Sum, lexeme: Lexeme) -> Result<Place, Stop>
-    ensures { Moves reading.now result (step_side reading.now sum lexeme) }
+pub fn step_side(reading: &Reading, sum: Sum, lexeme: &Lexeme) -> Result<Place, Stop>
+    ensures { Moves reading.now result (step_side reading.now sum lexeme.now) }
 {
     match lexeme {
         Lexeme::Minus => Ok(Place::Part(with_sign(sum, true))),
@@ -120,13 +123,13 @@ fn step_dot(
     sum: Sum,
     times: u32,
     spot: Spot,
-    lexeme: Lexeme,
+    lexeme: &Lexeme,
 ) -> Result<Place, Stop>
-    ensures { Moves reading.now result (step_dot reading.now sum times spot lexeme) }
+    ensures { Moves reading.now result (step_dot reading.now sum times spot lexeme.now) }
 {
     match lexeme {
         Lexeme::Dot => Ok(Place::Edge(sum, times, spot)),
-        _ => Err(Stop::Bad),
+        _ => Err(given_up(sum, Stop::Bad)),
     }
 }
 
@@ -135,17 +138,17 @@ fn step_ring(
     sum: Sum,
     times: u32,
     name: u32,
-    lexeme: Lexeme,
+    lexeme: &Lexeme,
 ) -> Result<Place, Stop>
-    ensures { Moves reading.now result (step_ring reading.now sum times name lexeme) }
+    ensures { Moves reading.now result (step_ring reading.now sum times name lexeme.now) }
 {
     match lexeme {
         Lexeme::Face(face) => {
-            let edge = Edge::Name(name, Ring::Border, face);
+            let edge = Edge::Name(name, Ring::Border, *face);
             Ok(added(sum, u64::from(times), edge)?)
         }
-        Lexeme::Ring(ring) => Ok(Place::Edge(sum, times, Spot::Ring(name, ring))),
-        _ => Err(Stop::Bad),
+        Lexeme::Ring(ring) => Ok(Place::Edge(sum, times, Spot::Ring(name, *ring))),
+        _ => Err(given_up(sum, Stop::Bad)),
     }
 }
 
@@ -154,26 +157,26 @@ fn step_face(
     sum: Sum,
     times: u32,
     spot: (u32, Ring),
-    lexeme: Lexeme,
+    lexeme: &Lexeme,
 ) -> Result<Place, Stop>
-    ensures { Moves reading.now result (step_face reading.now sum times spot.0 spot.1 lexeme) }
+    ensures { Moves reading.now result (step_face reading.now sum times spot.0 spot.1 lexeme.now) }
 {
     match lexeme {
         Lexeme::Face(face) => {
-            let edge = Edge::Name(spot.0, spot.1, face);
+            let edge = Edge::Name(spot.0, spot.1, *face);
             Ok(added(sum, u64::from(times), edge)?)
         }
-        _ => Err(Stop::Bad),
+        _ => Err(given_up(sum, Stop::Bad)),
     }
 }
 
-fn step_view(reading: &Reading, sum: Sum, times: u32, lexeme: Lexeme) -> Result<Place, Stop>
-    ensures { Moves reading.now result (step_view reading.now sum times lexeme) }
+fn step_view(reading: &Reading, sum: Sum, times: u32, lexeme: &Lexeme) -> Result<Place, Stop>
+    ensures { Moves reading.now result (step_view reading.now sum times lexeme.now) }
 {
     match lexeme {
         Lexeme::Width => Ok(added(sum, u64::from(times), Edge::ViewWidth)?),
         Lexeme::Height => Ok(added(sum, u64::from(times), Edge::ViewHeight)?),
-        _ => Err(Stop::Bad),
+        _ => Err(given_up(sum, Stop::Bad)),
     }
 }
 
@@ -183,9 +186,9 @@ pub fn step_spot(
     sum: Sum,
     times: u32,
     spot: Spot,
-    lexeme: Lexeme,
+    lexeme: &Lexeme,
 ) -> Result<Place, Stop>
-    ensures { Moves reading.now result (step_spot reading.now sum times spot lexeme) }
+    ensures { Moves reading.now result (step_spot reading.now sum times spot lexeme.now) }
 {
     match spot {
         Spot::Name(name) => step_dot(reading, sum, times, Spot::NameDot(name), lexeme),

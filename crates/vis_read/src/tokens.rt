@@ -49,7 +49,7 @@ fn lexeme_of(alloc: Global, piece: &str, kind: Piece, page: &Page) -> Result<Lex
 }
 
 /// The token at a place, and how many bytes it has; none where no piece begins there.
-fn token_at(alloc: Global, text: &str, at: usize, page: &Page) -> Result<(Lexeme, usize), Mem>
+fn lexeme_at(alloc: Global, text: &str, at: usize, page: &Page) -> Result<(Lexeme, usize), Mem>
     requires { at < length text.now }
     ensures next { IfOk result (λ found. IsNext page.now.nodes (drop at text.now) found.0 found.1) }
     ensures within { IfOk result (λ found. at + found.1 ≤ length text.now) }
@@ -59,6 +59,18 @@ fn token_at(alloc: Global, text: &str, at: usize, page: &Page) -> Result<(Lexeme
         Some((kind, len)) => Ok((lexeme_of(alloc, &text[at..at + len], kind, page)?, len)),
         None => Ok((Lexeme::Unknown, 0)),
     }
+}
+
+/// The token at a place, with that place, and how many bytes it has.
+fn token_at(alloc: Global, text: &str, at: usize, page: &Page) -> Result<(Token, usize), Mem>
+    requires { at < length text.now }
+    ensures place { IfOk result (λ found. found.0.at ≡ at) }
+    ensures next { IfOk result (λ found. IsNext page.now.nodes (drop at text.now) found.0.lexeme found.1) }
+    ensures within { IfOk result (λ found. at + found.1 ≤ length text.now) }
+{
+    let start = place(at)?;
+    let (lexeme, len) = lexeme_at(alloc, text, at, page)?;
+    Ok((Token { lexeme, at: start }, len))
 }
 
 /// The tokens of a text.
@@ -71,11 +83,8 @@ pub fn tokens(alloc: Global, text: &str, page: &Page) -> Result<List<Token>, Mem
         if is_white(text.as_bytes()[at]) {
             at += 1;
         } else {
-            let (lexeme, len) = token_at(alloc, text, at, page)?;
-            found.push(Token {
-                lexeme,
-                at: place(at)?,
-            })?;
+            let (token, len) = token_at(alloc, text, at, page)?;
+            found.push(token)?;
             if len == 0 {
                 return Ok(found);
             }

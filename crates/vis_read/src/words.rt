@@ -1,120 +1,127 @@
-ghost use Rattle.std.specs.Prelude.{◌≡◌, IfOk};
+ghost use Rattle.std.specs.Prelude.{◌≡◌, bytes_eq, IfOk};
 ghost use Rattle.vis_read.specs.Words.{connective_of, face_of, kind_of, meaning_of, other_of, pair_of, ring_of, truth_of, word_lexeme};
 
 use crate::lexemes::{Lexeme, Pair, Quantifier};
 use std::alloc::{AllocError, Global};
 use viz_base::{Face, Kind, Ring, Set, Text};
 
-fn connective_of(word: &[u8]) -> Option<Lexeme>
+/// Whether a word is this one.
+fn is(word: &str, other: &str) -> bool
+    ensures { result ≡ bytes_eq word.now other.now }
+{
+    word == other
+}
+
+fn connective_of(word: &str) -> Option<Lexeme>
     ensures { result ≡ connective_of word.now }
 {
-    if word == b"forall".as_slice() {
+    if is(word, "forall") {
         Some(Lexeme::Quantifier(Quantifier::Forall))
-    } else if word == b"exists".as_slice() {
+    } else if is(word, "exists") {
         Some(Lexeme::Quantifier(Quantifier::Exists))
-    } else if word == b"in".as_slice() {
+    } else if is(word, "in") {
         Some(Lexeme::In)
-    } else if word == b"implies".as_slice() {
+    } else if is(word, "implies") {
         Some(Lexeme::Implies)
-    } else if word == b"or".as_slice() {
+    } else if is(word, "or") {
         Some(Lexeme::Or)
-    } else if word == b"and".as_slice() {
+    } else if is(word, "and") {
         Some(Lexeme::And)
-    } else if word == b"not".as_slice() {
+    } else if is(word, "not") {
         Some(Lexeme::Not)
     } else {
         None
     }
 }
 
-fn truth_of(word: &[u8]) -> Option<bool>
+fn truth_of(word: &str) -> Option<bool>
     ensures { result ≡ truth_of word.now }
 {
-    if word == b"true".as_slice() {
+    if is(word, "true") {
         Some(true)
-    } else if word == b"false".as_slice() {
+    } else if is(word, "false") {
         Some(false)
     } else {
         None
     }
 }
 
-fn pair_of(word: &[u8]) -> Option<Pair>
+fn pair_of(word: &str) -> Option<Pair>
     ensures { result ≡ pair_of word.now }
 {
-    if word == b"overlap".as_slice() {
+    if is(word, "overlap") {
         Some(Pair::Overlap)
-    } else if word == b"same".as_slice() {
+    } else if is(word, "same") {
         Some(Pair::Same)
     } else {
         None
     }
 }
 
-fn kind_of(word: &[u8]) -> Option<Kind>
+fn kind_of(word: &str) -> Option<Kind>
     ensures { result ≡ kind_of word.now }
 {
-    if word == b"block".as_slice() {
+    if is(word, "block") {
         Some(Kind::Block)
-    } else if word == b"anon".as_slice() {
+    } else if is(word, "anon") {
         Some(Kind::Anon)
-    } else if word == b"float".as_slice() {
+    } else if is(word, "float") {
         Some(Kind::Float)
-    } else if word == b"atomic".as_slice() {
+    } else if is(word, "atomic") {
         Some(Kind::Atomic)
-    } else if word == b"replaced".as_slice() {
+    } else if is(word, "replaced") {
         Some(Kind::Replaced)
-    } else if word == b"inline".as_slice() {
+    } else if is(word, "inline") {
         Some(Kind::Inline)
-    } else if word == b"text".as_slice() {
+    } else if is(word, "text") {
         Some(Kind::Chars)
-    } else if word == b"line".as_slice() {
+    } else if is(word, "line") {
         Some(Kind::Line)
     } else {
         None
     }
 }
 
-fn ring_of(word: &[u8]) -> Option<Ring>
+fn ring_of(word: &str) -> Option<Ring>
     ensures { result ≡ ring_of word.now }
 {
-    if word == b"margin".as_slice() {
+    if is(word, "margin") {
         Some(Ring::Margin)
-    } else if word == b"padding".as_slice() {
+    } else if is(word, "padding") {
         Some(Ring::Padding)
-    } else if word == b"content".as_slice() {
+    } else if is(word, "content") {
         Some(Ring::Content)
     } else {
         None
     }
 }
 
-fn face_of(word: &[u8]) -> Option<Face>
+fn face_of(word: &str) -> Option<Face>
     ensures { result ≡ face_of word.now }
 {
-    if word == b"left".as_slice() {
+    if is(word, "left") {
         Some(Face::Left)
-    } else if word == b"top".as_slice() {
+    } else if is(word, "top") {
         Some(Face::Top)
-    } else if word == b"right".as_slice() {
+    } else if is(word, "right") {
         Some(Face::Right)
-    } else if word == b"bottom".as_slice() {
+    } else if is(word, "bottom") {
         Some(Face::Bottom)
     } else {
         None
     }
 }
 
-fn other_of(word: &[u8]) -> Option<Lexeme>
+fn other_of(word: &str) -> Option<Lexeme>
     ensures { result ≡ other_of word.now }
 {
-    if word == b"box".as_slice() {
+    if is(word, "box") {
         Some(Lexeme::Members(Set::Every))
-    } else if word == b"view".as_slice() {
+    } else if is(word, "view") {
         Some(Lexeme::View)
-    } else if word == b"width".as_slice() {
+    } else if is(word, "width") {
         Some(Lexeme::Width)
-    } else if word == b"height".as_slice() {
+    } else if is(word, "height") {
         Some(Lexeme::Height)
     } else {
         None
@@ -122,7 +129,7 @@ fn other_of(word: &[u8]) -> Option<Lexeme>
 }
 
 /// What a word means in the grammar, if anything.
-fn meaning_of(word: &[u8]) -> Option<Lexeme>
+fn meaning_of(word: &str) -> Option<Lexeme>
     ensures { result ≡ meaning_of word.now }
 {
     if let Some(lexeme) = connective_of(word) {
@@ -146,7 +153,7 @@ fn meaning_of(word: &[u8]) -> Option<Lexeme>
 pub fn word_lexeme(alloc: Global, word: &str) -> Result<Lexeme, AllocError>
     ensures { IfOk result (λ lexeme. lexeme ≡ word_lexeme word.now) }
 {
-    match meaning_of(word.as_bytes()) {
+    match meaning_of(word) {
         Some(lexeme) => Ok(lexeme),
         None => Ok(Lexeme::Name(Text::from_text(alloc, word)?)),
     }

@@ -352,6 +352,12 @@ step_at (of_place.Number sum n) s lexeme = step_number s sum n lexeme
 step_at (of_place.Added sum) s lexeme = step_added s sum lexeme
 step_at place s lexeme = move_at place s lexeme
 
+-- whether what follows a place keeps a part of the next token
+abbrev pub keeps : Place → Bool
+keeps (of_place.Quantifier q) = true
+keeps (of_place.Domain q name) = true
+keeps _ = false
+
 abbrev pub step : Reading → Lexeme → Step
 step s lexeme = step_at s.place (at s of_place.Start) lexeme
 

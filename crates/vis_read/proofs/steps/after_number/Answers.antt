@@ -5,5 +5,5 @@ use Rattle.vis_read.proofs.steps.after_number.Goals as goal
 
 pub returns-in-Ok : goal.returns-in-Ok
 returns-in-Ok c =
-    subst (λ number. Steps c.step_added.result (step_added c.args.reading (with_part c.args.sum number One) c.args.lexeme)) c.from.ensures
-    (subst (λ sum. Steps c.step_added.result (step_added c.args.reading sum c.args.lexeme)) c.in-Ok.ensures c.step_added.ensures)
+    subst (λ number. Steps c.step_added.result (step_added c.args.reading (with_part c.args.sum number One) c.args.lexeme.now)) c.from.ensures
+    (subst (λ sum. Steps c.step_added.result (step_added c.args.reading sum c.args.lexeme.now)) c.in-Ok.ensures c.step_added.ensures)

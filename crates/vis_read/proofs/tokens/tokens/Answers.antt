@@ -12,19 +12,19 @@ loop-at-preserved-then-is_white c =
 pub returns-then-len-eq0 : goal.returns-then-len-eq0
 returns-then-len-eq0 c =
     let black : is_white (get_or c.args.text.now c.loop-at.at 0) ≡ false = ap (λ bs. is_white (get_or bs c.loop-at.at 0)) (sym c.as_bytes.ensures.value) ∙ (sym c.is_white.ensures ∙ c.if-is_white.false) in
-    let t : Token = record { lexeme = c.in_ok-lexeme.lexeme; at = c.in_ok-place.field-0 } in
+    let t : Token = c.in_ok-token.token in
     let is : c.push.new.self ≡ c.loop-at.found ++ t ∷ [] = c.in_ok-push.ensures.ok in
-    let same : t ≡ record { lexeme = c.in_ok-lexeme.lexeme; at = c.loop-at.at } = ap (λ n. record { lexeme = c.in_ok-lexeme.lexeme; at = n }) c.in_ok-place.ensures in
+    let same : t ≡ record { lexeme = t.lexeme; at = c.loop-at.at } = ap (λ n. record { lexeme = t.lexeme; at = n }) c.in_ok-token.ensures.place in
     subst (AreTokens c.args.page.now.nodes 0 c.args.text.now) (sym (is ∙ ap (λ x. c.loop-at.found ++ x ∷ []) same))
-    (goes_unknown c.in_ok-lexeme.lexeme c.in_ok-lexeme.len c.loop-at.invariant c.loop-at-test.true c.in_ok-lexeme.ensures.next c.if-len-eq0.true black)
+    (goes_unknown t.lexeme c.in_ok-token.len c.loop-at.invariant c.loop-at-test.true c.in_ok-token.ensures.next c.if-len-eq0.true black)
 
 pub loop-at-preserved : goal.loop-at-preserved
 loop-at-preserved c =
-    let t : Token = record { lexeme = c.in_ok-lexeme.lexeme; at = c.in_ok-place.field-0 } in
+    let t : Token = c.in_ok-token.token in
     let is : c.push.new.self ≡ c.loop-at.found ++ t ∷ [] = c.in_ok-push.ensures.ok in
-    let same : t ≡ record { lexeme = c.in_ok-lexeme.lexeme; at = c.loop-at.at } = ap (λ n. record { lexeme = c.in_ok-lexeme.lexeme; at = n }) c.in_ok-place.ensures in
-    subst (λ found. Goes c.args.page.now.nodes c.args.text.now found (c.loop-at.at + c.in_ok-lexeme.len)) (sym (is ∙ ap (λ x. c.loop-at.found ++ x ∷ []) same))
-    (goes_next c.in_ok-lexeme.lexeme c.in_ok-lexeme.len c.loop-at.invariant c.in_ok-lexeme.ensures.next (λ none. omega (arith, none, c.if-len-eq0.false)))
+    let same : t ≡ record { lexeme = t.lexeme; at = c.loop-at.at } = ap (λ n. record { lexeme = t.lexeme; at = n }) c.in_ok-token.ensures.place in
+    subst (λ found. Goes c.args.page.now.nodes c.args.text.now found (c.loop-at.at + c.in_ok-token.len)) (sym (is ∙ ap (λ x. c.loop-at.found ++ x ∷ []) same))
+    (goes_next t.lexeme c.in_ok-token.len c.loop-at.invariant c.in_ok-token.ensures.next (λ none. omega (arith, none, c.if-len-eq0.false)))
 
 pub returns : goal.returns
 returns c = goes_end c.loop-at.invariant c.loop-at-test.false

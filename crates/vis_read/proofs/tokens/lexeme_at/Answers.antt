@@ -4,7 +4,7 @@ use Rattle.vis_read.specs.Pieces.{BeginsWithNone}
 use Rattle.vis_read.specs.Tokens.{Means}
 use Rattle.vis_read.specs.steps.Next.{IsCut, IsNext}
 use Rattle.vis_read.proofs.Sequence.{cuts, cut_next, read_at, slice_at}
-use Rattle.vis_read.proofs.tokens.token_at.Goals as goal
+use Rattle.vis_read.proofs.tokens.lexeme_at.Goals as goal
 
 pub range-requires-clause-start_boundary : goal.range-requires-clause-start_boundary
 range-requires-clause-start_boundary c = λ some.
