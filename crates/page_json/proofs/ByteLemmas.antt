@@ -1,10 +1,16 @@
 -- The JSON value of bytes.
-use Rattle.std.proofs.Common.{◌≡◌, ℕ, Bool, true, false, List, Some, None, refl, cond}
+use Rattle.std.proofs.Common.{◌≡◌, ℕ, Bool, true, false, List, Option, Some, None, Result, Ok, refl, sym, subst, cond}
 use Rattle.std.specs.Str.{IsUtf8, is_utf8}
 use Rattle.std.proofs.lemmas.Str.{IsUtf8-from_is_utf8, is_utf8-from_IsUtf8}
 use Rattle.serde_json.specs.Data.{Data}
 use Rattle.serde_json.specs.Read.{read}
-use Rattle.page_json.specs.Jobs.{value_of}
+use Rattle.std.specs.Option.{ok_or}
+use Rattle.viz_base.specs.Answers.{Gives}
+use Rattle.viz_base.specs.declared.raw_jobs.RawJob.{RawJob}
+use Rattle.page_json.specs.Faults.{refusal_of}
+use Rattle.page_json.specs.declared.faults.JobFault.{JobFault}
+use Rattle.page_json.specs.declared.faults.JobFault.TheVariants.{NotJson}
+use Rattle.page_json.specs.Jobs.{job_in, judged, raw_of, value_of}
 
 pub value_some : (bs : List ℕ) (d : Data) → IsUtf8 bs → read bs ≡ Some d → value_of bs ≡ Some d
 unfolding value_of
@@ -17,3 +23,11 @@ none_by bs false e h = refl
 pub value_none : (bs : List ℕ) → (IsUtf8 bs → read bs ≡ None) → value_of bs ≡ None
 unfolding value_of
 value_none bs h = none_by bs (is_utf8 bs) refl h
+
+value_is : (o : Option Data) (d : Data) → ok_or o NotJson ≡ Ok d → o ≡ Some d
+value_is None d e = cc
+value_is (Some e) d is = cc
+
+-- what a call says of the value that bytes have, it says of the bytes
+pub judged_as : (answer : Result RawJob JobFault) (o : Option Data) (d : Data) → ok_or o NotJson ≡ Ok d → Gives raw_of refusal_of answer (job_in d) → Gives raw_of refusal_of answer (judged o)
+judged_as answer o d e given = subst (λ (x : Option Data). Gives raw_of refusal_of answer (judged x)) (sym (value_is o d e)) given

@@ -1,5 +1,7 @@
 -- What definitions see of the code's parts of a job.
-use Rattle.std.specs.Prelude.{ℕ, ◌≤◌, List, length, map}
+use Rattle.std.specs.Prelude.{ℕ, ◌≤◌, List, length, map, Result, Ok, codes}
+use Rattle.serde_json.specs.Data.{Data}
+use Rattle.serde_json.specs.Find.{get, as_str}
 use Rattle.serde_json.specs.View.{view}
 use Rattle.page_json.specs.declared.places.Place.{Place}
 use Rattle.page_json.specs.declared.jobs.Nodes.{Nodes}
@@ -8,6 +10,11 @@ use Rattle.viz_base.specs.declared.fonts.Font.{Font}
 use Rattle.viz_base.specs.declared.nodes.Node.{Node}
 use Rattle.page_json.specs.Fonts.{Measures, measures_of}
 use Rattle.viz_base.specs.Pages.{IsPage}
+use Rattle.viz_base.specs.declared.raw_jobs.Part.TheVariants as part
+use Rattle.viz_base.specs.declared.raw_jobs.Which.TheVariants as which
+use Rattle.page_json.specs.declared.faults.JobFault.{JobFault}
+use Rattle.page_json.specs.Faults.{◌>>=◌, shaped, shaped_at, within}
+use Rattle.page_json.specs.Values.{list_of, list_at, ◌of_member◌}
 use Rattle.page_json.specs.Documents as documents
 use Rattle.page_json.specs.Jobs as jobs
 
@@ -38,3 +45,30 @@ pub record AreWithinLimits (p : Parts) : Type 0 where
   pub has_font : 1 ≤ length p.fonts
   pub few_characters : jobs.characters p.page.nodes ≤ 262144
   pub short_formula : length p.formula.now ≤ 16384
+
+-- `parts_of` once the numbers are read
+abbrev pub lists_of : ℕ × ℕ → ℕ × ℕ → ℕ → Data → Result jobs.Parts JobFault
+lists_of widths sizes height d =
+    shaped_at part.Fonts (jobs.fonts_of ((list_of of_member codes "fonts") d)) >>= λ fonts.
+    shaped_at part.Css (jobs.sheets_of (list_at (codes "css") d)) >>= λ css.
+    shaped_at part.Page (jobs.page_of (get (codes "page") d)) >>= λ page.
+    shaped part.Assert ((as_str of_member codes "assert") d) >>= λ formula.
+    Ok (record {
+      widths = widths;
+      sizes = sizes;
+      height = height;
+      fonts = fonts;
+      css = css;
+      depth = page.0;
+      nodes = page.1;
+      formula = formula;
+    })
+
+-- `limited` once elements, depth and characters are counted
+abbrev pub lists_limited : jobs.Parts → Result jobs.Parts JobFault
+lists_limited p =
+    within which.Css 1048576 (jobs.sheet_bytes p.css p.nodes) >>= λ _.
+    within which.Fonts 64 (length p.fonts) >>= λ _.
+    within which.Advances 65536 (jobs.advances p.fonts) >>= λ _.
+    within which.Formula 16384 (length p.formula) >>= λ _.
+    Ok p

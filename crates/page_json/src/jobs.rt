@@ -9,7 +9,7 @@ ghost use Rattle.page_json.specs.Fonts.{font_of};
 ghost use Rattle.page_json.specs.Documents.{node_of};
 ghost use Rattle.page_json.specs.Jobs.{fonts_of, sheets_of, page_of, parts_of};
 ghost use Rattle.page_json.specs.Pages.{IsDocument};
-ghost use Rattle.page_json.specs.Seen.{seen, all_measures, page_parts, parts_seen};
+ghost use Rattle.page_json.specs.Seen.{seen, all_measures, lists_of, page_parts, parts_seen};
 
 use crate::JobFault;
 use crate::elements::body_of;
@@ -30,6 +30,14 @@ pub(crate) struct Parts<'a> {
     pub css: List<Text>,
     pub page: Nodes,
     pub formula: &'a str,
+}
+
+/// The members that are numbers.
+#[derive(Clone, Copy)]
+struct Numbers {
+    widths: (u64, u64),
+    sizes: (u64, u64),
+    height: u64,
 }
 
 /// The nodes of a page, and how deep its elements nest.
@@ -144,6 +152,30 @@ fn page_of(alloc: Global, value: &Value) -> Result<Nodes, JobFault>
     }
 }
 
+/// The members with lists and the formula, beside those that are numbers.
+fn lists_of(alloc: Global, value: &Value, numbers: Numbers) -> Result<Parts<'_>, JobFault>
+    ensures gives { Gives parts_seen refusal_of result
+        (lists_of numbers.widths numbers.sizes numbers.height (view value.now)) }
+    ensures document { IfOk result (λ parts. IsDocument parts.page.nodes) }
+    ensures has_font { IfOk result (λ parts. 1 ≤ length parts.fonts) }
+{
+    let fonts = fonts_of(alloc, value)?;
+    let css = sheets_of(alloc, value)?;
+    let page = page_of(alloc, value)?;
+    let Some(formula) = text_at(value, "assert") else {
+        return Err(JobFault::Shape(Part::Assert, 0));
+    };
+    Ok(Parts {
+        widths: numbers.widths,
+        sizes: numbers.sizes,
+        height: numbers.height,
+        fonts,
+        css,
+        page,
+        formula,
+    })
+}
+
 /// What the members say, or the first that is missing, of another form or against a rule.
 pub(crate) fn parts_of(alloc: Global, value: &Value) -> Result<Parts<'_>, JobFault>
     ensures gives { Gives parts_seen refusal_of result (parts_of (view value.now)) }
@@ -162,19 +194,10 @@ pub(crate) fn parts_of(alloc: Global, value: &Value) -> Result<Parts<'_>, JobFau
     let Some(height) = whole_at(value, "height") else {
         return Err(JobFault::Shape(Part::Height, 0));
     };
-    let fonts = fonts_of(alloc, value)?;
-    let css = sheets_of(alloc, value)?;
-    let page = page_of(alloc, value)?;
-    let Some(formula) = text_at(value, "assert") else {
-        return Err(JobFault::Shape(Part::Assert, 0));
-    };
-    Ok(Parts {
+    let numbers = Numbers {
         widths,
         sizes,
         height,
-        fonts,
-        css,
-        page,
-        formula,
-    })
+    };
+    lists_of(alloc, value, numbers)
 }

@@ -6,7 +6,7 @@ ghost use Rattle.viz_base.specs.Answers.{Gives};
 ghost use Rattle.page_json.specs.Faults.{refusal_of, within};
 ghost use Rattle.page_json.specs.Fonts.{measures_of};
 ghost use Rattle.page_json.specs.Jobs.{advances, are_ends, characters, elements, in_range, limited, sheet_bytes, style_bytes, style_bytes_in};
-ghost use Rattle.page_json.specs.Seen.{parts_seen};
+ghost use Rattle.page_json.specs.Seen.{lists_limited, parts_seen};
 
 use crate::JobFault;
 use crate::jobs::Parts;
@@ -112,6 +112,18 @@ fn within(which: Which, most: u64, count: u64) -> Result<u64, JobFault>
     }
 }
 
+/// Refuses the first count of sheets, fonts and the formula that is beyond its limit.
+fn lists_limited(parts: &Parts<'_>) -> Result<u64, JobFault>
+    ensures gives { Gives (λ _. parts_seen parts.now) refusal_of result (lists_limited (parts_seen parts.now)) }
+    ensures short_formula { OnOk result (length parts.now.formula.now ≤ 16384) }
+{
+    let bytes = sheet_bytes(parts.css.as_slice(), parts.page.nodes.as_slice())?;
+    within(Which::Css, 1_048_576, bytes)?;
+    within(Which::Fonts, 64, parts.fonts.len() as u64)?;
+    within(Which::Advances, 65_536, advances(parts.fonts.as_slice())?)?;
+    within(Which::Formula, 16_384, parts.formula.len() as u64)
+}
+
 /// Refuses the first count that is beyond its limit.
 pub(crate) fn limited(parts: &Parts<'_>) -> Result<u64, JobFault>
     ensures gives { Gives (λ _. parts_seen parts.now) refusal_of result (limited (parts_seen parts.now)) }
@@ -119,18 +131,10 @@ pub(crate) fn limited(parts: &Parts<'_>) -> Result<u64, JobFault>
     ensures short_formula { OnOk result (length parts.now.formula.now ≤ 16384) }
 {
     let nodes = parts.page.nodes.as_slice();
-    let fonts = parts.fonts.as_slice();
     within(Which::Elements, 4096, elements(nodes))?;
     within(Which::Depth, 60, parts.page.depth)?;
     within(Which::Text, 262_144, characters(nodes)?)?;
-    within(
-        Which::Css,
-        1_048_576,
-        sheet_bytes(parts.css.as_slice(), nodes)?,
-    )?;
-    within(Which::Fonts, 64, fonts.len() as u64)?;
-    within(Which::Advances, 65_536, advances(fonts)?)?;
-    within(Which::Formula, 16_384, parts.formula.len() as u64)
+    lists_limited(parts)
 }
 
 /// Whether it goes from 1 or more to `most` or less, the first no greater than the second.
