@@ -5,4 +5,4 @@ mod multiples;
 mod pairs;
 
 pub use multiples::{Multiples, least_multiples};
-pub use pairs::{added, closing, is_contradiction};
+pub use pairs::{added, closing, is_contradiction, multiple};

@@ -1,8 +1,7 @@
 ghost use Rattle.std.specs.Prelude.{◌≡◌, ◌<ℤ◌, [], false, true, pos, Some, ℤ, IfOk, MatchOption};
 ghost use Rattle.lin_row.specs.Form.{IsCanonical, checked_form, plus};
-ghost use Rattle.lin_proof.specs.Derivations.{is_contradiction};
-ghost use Rattle.lin_pairs.specs.Pairs.{closes, sum_of_two};
-ghost use Rattle.lin_pairs.specs.Pairs.{IsBest, IsFirst};
+ghost use Rattle.lin_proof.specs.Derivations.{is_contradiction, zero_form};
+ghost use Rattle.lin_pairs.specs.Pairs.{IsBest, IsFirst, closes, sum_of_two};
 
 use crate::multiples::{Multiples, least_multiples};
 use lin_row::{Row, RowFault};
@@ -27,14 +26,20 @@ pub fn added(sum: &Row, times: i128, row: &Row) -> Result<Option<Row>, Mem>
     }
 }
 
+/// A multiple of a row, if its numbers are in `i128`.
+pub fn multiple(alloc: Global, times: i128, row: &Row) -> Result<Option<Row>, Mem>
+    ensures { IfOk result (λ next. next ≡ checked_form (plus zero_form times row.now)) }
+{
+    added(&Row::constant(alloc, 0), times, row)
+}
+
 /// The sum of positive multiples of two rows, if every number on the way is in `i128`.
 fn sum_of_two(alloc: Global, f: &Row, g: &Row, multiples: Multiples) -> Result<Option<Row>, Mem>
     requires first { pos 0 <ℤ multiples.first }
     requires second { pos 0 <ℤ multiples.second }
     ensures { IfOk result (λ sum. sum ≡ sum_of_two f.now multiples.first g.now multiples.second) }
 {
-    let zero = Row::constant(alloc, 0);
-    match added(&zero, multiples.first, f)? {
+    match multiple(alloc, multiples.first, f)? {
         Some(sum) => added(&sum, multiples.second, g),
         None => Ok(None),
     }

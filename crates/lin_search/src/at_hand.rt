@@ -1,4 +1,4 @@
-ghost use Rattle.std.specs.Prelude.{◌≡◌, ◌<◌, ◌^◌, ℕ, false, length, List as Seq, Some, IfOk, MatchOption};
+ghost use Rattle.std.specs.Prelude.{◌≡◌, ◌<◌, ◌^◌, ℕ, false, length, List as Seq, [], ◌∷◌, Some, IfOk, MatchOption};
 ghost use Rattle.lin_proof.specs.Derivations.{Refutes, is_contradiction};
 ghost use Rattle.lin_search.specs.Answers.{NoneAtHand};
 ghost use Rattle.lin_row.specs.Form.{Form};
@@ -99,15 +99,22 @@ fn refuted_by_one(alloc: Global, number: u32) -> Result<Derivation, Mem>
 fn refuted_by_two(alloc: Global, pair: Pair) -> Result<Derivation, Mem>
     ensures { IfOk result (λ d. (facts : Seq Form) (variables : ℕ) → IsPair facts pair → Refutes facts variables d) }
 {
-    let mut parts = List::new(alloc);
-    parts.push((pair.multiples.first, 0))?;
-    parts.push((pair.multiples.second, 1))?;
     let mut steps = List::new(alloc);
     steps.push(Step::Fact(pair.first))?;
     steps.push(Step::Fact(pair.second))?;
-    steps.push(Step::Sum(parts))?;
+    steps.push(Step::Sum(parts_of(alloc, pair.multiples)?))?;
     Ok(Derivation {
         steps,
         last: Ending::Closed,
     })
+}
+
+/// The parts of a sum of the first two rows.
+fn parts_of(alloc: Global, multiples: Multiples) -> Result<List<(i128, u32)>, Mem>
+    ensures { IfOk result (λ parts. parts ≡ (multiples.first, 0) ∷ (multiples.second, 1) ∷ []) }
+{
+    let mut parts = List::new(alloc);
+    parts.push((multiples.first, 0))?;
+    parts.push((multiples.second, 1))?;
+    Ok(parts)
 }

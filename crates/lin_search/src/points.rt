@@ -42,6 +42,13 @@ pub fn value_at(row: &Row, values: &[i128]) -> Option<i128>
 fn plus_term(sum: i128, term: (u32, i128), values: &[i128]) -> Option<i128>
     ensures { IfSome result (λ n. n ≡ sum +ℤ term.1 *ℤ at_point values.now term.0) }
 {
-    let value = *values.get(term.0 as usize)?;
+    let value = variable_at(values, term.0)?;
     sum.checked_add(term.1.checked_mul(value)?)
+}
+
+/// The value of a variable, if it has one.
+fn variable_at(values: &[i128], variable: u32) -> Option<i128>
+    ensures { IfSome result (λ n. n ≡ at_point values.now variable) }
+{
+    values.get(variable as usize).copied()
 }

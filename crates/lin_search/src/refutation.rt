@@ -10,7 +10,7 @@ use lin_proof::{Derivation, Facts, first_fault_among, line_count};
 use lin_row::Row;
 use lin_stages::{Proposal, propose};
 use std::alloc::Global;
-use viz_base::Mem;
+use viz_base::{List, Mem};
 
 /// Looks for a derivation that refutes the facts, rows at least 0 over whole numbers, or for values of the variables
 /// that meet them all, and gives up after about `limit` cases and combined pairs of rows.
@@ -45,19 +45,37 @@ fn checked(alloc: Global, facts: &[Row], variables: u32, proposed: Proposal) -> 
     ensures { IfOk result (IsSound facts.now variables) }
 {
     match proposed {
-        Proposal::Found(derivation) => {
-            if is_refutation(alloc, facts, variables, &derivation)? {
-                return Ok(Search::Found(derivation));
-            }
-        }
-        Proposal::Point(values) => {
-            if values.len() == variables as usize && meets_all(facts, values.as_slice()) {
-                return Ok(Search::Point(values));
-            }
-        }
-        Proposal::GaveUp => {}
+        Proposal::Found(derivation) => checked_derivation(alloc, facts, variables, derivation),
+        Proposal::Point(values) => Ok(checked_point(facts, variables, values)),
+        Proposal::GaveUp => Ok(Search::GaveUp),
     }
-    Ok(Search::GaveUp)
+}
+
+/// A derivation, if it refutes the facts.
+fn checked_derivation(
+    alloc: Global,
+    facts: &[Row],
+    variables: u32,
+    derivation: Derivation,
+) -> Result<Search, Mem>
+    ensures { IfOk result (IsSound facts.now variables) }
+{
+    if is_refutation(alloc, facts, variables, &derivation)? {
+        Ok(Search::Found(derivation))
+    } else {
+        Ok(Search::GaveUp)
+    }
+}
+
+/// Values of the variables, if they are one for each and meet the facts.
+fn checked_point(facts: &[Row], variables: u32, values: List<i128>) -> Search
+    ensures { IsSound facts.now variables result }
+{
+    if values.len() == variables as usize && meets_all(facts, values.as_slice()) {
+        Search::Point(values)
+    } else {
+        Search::GaveUp
+    }
 }
 
 /// Whether a derivation refutes the facts. False also where its lines are too many to be counted.

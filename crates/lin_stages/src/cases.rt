@@ -54,51 +54,71 @@ struct Halving {
     is_concerned: bool,
 }
 
-/// Both cases of a range that is halved.
+/// A range that is halved: the rows of both cases, which bound the variable at a place.
 #[derive(Drop)]
 struct Halves {
+    place: u32,
+    whole: Bounds,
+    here: Source,
     row: Row,
-    first: Case,
-    second: Case,
+    other: Row,
 }
 
 impl Halves {
-    /// Both cases of a range with these bounds: a row, and the other one, is known by this number.
-    fn new(place: u32, whole: Bounds, number: u32, row: Row, other: Row) -> Result<Halves, Mem> {
-        let here = Some(Source::Known(number));
-        let below = Bounds {
-            low: whole.low,
-            high: here,
-        };
-        let above = Bounds {
-            low: here,
-            high: whole.high,
-        };
-        Ok(Halves {
-            first: Case {
-                place,
+    /// The halves of a range with these bounds, where the row of a case is known as `here`, if the rows have numbers.
+    fn new(
+        alloc: Global,
+        halving: Halving,
+        whole: Bounds,
+        here: Source,
+    ) -> Result<Option<Halves>, Mem> {
+        let row = Row::of_term(alloc, halving.middle, halving.variable, -1)?;
+        match denied(&row)? {
+            Some(other) => Ok(Some(Halves {
+                place: halving.place,
                 whole,
-                bounds: below,
-                row: row.clone()?,
+                here,
+                row,
+                other,
+            })),
+            None => Ok(None),
+        }
+    }
+
+    /// The case up to the middle.
+    fn first(&self) -> Case<'_> {
+        Case {
+            place: self.place,
+            whole: self.whole,
+            bounds: Bounds {
+                low: self.whole.low,
+                high: Some(self.here),
             },
-            second: Case {
-                place,
-                whole,
-                bounds: above,
-                row: other,
+            row: &self.row,
+        }
+    }
+
+    /// The case above the middle.
+    fn second(&self) -> Case<'_> {
+        Case {
+            place: self.place,
+            whole: self.whole,
+            bounds: Bounds {
+                low: Some(self.here),
+                high: self.whole.high,
             },
-            row,
-        })
+            row: &self.other,
+        }
     }
 }
 
 /// A case: the row that is known in it, by which the variable at a place is bounded.
-#[derive(Drop)]
-struct Case {
+#[derive(Clone, Copy)]
+struct Case<'a> {
     place: u32,
     whole: Bounds,
     bounds: Bounds,
-    row: Row,
+    row: &'a Row,
 }
 
 /// Goes through cases of the variables that are bounded by themselves, down to single values.
@@ -135,10 +155,20 @@ enum Next {
 fn without_cases(alloc: Global, ground: Ground<'_>, scope: &mut Scope) -> Result<Next, Mem> {
     let ranges = ranges_of(alloc, view_of(ground, &scope.bounds, &scope.known, &[]))?;
     let view = view_of(ground, &scope.bounds, &scope.known, &ranges);
-    if let Some(steps) = closed_here(alloc, view, ground.outline, &mut scope.left)? {
+    in_ranges(alloc, view, ground.outline, &mut scope.left)
+}
+
+/// What comes next where the ranges are known.
+fn in_ranges(
+    alloc: Global,
+    view: View<'_>,
+    outline: &Outline,
+    left: &mut u64,
+) -> Result<Next, Mem> {
+    if let Some(steps) = closed_here(alloc, view, outline, left)? {
         return Ok(Next::Outcome(closed(steps)));
     }
-    match next_halving(view, ground.outline) {
+    match next_halving(view, outline) {
         Some(halving) => Ok(Next::Halve(halving)),
         None => Ok(Next::Outcome(at_one_point(alloc, view)?)),
     }
@@ -178,35 +208,36 @@ fn halved(
     let Some(halves) = halves_of(alloc, scope, halving)? else {
         return Ok(Outcome::Stuck);
     };
-    match in_case(alloc, ground, scope, depth, halves.first)? {
-        Outcome::Closed(first) => {
-            other_half(
-                alloc,
-                ground,
-                scope,
-                depth,
-                halves.second,
-                halves.row,
-                first,
-            )
-        }
+    both_halves(alloc, ground, scope, depth, &halves)
+}
+
+/// The first case of a range, and with it both.
+#[cycle(cases)]
+fn both_halves(
+    alloc: Global,
+    ground: Ground<'_>,
+    scope: &mut Scope,
+    depth: u32,
+    halves: &Halves,
+) -> Result<Outcome, Mem> {
+    match in_case(alloc, ground, scope, depth, halves.first())? {
+        Outcome::Closed(first) => other_half(alloc, ground, scope, depth, halves, first),
         outcome => Ok(outcome),
     }
 }
 
-/// The other case of a row, and with it both.
+/// The other case of a range, and with it both.
 #[cycle(cases)]
 fn other_half(
     alloc: Global,
     ground: Ground<'_>,
     scope: &mut Scope,
     depth: u32,
-    case: Case,
-    row: Row,
+    halves: &Halves,
     first: Derivation,
 ) -> Result<Outcome, Mem> {
-    match in_case(alloc, ground, scope, depth, case)? {
-        Outcome::Closed(second) => both(alloc, row, first, second),
+    match in_case(alloc, ground, scope, depth, halves.second())? {
+        Outcome::Closed(second) => both(alloc, halves, first, second),
         outcome => Ok(outcome),
     }
 }
@@ -218,32 +249,32 @@ fn in_case(
     ground: Ground<'_>,
     scope: &mut Scope,
     depth: u32,
-    case: Case,
+    case: Case<'_>,
 ) -> Result<Outcome, Mem> {
     let count = scope.known.len();
-    enter(scope, case.place, case.bounds, case.row)?;
+    enter(scope, case)?;
     let outcome = by_cases(alloc, ground, scope, depth)?;
-    leave(scope, case.place, case.whole, count);
+    leave(scope, case, count);
     Ok(outcome)
 }
 
 /// Both cases of a range, if their rows have numbers.
 fn halves_of(alloc: Global, scope: &Scope, halving: Halving) -> Result<Option<Halves>, Mem> {
-    let Some(whole) = scope.bounds.get(halving.place as usize).copied() else {
-        return Ok(None);
-    };
-    let Ok(number) = u32::try_from(scope.known.len()) else {
-        return Ok(None);
-    };
-    let row = Row::of_term(alloc, halving.middle, halving.variable, -1)?;
-    match denied(&row)? {
-        Some(other) => Ok(Some(Halves::new(halving.place, whole, number, row, other)?)),
-        None => Ok(None),
+    let whole = scope.bounds.get(halving.place as usize).copied();
+    match (whole, u32::try_from(scope.known.len())) {
+        (Some(whole), Ok(number)) => Halves::new(alloc, halving, whole, Source::Known(number)),
+        _ => Ok(None),
     }
 }
 
-/// The derivation by both cases of a row.
-fn both(alloc: Global, row: Row, first: Derivation, second: Derivation) -> Result<Outcome, Mem> {
+/// The derivation by both cases of a range.
+fn both(
+    alloc: Global,
+    halves: &Halves,
+    first: Derivation,
+    second: Derivation,
+) -> Result<Outcome, Mem> {
+    let row = halves.row.clone()?;
     let branch = Boxed::new(alloc, Branch { row, first, second })?;
     Ok(Outcome::Closed(Derivation {
         steps: List::new(alloc),
@@ -251,17 +282,17 @@ fn both(alloc: Global, row: Row, first: Derivation, second: Derivation) -> Resul
     }))
 }
 
-/// Goes on where a row is known, by which the variable at a place is bounded.
-fn enter(scope: &mut Scope, place: u32, bounds: Bounds, row: Row) -> Result<(), Mem> {
-    scope.known.push(row)?;
-    set_bounds(&mut scope.bounds, place, bounds);
+/// Goes on in a case.
+fn enter(scope: &mut Scope, case: Case<'_>) -> Result<(), Mem> {
+    scope.known.push(case.row.clone()?)?;
+    set_bounds(&mut scope.bounds, case.place, case.bounds);
     Ok(())
 }
 
-/// Goes back to where so many rows were known, and the variable at a place had these bounds.
-fn leave(scope: &mut Scope, place: u32, bounds: Bounds, count: usize) {
+/// Goes back from a case to where so many rows were known.
+fn leave(scope: &mut Scope, case: Case<'_>, count: usize) {
     scope.known.truncate(count);
-    set_bounds(&mut scope.bounds, place, bounds);
+    set_bounds(&mut scope.bounds, case.place, case.whole);
 }
 
 fn set_bounds(bounds: &mut [Bounds], place: u32, new: Bounds) {
@@ -332,21 +363,42 @@ fn length_of(range: Range) -> Option<(i128, i128)> {
 
 /// Where each range is one number: a derivation from a fact that is not met, or the numbers, if they meet all facts.
 fn at_one_point(alloc: Global, view: View<'_>) -> Result<Outcome, Mem> {
+    match first_unmet(view) {
+        Some(fact) => closed_from(alloc, view, fact),
+        None => Ok(Outcome::Met(point(alloc, view.ranges)?)),
+    }
+}
+
+/// The first fact that is not known to be met where each range is one number.
+fn first_unmet(view: View<'_>) -> Option<Source> {
     for (number, fact) in view.facts.iter().enumerate() {
-        let (Some(most), Ok(number)) = (most_of(view, fact), u32::try_from(number)) else {
-            return Ok(Outcome::Stuck);
-        };
-        if most < 0 {
-            let mut sums = Vec::new(alloc);
-            let steps = closed_by(alloc, view, &mut sums, Source::Fact(number))?;
-            return Ok(steps.map_or(Outcome::Stuck, closed));
+        if !is_met(view, fact) {
+            return Some(Source::Fact(u32::try_from(number).ok()?));
         }
     }
+    None
+}
+
+fn is_met(view: View<'_>, fact: &Row) -> bool {
+    match most_of(view, fact) {
+        Some(most) => most >= 0,
+        None => false,
+    }
+}
+
+fn closed_from(alloc: Global, view: View<'_>, fact: Source) -> Result<Outcome, Mem> {
+    let mut sums = Vec::new(alloc);
+    let steps = closed_by(alloc, view, &mut sums, fact)?;
+    Ok(steps.map_or(Outcome::Stuck, closed))
+}
+
+/// A number of each range.
+fn point(alloc: Global, ranges: &[Range]) -> Result<Vec<i128>, Mem> {
     let mut values = Vec::new(alloc);
-    for range in view.ranges {
+    for range in ranges {
         values.push(range.least.or(range.greatest).unwrap_or(0))?;
     }
-    Ok(Outcome::Met(values))
+    Ok(values)
 }
 
 /// Steps to a contradiction without further cases.

@@ -19,20 +19,45 @@ pub fn paired(
     let low = eliminate(alloc, view, sums, start, base, Manner::Exact)?;
     for split in splits {
         let split = Source::Fact(*split);
-        if let Some(found) = joined(alloc, view, sums, start, split)? {
-            return Ok(Some(found));
-        }
-        let Some(low) = low else {
-            continue;
-        };
-        let Some(other) = eliminate(alloc, view, sums, split, base, Manner::Exact)? else {
-            continue;
-        };
-        if let Some(found) = joined(alloc, view, sums, low, other)? {
+        if let Some(found) = paired_with(alloc, view, sums, start, low, split, base)? {
             return Ok(Some(found));
         }
     }
     Ok(None)
+}
+
+/// A contradiction from the row of `start`, or from what elimination down to `base` makes of it, and a split.
+fn paired_with(
+    alloc: Global,
+    view: View<'_>,
+    sums: &mut Vec<Sum>,
+    start: Source,
+    low: Option<Source>,
+    split: Source,
+    base: u32,
+) -> Result<Option<Source>, Mem> {
+    if let Some(found) = joined(alloc, view, sums, start, split)? {
+        return Ok(Some(found));
+    }
+    match low {
+        Some(low) => joined_below(alloc, view, sums, low, split, base),
+        None => Ok(None),
+    }
+}
+
+/// A contradiction from a row and from what elimination down to `base` makes of a split.
+fn joined_below(
+    alloc: Global,
+    view: View<'_>,
+    sums: &mut Vec<Sum>,
+    low: Source,
+    split: Source,
+    base: u32,
+) -> Result<Option<Source>, Mem> {
+    match eliminate(alloc, view, sums, split, base, Manner::Exact)? {
+        Some(other) => joined(alloc, view, sums, low, other),
+        None => Ok(None),
+    }
 }
 
 /// A contradiction from two rows, each variable that both have with opposite signs being tried.
@@ -80,18 +105,30 @@ fn opposites(
     first: Source,
     second: Source,
 ) -> Result<Vec<(i128, i128)>, Mem> {
+    match (row_of(view, sums, first), row_of(view, sums, second)) {
+        (Some(row), Some(other)) => opposites_in(alloc, row, other),
+        _ => Ok(Vec::new(alloc)),
+    }
+}
+
+fn opposites_in(alloc: Global, row: &Row, other: &Row) -> Result<Vec<(i128, i128)>, Mem> {
     let mut pairs = Vec::new(alloc);
-    let (Some(row), Some(other)) = (row_of(view, sums, first), row_of(view, sums, second)) else {
-        return Ok(pairs);
-    };
     for term in row.terms.as_slice() {
-        if let Some(coefficient) = coefficient_in(other, term.0) {
-            if (term.1 < 0) != (coefficient < 0) {
-                pairs.push((term.1, coefficient))?;
-            }
+        if let Some(coefficient) = opposite_in(other, *term) {
+            pairs.push((term.1, coefficient))?;
         }
     }
     Ok(pairs)
+}
+
+/// The coefficient of a term's variable in a row, if its sign is the opposite.
+fn opposite_in(row: &Row, term: (u32, i128)) -> Option<i128> {
+    let coefficient = coefficient_in(row, term.0)?;
+    if (term.1 < 0) != (coefficient < 0) {
+        Some(coefficient)
+    } else {
+        None
+    }
 }
 
 fn coefficient_in(row: &Row, variable: u32) -> Option<i128> {

@@ -64,6 +64,11 @@ impl<'a> View<'a> {
         u32::try_from(at).ok()
     }
 
+    /// The variable at a place.
+    pub fn variable_at(self, place: u32) -> Option<u32> {
+        self.variables.get(place as usize).copied()
+    }
+
     /// The range of the variable at a place, if one was found.
     pub fn range(self, place: u32) -> Option<Range> {
         self.ranges.get(place as usize).copied()

@@ -1,5 +1,5 @@
 use crate::sources::{Source, View, top_term};
-use lin_pairs::{Multiples, added, is_contradiction, least_multiples};
+use lin_pairs::{Multiples, added, is_contradiction, least_multiples, multiple};
 use lin_row::Row;
 use std::alloc::Global;
 use viz_base::Mem;
@@ -25,7 +25,7 @@ pub struct Sum {
 }
 
 /// How multiples of bounds are chosen.
-#[derive(Clone, Copy, PartialEq, Eq)]
+#[derive(Clone, Copy)]
 pub enum Manner {
     /// The sum so far is multiplied as needed, so that a bound takes a variable away at once.
     Exact,
@@ -63,8 +63,7 @@ fn combined(
     if times == 1 {
         return added(row, more, other);
     }
-    let zero = Row::constant(alloc, 0);
-    match added(&zero, times, row)? {
+    match multiple(alloc, times, row)? {
         Some(sum) => added(&sum, more, other),
         None => Ok(None),
     }
@@ -87,15 +86,25 @@ pub fn add(
     first: Part,
     second: Part,
 ) -> Result<Option<Source>, Mem> {
-    let made = match ranged(alloc, view, first.of)? {
-        Some(range) => with_second(alloc, view, sums, first.times, &range, second)?,
-        None => match row_of(view, sums, first.of) {
-            Some(row) => with_second(alloc, view, sums, first.times, row, second)?,
-            None => None,
-        },
-    };
-    match made {
+    match sum_of(alloc, view, sums, first, second)? {
         Some(row) => keep(sums, row, first, second),
+        None => Ok(None),
+    }
+}
+
+/// The sum of multiples of two sources.
+fn sum_of(
+    alloc: Global,
+    view: View<'_>,
+    sums: &[Sum],
+    first: Part,
+    second: Part,
+) -> Result<Option<Row>, Mem> {
+    if let Some(row) = row_of(view, sums, first.of) {
+        return with_second(alloc, view, sums, first.times, row, second);
+    }
+    match ranged(alloc, view, first.of)? {
+        Some(range) => with_second(alloc, view, sums, first.times, &range, second),
         None => Ok(None),
     }
 }
@@ -109,11 +118,11 @@ fn with_second(
     row: &Row,
     second: Part,
 ) -> Result<Option<Row>, Mem> {
-    if let Some(range) = ranged(alloc, view, second.of)? {
-        return combined(alloc, times, row, second.times, &range);
+    if let Some(other) = row_of(view, sums, second.of) {
+        return combined(alloc, times, row, second.times, other);
     }
-    match row_of(view, sums, second.of) {
-        Some(other) => combined(alloc, times, row, second.times, other),
+    match ranged(alloc, view, second.of)? {
+        Some(range) => combined(alloc, times, row, second.times, &range),
         None => Ok(None),
     }
 }
@@ -128,28 +137,38 @@ pub fn ranged(alloc: Global, view: View<'_>, source: Source) -> Result<Option<Ro
 }
 
 fn low_row(alloc: Global, view: View<'_>, place: u32) -> Result<Option<Row>, Mem> {
-    let (Some(range), Some(variable)) = (view.range(place), view.variables.get(place as usize))
-    else {
-        return Ok(None);
-    };
-    let Some(least) = range.least else {
-        return Ok(None);
-    };
-    let Some(k) = least.checked_neg() else {
-        return Ok(None);
-    };
-    Ok(Some(Row::of_term(alloc, k, *variable, 1)?))
+    match (low_constant(view, place), view.variable_at(place)) {
+        (Some(k), Some(variable)) => Ok(Some(Row::of_term(alloc, k, variable, 1)?)),
+        _ => Ok(None),
+    }
+}
+
+/// The negative of the least value of the variable at a place.
+fn low_constant(view: View<'_>, place: u32) -> Option<i128> {
+    view.range(place)?.least?.checked_neg()
 }
 
 fn high_row(alloc: Global, view: View<'_>, place: u32) -> Result<Option<Row>, Mem> {
-    let (Some(range), Some(variable)) = (view.range(place), view.variables.get(place as usize))
-    else {
-        return Ok(None);
-    };
-    let Some(greatest) = range.greatest else {
-        return Ok(None);
-    };
-    Ok(Some(Row::of_term(alloc, greatest, *variable, -1)?))
+    match (high_constant(view, place), view.variable_at(place)) {
+        (Some(k), Some(variable)) => Ok(Some(Row::of_term(alloc, k, variable, -1)?)),
+        _ => Ok(None),
+    }
+}
+
+/// The greatest value of the variable at a place.
+fn high_constant(view: View<'_>, place: u32) -> Option<i128> {
+    view.range(place)?.greatest
+}
+
+/// The highest variable of a row, which is taken away.
+#[derive(Clone, Copy)]
+struct Top {
+    /// The row.
+    of: Source,
+    /// The variable's place.
+    place: u32,
+    /// Its coefficient.
+    coefficient: i128,
 }
 
 /// Takes away the variables of a row from the highest down to the place `down_to`, by what bounds them. None where
@@ -173,11 +192,15 @@ pub fn eliminate(
         if place < down_to {
             return Ok(Some(at));
         }
-        let next = take_away(alloc, view, sums, at, place, coefficient, manner)?;
-        let Some(next) = next else {
-            return Ok(None);
+        let top = Top {
+            of: at,
+            place,
+            coefficient,
         };
-        at = next;
+        match take_away(alloc, view, sums, top, manner)? {
+            Some(next) => at = next,
+            None => return Ok(None),
+        }
     }
     Ok(None)
 }
@@ -186,44 +209,20 @@ fn top_of(view: View<'_>, sums: &[Sum], source: Source) -> Option<(u32, i128)> {
     top_term(row_of(view, sums, source)?)
 }
 
-/// Takes away the variable at a place, the highest of the row.
+/// Takes away the highest variable of a row.
 fn take_away(
     alloc: Global,
     view: View<'_>,
     sums: &mut Vec<Sum>,
-    at: Source,
-    place: u32,
-    coefficient: i128,
+    top: Top,
     manner: Manner,
 ) -> Result<Option<Source>, Mem> {
-    if is_settled(view, place) {
-        return by_range(alloc, view, sums, at, place, coefficient);
+    if is_settled(view, top.place) {
+        return by_range(alloc, view, sums, top);
     }
-    let Some(bounds) = view.bounds_of(place) else {
-        return Ok(None);
-    };
-    let bound = if coefficient > 0 {
-        bounds.high
-    } else {
-        bounds.low
-    };
-    let Some(bound) = bound else {
-        return Ok(None);
-    };
-    let Some((_, other)) = top_of(view, sums, bound) else {
-        return Ok(None);
-    };
-    if manner == Manner::Exact {
-        return cancel(alloc, view, sums, at, bound, coefficient, other);
-    }
-    let Some(taken) = take_often(alloc, view, sums, at, bound, coefficient, other)? else {
-        return Ok(None);
-    };
-    match top_of(view, sums, taken) {
-        Some((variable, left)) if view.place_of(variable) == Some(place) => {
-            by_range(alloc, view, sums, taken, place, left)
-        }
-        _ => Ok(Some(taken)),
+    match bound_of(view, top) {
+        Some(bound) => by_bound(alloc, view, sums, top, bound, manner),
+        None => Ok(None),
     }
 }
 
@@ -232,6 +231,59 @@ fn is_settled(view: View<'_>, place: u32) -> bool {
     match view.range(place) {
         Some(range) => range.least.is_some() && range.least == range.greatest,
         None => false,
+    }
+}
+
+/// What bounds a variable on the side that takes it away.
+fn bound_of(view: View<'_>, top: Top) -> Option<Source> {
+    let bounds = view.bounds_of(top.place)?;
+    if top.coefficient > 0 {
+        bounds.high
+    } else {
+        bounds.low
+    }
+}
+
+/// Takes a variable away by what bounds it.
+fn by_bound(
+    alloc: Global,
+    view: View<'_>,
+    sums: &mut Vec<Sum>,
+    top: Top,
+    bound: Source,
+    manner: Manner,
+) -> Result<Option<Source>, Mem> {
+    let Some((_, other)) = top_of(view, sums, bound) else {
+        return Ok(None);
+    };
+    match manner {
+        Manner::Exact => cancel(alloc, view, sums, top.of, bound, top.coefficient, other),
+        Manner::Rounded => rounded(alloc, view, sums, top, bound, other),
+    }
+}
+
+/// Takes a variable away by what bounds it as often as that fits, and what is left of it by its range.
+fn rounded(
+    alloc: Global,
+    view: View<'_>,
+    sums: &mut Vec<Sum>,
+    top: Top,
+    bound: Source,
+    other: i128,
+) -> Result<Option<Source>, Mem> {
+    let Some(taken) = take_often(alloc, view, sums, top, bound, other)? else {
+        return Ok(None);
+    };
+    match top_of(view, sums, taken) {
+        Some((variable, coefficient)) if view.place_of(variable) == Some(top.place) => {
+            let left = Top {
+                of: taken,
+                place: top.place,
+                coefficient,
+            };
+            by_range(alloc, view, sums, left)
+        }
+        _ => Ok(Some(taken)),
     }
 }
 
@@ -267,28 +319,29 @@ fn multiples_of(coefficient: i128, other: i128) -> Option<Multiples> {
     least_multiples(coefficient, other)
 }
 
-/// Adds an end of the range so that the variable at a place, the highest of the row, goes away.
+/// Adds an end of the range so that the highest variable of a row goes away.
 fn by_range(
     alloc: Global,
     view: View<'_>,
     sums: &mut Vec<Sum>,
-    at: Source,
-    place: u32,
-    coefficient: i128,
+    top: Top,
 ) -> Result<Option<Source>, Mem> {
-    let Some(times) = coefficient.checked_abs() else {
+    let Some(times) = top.coefficient.checked_abs() else {
         return Ok(None);
     };
-    let of = if coefficient > 0 {
-        Source::High(place)
+    let of = if top.coefficient > 0 {
+        Source::High(top.place)
     } else {
-        Source::Low(place)
+        Source::Low(top.place)
     };
     add(
         alloc,
         view,
         sums,
-        Part { times: 1, of: at },
+        Part {
+            times: 1,
+            of: top.of,
+        },
         Part { times, of },
     )
 }
@@ -298,23 +351,25 @@ fn take_often(
     alloc: Global,
     view: View<'_>,
     sums: &mut Vec<Sum>,
-    at: Source,
+    top: Top,
     bound: Source,
-    coefficient: i128,
     other: i128,
 ) -> Result<Option<Source>, Mem> {
-    let (Some(size), Some(by)) = (coefficient.checked_abs(), other.checked_abs()) else {
+    let (Some(size), Some(by)) = (top.coefficient.checked_abs(), other.checked_abs()) else {
         return Ok(None);
     };
     if by == 0 || size < by {
-        return Ok(Some(at));
+        return Ok(Some(top.of));
     }
     let times = size / by;
     add(
         alloc,
         view,
         sums,
-        Part { times: 1, of: at },
+        Part {
+            times: 1,
+            of: top.of,
+        },
         Part { times, of: bound },
     )
 }

@@ -30,12 +30,14 @@ fn proposed_on(
     variables: u32,
     limit: u64,
 ) -> Result<Proposal, Mem> {
-    if let Some(derivation) = quickly(alloc, ground.facts, ground.outline)? {
-        return Ok(Proposal::Found(derivation));
+    match quickly(alloc, ground.facts, ground.outline)? {
+        Some(derivation) => Ok(Proposal::Found(derivation)),
+        None => slowly(alloc, ground, variables, limit),
     }
-    if limit == 0 {
-        return Ok(Proposal::GaveUp);
-    }
+}
+
+/// What cases come to.
+fn slowly(alloc: Global, ground: Ground<'_>, variables: u32, limit: u64) -> Result<Proposal, Mem> {
     match all_cases(alloc, ground, limit)? {
         Outcome::Closed(derivation) => Ok(Proposal::Found(derivation)),
         Outcome::Met(values) => Ok(Proposal::Point(spread(
@@ -48,7 +50,7 @@ fn proposed_on(
     }
 }
 
-/// What cases come to, from where nothing but the facts is known.
+/// Goes through cases from where nothing but the facts is known.
 fn all_cases(alloc: Global, ground: Ground<'_>, limit: u64) -> Result<Outcome, Mem> {
     let mut scope = Scope {
         bounds: ground.outline.bounds.clone()?,

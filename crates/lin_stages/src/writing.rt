@@ -265,18 +265,46 @@ fn write_ends(
     bounds: Bounds,
 ) -> Result<Option<()>, Mem> {
     if needs.lows.get(place).copied() == Some(true) {
-        match write_end(alloc, view, draft, place, bounds.low)? {
-            Some(number) => enter(&mut draft.lows, place, number),
-            None => return Ok(None),
+        if write_low(alloc, view, draft, place, bounds.low)?.is_none() {
+            return Ok(None);
         }
     }
     if needs.highs.get(place).copied() == Some(true) {
-        match write_end(alloc, view, draft, place, bounds.high)? {
-            Some(number) => enter(&mut draft.highs, place, number),
-            None => return Ok(None),
-        }
+        return write_high(alloc, view, draft, place, bounds.high);
     }
     Ok(Some(()))
+}
+
+fn write_low(
+    alloc: Global,
+    view: View<'_>,
+    draft: &mut Draft,
+    place: usize,
+    bound: Option<Source>,
+) -> Result<Option<()>, Mem> {
+    match write_end(alloc, view, draft, place, bound)? {
+        Some(number) => {
+            enter(&mut draft.lows, place, number);
+            Ok(Some(()))
+        }
+        None => Ok(None),
+    }
+}
+
+fn write_high(
+    alloc: Global,
+    view: View<'_>,
+    draft: &mut Draft,
+    place: usize,
+    bound: Option<Source>,
+) -> Result<Option<()>, Mem> {
+    match write_end(alloc, view, draft, place, bound)? {
+        Some(number) => {
+            enter(&mut draft.highs, place, number);
+            Ok(Some(()))
+        }
+        None => Ok(None),
+    }
 }
 
 /// Writes that a bound leaves no more than an end of the range: the bound, with ends of the other variables added, is
@@ -291,9 +319,21 @@ fn write_end(
     let (Some(source), Some(row)) = (bound, bound_row(view, bound)) else {
         return Ok(None);
     };
-    let Some(number) = number_of(draft, source)? else {
-        return Ok(None);
-    };
+    match number_of(draft, source)? {
+        Some(number) => write_cut(alloc, view, draft, place, row, number),
+        None => Ok(None),
+    }
+}
+
+/// Writes that the bound with this row, of this number, leaves no more than an end of the range.
+fn write_cut(
+    alloc: Global,
+    view: View<'_>,
+    draft: &mut Draft,
+    place: usize,
+    row: &Row,
+    number: u32,
+) -> Result<Option<u32>, Mem> {
     let mut parts = List::new(alloc);
     parts.push((1, number))?;
     match add_ends(view, draft, place, row, &mut parts)? {
@@ -318,10 +358,13 @@ fn add_ends(
         if other as usize == place {
             own = size;
         } else {
-            let Some(end) = number_of(draft, end_of(other, term.1))? else {
-                return Ok(None);
+            let end = Part {
+                times: size,
+                of: end_of(other, term.1),
             };
-            parts.push((size, end))?;
+            if add_part(draft, parts, end)?.is_none() {
+                return Ok(None);
+            }
         }
     }
     Ok(Some(own))
