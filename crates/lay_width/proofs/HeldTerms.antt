@@ -1,18 +1,21 @@
 -- The terms of a box are computed again at most once: with the width that its maximum and its minimum leave.
-use Rattle.std.proofs.Common.{◌≡◌, ℕ, ℤ, pos, Bool, true, false, int_le, Option, Some, None, refl, ◌∙◌, ap}
+use Rattle.std.proofs.Common.{◌≡◌, ℕ, ℤ, pos, Bool, true, false, int_le, Option, Some, None, refl, sym, ◌∙◌, ap, subst, arith}
 use Rattle.std.specs.Prelude.{cond, unwrap_or}
+use Rattle.std.specs.Int.{int_min}
 use Rattle.std.specs.Option.{option_map_or}
+use Rattle.std.proofs.lemmas.Grind.{common_steps}
+use Rattle.viz_base.specs.declared.layouts.Preferred.{Preferred}
 use Rattle.viz_base.specs.declared.layouts.Widths.{Widths}
 use Rattle.viz_base.specs.declared.lengths.Length.{Length}
 use Rattle.viz_base.specs.declared.lengths.Length.TheVariants as of_length
 use Rattle.viz_base.specs.declared.trees.BoxTree.{BoxTree}
 use Rattle.viz_base.specs.declared.worlds.World.{World}
-use Rattle.layout_semantics.specs.Lengths.{used, used_unless_auto}
+use Rattle.layout_semantics.specs.Lengths.{used, used_unless_auto, margins}
 use Rattle.layout_semantics.specs.Horizontal.{is_auto, terms_around, fixed_terms, auto_terms, block_terms, shrunk_terms, held_terms, at_most, at_least, again_unless, shrink_to_fit, available}
 use Rattle.layout_semantics.specs.Preferred.{preferred}
 use Rattle.layout_laws.specs.Terms.{own_width, own_maximum, own_minimum}
-use Rattle.lay_width.specs.Fitting.{own_width_of}
-use Rattle.lay_width.specs.steps.Terms.{around, below, again, held_again, filled_block, given_block, fitted_by}
+use Rattle.lay_width.specs.Fitting.{own_width_of, FillingFits, FixedFits, FixedBlockFits}
+use Rattle.lay_width.specs.steps.Terms.{around, room_between, fixed_around, below, again, held_again, filled_block, given_block, fitted_by}
 
 floor-again : (terms : Option ℤ → Widths ℤ) (least : ℤ) (t : Widths ℤ) (b : Bool) → again_unless b terms least t ≡ option_map_or (λ x. terms (Some x)) (cond b None (Some least)) t
 floor-again terms least t true = refl
@@ -116,3 +119,41 @@ shrunk-by tree w at cb = by (own_width_of tree at) refl
     by (of_length.Px c) e = shrunk-given tree w at cb (used tree w (of_length.Px c) cb) (ap (λ (l : Length). used_unless_auto tree w l cb) e)
     by (of_length.Em k node) e = shrunk-given tree w at cb (used tree w (of_length.Em k node) cb) (ap (λ (l : Length). used_unless_auto tree w l cb) e)
     by (of_length.Pct p) e = shrunk-given tree w at cb (used tree w (of_length.Pct p) cb) (ap (λ (l : Length). used_unless_auto tree w l cb) e)
+
+-- ---- a block whose width is what is left
+
+-- its terms, and what has to fit for them, by the width that they are computed again with
+abbrev filled_by : BoxTree → ℕ → ℤ → Widths ℤ → Option ℤ → Widths ℤ
+filled_by tree at cb edges o = elim o [
+  | None ↦ fixed_around false false (around edges (room_between edges cb)) cb
+  | Some x ↦ fixed_around (is_auto (margins tree at).left) (is_auto (margins tree at).right) (around edges x) cb
+]
+
+abbrev FilledFits : BoxTree → ℕ → ℤ → Widths ℤ → Option ℤ → Type 0
+FilledFits tree at cb edges o = elim o as (λ (o : Option ℤ). Type 0) [
+  | None ↦ FixedFits false false (around edges (room_between edges cb)) cb
+  | Some x ↦ FixedBlockFits tree at edges cb x
+]
+
+pub filled-again : (tree : BoxTree) (w : World) (at : ℕ) (cb : ℤ) (edges : Widths ℤ) (width : ℤ) (o : Option ℤ)
+    → width ≡ room_between edges cb → o ≡ again (own_maximum tree w at cb) (own_minimum tree w at cb) width
+    → filled_by tree at cb edges o ≡ filled_block tree w at cb edges
+filled-again tree w at cb edges width o r e =
+    ap (filled_by tree at cb edges) (e ∙ ap (again (own_maximum tree w at cb) (own_minimum tree w at cb)) r)
+
+pub filled-fits : (tree : BoxTree) (w : World) (at : ℕ) (cb : ℤ) (edges : Widths ℤ) (width : ℤ) (o : Option ℤ)
+    → width ≡ room_between edges cb → o ≡ again (own_maximum tree w at cb) (own_minimum tree w at cb) width
+    → FillingFits tree w at cb edges → FilledFits tree at cb edges o
+filled-fits tree w at cb edges width o r e f =
+    subst (FilledFits tree at cb edges) (sym (e ∙ ap (again (own_maximum tree w at cb) (own_minimum tree w at cb)) r)) f.1.1.1
+
+-- ---- a width that shrinks to fit
+
+pub fit-most : (p : Preferred ℤ) (room : ℤ) → true ≡ int_le p.most room → p.most ≡ shrink_to_fit p room
+fit-most p room e = grind (arith, common_steps)
+
+pub fit-room : (p : Preferred ℤ) (room : ℤ) → false ≡ int_le p.most room → true ≡ int_le p.least room → room ≡ shrink_to_fit p room
+fit-room p room e f = grind (arith, common_steps)
+
+pub fit-least : (p : Preferred ℤ) (room : ℤ) → false ≡ int_le p.most room → false ≡ int_le p.least room → int_min p.least p.most ≡ shrink_to_fit p room
+fit-least p room e f = grind (arith, common_steps)
