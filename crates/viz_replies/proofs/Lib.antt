@@ -1,2 +1,3 @@
+pub mod LineLemmas
 pub mod ReplyLemmas
 pub mod HeadlineLemmas

@@ -1,17 +1,9 @@
 -- Replies by what was found.
-use Rattle.std.proofs.Common.{◌≡◌, inl, inr, ℕ, ℤ, subst, ◌+◌, ◌<◌, ◌≤◌, ◌^◌, List, [], ◌∷◌, ◌++◌, length, codes, refl, sym, arith, IsTrue}
-use Rattle.std.specs.List.{flat_map}
-use Rattle.viz_base.specs.declared.worlds.World.{World}
-use Rattle.viz_base.specs.declared.renderings.Rendering.{Rendering}
+use Rattle.std.proofs.Common.{◌≡◌, inl, inr, ℕ, ◌+◌, ◌<◌, ◌^◌, List, length, arith}
 use Rattle.viz_base.specs.declared.jobs.Job.{Job}
-use Rattle.lay_print.specs.Print.{printed}
-use Rattle.logic_semantics.specs.Scenes.{scene_of}
-use Rattle.logic_semantics.specs.Blame.{blame}
-use Rattle.vis_truth.specs.Scenes.{IsBoundedRendering}
 use Rattle.cert_text.specs.declared.certificate.Cert.{Cert}
 use Rattle.cert_path.specs.Axes.{axis_count}
 use Rattle.cert_path.specs.Nodes.{nodes_of}
-use Rattle.cert_check.specs.Truths.{rendering_of}
 use Rattle.cert_check.specs.declared.verdicts.Verdict.TheVariants.{Accepted, Rejected}
 use Rattle.cert_check.proofs.Texts.{few}
 use Rattle.prove_search.specs.Outcomes.{IsOutcome}
@@ -20,9 +12,8 @@ use Rattle.prove_search.specs.declared.outcome.Outcome.TheVariants as found
 use Rattle.viz_replies.specs.declared.reply.Answer.{Answer}
 use Rattle.viz_replies.specs.declared.reply.Answer.TheVariants as ends
 use Rattle.viz_replies.specs.declared.question.Question.TheVariants as asks
-use Rattle.viz_replies.specs.Lines.{numbered}
 use Rattle.viz_replies.specs.Certificates.{SpellsCert, IsNoCert}
-use Rattle.viz_replies.specs.Replies.{IsReplyAbout, violation_text}
+use Rattle.viz_replies.specs.Replies.{IsReplyAbout}
 use Rattle.viz_replies.specs.Trials.{IsTrialOf}
 use Rattle.viz_replies.specs.steps.Answers.{IsOutcomeReply, IsProveReply, IsTrialReply, IsVerdictOn}
 
@@ -34,17 +25,6 @@ few_nodes bytes cert held =
     let below = few cert bytes held.spelled in
     let short = held.short in
     omega arith
-
--- ---- violations
-
-pub violation_is : (job : Job) (world : World) (r : Rendering ℤ) (blamed : List ℕ) (boxes output : List ℕ) → r ≡ rendering_of job world
-    → blamed ≡ blame (scene_of r world job.height) job.formula → boxes ≡ printed r
-    → output ≡ numbered (codes "violated") (world.w ∷ world.s ∷ []) ++ (flat_map (λ place. numbered (codes "blame") (place ∷ [])) blamed ++ boxes)
-    → output ≡ violation_text job world
-violation_is job world r blamed boxes output same whom text lines =
-    let whom' = rw same at whom in
-    let text' = rw same at text in
-    rw text' at (rw whom' at lines)
 
 -- ---- searches
 

@@ -1,1 +1,4 @@
 pub mod Answers
+pub mod Refusals
+pub mod Rejects
+pub mod Violations

@@ -10,9 +10,11 @@ mod jobs;
 mod lines;
 mod question;
 mod refusals;
+mod rejects;
 mod replies;
 mod reply;
 mod trials;
+mod violations;
 
 pub use certs::{CERT_MOST, long_certificate};
 pub use jobs::{JOB_MOST, JobRead, long_job, read_job};
@@ -28,7 +30,11 @@ fn reply_on_bytes(alloc: Global, job: &[u8], question: &Question) -> Result<Repl
     ensures { IfOk result (λ r. IsReply job.now question.now r.answer r.output.items) }
 {
     match read_job(alloc, job)? {
-        JobRead::Read(job) => reply_about(alloc, &job, question),
+        JobRead::Read(job) => {
+            let reply = reply_about(alloc, &job, question);
+            drop(job);
+            reply
+        }
         JobRead::Refused(reply) => Ok(reply),
     }
 }

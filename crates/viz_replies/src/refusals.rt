@@ -1,77 +1,119 @@
 //! The lines of jobs that are refused.
-ghost use Rattle.std.specs.Prelude.{◌≡◌, ◌≢◌, [], ◌∷◌, IfOk};
-ghost use Rattle.viz_replies.specs.Lines.{numbered};
-ghost use Rattle.viz_replies.specs.Jobs.{limit_words, refusal_line, shape_words, value_line};
+ghost use Rattle.std.specs.Prelude.{◌≡◌, ◌≢◌, ◌++◌, codes, IfOk, OnOk};
+ghost use Rattle.viz_replies.specs.Lines.{spaced};
+ghost use Rattle.viz_replies.specs.Jobs.{limit_words, refusal_line, shape_words};
+ghost use Rattle.viz_replies.specs.steps.Refusals.{refusal_words, refusal_places, value_places};
 
-use crate::lines::{numbered_line, push_number, push_word};
-use crate::reply::{Answer, Reply, line};
+use crate::lines::{push_number, push_word};
+use crate::reply::{Answer, Reply};
 use css_value::property_name;
 use page_build::JobRefusal;
 use std::alloc::{AllocError, Global};
 use viz_base::{Mem, Part, Prop, Which};
 
-fn shape_words(part: Part) -> &'static [u8]
+fn shape_words(part: Part) -> &'static str
     ensures { result.now ≡ shape_words part }
 {
     match part {
-        Part::Top => b"job-refused shape top",
-        Part::Widths => b"job-refused shape widths",
-        Part::Sizes => b"job-refused shape sizes",
-        Part::Height => b"job-refused shape height",
-        Part::Fonts => b"job-refused shape fonts",
-        Part::Css => b"job-refused shape css",
-        Part::Page => b"job-refused shape page",
-        Part::Assert => b"job-refused shape assert",
+        Part::Top => "job-refused shape top",
+        Part::Widths => "job-refused shape widths",
+        Part::Sizes => "job-refused shape sizes",
+        Part::Height => "job-refused shape height",
+        Part::Fonts => "job-refused shape fonts",
+        Part::Css => "job-refused shape css",
+        Part::Page => "job-refused shape page",
+        Part::Assert => "job-refused shape assert",
     }
 }
 
-fn limit_words(which: Which) -> &'static [u8]
+fn limit_words(which: Which) -> &'static str
     ensures { result.now ≡ limit_words which }
 {
     match which {
-        Which::Elements => b"job-refused limit elements",
-        Which::Depth => b"job-refused limit depth",
-        Which::Text => b"job-refused limit text",
-        Which::Css => b"job-refused limit css",
-        Which::Fonts => b"job-refused limit fonts",
-        Which::Advances => b"job-refused limit advances",
-        Which::Formula => b"job-refused limit formula",
+        Which::Elements => "job-refused limit elements",
+        Which::Depth => "job-refused limit depth",
+        Which::Text => "job-refused limit text",
+        Which::Css => "job-refused limit css",
+        Which::Fonts => "job-refused limit fonts",
+        Which::Advances => "job-refused limit advances",
+        Which::Formula => "job-refused limit formula",
     }
 }
 
-/// The line for a value that is refused by name.
-fn value_line(alloc: Global, node: u32, prop: Prop, value: &str) -> Result<Vec<u8>, AllocError>
-    ensures { IfOk result (λ out. out.items ≡ value_line node prop value.now) }
+/// The words with which the line of a refusal begins.
+fn refusal_words(fault: &JobRefusal) -> &'static str
+    ensures { result.now ≡ refusal_words fault.now }
 {
-    let mut out = Vec::new(alloc);
-    out.extend_from_slice(b"job-refused unsupported-value")?;
-    push_number(&mut out, u64::from(node))?;
-    push_word(&mut out, property_name(prop).as_bytes())?;
-    push_word(&mut out, value.as_bytes())?;
-    out.extend_from_slice(b"\n")?;
-    Ok(out)
+    match fault {
+        JobRefusal::Mem => "",
+        JobRefusal::NotJson => "job-refused not-json",
+        JobRefusal::Shape(part, _) => shape_words(*part),
+        JobRefusal::Limit(which, _) => limit_words(*which),
+        JobRefusal::Range => "job-refused range",
+        JobRefusal::Import(..) => "job-refused import",
+        JobRefusal::MediaQuery(..) => "job-refused media-query",
+        JobRefusal::TooManyRules(_) => "job-refused too-many-rules",
+        JobRefusal::Selector(..) => "job-refused unsupported-selector",
+        JobRefusal::Value(..) => "job-refused unsupported-value",
+        JobRefusal::BlockInInline(_) => "job-refused block-in-inline",
+        JobRefusal::RightToLeft(..) => "job-refused right-to-left",
+        JobRefusal::TooManyBoxes => "job-refused too-many-boxes",
+        JobRefusal::Reach(_) => "job-refused reach",
+        JobRefusal::Bad(_) => "job-refused formula-bad",
+        JobRefusal::Unbound(_) => "job-refused formula-unbound",
+        JobRefusal::TooDeep(_) => "job-refused formula-too-deep",
+    }
 }
 
-/// A reply of one line of words and numbers.
-fn refused(alloc: Global, words: &[u8], numbers: &[u64]) -> Result<Reply, Mem>
-    ensures { IfOk result (λ r. (r.answer ≡ Answer.JobRefused) × (r.output.items ≡ numbered words.now numbers.now)) }
+/// A sheet or a node, and a place or a character in it.
+fn push_pair(out: &mut Vec<u8>, number: u32, at: u32) -> Result<(), AllocError>
+    ensures { OnOk result (out.new.items ≡ out.old.items ++ (spaced number ++ spaced at)) }
 {
-    numbered_line(alloc, Answer::JobRefused, words, numbers)
+    push_number(out, u64::from(number))?;
+    push_number(out, u64::from(at))
 }
 
-/// A reply of one line of words and a place.
-fn refused_at(alloc: Global, words: &[u8], at: u32) -> Result<Reply, Mem>
-    ensures { IfOk result (λ r. (r.answer ≡ Answer.JobRefused) × (r.output.items ≡ numbered words.now (at ∷ []))) }
+/// Where a value stands that is refused by name, and what is shown of it.
+fn push_value(out: &mut Vec<u8>, node: u32, prop: Prop, value: &str) -> Result<(), AllocError>
+    ensures { OnOk result (out.new.items ≡ out.old.items ++ value_places node prop value.now) }
 {
-    refused(alloc, words, &[u64::from(at)])
+    push_number(out, u64::from(node))?;
+    push_word(out, property_name(prop).as_bytes())?;
+    push_word(out, value.as_bytes())
 }
 
-/// A reply of one line of words, a sheet or a node, and a place or a character in it.
-fn refused_in(alloc: Global, words: &[u8], number: u32, at: u32) -> Result<Reply, Mem>
-    ensures { IfOk result (λ r. (r.answer ≡ Answer.JobRefused)
-        × (r.output.items ≡ numbered words.now (number ∷ at ∷ []))) }
+/// What stands behind the words in the line of a refusal; want of memory has no line.
+fn push_places(out: &mut Vec<u8>, fault: &JobRefusal) -> Result<(), AllocError>
+    ensures { OnOk result ((fault.now ≢ JobRefusal.Mem)
+        × (out.new.items ≡ out.old.items ++ refusal_places fault.now)) }
 {
-    refused(alloc, words, &[u64::from(number), u64::from(at)])
+    match fault {
+        JobRefusal::Mem => Err(AllocError),
+        JobRefusal::NotJson | JobRefusal::Range | JobRefusal::TooManyBoxes => Ok(()),
+        JobRefusal::Limit(_, count) => push_number(out, *count),
+        JobRefusal::Shape(_, at)
+        | JobRefusal::TooManyRules(at)
+        | JobRefusal::BlockInInline(at)
+        | JobRefusal::Reach(at)
+        | JobRefusal::Bad(at)
+        | JobRefusal::Unbound(at)
+        | JobRefusal::TooDeep(at) => push_number(out, u64::from(*at)),
+        JobRefusal::Import(number, at)
+        | JobRefusal::MediaQuery(number, at)
+        | JobRefusal::Selector(number, at) => push_pair(out, *number, *at),
+        JobRefusal::RightToLeft(node, letter) => push_pair(out, *node, u32::from(*letter)),
+        JobRefusal::Value(node, prop, value) => push_value(out, *node, *prop, value.as_str()),
+    }
+}
+
+/// The line of a refusal, part by part.
+fn push_parts(out: &mut Vec<u8>, fault: &JobRefusal) -> Result<(), AllocError>
+    ensures { OnOk result ((fault.now ≢ JobRefusal.Mem)
+        × (out.new.items ≡ out.old.items ++ (refusal_words fault.now ++ (refusal_places fault.now ++ codes "\n")))) }
+{
+    out.extend_from_slice(refusal_words(fault).as_bytes())?;
+    push_places(out, fault)?;
+    out.extend_from_slice(b"\n")
 }
 
 /// The reply where a job is refused.
@@ -79,36 +121,12 @@ pub fn refusal(alloc: Global, fault: JobRefusal) -> Result<Reply, Mem>
     ensures { IfOk result (λ r. (fault ≢ JobRefusal.Mem) × (r.answer ≡ Answer.JobRefused)
         × (r.output.items ≡ refusal_line fault)) }
 {
-    match fault {
-        JobRefusal::Mem => Err(Mem),
-        JobRefusal::NotJson => line(alloc, Answer::JobRefused, b"job-refused not-json\n"),
-        JobRefusal::Shape(part, place) => refused_at(alloc, shape_words(part), place),
-        JobRefusal::Limit(which, count) => refused(alloc, limit_words(which), &[count]),
-        JobRefusal::Range => line(alloc, Answer::JobRefused, b"job-refused range\n"),
-        JobRefusal::Import(sheet, at) => refused_in(alloc, b"job-refused import", sheet, at),
-        JobRefusal::MediaQuery(sheet, at) => {
-            refused_in(alloc, b"job-refused media-query", sheet, at)
-        }
-        JobRefusal::TooManyRules(sheet) => refused_at(alloc, b"job-refused too-many-rules", sheet),
-        JobRefusal::Selector(sheet, at) => {
-            refused_in(alloc, b"job-refused unsupported-selector", sheet, at)
-        }
-        JobRefusal::Value(node, prop, value) => Ok(Reply {
-            answer: Answer::JobRefused,
-            output: value_line(alloc, node, prop, value.as_str())?,
-        }),
-        JobRefusal::BlockInInline(node) => refused_at(alloc, b"job-refused block-in-inline", node),
-        JobRefusal::RightToLeft(node, letter) => {
-            refused_in(alloc, b"job-refused right-to-left", node, u32::from(letter))
-        }
-        JobRefusal::TooManyBoxes => line(
-            alloc,
-            Answer::JobRefused,
-            b"job-refused too-many-boxes\n",
-        ),
-        JobRefusal::Reach(node) => refused_at(alloc, b"job-refused reach", node),
-        JobRefusal::Bad(at) => refused_at(alloc, b"job-refused formula-bad", at),
-        JobRefusal::Unbound(at) => refused_at(alloc, b"job-refused formula-unbound", at),
-        JobRefusal::TooDeep(at) => refused_at(alloc, b"job-refused formula-too-deep", at),
-    }
+    let mut output = Vec::new(alloc);
+    let pushed = push_parts(&mut output, &fault);
+    drop(fault);
+    pushed?;
+    Ok(Reply {
+        answer: Answer::JobRefused,
+        output,
+    })
 }

@@ -1,27 +1,25 @@
-ghost use Rattle.std.specs.Prelude.{◌≡◌, ◌+◌, ◌≤◌, ◌<◌, ◌^◌, ℕ, List, [], ◌∷◌, ◌++◌, codes, length, IfOk};
-ghost use Rattle.std.specs.List.{flat_map};
+ghost use Rattle.std.specs.Prelude.{◌≡◌, ◌+◌, ◌≤◌, ◌<◌, ◌^◌, ℕ, List, length, IfOk};
 ghost use Rattle.cert_path.specs.Axes.{axis_count};
 ghost use Rattle.cert_path.specs.Nodes.{nodes_of};
 ghost use Rattle.cert_text.specs.Texts.{CertText};
-ghost use Rattle.viz_replies.specs.Lines.{numbered};
 ghost use Rattle.cert_check.specs.Truths.{Holds};
 ghost use Rattle.viz_replies.specs.Headline.{IsRefuted};
-ghost use Rattle.viz_replies.specs.Replies.{IsReplyAbout, boxes_text, differs_line, violation_text, open_line, reject_line};
+ghost use Rattle.viz_replies.specs.Replies.{IsReplyAbout, boxes_text, open_line};
 ghost use Rattle.viz_replies.specs.steps.Answers.{IsVerdictReply, IsPrintable, IsOutcomeReply, IsProveReply, IsVerdictOn};
 ghost use Rattle.viz_replies.specs.declared.question.Question.{Question};
 
 use crate::certs::{CertRead, certificate_in};
-use crate::lines::{numbered_line, push_blamed, push_line, push_number};
+use crate::lines::numbered_line;
 use crate::question::Question;
+use crate::rejects::rejection;
 use crate::reply::{Answer, Reply, line};
-use cert_check::{Reject, Verdict, check};
-use cert_text::{Cert, push_row, write_cert};
+use crate::violations::violation;
+use cert_check::{Verdict, check};
+use cert_text::{Cert, write_cert};
 use lay_flow::render_at;
 use lay_print::print;
-use lin_row::Row;
 use prove_search::{Outcome, prove};
-use std::alloc::{AllocError, Global};
-use vis_truth::blame;
+use std::alloc::Global;
 use viz_base::{Job, Mem, Rect, World};
 
 /// What `lay` replies for a job.
@@ -34,45 +32,6 @@ fn laid(alloc: Global, job: &Job, world: World) -> Result<Reply, Mem>
     Ok(Reply {
         answer: Answer::Done,
         output: print(alloc, &rendering)?,
-    })
-}
-
-/// The lines of a violation: its world, whom the formula blames, and the boxes.
-fn violation_lines(
-    alloc: Global,
-    world: World,
-    blamed: &[u32],
-    boxes: &[u8],
-) -> Result<Vec<u8>, AllocError>
-    ensures { IfOk result (λ out. out.items ≡ numbered (codes "violated") (world.w ∷ world.s ∷ [])
-        ++ (flat_map (λ place. numbered (codes "blame") (place ∷ [])) blamed.now ++ boxes.now)) }
-{
-    let mut out = Vec::new(alloc);
-    push_line(
-        &mut out,
-        b"violated",
-        &[u64::from(world.w), u64::from(world.s)],
-    )?;
-    push_blamed(&mut out, blamed)?;
-    out.extend_from_slice(boxes)?;
-    Ok(out)
-}
-
-/// A world at which the formula is false.
-fn violation(alloc: Global, job: &Job, world: World) -> Result<Reply, Mem>
-    requires narrow { world.w ≤ 16384 }
-    requires sized { world.s ≤ 256 }
-    ensures { IfOk result (λ r. (r.answer ≡ Answer.Violated) × (r.output.items ≡ violation_text job.now world)) }
-{
-    let rendering = render_at(alloc, world, &job.tree, job.height)?;
-    if u32::try_from(rendering.boxes.len()).is_err() {
-        return Err(Mem);
-    }
-    let blamed = blame(alloc, &job.formula, &rendering, &world, job.height)?;
-    let boxes = print(alloc, &rendering)?;
-    Ok(Reply {
-        answer: Answer::Violated,
-        output: violation_lines(alloc, world, blamed.as_slice(), boxes.as_slice())?,
     })
 }
 
@@ -122,65 +81,6 @@ fn searched(alloc: Global, job: &Job, turns: u64) -> Result<Reply, Mem>
 {
     let outcome = prove(alloc, job, turns)?;
     outcome_reply(alloc, job, &outcome)
-}
-
-/// The line for an answer that is to another difference than the one that is asked for.
-fn differs(alloc: Global, node: u32, answer: u32, ours: &Row, theirs: &Row) -> Result<Reply, Mem>
-    ensures { IfOk result (λ r. (r.answer ≡ Answer.CertRefused)
-        × (r.output.items ≡ differs_line node answer ours.now theirs.now)) }
-{
-    let mut output = Vec::new(alloc);
-    output.extend_from_slice(b"rejected differs")?;
-    push_number(&mut output, u64::from(node))?;
-    push_number(&mut output, u64::from(answer))?;
-    output.extend_from_slice(b" ")?;
-    push_row(&mut output, ours)?;
-    output.extend_from_slice(b" / ")?;
-    push_row(&mut output, theirs)?;
-    output.extend_from_slice(b"\n")?;
-    Ok(Reply {
-        answer: Answer::CertRefused,
-        output,
-    })
-}
-
-/// The line for a certificate that is wrong.
-fn rejection(alloc: Global, reject: &Reject) -> Result<Reply, Mem>
-    ensures { IfOk result (λ r. (r.answer ≡ Answer.CertRefused) × (r.output.items ≡ reject_line reject.now)) }
-{
-    let refused = Answer::CertRefused;
-    match reject {
-        Reject::OtherJob => line(alloc, refused, b"rejected other-job\n"),
-        Reject::Shape(node) => {
-            numbered_line(alloc, refused, b"rejected shape", &[u64::from(*node)])
-        }
-        Reject::Line(node, answer, line) => {
-            let numbers = [u64::from(*node), u64::from(*answer), u64::from(*line)];
-            numbered_line(alloc, refused, b"rejected line", &numbers)
-        }
-        Reject::Untrue(node, world) => {
-            let numbers = [u64::from(*node), u64::from(world.w), u64::from(world.s)];
-            numbered_line(alloc, refused, b"rejected untrue", &numbers)
-        }
-        Reject::Unmet(node) => {
-            numbered_line(alloc, refused, b"rejected unmet", &[u64::from(*node)])
-        }
-        Reject::Differs(node, answer, ours, theirs) => differs(alloc, *node, *answer, ours, theirs),
-        Reject::Short(node) => {
-            numbered_line(alloc, refused, b"rejected short", &[u64::from(*node)])
-        }
-        Reject::Left(node, count) => {
-            numbered_line(
-                alloc,
-                refused,
-                b"rejected left",
-                &[u64::from(*node), *count],
-            )
-        }
-        Reject::Coeff(node) => {
-            numbered_line(alloc, refused, b"rejected coeff", &[u64::from(*node)])
-        }
-    }
 }
 
 /// What is replied of a verdict.

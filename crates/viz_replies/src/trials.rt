@@ -76,7 +76,9 @@ fn tried(alloc: Global, job: &Job, turns: u64) -> Result<Reply, Mem>
     ensures { IfOk result (λ r. IsTrialOf job.now turns r.answer r.output.items) }
 {
     let outcome = prove(alloc, job, turns)?;
-    outcome_of_trial(alloc, job, &outcome)
+    let reply = outcome_of_trial(alloc, job, &outcome);
+    drop(outcome);
+    reply
 }
 
 /// What is replied of the trial of the job that these bytes spell.
@@ -84,7 +86,11 @@ fn tried_on_bytes(alloc: Global, bytes: &[u8], turns: u64) -> Result<Reply, Mem>
     ensures { IfOk result (λ r. IsTrialOn bytes.now turns r.answer r.output.items) }
 {
     match read_job(alloc, bytes)? {
-        JobRead::Read(job) => tried(alloc, &job, turns),
+        JobRead::Read(job) => {
+            let reply = tried(alloc, &job, turns);
+            drop(job);
+            reply
+        }
         JobRead::Refused(reply) => Ok(reply),
     }
 }

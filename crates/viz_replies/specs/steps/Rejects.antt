@@ -1,0 +1,32 @@
+-- The line of a rejected certificate in two parts: its words, and what stands behind them.
+use Rattle.std.specs.Prelude.{ℕ, List, [], ◌++◌, codes}
+use Rattle.cert_text.specs.steps.Write.{row_bytes}
+use Rattle.cert_check.specs.declared.verdicts.Reject.{Reject}
+use Rattle.cert_check.specs.declared.verdicts.Reject.TheVariants.{OtherJob, Shape, Line, Untrue, Unmet, Differs, Short, Left, Coeff}
+use Rattle.lin_row.specs.Form.{Form}
+use Rattle.viz_replies.specs.Lines.{spaced}
+
+abbrev pub reject_words : Reject → List ℕ
+reject_words OtherJob = codes "rejected other-job"
+reject_words (Shape node) = codes "rejected shape"
+reject_words (Line node number line) = codes "rejected line"
+reject_words (Untrue node world) = codes "rejected untrue"
+reject_words (Unmet node) = codes "rejected unmet"
+reject_words (Differs node number ours theirs) = codes "rejected differs"
+reject_words (Short node) = codes "rejected short"
+reject_words (Left node count) = codes "rejected left"
+reject_words (Coeff node) = codes "rejected coeff"
+
+abbrev pub rows_text : (ours theirs : Form) → List ℕ
+rows_text ours theirs = codes " " ++ (row_bytes ours ++ (codes " / " ++ row_bytes theirs))
+
+abbrev pub reject_places : Reject → List ℕ
+reject_places OtherJob = []
+reject_places (Shape node) = spaced node
+reject_places (Line node number line) = spaced node ++ (spaced number ++ spaced line)
+reject_places (Untrue node world) = spaced node ++ (spaced world.w ++ spaced world.s)
+reject_places (Unmet node) = spaced node
+reject_places (Differs node number ours theirs) = spaced node ++ (spaced number ++ rows_text ours theirs)
+reject_places (Short node) = spaced node
+reject_places (Left node count) = spaced node ++ spaced count
+reject_places (Coeff node) = spaced node

@@ -1,0 +1,109 @@
+//! The lines of certificates that are rejected.
+ghost use Rattle.std.specs.Prelude.{◌≡◌, ◌++◌, IfOk, OnOk};
+ghost use Rattle.viz_replies.specs.Lines.{spaced};
+ghost use Rattle.viz_replies.specs.Replies.{reject_line};
+ghost use Rattle.viz_replies.specs.steps.Rejects.{reject_words, reject_places, rows_text};
+
+use crate::lines::push_number;
+use crate::reply::{Answer, Reply};
+use cert_check::Reject;
+use cert_text::push_row;
+use lin_row::Row;
+use std::alloc::{AllocError, Global};
+use viz_base::Mem;
+
+/// The words with which the line begins.
+fn reject_words(reject: &Reject) -> &'static str
+    ensures { result.now ≡ reject_words reject.now }
+{
+    match reject {
+        Reject::OtherJob => "rejected other-job",
+        Reject::Shape(_) => "rejected shape",
+        Reject::Line(..) => "rejected line",
+        Reject::Untrue(..) => "rejected untrue",
+        Reject::Unmet(_) => "rejected unmet",
+        Reject::Differs(..) => "rejected differs",
+        Reject::Short(_) => "rejected short",
+        Reject::Left(..) => "rejected left",
+        Reject::Coeff(_) => "rejected coeff",
+    }
+}
+
+/// The row that is asked for, and that of the answer.
+fn push_rows(out: &mut Vec<u8>, ours: &Row, theirs: &Row) -> Result<(), AllocError>
+    ensures { OnOk result (out.new.items ≡ out.old.items ++ rows_text ours.now theirs.now) }
+{
+    out.extend_from_slice(b" ")?;
+    push_row(out, ours)?;
+    out.extend_from_slice(b" / ")?;
+    push_row(out, theirs)
+}
+
+/// A node, and a number of it.
+fn push_pair(out: &mut Vec<u8>, node: u32, number: u64) -> Result<(), AllocError>
+    ensures { OnOk result (out.new.items ≡ out.old.items ++ (spaced node ++ spaced number)) }
+{
+    push_number(out, u64::from(node))?;
+    push_number(out, number)
+}
+
+/// A node, and two numbers of it.
+fn push_three(out: &mut Vec<u8>, node: u32, first: u32, second: u32) -> Result<(), AllocError>
+    ensures { OnOk result (out.new.items ≡ out.old.items ++ (spaced node ++ (spaced first ++ spaced second))) }
+{
+    push_number(out, u64::from(node))?;
+    push_pair(out, first, u64::from(second))
+}
+
+/// An answer that is to another difference than the one that is asked for.
+fn push_differing(
+    out: &mut Vec<u8>,
+    node: u32,
+    answer: u32,
+    ours: &Row,
+    theirs: &Row,
+) -> Result<(), AllocError>
+    ensures { OnOk result (out.new.items ≡ out.old.items
+        ++ (spaced node ++ (spaced answer ++ rows_text ours.now theirs.now))) }
+{
+    push_pair(out, node, u64::from(answer))?;
+    push_rows(out, ours, theirs)
+}
+
+/// What stands behind the words: the node, and what is wrong at it.
+fn push_places(out: &mut Vec<u8>, reject: &Reject) -> Result<(), AllocError>
+    ensures { OnOk result (out.new.items ≡ out.old.items ++ reject_places reject.now) }
+{
+    match reject {
+        Reject::OtherJob => Ok(()),
+        Reject::Shape(node) | Reject::Unmet(node) | Reject::Short(node) | Reject::Coeff(node) =>
+            push_number(out, u64::from(*node)),
+        Reject::Line(node, answer, line) => push_three(out, *node, *answer, *line),
+        Reject::Untrue(node, world) => push_three(out, *node, world.w, world.s),
+        Reject::Differs(node, answer, ours, theirs) => {
+            push_differing(out, *node, *answer, ours, theirs)
+        }
+        Reject::Left(node, count) => push_pair(out, *node, *count),
+    }
+}
+
+/// The line of a certificate that is wrong.
+fn push_reject(out: &mut Vec<u8>, reject: &Reject) -> Result<(), AllocError>
+    ensures { OnOk result (out.new.items ≡ out.old.items ++ reject_line reject.now) }
+{
+    out.extend_from_slice(reject_words(reject).as_bytes())?;
+    push_places(out, reject)?;
+    out.extend_from_slice(b"\n")
+}
+
+/// The reply about a certificate that is wrong.
+pub fn rejection(alloc: Global, reject: &Reject) -> Result<Reply, Mem>
+    ensures { IfOk result (λ r. (r.answer ≡ Answer.CertRefused) × (r.output.items ≡ reject_line reject.now)) }
+{
+    let mut output = Vec::new(alloc);
+    push_reject(&mut output, reject)?;
+    Ok(Reply {
+        answer: Answer::CertRefused,
+        output,
+    })
+}
