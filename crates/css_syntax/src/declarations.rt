@@ -1,7 +1,8 @@
 ghost use Rattle.std.specs.Prelude.{◌≡◌, [], None, Some, IfOk, MatchOption};
 ghost use Rattle.std.specs.Option.{option_to_list};
-ghost use Rattle.css_semantics.specs.SheetsReading.{before_important, before_last, before_trimmed, decl_of, goes_on, is_blank, is_closed};
-ghost use Rattle.css_semantics.specs.steps.Sheets.{after_declaration, at_head, declaration, declaration_item, declarations, declared, is_value};
+ghost use Rattle.css_semantics.specs.SheetsReading.{before_important, before_last, before_trimmed, decl_of, declared_at, goes_on, is_blank, is_closed};
+ghost use Rattle.css_semantics.specs.SheetsMarks.{ends_declaration};
+ghost use Rattle.css_semantics.specs.steps.Sheets.{after_declaration, at_head, behind, front, declaration, declaration_item, declarations, declared, is_value};
 
 use crate::slices::{Class, extent, is_all_gap, place, start_of, trim, trim_end, trim_start};
 use crate::stretches::{Stop, after_at_rule, split};
@@ -93,6 +94,16 @@ fn decl_of(
     })
 }
 
+/// The declaration of a property whose value is these tokens, but for `!important` behind it.
+fn declared_at<'a>(alloc: Global, name: &Token<'_>, body: &'a [Token<'a>]) -> Result<Decl, Mem>
+    ensures { IfOk result (λ d. d ≡ declared_at name.now body.now (before_important body.now)) }
+{
+    match before_important(alloc, body)? {
+        Some((value, bang)) => decl_of(alloc, name, trim(value, Class::Space), bang, true),
+        None => decl_of(alloc, name, trim(body, Class::Space), 0, false),
+    }
+}
+
 /// The declaration whose colon begins the tokens, if a value follows.
 fn declared<'a>(
     alloc: Global,
@@ -107,11 +118,7 @@ fn declared<'a>(
     if !is_colon(colon.kind) || !is_value(alloc, body)? {
         return Ok(None);
     }
-    let decl = match before_important(alloc, body)? {
-        Some((value, bang)) => decl_of(alloc, name, trim(value, Class::Space), bang, true)?,
-        None => decl_of(alloc, name, trim(body, Class::Space), 0, false)?,
-    };
-    Ok(Some(decl))
+    Ok(Some(declared_at(alloc, name, body)?))
 }
 
 /// The declaration that the tokens spell, if they spell one.
@@ -126,6 +133,18 @@ fn declaration<'a>(alloc: Global, tokens: &'a [Token<'a>]) -> Result<Option<Decl
         ),
         _ => Ok(None),
     }
+}
+
+/// The declaration that the tokens up to a `;` spell, if they spell one, and what follows them.
+fn declaration_piece<'a>(
+    alloc: Global,
+    tokens: &'a [Token<'a>],
+) -> Result<(Option<Decl>, &'a [Token<'a>]), Mem>
+    ensures { IfOk result (λ p. (p.0 ≡ declaration (front ends_declaration tokens.now))
+        × (p.1.now ≡ behind ends_declaration tokens.now)) }
+{
+    let (piece, rest) = split(alloc, tokens, Stop::Declaration)?;
+    Ok((declaration(alloc, piece)?, rest))
 }
 
 /// What begins the tokens where a declaration may stand, and what follows it.
@@ -145,8 +164,7 @@ fn declaration_item<'a>(
     if is_at_keyword(first.kind) {
         return Ok((None, after_at_rule(alloc, after)?));
     }
-    let (piece, rest) = split(alloc, tokens, Stop::Declaration)?;
-    Ok((declaration(alloc, piece)?, rest))
+    declaration_piece(alloc, tokens)
 }
 
 /// The declarations of a block or of a style attribute.

@@ -38,8 +38,9 @@ pub fn block_rule<'a>(
         return Ok((None, rest));
     };
     let (block, _) = split(alloc, after, Stop::Block)?;
+    let behind = after_block(alloc, after)?;
     let rule = rule_of(alloc, trim(selector, Class::Space), brace.at, block)?;
-    Ok((Some(rule), after_block(alloc, after)?))
+    Ok((Some(rule), behind))
 }
 
 /// What begins the tokens in a block of `@media`, and what follows it.

@@ -1,8 +1,8 @@
 ghost use Rattle.std.specs.Prelude.{◌≡◌, [], IfOk, if◌then◌else◌};
 ghost use Rattle.std.specs.List.{list_any};
 ghost use Rattle.std.specs.Option.{option_to_list};
-ghost use Rattle.css_semantics.specs.SheetsMarks.{has_paren};
-ghost use Rattle.css_semantics.specs.steps.Sheets.{after_statement, at_head, at_rule, holds, in_block, media_of, rules_in, statement_item};
+ghost use Rattle.css_semantics.specs.SheetsMarks.{ends_prelude, has_paren};
+ghost use Rattle.css_semantics.specs.steps.Sheets.{after_statement, at_head, at_rule, behind, front, holds, in_block, media_of, rules_in, statement_item};
 
 use crate::media::holds;
 use crate::rules::{block_rule, rules_in};
@@ -65,6 +65,16 @@ fn media_of<'a>(
     }
 }
 
+/// The `@media` whose keyword, at this place, stands before the tokens.
+fn media_rule<'a>(alloc: Global, at: usize, after: &'a [Token<'a>]) -> Result<Statement, Mem>
+    ensures { IfOk result (λ statement. statement
+        ≡ media_of at (front ends_prelude after.now) (in_block (behind ends_prelude after.now))) }
+{
+    let (prelude, rest) = split(alloc, after, Stop::Prelude)?;
+    let block = in_block(alloc, rest)?;
+    media_of(alloc, at, prelude, block)
+}
+
 /// What the at-rule with this keyword says of the sheet.
 fn at_rule<'a>(
     alloc: Global,
@@ -80,8 +90,7 @@ fn at_rule<'a>(
         return Ok(Some(Statement::Page));
     }
     if is_word(alloc, keyword, "media")? {
-        let (prelude, rest) = split(alloc, after, Stop::Prelude)?;
-        return Ok(Some(media_of(alloc, keyword.at, prelude, in_block(alloc, rest)?)?));
+        return Ok(Some(media_rule(alloc, keyword.at, after)?));
     }
     Ok(None)
 }
@@ -101,7 +110,8 @@ pub fn statement_item<'a>(
         return Ok((None, after));
     }
     if is_at_keyword(first.kind) {
-        return Ok((at_rule(alloc, first, after)?, after_at_rule(alloc, after)?));
+        let behind = after_at_rule(alloc, after)?;
+        return Ok((at_rule(alloc, first, after)?, behind));
     }
     let (rule, rest) = block_rule(alloc, tokens)?;
     Ok((rule.map(Statement::Ruleset), rest))
