@@ -1,5 +1,6 @@
 -- What a call of a symbolic calc answers where the exact row is known.
-use Rattle.std.specs.Prelude.{◌≡◌, Bool, true, false, Result, Ok, Err, ⊤}
+use Rattle.std.specs.Prelude.{◌≡◌, ℕ, Bool, true, false, Result, Ok, Err, ⊤}
+use Rattle.viz_base.specs.Numbers.{Rose}
 use Rattle.viz_calc.specs.declared.calc.Halt.{Halt}
 use Rattle.viz_calc.specs.declared.calc.Halt.TheVariants.{Mem, Coeff, Open}
 use Rattle.lin_row.specs.Form.{Form, form_fits}
@@ -25,3 +26,10 @@ IsGivenWithin (Ok answer) exact fits = (answer ≡ exact) × (fits ≡ true)
 IsGivenWithin (Err Mem) exact fits = ⊤
 IsGivenWithin (Err Coeff) exact fits = fits ≡ false
 IsGivenWithin (Err Open) exact fits = ⊥
+
+-- the count of numbers outside `i128` rises with `Coeff`, and with no other answer
+abbrev pub IsTallied : {A : Type 0} → Result A Halt → ℕ → ℕ → Type 0
+IsTallied (Ok answer) old new = new ≡ old
+IsTallied (Err Mem) old new = new ≡ old
+IsTallied (Err Coeff) old new = Rose old new
+IsTallied (Err Open) old new = new ≡ old

@@ -14,7 +14,7 @@ ghost use Rattle.cert_path.specs.Shapes.{has_remainders, has_variable};
 ghost use Rattle.viz_calc.specs.World.{Reading};
 ghost use Rattle.sym_calc.specs.Floors.{same_floor};
 ghost use Rattle.sym_calc.specs.Divided.{can_be, divided, division_fits, floor_variable, is_floor, multiple};
-ghost use Rattle.sym_calc.specs.Given.{IsGiven, IsGivenWithin, IsWithin};
+ghost use Rattle.sym_calc.specs.Given.{IsGiven, IsGivenWithin, IsTallied, IsWithin};
 ghost use Rattle.sym_calc.specs.Knowledge.{values_of};
 ghost use Rattle.sym_calc.specs.Knowledge.{AreKnown, contrary, sym_state};
 ghost use Rattle.sym_calc.specs.History.{are_fit, facts_from, is_accounted};
@@ -97,6 +97,7 @@ impl<'a> Sym<'a> {
         ensures rest { KeepsRest self.old self.new }
         ensures cause { IfErr result (Cause (state_of self.old) (state_of self.new) ⊤) }
         ensures decided { IsDecided result }
+        ensures tallied { IsTallied result self.old.coeffs self.new.coeffs }
     {
         match answer {
             Ok(row) => Ok(row),
@@ -122,6 +123,7 @@ impl<'a> Sym<'a> {
         ensures exact { IsGivenWithin result (floor_variable (named_of self.old) floor)
             (is_floor (named_of self.old) floor) }
         ensures decided { IsDecided result }
+        ensures tallied { IsTallied result self.old.coeffs self.new.coeffs }
     {
         if let Some(place) = self.path.floors.place_of(&floor) {
             return Ok(place as u32 + AXIS_COUNT);
@@ -148,6 +150,7 @@ impl<'a> Sym<'a> {
         ensures exact { let next = length (named_of self.old) + axis_count in
             IsGivenWithin result next (can_be next floor) }
         ensures decided { IsDecided result }
+        ensures tallied { IsTallied result self.old.coeffs self.new.coeffs }
     {
         let variable = self.variables();
         if variable == u32::MAX {
@@ -185,6 +188,7 @@ impl<'a> Sym<'a> {
         ensures exact { IsGivenWithin result (divided (named_of self.old) by row.now)
             (division_fits (named_of self.old) by row.now) }
         ensures decided { IsDecided result }
+        ensures tallied { IsTallied result self.old.coeffs self.new.coeffs }
     {
         let whole = quotient(row, by)?;
         let rest = remainder(row, by)?;
@@ -208,6 +212,7 @@ impl<'a> Sym<'a> {
         ensures taken { OnOk result (self.new.taken ≡ self.old.taken + 1) }
         ensures opened { result ≡ Err Open → is_some (next_trouble self.old row) ≡ true }
         ensures trouble { result ≡ Err Open → self.new.trouble ≡ first_of self.old.trouble (next_trouble self.old row) }
+        ensures tallied { IsTallied result self.old.coeffs self.new.coeffs }
     {
         let tape = self.tape;
         match tape.get(self.taken) {
@@ -231,6 +236,7 @@ impl<'a> Sym<'a> {
         ensures opened { result ≡ Err Open → is_some (trouble_by_answer self.old row answer.now) ≡ true }
         ensures trouble { result ≡ Err Open
             → self.new.trouble ≡ first_of self.old.trouble (trouble_by_answer self.old row answer.now) }
+        ensures tallied { IsTallied result self.old.coeffs self.new.coeffs }
     {
         let Ok(number) = u32::try_from(self.taken) else {
             return Err(Halt::Mem);
@@ -257,6 +263,7 @@ impl<'a> Sym<'a> {
         ensures rest { KeepsRest self.old self.new }
         ensures decided { IsDecided result }
         ensures cause { IfErr result (Cause (state_of self.old) (state_of self.new) ⊤) }
+        ensures tallied { IsTallied result self.old.coeffs self.new.coeffs }
     {
         let contrary = contrary_of(yes, row);
         self.counted(contrary)
@@ -268,6 +275,7 @@ impl<'a> Sym<'a> {
             line ≡ first_fault (facts_of self.old ++ contrary ∷ []) (length (named_of self.old) + axis_count) why.now) }
         ensures state { state_of self.new ≡ state_of self.old }
         ensures rest { KeepsRest self.old self.new }
+        ensures tallied { self.new.coeffs ≡ self.old.coeffs }
     {
         let variables = self.variables();
         fault_below(
@@ -288,6 +296,7 @@ impl<'a> Sym<'a> {
         ensures cause { Cause (state_of self.old) (state_of self.new) ⊤ result }
         ensures open { result ≡ Open }
         ensures trouble { self.new.trouble ≡ first_of self.old.trouble (Some trouble) }
+        ensures tallied { self.new.coeffs ≡ self.old.coeffs }
     {
         if self.trouble.is_none() {
             self.trouble = Some(trouble);
@@ -402,6 +411,7 @@ impl<'a> Calc for Sym<'a> {
         ensures counted { IfErr result (IsCounted true (state_of self.old) (state_of self.new)) }
         ensures decided { IsDecided result }
         ensures free { IfErr result (λ halt. halt ≡ Halt.Mem) }
+        ensures tallied { IsTallied result self.old.coeffs self.new.coeffs }
     {
         Ok(Row::constant(self.path.facts.allocator(), v))
     }
@@ -415,6 +425,7 @@ impl<'a> Calc for Sym<'a> {
         ensures counted { IfErr result (IsCounted true (state_of self.old) (state_of self.new)) }
         ensures decided { IsDecided result }
         ensures free { IfErr result (λ halt. halt ≡ Halt.Mem) }
+        ensures tallied { IsTallied result self.old.coeffs self.new.coeffs }
     {
         Ok(on_axis(self.path.facts.allocator(), Axis::Width)?)
     }
@@ -428,6 +439,7 @@ impl<'a> Calc for Sym<'a> {
         ensures counted { IfErr result (IsCounted true (state_of self.old) (state_of self.new)) }
         ensures decided { IsDecided result }
         ensures free { IfErr result (λ halt. halt ≡ Halt.Mem) }
+        ensures tallied { IsTallied result self.old.coeffs self.new.coeffs }
     {
         Ok(on_axis(self.path.facts.allocator(), Axis::Size)?)
     }
@@ -441,6 +453,7 @@ impl<'a> Calc for Sym<'a> {
         ensures counted { IfErr result (IsCounted true (state_of self.old) (state_of self.new)) }
         ensures decided { IsDecided result }
         ensures free { IfErr result (λ halt. halt ≡ Halt.Mem) }
+        ensures tallied { IsTallied result self.old.coeffs self.new.coeffs }
     {
         Ok(a.clone()?)
     }
@@ -455,6 +468,7 @@ impl<'a> Calc for Sym<'a> {
         ensures counted { IfErr result (IsCounted true (state_of self.old) (state_of self.new)) }
         ensures decided { IsDecided result }
         ensures exact { IsGiven result (plus a.now (pos 1) b.now) }
+        ensures tallied { IsTallied result self.old.coeffs self.new.coeffs }
     {
         let sum = a.add_scaled(1, b);
         self.counted(sum)
@@ -470,6 +484,7 @@ impl<'a> Calc for Sym<'a> {
         ensures counted { IfErr result (IsCounted true (state_of self.old) (state_of self.new)) }
         ensures decided { IsDecided result }
         ensures exact { IsGiven result (plus a.now (negsuc 0) b.now) }
+        ensures tallied { IsTallied result self.old.coeffs self.new.coeffs }
     {
         let difference = a.add_scaled(-1, b);
         self.counted(difference)
@@ -488,6 +503,7 @@ impl<'a> Calc for Sym<'a> {
         ensures exact { let row = multiple num a.now in let floors = named_of self.old in
             IsGivenWithin result (divided floors (pos den) row)
             (form_fits row && division_fits floors (pos den) row) }
+        ensures tallied { IsTallied result self.old.coeffs self.new.coeffs }
     {
         let zero = Row::constant(self.path.facts.allocator(), 0);
         let product = zero.add_scaled(i128::from(num), a);
@@ -507,6 +523,7 @@ impl<'a> Calc for Sym<'a> {
             result ≡ Err Open → is_some (next_trouble self.old row) ≡ true }
         ensures trouble { let row = plus b.now (negsuc 0) a.now in
             result ≡ Err Open → self.new.trouble ≡ first_of self.old.trouble (next_trouble self.old row) }
+        ensures tallied { IsTallied result self.old.coeffs self.new.coeffs }
     {
         let difference = b.add_scaled(-1, a);
         let difference = self.counted(difference)?;
