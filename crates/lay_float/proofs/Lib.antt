@@ -7,4 +7,4 @@ pub mod Skipped
 pub mod Spots
 pub mod Rooms
 pub mod Highest
-pub mod Causes
+pub mod Stands

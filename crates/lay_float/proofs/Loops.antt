@@ -63,6 +63,18 @@ any-passed test b xs k x lt is miss = sym (
     ∙ ap (λ y. test (b y) || list_any test (map b (drop (k + 1) xs))) (sym is)
     ∙ ap (λ c. c || list_any test (map b (drop (k + 1) xs))) (sym miss))
 
+-- one that passes is found
+pub any-found : {A B : Type 0} (test : B → Bool) (b : A → B) (xs : List A) (k : ℕ) (x : A) → k < length xs → x ≡ get_or xs k x → true ≡ test (b x)
+    → true ≡ list_any test (map b (drop k xs))
+any-found test b xs k x lt is hit = sym (
+    at_drop_more (λ l. list_any test (map b l)) xs k x lt
+    ∙ ap (λ y. test (b y) || list_any test (map b (drop (k + 1) xs))) (sym is)
+    ∙ ap (λ c. c || list_any test (map b (drop (k + 1) xs))) (sym hit))
+
+-- behind the last item there is none
+pub none-left : {A B : Type 0} (test : B → Bool) (b : A → B) (xs : List A) (k : ℕ) → length xs ≤ k → false ≡ list_any test (map b (drop k xs))
+none-left test b xs k le = sym (at_drop_all (λ l. list_any test (map b l)) xs k le)
+
 pub some-more : {A : Type 0} (test : A → Bool) (xs : List A) (k : ℕ) (x : A) (s next : Bool) → k < length xs → x ≡ get_or xs k x → next ≡ s || test x
     → (next || list_any test (drop (k + 1) xs)) ≡ (s || list_any test (drop k xs))
 some-more test xs k x s next lt is e =

@@ -1,4 +1,4 @@
-use Rattle.std.proofs.Common.{◌∷◌, IsTrue, ap, sym, subst, ◌∙◌}
+use Rattle.std.proofs.Common.{◌≡◌, ◌∷◌, IsTrue, ap, sym, subst, ◌∙◌}
 use Rattle.std.specs.Int.{int_max}
 use Rattle.std.specs.Option.{option_to_list}
 use Rattle.std.specs.Prelude.{⊤}
@@ -52,3 +52,22 @@ returns-in-None-clause-cause g c =
       tt,
     ))
     c.copy-in-None.ensures.cause
+
+pub returns-in-Some-clause-goes : goal.returns-in-Some-clause-goes
+returns-in-Some-clause-goes g c = Goes-then _ _ _ (Goes-then _ _ _ c.lowest_or-lowest.ensures.goes c.larger-top.ensures.goes) c.copy.ensures.goes
+
+pub returns-in-Some-clause-value : goal.returns-in-Some-clause-value
+returns-in-Some-clause-value g c = λ e o.
+    let at = g.S.Steady.at in
+    let o1 = c.copy.ensures.goes.closes e o in
+    subst (λ l. at c.copy.result e ≡ float_top c.args.clear (boxes_at at c.args.floats.now e) (lent_at at l e) (at c.args.y.now e)) (sym c.in-Some.is)
+    (c.copy.ensures.value e o ∙ c.larger-top.ensures.value e o1 ∙ ap (int_max (at c.in-Some.least.now e)) (c.lowest_or-lowest.ensures.value e (c.larger-top.ensures.goes.closes e o1)))
+
+pub returns-in-None-clause-goes : goal.returns-in-None-clause-goes
+returns-in-None-clause-goes g c = Goes-then _ _ _ c.lowest_or-lowest.ensures.goes c.copy-in-None.ensures.goes
+
+pub returns-in-None-clause-value : goal.returns-in-None-clause-value
+returns-in-None-clause-value g c = λ e o.
+    let at = g.S.Steady.at in
+    subst (λ l. at c.copy-in-None.result e ≡ float_top c.args.clear (boxes_at at c.args.floats.now e) (lent_at at l e) (at c.args.y.now e)) (sym c.in-None.is)
+    (c.copy-in-None.ensures.value e o ∙ c.lowest_or-lowest.ensures.value e (c.copy-in-None.ensures.goes.closes e o))

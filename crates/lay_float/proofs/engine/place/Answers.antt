@@ -1,4 +1,5 @@
-use Rattle.std.proofs.Common.{ℤ, ◌+ℤ◌, ◌∷◌, [], List, ap, sym, ◌∙◌, subst}
+use Rattle.std.proofs.Common.{ℤ, ◌+ℤ◌, ◌∷◌, [], ◌++◌, List, ap, sym, ◌∙◌, subst}
+use Rattle.std.proofs.lemmas.List.{map-append}
 use Rattle.std.specs.Prelude.{⊤}
 use Rattle.viz_base.specs.declared.layouts.Spot.{Spot}
 use Rattle.viz_calc.specs.State.{AllSmall}
@@ -7,7 +8,7 @@ use Rattle.viz_calc.specs.Renderings.{band_at}
 use Rattle.layout_semantics.specs.Floats.{float_at}
 use Rattle.lay_float.specs.Limits.{AreHalf}
 use Rattle.lay_float.specs.Places.{IsHighest}
-use Rattle.lay_float.specs.Readings.{boxes_at, floats_at, extent_at}
+use Rattle.lay_float.specs.Readings.{box_at, boxes_at, floats_at, extent_at}
 use Rattle.lay_float.specs.declared.floats.PlacedFloat.{PlacedFloat}
 use Rattle.lay_float.proofs.Highest.{highest_is}
 use Rattle.lay_float.proofs.Spots.{placed_small}
@@ -40,3 +41,22 @@ returns-clause-cause g c =
     (placed_small (floats_at at c.args.floats.now e) c.args.side (extent_at at c.args.size.now e) (band_at at c.args.cb.now e) (at c.args.top.now e) (f e (c.float_at-spot.ensures.goes.closes e o))))
     (record { coeff = c.outer_box-placed.ensures.cause.coeff; opens = c.outer_box-placed.ensures.cause.opens }) in
     BlamesButMem-then (run c.args.calc.now) (run c.outer_box-placed.new.calc) (run c.append.new.calc) ⊤ _ goes c.append.ensures.goes second (λ _. tt) c.append.ensures.cause
+
+pub returns-clause-goes : goal.returns-clause-goes
+returns-clause-goes g c = Goes-then _ _ _ (Goes-then _ _ _ c.float_at-spot.ensures.goes c.outer_box-placed.ensures.goes) c.append.ensures.goes
+
+pub returns-clause-value : goal.returns-clause-value
+returns-clause-value g c = λ e o.
+    let at = g.S.Steady.at in
+    c.float_at-spot.ensures.value e (c.outer_box-placed.ensures.goes.closes e (c.append.ensures.goes.closes e o))
+    ∙ ap (λ l. float_at (boxes_at at l e) c.args.side (extent_at at c.args.size.now e) (band_at at c.args.cb.now e) (at c.args.top.now e)) c.as_slice.ensures
+
+pub returns-clause-appended : goal.returns-clause-appended
+returns-clause-appended g c = λ e o.
+    let at = g.S.Steady.at in
+    ap (λ l. boxes_at at l e) (c.append.ensures.value e o)
+    ∙ map-append (λ f. box_at at f e) c.args.floats.now.placed _
+    ∙ ap (λ b. floats_at at c.args.floats.now e ++ b ∷ []) (c.outer_box-placed.ensures.value e (c.append.ensures.goes.closes e o))
+
+pub returns-clause-halted : goal.returns-clause-halted
+returns-clause-halted g c = c.append.ensures.halted
