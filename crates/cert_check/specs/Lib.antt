@@ -1,4 +1,5 @@
 pub mod Rectangles
+pub mod Halves
 pub mod Truths
 pub mod Numbers
 pub mod Leaves

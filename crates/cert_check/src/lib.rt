@@ -4,6 +4,7 @@
 mod cuts;
 mod descent;
 mod entry;
+mod halves;
 mod laws;
 mod leaf;
 mod numbers;
@@ -15,6 +16,7 @@ mod worlds;
 
 pub use cuts::{Child, Cut, Opens, cut_of, part_of, world_count};
 pub use entry::check;
+pub use halves::{Halves, halves_of, longer_axis, middle};
 pub use laws::{
     no_more_nodes_than_bytes, one_verdict_each, right_holds, unit_rows, units_are_plain,
 };

@@ -38,11 +38,11 @@ use Rattle.cert_check.specs.Right.{IsGood}
 use Rattle.cert_check.proofs.GridWorlds.{on_units}
 use Rattle.cert_check.proofs.PartSides.{inside_part, some_count}
 use Rattle.cert_check.proofs.PlainUnits.{units_computed}
-use Rattle.prove_search.specs.declared.halves.Halves.{Halves}
+use Rattle.cert_check.specs.declared.halves.Halves.{Halves}
 use Rattle.prove_search.specs.declared.plain.Closed.{Closed}
 use Rattle.prove_search.specs.declared.plain.Stop.{Stop}
 use Rattle.prove_search.specs.declared.plain.Stop.TheVariants.{Mem, Violated, Undecided}
-use Rattle.prove_search.specs.steps.Halves.{row_up_to, halves_of}
+use Rattle.cert_check.specs.Halves.{row_up_to, halves_of}
 use Rattle.prove_search.specs.Outcomes.{laid_out_count, IsViolation}
 use Rattle.prove_search.specs.steps.Finds.{HasLevels, LeadsTo, IsClosed, IsFinding}
 use Rattle.prove_search.proofs.Halving.{IsHalving, halves_are}

@@ -14,8 +14,8 @@ use Rattle.lin_row.specs.Form.{denied}
 use Rattle.cert_path.specs.Rectangles.{Side, whole, left_by}
 use Rattle.cert_check.specs.Rectangles.{world_count, IsWithin}
 use Rattle.cert_check.specs.Rectangles.{IsProper}
-use Rattle.prove_search.specs.declared.halves.Halves.{Halves}
-use Rattle.prove_search.specs.steps.Halves.{middle, row_up_to, halves_at, halved_on, halves_of}
+use Rattle.cert_check.specs.declared.halves.Halves.{Halves}
+use Rattle.cert_check.specs.Halves.{middle, row_up_to, halves_at, halved_on, halves_of}
 use Rattle.prove_search.specs.steps.Finds.{HasLevels}
 
 -- a number in the middle of others

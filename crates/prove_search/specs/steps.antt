@@ -1,4 +1,2 @@
-pub mod Halves
 pub mod Finds
 pub mod Turns
-pub mod Seekers

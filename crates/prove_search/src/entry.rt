@@ -6,7 +6,7 @@ ghost use Rattle.prove_search.specs.Outcomes.{IsOutcome, Decides};
 use crate::gates::confirmed;
 use crate::outcome::Outcome;
 use crate::plain::prove_plainly;
-use crate::seeking::seek;
+use path_search::seek;
 use std::alloc::Global;
 use viz_base::{Job, Mem};
 

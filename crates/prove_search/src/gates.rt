@@ -8,9 +8,9 @@ ghost use Rattle.prove_search.specs.Outcomes.{IsProof, IsViolation, IsOutcome, D
 ghost use Rattle.prove_search.specs.steps.Turns.{AreLeft};
 
 use crate::outcome::Outcome;
-use crate::seeking::Finding;
 use cert_check::{Verdict, check, holds_at};
 use cert_text::{Cert, CertNode, has_spelling, write_cert};
+use path_search::Finding;
 use std::alloc::Global;
 use viz_base::{Job, Mem, Rect, World};
 

@@ -5,12 +5,11 @@ ghost use Rattle.cert_check.specs.Rectangles.{IsProper};
 ghost use Rattle.cert_check.specs.Rectangles.{world_count, IsWithin};
 ghost use Rattle.cert_check.specs.Truths.{Holds};
 ghost use Rattle.prove_search.specs.steps.Finds.{IsFinding};
-ghost use Rattle.prove_search.specs.steps.Halves.{row_up_to};
+ghost use Rattle.cert_check.specs.Halves.{row_up_to};
 ghost use Rattle.prove_search.specs.Outcomes.{IsOutcome, Decides};
 
-use crate::halves::halves_of;
 use crate::outcome::Outcome;
-use cert_check::{first_untrue, world_count};
+use cert_check::{first_untrue, halves_of, world_count};
 use cert_path::variable_of;
 use cert_text::{Cert, CertNode};
 use lin_row::Row;

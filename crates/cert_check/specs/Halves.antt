@@ -7,7 +7,7 @@ use Rattle.viz_base.specs.declared.worlds.Rect.{Rect}
 use Rattle.viz_base.specs.Worlds.{side_of, with_side}
 use Rattle.lin_row.specs.Form.{Form}
 use Rattle.cert_path.specs.Axes.{variable_of}
-use Rattle.prove_search.specs.declared.halves.Halves.{Halves}
+use Rattle.cert_check.specs.declared.halves.Halves.{Halves}
 
 -- the number in the middle of others, the lower one of two
 abbrev pub middle : ℕ → ℕ → ℕ

@@ -1,5 +1,5 @@
 ghost use Rattle.std.specs.Prelude.{◌≡◌, IfErr};
-ghost use Rattle.prove_search.specs.steps.Seekers.{seeker_state, number_at};
+ghost use Rattle.path_search.specs.steps.Seekers.{seeker_state, number_at};
 
 use crate::cones::{cone_of, renumbered, renumbered_floors};
 use crate::pool::{Known, Pool, Signs};

@@ -1,6 +1,6 @@
 ghost use Rattle.std.specs.Prelude.{◌≡◌, ◌<◌, ◌≤◌, ◌^◌, max};
 ghost use Rattle.cert_check.specs.Rectangles.{IsProper};
-ghost use Rattle.prove_search.specs.steps.Halves.{middle, longer_axis, halves_at, halves_of};
+ghost use Rattle.cert_check.specs.Halves.{middle, longer_axis, halves_at, halves_of};
 
 use viz_base::{Axis, Rect, Span};
 

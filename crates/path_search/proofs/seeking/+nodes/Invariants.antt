@@ -1,5 +1,5 @@
 use Rattle.std.proofs.Common.{◌+◌, ◌*◌, ◌≤◌}
-use Rattle.prove_search.proofs.seeking.+nodes.Given as goal
+use Rattle.path_search.proofs.seeking.+nodes.Given as goal
 
 abbrev pub decreases-define : goal.decreases-define
 decreases-define l = 6 * l.place.now.turns + 3

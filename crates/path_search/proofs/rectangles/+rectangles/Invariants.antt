@@ -1,5 +1,5 @@
 use Rattle.std.proofs.Common.{◌+◌, ◌*◌}
-use Rattle.prove_search.proofs.rectangles.+rectangles.Given as goal
+use Rattle.path_search.proofs.rectangles.+rectangles.Given as goal
 
 abbrev pub decreases-in_halves : goal.decreases-in_halves
 decreases-in_halves l = 2 * l.place.now.turns

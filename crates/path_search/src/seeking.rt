@@ -1,13 +1,12 @@
 ghost use Rattle.std.specs.Prelude.{◌≡◌, ◌≤◌};
 
-use crate::halves::{longer_axis, middle};
 use crate::pool::{Known, Pool};
 use crate::rectangles::{Budget, boxed, budget_of, rectangle};
 use crate::runs::{Outcome, run};
 use crate::seeker::{LIMIT, Opening};
 use crate::trail::Found;
 use crate::values::{floor_of, value_of};
-use cert_check::{Child, cut_of, holds_at, part_of};
+use cert_check::{Child, cut_of, holds_at, longer_axis, middle, part_of};
 use cert_path::{AXIS_COUNT, axis_of, variable_of};
 use cert_text::{Cert, CertNode};
 use lin_row::{Row, RowFault};
