@@ -5,19 +5,29 @@ use viz_base::Mem;
 
 /// The places of the floors on which a row rests, ascending, where floors are numbered from `base` on as variables.
 pub fn cone_of(alloc: Global, floors: &Floors, base: u32, row: &Row) -> Result<Vec<u32>, Mem> {
-    let mut cone = Vec::new(alloc);
     if !reaches(row, base) {
-        return Ok(cone);
+        return Ok(Vec::new(alloc));
     }
     let mut marks = vec![in alloc; false; floors.len()]?;
-    mark(&mut marks, base, row);
+    mark_all(&mut marks, floors, base, row);
+    marked(alloc, marks.as_slice())
+}
+
+/// Marks the floors on which a row rests.
+fn mark_all(marks: &mut [bool], floors: &Floors, base: u32, row: &Row) {
+    mark(marks, base, row);
     for place in (0..floors.len()).rev() {
         if marks.get(place).copied() == Some(true) {
             if let Some(floor) = floors.get(place) {
-                mark(&mut marks, base, &floor.row);
+                mark(marks, base, &floor.row);
             }
         }
     }
+}
+
+/// The places of the marked ones.
+fn marked(alloc: Global, marks: &[bool]) -> Result<Vec<u32>, Mem> {
+    let mut cone = Vec::new(alloc);
     for (place, is_marked) in marks.iter().enumerate() {
         if let (true, Ok(place)) = (*is_marked, u32::try_from(place)) {
             cone.push(place)?;
@@ -49,10 +59,15 @@ fn mark(marks: &mut [bool], base: u32, row: &Row) {
 pub fn renumbered(alloc: Global, row: &Row, base: u32, cone: &[u32]) -> Result<Row, RowFault> {
     let mut sum = Row::constant(alloc, row.k);
     for term in row.terms.as_slice() {
-        let unit = Row::of_term(alloc, 0, new_number(term.0, base, cone), 1)?;
-        sum = sum.add_scaled(term.1, &unit)?;
+        sum = plus(alloc, &sum, new_number(term.0, base, cone), term.1)?;
     }
     Ok(sum)
+}
+
+/// A row with a multiple of a variable added.
+pub fn plus(alloc: Global, row: &Row, variable: u32, by: i128) -> Result<Row, RowFault> {
+    let unit = Row::of_term(alloc, 0, variable, 1)?;
+    row.add_scaled(by, &unit)
 }
 
 /// The new number of a variable.

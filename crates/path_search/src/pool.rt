@@ -105,9 +105,9 @@ impl Pool {
         }
     }
 
-    /// The worlds at which a row is at least 0, and those at which it is below 0.
-    pub fn parted(self, alloc: Global, row: &Row) -> Result<(Pool, Pool), Mem> {
-        let Pool { worlds } = self;
+    /// Takes out the worlds at which a row is at least 0, and those at which it is below 0.
+    pub fn parted(&mut self, alloc: Global, row: &Row) -> Result<(Pool, Pool), Mem> {
+        let worlds = std::mem::replace(&mut self.worlds, Vec::new(alloc));
         let mut first = Vec::new(alloc);
         let mut second = Vec::new(alloc);
         for known in worlds {

@@ -3,9 +3,12 @@ ghost use Rattle.std.specs.Prelude.{◌≤◌};
 
 use crate::pool::Pool;
 use crate::sampling::Sample;
-use crate::seeking::{GRID, Place, Stop, count_of, explore, first_pool, halving, leave, part};
+use crate::seeking::{
+    GRID, Place, Stop, boxed, count_of, enter, explore, first_pool, halving, leave, part, split_by,
+};
 use cert_check::Child;
 use cert_text::CertNode;
+use lin_row::Row;
 use std::alloc::Global;
 use viz_base::{Boxed, Rect};
 
@@ -39,8 +42,8 @@ pub fn rectangle(place: &mut Place<'_>, rect: Rect, depth: u32) -> Result<CertNo
     ensures falls { place.new.turns ≤ place.old.turns }
 {
     if count_of(rect) <= GRID {
-        let pool = Pool::new(place.alloc);
-        return explore(place, pool, rect, depth);
+        let mut pool = Pool::new(place.alloc);
+        return explore(place, &mut pool, rect, depth);
     }
     match tried(place, rect, depth)? {
         Some(node) => Ok(node),
@@ -52,19 +55,24 @@ pub fn rectangle(place: &mut Place<'_>, rect: Rect, depth: u32) -> Result<CertNo
 fn tried(place: &mut Place<'_>, rect: Rect, depth: u32) -> Result<Option<CertNode>, Stop>
     ensures falls { place.new.turns ≤ place.old.turns }
 {
-    let leaves = leaves_for(place, rect);
-    let sample = Sample::new(place.alloc, place.job, rect, leaves)?;
-    if let Some(world) = sample.untrue {
-        return Err(Stop::Untrue(world));
-    }
-    if sample.has_more_than(leaves) {
+    if has_many_leaves(place, rect)? {
         return Ok(None);
     }
-    let pool = first_pool(place, rect)?;
-    match tree(place, pool, rect, depth) {
+    let mut pool = first_pool(place, rect)?;
+    match tree(place, &mut pool, rect, depth) {
         Ok(node) => Ok(Some(node)),
         Err(Stop::GaveUp) => Ok(None),
         Err(stop) => Err(stop),
+    }
+}
+
+/// Whether a tree of a rectangle has too many leaves, by a sample.
+fn has_many_leaves(place: &Place<'_>, rect: Rect) -> Result<bool, Stop> {
+    let leaves = leaves_for(place, rect);
+    let sample = Sample::new(place.alloc, place.job, rect, leaves)?;
+    match sample.untrue {
+        Some(world) => Err(Stop::Untrue(world)),
+        None => Ok(sample.has_more_than(leaves)),
     }
 }
 
@@ -89,7 +97,7 @@ fn most_turns(budget: Budget, rect: Rect) -> u64 {
 }
 
 /// The node of a rectangle by a tree of leaves, within its share of the turns.
-fn tree(place: &mut Place<'_>, pool: Pool, rect: Rect, depth: u32) -> Result<CertNode, Stop>
+fn tree(place: &mut Place<'_>, pool: &mut Pool, rect: Rect, depth: u32) -> Result<CertNode, Stop>
     ensures falls { place.new.turns ≤ place.old.turns }
 {
     let facts = place.path.facts.len();
@@ -105,11 +113,6 @@ fn tree(place: &mut Place<'_>, pool: Pool, rect: Rect, depth: u32) -> Result<Cer
     node
 }
 
-/// A node that was found, in a box.
-pub fn boxed(alloc: Global, node: Result<CertNode, Stop>) -> Result<Boxed<CertNode>, Stop> {
-    Ok(Boxed::new(alloc, node?)?)
-}
-
 /// The node of a rectangle by its halves on the longer side, where the turns that are left can be enough for them.
 #[cycle(rectangles)]
 fn in_halves(place: &mut Place<'_>, rect: Rect, depth: u32) -> Result<CertNode, Stop>
@@ -123,20 +126,37 @@ fn in_halves(place: &mut Place<'_>, rect: Rect, depth: u32) -> Result<CertNode, 
     }
     place.turns = turns;
     let row = halving(place.alloc, rect)?;
-    let (Some(low), Some(high)) = (
-        part(&row, Child::First, rect),
-        part(&row, Child::Second, rect),
-    ) else {
+    halved(place, rect, depth, &row)
+}
+
+/// The node of a rectangle by the halves into which a row cuts it.
+#[cycle(rectangles)]
+fn halved(place: &mut Place<'_>, rect: Rect, depth: u32, row: &Row) -> Result<CertNode, Stop>
+    ensures falls { place.new.turns ≤ place.old.turns }
+{
+    let first = half(place, Child::First, rect, depth, row)?;
+    let second = half(place, Child::Second, rect, depth, row)?;
+    split_by(place.alloc, row, first, second)
+}
+
+/// The node of one half of a rectangle.
+#[cycle(rectangles)]
+fn half(
+    place: &mut Place<'_>,
+    child: Child,
+    rect: Rect,
+    depth: u32,
+    row: &Row,
+) -> Result<Boxed<CertNode>, Stop>
+    ensures falls { place.new.turns ≤ place.old.turns }
+{
+    let Some(rect) = part(row, child, rect) else {
         return Err(Stop::GaveUp);
     };
     let facts = place.path.facts.len();
     let floors = place.path.floors.len();
-    place.path.enter_first(&row)?;
-    let first = boxed(place.alloc, rectangle(place, low, depth))?;
+    enter(place, child, row)?;
+    let node = rectangle(place, rect, depth);
     leave(place, facts, floors);
-    place.path.enter_second(&row)?;
-    let second = boxed(place.alloc, rectangle(place, high, depth))?;
-    leave(place, facts, floors);
-    let row = Boxed::new(place.alloc, row)?;
-    Ok(CertNode::Split(row, first, second))
+    boxed(place.alloc, node)
 }

@@ -1,3 +1,4 @@
+use crate::cones::plus;
 use crate::trail::{Found, Spot};
 use cert_path::AXIS_COUNT;
 use lin_proof::{Branch, Derivation, Ending, Step};
@@ -68,8 +69,7 @@ impl Numbering<'_> {
     fn of_row(self, alloc: Global, row: &Row) -> Result<Row, RowFault> {
         let mut sum = Row::constant(alloc, row.k);
         for term in row.terms.as_slice() {
-            let unit = Row::of_term(alloc, 0, self.of_variable(term.0), 1)?;
-            sum = sum.add_scaled(term.1, &unit)?;
+            sum = plus(alloc, &sum, self.of_variable(term.0), term.1)?;
         }
         Ok(sum)
     }
@@ -98,15 +98,20 @@ fn copied_ending(alloc: Global, end: &Ending, numbers: Numbering<'_>) -> Result<
 
 #[cycle(copies)]
 fn copied_cases(alloc: Global, branch: &Branch, numbers: Numbering<'_>) -> Result<Ending, Mem> {
-    let row = match numbers.of_row(alloc, &branch.row) {
-        Ok(row) => row,
-        Err(RowFault::Coeff) => branch.row.clone()?,
-        Err(RowFault::Mem) => return Err(Mem),
-    };
     let first = copied(alloc, &branch.first, numbers)?;
     let second = copied(alloc, &branch.second, numbers)?;
+    let row = copied_row(alloc, &branch.row, numbers)?;
     let branch = Boxed::new(alloc, Branch { row, first, second })?;
     Ok(Ending::Cases(branch))
+}
+
+/// A row over variables that are numbered anew; the same where a number of that is outside `i128`.
+fn copied_row(alloc: Global, row: &Row, numbers: Numbering<'_>) -> Result<Row, Mem> {
+    match numbers.of_row(alloc, row) {
+        Ok(row) => Ok(row),
+        Err(RowFault::Coeff) => Ok(row.clone()?),
+        Err(RowFault::Mem) => Err(Mem),
+    }
 }
 
 fn copied_step(alloc: Global, step: &Step, numbers: Numbering<'_>) -> Result<Step, Mem> {

@@ -1,5 +1,5 @@
 use crate::pool::Pool;
-use crate::seeker::{Opening, Remains, Seeker};
+use crate::seeker::{Opening, Seeker};
 use crate::trail::Found;
 use lay_flow::render;
 use lin_proof::Answer;
@@ -22,17 +22,6 @@ pub enum Outcome {
     TooLarge,
 }
 
-/// What a run comes to, with what stands at its end.
-#[derive(Drop)]
-pub struct Ended {
-    /// What it comes to.
-    pub outcome: Outcome,
-    /// The known worlds.
-    pub pool: Pool,
-    /// The answers.
-    pub found: Vec<Found>,
-}
-
 /// Whether a job's formula is true of its page's rendering, over a calc.
 pub fn truth_over<C: Calc>(alloc: Global, job: &Job, calc: &mut C) -> Result<bool, Halt> {
     let rendering = render(alloc, calc, &job.tree, job.height)?;
@@ -46,33 +35,27 @@ pub fn run(
     job: &Job,
     path: &Path,
     named: &[u32],
-    pool: Pool,
-    found: Vec<Found>,
-) -> Result<Ended, Mem> {
+    pool: &mut Pool,
+    found: &mut Vec<Found>,
+) -> Result<Outcome, Mem> {
     let mut seeker = Seeker::new(path, pool, found)?;
-    let outcome = match truth_over(alloc, job, &mut seeker) {
-        Ok(true) => Outcome::True(seeker.answers(named)?),
-        Ok(false) => Outcome::False,
-        Err(Halt::Mem) => return Err(Mem),
-        Err(Halt::Coeff | Halt::Open) => Outcome::TooLarge,
-    };
-    Ok(closed_with(outcome, seeker.finish()))
+    let answer = truth_over(alloc, job, &mut seeker);
+    outcome_of(&mut seeker, answer, named)
 }
 
-/// What a run comes to where a row may have been left open.
-fn closed_with(outcome: Outcome, remains: Remains) -> Ended {
-    let Remains {
-        opening,
-        pool,
-        found,
-    } = remains;
-    let outcome = match opening {
-        Some(opening) => Outcome::Open(opening),
-        None => outcome,
-    };
-    Ended {
-        outcome,
-        pool,
-        found,
+/// What a run comes to that ended with this answer.
+fn outcome_of(
+    seeker: &mut Seeker<'_>,
+    answer: Result<bool, Halt>,
+    named: &[u32],
+) -> Result<Outcome, Mem> {
+    match answer {
+        Ok(true) => Ok(Outcome::True(seeker.answers(named)?)),
+        Ok(false) => Ok(Outcome::False),
+        Err(Halt::Mem) => Err(Mem),
+        Err(Halt::Coeff | Halt::Open) => Ok(match seeker.opened() {
+            Some(opening) => Outcome::Open(opening),
+            None => Outcome::TooLarge,
+        }),
     }
 }

@@ -1,7 +1,8 @@
-ghost use Rattle.std.specs.Prelude.{◌≡◌, IfErr};
+ghost use Rattle.std.specs.Prelude.{◌≡◌, ◌+◌, ◌<ℤ◌, IfErr, IfOk, length, pos};
+ghost use Rattle.cert_path.specs.Axes.{axis_count};
 ghost use Rattle.path_search.specs.steps.Seekers.{seeker_state, number_at};
 
-use crate::cones::{cone_of, renumbered, renumbered_floors};
+use crate::cones::{cone_of, plus, renumbered, renumbered_floors};
 use crate::pool::{Known, Pool, Signs};
 use crate::renumbering::{Numbering, copied};
 use crate::trail::{Found, Ranks};
@@ -37,24 +38,15 @@ pub struct Opening {
     pub point: Option<Known>,
 }
 
-/// What a run ends with.
-#[derive(Drop)]
-pub struct Remains {
-    /// The row that was left open, if one was.
-    pub opening: Option<Opening>,
-    /// The known worlds, over the variables of the path.
-    pub pool: Pool,
-    /// The answers.
-    pub found: Vec<Found>,
-}
-
 /// Arithmetic at all worlds of a path at once, over the same rows as those of `Sym`. It answers comparisons itself, and
 /// notes the answers with their reasons; it halts at the first one that has no answer. The first answers may be known:
 /// a run below a split begins with the comparisons of the run that led to it.
 #[derive(Drop)]
 pub struct Seeker<'a> {
     path: &'a Path,
-    pool: Pool,
+    /// How many variables the path has.
+    base: u32,
+    pool: &'a mut Pool,
     rows: List<Row>,
     floors: Floors,
     /// The facts of the path.
@@ -62,7 +54,7 @@ pub struct Seeker<'a> {
     /// Each row that was answered, divided by 1.
     answered: Floors,
     /// The answers, known ones first.
-    found: Vec<Found>,
+    found: &'a mut Vec<Found>,
     ranks: Ranks,
     tape: Vec<Asked>,
     open: Option<Opening>,
@@ -71,24 +63,28 @@ pub struct Seeker<'a> {
 }
 
 impl<'a> Seeker<'a> {
-    ghost use Rattle.std.specs.Prelude.{◌<ℤ◌, ⊤, false, pos};
+    ghost use Rattle.std.specs.Prelude.{⊤, false};
     ghost use Rattle.std.specs.List.{list_any};
     ghost use Rattle.sym_calc.specs.Floors.{same_floor};
     ghost use Rattle.viz_base.specs.Numbers.{Rose};
     ghost use Rattle.viz_calc.specs.State.{Grows, Cause, IsDecided};
 
     /// The calc of a path, with known worlds of it, and with the answers of the run that led to it.
-    pub fn new(path: &'a Path, pool: Pool, found: Vec<Found>) -> Result<Self, Mem> {
+    pub fn new(path: &'a Path, pool: &'a mut Pool, found: &'a mut Vec<Found>) -> Result<Self, Mem> {
         let alloc = path.facts.allocator();
+        let base = variable_count(path)?;
+        let ground = path.facts.clone()?;
+        let ranks = Ranks::new(alloc, path.floors.len())?;
         Ok(Seeker {
             path,
+            base,
             pool,
             rows: List::new(alloc),
             floors: Floors::new(alloc),
-            ground: path.facts.clone()?,
+            ground,
             answered: Floors::new(alloc),
             found,
-            ranks: Ranks::new(alloc, path.floors.len())?,
+            ranks,
             tape: Vec::new(alloc),
             open: None,
             coeffs: 0,
@@ -120,17 +116,10 @@ impl<'a> Seeker<'a> {
             (seeker_state self.new.coeffs self.new.opens) }
         ensures rose { Rose self.old.coeffs self.new.coeffs }
         ensures coeff { result ≡ Halt.Coeff }
+        ensures floors { self.new.floors ≡ self.old.floors }
     {
         self.coeffs = self.coeffs.saturating_add(1);
         Halt::Coeff
-    }
-
-    /// How many variables the path has.
-    fn base(&self) -> Result<u32, Mem> {
-        match u32::try_from(self.path.floors.len().saturating_add(AXIS_COUNT as usize)) {
-            Ok(base) => Ok(base),
-            Err(_) => Err(Mem),
-        }
     }
 
     /// How many floors there are behind those of the path.
@@ -150,14 +139,12 @@ impl<'a> Seeker<'a> {
             (seeker_state self.new.coeffs self.new.opens) ⊤) }
         ensures decided { IsDecided result }
     {
-        let whole = quotient(row, by)?;
         let rest = remainder(row, by)?;
         if rest.terms.is_empty() {
-            return Ok(whole);
+            return Ok(quotient(row, by)?);
         }
         let variable = self.variable_of(Floor { row: rest, by })?;
-        let term = Row::of_term(self.alloc(), 0, variable, 1)?;
-        let sum = whole.add_scaled(1, &term);
+        let sum = whole_and(self.alloc(), row, by, variable);
         self.counted(sum)
     }
 
@@ -174,15 +161,14 @@ impl<'a> Seeker<'a> {
             self.ranks.use_named(place)?;
             return numbered(place, AXIS_COUNT);
         }
-        let base = self.base()?;
         if let Some(place) = self.floors.place_of(&floor) {
-            return numbered(place, base);
+            return numbered(place, self.base);
         }
-        self.name(floor, base)
+        self.name(floor)
     }
 
     /// The new variable of a floor that has none yet.
-    fn name(&mut self, floor: Floor, base: u32) -> Result<u32, Halt>
+    fn name(&mut self, floor: Floor) -> Result<u32, Halt>
         requires above { pos 0 <ℤ floor.by }
         requires new { list_any (same_floor floor) self.old.floors ≡ false }
         ensures grows { Grows (seeker_state self.old.coeffs self.old.opens)
@@ -191,15 +177,29 @@ impl<'a> Seeker<'a> {
             (seeker_state self.new.coeffs self.new.opens) ⊤) }
         ensures decided { IsDecided result }
     {
-        let variable = numbered(self.floors.len(), base)?;
-        if !self.pool.name(&floor.row, floor.by)? {
-            return Err(self.too_large());
-        }
-        self.ranks.use_new()?;
+        let variable = self.new_variable(&floor)?;
         match add_floor(&mut self.rows, &mut self.floors, floor, variable) {
             Ok(()) => Ok(variable),
             Err(RowFault::Mem) => Err(Halt::Mem),
             Err(RowFault::Coeff) => Err(self.too_large()),
+        }
+    }
+
+    /// The variable that comes next, for a floor whose values are added to the known worlds.
+    fn new_variable(&mut self, floor: &Floor) -> Result<u32, Halt>
+        ensures floors { self.new.floors ≡ self.old.floors }
+        ensures grows { Grows (seeker_state self.old.coeffs self.old.opens)
+            (seeker_state self.new.coeffs self.new.opens) }
+        ensures cause { IfErr result (Cause (seeker_state self.old.coeffs self.old.opens)
+            (seeker_state self.new.coeffs self.new.opens) ⊤) }
+        ensures decided { IsDecided result }
+    {
+        let variable = numbered(self.floors.len(), self.base)?;
+        self.ranks.use_new()?;
+        if self.pool.name(&floor.row, floor.by)? {
+            Ok(variable)
+        } else {
+            Err(self.too_large())
         }
     }
 
@@ -210,51 +210,51 @@ impl<'a> Seeker<'a> {
         ensures cause { IfErr result (Cause (seeker_state self.old.coeffs self.old.opens)
             (seeker_state self.new.coeffs self.new.opens) ⊤) }
     {
-        let floors = self.floor_count()?;
         let question = Floor { row, by: 1 };
         if let Some(place) = self.answered.place_of(&question) {
-            if let Some(found) = self.found.get(place) {
-                self.tape.push(Asked { row: place, floors })?;
-                return Ok(found.yes);
-            }
+            return Ok(self.told(place)?);
         }
-        if self.answered.len() < self.found.len() {
-            return Ok(self.recall(question, floors)?);
-        }
-        match self.pool.signs_of(&question.row) {
-            Signs::Same(yes) => self.decide(question, yes, floors),
-            Signs::Unknown => self.decide(question, true, floors),
-            Signs::Both => self.left_open(&question.row, None),
-        }
+        self.settle(&question.row)?;
+        Ok(self.recall(question)?)
     }
 
-    /// The same where the contrary of an answer is at no known world.
-    fn decide(&mut self, question: Floor, yes: bool, floors: u32) -> Result<bool, Halt>
+    /// Finds the answer on the row that is asked about next, if it isn't known, or leaves it open.
+    fn settle(&mut self, row: &Row) -> Result<(), Halt>
         ensures grows { Grows (seeker_state self.old.coeffs self.old.opens)
             (seeker_state self.new.coeffs self.new.opens) }
         ensures cause { IfErr result (Cause (seeker_state self.old.coeffs self.old.opens)
             (seeker_state self.new.coeffs self.new.opens) ⊤) }
     {
-        let contrary = if yes {
-            question.row.negate()
-        } else {
-            Ok(question.row.clone()?)
-        };
-        let contrary = self.counted(contrary)?;
-        let base = self.base()?;
-        let cone = cone_of(self.alloc(), &self.floors, base, &question.row)?;
-        match self.refuted(contrary, cone.as_slice())? {
-            Search::Found(why) => {
-                self.keep(yes, why, base, cone)?;
-                Ok(self.recall(question, floors)?)
-            }
-            Search::Point(values) => self.left_open(&question.row, Some(values)),
-            Search::GaveUp => self.left_open(&question.row, None),
+        if self.answered.len() < self.found.len() {
+            return Ok(());
+        }
+        let cone = cone_of(self.alloc(), &self.floors, self.base, row)?;
+        match self.pool.signs_of(row) {
+            Signs::Same(yes) => self.decide(row, yes, cone),
+            Signs::Unknown => self.decide(row, true, cone),
+            Signs::Both => self.leave_open(row, cone.as_slice(), None),
         }
     }
 
-    /// Keeps an answer with its derivation, over so many variables of the path and these floors behind it.
-    fn keep(&mut self, yes: bool, why: Derivation, base: u32, cone: Vec<u32>) -> Result<(), Mem>
+    /// The same where the contrary of an answer is at no known world.
+    fn decide(&mut self, row: &Row, yes: bool, cone: Vec<u32>) -> Result<(), Halt>
+        ensures grows { Grows (seeker_state self.old.coeffs self.old.opens)
+            (seeker_state self.new.coeffs self.new.opens) }
+        ensures cause { IfErr result (Cause (seeker_state self.old.coeffs self.old.opens)
+            (seeker_state self.new.coeffs self.new.opens) ⊤) }
+    {
+        match self.refuted(row, yes, cone.as_slice())? {
+            Search::Found(why) => Ok(self.keep(yes, why, cone)?),
+            Search::Point(values) => {
+                let known = known_of(values, self.base);
+                self.leave_open(row, cone.as_slice(), Some(known))
+            }
+            Search::GaveUp => self.leave_open(row, cone.as_slice(), None),
+        }
+    }
+
+    /// Keeps an answer with its derivation, over the variables of the path and these floors behind it.
+    fn keep(&mut self, yes: bool, why: Derivation, cone: Vec<u32>) -> Result<(), Mem>
         ensures coeffs { self.new.coeffs ≡ self.old.coeffs }
         ensures opens { self.new.opens ≡ self.old.opens }
     {
@@ -264,26 +264,35 @@ impl<'a> Seeker<'a> {
             yes,
             why,
             path,
-            base,
+            base: self.base,
             cone,
         })?;
         Ok(())
     }
 
     /// The answer to a question that this run didn't ask before, where it is the next one.
-    fn recall(&mut self, question: Floor, floors: u32) -> Result<bool, Mem>
+    fn recall(&mut self, question: Floor) -> Result<bool, Mem>
         ensures coeffs { self.new.coeffs ≡ self.old.coeffs }
         ensures opens { self.new.opens ≡ self.old.opens }
     {
-        let row = self.answered.len();
+        if self.answered.place_of(&question).is_some() {
+            return Err(Mem);
+        }
+        let place = self.answered.len();
+        self.answered.push(question)?;
+        self.told(place)
+    }
+
+    /// The answer to the question at a place, noted as asked once more.
+    fn told(&mut self, row: usize) -> Result<bool, Mem>
+        ensures coeffs { self.new.coeffs ≡ self.old.coeffs }
+        ensures opens { self.new.opens ≡ self.old.opens }
+    {
         let Some(found) = self.found.get(row) else {
             return Err(Mem);
         };
         let yes = found.yes;
-        if self.answered.place_of(&question).is_some() {
-            return Err(Mem);
-        }
-        self.answered.push(question)?;
+        let floors = self.floor_count()?;
         self.tape.push(Asked { row, floors })?;
         Ok(yes)
     }
@@ -296,80 +305,121 @@ impl<'a> Seeker<'a> {
         }
     }
 
+    /// Why the facts of the path and of a cone can't hold together with the contrary of an answer, if they can't.
+    fn refuted(&mut self, row: &Row, yes: bool, cone: &[u32]) -> Result<Search, Halt>
+        ensures grows { Grows (seeker_state self.old.coeffs self.old.opens)
+            (seeker_state self.new.coeffs self.new.opens) }
+        ensures cause { IfErr result (Cause (seeker_state self.old.coeffs self.old.opens)
+            (seeker_state self.new.coeffs self.new.opens) ⊤) }
+    {
+        let contrary = contrary_of(row, yes);
+        let contrary = self.counted(contrary)?;
+        Ok(self.searched(contrary, cone)?)
+    }
+
     /// Why the facts of the path and of a cone and one more can't hold together, if they can't.
-    fn refuted(&mut self, contrary: Row, cone: &[u32]) -> Result<Search, Mem>
+    fn searched(&mut self, contrary: Row, cone: &[u32]) -> Result<Search, Mem>
         ensures coeffs { self.new.coeffs ≡ self.old.coeffs }
         ensures opens { self.new.opens ≡ self.old.opens }
     {
         let count = self.ground.len();
         add_cone(&mut self.ground, &self.rows, cone)?;
         self.ground.push(contrary)?;
-        let variables = self.base()?.saturating_add(self.floor_count()?);
+        let variables = self.base.saturating_add(self.floor_count()?);
         let found = refute(self.alloc(), self.ground.as_slice(), variables, LIMIT)?;
         self.ground.truncate(count);
         Ok(found)
     }
 
     /// Leaves a row open, with a world that was found.
-    fn left_open(&mut self, row: &Row, point: Option<List<i128>>) -> Result<bool, Halt>
+    fn leave_open(&mut self, row: &Row, cone: &[u32], point: Option<Known>) -> Result<(), Halt>
         ensures grows { Grows (seeker_state self.old.coeffs self.old.opens)
             (seeker_state self.new.coeffs self.new.opens) }
         ensures cause { IfErr result (Cause (seeker_state self.old.coeffs self.old.opens)
             (seeker_state self.new.coeffs self.new.opens) ⊤) }
     {
+        match self.opening(row, cone, point) {
+            Ok(opening) => {
+                self.open = Some(opening);
+                self.opens = self.opens.saturating_add(1);
+                Err(Halt::Open)
+            }
+            Err(RowFault::Mem) => Err(Halt::Mem),
+            Err(RowFault::Coeff) => Err(self.too_large()),
+        }
+    }
+
+    /// A row with the floors on which it rests, over the variables of the path and then these floors.
+    fn opening(&self, row: &Row, cone: &[u32], point: Option<Known>) -> Result<Opening, RowFault> {
         let alloc = self.alloc();
-        let base = self.base()?;
-        let cone = cone_of(alloc, &self.floors, base, row)?;
-        let floors = match renumbered_floors(alloc, &self.floors, base, cone.as_slice()) {
-            Ok(floors) => floors,
-            Err(RowFault::Mem) => return Err(Halt::Mem),
-            Err(RowFault::Coeff) => return Err(self.too_large()),
-        };
-        let row = renumbered(alloc, row, base, cone.as_slice());
-        let row = self.counted(row)?;
-        let point = point.map(|values| Known {
-            values: first_of(values, base as usize),
-        });
-        self.open = Some(Opening { floors, row, point });
-        self.opens = self.opens.saturating_add(1);
-        Err(Halt::Open)
+        let floors = renumbered_floors(alloc, &self.floors, self.base, cone)?;
+        let row = renumbered(alloc, row, self.base, cone)?;
+        Ok(Opening { floors, row, point })
     }
 
     /// The answers in the order in which they were asked for. The first facts of the floors that the path names have
     /// these numbers.
     pub fn answers(&self, named: &[u32]) -> Result<List<Answer>, Mem> {
-        let (path, base) = (self.path_facts()?, self.base()?);
+        let path = self.path_facts()?;
         let mut answers = List::new(self.alloc());
         for asked in &self.tape {
-            if let (Some(question), Some(found)) = (
-                self.answered.get(asked.row),
-                self.found.get(asked.row),
-            ) {
-                let numbers = Numbering {
-                    found,
-                    spots: self.ranks.spots.as_slice(),
-                    named,
-                    path,
-                    base,
-                    contrary: path.saturating_add(asked.floors.saturating_mul(2)),
-                };
-                answers.push(answer_by(self.alloc(), &question.row, numbers)?)?;
-            }
+            self.write(&mut answers, *asked, path, named)?;
         }
         Ok(answers)
     }
 
-    /// What stands at the end of a run.
-    pub fn finish(self) -> Remains {
-        let variables = self.path.floors.len().saturating_add(AXIS_COUNT as usize);
-        let mut pool = self.pool;
-        pool.forget(variables);
-        Remains {
-            opening: self.open,
-            pool,
-            found: self.found,
+    /// Writes an answer behind others.
+    fn write(
+        &self,
+        answers: &mut List<Answer>,
+        asked: Asked,
+        path: u32,
+        named: &[u32],
+    ) -> Result<(), Mem> {
+        if let (Some(question), Some(found)) = (
+            self.answered.get(asked.row),
+            self.found.get(asked.row),
+        ) {
+            let numbers = Numbering {
+                found,
+                spots: self.ranks.spots.as_slice(),
+                named,
+                path,
+                base: self.base,
+                contrary: path.saturating_add(asked.floors.saturating_mul(2)),
+            };
+            answers.push(answer_by(self.alloc(), &question.row, numbers)?)?;
         }
+        Ok(())
     }
+
+    /// The row that was left open, if one was.
+    pub fn opened(&mut self) -> Option<Opening> {
+        self.open.take()
+    }
+}
+
+/// How many variables a path has.
+pub fn variable_count(path: &Path) -> Result<u32, Mem>
+    ensures { IfOk result (λ count. count ≡ length path.now.floors + axis_count) }
+{
+    match u32::try_from(path.floors.len().saturating_add(AXIS_COUNT as usize)) {
+        Ok(count) => Ok(count),
+        Err(_) => Err(Mem),
+    }
+}
+
+/// The whole part of a row divided by a number above 0, with a variable added.
+fn whole_and(alloc: Global, row: &Row, by: i128, variable: u32) -> Result<Row, RowFault>
+    requires { pos 0 <ℤ by }
+{
+    let whole = quotient(row, by)?;
+    plus(alloc, &whole, variable, 1)
+}
+
+/// The row that is at least 0 where an answer is wrong.
+fn contrary_of(row: &Row, yes: bool) -> Result<Row, RowFault> {
+    if yes { row.negate() } else { Ok(row.clone()?) }
 }
 
 /// The answer on a row.
@@ -398,11 +448,11 @@ fn add_fact(ground: &mut List<Row>, rows: &List<Row>, number: usize) -> Result<(
     Ok(())
 }
 
-/// The first values.
-fn first_of(values: List<i128>, count: usize) -> Vec<i128> {
+/// The world at which the first variables have these values.
+fn known_of(values: List<i128>, variables: u32) -> Known {
     let mut values = values.into_vec();
-    values.truncate(count);
-    values
+    values.truncate(variables as usize);
+    Known { values }
 }
 
 /// The variable at a place, where the first has this number.

@@ -1,14 +1,15 @@
 ghost use Rattle.std.specs.Prelude.{◌≡◌, ◌≤◌};
 
 use crate::pool::{Known, Pool};
-use crate::rectangles::{Budget, boxed, budget_of, rectangle};
+use crate::rectangles::{Budget, budget_of, rectangle};
 use crate::runs::{Outcome, run};
-use crate::seeker::{LIMIT, Opening};
+use crate::seeker::{LIMIT, Opening, variable_count};
 use crate::trail::Found;
 use crate::values::{floor_of, value_of};
 use cert_check::{Child, cut_of, holds_at, longer_axis, middle, part_of};
-use cert_path::{AXIS_COUNT, axis_of, variable_of};
+use cert_path::{axis_of, variable_of};
 use cert_text::{Cert, CertNode};
+use lin_proof::Derivation;
 use lin_row::{Row, RowFault};
 use lin_search::{Search, refute};
 use std::alloc::{AllocError, AllocFailed, Global};
@@ -82,6 +83,22 @@ pub struct Place<'a> {
     pub turns: u64,
 }
 
+impl<'a> Place<'a> {
+    /// The beginning of a search.
+    fn new(alloc: Global, job: &'a Job, turns: u64) -> Result<Self, Mem> {
+        let path = Path::new(alloc, job.range)?;
+        Ok(Place {
+            alloc,
+            job,
+            path,
+            named: Vec::new(alloc),
+            found: Vec::new(alloc),
+            budget: budget_of(turns, job.range),
+            turns,
+        })
+    }
+}
+
 /// How many worlds a grid has at most.
 pub const GRID: u64 = 64;
 
@@ -96,17 +113,13 @@ pub fn seek(alloc: Global, job: &Job, turns: u64) -> Result<Finding, Mem> {
     if turns == 0 {
         return Ok(Finding::Nothing);
     }
-    let path = Path::new(alloc, job.range)?;
-    let mut place = Place {
-        alloc,
-        job,
-        path,
-        named: Vec::new(alloc),
-        found: Vec::new(alloc),
-        budget: budget_of(turns, job.range),
-        turns,
-    };
-    match sought(&mut place) {
+    let mut place = Place::new(alloc, job, turns)?;
+    finding_of(job, sought(&mut place))
+}
+
+/// What a search comes to whose whole range has this node.
+fn finding_of(job: &Job, sought: Result<CertNode, Stop>) -> Result<Finding, Mem> {
+    match sought {
         Ok(root) => Ok(Finding::Proof(Cert {
             job: job.digest,
             root,
@@ -126,15 +139,22 @@ fn sought(place: &mut Place<'_>) -> Result<CertNode, Stop> {
 
 /// The corners of a rectangle, the middles of its edges, and its own, each where the formula is true.
 pub fn first_pool(place: &Place<'_>, rect: Rect) -> Result<Pool, Stop> {
-    let mut pool = Pool::new(place.alloc);
     let widths = middle_and_ends(place.alloc, rect.wl, rect.wh)?;
     let sizes = middle_and_ends(place.alloc, rect.sl, rect.sh)?;
-    for w in &widths {
-        for s in &sizes {
-            try_known(place, &mut pool, World { w: *w, s: *s })?;
+    let mut pool = Pool::new(place.alloc);
+    meet_all(place, &mut pool, widths.as_slice(), sizes.as_slice())?;
+    Ok(pool)
+}
+
+/// Adds the worlds of these widths and sizes to the known ones, or stops at one where the formula is false.
+fn meet_all(place: &Place<'_>, pool: &mut Pool, widths: &[u32], sizes: &[u32]) -> Result<(), Stop> {
+    for w in widths {
+        for s in sizes {
+            let known = Known::new(place.alloc, World { w: *w, s: *s })?;
+            meet(place, pool, known)?;
         }
     }
-    Ok(pool)
+    Ok(())
 }
 
 /// The middle of a range and its ends, each once.
@@ -149,9 +169,11 @@ fn middle_and_ends(alloc: Global, least: u32, most: u32) -> Result<Vec<u32>, All
 }
 
 /// Adds a world to the known ones, or stops at it where the formula is false.
-fn try_known(place: &Place<'_>, pool: &mut Pool, world: World) -> Result<(), Stop> {
-    try_world(place, world)?;
-    pool.worlds.push(Known::new(place.alloc, world)?)?;
+fn meet(place: &Place<'_>, pool: &mut Pool, known: Known) -> Result<(), Stop> {
+    if let Some(world) = known.world() {
+        try_world(place, world)?;
+    }
+    pool.worlds.push(known)?;
     Ok(())
 }
 
@@ -175,7 +197,12 @@ pub fn count_of(rect: Rect) -> u64 {
 
 /// The node of a path, of which worlds are known, within a rectangle.
 #[cycle(nodes)]
-pub fn explore(place: &mut Place<'_>, pool: Pool, rect: Rect, depth: u32) -> Result<CertNode, Stop>
+pub fn explore(
+    place: &mut Place<'_>,
+    pool: &mut Pool,
+    rect: Rect,
+    depth: u32,
+) -> Result<CertNode, Stop>
     ensures falls { place.new.turns ≤ place.old.turns }
 {
     let Some(turns) = place.turns.checked_sub(1) else {
@@ -185,24 +212,30 @@ pub fn explore(place: &mut Place<'_>, pool: Pool, rect: Rect, depth: u32) -> Res
     if count_of(rect) <= GRID {
         return grid(place, rect);
     }
-    let (outcome, pool) = laid_out(place, pool)?;
-    match outcome {
+    match laid_out(place, pool)? {
         Outcome::True(answers) => Ok(CertNode::Leaf(answers)),
-        Outcome::False => Err(untrue(&pool)),
+        Outcome::False => Err(untrue(pool)),
         Outcome::TooLarge => halve(place, pool, rect, depth),
         Outcome::Open(opening) => open(place, pool, rect, depth, opening),
     }
 }
 
-/// Lays out the page over all worlds of a path, and gives back the known worlds.
-fn laid_out(place: &mut Place<'_>, pool: Pool) -> Result<(Outcome, Pool), Mem>
+/// Lays out the page over all worlds of a path.
+fn laid_out(place: &mut Place<'_>, pool: &mut Pool) -> Result<Outcome, Mem>
     ensures { place.new.turns ≡ place.old.turns }
 {
-    let found = std::mem::replace(&mut place.found, Vec::new(place.alloc));
+    let variables = variable_count(&place.path)?;
     let named = place.named.as_slice();
-    let ended = run(place.alloc, place.job, &place.path, named, pool, found)?;
-    place.found = ended.found;
-    Ok((ended.outcome, ended.pool))
+    let outcome = run(
+        place.alloc,
+        place.job,
+        &place.path,
+        named,
+        pool,
+        &mut place.found,
+    );
+    pool.forget(variables as usize);
+    outcome
 }
 
 /// The formula is false at each of these worlds.
@@ -229,16 +262,27 @@ fn grid(place: &Place<'_>, rect: Rect) -> Result<CertNode, Stop> {
 /// Whether a world is on the path.
 fn is_on_path(place: &Place<'_>, world: World) -> Result<bool, Stop> {
     let mut known = Known::new(place.alloc, world)?;
-    for number in 0..place.path.floors.len() {
-        if let Some(floor) = place.path.floors.get(number) {
+    add_floors(&place.path, &mut known)?;
+    meets_facts(&place.path, known.values.as_slice())
+}
+
+/// Adds the values of the floors of a path at a world.
+fn add_floors(path: &Path, known: &mut Known) -> Result<(), Stop> {
+    for number in 0..path.floors.len() {
+        if let Some(floor) = path.floors.get(number) {
             match floor_of(&floor.row, floor.by, known.values.as_slice()) {
                 Some(value) => known.values.push(value)?,
                 None => return Err(Stop::GaveUp),
             }
         }
     }
-    for fact in &place.path.facts {
-        match value_of(fact, known.values.as_slice()) {
+    Ok(())
+}
+
+/// Whether the facts of a path hold at values of its variables.
+fn meets_facts(path: &Path, values: &[i128]) -> Result<bool, Stop> {
+    for fact in &path.facts {
+        match value_of(fact, values) {
             Some(value) if value < 0 => return Ok(false),
             Some(_) => {}
             None => return Err(Stop::GaveUp),
@@ -251,7 +295,7 @@ fn is_on_path(place: &Place<'_>, world: World) -> Result<bool, Stop> {
 #[cycle(nodes)]
 fn open(
     place: &mut Place<'_>,
-    pool: Pool,
+    pool: &mut Pool,
     rect: Rect,
     depth: u32,
     opening: Opening,
@@ -259,28 +303,24 @@ fn open(
     ensures falls { place.new.turns ≤ place.old.turns }
 {
     let Opening { floors, row, point } = opening;
-    let mut pool = pool;
     if let Some(known) = point {
-        if let Some(world) = known.world() {
-            try_world(place, world)?;
-        }
-        pool.worlds.push(known)?;
+        meet(place, pool, known)?;
     }
-    let Ok(count) = u32::try_from(floors.len()) else {
-        return Err(Stop::GaveUp);
-    };
-    match depth.saturating_sub(HALVINGS).checked_sub(count) {
-        Some(left) if left > 0 => {
-            let row = cut_once(place.alloc, row)?;
-            define(place, pool, rect, depth, floors, row)
-        }
-        _ => halve(place, pool, rect, depth),
+    if has_room(depth, floors.as_slice()) {
+        define(place, pool, rect, depth, floors, &row)
+    } else {
+        halve(place, pool, rect, depth)
     }
+}
+
+/// Whether a split may stand below the definitions of floors.
+fn has_room(depth: u32, floors: &[Floor]) -> bool {
+    (depth.saturating_sub(HALVINGS) as usize) > floors.len()
 }
 
 /// The same row where it is no row of the width or the size alone; else one with the coefficient 1 or -1 and the same
 /// signs.
-fn cut_once(alloc: Global, row: Row) -> Result<Row, Stop> {
+fn cut_once(alloc: Global, row: &Row) -> Result<Row, Stop> {
     let unit = match row.terms.as_slice() {
         [term] => match axis_of(term.0) {
             Some(axis) => unit_row(alloc, row.k, axis, term.1)?,
@@ -290,7 +330,7 @@ fn cut_once(alloc: Global, row: Row) -> Result<Row, Stop> {
     };
     match unit {
         Some(unit) => Ok(unit),
-        None => Ok(row),
+        None => Ok(row.clone()?),
     }
 }
 
@@ -318,11 +358,11 @@ fn unit_row(
 
 /// The node of a path within a rectangle by its halves on the longer side.
 #[cycle(nodes)]
-fn halve(place: &mut Place<'_>, pool: Pool, rect: Rect, depth: u32) -> Result<CertNode, Stop>
+fn halve(place: &mut Place<'_>, pool: &mut Pool, rect: Rect, depth: u32) -> Result<CertNode, Stop>
     ensures falls { place.new.turns ≤ place.old.turns }
 {
     let row = halving(place.alloc, rect)?;
-    split(place, pool, rect, depth, row)
+    split(place, pool, rect, depth, &row)
 }
 
 /// That a world is in the first half of a rectangle on the longer side.
@@ -341,63 +381,76 @@ pub fn halving(alloc: Global, rect: Rect) -> Result<Row, AllocError> {
 #[cycle(nodes)]
 fn define(
     place: &mut Place<'_>,
-    pool: Pool,
+    pool: &mut Pool,
     rect: Rect,
     depth: u32,
     floors: Vec<Floor>,
-    row: Row,
+    row: &Row,
+) -> Result<CertNode, Stop>
+    ensures falls { place.new.turns ≤ place.old.turns }
+{
+    let node = below_floors(place, pool, rect, depth, floors.as_slice(), row)?;
+    Ok(defined(place.alloc, floors, node)?)
+}
+
+/// The node below the definitions of floors, which is split by a row.
+#[cycle(nodes)]
+fn below_floors(
+    place: &mut Place<'_>,
+    pool: &mut Pool,
+    rect: Rect,
+    depth: u32,
+    floors: &[Floor],
+    row: &Row,
 ) -> Result<CertNode, Stop>
     ensures falls { place.new.turns ≤ place.old.turns }
 {
     let facts = place.path.facts.len();
     let named = place.path.floors.len();
-    let mut pool = pool;
-    let mut defs = Vec::new(place.alloc);
     let mut below = depth;
     for floor in floors {
-        defs.push((floor.row.clone()?, floor.by))?;
-        name(place, &mut pool, floor)?;
+        name(place, pool, floor)?;
         below = below.saturating_sub(1);
     }
-    let node = split(place, pool, rect, below, row)?;
+    let row = cut_once(place.alloc, row)?;
+    let node = split(place, pool, rect, below, &row);
     leave(place, facts, named);
-    Ok(defined(place.alloc, defs, node)?)
+    node
 }
 
-/// A node below the definitions of floors, each a row and what it is divided by.
-fn defined(alloc: Global, defs: Vec<(Row, i128)>, node: CertNode) -> Result<CertNode, Mem> {
+/// A node below the definitions of floors.
+fn defined(alloc: Global, floors: Vec<Floor>, node: CertNode) -> Result<CertNode, Mem> {
     let mut whole = node;
-    for (row, by) in defs.into_iter().rev() {
-        whole = below_def(alloc, row, by, whole)?;
+    for floor in floors.into_iter().rev() {
+        whole = below_def(alloc, floor, whole)?;
     }
     Ok(whole)
 }
 
-fn below_def(alloc: Global, row: Row, by: i128, node: CertNode) -> Result<CertNode, Mem> {
+fn below_def(alloc: Global, floor: Floor, node: CertNode) -> Result<CertNode, Mem> {
+    let Floor { row, by } = floor;
     let node = Boxed::new(alloc, node)?;
     let row = Boxed::new(alloc, row)?;
     Ok(CertNode::Def(row, Boxed::new(alloc, by)?, node))
 }
 
 /// Names a floor on the path.
-fn name(place: &mut Place<'_>, pool: &mut Pool, floor: Floor) -> Result<(), Stop>
+fn name(place: &mut Place<'_>, pool: &mut Pool, floor: &Floor) -> Result<(), Stop>
     ensures { place.new.turns ≡ place.old.turns }
 {
-    if floor.by <= 0 || place.path.floors.place_of(&floor).is_some() {
+    if floor.by <= 0 || place.path.floors.place_of(floor).is_some() {
         return Err(Stop::GaveUp);
     }
-    let Ok(variable) = u32::try_from(place.path.floors.len().saturating_add(AXIS_COUNT as usize))
-    else {
-        return Err(Stop::GaveUp);
-    };
     if !pool.name(&floor.row, floor.by)? {
         return Err(Stop::GaveUp);
     }
     let Ok(fact) = u32::try_from(place.path.facts.len()) else {
         return Err(Stop::GaveUp);
     };
+    let variable = variable_count(&place.path)?;
     place.named.push(fact)?;
-    place.path.define(floor, variable)?;
+    let row = floor.row.clone()?;
+    place.path.define(Floor { row, by: floor.by }, variable)?;
     Ok(())
 }
 
@@ -413,31 +466,68 @@ pub fn leave(place: &mut Place<'_>, facts: usize, floors: usize)
 #[cycle(nodes)]
 fn split(
     place: &mut Place<'_>,
-    pool: Pool,
+    pool: &mut Pool,
     rect: Rect,
     depth: u32,
-    row: Row,
+    row: &Row,
 ) -> Result<CertNode, Stop>
     ensures falls { place.new.turns ≤ place.old.turns }
 {
     let Some(depth) = depth.checked_sub(1) else {
         return Err(Stop::GaveUp);
     };
+    let (mut first, mut second) = pool.parted(place.alloc, row)?;
+    let first = branch(place, &mut first, Child::First, rect, depth, row)?;
+    let second = branch(place, &mut second, Child::Second, rect, depth, row)?;
+    split_by(place.alloc, row, first, second)
+}
+
+/// The node of one side of a split, with the path as it was before.
+#[cycle(nodes)]
+fn branch(
+    place: &mut Place<'_>,
+    pool: &mut Pool,
+    child: Child,
+    rect: Rect,
+    depth: u32,
+    row: &Row,
+) -> Result<Boxed<CertNode>, Stop>
+    ensures falls { place.new.turns ≤ place.old.turns }
+{
     let facts = place.path.facts.len();
     let named = place.path.floors.len();
     let known = place.found.len();
-    let (first_pool, second_pool) = pool.parted(place.alloc, &row)?;
-    place.path.enter_first(&row)?;
-    let first = side(place, first_pool, part(&row, Child::First, rect), depth);
-    let first = boxed(place.alloc, first)?;
+    enter(place, child, row)?;
+    let node = side(place, pool, part(row, child, rect), depth);
     leave(place, facts, named);
     place.found.truncate(known);
-    place.path.enter_second(&row)?;
-    let second = side(place, second_pool, part(&row, Child::Second, rect), depth);
-    let second = boxed(place.alloc, second)?;
-    leave(place, facts, named);
-    place.found.truncate(known);
-    let row = Boxed::new(place.alloc, row)?;
+    boxed(place.alloc, node)
+}
+
+/// Goes to a child of a split.
+pub fn enter(place: &mut Place<'_>, child: Child, row: &Row) -> Result<(), Stop>
+    ensures { place.new.turns ≡ place.old.turns }
+{
+    match child {
+        Child::First => place.path.enter_first(row)?,
+        Child::Second => place.path.enter_second(row)?,
+    }
+    Ok(())
+}
+
+/// A node that was found, in a box.
+pub fn boxed(alloc: Global, node: Result<CertNode, Stop>) -> Result<Boxed<CertNode>, Stop> {
+    Ok(Boxed::new(alloc, node?)?)
+}
+
+/// The split by a row whose sides have these nodes.
+pub fn split_by(
+    alloc: Global,
+    row: &Row,
+    first: Boxed<CertNode>,
+    second: Boxed<CertNode>,
+) -> Result<CertNode, Stop> {
+    let row = Boxed::new(alloc, row.clone()?)?;
     Ok(CertNode::Split(row, first, second))
 }
 
@@ -451,31 +541,36 @@ pub fn part(row: &Row, child: Child, rect: Rect) -> Option<Rect> {
 
 /// The node of one side of a split.
 #[cycle(nodes)]
-fn side(place: &mut Place<'_>, pool: Pool, rect: Option<Rect>, depth: u32) -> Result<CertNode, Stop>
+fn side(
+    place: &mut Place<'_>,
+    pool: &mut Pool,
+    rect: Option<Rect>,
+    depth: u32,
+) -> Result<CertNode, Stop>
     ensures falls { place.new.turns ≤ place.old.turns }
 {
-    let mut pool = pool;
-    if pool.worlds.is_empty() {
-        let variables = place.path.floors.len().saturating_add(AXIS_COUNT as usize);
-        let Ok(variables) = u32::try_from(variables) else {
-            return Err(Stop::GaveUp);
-        };
-        match refute(place.alloc, place.path.facts.as_slice(), variables, LIMIT)? {
-            Search::Found(why) => return Ok(CertNode::Void(Boxed::new(place.alloc, why)?)),
-            Search::Point(values) => {
-                let known = Known {
-                    values: values.into_vec(),
-                };
-                if let Some(world) = known.world() {
-                    try_world(place, world)?;
-                }
-                pool.worlds.push(known)?;
-            }
-            Search::GaveUp => return Err(Stop::GaveUp),
-        }
+    if let Some(why) = emptiness(place, pool)? {
+        return Ok(CertNode::Void(Boxed::new(place.alloc, why)?));
     }
     match rect {
         Some(rect) => explore(place, pool, rect, depth),
         None => Err(Stop::GaveUp),
+    }
+}
+
+/// Why a path has no worlds. None where one is known, or is found, and known from then on.
+fn emptiness(place: &Place<'_>, pool: &mut Pool) -> Result<Option<Derivation>, Stop> {
+    if !pool.worlds.is_empty() {
+        return Ok(None);
+    }
+    let variables = variable_count(&place.path)?;
+    match refute(place.alloc, place.path.facts.as_slice(), variables, LIMIT)? {
+        Search::Found(why) => Ok(Some(why)),
+        Search::Point(values) => {
+            let values = values.into_vec();
+            meet(place, pool, Known { values })?;
+            Ok(None)
+        }
+        Search::GaveUp => Err(Stop::GaveUp),
     }
 }
