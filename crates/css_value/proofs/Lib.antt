@@ -1,3 +1,4 @@
 pub mod FamilyLemmas
 pub mod PartLemmas
 pub mod GrammarLemmas
+pub mod SideLemmas

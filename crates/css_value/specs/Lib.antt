@@ -5,3 +5,4 @@ pub mod Refusals
 pub mod Rows
 pub mod Grammars
 pub mod Initials
+pub mod Sides

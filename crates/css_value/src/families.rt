@@ -1,6 +1,6 @@
-ghost use Rattle.std.specs.Prelude.{◌≡◌, ◌∷◌, List as Seq, IfOk};
+ghost use Rattle.std.specs.Prelude.{◌≡◌, ◌∷◌, ◌++◌, List as Seq, IfOk};
 ghost use Rattle.css_semantics.specs.declared.parts.Part.{Part};
-ghost use Rattle.css_semantics.specs.Values.{families};
+ghost use Rattle.css_semantics.specs.Values.{families, family_from};
 ghost use Rattle.css_value.specs.Families.{names_after, names_from, with_front};
 
 use css_semantics::Part;
@@ -42,8 +42,49 @@ pub fn families(alloc: Global, parts: &[Part]) -> Result<Option<List<Text>>, Mem
     }
 }
 
-/// Goes past a part, if it may stand there.
+/// What a part is that stands at the beginning or behind a comma.
 #[tactic(auto, using(crate::proofs::FamilyLemmas::with_front_push))]
+fn after_comma(alloc: Global, names: &mut List<Text>, part: &Part) -> Result<Option<Before>, Mem>
+    ensures { IfOk result (λ after. (ps : Seq Part)
+        → with_front names.old (families (part.now ∷ ps)) ≡ names_after names.new after ps) }
+{
+    match part {
+        Part::Quoted(name) => {
+            names.push(Text::from_text(alloc, name.as_str())?)?;
+            Ok(Some(Before::Name))
+        }
+        Part::Word(word) => Ok(Some(Before::Words(Text::from_text(alloc, word.as_str())?))),
+        _ => Ok(None),
+    }
+}
+
+/// The name and one more of its identifiers.
+fn joined(name: Text, word: &str) -> Result<Text, Mem>
+    ensures { IfOk result (λ whole. whole ≡ name ++ 32 ∷ word.now) }
+{
+    let mut name = name;
+    name.push(' ')?;
+    name.push_str(word)?;
+    Ok(name)
+}
+
+/// What a part is that stands behind identifiers of a name.
+#[tactic(auto, using(crate::proofs::FamilyLemmas::with_front_push))]
+fn after_words(names: &mut List<Text>, name: Text, part: &Part) -> Result<Option<Before>, Mem>
+    ensures { IfOk result (λ after. (ps : Seq Part)
+        → with_front names.old (family_from name (part.now ∷ ps)) ≡ names_after names.new after ps) }
+{
+    match part {
+        Part::Comma => {
+            names.push(name)?;
+            Ok(Some(Before::Comma))
+        }
+        Part::Word(word) => Ok(Some(Before::Words(joined(name, word.as_str())?))),
+        _ => Ok(None),
+    }
+}
+
+/// Goes past a part, if it may stand there.
 fn next(
     alloc: Global,
     names: &mut List<Text>,
@@ -53,24 +94,12 @@ fn next(
     ensures { IfOk result (λ after. (ps : Seq Part)
         → with_front names.old (names_from before (part.now ∷ ps)) ≡ names_after names.new after ps) }
 {
-    match (before, part) {
-        (Before::Comma, Part::Quoted(name)) => {
-            names.push(Text::from_text(alloc, name.as_str())?)?;
-            Ok(Some(Before::Name))
-        }
-        (Before::Comma, Part::Word(word)) => {
-            Ok(Some(Before::Words(Text::from_text(alloc, word.as_str())?)))
-        }
-        (Before::Name, Part::Comma) => Ok(Some(Before::Comma)),
-        (Before::Words(name), Part::Comma) => {
-            names.push(name)?;
-            Ok(Some(Before::Comma))
-        }
-        (Before::Words(mut name), Part::Word(word)) => {
-            name.push(' ')?;
-            name.push_str(word.as_str())?;
-            Ok(Some(Before::Words(name)))
-        }
-        _ => Ok(None),
+    match before {
+        Before::Comma => after_comma(alloc, names, part),
+        Before::Name => match part {
+            Part::Comma => Ok(Some(Before::Comma)),
+            _ => Ok(None),
+        },
+        Before::Words(name) => after_words(names, name, part),
     }
 }

@@ -1,8 +1,9 @@
 ghost use Rattle.std.specs.Prelude.{◌≡◌, [], ◌∷◌, ◌++◌, OnOk, IfErr};
-ghost use Rattle.css_semantics.specs.Values.{part_value, setting};
+ghost use Rattle.css_semantics.specs.Values.{setting};
 ghost use Rattle.css_semantics.specs.Shorthands.{four, inherited, sides, spread};
 ghost use Rattle.viz_base.specs.Answers.{Gives};
 ghost use Rattle.css_value.specs.Faults.{refusal_of};
+ghost use Rattle.css_value.specs.Sides.{with_four, with_part};
 ghost use Rattle.css_value.specs.declared.fault.ValueFault.TheVariants.{Mem};
 
 use crate::fault::ValueFault;
@@ -31,7 +32,34 @@ pub fn inherit(settings: &mut List<Setting>, props: &[Prop]) -> Result<(), Value
     Ok(())
 }
 
+/// Adds the setting of a property from a part.
+fn set_part(settings: &mut List<Setting>, prop: Prop, part: &Part) -> Result<(), ValueFault>
+    ensures { Gives (λ _. settings.new) refusal_of result (with_part settings.old prop part.now) }
+{
+    let value = part_value(prop, part)?;
+    set(settings, prop, value)
+}
+
+/// Adds the settings of the sides from a part for each.
+fn set_four(
+    settings: &mut List<Setting>,
+    sides: Sides<Prop>,
+    top: &Part,
+    right: &Part,
+    bottom: &Part,
+    left: &Part,
+) -> Result<(), ValueFault>
+    ensures { Gives (λ _. settings.new) refusal_of result
+        (with_four settings.old sides (record { top = top.now; right = right.now; bottom = bottom.now; left = left.now })) }
+{
+    set_part(settings, sides.top, top)?;
+    set_part(settings, sides.right, right)?;
+    set_part(settings, sides.bottom, bottom)?;
+    set_part(settings, sides.left, left)
+}
+
 /// The settings of the sides from a part for each.
+#[tactic(auto, using(crate::proofs::SideLemmas::with_four_alone))]
 fn four(
     alloc: Global,
     sides: Sides<Prop>,
@@ -43,15 +71,8 @@ fn four(
     ensures { Gives (λ x. x) refusal_of result
         (four sides (record { top = top.now; right = right.now; bottom = bottom.now; left = left.now })) }
 {
-    let top = part_value(sides.top, top)?;
-    let right = part_value(sides.right, right)?;
-    let bottom = part_value(sides.bottom, bottom)?;
-    let left = part_value(sides.left, left)?;
     let mut settings = List::new(alloc);
-    set(&mut settings, sides.top, top)?;
-    set(&mut settings, sides.right, right)?;
-    set(&mut settings, sides.bottom, bottom)?;
-    set(&mut settings, sides.left, left)?;
+    set_four(&mut settings, sides, top, right, bottom, left)?;
     Ok(settings)
 }
 
