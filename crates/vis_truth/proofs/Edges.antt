@@ -12,7 +12,7 @@ use Rattle.viz_base.specs.declared.renderings.Rendering.{Rendering}
 use Rattle.viz_calc.specs.World.{Reading}
 use Rattle.viz_calc.specs.Renderings.{placed_at, quad_at}
 use Rattle.logic_semantics.specs.Scenes.{named, box_at}
-use Rattle.logic_semantics.specs.Terms.{ring_of, face_of, edge_value}
+use Rattle.logic_semantics.specs.Terms.{ring_of, face_of, edge_value, boxes_overlap}
 use Rattle.vis_truth.specs.Scenes.{scene_at}
 
 box_at-map : {M N : Type 0} (f : Placed M → Placed N) (boxes : List (Placed M)) (place : Option ℕ) → box_at (map f boxes) place ≡ option_map f (box_at boxes place)
@@ -47,3 +47,12 @@ pub edge-none : {N : Type 0} (at : N → Reading → ℤ) (r : Rendering N) (hei
     → None ≡ named r.boxes names name → edge_value (scene_at at r height e) names (of_edge.Name name ring face) ≡ pos 0
 edge-none at r height e names name ring face is =
     ap (λ (o : Option (Placed ℤ)). option_map_or (λ b. face_of face (ring_of ring b)) o (pos 0)) (named-map (λ p. placed_at at p e) r.boxes names name ∙ ap (option_map (λ p. placed_at at p e)) (sym is))
+
+-- whether two boxes overlap, by what their names stand for
+pub overlap-named : {N : Type 0} (at : N → Reading → ℤ) (r : Rendering N) (e : Reading) (names : List ℕ) (a b : ℕ) (x y : Option (Placed N))
+    → x ≡ named r.boxes names a → y ≡ named r.boxes names b
+    → boxes_overlap (option_map (λ p. placed_at at p e) x) (option_map (λ p. placed_at at p e) y) ≡ boxes_overlap (named (scene_at at r 0 e).boxes names a) (named (scene_at at r 0 e).boxes names b)
+overlap-named {N} at r e names a b x y p q =
+    let f = (λ (p : Placed N). placed_at at p e) in
+    ap (λ o. boxes_overlap o (option_map f y)) (ap (option_map f) p ∙ sym (named-map f r.boxes names a))
+    ∙ ap (boxes_overlap (named (map f r.boxes) names a)) (ap (option_map f) q ∙ sym (named-map f r.boxes names b))

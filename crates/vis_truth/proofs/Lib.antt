@@ -1,4 +1,5 @@
 pub mod Runs
+pub mod Parts
 pub mod Edges
 pub mod Witnesses
 pub mod Bounds

@@ -1,4 +1,4 @@
-ghost use Rattle.std.specs.Prelude.{fold, map, ◌≡◌, ◌*◌, ◌+ℤ◌, ◌*ℤ◌, ℤ, pos, ⊤, IsTrue, [], ◌∷◌, ◌++◌, Some, None};
+ghost use Rattle.std.specs.Prelude.{fold, map, ◌≡◌, ◌*◌, ◌+ℤ◌, ◌*ℤ◌, ℤ, pos, ⊤, IsTrue, ◌&&◌, [], ◌∷◌, ◌++◌, Some, None};
 ghost use Rattle.std.specs.Ordering.{int_eq};
 ghost use Rattle.std.specs.Int.RustNames.{int_lt, int_le};
 ghost use Rattle.std.specs.Option.{option_copied};
@@ -204,6 +204,22 @@ pub fn comparison<S: Steady>(
     compare(calc, &left, sign, &right)
 }
 
+/// Whether two spans overlap: each starts before the other ends.
+fn spans_overlap<S: Steady>(
+    calc: &mut S,
+    a_start: &S::Num,
+    a_end: &S::Num,
+    b_start: &S::Num,
+    b_end: &S::Num,
+) -> bool
+    ensures goes { Goes (S.run calc.old) (S.run calc.new) }
+    ensures value { (e : Reading) → IsTrue ((S.run calc.new).is_open e) → result
+        ≡ (int_lt (S.at a_start.now e) (S.at b_end.now e) && int_lt (S.at b_start.now e) (S.at a_end.now e)) }
+    ensures cause { Blames (S.run calc.old) (S.run calc.new) ⊤ }
+{
+    less(calc, a_start, b_end) && less(calc, b_start, a_end)
+}
+
 /// Whether two rectangles overlap.
 fn quads_overlap<S: Steady>(calc: &mut S, a: &Quad<S::Num>, b: &Quad<S::Num>) -> bool
     ensures goes { Goes (S.run calc.old) (S.run calc.new) }
@@ -211,10 +227,8 @@ fn quads_overlap<S: Steady>(calc: &mut S, a: &Quad<S::Num>, b: &Quad<S::Num>) ->
         → result ≡ do_overlap (quad_at S.at a.now e) (quad_at S.at b.now e) }
     ensures cause { Blames (S.run calc.old) (S.run calc.new) ⊤ }
 {
-    less(calc, &a.left, &b.right)
-        && less(calc, &b.left, &a.right)
-        && less(calc, &a.top, &b.bottom)
-        && less(calc, &b.top, &a.bottom)
+    spans_overlap(calc, &a.left, &a.right, &b.left, &b.right)
+        && spans_overlap(calc, &a.top, &a.bottom, &b.top, &b.bottom)
 }
 
 /// Whether the border rectangles of the boxes that two names stand for overlap.
