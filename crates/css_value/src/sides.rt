@@ -49,8 +49,8 @@ fn set_four(
     bottom: &Part,
     left: &Part,
 ) -> Result<(), ValueFault>
-    ensures { Gives (λ _. settings.new) refusal_of result
-        (with_four settings.old sides (record { top = top.now; right = right.now; bottom = bottom.now; left = left.now })) }
+    ensures { Gives (λ _. settings.new) refusal_of result (with_four settings.old sides
+        (record { top = top.now; right = right.now; bottom = bottom.now; left = left.now })) }
 {
     set_part(settings, sides.top, top)?;
     set_part(settings, sides.right, right)?;

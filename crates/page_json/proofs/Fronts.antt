@@ -10,6 +10,7 @@ use Rattle.viz_base.specs.declared.raw_jobs.Part.{Part}
 use Rattle.page_json.specs.Faults.{shaped_at}
 use Rattle.page_json.specs.declared.faults.JobFault.TheVariants.{Shape}
 use Rattle.page_json.specs.Values.{all_of, all_or_first, each_of, members_in}
+use Rattle.viz_base.proofs.ListLemmas.{drop_at}
 
 abbrev pub with_front : {A : Type 0} → List A → Option (List A) → Option (List A)
 with_front front rest = option_map (λ ys. front ++ ys) rest
@@ -17,9 +18,6 @@ with_front front rest = option_map (λ ys. front ++ ys) rest
 abbrev pub after : {A : Type 0} → List A → Result (List A) ℕ → Result (List A) ℕ
 after front (Ok ys) = Ok (front ++ ys)
 after front (Err place) = Err place
-
-pub drop_more : {V : Type 0} (vs : List V) (i : ℕ) (v : V) → i < length vs → v ≡ get_or vs i v → drop i vs ≡ v ∷ drop (i + 1) vs
-drop_more vs i v lt is = grind (arith, common_steps)
 
 front_one : {B : Type 0} (front : List B) (y : B) (rest : Option (List B)) → with_front (front ++ (y ∷ [])) rest ≡ with_front front (option_map (λ ys. y ∷ ys) rest)
 front_one front y None = refl
@@ -35,7 +33,7 @@ pub with_more : {A B V : Type 0} (view : V → A) (read : A → Option B) (vs : 
     → i < length vs → v ≡ get_or vs i v → read (view v) ≡ Some y → made ≡ front ++ (y ∷ [])
     → with_front front (all_of read (map view (drop i vs))) ≡ whole → with_front made (all_of read (map view (drop (i + 1) vs))) ≡ whole
 with_more view read vs i v y front made whole lt is e em h =
-    let from : drop i vs ≡ v ∷ drop (i + 1) vs = drop_more vs i v lt is in
+    let from : drop i vs ≡ v ∷ drop (i + 1) vs = drop_at vs i v lt is in
     ap (λ ys. with_front ys (all_of read (map view (drop (i + 1) vs)))) em
     ∙ (front_one front y (all_of read (map view (drop (i + 1) vs)))
     ∙ (ap (λ o. with_front front (option_and_then (λ x. option_map (λ xs. x ∷ xs) (all_of read (map view (drop (i + 1) vs)))) o)) (sym e)
@@ -45,7 +43,7 @@ pub after_more : {A B V : Type 0} (view : V → A) (read : A → Option B) (vs :
     → i < length vs → v ≡ get_or vs i v → read (view v) ≡ Some y → made ≡ front ++ (y ∷ [])
     → after front (each_of read i (map view (drop i vs))) ≡ whole → after made (each_of read (i + 1) (map view (drop (i + 1) vs))) ≡ whole
 after_more view read vs i v y front made whole lt is e em h =
-    let from : drop i vs ≡ v ∷ drop (i + 1) vs = drop_more vs i v lt is in
+    let from : drop i vs ≡ v ∷ drop (i + 1) vs = drop_at vs i v lt is in
     ap (λ ys. after ys (each_of read (i + 1) (map view (drop (i + 1) vs)))) em
     ∙ (after_one front y i (each_of read (i + 1) (map view (drop (i + 1) vs)))
     ∙ (ap (λ o. after front (all_or_first i o (each_of read (i + 1) (map view (drop (i + 1) vs))))) (sym e)
@@ -55,7 +53,7 @@ after_more view read vs i v y front made whole lt is e em h =
 pub after_none : {A B V : Type 0} (view : V → A) (read : A → Option B) (vs : List V) (i : ℕ) (v : V) (front : List B) (whole : Result (List B) ℕ)
     → i < length vs → v ≡ get_or vs i v → read (view v) ≡ None → after front (each_of read i (map view (drop i vs))) ≡ whole → whole ≡ Err i
 after_none view read vs i v front whole lt is e h =
-    let from : drop i vs ≡ v ∷ drop (i + 1) vs = drop_more vs i v lt is in
+    let from : drop i vs ≡ v ∷ drop (i + 1) vs = drop_at vs i v lt is in
     sym h ∙ (ap (λ us. after front (each_of read i (map view us))) from
     ∙ ap (λ o. after front (all_or_first i o (each_of read (i + 1) (map view (drop (i + 1) vs))))) e)
 
