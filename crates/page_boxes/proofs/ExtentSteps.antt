@@ -268,3 +268,27 @@ module _ (styles : List Style) (parents : List (Option ℕ)) (fonts : List Font)
       by_sort (inr own) =
           let same : 0 + text_extent styles parents fonts b ≡ text_extent styles parents fonts b = omega arith in
           subst (λ k. Alike (widths_in font (size_at (sizes_of styles parents) (Some b.node)) 0 (chars b.chars)) k) same (widths_alike b.node font font_is own (chars b.chars) 0 0 (Alike.same refl))
+
+-- ---- what a box has by itself, by whether it is an element's and has a style and a font
+
+module _ (sizes : List ℕ) (styles : List Style) (fonts : List Font) (b : BoxNode) where
+  abbrev with_font : Style → Option Font → ℕ
+  with_font s o = option_map_or (λ (font : Font). style_extent_in sizes s font b) o 0
+
+  abbrev with_style : Option Style → ℕ
+  with_style o = option_map_or (λ (s : Style). with_font s (slice_get fonts s.font)) o 0
+
+  abbrev if_element : Bool → ℕ
+  if_element t = if t then with_style (slice_get styles b.node) else 0
+
+  pub own_is : (s : Style) (font : Font) → is_of_element b.kind ≡ true → slice_get styles b.node ≡ Some s → slice_get fonts s.font ≡ Some font → style_extent_in sizes s font b ≡ own_in sizes styles fonts b
+  own_is s font k e f = sym (ap if_element k ∙ (ap with_style e ∙ ap (with_font s) f))
+
+  pub none_without_font : (s : Style) → is_of_element b.kind ≡ true → slice_get styles b.node ≡ Some s → slice_get fonts s.font ≡ None → 0 ≡ own_in sizes styles fonts b
+  none_without_font s k e f = sym (ap if_element k ∙ (ap with_style e ∙ ap (with_font s) f))
+
+  pub none_without_style : is_of_element b.kind ≡ true → slice_get styles b.node ≡ None → 0 ≡ own_in sizes styles fonts b
+  none_without_style k e = sym (ap if_element k ∙ ap with_style e)
+
+  pub none_of_others : is_of_element b.kind ≡ false → 0 ≡ own_in sizes styles fonts b
+  none_of_others k = sym (ap if_element k)

@@ -1,6 +1,6 @@
 -- What the parts of the code come to together.
 use Rattle.std.proofs.lemmas.List.{length-replicate, get_or-replicate, length-map}
-use Rattle.std.proofs.Common.{◌≡◌, ℕ, suc, ◌+◌, ◌<◌, ◌≤◌, nat_lt, Bool, true, false, List, [], ◌∷◌, map, length, replicate, get_or, Option, Some, None, Ok, Err, option_map, slice_get, refl, sym, ◌∙◌, ap, subst, arith, Contains}
+use Rattle.std.proofs.Common.{◌≡◌, ℕ, suc, ◌+◌, ◌<◌, ◌≤◌, nat_lt, Bool, true, false, List, [], ◌∷◌, map, length, replicate, get_or, Option, Some, None, Result, Ok, Err, option_map, slice_get, refl, sym, ◌∙◌, ap, subst, arith, Contains}
 use Rattle.std.proofs.lemmas.Option.{slice_get_within, slice_get-map, get_or_from_slice_get}
 use Rattle.viz_base.specs.Answers.{FailsWith}
 use Rattle.viz_base.specs.Pages.{IsPage}
@@ -22,7 +22,8 @@ use Rattle.layout_laws.proofs.Places.{node_of}
 use Rattle.layout_laws.proofs.PageParts.{from_page, page_rises}
 use Rattle.layout_laws.proofs.BoxFacts.{item_known}
 use Rattle.layout_laws.proofs.BoxLaws.{page_arranged}
-use Rattle.page_boxes.specs.Trees.{IfNamed, page_tree, unless_refused}
+use Rattle.page_boxes.specs.Trees.{AreAllowed, HasFewBoxes, IfNamed, page_tree, refusal_named, unless_refused}
+use Rattle.page_boxes.specs.declared.faults.BoxFault.{BoxFault}
 use Rattle.page_boxes.specs.steps.Leads.{ahead_of, leads_walk, with_blocks}
 use Rattle.page_boxes.specs.steps.Places.{count_walk, places_walk, with_all}
 use Rattle.page_boxes.specs.steps.Refusing.{block_in, inline_nodes}
@@ -207,3 +208,9 @@ module _ (nodes : List Node) (styles : List Style) (fonts : List Font) where
       ∙ (ap (λ us. far_of (sizes_walk [] parents 0 us) us fonts (page_boxes nodes styles)) q
       ∙ (ap (λ ps. far_of (sizes_walk [] ps 0 (tree_styles nodes styles)) (tree_styles nodes styles) fonts (page_boxes nodes styles)) s
       ∙ far_is (tree_styles nodes styles) (tree_parents nodes) fonts (page_boxes nodes styles) (page_known nodes styles fonts page styled b)))
+
+-- boxes that are few are allowed where nothing else refuses the page
+pub placed_allowed : (nodes : List Node) (styles : List Style) (result : Result (List BoxNode) BoxFault) → blocks_in_inlines (page_parts nodes styles) ≡ [] → right_to_left_letters (page_parts nodes styles) ≡ []
+    → HasFewBoxes (page_boxes nodes styles) result → AreAllowed nodes styles result
+placed_allowed nodes styles (Ok found) b l h = record { boxes = h.0; few = h.1; no_blocks = b; no_letters = l }
+placed_allowed nodes styles (Err fault) b l h = λ fonts. fails_many nodes styles fonts (refusal_named fault) b l h

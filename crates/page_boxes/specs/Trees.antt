@@ -1,13 +1,14 @@
 -- What `build_boxes` gives, and which refusal a fault names.
 use Rattle.std.specs.Prelude.{◌≡◌, ℕ, nat_lt, length, Bool, true, false, List, [], Option, Some, None, Result, Ok, Err}
+use Rattle.viz_base.specs.Answers.{FailsWith}
 use Rattle.viz_base.specs.declared.fonts.Font.{Font}
 use Rattle.viz_base.specs.declared.nodes.Node.{Node}
 use Rattle.viz_base.specs.declared.styles.Style.{Style}
 use Rattle.viz_base.specs.declared.trees.BoxNode.{BoxNode}
 use Rattle.viz_base.specs.declared.trees.BoxTree.{BoxTree}
-use Rattle.layout_semantics.specs.BoxTrees.{page_boxes, tree_parents, tree_styles}
+use Rattle.layout_semantics.specs.BoxTrees.{page_boxes, page_parts, tree_parents, tree_styles}
 use Rattle.layout_semantics.specs.Parts.{Part}
-use Rattle.layout_semantics.specs.Refusals.{BoxRefusal, first_refusal, page_refusal}
+use Rattle.layout_semantics.specs.Refusals.{BoxRefusal, blocks_in_inlines, first_refusal, page_refusal, right_to_left_letters}
 use Rattle.page_boxes.specs.declared.faults.BoxFault.{BoxFault}
 use Rattle.page_boxes.specs.declared.faults.BoxFault.TheVariants as of_fault
 
@@ -61,3 +62,16 @@ HasFewBoxes boxes (Ok found) = (found ≡ boxes) × (nat_lt 16384 (length boxes)
 HasFewBoxes boxes (Err fault) =
     IfNamed (refusal_named fault)
     (λ refusal. (refusal ≡ BoxRefusal.too_many_boxes) × (nat_lt 16384 (length boxes) ≡ true))
+
+-- these are the boxes, and nothing but its reach can refuse the page
+pub record IsAllowed (nodes : List Node) (styles : List Style) (found : List BoxNode) : Type 0 where
+  pub boxes : found ≡ page_boxes nodes styles
+  pub few : nat_lt 16384 (length (page_boxes nodes styles)) ≡ false
+  pub no_blocks : blocks_in_inlines (page_parts nodes styles) ≡ []
+  pub no_letters : right_to_left_letters (page_parts nodes styles) ≡ []
+
+-- the boxes, or what the page is refused for whatever its fonts are
+abbrev pub AreAllowed : List Node → List Style → Result (List BoxNode) BoxFault → Type 0
+AreAllowed nodes styles (Ok found) = IsAllowed nodes styles found
+AreAllowed nodes styles (Err fault) =
+    (fonts : List Font) → FailsWith (refusal_named fault) (λ given. page_tree nodes styles fonts ≡ given)

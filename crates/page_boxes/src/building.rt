@@ -1,13 +1,13 @@
 //! The box tree of a page.
 ghost use Rattle.std.specs.Prelude.{◌≡◌, ◌<◌, ◌≤◌, ◌^◌, [], length, IfOk, MatchResult};
 ghost use Rattle.viz_base.specs.Answers.{Gives};
-ghost use Rattle.layout_semantics.specs.BoxTrees.{page_boxes, page_parts};
+ghost use Rattle.layout_semantics.specs.BoxTrees.{page_boxes, page_parts, tree_styles};
 ghost use Rattle.layout_semantics.specs.Parts.{shown_parts};
 ghost use Rattle.layout_semantics.specs.Refusals.{blocks_in_inlines, right_to_left_letters};
 ghost use Rattle.layout_semantics.specs.WhiteSpace.{collapsed};
 ghost use Rattle.layout_laws.specs.Styled.{AreStylesOf};
 ghost use Rattle.page_boxes.specs.Seen.{all_seen};
-ghost use Rattle.page_boxes.specs.Trees.{HasFewBoxes, IsJudged, lists_of, page_tree, refusal_named};
+ghost use Rattle.page_boxes.specs.Trees.{AreAllowed, HasFewBoxes, IsJudged, lists_of, page_tree, refusal_named};
 
 use crate::copies::{copy_fonts, parents_of};
 use crate::faults::BoxFault;
@@ -69,6 +69,25 @@ fn placed(
     Ok(boxes_of(alloc, parts, &leads, nodes)?)
 }
 
+/// The boxes of a page with the styles of its tree, unless it is refused for a box, a character, or their number.
+fn allowed_boxes(
+    alloc: Global,
+    page: &Page,
+    styles: &List<Style>,
+    used: &List<Style>,
+) -> Result<List<BoxNode>, BoxFault>
+    requires few { length page.now.nodes < 2 ^ 32 }
+    requires styled { length styles.now ≡ length page.now.nodes }
+    requires used { used.now ≡ tree_styles page.now.nodes styles.now }
+    ensures { AreAllowed page.now.nodes styles.now result }
+{
+    let parts = parts_of(alloc, page, used)?;
+    match judge(alloc, page, used, &parts) {
+        Ok(()) => placed(alloc, page, styles, &parts),
+        Err(fault) => Err(fault),
+    }
+}
+
 /// The box tree of a page with these styles and fonts (CSS 2.1, 9.2).
 ///
 /// `BlockInInline` for the first block-level box in normal flow that is directly in an inline box, `RightToLeft` for
@@ -88,9 +107,7 @@ pub fn build_boxes(
         return Err(BoxFault::Mem);
     }
     let used = tree_styles(alloc, page, styles)?;
-    let parts = parts_of(alloc, page, &used)?;
-    judge(alloc, page, &used, &parts)?;
-    let boxes = placed(alloc, page, styles, &parts)?;
+    let boxes = allowed_boxes(alloc, page, styles, &used)?;
     let parents = parents_of(alloc, page.nodes.as_slice())?;
     if let Some(node) = beyond_reach(alloc, &boxes, &used, fonts, &parents)? {
         return Err(BoxFault::Reach(node));

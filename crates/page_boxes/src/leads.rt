@@ -71,6 +71,30 @@ fn is_ahead_at(ahead: &[bool], at: usize) -> bool
     ahead.get(at).copied().unwrap_or(false)
 }
 
+/// For each box the first node of the anonymous block box around it, by which nodes have blocks in them, and by which
+/// boxes have others ahead.
+fn leads_by(
+    alloc: Global,
+    parts: &[Part],
+    nodes: usize,
+    blocks: &[bool],
+    ahead: &[bool],
+) -> Result<Vec<Option<u32>>, AllocError>
+    ensures { IfOk result (λ leads. leads.items ≡ leads_walk (replicate nodes None) blocks.now ahead.now 0
+        (all_seen parts.now)) }
+{
+    let mut led = vec![in alloc; None; nodes]?;
+    let mut leads = Vec::new(alloc);
+    for (at, part) in parts.iter().enumerate() {
+        let has_blocks = held(blocks, part.parent, false);
+        let is_ahead = is_ahead_at(ahead, at);
+        let lead = lead_of(held(&led, part.parent, None), has_blocks, is_ahead, part);
+        put(&mut led, part.parent, lead);
+        leads.push(lead)?;
+    }
+    Ok(leads)
+}
+
 /// For each box the first node of the anonymous block box around it, if there is one.
 pub fn leads(alloc: Global, parts: &[Part], nodes: usize) -> Result<Vec<Option<u32>>, Mem>
     ensures { IfOk result (λ leads. leads.items ≡ leads_walk (replicate nodes None) (with_blocks
@@ -79,14 +103,5 @@ pub fn leads(alloc: Global, parts: &[Part], nodes: usize) -> Result<Vec<Option<u
 {
     let blocks = with_blocks(alloc, parts, nodes)?;
     let ahead = ahead_of(alloc, parts, nodes)?;
-    let mut led = vec![in alloc; None; nodes]?;
-    let mut leads = Vec::new(alloc);
-    for (at, part) in parts.iter().enumerate() {
-        let has_blocks = held(&blocks, part.parent, false);
-        let is_ahead = is_ahead_at(&ahead, at);
-        let lead = lead_of(held(&led, part.parent, None), has_blocks, is_ahead, part);
-        put(&mut led, part.parent, lead);
-        leads.push(lead)?;
-    }
-    Ok(leads)
+    Ok(leads_by(alloc, parts, nodes, &blocks, &ahead)?)
 }

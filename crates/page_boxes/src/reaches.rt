@@ -141,6 +141,24 @@ fn first_far(
     Ok(None)
 }
 
+/// The node of the first box with which the extents together pass 2^40 units, or whose reach does, where fonts have
+/// these sizes.
+fn far_within(
+    alloc: Global,
+    boxes: &[BoxNode],
+    styles: &[Style],
+    fonts: &[Font],
+    sizes: &[u64],
+) -> Result<Option<u32>, AllocError>
+    requires { AreCapped sizes.now }
+    ensures { IfOk result (λ node. node ≡ far_of sizes.now styles.now fonts.now boxes.now) }
+{
+    match total_of(alloc, boxes, styles, fonts, sizes)? {
+        Ok(total) => first_far(alloc, boxes, styles, fonts, sizes, total),
+        Err(node) => Ok(Some(node)),
+    }
+}
+
 /// The node of the first box with which the extents together pass 2^40 units; without one, of the first whose reach
 /// does.
 pub fn beyond_reach(
@@ -155,8 +173,5 @@ pub fn beyond_reach(
 {
     let (boxes, styles, fonts) = (boxes.as_slice(), styles.as_slice(), fonts.as_slice());
     let sizes = font_sizes(alloc, styles, parents.as_slice())?;
-    match total_of(alloc, boxes, styles, fonts, &sizes)? {
-        Ok(total) => Ok(first_far(alloc, boxes, styles, fonts, &sizes, total)?),
-        Err(node) => Ok(Some(node)),
-    }
+    Ok(far_within(alloc, boxes, styles, fonts, &sizes)?)
 }
