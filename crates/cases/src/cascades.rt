@@ -1,94 +1,121 @@
 use crate::faults::Fault;
-use crate::json::{list_at, listed};
-use crate::pages::page_at;
-use crate::values;
+use crate::pages::job_of;
+use crate::scribes::Scribe;
+use crate::values::setting;
 use css_cascade::{CascadeFault, cascade, default_sheet};
-use css_syntax::read_sheet;
+use css_syntax::{SheetFault, read_sheet};
 use serde_json::Value;
-use std::alloc::{AllocError, Global};
-use viz_base::{Cascaded, Page, Setting, Sheet, Source, Text};
+use viz_base::{Cascaded, List, Page, Prop, Setting, Sheet, Source, Text};
 
-fn winner(alloc: Global, node: usize, setting: &Setting) -> Result<String, AllocError> {
-    let value = values::value(alloc, &setting.value)?;
-    format!(in alloc; "[{node},\"{:?}\",{value}]", setting.prop)
-}
-
-fn push_winners(
-    alloc: Global,
-    found: &mut Vec<String>,
-    node: usize,
-    settings: &[Setting],
-) -> Result<(), AllocError> {
-    for setting in settings {
-        found.push(winner(alloc, node, setting)?)?;
+/// What wins at a node: node, property, value.
+fn tell_node(scribe: &mut Scribe, node: usize, settings: &[Setting]) {
+    for one in settings {
+        scribe.open();
+        scribe.number(node);
+        setting(scribe, one);
+        scribe.close();
     }
-    Ok(())
 }
 
-/// What wins: node, property, value.
-fn winners(alloc: Global, cascaded: &Cascaded) -> Result<String, AllocError> {
-    let mut found = Vec::new(alloc);
+/// What wins.
+fn tell(scribe: &mut Scribe, cascaded: &Cascaded) {
+    scribe.open();
     for (node, settings) in cascaded.winners.as_slice().iter().enumerate() {
-        push_winners(alloc, &mut found, node, settings.as_slice())?;
+        tell_node(scribe, node, settings.as_slice());
     }
-    listed(alloc, found.as_slice())
+    scribe.close();
 }
 
 /// Where a value stands.
-fn source(alloc: Global, source: Source) -> Result<String, Fault> {
-    Ok(match source {
-        Source::Default { at, len } => format!(in alloc; "Default {at} {len}")?,
-        Source::Author { sheet, at, len } => format!(in alloc; "Author {sheet} {at} {len}")?,
-        Source::Style { node, at, len } => format!(in alloc; "Style {node} {at} {len}")?,
-    })
+fn source(scribe: &mut Scribe, source: Source) {
+    match source {
+        Source::Default { at, len } => scribe.words("Default", &[at, len]),
+        Source::Author { sheet, at, len } => scribe.words("Author", &[sheet, at, len]),
+        Source::Style { node, at, len } => scribe.words("Style", &[node, at, len]),
+    }
+}
+
+/// A value that is refused: node, property, and where it stands.
+fn refused_value(scribe: &mut Scribe, node: u32, prop: Prop, place: Source) {
+    scribe.raw("\"");
+    scribe.words("Value", &[node]);
+    scribe.raw(" ");
+    scribe.debug(&prop);
+    scribe.raw(" ");
+    source(scribe, place);
+    scribe.raw("\"");
 }
 
 /// What refuses a page.
-fn refusal(alloc: Global, fault: CascadeFault) -> Result<String, Fault> {
+fn refusal(scribe: &mut Scribe, fault: &CascadeFault) {
     match fault {
-        CascadeFault::Selector(sheet, at) => Ok(format!(in alloc; "\"Selector {sheet} {at}\"")?),
-        CascadeFault::Value(node, prop, place) => {
-            let place = source(alloc, place)?;
-            Ok(format!(in alloc; "\"Value {node} {prop:?} {place}\"")?)
-        }
-        CascadeFault::Mem => Err(Fault::Mem),
+        CascadeFault::Selector(sheet, at) => scribe.refused("Selector", &[*sheet, *at]),
+        CascadeFault::Value(node, prop, place) => refused_value(scribe, *node, *prop, *place),
+        CascadeFault::Mem => scribe.fail(Fault::Mem),
     }
 }
 
-fn sheets(alloc: Global, texts: &[Text]) -> Result<Vec<Sheet>, Fault> {
-    let mut sheets = Vec::new(alloc);
-    for text in texts {
-        sheets.push(read_sheet(alloc, text.as_str()).map_err(|_| Fault::NoCase)?)?;
+impl From<SheetFault> for Fault {
+    fn from(fault: SheetFault) -> Self {
+        match fault {
+            SheetFault::Mem => Fault::Mem,
+            _ => Fault::NoCase,
+        }
     }
-    Ok(sheets)
+}
+
+fn sheets(scribe: &mut Scribe, texts: &[Text]) -> List<Sheet> {
+    let mut sheets = List::new(scribe.alloc());
+    for text in texts {
+        let sheet = read_sheet(scribe.alloc(), text.as_str());
+        if let Some(sheet) = scribe.kept(sheet) {
+            scribe.put(&mut sheets, sheet);
+        }
+    }
+    sheets
 }
 
 /// What wins on a page with these sheets, the default one first, or what refuses it.
-fn cascaded(alloc: Global, page: &Page, texts: &[Text]) -> Result<String, Fault> {
-    let sheets = sheets(alloc, texts)?;
+fn tell_cascaded(scribe: &mut Scribe, page: &Page, texts: &[Text], sheets: &[Sheet]) {
     if sheets.len() != texts.len() {
-        return Err(Fault::NoCase);
+        return scribe.fail(Fault::NoCase);
     }
-    match cascade(alloc, page, texts, sheets.as_slice()) {
-        Ok(cascaded) => Ok(winners(alloc, &cascaded)?),
-        Err(fault) => refusal(alloc, fault),
+    match cascade(scribe.alloc(), page, texts, sheets) {
+        Ok(cascaded) => tell(scribe, &cascaded),
+        Err(fault) => refusal(scribe, &fault),
+    }
+}
+
+/// Puts a text at the end of those of the sheets.
+fn put_text(scribe: &mut Scribe, texts: &mut List<Text>, text: &str) {
+    let text = Text::from_text(scribe.alloc(), text);
+    if let Some(text) = scribe.kept(text) {
+        scribe.put(texts, text);
     }
 }
 
 /// The texts of the sheets, the default one first.
-fn texts(alloc: Global, authors: &[Value]) -> Result<Vec<Text>, Fault> {
-    let mut texts = Vec::new(alloc);
-    texts.push(Text::from_text(alloc, default_sheet())?)?;
+fn texts(scribe: &mut Scribe, authors: &[Value]) -> List<Text> {
+    let mut texts = List::new(scribe.alloc());
+    put_text(scribe, &mut texts, default_sheet());
     for author in authors {
-        let author = author.as_str().ok_or(Fault::NoCase)?;
-        texts.push(Text::from_text(alloc, author)?)?;
+        let author = scribe.text(author);
+        put_text(scribe, &mut texts, author);
     }
-    Ok(texts)
+    texts
 }
 
 /// What wins at each node of a page with these sheets of an author.
-pub fn answer(alloc: Global, case: &Value) -> Result<String, Fault> {
-    let texts = texts(alloc, list_at(case, 2)?)?;
-    let page = page_at(alloc, case, 1)?;
-    cascaded(alloc, &page, texts.as_slice())
+fn tell_page(scribe: &mut Scribe, page: &Page, authors: &[Value]) {
+    let texts = texts(scribe, authors);
+    let sheets = sheets(scribe, texts.as_slice());
+    tell_cascaded(scribe, page, texts.as_slice(), sheets.as_slice());
+}
+
+/// What wins at each node of the page of a case with its sheets of an author.
+pub fn answer(scribe: &mut Scribe, case: &Value) {
+    if let Some(job) = job_of(scribe, case) {
+        let authors = scribe.list_at(case, 2);
+        tell_page(scribe, &job.page, authors);
+    }
 }

@@ -1,91 +1,120 @@
 use crate::faults::Fault;
-use crate::json::{at, list_at, number_at, text_at, wide_at};
 use crate::rows::row;
+use crate::scribes::Scribe;
 use lin_proof::{Branch, Derivation, Ending, Step, first_fault, line_count, refutes};
 use lin_row::Row;
 use serde_json::Value;
-use std::alloc::Global;
 use viz_base::{Boxed, List};
 
 /// The multiples of a sum, each a multiplier and a row's number.
-fn multiples(alloc: Global, values: &[Value]) -> Result<List<(i128, u32)>, Fault> {
-    let mut multiples = List::new(alloc);
-    for value in values {
-        multiples.push((wide_at(value, 0)?, number_at(value, 1)?))?;
+fn multiples(scribe: &mut Scribe, value: &Value) -> List<(i128, u32)> {
+    let mut multiples = List::new(scribe.alloc());
+    for one in scribe.list_at(value, 1) {
+        let times = scribe.wide_at(one, 0);
+        let number = scribe.number_at(one, 1);
+        scribe.put(&mut multiples, (times, number));
     }
-    Ok(multiples)
+    multiples
 }
 
 /// A step: its name, and what it takes.
-fn step(alloc: Global, value: &Value) -> Result<Step, Fault> {
-    match text_at(value, 0)? {
-        "fact" => Ok(Step::Fact(number_at(value, 1)?)),
-        "sum" => Ok(Step::Sum(multiples(alloc, list_at(value, 1)?)?)),
-        "cut" => Ok(Step::Cut(wide_at(value, 1)?, number_at(value, 2)?)),
-        _ => Err(Fault::NoCase),
+fn step(scribe: &mut Scribe, value: &Value) -> Step {
+    match scribe.text_at(value, 0) {
+        "fact" => Step::Fact(scribe.number_at(value, 1)),
+        "sum" => Step::Sum(multiples(scribe, value)),
+        "cut" => Step::Cut(scribe.wide_at(value, 1), scribe.number_at(value, 2)),
+        _ => {
+            scribe.fail(Fault::NoCase);
+            Step::Fact(0)
+        }
     }
 }
 
-fn steps(alloc: Global, values: &[Value]) -> Result<List<Step>, Fault> {
-    let mut steps = List::new(alloc);
-    for value in values {
-        steps.push(step(alloc, value)?)?;
+/// The steps of a part.
+fn steps(scribe: &mut Scribe, part: &Value) -> List<Step> {
+    let mut steps = List::new(scribe.alloc());
+    for value in scribe.list_at(part, 0) {
+        let step = step(scribe, value);
+        scribe.put(&mut steps, step);
     }
-    Ok(steps)
+    steps
 }
 
-/// The end of a derivation: none, or a row, whose two cases are the two latest derivations that were made.
-fn ending(alloc: Global, value: &Value, made: &mut Vec<Derivation>) -> Result<Ending, Fault> {
+/// The two cases of a row, which are the two latest derivations that were made.
+fn cases(scribe: &mut Scribe, value: &Value, made: &mut Vec<Derivation>) -> Option<Boxed<Branch>> {
+    let second = made.pop()?;
+    let (first, second) = made.pop().zip(Some(second))?;
+    let row = row(scribe, value);
+    let cases = Boxed::new(scribe.alloc(), Branch { row, first, second });
+    scribe.kept(cases)
+}
+
+/// The end of a part: none, or a row with its cases.
+fn ending(scribe: &mut Scribe, part: &Value, made: &mut Vec<Derivation>) -> Ending {
+    let value = scribe.at(part, 1);
     if value.is_null() {
-        return Ok(Ending::Closed);
+        return Ending::Closed;
     }
-    let second = made.pop().ok_or(Fault::NoCase)?;
-    let first = made.pop().ok_or(Fault::NoCase)?;
-    let row = row(alloc, value)?;
-    let branch = Branch { row, first, second };
-    Ok(Ending::Cases(Boxed::new(alloc, branch)?))
+    match cases(scribe, value, made) {
+        Some(cases) => Ending::Cases(cases),
+        None => {
+            scribe.fail(Fault::NoCase);
+            Ending::Closed
+        }
+    }
 }
 
-/// The derivation that parts make, a part before what it is a part of; each has its steps and its end.
-fn derivation(alloc: Global, parts: &[Value]) -> Result<Derivation, Fault> {
-    let mut made = Vec::new(alloc);
-    for part in parts {
-        let last = ending(alloc, at(part, 1)?, &mut made)?;
-        let steps = steps(alloc, list_at(part, 0)?)?;
-        made.push(Derivation { steps, last })?;
-    }
-    made.pop().ok_or(Fault::NoCase)
+/// Makes a part, behind those that were made.
+fn make(scribe: &mut Scribe, part: &Value, made: &mut Vec<Derivation>) {
+    let last = ending(scribe, part, made);
+    let steps = steps(scribe, part);
+    scribe.push(made, Derivation { steps, last });
 }
 
-fn rows(alloc: Global, values: &[Value]) -> Result<Vec<Row>, Fault> {
-    let mut rows = Vec::new(alloc);
-    for value in values {
-        rows.push(row(alloc, value)?)?;
+/// The derivation that the parts of a case make, a part before what it is a part of; each has its steps and its end.
+fn derivation(scribe: &mut Scribe, case: &Value) -> Option<Derivation> {
+    let mut made = Vec::new(scribe.alloc());
+    for part in scribe.list_at(case, 3) {
+        make(scribe, part, &mut made);
     }
-    Ok(rows)
+    made.pop()
 }
 
-/// Whether the derivation refutes the facts, and its first wrong line, or null.
-fn verdict(
-    alloc: Global,
-    facts: &[Row],
-    vars: u32,
-    derivation: &Derivation,
-) -> Result<String, Fault> {
-    let lines = line_count(derivation).ok_or(Fault::NoCase)?;
+/// The facts of a case.
+fn facts(scribe: &mut Scribe, case: &Value) -> List<Row> {
+    let mut facts = List::new(scribe.alloc());
+    for value in scribe.list_at(case, 1) {
+        let fact = row(scribe, value);
+        scribe.put(&mut facts, fact);
+    }
+    facts
+}
+
+/// What is said of a derivation over these facts and so many variables.
+fn judge(scribe: &mut Scribe, facts: &[Row], vars: u32, derivation: &Derivation) {
+    let lines = line_count(derivation).unwrap_or(u32::MAX);
     if facts.len() > 65536 || lines > 65536 {
-        return Err(Fault::NoCase);
+        return scribe.fail(Fault::NoCase);
     }
-    let yes = refutes(alloc, facts, vars, derivation)?;
-    match first_fault(alloc, facts, vars, derivation)? {
-        Some(line) => Ok(format!(in alloc; "[{yes},{line}]")?),
-        None => Ok(format!(in alloc; "[{yes},null]")?),
+    scribe.open();
+    match refutes(scribe.alloc(), facts, vars, derivation) {
+        Ok(yes) => scribe.truth(yes),
+        Err(fault) => scribe.fail(fault.into()),
     }
+    match first_fault(scribe.alloc(), facts, vars, derivation) {
+        Ok(Some(line)) => scribe.number(line),
+        Ok(None) => scribe.null(),
+        Err(fault) => scribe.fail(fault.into()),
+    }
+    scribe.close();
 }
 
-/// What is said of the derivation of a case, over its facts and so many variables.
-pub fn judged(alloc: Global, case: &Value) -> Result<String, Fault> {
-    let facts = rows(alloc, list_at(case, 1)?)?;
-    let derivation = derivation(alloc, list_at(case, 3)?)?;
-    verdict(alloc, facts.as_slice(), number_at(case, 2)?, &derivation)
+/// Whether the derivation of a case refutes its facts, and its first wrong line, or null.
+pub fn judged(scribe: &mut Scribe, case: &Value) {
+    let vars = scribe.number_at(case, 2);
+    let facts = facts(scribe, case);
+    match derivation(scribe, case) {
+        Some(derivation) => judge(scribe, facts.as_slice(), vars, &derivation),
+        None => scribe.fail(Fault::NoCase),
+    }
 }

@@ -7,7 +7,7 @@ use viz_base::Mem;
 use viz_calc::Halt;
 
 /// Why the table could not be run.
-#[derive(Debug, Drop, Error)]
+#[derive(Clone, Copy, Debug, Error)]
 pub enum Fault {
     /// Want of memory.
     #[error("out of memory")]

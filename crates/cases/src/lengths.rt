@@ -1,64 +1,61 @@
 use crate::faults::Fault;
-use crate::json::{at, integer_at, number_at, text_at, units_at};
 use crate::pages::count_of;
+use crate::scribes::Scribe;
 use lay_length::{ascent, descent, font_size, line_height, text_width, used};
 use serde_json::Value;
-use std::alloc::Global;
 use viz_base::{BoxTree, Length};
-use viz_calc::Plain;
+use viz_calc::{Halt, Plain};
 
 /// A length: its kind, and then its numbers.
-fn length(value: &Value) -> Result<Length, Fault> {
-    match text_at(value, 0)? {
-        "Auto" => Ok(Length::Auto),
-        "Px" => Ok(Length::Px(integer_at(value, 1)?)),
-        "Em" => Ok(Length::Em {
-            k: integer_at(value, 1)?,
-            node: number_at(value, 2)?,
-        }),
-        "Pct" => Ok(Length::Pct(integer_at(value, 1)?)),
-        _ => Err(Fault::NoCase),
+fn length(scribe: &mut Scribe, value: &Value) -> Length {
+    match scribe.text_at(value, 0) {
+        "Auto" => Length::Auto,
+        "Px" => Length::Px(scribe.integer_at(value, 1)),
+        "Em" => Length::Em {
+            k: scribe.integer_at(value, 1),
+            node: scribe.number_at(value, 2),
+        },
+        "Pct" => Length::Pct(scribe.integer_at(value, 1)),
+        _ => {
+            scribe.fail(Fault::NoCase);
+            Length::Auto
+        }
     }
 }
 
-/// What is used of a length, in a containing block of a width.
-pub fn used_text(
-    alloc: Global,
-    calc: &mut Plain,
-    tree: &BoxTree,
-    value: &Value,
-) -> Result<String, Fault> {
-    let length = length(at(value, 0)?)?;
-    let used = used(calc, tree, &length, &units_at(value, 1)?)?;
-    Ok(format!(in alloc; "{used}")?)
-}
-
-/// The font size, line height, ascent and descent of a node.
-pub fn font_text(
-    alloc: Global,
-    calc: &mut Plain,
-    tree: &BoxTree,
-    value: &Value,
-) -> Result<String, Fault> {
-    let node = number_at(value, 0)?;
-    let size = font_size(calc, tree, node)?;
-    let height = line_height(calc, tree, node)?;
-    let above = ascent(calc, tree, node)?;
-    let below = descent(calc, tree, node)?;
-    Ok(format!(in alloc; "[{size},{height},{above},{below}]")?)
-}
-
-/// The width, at a node, of a text as one word.
-pub fn word_text(
-    alloc: Global,
-    calc: &mut Plain,
-    tree: &BoxTree,
-    value: &Value,
-) -> Result<String, Fault> {
-    let text = text_at(value, 1)?;
-    if count_of(text) > 262_144 {
-        return Err(Fault::NoCase);
+fn tell(scribe: &mut Scribe, units: Result<i128, Halt>) {
+    match units {
+        Ok(units) => scribe.number(units),
+        Err(halt) => scribe.fail(halt.into()),
     }
-    let width = text_width(calc, tree, number_at(value, 0)?, text)?;
-    Ok(format!(in alloc; "{width}")?)
+}
+
+/// Tells what is used of a length, in a containing block of a width.
+pub fn tell_used(scribe: &mut Scribe, calc: &mut Plain, tree: &BoxTree, value: &Value) {
+    let length_at = scribe.at(value, 0);
+    let length = length(scribe, length_at);
+    let cb = scribe.units_at(value, 1);
+    tell(scribe, used(calc, tree, &length, &cb));
+}
+
+/// Tells the font size, line height, ascent and descent of a node.
+pub fn tell_fonts(scribe: &mut Scribe, calc: &mut Plain, tree: &BoxTree, value: &Value) {
+    let node = scribe.number_at(value, 0);
+    scribe.open();
+    tell(scribe, font_size(calc, tree, node));
+    tell(scribe, line_height(calc, tree, node));
+    tell(scribe, ascent(calc, tree, node));
+    tell(scribe, descent(calc, tree, node));
+    scribe.close();
+}
+
+/// Tells the width, at a node, of a text as one word.
+pub fn tell_word(scribe: &mut Scribe, calc: &mut Plain, tree: &BoxTree, value: &Value) {
+    let node = scribe.number_at(value, 0);
+    let text = scribe.text_at(value, 1);
+    if count_of(text) <= 262_144 {
+        tell(scribe, text_width(calc, tree, node, text));
+    } else {
+        scribe.fail(Fault::NoCase);
+    }
 }

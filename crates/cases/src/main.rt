@@ -7,7 +7,6 @@ mod derivations;
 mod faults;
 mod floats;
 mod formulas;
-mod json;
 mod leads;
 mod leaves;
 mod lengths;
@@ -16,6 +15,7 @@ mod margins;
 mod pages;
 mod replies;
 mod rows;
+mod scribes;
 mod selectors;
 mod sheets;
 mod styles;
@@ -26,60 +26,80 @@ mod values;
 mod widths;
 
 use crate::faults::Fault;
-use crate::json::text_at;
+use crate::scribes::Scribe;
 use serde_json::Value;
 use std::alloc::Global;
 use viz_base::read_decimal;
 
 /// The millionths of a number (CSS 2.1, 4.3.1), or null.
-fn decimal(alloc: Global, text: &str) -> Result<String, Fault> {
-    match read_decimal(text.as_bytes()) {
-        Some(millionths) => Ok(format!(in alloc; "{millionths}")?),
-        None => Ok(String::from_str(alloc, "null")?),
+fn decimal(scribe: &mut Scribe, case: &Value) {
+    match read_decimal(scribe.text_at(case, 1).as_bytes()) {
+        Some(millionths) => scribe.number(millionths),
+        None => scribe.null(),
     }
 }
 
-/// The answer to a case of layout, of rows, of derivations or of a leaf.
-fn answer_below(alloc: Global, name: &str, case: &Value) -> Result<String, Fault> {
+/// The answer to a case of rows, of derivations or of a leaf, or of a box tree.
+fn answer_row(scribe: &mut Scribe, name: &str, case: &Value) {
     match name {
-        "float_at" => floats::place(alloc, case),
-        "floats" => floats::place_all(alloc, case),
-        "band" => floats::band(alloc, case),
-        "bottom" => floats::bottom(alloc, case),
-        "collapsed" => margins::collapsed(alloc, case),
-        "add_scaled" => rows::add_scaled(alloc, case),
-        "negate" => rows::negate(alloc, case),
-        "divides" => rows::divides(alloc, case),
-        "cut" => rows::cut(alloc, case),
-        "derivation" => derivations::judged(alloc, case),
-        "boxes" => boxes::answer(alloc, case),
-        "leaf" => leaves::judged(alloc, case),
-        _ => trees::answer(alloc, name, case),
+        "add_scaled" => rows::add_scaled(scribe, case),
+        "negate" => rows::negate(scribe, case),
+        "divides" => rows::divides(scribe, case),
+        "cut" => rows::cut(scribe, case),
+        "derivation" => derivations::judged(scribe, case),
+        "leaf" => leaves::judged(scribe, case),
+        _ => trees::answer(scribe, name, case),
     }
 }
 
-/// The answer to a case of a style sheet, of a formula or of a whole job.
-fn answer_above(alloc: Global, name: &str, case: &Value) -> Result<String, Fault> {
+/// The answer to a case of layout, or of one of those.
+fn answer_layout(scribe: &mut Scribe, name: &str, case: &Value) {
     match name {
-        "decimals" => decimal(alloc, text_at(case, 1)?),
-        "tokens" => tokens::answer(alloc, text_at(case, 1)?),
-        "sheets" => sheets::sheet(alloc, text_at(case, 1)?),
-        "declarations" => sheets::declarations(alloc, text_at(case, 1)?),
-        "selectors" => selectors::group(alloc, text_at(case, 1)?),
-        "matches" => selectors::matched(alloc, case),
-        "values" => values::answer(alloc, text_at(case, 1)?, text_at(case, 2)?),
-        "cascade" => cascades::answer(alloc, case),
-        "formulas" => formulas::answer(alloc, case),
-        "truths" => truths::answer(alloc, case),
-        "lay" | "check" | "prove" | "gen" | "trial" => replies::answered(alloc, name, case),
-        _ => answer_below(alloc, name, case),
+        "float_at" => floats::place(scribe, case),
+        "floats" => floats::place_all(scribe, case),
+        "band" => floats::band(scribe, case),
+        "bottom" => floats::bottom(scribe, case),
+        "collapsed" => margins::collapsed(scribe, case),
+        "boxes" => boxes::answer(scribe, case),
+        _ => answer_row(scribe, name, case),
+    }
+}
+
+/// The answer to a case of a formula or of a whole job, or of one of those.
+fn answer_job(scribe: &mut Scribe, name: &str, case: &Value) {
+    match name {
+        "formulas" => formulas::answer(scribe, case),
+        "truths" => truths::answer(scribe, case),
+        "lay" => replies::lay(scribe, case),
+        "check" => replies::check(scribe, case),
+        "prove" => replies::search(scribe, case),
+        "gen" | "trial" => replies::make(scribe, name, case),
+        _ => answer_layout(scribe, name, case),
+    }
+}
+
+/// The answer to a case of a style sheet, or of one of those.
+fn answer_any(scribe: &mut Scribe, name: &str, case: &Value) {
+    match name {
+        "decimals" => decimal(scribe, case),
+        "tokens" => tokens::answer(scribe, case),
+        "sheets" => sheets::sheet(scribe, case),
+        "declarations" => sheets::declarations(scribe, case),
+        "selectors" => selectors::group(scribe, case),
+        "matches" => selectors::matched(scribe, case),
+        "values" => values::answer(scribe, case),
+        "cascade" => cascades::answer(scribe, case),
+        _ => answer_job(scribe, name, case),
     }
 }
 
 /// The answer to a case: an array of the call's name and what it is called with.
 fn answer(alloc: Global, line: &str) -> Result<String, Fault> {
     let case = Value::from_str(alloc, line)?;
-    answer_above(alloc, text_at(&case, 0)?, &case)
+    let mut scribe = Scribe::new(alloc);
+    let name = scribe.text_at(&case, 0);
+    answer_any(&mut scribe, name, &case);
+    scribe.finished()
 }
 
 fn main(rt: HostRuntime) -> Result<(), Fault> {

@@ -2,11 +2,11 @@ ghost use Rattle.std.specs.Prelude.{◌≡◌, length};
 ghost use Rattle.std.specs.Str.{chars};
 
 use crate::faults::Fault;
-use crate::json::text_at;
+use crate::scribes::Scribe;
+use page_build::build_job;
 use page_json::{JobFault, read_job};
 use serde_json::Value;
-use std::alloc::Global;
-use viz_base::Page;
+use viz_base::{Job, RawJob};
 
 /// How many characters a text has.
 pub fn count_of(text: &str) -> usize
@@ -24,7 +24,16 @@ impl From<JobFault> for Fault {
     }
 }
 
-/// The page of the job that stands at a place of a case.
-pub fn page_at(alloc: Global, case: &Value, place: usize) -> Result<Page, Fault> {
-    Ok(read_job(alloc, text_at(case, place)?.as_bytes())?.page)
+/// The job that stands in a case, for its page.
+pub fn job_of(scribe: &mut Scribe, case: &Value) -> Option<RawJob> {
+    let text = scribe.text_at(case, 1);
+    let job = read_job(scribe.alloc(), text.as_bytes());
+    scribe.kept(job)
+}
+
+/// The job that stands in a case, with its box tree.
+pub fn built(scribe: &mut Scribe, case: &Value) -> Option<Job> {
+    let text = scribe.text_at(case, 1);
+    let job = build_job(scribe.alloc(), text.as_bytes());
+    scribe.kept(job)
 }

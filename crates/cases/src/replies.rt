@@ -1,76 +1,98 @@
 use crate::faults::Fault;
-use crate::json::{long_at, number_at, quoted, text_at};
+use crate::scribes::Scribe;
 use serde_json::Value;
-use std::alloc::Global;
 use viz_base::{List, World};
 use viz_replies::{
     Answer, Question, Reply, Screen, Sections, reply_to, reply_to_gen, reply_to_trial,
 };
 
 /// The kind of a reply and its output.
-fn told(alloc: Global, reply: &Reply) -> Result<String, Fault> {
-    let output = str::from_utf8(reply.output.as_slice()).map_err(|_| Fault::NoCase)?;
-    let output = quoted(alloc, output)?;
-    Ok(format!(in alloc; "[\"{:?}\",{output}]", reply.answer)?)
+fn tell(scribe: &mut Scribe, reply: &Reply) {
+    scribe.open();
+    scribe.name(&reply.answer);
+    match str::from_utf8(reply.output.as_slice()) {
+        Ok(output) => scribe.quoted(output),
+        Err(_) => scribe.fail(Fault::NoCase),
+    }
+    scribe.close();
 }
 
 /// What is replied to a question about the job of a case.
-fn answer(alloc: Global, case: &Value, question: &Question) -> Result<String, Fault> {
-    let reply = reply_to(alloc, text_at(case, 1)?.as_bytes(), question)?;
-    told(alloc, &reply)
+fn reply(scribe: &mut Scribe, case: &Value, question: &Question) -> Option<Reply> {
+    let job = scribe.text_at(case, 1);
+    let reply = reply_to(scribe.alloc(), job.as_bytes(), question);
+    scribe.kept(reply)
+}
+
+/// Tells what is replied to a question about the job of a case.
+fn answer(scribe: &mut Scribe, case: &Value, question: &Question) {
+    if let Some(reply) = reply(scribe, case, question) {
+        tell(scribe, &reply);
+    }
 }
 
 /// What is replied to `lay`, given the job and the world.
-fn laid(alloc: Global, case: &Value) -> Result<String, Fault> {
+pub fn lay(scribe: &mut Scribe, case: &Value) {
     let world = World {
-        w: number_at(case, 2)?,
-        s: number_at(case, 3)?,
+        w: scribe.number_at(case, 2),
+        s: scribe.number_at(case, 3),
     };
-    if world.w > 16384 || world.s > 256 {
-        return Err(Fault::NoCase);
+    if world.w <= 16384 && world.s <= 256 {
+        answer(scribe, case, &Question::Lay(Screen { world }));
+    } else {
+        scribe.fail(Fault::NoCase);
     }
-    answer(alloc, case, &Question::Lay(Screen { world }))
+}
+
+/// What is replied to `check`, given the job of a case and a certificate.
+fn check_cert(scribe: &mut Scribe, case: &Value, cert: &[u8]) {
+    let cert = List::from_slice(scribe.alloc(), cert);
+    if let Some(cert) = scribe.kept(cert) {
+        answer(scribe, case, &Question::Check(cert));
+    }
 }
 
 /// What is replied to `check`, given the job and the certificate.
-fn checked(alloc: Global, case: &Value) -> Result<String, Fault> {
-    let cert = List::from_slice(alloc, text_at(case, 2)?.as_bytes())?;
-    answer(alloc, case, &Question::Check(cert))
+pub fn check(scribe: &mut Scribe, case: &Value) {
+    let cert = scribe.text_at(case, 2);
+    check_cert(scribe, case, cert.as_bytes());
 }
 
 /// What is replied to `prove`, given the job and the turns; of a certificate what is replied to `check`, given it.
-fn searched(alloc: Global, case: &Value) -> Result<String, Fault> {
-    let question = Question::Prove(long_at(case, 2)?);
-    let reply = reply_to(alloc, text_at(case, 1)?.as_bytes(), &question)?;
-    if reply.answer == Answer::Done {
-        answer(alloc, case, &Question::Check(List::from(reply.output)))
-    } else {
-        told(alloc, &reply)
+pub fn search(scribe: &mut Scribe, case: &Value) {
+    let turns = scribe.long_at(case, 2);
+    if let Some(reply) = reply(scribe, case, &Question::Prove(turns)) {
+        if reply.answer == Answer::Done {
+            check_cert(scribe, case, reply.output.as_slice());
+        } else {
+            tell(scribe, &reply);
+        }
     }
 }
 
-/// What is replied to `gen` or `trial`, given the seed, the sections and for `trial` the turns, or null for too many.
-fn generated(alloc: Global, case: &Value, is_trial: bool) -> Result<String, Fault> {
-    let seed = long_at(case, 1)?;
-    let Some(sections) = Sections::within(long_at(case, 2)?) else {
-        return Ok(String::from_str(alloc, "null")?);
-    };
-    let reply = if is_trial {
-        reply_to_trial(alloc, seed, sections, long_at(case, 3)?)?
-    } else {
-        reply_to_gen(alloc, seed, sections)?
-    };
-    told(alloc, &reply)
+/// What is replied to `gen`, given the seed and the sections.
+fn generate(scribe: &mut Scribe, seed: u64, sections: Sections) {
+    let reply = reply_to_gen(scribe.alloc(), seed, sections);
+    if let Some(reply) = scribe.kept(reply) {
+        tell(scribe, &reply);
+    }
 }
 
-/// What is replied to the question of this name.
-pub fn answered(alloc: Global, name: &str, case: &Value) -> Result<String, Fault> {
-    match name {
-        "lay" => laid(alloc, case),
-        "check" => checked(alloc, case),
-        "prove" => searched(alloc, case),
-        "gen" => generated(alloc, case, false),
-        "trial" => generated(alloc, case, true),
-        _ => Err(Fault::NoCase),
+/// What is replied to `trial`, given the seed, the sections and the turns.
+fn try_out(scribe: &mut Scribe, case: &Value, seed: u64, sections: Sections) {
+    let turns = scribe.long_at(case, 3);
+    let reply = reply_to_trial(scribe.alloc(), seed, sections, turns);
+    if let Some(reply) = scribe.kept(reply) {
+        tell(scribe, &reply);
+    }
+}
+
+/// What is replied to `gen` or `trial`, or null for too many sections.
+pub fn make(scribe: &mut Scribe, name: &str, case: &Value) {
+    let seed = scribe.long_at(case, 1);
+    match Sections::within(scribe.long_at(case, 2)) {
+        Some(sections) if name == "gen" => generate(scribe, seed, sections),
+        Some(sections) => try_out(scribe, case, seed, sections),
+        None => scribe.null(),
     }
 }

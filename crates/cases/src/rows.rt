@@ -1,8 +1,7 @@
 use crate::faults::Fault;
-use crate::json::{at, list_at, listed, number_at, wide_at};
+use crate::scribes::Scribe;
 use lin_row::{Row, RowFault};
 use serde_json::Value;
-use std::alloc::Global;
 
 impl From<RowFault> for Fault {
     fn from(fault: RowFault) -> Self {
@@ -13,70 +12,95 @@ impl From<RowFault> for Fault {
     }
 }
 
-/// The row with one term more: a variable and its coefficient.
-fn with_term(alloc: Global, row: &Row, term: &Value) -> Result<Row, Fault> {
-    let coefficient = wide_at(term, 1)?;
-    if coefficient == 0 {
-        return Err(Fault::NoCase);
+/// The row that a call gives, or 0 where it has a fault.
+fn sure<E: Into<Fault> + Drop>(scribe: &mut Scribe, given: Result<Row, E>) -> Row {
+    match scribe.kept(given) {
+        Some(row) => row,
+        None => Row::constant(scribe.alloc(), 0),
     }
-    let term = Row::of_term(alloc, 0, number_at(term, 0)?, coefficient)?;
-    Ok(row.add_scaled(1, &term)?)
+}
+
+/// A term: a variable and its coefficient.
+fn term(scribe: &mut Scribe, value: &Value) -> Row {
+    let variable = scribe.number_at(value, 0);
+    let mut coefficient = scribe.wide_at(value, 1);
+    if coefficient == 0 {
+        scribe.fail(Fault::NoCase);
+        coefficient = 1;
+    }
+    let term = Row::of_term(scribe.alloc(), 0, variable, coefficient);
+    sure(scribe, term)
 }
 
 /// A row: its constant and the list of its terms.
-pub fn row(alloc: Global, value: &Value) -> Result<Row, Fault> {
-    let mut row = Row::constant(alloc, wide_at(value, 0)?);
-    for term in list_at(value, 1)? {
-        row = with_term(alloc, &row, term)?;
+pub fn row(scribe: &mut Scribe, value: &Value) -> Row {
+    let constant = scribe.wide_at(value, 0);
+    let mut row = Row::constant(scribe.alloc(), constant);
+    for one in scribe.list_at(value, 1) {
+        let term = term(scribe, one);
+        row = sure(scribe, row.add_scaled(1, &term));
     }
-    Ok(row)
+    row
 }
 
-/// A row as text, its numbers in quotes.
-fn written(alloc: Global, row: &Row) -> Result<String, Fault> {
-    let mut terms = Vec::new(alloc);
+/// The row at a place of a case.
+fn row_at(scribe: &mut Scribe, case: &Value, place: usize) -> Row {
+    let value = scribe.at(case, place);
+    row(scribe, value)
+}
+
+/// A row, its numbers in quotes.
+fn write(scribe: &mut Scribe, row: &Row) {
+    scribe.open();
+    scribe.wide(row.k);
+    scribe.open();
     for term in row.terms.as_slice() {
-        let variable = term.0;
-        let coefficient = term.1;
-        terms.push(format!(in alloc; "[{variable},\"{coefficient}\"]")?)?;
+        scribe.open();
+        scribe.number(term.0);
+        scribe.wide(term.1);
+        scribe.close();
     }
-    let terms = listed(alloc, terms.as_slice())?;
-    let k = row.k;
-    Ok(format!(in alloc; "[\"{k}\",{terms}]")?)
+    scribe.close();
+    scribe.close();
 }
 
-fn exact(alloc: Global, row: Result<Row, RowFault>) -> Result<String, Fault> {
+fn exact(scribe: &mut Scribe, row: &Result<Row, RowFault>) {
     match row {
-        Ok(row) => written(alloc, &row),
-        Err(RowFault::Coeff) => Ok(String::from_str(alloc, "\"Coeff\"")?),
-        Err(RowFault::Mem) => Err(Fault::Mem),
+        Ok(row) => write(scribe, row),
+        Err(RowFault::Coeff) => scribe.word("Coeff"),
+        Err(RowFault::Mem) => scribe.fail(Fault::Mem),
     }
 }
 
 /// A row plus a multiple of another.
-pub fn add_scaled(alloc: Global, case: &Value) -> Result<String, Fault> {
-    let first = row(alloc, at(case, 1)?)?;
-    let second = row(alloc, at(case, 3)?)?;
-    exact(alloc, first.add_scaled(wide_at(case, 2)?, &second))
+pub fn add_scaled(scribe: &mut Scribe, case: &Value) {
+    let times = scribe.wide_at(case, 2);
+    let first = row_at(scribe, case, 1);
+    let second = row_at(scribe, case, 3);
+    exact(scribe, &first.add_scaled(times, &second));
 }
 
 /// The denial of a row.
-pub fn negate(alloc: Global, case: &Value) -> Result<String, Fault> {
-    exact(alloc, row(alloc, at(case, 1)?)?.negate())
+pub fn negate(scribe: &mut Scribe, case: &Value) {
+    let row = row_at(scribe, case, 1);
+    exact(scribe, &row.negate());
 }
 
 /// Whether a number divides a row.
-pub fn divides(alloc: Global, case: &Value) -> Result<String, Fault> {
-    let yes = row(alloc, at(case, 1)?)?.divides(wide_at(case, 2)?);
-    Ok(format!(in alloc; "{yes}")?)
+pub fn divides(scribe: &mut Scribe, case: &Value) {
+    let divisor = scribe.wide_at(case, 2);
+    let row = row_at(scribe, case, 1);
+    scribe.truth(row.divides(divisor));
 }
 
 /// A row divided by a number that divides it.
-pub fn cut(alloc: Global, case: &Value) -> Result<String, Fault> {
-    let row = row(alloc, at(case, 1)?)?;
-    let divisor = wide_at(case, 2)?;
-    if !row.divides(divisor) {
-        return Err(Fault::NoCase);
+pub fn cut(scribe: &mut Scribe, case: &Value) {
+    let divisor = scribe.wide_at(case, 2);
+    let row = row_at(scribe, case, 1);
+    if row.divides(divisor) {
+        let cut = sure(scribe, row.cut(divisor));
+        write(scribe, &cut);
+    } else {
+        scribe.fail(Fault::NoCase);
     }
-    written(alloc, &row.cut(divisor)?)
 }

@@ -1,96 +1,100 @@
 ghost use Rattle.css_semantics.specs.Specificity.{IsCountable};
 
 use crate::faults::Fault;
-use crate::json::{list_at, listed, quoted};
-use crate::pages::page_at;
+use crate::pages::job_of;
+use crate::scribes::Scribe;
 use css_select::{SelFault, matches, read_selector, specificity};
 use serde_json::Value;
-use std::alloc::Global;
-use viz_base::{Compound, Join, List, Page, Selector, Test};
+use viz_base::{Compound, Join, List, Page, Selector, Test, Text};
+
+/// A test of a text.
+fn of_one(scribe: &mut Scribe, name: &str, text: &Text) {
+    scribe.open();
+    scribe.word(name);
+    scribe.quoted(text.as_str());
+    scribe.close();
+}
+
+/// A test of an attribute's name and a text.
+fn of_two(scribe: &mut Scribe, name: &str, attribute: &Text, text: &Text) {
+    scribe.open();
+    scribe.word(name);
+    scribe.quoted(attribute.as_str());
+    scribe.quoted(text.as_str());
+    scribe.close();
+}
 
 /// A test with its texts.
-fn named(alloc: Global, name: &str, texts: &[&str]) -> Result<String, Fault> {
-    let mut parts = Vec::new(alloc);
-    parts.push(quoted(alloc, name)?)?;
-    for text in texts {
-        parts.push(quoted(alloc, text)?)?;
-    }
-    Ok(listed(alloc, parts.as_slice())?)
-}
-
-fn test(alloc: Global, test: &Test) -> Result<String, Fault> {
+fn test(scribe: &mut Scribe, test: &Test) {
     match test {
-        Test::Id(id) => named(alloc, "Id", &[id.as_str()]),
-        Test::Class(class) => named(alloc, "Class", &[class.as_str()]),
-        Test::Has(name) => named(alloc, "Has", &[name.as_str()]),
-        Test::Equals(name, value) => named(alloc, "Equals", &[name.as_str(), value.as_str()]),
-        Test::Word(name, word) => named(alloc, "Word", &[name.as_str(), word.as_str()]),
-        Test::Dash(name, value) => named(alloc, "Dash", &[name.as_str(), value.as_str()]),
-        Test::FirstChild => named(alloc, "FirstChild", &[]),
-        Test::Link => named(alloc, "Link", &[]),
-        Test::Never => named(alloc, "Never", &[]),
+        Test::Id(id) => of_one(scribe, "Id", id),
+        Test::Class(class) => of_one(scribe, "Class", class),
+        Test::Has(name) => of_one(scribe, "Has", name),
+        Test::Equals(name, value) => of_two(scribe, "Equals", name, value),
+        Test::Word(name, word) => of_two(scribe, "Word", name, word),
+        Test::Dash(name, value) => of_two(scribe, "Dash", name, value),
+        Test::FirstChild => scribe.member("[\"FirstChild\"]"),
+        Test::Link => scribe.member("[\"Link\"]"),
+        Test::Never => scribe.member("[\"Never\"]"),
     }
-}
-
-fn tests(alloc: Global, tests: &[Test]) -> Result<String, Fault> {
-    let mut found = Vec::new(alloc);
-    for one in tests {
-        found.push(test(alloc, one)?)?;
-    }
-    Ok(listed(alloc, found.as_slice())?)
 }
 
 /// A compound: its tag or null, and its tests.
-fn compound(alloc: Global, compound: &Compound) -> Result<String, Fault> {
-    let tests = tests(alloc, compound.tests.as_slice())?;
-    let tag = match &compound.tag {
-        Some(tag) => quoted(alloc, tag.as_str())?,
-        None => String::from_str(alloc, "null")?,
-    };
-    Ok(format!(in alloc; "{tag},{tests}")?)
+fn compound(scribe: &mut Scribe, compound: &Compound) {
+    match &compound.tag {
+        Some(tag) => scribe.quoted(tag.as_str()),
+        None => scribe.null(),
+    }
+    scribe.open();
+    for one in compound.tests.as_slice() {
+        test(scribe, one);
+    }
+    scribe.close();
 }
 
 /// Compounds, each with how it is joined.
-fn compounds(alloc: Global, parts: &[(Join, Compound)]) -> Result<String, Fault> {
-    let mut found = Vec::new(alloc);
+fn compounds(scribe: &mut Scribe, parts: &[(Join, Compound)]) {
+    scribe.open();
     for (join, one) in parts {
-        let one = compound(alloc, one)?;
-        found.push(format!(in alloc; "[\"{join:?}\",{one}]")?)?;
+        scribe.open();
+        scribe.name(join);
+        compound(scribe, one);
+        scribe.close();
     }
-    Ok(listed(alloc, found.as_slice())?)
+    scribe.close();
 }
 
 /// A selector: its compounds, each with how it is joined, and its specificity.
-fn selector(alloc: Global, selector: &Selector) -> Result<String, Fault>
+fn selector(scribe: &mut Scribe, selector: &Selector)
     requires { IsCountable selector.now.parts }
 {
-    let parts = compounds(alloc, selector.parts.as_slice())?;
     let spec = specificity(selector);
-    Ok(format!(in alloc;
-        "[{parts},[{},{},{},{}]]",
-        spec.style, spec.ids, spec.attrs, spec.types
-    )?)
+    scribe.open();
+    compounds(scribe, selector.parts.as_slice());
+    scribe.row(&[spec.style, spec.ids, spec.attrs, spec.types]);
+    scribe.close();
 }
 
-fn refusal(alloc: Global, fault: SelFault) -> Result<String, Fault> {
+fn refusal(scribe: &mut Scribe, fault: &SelFault) {
     match fault {
-        SelFault::Bad(at) => Ok(format!(in alloc; "\"Bad {at}\"")?),
-        SelFault::Unsupported(at) => Ok(format!(in alloc; "\"Unsupported {at}\"")?),
-        SelFault::Mem => Err(Fault::Mem),
+        SelFault::Bad(at) => scribe.refused("Bad", &[*at]),
+        SelFault::Unsupported(at) => scribe.refused("Unsupported", &[*at]),
+        SelFault::Mem => scribe.fail(Fault::Mem),
     }
 }
 
 /// The group of selectors that a text spells, or why it is none.
-pub fn group(alloc: Global, text: &str) -> Result<String, Fault> {
-    match read_selector(alloc, text) {
+pub fn group(scribe: &mut Scribe, case: &Value) {
+    let text = scribe.text_at(case, 1);
+    match read_selector(scribe.alloc(), text) {
         Ok(group) => {
-            let mut found = Vec::new(alloc);
+            scribe.open();
             for one in group.as_slice() {
-                found.push(selector(alloc, one)?)?;
+                selector(scribe, one);
             }
-            Ok(listed(alloc, found.as_slice())?)
+            scribe.close();
         }
-        Err(fault) => refusal(alloc, fault),
+        Err(fault) => refusal(scribe, &fault),
     }
 }
 
@@ -104,40 +108,45 @@ fn one_matches(group: &[Selector], page: &Page, node: u32) -> bool {
     false
 }
 
-/// The nodes that a group of selectors matches, in document order.
-pub fn matched_nodes(alloc: Global, page: &Page, text: &str) -> Result<List<u32>, Fault> {
-    let group = read_selector(alloc, text).map_err(|_| Fault::NoCase)?;
-    let mut found = List::new(alloc);
+/// The nodes that one of the selectors matches, in document order.
+fn matched_by(scribe: &mut Scribe, page: &Page, group: &[Selector]) -> List<u32> {
+    let mut found = List::new(scribe.alloc());
     for at in 0..page.nodes.len() {
-        let node = u32::try_from(at).map_err(|_| Fault::NoCase)?;
-        if one_matches(group.as_slice(), page, node) {
-            found.push(node)?;
+        match u32::try_from(at) {
+            Ok(node) if one_matches(group, page, node) => scribe.put(&mut found, node),
+            Ok(_) => (),
+            Err(_) => scribe.fail(Fault::NoCase),
         }
     }
-    Ok(found)
+    found
 }
 
-/// A list of numbers.
-pub fn numbers(alloc: Global, numbers: &[u32]) -> Result<String, Fault> {
-    let mut found = Vec::new(alloc);
-    for number in numbers {
-        found.push(format!(in alloc; "{number}")?)?;
+/// The nodes that a group of selectors matches, in document order.
+pub fn matched_nodes(scribe: &mut Scribe, page: &Page, value: &Value) -> List<u32> {
+    let text = scribe.text(value);
+    match read_selector(scribe.alloc(), text) {
+        Ok(group) => matched_by(scribe, page, group.as_slice()),
+        Err(_) => {
+            scribe.fail(Fault::NoCase);
+            List::new(scribe.alloc())
+        }
     }
-    Ok(listed(alloc, found.as_slice())?)
-}
-
-/// The nodes of the page that a group of selectors matches, as a list.
-fn matches_of(alloc: Global, page: &Page, text: &Value) -> Result<String, Fault> {
-    let nodes = matched_nodes(alloc, page, text.as_str().ok_or(Fault::NoCase)?)?;
-    numbers(alloc, nodes.as_slice())
 }
 
 /// For each of the groups of selectors the nodes of the page that it matches.
-pub fn matched(alloc: Global, case: &Value) -> Result<String, Fault> {
-    let page = page_at(alloc, case, 1)?;
-    let mut found = Vec::new(alloc);
-    for text in list_at(case, 2)? {
-        found.push(matches_of(alloc, &page, text)?)?;
+fn tell(scribe: &mut Scribe, page: &Page, groups: &[Value]) {
+    scribe.open();
+    for text in groups {
+        let nodes = matched_nodes(scribe, page, text);
+        scribe.row(nodes.as_slice());
     }
-    Ok(listed(alloc, found.as_slice())?)
+    scribe.close();
+}
+
+/// For each of the groups of selectors of a case the nodes of its page that it matches.
+pub fn matched(scribe: &mut Scribe, case: &Value) {
+    if let Some(job) = job_of(scribe, case) {
+        let groups = scribe.list_at(case, 2);
+        tell(scribe, &job.page, groups);
+    }
 }

@@ -1,47 +1,57 @@
 use crate::faults::Fault;
-use crate::json::{listed, quoted};
+use crate::scribes::Scribe;
 use css_syntax::{SheetFault, read_declarations, read_sheet};
-use std::alloc::Global;
+use serde_json::Value;
 use viz_base::{Decl, Rule};
 
 /// Declarations: name, the value's slice, and whether it is important.
-fn declared(alloc: Global, decls: &[Decl]) -> Result<String, Fault> {
-    let mut found = Vec::new(alloc);
+fn tell_decls(scribe: &mut Scribe, decls: &[Decl]) {
+    scribe.open();
     for decl in decls {
-        let name = quoted(alloc, decl.name.as_str())?;
-        found.push(format!(in alloc; "[{name},{},{},{}]", decl.at, decl.len, decl.important)?)?;
+        scribe.open();
+        scribe.quoted(decl.name.as_str());
+        scribe.numbers(&[decl.at, decl.len]);
+        scribe.truth(decl.important);
+        scribe.close();
     }
-    Ok(listed(alloc, found.as_slice())?)
+    scribe.close();
 }
 
 /// Rulesets: the selector's slice, and the declarations.
-fn ruled(alloc: Global, rules: &[Rule]) -> Result<String, Fault> {
-    let mut found = Vec::new(alloc);
+fn tell_rules(scribe: &mut Scribe, rules: &[Rule]) {
+    scribe.open();
     for rule in rules {
-        let decls = declared(alloc, rule.decls.as_slice())?;
-        found.push(format!(in alloc; "[{},{},{decls}]", rule.at, rule.len)?)?;
+        scribe.open();
+        scribe.numbers(&[rule.at, rule.len]);
+        tell_decls(scribe, rule.decls.as_slice());
+        scribe.close();
     }
-    Ok(listed(alloc, found.as_slice())?)
+    scribe.close();
 }
 
-fn refusal(alloc: Global, fault: SheetFault) -> Result<String, Fault> {
+fn refusal(scribe: &mut Scribe, fault: &SheetFault) {
     match fault {
-        SheetFault::Import(at) => Ok(format!(in alloc; "\"Import {at}\"")?),
-        SheetFault::MediaQuery(at) => Ok(format!(in alloc; "\"MediaQuery {at}\"")?),
-        SheetFault::TooManyRules => Ok(String::from_str(alloc, "\"TooManyRules\"")?),
-        SheetFault::Mem => Err(Fault::Mem),
+        SheetFault::Import(at) => scribe.refused("Import", &[*at]),
+        SheetFault::MediaQuery(at) => scribe.refused("MediaQuery", &[*at]),
+        SheetFault::TooManyRules => scribe.word("TooManyRules"),
+        SheetFault::Mem => scribe.fail(Fault::Mem),
     }
 }
 
 /// The rulesets of a sheet, or what refuses it.
-pub fn sheet(alloc: Global, text: &str) -> Result<String, Fault> {
-    match read_sheet(alloc, text) {
-        Ok(sheet) => ruled(alloc, sheet.rules.as_slice()),
-        Err(fault) => refusal(alloc, fault),
+pub fn sheet(scribe: &mut Scribe, case: &Value) {
+    let text = scribe.text_at(case, 1);
+    match read_sheet(scribe.alloc(), text) {
+        Ok(sheet) => tell_rules(scribe, sheet.rules.as_slice()),
+        Err(fault) => refusal(scribe, &fault),
     }
 }
 
 /// The declarations of a style attribute.
-pub fn declarations(alloc: Global, text: &str) -> Result<String, Fault> {
-    declared(alloc, read_declarations(alloc, text)?.as_slice())
+pub fn declarations(scribe: &mut Scribe, case: &Value) {
+    let text = scribe.text_at(case, 1);
+    match read_declarations(scribe.alloc(), text) {
+        Ok(decls) => tell_decls(scribe, decls.as_slice()),
+        Err(fault) => scribe.fail(fault.into()),
+    }
 }

@@ -1,118 +1,102 @@
-use std::alloc::{AllocError, Global};
+use crate::scribes::Scribe;
 use viz_base::{Length, LineHeight, Sides, Size, Style, Valign};
 
 /// A length; an absolute one is its number of 1/64 px.
-fn length(alloc: Global, length: &Length) -> Result<String, AllocError> {
+fn length(scribe: &mut Scribe, length: &Length) {
     match length {
-        Length::Auto => String::from_str(alloc, "\"Auto\""),
-        Length::Px(units) => format!(in alloc; "{units}"),
-        Length::Em { k, node } => format!(in alloc; "[\"Em\",{k},{node}]"),
-        Length::Pct(part) => format!(in alloc; "[\"Pct\",{part}]"),
-    }
-}
-
-/// A maximum, or null.
-fn maximum(alloc: Global, most: &Option<Length>) -> Result<String, AllocError> {
-    match most {
-        Some(most) => length(alloc, most),
-        None => String::from_str(alloc, "null"),
+        Length::Auto => scribe.word("Auto"),
+        Length::Px(units) => scribe.number(*units),
+        Length::Em { k, node } => scribe.tagged("Em", &[*k, i64::from(*node)]),
+        Length::Pct(part) => scribe.tagged("Pct", &[*part]),
     }
 }
 
 /// The lengths of four sides.
-fn sides(alloc: Global, sides: &Sides<Length>) -> Result<String, AllocError> {
-    let top = length(alloc, &sides.top)?;
-    let right = length(alloc, &sides.right)?;
-    let bottom = length(alloc, &sides.bottom)?;
-    let left = length(alloc, &sides.left)?;
-    format!(in alloc; "[{top},{right},{bottom},{left}]")
+fn sides(scribe: &mut Scribe, sides: &Sides<Length>) {
+    scribe.open();
+    length(scribe, &sides.top);
+    length(scribe, &sides.right);
+    length(scribe, &sides.bottom);
+    length(scribe, &sides.left);
+    scribe.close();
 }
 
-fn size(alloc: Global, size: &Size) -> Result<String, AllocError> {
+fn size(scribe: &mut Scribe, size: &Size) {
     match size {
-        Size::Same => String::from_str(alloc, "\"Same\""),
-        Size::Default { num, den } => format!(in alloc; "[\"Default\",{num},{den}]"),
-        Size::Px(units) => format!(in alloc; "[\"Px\",{units}]"),
-        Size::Parent { num, den } => format!(in alloc; "[\"Parent\",{num},{den}]"),
-    }
-}
-
-fn line(alloc: Global, line: &LineHeight) -> Result<String, AllocError> {
-    match line {
-        LineHeight::Own { num, den } => format!(in alloc; "[\"Own\",{num},{den}]"),
-        LineHeight::Px(units) => format!(in alloc; "[\"Px\",{units}]"),
-        LineHeight::OfNode { node, num, den } => {
-            format!(in alloc; "[\"OfNode\",{node},{num},{den}]")
+        Size::Same => scribe.word("Same"),
+        Size::Default { num, den } => {
+            scribe.tagged("Default", &[i128::from(*num), i128::from(*den)]);
         }
+        Size::Px(units) => scribe.tagged("Px", &[*units]),
+        Size::Parent { num, den } => scribe.tagged("Parent", &[i128::from(*num), i128::from(*den)]),
     }
 }
 
-fn valign(alloc: Global, valign: &Valign) -> Result<String, AllocError> {
+fn line(scribe: &mut Scribe, line: &LineHeight) {
+    match line {
+        LineHeight::Own { num, den } => {
+            scribe.tagged("Own", &[i128::from(*num), i128::from(*den)]);
+        }
+        LineHeight::Px(units) => scribe.tagged("Px", &[*units]),
+        LineHeight::OfNode { node, num, den } => scribe.tagged(
+            "OfNode",
+            &[i128::from(*node), i128::from(*num), i128::from(*den)],
+        ),
+    }
+}
+
+fn valign(scribe: &mut Scribe, valign: &Valign) {
     match valign {
         Valign::Raise(raise) => {
-            let raise = length(alloc, raise)?;
-            format!(in alloc; "[\"Raise\",{raise}]")
+            scribe.open();
+            scribe.word("Raise");
+            length(scribe, raise);
+            scribe.close();
         }
-        word => format!(in alloc; "\"{word:?}\""),
+        word => scribe.name(word),
     }
 }
 
 /// What says which box a style makes.
-fn placing(alloc: Global, style: &Style) -> Result<String, AllocError> {
-    let float = match style.float {
-        Some(side) => format!(in alloc; "\"{side:?}\"")?,
-        None => String::from_str(alloc, "null")?,
-    };
-    let display = style.display;
-    let clear = style.clear;
-    let clips = style.clips;
-    format!(in alloc; "\"{display:?}\",{float},\"{clear:?}\",{clips}")
+fn placing(scribe: &mut Scribe, style: &Style) {
+    scribe.name(&style.display);
+    match style.float {
+        Some(side) => scribe.name(&side),
+        None => scribe.null(),
+    }
+    scribe.name(&style.clear);
+    scribe.truth(style.clips);
 }
 
-/// A size with its minimum and its maximum.
-fn bounded(
-    alloc: Global,
-    size: &Length,
-    least: &Length,
-    most: &Option<Length>,
-) -> Result<String, AllocError> {
-    let size = length(alloc, size)?;
-    let least = length(alloc, least)?;
-    let most = maximum(alloc, most)?;
-    format!(in alloc; "{size},{least},{most}")
-}
-
-/// The sizes of a style with their minima and maxima.
-fn extents(alloc: Global, style: &Style) -> Result<String, AllocError> {
-    let width = bounded(alloc, &style.width, &style.min_width, &style.max_width)?;
-    let height = bounded(alloc, &style.height, &style.min_height, &style.max_height)?;
-    format!(in alloc; "{width},{height}")
-}
-
-/// The margins, paddings and borders of a style.
-fn edges(alloc: Global, style: &Style) -> Result<String, AllocError> {
-    let margin = sides(alloc, &style.margin)?;
-    let padding = sides(alloc, &style.padding)?;
-    let border = sides(alloc, &style.border)?;
-    format!(in alloc; "{margin},{padding},{border}")
+/// A size with its minimum and its maximum, or null.
+fn bounded(scribe: &mut Scribe, size: &Length, least: &Length, most: &Option<Length>) {
+    length(scribe, size);
+    length(scribe, least);
+    match most {
+        Some(most) => length(scribe, most),
+        None => scribe.null(),
+    }
 }
 
 /// What a style says of texts and lines.
-fn lettering(alloc: Global, style: &Style) -> Result<String, AllocError> {
-    let size = size(alloc, &style.size)?;
-    let font = style.font;
-    let line = line(alloc, &style.line)?;
-    let valign = valign(alloc, &style.valign)?;
-    let align = style.align;
-    let wraps = style.wraps;
-    format!(in alloc; "{size},{font},{line},{valign},\"{align:?}\",{wraps}")
+fn lettering(scribe: &mut Scribe, style: &Style) {
+    size(scribe, &style.size);
+    scribe.number(style.font);
+    line(scribe, &style.line);
+    valign(scribe, &style.valign);
+    scribe.name(&style.align);
+    scribe.truth(style.wraps);
 }
 
 /// The members of a style in their order.
-pub fn style(alloc: Global, style: &Style) -> Result<String, AllocError> {
-    let placing = placing(alloc, style)?;
-    let extents = extents(alloc, style)?;
-    let edges = edges(alloc, style)?;
-    let lettering = lettering(alloc, style)?;
-    format!(in alloc; "[{placing},{extents},{edges},{lettering}]")
+pub fn style(scribe: &mut Scribe, style: &Style) {
+    scribe.open();
+    placing(scribe, style);
+    bounded(scribe, &style.width, &style.min_width, &style.max_width);
+    bounded(scribe, &style.height, &style.min_height, &style.max_height);
+    sides(scribe, &style.margin);
+    sides(scribe, &style.padding);
+    sides(scribe, &style.border);
+    lettering(scribe, style);
+    scribe.close();
 }

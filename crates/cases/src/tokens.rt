@@ -1,21 +1,34 @@
-use crate::faults::Fault;
-use crate::json::{listed, quoted};
+use crate::scribes::Scribe;
 use css_semantics::Token;
 use css_token::{tokens, unescape};
-use std::alloc::Global;
+use serde_json::Value;
 
 /// A token: kind, first byte, end, and what it stands for.
-fn token_text(alloc: Global, token: &Token<'_>) -> Result<String, Fault> {
-    let unescaped = quoted(alloc, unescape(alloc, token)?.as_str())?;
+fn tell(scribe: &mut Scribe, token: &Token<'_>) {
     let end = token.at.saturating_add(token.text.len());
-    Ok(format!(in alloc; "[\"{:?}\",{},{end},{unescaped}]", token.kind, token.at)?)
+    scribe.open();
+    scribe.name(&token.kind);
+    scribe.numbers(&[token.at, end]);
+    let unescaped = unescape(scribe.alloc(), token);
+    if let Some(text) = scribe.kept(unescaped) {
+        scribe.quoted(text.as_str());
+    }
+    scribe.close();
+}
+
+fn tell_all(scribe: &mut Scribe, tokens: &[Token<'_>]) {
+    scribe.open();
+    for token in tokens {
+        tell(scribe, token);
+    }
+    scribe.close();
 }
 
 /// The tokens of a text.
-pub fn answer(alloc: Global, text: &str) -> Result<String, Fault> {
-    let mut found = Vec::new(alloc);
-    for token in tokens(alloc, text)?.as_slice() {
-        found.push(token_text(alloc, token)?)?;
+pub fn answer(scribe: &mut Scribe, case: &Value) {
+    let text = scribe.text_at(case, 1);
+    let tokens = tokens(scribe.alloc(), text);
+    if let Some(tokens) = scribe.kept(tokens) {
+        tell_all(scribe, tokens.as_slice());
     }
-    Ok(listed(alloc, found.as_slice())?)
 }

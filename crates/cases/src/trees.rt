@@ -1,62 +1,44 @@
 use crate::faults::Fault;
-use crate::json::{list_at, listed, number_at, text_at};
-use crate::leads::lead_text;
-use crate::lengths::{font_text, used_text, word_text};
-use crate::lines::lines_text;
-use crate::widths::{preferred_text, widths_text};
-use page_build::build_job;
+use crate::leads::tell_lead;
+use crate::lengths::{tell_fonts, tell_used, tell_word};
+use crate::lines::tell_lines;
+use crate::pages::built;
+use crate::scribes::Scribe;
+use crate::widths::{tell_preferred, tell_widths};
 use serde_json::Value;
-use std::alloc::Global;
 use viz_base::{Job, World};
 use viz_calc::Plain;
 
-/// An arithmetic of the world that a case has behind its job.
-fn calc_in(case: &Value) -> Result<Plain, Fault> {
-    Ok(Plain::new(World {
-        w: number_at(case, 2)?,
-        s: number_at(case, 3)?,
-    }))
-}
-
 /// What one call on the box tree of a job gives.
-fn call(
-    alloc: Global,
-    name: &str,
-    calc: &mut Plain,
-    job: &Job,
-    value: &Value,
-) -> Result<String, Fault> {
+fn call(scribe: &mut Scribe, name: &str, calc: &mut Plain, job: &Job, value: &Value) {
     match name {
-        "used" => used_text(alloc, calc, &job.tree, value),
-        "fonts" => font_text(alloc, calc, &job.tree, value),
-        "words" => word_text(alloc, calc, &job.tree, value),
-        "widths" => widths_text(alloc, calc, job, value),
-        "preferred" => preferred_text(alloc, calc, &job.tree, value),
-        "lines" => lines_text(alloc, calc, &job.tree, value),
-        "lead" => lead_text(alloc, calc, &job.tree, value),
-        _ => Err(Fault::NoCase),
+        "used" => tell_used(scribe, calc, &job.tree, value),
+        "fonts" => tell_fonts(scribe, calc, &job.tree, value),
+        "words" => tell_word(scribe, calc, &job.tree, value),
+        "widths" => tell_widths(scribe, calc, job, value),
+        "preferred" => tell_preferred(scribe, calc, &job.tree, value),
+        "lines" => tell_lines(scribe, calc, &job.tree, value),
+        "lead" => tell_lead(scribe, calc, &job.tree, value),
+        _ => scribe.fail(Fault::NoCase),
     }
 }
 
-/// What the calls on the box tree of a job give.
-fn calls(
-    alloc: Global,
-    name: &str,
-    calc: &mut Plain,
-    job: &Job,
-    values: &[Value],
-) -> Result<String, Fault> {
-    let mut found = Vec::new(alloc);
-    for value in values {
-        found.push(call(alloc, name, calc, job, value)?)?;
+/// What the calls of a case on the box tree of a job give, at the world of the case.
+fn calls(scribe: &mut Scribe, name: &str, case: &Value, job: &Job) {
+    let mut calc = Plain::new(World {
+        w: scribe.number_at(case, 2),
+        s: scribe.number_at(case, 3),
+    });
+    scribe.open();
+    for value in scribe.list_at(case, 4) {
+        call(scribe, name, &mut calc, job, value);
     }
-    Ok(listed(alloc, found.as_slice())?)
+    scribe.close();
 }
 
 /// What the calls of a case give: a job whose page has the box tree, the world, and a list of what to call it with.
-pub fn answer(alloc: Global, name: &str, case: &Value) -> Result<String, Fault> {
-    let values = list_at(case, 4)?;
-    let mut calc = calc_in(case)?;
-    let job = build_job(alloc, text_at(case, 1)?.as_bytes())?;
-    calls(alloc, name, &mut calc, &job, values)
+pub fn answer(scribe: &mut Scribe, name: &str, case: &Value) {
+    if let Some(job) = built(scribe, case) {
+        calls(scribe, name, case, &job);
+    }
 }

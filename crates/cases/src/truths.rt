@@ -1,79 +1,76 @@
 ghost use Rattle.std.specs.Prelude.{◌≤◌};
 
-use crate::faults::Fault;
-use crate::formulas::{formula, kind};
-use crate::json::{integer_at, list_at, number_at, text_at};
-use crate::pages::page_at;
+use crate::formulas::{formula, kind_at};
+use crate::pages::job_of;
+use crate::scribes::Scribe;
 use serde_json::Value;
-use std::alloc::Global;
 use vis_truth::truth;
 use viz_base::{Formula, List, Placed, Quad, Rendering, World};
 use viz_calc::Plain;
 
 /// The rectangle whose edges stand at a place and behind it.
-fn quad(value: &Value, place: usize) -> Result<Quad<i128>, Fault>
+fn quad(scribe: &mut Scribe, value: &Value, place: usize) -> Quad<i128>
     requires { place ≤ 100 }
 {
-    Ok(Quad {
-        left: i128::from(integer_at(value, place)?),
-        top: i128::from(integer_at(value, place + 1)?),
-        right: i128::from(integer_at(value, place + 2)?),
-        bottom: i128::from(integer_at(value, place + 3)?),
-    })
+    Quad {
+        left: scribe.units_at(value, place),
+        top: scribe.units_at(value, place + 1),
+        right: scribe.units_at(value, place + 2),
+        bottom: scribe.units_at(value, place + 3),
+    }
 }
 
 /// A box: kind, node, and the edges of its four rectangles.
-fn placed(value: &Value) -> Result<Placed<i128>, Fault> {
-    Ok(Placed {
-        kind: kind(text_at(value, 0)?)?,
-        node: number_at(value, 1)?,
-        margin: quad(value, 2)?,
-        border: quad(value, 6)?,
-        padding: quad(value, 10)?,
-        content: quad(value, 14)?,
-    })
+fn placed(scribe: &mut Scribe, value: &Value) -> Placed<i128> {
+    Placed {
+        kind: kind_at(scribe, value, 0),
+        node: scribe.number_at(value, 1),
+        margin: quad(scribe, value, 2),
+        border: quad(scribe, value, 6),
+        padding: quad(scribe, value, 10),
+        content: quad(scribe, value, 14),
+    }
 }
 
-fn rendering(alloc: Global, values: &[Value]) -> Result<Rendering<i128>, Fault> {
-    let mut boxes = List::new(alloc);
+fn rendering(scribe: &mut Scribe, values: &[Value]) -> Rendering<i128> {
+    let mut boxes = List::new(scribe.alloc());
     for value in values {
-        boxes.push(placed(value)?)?;
+        let placed = placed(scribe, value);
+        scribe.put(&mut boxes, placed);
     }
-    Ok(Rendering { boxes })
+    Rendering { boxes }
+}
+
+/// Whether the formula is true of the rendering, at a case's world and height of the viewport.
+fn judge(scribe: &mut Scribe, case: &Value, formula: &Formula, rendering: &Rendering<i128>) {
+    let world = World {
+        w: scribe.number_at(case, 3),
+        s: scribe.number_at(case, 4),
+    };
+    let height = scribe.number_at(case, 5);
+    match truth(&mut Plain::new(world), formula, rendering, height) {
+        Ok(yes) => scribe.truth(yes),
+        Err(halt) => scribe.fail(halt.into()),
+    }
+}
+
+/// Whether the formula of a case is true of its rendering.
+fn judge_rendering(scribe: &mut Scribe, case: &Value, formula: &Formula) {
+    let values = scribe.list_at(case, 6);
+    let rendering = rendering(scribe, values);
+    judge(scribe, case, formula, &rendering);
 }
 
 /// The formula whose steps a case has, for its page.
-fn formula_of(alloc: Global, case: &Value) -> Result<Formula, Fault> {
-    let page = page_at(alloc, case, 1)?;
-    formula(alloc, &page, list_at(case, 2)?)
+fn formula_of(scribe: &mut Scribe, case: &Value) -> Option<Formula> {
+    let steps = scribe.list_at(case, 2);
+    let job = job_of(scribe, case)?;
+    formula(scribe, &job.page, steps)
 }
 
 /// Whether the formula is true of the rendering at the world.
-fn holds(
-    formula: &Formula,
-    rendering: &Rendering<i128>,
-    world: World,
-    height: u32,
-) -> Result<bool, Fault> {
-    let mut calc = Plain::new(world);
-    match truth(&mut calc, formula, rendering, height) {
-        Ok(yes) => Ok(yes),
-        Err(_) => Err(Fault::NoCase),
+pub fn answer(scribe: &mut Scribe, case: &Value) {
+    if let Some(formula) = formula_of(scribe, case) {
+        judge_rendering(scribe, case, &formula);
     }
-}
-
-/// Whether a case's formula is true of its rendering, at its world and height of the viewport.
-fn judged(alloc: Global, case: &Value) -> Result<bool, Fault> {
-    let w = number_at(case, 3)?;
-    let s = number_at(case, 4)?;
-    let height = number_at(case, 5)?;
-    let rendering = rendering(alloc, list_at(case, 6)?)?;
-    let formula = formula_of(alloc, case)?;
-    holds(&formula, &rendering, World { w, s }, height)
-}
-
-/// Whether the formula is true of the rendering at the world.
-pub fn answer(alloc: Global, case: &Value) -> Result<String, Fault> {
-    let yes = judged(alloc, case)?;
-    Ok(format!(in alloc; "{yes}")?)
 }

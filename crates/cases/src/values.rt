@@ -1,51 +1,70 @@
 use crate::faults::Fault;
-use crate::json::{listed, quoted};
+use crate::scribes::Scribe;
 use css_value::{ValueFault, read_declaration};
-use std::alloc::{AllocError, Global};
-use viz_base::{Setting, Text, Value};
+use serde_json::Value as Case;
+use viz_base::{List, Setting, Text, Value};
 
-/// A value that is a number.
-fn numbered(alloc: Global, kind: &str, number: i64) -> Result<String, AllocError> {
-    format!(in alloc; "[\"{kind}\",{number}]")
+fn families(scribe: &mut Scribe, names: &[Text]) {
+    scribe.open();
+    scribe.word("Names");
+    scribe.open();
+    for name in names {
+        scribe.quoted(name.as_str());
+    }
+    scribe.close();
+    scribe.close();
 }
 
-fn families(alloc: Global, names: &[Text]) -> Result<String, AllocError> {
-    let mut found = Vec::new(alloc);
-    for name in names {
-        found.push(quoted(alloc, name.as_str())?)?;
-    }
-    let names = listed(alloc, found.as_slice())?;
-    format!(in alloc; "[\"Names\",{names}]")
+/// A value that is a number.
+fn numbered(scribe: &mut Scribe, kind: &str, number: i64) {
+    scribe.tagged(kind, &[number]);
 }
 
 /// A value: its kind, and what it holds.
-pub fn value(alloc: Global, value: &Value) -> Result<String, AllocError> {
+fn tell(scribe: &mut Scribe, value: &Value) {
     match value {
-        Value::Inherit => String::from_str(alloc, "[\"Inherit\"]"),
-        Value::Word(place) => numbered(alloc, "Word", i64::from(*place)),
-        Value::Px(units) => numbered(alloc, "Px", *units),
-        Value::Em(millionths) => numbered(alloc, "Em", *millionths),
-        Value::Pct(millionths) => numbered(alloc, "Pct", *millionths),
-        Value::Number(millionths) => numbered(alloc, "Number", *millionths),
-        Value::Names(names) => families(alloc, names.as_slice()),
+        Value::Inherit => scribe.member("[\"Inherit\"]"),
+        Value::Word(place) => numbered(scribe, "Word", i64::from(*place)),
+        Value::Px(units) => numbered(scribe, "Px", *units),
+        Value::Em(millionths) => numbered(scribe, "Em", *millionths),
+        Value::Pct(millionths) => numbered(scribe, "Pct", *millionths),
+        Value::Number(millionths) => numbered(scribe, "Number", *millionths),
+        Value::Names(names) => families(scribe, names.as_slice()),
     }
 }
 
-fn set(alloc: Global, settings: &[Setting]) -> Result<String, AllocError> {
-    let mut found = Vec::new(alloc);
-    for setting in settings {
-        let value = value(alloc, &setting.value)?;
-        found.push(format!(in alloc; "[\"{:?}\",{value}]", setting.prop)?)?;
+/// The property of a setting and its value.
+pub fn setting(scribe: &mut Scribe, setting: &Setting) {
+    scribe.name(&setting.prop);
+    tell(scribe, &setting.value);
+}
+
+fn settings(scribe: &mut Scribe, settings: &[Setting]) {
+    scribe.open();
+    for one in settings {
+        scribe.open();
+        setting(scribe, one);
+        scribe.close();
     }
-    listed(alloc, found.as_slice())
+    scribe.close();
+}
+
+fn settled(scribe: &mut Scribe, declared: &Result<List<Setting>, ValueFault>) {
+    match declared {
+        Ok(found) => settings(scribe, found.as_slice()),
+        Err(ValueFault::Ignored) => scribe.word("Ignored"),
+        Err(ValueFault::Unsupported(prop)) => {
+            scribe.raw("\"Unsupported ");
+            scribe.debug(prop);
+            scribe.raw("\"");
+        }
+        Err(ValueFault::Mem) => scribe.fail(Fault::Mem),
+    }
 }
 
 /// The settings of a declaration, or why it has none.
-pub fn answer(alloc: Global, name: &str, text: &str) -> Result<String, Fault> {
-    match read_declaration(alloc, name, text) {
-        Ok(settings) => Ok(set(alloc, settings.as_slice())?),
-        Err(ValueFault::Ignored) => Ok(String::from_str(alloc, "\"Ignored\"")?),
-        Err(ValueFault::Unsupported(prop)) => Ok(format!(in alloc; "\"Unsupported {prop:?}\"")?),
-        Err(ValueFault::Mem) => Err(Fault::Mem),
-    }
+pub fn answer(scribe: &mut Scribe, case: &Case) {
+    let name = scribe.text_at(case, 1);
+    let text = scribe.text_at(case, 2);
+    settled(scribe, &read_declaration(scribe.alloc(), name, text));
 }

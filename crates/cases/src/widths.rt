@@ -1,65 +1,61 @@
-ghost use Rattle.std.specs.Prelude.{◌<◌, IfOk, length};
+ghost use Rattle.std.specs.Prelude.{◌<◌, IfSome, length};
 
 use crate::faults::Fault;
-use crate::json::{number_at, units_at};
+use crate::scribes::Scribe;
 use lay_preferred::preferred;
 use lay_width::widths;
 use serde_json::Value;
-use std::alloc::{AllocError, Global};
-use viz_base::{BoxTree, Job, Preferred, Widths};
+use viz_base::{BoxTree, Job, Preferred};
 use viz_calc::Plain;
 
 /// The place of a box of a tree, which stands at the head of a value.
-pub fn box_in(tree: &BoxTree, value: &Value) -> Result<u32, Fault>
-    ensures { IfOk result (λ b. b < length tree.now.boxes) }
+pub fn box_in(scribe: &mut Scribe, tree: &BoxTree, value: &Value) -> Option<u32>
+    ensures { IfSome result (λ b. b < length tree.now.boxes) }
 {
-    let b = number_at(value, 0)?;
+    let b = scribe.number_at(value, 0);
     if (b as usize) < tree.boxes.len() {
-        Ok(b)
+        Some(b)
     } else {
-        Err(Fault::NoCase)
+        scribe.fail(Fault::NoCase);
+        None
     }
 }
 
-fn preferred_in(calc: &mut Plain, tree: &BoxTree, value: &Value) -> Result<Preferred<i128>, Fault> {
-    Ok(preferred(calc, tree, box_in(tree, value)?)?)
-}
-
 /// The preferred widths of a box.
-pub fn preferred_text(
-    alloc: Global,
+fn preferred_in(
+    scribe: &mut Scribe,
     calc: &mut Plain,
     tree: &BoxTree,
     value: &Value,
-) -> Result<String, Fault> {
-    let widths = preferred_in(calc, tree, value)?;
-    let least = widths.least;
-    let most = widths.most;
-    Ok(format!(in alloc; "[{least},{most}]")?)
+) -> Option<Preferred<i128>> {
+    let b = box_in(scribe, tree, value)?;
+    scribe.kept(preferred(calc, tree, b))
 }
 
-fn terms(alloc: Global, widths: &Widths<i128>) -> Result<String, AllocError> {
-    let margin = widths.margin_left;
-    let border = widths.border_left;
-    let padding = widths.padding_left;
-    let content = widths.content;
-    let left = format!(in alloc; "{margin},{border},{padding},{content}")?;
-    let padding = widths.padding_right;
-    let border = widths.border_right;
-    let margin = widths.margin_right;
-    format!(in alloc; "[{left},{padding},{border},{margin}]")
+/// Tells the preferred widths of a box.
+pub fn tell_preferred(scribe: &mut Scribe, calc: &mut Plain, tree: &BoxTree, value: &Value) {
+    if let Some(widths) = preferred_in(scribe, calc, tree, value) {
+        scribe.row(&[widths.least, widths.most]);
+    }
 }
 
-/// The widths and horizontal margins of a box, in a containing block of a width.
-pub fn widths_text(
-    alloc: Global,
-    calc: &mut Plain,
-    job: &Job,
-    value: &Value,
-) -> Result<String, Fault> {
-    let preferred = preferred_in(calc, &job.tree, value)?;
-    let b = number_at(value, 0)?;
-    let cb = units_at(value, 1)?;
-    let widths = widths(calc, &job.tree, b, &cb, job.height, &preferred)?;
-    Ok(terms(alloc, &widths)?)
+/// Tells the widths and horizontal margins of a box, in a containing block of a width.
+pub fn tell_widths(scribe: &mut Scribe, calc: &mut Plain, job: &Job, value: &Value) {
+    let b = scribe.number_at(value, 0);
+    let cb = scribe.units_at(value, 1);
+    let Some(preferred) = preferred_in(scribe, calc, &job.tree, value) else {
+        return;
+    };
+    let widths = widths(calc, &job.tree, b, &cb, job.height, &preferred);
+    if let Some(widths) = scribe.kept(widths) {
+        scribe.row(&[
+            widths.margin_left,
+            widths.border_left,
+            widths.padding_left,
+            widths.content,
+            widths.padding_right,
+            widths.border_right,
+            widths.margin_right,
+        ]);
+    }
 }
