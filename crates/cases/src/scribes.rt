@@ -5,8 +5,8 @@ use std::alloc::{AllocError, Global};
 use std::fmt::Debug;
 use viz_base::List;
 
-/// Reads the members of a case and writes its answer, as JSON. Neither ends early: the first fault is kept and asked for
-/// once, at the end, and until then what is missing is read as a default.
+/// Reads the members of a case and writes its answer, as JSON. Neither ends early: the first fault is kept and asked
+/// for once, at the end, and until then what is missing is read as a default.
 #[derive(Drop)]
 pub struct Scribe {
     alloc: Global,

@@ -22,10 +22,3 @@ names_more parts i part old new before after o whole lt at says is h =
     let rest = drop (i + 1) parts in
     let from : drop i parts ≡ part ∷ rest = grind (arith, common_steps) in
     ap (λ a. names_after new a rest) (sym is) ∙ (sym (says rest) ∙ (ap (λ ps. with_front old (names_from before ps)) (sym from) ∙ h))
-
--- behind the last part
-pub names_end : (parts : List Part) (i : ℕ) (names : List (List ℕ)) (before last : Before) (whole : Option (List (List ℕ)))
-    → length parts ≤ i → before ≡ last → with_front names (names_from before (drop i parts)) ≡ with_front [] whole → with_front names (names_from last []) ≡ whole
-names_end parts i names before last whole le is h =
-    let none : drop i parts ≡ [] = grind (arith, common_steps) in
-    ap (λ b. with_front names (names_from b [])) (sym is) ∙ (ap (λ ps. with_front names (names_from before ps)) (sym none) ∙ (h ∙ with_front_nil whole))
