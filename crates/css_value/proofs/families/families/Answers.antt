@@ -1,6 +1,6 @@
 use Rattle.std.proofs.Common.{Some, None, sym, ◌∙◌}
 use Rattle.css_semantics.specs.Values.{families}
-use Rattle.css_value.proofs.FamilyLemmas.{names_more, names_end, with_front_nil}
+use Rattle.css_value.proofs.FamilyLemmas.{names_more, with_front_nil}
 use Rattle.css_value.proofs.families.families.Goals as goal
 
 pub loop-part-preserved : goal.loop-part-preserved
