@@ -154,11 +154,11 @@ fn step_sign(
 ) -> Result<Reading, Stop>
     ensures { Steps result (step_sign reading parts lexeme.now) }
 {
-    match lexeme {
+    match *lexeme {
         Lexeme::Sign(sign) => {
             let compared = Compared {
                 left: Term { parts },
-                sign: *sign,
+                sign,
             };
             Ok(reading.at(Place::Side(empty_sum(alloc, Some(compared)))))
         }
@@ -324,12 +324,12 @@ fn opened(reading: Reading) -> Result<Reading, Stop>
 fn step_operand(alloc: Global, reading: Reading, lexeme: &Lexeme) -> Result<Reading, Stop>
     ensures { Steps result (step_operand reading lexeme.now) }
 {
-    match lexeme {
+    match *lexeme {
         Lexeme::Not => negated(reading),
         Lexeme::Open => opened(reading),
-        Lexeme::Truth(value) => Ok(reading.completed(alloc, Formula::Const(*value))?),
-        Lexeme::Pair(pair) => Ok(reading.at(Place::Pair(*pair))),
-        lexeme => match step_side(&reading, empty_sum(alloc, None), lexeme) {
+        Lexeme::Truth(value) => Ok(reading.completed(alloc, Formula::Const(value))?),
+        Lexeme::Pair(pair) => Ok(reading.at(Place::Pair(pair))),
+        _ => match step_side(&reading, empty_sum(alloc, None), lexeme) {
             Ok(place) => Ok(reading.at(place)),
             Err(stop) => Err(given_up(reading, stop)),
         },
@@ -361,9 +361,9 @@ fn step_start(alloc: Global, reading: Reading, lexeme: &Lexeme) -> Result<Readin
     ensures { Steps result (step_start reading lexeme.now) }
 {
     let fresh = reading.fresh();
-    match lexeme {
-        Lexeme::Quantifier(q) => quantifier(fresh, *q),
-        lexeme => step_operand(alloc, fresh, lexeme),
+    match *lexeme {
+        Lexeme::Quantifier(q) => quantifier(fresh, q),
+        _ => step_operand(alloc, fresh, lexeme),
     }
 }
 

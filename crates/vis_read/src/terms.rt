@@ -101,10 +101,10 @@ fn at_number(reading: &Reading, sum: Sum, number: u32) -> Result<Place, Mem>
 pub fn step_part(reading: &Reading, sum: Sum, lexeme: &Lexeme) -> Result<Place, Stop>
     ensures { Moves reading.now result (step_part reading.now sum lexeme.now) }
 {
-    match lexeme {
-        Lexeme::Number(number, Unit::One) => Ok(at_number(reading, sum, *number)?),
-        Lexeme::Number(number, Unit::Px) => Ok(added(sum, u64::from(*number) * 64, Edge::One)?),
-        lexeme => step_edge(reading, sum, 1, lexeme),
+    match *lexeme {
+        Lexeme::Number(number, Unit::One) => Ok(at_number(reading, sum, number)?),
+        Lexeme::Number(number, Unit::Px) => Ok(added(sum, u64::from(number) * 64, Edge::One)?),
+        _ => step_edge(reading, sum, 1, lexeme),
     }
 }
 
@@ -142,12 +142,12 @@ fn step_ring(
 ) -> Result<Place, Stop>
     ensures { Moves reading.now result (step_ring reading.now sum times name lexeme.now) }
 {
-    match lexeme {
+    match *lexeme {
         Lexeme::Face(face) => {
-            let edge = Edge::Name(name, Ring::Border, *face);
+            let edge = Edge::Name(name, Ring::Border, face);
             Ok(added(sum, u64::from(times), edge)?)
         }
-        Lexeme::Ring(ring) => Ok(Place::Edge(sum, times, Spot::Ring(name, *ring))),
+        Lexeme::Ring(ring) => Ok(Place::Edge(sum, times, Spot::Ring(name, ring))),
         _ => Err(given_up(sum, Stop::Bad)),
     }
 }
@@ -161,9 +161,9 @@ fn step_face(
 ) -> Result<Place, Stop>
     ensures { Moves reading.now result (step_face reading.now sum times spot.0 spot.1 lexeme.now) }
 {
-    match lexeme {
+    match *lexeme {
         Lexeme::Face(face) => {
-            let edge = Edge::Name(spot.0, spot.1, *face);
+            let edge = Edge::Name(spot.0, spot.1, face);
             Ok(added(sum, u64::from(times), edge)?)
         }
         _ => Err(given_up(sum, Stop::Bad)),
