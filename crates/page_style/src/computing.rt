@@ -1,4 +1,4 @@
-ghost use Rattle.std.specs.Prelude.{◌≡◌, ◌<◌, ◌≤◌, ◌^◌, true, false, length, Some, IfErr, IfOk, MatchResult};
+ghost use Rattle.std.specs.Prelude.{◌≡◌, ◌<◌, ◌≤◌, ◌^◌, true, false, length, Some, IfErr, IfOk, MatchResult, OnOk};
 ghost use Rattle.std.specs.List.{AllByRecursion};
 ghost use Rattle.std.specs.Option.{option_copied};
 ghost use Rattle.viz_base.specs.Pages.{is_element};
@@ -6,6 +6,7 @@ ghost use Rattle.viz_base.specs.declared.styles.Style.{Style};
 ghost use Rattle.css_semantics.specs.ComputedValues.{AreComputed, IsComputed, IsOfText, of_parent};
 ghost use Rattle.css_semantics.specs.Winners.{AreWinners, IsAllowed};
 ghost use Rattle.layout_laws.specs.Styled.{AreStylesOf};
+ghost use Rattle.page_style.specs.Added.{IsAdded};
 
 use crate::elements::{element_style, text_style};
 use crate::properties::drawn_borders;
@@ -51,6 +52,42 @@ fn number(at: usize) -> Result<u32, Mem>
     u32::try_from(at).map_err(|_| Mem)
 }
 
+/// An error, for which the styles so far and their borders are given up.
+fn given_up<E>(drawn: Vec<Sides<bool>>, styles: List<Style>, error: E) -> E
+    ensures { result ≡ error }
+{
+    drop(drawn);
+    drop(styles);
+    error
+}
+
+/// Adds the style of a node to those of the nodes before it, and which of its borders are drawn.
+fn add_style(
+    fonts: &[Font],
+    at: usize,
+    node: &Node,
+    winners: &[Setting],
+    drawn: &mut Vec<Sides<bool>>,
+    styles: &mut List<Style>,
+) -> Result<(), Mem>
+    requires { AllByRecursion IsAllowed winners.now }
+    ensures { OnOk result (IsAdded fonts.now at node.now winners.now drawn.old.items drawn.new.items styles.old
+        styles.new) }
+{
+    let borders = drawn_borders(winners, of_parent(drawn.as_slice(), node).copied());
+    let style = node_style(
+        fonts,
+        number(at)?,
+        node,
+        winners,
+        borders,
+        of_parent(styles.as_slice(), node),
+    )?;
+    drawn.push(borders)?;
+    styles.push(style)?;
+    Ok(())
+}
+
 /// The style of each node of a page, in the order of the nodes (CSS 2.1, 6.1 and 6.2). An element's is what wins there,
 /// what it inherits and what is initial, computed; a text's is its parent's with the size `Same`. Lengths are in units
 /// of 1/64 px.
@@ -74,17 +111,17 @@ pub fn compute(
     for at in 0..nodes.len() {
         let node = &nodes[at];
         let settings = winners[at].as_slice();
-        let borders = drawn_borders(settings, of_parent(&drawn, node).copied());
-        let style = node_style(
+        match add_style(
             fonts.as_slice(),
-            number(at)?,
+            at,
             node,
             settings,
-            borders,
-            of_parent(styles.as_slice(), node),
-        )?;
-        drawn.push(borders)?;
-        styles.push(style)?;
+            &mut drawn,
+            &mut styles,
+        ) {
+            Ok(()) => (),
+            Err(mem) => return Err(given_up(drawn, styles, mem)),
+        }
     }
     Ok(styles)
 }

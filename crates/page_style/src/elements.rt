@@ -1,14 +1,51 @@
 ghost use Rattle.std.specs.Prelude.{◌≤◌, ◌^◌, length, IfErr, IfOk};
 ghost use Rattle.std.specs.List.{AllByRecursion};
 ghost use Rattle.std.specs.Option.{option_copied};
-ghost use Rattle.css_semantics.specs.ComputedValues.{IsComputed, IsOfText};
+ghost use Rattle.css_semantics.specs.ComputedValues.{AreLengths, IsComputed, IsOfText};
 ghost use Rattle.css_semantics.specs.Winners.{IsAllowed};
+ghost use Rattle.page_style.specs.Added.{own_of};
 
 use crate::lengths::{
     border, height, margin, max_height, max_width, min_height, min_width, padding, width,
 };
 use crate::properties::{align, clear, clips, display, float, font, line, size, valign, wraps};
-use viz_base::{Font, Mem, Setting, Sides, Size, Style};
+use viz_base::{Font, Length, Mem, Setting, Sides, Size, Style};
+
+/// The lengths of the box of an element.
+#[derive(Clone, Copy)]
+pub struct Lengths {
+    pub width: Length,
+    pub min_width: Length,
+    pub max_width: Option<Length>,
+    pub height: Length,
+    pub min_height: Length,
+    pub max_height: Option<Length>,
+    pub margin: Sides<Length>,
+    pub padding: Sides<Length>,
+    pub border: Sides<Length>,
+}
+
+/// The lengths of the box of an element, beside its parent's.
+fn own_lengths(
+    node: u32,
+    winners: &[Setting],
+    drawn: Sides<bool>,
+    parent: Option<&Style>,
+) -> Lengths
+    ensures { AreLengths node winners.now drawn (option_copied parent.entry) (own_of result) }
+{
+    Lengths {
+        width: width(winners, node, parent),
+        min_width: min_width(winners, node, parent),
+        max_width: max_width(winners, node, parent),
+        height: height(winners, node, parent),
+        min_height: min_height(winners, node, parent),
+        max_height: max_height(winners, node, parent),
+        margin: margin(winners, node, parent),
+        padding: padding(winners, node, parent),
+        border: border(winners, node, drawn, parent),
+    }
+}
 
 /// The style of an element, beside its parent's.
 pub fn element_style(
@@ -22,20 +59,21 @@ pub fn element_style(
     ensures is { IfOk result (IsComputed fonts.now node winners.now drawn (option_copied parent.entry)) }
     ensures room { IfErr result (λ _. 2 ^ 32 ≤ length fonts.now) }
 {
+    let own = own_lengths(node, winners, drawn, parent);
     Ok(Style {
         display: display(winners, parent),
         float: float(winners, parent),
         clear: clear(winners, parent),
         clips: clips(winners, parent),
-        width: width(winners, node, parent),
-        min_width: min_width(winners, node, parent),
-        max_width: max_width(winners, node, parent),
-        height: height(winners, node, parent),
-        min_height: min_height(winners, node, parent),
-        max_height: max_height(winners, node, parent),
-        margin: margin(winners, node, parent),
-        padding: padding(winners, node, parent),
-        border: border(winners, node, drawn, parent),
+        width: own.width,
+        min_width: own.min_width,
+        max_width: own.max_width,
+        height: own.height,
+        min_height: own.min_height,
+        max_height: own.max_height,
+        margin: own.margin,
+        padding: own.padding,
+        border: own.border,
         size: size(winners, parent),
         font: font(winners, fonts, parent)?,
         line: line(winners, node, parent),
