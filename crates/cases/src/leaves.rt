@@ -9,23 +9,17 @@ use std::alloc::Global;
 use sym_calc::{Path, Sym};
 use viz_base::{Job, Mem};
 
-/// The verdict on the answers of a leaf, over the path to it.
-fn verdict(alloc: Global, job: &Job, path: &Path, answers: &[Answer]) -> Result<Verdict, Mem> {
-    check_leaf(alloc, job, 0, &mut Sym::new(path, answers))
-}
-
-/// Tells the verdict on the answers of a leaf.
-fn leaf(scribe: &mut Scribe, job: &Job, path: &Path, answers: &[Answer]) {
-    match verdict(scribe.alloc(), job, path, answers) {
-        Ok(verdict) => scribe.name(&verdict),
-        Err(fault) => scribe.fail(fault.into()),
-    }
-}
-
 /// The verdict on the answers of a root that is a leaf.
-fn root_leaf(scribe: &mut Scribe, job: &Job, answers: &[Answer]) {
-    match Path::new(scribe.alloc(), job.range) {
-        Ok(path) => leaf(scribe, job, &path, answers),
+fn verdict(alloc: Global, job: &Job, answers: &[Answer]) -> Result<Verdict, Mem> {
+    let path = Path::new(alloc, job.range)?;
+    let mut sym = Sym::new(&path, answers);
+    check_leaf(alloc, job, 0, &mut sym)
+}
+
+/// Tells the verdict on the answers of a root that is a leaf.
+fn leaf(scribe: &mut Scribe, job: &Job, answers: &[Answer]) {
+    match verdict(scribe.alloc(), job, answers) {
+        Ok(verdict) => scribe.name(&verdict),
         Err(fault) => scribe.fail(fault.into()),
     }
 }
@@ -33,7 +27,7 @@ fn root_leaf(scribe: &mut Scribe, job: &Job, answers: &[Answer]) {
 /// The verdict on a root that is a leaf.
 fn root(scribe: &mut Scribe, job: &Job, node: &CertNode) {
     match node {
-        CertNode::Leaf(answers) => root_leaf(scribe, job, answers.as_slice()),
+        CertNode::Leaf(answers) => leaf(scribe, job, answers.as_slice()),
         _ => scribe.fail(Fault::NoCase),
     }
 }
