@@ -4,7 +4,7 @@ use std::alloc::Global;
 use viz_base::Mem;
 
 /// What kind of reply it is.
-#[derive(Clone, Copy, PartialEq, Eq)]
+#[derive(Clone, Copy, Debug, PartialEq, Eq)]
 pub enum Answer {
     /// What was asked for was done.
     Done,
