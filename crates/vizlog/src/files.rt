@@ -115,11 +115,15 @@ fn check_of_files<F: Shelf>(
         r.answer ≡ Answer.JobRefused → F.faults shelf.new ≡ F.faults shelf.old) }
 {
     match load_job(alloc, job, shelf) {
-        Ok(JobRead::Read(job)) => match reply_by_file(alloc, &job, cert, shelf) {
-            Ok(reply) => Ok(reply),
-            Err(ShelfFault::Failed) => Err(NoReply::Unread(File::Certificate)),
-            Err(ShelfFault::Mem) => Err(NoReply::Mem),
-        },
+        Ok(JobRead::Read(job)) => {
+            let reply = reply_by_file(alloc, &job, cert, shelf);
+            drop(job);
+            match reply {
+                Ok(reply) => Ok(reply),
+                Err(ShelfFault::Failed) => Err(NoReply::Unread(File::Certificate)),
+                Err(ShelfFault::Mem) => Err(NoReply::Mem),
+            }
+        }
         Ok(JobRead::Refused(refusal)) => Ok(refusal),
         Err(ShelfFault::Failed) => Err(NoReply::Unread(File::Job)),
         Err(ShelfFault::Mem) => Err(NoReply::Mem),
