@@ -1,5 +1,5 @@
 #!/usr/bin/env python3
-"""Writes the table of outside cases that the crate `cases` runs, from a folder of cases.
+"""Writes the tables of outside cases that the crates `cases` and `job_cases` run, from a folder of cases.
 
     tools/cases.py FOLDER
 
@@ -7,8 +7,9 @@ FOLDER has files of JSON Lines, each named after a call: decimals, tokens, sheet
 formulas and truths; in jobs/ and certs/ jobs and certificates with what the program replies; refusals.jsonl, jobs that are refused; and
 grammar.jsonl, texts with the place up to which some certificate's text begins so, or null where they are a certificate's.
 Long cases come behind these, the cases of layout that tools/layout_cases.py reads, those of tools/limit_cases.py and the documents of
-tools/worked_pages.py. What is called goes to crates/cases/stdin and what it must give to crates/cases/stdout, a line of JSON each. A page
-goes as a job that has it; a formula as steps, each part before what it is a part of.
+tools/worked_pages.py. What is called goes to a crate's stdin and what it must give to its stdout, a line of JSON each: what is replied to
+whole jobs (lay, check, prove, gen and trial) to crates/job_cases, all else to crates/cases. A page goes as a job that has it; a formula as
+steps, each part before what it is a part of.
 """
 import json
 import pathlib
@@ -324,22 +325,38 @@ def long_cases():
 
 
 CALLS = [decimals, tokens, sheets, declarations, selectors, matches, values, cascade, formulas, truths]
+# what is replied to a whole job: these cases are the table of `job_cases`
+OF_JOBS = ("lay", "check", "prove", "gen", "trial")
+
+
+def calls(folder):
+    """What is called of one part of the program, and what it must give."""
+    for call in CALLS:
+        for line in filter(None, (folder / f"{call.__name__}.jsonl").read_text(encoding="utf-8").split("\n")):
+            arguments, answer = call(json.loads(line))
+            yield [call.__name__] + arguments, answer
+
+
+def all_cases(folder):
+    for part in (calls, jobs, refusals, certificates, grammar):
+        yield from part(folder)
+    yield from long_cases()
+    for module in (layout_cases, limit_cases):
+        yield from module.cases(folder)
+    yield from worked_pages.cases()
+
+
+def write(name, cases):
+    """Writes the table of a crate."""
+    for file, lines in zip(("stdin", "stdout"), zip(*cases)):
+        with open(TOP / "crates" / name / file, "w", encoding="utf-8", newline="") as table:
+            table.writelines(compact(line) + "\n" for line in lines)
 
 
 def main():
-    folder = pathlib.Path(sys.argv[1])
-    crate = TOP / "crates/cases"
-    with open(crate / "stdin", "w", encoding="utf-8", newline="") as given, open(crate / "stdout", "w", encoding="utf-8", newline="") as wanted:
-        for call in CALLS:
-            lines = (folder / f"{call.__name__}.jsonl").read_text(encoding="utf-8").split("\n")
-            for line in filter(None, lines):
-                arguments, answer = call(json.loads(line))
-                given.write(compact([call.__name__] + arguments) + "\n")
-                wanted.write(compact(answer) + "\n")
-        whole = [*jobs(folder), *refusals(folder), *certificates(folder), *grammar(folder)]
-        for called, answer in [*whole, *long_cases(), *layout_cases.cases(folder), *limit_cases.cases(folder), *worked_pages.cases()]:
-            given.write(compact(called) + "\n")
-            wanted.write(compact(answer) + "\n")
+    cases = list(all_cases(pathlib.Path(sys.argv[1])))
+    write("cases", [case for case in cases if case[0][0] not in OF_JOBS])
+    write("job_cases", [case for case in cases if case[0][0] in OF_JOBS])
 
 
 main()

@@ -1,6 +1,6 @@
 use cert_text::CertFault;
 use page_build::JobRefusal;
-use std::alloc::{AllocError, AllocFailed};
+use std::alloc::AllocError;
 use std::io;
 use thiserror::Error;
 use viz_base::Mem;
@@ -22,12 +22,6 @@ pub enum Fault {
 
 impl From<AllocError> for Fault {
     fn from(_: AllocError) -> Self {
-        Fault::Mem
-    }
-}
-
-impl<T: Drop> From<AllocFailed<T>> for Fault {
-    fn from(_: AllocFailed<T>) -> Self {
         Fault::Mem
     }
 }

@@ -13,7 +13,6 @@ mod lengths;
 mod lines;
 mod margins;
 mod pages;
-mod replies;
 mod rows;
 mod scribes;
 mod selectors;
@@ -65,15 +64,11 @@ fn answer_layout(scribe: &mut Scribe, name: &str, case: &Value) {
     }
 }
 
-/// The answer to a case of a formula or of a whole job, or of one of those.
-fn answer_job(scribe: &mut Scribe, name: &str, case: &Value) {
+/// The answer to a case of a formula, or of one of those.
+fn answer_formula(scribe: &mut Scribe, name: &str, case: &Value) {
     match name {
         "formulas" => formulas::answer(scribe, case),
         "truths" => truths::answer(scribe, case),
-        "lay" => replies::lay(scribe, case),
-        "check" => replies::check(scribe, case),
-        "prove" => replies::search(scribe, case),
-        "gen" | "trial" => replies::make(scribe, name, case),
         _ => answer_layout(scribe, name, case),
     }
 }
@@ -89,7 +84,7 @@ fn answer_any(scribe: &mut Scribe, name: &str, case: &Value) {
         "matches" => selectors::matched(scribe, case),
         "values" => values::answer(scribe, case),
         "cascade" => cascades::answer(scribe, case),
-        _ => answer_job(scribe, name, case),
+        _ => answer_formula(scribe, name, case),
     }
 }
 

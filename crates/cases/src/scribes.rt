@@ -132,20 +132,9 @@ impl Scribe {
         i128::from(self.integer_at(value, place))
     }
 
-    /// A number of 64 bits.
-    fn long(&mut self, value: &Value) -> u64 {
-        self.found(value.as_u64(), 0)
-    }
-
-    /// The number of 64 bits at a place of an array.
-    pub fn long_at(&mut self, value: &Value, place: usize) -> u64 {
-        let member = self.at(value, place);
-        self.long(member)
-    }
-
     /// A number of 32 bits.
     pub fn natural(&mut self, value: &Value) -> u32 {
-        let number = self.long(value);
+        let number = self.found(value.as_u64(), 0);
         self.found(u32::try_from(number).ok(), 0)
     }
 

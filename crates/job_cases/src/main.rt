@@ -1,0 +1,25 @@
+//! Runs a table of outside cases of whole jobs: a case a line of standard input, as JSON, and what is replied to it a
+//! line of standard output.
+#![tactic(auto)]
+
+mod faults;
+mod members;
+mod replies;
+
+use crate::faults::Fault;
+use serde_json::Value;
+use std::alloc::Global;
+
+/// The answer to a case: an array of the call's name and what it is called with.
+fn answer(alloc: Global, line: &str) -> Result<String, Fault> {
+    let case = Value::from_str(alloc, line)?;
+    replies::answer(alloc, &case)
+}
+
+fn main(rt: HostRuntime) -> Result<(), Fault> {
+    for line in rt.lines(rt.alloc()) {
+        let text = answer(rt.alloc(), line?.as_str())?;
+        println!(rt; "{text}")?;
+    }
+    Ok(())
+}
