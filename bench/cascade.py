@@ -15,9 +15,16 @@ SIZES = (250, 500, 1000)
 RUNS = 5
 
 
+def job(size):
+    """A job whose page has so many elements."""
+    element = {"tag": "div", "attrs": {"class": "a"}}
+    return {"vizlog": 1, "widths": [320, 320], "sizes": [16, 16], "height": 600,
+            "fonts": [{"name": "Square", "upem": 1000, "ascent": 800, "descent": 200, "default": 500}],
+            "page": {**element, "children": [element] * (size - 1)}, "assert": "true"}
+
+
 def case(rule, size):
-    nodes = [[0 if at else None, "div", [["class", "a"]], None] for at in range(size)]
-    return json.dumps(["cascade", nodes, [rule * size]]) + "\n"
+    return json.dumps(["cascade", json.dumps(job(size)), [rule * size]]) + "\n"
 
 
 def main():
