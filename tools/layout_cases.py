@@ -1,4 +1,4 @@
-"""The part of the table of outside cases that tools/cases.py writes which is of layout, rows and derivations.
+"""The part of the tables of outside cases that tools/cases.py writes which is of layout, rows and derivations.
 
 The folder has files of JSON Lines: functions.jsonl, whose lines have a `call` (float_at, band, bottom, collapsed; used, fonts, widths,
 preferred and lead, which have a box tree, its height and a world; and others, which are left out), boxes.jsonl, whose lines have a page,

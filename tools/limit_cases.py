@@ -1,4 +1,4 @@
-"""The part of the table of outside cases that tools/cases.py writes which is of whole replies at the limits of the profile.
+"""The part of the tables of outside cases that tools/cases.py writes which is of whole replies at the limits of the profile.
 
 Jobs, certificates and answers are made here by the rules of docs/PROFILE.md, on pages whose boxes are worked out in a line or two. What `prove`
 is to find is free, so its certificate is not told but checked, and where its world is free no case asks for it. The folder has certs/, whose
