@@ -2,17 +2,12 @@
 //! certificates.
 #![tactic(auto)]
 
-mod files;
-mod run;
-mod status;
-mod words;
-
-use crate::run::run;
-use crate::status::Status;
 use std::env;
 use std::process::ExitCode;
 use viz_base::Mem;
 use viz_outside::{FileShelf, OutSink, words_of};
+use viz_run::Status;
+use viz_run::run::run;
 
 /// Runs on the program's own words, files and output. Words that are no text are of no form.
 fn main(rt: HostRuntime) -> ExitCode {

@@ -1,0 +1,22 @@
+use Rattle.std.proofs.Common.{inl}
+use Rattle.viz_run.proofs.RunLemmas.{given_whole, given_longer}
+use Rattle.viz_run.proofs.files.load_job.Goals as goal
+
+pub returns-in_ok-read_job-in-Ok-Whole-clause-file : goal.returns-in_ok-read_job-in-Ok-Whole-clause-file
+returns-in_ok-read_job-in-Ok-Whole-clause-file g c =
+    let told = rw c.in-Ok-Whole.field-0-is at c.in-Ok-Whole.ensures.told in
+    let few = rw c.in-Ok-Whole.field-0-is at c.in-Ok-Whole.ensures.capped in
+    let loaded = rw c.in-Ok-Whole.field-0-is at c.in-Ok-Whole.ensures.loaded in
+    record {
+      bytes = c.in-Ok-Whole.bytes;
+      given = given_whole (g.F.Shelf.files c.args.shelf.now) g.F.Shelf.loads c.args.name.now 16777216 _ _ c.in-Ok-Whole.bytes told few loaded;
+      reads = rw c.as_slice.ensures at c.in_ok-read_job-in-Ok-Whole.ensures;
+    }
+
+pub returns-in_ok-long_job-in-Ok-Longer-clause-file : goal.returns-in_ok-long_job-in-Ok-Longer-clause-file
+returns-in_ok-long_job-in-Ok-Longer-clause-file g c =
+    let told = rw c.in-Ok-Longer.field-0-is at c.in-Ok-Longer.ensures.told in
+    let loaded = rw c.in-Ok-Longer.field-0-is at c.in-Ok-Longer.ensures.loaded in
+    let found = given_longer (g.F.Shelf.files c.args.shelf.now) g.F.Shelf.loads c.args.name.now 16777216 _ _ told loaded in
+    let reply = c.in_ok-long_job-in-Ok-Longer.ensures in
+    record { bytes = found.0; given = found.1; reads = record { refused = reply.0; reason = inl (record { long = found.2; line = reply.1 }) } }

@@ -1,0 +1,17 @@
+use Rattle.viz_run.proofs.HeadlineLemmas.{run_accepts, run_fails, run_proves, run_tries, run_violates}
+use Rattle.viz_run.proofs.run.run.Goals as goal
+
+pub returns-clause-accepted : goal.returns-clause-accepted
+returns-clause-accepted g c = run_accepts _ _ _ c.answer.result c.answer.ensures.outcome
+
+pub returns-clause-proved : goal.returns-clause-proved
+returns-clause-proved g c = run_proves _ _ _ c.answer.result c.answer.ensures.outcome
+
+pub returns-clause-violated : goal.returns-clause-violated
+returns-clause-violated g c = run_violates _ _ _ c.answer.result c.answer.ensures.outcome
+
+pub returns-clause-trial_proved : goal.returns-clause-trial_proved
+returns-clause-trial_proved g c = run_tries _ _ _ c.answer.result c.answer.ensures.outcome
+
+pub returns-clause-trial_violated : goal.returns-clause-trial_violated
+returns-clause-trial_violated g c = run_fails _ _ _ c.answer.result c.answer.ensures.outcome

@@ -1,0 +1,52 @@
+-- The forms of the program's words.
+use Rattle.std.specs.Prelude.{◌≡◌, ◌≢◌, ◌⊎◌, ℕ, ◌≤◌, ◌<◌, ◌^◌, List, [], ◌∷◌, codes, decimal, slice_get, unwrap_or}
+use Rattle.viz_base.specs.declared.worlds.World.{World}
+use Rattle.page_gen.specs.Jobs.{sections_most}
+use Rattle.viz_run.specs.declared.words.Command.{Command}
+use Rattle.viz_run.specs.declared.words.Command.TheVariants as asks_for
+
+-- the words of a command
+abbrev pub spelled : Command → List (List ℕ)
+spelled (asks_for.Lay job screen) = codes "lay" ∷ job.now ∷ decimal screen.world.w ∷ decimal screen.world.s ∷ []
+spelled (asks_for.Prove job turns) = codes "prove" ∷ job.now ∷ decimal turns ∷ []
+spelled (asks_for.Check job cert) = codes "check" ∷ job.now ∷ cert.now ∷ []
+spelled (asks_for.Gen seed sections) = codes "gen" ∷ decimal seed ∷ decimal sections.count ∷ []
+spelled (asks_for.Trial seed sections turns) = codes "trial" ∷ decimal seed ∷ decimal sections.count ∷ decimal turns
+    ∷ []
+
+-- a width from 1 to 16,384 pixels and a default font size from 1 to 256
+pub record IsWorld (world : World) : Type 0 where
+  pub width_least : 1 ≤ world.w
+  pub width_most : world.w ≤ 16384
+  pub size_least : 1 ≤ world.s
+  pub size_most : world.s ≤ 256
+
+-- a generated job's seed has 64 bits, and its sections are not too many
+pub record IsGenerable (seed sections : ℕ) : Type 0 where
+  pub bits : seed < 2 ^ 64
+  pub few : sections ≤ sections_most
+
+-- a command's numbers are within their limits, and the names of its files are not empty
+abbrev pub IsProper : Command → Type 0
+IsProper (asks_for.Lay job screen) = (job.now ≢ []) × IsWorld screen.world
+IsProper (asks_for.Prove job turns) = (job.now ≢ []) × (turns < 2 ^ 64)
+IsProper (asks_for.Check job cert) = (job.now ≢ []) × (cert.now ≢ [])
+IsProper (asks_for.Gen seed sections) = IsGenerable seed sections.count
+IsProper (asks_for.Trial seed sections turns) = IsGenerable seed sections.count × (turns < 2 ^ 64)
+
+-- the words ask for the command
+pub record Asks (words : List (List ℕ)) (c : Command) : Type 0 where
+  pub words_are : words ≡ spelled c
+  pub proper : IsProper c
+
+-- the words are none of the forms
+abbrev pub AskNothing : List (List ℕ) → Type 0
+AskNothing words = (c : Command) → Asks words c → ⊥
+
+-- the word at a place
+abbrev pub word_at : List (List ℕ) → ℕ → List ℕ
+word_at words at = unwrap_or (slice_get words at) []
+
+-- the words begin as those of a command about a generated job
+abbrev pub AreOfGenerated : List (List ℕ) → Type 0
+AreOfGenerated words = (word_at words 0 ≡ codes "gen") ⊎ (word_at words 0 ≡ codes "trial")

@@ -1,8 +1,0 @@
-use Rattle.std.proofs.Common.{◌<◌, ◌^◌, rules}
-use Rattle.vizlog.proofs.WordLemmas.{sections_within}
-use Rattle.vizlog.proofs.words.sections_of.Goals as goal
-
-pub returns-in-Some : goal.returns-in-Some
-returns-in-Some c =
-    let small : c.in-Some.number < 2 ^ 64 = search rules in
-    sections_within c.args.word.now c.in-Some.number c.within.result small c.in-Some.ensures c.within.ensures
