@@ -11,7 +11,7 @@ use std::alloc::{AllocError, Global};
 use viz_base::BoxTree;
 
 /// Between which things content is parted.
-#[derive(Clone, Copy, PartialEq, Eq)]
+#[derive(Clone, Copy)]
 pub enum Parting {
     /// Wherever a line may break.
     Lines,

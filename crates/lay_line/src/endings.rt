@@ -1,26 +1,34 @@
 //! The end of a line: what it adds, and where the next one begins (CSS 2.1, 9.4.2, 9.5, 10.8).
-ghost use Rattle.std.specs.Prelude.{◌≡◌, ◌++◌, List as Seq, length, IsTrue};
+ghost use Rattle.std.specs.Prelude.{◌≡◌, ◌+ℤ◌, ◌++◌, ◌∷◌, [], List as Seq, length, IsTrue};
+ghost use Rattle.std.specs.Int.{int_max};
 ghost use Rattle.viz_calc.specs.World.{Reading};
-ghost use Rattle.viz_calc.specs.Run.{Goes, BlamesButMem};
+ghost use Rattle.viz_calc.specs.Renderings.{band_at};
+ghost use Rattle.viz_calc.specs.Run.{Stands, Goes, Fits, Blames, BlamesButMem};
+ghost use Rattle.viz_calc.specs.State.{AllSmall};
 ghost use Rattle.layout_semantics.specs.Floats.{FloatBox};
+ghost use Rattle.layout_semantics.specs.LineHeights.{height_of_extent};
+ghost use Rattle.lay_float.specs.Readings.{boxes_at};
 ghost use Rattle.lay_line.specs.Contexts.{context_at};
+ghost use Rattle.lay_line.specs.Limits.{RoomFits};
+ghost use Rattle.lay_line.specs.LineFits.{OnLine};
 ghost use Rattle.lay_line.specs.LinesFit.{EndFits};
 ghost use Rattle.lay_line.specs.Lining.{so_far_at, begun_at, start_at};
-ghost use Rattle.lay_line.specs.Readings.{load_at, slot_at, pieces_at, entries_at};
-ghost use Rattle.lay_line.specs.steps.Lining.{full_line, empty_line, ended_line};
+ghost use Rattle.lay_line.specs.Readings.{line_extent_at, load_at, slot_at, pieces_at, entries_at};
+ghost use Rattle.lay_line.specs.steps.Lining.{left_in, box_in, full_line, empty_line, ended_line};
+ghost use Rattle.lay_line.specs.steps.Words.{room_in};
 
 use crate::containers::Container;
 use crate::entries::{add_entry, add_floats};
-use crate::extents::height;
+use crate::extents::{LineExtent, height};
 use crate::held::Piece;
 use crate::line_content::{Content, add_content, content_left, line_box, place_waiting};
 use crate::loads::Load;
 use crate::meeting::{Met, Slot, floats_of, place_each};
-use lay_float::Floats;
 use lay_float::engine::band;
+use lay_float::{Floats, PlacedFloat};
 use lay_width::limits::greater;
 use std::alloc::Global;
-use viz_base::{Entry, List};
+use viz_base::{Band, Entry, List, Spot};
 use viz_calc::Steady;
 
 /// What lines leave to the next one, in units of 1/64 px.
@@ -60,6 +68,101 @@ pub struct FullLine<'p, 'a, N> {
     pub pieces: &'p [Piece<'a, N>],
 }
 
+/// What is around a line that exists, in units of 1/64 px.
+#[derive(Drop)]
+struct Edges<N> {
+    /// Its bottom.
+    bottom: N,
+    /// What the floats beside it leave.
+    room: Band<N>,
+    /// The highest top that floats behind it may have.
+    least: N,
+}
+
+#[tactic(auto, unfolding(crate::specs::Contexts::context_at, crate::specs::steps::Words::room_in))]
+/// What is around a line that reaches so far, beside these floats.
+fn edges_of<S: Steady>(
+    calc: &mut S,
+    container: &Container<'_, S::Num>,
+    slot: &Slot<S::Num>,
+    extent: &LineExtent<S::Num>,
+    floats: &[PlacedFloat<S::Num>],
+    least: S::Num,
+) -> Edges<S::Num>
+    ensures goes { Goes (S.run calc.old) (S.run calc.new) }
+    ensures bottom { Stands (S.run calc.new) (S.at result.bottom)
+        (λ e. S.at slot.now.top e +ℤ height_of_extent (line_extent_at S.at extent.now e)) }
+    ensures room { (e : Reading) → IsTrue ((S.run calc.new).is_open e) → band_at S.at result.room e
+        ≡ room_in (context_at S.at container.now e) (boxes_at S.at floats.now e) (S.at slot.now.top e)
+        (S.at slot.now.tall e) }
+    ensures least { Stands (S.run calc.new) (S.at result.least) (λ e. int_max (S.at least e) (S.at slot.now.top e)) }
+    ensures cause { Blames (S.run calc.old) (S.run calc.new) ((e : Reading) → IsTrue ((S.run calc.old).is_open e)
+        → AllSmall (height_of_extent (line_extent_at S.at extent.now e)
+        ∷ (S.at slot.now.top e +ℤ height_of_extent (line_extent_at S.at extent.now e)) ∷ S.at slot.now.top e ∷ [])
+        × RoomFits (context_at S.at container.now e) (boxes_at S.at floats.now e) (S.at slot.now.top e)
+        (S.at slot.now.tall e)) }
+{
+    let whole = height(calc, extent);
+    let bottom = calc.add(&slot.top, &whole);
+    let room = band(calc, floats, container.cb, &slot.top, &slot.tall);
+    let top = calc.copy(&slot.top);
+    let least = greater(calc, least, top);
+    Edges {
+        bottom,
+        room,
+        least,
+    }
+}
+
+/// Adds a line box, from edge to edge of what the floats leave.
+fn add_box<S: Steady>(
+    calc: &mut S,
+    container: &Container<'_, S::Num>,
+    room: &Band<S::Num>,
+    top: &S::Num,
+    bottom: &S::Num,
+    entries: &mut List<Entry<S::Num>>,
+)
+    ensures goes { Goes (S.run calc.old) (S.run calc.new) }
+    ensures value { (e : Reading) → IsTrue ((S.run calc.new).is_open e) → entries_at S.at entries.new e
+        ≡ entries_at S.at entries.old e ++ box_in (context_at S.at container.now e) (band_at S.at room.now e)
+        (S.at top.now e) (S.at bottom.now e) ∷ [] }
+    ensures cause { BlamesButMem (S.run calc.old) (S.run calc.new) (Fits (S.run calc.old) (λ e.
+        S.at room.now.left e ∷ S.at top.now e ∷ S.at room.now.right e ∷ S.at bottom.now e ∷ [])) }
+{
+    let entry = line_box(calc, container, room, top, bottom);
+    add_entry(calc, entries, entry);
+}
+
+/// The content of a line that is so wide, on this baseline.
+fn content_of<S: Steady>(
+    calc: &mut S,
+    container: &Container<'_, S::Num>,
+    room: &Band<S::Num>,
+    baseline: &S::Num,
+    width: S::Num,
+    spots: Vec<(u32, Spot<S::Num>)>,
+) -> Content<S::Num>
+    ensures goes { Goes (S.run calc.old) (S.run calc.new) }
+    ensures baseline { Stands (S.run calc.new) (S.at result.baseline) (S.at baseline.now) }
+    ensures left { Stands (S.run calc.new) (S.at result.left)
+        (λ e. left_in (context_at S.at container.now e) (band_at S.at room.now e) (S.at width e)) }
+    ensures width { result.width ≡ width }
+    ensures spots { result.spots.items ≡ spots.items }
+    ensures cause { Blames (S.run calc.old) (S.run calc.new) ((e : Reading) → IsTrue ((S.run calc.old).is_open e)
+        → OnLine (S.at room.now.left e ∷ S.at room.now.right e ∷ S.at width e ∷ [])
+        × AllSmall (S.at baseline.now e ∷ [])) }
+{
+    let left = content_left(calc, container, room, &width);
+    let baseline = calc.copy(baseline);
+    Content {
+        baseline,
+        left,
+        width,
+        spots,
+    }
+}
+
 /// Adds a line that exists, where its floats stand, and gives where the next one begins.
 fn end_full<S: Steady>(
     alloc: Global,
@@ -83,42 +186,41 @@ fn end_full<S: Steady>(
         (load_at S.at line.entry.load e) (pieces_at S.at line.entry.pieces.now e)) }
 {
     let FullLine { slot, load, pieces } = line;
-    let Load {
-        held,
-        is_ended: _,
-        is_line: _,
-        met,
-        extent,
-        opened,
-    } = load;
-    let whole = height(calc, &extent);
-    let bottom = calc.add(&slot.top, &whole);
-    let room = band(
+    let held = load.held;
+    let extent = load.extent;
+    let edges = edges_of(
         calc,
-        met.floats.placed.as_slice(),
-        container.cb,
-        &slot.top,
-        &slot.tall,
+        container,
+        &slot,
+        &extent,
+        load.met.floats.placed.as_slice(),
+        begun.least,
     );
-    let top = calc.copy(&slot.top);
-    let least = greater(calc, begun.least, top);
-    let late = place_waiting(alloc, calc, container, &least, &bottom, met);
-    let entry = line_box(calc, container, &room, &slot.top, &bottom);
-    add_entry(calc, entries, entry);
-    let Met {
-        spots,
-        floats,
-        waiting: _,
-    } = late;
+    let late = place_waiting(
+        alloc,
+        calc,
+        container,
+        &edges.least,
+        &edges.bottom,
+        load.met,
+    );
+    add_box(
+        calc,
+        container,
+        &edges.room,
+        &slot.top,
+        &edges.bottom,
+        entries,
+    );
     let baseline = calc.add(&slot.top, &extent.above);
-    let left = content_left(calc, container, &room, &held.width);
-    let again = calc.copy(&baseline);
-    let content = Content {
-        baseline: again,
-        left,
-        width: held.width,
-        spots,
-    };
+    let content = content_of(
+        calc,
+        container,
+        &edges.room,
+        &baseline,
+        held.width,
+        late.spots,
+    );
     add_content(
         alloc,
         calc,
@@ -129,10 +231,10 @@ fn end_full<S: Steady>(
         entries,
     );
     SoFar {
-        y: bottom,
-        least,
-        floats,
-        opened,
+        y: edges.bottom,
+        least: edges.least,
+        floats: late.floats,
+        opened: load.opened,
         baseline: Some(baseline),
     }
 }

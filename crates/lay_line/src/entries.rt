@@ -1,5 +1,5 @@
 //! What a line adds to the rendering, in document order (CSS 2.1, 9.4.2).
-ghost use Rattle.std.specs.Prelude.{◌≡◌, ℤ, ◌++◌, ◌∷◌, [], None, false, take, IsTrue, ⊤};
+ghost use Rattle.std.specs.Prelude.{◌≡◌, ℤ, ◌++◌, ◌∷◌, [], None, false, true, take, IsTrue, ⊤};
 ghost use Rattle.viz_base.specs.declared.layouts.Entry.TheVariants as of_entry;
 ghost use Rattle.std.specs.Option.{option_map_or};
 ghost use Rattle.viz_calc.specs.World.{Reading};
@@ -10,7 +10,7 @@ ghost use Rattle.lay_line.specs.Contexts.{context_at};
 ghost use Rattle.lay_line.specs.Items.{item_of};
 ghost use Rattle.lay_line.specs.LineFits.{BoxFits, BoxesFit, OnLine, PlacesOnLine, SpotsOnLine, SetFits};
 ghost use Rattle.lay_line.specs.Readings.{entry_at, entries_at, place_at, places_at, spots_at, set_line_at, before_at};
-ghost use Rattle.lay_line.specs.steps.Entries.{piece_in, item_in, items_in, opened_in};
+ghost use Rattle.lay_line.specs.steps.Entries.{piece_in, from_in, atomic_in, item_in, items_in, opened_in};
 ghost use Rattle.lay_line.specs.steps.Lining.{entries_in};
 
 use crate::containers::Container;
@@ -35,7 +35,7 @@ pub fn add_entry<S: Steady>(calc: &mut S, entries: &mut List<Entry<S::Num>>, ent
 }
 
 /// A place on a line, between those before and after it, and where the floats stand that are left.
-#[derive(Clone, Copy)]
+#[derive(Drop)]
 pub struct Here<'p, 'a, N> {
     pub before: Option<&'p ItemPlace<'a, N>>,
     pub place: &'p ItemPlace<'a, N>,
@@ -146,6 +146,53 @@ pub fn add_floats<S: Steady>(
     }
 }
 
+/// Adds the fragment of an inline box that starts here.
+fn add_start<S: Steady>(
+    calc: &mut S,
+    container: &Container<'_, S::Num>,
+    line: &SetLine<'_, '_, S::Num>,
+    at: u32,
+    here: &Here<'_, '_, S::Num>,
+    entries: &mut List<Entry<S::Num>>,
+)
+    ensures goes { Goes (S.run calc.old) (S.run calc.new) }
+    ensures value { (e : Reading) → IsTrue ((S.run calc.new).is_open e) → entries_at S.at entries.new e
+        ≡ entries_at S.at entries.old e ++ from_in (context_at S.at container.now e) (set_line_at S.at line.now e) at
+        true (S.at here.now.place.now.right e) (places_at S.at here.now.after.now e) ∷ [] }
+    ensures cause { BlamesButMem (S.run calc.old) (S.run calc.new) ((e : Reading) → IsTrue ((S.run calc.old).is_open e)
+        → BoxFits (context_at S.at container.now e) at × (OnLine (S.at line.now.baseline e
+        ∷ S.at here.now.place.now.right e ∷ S.at line.now.right e ∷ [])
+        × PlacesOnLine (places_at S.at here.now.after.now e))) }
+{
+    let span = Span {
+        starts: true,
+        left: &here.place.right,
+        after: here.after,
+    };
+    let entry = inline_fragment(calc, container, line, at, &span);
+    add_entry(calc, entries, entry);
+}
+
+/// Adds an atomic box.
+fn add_atomic<S: Steady>(
+    calc: &mut S,
+    container: &Container<'_, S::Num>,
+    line: &SetLine<'_, '_, S::Num>,
+    at: u32,
+    left: &S::Num,
+    entries: &mut List<Entry<S::Num>>,
+)
+    ensures goes { Goes (S.run calc.old) (S.run calc.new) }
+    ensures value { (e : Reading) → IsTrue ((S.run calc.new).is_open e) → entries_at S.at entries.new e
+        ≡ entries_at S.at entries.old e ++ atomic_in (context_at S.at container.now e) (set_line_at S.at line.now e) at
+        (S.at left.now e) ∷ [] }
+    ensures cause { BlamesButMem (S.run calc.old) (S.run calc.new) ((e : Reading) → IsTrue ((S.run calc.old).is_open e)
+        → BoxFits (context_at S.at container.now e) at × OnLine (S.at line.now.baseline e ∷ S.at left.now e ∷ [])) }
+{
+    let entry = atomic_entry(calc, container, line, at, left);
+    add_entry(calc, entries, entry);
+}
+
 #[tactic(auto, unfolding(crate::specs::steps::Entries::item_in))]
 /// Adds what an item of the line adds.
 fn add_item<S: Steady>(
@@ -166,21 +213,10 @@ fn add_item<S: Steady>(
         × (PlacesOnLine (places_at S.at here.now.after.now e) × SpotsOnLine (spots_at S.at here.now.spots.now e))))) }
 {
     match &here.place.item {
-        Item::Start(at) => {
-            let span = Span {
-                starts: true,
-                left: &here.place.right,
-                after: here.after,
-            };
-            let entry = inline_fragment(calc, container, line, *at, &span);
-            add_entry(calc, entries, entry);
-        }
+        Item::Start(at) => add_start(calc, container, line, *at, here, entries),
         Item::Word(at, _) => add_text(calc, container, line, *at, here, entries),
         Item::Space(at) => add_text(calc, container, line, *at, here, entries),
-        Item::Atomic(at) => {
-            let entry = atomic_entry(calc, container, line, *at, &here.place.left);
-            add_entry(calc, entries, entry);
-        }
+        Item::Atomic(at) => add_atomic(calc, container, line, *at, &here.place.left, entries),
         Item::Float(_) => add_first(calc, here.spots, entries),
         Item::Finish(_) | Item::Forced(_) => {}
     }

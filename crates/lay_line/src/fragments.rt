@@ -1,10 +1,11 @@
 //! Pieces of texts and of inline boxes on a line (CSS 2.1, 8.6, 10.6.1).
-ghost use Rattle.std.specs.Prelude.{◌≡◌, ℤ, pos, cond, find, option_map, IsTrue, ◌∷◌, []};
+ghost use Rattle.std.specs.Prelude.{◌≡◌, ℤ, ◌-ℤ◌, pos, cond, find, option_map, IsTrue, ◌∷◌, []};
 ghost use Rattle.std.specs.Option.{option_map_or};
+ghost use Rattle.viz_base.specs.declared.layouts.Entry.TheVariants as of_entry;
 ghost use Rattle.viz_calc.specs.Renderings.{quad_at, placed_at};
 ghost use Rattle.viz_calc.specs.World.{Reading};
 ghost use Rattle.viz_calc.specs.Run.{Stands, Goes, Blames};
-ghost use Rattle.layout_semantics.specs.Blocks.{parent_of, plain_box as plain_of};
+ghost use Rattle.layout_semantics.specs.Blocks.{node_of, parent_of, plain_box as plain_of};
 ghost use Rattle.layout_semantics.specs.Fragments.{is_end_of as ends_box, is_text_of as is_text_at, text_right as right_of, grown as grown_by};
 ghost use Rattle.layout_semantics.specs.Lengths.{used as used_length};
 ghost use Rattle.lay_line.specs.Contexts.{context_at};
@@ -274,6 +275,26 @@ fn fragment_edges<S: Steady>(
     }
 }
 
+/// A rectangle with the used edges of a fragment of an inline box around it.
+fn ring<S: Steady>(
+    calc: &mut S,
+    container: &Container<'_, S::Num>,
+    starts: bool,
+    ends: bool,
+    sides: &Sides<Length>,
+    quad: &Quad<S::Num>,
+) -> Quad<S::Num>
+    ensures goes { Goes (S.run calc.old) (S.run calc.new) }
+    ensures value { (e : Reading) → IsTrue ((S.run calc.new).is_open e) → quad_at S.at result e
+        ≡ grown_by (quad_at S.at quad.now e) (edges_in (context_at S.at container.now e) starts ends sides.now) }
+    ensures cause { Blames (S.run calc.old) (S.run calc.new) ((e : Reading) → IsTrue ((S.run calc.old).is_open e)
+        → EdgesFit (context_at S.at container.now e) sides.now × QuadFits (grown_by (quad_at S.at quad.now e)
+        (edges_in (context_at S.at container.now e) starts ends sides.now))) }
+{
+    let edges = fragment_edges(calc, container, starts, ends, sides);
+    grown(calc, quad, &edges)
+}
+
 #[tactic(auto, unfolding(crate::specs::Contexts::context_at, crate::specs::steps::Entries::around_in))]
 /// The four rectangles around a fragment's content.
 fn around<S: Steady>(
@@ -292,12 +313,30 @@ fn around<S: Steady>(
         (quad_at S.at content e))) }
 {
     let node = node_at(container.tree, at);
-    let edges = fragment_edges(calc, container, starts, ends, &paddings(container.tree, at));
-    let padding = grown(calc, &content, &edges);
-    let edges = fragment_edges(calc, container, starts, ends, &borders(container.tree, at));
-    let border = grown(calc, &padding, &edges);
-    let edges = fragment_edges(calc, container, starts, ends, &margins(container.tree, at));
-    let margin = grown(calc, &border, &edges);
+    let padding = ring(
+        calc,
+        container,
+        starts,
+        ends,
+        &paddings(container.tree, at),
+        &content,
+    );
+    let border = ring(
+        calc,
+        container,
+        starts,
+        ends,
+        &borders(container.tree, at),
+        &padding,
+    );
+    let margin = ring(
+        calc,
+        container,
+        starts,
+        ends,
+        &margins(container.tree, at),
+        &border,
+    );
     Placed {
         kind: Kind::Inline,
         node,
@@ -319,6 +358,34 @@ pub struct Span<'l, 'p, 'a, N> {
     pub after: &'p [ItemPlace<'a, N>],
 }
 
+#[tactic(auto, unfolding(crate::specs::Contexts::context_at))]
+/// The fragment of an inline box from its left edge up to this right one, where it ends or not.
+fn fragment_to<S: Steady>(
+    calc: &mut S,
+    container: &Container<'_, S::Num>,
+    line: &SetLine<'_, '_, S::Num>,
+    at: u32,
+    span: &Span<'_, '_, '_, S::Num>,
+    ends: bool,
+    right: &S::Num,
+) -> Entry<S::Num>
+    ensures goes { Goes (S.run calc.old) (S.run calc.new) }
+    ensures value { (e : Reading) → IsTrue ((S.run calc.new).is_open e) → entry_at S.at result e
+        ≡ of_entry.Here (around_in (context_at S.at container.now e) at span.now.starts ends
+        (area_in (context_at S.at container.now e) (node_of container.now.tree.now at)
+        (S.at line.now.baseline e -ℤ inline_raised (context_at S.at container.now e) at) (S.at span.now.left.now e)
+        (S.at right.now e))) }
+    ensures cause { Blames (S.run calc.old) (S.run calc.new) ((e : Reading) → IsTrue ((S.run calc.old).is_open e)
+        → BoxFits (context_at S.at container.now e) at × OnLine (S.at line.now.baseline e ∷ S.at span.now.left.now e
+        ∷ S.at right.now e ∷ [])) }
+{
+    let up = inline_shift(calc, container, at);
+    let baseline = calc.sub(&line.baseline, &up);
+    let node = node_at(container.tree, at);
+    let area = text_area(calc, container, node, &baseline, span.left, right);
+    Entry::Here(around(calc, container, at, span.starts, ends, area))
+}
+
 #[tactic(auto, unfolding(crate::specs::Contexts::context_at, crate::specs::steps::Entries::from_in))]
 /// The fragment of an inline box: from its left edge up to its end in what follows, where that is on the line, else
 /// to the right of the line's content.
@@ -337,18 +404,9 @@ pub fn inline_fragment<S: Steady>(
         → BoxFits (context_at S.at container.now e) at × (OnLine (S.at line.now.baseline e ∷ S.at span.now.left.now e
         ∷ S.at line.now.right e ∷ []) × PlacesOnLine (places_at S.at span.now.after.now e))) }
 {
-    let up = inline_shift(calc, container, at);
-    let baseline = calc.sub(&line.baseline, &up);
-    let node = node_at(container.tree, at);
     match find_end(at, span.after) {
-        Some(last) => {
-            let area = text_area(calc, container, node, &baseline, span.left, &last.left);
-            Entry::Here(around(calc, container, at, span.starts, true, area))
-        }
-        None => {
-            let area = text_area(calc, container, node, &baseline, span.left, &line.right);
-            Entry::Here(around(calc, container, at, span.starts, false, area))
-        }
+        Some(last) => fragment_to(calc, container, line, at, span, true, &last.left),
+        None => fragment_to(calc, container, line, at, span, false, &line.right),
     }
 }
 

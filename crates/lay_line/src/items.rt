@@ -5,7 +5,7 @@ ghost use Rattle.lay_line.specs.Items.{item_of};
 ghost use Rattle.lay_line.specs.steps.Staying.{is_solid as is_solid_of};
 
 /// An item of inline content, with the place of its box in the tree.
-#[derive(Clone, Copy, PartialEq, Eq)]
+#[derive(Clone, Copy)]
 pub enum Item<'a> {
     /// The start of an inline box.
     Start(u32),

@@ -176,20 +176,14 @@ pub fn add_content<S: Steady>(
         → BoxesFit (context_at S.at container.now e) × ContentFits (S.at content.baseline e) (S.at content.left e)
         (S.at content.width e) (spots_at S.at content.spots.items e) (pieces_at S.at pieces.now e)) }
 {
-    let Content {
-        baseline,
-        left,
-        width,
-        spots,
-    } = content;
-    let right = calc.add(&left, &width);
-    let set = places(alloc, calc, &left, pieces);
+    let right = calc.add(&content.left, &content.width);
+    let set = places(alloc, calc, &content.left, pieces);
     let line = SetLine {
-        baseline,
-        left,
+        baseline: content.baseline,
+        left: content.left,
         right,
         places: set.as_slice(),
-        spots: spots.as_slice(),
+        spots: content.spots.as_slice(),
     };
     add_line_entries(calc, container, &line, opened, entries);
 }

@@ -68,24 +68,14 @@ fn next_line<'p, 'a, S: Steady>(
         → RestFits (context_at S.at frame.now.container.now e) (S.at frame.now.tall e) (so_far_at S.at now e)
         (pieces_at S.at cut.entry.pieces.now e)) }
 {
-    let Cut {
-        first,
-        rest,
-        pieces,
-    } = cut;
-    let SoFar {
-        y,
-        least,
-        floats,
-        opened,
-        baseline,
-    } = now;
+    let first = cut.first;
+    let floats = now.floats;
     let begun = Begun {
-        y,
-        least,
+        y: now.y,
+        least: now.least,
         floats: floats.placed.len(),
-        opened,
-        baseline,
+        opened: now.opened,
+        baseline: now.baseline,
     };
     let container = frame.container;
     let start = nothing(calc);
@@ -111,9 +101,9 @@ fn next_line<'p, 'a, S: Steady>(
         held,
     };
     let load = first_load(alloc, calc, container, &slot, opening);
-    let filled = fill(alloc, calc, container, &slot, load, rest);
-    let count = pieces.len().saturating_sub(filled.rest.pieces.len());
-    let (pieces, _) = pieces.split_at(count);
+    let filled = fill(alloc, calc, container, &slot, load, cut.rest);
+    let count = cut.pieces.len().saturating_sub(filled.rest.pieces.len());
+    let (pieces, _) = cut.pieces.split_at(count);
     let line = FullLine {
         slot,
         load: filled.load,

@@ -300,23 +300,21 @@ pub fn with_stretch<S: Steady>(
         (S.at slot.now.top e) taken.entry.floats.now × IsHalf (S.at slot.now.tall e))
         × BoxesReach (context_at S.at container.now e)) }
 {
-    let Load {
-        held: _,
-        is_ended,
-        is_line,
-        met,
-        extent,
-        opened,
-    } = load;
-    let Taken { part, floats, held } = taken;
-    let mut met = met;
-    meet_each(calc, container, slot, &held.width, &mut met, floats);
-    let extent = extended(calc, container, extent, part);
-    let opened = opened_behind(alloc, calc, opened, part);
+    let mut met = load.met;
+    meet_each(
+        calc,
+        container,
+        slot,
+        &taken.held.width,
+        &mut met,
+        taken.floats,
+    );
+    let extent = extended(calc, container, load.extent, taken.part);
+    let opened = opened_behind(alloc, calc, load.opened, taken.part);
     Load {
-        held,
-        is_ended: is_ended || has_forced(part),
-        is_line: is_line || has_maker(container.tree, part),
+        held: taken.held,
+        is_ended: load.is_ended || has_forced(taken.part),
+        is_line: load.is_line || has_maker(container.tree, taken.part),
         met,
         extent,
         opened,

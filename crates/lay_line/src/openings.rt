@@ -102,30 +102,25 @@ pub fn first_load<S: Steady>(
         → FirstFits (context_at S.at container.now e) (slot_at S.at slot.now e) (met_at S.at opening.entry.met e)
         (pieces_at S.at opening.entry.first.now e)) }
 {
-    let Opening {
-        met,
-        opened,
-        first,
-        held,
-    } = opening;
     let strut = strut(calc, container);
-    let extent = extent_at_start(calc, container, strut, opened);
-    let opened = copy_boxes(alloc, calc, opened);
+    let extent = extent_at_start(calc, container, strut, opening.opened);
+    let opened = copy_boxes(alloc, calc, opening.opened);
     let empty = nothing(calc);
     let load = Load {
         held: empty,
         is_ended: false,
         is_line: false,
-        met,
+        met: opening.met,
         extent,
         opened,
     };
+    let first = opening.first;
     let (_, late) = first.split_at(ahead(container.tree, first));
     let floats = floats_of(alloc, calc, late);
     let taken = Taken {
         part: first,
         floats: floats.as_slice(),
-        held,
+        held: opening.held,
     };
     with_stretch(alloc, calc, container, slot, load, taken)
 }

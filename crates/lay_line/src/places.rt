@@ -1,11 +1,11 @@
 //! Where the items of a line stand (CSS 2.1, 9.4.2, 16.6.1).
-ghost use Rattle.std.specs.Prelude.{◌≡◌, ◌+ℤ◌, ◌++◌, ◌∷◌, [], IsTrue, ⊤};
+ghost use Rattle.std.specs.Prelude.{◌≡◌, ◌+ℤ◌, ◌||◌, ◌++◌, ◌∷◌, [], IsTrue, ⊤};
 ghost use Rattle.viz_calc.specs.World.{Reading};
 ghost use Rattle.viz_calc.specs.Run.{Goes, Fits, Blames, BlamesButMem};
 ghost use Rattle.lay_line.specs.Items.{item_of};
 ghost use Rattle.lay_line.specs.Readings.{piece_at, pieces_at, place_at, places_at, row_at};
 ghost use Rattle.lay_line.specs.steps.Measured.{placed_at, row_with as row_by, row_after as row_next, rows, first_row};
-ghost use Rattle.lay_line.specs.steps.Staying.{stays as stays_of, fewer as fewer_by_one, is_some_left as is_left};
+ghost use Rattle.lay_line.specs.steps.Staying.{is_solid as is_solid_of, stays as stays_of, fewer as fewer_by_one, is_some_left as is_left};
 ghost use Rattle.lay_line.specs.Limits.{StandFits};
 
 use crate::held::Piece;
@@ -95,6 +95,13 @@ pub struct Row<'a, N> {
     pub places: Vec<ItemPlace<'a, N>>,
 }
 
+/// Whether there was a word or an atomic box, after an item more.
+fn begun_after(begun: bool, item: &Item) -> bool
+    ensures { result ≡ (begun || is_solid_of (item_of item.now)) }
+{
+    begun || is_solid(item)
+}
+
 /// With an item more that stays.
 fn row_with<'a, S: Steady>(
     calc: &mut S,
@@ -107,20 +114,14 @@ fn row_with<'a, S: Steady>(
     ensures cause { BlamesButMem (S.run calc.old) (S.run calc.new)
         (Fits (S.run calc.old) (λ e. S.at row.entry.x e ∷ (S.at row.entry.x e +ℤ S.at piece.now.width e) ∷ [])) }
 {
-    let Row {
-        x,
-        begun,
-        left,
-        places,
-    } = row;
-    let place = placed(calc, &x, piece);
+    let place = placed(calc, &row.x, piece);
     let right = calc.copy(&place.right);
-    let mut places = places;
+    let mut places = row.places;
     keep(calc, &mut places, place);
     Row {
         x: right,
-        begun: begun || is_solid(&piece.item),
-        left,
+        begun: begun_after(row.begun, &piece.item),
+        left: row.left,
         places,
     }
 }

@@ -5,14 +5,14 @@ ghost use Rattle.lay_line.specs.steps.Loading.{parts_of, mark_from, IsFirst};
 use crate::held::Piece;
 
 /// Pieces, and whether a stretch ends behind each.
-#[derive(Clone, Copy)]
+#[derive(Drop)]
 pub struct Stretches<'p, 'a, N> {
     pub pieces: &'p [Piece<'a, N>],
     pub marks: &'p [bool],
 }
 
 /// A stretch, and those behind it.
-#[derive(Clone, Copy)]
+#[derive(Drop)]
 pub struct Cut<'p, 'a, N> {
     /// All that was cut.
     pub pieces: &'p [Piece<'a, N>],

@@ -3,7 +3,7 @@ use Rattle.viz_calc.specs.World.{Reading}
 use Rattle.lay_line.specs.Contexts.{context_at}
 use Rattle.lay_line.specs.LineFits.{BoxesFit, OnLine, PlacesOnLine, SpotsOnLine}
 use Rattle.lay_line.specs.Readings.{places_at, spots_at}
-use Rattle.lay_line.proofs.Chains.{start_but_mem, next_but_mem, but_mem}
+use Rattle.lay_line.proofs.Chains.{start_but_mem}
 use Rattle.lay_line.proofs.entries.add_item.Goals as goal
 
 pub returns-in-Start-clause-cause : goal.returns-in-Start-clause-cause
@@ -13,10 +13,9 @@ returns-in-Start-clause-cause g c =
     let line = c.args.line.now in
     let asks = (λ (e : Reading). BoxesFit (context_at at c.args.container.now e) × (OnLine (at line.baseline e ∷ at line.right e ∷ [])
     × (OnLine (at here.place.now.left e ∷ at here.place.now.right e ∷ []) × (PlacesOnLine (places_at at here.after.now e) × SpotsOnLine (spots_at at here.spots.now e))))) in
-    let piece = start_but_mem {asks = asks} c.inline_fragment-entry.ensures.goes (but_mem c.inline_fragment-entry.ensures.cause) (λ f e o.
+    (start_but_mem {asks = asks} c.add_start.ensures.goes c.add_start.ensures.cause (λ f e o.
     let p = f e o in
-    (p.0 c.in-Start.at, ((p.1.0.0, (p.1.1.0.1.0, (p.1.0.1.0, tt))), p.1.1.1.0))) in
-    (next_but_mem piece c.add_entry.ensures.goes c.add_entry.ensures.cause (λ f. tt)).cause
+    (p.0 c.in-Start.at, ((p.1.0.0, (p.1.1.0.1.0, (p.1.0.1.0, tt))), p.1.1.1.0)))).cause
 
 pub returns-in-Word-clause-cause : goal.returns-in-Word-clause-cause
 returns-in-Word-clause-cause g c =
@@ -48,7 +47,6 @@ returns-in-Atomic-clause-cause g c =
     let b = c.in-Atomic.at in
     let asks = (λ (e : Reading). BoxesFit (context_at at c.args.container.now e) × (OnLine (at line.baseline e ∷ at line.right e ∷ [])
     × (OnLine (at here.place.now.left e ∷ at here.place.now.right e ∷ []) × (PlacesOnLine (places_at at here.after.now e) × SpotsOnLine (spots_at at here.spots.now e))))) in
-    let piece = start_but_mem {asks = asks} c.atomic_entry-entry.ensures.goes (but_mem c.atomic_entry-entry.ensures.cause) (λ f e o.
+    (start_but_mem {asks = asks} c.add_atomic.ensures.goes c.add_atomic.ensures.cause (λ f e o.
     let p = f e o in
-    (p.0 b, (p.1.0.0, (p.1.1.0.0, tt)))) in
-    (next_but_mem piece c.add_entry-in-Atomic.ensures.goes c.add_entry-in-Atomic.ensures.cause (λ f. tt)).cause
+    (p.0 b, (p.1.0.0, (p.1.1.0.0, tt))))).cause

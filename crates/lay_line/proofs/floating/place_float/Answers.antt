@@ -1,18 +1,23 @@
-use Rattle.std.proofs.Common.{ℤ, List, ◌∷◌, sym, subst}
+use Rattle.std.proofs.Common.{ℤ, List, [], ◌∷◌, ◌++◌, sym, subst, ap, ◌∙◌}
 use Rattle.std.specs.Option.{option_to_list}
 use Rattle.viz_calc.specs.World.{Reading}
+use Rattle.viz_calc.specs.Renderings.{band_at, spot_at}
+use Rattle.viz_calc.proofs.Runs.{Goes-then}
+use Rattle.layout_semantics.specs.Floats.{floating, float_at, float_top, placed_float}
 use Rattle.lay_float.specs.Limits.{IsHalf, AreHalf}
-use Rattle.lay_float.specs.Readings.{boxes_at, floats_at}
+use Rattle.lay_float.specs.Readings.{boxes_at, extent_at, floats_at}
 use Rattle.lay_float.specs.steps.Lent.{lent_at}
 use Rattle.lay_float.proofs.Rooms.{top_half}
 use Rattle.lay_line.proofs.Chains.{start_but_mem, next_but_mem, but_mem}
 use Rattle.lay_line.proofs.floating.place_float.Goals as goal
 
-pub returns-clause-cause : goal.returns-clause-cause
-returns-clause-cause g c =
+pub returns : goal.returns
+returns g c =
     let at = g.S.Steady.at in
     let size = c.args.size.now in
     let cb = c.args.cb.now in
+    let old = (λ (e : Reading). floats_at at c.args.floats.now e) in
+    let f = (λ (e : Reading). floating c.args.tree.now c.args.at (extent_at at size e) (band_at at cb e)) in
     let least = (λ (e : Reading). lent_at at c.args.least e) in
     let y = (λ (e : Reading). at c.args.y.now e) in
     let levels = (λ (e : Reading). y e ∷ option_to_list (least e)) in
@@ -22,7 +27,19 @@ returns-clause-cause g c =
     let placed = c.as_slice.result.now in
     let given = (λ (e : Reading) (a : asks e). subst (λ fs. AreHalf (boxes_at at fs e) (levels e)) (sym c.as_slice.ensures) (record { edges = a.edges; numbers = a.numbers.1.1.1.1 })) in
     let one = start_but_mem {asks = asks} top.goes (but_mem top.cause) (λ f e o. given e (f e o)) in
-    (next_but_mem one c.place.ensures.goes c.place.ensures.cause (λ f e o.
-    let a = f e o in
-    let half = subst IsHalf (sym (top.value e o)) (top_half c.clear_at-clear.result (boxes_at at placed e) (least e) (y e) (given e a)) in
-    record { edges = a.edges; numbers = (a.numbers.0, (a.numbers.1.0, (a.numbers.1.1.0, (a.numbers.1.1.1.0, (half, tt))))) })).cause
+    record {
+      goes = Goes-then _ _ _ top.goes c.place.ensures.goes;
+      value = λ e o.
+          c.place.ensures.value e o
+          ∙ (ap (λ s. float_at (old e) s (f e).size (f e).cb (at c.float_top-top.result e)) c.side_at-side.ensures
+          ∙ (ap (λ t. float_at (old e) (f e).side (f e).size (f e).cb t) (top.value e (c.place.ensures.goes.closes e o))
+          ∙ (ap (λ k. float_at (old e) (f e).side (f e).size (f e).cb (float_top k (boxes_at at placed e) (least e) (y e))) c.clear_at-clear.ensures
+          ∙ ap (λ l. float_at (old e) (f e).side (f e).size (f e).cb (float_top (f e).clear (boxes_at at l e) (least e) (y e))) c.as_slice.ensures)));
+      appended = λ e o.
+          c.place.ensures.appended e o
+          ∙ ap (λ s. old e ++ placed_float s (f e).size (spot_at at c.place.result e) ∷ []) c.side_at-side.ensures;
+      cause = (next_but_mem one c.place.ensures.goes c.place.ensures.cause (λ f e o.
+          let a = f e o in
+          let half = subst IsHalf (sym (top.value e o)) (top_half c.clear_at-clear.result (boxes_at at placed e) (least e) (y e) (given e a)) in
+          record { edges = a.edges; numbers = (a.numbers.0, (a.numbers.1.0, (a.numbers.1.1.0, (a.numbers.1.1.1.0, (half, tt))))) })).cause;
+    }
