@@ -3,7 +3,7 @@ use thiserror::Error;
 use viz_base::{Mem, Prop, Source};
 
 /// Why a page has no cascade.
-#[derive(Clone, Copy, Debug, PartialEq, Eq, Error)]
+#[derive(Clone, Copy, Debug, Error)]
 pub enum CascadeFault {
     #[error("out of memory")]
     Mem,

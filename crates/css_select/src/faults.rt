@@ -2,7 +2,7 @@ use thiserror::Error;
 use viz_base::Mem;
 
 /// Why a text is refused as a group of selectors. Places are in bytes of the text.
-#[derive(Clone, Copy, Debug, PartialEq, Eq, Error)]
+#[derive(Clone, Copy, Debug, Error)]
 pub enum SelFault {
     #[error("out of memory")]
     Mem,

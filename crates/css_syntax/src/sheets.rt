@@ -14,7 +14,7 @@ use thiserror::Error;
 use viz_base::{Decl, List, Mem, Rule, Sheet};
 
 /// Why a text is refused as a style sheet. Places are in bytes of the text.
-#[derive(Clone, Copy, Debug, PartialEq, Eq, Error)]
+#[derive(Clone, Copy, Debug, Error)]
 pub enum SheetFault {
     #[error("out of memory")]
     Mem,

@@ -10,7 +10,7 @@ use std::alloc::Global;
 use viz_base::{Mem, Text, TokenKind};
 
 /// Where a text ends before its end.
-#[derive(Clone, Copy, PartialEq, Eq)]
+#[derive(Clone, Copy)]
 enum Ending {
     Nowhere,
 
@@ -22,7 +22,7 @@ enum Ending {
 }
 
 /// Behind what a text is resolved.
-#[derive(Clone, Copy, PartialEq, Eq)]
+#[derive(Clone, Copy)]
 enum Mode {
     Plain,
     Backslash,

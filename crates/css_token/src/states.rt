@@ -8,14 +8,14 @@ use crate::letters::{
 use viz_base::TokenKind;
 
 /// What a string stands between.
-#[derive(Clone, Copy, PartialEq, Eq)]
+#[derive(Clone, Copy)]
 pub enum Quote {
     Double,
     Single,
 }
 
 /// What a row of characters and escapes is part of.
-#[derive(Clone, Copy, PartialEq, Eq)]
+#[derive(Clone, Copy)]
 pub enum Row {
     Word,
     AtWord,
@@ -28,7 +28,7 @@ pub enum Row {
 
 /// Where in its row the scanner is: behind a backslash, where so many hexadecimal digits may still come, behind a
 /// carriage return to which a line feed belongs, or at none of these.
-#[derive(Clone, Copy, PartialEq, Eq)]
+#[derive(Clone, Copy)]
 pub enum Going {
     Plain,
     Backslash,
@@ -37,7 +37,7 @@ pub enum Going {
 }
 
 /// What the scanner has read of a piece.
-#[derive(Clone, Copy, PartialEq, Eq)]
+#[derive(Clone, Copy)]
 pub enum State {
     Begin,
 

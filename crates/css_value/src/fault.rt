@@ -4,7 +4,7 @@ use thiserror::Error;
 use viz_base::{Mem, Prop};
 
 /// Why a declaration gives no setting.
-#[derive(Clone, Copy, Debug, PartialEq, Eq, Error)]
+#[derive(Clone, Copy, Debug, Error)]
 pub enum ValueFault {
     #[error("out of memory")]
     Mem,

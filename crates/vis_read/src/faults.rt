@@ -5,7 +5,7 @@ use thiserror::Error;
 use viz_base::Mem;
 
 /// Why a text is refused as a formula. Places are in bytes of the text.
-#[derive(Clone, Copy, Debug, PartialEq, Eq, Error)]
+#[derive(Clone, Copy, Debug, Error)]
 pub enum FormulaFault {
     #[error("out of memory")]
     Mem,
