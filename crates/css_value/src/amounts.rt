@@ -70,7 +70,8 @@ fn scaled(n: i64, times: i64, parts: i64) -> i64
     requires some { pos 0 <ℤ parts }
     ensures { result ≡ int_div_euclid (n *ℤ times) parts }
 {
-    (n * times).div_euclid(parts)
+    let product = n * times;
+    product.div_euclid(parts)
 }
 
 /// A length of so many millionths of a unit, an absolute one by its floor in 1/64 px.

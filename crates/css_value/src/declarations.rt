@@ -1,7 +1,7 @@
 ghost use Rattle.std.specs.Prelude.{◌≡◌, codes};
-ghost use Rattle.std.specs.List.{list_any};
+ghost use Rattle.std.specs.List.{find, list_any};
 ghost use Rattle.css_semantics.specs.Values.{is_keyword};
-ghost use Rattle.css_semantics.specs.Shorthands.{Says, declared, list_style, longhand_or, shorthand, shorthand_name, shorthand_named};
+ghost use Rattle.css_semantics.specs.Shorthands.{Says, declared, list_style, longhand_or, shorthand, shorthand_name, shorthand_named, shorthands};
 ghost use Rattle.css_semantics.specs.Names.{same_name};
 ghost use Rattle.css_semantics.specs.Properties.{property_named};
 ghost use Rattle.viz_base.specs.Answers.{Gives, GivesOneOf};
@@ -99,15 +99,28 @@ fn is_named(name: &str, shorthand: Shorthand) -> bool
     same_name(name, shorthand_name(shorthand))
 }
 
-fn shorthand_named(name: &str) -> Option<Shorthand>
-    ensures { result ≡ shorthand_named name.now }
+/// The first of the shorthands that has this name.
+fn first_named(name: &str, among: &[Shorthand]) -> Option<Shorthand>
+    ensures { result ≡ find (λ s. same_name name.now (shorthand_name s)) among.now }
 {
-    for shorthand in SHORTHANDS.as_slice() {
+    for shorthand in among {
         if is_named(name, *shorthand) {
             return Some(*shorthand);
         }
     }
     None
+}
+
+fn shorthands() -> &'static [Shorthand]
+    ensures { result.now ≡ shorthands }
+{
+    &SHORTHANDS
+}
+
+fn shorthand_named(name: &str) -> Option<Shorthand>
+    ensures { result ≡ shorthand_named name.now }
+{
+    first_named(name, shorthands())
 }
 
 fn names_inside(parts: &[Part]) -> bool

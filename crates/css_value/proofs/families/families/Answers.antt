@@ -1,4 +1,4 @@
-use Rattle.std.proofs.Common.{Some, None, sym, ◌∙◌}
+use Rattle.std.proofs.Common.{Some, None, ◌∙◌}
 use Rattle.css_semantics.specs.Values.{families}
 use Rattle.css_value.proofs.FamilyLemmas.{names_more, with_front_nil}
 use Rattle.css_value.proofs.families.families.Goals as goal
