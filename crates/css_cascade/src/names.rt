@@ -1,4 +1,4 @@
-ghost use Rattle.std.specs.Prelude.{◌≡◌, ◌<◌, ◌++◌, ℕ, OnOk, IfOk};
+ghost use Rattle.std.specs.Prelude.{◌≡◌, ◌<◌, ◌++◌, ◌∷◌, ℕ, List as Seq, OnOk, IfOk};
 ghost use Rattle.std.specs.List.{Contains};
 ghost use Rattle.css_semantics.specs.TokensLetters.{is_space};
 ghost use Rattle.css_cascade.specs.steps.Buckets.{attribute_buckets, bucket_behind, bucket_of, buckets_from, class_buckets, element_buckets, id_buckets};
@@ -37,18 +37,28 @@ pub fn bucket_of(word: &str) -> usize
     at
 }
 
+/// The bucket behind one more byte of a text, after adding that of a piece which ends before it.
+fn pass_byte(buckets: &mut Vec<usize>, at: usize, byte: u8) -> Result<usize, Mem>
+    requires { at < 8191 }
+    ensures within { IfOk result (λ next. next < 8191) }
+    ensures added { IfOk result (λ next. (rest : Seq ℕ) → buckets.new.items ++ buckets_from next rest
+        ≡ buckets.old.items ++ buckets_from at (byte ∷ rest)) }
+{
+    if is_space(byte) {
+        buckets.push(at)?;
+        Ok(0)
+    } else {
+        Ok(bucket_behind(at, byte))
+    }
+}
+
 /// Adds the buckets of the pieces of a text between white space.
 fn add_pieces(buckets: &mut Vec<usize>, text: &str) -> Result<(), Mem>
     ensures { OnOk result (buckets.new.items ≡ buckets.old.items ++ buckets_from 0 text.now) }
 {
     let mut at = 0;
     for byte in text.as_bytes() {
-        if is_space(*byte) {
-            buckets.push(at)?;
-            at = 0;
-        } else {
-            at = bucket_behind(at, *byte);
-        }
+        at = pass_byte(buckets, at, *byte)?;
     }
     buckets.push(at)?;
     Ok(())
@@ -74,6 +84,15 @@ fn add_id(buckets: &mut Vec<usize>, attr: &Attr) -> Result<(), Mem>
     Ok(())
 }
 
+/// Adds the buckets of an attribute's words.
+fn add_words(buckets: &mut Vec<usize>, attr: &Attr) -> Result<(), Mem>
+    ensures { OnOk result (buckets.new.items ≡ buckets.old.items ++ attribute_buckets attr.now) }
+{
+    add_classes(buckets, attr)?;
+    add_id(buckets, attr)?;
+    Ok(())
+}
+
 /// The buckets of an element's tag, classes and ids, in no order.
 pub fn words_of(alloc: Global, element: &Element) -> Result<Vec<usize>, Mem>
     ensures { IfOk result (λ buckets. buckets.items ≡ element_buckets element.now) }
@@ -81,8 +100,7 @@ pub fn words_of(alloc: Global, element: &Element) -> Result<Vec<usize>, Mem>
     let mut buckets = Vec::new(alloc);
     buckets.push(bucket_of(element.tag.as_str()))?;
     for attr in element.attrs.as_slice() {
-        add_classes(&mut buckets, attr)?;
-        add_id(&mut buckets, attr)?;
+        add_words(&mut buckets, attr)?;
     }
     Ok(buckets)
 }
