@@ -145,7 +145,7 @@ held_put table (Some a) v d q l = by_place (cases_eq q a)
         ∙ ap (λ t. if t then v else get_or table q d) (sym (eq-eqb a q (sym e))))
     by_place (inr ne) = get_or-set_other table a q v d ne ∙ ap (λ t. if t then v else get_or table q d) (sym (other_number a q (λ e. ne (sym e))))
 
-length_put : {S : Type 0} (table : List S) (o : Option ℕ) (v : S) → length (put table o v) ≡ length table
+pub length_put : {S : Type 0} (table : List S) (o : Option ℕ) (v : S) → length (put table o v) ≡ length table
 length_put table None v = refl
 length_put table (Some a) v = length-set table a v
 

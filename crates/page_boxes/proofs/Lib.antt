@@ -1,4 +1,5 @@
 pub mod Lists
+pub mod Turns
 pub mod NodeSteps
 pub mod SpaceSteps
 pub mod Bounds

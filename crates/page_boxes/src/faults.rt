@@ -3,7 +3,7 @@ use thiserror::Error;
 use viz_base::Mem;
 
 /// Why a page has no box tree.
-#[derive(Clone, Copy, Debug, PartialEq, Eq, Error)]
+#[derive(Clone, Copy, Debug, Error)]
 pub enum BoxFault {
     #[error("out of memory")]
     Mem,

@@ -1,7 +1,9 @@
 //! Boxes for which a page is refused.
-ghost use Rattle.std.specs.Prelude.{◌≡◌, replicate, IfOk, false};
+ghost use Rattle.std.specs.Prelude.{◌≡◌, ◌&&◌, replicate, IfOk, false};
+ghost use Rattle.layout_semantics.specs.BoxTrees.{is_block_part};
 ghost use Rattle.layout_semantics.specs.Directions.{is_right_to_left};
-ghost use Rattle.page_boxes.specs.Seen.{all_seen};
+ghost use Rattle.page_boxes.specs.Seen.{seen, all_seen};
+ghost use Rattle.page_boxes.specs.steps.Tables.{held};
 ghost use Rattle.page_boxes.specs.steps.Refusing.{inline_nodes, block_in, first_turned, turned};
 
 use crate::parts::{Level, Part};
@@ -20,6 +22,13 @@ fn inline_nodes(alloc: Global, parts: &[Part], nodes: usize) -> Result<Vec<bool>
     Ok(table)
 }
 
+/// Whether a box is block-level, in normal flow and directly in an inline box.
+fn is_block_in(inlines: &[bool], part: &Part) -> bool
+    ensures { result ≡ (is_block_part (seen part.now) && held inlines.now part.now.parent false) }
+{
+    part.level == Level::Block && held(inlines, part.parent, false)
+}
+
 /// The node of the first block-level box in normal flow that is directly in an inline box.
 pub fn block_in_inline(
     alloc: Global,
@@ -31,7 +40,7 @@ pub fn block_in_inline(
 {
     let table = inline_nodes(alloc, parts, nodes)?;
     for part in parts {
-        if part.level == Level::Block && held(&table, part.parent, false) {
+        if is_block_in(&table, part) {
             return Ok(Some(part.node));
         }
     }

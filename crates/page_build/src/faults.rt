@@ -7,7 +7,7 @@ use viz_base::{Mem, Part, Prop, Text, Which};
 
 /// Why bytes are refused as a job, in the order in which they are looked at. Sheets are those of the author, by their
 /// numbers from 0; places are in bytes of the sheet.
-#[derive(Debug, Drop, PartialEq, Eq, Error)]
+#[derive(Debug, Drop, Error)]
 pub enum JobRefusal {
     #[error("out of memory")]
     Mem,

@@ -3,7 +3,7 @@ use thiserror::Error;
 use viz_base::{Part, Which};
 
 /// Why bytes are refused as a job file.
-#[derive(Clone, Copy, Debug, PartialEq, Eq, Error)]
+#[derive(Clone, Copy, Debug, Error)]
 pub enum JobFault {
     #[error("out of memory")]
     Mem,
