@@ -1,8 +1,8 @@
 use crate::outline::Outline;
 use crate::pairing::paired;
 use crate::ranges::{most_of, ranges_of};
-use crate::sources::{Bounds, Range, Source, View};
-use crate::sums::{Manner, Part, Sum, add, eliminate, is_closed};
+use crate::sources::{Bounds, Range, Source, Stop, View, made};
+use crate::sums::{Manner, Part, Sum, add, contradiction};
 use crate::writing::written;
 use lin_proof::{Branch, Derivation, Ending, Step};
 use lin_row::{Row, RowFault};
@@ -485,13 +485,13 @@ fn closed_by(
     start: Source,
 ) -> Result<Option<List<Step>>, Mem> {
     let count = sums.len();
-    if let Some(end) = eliminate(alloc, view, sums, start, 0, Manner::Exact)? {
-        if is_closed(view, sums, end) {
-            return written(alloc, view, sums, end);
+    match made(contradiction(alloc, view, sums, start, Manner::Exact))? {
+        Some(end) => written(alloc, view, sums, end),
+        None => {
+            sums.truncate(count);
+            Ok(None)
         }
     }
-    sums.truncate(count);
-    Ok(None)
 }
 
 /// Steps to a contradiction from a large multiple of one row, with bounds taken as often as they fit.
@@ -502,6 +502,22 @@ fn closed_finely(
     start: Source,
 ) -> Result<Option<List<Step>>, Mem> {
     let count = sums.len();
+    match made(fine_end(alloc, view, sums, start))? {
+        Some(end) => written(alloc, view, sums, end),
+        None => {
+            sums.truncate(count);
+            Ok(None)
+        }
+    }
+}
+
+/// A contradiction from a large multiple of one row, with bounds taken as often as they fit.
+fn fine_end(
+    alloc: Global,
+    view: View<'_>,
+    sums: &mut Vec<Sum>,
+    start: Source,
+) -> Result<Source, Stop> {
     let most = Part {
         times: FINE - 1,
         of: start,
@@ -510,15 +526,8 @@ fn closed_finely(
         times: 1,
         of: start,
     };
-    if let Some(large) = add(alloc, view, sums, most, once)? {
-        if let Some(end) = eliminate(alloc, view, sums, large, 0, Manner::Rounded)? {
-            if is_closed(view, sums, end) {
-                return written(alloc, view, sums, end);
-            }
-        }
-    }
-    sums.truncate(count);
-    Ok(None)
+    let large = add(alloc, view, sums, most, once)?;
+    contradiction(alloc, view, sums, large, Manner::Rounded)
 }
 
 /// A contradiction from a range without numbers.
@@ -556,5 +565,5 @@ fn add_ends(
         times: 1,
         of: Source::High(place),
     };
-    add(alloc, view, sums, low, high)
+    made(add(alloc, view, sums, low, high))
 }

@@ -1,5 +1,5 @@
-use crate::sources::{Source, View};
-use crate::sums::{Manner, Sum, cancel, eliminate, is_closed, row_of};
+use crate::sources::{Source, Stop, View, made};
+use crate::sums::{Manner, Sum, cancel, contradiction, eliminate, row_of};
 use lin_row::Row;
 use std::alloc::Global;
 use viz_base::Mem;
@@ -16,7 +16,7 @@ pub fn paired(
     if splits.is_empty() {
         return Ok(None);
     }
-    let low = eliminate(alloc, view, sums, start, base, Manner::Exact)?;
+    let low = made(eliminate(alloc, view, sums, start, base, Manner::Exact))?;
     for split in splits {
         let split = Source::Fact(*split);
         if let Some(found) = paired_with(alloc, view, sums, start, low, split, base)? {
@@ -54,7 +54,7 @@ fn joined_below(
     split: Source,
     base: u32,
 ) -> Result<Option<Source>, Mem> {
-    match eliminate(alloc, view, sums, split, base, Manner::Exact)? {
+    match made(eliminate(alloc, view, sums, split, base, Manner::Exact))? {
         Some(other) => joined(alloc, view, sums, low, other),
         None => Ok(None),
     }
@@ -86,15 +86,24 @@ fn joined_by(
     pair: (i128, i128),
 ) -> Result<Option<Source>, Mem> {
     let count = sums.len();
-    if let Some(sum) = cancel(alloc, view, sums, first, second, pair.0, pair.1)? {
-        if let Some(end) = eliminate(alloc, view, sums, sum, 0, Manner::Exact)? {
-            if is_closed(view, sums, end) {
-                return Ok(Some(end));
-            }
-        }
+    let end = made(end_of(alloc, view, sums, first, second, pair))?;
+    if end.is_none() {
+        sums.truncate(count);
     }
-    sums.truncate(count);
-    Ok(None)
+    Ok(end)
+}
+
+/// What elimination makes of two rows from which a variable with these coefficients was taken away, a contradiction.
+fn end_of(
+    alloc: Global,
+    view: View<'_>,
+    sums: &mut Vec<Sum>,
+    first: Source,
+    second: Source,
+    pair: (i128, i128),
+) -> Result<Source, Stop> {
+    let sum = cancel(alloc, view, sums, first, second, pair.0, pair.1)?;
+    contradiction(alloc, view, sums, sum, Manner::Exact)
 }
 
 /// The coefficients in two rows of each variable that both have with opposite signs.

@@ -1,4 +1,42 @@
 use lin_row::Row;
+use std::alloc::{AllocError, AllocFailed};
+use viz_base::Mem;
+
+/// Why something is not made.
+#[derive(Clone, Copy)]
+pub enum Stop {
+    /// Want of memory.
+    Mem,
+    /// Something is missing, or a number leaves its range.
+    Missing,
+}
+
+impl From<AllocError> for Stop {
+    fn from(_: AllocError) -> Self {
+        Stop::Mem
+    }
+}
+
+impl<T: Drop> From<AllocFailed<T>> for Stop {
+    fn from(_: AllocFailed<T>) -> Self {
+        Stop::Mem
+    }
+}
+
+impl From<Mem> for Stop {
+    fn from(_: Mem) -> Self {
+        Stop::Mem
+    }
+}
+
+/// What was made, if nothing was missing.
+pub fn made<T: Drop>(answer: Result<T, Stop>) -> Result<Option<T>, Mem> {
+    match answer {
+        Ok(value) => Ok(Some(value)),
+        Err(Stop::Missing) => Ok(None),
+        Err(Stop::Mem) => Err(Mem),
+    }
+}
 
 /// A row of which a sum takes a multiple.
 #[derive(Clone, Copy)]

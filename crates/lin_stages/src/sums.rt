@@ -1,4 +1,4 @@
-use crate::sources::{Source, View, top_term};
+use crate::sources::{Source, Stop, View, top_term};
 use lin_pairs::{Multiples, added, is_contradiction, least_multiples, multiple};
 use lin_row::Row;
 use std::alloc::Global;
@@ -45,7 +45,7 @@ pub fn row_of<'a>(view: View<'a>, sums: &'a [Sum], source: Source) -> Option<&'a
 }
 
 /// Whether the row of a source says that a number below 0 is at least 0.
-pub fn is_closed(view: View<'_>, sums: &[Sum], source: Source) -> bool {
+fn is_closed(view: View<'_>, sums: &[Sum], source: Source) -> bool {
     match row_of(view, sums, source) {
         Some(row) => is_contradiction(row),
         None => false,
@@ -53,29 +53,30 @@ pub fn is_closed(view: View<'_>, sums: &[Sum], source: Source) -> bool {
 }
 
 /// `times` the row plus `more` times the other, if each number on the way is in `i128`.
-fn combined(
-    alloc: Global,
-    times: i128,
-    row: &Row,
-    more: i128,
-    other: &Row,
-) -> Result<Option<Row>, Mem> {
+fn combined(alloc: Global, times: i128, row: &Row, more: i128, other: &Row) -> Result<Row, Stop> {
     if times == 1 {
-        return added(row, more, other);
+        return within(added(row, more, other));
     }
-    match multiple(alloc, times, row)? {
-        Some(sum) => added(&sum, more, other),
-        None => Ok(None),
+    let sum = within(multiple(alloc, times, row))?;
+    within(added(&sum, more, other))
+}
+
+/// A row whose numbers are in `i128`.
+fn within(row: Result<Option<Row>, Mem>) -> Result<Row, Stop> {
+    match row {
+        Ok(Some(row)) => Ok(row),
+        Ok(None) => Err(Stop::Missing),
+        Err(Mem) => Err(Stop::Mem),
     }
 }
 
 /// Keeps a sum, and gives it as a source.
-fn keep(sums: &mut Vec<Sum>, row: Row, first: Part, second: Part) -> Result<Option<Source>, Mem> {
+fn keep(sums: &mut Vec<Sum>, row: Row, first: Part, second: Part) -> Result<Source, Stop> {
     let Ok(number) = u32::try_from(sums.len()) else {
-        return Ok(None);
+        return Err(Stop::Missing);
     };
     sums.push(Sum { row, first, second })?;
-    Ok(Some(Source::Sum(number)))
+    Ok(Source::Sum(number))
 }
 
 /// Adds multiples of two sources, if each number on the way is in `i128`.
@@ -85,11 +86,9 @@ pub fn add(
     sums: &mut Vec<Sum>,
     first: Part,
     second: Part,
-) -> Result<Option<Source>, Mem> {
-    match sum_of(alloc, view, sums, first, second)? {
-        Some(row) => keep(sums, row, first, second),
-        None => Ok(None),
-    }
+) -> Result<Source, Stop> {
+    let row = sum_of(alloc, view, sums, first, second)?;
+    keep(sums, row, first, second)
 }
 
 /// The sum of multiples of two sources.
@@ -99,14 +98,12 @@ fn sum_of(
     sums: &[Sum],
     first: Part,
     second: Part,
-) -> Result<Option<Row>, Mem> {
+) -> Result<Row, Stop> {
     if let Some(row) = row_of(view, sums, first.of) {
         return with_second(alloc, view, sums, first.times, row, second);
     }
-    match ranged(alloc, view, first.of)? {
-        Some(range) => with_second(alloc, view, sums, first.times, &range, second),
-        None => Ok(None),
-    }
+    let range = ranged(alloc, view, first.of)?;
+    with_second(alloc, view, sums, first.times, &range, second)
 }
 
 /// `times` a row plus a multiple of a source.
@@ -117,29 +114,27 @@ fn with_second(
     times: i128,
     row: &Row,
     second: Part,
-) -> Result<Option<Row>, Mem> {
+) -> Result<Row, Stop> {
     if let Some(other) = row_of(view, sums, second.of) {
         return combined(alloc, times, row, second.times, other);
     }
-    match ranged(alloc, view, second.of)? {
-        Some(range) => combined(alloc, times, row, second.times, &range),
-        None => Ok(None),
-    }
+    let range = ranged(alloc, view, second.of)?;
+    combined(alloc, times, row, second.times, &range)
 }
 
 /// The row of an end of a range.
-pub fn ranged(alloc: Global, view: View<'_>, source: Source) -> Result<Option<Row>, Mem> {
+fn ranged(alloc: Global, view: View<'_>, source: Source) -> Result<Row, Stop> {
     match source {
         Source::Low(place) => low_row(alloc, view, place),
         Source::High(place) => high_row(alloc, view, place),
-        _ => Ok(None),
+        _ => Err(Stop::Missing),
     }
 }
 
-fn low_row(alloc: Global, view: View<'_>, place: u32) -> Result<Option<Row>, Mem> {
+fn low_row(alloc: Global, view: View<'_>, place: u32) -> Result<Row, Stop> {
     match (low_constant(view, place), view.variable_at(place)) {
-        (Some(k), Some(variable)) => Ok(Some(Row::of_term(alloc, k, variable, 1)?)),
-        _ => Ok(None),
+        (Some(k), Some(variable)) => Ok(Row::of_term(alloc, k, variable, 1)?),
+        _ => Err(Stop::Missing),
     }
 }
 
@@ -148,10 +143,10 @@ fn low_constant(view: View<'_>, place: u32) -> Option<i128> {
     view.range(place)?.least?.checked_neg()
 }
 
-fn high_row(alloc: Global, view: View<'_>, place: u32) -> Result<Option<Row>, Mem> {
+fn high_row(alloc: Global, view: View<'_>, place: u32) -> Result<Row, Stop> {
     match (high_constant(view, place), view.variable_at(place)) {
-        (Some(k), Some(variable)) => Ok(Some(Row::of_term(alloc, k, variable, -1)?)),
-        _ => Ok(None),
+        (Some(k), Some(variable)) => Ok(Row::of_term(alloc, k, variable, -1)?),
+        _ => Err(Stop::Missing),
     }
 }
 
@@ -171,8 +166,8 @@ struct Top {
     coefficient: i128,
 }
 
-/// Takes away the variables of a row from the highest down to the place `down_to`, by what bounds them. None where
-/// something bounds one of them not at all, or a number leaves `i128`.
+/// Takes away the variables of a row from the highest down to the place `down_to`, by what bounds them. Something is
+/// missing where nothing bounds one of them, or a number leaves `i128`.
 pub fn eliminate(
     alloc: Global,
     view: View<'_>,
@@ -180,29 +175,42 @@ pub fn eliminate(
     start: Source,
     down_to: u32,
     manner: Manner,
-) -> Result<Option<Source>, Mem> {
+) -> Result<Source, Stop> {
     let mut at = start;
     for _ in 0..=view.variables.len() {
         let Some((variable, coefficient)) = top_of(view, sums, at) else {
-            return Ok(Some(at));
+            return Ok(at);
         };
         let Some(place) = view.place_of(variable) else {
-            return Ok(None);
+            return Err(Stop::Missing);
         };
         if place < down_to {
-            return Ok(Some(at));
+            return Ok(at);
         }
         let top = Top {
             of: at,
             place,
             coefficient,
         };
-        match take_away(alloc, view, sums, top, manner)? {
-            Some(next) => at = next,
-            None => return Ok(None),
-        }
+        at = take_away(alloc, view, sums, top, manner)?;
     }
-    Ok(None)
+    Err(Stop::Missing)
+}
+
+/// Takes away all variables of a row. Something is missing where no contradiction is left.
+pub fn contradiction(
+    alloc: Global,
+    view: View<'_>,
+    sums: &mut Vec<Sum>,
+    start: Source,
+    manner: Manner,
+) -> Result<Source, Stop> {
+    let end = eliminate(alloc, view, sums, start, 0, manner)?;
+    if is_closed(view, sums, end) {
+        Ok(end)
+    } else {
+        Err(Stop::Missing)
+    }
 }
 
 fn top_of(view: View<'_>, sums: &[Sum], source: Source) -> Option<(u32, i128)> {
@@ -216,13 +224,13 @@ fn take_away(
     sums: &mut Vec<Sum>,
     top: Top,
     manner: Manner,
-) -> Result<Option<Source>, Mem> {
+) -> Result<Source, Stop> {
     if is_settled(view, top.place) {
         return by_range(alloc, view, sums, top);
     }
     match bound_of(view, top) {
         Some(bound) => by_bound(alloc, view, sums, top, bound, manner),
-        None => Ok(None),
+        None => Err(Stop::Missing),
     }
 }
 
@@ -252,9 +260,9 @@ fn by_bound(
     top: Top,
     bound: Source,
     manner: Manner,
-) -> Result<Option<Source>, Mem> {
+) -> Result<Source, Stop> {
     let Some((_, other)) = top_of(view, sums, bound) else {
-        return Ok(None);
+        return Err(Stop::Missing);
     };
     match manner {
         Manner::Exact => cancel(alloc, view, sums, top.of, bound, top.coefficient, other),
@@ -270,10 +278,8 @@ fn rounded(
     top: Top,
     bound: Source,
     other: i128,
-) -> Result<Option<Source>, Mem> {
-    let Some(taken) = take_often(alloc, view, sums, top, bound, other)? else {
-        return Ok(None);
-    };
+) -> Result<Source, Stop> {
+    let taken = take_often(alloc, view, sums, top, bound, other)?;
     match top_of(view, sums, taken) {
         Some((variable, coefficient)) if view.place_of(variable) == Some(top.place) => {
             let left = Top {
@@ -283,7 +289,7 @@ fn rounded(
             };
             by_range(alloc, view, sums, left)
         }
-        _ => Ok(Some(taken)),
+        _ => Ok(taken),
     }
 }
 
@@ -296,9 +302,9 @@ pub fn cancel(
     second: Source,
     coefficient: i128,
     other: i128,
-) -> Result<Option<Source>, Mem> {
+) -> Result<Source, Stop> {
     let Some(multiples) = multiples_of(coefficient, other) else {
-        return Ok(None);
+        return Err(Stop::Missing);
     };
     let first = Part {
         times: multiples.first,
@@ -320,14 +326,9 @@ fn multiples_of(coefficient: i128, other: i128) -> Option<Multiples> {
 }
 
 /// Adds an end of the range so that the highest variable of a row goes away.
-fn by_range(
-    alloc: Global,
-    view: View<'_>,
-    sums: &mut Vec<Sum>,
-    top: Top,
-) -> Result<Option<Source>, Mem> {
+fn by_range(alloc: Global, view: View<'_>, sums: &mut Vec<Sum>, top: Top) -> Result<Source, Stop> {
     let Some(times) = top.coefficient.checked_abs() else {
-        return Ok(None);
+        return Err(Stop::Missing);
     };
     let of = if top.coefficient > 0 {
         Source::High(top.place)
@@ -354,12 +355,12 @@ fn take_often(
     top: Top,
     bound: Source,
     other: i128,
-) -> Result<Option<Source>, Mem> {
+) -> Result<Source, Stop> {
     let (Some(size), Some(by)) = (top.coefficient.checked_abs(), other.checked_abs()) else {
-        return Ok(None);
+        return Err(Stop::Missing);
     };
     if by == 0 || size < by {
-        return Ok(Some(top.of));
+        return Ok(top.of);
     }
     let times = size / by;
     add(

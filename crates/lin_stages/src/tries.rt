@@ -2,8 +2,8 @@ use crate::cases::{Ground, Outcome, Scope, by_cases, last_fact};
 use crate::outline::{Outline, read_facts};
 use crate::pairing::paired;
 use crate::proposal::Proposal;
-use crate::sources::{Source, View};
-use crate::sums::{Manner, Sum, eliminate, is_closed};
+use crate::sources::{Source, View, made};
+use crate::sums::{Manner, Sum, contradiction};
 use crate::writing::written;
 use lin_proof::{Derivation, Ending};
 use lin_row::Row;
@@ -73,7 +73,7 @@ fn quickly(alloc: Global, facts: &[Row], outline: &Outline) -> Result<Option<Der
         return Ok(None);
     };
     let mut sums = Vec::new(alloc);
-    let Some(end) = contradiction(alloc, view, &mut sums, outline, last)? else {
+    let Some(end) = quick_end(alloc, view, &mut sums, outline, last)? else {
         return Ok(None);
     };
     match written(alloc, view, &sums, end)? {
@@ -85,17 +85,16 @@ fn quickly(alloc: Global, facts: &[Row], outline: &Outline) -> Result<Option<Der
     }
 }
 
-fn contradiction(
+/// A contradiction from the last fact, or from it and one split.
+fn quick_end(
     alloc: Global,
     view: View<'_>,
     sums: &mut Vec<Sum>,
     outline: &Outline,
     last: Source,
 ) -> Result<Option<Source>, Mem> {
-    if let Some(end) = eliminate(alloc, view, sums, last, 0, Manner::Exact)? {
-        if is_closed(view, sums, end) {
-            return Ok(Some(end));
-        }
+    if let Some(end) = made(contradiction(alloc, view, sums, last, Manner::Exact))? {
+        return Ok(Some(end));
     }
     paired(alloc, view, sums, last, &outline.splits, outline.base)
 }

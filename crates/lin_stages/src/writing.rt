@@ -1,4 +1,4 @@
-use crate::sources::{Bounds, Source, View};
+use crate::sources::{Bounds, Source, Stop, View, made};
 use crate::sums::{Part, Sum};
 use lin_proof::Step;
 use lin_row::Row;
@@ -53,14 +53,22 @@ pub fn written(
     sums: &[Sum],
     target: Source,
 ) -> Result<Option<List<Step>>, Mem> {
+    made(steps_to(alloc, view, sums, target))
+}
+
+/// The steps that make the row of a source.
+fn steps_to(
+    alloc: Global,
+    view: View<'_>,
+    sums: &[Sum],
+    target: Source,
+) -> Result<List<Step>, Stop> {
     let Ok(next) = u32::try_from(view.known.len()) else {
-        return Ok(None);
+        return Err(Stop::Missing);
     };
     let mut draft = Draft::new(alloc, next, view.variables.len(), sums.len())?;
-    match write_to(alloc, view, sums, target, &mut draft)? {
-        Some(()) => Ok(Some(draft.steps)),
-        None => Ok(None),
-    }
+    write_to(alloc, view, sums, target, &mut draft)?;
+    Ok(draft.steps)
 }
 
 /// Writes the steps that make the row of a source.
@@ -70,29 +78,23 @@ fn write_to(
     sums: &[Sum],
     target: Source,
     draft: &mut Draft,
-) -> Result<Option<()>, Mem> {
-    let wanted = wanted(alloc, sums, target)?;
-    if write_wanted(alloc, view, sums, &wanted, draft)?.is_none() {
-        return Ok(None);
-    }
-    match number_of(draft, target)? {
-        Some(_) => Ok(Some(())),
-        None => Ok(None),
-    }
+) -> Result<(), Stop> {
+    write_wanted(alloc, view, sums, target, draft)?;
+    number_of(draft, target)?;
+    Ok(())
 }
 
-/// Writes the wanted sums, after the ends of ranges that they are made of.
+/// Writes the sums that a source is made of, after the ends of ranges that they are made of.
 fn write_wanted(
     alloc: Global,
     view: View<'_>,
     sums: &[Sum],
-    wanted: &[bool],
+    target: Source,
     draft: &mut Draft,
-) -> Result<Option<()>, Mem> {
-    if write_needed(alloc, view, sums, wanted, draft)?.is_none() {
-        return Ok(None);
-    }
-    write_sums(alloc, sums, wanted, draft)
+) -> Result<(), Stop> {
+    let wanted = wanted(alloc, sums, target)?;
+    write_needed(alloc, view, sums, &wanted, draft)?;
+    write_sums(alloc, sums, &wanted, draft)
 }
 
 /// Writes the ends of ranges that the wanted sums are made of.
@@ -102,7 +104,7 @@ fn write_needed(
     sums: &[Sum],
     wanted: &[bool],
     draft: &mut Draft,
-) -> Result<Option<()>, Mem> {
+) -> Result<(), Stop> {
     let needs = needed_ends(alloc, view, sums, wanted)?;
     write_ranges(alloc, view, &needs, draft)
 }
@@ -210,29 +212,32 @@ fn end_of(place: u32, coefficient: i128) -> Source {
 }
 
 /// Writes a step, and gives its row's number.
-fn put(draft: &mut Draft, step: Step) -> Result<Option<u32>, Mem> {
+fn put(draft: &mut Draft, step: Step) -> Result<u32, Stop> {
     let number = draft.next;
     let Some(next) = number.checked_add(1) else {
-        return Ok(None);
+        return Err(Stop::Missing);
     };
     draft.steps.push(step)?;
     draft.next = next;
-    Ok(Some(number))
+    Ok(number)
 }
 
 /// The number of the row of a source; that of a fact is written.
-fn number_of(draft: &mut Draft, source: Source) -> Result<Option<u32>, Mem> {
+fn number_of(draft: &mut Draft, source: Source) -> Result<u32, Stop> {
     match source {
         Source::Fact(number) => put(draft, Step::Fact(number)),
-        Source::Known(number) => Ok(Some(number)),
-        Source::Sum(number) => Ok(entry(&draft.sums, number)),
-        Source::Low(place) => Ok(entry(&draft.lows, place)),
-        Source::High(place) => Ok(entry(&draft.highs, place)),
+        Source::Known(number) => Ok(number),
+        Source::Sum(number) => entry(&draft.sums, number),
+        Source::Low(place) => entry(&draft.lows, place),
+        Source::High(place) => entry(&draft.highs, place),
     }
 }
 
-fn entry(numbers: &[Option<u32>], at: u32) -> Option<u32> {
-    numbers.get(at as usize).copied()?
+fn entry(numbers: &[Option<u32>], at: u32) -> Result<u32, Stop> {
+    match numbers.get(at as usize) {
+        Some(Some(number)) => Ok(*number),
+        _ => Err(Stop::Missing),
+    }
 }
 
 fn enter(numbers: &mut [Option<u32>], at: usize, number: u32) {
@@ -247,13 +252,11 @@ fn write_ranges(
     view: View<'_>,
     needs: &Needs,
     draft: &mut Draft,
-) -> Result<Option<()>, Mem> {
+) -> Result<(), Stop> {
     for (place, bounds) in view.bounds.iter().enumerate() {
-        if write_ends(alloc, view, needs, draft, place, *bounds)?.is_none() {
-            return Ok(None);
-        }
+        write_ends(alloc, view, needs, draft, place, *bounds)?;
     }
-    Ok(Some(()))
+    Ok(())
 }
 
 fn write_ends(
@@ -263,48 +266,16 @@ fn write_ends(
     draft: &mut Draft,
     place: usize,
     bounds: Bounds,
-) -> Result<Option<()>, Mem> {
+) -> Result<(), Stop> {
     if needs.lows.get(place).copied() == Some(true) {
-        if write_low(alloc, view, draft, place, bounds.low)?.is_none() {
-            return Ok(None);
-        }
+        let number = write_end(alloc, view, draft, place, bounds.low)?;
+        enter(&mut draft.lows, place, number);
     }
     if needs.highs.get(place).copied() == Some(true) {
-        return write_high(alloc, view, draft, place, bounds.high);
+        let number = write_end(alloc, view, draft, place, bounds.high)?;
+        enter(&mut draft.highs, place, number);
     }
-    Ok(Some(()))
-}
-
-fn write_low(
-    alloc: Global,
-    view: View<'_>,
-    draft: &mut Draft,
-    place: usize,
-    bound: Option<Source>,
-) -> Result<Option<()>, Mem> {
-    match write_end(alloc, view, draft, place, bound)? {
-        Some(number) => {
-            enter(&mut draft.lows, place, number);
-            Ok(Some(()))
-        }
-        None => Ok(None),
-    }
-}
-
-fn write_high(
-    alloc: Global,
-    view: View<'_>,
-    draft: &mut Draft,
-    place: usize,
-    bound: Option<Source>,
-) -> Result<Option<()>, Mem> {
-    match write_end(alloc, view, draft, place, bound)? {
-        Some(number) => {
-            enter(&mut draft.highs, place, number);
-            Ok(Some(()))
-        }
-        None => Ok(None),
-    }
+    Ok(())
 }
 
 /// Writes that a bound leaves no more than an end of the range: the bound, with ends of the other variables added, is
@@ -315,14 +286,12 @@ fn write_end(
     draft: &mut Draft,
     place: usize,
     bound: Option<Source>,
-) -> Result<Option<u32>, Mem> {
+) -> Result<u32, Stop> {
     let (Some(source), Some(row)) = (bound, bound_row(view, bound)) else {
-        return Ok(None);
+        return Err(Stop::Missing);
     };
-    match number_of(draft, source)? {
-        Some(number) => write_cut(alloc, view, draft, place, row, number),
-        None => Ok(None),
-    }
+    let number = number_of(draft, source)?;
+    write_cut(alloc, view, draft, place, row, number)
 }
 
 /// Writes that the bound with this row, of this number, leaves no more than an end of the range.
@@ -333,13 +302,11 @@ fn write_cut(
     place: usize,
     row: &Row,
     number: u32,
-) -> Result<Option<u32>, Mem> {
+) -> Result<u32, Stop> {
     let mut parts = List::new(alloc);
     parts.push((1, number))?;
-    match add_ends(view, draft, place, row, &mut parts)? {
-        Some(own) => put_end(draft, number, parts, own),
-        None => Ok(None),
-    }
+    let own = add_ends(view, draft, place, row, &mut parts)?;
+    put_end(draft, number, parts, own)
 }
 
 /// Adds the ends of the other variables in a bound of the variable at a place, and gives the size of its coefficient.
@@ -349,25 +316,20 @@ fn add_ends(
     place: usize,
     row: &Row,
     parts: &mut List<(i128, u32)>,
-) -> Result<Option<i128>, Mem> {
+) -> Result<i128, Stop> {
     let mut own = 1;
     for term in row.terms.as_slice() {
         let (Some(other), Some(size)) = (view.place_of(term.0), term.1.checked_abs()) else {
-            return Ok(None);
+            return Err(Stop::Missing);
         };
         if other as usize == place {
             own = size;
         } else {
-            let end = Part {
-                times: size,
-                of: end_of(other, term.1),
-            };
-            if add_part(draft, parts, end)?.is_none() {
-                return Ok(None);
-            }
+            let of = end_of(other, term.1);
+            add_part(draft, parts, Part { times: size, of })?;
         }
     }
-    Ok(Some(own))
+    Ok(own)
 }
 
 /// Writes the sum of the parts, of which the row of this number is the first, divided by the size of a coefficient.
@@ -376,30 +338,24 @@ fn put_end(
     number: u32,
     parts: List<(i128, u32)>,
     own: i128,
-) -> Result<Option<u32>, Mem> {
+) -> Result<u32, Stop> {
     let sum = if parts.len() > 1 {
         put(draft, Step::Sum(parts))?
     } else {
-        Some(number)
+        number
     };
-    match sum {
-        Some(sum) if own > 1 => put(draft, Step::Cut(own, sum)),
-        sum => Ok(sum),
+    if own > 1 {
+        put(draft, Step::Cut(own, sum))
+    } else {
+        Ok(sum)
     }
 }
 
 /// Writes the wanted sums. Sums that go on from the one before without multiplying it are written as one.
-fn write_sums(
-    alloc: Global,
-    sums: &[Sum],
-    wanted: &[bool],
-    draft: &mut Draft,
-) -> Result<Option<()>, Mem> {
+fn write_sums(alloc: Global, sums: &[Sum], wanted: &[bool], draft: &mut Draft) -> Result<(), Stop> {
     let mut parts = List::new(alloc);
-    match write_closed(alloc, sums, wanted, draft, &mut parts)? {
-        Some(last) => close(draft, parts, last),
-        None => Ok(None),
-    }
+    let last = write_closed(alloc, sums, wanted, draft, &mut parts)?;
+    close(draft, parts, last)
 }
 
 /// Writes the wanted sums but the parts of the last one, and gives its number.
@@ -409,17 +365,15 @@ fn write_closed(
     wanted: &[bool],
     draft: &mut Draft,
     parts: &mut List<(i128, u32)>,
-) -> Result<Option<usize>, Mem> {
+) -> Result<usize, Stop> {
     let mut last = 0;
     for (number, sum) in sums.iter().enumerate() {
         if wanted.get(number).copied() == Some(true) {
-            if add_sum(alloc, draft, parts, last, sum)?.is_none() {
-                return Ok(None);
-            }
+            add_sum(alloc, draft, parts, last, sum)?;
             last = number;
         }
     }
-    Ok(Some(last))
+    Ok(last)
 }
 
 /// Adds a sum to the parts that go up to the sum of this number, or writes those and begins anew.
@@ -429,29 +383,19 @@ fn add_sum(
     parts: &mut List<(i128, u32)>,
     last: usize,
     sum: &Sum,
-) -> Result<Option<()>, Mem> {
+) -> Result<(), Stop> {
     if !(goes_on(sum.first, last) && !parts.is_empty()) {
         let before = std::mem::replace(parts, List::new(alloc));
-        if close(draft, before, last)?.is_none() {
-            return Ok(None);
-        }
-        if add_part(draft, parts, sum.first)?.is_none() {
-            return Ok(None);
-        }
+        close(draft, before, last)?;
+        add_part(draft, parts, sum.first)?;
     }
     add_part(draft, parts, sum.second)
 }
 
-fn add_part(
-    draft: &mut Draft,
-    parts: &mut List<(i128, u32)>,
-    part: Part,
-) -> Result<Option<()>, Mem> {
-    let Some(number) = number_of(draft, part.of)? else {
-        return Ok(None);
-    };
+fn add_part(draft: &mut Draft, parts: &mut List<(i128, u32)>, part: Part) -> Result<(), Stop> {
+    let number = number_of(draft, part.of)?;
     parts.push((part.times, number))?;
-    Ok(Some(()))
+    Ok(())
 }
 
 /// Whether a part is the sum of this number once.
@@ -463,15 +407,11 @@ fn goes_on(part: Part, number: usize) -> bool {
 }
 
 /// Writes the sum of the parts, if there are any, as that of this number.
-fn close(draft: &mut Draft, parts: List<(i128, u32)>, number: usize) -> Result<Option<()>, Mem> {
+fn close(draft: &mut Draft, parts: List<(i128, u32)>, number: usize) -> Result<(), Stop> {
     if parts.is_empty() {
-        return Ok(Some(()));
+        return Ok(());
     }
-    match put(draft, Step::Sum(parts))? {
-        Some(row) => {
-            enter(&mut draft.sums, number, row);
-            Ok(Some(()))
-        }
-        None => Ok(None),
-    }
+    let row = put(draft, Step::Sum(parts))?;
+    enter(&mut draft.sums, number, row);
+    Ok(())
 }
