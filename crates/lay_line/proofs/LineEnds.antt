@@ -3,7 +3,7 @@ use Rattle.std.proofs.Common.{◌≡◌, ℕ, ℤ, ◌+ℤ◌, true, false, cond
 use Rattle.std.specs.Int.{int_max}
 use Rattle.viz_base.specs.declared.layouts.Band.{Band}
 use Rattle.viz_base.specs.declared.layouts.Entry.{Entry}
-use Rattle.layout_semantics.specs.Floats.{FloatBox, band_at}
+use Rattle.layout_semantics.specs.Floats.{FloatBox}
 use Rattle.layout_semantics.specs.Fragments.{float_entries}
 use Rattle.layout_semantics.specs.InlineContent.{float_boxes}
 use Rattle.layout_semantics.specs.LineFilling.{Met}
@@ -15,10 +15,6 @@ use Rattle.lay_line.specs.steps.Loading.{Load, bare}
 use Rattle.lay_line.specs.steps.Measured.{Measured}
 use Rattle.lay_line.specs.steps.Meeting.{Slot, placed_all}
 use Rattle.lay_line.specs.steps.Words.{room_in}
-
-pub room-is : (c : InlineContext) (floats : List FloatBox) (y tall : ℤ) (room : Band ℤ) → room ≡ band_at floats c.cb y tall → room ≡ room_in c floats y tall
-unfolding room_in
-room-is c floats y tall room e = e
 
 -- an entry, and then others
 pub entries-then : (old mid new rest : List (Entry ℤ)) (first is : Entry ℤ) → mid ≡ old ++ first ∷ [] → first ≡ is → new ≡ mid ++ rest → new ≡ old ++ is ∷ rest
