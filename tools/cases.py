@@ -325,8 +325,14 @@ def long_cases():
 
 
 CALLS = [decimals, tokens, sheets, declarations, selectors, matches, values, cascade, formulas, truths]
-# what is replied to a whole job: these cases are the table of `job_cases`
-OF_JOBS = ("lay", "check", "prove", "gen", "trial")
+# the tables but that of `cases`: what is replied to a whole job, and what is of layout, rows and derivations
+TABLES = {
+    "job_cases": ("lay", "check", "prove", "gen", "trial"),
+    "layout_cases": (
+        "boxes", "used", "fonts", "words", "widths", "preferred", "lines", "lead", "float_at", "floats", "band", "bottom", "collapsed",
+        "add_scaled", "negate", "divides", "cut", "derivation", "leaf",
+    ),
+}
 
 
 def calls(folder):
@@ -354,9 +360,10 @@ def write(name, cases):
 
 
 def main():
+    tables = {name: table for table, names in TABLES.items() for name in names}
     cases = list(all_cases(pathlib.Path(sys.argv[1])))
-    write("cases", [case for case in cases if case[0][0] not in OF_JOBS])
-    write("job_cases", [case for case in cases if case[0][0] in OF_JOBS])
+    for table in ("cases", *TABLES):
+        write(table, [case for case in cases if tables.get(case[0][0], "cases") == table])
 
 
 main()

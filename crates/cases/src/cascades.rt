@@ -1,9 +1,7 @@
-use crate::faults::Fault;
-use crate::pages::job_of;
-use crate::scribes::Scribe;
 use crate::values::setting;
+use case_scribe::{Fault, Scribe, job_of};
 use css_cascade::{CascadeFault, cascade, default_sheet};
-use css_syntax::{SheetFault, read_sheet};
+use css_syntax::read_sheet;
 use serde_json::Value;
 use viz_base::{Cascaded, List, Page, Prop, Setting, Sheet, Source, Text};
 
@@ -52,15 +50,6 @@ fn refusal(scribe: &mut Scribe, fault: &CascadeFault) {
         CascadeFault::Selector(sheet, at) => scribe.refused("Selector", &[*sheet, *at]),
         CascadeFault::Value(node, prop, place) => refused_value(scribe, *node, *prop, *place),
         CascadeFault::Mem => scribe.fail(Fault::Mem),
-    }
-}
-
-impl From<SheetFault> for Fault {
-    fn from(fault: SheetFault) -> Self {
-        match fault {
-            SheetFault::Mem => Fault::Mem,
-            _ => Fault::NoCase,
-        }
     }
 }
 

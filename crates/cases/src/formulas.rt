@@ -1,7 +1,5 @@
-use crate::faults::Fault;
-use crate::pages::job_of;
-use crate::scribes::Scribe;
 use crate::selectors::matched_nodes;
+use case_scribe::{Fault, Scribe, job_of};
 use serde_json::Value;
 use vis_read::{FormulaFault, read_formula};
 use viz_base::{Boxed, Edge, Face, Formula, Kind, List, Page, Ring, Set, Sign, Summand, Term};

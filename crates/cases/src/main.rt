@@ -1,31 +1,16 @@
-//! Runs a table of outside cases: a case a line of standard input, as JSON, and its answer a line of standard output.
+//! Runs a table of outside cases of texts, style sheets and formulas: a case a line of standard input, as JSON, and its
+//! answer a line of standard output.
 #![tactic(auto)]
 
-mod boxes;
 mod cascades;
-mod derivations;
-mod faults;
-mod floats;
 mod formulas;
-mod leads;
-mod leaves;
-mod lengths;
-mod lines;
-mod margins;
-mod pages;
-mod rows;
-mod scribes;
 mod selectors;
 mod sheets;
-mod styles;
 mod tokens;
-mod trees;
 mod truths;
 mod values;
-mod widths;
 
-use crate::faults::Fault;
-use crate::scribes::Scribe;
+use case_scribe::{Fault, Scribe};
 use serde_json::Value;
 use std::alloc::Global;
 use viz_base::read_decimal;
@@ -38,42 +23,16 @@ fn decimal(scribe: &mut Scribe, case: &Value) {
     }
 }
 
-/// The answer to a case of rows, of derivations or of a leaf, or of a box tree.
-fn answer_row(scribe: &mut Scribe, name: &str, case: &Value) {
-    match name {
-        "add_scaled" => rows::add_scaled(scribe, case),
-        "negate" => rows::negate(scribe, case),
-        "divides" => rows::divides(scribe, case),
-        "cut" => rows::cut(scribe, case),
-        "derivation" => derivations::judged(scribe, case),
-        "leaf" => leaves::judged(scribe, case),
-        _ => trees::answer(scribe, name, case),
-    }
-}
-
-/// The answer to a case of layout, or of one of those.
-fn answer_layout(scribe: &mut Scribe, name: &str, case: &Value) {
-    match name {
-        "float_at" => floats::place(scribe, case),
-        "floats" => floats::place_all(scribe, case),
-        "band" => floats::band(scribe, case),
-        "bottom" => floats::bottom(scribe, case),
-        "collapsed" => margins::collapsed(scribe, case),
-        "boxes" => boxes::answer(scribe, case),
-        _ => answer_row(scribe, name, case),
-    }
-}
-
-/// The answer to a case of a formula, or of one of those.
+/// The answer to a case of a formula.
 fn answer_formula(scribe: &mut Scribe, name: &str, case: &Value) {
     match name {
         "formulas" => formulas::answer(scribe, case),
         "truths" => truths::answer(scribe, case),
-        _ => answer_layout(scribe, name, case),
+        _ => scribe.fail(Fault::NoCase),
     }
 }
 
-/// The answer to a case of a style sheet, or of one of those.
+/// The answer to a case of a number, of a style sheet or of what stands in one, or of a formula.
 fn answer_any(scribe: &mut Scribe, name: &str, case: &Value) {
     match name {
         "decimals" => decimal(scribe, case),

@@ -1,8 +1,6 @@
 ghost use Rattle.css_semantics.specs.Specificity.{IsCountable};
 
-use crate::faults::Fault;
-use crate::pages::job_of;
-use crate::scribes::Scribe;
+use case_scribe::{Fault, Scribe, job_of};
 use css_select::{SelFault, matches, read_selector, specificity};
 use serde_json::Value;
 use viz_base::{Compound, Join, List, Page, Selector, Test, Text};

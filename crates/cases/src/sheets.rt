@@ -1,5 +1,4 @@
-use crate::faults::Fault;
-use crate::scribes::Scribe;
+use case_scribe::{Fault, Scribe};
 use css_syntax::{SheetFault, read_declarations, read_sheet};
 use serde_json::Value;
 use viz_base::{Decl, Rule};

@@ -1,4 +1,4 @@
-use crate::scribes::Scribe;
+use case_scribe::Scribe;
 use css_semantics::Token;
 use css_token::{tokens, unescape};
 use serde_json::Value;

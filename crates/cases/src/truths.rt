@@ -1,8 +1,7 @@
 ghost use Rattle.std.specs.Prelude.{◌≤◌};
 
 use crate::formulas::{formula, kind_at};
-use crate::pages::job_of;
-use crate::scribes::Scribe;
+use case_scribe::{Scribe, job_of};
 use serde_json::Value;
 use vis_truth::truth;
 use viz_base::{Formula, List, Placed, Quad, Rendering, World};

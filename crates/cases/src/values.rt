@@ -1,5 +1,4 @@
-use crate::faults::Fault;
-use crate::scribes::Scribe;
+use case_scribe::{Fault, Scribe};
 use css_value::{ValueFault, read_declaration};
 use serde_json::Value as Case;
 use viz_base::{List, Setting, Text, Value};

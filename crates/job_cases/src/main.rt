@@ -2,11 +2,10 @@
 //! line of standard output.
 #![tactic(auto)]
 
-mod faults;
 mod members;
 mod replies;
 
-use crate::faults::Fault;
+use case_scribe::Fault;
 use serde_json::Value;
 use std::alloc::Global;
 

@@ -1,4 +1,4 @@
-use crate::faults::Fault;
+use case_scribe::Fault;
 use serde_json::Value;
 
 /// The member of a case at a place.

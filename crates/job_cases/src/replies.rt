@@ -1,5 +1,5 @@
-use crate::faults::Fault;
 use crate::members::{long_at, number_at, text_at};
+use case_scribe::Fault;
 use serde_json::Value;
 use std::alloc::{AllocError, Global};
 use viz_base::{List, World};

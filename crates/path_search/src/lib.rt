@@ -2,16 +2,9 @@
 //! of the range as a whole. Nothing is claimed of it but that it returns.
 #![tactic(auto)]
 
-mod cones;
-mod digests;
-mod pool;
 mod rectangles;
-mod renumbering;
 mod runs;
 mod sampling;
-mod seeker;
 mod seeking;
-mod trail;
-mod values;
 
 pub use seeking::{Finding, seek};

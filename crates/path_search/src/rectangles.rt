@@ -1,7 +1,6 @@
 //! Rectangles of a range by trees of leaves, and those with too many leaves by their halves.
 ghost use Rattle.std.specs.Prelude.{◌≤◌};
 
-use crate::pool::Pool;
 use crate::sampling::Sample;
 use crate::seeking::{
     GRID, Place, Stop, boxed, count_of, enter, explore, first_pool, halving, leave, part, split_by,
@@ -9,6 +8,7 @@ use crate::seeking::{
 use cert_check::Child;
 use cert_text::CertNode;
 use lin_row::Row;
+use path_calc::Pool;
 use std::alloc::Global;
 use viz_base::{Boxed, Rect};
 

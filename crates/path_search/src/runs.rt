@@ -1,8 +1,6 @@
-use crate::pool::Pool;
-use crate::seeker::{Opening, Seeker};
-use crate::trail::Found;
 use lay_flow::render;
 use lin_proof::Answer;
+use path_calc::{Found, Opening, Pool, Seeker};
 use std::alloc::Global;
 use sym_calc::Path;
 use vis_truth::truth;

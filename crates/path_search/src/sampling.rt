@@ -1,6 +1,6 @@
-use crate::digests::Digesting;
 use crate::runs::truth_over;
 use crate::seeking::count_of;
+use path_calc::Digesting;
 use std::alloc::Global;
 use viz_base::{Job, Mem, Rect, World};
 use viz_calc::Halt;

@@ -1,17 +1,14 @@
 ghost use Rattle.std.specs.Prelude.{◌≡◌, ◌≤◌};
 
-use crate::pool::{Known, Pool};
 use crate::rectangles::{Budget, budget_of, rectangle};
 use crate::runs::{Outcome, run};
-use crate::seeker::{LIMIT, Opening, variable_count};
-use crate::trail::Found;
-use crate::values::{floor_of, value_of};
 use cert_check::{Child, cut_of, holds_at, longer_axis, middle, part_of};
 use cert_path::{axis_of, variable_of};
 use cert_text::{Cert, CertNode};
 use lin_proof::Derivation;
 use lin_row::{Row, RowFault};
 use lin_search::{Search, refute};
+use path_calc::{Found, Known, LIMIT, Opening, Pool, floor_of, value_of, variable_count};
 use std::alloc::{AllocError, AllocFailed, Global};
 use sym_calc::{Floor, Path};
 use viz_base::{Axis, Boxed, Job, Mem, Rect, World};

@@ -1,6 +1,6 @@
 ghost use Rattle.std.specs.Prelude.{◌≡◌, ◌+◌, ◌<ℤ◌, IfErr, IfOk, length, pos};
 ghost use Rattle.cert_path.specs.Axes.{axis_count};
-ghost use Rattle.path_search.specs.steps.Seekers.{seeker_state, number_at};
+ghost use Rattle.path_calc.specs.steps.Seekers.{seeker_state, number_at};
 
 use crate::cones::{cone_of, plus, renumbered, renumbered_floors};
 use crate::pool::{Known, Pool, Signs};

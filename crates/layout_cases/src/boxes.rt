@@ -1,6 +1,5 @@
-use crate::faults::Fault;
-use crate::scribes::Scribe;
 use crate::styles::style;
+use case_scribe::{Fault, Scribe};
 use page_build::{JobRefusal, build_job};
 use serde_json::Value;
 use viz_base::{BoxNode, BoxTree};

@@ -1,6 +1,5 @@
-use crate::faults::Fault;
 use crate::rows::row;
-use crate::scribes::Scribe;
+use case_scribe::{Fault, Scribe};
 use lin_proof::{Branch, Derivation, Ending, Step, first_fault, line_count, refutes};
 use lin_row::Row;
 use serde_json::Value;

@@ -1,6 +1,4 @@
-use crate::faults::Fault;
-use crate::pages::count_of;
-use crate::scribes::Scribe;
+use case_scribe::{Fault, Scribe, count_of};
 use lay_length::{ascent, descent, font_size, line_height, text_width, used};
 use serde_json::Value;
 use viz_base::{BoxTree, Length};

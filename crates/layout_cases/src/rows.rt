@@ -1,16 +1,6 @@
-use crate::faults::Fault;
-use crate::scribes::Scribe;
+use case_scribe::{Fault, Scribe};
 use lin_row::{Row, RowFault};
 use serde_json::Value;
-
-impl From<RowFault> for Fault {
-    fn from(fault: RowFault) -> Self {
-        match fault {
-            RowFault::Mem => Fault::Mem,
-            RowFault::Coeff => Fault::NoCase,
-        }
-    }
-}
 
 /// The row that a call gives, or 0 where it has a fault.
 fn sure<E: Into<Fault> + Drop>(scribe: &mut Scribe, given: Result<Row, E>) -> Row {

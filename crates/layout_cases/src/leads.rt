@@ -1,5 +1,5 @@
-use crate::scribes::Scribe;
 use crate::widths::box_in;
+use case_scribe::Scribe;
 use lay_margin::{Run, lead};
 use serde_json::Value;
 use viz_base::{Band, BoxTree, Lead, LeadEnd};

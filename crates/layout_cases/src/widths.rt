@@ -1,7 +1,6 @@
 ghost use Rattle.std.specs.Prelude.{◌<◌, IfSome, length};
 
-use crate::faults::Fault;
-use crate::scribes::Scribe;
+use case_scribe::{Fault, Scribe};
 use lay_preferred::preferred;
 use lay_width::widths;
 use serde_json::Value;

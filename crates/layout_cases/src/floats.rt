@@ -1,7 +1,6 @@
 ghost use Rattle.std.specs.Prelude.{◌≤◌};
 
-use crate::faults::Fault;
-use crate::scribes::Scribe;
+use case_scribe::{Fault, Scribe};
 use lay_float::{Floats, PlacedFloat};
 use serde_json::Value;
 use viz_base::{Band, Clear, Extent, Quad, Side, World};

@@ -1,10 +1,8 @@
-use crate::faults::Fault;
 use crate::leads::tell_lead;
 use crate::lengths::{tell_fonts, tell_used, tell_word};
 use crate::lines::tell_lines;
-use crate::pages::built;
-use crate::scribes::Scribe;
 use crate::widths::{tell_preferred, tell_widths};
+use case_scribe::{Fault, Scribe, built};
 use serde_json::Value;
 use viz_base::{Job, World};
 use viz_calc::Plain;

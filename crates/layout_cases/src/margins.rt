@@ -1,4 +1,4 @@
-use crate::scribes::Scribe;
+use case_scribe::Scribe;
 use lay_margin::Run;
 use serde_json::Value;
 use viz_base::World;

@@ -1,4 +1,6 @@
 use cert_text::CertFault;
+use css_syntax::SheetFault;
+use lin_row::RowFault;
 use page_build::JobRefusal;
 use std::alloc::AllocError;
 use std::io;
@@ -67,6 +69,24 @@ impl From<CertFault> for Fault {
         match fault {
             CertFault::Mem => Fault::Mem,
             CertFault::Grammar(_) => Fault::NoCase,
+        }
+    }
+}
+
+impl From<SheetFault> for Fault {
+    fn from(fault: SheetFault) -> Self {
+        match fault {
+            SheetFault::Mem => Fault::Mem,
+            _ => Fault::NoCase,
+        }
+    }
+}
+
+impl From<RowFault> for Fault {
+    fn from(fault: RowFault) -> Self {
+        match fault {
+            RowFault::Mem => Fault::Mem,
+            RowFault::Coeff => Fault::NoCase,
         }
     }
 }

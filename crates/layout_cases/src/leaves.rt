@@ -1,6 +1,4 @@
-use crate::faults::Fault;
-use crate::pages::built;
-use crate::scribes::Scribe;
+use case_scribe::{Fault, Scribe, built};
 use cert_check::{Verdict, check_leaf};
 use cert_text::{CertNode, read_cert};
 use lin_proof::Answer;

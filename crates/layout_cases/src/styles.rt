@@ -1,4 +1,4 @@
-use crate::scribes::Scribe;
+use case_scribe::Scribe;
 use viz_base::{Length, LineHeight, Sides, Size, Style, Valign};
 
 /// A length; an absolute one is its number of 1/64 px.

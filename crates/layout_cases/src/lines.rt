@@ -1,5 +1,5 @@
-use crate::scribes::Scribe;
 use crate::widths::box_in;
+use case_scribe::Scribe;
 use lay_float::Floats;
 use lay_line::containers::Container;
 use lay_line::lines;

@@ -1,0 +1,17 @@
+//! The numbers with which the search for a certificate lays a page out: over all worlds of a path together, with known
+//! worlds of it, and over one world with a digest of what was answered. Nothing is claimed but that they return.
+#![tactic(auto)]
+
+mod cones;
+mod digests;
+mod pool;
+mod renumbering;
+mod seeker;
+mod trail;
+mod values;
+
+pub use digests::Digesting;
+pub use pool::{Known, Pool, Signs};
+pub use seeker::{LIMIT, Opening, Seeker, variable_count};
+pub use trail::{Cone, Found};
+pub use values::{floor_of, value_of};
