@@ -1,5 +1,5 @@
 #!/usr/bin/env python3
-"""Writes the tables of outside cases that the crates `cases` and `job_cases` run, from a folder of cases.
+"""Writes the tables of outside cases that the crates `cases`, `layout_cases` and `job_cases` run, from a folder of cases.
 
     tools/cases.py FOLDER
 
@@ -8,8 +8,8 @@ formulas and truths; in jobs/ and certs/ jobs and certificates with what the pro
 grammar.jsonl, texts with the place up to which some certificate's text begins so, or null where they are a certificate's.
 Long cases come behind these, the cases of layout that tools/layout_cases.py reads, those of tools/limit_cases.py and the documents of
 tools/worked_pages.py. What is called goes to a crate's stdin and what it must give to its stdout, a line of JSON each: what is replied to
-whole jobs (lay, check, prove, gen and trial) to crates/job_cases, all else to crates/cases. A page goes as a job that has it; a formula as
-steps, each part before what it is a part of.
+whole jobs (lay, check, prove, gen and trial) to crates/job_cases, what is of layout, rows and derivations to crates/layout_cases, all else to
+crates/cases. A page goes as a job that has it; a formula as steps, each part before what it is a part of.
 """
 import json
 import pathlib
