@@ -6,7 +6,9 @@
   as long as the page;
 - 29 and 58 floats, each in the one before, as deep as a page may be: at most the square within noise (below 8);
 - 100 and 400 floats of one block formatting context: at most the square of the count within noise (below 32);
-- a paragraph of 512 and 4,096 words: at most linear within noise (below 10).
+- a paragraph of 512 and 4,096 words: at most linear within noise (below 10);
+- 500 and 2,000 floats of no height, each before a paragraph of no height with `clear`, whose margins all adjoin: at most the square of
+  the count within noise (below 32), since each paragraph tries the floats before it.
 
 Run it at the top: bench/flow.py [PROGRAM]
 """
@@ -72,6 +74,11 @@ def many_floats(count):
     return [element("div", f"float:{sides[at % 5]};width:{20 + at * 37 % 90}px;height:{10 + at * 53 % 70}px") for at in range(count)]
 
 
+def waiting_floats(count):
+    pair = [element("div", "float:left;height:0"), element("p", "margin:1px 0;clear:left")]
+    return pair * count
+
+
 def paragraph(count):
     return [{"tag": "p", "children": [words(count)]}]
 
@@ -114,6 +121,8 @@ def main():
         growth("floats", counts, [pages.lay(many_floats(count)) for count in counts], 32)
         counts = (512, 4096)
         growth("words", counts, [pages.lay(paragraph(count)) for count in counts], 10)
+        counts = (500, 2000)
+        growth("waiting floats", counts, [pages.lay(waiting_floats(count)) for count in counts], 32)
 
 
 main()

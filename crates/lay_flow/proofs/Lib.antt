@@ -12,6 +12,7 @@ pub mod Framed
 pub mod Spots
 pub mod LeadsLow
 pub mod WaitingLow
+pub mod TriesLow
 pub mod WaysLow
 pub mod Givens
 pub mod Walks

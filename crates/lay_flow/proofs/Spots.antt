@@ -62,7 +62,7 @@ place-half floats size cb least y a e i l n = floats-half floats (size.width ∷
 
 -- the highest top in the context so far is lent
 module _ {N : Type 0} (at : N → Reading → ℤ) (e : Reading) (lent : Option (Bor N)) (least : Option N) (is : option_copied lent ≡ least) where
-  lent-is : lent_at at lent e ≡ option_at at least e
+  pub lent-is : lent_at at lent e ≡ option_at at least e
   lent-is = by lent is
     where
       by : (l : Option (Bor N)) → option_copied l ≡ least → lent_at at l e ≡ option_at at least e

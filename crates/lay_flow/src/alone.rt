@@ -60,6 +60,7 @@ fn widths<S: Steady>(
         Placing::Block => block(calc, tree, b, room),
         Placing::ReplacedBlock => replaced_block(calc, tree, height, b, room),
         Placing::ReplacedShrunk => replaced_shrunk(calc, tree, height, b, room),
+        // Only shrink-to-fit asks for preferred widths (10.3.5, 10.3.9); for the other kinds none is computed.
         Placing::Shrunk => {
             let both = preferred(alloc, calc, tree, b, found);
             shrunk(calc, tree, b, room, &both)
@@ -91,6 +92,7 @@ pub fn room<S: Steady>(
     match parent_at(tree, b) {
         Some(parent) => {
             let around = room(alloc, calc, tree, height, found, levels - 1, parent);
+            // An inline box is no containing block of what is in it (10.1).
             if matches!(kind_at(tree, parent), Kind::Inline) {
                 return around;
             }
@@ -196,6 +198,7 @@ fn context_alone<S: Steady>(
     let top = content_top(calc, shape);
     let mut context = fresh(alloc, calc, &top);
     let mut boxes = Vec::new(alloc);
+    // A box stands before its content in the output, and its height is known behind it: its place is kept.
     let place = keep(calc, page.tree, b, shape, &mut boxes);
     content(alloc, calc, page, &band, &top, &mut context, b, &mut boxes);
     let placed = context_box(calc, page, b, shape, &context);

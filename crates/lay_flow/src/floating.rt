@@ -107,6 +107,7 @@ fn add_each<S: Steady>(
         → IsSpotNear (spot_at S.at by.now e) × AllByRecursion (IsPlacedIn reach) (boxes_at S.at boxes.now e)) }
 {
     for placed in boxes {
+        // Moved once for each float or inline-block around it; nothing is laid out again.
         let moved = shift_box(calc, by, placed);
         append(calc, out, moved);
     }

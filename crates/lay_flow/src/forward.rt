@@ -1,15 +1,16 @@
 //! The margins that adjoin the top of a box that comes next, up to the first box that is cleared (CSS 2.1, 8.3.1,
 //! 9.5.2).
-ghost use Rattle.std.specs.Prelude.{◌≡◌, ◌<◌, ◌++◌, ◌∷◌, [], ⊤, ℕ, length, slice_index_or, int_lt, false, IsTrue};
+ghost use Rattle.std.specs.Prelude.{◌≡◌, ◌<◌, ◌++◌, ◌∷◌, [], ⊤, ℕ, ℤ, length, slice_index_or, int_lt, false, IsTrue};
 ghost use Rattle.std.specs.Option.{option_map_or};
 ghost use Rattle.viz_calc.specs.World.{Reading};
 ghost use Rattle.viz_calc.specs.Run.{Stands, Goes, Fits, Blames, BlamesButMem};
 ghost use Rattle.viz_calc.specs.Renderings.{band_at};
-ghost use Rattle.layout_semantics.specs.Clearance.{with_waiting as with_all};
+ghost use Rattle.layout_semantics.specs.Floats.{floating};
 ghost use Rattle.layout_semantics.specs.FlowBoxes.{clear_of, flow_children};
-ghost use Rattle.lay_float.specs.Readings.{boxes_at as floats_in, floats_at, option_at};
+ghost use Rattle.lay_float.specs.Readings.{boxes_at as floats_in, extent_at, option_at};
+ghost use Rattle.lay_trial.specs.Readings.{coming_at, trial_at};
 ghost use Rattle.lay_margin.specs.Fitting.{edges};
-ghost use Rattle.lay_margin.specs.Readings.{floats_at as waiting_all};
+ghost use Rattle.lay_margin.specs.Readings.{floats_at as waiting_all, waiting_at as waiting_one};
 ghost use Rattle.lay_margin.specs.Runs.{run_at};
 ghost use Rattle.flow_steps.specs.Runs.{edge_at};
 ghost use Rattle.flow_steps.specs.Forward.{hypothetical_edge as hypothetical_of, bottom_to_clear as bottom_of};
@@ -19,22 +20,24 @@ ghost use Rattle.flow_steps.specs.Flow.{size_in};
 ghost use Rattle.lay_flow.specs.Low.{IsBaseLow, IsRunLow};
 ghost use Rattle.lay_flow.specs.Readings.{apart_at, base_at, found_at};
 ghost use Rattle.lay_flow.specs.WayFits.{IsLeadLow, WaitingFits, IsGroundLow, IsGoingLow};
+ghost use Rattle.lay_flow.specs.Tries.{TrialFits, first_trial, next_trial, other_trials};
 ghost use Rattle.lay_flow.specs.Ways.{ground_at, way_at, inner_at, kids_at_reading, kid_at, closed_end};
 ghost use Rattle.lay_flow.specs.Ways.{DecisionFitsAt, WayFitsAt, KidsFitAt, KidFitsAt};
 
 use crate::floating::size_of;
 use crate::parts::{Base, Cleared, End, Going, Page};
-use lay_float::engine::{bottom, copy};
-use lay_float::{Floats, PlacedFloat};
-use lay_line::floating::place_float;
+use lay_float::PlacedFloat;
+use lay_float::engine::bottom;
+use lay_line::trees::{clear_at, side_at};
 use lay_margin::Run;
 use lay_margin::contents::{collapses_through, enters, floats_in, holds_inline};
 use lay_margin::engine::value;
 use lay_margin::leads::{band_inside, copy_band, copy_run, join_bottom, join_top, lead, stops_at};
 use lay_margin::trees::{kids_at, own_clear, stands_clear};
+use lay_trial::trial::{Coming, Trial, begin, go_on};
 use lay_width::properties::{floats_at, parent_at};
 use std::alloc::Global;
-use viz_base::{Band, BoxTree, Clear, List, Waiting};
+use viz_base::{Band, BoxTree, Clear, Extent, List, Waiting};
 use viz_calc::Steady;
 
 /// What a way forward starts from.
@@ -99,6 +102,7 @@ fn hypothetical_edge<S: Steady>(
         → IsBaseLow (base_at S.at way.now.base.now e) × IsRunLow (run_at S.at run.now e)
         × IsLeadLow way.now.page.now.tree.now e.world (band_at S.at cb.now e) b) }
 {
+    // The run goes on from here whatever is decided, so the margins of this question are joined to a copy.
     let mut own = copy_run(calc, run);
     let mut waiting = List::new(alloc);
     lead(
@@ -114,36 +118,79 @@ fn hypothetical_edge<S: Steady>(
     edge(calc, way.base, &own)
 }
 
-/// Places the floats that wait, each where the run of margins ends at y, behind these.
-fn place_waiting<S: Steady>(
+/// A float that waits, as it comes next.
+fn coming<'a, N>(tree: &BoxTree, float: &'a Waiting<N>, size: &'a Extent<N>) -> Coming<'a, N>
+    ensures { (at : N → Reading → ℤ) (e : Reading) → coming_at at result e
+        ≡ floating tree.now float.now.at (extent_at at size.now e) (band_at at float.now.cb e) }
+{
+    Coming {
+        side: side_at(tree, float.at),
+        clear: clear_at(tree, float.at),
+        size,
+        cb: &float.cb,
+    }
+}
+
+#[tactic(auto, unfolding(flow_steps::specs::Flow::size_in))]
+/// Tries the first float that waits, where the run of margins ends at y.
+fn try_first<S: Steady>(
+    alloc: Global,
+    calc: &mut S,
+    way: &Way<'_, S::Num>,
+    float: &Waiting<S::Num>,
+    y: &S::Num,
+) -> Trial<S::Num>
+    ensures goes { Goes (S.run calc.old) (S.run calc.new) }
+    ensures value { (e : Reading) → IsTrue ((S.run calc.new).is_open e) → trial_at S.at result e
+        ≡ first_trial (ground_at S.at way.now e) (waiting_one S.at float.now e) (S.at y.now e) }
+    ensures cause { BlamesButMem (S.run calc.old) (S.run calc.new) ((e : Reading) → IsTrue ((S.run calc.old).is_open e)
+        → WaitingFits (size_in (apart_at S.at way.now.page.now.apart.now e)) (floats_in S.at way.now.floats.now e)
+        (option_at S.at way.now.least.now e) (S.at y.now e) (waiting_one S.at float.now e ∷ [])) }
+{
+    let size = size_of(calc, way.page.apart, float.at);
+    let next = coming(way.page.tree, float, &size);
+    begin(alloc, calc, way.floats, &next, way.least.as_ref(), y)
+}
+
+#[tactic(auto, unfolding(flow_steps::specs::Flow::size_in))]
+/// Tries the next one.
+fn try_next<S: Steady>(
+    alloc: Global,
+    calc: &mut S,
+    way: &Way<'_, S::Num>,
+    float: &Waiting<S::Num>,
+    before: Trial<S::Num>,
+) -> Trial<S::Num>
+    ensures goes { Goes (S.run calc.old) (S.run calc.new) }
+    ensures value { (e : Reading) → IsTrue ((S.run calc.new).is_open e) → trial_at S.at result e
+        ≡ next_trial (ground_at S.at way.now e) (waiting_one S.at float.now e) (trial_at S.at before e) }
+    ensures cause { BlamesButMem (S.run calc.old) (S.run calc.new) ((e : Reading) → IsTrue ((S.run calc.old).is_open e)
+        → TrialFits (ground_at S.at way.now e) (trial_at S.at before e) (waiting_one S.at float.now e ∷ [])) }
+{
+    let size = size_of(calc, way.page.apart, float.at);
+    let next = coming(way.page.tree, float, &size);
+    go_on(alloc, calc, &next, way.least.as_ref(), before)
+}
+
+/// Tries those that follow.
+fn try_others<S: Steady>(
+    alloc: Global,
     calc: &mut S,
     way: &Way<'_, S::Num>,
     waiting: &[Waiting<S::Num>],
-    y: &S::Num,
-    floats: &mut Floats<S::Num>,
-)
+    before: Trial<S::Num>,
+) -> Trial<S::Num>
     ensures goes { Goes (S.run calc.old) (S.run calc.new) }
-    ensures value { (e : Reading) → IsTrue ((S.run calc.new).is_open e) → floats_at S.at floats.new e
-        ≡ with_all way.now.page.now.tree.now (size_in (apart_at S.at way.now.page.now.apart.now e))
-        (waiting_all S.at waiting.now e) (floats_at S.at floats.old e) (option_at S.at way.now.least.now e)
-        (S.at y.now e) }
+    ensures value { (e : Reading) → IsTrue ((S.run calc.new).is_open e) → trial_at S.at result e
+        ≡ other_trials (ground_at S.at way.now e) (waiting_all S.at waiting.now e) (trial_at S.at before e) }
     ensures cause { BlamesButMem (S.run calc.old) (S.run calc.new) ((e : Reading) → IsTrue ((S.run calc.old).is_open e)
-        → WaitingFits (size_in (apart_at S.at way.now.page.now.apart.now e)) (floats_at S.at floats.old e)
-        (option_at S.at way.now.least.now e) (S.at y.now e) (waiting_all S.at waiting.now e)) }
+        → TrialFits (ground_at S.at way.now e) (trial_at S.at before e) (waiting_all S.at waiting.now e)) }
 {
+    let mut trial = before;
     for float in waiting {
-        let size = size_of(calc, way.page.apart, float.at);
-        place_float(
-            calc,
-            way.page.tree,
-            floats,
-            float.at,
-            &size,
-            &float.cb,
-            way.least.as_ref(),
-            y,
-        );
+        trial = try_next(alloc, calc, way, float, trial);
     }
+    trial
 }
 
 #[tactic(auto, unfolding(flow_steps::specs::Forward::bottom_to_clear))]
@@ -164,12 +211,15 @@ fn bottom_to_clear<S: Steady>(
         (option_at S.at way.now.least.now e) (S.at y.now e) (waiting_all S.at waiting.now e)) }
 {
     let clear = clear_in_flow(way.page.tree, b);
-    if waiting.is_empty() {
-        return bottom(calc, way.floats, clear);
+    match waiting.split_first() {
+        // Without floats that wait the context's own list will do, and none is copied.
+        None => bottom(calc, way.floats, clear),
+        Some((first, others)) => {
+            let trial = try_first(alloc, calc, way, first, y);
+            let trial = try_others(alloc, calc, way, others, trial);
+            bottom(calc, trial.all.placed.as_slice(), clear)
+        }
     }
-    let mut floats = copy(alloc, calc, way.floats);
-    place_waiting(calc, way, waiting, y, &mut floats);
-    bottom(calc, floats.placed.as_slice(), clear)
 }
 
 /// Whether a border edge is above such a bottom.
@@ -249,6 +299,7 @@ fn decided<S: Steady>(
         → DecisionFitsAt S.at way.now e (band_at S.at cb.now e) b (run_at S.at going.now.run e)
         (waiting_all S.at going.now.waiting e)) }
 {
+    // With no float there is nothing to clear, and no edge to compare: a certificate needs no answer here.
     if way.floats.is_empty() && going.waiting.is_empty() {
         return None;
     }
@@ -294,6 +345,7 @@ pub fn forward<S: Steady>(
         → WayFitsAt S.at way.now e (band_at S.at cb.now e) b (run_at S.at going.old.run e)
         (waiting_all S.at going.old.waiting e)) }
 {
+    // Each box with `clear` is decided where it is met, on the way forward.
     if stops_at(way.page.tree, way.past, b)
         && let Some(edge) = decided(alloc, calc, way, cb, b, going)
     {
@@ -431,6 +483,7 @@ fn kid<S: Steady>(
         (waiting_all S.at going.old.waiting e)) }
 {
     if floats_at(way.page.tree, k) {
+        // Where the run of margins ends is not known yet, so neither is the top of a float between them.
         wait(calc, band, k, &mut going.waiting);
         return End::GoesOn;
     }

@@ -138,6 +138,7 @@ fn lowest<S: Steady>(calc: &mut S, top: &S::Num, floats: &[PlacedFloat<S::Num>])
     ensures cause { Blames (S.run calc.old) (S.run calc.new) ((e : Reading) → IsTrue ((S.run calc.old).is_open e)
         → IsNear (S.at top.now e) × AllByRecursion (IsFloatIn reach) (floats_in S.at floats.now e)) }
 {
+    // At least 0: a context's height is never negative, where a block's that starts none may be (10.6.3, 10.6.7).
     let mut best = zero(calc);
     let count = floats.len();
     for done in 0..count {
@@ -178,6 +179,7 @@ pub fn block_height<S: Steady>(
     match end {
         Standing::AtTop { .. } => zero(calc),
         Standing::Below { edge, run, stuck } => {
+            // Behind a cleared box that collapses through, the run doesn't join the parent's bottom margin (8.3.1).
             if joins && !*stuck {
                 calc.sub(edge, top)
             } else {

@@ -88,6 +88,8 @@ fn inner_of<S: Steady>(calc: &mut S, page: &Page<'_, S::Num>, at: u32) -> Inner<
                     if !floats_at(page.tree, at)
                         && !is_replaced(page.tree, at)
                         && !clips(page.tree, at) => { calc.copy(baseline) }
+                // Floats and replaced boxes have no baseline, and one that clips counts by its margin edge
+                // (10.8.1).
                 _ => calc.copy(&alone.size.height),
             };
             let below = calc.sub(&alone.size.height, &above);
@@ -145,6 +147,7 @@ fn fill<S: Steady>(
 fn room_for(boxes: &[u32], all: usize) -> usize
     ensures { result ≡ room_of all boxes.now }
 {
+    // A table with a place for each box of the page, for each paragraph, would make pages of text quadratic.
     if boxes.is_empty() { 0 } else { all }
 }
 
@@ -314,6 +317,7 @@ fn lines_in<S: Steady>(
         cb,
     };
     let least = least_top(calc, &context.least, top);
+    // Lines own the list while they place into it, and give it back.
     let floats = std::mem::replace(&mut context.floats, Floats::new(alloc));
     lines(alloc, calc, &container, top, &least, floats)
 }

@@ -49,6 +49,7 @@ fn outside_of(alloc: Global, tree: &BoxTree, b: u32) -> Result<Vec<u32>, AllocEr
     if has_line(tree, b) {
         return inner_boxes(alloc, tree, b);
     }
+    // Floats between blocks are children of the container; those in lines are among its items.
     if !holds_inline(tree, b) {
         return floated(alloc, tree, kids_at(tree, b));
     }
@@ -90,6 +91,7 @@ fn add_box<S: Steady>(
     ensures cause { BlamesButMem (S.run calc.old) (S.run calc.new) (AllFit tree.now (S.run calc.old).is_open
         (λ e. BoxAddedFits tree.now e.world height (table_at S.at table.old.places.items e) k)) }
 {
+    // How wide the containing block is needs no layout: the tree tells it, level by level.
     let room = room(alloc, calc, tree, height, found, u64::from(k) + 1, k);
     let page = Page {
         tree,
@@ -144,6 +146,7 @@ fn add_container<S: Steady>(
     ensures cause { BlamesButMem (S.run calc.old) (S.run calc.new) (AllFit tree.now (S.run calc.old).is_open
         (λ e. ContainerFits tree.now e.world height (table_at S.at table.old.places.items e) b)) }
 {
+    // What is in an inline box stands among the items of the block container around it.
     if matches!(kind_at(tree, b), Kind::Inline) {
         return;
     }
@@ -185,6 +188,7 @@ fn fill<S: Steady>(
     ensures cause { BlamesButMem (S.run calc.old) (S.run calc.new) (AllFit tree.now (S.run calc.old).is_open
         (λ e. TableFits tree.now e.world height)) }
 {
+    // From the last box on: all that is in a box stands behind it, so its entries are there already.
     for done in 0..count {
         add_container(alloc, calc, tree, height, found, count - 1 - done, table);
     }
@@ -231,6 +235,7 @@ fn boxes<S: Steady>(alloc: Global, calc: &mut S, tree: &BoxTree, height: u32) ->
     if tree.boxes.is_empty() {
         return Vec::new(alloc);
     }
+    // One table of preferred widths for the page, so that each box is measured once.
     let mut found = nothing_found(alloc, calc, tree);
     let table = outside_flow(alloc, calc, tree, height, &mut found);
     let page = Page {

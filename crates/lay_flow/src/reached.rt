@@ -142,6 +142,7 @@ fn reached_from<S: Steady>(
         Some(cleared) => {
             if cleared.at == b {
                 let top = calc.copy(&cleared.edge);
+                // A cleared box stands exactly at the floats' bottom, whatever its margins.
                 let base = Base::Stands(cleared.edge);
                 let run = empty(calc);
                 let gone = go(alloc, calc, page, &base, Some(b), cb, context, b, run);

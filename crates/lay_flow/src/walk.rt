@@ -79,6 +79,7 @@ fn float<S: Steady>(
     let size = size_of(calc, page.apart, k);
     let edge = next_edge(calc, &context.standing);
     let from = calc.copy(top);
+    // Rule 4 of 9.5.1 asks for the container's content top, which may lie below where the last child ends.
     let y = greater(calc, from, edge);
     let spot = place_float(
         calc,
@@ -172,6 +173,7 @@ fn leave<S: Steady>(
 {
     let Context {
         standing,
+        // A context's floats end with it (9.4.1); its last line's baseline goes on to the box around.
         floats: _,
         least: _,
         baseline,
@@ -265,6 +267,7 @@ fn lay_block<S: Steady>(
     let placed = block_box(calc, page, b, shape, context);
     let bottom = calc.copy(&placed.border.bottom);
     put::<S>(out, place, placed);
+    // The tree says whether its margins may meet; that nothing stood in it in between the walk has seen.
     let through = is_at_top(&context.standing) && collapses_through(page.tree, b);
     let run = joined_run(calc, joins_last_child(page.tree, b), &context.standing);
     let margins = closing(calc, run, shape);
@@ -342,6 +345,7 @@ fn flow<S: Steady>(
         (context_at S.at context.old e) b))) }
 {
     let mut met = reach(alloc, calc, page, cb, context, b);
+    // Laying the box out moves the context on; where it collapses through, the next one starts from here again.
     let before = copy_standing(calc, &context.standing);
     let cleared = std::mem::replace(&mut met.reached.cleared, None);
     let laid = lay(

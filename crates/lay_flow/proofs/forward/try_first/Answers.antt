@@ -1,0 +1,56 @@
+use Rattle.std.proofs.Common.{ℤ, List, [], ◌∷◌, ap, sym, subst, ◌∙◌}
+use Rattle.viz_base.specs.declared.layouts.Extent.{Extent}
+use Rattle.viz_calc.specs.World.{Reading}
+use Rattle.viz_calc.specs.Renderings.{band_at}
+use Rattle.layout_semantics.specs.Floats.{Floating, floating}
+use Rattle.lay_float.specs.Limits.{AreHalf}
+use Rattle.lay_float.specs.Readings.{boxes_at, extent_at, option_at}
+use Rattle.lay_line.proofs.Chains.{but_mem, start_but_mem, next_but_mem}
+use Rattle.lay_margin.specs.Readings.{waiting_at as waiting_in}
+use Rattle.flow_limits.specs.Bounds.{levels_of}
+use Rattle.flow_steps.specs.Flow.{size_in}
+use Rattle.lay_trial.specs.Readings.{coming_at}
+use Rattle.lay_trial.specs.Trials.{first_tried}
+use Rattle.lay_flow.specs.Readings.{apart_at}
+use Rattle.lay_flow.specs.WayFits.{WaitingFits}
+use Rattle.lay_flow.proofs.Spots.{lent-is, half-lent}
+use Rattle.lay_flow.proofs.WaitingLow.{first-size, first-half}
+use Rattle.lay_flow.proofs.forward.try_first.Goals as goal
+
+pub returns-clause-value : goal.returns-clause-value
+unfolding size_in
+returns-clause-value g c = λ e o.
+    let at = g.S.Steady.at in
+    let way = c.args.way.now in
+    let tree = way.page.now.tree.now in
+    let float = c.args.float.now in
+    let floats = boxes_at at way.floats.now e in
+    let cb = band_at at float.cb e in
+    let own = extent_at at c.size_of-size.result e in
+    let y = at c.args.y.now e in
+    c.begin.ensures.value e o
+    ∙ ap (λ l. first_tried (coming_at at c.coming-next.result e) floats l y) (lent-is at e c.as_ref.result way.least.now c.as_ref.ensures.value)
+    ∙ ap (λ k. first_tried k floats (option_at at way.least.now e) y) (c.coming-next.ensures at e)
+    ∙ ap (λ s. first_tried (floating tree float.at s cb) floats (option_at at way.least.now e) y) (c.size_of-size.ensures.value e (c.begin.ensures.goes.closes e o))
+
+pub returns-clause-cause : goal.returns-clause-cause
+unfolding size_in
+returns-clause-cause g c =
+    let at = g.S.Steady.at in
+    let way = c.args.way.now in
+    let tree = way.page.now.tree.now in
+    let float = c.args.float.now in
+    let sizes = (λ (e : Reading). size_in (apart_at at way.page.now.apart.now e)) in
+    let floats = (λ (e : Reading). boxes_at at way.floats.now e) in
+    let least = (λ (e : Reading). option_at at way.least.now e) in
+    let y = (λ (e : Reading). at c.args.y.now e) in
+    let one = (λ (e : Reading). waiting_in at float e) in
+    let own = (λ (e : Reading). extent_at at c.size_of-size.result e) in
+    let asks = (λ (e : Reading). WaitingFits (sizes e) (floats e) (least e) (y e) (one e ∷ [])) in
+    let size = c.size_of-size.ensures in
+    let first = start_but_mem {asks = asks} size.goes (but_mem size.cause) (λ f e o. first-size tree (sizes e) (least e) (y e) (floats e) (one e) [] (f e o)) in
+    (next_but_mem first c.begin.ensures.goes c.begin.ensures.cause (λ f e o.
+    half-lent at e c.as_ref.result way.least.now c.as_ref.ensures.value (floats e) _ _ (y e)
+    (subst (λ (k : Floating). AreHalf (floats e) (k.size.width ∷ k.size.height ∷ k.cb.left ∷ k.cb.right ∷ levels_of (least e) (y e))) (sym (c.coming-next.ensures at e))
+    (subst (λ (s : Extent ℤ). AreHalf (floats e) (s.width ∷ s.height ∷ at float.cb.left e ∷ at float.cb.right e ∷ levels_of (least e) (y e))) (sym (size.value e o))
+    (first-half tree (sizes e) (least e) (y e) (floats e) (one e) [] (f e o)))))).cause

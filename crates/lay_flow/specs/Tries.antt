@@ -1,0 +1,25 @@
+-- The floats that wait on a way, tried one after another.
+use Rattle.std.specs.Prelude.{ℤ, List}
+use Rattle.viz_base.specs.declared.layouts.Waiting.{Waiting}
+use Rattle.layout_semantics.specs.Clearance.{Ground}
+use Rattle.layout_semantics.specs.Floats.{Floating, floating}
+use Rattle.lay_trial.specs.Trials.{Tried, first_tried, next_tried, all_tried}
+use Rattle.lay_flow.specs.WayFits.{WaitingFits}
+
+module _ (g : Ground) where
+  abbrev pub waits : Waiting ℤ → Floating
+  waits f = floating g.tree f.at (g.size f) f.cb
+
+  -- the first one, where the run of margins ends at y
+  abbrev pub first_trial : Waiting ℤ → ℤ → Tried
+  first_trial f y = first_tried (waits f) g.floats g.least y
+
+  abbrev pub next_trial : Waiting ℤ → Tried → Tried
+  next_trial f t = next_tried (waits f) g.least t
+
+  abbrev pub other_trials : List (Waiting ℤ) → Tried → Tried
+  other_trials ws t = all_tried g.tree g.size g.least ws t
+
+  -- what is computed as these are tried fits
+  abbrev pub TrialFits : Tried → List (Waiting ℤ) → Type 0
+  TrialFits t ws = WaitingFits g.size t.near g.least t.level ws
