@@ -1,20 +1,18 @@
-use std::test::Fail;
 use viz_base::World;
 use viz_calc::{Halt, Latch, Plain, Steady};
 
 const WORLD: World = World { w: 800, s: 16 };
 
 #[test]
-fn keeps_the_first_halt(rt: HostRuntime) -> Result<(), Fail> {
+fn keeps_the_first_halt(rt: HostRuntime) {
     let mut calc = Plain::new(WORLD);
     let mut latch = Latch::new(&mut calc);
     let big = latch.lit(1 << 100);
     let past = latch.add(&big, &big);
     let small = latch.sub(&past, &big);
     latch.stop();
-    assert_eq!(rt; latch.finish(small), Err(Halt::Coeff));
+    assert!(rt; latch.finish(small) == Err(Halt::Coeff));
     let mut again = Latch::new(&mut calc);
     let size = again.size();
-    assert_eq!(rt; again.finish(size), Ok(16 * 64));
-    Ok(())
+    assert!(rt; again.finish(size) == Ok(16 * 64));
 }

@@ -8,4 +8,8 @@ mod calc_worlds;
 #[cfg(test)]
 mod certificate_texts;
 #[cfg(test)]
+mod float_counts;
+#[cfg(test)]
 mod property_columns;
+#[cfg(test)]
+mod symbolic_floors;

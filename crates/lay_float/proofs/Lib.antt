@@ -8,3 +8,4 @@ pub mod Spots
 pub mod Rooms
 pub mod Highest
 pub mod Stands
+pub mod BetweenTops

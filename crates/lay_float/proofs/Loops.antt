@@ -1,16 +1,17 @@
 -- Loops over lists that go on from a state.
-use Rattle.std.proofs.Common.{◌≡◌, ℕ, ◌+◌, ◌<◌, ◌≤◌, ℤ, Bool, true, false, ◌||◌, List, [], ◌∷◌, ◌++◌, drop, get_or, length, map, Option, refl, sym, ap, ◌∙◌}
+use Rattle.std.proofs.Common.{◌≡◌, ℕ, ◌+◌, ◌<◌, ◌≤◌, ℤ, Bool, true, false, ◌||◌, List, [], ◌∷◌, ◌++◌, drop, get_or, length, map, Option, None, refl, sym, ap, ◌∙◌}
 use Rattle.std.proofs.Math.Bool.{or_assoc}
 use Rattle.std.specs.Int.{int_max}
 use Rattle.std.specs.List.{list_any}
 use Rattle.std.proofs.lemmas.List.{at_drop_more, at_drop_all, map-append, append_assoc, append-nil}
 use Rattle.viz_base.specs.declared.layouts.Band.{Band}
 use Rattle.viz_base.specs.declared.styles.Clear.{Clear}
+use Rattle.viz_base.specs.declared.styles.Clear.TheVariants as of_clear
 use Rattle.viz_base.specs.declared.styles.Side.{Side}
 use Rattle.layout_semantics.specs.Extremes.{greatest_from}
 use Rattle.layout_semantics.specs.Floats.{FloatBox}
 use Rattle.lay_float.specs.steps.Shelves.{Shelf, with_float, shelf_from, sooner, soonest}
-use Rattle.lay_float.specs.steps.Bands.{room_beside, room_from, lower, lowest_from}
+use Rattle.lay_float.specs.steps.Bands.{room_beside, room_from, is_relevant_side, lower, lowest_from}
 use Rattle.lay_float.proofs.Orders.{greatest-first}
 
 -- with one item more the state is the next one
@@ -53,6 +54,16 @@ lowest-step clear f fs s next e = ap (lowest_from clear fs) (sym e)
 pub lowest-end : (clear : Clear) (s : Option ℤ) → s ≡ lowest_from clear [] s
 unfolding lowest_from
 lowest-end clear s = refl
+
+-- where `clear` looks at nothing there is no bottom
+pub nothing-lower : (clear : Clear) (fs : List FloatBox) → clear ≡ of_clear.Nothing → None ≡ lowest_from clear fs None
+unfolding lowest_from lower
+nothing-lower clear [] e = refl
+nothing-lower clear (f ∷ fs) e = rw e (nothing-lower clear fs e)
+
+pub nothing-relevant : {A : Type 0} (clear : Clear) (side : A → Side) (xs : List A) → clear ≡ of_clear.Nothing → false ≡ list_any (λ x. is_relevant_side clear (side x)) xs
+nothing-relevant clear side [] e = refl
+nothing-relevant clear side (x ∷ xs) e = rw e (nothing-relevant clear side xs e)
 
 -- ---- whether any item passes a test
 

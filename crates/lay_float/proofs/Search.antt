@@ -18,7 +18,7 @@ use Rattle.lay_float.proofs.Allowed.{free_is_allowed}
 
 -- ---- the highest bottom below a top
 
-abbrev bottoms : List FloatBox → List ℤ
+abbrev pub bottoms : List FloatBox → List ℤ
 bottoms fs = map (λ (f : FloatBox). f.box.bottom) fs
 
 abbrev least_of : List ℤ → Option ℤ
@@ -130,11 +130,11 @@ module _ (floats : List FloatBox) (side : Side) (width : ℤ) (cb : Band ℤ) (t
   stands_alone y none = free_is side width cb y floats ∙ rw none refl
 
   -- where there is no place at a top, the next one is the highest bottom below it
-  record Next (y m : ℤ) : Type 0 where
-    lower : y <ℤ m
-    bottom : Contains (bottoms floats) m
-    highest : (f : FloatBox) → Contains floats f → IsTrue (ends_below y f) → m ≤ℤ f.box.bottom
-    fewer : length (filter (ends_below m) floats) < length (filter (ends_below y) floats)
+  pub record Next (y m : ℤ) : Type 0 where
+    pub lower : y <ℤ m
+    pub bottom : Contains (bottoms floats) m
+    pub highest : (f : FloatBox) → Contains floats f → IsTrue (ends_below y f) → m ≤ℤ f.box.bottom
+    pub fewer : length (filter (ends_below m) floats) < length (filter (ends_below y) floats)
 
   next_of : (y : ℤ) (g : FloatBox) (gs : List FloatBox) → filter (ends_below y) floats ≡ g ∷ gs → Next y (next_top floats y)
   next_of y g gs e = subst (λ (m : ℤ). Next y m) (sym (ap (λ o. unwrap_or o y) (soonest_is y floats ∙ ap (λ fs. least_of (bottoms fs)) e))) found
@@ -167,7 +167,7 @@ module _ (floats : List FloatBox) (side : Side) (width : ℤ) (cb : Band ℤ) (t
         fewer = fewer y m floats one.0 (omega (arith, ints, lower)) inside.0 inside.1 (is_le one.0.box.bottom m (omega (arith, ints, one.2)));
       }
 
-  next : (y : ℤ) → stands y ≡ false → Next y (next_top floats y)
+  pub next : (y : ℤ) → stands y ≡ false → Next y (next_top floats y)
   next y not_free = by (filter (ends_below y) floats) refl
     where
       by : (near : List FloatBox) → filter (ends_below y) floats ≡ near → Next y (next_top floats y)

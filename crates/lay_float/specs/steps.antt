@@ -1,3 +1,4 @@
 pub mod Shelves
+pub mod Brackets
 pub mod Bands
 pub mod Lent

@@ -173,6 +173,9 @@ pub fn lowest_bottom<'a, S: Steady>(
     ensures some { is_some result ≡ list_any (λ f. is_relevant_side clear f.side) floats.now }
     ensures cause { Blames (S.run calc.old) (S.run calc.new) ⊤ }
 {
+    if matches!(clear, Clear::Nothing) {
+        return None;
+    }
     let mut best = None;
     for f in floats {
         best = lower(calc, clear, best, f);

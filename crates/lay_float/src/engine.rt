@@ -14,9 +14,10 @@ ghost use Rattle.lay_float.specs.steps.Lent.{lent_at, place_at};
 ghost use Rattle.lay_float.specs.steps.Shelves.{spot_on};
 
 use crate::bands::{any_between, room_between};
+use crate::brackets::free_place;
 use crate::extremes::larger;
 use crate::floats::{Floats, PlacedFloat};
-use crate::shelves::{Place, free_place, open_from};
+use crate::shelves::{Place, open_from};
 use std::alloc::Global;
 use viz_base::{Band, Clear, Extent, List, Quad, Side, Spot};
 use viz_calc::Steady;
@@ -80,6 +81,7 @@ pub fn float_at<S: Steady>(
         ∷ S.at top.now e ∷ [])) }
 {
     let high = highest_top(calc, floats, top);
+    // Tops only go down: what ends above the first top that is tried meets none of them.
     let rest = open_from(calc, floats, high);
     let place = free_place(calc, rest, side, &size.width, cb, high);
     spot_on(calc, side, &size.width, &place)
@@ -127,6 +129,7 @@ fn append<S: Steady>(calc: &mut S, floats: &mut Floats<S::Num>, placed: PlacedFl
         calc.stop();
         return;
     }
+    // A plain list in the order of placement; nothing rests on the order of its tops.
     match floats.placed.push(placed) {
         Ok(()) => {}
         Err(_) => calc.stop(),
@@ -260,6 +263,7 @@ pub fn float_top<S: Steady>(
     ensures cause { Blames (S.run calc.old) (S.run calc.new) ((e : Reading) → IsTrue ((S.run calc.old).is_open e)
         → AreHalf (boxes_at S.at floats.now e) (S.at y.now e ∷ option_to_list (lent_at S.at least.entry e))) }
 {
+    // Lines and blocks ask here alike, so that `clear` on a float means one thing.
     let lowest = lowest_or(calc, floats, clear, y);
     match least {
         Some(least) => {

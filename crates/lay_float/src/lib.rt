@@ -2,6 +2,7 @@
 #![tactic(auto)]
 
 mod bands;
+mod brackets;
 pub mod engine;
 mod extremes;
 mod floats;

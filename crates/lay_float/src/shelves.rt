@@ -90,6 +90,7 @@ fn set_beside<'a, S: Steady>(
         is_bounded,
     } = shelf;
     if is_same_side(f.side, side) {
+        // Rule 2: next to an earlier float of its own side. Rule 7 then keeps it within the containing block.
         let edge = innermost(calc, side, inner, edge);
         Shelf {
             edge,
@@ -97,6 +98,7 @@ fn set_beside<'a, S: Steady>(
             is_bounded: true,
         }
     } else {
+        // Rule 3: it may not pass the edge of a float of the other side.
         let limit = tighter(calc, f.side, inner, limit);
         Shelf {
             edge,
@@ -120,6 +122,7 @@ fn with_float<'a, S: Steady>(
         ≡ with_float side (S.at y.now e) (shelf_at S.at shelf.entry e) (box_at S.at f.now e) }
     ensures cause { Blames (S.run calc.old) (S.run calc.new) ⊤ }
 {
+    // The bottom alone is asked: no top is below the height that is tried.
     if calc.le(&f.outer.bottom, y) {
         shelf
     } else {
@@ -165,6 +168,7 @@ fn limit_of<'a, S: Steady>(
         → lent_at S.at result e ≡ limit_of side (band_at S.at cb.now e) is_bounded (lent_at S.at limit.entry e) }
     ensures cause { Blames (S.run calc.old) (S.run calc.new) ⊤ }
 {
+    // Rule 7 binds only a float with another of its side before it: a wide one alone may stick out.
     if is_bounded {
         let other = opposite(side);
         tighter(calc, other, side_edge(cb, other), limit)
@@ -216,6 +220,7 @@ fn stays_within<S: Steady>(
     match limit {
         None => true,
         Some(limit) => {
+            // One comparison, with the innermost edge that it may not pass, however many floats there are.
             let far = far_edge(calc, side, edge, width);
             reaches_to(calc, side, &far, limit)
         }
@@ -296,7 +301,7 @@ fn next_top<'a, S: Steady>(
 }
 
 /// The edge at which a float of this width stands with its top at a height, where there is place.
-fn stand<'a, S: Steady>(
+pub fn stand<'a, S: Steady>(
     calc: &mut S,
     floats: &'a [PlacedFloat<S::Num>],
     side: Side,
@@ -320,7 +325,7 @@ fn stand<'a, S: Steady>(
 }
 
 /// The place with its top at a height, farthest to its side.
-fn farthest<'a, S: Steady>(
+pub fn farthest<'a, S: Steady>(
     calc: &mut S,
     floats: &'a [PlacedFloat<S::Num>],
     side: Side,
@@ -353,6 +358,7 @@ pub fn open_from<'a, S: Steady>(
 {
     let mut rest = floats;
     while let Some((first, others)) = rest.split_first() {
+        // It stops at the first that may still matter, and asks nothing of those behind it.
         if !calc.le(&first.outer.bottom, y) {
             return rest;
         }
@@ -361,8 +367,8 @@ pub fn open_from<'a, S: Steady>(
     rest
 }
 
-/// The highest place from a top downwards; no float's top is below that top.
-pub fn free_place<'a, S: Steady>(
+/// The highest place from a top downwards, from bottom to bottom; no float's top is below that top.
+pub fn place_among_few<'a, S: Steady>(
     calc: &mut S,
     floats: &'a [PlacedFloat<S::Num>],
     side: Side,

@@ -11,7 +11,11 @@ use Rattle.lay_float.specs.Readings.{boxes_at}
 use Rattle.lay_float.specs.declared.floats.PlacedFloat.{PlacedFloat}
 use Rattle.lay_float.specs.steps.Shelves as steps
 use Rattle.lay_float.specs.steps.Shelves.{far_edge, shelf_on}
+use Rattle.lay_float.specs.steps.Brackets as brackets
+use Rattle.lay_float.specs.steps.Brackets.{IsBracket}
 use Rattle.lay_float.specs.declared.bands.Room.{Room}
+use Rattle.lay_float.specs.declared.brackets.Bracket.{Bracket}
+use Rattle.lay_float.specs.declared.brackets.Wanted.{Wanted}
 use Rattle.lay_float.specs.declared.shelves.Shelf.{Shelf}
 use Rattle.lay_float.specs.declared.shelves.Place.{Place}
 
@@ -24,6 +28,19 @@ shelf_at at s e = record { edge = at s.edge.now e; limit = lent_at at s.limit e;
 
 abbrev pub place_at : {N : Type 0} → (N → Reading → ℤ) → Place N → Reading → steps.Place
 place_at at p e = record { top = at p.top.now e; edge = at p.edge.now e }
+
+abbrev pub bracket_at : {N : Type 0} → (N → Reading → ℤ) → Bracket N → Reading → brackets.Bracket
+bracket_at at b e = record { taken = at b.taken.now e; found = option_map (λ p. place_at at p e) b.found }
+
+-- a bracket for the float that is wanted
+abbrev pub IsBracketFor : {N : Type 0} → (N → Reading → ℤ) → Wanted N → Reading → ℤ → brackets.Bracket → Type 0
+IsBracketFor at w e high b =
+    IsBracket (boxes_at at w.floats.now e) w.side (at w.width.now e) (band_at at w.cb.now e) high b
+
+-- where the one is a bracket for the float that is wanted, so is the other
+abbrev pub KeepsBrackets : {N : Type 0} → (N → Reading → ℤ) → Wanted N → Reading → brackets.Bracket
+    → brackets.Bracket → Type 0
+KeepsBrackets at w e old new = (high : ℤ) → IsBracketFor at w e high old → IsBracketFor at w e high new
 
 -- at whatever top a float stands, its other edge is at most 2^100 in size
 abbrev pub FitsAnywhere : {N : Type 0} → Run → (N → Reading → ℤ) → List (PlacedFloat N) → Side → Band N → N → Type 0

@@ -5,7 +5,7 @@ use Rattle.viz_calc.specs.Renderings.{band_at}
 use Rattle.lay_float.specs.Readings.{boxes_at}
 use Rattle.lay_float.specs.steps.Lent.{FitsAnywhere}
 use Rattle.lay_float.specs.steps.Shelves.{free_top}
-use Rattle.lay_float.proofs.shelves.free_place.Given as goal
+use Rattle.lay_float.proofs.shelves.place_among_few.Given as goal
 
 -- the top that is found from here is that of all
 abbrev pub invariant-loop-passed : goal.invariant-loop-passed

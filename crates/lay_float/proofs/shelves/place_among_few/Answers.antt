@@ -6,7 +6,7 @@ use Rattle.lay_float.specs.Readings.{boxes_at}
 use Rattle.lay_float.specs.steps.Lent.{FitsAnywhere}
 use Rattle.lay_float.specs.steps.Shelves.{free_top, place_on}
 use Rattle.lay_float.proofs.Spots.{found-here, not-here, at-end}
-use Rattle.lay_float.proofs.shelves.free_place.Goals as goal
+use Rattle.lay_float.proofs.shelves.place_among_few.Goals as goal
 
 pub returns-in-Some-clause-value : goal.returns-in-Some-clause-value
 returns-in-Some-clause-value g c = λ e o.
