@@ -1,4 +1,4 @@
--- The verdict on a certificate that is plainly computed.
+-- The verdict on a certificate without leaves, and on one that is plainly computed.
 use Rattle.std.proofs.Common.{◌≡◌, ℕ, zero, suc, ◌<◌, Bool, true, false, nat_lt, List, [], ◌∷◌, Some, refl, sym, ap, subst, ◌∙◌, arith, inl, inr}
 use Rattle.std.specs.Prelude.{◌≢◌, ◌⊎◌, slice_get}
 use Rattle.std.proofs.lemmas.Bool.Decides.{nat_tests}
@@ -20,10 +20,10 @@ use Rattle.cert_check.specs.declared.verdicts.Reject.TheVariants.{OtherJob, Shap
 use Rattle.cert_check.specs.Truths.{Holds, is_true_at, IsBefore}
 use Rattle.cert_check.specs.steps.Tells.{AllGood}
 use Rattle.cert_check.specs.Leaves.{node_in}
-use Rattle.cert_check.specs.Numbers.{are_computed}
-use Rattle.cert_check.specs.Right.{IsTrueIfGrid, Right, IsWithin128, IsPlainlyComputed, DecidesWell, IsGood}
-use Rattle.cert_check.specs.Verdicts.{IsFirstUntrue, IsFault, IsRejected, IsFirstRejected, IsCause, IsVerdict}
-use Rattle.cert_check.proofs.Tellings.{right_of, no_fault, not_rejected, cause_not_right, holds_of}
+use Rattle.cert_check.specs.Numbers.{are_computed, IsComputed}
+use Rattle.cert_check.specs.Right.{IsTrueIfGrid, Right, IsWithin128, IsPlainlyComputed, IsNoLeaf, HasNoLeaf, DecidesWell, IsGood}
+use Rattle.cert_check.specs.Verdicts.{IsFirstUntrue, IsOutside, IsFault, IsRejected, IsFirstRejected, IsCause, Passes, IsVerdict}
+use Rattle.cert_check.proofs.Tellings.{right_of, not_rejected, holds_of}
 
 -- ---- what is right and plainly computed is good
 
@@ -42,6 +42,19 @@ pub right_holds : (job : Job) (cert : Cert) → IsPlainlyComputed job cert → R
 right_holds job cert plain right = holds_of job cert (all_good job (nodes_of cert) (λ n node is.
     let h = right.nodes n node is in
     record { shaped = h.shaped; decides = good_decides job node.path node.decision h.reasons h.holds (plain n node is) }))
+
+-- ---- what is good is not rejected, unless it is a leaf
+
+good_within : (job : Job) (path : Path) (d : Decision) → IsNoLeaf d → DecidesWell job path d → IsWithin128 job path d
+good_within job path (names row d) leafless h = tt
+good_within job path (splits row) leafless h = h
+good_within job path (is_empty why) leafless h = tt
+good_within job path by_worlds leafless h = h.0
+good_within job path (by_answers answers) leafless h = absurd leafless
+
+good_stands : (job : Job) (node : Node) (reject : Reject) → IsNoLeaf node.decision → IsGood job node → IsRejected job node reject → ⊥
+good_stands job node reject leafless good h =
+    not_rejected job node reject (right_of job node good) (good_within job node.path node.decision leafless good.decides) h
 
 -- ---- one cause of a rejected node
 
@@ -64,33 +77,50 @@ one_first job path a b h k = by_order (nat_lt a.w b.w) refl (nat_lt b.w a.w) ref
         let same_s : a.s ≡ b.s = grind (arith, nat_tests) in
         λ i. record { w = same_w i; s = same_s i }
 
--- what a fault of such a node is
+-- a number of a grid's path is outside `i128`
+abbrev IsSeenOutside : Job → Path → Reject → Type 0
+IsSeenOutside job path reject = (reject ≡ Coeff (node_in reject)) × IsOutside job.range path
+
+-- its numbers are not, and its formula is false at a world
+abbrev IsSeenUntrue : Job → Path → Reject → Type 0
+IsSeenUntrue job path reject = (world : World) × (reject ≡ Untrue (node_in reject) world) × IsComputed job.range path × IsFirstUntrue job path world
+
+-- what a fault of a node is that is no leaf
 abbrev IsSeen : Job → Path → Decision → Reject → Type 0
 IsSeen job path (names row d) reject = ⊥
-IsSeen job path (splits row) reject = ⊥
+IsSeen job path (splits row) reject = reject ≡ Coeff (node_in reject)
 IsSeen job path (is_empty why) reject = (line : ℕ) × (reject ≡ Line (node_in reject) 0 line) × (first_fault (facts job.range path) (variables path) why ≡ Some line)
-IsSeen job path by_worlds reject = (world : World) × (reject ≡ Untrue (node_in reject) world) × IsFirstUntrue job path world
+IsSeen job path by_worlds reject = IsSeenOutside job path reject ⊎ IsSeenUntrue job path reject
 IsSeen job path (by_answers answers) reject = ⊥
 
-seen : (job : Job) (path : Path) (d : Decision) (reject : Reject) → IsWithin128 job path d → IsFault job path d reject → IsSeen job path d reject
-seen job path (names row d) reject w f = absurd f
-seen job path (splits row) (Coeff n) w f = absurd (no_fault job path (splits row) (Coeff n) tt tt w f)
-seen job path (splits row) reject w f = absurd f
-seen job path (is_empty why) (Line n number line) w f = (line, λ i. Line n (f.0 i) line, f.1)
-seen job path (is_empty why) reject w f = absurd f
-seen job path by_worlds (Coeff n) w f = absurd (not_both (are_computed path f.world) (w f.world f.inside) f.outside)
-seen job path by_worlds (Untrue n world) w f = (world, refl, f.1)
-seen job path by_worlds reject w f = absurd f
-seen job path (by_answers answers) reject w f = absurd w
+seen : (job : Job) (path : Path) (d : Decision) (reject : Reject) → IsNoLeaf d → IsFault job path d reject → IsSeen job path d reject
+seen job path (names row d) reject leafless f = absurd f
+seen job path (splits row) (Coeff n) leafless f = refl
+seen job path (splits row) reject leafless f = absurd f
+seen job path (is_empty why) (Line n number line) leafless f = (line, λ i. Line n (f.0 i) line, f.1)
+seen job path (is_empty why) reject leafless f = absurd f
+seen job path by_worlds (Coeff n) leafless f = inl (refl, f)
+seen job path by_worlds (Untrue n world) leafless f = inr (world, refl, f.0, f.1)
+seen job path by_worlds reject leafless f = absurd f
+seen job path (by_answers answers) reject leafless f = absurd leafless
 
 same_line : (n m : ℕ) (a b : ℕ) → n ≡ m → Some a ≡ Some b → Line n 0 a ≡ Line m 0 b
 same_line n m a b e f = λ i. Line (e i) 0 (same_Some a b f i)
 
+not_outside : (job : Job) (path : Path) → IsOutside job.range path → IsComputed job.range path → ⊥
+not_outside job path outside computed = not_both (are_computed path outside.world) (computed outside.world outside.inside) outside.outside
+
+one_of_grid : (job : Job) (path : Path) (a b : Reject) → node_in a ≡ node_in b → IsSeen job path by_worlds a → IsSeen job path by_worlds b → a ≡ b
+one_of_grid job path a b e (inl h) (inl k) = h.0 ∙ ap Coeff e ∙ sym k.0
+one_of_grid job path a b e (inl h) (inr k) = absurd (not_outside job path h.1 k.2)
+one_of_grid job path a b e (inr h) (inl k) = absurd (not_outside job path k.1 h.2)
+one_of_grid job path a b e (inr h) (inr k) = h.1 ∙ (λ i. Untrue (e i) (one_first job path h.0 k.0 h.3 k.3 i)) ∙ sym k.1
+
 one_seen : (job : Job) (path : Path) (d : Decision) (a b : Reject) → node_in a ≡ node_in b → IsSeen job path d a → IsSeen job path d b → a ≡ b
 one_seen job path (names row d) a b e h k = absurd h
-one_seen job path (splits row) a b e h k = absurd h
+one_seen job path (splits row) a b e h k = h ∙ ap Coeff e ∙ sym k
 one_seen job path (is_empty why) a b e h k = h.1 ∙ same_line (node_in a) (node_in b) h.0 k.0 e (sym h.2 ∙ k.2) ∙ sym k.1
-one_seen job path by_worlds a b e h k = h.1 ∙ (λ i. Untrue (e i) (one_first job path h.0 k.0 h.2 k.2 i)) ∙ sym k.1
+one_seen job path by_worlds a b e h k = one_of_grid job path a b e h k
 one_seen job path (by_answers answers) a b e h k = absurd h
 
 abbrev IsBad : Job → Node → Reject → Type 0
@@ -103,21 +133,21 @@ bad job node (Shape n) h = inl (refl, h)
 bad job node OtherJob h = absurd h
 bad job node reject h = inr h
 
-one_reject : (job : Job) (node : Node) (a b : Reject) → IsWithin128 job node.path node.decision → node_in a ≡ node_in b → IsRejected job node a → IsRejected job node b → a ≡ b
-one_reject job node a b w e h k = by_bad (bad job node a h) (bad job node b k)
+one_reject : (job : Job) (node : Node) (a b : Reject) → IsNoLeaf node.decision → node_in a ≡ node_in b → IsRejected job node a → IsRejected job node b → a ≡ b
+one_reject job node a b leafless e h k = by_bad (bad job node a h) (bad job node b k)
   where
     by_bad : IsBad job node a → IsBad job node b → a ≡ b
     by_bad (inl h) (inl k) = h.0 ∙ ap Shape e ∙ sym k.0
     by_bad (inl h) (inr k) = absurd (not_both (is_shaped job.range node.path node.decision) k.0 h.1)
     by_bad (inr h) (inl k) = absurd (not_both (is_shaped job.range node.path node.decision) h.0 k.1)
-    by_bad (inr h) (inr k) = one_seen job node.path node.decision a b e (seen job node.path node.decision a w h.1) (seen job node.path node.decision b w k.1)
+    by_bad (inr h) (inr k) = one_seen job node.path node.decision a b e (seen job node.path node.decision a leafless h.1) (seen job node.path node.decision b leafless k.1)
 
 -- ---- one verdict
 
-module _ (job : Job) (cert : Cert) (plain : IsPlainlyComputed job cert) where
+module _ (job : Job) (cert : Cert) (none : HasNoLeaf cert) where
   not_before : (a b : Reject) → IsFirstRejected job cert a → IsFirstRejected job cert b → node_in a < node_in b → ⊥
   not_before a b h k lt =
-      not_rejected job h.node a (right_of job h.node (k.reached.before (node_in a) h.node lt h.reached.is_node)) (plain (node_in a) h.node h.reached.is_node) h.rejected
+      good_stands job h.node a (none (node_in a) h.node h.reached.is_node) (k.reached.before (node_in a) h.node lt h.reached.is_node) h.rejected
 
   one_place : (a b : Reject) → IsFirstRejected job cert a → IsFirstRejected job cert b → node_in a ≡ node_in b
   one_place a b h k = by_order (nat_lt (node_in a) (node_in b)) refl (nat_lt (node_in b) (node_in a)) refl
@@ -131,7 +161,7 @@ module _ (job : Job) (cert : Cert) (plain : IsPlainlyComputed job cert) where
   one_named a b h k =
       let same = one_place a b h k in
       let node : h.node ≡ k.node = same_Some h.node k.node (sym h.reached.is_node ∙ ap (λ n. slice_get (nodes_of cert) n) same ∙ k.reached.is_node) in
-      one_reject job k.node a b (plain (node_in b) k.node k.reached.is_node) same (subst (λ (x : Node). IsRejected job x a) node h.rejected) k.rejected
+      one_reject job k.node a b (none (node_in b) k.node k.reached.is_node) same (subst (λ (x : Node). IsRejected job x a) node h.rejected) k.rejected
 
   abbrev IsNamed : Reject → Type 0
   IsNamed reject = ((reject ≡ OtherJob) × (cert.job ≢ job.digest)) ⊎ IsFirstRejected job cert reject
@@ -146,8 +176,13 @@ module _ (job : Job) (cert : Cert) (plain : IsPlainlyComputed job cert) where
   one_cause a b (inr h) (inl k) = absurd (k.1 h.reached.digest)
   one_cause a b (inr h) (inr k) = one_named a b h k
 
+  not_both_named : (reject : Reject) → Passes job cert → IsNamed reject → ⊥
+  not_both_named reject passes (inl h) = h.1 passes.right.digest
+  not_both_named reject passes (inr h) =
+      good_stands job h.node reject (none (node_in reject) h.node h.reached.is_node) (passes.good (node_in reject) h.node h.reached.is_node) h.rejected
+
   pub one_verdict : (one other : Verdict) → IsVerdict job cert one → IsVerdict job cert other → one ≡ other
   one_verdict Accepted Accepted h k = refl
-  one_verdict Accepted (Rejected b) h k = absurd (cause_not_right job cert b k plain h.0)
-  one_verdict (Rejected a) Accepted h k = absurd (cause_not_right job cert a h plain k.0)
+  one_verdict Accepted (Rejected b) h k = absurd (not_both_named b h (named b k))
+  one_verdict (Rejected a) Accepted h k = absurd (not_both_named a k (named a h))
   one_verdict (Rejected a) (Rejected b) h k = ap Rejected (one_cause a b (named a h) (named b k))

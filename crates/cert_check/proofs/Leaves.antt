@@ -3,6 +3,7 @@ use Rattle.std.proofs.Common.{◌≡◌, ℕ, ◌-◌, ◌<◌, ◌≤◌, Bool,
 use Rattle.std.specs.Prelude.{slice_get}
 use Rattle.std.specs.Option.{option_map_or}
 use Rattle.std.proofs.lemmas.Bool.{and_parts}
+use Rattle.viz_base.specs.Numbers.{Rose}
 use Rattle.viz_base.specs.declared.jobs.Job.{Job}
 use Rattle.viz_calc.specs.World.{Reading}
 use Rattle.viz_calc.specs.State.{Kept, Grows}
@@ -141,5 +142,6 @@ module _ (job : Job) (old new : Sym) (grows : Grows (state_of old) (state_of new
         → IsLeafVerdict job n path old.tape.now (Rejected (Unmet n))
     leaf_unmet n value = (refl, throughout false value)
 
-    pub leaf_coeff : (n : ℕ) → IsLeafVerdict job n path old.tape.now (Rejected (Coeff n))
-    leaf_coeff n = (refl, tt)
+    pub leaf_coeff : (n : ℕ) → new.trouble ≡ None → Rose old.coeffs new.coeffs → IsLeafVerdict job n path old.tape.now (Rejected (Coeff n))
+    leaf_coeff n none counted =
+        (refl, record { before = old; stands = over; tape_is = refl; after = new; grows = grows; untroubled = none; counted = counted })

@@ -261,7 +261,7 @@ at_root job cert path answer h = subst (λ p. Tells job (nodes_from cert.root p)
 pub accepts : (job : Job) (cert : Cert) (path : Path) (next : ℕ) → IsTold job cert path (Ok next) → IsVerdict job cert Accepted
 accepts job cert path next h =
     let good = tells_good job (nodes_of cert) 0 next (at_root job cert path (Ok next) h) in
-    (is_right job cert h.1 good, holds_of job cert good)
+    record { right = is_right job cert h.1 good; holds = holds_of job cert good; good = at_number (IsGood job) (nodes_of cert) good }
 
 pub rejects : (job : Job) (cert : Cert) (path : Path) (reject : Reject) → IsTold job cert path (Err (of_stop.Rejected reject)) → IsCause job cert reject
 rejects job cert path reject h = cause_of job cert reject h.1 (tells_bad job (nodes_of cert) 0 reject (at_root job cert path (Err (of_stop.Rejected reject)) h))

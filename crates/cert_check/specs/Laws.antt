@@ -8,16 +8,16 @@ use Rattle.cert_path.specs.Laws.{IsUnit}
 use Rattle.cert_check.specs.declared.verdicts.Verdict.{Verdict}
 use Rattle.cert_check.specs.Rectangles.{is_unit}
 use Rattle.cert_check.specs.Truths.{Holds}
-use Rattle.cert_check.specs.Right.{Right, IsPlainlyComputed, AreUnitsAndGrids}
+use Rattle.cert_check.specs.Right.{Right, IsPlainlyComputed, HasNoLeaf, AreUnitsAndGrids}
 use Rattle.cert_check.specs.Verdicts.{IsVerdict}
 
 -- a job holds for which some certificate is right that is plainly computed
 abbrev pub RightHolds : Type 0
 RightHolds = (job : Job) (cert : Cert) → IsPlainlyComputed job cert → Right job cert → Holds job
 
--- a certificate that is plainly computed has one verdict
+-- a certificate without leaves has one verdict
 abbrev pub OneVerdict : Type 0
-OneVerdict = (job : Job) (cert : Cert) → IsPlainlyComputed job cert
+OneVerdict = (job : Job) (cert : Cert) → HasNoLeaf cert
     → (one other : Verdict) → IsVerdict job cert one → IsVerdict job cert other → one ≡ other
 
 -- the rows by which a rectangle is cut are those of one variable, the width or the size, and the coefficient 1 or -1

@@ -5,6 +5,7 @@ use Rattle.viz_base.specs.declared.worlds.Rect.{Rect}
 use Rattle.viz_base.specs.declared.worlds.World.{World}
 use Rattle.viz_base.specs.declared.jobs.Job.{Job}
 use Rattle.viz_calc.specs.World.{Reading}
+use Rattle.viz_calc.specs.State.{Grows}
 use Rattle.lin_row.specs.Form.{Form}
 use Rattle.lin_proof.specs.declared.derivation.Answer.{Answer}
 use Rattle.cert_path.specs.Paths.{Path, AreSound}
@@ -57,6 +58,17 @@ pub record AreLeft (job : Job) (path : Path) (answers : List Answer) (count : �
   pub most : count ≤ length answers
   pub right : AreRefuted job.range path (take (length answers - count) answers)
 
+-- a calc that stood over the path, with these answers as its tape, went on without a trouble, and counted a number
+-- outside `i128` on the way
+pub record CountsOutside (range : Rect) (path : Path) (answers : List Answer) : Type 0 where
+  pub before : Sym
+  pub stands : StandsOver range path before
+  pub tape_is : before.tape.now ≡ answers
+  pub after : Sym
+  pub grows : Grows (state_of before) (state_of after)
+  pub untroubled : after.trouble ≡ None
+  pub counted : Rose before.coeffs after.coeffs
+
 -- why a leaf on a path with these answers is rejected
 abbrev pub IsLeafFault : Job → Path → List Answer → Reject → Type 0
 IsLeafFault job path answers OtherJob = ⊥
@@ -67,7 +79,7 @@ IsLeafFault job path answers (Differs n number ours theirs) = IsToAnother job.ra
 IsLeafFault job path answers (Short n) = AreRefuted job.range path answers
 IsLeafFault job path answers (Unmet n) = IsThroughout job path false
 IsLeafFault job path answers (Left n count) = AreLeft job path answers count
-IsLeafFault job path answers (Coeff n) = Unit {0}
+IsLeafFault job path answers (Coeff n) = CountsOutside job.range path answers
 
 -- the number of the node that is rejected
 abbrev pub node_in : Reject → ℕ

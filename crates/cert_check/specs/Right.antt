@@ -50,6 +50,18 @@ abbrev pub IsPlainlyComputed : Job → Cert → Type 0
 IsPlainlyComputed job cert = (n : ℕ) (node : Node) → slice_get (nodes_of cert) n ≡ Some node
     → IsWithin128 job node.path node.decision
 
+-- the node is no leaf
+abbrev pub IsNoLeaf : Decision → Type 0
+IsNoLeaf (names row d) = ⊤
+IsNoLeaf (splits row) = ⊤
+IsNoLeaf (is_empty why) = ⊤
+IsNoLeaf by_worlds = ⊤
+IsNoLeaf (by_answers answers) = ⊥
+
+-- none of the certificate's nodes is one
+abbrev pub HasNoLeaf : Cert → Type 0
+HasNoLeaf cert = (n : ℕ) (node : Node) → slice_get (nodes_of cert) n ≡ Some node → IsNoLeaf node.decision
+
 -- ---- unit splits and grids
 
 -- the node is a split by a unit row, or a grid
@@ -66,6 +78,8 @@ AreUnitsAndGrids cert = All (λ (node : Node). IsUnitOrGrid node.decision) (node
 
 -- ---- good nodes: those at which the checker goes on
 
+-- a split's denial is in `i128`, a void's derivation is right, a grid's numbers are in `i128` and its formula is true,
+-- a leaf's formula is true and its answers are right
 abbrev pub DecidesWell : Job → Path → Decision → Type 0
 DecidesWell job path (names row d) = ⊤
 DecidesWell job path (splits row) = IsTrue (form_fits (denied row))
@@ -76,3 +90,7 @@ DecidesWell job path (by_answers answers) = IsTrueOn job path × AreRefuted job.
 pub record IsGood (job : Job) (node : Node) : Type 0 where
   pub shaped : has_shape job.range node ≡ true
   pub decides : DecidesWell job node.path node.decision
+
+-- each node of the certificate is good
+abbrev pub AreGood : Job → Cert → Type 0
+AreGood job cert = (n : ℕ) (node : Node) → slice_get (nodes_of cert) n ≡ Some node → IsGood job node

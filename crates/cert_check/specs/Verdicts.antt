@@ -21,7 +21,7 @@ use Rattle.cert_check.specs.Truths.{is_true_at, Holds}
 use Rattle.cert_check.specs.Truths.{IsBefore}
 use Rattle.cert_check.specs.Numbers.{are_computed, IsComputed}
 use Rattle.cert_check.specs.Leaves.{IsLeafFault, node_in}
-use Rattle.cert_check.specs.Right.{IsGood, Right}
+use Rattle.cert_check.specs.Right.{IsGood, AreGood, Right}
 
 -- ---- faults of nodes
 
@@ -78,7 +78,14 @@ abbrev pub IsCause : Job → Cert → Reject → Type 0
 IsCause job cert OtherJob = cert.job ≢ job.digest
 IsCause job cert reject = IsFirstRejected job cert reject
 
+-- the certificate is right for the job, which holds, and each of its nodes is good, so that no number of a split's denial
+-- or of a grid's path is outside `i128`
+pub record Passes (job : Job) (cert : Cert) : Type 0 where
+  pub right : Right job cert
+  pub holds : Holds job
+  pub good : AreGood job cert
+
 -- the verdict on a certificate for a job; where it is accepted, the job holds
 abbrev pub IsVerdict : Job → Cert → Verdict → Type 0
-IsVerdict job cert Accepted = Right job cert × Holds job
+IsVerdict job cert Accepted = Passes job cert
 IsVerdict job cert (Rejected reject) = IsCause job cert reject

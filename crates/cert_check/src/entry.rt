@@ -15,8 +15,9 @@ use std::alloc::Global;
 use viz_base::{Job, Mem};
 
 /// The verdict on a certificate for a job, whoever made it. A certificate is accepted only where it is right for the
-/// job, and the job holds then. One without leaves whose numbers stay in `i128` is accepted exactly where it is right,
-/// and those of unit splits and grids do. The only fault is want of memory.
+/// job, and each number of its splits' denials and of its grids' paths is in `i128`; the job holds then. One without
+/// leaves whose numbers stay in `i128` is accepted exactly where it is right, and those of unit splits and grids do.
+/// The only fault is want of memory.
 ///
 /// Each leaf takes one layout of the page, and so does each world of a grid's path; each line of a derivation is
 /// checked once. The call goes as deep as the certificate's defs and splits stand in one another.

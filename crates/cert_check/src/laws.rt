@@ -10,7 +10,7 @@ pub fn right_holds()
     ensures { RightHolds }
 {}
 
-/// A certificate that is plainly computed has one verdict, so each verdict comes exactly where its cause stands.
+/// A certificate without leaves has one verdict, so each verdict comes exactly where its cause stands.
 pub fn one_verdict_each()
     ensures { OneVerdict }
 {}

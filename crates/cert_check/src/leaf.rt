@@ -59,6 +59,7 @@ fn judge_leaf(
 ) -> Result<Option<Verdict>, Mem>
     ensures verdict { IfOk result (λ judged. IfSome judged (λ verdict. (path : Path)
         → StandsOver job.now.range path sym.old → IsLeafVerdict job.now node path sym.old.tape.now verdict)) }
+    ensures grows { Grows (state_of sym.old) (state_of sym.new) }
     ensures told { IfOk result (λ judged. IfSome judged (IsTold job.now node sym.old sym.new sym.new.trouble)) }
     ensures right { TakesRight job.now.range sym.old sym.new }
     ensures untroubled { result ≡ Ok None → sym.new.trouble ≡ None }

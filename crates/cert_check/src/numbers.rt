@@ -25,6 +25,7 @@ fn value_in(values: &List<i128>, variable: u32) -> i128
 fn add_term(sum: i128, term: (u32, i128), values: &List<i128>) -> Option<i128>
     ensures { result ≡ add_term sum term (value_in values.now) }
 {
+    // The definition adds in this order too, so both leave 128 bits at the same term.
     let product = term.1.checked_mul(value_in(values, term.0))?;
     sum.checked_add(product)
 }

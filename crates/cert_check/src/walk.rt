@@ -63,6 +63,7 @@ fn child_part(row: &Row, child: Child, part: Option<Rect>) -> Option<Rect>
 {
     match cut_of(row) {
         Some(cut) => part_of(cut, child, part?),
+        // Another split leaves the rectangle; which of its worlds lie here is asked of each at a grid.
         None => part,
     }
 }
@@ -108,6 +109,7 @@ fn check_split(alloc: Global, descent: &Descent<'_>, number: u32, row: &Row) -> 
     if !is_shaped_split(descent, row) {
         return rejected(alloc, Reject::Shape(number));
     }
+    // Below the second child the denial is a fact, so it has to be a number of 128 bits.
     if has_denial(row)? {
         Ok(())
     } else {
@@ -153,12 +155,14 @@ fn check_grid(
     requires within { IfSome part (IsWithin descent.now.job.now.range) }
     ensures { Judges descent.now.job.now (node_on (path_of descent.now.above) by_worlds) number result }
 {
+    // Splits above left no world: the assertion is true at each of them.
     let Some(rect) = part else {
         return Ok(());
     };
     if world_count(rect) > 64 {
         return rejected(alloc, Reject::Shape(number));
     }
+    // Before any world is judged, so that the cause of a rejection doesn't depend on where the page breaks.
     if first_outside(alloc, descent.above(), rect)?.is_some() {
         return rejected(alloc, Reject::Coeff(number));
     }

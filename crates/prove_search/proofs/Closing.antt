@@ -93,6 +93,8 @@ closes_grid job r turns proper small turn holds =
       good = λ path way.
           subst (AllByRecursion (IsGood job)) (sym (preorder.grid path)) (grid_is_good job r proper small holds path way, tt);
       holds = holds;
+      one_grid = λ few. refl;
+      turn = turn;
       few_grids = omega arith;
       few_turns = omega arith;
       spelled = λ levels depth has fits. ap (λ (f : Nested). f depth) nested_Grid;
@@ -140,7 +142,8 @@ too_few_first n a b turns many sum some_b turn (inr e) = let lt = e.1 in omega a
 pub stops_first : (job : Job) (r : Rect) (h : Halves) (turns : ℕ) → IsHalving r h → 64 < world_count r → 0 < turns → (stop : Stop)
     → IsFinding job h.first (turns - 1) (Err stop) → IsFinding job r turns (Err stop)
 stops_first job r h turns half many turn Mem is = tt
-stops_first job r h turns half many turn (Violated world) is = record { in_range = within_in r h.first world half.first_within is.in_range; untrue = is.untrue }
+stops_first job r h turns half many turn (Violated world) is =
+    (turn, record { in_range = within_in r h.first world half.first_within is.1.in_range; untrue = is.1.untrue })
 stops_first job r h turns half many turn (Undecided part) is = record {
   proper = is.proper;
   within = within_within r h.first part half.first_within is.within;
@@ -151,7 +154,8 @@ stops_first job r h turns half many turn (Undecided part) is = record {
 pub stops_second : (job : Job) (r : Rect) (h : Halves) (turns : ℕ) (one : Closed) → IsHalving r h → 64 < world_count r → 0 < turns
     → IsClosed job h.first (turns - 1) one → (stop : Stop) → IsFinding job h.second one.left (Err stop) → IsFinding job r turns (Err stop)
 stops_second job r h turns one half many turn closed Mem is = tt
-stops_second job r h turns one half many turn closed (Violated world) is = record { in_range = within_in r h.second world half.second_within is.in_range; untrue = is.untrue }
+stops_second job r h turns one half many turn closed (Violated world) is =
+    (turn, record { in_range = within_in r h.second world half.second_within is.1.in_range; untrue = is.1.untrue })
 stops_second job r h turns one half many turn closed (Undecided part) is =
     let spent = closed.few_turns in
     record {
@@ -253,6 +257,8 @@ closes_split job r h turns one other node half many turn high f g is =
     record {
       good = split_is_good job r h one.node other.node half high f.good g.good;
       holds = covered job r h half f.holds g.holds;
+      one_grid = λ few. absurd (omega arith);
+      turn = turn;
       few_grids = omega arith;
       few_turns = omega arith;
       spelled = split_spelled r h one.node other.node half high f.spelled g.spelled;

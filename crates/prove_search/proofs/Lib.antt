@@ -3,3 +3,4 @@ pub mod Texts
 pub mod Closing
 pub mod Proved
 pub mod Counts
+pub mod Judged

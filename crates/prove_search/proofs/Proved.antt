@@ -53,6 +53,7 @@ proves job turns closed known bytes h =
       text = cert_text (record { job = job.digest; root = closed.node });
       spelled = (and_from _ _ bytes (h.spelled 22 512 (range_levels job.range known) (lit≤ tt)), refl);
       short = simp length-append (omega arith);
+      one_grid = h.one_grid;
     }
 
 -- ---- digests

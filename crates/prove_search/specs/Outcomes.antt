@@ -7,6 +7,7 @@ use Rattle.logic_semantics.specs.Ranges.{IsInRange}
 use Rattle.cert_text.specs.declared.certificate.Cert.{Cert}
 use Rattle.cert_text.specs.declared.certificate.CertNode.{CertNode}
 use Rattle.cert_text.specs.declared.certificate.CertNode.TheOpen.{CertNode-F}
+use Rattle.cert_text.specs.declared.certificate.CertNode.TheVariants.{Grid}
 use Rattle.cert_text.specs.declared.certificate.CertNode.TheFolds.{fold-CertNode}
 use Rattle.cert_text.specs.Texts.{CertText}
 use Rattle.cert_check.specs.Rectangles.{world_count, IsWithin}
@@ -27,8 +28,8 @@ laid_out_step (CertNode-F.Leaf answers) = 1
 abbrev pub laid_out_count : CertNode → ℕ
 laid_out_count = fold-CertNode ℕ laid_out_step
 
--- the certificate is right for the job, which holds; it has at most as many grids and leaves as there were turns, and
--- a text of at most 64 MiB
+-- the certificate is right for the job, which holds; it has at most as many grids and leaves as there were turns, a text
+-- of at most 64 MiB, and for a range of at most 64 worlds it is one grid
 pub record IsProof (job : Job) (turns : ℕ) (cert : Cert) : Type 0 where
   pub right : Right job cert
   pub holds : Holds job
@@ -36,6 +37,7 @@ pub record IsProof (job : Job) (turns : ℕ) (cert : Cert) : Type 0 where
   pub text : List ℕ
   pub spelled : CertText cert text
   pub short : length text ≤ 2 ^ 26
+  pub one_grid : world_count job.range ≤ 64 → cert.root ≡ Grid
 
 -- a world of the rectangle at which the formula is false
 pub record IsViolation (job : Job) (r : Rect) (world : World) : Type 0 where
@@ -50,9 +52,10 @@ pub record IsUndecided (r : Rect) (turns : ℕ) (part : Rect) : Type 0 where
   pub cause : (turns ≡ 0) ⊎ ((64 < world_count r) × (turns < 2 * world_count r - 1))
   pub whole : turns ≡ 0 → part ≡ r
 
+-- only with a turn a world is found at which the formula is false
 abbrev pub IsOutcome : Job → ℕ → Outcome → Type 0
 IsOutcome job turns (Proved cert) = IsProof job turns cert
-IsOutcome job turns (Violated world) = IsViolation job job.range world
+IsOutcome job turns (Violated world) = (0 < turns) × IsViolation job job.range world
 IsOutcome job turns (Undecided part) = IsUndecided job.range turns part
 
 -- proved, and the fact holds, or violated, and it does not

@@ -1,7 +1,8 @@
-ghost use Rattle.std.specs.Prelude.{◌*◌, ◌+◌, ◌≤◌, IfOk};
+ghost use Rattle.std.specs.Prelude.{◌≡◌, ◌*◌, ◌+◌, ◌≤◌, IfOk};
 ghost use Rattle.cert_check.specs.Rectangles.{world_count};
 ghost use Rattle.cert_check.specs.Truths.{Holds};
 ghost use Rattle.prove_search.specs.Outcomes.{IsOutcome, Decides};
+ghost use Rattle.prove_search.specs.declared.outcome.Outcome.TheVariants.{Undecided};
 
 use crate::gates::confirmed;
 use crate::outcome::Outcome;
@@ -15,11 +16,13 @@ use viz_base::{Job, Mem};
 ///
 /// With turns it searches first, and takes what the search finds only where it is confirmed: a certificate where the
 /// checker accepts it. Else it goes through the range by halves and grids with all turns, which decides it with
-/// `2 * R - 1` turns, R being the worlds of the range. The only fault is want of memory.
+/// `2 * R - 1` turns, R being the worlds of the range. Where R is at most 64, one turn decides, and a certificate is
+/// one grid. With no turn the whole range is open. The only fault is want of memory.
 pub fn prove(alloc: Global, job: &Job, turns: u64) -> Result<Outcome, Mem>
     ensures outcome { IfOk result (IsOutcome job.now turns) }
     ensures decides { IfOk result
         (λ outcome. 2 * world_count job.now.range ≤ turns + 1 → Decides outcome (Holds job.now)) }
+    ensures unturned { turns ≡ 0 → IfOk result (λ outcome. outcome ≡ Undecided job.now.range) }
 {
     if turns > 0 {
         let finding = seek(alloc, job, turns)?;

@@ -1,14 +1,16 @@
 //! What a finding has to pass, whoever made it.
 ghost use Rattle.std.specs.Prelude.{◌≡◌, ◌↔◌, ◌+◌, ◌≤◌, ◌<◌, ◌^◌, ℕ, List, length, IsTrue, IfOk, IfSome};
 ghost use Rattle.logic_semantics.specs.Ranges.{IsInRange};
+ghost use Rattle.cert_text.specs.declared.certificate.CertNode.TheVariants.{Grid};
 ghost use Rattle.cert_text.specs.Texts.{CertText};
+ghost use Rattle.cert_check.specs.Rectangles.{world_count};
 ghost use Rattle.cert_check.specs.Truths.{Holds};
-ghost use Rattle.cert_check.specs.Right.{Right};
-ghost use Rattle.prove_search.specs.Outcomes.{IsProof, IsViolation, IsOutcome, Decides};
-ghost use Rattle.prove_search.specs.steps.Turns.{AreLeft};
+ghost use Rattle.prove_search.specs.Outcomes.{IsViolation, IsOutcome, Decides};
+ghost use Rattle.prove_search.specs.steps.Turns.{AreLeft, IsWithinBounds};
 
 use crate::outcome::Outcome;
-use cert_check::{Verdict, check, holds_at};
+use crate::plain::MOST_WORLDS;
+use cert_check::{Reject, Verdict, check, holds_at, world_count};
 use cert_text::{Cert, CertNode, has_spelling, write_cert};
 use path_search::Finding;
 use std::alloc::Global;
@@ -41,29 +43,41 @@ fn has_short_text(alloc: Global, cert: &Cert) -> Result<bool, Mem>
     Ok(text.len() <= MOST_BYTES)
 }
 
-/// Whether the checker accepts a certificate whose text is at most 64 MiB.
-fn is_accepted(alloc: Global, job: &Job, cert: &Cert) -> Result<bool, Mem>
-    requires { (text : List ℕ) × CertText cert.now text × (length text ≤ 2 ^ 26) }
-    ensures { IfOk result (λ yes. IsTrue yes → Right job.now cert.now × Holds job.now) }
+/// Whether a certificate is one grid, as it has to be for a range of at most 64 worlds, or the range has more.
+fn is_grid_of_few(job: &Job, cert: &Cert) -> bool
+    ensures { IsTrue result → world_count job.now.range ≤ 64 → cert.now.root ≡ Grid }
 {
-    match check(alloc, job, cert)? {
-        Verdict::Accepted => Ok(true),
-        Verdict::Rejected(_) => Ok(false),
-    }
+    world_count(job.range) > MOST_WORLDS || matches!(cert.root, CertNode::Grid)
 }
 
-/// Whether a certificate proves a job within the turns: it has a text of at most 64 MiB, and at most as many grids and
-/// leaves as turns, and the checker accepts it. The only fault is want of memory.
-pub fn is_proof(alloc: Global, job: &Job, cert: &Cert, turns: u64) -> Result<bool, Mem>
-    ensures { IfOk result (λ yes. IsTrue yes → IsProof job.now turns cert.now) }
+/// Whether a certificate is within bounds: it has a text of at most 64 MiB, and at most as many grids and leaves as
+/// turns, and is one grid for a range of at most 64 worlds. The only fault is want of memory.
+fn is_within_bounds(alloc: Global, job: &Job, cert: &Cert, turns: u64) -> Result<bool, Mem>
+    ensures { IfOk result (λ yes. IsTrue yes → IsWithinBounds job.now turns cert.now) }
 {
     if !has_spelling(cert) || left_after(&cert.root, turns).is_none() {
         return Ok(false);
     }
-    if !has_short_text(alloc, cert)? {
+    if !is_grid_of_few(job, cert) {
         return Ok(false);
     }
-    is_accepted(alloc, job, cert)
+    has_short_text(alloc, cert)
+}
+
+#[tactic(auto, using(crate::proofs::Judged::passes_proves, crate::proofs::Judged::untrue_violates))]
+/// What the checker's verdict on a certificate within bounds comes to: it proves the job, or the formula is false at
+/// the world of a grid that the checker names. None where it is wrong otherwise. The only fault is want of memory.
+fn judged(alloc: Global, job: &Job, cert: Cert, turns: u64) -> Result<Option<Outcome>, Mem>
+    requires turn { 0 < turns }
+    requires bounds { IsWithinBounds job.now turns cert }
+    ensures outcome { IfOk result (λ kept. IfSome kept (IsOutcome job.now turns)) }
+    ensures decides { IfOk result (λ kept. IfSome kept (λ outcome. Decides outcome (Holds job.now))) }
+{
+    match check(alloc, job, &cert)? {
+        Verdict::Accepted => Ok(Some(Outcome::Proved(cert))),
+        Verdict::Rejected(Reject::Untrue(_, world)) => Ok(Some(Outcome::Violated(world))),
+        Verdict::Rejected(_) => Ok(None),
+    }
 }
 
 /// Whether a world lies in a rectangle.
@@ -77,14 +91,16 @@ fn lies_in(rect: Rect, world: World) -> bool
 pub fn is_violation(alloc: Global, job: &Job, world: World) -> Result<bool, Mem>
     ensures { IfOk result (λ yes. IsTrue yes ↔ IsViolation job.now job.now.range world) }
 {
+    // The search looks at worlds of its parts; that these lie in the range is not proved of it.
     if !lies_in(job.range, world) {
         return Ok(false);
     }
     Ok(!holds_at(alloc, job, world)?)
 }
 
-/// What stands of a finding: a certificate that proves the job within the turns, or a world of its range at which its
-/// formula is false. Nothing is taken on trust. The only fault is want of memory.
+/// What stands of a finding, where there are turns: a certificate that proves the job within them, or a world of its
+/// range at which its formula is false, which may be one of a certificate's grids. Nothing is taken on trust. The only
+/// fault is want of memory.
 pub fn confirmed(
     alloc: Global,
     job: &Job,
@@ -94,10 +110,13 @@ pub fn confirmed(
     ensures outcome { IfOk result (λ kept. IfSome kept (IsOutcome job.now turns)) }
     ensures decides { IfOk result (λ kept. IfSome kept (λ outcome. Decides outcome (Holds job.now))) }
 {
+    if turns == 0 {
+        return Ok(None);
+    }
     match finding {
         Finding::Proof(cert) => {
-            if is_proof(alloc, job, &cert, turns)? {
-                Ok(Some(Outcome::Proved(cert)))
+            if is_within_bounds(alloc, job, &cert, turns)? {
+                judged(alloc, job, cert, turns)
             } else {
                 Ok(None)
             }

@@ -7,6 +7,7 @@ ghost use Rattle.cert_check.specs.Truths.{Holds};
 ghost use Rattle.prove_search.specs.steps.Finds.{IsFinding};
 ghost use Rattle.cert_check.specs.Halves.{row_up_to};
 ghost use Rattle.prove_search.specs.Outcomes.{IsOutcome, Decides};
+ghost use Rattle.prove_search.specs.declared.outcome.Outcome.TheVariants.{Undecided};
 
 use crate::outcome::Outcome;
 use cert_check::{first_untrue, halves_of, world_count};
@@ -17,7 +18,7 @@ use std::alloc::Global;
 use viz_base::{Axis, Boxed, Job, Mem, Rect, World};
 
 /// The most worlds of a part that is gone through.
-const MOST_WORLDS: u64 = 64;
+pub const MOST_WORLDS: u64 = 64;
 
 /// A rectangle that is decided: the formula is true at each of its worlds.
 #[derive(Drop)]
@@ -95,6 +96,7 @@ fn decide(alloc: Global, job: &Job, rect: Rect, turns: u64) -> Result<Closed, St
     }
     let halves = halves_of(rect);
     let first = decide(alloc, job, halves.first, turns - 1)?;
+    // Turns that the first half leaves go to the second, so 2R - 1 turns do.
     let second = decide(alloc, job, halves.second, first.left)?;
     let node = split(alloc, halves.axis, halves.middle, first.node, second.node)?;
     Ok(Closed {
@@ -117,12 +119,13 @@ fn certificate(digest: &[u8; 32], root: CertNode) -> Cert
 ///
 /// A turn takes one part of the range that is open yet, the whole range first. A part of at most 64 worlds
 /// is gone through, a greater one is halved on its longer side. With R worlds in the range,
-/// `2 * R - 1` turns decide, and one does where R is at most 64. Each world takes at most one layout of the page
-/// and one truth of the formula. The only fault is want of memory.
+/// `2 * R - 1` turns decide, and one does where R is at most 64. With none the whole range is open. Each world takes
+/// at most one layout of the page and one truth of the formula. The only fault is want of memory.
 pub fn prove_plainly(alloc: Global, job: &Job, turns: u64) -> Result<Outcome, Mem>
     ensures outcome { IfOk result (IsOutcome job.now turns) }
     ensures decides { IfOk result
         (λ outcome. 2 * world_count job.now.range ≤ turns + 1 → Decides outcome (Holds job.now)) }
+    ensures unturned { turns ≡ 0 → IfOk result (λ outcome. outcome ≡ Undecided job.now.range) }
 {
     match decide(alloc, job, job.range, turns) {
         Ok(closed) => Ok(Outcome::Proved(certificate(&job.digest, closed.node))),

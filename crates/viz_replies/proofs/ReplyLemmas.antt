@@ -31,7 +31,7 @@ few_nodes bytes cert held =
 of_outcome : (job : Job) (turns : ℕ) (outcome : Outcome) (answer : Answer) (output : List ℕ) → IsOutcome job turns outcome
     → IsOutcomeReply job outcome answer output → IsReplyAbout job (asks.Prove turns) answer output
 of_outcome job turns (found.Proved proof) answer output is reply = rw reply.0 (record { cert = proof; proof = is; text = reply.1 })
-of_outcome job turns (found.Violated world) answer output is reply = rw reply.0 (record { world = world; violation = is; text = reply.1 })
+of_outcome job turns (found.Violated world) answer output is reply = rw reply.0 (record { world = world; turn = is.0; violation = is.1; text = reply.1 })
 of_outcome job turns (found.Undecided part) answer output is reply = rw reply.0 (record { part = part; undecided = is; text = reply.1 })
 
 pub proves : (job : Job) (turns : ℕ) (answer : Answer) (output : List ℕ) → IsProveReply job turns answer output
@@ -43,7 +43,7 @@ proves job turns answer output reply = of_outcome job turns reply.0 answer outpu
 pub checks : (job : Job) (bytes : List ℕ) (cert : Cert) (answer : Answer) (output : List ℕ) → SpellsCert bytes cert
     → IsVerdictOn job cert answer output → IsReplyAbout job (asks.Check bytes) answer output
 checks job bytes cert answer output spelled (Accepted, verdict, reply) =
-    rw reply.0 (record { cert = cert; spelled = spelled; right = verdict.0; holds = verdict.1; text = reply.1 })
+    rw reply.0 (record { cert = cert; spelled = spelled; right = verdict.right; holds = verdict.holds; good = verdict.good; text = reply.1 })
 checks job bytes cert answer output spelled (Rejected reject, verdict, reply) =
     rw reply.0 (inr (record { cert = cert; spelled = spelled; reject = reject; cause = verdict; text = reply.1 }))
 
@@ -57,5 +57,5 @@ refuses job bytes answer output reply = rw reply.0 (inl reply.1)
 pub of_trial : (job : Job) (turns : ℕ) (outcome : Outcome) (answer : Answer) (output : List ℕ) → IsOutcome job turns outcome
     → IsTrialReply job outcome answer output → IsTrialOf job turns answer output
 of_trial job turns (found.Proved proof) answer output is reply = rw reply.0 (record { cert = proof; proof = is; text = reply.1 })
-of_trial job turns (found.Violated world) answer output is reply = rw reply.0 (record { world = world; violation = is; text = reply.1 })
+of_trial job turns (found.Violated world) answer output is reply = rw reply.0 (record { world = world; turn = is.0; violation = is.1; text = reply.1 })
 of_trial job turns (found.Undecided part) answer output is reply = rw reply.0 (record { part = part; undecided = is; text = reply.1 })

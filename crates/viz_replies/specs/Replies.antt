@@ -1,6 +1,6 @@
 -- What is replied to a question about a job, given the bytes of its file:
 -- an answer, and the whole output that goes with it.
-use Rattle.std.specs.Prelude.{◌≡◌, ◌⊎◌, ℕ, List, [], ◌∷◌, ◌++◌, codes}
+use Rattle.std.specs.Prelude.{◌≡◌, ◌⊎◌, ℕ, ◌<◌, List, [], ◌∷◌, ◌++◌, codes}
 use Rattle.std.specs.List.{flat_map}
 use Rattle.viz_base.specs.declared.jobs.Job.{Job}
 use Rattle.viz_base.specs.declared.worlds.World.{World}
@@ -14,7 +14,7 @@ use Rattle.cert_text.specs.steps.Write.{row_bytes}
 use Rattle.cert_check.specs.declared.verdicts.Reject.{Reject}
 use Rattle.cert_check.specs.declared.verdicts.Reject.TheVariants.{OtherJob, Shape, Line, Untrue, Unmet, Differs, Short, Left, Coeff}
 use Rattle.cert_check.specs.Truths.{rendering_of, Holds}
-use Rattle.cert_check.specs.Right.{Right}
+use Rattle.cert_check.specs.Right.{AreGood, Right}
 use Rattle.cert_check.specs.Verdicts.{IsCause}
 use Rattle.prove_search.specs.Outcomes.{IsProof, IsViolation, IsUndecided}
 use Rattle.viz_replies.specs.declared.reply.Answer.{Answer}
@@ -74,9 +74,10 @@ pub record IsProved (job : Job) (turns : ℕ) (output : List ℕ) : Type 0 where
   pub proof : IsProof job turns cert
   pub text : CertText cert output
 
--- a world of the range at which the job's formula is false
-pub record IsViolated (job : Job) (output : List ℕ) : Type 0 where
+-- a world of the range at which the job's formula is false, which at least one turn has found
+pub record IsViolated (job : Job) (turns : ℕ) (output : List ℕ) : Type 0 where
   pub world : World
+  pub turn : 0 < turns
   pub violation : IsViolation job job.range world
   pub text : output ≡ violation_text job world
 
@@ -88,12 +89,13 @@ pub record IsLeftOpen (job : Job) (turns : ℕ) (output : List ℕ) : Type 0 whe
 
 -- ---- check
 
--- the bytes spell a certificate that is right for the job, which holds
+-- the bytes spell a certificate that is right for the job, which holds, and each of its nodes is good
 pub record IsAccepted (job : Job) (bytes output : List ℕ) : Type 0 where
   pub cert : Cert
   pub spelled : SpellsCert bytes cert
   pub right : Right job cert
   pub holds : Holds job
+  pub good : AreGood job cert
   pub text : output ≡ codes "accepted\n"
 
 -- the bytes spell a certificate that is wrong for the job
@@ -110,7 +112,7 @@ pub record IsWrong (job : Job) (bytes output : List ℕ) : Type 0 where
 abbrev pub IsReplyAbout : Job → Question → Answer → List ℕ → Type 0
 IsReplyAbout job (asks.Lay screen) ends.Done output = output ≡ boxes_text job screen.world
 IsReplyAbout job (asks.Prove turns) ends.Done output = IsProved job turns output
-IsReplyAbout job (asks.Prove turns) ends.Violated output = IsViolated job output
+IsReplyAbout job (asks.Prove turns) ends.Violated output = IsViolated job turns output
 IsReplyAbout job (asks.Prove turns) ends.Undecided output = IsLeftOpen job turns output
 IsReplyAbout job (asks.Check cert) ends.Done output = IsAccepted job cert output
 IsReplyAbout job (asks.Check cert) ends.CertRefused output = IsNoCert cert output ⊎ IsWrong job cert output

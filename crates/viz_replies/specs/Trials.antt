@@ -1,5 +1,5 @@
 -- What is replied about a generated job, which no file holds.
-use Rattle.std.specs.Prelude.{◌≡◌, ◌⊎◌, ℕ, List, [], ◌∷◌, ◌++◌, length, codes}
+use Rattle.std.specs.Prelude.{◌≡◌, ◌⊎◌, ℕ, ◌<◌, List, [], ◌∷◌, ◌++◌, length, codes}
 use Rattle.viz_base.specs.declared.jobs.Job.{Job}
 use Rattle.viz_base.specs.declared.worlds.World.{World}
 use Rattle.viz_base.specs.declared.worlds.Rect.{Rect}
@@ -38,9 +38,10 @@ pub record IsProvedTrial (job : Job) (turns : ℕ) (output : List ℕ) : Type 0 
   pub proof : IsProof job turns cert
   pub text : output ≡ trial_line job (codes " proved\n")
 
--- a world of the range at which the job's formula is false
-pub record IsViolatedTrial (job : Job) (output : List ℕ) : Type 0 where
+-- a world of the range at which the job's formula is false, which at least one turn has found
+pub record IsViolatedTrial (job : Job) (turns : ℕ) (output : List ℕ) : Type 0 where
   pub world : World
+  pub turn : 0 < turns
   pub violation : IsViolation job job.range world
   pub text : output ≡ trial_line job (violated_end world)
 
@@ -53,7 +54,7 @@ pub record IsOpenTrial (job : Job) (turns : ℕ) (output : List ℕ) : Type 0 wh
 -- what is replied of the job's trial
 abbrev pub IsTrialOf : Job → ℕ → Answer → List ℕ → Type 0
 IsTrialOf job turns ends.Done output = IsProvedTrial job turns output
-IsTrialOf job turns ends.Violated output = IsViolatedTrial job output
+IsTrialOf job turns ends.Violated output = IsViolatedTrial job turns output
 IsTrialOf job turns ends.Undecided output = IsOpenTrial job turns output
 IsTrialOf job turns answer output = ⊥
 

@@ -155,7 +155,7 @@ replied shelf c sink result wanted (inl (answer, output, reply, inl (ended, writ
 replied shelf c sink result wanted (inl (answer, output, reply, inr (ended, cut))) is = absurd (cc)
 replied shelf c sink result wanted (inr (inl (file, unread, inl (ended, written)))) is = absurd (cc)
 replied shelf c sink result wanted (inr (inl (file, unread, inr (ended, cut)))) is = absurd (cc)
-replied shelf c sink result wanted (inr (inr (ended, same))) is = absurd (cc)
+replied shelf c sink result wanted (inr (inr (ended, same, loaded))) is = absurd (cc)
 
 -- a run that ends with an answer has words of a command
 record Answers {F S : Type 0} (shelf : Shelved F) (words : List (List ℕ)) (sink : Sunk S) (wanted : Answer) : Type 0 where

@@ -15,7 +15,7 @@ use Rattle.viz_replies.specs.declared.question.Question.TheVariants as asks
 use Rattle.viz_replies.specs.declared.jobs.JobRead.TheVariants as of_job
 use Rattle.viz_replies.specs.Certificates.{cert_most}
 use Rattle.viz_replies.specs.Replies.{IsReplyAbout}
-use Rattle.viz_run.specs.Files.{Files, Shelved, MayHold, IsGiven, HoldsJob}
+use Rattle.viz_run.specs.Files.{Files, Shelved, MayHold, IsGiven, LoadsBoth}
 use Rattle.viz_run.specs.Run.{IsCheckOfFiles}
 use Rattle.viz_run.specs.steps.Loads.{IsJobFile}
 
@@ -111,6 +111,9 @@ pub check_refused : {F : Type 0} (shelf : Shelved F) (name cert : List ℕ) (rep
     → IsCheckOfFiles shelf name cert reply.answer reply.output.items
 check_refused shelf name cert reply file = record { bytes = file.bytes; between = shelf.new; given = file.given; reply = inl (refl, file.reads) }
 
-pub holds_job : {F : Type 0} (shelf : Shelved F) (name : List ℕ) (between : F) (job : Job) → IsJobFile (until shelf between) name (of_job.Read job)
-    → HoldsJob shelf name
-holds_job shelf name between job file = record { bytes = file.bytes; between = between; given = file.given; job = job; spelled = file.reads }
+pub loads_both : {F : Type 0} (shelf : Shelved F) (name cert : List ℕ) (between : F) (job : Job) (answer : Result Loaded ShelfFault)
+    → IsJobFile (until shelf between) name (of_job.Read job) → shelf.loads between cert cert_most answer shelf.new → LoadsBoth shelf name cert answer
+loads_both shelf name cert between job answer file loaded = record {
+  first = record { bytes = file.bytes; between = between; given = file.given; job = job; spelled = file.reads };
+  second = loaded;
+}

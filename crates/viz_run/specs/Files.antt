@@ -5,6 +5,7 @@ use Rattle.viz_outside.specs.declared.shelf.ShelfFault.{ShelfFault}
 use Rattle.viz_outside.specs.Shelf.{loaded_of}
 use Rattle.viz_base.specs.declared.jobs.Job.{Job}
 use Rattle.viz_replies.specs.Jobs.{SpellsJob, job_most}
+use Rattle.viz_replies.specs.Certificates.{cert_most}
 
 -- what a shelf tells of its files, if it tells them
 abbrev pub Files : Type 0
@@ -39,3 +40,15 @@ pub record HoldsJob {F : Type 0} (shelf : Shelved F) (name : List ℕ) : Type 0 
   pub given : IsGiven shelf name job_most shelf.old between bytes
   pub job : Job
   pub spelled : SpellsJob bytes job
+
+-- ---- which files were loaded, whatever came of it
+
+-- the only load was of the job file of this name, and answered so
+abbrev pub LoadsJob : {F : Type 0} → Shelved F → List ℕ → Result Loaded ShelfFault → Type 0
+LoadsJob shelf job answer = shelf.loads shelf.old job job_most answer shelf.new
+
+-- the first load was of the job file, and gave bytes that spell a job; the second, and last, was of the certificate file
+-- of this name, and answered so
+pub record LoadsBoth {F : Type 0} (shelf : Shelved F) (job cert : List ℕ) (answer : Result Loaded ShelfFault) : Type 0 where
+  pub first : HoldsJob shelf job
+  pub second : shelf.loads first.between cert cert_most answer shelf.new

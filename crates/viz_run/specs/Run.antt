@@ -1,6 +1,9 @@
 -- How a run ends.
-use Rattle.std.specs.Prelude.{◌≡◌, ◌≢◌, ◌⊎◌, ℕ, List, [], Option, codes}
+use Rattle.std.specs.Prelude.{◌≡◌, ◌≢◌, ◌⊎◌, ℕ, List, [], Option, Result, Err, codes}
 use Rattle.viz_base.specs.Numbers.{Rose}
+use Rattle.viz_outside.specs.declared.shelf.Loaded.{Loaded}
+use Rattle.viz_outside.specs.declared.shelf.ShelfFault.{ShelfFault}
+use Rattle.viz_outside.specs.declared.shelf.ShelfFault.TheVariants.{Failed}
 use Rattle.viz_outside.specs.Sink.{grown, GrewByPart}
 use Rattle.viz_replies.specs.declared.reply.Answer.{Answer}
 use Rattle.viz_replies.specs.declared.reply.Answer.TheVariants as gives
@@ -17,7 +20,7 @@ use Rattle.viz_run.specs.declared.status.Status.TheVariants as ends
 use Rattle.viz_run.specs.declared.words.Command.{Command}
 use Rattle.viz_run.specs.declared.words.Command.TheVariants as asks_for
 use Rattle.viz_run.specs.Words.{AskNothing, Asks}
-use Rattle.viz_run.specs.Files.{Shelved, IsGiven, HoldsJob}
+use Rattle.viz_run.specs.Files.{Shelved, IsGiven, LoadsJob, LoadsBoth}
 
 -- the number that the program ends with
 abbrev pub code_of : Status → ℕ
@@ -66,14 +69,24 @@ IsReplied shelf (asks_for.Check job cert) answer output = IsCheckOfFiles shelf j
 IsReplied shelf (asks_for.Gen seed sections) answer output = IsGenerated seed sections.count answer output
 IsReplied shelf (asks_for.Trial seed sections turns) answer output = IsTrial seed sections.count turns answer output
 
--- the file that could not be read: the job file, or a certificate file, which is looked
--- for where the job file spells a job; about a generated job no file is read
+-- the load that failed: that of the job file, the only one, or that of a certificate file, behind the job file, which
+-- spells a job; about a generated job no file is loaded
 abbrev pub IsUnread : {F : Type 0} → Shelved F → Command → File → Type 0
-IsUnread shelf (asks_for.Lay job screen) of_the.Job = Unit {0}
-IsUnread shelf (asks_for.Prove job turns) of_the.Job = Unit {0}
-IsUnread shelf (asks_for.Check job cert) of_the.Job = Unit {0}
-IsUnread shelf (asks_for.Check job cert) of_the.Certificate = HoldsJob shelf job.now
+IsUnread shelf (asks_for.Lay job screen) of_the.Job = LoadsJob shelf job.now (Err Failed)
+IsUnread shelf (asks_for.Prove job turns) of_the.Job = LoadsJob shelf job.now (Err Failed)
+IsUnread shelf (asks_for.Check job cert) of_the.Job = LoadsJob shelf job.now (Err Failed)
+IsUnread shelf (asks_for.Check job cert) of_the.Certificate = LoadsBoth shelf job.now cert.now (Err Failed)
 IsUnread shelf c file = ⊥
+
+-- the loads before memory was wanted, and in the last of them: the job file's alone, or for `check` the certificate
+-- file's behind the job file's, which spells a job; none about a generated job
+abbrev pub IsLoaded : {F : Type 0} → Shelved F → Command → Type 0
+IsLoaded shelf (asks_for.Lay job screen) = (answer : Result Loaded ShelfFault) × LoadsJob shelf job.now answer
+IsLoaded shelf (asks_for.Prove job turns) = (answer : Result Loaded ShelfFault) × LoadsJob shelf job.now answer
+IsLoaded shelf (asks_for.Check job cert) = (answer : Result Loaded ShelfFault)
+    × (LoadsJob shelf job.now answer ⊎ LoadsBoth shelf job.now cert.now answer)
+IsLoaded shelf (asks_for.Gen seed sections) = shelf.new ≡ shelf.old
+IsLoaded shelf (asks_for.Trial seed sections turns) = shelf.new ≡ shelf.old
 
 -- ---- output
 
@@ -113,10 +126,13 @@ abbrev pub Misses : {F S : Type 0} → Shelved F → Command → Sunk S → Stat
 Misses shelf c sink result = (file : File) × IsUnread shelf c file
     × Delivers sink result (ends.ReadFault file) (codes "read-fault\n")
 
--- a command was replied to, or a file could not be read, or memory was wanted and the sink not called
+-- memory was wanted, and the sink was not called
+abbrev pub Wants : {F S : Type 0} → Shelved F → Command → Sunk S → Status → Type 0
+Wants shelf c sink result = (result ≡ ends.Memory) × (sink.new ≡ sink.old) × IsLoaded shelf c
+
+-- a command was replied to, or a file could not be read, or memory was wanted
 abbrev pub Obeys : {F S : Type 0} → Shelved F → Command → Sunk S → Status → Type 0
-Obeys shelf c sink result = Replies shelf c sink result
-    ⊎ (Misses shelf c sink result ⊎ ((result ≡ ends.Memory) × (sink.new ≡ sink.old)))
+Obeys shelf c sink result = Replies shelf c sink result ⊎ (Misses shelf c sink result ⊎ Wants shelf c sink result)
 
 -- how a run ends: words of no form are answered by one line, with no load, and a command is replied to
 abbrev pub IsOutcome : {F S : Type 0} → Shelved F → List (List ℕ) → Sunk S → Status → Type 0

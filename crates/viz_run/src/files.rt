@@ -1,9 +1,12 @@
-ghost use Rattle.std.specs.Prelude.{◌≡◌, ◌≤◌, ℕ, List, IfOk, IsErrOf, IsTrue};
+ghost use Rattle.std.specs.Prelude.{◌≡◌, ◌⊎◌, ◌≤◌, ℕ, List, Result, Err, IfOk, IsErrOf, IsTrue};
 ghost use Rattle.viz_base.specs.Numbers.{Rose};
 ghost use Rattle.viz_replies.specs.Replies.{IsReplyAbout};
+ghost use Rattle.viz_outside.specs.declared.shelf.Loaded.{Loaded};
+ghost use Rattle.viz_outside.specs.declared.shelf.ShelfFault.{ShelfFault};
+ghost use Rattle.viz_outside.specs.declared.shelf.ShelfFault.TheVariants.{Failed};
 ghost use Rattle.viz_replies.specs.Certificates.{cert_most};
-ghost use Rattle.viz_run.specs.Files.{HoldsJob, IsGiven, shelved};
-ghost use Rattle.viz_run.specs.Run.{IsCheckOfFiles, IsReplied, IsReplyOfFile, IsUnread};
+ghost use Rattle.viz_run.specs.Files.{IsGiven, LoadsBoth, LoadsJob, shelved};
+ghost use Rattle.viz_run.specs.Run.{IsCheckOfFiles, IsLoaded, IsReplied, IsReplyOfFile, IsUnread};
 ghost use Rattle.viz_run.specs.steps.Loads.{IsFileless, IsJobFile, IsSureCert, IsSureJob};
 
 use crate::status::File;
@@ -20,6 +23,10 @@ use viz_replies::{
 fn load_job<F: Shelf>(alloc: Global, name: &str, shelf: &mut F) -> Result<JobRead, ShelfFault>
     ensures file { IfOk result (IsJobFile (shelved F.files F.loads shelf.old shelf.new) name.now) }
     ensures files { F.files shelf.new ≡ F.files shelf.old }
+    ensures unread { IsErrOf result ShelfFault.Failed
+        → LoadsJob (shelved F.files F.loads shelf.old shelf.new) name.now (Err Failed) }
+    ensures wanting { IsErrOf result ShelfFault.Mem → (answer : Result Loaded ShelfFault)
+        × LoadsJob (shelved F.files F.loads shelf.old shelf.new) name.now answer }
     ensures failed { IsErrOf result ShelfFault.Failed → Rose (F.faults shelf.old) (F.faults shelf.new) }
     ensures sure { IsTrue (F.sure shelf.old name.now) → ¬ IsErrOf result ShelfFault.Failed }
     ensures sure_counts { IsTrue (F.sure shelf.old name.now) → F.faults shelf.new ≡ F.faults shelf.old }
@@ -43,6 +50,9 @@ fn reply_by_file<F: Shelf>(
     ensures reply { IfOk result (λ r. (bytes : _)
         × IsGiven (shelved F.files F.loads shelf.old shelf.new) name.now cert_most shelf.old shelf.new bytes
         × IsReplyAbout job.now (Question.Check bytes) r.answer r.output.items) }
+    ensures unread { IsErrOf result ShelfFault.Failed → F.loads shelf.old name.now cert_most (Err Failed) shelf.new }
+    ensures wanting { IsErrOf result ShelfFault.Mem → (answer : Result Loaded ShelfFault)
+        × F.loads shelf.old name.now cert_most answer shelf.new }
     ensures failed { IsErrOf result ShelfFault.Failed → Rose (F.faults shelf.old) (F.faults shelf.new) }
     ensures sure { IsTrue (F.sure shelf.old name.now) → ¬ IsErrOf result ShelfFault.Failed }
     ensures counts { F.faults shelf.old ≤ F.faults shelf.new }
@@ -83,7 +93,11 @@ fn reply_of_file<F: Shelf>(
 ) -> Result<Reply, NoReply>
     ensures reply { IfOk result (λ r.
         IsReplyOfFile (shelved F.files F.loads shelf.old shelf.new) name.now question.now r.answer r.output.items) }
-    ensures unread { IsErrOf result (NoReply.Unread File.Job) → Rose (F.faults shelf.old) (F.faults shelf.new) }
+    ensures unread { IsErrOf result (NoReply.Unread File.Job)
+        → LoadsJob (shelved F.files F.loads shelf.old shelf.new) name.now (Err Failed)
+        × Rose (F.faults shelf.old) (F.faults shelf.new) }
+    ensures wanting { IsErrOf result NoReply.Mem → (answer : Result Loaded ShelfFault)
+        × LoadsJob (shelved F.files F.loads shelf.old shelf.new) name.now answer }
     ensures sure { IsTrue (F.sure shelf.old name.now) → ¬ IsErrOf result (NoReply.Unread File.Job) }
     ensures one_file { ¬ IsErrOf result (NoReply.Unread File.Certificate) }
     ensures sure_counts { IsTrue (F.sure shelf.old name.now) → F.faults shelf.new ≡ F.faults shelf.old }
@@ -105,10 +119,15 @@ fn check_of_files<F: Shelf>(
 ) -> Result<Reply, NoReply>
     ensures reply { IfOk result (λ r.
         IsCheckOfFiles (shelved F.files F.loads shelf.old shelf.new) job.now cert.now r.answer r.output.items) }
-    ensures job_unread { IsErrOf result (NoReply.Unread File.Job) → Rose (F.faults shelf.old) (F.faults shelf.new) }
-    ensures cert_unread { IsErrOf result (NoReply.Unread File.Certificate)
-        → HoldsJob (shelved F.files F.loads shelf.old shelf.new) job.now
+    ensures job_unread { IsErrOf result (NoReply.Unread File.Job)
+        → LoadsJob (shelved F.files F.loads shelf.old shelf.new) job.now (Err Failed)
         × Rose (F.faults shelf.old) (F.faults shelf.new) }
+    ensures cert_unread { IsErrOf result (NoReply.Unread File.Certificate)
+        → LoadsBoth (shelved F.files F.loads shelf.old shelf.new) job.now cert.now (Err Failed)
+        × Rose (F.faults shelf.old) (F.faults shelf.new) }
+    ensures wanting { IsErrOf result NoReply.Mem → (answer : Result Loaded ShelfFault)
+        × (LoadsJob (shelved F.files F.loads shelf.old shelf.new) job.now answer
+        ⊎ LoadsBoth (shelved F.files F.loads shelf.old shelf.new) job.now cert.now answer) }
     ensures job_sure { IsTrue (F.sure shelf.old job.now) → ¬ IsErrOf result (NoReply.Unread File.Job) }
     ensures cert_sure { IsTrue (F.sure shelf.old cert.now) → ¬ IsErrOf result (NoReply.Unread File.Certificate) }
     ensures unlooked { IsTrue (F.sure shelf.old job.now) → IfOk result (λ r.
@@ -144,6 +163,8 @@ pub fn reply_over<F: Shelf>(
     ensures cert_unread { IsErrOf result (NoReply.Unread File.Certificate)
         → IsUnread (shelved F.files F.loads shelf.old shelf.new) command.entry File.Certificate
         × Rose (F.faults shelf.old) (F.faults shelf.new) }
+    ensures wanting { IsErrOf result NoReply.Mem
+        → IsLoaded (shelved F.files F.loads shelf.old shelf.new) command.entry }
     ensures job_sure { IsSureJob (F.sure shelf.old) command.entry → ¬ IsErrOf result (NoReply.Unread File.Job) }
     ensures cert_sure { IsSureCert (F.sure shelf.old) command.entry
         → ¬ IsErrOf result (NoReply.Unread File.Certificate) }

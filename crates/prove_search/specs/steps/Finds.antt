@@ -1,8 +1,9 @@
 -- What the plain prover finds of a rectangle with so many turns.
-use Rattle.std.specs.Prelude.{◌≡◌, ℕ, ◌+◌, ◌-◌, ◌*◌, ◌^◌, ◌≤◌, max, length, Result, Ok, Err, IsTrue}
+use Rattle.std.specs.Prelude.{◌≡◌, ℕ, ◌+◌, ◌-◌, ◌*◌, ◌^◌, ◌<◌, ◌≤◌, max, length, Result, Ok, Err, IsTrue}
 use Rattle.std.specs.List.{AllByRecursion}
 use Rattle.viz_base.specs.declared.worlds.Rect.{Rect}
 use Rattle.viz_base.specs.declared.jobs.Job.{Job}
+use Rattle.cert_text.specs.declared.certificate.CertNode.TheVariants.{Grid}
 use Rattle.cert_text.specs.Texts.{node_text, node_has_text}
 use Rattle.cert_path.specs.Paths.{Path}
 use Rattle.cert_path.specs.Rectangles.{whole, rectangle}
@@ -28,11 +29,14 @@ pub record LeadsTo (range : Rect) (path : Path) (r : Rect) : Type 0 where
   pub units : AreUnits path
   pub left : rectangle range path ≡ whole r
 
--- the node decides the rectangle, wherever it stands in a certificate; what it cost; and its text, which it has where
--- defs and splits may stand as deep in one another below it as the rectangle can be halved
+-- the node decides the rectangle, wherever it stands in a certificate, and is one grid where there are at most 64 worlds;
+-- what it cost; and its text, which it has where defs and splits may stand as deep in one another below it as the
+-- rectangle can be halved
 pub record IsClosed (job : Job) (r : Rect) (turns : ℕ) (closed : Closed) : Type 0 where
   pub good : (path : Path) → LeadsTo job.range path r → AllByRecursion (IsGood job) (nodes_from closed.node path)
   pub holds : IsTrueIn job r
+  pub one_grid : world_count r ≤ 64 → closed.node ≡ Grid
+  pub turn : 0 < turns
   pub few_grids : laid_out_count closed.node + closed.left ≤ turns
   pub few_turns : turns + 1 ≤ closed.left + 2 * world_count r
   pub spelled : (levels depth : ℕ) → HasLevels levels r → levels ≤ depth → IsTrue (node_has_text closed.node depth)
@@ -41,5 +45,5 @@ pub record IsClosed (job : Job) (r : Rect) (turns : ℕ) (closed : Closed) : Typ
 abbrev pub IsFinding : Job → Rect → ℕ → Result Closed Stop → Type 0
 IsFinding job r turns (Ok closed) = IsClosed job r turns closed
 IsFinding job r turns (Err Mem) = Unit {0}
-IsFinding job r turns (Err (Violated world)) = IsViolation job r world
+IsFinding job r turns (Err (Violated world)) = (0 < turns) × IsViolation job r world
 IsFinding job r turns (Err (Undecided part)) = IsUndecided r turns part

@@ -19,13 +19,13 @@ returns-in-Ok-clause-verdict c =
     accepts c.args.job.now c.args.cert.now (path_of s.above) c.in-Ok.field-0 (ap path_of c.in_ok-descent.ensures.above, same_digest c.args.cert.now.job c.args.job.now.digest c.if-ne.ensures, told)
 
 pub returns-in-Ok-clause-exact : goal.returns-in-Ok-clause-exact
-returns-in-Ok-clause-exact c = λ plain. (λ e. (returns-in-Ok-clause-verdict c).0, λ r. refl)
+returns-in-Ok-clause-exact c = λ plain. (λ e. (returns-in-Ok-clause-verdict c).right, λ r. refl)
 
 pub returns-in-Ok-clause-units : goal.returns-in-Ok-clause-units
-returns-in-Ok-clause-units c = λ text spelled are. (λ e. (returns-in-Ok-clause-verdict c).0, λ r. refl)
+returns-in-Ok-clause-units c = λ text spelled are. (λ e. (returns-in-Ok-clause-verdict c).right, λ r. refl)
 
 pub returns-in-Ok-clause-holds : goal.returns-in-Ok-clause-holds
-returns-in-Ok-clause-holds c = λ e. (returns-in-Ok-clause-verdict c).1
+returns-in-Ok-clause-holds c = λ e. (returns-in-Ok-clause-verdict c).holds
 
 pub returns-clause-verdict : goal.returns-clause-verdict
 returns-clause-verdict c =

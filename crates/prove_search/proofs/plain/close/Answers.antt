@@ -7,7 +7,7 @@ pub returns-in-Some : goal.returns-in-Some
 returns-in-Some c =
     let job = c.args.job.now in
     let r = c.args.rect in
-    violates job r c.in-Some.world (subst (λ o. MatchOption o (IsTrueIn job r) (IsFirstUntrueIn job r)) c.in-Some.is c.in_ok-world.ensures)
+    (c.requires.turn, violates job r c.in-Some.world (subst (λ o. MatchOption o (IsTrueIn job r) (IsFirstUntrueIn job r)) c.in-Some.is c.in_ok-world.ensures))
 
 pub returns-in-None : goal.returns-in-None
 returns-in-None c =
