@@ -1,46 +1,47 @@
 use crate::outline::Outline;
-use crate::pairing::paired;
-use crate::ranges::{most_of, ranges_of};
-use crate::sources::{Bounds, Range, Source, Stop, View, made};
-use crate::sums::{Manner, Part, Sum, add, contradiction};
-use crate::writing::written;
+use crate::ranges::{first_unmet, ranges_of};
+use crate::sources::{Bounds, Range, Source, View};
+use crate::sums::Sums;
 use lin_proof::{Branch, Derivation, Ending, Step};
 use lin_row::{Row, RowFault};
-use std::alloc::Global;
+use std::alloc::{AllocError, Global};
 use viz_base::{Boxed, List, Mem};
 
-/// By how much the last fact is multiplied where bounds are taken as often as they fit.
-const FINE: i128 = 0x1000_0000_0000_0000;
+/// The variable of the size. Floors of the size alone are numbers at one size, so cases of sizes go before pairs,
+/// of which each case would try all again.
+const SIZE: u32 = 1;
 
 /// What a search comes to where variables are cut to part of their ranges.
-#[derive(Drop)]
+#[derive(Clone, Copy)]
 pub enum Outcome {
-    /// A derivation from the rows known there.
-    Closed(Derivation),
-    /// Values of the variables, by their places, that meet all facts.
-    Met(Vec<i128>),
+    /// A derivation from the rows known there, which is put behind those that were found.
+    Closed,
+    /// Values of the variables that meet all facts, which are kept.
+    Met,
     /// Neither.
     Stuck,
 }
 
-/// The facts, and what was read off them.
-#[derive(Clone, Copy)]
-pub struct Ground<'a> {
-    /// The facts.
-    pub facts: &'a [Row],
-    /// What they say.
-    pub outline: &'a Outline,
-}
-
-/// Where a search stands.
+/// Where a search through cases stands, and what it found. Where memory does not do, this is kept, and the search is
+/// stuck.
 #[derive(Drop)]
-pub struct Scope {
+pub struct Cases<'a> {
+    /// Where it takes memory.
+    alloc: Global,
+    /// What the facts say.
+    outline: &'a Outline<'a>,
     /// What bounds each variable here.
-    pub bounds: Vec<Bounds>,
+    bounds: Vec<Bounds>,
     /// The rows known here.
-    pub known: Vec<Row>,
+    known: Vec<Row>,
     /// How many cases and pairs of rows may still be tried.
-    pub left: u64,
+    left: u64,
+    /// The derivations that were found and are part of no other one yet.
+    pub found: Vec<Derivation>,
+    /// Values of the variables, by their places, that meet all facts, if they were found.
+    pub point: Vec<i128>,
+    /// Whether memory did not do.
+    pub is_out_of_memory: bool,
 }
 
 /// The range that is halved next.
@@ -65,26 +66,6 @@ struct Halves {
 }
 
 impl Halves {
-    /// The halves of a range with these bounds, where the row of a case is known as `here`, if the rows have numbers.
-    fn new(
-        alloc: Global,
-        halving: Halving,
-        whole: Bounds,
-        here: Source,
-    ) -> Result<Option<Halves>, Mem> {
-        let row = Row::of_term(alloc, halving.middle, halving.variable, -1)?;
-        match denied(&row)? {
-            Some(other) => Ok(Some(Halves {
-                place: halving.place,
-                whole,
-                here,
-                row,
-                other,
-            })),
-            None => Ok(None),
-        }
-    }
-
     /// The case up to the middle.
     fn first(&self) -> Case<'_> {
         Case {
@@ -113,7 +94,7 @@ impl Halves {
 }
 
 /// A case: the row that is known in it, by which the variable at a place is bounded.
-#[derive(Clone, Copy)]
+#[derive(Drop)]
 struct Case<'a> {
     place: u32,
     whole: Bounds,
@@ -121,184 +102,219 @@ struct Case<'a> {
     row: &'a Row,
 }
 
-/// Goes through cases of the variables that are bounded by themselves, down to single values.
-#[cycle(cases)]
-pub fn by_cases(
-    alloc: Global,
-    ground: Ground<'_>,
-    scope: &mut Scope,
-    depth: u32,
-) -> Result<Outcome, Mem> {
-    let Some(left) = scope.left.checked_sub(1) else {
-        return Ok(Outcome::Stuck);
-    };
-    scope.left = left;
-    match without_cases(alloc, ground, scope)? {
-        Next::Outcome(outcome) => Ok(outcome),
-        Next::Halve(halving) => match depth.checked_sub(1) {
-            Some(depth) => halved(alloc, ground, scope, depth, halving),
-            None => Ok(Outcome::Stuck),
-        },
-    }
-}
-
 /// What comes next where a search stands.
 #[derive(Drop)]
 enum Next {
-    /// It comes to this.
-    Outcome(Outcome),
+    /// A derivation is found.
+    Closed(Derivation),
+    /// Values of the variables, by their places, meet all facts.
+    Met(Vec<i128>),
+    /// Nothing.
+    Stuck,
     /// A range is halved.
     Halve(Halving),
 }
 
-/// What the rows known here come to, or the range that is to be halved.
-fn without_cases(alloc: Global, ground: Ground<'_>, scope: &mut Scope) -> Result<Next, Mem> {
-    let ranges = ranges_of(alloc, view_of(ground, &scope.bounds, &scope.known, &[]))?;
-    let view = view_of(ground, &scope.bounds, &scope.known, &ranges);
-    in_ranges(alloc, view, ground.outline, &mut scope.left)
+impl<'a> Cases<'a> {
+    /// A search that knows nothing but the facts, and may try so many cases and pairs of rows.
+    pub fn new(
+        alloc: Global,
+        outline: &'a Outline<'a>,
+        limit: u64,
+    ) -> Result<Cases<'a>, AllocError> {
+        Ok(Cases {
+            alloc,
+            outline,
+            bounds: outline.bounds.clone()?,
+            known: Vec::new(alloc),
+            left: limit,
+            found: Vec::new(alloc),
+            point: Vec::new(alloc),
+            is_out_of_memory: false,
+        })
+    }
+
+    fn out_of_memory(&mut self) -> Outcome {
+        self.is_out_of_memory = true;
+        Outcome::Stuck
+    }
+
+    fn close(&mut self, derivation: Derivation) -> Outcome {
+        match self.found.push(derivation) {
+            Ok(()) => Outcome::Closed,
+            Err(_) => self.out_of_memory(),
+        }
+    }
+
+    fn meet(&mut self, values: Vec<i128>) -> Outcome {
+        self.point = values;
+        Outcome::Met
+    }
+
+    /// What comes next: the rows known here tell it, or a range is to be halved.
+    fn next(&mut self) -> Result<Next, Mem> {
+        match self.left.checked_sub(1) {
+            Some(left) => {
+                self.left = left;
+                self.without_cases()
+            }
+            None => Ok(Next::Stuck),
+        }
+    }
+
+    /// What the rows known here come to, or the range that is to be halved.
+    fn without_cases(&mut self) -> Result<Next, Mem> {
+        let ranges = ranges_of(self.alloc, &self.view(&[]))?;
+        let mut left = self.left;
+        let next = self.next_in(&ranges, &mut left);
+        self.left = left;
+        next
+    }
+
+    /// What comes next where the ranges are known, and how many cases and pairs of rows may still be tried.
+    fn next_in(&self, ranges: &[Range], left: &mut u64) -> Result<Next, Mem> {
+        let mut sums = Sums::new(self.alloc, self.view(ranges));
+        next_of(&mut sums, self.outline, left)
+    }
+
+    fn view<'b>(&'b self, ranges: &'b [Range]) -> View<'b> {
+        View {
+            facts: self.outline.facts,
+            known: &self.known,
+            variables: &self.outline.variables,
+            bounds: &self.bounds,
+            ranges,
+        }
+    }
+
+    /// Takes a row as known, if memory does for it.
+    fn knows(&mut self, row: &Row) -> bool {
+        let is_known = match row.clone() {
+            Ok(row) => self.known.push(row).is_ok(),
+            Err(_) => false,
+        };
+        if !is_known {
+            self.is_out_of_memory = true;
+        }
+        is_known
+    }
+
+    fn set_bounds(&mut self, place: u32, new: Bounds) {
+        if let Some(here) = self.bounds.get_mut(place as usize) {
+            *here = new;
+        }
+    }
+
+    /// The halves of a range, if their rows have numbers.
+    fn halves_of(&self, halving: Halving) -> Result<Option<Halves>, Mem> {
+        let row = Row::of_term(self.alloc, halving.middle, halving.variable, -1)?;
+        let other = denied(&row)?;
+        let whole = self.bounds.get(halving.place as usize).copied();
+        match (whole, u32::try_from(self.known.len()), other) {
+            (Some(whole), Ok(number), Some(other)) => Ok(Some(Halves {
+                place: halving.place,
+                whole,
+                here: Source::Known(number),
+                row,
+                other,
+            })),
+            _ => Ok(None),
+        }
+    }
+
+    /// Makes one derivation, by cases of a row, of the two that were found last.
+    fn join(&mut self, row: &Row) -> Outcome {
+        let second = self.found.pop();
+        match joined(self.alloc, row, self.found.pop().zip(second)) {
+            Ok(Some(derivation)) => self.close(derivation),
+            Ok(None) => Outcome::Stuck,
+            Err(Mem) => self.out_of_memory(),
+        }
+    }
 }
 
-/// What comes next where the ranges are known.
-fn in_ranges(
-    alloc: Global,
-    view: View<'_>,
-    outline: &Outline,
-    left: &mut u64,
-) -> Result<Next, Mem> {
-    if let Some(steps) = closed_here(alloc, view, outline, left)? {
-        return Ok(Next::Outcome(closed(steps)));
+/// Goes through cases of the variables that are bounded by themselves, down to single values.
+#[cycle(cases)]
+pub fn by_cases(cases: &mut Cases<'_>, depth: u32) -> Outcome {
+    match cases.next() {
+        Ok(Next::Closed(derivation)) => cases.close(derivation),
+        Ok(Next::Met(values)) => cases.meet(values),
+        Ok(Next::Stuck) => Outcome::Stuck,
+        Ok(Next::Halve(halving)) => match depth.checked_sub(1) {
+            Some(depth) => halved(cases, depth, halving),
+            None => Outcome::Stuck,
+        },
+        Err(Mem) => cases.out_of_memory(),
     }
-    match next_halving(view, outline) {
-        Some(halving) => Ok(Next::Halve(halving)),
-        None => Ok(Next::Outcome(at_one_point(alloc, view)?)),
-    }
-}
-
-fn view_of<'a>(
-    ground: Ground<'a>,
-    bounds: &'a [Bounds],
-    known: &'a [Row],
-    ranges: &'a [Range],
-) -> View<'a> {
-    View {
-        facts: ground.facts,
-        known,
-        variables: &ground.outline.variables,
-        bounds,
-        ranges,
-    }
-}
-
-fn closed(steps: List<Step>) -> Outcome {
-    Outcome::Closed(Derivation {
-        steps,
-        last: Ending::Closed,
-    })
 }
 
 /// Both cases of a range that is halved.
 #[cycle(cases)]
-fn halved(
-    alloc: Global,
-    ground: Ground<'_>,
-    scope: &mut Scope,
-    depth: u32,
-    halving: Halving,
-) -> Result<Outcome, Mem> {
-    let Some(halves) = halves_of(alloc, scope, halving)? else {
-        return Ok(Outcome::Stuck);
-    };
-    both_halves(alloc, ground, scope, depth, &halves)
+fn halved(cases: &mut Cases<'_>, depth: u32, halving: Halving) -> Outcome {
+    match cases.halves_of(halving) {
+        Ok(Some(halves)) => both_halves(cases, depth, &halves),
+        Ok(None) => Outcome::Stuck,
+        Err(Mem) => cases.out_of_memory(),
+    }
 }
 
 /// The first case of a range, and with it both.
 #[cycle(cases)]
-fn both_halves(
-    alloc: Global,
-    ground: Ground<'_>,
-    scope: &mut Scope,
-    depth: u32,
-    halves: &Halves,
-) -> Result<Outcome, Mem> {
-    match in_case(alloc, ground, scope, depth, halves.first())? {
-        Outcome::Closed(first) => other_half(alloc, ground, scope, depth, halves, first),
-        outcome => Ok(outcome),
+fn both_halves(cases: &mut Cases<'_>, depth: u32, halves: &Halves) -> Outcome {
+    match in_case(cases, depth, &halves.first()) {
+        Outcome::Closed => other_half(cases, depth, halves),
+        outcome => outcome,
     }
 }
 
 /// The other case of a range, and with it both.
 #[cycle(cases)]
-fn other_half(
-    alloc: Global,
-    ground: Ground<'_>,
-    scope: &mut Scope,
-    depth: u32,
-    halves: &Halves,
-    first: Derivation,
-) -> Result<Outcome, Mem> {
-    match in_case(alloc, ground, scope, depth, halves.second())? {
-        Outcome::Closed(second) => both(alloc, halves, first, second),
-        outcome => Ok(outcome),
+fn other_half(cases: &mut Cases<'_>, depth: u32, halves: &Halves) -> Outcome {
+    match in_case(cases, depth, &halves.second()) {
+        Outcome::Closed => cases.join(&halves.row),
+        outcome => outcome,
     }
 }
 
 /// What a search comes to in a case; it stands where it did after it.
 #[cycle(cases)]
-fn in_case(
-    alloc: Global,
-    ground: Ground<'_>,
-    scope: &mut Scope,
-    depth: u32,
-    case: Case<'_>,
-) -> Result<Outcome, Mem> {
-    let count = scope.known.len();
-    enter(scope, case)?;
-    let outcome = by_cases(alloc, ground, scope, depth)?;
-    leave(scope, case, count);
-    Ok(outcome)
+fn in_case(cases: &mut Cases<'_>, depth: u32, case: &Case<'_>) -> Outcome {
+    let count = cases.known.len();
+    cases.set_bounds(case.place, case.bounds);
+    let outcome = if cases.knows(case.row) {
+        by_cases(cases, depth)
+    } else {
+        Outcome::Stuck
+    };
+    cases.set_bounds(case.place, case.whole);
+    cases.known.truncate(count);
+    outcome
 }
 
-/// Both cases of a range, if their rows have numbers.
-fn halves_of(alloc: Global, scope: &Scope, halving: Halving) -> Result<Option<Halves>, Mem> {
-    let whole = scope.bounds.get(halving.place as usize).copied();
-    match (whole, u32::try_from(scope.known.len())) {
-        (Some(whole), Ok(number)) => Halves::new(alloc, halving, whole, Source::Known(number)),
-        _ => Ok(None),
+/// The derivation by cases of a row.
+fn joined(
+    alloc: Global,
+    row: &Row,
+    cases: Option<(Derivation, Derivation)>,
+) -> Result<Option<Derivation>, Mem> {
+    match cases {
+        Some((first, second)) => Ok(Some(by_branch(
+            alloc,
+            Branch {
+                row: row.clone()?,
+                first,
+                second,
+            },
+        )?)),
+        None => Ok(None),
     }
 }
 
-/// The derivation by both cases of a range.
-fn both(
-    alloc: Global,
-    halves: &Halves,
-    first: Derivation,
-    second: Derivation,
-) -> Result<Outcome, Mem> {
-    let row = halves.row.clone()?;
-    let branch = Boxed::new(alloc, Branch { row, first, second })?;
-    Ok(Outcome::Closed(Derivation {
+fn by_branch(alloc: Global, branch: Branch) -> Result<Derivation, AllocError> {
+    Ok(Derivation {
         steps: List::new(alloc),
-        last: Ending::Cases(branch),
-    }))
-}
-
-/// Goes on in a case.
-fn enter(scope: &mut Scope, case: Case<'_>) -> Result<(), Mem> {
-    scope.known.push(case.row.clone()?)?;
-    set_bounds(&mut scope.bounds, case.place, case.bounds);
-    Ok(())
-}
-
-/// Goes back from a case to where so many rows were known.
-fn leave(scope: &mut Scope, case: Case<'_>, count: usize) {
-    scope.known.truncate(count);
-    set_bounds(&mut scope.bounds, case.place, case.whole);
-}
-
-fn set_bounds(bounds: &mut [Bounds], place: u32, new: Bounds) {
-    if let Some(here) = bounds.get_mut(place as usize) {
-        *here = new;
-    }
+        last: Ending::Cases(Boxed::new(alloc, branch)?),
+    })
 }
 
 /// The row that is at least 0 where this one is below 0, if its numbers are in `i128`.
@@ -310,14 +326,112 @@ fn denied(row: &Row) -> Result<Option<Row>, Mem> {
     }
 }
 
+/// What comes next where the ranges are known.
+fn next_of(sums: &mut Sums<'_>, outline: &Outline<'_>, left: &mut u64) -> Result<Next, Mem> {
+    let end = end_here(sums, outline, left);
+    match sums.steps_to(end)? {
+        Some(steps) => Ok(Next::Closed(closed(steps))),
+        None => match next_halving(&sums.view, outline) {
+            Some(halving) => Ok(Next::Halve(halving)),
+            None => at_one_point(sums),
+        },
+    }
+}
+
+/// A derivation without cases.
+pub fn closed(steps: List<Step>) -> Derivation {
+    Derivation {
+        steps,
+        last: Ending::Closed,
+    }
+}
+
+/// A contradiction without further cases.
+fn end_here(sums: &mut Sums<'_>, outline: &Outline<'_>, left: &mut u64) -> Option<Source> {
+    let empty = sums.empty_range();
+    if empty.is_some() {
+        return empty;
+    }
+    let last = sums.view.last_fact()?;
+    match closed_by_facts(sums, outline, last) {
+        Some(end) => Some(end),
+        None => closed_by_pairs(sums, outline, left, last),
+    }
+}
+
+/// A contradiction from the last fact or a split alone.
+fn closed_by_facts(sums: &mut Sums<'_>, outline: &Outline<'_>, last: Source) -> Option<Source> {
+    let end = sums.closed_by(last);
+    if end.is_some() {
+        return end;
+    }
+    for split in &outline.splits {
+        let end = sums.closed_by(Source::Fact(*split));
+        if end.is_some() {
+            return end;
+        }
+    }
+    // Last, since numbers are 2^60 times larger on this way; it is for rows whose numbers leave 128 bits else.
+    sums.closed_finely(last)
+}
+
+/// Whether there is more than one size.
+fn has_open_size(view: &View<'_>) -> bool {
+    for (variable, range) in view.variables.iter().zip(view.ranges) {
+        if *variable == SIZE {
+            return length_of(range).is_some();
+        }
+    }
+    false
+}
+
+/// A contradiction from the last fact and a split at one size, if so many pairs of rows may still be tried.
+fn closed_by_pairs(
+    sums: &mut Sums<'_>,
+    outline: &Outline<'_>,
+    left: &mut u64,
+    last: Source,
+) -> Option<Source> {
+    if has_open_size(&sums.view) {
+        return None;
+    }
+    *left = left.checked_sub(outline.splits.len() as u64)?;
+    sums.paired(last, &outline.splits, outline.base)
+}
+
+/// Where each range is one number: a derivation from a fact that is not met, or the numbers, if they meet all facts.
+fn at_one_point(sums: &mut Sums<'_>) -> Result<Next, Mem> {
+    match first_unmet(&sums.view) {
+        Some(fact) => closed_from(sums, fact),
+        None => Ok(Next::Met(point(sums.alloc, sums.view.ranges)?)),
+    }
+}
+
+fn closed_from(sums: &mut Sums<'_>, fact: Source) -> Result<Next, Mem> {
+    let end = sums.closed_by(fact);
+    match sums.steps_to(end)? {
+        Some(steps) => Ok(Next::Closed(closed(steps))),
+        None => Ok(Next::Stuck),
+    }
+}
+
+/// A number of each range.
+fn point(alloc: Global, ranges: &[Range]) -> Result<Vec<i128>, AllocError> {
+    let mut values = Vec::new(alloc);
+    for range in ranges {
+        values.push(range.least.or(range.greatest).unwrap_or(0))?;
+    }
+    Ok(values)
+}
+
 /// The range that is halved next: the shortest of more than one number, of the variables that are bounded by themselves
 /// before the others, and of those that the last fact concerns before those.
-fn next_halving(view: View<'_>, outline: &Outline) -> Option<Halving> {
+fn next_halving(view: &View<'_>, outline: &Outline<'_>) -> Option<Halving> {
     let mut best: Option<Halving> = None;
     for (place, range) in view.ranges.iter().enumerate() {
-        if let Some(other) = halving_of(view, outline, place, *range) {
+        if let Some(other) = halving_of(view, outline, place, range) {
             best = match best {
-                Some(so_far) if !goes_before(other, so_far) => Some(so_far),
+                Some(so_far) if !goes_before(&other, &so_far) => Some(so_far),
                 _ => Some(other),
             };
         }
@@ -326,12 +440,15 @@ fn next_halving(view: View<'_>, outline: &Outline) -> Option<Halving> {
 }
 
 /// How the range of the variable at a place is halved, if it is of more than one number.
-fn halving_of(view: View<'_>, outline: &Outline, place: usize, range: Range) -> Option<Halving> {
+fn halving_of(
+    view: &View<'_>,
+    outline: &Outline<'_>,
+    place: usize,
+    range: &Range,
+) -> Option<Halving> {
     let (length, middle) = length_of(range)?;
-    if length <= 0 {
-        return None;
-    }
     let variable = *view.variables.get(place)?;
+    let is_concerned = outline.is_concerned(place);
     let place = u32::try_from(place).ok()?;
     Some(Halving {
         place,
@@ -339,11 +456,12 @@ fn halving_of(view: View<'_>, outline: &Outline, place: usize, range: Range) -> 
         middle,
         length,
         is_base: place < outline.base,
-        is_concerned: outline.concerned.get(place as usize).copied() == Some(true),
+        is_concerned,
     })
 }
 
-fn goes_before(one: Halving, other: Halving) -> bool {
+fn goes_before(one: &Halving, other: &Halving) -> bool {
+    // To halve a size that matters to no row would write the same steps for each of its values.
     if one.is_base != other.is_base {
         one.is_base
     } else if one.is_concerned != other.is_concerned {
@@ -353,217 +471,12 @@ fn goes_before(one: Halving, other: Halving) -> bool {
     }
 }
 
-/// How far the ends of a range are apart, and its middle.
-fn length_of(range: Range) -> Option<(i128, i128)> {
+/// How far the ends of a range of more than one number are apart, and its middle.
+fn length_of(range: &Range) -> Option<(i128, i128)> {
     let least = range.least?;
     let length = range.greatest?.checked_sub(least)?;
-    let middle = least.checked_add(length.div_euclid(2))?;
-    Some((length, middle))
-}
-
-/// Where each range is one number: a derivation from a fact that is not met, or the numbers, if they meet all facts.
-fn at_one_point(alloc: Global, view: View<'_>) -> Result<Outcome, Mem> {
-    match first_unmet(view) {
-        Some(fact) => closed_from(alloc, view, fact),
-        None => Ok(Outcome::Met(point(alloc, view.ranges)?)),
+    if length <= 0 {
+        return None;
     }
-}
-
-/// The first fact that is not known to be met where each range is one number.
-fn first_unmet(view: View<'_>) -> Option<Source> {
-    for (number, fact) in view.facts.iter().enumerate() {
-        if !is_met(view, fact) {
-            return Some(Source::Fact(u32::try_from(number).ok()?));
-        }
-    }
-    None
-}
-
-fn is_met(view: View<'_>, fact: &Row) -> bool {
-    match most_of(view, fact) {
-        Some(most) => most >= 0,
-        None => false,
-    }
-}
-
-fn closed_from(alloc: Global, view: View<'_>, fact: Source) -> Result<Outcome, Mem> {
-    let mut sums = Vec::new(alloc);
-    let steps = closed_by(alloc, view, &mut sums, fact)?;
-    Ok(steps.map_or(Outcome::Stuck, closed))
-}
-
-/// A number of each range.
-fn point(alloc: Global, ranges: &[Range]) -> Result<Vec<i128>, Mem> {
-    let mut values = Vec::new(alloc);
-    for range in ranges {
-        values.push(range.least.or(range.greatest).unwrap_or(0))?;
-    }
-    Ok(values)
-}
-
-/// Steps to a contradiction without further cases.
-fn closed_here(
-    alloc: Global,
-    view: View<'_>,
-    outline: &Outline,
-    left: &mut u64,
-) -> Result<Option<List<Step>>, Mem> {
-    let mut sums = Vec::new(alloc);
-    closed_with(alloc, view, outline, left, &mut sums)
-}
-
-/// Steps to a contradiction from a range without numbers, or from the last fact.
-fn closed_with(
-    alloc: Global,
-    view: View<'_>,
-    outline: &Outline,
-    left: &mut u64,
-    sums: &mut Vec<Sum>,
-) -> Result<Option<List<Step>>, Mem> {
-    if let Some(end) = empty_range(alloc, view, sums)? {
-        return written(alloc, view, sums, end);
-    }
-    let Some(last) = last_fact(view) else {
-        return Ok(None);
-    };
-    match closed_by_facts(alloc, view, outline, sums, last)? {
-        Some(steps) => Ok(Some(steps)),
-        None => closed_by_pairs(alloc, view, outline, left, sums, last),
-    }
-}
-
-/// Steps to a contradiction from the last fact or a split alone.
-fn closed_by_facts(
-    alloc: Global,
-    view: View<'_>,
-    outline: &Outline,
-    sums: &mut Vec<Sum>,
-    last: Source,
-) -> Result<Option<List<Step>>, Mem> {
-    if let Some(steps) = closed_by(alloc, view, sums, last)? {
-        return Ok(Some(steps));
-    }
-    for split in &outline.splits {
-        if let Some(steps) = closed_by(alloc, view, sums, Source::Fact(*split))? {
-            return Ok(Some(steps));
-        }
-    }
-    closed_finely(alloc, view, sums, last)
-}
-
-/// Steps to a contradiction from the last fact and a split, if so many pairs of rows may still be tried.
-fn closed_by_pairs(
-    alloc: Global,
-    view: View<'_>,
-    outline: &Outline,
-    left: &mut u64,
-    sums: &mut Vec<Sum>,
-    last: Source,
-) -> Result<Option<List<Step>>, Mem> {
-    let pairs = outline.splits.len() as u64;
-    if *left < pairs {
-        return Ok(None);
-    }
-    *left -= pairs;
-    match paired(alloc, view, sums, last, &outline.splits, outline.base)? {
-        Some(end) => written(alloc, view, sums, end),
-        None => Ok(None),
-    }
-}
-
-/// The last fact.
-pub fn last_fact(view: View<'_>) -> Option<Source> {
-    let last = view.facts.len().checked_sub(1)?;
-    Some(Source::Fact(u32::try_from(last).ok()?))
-}
-
-/// Steps to a contradiction from one row, by what bounds its variables.
-fn closed_by(
-    alloc: Global,
-    view: View<'_>,
-    sums: &mut Vec<Sum>,
-    start: Source,
-) -> Result<Option<List<Step>>, Mem> {
-    let count = sums.len();
-    match made(contradiction(alloc, view, sums, start, Manner::Exact))? {
-        Some(end) => written(alloc, view, sums, end),
-        None => {
-            sums.truncate(count);
-            Ok(None)
-        }
-    }
-}
-
-/// Steps to a contradiction from a large multiple of one row, with bounds taken as often as they fit.
-fn closed_finely(
-    alloc: Global,
-    view: View<'_>,
-    sums: &mut Vec<Sum>,
-    start: Source,
-) -> Result<Option<List<Step>>, Mem> {
-    let count = sums.len();
-    match made(fine_end(alloc, view, sums, start))? {
-        Some(end) => written(alloc, view, sums, end),
-        None => {
-            sums.truncate(count);
-            Ok(None)
-        }
-    }
-}
-
-/// A contradiction from a large multiple of one row, with bounds taken as often as they fit.
-fn fine_end(
-    alloc: Global,
-    view: View<'_>,
-    sums: &mut Vec<Sum>,
-    start: Source,
-) -> Result<Source, Stop> {
-    let most = Part {
-        times: FINE - 1,
-        of: start,
-    };
-    let once = Part {
-        times: 1,
-        of: start,
-    };
-    let large = add(alloc, view, sums, most, once)?;
-    contradiction(alloc, view, sums, large, Manner::Rounded)
-}
-
-/// A contradiction from a range without numbers.
-fn empty_range(alloc: Global, view: View<'_>, sums: &mut Vec<Sum>) -> Result<Option<Source>, Mem> {
-    for (place, range) in view.ranges.iter().enumerate() {
-        let Ok(place) = u32::try_from(place) else {
-            break;
-        };
-        if is_empty(*range) {
-            return add_ends(alloc, view, sums, place);
-        }
-    }
-    Ok(None)
-}
-
-fn is_empty(range: Range) -> bool {
-    match (range.least, range.greatest) {
-        (Some(least), Some(greatest)) => greatest < least,
-        _ => false,
-    }
-}
-
-/// The sum of both ends of a range.
-fn add_ends(
-    alloc: Global,
-    view: View<'_>,
-    sums: &mut Vec<Sum>,
-    place: u32,
-) -> Result<Option<Source>, Mem> {
-    let low = Part {
-        times: 1,
-        of: Source::Low(place),
-    };
-    let high = Part {
-        times: 1,
-        of: Source::High(place),
-    };
-    made(add(alloc, view, sums, low, high))
+    Some((length, least.checked_add(length.div_euclid(2))?))
 }

@@ -4,7 +4,9 @@ use std::alloc::{AllocError, Global};
 
 /// What facts say, read once: which of them bound a variable, and which do not.
 #[derive(Drop)]
-pub struct Outline {
+pub struct Outline<'a> {
+    /// The facts.
+    pub facts: &'a [Row],
     /// The variables, ascending.
     pub variables: Vec<u32>,
     /// What bounds each of them.
@@ -17,14 +19,25 @@ pub struct Outline {
     pub concerned: Vec<bool>,
 }
 
-impl Outline {
-    /// No facts, but with these variables.
-    fn new(alloc: Global, variables: Vec<u32>) -> Result<Outline, AllocError> {
+impl<'a> Outline<'a> {
+    /// Reads a list of facts.
+    pub fn read(alloc: Global, facts: &'a [Row]) -> Result<Outline<'a>, AllocError> {
+        let mut outline = Outline::new(alloc, facts)?;
+        outline.read_to()?;
+        outline.base = outline.alone_count();
+        outline.mark_concerned();
+        Ok(outline)
+    }
+
+    /// The variables of facts that are not read yet.
+    fn new(alloc: Global, facts: &'a [Row]) -> Result<Outline<'a>, AllocError> {
+        let variables = variables_of(alloc, facts)?;
         let none = Bounds {
             low: None,
             high: None,
         };
         Ok(Outline {
+            facts,
             bounds: vec![in alloc; none; variables.len()]?,
             splits: Vec::new(alloc),
             base: 0,
@@ -32,92 +45,164 @@ impl Outline {
             variables,
         })
     }
-}
 
-/// Reads a list of facts.
-pub fn read_facts(alloc: Global, facts: &[Row]) -> Result<Outline, AllocError> {
-    let mut outline = Outline::new(alloc, variables_of(alloc, facts)?)?;
-    read_to(facts, &mut outline)?;
-    Ok(outline)
-}
-
-/// Reads a list of facts to an outline that has their variables.
-fn read_to(facts: &[Row], outline: &mut Outline) -> Result<(), AllocError> {
-    for (number, fact) in facts.iter().enumerate() {
-        let Ok(number) = u32::try_from(number) else {
-            break;
-        };
-        let is_bound = note(facts, &outline.variables, &mut outline.bounds, number, fact);
-        if !is_bound && number as usize + 1 < facts.len() {
-            outline.splits.push(number)?;
+    fn read_to(&mut self) -> Result<(), AllocError> {
+        let facts = self.facts;
+        for (number, fact) in facts.iter().enumerate() {
+            let Ok(number) = u32::try_from(number) else {
+                break;
+            };
+            let is_bound = self.note(number, fact);
+            if !is_bound && number as usize + 1 < facts.len() {
+                self.splits.push(number)?;
+            }
         }
+        Ok(())
     }
-    outline.base = base_of(facts, &outline.bounds);
-    mark_concerned(facts, outline);
-    Ok(())
-}
 
-/// Marks the variables that the last fact is about, with what bounds them, and the splits that share one with it.
-fn mark_concerned(facts: &[Row], outline: &mut Outline) {
-    let marks = &mut outline.concerned;
-    if let Some(last) = facts.last() {
-        mark(&outline.variables, marks, last);
+    /// Marks the variables that the last fact is about, with what bounds them, and the splits that share one with it.
+    fn mark_concerned(&mut self) {
+        let facts = self.facts;
+        if let Some(last) = facts.last() {
+            self.mark(last);
+        }
+        self.mark_bounds();
+        self.mark_splits();
+        self.mark_bounds();
     }
-    mark_bounds(facts, &outline.variables, &outline.bounds, marks);
-    mark_splits(facts, &outline.variables, &outline.splits, marks);
-    mark_bounds(facts, &outline.variables, &outline.bounds, marks);
-}
 
-/// Marks the variables of the splits that have a marked one.
-fn mark_splits(facts: &[Row], variables: &[u32], splits: &[u32], marks: &mut [bool]) {
-    for split in splits {
-        if let Some(fact) = facts.get(*split as usize) {
-            if is_touched(variables, marks, fact) {
-                mark(variables, marks, fact);
+    /// Marks the variables of the splits that have a marked one.
+    fn mark_splits(&mut self) {
+        for at in 0..self.splits.len() {
+            if let Some(fact) = self.split_at(at) {
+                if self.is_touched(fact) {
+                    self.mark(fact);
+                }
             }
         }
     }
-}
 
-/// Marks the variables of a row.
-fn mark(variables: &[u32], marks: &mut [bool], row: &Row) {
-    for term in row.terms.as_slice() {
-        if let Ok(place) = variables.binary_search(&term.0) {
-            if let Some(here) = marks.get_mut(place) {
-                *here = true;
+    /// The split at a place.
+    fn split_at(&self, at: usize) -> Option<&'a Row> {
+        let number = *self.splits.get(at)?;
+        self.facts.get(number as usize)
+    }
+
+    /// Marks the variables of a row.
+    fn mark(&mut self, row: &Row) {
+        for term in row.terms.as_slice() {
+            if let Ok(place) = self.variables.binary_search(&term.0) {
+                if let Some(here) = self.concerned.get_mut(place) {
+                    *here = true;
+                }
             }
         }
     }
-}
 
-/// Marks what bounds the marked variables, from the highest down.
-fn mark_bounds(facts: &[Row], variables: &[u32], bounds: &[Bounds], marks: &mut [bool]) {
-    for (place, here) in bounds.iter().enumerate().rev() {
-        if marks.get(place).copied() == Some(true) {
-            mark_bound(facts, variables, marks, here.low);
-            mark_bound(facts, variables, marks, here.high);
-        }
-    }
-}
-
-fn mark_bound(facts: &[Row], variables: &[u32], marks: &mut [bool], bound: Option<Source>) {
-    if let Some(Source::Fact(number)) = bound {
-        if let Some(fact) = facts.get(number as usize) {
-            mark(variables, marks, fact);
-        }
-    }
-}
-
-/// Whether a variable of the row is marked.
-fn is_touched(variables: &[u32], marks: &[bool], row: &Row) -> bool {
-    for term in row.terms.as_slice() {
-        if let Ok(place) = variables.binary_search(&term.0) {
-            if marks.get(place).copied() == Some(true) {
-                return true;
+    /// Marks what bounds the marked variables, from the highest down.
+    fn mark_bounds(&mut self) {
+        for place in (0..self.bounds.len()).rev() {
+            if self.is_concerned(place) {
+                self.mark_bounds_at(place);
             }
         }
     }
-    false
+
+    /// Marks what bounds the variable at a place.
+    fn mark_bounds_at(&mut self, place: usize) {
+        if let Some(here) = self.bounds.get(place).copied() {
+            self.mark_bound(here.low);
+            self.mark_bound(here.high);
+        }
+    }
+
+    fn mark_bound(&mut self, bound: Option<Source>) {
+        if let Some(row) = self.row_of(bound) {
+            self.mark(row);
+        }
+    }
+
+    /// The row of a bound, if there is one.
+    fn row_of(&self, bound: Option<Source>) -> Option<&'a Row> {
+        match bound {
+            Some(Source::Fact(number)) => self.facts.get(number as usize),
+            _ => None,
+        }
+    }
+
+    /// Whether a variable of the row is marked.
+    fn is_touched(&self, row: &Row) -> bool {
+        for term in row.terms.as_slice() {
+            if let Ok(place) = self.variables.binary_search(&term.0) {
+                if self.is_concerned(place) {
+                    return true;
+                }
+            }
+        }
+        false
+    }
+
+    /// Whether the variable at a place is marked.
+    pub fn is_concerned(&self, place: usize) -> bool {
+        self.concerned.get(place).copied() == Some(true)
+    }
+
+    /// Takes a fact as a bound of its highest variable, if it is the first on that side, or bounds it by itself
+    /// more tightly. Whether the fact says no more than a bound does.
+    fn note(&mut self, number: u32, fact: &Row) -> bool {
+        match top_term(fact) {
+            Some((variable, coefficient)) => match self.variables.binary_search(&variable) {
+                // A row bounds its highest variable: from below where the coefficient is positive, else from above.
+                Ok(place) => self.note_at(place, coefficient > 0, number, fact),
+                Err(_) => false,
+            },
+            None => true,
+        }
+    }
+
+    /// The same where the highest variable stands at a place.
+    fn note_at(&mut self, place: usize, is_low: bool, number: u32, fact: &Row) -> bool {
+        let (is_bound, is_tighter) = compared(self.row_of(self.bound_at(place, is_low)), fact);
+        if is_tighter {
+            self.set_bound(place, is_low, Source::Fact(number));
+        }
+        is_bound
+    }
+
+    /// What bounds the variable at a place on a side.
+    fn bound_at(&self, place: usize, is_low: bool) -> Option<Source> {
+        let here = self.bounds.get(place)?;
+        if is_low { here.low } else { here.high }
+    }
+
+    fn set_bound(&mut self, place: usize, is_low: bool, bound: Source) {
+        if let Some(here) = self.bounds.get_mut(place) {
+            if is_low {
+                here.low = Some(bound);
+            } else {
+                here.high = Some(bound);
+            }
+        }
+    }
+
+    /// How many variables, from the lowest, are bounded by rows without other variables.
+    fn alone_count(&self) -> u32 {
+        let mut base: u32 = 0;
+        for here in &self.bounds {
+            if !(self.is_alone(here.low) && self.is_alone(here.high)) {
+                break;
+            }
+            base = base.saturating_add(1);
+        }
+        base
+    }
+
+    fn is_alone(&self, bound: Option<Source>) -> bool {
+        match self.row_of(bound) {
+            Some(row) => row.terms.len() == 1,
+            None => true,
+        }
+    }
 }
 
 /// The variables of the facts, each once, ascending.
@@ -133,46 +218,15 @@ fn variables_of(alloc: Global, facts: &[Row]) -> Result<Vec<u32>, AllocError> {
     Ok(variables)
 }
 
-/// Takes a fact as a bound of its highest variable, if it is the first on that side, or bounds the variable by itself
-/// more tightly. Whether the fact says no more than a bound does.
-fn note(facts: &[Row], variables: &[u32], bounds: &mut [Bounds], number: u32, fact: &Row) -> bool {
-    let Some((variable, coefficient)) = top_term(fact) else {
-        return true;
-    };
-    let Ok(place) = variables.binary_search(&variable) else {
-        return false;
-    };
-    let Some(here) = bounds.get_mut(place) else {
-        return false;
-    };
-    let source = Some(Source::Fact(number));
-    if coefficient > 0 {
-        let (is_bound, is_tighter) = compared(facts, here.low, fact);
-        if is_tighter {
-            here.low = source;
-        }
-        is_bound
-    } else {
-        let (is_bound, is_tighter) = compared(facts, here.high, fact);
-        if is_tighter {
-            here.high = source;
-        }
-        is_bound
-    }
-}
-
 /// Whether a fact bounds its highest variable beside the fact that does so far, and whether it is to take its place.
-fn compared(facts: &[Row], so_far: Option<Source>, fact: &Row) -> (bool, bool) {
-    let Some(Source::Fact(number)) = so_far else {
-        return (true, true);
-    };
-    let Some(other) = facts.get(number as usize) else {
-        return (true, true);
-    };
-    if fact.terms.len() == 1 && other.terms.len() == 1 {
-        (true, bound_by_itself(fact) < bound_by_itself(other))
-    } else {
-        (false, false)
+fn compared(so_far: Option<&Row>, fact: &Row) -> (bool, bool) {
+    match so_far {
+        None => (true, true),
+        Some(other) if fact.terms.len() == 1 && other.terms.len() == 1 => {
+            (true, bound_by_itself(fact) < bound_by_itself(other))
+        }
+        // Two bounds of one side can't be compared where they have other variables: the later one is a split.
+        Some(_) => (false, false),
     }
 }
 
@@ -180,29 +234,4 @@ fn compared(facts: &[Row], so_far: Option<Source>, fact: &Row) -> (bool, bool) {
 fn bound_by_itself(row: &Row) -> Option<i128> {
     let (_, coefficient) = top_term(row)?;
     floor_by(row.k, coefficient)
-}
-
-/// How many variables, from the lowest, are bounded by rows without other variables.
-fn base_of(facts: &[Row], bounds: &[Bounds]) -> u32 {
-    let mut base = 0;
-    for here in bounds {
-        if !(is_alone(facts, here.low) && is_alone(facts, here.high)) {
-            break;
-        }
-        let Some(more) = u32::checked_add(base, 1) else {
-            break;
-        };
-        base = more;
-    }
-    base
-}
-
-fn is_alone(facts: &[Row], source: Option<Source>) -> bool {
-    match source {
-        Some(Source::Fact(number)) => match facts.get(number as usize) {
-            Some(fact) => fact.terms.len() == 1,
-            None => false,
-        },
-        _ => true,
-    }
 }

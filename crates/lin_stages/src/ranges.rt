@@ -1,20 +1,17 @@
 use crate::sources::{Range, Source, View, floor_by, top_term};
 use lin_row::Row;
-use std::alloc::Global;
-use viz_base::Mem;
+use std::alloc::{AllocError, Global};
 
 /// The range of each variable by what bounds it, from the lowest variable up.
-pub fn ranges_of(alloc: Global, view: View<'_>) -> Result<Vec<Range>, Mem> {
+pub fn ranges_of(alloc: Global, view: &View<'_>) -> Result<Vec<Range>, AllocError> {
     let mut ranges = Vec::new(alloc);
+    // From the lowest up: what bounds a variable has only lower ones beside it, whose ranges are known.
     for bounds in view.bounds {
-        let least = match bounds.low {
-            Some(source) => bound_of(view, &ranges, source).and_then(i128::checked_neg),
+        let least = match bound_of(view, &ranges, bounds.low) {
+            Some(most) => most.checked_neg(),
             None => None,
         };
-        let greatest = match bounds.high {
-            Some(source) => bound_of(view, &ranges, source),
-            None => None,
-        };
+        let greatest = bound_of(view, &ranges, bounds.high);
         ranges.push(Range { least, greatest })?;
     }
     Ok(ranges)
@@ -22,20 +19,22 @@ pub fn ranges_of(alloc: Global, view: View<'_>) -> Result<Vec<Range>, Mem> {
 
 /// How far a row lets its highest variable go, by the ranges of the others: the greatest value, or the negative of the
 /// least one.
-fn bound_of(view: View<'_>, ranges: &[Range], source: Source) -> Option<i128> {
-    let row = view.given(source)?;
+fn bound_of(view: &View<'_>, ranges: &[Range], source: Option<Source>) -> Option<i128> {
+    let row = view.given(source?)?;
     let (variable, coefficient) = top_term(row)?;
-    let most = most_without(view, ranges, row, Some(variable))?;
-    floor_by(most, coefficient)
+    floor_by(
+        most_without(view, ranges, row, Some(variable))?,
+        coefficient,
+    )
 }
 
-/// The greatest value that the ranges leave for a row.
-pub fn most_of(view: View<'_>, row: &Row) -> Option<i128> {
-    most_without(view, view.ranges, row, None)
-}
-
-/// The greatest value of a row without one of its variables.
-fn most_without(view: View<'_>, ranges: &[Range], row: &Row, without: Option<u32>) -> Option<i128> {
+/// The greatest value of a row without one of its variables, that the ranges leave for it.
+fn most_without(
+    view: &View<'_>,
+    ranges: &[Range],
+    row: &Row,
+    without: Option<u32>,
+) -> Option<i128> {
     let mut most = row.k;
     for term in row.terms.as_slice() {
         if without != Some(term.0) {
@@ -46,14 +45,30 @@ fn most_without(view: View<'_>, ranges: &[Range], row: &Row, without: Option<u32
 }
 
 /// The greatest value of a term.
-fn most_of_term(view: View<'_>, ranges: &[Range], term: (u32, i128)) -> Option<i128> {
-    let (variable, coefficient) = term;
-    let place = view.place_of(variable)?;
-    let range = *ranges.get(place as usize)?;
-    let end = if coefficient > 0 {
+fn most_of_term(view: &View<'_>, ranges: &[Range], term: (u32, i128)) -> Option<i128> {
+    let place = view.place_of(term.0)?;
+    let range = ranges.get(place as usize)?;
+    let end = if term.1 > 0 {
         range.greatest?
     } else {
         range.least?
     };
-    coefficient.checked_mul(end)
+    term.1.checked_mul(end)
+}
+
+/// The first fact that is not known to be met where each range is one number.
+pub fn first_unmet(view: &View<'_>) -> Option<Source> {
+    for (number, fact) in view.facts.iter().enumerate() {
+        if !is_met(view, fact) {
+            return Some(Source::Fact(u32::try_from(number).ok()?));
+        }
+    }
+    None
+}
+
+fn is_met(view: &View<'_>, fact: &Row) -> bool {
+    match most_without(view, view.ranges, fact, None) {
+        Some(most) => most >= 0,
+        None => false,
+    }
 }

@@ -1,42 +1,4 @@
 use lin_row::Row;
-use std::alloc::{AllocError, AllocFailed};
-use viz_base::Mem;
-
-/// Why something is not made.
-#[derive(Clone, Copy)]
-pub enum Stop {
-    /// Want of memory.
-    Mem,
-    /// Something is missing, or a number leaves its range.
-    Missing,
-}
-
-impl From<AllocError> for Stop {
-    fn from(_: AllocError) -> Self {
-        Stop::Mem
-    }
-}
-
-impl<T: Drop> From<AllocFailed<T>> for Stop {
-    fn from(_: AllocFailed<T>) -> Self {
-        Stop::Mem
-    }
-}
-
-impl From<Mem> for Stop {
-    fn from(_: Mem) -> Self {
-        Stop::Mem
-    }
-}
-
-/// What was made, if nothing was missing.
-pub fn made<T: Drop>(answer: Result<T, Stop>) -> Result<Option<T>, Mem> {
-    match answer {
-        Ok(value) => Ok(Some(value)),
-        Err(Stop::Missing) => Ok(None),
-        Err(Stop::Mem) => Err(Mem),
-    }
-}
 
 /// A row of which a sum takes a multiple.
 #[derive(Clone, Copy)]
@@ -71,6 +33,17 @@ pub struct Range {
     pub greatest: Option<i128>,
 }
 
+/// The highest variable of a row.
+#[derive(Clone, Copy)]
+pub struct Top {
+    /// The row.
+    pub of: Source,
+    /// The variable's place.
+    pub place: u32,
+    /// Its coefficient.
+    pub coefficient: i128,
+}
+
 /// What rows there are, and what is known of each variable, by its place among them.
 #[derive(Clone, Copy)]
 pub struct View<'a> {
@@ -88,7 +61,7 @@ pub struct View<'a> {
 
 impl<'a> View<'a> {
     /// A fact or a known row.
-    pub fn given(self, source: Source) -> Option<&'a Row> {
+    pub fn given(&self, source: Source) -> Option<&'a Row> {
         match source {
             Source::Fact(number) => self.facts.get(number as usize),
             Source::Known(number) => self.known.get(number as usize),
@@ -97,24 +70,52 @@ impl<'a> View<'a> {
     }
 
     /// The place of a variable.
-    pub fn place_of(self, variable: u32) -> Option<u32> {
+    pub fn place_of(&self, variable: u32) -> Option<u32> {
         let at = self.variables.binary_search(&variable).ok()?;
         u32::try_from(at).ok()
     }
 
-    /// The variable at a place.
-    pub fn variable_at(self, place: u32) -> Option<u32> {
-        self.variables.get(place as usize).copied()
+    /// The last fact.
+    pub fn last_fact(&self) -> Option<Source> {
+        let last = self.facts.len().checked_sub(1)?;
+        Some(Source::Fact(u32::try_from(last).ok()?))
     }
 
-    /// The range of the variable at a place, if one was found.
-    pub fn range(self, place: u32) -> Option<Range> {
-        self.ranges.get(place as usize).copied()
+    /// Whether the range of the variable at a place is one number.
+    pub fn is_settled(&self, place: u32) -> bool {
+        match self.ranges.get(place as usize) {
+            Some(range) => range.least.is_some() && range.least == range.greatest,
+            None => false,
+        }
     }
 
-    /// The bounds of the variable at a place.
-    pub fn bounds_of(self, place: u32) -> Option<Bounds> {
-        self.bounds.get(place as usize).copied()
+    /// What bounds a variable on the side that takes it away from a row.
+    pub fn bound_of(&self, top: Top) -> Option<Source> {
+        let bounds = self.bounds.get(top.place as usize)?;
+        if top.coefficient > 0 {
+            bounds.high
+        } else {
+            bounds.low
+        }
+    }
+
+    /// The negative of the least value of the variable at a place.
+    pub fn low_constant(&self, place: u32) -> Option<i128> {
+        self.ranges.get(place as usize)?.least?.checked_neg()
+    }
+
+    /// The greatest value of the variable at a place.
+    pub fn high_constant(&self, place: u32) -> Option<i128> {
+        self.ranges.get(place as usize)?.greatest
+    }
+}
+
+/// The end of the range of the variable at a place that takes it away, where it has this coefficient.
+pub fn end_of(place: u32, coefficient: i128) -> Source {
+    if coefficient > 0 {
+        Source::High(place)
+    } else {
+        Source::Low(place)
     }
 }
 

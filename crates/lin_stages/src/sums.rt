@@ -1,8 +1,13 @@
-use crate::sources::{Source, Stop, View, top_term};
-use lin_pairs::{Multiples, added, is_contradiction, least_multiples, multiple};
+use crate::sources::{Source, Top, View, end_of, top_term};
+use crate::writing::written;
+use lin_pairs::{added, is_contradiction, least_multiples, multiple};
+use lin_proof::Step;
 use lin_row::Row;
-use std::alloc::Global;
-use viz_base::Mem;
+use std::alloc::{AllocError, Global};
+use viz_base::{List, Mem};
+
+/// By how much the last fact is multiplied where bounds are taken as often as they fit.
+const FINE: i128 = 0x1000_0000_0000_0000;
 
 /// A multiple of a row.
 #[derive(Clone, Copy)]
@@ -33,344 +38,308 @@ pub enum Manner {
     Rounded,
 }
 
-/// The row of a source that is no end of a range.
-pub fn row_of<'a>(view: View<'a>, sums: &'a [Sum], source: Source) -> Option<&'a Row> {
-    match source {
-        Source::Sum(number) => match sums.get(number as usize) {
-            Some(sum) => Some(&sum.row),
-            None => None,
-        },
-        _ => view.given(source),
+/// The sums that are made on the way to a contradiction. Where memory does not do for one, this is kept and told at the
+/// end, and until then that sum is missing.
+#[derive(Drop)]
+pub struct Sums<'a> {
+    /// Where they take memory.
+    pub alloc: Global,
+    /// What they are made of.
+    pub view: View<'a>,
+    /// The sums.
+    pub list: Vec<Sum>,
+    is_out_of_memory: bool,
+}
+
+impl<'a> Sums<'a> {
+    /// No sums.
+    pub fn new(alloc: Global, view: View<'a>) -> Sums<'a> {
+        Sums {
+            alloc,
+            view,
+            list: Vec::new(alloc),
+            is_out_of_memory: false,
+        }
+    }
+
+    /// The steps to a contradiction, if there is one. None also where there are too many steps.
+    pub fn steps_to(&self, end: Option<Source>) -> Result<Option<List<Step>>, Mem> {
+        match end {
+            _ if self.is_out_of_memory => Err(Mem),
+            Some(end) => written(self, end),
+            None => Ok(None),
+        }
+    }
+
+    /// The row of a source that is no end of a range.
+    pub fn row_of(&self, source: Source) -> Option<&Row> {
+        match source {
+            Source::Sum(number) => match self.list.get(number as usize) {
+                Some(sum) => Some(&sum.row),
+                None => None,
+            },
+            _ => self.view.given(source),
+        }
+    }
+
+    /// Adds multiples of two sources, if each number on the way is in `i128`.
+    pub fn add(&mut self, first: Part, second: Part) -> Option<Source> {
+        let number = u32::try_from(self.list.len()).ok()?;
+        let sum = self.sum_of(first, second);
+        let row = self.made(sum)?;
+        self.keep(Sum { row, first, second });
+        Some(Source::Sum(number))
+    }
+
+    /// A row that was made, if memory did for it.
+    fn made(&mut self, row: Result<Option<Row>, Mem>) -> Option<Row> {
+        match row {
+            Ok(row) => row,
+            Err(Mem) => {
+                self.is_out_of_memory = true;
+                None
+            }
+        }
+    }
+
+    fn keep(&mut self, sum: Sum) {
+        if self.list.push(sum).is_err() {
+            self.is_out_of_memory = true;
+        }
+    }
+
+    /// The sum of multiples of two sources.
+    fn sum_of(&self, first: Part, second: Part) -> Result<Option<Row>, Mem> {
+        match self.row_of(first.of) {
+            Some(row) => self.with_second(first.times, row, second),
+            None => match self.end_row(first.of)? {
+                Some(row) => self.with_second(first.times, &row, second),
+                None => Ok(None),
+            },
+        }
+    }
+
+    /// `times` a row plus a multiple of a source.
+    fn with_second(&self, times: i128, row: &Row, second: Part) -> Result<Option<Row>, Mem> {
+        match self.row_of(second.of) {
+            Some(other) => combined(times, row, second.times, other),
+            None => match self.end_row(second.of)? {
+                Some(other) => combined(times, row, second.times, &other),
+                None => Ok(None),
+            },
+        }
+    }
+
+    /// The row of an end of a range.
+    fn end_row(&self, source: Source) -> Result<Option<Row>, AllocError> {
+        match source {
+            Source::Low(place) => self.low_row(place),
+            Source::High(place) => self.high_row(place),
+            _ => Ok(None),
+        }
+    }
+
+    fn low_row(&self, place: u32) -> Result<Option<Row>, AllocError> {
+        match (
+            self.view.low_constant(place),
+            self.view.variables.get(place as usize),
+        ) {
+            (Some(k), Some(variable)) => Ok(Some(Row::of_term(self.alloc, k, *variable, 1)?)),
+            _ => Ok(None),
+        }
+    }
+
+    fn high_row(&self, place: u32) -> Result<Option<Row>, AllocError> {
+        match (
+            self.view.high_constant(place),
+            self.view.variables.get(place as usize),
+        ) {
+            (Some(k), Some(variable)) => Ok(Some(Row::of_term(self.alloc, k, *variable, -1)?)),
+            _ => Ok(None),
+        }
+    }
+
+    /// The highest variable of the row of a source, if there is one.
+    fn top_of(&self, source: Source) -> Option<Top> {
+        let (variable, coefficient) = top_term(self.row_of(source)?)?;
+        Some(Top {
+            of: source,
+            place: self.view.place_of(variable)?,
+            coefficient,
+        })
+    }
+
+    /// Takes away the variables of a row from the highest down to the place `down_to`, by what bounds them. None where
+    /// nothing bounds one of them, or a number leaves `i128`.
+    pub fn eliminate(&mut self, start: Source, down_to: u32, manner: Manner) -> Option<Source> {
+        let mut at = start;
+        // The highest variable goes away at each turn, and only lower ones come.
+        for _ in 0..=self.view.variables.len() {
+            match self.top_of(at) {
+                Some(top) if top.place >= down_to => at = self.take_away(top, manner)?,
+                _ => return Some(at),
+            }
+        }
+        None
+    }
+
+    /// Takes away all variables of a row. None where no contradiction is left.
+    fn contradiction(&mut self, start: Source, manner: Manner) -> Option<Source> {
+        let end = self.eliminate(start, 0, manner)?;
+        if is_contradiction(self.row_of(end)?) {
+            Some(end)
+        } else {
+            None
+        }
+    }
+
+    /// A contradiction from one row, by what bounds its variables; else all sums are as they were.
+    pub fn closed_by(&mut self, start: Source) -> Option<Source> {
+        let count = self.list.len();
+        let end = self.contradiction(start, Manner::Exact);
+        if end.is_none() {
+            self.list.truncate(count);
+        }
+        end
+    }
+
+    /// A contradiction from a large multiple of one row, with bounds taken as often as they fit; else all sums are as
+    /// they were.
+    pub fn closed_finely(&mut self, start: Source) -> Option<Source> {
+        let count = self.list.len();
+        let end = self.fine_end(start);
+        if end.is_none() {
+            self.list.truncate(count);
+        }
+        end
+    }
+
+    fn fine_end(&mut self, start: Source) -> Option<Source> {
+        let most = Part {
+            times: FINE - 1,
+            of: start,
+        };
+        let large = self.add(most, once(start))?;
+        self.contradiction(large, Manner::Rounded)
+    }
+
+    /// A contradiction from two rows, a variable with these coefficients in them being taken away first; else all sums
+    /// are as they were.
+    pub fn closed_by_both(&mut self, first: Part, second: Part) -> Option<Source> {
+        let count = self.list.len();
+        let end = self.end_of_both(first, second);
+        if end.is_none() {
+            self.list.truncate(count);
+        }
+        end
+    }
+
+    fn end_of_both(&mut self, first: Part, second: Part) -> Option<Source> {
+        let sum = self.cancel(first, second)?;
+        self.contradiction(sum, Manner::Exact)
+    }
+
+    /// Takes away the highest variable of a row.
+    fn take_away(&mut self, top: Top, manner: Manner) -> Option<Source> {
+        // A range of one number is the tightest bound there is, and its rows stay short.
+        if self.view.is_settled(top.place) {
+            return self.by_range(top);
+        }
+        let bound = self.top_of(self.view.bound_of(top)?)?;
+        match manner {
+            Manner::Exact => self.cancel(part_of(top), part_of(bound)),
+            Manner::Rounded => self.rounded(top, bound),
+        }
+    }
+
+    /// Takes a variable away by what bounds it as often as that fits, and what is left of it by its range.
+    fn rounded(&mut self, top: Top, bound: Top) -> Option<Source> {
+        let taken = self.take_often(top, bound)?;
+        match self.top_of(taken) {
+            Some(left) if left.place == top.place => self.by_range(left),
+            _ => Some(taken),
+        }
+    }
+
+    /// Adds two rows so that a variable goes away, of which the parts are as often as it stands in them.
+    fn cancel(&mut self, first: Part, second: Part) -> Option<Source> {
+        if first.times == 0 || second.times == 0 {
+            return None;
+        }
+        let multiples = least_multiples(first.times, second.times)?;
+        let first = Part {
+            times: multiples.first,
+            of: first.of,
+        };
+        let second = Part {
+            times: multiples.second,
+            of: second.of,
+        };
+        self.add(first, second)
+    }
+
+    /// Adds an end of the range so that the highest variable of a row goes away.
+    fn by_range(&mut self, top: Top) -> Option<Source> {
+        let end = Part {
+            times: top.coefficient.checked_abs()?,
+            of: end_of(top.place, top.coefficient),
+        };
+        self.add(once(top.of), end)
+    }
+
+    /// Adds a bound as often as its coefficient fits into that of the row.
+    fn take_often(&mut self, top: Top, bound: Top) -> Option<Source> {
+        let size = top.coefficient.checked_abs()?;
+        let by = bound.coefficient.checked_abs()?;
+        if by == 0 || size < by {
+            return Some(top.of);
+        }
+        let often = Part {
+            times: size / by,
+            of: bound.of,
+        };
+        self.add(once(top.of), often)
+    }
+
+    /// A contradiction from a range without numbers.
+    pub fn empty_range(&mut self) -> Option<Source> {
+        let place = u32::try_from(self.first_empty()?).ok()?;
+        self.add(once(Source::Low(place)), once(Source::High(place)))
+    }
+
+    /// The place of the first variable whose range has no numbers.
+    fn first_empty(&self) -> Option<usize> {
+        for (place, range) in self.view.ranges.iter().enumerate() {
+            if let (Some(least), Some(greatest)) = (range.least, range.greatest) {
+                if greatest < least {
+                    return Some(place);
+                }
+            }
+        }
+        None
     }
 }
 
-/// Whether the row of a source says that a number below 0 is at least 0.
-fn is_closed(view: View<'_>, sums: &[Sum], source: Source) -> bool {
-    match row_of(view, sums, source) {
-        Some(row) => is_contradiction(row),
-        None => false,
+/// A row, once.
+fn once(of: Source) -> Part {
+    Part { times: 1, of }
+}
+
+/// A row, as often as its highest variable stands in it.
+fn part_of(top: Top) -> Part {
+    Part {
+        times: top.coefficient,
+        of: top.of,
     }
 }
 
 /// `times` the row plus `more` times the other, if each number on the way is in `i128`.
-fn combined(alloc: Global, times: i128, row: &Row, more: i128, other: &Row) -> Result<Row, Stop> {
+fn combined(times: i128, row: &Row, more: i128, other: &Row) -> Result<Option<Row>, Mem> {
     if times == 1 {
-        return within(added(row, more, other));
+        return added(row, more, other);
     }
-    let sum = within(multiple(alloc, times, row))?;
-    within(added(&sum, more, other))
-}
-
-/// A row whose numbers are in `i128`.
-fn within(row: Result<Option<Row>, Mem>) -> Result<Row, Stop> {
-    match row {
-        Ok(Some(row)) => Ok(row),
-        Ok(None) => Err(Stop::Missing),
-        Err(Mem) => Err(Stop::Mem),
+    match multiple(row.terms.allocator(), times, row)? {
+        Some(sum) => added(&sum, more, other),
+        None => Ok(None),
     }
-}
-
-/// Keeps a sum, and gives it as a source.
-fn keep(sums: &mut Vec<Sum>, row: Row, first: Part, second: Part) -> Result<Source, Stop> {
-    let Ok(number) = u32::try_from(sums.len()) else {
-        return Err(Stop::Missing);
-    };
-    sums.push(Sum { row, first, second })?;
-    Ok(Source::Sum(number))
-}
-
-/// Adds multiples of two sources, if each number on the way is in `i128`.
-pub fn add(
-    alloc: Global,
-    view: View<'_>,
-    sums: &mut Vec<Sum>,
-    first: Part,
-    second: Part,
-) -> Result<Source, Stop> {
-    let row = sum_of(alloc, view, sums, first, second)?;
-    keep(sums, row, first, second)
-}
-
-/// The sum of multiples of two sources.
-fn sum_of(
-    alloc: Global,
-    view: View<'_>,
-    sums: &[Sum],
-    first: Part,
-    second: Part,
-) -> Result<Row, Stop> {
-    if let Some(row) = row_of(view, sums, first.of) {
-        return with_second(alloc, view, sums, first.times, row, second);
-    }
-    let range = ranged(alloc, view, first.of)?;
-    with_second(alloc, view, sums, first.times, &range, second)
-}
-
-/// `times` a row plus a multiple of a source.
-fn with_second(
-    alloc: Global,
-    view: View<'_>,
-    sums: &[Sum],
-    times: i128,
-    row: &Row,
-    second: Part,
-) -> Result<Row, Stop> {
-    if let Some(other) = row_of(view, sums, second.of) {
-        return combined(alloc, times, row, second.times, other);
-    }
-    let range = ranged(alloc, view, second.of)?;
-    combined(alloc, times, row, second.times, &range)
-}
-
-/// The row of an end of a range.
-fn ranged(alloc: Global, view: View<'_>, source: Source) -> Result<Row, Stop> {
-    match source {
-        Source::Low(place) => low_row(alloc, view, place),
-        Source::High(place) => high_row(alloc, view, place),
-        _ => Err(Stop::Missing),
-    }
-}
-
-fn low_row(alloc: Global, view: View<'_>, place: u32) -> Result<Row, Stop> {
-    match (low_constant(view, place), view.variable_at(place)) {
-        (Some(k), Some(variable)) => Ok(Row::of_term(alloc, k, variable, 1)?),
-        _ => Err(Stop::Missing),
-    }
-}
-
-/// The negative of the least value of the variable at a place.
-fn low_constant(view: View<'_>, place: u32) -> Option<i128> {
-    view.range(place)?.least?.checked_neg()
-}
-
-fn high_row(alloc: Global, view: View<'_>, place: u32) -> Result<Row, Stop> {
-    match (high_constant(view, place), view.variable_at(place)) {
-        (Some(k), Some(variable)) => Ok(Row::of_term(alloc, k, variable, -1)?),
-        _ => Err(Stop::Missing),
-    }
-}
-
-/// The greatest value of the variable at a place.
-fn high_constant(view: View<'_>, place: u32) -> Option<i128> {
-    view.range(place)?.greatest
-}
-
-/// The highest variable of a row, which is taken away.
-#[derive(Clone, Copy)]
-struct Top {
-    /// The row.
-    of: Source,
-    /// The variable's place.
-    place: u32,
-    /// Its coefficient.
-    coefficient: i128,
-}
-
-/// Takes away the variables of a row from the highest down to the place `down_to`, by what bounds them. Something is
-/// missing where nothing bounds one of them, or a number leaves `i128`.
-pub fn eliminate(
-    alloc: Global,
-    view: View<'_>,
-    sums: &mut Vec<Sum>,
-    start: Source,
-    down_to: u32,
-    manner: Manner,
-) -> Result<Source, Stop> {
-    let mut at = start;
-    for _ in 0..=view.variables.len() {
-        let Some((variable, coefficient)) = top_of(view, sums, at) else {
-            return Ok(at);
-        };
-        let Some(place) = view.place_of(variable) else {
-            return Err(Stop::Missing);
-        };
-        if place < down_to {
-            return Ok(at);
-        }
-        let top = Top {
-            of: at,
-            place,
-            coefficient,
-        };
-        at = take_away(alloc, view, sums, top, manner)?;
-    }
-    Err(Stop::Missing)
-}
-
-/// Takes away all variables of a row. Something is missing where no contradiction is left.
-pub fn contradiction(
-    alloc: Global,
-    view: View<'_>,
-    sums: &mut Vec<Sum>,
-    start: Source,
-    manner: Manner,
-) -> Result<Source, Stop> {
-    let end = eliminate(alloc, view, sums, start, 0, manner)?;
-    if is_closed(view, sums, end) {
-        Ok(end)
-    } else {
-        Err(Stop::Missing)
-    }
-}
-
-fn top_of(view: View<'_>, sums: &[Sum], source: Source) -> Option<(u32, i128)> {
-    top_term(row_of(view, sums, source)?)
-}
-
-/// Takes away the highest variable of a row.
-fn take_away(
-    alloc: Global,
-    view: View<'_>,
-    sums: &mut Vec<Sum>,
-    top: Top,
-    manner: Manner,
-) -> Result<Source, Stop> {
-    if is_settled(view, top.place) {
-        return by_range(alloc, view, sums, top);
-    }
-    match bound_of(view, top) {
-        Some(bound) => by_bound(alloc, view, sums, top, bound, manner),
-        None => Err(Stop::Missing),
-    }
-}
-
-/// Whether the range of the variable at a place is one number.
-fn is_settled(view: View<'_>, place: u32) -> bool {
-    match view.range(place) {
-        Some(range) => range.least.is_some() && range.least == range.greatest,
-        None => false,
-    }
-}
-
-/// What bounds a variable on the side that takes it away.
-fn bound_of(view: View<'_>, top: Top) -> Option<Source> {
-    let bounds = view.bounds_of(top.place)?;
-    if top.coefficient > 0 {
-        bounds.high
-    } else {
-        bounds.low
-    }
-}
-
-/// Takes a variable away by what bounds it.
-fn by_bound(
-    alloc: Global,
-    view: View<'_>,
-    sums: &mut Vec<Sum>,
-    top: Top,
-    bound: Source,
-    manner: Manner,
-) -> Result<Source, Stop> {
-    let Some((_, other)) = top_of(view, sums, bound) else {
-        return Err(Stop::Missing);
-    };
-    match manner {
-        Manner::Exact => cancel(alloc, view, sums, top.of, bound, top.coefficient, other),
-        Manner::Rounded => rounded(alloc, view, sums, top, bound, other),
-    }
-}
-
-/// Takes a variable away by what bounds it as often as that fits, and what is left of it by its range.
-fn rounded(
-    alloc: Global,
-    view: View<'_>,
-    sums: &mut Vec<Sum>,
-    top: Top,
-    bound: Source,
-    other: i128,
-) -> Result<Source, Stop> {
-    let taken = take_often(alloc, view, sums, top, bound, other)?;
-    match top_of(view, sums, taken) {
-        Some((variable, coefficient)) if view.place_of(variable) == Some(top.place) => {
-            let left = Top {
-                of: taken,
-                place: top.place,
-                coefficient,
-            };
-            by_range(alloc, view, sums, left)
-        }
-        _ => Ok(taken),
-    }
-}
-
-/// Adds two rows so that a variable, with these coefficients in them, goes away.
-pub fn cancel(
-    alloc: Global,
-    view: View<'_>,
-    sums: &mut Vec<Sum>,
-    first: Source,
-    second: Source,
-    coefficient: i128,
-    other: i128,
-) -> Result<Source, Stop> {
-    let Some(multiples) = multiples_of(coefficient, other) else {
-        return Err(Stop::Missing);
-    };
-    let first = Part {
-        times: multiples.first,
-        of: first,
-    };
-    let second = Part {
-        times: multiples.second,
-        of: second,
-    };
-    add(alloc, view, sums, first, second)
-}
-
-/// The least multiples of two coefficients that cancel each other.
-fn multiples_of(coefficient: i128, other: i128) -> Option<Multiples> {
-    if coefficient == 0 || other == 0 {
-        return None;
-    }
-    least_multiples(coefficient, other)
-}
-
-/// Adds an end of the range so that the highest variable of a row goes away.
-fn by_range(alloc: Global, view: View<'_>, sums: &mut Vec<Sum>, top: Top) -> Result<Source, Stop> {
-    let Some(times) = top.coefficient.checked_abs() else {
-        return Err(Stop::Missing);
-    };
-    let of = if top.coefficient > 0 {
-        Source::High(top.place)
-    } else {
-        Source::Low(top.place)
-    };
-    add(
-        alloc,
-        view,
-        sums,
-        Part {
-            times: 1,
-            of: top.of,
-        },
-        Part { times, of },
-    )
-}
-
-/// Adds a bound as often as its coefficient fits into that of the row.
-fn take_often(
-    alloc: Global,
-    view: View<'_>,
-    sums: &mut Vec<Sum>,
-    top: Top,
-    bound: Source,
-    other: i128,
-) -> Result<Source, Stop> {
-    let (Some(size), Some(by)) = (top.coefficient.checked_abs(), other.checked_abs()) else {
-        return Err(Stop::Missing);
-    };
-    if by == 0 || size < by {
-        return Ok(top.of);
-    }
-    let times = size / by;
-    add(
-        alloc,
-        view,
-        sums,
-        Part {
-            times: 1,
-            of: top.of,
-        },
-        Part { times, of: bound },
-    )
 }

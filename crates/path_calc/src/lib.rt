@@ -4,14 +4,19 @@
 
 mod cones;
 mod digests;
+mod finder;
+mod footing;
 mod pool;
 mod renumbering;
 mod seeker;
 mod trail;
+mod trouble;
 mod values;
 
 pub use digests::Digesting;
-pub use pool::{Known, Pool, Signs};
-pub use seeker::{LIMIT, Opening, Seeker, variable_count};
+pub use finder::{LIMIT, Opening};
+pub use footing::{Footing, variable_count};
+pub use pool::{Known, Pool, Signs, Slice};
+pub use seeker::Seeker;
 pub use trail::{Cone, Found};
 pub use values::{floor_of, value_of};

@@ -22,11 +22,24 @@ pub enum Signs {
     Both,
 }
 
+/// The widths of a path at one size, as far as is known: all from the least to the greatest, and no others.
+#[derive(Clone, Copy)]
+pub struct Slice {
+    /// The size.
+    pub size: u32,
+    /// The least width.
+    pub least: u32,
+    /// The greatest width.
+    pub most: u32,
+}
+
 /// Worlds of a path. The first stands for all.
 #[derive(Drop)]
 pub struct Pool {
     /// The worlds.
     pub worlds: Vec<Known>,
+    /// The path size by size; none where it has too many sizes.
+    pub slices: Vec<Slice>,
 }
 
 impl Known {
@@ -53,8 +66,18 @@ impl Known {
 
     /// Whether a row is at least 0 here, if its value is in `i128`.
     fn sign_of(&self, row: &Row) -> Option<bool> {
+        // A value outside 128 bits tells nothing, and the world is passed over for this row.
         let value = value_of(row, self.values.as_slice())?;
         Some(value >= 0)
+    }
+
+    /// Whether a row is not above another one here, and their values are in `i128`.
+    fn is_below(&self, row: &Row, other: &Row) -> bool {
+        let values = self.values.as_slice();
+        match value_of(row, values).zip(value_of(other, values)) {
+            Some((value, bound)) => value <= bound,
+            None => false,
+        }
     }
 
     /// Adds the value of a floor, which is the next variable. False where it is outside `i128`.
@@ -74,6 +97,7 @@ impl Pool {
     pub fn new(alloc: Global) -> Self {
         Pool {
             worlds: Vec::new(alloc),
+            slices: Vec::new(alloc),
         }
     }
 
@@ -86,6 +110,24 @@ impl Pool {
             }
         }
         signs
+    }
+
+    /// Whether a row is at least 0 at the first world.
+    pub fn is_met_by_first(&self, row: &Row) -> bool {
+        match self.worlds.first() {
+            Some(known) => known.sign_of(row) == Some(true),
+            None => false,
+        }
+    }
+
+    /// Whether a row is nowhere above another one.
+    pub fn is_below(&self, row: &Row, other: &Row) -> bool {
+        for known in &self.worlds {
+            if !known.is_below(row, other) {
+                return false;
+            }
+        }
+        true
     }
 
     /// Names a floor, which is the next variable, at each world. False where one of its values is outside `i128`.
@@ -108,22 +150,34 @@ impl Pool {
     /// Takes out the worlds at which a row is at least 0, and those at which it is below 0.
     pub fn parted(&mut self, alloc: Global, row: &Row) -> Result<(Pool, Pool), Mem> {
         let worlds = std::mem::replace(&mut self.worlds, Vec::new(alloc));
-        let mut first = Vec::new(alloc);
-        let mut second = Vec::new(alloc);
-        for known in worlds {
-            match known.sign_of(row) {
-                Some(true) => first.push(known)?,
-                Some(false) => second.push(known)?,
-                None => {}
-            }
-        }
-        Ok((Pool { worlds: first }, Pool { worlds: second }))
+        let mut first = Pool::new(alloc);
+        let mut second = Pool::new(alloc);
+        part(worlds, row, &mut first, &mut second)?;
+        Ok((first, second))
+    }
+
+    /// Adds a world.
+    pub fn put(&mut self, known: Known) -> Result<(), Mem> {
+        self.worlds.push(known)?;
+        Ok(())
     }
 
     /// The world that stands for all.
     pub fn first_world(&self) -> Option<World> {
         self.worlds.first()?.world()
     }
+}
+
+/// Moves the worlds at which a row is at least 0 to a pool, and those at which it is below 0 to another.
+fn part(worlds: Vec<Known>, row: &Row, first: &mut Pool, second: &mut Pool) -> Result<(), Mem> {
+    for known in worlds {
+        match known.sign_of(row) {
+            Some(true) => first.put(known)?,
+            Some(false) => second.put(known)?,
+            None => {}
+        }
+    }
+    Ok(())
 }
 
 /// What is told by signs and by one more.

@@ -1,14 +1,14 @@
 use crate::cones::plus;
 use crate::trail::{Found, Spot};
 use cert_path::AXIS_COUNT;
-use lin_proof::{Branch, Derivation, Ending, Step};
+use lin_proof::{Answer, Branch, Derivation, Ending, Step};
 use lin_row::{Row, RowFault};
 use std::alloc::Global;
 use viz_base::{Boxed, List, Mem};
 
 /// How the facts and variables of an answer are numbered anew where it stands. Those of the path where it was found
 /// keep their numbers; behind them stand the two facts of each floor of a cone, and then the contrary of the answer.
-#[derive(Clone, Copy)]
+#[derive(Drop)]
 pub struct Numbering<'a> {
     /// The answer.
     pub found: &'a Found,
@@ -26,13 +26,13 @@ pub struct Numbering<'a> {
 
 impl Numbering<'_> {
     /// Where the floor at a place of the cone stands here.
-    fn spot(self, at: usize) -> Option<Spot> {
+    fn spot(&self, at: usize) -> Option<Spot> {
         let rank = *self.found.cone.ranks.get(at)?;
         self.spots.get(rank as usize).copied()
     }
 
     /// The new number of a fact.
-    fn of_fact(self, number: u32) -> u32 {
+    fn of_fact(&self, number: u32) -> u32 {
         let Some(behind) = number.checked_sub(self.found.path) else {
             return number;
         };
@@ -43,7 +43,7 @@ impl Numbering<'_> {
     }
 
     /// The number of the first fact of the floor at a place of the cone.
-    fn first_fact(self, at: u32) -> Option<u32> {
+    fn first_fact(&self, at: u32) -> Option<u32> {
         match self.spot(at as usize)? {
             Spot::Named(place) => self.named.get(place).copied(),
             Spot::New(place) => Some(self.path.saturating_add(place.saturating_mul(2))),
@@ -51,7 +51,7 @@ impl Numbering<'_> {
     }
 
     /// The new number of a variable.
-    fn of_variable(self, variable: u32) -> u32 {
+    fn of_variable(&self, variable: u32) -> u32 {
         let Some(place) = variable.checked_sub(self.found.base) else {
             return variable;
         };
@@ -66,7 +66,7 @@ impl Numbering<'_> {
     }
 
     /// A row over variables that are numbered anew.
-    fn of_row(self, alloc: Global, row: &Row) -> Result<Row, RowFault> {
+    fn of_row(&self, alloc: Global, row: &Row) -> Result<Row, RowFault> {
         let mut sum = Row::constant(alloc, row.k);
         for term in row.terms.as_slice() {
             sum = plus(alloc, &sum, self.of_variable(term.0), term.1)?;
@@ -75,21 +75,34 @@ impl Numbering<'_> {
     }
 }
 
-/// A copy of a derivation over facts that are numbered anew.
-#[cycle(copies)]
-pub fn copied(alloc: Global, d: &Derivation, numbers: Numbering<'_>) -> Result<Derivation, Mem> {
-    let mut steps = List::new(alloc);
-    for step in &d.steps {
-        steps.push(copied_step(alloc, step, numbers)?)?;
-    }
-    Ok(Derivation {
-        steps,
-        last: copied_ending(alloc, &d.last, numbers)?,
+/// The answer on a row.
+pub fn answer_by(alloc: Global, row: &Row, numbers: &Numbering<'_>) -> Result<Answer, Mem> {
+    Ok(Answer {
+        yes: numbers.found.yes,
+        row: row.clone()?,
+        why: copied(alloc, &numbers.found.why, numbers)?,
     })
 }
 
+/// A copy of a derivation over facts that are numbered anew.
 #[cycle(copies)]
-fn copied_ending(alloc: Global, end: &Ending, numbers: Numbering<'_>) -> Result<Ending, Mem> {
+fn copied(alloc: Global, d: &Derivation, numbers: &Numbering<'_>) -> Result<Derivation, Mem> {
+    Ok(Derivation {
+        last: copied_ending(alloc, &d.last, numbers)?,
+        steps: copied_steps(alloc, d.steps.as_slice(), numbers)?,
+    })
+}
+
+fn copied_steps(alloc: Global, steps: &[Step], numbers: &Numbering<'_>) -> Result<List<Step>, Mem> {
+    let mut copies = List::new(alloc);
+    for step in steps {
+        copies.push(copied_step(alloc, step, numbers)?)?;
+    }
+    Ok(copies)
+}
+
+#[cycle(copies)]
+fn copied_ending(alloc: Global, end: &Ending, numbers: &Numbering<'_>) -> Result<Ending, Mem> {
     match end {
         Ending::Closed => Ok(Ending::Closed),
         Ending::Cases(branch) => copied_cases(alloc, branch.get(), numbers),
@@ -97,16 +110,17 @@ fn copied_ending(alloc: Global, end: &Ending, numbers: Numbering<'_>) -> Result<
 }
 
 #[cycle(copies)]
-fn copied_cases(alloc: Global, branch: &Branch, numbers: Numbering<'_>) -> Result<Ending, Mem> {
-    let first = copied(alloc, &branch.first, numbers)?;
-    let second = copied(alloc, &branch.second, numbers)?;
-    let row = copied_row(alloc, &branch.row, numbers)?;
-    let branch = Boxed::new(alloc, Branch { row, first, second })?;
-    Ok(Ending::Cases(branch))
+fn copied_cases(alloc: Global, branch: &Branch, numbers: &Numbering<'_>) -> Result<Ending, Mem> {
+    let branch = Branch {
+        row: copied_row(alloc, &branch.row, numbers)?,
+        first: copied(alloc, &branch.first, numbers)?,
+        second: copied(alloc, &branch.second, numbers)?,
+    };
+    Ok(Ending::Cases(Boxed::new(alloc, branch)?))
 }
 
 /// A row over variables that are numbered anew; the same where a number of that is outside `i128`.
-fn copied_row(alloc: Global, row: &Row, numbers: Numbering<'_>) -> Result<Row, Mem> {
+fn copied_row(alloc: Global, row: &Row, numbers: &Numbering<'_>) -> Result<Row, Mem> {
     match numbers.of_row(alloc, row) {
         Ok(row) => Ok(row),
         Err(RowFault::Coeff) => Ok(row.clone()?),
@@ -114,7 +128,7 @@ fn copied_row(alloc: Global, row: &Row, numbers: Numbering<'_>) -> Result<Row, M
     }
 }
 
-fn copied_step(alloc: Global, step: &Step, numbers: Numbering<'_>) -> Result<Step, Mem> {
+fn copied_step(alloc: Global, step: &Step, numbers: &Numbering<'_>) -> Result<Step, Mem> {
     Ok(match step {
         Step::Fact(number) => Step::Fact(numbers.of_fact(*number)),
         Step::Sum(parts) => Step::Sum(List::from_slice(alloc, parts.as_slice())?),

@@ -1,3 +1,4 @@
+use crate::trouble::Trouble;
 use lin_proof::Derivation;
 use std::alloc::Global;
 use viz_base::Mem;
@@ -68,27 +69,27 @@ impl Ranks {
         Ok(())
     }
 
-    /// The floor that comes next behind the path is used for the first time.
-    pub fn use_new(&mut self) -> Result<(), Mem> {
+    /// The floor that comes next behind the path is used for the first time. False where numbers of 32 bits don't do.
+    pub fn use_new(&mut self) -> Result<bool, Mem> {
         let (Ok(place), Ok(rank)) = (
             u32::try_from(self.new.len()),
             u32::try_from(self.spots.len()),
         ) else {
-            return Err(Mem);
+            return Ok(false);
         };
         self.spots.push(Spot::New(place))?;
         self.new.push(rank)?;
-        Ok(())
+        Ok(true)
     }
 
     /// The floors at these places behind the path.
-    pub fn cone_at(&self, alloc: Global, places: Vec<u32>) -> Result<Cone, Mem> {
+    pub fn cone_at(&self, alloc: Global, places: Vec<u32>) -> Result<Cone, Trouble> {
         let mut ranks = Vec::new(alloc);
         for place in &places {
-            let Some(rank) = self.new.get(*place as usize) else {
-                return Err(Mem);
-            };
-            ranks.push(*rank)?;
+            match self.new.get(*place as usize) {
+                Some(rank) => ranks.push(*rank)?,
+                None => return Err(Trouble::Lost),
+            }
         }
         Ok(Cone { places, ranks })
     }

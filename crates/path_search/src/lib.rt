@@ -6,5 +6,7 @@ mod rectangles;
 mod runs;
 mod sampling;
 mod seeking;
+mod slices;
+mod tiling;
 
 pub use seeking::{Finding, seek};

@@ -3,14 +3,13 @@ ghost use Rattle.std.specs.Prelude.{◌≤◌};
 
 use crate::sampling::Sample;
 use crate::seeking::{
-    GRID, Place, Stop, boxed, count_of, enter, explore, first_pool, halving, leave, part, split_by,
+    GRID, Part, Place, Stop, below, count_of, enter, explore, first_pool, halving, leave, put_split,
 };
+use crate::tiling::grid_count;
 use cert_check::Child;
-use cert_text::CertNode;
 use lin_row::Row;
 use path_calc::Pool;
-use std::alloc::Global;
-use viz_base::{Boxed, Rect};
+use viz_base::Rect;
 
 /// How many leaves a tree is to have at most.
 #[derive(Clone, Copy)]
@@ -24,44 +23,43 @@ pub enum Budget {
 /// From how many worlds on grids are preferred to many leaves.
 const LARGE: u64 = 4096;
 
-/// The budget of a search of a range with these turns. A grid of halves has more than 32 worlds, so with a turn for 16
-/// worlds there are enough for grids alone.
+/// The budget of a search of a range with these turns: with a turn for each grid there are enough for grids alone.
 pub fn budget_of(turns: u64, range: Rect) -> Budget {
     let worlds = count_of(range);
-    if worlds > LARGE && turns >= worlds / 16 {
+    if worlds > LARGE && turns >= grid_count(range) {
         Budget::Ample
     } else {
         Budget::Tight
     }
 }
 
-/// The node of a rectangle, all of whose worlds are on the path: that of a tree of leaves, if there is one with few
-/// enough, else that of the rectangle's halves.
+/// Finds the node of a rectangle, all of whose worlds are on the path: that of a tree of leaves, if there is one with
+/// few enough, else that of the rectangle's halves.
 #[cycle(rectangles)]
-pub fn rectangle(place: &mut Place<'_>, rect: Rect, depth: u32) -> Result<CertNode, Stop>
+pub fn rectangle(place: &mut Place<'_>, part: Part) -> Result<(), Stop>
     ensures falls { place.new.turns ≤ place.old.turns }
 {
-    if count_of(rect) <= GRID {
+    if count_of(part.rect) <= GRID {
         let mut pool = Pool::new(place.alloc);
-        return explore(place, &mut pool, rect, depth);
+        return explore(place, &mut pool, part);
     }
-    match tried(place, rect, depth)? {
-        Some(node) => Ok(node),
-        None => in_halves(place, rect, depth),
+    if is_tree(place, part)? {
+        return Ok(());
     }
+    in_halves(place, part)
 }
 
-/// The node of a rectangle by a tree of leaves. None where the tree has too many, by a sample or in fact.
-fn tried(place: &mut Place<'_>, rect: Rect, depth: u32) -> Result<Option<CertNode>, Stop>
+/// Finds the node of a rectangle by a tree of leaves. False where the tree has too many, by a sample or in fact.
+fn is_tree(place: &mut Place<'_>, part: Part) -> Result<bool, Stop>
     ensures falls { place.new.turns ≤ place.old.turns }
 {
-    if has_many_leaves(place, rect)? {
-        return Ok(None);
+    if place.spare == 0 || has_many_leaves(place, part.rect)? {
+        return Ok(false);
     }
-    let mut pool = first_pool(place, rect)?;
-    match tree(place, &mut pool, rect, depth) {
-        Ok(node) => Ok(Some(node)),
-        Err(Stop::GaveUp) => Ok(None),
+    let mut pool = first_pool(place, part.rect)?;
+    match tree(place, &mut pool, part) {
+        Ok(()) => Ok(true),
+        Err(Stop::GaveUp) => Ok(false),
         Err(stop) => Err(stop),
     }
 }
@@ -82,81 +80,83 @@ fn leaves_for(place: &Place<'_>, rect: Rect) -> u64 {
     leaves.min(most_leaves(place.budget, rect))
 }
 
-/// Grids of halves cover some 45 worlds each, so with more leaves than one for so many worlds they are the shorter
-/// proof by turns. By time and length they are it sooner: a leaf takes as long as the layouts of 128 worlds.
+/// With more leaves than grids, grids are the shorter proof by turns. By time and length they are it sooner: a leaf
+/// takes as long as the layouts of 100 to 200 worlds.
 fn most_leaves(budget: Budget, rect: Rect) -> u64 {
     match budget {
-        Budget::Ample => count_of(rect) / 128,
-        Budget::Tight => count_of(rect) / 45,
+        Budget::Ample => count_of(rect) / 192,
+        Budget::Tight => grid_count(rect),
     }
 }
 
-/// The turns that a tree of a rectangle may take: so many leaves take twice as many, less one.
+/// The paths that a tree of a rectangle may take: so many leaves take twice as many, less one.
 fn most_turns(budget: Budget, rect: Rect) -> u64 {
-    most_leaves(budget, rect).saturating_mul(2).max(1)
+    let paths = most_leaves(budget, rect).saturating_mul(2);
+    paths.saturating_sub(1).max(1)
 }
 
-/// The node of a rectangle by a tree of leaves, within its share of the turns.
-fn tree(place: &mut Place<'_>, pool: &mut Pool, rect: Rect, depth: u32) -> Result<CertNode, Stop>
+/// Finds the node of a rectangle by a tree of leaves, within its share of the turns. What is given up takes none of
+/// them, and so leaves enough for grids.
+fn tree(place: &mut Place<'_>, pool: &mut Pool, part: Part) -> Result<(), Stop>
     ensures falls { place.new.turns ≤ place.old.turns }
 {
-    let facts = place.path.facts.len();
-    let floors = place.path.floors.len();
+    let (facts, floors) = (place.path.facts.len(), place.path.floors.len());
+    let nodes = place.nodes.len();
     let turns = place.turns;
-    let share = turns.min(most_turns(place.budget, rect));
+    let share = turns.min(most_turns(place.budget, part.rect));
     place.turns = share;
-    let node = explore(place, pool, rect, depth);
+    let found = explore(place, pool, part);
     let taken = share.saturating_sub(place.turns);
-    place.turns = turns.saturating_sub(taken);
     leave(place, facts, floors);
     place.found.truncate(0);
-    node
+    if found.is_err() {
+        place.nodes.truncate(nodes);
+        place.spare = place.spare.saturating_sub(taken);
+        place.turns = turns;
+    } else {
+        place.turns = turns.saturating_sub(taken);
+    }
+    found
 }
 
-/// The node of a rectangle by its halves on the longer side, where the turns that are left can be enough for them.
+/// Finds the node of a rectangle by its two parts, where the turns that are left can be enough for them.
 #[cycle(rectangles)]
-fn in_halves(place: &mut Place<'_>, rect: Rect, depth: u32) -> Result<CertNode, Stop>
+fn in_halves(place: &mut Place<'_>, part: Part) -> Result<(), Stop>
     ensures falls { place.new.turns ≤ place.old.turns }
 {
-    let (Some(turns), Some(depth)) = (place.turns.checked_sub(1), depth.checked_sub(1)) else {
+    let Some(turns) = place.turns.checked_sub(1) else {
         return Err(Stop::GaveUp);
     };
-    if turns < most_turns(Budget::Tight, rect) / 4 {
+    if turns < most_turns(Budget::Tight, part.rect) / 4 {
         return Err(Stop::GaveUp);
     }
+    let part = part.lower()?;
     place.turns = turns;
-    let row = halving(place.alloc, rect)?;
-    halved(place, rect, depth, &row)
+    let row = halving(place.alloc, part.rect)?;
+    halved(place, part, &row)
 }
 
-/// The node of a rectangle by the halves into which a row cuts it.
+/// Finds the node of a rectangle by the two parts into which a row cuts it.
 #[cycle(rectangles)]
-fn halved(place: &mut Place<'_>, rect: Rect, depth: u32, row: &Row) -> Result<CertNode, Stop>
+fn halved(place: &mut Place<'_>, part: Part, row: &Row) -> Result<(), Stop>
     ensures falls { place.new.turns ≤ place.old.turns }
 {
-    let first = half(place, Child::First, rect, depth, row)?;
-    let second = half(place, Child::Second, rect, depth, row)?;
-    split_by(place.alloc, row, first, second)
+    half(place, Child::First, part, row)?;
+    half(place, Child::Second, part, row)?;
+    put_split(place.alloc, &mut place.nodes, row)
 }
 
-/// The node of one half of a rectangle.
+/// Finds the node of one part of a rectangle.
 #[cycle(rectangles)]
-fn half(
-    place: &mut Place<'_>,
-    child: Child,
-    rect: Rect,
-    depth: u32,
-    row: &Row,
-) -> Result<Boxed<CertNode>, Stop>
+fn half(place: &mut Place<'_>, child: Child, part: Part, row: &Row) -> Result<(), Stop>
     ensures falls { place.new.turns ≤ place.old.turns }
 {
-    let Some(rect) = part(row, child, rect) else {
+    let Some(part) = below(row, child, part) else {
         return Err(Stop::GaveUp);
     };
-    let facts = place.path.facts.len();
-    let floors = place.path.floors.len();
+    let (facts, floors) = (place.path.facts.len(), place.path.floors.len());
     enter(place, child, row)?;
-    let node = rectangle(place, rect, depth);
+    let found = rectangle(place, part);
     leave(place, facts, floors);
-    boxed(place.alloc, node)
+    found
 }

@@ -1,8 +1,7 @@
 use lay_flow::render;
 use lin_proof::Answer;
-use path_calc::{Found, Opening, Pool, Seeker};
+use path_calc::{Opening, Seeker};
 use std::alloc::Global;
-use sym_calc::Path;
 use vis_truth::truth;
 use viz_base::{Job, List, Mem};
 use viz_calc::{Calc, Halt};
@@ -18,6 +17,8 @@ pub enum Outcome {
     Open(Opening),
     /// A number is outside 128 bits.
     TooLarge,
+    /// Nothing, by a mistake of the search.
+    Lost,
 }
 
 /// Whether a job's formula is true of its page's rendering, over a calc.
@@ -26,34 +27,24 @@ pub fn truth_over<C: Calc>(alloc: Global, job: &Job, calc: &mut C) -> Result<boo
     truth(calc, &job.formula, &rendering, job.height)
 }
 
-/// Lays out the page over all worlds of a path together, with known worlds of it and the answers of the run that led to
-/// it. The first facts of the floors that the path names have these numbers.
-pub fn run(
-    alloc: Global,
-    job: &Job,
-    path: &Path,
-    named: &[u32],
-    pool: &mut Pool,
-    found: &mut Vec<Found>,
-) -> Result<Outcome, Mem> {
-    let mut seeker = Seeker::new(path, pool, found)?;
-    let answer = truth_over(alloc, job, &mut seeker);
-    outcome_of(&mut seeker, answer, named)
+/// What a run comes to that ended with this answer.
+pub fn outcome_of(seeker: &mut Seeker<'_>, answer: Result<bool, Halt>) -> Result<Outcome, Mem> {
+    if answer == Err(Halt::Mem) {
+        return Err(Mem);
+    }
+    // A run goes on behind a row that it leaves open, so that it may have come to an end all the same.
+    match seeker.opened() {
+        Some(opening) => Ok(Outcome::Open(opening)),
+        None => closed_outcome(seeker, answer),
+    }
 }
 
-/// What a run comes to that ended with this answer.
-fn outcome_of(
-    seeker: &mut Seeker<'_>,
-    answer: Result<bool, Halt>,
-    named: &[u32],
-) -> Result<Outcome, Mem> {
+/// What a run comes to that left no row open.
+fn closed_outcome(seeker: &Seeker<'_>, answer: Result<bool, Halt>) -> Result<Outcome, Mem> {
     match answer {
-        Ok(true) => Ok(Outcome::True(seeker.answers(named)?)),
+        Ok(true) => Ok(Outcome::True(seeker.answers()?)),
         Ok(false) => Ok(Outcome::False),
-        Err(Halt::Mem) => Err(Mem),
-        Err(Halt::Coeff | Halt::Open) => Ok(match seeker.opened() {
-            Some(opening) => Outcome::Open(opening),
-            None => Outcome::TooLarge,
-        }),
+        Err(_) if seeker.is_lost() => Ok(Outcome::Lost),
+        Err(_) => Ok(Outcome::TooLarge),
     }
 }

@@ -46,6 +46,7 @@ impl Sample {
             untrue: None,
         };
         let mut number = ADDEND;
+        // A fixed sequence in place of chance: the same job gets the same certificate each time.
         for _ in 0..MOST.min(count_of(rect) / 4) {
             if sample.is_clear(leaves) {
                 break;
@@ -102,6 +103,7 @@ impl Sample {
             return true;
         }
         let estimate = self.estimate();
+        // An estimate of few worlds is rough, so it ends the sample only by a factor.
         let is_far = estimate > leaves.saturating_mul(3) || estimate.saturating_mul(2) <= leaves;
         self.count >= LEAST && is_far
     }
@@ -120,6 +122,7 @@ impl Sample {
     fn estimate(&self) -> u64 {
         let once = self.met(1);
         let twice = self.met(2);
+        // Chao's estimate of unseen kinds: those met once, squared, by twice those met twice.
         let pairs = once.saturating_mul(once) / 2;
         let unseen = if twice > 0 { pairs / twice } else { pairs };
         self.different().saturating_add(unseen)

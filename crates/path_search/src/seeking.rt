@@ -1,14 +1,18 @@
 ghost use Rattle.std.specs.Prelude.{◌≡◌, ◌≤◌};
 
 use crate::rectangles::{Budget, budget_of, rectangle};
-use crate::runs::{Outcome, run};
-use cert_check::{Child, cut_of, holds_at, longer_axis, middle, part_of};
+use crate::runs::{Outcome, outcome_of, truth_over};
+use crate::slices::{ends_met, pools_under, slices_of};
+use crate::tiling::{Cut, cut_of_tiles};
+use cert_check::{Child, cut_of, holds_at, middle, part_of};
 use cert_path::{axis_of, variable_of};
 use cert_text::{Cert, CertNode};
 use lin_proof::Derivation;
 use lin_row::{Row, RowFault};
 use lin_search::{Search, refute};
-use path_calc::{Found, Known, LIMIT, Opening, Pool, floor_of, value_of, variable_count};
+use path_calc::{
+    Footing, Found, Known, LIMIT, Opening, Pool, Seeker, floor_of, value_of, variable_count,
+};
 use std::alloc::{AllocError, AllocFailed, Global};
 use sym_calc::{Floor, Path};
 use viz_base::{Axis, Boxed, Job, Mem, Rect, World};
@@ -25,12 +29,13 @@ pub enum Finding {
 }
 
 /// Why a part of the range has no node.
-#[derive(Drop)]
+#[derive(Clone, Copy)]
 pub enum Stop {
+    /// Want of memory, and nothing else.
     Mem,
     /// The formula is false at this world.
     Untrue(World),
-    /// The search gives up.
+    /// The search gives up: the turns or the depth don't do, or it made a mistake.
     GaveUp,
 }
 
@@ -74,10 +79,14 @@ pub struct Place<'a> {
     named: Vec<u32>,
     /// The answers of the runs that led here.
     pub found: Vec<Found>,
+    /// The nodes that were found and are part of no other one yet.
+    pub nodes: Vec<CertNode>,
     /// How many leaves trees are to have.
     pub budget: Budget,
-    /// The turns that are left.
+    /// How many paths may still be taken for what is kept: a split takes one, and so does a grid or a leaf.
     pub turns: u64,
+    /// How many paths may still be taken by trees that are given up.
+    pub spare: u64,
 }
 
 impl<'a> Place<'a> {
@@ -90,9 +99,34 @@ impl<'a> Place<'a> {
             path,
             named: Vec::new(alloc),
             found: Vec::new(alloc),
+            nodes: Vec::new(alloc),
             budget: budget_of(turns, job.range),
-            turns,
+            // So many grids and leaves have one split less above them.
+            turns: turns.saturating_mul(2).saturating_sub(1),
+            spare: turns.saturating_mul(4),
         })
+    }
+}
+
+/// The worlds of a path that lie in a rectangle, and how many nodes may stand in one another there.
+#[derive(Clone, Copy)]
+pub struct Part {
+    /// The rectangle.
+    pub rect: Rect,
+    /// How many nodes may stand in one another.
+    pub depth: u32,
+}
+
+impl Part {
+    /// The same below one more node.
+    pub fn lower(self) -> Result<Part, Stop> {
+        match self.depth.checked_sub(1) {
+            Some(depth) => Ok(Part {
+                rect: self.rect,
+                depth,
+            }),
+            None => Err(Stop::GaveUp),
+        }
     }
 }
 
@@ -100,6 +134,7 @@ impl<'a> Place<'a> {
 pub const GRID: u64 = 64;
 
 /// How many nodes stand at most in one another.
+// A certificate's text takes 512 levels.
 const DEPTH: u32 = 480;
 
 /// How many of them are kept for halvings.
@@ -111,35 +146,52 @@ pub fn seek(alloc: Global, job: &Job, turns: u64) -> Result<Finding, Mem> {
         return Ok(Finding::Nothing);
     }
     let mut place = Place::new(alloc, job, turns)?;
-    finding_of(job, sought(&mut place))
+    let sought = sought(&mut place);
+    finding_of(job, sought, place.nodes.pop())
 }
 
-/// What a search comes to whose whole range has this node.
-fn finding_of(job: &Job, sought: Result<CertNode, Stop>) -> Result<Finding, Mem> {
-    match sought {
-        Ok(root) => Ok(Finding::Proof(Cert {
+/// What a search comes to whose last node is this.
+fn finding_of(job: &Job, sought: Result<(), Stop>, root: Option<CertNode>) -> Result<Finding, Mem> {
+    match (sought, root) {
+        (Ok(()), Some(root)) => Ok(Finding::Proof(Cert {
             job: job.digest,
             root,
         })),
-        Err(Stop::Untrue(world)) => Ok(Finding::World(world)),
-        Err(Stop::GaveUp) => Ok(Finding::Nothing),
-        Err(Stop::Mem) => Err(Mem),
+        (Err(Stop::Untrue(world)), _) => Ok(Finding::World(world)),
+        (Err(Stop::Mem), _) => Err(Mem),
+        (Ok(()), None) | (Err(Stop::GaveUp), _) => Ok(Finding::Nothing),
     }
 }
 
-/// The node of the whole range, after a look at its corners.
-fn sought(place: &mut Place<'_>) -> Result<CertNode, Stop> {
+/// Finds the node of the whole range, after a look at its corners.
+fn sought(place: &mut Place<'_>) -> Result<(), Stop> {
     let range = place.job.range;
     first_pool(place, range)?;
-    rectangle(place, range, DEPTH)
+    rectangle(
+        place,
+        Part {
+            rect: range,
+            depth: DEPTH,
+        },
+    )
+}
+
+/// Puts a node behind those that were found.
+fn put(nodes: &mut Vec<CertNode>, node: CertNode) -> Result<(), Stop> {
+    match nodes.push(node) {
+        Ok(()) => Ok(()),
+        Err(_) => Err(Stop::Mem),
+    }
 }
 
 /// The corners of a rectangle, the middles of its edges, and its own, each where the formula is true.
 pub fn first_pool(place: &Place<'_>, rect: Rect) -> Result<Pool, Stop> {
+    // An end of the range is where a rule is most likely to break.
     let widths = middle_and_ends(place.alloc, rect.wl, rect.wh)?;
     let sizes = middle_and_ends(place.alloc, rect.sl, rect.sh)?;
     let mut pool = Pool::new(place.alloc);
     meet_all(place, &mut pool, widths.as_slice(), sizes.as_slice())?;
+    pool.slices = slices_of(place.alloc, rect)?;
     Ok(pool)
 }
 
@@ -192,28 +244,27 @@ pub fn count_of(rect: Rect) -> u64 {
     widths.saturating_mul(sizes)
 }
 
-/// The node of a path, of which worlds are known, within a rectangle.
+/// Finds the node of a path, of which worlds are known, within a rectangle.
 #[cycle(nodes)]
-pub fn explore(
-    place: &mut Place<'_>,
-    pool: &mut Pool,
-    rect: Rect,
-    depth: u32,
-) -> Result<CertNode, Stop>
+pub fn explore(place: &mut Place<'_>, pool: &mut Pool, part: Part) -> Result<(), Stop>
     ensures falls { place.new.turns ≤ place.old.turns }
 {
     let Some(turns) = place.turns.checked_sub(1) else {
         return Err(Stop::GaveUp);
     };
     place.turns = turns;
-    if count_of(rect) <= GRID {
-        return grid(place, rect);
+    // Whether the formula is true at each world of a grid is what the checker sees.
+    // So few worlds are sooner gone through than laid out together.
+    if count_of(part.rect) <= GRID {
+        return put(&mut place.nodes, CertNode::Grid);
     }
     match laid_out(place, pool)? {
-        Outcome::True(answers) => Ok(CertNode::Leaf(answers)),
+        Outcome::True(answers) => put(&mut place.nodes, CertNode::Leaf(answers)),
         Outcome::False => Err(untrue(pool)),
-        Outcome::TooLarge => halve(place, pool, rect, depth),
-        Outcome::Open(opening) => open(place, pool, rect, depth, opening),
+        // Nothing is known of the part then; its halves are tried by themselves.
+        Outcome::TooLarge => halve(place, pool, part),
+        Outcome::Lost => Err(Stop::GaveUp),
+        Outcome::Open(opening) => open(place, pool, part, opening),
     }
 }
 
@@ -221,17 +272,15 @@ pub fn explore(
 fn laid_out(place: &mut Place<'_>, pool: &mut Pool) -> Result<Outcome, Mem>
     ensures { place.new.turns ≡ place.old.turns }
 {
-    let variables = variable_count(&place.path)?;
-    let named = place.named.as_slice();
-    let outcome = run(
-        place.alloc,
-        place.job,
-        &place.path,
-        named,
-        pool,
-        &mut place.found,
-    );
-    pool.forget(variables as usize);
+    let Some(footing) = Footing::on(&place.path, place.named.as_slice()) else {
+        return Ok(Outcome::Lost);
+    };
+    let variables = footing.variables as usize;
+    let mut seeker = Seeker::new(footing, pool, &mut place.found)?;
+    let answer = truth_over(place.alloc, place.job, &mut seeker);
+    let outcome = outcome_of(&mut seeker, answer);
+    drop(seeker);
+    pool.forget(variables);
     outcome
 }
 
@@ -243,28 +292,8 @@ fn untrue(pool: &Pool) -> Stop {
     }
 }
 
-/// Goes through the worlds of a rectangle that are on the path.
-fn grid(place: &Place<'_>, rect: Rect) -> Result<CertNode, Stop> {
-    for w in rect.wl..rect.wh.saturating_add(1) {
-        for s in rect.sl..rect.sh.saturating_add(1) {
-            let world = World { w, s };
-            if is_on_path(place, world)? {
-                try_world(place, world)?;
-            }
-        }
-    }
-    Ok(CertNode::Grid)
-}
-
-/// Whether a world is on the path.
-fn is_on_path(place: &Place<'_>, world: World) -> Result<bool, Stop> {
-    let mut known = Known::new(place.alloc, world)?;
-    add_floors(&place.path, &mut known)?;
-    meets_facts(&place.path, known.values.as_slice())
-}
-
 /// Adds the values of the floors of a path at a world.
-fn add_floors(path: &Path, known: &mut Known) -> Result<(), Stop> {
+pub fn add_floors(path: &Path, known: &mut Known) -> Result<(), Stop> {
     for number in 0..path.floors.len() {
         if let Some(floor) = path.floors.get(number) {
             match floor_of(&floor.row, floor.by, known.values.as_slice()) {
@@ -277,7 +306,7 @@ fn add_floors(path: &Path, known: &mut Known) -> Result<(), Stop> {
 }
 
 /// Whether the facts of a path hold at values of its variables.
-fn meets_facts(path: &Path, values: &[i128]) -> Result<bool, Stop> {
+pub fn meets_facts(path: &Path, values: &[i128]) -> Result<bool, Stop> {
     for fact in &path.facts {
         match value_of(fact, values) {
             Some(value) if value < 0 => return Ok(false),
@@ -288,25 +317,20 @@ fn meets_facts(path: &Path, values: &[i128]) -> Result<bool, Stop> {
     Ok(true)
 }
 
-/// The node of a path on which a row is left open.
+/// Finds the node of a path on which a row is left open.
 #[cycle(nodes)]
-fn open(
-    place: &mut Place<'_>,
-    pool: &mut Pool,
-    rect: Rect,
-    depth: u32,
-    opening: Opening,
-) -> Result<CertNode, Stop>
+fn open(place: &mut Place<'_>, pool: &mut Pool, part: Part, opening: Opening) -> Result<(), Stop>
     ensures falls { place.new.turns ≤ place.old.turns }
 {
     let Opening { floors, row, point } = opening;
     if let Some(known) = point {
         meet(place, pool, known)?;
     }
-    if has_room(depth, floors.as_slice()) {
-        define(place, pool, rect, depth, floors, &row)
+    // Floors of the row become defs above the split; where too many stand above, a plain half needs none.
+    if has_room(part.depth, floors.as_slice()) {
+        define(place, pool, part, floors, &row)
     } else {
-        halve(place, pool, rect, depth)
+        halve(place, pool, part)
     }
 }
 
@@ -318,6 +342,7 @@ fn has_room(depth: u32, floors: &[Floor]) -> bool {
 /// The same row where it is no row of the width or the size alone; else one with the coefficient 1 or -1 and the same
 /// signs.
 fn cut_once(alloc: Global, row: &Row) -> Result<Row, Stop> {
+    // A row of one axis cuts the rectangle only with the coefficient 1 or -1, and its grids are smaller then.
     let unit = match row.terms.as_slice() {
         [term] => match axis_of(term.0) {
             Some(axis) => unit_row(alloc, row.k, axis, term.1)?,
@@ -353,75 +378,74 @@ fn unit_row(
     Ok(Some(row))
 }
 
-/// The node of a path within a rectangle by its halves on the longer side.
+/// Finds the node of a path within a rectangle by the two parts into which this is cut.
 #[cycle(nodes)]
-fn halve(place: &mut Place<'_>, pool: &mut Pool, rect: Rect, depth: u32) -> Result<CertNode, Stop>
+fn halve(place: &mut Place<'_>, pool: &mut Pool, part: Part) -> Result<(), Stop>
     ensures falls { place.new.turns ≤ place.old.turns }
 {
-    let row = halving(place.alloc, rect)?;
-    split(place, pool, rect, depth, &row)
+    let row = halving(place.alloc, part.rect)?;
+    split(place, pool, part, &row)
 }
 
-/// That a world is in the first half of a rectangle on the longer side.
+/// That a world is in the first of the two parts into which a rectangle is cut.
 pub fn halving(alloc: Global, rect: Rect) -> Result<Row, AllocError> {
-    let axis = longer_axis(rect);
-    let side = rect.side(axis);
-    Row::of_term(
-        alloc,
-        i128::from(middle(side.least, side.most)),
-        variable_of(axis),
-        -1,
-    )
+    let Cut { axis, last } = cut_of_tiles(rect);
+    Row::of_term(alloc, i128::from(last), variable_of(axis), -1)
 }
 
-/// The node of a path that is split by a row after floors are named.
+/// Finds the node of a path that is split by a row after floors are named.
 #[cycle(nodes)]
 fn define(
     place: &mut Place<'_>,
     pool: &mut Pool,
-    rect: Rect,
-    depth: u32,
+    part: Part,
     floors: Vec<Floor>,
     row: &Row,
-) -> Result<CertNode, Stop>
+) -> Result<(), Stop>
     ensures falls { place.new.turns ≤ place.old.turns }
 {
-    let node = below_floors(place, pool, rect, depth, floors.as_slice(), row)?;
-    Ok(defined(place.alloc, floors, node)?)
+    below_floors(place, pool, part, floors.as_slice(), row)?;
+    put_defined(place.alloc, &mut place.nodes, floors)
 }
 
-/// The node below the definitions of floors, which is split by a row.
+/// Finds the node below the definitions of floors, which is split by a row.
 #[cycle(nodes)]
 fn below_floors(
     place: &mut Place<'_>,
     pool: &mut Pool,
-    rect: Rect,
-    depth: u32,
+    part: Part,
     floors: &[Floor],
     row: &Row,
-) -> Result<CertNode, Stop>
+) -> Result<(), Stop>
     ensures falls { place.new.turns ≤ place.old.turns }
 {
     let facts = place.path.facts.len();
     let named = place.path.floors.len();
-    let mut below = depth;
+    let mut below = part;
     for floor in floors {
         name(place, pool, floor)?;
-        below = below.saturating_sub(1);
+        below.depth = below.depth.saturating_sub(1);
     }
     let row = cut_once(place.alloc, row)?;
-    let node = split(place, pool, rect, below, &row);
+    let found = split(place, pool, below, &row);
     leave(place, facts, named);
-    node
+    found
 }
 
-/// A node below the definitions of floors.
-fn defined(alloc: Global, floors: Vec<Floor>, node: CertNode) -> Result<CertNode, Mem> {
-    let mut whole = node;
+/// Puts the last node below the definitions of floors.
+fn put_defined(alloc: Global, nodes: &mut Vec<CertNode>, floors: Vec<Floor>) -> Result<(), Stop> {
     for floor in floors.into_iter().rev() {
-        whole = below_def(alloc, floor, whole)?;
+        put_below(alloc, nodes, floor)?;
     }
-    Ok(whole)
+    Ok(())
+}
+
+/// Puts the last node below the definition of a floor.
+fn put_below(alloc: Global, nodes: &mut Vec<CertNode>, floor: Floor) -> Result<(), Stop> {
+    match nodes.pop() {
+        Some(node) => put(nodes, below_def(alloc, floor, node)?),
+        None => Err(Stop::GaveUp),
+    }
 }
 
 fn below_def(alloc: Global, floor: Floor, node: CertNode) -> Result<CertNode, Mem> {
@@ -444,7 +468,9 @@ fn name(place: &mut Place<'_>, pool: &mut Pool, floor: &Floor) -> Result<(), Sto
     let Ok(fact) = u32::try_from(place.path.facts.len()) else {
         return Err(Stop::GaveUp);
     };
-    let variable = variable_count(&place.path)?;
+    let Some(variable) = variable_count(&place.path) else {
+        return Err(Stop::GaveUp);
+    };
     place.named.push(fact)?;
     let row = floor.row.clone()?;
     place.path.define(Floor { row, by: floor.by }, variable)?;
@@ -459,46 +485,39 @@ pub fn leave(place: &mut Place<'_>, facts: usize, floors: usize)
     place.named.truncate(floors);
 }
 
-/// The node of a path that is split by a row.
+/// Finds the node of a path that is split by a row.
 #[cycle(nodes)]
-fn split(
-    place: &mut Place<'_>,
-    pool: &mut Pool,
-    rect: Rect,
-    depth: u32,
-    row: &Row,
-) -> Result<CertNode, Stop>
+fn split(place: &mut Place<'_>, pool: &mut Pool, part: Part, row: &Row) -> Result<(), Stop>
     ensures falls { place.new.turns ≤ place.old.turns }
 {
-    let Some(depth) = depth.checked_sub(1) else {
-        return Err(Stop::GaveUp);
-    };
-    let (mut first, mut second) = pool.parted(place.alloc, row)?;
-    let first = branch(place, &mut first, Child::First, rect, depth, row)?;
-    let second = branch(place, &mut second, Child::Second, rect, depth, row)?;
-    split_by(place.alloc, row, first, second)
+    let part = part.lower()?;
+    let (mut first, mut second) = pools_under(place, pool, row)?;
+    branch(place, &mut first, Child::First, part, row)?;
+    branch(place, &mut second, Child::Second, part, row)?;
+    put_split(place.alloc, &mut place.nodes, row)
 }
 
-/// The node of one side of a split, with the path as it was before.
+/// Finds the node of one side of a split, with the path as it was before.
 #[cycle(nodes)]
 fn branch(
     place: &mut Place<'_>,
     pool: &mut Pool,
     child: Child,
-    rect: Rect,
-    depth: u32,
+    part: Part,
     row: &Row,
-) -> Result<Boxed<CertNode>, Stop>
+) -> Result<(), Stop>
     ensures falls { place.new.turns ≤ place.old.turns }
 {
     let facts = place.path.facts.len();
     let named = place.path.floors.len();
     let known = place.found.len();
     enter(place, child, row)?;
-    let node = side(place, pool, part(row, child, rect), depth);
+    ends_met(place, pool)?;
+    let found = side(place, pool, below(row, child, part));
     leave(place, facts, named);
+    // Answers found on one side rest on its row; those from above the split hold on both.
     place.found.truncate(known);
-    boxed(place.alloc, node)
+    found
 }
 
 /// Goes to a child of a split.
@@ -512,55 +531,63 @@ pub fn enter(place: &mut Place<'_>, child: Child, row: &Row) -> Result<(), Stop>
     Ok(())
 }
 
-/// A node that was found, in a box.
-pub fn boxed(alloc: Global, node: Result<CertNode, Stop>) -> Result<Boxed<CertNode>, Stop> {
-    Ok(Boxed::new(alloc, node?)?)
-}
-
-/// The split by a row whose sides have these nodes.
-pub fn split_by(
-    alloc: Global,
-    row: &Row,
-    first: Boxed<CertNode>,
-    second: Boxed<CertNode>,
-) -> Result<CertNode, Stop> {
-    let row = Boxed::new(alloc, row.clone()?)?;
-    Ok(CertNode::Split(row, first, second))
-}
-
-/// The worlds of a rectangle that lie under a child of a split; only a unit split cuts it.
-pub fn part(row: &Row, child: Child, rect: Rect) -> Option<Rect> {
-    match cut_of(row) {
-        Some(cut) => part_of(cut, child, rect),
-        None => Some(rect),
-    }
-}
-
-/// The node of one side of a split.
-#[cycle(nodes)]
-fn side(
-    place: &mut Place<'_>,
-    pool: &mut Pool,
-    rect: Option<Rect>,
-    depth: u32,
-) -> Result<CertNode, Stop>
-    ensures falls { place.new.turns ≤ place.old.turns }
-{
-    if let Some(why) = emptiness(place, pool)? {
-        return Ok(CertNode::Void(Boxed::new(place.alloc, why)?));
-    }
-    match rect {
-        Some(rect) => explore(place, pool, rect, depth),
+/// Makes one node, a split by a row, of the two that were found last.
+pub fn put_split(alloc: Global, nodes: &mut Vec<CertNode>, row: &Row) -> Result<(), Stop> {
+    let second = nodes.pop();
+    match nodes.pop().zip(second) {
+        Some((first, second)) => put(nodes, split_by(alloc, row, first, second)?),
         None => Err(Stop::GaveUp),
     }
 }
 
+/// The split by a row whose sides have these nodes.
+fn split_by(alloc: Global, row: &Row, first: CertNode, second: CertNode) -> Result<CertNode, Mem> {
+    let first = Boxed::new(alloc, first)?;
+    let second = Boxed::new(alloc, second)?;
+    let row = Boxed::new(alloc, row.clone()?)?;
+    Ok(CertNode::Split(row, first, second))
+}
+
+/// The worlds of a part that lie under a child of a split; only a unit split cuts it.
+pub fn below(row: &Row, child: Child, part: Part) -> Option<Part> {
+    let rect = match cut_of(row) {
+        Some(cut) => part_of(cut, child, part.rect)?,
+        None => part.rect,
+    };
+    Some(Part {
+        rect,
+        depth: part.depth,
+    })
+}
+
+/// Finds the node of one side of a split.
+#[cycle(nodes)]
+fn side(place: &mut Place<'_>, pool: &mut Pool, part: Option<Part>) -> Result<(), Stop>
+    ensures falls { place.new.turns ≤ place.old.turns }
+{
+    if let Some(why) = emptiness(place, pool)? {
+        return put_void(place.alloc, &mut place.nodes, why);
+    }
+    match part {
+        Some(part) => explore(place, pool, part),
+        None => Err(Stop::GaveUp),
+    }
+}
+
+/// Puts a node of a path without worlds.
+fn put_void(alloc: Global, nodes: &mut Vec<CertNode>, why: Derivation) -> Result<(), Stop> {
+    put(nodes, CertNode::Void(Boxed::new(alloc, why)?))
+}
+
 /// Why a path has no worlds. None where one is known, or is found, and known from then on.
 fn emptiness(place: &Place<'_>, pool: &mut Pool) -> Result<Option<Derivation>, Stop> {
+    // A known world shows that the part is not empty, and saves the search.
     if !pool.worlds.is_empty() {
         return Ok(None);
     }
-    let variables = variable_count(&place.path)?;
+    let Some(variables) = variable_count(&place.path) else {
+        return Err(Stop::GaveUp);
+    };
     match refute(place.alloc, place.path.facts.as_slice(), variables, LIMIT)? {
         Search::Found(why) => Ok(Some(why)),
         Search::Point(values) => {

@@ -1,0 +1,43 @@
+ghost use Rattle.std.specs.Prelude.{◌≡◌, ◌+◌, IfSome, length};
+ghost use Rattle.cert_path.specs.Axes.{axis_count};
+
+use cert_path::AXIS_COUNT;
+use std::alloc::Global;
+use sym_calc::Path;
+
+/// The path on which a run stands, and how its facts and variables are numbered.
+#[derive(Clone, Copy)]
+pub struct Footing<'a> {
+    /// The path.
+    pub path: &'a Path,
+    /// The number of the first of the two facts of each floor that the path names.
+    pub named: &'a [u32],
+    /// How many facts the path has.
+    pub facts: u32,
+    /// How many variables the path has.
+    pub variables: u32,
+}
+
+impl<'a> Footing<'a> {
+    /// The footing of a path. None where numbers of 32 bits don't do for its facts and variables.
+    pub fn on(path: &'a Path, named: &'a [u32]) -> Option<Footing<'a>> {
+        Some(Footing {
+            path,
+            named,
+            facts: u32::try_from(path.facts.len()).ok()?,
+            variables: variable_count(path)?,
+        })
+    }
+
+    /// Where runs take memory.
+    pub fn alloc(self) -> Global {
+        self.path.facts.allocator()
+    }
+}
+
+/// How many variables a path has. None where numbers of 32 bits don't do for them.
+pub fn variable_count(path: &Path) -> Option<u32>
+    ensures { IfSome result (λ count. count ≡ length path.now.floors + axis_count) }
+{
+    u32::try_from(path.floors.len().saturating_add(AXIS_COUNT as usize)).ok()
+}
