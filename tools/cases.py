@@ -4,13 +4,15 @@
     tools/cases.py FOLDER
 
 FOLDER has files of JSON Lines, each named after a call: decimals, tokens, sheets, declarations, selectors, matches, values, cascade,
-formulas and truths; in jobs/ and certs/ jobs and certificates with what the program replies; refusals.jsonl, jobs that are refused; and
-grammar.jsonl, texts with the place up to which some certificate's text begins so, or null where they are a certificate's.
-Long cases come behind these, the cases of layout that tools/layout_cases.py reads, those of tools/limit_cases.py and the documents of
-tools/worked_pages.py. What is called goes to a crate's stdin and what it must give to its stdout, a line of JSON each: what is replied to
-whole jobs (lay, check, prove, gen and trial) to crates/job_cases, what is of layout, rows and derivations to crates/layout_cases, all else to
-crates/cases. A page goes as a job that has it; a formula as steps, each part before what it is a part of.
+formulas and truths; in jobs/ and certs/ jobs and certificates with what the program replies; refusals.jsonl, jobs that are refused;
+grammar.jsonl, texts with the place up to which some certificate's text begins so, or null where they are a certificate's; and runs15.jsonl,
+whole runs over files and an output in memory, of which chosen loads and writes fail: texts by name, then runs, whose files are so many bytes
+of these texts. Long cases come behind these, the cases of layout that tools/layout_cases.py reads, those of tools/limit_cases.py and the
+documents of tools/worked_pages.py. What is called goes to a crate's stdin and what it must give to its stdout, a line of JSON each: what is
+replied to whole jobs (lay, check, prove, gen and trial) and whole runs (run) to crates/job_cases, what is of layout, rows and derivations to
+crates/layout_cases, all else to crates/cases. A page goes as a job that has it; a formula as steps, each part before what it is a part of.
 """
+import hashlib
 import json
 import pathlib
 import re
@@ -298,6 +300,35 @@ def grammar(folder):
         yield ["check", job, case["text"]], ["CertRefused", "rejected " + ("other-job" if case["at"] is None else f"grammar {case['at']}") + "\n"]
 
 
+# ---- whole runs
+
+def run(words, files, status, written, fails=(), sink=None):
+    """A run over these files, by name, whose loads of these numbers fail. A sink tells how much a write takes at most, how much all do, and
+    which writes fail; each number is null for more than any output has."""
+    most, room, writes = sink or (None, None, ())
+    called = ["run", words, [*files.items()], fails, [2 ** 32 - 1 if most is None else most, 2 ** 20 if room is None else room, writes]]
+    return called, [status, written]
+
+
+def runs(folder):
+    """Runs over files and outputs that are whole, that are cut at each byte, or of which chosen loads and writes fail."""
+    texts = {}
+    for line in filter(None, (folder / "runs15.jsonl").read_text(encoding="utf-8").split("\n")):
+        case = json.loads(line)
+        if "base" in case:
+            texts[case["base"]] = case["text"].encode()
+        else:
+            files = {name: texts[base][:size].decode() for name, (base, size) in case["files"].items()}
+            yield run(case["words"], files, case["status"], case["written"], case["fails"], case["sink"])
+
+
+def stopped_search():
+    """What is found by a search of a page of 40 elements, of which the output takes 64 bytes and then fails."""
+    job = (TOP / "examples/blog.json").read_bytes()
+    certificate = f"vizlog-cert 1\njob {hashlib.sha256(job).hexdigest()}\n"
+    yield run(["prove", "J", "41625"], {"J": job.decode()}, 4, certificate[:64], sink=(64, None, [1]))
+
+
 # ---- long cases, whose answers can be told without a reader
 
 def long_cases():
@@ -327,7 +358,7 @@ def long_cases():
 CALLS = [decimals, tokens, sheets, declarations, selectors, matches, values, cascade, formulas, truths]
 # the tables but that of `cases`: what is replied to a whole job, and what is of layout, rows and derivations
 TABLES = {
-    "job_cases": ("lay", "check", "prove", "gen", "trial"),
+    "job_cases": ("lay", "check", "prove", "gen", "trial", "run"),
     "layout_cases": (
         "boxes", "used", "fonts", "words", "widths", "preferred", "lines", "lead", "float_at", "floats", "band", "bottom", "collapsed",
         "add_scaled", "negate", "divides", "cut", "derivation", "leaf",
@@ -350,6 +381,8 @@ def all_cases(folder):
     for module in (layout_cases, limit_cases):
         yield from module.cases(folder)
     yield from worked_pages.cases()
+    yield from runs(folder)
+    yield from stopped_search()
 
 
 def write(name, cases):

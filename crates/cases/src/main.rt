@@ -10,9 +10,8 @@ mod tokens;
 mod truths;
 mod values;
 
-use case_scribe::{Fault, Scribe};
+use case_scribe::{Fault, Scribe, Table, answered};
 use serde_json::Value;
-use std::alloc::Global;
 use viz_base::read_decimal;
 
 /// The millionths of a number (CSS 2.1, 4.3.1), or null.
@@ -32,33 +31,28 @@ fn answer_formula(scribe: &mut Scribe, name: &str, case: &Value) {
     }
 }
 
-/// The answer to a case of a number, of a style sheet or of what stands in one, or of a formula.
-fn answer_any(scribe: &mut Scribe, name: &str, case: &Value) {
-    match name {
-        "decimals" => decimal(scribe, case),
-        "tokens" => tokens::answer(scribe, case),
-        "sheets" => sheets::sheet(scribe, case),
-        "declarations" => sheets::declarations(scribe, case),
-        "selectors" => selectors::group(scribe, case),
-        "matches" => selectors::matched(scribe, case),
-        "values" => values::answer(scribe, case),
-        "cascade" => cascades::answer(scribe, case),
-        _ => answer_formula(scribe, name, case),
-    }
-}
+/// The cases of texts: numbers, style sheets and what stands in them, formulas.
+struct Texts;
 
-/// The answer to a case: an array of the call's name and what it is called with.
-fn answer(alloc: Global, line: &str) -> Result<String, Fault> {
-    let case = Value::from_str(alloc, line)?;
-    let mut scribe = Scribe::new(alloc);
-    let name = scribe.text_at(&case, 0);
-    answer_any(&mut scribe, name, &case);
-    scribe.finished()
+impl Table for Texts {
+    fn answer(scribe: &mut Scribe, name: &str, case: &Value) {
+        match name {
+            "decimals" => decimal(scribe, case),
+            "tokens" => tokens::answer(scribe, case),
+            "sheets" => sheets::sheet(scribe, case),
+            "declarations" => sheets::declarations(scribe, case),
+            "selectors" => selectors::group(scribe, case),
+            "matches" => selectors::matched(scribe, case),
+            "values" => values::answer(scribe, case),
+            "cascade" => cascades::answer(scribe, case),
+            _ => answer_formula(scribe, name, case),
+        }
+    }
 }
 
 fn main(rt: HostRuntime) -> Result<(), Fault> {
     for line in rt.lines(rt.alloc()) {
-        let text = answer(rt.alloc(), line?.as_str())?;
+        let text = answered::<Texts>(rt.alloc(), line)?;
         println!(rt; "{text}")?;
     }
     Ok(())

@@ -4,6 +4,7 @@
 
 mod members;
 mod replies;
+mod runs;
 
 use case_scribe::Fault;
 use serde_json::Value;
@@ -12,7 +13,10 @@ use std::alloc::Global;
 /// The answer to a case: an array of the call's name and what it is called with.
 fn answer(alloc: Global, line: &str) -> Result<String, Fault> {
     let case = Value::from_str(alloc, line)?;
-    replies::answer(alloc, &case)
+    match members::text_at(&case, 0)? {
+        "run" => runs::answer(alloc, &case),
+        _ => replies::answer(alloc, &case),
+    }
 }
 
 fn main(rt: HostRuntime) -> Result<(), Fault> {

@@ -15,9 +15,8 @@ mod styles;
 mod trees;
 mod widths;
 
-use case_scribe::{Fault, Scribe};
+use case_scribe::{Fault, Scribe, Table, answered};
 use serde_json::Value;
-use std::alloc::Global;
 
 /// The answer to a case of rows, of derivations or of a leaf, or of a box tree.
 fn answer_row(scribe: &mut Scribe, name: &str, case: &Value) {
@@ -32,31 +31,26 @@ fn answer_row(scribe: &mut Scribe, name: &str, case: &Value) {
     }
 }
 
-/// The answer to a case of floats, margins or boxes, or of one of those.
-fn answer_any(scribe: &mut Scribe, name: &str, case: &Value) {
-    match name {
-        "float_at" => floats::place(scribe, case),
-        "floats" => floats::place_all(scribe, case),
-        "band" => floats::band(scribe, case),
-        "bottom" => floats::bottom(scribe, case),
-        "collapsed" => margins::collapsed(scribe, case),
-        "boxes" => boxes::answer(scribe, case),
-        _ => answer_row(scribe, name, case),
-    }
-}
+/// The cases of layout, rows and derivations.
+struct Layouts;
 
-/// The answer to a case: an array of the call's name and what it is called with.
-fn answer(alloc: Global, line: &str) -> Result<String, Fault> {
-    let case = Value::from_str(alloc, line)?;
-    let mut scribe = Scribe::new(alloc);
-    let name = scribe.text_at(&case, 0);
-    answer_any(&mut scribe, name, &case);
-    scribe.finished()
+impl Table for Layouts {
+    fn answer(scribe: &mut Scribe, name: &str, case: &Value) {
+        match name {
+            "float_at" => floats::place(scribe, case),
+            "floats" => floats::place_all(scribe, case),
+            "band" => floats::band(scribe, case),
+            "bottom" => floats::bottom(scribe, case),
+            "collapsed" => margins::collapsed(scribe, case),
+            "boxes" => boxes::answer(scribe, case),
+            _ => answer_row(scribe, name, case),
+        }
+    }
 }
 
 fn main(rt: HostRuntime) -> Result<(), Fault> {
     for line in rt.lines(rt.alloc()) {
-        let text = answer(rt.alloc(), line?.as_str())?;
+        let text = answered::<Layouts>(rt.alloc(), line)?;
         println!(rt; "{text}")?;
     }
     Ok(())

@@ -8,7 +8,7 @@ use thiserror::Error;
 use viz_base::Text8;
 
 /// What a load gives of a file.
-#[derive(Drop, PartialEq, Eq)]
+#[derive(Drop)]
 pub enum Loaded {
     /// All its bytes, which are at most as many as were asked for.
     Whole(Text8),
@@ -17,7 +17,7 @@ pub enum Loaded {
 }
 
 /// Why a load gives nothing.
-#[derive(Clone, Copy, Debug, PartialEq, Eq, Error)]
+#[derive(Clone, Copy, Debug, Error)]
 pub enum ShelfFault {
     /// Want of memory.
     #[error("out of memory")]

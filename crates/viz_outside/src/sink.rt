@@ -5,7 +5,7 @@ ghost use Rattle.viz_outside.specs.Sink.{grown, GrewByPart};
 use thiserror::Error;
 
 /// A sink took nothing, and has counted it.
-#[derive(Clone, Copy, Debug, PartialEq, Eq, Error)]
+#[derive(Clone, Copy, Debug, Error)]
 #[error("the output can't be written")]
 pub struct SinkFailed;
 
