@@ -5,6 +5,8 @@
 - 2,097,151 splits, 21 levels of them, each side of a split being cut again: below 320 bytes of memory for a split,
   its row (176) and the grid or split below it counted;
 - 64 MiB of one leaf, its answers being more than the page asks for;
+- 63 MiB of lines `fact 0` in a void: what a byte of the text, a step and the row that it gives take of the peak memory, each by itself, and
+  how often as much as the line they take, at most 36 times together;
 - splits at depth 0 to 511: how many KiB of stack they take, at most 1,024 of the 8,192 KiB that a process has where nothing
   else is said.
 
@@ -130,6 +132,26 @@ def answers(bench):
     assert base <= memory * 1.1 + 1
 
 
+def prices(bench):
+    """The same lines, refused at the first byte, behind the digest of another job, and in a void whose last line is wrong. The certificate is
+    written in parts, since the peak memory of a run is no less than what this process has when it starts it."""
+    text, line, parts = job([1, 64]), "fact 0\n", 144
+    part = line * 65536
+    count = parts * 65536
+    taken = []
+    for first, wanted in (("?", "rejected grammar 0"), (head("another job"), "rejected other-job"), (head(text), f"rejected line 0 0 {count}")):
+        with open(bench.cert, "w", encoding="utf-8", newline="") as out:
+            out.write(first + "void\n")
+            out.writelines(part for _ in range(parts))
+            out.write("closed\n")
+        taken.append(bench.tell(f"a void of {count} steps", wanted))
+    each = [more * 1024 * 1024 / count for more in (taken[0], taken[1] - taken[0], taken[2] - taken[1])]
+    times = [price / len(line) for price in each]
+    print(f"memory for a byte of text: {times[0]:.1f} bytes; for a step of {len(line)} bytes of text: {each[1]:.0f} bytes, {times[1]:.1f} times"
+          f" its text; for its row: {each[2]:.0f} bytes, {times[2]:.1f} times")
+    assert sum(times) < 36, "too much memory for a step with its text and its row"
+
+
 def stack(bench):
     text = job([1, 560])
     bench.given(text, head(text) + deep(512))
@@ -148,7 +170,7 @@ def main():
         sys.exit(f"{program} is not there: run tools/prove, or name a program")
     with tempfile.TemporaryDirectory() as folder:
         bench = Bench(os.path.abspath(program), folder)
-        for measure in (proved, splits, answers, stack):
+        for measure in (proved, splits, answers, prices, stack):
             measure(bench)
 
 

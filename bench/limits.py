@@ -1,8 +1,9 @@
 #!/usr/bin/env python3
 """Measures `lay` on jobs whose style sheets are the worst for the cascade within the limits of the profile: processor time and memory.
 
-Each job is a row of elements in a root, with a sheet of at most 1 MiB. The program is that of `crates/vizlog`, or one named behind the
-first word. Run it at the top: bench/limits.py [PROGRAM] [PART OF A CASE'S NAME]
+Each job is a row of elements in a root, with a sheet of at most 1 MiB. Where each rule applies to each element, what one application takes
+is told, without what the page takes with no sheet; it may grow by at most twice, within noise, from 512 to 4,096 elements. The program is
+that of `crates/vizlog`, or one named behind the first word. Run it at the top: bench/limits.py [PROGRAM] [PART OF A CASE'S NAME]
 """
 import json
 import os
@@ -51,12 +52,14 @@ def group(selector):
     return ",".join(parts) + foot
 
 
+BARE = "no sheet, 4,096 elements"
+# the elements of a page to which each of 8,192 rules applies
+APPLIED = {"8,192 rules that apply to 512 elements": 512, "8,192 rules that apply to 4,096 elements": 4096}
 BOOTSTRAP = pathlib.Path("/usr/share/javascript/bootstrap4/css")
 
 CASES = {
-    "no sheet, 4,096 elements": lambda: (row(4096), ""),
-    "8,192 rules that apply to 512 elements": lambda: (row(512), ".a{margin:0 auto}\n" * 8192),
-    "8,192 rules that apply to 4,096 elements": lambda: (row(4096), ".a{margin:0 auto}\n" * 8192),
+    BARE: lambda: (row(4096), ""),
+    **{told: lambda elements=elements: (row(elements), ".a{margin:0 auto}\n" * 8192) for told, elements in APPLIED.items()},
     "8,192 rules of a class each, 4,096 elements": lambda: (row(4096, classed), classes(8192)),
     "1 MiB of declarations in a rule, 64 elements": lambda: (row(64), flood("div{", "margin:0;", "}")),
     "1 MiB of declarations in a rule, 4,096 elements": lambda: (row(4096), flood("div{", "margin:0;", "}")),
@@ -87,9 +90,20 @@ def job(page, sheet):
                        "page": page, "assert": "true"})
 
 
+def tell_applications(took):
+    """What an application of a rule to an element takes, by the times of the cases."""
+    if BARE not in took or not APPLIED.keys() <= took.keys():
+        return
+    prices = [(took[told] - took[BARE] * elements / 4096) / elements / 8192 for told, elements in APPLIED.items()]
+    few, many = (price * 1e9 for price in prices)
+    print(f"an application of a rule to an element takes {few:.0f} ns among 512 elements, {many:.0f} ns among 4,096: {many / few:.2f} times")
+    assert many < 2 * few, "an application takes longer among more elements"
+
+
 def main():
     program = sys.argv[1] if len(sys.argv) > 1 else str(PROGRAM)
     part = sys.argv[2] if len(sys.argv) > 2 else ""
+    times = {}
     for told, made in CASES.items():
         if part not in told:
             continue
@@ -101,9 +115,10 @@ def main():
                 _, status, usage = os.wait4(child.pid, 0)
                 output.seek(0)
                 answer = output.read(60).split(b"\n")[0].decode(errors="replace")
-        took = usage.ru_utime + usage.ru_stime
+        times[told] = took = usage.ru_utime + usage.ru_stime
         print(f"{told:52} {took:9.3f} s {usage.ru_maxrss // 1024:6} MB  status {os.waitstatus_to_exitcode(status)} {answer}",
               flush=True)
+    tell_applications(times)
 
 
 main()

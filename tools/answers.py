@@ -16,9 +16,10 @@ class NoAnswer(Exception):
 
 @dataclass
 class Node:
-    """A node of the page: its name as a selector, or its text."""
+    """A node of the page: its name as a selector, or the beginning of its text; and the text whole."""
     name: str
     element: dict | None
+    text: str = ""
 
 
 @dataclass
@@ -31,6 +32,12 @@ class Job:
     css: list
     nodes: list
     digest: str
+    fonts: list = field(default_factory=list)
+    letters: dict = field(default_factory=dict)
+
+    def shown(self, text):
+        """A text of the page as it is read: a character that stands for another one of other width is told as that."""
+        return text.translate(self.letters)
 
     def worlds(self):
         return (self.widths[1] - self.widths[0] + 1) * (self.sizes[1] - self.sizes[0] + 1)
@@ -44,13 +51,13 @@ def name_of(element):
     return name + "".join("." + it for it in attrs.get("class", "").split())
 
 
-def nodes_of(page):
-    """The nodes of a page in document order, elements and texts."""
+def nodes_of(page, letters):
+    """The nodes of a page in document order, elements and texts, the names of these as they are read."""
     nodes, open_nodes = [], [page]
     while open_nodes:
         node = open_nodes.pop()
         if isinstance(node, str):
-            nodes.append(Node(f"“{' '.join(node.split())[:40]}”", None))
+            nodes.append(Node(f"“{' '.join(node.translate(letters).split())[:40]}”", None, node))
         else:
             nodes.append(Node(name_of(node), node))
             open_nodes.extend(reversed(node.get("children", [])))
@@ -64,8 +71,9 @@ def job_of(text):
         ends = [tuple(told[name]) for name in ("widths", "sizes")]
         if not all(len(end) == 2 and all(isinstance(it, int) and it > 0 for it in end) and end[0] <= end[1] for end in ends):
             raise ValueError
-        return Job(*ends, int(told["height"]), str(told["assert"]), told["page"], list(told.get("css", [])), nodes_of(told["page"]),
-                   hashlib.sha256(text.encode()).hexdigest())
+        letters = str.maketrans(told.get("letters", {}))
+        return Job(*ends, int(told["height"]), str(told["assert"]), told["page"], list(told.get("css", [])), nodes_of(told["page"], letters),
+                   hashlib.sha256(text.encode()).hexdigest(), list(told.get("fonts", [])), letters)
     except (ValueError, KeyError, TypeError, AttributeError, RecursionError):
         raise NoAnswer("the job file is no job") from None
 

@@ -138,6 +138,28 @@ class Chromium:
                     and params.get("frameId") == answer["frameId"] and params["response"]["status"] >= 400:
                 raise BrowserFault(f"{url} can't be loaded: status {params['response']['status']}")
 
+    def sheets(self):
+        """The style sheets that were loaded, as texts by their addresses; None for one that isn't there."""
+        asked, found = {}, {}
+        for event in self.events:
+            params = event.get("params", {})
+            if event.get("method") == "Network.requestWillBeSent":
+                asked[params["requestId"]] = params["request"]["url"]
+            elif event.get("method") == "Network.responseReceived" and params.get("type") == "Stylesheet":
+                url = params["response"]["url"]
+                if params["response"]["status"] >= 400:
+                    found[url] = None
+                    continue
+                try:
+                    body = self.call("Network.getResponseBody", requestId=params["requestId"])
+                except BrowserFault:
+                    continue
+                if not body["base64Encoded"]:
+                    found[url] = body["body"]
+            elif event.get("method") == "Network.loadingFailed" and params.get("type") == "Stylesheet":
+                found[asked.get(params["requestId"], "")] = None
+        return found
+
     def run(self, script):
         """The value of a script in the page, promises awaited."""
         answer = self.call("Runtime.evaluate", expression=script, awaitPromise=True, returnByValue=True)

@@ -1,15 +1,20 @@
-"""Tests of the tools for pages: jobs, answers, pictures, fonts, and, where a browser is installed, a page's job and a page built of one."""
+"""Tests of the tools for pages: jobs, answers, pictures, fonts, rules, and, where a browser is installed, pages' jobs and a page of one."""
 import importlib.machinery
 import importlib.util
 import json
+import os
 import pathlib
 import struct
 import subprocess
+import sys
 import tempfile
 
 import answers
 import chromium
+import fidelity
 import metric_font
+import page_export
+import rule_text
 
 TOP = pathlib.Path(__file__).resolve().parent.parent
 CERT = ["split -1120 0:1", "grid", "split 30 0:-1 1:2", "leaf", "yes 3 0:1", "fact 1", "sum 2:0 1:1", "closed", "no -3", "case 1 0:1",
@@ -83,19 +88,124 @@ def fonts():
     yield "the whole file", all(at + size <= len(data) for at, size in tables.values()), True
 
 
+def rules():
+    """Where a rule is none, and what is awaited there."""
+    for text, at, awaited in (("forall b in box b.left >= 0", 16, "`:` is awaited"), ("forall b in \".x: b.left", 12, "a string without its end"),
+                              ("forall b in box: b.left => 0", 25, "a number or an edge"), ("forall b in boxes: true", 12, "a set (block,"),
+                              ("forall b in box: c.left >= 0", 17, "names `c`"), ("forall b in box: b.left >= 0px &", 31, "begins no word"),
+                              ("forall b in box: (b.left >= 0", 29, "the rule ends"), ("exists in in box: true", 7, "a name (")):
+        try:
+            rule_text.check(text)
+            yield text, "read", awaited
+        except rule_text.BadRule as fault:
+            yield text, (fault.at, awaited in str(fault), str(fault).split("\n")[-1].index("^") - 2), (at, True, at)
+    for path in sorted((TOP / "examples/pages").glob("*.rule")):
+        yield path.name, rule_text.check(path.read_text(encoding="utf-8").strip()), None
+
+
+def program():
+    """The program that lays out jobs, where it answers at once; else None."""
+    told = os.environ.get("VIZLOG_PROGRAM")
+    built = [TOP / "crates/vizlog/out/vizlog", TOP / "vizlog.bin"]
+    return told or (str(TOP / "vizlog") if any(it.exists() for it in built) else None)
+
+
+def comparing():
+    """Boxes that lie elsewhere are counted, with what is known of them, of what is around them or of what is before them."""
+    job = answers.job_of(text_of("nested.json"))
+    many = len(job.nodes)
+    mine = {number: (0, 0, 100, 100) for number in range(many)}
+    theirs = [[0, 0, 100, 100 + (3 if number == many - 1 else 0)] for number in range(many)]
+    found = fidelity.compare(job, mine, theirs, [True] * many, [["why"]] + [[]] * (many - 1), 1)
+    yield "counted", (len(found.differ), found.greatest, {it.cause for it in found.differ}), (1, 3, {"why"})
+    yield "worlds", fidelity.worlds((320, 1920), (12, 24)), [(1024, 16), (320, 12), (360, 16), (640, 20), (1920, 24)]
+
+
+# pages with what is said of them in the profile's own words; at one size no box lies elsewhere
+SAYINGS = {
+    "preformatted": ("white-space: pre as", "white-space: pre-line as", "white-space: pre-wrap as"),
+    "breaks": ("a line may break within a word",),
+    "media": ("@media with a condition, as the browser answers it on this machine, is `all`", "is `not all`"),
+    "generated": (":after as an element", ":before as an element", "display by the browser's computed value"),
+    "position": ("position by the browser's computed value",),
+    "blocks": ("an inline box that holds blocks",),
+    "values": ("padding-top by the browser's computed value", "width by the browser's computed value"),
+    "faces": ("font-family by the browser's computed value",),
+    "spacing": ("letter-spacing by a font of its own", "word-spacing by a font of its own"),
+    "cases": ("text-transform: uppercase in the texts", "text-transform: capitalize in the texts"),
+    "kerning": ("letters that a font sets nearer",),
+    "hints": ("<img width>", "<p align>"),
+    "normal": ("line-height by the browser's computed value",),
+    "transitional": ("with a transitional", "line-height: 0 where"),
+    "controls": ("height by the browser's computed value",),
+    "quirks": ("without `<!DOCTYPE html>`", "margin-top: 0 at the head of the body"),
+}
+
+
+def exported(browser, url, **options):
+    told = {"widths": [320, 1920], "sizes": [16, 16], "height": 800, "assert": "true", "without": [], **options}
+    page_export.selectors(browser, url, told)
+    return page_export.export(browser, told)
+
+
+def elsewhere(found, folder):
+    """The boxes of an export that the browser lays elsewhere; none where no program lays out the job."""
+    if program() is None:
+        return []
+    job = pathlib.Path(folder, "job.json")
+    job.write_text(found["job"], encoding="utf-8")
+    return [(it.world, one.name, one.apart) for it in fidelity.tried(program(), str(job), found["job"], found) for one in it.differ]
+
+
+def sayings():
+    """What is said in the profile's own words lies where the browser has it."""
+    with tempfile.TemporaryDirectory() as folder, chromium.Chromium() as browser:
+        for name, words in SAYINGS.items():
+            found = exported(browser, (TOP / f"examples/sayings/{name}.html").as_uri())
+            told = "\n".join(found["lines"])
+            for it in words:
+                yield f"{name} tells", it if it in told else told, it
+            yield f"{name} is refused", found["refused"], []
+            yield f"{name} lies elsewhere", elsewhere(found, folder), []
+        found = exported(browser, (TOP / "examples/sayings/spacing.html").as_uri(), textSpacing=True)
+        yield "text spacing", ("0.12" in found["job"], elsewhere(found, folder)), (True, [])
+        page = pathlib.Path(folder, "page.html")
+        page.write_text('<!DOCTYPE html><link rel="stylesheet" href="none.css"><p>A page.</p>', encoding="utf-8")
+        told = "\n".join(exported(browser, page.as_uri())["lines"])
+        yield "a missing sheet", "isn't there, so that the browser shows the page without it" in told, True
+
+
+def run_tool(words):
+    """A run of tools/job_from_page."""
+    run = subprocess.run([str(TOP / "tools/job_from_page"), *words], capture_output=True, text=True)
+    if "gave no answer" in run.stderr:
+        raise chromium.BrowserFault(run.stderr.strip())
+    return run
+
+
 def browser():
-    """A page and its job in the repository, but for the fonts, which each machine has its own of."""
+    """A page and its job in the repository, but for the fonts, which each machine has its own of; and the statuses of the tool."""
     name = TOP / "examples/pages/badge"
     with tempfile.TemporaryDirectory() as folder:
         made = pathlib.Path(folder, "job.json")
-        run = subprocess.run([str(TOP / "tools/job_from_page"), f"{name}.html", "--assert", f"{name}.rule", "-o", str(made)],
-                             capture_output=True, text=True)
-        yield "status", run.returncode, 0
-        yield "what is refused", "  position: relative: 3, first node 6 div.card\n" in run.stderr, True
+        words = [f"{name}.html", "-o", str(made)]
+        run = run_tool([*words, "--assert", f"{name}.rule", "--no-compare", "--without", "kerning,faces"])
+        yield "status of a page that is refused", run.returncode, 3
+        yield "what is refused", "  position: absolute: 1, first node 7 span.badge\n" in run.stderr, True
         pair = [json.loads(it.read_text(encoding="utf-8")) for it in (made, name.with_suffix(".json"))]
         for job in pair:
             job.pop("fonts")
         yield "the job of examples/pages/badge.html", pair[0], pair[1]
+        made.unlink()
+        rule = pathlib.Path(folder, "rule.txt")
+        rule.write_text('forall b in ".bagde": b.left >= 0', encoding="utf-8")
+        run = run_tool([*words, "--assert", str(rule), "--no-compare"])
+        yield "a selector that meets nothing", (run.returncode, "meets no element" in run.stderr, made.exists()), (1, True, False)
+        if program():
+            page = pathlib.Path(folder, "page.html")
+            page.write_text('<!DOCTYPE html><div style="display:flex"><p>One</p><p>Two</p></div>', encoding="utf-8")
+            run = run_tool([str(page), "-o", str(made), "--strict", "--program", program()])
+            yield "a box elsewhere", (run.returncode, "display: flex" in run.stderr, made.exists()), (4, True, False)
 
 
 def replaced():
@@ -114,9 +224,26 @@ def replaced():
     yield "sizes", [[right - left, bottom - top] for left, top, right, bottom in found], [[300, 30]] * 2 + [[150, 15]] * 6
 
 
+def in_a_browser(tests):
+    """What tests in a browser find; nothing more of one that the browser is too slow for, which is told on standard error."""
+    try:
+        yield from tests()
+    except chromium.BrowserFault as fault:
+        if "gave no answer" not in str(fault):
+            yield "the browser", str(fault), None
+        print(f"pages_test: {tests.__name__} is passed over: {fault}", file=sys.stderr)
+
+
 def failures():
-    """A line for each test that fails."""
-    for tests in (renderings, certificates, fonts) + ((browser, replaced) if chromium.found() else ()):
-        for name, found, wanted in tests():
-            if found != wanted:
-                yield f"{tests.__name__}, {name}: {str(found)[:200]} in place of {str(wanted)[:200]}"
+    """A line for each test that fails. Where no browser is, or VIZLOG_NO_BROWSER is set, none is asked."""
+    for tests in (renderings, certificates, fonts, rules, comparing):
+        yield from failed(tests.__name__, tests())
+    if chromium.found() and not os.environ.get("VIZLOG_NO_BROWSER"):
+        for tests in (browser, sayings, replaced):
+            yield from failed(tests.__name__, in_a_browser(tests))
+
+
+def failed(title, rows):
+    for name, found, wanted in rows:
+        if found != wanted:
+            yield f"{title}, {name}: {str(found)[:200]} in place of {str(wanted)[:200]}"

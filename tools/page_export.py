@@ -1,0 +1,66 @@
+"""Drives the browser from a page to its job: the scripts of tools/page, run one after the other at several worlds. Not proved."""
+import json
+import pathlib
+
+import fidelity
+
+FOLDER = pathlib.Path(__file__).resolve().parent / "page"
+PARTS = ("findings", "css", "sheets", "tree", "texts", "fonts", "values", "judge", "job")
+SAYINGS = ("preformatted", "breaks", "media", "generated", "position", "blocks", "values", "faces", "spacing", "cases", "kerning")
+
+
+class NoJob(Exception):
+    """Why there is no job of a page, as one line."""
+
+
+def script():
+    """The scripts as one text, for a browser's console too: it names `jobFromPage`."""
+    texts = [(FOLDER / f"{name}.js").read_text(encoding="utf-8") for name in PARTS]
+    return ('// Makes a job file for vizlog of the page in which it runs. Not proved.\nvar jobFromPage = (() => {\n"use strict";\n\n'
+            + "\n".join(texts) + "\nreturn Object.assign(shown, {step, statements, declarations, declarationKind, selectorKind});\n})();\n")
+
+
+def call(browser, *words):
+    found = browser.run(f"jobFromPage.step({', '.join(map(json.dumps, words))})")
+    if isinstance(found, dict) and "fault" in found:
+        raise NoJob(found["fault"])
+    return found
+
+
+def stand(browser, world, height):
+    """Makes the browser's viewport and default font size those of a world."""
+    browser.screen(world[0], height)
+    browser.call("Page.setFontSizes", fontSizes={"standard": world[1], "fixed": max(1, round(world[1] * 13 / 16))})
+
+
+def corners(widths, sizes):
+    return sorted({(width, size) for width in widths for size in sizes})
+
+
+def selectors(browser, url, options):
+    """Opens the page and begins: the selectors of the assertion with the number of elements that each meets."""
+    browser.screen(min(max(options["widths"][0], 1024), options["widths"][1]), options["height"])
+    browser.open(url)
+    browser.run(script())
+    found = call(browser, "begin", {**options, "texts": browser.sheets()})["selectors"]
+    return list(dict(found).items())
+
+
+def export(browser, options, at=None):
+    """The job of the page that was begun, with what is told of it and where the browser lays its boxes, at five worlds or those that are told."""
+    at = at or fidelity.worlds(options["widths"], options["sizes"])
+    for world in corners(options["widths"], options["sizes"]):
+        stand(browser, world, options["height"])
+        call(browser, "glance")
+    for world in at:
+        stand(browser, world, options["height"])
+        call(browser, "look", world)
+    stand(browser, at[0], options["height"])
+    call(browser, "prepare")
+    for number, world in enumerate(at):
+        stand(browser, world, options["height"])
+        call(browser, "settle", number)
+    stand(browser, at[0], options["height"])
+    found = call(browser, "finish")
+    call(browser, "end")
+    return {**found, "worlds": at}

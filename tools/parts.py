@@ -1,0 +1,96 @@
+"""Cuts a job's range into parts, and puts the parts' certificates together into one for the whole range. Not proved: `check` judges it.
+
+The halves that the range is cut into become splits above the parts' own nodes. A part's job has four facts of its own, the ends of its
+widths and sizes. Below the splits the same four rows are other facts: an end at which no split cut is that of the whole range, any other
+is the fact of the split that made it. All facts behind these four stand so many numbers later as there are splits above.
+"""
+import hashlib
+from dataclasses import dataclass, field
+
+import answers
+from program import Part
+
+HEAD = "vizlog-cert 1"
+MOST = 64 << 20
+
+
+class NotJoined(Exception):
+    """Why certificates can't be put together, as one line."""
+
+
+@dataclass
+class Cut:
+    """A part, whole or cut into two by a row that is at least 0 in the second."""
+    part: Part
+    halves: list = field(default_factory=list)
+
+    def leaves(self):
+        return [leaf for half in self.halves for leaf in half.leaves()] if self.halves else [self]
+
+
+def cut_into(part, many):
+    """A part cut into so many by halving the greatest, as far as there are worlds."""
+    top = Cut(part)
+    leaves = [top]
+    while len(leaves) < many:
+        greatest = max(leaves, key=lambda it: it.part.worlds())
+        halves = greatest.part.halves()
+        if halves is None:
+            break
+        greatest.halves = [Cut(it) for it in halves]
+        leaves.remove(greatest)
+        leaves += greatest.halves
+    return top
+
+
+def body_of(text, digest):
+    """The lines of a certificate for the job of this digest, without its head."""
+    lines = text.split("\n")
+    if lines[:2] != [HEAD, f"job {digest}"]:
+        raise NotJoined("an answer is no certificate for its part's job")
+    return lines[2:-1] if lines[-1] == "" else lines[2:]
+
+
+def renumbered(lines, ends, later):
+    """A part's nodes with the numbers of the facts that they have below the splits."""
+    for line in lines:
+        if line.startswith("fact "):
+            number = int(line[5:])
+            line = f"fact {ends[number] if number < 4 else number + later}"
+        yield line
+
+
+def joined(cut, body, ends=(0, 1, 2, 3), later=0):
+    """The lines of a cut's nodes: `ends` are the facts of its four ends, `later` how many splits stand above."""
+    if not cut.halves:
+        yield from renumbered(body(cut.part), ends, later)
+        return
+    lower, upper = (it.part for it in cut.halves)
+    axis = 0 if lower.widths != upper.widths else 1
+    begin = (upper.widths, upper.sizes)[axis][0]
+    yield f"split {-begin} {axis}:1"
+    made = 4 + later
+    for half, place in ((cut.halves[1], 2 * axis), (cut.halves[0], 2 * axis + 1)):
+        yield from joined(half, body, (*ends[:place], made, *ends[place + 1:]), later + 1)
+
+
+def certificate(job_bytes, cut, answer_of):
+    """One certificate for a whole job, of those of the parts: `answer_of` gives a part's job file and its certificate, as bytes."""
+    def body(part):
+        job, answer = answer_of(part)
+        return body_of(answer.decode("utf-8"), hashlib.sha256(job).hexdigest())
+    lines = [HEAD, f"job {hashlib.sha256(job_bytes).hexdigest()}", *joined(cut, body)]
+    return ("\n".join(lines) + "\n").encode()
+
+
+def is_certificate(text):
+    return text.startswith(HEAD + "\n")
+
+
+def violation(text):
+    """The world of a violation, or None."""
+    try:
+        words = text.split("\n", 1)[0].split(" ")
+        return (int(words[1]), int(words[2])) if words[0] == "violated" else None
+    except (IndexError, ValueError):
+        raise answers.NoAnswer(f"no answer: {text[:60]}") from None
