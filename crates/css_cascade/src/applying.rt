@@ -58,6 +58,7 @@ pub fn applied<'a: 'b, 'b>(
     try_all(
         &mut best, rulesets, page, siblings, node, candidates, &numbers,
     );
+    // The style attribute comes behind all sheets; its specificity is above that of any selector (6.4.3).
     keep_claims(&mut best, STYLE, style);
     Ok(best)
 }

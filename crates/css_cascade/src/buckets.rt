@@ -62,6 +62,7 @@ fn word_in(compound: &Compound) -> Option<&Text>
     ensures { IfSome result (λ word. IsWordIn compound.now word.now) }
 {
     let tests = compound.tests.as_slice();
+    // Ids are the rarest words of a page and tags the most common, so in this order the fewest are tried.
     match id_among(tests) {
         Some(id) => Some(id),
         None => match class_among(tests) {
@@ -147,9 +148,11 @@ impl<'a> Buckets<'a> {
             → StandFor nodes (map numbered self.new.candidates.items) (all ++ (rules, ranked.now) ∷ [])) }
         ensures stand { OnOk result (AllStand self.old → AllStand self.new) }
     {
+        // In `*,*,..` each would be tried at each node; with the same specificity it adds nothing.
         if self.repeats_last(rules, ranked) {
             return Ok(());
         }
+        // A sheet that was written for other pages costs each of its selectors once, and not at each node.
         if lacks_some(present, ranked.selector.parts.as_slice()) {
             return Ok(());
         }

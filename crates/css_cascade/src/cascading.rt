@@ -34,6 +34,7 @@ fn judge(
         (ByValue node (λ answer. answer ≡ judged replaced outer (map (λ c. c.now) winners.now))) }
 {
     let hidden = is_hidden(outer, winners);
+    // What is refused on a hidden node has no effect on the page, and refuses nothing.
     if !hidden {
         if let Some(claim) = first_refused(replaced, outer, winners) {
             return Err(CascadeFault::Value(node, claim.prop, claim.source));
@@ -141,6 +142,7 @@ pub fn cascade(
     let rulesets = read_rulesets(alloc, texts, sheets)?;
     let trimmed = trim(alloc, &rulesets)?;
     let buckets = buckets_of(alloc, page, &trimmed)?;
+    // Without the table `+` and `:first-child` would walk back over texts at each node.
     let siblings = find_siblings(alloc, page)?;
     cascade_nodes(alloc, page, &siblings, &trimmed, &buckets)
 }

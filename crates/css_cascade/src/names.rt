@@ -7,6 +7,7 @@ use css_token::same_name;
 use std::alloc::Global;
 use viz_base::{Attr, Element, Mem};
 
+// Enough that the words of a large sheet spread, and few enough that a page's table of them is small.
 /// The number of buckets, a prime.
 pub const BUCKETS: usize = 8191;
 
@@ -22,6 +23,7 @@ fn bucket_behind(at: usize, byte: u8) -> usize
     ensures is { result ≡ bucket_behind at byte }
     ensures within { result < 8191 }
 {
+    // Without case, since names of tags are compared so; of ids and classes it only makes more words share.
     (at * 131 + byte.to_ascii_lowercase() as usize) % BUCKETS
 }
 
@@ -60,6 +62,7 @@ fn add_pieces(buckets: &mut Vec<usize>, text: &str) -> Result<(), Mem>
     for byte in text.as_bytes() {
         at = pass_byte(buckets, at, *byte)?;
     }
+    // The last piece has no white space behind it; an empty one costs a bucket that is tried in vain.
     buckets.push(at)?;
     Ok(())
 }
@@ -113,6 +116,7 @@ pub fn element_buckets(alloc: Global, element: &Element) -> Result<Vec<usize>, M
 {
     let mut buckets = words_of(alloc, element)?;
     buckets.sort()?;
+    // Two words of an element may share a bucket; its selectors are then tried once.
     buckets.dedup();
     Ok(buckets)
 }

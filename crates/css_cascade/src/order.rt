@@ -20,6 +20,7 @@ fn place_of(prop: Prop) -> usize
     ensures place { result ≡ place_of prop }
     ensures within { result < 39 }
 {
+    // The variants stand in the order of the table.
     prop as usize
 }
 
@@ -57,6 +58,7 @@ fn cascade_cmp(a: Applied<'_>, b: Applied<'_>) -> Ordering
 fn later_of<'a>(earlier: Applied<'a>, later: Applied<'a>) -> Applied<'a>
     ensures { seen result ≡ later_of cascade_cmp (seen earlier.entry) (seen later.entry) }
 {
+    // Of equals the later one wins, so the order in which settings are met is part of the answer.
     if cascade_cmp(earlier, later).is_gt() {
         earlier
     } else {

@@ -66,6 +66,7 @@ fn is_present(present: &[bool], word: &Text) -> bool
     let at = bucket_of(word.as_str());
     match present.get(at) {
         Some(marked) => *marked,
+        // No bucket is past the table's end; saying that it is present is right of any table.
         None => true,
     }
 }
@@ -117,6 +118,7 @@ fn is_first(join: Join) -> bool
 fn lacks_behind(present: &[bool], before: bool, join: Join, compound: &Compound) -> bool
     ensures { result ≡ lacks_behind present.now before join compound.now }
 {
+    // Attributes are no words here: a test of one is met or not at the node.
     lacks_word(present, compound) || (!is_first(join) && before)
 }
 

@@ -37,6 +37,7 @@ fn weight_of(origin: Origin, important: bool) -> Weight
     ensures { result ≡ weight_of origin important }
 {
     match origin {
+        // The default sheet has one place in the order, so its `!important` counts for nothing (6.4.1).
         Origin::Default => Weight::Default,
         Origin::Author(_) | Origin::Style(_) => if important {
             Weight::Important
@@ -88,6 +89,7 @@ fn refused_claim(alloc: Global, origin: Origin, decl: &Decl, prop: Prop) -> Resu
     ensures { IfOk result (λ claims. claims ≡ claim_of origin decl.now prop None ∷ []) }
 {
     let mut claims = List::new(alloc);
+    // A claim without a value: it refuses the page only where it wins at a node that is shown.
     claims.push(claim_of(origin, decl, prop, None))?;
     Ok(claims)
 }
@@ -155,6 +157,7 @@ fn unsupported_at(origin: Origin, rule: u32, at: u32) -> Result<Option<Ruleset>,
             let place = rule.checked_add(at).ok_or(Mem)?;
             Err(CascadeFault::Selector(sheet, place))
         }
+        // The page has no say in the default sheet; a style attribute has no selector.
         Origin::Default | Origin::Style(_) => Ok(None),
     }
 }

@@ -26,6 +26,8 @@ const ANY: Spec = Spec {
 fn lasting<'a>(alloc: Global, claims: &'a [Claim]) -> Result<Vec<&'a Claim>, Mem>
     ensures { IfOk result (λ kept. LastsAs (map (λ c. c.now) kept.items) claims.now) }
 {
+    // Of a thousand declarations of one property one can win. Found once for all nodes to which the ruleset
+    // applies.
     let mut best = no_winners(alloc)?;
     keep_claims(&mut best, ANY, claims);
     claims_among(alloc, best.as_slice())

@@ -38,6 +38,7 @@ fn gathered(alloc: Global, buckets: &Buckets<'_>, element: &Element) -> Result<V
 {
     let words = element_buckets(alloc, element)?;
     let mut numbers = Vec::new(alloc);
+    // Those without a word stand in no bucket and may match any element.
     numbers.extend_from_slice(buckets.others.as_slice())?;
     for word in &words {
         numbers.extend_from_slice(numbers_in(&buckets.named, *word))?;
@@ -55,6 +56,7 @@ pub fn numbers_for(
     ensures all { IfOk result (λ numbers. (at : ℕ) → MayMatch buckets.now element.now at → Contains numbers.items at) }
 {
     let mut numbers = gathered(alloc, buckets, element)?;
+    // Rulesets have to be met in their order again.
     numbers.sort()?;
     numbers.dedup();
     Ok(numbers)
@@ -102,6 +104,7 @@ fn join<'a: 'b, 'b>(
         ≡ Behind rulesets.now (map (option_map seen) best.old.items) going (next ∷ behind) }
 {
     match going {
+        // A ruleset applies once, by the most specific of its selectors that match; they come one after another.
         Some(found) => if found.rules == next.rules {
             Found {
                 rules: found.rules,

@@ -23,6 +23,7 @@ fn passes(
 {
     match test {
         Test::FirstChild => is_first_child(page, siblings, node),
+        // No link is visited here, so `:link` is each `a` with `href`, and `:visited` matches nothing.
         Test::Link => same_name("a", element.tag.as_str()) && some_attribute(element, test),
         _ => some_attribute(element, test),
     }
@@ -102,6 +103,7 @@ fn match_parts(
     requires { IfSome siblings (λ s. AreSiblings page.now.nodes s.now) }
     ensures { IsOutcome page.now.nodes (reverse parts.now) node result }
 {
+    // From right to left: the last simple selector is about the node itself, and most fail there.
     let Some(((join, compound), before)) = parts.split_last() else {
         return Outcome::Found;
     };
@@ -137,6 +139,8 @@ fn match_around(
     let mut at = node;
     while let Some(parent) = parent_of(page, at) {
         match match_parts(page, siblings, parts, parent) {
+            // `Hopeless` ends the search too: plain backtracking over each element around would take exponential
+            // time.
             Outcome::Failed => at = parent,
             outcome => return outcome,
         }

@@ -68,6 +68,7 @@ pub fn find_siblings(alloc: Global, page: &Page) -> Result<Siblings, Mem>
     let mut last = no_nodes(alloc, nodes.len())?;
     let mut previous = Vec::new(alloc);
     for (at, node) in nodes.iter().enumerate() {
+        // Nodes come in document order, so the last child so far is the element before this one.
         previous.push(last_of(&last, node.parent))?;
         keep_last(page, &mut last, place(at)?, node);
     }

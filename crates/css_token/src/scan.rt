@@ -27,6 +27,7 @@ fn longest<'a>(
         };
         state = next;
         rest = after;
+        // The automaton goes on past a piece that is whole: a longer one may still come, and wins.
         if let Some(found) = kind_of(state) {
             kind = found;
             left = rest;
@@ -41,6 +42,7 @@ fn scan(text: &str) -> Option<(TokenKind, &str)>
         (λ p. (0 < length (chars text.now)) × (cut_of (chars text.now) ≡ (p.0, chars p.1.now))) }
 {
     let (_, after_first) = split_char(text)?;
+    // Any one character is a DELIM, which is the last kind of the table and so gives way to all others.
     Some(longest(State::Begin, text, TokenKind::Delim, after_first))
 }
 

@@ -106,6 +106,7 @@ fn edges_of<S: Steady>(
     let bottom = calc.add(&slot.top, &whole);
     let room = band(calc, floats, container.cb, &slot.top, &slot.tall);
     let top = calc.copy(&slot.top);
+    // Rule 6 of 9.5.1: floats behind this line stand no higher than its top.
     let least = greater(calc, least, top);
     Edges {
         bottom,

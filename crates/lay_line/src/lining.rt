@@ -79,7 +79,9 @@ fn next_line<'p, 'a, S: Steady>(
     };
     let container = frame.container;
     let start = nothing(calc);
+    // The first stretch stands on the line in any case; how wide it is decides where the line's top is.
     let held = with_pieces(calc, start, first);
+    // Floats before anything else on the line are placed from where it begins, before its top is looked for.
     let met = meet_before(alloc, calc, container, &begun, floats, first);
     let top = line_top(
         calc,
@@ -102,6 +104,7 @@ fn next_line<'p, 'a, S: Steady>(
     };
     let load = first_load(alloc, calc, container, &slot, opening);
     let filled = fill(alloc, calc, container, &slot, load, cut.rest);
+    // What the line took is told by what is left, so that nothing is counted on the way.
     let count = cut.pieces.len().saturating_sub(filled.rest.pieces.len());
     let (pieces, _) = cut.pieces.split_at(count);
     let line = FullLine {
@@ -140,6 +143,7 @@ fn lay<S: Steady>(
     let mut now = start;
     let count = stretches.pieces.len();
     let mut rest = stretches;
+    // Each line takes at least one stretch, and a stretch at least one piece.
     for line in 0..count {
         match cut_first(&rest) {
             Some(cut) => {
@@ -215,6 +219,7 @@ pub fn lines<S: Steady>(
     let items = items_in(alloc, calc, container.tree, container.at);
     let pieces = measure(alloc, calc, container, items.as_slice());
     let marks = marks_in(alloc, calc, container.tree, items.as_slice());
+    // Which floats a line meets is asked of the tallest line, so its own height need not be known yet.
     let tall = tallest(calc, container, pieces.as_slice());
     let start = SoFar {
         y: calc.copy(y),

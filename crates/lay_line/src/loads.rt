@@ -355,6 +355,7 @@ fn takes_more<S: Steady>(
         → RoomFits (context_at S.at container.now e) (floats_at S.at load.now.met.floats e) (S.at slot.now.top e)
         (S.at slot.now.tall e)) }
 {
+    // A forced break ends the line whatever room is left, so nothing is compared behind it.
     !load.is_ended
         && fits(
             calc,
@@ -393,11 +394,13 @@ pub fn fill<'p, 'a, S: Steady>(
     let mut load = start;
     let mut rest = stretches;
     while let Some(cut) = cut_first(&rest) {
+        // A copy: where the stretch doesn't fit the line keeps what it held.
         let before = copy_held(calc, &load.held);
         let held = with_pieces(calc, before, cut.first);
         if !takes_more(calc, container, slot, &load, &held) {
             return Loaded { load, rest };
         }
+        // Floats inside a stretch are met at its end, when it is known to stand on this line.
         let floats = floats_of(alloc, calc, cut.first);
         let taken = Taken {
             part: cut.first,

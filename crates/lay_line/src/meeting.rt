@@ -62,6 +62,7 @@ fn float_size<S: Steady>(calc: &mut S, container: &Container<'_, S::Num>, at: u3
     match inner_of(container, at) {
         Some(inner) => {
             let width = calc.copy(&inner.width);
+            // A float has no baseline; the table keeps what is above and below for atomic boxes too.
             let height = calc.add(&inner.above, &inner.below);
             Extent { width, height }
         }
@@ -204,6 +205,7 @@ fn same<S: Steady>(calc: &mut S, a: &S::Num, b: &S::Num) -> bool
         → result ≡ int_eq (S.at a.now e) (S.at b.now e) }
     ensures cause { Blames (S.run calc.old) (S.run calc.new) ⊤ }
 {
+    // A calc has one comparison; equality is two of them.
     calc.le(a, b) && calc.le(b, a)
 }
 
@@ -245,6 +247,7 @@ fn meet<S: Steady>(
         → PlacesFit (context_at S.at container.now e) (floats_at S.at met.old.floats e) (S.at slot.now.least e)
         (S.at slot.now.top e) (at ∷ []) × IsHalf (S.at slot.now.tall e)) }
 {
+    // Rule 5 of 9.5.1: none stands above one that came before it.
     if !met.waiting.is_empty() {
         add_waiting(calc, &mut met.waiting, at);
         return;
@@ -262,6 +265,7 @@ fn meet<S: Steady>(
         add_spot(calc, &mut met.spots, at, spot);
         return;
     }
+    // It was placed on trial. It waits for the line's bottom, and its place is looked for anew there.
     met.floats.placed.truncate(before);
     add_waiting(calc, &mut met.waiting, at);
 }

@@ -44,6 +44,7 @@ fn outer<S: Steady>(
     ensures cause { BlamesButMem (S.run calc.old) (S.run calc.new)
         (BoxesFit tree.now (S.run calc.old).is_open) }
 {
+    // An absolute width is its own preferred width: what is in the box is not measured.
     if is_given(tree, at) {
         return given(calc, tree, at);
     }

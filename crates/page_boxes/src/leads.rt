@@ -25,6 +25,7 @@ fn ahead_of(alloc: Global, parts: &[Part], nodes: usize) -> Result<Vec<bool>, Al
 {
     let mut table = vec![in alloc; false; nodes]?;
     let mut ahead = vec![in alloc; false; parts.len()]?;
+    // From the end: whether a run has a box other than a float is known at its first box then.
     for at in (0..parts.len()).rev() {
         let part = &parts[at];
         let next = is_ahead(held(&table, part.parent, false), part.level);

@@ -74,6 +74,7 @@ fn reach_in(styles: &[Style], inner: &BoxNode, own: u64, around: u64) -> u64
     let sides = u128::from(around) * u128::from(ratio(inner.size));
     let grown = sides * u128::from(box_growth(styles, inner));
     let whole = u128::from(WHOLE);
+    // Rounded up once a level, where the layout rounds down for each length: reach stays the larger.
     capped((grown + (whole - 1)) / whole + u128::from(own))
 }
 
@@ -94,6 +95,7 @@ fn total_of(
         let own = own_extent(sizes, styles, fonts, inner);
         let text = text_extent(alloc, sizes, styles, fonts, inner)?;
         total = capped(u128::from(total) + u128::from(own) + u128::from(text));
+        // Past 2^40 the number is no longer exact, and needs not be: it stays past.
         if total > MOST {
             return Ok(Err(inner.node));
         }

@@ -100,6 +100,7 @@ pub fn collapsed(alloc: Global, parts: &[Part], nodes: usize) -> Result<Vec<Part
     for part in parts {
         let before = held(&table, part.container, false);
         let text = squeezed(alloc, before, part.text.as_slice())?;
+        // What a container's content ends with so far, kept for each node, so that one pass does for the page.
         put(&mut table, part.container, keeps_behind_part(before, part));
         let left = with_text(part, text);
         if !is_bare(&left) {

@@ -125,6 +125,7 @@ impl<'a> Sym<'a> {
         ensures decided { IsDecided result }
         ensures tallied { IsTallied result self.old.coeffs self.new.coeffs }
     {
+        // The same floor is the same variable, also where a `def` above named it: then its facts are known already.
         if let Some(place) = self.path.floors.place_of(&floor) {
             return Ok(place as u32 + AXIS_COUNT);
         }
@@ -156,6 +157,7 @@ impl<'a> Sym<'a> {
         if variable == u32::MAX {
             return Err(Halt::Mem);
         }
+        // A number of another calc shows by a variable that this one has not named.
         if !is_declared(&floor.row, variable) {
             self.coeffs = raised(self.coeffs);
             return Err(Halt::Coeff);
@@ -192,6 +194,7 @@ impl<'a> Sym<'a> {
     {
         let whole = quotient(row, by)?;
         let rest = remainder(row, by)?;
+        // Only what does not divide evenly needs a variable, so halves of even numbers cost none.
         if rest.terms.is_empty() {
             return Ok(whole);
         }
@@ -242,6 +245,7 @@ impl<'a> Sym<'a> {
             return Err(Halt::Mem);
         };
         let contrary = self.contrary_of(answer.yes, &row)?;
+        // Answers have no names: the row alone says whether this is the one that was meant here.
         if !same_row(&row, &answer.row) {
             let theirs = answer.row.clone()?;
             return Err(self.stuck(Trouble::Differs(number, row, theirs), self.taken + 1));
@@ -298,6 +302,7 @@ impl<'a> Sym<'a> {
         ensures trouble { self.new.trouble ≡ first_of self.old.trouble (Some trouble) }
         ensures tallied { self.new.coeffs ≡ self.old.coeffs }
     {
+        // The first trouble is the verdict; what comes behind it is the layout of blanks.
         if self.trouble.is_none() {
             self.trouble = Some(trouble);
         }
@@ -374,6 +379,7 @@ fn fault_below(
         later: rows.as_slice(),
     };
     let line = first_fault_among(rows.allocator(), known, variables, why);
+    // The contrary was a fact for this derivation alone.
     rows.truncate(count);
     line
 }
@@ -527,6 +533,7 @@ impl<'a> Calc for Sym<'a> {
     {
         let difference = b.add_scaled(-1, a);
         let difference = self.counted(difference)?;
+        // Without variables the constant decides, and the tape has no answer for it.
         if difference.terms.is_empty() {
             return Ok(0 <= difference.k);
         }
