@@ -1,6 +1,6 @@
 -- The settings of a declaration are allowed by the table.
 use Rattle.std.proofs.Common.{◌≡◌, ℕ, ℤ, pos, neg_ℤ, unsigned_abs, zero, suc, ◌-◌, ◌^◌, ◌*ℤ◌, codes, ◌≤◌, ◌&&◌, Bool, true, false, cond, List, [], ◌∷◌, ◌++◌, take, drop, length, IsTrue, Option, Some, None, Result, Ok, Err, refl, sym, subst, arith}
-use Rattle.std.specs.Prelude.{nat_le}
+use Rattle.std.specs.Prelude.{nat_le, flat_map}
 use Rattle.std.specs.List.{AllByRecursion, find, list_any, position}
 use Rattle.std.specs.Str.{chars}
 use Rattle.std.proofs.lemmas.Bool.Decides.{nat_tests}
@@ -14,7 +14,7 @@ use Rattle.viz_base.specs.declared.settings.Value.{Value}
 use Rattle.viz_base.specs.declared.settings.Value.TheVariants as value
 use Rattle.css_semantics.specs.Pieces.{Token}
 use Rattle.viz_base.specs.declared.tokens.TokenKind.{TokenKind}
-use Rattle.viz_base.specs.declared.tokens.TokenKind.TheVariants.{Ident, Str, Hash, Number, Percentage, Dimension, RightParen, Function, Delim}
+use Rattle.viz_base.specs.declared.tokens.TokenKind.TheVariants.{Ident, Str, Hash, Number, Percentage, Dimension, Function, Delim}
 use Rattle.viz_base.proofs.ListLemmas.{all_append}
 use Rattle.css_semantics.specs.declared.parts.Part.{Part}
 use Rattle.css_semantics.specs.declared.parts.Part.TheVariants as part
@@ -26,12 +26,12 @@ use Rattle.css_semantics.specs.declared.parts.Takes.{Takes}
 use Rattle.css_semantics.specs.declared.parts.Takes.TheVariants.{Nothing, All, NotNegative, ZeroAlone}
 use Rattle.css_semantics.specs.Properties.{row}
 use Rattle.css_semantics.specs.SheetsMarks.{is_comma, is_character, is_gap}
-use Rattle.css_semantics.specs.SheetsReading.{closed_by_end, gathered, goes_on}
+use Rattle.css_semantics.specs.SheetsReading.{closed_by_end, gathered}
 use Rattle.css_semantics.specs.Shorthands.{declared, each_line, four, font, font_behind, font_from_size, font_names, front_len, height_behind, inherited, is_front, is_line, is_line_style, is_line_width, is_system, joined, lines, longhand_or, named_font, shorthand, shorthand_named, sides, sized_font, spread, system_font, value_or, written_font}
 use Rattle.css_semantics.specs.Properties.{property_named}
-use Rattle.css_semantics.specs.Values.{families, families_of, half, is_inherit, is_negative, is_zero, judged, longhand, number_value, one_part, part_value, placed, setting, then_on, whole_value}
+use Rattle.css_semantics.specs.Values.{families, families_of, half, is_inherit, is_negative, is_zero, judged, longhand, number_value, one_part, part_value, placed, setting, then_on, whole_value, text_or_one, are_strings, is_other_content, quoted}
 use Rattle.css_semantics.specs.ValuesLaws.{HasValue}
-use Rattle.css_semantics.specs.ValuesParts.{after_part, amount_in, amount_of, bracket_len, counted, delim_part, is_amount, is_minus, is_sign, length_of, numeral_of, part_item, part_of, parts, signed, signed_part, unit_of}
+use Rattle.css_semantics.specs.ValuesParts.{after_part, amount_in, amount_of, counted, delim_part, is_amount, is_minus, is_sign, length_of, numeral_of, part_item, part_of, parts, signed, signed_part, unit_of}
 use Rattle.css_semantics.specs.Names.{same_name}
 use Rattle.css_semantics.specs.Winners.{AreAllowed, IsAllowed, MayWin}
 use Rattle.css_semantics.proofs.TableLemmas.{part_has}
@@ -97,7 +97,7 @@ kind_counted Number t ts = of_counted false t
 kind_counted Percentage t ts = of_counted false t
 kind_counted Dimension t ts = of_counted false t
 kind_counted Hash t ts = tt
-kind_counted Function t ts = either_counted (goes_on (RightParen ∷ []) (take (bracket_len RightParen ts) ts)) part.Colour part.Other tt tt
+kind_counted Function t ts = tt
 kind_counted Delim t ts = delim_counted t ts
 kind_counted _ t ts = tt
 
@@ -163,6 +163,7 @@ may_win p (value.Em n) h k = h
 may_win p (value.Pct n) h k = (h, k)
 may_win p (value.Number n) h k = h
 may_win p (value.Names names) h k = absurd h
+may_win p (value.Chars text) h k = absurd h
 
 -- a value that may win for a property, where there is one
 abbrev Wins : Prop → Result Value Refusal → Type 0
@@ -195,8 +196,18 @@ one_wins p [] h = tt
 one_wins p (a ∷ []) h = part_wins p a h.0
 one_wins p (a ∷ b ∷ ps) h = tt
 
+text_wins : (p : Prop) (ps : List Part) → AreCounted ps → IsTrue (row p).strings → Wins p (text_or_one p ps)
+text_wins p ps h t =
+    let one = cond (list_any (is_other_content p) ps) (Err (Unsupported p)) (one_part p ps) in
+    wins_either p (are_strings ps) (Ok (value.Chars (flat_map quoted ps))) one (λ _. t)
+    (wins_either p (list_any (is_other_content p) ps) (Err (Unsupported p)) (one_part p ps) (λ _. tt) (one_wins p ps h))
+
 whole_wins : (p : Prop) (ps : List Part) → AreCounted ps → Wins p (whole_value p ps)
-whole_wins p ps h = wins_if p (is_inherit ps) (Ok value.Inherit) (cond (row p).families (families_of (families ps)) (one_part p ps)) tt (λ _. wins_either p (row p).families (families_of (families ps)) (one_part p ps) (λ e. names_win p (families ps) e) (one_wins p ps h))
+whole_wins p ps h =
+    let one = cond (row p).strings (text_or_one p ps) (one_part p ps) in
+    wins_if p (is_inherit ps) (Ok value.Inherit) (cond (row p).families (families_of (families ps)) one) tt
+    (λ _. wins_either p (row p).families (families_of (families ps)) one (λ e. names_win p (families ps) e)
+    (wins_either p (row p).strings (text_or_one p ps) (one_part p ps) (λ e. text_wins p ps h e) (one_wins p ps h)))
 
 -- ---- settings
 

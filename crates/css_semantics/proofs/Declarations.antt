@@ -12,7 +12,8 @@ use Rattle.viz_base.specs.declared.sheets.Decl.{Decl}
 use Rattle.viz_base.proofs.Truths.{by_bool, and_first, and_second}
 use Rattle.css_semantics.specs.SheetsMarks.{is_ident, is_at_keyword, is_colon, is_gap, ends_declaration}
 use Rattle.css_semantics.specs.SheetsReading.{goes_on, before_important, declared_at, trim_start, is_blank}
-use Rattle.css_semantics.specs.steps.Sheets.{is_value, declared, declaration, declaration_item, after_declaration, declarations, front, behind, after_at_rule}
+use Rattle.css_semantics.specs.steps.Sheets.{is_value, declared, declaration, declaration_item, after_declaration, declarations, after_at_rule}
+use Rattle.css_semantics.specs.steps.Stretches.{front, behind}
 use Rattle.css_semantics.specs.SheetsGrammar.{IsDeclaration, DeclarationItem, blank, at_rule, well_formed, malformed, AreDeclarations}
 use Rattle.css_semantics.proofs.Stretches.{is_stretch, stretch_front, stretch_behind}
 use Rattle.css_semantics.proofs.Values.{standing_goes, goes_standing}

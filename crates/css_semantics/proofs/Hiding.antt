@@ -5,7 +5,7 @@ use Rattle.std.specs.Option.{option_map_or}
 use Rattle.std.proofs.lemmas.Bool.{cases_lt, or_cases, or_left, or_right}
 use Rattle.std.proofs.lemmas.List.Folds.{list_any-append}
 use Rattle.std.proofs.lemmas.Option.{same_Some, slice_get-get_or, slice_get_within}
-use Rattle.std.proofs.Math.Bool.{or-false}
+use Rattle.std.proofs.Math.Bool.{and-false, or-false}
 use Rattle.viz_base.specs.Pages.{IsPage}
 use Rattle.viz_base.specs.declared.nodes.Node.{Node}
 use Rattle.viz_base.specs.declared.settings.Prop.{Prop}
@@ -35,7 +35,10 @@ refused_hides_not replaced outer of_prop.Display (Some v) e = absurd (only_limit
 refused_hides_not replaced outer _ v e = refl
 
 one_hides : (replaced : Bool) (outer : Standing) (p : Prop) (v : Option Value) → list_any is_none (cond (refuses replaced outer p v) [] (set_by p v)) ≡ (is_prop p of_prop.Display && is_word 0 v)
-one_hides replaced outer p None = sym (refused_hides_not replaced outer p None refl)
+one_hides replaced outer p None = nothing_set (refuses replaced outer p None) ∙ sym (and-false (is_prop p of_prop.Display)) where
+  nothing_set : (b : Bool) → list_any is_none (cond b [] []) ≡ false
+  nothing_set true = refl
+  nothing_set false = refl
 one_hides replaced outer p (Some v) =
     by_bool (refuses replaced outer p (Some v))
     (λ t. ap (λ b. list_any is_none (cond b [] (set_by p (Some v)))) t ∙ sym (refused_hides_not replaced outer p (Some v) t))
@@ -67,7 +70,7 @@ node_hides {standings = standings} {node = node} (comes_to {all = all} applied) 
 
 -- ---- one more item
 
-get_last : {A : Type 0} (xs : List A) (x : A) → slice_get (xs ++ x ∷ []) (length xs) ≡ Some x
+pub get_last : {A : Type 0} (xs : List A) (x : A) → slice_get (xs ++ x ∷ []) (length xs) ≡ Some x
 get_last [] x = refl
 get_last (y ∷ xs) x = get_last xs x
 

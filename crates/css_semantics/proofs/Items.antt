@@ -4,8 +4,9 @@ use Rattle.viz_base.proofs.Truths.{by_bool}
 use Rattle.css_semantics.specs.Pieces.{Token}
 use Rattle.css_semantics.specs.SheetsMarks.{is_left_brace, ends_prelude, ends_block}
 use Rattle.css_semantics.specs.SheetsReading.{gathered}
-use Rattle.css_semantics.specs.steps.Sheets.{front, behind, after_block, after_prelude, after_at_rule, in_block}
-use Rattle.css_semantics.specs.SheetsGrammar.{IsBlock, IsBody, at_end, at_semicolon, at_block, IsAtRule, Listed, done, more}
+use Rattle.css_semantics.specs.steps.Sheets.{after_block, after_prelude, after_at_rule, in_block}
+use Rattle.css_semantics.specs.steps.Stretches.{front, behind}
+use Rattle.css_semantics.specs.SheetsStretches.{IsBlock, IsBody, at_end, at_semicolon, at_block, IsAtRule, Listed, done, more}
 use Rattle.css_semantics.proofs.Gathering.{HasTails, gathered_cons, length-tail}
 use Rattle.css_semantics.proofs.Stretches.{is_stretch, stretch_front, stretch_behind}
 

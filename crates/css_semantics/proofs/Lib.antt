@@ -10,6 +10,7 @@ pub mod Stretches
 pub mod Values
 pub mod Items
 pub mod Declarations
+pub mod MediaLists
 pub mod Rules
 pub mod Answers
 pub mod Names

@@ -6,7 +6,7 @@ use Rattle.viz_base.specs.declared.tokens.TokenKind.TheVariants.{RightBrace, Rig
 use Rattle.viz_base.proofs.Truths.{by_bool}
 use Rattle.css_semantics.specs.SheetsMarks.{closing_mark, is_mark, is_paren, is_bracket, is_brace}
 use Rattle.css_semantics.specs.SheetsReading.{passed, opened, awaited, still_awaited}
-use Rattle.css_semantics.specs.SheetsGrammar.{Paired, nothing, single, pair, is_awaited}
+use Rattle.css_semantics.specs.SheetsStretches.{Paired, nothing, single, pair, is_awaited}
 
 marks_append : (marks : List TokenKind) (p q : List Token) → still_awaited marks (p ++ q) ≡ still_awaited (still_awaited marks p) q
 marks_append marks [] q = refl

@@ -7,8 +7,8 @@ use Rattle.css_semantics.specs.Pieces.{Token}
 use Rattle.viz_base.specs.declared.tokens.TokenKind.{TokenKind}
 use Rattle.viz_base.proofs.Truths.{by_bool, and_first, and_second}
 use Rattle.css_semantics.specs.SheetsReading.{awaited, is_none, stretch_len, still_awaited}
-use Rattle.css_semantics.specs.steps.Sheets.{front, behind}
-use Rattle.css_semantics.specs.SheetsGrammar.{Paired, EndsAt, IsStretch}
+use Rattle.css_semantics.specs.steps.Stretches.{front, behind}
+use Rattle.css_semantics.specs.SheetsStretches.{Paired, EndsAt, IsStretch}
 use Rattle.css_semantics.proofs.Pairs.{paired_marks, marks_paired}
 
 none_is : (marks : List TokenKind) → is_none marks ≡ true → marks ≡ []

@@ -4,8 +4,12 @@ use Rattle.std.proofs.Math.Numerals.{add-one, one-add}
 use Rattle.css_semantics.specs.Pieces.{Token}
 use Rattle.css_semantics.specs.SheetsMarks.{is_left_brace, is_gap, is_semicolon, is_at_keyword, ends_prelude, ends_selector, ends_block, ends_declaration, ends_entry}
 use Rattle.css_semantics.specs.SheetsReading.{stretch_len, awaited, is_blank, is_between}
-use Rattle.css_semantics.specs.steps.Sheets.{behind, after_block, after_prelude, after_at_rule, after_selector, after_ruleset, after_declaration, after_rule, after_statement, after_entry}
-use Rattle.css_semantics.proofs.Gathering.{IsTail, HasTails, drop-drop, tail_all, tail_nil, tail_drop, tail_tail}
+use Rattle.css_semantics.specs.steps.Sheets.{after_block, after_prelude, after_at_rule, after_selector, after_ruleset, after_declaration, after_rule, after_statement}
+use Rattle.css_semantics.specs.steps.MediaLists.{after_comma}
+use Rattle.css_semantics.specs.MediaLists.{after_piece}
+use Rattle.css_semantics.specs.ValuesParts.{after_sign, is_amount, is_sign}
+use Rattle.css_semantics.specs.steps.Stretches.{behind}
+use Rattle.css_semantics.proofs.Gathering.{IsTail, HasTails, drop-drop, tail_all, tail_nil, tail_drop, tail_tail, tail_cons}
 
 pub tail_if : (b : Bool) (x y ts : List Token) → (b ≡ true → IsTail x ts) → (b ≡ false → IsTail y ts) → IsTail (cond b x y) ts
 tail_if true x y ts h k = h refl
@@ -47,6 +51,10 @@ tail_selector (u ∷ us) t ts h = tail_block us ts (tail_less u us t ts h)
 tail_ruleset : (t : Token) (ts : List Token) → IsTail (after_ruleset (t ∷ ts)) ts
 tail_ruleset t ts = tail_selector (behind ends_selector (t ∷ ts)) t ts (tail_behind ends_selector (t ∷ ts))
 
+pub tail_sign : (ts : List Token) → IsTail (after_sign ts) ts
+tail_sign [] = tail_all []
+tail_sign (t ∷ ts) = tail_if (is_amount t.kind) ts (t ∷ ts) (t ∷ ts) (λ _. tail_cons t ts ts (tail_all ts)) (λ _. tail_all (t ∷ ts))
+
 pub declaration_tails : HasTails after_declaration
 declaration_tails t ts =
     tail_if (is_blank t.kind) _ _ ts (λ _. tail_all ts) (λ e. tail_if (is_at_keyword t.kind) _ _ ts (λ _. tail_at_rule ts) (λ _. tail_later ends_declaration t ts (second_false (is_gap t.kind) (is_semicolon t.kind) e)))
@@ -59,6 +67,8 @@ pub statement_tails : HasTails after_statement
 statement_tails t ts =
     tail_if (is_between t.kind) _ _ ts (λ _. tail_all ts) (λ _. tail_if (is_at_keyword t.kind) _ _ ts (λ _. tail_at_rule ts) (λ _. tail_ruleset t ts))
 
-pub entry_tails : HasTails after_entry
-entry_tails t ts =
-    (stretch_len ends_entry [] (t ∷ ts), drop-drop 1 (stretch_len ends_entry [] (t ∷ ts)) (t ∷ ts) ∙ ap (λ k. drop k (t ∷ ts)) (add-one (stretch_len ends_entry [] (t ∷ ts))))
+pub comma_tails : HasTails after_comma
+comma_tails t ts = tail_behind ends_entry ts
+
+pub piece_tails : HasTails after_piece
+piece_tails t ts = tail_if (is_sign t) (after_sign ts) ts ts (λ _. tail_sign ts) (λ _. tail_all ts)

@@ -1,5 +1,5 @@
 -- The cascade: what wins at each node for each property (CSS 2.1, 6.4), or the first that is refused.
-use Rattle.std.specs.Prelude.{ℕ, List, [], ◌∷◌, ◌++◌, length, Result, Ok, Err}
+use Rattle.std.specs.Prelude.{ℕ, List, [], ◌∷◌, ◌++◌, length, None, Result, Ok, Err}
 use Rattle.viz_base.specs.declared.nodes.Node.{Node}
 use Rattle.viz_base.specs.declared.settings.Prop.{Prop}
 use Rattle.viz_base.specs.declared.settings.Setting.{Setting}
@@ -41,13 +41,13 @@ pub data Goes (nodes : List Node) (rulesets : List Ruleset) : List Standing → 
       → Goes nodes rulesets (standings ++ standing ∷ []) (winners ++ settings ∷ []) rest answer
       → Goes nodes rulesets standings winners (node ∷ rest) answer
 
--- The cascade of a page: refused selectors come before refused values.
+-- The cascade of a page, by the selectors without a pseudo-element: refused selectors come before refused values.
 pub data IsCascade (nodes : List Node) (texts : List (List ℕ)) (sheets : List Sheet)
     : Result (List (List Setting)) Fault → Type 0 where
   refused_selector : {sheet at : ℕ}
-      → AreRulesets texts sheets (Err (sheet, at))
+      → AreRulesets None texts sheets (Err (sheet, at))
       → IsCascade nodes texts sheets (Err (selector_at sheet at))
   cascaded : {rulesets : List Ruleset} {answer : Result (List (List Setting)) Fault}
-      → AreRulesets texts sheets (Ok rulesets)
+      → AreRulesets None texts sheets (Ok rulesets)
       → Goes nodes rulesets [] [] nodes answer
       → IsCascade nodes texts sheets answer

@@ -52,10 +52,10 @@ sets_max_height outer p v = is_prop p of_prop.MaxHeight && is_limit outer.max_he
 abbrev pub sets_limit : Standing → Prop → Value → Bool
 sets_limit outer p v = sets_min_width outer p v || (sets_min_height outer p v || sets_max_height outer p v)
 
--- A value that is refused: one that is refused by name, and on a replaced
--- element such a minimum or maximum (our own reading).
+-- A value that is refused: one that is refused by name, but for `content`, which has no effect on an element (CSS 2.1,
+-- 12.2), and on a replaced element such a minimum or maximum (our own reading).
 abbrev pub refuses : Bool → Standing → Prop → Option Value → Bool
-refuses replaced outer p None = true
+refuses replaced outer p None = not (is_prop p of_prop.Content)
 refuses replaced outer p (Some v) = replaced && sets_limit outer p v
 
 abbrev pub is_refused : Bool → Standing → Claim → Bool

@@ -104,6 +104,7 @@ place_of prop.LetterSpacing = 35
 place_of prop.WordSpacing = 36
 place_of prop.TextTransform = 37
 place_of prop.ListStylePosition = 38
+place_of prop.Content = 39
 
 abbrev pub is_prop : Prop → Prop → Bool
 is_prop p q = place_of p == place_of q

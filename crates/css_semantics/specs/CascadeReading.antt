@@ -1,14 +1,14 @@
 -- What the declarations of style sheets and of style attributes say of each property, in
 -- order, and which of it applies to a node (CSS 2.1, 4.1.7, 4.1.8, 6.4).
-use Rattle.std.specs.Prelude.{◌≡◌, ℕ, ◌+◌, zero, suc, Bool, List, [], ◌∷◌, ◌++◌, map, Option, Some, None, Result, Ok, Err, slice_range, if◌then◌else◌, codes}
+use Rattle.std.specs.Prelude.{◌≡◌, ℕ, ◌+◌, zero, suc, Bool, true, false, List, [], ◌∷◌, ◌++◌, filter, map, Option, Some, None, Result, Ok, Err, slice_range, if◌then◌else◌, codes}
 use Rattle.std.specs.Str.{IsCharBoundary}
 use Rattle.viz_base.specs.declared.nodes.Attr.{Attr}
 use Rattle.viz_base.specs.declared.nodes.Body.{Body}
 use Rattle.viz_base.specs.declared.nodes.Body.TheVariants as of_body
 use Rattle.viz_base.specs.declared.nodes.Element.{Element}
 use Rattle.viz_base.specs.declared.nodes.Node.{Node}
-use Rattle.viz_base.specs.declared.selectors.Compound.{Compound}
-use Rattle.viz_base.specs.declared.selectors.Join.{Join}
+use Rattle.viz_base.specs.declared.selectors.Pseudo.{Pseudo}
+use Rattle.viz_base.specs.declared.selectors.Pseudo.TheVariants.{Before, After}
 use Rattle.viz_base.specs.declared.selectors.Spec.{Spec}
 use Rattle.viz_base.specs.declared.settings.Prop.{Prop}
 use Rattle.viz_base.specs.declared.settings.Setting.{Setting}
@@ -31,6 +31,7 @@ use Rattle.css_semantics.specs.SheetsGrammar.{AreDeclarationsOf}
 use Rattle.css_semantics.specs.SelectorGrammar.{IsGroupOf, IsUnsupportedAt, IsBadAt}
 use Rattle.css_semantics.specs.Matching.{Match}
 use Rattle.css_semantics.specs.Specificity.{spec_of}
+use Rattle.css_semantics.specs.Spelled.{Spelled, spelled}
 use Rattle.css_semantics.specs.Names.{same_name}
 use Rattle.css_semantics.specs.Shorthands.{Says}
 use Rattle.css_semantics.specs.CascadeOrder.{Applied, applied, greatest, spec_cmp, style_spec}
@@ -97,15 +98,23 @@ AreClaimed origin text decls claims = Each (IsClaimed origin text) decls (Ok cla
 
 -- ---- rulesets
 
-abbrev pub Parts : Type 0
-Parts = List (Join × Compound)
+-- the same pseudo-element, or none both
+abbrev pub is_pseudo : Option Pseudo → Option Pseudo → Bool
+is_pseudo None None = true
+is_pseudo (Some Before) (Some Before) = true
+is_pseudo (Some After) (Some After) = true
+is_pseudo _ _ = false
 
-abbrev pub parts_and_spec : Ranked → Parts × Spec
-parts_and_spec r = (r.selector.parts, r.spec)
+-- the selectors with this pseudo-element, or without one
+abbrev pub those_of : Option Pseudo → List Spelled → List Spelled
+those_of which selectors = filter (λ s. is_pseudo which s.1) selectors
+
+abbrev pub spelled_and_spec : Ranked → Spelled × Spec
+spelled_and_spec r = (spelled r.selector, r.spec)
 
 -- the selectors of a group, each with its specificity
-abbrev pub IsRanked : List Ranked → List Parts → Type 0
-IsRanked group selectors = map parts_and_spec group ≡ map (λ parts. (parts, spec_of parts)) selectors
+abbrev pub IsRanked : List Ranked → List Spelled → Type 0
+IsRanked group selectors = map spelled_and_spec group ≡ map (λ s. (s, spec_of s)) selectors
 
 -- An unsupported selector refuses an author's sheet; a ruleset of the default sheet is dropped for it.
 abbrev pub unsupported_at : Origin → ℕ → Result (List Ruleset) Refused
@@ -113,16 +122,23 @@ unsupported_at of_origin.Default at = Ok []
 unsupported_at (of_origin.Author sheet) at = Err (sheet, at)
 unsupported_at (of_origin.Style node) at = Ok []
 
--- A ruleset, or none where its selector can't be read (CSS 2.1, 4.1.7), or the place of its first refused selector.
-pub data IsRuleset (origin : Origin) (text : List ℕ) (rule : Rule) : Result (List Ruleset) Refused → Type 0 where
-  read : {selector : List ℕ} {selectors : List Parts} {one : Ruleset} → IsSlice text rule.at rule.len selector
-      → IsGroupOf selector selectors → IsRanked one.group selectors → AreClaimed origin text rule.decls one.claims
-      → IsRuleset origin text rule (Ok (one ∷ []))
+-- A ruleset, with those of its selectors that have this pseudo-element, or none; no ruleset where there are no such
+-- selectors, or its selectors can't be read (CSS 2.1, 4.1.7); or the place of its first refused selector.
+pub data IsRuleset (which : Option Pseudo) (origin : Origin) (text : List ℕ) (rule : Rule)
+    : Result (List Ruleset) Refused → Type 0 where
+  read : {selector : List ℕ} {selectors more : List Spelled} {first : Spelled} {one : Ruleset}
+      → IsSlice text rule.at rule.len selector → IsGroupOf selector selectors
+      → those_of which selectors ≡ first ∷ more → IsRanked one.group (first ∷ more)
+      → AreClaimed origin text rule.decls one.claims
+      → IsRuleset which origin text rule (Ok (one ∷ []))
+  of_others : {selector : List ℕ} {selectors : List Spelled} → IsSlice text rule.at rule.len selector
+      → IsGroupOf selector selectors → those_of which selectors ≡ []
+      → IsRuleset which origin text rule (Ok [])
   bad : {selector : List ℕ} {at : ℕ} → IsSlice text rule.at rule.len selector → IsBadAt selector at
-      → IsRuleset origin text rule (Ok [])
+      → IsRuleset which origin text rule (Ok [])
   not_supported : {selector : List ℕ} {at : ℕ} → IsSlice text rule.at rule.len selector → IsUnsupportedAt selector at
-      → IsRuleset origin text rule (unsupported_at origin (rule.at + at))
-  nothing_there : IsNoSlice text rule.at rule.len → IsRuleset origin text rule (Ok [])
+      → IsRuleset which origin text rule (unsupported_at origin (rule.at + at))
+  nothing_there : IsNoSlice text rule.at rule.len → IsRuleset which origin text rule (Ok [])
 
 -- ---- sheets
 
@@ -146,9 +162,11 @@ rules_from n [] sheets = []
 rules_from n (t ∷ texts) [] = []
 rules_from n (t ∷ texts) (s ∷ sheets) = map (placed (sheet_origin n) t) s.rules ++ rules_from (suc n) texts sheets
 
--- the rulesets of the sheets in order, or the first refused selector of an author
-abbrev pub AreRulesets : List (List ℕ) → List Sheet → Result (List Ruleset) Refused → Type 0
-AreRulesets texts sheets answer = Each (λ p. IsRuleset p.origin p.text p.rule) (rules_from 0 texts sheets) answer
+-- the rulesets of the sheets in order, by their selectors with this pseudo-element, or without one; or the first refused
+-- selector of an author
+abbrev pub AreRulesets : Option Pseudo → List (List ℕ) → List Sheet → Result (List Ruleset) Refused → Type 0
+AreRulesets which texts sheets answer =
+    Each (λ p. IsRuleset which p.origin p.text p.rule) (rules_from 0 texts sheets) answer
 
 -- ---- style attributes
 
@@ -190,3 +208,10 @@ pub data AreApplied (nodes : List Node) (rulesets : List Ruleset) (n : ℕ) : Bo
       → IsStyled n e.attrs style
       → AreApplied nodes rulesets n (of_body.Element e) (all ++ map (applied style_spec) style)
   to_text : {text : List ℕ} → AreApplied nodes rulesets n (of_body.Chars text) []
+
+-- All settings that apply to a pseudo-element of a node, of rulesets with its selectors: a style attribute says nothing of
+-- one. A text has none.
+pub data AreAppliedBeside (nodes : List Node) (rulesets : List Ruleset) (n : ℕ) : Body → List Applied → Type 0 where
+  to_element : {e : Element} {all : List Applied} → Each (AppliesTo nodes n) rulesets (Ok all)
+      → AreAppliedBeside nodes rulesets n (of_body.Element e) all
+  to_text : {text : List ℕ} → AreAppliedBeside nodes rulesets n (of_body.Chars text) []

@@ -8,8 +8,8 @@ pub mod Pieces
 pub mod Tokens
 pub mod SheetsMarks
 pub mod SheetsReading
-pub mod SheetsGrammar
-pub mod steps
+pub mod SheetsStretches
+pub mod Spelled
 pub mod SelectorTerminals
 pub mod SelectorGrammar
 pub mod Matching
@@ -18,6 +18,9 @@ pub mod SelectorLaws
 pub mod Properties
 pub mod ValuesParts
 pub mod Values
+pub mod MediaLists
+pub mod SheetsGrammar
+pub mod steps
 pub mod Shorthands
 pub mod ValuesLaws
 pub mod DefaultSheet
@@ -26,6 +29,7 @@ pub mod CascadeReading
 pub mod Sources
 pub mod CascadeNodes
 pub mod Cascade
+pub mod PseudoCascade
 pub mod CascadeLaws
 pub mod Winners
 pub mod Hidden

@@ -4,7 +4,7 @@ use Rattle.std.specs.Prelude.{ℕ, pos, ◌==◌, Bool, true, false, List, [], �
 use Rattle.std.specs.List.{find}
 use Prim.Native.String.{String}
 use Rattle.viz_base.specs.declared.settings.Prop.{Prop}
-use Rattle.viz_base.specs.declared.settings.Prop.TheVariants.{Display, Position, Float, Clear, Overflow, Direction, Width, Height, MinWidth, MinHeight, MaxWidth, MaxHeight, MarginTop, MarginRight, MarginBottom, MarginLeft, PaddingTop, PaddingRight, PaddingBottom, PaddingLeft, BorderTopWidth, BorderRightWidth, BorderBottomWidth, BorderLeftWidth, BorderTopStyle, BorderRightStyle, BorderBottomStyle, BorderLeftStyle, FontSize, FontFamily, LineHeight, VerticalAlign, TextAlign, WhiteSpace, TextIndent, LetterSpacing, WordSpacing, TextTransform, ListStylePosition}
+use Rattle.viz_base.specs.declared.settings.Prop.TheVariants.{Display, Position, Float, Clear, Overflow, Direction, Width, Height, MinWidth, MinHeight, MaxWidth, MaxHeight, MarginTop, MarginRight, MarginBottom, MarginLeft, PaddingTop, PaddingRight, PaddingBottom, PaddingLeft, BorderTopWidth, BorderRightWidth, BorderBottomWidth, BorderLeftWidth, BorderTopStyle, BorderRightStyle, BorderBottomStyle, BorderLeftStyle, FontSize, FontFamily, LineHeight, VerticalAlign, TextAlign, WhiteSpace, TextIndent, LetterSpacing, WordSpacing, TextTransform, ListStylePosition, Content}
 use Rattle.viz_base.specs.declared.settings.Value.{Value}
 use Rattle.viz_base.specs.declared.settings.Value.TheVariants.{Word, Px, Names}
 use Rattle.css_semantics.specs.declared.parts.Takes.{Takes}
@@ -36,6 +36,8 @@ pub record Row : Type 0 where
   pub numbers : Takes
   -- whether the value is a list of names of font families
   pub families : Bool
+  -- whether the value may be a text: strings, one after another
+  pub strings : Bool
   pub initial : Value
   pub inherits : Bool
 
@@ -52,6 +54,7 @@ keywords name words refused initial inherits =
       percentages = Nothing;
       numbers = Nothing;
       families = false;
+      strings = false;
       initial = Word initial;
       inherits = inherits;
     }
@@ -67,6 +70,7 @@ measured name words lengths percentages initial =
       percentages = percentages;
       numbers = Nothing;
       families = false;
+      strings = false;
       initial = initial;
       inherits = false;
     }
@@ -87,7 +91,7 @@ abbrev pub zero : Value
 zero = Px (pos 0)
 
 -- The rows of the properties of CSS 2.1, 8.3 to 8.5, 9.2.4, 9.3.1, 9.5, 9.10, 10.2 to 10.8, 11.1.1,
--- 12.5, 15.3, 15.7 and 16.1 to 16.6. What is refused by name is this project's own choice.
+-- 12.2, 12.5, 15.3, 15.7 and 16.1 to 16.6. What is refused by name is this project's own choice.
 abbrev pub row : Prop → Row
 row Display = keywords "display" (each_word (codes "none block inline inline-block list-item")) table_words 2 false
 row Position = keywords "position" (each_word (codes "static")) (each_word (codes "relative absolute fixed")) 0 false
@@ -136,6 +140,10 @@ row WordSpacing =
 row TextTransform =
     keywords "text-transform" (each_word (codes "none")) (each_word (codes "capitalize uppercase lowercase")) 0 true
 row ListStylePosition = keywords "list-style-position" (each_word (codes "outside")) (each_word (codes "inside")) 0 true
+row Content =
+    record (keywords "content" (each_word (codes "normal none"))
+    (each_word (codes "open-quote close-quote no-open-quote no-close-quote")) 0 false)
+    { strings = true }
 
 -- the properties in the order of the table
 abbrev pub properties : List Prop
@@ -147,7 +155,7 @@ properties =
     ∷ BorderTopWidth ∷ BorderRightWidth ∷ BorderBottomWidth ∷ BorderLeftWidth
     ∷ BorderTopStyle ∷ BorderRightStyle ∷ BorderBottomStyle ∷ BorderLeftStyle
     ∷ FontSize ∷ FontFamily ∷ LineHeight ∷ VerticalAlign ∷ TextAlign ∷ WhiteSpace
-    ∷ TextIndent ∷ LetterSpacing ∷ WordSpacing ∷ TextTransform ∷ ListStylePosition ∷ []
+    ∷ TextIndent ∷ LetterSpacing ∷ WordSpacing ∷ TextTransform ∷ ListStylePosition ∷ Content ∷ []
 
 -- the property of this name
 abbrev pub property_named : List ℕ → Option Prop

@@ -11,8 +11,9 @@ use Rattle.css_semantics.specs.declared.terminals.Terminal.{Terminal}
 use Rattle.css_semantics.specs.declared.terminals.Terminal.TheVariants.{Space, Ident, Str, Id, Function, Star, Dot, Comma, Greater, Plus, Equal, Includes, DashMatch, LeftBracket, RightBracket, RightParen, Colon, Other}
 use Rattle.css_semantics.specs.declared.terminals.Comparison.{Comparison}
 use Rattle.css_semantics.specs.declared.terminals.Comparison.TheVariants as of_comparison
-use Rattle.css_semantics.specs.declared.terminals.Pseudo.{Pseudo}
-use Rattle.css_semantics.specs.declared.terminals.Pseudo.TheVariants as of_pseudo
+use Rattle.css_semantics.specs.declared.terminals.ColonName.{ColonName}
+use Rattle.css_semantics.specs.declared.terminals.ColonName.TheVariants as of_name
+use Rattle.viz_base.specs.declared.selectors.Pseudo.TheVariants.{Before, After}
 use Rattle.css_semantics.specs.TokensLetters.{is_start}
 use Rattle.css_semantics.specs.Names.{same_name}
 use Rattle.css_semantics.specs.SheetsMarks.{text_of}
@@ -80,15 +81,16 @@ unfoldable pub name_of : Token → List ℕ
 name_of t = map to_ascii_lowercase (text_of t)
 
 -- what a name behind a colon says, after escapes (CSS 2.1, 5.10 to 5.12)
-abbrev pub pseudo : List ℕ → Option Pseudo
+abbrev pub pseudo : List ℕ → Option ColonName
 pseudo text =
-    if same_name text (codes "first-child") then Some (of_pseudo.Class of_test.FirstChild)
-    else (if same_name text (codes "link") then Some (of_pseudo.Class of_test.Link)
+    if same_name text (codes "first-child") then Some (of_name.Class of_test.FirstChild)
+    else (if same_name text (codes "link") then Some (of_name.Class of_test.Link)
     else (if same_name text (codes "visited") || same_name text (codes "hover") || same_name text (codes "active")
-    || same_name text (codes "focus") then Some (of_pseudo.Class of_test.Never)
-    else (if same_name text (codes "first-line") || same_name text (codes "first-letter")
-    || same_name text (codes "before") || same_name text (codes "after") then Some of_pseudo.Element
-    else None)))
+    || same_name text (codes "focus") then Some (of_name.Class of_test.Never)
+    else (if same_name text (codes "before") then Some (of_name.Generated Before)
+    else (if same_name text (codes "after") then Some (of_name.Generated After)
+    else (if same_name text (codes "first-line") || same_name text (codes "first-letter") then Some of_name.Refused
+    else None)))))
 
 -- how a terminal between an attribute's name and its value compares
 abbrev pub comparison : Terminal → Option Comparison

@@ -1,94 +1,20 @@
--- The grammar of sheets over lists of tokens, with all that error recovery drops (CSS 2.1, 4.1.1,
--- 4.1.5 to 4.1.8, 4.2, 6.3 and 7.2.1). What is kept and what is dropped are stretches, each the
--- shortest that ends where its rule says with all pairs of brackets matched.
-use Rattle.std.specs.Prelude.{◌≡◌, ℕ, ◌<◌, ◌≤◌, Bool, true, false, not, ◌⊎◌, List, [], ◌∷◌, ◌++◌, length, map, drop, Option, Some, None, Result, Ok, Err, codes}
-use Rattle.std.specs.Option.{option_to_list}
+-- The grammar of sheets over lists of tokens, with all that error recovery drops (CSS 2.1, 4.1.5 to 4.1.8, 4.2, 6.3 and
+-- 7.2.1). What is kept and what is dropped are stretches.
+use Rattle.std.specs.Prelude.{◌≡◌, ℕ, ◌<◌, ◌≤◌, Bool, true, false, not, ◌&&◌, List, [], ◌∷◌, ◌++◌, length, map, Option, Some, None, Result, Ok, Err, codes}
+use Rattle.std.specs.Option.{option_to_list, is_none}
 use Rattle.std.specs.List.{list_any, list_all}
 use Rattle.css_semantics.specs.Pieces.{Token}
 use Rattle.viz_base.specs.declared.tokens.TokenKind.{TokenKind}
 use Rattle.viz_base.specs.declared.sheets.Decl.{Decl}
+use Rattle.viz_base.specs.declared.sheets.MediaEntry.{MediaEntry}
 use Rattle.viz_base.specs.declared.sheets.Rule.{Rule}
 use Rattle.css_semantics.specs.declared.statements.Statement.{Statement}
 use Rattle.css_semantics.specs.declared.statements.Statement.TheVariants.{Ruleset, Import, Page, MediaQuery, Media}
 use Rattle.css_semantics.specs.Tokens.{AreTokens}
-use Rattle.css_semantics.specs.SheetsMarks.{closing_mark, is_mark, is_ident, is_at_keyword, is_colon, is_left_brace, is_space, is_gap, is_bad, has_paren, is_word, ends_prelude, ends_selector, ends_block, ends_declaration, ends_entry}
-use Rattle.css_semantics.specs.SheetsReading.{Refusal, import_at, media_at, too_many, is_closing, may_stand, before_important, declared_at, start_of, extent, trimmed, is_blank, is_between, is_screen, closed_by_end}
-
--- ---- stretches
-
-abbrev pub is_awaited : Option TokenKind → TokenKind → Bool
-is_awaited None kind = false
-is_awaited (Some mark) kind = is_mark mark kind
-
--- Tokens in which all pairs are matched: what opens a pair stands with its own closing
--- mark and with what is between them. Within a pair its closing mark ends it, and any
--- other closing mark stands for itself, as each does outside all pairs.
-pub data Paired : Option TokenKind → List Token → Type 0 where
-  nothing : {within : Option TokenKind} → Paired within []
-  single : {within : Option TokenKind} {t : Token} {ts : List Token}
-      → closing_mark t.kind ≡ None
-      → is_awaited within t.kind ≡ false
-      → Paired within ts
-      → Paired within (t ∷ ts)
-  pair : {within : Option TokenKind} {opener : Token} {ts : List Token}
-      → (mark : TokenKind) (inner : List Token) (close : Token) (rest : List Token)
-      → ts ≡ inner ++ close ∷ rest
-      → closing_mark opener.kind ≡ Some mark
-      → Paired (Some mark) inner
-      → is_mark mark close.kind ≡ true
-      → Paired within rest
-      → Paired within (opener ∷ ts)
-
--- the rest begins with a token that ends the stretch, and all pairs before it are matched
-pub record EndsAt (stop : Token → Bool) (front rest : List Token) : Type 0 where
-  pub at : Token
-  pub after : List Token
-  pub is : rest ≡ at ∷ after
-  pub matched : Paired None front
-  pub stops : stop at ≡ true
-
--- The shortest front of the tokens with all pairs matched behind which a token stands that ends it; where
--- there is none, the end of the text closes what is open, and all the tokens are the stretch.
-pub record IsStretch (stop : Token → Bool) (ts front rest : List Token) : Type 0 where
-  pub whole : ts ≡ front ++ rest
-  pub ends : (rest ≡ []) ⊎ EndsAt stop front rest
-  pub shortest : (p : List Token) (t : Token) (r : List Token)
-      → ts ≡ p ++ t ∷ r
-      → Paired None p
-      → stop t ≡ true
-      → length front ≤ length p
-
--- what stands in the block whose `{` is before the tokens, and what follows its `}`
-pub record IsBlock (ts block rest : List Token) : Type 0 where
-  pub closing : List Token
-  pub stretch : IsStretch ends_block ts block closing
-  pub past : rest ≡ drop 1 closing
-
--- An at-rule behind its prelude: the text ends, or a `;` comes, or a block.
-pub data IsBody : List Token → List Token → List Token → Type 0 where
-  at_end : IsBody [] [] []
-  at_semicolon : {t : Token} {ts : List Token} → is_left_brace t.kind ≡ false → IsBody (t ∷ ts) [] ts
-  at_block : {t : Token} {ts block rest : List Token}
-      → is_left_brace t.kind ≡ true
-      → IsBlock ts block rest
-      → IsBody (t ∷ ts) block rest
-
--- An at-rule behind its keyword: its prelude, what stands in its block if it has one, and what follows it.
-pub record IsAtRule (ts prelude block rest : List Token) : Type 0 where
-  pub body : List Token
-  pub stretch : IsStretch ends_prelude ts prelude body
-  pub rule : IsBody body block rest
-
--- ---- one item after another
-
--- The tokens are items, one after another, and these are what they give, joined. One item is what `One` takes from the
--- front of the tokens, with what it gives and the rest.
-pub data Listed {A : Type 0} (One : List Token → List A → List Token → Type 0) : List Token → List A → Type 0 where
-  done : Listed One [] []
-  more : {t : Token} {ts rest : List Token} {xs ys : List A}
-      → One (t ∷ ts) xs rest
-      → Listed One rest ys
-      → Listed One (t ∷ ts) (xs ++ ys)
+use Rattle.css_semantics.specs.SheetsMarks.{closing_mark, is_mark, is_ident, is_at_keyword, is_colon, is_space, is_gap, is_bad, has_paren, is_word, ends_selector, ends_declaration}
+use Rattle.css_semantics.specs.SheetsReading.{Refusal, import_at, media_at, too_many, is_closing, may_stand, before_important, declared_at, start_of, extent, trimmed, is_blank, is_between, closed_by_end}
+use Rattle.css_semantics.specs.SheetsStretches.{IsStretch, IsBlock, IsAtRule, Listed}
+use Rattle.css_semantics.specs.MediaLists.{IsMediaList, shown_entry}
 
 -- ---- declarations
 
@@ -160,53 +86,41 @@ AreDeclarations = Listed DeclarationItem
 -- ---- rulesets
 
 -- the rule of a selector without white space at its ends, which is at this place where it is empty
-abbrev pub rule_with : ℕ → List Token → List Decl → Rule
-rule_with place selector decls = record { at = start_of place selector; len = extent selector; decls = decls }
+abbrev pub rule_with : ℕ → List Token → List Decl → Option (List MediaEntry) → Rule
+rule_with place selector decls media =
+    record { at = start_of place selector; len = extent selector; decls = decls; media = media }
 
 -- A ruleset: a selector, which may be anything, and a block. Without a block it is none.
-pub data RulesetAt : List Token → List Rule → List Token → Type 0 where
+pub data RulesetAt (media : Option (List MediaEntry)) : List Token → List Rule → List Token → Type 0 where
   ruleset_with : {ts selector after block rest : List Token} {brace : Token} {decls : List Decl} {rule : Rule}
       → IsStretch ends_selector ts selector (brace ∷ after) → IsBlock after block rest → AreDeclarations block decls
-      → rule ≡ rule_with brace.at (trimmed is_space selector) decls
-      → RulesetAt ts (rule ∷ []) rest
-  unfinished : {ts selector : List Token} → IsStretch ends_selector ts selector [] → RulesetAt ts [] []
+      → rule ≡ rule_with brace.at (trimmed is_space selector) decls media
+      → RulesetAt media ts (rule ∷ []) rest
+  unfinished : {ts selector : List Token} → IsStretch ends_selector ts selector [] → RulesetAt media ts [] []
 
 -- What stands in a block of `@media`: at-rules in it are dropped.
-pub data RuleItem : List Token → List Rule → List Token → Type 0 where
-  blank_rule : {t : Token} {ts : List Token} → is_gap t.kind ≡ true → RuleItem (t ∷ ts) [] ts
+pub data RuleItem (media : Option (List MediaEntry)) : List Token → List Rule → List Token → Type 0 where
+  blank_rule : {t : Token} {ts : List Token} → is_gap t.kind ≡ true → RuleItem media (t ∷ ts) [] ts
   dropped_at_rule : {t : Token} {ts prelude block rest : List Token}
       → is_gap t.kind ≡ false
       → is_at_keyword t.kind ≡ true
       → IsAtRule ts prelude block rest
-      → RuleItem (t ∷ ts) [] rest
+      → RuleItem media (t ∷ ts) [] rest
   kept_rule : {t : Token} {ts rest : List Token} {rules : List Rule}
       → is_gap t.kind ≡ false
       → is_at_keyword t.kind ≡ false
-      → RulesetAt (t ∷ ts) rules rest
-      → RuleItem (t ∷ ts) rules rest
+      → RulesetAt media (t ∷ ts) rules rest
+      → RuleItem media (t ∷ ts) rules rest
 
--- the rules of such a block
-abbrev pub AreRules : List Token → List Rule → Type 0
-AreRules = Listed RuleItem
-
--- ---- media lists
-
--- an entry of a media list, and what follows its comma
-pub data EntryItem : List Token → List (List Token) → List Token → Type 0 where
-  entry : {t : Token} {ts piece comma rest : List Token}
-      → IsStretch ends_entry (t ∷ ts) piece comma
-      → rest ≡ drop 1 comma
-      → EntryItem (t ∷ ts) (piece ∷ []) rest
-
--- The list has the medium of the page: it has no entry, or one that is the single word `all` or `screen`.
-pub data HasMedium : List Token → Type 0 where
-  every_medium : {prelude : List Token} → list_all (λ t. is_gap t.kind) prelude ≡ true → HasMedium prelude
-  screen_medium : {prelude : List Token} {entries : List (List Token)}
-      → Listed EntryItem prelude entries
-      → list_any is_screen entries ≡ true
-      → HasMedium prelude
+-- the rules of such a block, each with the list that it stands under
+abbrev pub AreRules : Option (List MediaEntry) → List Token → List Rule → Type 0
+AreRules media = Listed (RuleItem media)
 
 -- ---- statements
+
+-- An `@media` that asks for what this profile has not: in its prelude a `(` stands, and an entry is outside the grammar.
+abbrev pub is_beyond : List Token → List (Option MediaEntry) → Bool
+is_beyond prelude entries = list_any (λ t. has_paren t.kind) prelude && list_any is_none entries
 
 -- What an at-rule of a sheet says: its keyword, its prelude and what stands in its block.
 pub data AtStatement : Token → List Token → List Token → List Statement → Type 0 where
@@ -217,27 +131,21 @@ pub data AtStatement : Token → List Token → List Token → List Statement �
       → is_word (codes "import") t ≡ false
       → is_word (codes "page") t ≡ true
       → AtStatement t prelude block (Page ∷ [])
-  a_query : {t : Token} {prelude block : List Token}
+  a_query : {t : Token} {prelude block : List Token} {entries : List (Option MediaEntry)}
       → is_word (codes "import") t ≡ false
       → is_word (codes "page") t ≡ false
       → is_word (codes "media") t ≡ true
-      → list_any (λ u. has_paren u.kind) prelude ≡ true
+      → IsMediaList prelude entries
+      → is_beyond prelude entries ≡ true
       → AtStatement t prelude block (MediaQuery t.at ∷ [])
-  held_media : {t : Token} {prelude block : List Token} {rules : List Rule}
+  a_media : {t : Token} {prelude block : List Token} {entries : List (Option MediaEntry)} {rules : List Rule}
       → is_word (codes "import") t ≡ false
       → is_word (codes "page") t ≡ false
       → is_word (codes "media") t ≡ true
-      → list_any (λ u. has_paren u.kind) prelude ≡ false
-      → HasMedium prelude
-      → AreRules block rules
+      → IsMediaList prelude entries
+      → is_beyond prelude entries ≡ false
+      → AreRules (Some (map shown_entry entries)) block rules
       → AtStatement t prelude block (Media rules ∷ [])
-  other_media : {t : Token} {prelude block : List Token}
-      → is_word (codes "import") t ≡ false
-      → is_word (codes "page") t ≡ false
-      → is_word (codes "media") t ≡ true
-      → list_any (λ u. has_paren u.kind) prelude ≡ false
-      → (HasMedium prelude → ⊥)
-      → AtStatement t prelude block (Media [] ∷ [])
   unknown : {t : Token} {prelude block : List Token}
       → is_word (codes "import") t ≡ false
       → is_word (codes "page") t ≡ false
@@ -256,7 +164,7 @@ pub data StatementItem : List Token → List Statement → List Token → Type 0
   rule_statement : {t : Token} {ts rest : List Token} {rules : List Rule}
       → is_between t.kind ≡ false
       → is_at_keyword t.kind ≡ false
-      → RulesetAt (t ∷ ts) rules rest
+      → RulesetAt None (t ∷ ts) rules rest
       → StatementItem (t ∷ ts) (map Ruleset rules) rest
 
 abbrev pub AreStatements : List Token → List Statement → Type 0

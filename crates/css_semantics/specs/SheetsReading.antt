@@ -137,16 +137,6 @@ declared_at name body (Some p) = decl_of name (trimmed is_space p.0) p.1 true
 abbrev pub is_blank : TokenKind → Bool
 is_blank kind = is_gap kind || is_semicolon kind
 
--- ---- media lists
-
-abbrev pub is_medium : List Token → Bool
-is_medium [] = false
-is_medium (t ∷ []) = is_ident t.kind && (is_word (codes "all") t || is_word (codes "screen") t)
-is_medium (t ∷ u ∷ ts) = false
-
-abbrev pub is_screen : List Token → Bool
-is_screen entry = is_medium (trimmed is_gap entry)
-
 -- ---- statements
 
 abbrev pub is_between : TokenKind → Bool

@@ -97,6 +97,7 @@ is_line_style a = is_ok (part_value BorderTopStyle a)
 abbrev pub is_colour : Part → Bool
 is_colour (part.Word word) = not (is_line_width (part.Word word)) && not (is_line_style (part.Word word))
 is_colour part.Colour = true
+is_colour (part.Function matched) = matched
 is_colour _ = false
 
 abbrev pub is_line_part : Part → Bool

@@ -1,6 +1,6 @@
 -- What the value of a declaration says by the table of properties.
-use Rattle.std.specs.Prelude.{ℕ, ℤ, pos, negsuc, ◌==◌, Bool, true, false, List, [], ◌∷◌, ◌++◌, Option, Some, None, Result, Ok, Err, option_map, if◌then◌else◌, codes, int_div}
-use Rattle.std.specs.List.{list_any, position}
+use Rattle.std.specs.Prelude.{ℕ, ℤ, pos, negsuc, ◌==◌, Bool, true, false, List, [], ◌∷◌, ◌++◌, Option, Some, None, Result, Ok, Err, option_map, if◌then◌else◌, codes, int_div, flat_map}
+use Rattle.std.specs.List.{list_all, list_any, position}
 use Rattle.viz_base.specs.declared.settings.Prop.{Prop}
 use Rattle.viz_base.specs.declared.settings.Value.{Value}
 use Rattle.viz_base.specs.declared.settings.Value.TheVariants as value
@@ -68,6 +68,8 @@ part_value p (part.Quoted text) = Err Ignored
 part_value p part.Comma = Err Ignored
 part_value p part.Solidus = Err Ignored
 part_value p part.Colour = Err Ignored
+part_value p (part.Function matched) = Err Ignored
+part_value p part.Uri = Err Ignored
 part_value p part.Other = Err Ignored
 
 -- ---- names of font families (CSS 2.1, 15.3)
@@ -93,6 +95,28 @@ abbrev mutual
   family_from name (part.Word more ∷ ps) = family_from (name ++ 32 ∷ more) ps
   family_from name _ = None
 
+-- ---- the text of generated content (CSS 2.1, 12.2)
+
+abbrev pub is_quoted : Part → Bool
+is_quoted (part.Quoted text) = true
+is_quoted _ = false
+
+abbrev pub quoted : Part → List ℕ
+quoted (part.Quoted text) = text
+quoted _ = []
+
+-- one or more strings
+abbrev pub are_strings : List Part → Bool
+are_strings [] = false
+are_strings (a ∷ ps) = list_all is_quoted (a ∷ ps)
+
+-- what stands for content that is no string: a function, a URI, or a keyword that is refused by name
+abbrev pub is_other_content : Prop → Part → Bool
+is_other_content p (part.Word word) = list_any (same_name word) (row p).refused
+is_other_content p (part.Function matched) = true
+is_other_content p part.Uri = true
+is_other_content p _ = false
+
 -- ---- whole values
 
 -- whether a part is this word
@@ -112,9 +136,15 @@ abbrev pub one_part : Prop → List Part → Result Value Refusal
 one_part p (a ∷ []) = part_value p a
 one_part p _ = Err Ignored
 
+-- Strings are joined. What stands for other content refuses the value by name, whatever else is in it.
+abbrev pub text_or_one : Prop → List Part → Result Value Refusal
+text_or_one p ps = if are_strings ps then Ok (value.Chars (flat_map quoted ps))
+    else (if list_any (is_other_content p) ps then Err (Unsupported p) else one_part p ps)
+
 abbrev pub whole_value : Prop → List Part → Result Value Refusal
 whole_value p ps = if is_inherit ps then Ok value.Inherit
-    else (if (row p).families then families_of (families ps) else one_part p ps)
+    else (if (row p).families then families_of (families ps)
+    else (if (row p).strings then text_or_one p ps else one_part p ps))
 
 -- what the value of a property of the table gives
 abbrev pub longhand : Prop → List Part → Result (List Setting) Refusal

@@ -4,7 +4,7 @@ use Rattle.viz_base.specs.declared.lengths.Sides.{Sides}
 use Rattle.viz_base.specs.declared.settings.Prop.{Prop}
 use Rattle.viz_base.specs.declared.settings.Prop.TheVariants.{MarginTop, MarginRight, MarginBottom, MarginLeft, PaddingTop, PaddingRight, PaddingBottom, PaddingLeft, BorderTopWidth, BorderRightWidth, BorderBottomWidth, BorderLeftWidth, BorderTopStyle, BorderRightStyle, BorderBottomStyle, BorderLeftStyle, FontSize, FontFamily, LineHeight}
 use Rattle.viz_base.specs.declared.settings.Value.{Value}
-use Rattle.viz_base.specs.declared.settings.Value.TheVariants.{Inherit, Word, Px, Em, Pct, Number, Names}
+use Rattle.viz_base.specs.declared.settings.Value.TheVariants.{Inherit, Word, Px, Em, Pct, Number, Names, Chars}
 use Rattle.viz_base.specs.declared.settings.Setting.{Setting}
 use Rattle.css_semantics.specs.declared.parts.Part.{Part}
 use Rattle.css_semantics.specs.declared.parts.Takes.{Takes}
@@ -59,6 +59,7 @@ HasValue r (Pct n) = Admits r.percentages n
 HasValue r (Number n) = Admits r.numbers n
 HasValue r Inherit = ⊥
 HasValue r (Names names) = ⊥
+HasValue r (Chars text) = ⊥
 
 -- ---- sides
 

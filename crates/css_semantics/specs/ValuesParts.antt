@@ -6,7 +6,7 @@ use Rattle.viz_base.specs.Decimals.{decimal_of}
 use Rattle.viz_base.specs.Numbers.{floor_of}
 use Rattle.css_semantics.specs.Pieces.{Token}
 use Rattle.viz_base.specs.declared.tokens.TokenKind.{TokenKind}
-use Rattle.viz_base.specs.declared.tokens.TokenKind.TheVariants.{Ident, Str, Hash, Number, Percentage, Dimension, RightParen, Function, Delim}
+use Rattle.viz_base.specs.declared.tokens.TokenKind.TheVariants.{Ident, Str, Hash, Number, Percentage, Dimension, Uri, RightParen, Function, Delim}
 use Rattle.css_semantics.specs.declared.parts.Part.{Part}
 use Rattle.css_semantics.specs.declared.parts.Part.TheVariants as part
 use Rattle.css_semantics.specs.TokensLetters.{is_digit}
@@ -82,9 +82,9 @@ is_sign t = is_character 43 t || is_minus t
 abbrev pub bracket_len : TokenKind → List Token → ℕ
 bracket_len mark ts = stretch_len (λ t. true) (mark ∷ []) ts
 
--- a function, of which the brackets have to match
+-- a function, of which the brackets may match
 abbrev pub function_part : List Token → Part
-function_part ts = if goes_on (RightParen ∷ []) (take (bracket_len RightParen ts) ts) then part.Colour else part.Other
+function_part ts = part.Function (goes_on (RightParen ∷ []) (take (bracket_len RightParen ts) ts))
 
 -- a sign belongs to the amount directly behind it
 abbrev pub signed_part : Token → List Token → Part
@@ -104,6 +104,7 @@ part_of Percentage t ts = amount_of false t
 part_of Dimension t ts = amount_of false t
 part_of Hash t ts = part.Colour
 part_of Function t ts = function_part ts
+part_of Uri t ts = part.Uri
 part_of Delim t ts = delim_part t ts
 part_of _ t ts = part.Other
 

@@ -4,12 +4,12 @@ use Rattle.std.specs.List.{AllByRecursion}
 use Rattle.viz_base.specs.declared.nodes.Node.{Node}
 use Rattle.viz_base.specs.declared.settings.Setting.{Setting}
 use Rattle.viz_base.specs.declared.settings.Value.{Value}
-use Rattle.viz_base.specs.declared.settings.Value.TheVariants.{Inherit, Word, Px, Em, Pct, Number, Names}
+use Rattle.viz_base.specs.declared.settings.Value.TheVariants.{Inherit, Word, Px, Em, Pct, Number, Names, Chars}
 use Rattle.css_semantics.specs.Properties.{Row, row, properties}
 use Rattle.css_semantics.specs.ValuesLaws.{Admits, IsAmong, props}
 
 -- whether a row of the table has this value: `inherit`, a keyword of the
--- row, an amount that it takes, or names of families
+-- row, an amount that it takes, names of families, or a text
 abbrev pub MayWin : Row → Value → Type 0
 MayWin r Inherit = Unit {0}
 MayWin r (Word place) = place < length r.words
@@ -19,6 +19,7 @@ MayWin r (Em n) = Admits r.lengths n
 MayWin r (Pct n) = Admits r.percentages n × (unsigned_abs n ≤ 2 ^ 40)
 MayWin r (Number n) = Admits r.numbers n
 MayWin r (Names names) = IsTrue r.families
+MayWin r (Chars text) = IsTrue r.strings
 
 abbrev pub IsAllowed : Setting → Type 0
 IsAllowed s = MayWin (row s.prop) s.value

@@ -1,1 +1,3 @@
+pub mod Stretches
+pub mod MediaLists
 pub mod Sheets

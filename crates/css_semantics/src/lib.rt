@@ -5,6 +5,7 @@
 
 mod claims;
 mod laws;
+mod media;
 mod parts;
 mod selectors;
 mod sheets;
@@ -18,11 +19,12 @@ pub use claims::{Claim, Origin, Ranked, Ruleset, Standing, Weight};
 pub use laws::{
     escapes_by_number, escapes_resolve, ids_are_identifiers, tokens_are_unique, tokens_join,
 };
+pub use media::{MediaPiece, MediaWord};
 pub use parts::{Part, Refusal, Shorthand, Takes};
 pub use selectors::{joins_say_where, specificity_counts, specificity_order};
-pub use sheets::{one_list_of_declarations, one_sheet, one_stretch};
+pub use sheets::{one_list_of_declarations, one_media_list, one_sheet, one_stretch};
 pub use statements::Statement;
-pub use terminals::{Comparison, Pseudo, Terminal};
+pub use terminals::{ColonName, Comparison, Terminal};
 pub use tokens::Token;
 pub use value_laws::{
     fewer_sides, one_answer, settings_in_order, values_allowed, values_by_the_table,

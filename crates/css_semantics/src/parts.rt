@@ -21,8 +21,12 @@ pub enum Part {
     Comma,
     /// A `/`.
     Solidus,
-    /// What can be a colour alone: a `#` with a name, or a function with matched brackets.
+    /// What can be a colour alone: a `#` with a name.
     Colour,
+    /// A function, and whether its brackets match; where they do it can be a colour.
+    Function(bool),
+    /// A URI.
+    Uri,
     /// What no property of the table takes.
     Other,
 }

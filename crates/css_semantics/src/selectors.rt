@@ -4,6 +4,7 @@ ghost use Rattle.viz_base.specs.declared.nodes.Node.{Node};
 ghost use Rattle.viz_base.specs.declared.selectors.Compound.{Compound};
 ghost use Rattle.viz_base.specs.declared.selectors.Join.{Join};
 ghost use Rattle.viz_base.specs.declared.selectors.Join.TheVariants as of_join;
+ghost use Rattle.viz_base.specs.declared.selectors.Pseudo.{Pseudo};
 ghost use Rattle.viz_base.specs.declared.selectors.Test.TheVariants as of_test;
 ghost use Rattle.css_semantics.specs.CascadeOrder.{spec_cmp, style_spec};
 ghost use Rattle.css_semantics.specs.Matching.{IsAncestor, IsParent, IsPrevious, Match, MatchesCompound};
@@ -27,11 +28,12 @@ pub fn joins_say_where()
         ↔ (MatchesCompound nodes b n × ((s : ℕ) × IsPrevious nodes s n × Match a nodes s)) }
 {}
 
-/// Law: what one id, one class and one tag count (CSS 2.1, 6.4.3).
+/// Law: what one id, one class, one tag and a pseudo-element behind it count (CSS 2.1, 6.4.3).
 pub fn specificity_counts()
-    ensures id { (name : Seq ℕ) → spec_of (alone None (of_test.Id name ∷ [])) ≡ counts 1 0 0 }
-    ensures class { (name : Seq ℕ) → spec_of (alone None (of_test.Class name ∷ [])) ≡ counts 0 1 0 }
-    ensures tag { (name : Seq ℕ) → spec_of (alone (Some name) []) ≡ counts 0 0 1 }
+    ensures id { (name : Seq ℕ) → spec_of (alone None (of_test.Id name ∷ []), None) ≡ counts 1 0 0 }
+    ensures class { (name : Seq ℕ) → spec_of (alone None (of_test.Class name ∷ []), None) ≡ counts 0 1 0 }
+    ensures tag { (name : Seq ℕ) → spec_of (alone (Some name) [], None) ≡ counts 0 0 1 }
+    ensures pseudo { (name : Seq ℕ) (p : Pseudo) → spec_of (alone (Some name) [], Some p) ≡ counts 0 0 2 }
 {}
 
 /// Law: a style attribute is more specific than any selector, one id more than any number of classes and tags, and one

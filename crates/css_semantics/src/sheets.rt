@@ -1,9 +1,12 @@
-ghost use Rattle.std.specs.Prelude.{◌≡◌, ℕ, List as Seq, Bool, Result};
+ghost use Rattle.std.specs.Prelude.{◌≡◌, ℕ, List as Seq, Bool, Option, Result};
 ghost use Rattle.css_semantics.specs.Pieces.{Token};
 ghost use Rattle.viz_base.specs.declared.sheets.Decl.{Decl};
+ghost use Rattle.viz_base.specs.declared.sheets.MediaEntry.{MediaEntry};
 ghost use Rattle.viz_base.specs.declared.sheets.Rule.{Rule};
 ghost use Rattle.css_semantics.specs.SheetsReading.{Refusal};
-ghost use Rattle.css_semantics.specs.SheetsGrammar.{AreDeclarations, AreDeclarationsOf, IsSheet, IsSheetOf, IsStretch};
+ghost use Rattle.css_semantics.specs.SheetsGrammar.{AreDeclarations, AreDeclarationsOf, IsSheet, IsSheetOf};
+ghost use Rattle.css_semantics.specs.SheetsStretches.{IsStretch};
+ghost use Rattle.css_semantics.specs.MediaLists.{IsMediaList};
 
 /// Law: for each test of what ends a stretch, each list of tokens falls in exactly one way into a stretch and a rest.
 pub fn one_stretch()
@@ -18,6 +21,12 @@ pub fn one_list_of_declarations()
     ensures exists { (ts : Seq Token) → (ds : Seq Decl) × AreDeclarations ts ds }
     ensures unique { (ts : Seq Token) (ds es : Seq Decl) → AreDeclarations ts ds → AreDeclarations ts es → ds ≡ es }
     ensures text { (text : Seq ℕ) (ds es : Seq Decl) → AreDeclarationsOf text ds → AreDeclarationsOf text es → ds ≡ es }
+{}
+
+/// Law: each prelude of an `@media` is exactly one media list.
+pub fn one_media_list()
+    ensures exists { (ts : Seq Token) → (entries : Seq (Option MediaEntry)) × IsMediaList ts entries }
+    ensures unique { (ts : Seq Token) (a b : Seq (Option MediaEntry)) → IsMediaList ts a → IsMediaList ts b → a ≡ b }
 {}
 
 /// Law: each list of tokens spells exactly one sheet, or is refused in exactly one way; and a text in at most one way.

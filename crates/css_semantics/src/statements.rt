@@ -10,8 +10,8 @@ pub enum Statement {
     Import(u32),
     /// `@page`.
     Page,
-    /// `@media` with a parenthesis before its block.
+    /// `@media` that asks for what this profile has not (Media Queries 3).
     MediaQuery(u32),
-    /// Another `@media`, with the rules that it holds for the medium.
+    /// Another `@media`, with the rules that stand in it.
     Media(List<Rule>),
 }

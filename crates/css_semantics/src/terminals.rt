@@ -1,4 +1,4 @@
-use viz_base::Test;
+use viz_base::{Pseudo, Test};
 
 /// What a token is in the grammar of selectors (CSS 2.1, appendix G.1 and G.2).
 #[derive(Clone, Copy, PartialEq, Eq)]
@@ -52,11 +52,13 @@ pub enum Comparison {
     Dash,
 }
 
-/// What a name behind a colon says (CSS 2.1, 5.10).
+/// What a name behind a colon says (CSS 2.1, 5.10). Pseudo-elements stand at a selector's end alone.
 #[derive(Drop)]
-pub enum Pseudo {
+pub enum ColonName {
     /// A pseudo-class.
     Class(Test),
-    /// `:first-line`, `:first-letter`, `:before` or `:after`, which stand at a selector's end alone and are refused.
-    Element,
+    /// `:before` or `:after` (CSS 2.1, 5.12.3).
+    Generated(Pseudo),
+    /// `:first-line` or `:first-letter`, which are refused.
+    Refused,
 }

@@ -30,7 +30,7 @@ pub fn values_by_the_table()
 {}
 
 /// A law: each setting of a declaration is one that the property's row of the table allows: `inherit`, names of
-/// families where the row takes them, a percentage of at most 2^40 millionths (CSS 2.1, 4.3 and 6.2.1).
+/// families or a text where the row takes them, a percentage of at most 2^40 millionths (CSS 2.1, 4.3 and 6.2.1).
 pub fn values_allowed()
     ensures { (name text : Seq ℕ) (settings : Seq Setting) → Says name text (Ok settings) → AreAllowed settings }
 {}

@@ -1,4 +1,4 @@
-use Rattle.std.proofs.Common.{◌≡◌, ℕ, ℤ, pos, ◌+ℤ◌, ◌-ℤ◌, ◌≤ℤ◌, List, ◌∷◌, map, Contains, refl, ◌∙◌, inl, inr, ◌⊎◌, ⊎_elim, arith}
+use Rattle.std.proofs.Common.{◌≡◌, ℤ, pos, ◌+ℤ◌, ◌-ℤ◌, ◌≤ℤ◌, List, ◌∷◌, map, Contains, refl, ◌∙◌, inl, inr, ◌⊎◌, ⊎_elim, arith}
 use Rattle.std.proofs.lemmas.Int.{ints}
 use Rattle.viz_base.specs.declared.trees.BoxTree.{BoxTree}
 use Rattle.viz_base.specs.declared.worlds.World.{World}
@@ -9,7 +9,7 @@ use Rattle.layout_laws.specs.Heights.{ReachesDown}
 use Rattle.layout_laws.proofs.Members.{first_member, first_or_later, to_map, from_map}
 use Rattle.layout_laws.proofs.Extremes.{below_greatest, start_below_greatest, greatest_is_one}
 
-module _ (tree : BoxTree) (w : World) (height : ℕ) (top : ℤ) (end : Progress) where
+module _ (tree : BoxTree) (w : World) (top : ℤ) (end : Progress) where
   abbrev bottom : FloatBox → ℤ
   bottom f = f.box.bottom
 
@@ -20,7 +20,7 @@ module _ (tree : BoxTree) (w : World) (height : ℕ) (top : ℤ) (end : Progress
   down y = y -ℤ top
 
   abbrev h : ℤ
-  h = context_height tree w height top end
+  h = context_height tree w top end
 
   within : (y : ℤ) → Contains edges y → y ≤ℤ (top +ℤ h)
   within y i = let t = below_greatest (pos 0) (map down edges) (down y) (to_map down edges y i) in omega (arith, ints)

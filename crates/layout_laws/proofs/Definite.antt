@@ -18,22 +18,21 @@ module _ (tree : BoxTree) (w : World) where
   mapped f None = refl
   mapped f (Some h) = refl
 
-  module _ (viewport : ℕ) where
-    levels-definite : (n at : ℕ) → is_definite_to n tree at ≡ is_some (definite_height_to n tree w viewport at)
-    unfolding is_definite_to definite_height_to
-    levels-definite zero at = refl
-    levels-definite (suc n) at = by (percentage_container tree at) refl (λ c. levels-definite n c)
-      where
-        by : (o : Option ℕ) → percentage_container tree at ≡ o → ((c : ℕ) → is_definite_to n tree c ≡ is_some (definite_height_to n tree w viewport c))
-            → is_definite_to (suc n) tree at ≡ is_some (definite_height_to (suc n) tree w viewport at)
-        by None e again = rw e refl
-        by (Some c) e again =
-            let around = definite_height_to n tree w viewport c in
-            rw e (ap (λ d. not (counts_as_auto d (own_height tree c))) (again c) ∙ (ap not (auto-is around (own_height tree c)) ∙ mapped (held_around tree w around c) (height_around tree w around (own_height tree c))))
+  levels-definite : (n at : ℕ) → is_definite_to n tree at ≡ is_some (definite_height_to n tree w at)
+  unfolding is_definite_to definite_height_to
+  levels-definite zero at = refl
+  levels-definite (suc n) at = by (percentage_container tree at) refl (λ c. levels-definite n c)
+    where
+      by : (o : Option ℕ) → percentage_container tree at ≡ o → ((c : ℕ) → is_definite_to n tree c ≡ is_some (definite_height_to n tree w c))
+          → is_definite_to (suc n) tree at ≡ is_some (definite_height_to (suc n) tree w at)
+      by None e again = rw e refl
+      by (Some c) e again =
+          let around = definite_height_to n tree w c in
+          rw e (ap (λ d. not (counts_as_auto d (own_height tree c))) (again c) ∙ (ap not (auto-is around (own_height tree c)) ∙ mapped (held_around tree w around c) (height_around tree w around (own_height tree c))))
 
-    pub definite-is : (at : ℕ) → is_definite tree at ≡ is_some (definite_height tree w viewport at)
-    definite-is at = levels-definite (suc at) at
+  pub definite-is : (at : ℕ) → is_definite tree at ≡ is_some (definite_height tree w at)
+  definite-is at = levels-definite (suc at) at
 
-    pub auto-height-is : (at : ℕ) → has_auto_height tree at ≡ is_none (given_height tree w viewport at)
-    unfolding has_auto_height
-    auto-height-is at = ap (λ d. counts_as_auto d (own_height tree at)) (definite-is at) ∙ auto-is (definite_height tree w viewport at) (own_height tree at)
+  pub auto-height-is : (at : ℕ) → has_auto_height tree at ≡ is_none (given_height tree w at)
+  unfolding has_auto_height
+  auto-height-is at = ap (λ d. counts_as_auto d (own_height tree at)) (definite-is at) ∙ auto-is (definite_height tree w at) (own_height tree at)

@@ -1,7 +1,7 @@
 -- The edges of boxes: rectangles, automatic margins, and what parts margins.
 use Rattle.std.specs.Int.{int_max}
 use Rattle.std.specs.Ordering.{int_eq}
-use Rattle.std.proofs.Common.{◌≡◌, ◌≢◌, ℕ, zero, suc, ◌<◌, ℤ, pos, negsuc, ◌+ℤ◌, ◌-ℤ◌, ◌≤ℤ◌, Bool, true, false, not, ◌&&◌, ◌||◌, int_le, [], ◌∷◌, length, Option, Some, None, refl, sym, ◌∙◌, ap, inl, inr, subst, arith}
+use Rattle.std.proofs.Common.{◌≡◌, ℕ, zero, suc, ◌<◌, ℤ, pos, negsuc, ◌+ℤ◌, ◌-ℤ◌, ◌≤ℤ◌, Bool, true, false, not, ◌&&◌, ◌||◌, int_le, [], ◌∷◌, length, Option, Some, None, refl, sym, ap, inl, inr, subst, arith}
 use Rattle.std.proofs.lemmas.Int.{ints, clamps}
 use Rattle.viz_base.specs.Numbers.{floor_of}
 use Rattle.viz_base.specs.declared.layouts.Band.{Band}
@@ -85,10 +85,10 @@ module _ (tree : BoxTree) (w : World) (at : ℕ) (left : (margins tree at).left 
   terms-halved None = auto-halved
   terms-halved (Some width) = fixed-halved width
 
-  pub block-halved : (viewport : ℕ) → IsInFlowBlock tree at → Halved (widths tree w viewport at cb)
-  block-halved viewport (inl e) =
-      subst Halved (sym (widths-placed tree w viewport at cb block_flow e)) (held-any Halved (block_terms tree w at cb) (own_maximum tree w at cb) (own_minimum tree w at cb) (own_width tree w at cb) terms-halved)
-  block-halved viewport (inr e) = subst Halved (sym (widths-placed tree w viewport at cb replaced_block e)) (fixed-halved (replaced_size tree w viewport at cb).width)
+  pub block-halved : IsInFlowBlock tree at → Halved (widths tree w at cb)
+  block-halved (inl e) =
+      subst Halved (sym (widths-placed tree w at cb block_flow e)) (held-any Halved (block_terms tree w at cb) (own_maximum tree w at cb) (own_minimum tree w at cb) (own_width tree w at cb) terms-halved)
+  block-halved (inr e) = subst Halved (sym (widths-placed tree w at cb replaced_block e)) (fixed-halved (replaced_size tree w at cb).width)
 
 -- ---- what parts margins
 

@@ -128,35 +128,35 @@ module _ (g : Ground) (run : List ℤ) (cb : Band ℤ) (b : ℕ) (l : b < length
 abbrev Inside : Type 0
 Inside = ℕ → Band ℤ → ℤ → Progress → Progress
 
-module _ (tree : BoxTree) (w : World) (height : ℕ) (f g : Inside) (b : ℕ)
+module _ (tree : BoxTree) (w : World) (f g : Inside) (b : ℕ)
     (same : (k : ℕ) → IsFrom tree.boxes (suc b) k → (cb : Band ℤ) (top : ℤ) (p : Progress) → f k cb top p ≡ g k cb top p) where
   abbrev Late : ℕ → Type 0
   Late k = IsFrom tree.boxes (suc b) k
 
   abbrev alone_frame : ℕ → ℤ → Frame
-  alone_frame k room = record { x = widths tree w height k room; v = verticals tree w k room; corner = record { x = (widths tree w height k room).margin_left; y = (verticals tree w k room).margin_top } }
+  alone_frame k room = record { x = widths tree w k room; v = verticals tree w k room; corner = record { x = (widths tree w k room).margin_left; y = (verticals tree w k room).margin_top } }
 
-  alone-same : (k : ℕ) (room : ℤ) → Late k → alone tree w height f k room ≡ alone tree w height g k room
+  alone-same : (k : ℕ) (room : ℤ) → Late k → alone tree w f k room ≡ alone tree w g k room
   alone-same k room h = by (is_replaced_at tree k) refl
     where
-      by : (r : Bool) → is_replaced_at tree k ≡ r → alone tree w height f k room ≡ alone tree w height g k room
+      by : (r : Bool) → is_replaced_at tree k ≡ r → alone tree w f k room ≡ alone tree w g k room
       by true e = rw e refl
-      by false e = rw (e, same k h (content_from (pos 0) (widths tree w height k room)) (content_top (alone_frame k room)) (fresh (content_top (alone_frame k room)))) refl
+      by false e = rw (e, same k h (content_from (pos 0) (widths tree w k room)) (content_top (alone_frame k room)) (fresh (content_top (alone_frame k room)))) refl
 
-  float-same : (cb : Band ℤ) (top : ℤ) (p : Progress) (k : ℕ) → Late k → float_child tree w height f cb top p k ≡ float_child tree w height g cb top p k
-  float-same cb top p k h = ap (after_float tree w height g cb p k (int_max top (next_edge p.standing))) (alone-same k (across cb) h)
+  float-same : (cb : Band ℤ) (top : ℤ) (p : Progress) (k : ℕ) → Late k → float_child tree w f cb top p k ≡ float_child tree w g cb top p k
+  float-same cb top p k h = ap (after_float tree w g cb p k (int_max top (next_edge p.standing))) (alone-same k (across cb) h)
 
-  size-same : (k : ℕ) → Late k → (x : Waiting ℤ) → IsFrom tree.boxes (suc k) x.at → waiting_size tree w height f x ≡ waiting_size tree w height g x
+  size-same : (k : ℕ) → Late k → (x : Waiting ℤ) → IsFrom tree.boxes (suc k) x.at → waiting_size tree w f x ≡ waiting_size tree w g x
   size-same k h x i = ap (λ (a : Alone). a.size) (alone-same x.at (across x.cb) (record { from = let low = h.from in let high = i.from in omega arith; within = i.within }))
 
   abbrev resolved : Inside → Base → List ℤ → Band ℤ → Progress → ℕ → (ℕ → Bool) → Resolved
-  resolved inside base run cb p k passed = resolve (ground_of tree w height inside base p) run cb k passed
+  resolved inside base run cb p k passed = resolve (ground_of tree w inside base p) run cb k passed
 
   resolved-same : (base : Base) (run : List ℤ) (cb : Band ℤ) (p : Progress) (k : ℕ) (passed : ℕ → Bool) → Late k → resolved f base run cb p k passed ≡ resolved g base run cb p k passed
   resolved-same base run cb p k passed h =
-      resolve-same tree w (waiting_size tree w height f) (waiting_size tree w height g) k h.within (size-same k h) base run cb p.floats p.least (suc (length tree.boxes)) passed
+      resolve-same tree w (waiting_size tree w f) (waiting_size tree w g) k h.within (size-same k h) base run cb p.floats p.least (suc (length tree.boxes)) passed
 
-  reached_at-same : (cb : Band ℤ) (p : Progress) (k : ℕ) (y : ℤ) (cleared : Cleared) → Late k → reached_at tree w height f cb p k y cleared ≡ reached_at tree w height g cb p k y cleared
+  reached_at-same : (cb : Band ℤ) (p : Progress) (k : ℕ) (y : ℤ) (cleared : Cleared) → Late k → reached_at tree w f cb p k y cleared ≡ reached_at tree w g cb p k y cleared
   reached_at-same cb p k y None h = refl
   reached_at-same cb p k y (Some c) h = ap (λ (r : Resolved). matched r (c.0 == k)) (resolved-same (stands c.1) [] cb p k (is_up_to k) h)
     where
@@ -164,47 +164,47 @@ module _ (tree : BoxTree) (w : World) (height : ℕ) (f g : Inside) (b : ℕ)
       matched r true = record { top = c.1; clears = true; cleared = r.cleared }
       matched r false = record { top = y; clears = false; cleared = Some c }
 
-  reached-same : (cb : Band ℤ) (p : Progress) (k : ℕ) → Late k → reached tree w height f cb p k ≡ reached tree w height g cb p k
+  reached-same : (cb : Band ℤ) (p : Progress) (k : ℕ) → Late k → reached tree w f cb p k ≡ reached tree w g cb p k
   reached-same cb p k h = by p.standing refl
     where
-      by : (s : Standing) → p.standing ≡ s → reached tree w height f cb p k ≡ reached tree w height g cb p k
+      by : (s : Standing) → p.standing ≡ s → reached tree w f cb p k ≡ reached tree w g cb p k
       by (at_top y cleared) e = rw e (reached_at-same cb p k y cleared h)
       by (below edge run stuck) e =
           let r = resolved g (hangs edge) run cb p k none_passed in
-          rw e (ap (λ (r : Resolved). reached_at tree w height f cb p k (edge +ℤ collapsed (run ++ r.margins)) r.cleared) (resolved-same (hangs edge) run cb p k none_passed h)
+          rw e (ap (λ (r : Resolved). reached_at tree w f cb p k (edge +ℤ collapsed (run ++ r.margins)) r.cleared) (resolved-same (hangs edge) run cb p k none_passed h)
           ∙ reached_at-same cb p k (edge +ℤ collapsed (run ++ r.margins)) r.cleared h)
 
-  laid-same : (cb : Band ℤ) (p : Progress) (k : ℕ) (r : Reached) → Late k → laid tree w height f cb p k r ≡ laid tree w height g cb p k r
+  laid-same : (cb : Band ℤ) (p : Progress) (k : ℕ) (r : Reached) → Late k → laid tree w f cb p k r ≡ laid tree w g cb p k r
   laid-same cb p k r h = by (is_replaced_at tree k) (is_context_root tree k) (is_open_above tree k) refl refl refl
     where
       frame : Frame
-      frame = frame_of tree w height cb k r
+      frame = frame_of tree w cb k r
 
-      by : (replaced context opens : Bool) → is_replaced_at tree k ≡ replaced → is_context_root tree k ≡ context → is_open_above tree k ≡ opens → laid tree w height f cb p k r ≡ laid tree w height g cb p k r
+      by : (replaced context opens : Bool) → is_replaced_at tree k ≡ replaced → is_context_root tree k ≡ context → is_open_above tree k ≡ opens → laid tree w f cb p k r ≡ laid tree w g cb p k r
       by true context opens d e o = rw d refl
       by false true opens d e o = rw (d, e, same k h (content_from cb.left frame.x) (content_top frame) (fresh (content_top frame))) refl
-      by false false true d e o = rw (d, e, o, same k h (content_from cb.left frame.x) (content_top frame) (opened tree w height f p frame (at_top frame.corner.y r.cleared))) refl
-      by false false false d e o = rw (d, e, o, same k h (content_from cb.left frame.x) (content_top frame) (opened tree w height f p frame (below (content_top frame) [] false))) refl
+      by false false true d e o = rw (d, e, o, same k h (content_from cb.left frame.x) (content_top frame) (opened tree w f p frame (at_top frame.corner.y r.cleared))) refl
+      by false false false d e o = rw (d, e, o, same k h (content_from cb.left frame.x) (content_top frame) (opened tree w f p frame (below (content_top frame) [] false))) refl
 
-  child-same : (cb : Band ℤ) (top : ℤ) (p : Progress) (k : ℕ) → Late k → child tree w height f cb top p k ≡ child tree w height g cb top p k
+  child-same : (cb : Band ℤ) (top : ℤ) (p : Progress) (k : ℕ) → Late k → child tree w f cb top p k ≡ child tree w g cb top p k
   child-same cb top p k h = by (is_floated_at tree k) refl
     where
-      by : (x : Bool) → is_floated_at tree k ≡ x → child tree w height f cb top p k ≡ child tree w height g cb top p k
+      by : (x : Bool) → is_floated_at tree k ≡ x → child tree w f cb top p k ≡ child tree w g cb top p k
       by true e = rw e (float-same cb top p k h)
       by false e =
-          let r = reached tree w height g cb p k in
-          rw e (ap (λ (r : Reached). record (laid tree w height f cb p k r).after { standing = standing_after tree w height f cb p.standing k r (laid tree w height f cb p k r) }) (reached-same cb p k h)
-          ∙ ap (λ (l : Laid). record l.after { standing = standing_after tree w height g cb p.standing k r l }) (laid-same cb p k r h))
+          let r = reached tree w g cb p k in
+          rw e (ap (λ (r : Reached). record (laid tree w f cb p k r).after { standing = standing_after tree w f cb p.standing k r (laid tree w f cb p k r) }) (reached-same cb p k h)
+          ∙ ap (λ (l : Laid). record l.after { standing = standing_after tree w g cb p.standing k r l }) (laid-same cb p k r h))
 
-  children-same : (cb : Band ℤ) (top : ℤ) (p : Progress) (ks : List ℕ) → AllByRecursion Late ks → fold (child tree w height f cb top) p ks ≡ fold (child tree w height g cb top) p ks
+  children-same : (cb : Band ℤ) (top : ℤ) (p : Progress) (ks : List ℕ) → AllByRecursion Late ks → fold (child tree w f cb top) p ks ≡ fold (child tree w g cb top) p ks
   children-same cb top p [] a = refl
   children-same cb top p (k ∷ ks) a =
-      ap (λ (q : Progress). fold (child tree w height f cb top) q ks) (child-same cb top p k a.0)
-      ∙ children-same cb top (child tree w height g cb top p k) ks a.1
+      ap (λ (q : Progress). fold (child tree w f cb top) q ks) (child-same cb top p k a.0)
+      ∙ children-same cb top (child tree w g cb top p k) ks a.1
 
   -- ---- lines
 
-  inner-same : (cb : Band ℤ) (k : ℕ) → Late k → inner_size tree w height f cb k ≡ inner_size tree w height g cb k
+  inner-same : (cb : Band ℤ) (k : ℕ) → Late k → inner_size tree w f cb k ≡ inner_size tree w g cb k
   inner-same cb k h = rw (alone-same k (across cb) h) refl
 
   abbrev LateEntry : Entry ℤ → Type 0
@@ -226,15 +226,15 @@ module _ (tree : BoxTree) (w : World) (height : ℕ) (f g : Inside) (b : ℕ)
   entries-late (of_entry.Here p ∷ es) a = (tt, entries-late es (all_parts LateName (shown of_box (of_entry.Here p)) (flat_map (shown of_box) es) a).1)
   entries-late (of_entry.Goes k at ∷ es) a = (a.0, entries-late es a.1)
 
-  boxes-same : (cb : Band ℤ) (es : List (Entry ℤ)) → AllByRecursion LateEntry es → flat_map (entry_boxes tree w height f cb) es ≡ flat_map (entry_boxes tree w height g cb) es
+  boxes-same : (cb : Band ℤ) (es : List (Entry ℤ)) → AllByRecursion LateEntry es → flat_map (entry_boxes tree w f cb) es ≡ flat_map (entry_boxes tree w g cb) es
   boxes-same cb [] a = refl
   boxes-same cb (of_entry.Here p ∷ es) a = ap (λ (l : List (Placed ℤ)). p ∷ l) (boxes-same cb es a.1)
   boxes-same cb (of_entry.Goes k at ∷ es) a =
-      ap (λ (x : Alone). shifted at x.boxes ++ flat_map (entry_boxes tree w height f cb) es) (alone-same k (across cb) a.0)
-      ∙ ap (λ (l : List (Placed ℤ)). shifted at (alone tree w height g k (across cb)).boxes ++ l) (boxes-same cb es a.1)
+      ap (λ (x : Alone). shifted at x.boxes ++ flat_map (entry_boxes tree w f cb) es) (alone-same k (across cb) a.0)
+      ∙ ap (λ (l : List (Placed ℤ)). shifted at (alone tree w g k (across cb)).boxes ++ l) (boxes-same cb es a.1)
 
   abbrev sized : (ℕ → Band ℤ → ℤ → Progress → Progress) → Band ℤ → ℕ → ℕ × Inner ℤ
-  sized inside cb k = (k, inner_size tree w height inside cb k)
+  sized inside cb k = (k, inner_size tree w inside cb k)
 
   abbrev context_with : Band ℤ → List (ℕ × Inner ℤ) → InlineContext
   context_with cb inner = record { tree = tree; world = w; container = b; inner = table_of (length tree.boxes) inner; cb = cb }
@@ -242,32 +242,32 @@ module _ (tree : BoxTree) (w : World) (height : ℕ) (f g : Inside) (b : ℕ)
   abbrev set : Band ℤ → ℤ → Progress → List (ℕ × Inner ℤ) → LineList
   set cb top p inner = lines_in (context_with cb inner) top (unwrap_or p.least top) p.floats
 
-  lines-same : (cb : Band ℤ) (top : ℤ) (p : Progress) → line_content tree w height f b cb top p ≡ line_content tree w height g b cb top p
+  lines-same : (cb : Band ℤ) (top : ℤ) (p : Progress) → line_content tree w f b cb top p ≡ line_content tree w g b cb top p
   lines-same cb top p =
       let inner = map (sized g cb) (inner_boxes tree b) in
       let late = entries-late (set cb top p inner).entries
       (subst (AllByRecursion LateName) (sym (content-shown of_box (context_with cb inner) top (unwrap_or p.least top) p.floats)) (names-late (inner_boxes tree b) (inner_boxes-from tree b (forest tree)))) in
-      ap (λ (inner : List (ℕ × Inner ℤ)). after_lines tree w height f cb p (set cb top p inner)) (map-same (sized f cb) (sized g cb) (inner_boxes tree b)
+      ap (λ (inner : List (ℕ × Inner ℤ)). after_lines tree w f cb p (set cb top p inner)) (map-same (sized f cb) (sized g cb) (inner_boxes tree b)
       (All-implied Late (λ k. sized f cb k ≡ sized g cb k) (inner_boxes tree b) (λ k h. ap (λ (i : Inner ℤ). (k, i)) (inner-same cb k h)) (inner_boxes-from tree b (forest tree))))
-      ∙ ap (λ (boxes : List (Placed ℤ)). record (after_lines tree w height g cb p (set cb top p inner)) { boxes = p.boxes ++ boxes }) (boxes-same cb (set cb top p inner).entries late)
+      ∙ ap (λ (boxes : List (Placed ℤ)). record (after_lines tree w g cb p (set cb top p inner)) { boxes = p.boxes ++ boxes }) (boxes-same cb (set cb top p inner).entries late)
 
-  pub step-flow-same : (cb : Band ℤ) (top : ℤ) (p : Progress) → flow_step tree w height f b cb top p ≡ flow_step tree w height g b cb top p
+  pub step-flow-same : (cb : Band ℤ) (top : ℤ) (p : Progress) → flow_step tree w f b cb top p ≡ flow_step tree w g b cb top p
   step-flow-same cb top p = by (has_line tree b) refl
     where
-      by : (x : Bool) → has_line tree b ≡ x → flow_step tree w height f b cb top p ≡ flow_step tree w height g b cb top p
+      by : (x : Bool) → has_line tree b ≡ x → flow_step tree w f b cb top p ≡ flow_step tree w g b cb top p
       by true e = rw e (lines-same cb top p)
       by false e = rw e (children-same cb top p (flow_children tree b) (children-from tree b))
 
 -- ---- enough levels
 
-module _ (tree : BoxTree) (w : World) (height : ℕ) where
-  flow-enough : (n m b : ℕ) (cb : Band ℤ) (top : ℤ) (p : Progress) → b < length tree.boxes → length tree.boxes ≤ n + b → length tree.boxes ≤ m + b → flow_to tree w height n b cb top p ≡ flow_to tree w height m b cb top p
+module _ (tree : BoxTree) (w : World) where
+  flow-enough : (n m b : ℕ) (cb : Band ℤ) (top : ℤ) (p : Progress) → b < length tree.boxes → length tree.boxes ≤ n + b → length tree.boxes ≤ m + b → flow_to tree w n b cb top p ≡ flow_to tree w m b cb top p
   unfolding flow_to
   flow-enough zero m b cb top p l i j = absurd (omega arith)
   flow-enough (suc n) zero b cb top p l i j = absurd (omega arith)
   flow-enough (suc n) (suc m) b cb top p l i j =
-      step-flow-same tree w height (flow_to tree w height n) (flow_to tree w height m) b (λ k h cb top p. let after = h.from in flow-enough n m k cb top p h.within (omega arith) (omega arith)) cb top p
+      step-flow-same tree w (flow_to tree w n) (flow_to tree w m) b (λ k h cb top p. let after = h.from in flow-enough n m k cb top p h.within (omega arith) (omega arith)) cb top p
 
-  pub flow-is : (b : ℕ) (cb : Band ℤ) (top : ℤ) (p : Progress) → b < length tree.boxes → flow tree w height b cb top p ≡ flow_step tree w height (flow tree w height) b cb top p
+  pub flow-is : (b : ℕ) (cb : Band ℤ) (top : ℤ) (p : Progress) → b < length tree.boxes → flow tree w b cb top p ≡ flow_step tree w (flow tree w) b cb top p
   unfolding flow_to
   flow-is b cb top p l = flow-enough (length tree.boxes) (suc (length tree.boxes)) b cb top p l (omega arith) (omega arith)

@@ -45,14 +45,14 @@ flat_map-twice f g [] = refl
 flat_map-twice {A} {B} {C} f g (x ∷ xs) = flat_map-append g (f x) (flat_map f xs) ∙ ap (λ (l : List C). flat_map g (f x) ++ l) (flat_map-twice f g xs)
 
 -- the frame of a box in flow that is reached
-abbrev pub frame_of : BoxTree → World → ℕ → Band ℤ → ℕ → Reached → Frame
-frame_of tree w height cb k r = record {
-  x = widths tree w height k (across cb);
+abbrev pub frame_of : BoxTree → World → Band ℤ → ℕ → Reached → Frame
+frame_of tree w cb k r = record {
+  x = widths tree w k (across cb);
   v = verticals tree w k (across cb);
-  corner = record { x = cb.left +ℤ (widths tree w height k (across cb)).margin_left; y = r.top };
+  corner = record { x = cb.left +ℤ (widths tree w k (across cb)).margin_left; y = r.top };
 }
 
-module _ (tree : BoxTree) (w : World) (height : ℕ) (counts : Kind → Bool) where
+module _ (tree : BoxTree) (w : World) (counts : Kind → Bool) where
   -- an entry, and a box, that counts
   abbrev pub of_entry : Placed ℤ → List (Kind × ℕ)
   of_entry p = one_if (counts p.kind) (named_by p)
@@ -82,14 +82,14 @@ module _ (tree : BoxTree) (w : World) (height : ℕ) (counts : Kind → Bool) wh
     nothing_in : (b : ℕ) → is_replaced_at tree b ≡ true → [] ≡ flat_map all_of (kids_of tree.boxes b)
     nothing_in b e = ap (flat_map all_of) (sym (replaced_holds_none tree b e))
 
-    pub alone-entries : (b : ℕ) (room : ℤ) → b < length tree.boxes → length tree.boxes ≤ levels + b → entries (alone tree w height inside b room).boxes ≡ all_of b
+    pub alone-entries : (b : ℕ) (room : ℤ) → b < length tree.boxes → length tree.boxes ≤ levels + b → entries (alone tree w inside b room).boxes ≡ all_of b
     alone-entries b room l m = by_sort (is_replaced_at tree b) refl ∙ sym (all_of-is b l)
       where
-        by_sort : (r : Bool) → is_replaced_at tree b ≡ r → entries (alone tree w height inside b room).boxes ≡ of_box b ++ flat_map all_of (kids_of tree.boxes b)
+        by_sort : (r : Bool) → is_replaced_at tree b ≡ r → entries (alone tree w inside b room).boxes ≡ of_box b ++ flat_map all_of (kids_of tree.boxes b)
         by_sort true e = rw e (ap (λ (l : List (Kind × ℕ)). of_box b ++ l) (nothing_in b e))
         by_sort false e = rw e (ap (λ (l : List (Kind × ℕ)). of_box b ++ l) (fills b _ _ (fresh _) l m))
 
-    pub float-entries : (cb : Band ℤ) (top : ℤ) (p : Progress) (k : ℕ) → k < length tree.boxes → length tree.boxes ≤ levels + k → entries (float_child tree w height inside cb top p k).boxes ≡ entries p.boxes ++ all_of k
+    pub float-entries : (cb : Band ℤ) (top : ℤ) (p : Progress) (k : ℕ) → k < length tree.boxes → length tree.boxes ≤ levels + k → entries (float_child tree w inside cb top p k).boxes ≡ entries p.boxes ++ all_of k
     float-entries cb top p k l m = flat_map-append of_entry p.boxes _ ∙ ap (λ (l : List (Kind × ℕ)). entries p.boxes ++ l) (entries-shifted _ _ ∙ alone-entries k _ l m)
 
     -- a box and its content after what was there
@@ -98,35 +98,35 @@ module _ (tree : BoxTree) (w : World) (height : ℕ) (counts : Kind → Bool) wh
         flat_map-append of_entry before (box ∷ content)
         ∙ ap (λ (l : List (Kind × ℕ)). entries before ++ l) (ap (λ (l : List (Kind × ℕ)). l ++ entries content) e ∙ (ap (λ (l : List (Kind × ℕ)). of_box k ++ l) f ∙ sym (all_of-is k l)))
 
-    block-entries : (cb : Band ℤ) (p : Progress) (k : ℕ) (cleared : Cleared) (f : Frame) → k < length tree.boxes → length tree.boxes ≤ levels + k → entries (laid_block tree w height inside cb p k cleared f).after.boxes ≡ entries p.boxes ++ all_of k
+    block-entries : (cb : Band ℤ) (p : Progress) (k : ℕ) (cleared : Cleared) (f : Frame) → k < length tree.boxes → length tree.boxes ≤ levels + k → entries (laid_block tree w inside cb p k cleared f).after.boxes ≡ entries p.boxes ++ all_of k
     block-entries cb p k cleared f l m =
-        after p.boxes _ _ k l refl (fills k (content_from cb.left f.x) (content_top f) (opened tree w height inside p f (start (is_open_above tree k))) l m)
+        after p.boxes _ _ k l refl (fills k (content_from cb.left f.x) (content_top f) (opened tree w inside p f (start (is_open_above tree k))) l m)
       where
         start : Bool → Standing
         start true = at_top f.corner.y cleared
         start false = below (content_top f) [] false
 
-    laid-entries : (cb : Band ℤ) (p : Progress) (k : ℕ) (r : Reached) → k < length tree.boxes → length tree.boxes ≤ levels + k → entries (laid tree w height inside cb p k r).after.boxes ≡ entries p.boxes ++ all_of k
+    laid-entries : (cb : Band ℤ) (p : Progress) (k : ℕ) (r : Reached) → k < length tree.boxes → length tree.boxes ≤ levels + k → entries (laid tree w inside cb p k r).after.boxes ≡ entries p.boxes ++ all_of k
     laid-entries cb p k r l m = by_sort (is_replaced_at tree k) (is_context_root tree k) refl refl
       where
-        by_sort : (replaced context : Bool) → is_replaced_at tree k ≡ replaced → is_context_root tree k ≡ context → entries (laid tree w height inside cb p k r).after.boxes ≡ entries p.boxes ++ all_of k
+        by_sort : (replaced context : Bool) → is_replaced_at tree k ≡ replaced → is_context_root tree k ≡ context → entries (laid tree w inside cb p k r).after.boxes ≡ entries p.boxes ++ all_of k
         by_sort true context e f = rw e (after p.boxes [] _ k l refl (nothing_in k e))
         by_sort false true e f = rw (e, f) (after p.boxes _ _ k l refl (fills k _ _ (fresh _) l m))
-        by_sort false false e f = rw (e, f) (block-entries cb p k r.cleared (frame_of tree w height cb k r) l m)
+        by_sort false false e f = rw (e, f) (block-entries cb p k r.cleared (frame_of tree w cb k r) l m)
 
     abbrev sorted : Band ℤ → ℤ → Progress → ℕ → Bool → Progress
-    sorted cb top p k true = float_child tree w height inside cb top p k
-    sorted cb top p k false = flow_child tree w height inside cb p k
+    sorted cb top p k true = float_child tree w inside cb top p k
+    sorted cb top p k false = flow_child tree w inside cb p k
 
-    child-entries : (cb : Band ℤ) (top : ℤ) (p : Progress) (k : ℕ) → k < length tree.boxes → length tree.boxes ≤ levels + k → entries (child tree w height inside cb top p k).boxes ≡ entries p.boxes ++ all_of k
+    child-entries : (cb : Band ℤ) (top : ℤ) (p : Progress) (k : ℕ) → k < length tree.boxes → length tree.boxes ≤ levels + k → entries (child tree w inside cb top p k).boxes ≡ entries p.boxes ++ all_of k
     child-entries cb top p k l m = by_sort (is_floated_at tree k)
       where
         by_sort : (floats : Bool) → entries (sorted cb top p k floats).boxes ≡ entries p.boxes ++ all_of k
         by_sort true = float-entries cb top p k l m
-        by_sort false = laid-entries cb p k (reached tree w height inside cb p k) l m
+        by_sort false = laid-entries cb p k (reached tree w inside cb p k) l m
 
-    pub children-entries : (cb : Band ℤ) (top : ℤ) (p : Progress) (ks : List ℕ) → AllByRecursion (λ k. (k < length tree.boxes) × (length tree.boxes ≤ levels + k)) ks → entries (fold (child tree w height inside cb top) p ks).boxes ≡ entries p.boxes ++ flat_map all_of ks
+    pub children-entries : (cb : Band ℤ) (top : ℤ) (p : Progress) (ks : List ℕ) → AllByRecursion (λ k. (k < length tree.boxes) × (length tree.boxes ≤ levels + k)) ks → entries (fold (child tree w inside cb top) p ks).boxes ≡ entries p.boxes ++ flat_map all_of ks
     children-entries cb top p [] a = sym (append-nil (entries p.boxes))
     children-entries cb top p (k ∷ ks) a =
-        children-entries cb top (child tree w height inside cb top p k) ks a.1
+        children-entries cb top (child tree w inside cb top p k) ks a.1
         ∙ (ap (λ (l : List (Kind × ℕ)). l ++ flat_map all_of ks) (child-entries cb top p k a.0.0 a.0.1) ∙ append_assoc (entries p.boxes) (all_of k) (flat_map all_of ks))

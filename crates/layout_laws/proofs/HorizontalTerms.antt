@@ -12,17 +12,17 @@ use Rattle.layout_laws.specs.Terms.{IsInFlowBlock, own_width, own_maximum, own_m
 
 -- ---- by the placing of a box
 
-abbrev of_placing : BoxTree → World → ℕ → ℕ → ℤ → Placing → Widths ℤ
-of_placing tree w viewport at cb p = elim p [
+abbrev of_placing : BoxTree → World → ℕ → ℤ → Placing → Widths ℤ
+of_placing tree w at cb p = elim p [
   | block_flow ↦ flow_widths tree w at cb
   | shrunk ↦ held_terms tree w at cb (shrunk_terms tree w at cb)
-  | replaced_block ↦ fixed_terms tree w at cb (replaced_size tree w viewport at cb).width
-  | replaced_shrunk ↦ terms_around tree w at cb (replaced_size tree w viewport at cb).width
+  | replaced_block ↦ fixed_terms tree w at cb (replaced_size tree w at cb).width
+  | replaced_shrunk ↦ terms_around tree w at cb (replaced_size tree w at cb).width
 ]
 
-pub widths-placed : (tree : BoxTree) (w : World) (viewport at : ℕ) (cb : ℤ) (p : Placing) → placing_of tree at ≡ p → widths tree w viewport at cb ≡ of_placing tree w viewport at cb p
+pub widths-placed : (tree : BoxTree) (w : World) (at : ℕ) (cb : ℤ) (p : Placing) → placing_of tree at ≡ p → widths tree w at cb ≡ of_placing tree w at cb p
 unfolding widths
-widths-placed tree w viewport at cb p e = ap (of_placing tree w viewport at cb) e
+widths-placed tree w at cb p e = ap (of_placing tree w at cb) e
 
 -- ---- the sum
 
@@ -48,10 +48,10 @@ most-any P terms (Some most) t all one = again-any P (int_le t.content most) ter
 pub held-any : (P : Widths ℤ → Type 0) (terms : Option ℤ → Widths ℤ) (most : Option ℤ) (least : ℤ) (o : Option ℤ) → ((o : Option ℤ) → P (terms o)) → P (at_least terms least (at_most terms most (terms o)))
 held-any P terms most least o all = again-any P (int_le least (at_most terms most (terms o)).content) terms least (at_most terms most (terms o)) all (most-any P terms most (terms o) all (all o))
 
-pub block-sum : (tree : BoxTree) (w : World) (viewport at : ℕ) (cb : ℤ) → IsInFlowBlock tree at → sum_of (widths tree w viewport at cb) ≡ cb
-block-sum tree w viewport at cb (inl e) =
-    ap sum_of (widths-placed tree w viewport at cb block_flow e) ∙ held-any (λ t. sum_of t ≡ cb) (block_terms tree w at cb) (own_maximum tree w at cb) (own_minimum tree w at cb) (own_width tree w at cb) (terms-sum tree w at cb)
-block-sum tree w viewport at cb (inr e) = ap sum_of (widths-placed tree w viewport at cb replaced_block e) ∙ fixed-sum tree w at cb (replaced_size tree w viewport at cb).width
+pub block-sum : (tree : BoxTree) (w : World) (at : ℕ) (cb : ℤ) → IsInFlowBlock tree at → sum_of (widths tree w at cb) ≡ cb
+block-sum tree w at cb (inl e) =
+    ap sum_of (widths-placed tree w at cb block_flow e) ∙ held-any (λ t. sum_of t ≡ cb) (block_terms tree w at cb) (own_maximum tree w at cb) (own_minimum tree w at cb) (own_width tree w at cb) (terms-sum tree w at cb)
+block-sum tree w at cb (inr e) = ap sum_of (widths-placed tree w at cb replaced_block e) ∙ fixed-sum tree w at cb (replaced_size tree w at cb).width
 
 -- ---- the width
 
@@ -70,14 +70,14 @@ held-content terms most least t of = by (int_le least (at_most terms most t).con
     by true e m = omega (arith, ints, clamps)
     by false e m = let same = of least in omega (arith, ints, clamps)
 
-pub block-held : (tree : BoxTree) (w : World) (viewport at : ℕ) (cb : ℤ) → placing_of tree at ≡ block_flow
-    → (widths tree w viewport at cb).content ≡ held_width tree w at cb (block_terms tree w at cb (own_width tree w at cb)).content
-block-held tree w viewport at cb e =
-    ap (λ (t : Widths ℤ). t.content) (widths-placed tree w viewport at cb block_flow e)
+pub block-held : (tree : BoxTree) (w : World) (at : ℕ) (cb : ℤ) → placing_of tree at ≡ block_flow
+    → (widths tree w at cb).content ≡ held_width tree w at cb (block_terms tree w at cb (own_width tree w at cb)).content
+block-held tree w at cb e =
+    ap (λ (t : Widths ℤ). t.content) (widths-placed tree w at cb block_flow e)
     ∙ held-content (block_terms tree w at cb) (own_maximum tree w at cb) (own_minimum tree w at cb) (block_terms tree w at cb (own_width tree w at cb)) (λ width. refl)
 
-pub shrunk-held : (tree : BoxTree) (w : World) (viewport at : ℕ) (cb : ℤ) → placing_of tree at ≡ shrunk
-    → (widths tree w viewport at cb).content ≡ held_width tree w at cb (shrunk_terms tree w at cb (own_width tree w at cb)).content
-shrunk-held tree w viewport at cb e =
-    ap (λ (t : Widths ℤ). t.content) (widths-placed tree w viewport at cb shrunk e)
+pub shrunk-held : (tree : BoxTree) (w : World) (at : ℕ) (cb : ℤ) → placing_of tree at ≡ shrunk
+    → (widths tree w at cb).content ≡ held_width tree w at cb (shrunk_terms tree w at cb (own_width tree w at cb)).content
+shrunk-held tree w at cb e =
+    ap (λ (t : Widths ℤ). t.content) (widths-placed tree w at cb shrunk e)
     ∙ held-content (shrunk_terms tree w at cb) (own_maximum tree w at cb) (own_minimum tree w at cb) (shrunk_terms tree w at cb (own_width tree w at cb)) (λ width. refl)

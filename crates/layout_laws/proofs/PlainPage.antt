@@ -54,27 +54,27 @@ from_places (t ∷ ts) zero b p e f = by_same t (box_same t.0 b e) (entry_same t
     by_same t e f = subst (λ (x : ℕ). Contains (t ∷ ts) (x, p)) e (subst (λ (q : Placed ℤ). Contains (t ∷ ts) (t.0, q)) f (first_member _ refl))
 from_places (t ∷ ts) (suc i) b p e f = later_member _ (from_places ts i b p e f)
 
-module _ (tree : BoxTree) (w : World) (height : ℕ) (plain : HasPlainBlocks tree) where
+module _ (tree : BoxTree) (w : World) (plain : HasPlainBlocks tree) where
   -- ---- the root
 
   room : ℤ
   room = pos (64 * w.w)
 
   abbrev root_frame : Frame
-  root_frame = record { x = widths tree w height 0 room; v = verticals tree w 0 room; corner = record { x = (widths tree w height 0 room).margin_left; y = (verticals tree w 0 room).margin_top } }
+  root_frame = record { x = widths tree w 0 room; v = verticals tree w 0 room; corner = record { x = (widths tree w 0 room).margin_left; y = (verticals tree w 0 room).margin_top } }
 
   abbrev root_end : Progress
-  root_end = flow_to tree w height (length tree.boxes) 0 (content_from (pos 0) root_frame.x) (content_top root_frame) (fresh (content_top root_frame))
+  root_end = flow_to tree w (length tree.boxes) 0 (content_from (pos 0) root_frame.x) (content_top root_frame) (fresh (content_top root_frame))
 
   abbrev root_height : Bool → ℤ
-  root_height true = (replaced_size tree w height 0 room).height
-  root_height false = content_height tree w height 0 (context_height tree w height (content_top root_frame) root_end)
+  root_height true = (replaced_size tree w 0 room).height
+  root_height false = content_height tree w 0 (context_height tree w (content_top root_frame) root_end)
 
   abbrev root_entry : Placed ℤ
   root_entry = placed_box tree 0 root_frame (root_height (is_replaced_at tree 0))
 
   abbrev root_content : List (ℕ × Placed ℤ)
-  root_content = trace_to tree w height (length tree.boxes) 0 (content_from (pos 0) root_frame.x) (content_top root_frame) (fresh (content_top root_frame))
+  root_content = trace_to tree w (length tree.boxes) 0 (content_from (pos 0) root_frame.x) (content_top root_frame) (fresh (content_top root_frame))
 
   abbrev page_trace : List BoxNode → List (ℕ × Placed ℤ)
   page_trace [] = []
@@ -82,19 +82,19 @@ module _ (tree : BoxTree) (w : World) (height : ℕ) (plain : HasPlainBlocks tre
 
   abbrev rendered : List BoxNode → Rendering ℤ
   rendered [] = record { boxes = [] }
-  rendered (root ∷ rest) = record { boxes = (whole_alone tree w height 0 (pos (64 * w.w))).boxes }
+  rendered (root ∷ rest) = record { boxes = (whole_alone tree w 0 (pos (64 * w.w))).boxes }
 
-  root-traced : 0 < length tree.boxes → IsTrace tree w height (flow_to tree w height (length tree.boxes)) (trace_to tree w height (length tree.boxes)) 0 (content_from (pos 0) root_frame.x) (content_top root_frame) (fresh (content_top root_frame))
-  root-traced l = flow-traced tree w height plain (length tree.boxes) 0 (content_from (pos 0) root_frame.x) (content_top root_frame) root_frame.corner.y (fresh (content_top root_frame)) false l (omega arith) refl refl
+  root-traced : 0 < length tree.boxes → IsTrace tree w (flow_to tree w (length tree.boxes)) (trace_to tree w (length tree.boxes)) 0 (content_from (pos 0) root_frame.x) (content_top root_frame) (fresh (content_top root_frame))
+  root-traced l = flow-traced tree w plain (length tree.boxes) 0 (content_from (pos 0) root_frame.x) (content_top root_frame) root_frame.corner.y (fresh (content_top root_frame)) false l (omega arith) refl refl
 
-  root-boxes : 0 < length tree.boxes → (whole_alone tree w height 0 (pos (64 * w.w))).boxes ≡ root_entry ∷ entries_in root_content
+  root-boxes : 0 < length tree.boxes → (whole_alone tree w 0 (pos (64 * w.w))).boxes ≡ root_entry ∷ entries_in root_content
   unfolding room
   root-boxes l = by_sort (is_replaced_at tree 0) refl (root-traced l)
     where
-      by_sort : (r : Bool) → is_replaced_at tree 0 ≡ r → IsTrace tree w height (flow_to tree w height (length tree.boxes)) (trace_to tree w height (length tree.boxes)) 0 (content_from (pos 0) root_frame.x) (content_top root_frame) (fresh (content_top root_frame))
-          → (whole_alone tree w height 0 (pos (64 * w.w))).boxes ≡ root_entry ∷ entries_in root_content
+      by_sort : (r : Bool) → is_replaced_at tree 0 ≡ r → IsTrace tree w (flow_to tree w (length tree.boxes)) (trace_to tree w (length tree.boxes)) 0 (content_from (pos 0) root_frame.x) (content_top root_frame) (fresh (content_top root_frame))
+          → (whole_alone tree w 0 (pos (64 * w.w))).boxes ≡ root_entry ∷ entries_in root_content
       by_sort true e t =
-          let none = map_none tree w height root_content (t.order ∙ ap (flat_map (document_order tree.boxes)) (replaced_holds_none tree 0 e)) in
+          let none = map_none tree w root_content (t.order ∙ ap (flat_map (document_order tree.boxes)) (replaced_holds_none tree 0 e)) in
           rw (none, e)
       by_sort false e t = rw e (ap (λ (l : List (Placed ℤ)). placed_box tree 0 root_frame (root_height false) ∷ l) t.boxes)
 
@@ -111,7 +111,7 @@ module _ (tree : BoxTree) (w : World) (height : ℕ) (plain : HasPlainBlocks tre
   abbrev trace : List (ℕ × Placed ℤ)
   trace = page_trace tree.boxes
 
-  rendering-is : (page_rendering tree w height).boxes ≡ entries_in trace
+  rendering-is : (page_rendering tree w).boxes ≡ entries_in trace
   rendering-is = page-rendered tree.boxes refl
 
   order-is : page_order tree.boxes ≡ boxes_in trace
@@ -119,7 +119,7 @@ module _ (tree : BoxTree) (w : World) (height : ℕ) (plain : HasPlainBlocks tre
 
   -- ---- entries
 
-  is_in : (b : ℕ) (p : Placed ℤ) → IsEntryOf tree w height b p → Contains trace (b, p)
+  is_in : (b : ℕ) (p : Placed ℤ) → IsEntryOf tree w b p → Contains trace (b, p)
   is_in b p i = from_places trace i.place b p (ap (λ (l : List ℕ). slice_get l i.place) (sym order-is) ∙ i.box) (ap (λ (l : List (Placed ℤ)). slice_get l i.place) (sym rendering-is) ∙ i.entry)
 
   -- a box has one entry
@@ -148,13 +148,13 @@ module _ (tree : BoxTree) (w : World) (height : ℕ) (plain : HasPlainBlocks tre
   -- ---- the laws
 
   Stands : List (ℕ × Placed ℤ) → ℕ → Placed ℤ → Bool → Type 0
-  Stands t a p opens = KidsStand tree w height t a (content_of p) p.content.top p.border.top opens
+  Stands t a p opens = KidsStand tree w t a (content_of p) p.content.top p.border.top opens
 
   record PageStands (t : List (ℕ × Placed ℤ)) : Type 0 where
     root : Placed ℤ
     root_in : Contains t (0, root)
-    root_stands : KidsStand tree w height t 0 (content_of root) root.content.top root.border.top false
-    others : (a : ℕ) (p : Placed ℤ) → Contains t (a, p) → (◌≡◌ {A = ℕ × Placed ℤ} (a, p) (0, root)) ⊎ KidsStand tree w height t a (content_of p) p.content.top p.border.top (is_open_above tree a)
+    root_stands : KidsStand tree w t 0 (content_of root) root.content.top root.border.top false
+    others : (a : ℕ) (p : Placed ℤ) → Contains t (a, p) → (◌≡◌ {A = ℕ × Placed ℤ} (a, p) (0, root)) ⊎ KidsStand tree w t a (content_of p) p.content.top p.border.top (is_open_above tree a)
 
   root-band : content_from (pos 0) root_frame.x ≡ content_of root_entry
   root-band = same_band _ _ _ _ (omega (arith, ints)) (omega (arith, ints))
@@ -165,11 +165,11 @@ module _ (tree : BoxTree) (w : World) (height : ℕ) (plain : HasPlainBlocks tre
   root-edge : content_top root_frame ≡ root_entry.content.top
   root-edge = omega (arith, ints)
 
-  root-content : 0 < length tree.boxes → KidsStand tree w height root_content 0 (content_of root_entry) root_entry.content.top root_entry.border.top false × EachStands tree w height root_content
+  root-content : 0 < length tree.boxes → KidsStand tree w root_content 0 (content_of root_entry) root_entry.content.top root_entry.border.top false × EachStands tree w root_content
   root-content l =
-      let own = flow-stands tree w height plain (length tree.boxes) 0 (content_from (pos 0) root_frame.x) (content_top root_frame) root_frame.corner.y (fresh (content_top root_frame)) false l (omega arith) refl refl in (
-        subst (λ (t : ℤ). KidsStand tree w height root_content 0 (content_of root_entry) t root_frame.corner.y false) root-edge
-            (subst (λ (band : Band ℤ). KidsStand tree w height root_content 0 band (content_top root_frame) root_frame.corner.y false) root-band own.0),
+      let own = flow-stands tree w plain (length tree.boxes) 0 (content_from (pos 0) root_frame.x) (content_top root_frame) root_frame.corner.y (fresh (content_top root_frame)) false l (omega arith) refl refl in (
+        subst (λ (t : ℤ). KidsStand tree w root_content 0 (content_of root_entry) t root_frame.corner.y false) root-edge
+            (subst (λ (band : Band ℤ). KidsStand tree w root_content 0 band (content_top root_frame) root_frame.corner.y false) root-band own.0),
         own.1,
       )
 
@@ -181,16 +181,16 @@ module _ (tree : BoxTree) (w : World) (height : ℕ) (plain : HasPlainBlocks tre
       record {
         root = root_entry;
         root_in = first_member _ refl;
-        root_stands = stand-more tree w height root_content ((0, root_entry) ∷ root_content) 0 (content_of root_entry) root_entry.content.top root_entry.border.top false (λ x i. later_member _ i) own.0;
+        root_stands = stand-more tree w root_content ((0, root_entry) ∷ root_content) 0 (content_of root_entry) root_entry.content.top root_entry.border.top false (λ x i. later_member _ i) own.0;
         others = λ a p i. by_part a p own.1 (first_or_later (0, root_entry) root_content (a, p) i);
       }
     where
-      by_part : (a : ℕ) (p : Placed ℤ) → EachStands tree w height root_content → (◌≡◌ {A = ℕ × Placed ℤ} (0, root_entry) (a, p)) ⊎ Contains root_content (a, p)
-          → (◌≡◌ {A = ℕ × Placed ℤ} (a, p) (0, root_entry)) ⊎ KidsStand tree w height ((0, root_entry) ∷ root_content) a (content_of p) p.content.top p.border.top (is_open_above tree a)
+      by_part : (a : ℕ) (p : Placed ℤ) → EachStands tree w root_content → (◌≡◌ {A = ℕ × Placed ℤ} (0, root_entry) (a, p)) ⊎ Contains root_content (a, p)
+          → (◌≡◌ {A = ℕ × Placed ℤ} (a, p) (0, root_entry)) ⊎ KidsStand tree w ((0, root_entry) ∷ root_content) a (content_of p) p.content.top p.border.top (is_open_above tree a)
       by_part a p each (inl e) = inl (sym e)
-      by_part a p each (inr i) = inr (stand-more tree w height root_content ((0, root_entry) ∷ root_content) a (content_of p) p.content.top p.border.top (is_open_above tree a) (λ x i. later_member _ i) (each a p i))
+      by_part a p each (inr i) = inr (stand-more tree w root_content ((0, root_entry) ∷ root_content) a (content_of p) p.content.top p.border.top (is_open_above tree a) (λ x i. later_member _ i) (each a p i))
 
-  stands : (a : ℕ) (outer : Placed ℤ) → IsEntryOf tree w height a outer → PageStands trace
+  stands : (a : ℕ) (outer : Placed ℤ) → IsEntryOf tree w a outer → PageStands trace
   stands a outer i = page-stands tree.boxes refl (not_empty tree.boxes i.place a i.box)
     where
       not_empty : (bs : List BoxNode) (i a : ℕ) → slice_get (flat_map (document_order tree.boxes) (roots bs)) i ≡ Some a → 0 < length bs
@@ -198,27 +198,27 @@ module _ (tree : BoxTree) (w : World) (height : ℕ) (plain : HasPlainBlocks tre
       not_empty (b ∷ bs) i a e = omega arith
 
   -- of one entry
-  first-at : (opens : Bool) (a : ℕ) (outer : Placed ℤ) → Stands trace a outer opens → (passed : List ℕ) (c : ℕ) (after : List ℕ) (lower : Placed ℤ) → IsEntryOf tree w height c lower
-      → kids_of tree.boxes a ≡ passed ++ c ∷ after → IsTrue (list_all (collapses tree w height) passed)
-      → lower.border.top ≡ edge_after (passed_by (started outer.border.top outer.content.top opens) (flat_map (all_margins tree w height (content_of outer)) passed)) (leading tree w height (content_of outer) c)
+  first-at : (opens : Bool) (a : ℕ) (outer : Placed ℤ) → Stands trace a outer opens → (passed : List ℕ) (c : ℕ) (after : List ℕ) (lower : Placed ℤ) → IsEntryOf tree w c lower
+      → kids_of tree.boxes a ≡ passed ++ c ∷ after → IsTrue (list_all (collapses tree w) passed)
+      → lower.border.top ≡ edge_after (passed_by (started outer.border.top outer.content.top opens) (flat_map (all_margins tree w (content_of outer)) passed)) (leading tree w (content_of outer) c)
   unfolding Stands
   first-at opens a outer k passed c after lower i e t =
       let r = k.first passed c after e t in
       ap (λ (p : Placed ℤ). p.border.top) (only_one c lower r.0 (is_in c lower i) r.1) ∙ r.2
 
   next-at : (opens : Bool) (a : ℕ) (outer : Placed ℤ) → Stands trace a outer opens
-      → (before : List ℕ) (b : ℕ) (passed : List ℕ) (c : ℕ) (after : List ℕ) (upper lower : Placed ℤ) → IsEntryOf tree w height b upper → IsEntryOf tree w height c lower
-      → kids_of tree.boxes a ≡ before ++ b ∷ (passed ++ c ∷ after) → collapses tree w height b ≡ false → IsTrue (list_all (collapses tree w height) passed)
-      → lower.border.top ≡ upper.border.bottom +ℤ collapsed (trailing tree w height (content_of outer) b ++ (flat_map (all_margins tree w height (content_of outer)) passed ++ leading tree w height (content_of outer) c))
+      → (before : List ℕ) (b : ℕ) (passed : List ℕ) (c : ℕ) (after : List ℕ) (upper lower : Placed ℤ) → IsEntryOf tree w b upper → IsEntryOf tree w c lower
+      → kids_of tree.boxes a ≡ before ++ b ∷ (passed ++ c ∷ after) → collapses tree w b ≡ false → IsTrue (list_all (collapses tree w) passed)
+      → lower.border.top ≡ upper.border.bottom +ℤ collapsed (trailing tree w (content_of outer) b ++ (flat_map (all_margins tree w (content_of outer)) passed ++ leading tree w (content_of outer) c))
   unfolding Stands
   next-at opens a outer k before b passed c after upper lower i j e n t =
       let r = k.next before b passed c after e n t in
       ap (λ (p : Placed ℤ). p.border.top) (only_one c lower r.1 (is_in c lower j) r.3)
-      ∙ (r.4 ∙ ap (λ (p : Placed ℤ). p.border.bottom +ℤ collapsed (trailing tree w height (content_of outer) b ++ (flat_map (all_margins tree w height (content_of outer)) passed ++ leading tree w height (content_of outer) c)))
+      ∙ (r.4 ∙ ap (λ (p : Placed ℤ). p.border.bottom +ℤ collapsed (trailing tree w (content_of outer) b ++ (flat_map (all_margins tree w (content_of outer)) passed ++ leading tree w (content_of outer) c)))
       (only_one b r.0 upper r.2 (is_in b upper i)))
 
   -- the root's own, or another box's
-  root-or-other : (a : ℕ) (outer : Placed ℤ) → IsEntryOf tree w height a outer → ((a ≡ 0) × Stands trace a outer false) ⊎ Stands trace a outer (is_open_above tree a)
+  root-or-other : (a : ℕ) (outer : Placed ℤ) → IsEntryOf tree w a outer → ((a ≡ 0) × Stands trace a outer false) ⊎ Stands trace a outer (is_open_above tree a)
   unfolding Stands
   root-or-other a outer i = by_part (page.others a outer (is_in a outer i))
     where
@@ -226,52 +226,52 @@ module _ (tree : BoxTree) (w : World) (height : ℕ) (plain : HasPlainBlocks tre
       page = stands a outer i
 
       stands_as : ℕ × Placed ℤ → Type 0
-      stands_as e = KidsStand tree w height trace e.0 (content_of e.1) e.1.content.top e.1.border.top false
+      stands_as e = KidsStand tree w trace e.0 (content_of e.1) e.1.content.top e.1.border.top false
 
-      by_part : (◌≡◌ {A = ℕ × Placed ℤ} (a, outer) (0, page.root)) ⊎ KidsStand tree w height trace a (content_of outer) outer.content.top outer.border.top (is_open_above tree a)
-          → ((a ≡ 0) × stands_as (a, outer)) ⊎ KidsStand tree w height trace a (content_of outer) outer.content.top outer.border.top (is_open_above tree a)
+      by_part : (◌≡◌ {A = ℕ × Placed ℤ} (a, outer) (0, page.root)) ⊎ KidsStand tree w trace a (content_of outer) outer.content.top outer.border.top (is_open_above tree a)
+          → ((a ≡ 0) × stands_as (a, outer)) ⊎ KidsStand tree w trace a (content_of outer) outer.content.top outer.border.top (is_open_above tree a)
       by_part (inl e) = inl (ap (λ (x : ℕ × Placed ℤ). x.0) e, subst stands_as (sym e) page.root_stands)
       by_part (inr k) = inr k
 
-  pub next-law : (a b c : ℕ) (before passed after : List ℕ) (outer upper lower : Placed ℤ) → IsEntryOf tree w height a outer → IsEntryOf tree w height b upper → IsEntryOf tree w height c lower
-      → kids_of tree.boxes a ≡ before ++ b ∷ (passed ++ c ∷ after) → collapses tree w height b ≡ false → IsTrue (list_all (collapses tree w height) passed)
-      → lower.border.top ≡ upper.border.bottom +ℤ collapsed (trailing tree w height (content_of outer) b ++ (flat_map (all_margins tree w height (content_of outer)) passed ++ leading tree w height (content_of outer) c))
+  pub next-law : (a b c : ℕ) (before passed after : List ℕ) (outer upper lower : Placed ℤ) → IsEntryOf tree w a outer → IsEntryOf tree w b upper → IsEntryOf tree w c lower
+      → kids_of tree.boxes a ≡ before ++ b ∷ (passed ++ c ∷ after) → collapses tree w b ≡ false → IsTrue (list_all (collapses tree w) passed)
+      → lower.border.top ≡ upper.border.bottom +ℤ collapsed (trailing tree w (content_of outer) b ++ (flat_map (all_margins tree w (content_of outer)) passed ++ leading tree w (content_of outer) c))
   next-law a b c before passed after outer upper lower i j k e n t = by_part (root-or-other a outer i)
     where
       by_part : ((a ≡ 0) × Stands trace a outer false) ⊎ Stands trace a outer (is_open_above tree a)
-          → lower.border.top ≡ upper.border.bottom +ℤ collapsed (trailing tree w height (content_of outer) b ++ (flat_map (all_margins tree w height (content_of outer)) passed ++ leading tree w height (content_of outer) c))
+          → lower.border.top ≡ upper.border.bottom +ℤ collapsed (trailing tree w (content_of outer) b ++ (flat_map (all_margins tree w (content_of outer)) passed ++ leading tree w (content_of outer) c))
       by_part (inl s) = next-at false a outer s.1 before b passed c after upper lower j k e n t
       by_part (inr s) = next-at (is_open_above tree a) a outer s before b passed c after upper lower j k e n t
 
-  root-stands-alone : (outer : Placed ℤ) (i : IsEntryOf tree w height 0 outer) → Stands trace 0 outer false
+  root-stands-alone : (outer : Placed ℤ) (i : IsEntryOf tree w 0 outer) → Stands trace 0 outer false
   unfolding Stands
   root-stands-alone outer i =
       let page = stands 0 outer i in
-      subst (λ (p : Placed ℤ). KidsStand tree w height trace 0 (content_of p) p.content.top p.border.top false) (only_one 0 page.root outer page.root_in (is_in 0 outer i)) page.root_stands
+      subst (λ (p : Placed ℤ). KidsStand tree w trace 0 (content_of p) p.content.top p.border.top false) (only_one 0 page.root outer page.root_in (is_in 0 outer i)) page.root_stands
 
-  pub joined-law : (a c : ℕ) (passed after : List ℕ) (outer lower : Placed ℤ) → IsEntryOf tree w height a outer → IsEntryOf tree w height c lower
-      → kids_of tree.boxes a ≡ passed ++ c ∷ after → IsTrue (list_all (collapses tree w height) passed) → 0 < a → is_open_above tree a ≡ true
+  pub joined-law : (a c : ℕ) (passed after : List ℕ) (outer lower : Placed ℤ) → IsEntryOf tree w a outer → IsEntryOf tree w c lower
+      → kids_of tree.boxes a ≡ passed ++ c ∷ after → IsTrue (list_all (collapses tree w) passed) → 0 < a → is_open_above tree a ≡ true
       → lower.border.top ≡ outer.border.top
   joined-law a c passed after outer lower i j e t l o = by_part (root-or-other a outer i)
     where
       at : ℤ → ℤ → Bool → ℤ
-      at y top opens = edge_after (passed_by (started y top opens) (flat_map (all_margins tree w height (content_of outer)) passed)) (leading tree w height (content_of outer) c)
+      at y top opens = edge_after (passed_by (started y top opens) (flat_map (all_margins tree w (content_of outer)) passed)) (leading tree w (content_of outer) c)
 
       by_part : ((a ≡ 0) × Stands trace a outer false) ⊎ Stands trace a outer (is_open_above tree a) → lower.border.top ≡ outer.border.top
       by_part (inl s) = let none = s.0 in absurd (omega arith)
       by_part (inr s) = first-at (is_open_above tree a) a outer s passed c after lower j e t ∙ ap (at outer.border.top outer.content.top) o
 
-  pub parted-law : (a c : ℕ) (passed after : List ℕ) (outer lower : Placed ℤ) → IsEntryOf tree w height a outer → IsEntryOf tree w height c lower
-      → kids_of tree.boxes a ≡ passed ++ c ∷ after → IsTrue (list_all (collapses tree w height) passed) → (a ≡ 0) ⊎ (is_open_above tree a ≡ false)
-      → lower.border.top ≡ outer.content.top +ℤ collapsed (flat_map (all_margins tree w height (content_of outer)) passed ++ leading tree w height (content_of outer) c)
+  pub parted-law : (a c : ℕ) (passed after : List ℕ) (outer lower : Placed ℤ) → IsEntryOf tree w a outer → IsEntryOf tree w c lower
+      → kids_of tree.boxes a ≡ passed ++ c ∷ after → IsTrue (list_all (collapses tree w) passed) → (a ≡ 0) ⊎ (is_open_above tree a ≡ false)
+      → lower.border.top ≡ outer.content.top +ℤ collapsed (flat_map (all_margins tree w (content_of outer)) passed ++ leading tree w (content_of outer) c)
   parted-law a c passed after outer lower i j e t (inl root) =
-      first-at false a outer (subst (λ (x : ℕ). IsEntryOf tree w height x outer → Stands trace x outer false) (sym root) (root-stands-alone outer) i) passed c after lower j e t
+      first-at false a outer (subst (λ (x : ℕ). IsEntryOf tree w x outer → Stands trace x outer false) (sym root) (root-stands-alone outer) i) passed c after lower j e t
   parted-law a c passed after outer lower i j e t (inr o) = by_part (root-or-other a outer i)
     where
       at : ℤ → ℤ → Bool → ℤ
-      at y top opens = edge_after (passed_by (started y top opens) (flat_map (all_margins tree w height (content_of outer)) passed)) (leading tree w height (content_of outer) c)
+      at y top opens = edge_after (passed_by (started y top opens) (flat_map (all_margins tree w (content_of outer)) passed)) (leading tree w (content_of outer) c)
 
       by_part : ((a ≡ 0) × Stands trace a outer false) ⊎ Stands trace a outer (is_open_above tree a)
-          → lower.border.top ≡ outer.content.top +ℤ collapsed (flat_map (all_margins tree w height (content_of outer)) passed ++ leading tree w height (content_of outer) c)
+          → lower.border.top ≡ outer.content.top +ℤ collapsed (flat_map (all_margins tree w (content_of outer)) passed ++ leading tree w (content_of outer) c)
       by_part (inl s) = first-at false a outer s.1 passed c after lower j e t
       by_part (inr s) = first-at (is_open_above tree a) a outer s passed c after lower j e t ∙ ap (at outer.border.top outer.content.top) o

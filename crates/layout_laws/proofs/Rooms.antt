@@ -13,42 +13,42 @@ use Rattle.layout_semantics.specs.FlowBoxes.{across, content_band, room_inside, 
 use Rattle.layout_semantics.proofs.Forest.{IsKid}
 use Rattle.layout_semantics.proofs.Pages.{forest, root-alone, root_place, Each-contains}
 
-module _ (tree : BoxTree) (w : World) (height : ℕ) where
+module _ (tree : BoxTree) (w : World) where
   abbrev within : (ℕ → ℤ) → Option ℕ → ℤ
-  within rooms o = option_map_or (λ parent. room_inside tree w height parent (rooms parent)) o (pos (64 * w.w))
+  within rooms o = option_map_or (λ parent. room_inside tree w parent (rooms parent)) o (pos (64 * w.w))
 
   is_kid : (up kid : ℕ) → Contains (kids_of tree.boxes up) kid → IsKid tree.boxes up kid
   is_kid up kid c = Each-contains (IsKid tree.boxes up) (kids_of tree.boxes up) kid ((forest tree).kids up) c
 
-  root-room : (n at : ℕ) → Contains (roots tree.boxes) at → room_to (suc n) tree w height at ≡ pos (64 * w.w)
+  root-room : (n at : ℕ) → Contains (roots tree.boxes) at → room_to (suc n) tree w at ≡ pos (64 * w.w)
   unfolding room_to
-  root-room n at c = ap (within (room_to n tree w height)) (subst (λ z. parent_of tree.boxes z ≡ None) (root_place tree.boxes at c).0 (root-alone tree))
+  root-room n at c = ap (within (room_to n tree w)) (subst (λ z. parent_of tree.boxes z ≡ None) (root_place tree.boxes at c).0 (root-alone tree))
 
-  kid-room : (n up kid : ℕ) → IsKid tree.boxes up kid → room_to (suc n) tree w height kid ≡ room_inside tree w height up (room_to n tree w height up)
+  kid-room : (n up kid : ℕ) → IsKid tree.boxes up kid → room_to (suc n) tree w kid ≡ room_inside tree w up (room_to n tree w up)
   unfolding room_to
-  kid-room n up kid k = ap (within (room_to n tree w height)) k.parent
+  kid-room n up kid k = ap (within (room_to n tree w)) k.parent
 
-  room-enough : (n m at : ℕ) → IsOnPage tree.boxes at → at < n → at < m → room_to n tree w height at ≡ room_to m tree w height at
+  room-enough : (n m at : ℕ) → IsOnPage tree.boxes at → at < n → at < m → room_to n tree w at ≡ room_to m tree w at
   room-enough zero m at page l k = absurd (omega arith)
   room-enough (suc n) zero at page l k = absurd (omega arith)
   room-enough (suc n) (suc m) at (IsOnPage.root _ c) l k = root-room n at c ∙ sym (root-room m at c)
   room-enough (suc n) (suc m) at (IsOnPage.inside up _ page c) l k =
       let kid = is_kid up at c in
       let after = kid.after in
-      kid-room n up at kid ∙ (ap (room_inside tree w height up) (room-enough n m up page (omega arith) (omega arith)) ∙ sym (kid-room m up at kid))
+      kid-room n up at kid ∙ (ap (room_inside tree w up) (room-enough n m up page (omega arith) (omega arith)) ∙ sym (kid-room m up at kid))
 
-  pub room-by-parent : (up kid : ℕ) → IsOnPage tree.boxes up → Contains (kids_of tree.boxes up) kid → room tree w height kid ≡ room_inside tree w height up (room tree w height up)
+  pub room-by-parent : (up kid : ℕ) → IsOnPage tree.boxes up → Contains (kids_of tree.boxes up) kid → room tree w kid ≡ room_inside tree w up (room tree w up)
   room-by-parent up kid page c =
       let k = is_kid up kid c in
       let after = k.after in
-      kid-room kid up kid k ∙ ap (room_inside tree w height up) (room-enough kid (suc up) up page (omega arith) (omega arith))
+      kid-room kid up kid k ∙ ap (room_inside tree w up) (room-enough kid (suc up) up page (omega arith) (omega arith))
 
-  band-across : (cb : Band ℤ) (b : ℕ) → across (content_band tree w height cb b) ≡ (widths tree w height b (across cb)).content
-  band-across cb b = let x = widths tree w height b (across cb) in omega (arith, ints)
+  band-across : (cb : Band ℤ) (b : ℕ) → across (content_band tree w cb b) ≡ (widths tree w b (across cb)).content
+  band-across cb b = let x = widths tree w b (across cb) in omega (arith, ints)
 
-  pub band-room : (cb : Band ℤ) (up kid : ℕ) → IsOnPage tree.boxes up → Contains (kids_of tree.boxes up) kid → is_inline (kind_of tree up) ≡ false → across cb ≡ room tree w height up
-      → across (content_band tree w height cb up) ≡ room tree w height kid
+  pub band-room : (cb : Band ℤ) (up kid : ℕ) → IsOnPage tree.boxes up → Contains (kids_of tree.boxes up) kid → is_inline (kind_of tree up) ≡ false → across cb ≡ room tree w up
+      → across (content_band tree w cb up) ≡ room tree w kid
   band-room cb up kid page c inline e =
       band-across cb up
-      ∙ (ap (λ (around : ℤ). (widths tree w height up around).content) e
-      ∙ sym (room-by-parent up kid page c ∙ ap (λ (b : Bool). cond b (room tree w height up) (widths tree w height up (room tree w height up)).content) inline))
+      ∙ (ap (λ (around : ℤ). (widths tree w up around).content) e
+      ∙ sym (room-by-parent up kid page c ∙ ap (λ (b : Bool). cond b (room tree w up) (widths tree w up (room tree w up)).content) inline))

@@ -36,7 +36,7 @@ sum-within f g (x ∷ xs) each =
     let rest = sum-within f g xs (λ y i. each y (later_member _ i)) in
     omega (arith, front, all, first, rest)
 
-sum-map : {A B : Type 0} (f : B → ℕ) (h : A → B) (xs : List A) → sum_by f (map h xs) ≡ sum_by (λ x. f (h x)) xs
+pub sum-map : {A B : Type 0} (f : B → ℕ) (h : A → B) (xs : List A) → sum_by f (map h xs) ≡ sum_by (λ x. f (h x)) xs
 sum-map f h [] = refl
 sum-map f h (x ∷ xs) =
     let front = sum_by-cons f (h x) (map h xs) in

@@ -95,26 +95,26 @@ container-before (suc n) tree at c page e = by (parent-of tree at page) (λ p on
 
 -- ---- definite heights
 
-abbrev height_from : (ℕ → Option ℤ) → BoxTree → World → ℕ → Option ℕ → Option ℤ
-height_from above tree w viewport o = option_map_or (λ container. own_height_around tree w (above container) container) o (Some (pos (64 * viewport)))
+abbrev height_from : (ℕ → Option ℤ) → BoxTree → World → Option ℕ → Option ℤ
+height_from above tree w o = option_map_or (λ container. own_height_around tree w (above container) container) o (Some (pos (64 * w.h)))
 
-height-same : (f g : ℕ → Option ℤ) (tree : BoxTree) (w : World) (viewport at : ℕ) (o : Option ℕ) → ((c : ℕ) → o ≡ Some c → f c ≡ g c) → height_from f tree w viewport o ≡ height_from g tree w viewport o
-height-same f g tree w viewport at None e = refl
-height-same f g tree w viewport at (Some c) e = ap (λ around. own_height_around tree w around c) (e c refl)
+height-same : (f g : ℕ → Option ℤ) (tree : BoxTree) (w : World) (at : ℕ) (o : Option ℕ) → ((c : ℕ) → o ≡ Some c → f c ≡ g c) → height_from f tree w o ≡ height_from g tree w o
+height-same f g tree w at None e = refl
+height-same f g tree w at (Some c) e = ap (λ around. own_height_around tree w around c) (e c refl)
 
-definite-enough : (n m : ℕ) (tree : BoxTree) (w : World) (viewport at : ℕ) → IsOnPage tree.boxes at → at < n → at < m → definite_height_to n tree w viewport at ≡ definite_height_to m tree w viewport at
+definite-enough : (n m : ℕ) (tree : BoxTree) (w : World) (at : ℕ) → IsOnPage tree.boxes at → at < n → at < m → definite_height_to n tree w at ≡ definite_height_to m tree w at
 unfolding definite_height_to
-definite-enough zero m tree w viewport at page ln lm = absurd (omega arith)
-definite-enough (suc n) zero tree w viewport at page ln lm = absurd (omega arith)
-definite-enough (suc n) (suc m) tree w viewport at page ln lm =
-    height-same (definite_height_to n tree w viewport) (definite_height_to m tree w viewport) tree w viewport at (percentage_container tree at)
-    (λ c e. let b = container-before (suc at) tree at c page e in let l = b.before in definite-enough n m tree w viewport c b.page (omega arith) (omega arith))
+definite-enough zero m tree w at page ln lm = absurd (omega arith)
+definite-enough (suc n) zero tree w at page ln lm = absurd (omega arith)
+definite-enough (suc n) (suc m) tree w at page ln lm =
+    height-same (definite_height_to n tree w) (definite_height_to m tree w) tree w at (percentage_container tree at)
+    (λ c e. let b = container-before (suc at) tree at c page e in let l = b.before in definite-enough n m tree w c b.page (omega arith) (omega arith))
 
-pub definite-by-container : (tree : BoxTree) (w : World) (viewport at : ℕ) → IsOnPage tree.boxes at → definite_height tree w viewport at ≡ definite_height_by_container tree w viewport at
+pub definite-by-container : (tree : BoxTree) (w : World) (at : ℕ) → IsOnPage tree.boxes at → definite_height tree w at ≡ definite_height_by_container tree w at
 unfolding definite_height_to
-definite-by-container tree w viewport at page =
-    height-same (definite_height_to at tree w viewport) (definite_height tree w viewport) tree w viewport at (percentage_container tree at)
-    (λ c e. let b = container-before (suc at) tree at c page e in let l = b.before in definite-enough at (suc c) tree w viewport c b.page l (omega arith))
+definite-by-container tree w at page =
+    height-same (definite_height_to at tree w) (definite_height tree w) tree w at (percentage_container tree at)
+    (λ c e. let b = container-before (suc at) tree at c page e in let l = b.before in definite-enough at (suc c) tree w c b.page l (omega arith))
 
 -- ---- shifts
 

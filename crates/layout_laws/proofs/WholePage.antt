@@ -81,14 +81,14 @@ text-none at (c ∷ cs) = by (c == 32) (text-none at cs)
     by true again = again
     by false again = letter-none at c (text_items at cs) ∙ again
 
-module _ (tree : BoxTree) (w : World) (height : ℕ) where
+module _ (tree : BoxTree) (w : World) where
   abbrev every : ℕ → List (Kind × ℕ)
-  every = all_of tree w height is_whole
+  every = all_of tree w is_whole
 
   -- a box that isn't whole has what is in it
   not-whole : (at : ℕ) (k : Kind) → at < length tree.boxes → kind_of tree at ≡ k → is_whole k ≡ false → every at ≡ flat_map every (kids_of tree.boxes at)
   not-whole at k l e n =
-      all_of-is tree w height is_whole at l
+      all_of-is tree w is_whole at l
       ∙ ap (λ b. one_if b (name_of tree at) ++ flat_map every (kids_of tree.boxes at)) (ap is_whole e ∙ n)
 
   leaf-none : (at : ℕ) (k : Kind) → at < length tree.boxes → kind_of tree at ≡ k → is_whole k ≡ false → is_leaf k ≡ true → [] ≡ every at
@@ -192,42 +192,42 @@ module _ (tree : BoxTree) (w : World) (height : ℕ) where
       }
   flow-by b false e = record { same = refl; inside = kids_after b (kids_of tree.boxes b) ((forest tree).kids b) }
 
-  flows : (b : ℕ) → b < length tree.boxes → has_line tree b ≡ false → IsFlow tree w height is_whole b
+  flows : (b : ℕ) → b < length tree.boxes → has_line tree b ≡ false → IsFlow tree w is_whole b
   unfolding has_line
   flows b l e = let own = flow-by b (holds_inline tree b) e in record { same = own.same; inside = own.inside }
 
   -- ---- boxes with lines
 
-  module _ (inside : ℕ → Band ℤ → ℤ → Progress → Progress) (levels : ℕ) (fills : Fills tree w height is_whole inside levels) where
+  module _ (inside : ℕ → Band ℤ → ℤ → Progress → Progress) (levels : ℕ) (fills : Fills tree w is_whole inside levels) where
     -- a float or an atomic box, laid out alone
     abbrev one_alone : Band ℤ → ℕ → List (Kind × ℕ)
-    one_alone cb k = entries tree w height is_whole (alone tree w height inside k (across cb)).boxes
+    one_alone cb k = entries tree w is_whole (alone tree w inside k (across cb)).boxes
 
-    entry-shown : (cb : Band ℤ) (e : Entry ℤ) → entries tree w height is_whole (entry_boxes tree w height inside cb e) ≡ shown (one_alone cb) e
+    entry-shown : (cb : Band ℤ) (e : Entry ℤ) → entries tree w is_whole (entry_boxes tree w inside cb e) ≡ shown (one_alone cb) e
     entry-shown cb (of_entry.Here p) = append-nil (one_if (is_whole p.kind) (named_by p))
-    entry-shown cb (of_entry.Goes k spot) = entries-shifted tree w height is_whole spot (alone tree w height inside k (across cb)).boxes
+    entry-shown cb (of_entry.Goes k spot) = entries-shifted tree w is_whole spot (alone tree w inside k (across cb)).boxes
 
-    entries-shown : (cb : Band ℤ) (es : List (Entry ℤ)) → entries tree w height is_whole (flat_map (entry_boxes tree w height inside cb) es) ≡ flat_map (shown (one_alone cb)) es
+    entries-shown : (cb : Band ℤ) (es : List (Entry ℤ)) → entries tree w is_whole (flat_map (entry_boxes tree w inside cb) es) ≡ flat_map (shown (one_alone cb)) es
     entries-shown cb [] = refl
     entries-shown cb (e ∷ es) =
-        flat_map-append (of_entry tree w height is_whole) (entry_boxes tree w height inside cb e) (flat_map (entry_boxes tree w height inside cb) es)
-        ∙ (ap (λ (l : List (Kind × ℕ)). l ++ entries tree w height is_whole (flat_map (entry_boxes tree w height inside cb) es)) (entry-shown cb e)
+        flat_map-append (of_entry tree w is_whole) (entry_boxes tree w inside cb e) (flat_map (entry_boxes tree w inside cb) es)
+        ∙ (ap (λ (l : List (Kind × ℕ)). l ++ entries tree w is_whole (flat_map (entry_boxes tree w inside cb) es)) (entry-shown cb e)
         ∙ ap (λ (l : List (Kind × ℕ)). shown (one_alone cb) e ++ l) (entries-shown cb es))
 
     alone-each : (cb : Band ℤ) (b : ℕ) (ks : List ℕ) → length tree.boxes ≤ suc levels + b → AllByRecursion (Within (suc b)) ks → flat_map (one_alone cb) ks ≡ flat_map every ks
     alone-each cb b [] m a = refl
     alone-each cb b (k ∷ ks) m a =
         let above = a.0.0 in
-        ap (λ (l : List (Kind × ℕ)). l ++ flat_map (one_alone cb) ks) (alone-entries tree w height is_whole inside levels fills k (across cb) a.0.1 (omega arith))
+        ap (λ (l : List (Kind × ℕ)). l ++ flat_map (one_alone cb) ks) (alone-entries tree w is_whole inside levels fills k (across cb) a.0.1 (omega arith))
         ∙ ap (λ (l : List (Kind × ℕ)). every k ++ l) (alone-each cb b ks m a.1)
 
     lines-fill : (b : ℕ) (cb : Band ℤ) (top : ℤ) (p : Progress) → length tree.boxes ≤ suc levels + b
-        → entries tree w height is_whole (line_content tree w height inside b cb top p).boxes ≡ entries tree w height is_whole p.boxes ++ flat_map every (kids_of tree.boxes b)
+        → entries tree w is_whole (line_content tree w inside b cb top p).boxes ≡ entries tree w is_whole p.boxes ++ flat_map every (kids_of tree.boxes b)
     lines-fill b cb top p m =
-        let c : InlineContext = inline_context tree w height inside b cb in
+        let c : InlineContext = inline_context tree w inside b cb in
         let l : LineList = lines_in c top (unwrap_or p.least top) p.floats in
-        flat_map-append (of_entry tree w height is_whole) p.boxes (flat_map (entry_boxes tree w height inside cb) l.entries)
-        ∙ ap (λ (l : List (Kind × ℕ)). entries tree w height is_whole p.boxes ++ l)
+        flat_map-append (of_entry tree w is_whole) p.boxes (flat_map (entry_boxes tree w inside cb) l.entries)
+        ∙ ap (λ (l : List (Kind × ℕ)). entries tree w is_whole p.boxes ++ l)
         (entries-shown cb l.entries
         ∙ (content-shown (one_alone cb) c top (unwrap_or p.least top) p.floats
         ∙ (alone-each cb b (flat_map inner_of (content tree b)) m (content-within b) ∙ content-all b)))
@@ -242,8 +242,8 @@ module _ (tree : BoxTree) (w : World) (height : ℕ) where
       by true again = ap (λ (l : List B). f x ∷ l) again
       by false again = again
 
-  pub whole-entries : map named_by (filter (λ (p : Placed ℤ). is_whole p.kind) (page_rendering tree w height).boxes) ≡ map (name_of tree) (filter (λ k. is_whole (kind_of tree k)) (page_order tree.boxes))
+  pub whole-entries : map named_by (filter (λ (p : Placed ℤ). is_whole p.kind) (page_rendering tree w).boxes) ≡ map (name_of tree) (filter (λ k. is_whole (kind_of tree k)) (page_order tree.boxes))
   whole-entries =
-      sym (filtered (λ (p : Placed ℤ). is_whole p.kind) named_by (page_rendering tree w height).boxes)
-      ∙ (page-entries tree w height is_whole (λ inside levels fills b cb top p l m e. lines-fill inside levels fills b cb top p m) flows
+      sym (filtered (λ (p : Placed ℤ). is_whole p.kind) named_by (page_rendering tree w).boxes)
+      ∙ (page-entries tree w is_whole (λ inside levels fills b cb top p l m e. lines-fill inside levels fills b cb top p m) flows
       ∙ filtered (λ k. is_whole (kind_of tree k)) (name_of tree) (page_order tree.boxes))

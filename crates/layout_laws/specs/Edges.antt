@@ -28,9 +28,9 @@ pub record HasEdges (x : Widths ℤ) (v : Verticals) (high : ℤ) (p : Placed �
   pub height : p.content.bottom ≡ p.content.top +ℤ high
 
 -- the used minimum height: a percentage of a height that is not definite is 0 (CSS 2.1, 10.7)
-abbrev pub used_minimum : BoxTree → World → ℕ → ℕ → ℤ
-used_minimum tree w height at =
-    unwrap_or (height_around tree w (definite_height tree w height at) (least_height tree at)) (pos 0)
+abbrev pub used_minimum : BoxTree → World → ℕ → ℤ
+used_minimum tree w at =
+    unwrap_or (height_around tree w (definite_height tree w at) (least_height tree at)) (pos 0)
 
 -- an absolute length that is not zero: of pixels, or of a font size
 abbrev pub IsNonzero : Length → Type 0

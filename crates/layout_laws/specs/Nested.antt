@@ -53,10 +53,10 @@ container_by_parent tree at =
     [ true ↦ percentage_container tree parent | false ↦ Some parent ]) (parent_of tree.boxes at)
 
 -- the height that percentages are of, by that of the container
-abbrev pub definite_height_by_container : BoxTree → World → ℕ → ℕ → Option ℤ
-definite_height_by_container tree w viewport at =
-    option_map_or (λ container. own_height_around tree w (definite_height tree w viewport container) container)
-    (percentage_container tree at) (Some (pos (64 * viewport)))
+abbrev pub definite_height_by_container : BoxTree → World → ℕ → Option ℤ
+definite_height_by_container tree w at =
+    option_map_or (λ container. own_height_around tree w (definite_height tree w container) container)
+    (percentage_container tree at) (Some (pos (64 * w.h)))
 
 -- a box's own raise and that of the inline box around it
 abbrev pub shift_by_parent : InlineContext → ℕ → LineExtent → ℤ

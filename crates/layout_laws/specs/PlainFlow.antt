@@ -17,10 +17,10 @@ abbrev pub content_of : Placed ℤ → Band ℤ
 content_of p = record { left = p.content.left; right = p.content.right }
 
 -- an entry of a page at its box's place in document order
-pub record IsEntryOf (tree : BoxTree) (w : World) (height : ℕ) (b : ℕ) (p : Placed ℤ) : Type 0 where
+pub record IsEntryOf (tree : BoxTree) (w : World) (b : ℕ) (p : Placed ℤ) : Type 0 where
   pub place : ℕ
   pub box : slice_get (page_order tree.boxes) place ≡ Some b
-  pub entry : slice_get (page_rendering tree w height).boxes place ≡ Some p
+  pub entry : slice_get (page_rendering tree w).boxes place ≡ Some p
 
 -- no box is inline-level, none floats, and none is cleared or placed as if it were (9.5.2)
 pub record HasPlainBlocks (tree : BoxTree) : Type 0 where
@@ -28,7 +28,7 @@ pub record HasPlainBlocks (tree : BoxTree) : Type 0 where
   pub no_float : (b : ℕ) → is_floated_at tree b ≡ false
   pub no_clear : (b : ℕ) → clear_of tree b ≡ of_clear.Nothing
 
-module _ (tree : BoxTree) (w : World) (height : ℕ) where
+module _ (tree : BoxTree) (w : World) where
   -- the margins that adjoin a block's top: its own, and those of its first children that do (8.3.1)
   abbrev pub leading : Band ℤ → ℕ → List ℤ
   leading cb b = (lead tree w all_passed cb b).margins
@@ -62,7 +62,7 @@ module _ (tree : BoxTree) (w : World) (height : ℕ) where
   trailing_step trailing cb b = by_sort (joins_last_child tree b)
     where
       by_sort : Bool → List ℤ
-      by_sort true = fold (after_child trailing (content_band tree w height cb b)) [] (kids_of tree.boxes b)
+      by_sort true = fold (after_child trailing (content_band tree w cb b)) [] (kids_of tree.boxes b)
           ++ bottom_margin tree w cb b ∷ []
       by_sort false = bottom_margin tree w cb b ∷ []
 

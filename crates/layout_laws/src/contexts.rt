@@ -17,12 +17,12 @@ pub fn floats_of_lines_are_placed_by_the_rules()
 
 /// So are those of all that is in a block container, lines and blocks, whatever the page.
 pub fn floats_of_a_container_are_placed_by_the_rules()
-    ensures { (tree : Tree) (w : World) (height levels b : ℕ) (cb : Band ℤ) (top : ℤ) (p : Progress)
-        → ArePlacedAfter p.floats (flow_to tree w height levels b cb top p).floats }
+    ensures { (tree : Tree) (w : World) (levels b : ℕ) (cb : Band ℤ) (top : ℤ) (p : Progress)
+        → ArePlacedAfter p.floats (flow_to tree w levels b cb top p).floats }
 {}
 
 /// No two floats of a block formatting context overlap, and none is above an earlier one (CSS 2.1, 9.5.1).
 pub fn no_floats_of_a_context_overlap()
-    ensures { (tree : Tree) (w : World) (height levels b : ℕ) (cb : Band ℤ) (top : ℤ)
-        → AreClear (flow_to tree w height levels b cb top (fresh top)).floats }
+    ensures { (tree : Tree) (w : World) (levels b : ℕ) (cb : Band ℤ) (top : ℤ)
+        → AreClear (flow_to tree w levels b cb top (fresh top)).floats }
 {}

@@ -23,15 +23,15 @@ pub fn rectangles_are_apart_by_the_edges()
 
 /// Two automatic margins of a block in normal flow are equally wide where there is room for them, but for 1/64 px
 /// (CSS 2.1, 10.3.3).
-pub fn automatic_margins_are_equal(tree: &BoxTree, world: World, height: u32, at: usize)
+pub fn automatic_margins_are_equal(tree: &BoxTree, world: World, at: usize)
     requires block { IsInFlowBlock tree.now at }
     requires left { (margins tree.now at).left ≡ of_length.Auto }
     requires right { (margins tree.now at).right ≡ of_length.Auto }
-    ensures no_wider { (cb : ℤ) → pos 0 ≤ℤ (widths tree.now world height at cb).margin_right
-        → (widths tree.now world height at cb).margin_left ≤ℤ (widths tree.now world height at cb).margin_right }
-    ensures no_narrower { (cb : ℤ) → pos 0 ≤ℤ (widths tree.now world height at cb).margin_right
-        → (widths tree.now world height at cb).margin_right ≤ℤ
-        ((widths tree.now world height at cb).margin_left +ℤ pos 1) }
+    ensures no_wider { (cb : ℤ) → pos 0 ≤ℤ (widths tree.now world at cb).margin_right
+        → (widths tree.now world at cb).margin_left ≤ℤ (widths tree.now world at cb).margin_right }
+    ensures no_narrower { (cb : ℤ) → pos 0 ≤ℤ (widths tree.now world at cb).margin_right
+        → (widths tree.now world at cb).margin_right ≤ℤ
+        ((widths tree.now world at cb).margin_left +ℤ pos 1) }
 {}
 
 /// A border or a padding above the content of a box parts its top margin from those in it (CSS 2.1, 8.3.1).

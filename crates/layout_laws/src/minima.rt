@@ -7,8 +7,8 @@ ghost use Rattle.layout_laws.specs.Edges.{IsNonzero, used_minimum};
 use viz_base::{BoxTree, World};
 
 /// A box is no lower than its minimum height, whatever its content's height is (CSS 2.1, 10.7).
-pub fn a_box_is_no_lower_than_its_minimum(tree: &BoxTree, world: World, height: u32, at: usize)
-    ensures { (auto : ℤ) → used_minimum tree.now world height at ≤ℤ content_height tree.now world height at auto }
+pub fn a_box_is_no_lower_than_its_minimum(tree: &BoxTree, world: World, at: usize)
+    ensures { (auto : ℤ) → used_minimum tree.now world at ≤ℤ content_height tree.now world at auto }
 {}
 
 /// A minimum height that is not zero, of pixels or of a font size, keeps the margins of a box apart, and its bottom

@@ -39,9 +39,9 @@ pub fn percentages_of_heights_are_of_the_container(tree: &BoxTree, at: usize)
 
 /// A definite height is the container's own, where that is one, in turn by the definite height around it; the
 /// viewport's is definite (CSS 2.1, 10.5).
-pub fn a_definite_height_is_the_containers(tree: &BoxTree, world: World, height: u32, at: usize)
+pub fn a_definite_height_is_the_containers(tree: &BoxTree, world: World, at: usize)
     requires on_page { IsOnPage tree.now.boxes at }
-    ensures { definite_height tree.now world height at ≡ definite_height_by_container tree.now world height at }
+    ensures { definite_height tree.now world at ≡ definite_height_by_container tree.now world at }
 {}
 
 /// A box of a line is raised by its own `vertical-align` and as the inline box around it is (CSS 2.1, 10.8.1).
@@ -55,13 +55,12 @@ pub fn raises_add_up()
 pub fn the_room_of_a_box_is_its_containers_content(
     tree: &BoxTree,
     world: World,
-    height: u32,
     at: usize,
     kid: usize,
 )
     requires on_page { IsOnPage tree.now.boxes at }
     requires inside { Contains (kids_of tree.now.boxes at) kid }
-    ensures { room tree.now world height kid ≡ room_inside tree.now world height at (room tree.now world height at) }
+    ensures { room tree.now world kid ≡ room_inside tree.now world at (room tree.now world at) }
 {}
 
 /// The band that the flow of a box gives those in it is as wide as their containing block, where its own is (CSS 2.1,
@@ -69,22 +68,23 @@ pub fn the_room_of_a_box_is_its_containers_content(
 pub fn a_band_is_as_wide_as_the_containing_block(
     tree: &BoxTree,
     world: World,
-    height: u32,
     at: usize,
     kid: usize,
 )
     requires on_page { IsOnPage tree.now.boxes at }
     requires inside { Contains (kids_of tree.now.boxes at) kid }
     requires container { is_inline (kind_of tree.now at) ≡ false }
-    ensures { (cb : Band ℤ) → across cb ≡ room tree.now world height at
-        → across (content_band tree.now world height cb at) ≡ room tree.now world height kid }
+    ensures { (cb : Band ℤ) → across cb ≡ room tree.now world at
+        → across (content_band tree.now world cb at) ≡ room tree.now world kid }
 {}
 
 /// The band that a block in normal flow, not replaced, gives those in it is the same at each height of the viewport
 /// (CSS 2.1, 10.1, 10.3.3).
-pub fn a_blocks_band_needs_no_height(tree: &BoxTree, world: World, height: u32, at: usize)
+pub fn a_blocks_band_needs_no_height(tree: &BoxTree, world: World, at: usize)
     requires block { placing_of tree.now at ≡ block_flow }
-    ensures { (cb : Band ℤ) → block_band tree.now world cb at ≡ content_band tree.now world height cb at }
+    ensures band { (cb : Band ℤ) → block_band tree.now world cb at ≡ content_band tree.now world cb at }
+    ensures height { (h : ℕ) (cb : Band ℤ) → content_band tree.now (record world { h = h }) cb at
+        ≡ content_band tree.now world cb at }
 {}
 
 /// The lead of a box, from those of the boxes in it: more levels would change nothing (CSS 2.1, 8.3.1).
@@ -104,10 +104,10 @@ pub fn a_lead_goes_on_through_what_is_not_cleared(tree: &BoxTree, at: usize)
 {}
 
 /// The flow of what is in a box, by that of what is in later boxes: more levels would change nothing (CSS 2.1, 9.4).
-pub fn a_flow_comes_from_inside(tree: &BoxTree, world: World, height: u32, at: usize)
+pub fn a_flow_comes_from_inside(tree: &BoxTree, world: World, at: usize)
     requires within { at < length tree.now.boxes }
-    ensures { (cb : Band ℤ) (top : ℤ) (p : Progress) → flow tree.now world height at cb top p
-        ≡ flow_step tree.now world height (flow tree.now world height) at cb top p }
+    ensures { (cb : Band ℤ) (top : ℤ) (p : Progress) → flow tree.now world at cb top p
+        ≡ flow_step tree.now world (flow tree.now world) at cb top p }
 {}
 
 /// Lines follow one another until no stretch is left.

@@ -40,19 +40,19 @@ pub fn preferred_widths_of_a_replaced_box(tree: &BoxTree, world: World, at: usiz
 {}
 
 /// The seven terms of a block in normal flow add up to the width of its containing block (CSS 2.1, 10.3.3, 10.3.4).
-pub fn the_terms_of_a_block_add_up(tree: &BoxTree, world: World, height: u32, at: usize)
-    ensures { (cb : ℤ) → IsInFlowBlock tree.now at → sum_of (widths tree.now world height at cb) ≡ cb }
+pub fn the_terms_of_a_block_add_up(tree: &BoxTree, world: World, at: usize)
+    ensures { (cb : ℤ) → IsInFlowBlock tree.now at → sum_of (widths tree.now world at cb) ≡ cb }
 {}
 
 /// The used width of a box that isn't replaced is the one that its own `width` gives, but no more than its maximum,
 /// and then no less than its minimum (CSS 2.1, 10.4).
-pub fn used_widths_are_held(tree: &BoxTree, world: World, height: u32, at: usize)
+pub fn used_widths_are_held(tree: &BoxTree, world: World, at: usize)
     ensures block { (cb : ℤ) → placing_of tree.now at ≡ block_flow
-        → (widths tree.now world height at cb).content
+        → (widths tree.now world at cb).content
         ≡ held_width tree.now world at cb
         (block_terms tree.now world at cb (own_width tree.now world at cb)).content }
     ensures shrunk { (cb : ℤ) → placing_of tree.now at ≡ shrunk
-        → (widths tree.now world height at cb).content
+        → (widths tree.now world at cb).content
         ≡ held_width tree.now world at cb
         (shrunk_terms tree.now world at cb (own_width tree.now world at cb)).content }
 {}

@@ -85,20 +85,20 @@ abbrev pub own_height_around : BoxTree → World → Option ℤ → ℕ → Opti
 own_height_around tree w around at =
     option_map (held_around tree w around at) (height_around tree w around (own_height tree at))
 
-unfoldable pub definite_height_to : ℕ → BoxTree → World → ℕ → ℕ → Option ℤ
-definite_height_to zero tree w viewport at = None
-definite_height_to (suc levels) tree w viewport at =
-    option_map_or (λ container. own_height_around tree w (definite_height_to levels tree w viewport container)
-    container) (percentage_container tree at) (Some (pos (64 * viewport)))
+unfoldable pub definite_height_to : ℕ → BoxTree → World → ℕ → Option ℤ
+definite_height_to zero tree w at = None
+definite_height_to (suc levels) tree w at =
+    option_map_or (λ container. own_height_around tree w (definite_height_to levels tree w container)
+    container) (percentage_container tree at) (Some (pos (64 * w.h)))
 
--- the height that percentages of a box's heights are of, where it is definite: that of the
--- viewport, of so many pixels, an absolute height, or a percentage of a definite one
-abbrev pub definite_height : BoxTree → World → ℕ → ℕ → Option ℤ
-definite_height tree w viewport at = definite_height_to (suc at) tree w viewport at
+-- the height that percentages of a box's heights are of, where it is definite: that of
+-- the viewport, an absolute height, or a percentage of a definite one
+abbrev pub definite_height : BoxTree → World → ℕ → Option ℤ
+definite_height tree w at = definite_height_to (suc at) tree w at
 
 -- the height that a box's own property gives, and a height after its maximum and minimum
-abbrev pub given_height : BoxTree → World → ℕ → ℕ → Option ℤ
-given_height tree w viewport at = height_around tree w (definite_height tree w viewport at) (own_height tree at)
+abbrev pub given_height : BoxTree → World → ℕ → Option ℤ
+given_height tree w at = height_around tree w (definite_height tree w at) (own_height tree at)
 
-abbrev pub held_height : BoxTree → World → ℕ → ℕ → ℤ → ℤ
-held_height tree w viewport at height = held_around tree w (definite_height tree w viewport at) at height
+abbrev pub held_height : BoxTree → World → ℕ → ℤ → ℤ
+held_height tree w at height = held_around tree w (definite_height tree w at) at height

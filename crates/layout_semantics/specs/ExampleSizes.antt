@@ -6,7 +6,7 @@ use Rattle.viz_base.specs.declared.styles.Display.TheVariants as of_display
 use Rattle.viz_base.specs.declared.styles.Side.TheVariants as of_side
 use Rattle.viz_base.specs.Styles.{nothing}
 use Rattle.layout_semantics.specs.PlainPages.{PlainTree}
-use Rattle.layout_semantics.specs.Examples.{sides, px, percent, block_style, block_box, floated_box, image_box, page}
+use Rattle.layout_semantics.specs.Examples.{sides, px, percent, block_style, block_box, floated_box, image_box, page, styled_page}
 
 -- a block of 100px with automatic margins
 abbrev pub centred_block : PlainTree
@@ -44,6 +44,12 @@ abbrev pub percentage_of_auto : PlainTree
 percentage_of_auto = page (2 ∷ [])
     (block_box 2 1 (3 ∷ []) ∷ block_box 3 2 [] ∷ [])
     (record block_style { height = percent 50 } ∷ record block_style { height = px 10 } ∷ [])
+
+-- `html` has a height of 100%, and in `body` is a block of 10px
+abbrev pub percentage_of_viewport : PlainTree
+percentage_of_viewport = styled_page (record block_style { height = percent 100 }) (2 ∷ [])
+    (block_box 2 1 [] ∷ [])
+    (record block_style { height = px 10 } ∷ [])
 
 -- a block with a minimum height of 30px that holds one of 10px
 abbrev pub minimum_height : PlainTree

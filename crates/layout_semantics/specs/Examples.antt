@@ -1,5 +1,5 @@
--- Pages whose renderings are worked out by hand, at a viewport of 320px and a default font size of 16px: in `body`,
--- without margins, in `html`. Each letter of the font is half an em wide, its ascent is 0.8em and its descent 0.2em.
+-- Pages whose renderings are worked out by hand, in a viewport of 320px by 600px, where nothing else is said, at a
+-- default font size of 16px: in `body`, without margins, in `html`. Each letter of the font is half an em wide, its ascent is 0.8em and its descent 0.2em.
 use Rattle.std.specs.Prelude.{ℕ, ◌*◌, ℤ, pos, true, false, List, [], ◌∷◌, map, flat_map, replicate, Option, Some, None, codes}
 use Rattle.viz_base.specs.declared.lengths.Length.{Length}
 use Rattle.viz_base.specs.declared.lengths.Length.TheVariants as of_length
@@ -16,6 +16,7 @@ use Rattle.viz_base.specs.declared.styles.Side.TheVariants as of_side
 use Rattle.viz_base.specs.declared.trees.BoxNode.{BoxNode}
 use Rattle.viz_base.specs.declared.trees.Kind.{Kind}
 use Rattle.viz_base.specs.declared.trees.Kind.TheVariants as of_kind
+use Rattle.viz_base.specs.declared.worlds.World.{World}
 use Rattle.viz_base.specs.Styles.{nothing}
 use Rattle.layout_semantics.specs.Page.{page_rendering}
 use Rattle.layout_semantics.specs.PlainPages.{PlainStyle, PlainFont, PlainTree, TreeKeeps, tree}
@@ -108,32 +109,42 @@ image_box node parent width height =
 abbrev pub letters : ℕ → List ℕ
 letters n = replicate n 97
 
--- `html` with `body` in it, and the boxes and styles of what is in that; each node has one box
-abbrev pub page : List ℕ → List BoxNode → List PlainStyle → PlainTree
-page kids boxes styles = by_boxes (root_box (1 ∷ []) ∷ block_box 1 0 kids ∷ boxes)
+-- `html` of a style with `body` in it, and the boxes and styles of what is in that; each node has one box
+abbrev pub styled_page : PlainStyle → List ℕ → List BoxNode → List PlainStyle → PlainTree
+styled_page html kids boxes styles = by_boxes (root_box (1 ∷ []) ∷ block_box 1 0 kids ∷ boxes)
   where
     by_boxes : List BoxNode → PlainTree
     by_boxes all = record {
       boxes = all;
-      styles = record block_style { size = of_size.Default (pos 1) 1 } ∷ block_style ∷ styles;
+      styles = record html { size = of_size.Default (pos 1) 1 } ∷ block_style ∷ styles;
       fonts = square ∷ [];
       parents = map (λ (b : BoxNode). b.parent) all;
     }
+
+abbrev pub page : List ℕ → List BoxNode → List PlainStyle → PlainTree
+page kids boxes styles = styled_page block_style kids boxes styles
 
 -- ---- renderings
 
 abbrev pub edges : ℕ → ℕ → ℕ → ℕ → Quad ℤ
 edges left top right bottom = record { left = pos left; top = pos top; right = pos right; bottom = pos bottom }
 
--- the border rectangles of a page's rendering
+-- the world of a viewport of 320px by so many
+abbrev pub so_high : ℕ → World
+so_high height = record { w = 320; s = 16; h = height }
+
+-- the border rectangles of a page's rendering at a world
+abbrev pub border_boxes_at : World → (t : PlainTree) → TreeKeeps t → List (Quad ℤ)
+border_boxes_at w t ok = map (λ (p : Placed ℤ). p.border) (page_rendering (tree t ok) w).boxes
+
 abbrev pub border_boxes : (t : PlainTree) → TreeKeeps t → List (Quad ℤ)
-border_boxes t ok = map (λ (p : Placed ℤ). p.border) (page_rendering (tree t ok) (record { w = 320; s = 16 }) 600).boxes
+border_boxes t ok = border_boxes_at (so_high 600) t ok
 
 -- the margin, border, padding and content rectangles
 abbrev pub rectangles : (t : PlainTree) → TreeKeeps t → List (Quad ℤ)
 rectangles t ok =
     flat_map (λ (p : Placed ℤ). p.margin ∷ p.border ∷ p.padding ∷ p.content ∷ [])
-    (page_rendering (tree t ok) (record { w = 320; s = 16 }) 600).boxes
+    (page_rendering (tree t ok) (so_high 600)).boxes
 
 -- ---- pages
 

@@ -88,13 +88,13 @@ pub record Laid : Type 0 where
   pub margins : List ℤ
   pub after : Progress
 
-module _ (tree : BoxTree) (w : World) (height : ℕ) where
+module _ (tree : BoxTree) (w : World) where
   -- ---- heights (10.5 to 10.7)
 
   -- a height of its own, where it is definite, else the height of the
   -- content; then held between its maximum and its minimum
   abbrev pub content_height : ℕ → ℤ → ℤ
-  content_height b auto = held_height tree w height b (unwrap_or (given_height tree w height b) auto)
+  content_height b auto = held_height tree w b (unwrap_or (given_height tree w b) auto)
 
   -- the auto height of a box that starts a context: down to the bottom margin edge of its last child
   -- or to its last line, and to the bottom margin edges of its floats (10.6.7); at least 0
@@ -125,7 +125,7 @@ module _ (tree : BoxTree) (w : World) (height : ℕ) where
   module _ (inside : ℕ → Band ℤ → ℤ → Progress → Progress) where
     -- a box that starts a context, a float or an inline-block say, at the top left of coordinates of its own
     abbrev pub alone : ℕ → ℤ → Alone
-    alone b room = by_frame (corner_frame (widths tree w height b room) (verticals tree w b room))
+    alone b room = by_frame (corner_frame (widths tree w b room) (verticals tree w b room))
       where
         corner_frame : Widths ℤ → Verticals → Frame
         corner_frame x v = record { x = x; v = v; corner = record { x = x.margin_left; y = v.margin_top } }
@@ -138,7 +138,7 @@ module _ (tree : BoxTree) (w : World) (height : ℕ) where
             whole (placed_box tree b f (content_height b (context_height (content_top f) end))) end.baseline end.boxes
 
         by_sort : Frame → Bool → Alone
-        by_sort f true = whole (placed_box tree b f (replaced_size tree w height b room).height) None []
+        by_sort f true = whole (placed_box tree b f (replaced_size tree w b room).height) None []
         by_sort f false = by_content f (inside b (content_from (pos 0) f.x) (content_top f) (fresh (content_top f)))
 
         by_frame : Frame → Alone
@@ -213,7 +213,7 @@ module _ (tree : BoxTree) (w : World) (height : ℕ) where
     abbrev pub laid_replaced : ℤ → Progress → ℕ → Frame → Laid
     laid_replaced room p b f =
         closed p f false [] (opened p f (below (content_top f) [] false))
-        (placed_box tree b f (replaced_size tree w height b room).height)
+        (placed_box tree b f (replaced_size tree w b room).height)
 
     -- a context of its own leaves the one around it as it is, but for the last line's baseline
     abbrev pub laid_context : Band ℤ → Progress → ℕ → Frame → Laid
@@ -239,7 +239,7 @@ module _ (tree : BoxTree) (w : World) (height : ℕ) where
             (placed_box tree b f (content_height b (block_height joins (content_top f) end.standing)))
 
     abbrev pub laid : Band ℤ → Progress → ℕ → Reached → Laid
-    laid cb p b r = by_sort (frame (widths tree w height b (across cb)) (verticals tree w b (across cb)))
+    laid cb p b r = by_sort (frame (widths tree w b (across cb)) (verticals tree w b (across cb)))
         (is_replaced_at tree b) (is_context_root tree b)
       where
         frame : Widths ℤ → Verticals → Frame

@@ -92,8 +92,8 @@ content_from left x = from (left +ℤ x.margin_left +ℤ x.border_left +ℤ x.pa
     from edge = record { left = edge; right = edge +ℤ x.content }
 
 -- of a box in a containing block
-abbrev pub content_band : BoxTree → World → ℕ → Band ℤ → ℕ → Band ℤ
-content_band tree w height cb b = content_from cb.left (widths tree w height b (across cb))
+abbrev pub content_band : BoxTree → World → Band ℤ → ℕ → Band ℤ
+content_band tree w cb b = content_from cb.left (widths tree w b (across cb))
 
 -- of a block in normal flow that isn't replaced: the viewport's height does not matter to it
 abbrev pub block_band : BoxTree → World → Band ℤ → ℕ → Band ℤ
@@ -102,15 +102,15 @@ block_band tree w cb b = content_from cb.left (flow_widths tree w b (across cb))
 -- ---- the width of a box's containing block, from the root down (10.1)
 
 -- inside a box whose own containing block is `around` wide: an inline box is no containing block
-abbrev pub room_inside : BoxTree → World → ℕ → ℕ → ℤ → ℤ
-room_inside tree w height b around = cond (is_inline (kind_of tree b)) around (widths tree w height b around).content
+abbrev pub room_inside : BoxTree → World → ℕ → ℤ → ℤ
+room_inside tree w b around = cond (is_inline (kind_of tree b)) around (widths tree w b around).content
 
-unfoldable pub room_to : ℕ → BoxTree → World → ℕ → ℕ → ℤ
-room_to zero tree w height b = pos (64 * w.w)
-room_to (suc levels) tree w height b =
-    option_map_or (λ parent. room_inside tree w height parent (room_to levels tree w height parent))
+unfoldable pub room_to : ℕ → BoxTree → World → ℕ → ℤ
+room_to zero tree w b = pos (64 * w.w)
+room_to (suc levels) tree w b =
+    option_map_or (λ parent. room_inside tree w parent (room_to levels tree w parent))
     (parent_of tree.boxes b) (pos (64 * w.w))
 
 -- the root's is the viewport; a box's number is greater than its parent's
-abbrev pub room : BoxTree → World → ℕ → ℕ → ℤ
-room tree w height b = room_to (suc b) tree w height b
+abbrev pub room : BoxTree → World → ℕ → ℤ
+room tree w b = room_to (suc b) tree w b

@@ -138,11 +138,11 @@ placing_of tree at = by_kind (kind_of tree at) (is_floated_at tree at) (is_inlin
 abbrev pub flow_widths : BoxTree → World → ℕ → ℤ → Widths ℤ
 flow_widths tree w at cb = held_terms tree w at cb (block_terms tree w at cb)
 
--- the used values of a box in a containing block of width `cb`, in a viewport of so many pixels height
-unfoldable pub widths : BoxTree → World → ℕ → ℕ → ℤ → Widths ℤ
-widths tree w viewport at cb = elim (placing_of tree at) [
+-- the used values of a box in a containing block of width `cb`
+unfoldable pub widths : BoxTree → World → ℕ → ℤ → Widths ℤ
+widths tree w at cb = elim (placing_of tree at) [
   | block_flow ↦ flow_widths tree w at cb
   | shrunk ↦ held_terms tree w at cb (shrunk_terms tree w at cb)
-  | replaced_block ↦ fixed_terms tree w at cb (replaced_size tree w viewport at cb).width
-  | replaced_shrunk ↦ terms_around tree w at cb (replaced_size tree w viewport at cb).width
+  | replaced_block ↦ fixed_terms tree w at cb (replaced_size tree w at cb).width
+  | replaced_shrunk ↦ terms_around tree w at cb (replaced_size tree w at cb).width
 ]

@@ -33,17 +33,17 @@ abbrev pub replaced_height : ℕ × ℕ → ℤ → Option ℤ → ℤ
 replaced_height size width height = unwrap_or height (by_ratio width size.0 size.1)
 
 -- both of a box, in a containing block of width `cb`
-abbrev pub replaced_size : BoxTree → World → ℕ → ℕ → ℤ → Extent ℤ
-replaced_size tree w viewport at cb = sized (replaced_width (intrinsic tree at)
-    (used_unless_auto tree w (own tree at (λ (s : Style). s.width) of_length.Auto) cb) (given_height tree w viewport at)
+abbrev pub replaced_size : BoxTree → World → ℕ → ℤ → Extent ℤ
+replaced_size tree w at cb = sized (replaced_width (intrinsic tree at)
+    (used_unless_auto tree w (own tree at (λ (s : Style). s.width) of_length.Auto) cb) (given_height tree w at)
     (maximum (λ length. used_unless_auto tree w length cb) (own tree at (λ (s : Style). s.max_width) None))
     (used tree w (own tree at (λ (s : Style). s.min_width) nothing) cb))
   where
     sized : ℤ → Extent ℤ
     sized width = record {
       width = width;
-      height = held_height tree w viewport at
-          (replaced_height (intrinsic tree at) width (given_height tree w viewport at));
+      height = held_height tree w at
+          (replaced_height (intrinsic tree at) width (given_height tree w at));
     }
 
 -- the width in preferred widths, where percentages count as `auto` and none: our own reading of 10.3.5

@@ -1,7 +1,7 @@
 ghost use Rattle.std.specs.Prelude.{◌≡◌, [], ◌∷◌};
 ghost use Rattle.layout_semantics.specs.PlainPages.{TreeKeeps};
-ghost use Rattle.layout_semantics.specs.Examples.{border_boxes, edges, rectangles};
-ghost use Rattle.layout_semantics.specs.ExampleSizes.{centred_block, em_of_em, two_images, percentage_paddings, percentage_of_auto, minimum_height, twelve_edges};
+ghost use Rattle.layout_semantics.specs.Examples.{border_boxes, border_boxes_at, edges, rectangles, so_high};
+ghost use Rattle.layout_semantics.specs.ExampleSizes.{centred_block, em_of_em, two_images, percentage_paddings, percentage_of_auto, percentage_of_viewport, minimum_height, twelve_edges};
 
 /// Two automatic margins are equally wide (CSS 2.1, 10.3.3).
 pub fn centred_block()
@@ -34,6 +34,14 @@ pub fn percentage_paddings()
 pub fn percentage_of_auto()
     ensures { (ok : TreeKeeps percentage_of_auto) → border_boxes percentage_of_auto ok
         ≡ edges 0 0 20480 640 ∷ edges 0 0 20480 640 ∷ edges 0 0 20480 640 ∷ edges 0 0 20480 640 ∷ [] }
+{}
+
+/// A percentage of the height of the root is of the viewport's height (CSS 2.1, 10.1 and 10.5), whatever that is.
+pub fn percentage_of_viewport()
+    ensures low { (ok : TreeKeeps percentage_of_viewport) → border_boxes_at (so_high 600) percentage_of_viewport ok
+        ≡ edges 0 0 20480 38400 ∷ edges 0 0 20480 640 ∷ edges 0 0 20480 640 ∷ [] }
+    ensures high { (ok : TreeKeeps percentage_of_viewport) → border_boxes_at (so_high 700) percentage_of_viewport ok
+        ≡ edges 0 0 20480 44800 ∷ edges 0 0 20480 640 ∷ edges 0 0 20480 640 ∷ [] }
 {}
 
 /// A box is no lower than its minimum height (CSS 2.1, 10.7).

@@ -1,4 +1,4 @@
-use Rattle.std.specs.Prelude.{◌≡◌, ◌≢◌, ℕ, ◌*◌, ◌<◌, ◌≤◌, ℤ, pos, ◌≤ℤ◌, ◌<ℤ◌, Bool, ◌↔◌, ◌⊎◌, true, false, List, [], ◌∷◌, IsTrue, Option, Some, slice_get}
+use Rattle.std.specs.Prelude.{◌≡◌, ◌≢◌, ℕ, ◌*◌, ◌<◌, ◌≤◌, ℤ, pos, ◌≤ℤ◌, ◌<ℤ◌, Bool, ◌↔◌, ◌⊎◌, true, false, List, [], ◌∷◌, IsTrue, Some, slice_get}
 use Rattle.viz_base.specs.declared.worlds.World.{World}
 use Rattle.viz_base.specs.declared.worlds.Rect.{Rect}
 use Rattle.viz_base.specs.declared.trees.Kind.TheVariants as of_kind
@@ -6,7 +6,7 @@ use Rattle.viz_base.specs.declared.formulas.Set.{Set}
 use Rattle.viz_base.specs.declared.formulas.Set.TheVariants as of_set
 use Rattle.viz_base.specs.declared.formulas.Sign.{Sign}
 use Rattle.viz_base.specs.declared.formulas.Sign.TheVariants.{Lt, Le, Eq, Ne, Ge, Gt}
-use Rattle.viz_base.specs.declared.formulas.Edge.TheVariants.{Name, ViewWidth, ViewHeight}
+use Rattle.viz_base.specs.declared.formulas.Edge.TheVariants.{Name, ViewWidth, ViewHeight, ViewSize}
 use Rattle.viz_base.specs.declared.formulas.Ring.{Ring}
 use Rattle.viz_base.specs.declared.formulas.Ring.TheVariants.{Margin, Border, Padding, Content}
 use Rattle.viz_base.specs.declared.formulas.Face.TheVariants.{Left, Top, Right, Bottom}
@@ -121,11 +121,12 @@ abbrev pub EdgesAreOfTheirBox : Type 0
 EdgesAreOfTheirBox = (scene : Scene) (names : List ℕ) (name : ℕ) (box : Placed ℤ)
     → named scene.boxes names name ≡ Some box → HasRings scene names name box
 
--- the viewport's edges are the world's width and the height, in units of 1/64 px
+-- the viewport's width and height and the default font size are the world's, in units of 1/64 px
 abbrev pub ViewportIsTheWorlds : Type 0
-ViewportIsTheWorlds = (r : Rendering ℤ) (world : World) (height : ℕ) (names : List ℕ)
-    → (edge_value (scene_of r world height) names ViewWidth ≡ pos (64 * world.w))
-    × (edge_value (scene_of r world height) names ViewHeight ≡ pos (64 * height))
+ViewportIsTheWorlds = (r : Rendering ℤ) (world : World) (names : List ℕ)
+    → (edge_value (scene_of r world) names ViewWidth ≡ pos (64 * world.w))
+    × (edge_value (scene_of r world) names ViewHeight ≡ pos (64 * world.h))
+    × (edge_value (scene_of r world) names ViewSize ≡ pos (64 * world.s))
 
 -- ---- blame
 
@@ -182,8 +183,9 @@ NodesAreElements = (nodes : List ℕ) (node : ℕ)
 
 -- ---- ranges
 
--- a world lies in a range exactly where its width and its size lie within the bounds
+-- a world lies in a range exactly where its width, its size and its height lie within the bounds
 abbrev pub RangeIsItsBounds : Type 0
 RangeIsItsBounds = (range : Rect) (world : World)
     → IsInRange range world ↔
-    ((range.wl ≤ world.w) × (world.w ≤ range.wh) × (range.sl ≤ world.s) × (world.s ≤ range.sh))
+    ((range.wl ≤ world.w) × (world.w ≤ range.wh) × (range.sl ≤ world.s) × (world.s ≤ range.sh)
+    × (range.hl ≤ world.h) × (world.h ≤ range.hh))

@@ -1,4 +1,4 @@
-use Rattle.std.specs.Prelude.{ℕ, ◌≤◌, Bool, IsTrue}
+use Rattle.std.specs.Prelude.{◌≤◌, Bool, IsTrue}
 use Rattle.viz_base.specs.declared.worlds.World.{World}
 use Rattle.viz_base.specs.declared.worlds.Rect.{Rect}
 use Rattle.viz_base.specs.declared.formulas.Formula.{Formula}
@@ -7,18 +7,19 @@ use Rattle.std.specs.Prelude.{ℤ}
 use Rattle.logic_semantics.specs.Scenes.{scene_of}
 use Rattle.logic_semantics.specs.Truth.{truth}
 
--- the world is in the range, both ends of both sides included
+-- the world is in the range, both ends of each side included
 pub record IsInRange (range : Rect) (world : World) : Type 0 where
   pub width_least : range.wl ≤ world.w
   pub width_most : world.w ≤ range.wh
   pub size_least : range.sl ≤ world.s
   pub size_most : world.s ≤ range.sh
+  pub height_least : range.hl ≤ world.h
+  pub height_most : world.h ≤ range.hh
 
 -- the formula's truth at a world, on what this gives as the rendering there
-abbrev pub holds_at : (World → Rendering ℤ) → ℕ → Formula → World → Bool
-holds_at rendering_of height f world = truth (scene_of (rendering_of world) world height) f
+abbrev pub holds_at : (World → Rendering ℤ) → Formula → World → Bool
+holds_at rendering_of f world = truth (scene_of (rendering_of world) world) f
 
 -- the formula is true at each world of the range
-abbrev pub Holds : (World → Rendering ℤ) → Rect → ℕ → Formula → Type 0
-Holds rendering_of range height f = (world : World) → IsInRange range world
-    → IsTrue (holds_at rendering_of height f world)
+abbrev pub Holds : (World → Rendering ℤ) → Rect → Formula → Type 0
+Holds rendering_of range f = (world : World) → IsInRange range world → IsTrue (holds_at rendering_of f world)

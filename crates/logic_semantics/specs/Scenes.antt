@@ -9,15 +9,22 @@ use Rattle.viz_base.specs.declared.formulas.Set.TheVariants as of_set
 use Rattle.viz_base.specs.declared.renderings.Placed.{Placed}
 use Rattle.viz_base.specs.declared.renderings.Rendering.{Rendering}
 
--- what a formula speaks of: the boxes of a rendering, and the viewport's width and height in units of 1/64 px
+-- what a formula speaks of: the boxes of a rendering, and the viewport's width and height and the default font size in
+-- units of 1/64 px
 pub record Scene : Type 0 where
   pub boxes : List (Placed ℤ)
   pub width : ℤ
   pub height : ℤ
+  pub size : ℤ
 
--- a rendering at a world, the viewport being so many pixels high
-abbrev pub scene_of : Rendering ℤ → World → ℕ → Scene
-scene_of r world height = record { boxes = r.boxes; width = pos (64 * world.w); height = pos (64 * height) }
+-- a rendering at a world
+abbrev pub scene_of : Rendering ℤ → World → Scene
+scene_of r world = record {
+  boxes = r.boxes;
+  width = pos (64 * world.w);
+  height = pos (64 * world.h);
+  size = pos (64 * world.s);
+}
 
 -- ---- members of sets
 

@@ -39,6 +39,7 @@ edge_value scene names (of_edge.Name name ring face) =
     option_map_or (λ b. face_of face (ring_of ring b)) (named scene.boxes names name) (pos 0)
 edge_value scene names of_edge.ViewWidth = scene.width
 edge_value scene names of_edge.ViewHeight = scene.height
+edge_value scene names of_edge.ViewSize = scene.size
 
 abbrev pub summand_value : Scene → List ℕ → Summand → ℤ
 summand_value scene names s = s.times *ℤ edge_value scene names s.edge

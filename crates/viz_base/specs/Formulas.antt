@@ -43,6 +43,7 @@ edge_most of_edge.One = 1
 edge_most (of_edge.Name name ring face) = 2 ^ 70
 edge_most of_edge.ViewWidth = 2 ^ 38
 edge_most of_edge.ViewHeight = 2 ^ 38
+edge_most of_edge.ViewSize = 2 ^ 38
 
 abbrev pub summand_most : Summand → ℕ
 summand_most s = unsigned_abs s.times * edge_most s.edge

@@ -5,10 +5,11 @@ use Rattle.viz_base.specs.declared.fonts.Font.{Font}
 use Rattle.viz_base.specs.declared.styles.Style.{Style}
 use Rattle.viz_base.specs.declared.trees.BoxNode.{BoxNode}
 use Rattle.viz_base.specs.declared.formulas.Formula.{Formula}
+use Rattle.viz_base.specs.Worlds.{world_count}
 use Rattle.viz_base.specs.Formulas.{is_bound_in, has_small_terms}
 use Rattle.viz_base.specs.Reaches.{beyond_reach}
 
--- widths are 1 to 16,384 pixels and default font sizes 1 to 256
+-- widths and heights are 1 to 16,384 pixels and default font sizes 1 to 256, and there are not too many worlds
 pub record IsRange (range : Rect) : Type 0 where
   pub width_least : 1 ≤ range.wl
   pub widths : range.wl ≤ range.wh
@@ -16,16 +17,25 @@ pub record IsRange (range : Rect) : Type 0 where
   pub size_least : 1 ≤ range.sl
   pub sizes : range.sl ≤ range.sh
   pub size_most : range.sh ≤ 256
+  pub height_least : 1 ≤ range.hl
+  pub heights : range.hl ≤ range.hh
+  pub height_most : range.hh ≤ 16384
+  pub worlds : world_count range ≤ 4194304
+
+-- a job is of form 1, with one height of the viewport, or of form 2, with a range of heights
+pub record IsFormed (form : ℕ) (range : Rect) : Type 0 where
+  pub least : 1 ≤ form
+  pub most : form ≤ 2
+  pub one_height : form ≡ 1 → range.hl ≡ range.hh
 
 -- the facts that a job keeps
-pub record IsJob (range : Rect) (height : ℕ) (boxes : List BoxNode) (styles : List Style) (fonts : List Font)
+pub record IsJob (form : ℕ) (range : Rect) (boxes : List BoxNode) (styles : List Style) (fonts : List Font)
     (parents : List (Option ℕ))
     (formula : Formula) : Type 0 where
+  pub formed : IsFormed form range
   pub in_range : IsRange range
-  pub height_least : 1 ≤ height
-  pub height_most : height ≤ 16384
   pub few_boxes : length boxes ≤ 16384
-  pub few_characters : sum_by (λ (b : BoxNode). length (chars b.chars)) boxes ≤ 262144
+  pub few_characters : sum_by (λ (b : BoxNode). length (chars b.chars)) boxes ≤ 524288
   -- no box reaches further than 2^40 units
   pub reach : beyond_reach styles parents fonts boxes ≡ None
   pub bound : IsTrue (is_bound_in formula 0)

@@ -1,8 +1,8 @@
 -- Worlds and rectangles of worlds by axis.
-use Rattle.std.specs.Prelude.{ℕ}
+use Rattle.std.specs.Prelude.{ℕ, ◌+◌, ◌-◌, ◌*◌, ◌≤◌}
 use Rattle.viz_base.specs.declared.worlds.World.{World}
 use Rattle.viz_base.specs.declared.worlds.Axis.{Axis}
-use Rattle.viz_base.specs.declared.worlds.Axis.TheVariants.{Width, Size}
+use Rattle.viz_base.specs.declared.worlds.Axis.TheVariants.{Width, Size, Height}
 use Rattle.viz_base.specs.declared.worlds.Span.{Span}
 use Rattle.viz_base.specs.declared.worlds.Rect.{Rect}
 
@@ -10,13 +10,28 @@ use Rattle.viz_base.specs.declared.worlds.Rect.{Rect}
 abbrev pub along : Axis → World → ℕ
 along Width world = world.w
 along Size world = world.s
+along Height world = world.h
 
 -- the numbers that a rectangle's worlds have on an axis
 abbrev pub side_of : Axis → Rect → Span
 side_of Width r = record { least = r.wl; most = r.wh }
 side_of Size r = record { least = r.sl; most = r.sh }
+side_of Height r = record { least = r.hl; most = r.hh }
 
 -- the rectangle with other numbers on an axis
 abbrev pub with_side : Axis → Rect → Span → Rect
-with_side Width r side = record { wl = side.least; wh = side.most; sl = r.sl; sh = r.sh }
-with_side Size r side = record { wl = r.wl; wh = r.wh; sl = side.least; sh = side.most }
+with_side Width r side =
+    record { wl = side.least; wh = side.most; sl = r.sl; sh = r.sh; hl = r.hl; hh = r.hh }
+with_side Size r side =
+    record { wl = r.wl; wh = r.wh; sl = side.least; sh = side.most; hl = r.hl; hh = r.hh }
+with_side Height r side =
+    record { wl = r.wl; wh = r.wh; sl = r.sl; sh = r.sh; hl = side.least; hh = side.most }
+
+-- how many numbers a span has
+abbrev pub span_count : Span → ℕ
+span_count side = side.most + 1 - side.least
+
+-- how many worlds a rectangle has
+abbrev pub world_count : Rect → ℕ
+world_count r =
+    span_count (side_of Width r) * span_count (side_of Size r) * span_count (side_of Height r)

@@ -66,6 +66,8 @@ pub enum Edge {
     ViewWidth,
     /// The viewport's height.
     ViewHeight,
+    /// The default font size, which no formula's text names: width queries in `em` are guarded by it.
+    ViewSize,
 }
 
 /// One of a box's rectangles (CSS 2.1, 8.1).

@@ -7,12 +7,12 @@ use crate::{BoxTree, Formula, Rect};
 pub struct Job {
     /// SHA-256 of the job file.
     pub digest: [u8; 32],
+    /// Of its file: 1 where the viewport has one height, 2 where it has a range of heights.
+    pub form: u8,
     /// The worlds.
     pub range: Rect,
-    /// The viewport's height in whole pixels.
-    pub height: u32,
     pub tree: BoxTree,
     pub formula: Formula,
-    /// Range and height are within the limits, no box reaches too far, and the formula's terms are bounded.
-    pub ghost ok: { IsJob range height tree.boxes tree.styles tree.fonts tree.parents formula },
+    /// The range is within the limits, no box reaches too far, and the formula's terms are bounded.
+    pub ghost ok: { IsJob form range tree.boxes tree.styles tree.fonts tree.parents formula },
 }

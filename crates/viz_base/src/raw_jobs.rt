@@ -3,10 +3,10 @@ use crate::{Font, List, Page, Rect, Text};
 /// What a job file says, within all limits, before its style sheets and its assertion are read.
 #[derive(Drop)]
 pub struct RawJob {
+    /// 1 where the viewport has one height, 2 where it has a range of heights.
+    pub form: u8,
     /// The worlds.
     pub range: Rect,
-    /// The viewport's height in whole pixels.
-    pub height: u32,
     /// The fonts, at least one; the first stands for families that no font has as its name.
     pub fonts: List<Font>,
     /// The texts of the author's style sheets, in their order.
@@ -23,6 +23,7 @@ pub enum Part {
     Top,
     Widths,
     Sizes,
+    /// The viewport's height, or its range of heights.
     Height,
     Fonts,
     Css,

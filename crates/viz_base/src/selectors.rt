@@ -44,8 +44,17 @@ pub enum Test {
     Never,
 }
 
+/// A pseudo-element with generated content, before or after that of its element (CSS 2.1, 12.1).
+#[derive(Clone, Copy, Debug, PartialEq, Eq)]
+pub enum Pseudo {
+    /// `:before`.
+    Before,
+    /// `:after`.
+    After,
+}
+
 /// Specificity: whether the declaration is a style attribute's, and the counts of ids, of attributes, classes
-/// and pseudo-classes, and of tags (CSS 2.1, 6.4.3).
+/// and pseudo-classes, and of tags and pseudo-elements (CSS 2.1, 6.4.3).
 #[derive(Clone, Copy)]
 pub struct Spec {
     pub style: u32,

@@ -42,6 +42,7 @@ pub enum Prop {
     WordSpacing,
     TextTransform,
     ListStylePosition,
+    Content,
 }
 
 /// The value of a declaration.
@@ -61,6 +62,8 @@ pub enum Value {
     Number(i64),
     /// Names of font families, first choice first (CSS 2.1, 15.3).
     Names(List<Text>),
+    /// The text of generated content (CSS 2.1, 12.2).
+    Chars(Text),
 }
 
 /// A property with its value.

@@ -1,13 +1,15 @@
 ghost use Rattle.std.specs.Prelude.{◌≡◌};
 ghost use Rattle.viz_base.specs.Worlds.{side_of, with_side};
 
-/// What a page is laid out for: the viewport's width and the default font size, in whole CSS pixels.
+/// What a page is laid out for: the viewport's width and height and the default font size, in whole CSS pixels.
 #[derive(Clone, Copy, Debug, PartialEq, Eq)]
 pub struct World {
     /// Viewport width in pixels.
     pub w: u32,
     /// Default font size in pixels, the size that `font-size: medium` has.
     pub s: u32,
+    /// Viewport height in pixels.
+    pub h: u32,
 }
 
 /// One of the numbers that a world consists of.
@@ -17,6 +19,8 @@ pub enum Axis {
     Width,
     /// The default font size.
     Size,
+    /// The viewport's height.
+    Height,
 }
 
 /// The whole numbers from one to another, both included.
@@ -28,7 +32,7 @@ pub struct Span {
     pub most: u32,
 }
 
-/// A rectangle of worlds, both ends of both ranges included.
+/// A rectangle of worlds, both ends of each range included.
 #[derive(Clone, Copy)]
 pub struct Rect {
     /// The least width in pixels.
@@ -39,6 +43,10 @@ pub struct Rect {
     pub sl: u32,
     /// The greatest default font size in pixels.
     pub sh: u32,
+    /// The least height in pixels.
+    pub hl: u32,
+    /// The greatest height in pixels.
+    pub hh: u32,
 }
 
 impl Rect {
@@ -55,6 +63,10 @@ impl Rect {
                 least: self.sl,
                 most: self.sh,
             },
+            Axis::Height => Span {
+                least: self.hl,
+                most: self.hh,
+            },
         }
     }
 
@@ -68,12 +80,24 @@ impl Rect {
                 wh: side.most,
                 sl: self.sl,
                 sh: self.sh,
+                hl: self.hl,
+                hh: self.hh,
             },
             Axis::Size => Rect {
                 wl: self.wl,
                 wh: self.wh,
                 sl: side.least,
                 sh: side.most,
+                hl: self.hl,
+                hh: self.hh,
+            },
+            Axis::Height => Rect {
+                wl: self.wl,
+                wh: self.wh,
+                sl: self.sl,
+                sh: self.sh,
+                hl: side.least,
+                hh: side.most,
             },
         }
     }

@@ -1,23 +1,20 @@
 -- What a list of tokens spells, computed step by step. No definition of the grammar of sheets cites
 -- these words: the laws are proved by them, and the functions that read a sheet give them.
-use Rattle.std.specs.Prelude.{ℕ, Bool, true, false, not, ◌&&◌, ◌||◌, List, [], ◌∷◌, ◌++◌, length, take, drop, Option, Some, None, option_map, if◌then◌else◌, codes, nat_lt, Result, Ok, Err}
+use Rattle.std.specs.Prelude.{ℕ, Bool, true, false, not, ◌&&◌, List, [], ◌∷◌, ◌++◌, length, map, drop, Option, Some, None, option_map, if◌then◌else◌, codes, nat_lt, Result, Ok, Err}
 use Rattle.std.specs.Option.{option_to_list}
-use Rattle.std.specs.List.{list_any, list_all}
+use Rattle.std.specs.List.{list_all}
 use Rattle.css_semantics.specs.Pieces.{Token}
 use Rattle.viz_base.specs.declared.sheets.Decl.{Decl}
+use Rattle.viz_base.specs.declared.sheets.MediaEntry.{MediaEntry}
 use Rattle.viz_base.specs.declared.sheets.Rule.{Rule}
 use Rattle.css_semantics.specs.declared.statements.Statement.{Statement}
 use Rattle.css_semantics.specs.declared.statements.Statement.TheVariants.{Ruleset, Import, Page, MediaQuery, Media}
-use Rattle.css_semantics.specs.SheetsMarks.{is_ident, is_at_keyword, is_colon, is_left_brace, is_space, is_gap, has_paren, is_word, ends_prelude, ends_selector, ends_block, ends_declaration, ends_entry}
-use Rattle.css_semantics.specs.SheetsReading.{Refusal, import_at, media_at, too_many, stretch_len, gathered, trim_start, trimmed, start_of, extent, goes_on, before_important, declared_at, is_blank, is_screen, is_between, closed_by_end}
-
--- ---- stretches
-
-abbrev pub front : (Token → Bool) → List Token → List Token
-front stop ts = take (stretch_len stop [] ts) ts
-
-abbrev pub behind : (Token → Bool) → List Token → List Token
-behind stop ts = drop (stretch_len stop [] ts) ts
+use Rattle.css_semantics.specs.SheetsMarks.{is_ident, is_at_keyword, is_colon, is_left_brace, is_space, is_gap, is_word, ends_prelude, ends_selector, ends_block, ends_declaration}
+use Rattle.css_semantics.specs.SheetsReading.{Refusal, import_at, media_at, too_many, gathered, trim_start, trimmed, start_of, extent, goes_on, before_important, declared_at, is_blank, is_between, closed_by_end}
+use Rattle.css_semantics.specs.MediaLists.{shown_entry}
+use Rattle.css_semantics.specs.SheetsGrammar.{is_beyond}
+use Rattle.css_semantics.specs.steps.Stretches.{front, behind}
+use Rattle.css_semantics.specs.steps.MediaLists.{entries}
 
 -- ---- one after another
 
@@ -75,17 +72,17 @@ declarations = gathered declaration_item after_declaration 0
 
 -- ---- rulesets
 
-abbrev pub rule_of : List Token → ℕ → List Token → Rule
-rule_of selector place block =
-    record { at = start_of place selector; len = extent selector; decls = declarations block }
+abbrev pub rule_of : Option (List MediaEntry) → List Token → ℕ → List Token → Rule
+rule_of media selector place block =
+    record { at = start_of place selector; len = extent selector; decls = declarations block; media = media }
 
-abbrev pub ruleset_of : List Token → List Token → Option Rule
-ruleset_of selector [] = None
-ruleset_of selector (t ∷ ts) = Some (rule_of (trimmed is_space selector) t.at (front ends_block ts))
+abbrev pub ruleset_of : Option (List MediaEntry) → List Token → List Token → Option Rule
+ruleset_of media selector [] = None
+ruleset_of media selector (t ∷ ts) = Some (rule_of media (trimmed is_space selector) t.at (front ends_block ts))
 
 -- the ruleset at the head of these tokens, if a block comes
-abbrev pub block_rule : List Token → Option Rule
-block_rule ts = ruleset_of (front ends_selector ts) (behind ends_selector ts)
+abbrev pub block_rule : Option (List MediaEntry) → List Token → Option Rule
+block_rule media ts = ruleset_of media (front ends_selector ts) (behind ends_selector ts)
 
 abbrev pub after_selector : List Token → List Token
 after_selector [] = []
@@ -94,37 +91,23 @@ after_selector (t ∷ ts) = after_block ts
 abbrev pub after_ruleset : List Token → List Token
 after_ruleset ts = after_selector (behind ends_selector ts)
 
-abbrev pub rule_item : Token → List Token → List Rule
-rule_item t ts = if is_gap t.kind then []
-    else (if is_at_keyword t.kind then [] else option_to_list (block_rule (t ∷ ts)))
+abbrev pub rule_item : Option (List MediaEntry) → Token → List Token → List Rule
+rule_item media t ts = if is_gap t.kind then []
+    else (if is_at_keyword t.kind then [] else option_to_list (block_rule media (t ∷ ts)))
 
 abbrev pub after_rule : Token → List Token → List Token
 after_rule t ts = if is_gap t.kind then ts
     else (if is_at_keyword t.kind then after_at_rule ts else after_ruleset (t ∷ ts))
 
 -- the rules of the block of an `@media`
-abbrev pub rules_in : List Token → List Rule
-rules_in = gathered rule_item after_rule 0
-
--- ---- media lists
-
-abbrev pub entry_item : Token → List Token → List (List Token)
-entry_item t ts = front ends_entry (t ∷ ts) ∷ []
-
-abbrev pub after_entry : Token → List Token → List Token
-after_entry t ts = drop 1 (behind ends_entry (t ∷ ts))
-
-abbrev pub entries : List Token → List (List Token)
-entries = gathered entry_item after_entry 0
-
-abbrev pub holds : List Token → Bool
-holds prelude = list_all (λ t. is_gap t.kind) prelude || list_any is_screen (entries prelude)
+abbrev pub rules_in : Option (List MediaEntry) → List Token → List Rule
+rules_in media = gathered (rule_item media) after_rule 0
 
 -- ---- statements
 
 abbrev pub media_of : ℕ → List Token → List Token → Statement
-media_of place prelude block = if list_any (λ t. has_paren t.kind) prelude then MediaQuery place
-    else Media (if holds prelude then rules_in block else [])
+media_of place prelude block = if is_beyond prelude (entries prelude) then MediaQuery place
+    else Media (rules_in (Some (map shown_entry (entries prelude))) block)
 
 abbrev pub at_rule : Token → List Token → Option Statement
 at_rule t ts =
@@ -137,7 +120,7 @@ at_rule t ts =
 abbrev pub statement_item : Token → List Token → List Statement
 statement_item t ts = if is_between t.kind then []
     else (if is_at_keyword t.kind then option_to_list (at_rule t ts)
-    else option_to_list (option_map Ruleset (block_rule (t ∷ ts))))
+    else option_to_list (option_map Ruleset (block_rule None (t ∷ ts))))
 
 abbrev pub after_statement : Token → List Token → List Token
 after_statement t ts = if is_between t.kind then ts

@@ -1,10 +1,4 @@
-use Rattle.std.proofs.Common.{ℤ, pos, refl, ap}
-use Rattle.std.specs.Option.{option_map_or}
-use Rattle.viz_base.specs.declared.formulas.Ring.{Ring}
-use Rattle.viz_base.specs.declared.formulas.Ring.TheVariants.{Margin, Border, Padding, Content}
-use Rattle.viz_base.specs.declared.formulas.Face.TheVariants.{Left, Top, Right, Bottom}
-use Rattle.viz_base.specs.declared.renderings.Placed.{Placed}
-use Rattle.logic_semantics.specs.Terms.{face_of, ring_of}
+use Rattle.std.proofs.Common.{refl}
 use Rattle.logic_semantics.proofs.values_of_edges.Goals as goal
 
 pub returns-clause-boxes : goal.returns-clause-boxes
@@ -16,4 +10,4 @@ returns-clause-boxes c = λ scene names name box is. record {
 }
 
 pub returns-clause-viewport : goal.returns-clause-viewport
-returns-clause-viewport c = λ r world height names. (refl, refl)
+returns-clause-viewport c = λ r world names. (refl, refl, refl)

@@ -10,16 +10,16 @@ use Rattle.layout_semantics.specs.Flow.{Cleared, Progress, below, block_height, 
 use Rattle.layout_laws.proofs.auto_heights.an_empty_block_has_no_height.Goals as goal
 
 -- where nothing has come since the content's top
-none-below : (tree : BoxTree) (w : World) (height : ℕ) (joins : Bool) (top : ℤ) → block_height tree w height joins top (below top [] false) ≡ pos 0
-none-below tree w height true top = omega (arith, ints)
-none-below tree w height false top = omega (arith, ints)
+none-below : (tree : BoxTree) (w : World) (joins : Bool) (top : ℤ) → block_height tree w joins top (below top [] false) ≡ pos 0
+none-below tree w true top = omega (arith, ints)
+none-below tree w false top = omega (arith, ints)
 
-none-in : (tree : BoxTree) (w : World) (height : ℕ) (inside : ℕ → Band ℤ → ℤ → Progress → Progress) (cb : Band ℤ) (p : Progress) (b : ℕ) (cleared : Cleared) (f : Frame) (opens : Bool)
+none-in : (tree : BoxTree) (w : World) (inside : ℕ → Band ℤ → ℤ → Progress → Progress) (cb : Band ℤ) (p : Progress) (b : ℕ) (cleared : Cleared) (f : Frame) (opens : Bool)
     → is_open_above tree b ≡ opens → has_line tree b ≡ false → flow_children tree b ≡ []
-    → (laid_block tree w height (flow_step tree w height inside) cb p b cleared f).bottom ≡ f.corner.y +ℤ border_height f.v (content_height tree w height b (pos 0))
-none-in tree w height inside cb p b cleared f true o l e = rw (o, l, e) refl
-none-in tree w height inside cb p b cleared f false o l e =
-    rw (o, l, e) (ap (λ (h : ℤ). f.corner.y +ℤ border_height f.v (content_height tree w height b h)) (none-below tree w height (joins_last_child tree b) (content_top f)))
+    → (laid_block tree w (flow_step tree w inside) cb p b cleared f).bottom ≡ f.corner.y +ℤ border_height f.v (content_height tree w b (pos 0))
+none-in tree w inside cb p b cleared f true o l e = rw (o, l, e) refl
+none-in tree w inside cb p b cleared f false o l e =
+    rw (o, l, e) (ap (λ (h : ℤ). f.corner.y +ℤ border_height f.v (content_height tree w b h)) (none-below tree w (joins_last_child tree b) (content_top f)))
 
 pub returns : goal.returns
-returns c tree w height inside cb p b cleared f = none-in tree w height inside cb p b cleared f (is_open_above tree b) refl
+returns c tree w inside cb p b cleared f = none-in tree w inside cb p b cleared f (is_open_above tree b) refl

@@ -1,4 +1,4 @@
-use Rattle.std.proofs.Common.{rules, arith, ◌≤◌, ◌<◌, ◌^◌, ◌+◌, sym, ap, ◌∙◌, Some, w64}
+use Rattle.std.proofs.Common.{arith, ◌≤◌, ◌^◌, ◌+◌, sym, ap, ◌∙◌, Some, w64}
 use Rattle.std.proofs.lemmas.Int.{to_z_pos}
 use Rattle.viz_base.proofs.DecimalLemmas.{none_is, past_is, some_is}
 use Rattle.viz_base.proofs.decimals.read_decimal.Goals as goal
