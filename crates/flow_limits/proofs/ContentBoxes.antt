@@ -108,10 +108,10 @@ own-text k (c ∷ cs) = by (c == 32) (own-text k cs)
 
 -- ---- where the boxes of a content are
 
-module _ (tree : BoxTree) (w : World) (height : ℕ) where
+module _ (tree : BoxTree) (w : World) where
   pub record IsIn (wide : ℤ) (k : ℕ) : Type 0 where
     pub page : IsOnPage tree.boxes k
-    pub room : room tree w height k ≡ wide
+    pub room : room tree w k ≡ wide
 
   unfoldable pub ItemIn : ℤ → Item → Type 0
   ItemIn wide (start at) = IsIn wide at × (sort_of tree at ≡ an_inline)
@@ -165,20 +165,20 @@ module _ (tree : BoxTree) (w : World) (height : ℕ) where
       each-in wide (items_to n tree) (kids_of tree.boxes k) (All-from (λ j. AllByRecursion (ItemIn wide) (items_to n tree j)) (kids_of tree.boxes k) (λ j c.
       items-in n j wide (record {
         page = IsOnPage.inside k j i.page c;
-        room = room-by-parent tree w height k j i.page c
-            ∙ ap (λ (b : Bool). cond b (room tree w height k) (widths tree w height k (room tree w height k)).content) (is-inline (is_floated_at tree k) (kind_of tree k) e)
+        room = room-by-parent tree w k j i.page c
+            ∙ ap (λ (b : Bool). cond b (room tree w k) (widths tree w k (room tree w k)).content) (is-inline (is_floated_at tree k) (kind_of tree k) e)
             ∙ i.room;
       }))))
 
-  pub content-items : (k : ℕ) (wide : ℤ) → IsSound tree w height k wide → AllByRecursion (ItemIn (widths tree w height k wide).content) (content tree k)
+  pub content-items : (k : ℕ) (wide : ℤ) → IsSound tree w k wide → AllByRecursion (ItemIn (widths tree w k wide).content) (content tree k)
   content-items k wide s =
-      let inner = (widths tree w height k wide).content in
+      let inner = (widths tree w k wide).content in
       each-in inner (items_to (length tree.boxes) tree) (kids_of tree.boxes k) (All-from (λ j. AllByRecursion (ItemIn inner) (items_to (length tree.boxes) tree j)) (kids_of tree.boxes k) (λ j c.
       items-in (length tree.boxes) j inner (record {
         page = IsOnPage.inside k j s.page c;
-        room = room-by-parent tree w height k j s.page c
-            ∙ ap (λ (b : Bool). cond b (room tree w height k) (widths tree w height k (room tree w height k)).content) s.block
-            ∙ ap (λ (z : ℤ). (widths tree w height k z).content) (sym s.room);
+        room = room-by-parent tree w k j s.page c
+            ∙ ap (λ (b : Bool). cond b (room tree w k) (widths tree w k (room tree w k)).content) s.block
+            ∙ ap (λ (z : ℤ). (widths tree w k z).content) (sym s.room);
       })))
 
   -- which of them the table has

@@ -45,7 +45,7 @@ use Rattle.flow_limits.proofs.InLines.{IsItemInLines, content-in-lines}
 use Rattle.flow_limits.proofs.ContentWithin.{line_context}
 use Rattle.flow_limits.proofs.PageWithin.{base_of, turned_of}
 
-module _ (tree : BoxTree) (w : World) (height : ℕ) where
+module _ (tree : BoxTree) (w : World) where
   -- ---- a box apart, as it stands in a line
 
   record IsInnerOf (own : Bounds) (a : Alone) (i : Inner ℤ) : Type 0 where
@@ -53,14 +53,14 @@ module _ (tree : BoxTree) (w : World) (height : ℕ) where
     above : IsLevelIn own i.above
     tall : i.above +ℤ i.below ≡ a.size.height
 
-  inner-of : (own : Bounds) (apart : ℕ → Alone) (n k : ℕ) → IsAloneIn own greatest_length (apart k) → IsInnerOf own (apart k) (inner_size tree w height (content_to tree w height apart n) apart k)
+  inner-of : (own : Bounds) (apart : ℕ → Alone) (n k : ℕ) → IsAloneIn own greatest_length (apart k) → IsInnerOf own (apart k) (inner_size tree w (content_to tree w apart n) apart k)
   inner-of own apart n k h = by (is_floated_at tree k || is_replaced_at tree k || own_of tree k (λ (s : Style). s.clips) false) (apart k).baseline refl refl h.baseline
     where
       whole : (h z : ℤ) → z +ℤ (h -ℤ z) ≡ h
       whole h z = omega (arith, ints)
 
       by : (t : Bool) (o : Option ℤ) → (is_floated_at tree k || is_replaced_at tree k || own_of tree k (λ (s : Style). s.clips) false) ≡ t → (apart k).baseline ≡ o → AllByRecursion (IsLevelIn own) (option_to_list o)
-          → IsInnerOf own (apart k) (inner_size tree w height (content_to tree w height apart n) apart k)
+          → IsInnerOf own (apart k) (inner_size tree w (content_to tree w apart n) apart k)
       by false (Some y) e f b = rw (e, f) (record { wide = refl; above = b.0; tall = whole (apart k).size.height y })
       by false None e f b = rw (e, f) (record { wide = refl; above = h.height; tall = whole (apart k).size.height (apart k).size.height })
       by true o e f b = rw e (record { wide = refl; above = h.height; tall = whole (apart k).size.height (apart k).size.height })
@@ -101,20 +101,20 @@ module _ (tree : BoxTree) (w : World) (height : ℕ) where
 
   -- ---- the content
 
-  module _ (t : ℕ) (fine : 8 * t ≤ greatest_length) (boxes : (k : ℕ) → IsOnPage tree.boxes k → IsWhole tree k → IsBoxSmall tree w height t k) (terms : (k : ℕ) → IsOnPage tree.boxes k → IsInlineBoxSmall tree w height t k)
+  module _ (t : ℕ) (fine : 8 * t ≤ greatest_length) (boxes : (k : ℕ) → IsOnPage tree.boxes k → IsWhole tree k → IsBoxSmall tree w t k) (terms : (k : ℕ) → IsOnPage tree.boxes k → IsInlineBoxSmall tree w t k)
       (raises : ℕ → ℕ) (raised : AreRaisedBy tree w raises) (few_raises : (k : ℕ) → IsOnPage tree.boxes k → raises k ≤ t)
-      (own : ℕ → Bounds) (apart : ℕ → Alone) (alone_in : (k : ℕ) → IsAloneIn (own k) greatest_length (apart k)) (n k : ℕ) (left wide : ℤ) (sound : IsSound tree w height k wide) where
+      (own : ℕ → Bounds) (apart : ℕ → Alone) (alone_in : (k : ℕ) → IsAloneIn (own k) greatest_length (apart k)) (n k : ℕ) (left wide : ℤ) (sound : IsSound tree w k wide) where
     abbrev turned : ℕ → Bounds
-    turned = turned_of tree w height apart own
+    turned = turned_of tree w apart own
 
     abbrev c : InlineContext
-    c = line_context tree w height own turned greatest_length t fine boxes apart alone_in n k left wide
+    c = line_context tree w own turned greatest_length t fine boxes apart alone_in n k left wide
 
     abbrev inside : ℤ
-    inside = (widths tree w height k wide).content
+    inside = (widths tree w k wide).content
 
     abbrev inner_at : ℕ → Inner ℤ
-    inner_at j = inner_size tree w height (content_to tree w height apart n) apart j
+    inner_at j = inner_size tree w (content_to tree w apart n) apart j
 
     raise-small : (at : ℕ) → IsOnPage tree.boxes at → IsInLines tree k at → IsSmall t (inline_shift c at)
     raise-small at p l =
@@ -137,12 +137,12 @@ module _ (tree : BoxTree) (w : World) (height : ℕ) where
         omega (arith, own_is, most_is)
 
     band-is : band_width c.cb ≡ inside
-    band-is = by left (widths tree w height k wide)
+    band-is = by left (widths tree w k wide)
       where
         by : (left : ℤ) (x : Widths ℤ) → band_width (content_from left x) ≡ x.content
         by left x = omega (arith, ints)
 
-    edges-small : (at : ℕ) → IsIn tree w height inside at → (ls : List Length) → AllByRecursion (λ length. IsSmall t (used tree w length (room tree w height at))) ls → AllByRecursion (λ length. IsSmall t (used tree w length (band_width c.cb))) ls
+    edges-small : (at : ℕ) → IsIn tree w inside at → (ls : List Length) → AllByRecursion (λ length. IsSmall t (used tree w length (room tree w at))) ls → AllByRecursion (λ length. IsSmall t (used tree w length (band_width c.cb))) ls
     edges-small at i ls a = subst (λ (z : ℤ). AllByRecursion (λ length. IsSmall t (used tree w length z)) ls) (i.room ∙ sym band-is) a
 
     more : (ls : List Length) → AllByRecursion (λ length. IsSmall t (used tree w length (band_width c.cb))) ls → AllByRecursion (λ length. IsSmall greatest_length (used tree w length (band_width c.cb))) ls
@@ -152,14 +152,14 @@ module _ (tree : BoxTree) (w : World) (height : ℕ) where
     three x y z a b d = omega (arith, ints, a, b, d, fine)
 
     inline-kind : (at : ℕ) → sort_of tree at ≡ an_inline → is_inline (kind_of tree at) ≡ true
-    inline-kind at e = is-inline tree w height (is_floated_at tree at) (kind_of tree at) e
+    inline-kind at e = is-inline tree w (is_floated_at tree at) (kind_of tree at) e
 
-    start-width : (at : ℕ) → IsIn tree w height inside at → sort_of tree at ≡ an_inline → IsSmall greatest_length (item_width c (start at))
+    start-width : (at : ℕ) → IsIn tree w inside at → sort_of tree at ≡ an_inline → IsSmall greatest_length (item_width c (start at))
     start-width at i s =
         let e = edges-small at i (sides_of (paddings tree at) ++ (sides_of (borders tree at) ++ sides_of (margins tree at))) ((terms at i.page).edges (inline-kind at s)) in
         three (used tree w (margins tree at).left (band_width c.cb)) (used tree w (borders tree at).left (band_width c.cb)) (used tree w (paddings tree at).left (band_width c.cb)) e.1.1.1.1.1.1.1.1.1.1.1.0 e.1.1.1.1.1.1.1.0 e.1.1.1.0
 
-    finish-width : (at : ℕ) → IsIn tree w height inside at → sort_of tree at ≡ an_inline → IsSmall greatest_length (item_width c (finish at))
+    finish-width : (at : ℕ) → IsIn tree w inside at → sort_of tree at ≡ an_inline → IsSmall greatest_length (item_width c (finish at))
     finish-width at i s =
         let e = edges-small at i (sides_of (paddings tree at) ++ (sides_of (borders tree at) ++ sides_of (margins tree at))) ((terms at i.page).edges (inline-kind at s)) in
         three (used tree w (margins tree at).right (band_width c.cb)) (used tree w (borders tree at).right (band_width c.cb)) (used tree w (paddings tree at).right (band_width c.cb)) e.1.1.1.1.1.1.1.1.1.0 e.1.1.1.1.1.0 e.1.0
@@ -169,9 +169,9 @@ module _ (tree : BoxTree) (w : World) (height : ℕ) where
 
     no-inner : (at : ℕ) → sort_of tree at ≡ an_inline → inner_of c at ≡ None
     unfolding IsNoInline
-    no-inner at e = not-held inner_at at (length tree.boxes) (inner_boxes tree k) (λ a. All-at (IsNoInline tree w height) (inner_boxes tree k) at (no-inlines tree w height inside (content tree k) (content-items tree w height k wide sound)) a e)
+    no-inner at e = not-held inner_at at (length tree.boxes) (inner_boxes tree k) (λ a. All-at (IsNoInline tree w) (inner_boxes tree k) at (no-inlines tree w inside (content tree k) (content-items tree w k wide sound)) a e)
 
-    inline-small : (at : ℕ) → IsIn tree w height inside at → IsInLines tree k at → sort_of tree at ≡ an_inline → IsInlineSmall c own turned greatest_length at
+    inline-small : (at : ℕ) → IsIn tree w inside at → IsInLines tree k at → sort_of tree at ≡ an_inline → IsInlineSmall c own turned greatest_length at
     inline-small at i l e =
         let x = terms at i.page in
         let a = x.above in
@@ -240,14 +240,14 @@ module _ (tree : BoxTree) (w : World) (height : ℕ) where
         sums : (x y z : ℤ) → (x +ℤ z) +ℤ (y -ℤ z) ≡ x +ℤ y
         sums x y z = omega (arith, ints)
 
-        by_base : (base : ℤ) → base_of tree w height apart at ≡ base → IsLevelIn (own at) base → let e = made (inner_at at).above (inner_at at).below in unsigned_abs ((e.above +ℤ shift c at e) -ℤ base) ≤ t
+        by_base : (base : ℤ) → base_of tree w apart at ≡ base → IsLevelIn (own at) base → let e = made (inner_at at).above (inner_at at).below in unsigned_abs ((e.above +ℤ shift c at e) -ℤ base) ≤ t
             → IsInnerOf (own at) (apart at) (inner_at at) → IsAtomIn (own at) (turned at) greatest_length (made (e.above +ℤ shift c at e) (e.below -ℤ shift c at e))
         by_base base f l near i =
             let e = made (inner_at at).above (inner_at at).below in
             subst (λ (z : ℤ). IsAtomIn (own at) (record { up = (own at).up - min (unsigned_abs (int_min z (pos 0))) (own at).up; down = (own at).down + min (unsigned_abs (int_min z (pos 0))) (own at).up; aside = (own at).aside }) greatest_length (made (e.above +ℤ shift c at e) (e.below -ℤ shift c at e))) (sym f)
             (atom-by (own at) base (e.above +ℤ shift c at e) (e.below -ℤ shift c at e) (apart at).size.height t fine l near (sums e.above e.below (shift c at e) ∙ i.tall) (alone_in at).height)
 
-        by_other : IsInnerOf (own at) (apart at) (inner_at at) → base_of tree w height apart at ≡ (inner_at at).above → let e = made (inner_at at).above (inner_at at).below in middle_of c at e ≡ pos 0 → IsSmall t (shift c at e -ℤ middle_of c at e)
+        by_other : IsInnerOf (own at) (apart at) (inner_at at) → base_of tree w apart at ≡ (inner_at at).above → let e = made (inner_at at).above (inner_at at).below in middle_of c at e ≡ pos 0 → IsSmall t (shift c at e -ℤ middle_of c at e)
             → IsAtomIn (own at) (turned at) greatest_length (made (e.above +ℤ shift c at e) (e.below -ℤ shift c at e))
         by_other i b m h =
             let e = made (inner_at at).above (inner_at at).below in
@@ -261,7 +261,7 @@ module _ (tree : BoxTree) (w : World) (height : ℕ) where
         by of_valign.Middle f i h =
             let e = made (inner_at at).above (inner_at at).below in
             let middle : middle_of c at e ≡ floor_of (height_of_extent e) 2 -ℤ e.above = rw f refl in
-            let base : base_of tree w height apart at ≡ floor_of (apart at).size.height 2 = rw f refl in
+            let base : base_of tree w apart at ≡ floor_of (apart at).size.height 2 = rw f refl in
             let tall : floor_of (height_of_extent e) 2 ≡ floor_of (apart at).size.height 2 = ap (λ (z : ℤ). floor_of z 2) i.tall in
             by_base (floor_of (apart at).size.height 2) base (half-in (own at) (apart at).size.height (alone_in at).height) (near e.above (shift c at e) (middle_of c at e) (floor_of (height_of_extent e) 2) (floor_of (apart at).size.height 2) middle tall h) i
           where
@@ -281,7 +281,7 @@ module _ (tree : BoxTree) (w : World) (height : ℕ) where
         by false e l = refl
         by true e l = absurd (let same : at ≡ k = grind (arith, nat_tests) in omega arith)
 
-    item-small : (i : Item) → ItemIn tree w height inside i → IsHeldIn tree w height (inner_boxes tree k) i → IsItemInLines tree k i → IsItemSmall c own turned greatest_length i
+    item-small : (i : Item) → ItemIn tree w inside i → IsHeldIn tree w (inner_boxes tree k) i → IsItemInLines tree k i → IsItemSmall c own turned greatest_length i
     unfolding ItemIn IsItemBoxSmall
     item-small (start at) p h l = record { width = start-width at p.0 p.1; box = inline-small at p.0 l p.1 }
     item-small (finish at) p h l = record { width = finish-width at p.0 p.1; box = tt }
@@ -291,7 +291,7 @@ module _ (tree : BoxTree) (w : World) (height : ℕ) where
     item-small (forced at) p h l = record { width = omega arith; box = tt }
     item-small (float at) p h l = record { width = omega arith; box = float-small at p.0.page h }
 
-    all-small : (items : List Item) → AllByRecursion (ItemIn tree w height inside) items → AllByRecursion (IsHeldIn tree w height (inner_boxes tree k)) items → AllByRecursion (IsItemInLines tree k) items
+    all-small : (items : List Item) → AllByRecursion (ItemIn tree w inside) items → AllByRecursion (IsHeldIn tree w (inner_boxes tree k)) items → AllByRecursion (IsItemInLines tree k) items
         → AllByRecursion (IsItemSmall c own turned greatest_length) items
     all-small [] a b d = tt
     all-small (i ∷ items) a b d = (item-small i a.0 b.0 d.0, all-small items a.1 b.1 d.1)
@@ -302,7 +302,7 @@ module _ (tree : BoxTree) (w : World) (height : ℕ) where
         let a = x.above in
         let b = x.below in
         record {
-          items = all-small (content tree k) (content-items tree w height k wide sound) (held-in tree w height (inner_boxes tree k) (content tree k) (λ x a. a)) (content-in-lines tree k);
+          items = all-small (content tree k) (content-items tree w k wide sound) (held-in tree w (inner_boxes tree k) (content tree k) (λ x a. a)) (content-in-lines tree k);
           above = omega (arith, a, fine);
           below = omega (arith, b, fine);
         }

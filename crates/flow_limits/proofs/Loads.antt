@@ -20,7 +20,7 @@ use Rattle.flow_limits.specs.Loads.{greatest_length, unit, weight, weights, load
 use Rattle.flow_limits.specs.Rises.{kid_rise, content_rise_to, content_rise}
 
 abbrev most_of_item : ℕ
-most_of_item = 60 * (2 ^ 45 + 1)
+most_of_item = 40 * (2 ^ 45 + 1)
 
 abbrev costs : (Item → ℕ) → List Item → ℕ
 costs cost [] = 0
@@ -97,7 +97,7 @@ module _ (tree : BoxTree) where
   -- ---- bounds
 
   abbrev pub IsFew : (ℕ → Bounds) → Type 0
-  IsFew own = (k : ℕ) → k < length tree.boxes → size_of (own k) + unit ≤ unit * load tree k
+  IsFew own = (k : ℕ) → k < length tree.boxes → size_of (own k) + 2 * unit ≤ unit * load tree k
 
   module _ (own turned : ℕ → Bounds) (few : IsFew own) (turned_few : IsFew turned) where
     s : ℕ
@@ -106,7 +106,7 @@ module _ (tree : BoxTree) where
     charge_cost : Item → ℕ
     charge_cost i = size_of (rise_of turned i) + size_of (float_rise own i) + most_of_item
 
-    charges-cost : (items : List Item) → size_of (together (charge own turned greatest_length) items) ≡ costs charge_cost items
+    charges-cost : (items : List Item) → size_of (together (charge own turned greatest_length) items) ≤ costs charge_cost items
     unfolding charge_cost
     charges-cost [] = omega arith
     charges-cost (i ∷ items) = let rest = charges-cost items in omega (arith, rest)
@@ -120,7 +120,7 @@ module _ (tree : BoxTree) where
         omega (arith, all, cost)
 
     float_cost : Item → ℕ
-    float_cost (float at) = size_of (own at) + unit
+    float_cost (float at) = size_of (own at) + 2 * unit
     float_cost _ = 0
 
     floats-cost : (inside : ℕ → Bounds) (items : List Item) → AllByRecursion (λ k. is_floated_at tree k ≡ true) (float_boxes items) → size_of (together (kid_rise tree own turned greatest_length inside) (float_boxes items)) ≤ costs float_cost items
@@ -176,7 +176,7 @@ module _ (tree : BoxTree) where
         by true h e again = lines-few k
         by false h e again = children h e again
 
-    pub alone-few : (k : ℕ) → k < length tree.boxes → size_of (grown (all_around (32 * (greatest_length + 1))) (content_rise tree own turned greatest_length k)) + unit ≤ unit * load tree k
+    pub alone-few : (k : ℕ) → k < length tree.boxes → size_of (grown (all_around (32 * (greatest_length + 1))) (content_rise tree own turned greatest_length k)) + 2 * unit ≤ unit * load tree k
     alone-few k l = let rise = rise-few (length tree.boxes) k l in let is = load-is k l in omega (arith, rise, is)
 
   -- ---- all boxes together

@@ -69,35 +69,35 @@ tabled-past f low (suc n) (suc k) d l = tabled-past f (low + 1) n k d (omega (ar
 -- ---- a box as it stands in a line
 
 -- the middle of a box, or its baseline, from its top
-abbrev pub base_of : BoxTree → World → ℕ → (ℕ → Alone) → ℕ → ℤ
-base_of tree w height apart k = by_align (own tree k (λ (s : Style). s.valign) of_valign.Baseline)
+abbrev pub base_of : BoxTree → World → (ℕ → Alone) → ℕ → ℤ
+base_of tree w apart k = by_align (own tree k (λ (s : Style). s.valign) of_valign.Baseline)
   where
     by_align : Valign → ℤ
     by_align of_valign.Middle = floor_of (apart k).size.height 2
-    by_align _ = (inner_size tree w height (content_of tree w height apart) apart k).above
+    by_align _ = (inner_size tree w (content_of tree w apart) apart k).above
 
 -- how far that is above the top, where it is
-abbrev pub turn_of : BoxTree → World → ℕ → (ℕ → Alone) → (ℕ → Bounds) → ℕ → ℕ
-turn_of tree w height apart own k = min (unsigned_abs (int_min (base_of tree w height apart k) (pos 0))) (own k).up
+abbrev pub turn_of : BoxTree → World → (ℕ → Alone) → (ℕ → Bounds) → ℕ → ℕ
+turn_of tree w apart own k = min (unsigned_abs (int_min (base_of tree w apart k) (pos 0))) (own k).up
 
-abbrev pub turned_of : BoxTree → World → ℕ → (ℕ → Alone) → (ℕ → Bounds) → ℕ → Bounds
-turned_of tree w height apart own k = record {
-  up = (own k).up - turn_of tree w height apart own k;
-  down = (own k).down + turn_of tree w height apart own k;
+abbrev pub turned_of : BoxTree → World → (ℕ → Alone) → (ℕ → Bounds) → ℕ → Bounds
+turned_of tree w apart own k = record {
+  up = (own k).up - turn_of tree w apart own k;
+  down = (own k).down + turn_of tree w apart own k;
   aside = (own k).aside;
 }
 
 -- ---- the page
 
-module _ (tree : BoxTree) (w : World) (height t : ℕ) (fine : 8 * t ≤ greatest_length)
-    (boxes : (k : ℕ) → IsOnPage tree.boxes k → IsWhole tree k → IsBoxSmall tree w height t k)
-    (lines_small : (own : ℕ → Bounds) (apart : ℕ → Alone) (alone_in : (k : ℕ) → IsAloneIn (own k) greatest_length (apart k)) (n k : ℕ) (left wide : ℤ) → IsSound tree w height k wide → has_line tree k ≡ true
-    → IsContentSmall (line_context tree w height own (turned_of tree w height apart own) greatest_length t fine boxes apart alone_in n k left wide) own (turned_of tree w height apart own) greatest_length) where
+module _ (tree : BoxTree) (w : World) (t : ℕ) (fine : 8 * t ≤ greatest_length)
+    (boxes : (k : ℕ) → IsOnPage tree.boxes k → IsWhole tree k → IsBoxSmall tree w t k)
+    (lines_small : (own : ℕ → Bounds) (apart : ℕ → Alone) (alone_in : (k : ℕ) → IsAloneIn (own k) greatest_length (apart k)) (n k : ℕ) (left wide : ℤ) → IsSound tree w k wide → has_line tree k ≡ true
+    → IsContentSmall (line_context tree w own (turned_of tree w apart own) greatest_length t fine boxes apart alone_in n k left wide) own (turned_of tree w apart own) greatest_length) where
   abbrev pub right : ℕ → Alone
-  right k = landed.alone tree w height (landed.flow tree w height) k (room tree w height k)
+  right k = landed.alone tree w (landed.flow tree w) k (room tree w k)
 
   abbrev pub Good : ℕ → Type 0
-  Good k = IsSound tree w height k (room tree w height k) × IsWhole tree k
+  Good k = IsSound tree w k (room tree w k) × IsWhole tree k
 
   is_good : ℕ → Bool
   is_good k = list_any (λ j. j == k) (page_order tree.boxes) && not (is_fragmented (kind_of tree k))
@@ -167,25 +167,25 @@ module _ (tree : BoxTree) (w : World) (height t : ℕ) (fine : 8 * t ≤ greates
   abbrev pub IsApart : ℕ → ℕ → Type 0
   IsApart c k = (c < k) × Good k
 
-  pub outside-good : (c : ℕ) → IsSound tree w height c (room tree w height c) → AllByRecursion (IsApart c) (outside_of tree c)
+  pub outside-good : (c : ℕ) → IsSound tree w c (room tree w c) → AllByRecursion (IsApart c) (outside_of tree c)
   outside-good c g = by (has_line tree c)
     where
-      own_sound : (k : ℕ) (wide : ℤ) → IsSound tree w height k wide → IsSound tree w height k (room tree w height k)
+      own_sound : (k : ℕ) (wide : ℤ) → IsSound tree w k wide → IsSound tree w k (room tree w k)
       own_sound k wide i = record { page = i.page; room = refl; block = i.block }
 
-      both : (ks : List ℕ) → AllByRecursion (IsFrom tree.boxes (suc c)) ks → AllByRecursion (λ k. IsSound tree w height k (room tree w height k)) ks → AllByRecursion (IsWhole tree) ks → AllByRecursion (IsApart c) ks
+      both : (ks : List ℕ) → AllByRecursion (IsFrom tree.boxes (suc c)) ks → AllByRecursion (λ k. IsSound tree w k (room tree w k)) ks → AllByRecursion (IsWhole tree) ks → AllByRecursion (IsApart c) ks
       both [] f a q = tt
       both (k ∷ ks) f a q = let from = (f.0).from in ((omega (arith, from), (a.0, q.0)), both ks f.1 a.1 q.1)
 
       inner : AllByRecursion (IsApart c) (inner_boxes tree c)
       inner = both (inner_boxes tree c) (inner_boxes-from tree c (forest tree))
-          (All-implied (λ k. IsSound tree w height k (across (content_from (pos 0) (widths tree w height c (room tree w height c))))) (λ k. IsSound tree w height k (room tree w height k)) (inner_boxes tree c) (λ k i. own_sound k _ i) (inner_boxes-sound tree w height c (pos 0) (room tree w height c) g))
-          (inner-whole tree w height (widths tree w height c (room tree w height c)).content (content tree c) (content-items tree w height c (room tree w height c) g))
+          (All-implied (λ k. IsSound tree w k (across (content_from (pos 0) (widths tree w c (room tree w c))))) (λ k. IsSound tree w k (room tree w k)) (inner_boxes tree c) (λ k i. own_sound k _ i) (inner_boxes-sound tree w c (pos 0) (room tree w c) g))
+          (inner-whole tree w (widths tree w c (room tree w c)).content (content tree c) (content-items tree w c (room tree w c) g))
 
       flow : AllByRecursion (IsApart c) (filter (is_floated_at tree) (flow_children tree c))
       flow = both (filter (is_floated_at tree) (flow_children tree c)) (All-filter (IsFrom tree.boxes (suc c)) (is_floated_at tree) (flow_children tree c) (children-from tree c))
-          (All-filter (λ k. IsSound tree w height k (room tree w height k)) (is_floated_at tree) (flow_children tree c) (All-implied _ (λ k. IsSound tree w height k (room tree w height k)) (flow_children tree c) (λ k i. own_sound k _ i.sound) (flow-sound tree w height c (pos 0) (room tree w height c) g)))
-          (All-implied (λ k. IsTrue (is_floated_at tree k)) (IsWhole tree) (filter (is_floated_at tree) (flow_children tree c)) (λ k f. float-whole tree w height k f) (filter-passes (is_floated_at tree) (flow_children tree c)))
+          (All-filter (λ k. IsSound tree w k (room tree w k)) (is_floated_at tree) (flow_children tree c) (All-implied _ (λ k. IsSound tree w k (room tree w k)) (flow_children tree c) (λ k i. own_sound k _ i.sound) (flow-sound tree w c (pos 0) (room tree w c) g)))
+          (All-implied (λ k. IsTrue (is_floated_at tree k)) (IsWhole tree) (filter (is_floated_at tree) (flow_children tree c)) (λ k f. float-whole tree w k f) (filter-passes (is_floated_at tree) (flow_children tree c)))
 
       by : (l : Bool) → AllByRecursion (IsApart c) (elim l as (λ _. List ℕ) [ true ↦ inner_boxes tree c | false ↦ filter (is_floated_at tree) (flow_children tree c) ])
       by true = inner
@@ -205,8 +205,8 @@ module _ (tree : BoxTree) (w : World) (height t : ℕ) (fine : 8 * t ≤ greates
   pub nothing-in : (b : Bounds) → IsAloneIn b greatest_length nothing_alone
   nothing-in b = record { width = omega arith; height = record { top = omega (arith, ints); bottom = omega (arith, ints) }; baseline = tt; boxes = tt }
 
-  pub turned-few : (apart : ℕ → Alone) (own : ℕ → Bounds) → IsFew tree own → IsFew tree (turned_of tree w height apart own)
-  turned-few apart own f k l = let a = f k l in let n = turn (unsigned_abs (int_min (base_of tree w height apart k) (pos 0))) (own k).up in omega (arith, a, n)
+  pub turned-few : (apart : ℕ → Alone) (own : ℕ → Bounds) → IsFew tree own → IsFew tree (turned_of tree w apart own)
+  turned-few apart own f k l = let a = f k l in let n = turn (unsigned_abs (int_min (base_of tree w apart k) (pos 0))) (own k).up in omega (arith, a, n)
     where
       turn : (m n : ℕ) → min m n ≤ n
       turn m n = omega arith
@@ -216,7 +216,7 @@ module _ (tree : BoxTree) (w : World) (height t : ℕ) (fine : 8 * t ≤ greates
     apart k = laid_at (table low) k
 
     abbrev pub turned : ℕ → Bounds
-    turned = turned_of tree w height apart a.own
+    turned = turned_of tree w apart a.own
 
     pub alone_in : (k : ℕ) → IsAloneIn (a.own k) greatest_length (apart k)
     alone_in k = by (apart-from low k)
@@ -226,15 +226,15 @@ module _ (tree : BoxTree) (w : World) (height t : ℕ) (fine : 8 * t ≤ greates
         by (inr e) = subst (IsAloneIn (a.own k) greatest_length) (sym e) (nothing-in (a.own k))
 
     abbrev own_here : Bounds
-    own_here = alone_rise tree w height a.own turned greatest_length t fine boxes apart alone_in (lines_small a.own apart alone_in) low
+    own_here = alone_rise tree w a.own turned greatest_length t fine boxes apart alone_in (lines_small a.own apart alone_in) low
 
     abbrev pub own_now : ℕ → Bounds
     own_now k = elim (k == low) as (λ _. Bounds) [ true ↦ own_here | false ↦ a.own k ]
 
     here-known : Good low → IsAloneIn own_here greatest_length (right low)
     here-known g =
-        subst (IsAloneIn own_here greatest_length) (sym (box-same tree w height (table low) low (λ c m p b. served low c m p b) low (room tree w height low) (omega arith) g.0))
-        (alone-within tree w height a.own turned greatest_length t fine boxes apart alone_in (lines_small a.own apart alone_in) low (room tree w height low) g.0 g.1 l)
+        subst (IsAloneIn own_here greatest_length) (sym (box-same tree w (table low) low (λ c m p b. served low c m p b) low (room tree w low) (omega arith) g.0))
+        (alone-within tree w a.own turned greatest_length t fine boxes apart alone_in (lines_small a.own apart alone_in) low (room tree w low) g.0 g.1 l)
 
     one-more : AreKnown low
     one-more = record { own = own_now; known = known; few = few }
@@ -249,8 +249,8 @@ module _ (tree : BoxTree) (w : World) (height t : ℕ) (fine : 8 * t ≤ greates
         few : IsFew tree own_now
         few k m = by (k == low) refl
           where
-            by : (b : Bool) → (k == low) ≡ b → size_of (elim b as (λ _. Bounds) [ true ↦ own_here | false ↦ a.own k ]) + unit ≤ unit * load tree k
-            by true e = let same : low ≡ k = grind (arith, nat_tests) in subst (λ (x : ℕ). size_of own_here + unit ≤ unit * load tree x) same (alone-few tree a.own turned a.few (turned-few apart a.own a.few) low l)
+            by : (b : Bool) → (k == low) ≡ b → size_of (elim b as (λ _. Bounds) [ true ↦ own_here | false ↦ a.own k ]) + 2 * unit ≤ unit * load tree k
+            by true e = let same : low ≡ k = grind (arith, nat_tests) in subst (λ (x : ℕ). size_of own_here + 2 * unit ≤ unit * load tree x) same (alone-few tree a.own turned a.few (turned-few apart a.own a.few) low l)
             by false e = a.few k m
 
   none-known : AreKnown (length tree.boxes)

@@ -210,26 +210,26 @@ module _ (tree : BoxTree) (w : World) (k : ℕ) (cb : ℤ) (most : ℕ) where
           by (Some v) e = subst (λ (o : Option ℤ). AreWidthsSmall most (at_least (shrunk_terms tree w k cb) least_width (at_most (shrunk_terms tree w k cb) greatest_width (shrunk_terms tree w k cb o)))) (sym e)
               (held-small (shrunk_terms tree w k cb) around-small (λ v. refl) least_width least_in greatest_width (terms_around tree w k cb v) (around-small v (given v e)) (given v e))
 
-      pub widths-small : (height : ℕ) → Within (preferred tree w k).least → Within (preferred tree w k).most → Within (replaced_size tree w height k cb).width → AreWidthsSmall most (widths tree w height k cb)
+      pub widths-small : Within (preferred tree w k).least → Within (preferred tree w k).most → Within (replaced_size tree w k cb).width → AreWidthsSmall most (widths tree w k cb)
       unfolding widths
-      widths-small height pl pm r = by (placing_of tree k)
+      widths-small pl pm r = by (placing_of tree k)
         where
           by : (p : Placing) → AreWidthsSmall most (elim p as (λ _. Widths ℤ) [
             | block_flow ↦ flow_widths tree w k cb
             | shrunk ↦ held_terms tree w k cb (shrunk_terms tree w k cb)
-            | replaced_block ↦ fixed_terms tree w k cb (replaced_size tree w height k cb).width
-            | replaced_shrunk ↦ terms_around tree w k cb (replaced_size tree w height k cb).width
+            | replaced_block ↦ fixed_terms tree w k cb (replaced_size tree w k cb).width
+            | replaced_shrunk ↦ terms_around tree w k cb (replaced_size tree w k cb).width
           ])
           by block_flow = flow-small
           by shrunk = shrunk-small pl pm
-          by replaced_block = fixed-small (replaced_size tree w height k cb).width r
-          by replaced_shrunk = around-small (replaced_size tree w height k cb).width r
+          by replaced_block = fixed-small (replaced_size tree w k cb).width r
+          by replaced_shrunk = around-small (replaced_size tree w k cb).width r
 
 -- ---- a box
 
-pub box-small : (tree : BoxTree) (w : World) (height most k : ℕ) → ArePropertiesSmall tree w height most k → IsBoxSmall tree w height most k
-box-small tree w height most k p = record {
-  widths = widths-small tree w k cb most p.edges p.width p.least height p.preferred_least p.preferred_most p.replaced_width;
+pub box-small : (tree : BoxTree) (w : World) (most k : ℕ) → ArePropertiesSmall tree w most k → IsBoxSmall tree w most k
+box-small tree w most k p = record {
+  widths = widths-small tree w k cb most p.edges p.width p.least p.preferred_least p.preferred_most p.replaced_width;
   flow = flow-small tree w k cb most p.edges p.width p.least;
   sides = p.sides;
   held = held_in;
@@ -237,10 +237,10 @@ box-small tree w height most k p = record {
 }
   where
     cb : ℤ
-    cb = room tree w height k
+    cb = room tree w k
 
     around : Option ℤ
-    around = definite_height tree w height k
+    around = definite_height tree w k
 
     greatest : Option ℤ
     greatest = maximum (height_around tree w around) (own tree k (λ (s : Style). s.max_height) None)
@@ -248,7 +248,7 @@ box-small tree w height most k p = record {
     least : ℤ
     least = unwrap_or (height_around tree w around (least_height tree k)) (pos 0)
 
-    by : (auto : ℤ) (o : Option ℤ) → given_height tree w height k ≡ o → IsHeightHeld most auto (held_height tree w height k (unwrap_or o auto))
+    by : (auto : ℤ) (o : Option ℤ) → given_height tree w k ≡ o → IsHeightHeld most auto (held_height tree w k (unwrap_or o auto))
     by auto None e =
         let from = held-from greatest least auto in
         let to = held-to greatest least auto in
@@ -261,5 +261,5 @@ box-small tree w height most k p = record {
         let g = p.given_height h e in
         record { from = omega (arith, ints, from, l); to = omega (arith, ints, clamps, to, l, g) }
 
-    held_in : (auto : ℤ) → IsHeightHeld most auto (content_height tree w height k auto)
-    held_in auto = by auto (given_height tree w height k) refl
+    held_in : (auto : ℤ) → IsHeightHeld most auto (content_height tree w k auto)
+    held_in auto = by auto (given_height tree w k) refl

@@ -55,18 +55,18 @@ collapse-small s run r = let a = r.most in let b = r.least in omega (arith, ints
 pub level-near : (b : Bounds) (n : ℕ) (y z : ℤ) → IsLevelIn b y → unsigned_abs z ≤ n → IsLevelIn (grown b (all_around n)) (y +ℤ z)
 level-near b n y z h l = let t = h.top in let u = h.bottom in record { top = omega (arith, ints, l); bottom = omega (arith, ints, l) }
 
-module _ (tree : BoxTree) (w : World) (height : ℕ) (own turned : ℕ → Bounds) (s t : ℕ) (fine : 8 * t ≤ s)
-    (boxes : (k : ℕ) → IsOnPage tree.boxes k → IsWhole tree k → IsBoxSmall tree w height t k) where
+module _ (tree : BoxTree) (w : World) (own turned : ℕ → Bounds) (s t : ℕ) (fine : 8 * t ≤ s)
+    (boxes : (k : ℕ) → IsOnPage tree.boxes k → IsWhole tree k → IsBoxSmall tree w t k) where
   abbrev rises : ℕ → Bounds
   rises k = rise tree own turned s k
 
   abbrev Kid : Band ℤ → ℕ → Type 0
-  Kid cb k = IsFlowKid tree w height k (across cb)
+  Kid cb k = IsFlowKid tree w k (across cb)
 
   pub margin-small : (cb : Band ℤ) (k : ℕ) → Kid cb k → is_floated_at tree k ≡ false → IsSmall s (margin_above tree w cb k) × IsSmall s (margin_below tree w cb k)
   unfolding margin_above margin_below
   margin-small cb k i f =
-      let v = subst (λ (z : ℤ). AreSidesSmall t (verticals tree w k z)) (sym i.sound.room) (boxes k i.sound.page (flow-whole tree w height k (i.flow f))).sides in
+      let v = subst (λ (z : ℤ). AreSidesSmall t (verticals tree w k z)) (sym i.sound.room) (boxes k i.sound.page (flow-whole tree w k (i.flow f))).sides in
       let a = v.margin_top in
       let b = v.margin_bottom in
       (omega (arith, a, fine), omega (arith, b, fine))
@@ -74,7 +74,7 @@ module _ (tree : BoxTree) (w : World) (height : ℕ) (own turned : ℕ → Bound
   inner-band-in : (b : Bounds) (cb : Band ℤ) (k : ℕ) → Kid cb k → is_floated_at tree k ≡ false → IsBandIn b cb → IsBandIn (grown b (all_around (16 * s))) (inner_band tree w cb k)
   unfolding inner_band
   inner-band-in b cb k i f band =
-      let x = subst (λ (z : ℤ). AreWidthsSmall t (flow_widths tree w k z)) (sym i.sound.room) (boxes k i.sound.page (flow-whole tree w height k (i.flow f))).flow in
+      let x = subst (λ (z : ℤ). AreWidthsSmall t (flow_widths tree w k z)) (sym i.sound.room) (boxes k i.sound.page (flow-whole tree w k (i.flow f))).flow in
       let a = x.margin_left in let c = x.border_left in let d = x.padding_left in let e = x.content in
       let l = band.left in
       record { left = omega (arith, ints, a, c, d, l, fine); right = omega (arith, ints, a, c, d, e, l, fine) }
@@ -324,7 +324,7 @@ module _ (tree : BoxTree) (w : World) (height : ℕ) (own turned : ℕ → Bound
               by_enter false e = record { run = after_low; end = tt }
               by_enter true e =
                   closed-in b k inner.run inner.waiting inner.end l f (enters-no-line tree k e)
-                  (kids-in p n again opened (inner_band tree w cb k) (flow_children tree k) after ws (lead-sound tree w height cb k i f e)
+                  (kids-in p n again opened (inner_band tree w cb k) (flow_children tree k) after ws (lead-sound tree w cb k i f e)
                   (All-implied (IsFrom tree.boxes (suc k)) (λ j. j < length tree.boxes) (flow_children tree k) (λ j h. h.within) (children-from tree k)) (flow-rises tree k)
                   (inner-band-in b cb k i f band_in) after_low (waits-wider b opened ws (inside-grown b (all_around (16 * s))) d))
 

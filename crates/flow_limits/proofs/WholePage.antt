@@ -55,40 +55,40 @@ module _ (tree : BoxTree) where
       by None = refl
       by (Some b) = refl
 
-  pub rank-is : (n : ℕ) → rank tree n ≡ 2 * n + sum_before letters_at n
+  pub rank-is : (n : ℕ) → rank tree n ≡ 4 * n + sum_before letters_at n
   rank-is zero = refl
   rank-is (suc n) = let rest = rank-is n in let one = same-letters n in omega (arith, rest, one)
 
-  pub few : length tree.boxes ≤ 16384 → sum_by (λ (b : BoxNode). length (chars b.chars)) tree.boxes ≤ 262144 → rank tree (length tree.boxes) ≤ 294912
+  pub few : length tree.boxes ≤ 16384 → sum_by (λ (b : BoxNode). length (chars b.chars)) tree.boxes ≤ 524288 → rank tree (length tree.boxes) ≤ 589824
   unfolding letters_at
   few l m = let all = rank-is (length tree.boxes) in let sum = of-list (λ (b : BoxNode). length (chars b.chars)) tree.boxes in omega (arith, all, sum, l, m)
 
 -- ---- the page
 
-module _ (tree : BoxTree) (w : World) (height : ℕ) (root_whole : IsWhole tree 0) (boxes : (k : ℕ) → IsOnPage tree.boxes k → IsWhole tree k → ArePropertiesSmall tree w height (2 ^ 42) k) (terms : (k : ℕ) → IsOnPage tree.boxes k → IsInlineBoxSmall tree w height (2 ^ 42) k)
+module _ (tree : BoxTree) (w : World) (root_whole : IsWhole tree 0) (boxes : (k : ℕ) → IsOnPage tree.boxes k → IsWhole tree k → ArePropertiesSmall tree w (2 ^ 42) k) (terms : (k : ℕ) → IsOnPage tree.boxes k → IsInlineBoxSmall tree w (2 ^ 42) k)
     (raises : AreRaisesSmall tree w (2 ^ 42)) where
-  pub root-room : room tree w height 0 ≡ pos (64 * w.w)
+  pub root-room : room tree w 0 ≡ pos (64 * w.w)
   unfolding room_to
-  root-room = ap (λ (o : Option ℕ). option_map_or (λ parent. room_inside tree w height parent (room_to 0 tree w height parent)) o (pos (64 * w.w))) (root-alone tree)
+  root-room = ap (λ (o : Option ℕ). option_map_or (λ parent. room_inside tree w parent (room_to 0 tree w parent)) o (pos (64 * w.w))) (root-alone tree)
 
-  pub root-within : IsOnPage tree.boxes 0 → length tree.boxes ≤ 16384 → sum_by (λ (b : BoxNode). length (chars b.chars)) tree.boxes ≤ 262144
-      → AllByRecursion (IsPlacedIn (all_around (2 ^ 70))) (whole_alone tree w height 0 (room tree w height 0)).boxes
+  pub root-within : IsOnPage tree.boxes 0 → length tree.boxes ≤ 16384 → sum_by (λ (b : BoxNode). length (chars b.chars)) tree.boxes ≤ 524288
+      → AllByRecursion (IsPlacedIn (all_around (2 ^ 70))) (whole_alone tree w 0 (room tree w 0)).boxes
   root-within p l m =
-      let k = known-in tree w height (2 ^ 42) (omega arith) (λ k p q. box-small tree w height (2 ^ 42) k (boxes k p q))
-      (λ own apart alone_in n k left wide i e. content-small tree w height (2 ^ 42) (omega arith) (λ k p q. box-small tree w height (2 ^ 42) k (boxes k p q)) terms raises.raises raises.each raises.all own apart alone_in n k left wide i) 0 (record { page = p; room = refl; block = root_no_inline tree }, root_whole) in
+      let k = known-in tree w (2 ^ 42) (omega arith) (λ k p q. box-small tree w (2 ^ 42) k (boxes k p q))
+      (λ own apart alone_in n k left wide i e. content-small tree w (2 ^ 42) (omega arith) (λ k p q. box-small tree w (2 ^ 42) k (boxes k p q)) terms raises.raises raises.each raises.all own apart alone_in n k left wide i) 0 (record { page = p; room = refl; block = root_no_inline tree }, root_whole) in
       let size = k.few in
       let all = few tree l m in
-      boxes-wider k.own (all_around (2 ^ 70)) (whole_alone tree w height 0 (room tree w height 0)).boxes (record { up = omega (arith, size, all); down = omega (arith, size, all); aside = omega (arith, size, all) }) k.inside.boxes
+      boxes-wider k.own (all_around (2 ^ 70)) (whole_alone tree w 0 (room tree w 0)).boxes (record { up = omega (arith, size, all); down = omega (arith, size, all); aside = omega (arith, size, all) }) k.inside.boxes
 
   abbrev rendered : List BoxNode → Rendering ℤ
-  rendered l = elim l as (λ _. Rendering ℤ) [ [] ↦ record { boxes = [] } | root ∷ rest ↦ record { boxes = (whole_alone tree w height 0 (pos (64 * w.w))).boxes } ]
+  rendered l = elim l as (λ _. Rendering ℤ) [ [] ↦ record { boxes = [] } | root ∷ rest ↦ record { boxes = (whole_alone tree w 0 (pos (64 * w.w))).boxes } ]
 
-  pub page-within : length tree.boxes ≤ 16384 → sum_by (λ (b : BoxNode). length (chars b.chars)) tree.boxes ≤ 262144 → AllByRecursion (IsPlacedIn (all_around (2 ^ 70))) (page_rendering tree w height).boxes
+  pub page-within : length tree.boxes ≤ 16384 → sum_by (λ (b : BoxNode). length (chars b.chars)) tree.boxes ≤ 524288 → AllByRecursion (IsPlacedIn (all_around (2 ^ 70))) (page_rendering tree w).boxes
   page-within l m = by tree.boxes refl
     where
-      by : (bs : List BoxNode) → tree.boxes ≡ bs → AllByRecursion (IsPlacedIn (all_around (2 ^ 70))) (page_rendering tree w height).boxes
+      by : (bs : List BoxNode) → tree.boxes ≡ bs → AllByRecursion (IsPlacedIn (all_around (2 ^ 70))) (page_rendering tree w).boxes
       by [] e = subst (λ (bs : List BoxNode). AllByRecursion (IsPlacedIn (all_around (2 ^ 70))) (rendered bs).boxes) (sym e) tt
       by (b ∷ bs) e =
           let page : IsOnPage tree.boxes 0 = IsOnPage.root 0 (subst (λ (l : List BoxNode). Contains (roots l) 0) (sym e) (0, omega arith, refl)) in
           subst (λ (bs : List BoxNode). AllByRecursion (IsPlacedIn (all_around (2 ^ 70))) (rendered bs).boxes) (sym e)
-          (subst (λ (z : ℤ). AllByRecursion (IsPlacedIn (all_around (2 ^ 70))) (whole_alone tree w height 0 z).boxes) root-room (root-within page l m))
+          (subst (λ (z : ℤ). AllByRecursion (IsPlacedIn (all_around (2 ^ 70))) (whole_alone tree w 0 z).boxes) root-room (root-within page l m))

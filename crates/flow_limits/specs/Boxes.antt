@@ -55,12 +55,12 @@ pub record IsHeightHeld (t : ℕ) (auto height : ℤ) : Type 0 where
   pub to : height ≤ℤ int_max auto (pos t)
 
 -- the terms of a box
-pub record IsBoxSmall (tree : BoxTree) (w : World) (height t k : ℕ) : Type 0 where
-  pub widths : AreWidthsSmall t (widths tree w height k (room tree w height k))
-  pub flow : AreWidthsSmall t (flow_widths tree w k (room tree w height k))
-  pub sides : AreSidesSmall t (verticals tree w k (room tree w height k))
-  pub held : (auto : ℤ) → IsHeightHeld t auto (content_height tree w height k auto)
-  pub replaced : IsSmall t (replaced_size tree w height k (room tree w height k)).height
+pub record IsBoxSmall (tree : BoxTree) (w : World) (t k : ℕ) : Type 0 where
+  pub widths : AreWidthsSmall t (widths tree w k (room tree w k))
+  pub flow : AreWidthsSmall t (flow_widths tree w k (room tree w k))
+  pub sides : AreSidesSmall t (verticals tree w k (room tree w k))
+  pub held : (auto : ℤ) → IsHeightHeld t auto (content_height tree w k auto)
+  pub replaced : IsSmall t (replaced_size tree w k (room tree w k)).height
 
 -- a box in coordinates of its own
 pub record IsAloneIn (own : Bounds) (s : ℕ) (a : Alone) : Type 0 where
@@ -84,13 +84,13 @@ middle_of c at e = by_align (own c.tree at (λ (s : Style). s.valign) of_valign.
     by_align _ = pos 0
 
 -- the terms of a box in lines, whichever these are
-pub record IsInlineBoxSmall (tree : BoxTree) (w : World) (height t k : ℕ) : Type 0 where
+pub record IsInlineBoxSmall (tree : BoxTree) (w : World) (t k : ℕ) : Type 0 where
   pub ascent : IsSmall t (ascent tree w (node_of tree k))
   pub descent : IsSmall t (descent tree w (node_of tree k))
   pub above : IsSmall t (inline_extent tree w (node_of tree k)).above
   pub below : IsSmall t (inline_extent tree w (node_of tree k)).below
   pub edges : is_inline (kind_of tree k) ≡ true
-      → AllByRecursion (λ length. IsSmall t (used tree w length (room tree w height k)))
+      → AllByRecursion (λ length. IsSmall t (used tree w length (room tree w k)))
       (sides_of (paddings tree k) ++ (sides_of (borders tree k) ++ sides_of (margins tree k)))
   pub text : (part : List ℕ) → IsPartOf part (text_of tree k) → IsSmall t (text_width tree w (node_of tree k) part)
 
@@ -107,19 +107,19 @@ abbrev pub IsWidthWithin : BoxTree → World → ℕ → ℤ → ℕ → ℤ →
 IsWidthWithin tree w k cb most width = unsigned_abs cb + edges_at tree w k cb + unsigned_abs width ≤ most
 
 -- what a box's properties give is at most so large
-pub record ArePropertiesSmall (tree : BoxTree) (w : World) (height most k : ℕ) : Type 0 where
-  pub edges : 2 * (unsigned_abs (room tree w height k) + edges_at tree w k (room tree w height k)) ≤ most
+pub record ArePropertiesSmall (tree : BoxTree) (w : World) (most k : ℕ) : Type 0 where
+  pub edges : 2 * (unsigned_abs (room tree w k) + edges_at tree w k (room tree w k)) ≤ most
   pub width : (v : ℤ)
-      → used_unless_auto tree w (own tree k (λ (s : Style). s.width) of_length.Auto) (room tree w height k) ≡ Some v
-      → IsWidthWithin tree w k (room tree w height k) most v
-  pub least : IsWidthWithin tree w k (room tree w height k) most
-      (used tree w (own tree k (λ (s : Style). s.min_width) nothing) (room tree w height k))
-  pub preferred_least : IsWidthWithin tree w k (room tree w height k) most (preferred tree w k).least
-  pub preferred_most : IsWidthWithin tree w k (room tree w height k) most (preferred tree w k).most
+      → used_unless_auto tree w (own tree k (λ (s : Style). s.width) of_length.Auto) (room tree w k) ≡ Some v
+      → IsWidthWithin tree w k (room tree w k) most v
+  pub least : IsWidthWithin tree w k (room tree w k) most
+      (used tree w (own tree k (λ (s : Style). s.min_width) nothing) (room tree w k))
+  pub preferred_least : IsWidthWithin tree w k (room tree w k) most (preferred tree w k).least
+  pub preferred_most : IsWidthWithin tree w k (room tree w k) most (preferred tree w k).most
   pub replaced_width
-      : IsWidthWithin tree w k (room tree w height k) most (replaced_size tree w height k (room tree w height k)).width
-  pub replaced_height : IsSmall most (replaced_size tree w height k (room tree w height k)).height
-  pub sides : AreSidesSmall most (verticals tree w k (room tree w height k))
-  pub given_height : (h : ℤ) → given_height tree w height k ≡ Some h → IsSmall most h
+      : IsWidthWithin tree w k (room tree w k) most (replaced_size tree w k (room tree w k)).width
+  pub replaced_height : IsSmall most (replaced_size tree w k (room tree w k)).height
+  pub sides : AreSidesSmall most (verticals tree w k (room tree w k))
+  pub given_height : (h : ℤ) → given_height tree w k ≡ Some h → IsSmall most h
   pub least_height : IsSmall most
-      (unwrap_or (height_around tree w (definite_height tree w height k) (least_height tree k)) (pos 0))
+      (unwrap_or (height_around tree w (definite_height tree w k) (least_height tree k)) (pos 0))

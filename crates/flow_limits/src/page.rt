@@ -13,13 +13,13 @@ use viz_base::{BoxTree, World};
 /// units in size (its lengths in its containing block, its preferred widths, its fonts and the widths of its words),
 /// and so is its raise together with those of the inline boxes around it, each edge of each rectangle of the rendering
 /// is at most 2^70 units in size, however floats, clearance, lines, contexts and boxes in boxes come together.
-pub fn coordinates_are_small_where_properties_are(tree: &BoxTree, world: World, height: u32)
+pub fn coordinates_are_small_where_properties_are(tree: &BoxTree, world: World)
     requires few_boxes { length tree.now.boxes ≤ 16384 }
-    requires few_characters { sum_by (λ (b : BoxNode). length (chars b.chars)) tree.now.boxes ≤ 262144 }
+    requires few_characters { sum_by (λ (b : BoxNode). length (chars b.chars)) tree.now.boxes ≤ 524288 }
     requires root { IsWhole tree.now 0 }
     requires boxes { (k : ℕ) → IsOnPage tree.now.boxes k → IsWhole tree.now k
-        → ArePropertiesSmall tree.now world height (2 ^ 42) k }
+        → ArePropertiesSmall tree.now world (2 ^ 42) k }
     requires raises { AreRaisesSmall tree.now world (2 ^ 42) }
-    requires lines { (k : ℕ) → IsOnPage tree.now.boxes k → IsInlineBoxSmall tree.now world height (2 ^ 42) k }
-    ensures { AllByRecursion (IsPlacedIn (all_around (2 ^ 70))) (page_rendering tree.now world height).boxes }
+    requires lines { (k : ℕ) → IsOnPage tree.now.boxes k → IsInlineBoxSmall tree.now world (2 ^ 42) k }
+    ensures { AllByRecursion (IsPlacedIn (all_around (2 ^ 70))) (page_rendering tree.now world).boxes }
 {}

@@ -52,56 +52,56 @@ module _ (tree : BoxTree) (w : World) (size : Waiting ℤ → Extent ℤ) (base 
 
 -- ---- the steps through what is in a box
 
-module _ (tree : BoxTree) (w : World) (height : ℕ) (apart : ℕ → Alone) (f g : ℕ → Band ℤ → ℤ → Context → Step) (b : ℕ)
+module _ (tree : BoxTree) (w : World) (apart : ℕ → Alone) (f g : ℕ → Band ℤ → ℤ → Context → Step) (b : ℕ)
     (same : (k : ℕ) → IsFrom tree.boxes (suc b) k → (cb : Band ℤ) (top : ℤ) (s : Context) → f k cb top s ≡ g k cb top s) where
-  laid-same : (cb : Band ℤ) (s : Context) (k : ℕ) (r : Reached) → IsFrom tree.boxes (suc b) k → laid tree w height f apart cb s k r ≡ laid tree w height g apart cb s k r
+  laid-same : (cb : Band ℤ) (s : Context) (k : ℕ) (r : Reached) → IsFrom tree.boxes (suc b) k → laid tree w f apart cb s k r ≡ laid tree w g apart cb s k r
   laid-same cb s k r h = by (is_replaced_at tree k) (is_context_root tree k) (is_open_above tree k) refl refl refl
     where
       frame : Frame
-      frame = frame_at tree w height k (across cb) cb.left r.top
+      frame = frame_at tree w k (across cb) cb.left r.top
 
       by : (replaced context opens : Bool) → is_replaced_at tree k ≡ replaced → is_context_root tree k ≡ context → is_open_above tree k ≡ opens
-          → laid tree w height f apart cb s k r ≡ laid tree w height g apart cb s k r
+          → laid tree w f apart cb s k r ≡ laid tree w g apart cb s k r
       by true context opens d e o = rw d refl
       by false true opens d e o = rw (d, e, same k h (content_from cb.left frame.x) (content_top frame) (fresh (content_top frame))) refl
-      by false false true d e o = rw (d, e, o, same k h (content_from cb.left frame.x) (content_top frame) (opened tree w height f apart s frame (at_top frame.corner.y r.cleared))) refl
-      by false false false d e o = rw (d, e, o, same k h (content_from cb.left frame.x) (content_top frame) (opened tree w height f apart s frame (below (content_top frame) no_run false))) refl
+      by false false true d e o = rw (d, e, o, same k h (content_from cb.left frame.x) (content_top frame) (opened tree w f apart s frame (at_top frame.corner.y r.cleared))) refl
+      by false false false d e o = rw (d, e, o, same k h (content_from cb.left frame.x) (content_top frame) (opened tree w f apart s frame (below (content_top frame) no_run false))) refl
 
-  child-same : (cb : Band ℤ) (top : ℤ) (s : Context) (k : ℕ) → IsFrom tree.boxes (suc b) k → child tree w height f apart cb top s k ≡ child tree w height g apart cb top s k
+  child-same : (cb : Band ℤ) (top : ℤ) (s : Context) (k : ℕ) → IsFrom tree.boxes (suc b) k → child tree w f apart cb top s k ≡ child tree w g apart cb top s k
   child-same cb top s k h = by (is_floated_at tree k) refl
     where
-      by : (x : Bool) → is_floated_at tree k ≡ x → child tree w height f apart cb top s k ≡ child tree w height g apart cb top s k
+      by : (x : Bool) → is_floated_at tree k ≡ x → child tree w f apart cb top s k ≡ child tree w g apart cb top s k
       by true e = rw e refl
       by false e =
-          let r = reached tree w height g apart cb s k in
-          rw e (ap (λ (l : Laid). step (record l.after.context { standing = standing_after tree w height g apart cb s.standing k (met r (own_run tree w height g apart cb s k r)) l }) l.after.boxes) (laid-same cb s k r h))
+          let r = reached tree w g apart cb s k in
+          rw e (ap (λ (l : Laid). step (record l.after.context { standing = standing_after tree w g apart cb s.standing k (met r (own_run tree w g apart cb s k r)) l }) l.after.boxes) (laid-same cb s k r h))
 
   children-same : (cb : Band ℤ) (top : ℤ) (s : Context) (ks : List ℕ) → AllByRecursion (IsFrom tree.boxes (suc b)) ks
-      → children (child tree w height f apart cb top) s ks ≡ children (child tree w height g apart cb top) s ks
+      → children (child tree w f apart cb top) s ks ≡ children (child tree w g apart cb top) s ks
   children-same cb top s [] a = refl
   children-same cb top s (k ∷ ks) a =
-      let next = child tree w height g apart cb top s k in
-      ap (λ (t : Step). followed t (children (child tree w height f apart cb top) t.context ks)) (child-same cb top s k a.0)
+      let next = child tree w g apart cb top s k in
+      ap (λ (t : Step). followed t (children (child tree w f apart cb top) t.context ks)) (child-same cb top s k a.0)
       ∙ ap (followed next) (children-same cb top next.context ks a.1)
 
-  step-same : (cb : Band ℤ) (top : ℤ) (s : Context) → content_step tree w height f apart b cb top s ≡ content_step tree w height g apart b cb top s
+  step-same : (cb : Band ℤ) (top : ℤ) (s : Context) → content_step tree w f apart b cb top s ≡ content_step tree w g apart b cb top s
   step-same cb top s = by (has_line tree b) refl
     where
-      by : (x : Bool) → has_line tree b ≡ x → content_step tree w height f apart b cb top s ≡ content_step tree w height g apart b cb top s
+      by : (x : Bool) → has_line tree b ≡ x → content_step tree w f apart b cb top s ≡ content_step tree w g apart b cb top s
       by true e = rw e refl
       by false e = rw e (children-same cb top s (flow_children tree b) (children-from tree b))
 
-module _ (tree : BoxTree) (w : World) (height : ℕ) (apart : ℕ → Alone) where
+module _ (tree : BoxTree) (w : World) (apart : ℕ → Alone) where
   content-enough : (n m b : ℕ) (cb : Band ℤ) (top : ℤ) (s : Context) → b < length tree.boxes → length tree.boxes ≤ n + b → length tree.boxes ≤ m + b
-      → content_to tree w height apart n b cb top s ≡ content_to tree w height apart m b cb top s
+      → content_to tree w apart n b cb top s ≡ content_to tree w apart m b cb top s
   unfolding content_to
   content-enough zero m b cb top s l i j = absurd (omega arith)
   content-enough (suc n) zero b cb top s l i j = absurd (omega arith)
   content-enough (suc n) (suc m) b cb top s l i j =
-      step-same tree w height apart (content_to tree w height apart n) (content_to tree w height apart m) b
+      step-same tree w apart (content_to tree w apart n) (content_to tree w apart m) b
       (λ k h cb top s. let after = h.from in content-enough n m k cb top s h.within (omega arith) (omega arith)) cb top s
 
   pub content-is : (b : ℕ) (cb : Band ℤ) (top : ℤ) (s : Context) → b < length tree.boxes
-      → content_of tree w height apart b cb top s ≡ content_step tree w height (content_of tree w height apart) apart b cb top s
+      → content_of tree w apart b cb top s ≡ content_step tree w (content_of tree w apart) apart b cb top s
   unfolding content_to
   content-is b cb top s l = content-enough (length tree.boxes) (suc (length tree.boxes)) b cb top s l (omega arith) (omega arith)

@@ -141,24 +141,24 @@ enters-no-line tree k e = by (is_open_above tree k) (has_line tree k) e
     by true true e = absurd (cc)
     by false true e = absurd (cc)
 
-module _ (tree : BoxTree) (w : World) (height : ℕ) where
+module _ (tree : BoxTree) (w : World) where
   -- a box on the page that is a containing block, in one that is as wide as the tree says
   pub record IsSound (k : ℕ) (wide : ℤ) : Type 0 where
     pub page : IsOnPage tree.boxes k
-    pub room : wide ≡ room tree w height k
+    pub room : wide ≡ room tree w k
     pub block : is_inline (kind_of tree k) ≡ false
 
   -- the width of what is in it
   abbrev pub inner_width : ℕ → ℤ → ℤ
-  inner_width b wide = (widths tree w height b wide).content
+  inner_width b wide = (widths tree w b wide).content
 
   band-wide : (left : ℤ) (x : Widths ℤ) → across (content_from left x) ≡ x.content
   band-wide left x = omega (arith, ints)
 
-  room-in : (b k : ℕ) (wide : ℤ) → IsSound b wide → Contains (kids_of tree.boxes b) k → room tree w height k ≡ inner_width b wide
+  room-in : (b k : ℕ) (wide : ℤ) → IsSound b wide → Contains (kids_of tree.boxes b) k → room tree w k ≡ inner_width b wide
   room-in b k wide s c =
-      room-by-parent tree w height b k s.page c
-      ∙ ap (λ (i : Bool). cond i (room tree w height b) (inner_width b (room tree w height b))) s.block
+      room-by-parent tree w b k s.page c
+      ∙ ap (λ (i : Bool). cond i (room tree w b) (inner_width b (room tree w b))) s.block
       ∙ ap (inner_width b) (sym s.room)
 
   -- ---- boxes of inline content
@@ -190,7 +190,7 @@ module _ (tree : BoxTree) (w : World) (height : ℕ) where
   each-sound wide f [] own = tt
   each-sound wide f (k ∷ ks) own = all_append (ItemSound wide) (f k) (flat_map f ks) own.0 (each-sound wide f ks own.1)
 
-  sort-sound : (at : ℕ) (wide : ℤ) (inside : List Item) (s : Sort) → sort_of tree at ≡ s → IsOnPage tree.boxes at → room tree w height at ≡ wide
+  sort-sound : (at : ℕ) (wide : ℤ) (inside : List Item) (s : Sort) → sort_of tree at ≡ s → IsOnPage tree.boxes at → room tree w at ≡ wide
       → (s ≡ an_inline → AllByRecursion (ItemSound wide) inside) → AllByRecursion (ItemSound wide) (items_of_sort tree at inside s)
   sort-sound at wide inside a_float e p r a = (record { page = p; room = sym r; block = floated-kind tree at (sort-float (is_floated_at tree at) (kind_of tree at) e) }, tt)
   sort-sound at wide inside an_atomic e p r a = (record { page = p; room = sym r; block = sort-kind (is_floated_at tree at) (kind_of tree at) e }, tt)
@@ -198,14 +198,14 @@ module _ (tree : BoxTree) (w : World) (height : ℕ) where
   sort-sound at wide inside a_text e p r a = text-sound wide at (text_of tree at)
   sort-sound at wide inside an_inline e p r a = (tt, all_append (ItemSound wide) inside (finish at ∷ []) (a refl) (tt, tt))
 
-  items-sound : (n at : ℕ) (wide : ℤ) → IsOnPage tree.boxes at → room tree w height at ≡ wide → AllByRecursion (ItemSound wide) (items_to n tree at)
+  items-sound : (n at : ℕ) (wide : ℤ) → IsOnPage tree.boxes at → room tree w at ≡ wide → AllByRecursion (ItemSound wide) (items_to n tree at)
   unfolding items_to
   items-sound zero at wide p r = tt
   items-sound (suc n) at wide p r = sort-sound at wide (flat_map (items_to n tree) (kids_of tree.boxes at)) (sort_of tree at) refl p r (λ e.
       each-sound wide (items_to n tree) (kids_of tree.boxes at) (members (λ k. AllByRecursion (ItemSound wide) (items_to n tree k)) (kids_of tree.boxes at) (kids_of tree.boxes at) (λ x c. c) (λ k c.
       items-sound n k wide (IsOnPage.inside at k p c)
-      (room-by-parent tree w height at k p c
-      ∙ ap (λ (i : Bool). cond i (room tree w height at) (inner_width at (room tree w height at))) (sort-inline (is_floated_at tree at) (kind_of tree at) e) ∙ r))))
+      (room-by-parent tree w at k p c
+      ∙ ap (λ (i : Bool). cond i (room tree w at) (inner_width at (room tree w at))) (sort-inline (is_floated_at tree at) (kind_of tree at) e) ∙ r))))
 
   content-sound : (b : ℕ) (wide : ℤ) → IsSound b wide → AllByRecursion (ItemSound (inner_width b wide)) (content tree b)
   content-sound b wide s = each-sound (inner_width b wide) (items_to (length tree.boxes) tree) (kids_of tree.boxes b)
@@ -232,10 +232,10 @@ module _ (tree : BoxTree) (w : World) (height : ℕ) where
   inners-sound wide (forced at ∷ items) a = inners-sound wide items a.1
   inners-sound wide (float at ∷ items) a = (a.0, inners-sound wide items a.1)
 
-  pub inner_boxes-sound : (b : ℕ) (left wide : ℤ) → IsSound b wide → AllByRecursion (λ k. IsSound k (across (content_from left (widths tree w height b wide)))) (inner_boxes tree b)
+  pub inner_boxes-sound : (b : ℕ) (left wide : ℤ) → IsSound b wide → AllByRecursion (λ k. IsSound k (across (content_from left (widths tree w b wide)))) (inner_boxes tree b)
   inner_boxes-sound b left wide s =
-      All-implied (λ k. IsSound k (inner_width b wide)) (λ k. IsSound k (across (content_from left (widths tree w height b wide)))) (inner_boxes tree b)
-      (λ k h. subst (IsSound k) (sym (band-wide left (widths tree w height b wide))) h) (inners-sound (inner_width b wide) (content tree b) (content-sound b wide s))
+      All-implied (λ k. IsSound k (inner_width b wide)) (λ k. IsSound k (across (content_from left (widths tree w b wide)))) (inner_boxes tree b)
+      (λ k h. subst (IsSound k) (sym (band-wide left (widths tree w b wide))) h) (inners-sound (inner_width b wide) (content tree b) (content-sound b wide s))
 
   -- ---- the children in the flow of a box
 
@@ -264,10 +264,10 @@ module _ (tree : BoxTree) (w : World) (height : ℕ) where
       by false e = rw e (kids-flow b wide s (kids_of tree.boxes b) (none-level (is_inline_level_at tree) (kids_of tree.boxes b) e)
           (members (Contains (kids_of tree.boxes b)) (kids_of tree.boxes b) (kids_of tree.boxes b) (λ x c. c) (λ x c. c)))
 
-  pub flow-sound : (b : ℕ) (left wide : ℤ) → IsSound b wide → AllByRecursion (λ k. IsFlowKid k (across (content_from left (widths tree w height b wide)))) (flow_children tree b)
+  pub flow-sound : (b : ℕ) (left wide : ℤ) → IsSound b wide → AllByRecursion (λ k. IsFlowKid k (across (content_from left (widths tree w b wide)))) (flow_children tree b)
   flow-sound b left wide s =
-      All-implied (λ k. IsFlowKid k (inner_width b wide)) (λ k. IsFlowKid k (across (content_from left (widths tree w height b wide)))) (flow_children tree b)
-      (λ k h. subst (IsFlowKid k) (sym (band-wide left (widths tree w height b wide))) h) (children-sound b wide s)
+      All-implied (λ k. IsFlowKid k (inner_width b wide)) (λ k. IsFlowKid k (across (content_from left (widths tree w b wide)))) (flow_children tree b)
+      (λ k h. subst (IsFlowKid k) (sym (band-wide left (widths tree w b wide))) h) (children-sound b wide s)
 
   -- ---- the containing block that a lead gives
 
@@ -276,5 +276,5 @@ module _ (tree : BoxTree) (w : World) (height : ℕ) where
   lead-sound cb k s f i =
       let placed = flow-placing tree k f (s.flow f) (open-whole tree k i) in
       subst (λ (band : Band ℤ). AllByRecursion (λ j. IsFlowKid j (across band)) (flow_children tree k))
-      (ap (content_from cb.left) (widths-placed tree w height k (across cb) block_flow placed))
+      (ap (content_from cb.left) (widths-placed tree w k (across cb) block_flow placed))
       (flow-sound k cb.left (across cb) s.sound)

@@ -49,13 +49,13 @@ laid-same table k a l = ap (λ (o : Option Alone). unwrap_or o nothing_alone) (g
 laid-other : (table : List (Option Alone)) (k j : ℕ) (a : Alone) → j ≢ k → laid_at (set table k (Some a)) j ≡ laid_at table j
 laid-other table k j a n = ap (λ (o : Option Alone). unwrap_or o nothing_alone) (get_or-set_other table k j (Some a) None n)
 
-module _ (tree : BoxTree) (w : World) (height : ℕ) where
+module _ (tree : BoxTree) (w : World) where
   -- a box as it is laid out
   abbrev right : ℕ → Alone
-  right k = landed.alone tree w height (landed.flow tree w height) k (room tree w height k)
+  right k = landed.alone tree w (landed.flow tree w) k (room tree w k)
 
   abbrev Sound : ℕ → Type 0
-  Sound k = IsSound tree w height k (room tree w height k)
+  Sound k = IsSound tree w k (room tree w k)
 
   abbrev Served : List (Option Alone) → ℕ → Type 0
   Served table k = right k ≡ laid_at table k
@@ -69,8 +69,8 @@ module _ (tree : BoxTree) (w : World) (height : ℕ) where
 
   outside-sound : (c : ℕ) → Sound c → AllByRecursion Sound (outside_of tree c)
   outside-sound c s = outside-by tree c Sound
-      (All-implied _ Sound (inner_boxes tree c) (λ k h. own-sound k h.page h.block) (inner_boxes-sound tree w height c (pos 0) (room tree w height c) s))
-      (All-implied _ Sound (flow_children tree c) (λ k h. own-sound k h.sound.page h.sound.block) (flow-sound tree w height c (pos 0) (room tree w height c) s))
+      (All-implied _ Sound (inner_boxes tree c) (λ k h. own-sound k h.page h.block) (inner_boxes-sound tree w c (pos 0) (room tree w c) s))
+      (All-implied _ Sound (flow_children tree c) (λ k h. own-sound k h.sound.page h.sound.block) (flow-sound tree w c (pos 0) (room tree w c) s))
 
   abbrev IsLater : ℕ → ℕ → Type 0
   IsLater b k = IsFrom tree.boxes (suc b) k
@@ -80,21 +80,21 @@ module _ (tree : BoxTree) (w : World) (height : ℕ) where
 
   -- ---- the flow by a table
 
-  pub flow-agrees : (table : List (Option Alone)) (low : ℕ) → AllServed table low → (n b : ℕ) (left wide top : ℤ) (p : Progress) → low ≤ b → IsSound tree w height b wide → length tree.boxes ≤ n + b
-      → Follows p (landed.flow tree w height b (band_in tree w height left b wide) top p) (content_to tree w height (laid_at table) n b (band_in tree w height left b wide) top (context_of p))
+  pub flow-agrees : (table : List (Option Alone)) (low : ℕ) → AllServed table low → (n b : ℕ) (left wide top : ℤ) (p : Progress) → low ≤ b → IsSound tree w b wide → length tree.boxes ≤ n + b
+      → Follows p (landed.flow tree w b (band_in tree w left b wide) top p) (content_to tree w (laid_at table) n b (band_in tree w left b wide) top (context_of p))
   unfolding content_to
   flow-agrees table low served zero b left wide top p l s m = absurd (let within = within-page tree b s.page in omega arith)
   flow-agrees table low served (suc n) b left wide top p l s m =
-      subst (λ (end : Progress). Follows p end (content_to tree w height (laid_at table) (suc n) b (band_in tree w height left b wide) top (context_of p)))
-      (sym (flow-is tree w height b (band_in tree w height left b wide) top p (within-page tree b s.page)))
-      (step-agrees tree w height (landed.flow tree w height) (content_to tree w height (laid_at table) n) (laid_at table) b
+      subst (λ (end : Progress). Follows p end (content_to tree w (laid_at table) (suc n) b (band_in tree w left b wide) top (context_of p)))
+      (sym (flow-is tree w b (band_in tree w left b wide) top p (within-page tree b s.page)))
+      (step-agrees tree w (landed.flow tree w) (content_to tree w (laid_at table) n) (laid_at table) b
       (λ k left wide top p above sound. flow-agrees table low served n k left wide top p (omega arith) sound (omega arith))
       (λ c above page block. served c (omega arith) page block)
-      (λ k above within. top-free tree w height (laid_at table) n k within (omega arith)) (box_before tree) left wide top p s)
+      (λ k above within. top-free tree w (laid_at table) n k within (omega arith)) (box_before tree) left wide top p s)
 
-  pub box-same : (table : List (Option Alone)) (low : ℕ) → AllServed table low → (k : ℕ) (wide : ℤ) → low ≤ k → IsSound tree w height k wide
-      → landed.alone tree w height (landed.flow tree w height) k wide ≡ alone tree w height (content_of tree w height (laid_at table)) k wide
-  box-same table low served k wide l s = alone-same tree w height (landed.flow tree w height) (content_of tree w height (laid_at table)) k wide
+  pub box-same : (table : List (Option Alone)) (low : ℕ) → AllServed table low → (k : ℕ) (wide : ℤ) → low ≤ k → IsSound tree w k wide
+      → landed.alone tree w (landed.flow tree w) k wide ≡ alone tree w (content_of tree w (laid_at table)) k wide
+  box-same table low served k wide l s = alone-same tree w (landed.flow tree w) (content_of tree w (laid_at table)) k wide
       (λ top. flow-agrees table low served (length tree.boxes) k (pos 0) wide top (landed.fresh top) l s (omega arith))
 
   -- ---- the table is filled
@@ -105,14 +105,14 @@ module _ (tree : BoxTree) (w : World) (height : ℕ) where
     pub keeps : (j : ℕ) → Sound j → Served before j → Served after j
 
   -- one box more
-  one-more : (table : List (Option Alone)) (b k : ℕ) → length table ≡ length tree.boxes → AllServed table (suc b) → IsLater b k → IsMore table (with_box tree w height table k)
+  one-more : (table : List (Option Alone)) (b k : ℕ) → length table ≡ length tree.boxes → AllServed table (suc b) → IsLater b k → IsMore table (with_box tree w table k)
   one-more table b k long served later = record { long = length-set table k (Some a) ∙ long; keeps = keeps }
     where
       a : Alone
-      a = alone tree w height (content_of tree w height (laid_at table)) k (room tree w height k)
+      a = alone tree w (content_of tree w (laid_at table)) k (room tree w k)
 
       put : Sound k → right k ≡ laid_at (set table k (Some a)) k
-      put s = box-same table (suc b) served k (room tree w height k) later.from s ∙ sym (laid-same table k a (let within = later.within in omega (arith, long)))
+      put s = box-same table (suc b) served k (room tree w k) later.from s ∙ sym (laid-same table k a (let within = later.within in omega (arith, long)))
 
       keeps : (j : ℕ) → Sound j → Served table j → Served (set table k (Some a)) j
       keeps j s e = elim (cases_eq j k) [
@@ -120,10 +120,10 @@ module _ (tree : BoxTree) (w : World) (height : ℕ) where
         | inr other ↦ let n : j ≢ k = other in e ∙ sym (laid-other table k j a n)
       ]
 
-  put-right : (table : List (Option Alone)) (b k : ℕ) → length table ≡ length tree.boxes → AllServed table (suc b) → IsLater b k → Sound k → Served (with_box tree w height table k) k
+  put-right : (table : List (Option Alone)) (b k : ℕ) → length table ≡ length tree.boxes → AllServed table (suc b) → IsLater b k → Sound k → Served (with_box tree w table k) k
   put-right table b k long served later s =
-      let a = alone tree w height (content_of tree w height (laid_at table)) k (room tree w height k) in
-      box-same table (suc b) served k (room tree w height k) later.from s ∙ sym (laid-same table k a (let within = later.within in omega (arith, long)))
+      let a = alone tree w (content_of tree w (laid_at table)) k (room tree w k) in
+      box-same table (suc b) served k (room tree w k) later.from s ∙ sym (laid-same table k a (let within = later.within in omega (arith, long)))
 
   all-kept : (before after : List (Option Alone)) → IsMore before after → (ks : List ℕ) → AllByRecursion Sound ks → AllByRecursion (Served before) ks → AllByRecursion (Served after) ks
   all-kept before after m [] s a = tt
@@ -133,19 +133,19 @@ module _ (tree : BoxTree) (w : World) (height : ℕ) where
   still-served before after low m served c l p i = all-kept before after m (outside_of tree c) (outside-sound c (own-sound c p i)) (served c l p i)
 
   -- boxes one after another
-  all-more : (b : ℕ) (ks : List ℕ) (table : List (Option Alone)) → length table ≡ length tree.boxes → AllServed table (suc b) → AllByRecursion (IsLater b) ks → IsMore table (fold (with_box tree w height) table ks)
+  all-more : (b : ℕ) (ks : List ℕ) (table : List (Option Alone)) → length table ≡ length tree.boxes → AllServed table (suc b) → AllByRecursion (IsLater b) ks → IsMore table (fold (with_box tree w) table ks)
   all-more b [] table long served later = record { long = long; keeps = λ j s e. e }
   all-more b (k ∷ ks) table long served later =
-      let next = with_box tree w height table k in
+      let next = with_box tree w table k in
       let one = one-more table b k long served later.0 in
       let rest = all-more b ks next one.long (still-served table next (suc b) one served) later.1 in
       record { long = rest.long; keeps = λ j s e. rest.keeps j s (one.keeps j s e) }
 
   all-right : (b : ℕ) (ks : List ℕ) (table : List (Option Alone)) → length table ≡ length tree.boxes → AllServed table (suc b) → AllByRecursion (IsLater b) ks → AllByRecursion Sound ks
-      → AllByRecursion (Served (fold (with_box tree w height) table ks)) ks
+      → AllByRecursion (Served (fold (with_box tree w) table ks)) ks
   all-right b [] table long served later s = tt
   all-right b (k ∷ ks) table long served later s =
-      let next = with_box tree w height table k in
+      let next = with_box tree w table k in
       let one = one-more table b k long served later.0 in
       let kept = still-served table next (suc b) one served in
       let rest = all-more b ks next one.long kept later.1 in
@@ -156,11 +156,11 @@ module _ (tree : BoxTree) (w : World) (height : ℕ) where
     pub long : length table ≡ length tree.boxes
     pub served : AllServed table low
 
-  one-container : (b : ℕ) (table : List (Option Alone)) → IsFilled table (suc b) → IsFilled (with_container tree w height table b) b
+  one-container : (b : ℕ) (table : List (Option Alone)) → IsFilled table (suc b) → IsFilled (with_container tree w table b) b
   one-container b table f = by (is_inline (kind_of tree b)) refl
     where
       full : List (Option Alone)
-      full = fold (with_box tree w height) table (outside_of tree b)
+      full = fold (with_box tree w) table (outside_of tree b)
 
       more : IsMore table full
       more = all-more b (outside_of tree b) table f.long f.served (outside-later b)
@@ -182,36 +182,36 @@ module _ (tree : BoxTree) (w : World) (height : ℕ) where
       by true e = record { long = f.long; served = skipped e }
       by false e = record { long = more.long; served = whole }
 
-  filled : (count low : ℕ) → count + low ≡ length tree.boxes → IsFilled (table_to tree w height count) low
+  filled : (count low : ℕ) → count + low ≡ length tree.boxes → IsFilled (table_to tree w count) low
   unfolding table_to
   filled zero low e = record { long = length-replicate (length tree.boxes) None; served = λ c l p i. absurd (let within = within-page tree c p in omega arith) }
   filled (suc count) low e =
       let b : length tree.boxes - suc count ≡ low = omega arith in
-      subst (λ (x : ℕ). IsFilled (with_container tree w height (table_to tree w height count) x) low) (sym b)
-      (one-container low (table_to tree w height count) (filled count (suc low) (omega arith)))
+      subst (λ (x : ℕ). IsFilled (with_container tree w (table_to tree w count) x) low) (sym b)
+      (one-container low (table_to tree w count) (filled count (suc low) (omega arith)))
 
   abbrev whole_table : List (Option Alone)
-  whole_table = table_to tree w height (length tree.boxes)
+  whole_table = table_to tree w (length tree.boxes)
 
   pub table-served : AllServed whole_table 0
   table-served = (filled (length tree.boxes) 0 (omega arith)).served
 
   -- ---- the page
 
-  root-room : room tree w height 0 ≡ pos (64 * w.w)
+  root-room : room tree w 0 ≡ pos (64 * w.w)
   unfolding room_to
-  root-room = ap (λ (o : Option ℕ). option_map_or (λ parent. room_inside tree w height parent (room_to 0 tree w height parent)) o (pos (64 * w.w))) (root-alone tree)
+  root-room = ap (λ (o : Option ℕ). option_map_or (λ parent. room_inside tree w parent (room_to 0 tree w parent)) o (pos (64 * w.w))) (root-alone tree)
 
   abbrev rendered : List BoxNode → List (Placed ℤ)
-  rendered l = (elim l as (λ _. Rendering ℤ) [ [] ↦ record { boxes = [] } | root ∷ rest ↦ record { boxes = (landed.whole_alone tree w height 0 (pos (64 * w.w))).boxes } ]).boxes
+  rendered l = (elim l as (λ _. Rendering ℤ) [ [] ↦ record { boxes = [] } | root ∷ rest ↦ record { boxes = (landed.whole_alone tree w 0 (pos (64 * w.w))).boxes } ]).boxes
 
   abbrev stepped : List BoxNode → List (Placed ℤ)
-  stepped l = elim l as (λ _. List (Placed ℤ)) [ [] ↦ [] | root ∷ rest ↦ (alone tree w height (content_of tree w height (laid_at whole_table)) 0 (pos (64 * w.w))).boxes ]
+  stepped l = elim l as (λ _. List (Placed ℤ)) [ [] ↦ [] | root ∷ rest ↦ (alone tree w (content_of tree w (laid_at whole_table)) 0 (pos (64 * w.w))).boxes ]
 
-  pub page-same : (page_rendering tree w height).boxes ≡ page_boxes tree w height
+  pub page-same : (page_rendering tree w).boxes ≡ page_boxes tree w
   page-same = by tree.boxes refl
     where
-      by : (boxes : List BoxNode) → tree.boxes ≡ boxes → (page_rendering tree w height).boxes ≡ page_boxes tree w height
+      by : (boxes : List BoxNode) → tree.boxes ≡ boxes → (page_rendering tree w).boxes ≡ page_boxes tree w
       by [] e = ap rendered e ∙ sym (ap stepped e)
       by (b ∷ bs) e =
           let page : IsOnPage tree.boxes 0 = IsOnPage.root 0 (subst (λ (l : List BoxNode). Contains (roots l) 0) (sym e) (0, omega arith, refl)) in

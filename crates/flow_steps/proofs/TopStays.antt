@@ -52,7 +52,7 @@ closed-free tree w c b run ws (cleared d y) m a = a
 abbrev pub IsTop : Step → Type 0
 IsTop q = is_at_top q.context.standing ≡ true
 
-module _ (tree : BoxTree) (w : World) (height : ℕ) (apart : ℕ → Alone) where
+module _ (tree : BoxTree) (w : World) (apart : ℕ → Alone) where
   -- whatever the run, the floats that wait and what is asked of them, the way forward through what is in a box
   abbrev FreeWays : Cleared → ℕ → Type 0
   FreeWays c b = (size : Waiting ℤ → Extent ℤ) (base : Base) (floats : List FloatBox) (least : Option ℤ) (p : ℕ → Bool) (m : ℕ) (band : Band ℤ) (run : Run ℤ) (ws : List (Waiting ℤ))
@@ -95,11 +95,11 @@ module _ (tree : BoxTree) (w : World) (height : ℕ) (apart : ℕ → Alone) whe
 
   module _ (content : ℕ → Band ℤ → ℤ → Context → Step) where
     after-below : (cb : Band ℤ) (s : Standing) (k : ℕ) (own : Run ℤ) (r : Reached) (l : Laid)
-        → is_at_top (standing_after tree w height content apart cb s k (met r own) l) ≡ true → (l.through ≡ true) × (r.clears ≡ false) × (standing_after tree w height content apart cb s k (met r own) l ≡ s) × (is_at_top s ≡ true)
+        → is_at_top (standing_after tree w content apart cb s k (met r own) l) ≡ true → (l.through ≡ true) × (r.clears ≡ false) × (standing_after tree w content apart cb s k (met r own) l ≡ s) × (is_at_top s ≡ true)
     after-below cb s k own r l h = by l.through r.clears s refl refl h
       where
-        by : (t c : Bool) (s : Standing) → l.through ≡ t → r.clears ≡ c → is_at_top (standing_after tree w height content apart cb s k (met r own) l) ≡ true
-            → (l.through ≡ true) × (r.clears ≡ false) × (standing_after tree w height content apart cb s k (met r own) l ≡ s) × (is_at_top s ≡ true)
+        by : (t c : Bool) (s : Standing) → l.through ≡ t → r.clears ≡ c → is_at_top (standing_after tree w content apart cb s k (met r own) l) ≡ true
+            → (l.through ≡ true) × (r.clears ≡ false) × (standing_after tree w content apart cb s k (met r own) l ≡ s) × (is_at_top s ≡ true)
         by false c s e f h = absurd (let g = rw e at h in cc)
         by true true s e f h = absurd (let g = rw (e, f) at h in cc)
         by true false (at_top y box) e f h = (e, f, rw (e, f) refl, refl)
@@ -109,91 +109,91 @@ module _ (tree : BoxTree) (w : World) (height : ℕ) (apart : ℕ → Alone) whe
     pub record IsThrough (cb : Band ℤ) (s : Context) (k : ℕ) (r : Reached) : Type 0 where
       pub opens : is_open_above tree k ≡ true
       pub collapses : may_collapse_through tree k ≡ true
-      pub top : let f = frame_at tree w height k (across cb) cb.left r.top in IsTop (content k (content_from cb.left f.x) (content_top f) (opened tree w height content apart s f (at_top f.corner.y r.cleared)))
+      pub top : let f = frame_at tree w k (across cb) cb.left r.top in IsTop (content k (content_from cb.left f.x) (content_top f) (opened tree w content apart s f (at_top f.corner.y r.cleared)))
 
-    pub laid-through : (cb : Band ℤ) (s : Context) (k : ℕ) (r : Reached) → IsTopFree content k → (laid tree w height content apart cb s k r).through ≡ true → IsThrough cb s k r
+    pub laid-through : (cb : Band ℤ) (s : Context) (k : ℕ) (r : Reached) → IsTopFree content k → (laid tree w content apart cb s k r).through ≡ true → IsThrough cb s k r
     laid-through cb s k r free h = by (is_replaced_at tree k) (is_context_root tree k) (is_open_above tree k) (may_collapse_through tree k) refl refl refl refl h
       where
         f : Frame
-        f = frame_at tree w height k (across cb) cb.left r.top
+        f = frame_at tree w k (across cb) cb.left r.top
 
         by : (d c o t : Bool) → is_replaced_at tree k ≡ d → is_context_root tree k ≡ c → is_open_above tree k ≡ o → may_collapse_through tree k ≡ t
-            → (laid tree w height content apart cb s k r).through ≡ true → IsThrough cb s k r
+            → (laid tree w content apart cb s k r).through ≡ true → IsThrough cb s k r
         by true c o t d e i m h = absurd (let g = rw d at h in cc)
         by false true o t d e i m h = absurd (let g = rw (d, e) at h in cc)
         by false false false t d e i m h =
             let g = rw (d, e, i) at h in
-            absurd (let b = free.begun (content_from cb.left f.x) (content_top f) (opened tree w height content apart s f (below (content_top f) no_run false)) (and_first _ (may_collapse_through tree k) g) in cc)
+            absurd (let b = free.begun (content_from cb.left f.x) (content_top f) (opened tree w content apart s f (below (content_top f) no_run false)) (and_first _ (may_collapse_through tree k) g) in cc)
         by false false true t d e i m h =
             let g = rw (d, e, i) at h in
             record { opens = i; collapses = and_second _ (may_collapse_through tree k) g; top = and_first _ (may_collapse_through tree k) g }
 
-    pub at-cleared : (cb : Band ℤ) (s : Context) (k : ℕ) (y : ℤ) (c : Cleared) → (reached_at tree w height content apart cb s k y c).clears ≡ false
-        → ((reached_at tree w height content apart cb s k y c).cleared ≡ c) × IsOther c k
+    pub at-cleared : (cb : Band ℤ) (s : Context) (k : ℕ) (y : ℤ) (c : Cleared) → (reached_at tree w content apart cb s k y c).clears ≡ false
+        → ((reached_at tree w content apart cb s k y c).cleared ≡ c) × IsOther c k
     at-cleared cb s k y None h = (refl, tt)
     at-cleared cb s k y (Some c) h = by (c.0 == k) refl h
       where
-        by : (m : Bool) → (c.0 == k) ≡ m → (reached_at tree w height content apart cb s k y (Some c)).clears ≡ false
-            → ((reached_at tree w height content apart cb s k y (Some c)).cleared ≡ Some c) × IsOther (Some c) k
+        by : (m : Bool) → (c.0 == k) ≡ m → (reached_at tree w content apart cb s k y (Some c)).clears ≡ false
+            → ((reached_at tree w content apart cb s k y (Some c)).cleared ≡ Some c) × IsOther (Some c) k
         by true e h = absurd (let g = rw e at h in cc)
         by false e h = (rw e refl, e)
 
-    at-clears : (cb : Band ℤ) (s : Context) (k : ℕ) (y : ℤ) (c : Cleared) → (reached_at tree w height content apart cb s k y c).clears ≡ true
-        → (reached_at tree w height content apart cb s k y c).cleared
-        ≡ cleared_of (run_forward tree w height content apart (stands (reached_at tree w height content apart cb s k y c).top) (is_up_to k) cb s k no_run).end
+    at-clears : (cb : Band ℤ) (s : Context) (k : ℕ) (y : ℤ) (c : Cleared) → (reached_at tree w content apart cb s k y c).clears ≡ true
+        → (reached_at tree w content apart cb s k y c).cleared
+        ≡ cleared_of (run_forward tree w content apart (stands (reached_at tree w content apart cb s k y c).top) (is_up_to k) cb s k no_run).end
     at-clears cb s k y None h = absurd (cc)
     at-clears cb s k y (Some c) h = by (c.0 == k) refl
       where
-        by : (m : Bool) → (c.0 == k) ≡ m → (reached_at tree w height content apart cb s k y (Some c)).cleared
-            ≡ cleared_of (run_forward tree w height content apart (stands (reached_at tree w height content apart cb s k y (Some c)).top) (is_up_to k) cb s k no_run).end
+        by : (m : Bool) → (c.0 == k) ≡ m → (reached_at tree w content apart cb s k y (Some c)).cleared
+            ≡ cleared_of (run_forward tree w content apart (stands (reached_at tree w content apart cb s k y (Some c)).top) (is_up_to k) cb s k no_run).end
         by true e = rw e refl
         by false e = absurd (let g = rw e at h in cc)
 
-    pub reached-clears : (cb : Band ℤ) (s : Context) (k : ℕ) → (reached tree w height content apart cb s k).clears ≡ true
-        → (reached tree w height content apart cb s k).cleared
-        ≡ cleared_of (run_forward tree w height content apart (stands (reached tree w height content apart cb s k).top) (is_up_to k) cb s k no_run).end
+    pub reached-clears : (cb : Band ℤ) (s : Context) (k : ℕ) → (reached tree w content apart cb s k).clears ≡ true
+        → (reached tree w content apart cb s k).cleared
+        ≡ cleared_of (run_forward tree w content apart (stands (reached tree w content apart cb s k).top) (is_up_to k) cb s k no_run).end
     reached-clears cb s k h = by s.standing refl
       where
-        by : (x : Standing) → s.standing ≡ x → (reached tree w height content apart cb s k).cleared
-            ≡ cleared_of (run_forward tree w height content apart (stands (reached tree w height content apart cb s k).top) (is_up_to k) cb s k no_run).end
+        by : (x : Standing) → s.standing ≡ x → (reached tree w content apart cb s k).cleared
+            ≡ cleared_of (run_forward tree w content apart (stands (reached tree w content apart cb s k).top) (is_up_to k) cb s k no_run).end
         by (at_top y box) e =
-            let same : reached tree w height content apart cb s k ≡ reached_at tree w height content apart cb s k y box = rw e refl in
-            subst (λ (r : Reached). r.cleared ≡ cleared_of (run_forward tree w height content apart (stands r.top) (is_up_to k) cb s k no_run).end) (sym same)
+            let same : reached tree w content apart cb s k ≡ reached_at tree w content apart cb s k y box = rw e refl in
+            subst (λ (r : Reached). r.cleared ≡ cleared_of (run_forward tree w content apart (stands r.top) (is_up_to k) cb s k no_run).end) (sym same)
             (at-clears cb s k y box (sym (ap (λ (r : Reached). r.clears) same) ∙ h))
         by (below edge run stuck) e =
-            let f = run_forward tree w height content apart (hangs edge) none_passed cb s k run in
-            let same : reached tree w height content apart cb s k ≡ reached_at tree w height content apart cb s k (edge +ℤ collapse f.run) (cleared_of f.end) = rw e refl in
-            subst (λ (r : Reached). r.cleared ≡ cleared_of (run_forward tree w height content apart (stands r.top) (is_up_to k) cb s k no_run).end) (sym same)
+            let f = run_forward tree w content apart (hangs edge) none_passed cb s k run in
+            let same : reached tree w content apart cb s k ≡ reached_at tree w content apart cb s k (edge +ℤ collapse f.run) (cleared_of f.end) = rw e refl in
+            subst (λ (r : Reached). r.cleared ≡ cleared_of (run_forward tree w content apart (stands r.top) (is_up_to k) cb s k no_run).end) (sym same)
             (at-clears cb s k (edge +ℤ collapse f.run) (cleared_of f.end) (sym (ap (λ (r : Reached). r.clears) same) ∙ h))
 
     -- ---- the children of a box, where the flow through each of them is free
 
-    pub flow-through : (cb : Band ℤ) (top : ℤ) (s : Context) (k : ℕ) → is_floated_at tree k ≡ false → IsTop (child tree w height content apart cb top s k)
-        → let r = reached tree w height content apart cb s k in
-        ((laid tree w height content apart cb s k r).through ≡ true) × (r.clears ≡ false) × ((child tree w height content apart cb top s k).context.standing ≡ s.standing) × (is_at_top s.standing ≡ true)
+    pub flow-through : (cb : Band ℤ) (top : ℤ) (s : Context) (k : ℕ) → is_floated_at tree k ≡ false → IsTop (child tree w content apart cb top s k)
+        → let r = reached tree w content apart cb s k in
+        ((laid tree w content apart cb s k r).through ≡ true) × (r.clears ≡ false) × ((child tree w content apart cb top s k).context.standing ≡ s.standing) × (is_at_top s.standing ≡ true)
     flow-through cb top s k f h =
-        let r = reached tree w height content apart cb s k in
-        let l = laid tree w height content apart cb s k r in
+        let r = reached tree w content apart cb s k in
+        let l = laid tree w content apart cb s k r in
         let g = rw f at h in
-        let a = after-below cb s.standing k (own_run tree w height content apart cb s k r) r l g in
+        let a = after-below cb s.standing k (own_run tree w content apart cb s k r) r l g in
         (a.0, a.1, rw f a.2, a.3)
 
-    float-through : (cb : Band ℤ) (top : ℤ) (s : Context) (k : ℕ) → is_floated_at tree k ≡ true → (child tree w height content apart cb top s k).context.standing ≡ s.standing
+    float-through : (cb : Band ℤ) (top : ℤ) (s : Context) (k : ℕ) → is_floated_at tree k ≡ true → (child tree w content apart cb top s k).context.standing ≡ s.standing
     float-through cb top s k f = rw f refl
 
-    child-top : (cb : Band ℤ) (top : ℤ) (s : Context) (k : ℕ) → IsTop (child tree w height content apart cb top s k) → is_at_top s.standing ≡ true
+    child-top : (cb : Band ℤ) (top : ℤ) (s : Context) (k : ℕ) → IsTop (child tree w content apart cb top s k) → is_at_top s.standing ≡ true
     child-top cb top s k h = by (is_floated_at tree k) refl
       where
         by : (f : Bool) → is_floated_at tree k ≡ f → is_at_top s.standing ≡ true
         by true f = sym (ap is_at_top (float-through cb top s k f)) ∙ h
         by false f = (flow-through cb top s k f h).3
 
-    children-top : (cb : Band ℤ) (top : ℤ) (ks : List ℕ) (s : Context) → IsTop (children (child tree w height content apart cb top) s ks) → is_at_top s.standing ≡ true
+    children-top : (cb : Band ℤ) (top : ℤ) (ks : List ℕ) (s : Context) → IsTop (children (child tree w content apart cb top) s ks) → is_at_top s.standing ≡ true
     children-top cb top [] s h = h
-    children-top cb top (k ∷ ks) s h = child-top cb top s k (children-top cb top ks (child tree w height content apart cb top s k).context h)
+    children-top cb top (k ∷ ks) s h = child-top cb top s k (children-top cb top ks (child tree w content apart cb top s k).context h)
 
-    child-free : (cb : Band ℤ) (top : ℤ) (s : Context) (k : ℕ) (y : ℤ) (c : Cleared) → IsTopFree content k → s.standing ≡ at_top y c → IsTop (child tree w height content apart cb top s k)
-        → ((child tree w height content apart cb top s k).context.standing ≡ at_top y c)
+    child-free : (cb : Band ℤ) (top : ℤ) (s : Context) (k : ℕ) (y : ℤ) (c : Cleared) → IsTopFree content k → s.standing ≡ at_top y c → IsTop (child tree w content apart cb top s k)
+        → ((child tree w content apart cb top s k).context.standing ≡ at_top y c)
         × ((size : Waiting ℤ → Extent ℤ) (base : Base) (floats : List FloatBox) (least : Option ℤ) (p : ℕ → Bool) (m : ℕ) (band : Band ℤ) (run : Run ℤ) (ws : List (Waiting ℤ))
         → Free c (kid_of tree w (way_to tree w size base floats least p m band) band run ws k))
     child-free cb top s k y c free at h = by (is_floated_at tree k) refl
@@ -201,7 +201,7 @@ module _ (tree : BoxTree) (w : World) (height : ℕ) (apart : ℕ → Alone) whe
         go : (Waiting ℤ → Extent ℤ) → Base → List FloatBox → Option ℤ → (ℕ → Bool) → ℕ → Band ℤ → ℕ → Run ℤ → List (Waiting ℤ) → Found
         go size base floats least p m band k run ws = way_to tree w size base floats least p m band k run ws
 
-        by : (f : Bool) → is_floated_at tree k ≡ f → ((child tree w height content apart cb top s k).context.standing ≡ at_top y c)
+        by : (f : Bool) → is_floated_at tree k ≡ f → ((child tree w content apart cb top s k).context.standing ≡ at_top y c)
             × ((size : Waiting ℤ → Extent ℤ) (base : Base) (floats : List FloatBox) (least : Option ℤ) (p : ℕ → Bool) (m : ℕ) (band : Band ℤ) (run : Run ℤ) (ws : List (Waiting ℤ))
             → Free c (kid_of tree w (way_to tree w size base floats least p m band) band run ws k))
         by true f = (
@@ -210,13 +210,13 @@ module _ (tree : BoxTree) (w : World) (height : ℕ) (apart : ℕ → Alone) whe
         )
         by false f =
             let a = flow-through cb top s k f h in
-            let r = reached tree w height content apart cb s k in
-            let reach : r ≡ reached_at tree w height content apart cb s k y c = rw at refl in
+            let r = reached tree w content apart cb s k in
+            let reach : r ≡ reached_at tree w content apart cb s k y c = rw at refl in
             let clear = at-cleared cb s k y c (sym (ap (λ (x : Reached). x.clears) reach) ∙ a.1) in
             let cleared_is : r.cleared ≡ c = ap (λ (x : Reached). x.cleared) reach ∙ clear.0 in
             let t = laid-through cb s k r free a.0 in
-            let frame = frame_at tree w height k (across cb) cb.left r.top in
-            let inner = opened tree w height content apart s frame (at_top frame.corner.y r.cleared) in
+            let frame = frame_at tree w k (across cb) cb.left r.top in
+            let inner = opened tree w content apart s frame (at_top frame.corner.y r.cleared) in
             let lines = free.lines (content_from cb.left frame.x) (content_top frame) inner t.top in
             let ways = free.free (content_from cb.left frame.x) (content_top frame) inner frame.corner.y r.cleared refl t.top in
             let own : FreeWays c k = subst (λ (x : Cleared). FreeWays x k) cleared_is ways in (
@@ -229,24 +229,24 @@ module _ (tree : BoxTree) (w : World) (height : ℕ) (apart : ℕ → Alone) whe
             )
 
     kids-free : (b : ℕ) → ((k : ℕ) → IsFrom tree.boxes (suc b) k → IsTopFree content k) → (cb : Band ℤ) (top y : ℤ) (c : Cleared) (ks : List ℕ) → AllByRecursion (IsFrom tree.boxes (suc b)) ks
-        → (s : Context) → s.standing ≡ at_top y c → IsTop (children (child tree w height content apart cb top) s ks)
+        → (s : Context) → s.standing ≡ at_top y c → IsTop (children (child tree w content apart cb top) s ks)
         → (size : Waiting ℤ → Extent ℤ) (base : Base) (floats : List FloatBox) (least : Option ℤ) (p : ℕ → Bool) (m : ℕ) (band : Band ℤ) (run : Run ℤ) (ws : List (Waiting ℤ))
         → Free c (kids_way tree w size base floats least p m band ks run ws)
     kids-free b again cb top y c [] a s at h size base floats least p m band run ws = tt
     kids-free b again cb top y c (k ∷ ks) a s at h size base floats least p m band run ws =
-        let next = child tree w height content apart cb top s k in
+        let next = child tree w content apart cb top s k in
         let first = child-free cb top s k y c (again k a.0) at (children-top cb top ks next.context h) in
         let f = kid_of tree w (way_to tree w size base floats least p m band) band run ws k in
         on-free c f.run f.waiting f.end (kids_way tree w size base floats least p m band ks f.run f.waiting) (first.1 size base floats least p m band run ws)
         (kids-free b again cb top y c ks a.1 next.context first.0 h size base floats least p m band f.run f.waiting)
 
     abbrev step_in : ℕ → Band ℤ → ℤ → Context → Step
-    step_in b cb top s = content_step tree w height content apart b cb top s
+    step_in b cb top s = content_step tree w content apart b cb top s
 
-    by-line : (b : ℕ) (cb : Band ℤ) (top : ℤ) (s : Context) → IsTop (step_in b cb top s) → (has_line tree b ≡ false) × IsTop (children (child tree w height content apart cb top) s (flow_children tree b))
+    by-line : (b : ℕ) (cb : Band ℤ) (top : ℤ) (s : Context) → IsTop (step_in b cb top s) → (has_line tree b ≡ false) × IsTop (children (child tree w content apart cb top) s (flow_children tree b))
     by-line b cb top s h = by (has_line tree b) refl
       where
-        by : (l : Bool) → has_line tree b ≡ l → (has_line tree b ≡ false) × IsTop (children (child tree w height content apart cb top) s (flow_children tree b))
+        by : (l : Bool) → has_line tree b ≡ l → (has_line tree b ≡ false) × IsTop (children (child tree w content apart cb top) s (flow_children tree b))
         by true e = absurd (let g = rw e at h in cc)
         by false e = let g = rw e at h in (e, g)
 
@@ -259,11 +259,11 @@ module _ (tree : BoxTree) (w : World) (height : ℕ) (apart : ℕ → Alone) whe
 
   -- ---- enough levels
 
-  pub top-free : (n b : ℕ) → b < length tree.boxes → length tree.boxes ≤ n + b → IsTopFree (content_to tree w height apart n) b
+  pub top-free : (n b : ℕ) → b < length tree.boxes → length tree.boxes ≤ n + b → IsTopFree (content_to tree w apart n) b
   unfolding content_to
   top-free zero b l m = absurd (omega arith)
   top-free (suc n) b l m =
-      let f = step-free (content_to tree w height apart n) b (λ k h. let after = h.from in top-free n k h.within (omega arith)) in
+      let f = step-free (content_to tree w apart n) b (λ k h. let after = h.from in top-free n k h.within (omega arith)) in
       record { begun = f.begun; lines = f.lines; free = f.free }
 
   -- ---- so its way forward goes through
@@ -274,14 +274,14 @@ module _ (tree : BoxTree) (w : World) (height : ℕ) (apart : ℕ → Alone) whe
   goes-free (cleared d y) f = absurd (let itself : (d == d) ≡ true = grind (arith, nat_tests) in let other : (d == d) ≡ false = f in cc)
 
   -- a box reached where `f` was found on its way forward, its own clearance being decided on that way or before
-  pub goes-through : (content : ℕ → Band ℤ → ℤ → Context → Step) (cb : Band ℤ) (s : Context) (k : ℕ) (r : Reached) → IsTopFree content k → (laid tree w height content apart cb s k r).through ≡ true
+  pub goes-through : (content : ℕ → Band ℤ → ℤ → Context → Step) (cb : Band ℤ) (s : Context) (k : ℕ) (r : Reached) → IsTopFree content k → (laid tree w content apart cb s k r).through ≡ true
       → (size : Waiting ℤ → Extent ℤ) (base : Base) (floats : List FloatBox) (least : Option ℤ) (p : ℕ → Bool) (m : ℕ) (run : Run ℤ) (ws : List (Waiting ℤ))
       → r.cleared ≡ cleared_of (way_to tree w size base floats least p m cb k run ws).end → (stops tree p k ≡ true → IsOther r.cleared k)
       → (way_to tree w size base floats least p m cb k run ws).end ≡ goes_on
   goes-through content cb s k r free h size base floats least p m run ws same other =
       let t = laid-through content cb s k r free h in
-      let frame = frame_at tree w height k (across cb) cb.left r.top in
-      let inner = opened tree w height content apart s frame (at_top frame.corner.y r.cleared) in
+      let frame = frame_at tree w k (across cb) cb.left r.top in
+      let inner = opened tree w content apart s frame (at_top frame.corner.y r.cleared) in
       let lines = free.lines (content_from cb.left frame.x) (content_top frame) inner t.top in
       let ways = free.free (content_from cb.left frame.x) (content_top frame) inner frame.corner.y r.cleared refl t.top in
       let f = way_to tree w size base floats least p m cb k run ws in

@@ -139,30 +139,30 @@ abbrev pub children : (Context → ℕ → Step) → Context → List ℕ → St
 children child s [] = step s []
 children child s (k ∷ ks) = followed (child s k) (children child (child s k).context ks)
 
-module _ (tree : BoxTree) (w : World) (height : ℕ) where
+module _ (tree : BoxTree) (w : World) where
   -- a box before its height is known, its margin edge at `left` and its border edge at y
   abbrev pub frame_at : ℕ → ℤ → ℤ → ℤ → Frame
-  frame_at b room left y = by_widths (widths tree w height b room) (verticals tree w b room)
+  frame_at b room left y = by_widths (widths tree w b room) (verticals tree w b room)
     where
       by_widths : Widths ℤ → Verticals → Frame
       by_widths x v = record { x = x; v = v; corner = record { x = left +ℤ x.margin_left; y = y } }
 
   -- at the corner of coordinates of its own
   abbrev pub corner_frame : ℕ → ℤ → Frame
-  corner_frame b room = by_widths (widths tree w height b room) (verticals tree w b room)
+  corner_frame b room = by_widths (widths tree w b room) (verticals tree w b room)
     where
       by_widths : Widths ℤ → Verticals → Frame
       by_widths x v = record { x = x; v = v; corner = record { x = x.margin_left; y = v.margin_top } }
 
   abbrev pub replaced_box : ℕ → ℤ → Frame → Placed ℤ
-  replaced_box b room f = placed_box tree b f (replaced_size tree w height b room).height
+  replaced_box b room f = placed_box tree b f (replaced_size tree w b room).height
 
   abbrev pub context_box : ℕ → Frame → Context → Placed ℤ
-  context_box b f end = placed_box tree b f (content_height tree w height b (context_height (content_top f) end))
+  context_box b f end = placed_box tree b f (content_height tree w b (context_height (content_top f) end))
 
   abbrev pub block_box : ℕ → Frame → Context → Placed ℤ
   block_box b f end =
-      placed_box tree b f (content_height tree w height b
+      placed_box tree b f (content_height tree w b
       (block_height (joins_last_child tree b) (content_top f) end.standing))
 
   -- `content` lays out what is in a box, from a content top and how far the flow has come

@@ -27,11 +27,11 @@ nothing_alone = record { size = record { width = pos 0; height = pos 0 }; baseli
 abbrev pub laid_at : List (Option Alone) → ℕ → Alone
 laid_at table k = unwrap_or (get_or table k None) nothing_alone
 
-module _ (tree : BoxTree) (w : World) (height : ℕ) where
+module _ (tree : BoxTree) (w : World) where
   -- with one box more, laid out where its containing block is as wide as the tree says
   abbrev pub with_box : List (Option Alone) → ℕ → List (Option Alone)
   with_box table k =
-      set table k (Some (alone tree w height (content_of tree w height (laid_at table)) k (room tree w height k)))
+      set table k (Some (alone tree w (content_of tree w (laid_at table)) k (room tree w k)))
 
   -- with those of a box; an inline box is no block container
   abbrev pub with_container : List (Option Alone) → ℕ → List (Option Alone)
@@ -40,7 +40,7 @@ module _ (tree : BoxTree) (w : World) (height : ℕ) where
 
   -- the band that a box gives those in it, its margin edge being at `left`
   abbrev pub inside_of : ℤ → ℕ → Band ℤ
-  inside_of left b = content_from left (widths tree w height b (room tree w height b))
+  inside_of left b = content_from left (widths tree w b (room tree w b))
 
   -- of the last so many boxes
   unfoldable pub table_to : ℕ → List (Option Alone)
@@ -54,5 +54,5 @@ module _ (tree : BoxTree) (w : World) (height : ℕ) where
       by_boxes : List BoxNode → List (Placed ℤ)
       by_boxes [] = []
       by_boxes (root ∷ rest) =
-          (alone tree w height (content_of tree w height (laid_at (table_to (length tree.boxes)))) 0
+          (alone tree w (content_of tree w (laid_at (table_to (length tree.boxes)))) 0
           (pos (64 * w.w))).boxes

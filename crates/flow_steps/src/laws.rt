@@ -57,43 +57,38 @@ pub fn a_way_forward_comes_from_inside(tree: &BoxTree, at: usize)
 
 /// The steps through what is in a box, by those through what is in later boxes, whatever the table of boxes outside the
 /// flow holds.
-pub fn the_steps_of_a_content_come_from_inside(tree: &BoxTree, world: World, height: u32, at: usize)
+pub fn the_steps_of_a_content_come_from_inside(tree: &BoxTree, world: World, at: usize)
     requires within { at < length tree.now.boxes }
     ensures { (apart : ℕ → Alone) (cb : Band ℤ) (top : ℤ) (s : Context)
-        → content_of tree.now world height apart at cb top s ≡ content_step tree.now world height
-        (content_of tree.now world height apart) apart at cb top s }
+        → content_of tree.now world apart at cb top s ≡ content_step tree.now world
+        (content_of tree.now world apart) apart at cb top s }
 {}
 
 /// What stands outside the flow of a block container, its floats and the atomic boxes of its lines, is laid out once,
 /// and the table holds it by its number as the flow lays it out (CSS 2.1, 9.2.2, 9.5).
-pub fn what_stands_outside_the_flow_is_laid_out_once(
-    tree: &BoxTree,
-    world: World,
-    height: u32,
-    at: usize,
-)
+pub fn what_stands_outside_the_flow_is_laid_out_once(tree: &BoxTree, world: World, at: usize)
     requires on_page { IsOnPage tree.now.boxes at }
     requires container { is_inline (kind_of tree.now at) ≡ false }
-    ensures { AllByRecursion (λ k. whole_alone tree.now world height k (room tree.now world height k)
-        ≡ laid_at (table_to tree.now world height (length tree.now.boxes)) k) (outside_of tree.now at) }
+    ensures { AllByRecursion (λ k. whole_alone tree.now world k (room tree.now world k)
+        ≡ laid_at (table_to tree.now world (length tree.now.boxes)) k) (outside_of tree.now at) }
 {}
 
 /// The steps through what is in a box add the boxes that the flow adds, and leave the context as it does (CSS 2.1,
 /// 9.4.1).
-pub fn the_steps_of_a_content_are_its_flow(tree: &BoxTree, world: World, height: u32, at: usize)
+pub fn the_steps_of_a_content_are_its_flow(tree: &BoxTree, world: World, at: usize)
     requires on_page { IsOnPage tree.now.boxes at }
     requires container { is_inline (kind_of tree.now at) ≡ false }
-    ensures context { (left top : ℤ) (p : Progress) → context_of (flow tree.now world height at
-        (inside_of tree.now world height left at) top p) ≡ (content_of tree.now world height
-        (laid_at (table_to tree.now world height (length tree.now.boxes))) at
-        (inside_of tree.now world height left at) top (context_of p)).context }
-    ensures boxes { (left top : ℤ) (p : Progress) → (flow tree.now world height at
-        (inside_of tree.now world height left at) top p).boxes ≡ p.boxes ++ (content_of tree.now world height
-        (laid_at (table_to tree.now world height (length tree.now.boxes))) at
-        (inside_of tree.now world height left at) top (context_of p)).boxes }
+    ensures context { (left top : ℤ) (p : Progress) → context_of (flow tree.now world at
+        (inside_of tree.now world left at) top p) ≡ (content_of tree.now world
+        (laid_at (table_to tree.now world (length tree.now.boxes))) at
+        (inside_of tree.now world left at) top (context_of p)).context }
+    ensures boxes { (left top : ℤ) (p : Progress) → (flow tree.now world at
+        (inside_of tree.now world left at) top p).boxes ≡ p.boxes ++ (content_of tree.now world
+        (laid_at (table_to tree.now world (length tree.now.boxes))) at
+        (inside_of tree.now world left at) top (context_of p)).boxes }
 {}
 
 /// The steps of a page are its rendering: the whole flow, with floats, clearance, contexts, replaced boxes and lines.
-pub fn the_steps_of_a_page_are_its_rendering(tree: &BoxTree, world: World, height: u32)
-    ensures { (page_rendering tree.now world height).boxes ≡ page_boxes tree.now world height }
+pub fn the_steps_of_a_page_are_its_rendering(tree: &BoxTree, world: World)
+    ensures { (page_rendering tree.now world).boxes ≡ page_boxes tree.now world }
 {}

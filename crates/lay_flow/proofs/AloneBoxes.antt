@@ -11,24 +11,24 @@ use Rattle.lay_flow.specs.steps.Flow.{corner_of, replaced_alone, context_alone, 
 -- places that are kept in a list of nothing
 pub ruleset kept = (seam, no_boxes)
 
-module _ (tree : BoxTree) (w : World) (height : ℕ) (apart : ℕ → Alone) (b : ℕ) (room : ℤ) where
+module _ (tree : BoxTree) (w : World) (apart : ℕ → Alone) (b : ℕ) (room : ℤ) where
   abbrev by_sort : Bool → Alone
   by_sort replaced = elim replaced as (λ _. Alone) [
-    | true ↦ replaced_alone tree w height b room (corner_of tree w height b room)
-    | false ↦ context_alone tree w height apart b (corner_of tree w height b room)
+    | true ↦ replaced_alone tree w b room (corner_of tree w b room)
+    | false ↦ context_alone tree w apart b (corner_of tree w b room)
   ]
 
-  pub alone-replaced : is_replaced_at tree b ≡ true → replaced_alone tree w height b room (corner_of tree w height b room) ≡ alone_of tree w height apart b room
+  pub alone-replaced : is_replaced_at tree b ≡ true → replaced_alone tree w b room (corner_of tree w b room) ≡ alone_of tree w apart b room
   unfolding alone_of
   alone-replaced is = ap by_sort (sym is)
 
-  pub alone-context : is_replaced_at tree b ≡ false → context_alone tree w height apart b (corner_of tree w height b room) ≡ alone_of tree w height apart b room
+  pub alone-context : is_replaced_at tree b ≡ false → context_alone tree w apart b (corner_of tree w b room) ≡ alone_of tree w apart b room
   unfolding alone_of
   alone-context is = ap by_sort (sym is)
 
   -- from its frame, as it is found
-  pub from-replaced : (a : Alone) (f : Frame) → is_replaced_at tree b ≡ true → a ≡ replaced_alone tree w height b room f → f ≡ corner_of tree w height b room → a ≡ alone_of tree w height apart b room
-  from-replaced a f is laid shape = laid ∙ ap (replaced_alone tree w height b room) shape ∙ alone-replaced is
+  pub from-replaced : (a : Alone) (f : Frame) → is_replaced_at tree b ≡ true → a ≡ replaced_alone tree w b room f → f ≡ corner_of tree w b room → a ≡ alone_of tree w apart b room
+  from-replaced a f is laid shape = laid ∙ ap (replaced_alone tree w b room) shape ∙ alone-replaced is
 
-  pub from-context : (a : Alone) (f : Frame) → is_replaced_at tree b ≡ false → a ≡ context_alone tree w height apart b f → f ≡ corner_of tree w height b room → a ≡ alone_of tree w height apart b room
-  from-context a f is laid shape = laid ∙ ap (context_alone tree w height apart b) shape ∙ alone-context is
+  pub from-context : (a : Alone) (f : Frame) → is_replaced_at tree b ≡ false → a ≡ context_alone tree w apart b f → f ≡ corner_of tree w b room → a ≡ alone_of tree w apart b room
+  from-context a f is laid shape = laid ∙ ap (context_alone tree w apart b) shape ∙ alone-context is

@@ -26,13 +26,13 @@ use Rattle.lay_flow.proofs.TablesWithin.{AreBounded, fine, boxes-small, lines-sm
 use Rattle.lay_flow.proofs.WalkWithin.{ContentIn}
 use Rattle.lay_flow.proofs.WalkPlaces.{walk-fits, content-end}
 
-module _ (tree : BoxTree) (w : World) (height : ℕ) (page : IsPageFit tree w height) (apart : ℕ → Alone) (a : AreBounded tree w height page apart)
-    (k : ℕ) (l : k < length tree.boxes) (i : IsSound tree w height k (room tree w height k)) (q : IsWhole tree k) where
-  fit : IsBoxFit tree w height k
+module _ (tree : BoxTree) (w : World) (page : IsPageFit tree w) (apart : ℕ → Alone) (a : AreBounded tree w page apart)
+    (k : ℕ) (l : k < length tree.boxes) (i : IsSound tree w k (room tree w k)) (q : IsWhole tree k) where
+  fit : IsBoxFit tree w k
   fit = page.each k i.page q
 
   abbrev f : Frame
-  f = corner_frame tree w height k (room tree w height k)
+  f = corner_frame tree w k (room tree w k)
 
   abbrev top : ℤ
   top = content_top f
@@ -40,43 +40,43 @@ module _ (tree : BoxTree) (w : World) (height : ℕ) (page : IsPageFit tree w he
   -- ---- where the walk through it starts
 
   abbrev turned_by : ℕ → Bounds
-  turned_by = turned tree w height page apart a
+  turned_by = turned tree w page apart a
 
   abbrev begin : Bounds
   begin = all_around (16 * greatest_length)
 
   x : AreWidthsSmall (2 ^ 42) f.x
-  x = (boxes-small tree w height page k i.page q).widths
+  x = (boxes-small tree w page k i.page q).widths
 
   v : AreSidesSmall (2 ^ 42) f.v
-  v = (boxes-small tree w height page k i.page q).sides
+  v = (boxes-small tree w page k i.page q).sides
 
   corner : IsLevelIn (all_around greatest_length) f.corner.y
   corner = let m = v.margin_top in record { top = omega (arith, ints, m); bottom = omega (arith, ints, m) }
 
   top-is : IsLevelIn begin top
   top-is = level-wider (grown (all_around greatest_length) (all_around greatest_length)) begin top (record { up = omega arith; down = omega arith; aside = omega arith })
-      (top-in greatest_length (2 ^ 42) (fine tree w height page) (all_around greatest_length) f v corner)
+      (top-in greatest_length (2 ^ 42) (fine tree w page) (all_around greatest_length) f v corner)
 
   band : IsBandIn begin (content_from (pos 0) f.x)
   band =
       let m = x.margin_left in let b = x.border_left in let p = x.padding_left in let c = x.content in
       record { left = omega (arith, ints, m, b, p); right = omega (arith, ints, m, b, p, c) }
 
-  begun : IsContextIn tree w height a.own turned_by greatest_length (2 ^ 42) (fine tree w height page) (boxes-small tree w height page) apart a.known begin (flow_children tree k) (fresh top)
+  begun : IsContextIn tree w a.own turned_by greatest_length (2 ^ 42) (fine tree w page) (boxes-small tree w page) apart a.known begin (flow_children tree k) (fresh top)
   begun = record { standing = (top-is, none-low greatest_length); floats = tt; least = tt; baseline = tt }
 
   room-left : AreInside (grown begin (content_rise tree a.own turned_by greatest_length k)) (all_around (2 ^ 80))
   room-left =
-      let far = rise-far tree w height page apart a k l in
+      let far = rise-far tree w page apart a k l in
       let up = far.up in let down = far.down in let aside = far.aside in
       record { up = omega (arith, up); down = omega (arith, down); aside = omega (arith, aside) }
 
-  begins : ContentIn tree w height a.own turned_by greatest_length (2 ^ 42) (fine tree w height page) (boxes-small tree w height page) apart a.known k (content_from (pos 0) f.x) top (fresh top)
+  begins : ContentIn tree w a.own turned_by greatest_length (2 ^ 42) (fine tree w page) (boxes-small tree w page) apart a.known k (content_from (pos 0) f.x) top (fresh top)
   begins = record {
     b = begin;
     left = pos 0;
-    wide = room tree w height k;
+    wide = room tree w k;
     same = refl;
     sound = i;
     whole = q;
@@ -91,34 +91,34 @@ module _ (tree : BoxTree) (w : World) (height : ℕ) (page : IsPageFit tree w he
   low : greatest_length ≤ 2 ^ 72
   low = omega arith
 
-  inside : WalkFits tree w height apart (before_content k (content_from (pos 0) f.x) top (fresh top))
-  inside = walk-fits tree w height a.own turned_by greatest_length (2 ^ 42) (fine tree w height page) (boxes-small tree w height page) apart a.known (lines-small tree w height page a.own apart a.known) low a.far page.each
+  inside : WalkFits tree w apart (before_content k (content_from (pos 0) f.x) top (fresh top))
+  inside = walk-fits tree w a.own turned_by greatest_length (2 ^ 42) (fine tree w page) (boxes-small tree w page) apart a.known (lines-small tree w page a.own apart a.known) low a.far page.each
       (before_content k (content_from (pos 0) f.x) top (fresh top)) begins
 
-  end : IsContextLow (inner_end tree w height apart k (content_from (pos 0) f.x) top (fresh top))
-  end = content-end tree w height a.own turned_by greatest_length (2 ^ 42) (fine tree w height page) (boxes-small tree w height page) apart a.known (lines-small tree w height page a.own apart a.known) low a.far page.each
+  end : IsContextLow (inner_end tree w apart k (content_from (pos 0) f.x) top (fresh top))
+  end = content-end tree w a.own turned_by greatest_length (2 ^ 42) (fine tree w page) (boxes-small tree w page) apart a.known (lines-small tree w page a.own apart a.known) low a.far page.each
       k (content_from (pos 0) f.x) top (fresh top) begins
 
   -- ---- the box
 
-  frame-low : IsFrameLow (corner_of tree w height k (room tree w height k))
+  frame-low : IsFrameLow (corner_of tree w k (room tree w k))
   unfolding corner_of
   frame-low =
       let m = fit.shape.sides.margin_top in
       record { x = fit.shape.widths; v = fit.shape.sides; aside = fit.shape.widths.margin_left; top = record { top = omega (arith, ints, m); bottom = omega (arith, ints, m) } }
 
   margin : is_replaced_at tree k ≡ false
-      → IsQuadIn near (root_of tree w height k (corner_of tree w height k (room tree w height k)) (own_end tree w height apart k (corner_of tree w height k (room tree w height k)))).margin
+      → IsQuadIn near (root_of tree w k (corner_of tree w k (room tree w k)) (own_end tree w apart k (corner_of tree w k (room tree w k)))).margin
   unfolding context_alone
   margin e =
-      let own = rise_by tree w height page apart a k in
-      let wide = room tree w height k in
-      let f = corner_of tree w height k wide in
-      let known = subst (IsAloneIn own greatest_length) (sym (alone-context tree w height apart k wide e)) (alone-known tree w height page apart a k l wide i q) in
-      quad-wider own near (root_of tree w height k f (own_end tree w height apart k f)).margin
-      (inside-more own (all_around (2 ^ 72)) near (rise-far tree w height page apart a k l) (record { up = omega arith; down = omega arith; aside = omega arith })) (known.boxes.0).margin
+      let own = rise_by tree w page apart a k in
+      let wide = room tree w k in
+      let f = corner_of tree w k wide in
+      let known = subst (IsAloneIn own greatest_length) (sym (alone-context tree w apart k wide e)) (alone-known tree w page apart a k l wide i q) in
+      quad-wider own near (root_of tree w k f (own_end tree w apart k f)).margin
+      (inside-more own (all_around (2 ^ 72)) near (rise-far tree w page apart a k l) (record { up = omega arith; down = omega arith; aside = omega arith })) (known.boxes.0).margin
 
-  pub alone-fits : AloneFits tree w height apart k (room tree w height k)
+  pub alone-fits : AloneFits tree w apart k (room tree w k)
   unfolding corner_of
   alone-fits = record {
     shape = fit.shape;

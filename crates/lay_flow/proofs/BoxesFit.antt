@@ -28,32 +28,32 @@ held-low auto h held = by (2 ^ 42) (2 ^ 90) held.from held.to (omega arith)
     by : (t u : ℕ) → (pos 0 -ℤ pos t) ≤ℤ h → h ≤ℤ int_max auto (pos t) → t ≤ u → IsHeightHeld u auto h
     by t u from to l = record { from = omega (arith, ints, from, l); to = omega (arith, ints, clamps, to, l) }
 
-module _ (tree : BoxTree) (page : IsFarPage tree) (w : World) (small : w.s ≤ 256) (narrow : w.w ≤ 16384) (height : ℕ) (flat : height ≤ 16384) (k : ℕ) (on : IsOnPage tree.boxes k) (whole : IsWhole tree k) where
-  terms-small : IsBoxSmall tree w height (2 ^ 42) k
-  terms-small = box-small tree w height (2 ^ 42) k (properties-small tree page w small narrow height flat k on whole)
+module _ (tree : BoxTree) (page : IsFarPage tree) (w : World) (small : w.s ≤ 256) (narrow : w.w ≤ 16384) (flat : w.h ≤ 16384) (k : ℕ) (on : IsOnPage tree.boxes k) (whole : IsWhole tree k) where
+  terms-small : IsBoxSmall tree w (2 ^ 42) k
+  terms-small = box-small tree w (2 ^ 42) k (properties-small tree page w small narrow flat k on whole)
 
-  pub shape-fit : IsShapeFit tree w height k (room tree w height k)
+  pub shape-fit : IsShapeFit tree w k (room tree w k)
   shape-fit = record {
-    across = widths-fit tree page w small narrow height flat k on whole;
-    down = down-fits tree page w small narrow height flat k on whole;
-    widths = widths-low (2 ^ 42) (widths tree w height k (room tree w height k)) (omega arith) terms-small.widths;
-    sides = sides-low (2 ^ 42) (verticals tree w k (room tree w height k)) (omega arith) terms-small.sides;
+    across = widths-fit tree page w small narrow flat k on whole;
+    down = down-fits tree page w small narrow flat k on whole;
+    widths = widths-low (2 ^ 42) (widths tree w k (room tree w k)) (omega arith) terms-small.widths;
+    sides = sides-low (2 ^ 42) (verticals tree w k (room tree w k)) (omega arith) terms-small.sides;
   }
 
-  pub height-fit : IsHeightFit tree w height k
+  pub height-fit : IsHeightFit tree w k
   height-fit = record {
-    given = given-fits tree page w small narrow height flat k on whole;
-    limits = held-fits tree page w small narrow height flat k on whole;
-    held = λ auto. held-low auto (content_height tree w height k auto) (terms-small.held auto);
+    given = given-fits tree page w small narrow flat k on whole;
+    limits = held-fits tree page w small narrow flat k on whole;
+    held = λ auto. held-low auto (content_height tree w k auto) (terms-small.held auto);
   }
 
-  pub replaced-fit : is_replaced_at tree k ≡ true → IsReplacedFit tree w height k (room tree w height k)
+  pub replaced-fit : is_replaced_at tree k ≡ true → IsReplacedFit tree w k (room tree w k)
   replaced-fit e = record {
     own = height-fit;
-    width = replaced-fits tree page w small narrow height flat k on whole;
-    ratio = by_width-fits tree page w small narrow height flat k on whole;
+    width = replaced-fits tree page w small narrow flat k on whole;
+    ratio = by_width-fits tree page w small narrow flat k on whole;
     tall = let l = terms-small.replaced in omega (arith, l);
   }
 
-  pub lead-fit : (cb : Band ℤ) → across cb ≡ room tree w height k → IsBandLow cb → BoxFits tree w cb k
-  lead-fit cb same low = box-fits tree page w small narrow height flat k on whole cb same low.left low.right
+  pub lead-fit : (cb : Band ℤ) → across cb ≡ room tree w k → IsBandLow cb → BoxFits tree w cb k
+  lead-fit cb same low = box-fits tree page w small narrow flat k on whole cb same low.left low.right

@@ -10,14 +10,14 @@ use Rattle.flow_steps.specs.Flow.{Context, Step}
 use Rattle.lay_flow.specs.steps.Flow.{in_lines, children_of, content_by, content_of}
 use Rattle.lay_flow.proofs.Same.{content-named}
 
-module _ (tree : BoxTree) (w : World) (height : ℕ) (apart : ℕ → Alone) (b : ℕ) (cb : Band ℤ) (top : ℤ) (s : Context) (within : b < length tree.boxes) where
+module _ (tree : BoxTree) (w : World) (apart : ℕ → Alone) (b : ℕ) (cb : Band ℤ) (top : ℤ) (s : Context) (within : b < length tree.boxes) where
   abbrev by : Bool → Step
-  by x = elim x [ true ↦ in_lines tree w apart b cb top s | false ↦ children_of tree w height apart cb top s (flow_children tree b) ]
+  by x = elim x [ true ↦ in_lines tree w apart b cb top s | false ↦ children_of tree w apart cb top s (flow_children tree b) ]
 
-  pub by-lines : has_line tree b ≡ true → in_lines tree w apart b cb top s ≡ content_of tree w height apart b cb top s
+  pub by-lines : has_line tree b ≡ true → in_lines tree w apart b cb top s ≡ content_of tree w apart b cb top s
   unfolding content_by content_of
-  by-lines t = sym (ap by t) ∙ content-named tree w height apart b cb top s within
+  by-lines t = sym (ap by t) ∙ content-named tree w apart b cb top s within
 
-  pub by-children : (ks : List ℕ) → has_line tree b ≡ false → ks ≡ flow_children tree b → children_of tree w height apart cb top s ks ≡ content_of tree w height apart b cb top s
+  pub by-children : (ks : List ℕ) → has_line tree b ≡ false → ks ≡ flow_children tree b → children_of tree w apart cb top s ks ≡ content_of tree w apart b cb top s
   unfolding content_by content_of
-  by-children ks t is = ap (children_of tree w height apart cb top s) is ∙ sym (ap by t) ∙ content-named tree w height apart b cb top s within
+  by-children ks t is = ap (children_of tree w apart cb top s) is ∙ sym (ap by t) ∙ content-named tree w apart b cb top s within

@@ -59,15 +59,15 @@ block-small m k true top (below edge run true) t low l = less (2 ^ 92) m k (edge
 block-small m k false top (below edge run stuck) t low l = less (2 ^ 92) m k (edge +ℤ collapse run) top (edge-small edge run low.0 low.1) t l
 
 -- a height that is given, and one of the content
-pub known-tall : (tree : BoxTree) (w : World) (height b : ℕ) (h : ℤ) → IsHeightFit tree w height b → given_height tree w height b ≡ Some h → IsSmall (2 ^ 94) (held_height tree w height b h)
-known-tall tree w height b h fit given =
-    let same : content_height tree w height b (pos 0) ≡ held_height tree w height b h = ap (λ o. held_height tree w height b (unwrap_or o (pos 0))) given in
-    held-small (2 ^ 94) (pos 0) (held_height tree w height b h) (subst (IsHeightHeld (2 ^ 90) (pos 0)) same (fit.held (pos 0))) (zero-small (2 ^ 94)) (omega arith)
+pub known-tall : (tree : BoxTree) (w : World) (b : ℕ) (h : ℤ) → IsHeightFit tree w b → given_height tree w b ≡ Some h → IsSmall (2 ^ 94) (held_height tree w b h)
+known-tall tree w b h fit given =
+    let same : content_height tree w b (pos 0) ≡ held_height tree w b h = ap (λ o. held_height tree w b (unwrap_or o (pos 0))) given in
+    held-small (2 ^ 94) (pos 0) (held_height tree w b h) (subst (IsHeightHeld (2 ^ 90) (pos 0)) same (fit.held (pos 0))) (zero-small (2 ^ 94)) (omega arith)
 
-pub content-tall : (tree : BoxTree) (w : World) (height b : ℕ) (h : ℤ) → IsHeightFit tree w height b → given_height tree w height b ≡ None → IsSmall (2 ^ 94) h → IsSmall (2 ^ 94) (held_height tree w height b h)
-content-tall tree w height b h fit given small =
-    let same : content_height tree w height b h ≡ held_height tree w height b h = ap (λ o. held_height tree w height b (unwrap_or o h)) given in
-    held-small (2 ^ 94) h (held_height tree w height b h) (subst (IsHeightHeld (2 ^ 90) h) same (fit.held h)) small (omega arith)
+pub content-tall : (tree : BoxTree) (w : World) (b : ℕ) (h : ℤ) → IsHeightFit tree w b → given_height tree w b ≡ None → IsSmall (2 ^ 94) h → IsSmall (2 ^ 94) (held_height tree w b h)
+content-tall tree w b h fit given small =
+    let same : content_height tree w b h ≡ held_height tree w b h = ap (λ o. held_height tree w b (unwrap_or o h)) given in
+    held-small (2 ^ 94) h (held_height tree w b h) (subst (IsHeightHeld (2 ^ 90) h) same (fit.held h)) small (omega arith)
 
 -- ---- a box before its height
 

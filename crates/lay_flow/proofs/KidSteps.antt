@@ -14,25 +14,25 @@ others-hold P ks i l a =
     let next : suc i ≡ i + 1 = omega arith in
     subst (λ (n : ℕ). AllByRecursion P (drop n ks)) next (subst (λ (x : List ℕ). AllByRecursion P x) (drop-cons ks i 0 l) a).1
 
-module _ (tree : BoxTree) (w : World) (height : ℕ) where
+module _ (tree : BoxTree) (w : World) where
   pub kids-next : (apart : ℕ → Alone) (cb : Band ℤ) (top : ℤ) (s : Context) (ks : List ℕ) (i : ℕ) → i < length ks → let k = slice_index_or ks i 0 in
-      children_of tree w height apart cb top s (drop i ks) ≡ followed (child_of tree w height apart cb top s k) (children_of tree w height apart cb top (child_of tree w height apart cb top s k).context (drop (i + 1) ks))
+      children_of tree w apart cb top s (drop i ks) ≡ followed (child_of tree w apart cb top s k) (children_of tree w apart cb top (child_of tree w apart cb top s k).context (drop (i + 1) ks))
   kids-next apart cb top s ks i l =
       let next : suc i ≡ i + 1 = omega arith in
-      let one = child_of tree w height apart cb top s (slice_index_or ks i 0) in
-      ap (λ (x : List ℕ). children_of tree w height apart cb top s x) (drop-cons ks i 0 l)
-      ∙ ap (λ (n : ℕ). followed one (children_of tree w height apart cb top one.context (drop n ks))) next
+      let one = child_of tree w apart cb top s (slice_index_or ks i 0) in
+      ap (λ (x : List ℕ). children_of tree w apart cb top s x) (drop-cons ks i 0 l)
+      ∙ ap (λ (n : ℕ). followed one (children_of tree w apart cb top one.context (drop n ks))) next
 
   pub boxes-next : (table : List (Option Alone)) (ks : List ℕ) (i : ℕ) → i < length ks
-      → with_boxes tree w height table (drop i ks) ≡ with_boxes tree w height (with_box tree w height table (slice_index_or ks i 0)) (drop (i + 1) ks)
+      → with_boxes tree w table (drop i ks) ≡ with_boxes tree w (with_box tree w table (slice_index_or ks i 0)) (drop (i + 1) ks)
   boxes-next table ks i l =
       let next : suc i ≡ i + 1 = omega arith in
-      ap (λ (x : List ℕ). with_boxes tree w height table x) (drop-cons ks i 0 l)
-      ∙ ap (λ (n : ℕ). with_boxes tree w height (with_box tree w height table (slice_index_or ks i 0)) (drop n ks)) next
+      ap (λ (x : List ℕ). with_boxes tree w table x) (drop-cons ks i 0 l)
+      ∙ ap (λ (n : ℕ). with_boxes tree w (with_box tree w table (slice_index_or ks i 0)) (drop n ks)) next
 
-  pub added-next : (table : List (Option Alone)) (ks : List ℕ) (i : ℕ) → i < length ks → BoxesAddedFit tree w height table (drop i ks)
-      → BoxAddedFits tree w height table (slice_index_or ks i 0) × BoxesAddedFit tree w height (with_box tree w height table (slice_index_or ks i 0)) (drop (i + 1) ks)
+  pub added-next : (table : List (Option Alone)) (ks : List ℕ) (i : ℕ) → i < length ks → BoxesAddedFit tree w table (drop i ks)
+      → BoxAddedFits tree w table (slice_index_or ks i 0) × BoxesAddedFit tree w (with_box tree w table (slice_index_or ks i 0)) (drop (i + 1) ks)
   added-next table ks i l f =
       let next : suc i ≡ i + 1 = omega arith in
-      let both = subst (λ (x : List ℕ). BoxesAddedFit tree w height table x) (drop-cons ks i 0 l) f in
-      (both.0, subst (λ (n : ℕ). BoxesAddedFit tree w height (with_box tree w height table (slice_index_or ks i 0)) (drop n ks)) next both.1)
+      let both = subst (λ (x : List ℕ). BoxesAddedFit tree w table x) (drop-cons ks i 0 l) f in
+      (both.0, subst (λ (n : ℕ). BoxesAddedFit tree w (with_box tree w table (slice_index_or ks i 0)) (drop n ks)) next both.1)

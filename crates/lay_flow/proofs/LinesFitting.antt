@@ -91,13 +91,13 @@ module _ (tree : BoxTree) (w : World) (apart : ℕ → Alone) (small : (j : ℕ)
 
 -- ---- the lines of a container
 
-module _ (tree : BoxTree) (page : IsFarPage tree) (first : IsBoxed tree 0) (w : World) (small : w.s ≤ 256) (narrow : w.w ≤ 16384) (height : ℕ) (flat : height ≤ 16384) where
+module _ (tree : BoxTree) (page : IsFarPage tree) (first : IsBoxed tree 0) (w : World) (small : w.s ≤ 256) (narrow : w.w ≤ 16384) (flat : w.h ≤ 16384) where
   pub lines-fit : (k : ℕ) → IsOnPage tree.boxes k → IsWhole tree k → (apart : ℕ → Alone) (cb : Band ℤ) (top : ℤ) (s : Context) → ((j : ℕ) → IsAloneIn (all_around (2 ^ 72)) (2 ^ 72) (apart j))
-      → across cb ≡ (widths tree w height k (room tree w height k)).content → IsBandIn (all_around (2 ^ 81)) cb → IsLevelIn (all_around (2 ^ 81)) top
+      → across cb ≡ (widths tree w k (room tree w k)).content → IsBandIn (all_around (2 ^ 81)) cb → IsLevelIn (all_around (2 ^ 81)) top
       → AllByRecursion (IsFloatIn (all_around (2 ^ 81))) s.floats → AllByRecursion (IsLevelIn (all_around (2 ^ 81))) (option_to_list s.least)
       → LinesFit (inline_context tree w apart k cb) top (unwrap_or s.least top) s.floats
   lines-fit k on whole apart cb top s alone same band at beside above =
-      lines-fit-here tree page first w small narrow height flat k on whole (inner_table tree w apart k) cb same (inners-low tree w apart alone k) top (unwrap_or s.least top) s.floats band at (by s.least above) beside
+      lines-fit-here tree page first w small narrow flat k on whole (inner_table tree w apart k) cb same (inners-low tree w apart alone k) top (unwrap_or s.least top) s.floats band at (by s.least above) beside
     where
       by : (o : Option ℤ) → AllByRecursion (IsLevelIn (all_around (2 ^ 81))) (option_to_list o) → IsLevelIn (all_around (2 ^ 81)) (unwrap_or o top)
       by None a = at

@@ -22,25 +22,25 @@ use Rattle.lay_flow.specs.Fits.{IsHeightFit, IsReplacedFit, IsShapeFit}
 use Rattle.lay_flow.specs.Low.{IsBandLow}
 use Rattle.lay_flow.specs.WalkFits.{inline_context}
 
-module _ (tree : BoxTree) (w : World) (height : ℕ) where
+module _ (tree : BoxTree) (w : World) where
   -- a box that is laid out whole, in its containing block
   pub record IsBoxFit (k : ℕ) : Type 0 where
-    pub shape : IsShapeFit tree w height k (room tree w height k)
-    pub own_height : IsHeightFit tree w height k
-    pub replaced : is_replaced_at tree k ≡ true → IsReplacedFit tree w height k (room tree w height k)
-    pub lead : (cb : Band ℤ) → across cb ≡ room tree w height k → IsBandLow cb → BoxFits tree w cb k
+    pub shape : IsShapeFit tree w k (room tree w k)
+    pub own_height : IsHeightFit tree w k
+    pub replaced : is_replaced_at tree k ≡ true → IsReplacedFit tree w k (room tree w k)
+    pub lead : (cb : Band ℤ) → across cb ≡ room tree w k → IsBandLow cb → BoxFits tree w cb k
     pub in_lines : has_line tree k ≡ true → (apart : ℕ → Alone) (cb : Band ℤ) (top : ℤ) (s : Context) → ((j : ℕ) → IsAloneIn (all_around (2 ^ 72)) (2 ^ 72) (apart j))
-        → across cb ≡ (widths tree w height k (room tree w height k)).content → IsBandIn (all_around (2 ^ 81)) cb → IsLevelIn (all_around (2 ^ 81)) top
+        → across cb ≡ (widths tree w k (room tree w k)).content → IsBandIn (all_around (2 ^ 81)) cb → IsLevelIn (all_around (2 ^ 81)) top
         → AllByRecursion (IsFloatIn (all_around (2 ^ 81))) s.floats → AllByRecursion (IsLevelIn (all_around (2 ^ 81))) (option_to_list s.least)
         → LinesFit (inline_context tree w apart k cb) top (unwrap_or s.least top) s.floats
 
   -- how far it goes on, and what is computed of each box
   pub record IsPageFit : Type 0 where
     pub few_boxes : length tree.boxes ≤ 16384
-    pub few_characters : sum_by (λ (b : BoxNode). length (chars b.chars)) tree.boxes ≤ 262144
+    pub few_characters : sum_by (λ (b : BoxNode). length (chars b.chars)) tree.boxes ≤ 524288
     pub root : IsWhole tree 0
-    pub boxes : (k : ℕ) → IsOnPage tree.boxes k → IsWhole tree k → ArePropertiesSmall tree w height (2 ^ 42) k
+    pub boxes : (k : ℕ) → IsOnPage tree.boxes k → IsWhole tree k → ArePropertiesSmall tree w (2 ^ 42) k
     pub raises : AreRaisesSmall tree w (2 ^ 42)
-    pub lines : (k : ℕ) → IsOnPage tree.boxes k → IsInlineBoxSmall tree w height (2 ^ 42) k
+    pub lines : (k : ℕ) → IsOnPage tree.boxes k → IsInlineBoxSmall tree w (2 ^ 42) k
     pub width : AllSmall (pos (64 * w.w) ∷ [])
     pub each : (k : ℕ) → IsOnPage tree.boxes k → IsWhole tree k → IsBoxFit k

@@ -21,32 +21,32 @@ use Rattle.lay_flow.proofs.LinesFitting.{lines-fit}
 use Rattle.lay_flow.proofs.PageComes.{page-comes-fit}
 use Rattle.lay_flow.proofs.PageFits.{IsBoxFit, IsPageFit}
 
-module _ (tree : BoxTree) (page : IsFarPage tree) (w : World) (sized : w.s ≤ 256) (narrow : w.w ≤ 16384) (height : ℕ) (flat : height ≤ 16384) where
-  box-fit : (k : ℕ) → IsOnPage tree.boxes k → IsWhole tree k → IsBoxFit tree w height k
+module _ (tree : BoxTree) (page : IsFarPage tree) (w : World) (sized : w.s ≤ 256) (narrow : w.w ≤ 16384) (flat : w.h ≤ 16384) where
+  box-fit : (k : ℕ) → IsOnPage tree.boxes k → IsWhole tree k → IsBoxFit tree w k
   box-fit k on whole =
       let there = within-page tree k on in
       record {
-        shape = shape-fit tree page w sized narrow height flat k on whole;
-        own_height = height-fit tree page w sized narrow height flat k on whole;
-        replaced = replaced-fit tree page w sized narrow height flat k on whole;
-        lead = lead-fit tree page w sized narrow height flat k on whole;
-        in_lines = λ e. lines-fit tree page (first-boxed tree (omega (arith, there))) w sized narrow height flat k on whole;
+        shape = shape-fit tree page w sized narrow flat k on whole;
+        own_height = height-fit tree page w sized narrow flat k on whole;
+        replaced = replaced-fit tree page w sized narrow flat k on whole;
+        lead = lead-fit tree page w sized narrow flat k on whole;
+        in_lines = λ e. lines-fit tree page (first-boxed tree (omega (arith, there))) w sized narrow flat k on whole;
       }
 
-  page-fit : IsPageFit tree w height
+  page-fit : IsPageFit tree w
   page-fit = record {
     few_boxes = page.few_boxes;
     few_characters = page.few_characters;
     root = root-whole tree;
-    boxes = properties-small tree page w sized narrow height flat;
+    boxes = properties-small tree page w sized narrow flat;
     raises = raises-small tree page.low w sized;
-    lines = inline-small tree page w sized narrow height flat;
+    lines = inline-small tree page w sized narrow flat;
     width = (omega (arith, narrow), tt);
     each = box-fit;
   }
 
-pub within-limits-fits : (tree : BoxTree) (height : ℕ) (is_open : Reading → Bool) → IsWithinLimits tree height is_open → AllFit tree is_open (λ e. PageComesFit tree e.world height)
-within-limits-fits tree height is_open l = (
+pub within-limits-fits : (tree : BoxTree) (is_open : Reading → Bool) → IsWithinLimits tree is_open → AllFit tree is_open (λ e. PageComesFit tree e.world)
+within-limits-fits tree is_open l = (
   boxes-fit tree is_open (small-boxes tree l.small is_open l.sized),
-  λ e o. page-comes-fit tree e.world height (page-fit tree (far-page tree l.small l.few_characters) e.world (l.sized e o) (l.narrow e o) height l.low),
+  λ e o. page-comes-fit tree e.world (page-fit tree (far-page tree l.small l.few_characters) e.world (l.sized e o) (l.narrow e o) (l.low e o)),
 )

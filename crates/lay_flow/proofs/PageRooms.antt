@@ -34,27 +34,27 @@ holder-whole tree up kid c e = by (slice_get tree.boxes up) refl c e
     by None f c e = refl
     by (Some x) f c e = let l = c.1 in by_kind x.kind x.kids (omega (arith, l)) (tree.ok.each up x f).leaf e
 
-module _ (tree : BoxTree) (w : World) (height : ℕ) where
+module _ (tree : BoxTree) (w : World) where
   abbrev within : (ℕ → ℤ) → Option ℕ → ℤ
-  within rooms o = option_map_or (λ parent. room_inside tree w height parent (rooms parent)) o (pos (64 * w.w))
+  within rooms o = option_map_or (λ parent. room_inside tree w parent (rooms parent)) o (pos (64 * w.w))
 
   -- more levels than boxes before it change nothing
-  room-enough : (n m at : ℕ) → IsOnPage tree.boxes at → at < n → at < m → room_to n tree w height at ≡ room_to m tree w height at
+  room-enough : (n m at : ℕ) → IsOnPage tree.boxes at → at < n → at < m → room_to n tree w at ≡ room_to m tree w at
   unfolding room_to
   room-enough zero m at page l k = absurd (omega (arith, l))
   room-enough (suc n) zero at page l k = absurd (omega (arith, k))
   room-enough (suc n) (suc m) at page l k = by (parent-of tree at page) (λ p before on. room-enough n m p on (omega (arith, before, l)) (omega (arith, before, k)))
     where
-      by : ((parent_of tree.boxes at ≡ None) ⊎ HasParent tree.boxes at) → ((p : ℕ) → p < at → IsOnPage tree.boxes p → room_to n tree w height p ≡ room_to m tree w height p)
-          → within (room_to n tree w height) (parent_of tree.boxes at) ≡ within (room_to m tree w height) (parent_of tree.boxes at)
-      by (inl e) again = ap (within (room_to n tree w height)) e ∙ sym (ap (within (room_to m tree w height)) e)
+      by : ((parent_of tree.boxes at ≡ None) ⊎ HasParent tree.boxes at) → ((p : ℕ) → p < at → IsOnPage tree.boxes p → room_to n tree w p ≡ room_to m tree w p)
+          → within (room_to n tree w) (parent_of tree.boxes at) ≡ within (room_to m tree w) (parent_of tree.boxes at)
+      by (inl e) again = ap (within (room_to n tree w)) e ∙ sym (ap (within (room_to m tree w)) e)
       by (inr h) again =
-          ap (within (room_to n tree w height)) h.is
-          ∙ ap (room_inside tree w height h.parent) (again h.parent h.before h.page)
-          ∙ sym (ap (within (room_to m tree w height)) h.is)
+          ap (within (room_to n tree w)) h.is
+          ∙ ap (room_inside tree w h.parent) (again h.parent h.before h.page)
+          ∙ sym (ap (within (room_to m tree w)) h.is)
 
-  module _ (width : AllSmall (pos (64 * w.w) ∷ [])) (shape : (k : ℕ) → IsOnPage tree.boxes k → IsWhole tree k → IsShapeFit tree w height k (room_to (suc k) tree w height k)) where
-    pub rooms-fit : (levels b : ℕ) → IsOnPage tree.boxes b → b < levels → RoomFits tree w height levels b
+  module _ (width : AllSmall (pos (64 * w.w) ∷ [])) (shape : (k : ℕ) → IsOnPage tree.boxes k → IsWhole tree k → IsShapeFit tree w k (room_to (suc k) tree w k)) where
+    pub rooms-fit : (levels b : ℕ) → IsOnPage tree.boxes b → b < levels → RoomFits tree w levels b
     unfolding RoomFits
     rooms-fit zero b on l = absurd (omega (arith, l))
     rooms-fit (suc levels) b (IsOnPage.root _ c) l =
@@ -65,4 +65,4 @@ module _ (tree : BoxTree) (w : World) (height : ℕ) where
         let after = kid.after in
         let before : up < levels = omega (arith, after, l) in
         let e = kid.parent in
-        rw e (rooms-fit levels up on before, λ block. subst (IsShapeFit tree w height up) (room-enough (suc up) levels up on (omega arith) before) (shape up on (holder-whole tree up b c block)))
+        rw e (rooms-fit levels up on before, λ block. subst (IsShapeFit tree w up) (room-enough (suc up) levels up on (omega arith) before) (shape up on (holder-whole tree up b c block)))

@@ -36,11 +36,11 @@ use Rattle.lay_flow.specs.WayFits.{ForwardFits, FromFits, StandingFits, ReachFit
 use Rattle.lay_flow.specs.steps.Flow.{reached_from, reached_of}
 use Rattle.lay_flow.proofs.WaysFit.{ways-fit}
 
-module _ (tree : BoxTree) (w : World) (height : ℕ) (own turned : ℕ → Bounds) (s t : ℕ) (fine : 8 * t ≤ s)
-    (boxes : (k : ℕ) → IsOnPage tree.boxes k → IsWhole tree k → IsBoxSmall tree w height t k) (low : s ≤ 2 ^ 80)
-    (fits : (cb : Band ℤ) (k : ℕ) → IsFlowKid tree w height k (across cb) → is_floated_at tree k ≡ false → IsBandLow cb → BoxFits tree w cb k)
+module _ (tree : BoxTree) (w : World) (own turned : ℕ → Bounds) (s t : ℕ) (fine : 8 * t ≤ s)
+    (boxes : (k : ℕ) → IsOnPage tree.boxes k → IsWhole tree k → IsBoxSmall tree w t k) (low : s ≤ 2 ^ 80)
+    (fits : (cb : Band ℤ) (k : ℕ) → IsFlowKid tree w k (across cb) → is_floated_at tree k ≡ false → IsBandLow cb → BoxFits tree w cb k)
     (apart : ℕ → Alone) (alone_in : (k : ℕ) → IsAloneIn (own k) s (apart k)) (cb : Band ℤ) (c : Context) (k : ℕ)
-    (l : k < length tree.boxes) (i : IsFlowKid tree w height k (across cb)) (f : is_floated_at tree k ≡ false) where
+    (l : k < length tree.boxes) (i : IsFlowKid tree w k (across cb)) (f : is_floated_at tree k ≡ false) where
   abbrev rises : ℕ → Bounds
   rises j = rise tree own turned s j
 
@@ -51,27 +51,27 @@ module _ (tree : BoxTree) (w : World) (height : ℕ) (own turned : ℕ → Bound
   IsNarrow b = AreInside b (all_around (2 ^ 88))
 
   abbrev IsBegun : Bounds → Base → Type 0
-  IsBegun b base = IsBaseIn tree w height own turned s t fine boxes (size_in apart) base c.floats c.least b base
+  IsBegun b base = IsBaseIn tree w own turned s t fine boxes (size_in apart) base c.floats c.least b base
 
-  sized : (base : Base) (b : Bounds) (g : Waiting ℤ) → IsSizeIn tree w height own turned s t fine boxes (size_in apart) base c.floats c.least b g
+  sized : (base : Base) (b : Bounds) (g : Waiting ℤ) → IsSizeIn tree w own turned s t fine boxes (size_in apart) base c.floats c.least b g
   unfolding size_in
   sized base b g = let a = alone_in g.at in record { wide = a.width; tall = a.height }
 
   forward-fits : (b : Bounds) (base : Base) (passed : ℕ → Bool) (run : Run ℤ) → IsBegun b base → AllByRecursion (IsFloatIn b) c.floats → AllByRecursion (IsLevelIn b) (option_to_list c.least) → IsBandIn b cb
       → within.IsRunLow s run → IsNarrow (grown b (rises k)) → ForwardFits tree w apart cb c k base passed run
   forward-fits b base passed run begun floats least band r n =
-      ways-fit tree w height own turned s t fine boxes low fits (size_in apart) base c.floats c.least b (sized base b) begun floats least passed b cb k run [] l i f band r
+      ways-fit tree w own turned s t fine boxes low fits (size_in apart) base c.floats c.least b (sized base b) begun floats least passed b cb k run [] l i f band r
       (record { bands = tt; room = record { up = omega arith; down = omega arith; aside = omega arith } }) n
 
   found-in : (b : Bounds) (base : Base) (passed : ℕ → Bool) (run : Run ℤ) (begun : IsBegun b base) (floats : AllByRecursion (IsFloatIn b) c.floats) (least : AllByRecursion (IsLevelIn b) (option_to_list c.least)) → IsBandIn b cb
-      → within.IsRunLow s run → IsBoxFound tree w height own turned s t fine boxes (size_in apart) base c.floats c.least b (sized base b) begun floats least b k (forward (ground_of tree w apart base c) passed cb k run)
+      → within.IsRunLow s run → IsBoxFound tree w own turned s t fine boxes (size_in apart) base c.floats c.least b (sized base b) begun floats least b k (forward (ground_of tree w apart base c) passed cb k run)
   found-in b base passed run begun floats least band r =
-      way-in tree w height own turned s t fine boxes (size_in apart) base c.floats c.least b (sized base b) begun floats least passed (length tree.boxes) b cb k run [] l i f band r
+      way-in tree w own turned s t fine boxes (size_in apart) base c.floats c.least b (sized base b) begun floats least passed (length tree.boxes) b cb k run [] l i f band r
       (record { bands = tt; room = record { up = omega arith; down = omega arith; aside = omega arith } })
 
   -- the box that is cleared where a way ends is low
   end-low : (b : Bounds) (base : Base) (begun : IsBegun b base) (floats : AllByRecursion (IsFloatIn b) c.floats) (least : AllByRecursion (IsLevelIn b) (option_to_list c.least)) (ws : List (Waiting ℤ)) (end : End) → IsNarrow (grown b (rises k))
-      → IsBoxEndIn tree w height own turned s t fine boxes (size_in apart) base c.floats c.least b (sized base b) begun floats least b k ws end → IsClearedLow (cleared_of end)
+      → IsBoxEndIn tree w own turned s t fine boxes (size_in apart) base c.floats c.least b (sized base b) begun floats least b k ws end → IsClearedLow (cleared_of end)
   end-low b base begun floats least ws goes_on n q = tt
   end-low b base begun floats least ws solid n q = tt
   end-low b base begun floats least ws (cleared d y) n q =
@@ -87,7 +87,7 @@ module _ (tree : BoxTree) (w : World) (height : ℕ) (own turned : ℕ → Bound
       forward-fits (near b) (stands edge) (is_up_to k) no_run e (floats-wider b (near b) c.floats wide floats) (levels-wider b (near b) (option_to_list c.least) wide least) (band-wider b (near b) wide band) (none-low s) n
 
   -- where it is reached, and what is ahead of it
-  pub reach-fits : (b : Bounds) (ks : List ℕ) → IsBandIn b cb → IsContextIn tree w height own turned s t fine boxes apart alone_in b (k ∷ ks) c → IsStandingLow c.standing → IsNarrow (grown (near b) (rises k))
+  pub reach-fits : (b : Bounds) (ks : List ℕ) → IsBandIn b cb → IsContextIn tree w own turned s t fine boxes apart alone_in b (k ∷ ks) c → IsStandingLow c.standing → IsNarrow (grown (near b) (rises k))
       → ReachFits tree w apart cb c k
   reach-fits b ks band h low_is n = by c.standing h.standing low_is
     where
@@ -107,7 +107,7 @@ module _ (tree : BoxTree) (w : World) (height : ℕ) (own turned : ℕ → Bound
           pick None = (d, e)
           pick (Some x) = x
 
-      ended : (base : Base) (begun : IsBegun b base) (ws : List (Waiting ℤ)) (end : End) → IsBoxEndIn tree w height own turned s t fine boxes (size_in apart) base c.floats c.least b (sized base b) begun h.floats h.least b k ws end
+      ended : (base : Base) (begun : IsBegun b base) (ws : List (Waiting ℤ)) (end : End) → IsBoxEndIn tree w own turned s t fine boxes (size_in apart) base c.floats c.least b (sized base b) begun h.floats h.least b k ws end
           → FromFits tree w apart cb c k (cleared_of end)
       ended base begun ws goes_on q = (tt, λ edge e. absurd (cc))
       ended base begun ws solid q = (tt, λ edge e. absurd (cc))
@@ -117,7 +117,7 @@ module _ (tree : BoxTree) (w : World) (height : ℕ) (own turned : ℕ → Bound
             from edge (subst (λ (z : ℤ). IsLevelIn (near b) z) (sym both.1) (match-pending tree own turned s b k ks d y both.0 f (ahead (q.0 ks))))),
       )
 
-      by : (st : Standing) → IsStandingIn tree w height own turned s t fine boxes apart alone_in b (k ∷ ks) st → IsStandingLow st → StandingFits tree w apart cb c k st
+      by : (st : Standing) → IsStandingIn tree w own turned s t fine boxes apart alone_in b (k ∷ ks) st → IsStandingLow st → StandingFits tree w apart cb c k st
       by (at_top y None) q o = (o.0, (tt, λ edge e. absurd (cc)))
       by (at_top y (Some d)) q o = (
         o.0,
@@ -133,7 +133,7 @@ module _ (tree : BoxTree) (w : World) (height : ℕ) (own turned : ℕ → Bound
           (o.0, o.1, forward-fits b (hangs edge) none_passed run q.0 h.floats h.least band q.1 narrow, run-low x.run found.run, ended (hangs edge) q.0 x.waiting x.end found.end)
 
   -- the box that is cleared ahead of it is low
-  pub ahead-of-reached-low : (b : Bounds) (ks : List ℕ) → IsBandIn b cb → IsContextIn tree w height own turned s t fine boxes apart alone_in b (k ∷ ks) c → IsStandingLow c.standing → IsNarrow (grown (near b) (rises k))
+  pub ahead-of-reached-low : (b : Bounds) (ks : List ℕ) → IsBandIn b cb → IsContextIn tree w own turned s t fine boxes apart alone_in b (k ∷ ks) c → IsStandingLow c.standing → IsNarrow (grown (near b) (rises k))
       → IsClearedLow (reached_of tree w apart cb c k).reached.cleared
   unfolding reached_of reached_from
   ahead-of-reached-low b ks band h low_is n = by c.standing h.standing low_is
@@ -169,13 +169,13 @@ module _ (tree : BoxTree) (w : World) (height : ℕ) (own turned : ℕ → Bound
           by_match true e = itself d.1 (match-pending tree own turned s b k ks d.0 d.1 (same-number d.0 e) f p)
           by_match false e = l
 
-      pending : (base : Base) (begun : IsBegun b base) (ws : List (Waiting ℤ)) (end : End) → IsBoxEndIn tree w height own turned s t fine boxes (size_in apart) base c.floats c.least b (sized base b) begun h.floats h.least b k ws end
+      pending : (base : Base) (begun : IsBegun b base) (ws : List (Waiting ℤ)) (end : End) → IsBoxEndIn tree w own turned s t fine boxes (size_in apart) base c.floats c.least b (sized base b) begun h.floats h.least b k ws end
           → IsPending tree own turned s b (k ∷ ks) (cleared_of end)
       pending base begun ws goes_on q = tt
       pending base begun ws solid q = tt
       pending base begun ws (cleared d y) q = ahead (q.0 ks)
 
-      by : (st : Standing) → IsStandingIn tree w height own turned s t fine boxes apart alone_in b (k ∷ ks) st → IsStandingLow st → IsClearedLow (reached_of tree w apart cb (record c { standing = st }) k).reached.cleared
+      by : (st : Standing) → IsStandingIn tree w own turned s t fine boxes apart alone_in b (k ∷ ks) st → IsStandingLow st → IsClearedLow (reached_of tree w apart cb (record c { standing = st }) k).reached.cleared
       by (at_top y next) q o = from y next no_run q.1 o.1
       by (below edge run stuck) q o =
           let found = found-in b (hangs edge) none_passed run q.0 h.floats h.least band q.1 in

@@ -9,21 +9,21 @@ use Rattle.layout_semantics.specs.FlowBoxes.{room_to}
 use Rattle.lay_flow.specs.AloneFits.{RoomFits}
 use Rattle.lay_flow.specs.Fits.{IsShapeFit}
 
-module _ (tree : BoxTree) (w : World) (height : ℕ) where
-  pub room-top : (levels b : ℕ) → levels ≡ 0 → RoomFits tree w height levels b → AllSmall (pos (64 * w.w) ∷ [])
+module _ (tree : BoxTree) (w : World) where
+  pub room-top : (levels b : ℕ) → levels ≡ 0 → RoomFits tree w levels b → AllSmall (pos (64 * w.w) ∷ [])
   unfolding RoomFits
   room-top zero b e f = f
   room-top (suc levels) b e f = absurd (omega (arith, e))
 
-  pub room-alone : (levels b : ℕ) → parent_of tree.boxes b ≡ None → RoomFits tree w height levels b → AllSmall (pos (64 * w.w) ∷ [])
+  pub room-alone : (levels b : ℕ) → parent_of tree.boxes b ≡ None → RoomFits tree w levels b → AllSmall (pos (64 * w.w) ∷ [])
   unfolding RoomFits
   room-alone zero b e f = f
   room-alone (suc levels) b e f = rw e at f
 
-  pub room-inside : (levels n b parent : ℕ) → levels ≡ suc n → parent_of tree.boxes b ≡ Some parent → RoomFits tree w height levels b
-      → RoomFits tree w height n parent × (is_inline (kind_of tree parent) ≡ false → IsShapeFit tree w height parent (room_to n tree w height parent))
+  pub room-inside : (levels n b parent : ℕ) → levels ≡ suc n → parent_of tree.boxes b ≡ Some parent → RoomFits tree w levels b
+      → RoomFits tree w n parent × (is_inline (kind_of tree parent) ≡ false → IsShapeFit tree w parent (room_to n tree w parent))
   unfolding RoomFits
   room-inside zero n b parent l e f = absurd (omega (arith, l))
   room-inside (suc levels) n b parent l e f =
       let same : levels ≡ n = omega (arith, l) in
-      subst (λ (m : ℕ). RoomFits tree w height m parent × (is_inline (kind_of tree parent) ≡ false → IsShapeFit tree w height parent (room_to m tree w height parent))) same (rw e at f)
+      subst (λ (m : ℕ). RoomFits tree w m parent × (is_inline (kind_of tree parent) ≡ false → IsShapeFit tree w parent (room_to m tree w parent))) same (rw e at f)

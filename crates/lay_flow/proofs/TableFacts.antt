@@ -31,19 +31,19 @@ outside-within tree b = All-implied (IsFrom tree.boxes (suc b)) (λ (k : ℕ). k
 -- ---- the table of more boxes
 
 -- after the box before the last so many
-pub next-table : (tree : BoxTree) (w : World) (height : ℕ) (before after : List (Option Alone)) (n b : ℕ) → b ≡ length tree.boxes - suc n → before ≡ table_to tree w height n
-    → after ≡ with_container tree w height before b → after ≡ table_to tree w height (n + 1)
+pub next-table : (tree : BoxTree) (w : World) (before after : List (Option Alone)) (n b : ℕ) → b ≡ length tree.boxes - suc n → before ≡ table_to tree w n
+    → after ≡ with_container tree w before b → after ≡ table_to tree w (n + 1)
 unfolding table_to
-next-table tree w height before after n b last is added =
+next-table tree w before after n b last is added =
     let next : suc n ≡ n + 1 = omega arith in
     added
-    ∙ ap (λ (t : List (Option Alone)). with_container tree w height t b) is
-    ∙ ap (with_container tree w height (table_to tree w height n)) last
-    ∙ ap (table_to tree w height) next
+    ∙ ap (λ (t : List (Option Alone)). with_container tree w t b) is
+    ∙ ap (with_container tree w (table_to tree w n)) last
+    ∙ ap (table_to tree w) next
 
-pub first-table : (tree : BoxTree) (w : World) (height : ℕ) → replicate (length tree.boxes) None ≡ table_to tree w height 0
+pub first-table : (tree : BoxTree) (w : World) → replicate (length tree.boxes) None ≡ table_to tree w 0
 unfolding table_to
-first-table tree w height = refl
+first-table tree w = refl
 
 -- ---- tables at a reading
 
@@ -55,29 +55,29 @@ module _ {N : Type 0} (at : N → Reading → ℤ) (e : Reading) where
   table-set old new k a is = ap (λ (t : List (Option (AloneBox N))). table_at at t e) is ∙ map-set kept_at old k (Some a)
 
   -- with a box more, laid out by those before in so wide a containing block
-  pub box-added : (tree : BoxTree) (w : World) (height : ℕ) (old new apart : List (Option (AloneBox N))) (k levels : ℕ) (a : AloneBox N) (wide : ℤ) → new ≡ set old k (Some a) → apart ≡ old
-      → alone_at at a e ≡ alone_of tree w height (apart_at at apart e) k wide → levels ≡ suc k → wide ≡ room_to levels tree w height k
-      → table_at at new e ≡ with_box tree w height (table_at at old e) k
+  pub box-added : (tree : BoxTree) (w : World) (old new apart : List (Option (AloneBox N))) (k levels : ℕ) (a : AloneBox N) (wide : ℤ) → new ≡ set old k (Some a) → apart ≡ old
+      → alone_at at a e ≡ alone_of tree w (apart_at at apart e) k wide → levels ≡ suc k → wide ≡ room_to levels tree w k
+      → table_at at new e ≡ with_box tree w (table_at at old e) k
   unfolding with_box apart_at
-  box-added tree w height old new apart k levels a wide is same laid all own =
+  box-added tree w old new apart k levels a wide is same laid all own =
       table-set old new k a is
       ∙ ap (λ (x : Alone). set (table_at at old e) k (Some x))
       (laid
-      ∙ ap (λ (t : List (Option (AloneBox N))). alone_of tree w height (laid_at (table_at at t e)) k wide) same
-      ∙ ap (alone_of tree w height (laid_at (table_at at old e)) k) (own ∙ ap (λ (n : ℕ). room_to n tree w height k) all))
+      ∙ ap (λ (t : List (Option (AloneBox N))). alone_of tree w (laid_at (table_at at t e)) k wide) same
+      ∙ ap (alone_of tree w (laid_at (table_at at old e)) k) (own ∙ ap (λ (n : ℕ). room_to n tree w k) all))
 
   -- the boxes of a page, by the table of all that stands outside its flow
-  pub page-laid : (tree : BoxTree) (w : World) (height : ℕ) (apart places : List (Option (AloneBox N))) (a : AloneBox N) (wide : ℤ) → 0 < length tree.boxes → apart ≡ places
-      → alone_at at a e ≡ alone_of tree w height (apart_at at apart e) 0 wide → wide ≡ pos (64 * w.w) → table_at at places e ≡ table_to tree w height (length tree.boxes)
-      → boxes_at at a.boxes.items e ≡ page_boxes tree w height
+  pub page-laid : (tree : BoxTree) (w : World) (apart places : List (Option (AloneBox N))) (a : AloneBox N) (wide : ℤ) → 0 < length tree.boxes → apart ≡ places
+      → alone_at at a e ≡ alone_of tree w (apart_at at apart e) 0 wide → wide ≡ pos (64 * w.w) → table_at at places e ≡ table_to tree w (length tree.boxes)
+      → boxes_at at a.boxes.items e ≡ page_boxes tree w
   unfolding apart_at
-  page-laid tree w height apart places a wide some same laid own all =
+  page-laid tree w apart places a wide some same laid own all =
       ap (λ (x : Alone). x.boxes)
       (laid
-      ∙ ap (λ (t : List (Option (AloneBox N))). alone_of tree w height (laid_at (table_at at t e)) 0 wide) same
-      ∙ ap (λ (t : List (Option Alone)). alone_of tree w height (laid_at t) 0 wide) all
-      ∙ ap (alone_of tree w height (laid_at (table_to tree w height (length tree.boxes))) 0) own)
-      ∙ root-boxes tree w height some
+      ∙ ap (λ (t : List (Option (AloneBox N))). alone_of tree w (laid_at (table_at at t e)) 0 wide) same
+      ∙ ap (λ (t : List (Option Alone)). alone_of tree w (laid_at t) 0 wide) all
+      ∙ ap (alone_of tree w (laid_at (table_to tree w (length tree.boxes))) 0) own)
+      ∙ root-boxes tree w some
 
   pub table-none : (n : ℕ) (t : List (Option (AloneBox N))) → t ≡ replicate n None → table_at at t e ≡ replicate n None
   table-none n t is = ap (λ (t : List (Option (AloneBox N))). table_at at t e) is ∙ by n

@@ -37,19 +37,19 @@ none-at (suc n) (suc k) = none-at n k
 nothing-in : (b : Bounds) → IsAloneIn b greatest_length nothing_alone
 nothing-in b = record { width = omega arith; height = record { top = omega (arith, ints); bottom = omega (arith, ints) }; baseline = tt; boxes = tt }
 
-module _ (tree : BoxTree) (w : World) (height : ℕ) (page : IsPageFit tree w height) where
+module _ (tree : BoxTree) (w : World) (page : IsPageFit tree w) where
   pub fine : 8 * 2 ^ 42 ≤ greatest_length
   fine = omega arith
 
-  pub boxes-small : (k : ℕ) → IsOnPage tree.boxes k → IsWhole tree k → IsBoxSmall tree w height (2 ^ 42) k
-  boxes-small k p q = box-small tree w height (2 ^ 42) k (page.boxes k p q)
+  pub boxes-small : (k : ℕ) → IsOnPage tree.boxes k → IsWhole tree k → IsBoxSmall tree w (2 ^ 42) k
+  boxes-small k p q = box-small tree w (2 ^ 42) k (page.boxes k p q)
 
-  pub lines-small : (own : ℕ → Bounds) (apart : ℕ → Alone) (alone_in : (k : ℕ) → IsAloneIn (own k) greatest_length (apart k)) (n k : ℕ) (left wide : ℤ) → IsSound tree w height k wide → has_line tree k ≡ true
-      → IsContentSmall (line_context tree w height own (turned_of tree w height apart own) greatest_length (2 ^ 42) fine boxes-small apart alone_in n k left wide) own (turned_of tree w height apart own) greatest_length
-  lines-small own apart alone_in n k left wide i e = content-small tree w height (2 ^ 42) fine boxes-small page.lines page.raises.raises page.raises.each page.raises.all own apart alone_in n k left wide i
+  pub lines-small : (own : ℕ → Bounds) (apart : ℕ → Alone) (alone_in : (k : ℕ) → IsAloneIn (own k) greatest_length (apart k)) (n k : ℕ) (left wide : ℤ) → IsSound tree w k wide → has_line tree k ≡ true
+      → IsContentSmall (line_context tree w own (turned_of tree w apart own) greatest_length (2 ^ 42) fine boxes-small apart alone_in n k left wide) own (turned_of tree w apart own) greatest_length
+  lines-small own apart alone_in n k left wide i e = content-small tree w (2 ^ 42) fine boxes-small page.lines page.raises.raises page.raises.each page.raises.all own apart alone_in n k left wide i
 
-  turned-few : (apart : ℕ → Alone) (own : ℕ → Bounds) → IsFew tree own → IsFew tree (turned_of tree w height apart own)
-  turned-few apart own f k l = let a = f k l in let n = turn (unsigned_abs (int_min (base_of tree w height apart k) (pos 0))) (own k).up in omega (arith, a, n)
+  turned-few : (apart : ℕ → Alone) (own : ℕ → Bounds) → IsFew tree own → IsFew tree (turned_of tree w apart own)
+  turned-few apart own f k l = let a = f k l in let n = turn (unsigned_abs (int_min (base_of tree w apart k) (pos 0))) (own k).up in omega (arith, a, n)
     where
       turn : (m n : ℕ) → min m n ≤ n
       turn m n = omega arith
@@ -62,14 +62,14 @@ module _ (tree : BoxTree) (w : World) (height : ℕ) (page : IsPageFit tree w he
     pub far : (k : ℕ) → AreInside (own k) (all_around (2 ^ 72))
 
   abbrev pub turned : (apart : ℕ → Alone) → AreBounded apart → ℕ → Bounds
-  turned apart a = turned_of tree w height apart a.own
+  turned apart a = turned_of tree w apart a.own
 
   -- a box that is laid out by these
   abbrev pub rise_by : (apart : ℕ → Alone) → AreBounded apart → ℕ → Bounds
-  rise_by apart a k = alone_rise tree w height a.own (turned apart a) greatest_length (2 ^ 42) fine boxes-small apart a.known (lines-small a.own apart a.known) k
+  rise_by apart a k = alone_rise tree w a.own (turned apart a) greatest_length (2 ^ 42) fine boxes-small apart a.known (lines-small a.own apart a.known) k
 
   module _ (apart : ℕ → Alone) (a : AreBounded apart) (k : ℕ) (l : k < length tree.boxes) where
-    pub rise-few : size_of (rise_by apart a k) + unit ≤ unit * load tree k
+    pub rise-few : size_of (rise_by apart a k) + 2 * unit ≤ unit * load tree k
     rise-few = alone-few tree a.own (turned apart a) a.few (turned-few apart a.own a.few) k l
 
     pub rise-far : AreInside (rise_by apart a k) (all_around (2 ^ 72))
@@ -79,15 +79,15 @@ module _ (tree : BoxTree) (w : World) (height : ℕ) (page : IsPageFit tree w he
         let all = few tree page.few_boxes page.few_characters in
         record { up = omega (arith, here, order, all); down = omega (arith, here, order, all); aside = omega (arith, here, order, all) }
 
-    pub alone-known : (wide : ℤ) → IsSound tree w height k wide → IsWhole tree k → IsAloneIn (rise_by apart a k) greatest_length (alone_of tree w height apart k wide)
-    alone-known wide i q = subst (IsAloneIn (rise_by apart a k) greatest_length) (sym (alone-same tree w height apart k wide))
-        (alone-within tree w height a.own (turned apart a) greatest_length (2 ^ 42) fine boxes-small apart a.known (lines-small a.own apart a.known) k wide i q l)
+    pub alone-known : (wide : ℤ) → IsSound tree w k wide → IsWhole tree k → IsAloneIn (rise_by apart a k) greatest_length (alone_of tree w apart k wide)
+    alone-known wide i q = subst (IsAloneIn (rise_by apart a k) greatest_length) (sym (alone-same tree w apart k wide))
+        (alone-within tree w a.own (turned apart a) greatest_length (2 ^ 42) fine boxes-small apart a.known (lines-small a.own apart a.known) k wide i q l)
 
     abbrev own_after : ℕ → Bounds
     own_after j = elim (j == k) as (λ _. Bounds) [ true ↦ rise_by apart a k | false ↦ a.own j ]
 
     -- with that box too
-    with-one : (after : ℕ → Alone) (wide : ℤ) → IsSound tree w height k wide → IsWhole tree k → after k ≡ alone_of tree w height apart k wide → ((j : ℕ) → j ≢ k → after j ≡ apart j) → AreBounded after
+    with-one : (after : ℕ → Alone) (wide : ℤ) → IsSound tree w k wide → IsWhole tree k → after k ≡ alone_of tree w apart k wide → ((j : ℕ) → j ≢ k → after j ≡ apart j) → AreBounded after
     with-one after wide i q here others = record { own = own_after; known = known; few = few_; far = far }
       where
         known : (j : ℕ) → IsAloneIn (own_after j) greatest_length (after j)
@@ -104,8 +104,8 @@ module _ (tree : BoxTree) (w : World) (height : ℕ) (page : IsPageFit tree w he
         few_ : IsFew tree own_after
         few_ j m = by (j == k) refl
           where
-            by : (b : Bool) → (j == k) ≡ b → size_of (elim b as (λ _. Bounds) [ true ↦ rise_by apart a k | false ↦ a.own j ]) + unit ≤ unit * load tree j
-            by true e = let same : k ≡ j = grind (arith, nat_tests) in subst (λ (x : ℕ). size_of (rise_by apart a k) + unit ≤ unit * load tree x) same rise-few
+            by : (b : Bool) → (j == k) ≡ b → size_of (elim b as (λ _. Bounds) [ true ↦ rise_by apart a k | false ↦ a.own j ]) + 2 * unit ≤ unit * load tree j
+            by true e = let same : k ≡ j = grind (arith, nat_tests) in subst (λ (x : ℕ). size_of (rise_by apart a k) + 2 * unit ≤ unit * load tree x) same rise-few
             by false e = a.few j m
 
         far : (j : ℕ) → AreInside (own_after j) (all_around (2 ^ 72))
@@ -121,14 +121,14 @@ module _ (tree : BoxTree) (w : World) (height : ℕ) (page : IsPageFit tree w he
     pub long : length table ≡ length tree.boxes
     pub boxes : AreBounded (laid_at table)
 
-  pub one-bounded : (table : List (Option Alone)) (k : ℕ) → IsBounded table → k < length tree.boxes → IsSound tree w height k (room tree w height k) → IsWhole tree k → IsBounded (with_box tree w height table k)
+  pub one-bounded : (table : List (Option Alone)) (k : ℕ) → IsBounded table → k < length tree.boxes → IsSound tree w k (room tree w k) → IsWhole tree k → IsBounded (with_box tree w table k)
   unfolding with_box
   one-bounded table k t l i q =
-      let x = alone_of tree w height (laid_at table) k (room tree w height k) in
+      let x = alone_of tree w (laid_at table) k (room tree w k) in
       let long = t.long in
       record {
         long = length-set table k (Some x) ∙ t.long;
-        boxes = with-one (laid_at table) t.boxes k l (laid_at (set table k (Some x))) (room tree w height k) i q
+        boxes = with-one (laid_at table) t.boxes k l (laid_at (set table k (Some x))) (room tree w k) i q
             (ap (λ (o : Option Alone). unwrap_or o nothing_alone) (get_or-set_same table k (Some x) None (omega (arith, long, l))))
             (λ j n. ap (λ (o : Option Alone). unwrap_or o nothing_alone) (get_or-set_other table k j (Some x) None n));
       }

@@ -68,7 +68,7 @@ abbrev pub IsAheadLow : Standing → Type 0
 IsAheadLow (at_top y cleared) = IsClearedLow cleared
 IsAheadLow (below edge run stuck) = Unit {0}
 
-module _ (tree : BoxTree) (w : World) (height : ℕ) (apart : ℕ → Alone) where
+module _ (tree : BoxTree) (w : World) (apart : ℕ → Alone) where
   after-ahead : (cb : Band ℤ) (st : Standing) (b : ℕ) (m : Met) (end : Ending) → IsAheadLow st → IsAheadLow (standing_after tree w cb st b m end)
   unfolding standing_after
   after-ahead cb st b m end h = by end.through m.reached.clears st refl refl h
@@ -79,23 +79,23 @@ module _ (tree : BoxTree) (w : World) (height : ℕ) (apart : ℕ → Alone) whe
       by true false (at_top y cleared) t e h = rw (t, e) h
       by true false (below edge run stuck) t e h = rw (t, e) tt
 
-  pub child-ahead : (cb : Band ℤ) (top : ℤ) (s : Context) (k : ℕ) → IsAheadLow s.standing → IsAheadLow (child_of tree w height apart cb top s k).context.standing
+  pub child-ahead : (cb : Band ℤ) (top : ℤ) (s : Context) (k : ℕ) → IsAheadLow s.standing → IsAheadLow (child_of tree w apart cb top s k).context.standing
   unfolding child_of float_of in_flow
   child-ahead cb top s k h = by (is_floated_at tree k)
     where
-      by : (f : Bool) → IsAheadLow (elim f as (λ _. Step) [ true ↦ float_of tree w apart cb top s k | false ↦ in_flow tree w height apart cb s k ]).context.standing
+      by : (f : Bool) → IsAheadLow (elim f as (λ _. Step) [ true ↦ float_of tree w apart cb top s k | false ↦ in_flow tree w apart cb s k ]).context.standing
       by true = h
       by false = after-ahead cb s.standing k _ _ h
 
-  children-ahead : (cb : Band ℤ) (top : ℤ) (s : Context) (ks : List ℕ) → IsAheadLow s.standing → IsAheadLow (children_of tree w height apart cb top s ks).context.standing
+  children-ahead : (cb : Band ℤ) (top : ℤ) (s : Context) (ks : List ℕ) → IsAheadLow s.standing → IsAheadLow (children_of tree w apart cb top s ks).context.standing
   children-ahead cb top s [] h = h
-  children-ahead cb top s (k ∷ ks) h = children-ahead cb top (child_of tree w height apart cb top s k).context ks (child-ahead cb top s k h)
+  children-ahead cb top s (k ∷ ks) h = children-ahead cb top (child_of tree w apart cb top s k).context ks (child-ahead cb top s k h)
 
   -- behind all that is in a box
-  pub content-ahead : (k : ℕ) (cb : Band ℤ) (top : ℤ) (s : Context) → k < length tree.boxes → IsAheadLow s.standing → IsAheadLow (content_of tree w height apart k cb top s).context.standing
+  pub content-ahead : (k : ℕ) (cb : Band ℤ) (top : ℤ) (s : Context) → k < length tree.boxes → IsAheadLow s.standing → IsAheadLow (content_of tree w apart k cb top s).context.standing
   unfolding content_by in_lines
-  content-ahead k cb top s l h = subst (λ (x : Step). IsAheadLow x.context.standing) (content-named tree w height apart k cb top s l) (by (has_line tree k))
+  content-ahead k cb top s l h = subst (λ (x : Step). IsAheadLow x.context.standing) (content-named tree w apart k cb top s l) (by (has_line tree k))
     where
-      by : (t : Bool) → IsAheadLow (elim t as (λ _. Step) [ true ↦ in_lines tree w apart k cb top s | false ↦ children_of tree w height apart cb top s (flow_children tree k) ]).context.standing
+      by : (t : Bool) → IsAheadLow (elim t as (λ _. Step) [ true ↦ in_lines tree w apart k cb top s | false ↦ children_of tree w apart cb top s (flow_children tree k) ]).context.standing
       by true = tt
       by false = children-ahead cb top s (flow_children tree k) h

@@ -37,7 +37,7 @@ module _ (tree : BoxTree) (w : World) (apart : ℕ → Alone) (cb : Band ℤ) (t
   unfolding float_of
   float-boxes size edge y spot sized at comes is = ap (λ p. shifted p (apart k).boxes) (spot-found size edge y spot sized at comes is)
 
-module _ (tree : BoxTree) (w : World) (height : ℕ) (apart : ℕ → Alone) (cb : Band ℤ) (s : Context) (b : ℕ) where
+module _ (tree : BoxTree) (w : World) (apart : ℕ → Alone) (cb : Band ℤ) (s : Context) (b : ℕ) where
   -- a standing asks nothing of the cleared box ahead
   after-same : (before : Standing) (m : Met) (end : Ending)
       → standing_after tree w cb before b (met (record m.reached { cleared = None }) m.run) end ≡ standing_after tree w cb before b m end
@@ -45,13 +45,13 @@ module _ (tree : BoxTree) (w : World) (height : ℕ) (apart : ℕ → Alone) (cb
   after-same before m end = refl
 
   abbrev done : Met → Context
-  done m = record (laid_of tree w height apart cb s b m.reached).after.context {
-    standing = standing_after tree w cb s.standing b m (ending_of (laid_of tree w height apart cb s b m.reached));
+  done m = record (laid_of tree w apart cb s b m.reached).after.context {
+    standing = standing_after tree w cb s.standing b m (ending_of (laid_of tree w apart cb s b m.reached));
   }
 
-  pub flow-context : (m : Met) (l : Laid) (before after : Standing) → m ≡ reached_of tree w apart cb s b → l ≡ without_boxes (laid_of tree w height apart cb s b m.reached)
+  pub flow-context : (m : Met) (l : Laid) (before after : Standing) → m ≡ reached_of tree w apart cb s b → l ≡ without_boxes (laid_of tree w apart cb s b m.reached)
       → before ≡ s.standing → after ≡ standing_after tree w cb before b (met (record m.reached { cleared = None }) m.run) (ending_of l)
-      → record l.after.context { standing = after } ≡ (in_flow tree w height apart cb s b).context
+      → record l.after.context { standing = after } ≡ (in_flow tree w apart cb s b).context
   unfolding in_flow
   flow-context m l before after is laid same next =
       ap (λ (x : Standing). record l.after.context { standing = x })

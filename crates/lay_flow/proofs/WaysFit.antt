@@ -44,14 +44,14 @@ at-place P [] i a l = absurd (omega arith)
 at-place P (k ∷ ks) zero a l = a.0
 at-place P (k ∷ ks) (suc i) a l = at-place P ks i a.1 (omega (arith, l))
 
-module _ (tree : BoxTree) (w : World) (height : ℕ) (own turned : ℕ → Bounds) (s t : ℕ) (fine : 8 * t ≤ s)
-    (boxes : (k : ℕ) → IsOnPage tree.boxes k → IsWhole tree k → IsBoxSmall tree w height t k) (low : s ≤ 2 ^ 80)
-    (fits : (cb : Band ℤ) (k : ℕ) → IsFlowKid tree w height k (across cb) → is_floated_at tree k ≡ false → IsBandLow cb → BoxFits tree w cb k) where
+module _ (tree : BoxTree) (w : World) (own turned : ℕ → Bounds) (s t : ℕ) (fine : 8 * t ≤ s)
+    (boxes : (k : ℕ) → IsOnPage tree.boxes k → IsWhole tree k → IsBoxSmall tree w t k) (low : s ≤ 2 ^ 80)
+    (fits : (cb : Band ℤ) (k : ℕ) → IsFlowKid tree w k (across cb) → is_floated_at tree k ≡ false → IsBandLow cb → BoxFits tree w cb k) where
   abbrev rises : ℕ → Bounds
   rises k = rise tree own turned s k
 
   abbrev Kid : Band ℤ → ℕ → Type 0
-  Kid cb k = IsFlowKid tree w height k (across cb)
+  Kid cb k = IsFlowKid tree w k (across cb)
 
   abbrev IsRunIn : Run ℤ → Type 0
   IsRunIn run = within.IsRunLow s run
@@ -60,7 +60,7 @@ module _ (tree : BoxTree) (w : World) (height : ℕ) (own turned : ℕ → Bound
   run-low run r = let a = r.most in let b = r.least in record { most = omega (arith, a, low); least = omega (arith, b, low) }
 
   inner-kids : (cb : Band ℤ) (k : ℕ) → Kid cb k → is_floated_at tree k ≡ false → enters tree k ≡ true → AllByRecursion (Kid (inner_band tree w cb k)) (flow_children tree k)
-  inner-kids cb k i f goes = lead-sound tree w height cb k i f goes
+  inner-kids cb k i f goes = lead-sound tree w cb k i f goes
 
   -- all that goes on from here stays within 2^88
   abbrev IsNarrow : Bounds → Type 0
@@ -68,7 +68,7 @@ module _ (tree : BoxTree) (w : World) (height : ℕ) (own turned : ℕ → Bound
 
   box-low : (b : Bounds) (cb : Band ℤ) (k : ℕ) → IsNarrow b → IsBandIn b cb → Kid cb k → is_floated_at tree k ≡ false → IsBoxLow tree w cb k
   box-low b cb k n band i f =
-      let m = margin-small tree w height own turned s t fine boxes cb k i f in
+      let m = margin-small tree w own turned s t fine boxes cb k i f in
       let a = m.0 in let c = m.1 in
       let u = n.up in let d = n.down in let v = n.aside in
       record { fits = fits cb k i f (band-wider b reach (record { up = omega (arith, u); down = omega (arith, d); aside = omega (arith, v) }) band); above = omega (arith, a, low); below = omega (arith, c, low) }
@@ -76,7 +76,7 @@ module _ (tree : BoxTree) (w : World) (height : ℕ) (own turned : ℕ → Bound
   inner-band-in : (b : Bounds) (cb : Band ℤ) (k : ℕ) → Kid cb k → is_floated_at tree k ≡ false → IsBandIn b cb → IsBandIn (grown b (all_around (16 * s))) (inner_band tree w cb k)
   unfolding inner_band
   inner-band-in b cb k i f band =
-      let x = subst (λ (z : ℤ). AreWidthsSmall t (flow_widths tree w k z)) (sym i.sound.room) (boxes k i.sound.page (flow-whole tree w height k (i.flow f))).flow in
+      let x = subst (λ (z : ℤ). AreWidthsSmall t (flow_widths tree w k z)) (sym i.sound.room) (boxes k i.sound.page (flow-whole tree w k (i.flow f))).flow in
       let a = x.margin_left in let c = x.border_left in let d = x.padding_left in let e = x.content in
       let l = band.left in
       record { left = omega (arith, ints, a, c, d, l, fine); right = omega (arith, ints, a, c, d, e, l, fine) }
@@ -109,10 +109,10 @@ module _ (tree : BoxTree) (w : World) (height : ℕ) (own turned : ℕ → Bound
       (at-place (Kid (block_band tree w cb k)) (flow_children tree k) j (inner-kids cb k i f goes) lt) h
       (inner-band-in b cb k i f at) (narrow-at (grown b (all_around (16 * s))) (flow_children tree k) j lt (narrow-inside b k l f goes n))
 
-  module _ (size : Waiting ℤ → Extent ℤ) (base : Base) (floats : List FloatBox) (least : Option ℤ) (start : Bounds) (sized : (f : Waiting ℤ) → IsSizeIn tree w height own turned s t fine boxes size base floats least start f)
-      (base_in : IsBaseIn tree w height own turned s t fine boxes size base floats least start base) (floats_in : AllByRecursion (IsFloatIn start) floats) (least_in : AllByRecursion (IsLevelIn start) (option_to_list least)) (p : ℕ → Bool) where
+  module _ (size : Waiting ℤ → Extent ℤ) (base : Base) (floats : List FloatBox) (least : Option ℤ) (start : Bounds) (sized : (f : Waiting ℤ) → IsSizeIn tree w own turned s t fine boxes size base floats least start f)
+      (base_in : IsBaseIn tree w own turned s t fine boxes size base floats least start base) (floats_in : AllByRecursion (IsFloatIn start) floats) (least_in : AllByRecursion (IsLevelIn start) (option_to_list least)) (p : ℕ → Bool) where
     abbrev DoesWait : Bounds → List (Waiting ℤ) → Type 0
-    DoesWait b ws = DoWaitIn tree w height own turned s t fine boxes size base floats least start b ws
+    DoesWait b ws = DoWaitIn tree w own turned s t fine boxes size base floats least start b ws
 
     abbrev charges : List (Waiting ℤ) → Bounds
     charges ws = together (λ (f : Waiting ℤ). grown (own f.at) (all_around s)) ws
@@ -184,8 +184,8 @@ module _ (tree : BoxTree) (w : World) (height : ℕ) (own turned : ℕ → Bound
         Goes f = f.end ≡ goes_on → DoesKidGo b k f
 
         passed : (run : Run ℤ) (ws : List (Waiting ℤ)) (end : End) → is_floated_at tree k ≡ false
-            → IsBoxFound tree w height own turned s t fine boxes size base floats least start sized base_in floats_in least_in b k (found run ws end) → Goes (passed_box tree w cb k (found run ws end))
-        passed run ws goes_on f h e = record { run = run-with s run (margin_below tree w cb k) h.run (margin-small tree w height own turned s t fine boxes cb k i f).1; waits = h.end }
+            → IsBoxFound tree w own turned s t fine boxes size base floats least start sized base_in floats_in least_in b k (found run ws end) → Goes (passed_box tree w cb k (found run ws end))
+        passed run ws goes_on f h e = record { run = run-with s run (margin_below tree w cb k) h.run (margin-small tree w own turned s t fine boxes cb k i f).1; waits = h.end }
         passed run ws solid f h e = absurd (cc)
         passed run ws (cleared d y) f h e = absurd (cc)
 
@@ -194,7 +194,7 @@ module _ (tree : BoxTree) (w : World) (height : ℕ) (own turned : ℕ → Bound
         by false f =
             let x = go cb k run ws in
             subst Goes (sym (found-flow tree w (go cb) cb k run ws f))
-            (passed x.run x.waiting x.end f (way-in tree w height own turned s t fine boxes size base floats least start sized base_in floats_in least_in p (length tree.boxes) b cb k run ws l i f band r d))
+            (passed x.run x.waiting x.end f (way-in tree w own turned s t fine boxes size base floats least start sized base_in floats_in least_in p (length tree.boxes) b cb k run ws l i f band r d))
 
     comes-low : (cb : Band ℤ) (stage : Stage) (run : Run ℤ) (ws : List (Waiting ℤ)) (end : Run ℤ) (all : List (Waiting ℤ)) → ComesTo tree w go cb stage run ws end all
         → (b : Bounds) → Stands cb stage → IsBandIn b cb → IsRunIn run → DoesWait b ws → AreInside (grown b (rises_at stage)) (all_around (2 ^ 88)) → IsGoingLow size end all
@@ -205,7 +205,7 @@ module _ (tree : BoxTree) (w : World) (height : ℕ) (own turned : ℕ → Bound
         let opened = grown b (all_around (16 * s)) in
         comes-low (inner_band tree w cb k) (several (flow_children tree k)) (with_margin run (margin_above tree w cb k)) ws end all c opened
         (all-within k, inner-kids cb k kid f goes)
-        (inner-band-in b cb k kid f band) (run-with s run (margin_above tree w cb k) r (margin-small tree w height own turned s t fine boxes cb k kid f).0)
+        (inner-band-in b cb k kid f band) (run-with s run (margin_above tree w cb k) r (margin-small tree w own turned s t fine boxes cb k kid f).0)
         (waits-wider b opened ws (inside-grown b (all_around (16 * s))) d) (narrow-inside b k st.0 f goes i)
     comes-low cb (several []) run ws end all c b st band r d i = elim c [ ]
     comes-low cb (several (k ∷ ks)) run ws end all (first f c) b st band r d i =
@@ -233,6 +233,6 @@ module _ (tree : BoxTree) (w : World) (height : ℕ) (own turned : ℕ → Bound
             let ju = j.up in let jd = j.down in let ja = j.aside in
             record { up = omega (arith, up, ju); down = omega (arith, down, jd); aside = omega (arith, aside, ja) }
 
-        begin : (c : Base) → IsBaseIn tree w height own turned s t fine boxes size base floats least start c → IsBaseLow c
+        begin : (c : Base) → IsBaseIn tree w own turned s t fine boxes size base floats least start c → IsBaseLow c
         begin (hangs edge) h = level-wider start reach edge narrow h
         begin (stands edge) h = level-wider start reach edge narrow h

@@ -16,7 +16,7 @@ use Rattle.lay_flow.specs.Fits.{IsHeightFit, IsReplacedFit, IsShapeFit, near}
 use Rattle.lay_flow.specs.WalkFits.{WalkFits, before_content, inner_end}
 use Rattle.lay_flow.specs.steps.Flow.{corner_of, root_of, table_to, with_box}
 
-module _ (tree : BoxTree) (w : World) (height : ℕ) where
+module _ (tree : BoxTree) (w : World) where
   -- ---- the width of a containing block
 
   -- up so many levels
@@ -28,38 +28,38 @@ module _ (tree : BoxTree) (w : World) (height : ℕ) where
       by None around = AllSmall (pos (64 * w.w) ∷ [])
       by (Some parent) around = around parent
           × (is_inline (kind_of tree parent) ≡ false
-          → IsShapeFit tree w height parent (room_to levels tree w height parent))
+          → IsShapeFit tree w parent (room_to levels tree w parent))
 
   -- ---- a box
 
   module _ (apart : ℕ → Alone) where
     abbrev pub own_end : ℕ → Frame → Context
-    own_end b f = inner_end tree w height apart b (content_from (pos 0) f.x) (content_top f) (fresh (content_top f))
+    own_end b f = inner_end tree w apart b (content_from (pos 0) f.x) (content_top f) (fresh (content_top f))
 
     -- one that starts a context, with all in it
     pub record RootFits (b : ℕ) (f : Frame) : Type 0 where
       pub frame : IsFrameLow f
-      pub own_height : IsHeightFit tree w height b
-      pub inside : WalkFits tree w height apart
+      pub own_height : IsHeightFit tree w b
+      pub inside : WalkFits tree w apart
           (before_content b (content_from (pos 0) f.x) (content_top f) (fresh (content_top f)))
       pub end : IsContextLow (own_end b f)
-      pub margin : IsQuadIn near (root_of tree w height b f (own_end b f)).margin
+      pub margin : IsQuadIn near (root_of tree w b f (own_end b f)).margin
 
     pub record AloneFits (b : ℕ) (room : ℤ) : Type 0 where
-      pub shape : IsShapeFit tree w height b room
-      pub frame : IsFrameLow (corner_of tree w height b room)
-      pub replaced : is_replaced_at tree b ≡ true → IsReplacedFit tree w height b room
-      pub root : is_replaced_at tree b ≡ false → RootFits b (corner_of tree w height b room)
+      pub shape : IsShapeFit tree w b room
+      pub frame : IsFrameLow (corner_of tree w b room)
+      pub replaced : is_replaced_at tree b ≡ true → IsReplacedFit tree w b room
+      pub root : is_replaced_at tree b ≡ false → RootFits b (corner_of tree w b room)
 
   -- ---- the table of what stands outside the flow
 
   pub record BoxAddedFits (table : List (Option Alone)) (k : ℕ) : Type 0 where
     pub around : RoomFits (suc k) k
-    pub own : AloneFits (laid_at table) k (room tree w height k)
+    pub own : AloneFits (laid_at table) k (room tree w k)
 
   abbrev pub BoxesAddedFit : List (Option Alone) → List ℕ → Type 0
   BoxesAddedFit table [] = Unit {0}
-  BoxesAddedFit table (k ∷ ks) = BoxAddedFits table k × BoxesAddedFit (with_box tree w height table k) ks
+  BoxesAddedFit table (k ∷ ks) = BoxAddedFits table k × BoxesAddedFit (with_box tree w table k) ks
 
   abbrev pub ContainerFits : List (Option Alone) → ℕ → Type 0
   ContainerFits table b = is_inline (kind_of tree b) ≡ false → BoxesAddedFit table (outside_of tree b)
@@ -67,7 +67,7 @@ module _ (tree : BoxTree) (w : World) (height : ℕ) where
   -- of each box, from the last one on
   abbrev pub TableFits : Type 0
   TableFits = (done : ℕ) → done < length tree.boxes
-      → ContainerFits (table_to tree w height done) (length tree.boxes - suc done)
+      → ContainerFits (table_to tree w done) (length tree.boxes - suc done)
 
   -- ---- a page
 
@@ -75,4 +75,4 @@ module _ (tree : BoxTree) (w : World) (height : ℕ) where
     pub table : TableFits
     pub width : AllSmall (pos (64 * w.w) ∷ [])
     pub root : 0 < length tree.boxes
-        → AloneFits (laid_at (table_to tree w height (length tree.boxes))) 0 (pos (64 * w.w))
+        → AloneFits (laid_at (table_to tree w (length tree.boxes))) 0 (pos (64 * w.w))

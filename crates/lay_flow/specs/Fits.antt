@@ -37,30 +37,30 @@ abbrev pub IsEntryLow : Entry ℤ → Type 0
 IsEntryLow (of_entry.Here p) = IsPlacedIn reach p
 IsEntryLow (of_entry.Goes k at) = IsSpotNear at
 
--- ---- boxes, each by its world, the height of the viewport and the width of its containing block
+-- ---- boxes, each by its world and the width of its containing block
 
-module _ (tree : BoxTree) (w : World) (height b : ℕ) where
+module _ (tree : BoxTree) (w : World) (b : ℕ) where
   -- to a height of its own, where that is definite
   abbrev pub OwnFits : Length → Type 0
-  OwnFits length = DefiniteFits_to (suc b) tree w height b × HeightFits tree w (definite_height tree w height b) length
+  OwnFits length = DefiniteFits_to (suc b) tree w b × HeightFits tree w (definite_height tree w b) length
 
   -- its height, given or of its content, and its maximum and minimum
   pub record IsHeightFit : Type 0 where
-    pub given : GivenFits tree w height b
-    pub limits : HeldFits tree w b (definite_height tree w height b)
-    pub held : (auto : ℤ) → IsHeightHeld (2 ^ 90) auto (content_height tree w height b auto)
+    pub given : GivenFits tree w b
+    pub limits : HeldFits tree w b (definite_height tree w b)
+    pub held : (auto : ℤ) → IsHeightHeld (2 ^ 90) auto (content_height tree w b auto)
 
   -- its terms across and down, before its height
   pub record IsShapeFit (room : ℤ) : Type 0 where
-    pub across : WidthsFit (in_block tree w height b room) (placing_of tree b) (preferred tree w b)
+    pub across : WidthsFit (in_block tree w b room) (placing_of tree b) (preferred tree w b)
     pub down : VerticalsFit tree w b room
-    pub widths : AreWidthsSmall (2 ^ 90) (widths tree w height b room)
+    pub widths : AreWidthsSmall (2 ^ 90) (widths tree w b room)
     pub sides : AreSidesSmall (2 ^ 90) (verticals tree w b room)
 
   -- the height of a replaced box
   pub record IsReplacedFit (room : ℤ) : Type 0 where
     pub own : IsHeightFit
-    pub width : ReplacedFits tree w height b room
+    pub width : ReplacedFits tree w b room
     pub ratio : AllSmall
-        (by_ratio (replaced_size tree w height b room).width (intrinsic tree b).0 (intrinsic tree b).1 ∷ [])
-    pub tall : IsSmall (2 ^ 90) (replaced_size tree w height b room).height
+        (by_ratio (replaced_size tree w b room).width (intrinsic tree b).0 (intrinsic tree b).1 ∷ [])
+    pub tall : IsSmall (2 ^ 90) (replaced_size tree w b room).height

@@ -55,12 +55,12 @@ module _ (tree : BoxTree) (w : World) (apart : ℕ → Alone) where
     pub top_near : IsNear top
     pub own : IsAloneLow (apart k)
 
-module _ (tree : BoxTree) (w : World) (height : ℕ) (apart : ℕ → Alone) where
+module _ (tree : BoxTree) (w : World) (apart : ℕ → Alone) where
   abbrev pub inner_end : ℕ → Band ℤ → ℤ → Context → Context
-  inner_end b cb top s = (content_of tree w height apart b cb top s).context
+  inner_end b cb top s = (content_of tree w apart b cb top s).context
 
   abbrev pub frame_in : Band ℤ → ℕ → ℤ → Frame
-  frame_in cb b top = frame_of tree w height b (across cb) cb.left top
+  frame_in cb b top = frame_of tree w b (across cb) cb.left top
 
   -- what is asked at a place, by what is asked at the next ones
   module _ (next : Place → Type 0) where
@@ -70,7 +70,7 @@ module _ (tree : BoxTree) (w : World) (height : ℕ) (apart : ℕ → Alone) whe
 
     pub record ChildrenFit (cb : Band ℤ) (top : ℤ) (s : Context) (k : ℕ) (ks : List ℕ) : Type 0 where
       pub first : next (before_child cb top s k)
-      pub others : next (before_children cb top (child_of tree w height apart cb top s k).context ks)
+      pub others : next (before_children cb top (child_of tree w apart cb top s k).context ks)
 
     pub record ChildFits (cb : Band ℤ) (top : ℤ) (s : Context) (k : ℕ) : Type 0 where
       pub floats : is_floated_at tree k ≡ true → FloatFits tree w apart cb top s k
@@ -90,10 +90,10 @@ module _ (tree : BoxTree) (w : World) (height : ℕ) (apart : ℕ → Alone) whe
     pub record LaidFits (cb : Band ℤ) (s : Context) (b : ℕ) (top : ℤ) (cleared : Cleared) : Type 0 where
       pub band : IsBandLow cb
       pub top_low : IsLevelLow top
-      pub shape : IsShapeFit tree w height b (across cb)
+      pub shape : IsShapeFit tree w b (across cb)
       pub frame : IsFrameLow (frame_in cb b top)
       pub least : AreLevelsLow s.least
-      pub replaced : is_replaced_at tree b ≡ true → IsReplacedFit tree w height b (across cb)
+      pub replaced : is_replaced_at tree b ≡ true → IsReplacedFit tree w b (across cb)
       pub root : is_replaced_at tree b ≡ false → is_context_root tree b ≡ true
           → next (when_starting cb s b (frame_in cb b top))
       pub block : is_replaced_at tree b ≡ false → is_context_root tree b ≡ false
@@ -103,7 +103,7 @@ module _ (tree : BoxTree) (w : World) (height : ℕ) (apart : ℕ → Alone) whe
     pub record AroundFits (cb : Band ℤ) (b : ℕ) (f : Frame) (s : Context) (bottom : ℤ) : Type 0 where
       pub left : IsAsideLow cb.left
       pub frame : IsFrameLow f
-      pub own_height : IsHeightFit tree w height b
+      pub own_height : IsHeightFit tree w b
       pub inside : next (before_content b (content_from cb.left f.x) (content_top f) s)
       pub end : IsContextLow (inner_end b (content_from cb.left f.x) (content_top f) s)
       pub bottom_low : IsLevelLow bottom
@@ -111,13 +111,13 @@ module _ (tree : BoxTree) (w : World) (height : ℕ) (apart : ℕ → Alone) whe
     pub record StartFits (cb : Band ℤ) (s : Context) (b : ℕ) (f : Frame) : Type 0 where
       pub least : AreLevelsLow s.least
       pub around : AroundFits cb b f (fresh (content_top f))
-          (root_of tree w height b f
+          (root_of tree w b f
           (inner_end b (content_from cb.left f.x) (content_top f) (fresh (content_top f)))).border.bottom
 
     pub record GoOnFits (cb : Band ℤ) (s : Context) (b : ℕ) (cleared : Cleared) (f : Frame) : Type 0 where
       pub least : AreLevelsLow s.least
       pub around : AroundFits cb b f (opened s f (standing_in tree b cleared f))
-          (block_of tree w height b f
+          (block_of tree w b f
           (inner_end b (content_from cb.left f.x) (content_top f)
           (opened s f (standing_in tree b cleared f)))).border.bottom
 

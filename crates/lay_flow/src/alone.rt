@@ -42,7 +42,6 @@ fn widths<S: Steady>(
     alloc: Global,
     calc: &mut S,
     tree: &BoxTree,
-    height: u32,
     found: &mut Found<S::Num>,
     b: u32,
     room: &S::Num,
@@ -51,15 +50,15 @@ fn widths<S: Steady>(
     ensures goes { Goes (S.run calc.old) (S.run calc.new) }
     ensures found { AreFound S.at (S.run calc.new) tree.now found.new.widths.items }
     ensures value { (e : Reading) → IsTrue ((S.run calc.new).is_open e) → widths_at S.at result e
-        ≡ widths_of tree.now e.world height b (S.at room.now e) }
+        ≡ widths_of tree.now e.world b (S.at room.now e) }
     ensures cause { BlamesButMem (S.run calc.old) (S.run calc.new) (BoxesFit tree.now (S.run calc.old).is_open
         × ((e : Reading) → IsTrue ((S.run calc.old).is_open e)
-        → IsShapeFit tree.now e.world height b (S.at room.now e))) }
+        → IsShapeFit tree.now e.world b (S.at room.now e))) }
 {
     match placed_as(tree, b) {
         Placing::Block => block(calc, tree, b, room),
-        Placing::ReplacedBlock => replaced_block(calc, tree, height, b, room),
-        Placing::ReplacedShrunk => replaced_shrunk(calc, tree, height, b, room),
+        Placing::ReplacedBlock => replaced_block(calc, tree, b, room),
+        Placing::ReplacedShrunk => replaced_shrunk(calc, tree, b, room),
         // Only shrink-to-fit asks for preferred widths (10.3.5, 10.3.9); for the other kinds none is computed.
         Placing::Shrunk => {
             let both = preferred(alloc, calc, tree, b, found);
@@ -74,7 +73,6 @@ pub fn room<S: Steady>(
     alloc: Global,
     calc: &mut S,
     tree: &BoxTree,
-    height: u32,
     found: &mut Found<S::Num>,
     levels: u64,
     b: u32,
@@ -82,21 +80,21 @@ pub fn room<S: Steady>(
     requires { AreFound S.at (S.run calc.old) tree.now found.old.widths.items }
     ensures goes { Goes (S.run calc.old) (S.run calc.new) }
     ensures found { AreFound S.at (S.run calc.new) tree.now found.new.widths.items }
-    ensures value { Stands (S.run calc.new) (S.at result) (λ e. room_to levels tree.now e.world height b) }
+    ensures value { Stands (S.run calc.new) (S.at result) (λ e. room_to levels tree.now e.world b) }
     ensures cause { BlamesButMem (S.run calc.old) (S.run calc.new) (AllFit tree.now (S.run calc.old).is_open
-        (λ e. RoomFits tree.now e.world height levels b)) }
+        (λ e. RoomFits tree.now e.world levels b)) }
 {
     if levels == 0 {
         return calc.width();
     }
     match parent_at(tree, b) {
         Some(parent) => {
-            let around = room(alloc, calc, tree, height, found, levels - 1, parent);
+            let around = room(alloc, calc, tree, found, levels - 1, parent);
             // An inline box is no containing block of what is in it (10.1).
             if matches!(kind_at(tree, parent), Kind::Inline) {
                 return around;
             }
-            widths(alloc, calc, tree, height, found, parent, &around).content
+            widths(alloc, calc, tree, found, parent, &around).content
         }
         None => calc.width(),
     }
@@ -108,7 +106,6 @@ fn corner_shape<S: Steady>(
     alloc: Global,
     calc: &mut S,
     tree: &BoxTree,
-    height: u32,
     found: &mut Found<S::Num>,
     b: u32,
     room: &S::Num,
@@ -117,12 +114,12 @@ fn corner_shape<S: Steady>(
     ensures goes { Goes (S.run calc.old) (S.run calc.new) }
     ensures found { AreFound S.at (S.run calc.new) tree.now found.new.widths.items }
     ensures value { (e : Reading) → IsTrue ((S.run calc.new).is_open e) → frame_at S.at result e
-        ≡ corner_of tree.now e.world height b (S.at room.now e) }
+        ≡ corner_of tree.now e.world b (S.at room.now e) }
     ensures cause { BlamesButMem (S.run calc.old) (S.run calc.new) (BoxesFit tree.now (S.run calc.old).is_open
         × ((e : Reading) → IsTrue ((S.run calc.old).is_open e)
-        → IsShapeFit tree.now e.world height b (S.at room.now e))) }
+        → IsShapeFit tree.now e.world b (S.at room.now e))) }
 {
-    let x = widths(alloc, calc, tree, height, found, b, room);
+    let x = widths(alloc, calc, tree, found, b, room);
     let v = verticals(calc, tree, b, room);
     let left = calc.copy(&x.margin_left);
     let top = calc.copy(&v.margin_top);
@@ -158,10 +155,10 @@ fn replaced_alone<S: Steady>(
 ) -> Alone<S::Num>
     ensures goes { Goes (S.run calc.old) (S.run calc.new) }
     ensures value { (e : Reading) → IsTrue ((S.run calc.new).is_open e) → alone_at S.at result e
-        ≡ replaced_alone_of page.now.tree.now e.world page.now.height b (S.at room.now e)
+        ≡ replaced_alone_of page.now.tree.now e.world b (S.at room.now e)
         (frame_at S.at shape.now e) }
     ensures cause { BlamesButMem (S.run calc.old) (S.run calc.new) ((e : Reading) → IsTrue ((S.run calc.old).is_open e)
-        → IsReplacedFit page.now.tree.now e.world page.now.height b (S.at room.now e)
+        → IsReplacedFit page.now.tree.now e.world b (S.at room.now e)
         × IsFrameLow (frame_at S.at shape.now e)) }
 {
     let placed = replaced_box(calc, page, b, room, shape);
@@ -187,10 +184,10 @@ fn context_alone<S: Steady>(
     requires { b < length page.now.tree.now.boxes }
     ensures goes { Goes (S.run calc.old) (S.run calc.new) }
     ensures value { (e : Reading) → IsTrue ((S.run calc.new).is_open e) → alone_at S.at result e
-        ≡ context_alone_of page.now.tree.now e.world page.now.height (apart_at S.at page.now.apart.now e) b
+        ≡ context_alone_of page.now.tree.now e.world (apart_at S.at page.now.apart.now e) b
         (frame_at S.at shape.now e) }
     ensures cause { BlamesButMem (S.run calc.old) (S.run calc.new) (AllFit page.now.tree.now (S.run calc.old).is_open
-        (λ e. RootFits page.now.tree.now e.world page.now.height (apart_at S.at page.now.apart.now e) b
+        (λ e. RootFits page.now.tree.now e.world (apart_at S.at page.now.apart.now e) b
         (frame_at S.at shape.now e))) }
 {
     let left = zero(calc);
@@ -226,13 +223,13 @@ pub fn alone<S: Steady>(
     ensures goes { Goes (S.run calc.old) (S.run calc.new) }
     ensures found { AreFound S.at (S.run calc.new) page.now.tree.now found.new.widths.items }
     ensures value { (e : Reading) → IsTrue ((S.run calc.new).is_open e) → alone_at S.at result e
-        ≡ alone_of page.now.tree.now e.world page.now.height (apart_at S.at page.now.apart.now e) b
+        ≡ alone_of page.now.tree.now e.world (apart_at S.at page.now.apart.now e) b
         (S.at room.now e) }
     ensures cause { BlamesButMem (S.run calc.old) (S.run calc.new) (AllFit page.now.tree.now (S.run calc.old).is_open
-        (λ e. AloneFits page.now.tree.now e.world page.now.height (apart_at S.at page.now.apart.now e) b
+        (λ e. AloneFits page.now.tree.now e.world (apart_at S.at page.now.apart.now e) b
         (S.at room.now e))) }
 {
-    let shape = corner_shape(alloc, calc, page.tree, page.height, found, b, room);
+    let shape = corner_shape(alloc, calc, page.tree, found, b, room);
     if is_replaced(page.tree, b) {
         replaced_alone(alloc, calc, page, b, room, &shape)
     } else {

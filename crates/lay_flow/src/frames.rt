@@ -39,15 +39,15 @@ fn widths<S: Steady>(
     requires { b < length page.now.tree.now.boxes }
     ensures goes { Goes (S.run calc.old) (S.run calc.new) }
     ensures value { (e : Reading) → IsTrue ((S.run calc.new).is_open e) → widths_at S.at result e
-        ≡ widths_of page.now.tree.now e.world page.now.height b (S.at room.now e) }
+        ≡ widths_of page.now.tree.now e.world b (S.at room.now e) }
     ensures cause { BlamesButMem (S.run calc.old) (S.run calc.new) (BoxesFit page.now.tree.now (S.run calc.old).is_open
         × ((e : Reading) → IsTrue ((S.run calc.old).is_open e)
-        → IsShapeFit page.now.tree.now e.world page.now.height b (S.at room.now e))) }
+        → IsShapeFit page.now.tree.now e.world b (S.at room.now e))) }
 {
     match placed_as(page.tree, b) {
         Placing::Block => block(calc, page.tree, b, room),
-        Placing::ReplacedBlock => replaced_block(calc, page.tree, page.height, b, room),
-        Placing::ReplacedShrunk => replaced_shrunk(calc, page.tree, page.height, b, room),
+        Placing::ReplacedBlock => replaced_block(calc, page.tree, b, room),
+        Placing::ReplacedShrunk => replaced_shrunk(calc, page.tree, b, room),
         Placing::Shrunk => {
             let mut found = nothing_found(alloc, calc, page.tree);
             let both = preferred(alloc, calc, page.tree, b, &mut found);
@@ -69,12 +69,12 @@ pub fn shape<S: Steady>(
     requires { b < length page.now.tree.now.boxes }
     ensures goes { Goes (S.run calc.old) (S.run calc.new) }
     ensures value { (e : Reading) → IsTrue ((S.run calc.new).is_open e) → frame_at S.at result e
-        ≡ frame_of page.now.tree.now e.world page.now.height b (across_of (band_at S.at cb.now e))
+        ≡ frame_of page.now.tree.now e.world b (across_of (band_at S.at cb.now e))
         (S.at cb.now.left e) (S.at top.now e) }
     ensures cause { BlamesButMem (S.run calc.old) (S.run calc.new) (BoxesFit page.now.tree.now (S.run calc.old).is_open
         × ((e : Reading) → IsTrue ((S.run calc.old).is_open e)
         → IsBandLow (band_at S.at cb.now e) × (IsLevelLow (S.at top.now e)
-        × IsShapeFit page.now.tree.now e.world page.now.height b (across_of (band_at S.at cb.now e))))) }
+        × IsShapeFit page.now.tree.now e.world b (across_of (band_at S.at cb.now e))))) }
 {
     let room = across(calc, cb);
     let x = widths(alloc, calc, page, b, &room);
@@ -99,9 +99,9 @@ pub fn replaced_box<S: Steady>(
 ) -> Placed<S::Num>
     ensures goes { Goes (S.run calc.old) (S.run calc.new) }
     ensures value { (e : Reading) → IsTrue ((S.run calc.new).is_open e) → placed_at S.at result e
-        ≡ replaced_of page.now.tree.now e.world page.now.height b (S.at room.now e) (frame_at S.at shape.now e) }
+        ≡ replaced_of page.now.tree.now e.world b (S.at room.now e) (frame_at S.at shape.now e) }
     ensures cause { Blames (S.run calc.old) (S.run calc.new) ((e : Reading) → IsTrue ((S.run calc.old).is_open e)
-        → IsReplacedFit page.now.tree.now e.world page.now.height b (S.at room.now e)
+        → IsReplacedFit page.now.tree.now e.world b (S.at room.now e)
         × IsFrameLow (frame_at S.at shape.now e)) }
 {
     let height = replaced_height(calc, page, b, room);
@@ -119,9 +119,9 @@ pub fn context_box<S: Steady>(
 ) -> Placed<S::Num>
     ensures goes { Goes (S.run calc.old) (S.run calc.new) }
     ensures value { (e : Reading) → IsTrue ((S.run calc.new).is_open e) → placed_at S.at result e
-        ≡ root_of page.now.tree.now e.world page.now.height b (frame_at S.at shape.now e) (context_at S.at end.now e) }
+        ≡ root_of page.now.tree.now e.world b (frame_at S.at shape.now e) (context_at S.at end.now e) }
     ensures cause { Blames (S.run calc.old) (S.run calc.new) ((e : Reading) → IsTrue ((S.run calc.old).is_open e)
-        → IsHeightFit page.now.tree.now e.world page.now.height b × (IsFrameLow (frame_at S.at shape.now e)
+        → IsHeightFit page.now.tree.now e.world b × (IsFrameLow (frame_at S.at shape.now e)
         × IsContextLow (context_at S.at end.now e))) }
 {
     let height = match known_height(calc, page, b) {
@@ -146,9 +146,9 @@ pub fn block_box<S: Steady>(
 ) -> Placed<S::Num>
     ensures goes { Goes (S.run calc.old) (S.run calc.new) }
     ensures value { (e : Reading) → IsTrue ((S.run calc.new).is_open e) → placed_at S.at result e
-        ≡ block_of page.now.tree.now e.world page.now.height b (frame_at S.at shape.now e) (context_at S.at end.now e) }
+        ≡ block_of page.now.tree.now e.world b (frame_at S.at shape.now e) (context_at S.at end.now e) }
     ensures cause { Blames (S.run calc.old) (S.run calc.new) ((e : Reading) → IsTrue ((S.run calc.old).is_open e)
-        → IsHeightFit page.now.tree.now e.world page.now.height b × (IsFrameLow (frame_at S.at shape.now e)
+        → IsHeightFit page.now.tree.now e.world b × (IsFrameLow (frame_at S.at shape.now e)
         × IsContextLow (context_at S.at end.now e))) }
 {
     let height = match known_height(calc, page, b) {

@@ -13,7 +13,7 @@ use std::alloc::Global;
 use viz_base::{BoxTree, Mem, Rendering, World};
 use viz_calc::{Calc, Halt, Latch, Plain};
 
-/// The rendering of a page in a viewport of a height in pixels, at each world that is open at the end.
+/// The rendering of a page at each world that is open at the end.
 ///
 /// Lengths are in 1/64 px. `Open` where a comparison is left open, and `Coeff` where a coefficient passes its limit: on
 /// a page within the profile's limits only where the calc counts such a fault, so never over exact numbers. No clause
@@ -22,39 +22,33 @@ pub fn render<C: Calc>(
     alloc: Global,
     calc: &mut C,
     tree: &BoxTree,
-    height: u32,
 ) -> Result<Rendering<C::Num>, Halt>
     ensures grows { Grows (C.state calc.old) (C.state calc.new) }
     ensures value { IfOk result (λ r. (e : Reading) → IsTrue ((C.state calc.new).is_open e)
-        → rendering_at C.at r e ≡ page_rendering tree.now e.world height) }
+        → rendering_at C.at r e ≡ page_rendering tree.now e.world) }
     ensures kept { AreOpen (C.state calc.old).kept (C.state calc.new) }
     ensures cause { IfErr result (CauseButMem (C.state calc.old) (C.state calc.new)
-        (IsWithinLimits tree.now height (C.state calc.old).is_open)) }
+        (IsWithinLimits tree.now (C.state calc.old).is_open)) }
     ensures told { IfErr result (λ halt. IsTrue (is_told C.counts (C.state calc.new) (Some halt))) }
 {
     let mut latch = Latch::new(calc);
-    let rendering = page::render(alloc, &mut latch, tree, height);
+    let rendering = page::render(alloc, &mut latch, tree);
     latch.finish(rendering)
 }
 
-/// The rendering of a page within the profile's limits at one world, in a viewport of a height in pixels. Each edge of
-/// each rectangle is at most 2^70 units in size. Its only fault is `Mem`; no clause says when that comes.
-pub fn render_at(
-    alloc: Global,
-    world: World,
-    tree: &BoxTree,
-    height: u32,
-) -> Result<Rendering<i128>, Mem>
+/// The rendering of a page within the profile's limits at one world. Each edge of each rectangle is at most 2^70 units
+/// in size. Its only fault is `Mem`; no clause says when that comes.
+pub fn render_at(alloc: Global, world: World, tree: &BoxTree) -> Result<Rendering<i128>, Mem>
     requires small { IsSmallPage tree.now }
-    requires few_characters { sum_by (λ (b : BoxNode). length (chars b.chars)) tree.now.boxes ≤ 262144 }
+    requires few_characters { sum_by (λ (b : BoxNode). length (chars b.chars)) tree.now.boxes ≤ 524288 }
     requires narrow { world.w ≤ 16384 }
     requires sized { world.s ≤ 256 }
-    requires low { height ≤ 16384 }
-    ensures value { IfOk result (λ r. r ≡ page_rendering tree.now world height) }
+    requires low { world.h ≤ 16384 }
+    ensures value { IfOk result (λ r. r ≡ page_rendering tree.now world) }
     ensures low { IfOk result (λ r. AllByRecursion (IsPlacedIn (all_around (2 ^ 70))) r.boxes) }
 {
     let mut calc = Plain::new(world);
-    match render(alloc, &mut calc, tree, height) {
+    match render(alloc, &mut calc, tree) {
         Ok(rendering) => Ok(rendering),
         Err(Halt::Mem) => Err(Mem),
         Err(Halt::Coeff | Halt::Open) => unreachable!(),

@@ -39,13 +39,13 @@ fn height_of<S: Steady>(
 ) -> Option<S::Num>
     ensures goes { Goes (S.run calc.old) (S.run calc.new) }
     ensures value { (e : Reading) → IsTrue ((S.run calc.new).is_open e) → option_at S.at result e
-        ≡ height_in page.now.tree.now e.world (definite_of page.now.tree.now e.world page.now.height b) length.now }
+        ≡ height_in page.now.tree.now e.world (definite_of page.now.tree.now e.world b) length.now }
     ensures cause { Blames (S.run calc.old) (S.run calc.new) ((e : Reading) → IsTrue ((S.run calc.old).is_open e)
-        → OwnFits page.now.tree.now e.world page.now.height b length.now) }
+        → OwnFits page.now.tree.now e.world b length.now) }
 {
     match length {
         Length::Pct(part) => {
-            match definite_height(calc, page.tree, page.height, u64::from(b) + 1, b) {
+            match definite_height(calc, page.tree, u64::from(b) + 1, b) {
                 Some(whole) => Some(percentage(calc, *part, &whole)),
                 None => None,
             }
@@ -60,9 +60,9 @@ fn height_of<S: Steady>(
 pub fn known_height<S: Steady>(calc: &mut S, page: &Page<'_, S::Num>, b: u32) -> Option<S::Num>
     ensures goes { Goes (S.run calc.old) (S.run calc.new) }
     ensures value { (e : Reading) → IsTrue ((S.run calc.new).is_open e) → option_at S.at result e
-        ≡ given_height page.now.tree.now e.world page.now.height b }
+        ≡ given_height page.now.tree.now e.world b }
     ensures cause { Blames (S.run calc.old) (S.run calc.new) ((e : Reading) → IsTrue ((S.run calc.old).is_open e)
-        → IsHeightFit page.now.tree.now e.world page.now.height b) }
+        → IsHeightFit page.now.tree.now e.world b) }
 {
     height_of(calc, page, b, &own_height(page.tree, b))
 }
@@ -71,9 +71,9 @@ pub fn known_height<S: Steady>(calc: &mut S, page: &Page<'_, S::Num>, b: u32) ->
 pub fn held<S: Steady>(calc: &mut S, page: &Page<'_, S::Num>, b: u32, height: S::Num) -> S::Num
     ensures goes { Goes (S.run calc.old) (S.run calc.new) }
     ensures value { Stands (S.run calc.new) (S.at result)
-        (λ e. held_height page.now.tree.now e.world page.now.height b (S.at height e)) }
+        (λ e. held_height page.now.tree.now e.world b (S.at height e)) }
     ensures cause { Blames (S.run calc.old) (S.run calc.new) ((e : Reading) → IsTrue ((S.run calc.old).is_open e)
-        → IsHeightFit page.now.tree.now e.world page.now.height b) }
+        → IsHeightFit page.now.tree.now e.world b) }
 {
     let most = match most_height(page.tree, b) {
         Some(most) => height_of(calc, page, b, &most),
@@ -95,14 +95,14 @@ pub fn replaced_height<S: Steady>(
 ) -> S::Num
     ensures goes { Goes (S.run calc.old) (S.run calc.new) }
     ensures value { Stands (S.run calc.new) (S.at result)
-        (λ e. (replaced_size page.now.tree.now e.world page.now.height b (S.at room.now e)).height) }
+        (λ e. (replaced_size page.now.tree.now e.world b (S.at room.now e)).height) }
     ensures cause { Blames (S.run calc.old) (S.run calc.new) ((e : Reading) → IsTrue ((S.run calc.old).is_open e)
-        → IsReplacedFit page.now.tree.now e.world page.now.height b (S.at room.now e)) }
+        → IsReplacedFit page.now.tree.now e.world b (S.at room.now e)) }
 {
     let height = match known_height(calc, page, b) {
         Some(height) => height,
         None => {
-            let width = lay_width::replaced::width(calc, page.tree, page.height, b, room);
+            let width = lay_width::replaced::width(calc, page.tree, b, room);
             let size = intrinsic(page.tree, b);
             by_ratio(calc, &width, size.0, size.1)
         }

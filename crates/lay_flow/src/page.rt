@@ -77,7 +77,6 @@ fn add_box<S: Steady>(
     alloc: Global,
     calc: &mut S,
     tree: &BoxTree,
-    height: u32,
     found: &mut Found<S::Num>,
     k: u32,
     table: &mut Outside<S::Num>,
@@ -87,15 +86,14 @@ fn add_box<S: Steady>(
     ensures goes { Goes (S.run calc.old) (S.run calc.new) }
     ensures found { AreFound S.at (S.run calc.new) tree.now found.new.widths.items }
     ensures value { (e : Reading) → IsTrue ((S.run calc.new).is_open e) → table_at S.at table.new.places.items e
-        ≡ with_box tree.now e.world height (table_at S.at table.old.places.items e) k }
+        ≡ with_box tree.now e.world (table_at S.at table.old.places.items e) k }
     ensures cause { BlamesButMem (S.run calc.old) (S.run calc.new) (AllFit tree.now (S.run calc.old).is_open
-        (λ e. BoxAddedFits tree.now e.world height (table_at S.at table.old.places.items e) k)) }
+        (λ e. BoxAddedFits tree.now e.world (table_at S.at table.old.places.items e) k)) }
 {
     // How wide the containing block is needs no layout: the tree tells it, level by level.
-    let room = room(alloc, calc, tree, height, found, u64::from(k) + 1, k);
+    let room = room(alloc, calc, tree, found, u64::from(k) + 1, k);
     let page = Page {
         tree,
-        height,
         apart: table.places.as_slice(),
     };
     let laid = alone(alloc, calc, &page, found, k, &room);
@@ -107,7 +105,6 @@ fn add_boxes<S: Steady>(
     alloc: Global,
     calc: &mut S,
     tree: &BoxTree,
-    height: u32,
     found: &mut Found<S::Num>,
     boxes: &[u32],
     table: &mut Outside<S::Num>,
@@ -117,12 +114,12 @@ fn add_boxes<S: Steady>(
     ensures goes { Goes (S.run calc.old) (S.run calc.new) }
     ensures found { AreFound S.at (S.run calc.new) tree.now found.new.widths.items }
     ensures value { (e : Reading) → IsTrue ((S.run calc.new).is_open e) → table_at S.at table.new.places.items e
-        ≡ with_boxes tree.now e.world height (table_at S.at table.old.places.items e) boxes.now }
+        ≡ with_boxes tree.now e.world (table_at S.at table.old.places.items e) boxes.now }
     ensures cause { BlamesButMem (S.run calc.old) (S.run calc.new) (AllFit tree.now (S.run calc.old).is_open
-        (λ e. BoxesAddedFit tree.now e.world height (table_at S.at table.old.places.items e) boxes.now)) }
+        (λ e. BoxesAddedFit tree.now e.world (table_at S.at table.old.places.items e) boxes.now)) }
 {
     for k in boxes {
-        add_box(alloc, calc, tree, height, found, *k, table);
+        add_box(alloc, calc, tree, found, *k, table);
     }
 }
 
@@ -132,7 +129,6 @@ fn add_container<S: Steady>(
     alloc: Global,
     calc: &mut S,
     tree: &BoxTree,
-    height: u32,
     found: &mut Found<S::Num>,
     b: u32,
     table: &mut Outside<S::Num>,
@@ -142,16 +138,16 @@ fn add_container<S: Steady>(
     ensures goes { Goes (S.run calc.old) (S.run calc.new) }
     ensures found { AreFound S.at (S.run calc.new) tree.now found.new.widths.items }
     ensures value { (e : Reading) → IsTrue ((S.run calc.new).is_open e) → table_at S.at table.new.places.items e
-        ≡ with_container_of tree.now e.world height (table_at S.at table.old.places.items e) b }
+        ≡ with_container_of tree.now e.world (table_at S.at table.old.places.items e) b }
     ensures cause { BlamesButMem (S.run calc.old) (S.run calc.new) (AllFit tree.now (S.run calc.old).is_open
-        (λ e. ContainerFits tree.now e.world height (table_at S.at table.old.places.items e) b)) }
+        (λ e. ContainerFits tree.now e.world (table_at S.at table.old.places.items e) b)) }
 {
     // What is in an inline box stands among the items of the block container around it.
     if matches!(kind_at(tree, b), Kind::Inline) {
         return;
     }
     match outside_of(alloc, tree, b) {
-        Ok(boxes) => add_boxes(alloc, calc, tree, height, found, boxes.as_slice(), table),
+        Ok(boxes) => add_boxes(alloc, calc, tree, found, boxes.as_slice(), table),
         Err(_) => calc.stop(),
     }
 }
@@ -173,7 +169,6 @@ fn fill<S: Steady>(
     alloc: Global,
     calc: &mut S,
     tree: &BoxTree,
-    height: u32,
     found: &mut Found<S::Num>,
     count: u32,
     table: &mut Outside<S::Num>,
@@ -184,13 +179,13 @@ fn fill<S: Steady>(
     ensures goes { Goes (S.run calc.old) (S.run calc.new) }
     ensures found { AreFound S.at (S.run calc.new) tree.now found.new.widths.items }
     ensures value { (e : Reading) → IsTrue ((S.run calc.new).is_open e) → table_at S.at table.new.places.items e
-        ≡ table_to tree.now e.world height (length tree.now.boxes) }
+        ≡ table_to tree.now e.world (length tree.now.boxes) }
     ensures cause { BlamesButMem (S.run calc.old) (S.run calc.new) (AllFit tree.now (S.run calc.old).is_open
-        (λ e. TableFits tree.now e.world height)) }
+        (λ e. TableFits tree.now e.world)) }
 {
     // From the last box on: all that is in a box stands behind it, so its entries are there already.
     for done in 0..count {
-        add_container(alloc, calc, tree, height, found, count - 1 - done, table);
+        add_container(alloc, calc, tree, found, count - 1 - done, table);
     }
 }
 
@@ -199,20 +194,19 @@ fn outside_flow<S: Steady>(
     alloc: Global,
     calc: &mut S,
     tree: &BoxTree,
-    height: u32,
     found: &mut Found<S::Num>,
 ) -> Outside<S::Num>
     requires { AreFound S.at (S.run calc.old) tree.now found.old.widths.items }
     ensures goes { Goes (S.run calc.old) (S.run calc.new) }
     ensures found { AreFound S.at (S.run calc.new) tree.now found.new.widths.items }
     ensures value { (e : Reading) → IsTrue ((S.run calc.new).is_open e) → table_at S.at result.places.items e
-        ≡ table_to tree.now e.world height (length tree.now.boxes) }
+        ≡ table_to tree.now e.world (length tree.now.boxes) }
     ensures cause { BlamesButMem (S.run calc.old) (S.run calc.new) (AllFit tree.now (S.run calc.old).is_open
-        (λ e. TableFits tree.now e.world height)) }
+        (λ e. TableFits tree.now e.world)) }
 {
     match table_of(alloc, tree) {
         Some((count, mut table)) => {
-            fill(alloc, calc, tree, height, found, count, &mut table);
+            fill(alloc, calc, tree, found, count, &mut table);
             table
         }
         None => {
@@ -225,41 +219,35 @@ fn outside_flow<S: Steady>(
 }
 
 /// The boxes of a page.
-fn boxes<S: Steady>(alloc: Global, calc: &mut S, tree: &BoxTree, height: u32) -> Vec<Placed<S::Num>>
+fn boxes<S: Steady>(alloc: Global, calc: &mut S, tree: &BoxTree) -> Vec<Placed<S::Num>>
     ensures goes { Goes (S.run calc.old) (S.run calc.new) }
     ensures value { (e : Reading) → IsTrue ((S.run calc.new).is_open e)
-        → boxes_at S.at result.items e ≡ page_boxes tree.now e.world height }
+        → boxes_at S.at result.items e ≡ page_boxes tree.now e.world }
     ensures cause { BlamesButMem (S.run calc.old) (S.run calc.new) (AllFit tree.now (S.run calc.old).is_open
-        (λ e. PageComesFit tree.now e.world height)) }
+        (λ e. PageComesFit tree.now e.world)) }
 {
     if tree.boxes.is_empty() {
         return Vec::new(alloc);
     }
     // One table of preferred widths for the page, so that each box is measured once.
     let mut found = nothing_found(alloc, calc, tree);
-    let table = outside_flow(alloc, calc, tree, height, &mut found);
+    let table = outside_flow(alloc, calc, tree, &mut found);
     let page = Page {
         tree,
-        height,
         apart: table.places.as_slice(),
     };
     let room = calc.width();
     alone(alloc, calc, &page, &mut found, 0, &room).boxes
 }
 
-/// The rendering of a page in a viewport of a height in pixels, at each reading that is open at the end.
-pub fn render<S: Steady>(
-    alloc: Global,
-    calc: &mut S,
-    tree: &BoxTree,
-    height: u32,
-) -> Rendering<S::Num>
+/// The rendering of a page at each reading that is open at the end.
+pub fn render<S: Steady>(alloc: Global, calc: &mut S, tree: &BoxTree) -> Rendering<S::Num>
     ensures goes { Goes (S.run calc.old) (S.run calc.new) }
     ensures value { (e : Reading) → IsTrue ((S.run calc.new).is_open e)
-        → rendering_at S.at result e ≡ page_rendering tree.now e.world height }
+        → rendering_at S.at result e ≡ page_rendering tree.now e.world }
     ensures cause { BlamesButMem (S.run calc.old) (S.run calc.new)
-        (IsWithinLimits tree.now height (S.run calc.old).is_open) }
+        (IsWithinLimits tree.now (S.run calc.old).is_open) }
 {
-    let boxes = List::from(boxes(alloc, calc, tree, height));
+    let boxes = List::from(boxes(alloc, calc, tree));
     Rendering { boxes }
 }

@@ -48,8 +48,6 @@ pub struct Alone<N> {
 #[derive(Drop)]
 pub struct Page<'a, N> {
     pub tree: &'a BoxTree,
-    /// The height of the viewport in pixels.
-    pub height: u32,
     /// The floats and atomic boxes that are laid out, by the number of their box.
     pub apart: &'a [Option<Alone<N>>],
 }

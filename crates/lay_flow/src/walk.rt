@@ -120,15 +120,15 @@ fn lay_replaced<S: Steady>(
 ) -> Laid<S::Num>
     ensures goes { Goes (S.run calc.old) (S.run calc.new) }
     ensures value { (e : Reading) → IsTrue ((S.run calc.new).is_open e) → laid_with S.at result context.new e
-        ≡ without_boxes (replaced_step page.now.tree.now e.world page.now.height
+        ≡ without_boxes (replaced_step page.now.tree.now e.world
         (apart_at S.at page.now.apart.now e) (S.at room.now e) (context_at S.at context.old e) b
         (frame_at S.at shape.now e)) }
     ensures boxes { (e : Reading) → IsTrue ((S.run calc.new).is_open e) → boxes_at S.at out.new.items e
-        ≡ boxes_at S.at out.old.items e ++ (replaced_step page.now.tree.now e.world page.now.height
+        ≡ boxes_at S.at out.old.items e ++ (replaced_step page.now.tree.now e.world
         (apart_at S.at page.now.apart.now e) (S.at room.now e) (context_at S.at context.old e) b
         (frame_at S.at shape.now e)).after.boxes }
     ensures cause { BlamesButMem (S.run calc.old) (S.run calc.new) ((e : Reading) → IsTrue ((S.run calc.old).is_open e)
-        → IsReplacedFit page.now.tree.now e.world page.now.height b (S.at room.now e)
+        → IsReplacedFit page.now.tree.now e.world b (S.at room.now e)
         × (AreLevelsLow (option_at S.at context.old.least e) × IsFrameLow (frame_at S.at shape.now e))) }
 {
     let top = content_top(calc, shape);
@@ -199,15 +199,15 @@ fn lay_context<S: Steady>(
     requires { b < length page.now.tree.now.boxes }
     ensures goes { Goes (S.run calc.old) (S.run calc.new) }
     ensures value { (e : Reading) → IsTrue ((S.run calc.new).is_open e) → laid_with S.at result context.new e
-        ≡ without_boxes (context_step page.now.tree.now e.world page.now.height
+        ≡ without_boxes (context_step page.now.tree.now e.world
         (apart_at S.at page.now.apart.now e) (band_at S.at cb.now e) (context_at S.at context.old e) b
         (frame_at S.at shape.now e)) }
     ensures boxes { (e : Reading) → IsTrue ((S.run calc.new).is_open e) → boxes_at S.at out.new.items e
-        ≡ boxes_at S.at out.old.items e ++ (context_step page.now.tree.now e.world page.now.height
+        ≡ boxes_at S.at out.old.items e ++ (context_step page.now.tree.now e.world
         (apart_at S.at page.now.apart.now e) (band_at S.at cb.now e) (context_at S.at context.old e) b
         (frame_at S.at shape.now e)).after.boxes }
     ensures cause { BlamesButMem (S.run calc.old) (S.run calc.new)
-        (AllFit page.now.tree.now (S.run calc.old).is_open (λ e. WalkFits page.now.tree.now e.world page.now.height
+        (AllFit page.now.tree.now (S.run calc.old).is_open (λ e. WalkFits page.now.tree.now e.world
         (apart_at S.at page.now.apart.now e) (when_starting (band_at S.at cb.now e)
         (context_at S.at context.old e) b (frame_at S.at shape.now e)))) }
 {
@@ -246,15 +246,15 @@ fn lay_block<S: Steady>(
     requires { b < length page.now.tree.now.boxes }
     ensures goes { Goes (S.run calc.old) (S.run calc.new) }
     ensures value { (e : Reading) → IsTrue ((S.run calc.new).is_open e) → laid_with S.at result context.new e
-        ≡ without_boxes (block_step page.now.tree.now e.world page.now.height
+        ≡ without_boxes (block_step page.now.tree.now e.world
         (apart_at S.at page.now.apart.now e) (band_at S.at cb.now e) (context_at S.at context.old e) b
         (cleared_at S.at cleared e) (frame_at S.at shape.now e)) }
     ensures boxes { (e : Reading) → IsTrue ((S.run calc.new).is_open e) → boxes_at S.at out.new.items e
-        ≡ boxes_at S.at out.old.items e ++ (block_step page.now.tree.now e.world page.now.height
+        ≡ boxes_at S.at out.old.items e ++ (block_step page.now.tree.now e.world
         (apart_at S.at page.now.apart.now e) (band_at S.at cb.now e) (context_at S.at context.old e) b
         (cleared_at S.at cleared e) (frame_at S.at shape.now e)).after.boxes }
     ensures cause { BlamesButMem (S.run calc.old) (S.run calc.new)
-        (AllFit page.now.tree.now (S.run calc.old).is_open (λ e. WalkFits page.now.tree.now e.world page.now.height
+        (AllFit page.now.tree.now (S.run calc.old).is_open (λ e. WalkFits page.now.tree.now e.world
         (apart_at S.at page.now.apart.now e) (when_going_on (band_at S.at cb.now e)
         (context_at S.at context.old e) b (cleared_at S.at cleared e) (frame_at S.at shape.now e)))) }
 {
@@ -295,16 +295,16 @@ fn lay<S: Steady>(
     requires { b < length page.now.tree.now.boxes }
     ensures goes { Goes (S.run calc.old) (S.run calc.new) }
     ensures value { (clears : Bool) (e : Reading) → IsTrue ((S.run calc.new).is_open e)
-        → laid_with S.at result context.new e ≡ without_boxes (laid_of page.now.tree.now e.world page.now.height
+        → laid_with S.at result context.new e ≡ without_boxes (laid_of page.now.tree.now e.world
         (apart_at S.at page.now.apart.now e) (band_at S.at cb.now e) (context_at S.at context.old e) b
         (record { top = S.at top.now e; clears = clears; cleared = cleared_at S.at cleared e })) }
     ensures boxes { (clears : Bool) (e : Reading) → IsTrue ((S.run calc.new).is_open e)
         → boxes_at S.at out.new.items e ≡ boxes_at S.at out.old.items e
-        ++ (laid_of page.now.tree.now e.world page.now.height (apart_at S.at page.now.apart.now e)
+        ++ (laid_of page.now.tree.now e.world (apart_at S.at page.now.apart.now e)
         (band_at S.at cb.now e) (context_at S.at context.old e) b
         (record { top = S.at top.now e; clears = clears; cleared = cleared_at S.at cleared e })).after.boxes }
     ensures cause { BlamesButMem (S.run calc.old) (S.run calc.new)
-        (AllFit page.now.tree.now (S.run calc.old).is_open (λ e. WalkFits page.now.tree.now e.world page.now.height
+        (AllFit page.now.tree.now (S.run calc.old).is_open (λ e. WalkFits page.now.tree.now e.world
         (apart_at S.at page.now.apart.now e) (when_reached (band_at S.at cb.now e)
         (context_at S.at context.old e) b (S.at top.now e) (cleared_at S.at cleared e)))) }
 {
@@ -334,13 +334,13 @@ fn flow<S: Steady>(
     requires { b < length page.now.tree.now.boxes }
     ensures goes { Goes (S.run calc.old) (S.run calc.new) }
     ensures context { (e : Reading) → IsTrue ((S.run calc.new).is_open e) → context_at S.at context.new e
-        ≡ (in_flow page.now.tree.now e.world page.now.height (apart_at S.at page.now.apart.now e)
+        ≡ (in_flow page.now.tree.now e.world (apart_at S.at page.now.apart.now e)
         (band_at S.at cb.now e) (context_at S.at context.old e) b).context }
     ensures boxes { (e : Reading) → IsTrue ((S.run calc.new).is_open e) → boxes_at S.at out.new.items e
-        ≡ boxes_at S.at out.old.items e ++ (in_flow page.now.tree.now e.world page.now.height
+        ≡ boxes_at S.at out.old.items e ++ (in_flow page.now.tree.now e.world
         (apart_at S.at page.now.apart.now e) (band_at S.at cb.now e) (context_at S.at context.old e) b).boxes }
     ensures cause { BlamesButMem (S.run calc.old) (S.run calc.new)
-        (AllFit page.now.tree.now (S.run calc.old).is_open (λ e. WalkFits page.now.tree.now e.world page.now.height
+        (AllFit page.now.tree.now (S.run calc.old).is_open (λ e. WalkFits page.now.tree.now e.world
         (apart_at S.at page.now.apart.now e) (before_flow (band_at S.at cb.now e)
         (context_at S.at context.old e) b))) }
 {
@@ -378,14 +378,14 @@ fn child<S: Steady>(
     requires { k < length page.now.tree.now.boxes }
     ensures goes { Goes (S.run calc.old) (S.run calc.new) }
     ensures context { (e : Reading) → IsTrue ((S.run calc.new).is_open e) → context_at S.at context.new e
-        ≡ (child_of page.now.tree.now e.world page.now.height (apart_at S.at page.now.apart.now e)
+        ≡ (child_of page.now.tree.now e.world (apart_at S.at page.now.apart.now e)
         (band_at S.at cb.now e) (S.at top.now e) (context_at S.at context.old e) k).context }
     ensures boxes { (e : Reading) → IsTrue ((S.run calc.new).is_open e) → boxes_at S.at out.new.items e
-        ≡ boxes_at S.at out.old.items e ++ (child_of page.now.tree.now e.world page.now.height
+        ≡ boxes_at S.at out.old.items e ++ (child_of page.now.tree.now e.world
         (apart_at S.at page.now.apart.now e) (band_at S.at cb.now e) (S.at top.now e)
         (context_at S.at context.old e) k).boxes }
     ensures cause { BlamesButMem (S.run calc.old) (S.run calc.new)
-        (AllFit page.now.tree.now (S.run calc.old).is_open (λ e. WalkFits page.now.tree.now e.world page.now.height
+        (AllFit page.now.tree.now (S.run calc.old).is_open (λ e. WalkFits page.now.tree.now e.world
         (apart_at S.at page.now.apart.now e) (before_child (band_at S.at cb.now e) (S.at top.now e)
         (context_at S.at context.old e) k))) }
 {
@@ -414,14 +414,14 @@ fn children<S: Steady>(
         → (b < slice_index_or boxes.now i 0) × (slice_index_or boxes.now i 0 < length page.now.tree.now.boxes) }
     ensures goes { Goes (S.run calc.old) (S.run calc.new) }
     ensures context { (e : Reading) → IsTrue ((S.run calc.new).is_open e) → context_at S.at context.new e
-        ≡ (children_of page.now.tree.now e.world page.now.height (apart_at S.at page.now.apart.now e)
+        ≡ (children_of page.now.tree.now e.world (apart_at S.at page.now.apart.now e)
         (band_at S.at cb.now e) (S.at top.now e) (context_at S.at context.old e) boxes.now).context }
     ensures boxes { (e : Reading) → IsTrue ((S.run calc.new).is_open e) → boxes_at S.at out.new.items e
-        ≡ boxes_at S.at out.old.items e ++ (children_of page.now.tree.now e.world page.now.height
+        ≡ boxes_at S.at out.old.items e ++ (children_of page.now.tree.now e.world
         (apart_at S.at page.now.apart.now e) (band_at S.at cb.now e) (S.at top.now e)
         (context_at S.at context.old e) boxes.now).boxes }
     ensures cause { BlamesButMem (S.run calc.old) (S.run calc.new)
-        (AllFit page.now.tree.now (S.run calc.old).is_open (λ e. WalkFits page.now.tree.now e.world page.now.height
+        (AllFit page.now.tree.now (S.run calc.old).is_open (λ e. WalkFits page.now.tree.now e.world
         (apart_at S.at page.now.apart.now e) (before_children (band_at S.at cb.now e) (S.at top.now e)
         (context_at S.at context.old e) boxes.now))) }
 {
@@ -445,14 +445,14 @@ pub fn content<S: Steady>(
     requires { b < length page.now.tree.now.boxes }
     ensures goes { Goes (S.run calc.old) (S.run calc.new) }
     ensures context { (e : Reading) → IsTrue ((S.run calc.new).is_open e) → context_at S.at context.new e
-        ≡ (content_of page.now.tree.now e.world page.now.height (apart_at S.at page.now.apart.now e) b
+        ≡ (content_of page.now.tree.now e.world (apart_at S.at page.now.apart.now e) b
         (band_at S.at cb.now e) (S.at top.now e) (context_at S.at context.old e)).context }
     ensures boxes { (e : Reading) → IsTrue ((S.run calc.new).is_open e) → boxes_at S.at out.new.items e
-        ≡ boxes_at S.at out.old.items e ++ (content_of page.now.tree.now e.world page.now.height
+        ≡ boxes_at S.at out.old.items e ++ (content_of page.now.tree.now e.world
         (apart_at S.at page.now.apart.now e) b (band_at S.at cb.now e) (S.at top.now e)
         (context_at S.at context.old e)).boxes }
     ensures cause { BlamesButMem (S.run calc.old) (S.run calc.new)
-        (AllFit page.now.tree.now (S.run calc.old).is_open (λ e. WalkFits page.now.tree.now e.world page.now.height
+        (AllFit page.now.tree.now (S.run calc.old).is_open (λ e. WalkFits page.now.tree.now e.world
         (apart_at S.at page.now.apart.now e) (before_content b (band_at S.at cb.now e)
         (S.at top.now e) (context_at S.at context.old e)))) }
 {

@@ -1,5 +1,5 @@
 -- A float that ends above a level below which others are to stand is in the way of none of them.
-use Rattle.std.proofs.Common.{◌≡◌, ℤ, ◌≤ℤ◌, ◌+ℤ◌, Bool, true, false, int_lt, IsTrue, List, [], ◌∷◌, ◌++◌, filter, Contains, Option, refl, sym, ap, subst, ◌∙◌, inl, inr, ◌⊎◌, ⊎_elim, arith}
+use Rattle.std.proofs.Common.{◌≡◌, ℤ, ◌≤ℤ◌, Bool, true, false, int_lt, List, [], ◌∷◌, Contains, Option, refl, sym, ap, ◌∙◌, inl, inr, ◌⊎◌, ⊎_elim, arith}
 use Rattle.std.proofs.lemmas.Int.{ints}
 use Rattle.std.proofs.lemmas.List.Elements.{Contains-append_left, Contains-append_right, Contains-append_cases}
 use Rattle.viz_base.specs.declared.layouts.Band.{Band}
@@ -11,12 +11,12 @@ use Rattle.viz_base.specs.declared.styles.Side.{Side}
 use Rattle.viz_base.specs.declared.styles.Side.TheVariants as of_side
 use Rattle.viz_base.specs.declared.trees.BoxTree.{BoxTree}
 use Rattle.layout_semantics.specs.Clearance.{with_waiting}
-use Rattle.layout_semantics.specs.Floats.{FloatBox, Floating, floating, placed_float, float_at, float_top, float_spot, with_float_at, with_float}
+use Rattle.layout_semantics.specs.Floats.{FloatBox, Floating, floating, placed_float, float_at, float_top, float_spot, with_float_at}
 use Rattle.layout_laws.specs.FloatRules.{IsNextTo, IsLowEnough, ObeysRules, IsNoFarther}
 use Rattle.layout_laws.proofs.Members.{first_member, only_member, from_filter, to_filter}
 use Rattle.lay_float.specs.Places.{IsHighest}
 use Rattle.lay_float.proofs.Highest.{highest_is}
-use Rattle.lay_trial.specs.Trials.{Tried, reaching, standing, first_tried, next_tried, all_tried}
+use Rattle.lay_trial.specs.Trials.{Tried, reaching, first_tried, next_tried, all_tried}
 use Rattle.lay_trial.proofs.Tops.{top-from, top-least, top-bottom, top-most}
 
 -- the floats that are near say of those to come at y what all floats say

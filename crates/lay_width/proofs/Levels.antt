@@ -35,29 +35,34 @@ pub container-here : (levels n : ℕ) (tree : BoxTree) (at parent : ℕ) → lev
 container-here levels n tree at parent e p k =
     container-step levels n tree at e ∙ ap (option_and_then (from_parent n tree)) p ∙ ap (λ (b : Bool). elim b [ true ↦ container_to n tree parent | false ↦ Some parent ]) k
 
-pub definite-none : (levels : ℕ) (tree : BoxTree) (w : World) (viewport at : ℕ) → levels ≡ 0 → definite_height_to levels tree w viewport at ≡ None
+pub definite-none : (levels : ℕ) (tree : BoxTree) (w : World) (at : ℕ) → levels ≡ 0 → definite_height_to levels tree w at ≡ None
 unfolding definite_height_to
-definite-none levels tree w viewport at e = ap (λ k. definite_height_to k tree w viewport at) e
+definite-none levels tree w at e = ap (λ k. definite_height_to k tree w at) e
 
-pub definite-step : (levels n : ℕ) (tree : BoxTree) (w : World) (viewport at : ℕ) (o : Option ℕ) → levels ≡ suc n → percentage_container tree at ≡ o
-    → definite_height_to levels tree w viewport at
-    ≡ option_map_or (λ container. own_height_around tree w (definite_height_to n tree w viewport container) container) o (Some (pos (64 * viewport)))
+pub definite-step : (levels n : ℕ) (tree : BoxTree) (w : World) (at : ℕ) (o : Option ℕ) → levels ≡ suc n → percentage_container tree at ≡ o
+    → definite_height_to levels tree w at
+    ≡ option_map_or (λ container. own_height_around tree w (definite_height_to n tree w container) container) o (Some (pos (64 * w.h)))
 unfolding definite_height_to
-definite-step levels n tree w viewport at o e f =
-    ap (λ k. definite_height_to k tree w viewport at) e
-    ∙ ap (λ p. option_map_or (λ container. own_height_around tree w (definite_height_to n tree w viewport container) container) p (Some (pos (64 * viewport)))) f
+definite-step levels n tree w at o e f =
+    ap (λ k. definite_height_to k tree w at) e
+    ∙ ap (λ p. option_map_or (λ container. own_height_around tree w (definite_height_to n tree w container) container) p (Some (pos (64 * w.h)))) f
 
-abbrev FitsBy : ℕ → BoxTree → World → ℕ → Option ℕ → Type 0
-FitsBy n tree w viewport o = elim o as (λ (o : Option ℕ). Type 0) [
-  | None ↦ AllSmall (pos (64 * viewport) ∷ [])
-  | Some container ↦ DefiniteFits_to n tree w viewport container × OwnHeightFits tree w (definite_height_to n tree w viewport container) container
+abbrev FitsBy : ℕ → BoxTree → World → Option ℕ → Type 0
+FitsBy n tree w o = elim o as (λ (o : Option ℕ). Type 0) [
+  | None ↦ AllSmall (pos (64 * w.h) ∷ [])
+  | Some container ↦ DefiniteFits_to n tree w container × OwnHeightFits tree w (definite_height_to n tree w container) container
 ]
 
-fits-by : (levels n : ℕ) (tree : BoxTree) (w : World) (viewport at : ℕ) → levels ≡ suc n → DefiniteFits_to levels tree w viewport at → FitsBy n tree w viewport (percentage_container tree at)
+fits-by : (levels n : ℕ) (tree : BoxTree) (w : World) (at : ℕ) → levels ≡ suc n → DefiniteFits_to levels tree w at → FitsBy n tree w (percentage_container tree at)
 unfolding DefiniteFits_to
-fits-by levels n tree w viewport at e f = subst (λ k. DefiniteFits_to k tree w viewport at) e f
+fits-by levels n tree w at e f = subst (λ k. DefiniteFits_to k tree w at) e f
 
-pub fits-step : (levels n : ℕ) (tree : BoxTree) (w : World) (viewport at container : ℕ) → levels ≡ suc n → percentage_container tree at ≡ Some container
-    → DefiniteFits_to levels tree w viewport at
-    → DefiniteFits_to n tree w viewport container × OwnHeightFits tree w (definite_height_to n tree w viewport container) container
-fits-step levels n tree w viewport at container e p f = subst (FitsBy n tree w viewport) p (fits-by levels n tree w viewport at e f)
+pub fits-step : (levels n : ℕ) (tree : BoxTree) (w : World) (at container : ℕ) → levels ≡ suc n → percentage_container tree at ≡ Some container
+    → DefiniteFits_to levels tree w at
+    → DefiniteFits_to n tree w container × OwnHeightFits tree w (definite_height_to n tree w container) container
+fits-step levels n tree w at container e p f = subst (FitsBy n tree w) p (fits-by levels n tree w at e f)
+
+pub fits-root : (levels n : ℕ) (tree : BoxTree) (w : World) (at : ℕ) → levels ≡ suc n → percentage_container tree at ≡ None
+    → DefiniteFits_to levels tree w at
+    → AllSmall (pos (64 * w.h) ∷ [])
+fits-root levels n tree w at e p f = subst (FitsBy n tree w) p (fits-by levels n tree w at e f)

@@ -107,18 +107,18 @@ OwnHeightFits tree w around at = HeightFits tree w around (own tree at (λ (s : 
     × HeldFits tree w at around
 
 -- to the height that percentages of a box's heights are of, up so many levels
-unfoldable pub DefiniteFits_to : ℕ → BoxTree → World → ℕ → ℕ → Type 0
-DefiniteFits_to zero tree w viewport at = Unit {0}
-DefiniteFits_to (suc levels) tree w viewport at = elim (percentage_container tree at) as (λ (o : Option ℕ). Type 0) [
-  | None ↦ AllSmall (pos (64 * viewport) ∷ [])
-  | Some container ↦ DefiniteFits_to levels tree w viewport container
-      × OwnHeightFits tree w (definite_height_to levels tree w viewport container) container
+unfoldable pub DefiniteFits_to : ℕ → BoxTree → World → ℕ → Type 0
+DefiniteFits_to zero tree w at = Unit {0}
+DefiniteFits_to (suc levels) tree w at = elim (percentage_container tree at) as (λ (o : Option ℕ). Type 0) [
+  | None ↦ AllSmall (pos (64 * w.h) ∷ [])
+  | Some container ↦ DefiniteFits_to levels tree w container
+      × OwnHeightFits tree w (definite_height_to levels tree w container) container
 ]
 
 -- to the height that a box's own property gives, not held
-abbrev pub GivenFits : BoxTree → World → ℕ → ℕ → Type 0
-GivenFits tree w viewport at = DefiniteFits_to (suc at) tree w viewport at
-    × HeightFits tree w (definite_height tree w viewport at) (own tree at (λ (s : Style). s.height) of_length.Auto)
+abbrev pub GivenFits : BoxTree → World → ℕ → Type 0
+GivenFits tree w at = DefiniteFits_to (suc at) tree w at
+    × HeightFits tree w (definite_height tree w at) (own tree at (λ (s : Style). s.height) of_length.Auto)
 
 -- ---- replaced boxes
 
@@ -128,14 +128,14 @@ RatioFits size None = AllSmall (pos (64 * size.0) ∷ [])
 RatioFits size (Some height) = AllSmall (by_ratio height size.1 size.0 ∷ [])
 
 -- to a replaced box's width before it is held: what follows from the height only where its own is `auto`
-abbrev pub TentativeFits : BoxTree → World → ℕ → ℕ → Length → ℤ → Type 0
-TentativeFits tree w viewport at of_length.Auto cb = GivenFits tree w viewport at
-    × RatioFits (intrinsic tree at) (given_height tree w viewport at)
-TentativeFits tree w viewport at length cb = UsedFits tree w length cb
+abbrev pub TentativeFits : BoxTree → World → ℕ → Length → ℤ → Type 0
+TentativeFits tree w at of_length.Auto cb = GivenFits tree w at
+    × RatioFits (intrinsic tree at) (given_height tree w at)
+TentativeFits tree w at length cb = UsedFits tree w length cb
 
-abbrev pub ReplacedFits : BoxTree → World → ℕ → ℕ → ℤ → Type 0
-ReplacedFits tree w viewport at cb =
-    TentativeFits tree w viewport at (own tree at (λ (s : Style). s.width) of_length.Auto) cb × HoldFits tree w at cb
+abbrev pub ReplacedFits : BoxTree → World → ℕ → ℤ → Type 0
+ReplacedFits tree w at cb =
+    TentativeFits tree w at (own tree at (λ (s : Style). s.width) of_length.Auto) cb × HoldFits tree w at cb
 
 -- ---- boxes
 
@@ -187,29 +187,28 @@ ShrunkFits tree w at cb p =
     × (FittedFits tree w (own_width_of tree at) cb p (terms_around tree w at cb (pos 0)) × HoldFits tree w at cb)
 
 -- to the terms of a replaced block with these edges
-abbrev pub ReplacedBetweenFits : BoxTree → World → ℕ → ℕ → ℤ → Widths ℤ → Type 0
-ReplacedBetweenFits tree w viewport at cb edges =
-    ReplacedFits tree w viewport at cb × FixedBlockFits tree at edges cb (replaced_size tree w viewport at cb).width
+abbrev pub ReplacedBetweenFits : BoxTree → World → ℕ → ℤ → Widths ℤ → Type 0
+ReplacedBetweenFits tree w at cb edges =
+    ReplacedFits tree w at cb × FixedBlockFits tree at edges cb (replaced_size tree w at cb).width
 
-abbrev pub ReplacedBlockFits : BoxTree → World → ℕ → ℕ → ℤ → Type 0
-ReplacedBlockFits tree w viewport at cb = EdgesFit tree w at cb
-    × ReplacedBetweenFits tree w viewport at cb (terms_around tree w at cb (pos 0))
+abbrev pub ReplacedBlockFits : BoxTree → World → ℕ → ℤ → Type 0
+ReplacedBlockFits tree w at cb = EdgesFit tree w at cb
+    × ReplacedBetweenFits tree w at cb (terms_around tree w at cb (pos 0))
 
 -- a box in a containing block of this width
 pub record InBlock : Type 0 where
   pub tree : BoxTree
   pub world : World
-  pub viewport : ℕ
   pub at : ℕ
   pub cb : ℤ
 
-abbrev pub in_block : BoxTree → World → ℕ → ℕ → ℤ → InBlock
-in_block tree w viewport at cb = record { tree = tree; world = w; viewport = viewport; at = at; cb = cb }
+abbrev pub in_block : BoxTree → World → ℕ → ℤ → InBlock
+in_block tree w at cb = record { tree = tree; world = w; at = at; cb = cb }
 
 -- to the terms of a box of this placing, with these preferred widths
 abbrev pub WidthsFit : InBlock → Placing → Preferred ℤ → Type 0
 WidthsFit b block_flow p = BlockFits b.tree b.world b.at b.cb
 WidthsFit b shrunk p = ShrunkFits b.tree b.world b.at b.cb p
-WidthsFit b replaced_block p = ReplacedBlockFits b.tree b.world b.viewport b.at b.cb
+WidthsFit b replaced_block p = ReplacedBlockFits b.tree b.world b.at b.cb
 WidthsFit b replaced_shrunk p = EdgesFit b.tree b.world b.at b.cb
-    × ReplacedFits b.tree b.world b.viewport b.at b.cb
+    × ReplacedFits b.tree b.world b.at b.cb

@@ -194,7 +194,6 @@ pub fn shrunk<S: Steady>(
 fn replaced_between<S: Steady>(
     calc: &mut S,
     tree: &BoxTree,
-    viewport: u32,
     b: u32,
     cb: &S::Num,
     edges: Widths<S::Num>,
@@ -202,13 +201,13 @@ fn replaced_between<S: Steady>(
     ensures goes { Goes (S.run calc.old) (S.run calc.new) }
     ensures value { (e : Reading) → IsTrue ((S.run calc.new).is_open e) → widths_at S.at result e
         ≡ fixed_around (is_automatic (margins_at tree.now b).left) (is_automatic (margins_at tree.now b).right)
-        (around_of (widths_at S.at edges e) (replaced_size tree.now e.world viewport b (S.at cb.now e)).width)
+        (around_of (widths_at S.at edges e) (replaced_size tree.now e.world b (S.at cb.now e)).width)
         (S.at cb.now e) }
     ensures cause { Blames (S.run calc.old) (S.run calc.new)
         ((e : Reading) → IsTrue ((S.run calc.old).is_open e)
-        → ReplacedBetweenFits tree.now e.world viewport b (S.at cb.now e) (widths_at S.at edges e)) }
+        → ReplacedBetweenFits tree.now e.world b (S.at cb.now e) (widths_at S.at edges e)) }
 {
-    let width = replaced::width(calc, tree, viewport, b, cb);
+    let width = replaced::width(calc, tree, b, cb);
     fixed_block(calc, tree, b, cb, edges, width)
 }
 
@@ -216,64 +215,61 @@ fn replaced_between<S: Steady>(
 pub fn replaced_block<S: Steady>(
     calc: &mut S,
     tree: &BoxTree,
-    viewport: u32,
     b: u32,
     cb: &S::Num,
 ) -> Widths<S::Num>
     ensures goes { Goes (S.run calc.old) (S.run calc.new) }
     ensures value { (e : Reading) → IsTrue ((S.run calc.new).is_open e) → widths_at S.at result e
-        ≡ fixed_terms tree.now e.world b (S.at cb.now e) (replaced_size tree.now e.world viewport b
+        ≡ fixed_terms tree.now e.world b (S.at cb.now e) (replaced_size tree.now e.world b
         (S.at cb.now e)).width }
     ensures cause { Blames (S.run calc.old) (S.run calc.new)
         ((e : Reading) → IsTrue ((S.run calc.old).is_open e)
-        → ReplacedBlockFits tree.now e.world viewport b (S.at cb.now e)) }
+        → ReplacedBlockFits tree.now e.world b (S.at cb.now e)) }
 {
     let edges = edges(calc, tree, b, cb);
-    replaced_between(calc, tree, viewport, b, cb, edges)
+    replaced_between(calc, tree, b, cb, edges)
 }
 
 /// The terms of a replaced float, or of a replaced box in a line (CSS 2.1, 10.3.2, 10.3.6).
 pub fn replaced_shrunk<S: Steady>(
     calc: &mut S,
     tree: &BoxTree,
-    viewport: u32,
     b: u32,
     cb: &S::Num,
 ) -> Widths<S::Num>
     ensures goes { Goes (S.run calc.old) (S.run calc.new) }
     ensures value { (e : Reading) → IsTrue ((S.run calc.new).is_open e) → widths_at S.at result e
-        ≡ terms_around tree.now e.world b (S.at cb.now e) (replaced_size tree.now e.world viewport b
+        ≡ terms_around tree.now e.world b (S.at cb.now e) (replaced_size tree.now e.world b
         (S.at cb.now e)).width }
     ensures cause { Blames (S.run calc.old) (S.run calc.new) ((e : Reading) → IsTrue ((S.run calc.old).is_open e)
-        → EdgesFit tree.now e.world b (S.at cb.now e) × ReplacedFits tree.now e.world viewport b (S.at cb.now e)) }
+        → EdgesFit tree.now e.world b (S.at cb.now e) × ReplacedFits tree.now e.world b (S.at cb.now e)) }
 {
     let edges = edges(calc, tree, b, cb);
-    let width = replaced::width(calc, tree, viewport, b, cb);
+    let width = replaced::width(calc, tree, b, cb);
     around(edges, width)
 }
 
-/// The used widths and horizontal margins of a box in a containing block of width `cb`, in a viewport of so many
-/// pixels height. These are its preferred widths, where it is a float or an inline-block; else they do not matter.
+/// The used widths and horizontal margins of a box in a containing block of width `cb`. These are its preferred
+/// widths, where it is a float or an inline-block; else they do not matter.
 pub fn widths<S: Steady>(
     calc: &mut S,
     tree: &BoxTree,
     b: u32,
     cb: &S::Num,
-    height: u32,
     preferred: &Preferred<S::Num>,
 ) -> Widths<S::Num>
     ensures goes { Goes (S.run calc.old) (S.run calc.new) }
     ensures value { (e : Reading) → IsTrue ((S.run calc.new).is_open e)
         → AreItsOwn tree.now e.world b (preferred_at S.at preferred.now e)
-        → widths_at S.at result e ≡ widths_of tree.now e.world height b (S.at cb.now e) }
+        → widths_at S.at result e ≡ widths_of tree.now e.world b (S.at cb.now e) }
     ensures cause { Blames (S.run calc.old) (S.run calc.new) ((e : Reading) → IsTrue ((S.run calc.old).is_open e)
-        → WidthsFit (in_block tree.now e.world height b (S.at cb.now e)) (placing_of tree.now b)
+        → WidthsFit (in_block tree.now e.world b (S.at cb.now e)) (placing_of tree.now b)
         (preferred_at S.at preferred.now e)) }
 {
     match placed_as(tree, b) {
         Placing::Block => block(calc, tree, b, cb),
         Placing::Shrunk => shrunk(calc, tree, b, cb, preferred),
-        Placing::ReplacedBlock => replaced_block(calc, tree, height, b, cb),
-        Placing::ReplacedShrunk => replaced_shrunk(calc, tree, height, b, cb),
+        Placing::ReplacedBlock => replaced_block(calc, tree, b, cb),
+        Placing::ReplacedShrunk => replaced_shrunk(calc, tree, b, cb),
     }
 }

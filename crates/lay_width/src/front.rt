@@ -11,9 +11,8 @@ use crate::engine;
 use viz_base::{BoxTree, Preferred, Widths};
 use viz_calc::{Calc, Halt, Latch};
 
-/// The used widths and horizontal margins of a box, in 1/64 px, in a containing block of width `cb` and a viewport
-/// of so many pixels height (CSS 2.1, 10.3, 10.4). These are its preferred widths, where it is a float or an
-/// inline-block; else they do not matter.
+/// The used widths and horizontal margins of a box, in 1/64 px, in a containing block of width `cb` (CSS 2.1, 10.3,
+/// 10.4). These are its preferred widths, where it is a float or an inline-block; else they do not matter.
 ///
 /// `Coeff` where a coefficient passes its limit; `Mem` and `Open` as the calc gives them.
 pub fn widths<C: Calc>(
@@ -21,20 +20,19 @@ pub fn widths<C: Calc>(
     tree: &BoxTree,
     b: u32,
     cb: &C::Num,
-    height: u32,
     preferred: &Preferred<C::Num>,
 ) -> Result<Widths<C::Num>, Halt>
     ensures grows { Grows (C.state calc.old) (C.state calc.new) }
     ensures value { IfOk result (λ r. (e : Reading) → IsTrue ((C.state calc.new).is_open e)
         → AreItsOwn tree.now e.world b (preferred_at C.at preferred.now e)
-        → widths_at C.at r e ≡ widths_of tree.now e.world height b (C.at cb.now e)) }
+        → widths_at C.at r e ≡ widths_of tree.now e.world b (C.at cb.now e)) }
     ensures kept { AreOpen (C.state calc.old).kept (C.state calc.new) }
     ensures cause { IfErr result (Cause (C.state calc.old) (C.state calc.new) ((e : Reading)
         → IsTrue ((C.state calc.old).is_open e)
-        → WidthsFit (in_block tree.now e.world height b (C.at cb.now e)) (placing_of tree.now b)
+        → WidthsFit (in_block tree.now e.world b (C.at cb.now e)) (placing_of tree.now b)
         (preferred_at C.at preferred.now e))) }
 {
     let mut latch = Latch::new(calc);
-    let widths = engine::widths(&mut latch, tree, b, cb, height, preferred);
+    let widths = engine::widths(&mut latch, tree, b, cb, preferred);
     latch.finish(widths)
 }

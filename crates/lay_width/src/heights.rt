@@ -128,46 +128,39 @@ pub fn own_height_around<S: Steady>(
     }
 }
 
-/// The height that percentages of a box's heights are of, where it is definite, up so many levels; that of the
-/// viewport is so many pixels.
+/// The height that percentages of a box's heights are of, where it is definite, up so many levels.
 pub fn definite_height<S: Steady>(
     calc: &mut S,
     tree: &BoxTree,
-    viewport: u32,
     levels: u64,
     b: u32,
 ) -> Option<S::Num>
     ensures goes { Goes (S.run calc.old) (S.run calc.new) }
     ensures value { (e : Reading) → IsTrue ((S.run calc.new).is_open e)
-        → option_at S.at result e ≡ definite_height_to levels tree.now e.world viewport b }
+        → option_at S.at result e ≡ definite_height_to levels tree.now e.world b }
     ensures cause { Blames (S.run calc.old) (S.run calc.new)
-        ((e : Reading) → IsTrue ((S.run calc.old).is_open e) → DefiniteFits_to levels tree.now e.world viewport b) }
+        ((e : Reading) → IsTrue ((S.run calc.old).is_open e) → DefiniteFits_to levels tree.now e.world b) }
 {
     if levels == 0 {
         return None;
     }
     match container(tree, u64::from(b) + 1, b) {
         Some(outer) => {
-            let around = definite_height(calc, tree, viewport, levels - 1, outer);
+            let around = definite_height(calc, tree, levels - 1, outer);
             own_height_around(calc, tree, &around, outer)
         }
-        None => Some(pixels(calc, 64 * i64::from(viewport))),
+        None => Some(calc.height()),
     }
 }
 
-/// The height that a box's own property gives, where that is definite, in a viewport of so many pixels height.
-pub fn given_height<S: Steady>(
-    calc: &mut S,
-    tree: &BoxTree,
-    viewport: u32,
-    b: u32,
-) -> Option<S::Num>
+/// The height that a box's own property gives, where that is definite.
+pub fn given_height<S: Steady>(calc: &mut S, tree: &BoxTree, b: u32) -> Option<S::Num>
     ensures goes { Goes (S.run calc.old) (S.run calc.new) }
     ensures value { (e : Reading) → IsTrue ((S.run calc.new).is_open e)
-        → option_at S.at result e ≡ given_height_of tree.now e.world viewport b }
+        → option_at S.at result e ≡ given_height_of tree.now e.world b }
     ensures cause { Blames (S.run calc.old) (S.run calc.new)
-        ((e : Reading) → IsTrue ((S.run calc.old).is_open e) → GivenFits tree.now e.world viewport b) }
+        ((e : Reading) → IsTrue ((S.run calc.old).is_open e) → GivenFits tree.now e.world b) }
 {
-    let around = definite_height(calc, tree, viewport, u64::from(b) + 1, b);
+    let around = definite_height(calc, tree, u64::from(b) + 1, b);
     height_around(calc, tree, &around, &own_height(tree, b))
 }

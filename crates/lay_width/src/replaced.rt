@@ -49,17 +49,17 @@ fn by_height<S: Steady>(calc: &mut S, size: (u32, u32), height: Option<S::Num>) 
 }
 
 /// The width of a replaced box before it is held.
-fn tentative<S: Steady>(calc: &mut S, tree: &BoxTree, viewport: u32, b: u32, cb: &S::Num) -> S::Num
+fn tentative<S: Steady>(calc: &mut S, tree: &BoxTree, b: u32, cb: &S::Num) -> S::Num
     ensures goes { Goes (S.run calc.old) (S.run calc.new) }
     ensures value { Stands (S.run calc.new) (S.at result) (λ e. tentative_of (intrinsic_at tree.now b)
-        (width_of tree.now e.world b (S.at cb.now e)) (given_height_of tree.now e.world viewport b)) }
+        (width_of tree.now e.world b (S.at cb.now e)) (given_height_of tree.now e.world b)) }
     ensures cause { Blames (S.run calc.old) (S.run calc.new) ((e : Reading) → IsTrue ((S.run calc.old).is_open e)
-        → TentativeFits tree.now e.world viewport b (own tree.now b
+        → TentativeFits tree.now e.world b (own tree.now b
         (λ (s : StyleOf). s.width) of_length.Auto) (S.at cb.now e)) }
 {
     match own_width(tree, b) {
         Length::Auto => {
-            let height = given_height(calc, tree, viewport, b);
+            let height = given_height(calc, tree, b);
             by_height(calc, intrinsic(tree, b), height)
         }
         width @ (Length::Px(_) | Length::Em { .. } | Length::Pct(_)) => used(
@@ -68,16 +68,16 @@ fn tentative<S: Steady>(calc: &mut S, tree: &BoxTree, viewport: u32, b: u32, cb:
     }
 }
 
-/// The width of a replaced box in a containing block of width `cb`, in a viewport of so many pixels height.
-pub fn width<S: Steady>(calc: &mut S, tree: &BoxTree, viewport: u32, b: u32, cb: &S::Num) -> S::Num
+/// The width of a replaced box in a containing block of width `cb`.
+pub fn width<S: Steady>(calc: &mut S, tree: &BoxTree, b: u32, cb: &S::Num) -> S::Num
     ensures goes { Goes (S.run calc.old) (S.run calc.new) }
     ensures value { Stands (S.run calc.new) (S.at result)
-        (λ e. (replaced_size tree.now e.world viewport b (S.at cb.now e)).width) }
+        (λ e. (replaced_size tree.now e.world b (S.at cb.now e)).width) }
     ensures cause { Blames (S.run calc.old) (S.run calc.new)
         ((e : Reading) → IsTrue ((S.run calc.old).is_open e)
-        → ReplacedFits tree.now e.world viewport b (S.at cb.now e)) }
+        → ReplacedFits tree.now e.world b (S.at cb.now e)) }
 {
-    let width = tentative(calc, tree, viewport, b, cb);
+    let width = tentative(calc, tree, b, cb);
     let most = own_maximum(calc, tree, b, cb);
     let least = used(calc, tree, &own_least(tree, b), cb);
     hold(calc, most, least, width)

@@ -88,9 +88,9 @@ again-low (Some m) least c v bound p q e = by (int_le c m) refl e
 
 -- ---- the terms of a box in its containing block
 
-module _ (tree : BoxTree) (low : IsLowTree tree) (w : World) (small : w.s ≤ 256) (height k : ℕ) (lengths : AreLengthsLow tree low w small (own_style tree k)) (wide : AreWidthsBounded tree w height (2 ^ 42) k) where
+module _ (tree : BoxTree) (low : IsLowTree tree) (w : World) (small : w.s ≤ 256) (k : ℕ) (lengths : AreLengthsLow tree low w small (own_style tree k)) (wide : AreWidthsBounded tree w (2 ^ 42) k) where
   abbrev cb : ℤ
-  cb = room tree w height k
+  cb = room tree w k
 
   abbrev edges : Widths ℤ
   edges = terms_around tree w k cb (pos 0)

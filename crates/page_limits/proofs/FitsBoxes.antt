@@ -59,10 +59,10 @@ content-fits left x l s =
     let s4 = size-+ (left +ℤ x.margin_left +ℤ x.border_left +ℤ x.padding_left) x.content in
     (omega arith, (omega arith, (omega arith, (omega arith, tt))))
 
-module _ (tree : BoxTree) (page : IsFarPage tree) (w : World) (small : w.s ≤ 256) (narrow : w.w ≤ 16384) (height : ℕ) (flat : height ≤ 16384) where
+module _ (tree : BoxTree) (page : IsFarPage tree) (w : World) (small : w.s ≤ 256) (narrow : w.w ≤ 16384) (flat : w.h ≤ 16384) where
   -- ---- the ratio of a replaced box
 
-  module _ (k : ℕ) (b : IsBoxOn tree page w small narrow height flat k) where
+  module _ (k : ℕ) (b : IsBoxOn tree page w small narrow flat k) where
     -- of an intrinsic size neither side is so many times as long as the other
     ratio-low : ratio b.x.size ≤ 2 ^ 19
     ratio-low =
@@ -97,72 +97,72 @@ module _ (tree : BoxTree) (page : IsFarPage tree) (w : World) (small : w.s ≤ 2
 
   module _ (k : ℕ) (on : IsOnPage tree.boxes k) (is : IsWhole tree k) where
     abbrev cb : ℤ
-    cb = room tree w height k
+    cb = room tree w k
 
-    abbrev b : IsBoxOn tree page w small narrow height flat k
-    b = whole-on tree page w small narrow height flat k on is
+    abbrev b : IsBoxOn tree page w small narrow flat k
+    b = whole-on tree page w small narrow flat k on is
 
     abbrev lengths : AreLengthsLow tree page.low w small (own_style tree k)
-    lengths = lengths-of tree page w small narrow height flat k b is
+    lengths = lengths-of tree page w small narrow flat k b is
 
-    abbrev wide : AreWidthsBounded tree w height (2 ^ 42) k
-    wide = whole-bounded tree page w small narrow height flat k on is
+    abbrev wide : AreWidthsBounded tree w (2 ^ 42) k
+    wide = whole-bounded tree page w small narrow flat k on is
 
     of_length-fits : (l : Length) → width_in (own_style tree k) ≡ l → UsedFits tree w l cb
-    of_length-fits l e = length-fits tree page.low w small height k lengths wide l (subst (IsLow tree page.low w small) e lengths.width)
+    of_length-fits l e = length-fits tree page.low w small k lengths wide l (subst (IsLow tree page.low w small) e lengths.width)
 
-    by_height-fits : RatioFits (intrinsic tree k) (given_height tree w height k)
-    by_height-fits = by (given_height tree w height k) (by_height-bounded tree page w small narrow height flat k b)
+    by_height-fits : RatioFits (intrinsic tree k) (given_height tree w k)
+    by_height-fits = by (given_height tree w k) (by_height-bounded tree page w small narrow flat k b)
       where
         by : (o : Option ℤ) → unsigned_abs (by_height (intrinsic tree k) o) ≤ 2 ^ 41 → RatioFits (intrinsic tree k) o
         by None l = (omega (arith, l), tt)
         by (Some h) l = (omega (arith, l), tt)
 
-    pub replaced-fits : ReplacedFits tree w height k cb
-    replaced-fits = (by (width_in (own_style tree k)) refl, hold-fits tree page.low w small height k lengths wide)
+    pub replaced-fits : ReplacedFits tree w k cb
+    replaced-fits = (by (width_in (own_style tree k)) refl, hold-fits tree page.low w small k lengths wide)
       where
-        by : (l : Length) → width_in (own_style tree k) ≡ l → TentativeFits tree w height k l cb
-        by of_length.Auto e = (given-fits tree page w small narrow height flat k on is, by_height-fits)
+        by : (l : Length) → width_in (own_style tree k) ≡ l → TentativeFits tree w k l cb
+        by of_length.Auto e = (given-fits tree page w small narrow flat k on is, by_height-fits)
         by (of_length.Px c) e = of_length-fits (of_length.Px c) e
         by (of_length.Em m node) e = of_length-fits (of_length.Em m node) e
         by (of_length.Pct p) e = of_length-fits (of_length.Pct p) e
 
-    replaced_width-low : unsigned_abs (replaced_size tree w height k cb).width ≤ 2 ^ 42
+    replaced_width-low : unsigned_abs (replaced_size tree w k cb).width ≤ 2 ^ 42
     replaced_width-low = let l = wide.replaced_width in omega (arith, l)
 
-    pub by_width-fits : AllSmall (by_ratio (replaced_size tree w height k cb).width (intrinsic tree k).0 (intrinsic tree k).1 ∷ [])
-    by_width-fits = (by_width-low k b (replaced_size tree w height k cb).width replaced_width-low, tt)
+    pub by_width-fits : AllSmall (by_ratio (replaced_size tree w k cb).width (intrinsic tree k).0 (intrinsic tree k).1 ∷ [])
+    by_width-fits = (by_width-low k b (replaced_size tree w k cb).width replaced_width-low, tt)
 
-    pub widths-fit : WidthsFit (in_block tree w height k cb) (placing_of tree k) (preferred tree w k)
+    pub widths-fit : WidthsFit (in_block tree w k cb) (placing_of tree k) (preferred tree w k)
     widths-fit = by (placing_of tree k)
       where
-        by : (p : Placing) → WidthsFit (in_block tree w height k cb) p (preferred tree w k)
-        by block_flow = block-fits tree page.low w small height k lengths wide
-        by shrunk = shrunk-fits tree page.low w small height k lengths wide
+        by : (p : Placing) → WidthsFit (in_block tree w k cb) p (preferred tree w k)
+        by block_flow = block-fits tree page.low w small k lengths wide
+        by shrunk = shrunk-fits tree page.low w small k lengths wide
         by replaced_block = (
-          edges-fit tree page.low w small height k lengths wide,
-          (replaced-fits, fixed-block-fits tree page.low w small height k lengths wide (replaced_size tree w height k cb).width replaced_width-low),
+          edges-fit tree page.low w small k lengths wide,
+          (replaced-fits, fixed-block-fits tree page.low w small k lengths wide (replaced_size tree w k cb).width replaced_width-low),
         )
-        by replaced_shrunk = (edges-fit tree page.low w small height k lengths wide, replaced-fits)
+        by replaced_shrunk = (edges-fit tree page.low w small k lengths wide, replaced-fits)
 
     pub down-fits : VerticalsFit tree w k cb
-    down-fits = verticals-fit tree page.low w small height k lengths wide
+    down-fits = verticals-fit tree page.low w small k lengths wide
 
     -- ---- its margins, and the containing block of the boxes in it
 
-    module _ (band : Band ℤ) (same : across band ≡ room tree w height k) (left : unsigned_abs band.left ≤ 2 ^ 90) (right : unsigned_abs band.right ≤ 2 ^ 90) where
+    module _ (band : Band ℤ) (same : across band ≡ room tree w k) (left : unsigned_abs band.left ≤ 2 ^ 90) (right : unsigned_abs band.right ≤ 2 ^ 90) where
       across-fits : AllSmall (across band ∷ [])
       across-fits = let size = size-- band.right band.left in (omega (arith, size, left, right), tt)
 
       margin-fits : (l : Length) → IsLow tree page.low w small l → MarginFits tree w l band
-      margin-fits l i = (across-fits, subst (UsedFits tree w l) (sym same) (length-fits tree page.low w small height k lengths wide l i))
+      margin-fits l i = (across-fits, subst (UsedFits tree w l) (sym same) (length-fits tree page.low w small k lengths wide l i))
 
       inside-fits : InsideFits tree w band k
       inside-fits =
-          let flow = (box-small tree w height (2 ^ 42) k (properties-small tree page w small narrow height flat k on is)).flow in (
+          let flow = (box-small tree w (2 ^ 42) k (properties-small tree page w small narrow flat k on is)).flow in (
             across-fits,
             (
-              subst (BlockFits tree w k) (sym same) (block-fits tree page.low w small height k lengths wide),
+              subst (BlockFits tree w k) (sym same) (block-fits tree page.low w small k lengths wide),
               content-fits band.left (flow_widths tree w k (across band)) left (subst (λ (z : ℤ). AreWidthsSmall (2 ^ 42) (flow_widths tree w k z)) (sym same) flow),
             ),
           )

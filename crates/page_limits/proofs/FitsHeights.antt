@@ -55,7 +55,7 @@ module _ (tree : BoxTree) (low : IsLowTree tree) (w : World) (small : w.s ≤ 25
 
 -- ---- the boxes that percentages of heights are of
 
-module _ (tree : BoxTree) (page : IsFarPage tree) (w : World) (small : w.s ≤ 256) (narrow : w.w ≤ 16384) (height : ℕ) (flat : height ≤ 16384) where
+module _ (tree : BoxTree) (page : IsFarPage tree) (w : World) (small : w.s ≤ 256) (narrow : w.w ≤ 16384) (flat : w.h ≤ 16384) where
   record IsContainer (at c : ℕ) : Type 0 where
     before : c < at
     on : IsOnPage tree.boxes c
@@ -69,7 +69,7 @@ module _ (tree : BoxTree) (page : IsFarPage tree) (w : World) (small : w.s ≤ 2
   holder-whole b kid l on c over =
       let x = slice_some tree.boxes b (within-page tree b on) in
       let kind = kind-at tree b x.0 x.1 in
-      let leaf = (holds tree page w small narrow height flat b kid x.0 x.1 c).0 in
+      let leaf = (holds tree page w small narrow flat b kid x.0 x.1 c).0 in
       ap is_fragmented kind ∙ by (x.0).kind leaf (sym (ap is_passed_over kind) ∙ over)
     where
       by : (kind : Kind) → is_leaf kind ≡ false → is_passed_over kind ≡ false → is_fragmented kind ≡ false
@@ -115,61 +115,61 @@ module _ (tree : BoxTree) (page : IsFarPage tree) (w : World) (small : w.s ≤ 2
   -- ---- definite heights
 
   abbrev height_by : (ℕ → Option ℤ) → Option ℕ → Option ℤ
-  height_by around o = option_map_or (λ container. own_height_around tree w (around container) container) o (Some (pos (64 * height)))
+  height_by around o = option_map_or (λ container. own_height_around tree w (around container) container) o (Some (pos (64 * w.h)))
 
   -- so many levels are enough
-  definite-same : (levels at : ℕ) → IsOnPage tree.boxes at → at < levels → definite_height_to levels tree w height at ≡ definite_height tree w height at
+  definite-same : (levels at : ℕ) → IsOnPage tree.boxes at → at < levels → definite_height_to levels tree w at ≡ definite_height tree w at
   unfolding definite_height_to
   definite-same zero at on l = absurd (omega (arith, l))
   definite-same (suc levels) at on l =
       same (percentage_container tree at) (λ c e. (let i = container-of at c on e in let before = i.before in definite-same levels c i.on (omega (arith, l, before))))
-      ∙ sym (definite-by-container tree w height at on)
+      ∙ sym (definite-by-container tree w at on)
     where
-      same : (o : Option ℕ) → ((c : ℕ) → o ≡ Some c → definite_height_to levels tree w height c ≡ definite_height tree w height c)
-          → height_by (definite_height_to levels tree w height) o ≡ height_by (definite_height tree w height) o
+      same : (o : Option ℕ) → ((c : ℕ) → o ≡ Some c → definite_height_to levels tree w c ≡ definite_height tree w c)
+          → height_by (definite_height_to levels tree w) o ≡ height_by (definite_height tree w) o
       same None f = refl
       same (Some c) f = ap (λ around. own_height_around tree w around c) (f c refl)
 
-  definite-low : (k : ℕ) → IsBoxOn tree page w small narrow height flat k → unsigned_abs (unwrap_or (definite_height tree w height k) (pos 0)) ≤ 2 ^ 50
+  definite-low : (k : ℕ) → IsBoxOn tree page w small narrow flat k → unsigned_abs (unwrap_or (definite_height tree w k) (pos 0)) ≤ 2 ^ 50
   definite-low k b =
-      let most = bounded tree page w small narrow height flat k b (unsigned_abs (unwrap_or (definite_height tree w height k) (pos 0)))
-      (near-up tree page w small narrow height flat k b.x b.p b.v (unsigned_abs (unwrap_or (definite_height tree w height k) (pos 0))) b.p.definite) in
+      let most = bounded tree page w small narrow flat k b (unsigned_abs (unwrap_or (definite_height tree w k) (pos 0)))
+      (near-up tree page w small narrow flat k b.x b.p b.v (unsigned_abs (unwrap_or (definite_height tree w k) (pos 0))) b.p.definite) in
       omega (arith, most)
 
-  pub lengths-of : (k : ℕ) → IsBoxOn tree page w small narrow height flat k → IsWhole tree k → AreLengthsLow tree page.low w small (own_style tree k)
+  pub lengths-of : (k : ℕ) → IsBoxOn tree page w small narrow flat k → IsWhole tree k → AreLengthsLow tree page.low w small (own_style tree k)
   lengths-of k b whole = whole-lengths tree page.low w small k b.x b.place whole
 
-  definite-fits : (levels at : ℕ) → IsOnPage tree.boxes at → at < levels → DefiniteFits_to levels tree w height at
+  definite-fits : (levels at : ℕ) → IsOnPage tree.boxes at → at < levels → DefiniteFits_to levels tree w at
   unfolding DefiniteFits_to
   definite-fits zero at on l = tt
   definite-fits (suc levels) at on l = by (percentage_container tree at) refl (λ c above m. definite-fits levels c above m)
     where
       FitsBy : Option ℕ → Type 0
       FitsBy o = elim o as (λ (_ : Option ℕ). Type 0) [
-        | None ↦ AllSmall (pos (64 * height) ∷ [])
-        | Some container ↦ DefiniteFits_to levels tree w height container × OwnHeightFits tree w (definite_height_to levels tree w height container) container
+        | None ↦ AllSmall (pos (64 * w.h) ∷ [])
+        | Some container ↦ DefiniteFits_to levels tree w container × OwnHeightFits tree w (definite_height_to levels tree w container) container
       ]
 
-      by : (o : Option ℕ) → percentage_container tree at ≡ o → ((c : ℕ) → IsOnPage tree.boxes c → c < levels → DefiniteFits_to levels tree w height c) → FitsBy o
+      by : (o : Option ℕ) → percentage_container tree at ≡ o → ((c : ℕ) → IsOnPage tree.boxes c → c < levels → DefiniteFits_to levels tree w c) → FitsBy o
       by None e again = (omega (arith, flat), tt)
       by (Some c) e again =
           let i = container-of at c on e in
           let before = i.before in
           let enough : c < levels = omega (arith, before, l) in
-          let b = whole-on tree page w small narrow height flat c i.on i.whole in (
+          let b = whole-on tree page w small narrow flat c i.on i.whole in (
             again c i.on enough,
-            own-fits tree page.low w small c (lengths-of c b i.whole) (definite_height_to levels tree w height c)
+            own-fits tree page.low w small c (lengths-of c b i.whole) (definite_height_to levels tree w c)
                 (subst (λ (o : Option ℤ). unsigned_abs (unwrap_or o (pos 0)) ≤ 2 ^ 50) (sym (definite-same levels c i.on enough)) (definite-low c b)),
           )
 
   -- ---- a box that is laid out whole
 
-  pub given-fits : (k : ℕ) → IsOnPage tree.boxes k → IsWhole tree k → GivenFits tree w height k
+  pub given-fits : (k : ℕ) → IsOnPage tree.boxes k → IsWhole tree k → GivenFits tree w k
   given-fits k on whole =
-      let b = whole-on tree page w small narrow height flat k on whole in
-      (definite-fits (suc k) k on (omega arith), property-fits tree page.low w small k (lengths-of k b whole) (definite_height tree w height k) (definite-low k b))
+      let b = whole-on tree page w small narrow flat k on whole in
+      (definite-fits (suc k) k on (omega arith), property-fits tree page.low w small k (lengths-of k b whole) (definite_height tree w k) (definite-low k b))
 
-  pub held-fits : (k : ℕ) → IsOnPage tree.boxes k → IsWhole tree k → HeldFits tree w k (definite_height tree w height k)
+  pub held-fits : (k : ℕ) → IsOnPage tree.boxes k → IsWhole tree k → HeldFits tree w k (definite_height tree w k)
   held-fits k on whole =
-      let b = whole-on tree page w small narrow height flat k on whole in
-      limits-fit tree page.low w small k (lengths-of k b whole) (definite_height tree w height k) (definite-low k b)
+      let b = whole-on tree page w small narrow flat k on whole in
+      limits-fit tree page.low w small k (lengths-of k b whole) (definite_height tree w k) (definite-low k b)

@@ -89,7 +89,7 @@ module _ (tree : BoxTree) where
       (each-count (items_to n tree) (kids_of tree.boxes k)
       (All-implied (IsKid tree.boxes k) (λ j. length (items_to n tree j) ≤ costs count_at (document_order tree.boxes j)) (kids_of tree.boxes k) (λ j i. items-count n j i.within) ((forest tree).kids k)))
 
-  pub few-items : length tree.boxes ≤ 16384 → sum_by (λ (x : BoxNode). length (chars x.chars)) tree.boxes ≤ 262144 → (k : ℕ) → k < length tree.boxes → length (content tree k) ≤ 294912
+  pub few-items : length tree.boxes ≤ 16384 → sum_by (λ (x : BoxNode). length (chars x.chars)) tree.boxes ≤ 524288 → (k : ℕ) → k < length tree.boxes → length (content tree k) ≤ 557056
   few-items few short k l =
       let inside = each-count (items_to (length tree.boxes) tree) (kids_of tree.boxes k)
       (All-implied (IsKid tree.boxes k) (λ j. length (items_to (length tree.boxes) tree j) ≤ costs count_at (document_order tree.boxes j)) (kids_of tree.boxes k) (λ j i. items-count (length tree.boxes) j i.within) ((forest tree).kids k)) in

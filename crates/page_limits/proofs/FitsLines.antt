@@ -1,5 +1,5 @@
 -- What is computed of the lines of a container fits, where the boxes in them are not too large by themselves and the lines not too wide.
-use Rattle.std.proofs.Common.{◌≡◌, ℕ, ◌+◌, ◌^◌, ◌≤◌, ℤ, pos, ◌+ℤ◌, unsigned_abs, List, [], ◌∷◌, length, Option, Some, None, slice_index_or, refl, sym, subst, arith}
+use Rattle.std.proofs.Common.{◌≡◌, ℕ, ◌+◌, ◌*◌, ◌^◌, ◌≤◌, ℤ, pos, ◌+ℤ◌, unsigned_abs, List, [], ◌∷◌, length, Option, Some, None, slice_index_or, refl, sym, subst, arith}
 use Rattle.std.specs.Option.{option_map_or}
 use Rattle.viz_base.specs.declared.layouts.Band.{Band}
 use Rattle.viz_base.specs.declared.layouts.Extent.{Extent}
@@ -53,7 +53,7 @@ module _ (tree : BoxTree) (low : IsLowTree tree) (few : length tree.boxes ≤ 16
       by (Some i) f = let held = f i refl in let above = held.above in let below = held.below in (omega (arith, above), (omega (arith, below), tt))
 
   -- how far it is raised, and reaches
-  pub reaches : (at : ℕ) → AllWithin (2 ^ 75) ((reach_in c at).above ∷ (reach_in c at).below ∷ [])
+  pub reaches : (at : ℕ) → AllWithin (5 * 2 ^ 72) ((reach_in c at).above ∷ (reach_in c at).below ∷ [])
   unfolding reach_in own_reach
   reaches at =
       let own = own-low at in

@@ -7,7 +7,6 @@ use Rattle.std.proofs.lemmas.List.{length-map}
 use Rattle.viz_base.specs.declared.layouts.Band.{Band}
 use Rattle.viz_base.specs.declared.layouts.Inner.{Inner}
 use Rattle.viz_base.specs.declared.trees.BoxTree.{BoxTree}
-use Rattle.viz_base.specs.declared.trees.Kind.TheVariants as of_kind
 use Rattle.viz_base.specs.declared.worlds.World.{World}
 use Rattle.viz_calc.specs.State.{AllSmall}
 use Rattle.layout_semantics.specs.Blocks.{kind_of, node_of}
@@ -56,15 +55,15 @@ floats-within (x ∷ floats) a f (zero, l, e) =
     (b.left, (level-size x.box.top b.top, (b.right, (level-size x.box.bottom b.bottom, tt))))
 floats-within (x ∷ floats) a f (suc i, l, e) = floats-within floats a.1 f (i, omega arith, e)
 
-module _ (tree : BoxTree) (page : IsFarPage tree) (first : IsBoxed tree 0) (w : World) (small : w.s ≤ 256) (narrow : w.w ≤ 16384) (height : ℕ) (flat : height ≤ 16384)
+module _ (tree : BoxTree) (page : IsFarPage tree) (first : IsBoxed tree 0) (w : World) (small : w.s ≤ 256) (narrow : w.w ≤ 16384) (flat : w.h ≤ 16384)
     (k : ℕ) (on : IsOnPage tree.boxes k) (whole : IsWhole tree k) (inner : List (Option (Inner ℤ))) (cb : Band ℤ)
-    (same : band_width cb ≡ (widths tree w height k (room tree w height k)).content) (inners : (at : ℕ) (i : Inner ℤ) → slice_index_or inner at None ≡ Some i → IsInnerLow i) where
+    (same : band_width cb ≡ (widths tree w k (room tree w k)).content) (inners : (at : ℕ) (i : Inner ℤ) → slice_index_or inner at None ≡ Some i → IsInnerLow i) where
   abbrev c : InlineContext
   c = record { tree = tree; world = w; container = k; inner = inner; cb = cb }
 
   near : unsigned_abs (band_width cb) ≤ 2 ^ 50
   near =
-      let content = (box-small tree w height (2 ^ 42) k (properties-small tree page w small narrow height flat k on whole)).widths.content in
+      let content = (box-small tree w (2 ^ 42) k (properties-small tree page w small narrow flat k on whole)).widths.content in
       subst (λ (z : ℤ). unsigned_abs z ≤ 2 ^ 50) (sym same) (omega (arith, content))
 
   -- ---- widths
@@ -74,9 +73,9 @@ module _ (tree : BoxTree) (page : IsFarPage tree) (first : IsBoxed tree 0) (w : 
     size : unsigned_abs (width_in c i) ≤ 2 ^ 72
 
   text-fits : (at : ℕ) (part : List ℕ) → IsOnPage tree.boxes at → IsPartOf part (text_of tree at) → unsigned_abs (text_width tree w (node_of tree at) part) ≤ 2 ^ 42
-  text-fits at part p is = (inline-small tree page w small narrow height flat at p).text part is
+  text-fits at part p is = (inline-small tree page w small narrow flat at p).text part is
 
-  width-fits : (wide : ℤ) (i : Item) → ItemIn tree w height wide i → IsWidthFit i
+  width-fits : (wide : ℤ) (i : Item) → ItemIn tree w wide i → IsWidthFit i
   unfolding ItemIn WidthFits width_in
   width-fits wide (word at text) h =
       let size = text-fits at text h.0.page h.1 in
@@ -99,8 +98,8 @@ module _ (tree : BoxTree) (page : IsFarPage tree) (first : IsBoxed tree 0) (w : 
 
   items-fit : AllByRecursion IsWidthFit (content tree k)
   items-fit =
-      All-implied (ItemIn tree w height (widths tree w height k (room tree w height k)).content) IsWidthFit (content tree k) (λ i h. width-fits _ i h)
-      (content-items tree w height k (room tree w height k) (record { page = on; room = refl; block = whole_no_inline (kind_of tree k) whole }))
+      All-implied (ItemIn tree w (widths tree w k (room tree w k)).content) IsWidthFit (content tree k) (λ i h. width-fits _ i h)
+      (content-items tree w k (room tree w k) (record { page = on; room = refl; block = whole_no_inline (kind_of tree k) whole }))
 
   abbrev measured_one : Item → Measured
   measured_one i = record { item = i; width = width_in c i }
@@ -130,7 +129,7 @@ module _ (tree : BoxTree) (page : IsFarPage tree) (first : IsBoxed tree 0) (w : 
 
   -- ---- heights
 
-  strut-low : AllWithin (2 ^ 75) ((strut_in c).above ∷ (strut_in c).below ∷ [])
+  strut-low : AllWithin (5 * 2 ^ 72) ((strut_in c).above ∷ (strut_in c).below ∷ [])
   unfolding strut_in
   strut-low = let n = at-low tree page.low first w small k in let above = n.above in let below = n.below in (omega (arith, above), (omega (arith, below), tt))
 
@@ -138,7 +137,7 @@ module _ (tree : BoxTree) (page : IsFarPage tree) (first : IsBoxed tree 0) (w : 
   unfolding tallest_by
   tallest-low =
       let e = reaching c (strut_in c) (content tree k) in
-      let high = items_high c (2 ^ 75) (reaches tree page.low page.few_boxes first w small k inner cb near inners) (strut_in c) (content tree k) strut-low in
+      let high = items_high c (5 * 2 ^ 72) (reaches tree page.low page.few_boxes first w small k inner cb near inners) (strut_in c) (content tree k) strut-low in
       let above = high.0 in
       let below = high.1.0 in
       let sum = size-+ e.above e.below in
@@ -154,13 +153,13 @@ module _ (tree : BoxTree) (page : IsFarPage tree) (first : IsBoxed tree 0) (w : 
       let reach = floats-most (float_boxes (content tree k)) in
       let floated = floats-few (content tree k) in
       let count = length-map (content tree k) measured_one in
-      let room : 2 ^ 81 + floats_reach c (float_boxes (content tree k)) + length (measured (width_in c) (content tree k)) * (2 * 2 ^ 75) ≤ 2 ^ 95 = omega (arith, few, reach, floated, count) in
+      let room : 2 ^ 81 + floats_reach c (float_boxes (content tree k)) + length (measured (width_in c) (content tree k)) * (2 * (5 * 2 ^ 72)) ≤ 2 ^ 95 = omega (arith, few, reach, floated, count) in
       record {
         widths = All-implied IsWidthFit (WidthFits c) (content tree k) (λ i h. h.fit) items-fit;
         rest = record {
           boxes = box-fits tree page.low page.few_boxes first w small k inner cb near inners;
           strut = inline-fits tree page.low w small (node_of tree k) (at-low tree page.low first w small k);
-          high = 2 ^ 75;
+          high = 5 * 2 ^ 72;
           reaches = reaches tree page.low page.few_boxes first w small k inner cb near inners;
           strut_reaches = strut-low;
           low = omega arith;
@@ -169,6 +168,6 @@ module _ (tree : BoxTree) (page : IsFarPage tree) (first : IsBoxed tree 0) (w : 
           floats = floats-within floats beside;
           numbers = (band.left, (band.right, (level-size least up, (level-size top at, tt))));
           widths = omega (arith, few, widths_most);
-          room = subst (λ (items : List Item). 2 ^ 81 + floats_reach c (float_boxes items) + length (measured (width_in c) (content tree k)) * (2 * 2 ^ 75) ≤ 2 ^ 95) (sym (bare-measured (width_in c) (content tree k))) room;
+          room = subst (λ (items : List Item). 2 ^ 81 + floats_reach c (float_boxes items) + length (measured (width_in c) (content tree k)) * (2 * (5 * 2 ^ 72)) ≤ 2 ^ 95) (sym (bare-measured (width_in c) (content tree k))) room;
         };
       }

@@ -47,25 +47,25 @@ by_width-size v size =
     (mul-le-mul_left (ratio (Some size)) (omega arith)) in
     by_ratio-size v size.1 size.0 (ratio (Some size) * (unsigned_abs v + (64 * size.0 + 64 * size.1))) turned least
 
-module _ (tree : BoxTree) (page : IsFarPage tree) (w : World) (small : w.s ≤ 256) (narrow : w.w ≤ 16384) (height : ℕ) (flat : height ≤ 16384) where
+module _ (tree : BoxTree) (page : IsFarPage tree) (w : World) (small : w.s ≤ 256) (narrow : w.w ≤ 16384) (flat : w.h ≤ 16384) where
   abbrev On : ℕ → Type 0
-  On k = IsBoxOn tree page w small narrow height flat k
+  On k = IsBoxOn tree page w small narrow flat k
 
   module _ (k : ℕ) (b : On k) where
     abbrev cb : ℤ
-    cb = room tree w height k
+    cb = room tree w k
 
     -- ---- heights by its own lengths
 
-    pub given-bounded : (h : ℤ) → given_height tree w height k ≡ Some h → unsigned_abs h ≤ 2 ^ 41
+    pub given-bounded : (h : ℤ) → given_height tree w k ≡ Some h → unsigned_abs h ≤ 2 ^ 41
     given-bounded h e = subst (λ (o : Option ℤ). unsigned_abs (unwrap_or o (pos 0)) ≤ 2 ^ 41) e
-        (bounded tree page w small narrow height flat k b (unsigned_abs (unwrap_or (given_height tree w height k) (pos 0))) (height-near tree page w small narrow height flat k b.x b.p b.v))
+        (bounded tree page w small narrow flat k b (unsigned_abs (unwrap_or (given_height tree w k) (pos 0))) (height-near tree page w small narrow flat k b.x b.p b.v))
 
     abbrev least_is : ℤ
-    least_is = unwrap_or (height_around tree w (definite_height tree w height k) (least_height tree k)) (pos 0)
+    least_is = unwrap_or (height_around tree w (definite_height tree w k) (least_height tree k)) (pos 0)
 
     pub least-bounded : unsigned_abs least_is ≤ 2 ^ 41
-    least-bounded = bounded tree page w small narrow height flat k b (unsigned_abs least_is) (least_height-near tree page w small narrow height flat k b.x b.p b.v)
+    least-bounded = bounded tree page w small narrow flat k b (unsigned_abs least_is) (least_height-near tree page w small narrow flat k b.x b.p b.v)
 
     -- ---- the height of a replaced box by its width
 
@@ -85,7 +85,7 @@ module _ (tree : BoxTree) (page : IsFarPage tree) (w : World) (small : w.s ≤ 2
           let grown : ratio b.x.size * (far tree page.low w small s.width + far tree page.low w small s.min_width + intrinsic_extent b.x.size) ≤ ratio b.x.size * inner = mul-le-mul_left (ratio b.x.size) (omega (arith, groups)) in
           omega (arith, all, grown)
 
-      level : HasLevel tree page w small narrow height flat k b.x b.p.around_it
+      level : HasLevel tree page w small narrow flat k b.x b.p.around_it
       level =
           let growth_is : box_growth tree.styles b.x ≡ growth s =
           ap (λ (is : Bool). if is then option_map_or growth (slice_get tree.styles b.x.node) whole else whole) element
@@ -115,8 +115,8 @@ module _ (tree : BoxTree) (page : IsFarPage tree) (w : World) (small : w.s ≤ 2
       unfolding level
       length-bounded l i e =
           let cost = term-cost tree page.low w small (growth s) (far tree page.low w small l) l cb i in
-          bounded tree page w small narrow height flat k b (ratio b.x.size * unsigned_abs (used tree w l cb))
-          (near-times tree page w small narrow height flat k b.x b.p level (unsigned_abs cb) (ratio b.x.size * unsigned_abs (used tree w l cb)) b.p.room
+          bounded tree page w small narrow flat k b (ratio b.x.size * unsigned_abs (used tree w l cb))
+          (near-times tree page w small narrow flat k b.x b.p level (unsigned_abs cb) (ratio b.x.size * unsigned_abs (used tree w l cb)) b.p.room
           (times (ratio b.x.size) (growth s) (unsigned_abs cb) (far tree page.low w small l) (own_extent tree.styles tree.parents tree.fonts b.x) (unsigned_abs (used tree w l cb)) (ratio_least b.x.size) cost e))
 
       minimum-times : ratio b.x.size * unsigned_abs (own_minimum tree w k cb) ≤ 2 ^ 41
@@ -166,14 +166,14 @@ module _ (tree : BoxTree) (page : IsFarPage tree) (w : World) (small : w.s ≤ 2
     follows size given = by_ratio (held (own_maximum tree w k cb) (own_minimum tree w k cb) (unwrap_or (own_width tree w k cb) (option_map_or (λ h. by_ratio h size.1 size.0) given (pos (64 * size.0))))) size.0 size.1
 
     -- where no height is given
-    follows-bounded : given_height tree w height k ≡ None → unsigned_abs (by_ratio (replaced_size tree w height k cb).width (intrinsic tree k).0 (intrinsic tree k).1) ≤ 2 ^ 42
+    follows-bounded : given_height tree w k ≡ None → unsigned_abs (by_ratio (replaced_size tree w k cb).width (intrinsic tree k).0 (intrinsic tree k).1) ≤ 2 ^ 42
     follows-bounded none = by b.x.size refl
       where
         is : intrinsic tree k ≡ unwrap_or b.x.size (0, 0)
         is = ap (λ (o : Option BoxNode). unwrap_or (option_and_then (λ (y : BoxNode). y.size) o) (0, 0)) b.place
 
-        by : (o : Option (ℕ × ℕ)) → b.x.size ≡ o → unsigned_abs (follows (intrinsic tree k) (given_height tree w height k)) ≤ 2 ^ 42
-        by None e = subst (λ (size : ℕ × ℕ). unsigned_abs (follows size (given_height tree w height k)) ≤ 2 ^ 42) (sym (is ∙ ap (λ (o : Option (ℕ × ℕ)). unwrap_or o (0, 0)) e)) (omega arith)
+        by : (o : Option (ℕ × ℕ)) → b.x.size ≡ o → unsigned_abs (follows (intrinsic tree k) (given_height tree w k)) ≤ 2 ^ 42
+        by None e = subst (λ (size : ℕ × ℕ). unsigned_abs (follows size (given_height tree w k)) ≤ 2 ^ 42) (sym (is ∙ ap (λ (o : Option (ℕ × ℕ)). unwrap_or o (0, 0)) e)) (omega arith)
         by (Some size) e =
             let kind = replaced-kind b.x.kind (sym (tree.ok.each k b.x b.place).size ∙ ap (λ (o : Option (ℕ × ℕ)). is_some o) e) in
             let s = style-of tree page.low w small k b.x b.place in
@@ -181,12 +181,12 @@ module _ (tree : BoxTree) (page : IsFarPage tree) (w : World) (small : w.s ≤ 2
             subst (λ (o : Option ℤ). unsigned_abs (follows (intrinsic tree k) o) ≤ 2 ^ 42) (sym none)
             (subst (λ (z : ℕ × ℕ). unsigned_abs (follows z None) ≤ 2 ^ 42) (sym (is ∙ ap (λ (o : Option (ℕ × ℕ)). unwrap_or o (0, 0)) e)) all)
 
-    pub tall-bounded : unsigned_abs (replaced_size tree w height k cb).height ≤ 2 ^ 42
+    pub tall-bounded : unsigned_abs (replaced_size tree w k cb).height ≤ 2 ^ 42
     tall-bounded =
         let least = least-bounded in
-        held-size (maximum (height_around tree w (definite_height tree w height k)) (own tree k (λ (s : Style). s.max_height) None)) least_is
-        (replaced_height (intrinsic tree k) (replaced_size tree w height k cb).width (given_height tree w height k)) (2 ^ 42) (omega (arith, least)) (by (given_height tree w height k) refl)
+        held-size (maximum (height_around tree w (definite_height tree w k)) (own tree k (λ (s : Style). s.max_height) None)) least_is
+        (replaced_height (intrinsic tree k) (replaced_size tree w k cb).width (given_height tree w k)) (2 ^ 42) (omega (arith, least)) (by (given_height tree w k) refl)
       where
-        by : (o : Option ℤ) → given_height tree w height k ≡ o → unsigned_abs (unwrap_or o (by_ratio (replaced_size tree w height k cb).width (intrinsic tree k).0 (intrinsic tree k).1)) ≤ 2 ^ 42
+        by : (o : Option ℤ) → given_height tree w k ≡ o → unsigned_abs (unwrap_or o (by_ratio (replaced_size tree w k cb).width (intrinsic tree k).0 (intrinsic tree k).1)) ≤ 2 ^ 42
         by (Some h) e = let low = given-bounded h e in omega (arith, low)
         by None e = follows-bounded e

@@ -25,14 +25,14 @@ use Rattle.page_limits.proofs.RaisesAround.{raises, inline-raised, other-raised,
 
 -- ---- heights
 
-module _ (tree : BoxTree) (page : IsFarPage tree) (w : World) (small : w.s ≤ 256) (narrow : w.w ≤ 16384) (height : ℕ) (flat : height ≤ 16384) where
-  pub heights-bounded : (k : ℕ) → IsOnPage tree.boxes k → IsWhole tree k → AreHeightsBounded tree w height (2 ^ 42) k
+module _ (tree : BoxTree) (page : IsFarPage tree) (w : World) (small : w.s ≤ 256) (narrow : w.w ≤ 16384) (flat : w.h ≤ 16384) where
+  pub heights-bounded : (k : ℕ) → IsOnPage tree.boxes k → IsWhole tree k → AreHeightsBounded tree w (2 ^ 42) k
   heights-bounded k on e =
-      let b = whole-on tree page w small narrow height flat k on e in
-      let least = least-bounded tree page w small narrow height flat k b in
+      let b = whole-on tree page w small narrow flat k on e in
+      let least = least-bounded tree page w small narrow flat k b in
       record {
-        replaced_height = tall-bounded tree page w small narrow height flat k b;
-        given_height = λ h is. (let given = given-bounded tree page w small narrow height flat k b h is in omega (arith, given));
+        replaced_height = tall-bounded tree page w small narrow flat k b;
+        given_height = λ h is. (let given = given-bounded tree page w small narrow flat k b h is in omega (arith, given));
         least_height = omega (arith, least);
       }
 

@@ -16,11 +16,11 @@ use Rattle.page_limits.proofs.WidthsLevels.{IsFarPage}
 use Rattle.page_limits.proofs.WidthsSmall.{far-page, whole-bounded, inline-bounded}
 use Rattle.page_limits.proofs.HeightsSmall.{heights-bounded, fonts-bounded, raises-small}
 
-module _ (tree : BoxTree) (page : IsFarPage tree) (w : World) (small : w.s ≤ 256) (narrow : w.w ≤ 16384) (height : ℕ) (flat : height ≤ 16384) where
-  pub properties-small : (k : ℕ) → IsOnPage tree.boxes k → IsWhole tree k → ArePropertiesSmall tree w height (2 ^ 42) k
+module _ (tree : BoxTree) (page : IsFarPage tree) (w : World) (small : w.s ≤ 256) (narrow : w.w ≤ 16384) (flat : w.h ≤ 16384) where
+  pub properties-small : (k : ℕ) → IsOnPage tree.boxes k → IsWhole tree k → ArePropertiesSmall tree w (2 ^ 42) k
   properties-small k on e =
-      let across = whole-bounded tree page w small narrow height flat k on e in
-      let tall = heights-bounded tree page w small narrow height flat k on e in
+      let across = whole-bounded tree page w small narrow flat k on e in
+      let tall = heights-bounded tree page w small narrow flat k on e in
       record {
         edges = across.edges;
         width = across.width;
@@ -34,7 +34,7 @@ module _ (tree : BoxTree) (page : IsFarPage tree) (w : World) (small : w.s ≤ 2
         least_height = tall.least_height;
       }
 
-  pub inline-small : (k : ℕ) → IsOnPage tree.boxes k → IsInlineBoxSmall tree w height (2 ^ 42) k
+  pub inline-small : (k : ℕ) → IsOnPage tree.boxes k → IsInlineBoxSmall tree w (2 ^ 42) k
   inline-small k on =
       let font = fonts-bounded tree page.low w small k on in
       record {
@@ -42,12 +42,12 @@ module _ (tree : BoxTree) (page : IsFarPage tree) (w : World) (small : w.s ≤ 2
         descent = font.descent;
         above = font.above;
         below = font.below;
-        edges = λ is. inline-bounded tree page w small narrow height flat k on is;
+        edges = λ is. inline-bounded tree page w small narrow flat k on is;
         text = font.text;
       }
 
-pub coordinates-small : (tree : BoxTree) (w : World) (height : ℕ) → IsSmallPage tree → sum_by (λ (b : BoxNode). length (chars b.chars)) tree.boxes ≤ 262144
-    → w.w ≤ 16384 → w.s ≤ 256 → height ≤ 16384 → AllByRecursion (IsPlacedIn (all_around (2 ^ 70))) (page_rendering tree w height).boxes
-coordinates-small tree w height small short narrow sized flat =
+pub coordinates-small : (tree : BoxTree) (w : World) → IsSmallPage tree → sum_by (λ (b : BoxNode). length (chars b.chars)) tree.boxes ≤ 524288
+    → w.w ≤ 16384 → w.s ≤ 256 → w.h ≤ 16384 → AllByRecursion (IsPlacedIn (all_around (2 ^ 70))) (page_rendering tree w).boxes
+coordinates-small tree w small short narrow sized flat =
     let page = far-page tree small short in
-    page-within tree w height (root-whole tree) (properties-small tree page w sized narrow height flat) (inline-small tree page w sized narrow height flat) (raises-small tree page.low w sized) page.few_boxes page.few_characters
+    page-within tree w (root-whole tree) (properties-small tree page w sized narrow flat) (inline-small tree page w sized narrow flat) (raises-small tree page.low w sized) page.few_boxes page.few_characters

@@ -1,5 +1,5 @@
 -- What each box costs by itself: what it has by itself and its text, as they reach, and one unit more for it and each of its characters.
-use Rattle.std.proofs.Common.{◌≡◌, ℕ, ◌+◌, ◌-◌, ◌*◌, ◌≤◌, true, false, ℤ, pos, ◌+ℤ◌, unsigned_abs, List, [], ◌∷◌, map, length, Option, Some, None, slice_get, refl, sym, subst, ap, ◌∙◌, arith, if◌then◌else◌}
+use Rattle.std.proofs.Common.{◌≡◌, ℕ, ◌+◌, ◌*◌, ◌≤◌, true, false, ℤ, pos, ◌+ℤ◌, unsigned_abs, List, [], ◌∷◌, map, length, Option, Some, None, slice_get, refl, sym, subst, ap, ◌∙◌, arith}
 use Rattle.std.specs.Prelude.{sum, sum_by, is_some, unwrap_or, chars}
 use Rattle.std.specs.Int.{int_max}
 use Rattle.std.specs.Option.{option_map_or, option_and_then}
@@ -281,7 +281,7 @@ module _ (tree : BoxTree) (low : IsLowTree tree) (w : World) (small : w.s ≤ 25
   letters (b ∷ bs) = let all = sum_by-cons (λ (x : BoxNode). length (chars x.chars)) b bs in let rest = letters bs in omega (arith, all, rest)
 
   -- less than the whole page reaches
-  pub all-cost : length tree.boxes ≤ 16384 → sum_by (λ (x : BoxNode). length (chars x.chars)) tree.boxes ≤ 262144 → rank cost_at (length tree.boxes) ≤ total_extent tree.styles tree.parents tree.fonts tree.boxes
+  pub all-cost : length tree.boxes ≤ 16384 → sum_by (λ (x : BoxNode). length (chars x.chars)) tree.boxes ≤ 524288 → rank cost_at (length tree.boxes) ≤ total_extent tree.styles tree.parents tree.fonts tree.boxes
   all-cost few short =
       let all = rank-of-list cost_of tree.boxes in
       let parts = costs-both (λ (x : BoxNode). own_of x + text_part x) (λ (x : BoxNode). length (chars x.chars) + 1) tree.boxes in

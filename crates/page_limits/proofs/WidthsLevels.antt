@@ -49,7 +49,7 @@ module _ (tree : BoxTree) where
   -- a page of few boxes and characters, none of which reaches far, and of which no border is a percentage
   pub record IsFarPage : Type 0 where
     pub few_boxes : length tree.boxes ≤ 16384
-    pub few_characters : sum_by (λ (b : BoxNode). length (chars b.chars)) tree.boxes ≤ 262144
+    pub few_characters : sum_by (λ (b : BoxNode). length (chars b.chars)) tree.boxes ≤ 524288
     pub low : IsLowTree tree
     pub reach : (k : ℕ) (x : BoxNode) → slice_get tree.boxes k ≡ Some x → up_to (length tree.boxes) k ≤ 2 ^ 40
     pub borders : (k : ℕ) (x : BoxNode) (s : Style) → slice_get tree.boxes k ≡ Some x → slice_get tree.styles x.node ≡ Some s → AllByRecursion (λ l. percentage l ≡ 0) (sides_of s.border)
@@ -89,7 +89,7 @@ module _ (tree : BoxTree) where
       let same = ap (λ n. up_to n k) levels.1 ∙ reach-step levels.0 k around_it x e levels.2 a in
       omega (arith, most, same)
 
-module _ (tree : BoxTree) (page : IsFarPage tree) (w : World) (small : w.s ≤ 256) (narrow : w.w ≤ 16384) (height : ℕ) (flat : height ≤ 16384) where
+module _ (tree : BoxTree) (page : IsFarPage tree) (w : World) (small : w.s ≤ 256) (narrow : w.w ≤ 16384) (flat : w.h ≤ 16384) where
   -- ---- the level of a box
 
   -- the reach of a box from what is around it, by its terms
@@ -180,15 +180,15 @@ module _ (tree : BoxTree) (page : IsFarPage tree) (w : World) (small : w.s ≤ 2
     pub reaches : IsAround tree k around_it
     pub least : 2097152 ≤ m
     pub most : m ≤ 2097152 + 16 * k
-    pub room : unsigned_abs (room tree w height k) * 2097152 ≤ m * around_it
-    pub definite : unsigned_abs (unwrap_or (definite_height tree w height k) (pos 0)) * 2097152 ≤ m * around_it
+    pub room : unsigned_abs (room tree w k) * 2097152 ≤ m * around_it
+    pub definite : unsigned_abs (unwrap_or (definite_height tree w k) (pos 0)) * 2097152 ≤ m * around_it
 
   module _ (k : ℕ) (x : BoxNode) (p : IsPlaced k) (v : HasLevel k x p.around_it) where
     abbrev pub next : ℕ
     next = (p.m + 16) * reach_of tree x p.around_it
 
     abbrev cb : ℤ
-    cb = room tree w height k
+    cb = room tree w k
 
     wide : 2097152 ≤ p.around_it
     wide = let all = p.reaches.all in omega (arith, all)
@@ -225,21 +225,21 @@ module _ (tree : BoxTree) (page : IsFarPage tree) (w : World) (small : w.s ≤ 2
     minimum-near = near-once (unsigned_abs cb) (unsigned_abs (own_minimum tree w k cb)) p.room (let cost = term-cost tree page.low w small v.g v.o (min_width_in (own_style tree k)) cb v.terms.min_width in omega (arith, cost))
 
     -- the content of a box in flow, and of one that shrinks
-    flow-near : placing_of tree k ≡ block_flow → unsigned_abs (widths tree w height k cb).content * 2097152 ≤ next
+    flow-near : placing_of tree k ≡ block_flow → unsigned_abs (widths tree w k cb).content * 2097152 ≤ next
     flow-near e =
         let n : ℕ = max (unsigned_abs (own_minimum tree w k cb)) (max (unsigned_abs (used tree w (width_in (own_style tree k)) cb)) (unsigned_abs cb + sides_at tree page.low w small k cb)) in
-        let size = block-size tree page.low w small k v.g v.o v.terms height cb n (omega arith) (omega arith) (omega arith) e in
+        let size = block-size tree page.low w small k v.g v.o v.terms cb n (omega arith) (omega arith) (omega arith) e in
         let a = edges-near in
         let b = width-near in
         let c = minimum-near in
         omega (arith, size, a, b, c)
 
-    shrunk-near : placing_of tree k ≡ shrunk → k < length tree.boxes → is_fragmented (kind_of tree k) ≡ false → unsigned_abs (widths tree w height k cb).content * 2097152 ≤ next
+    shrunk-near : placing_of tree k ≡ shrunk → k < length tree.boxes → is_fragmented (kind_of tree k) ≡ false → unsigned_abs (widths tree w k cb).content * 2097152 ≤ next
     shrunk-near e l whole =
         let pref = preferred-far k l whole in
         let n : ℕ = max (max (unsigned_abs (preferred tree w k).least) (unsigned_abs (preferred tree w k).most))
         (max (unsigned_abs (own_minimum tree w k cb)) (max (unsigned_abs (used tree w (width_in (own_style tree k)) cb)) (unsigned_abs cb + sides_at tree page.low w small k cb))) in
-        let size = shrunk-size tree page.low w small k v.g v.o v.terms height cb n (omega arith) (omega arith) (omega arith) e (omega arith) (omega arith) in
+        let size = shrunk-size tree page.low w small k v.g v.o v.terms cb n (omega arith) (omega arith) (omega arith) e (omega arith) (omega arith) in
         let a = edges-near in
         let b = width-near in
         let c = minimum-near in
@@ -250,7 +250,7 @@ module _ (tree : BoxTree) (page : IsFarPage tree) (w : World) (small : w.s ≤ 2
     -- ---- heights
 
     abbrev around : Option ℤ
-    around = definite_height tree w height k
+    around = definite_height tree w k
 
     pub height-near : unsigned_abs (unwrap_or (height_around tree w around (own_height tree k)) (pos 0)) * 2097152 ≤ next
     height-near = near-once (unsigned_abs (unwrap_or around (pos 0))) (unsigned_abs (unwrap_or (height_around tree w around (own_height tree k)) (pos 0))) p.definite
@@ -282,29 +282,29 @@ module _ (tree : BoxTree) (page : IsFarPage tree) (w : World) (small : w.s ≤ 2
       by true e t = absurd (let none : length x.kids ≡ 0 = grind (arith, nat_tests) in let l = some in omega (arith, none, l))
 
   inside-near : (b : ℕ) (x : BoxNode) (p : IsPlaced b) (v : HasLevel b x p.around_it) → slice_get tree.boxes b ≡ Some x → is_leaf x.kind ≡ false → is_line x.kind ≡ false
-      → unsigned_abs (room_inside tree w height b (room tree w height b)) * 2097152 ≤ next b x p v
+      → unsigned_abs (room_inside tree w b (room tree w b)) * 2097152 ≤ next b x p v
   inside-near b x p v place leaf line = by x.kind refl leaf line
     where
       l : b < length tree.boxes
       l = slice_get_within tree.boxes b x place
 
-      outer : is_inline (kind_of tree b) ≡ false → unsigned_abs (widths tree w height b (room tree w height b)).content * 2097152 ≤ next b x p v
-          → unsigned_abs (room_inside tree w height b (room tree w height b)) * 2097152 ≤ next b x p v
-      outer e h = subst (λ (i : Bool). unsigned_abs (cond i (room tree w height b) (widths tree w height b (room tree w height b)).content) * 2097152 ≤ next b x p v) (sym e) h
+      outer : is_inline (kind_of tree b) ≡ false → unsigned_abs (widths tree w b (room tree w b)).content * 2097152 ≤ next b x p v
+          → unsigned_abs (room_inside tree w b (room tree w b)) * 2097152 ≤ next b x p v
+      outer e h = subst (λ (i : Bool). unsigned_abs (cond i (room tree w b) (widths tree w b (room tree w b)).content) * 2097152 ≤ next b x p v) (sym e) h
 
-      flows : (kind : Kind) → kind_of tree b ≡ kind → is_inline kind ≡ false → placing_of tree b ≡ block_flow → unsigned_abs (room_inside tree w height b (room tree w height b)) * 2097152 ≤ next b x p v
+      flows : (kind : Kind) → kind_of tree b ≡ kind → is_inline kind ≡ false → placing_of tree b ≡ block_flow → unsigned_abs (room_inside tree w b (room tree w b)) * 2097152 ≤ next b x p v
       flows kind e i f = outer (ap is_inline e ∙ i) (flow-near b x p v f)
 
-      shrinks : (kind : Kind) → kind_of tree b ≡ kind → is_inline kind ≡ false → is_fragmented kind ≡ false → placing_of tree b ≡ shrunk → unsigned_abs (room_inside tree w height b (room tree w height b)) * 2097152 ≤ next b x p v
+      shrinks : (kind : Kind) → kind_of tree b ≡ kind → is_inline kind ≡ false → is_fragmented kind ≡ false → placing_of tree b ≡ shrunk → unsigned_abs (room_inside tree w b (room tree w b)) * 2097152 ≤ next b x p v
       shrinks kind e i whole f = outer (ap is_inline e ∙ i) (shrunk-near b x p v f l (ap is_fragmented e ∙ whole))
 
-      by : (kind : Kind) → x.kind ≡ kind → is_leaf kind ≡ false → is_line kind ≡ false → unsigned_abs (room_inside tree w height b (room tree w height b)) * 2097152 ≤ next b x p v
+      by : (kind : Kind) → x.kind ≡ kind → is_leaf kind ≡ false → is_line kind ≡ false → unsigned_abs (room_inside tree w b (room tree w b)) * 2097152 ≤ next b x p v
       by of_kind.Block e f g = let kind = kind-at tree b x place ∙ e in flows of_kind.Block kind refl (rw kind refl)
       by of_kind.Anon e f g = let kind = kind-at tree b x place ∙ e in flows of_kind.Anon kind refl (rw kind refl)
       by of_kind.Float e f g = let kind = kind-at tree b x place ∙ e in shrinks of_kind.Float kind refl refl (rw kind refl)
       by of_kind.Atomic e f g = let kind = kind-at tree b x place ∙ e in shrinks of_kind.Atomic kind refl refl (rw kind refl)
       by of_kind.Inline e f g = let kind : is_inline (kind_of tree b) ≡ true = ap is_inline (kind-at tree b x place ∙ e) in
-          subst (λ (i : Bool). unsigned_abs (cond i (room tree w height b) (widths tree w height b (room tree w height b)).content) * 2097152 ≤ next b x p v) (sym kind) (near-up b x p v (unsigned_abs (room tree w height b)) p.room)
+          subst (λ (i : Bool). unsigned_abs (cond i (room tree w b) (widths tree w b (room tree w b)).content) * 2097152 ≤ next b x p v) (sym kind) (near-up b x p v (unsigned_abs (room tree w b)) p.room)
       by of_kind.Replaced e f g = absurd (cc)
       by of_kind.Chars e f g = absurd (cc)
       by of_kind.Break e f g = absurd (cc)
@@ -312,17 +312,17 @@ module _ (tree : BoxTree) (page : IsFarPage tree) (w : World) (small : w.s ≤ 2
 
   -- the height around a child
   abbrev height_by : ℕ → Option ℕ → Option ℤ
-  height_by b o = option_map_or (λ container. own_height_around tree w (definite_height tree w height container) container) o (Some (pos (64 * height)))
+  height_by b o = option_map_or (λ container. own_height_around tree w (definite_height tree w container) container) o (Some (pos (64 * w.h)))
 
   definite-kid : (b kid : ℕ) → IsOnPage tree.boxes b → IsOnPage tree.boxes kid → IsKid tree.boxes b kid
-      → definite_height tree w height kid ≡ cond (is_passed_over (kind_of tree b)) (definite_height tree w height b) (own_height_around tree w (definite_height tree w height b) b)
+      → definite_height tree w kid ≡ cond (is_passed_over (kind_of tree b)) (definite_height tree w b) (own_height_around tree w (definite_height tree w b) b)
   definite-kid b kid page_b page_kid i =
-      definite-by-container tree w height kid page_kid
+      definite-by-container tree w kid page_kid
       ∙ ap (height_by b) (container-by-parent tree kid page_kid ∙ ap (option_and_then (λ parent. elim (is_passed_over (kind_of tree parent)) [ true ↦ percentage_container tree parent | false ↦ Some parent ])) i.parent)
       ∙ by (is_passed_over (kind_of tree b))
     where
-      by : (over : Bool) → height_by b (elim over [ true ↦ percentage_container tree b | false ↦ Some b ]) ≡ cond over (definite_height tree w height b) (own_height_around tree w (definite_height tree w height b) b)
-      by true = sym (definite-by-container tree w height b page_b)
+      by : (over : Bool) → height_by b (elim over [ true ↦ percentage_container tree b | false ↦ Some b ]) ≡ cond over (definite_height tree w b) (own_height_around tree w (definite_height tree w b) b)
+      by true = sym (definite-by-container tree w b page_b)
       by false = refl
 
   kid-placed : (b kid : ℕ) → IsOnPage tree.boxes b → Contains (kids_of tree.boxes b) kid → IsPlaced b → IsPlaced kid
@@ -344,7 +344,7 @@ module _ (tree : BoxTree) (page : IsFarPage tree) (w : World) (small : w.s ≤ 2
             reaches = around-kid tree b kid p.around_it x place i p.reaches;
             least = omega (arith, least);
             most = omega (arith, most, after);
-            room = subst (λ z. unsigned_abs z * 2097152 ≤ (p.m + 16) * reach_of tree x p.around_it) (sym (room-by-parent tree w height b kid on c)) (inside-near b x p v place kinds.0 kinds.1);
+            room = subst (λ z. unsigned_abs z * 2097152 ≤ (p.m + 16) * reach_of tree x p.around_it) (sym (room-by-parent tree w b kid on c)) (inside-near b x p v place kinds.0 kinds.1);
             definite = subst (λ (o : Option ℤ). unsigned_abs (unwrap_or o (pos 0)) * 2097152 ≤ (p.m + 16) * reach_of tree x p.around_it) (sym (definite-kid b kid on (IsOnPage.inside b kid on c) i)) (by (is_passed_over (kind_of tree b)) v);
           }
         where
@@ -360,8 +360,8 @@ module _ (tree : BoxTree) (page : IsFarPage tree) (w : World) (small : w.s ≤ 2
           stands of_kind.Break e f = refl
 
           by : (over : Bool) → HasLevel b x p.around_it
-              → unsigned_abs (unwrap_or (cond over (definite_height tree w height b) (own_height_around tree w (definite_height tree w height b) b)) (pos 0)) * 2097152 ≤ (p.m + 16) * reach_of tree x p.around_it
-          by true v = near-up b x p v (unsigned_abs (unwrap_or (definite_height tree w height b) (pos 0))) p.definite
+              → unsigned_abs (unwrap_or (cond over (definite_height tree w b) (own_height_around tree w (definite_height tree w b) b)) (pos 0)) * 2097152 ≤ (p.m + 16) * reach_of tree x p.around_it
+          by true v = near-up b x p v (unsigned_abs (unwrap_or (definite_height tree w b) (pos 0))) p.definite
           by false v = known-near b x p v
 
   root-placed : (k : ℕ) → Contains (roots tree.boxes) k → IsPlaced k
@@ -381,12 +381,12 @@ module _ (tree : BoxTree) (page : IsFarPage tree) (w : World) (small : w.s ≤ 2
       on : IsOnPage tree.boxes 0
       on = IsOnPage.root 0 (subst (Contains (roots tree.boxes)) (sym (root_place tree.boxes k c).0) c)
 
-      root-room : room tree w height 0 ≡ pos (64 * w.w)
-      root-room = ap (λ (o : Option ℕ). option_map_or (λ parent. room_inside tree w height parent (room_to 0 tree w height parent)) o (pos (64 * w.w))) (root-alone tree)
+      root-room : room tree w 0 ≡ pos (64 * w.w)
+      root-room = ap (λ (o : Option ℕ). option_map_or (λ parent. room_inside tree w parent (room_to 0 tree w parent)) o (pos (64 * w.w))) (root-alone tree)
 
-      root-height : definite_height tree w height 0 ≡ Some (pos (64 * height))
+      root-height : definite_height tree w 0 ≡ Some (pos (64 * w.h))
       root-height =
-          definite-by-container tree w height 0 on
+          definite-by-container tree w 0 on
           ∙ ap (height_by 0) (container-by-parent tree 0 on ∙ ap (option_and_then (λ parent. elim (is_passed_over (kind_of tree parent)) [ true ↦ percentage_container tree parent | false ↦ Some parent ])) (root-alone tree))
 
   pub placed : (k : ℕ) → IsOnPage tree.boxes k → IsPlaced k

@@ -41,7 +41,7 @@ enumerate-at n [] k x e = absurd (cc)
 enumerate-at {A} n (y ∷ xs) zero x e = let same : y ≡ x = cc in let none : n ≡ n + 0 = omega arith in ap (λ (z : A). Some (n, z)) same ∙ ap (λ (i : ℕ). Some (i, x)) none
 enumerate-at n (y ∷ xs) (suc k) x e = let next : n + 1 + k ≡ n + suc k = omega arith in enumerate-at (n + 1) xs k x e ∙ ap (λ (i : ℕ). Some (i, x)) next
 
-pub far-page : (tree : BoxTree) → IsSmallPage tree → sum_by (λ (b : BoxNode). length (chars b.chars)) tree.boxes ≤ 262144 → IsFarPage tree
+pub far-page : (tree : BoxTree) → IsSmallPage tree → sum_by (λ (b : BoxNode). length (chars b.chars)) tree.boxes ≤ 524288 → IsFarPage tree
 far-page tree small short = record {
   few_boxes = small.few_boxes;
   few_characters = short;
@@ -56,21 +56,21 @@ far-page tree small short = record {
     zero-more : (k : ℕ) → 0 + k ≡ k
     zero-more k = omega arith
 
-module _ (tree : BoxTree) (page : IsFarPage tree) (w : World) (small : w.s ≤ 256) (narrow : w.w ≤ 16384) (height : ℕ) (flat : height ≤ 16384) where
-  pub whole-bounded : (k : ℕ) → IsOnPage tree.boxes k → IsWhole tree k → AreWidthsBounded tree w height (2 ^ 42) k
+module _ (tree : BoxTree) (page : IsFarPage tree) (w : World) (small : w.s ≤ 256) (narrow : w.w ≤ 16384) (flat : w.h ≤ 16384) where
+  pub whole-bounded : (k : ℕ) → IsOnPage tree.boxes k → IsWhole tree k → AreWidthsBounded tree w (2 ^ 42) k
   unfolding verticals
   whole-bounded k on e =
-      let b = whole-on tree page w small narrow height flat k on e in
-      let edges = edges-bounded tree page w small narrow height flat k b in
-      let least = minimum-bounded tree page w small narrow height flat k b in
-      let pref = preferred-bounded tree page w small narrow height flat k b e in
+      let b = whole-on tree page w small narrow flat k on e in
+      let edges = edges-bounded tree page w small narrow flat k b in
+      let least = minimum-bounded tree page w small narrow flat k b in
+      let pref = preferred-bounded tree page w small narrow flat k b e in
       let pref_least = pref.0 in
       let pref_most = pref.1 in
-      let replaced = replaced-bounded tree page w small narrow height flat k b in
-      let sides = sides-bounded tree page w small narrow height flat k b in
+      let replaced = replaced-bounded tree page w small narrow flat k b in
+      let sides = sides-bounded tree page w small narrow flat k b in
       record {
         edges = omega (arith, edges);
-        width = λ v is. (let wide = width-bounded tree page w small narrow height flat k b v is in omega (arith, edges, wide));
+        width = λ v is. (let wide = width-bounded tree page w small narrow flat k b v is in omega (arith, edges, wide));
         least = omega (arith, edges, least);
         preferred_least = omega (arith, edges, pref_least);
         preferred_most = omega (arith, edges, pref_most);
@@ -85,7 +85,7 @@ module _ (tree : BoxTree) (page : IsFarPage tree) (w : World) (small : w.s ≤ 2
         };
       }
 
-  pub inline-bounded : (k : ℕ) → IsOnPage tree.boxes k → is_inline (kind_of tree k) ≡ true → AreEdgesSmall tree w height (2 ^ 42) k
+  pub inline-bounded : (k : ℕ) → IsOnPage tree.boxes k → is_inline (kind_of tree k) ≡ true → AreEdgesSmall tree w (2 ^ 42) k
   inline-bounded k on e =
-      let sides = sides-bounded tree page w small narrow height flat k (inline-on tree page w small narrow height flat k on e) in
-      (sides.padding.0, (sides.padding.1.0, (sides.padding.1.1.0, (sides.padding.1.1.1.0, all_append (λ (l : Length). unsigned_abs (used tree w l (room tree w height k)) ≤ 2 ^ 42) (sides_of (borders tree k)) (sides_of (margins tree k)) sides.border sides.margin))))
+      let sides = sides-bounded tree page w small narrow flat k (inline-on tree page w small narrow flat k on e) in
+      (sides.padding.0, (sides.padding.1.0, (sides.padding.1.1.0, (sides.padding.1.1.1.0, all_append (λ (l : Length). unsigned_abs (used tree w l (room tree w k)) ≤ 2 ^ 42) (sides_of (borders tree k)) (sides_of (margins tree k)) sides.border sides.margin))))

@@ -239,20 +239,20 @@ module _ (tree : BoxTree) (low : IsLowTree tree) (w : World) (small : w.s ≤ 25
 
     -- ---- widths
 
-    module _ (height : ℕ) (cb : ℤ) (n : ℕ) (least : unsigned_abs (own_minimum tree w k cb) ≤ n) (wide : unsigned_abs (used tree w (width_in (own_style tree k)) cb) ≤ n) (left : unsigned_abs cb + sides_at k cb ≤ n) where
+    module _ (cb : ℤ) (n : ℕ) (least : unsigned_abs (own_minimum tree w k cb) ≤ n) (wide : unsigned_abs (used tree w (width_in (own_style tree k)) cb) ≤ n) (left : unsigned_abs cb + sides_at k cb ≤ n) where
       given-size : (v : ℤ) → own_width tree w k cb ≡ Some v → unsigned_abs v ≤ n
       given-size v e = subst (λ z. unsigned_abs z ≤ n) (used-of (width_in (own_style tree k)) cb v e) wide
 
-      pub block-size : placing_of tree k ≡ block_flow → unsigned_abs (widths tree w height k cb).content ≤ n
-      block-size e = subst (λ z. unsigned_abs z ≤ n) (sym (block-held tree w height k cb e))
+      pub block-size : placing_of tree k ≡ block_flow → unsigned_abs (widths tree w k cb).content ≤ n
+      block-size e = subst (λ z. unsigned_abs z ≤ n) (sym (block-held tree w k cb e))
           (held-size (own_maximum tree w k cb) (own_minimum tree w k cb) (block_terms tree w k cb (own_width tree w k cb)).content n least (by (own_width tree w k cb) refl))
         where
           by : (x : Option ℤ) → own_width tree w k cb ≡ x → unsigned_abs (block_terms tree w k cb x).content ≤ n
           by None e = let room = left-size cb in omega (arith, room, left)
           by (Some v) e = given-size v e
 
-      pub shrunk-size : placing_of tree k ≡ shrunk → unsigned_abs (preferred tree w k).least ≤ n → unsigned_abs (preferred tree w k).most ≤ n → unsigned_abs (widths tree w height k cb).content ≤ n
-      shrunk-size e a b = subst (λ z. unsigned_abs z ≤ n) (sym (shrunk-held tree w height k cb e))
+      pub shrunk-size : placing_of tree k ≡ shrunk → unsigned_abs (preferred tree w k).least ≤ n → unsigned_abs (preferred tree w k).most ≤ n → unsigned_abs (widths tree w k cb).content ≤ n
+      shrunk-size e a b = subst (λ z. unsigned_abs z ≤ n) (sym (shrunk-held tree w k cb e))
           (held-size (own_maximum tree w k cb) (own_minimum tree w k cb) (shrunk_terms tree w k cb (own_width tree w k cb)).content n least (by (own_width tree w k cb) refl))
         where
           by : (x : Option ℤ) → own_width tree w k cb ≡ x → unsigned_abs (shrunk_terms tree w k cb x).content ≤ n

@@ -15,20 +15,20 @@ use Rattle.flow_limits.specs.Inline.{IsSmall}
 use Rattle.flow_limits.specs.Boxes.{AreSidesSmall, IsWidthWithin, edges_at}
 
 -- each width of a box, with its edges and its containing block, is at most so large, and so is each edge
-pub record AreWidthsBounded (tree : BoxTree) (w : World) (height most k : ℕ) : Type 0 where
-  pub edges : 2 * (unsigned_abs (room tree w height k) + edges_at tree w k (room tree w height k)) ≤ most
+pub record AreWidthsBounded (tree : BoxTree) (w : World) (most k : ℕ) : Type 0 where
+  pub edges : 2 * (unsigned_abs (room tree w k) + edges_at tree w k (room tree w k)) ≤ most
   pub width : (v : ℤ)
-      → used_unless_auto tree w (own tree k (λ (s : Style). s.width) of_length.Auto) (room tree w height k) ≡ Some v
-      → IsWidthWithin tree w k (room tree w height k) most v
-  pub least : IsWidthWithin tree w k (room tree w height k) most
-      (used tree w (own tree k (λ (s : Style). s.min_width) nothing) (room tree w height k))
-  pub preferred_least : IsWidthWithin tree w k (room tree w height k) most (preferred tree w k).least
-  pub preferred_most : IsWidthWithin tree w k (room tree w height k) most (preferred tree w k).most
+      → used_unless_auto tree w (own tree k (λ (s : Style). s.width) of_length.Auto) (room tree w k) ≡ Some v
+      → IsWidthWithin tree w k (room tree w k) most v
+  pub least : IsWidthWithin tree w k (room tree w k) most
+      (used tree w (own tree k (λ (s : Style). s.min_width) nothing) (room tree w k))
+  pub preferred_least : IsWidthWithin tree w k (room tree w k) most (preferred tree w k).least
+  pub preferred_most : IsWidthWithin tree w k (room tree w k) most (preferred tree w k).most
   pub replaced_width
-      : IsWidthWithin tree w k (room tree w height k) most (replaced_size tree w height k (room tree w height k)).width
-  pub sides : AreSidesSmall most (verticals tree w k (room tree w height k))
+      : IsWidthWithin tree w k (room tree w k) most (replaced_size tree w k (room tree w k)).width
+  pub sides : AreSidesSmall most (verticals tree w k (room tree w k))
 
 -- each edge of an inline box is
-abbrev pub AreEdgesSmall : BoxTree → World → (height most k : ℕ) → Type 0
-AreEdgesSmall tree w height most k = AllByRecursion (λ length. IsSmall most (used tree w length (room tree w height k)))
+abbrev pub AreEdgesSmall : BoxTree → World → (most k : ℕ) → Type 0
+AreEdgesSmall tree w most k = AllByRecursion (λ length. IsSmall most (used tree w length (room tree w k)))
     (sides_of (paddings tree k) ++ (sides_of (borders tree k) ++ sides_of (margins tree k)))

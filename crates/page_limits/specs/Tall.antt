@@ -13,11 +13,11 @@ use Rattle.flow_limits.specs.Boxes.{IsPartOf}
 use Rattle.flow_limits.specs.Inline.{IsSmall}
 
 -- each height of a box is at most so large
-pub record AreHeightsBounded (tree : BoxTree) (w : World) (height most k : ℕ) : Type 0 where
-  pub replaced_height : IsSmall most (replaced_size tree w height k (room tree w height k)).height
-  pub given_height : (h : ℤ) → given_height tree w height k ≡ Some h → IsSmall most h
+pub record AreHeightsBounded (tree : BoxTree) (w : World) (most k : ℕ) : Type 0 where
+  pub replaced_height : IsSmall most (replaced_size tree w k (room tree w k)).height
+  pub given_height : (h : ℤ) → given_height tree w k ≡ Some h → IsSmall most h
   pub least_height : IsSmall most
-      (unwrap_or (height_around tree w (definite_height tree w height k) (least_height tree k)) (pos 0))
+      (unwrap_or (height_around tree w (definite_height tree w k) (least_height tree k)) (pos 0))
 
 -- so is each measure of a box's font, and each part of its text
 pub record AreFontsBounded (tree : BoxTree) (w : World) (most k : ℕ) : Type 0 where

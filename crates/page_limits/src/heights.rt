@@ -12,14 +12,14 @@ use viz_base::{BoxTree, World};
 /// viewports of at most 16,384 px by 16,384 px at default font sizes of at most 256 px, what
 /// the properties of each box give up and down is at most 2^42 units: its height, its minimum and its height as a
 /// replaced box.
-pub fn heights_of_a_page_are_small(tree: &BoxTree, world: World, height: u32)
+pub fn heights_of_a_page_are_small(tree: &BoxTree, world: World)
     requires small { IsSmallPage tree.now }
-    requires few_characters { sum_by (λ (b : BoxNode). length (chars b.chars)) tree.now.boxes ≤ 262144 }
+    requires few_characters { sum_by (λ (b : BoxNode). length (chars b.chars)) tree.now.boxes ≤ 524288 }
     requires narrow { world.w ≤ 16384 }
     requires sized { world.s ≤ 256 }
-    requires low { height ≤ 16384 }
+    requires low { world.h ≤ 16384 }
     ensures { (k : ℕ) → IsOnPage tree.now.boxes k → IsWhole tree.now k
-        → AreHeightsBounded tree.now world height (2 ^ 42) k }
+        → AreHeightsBounded tree.now world (2 ^ 42) k }
 {}
 
 /// On a page that is small, at default font sizes of at most 256 px, the ascent and the descent of each box are at most

@@ -10,11 +10,11 @@ use viz_base::{BoxTree, World};
 /// Of a page of at most 16,384 boxes and 262,144 characters, none of which reaches beyond 2^40 units, in
 /// viewports of at most 16,384 px by 16,384 px at default font sizes of at most 256 px, each
 /// edge of each rectangle of the rendering is at most 2^70 units in size.
-pub fn coordinates_of_a_page_are_small(tree: &BoxTree, world: World, height: u32)
+pub fn coordinates_of_a_page_are_small(tree: &BoxTree, world: World)
     requires small { IsSmallPage tree.now }
-    requires few_characters { sum_by (λ (b : BoxNode). length (chars b.chars)) tree.now.boxes ≤ 262144 }
+    requires few_characters { sum_by (λ (b : BoxNode). length (chars b.chars)) tree.now.boxes ≤ 524288 }
     requires narrow { world.w ≤ 16384 }
     requires sized { world.s ≤ 256 }
-    requires low { height ≤ 16384 }
-    ensures { AllByRecursion (IsPlacedIn (all_around (2 ^ 70))) (page_rendering tree.now world height).boxes }
+    requires low { world.h ≤ 16384 }
+    ensures { AllByRecursion (IsPlacedIn (all_around (2 ^ 70))) (page_rendering tree.now world).boxes }
 {}

@@ -13,14 +13,14 @@ use viz_base::{BoxTree, World};
 /// viewports of at most 16,384 px by 16,384 px at default font sizes of at most 256 px, what
 /// the properties of each box give across is at most 2^42 units together with its edges and its containing block: its
 /// width, its minimum, its preferred widths and its width as a replaced box; and so is each of its edges.
-pub fn widths_of_a_page_are_small(tree: &BoxTree, world: World, height: u32)
+pub fn widths_of_a_page_are_small(tree: &BoxTree, world: World)
     requires small { IsSmallPage tree.now }
-    requires few_characters { sum_by (λ (b : BoxNode). length (chars b.chars)) tree.now.boxes ≤ 262144 }
+    requires few_characters { sum_by (λ (b : BoxNode). length (chars b.chars)) tree.now.boxes ≤ 524288 }
     requires narrow { world.w ≤ 16384 }
     requires sized { world.s ≤ 256 }
-    requires low { height ≤ 16384 }
+    requires low { world.h ≤ 16384 }
     ensures whole { (k : ℕ) → IsOnPage tree.now.boxes k → IsWhole tree.now k
-        → AreWidthsBounded tree.now world height (2 ^ 42) k }
+        → AreWidthsBounded tree.now world (2 ^ 42) k }
     ensures inline { (k : ℕ) → IsOnPage tree.now.boxes k → is_inline (kind_of tree.now k) ≡ true
-        → AreEdgesSmall tree.now world height (2 ^ 42) k }
+        → AreEdgesSmall tree.now world (2 ^ 42) k }
 {}

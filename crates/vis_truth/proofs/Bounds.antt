@@ -1,4 +1,4 @@
-use Rattle.std.proofs.Common.{◌≡◌, ℕ, ◌+◌, ◌*◌, ◌<◌, ◌≤◌, ◌^◌, ℤ, pos, ◌+ℤ◌, unsigned_abs, true, ◌&&◌, List, [], ◌∷◌, slice_get, Option, Some, None, refl, sym, ◌∙◌, rules, arith}
+use Rattle.std.proofs.Common.{◌≡◌, ℕ, ◌+◌, ◌*◌, ◌≤◌, ◌^◌, ℤ, pos, ◌+ℤ◌, unsigned_abs, true, ◌&&◌, List, [], ◌∷◌, slice_get, Option, Some, None, refl, sym, ◌∙◌, rules, arith}
 use Rattle.std.specs.Prelude.{sum_by}
 use Rattle.std.specs.Option.{option_map_or}
 use Rattle.std.proofs.Math.Nat.{mul-le-mul_left}
@@ -53,19 +53,21 @@ named-bounded : (boxes : List (Placed ℤ)) → ((place : ℕ) (b : Placed ℤ) 
 named-bounded boxes each None b h = absurd (cc)
 named-bounded boxes each (Some place) b h = each place b h
 
-pub edge-bounded : {N : Type 0} (at : N → Reading → ℤ) (r : Rendering N) (height : ℕ) (e : Reading) (names : List ℕ) (edge : Edge) → IsBoundedAt at r e → height < 2 ^ 32
-    → unsigned_abs (edge_value (scene_at at r height e) names edge) ≤ edge_most edge
-edge-bounded at r height e names of_edge.One b h = omega arith
-edge-bounded at r height e names (of_edge.Name name ring face) b h =
+pub edge-bounded : {N : Type 0} (at : N → Reading → ℤ) (r : Rendering N) (e : Reading) (names : List ℕ) (edge : Edge) → IsBoundedAt at r e
+    → unsigned_abs (edge_value (scene_at at r e) names edge) ≤ edge_most edge
+edge-bounded at r e names of_edge.One b = omega arith
+edge-bounded at r e names (of_edge.Name name ring face) b =
     some-bounded ring face (named (rendering_at at r e).boxes names name) (named-bounded (rendering_at at r e).boxes b.rendering.each (slice_get names name))
-edge-bounded at r height e names of_edge.ViewWidth b h = let w = b.width in omega (arith, ints)
-edge-bounded at r height e names of_edge.ViewHeight b h = omega (arith, ints)
+edge-bounded at r e names of_edge.ViewWidth b = let w = b.world.width in omega (arith, ints)
+edge-bounded at r e names of_edge.ViewHeight b = let h = b.world.height in omega (arith, ints)
+edge-bounded at r e names of_edge.ViewSize b = let s = b.world.size in omega (arith, ints)
 
 edge_most-small : (edge : Edge) → edge_most edge ≤ 2 ^ 100
 edge_most-small of_edge.One = omega arith
 edge_most-small (of_edge.Name name ring face) = omega arith
 edge_most-small of_edge.ViewWidth = omega arith
 edge_most-small of_edge.ViewHeight = omega arith
+edge_most-small of_edge.ViewSize = omega arith
 
 pub parts-small : (scene : Scene) (names : List ℕ) → ((edge : Edge) → unsigned_abs (edge_value scene names edge) ≤ edge_most edge)
     → (parts : List Summand) (sum : ℤ) → unsigned_abs sum + sum_by summand_most parts ≤ 2 ^ 100 → AllSmall (sum_parts scene names sum parts)
@@ -80,11 +82,11 @@ parts-small scene names bounded (s ∷ ss) sum h =
     let next : unsigned_abs (sum +ℤ summand_value scene names s) ≤ unsigned_abs sum + unsigned_abs (summand_value scene names s) = abs-sum sum (summand_value scene names s) in
     (omega (arith, edge, most), (omega (arith, value, h, total), (omega (arith, next, value, h, total), parts-small scene names bounded ss (sum +ℤ summand_value scene names s) (omega (arith, next, value, h, total)))))
 
-pub term-small : {N : Type 0} (at : N → Reading → ℤ) (r : Rendering N) (height : ℕ) (e : Reading) (names : List ℕ) (t : Term) → IsBoundedAt at r e → height < 2 ^ 32
-    → term_is_small t ≡ true → AllSmall (term_parts (scene_at at r height e) names t)
-term-small at r height e names t b h small =
+pub term-small : {N : Type 0} (at : N → Reading → ℤ) (r : Rendering N) (e : Reading) (names : List ℕ) (t : Term) → IsBoundedAt at r e
+    → term_is_small t ≡ true → AllSmall (term_parts (scene_at at r e) names t)
+term-small at r e names t b small =
     let le : sum_by summand_most t.parts ≤ 2 ^ 100 = grind (arith, nat_tests) in
-    (omega arith, parts-small (scene_at at r height e) names (λ edge. edge-bounded at r height e names edge b h) t.parts (pos 0) (omega (arith, le)))
+    (omega arith, parts-small (scene_at at r e) names (λ edge. edge-bounded at r e names edge b) t.parts (pos 0) (omega (arith, le)))
 
 pub small-Cmp : (left right : Term) (sign : Sign) → has_small_terms (Cmp left sign right) ≡ true → (term_is_small left ≡ true) × (term_is_small right ≡ true)
 small-Cmp left right sign h =

@@ -35,23 +35,23 @@ ring-at at b of_ring.Padding e = refl
 ring-at at b of_ring.Content e = refl
 
 -- the edge of a box that there is
-pub edge-some : {N : Type 0} (at : N → Reading → ℤ) (r : Rendering N) (height : ℕ) (e : Reading) (names : List ℕ) (name : ℕ) (ring : Ring) (face : Face) (b : Placed N)
-    → Some b ≡ named r.boxes names name → edge_value (scene_at at r height e) names (of_edge.Name name ring face) ≡ at (face_of face (ring_of ring b)) e
-edge-some at r height e names name ring face b is =
+pub edge-some : {N : Type 0} (at : N → Reading → ℤ) (r : Rendering N) (e : Reading) (names : List ℕ) (name : ℕ) (ring : Ring) (face : Face) (b : Placed N)
+    → Some b ≡ named r.boxes names name → edge_value (scene_at at r e) names (of_edge.Name name ring face) ≡ at (face_of face (ring_of ring b)) e
+edge-some at r e names name ring face b is =
     ap (λ (o : Option (Placed ℤ)). option_map_or (λ b. face_of face (ring_of ring b)) o (pos 0)) (named-map (λ p. placed_at at p e) r.boxes names name ∙ ap (option_map (λ p. placed_at at p e)) (sym is))
     ∙ ap (face_of face) (ring-at at b ring e)
     ∙ face-at at (ring_of ring b) face e
 
 -- and of one that there isn't
-pub edge-none : {N : Type 0} (at : N → Reading → ℤ) (r : Rendering N) (height : ℕ) (e : Reading) (names : List ℕ) (name : ℕ) (ring : Ring) (face : Face)
-    → None ≡ named r.boxes names name → edge_value (scene_at at r height e) names (of_edge.Name name ring face) ≡ pos 0
-edge-none at r height e names name ring face is =
+pub edge-none : {N : Type 0} (at : N → Reading → ℤ) (r : Rendering N) (e : Reading) (names : List ℕ) (name : ℕ) (ring : Ring) (face : Face)
+    → None ≡ named r.boxes names name → edge_value (scene_at at r e) names (of_edge.Name name ring face) ≡ pos 0
+edge-none at r e names name ring face is =
     ap (λ (o : Option (Placed ℤ)). option_map_or (λ b. face_of face (ring_of ring b)) o (pos 0)) (named-map (λ p. placed_at at p e) r.boxes names name ∙ ap (option_map (λ p. placed_at at p e)) (sym is))
 
 -- whether two boxes overlap, by what their names stand for
 pub overlap-named : {N : Type 0} (at : N → Reading → ℤ) (r : Rendering N) (e : Reading) (names : List ℕ) (a b : ℕ) (x y : Option (Placed N))
     → x ≡ named r.boxes names a → y ≡ named r.boxes names b
-    → boxes_overlap (option_map (λ p. placed_at at p e) x) (option_map (λ p. placed_at at p e) y) ≡ boxes_overlap (named (scene_at at r 0 e).boxes names a) (named (scene_at at r 0 e).boxes names b)
+    → boxes_overlap (option_map (λ p. placed_at at p e) x) (option_map (λ p. placed_at at p e) y) ≡ boxes_overlap (named (scene_at at r e).boxes names a) (named (scene_at at r e).boxes names b)
 overlap-named {N} at r e names a b x y p q =
     let f = (λ (p : Placed N). placed_at at p e) in
     ap (λ o. boxes_overlap o (option_map f y)) (ap (option_map f) p ∙ sym (named-map f r.boxes names a))

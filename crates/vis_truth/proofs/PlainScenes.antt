@@ -1,4 +1,4 @@
-use Rattle.std.proofs.Common.{◌≡◌, ◌<◌, ◌^◌, ℤ, List, [], ◌∷◌, map, IsTrue, refl, ap, sym, subst, arith, inl, inr}
+use Rattle.std.proofs.Common.{◌≡◌, ℤ, List, [], ◌∷◌, map, IsTrue, refl, ap, sym, subst, arith, inl, inr}
 use Rattle.std.proofs.lemmas.Bool.Decides.{nat_tests}
 use Rattle.viz_base.specs.declared.formulas.Formula.{Formula}
 use Rattle.viz_base.specs.declared.worlds.World.{World}
@@ -12,7 +12,7 @@ use Rattle.viz_calc.specs.Plain.{plain_state}
 use Rattle.viz_calc.specs.Renderings.{placed_at, rendering_at}
 use Rattle.viz_calc.specs.declared.calc.Halt.{Halt}
 use Rattle.viz_calc.specs.declared.calc.Halt.TheVariants.{Mem, Coeff, Open}
-use Rattle.vis_truth.specs.Scenes.{IsBoundedRendering, IsTame}
+use Rattle.vis_truth.specs.Scenes.{IsNarrow, IsBoundedRendering, IsTame}
 
 boxes-same : (e : Reading) (boxes : List (Placed ℤ)) → map (λ p. placed_at (λ n e. n) p e) boxes ≡ boxes
 boxes-same e [] = refl
@@ -37,11 +37,12 @@ never-halts old new fits Open f c = no_rise c
     no_rise (inr e) = absurd (omega arith)
 
 -- at a world of a plain calc a bounded rendering and a formula with small terms are tame
-pub plain-tame : (w : World) (r : Rendering ℤ) (f : Formula) → w.w < 2 ^ 32 → IsBoundedRendering r → IsTrue (has_small_terms f) → IsTame (plain_state w).is_open (λ n e. n) r f
-plain-tame w r f lt bounded small = record {
+pub plain-tame : (w : World) (r : Rendering ℤ) (f : Formula) → IsNarrow w → IsBoundedRendering r → IsTrue (has_small_terms f) → IsTame (plain_state w).is_open (λ n e. n) r f
+plain-tame w r f narrow bounded small = record {
   bounded = λ e o. record {
     rendering = subst (λ r. IsBoundedRendering r) (sym (rendering-same e r)) bounded;
-    width = grind (arith, nat_tests);
+    world = let w = narrow.width in let s = narrow.size in let h = narrow.height in
+        record { width = grind (arith, nat_tests); size = grind (arith, nat_tests); height = grind (arith, nat_tests) };
   };
   small = small;
 }

@@ -35,9 +35,9 @@ member-option at e set None = refl
 member-option at e set (Some b) = refl
 
 -- a reading changes no member
-pub member-at : {N : Type 0} (at : N → Reading → ℤ) (r : Rendering N) (height : ℕ) (e : Reading) (set : Set) (m : ℕ)
-    → is_member_at set (scene_at at r height e).boxes m ≡ is_member_at set r.boxes m
-member-at at r height e set m =
+pub member-at : {N : Type 0} (at : N → Reading → ℤ) (r : Rendering N) (e : Reading) (set : Set) (m : ℕ)
+    → is_member_at set (scene_at at r e).boxes m ≡ is_member_at set r.boxes m
+member-at at r e set m =
     ap (λ (o : Option (Placed ℤ)). option_map_or (λ b. is_member set b.kind b.node) o false) (slice_get-map (λ p. placed_at at p e) r.boxes m)
     ∙ member-option at e set (slice_get r.boxes m)
 
@@ -66,19 +66,19 @@ no_counterexample q p (x ∷ xs) = by_cases (q x) (p x) (no_counterexample q p x
     by_cases true false rest = refl
     by_cases false b rest = rest
 
-pub forall-witness : {N : Type 0} (at : N → Reading → ℤ) (r : Rendering N) (height : ℕ) (e : Reading) (set : Set) (body : Formula) (names : List ℕ)
-    → not (list_any (is_witness (scene_at at r height e) set body false names) (range_with_len 0 (length r.boxes))) ≡ truth_in (scene_at at r height e) (Forall set body) names
-forall-witness at r height e set body names =
-    let scene = scene_at at r height e in
+pub forall-witness : {N : Type 0} (at : N → Reading → ℤ) (r : Rendering N) (e : Reading) (set : Set) (body : Formula) (names : List ℕ)
+    → not (list_any (is_witness (scene_at at r e) set body false names) (range_with_len 0 (length r.boxes))) ≡ truth_in (scene_at at r e) (Forall set body) names
+forall-witness at r e set body names =
+    let scene = scene_at at r e in
     no_counterexample (is_member_at set scene.boxes) (λ m. truth_in scene body (m ∷ names)) (range_with_len 0 (length r.boxes))
     ∙ ap (λ n. list_all (λ m. not (is_member_at set scene.boxes m) || truth_in scene body (m ∷ names)) (range_with_len 0 n)) (sym (length-map r.boxes (λ p. placed_at at p e)))
     ∙ sym (list_all-filter (λ m. truth_in scene body (m ∷ names)) (is_member_at set scene.boxes) (range_with_len 0 (length scene.boxes)))
     ∙ sym (truth-Forall scene set body names)
 
-pub exists-witness : {N : Type 0} (at : N → Reading → ℤ) (r : Rendering N) (height : ℕ) (e : Reading) (set : Set) (body : Formula) (names : List ℕ)
-    → list_any (is_witness (scene_at at r height e) set body true names) (range_with_len 0 (length r.boxes)) ≡ truth_in (scene_at at r height e) (Exists set body) names
-exists-witness at r height e set body names =
-    let scene = scene_at at r height e in
+pub exists-witness : {N : Type 0} (at : N → Reading → ℤ) (r : Rendering N) (e : Reading) (set : Set) (body : Formula) (names : List ℕ)
+    → list_any (is_witness (scene_at at r e) set body true names) (range_with_len 0 (length r.boxes)) ≡ truth_in (scene_at at r e) (Exists set body) names
+exists-witness at r e set body names =
+    let scene = scene_at at r e in
     ap (λ n. list_any (λ m. is_member_at set scene.boxes m && truth_in scene body (m ∷ names)) (range_with_len 0 n)) (sym (length-map r.boxes (λ p. placed_at at p e)))
     ∙ sym (list_any-filter (λ m. truth_in scene body (m ∷ names)) (is_member_at set scene.boxes) (range_with_len 0 (length scene.boxes)))
     ∙ sym (truth-Exists scene set body names)

@@ -1,4 +1,5 @@
 use Rattle.std.specs.Prelude.{Bool, true, false, not, ◌&&◌, ◌≡◌, ℕ, ◌≤◌, ◌<◌, ◌^◌, ℤ, pos, ◌+ℤ◌, unsigned_abs, IsTrue, List, [], ◌∷◌, slice_get, Some}
+use Rattle.viz_base.specs.declared.worlds.World.{World}
 use Rattle.viz_base.specs.declared.formulas.Formula.{Formula}
 use Rattle.viz_base.specs.declared.formulas.Set.{Set}
 use Rattle.viz_base.specs.declared.formulas.Summand.{Summand}
@@ -13,9 +14,9 @@ use Rattle.logic_semantics.specs.Scenes.{Scene, scene_of, is_member_at}
 use Rattle.logic_semantics.specs.Truth.{truth_in}
 use Rattle.logic_semantics.specs.Terms.{edge_value, summand_value}
 
--- what a formula speaks of at a reading, the viewport being so many pixels high
-abbrev pub scene_at : {N : Type 0} → (N → Reading → ℤ) → Rendering N → ℕ → Reading → Scene
-scene_at at r height e = scene_of (rendering_at at r e) e.world height
+-- what a formula speaks of at a reading
+abbrev pub scene_at : {N : Type 0} → (N → Reading → ℤ) → Rendering N → Reading → Scene
+scene_at at r e = scene_of (rendering_at at r e) e.world
 
 -- ---- quantifiers
 
@@ -64,10 +65,16 @@ pub record IsBoundedBox (b : Placed ℤ) : Type 0 where
 pub record IsBoundedRendering (r : Rendering ℤ) : Type 0 where
   pub each : (place : ℕ) (b : Placed ℤ) → slice_get r.boxes place ≡ Some b → IsBoundedBox b
 
--- at a reading the boxes' edges and the viewport's width are bounded
+-- the world's numbers are ones of 32 bits
+pub record IsNarrow (world : World) : Type 0 where
+  pub width : world.w < 2 ^ 32
+  pub size : world.s < 2 ^ 32
+  pub height : world.h < 2 ^ 32
+
+-- at a reading the boxes' edges and the world's numbers are bounded
 pub record IsBoundedAt {N : Type 0} (at : N → Reading → ℤ) (r : Rendering N) (e : Reading) : Type 0 where
   pub rendering : IsBoundedRendering (rendering_at at r e)
-  pub width : e.world.w < 2 ^ 32
+  pub world : IsNarrow e.world
 
 -- at each open reading all is bounded, and so are the formula's terms
 pub record IsTame {N : Type 0} (is_open : Reading → Bool) (at : N → Reading → ℤ) (r : Rendering N) (f : Formula)

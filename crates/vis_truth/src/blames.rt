@@ -15,13 +15,13 @@ use viz_base::{Formula, List, Mem, Rendering, Set, World};
 use viz_calc::Plain;
 
 /// Whether a formula is true where the names around it stand for these places.
-fn holds(f: &Formula, r: &Rendering<i128>, world: World, height: u32, names: &Names<'_>) -> bool
+fn holds(f: &Formula, r: &Rendering<i128>, world: World, names: &Names<'_>) -> bool
     requires bounded { IsBoundedRendering r.now }
     requires small { IsTrue (has_small_terms f.now) }
-    ensures { result ≡ truth_in (scene_of r.now world height) f.now (places_of names.now) }
+    ensures { result ≡ truth_in (scene_of r.now world) f.now (places_of names.now) }
 {
     let mut calc = Plain::new(world);
-    match truth_in(&mut calc, f, r, height, names) {
+    match truth_in(&mut calc, f, r, names) {
         Ok(yes) => yes,
         Err(_) => unreachable!(),
     }
@@ -32,20 +32,19 @@ fn is_failing(
     body: &Formula,
     r: &Rendering<i128>,
     world: World,
-    height: u32,
     names: &Names<'_>,
     set: &Set,
     place: usize,
 ) -> bool
     requires bounded { IsBoundedRendering r.now }
     requires small { IsTrue (has_small_terms body.now) }
-    ensures { result ≡ is_witness (scene_of r.now world height) set.now body.now false (places_of names.now) place }
+    ensures { result ≡ is_witness (scene_of r.now world) set.now body.now false (places_of names.now) place }
 {
     if !is_member_at(set, r, place) {
         return false;
     }
     let inner = Names::Inner(place, &*names);
-    !holds(body, r, world, height, &inner)
+    !holds(body, r, world, &inner)
 }
 
 /// The first member of the set with which the body is false.
@@ -53,18 +52,17 @@ fn first_failing(
     body: &Formula,
     r: &Rendering<i128>,
     world: World,
-    height: u32,
     names: &Names<'_>,
     set: &Set,
 ) -> Option<usize>
     requires bounded { IsBoundedRendering r.now }
     requires small { IsTrue (has_small_terms body.now) }
     ensures within { IfSome result (λ place. place < length r.now.boxes) }
-    ensures value { result ≡ find (is_witness (scene_of r.now world height) set.now body.now false
+    ensures value { result ≡ find (is_witness (scene_of r.now world) set.now body.now false
         (places_of names.now)) (range_with_len 0 (length r.now.boxes)) }
 {
     for place in 0..r.boxes.len() {
-        if is_failing(body, r, world, height, names, set, place) {
+        if is_failing(body, r, world, names, set, place) {
             return Some(place);
         }
     }
@@ -76,38 +74,37 @@ fn collect(
     f: &Formula,
     r: &Rendering<i128>,
     world: World,
-    height: u32,
     names: &Names<'_>,
     out: &mut List<u32>,
 ) -> Result<(), AllocError>
     requires few { length r.now.boxes < 2 ^ 32 }
     requires bounded { IsBoundedRendering r.now }
     requires small { IsTrue (has_small_terms f.now) }
-    ensures { OnOk result (out.new ≡ out.old ++ blame_in (scene_of r.now world height) f.now (places_of names.now)) }
+    ensures { OnOk result (out.new ≡ out.old ++ blame_in (scene_of r.now world) f.now (places_of names.now)) }
 {
     match f {
         Formula::Forall(set, body) => {
-            match first_failing(body.get(), r, world, height, names, set) {
+            match first_failing(body.get(), r, world, names, set) {
                 Some(place) => {
                     out.push(place as u32)?;
                     let inner = Names::Inner(place, &*names);
-                    collect(body.get(), r, world, height, &inner, out)
+                    collect(body.get(), r, world, &inner, out)
                 }
                 None => Ok(()),
             }
         }
         Formula::Implies(a, b) => {
-            if holds(a.get(), r, world, height, names) {
-                collect(b.get(), r, world, height, names, out)
+            if holds(a.get(), r, world, names) {
+                collect(b.get(), r, world, names, out)
             } else {
                 Ok(())
             }
         }
         Formula::And(a, b) => {
-            if holds(a.get(), r, world, height, names) {
-                collect(b.get(), r, world, height, names, out)
+            if holds(a.get(), r, world, names) {
+                collect(b.get(), r, world, names, out)
             } else {
-                collect(a.get(), r, world, height, names, out)
+                collect(a.get(), r, world, names, out)
             }
         }
         _ => Ok(()),
@@ -122,14 +119,13 @@ pub fn blame(
     f: &Formula,
     r: &Rendering<i128>,
     world: &World,
-    height: u32,
 ) -> Result<List<u32>, Mem>
     requires few { length r.now.boxes < 2 ^ 32 }
     requires bounded { IsBoundedRendering r.now }
     requires small { IsTrue (has_small_terms f.now) }
-    ensures { IfOk result (λ blamed. blamed ≡ blame (scene_of r.now world.now height) f.now) }
+    ensures { IfOk result (λ blamed. blamed ≡ blame (scene_of r.now world.now) f.now) }
 {
     let mut blamed = List::new(alloc);
-    collect(f, r, *world, height, &Names::Unbound, &mut blamed)?;
+    collect(f, r, *world, &Names::Unbound, &mut blamed)?;
     Ok(blamed)
 }

@@ -26,7 +26,6 @@ fn is_witness<S: Steady>(
     calc: &mut S,
     body: &Formula,
     r: &Rendering<S::Num>,
-    height: u32,
     names: &Names<'_>,
     set: &Set,
     wanted: bool,
@@ -34,14 +33,14 @@ fn is_witness<S: Steady>(
 ) -> bool
     ensures goes { Goes (S.run calc.old) (S.run calc.new) }
     ensures value { (e : Reading) → IsTrue ((S.run calc.new).is_open e)
-        → result ≡ is_witness (scene_at S.at r.now height e) set.now body.now wanted (places_of names.now) place }
+        → result ≡ is_witness (scene_at S.at r.now e) set.now body.now wanted (places_of names.now) place }
     ensures cause { Blames (S.run calc.old) (S.run calc.new) (IsTame (S.run calc.old).is_open S.at r.now body.now) }
 {
     if !is_member_at(set, r, place) {
         return false;
     }
     let inner = Names::Inner(place, &*names);
-    let value = holds(calc, body, r, height, &inner);
+    let value = holds(calc, body, r, &inner);
     agrees(wanted, value)
 }
 
@@ -51,19 +50,18 @@ fn has_witness<S: Steady>(
     calc: &mut S,
     body: &Formula,
     r: &Rendering<S::Num>,
-    height: u32,
     names: &Names<'_>,
     set: &Set,
     wanted: bool,
 ) -> bool
     ensures goes { Goes (S.run calc.old) (S.run calc.new) }
     ensures value { (e : Reading) → IsTrue ((S.run calc.new).is_open e)
-        → result ≡ list_any (is_witness (scene_at S.at r.now height e) set.now body.now wanted (places_of names.now))
+        → result ≡ list_any (is_witness (scene_at S.at r.now e) set.now body.now wanted (places_of names.now))
         (range_with_len 0 (length r.now.boxes)) }
     ensures cause { Blames (S.run calc.old) (S.run calc.new) (IsTame (S.run calc.old).is_open S.at r.now body.now) }
 {
     for place in 0..r.boxes.len() {
-        if is_witness(calc, body, r, height, names, set, wanted, place) {
+        if is_witness(calc, body, r, names, set, wanted, place) {
             return true;
         }
     }
@@ -72,46 +70,34 @@ fn has_witness<S: Steady>(
 
 /// Whether a formula is true where the names around it stand for these places.
 #[cycle(truth)]
-pub fn holds<S: Steady>(
-    calc: &mut S,
-    f: &Formula,
-    r: &Rendering<S::Num>,
-    height: u32,
-    names: &Names<'_>,
-) -> bool
+pub fn holds<S: Steady>(calc: &mut S, f: &Formula, r: &Rendering<S::Num>, names: &Names<'_>) -> bool
     ensures goes { Goes (S.run calc.old) (S.run calc.new) }
     ensures value { (e : Reading) → IsTrue ((S.run calc.new).is_open e)
-        → result ≡ truth_in (scene_at S.at r.now height e) f.now (places_of names.now) }
+        → result ≡ truth_in (scene_at S.at r.now e) f.now (places_of names.now) }
     ensures cause { Blames (S.run calc.old) (S.run calc.new) (IsTame (S.run calc.old).is_open S.at r.now f.now) }
 {
     match f {
         Formula::Const(value) => *value,
-        Formula::Forall(set, body) => {
-            !has_witness(calc, body.get(), r, height, names, set, false)
-        }
-        Formula::Exists(set, body) => has_witness(calc, body.get(), r, height, names, set, true),
+        Formula::Forall(set, body) => { !has_witness(calc, body.get(), r, names, set, false) }
+        Formula::Exists(set, body) => has_witness(calc, body.get(), r, names, set, true),
         Formula::Implies(a, b) => {
-            !holds(calc, a.get(), r, height, names) || holds(calc, b.get(), r, height, names)
+            !holds(calc, a.get(), r, names) || holds(calc, b.get(), r, names)
         }
-        Formula::Or(a, b) => {
-            holds(calc, a.get(), r, height, names) || holds(calc, b.get(), r, height, names)
-        }
-        Formula::And(a, b) => {
-            holds(calc, a.get(), r, height, names) && holds(calc, b.get(), r, height, names)
-        }
-        Formula::Not(a) => !holds(calc, a.get(), r, height, names),
-        Formula::Cmp(left, sign, right) => comparison(calc, r, height, names, left, *sign, right),
+        Formula::Or(a, b) => { holds(calc, a.get(), r, names) || holds(calc, b.get(), r, names) }
+        Formula::And(a, b) => { holds(calc, a.get(), r, names) && holds(calc, b.get(), r, names) }
+        Formula::Not(a) => !holds(calc, a.get(), r, names),
+        Formula::Cmp(left, sign, right) => comparison(calc, r, names, left, *sign, right),
         Formula::Overlap(a, b) => overlap(calc, r, names, *a, *b),
         Formula::Same(a, b) => names.are_same(*a, *b),
     }
 }
 
 /// Whether a formula is true.
-pub fn truth<S: Steady>(calc: &mut S, f: &Formula, r: &Rendering<S::Num>, height: u32) -> bool
+pub fn truth<S: Steady>(calc: &mut S, f: &Formula, r: &Rendering<S::Num>) -> bool
     ensures goes { Goes (S.run calc.old) (S.run calc.new) }
     ensures value { (e : Reading) → IsTrue ((S.run calc.new).is_open e)
-        → result ≡ truth (scene_at S.at r.now height e) f.now }
+        → result ≡ truth (scene_at S.at r.now e) f.now }
     ensures cause { Blames (S.run calc.old) (S.run calc.new) (IsTame (S.run calc.old).is_open S.at r.now f.now) }
 {
-    holds(calc, f, r, height, &Names::Unbound)
+    holds(calc, f, r, &Names::Unbound)
 }

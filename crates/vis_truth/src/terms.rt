@@ -34,15 +34,6 @@ fn multiple<S: Steady>(calc: &mut S, s: &Summand, n: &S::Num) -> S::Num
     calc.scale_floor(n, s.times, 1)
 }
 
-/// The viewport's height.
-fn view_height<S: Steady>(calc: &mut S, height: u32) -> S::Num
-    ensures goes { Goes (S.run calc.old) (S.run calc.new) }
-    ensures value { Stands (S.run calc.new) (S.at result) (λ e. pos (64 * height)) }
-    ensures cause { Blames (S.run calc.old) (S.run calc.new) (Fits (S.run calc.old) (λ e. pos (64 * height) ∷ [])) }
-{
-    calc.lit(i128::from(64 * u64::from(height)))
-}
-
 /// One unit as often as a summand has it.
 fn units<S: Steady>(calc: &mut S, s: &Summand) -> S::Num
     ensures goes { Goes (S.run calc.old) (S.run calc.new) }
@@ -65,9 +56,9 @@ fn of_box<S: Steady>(
 ) -> S::Num
     ensures goes { Goes (S.run calc.old) (S.run calc.new) }
     ensures value { Stands (S.run calc.new) (S.at result)
-        (λ e. s.now.times *ℤ edge_value (scene_at S.at r.now 0 e) (places_of names.now) (Edge.Name name ring face)) }
+        (λ e. s.now.times *ℤ edge_value (scene_at S.at r.now e) (places_of names.now) (Edge.Name name ring face)) }
     ensures cause { Blames (S.run calc.old) (S.run calc.new) (Fits (S.run calc.old)
-        (λ e. (s.now.times *ℤ edge_value (scene_at S.at r.now 0 e) (places_of names.now) (Edge.Name name ring face))
+        (λ e. (s.now.times *ℤ edge_value (scene_at S.at r.now e) (places_of names.now) (Edge.Name name ring face))
         ∷ [])) }
 {
     match find(r, names, name) {
@@ -77,19 +68,13 @@ fn of_box<S: Steady>(
 }
 
 /// A summand of a term.
-fn summand<S: Steady>(
-    calc: &mut S,
-    r: &Rendering<S::Num>,
-    height: u32,
-    names: &Names<'_>,
-    s: &Summand,
-) -> S::Num
+fn summand<S: Steady>(calc: &mut S, r: &Rendering<S::Num>, names: &Names<'_>, s: &Summand) -> S::Num
     ensures goes { Goes (S.run calc.old) (S.run calc.new) }
     ensures value { Stands (S.run calc.new) (S.at result)
-        (λ e. summand_value (scene_at S.at r.now height e) (places_of names.now) s.now) }
+        (λ e. summand_value (scene_at S.at r.now e) (places_of names.now) s.now) }
     ensures cause { Blames (S.run calc.old) (S.run calc.new) (Fits (S.run calc.old)
-        (λ e. edge_value (scene_at S.at r.now height e) (places_of names.now) s.now.edge
-        ∷ summand_value (scene_at S.at r.now height e) (places_of names.now) s.now ∷ [])) }
+        (λ e. edge_value (scene_at S.at r.now e) (places_of names.now) s.now.edge
+        ∷ summand_value (scene_at S.at r.now e) (places_of names.now) s.now ∷ [])) }
 {
     match s.edge {
         Edge::One => units(calc, s),
@@ -99,8 +84,12 @@ fn summand<S: Steady>(
             multiple(calc, s, &width)
         }
         Edge::ViewHeight => {
-            let view = view_height(calc, height);
-            multiple(calc, s, &view)
+            let height = calc.height();
+            multiple(calc, s, &height)
+        }
+        Edge::ViewSize => {
+            let size = calc.size();
+            multiple(calc, s, &size)
         }
     }
 }
@@ -109,39 +98,32 @@ fn summand<S: Steady>(
 fn total<S: Steady>(
     calc: &mut S,
     r: &Rendering<S::Num>,
-    height: u32,
     names: &Names<'_>,
     parts: &[Summand],
 ) -> S::Num
     ensures goes { Goes (S.run calc.old) (S.run calc.new) }
     ensures value { Stands (S.run calc.new) (S.at result)
-        (λ e. fold ◌+ℤ◌ (pos 0) (map (summand_value (scene_at S.at r.now height e) (places_of names.now)) parts.now)) }
+        (λ e. fold ◌+ℤ◌ (pos 0) (map (summand_value (scene_at S.at r.now e) (places_of names.now)) parts.now)) }
     ensures cause { Blames (S.run calc.old) (S.run calc.new) (Fits (S.run calc.old)
-        (λ e. pos 0 ∷ sum_parts (scene_at S.at r.now height e) (places_of names.now) (pos 0) parts.now)) }
+        (λ e. pos 0 ∷ sum_parts (scene_at S.at r.now e) (places_of names.now) (pos 0) parts.now)) }
 {
     let mut sum = zero(calc);
     for s in parts {
-        let value = summand(calc, r, height, names, s);
+        let value = summand(calc, r, names, s);
         sum = calc.add(&sum, &value);
     }
     sum
 }
 
 /// The value of a term.
-pub fn term<S: Steady>(
-    calc: &mut S,
-    r: &Rendering<S::Num>,
-    height: u32,
-    names: &Names<'_>,
-    t: &Term,
-) -> S::Num
+pub fn term<S: Steady>(calc: &mut S, r: &Rendering<S::Num>, names: &Names<'_>, t: &Term) -> S::Num
     ensures goes { Goes (S.run calc.old) (S.run calc.new) }
     ensures value { Stands (S.run calc.new) (S.at result)
-        (λ e. term_value (scene_at S.at r.now height e) (places_of names.now) t.now) }
+        (λ e. term_value (scene_at S.at r.now e) (places_of names.now) t.now) }
     ensures cause { Blames (S.run calc.old) (S.run calc.new) (Fits (S.run calc.old)
-        (λ e. term_parts (scene_at S.at r.now height e) (places_of names.now) t.now)) }
+        (λ e. term_parts (scene_at S.at r.now e) (places_of names.now) t.now)) }
 {
-    total(calc, r, height, names, t.parts.as_slice())
+    total(calc, r, names, t.parts.as_slice())
 }
 
 /// Whether two numbers are equal.
@@ -185,7 +167,6 @@ pub fn compare<S: Steady>(calc: &mut S, a: &S::Num, sign: Sign, b: &S::Num) -> b
 pub fn comparison<S: Steady>(
     calc: &mut S,
     r: &Rendering<S::Num>,
-    height: u32,
     names: &Names<'_>,
     left: &Term,
     sign: Sign,
@@ -193,14 +174,14 @@ pub fn comparison<S: Steady>(
 ) -> bool
     ensures goes { Goes (S.run calc.old) (S.run calc.new) }
     ensures value { (e : Reading) → IsTrue ((S.run calc.new).is_open e)
-        → result ≡ compares sign (term_value (scene_at S.at r.now height e) (places_of names.now) left.now)
-        (term_value (scene_at S.at r.now height e) (places_of names.now) right.now) }
+        → result ≡ compares sign (term_value (scene_at S.at r.now e) (places_of names.now) left.now)
+        (term_value (scene_at S.at r.now e) (places_of names.now) right.now) }
     ensures cause { Blames (S.run calc.old) (S.run calc.new)
-        (Fits (S.run calc.old) (λ e. term_parts (scene_at S.at r.now height e) (places_of names.now) left.now)
-        × Fits (S.run calc.old) (λ e. term_parts (scene_at S.at r.now height e) (places_of names.now) right.now)) }
+        (Fits (S.run calc.old) (λ e. term_parts (scene_at S.at r.now e) (places_of names.now) left.now)
+        × Fits (S.run calc.old) (λ e. term_parts (scene_at S.at r.now e) (places_of names.now) right.now)) }
 {
-    let left = term(calc, r, height, names, left);
-    let right = term(calc, r, height, names, right);
+    let left = term(calc, r, names, left);
+    let right = term(calc, r, names, right);
     compare(calc, &left, sign, &right)
 }
 
@@ -241,8 +222,8 @@ pub fn overlap<S: Steady>(
 ) -> bool
     ensures goes { Goes (S.run calc.old) (S.run calc.new) }
     ensures value { (e : Reading) → IsTrue ((S.run calc.new).is_open e)
-        → result ≡ boxes_overlap (named (scene_at S.at r.now 0 e).boxes (places_of names.now) a)
-        (named (scene_at S.at r.now 0 e).boxes (places_of names.now) b) }
+        → result ≡ boxes_overlap (named (scene_at S.at r.now e).boxes (places_of names.now) a)
+        (named (scene_at S.at r.now e).boxes (places_of names.now) b) }
     ensures cause { Blames (S.run calc.old) (S.run calc.new) ⊤ }
 {
     match (find(r, names, a), find(r, names, b)) {

@@ -8,11 +8,11 @@ use Rattle.viz_calc.specs.declared.calc.Halt.TheVariants.{Coeff}
 -- just this world is open, and kept
 abbrev pub plain_state : World → State
 plain_state w = record {
-  is_open = λ e. (e.world.w == w.w) && (e.world.s == w.s);
+  is_open = λ e. (e.world.w == w.w) && (e.world.s == w.s) && (e.world.h == w.h);
   lean = true;
   coeffs = 0;
   opens = 0;
-  kept = record { worlds = λ v. (v.w == w.w) && (v.s == w.s); coeffs = 0; opens = 0 };
+  kept = record { worlds = λ v. (v.w == w.w) && (v.s == w.s) && (v.h == w.h); coeffs = 0; opens = 0 };
 }
 
 -- the reading of a world that gives each floor term 0

@@ -94,6 +94,16 @@ pub trait Calc {
         ensures counted { IfErr result (IsCounted counts (state self.old) (state self.new)) }
         ensures decided { IsDecided result };
 
+    /// The viewport's height, in 1/64 px. Errors as those of `lit`.
+    fn height(&mut self) -> Result<Self::Num, Halt>
+        ensures grows { Grows (state self.old) (state self.new) }
+        ensures worlds { KeepsWorlds (state self.old) (state self.new) }
+        ensures value { IfOk result (λ r. Stands (state self.new) (at r) (λ e. pos (64 * e.world.h))) }
+        ensures cause { IfErr result (Cause (state self.old) (state self.new) (Fits (state self.new)
+            (λ e. pos (64 * e.world.h) ∷ []))) }
+        ensures counted { IfErr result (IsCounted counts (state self.old) (state self.new)) }
+        ensures decided { IsDecided result };
+
     /// The default font size, in 1/64 px. Errors as those of `lit`.
     fn size(&mut self) -> Result<Self::Num, Halt>
         ensures grows { Grows (state self.old) (state self.new) }

@@ -79,6 +79,14 @@ impl<'a, C: Calc> Steady for Latch<'a, C> {
         self.keep(answer)
     }
 
+    fn height(&mut self) -> C::Num {
+        let answer = match self.halt {
+            None => self.calc.height(),
+            Some(halt) => Err(halt),
+        };
+        self.keep(answer)
+    }
+
     fn size(&mut self) -> C::Num {
         let answer = match self.halt {
             None => self.calc.size(),

@@ -116,6 +116,20 @@ impl Calc for Plain {
         Ok(64 * i128::from(self.world.w))
     }
 
+    fn height(&mut self) -> Result<i128, Halt>
+        ensures grows { Grows (plain_state self.old.world) (plain_state self.new.world) }
+        ensures worlds { KeepsWorlds (plain_state self.old.world) (plain_state self.new.world) }
+        ensures value { IfOk result (λ r. Stands (plain_state self.new.world) (λ e. r) (λ e. pos (64 * e.world.h))) }
+        ensures cause { IfErr result (Cause (plain_state self.old.world) (plain_state self.new.world)
+            (Fits (plain_state self.new.world) (λ e. pos (64 * e.world.h) ∷ []))) }
+        ensures counted { IfErr result (IsCounted false (plain_state self.old.world) (plain_state self.new.world)) }
+        ensures decided { IsDecided result }
+        ensures exact { result ≡ Ok (pos (64 * self.old.world.h)) }
+        ensures same { self.new ≡ self.old }
+    {
+        Ok(64 * i128::from(self.world.h))
+    }
+
     fn size(&mut self) -> Result<i128, Halt>
         ensures grows { Grows (plain_state self.old.world) (plain_state self.new.world) }
         ensures worlds { KeepsWorlds (plain_state self.old.world) (plain_state self.new.world) }

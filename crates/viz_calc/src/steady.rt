@@ -28,6 +28,12 @@ pub trait Steady {
         ensures value { Stands (run self.new) (at result) (λ e. pos (64 * e.world.w)) }
         ensures cause { Blames (run self.old) (run self.new) (Fits (run self.old) (λ e. pos (64 * e.world.w) ∷ [])) };
 
+    /// The viewport's height, in 1/64 px.
+    fn height(&mut self) -> Self::Num
+        ensures goes { Goes (run self.old) (run self.new) }
+        ensures value { Stands (run self.new) (at result) (λ e. pos (64 * e.world.h)) }
+        ensures cause { Blames (run self.old) (run self.new) (Fits (run self.old) (λ e. pos (64 * e.world.h) ∷ [])) };
+
     /// The default font size, in 1/64 px.
     fn size(&mut self) -> Self::Num
         ensures goes { Goes (run self.old) (run self.new) }

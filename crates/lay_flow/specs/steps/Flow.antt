@@ -38,21 +38,21 @@ lowest_of top floats = greatest_from (pos 0) (map (λ y. y -ℤ top) (map (λ (f
 unfoldable pub tall_of : ℤ → Context → ℤ
 tall_of top end = context_height top end
 
-module _ (tree : BoxTree) (w : World) (height : ℕ) where
+module _ (tree : BoxTree) (w : World) where
   unfoldable pub frame_of : ℕ → ℤ → ℤ → ℤ → Frame
-  frame_of b room left y = flow.frame_at tree w height b room left y
+  frame_of b room left y = flow.frame_at tree w b room left y
 
   unfoldable pub corner_of : ℕ → ℤ → Frame
-  corner_of b room = flow.corner_frame tree w height b room
+  corner_of b room = flow.corner_frame tree w b room
 
   unfoldable pub replaced_of : ℕ → ℤ → Frame → Placed ℤ
-  replaced_of b room f = flow.replaced_box tree w height b room f
+  replaced_of b room f = flow.replaced_box tree w b room f
 
   unfoldable pub root_of : ℕ → Frame → Context → Placed ℤ
-  root_of b f end = placed_box tree b f (content_height tree w height b (tall_of (content_top f) end))
+  root_of b f end = placed_box tree b f (content_height tree w b (tall_of (content_top f) end))
 
   unfoldable pub block_of : ℕ → Frame → Context → Placed ℤ
-  block_of b f end = flow.block_box tree w height b f end
+  block_of b f end = flow.block_box tree w b f end
 
 -- the context as a box that is opened leaves it
 unfoldable pub opened : Context → Frame → Standing → Context
@@ -146,10 +146,10 @@ module _ (tree : BoxTree) (w : World) (apart : ℕ → Alone) where
   -- ---- lines
 
   unfoldable pub inner_of : ℕ → Inner ℤ
-  inner_of k = flow.inner_of tree w 0 (λ b cb top s. step s []) apart k (apart k)
+  inner_of k = flow.inner_of tree w (λ b cb top s. step s []) apart k (apart k)
 
   unfoldable pub entry_of : Entry ℤ → List (Placed ℤ)
-  entry_of entry = flow.entry_boxes tree w 0 (λ b cb top s. step s []) apart entry
+  entry_of entry = flow.entry_boxes tree w (λ b cb top s. step s []) apart entry
 
   -- what is beside the lines of a container, by its number
   unfoldable pub inner_table : ℕ → List (Option (Inner ℤ))
@@ -167,17 +167,17 @@ module _ (tree : BoxTree) (w : World) (apart : ℕ → Alone) where
   unfoldable pub in_lines : ℕ → Band ℤ → ℤ → Context → Step
   in_lines b cb top s = step (after_lines s (lines_of b cb top s)) (flat_map entry_of (lines_of b cb top s).entries)
 
-module _ (tree : BoxTree) (w : World) (height : ℕ) (apart : ℕ → Alone) where
+module _ (tree : BoxTree) (w : World) (apart : ℕ → Alone) where
   -- what is in a box
   unfoldable pub content_of : ℕ → Band ℤ → ℤ → Context → Step
-  content_of b cb top s = flow.content_of tree w height apart b cb top s
+  content_of b cb top s = flow.content_of tree w apart b cb top s
 
   -- ---- a box in flow
 
   unfoldable pub laid_replaced : ℤ → Context → ℕ → Frame → Laid
   laid_replaced room s b f =
       closed f false no_run (step (opened s f (below (content_top f) no_run false)) [])
-      (replaced_of tree w height b room f)
+      (replaced_of tree w b room f)
 
   unfoldable pub laid_context : Band ℤ → Context → ℕ → Frame → Laid
   laid_context cb s b f = by_content (content_of b (content_from cb.left f.x) (content_top f) (fresh (content_top f)))
@@ -185,7 +185,7 @@ module _ (tree : BoxTree) (w : World) (height : ℕ) (apart : ℕ → Alone) whe
       by_content : Step → Laid
       by_content end = closed f false no_run
           (step (left s f end.context) end.boxes)
-          (root_of tree w height b f end.context)
+          (root_of tree w b f end.context)
 
   unfoldable pub laid_block : Band ℤ → Context → ℕ → Cleared → Frame → Laid
   laid_block cb s b cleared f =
@@ -194,11 +194,11 @@ module _ (tree : BoxTree) (w : World) (height : ℕ) (apart : ℕ → Alone) whe
       by_content : Step → Laid
       by_content end = closed f (is_at_top end.context.standing && may_collapse_through tree b)
           (joined_run (joins_last_child tree b) end.context.standing) end
-          (block_of tree w height b f end.context)
+          (block_of tree w b f end.context)
 
   unfoldable pub laid_of : Band ℤ → Context → ℕ → Reached → Laid
   laid_of cb s b r =
-      by_sort (frame_of tree w height b (across cb) cb.left r.top) (is_replaced_at tree b) (is_context_root tree b)
+      by_sort (frame_of tree w b (across cb) cb.left r.top) (is_replaced_at tree b) (is_context_root tree b)
     where
       by_sort : Frame → Bool → Bool → Laid
       by_sort f true any = laid_replaced (across cb) s b f
@@ -233,27 +233,27 @@ module _ (tree : BoxTree) (w : World) (height : ℕ) (apart : ℕ → Alone) whe
 abbrev pub whole : Placed ℤ → Option ℤ → List (Placed ℤ) → Alone
 whole p baseline boxes = record { size = outer_extent p; baseline = baseline; boxes = p ∷ boxes }
 
-module _ (tree : BoxTree) (w : World) (height : ℕ) where
+module _ (tree : BoxTree) (w : World) where
   unfoldable pub replaced_alone : ℕ → ℤ → Frame → Alone
-  replaced_alone b room f = whole (replaced_of tree w height b room f) None []
+  replaced_alone b room f = whole (replaced_of tree w b room f) None []
 
   unfoldable pub context_alone : (ℕ → Alone) → ℕ → Frame → Alone
   context_alone apart b f =
-      by_content (content_of tree w height apart b (content_from (pos 0) f.x) (content_top f) (fresh (content_top f)))
+      by_content (content_of tree w apart b (content_from (pos 0) f.x) (content_top f) (fresh (content_top f)))
     where
       by_content : Step → Alone
-      by_content end = whole (root_of tree w height b f end.context) end.context.baseline end.boxes
+      by_content end = whole (root_of tree w b f end.context) end.context.baseline end.boxes
 
   unfoldable pub alone_of : (ℕ → Alone) → ℕ → ℤ → Alone
   alone_of apart b room = elim (is_replaced_at tree b) [
-    | true ↦ replaced_alone b room (corner_of tree w height b room)
-    | false ↦ context_alone apart b (corner_of tree w height b room)
+    | true ↦ replaced_alone b room (corner_of tree w b room)
+    | false ↦ context_alone apart b (corner_of tree w b room)
   ]
 
   -- ---- the table of what stands outside the flow
 
   unfoldable pub with_box : List (Option Alone) → ℕ → List (Option Alone)
-  with_box table k = set table k (Some (alone_of (laid_at table) k (room tree w height k)))
+  with_box table k = set table k (Some (alone_of (laid_at table) k (room tree w k)))
 
   abbrev pub with_boxes : List (Option Alone) → List ℕ → List (Option Alone)
   with_boxes table ks = fold with_box table ks

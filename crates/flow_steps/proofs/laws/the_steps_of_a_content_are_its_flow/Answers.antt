@@ -8,16 +8,14 @@ pub returns-clause-context : goal.returns-clause-context
 returns-clause-context c left top p =
     let tree = c.args.tree.now in
     let w = c.args.world in
-    let height = c.args.height in
     let n = length tree.boxes in
-    (flow-agrees tree w height (table_to tree w height n) 0 (table-served tree w height) n c.args.at left (room tree w height c.args.at) top p (omega arith)
+    (flow-agrees tree w (table_to tree w n) 0 (table-served tree w) n c.args.at left (room tree w c.args.at) top p (omega arith)
     (record { page = c.requires.on_page; room = refl; block = c.requires.container }) (omega arith)).context
 
 pub returns-clause-boxes : goal.returns-clause-boxes
 returns-clause-boxes c left top p =
     let tree = c.args.tree.now in
     let w = c.args.world in
-    let height = c.args.height in
     let n = length tree.boxes in
-    (flow-agrees tree w height (table_to tree w height n) 0 (table-served tree w height) n c.args.at left (room tree w height c.args.at) top p (omega arith)
+    (flow-agrees tree w (table_to tree w n) 0 (table-served tree w) n c.args.at left (room tree w c.args.at) top p (omega arith)
     (record { page = c.requires.on_page; room = refl; block = c.requires.container }) (omega arith)).boxes

@@ -2,4 +2,4 @@ use Rattle.flow_steps.proofs.Tables.{page-same}
 use Rattle.flow_steps.proofs.laws.the_steps_of_a_page_are_its_rendering.Goals as goal
 
 pub returns : goal.returns
-returns c = page-same c.args.tree.now c.args.world c.args.height
+returns c = page-same c.args.tree.now c.args.world

@@ -25,7 +25,7 @@ returns-then-is_replaced-clause-value g c = λ e o.
     let page = c.args.page.now in
     let tree = page.tree.now in
     let is : is_replaced_at tree c.args.b ≡ true = grind arith in
-    from-replaced tree e.world page.height (apart_at at page.apart.now e) c.args.b (at c.args.room.now e) (alone_at at c.replaced_alone.result e) (frame_at at c.corner_shape-shape.result e) is
+    from-replaced tree e.world (apart_at at page.apart.now e) c.args.b (at c.args.room.now e) (alone_at at c.replaced_alone.result e) (frame_at at c.corner_shape-shape.result e) is
     (c.replaced_alone.ensures.value e o) (c.corner_shape-shape.ensures.value e (c.replaced_alone.ensures.goes.closes e o))
 
 pub returns-clause-goes : goal.returns-clause-goes
@@ -41,7 +41,7 @@ returns-clause-value g c = λ e o.
     let page = c.args.page.now in
     let tree = page.tree.now in
     let is : is_replaced_at tree c.args.b ≡ false = grind arith in
-    from-context tree e.world page.height (apart_at at page.apart.now e) c.args.b (at c.args.room.now e) (alone_at at c.context_alone.result e) (frame_at at c.corner_shape-shape.result e) is
+    from-context tree e.world (apart_at at page.apart.now e) c.args.b (at c.args.room.now e) (alone_at at c.context_alone.result e) (frame_at at c.corner_shape-shape.result e) is
     (c.context_alone.ensures.value e o) (c.corner_shape-shape.ensures.value e (c.context_alone.ensures.goes.closes e o))
 
 pub returns-then-is_replaced-clause-cause : goal.returns-then-is_replaced-clause-cause
@@ -50,7 +50,7 @@ returns-then-is_replaced-clause-cause g c =
     let page = c.args.page.now in
     let tree = page.tree.now in
     let b = c.args.b in
-    let asks = (λ (e : Reading). AloneFits tree e.world page.height (apart_at at page.apart.now e) b (at c.args.room.now e)) in
+    let asks = (λ (e : Reading). AloneFits tree e.world (apart_at at page.apart.now e) b (at c.args.room.now e)) in
     let is : is_replaced_at tree b ≡ true = grind arith in
     let shape = c.corner_shape-shape.ensures in
     let laid = c.replaced_alone.ensures in
@@ -63,7 +63,7 @@ returns-clause-cause g c =
     let page = c.args.page.now in
     let tree = page.tree.now in
     let b = c.args.b in
-    let asks = (λ (e : Reading). AloneFits tree e.world page.height (apart_at at page.apart.now e) b (at c.args.room.now e)) in
+    let asks = (λ (e : Reading). AloneFits tree e.world (apart_at at page.apart.now e) b (at c.args.room.now e)) in
     let is : is_replaced_at tree b ≡ false = grind arith in
     let shape = c.corner_shape-shape.ensures in
     let laid = c.context_alone.ensures in
@@ -71,5 +71,5 @@ returns-clause-cause g c =
     (more one laid.goes laid.cause (λ a. (
       a.0,
       λ e o.
-          subst (λ (f : Frame). RootFits tree e.world page.height (apart_at at page.apart.now e) b f) (sym (shape.value e o)) ((a.1 e o).root is),
+          subst (λ (f : Frame). RootFits tree e.world (apart_at at page.apart.now e) b f) (sym (shape.value e o)) ((a.1 e o).root is),
     ))).cause

@@ -27,7 +27,7 @@ returns-clause-cause g c =
     let b = c.args.b in
     let f = (λ (e : Reading). frame_at at c.args.shape.now e) in
     let apart = (λ (e : Reading). apart_at at page.apart.now e) in
-    let asks = (λ (e : Reading). RootFits tree e.world page.height (apart e) b (f e)) in
+    let asks = (λ (e : Reading). RootFits tree e.world (apart e) b (f e)) in
     let left = c.zero-left.ensures in
     let band = c.content_between-band.ensures in
     let top = c.content_top-top.ensures in
@@ -50,14 +50,14 @@ returns-clause-cause g c =
     let six = more five inside.goes inside.cause (λ a. (
       a.0,
       λ e o.
-          content-moved tree e.world page.height (apart e) b (band_at at c.content_between-band.result e) (content_from (pos 0) (f e).x) (at c.content_top-top.result e) (content_top (f e)) (context_at at c.fresh-context.result e) (fresh (content_top (f e)))
+          content-moved tree e.world (apart e) b (band_at at c.content_between-band.result e) (content_from (pos 0) (f e).x) (at c.content_top-top.result e) (content_top (f e)) (context_at at c.fresh-context.result e) (fresh (content_top (f e)))
           (band-is e o) (top-is e o) (own-is e o) (a.1 e o).inside,
     )) in
     let end-is = (λ (e : Reading) (o : IsTrue ((g.S.Steady.run c.content.new.calc).is_open e)).
     inside.context e o
-    ∙ end-moved tree e.world page.height (apart e) b (band_at at c.content_between-band.result e) (content_from (pos 0) (f e).x) (at c.content_top-top.result e) (content_top (f e)) (context_at at c.fresh-context.result e) (fresh (content_top (f e)))
+    ∙ end-moved tree e.world (apart e) b (band_at at c.content_between-band.result e) (content_from (pos 0) (f e).x) (at c.content_top-top.result e) (content_top (f e)) (context_at at c.fresh-context.result e) (fresh (content_top (f e)))
     (band-is e (inside.goes.closes e o)) (top-is e (inside.goes.closes e o)) (own-is e (inside.goes.closes e o))) in
     let seven = more_at six placed.goes placed.cause (λ a e o.
     let x = a e o in (x.own_height, (x.frame, subst IsContextLow (sym (end-is e o)) x.end))) in
     (more_at seven size.goes size.cause (λ a e o.
-    subst (λ (p : Placed ℤ). IsQuadIn near p.margin) (sym (placed.value e o ∙ ap (root_of tree e.world page.height b (f e)) (end-is e (placed.goes.closes e o)))) (a e o).margin)).cause
+    subst (λ (p : Placed ℤ). IsQuadIn near p.margin) (sym (placed.value e o ∙ ap (root_of tree e.world b (f e)) (end-is e (placed.goes.closes e o)))) (a e o).margin)).cause

@@ -20,10 +20,10 @@ returns-clause-cause g c =
     let b = c.args.b in
     let frame = (λ (e : Reading). frame_at at c.args.shape.now e) in
     let room = (λ (e : Reading). at c.args.room.now e) in
-    let tall = (λ (e : Reading). (replaced_size tree e.world c.args.page.now.height b (room e)).height) in
+    let tall = (λ (e : Reading). (replaced_size tree e.world b (room e)).height) in
     let placed = c.replaced_box-placed.ensures in
     let size = c.outer_extent-size.ensures in
-    let one = start_but_mem {asks = λ (e : Reading). IsReplacedFit tree e.world c.args.page.now.height b (room e) × IsFrameLow (frame e)} placed.goes (but_mem placed.cause) (λ f. f) in
+    let one = start_but_mem {asks = λ (e : Reading). IsReplacedFit tree e.world b (room e) × IsFrameLow (frame e)} placed.goes (but_mem placed.cause) (λ f. f) in
     let two = next_but_mem one size.goes (but_mem size.cause) (λ f e o.
     let a = f e o in
     subst (λ (p : Placed ℤ). IsQuadIn near p.margin) (sym (placed.value e o)) (margin-near (frame e) (tall e) a.1 (wider (2 ^ 90) (2 ^ 94) (tall e) a.0.tall (omega arith)) tree b)) in

@@ -33,7 +33,7 @@ returns-in-Block-clause-cause g c =
     let placed : placing_of tree b ≡ block_flow = grind arith in
     let cause = c.block.ensures.cause in
     record {
-      coeff = λ f. cause.coeff (λ e o. subst (λ p. WidthsFit (in_block tree e.world c.args.height b (at c.args.room.now e)) p (preferred tree e.world b)) placed (f.1 e o).across);
+      coeff = λ f. cause.coeff (λ e o. subst (λ p. WidthsFit (in_block tree e.world b (at c.args.room.now e)) p (preferred tree e.world b)) placed (f.1 e o).across);
       opens = cause.opens;
     }
 
@@ -45,7 +45,7 @@ returns-in-ReplacedBlock-clause-cause g c =
     let placed : placing_of tree b ≡ replaced_block = grind arith in
     let cause = c.replaced_block.ensures.cause in
     record {
-      coeff = λ f. cause.coeff (λ e o. subst (λ p. WidthsFit (in_block tree e.world c.args.height b (at c.args.room.now e)) p (preferred tree e.world b)) placed (f.1 e o).across);
+      coeff = λ f. cause.coeff (λ e o. subst (λ p. WidthsFit (in_block tree e.world b (at c.args.room.now e)) p (preferred tree e.world b)) placed (f.1 e o).across);
       opens = cause.opens;
     }
 
@@ -57,7 +57,7 @@ returns-in-ReplacedShrunk-clause-cause g c =
     let placed : placing_of tree b ≡ replaced_shrunk = grind arith in
     let cause = c.replaced_shrunk.ensures.cause in
     record {
-      coeff = λ f. cause.coeff (λ e o. subst (λ p. WidthsFit (in_block tree e.world c.args.height b (at c.args.room.now e)) p (preferred tree e.world b)) placed (f.1 e o).across);
+      coeff = λ f. cause.coeff (λ e o. subst (λ p. WidthsFit (in_block tree e.world b (at c.args.room.now e)) p (preferred tree e.world b)) placed (f.1 e o).across);
       opens = cause.opens;
     }
 
@@ -69,8 +69,8 @@ returns-in-Shrunk-clause-cause g c =
     let b = c.args.b in
     let placed : placing_of tree b ≡ shrunk = grind arith in
     let both = c.preferred-both.ensures in
-    let All = BoxesFit tree (run c.args.calc.now).is_open × ((e : Reading) → IsTrue ((run c.args.calc.now).is_open e) → IsShapeFit tree e.world c.args.height b (at c.args.room.now e)) in
+    let All = BoxesFit tree (run c.args.calc.now).is_open × ((e : Reading) → IsTrue ((run c.args.calc.now).is_open e) → IsShapeFit tree e.world b (at c.args.room.now e)) in
     let one = first {more = All} both.goes both.cause (λ f. f.0) in
     (then one c.shrunk.ensures.goes (but_mem c.shrunk.ensures.cause) (λ so_far f e o.
     subst (λ p. ShrunkFits tree e.world b (at c.args.room.now e) p) (sym (both.value e o))
-    (subst (λ p. WidthsFit (in_block tree e.world c.args.height b (at c.args.room.now e)) p (preferred tree e.world b)) placed (f.1 e (so_far.closes e o)).across))).cause
+    (subst (λ p. WidthsFit (in_block tree e.world b (at c.args.room.now e)) p (preferred tree e.world b)) placed (f.1 e (so_far.closes e o)).across))).cause

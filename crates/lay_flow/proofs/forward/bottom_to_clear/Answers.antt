@@ -13,7 +13,7 @@ use Rattle.flow_steps.specs.Forward.{bottom_to_clear}
 use Rattle.lay_trial.specs.Trials.{Tried}
 use Rattle.lay_trial.proofs.Same.{tried-same}
 use Rattle.lay_flow.specs.Readings.{apart_at}
-use Rattle.lay_flow.specs.Tries.{first_trial, other_trials, TrialFits}
+use Rattle.lay_flow.specs.Tries.{other_trials, TrialFits}
 use Rattle.lay_flow.specs.WayFits.{WaitingFits}
 use Rattle.lay_flow.specs.Ways.{ground_at}
 use Rattle.lay_flow.proofs.TriesLow.{first-fits, one-fits}

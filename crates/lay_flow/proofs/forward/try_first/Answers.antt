@@ -1,4 +1,4 @@
-use Rattle.std.proofs.Common.{ℤ, List, [], ◌∷◌, ap, sym, subst, ◌∙◌}
+use Rattle.std.proofs.Common.{ℤ, [], ◌∷◌, ap, sym, subst, ◌∙◌}
 use Rattle.viz_base.specs.declared.layouts.Extent.{Extent}
 use Rattle.viz_calc.specs.World.{Reading}
 use Rattle.viz_calc.specs.Renderings.{band_at}

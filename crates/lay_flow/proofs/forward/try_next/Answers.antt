@@ -1,10 +1,10 @@
-use Rattle.std.proofs.Common.{ℤ, List, [], ◌∷◌, ap, sym, subst, ◌∙◌}
+use Rattle.std.proofs.Common.{ℤ, [], ◌∷◌, ap, sym, subst, ◌∙◌}
 use Rattle.viz_base.specs.declared.layouts.Extent.{Extent}
 use Rattle.viz_calc.specs.World.{Reading}
 use Rattle.viz_calc.specs.Renderings.{band_at}
 use Rattle.layout_semantics.specs.Floats.{Floating, floating}
 use Rattle.lay_float.specs.Limits.{AreHalf}
-use Rattle.lay_float.specs.Readings.{extent_at, floats_at, option_at}
+use Rattle.lay_float.specs.Readings.{floats_at, option_at}
 use Rattle.lay_line.proofs.Chains.{but_mem, start_but_mem, next_but_mem}
 use Rattle.lay_margin.specs.Readings.{waiting_at as waiting_in}
 use Rattle.flow_limits.specs.Bounds.{levels_of}

@@ -1,4 +1,4 @@
-use Rattle.std.proofs.Common.{◌≡◌, ℕ, ◌<◌, ◌+◌, List, [], ◌∷◌, drop, get_or, length, IsTrue, ap, sym, subst, ◌∙◌}
+use Rattle.std.proofs.Common.{◌≡◌, ℕ, ◌<◌, ◌+◌, List, ◌∷◌, drop, get_or, length, ap, sym, subst, ◌∙◌}
 use Rattle.std.proofs.lemmas.List.{drop_more}
 use Rattle.viz_calc.specs.World.{Reading}
 use Rattle.viz_calc.proofs.Runs.{Goes-then, BlamesButMem-then}
@@ -6,7 +6,7 @@ use Rattle.lay_float.proofs.Loops.{goes-on}
 use Rattle.lay_margin.specs.Readings.{floats_at as waiting_at, waiting_at as waiting_in}
 use Rattle.lay_trial.specs.Readings.{trial_at}
 use Rattle.lay_trial.specs.Trials.{Tried}
-use Rattle.lay_flow.specs.Tries.{next_trial, other_trials, TrialFits}
+use Rattle.lay_flow.specs.Tries.{other_trials, TrialFits}
 use Rattle.lay_flow.specs.Ways.{ground_at}
 use Rattle.lay_flow.proofs.TriesLow.{next-fits, one-fits}
 use Rattle.lay_flow.proofs.forward.try_others.Goals as goal

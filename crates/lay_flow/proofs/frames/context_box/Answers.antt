@@ -17,11 +17,10 @@ returns-clause-cause g c =
     let at = g.S.Steady.at in
     let run = g.S.Steady.run in
     let tree = c.args.page.now.tree.now in
-    let height = c.args.page.now.height in
     let b = c.args.b in
     let frame = (λ (e : Reading). frame_at at c.args.shape.now e) in
     let end = (λ (e : Reading). context_at at c.args.end.now e) in
-    let asks = (λ (e : Reading). IsHeightFit tree e.world height b × (IsFrameLow (frame e) × IsContextLow (end e))) in
+    let asks = (λ (e : Reading). IsHeightFit tree e.world b × (IsFrameLow (frame e) × IsContextLow (end e))) in
     let known = c.known_height.ensures in
     let one = start {asks = asks} known.goes known.cause (λ f e o. (f e o).0) in
     let two : Chain (run c.args.calc.now) (run c.match-known_height.calc) asks = elim c.match-known_height.branch [
@@ -30,16 +29,16 @@ returns-clause-cause g c =
           rw w.calc-is (next (next one w.content_top-top.ensures.goes w.content_top-top.ensures.cause (λ f e o. top-fits (frame e) (f e o).1.0)) w.context_height-height.ensures.goes w.context_height-height.ensures.cause (λ f e o.
           (subst IsNear (sym (w.content_top-top.ensures.value e o)) (top-near (frame e) (f e o).1.0), (f e o).1.1)))
     ] in
-    let tall : (e : Reading) → IsTrue ((run c.match-known_height.calc).is_open e) → asks e → IsSmall (2 ^ 94) (held_height tree e.world height b (at c.match-known_height.height e)) = λ e o a. elim c.match-known_height.branch [
+    let tall : (e : Reading) → IsTrue ((run c.match-known_height.calc).is_open e) → asks e → IsSmall (2 ^ 94) (held_height tree e.world b (at c.match-known_height.height e)) = λ e o a. elim c.match-known_height.branch [
       | in-Some w ↦
           let o1 = rw w.calc-is at o in
-          rw w.height-is (known-tall tree e.world height b (at w.in-Some.height e) a.0 (sym (known.value e o1) ∙ ap (λ r. option_at at r e) w.in-Some.is))
+          rw w.height-is (known-tall tree e.world b (at w.in-Some.height e) a.0 (sym (known.value e o1) ∙ ap (λ r. option_at at r e) w.in-Some.is))
       | in-None w ↦
           let o3 = rw w.calc-is at o in
           let o2 = w.context_height-height.ensures.goes.closes e o3 in
           let o1 = w.content_top-top.ensures.goes.closes e o2 in
           let top = subst (IsSmall (2 ^ 92)) (sym (w.content_top-top.ensures.value e o2)) (top-small (frame e) a.1.0) in
-          rw w.height-is (content-tall tree e.world height b (at w.context_height-height.result e) a.0 (sym (known.value e o1) ∙ ap (λ r. option_at at r e) w.in-None.is)
+          rw w.height-is (content-tall tree e.world b (at w.context_height-height.result e) a.0 (sym (known.value e o1) ∙ ap (λ r. option_at at r e) w.in-None.is)
           (subst (IsSmall (2 ^ 94)) (sym (w.context_height-height.ensures.value e o3)) (tall-small (2 ^ 92) (2 ^ 94) (at w.content_top-top.result e) (end e) top a.1.1 (omega arith))))
     ] in
     let three = next two c.held-height.ensures.goes c.held-height.ensures.cause (λ f e o. (f e o).0) in

@@ -16,9 +16,9 @@ returns-clause-cause g c =
     let tree = c.args.page.now.tree.now in
     let frame = (λ (e : Reading). frame_at at c.args.shape.now e) in
     let room = (λ (e : Reading). at c.args.room.now e) in
-    let tall = (λ (e : Reading). (replaced_size tree e.world c.args.page.now.height c.args.b (room e)).height) in
+    let tall = (λ (e : Reading). (replaced_size tree e.world c.args.b (room e)).height) in
     let height = c.replaced_height-height.ensures in
-    let one = start {asks = λ (e : Reading). IsReplacedFit tree e.world c.args.page.now.height c.args.b (room e) × IsFrameLow (frame e)} height.goes height.cause (λ f e o. (f e o).0) in
+    let one = start {asks = λ (e : Reading). IsReplacedFit tree e.world c.args.b (room e) × IsFrameLow (frame e)} height.goes height.cause (λ f e o. (f e o).0) in
     (next one c.place.ensures.goes c.place.ensures.cause (λ f e o.
     let a = f e o in
     subst (λ (h : ℤ). PlaceFits (frame e) h) (sym (height.value e o)) (place-fits (frame e) (tall e) a.1 (wider (2 ^ 90) (2 ^ 94) (tall e) a.0.tall (omega arith))))).cause

@@ -22,4 +22,4 @@ returns-in-Ok-clause-value c =
 pub returns-in-Ok-clause-low : goal.returns-in-Ok-clause-low
 returns-in-Ok-clause-low c =
     subst (λ (r : Rendering ℤ). AllByRecursion (IsPlacedIn (all_around (2 ^ 70))) r.boxes) (sym (returns-in-Ok-clause-value c))
-    (coordinates-small c.args.tree.now c.args.world c.args.height c.requires.small c.requires.few_characters c.requires.narrow c.requires.sized c.requires.low)
+    (coordinates-small c.args.tree.now c.args.world c.requires.small c.requires.few_characters c.requires.narrow c.requires.sized c.requires.low)

@@ -22,25 +22,23 @@ pub returns-in-Some-clause-cause : goal.returns-in-Some-clause-cause
 returns-in-Some-clause-cause g c =
     let at = g.S.Steady.at in
     let tree = c.args.page.now.tree.now in
-    let height = c.args.page.now.height in
     let b = c.args.b in
     let whole = c.definite_height.ensures in
     let from = c.from.ensures in
     let same : suc b ≡ c.from.result + 1 = omega (arith, from) in
-    let asks = (λ (e : Reading). OwnFits tree e.world height b c.args.length.now) in
-    let one = start {asks = asks} whole.goes whole.cause (λ f e o. subst (λ n. DefiniteFits_to n tree e.world height b) same (f e o).0) in
+    let asks = (λ (e : Reading). OwnFits tree e.world b c.args.length.now) in
+    let one = start {asks = asks} whole.goes whole.cause (λ f e o. subst (λ n. DefiniteFits_to n tree e.world b) same (f e o).0) in
     (next one c.percentage.ensures.goes c.percentage.ensures.cause (λ f e o.
     let fits = (f e o).1 in
-    let known : definite_height tree e.world height b ≡ Some (at c.in-Some.whole e) =
-    ap (λ n. definite_height_to n tree e.world height b) same ∙ sym (whole.value e o) ∙ ap (λ r. option_at at r e) c.in-Some.is in
+    let known : definite_height tree e.world b ≡ Some (at c.in-Some.whole e) =
+    ap (λ n. definite_height_to n tree e.world b) same ∙ sym (whole.value e o) ∙ ap (λ r. option_at at r e) c.in-Some.is in
     let part : FitsSigned w64 c.in-Pct.part = search rules in
-    rw to_z-of_z (part-fits tree e.world c.args.length.now c.in-Pct.part (definite_height tree e.world height b) (at c.in-Some.whole e) c.in-Pct.is known fits))).cause
+    rw to_z-of_z (part-fits tree e.world c.args.length.now c.in-Pct.part (definite_height tree e.world b) (at c.in-Some.whole e) c.in-Pct.is known fits))).cause
 
 pub returns-in-None-clause-cause : goal.returns-in-None-clause-cause
 returns-in-None-clause-cause g c =
     let tree = c.args.page.now.tree.now in
-    let height = c.args.page.now.height in
     let b = c.args.b in
     let from = c.from.ensures in
     let same : suc b ≡ c.from.result + 1 = omega (arith, from) in
-    (start {asks = λ (e : Reading). OwnFits tree e.world height b c.args.length.now} c.definite_height.ensures.goes c.definite_height.ensures.cause (λ f e o. subst (λ n. DefiniteFits_to n tree e.world height b) same (f e o).0)).cause
+    (start {asks = λ (e : Reading). OwnFits tree e.world b c.args.length.now} c.definite_height.ensures.goes c.definite_height.ensures.cause (λ f e o. subst (λ n. DefiniteFits_to n tree e.world b) same (f e o).0)).cause

@@ -12,16 +12,15 @@ returns-clause-cause g c =
     let at = g.S.Steady.at in
     let run = g.S.Steady.run in
     let tree = c.args.page.now.tree.now in
-    let height = c.args.page.now.height in
     let b = c.args.b in
     let room = (λ (e : Reading). at c.args.room.now e) in
-    let asks = (λ (e : Reading). IsReplacedFit tree e.world height b (room e)) in
+    let asks = (λ (e : Reading). IsReplacedFit tree e.world b (room e)) in
     let one = start {asks = asks} c.known_height.ensures.goes c.known_height.ensures.cause (λ f e o. (f e o).own) in
     let two : Chain (run c.args.calc.now) (run c.match-known_height.calc) asks = elim c.match-known_height.branch [
       | in-Some w ↦ rw w.calc-is one
       | in-None w ↦
           rw w.calc-is (next (next one w.width-width.ensures.goes w.width-width.ensures.cause (λ f e o. (f e o).width)) w.by_ratio-height.ensures.goes w.by_ratio-height.ensures.cause (λ f e o.
           subst (λ z. AllSmall (by_ratio z w.intrinsic-size.result.0 w.intrinsic-size.result.1 ∷ [])) (sym (w.width-width.ensures.value e o))
-          (subst (λ (s : ℕ × ℕ). AllSmall (by_ratio (replaced_size tree e.world height b (room e)).width s.0 s.1 ∷ [])) (sym w.intrinsic-size.ensures) (f e o).ratio)))
+          (subst (λ (s : ℕ × ℕ). AllSmall (by_ratio (replaced_size tree e.world b (room e)).width s.0 s.1 ∷ [])) (sym w.intrinsic-size.ensures) (f e o).ratio)))
     ] in
     (next two c.held.ensures.goes c.held.ensures.cause (λ f e o. (f e o).own)).cause

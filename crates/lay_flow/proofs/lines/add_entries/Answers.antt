@@ -1,4 +1,4 @@
-use Rattle.std.proofs.Common.{◌≡◌, List, [], ◌∷◌, ◌++◌, flat_map, length, refl, ap, sym, subst, inl, arith, ◌∙◌}
+use Rattle.std.proofs.Common.{◌≡◌, ◌++◌, flat_map, refl, ap, sym, subst, inl, arith, ◌∙◌}
 use Rattle.std.specs.List.{AllByRecursion}
 use Rattle.std.proofs.lemmas.List.{nil_from_length}
 use Rattle.viz_calc.specs.World.{Reading}

@@ -18,7 +18,7 @@ returns-clause-value g c = λ e o.
     let tree = c.args.tree.now in
     let levels : c.from.result + 1 ≡ suc c.args.k = grind arith in
     let same : c.as_slice.result.now ≡ c.args.table.now.places.items = grind arith in
-    box-added at e tree e.world c.args.height c.args.table.now.places.items c.keep.new.table.places.items c.as_slice.result.now c.args.k (c.from.result + 1) c.alone-laid.result (at c.room-room.result e)
+    box-added at e tree e.world c.args.table.now.places.items c.keep.new.table.places.items c.as_slice.result.now c.args.k (c.from.result + 1) c.alone-laid.result (at c.room-room.result e)
     c.keep.ensures same (c.alone-laid.ensures.value e o) levels (c.room-room.ensures.value e (c.alone-laid.ensures.goes.closes e o))
 
 pub returns-clause-cause : goal.returns-clause-cause
@@ -28,7 +28,7 @@ returns-clause-cause g c =
     let tree = c.args.tree.now in
     let k = c.args.k in
     let table = (λ (e : Reading). table_at at c.args.table.now.places.items e) in
-    let asks = (λ (e : Reading). BoxAddedFits tree e.world c.args.height (table e) k) in
+    let asks = (λ (e : Reading). BoxAddedFits tree e.world (table e) k) in
     let levels : c.from.result + 1 ≡ suc k = grind arith in
     let same : c.as_slice.result.now ≡ c.args.table.now.places.items = grind arith in
     let wide = c.room-room.ensures in
@@ -36,11 +36,11 @@ returns-clause-cause g c =
     let one = first {tree = tree} {asks = asks} wide.goes wide.cause (λ a. (
       a.0,
       λ e o.
-          subst (λ (n : ℕ). RoomFits tree e.world c.args.height n k) (sym levels) (a.1 e o).around,
+          subst (λ (n : ℕ). RoomFits tree e.world n k) (sym levels) (a.1 e o).around,
     )) in
     (more one laid.goes laid.cause (λ a. (
       a.0,
       λ e o.
-          subst (λ (z : ℤ). AloneFits tree e.world c.args.height (laid_at (table_at at c.as_slice.result.now e)) k z) (sym (wide.value e o ∙ ap (λ (n : ℕ). room_to n tree e.world c.args.height k) levels))
-          (subst (λ t. AloneFits tree e.world c.args.height (laid_at (table_at at t e)) k (room_to (suc k) tree e.world c.args.height k)) (sym same) (a.1 e o).own),
+          subst (λ (z : ℤ). AloneFits tree e.world (laid_at (table_at at c.as_slice.result.now e)) k z) (sym (wide.value e o ∙ ap (λ (n : ℕ). room_to n tree e.world k) levels))
+          (subst (λ t. AloneFits tree e.world (laid_at (table_at at t e)) k (room_to (suc k) tree e.world k)) (sym same) (a.1 e o).own),
     ))).cause

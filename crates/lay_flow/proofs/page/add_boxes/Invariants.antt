@@ -18,10 +18,10 @@ invariant-loop-k g l =
       found : AreFound at (run l.calc) l.tree l.found.widths.items;
       within : AllByRecursion (λ (k : ℕ). k < length l.tree.boxes) (drop l.k-index l.boxes);
       value : (e : Reading) → IsTrue ((run l.calc).is_open e)
-          → with_boxes l.tree e.world l.height (table_at at l.table.places.items e) (drop l.k-index l.boxes)
-          ≡ with_boxes l.tree e.world l.height (table_at at l.initial.table.places.items e) l.boxes;
-      left : ((e : Reading) → IsTrue ((run l.initial.calc).is_open e) → BoxesAddedFit l.tree e.world l.height (table_at at l.initial.table.places.items e) l.boxes)
-          → (e : Reading) → IsTrue ((run l.calc).is_open e) → BoxesAddedFit l.tree e.world l.height (table_at at l.table.places.items e) (drop l.k-index l.boxes);
+          → with_boxes l.tree e.world (table_at at l.table.places.items e) (drop l.k-index l.boxes)
+          ≡ with_boxes l.tree e.world (table_at at l.initial.table.places.items e) l.boxes;
+      left : ((e : Reading) → IsTrue ((run l.initial.calc).is_open e) → BoxesAddedFit l.tree e.world (table_at at l.initial.table.places.items e) l.boxes)
+          → (e : Reading) → IsTrue ((run l.calc).is_open e) → BoxesAddedFit l.tree e.world (table_at at l.table.places.items e) (drop l.k-index l.boxes);
       cause : BlamesButMem (run l.initial.calc) (run l.calc) (AllFit l.tree (run l.initial.calc).is_open
-          (λ (e : Reading). BoxesAddedFit l.tree e.world l.height (table_at at l.initial.table.places.items e) l.boxes));
+          (λ (e : Reading). BoxesAddedFit l.tree e.world (table_at at l.initial.table.places.items e) l.boxes));
     }

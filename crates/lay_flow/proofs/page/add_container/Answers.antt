@@ -25,11 +25,11 @@ returns-in-Ok-clause-cause g c =
     let at = g.S.Steady.at in
     let tree = c.args.tree.now in
     let table = (λ (e : Reading). table_at at c.args.table.now.places.items e) in
-    let asks = (λ (e : Reading). ContainerFits tree e.world c.args.height (table e) c.args.b) in
+    let asks = (λ (e : Reading). ContainerFits tree e.world (table e) c.args.b) in
     let items : c.as_slice.result.now ≡ outside_of tree c.args.b = grind arith in
     let block : is_inline (kind_of tree c.args.b) ≡ false = grind arith in
     (first {tree = tree} {asks = asks} c.add_boxes.ensures.goes c.add_boxes.ensures.cause (λ a. (
       a.0,
       λ e o.
-          subst (λ (ks : List ℕ). BoxesAddedFit tree e.world c.args.height (table e) ks) (sym items) (a.1 e o block),
+          subst (λ (ks : List ℕ). BoxesAddedFit tree e.world (table e) ks) (sym items) (a.1 e o block),
     ))).cause

@@ -24,7 +24,7 @@ pub returns-then-is_empty-clause-value : goal.returns-then-is_empty-clause-value
 returns-then-is_empty-clause-value g c = λ e o.
     let at = g.S.Steady.at in
     let bare : c.args.tree.now.boxes ≡ [] = grind arith in
-    ap (λ (l : List (Placed g.row.S-Num.Denot)). boxes_at at l e) c.new.ensures.items ∙ no_boxes at e ∙ no-boxes c.args.tree.now e.world c.args.height bare
+    ap (λ (l : List (Placed g.row.S-Num.Denot)). boxes_at at l e) c.new.ensures.items ∙ no_boxes at e ∙ no-boxes c.args.tree.now e.world bare
 
 pub alone-requires-clause-found : goal.alone-requires-clause-found
 alone-requires-clause-found g c =
@@ -42,7 +42,7 @@ returns-clause-value g c = λ e o.
     let o1 = c.alone.ensures.goes.closes e o in
     let some = some-boxes c.is_empty.result tree.boxes c.is_empty.ensures c.if-is_empty.false in
     let same : c.as_slice.result.now ≡ places = grind arith in
-    page-laid at e tree e.world c.args.height c.as_slice.result.now places c.alone.result (at c.width-room.result e) some same (c.alone.ensures.value e o) (c.width-room.ensures.value e o1)
+    page-laid at e tree e.world c.as_slice.result.now places c.alone.result (at c.width-room.result e) some same (c.alone.ensures.value e o) (c.width-room.ensures.value e o1)
     (c.outside_flow-table.ensures.value e (c.width-room.ensures.goes.closes e o1))
 
 pub returns-clause-cause : goal.returns-clause-cause
@@ -50,10 +50,9 @@ unfolding apart_at
 returns-clause-cause g c =
     let at = g.S.Steady.at in
     let tree = c.args.tree.now in
-    let height = c.args.height in
     let some = some-boxes c.is_empty.result tree.boxes c.is_empty.ensures c.if-is_empty.false in
     let same : c.as_slice.result.now ≡ c.outside_flow-table.result.places.items = grind arith in
-    let asks = (λ (e : Reading). PageComesFit tree e.world height) in
+    let asks = (λ (e : Reading). PageComesFit tree e.world) in
     let found = c.nothing_found-found.ensures in
     let table = c.outside_flow-table.ensures in
     let wide = c.width-room.ensures in
@@ -64,7 +63,7 @@ returns-clause-cause g c =
     (more three laid.goes laid.cause (λ a. (
       a.0,
       λ e o.
-          subst (λ (z : ℤ). AloneFits tree e.world height (laid_at (table_at at c.as_slice.result.now e)) 0 z) (sym (wide.value e o))
-          (subst (λ t. AloneFits tree e.world height (laid_at (table_at at t e)) 0 (pos (64 * e.world.w))) (sym same)
-          (subst (λ (t : List (Option Alone)). AloneFits tree e.world height (laid_at t) 0 (pos (64 * e.world.w))) (sym (table.value e (wide.goes.closes e o))) ((a.1 e o).root some))),
+          subst (λ (z : ℤ). AloneFits tree e.world (laid_at (table_at at c.as_slice.result.now e)) 0 z) (sym (wide.value e o))
+          (subst (λ t. AloneFits tree e.world (laid_at (table_at at t e)) 0 (pos (64 * e.world.w))) (sym same)
+          (subst (λ (t : List (Option Alone)). AloneFits tree e.world (laid_at t) 0 (pos (64 * e.world.w))) (sym (table.value e (wide.goes.closes e o))) ((a.1 e o).root some))),
     ))).cause

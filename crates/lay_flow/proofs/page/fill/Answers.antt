@@ -10,7 +10,7 @@ pub loop-done-init : goal.loop-done-init
 loop-done-init g c = record {
   goes = record { closes = λ e o. o; reached = λ e o. o; lean = refl; coeffs = omega arith; opens = omega arith; kept = refl; lender = refl };
   found = c.requires.found;
-  value = λ e o. table-none g.S.Steady.at e _ _ c.requires.empty ∙ first-table c.args.tree.now e.world c.args.height;
+  value = λ e o. table-none g.S.Steady.at e _ _ c.requires.empty ∙ first-table c.args.tree.now e.world;
   cause = record { coeff = λ a h. inl h; opens = λ h. inl h };
 }
 
@@ -25,7 +25,7 @@ loop-done-preserved g c =
       found = added.found;
       value = λ e o.
           let last : c.args.count - 1 - c.loop-done.done ≡ length tree.boxes - suc c.loop-done.done = let all = c.requires.all in omega (arith, all) in
-          next-table tree e.world c.args.height (table_at at c.loop-done.table.places.items e) (table_at at c.add_container.new.table.places.items e) c.loop-done.done
+          next-table tree e.world (table_at at c.loop-done.table.places.items e) (table_at at c.add_container.new.table.places.items e) c.loop-done.done
           (c.args.count - 1 - c.loop-done.done) last (done.value e (added.goes.closes e o)) (added.value e o);
       cause =
           let within : c.loop-done.done < length tree.boxes = let all = c.requires.all in grind arith in
@@ -33,8 +33,8 @@ loop-done-preserved g c =
           BlamesButMem-then _ _ _ _ _ done.goes added.goes done.cause (λ a. (
             boxes-later tree _ _ done.goes a.0,
             λ e o.
-                subst (λ (n : ℕ). ContainerFits tree e.world c.args.height (table_at at c.loop-done.table.places.items e) n) (sym last)
-                (subst (λ t. ContainerFits tree e.world c.args.height t (length tree.boxes - suc c.loop-done.done)) (sym (done.value e o)) (a.1 e (done.goes.closes e o) c.loop-done.done within)),
+                subst (λ (n : ℕ). ContainerFits tree e.world (table_at at c.loop-done.table.places.items e) n) (sym last)
+                (subst (λ t. ContainerFits tree e.world t (length tree.boxes - suc c.loop-done.done)) (sym (done.value e o)) (a.1 e (done.goes.closes e o) c.loop-done.done within)),
           ))
           added.cause;
     }

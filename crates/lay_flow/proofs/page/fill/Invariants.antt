@@ -15,6 +15,6 @@ invariant-loop-done g l =
     record {
       goes : Goes (run l.initial.calc) (run l.calc);
       found : AreFound at (run l.calc) l.tree l.found.widths.items;
-      value : (e : Reading) → IsTrue ((run l.calc).is_open e) → table_at at l.table.places.items e ≡ table_to l.tree e.world l.height l.done;
-      cause : BlamesButMem (run l.initial.calc) (run l.calc) (AllFit l.tree (run l.initial.calc).is_open (λ (e : Reading). TableFits l.tree e.world l.height));
+      value : (e : Reading) → IsTrue ((run l.calc).is_open e) → table_at at l.table.places.items e ≡ table_to l.tree e.world l.done;
+      cause : BlamesButMem (run l.initial.calc) (run l.calc) (AllFit l.tree (run l.initial.calc).is_open (λ (e : Reading). TableFits l.tree e.world));
     }

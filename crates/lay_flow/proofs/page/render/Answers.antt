@@ -15,10 +15,10 @@ returns-clause-value g c = λ e o.
     ap (λ (l : List (Placed ℤ)). let r : Rendering ℤ = record { boxes = l } in r)
     (ap (map (λ p. placed_at at p e)) c.from-boxes.ensures
     ∙ c.boxes.ensures.value e o
-    ∙ sym (page-same c.args.tree.now e.world c.args.height))
+    ∙ sym (page-same c.args.tree.now e.world))
 
 pub returns-clause-cause : goal.returns-clause-cause
 returns-clause-cause g c =
     let run = g.S.Steady.run in
     let start = run c.args.calc.now in
-    ButMem-given start (run c.boxes.new.calc) _ _ (within-limits-fits c.args.tree.now c.args.height start.is_open) c.boxes.ensures.cause
+    ButMem-given start (run c.boxes.new.calc) _ _ (within-limits-fits c.args.tree.now start.is_open) c.boxes.ensures.cause

@@ -33,7 +33,7 @@ content-returns-then-has_line-clause-context g t c = λ e o.
     let page = c.args.page.now in
     let lines : has_line page.tree.now c.args.b ≡ true = grind arith in
     c.in_lines.ensures.context e o
-    ∙ ap (λ (x : Step). x.context) (by-lines page.tree.now e.world page.height (apart_at at page.apart.now e) c.args.b (band_at at c.args.cb.now e) (at c.args.top.now e) (context_at at c.args.context.now e) c.requires lines)
+    ∙ ap (λ (x : Step). x.context) (by-lines page.tree.now e.world (apart_at at page.apart.now e) c.args.b (band_at at c.args.cb.now e) (at c.args.top.now e) (context_at at c.args.context.now e) c.requires lines)
 
 pub content-returns-then-has_line-clause-boxes : goal.content-returns-then-has_line-clause-boxes
 content-returns-then-has_line-clause-boxes g t c = λ e o.
@@ -41,7 +41,7 @@ content-returns-then-has_line-clause-boxes g t c = λ e o.
     let page = c.args.page.now in
     let lines : has_line page.tree.now c.args.b ≡ true = grind arith in
     c.in_lines.ensures.boxes e o
-    ∙ ap (λ (x : Step). boxes_at at c.args.out.now.items e ++ x.boxes) (by-lines page.tree.now e.world page.height (apart_at at page.apart.now e) c.args.b (band_at at c.args.cb.now e) (at c.args.top.now e) (context_at at c.args.context.now e) c.requires lines)
+    ∙ ap (λ (x : Step). boxes_at at c.args.out.now.items e ++ x.boxes) (by-lines page.tree.now e.world (apart_at at page.apart.now e) c.args.b (band_at at c.args.cb.now e) (at c.args.top.now e) (context_at at c.args.context.now e) c.requires lines)
 
 pub content-returns-then-not-holds_inline-clause-context : goal.content-returns-then-not-holds_inline-clause-context
 content-returns-then-not-holds_inline-clause-context g t c = λ e o.
@@ -50,7 +50,7 @@ content-returns-then-not-holds_inline-clause-context g t c = λ e o.
     let lines : has_line page.tree.now c.args.b ≡ false = grind arith in
     let blocks : holds_inline page.tree.now c.args.b ≡ false = grind arith in
     c.children.ensures.context e o
-    ∙ ap (λ (x : Step). x.context) (by-children page.tree.now e.world page.height (apart_at at page.apart.now e) c.args.b (band_at at c.args.cb.now e) (at c.args.top.now e) (context_at at c.args.context.now e) c.requires
+    ∙ ap (λ (x : Step). x.context) (by-children page.tree.now e.world (apart_at at page.apart.now e) c.args.b (band_at at c.args.cb.now e) (at c.args.top.now e) (context_at at c.args.context.now e) c.requires
     c.kids_at.result.now lines (c.kids_at.ensures.value ∙ sym (flow-kids page.tree.now c.args.b blocks)))
 
 pub content-returns-then-not-holds_inline-clause-boxes : goal.content-returns-then-not-holds_inline-clause-boxes
@@ -60,7 +60,7 @@ content-returns-then-not-holds_inline-clause-boxes g t c = λ e o.
     let lines : has_line page.tree.now c.args.b ≡ false = grind arith in
     let blocks : holds_inline page.tree.now c.args.b ≡ false = grind arith in
     c.children.ensures.boxes e o
-    ∙ ap (λ (x : Step). boxes_at at c.args.out.now.items e ++ x.boxes) (by-children page.tree.now e.world page.height (apart_at at page.apart.now e) c.args.b (band_at at c.args.cb.now e) (at c.args.top.now e) (context_at at c.args.context.now e) c.requires
+    ∙ ap (λ (x : Step). boxes_at at c.args.out.now.items e ++ x.boxes) (by-children page.tree.now e.world (apart_at at page.apart.now e) c.args.b (band_at at c.args.cb.now e) (at c.args.top.now e) (context_at at c.args.context.now e) c.requires
     c.kids_at.result.now lines (c.kids_at.ensures.value ∙ sym (flow-kids page.tree.now c.args.b blocks)))
 
 pub content-returns-in-Ok-clause-context : goal.content-returns-in-Ok-clause-context
@@ -69,7 +69,7 @@ content-returns-in-Ok-clause-context g t c = λ e o.
     let page = c.args.page.now in
     let lines : has_line page.tree.now c.args.b ≡ false = grind arith in
     c.children-in-Ok.ensures.context e o
-    ∙ ap (λ (x : Step). x.context) (by-children page.tree.now e.world page.height (apart_at at page.apart.now e) c.args.b (band_at at c.args.cb.now e) (at c.args.top.now e) (context_at at c.args.context.now e) c.requires
+    ∙ ap (λ (x : Step). x.context) (by-children page.tree.now e.world (apart_at at page.apart.now e) c.args.b (band_at at c.args.cb.now e) (at c.args.top.now e) (context_at at c.args.context.now e) c.requires
     c.as_slice.result.now lines (c.as_slice.ensures.value ∙ c.in-Ok.ensures.value))
 
 pub content-returns-in-Ok-clause-boxes : goal.content-returns-in-Ok-clause-boxes
@@ -78,7 +78,7 @@ content-returns-in-Ok-clause-boxes g t c = λ e o.
     let page = c.args.page.now in
     let lines : has_line page.tree.now c.args.b ≡ false = grind arith in
     c.children-in-Ok.ensures.boxes e o
-    ∙ ap (λ (x : Step). boxes_at at c.args.out.now.items e ++ x.boxes) (by-children page.tree.now e.world page.height (apart_at at page.apart.now e) c.args.b (band_at at c.args.cb.now e) (at c.args.top.now e) (context_at at c.args.context.now e) c.requires
+    ∙ ap (λ (x : Step). boxes_at at c.args.out.now.items e ++ x.boxes) (by-children page.tree.now e.world (apart_at at page.apart.now e) c.args.b (band_at at c.args.cb.now e) (at c.args.top.now e) (context_at at c.args.context.now e) c.requires
     c.as_slice.result.now lines (c.as_slice.ensures.value ∙ c.in-Ok.ensures.value))
 
 pub flow-returns-clause-context : goal.flow-returns-clause-context
@@ -90,11 +90,11 @@ flow-returns-clause-context g t c = λ e o.
     let o3 = c.copy_standing-before.ensures.goes.closes e o2 in
     let is = c.replace-cleared.ensures.value in
     let after = c.replace-cleared.ensures.after in
-    flow-context page.tree.now e.world page.height (apart_at at page.apart.now e) (band_at at c.args.cb.now e) (context_at at c.args.context.now e) c.args.b
+    flow-context page.tree.now e.world (apart_at at page.apart.now e) (band_at at c.args.cb.now e) (context_at at c.args.context.now e) c.args.b
     (met_at at c.reach-met.result e) (laid_with at c.lay-laid.result c.lay-laid.new.context e) (standing_at at c.copy_standing-before.result e) (standing_at at c.standing_after.result e)
     (c.reach-met.ensures.value e o3)
     (c.lay-laid.ensures.value c.reach-met.result.reached.clears e o1
-    ∙ ap (λ x. without_boxes (laid_of page.tree.now e.world page.height (apart_at at page.apart.now e) (band_at at c.args.cb.now e) (context_at at c.args.context.now e) c.args.b
+    ∙ ap (λ x. without_boxes (laid_of page.tree.now e.world (apart_at at page.apart.now e) (band_at at c.args.cb.now e) (context_at at c.args.context.now e) c.args.b
     (record { top = at c.reach-met.result.reached.top e; clears = c.reach-met.result.reached.clears; cleared = cleared_at at x e }))) is)
     (c.copy_standing-before.ensures.value e o2)
     (c.standing_after.ensures.value e o
@@ -114,8 +114,8 @@ lay_context-returns-clause-cause g t c =
     let s = (λ (e : Reading). context_at at c.args.context.now e) in
     let f = (λ (e : Reading). frame_at at c.args.shape.now e) in
     let apart = (λ (e : Reading). apart_at at page.apart.now e) in
-    let asks = (λ (e : Reading). WalkFits tree e.world page.height (apart e) (when_starting (cb e) (s e) b (f e))) in
-    let at_start = (λ (e : Reading) (w : asks e). start-walk tree e.world page.height (apart e) (cb e) (s e) b (f e) w) in
+    let asks = (λ (e : Reading). WalkFits tree e.world (apart e) (when_starting (cb e) (s e) b (f e))) in
+    let at_start = (λ (e : Reading) (w : asks e). start-walk tree e.world (apart e) (cb e) (s e) b (f e) w) in
     let band = c.content_between-band.ensures in
     let top = c.content_top-top.ensures in
     let own = c.fresh-own.ensures in
@@ -132,18 +132,18 @@ lay_context-returns-clause-cause g t c =
     let five = more four inside.goes inside.cause (λ a. (
       a.0,
       λ e o.
-          content-moved tree e.world page.height (apart e) b (band_at at c.content_between-band.result e) (content_from (cb e).left (f e).x) (at c.content_top-top.result e) (content_top (f e)) (context_at at c.fresh-own.result e) (fresh (content_top (f e)))
+          content-moved tree e.world (apart e) b (band_at at c.content_between-band.result e) (content_from (cb e).left (f e).x) (at c.content_top-top.result e) (content_top (f e)) (context_at at c.fresh-own.result e) (fresh (content_top (f e)))
           (band-is e o) (top-is e o) (own-is e o) (at_start e (a.1 e o)).around.inside,
     )) in
     let end-is = (λ (e : Reading) (o : IsTrue ((g.S.Steady.run c.content.new.calc).is_open e)).
     inside.context e o
-    ∙ end-moved tree e.world page.height (apart e) b (band_at at c.content_between-band.result e) (content_from (cb e).left (f e).x) (at c.content_top-top.result e) (content_top (f e)) (context_at at c.fresh-own.result e) (fresh (content_top (f e)))
+    ∙ end-moved tree e.world (apart e) b (band_at at c.content_between-band.result e) (content_from (cb e).left (f e).x) (at c.content_top-top.result e) (content_top (f e)) (context_at at c.fresh-own.result e) (fresh (content_top (f e)))
     (band-is e (inside.goes.closes e o)) (top-is e (inside.goes.closes e o)) (own-is e (inside.goes.closes e o))) in
     let six = more_at five placed.goes placed.cause (λ a e o.
     let x = (at_start e (a e o)).around in (x.own_height, (x.frame, subst IsContextLow (sym (end-is e o)) x.end))) in
     let bottom = c.copy-bottom.ensures in
     let seven = more_at six bottom.goes bottom.cause (λ a e o.
-    subst (λ (z : ℤ). AllSmall (z ∷ [])) (sym (ap (λ (p : Placed ℤ). p.border.bottom) (placed.value e o ∙ ap (root_of tree e.world page.height b (f e)) (end-is e (placed.goes.closes e o)))))
+    subst (λ (z : ℤ). AllSmall (z ∷ [])) (sym (ap (λ (p : Placed ℤ). p.border.bottom) (placed.value e o ∙ ap (root_of tree e.world b (f e)) (end-is e (placed.goes.closes e o)))))
     (level-fits _ (at_start e (a e o)).around.bottom_low)) in
     let left = c.leave.ensures in
     let eight = more_at seven left.goes left.cause (λ a e o. let x = at_start e (a e o) in (x.least, x.around.frame)) in
@@ -163,8 +163,8 @@ lay_block-returns-clause-cause g t c =
     let f = (λ (e : Reading). frame_at at c.args.shape.now e) in
     let ahead = (λ (e : Reading). cleared_at at c.args.cleared e) in
     let apart = (λ (e : Reading). apart_at at page.apart.now e) in
-    let asks = (λ (e : Reading). WalkFits tree e.world page.height (apart e) (when_going_on (cb e) (s e) b (ahead e) (f e))) in
-    let at_start = (λ (e : Reading) (w : asks e). go-on-walk tree e.world page.height (apart e) (cb e) (s e) b (ahead e) (f e) w) in
+    let asks = (λ (e : Reading). WalkFits tree e.world (apart e) (when_going_on (cb e) (s e) b (ahead e) (f e))) in
+    let at_start = (λ (e : Reading) (w : asks e). go-on-walk tree e.world (apart e) (cb e) (s e) b (ahead e) (f e) w) in
     let band = c.content_between-band.ensures in
     let top = c.content_top-top.ensures in
     let standing = c.standing_in-standing.ensures in
@@ -184,18 +184,18 @@ lay_block-returns-clause-cause g t c =
     let six = more five inside.goes inside.cause (λ a. (
       a.0,
       λ e o.
-          content-moved tree e.world page.height (apart e) b (band_at at c.content_between-band.result e) (content_from (cb e).left (f e).x) (at c.content_top-top.result e) (content_top (f e)) (context_at at c.open.new.context e) (inner e)
+          content-moved tree e.world (apart e) b (band_at at c.content_between-band.result e) (content_from (cb e).left (f e).x) (at c.content_top-top.result e) (content_top (f e)) (context_at at c.open.new.context e) (inner e)
           (band-is e o) (top-is e o) (inner-is e o) (at_start e (a.1 e o)).around.inside,
     )) in
     let end-is = (λ (e : Reading) (o : IsTrue ((g.S.Steady.run c.content.new.calc).is_open e)).
     inside.context e o
-    ∙ end-moved tree e.world page.height (apart e) b (band_at at c.content_between-band.result e) (content_from (cb e).left (f e).x) (at c.content_top-top.result e) (content_top (f e)) (context_at at c.open.new.context e) (inner e)
+    ∙ end-moved tree e.world (apart e) b (band_at at c.content_between-band.result e) (content_from (cb e).left (f e).x) (at c.content_top-top.result e) (content_top (f e)) (context_at at c.open.new.context e) (inner e)
     (band-is e (inside.goes.closes e o)) (top-is e (inside.goes.closes e o)) (inner-is e (inside.goes.closes e o))) in
     let end-low = (λ (e : Reading) (o : IsTrue ((g.S.Steady.run c.content.new.calc).is_open e)) (a : asks e). subst IsContextLow (sym (end-is e o)) (at_start e a).around.end) in
     let seven = more_at six placed.goes placed.cause (λ a e o. let x = (at_start e (a e o)).around in (x.own_height, (x.frame, end-low e o (a e o)))) in
     let bottom = c.copy-bottom.ensures in
     let eight = more_at seven bottom.goes bottom.cause (λ a e o.
-    subst (λ (z : ℤ). AllSmall (z ∷ [])) (sym (ap (λ (p : Placed ℤ). p.border.bottom) (placed.value e o ∙ ap (block_of tree e.world page.height b (f e)) (end-is e (placed.goes.closes e o)))))
+    subst (λ (z : ℤ). AllSmall (z ∷ [])) (sym (ap (λ (p : Placed ℤ). p.border.bottom) (placed.value e o ∙ ap (block_of tree e.world b (f e)) (end-is e (placed.goes.closes e o)))))
     (level-fits _ (at_start e (a e o)).around.bottom_low)) in
     let run = c.joined_run-run.ensures in
     let nine = more_at eight run.goes run.cause (λ a e o. (end-low e (placed.goes.closes e (bottom.goes.closes e o)) (a e o)).standing) in
@@ -213,8 +213,8 @@ lay-returns-then-is_replaced-clause-cause g t c =
     let y = (λ (e : Reading). at c.args.top.now e) in
     let ahead = (λ (e : Reading). cleared_at at c.args.cleared e) in
     let apart = (λ (e : Reading). apart_at at page.apart.now e) in
-    let asks = (λ (e : Reading). WalkFits tree e.world page.height (apart e) (when_reached (cb e) (s e) b (y e) (ahead e))) in
-    let at_start = (λ (e : Reading) (w : asks e). laid-walk tree e.world page.height (apart e) (cb e) (s e) b (y e) (ahead e) w) in
+    let asks = (λ (e : Reading). WalkFits tree e.world (apart e) (when_reached (cb e) (s e) b (y e) (ahead e))) in
+    let at_start = (λ (e : Reading) (w : asks e). laid-walk tree e.world (apart e) (cb e) (s e) b (y e) (ahead e) w) in
     let is : is_replaced_at tree b ≡ true = grind arith in
     let shape = c.shape-shape.ensures in
     let wide = c.across-room.ensures in
@@ -223,7 +223,7 @@ lay-returns-then-is_replaced-clause-cause g t c =
     let two = more_at one wide.goes wide.cause (λ a e o. across-fits (cb e) (at_start e (a e o)).band) in
     (more two placed.goes placed.cause (λ a e o.
     let x = at_start e (a.1 e o) in (
-      subst (λ (z : ℤ). IsReplacedFit tree e.world page.height b z) (sym (wide.value e o)) (x.replaced is),
+      subst (λ (z : ℤ). IsReplacedFit tree e.world b z) (sym (wide.value e o)) (x.replaced is),
       (x.least, subst IsFrameLow (sym (shape.value e (wide.goes.closes e o))) x.frame),
     ))).cause
 
@@ -238,8 +238,8 @@ lay-returns-then-starts_context-clause-cause g t c =
     let y = (λ (e : Reading). at c.args.top.now e) in
     let ahead = (λ (e : Reading). cleared_at at c.args.cleared e) in
     let apart = (λ (e : Reading). apart_at at page.apart.now e) in
-    let asks = (λ (e : Reading). WalkFits tree e.world page.height (apart e) (when_reached (cb e) (s e) b (y e) (ahead e))) in
-    let at_start = (λ (e : Reading) (w : asks e). laid-walk tree e.world page.height (apart e) (cb e) (s e) b (y e) (ahead e) w) in
+    let asks = (λ (e : Reading). WalkFits tree e.world (apart e) (when_reached (cb e) (s e) b (y e) (ahead e))) in
+    let at_start = (λ (e : Reading) (w : asks e). laid-walk tree e.world (apart e) (cb e) (s e) b (y e) (ahead e) w) in
     let not : is_replaced_at tree b ≡ false = grind arith in
     let is : is_context_root tree b ≡ true = grind arith in
     let shape = c.shape-shape.ensures in
@@ -248,7 +248,7 @@ lay-returns-then-starts_context-clause-cause g t c =
     (more one inside.goes inside.cause (λ a. (
       a.0,
       λ e o.
-          subst (λ (f : Frame). WalkFits tree e.world page.height (apart e) (when_starting (cb e) (s e) b f)) (sym (shape.value e o)) ((at_start e (a.1 e o)).root not is),
+          subst (λ (f : Frame). WalkFits tree e.world (apart e) (when_starting (cb e) (s e) b f)) (sym (shape.value e o)) ((at_start e (a.1 e o)).root not is),
     ))).cause
 
 pub lay-returns-clause-cause : goal.lay-returns-clause-cause
@@ -262,8 +262,8 @@ lay-returns-clause-cause g t c =
     let y = (λ (e : Reading). at c.args.top.now e) in
     let ahead = (λ (e : Reading). cleared_at at c.args.cleared e) in
     let apart = (λ (e : Reading). apart_at at page.apart.now e) in
-    let asks = (λ (e : Reading). WalkFits tree e.world page.height (apart e) (when_reached (cb e) (s e) b (y e) (ahead e))) in
-    let at_start = (λ (e : Reading) (w : asks e). laid-walk tree e.world page.height (apart e) (cb e) (s e) b (y e) (ahead e) w) in
+    let asks = (λ (e : Reading). WalkFits tree e.world (apart e) (when_reached (cb e) (s e) b (y e) (ahead e))) in
+    let at_start = (λ (e : Reading) (w : asks e). laid-walk tree e.world (apart e) (cb e) (s e) b (y e) (ahead e) w) in
     let not : is_replaced_at tree b ≡ false = grind arith in
     let is : is_context_root tree b ≡ false = grind arith in
     let shape = c.shape-shape.ensures in
@@ -272,7 +272,7 @@ lay-returns-clause-cause g t c =
     (more one inside.goes inside.cause (λ a. (
       a.0,
       λ e o.
-          subst (λ (f : Frame). WalkFits tree e.world page.height (apart e) (when_going_on (cb e) (s e) b (ahead e) f)) (sym (shape.value e o)) ((at_start e (a.1 e o)).block not is),
+          subst (λ (f : Frame). WalkFits tree e.world (apart e) (when_going_on (cb e) (s e) b (ahead e) f)) (sym (shape.value e o)) ((at_start e (a.1 e o)).block not is),
     ))).cause
 
 pub flow-returns-clause-cause : goal.flow-returns-clause-cause
@@ -284,8 +284,8 @@ flow-returns-clause-cause g t c =
     let cb = (λ (e : Reading). band_at at c.args.cb.now e) in
     let s = (λ (e : Reading). context_at at c.args.context.now e) in
     let apart = (λ (e : Reading). apart_at at page.apart.now e) in
-    let asks = (λ (e : Reading). WalkFits tree e.world page.height (apart e) (before_flow (cb e) (s e) b)) in
-    let at_start = (λ (e : Reading) (w : asks e). flow-walk tree e.world page.height (apart e) (cb e) (s e) b w) in
+    let asks = (λ (e : Reading). WalkFits tree e.world (apart e) (before_flow (cb e) (s e) b)) in
+    let at_start = (λ (e : Reading) (w : asks e). flow-walk tree e.world (apart e) (cb e) (s e) b w) in
     let met = c.reach-met.ensures in
     let before = c.copy_standing-before.ensures in
     let laid = c.lay-laid.ensures in
@@ -296,8 +296,8 @@ flow-returns-clause-cause g t c =
     let three = more two laid.goes laid.cause (λ a. (
       a.0,
       λ e o.
-          subst (λ (x : Cleared). WalkFits tree e.world page.height (apart e) (when_reached (cb e) (s e) b (at c.reach-met.result.reached.top e) x)) (sym (ap (λ x. cleared_at at x e) c.replace-cleared.ensures.value))
-          (subst (λ (x : Met). WalkFits tree e.world page.height (apart e) (when_reached (cb e) (s e) b x.reached.top x.reached.cleared)) (sym (met-is e o)) (at_start e (a.1 e o)).inside),
+          subst (λ (x : Cleared). WalkFits tree e.world (apart e) (when_reached (cb e) (s e) b (at c.reach-met.result.reached.top e) x)) (sym (ap (λ x. cleared_at at x e) c.replace-cleared.ensures.value))
+          (subst (λ (x : Met). WalkFits tree e.world (apart e) (when_reached (cb e) (s e) b x.reached.top x.reached.cleared)) (sym (met-is e o)) (at_start e (a.1 e o)).inside),
     )) in
     (more_at three after.goes after.cause (λ a e o.
     let x = at_start e (a e o) in
@@ -319,10 +319,10 @@ content-returns-then-has_line-clause-cause g t c =
     let y = (λ (e : Reading). at c.args.top.now e) in
     let s = (λ (e : Reading). context_at at c.args.context.now e) in
     let apart = (λ (e : Reading). apart_at at page.apart.now e) in
-    let asks = (λ (e : Reading). WalkFits tree e.world page.height (apart e) (before_content b (cb e) (y e) (s e))) in
+    let asks = (λ (e : Reading). WalkFits tree e.world (apart e) (before_content b (cb e) (y e) (s e))) in
     let lines : has_line tree b ≡ true = grind arith in
     (first {tree = tree} {asks = asks} c.in_lines.ensures.goes c.in_lines.ensures.cause (λ a e o.
-    (content-walk tree e.world page.height (apart e) b (cb e) (y e) (s e) (a.1 e o)).in_lines lines)).cause
+    (content-walk tree e.world (apart e) b (cb e) (y e) (s e) (a.1 e o)).in_lines lines)).cause
 
 pub content-returns-then-not-holds_inline-clause-cause : goal.content-returns-then-not-holds_inline-clause-cause
 content-returns-then-not-holds_inline-clause-cause g t c =
@@ -334,14 +334,14 @@ content-returns-then-not-holds_inline-clause-cause g t c =
     let y = (λ (e : Reading). at c.args.top.now e) in
     let s = (λ (e : Reading). context_at at c.args.context.now e) in
     let apart = (λ (e : Reading). apart_at at page.apart.now e) in
-    let asks = (λ (e : Reading). WalkFits tree e.world page.height (apart e) (before_content b (cb e) (y e) (s e))) in
+    let asks = (λ (e : Reading). WalkFits tree e.world (apart e) (before_content b (cb e) (y e) (s e))) in
     let lines : has_line tree b ≡ false = grind arith in
     let blocks : holds_inline tree b ≡ false = grind arith in
     (first {tree = tree} {asks = asks} c.children.ensures.goes c.children.ensures.cause (λ a. (
       a.0,
       λ e o.
-          subst (λ (ks : List ℕ). WalkFits tree e.world page.height (apart e) (before_children (cb e) (y e) (s e) ks)) (sym (c.kids_at.ensures.value ∙ sym (flow-kids tree b blocks)))
-          ((content-walk tree e.world page.height (apart e) b (cb e) (y e) (s e) (a.1 e o)).in_boxes lines),
+          subst (λ (ks : List ℕ). WalkFits tree e.world (apart e) (before_children (cb e) (y e) (s e) ks)) (sym (c.kids_at.ensures.value ∙ sym (flow-kids tree b blocks)))
+          ((content-walk tree e.world (apart e) b (cb e) (y e) (s e) (a.1 e o)).in_boxes lines),
     ))).cause
 
 pub content-returns-in-Ok-clause-cause : goal.content-returns-in-Ok-clause-cause
@@ -354,13 +354,13 @@ content-returns-in-Ok-clause-cause g t c =
     let y = (λ (e : Reading). at c.args.top.now e) in
     let s = (λ (e : Reading). context_at at c.args.context.now e) in
     let apart = (λ (e : Reading). apart_at at page.apart.now e) in
-    let asks = (λ (e : Reading). WalkFits tree e.world page.height (apart e) (before_content b (cb e) (y e) (s e))) in
+    let asks = (λ (e : Reading). WalkFits tree e.world (apart e) (before_content b (cb e) (y e) (s e))) in
     let lines : has_line tree b ≡ false = grind arith in
     (first {tree = tree} {asks = asks} c.children-in-Ok.ensures.goes c.children-in-Ok.ensures.cause (λ a. (
       a.0,
       λ e o.
-          subst (λ (ks : List ℕ). WalkFits tree e.world page.height (apart e) (before_children (cb e) (y e) (s e) ks)) (sym (c.as_slice.ensures.value ∙ c.in-Ok.ensures.value))
-          ((content-walk tree e.world page.height (apart e) b (cb e) (y e) (s e) (a.1 e o)).in_boxes lines),
+          subst (λ (ks : List ℕ). WalkFits tree e.world (apart e) (before_children (cb e) (y e) (s e) ks)) (sym (c.as_slice.ensures.value ∙ c.in-Ok.ensures.value))
+          ((content-walk tree e.world (apart e) b (cb e) (y e) (s e) (a.1 e o)).in_boxes lines),
     ))).cause
 
 pub children-loop-k-preserved : goal.children-loop-k-preserved
@@ -377,25 +377,25 @@ children-loop-k-preserved g t c =
     let y = (λ (e : Reading). at c.args.top.now e) in
     let s = (λ (e : Reading). context_at at c.loop-k.context e) in
     let apart = (λ (e : Reading). apart_at at page.apart.now e) in
-    let next = (λ (e : Reading) (w : WalkFits tree e.world page.height (apart e) (before_children (cb e) (y e) (s e) (drop i boxes))).
-    kid-walk tree e.world page.height (apart e) (cb e) (y e) (s e) boxes i within w) in
+    let next = (λ (e : Reading) (w : WalkFits tree e.world (apart e) (before_children (cb e) (y e) (s e) (drop i boxes))).
+    kid-walk tree e.world (apart e) (cb e) (y e) (s e) boxes i within w) in
     record {
       goes = Goes-then _ _ _ inv.goes own.goes;
       context = λ e o.
-          ap (λ (x : Context). (children_of tree e.world page.height (apart e) (cb e) (y e) x (drop (i + 1) boxes)).context) (own.context e o)
-          ∙ sym (ap (λ (q : Step). q.context) (kids-next tree e.world page.height (apart e) (cb e) (y e) (s e) boxes i within))
+          ap (λ (x : Context). (children_of tree e.world (apart e) (cb e) (y e) x (drop (i + 1) boxes)).context) (own.context e o)
+          ∙ sym (ap (λ (q : Step). q.context) (kids-next tree e.world (apart e) (cb e) (y e) (s e) boxes i within))
           ∙ inv.context e (own.goes.closes e o);
       boxes = λ e o.
-          let one = child_of tree e.world page.height (apart e) (cb e) (y e) (s e) (slice_index_or boxes i 0) in
-          let rest = children_of tree e.world page.height (apart e) (cb e) (y e) one.context (drop (i + 1) boxes) in
+          let one = child_of tree e.world (apart e) (cb e) (y e) (s e) (slice_index_or boxes i 0) in
+          let rest = children_of tree e.world (apart e) (cb e) (y e) one.context (drop (i + 1) boxes) in
           let old = boxes_at at c.loop-k.out.items e in
-          ap (λ (x : Context). boxes_at at c.child.new.out.items e ++ (children_of tree e.world page.height (apart e) (cb e) (y e) x (drop (i + 1) boxes)).boxes) (own.context e o)
+          ap (λ (x : Context). boxes_at at c.child.new.out.items e ++ (children_of tree e.world (apart e) (cb e) (y e) x (drop (i + 1) boxes)).boxes) (own.context e o)
           ∙ ap (λ (l : List (Placed ℤ)). l ++ rest.boxes) (own.boxes e o)
           ∙ append_assoc old one.boxes rest.boxes
-          ∙ sym (ap (λ (q : Step). old ++ q.boxes) (kids-next tree e.world page.height (apart e) (cb e) (y e) (s e) boxes i within))
+          ∙ sym (ap (λ (q : Step). old ++ q.boxes) (kids-next tree e.world (apart e) (cb e) (y e) (s e) boxes i within))
           ∙ inv.boxes e (own.goes.closes e o);
       left = λ a e o.
-          subst (λ (x : Context). WalkFits tree e.world page.height (apart e) (before_children (cb e) (y e) x (drop (i + 1) boxes))) (sym (own.context e o)) (next e (inv.left a e (own.goes.closes e o))).others;
+          subst (λ (x : Context). WalkFits tree e.world (apart e) (before_children (cb e) (y e) x (drop (i + 1) boxes))) (sym (own.context e o)) (next e (inv.left a e (own.goes.closes e o))).others;
       cause = BlamesButMem-then _ _ _ _ _ inv.goes own.goes inv.cause (λ a. (boxes-later tree _ _ inv.goes a.0, λ e o. (next e (inv.left a.1 e o)).first)) own.cause;
     }
 
@@ -409,10 +409,10 @@ child-returns-then-floats_at-clause-cause g t c =
     let y = (λ (e : Reading). at c.args.top.now e) in
     let s = (λ (e : Reading). context_at at c.args.context.now e) in
     let apart = (λ (e : Reading). apart_at at page.apart.now e) in
-    let asks = (λ (e : Reading). WalkFits tree e.world page.height (apart e) (before_child (cb e) (y e) (s e) k)) in
+    let asks = (λ (e : Reading). WalkFits tree e.world (apart e) (before_child (cb e) (y e) (s e) k)) in
     let is : is_floated_at tree k ≡ true = grind arith in
     (first {tree = tree} {asks = asks} c.float.ensures.goes c.float.ensures.cause (λ a e o.
-    let x = (child-walk tree e.world page.height (apart e) (cb e) (y e) (s e) k (a.1 e o)).floats is in (x.so_far, (x.band, (x.top_near, x.own))))).cause
+    let x = (child-walk tree e.world (apart e) (cb e) (y e) (s e) k (a.1 e o)).floats is in (x.so_far, (x.band, (x.top_near, x.own))))).cause
 
 pub child-returns-else-floats_at-clause-cause : goal.child-returns-else-floats_at-clause-cause
 child-returns-else-floats_at-clause-cause g t c =
@@ -424,10 +424,10 @@ child-returns-else-floats_at-clause-cause g t c =
     let y = (λ (e : Reading). at c.args.top.now e) in
     let s = (λ (e : Reading). context_at at c.args.context.now e) in
     let apart = (λ (e : Reading). apart_at at page.apart.now e) in
-    let asks = (λ (e : Reading). WalkFits tree e.world page.height (apart e) (before_child (cb e) (y e) (s e) k)) in
+    let asks = (λ (e : Reading). WalkFits tree e.world (apart e) (before_child (cb e) (y e) (s e) k)) in
     let is : is_floated_at tree k ≡ false = grind arith in
     (first {tree = tree} {asks = asks} c.flow.ensures.goes c.flow.ensures.cause (λ a. (
       a.0,
       λ e o.
-          (child-walk tree e.world page.height (apart e) (cb e) (y e) (s e) k (a.1 e o)).flows is,
+          (child-walk tree e.world (apart e) (cb e) (y e) (s e) k (a.1 e o)).flows is,
     ))).cause

@@ -37,15 +37,15 @@ invariant-children-loop-k g l =
     record {
       goes : Goes (run l.fn.calc) (run l.calc);
       context : (e : Reading) → IsTrue ((run l.calc).is_open e)
-          → (children_of l.page.tree.now e.world l.page.height (apart_at at l.page.apart.now e) (band_at at l.cb e) (at l.top e) (context_at at l.context e) (drop l.k-index l.boxes)).context
-          ≡ (children_of l.page.tree.now e.world l.page.height (apart_at at l.page.apart.now e) (band_at at l.cb e) (at l.top e) (context_at at l.fn.context e) l.boxes).context;
+          → (children_of l.page.tree.now e.world (apart_at at l.page.apart.now e) (band_at at l.cb e) (at l.top e) (context_at at l.context e) (drop l.k-index l.boxes)).context
+          ≡ (children_of l.page.tree.now e.world (apart_at at l.page.apart.now e) (band_at at l.cb e) (at l.top e) (context_at at l.fn.context e) l.boxes).context;
       boxes : (e : Reading) → IsTrue ((run l.calc).is_open e)
           → boxes_at at l.out.items e
-          ++ (children_of l.page.tree.now e.world l.page.height (apart_at at l.page.apart.now e) (band_at at l.cb e) (at l.top e) (context_at at l.context e) (drop l.k-index l.boxes)).boxes
+          ++ (children_of l.page.tree.now e.world (apart_at at l.page.apart.now e) (band_at at l.cb e) (at l.top e) (context_at at l.context e) (drop l.k-index l.boxes)).boxes
           ≡ boxes_at at l.fn.out.items e
-          ++ (children_of l.page.tree.now e.world l.page.height (apart_at at l.page.apart.now e) (band_at at l.cb e) (at l.top e) (context_at at l.fn.context e) l.boxes).boxes;
-      left : ((e : Reading) → IsTrue ((run l.fn.calc).is_open e) → WalkFits l.page.tree.now e.world l.page.height (apart_at at l.page.apart.now e) (before_children (band_at at l.cb e) (at l.top e) (context_at at l.fn.context e) l.boxes))
-          → (e : Reading) → IsTrue ((run l.calc).is_open e) → WalkFits l.page.tree.now e.world l.page.height (apart_at at l.page.apart.now e) (before_children (band_at at l.cb e) (at l.top e) (context_at at l.context e) (drop l.k-index l.boxes));
+          ++ (children_of l.page.tree.now e.world (apart_at at l.page.apart.now e) (band_at at l.cb e) (at l.top e) (context_at at l.fn.context e) l.boxes).boxes;
+      left : ((e : Reading) → IsTrue ((run l.fn.calc).is_open e) → WalkFits l.page.tree.now e.world (apart_at at l.page.apart.now e) (before_children (band_at at l.cb e) (at l.top e) (context_at at l.fn.context e) l.boxes))
+          → (e : Reading) → IsTrue ((run l.calc).is_open e) → WalkFits l.page.tree.now e.world (apart_at at l.page.apart.now e) (before_children (band_at at l.cb e) (at l.top e) (context_at at l.context e) (drop l.k-index l.boxes));
       cause : BlamesButMem (run l.fn.calc) (run l.calc) (AllFit l.page.tree.now (run l.fn.calc).is_open
-          (λ (e : Reading). WalkFits l.page.tree.now e.world l.page.height (apart_at at l.page.apart.now e) (before_children (band_at at l.cb e) (at l.top e) (context_at at l.fn.context e) l.boxes)));
+          (λ (e : Reading). WalkFits l.page.tree.now e.world (apart_at at l.page.apart.now e) (before_children (band_at at l.cb e) (at l.top e) (context_at at l.fn.context e) l.boxes)));
     }

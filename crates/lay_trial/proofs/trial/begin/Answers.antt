@@ -1,4 +1,4 @@
-use Rattle.std.proofs.Common.{ℤ, IsTrue, List, [], ◌∷◌, sym, subst}
+use Rattle.std.proofs.Common.{IsTrue, ◌∷◌, sym, subst}
 use Rattle.std.specs.Option.{option_to_list}
 use Rattle.viz_calc.specs.World.{Reading}
 use Rattle.viz_calc.proofs.Runs.{Goes-then, BlamesButMem-then}

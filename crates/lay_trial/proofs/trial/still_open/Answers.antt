@@ -1,5 +1,5 @@
 use Rattle.std.specs.Prelude.{int_lt}
-use Rattle.std.proofs.Common.{◌≡◌, ℕ, ◌+◌, ◌<◌, ℤ, Bool, true, false, filter, List, [], ◌∷◌, ◌++◌, drop, get_or, length, refl, ap, sym, arith, ◌∙◌}
+use Rattle.std.proofs.Common.{◌≡◌, ◌+◌, ℤ, Bool, true, false, filter, List, [], ◌∷◌, ◌++◌, drop, refl, ap, sym, arith, ◌∙◌}
 use Rattle.std.proofs.lemmas.List.{drop_more, at_drop_all, append_assoc, append-nil}
 use Rattle.viz_calc.proofs.Runs.{Goes-then, BlamesButMem-then}
 use Rattle.layout_semantics.specs.Floats.{FloatBox}

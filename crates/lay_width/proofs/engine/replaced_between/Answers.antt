@@ -23,7 +23,7 @@ pub returns-clause-cause : goal.returns-clause-cause
 returns-clause-cause g c =
     let at = g.S.Steady.at in
     let width = c.width-width.ensures in
-    let more = (e : Reading) → IsTrue ((g.S.Steady.run c.args.calc.now).is_open e) → ReplacedBetweenFits c.args.tree.now e.world c.args.viewport c.args.b (at c.args.cb.now e) (widths_at at c.args.edges e) in
+    let more = (e : Reading) → IsTrue ((g.S.Steady.run c.args.calc.now).is_open e) → ReplacedBetweenFits c.args.tree.now e.world c.args.b (at c.args.cb.now e) (widths_at at c.args.edges e) in
     Blames-then _ _ _ _ more width.goes c.fixed_block.ensures.goes
     (Blames-given _ _ _ more (λ f e o. (f e o).0) width.cause)
     (λ f e o. subst (λ x. FixedBlockFits c.args.tree.now c.args.b (widths_at at c.args.edges e) (at c.args.cb.now e) x) (sym (width.value e o)) (f e (width.goes.closes e o)).1)

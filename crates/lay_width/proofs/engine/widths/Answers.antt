@@ -8,26 +8,26 @@ use Rattle.lay_width.proofs.engine.widths.Goals as goal
 pub returns-in-Block-clause-value : goal.returns-in-Block-clause-value
 returns-in-Block-clause-value g c = λ e o p.
     let placed : placing_of c.args.tree.now c.args.b ≡ block_flow = grind arith in
-    let is = widths-placed c.args.tree.now e.world c.args.height c.args.b (g.S.Steady.at c.args.cb.now e) block_flow placed in
+    let is = widths-placed c.args.tree.now e.world c.args.b (g.S.Steady.at c.args.cb.now e) block_flow placed in
     grind arith
 
 pub returns-in-Shrunk-clause-value : goal.returns-in-Shrunk-clause-value
 returns-in-Shrunk-clause-value g c = λ e o p.
     let placed : placing_of c.args.tree.now c.args.b ≡ shrunk = grind arith in
-    let is = widths-placed c.args.tree.now e.world c.args.height c.args.b (g.S.Steady.at c.args.cb.now e) shrunk placed in
+    let is = widths-placed c.args.tree.now e.world c.args.b (g.S.Steady.at c.args.cb.now e) shrunk placed in
     let own = p placed in
     grind arith
 
 pub returns-in-ReplacedBlock-clause-value : goal.returns-in-ReplacedBlock-clause-value
 returns-in-ReplacedBlock-clause-value g c = λ e o p.
     let placed : placing_of c.args.tree.now c.args.b ≡ replaced_block = grind arith in
-    let is = widths-placed c.args.tree.now e.world c.args.height c.args.b (g.S.Steady.at c.args.cb.now e) replaced_block placed in
+    let is = widths-placed c.args.tree.now e.world c.args.b (g.S.Steady.at c.args.cb.now e) replaced_block placed in
     grind arith
 
 pub returns-in-ReplacedShrunk-clause-value : goal.returns-in-ReplacedShrunk-clause-value
 returns-in-ReplacedShrunk-clause-value g c = λ e o p.
     let placed : placing_of c.args.tree.now c.args.b ≡ replaced_shrunk = grind arith in
-    let is = widths-placed c.args.tree.now e.world c.args.height c.args.b (g.S.Steady.at c.args.cb.now e) replaced_shrunk placed in
+    let is = widths-placed c.args.tree.now e.world c.args.b (g.S.Steady.at c.args.cb.now e) replaced_shrunk placed in
     grind arith
 
 pub returns-in-ReplacedBlock-clause-cause : goal.returns-in-ReplacedBlock-clause-cause
@@ -36,6 +36,6 @@ returns-in-ReplacedBlock-clause-cause g c =
     let cause = c.replaced_block.ensures.cause in
     record {
       mem = cause.mem;
-      coeff = λ f. cause.coeff (λ e o. subst (λ p. WidthsFit (in_block c.args.tree.now e.world c.args.height c.args.b (g.S.Steady.at c.args.cb.now e)) p (preferred_at g.S.Steady.at c.args.preferred.now e)) placed (f e o));
+      coeff = λ f. cause.coeff (λ e o. subst (λ p. WidthsFit (in_block c.args.tree.now e.world c.args.b (g.S.Steady.at c.args.cb.now e)) p (preferred_at g.S.Steady.at c.args.preferred.now e)) placed (f e o));
       opens = cause.opens;
     }

@@ -5,18 +5,18 @@ use Rattle.viz_calc.proofs.Runs.{Blames-then}
 use Rattle.layout_semantics.specs.DefiniteHeights.{container_to, percentage_container}
 use Rattle.lay_width.specs.Readings.{option_at}
 use Rattle.lay_width.specs.Fitting.{DefiniteFits_to, OwnHeightFits}
-use Rattle.lay_width.proofs.Levels.{definite-none, definite-step, fits-step}
+use Rattle.lay_width.proofs.Levels.{definite-none, definite-step, fits-step, fits-root}
 use Rattle.lay_width.proofs.heights.+definite_height.Goals as goal
 
 pub returns-then-levels-eq0-clause-value : goal.returns-then-levels-eq0-clause-value
-returns-then-levels-eq0-clause-value g t c = λ e o. sym (definite-none c.args.levels c.args.tree.now e.world c.args.viewport c.args.b c.if-levels-eq0.true)
+returns-then-levels-eq0-clause-value g t c = λ e o. sym (definite-none c.args.levels c.args.tree.now e.world c.args.b c.if-levels-eq0.true)
 
 pub returns-in-Some-clause-value : goal.returns-in-Some-clause-value
 returns-in-Some-clause-value g t c = λ e o.
     let up : c.args.levels ≡ suc (c.args.levels - 1) = omega arith in
     let one : c.from.result + 1 ≡ suc c.args.b = grind arith in
     let outer : percentage_container c.args.tree.now c.args.b ≡ Some c.in-Some.outer = sym (ap (λ n. container_to n c.args.tree.now c.args.b) one) ∙ grind arith in
-    let is = definite-step c.args.levels (c.args.levels - 1) c.args.tree.now e.world c.args.viewport c.args.b (Some c.in-Some.outer) up outer in
+    let is = definite-step c.args.levels (c.args.levels - 1) c.args.tree.now e.world c.args.b (Some c.in-Some.outer) up outer in
     grind arith
 
 pub returns-in-Some-clause-cause : goal.returns-in-Some-clause-cause
@@ -25,9 +25,9 @@ returns-in-Some-clause-cause g t c =
     let up : c.args.levels ≡ suc (c.args.levels - 1) = omega arith in
     let one : c.from.result + 1 ≡ suc c.args.b = grind arith in
     let outer : percentage_container c.args.tree.now c.args.b ≡ Some c.in-Some.outer = sym (ap (λ n. container_to n c.args.tree.now c.args.b) one) ∙ grind arith in
-    let more = (e : Reading) → IsTrue ((run c.args.calc.now).is_open e) → DefiniteFits_to c.args.levels c.args.tree.now e.world c.args.viewport c.args.b in
+    let more = (e : Reading) → IsTrue ((run c.args.calc.now).is_open e) → DefiniteFits_to c.args.levels c.args.tree.now e.world c.args.b in
     let parts = (λ (f : more) (e : Reading) (o : IsTrue ((run c.args.calc.now).is_open e)).
-    fits-step c.args.levels (c.args.levels - 1) c.args.tree.now e.world c.args.viewport c.args.b c.in-Some.outer up outer (f e o)) in
+    fits-step c.args.levels (c.args.levels - 1) c.args.tree.now e.world c.args.b c.in-Some.outer up outer (f e o)) in
     let around = c.definite_height-around.ensures in
     let first : Blames (run c.args.calc.now) (run c.definite_height-around.new.calc) more = record {
       mem = around.cause.mem;
@@ -45,5 +45,17 @@ returns-in-None-clause-value g t c = λ e o.
     let up : c.args.levels ≡ suc (c.args.levels - 1) = omega arith in
     let one : c.from.result + 1 ≡ suc c.args.b = grind arith in
     let outer : percentage_container c.args.tree.now c.args.b ≡ None = sym (ap (λ n. container_to n c.args.tree.now c.args.b) one) ∙ grind arith in
-    let is = definite-step c.args.levels (c.args.levels - 1) c.args.tree.now e.world c.args.viewport c.args.b None up outer in
+    let is = definite-step c.args.levels (c.args.levels - 1) c.args.tree.now e.world c.args.b None up outer in
     grind arith
+
+pub returns-in-None-clause-cause : goal.returns-in-None-clause-cause
+returns-in-None-clause-cause g t c =
+    let up : c.args.levels ≡ suc (c.args.levels - 1) = omega arith in
+    let one : c.from.result + 1 ≡ suc c.args.b = grind arith in
+    let outer : percentage_container c.args.tree.now c.args.b ≡ None = sym (ap (λ n. container_to n c.args.tree.now c.args.b) one) ∙ grind arith in
+    let cause = c.height.ensures.cause in
+    record {
+      mem = cause.mem;
+      coeff = λ f. cause.coeff (λ e o. fits-root c.args.levels (c.args.levels - 1) c.args.tree.now e.world c.args.b up outer (f e o));
+      opens = cause.opens;
+    }

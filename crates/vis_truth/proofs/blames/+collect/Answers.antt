@@ -18,7 +18,7 @@ append-none (x ∷ xs) blamed is = ap (λ l. x ∷ l) (append-none xs blamed is)
 
 pub returns-in_ok-push-in-Some : goal.returns-in_ok-push-in-Some
 returns-in_ok-push-in-Some t c =
-    let scene = scene_of c.args.r.now c.args.world c.args.height in
+    let scene = scene_of c.args.r.now c.args.world in
     let names = places_of c.args.names.now in
     let found =
     ap (λ b. find (is_witness scene c.in-Forall.set b false names) (range_with_len 0 (length c.args.r.now.boxes))) (sym c.get.ensures) ∙ sym c.in-Some.ensures.value in
@@ -38,7 +38,7 @@ returns-in_ok-push-in-Some t c =
 
 pub returns-in-None : goal.returns-in-None
 returns-in-None t c =
-    let scene = scene_of c.args.r.now c.args.world c.args.height in
+    let scene = scene_of c.args.r.now c.args.world in
     let names = places_of c.args.names.now in
     let none =
     ap (λ b. find (is_witness scene c.in-Forall.set b false names) (range_with_len 0 (length c.args.r.now.boxes))) (sym c.get.ensures) ∙ sym c.in-None.ensures.value in
@@ -46,7 +46,7 @@ returns-in-None t c =
 
 pub returns-then-holds : goal.returns-then-holds
 returns-then-holds t c =
-    let scene = scene_of c.args.r.now c.args.world c.args.height in
+    let scene = scene_of c.args.r.now c.args.world in
     let names = places_of c.args.names.now in
     let premise = ap (λ a. truth_in scene a names) (sym c.get-in-Implies.ensures) ∙ sym c.holds.ensures ∙ c.if-holds.true in
     on_ok_weaker c.collect-then-holds.result
@@ -58,14 +58,14 @@ returns-then-holds t c =
 
 pub returns-else-holds : goal.returns-else-holds
 returns-else-holds t c =
-    let scene = scene_of c.args.r.now c.args.world c.args.height in
+    let scene = scene_of c.args.r.now c.args.world in
     let names = places_of c.args.names.now in
     let premise = ap (λ a. truth_in scene a names) (sym c.get-in-Implies.ensures) ∙ sym c.holds.ensures ∙ c.if-holds.false in
     append-none c.args.out.now _ (ap (λ f. blame_in scene f names) c.in-Implies.is ∙ blame-Implies_fails scene c.in-Implies.a c.in-Implies.b names premise)
 
 pub returns-then-holds-2 : goal.returns-then-holds-2
 returns-then-holds-2 t c =
-    let scene = scene_of c.args.r.now c.args.world c.args.height in
+    let scene = scene_of c.args.r.now c.args.world in
     let names = places_of c.args.names.now in
     let first = ap (λ a. truth_in scene a names) (sym c.get-in-And.ensures) ∙ sym c.holds-in-And.ensures ∙ c.if-holds-2.true in
     on_ok_weaker c.collect-then-holds-2.result
@@ -77,7 +77,7 @@ returns-then-holds-2 t c =
 
 pub returns-else-holds-2 : goal.returns-else-holds-2
 returns-else-holds-2 t c =
-    let scene = scene_of c.args.r.now c.args.world c.args.height in
+    let scene = scene_of c.args.r.now c.args.world in
     let names = places_of c.args.names.now in
     let first = ap (λ a. truth_in scene a names) (sym c.get-in-And.ensures) ∙ sym c.holds-in-And.ensures ∙ c.if-holds-2.false in
     on_ok_weaker c.collect-else-holds-2.result
@@ -90,4 +90,4 @@ returns-else-holds-2 t c =
 pub returns-in_default : goal.returns-in_default
 returns-in_default t c =
     append-none c.args.out.now _
-    (blame-other (scene_of c.args.r.now c.args.world c.args.height) (places_of c.args.names.now) c.args.f.now c.in_default.not-Forall c.in_default.not-Implies c.in_default.not-And)
+    (blame-other (scene_of c.args.r.now c.args.world) (places_of c.args.names.now) c.args.f.now c.in_default.not-Forall c.in_default.not-Implies c.in_default.not-And)

@@ -14,6 +14,6 @@ invariant-has_witness-loop-place g l =
     record {
       goes : Goes (run l.fn.calc) (run l.calc);
       none : (e : Reading) → IsTrue ((run l.calc).is_open e)
-          → list_any (is_witness (scene_at at l.r l.height e) l.set l.body l.wanted (places_of l.names)) (take l.place (range_with_len 0 (length l.r.boxes))) ≡ false;
+          → list_any (is_witness (scene_at at l.r e) l.set l.body l.wanted (places_of l.names)) (take l.place (range_with_len 0 (length l.r.boxes))) ≡ false;
       cause : Blames (run l.fn.calc) (run l.calc) (IsTame (run l.fn.calc).is_open at l.r l.body);
     }

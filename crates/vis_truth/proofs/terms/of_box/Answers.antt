@@ -12,7 +12,7 @@ use Rattle.vis_truth.proofs.terms.of_box.Goals as goal
 
 pub returns-in-Some-clause-value : goal.returns-in-Some-clause-value
 returns-in-Some-clause-value g c = λ e o.
-    let is = edge-some g.S.Steady.at c.args.r.now 0 e (places_of c.args.names.now) c.args.name c.args.ring c.args.face c.in-Some.b.now c.in-Some.ensures in
+    let is = edge-some g.S.Steady.at c.args.r.now e (places_of c.args.names.now) c.args.name c.args.ring c.args.face c.in-Some.b.now c.in-Some.ensures in
     let number = c.face_of.ensures ∙ ap (face_of c.args.face) c.ring_of.ensures in
     c.multiple.ensures.value e o ∙ ap (λ z. c.args.s.now.times *ℤ z) (ap (λ n. g.S.Steady.at n e) number ∙ sym is)
 
@@ -20,13 +20,13 @@ pub returns-in-Some-clause-cause : goal.returns-in-Some-clause-cause
 returns-in-Some-clause-cause g c =
     let number = c.face_of.ensures ∙ ap (face_of c.args.face) c.ring_of.ensures in
     Blames-given _ _ _
-    (Fits (g.S.Steady.run c.args.calc.now) (λ e. (c.args.s.now.times *ℤ edge_value (scene_at g.S.Steady.at c.args.r.now 0 e) (places_of c.args.names.now) (of_edge.Name c.args.name c.args.ring c.args.face)) ∷ []))
+    (Fits (g.S.Steady.run c.args.calc.now) (λ e. (c.args.s.now.times *ℤ edge_value (scene_at g.S.Steady.at c.args.r.now e) (places_of c.args.names.now) (of_edge.Name c.args.name c.args.ring c.args.face)) ∷ []))
     (λ f e o.
-    let is = edge-some g.S.Steady.at c.args.r.now 0 e (places_of c.args.names.now) c.args.name c.args.ring c.args.face c.in-Some.b.now c.in-Some.ensures in
+    let is = edge-some g.S.Steady.at c.args.r.now e (places_of c.args.names.now) c.args.name c.args.ring c.args.face c.in-Some.b.now c.in-Some.ensures in
     subst (λ z. AllSmall ((c.args.s.now.times *ℤ z) ∷ [])) (is ∙ ap (λ n. g.S.Steady.at n e) (sym number)) (f e o))
     c.multiple.ensures.cause
 
 pub returns-in-None-clause-value : goal.returns-in-None-clause-value
 returns-in-None-clause-value g c = λ e o.
-    let is = edge-none g.S.Steady.at c.args.r.now 0 e (places_of c.args.names.now) c.args.name c.args.ring c.args.face c.in-None.ensures in
+    let is = edge-none g.S.Steady.at c.args.r.now e (places_of c.args.names.now) c.args.name c.args.ring c.args.face c.in-None.ensures in
     c.zero.ensures.value e o ∙ sym (ap (λ z. c.args.s.now.times *ℤ z) is ∙ *ℤ-zero c.args.s.now.times)

@@ -31,26 +31,26 @@ loop-s-preserved g c =
       sum = λ e o.
           let o1 = c.add-sum.ensures.goes.closes e o in
           let o0 = c.summand-value.ensures.goes.closes e o1 in
-          sum-more (summand_value (scene_at at c.args.r.now c.args.height e) names) c.args.parts.now c.loop-s.s-index _ (at c.loop-s.sum e) (at c.add-sum.result e) c.loop-s-test.true
+          sum-more (summand_value (scene_at at c.args.r.now e) names) c.args.parts.now c.loop-s.s-index _ (at c.loop-s.sum e) (at c.add-sum.result e) c.loop-s-test.true
           (c.add-sum.ensures.value e o ∙ ap (λ z. at c.loop-s.sum e +ℤ z) (c.summand-value.ensures.value e o1))
           ∙ c.loop-s.invariant.sum e o0;
       left = λ f e o.
           let o1 = c.add-sum.ensures.goes.closes e o in
           let o0 = c.summand-value.ensures.goes.closes e o1 in
-          let rest = (left-more (scene_at at c.args.r.now c.args.height e) names c.args.parts.now c.loop-s.s-index _ (at c.loop-s.sum e) c.loop-s-test.true (c.loop-s.invariant.left f e o0)).1.1.1 in
-          subst (λ z. AllSmall (sum_parts (scene_at at c.args.r.now c.args.height e) names z (drop (c.loop-s.s-index + 1) c.args.parts.now)))
+          let rest = (left-more (scene_at at c.args.r.now e) names c.args.parts.now c.loop-s.s-index _ (at c.loop-s.sum e) c.loop-s-test.true (c.loop-s.invariant.left f e o0)).1.1.1 in
+          subst (λ z. AllSmall (sum_parts (scene_at at c.args.r.now e) names z (drop (c.loop-s.s-index + 1) c.args.parts.now)))
           (sym (c.add-sum.ensures.value e o ∙ ap (λ z. at c.loop-s.sum e +ℤ z) (c.summand-value.ensures.value e o1))) rest;
       cause =
           let before = Goes-then _ _ _ c.zero-sum.ensures.goes c.loop-s.invariant.goes in
           let after = Blames-then (run c.args.calc.now) (run c.loop-s.calc) (run c.summand-value.new.calc) _ _ before c.summand-value.ensures.goes c.loop-s.invariant.cause
           (λ f e o.
-          let small = left-more (scene_at at c.args.r.now c.args.height e) names c.args.parts.now c.loop-s.s-index _ (at c.loop-s.sum e) c.loop-s-test.true (c.loop-s.invariant.left f e o) in
+          let small = left-more (scene_at at c.args.r.now e) names c.args.parts.now c.loop-s.s-index _ (at c.loop-s.sum e) c.loop-s-test.true (c.loop-s.invariant.left f e o) in
           (small.0, (small.1.0, tt)))
           c.summand-value.ensures.cause in
           Blames-then (run c.args.calc.now) (run c.summand-value.new.calc) (run c.add-sum.new.self) _ _ (Goes-then _ _ _ before c.summand-value.ensures.goes) c.add-sum.ensures.goes after
           (λ f e o.
           let o0 = c.summand-value.ensures.goes.closes e o in
-          let small = left-more (scene_at at c.args.r.now c.args.height e) names c.args.parts.now c.loop-s.s-index _ (at c.loop-s.sum e) c.loop-s-test.true (c.loop-s.invariant.left f e o0) in
+          let small = left-more (scene_at at c.args.r.now e) names c.args.parts.now c.loop-s.s-index _ (at c.loop-s.sum e) c.loop-s-test.true (c.loop-s.invariant.left f e o0) in
           (subst (λ z. AllSmall ((at c.loop-s.sum e +ℤ z) ∷ [])) (sym (c.summand-value.ensures.value e o)) (small.1.1.0, tt)))
           c.add-sum.ensures.cause;
     }

@@ -15,10 +15,10 @@ invariant-loop-s g l =
     record {
       goes : Goes (run l.initial.calc) (run l.calc);
       sum : (e : Reading) → IsTrue ((run l.calc).is_open e)
-          → fold ◌+ℤ◌ (at l.sum e) (map (summand_value (scene_at at l.r l.height e) (places_of l.names)) (drop l.s-index l.parts))
-          ≡ fold ◌+ℤ◌ (pos 0) (map (summand_value (scene_at at l.r l.height e) (places_of l.names)) l.parts);
-      left : Fits (run l.fn.calc) (λ e. pos 0 ∷ sum_parts (scene_at at l.r l.height e) (places_of l.names) (pos 0) l.parts)
+          → fold ◌+ℤ◌ (at l.sum e) (map (summand_value (scene_at at l.r e) (places_of l.names)) (drop l.s-index l.parts))
+          ≡ fold ◌+ℤ◌ (pos 0) (map (summand_value (scene_at at l.r e) (places_of l.names)) l.parts);
+      left : Fits (run l.fn.calc) (λ e. pos 0 ∷ sum_parts (scene_at at l.r e) (places_of l.names) (pos 0) l.parts)
           → (e : Reading) → IsTrue ((run l.calc).is_open e)
-          → AllSmall (sum_parts (scene_at at l.r l.height e) (places_of l.names) (at l.sum e) (drop l.s-index l.parts));
-      cause : Blames (run l.fn.calc) (run l.calc) (Fits (run l.fn.calc) (λ e. pos 0 ∷ sum_parts (scene_at at l.r l.height e) (places_of l.names) (pos 0) l.parts));
+          → AllSmall (sum_parts (scene_at at l.r e) (places_of l.names) (at l.sum e) (drop l.s-index l.parts));
+      cause : Blames (run l.fn.calc) (run l.calc) (Fits (run l.fn.calc) (λ e. pos 0 ∷ sum_parts (scene_at at l.r e) (places_of l.names) (pos 0) l.parts));
     }
