@@ -1,5 +1,5 @@
 -- The limits of a job's worlds, and renderings whose numbers are small.
-use Rattle.std.proofs.Common.{◌≡◌, ℕ, zero, suc, ◌^◌, ◌≤◌, ℤ, List, [], ◌∷◌, Some, subst, arith}
+use Rattle.std.proofs.Common.{◌≡◌, ℕ, zero, suc, ◌^◌, ℤ, List, [], ◌∷◌, Some, subst, arith}
 use Rattle.std.specs.Prelude.{slice_get}
 use Rattle.std.specs.List.{AllByRecursion}
 use Rattle.std.proofs.lemmas.Int.{ints}
@@ -11,14 +11,18 @@ use Rattle.viz_base.specs.declared.renderings.Quad.{Quad}
 use Rattle.viz_base.specs.declared.renderings.Rendering.{Rendering}
 use Rattle.flow_limits.specs.Bounds.{IsPlacedIn, IsQuadIn, all_around}
 use Rattle.logic_semantics.specs.Ranges.{IsInRange}
-use Rattle.vis_truth.specs.Scenes.{IsBoundedQuad, IsBoundedBox, IsBoundedRendering}
+use Rattle.vis_truth.specs.Scenes.{IsNarrow, IsBoundedQuad, IsBoundedBox, IsBoundedRendering}
 
--- the widths of a job's range
-pub narrow_world : (job : Job) (world : World) → IsInRange job.range world → world.w ≤ 16384
+-- the numbers of a job's worlds
+pub narrow_world : (job : Job) (world : World) → IsInRange job.range world → IsNarrow world
 narrow_world job world i =
     let a = i.width_most in
     let b = job.ok.in_range.width_most in
-    omega arith
+    let c = i.size_most in
+    let d = job.ok.in_range.size_most in
+    let e = i.height_most in
+    let f = job.ok.in_range.height_most in
+    record { width = omega arith; size = omega arith; height = omega arith }
 
 -- ---- renderings
 

@@ -1,18 +1,20 @@
 -- What is found of a node, and whether it is good.
-use Rattle.std.proofs.Common.{◌≡◌, ℕ, ◌<◌, ◌≤◌, ◌^◌, Bool, true, false, nat_le, List, [], ◌++◌, Option, Some, None, Ok, Err, refl, sym, ◌∙◌, subst, arith, append-nil}
+use Rattle.std.proofs.Common.{◌≡◌, ℕ, ◌<◌, ◌≤◌, ◌^◌, Bool, true, false, nat_le, ◌&&◌, List, [], ◌++◌, Option, Some, None, Ok, Err, refl, sym, ◌∙◌, subst, arith, append-nil}
 use Rattle.std.proofs.lemmas.Bool.Decides.{nat_tests}
 use Rattle.viz_base.specs.declared.worlds.World.{World}
 use Rattle.viz_base.specs.declared.worlds.Rect.{Rect}
+use Rattle.viz_base.specs.Worlds.{world_count as count_of}
 use Rattle.viz_base.specs.declared.jobs.Job.{Job}
-use Rattle.lin_row.specs.Form.{Form}
+use Rattle.lin_row.specs.Form.{Form, form_fits, denied}
 use Rattle.lin_proof.specs.declared.derivation.Derivation.{Derivation}
 use Rattle.lin_proof.specs.declared.derivation.Answer.{Answer}
 use Rattle.lin_proof.specs.Derivations.{first_fault}
-use Rattle.cert_path.specs.Paths.{Path, variables}
+use Rattle.lin_proof.specs.Entailments.{with_denied}
+use Rattle.cert_path.specs.Paths.{Path, form_of, variables, is_declared}
 use Rattle.cert_path.specs.Facts.{facts}
-use Rattle.cert_path.specs.Nodes.{is_empty, by_worlds, by_answers, Node, node_on}
+use Rattle.cert_path.specs.Nodes.{states, is_empty, by_worlds, by_answers, Node, node_on}
 use Rattle.cert_path.specs.Rectangles.{rectangle, world_count}
-use Rattle.cert_path.specs.Shapes.{is_shaped}
+use Rattle.cert_path.specs.Shapes.{has_variable, is_shaped}
 use Rattle.sym_calc.specs.Floors.{floors_of}
 use Rattle.sym_calc.specs.Knowledge.{AreKnown}
 use Rattle.sym_calc.specs.declared.floors.Floor.{Floor}
@@ -21,10 +23,10 @@ use Rattle.cert_check.specs.declared.descent.Above.{Above}
 use Rattle.cert_check.specs.declared.verdicts.Reject.{Reject}
 use Rattle.cert_check.specs.declared.verdicts.Reject.TheVariants.{OtherJob, Shape, Line, Untrue, Unmet, Differs, Short, Left, Coeff}
 use Rattle.cert_check.specs.declared.walk.Stop.TheVariants as of_stop
-use Rattle.cert_check.specs.Rectangles.{world_count as count_of}
 use Rattle.cert_check.specs.steps.Descent.{path_of, are_sound}
 use Rattle.cert_check.specs.steps.Tells.{Judges}
-use Rattle.cert_check.specs.steps.Grids.{first_outside, first_untrue, IsPart}
+use Rattle.cert_check.specs.steps.Grids.{is_outside, is_untrue_on, IsPart}
+use Rattle.cert_check.specs.steps.Worlds.{first_world}
 use Rattle.cert_check.specs.Leaves.{node_in, IsLeafFault}
 use Rattle.cert_check.specs.Right.{IsGood}
 use Rattle.cert_check.specs.Verdicts.{IsRejected}
@@ -32,6 +34,13 @@ use Rattle.cert_check.proofs.Descents.{sound_is}
 use Rattle.cert_check.proofs.GridWorlds.{all_computed, one_outside, all_true, first_false, on_units}
 use Rattle.cert_check.proofs.PartSides.{none_small, some_count, none_inside}
 use Rattle.cert_path.proofs.Sides.{rectangle_is_units}
+
+-- ---- lemmas
+
+pub lemma_good : (job : Job) (path : Path) (row : Form) (why : Derivation) (known : List Form) (line : Option ℕ) → (is_declared path row && has_variable row) ≡ true → form_fits (denied row) ≡ true
+    → known ≡ facts job.range path → line ≡ first_fault (with_denied known row) (variables path) why → line ≡ None → IsGood job (node_on path (states row why))
+lemma_good job path row why known line shaped fits is found none =
+    record { shaped = shaped; decides = (fits, (λ i. first_fault (with_denied (sym is i) row) (variables path) why) ∙ sym found ∙ none) }
 
 -- ---- voids
 
@@ -56,33 +65,33 @@ grid_empty job path part = record {
   );
 }
 
-module _ (job : Job) (above : List Above) (r : Rect) (part : IsPart (Some r) (rectangle job.range (path_of above))) where
-  count_is : world_count (rectangle job.range (path_of above)) ≡ count_of r
-  count_is = some_count r (rectangle job.range (path_of above)) part
+module _ (job : Job) (above : List Above) (r : Rect) (part : IsPart (Some r) (rectangle job.range (path_of job.form above))) where
+  count_is : world_count (rectangle job.range (path_of job.form above)) ≡ count_of r
+  count_is = some_count r (rectangle job.range (path_of job.form above)) part
 
-  pub grid_large : (n : ℕ) → 64 < count_of r → IsRejected job (node_on (path_of above) by_worlds) (Shape n)
-  grid_large n large = by_test (nat_le (world_count (rectangle job.range (path_of above))) 64) refl
+  pub grid_large : (n : ℕ) → 64 < count_of r → IsRejected job (node_on (path_of job.form above) by_worlds) (Shape n)
+  grid_large n large = by_test (nat_le (world_count (rectangle job.range (path_of job.form above))) 64) refl
     where
-      by_test : (b : Bool) → nat_le (world_count (rectangle job.range (path_of above))) 64 ≡ b → b ≡ false
+      by_test : (b : Bool) → nat_le (world_count (rectangle job.range (path_of job.form above))) 64 ≡ b → b ≡ false
       by_test true e = let same = count_is in absurd (grind (arith, nat_tests))
       by_test false e = refl
 
-  small : count_of r ≤ 64 → is_shaped job.range (path_of above) by_worlds ≡ true
-  small le = by_test (nat_le (world_count (rectangle job.range (path_of above))) 64) refl
+  small : count_of r ≤ 64 → is_shaped job.range (path_of job.form above) by_worlds ≡ true
+  small le = by_test (nat_le (world_count (rectangle job.range (path_of job.form above))) 64) refl
     where
-      by_test : (b : Bool) → nat_le (world_count (rectangle job.range (path_of above))) 64 ≡ b → b ≡ true
+      by_test : (b : Bool) → nat_le (world_count (rectangle job.range (path_of job.form above))) 64 ≡ b → b ≡ true
       by_test true e = refl
       by_test false e = let same = count_is in absurd (grind (arith, nat_tests))
 
-  pub grid_outside : (n : ℕ) (world : World) → count_of r ≤ 64 → first_outside above r ≡ Some world → IsRejected job (node_on (path_of above) by_worlds) (Coeff n)
+  pub grid_outside : (n : ℕ) (world : World) → count_of r ≤ 64 → first_world (is_outside job.form above) r ≡ Some world → IsRejected job (node_on (path_of job.form above) by_worlds) (Coeff n)
   grid_outside n world le some = (small le, one_outside job above r part world some)
 
-  pub grid_untrue : (n : ℕ) (world : World) → count_of r ≤ 64 → first_outside above r ≡ None → first_untrue job above r ≡ Some world → IsRejected job (node_on (path_of above) by_worlds) (Untrue n world)
+  pub grid_untrue : (n : ℕ) (world : World) → count_of r ≤ 64 → first_world (is_outside job.form above) r ≡ None → first_world (is_untrue_on job above) r ≡ Some world → IsRejected job (node_on (path_of job.form above) by_worlds) (Untrue n world)
   grid_untrue n world le none some =
       let fits = all_computed job above r part none in
       (small le, (fits, first_false job above r part fits world some))
 
-  pub grid_good : count_of r ≤ 64 → first_outside above r ≡ None → first_untrue job above r ≡ None → IsGood job (node_on (path_of above) by_worlds)
+  pub grid_good : count_of r ≤ 64 → first_world (is_outside job.form above) r ≡ None → first_world (is_untrue_on job above) r ≡ None → IsGood job (node_on (path_of job.form above) by_worlds)
   grid_good le none nowhere =
       let fits = all_computed job above r part none in
       record { shaped = small le; decides = (fits, all_true job above r part fits nowhere) }
@@ -90,9 +99,9 @@ module _ (job : Job) (above : List Above) (r : Rect) (part : IsPart (Some r) (re
 -- ---- leaves
 
 pub known_along : (job : Job) (path : Path) (known : List Form) (floors : List Floor) → are_sound path ≡ true → variables path < 2 ^ 32 → known ≡ facts job.range path → floors ≡ floors_of path
-    → AreKnown known floors
+    → AreKnown (form_of path) known floors
 known_along job path known floors sound few a b =
-    subst (λ fs. AreKnown fs floors) (sym a) (subst (λ gs. AreKnown (facts job.range path) gs) (sym b) (sound_is_known job.range path (sound_is path sound) few))
+    subst (λ fs. AreKnown (form_of path) fs floors) (sym a) (subst (λ gs. AreKnown (form_of path) (facts job.range path) gs) (sym b) (sound_is_known job.range path (sound_is path sound) few))
 
 -- a leaf's cause is that of its node
 pub leaf_rejected : (job : Job) (path : Path) (answers : List Answer) (reject : Reject) → IsLeafFault job path answers reject → IsRejected job (node_on path (by_answers answers)) reject

@@ -1,5 +1,6 @@
 pub mod Parts
 pub mod Seeks
+pub mod FirstWorlds
 pub mod FirstUntrue
 pub mod Causes
 pub mod Bounded
@@ -9,7 +10,6 @@ pub mod Descents
 pub mod Places
 pub mod PartSides
 pub mod GridWorlds
-pub mod GridSteps
 pub mod Judging
 pub mod Tellings
 pub mod FitFloors

@@ -1,5 +1,5 @@
 -- The part of the range that unit splits leave, and the sides that the rectangle of a path has.
-use Rattle.std.proofs.Common.{◌≡◌, ℕ, ◌+◌, ◌-◌, ◌*◌, ◌==◌, ◌<◌, ◌≤◌, ℤ, pos, negsuc, neg_ℤ, ◌+ℤ◌, ◌-ℤ◌, ◌≤ℤ◌, ◌<ℤ◌, Bool, true, false, cond, nat_lt, nat_le, [], ◌∷◌, min, max, Option, Some, None, refl, sym, ◌∙◌, ap, subst, arith}
+use Rattle.std.proofs.Common.{◌≡◌, ℕ, ◌+◌, ◌*◌, ◌==◌, ◌<◌, ◌≤◌, ℤ, pos, negsuc, neg_ℤ, ◌+ℤ◌, ◌-ℤ◌, ◌≤ℤ◌, ◌<ℤ◌, Bool, true, false, cond, nat_lt, nat_le, ◌&&◌, [], ◌∷◌, min, max, Option, Some, None, refl, sym, ◌∙◌, ap, subst, arith}
 use Rattle.std.specs.Prelude.{IfSome}
 use Rattle.std.specs.Ordering.{int_eq}
 use Rattle.std.specs.Option.{option_map, option_and_then}
@@ -8,28 +8,27 @@ use Rattle.std.proofs.lemmas.Int.{ints, int_max_is, int_min_is}
 use Rattle.std.proofs.lemmas.Bool.Decides.{nat_tests, Decides-int_eq}
 use Rattle.viz_base.specs.declared.worlds.World.{World}
 use Rattle.viz_base.specs.declared.worlds.Axis.{Axis}
-use Rattle.viz_base.specs.declared.worlds.Axis.TheVariants.{Width, Size}
+use Rattle.viz_base.specs.declared.worlds.Axis.TheVariants.{Width, Size, Height}
 use Rattle.viz_base.specs.declared.worlds.Span.{Span}
 use Rattle.viz_base.specs.declared.worlds.Rect.{Rect}
-use Rattle.viz_base.specs.Worlds.{side_of, with_side}
+use Rattle.viz_base.specs.Worlds.{side_of, with_side, world_count as count_of}
 use Rattle.viz_base.specs.declared.jobs.Job.{Job}
 use Rattle.logic_semantics.specs.Ranges.{IsInRange}
 use Rattle.lin_row.specs.Form.{Form, Terms, denied}
-use Rattle.cert_path.specs.Axes.{variable_of, axis_of}
+use Rattle.cert_path.specs.Axes.{variable_of, axis_of, stands_for}
 use Rattle.cert_path.specs.Rectangles.{Side, Sides, cut_sides, cut_side as cut_a_side, left_by, left_by_terms, side_from, whole, rectangle, count, world_count}
-use Rattle.cert_path.specs.Paths.{Step, first, second, Path, variables}
+use Rattle.cert_path.specs.Paths.{Step, first, second, Path, ◌▸◌, form_of, variables}
 use Rattle.cert_path.specs.Laws.{IsInside}
-use Rattle.cert_path.proofs.Variables.{axis_has, of_no_axis}
+use Rattle.cert_path.proofs.Variables.{axis_has, stands}
 use Rattle.cert_path.proofs.Sides.{whole_is}
 use Rattle.cert_check.specs.declared.cuts.Child.{Child}
 use Rattle.cert_check.specs.declared.cuts.Child.TheVariants.{First, Second}
 use Rattle.cert_check.specs.declared.cuts.Cut.{Cut}
 use Rattle.cert_check.specs.declared.cuts.Opens.TheVariants.{Above, UpTo}
 use Rattle.cert_check.specs.Rectangles.{IsWithin, coefficient_cut, terms_cut, cut_of, at_most, above, cut_side, toward, cut_at}
-use Rattle.cert_check.specs.Rectangles.{world_count as count_of}
 use Rattle.cert_check.specs.Rectangles.{IsProper}
 use Rattle.cert_check.specs.steps.Grids.{IsPart}
-use Rattle.cert_check.proofs.Parts.{int_test, child_within}
+use Rattle.cert_check.proofs.Parts.{int_test, of_some_axis, of_no_axis, child_within}
 
 -- ---- one side
 
@@ -123,24 +122,32 @@ coefficient_after k c axis Second s proper = by_tests (int_eq c (pos 1)) refl (i
 
 -- ---- rectangles
 
-abbrev pub left_child : Form → Child → Sides → Sides
-left_child row First sides = left_by row sides
-left_child row Second sides = left_by (denied row) sides
+abbrev pub left_child : ℕ → Form → Child → Sides → Sides
+left_child form row First sides = left_by form row sides
+left_child form row Second sides = left_by form (denied row) sides
 
 -- where another side is left on one axis, the others being a rectangle's
 part_by : (axis : Axis) (r : Rect) (o : Option Span) (sides : Sides) → IsProper r → IsSide o (sides axis) → ((other : Axis) → (variable_of axis == variable_of other) ≡ false → sides other ≡ whole r other)
     → IsPart (option_map (with_side axis r) o) sides
 part_by axis r None sides proper h rest = (axis, h)
-part_by Width r (Some t) sides proper h rest = (record { widths = h.0; sizes = proper.sizes }, λ i other. at other i)
+part_by Width r (Some t) sides proper h rest = (record { widths = h.0; sizes = proper.sizes; heights = proper.heights }, λ i other. at other i)
   where
     at : (other : Axis) → sides other ≡ whole (with_side Width r t) other
     at Width = h.1
     at Size = rest Size refl
-part_by Size r (Some t) sides proper h rest = (record { widths = proper.widths; sizes = h.0 }, λ i other. at other i)
+    at Height = rest Height refl
+part_by Size r (Some t) sides proper h rest = (record { widths = proper.widths; sizes = h.0; heights = proper.heights }, λ i other. at other i)
   where
     at : (other : Axis) → sides other ≡ whole (with_side Size r t) other
     at Width = rest Width refl
     at Size = h.1
+    at Height = rest Height refl
+part_by Height r (Some t) sides proper h rest = (record { widths = proper.widths; sizes = proper.sizes; heights = h.0 }, λ i other. at other i)
+  where
+    at : (other : Axis) → sides other ≡ whole (with_side Height r t) other
+    at Width = rest Width refl
+    at Size = rest Size refl
+    at Height = h.1
 
 -- a cut of an axis leaves what it leaves of the axis's side
 axis_cut : (k c : ℤ) (axis : Axis) (child : Child) (r : Rect) → cut_at (coefficient_cut k axis c) child r ≡ option_map (with_side axis r) (span_after (coefficient_cut k axis c) child (side_of axis r))
@@ -151,74 +158,83 @@ axis_cut k c axis child r = by_tests (int_eq c (pos 1)) (int_eq c (negsuc 0)) ax
     by_tests false true axis = refl
     by_tests false false Width = refl
     by_tests false false Size = refl
+    by_tests false false Height = refl
 
 -- the sides that a row of one term leaves, at either child
-abbrev sides_of_term : ℤ → ℕ × ℤ → Child → Sides → Sides
-sides_of_term k t First sides = cut_sides k t sides
-sides_of_term k t Second sides = cut_sides (neg_ℤ k -ℤ pos 1) (t.0, neg_ℤ t.1) sides
+abbrev sides_of_term : ℕ → ℤ → ℕ × ℤ → Child → Sides → Sides
+sides_of_term form k t First sides = cut_sides form k t sides
+sides_of_term form k t Second sides = cut_sides form (neg_ℤ k -ℤ pos 1) (t.0, neg_ℤ t.1) sides
 
-cut_at_axis : (k : ℤ) (t : ℕ × ℤ) (sides : Sides) (axis : Axis) → t.0 ≡ variable_of axis → cut_sides k t sides axis ≡ cut_a_side k t.1 (sides axis)
-cut_at_axis k t sides axis at = let same : (t.0 == variable_of axis) ≡ true = grind (arith, nat_tests) in ap (λ b. cond b (cut_a_side k t.1 (sides axis)) (sides axis)) same
+cut_at_axis : (form : ℕ) (k : ℤ) (t : ℕ × ℤ) (sides : Sides) (axis : Axis) → stands_for form t.0 axis ≡ true → cut_sides form k t sides axis ≡ cut_a_side k t.1 (sides axis)
+cut_at_axis form k t sides axis at = ap (λ b. cond b (cut_a_side k t.1 (sides axis)) (sides axis)) at
 
-cut_besides : (k : ℤ) (t : ℕ × ℤ) (sides : Sides) (axis : Axis) → (t.0 == variable_of axis) ≡ false → cut_sides k t sides axis ≡ sides axis
-cut_besides k t sides axis other = ap (λ b. cond b (cut_a_side k t.1 (sides axis)) (sides axis)) other
+cut_besides : (form : ℕ) (k : ℤ) (t : ℕ × ℤ) (sides : Sides) (axis : Axis) → stands_for form t.0 axis ≡ false → cut_sides form k t sides axis ≡ sides axis
+cut_besides form k t sides axis other = ap (λ b. cond b (cut_a_side k t.1 (sides axis)) (sides axis)) other
 
-sides_at : (k : ℤ) (t : ℕ × ℤ) (child : Child) (sides : Sides) (axis : Axis) → t.0 ≡ variable_of axis → sides_of_term k t child sides axis ≡ side_after k t.1 child (sides axis)
-sides_at k t First sides axis at = cut_at_axis k t sides axis at
-sides_at k t Second sides axis at = cut_at_axis (neg_ℤ k -ℤ pos 1) (t.0, neg_ℤ t.1) sides axis at
+sides_at : (form : ℕ) (k : ℤ) (t : ℕ × ℤ) (child : Child) (sides : Sides) (axis : Axis) → stands_for form t.0 axis ≡ true → sides_of_term form k t child sides axis ≡ side_after k t.1 child (sides axis)
+sides_at form k t First sides axis at = cut_at_axis form k t sides axis at
+sides_at form k t Second sides axis at = cut_at_axis form (neg_ℤ k -ℤ pos 1) (t.0, neg_ℤ t.1) sides axis at
 
-sides_besides : (k : ℤ) (t : ℕ × ℤ) (child : Child) (sides : Sides) (axis : Axis) → (t.0 == variable_of axis) ≡ false → sides_of_term k t child sides axis ≡ sides axis
-sides_besides k t First sides axis other = cut_besides k t sides axis other
-sides_besides k t Second sides axis other = cut_besides (neg_ℤ k -ℤ pos 1) (t.0, neg_ℤ t.1) sides axis other
+sides_besides : (form : ℕ) (k : ℤ) (t : ℕ × ℤ) (child : Child) (sides : Sides) (axis : Axis) → stands_for form t.0 axis ≡ false → sides_of_term form k t child sides axis ≡ sides axis
+sides_besides form k t First sides axis other = cut_besides form k t sides axis other
+sides_besides form k t Second sides axis other = cut_besides form (neg_ℤ k -ℤ pos 1) (t.0, neg_ℤ t.1) sides axis other
 
 proper_side : (axis : Axis) (r : Rect) → IsProper r → (side_of axis r).least ≤ (side_of axis r).most
 proper_side Width r proper = proper.widths
 proper_side Size r proper = proper.sizes
+proper_side Height r proper = proper.heights
 
-term_part : (k : ℤ) (t : ℕ × ℤ) (child : Child) (r : Rect) → IsProper r → IsPart (cut_at (terms_cut k (t ∷ [])) child r) (sides_of_term k t child (whole r))
-term_part k t child r proper = by_axis (axis_of t.0) refl
+-- a variable stands for no other axis than its own
+apart_from : (form x : ℕ) (axis other : Axis) → axis_of form x ≡ Some axis → (variable_of axis == variable_of other) ≡ false → stands_for form x other ≡ false
+apart_from form x axis other e apart =
+    let less = of_some_axis form x axis e in
+    let not_it : (x == variable_of other) ≡ false = subst (λ y. (y == variable_of other) ≡ false) (sym (axis_has form x axis e)) apart in
+    λ i. less i && not_it i
+
+term_part : (form : ℕ) (k : ℤ) (t : ℕ × ℤ) (child : Child) (r : Rect) → IsProper r → IsPart (cut_at (terms_cut form k (t ∷ [])) child r) (sides_of_term form k t child (whole r))
+term_part form k t child r proper = by_axis (axis_of form t.0) refl
   where
-    by_axis : (o : Option Axis) → axis_of t.0 ≡ o → IsPart (cut_at (option_and_then (λ axis. coefficient_cut k axis t.1) o) child r) (sides_of_term k t child (whole r))
-    by_axis None e = (proper, λ i axis. sides_besides k t child (whole r) axis (of_no_axis t.0 e axis) i)
+    by_axis : (o : Option Axis) → axis_of form t.0 ≡ o → IsPart (cut_at (option_and_then (λ axis. coefficient_cut k axis t.1) o) child r) (sides_of_term form k t child (whole r))
+    by_axis None e = (proper, λ i axis. sides_besides form k t child (whole r) axis (of_no_axis form t.0 e axis) i)
     by_axis (Some axis) e =
-        let at = axis_has t.0 axis e in
+        let at = stands form t.0 axis e in
         let left = span_after (coefficient_cut k axis t.1) child (side_of axis r) in
         let is = coefficient_after k t.1 axis child (side_of axis r) (proper_side axis r proper) in
-        subst (λ o. IsPart o (sides_of_term k t child (whole r))) (sym (axis_cut k t.1 axis child r))
-        (part_by axis r left (sides_of_term k t child (whole r)) proper (subst (IsSide left) (sym (sides_at k t child (whole r) axis at)) is)
-        (λ other apart. sides_besides k t child (whole r) other (subst (λ x. (x == variable_of other) ≡ false) (sym at) apart)))
+        subst (λ o. IsPart o (sides_of_term form k t child (whole r))) (sym (axis_cut k t.1 axis child r))
+        (part_by axis r left (sides_of_term form k t child (whole r)) proper (subst (IsSide left) (sym (sides_at form k t child (whole r) axis at)) is)
+        (λ other apart. sides_besides form k t child (whole r) other (apart_from form t.0 axis other e apart)))
 
-terms_part : (k : ℤ) (ts : Terms) (child : Child) (r : Rect) → IsProper r → IsPart (cut_at (terms_cut k ts) child r) (left_child (record { k = k; terms = ts }) child (whole r))
-terms_part k [] First r proper = (proper, refl)
-terms_part k [] Second r proper = (proper, refl)
-terms_part k (t ∷ []) First r proper = term_part k t First r proper
-terms_part k (t ∷ []) Second r proper = term_part k t Second r proper
-terms_part k (t ∷ u ∷ ts) First r proper = (proper, refl)
-terms_part k (t ∷ u ∷ ts) Second r proper = (proper, refl)
+terms_part : (form : ℕ) (k : ℤ) (ts : Terms) (child : Child) (r : Rect) → IsProper r → IsPart (cut_at (terms_cut form k ts) child r) (left_child form (record { k = k; terms = ts }) child (whole r))
+terms_part form k [] First r proper = (proper, refl)
+terms_part form k [] Second r proper = (proper, refl)
+terms_part form k (t ∷ []) First r proper = term_part form k t First r proper
+terms_part form k (t ∷ []) Second r proper = term_part form k t Second r proper
+terms_part form k (t ∷ u ∷ ts) First r proper = (proper, refl)
+terms_part form k (t ∷ u ∷ ts) Second r proper = (proper, refl)
 
 -- where nothing is left, nothing is
 abbrev IsEmpty : Sides → Type 0
 IsEmpty sides = (axis : Axis) × ((sides axis).most <ℤ (sides axis).least)
 
-term_empty : (k : ℤ) (t : ℕ × ℤ) (sides : Sides) → IsEmpty sides → IsEmpty (cut_sides k t sides)
-term_empty k t sides h = (h.0, by_test (t.0 == variable_of h.0))
+term_empty : (form : ℕ) (k : ℤ) (t : ℕ × ℤ) (sides : Sides) → IsEmpty sides → IsEmpty (cut_sides form k t sides)
+term_empty form k t sides h = (h.0, by_test (stands_for form t.0 h.0))
   where
     by_test : (b : Bool) → (cond b (cut_a_side k t.1 (sides h.0)) (sides h.0)).most <ℤ (cond b (cut_a_side k t.1 (sides h.0)) (sides h.0)).least
     by_test true = none_stays k t.1 (sides h.0) h.1
     by_test false = h.1
 
-terms_empty : (k : ℤ) (ts : Terms) (sides : Sides) → IsEmpty sides → IsEmpty (left_by_terms k ts sides)
-terms_empty k [] sides h = h
-terms_empty k (t ∷ []) sides h = term_empty k t sides h
-terms_empty k (t ∷ u ∷ ts) sides h = h
+terms_empty : (form : ℕ) (k : ℤ) (ts : Terms) (sides : Sides) → IsEmpty sides → IsEmpty (left_by_terms form k ts sides)
+terms_empty form k [] sides h = h
+terms_empty form k (t ∷ []) sides h = term_empty form k t sides h
+terms_empty form k (t ∷ u ∷ ts) sides h = h
 
-child_empty : (row : Form) (child : Child) (sides : Sides) → IsEmpty sides → IsEmpty (left_child row child sides)
-child_empty row First sides h = terms_empty row.k row.terms sides h
-child_empty row Second sides h = terms_empty (denied row).k (denied row).terms sides h
+child_empty : (form : ℕ) (row : Form) (child : Child) (sides : Sides) → IsEmpty sides → IsEmpty (left_child form row child sides)
+child_empty form row First sides h = terms_empty form row.k row.terms sides h
+child_empty form row Second sides h = terms_empty form (denied row).k (denied row).terms sides h
 
-pub child_sides : (row : Form) (child : Child) (part : Option Rect) (sides : Sides) → IsPart part sides → IsPart (option_and_then (cut_at (cut_of row) child) part) (left_child row child sides)
-child_sides row child None sides h = child_empty row child sides h
-child_sides row child (Some r) sides h = subst (λ s. IsPart (cut_at (cut_of row) child r) (left_child row child s)) (sym h.1) (terms_part row.k row.terms child r h.0)
+pub child_sides : (form : ℕ) (row : Form) (child : Child) (part : Option Rect) (sides : Sides) → IsPart part sides → IsPart (option_and_then (cut_at (cut_of form row) child) part) (left_child form row child sides)
+child_sides form row child None sides h = child_empty form row child sides h
+child_sides form row child (Some r) sides h = subst (λ s. IsPart (cut_at (cut_of form row) child r) (left_child form row child s)) (sym h.1) (terms_part form row.k row.terms child r h.0)
 
 -- ---- how many worlds, and which
 
@@ -234,21 +250,22 @@ none_counted s h = gap_none s.least (s.most +ℤ pos 1) (omega (arith, ints, h))
 pub none_small : (sides : Sides) → IsPart None sides → nat_le (world_count sides) 64 ≡ true
 none_small sides h = by_axis h.0 (none_counted (sides h.0) h.1)
   where
-    zero_first : (n : ℕ) → nat_le (1 * 0 * n) 64 ≡ true
-    zero_first n = let none : 1 * 0 * n ≡ 0 = omega arith in ap (λ m. nat_le m 64) none
+    zero_first : (m n : ℕ) → nat_le (0 * m * n) 64 ≡ true
+    zero_first m n = let none : 0 * m * n ≡ 0 = omega arith in ap (λ k. nat_le k 64) none
 
-    zero_last : (n : ℕ) → nat_le (1 * n * 0) 64 ≡ true
-    zero_last n = let none : 1 * n * 0 ≡ 0 = omega arith in ap (λ m. nat_le m 64) none
+    zero_middle : (m n : ℕ) → nat_le (m * 0 * n) 64 ≡ true
+    zero_middle m n = let none : m * 0 * n ≡ 0 = omega arith in ap (λ k. nat_le k 64) none
+
+    zero_last : (n : ℕ) → nat_le (n * 0) 64 ≡ true
+    zero_last n = let none : n * 0 ≡ 0 = omega arith in ap (λ k. nat_le k 64) none
 
     by_axis : (axis : Axis) → count (sides axis) ≡ 0 → nat_le (world_count sides) 64 ≡ true
-    by_axis Width e = ap (λ n. nat_le (1 * n * count (sides Size)) 64) e ∙ zero_first (count (sides Size))
-    by_axis Size e = ap (λ n. nat_le (1 * count (sides Width) * n) 64) e ∙ zero_last (count (sides Width))
+    by_axis Width e = ap (λ n. nat_le (n * count (sides Size) * count (sides Height)) 64) e ∙ zero_first (count (sides Size)) (count (sides Height))
+    by_axis Size e = ap (λ n. nat_le (count (sides Width) * n * count (sides Height)) 64) e ∙ zero_middle (count (sides Width)) (count (sides Height))
+    by_axis Height e = ap (λ n. nat_le (count (sides Width) * count (sides Size) * n) 64) e ∙ zero_last (count (sides Width) * count (sides Size))
 
 pub some_count : (r : Rect) (sides : Sides) → IsPart (Some r) sides → world_count sides ≡ count_of r
-some_count r sides h = ap world_count h.1 ∙ ap (λ n. n * (r.sh + 1 - r.sl)) (once (r.wh + 1 - r.wl))
-  where
-    once : (n : ℕ) → 1 * n ≡ n
-    once n = omega arith
+some_count r sides h = ap world_count h.1
 
 pub none_inside : (sides : Sides) → IsPart None sides → (world : World) → IsInside sides world → ⊥
 none_inside sides h world i =
@@ -276,11 +293,11 @@ abbrev pub step_at : Child → Form → Step
 step_at First row = first row
 step_at Second row = second row
 
-module _ (row : Form) (child : Child) (old new : Job) (path below : Path) (part under : Option Rect) (same : new ≡ old) (down : below ≡ step_at child row ∷ path) (is : under ≡ option_and_then (cut_at (cut_of row) child) part) where
+module _ (row : Form) (child : Child) (old new : Job) (path below : Path) (part under : Option Rect) (same : new ≡ old) (down : below ≡ step_at child row ▸ path) (is : under ≡ option_and_then (cut_at (cut_of (form_of path) row) child) part) where
   pub variables_under : (n : ℕ) → variables path ≤ n → variables below ≤ n
   variables_under n le = by_child child down
     where
-      by_child : (c : Child) → below ≡ step_at c row ∷ path → variables below ≤ n
+      by_child : (c : Child) → below ≡ step_at c row ▸ path → variables below ≤ n
       by_child First d = subst (λ p. variables p ≤ n) (sym d) le
       by_child Second d = subst (λ p. variables p ≤ n) (sym d) le
 
@@ -288,9 +305,9 @@ module _ (row : Form) (child : Child) (old new : Job) (path below : Path) (part 
   part_under h =
       subst (λ (j : Job). IsPart under (rectangle j.range below)) (sym same) (subst (λ o. IsPart o (rectangle old.range below)) (sym is) (by_child child down))
     where
-      by_child : (c : Child) → below ≡ step_at c row ∷ path → IsPart (option_and_then (cut_at (cut_of row) c) part) (rectangle old.range below)
-      by_child First d = subst (λ p. IsPart (option_and_then (cut_at (cut_of row) First) part) (rectangle old.range p)) (sym d) (child_sides row First part (rectangle old.range path) h)
-      by_child Second d = subst (λ p. IsPart (option_and_then (cut_at (cut_of row) Second) part) (rectangle old.range p)) (sym d) (child_sides row Second part (rectangle old.range path) h)
+      by_child : (c : Child) → below ≡ step_at c row ▸ path → IsPart (option_and_then (cut_at (cut_of (form_of path) row) c) part) (rectangle old.range below)
+      by_child First d = subst (λ p. IsPart (option_and_then (cut_at (cut_of (form_of path) row) First) part) (rectangle old.range p)) (sym d) (child_sides (form_of path) row First part (rectangle old.range path) h)
+      by_child Second d = subst (λ p. IsPart (option_and_then (cut_at (cut_of (form_of path) row) Second) part) (rectangle old.range p)) (sym d) (child_sides (form_of path) row Second part (rectangle old.range path) h)
 
   pub within_under : IfSome part (IsWithin old.range) → IfSome under (IsWithin new.range)
-  within_under h = subst (λ (j : Job). IfSome under (IsWithin j.range)) (sym same) (subst (λ o. IfSome o (IsWithin old.range)) (sym is) (cut_within (cut_of row) child old.range part h))
+  within_under h = subst (λ (j : Job). IfSome under (IsWithin j.range)) (sym same) (subst (λ o. IfSome o (IsWithin old.range)) (sym is) (cut_within (cut_of (form_of path) row) child old.range part h))

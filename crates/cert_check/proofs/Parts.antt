@@ -1,12 +1,12 @@
 -- Which rows are unit rows, and where the parts of a rectangle lie.
-use Rattle.std.proofs.Common.{◌≡◌, ◌+◌, ◌≤◌, ℤ, pos, negsuc, neg_ℤ, ◌-ℤ◌, Bool, true, false, cond, nat_lt, nat_le, [], ◌∷◌, min, max, Option, Some, None, refl, sym, subst, arith, inl, inr, IsTrue}
+use Rattle.std.proofs.Common.{◌≡◌, ℕ, ◌+◌, ◌<◌, ◌≤◌, ◌==◌, ℤ, pos, negsuc, neg_ℤ, ◌-ℤ◌, Bool, true, false, cond, nat_lt, nat_le, ◌&&◌, [], ◌∷◌, min, max, Option, Some, None, refl, sym, ◌∙◌, ap, subst, arith, inl, inr, IsTrue}
 use Rattle.std.specs.Prelude.{◌⊎◌, ◌↔◌, IfSome}
 use Rattle.std.specs.Ordering.{int_eq}
 use Rattle.std.specs.Option.{option_map, option_and_then, is_some}
-use Rattle.std.proofs.lemmas.Bool.Decides.{Decides-int_eq}
+use Rattle.std.proofs.lemmas.Bool.Decides.{nat_tests, Decides-int_eq}
 use Rattle.std.proofs.lemmas.Option.{same_Some}
 use Rattle.viz_base.specs.declared.worlds.Axis.{Axis}
-use Rattle.viz_base.specs.declared.worlds.Axis.TheVariants.{Width, Size}
+use Rattle.viz_base.specs.declared.worlds.Axis.TheVariants.{Width, Size, Height}
 use Rattle.viz_base.specs.declared.worlds.Span.{Span}
 use Rattle.viz_base.specs.declared.worlds.Rect.{Rect}
 use Rattle.viz_base.specs.Worlds.{side_of, with_side}
@@ -16,8 +16,8 @@ use Rattle.cert_check.specs.declared.cuts.Child.{Child}
 use Rattle.cert_check.specs.declared.cuts.Opens.{Opens}
 use Rattle.cert_check.specs.declared.cuts.Opens.TheVariants.{Above, UpTo}
 use Rattle.cert_check.specs.declared.cuts.Cut.{Cut}
-use Rattle.cert_path.specs.Axes.{variable_of, axis_of}
-use Rattle.cert_path.proofs.Variables.{own_axis, axis_has}
+use Rattle.cert_path.specs.Axes.{variable_of, axis_of, axis_count, stands_for}
+use Rattle.cert_path.proofs.Variables.{some_axis, have_variables}
 use Rattle.cert_check.specs.Rectangles.{IsWithin, coefficient_cut, terms_cut, at_most, above, cut_side, toward, part_of, is_unit}
 
 -- ---- unit rows
@@ -35,29 +35,42 @@ unit_coefficient k axis c h = by_test (int_eq c (pos 1)) refl (int_eq c (negsuc 
     by_test false e true f h = inr (int_test c (negsuc 0) f)
     by_test false e false f h = absurd (cc)
 
-unit_terms : (k : ℤ) (ts : Terms) → IsTrue (is_some (terms_cut k ts)) → IsUnit (record { k = k; terms = ts })
-unit_terms k [] h = absurd (cc)
-unit_terms k (t ∷ []) h = by_axis (axis_of t.0) refl h
+-- whether a variable is one of an axis
+of_axis : (form x : ℕ) (o : Option Axis) → axis_of form x ≡ o → nat_lt x (axis_count form) ≡ is_some o
+of_axis form x o e = sym ((have_variables form).below x) ∙ ap is_some e
+
+pub of_some_axis : (form x : ℕ) (axis : Axis) → axis_of form x ≡ Some axis → nat_lt x (axis_count form) ≡ true
+of_some_axis form x axis = of_axis form x (Some axis)
+
+-- of none it stands for no axis
+pub of_no_axis : (form x : ℕ) → axis_of form x ≡ None → (axis : Axis) → stands_for form x axis ≡ false
+of_no_axis form x e axis = let none = of_axis form x None e in λ i. none i && x == variable_of axis
+
+unit_terms : (form : ℕ) (k : ℤ) (ts : Terms) → IsTrue (is_some (terms_cut form k ts)) → IsUnit form (record { k = k; terms = ts })
+unit_terms form k [] h = absurd (cc)
+unit_terms form k (t ∷ []) h = by_axis (axis_of form t.0) refl h
   where
-    by_axis : (o : Option Axis) → axis_of t.0 ≡ o → IsTrue (is_some (option_and_then (λ axis. coefficient_cut k axis t.1) o)) → IsUnit (record { k = k; terms = t ∷ [] })
+    by_axis : (o : Option Axis) → axis_of form t.0 ≡ o → IsTrue (is_some (option_and_then (λ axis. coefficient_cut k axis t.1) o)) → IsUnit form (record { k = k; terms = t ∷ [] })
     by_axis (Some axis) e h =
-        let at = axis_has t.0 axis e in
-        record { axis = axis; coefficient = t.1; terms = λ i. (at i, t.1) ∷ []; unit = unit_coefficient k axis t.1 h }
+        let less : nat_lt t.0 (axis_count form) ≡ true = of_some_axis form t.0 axis e in
+        record { variable = t.0; of_axis = grind (arith, nat_tests); coefficient = t.1; terms = refl; unit = unit_coefficient k axis t.1 h }
     by_axis None e h = absurd (cc)
-unit_terms k (t ∷ u ∷ ts) h = absurd (cc)
+unit_terms form k (t ∷ u ∷ ts) h = absurd (cc)
 
 cut_coefficient : (k : ℤ) (axis : Axis) (c : ℤ) → (c ≡ pos 1) ⊎ (c ≡ negsuc 0) → IsTrue (is_some (coefficient_cut k axis c))
 cut_coefficient k axis c (inl e) = subst (λ d. IsTrue (is_some (coefficient_cut k axis d))) (sym e) refl
 cut_coefficient k axis c (inr e) = subst (λ d. IsTrue (is_some (coefficient_cut k axis d))) (sym e) refl
 
-cut_variable : (k : ℤ) (axis : Axis) (c : ℤ) → (c ≡ pos 1) ⊎ (c ≡ negsuc 0) → IsTrue (is_some (option_and_then (λ other. coefficient_cut k other c) (axis_of (variable_of axis))))
-cut_variable k axis c unit = subst (λ o. IsTrue (is_some (option_and_then (λ other. coefficient_cut k other c) o))) (sym (own_axis axis)) (cut_coefficient k axis c unit)
+cut_variable : (form : ℕ) (k : ℤ) (x : ℕ) (c : ℤ) → x < axis_count form → (c ≡ pos 1) ⊎ (c ≡ negsuc 0) → IsTrue (is_some (option_and_then (λ other. coefficient_cut k other c) (axis_of form x)))
+cut_variable form k x c less unit =
+    let at = some_axis form x less in
+    subst (λ o. IsTrue (is_some (option_and_then (λ other. coefficient_cut k other c) o))) (sym at.1) (cut_coefficient k at.0 c unit)
 
-cut_unit : (row : Form) → IsUnit row → IsTrue (is_unit row)
-cut_unit row h = subst (λ ts. IsTrue (is_some (terms_cut row.k ts))) (sym h.terms) (cut_variable row.k h.axis h.coefficient h.unit)
+cut_unit : (form : ℕ) (row : Form) → IsUnit form row → IsTrue (is_unit form row)
+cut_unit form row h = subst (λ ts. IsTrue (is_some (terms_cut form row.k ts))) (sym h.terms) (cut_variable form row.k h.variable h.coefficient h.of_axis h.unit)
 
-pub unit_is_unit_row : (row : Form) → IsTrue (is_unit row) ↔ IsUnit row
-unit_is_unit_row row = (unit_terms row.k row.terms, cut_unit row)
+pub unit_is_unit_row : (form : ℕ) (row : Form) → IsTrue (is_unit form row) ↔ IsUnit form row
+unit_is_unit_row form row = (unit_terms form row.k row.terms, cut_unit form row)
 
 -- ---- parts lie within
 
@@ -91,8 +104,12 @@ cut_side-shrinks UpTo b side = at_most-shrinks b side
 
 within_side : (axis : Axis) (outer r : Rect) (side : Span) → IsWithin outer r → (side_of axis r).least ≤ side.least → side.most ≤ (side_of axis r).most
     → IsWithin outer (with_side axis r side)
-within_side Width outer r side w l m = record { width_least = omega arith; width_most = omega arith; size_least = w.size_least; size_most = w.size_most }
-within_side Size outer r side w l m = record { width_least = w.width_least; width_most = w.width_most; size_least = omega arith; size_most = omega arith }
+within_side Width outer r side w l m =
+    record { width_least = omega arith; width_most = omega arith; size_least = w.size_least; size_most = w.size_most; height_least = w.height_least; height_most = w.height_most }
+within_side Size outer r side w l m =
+    record { width_least = w.width_least; width_most = w.width_most; size_least = omega arith; size_most = omega arith; height_least = w.height_least; height_most = w.height_most }
+within_side Height outer r side w l m =
+    record { width_least = w.width_least; width_most = w.width_most; size_least = w.size_least; size_most = w.size_most; height_least = omega arith; height_most = omega arith }
 
 part_within : (cut : Cut) (child : Child) (outer r : Rect) → IsWithin outer r → IfSome (part_of cut child r) (IsWithin outer)
 unfolding Shrinks

@@ -2,24 +2,24 @@
 use Rattle.std.proofs.Common.{◌≡◌, ℕ, zero, suc, ◌==◌, ℤ, pos, ◌+ℤ◌, ◌*ℤ◌, ◌≤ℤ◌, ◌<ℤ◌, Bool, true, false, cond, ◌&&◌, ◌||◌, List, [], ◌∷◌, ◌++◌, length, Option, Some, None, refl, sym, ◌∙◌, ap, subst, arith, length-append}
 use Rattle.std.proofs.lemmas.Bool.{and_parts}
 use Rattle.std.specs.Prelude.{is_some, map, option_and_then, ⊤}
-use Rattle.std.specs.Option.{option_map}
+use Rattle.std.specs.Option.{option_map, option_map_or}
 use Rattle.std.specs.Int.{int_div_euclid}
 use Rattle.std.specs.Int.RustNames.{int_le}
 use Rattle.std.specs.Int.Signed.{lt_z}
 use Rattle.std.proofs.lemmas.Int.{ints}
 use Rattle.std.proofs.lemmas.Bool.Decides.{nat_tests}
-use Rattle.std.proofs.lemmas.Option.{same_Some}
+use Rattle.std.proofs.lemmas.Option.{same_Some, slice_get-map}
 use Rattle.viz_base.specs.declared.worlds.World.{World}
-use Rattle.viz_base.specs.declared.worlds.Axis.TheVariants.{Width, Size}
+use Rattle.viz_base.specs.declared.worlds.Axis.{Axis}
 use Rattle.lin_row.specs.Form.{Form, Terms, value, terms_value}
 use Rattle.lin_row.specs.Number.{in_i128}
 use Rattle.viz_base.specs.Worlds.{along}
-use Rattle.cert_path.specs.Axes.{axes, number_on}
-use Rattle.cert_path.specs.Paths.{def, first, second, Path, variables, with_value, with_floor, values_at, values_along}
+use Rattle.cert_path.specs.Axes.{axes, axis_of, number_on}
+use Rattle.cert_path.specs.Paths.{def, first, second, lemma, Path, root, ◌▸◌, form_of, variables, with_value, with_floor, values_at, values_along}
 use Rattle.sym_calc.proofs.Knowing.{to_le}
 use Rattle.cert_check.specs.Rectangles.{is_unit}
 use Rattle.cert_check.specs.declared.descent.Above.{Above}
-use Rattle.cert_check.specs.declared.descent.Above.TheVariants.{Def, First, Second}
+use Rattle.cert_check.specs.declared.descent.Above.TheVariants.{Def, First, Second, Lemma}
 use Rattle.cert_check.specs.Numbers.{checked, add_term, sum_on, computed, are_computed}
 use Rattle.cert_check.specs.steps.Descent.{step_of, path_from, path_of}
 use Rattle.cert_check.specs.steps.Grids.{value_in, pass, place_from, place_of}
@@ -55,30 +55,40 @@ computed_is row v z e = sum_is row.k row.terms v z e
 -- ---- the values of the variables as a list
 
 numbers_at : World → Path → List ℤ
-numbers_at world [] = map (λ axis. pos (along axis world)) axes
-numbers_at world (def row d ∷ outer) = numbers_at world outer ++ int_div_euclid (value row (value_in (numbers_at world outer))) d ∷ []
-numbers_at world (first row ∷ outer) = numbers_at world outer
-numbers_at world (second row ∷ outer) = numbers_at world outer
+numbers_at world (root form) = map (λ axis. pos (along axis world)) (axes form)
+numbers_at world (def row d ▸ outer) = numbers_at world outer ++ int_div_euclid (value row (value_in (numbers_at world outer))) d ∷ []
+numbers_at world (first row ▸ outer) = numbers_at world outer
+numbers_at world (second row ▸ outer) = numbers_at world outer
+numbers_at world (lemma row ▸ outer) = numbers_at world outer
 
-numbers-def : (world : World) (row : Form) (d : ℤ) (path : Path) → numbers_at world (def row d ∷ path) ≡ numbers_at world path ++ int_div_euclid (value row (value_in (numbers_at world path))) d ∷ []
+numbers-def : (world : World) (row : Form) (d : ℤ) (path : Path) → numbers_at world (def row d ▸ path) ≡ numbers_at world path ++ int_div_euclid (value row (value_in (numbers_at world path))) d ∷ []
 unfolding numbers_at
 numbers-def world row d path = refl
 
-numbers-first : (world : World) (row : Form) (path : Path) → numbers_at world (first row ∷ path) ≡ numbers_at world path
+numbers-first : (world : World) (row : Form) (path : Path) → numbers_at world (first row ▸ path) ≡ numbers_at world path
 unfolding numbers_at
 numbers-first world row path = refl
 
-numbers-second : (world : World) (row : Form) (path : Path) → numbers_at world (second row ∷ path) ≡ numbers_at world path
+numbers-second : (world : World) (row : Form) (path : Path) → numbers_at world (second row ▸ path) ≡ numbers_at world path
 unfolding numbers_at
 numbers-second world row path = refl
 
+numbers-lemma : (world : World) (row : Form) (path : Path) → numbers_at world (lemma row ▸ path) ≡ numbers_at world path
+unfolding numbers_at
+numbers-lemma world row path = refl
+
+length_map : {A B : Type 0} (f : A → B) (xs : List A) → length (map f xs) ≡ length xs
+length_map f [] = refl
+length_map f (x ∷ xs) = ap suc (length_map f xs)
+
 count_is : (world : World) (path : Path) → length (numbers_at world path) ≡ variables path
 unfolding numbers_at
-count_is world [] = refl
-count_is world (def row d ∷ outer) =
+count_is world (root form) = length_map (λ axis. pos (along axis world)) (axes form)
+count_is world (def row d ▸ outer) =
     omega (arith, count_is world outer, length-append (numbers_at world outer) (int_div_euclid (value row (value_in (numbers_at world outer))) d ∷ []))
-count_is world (first row ∷ outer) = count_is world outer
-count_is world (second row ∷ outer) = count_is world outer
+count_is world (first row ▸ outer) = count_is world outer
+count_is world (second row ▸ outer) = count_is world outer
+count_is world (lemma row ▸ outer) = count_is world outer
 
 value_push : (ns : List ℤ) (q : ℤ) (x : ℕ) → value_in (ns ++ q ∷ []) x ≡ with_value (value_in ns) (length ns) q x
 value_push [] q zero = refl
@@ -102,33 +112,32 @@ value_push (n ∷ ns) q (suc x) = value_push ns q x ∙ by_test (x == length ns)
 
 values_are : (world : World) (path : Path) → values_along world path ≡ value_in (numbers_at world path)
 unfolding numbers_at
-values_are world [] = λ i x. at_axis x i
+values_are world (root form) = λ i x. at_axis x i
   where
-    at_axis : (x : ℕ) → values_at world x ≡ value_in (map (λ axis. pos (along axis world)) axes) x
-    at_axis zero = refl
-    at_axis (suc zero) = refl
-    at_axis (suc (suc x)) = by_tests (suc (suc x) == 0) refl (suc (suc x) == 1) refl
-      where
-        by_tests : (a : Bool) → (suc (suc x) == 0) ≡ a → (b : Bool) → (suc (suc x) == 1) ≡ b → number_on (cond a (Some Width) (cond b (Some Size) None)) world ≡ pos 0
-        by_tests true e b f = absurd (grind (arith, nat_tests))
-        by_tests false e true f = absurd (grind (arith, nat_tests))
-        by_tests false e false f = refl
-values_are world (def row d ∷ outer) =
+    by_axis : (o : Option Axis) → number_on o world ≡ option_map_or (λ v. v) (option_map (λ axis. pos (along axis world)) o) (pos 0)
+    by_axis None = refl
+    by_axis (Some axis) = refl
+
+    at_axis : (x : ℕ) → values_at form world x ≡ value_in (map (λ axis. pos (along axis world)) (axes form)) x
+    at_axis x = by_axis (axis_of form x) ∙ ap (λ o. option_map_or (λ v. v) o (pos 0)) (sym (slice_get-map (λ axis. pos (along axis world)) (axes form) x))
+values_are world (def row d ▸ outer) =
     let above = values_are world outer in
     let count = count_is world outer in
     (λ i. with_floor row d (above i) (sym count i))
     ∙ sym (λ i x. value_push (numbers_at world outer) (int_div_euclid (value row (value_in (numbers_at world outer))) d) x i)
-values_are world (first row ∷ outer) = values_are world outer
-values_are world (second row ∷ outer) = values_are world outer
+values_are world (first row ▸ outer) = values_are world outer
+values_are world (second row ▸ outer) = values_are world outer
+values_are world (lemma row ▸ outer) = values_are world outer
 
 -- ---- the steps besides unit splits
 
 -- each split of the path that is no unit split is taken
 abbrev pub BesidesOn : World → Path → Type 0
-BesidesOn world [] = ⊤
-BesidesOn world (def row d ∷ outer) = BesidesOn world outer
-BesidesOn world (first row ∷ outer) = (is_unit row ≡ false → pos 0 ≤ℤ value row (values_along world outer)) × BesidesOn world outer
-BesidesOn world (second row ∷ outer) = (is_unit row ≡ false → value row (values_along world outer) <ℤ pos 0) × BesidesOn world outer
+BesidesOn world (root form) = ⊤
+BesidesOn world (def row d ▸ outer) = BesidesOn world outer
+BesidesOn world (first row ▸ outer) = (is_unit (form_of outer) row ≡ false → pos 0 ≤ℤ value row (values_along world outer)) × BesidesOn world outer
+BesidesOn world (second row ▸ outer) = (is_unit (form_of outer) row ≡ false → value row (values_along world outer) <ℤ pos 0) × BesidesOn world outer
+BesidesOn world (lemma row ▸ outer) = BesidesOn world outer
 
 -- what is known of the steps so far: they are computed, and the world is on them as the flag says
 record IsSoFar (world : World) (path : Path) (ns : List ℤ) (flag : Bool) : Type 0 where
@@ -146,12 +155,13 @@ Says world path (Some false) = (are_computed path world ≡ true) × (BesidesOn 
 -- a number that is outside stays so
 stays_outside : (world : World) (path : Path) (above : List Above) → are_computed path world ≡ false → are_computed (path_from path above) world ≡ false
 stays_outside world path [] e = e
-stays_outside world path (a ∷ above) e = stays_outside world (step_of a ∷ path) above (by_step a)
+stays_outside world path (a ∷ above) e = stays_outside world (step_of a ▸ path) above (by_step a)
   where
-    by_step : (a : Above) → are_computed (step_of a ∷ path) world ≡ false
+    by_step : (a : Above) → are_computed (step_of a ▸ path) world ≡ false
     by_step (Def row d) = (λ i. e i && is_some (computed row.now (values_along world path)))
-    by_step (First row) = (λ i. e i && (is_unit row.now || is_some (computed row.now (values_along world path))))
-    by_step (Second row) = (λ i. e i && (is_unit row.now || is_some (computed row.now (values_along world path))))
+    by_step (First row) = (λ i. e i && (is_unit (form_of path) row.now || is_some (computed row.now (values_along world path))))
+    by_step (Second row) = (λ i. e i && (is_unit (form_of path) row.now || is_some (computed row.now (values_along world path))))
+    by_step (Lemma row) = e
 
 end_says : (world : World) (path : Path) (ns : List ℤ) (on : Bool) → IsSoFar world path ns on → Says world path (Some on)
 end_says world path ns true h = (h.computed, h.on refl)
@@ -159,8 +169,8 @@ end_says world path ns false h = (h.computed, h.off refl)
 
 -- one step more
 abbrev Passes : World → Path → Above → Option (List ℤ × Bool) → Type 0
-Passes world path a None = are_computed (step_of a ∷ path) world ≡ false
-Passes world path a (Some p) = IsSoFar world (step_of a ∷ path) p.0 p.1
+Passes world path a None = are_computed (step_of a ▸ path) world ≡ false
+Passes world path a (Some p) = IsSoFar world (step_of a ▸ path) p.0 p.1
 
 as_along : (world : World) (path : Path) (ns : List ℤ) (row : Form) → ns ≡ numbers_at world path → computed row (value_in ns) ≡ computed row (values_along world path)
 as_along world path ns row is = ap (λ (l : List ℤ). computed row (value_in l)) is ∙ ap (computed row) (sym (values_are world path))
@@ -179,7 +189,7 @@ one_false : (a b : Bool) (P : Type 0) → (a && b) ≡ false → (a ≡ false �
 one_false true b P e f g = g e
 one_false false b P e f g = f refl
 
-passes : (world : World) (path : Path) (ns : List ℤ) (on : Bool) → IsSoFar world path ns on → (a : Above) → Passes world path a (pass a ns on)
+passes : (world : World) (path : Path) (ns : List ℤ) (on : Bool) → IsSoFar world path ns on → (a : Above) → Passes world path a (pass (form_of path) a ns on)
 passes world path ns on h (Def row d) = by_number (computed row.now (value_in ns)) refl
   where
     along : computed row.now (value_in ns) ≡ computed row.now (values_along world path)
@@ -197,12 +207,12 @@ passes world path ns on h (Def row d) = by_number (computed row.now (value_in ns
           on = h.on;
           off = h.off;
         }
-passes world path ns on h (First row) = by_unit (is_unit row.now) refl
+passes world path ns on h (First row) = by_unit (is_unit (form_of path) row.now) refl
   where
     along : computed row.now (value_in ns) ≡ computed row.now (values_along world path)
     along = as_along world path ns row.now h.values
 
-    by_number : is_unit row.now ≡ false → (o : Option ℤ) → computed row.now (value_in ns) ≡ o → Passes world path (First row) (option_map (λ v. (ns, on && int_le (pos 0) v)) o)
+    by_number : is_unit (form_of path) row.now ≡ false → (o : Option ℤ) → computed row.now (value_in ns) ≡ o → Passes world path (First row) (option_map (λ v. (ns, on && int_le (pos 0) v)) o)
     by_number u None e = let past = h.computed in let none = ap is_some (sym along ∙ e) in λ i. past i && (u i || none i)
     by_number u (Some z) e =
         let past = h.computed in
@@ -215,7 +225,7 @@ passes world path ns on h (First row) = by_unit (is_unit row.now) refl
           off = λ f b. one_false on (int_le (pos 0) z) ⊥ f (λ o. h.off o b.1) (λ l. not_le z l (subst (λ y. pos 0 ≤ℤ y) (sym z_is) (b.0 u)));
         }
 
-    by_unit : (b : Bool) → is_unit row.now ≡ b → Passes world path (First row) (cond b (Some (ns, on)) (option_map (λ v. (ns, on && int_le (pos 0) v)) (computed row.now (value_in ns))))
+    by_unit : (b : Bool) → is_unit (form_of path) row.now ≡ b → Passes world path (First row) (cond b (Some (ns, on)) (option_map (λ v. (ns, on && int_le (pos 0) v)) (computed row.now (value_in ns))))
     by_unit true u =
         let past = h.computed in
         record {
@@ -225,12 +235,12 @@ passes world path ns on h (First row) = by_unit (is_unit row.now) refl
           off = λ f b. h.off f b.1;
         }
     by_unit false u = by_number u (computed row.now (value_in ns)) refl
-passes world path ns on h (Second row) = by_unit (is_unit row.now) refl
+passes world path ns on h (Second row) = by_unit (is_unit (form_of path) row.now) refl
   where
     along : computed row.now (value_in ns) ≡ computed row.now (values_along world path)
     along = as_along world path ns row.now h.values
 
-    by_number : is_unit row.now ≡ false → (o : Option ℤ) → computed row.now (value_in ns) ≡ o → Passes world path (Second row) (option_map (λ v. (ns, on && lt_z v (pos 0))) o)
+    by_number : is_unit (form_of path) row.now ≡ false → (o : Option ℤ) → computed row.now (value_in ns) ≡ o → Passes world path (Second row) (option_map (λ v. (ns, on && lt_z v (pos 0))) o)
     by_number u None e = let past = h.computed in let none = ap is_some (sym along ∙ e) in λ i. past i && (u i || none i)
     by_number u (Some z) e =
         let past = h.computed in
@@ -243,7 +253,7 @@ passes world path ns on h (Second row) = by_unit (is_unit row.now) refl
           off = λ f b. one_false on (lt_z z (pos 0)) ⊥ f (λ o. h.off o b.1) (λ l. not_lt z l (subst (λ y. y <ℤ pos 0) (sym z_is) (b.0 u)));
         }
 
-    by_unit : (b : Bool) → is_unit row.now ≡ b → Passes world path (Second row) (cond b (Some (ns, on)) (option_map (λ v. (ns, on && lt_z v (pos 0))) (computed row.now (value_in ns))))
+    by_unit : (b : Bool) → is_unit (form_of path) row.now ≡ b → Passes world path (Second row) (cond b (Some (ns, on)) (option_map (λ v. (ns, on && lt_z v (pos 0))) (computed row.now (value_in ns))))
     by_unit true u =
         let past = h.computed in
         record {
@@ -253,19 +263,25 @@ passes world path ns on h (Second row) = by_unit (is_unit row.now) refl
           off = λ f b. h.off f b.1;
         }
     by_unit false u = by_number u (computed row.now (value_in ns)) refl
+passes world path ns on h (Lemma row) = record {
+  values = h.values ∙ sym (numbers-lemma world row.now path);
+  computed = h.computed;
+  on = h.on;
+  off = h.off;
+}
 
-places : (world : World) (path : Path) (ns : List ℤ) (on : Bool) → IsSoFar world path ns on → (above : List Above) → Says world (path_from path above) (place_from above ns on)
+places : (world : World) (path : Path) (ns : List ℤ) (on : Bool) → IsSoFar world path ns on → (above : List Above) → Says world (path_from path above) (place_from (form_of path) above ns on)
 places world path ns on h [] = end_says world path ns on h
-places world path ns on h (a ∷ above) = by_pass (λ p f. places world (step_of a ∷ path) p.0 p.1 f above) (pass a ns on) (passes world path ns on h a)
+places world path ns on h (a ∷ above) = by_pass (λ p f. places world (step_of a ▸ path) p.0 p.1 f above) (pass (form_of path) a ns on) (passes world path ns on h a)
   where
-    by_pass : ((p : List ℤ × Bool) → IsSoFar world (step_of a ∷ path) p.0 p.1 → Says world (path_from (step_of a ∷ path) above) (place_from above p.0 p.1))
-        → (o : Option (List ℤ × Bool)) → Passes world path a o → Says world (path_from (step_of a ∷ path) above) (option_and_then (λ p. place_from above p.0 p.1) o)
-    by_pass rest None f = stays_outside world (step_of a ∷ path) above f
+    by_pass : ((p : List ℤ × Bool) → IsSoFar world (step_of a ▸ path) p.0 p.1 → Says world (path_from (step_of a ▸ path) above) (place_from (form_of path) above p.0 p.1))
+        → (o : Option (List ℤ × Bool)) → Passes world path a o → Says world (path_from (step_of a ▸ path) above) (option_and_then (λ p. place_from (form_of path) above p.0 p.1) o)
+    by_pass rest None f = stays_outside world (step_of a ▸ path) above f
     by_pass rest (Some p) f = rest p f
 
-start : (world : World) → IsSoFar world [] (pos world.w ∷ pos world.s ∷ []) true
+start : (form : ℕ) (world : World) → IsSoFar world (root form) (map (λ axis. pos (along axis world)) (axes form)) true
 unfolding numbers_at
-start world = record { values = refl; computed = refl; on = λ t. tt; off = λ f. absurd (cc) }
+start form world = record { values = refl; computed = refl; on = λ t. tt; off = λ f. absurd (cc) }
 
-pub place_says : (world : World) (above : List Above) → Says world (path_of above) (place_of above world)
-place_says world above = places world [] (pos world.w ∷ pos world.s ∷ []) true (start world) above
+pub place_says : (form : ℕ) (world : World) (above : List Above) → Says world (path_of form above) (place_of form above world)
+place_says form world above = places world (root form) (map (λ axis. pos (along axis world)) (axes form)) true (start form world) above

@@ -1,5 +1,5 @@
 -- Certificates of unit splits and grids keep their numbers in `i128`.
-use Rattle.std.proofs.Common.{◌≡◌, ℕ, ◌<◌, ◌^◌, ◌-◌, ℤ, pos, negsuc, neg_ℤ, ◌-ℤ◌, true, ◌&&◌, ◌||◌, nat_lt, List, [], ◌∷◌, ◌++◌, refl, sym, ◌∙◌, subst, arith, inl, inr, FitsSigned}
+use Rattle.std.proofs.Common.{◌≡◌, ℕ, ◌<◌, ◌^◌, ◌-◌, ℤ, pos, negsuc, neg_ℤ, ◌-ℤ◌, true, ◌&&◌, ◌||◌, nat_lt, List, ◌∷◌, ◌++◌, refl, sym, ◌∙◌, subst, arith, inl, inr, FitsSigned}
 use Rattle.std.specs.Prelude.{◌⊎◌, is_some}
 use Rattle.std.specs.Int.{w128}
 use Rattle.std.specs.List.{AllByRecursion}
@@ -16,13 +16,13 @@ use Rattle.lin_row.proofs.Opposites.{in_i128-fit}
 use Rattle.cert_text.specs.declared.certificate.CertNode.{CertNode}
 use Rattle.cert_text.specs.declared.certificate.CertNode.TheOpen.{CertNode-F}
 use Rattle.cert_text.specs.declared.certificate.CertNode.TheFolds.{fold-roll-CertNode}
-use Rattle.cert_text.specs.Texts.{Nested, job_has_text, row_has_text, terms_have_text, node_nested, node_has_text}
-use Rattle.cert_path.specs.Paths.{def, first, second, Path, values_along}
+use Rattle.cert_text.specs.Texts.{Nested, head_has_text, row_has_text, terms_have_text, node_nested, node_has_text}
+use Rattle.cert_path.specs.Paths.{def, first, second, lemma, Path, root, ◌▸◌, form_of, values_along}
 use Rattle.cert_path.specs.Nodes.{splits, Node, nodes_from, nodes_of}
 use Rattle.cert_path.specs.Laws.{IsUnit}
-use Rattle.cert_path.proofs.Trees.{by_nodes, nodes-def, nodes-split, nodes-void, nodes-grid, nodes-leaf}
+use Rattle.cert_path.proofs.Trees.{by_nodes, nodes-def, nodes-split, nodes-lemma, nodes-void, nodes-grid, nodes-leaf}
 use Rattle.cert_check.specs.Numbers.{computed, are_computed}
-use Rattle.cert_check.specs.Rectangles.{AreUnits}
+use Rattle.cert_check.specs.Rectangles.{is_unit, AreUnits}
 use Rattle.cert_check.specs.Right.{IsWithin128, IsUnitOrGrid}
 use Rattle.cert_check.specs.Laws.{UnitsArePlain}
 use Rattle.cert_check.proofs.Parts.{unit_is_unit_row}
@@ -44,8 +44,8 @@ unit_opposite : (c : ℤ) → (c ≡ pos 1) ⊎ (c ≡ negsuc 0) → in_i128 (ne
 unit_opposite c (inl e) = λ i. in_i128 (neg_ℤ (e i))
 unit_opposite c (inr e) = λ i. in_i128 (neg_ℤ (e i))
 
-denied_fits : (row : Form) → in_i128 row.k ≡ true → IsUnit row → form_fits (denied row) ≡ true
-denied_fits row e u =
+denied_fits : (form : ℕ) (row : Form) → in_i128 row.k ≡ true → IsUnit form row → form_fits (denied row) ≡ true
+denied_fits form row e u =
     let number = denied_number row.k e in
     let one = unit_opposite u.coefficient u.unit in
     let terms : terms_fit (opposites row.terms) ≡ true = (λ i. terms_fit (opposites (u.terms i))) ∙ (λ i. one i && true) in
@@ -55,59 +55,61 @@ denied_fits row e u =
 
 -- they have no numbers to compute
 pub units_computed : (path : Path) → AreUnits path → (world : World) → are_computed path world ≡ true
-units_computed [] h world = refl
-units_computed (def row d ∷ outer) h world = absurd h
-units_computed (first row ∷ outer) h world =
+units_computed (root form) h world = refl
+units_computed (def row d ▸ outer) h world = absurd h
+units_computed (first row ▸ outer) h world =
     let unit = h.0 in
     let rest = units_computed outer h.1 world in
     λ i. rest i && (unit i || is_some (computed row (values_along world outer)))
-units_computed (second row ∷ outer) h world =
+units_computed (second row ▸ outer) h world =
     let unit = h.0 in
     let rest = units_computed outer h.1 world in
     λ i. rest i && (unit i || is_some (computed row (values_along world outer)))
+units_computed (lemma row ▸ outer) h world = absurd h
 
 -- ---- nodes
 
-abbrev Units : List Node → Type 0
-Units = AllByRecursion (λ (node : Node). IsUnitOrGrid node.decision)
+abbrev Units : ℕ → List Node → Type 0
+Units form = AllByRecursion (λ (node : Node). IsUnitOrGrid form node.decision)
 
 module _ (job : Job) where
   abbrev Within : Node → Type 0
   Within node = IsWithin128 job node.path node.decision
 
   abbrev IsPlain : CertNode → Type 0
-  IsPlain node = (levels : ℕ) → node_has_text node levels ≡ true → (path : Path) → AreUnits path → Units (nodes_from node path) → AllByRecursion Within (nodes_from node path)
+  IsPlain node = (spelled levels : ℕ) → node_has_text spelled node levels ≡ true → (path : Path) → form_of path ≡ job.form → AreUnits path → Units job.form (nodes_from node path) → AllByRecursion Within (nodes_from node path)
 
-  split_plain : (row : Form) (one other : CertNode) → IsPlain one → IsPlain other → (levels : ℕ) → (nat_lt 0 levels && row_has_text row && node_has_text one (levels - 1) && node_has_text other (levels - 1)) ≡ true
-      → (path : Path) → AreUnits path → IsUnit row → Units (nodes_from one (first row ∷ path) ++ nodes_from other (second row ∷ path))
-      → AllByRecursion Within (record { path = path; decision = splits row } ∷ (nodes_from one (first row ∷ path) ++ nodes_from other (second row ∷ path)))
-  split_plain row one other h k levels text path units unit are =
-      let a = and_parts (nat_lt 0 levels && row_has_text row && node_has_text one (levels - 1)) (node_has_text other (levels - 1)) text in
-      let b = and_parts (nat_lt 0 levels && row_has_text row) (node_has_text one (levels - 1)) a.0 in
+  split_plain : (row : Form) (one other : CertNode) → IsPlain one → IsPlain other → (spelled levels : ℕ) → (nat_lt 0 levels && row_has_text row && node_has_text spelled one (levels - 1) && node_has_text spelled other (levels - 1)) ≡ true
+      → (path : Path) → form_of path ≡ job.form → AreUnits path → IsUnit job.form row → Units job.form (nodes_from one (first row ▸ path) ++ nodes_from other (second row ▸ path))
+      → AllByRecursion Within (record { path = path; decision = splits row } ∷ (nodes_from one (first row ▸ path) ++ nodes_from other (second row ▸ path)))
+  split_plain row one other h k spelled levels text path formed units unit are =
+      let a = and_parts (nat_lt 0 levels && row_has_text row && node_has_text spelled one (levels - 1)) (node_has_text spelled other (levels - 1)) text in
+      let b = and_parts (nat_lt 0 levels && row_has_text row) (node_has_text spelled one (levels - 1)) a.0 in
       let c = and_parts (nat_lt 0 levels) (row_has_text row) b.0 in
       let number = (and_parts (in_i128 row.k) (terms_have_text 0 row.terms) c.1).0 in
-      let test = (unit_is_unit_row row).1 unit in
-      let both = all_parts (λ (node : Node). IsUnitOrGrid node.decision) (nodes_from one (first row ∷ path)) (nodes_from other (second row ∷ path)) are in (
-        denied_fits row number unit,
-        all_append Within (nodes_from one (first row ∷ path)) (nodes_from other (second row ∷ path))
-            (h (levels - 1) b.1 (first row ∷ path) (test, units) both.0)
-            (k (levels - 1) a.1 (second row ∷ path) (test, units) both.1),
+      let test = subst (λ form. is_unit form row ≡ true) (sym formed) ((unit_is_unit_row job.form row).1 unit) in
+      let both = all_parts (λ (node : Node). IsUnitOrGrid job.form node.decision) (nodes_from one (first row ▸ path)) (nodes_from other (second row ▸ path)) are in (
+        denied_fits job.form row number unit,
+        all_append Within (nodes_from one (first row ▸ path)) (nodes_from other (second row ▸ path))
+            (h spelled (levels - 1) b.1 (first row ▸ path) formed (test, units) both.0)
+            (k spelled (levels - 1) a.1 (second row ▸ path) formed (test, units) both.1),
       )
 
   plain : (node : CertNode) → IsPlain node
   plain = by_nodes IsPlain (record {
-    def = λ row d below h levels text path units are. absurd ((subst (λ f. Units (f path)) (nodes-def row d below) are).0);
-    split = λ row one other h k levels text path units are.
-        let here = subst (λ f. Units (f path)) (nodes-split row one other) are in
-        let spelled = subst (λ f. f levels ≡ true) (fold-roll-CertNode Nested node_nested (CertNode-F.Split row one other)) text in
-        subst (λ f. AllByRecursion Within (f path)) (sym (nodes-split row one other)) (split_plain row one other h k levels spelled path units here.0 here.1);
-    void = λ why levels text path units are. absurd ((subst (λ f. Units (f path)) (nodes-void why) are).0);
-    grid = λ levels text path units are. subst (λ f. AllByRecursion Within (f path)) (sym nodes-grid) (λ world inside. units_computed path units world, tt);
-    leaf = λ answers levels text path units are. absurd ((subst (λ f. Units (f path)) (nodes-leaf answers) are).0);
+    def = λ row d below h spelled levels text path formed units are. absurd ((subst (λ f. Units job.form (f path)) (nodes-def row d below) are).0);
+    split = λ row one other h k spelled levels text path formed units are.
+        let here = subst (λ f. Units job.form (f path)) (nodes-split row one other) are in
+        let has = subst (λ f. f levels ≡ true) (fold-roll-CertNode Nested (node_nested spelled) (CertNode-F.Split row one other)) text in
+        subst (λ f. AllByRecursion Within (f path)) (sym (nodes-split row one other)) (split_plain row one other h k spelled levels has path formed units here.0 here.1);
+    lemma = λ row why below h spelled levels text path formed units are. absurd ((subst (λ f. Units job.form (f path)) (nodes-lemma row why below) are).0);
+    void = λ why spelled levels text path formed units are. absurd ((subst (λ f. Units job.form (f path)) (nodes-void why) are).0);
+    grid = λ spelled levels text path formed units are. subst (λ f. AllByRecursion Within (f path)) (sym nodes-grid) (λ world inside. units_computed path units world, tt);
+    leaf = λ answers spelled levels text path formed units are. absurd ((subst (λ f. Units job.form (f path)) (nodes-leaf answers) are).0);
   })
 
 pub units_are_plain : UnitsArePlain
 units_are_plain job cert text spelled are =
-    let parts = and_parts (job_has_text cert.job) (node_has_text cert.root 512) spelled.0 in
-    let within = plain job cert.root 512 parts.1 [] tt (recursion_from_All (λ (node : Node). IsUnitOrGrid node.decision) (nodes_of cert) are) in
-    at_number (λ (node : Node). IsWithin128 job node.path node.decision) (nodes_of cert) within
+    let parts = and_parts (head_has_text cert.form cert.job) (node_has_text cert.form cert.root 512) spelled.0 in
+    let within = plain job cert.root cert.form 512 parts.1 (root job.form) refl tt (recursion_from_All (λ (node : Node). IsUnitOrGrid job.form node.decision) (nodes_of job.form cert) are) in
+    at_number (λ (node : Node). IsWithin128 job node.path node.decision) (nodes_of job.form cert) within

@@ -10,17 +10,18 @@ use Rattle.viz_base.proofs.Truths.{not_both}
 use Rattle.viz_base.proofs.ListLemmas.{all_append}
 use Rattle.logic_semantics.specs.Ranges.{IsInRange}
 use Rattle.lin_row.specs.Form.{Form, form_fits, denied}
+use Rattle.lin_proof.specs.declared.derivation.Derivation.{Derivation}
 use Rattle.cert_text.specs.declared.certificate.Cert.{Cert}
 use Rattle.cert_text.specs.declared.certificate.CertNode.{CertNode}
-use Rattle.cert_text.specs.declared.certificate.CertNode.TheVariants.{Def, Split}
+use Rattle.cert_text.specs.declared.certificate.CertNode.TheVariants.{Def, Split, Lemma}
 use Rattle.cert_text.specs.declared.certificate.CertNode.TheViews.{the_lemmas}
 use Rattle.cert_text.specs.declared.certificate.CertNode.TheFolds.{fold-roll-CertNode, fold_out-CertNode}
 use Rattle.cert_text.specs.Nodes.{node_count}
-use Rattle.cert_path.specs.Paths.{def, first, second, Path, IsOn}
-use Rattle.cert_path.specs.Nodes.{Decision, names, splits, is_empty, by_worlds, by_answers, is_laid_out, Node, node_on, nodes_from, nodes_of}
+use Rattle.cert_path.specs.Paths.{def, first, second, lemma, Path, root, ◌▸◌, IsOn}
+use Rattle.cert_path.specs.Nodes.{Decision, names, splits, states, is_empty, by_worlds, by_answers, is_laid_out, Node, node_on, nodes_from, nodes_of}
 use Rattle.cert_path.specs.Shapes.{is_shaped}
 use Rattle.cert_path.specs.Derived.{HasReasons, IsReasoned}
-use Rattle.cert_path.proofs.Trees.{preorder, by_nodes, nodes-def, nodes-split, nodes-void, nodes-grid, nodes-leaf}
+use Rattle.cert_path.proofs.Trees.{preorder, by_nodes, nodes-def, nodes-split, nodes-lemma, nodes-void, nodes-grid, nodes-leaf}
 use Rattle.cert_path.proofs.LaidOut.{one_laid_out}
 use Rattle.cert_check.specs.declared.verdicts.Verdict.TheVariants.{Accepted}
 use Rattle.cert_check.specs.declared.verdicts.Reject.{Reject}
@@ -92,10 +93,14 @@ count-Def row d below = search (rules, the_lemmas, fold-roll-CertNode, fold_out-
 pub count-Split : (row : Form) (one other : CertNode) → node_count (Split row one other) ≡ 1 + (node_count one + node_count other)
 count-Split row one other = search (rules, the_lemmas, fold-roll-CertNode, fold_out-CertNode)
 
+pub count-Lemma : (row : Form) (why : Derivation) (below : CertNode) → node_count (Lemma row why below) ≡ 1 + node_count below
+count-Lemma row why below = search (rules, the_lemmas, fold-roll-CertNode, fold_out-CertNode)
+
 pub count_is : (node : CertNode) (path : Path) → length (nodes_from node path) ≡ node_count node
 count_is = by_nodes (λ node. (path : Path) → length (nodes_from node path) ≡ node_count node) (record {
-  def = λ row d below one path. rw (nodes-def, fold-roll-CertNode) (omega (arith, one (def row d ∷ path)));
-  split = λ row one other h k path. rw (nodes-split, fold-roll-CertNode) (omega (arith, length-append (nodes_from one (first row ∷ path)) (nodes_from other (second row ∷ path)), h (first row ∷ path), k (second row ∷ path)));
+  def = λ row d below one path. rw (nodes-def, fold-roll-CertNode) (omega (arith, one (def row d ▸ path)));
+  split = λ row one other h k path. rw (nodes-split, fold-roll-CertNode) (omega (arith, length-append (nodes_from one (first row ▸ path)) (nodes_from other (second row ▸ path)), h (first row ▸ path), k (second row ▸ path)));
+  lemma = λ row why below one path. rw (nodes-lemma, fold-roll-CertNode) (omega (arith, one (lemma row ▸ path)));
   void = λ why path. rw (nodes-void, fold-roll-CertNode) refl;
   grid = λ path. rw (nodes-grid, fold-roll-CertNode) refl;
   leaf = λ answers path. rw (nodes-leaf, fold-roll-CertNode) refl;
@@ -104,12 +109,12 @@ count_is = by_nodes (λ node. (path : Path) → length (nodes_from node path) �
 -- ---- two parts, one after the other
 
 module _ (job now : Job) (path back : Path) (row : Form) (one other : CertNode) (n next : ℕ) (same : now ≡ job) (stays : back ≡ path) where
-  pub both_told : next ≡ n + node_count one → Tells job (nodes_from one (first row ∷ path)) n (Ok next) → (answer : Result ℕ Stop)
-      → Tells now (nodes_from other (second row ∷ back)) next answer → Tells job (nodes_from one (first row ∷ path) ++ nodes_from other (second row ∷ path)) n answer
+  pub both_told : next ≡ n + node_count one → Tells job (nodes_from one (first row ▸ path)) n (Ok next) → (answer : Result ℕ Stop)
+      → Tells now (nodes_from other (second row ▸ back)) next answer → Tells job (nodes_from one (first row ▸ path) ++ nodes_from other (second row ▸ path)) n answer
   both_told is told answer more =
-      tells_second job (nodes_from one (first row ∷ path)) (nodes_from other (second row ∷ path)) n next answer (let count = count_is one (first row ∷ path) in omega arith)
-      (tells_good job (nodes_from one (first row ∷ path)) n next told)
-      (subst (λ j. Tells j (nodes_from other (second row ∷ path)) next answer) same (subst (λ p. Tells now (nodes_from other (second row ∷ p)) next answer) stays more))
+      tells_second job (nodes_from one (first row ▸ path)) (nodes_from other (second row ▸ path)) n next answer (let count = count_is one (first row ▸ path) in omega arith)
+      (tells_good job (nodes_from one (first row ▸ path)) n next told)
+      (subst (λ j. Tells j (nodes_from other (second row ▸ path)) next answer) same (subst (λ p. Tells now (nodes_from other (second row ▸ p)) next answer) stays more))
 
 -- ---- a node and what is below it
 
@@ -121,11 +126,14 @@ module _ (job : Job) (node : CertNode) (path : Path) (d : Decision) (rest : List
   rest_told answer h told = subst (λ nodes. Tells job nodes n answer) (sym are) (tells_rest job (node_on path d) rest n answer (is_judged job (node_on path d) n tt h) told)
 
 module _ (node : CertNode) (path : Path) where
-  pub def_nodes : (row : Form) (d : ℤ) (below : CertNode) → node ≡ Def row d below → nodes_from node path ≡ node_on path (names row d) ∷ nodes_from below (def row d ∷ path)
+  pub def_nodes : (row : Form) (d : ℤ) (below : CertNode) → node ≡ Def row d below → nodes_from node path ≡ node_on path (names row d) ∷ nodes_from below (def row d ▸ path)
   def_nodes row d below is = ap (λ x. nodes_from x path) is ∙ preorder.def row d below path
 
-  pub split_nodes : (row : Form) (one other : CertNode) → node ≡ Split row one other → nodes_from node path ≡ node_on path (splits row) ∷ (nodes_from one (first row ∷ path) ++ nodes_from other (second row ∷ path))
+  pub split_nodes : (row : Form) (one other : CertNode) → node ≡ Split row one other → nodes_from node path ≡ node_on path (splits row) ∷ (nodes_from one (first row ▸ path) ++ nodes_from other (second row ▸ path))
   split_nodes row one other is = ap (λ x. nodes_from x path) is ∙ preorder.split row one other path
+
+  pub lemma_nodes : (row : Form) (why : Derivation) (below : CertNode) → node ≡ Lemma row why below → nodes_from node path ≡ node_on path (states row why) ∷ nodes_from below (lemma row ▸ path)
+  lemma_nodes row why below is = ap (λ x. nodes_from x path) is ∙ preorder.lemma row why below path
 
 -- ---- nodes by number
 
@@ -179,23 +187,23 @@ same_digest xs ys h = same_text xs ys (by_test (pointwise nat_eq xs ys) h)
 
 -- ---- the verdict
 
-pub cause_of : (job : Job) (cert : Cert) (reject : Reject) → cert.job ≡ job.digest → Rejects job (nodes_of cert) 0 reject → IsCause job cert reject
-cause_of job cert reject same h = by_reject reject (first_bad job (nodes_of cert) 0 reject h)
+pub cause_of : (job : Job) (cert : Cert) (reject : Reject) → cert.job ≡ job.digest → Rejects job (nodes_of job.form cert) 0 reject → IsCause job cert reject
+cause_of job cert reject same h = by_reject reject (first_bad job (nodes_of job.form cert) 0 reject h)
   where
-    named : (r : Reject) → IsFirstBad job (nodes_of cert) 0 r → IsFirstRejected job cert r
+    named : (r : Reject) → IsFirstBad job (nodes_of job.form cert) 0 r → IsFirstRejected job cert r
     named r bad =
         let number : bad.place ≡ node_in r = let e = bad.number in omega arith in
         record {
           node = bad.node;
           reached = record {
             digest = same;
-            is_node = subst (λ k. slice_get (nodes_of cert) k ≡ Some bad.node) number bad.is_node;
+            is_node = subst (λ k. slice_get (nodes_of job.form cert) k ≡ Some bad.node) number bad.is_node;
             before = λ k other lt is. bad.before k other (let e = number in omega arith) is;
           };
           rejected = bad.rejected;
         }
 
-    by_reject : (r : Reject) → IsFirstBad job (nodes_of cert) 0 r → IsCause job cert r
+    by_reject : (r : Reject) → IsFirstBad job (nodes_of job.form cert) 0 r → IsCause job cert r
     by_reject OtherJob bad = absurd bad.rejected
     by_reject (Shape n) bad = named (Shape n) bad
     by_reject (Line n number line) bad = named (Line n number line) bad
@@ -209,6 +217,7 @@ cause_of job cert reject same h = by_reject reject (first_bad job (nodes_of cert
 good_reasons : (job : Job) (path : Path) (decision : Decision) → DecidesWell job path decision → HasReasons job.range path decision
 good_reasons job path (names row d) h = tt
 good_reasons job path (splits row) h = tt
+good_reasons job path (states row why) h = h
 good_reasons job path (is_empty why) h = h
 good_reasons job path by_worlds h = tt
 good_reasons job path (by_answers answers) h = h.1
@@ -216,6 +225,7 @@ good_reasons job path (by_answers answers) h = h.1
 good_truth : (job : Job) (path : Path) (decision : Decision) → DecidesWell job path decision → IsTrueIfGrid job path decision
 good_truth job path (names row d) h = tt
 good_truth job path (splits row) h = tt
+good_truth job path (states row why) h = tt
 good_truth job path (is_empty why) h = tt
 good_truth job path by_worlds h = h.1
 good_truth job path (by_answers answers) h = tt
@@ -227,8 +237,8 @@ right_of job node good = record {
   holds = good_truth job node.path node.decision good.decides;
 }
 
-pub is_right : (job : Job) (cert : Cert) → cert.job ≡ job.digest → AllGood job (nodes_of cert) → Right job cert
-is_right job cert same good = record { digest = same; nodes = λ n node is. right_of job node (at_number (IsGood job) (nodes_of cert) good n node is) }
+pub is_right : (job : Job) (cert : Cert) → cert.job ≡ job.digest → AllGood job (nodes_of job.form cert) → Right job cert
+is_right job cert same good = record { digest = same; nodes = λ n node is. right_of job node (at_number (IsGood job) (nodes_of job.form cert) good n node is) }
 
 -- where each node is good, the formula is true at each world of the range
 laid_out_true : (job : Job) (node : Node) (world : World) → IsGood job node → IsTrue (is_laid_out node.decision) → IsInRange job.range world → IsOn node.path world → is_true_at job world ≡ true
@@ -237,34 +247,35 @@ laid_out_true job node world good laid in_range on = by_decision node.decision g
     by_decision : (d : Decision) → DecidesWell job node.path d → IsTrue (is_laid_out d) → is_true_at job world ≡ true
     by_decision (names row d) h l = absurd (cc)
     by_decision (splits row) h l = absurd (cc)
+    by_decision (states row why) h l = absurd (cc)
     by_decision (is_empty why) h l = absurd (cc)
     by_decision by_worlds h l = h.1 world in_range on
     by_decision (by_answers answers) h l = h.0 world in_range on
 
-pub holds_of : (job : Job) (cert : Cert) → AllGood job (nodes_of cert) → Holds job
+pub holds_of : (job : Job) (cert : Cert) → AllGood job (nodes_of job.form cert) → Holds job
 holds_of job cert good world in_range =
-    let reasoned : IsReasoned job.range cert = record {
-      shaped = λ n node is. (at_number (IsGood job) (nodes_of cert) good n node is).shaped;
-      reasons = λ n node is. good_reasons job node.path node.decision (at_number (IsGood job) (nodes_of cert) good n node is).decides;
+    let reasoned : IsReasoned job.form job.range cert = record {
+      shaped = λ n node is. (at_number (IsGood job) (nodes_of job.form cert) good n node is).shaped;
+      reasons = λ n node is. good_reasons job node.path node.decision (at_number (IsGood job) (nodes_of job.form cert) good n node is).decides;
     } in
-    let end = (one_laid_out job.range cert reasoned world in_range).1.0 in
-    laid_out_true job end.node world (at_number (IsGood job) (nodes_of cert) good (one_laid_out job.range cert reasoned world in_range).0 end.node end.is_node) end.laid_out in_range end.on_path
+    let end = (one_laid_out job.form job.range cert reasoned world in_range).1.0 in
+    laid_out_true job end.node world (at_number (IsGood job) (nodes_of job.form cert) good (one_laid_out job.form job.range cert reasoned world in_range).0 end.node end.is_node) end.laid_out in_range end.on_path
 
 -- ---- the answer of the walk from the root
 
 abbrev IsTold : Job → Cert → Path → Result ℕ Stop → Type 0
-IsTold job cert path answer = (path ≡ []) × (cert.job ≡ job.digest) × Tells job (nodes_from cert.root path) 0 answer
+IsTold job cert path answer = (path ≡ root job.form) × (cert.job ≡ job.digest) × Tells job (nodes_from cert.root path) 0 answer
 
-at_root : (job : Job) (cert : Cert) (path : Path) (answer : Result ℕ Stop) → IsTold job cert path answer → Tells job (nodes_of cert) 0 answer
+at_root : (job : Job) (cert : Cert) (path : Path) (answer : Result ℕ Stop) → IsTold job cert path answer → Tells job (nodes_of job.form cert) 0 answer
 at_root job cert path answer h = subst (λ p. Tells job (nodes_from cert.root p) 0 answer) h.0 h.2
 
 pub accepts : (job : Job) (cert : Cert) (path : Path) (next : ℕ) → IsTold job cert path (Ok next) → IsVerdict job cert Accepted
 accepts job cert path next h =
-    let good = tells_good job (nodes_of cert) 0 next (at_root job cert path (Ok next) h) in
-    record { right = is_right job cert h.1 good; holds = holds_of job cert good; good = at_number (IsGood job) (nodes_of cert) good }
+    let good = tells_good job (nodes_of job.form cert) 0 next (at_root job cert path (Ok next) h) in
+    record { right = is_right job cert h.1 good; holds = holds_of job cert good; good = at_number (IsGood job) (nodes_of job.form cert) good }
 
 pub rejects : (job : Job) (cert : Cert) (path : Path) (reject : Reject) → IsTold job cert path (Err (of_stop.Rejected reject)) → IsCause job cert reject
-rejects job cert path reject h = cause_of job cert reject h.1 (tells_bad job (nodes_of cert) 0 reject (at_root job cert path (Err (of_stop.Rejected reject)) h))
+rejects job cert path reject h = cause_of job cert reject h.1 (tells_bad job (nodes_of job.form cert) 0 reject (at_root job cert path (Err (of_stop.Rejected reject)) h))
 
 -- ---- certificates that are computed without leaves
 
@@ -280,6 +291,15 @@ no_fault job path (splits row) (Differs n number ours theirs) r t w f = absurd f
 no_fault job path (splits row) (Short n) r t w f = absurd f
 no_fault job path (splits row) (Left n count) r t w f = absurd f
 no_fault job path (splits row) (Coeff n) r t w f = not_both (form_fits (denied row)) w f
+no_fault job path (states row why) OtherJob r t w f = absurd f
+no_fault job path (states row why) (Shape n) r t w f = absurd f
+no_fault job path (states row why) (Line n number line) r t w f = absurd (cc (r.1, f.2))
+no_fault job path (states row why) (Untrue n world) r t w f = absurd f
+no_fault job path (states row why) (Unmet n) r t w f = absurd f
+no_fault job path (states row why) (Differs n number ours theirs) r t w f = absurd f
+no_fault job path (states row why) (Short n) r t w f = absurd f
+no_fault job path (states row why) (Left n count) r t w f = absurd f
+no_fault job path (states row why) (Coeff n) r t w f = not_both (form_fits (denied row)) r.0 f
 no_fault job path (is_empty why) OtherJob r t w f = absurd f
 no_fault job path (is_empty why) (Shape n) r t w f = absurd f
 no_fault job path (is_empty why) (Line n number line) r t w f = absurd (cc (r, f.1))

@@ -17,14 +17,15 @@ RightHolds = (job : Job) (cert : Cert) → IsPlainlyComputed job cert → Right 
 
 -- a certificate without leaves has one verdict
 abbrev pub OneVerdict : Type 0
-OneVerdict = (job : Job) (cert : Cert) → HasNoLeaf cert
+OneVerdict = (job : Job) (cert : Cert) → HasNoLeaf job cert
     → (one other : Verdict) → IsVerdict job cert one → IsVerdict job cert other → one ≡ other
 
--- the rows by which a rectangle is cut are those of one variable, the width or the size, and the coefficient 1 or -1
+-- the rows by which a rectangle is cut are those of one variable, which stands for an axis of the form, and the
+-- coefficient 1 or -1
 abbrev pub UnitIsUnitRow : Type 0
-UnitIsUnitRow = (row : Form) → IsTrue (is_unit row) ↔ IsUnit row
+UnitIsUnitRow = (form : ℕ) (row : Form) → IsTrue (is_unit form row) ↔ IsUnit form row
 
 -- a certificate of unit splits and grids that has a text is plainly computed
 abbrev pub UnitsArePlain : Type 0
-UnitsArePlain = (job : Job) (cert : Cert) (text : List ℕ) → CertText cert text → AreUnitsAndGrids cert
+UnitsArePlain = (job : Job) (cert : Cert) (text : List ℕ) → CertText cert text → AreUnitsAndGrids job cert
     → IsPlainlyComputed job cert

@@ -4,33 +4,37 @@ use Rattle.viz_base.specs.Numbers.{Rose}
 use Rattle.viz_base.specs.declared.worlds.Rect.{Rect}
 use Rattle.viz_base.specs.declared.worlds.World.{World}
 use Rattle.viz_base.specs.declared.jobs.Job.{Job}
+use Rattle.viz_base.specs.Jobs.{IsFormed}
 use Rattle.viz_calc.specs.World.{Reading}
 use Rattle.viz_calc.specs.State.{Grows}
 use Rattle.lin_row.specs.Form.{Form}
 use Rattle.lin_proof.specs.declared.derivation.Answer.{Answer}
-use Rattle.cert_path.specs.Paths.{Path, AreSound}
+use Rattle.cert_path.specs.Paths.{Path, form_of, AreSound}
 use Rattle.cert_path.specs.Facts.{facts}
-use Rattle.cert_path.specs.Derived.{AreRefuted}
+use Rattle.cert_path.specs.Derived.{AreEntailed, AreRefuted}
 use Rattle.sym_calc.specs.declared.sym.Sym.{Sym}
 use Rattle.sym_calc.specs.declared.troubles.Trouble.{Trouble}
 use Rattle.sym_calc.specs.declared.troubles.Trouble.TheVariants as of_trouble
 use Rattle.sym_calc.specs.Calc.{state_of}
-use Rattle.sym_calc.specs.Floors.{floors_of, values_by}
-use Rattle.sym_calc.specs.Knowledge.{are_met}
-use Rattle.sym_calc.specs.Laws.{IsFaultBelow}
+use Rattle.sym_calc.specs.Floors.{floors_of}
+use Rattle.sym_calc.specs.Knowledge.{is_kept}
+use Rattle.sym_calc.specs.Laws.{IsFaultBelow, origin_of}
 use Rattle.cert_check.specs.declared.verdicts.Verdict.{Verdict}
 use Rattle.cert_check.specs.declared.verdicts.Verdict.TheVariants.{Accepted, Rejected}
 use Rattle.cert_check.specs.declared.verdicts.Reject.{Reject}
 use Rattle.cert_check.specs.declared.verdicts.Reject.TheVariants.{OtherJob, Shape, Line, Untrue, Unmet, Differs, Short, Left, Coeff}
 use Rattle.cert_check.specs.Truths.{is_true_at, IsThroughout, IsTrueOn}
 
--- the calc stands over this path of a range, and keeps its worlds
+-- the calc stands over this path of a range, whose lemmas were derived, and keeps its worlds
 pub record StandsOver (range : Rect) (path : Path) (s : Sym) : Type 0 where
+  pub formed : IsFormed (form_of path) range
   pub sound : AreSound path
+  pub entailed : AreEntailed range path
+  pub origin_is : s.path.now.origin ≡ origin_of range path
   pub facts_are : s.path.now.facts ≡ facts range path
   pub floors_are : s.path.now.floors ≡ floors_of path
   pub kept : (world : World)
-      → (state_of s).kept.worlds world ≡ are_met (facts range path) (values_by (floors_of path) world)
+      → (state_of s).kept.worlds world ≡ is_kept (origin_of range path) (facts range path) (floors_of path) world
 
 -- ---- causes
 

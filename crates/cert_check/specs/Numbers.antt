@@ -4,7 +4,7 @@ use Rattle.viz_base.specs.declared.worlds.World.{World}
 use Rattle.viz_base.specs.declared.worlds.Rect.{Rect}
 use Rattle.lin_row.specs.Form.{Form, Terms}
 use Rattle.lin_row.specs.Number.{in_i128}
-use Rattle.cert_path.specs.Paths.{def, first, second, Path, values_along}
+use Rattle.cert_path.specs.Paths.{def, first, second, lemma, Path, root, ◌▸◌, form_of, values_along}
 use Rattle.cert_path.specs.Rectangles.{rectangle}
 use Rattle.cert_path.specs.Laws.{IsInside}
 use Rattle.cert_check.specs.Rectangles.{is_unit}
@@ -24,14 +24,16 @@ sum_on sum (t ∷ ts) v = option_and_then (λ next. sum_on next ts v) (add_term 
 abbrev pub computed : Form → (ℕ → ℤ) → Option ℤ
 computed row v = sum_on row.k row.terms v
 
--- whether the rows of the defs on a path, and of the splits that are no unit splits, are computed so at a world
+-- whether the rows of the defs on a path, and of the splits that are no unit splits, are computed so at a world; those
+-- of lemmas are computed at none
 abbrev pub are_computed : Path → World → Bool
-are_computed [] world = true
-are_computed (def row d ∷ outer) world = are_computed outer world && is_some (computed row (values_along world outer))
-are_computed (first row ∷ outer) world = are_computed outer world
-    && (is_unit row || is_some (computed row (values_along world outer)))
-are_computed (second row ∷ outer) world = are_computed outer world
-    && (is_unit row || is_some (computed row (values_along world outer)))
+are_computed (root form) world = true
+are_computed (def row d ▸ outer) world = are_computed outer world && is_some (computed row (values_along world outer))
+are_computed (first row ▸ outer) world = are_computed outer world
+    && (is_unit (form_of outer) row || is_some (computed row (values_along world outer)))
+are_computed (second row ▸ outer) world = are_computed outer world
+    && (is_unit (form_of outer) row || is_some (computed row (values_along world outer)))
+are_computed (lemma row ▸ outer) world = are_computed outer world
 
 -- at each world of the path's rectangle they are
 abbrev pub IsComputed : Rect → Path → Type 0

@@ -1,5 +1,5 @@
 -- Rectangles of worlds, and what cutting by unit rows leaves of them.
-use Rattle.std.specs.Prelude.{ℕ, ◌+◌, ◌-◌, ◌*◌, ◌≤◌, ℤ, pos, negsuc, neg_ℤ, ◌-ℤ◌, Bool, IsTrue, nat_lt, nat_le, [], ◌∷◌, min, max, Option, Some, None, is_some, ⊤, if◌then◌else◌}
+use Rattle.std.specs.Prelude.{ℕ, ◌+◌, ◌≤◌, ℤ, pos, negsuc, neg_ℤ, ◌-ℤ◌, Bool, IsTrue, nat_lt, nat_le, [], ◌∷◌, min, max, Option, Some, None, is_some, ⊤, if◌then◌else◌}
 use Rattle.std.specs.Ordering.{int_eq}
 use Rattle.std.specs.Option.{option_map, option_and_then}
 use Rattle.viz_base.specs.declared.worlds.Rect.{Rect}
@@ -8,21 +8,18 @@ use Rattle.viz_base.specs.declared.worlds.Span.{Span}
 use Rattle.viz_base.specs.Worlds.{side_of, with_side}
 use Rattle.lin_row.specs.Form.{Form, Terms}
 use Rattle.cert_path.specs.Axes.{axis_of}
-use Rattle.cert_path.specs.Paths.{def, first, second, Path}
+use Rattle.cert_path.specs.Paths.{def, first, second, lemma, Path, root, ◌▸◌, form_of}
 use Rattle.cert_check.specs.declared.cuts.Child.{Child}
 use Rattle.cert_check.specs.declared.cuts.Child.TheVariants.{First, Second}
 use Rattle.cert_check.specs.declared.cuts.Opens.{Opens}
 use Rattle.cert_check.specs.declared.cuts.Opens.TheVariants.{Above, UpTo}
 use Rattle.cert_check.specs.declared.cuts.Cut.{Cut}
 
--- how many worlds a rectangle has that has one
-abbrev pub world_count : Rect → ℕ
-world_count r = (r.wh + 1 - r.wl) * (r.sh + 1 - r.sl)
-
 -- the rectangle has a world
 pub record IsProper (r : Rect) : Type 0 where
   pub widths : r.wl ≤ r.wh
   pub sizes : r.sl ≤ r.sh
+  pub heights : r.hl ≤ r.hh
 
 -- each world of the inner rectangle is one of the outer
 pub record IsWithin (outer inner : Rect) : Type 0 where
@@ -30,8 +27,10 @@ pub record IsWithin (outer inner : Rect) : Type 0 where
   pub width_most : inner.wh ≤ outer.wh
   pub size_least : outer.sl ≤ inner.sl
   pub size_most : inner.sh ≤ outer.sh
+  pub height_least : outer.hl ≤ inner.hl
+  pub height_most : inner.hh ≤ outer.hh
 
--- ---- unit rows: those with one variable, which stands for an axis, and the coefficient 1 or -1
+-- ---- unit rows: those with one variable, which stands for an axis of the job's form, and the coefficient 1 or -1
 
 -- `k + x` is at least 0 exactly where x is above `-k - 1`, and `k - x` where x is at most k
 abbrev pub coefficient_cut : ℤ → Axis → ℤ → Option Cut
@@ -40,24 +39,25 @@ coefficient_cut k axis c =
     else if int_eq c (negsuc 0) then Some (record { axis = axis; opens = UpTo; bound = k })
     else None
 
-abbrev pub terms_cut : ℤ → Terms → Option Cut
-terms_cut k [] = None
-terms_cut k (t ∷ []) = option_and_then (λ axis. coefficient_cut k axis t.1) (axis_of t.0)
-terms_cut k (t ∷ u ∷ ts) = None
+abbrev pub terms_cut : ℕ → ℤ → Terms → Option Cut
+terms_cut form k [] = None
+terms_cut form k (t ∷ []) = option_and_then (λ axis. coefficient_cut k axis t.1) (axis_of form t.0)
+terms_cut form k (t ∷ u ∷ ts) = None
 
 -- where a unit row is at least 0; None of another row
-abbrev pub cut_of : Form → Option Cut
-cut_of row = terms_cut row.k row.terms
+abbrev pub cut_of : ℕ → Form → Option Cut
+cut_of form row = terms_cut form row.k row.terms
 
-abbrev pub is_unit : Form → Bool
-is_unit row = is_some (cut_of row)
+abbrev pub is_unit : ℕ → Form → Bool
+is_unit form row = is_some (cut_of form row)
 
 -- each step of the path is to a child of a split by a unit row
 abbrev pub AreUnits : Path → Type 0
-AreUnits [] = ⊤
-AreUnits (def row d ∷ outer) = ⊥
-AreUnits (first row ∷ outer) = IsTrue (is_unit row) × AreUnits outer
-AreUnits (second row ∷ outer) = IsTrue (is_unit row) × AreUnits outer
+AreUnits (root form) = ⊤
+AreUnits (def row d ▸ outer) = ⊥
+AreUnits (first row ▸ outer) = IsTrue (is_unit (form_of outer) row) × AreUnits outer
+AreUnits (second row ▸ outer) = IsTrue (is_unit (form_of outer) row) × AreUnits outer
+AreUnits (lemma row ▸ outer) = ⊥
 
 -- ---- cutting
 

@@ -11,21 +11,21 @@ use Rattle.cert_path.specs.Paths.{Path, IsOn}
 
 -- the rendering of a job's page at a world
 abbrev pub rendering_of : Job → World → Rendering ℤ
-rendering_of job world = page_rendering job.tree world job.height
+rendering_of job world = page_rendering job.tree world
 
 -- the truth of a job's formula at a world
 abbrev pub is_true_at : Job → World → Bool
-is_true_at job world = holds_at (rendering_of job) job.height job.formula world
+is_true_at job world = holds_at (rendering_of job) job.formula world
 
 -- the job holds: at each world of its range its formula is true of the page's rendering
 abbrev pub Holds : Job → Type 0
-Holds job = HoldsOver (rendering_of job) job.range job.height job.formula
+Holds job = HoldsOver (rendering_of job) job.range job.formula
 
 -- ---- over a rectangle
 
--- worlds go by width, those of one width by size
+-- worlds go by width, those of one width by size, and those of one size too by height
 abbrev pub IsBefore : World → World → Type 0
-IsBefore a b = (a.w < b.w) ⊎ ((a.w ≡ b.w) × (a.s < b.s))
+IsBefore a b = (a.w < b.w) ⊎ ((a.w ≡ b.w) × ((a.s < b.s) ⊎ ((a.s ≡ b.s) × (a.h < b.h))))
 
 -- the formula is true at each world of a rectangle
 abbrev pub IsTrueIn : Job → Rect → Type 0

@@ -6,10 +6,11 @@ use Rattle.viz_base.specs.declared.jobs.Job.{Job}
 use Rattle.logic_semantics.specs.Ranges.{IsInRange}
 use Rattle.lin_row.specs.Form.{form_fits, denied}
 use Rattle.lin_proof.specs.Derivations.{first_fault}
+use Rattle.lin_proof.specs.Entailments.{with_denied}
 use Rattle.cert_text.specs.declared.certificate.Cert.{Cert}
 use Rattle.cert_path.specs.Paths.{Path, variables, IsOn}
 use Rattle.cert_path.specs.Facts.{facts}
-use Rattle.cert_path.specs.Nodes.{Decision, names, splits, is_empty, by_worlds, by_answers, Node, nodes_of}
+use Rattle.cert_path.specs.Nodes.{Decision, names, splits, states, is_empty, by_worlds, by_answers, Node, nodes_of}
 use Rattle.cert_path.specs.Rectangles.{rectangle}
 use Rattle.cert_path.specs.Shapes.{is_shaped}
 use Rattle.cert_path.specs.Laws.{IsInside}
@@ -44,6 +45,10 @@ abbrev pub IsFault : Job → Path → Decision → Reject → Type 0
 IsFault job path (names row d) reject = ⊥
 IsFault job path (splits row) (Coeff n) = form_fits (denied row) ≡ false
 IsFault job path (splits row) _ = ⊥
+IsFault job path (states row why) (Coeff n) = form_fits (denied row) ≡ false
+IsFault job path (states row why) (Line n number line) = (number ≡ 0) × (form_fits (denied row) ≡ true)
+    × (first_fault (with_denied (facts job.range path) row) (variables path) why ≡ Some line)
+IsFault job path (states row why) _ = ⊥
 IsFault job path (is_empty why) (Line n number line) = (number ≡ 0)
     × (first_fault (facts job.range path) (variables path) why ≡ Some line)
 IsFault job path (is_empty why) _ = ⊥
@@ -64,8 +69,8 @@ IsRejected job node reject = (is_shaped job.range node.path node.decision ≡ tr
 -- the certificate names the job's digest, this is its node of this number, and each node before it is good
 pub record IsReached (job : Job) (cert : Cert) (n : ℕ) (node : Node) : Type 0 where
   pub digest : cert.job ≡ job.digest
-  pub is_node : slice_get (nodes_of cert) n ≡ Some node
-  pub before : (k : ℕ) (other : Node) → k < n → slice_get (nodes_of cert) k ≡ Some other → IsGood job other
+  pub is_node : slice_get (nodes_of job.form cert) n ≡ Some node
+  pub before : (k : ℕ) (other : Node) → k < n → slice_get (nodes_of job.form cert) k ≡ Some other → IsGood job other
 
 -- a node is rejected so, and each before it is good
 pub record IsFirstRejected (job : Job) (cert : Cert) (reject : Reject) : Type 0 where
@@ -78,8 +83,8 @@ abbrev pub IsCause : Job → Cert → Reject → Type 0
 IsCause job cert OtherJob = cert.job ≢ job.digest
 IsCause job cert reject = IsFirstRejected job cert reject
 
--- the certificate is right for the job, which holds, and each of its nodes is good, so that no number of a split's denial
--- or of a grid's path is outside `i128`
+-- the certificate is right for the job, which holds, and each of its nodes is good, so that no number of a split's or
+-- lemma's denial or of a grid's path is outside `i128`
 pub record Passes (job : Job) (cert : Cert) : Type 0 where
   pub right : Right job cert
   pub holds : Holds job

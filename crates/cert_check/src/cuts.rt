@@ -1,21 +1,32 @@
 ghost use Rattle.std.specs.Prelude.{◌≡◌, ◌^◌, ◌<◌, ◌≤◌, Some, None, IfSome, OnSome};
 ghost use Rattle.std.specs.Option.{option_map};
-ghost use Rattle.viz_base.specs.Worlds.{side_of, with_side};
-ghost use Rattle.cert_check.specs.Rectangles.{world_count, coefficient_cut, cut_of, at_most, above, cut_side, toward, part_of};
+ghost use Rattle.viz_base.specs.Worlds.{side_of, span_count, with_side, world_count};
+ghost use Rattle.cert_check.specs.Rectangles.{coefficient_cut, cut_of, at_most, above, cut_side, toward, part_of};
 
 use cert_path::axis_of;
 use lin_row::Row;
 use viz_base::{Axis, Rect, Span};
 
-/// How many worlds a rectangle has whose least width and size are not above the greatest.
+/// How many numbers a span has; none where the least is above the most.
+fn span_count(side: Span) -> u64
+    requires { side.most < 2 ^ 20 }
+    ensures count { result ≡ span_count side }
+    ensures few { result ≤ 2 ^ 20 }
+{
+    (u64::from(side.most) + 1).saturating_sub(u64::from(side.least))
+}
+
+/// How many worlds a rectangle has.
 pub fn world_count(rect: Rect) -> u64
-    requires widths { rect.wh < 2 ^ 31 }
-    requires sizes { rect.sh < 2 ^ 31 }
+    requires widths { rect.wh < 2 ^ 20 }
+    requires sizes { rect.sh < 2 ^ 20 }
+    requires heights { rect.hh < 2 ^ 20 }
     ensures { result ≡ world_count rect }
 {
-    let widths = (u64::from(rect.wh) + 1).saturating_sub(u64::from(rect.wl));
-    let sizes = (u64::from(rect.sh) + 1).saturating_sub(u64::from(rect.sl));
-    widths * sizes
+    let widths = span_count(rect.side(Axis::Width));
+    let sizes = span_count(rect.side(Axis::Size));
+    let heights = span_count(rect.side(Axis::Height));
+    widths * sizes * heights
 }
 
 /// One of a split's two children.
@@ -66,12 +77,12 @@ fn coefficient_cut(k: i128, axis: Axis, coefficient: i128) -> Option<Cut>
     }
 }
 
-/// Where a unit row is at least 0; None of another row.
-pub fn cut_of(row: &Row) -> Option<Cut>
-    ensures { result ≡ cut_of row.now }
+/// Where a unit row is at least 0, in a job of a form; None of another row.
+pub fn cut_of(form: u8, row: &Row) -> Option<Cut>
+    ensures { result ≡ cut_of form row.now }
 {
     match row.terms.as_slice() {
-        [term] => coefficient_cut(row.k, axis_of(term.0)?, term.1),
+        [term] => coefficient_cut(row.k, axis_of(form, term.0)?, term.1),
         _ => None,
     }
 }

@@ -1,19 +1,21 @@
-ghost use Rattle.std.specs.Prelude.{◌≡◌, ◌<◌, ◌^◌, [], ◌∷◌, IfOk, IsTrue, OnOk};
+ghost use Rattle.std.specs.Prelude.{◌≡◌, ◌<◌, ◌^◌, [], IfOk, IsTrue, OnOk};
 ghost use Rattle.lin_row.specs.Form.{IsCanonical, denied, form_fits};
 ghost use Rattle.cert_path.specs.Facts.{facts};
 ghost use Rattle.cert_path.specs.Nodes.{names};
-ghost use Rattle.cert_path.specs.Paths.{def, first, second, is_declared, variables};
+ghost use Rattle.cert_path.specs.Paths.{def, first, second, lemma, ◌▸◌, is_declared, variables};
 ghost use Rattle.cert_path.specs.Shapes.{is_shaped};
+ghost use Rattle.cert_path.specs.Derived.{AreEntailed, IsEntailed};
 ghost use Rattle.sym_calc.specs.Floors.{floors_of};
-ghost use Rattle.cert_check.specs.steps.Descent.{path_of, are_sound, is_below_def, is_below_split, outer_of};
+ghost use Rattle.sym_calc.specs.Laws.{origin_of};
+ghost use Rattle.cert_check.specs.steps.Descent.{path_of, are_sound, entailed_above, is_below_def, is_below_row, outer_of};
 
-use cert_path::AXIS_COUNT;
+use cert_path::axis_count;
 use lin_row::{Row, RowFault};
 use std::alloc::{AllocError, Global};
 use sym_calc::{Floor, Path};
 use viz_base::{Job, List, Mem};
 
-/// A def or a split above a node, and in which part of a split the node lies.
+/// A def, a split or a lemma above a node, and in which part of a split the node lies.
 #[derive(Clone, Copy)]
 pub enum Above<'a> {
     /// A def of a row and a number.
@@ -22,18 +24,22 @@ pub enum Above<'a> {
     First(&'a Row),
     /// A split by a row, the node being in the second part.
     Second(&'a Row),
+    /// A lemma of a row.
+    Lemma(&'a Row),
 }
 
-/// The way from the root of a certificate down to a node, which goes down and back up: the defs and splits in their
-/// order, and the facts and floors that they give.
+/// The way from the root of a certificate down to a node, which goes down and back up: the defs, splits and lemmas in
+/// their order, each lemma derived, and the facts and floors that they give.
 #[derive(Drop)]
 pub struct Descent<'a> {
     job: &'a Job,
     path: Path,
     above: List<Above<'a>>,
-    ghost sound: { IsTrue (are_sound (path_of above)) },
-    ghost facts: { path.facts ≡ facts job.now.range (path_of above) },
-    ghost floors: { path.floors ≡ floors_of (path_of above) },
+    ghost origin: { path.origin ≡ origin_of job.now.range (path_of job.now.form above) },
+    ghost entailed: { AreEntailed job.now.range (path_of job.now.form above) } by { entailed_above job.now above },
+    ghost sound: { IsTrue (are_sound (path_of job.now.form above)) },
+    ghost facts: { path.facts ≡ facts job.now.range (path_of job.now.form above) },
+    ghost floors: { path.floors ≡ floors_of (path_of job.now.form above) },
 }
 
 /// Tells the proof that a row's variables ascend, as each row's do.
@@ -44,6 +50,8 @@ fn note_order(row: &Row)
 }
 
 impl<'a> Descent<'a> {
+    ghost use Rattle.cert_check.specs.steps.Ways.{path_at};
+
     /// At the root of a certificate for a job.
     pub fn new(alloc: Global, job: &'a Job) -> Result<Self, AllocError>
         ensures job { IfOk result (λ descent. descent.job.now ≡ job.now) }
@@ -51,7 +59,7 @@ impl<'a> Descent<'a> {
     {
         Ok(Descent {
             job,
-            path: Path::new(alloc, job.range)?,
+            path: Path::new(alloc, job.form, job.range)?,
             above: List::new(alloc),
         })
     }
@@ -65,13 +73,15 @@ impl<'a> Descent<'a> {
 
     /// The facts and floors of the path.
     pub fn path(&self) -> &Path
-        ensures facts { result.now.facts ≡ facts self.now.job.now.range (path_of self.now.above) }
-        ensures floors { result.now.floors ≡ floors_of (path_of self.now.above) }
+        ensures facts { result.now.facts ≡ facts self.now.job.now.range (path_at self.now) }
+        ensures origin { result.now.origin
+            ≡ origin_of self.now.job.now.range (path_at self.now) }
+        ensures floors { result.now.floors ≡ floors_of (path_at self.now) }
     {
         &self.path
     }
 
-    /// The defs and splits above, from the root down.
+    /// The defs, splits and lemmas above, from the root down.
     pub fn above(&self) -> &[Above<'a>]
         ensures { result.now ≡ self.now.above }
     {
@@ -80,19 +90,19 @@ impl<'a> Descent<'a> {
 
     /// How many variables are declared.
     pub fn variables(&self) -> u32
-        requires { variables (path_of self.now.above) < 2 ^ 32 }
-        ensures { result ≡ variables (path_of self.now.above) }
+        requires { variables (path_at self.now) < 2 ^ 32 }
+        ensures { result ≡ variables (path_at self.now) }
     {
-        self.path.floors.len() as u32 + AXIS_COUNT
+        self.path.floors.len() as u32 + axis_count(self.job.form)
     }
 
     /// Goes below a well shaped def.
     #[inline(never)]
     pub fn enter_def(&mut self, row: &'a Row, by: i128) -> Result<(), Mem>
-        requires shaped { IsTrue (is_shaped self.old.job.now.range (path_of self.old.above) (names row.now by)) }
-        requires room { variables (path_of self.old.above) < 2 ^ 32 }
+        requires shaped { IsTrue (is_shaped self.old.job.now.range (path_at self.old) (names row.now by)) }
+        requires room { variables (path_at self.old) < 2 ^ 32 }
         ensures job { OnOk result (self.new.job.now ≡ self.old.job.now) }
-        ensures above { OnOk result (path_of self.new.above ≡ def row.now by ∷ path_of self.old.above) }
+        ensures above { OnOk result (path_at self.new ≡ def row.now by ▸ path_at self.old) }
     {
         let variable = self.variables();
         let floor = Floor {
@@ -118,9 +128,9 @@ impl<'a> Descent<'a> {
     /// Goes to the first part of a split by a row of declared variables.
     #[inline(never)]
     pub fn enter_first(&mut self, row: &'a Row) -> Result<(), AllocError>
-        requires { IsTrue (is_declared (path_of self.old.above) row.now) }
+        requires { IsTrue (is_declared (path_at self.old) row.now) }
         ensures job { OnOk result (self.new.job.now ≡ self.old.job.now) }
-        ensures above { OnOk result (path_of self.new.above ≡ first row.now ∷ path_of self.old.above) }
+        ensures above { OnOk result (path_at self.new ≡ first row.now ▸ path_at self.old) }
     {
         let count = self.above.len();
         self.above.push(Above::First(row))?;
@@ -136,10 +146,10 @@ impl<'a> Descent<'a> {
     /// Goes to the second part of a split by a row of declared variables, whose denial is in `i128`.
     #[inline(never)]
     pub fn enter_second(&mut self, row: &'a Row) -> Result<(), Mem>
-        requires declared { IsTrue (is_declared (path_of self.old.above) row.now) }
+        requires declared { IsTrue (is_declared (path_at self.old) row.now) }
         requires fits { IsTrue (form_fits (denied row.now)) }
         ensures job { OnOk result (self.new.job.now ≡ self.old.job.now) }
-        ensures above { OnOk result (path_of self.new.above ≡ second row.now ∷ path_of self.old.above) }
+        ensures above { OnOk result (path_at self.new ≡ second row.now ▸ path_at self.old) }
     {
         let count = self.above.len();
         self.above.push(Above::Second(row))?;
@@ -153,12 +163,31 @@ impl<'a> Descent<'a> {
         }
     }
 
+    /// Goes below a lemma, whose row some derivation entails here.
+    #[inline(never)]
+    pub fn enter_lemma(&mut self, row: &'a Row) -> Result<(), AllocError>
+        requires declared { IsTrue (is_declared (path_at self.old) row.now) }
+        requires entailed { IsEntailed self.old.job.now.range (path_at self.old) row.now }
+        ensures job { OnOk result (self.new.job.now ≡ self.old.job.now) }
+        ensures above { OnOk result (path_at self.new ≡ lemma row.now ▸ path_at self.old) }
+    {
+        let count = self.above.len();
+        self.above.push(Above::Lemma(row))?;
+        match self.path.enter_lemma(row) {
+            Ok(()) => Ok(()),
+            Err(fault) => {
+                self.above.truncate(count);
+                Err(fault)
+            }
+        }
+    }
+
     /// Goes back up from below a def.
     #[inline(never)]
     pub fn leave_def(&mut self)
-        requires { IsTrue (is_below_def (path_of self.old.above)) }
+        requires { IsTrue (is_below_def (path_at self.old)) }
         ensures job { self.new.job.now ≡ self.old.job.now }
-        ensures above { path_of self.new.above ≡ outer_of (path_of self.old.above) }
+        ensures above { path_at self.new ≡ outer_of (path_at self.old) }
     {
         self.above.truncate(self.above.len() - 1);
         let facts = self.path.facts.len() - 2;
@@ -166,12 +195,12 @@ impl<'a> Descent<'a> {
         self.path.leave(facts, floors);
     }
 
-    /// Goes back up from a part of a split.
+    /// Goes back up from a part of a split, or from below a lemma.
     #[inline(never)]
-    pub fn leave_split(&mut self)
-        requires { IsTrue (is_below_split (path_of self.old.above)) }
+    pub fn leave_row(&mut self)
+        requires { IsTrue (is_below_row (path_at self.old)) }
         ensures job { self.new.job.now ≡ self.old.job.now }
-        ensures above { path_of self.new.above ≡ outer_of (path_of self.old.above) }
+        ensures above { path_at self.new ≡ outer_of (path_at self.old) }
     {
         self.above.truncate(self.above.len() - 1);
         let facts = self.path.facts.len() - 1;

@@ -1,6 +1,6 @@
 ghost use Rattle.std.specs.Prelude.{◌≡◌, ◌<◌, ◌≤◌, ◌^◌, max};
 ghost use Rattle.cert_check.specs.Rectangles.{IsProper};
-ghost use Rattle.cert_check.specs.Halves.{middle, longer_axis, halves_at, halves_of};
+ghost use Rattle.cert_check.specs.Halves.{middle, length_on, longer_of, longest_axis, halves_at, halves_of};
 
 use viz_base::{Axis, Rect, Span};
 
@@ -25,15 +25,30 @@ pub fn middle(least: u32, most: u32) -> u32
     least + most.saturating_sub(least) / 2
 }
 
-/// The axis on which a rectangle has more numbers; of two that have as many the width.
-pub fn longer_axis(rect: Rect) -> Axis
-    ensures { result ≡ longer_axis rect }
+/// How far it is from the first to the last number of a rectangle's side.
+fn length_on(rect: Rect, axis: Axis) -> u32
+    ensures { result ≡ length_on rect axis }
 {
-    if rect.sh.saturating_sub(rect.sl) <= rect.wh.saturating_sub(rect.wl) {
-        Axis::Width
+    let side = rect.side(axis);
+    side.most.saturating_sub(side.least)
+}
+
+/// Of two axes the one on which a rectangle has more numbers; of two that have as many the first.
+fn longer_of(rect: Rect, first: Axis, second: Axis) -> Axis
+    ensures { result ≡ longer_of rect first second }
+{
+    if length_on(rect, second) <= length_on(rect, first) {
+        first
     } else {
-        Axis::Size
+        second
     }
+}
+
+/// The axis on which a rectangle has the most numbers; of some that have as many the width, or else the size.
+pub fn longest_axis(rect: Rect) -> Axis
+    ensures { result ≡ longest_axis rect }
+{
+    longer_of(rect, longer_of(rect, Axis::Width, Axis::Size), Axis::Height)
 }
 
 /// A rectangle in two on an axis.
@@ -58,14 +73,15 @@ fn halves_at(axis: Axis, rect: Rect, middle: u32) -> Halves
     }
 }
 
-/// The halves of a rectangle on its longer side, in worlds; of two that are as long the widths'.
+/// The halves of a rectangle on its longest side, in worlds; of some that are as long the widths', or else the sizes'.
 pub fn halves_of(rect: Rect) -> Halves
     requires proper { IsProper rect }
     requires widths { rect.wh < 2 ^ 31 }
     requires sizes { rect.sh < 2 ^ 31 }
+    requires heights { rect.hh < 2 ^ 31 }
     ensures { result ≡ halves_of rect }
 {
-    let axis = longer_axis(rect);
+    let axis = longest_axis(rect);
     let side = rect.side(axis);
     halves_at(axis, rect, middle(side.least, side.most))
 }

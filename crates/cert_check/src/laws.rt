@@ -15,7 +15,8 @@ pub fn one_verdict_each()
     ensures { OneVerdict }
 {}
 
-/// The rows by which a rectangle is cut are those of one variable, the width or the size, and the coefficient 1 or -1.
+/// The rows by which a rectangle is cut are those of one variable, which stands for an axis of the form, and the
+/// coefficient 1 or -1.
 pub fn unit_rows()
     ensures { UnitIsUnitRow }
 {}
@@ -27,5 +28,6 @@ pub fn units_are_plain()
 
 /// A certificate's text has at least as many bytes as the certificate has nodes.
 pub fn no_more_nodes_than_bytes()
-    ensures { (cert : Cert) (text : List ℕ) → CertText cert text → length (nodes_of cert) ≤ length text }
+    ensures { (form : ℕ) (cert : Cert) (text : List ℕ) → CertText cert text
+        → length (nodes_of form cert) ≤ length text }
 {}

@@ -24,8 +24,8 @@ fn truth_over(alloc: Global, job: &Job, sym: &mut Sym<'_>) -> Result<bool, Halt>
         → yes ≡ is_true_at job.now e.world) }
     ensures told { IfErr result (λ halt. IsTrue (is_told true (state_of sym.new) (Some halt))) }
 {
-    match render(alloc, sym, &job.tree, job.height) {
-        Ok(rendering) => truth(sym, &job.formula, &rendering, job.height),
+    match render(alloc, sym, &job.tree) {
+        Ok(rendering) => truth(sym, &job.formula, &rendering),
         Err(halt) => Err(halt),
     }
 }

@@ -7,6 +7,7 @@ mod entry;
 mod halves;
 mod laws;
 mod leaf;
+mod look;
 mod numbers;
 mod path_worlds;
 mod shapes;
@@ -16,7 +17,7 @@ mod worlds;
 
 pub use cuts::{Child, Cut, Opens, cut_of, part_of, world_count};
 pub use entry::check;
-pub use halves::{Halves, halves_of, longer_axis, middle};
+pub use halves::{Halves, halves_of, longest_axis, middle};
 pub use laws::{
     no_more_nodes_than_bytes, one_verdict_each, right_holds, unit_rows, units_are_plain,
 };

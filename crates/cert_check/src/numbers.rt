@@ -1,7 +1,8 @@
-ghost use Rattle.std.specs.Prelude.{◌≡◌, ◌<ℤ◌, pos, [], ◌∷◌, IfOk, IsTrue};
+ghost use Rattle.std.specs.Prelude.{◌≡◌, map, pos, IfOk, IsTrue};
 ghost use Rattle.std.specs.Option.{option_map};
+ghost use Rattle.viz_base.specs.Worlds.{along};
+ghost use Rattle.cert_path.specs.Axes.{axes};
 ghost use Rattle.cert_check.specs.Numbers.{add_term, computed, sum_on};
-ghost use Rattle.cert_check.specs.steps.Descent.{are_sound, path_of};
 ghost use Rattle.cert_check.specs.steps.Grids.{value_in, pass, place_of, are_above_zero, is_above_zero};
 
 use crate::cuts::cut_of;
@@ -51,11 +52,12 @@ fn computed(row: &Row, values: &List<i128>) -> Option<i128>
     sum_on(row.k, row.terms.as_slice(), values)
 }
 
-/// Whether a world is still on the path below one def or split more. A def adds its floor to the values of the
-/// variables, and a unit split is passed over. None where a number is outside `i128`.
-fn pass(values: &mut List<i128>, step: Above<'_>, on: bool) -> Result<Option<bool>, Mem>
+/// Whether a world is still on the path below one def, split or lemma more. A def adds its floor to the values of the
+/// variables; a unit split and a lemma are passed over. None where a number is outside `i128`.
+fn pass(form: u8, values: &mut List<i128>, step: Above<'_>, on: bool) -> Result<Option<bool>, Mem>
     requires { IsTrue (is_above_zero step) }
-    ensures { IfOk result (λ passed. option_map (λ still. (values.new, still)) passed ≡ pass step.entry values.old on) }
+    ensures { IfOk result (λ passed.
+        option_map (λ still. (values.new, still)) passed ≡ pass form step.entry values.old on) }
 {
     match step {
         Above::Def(row, by) => {
@@ -65,24 +67,41 @@ fn pass(values: &mut List<i128>, step: Above<'_>, on: bool) -> Result<Option<boo
             values.push(value.div_euclid(by))?;
             Ok(Some(on))
         }
-        Above::First(row) | Above::Second(row) if cut_of(row).is_some() => Ok(Some(on)),
+        Above::First(row) | Above::Second(row) if cut_of(form, row).is_some() => Ok(Some(on)),
         Above::First(row) => Ok(computed(row, values).map(|value| on && 0 <= value)),
         Above::Second(row) => Ok(computed(row, values).map(|value| on && value < 0)),
+        Above::Lemma(_) => Ok(Some(on)),
     }
 }
 
-/// Whether a world that the unit splits of a path leave is on the path. None where a number of its defs or of its
-/// other splits is outside `i128` there.
-pub fn place_of(alloc: Global, above: &[Above<'_>], world: World) -> Result<Option<bool>, Mem>
-    requires { IsTrue (are_above_zero above.now) }
-    ensures { IfOk result (λ place. place ≡ place_of above.now world) }
+/// The numbers of a world on the axes of a form, the values of the first variables.
+fn numbers_of(alloc: Global, form: u8, world: World) -> Result<List<i128>, Mem>
+    ensures { IfOk result (λ numbers. numbers ≡ map (λ axis. pos (along axis world)) (axes form)) }
 {
     let mut values = List::new(alloc);
     values.push(i128::from(along(Axis::Width, world)))?;
     values.push(i128::from(along(Axis::Size, world)))?;
+    if form == 2 {
+        values.push(i128::from(along(Axis::Height, world)))?;
+    }
+    Ok(values)
+}
+
+/// Whether a world that the unit splits of a path leave is on the path. None where a number of its defs or of its
+/// other splits is outside `i128` there.
+pub fn place_of(
+    alloc: Global,
+    form: u8,
+    above: &[Above<'_>],
+    world: World,
+) -> Result<Option<bool>, Mem>
+    requires { IsTrue (are_above_zero above.now) }
+    ensures { IfOk result (λ place. place ≡ place_of form above.now world) }
+{
+    let mut values = numbers_of(alloc, form, world)?;
     let mut on = true;
     for step in above {
-        match pass(&mut values, *step, on)? {
+        match pass(form, &mut values, *step, on)? {
             Some(still) => on = still,
             None => return Ok(None),
         }

@@ -6,7 +6,7 @@ ghost use Rattle.lin_proof.specs.Derivations.{are_declared};
 ghost use Rattle.cert_path.specs.Nodes.{names, splits};
 ghost use Rattle.cert_path.specs.Paths.{is_declared, variables};
 ghost use Rattle.cert_path.specs.Shapes.{has_remainders, has_variable, is_remainder, is_shaped};
-ghost use Rattle.cert_check.specs.steps.Descent.{path_of};
+ghost use Rattle.cert_check.specs.steps.Ways.{path_at};
 
 use crate::descent::Descent;
 use lin_row::{Row, RowFault};
@@ -54,19 +54,19 @@ fn has_fit_numbers(row: &Row, variables: u32, by: i128) -> bool
     is_declared(row, variables) && 1 < by && has_remainders(by, row)
 }
 
-/// Whether a split by this row is well shaped here.
-pub fn is_shaped_split(descent: &Descent<'_>, row: &Row) -> bool
-    requires { variables (path_of descent.now.above) < 2 ^ 32 }
-    ensures { result ≡ is_shaped descent.now.job.now.range (path_of descent.now.above) (splits row.now) }
+/// Whether a split or a lemma by this row is well shaped here.
+pub fn is_shaped_row(descent: &Descent<'_>, row: &Row) -> bool
+    requires { variables (path_at descent.now) < 2 ^ 32 }
+    ensures { result ≡ is_shaped descent.now.job.now.range (path_at descent.now) (splits row.now) }
 {
     is_declared(row, descent.variables())
 }
 
 /// Whether a def of this row and number is well shaped here.
 pub fn is_shaped_def(descent: &Descent<'_>, row: &Row, by: i128) -> Result<bool, Mem>
-    requires { variables (path_of descent.now.above) < 2 ^ 32 }
+    requires { variables (path_at descent.now) < 2 ^ 32 }
     ensures { IfOk result (λ shaped.
-        shaped ≡ is_shaped descent.now.job.now.range (path_of descent.now.above) (names row.now by)) }
+        shaped ≡ is_shaped descent.now.job.now.range (path_at descent.now) (names row.now by)) }
 {
     if !has_fit_numbers(row, descent.variables(), by) {
         return Ok(false);

@@ -22,10 +22,11 @@ pub enum Reject {
     /// The node is badly shaped.
     #[error("node {0} is badly shaped")]
     Shape(u32),
-    /// The node is a void or a leaf. This line is wrong in the derivation of this answer, which is 0 for a void.
+    /// The node is a lemma, a void or a leaf. This line is wrong in the derivation of this answer, which is 0 for a
+    /// lemma or a void.
     #[error("node {0}: line {2} of the derivation of answer {1} is wrong")]
     Line(u32, u32, u32),
-    /// The node is a grid, and this the first world of its part, by width and then by size, at which
+    /// The node is a grid, and this the first world of its part, by width, then by size, and then by height, at which
     /// the formula is false.
     #[error("node {0} has a world at which the formula is false")]
     Untrue(u32, World),
@@ -41,7 +42,8 @@ pub enum Reject {
     /// The node is a leaf, so many of whose answers are not asked for.
     #[error("node {0} has {1} answers too many")]
     Left(u32, u64),
-    /// A number of the node is outside 128 bits: of a split's denial, on the way at a grid's worlds, or at a leaf.
+    /// A number of the node is outside 128 bits: of a split's or a lemma's denial, on the way at a grid's worlds, or at
+    /// a leaf.
     #[error("node {0} has a number outside 128 bits")]
     Coeff(u32),
 }

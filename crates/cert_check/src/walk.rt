@@ -3,15 +3,16 @@ ghost use Rattle.viz_base.specs.declared.jobs.Job.{Job};
 ghost use Rattle.std.specs.Option.{option_and_then};
 ghost use Rattle.lin_row.specs.Form.{denied, form_fits};
 ghost use Rattle.cert_text.specs.Nodes.{node_count};
-ghost use Rattle.cert_path.specs.Nodes.{names, splits, is_empty, by_worlds, by_answers, Node, node_on, nodes_from};
+ghost use Rattle.cert_path.specs.Nodes.{names, splits, states, is_empty, by_worlds, by_answers, Node, node_on, nodes_from};
 ghost use Rattle.cert_path.specs.Axes.{axis_count};
-ghost use Rattle.cert_path.specs.Paths.{def, first, second, is_declared, variables};
+ghost use Rattle.cert_path.specs.Paths.{def, first, second, lemma, ◌▸◌, is_declared, variables};
+ghost use Rattle.cert_path.specs.Derived.{IsEntailed};
 ghost use Rattle.cert_path.specs.Rectangles.{rectangle};
 ghost use Rattle.cert_path.specs.Shapes.{is_shaped};
 ghost use Rattle.cert_check.specs.Leaves.{node_in};
 ghost use Rattle.cert_check.specs.Rectangles.{IsWithin, cut_of, cut_at};
 ghost use Rattle.cert_check.specs.Verdicts.{IsRejected};
-ghost use Rattle.cert_check.specs.steps.Descent.{path_of};
+ghost use Rattle.cert_check.specs.steps.Ways.{path_at};
 ghost use Rattle.cert_check.specs.steps.Grids.{IsPart};
 ghost use Rattle.cert_check.specs.steps.Tells.{Judges, Tells};
 
@@ -19,11 +20,13 @@ use crate::cuts::{Child, cut_of, part_of, world_count};
 use crate::descent::Descent;
 use crate::leaf::check_new_leaf;
 use crate::path_worlds::{first_outside, first_untrue};
-use crate::shapes::{has_denial, is_shaped_def, is_shaped_split};
+use crate::shapes::{has_denial, is_shaped_def, is_shaped_row};
 use crate::verdicts::{Reject, Verdict};
 use cert_text::CertNode;
-use lin_proof::{Answer, Derivation, Facts, first_fault_among, line_count};
-use lin_row::Row;
+use lin_proof::{
+    Answer, Derivation, Facts, first_fault_among, first_fault_of_entailment, line_count,
+};
+use lin_row::{Row, RowFault};
 use std::alloc::{AllocError, Global};
 use sym_calc::Sym;
 use viz_base::{Boxed, Mem, Rect};
@@ -58,10 +61,10 @@ impl From<AllocError> for Stop {
 }
 
 /// The part of a part that lies under a child of a split, which only a unit split cuts.
-fn child_part(row: &Row, child: Child, part: Option<Rect>) -> Option<Rect>
-    ensures { result ≡ option_and_then (cut_at (cut_of row.now) child) part }
+fn child_part(form: u8, row: &Row, child: Child, part: Option<Rect>) -> Option<Rect>
+    ensures { result ≡ option_and_then (cut_at (cut_of form row.now) child) part }
 {
-    match cut_of(row) {
+    match cut_of(form, row) {
         Some(cut) => part_of(cut, child, part?),
         // Another split leaves the rectangle; which of its worlds lie here is asked of each at a grid.
         None => part,
@@ -89,8 +92,8 @@ fn check_def(
     row: &Row,
     by: i128,
 ) -> Result<(), Stop>
-    requires { variables (path_of descent.now.above) < 2 ^ 32 }
-    ensures { Judges descent.now.job.now (node_on (path_of descent.now.above) (names row.now by)) number result }
+    requires { variables (path_at descent.now) < 2 ^ 32 }
+    ensures { Judges descent.now.job.now (node_on (path_at descent.now) (names row.now by)) number result }
 {
     if is_shaped_def(descent, row, by)? {
         Ok(())
@@ -103,10 +106,10 @@ fn check_def(
 /// Whether a split is well shaped, and its denial in `i128`.
 #[inline(never)]
 fn check_split(alloc: Global, descent: &Descent<'_>, number: u32, row: &Row) -> Result<(), Stop>
-    requires { variables (path_of descent.now.above) < 2 ^ 32 }
-    ensures { Judges descent.now.job.now (node_on (path_of descent.now.above) (splits row.now)) number result }
+    requires { variables (path_at descent.now) < 2 ^ 32 }
+    ensures { Judges descent.now.job.now (node_on (path_at descent.now) (splits row.now)) number result }
 {
-    if !is_shaped_split(descent, row) {
+    if !is_shaped_row(descent, row) {
         return rejected(alloc, Reject::Shape(number));
     }
     // Below the second child the denial is a fact, so it has to be a number of 128 bits.
@@ -114,6 +117,36 @@ fn check_split(alloc: Global, descent: &Descent<'_>, number: u32, row: &Row) -> 
         Ok(())
     } else {
         rejected(alloc, Reject::Coeff(number))
+    }
+}
+
+#[tactic(auto, using(crate::proofs::Judging::judged_mem))]
+/// Whether a lemma is well shaped, its denial in `i128`, and its row entailed by the facts of its path.
+#[inline(never)]
+fn check_lemma(
+    alloc: Global,
+    descent: &Descent<'_>,
+    number: u32,
+    row: &Row,
+    why: &Derivation,
+) -> Result<(), Stop>
+    requires { variables (path_at descent.now) < 2 ^ 32 }
+    ensures { Judges descent.now.job.now
+        (node_on (path_at descent.now) (states row.now why.now)) number result }
+{
+    if !is_shaped_row(descent, row) {
+        return rejected(alloc, Reject::Shape(number));
+    }
+    if line_count(why).is_none() {
+        return Err(Stop::Mem);
+    }
+    // The lemma's own row isn't among the facts: the last of them is its denial.
+    let facts = descent.path().facts.as_slice();
+    match first_fault_of_entailment(alloc, facts, descent.variables(), row, why) {
+        Ok(None) => Ok(()),
+        Ok(Some(line)) => rejected(alloc, Reject::Line(number, 0, line)),
+        Err(RowFault::Coeff) => rejected(alloc, Reject::Coeff(number)),
+        Err(RowFault::Mem) => Err(Stop::Mem),
     }
 }
 
@@ -126,8 +159,8 @@ fn check_void(
     number: u32,
     why: &Derivation,
 ) -> Result<(), Stop>
-    requires { variables (path_of descent.now.above) < 2 ^ 32 }
-    ensures { Judges descent.now.job.now (node_on (path_of descent.now.above) (is_empty why.now)) number result }
+    requires { variables (path_at descent.now) < 2 ^ 32 }
+    ensures { Judges descent.now.job.now (node_on (path_at descent.now) (is_empty why.now)) number result }
 {
     if line_count(why).is_none() {
         return Err(Stop::Mem);
@@ -151,9 +184,9 @@ fn check_grid(
     number: u32,
     part: Option<Rect>,
 ) -> Result<(), Stop>
-    requires part { IsPart part (rectangle descent.now.job.now.range (path_of descent.now.above)) }
+    requires part { IsPart part (rectangle descent.now.job.now.range (path_at descent.now)) }
     requires within { IfSome part (IsWithin descent.now.job.now.range) }
-    ensures { Judges descent.now.job.now (node_on (path_of descent.now.above) by_worlds) number result }
+    ensures { Judges descent.now.job.now (node_on (path_at descent.now) by_worlds) number result }
 {
     // Splits above left no world: the assertion is true at each of them.
     let Some(rect) = part else {
@@ -163,7 +196,7 @@ fn check_grid(
         return rejected(alloc, Reject::Shape(number));
     }
     // Before any world is judged, so that the cause of a rejection doesn't depend on where the page breaks.
-    if first_outside(alloc, descent.above(), rect)?.is_some() {
+    if first_outside(alloc, descent.job(), descent.above(), rect)?.is_some() {
         return rejected(alloc, Reject::Coeff(number));
     }
     match first_untrue(alloc, descent.job(), descent.above(), rect)? {
@@ -181,8 +214,8 @@ fn check_answers(
     number: u32,
     answers: &[Answer],
 ) -> Result<(), Stop>
-    requires few { variables (path_of descent.now.above) < 2 ^ 32 }
-    ensures { Judges descent.now.job.now (node_on (path_of descent.now.above) (by_answers answers.now)) number result }
+    requires few { variables (path_at descent.now) < 2 ^ 32 }
+    ensures { Judges descent.now.job.now (node_on (path_at descent.now) (by_answers answers.now)) number result }
 {
     let mut sym = Sym::new(descent.path(), answers);
     match check_new_leaf(alloc, descent.job(), number, &mut sym)? {
@@ -212,14 +245,14 @@ pub fn check_node<'a>(
     number: u32,
     part: Option<Rect>,
 ) -> Result<u32, Stop>
-    requires few { number + node_count node.now + axis_count < 2 ^ 32 }
-    requires variables { variables (path_of descent.old.above) ≤ number + axis_count }
-    requires part { IsPart part (rectangle descent.old.job.now.range (path_of descent.old.above)) }
+    requires few { number + node_count node.now + axis_count descent.old.job.now.form < 2 ^ 32 }
+    requires variables { variables (path_at descent.old) ≤ number + axis_count descent.old.job.now.form }
+    requires part { IsPart part (rectangle descent.old.job.now.range (path_at descent.old)) }
     requires within { IfSome part (IsWithin descent.old.job.now.range) }
-    ensures tells { Tells descent.old.job.now (nodes_from node.now (path_of descent.old.above)) number result }
+    ensures tells { Tells descent.old.job.now (nodes_from node.now (path_at descent.old)) number result }
     ensures next { IfOk result (λ next. next ≡ number + node_count node.now) }
     ensures job { OnOk result (descent.new.job.now ≡ descent.old.job.now) }
-    ensures above { OnOk result (path_of descent.new.above ≡ path_of descent.old.above) }
+    ensures above { OnOk result (path_at descent.new ≡ path_at descent.old) }
 {
     match node {
         CertNode::Def(row, by, below) => {
@@ -245,6 +278,13 @@ pub fn check_node<'a>(
                 Err(stop) => Err(stop),
             }
         }
+        CertNode::Lemma(row, why, below) => {
+            let row = row.get();
+            match check_lemma(alloc, descent, number, row, why.get()) {
+                Ok(()) => check_under(alloc, descent, row, below.get(), number + 1, part),
+                Err(stop) => Err(stop),
+            }
+        }
         CertNode::Void(why) => after_end(number, check_void(alloc, descent, number, why.get())),
         CertNode::Grid => after_end(number, check_grid(alloc, descent, number, part)),
         CertNode::Leaf(answers) => after_end(
@@ -265,21 +305,53 @@ fn check_below<'a>(
     number: u32,
     part: Option<Rect>,
 ) -> Result<u32, Stop>
-    requires few { number + node_count node.now + axis_count < 2 ^ 32 }
-    requires variables { variables (path_of descent.old.above) + 1 ≤ number + axis_count }
-    requires shaped { IsTrue (is_shaped descent.old.job.now.range (path_of descent.old.above) (names row.now by)) }
-    requires part { IsPart part (rectangle descent.old.job.now.range (path_of descent.old.above)) }
+    requires few { number + node_count node.now + axis_count descent.old.job.now.form < 2 ^ 32 }
+    requires variables { variables (path_at descent.old) + 1 ≤ number + axis_count descent.old.job.now.form }
+    requires shaped { IsTrue (is_shaped descent.old.job.now.range (path_at descent.old) (names row.now by)) }
+    requires part { IsPart part (rectangle descent.old.job.now.range (path_at descent.old)) }
     requires within { IfSome part (IsWithin descent.old.job.now.range) }
     ensures tells { Tells descent.old.job.now
-        (nodes_from node.now (def row.now by ∷ path_of descent.old.above)) number result }
+        (nodes_from node.now (def row.now by ▸ path_at descent.old)) number result }
     ensures next { IfOk result (λ next. next ≡ number + node_count node.now) }
     ensures job { OnOk result (descent.new.job.now ≡ descent.old.job.now) }
-    ensures above { OnOk result (path_of descent.new.above ≡ path_of descent.old.above) }
+    ensures above { OnOk result (path_at descent.new ≡ path_at descent.old) }
 {
     match descent.enter_def(row, by) {
         Ok(()) => {
             let next = check_node(alloc, descent, node, number, part)?;
             descent.leave_def();
+            Ok(next)
+        }
+        Err(_) => Err(Stop::Mem),
+    }
+}
+
+/// Goes through what is below a lemma that was derived.
+#[cycle(nodes)]
+fn check_under<'a>(
+    alloc: Global,
+    descent: &mut Descent<'a>,
+    row: &'a Row,
+    node: &'a CertNode,
+    number: u32,
+    part: Option<Rect>,
+) -> Result<u32, Stop>
+    requires few { number + node_count node.now + axis_count descent.old.job.now.form < 2 ^ 32 }
+    requires variables { variables (path_at descent.old) ≤ number + axis_count descent.old.job.now.form }
+    requires declared { IsTrue (is_declared (path_at descent.old) row.now) }
+    requires entailed { IsEntailed descent.old.job.now.range (path_at descent.old) row.now }
+    requires part { IsPart part (rectangle descent.old.job.now.range (path_at descent.old)) }
+    requires within { IfSome part (IsWithin descent.old.job.now.range) }
+    ensures tells { Tells descent.old.job.now
+        (nodes_from node.now (lemma row.now ▸ path_at descent.old)) number result }
+    ensures next { IfOk result (λ next. next ≡ number + node_count node.now) }
+    ensures job { OnOk result (descent.new.job.now ≡ descent.old.job.now) }
+    ensures above { OnOk result (path_at descent.new ≡ path_at descent.old) }
+{
+    match descent.enter_lemma(row) {
+        Ok(()) => {
+            let next = check_node(alloc, descent, node, number, part)?;
+            descent.leave_row();
             Ok(next)
         }
         Err(_) => Err(Stop::Mem),
@@ -297,17 +369,17 @@ fn check_parts<'a>(
     number: u32,
     part: Option<Rect>,
 ) -> Result<u32, Stop>
-    requires few { number + (node_count one.now + node_count other.now) + axis_count < 2 ^ 32 }
-    requires variables { variables (path_of descent.old.above) ≤ number + axis_count }
-    requires declared { IsTrue (is_declared (path_of descent.old.above) row.now) }
+    requires few { number + (node_count one.now + node_count other.now) + axis_count descent.old.job.now.form < 2 ^ 32 }
+    requires variables { variables (path_at descent.old) ≤ number + axis_count descent.old.job.now.form }
+    requires declared { IsTrue (is_declared (path_at descent.old) row.now) }
     requires fits { IsTrue (form_fits (denied row.now)) }
-    requires part { IsPart part (rectangle descent.old.job.now.range (path_of descent.old.above)) }
+    requires part { IsPart part (rectangle descent.old.job.now.range (path_at descent.old)) }
     requires within { IfSome part (IsWithin descent.old.job.now.range) }
-    ensures tells { Tells descent.old.job.now (nodes_from one.now (first row.now ∷ path_of descent.old.above)
-        ++ nodes_from other.now (second row.now ∷ path_of descent.old.above)) number result }
+    ensures tells { Tells descent.old.job.now (nodes_from one.now (first row.now ▸ path_at descent.old)
+        ++ nodes_from other.now (second row.now ▸ path_at descent.old)) number result }
     ensures next { IfOk result (λ next. next ≡ number + (node_count one.now + node_count other.now)) }
     ensures job { OnOk result (descent.new.job.now ≡ descent.old.job.now) }
-    ensures above { OnOk result (path_of descent.new.above ≡ path_of descent.old.above) }
+    ensures above { OnOk result (path_at descent.new ≡ path_at descent.old) }
 {
     match check_first(alloc, descent, row, one, number, part) {
         Ok(next) => check_second(alloc, descent, row, other, next, part),
@@ -325,22 +397,22 @@ fn check_first<'a>(
     number: u32,
     part: Option<Rect>,
 ) -> Result<u32, Stop>
-    requires few { number + node_count node.now + axis_count < 2 ^ 32 }
-    requires variables { variables (path_of descent.old.above) ≤ number + axis_count }
-    requires declared { IsTrue (is_declared (path_of descent.old.above) row.now) }
-    requires part { IsPart part (rectangle descent.old.job.now.range (path_of descent.old.above)) }
+    requires few { number + node_count node.now + axis_count descent.old.job.now.form < 2 ^ 32 }
+    requires variables { variables (path_at descent.old) ≤ number + axis_count descent.old.job.now.form }
+    requires declared { IsTrue (is_declared (path_at descent.old) row.now) }
+    requires part { IsPart part (rectangle descent.old.job.now.range (path_at descent.old)) }
     requires within { IfSome part (IsWithin descent.old.job.now.range) }
     ensures tells { Tells descent.old.job.now
-        (nodes_from node.now (first row.now ∷ path_of descent.old.above)) number result }
+        (nodes_from node.now (first row.now ▸ path_at descent.old)) number result }
     ensures next { IfOk result (λ next. next ≡ number + node_count node.now) }
     ensures job { OnOk result (descent.new.job.now ≡ descent.old.job.now) }
-    ensures above { OnOk result (path_of descent.new.above ≡ path_of descent.old.above) }
+    ensures above { OnOk result (path_at descent.new ≡ path_at descent.old) }
 {
     match descent.enter_first(row) {
         Ok(()) => {
-            let part = child_part(row, Child::First, part);
+            let part = child_part(descent.job().form, row, Child::First, part);
             let next = check_node(alloc, descent, node, number, part)?;
-            descent.leave_split();
+            descent.leave_row();
             Ok(next)
         }
         Err(_) => Err(Stop::Mem),
@@ -357,23 +429,23 @@ fn check_second<'a>(
     number: u32,
     part: Option<Rect>,
 ) -> Result<u32, Stop>
-    requires few { number + node_count node.now + axis_count < 2 ^ 32 }
-    requires variables { variables (path_of descent.old.above) ≤ number + axis_count }
-    requires declared { IsTrue (is_declared (path_of descent.old.above) row.now) }
+    requires few { number + node_count node.now + axis_count descent.old.job.now.form < 2 ^ 32 }
+    requires variables { variables (path_at descent.old) ≤ number + axis_count descent.old.job.now.form }
+    requires declared { IsTrue (is_declared (path_at descent.old) row.now) }
     requires fits { IsTrue (form_fits (denied row.now)) }
-    requires part { IsPart part (rectangle descent.old.job.now.range (path_of descent.old.above)) }
+    requires part { IsPart part (rectangle descent.old.job.now.range (path_at descent.old)) }
     requires within { IfSome part (IsWithin descent.old.job.now.range) }
     ensures tells { Tells descent.old.job.now
-        (nodes_from node.now (second row.now ∷ path_of descent.old.above)) number result }
+        (nodes_from node.now (second row.now ▸ path_at descent.old)) number result }
     ensures next { IfOk result (λ next. next ≡ number + node_count node.now) }
     ensures job { OnOk result (descent.new.job.now ≡ descent.old.job.now) }
-    ensures above { OnOk result (path_of descent.new.above ≡ path_of descent.old.above) }
+    ensures above { OnOk result (path_at descent.new ≡ path_at descent.old) }
 {
     match descent.enter_second(row) {
         Ok(()) => {
-            let part = child_part(row, Child::Second, part);
+            let part = child_part(descent.job().form, row, Child::Second, part);
             let next = check_node(alloc, descent, node, number, part)?;
-            descent.leave_split();
+            descent.leave_row();
             Ok(next)
         }
         Err(_) => Err(Stop::Mem),

@@ -1,10 +1,9 @@
-ghost use Rattle.std.specs.Prelude.{◌≡◌, ◌+◌, ◌-◌, ◌≤◌, IsTrue, IfOk, MatchOption};
+ghost use Rattle.std.specs.Prelude.{◌≡◌, IfOk, MatchOption};
 ghost use Rattle.logic_semantics.specs.Ranges.{IsInRange};
-ghost use Rattle.cert_check.specs.Truths.{is_true_at};
-ghost use Rattle.cert_check.specs.Truths.{IsTrueIn, IsFirstUntrueIn};
+ghost use Rattle.cert_check.specs.Truths.{is_true_at, IsTrueIn, IsFirstUntrueIn};
 ghost use Rattle.cert_check.specs.Rectangles.{IsWithin};
-ghost use Rattle.cert_check.specs.steps.Worlds.{seek, untrue_at, untrue_of_width, first_untrue};
 
+use crate::look::{Look, first_world};
 use lay_flow::render_at;
 use std::alloc::Global;
 use vis_truth::truth;
@@ -18,48 +17,38 @@ pub fn holds_at(alloc: Global, job: &Job, world: World) -> Result<bool, Mem>
     requires in_range { IsInRange job.now.range world }
     ensures { IfOk result (λ yes. yes ≡ is_true_at job.now world) }
 {
-    let rendering = render_at(alloc, world, &job.tree, job.height)?;
+    let rendering = render_at(alloc, world, &job.tree)?;
     let mut calc = Plain::new(world);
-    match truth(&mut calc, &job.formula, &rendering, job.height) {
+    match truth(&mut calc, &job.formula, &rendering) {
         Ok(yes) => Ok(yes),
         Err(_) => unreachable!(),
     }
 }
 
-/// The first world of a width at which the formula is false.
-fn first_untrue_of_width(alloc: Global, job: &Job, rect: Rect, w: u32) -> Result<Option<World>, Mem>
-    requires within { IsWithin job.now.range rect }
-    requires width_least { job.now.range.wl ≤ w }
-    requires width_most { w ≤ job.now.range.wh }
-    ensures { IfOk result (λ found. found ≡ untrue_of_width job.now rect w) }
-{
-    for s in rect.sl..rect.sh + 1 {
-        let world = World { w, s };
-        if !holds_at(alloc, job, world)? {
-            return Ok(Some(world));
-        }
-    }
-    Ok(None)
+/// The test whether a job's formula is false at a world.
+#[derive(Drop)]
+struct Untrue<'a> {
+    alloc: Global,
+    job: &'a Job,
 }
 
-/// The first world of a rectangle, as the walk over its worlds finds it.
-pub(crate) fn find_untrue(alloc: Global, job: &Job, rect: Rect) -> Result<Option<World>, Mem>
-    requires within { IsWithin job.now.range rect }
-    ensures { IfOk result (λ found. found ≡ first_untrue job.now rect) }
-{
-    for w in rect.wl..rect.wh + 1 {
-        if let Some(world) = first_untrue_of_width(alloc, job, rect, w)? {
-            return Ok(Some(world));
-        }
+impl Look for Untrue<'_> {
+    ghost use Rattle.cert_check.specs.steps.Worlds.{is_untrue};
+
+    ghost range = { λ look. look.job.now.range };
+
+    ghost passes = { λ look. is_untrue look.job.now };
+
+    fn passes(&self, world: World) -> Result<bool, Mem> {
+        Ok(!holds_at(self.alloc, self.job, world)?)
     }
-    Ok(None)
 }
 
-/// The first world of a rectangle in a job's range, by width and then by size, at which the formula is
+/// The first world of a rectangle in a job's range, by width, then by size, and then by height, at which the formula is
 /// false; None where it is true at each. The only fault is want of memory.
 pub fn first_untrue(alloc: Global, job: &Job, rect: Rect) -> Result<Option<World>, Mem>
     requires within { IsWithin job.now.range rect }
     ensures { IfOk result (λ found. MatchOption found (IsTrueIn job.now rect) (IsFirstUntrueIn job.now rect)) }
 {
-    find_untrue(alloc, job, rect)
+    first_world(&Untrue { alloc, job }, rect)
 }

@@ -7,12 +7,13 @@ use Rattle.std.proofs.lemmas.Option.{same_Some}
 use Rattle.viz_base.specs.declared.worlds.World.{World}
 use Rattle.viz_base.proofs.ListLemmas.{all_append}
 use Rattle.lin_row.specs.Form.{Form, value}
+use Rattle.lin_proof.specs.declared.derivation.Derivation.{Derivation}
 use Rattle.cert_text.specs.declared.certificate.Cert.{Cert}
 use Rattle.cert_text.specs.declared.certificate.CertNode.{CertNode}
-use Rattle.cert_path.specs.Paths.{def, first, second, Path, values_along, IsOn}
-use Rattle.cert_path.specs.Nodes.{Decision, names, splits, is_empty, by_worlds, by_answers, is_end, Node, nodes_from, nodes_of}
+use Rattle.cert_path.specs.Paths.{def, first, second, lemma, Path, root, ◌▸◌, values_along, IsOn}
+use Rattle.cert_path.specs.Nodes.{Decision, names, splits, states, is_empty, by_worlds, by_answers, is_end, Node, nodes_from, nodes_of}
 use Rattle.cert_path.specs.Laws.{IsEndOf}
-use Rattle.cert_path.proofs.Trees.{def_node, split_node, by_nodes, nodes-def, nodes-split, nodes-void, nodes-grid, nodes-leaf}
+use Rattle.cert_path.proofs.Trees.{def_node, split_node, lemma_node, by_nodes, nodes-def, nodes-split, nodes-lemma, nodes-void, nodes-grid, nodes-leaf}
 
 -- the node is an end on whose path the world lies
 pub record TakesIn (world : World) (node : Node) : Type 0 where
@@ -48,8 +49,14 @@ end_one world path decision ends = (λ on. inl (record { ends = ends; on_path = 
 
 def_one : (world : World) (row : Form) (d : ℤ) (below : CertNode) → HasOne world below → HasOne world (def_node row d below)
 def_one world row d below one path = (
-  λ on. rw nodes-def (inr (no_end world path (names row d) refl, (one (def row d ∷ path)).0 (tt, on))),
-  λ off. rw nodes-def (no_end world path (names row d) refl, (one (def row d ∷ path)).1 (λ h. off h.1)),
+  λ on. rw nodes-def (inr (no_end world path (names row d) refl, (one (def row d ▸ path)).0 (tt, on))),
+  λ off. rw nodes-def (no_end world path (names row d) refl, (one (def row d ▸ path)).1 (λ h. off h.1)),
+)
+
+lemma_one : (world : World) (row : Form) (why : Derivation) (below : CertNode) → HasOne world below → HasOne world (lemma_node row why below)
+lemma_one world row why below one path = (
+  λ on. rw nodes-lemma (inr (no_end world path (states row why) refl, (one (lemma row ▸ path)).0 (tt, on))),
+  λ off. rw nodes-lemma (no_end world path (states row why) refl, (one (lemma row ▸ path)).1 (λ h. off h.1)),
 )
 
 -- a world is on one side
@@ -65,21 +72,22 @@ split_one world row one other h k path = (
   λ on. rw nodes-split (inr (no_end world path (splits row) refl, by_side on (sides (value row (values_along world path))))),
   λ off. rw nodes-split (
     no_end world path (splits row) refl,
-    all_append (λ (node : Node). TakesIn world node → ⊥) (nodes_from one (first row ∷ path)) (nodes_from other (second row ∷ path))
-        ((h (first row ∷ path)).1 (λ o. off o.1)) ((k (second row ∷ path)).1 (λ o. off o.1)),
+    all_append (λ (node : Node). TakesIn world node → ⊥) (nodes_from one (first row ▸ path)) (nodes_from other (second row ▸ path))
+        ((h (first row ▸ path)).1 (λ o. off o.1)) ((k (second row ▸ path)).1 (λ o. off o.1)),
   ),
 )
   where
-    by_side : IsOn path world → OneSide (value row (values_along world path)) → OneOf world (nodes_from one (first row ∷ path) ++ nodes_from other (second row ∷ path))
-    by_side on (inl s) = one_first world (nodes_from one (first row ∷ path)) (nodes_from other (second row ∷ path))
-        ((h (first row ∷ path)).0 (s.0, on)) ((k (second row ∷ path)).1 (λ o. s.1 o.0))
-    by_side on (inr s) = one_second world (nodes_from one (first row ∷ path)) (nodes_from other (second row ∷ path))
-        ((h (first row ∷ path)).1 (λ o. s.1 o.0)) ((k (second row ∷ path)).0 (s.0, on))
+    by_side : IsOn path world → OneSide (value row (values_along world path)) → OneOf world (nodes_from one (first row ▸ path) ++ nodes_from other (second row ▸ path))
+    by_side on (inl s) = one_first world (nodes_from one (first row ▸ path)) (nodes_from other (second row ▸ path))
+        ((h (first row ▸ path)).0 (s.0, on)) ((k (second row ▸ path)).1 (λ o. s.1 o.0))
+    by_side on (inr s) = one_second world (nodes_from one (first row ▸ path)) (nodes_from other (second row ▸ path))
+        ((h (first row ▸ path)).1 (λ o. s.1 o.0)) ((k (second row ▸ path)).0 (s.0, on))
 
 has_one : (world : World) (node : CertNode) → HasOne world node
 has_one world = by_nodes (HasOne world) (record {
   def = def_one world;
   split = split_one world;
+  lemma = lemma_one world;
   void = λ why path. rw nodes-void (end_one world path (is_empty why) refl);
   grid = λ path. rw nodes-grid (end_one world path by_worlds refl);
   leaf = λ answers path. rw nodes-leaf (end_one world path (by_answers answers) refl);
@@ -116,9 +124,9 @@ one_at world (x ∷ xs) (inr h) = further (one_at world xs h.1)
         only zero at = absurd (h.0 (subst (λ y. TakesIn world y) (sym (same_Some x at.node at.is_node)) at.takes_in))
         only (suc m) at = ap suc (rest.1.1 m (record { node = at.node; is_node = at.is_node; takes_in = at.takes_in }))
 
-pub one_end : (cert : Cert) (world : World) → (n : ℕ) × (IsEndOf cert world n × ((m : ℕ) → IsEndOf cert world m → m ≡ n))
-one_end cert world =
-    let one = one_at world (nodes_of cert) ((has_one world cert.root []).0 tt) in
+pub one_end : (form : ℕ) (cert : Cert) (world : World) → (n : ℕ) × (IsEndOf form cert world n × ((m : ℕ) → IsEndOf form cert world m → m ≡ n))
+one_end form cert world =
+    let one = one_at world (nodes_of form cert) ((has_one world cert.root (root form)).0 tt) in
     let at = one.1.0 in (
       one.0,
       (

@@ -1,6 +1,6 @@
 -- Which defs are well shaped.
-use Rattle.std.proofs.Common.{◌≡◌, ◌≢◌, ℕ, zero, suc, ◌<◌, ◌==◌, ℤ, pos, ◌≤ℤ◌, ◌<ℤ◌, Bool, true, false, nat_lt, [], ◌∷◌, length, Some, refl, sym, ap, arith, IsTrue, not, ◌&&◌, ◌||◌}
-use Rattle.std.specs.Prelude.{◌↔◌, slice_get}
+use Rattle.std.proofs.Common.{◌≡◌, ◌≢◌, ℕ, ◌<◌, ◌==◌, ℤ, pos, ◌≤ℤ◌, ◌<ℤ◌, Bool, true, false, nat_lt, [], ◌∷◌, length, inl, inr, refl, sym, ap, arith, IsTrue, not, ◌&&◌, ◌||◌}
+use Rattle.std.specs.Prelude.{◌↔◌}
 use Rattle.std.specs.Bool.{Decides}
 use Rattle.std.specs.Ordering.{int_eq}
 use Rattle.std.specs.List.{All, list_all}
@@ -8,12 +8,11 @@ use Rattle.std.specs.Int.Signed.{lt_z}
 use Rattle.std.specs.Cmp.Lexicographic.{pointwise}
 use Rattle.std.proofs.lemmas.Int.{ints}
 use Rattle.std.proofs.lemmas.Bool.Decides.{nat_tests, Decides-and, Decides-not, Decides-by_and, Decides-eqb, Decides-int_eq}
-use Rattle.std.proofs.lemmas.Option.{same_Some}
 use Rattle.std.proofs.lemmas.Slice.Eq.{slice_eq-Decides}
 use Rattle.viz_base.specs.declared.worlds.Rect.{Rect}
 use Rattle.lin_row.specs.Form.{Form, Terms}
 use Rattle.lin_proof.specs.Derivations.{are_declared}
-use Rattle.cert_path.specs.Paths.{Step, def, first, second, Path, variables, is_declared}
+use Rattle.cert_path.specs.Paths.{Step, def, first, second, lemma, Path, root, ◌▸◌, HasStep, variables, is_declared}
 use Rattle.cert_path.specs.Nodes.{names}
 use Rattle.cert_path.specs.Shapes.{has_variable, is_remainder, has_remainders, same_row, is_named, is_shaped}
 use Rattle.cert_path.specs.Laws.{IsRemainder, IsFitDef}
@@ -68,11 +67,13 @@ row_in : Form → Step → Form
 row_in none (def row d) = row
 row_in none (first row) = none
 row_in none (second row) = none
+row_in none (lemma row) = none
 
 number_in : ℤ → Step → ℤ
 number_in none (def row d) = d
 number_in none (first row) = none
 number_in none (second row) = none
+number_in none (lemma row) = none
 
 decides_same_def : (row f : Form) (d e : ℤ) → Decides (same_row row f && int_eq d e) (def f e ≡ def row d)
 unfolding row_in number_in
@@ -82,27 +83,24 @@ decides_same_def row f d e =
       λ same. both.1 (sym (ap (row_in f) same), sym (ap (number_in e) same)),
     )
 
-abbrev Stands : Form → ℤ → Path → Type 0
-Stands row d path = (k : ℕ) × (slice_get path k ≡ Some (def row d))
+-- behind a step that is another
+further : (row : Form) (d : ℤ) (step : Step) (outer : Path) → (step ≡ def row d → ⊥) → HasStep (def row d) (step ▸ outer) → HasStep (def row d) outer
+further row d step outer other (inl is) = absurd (other is)
+further row d step outer other (inr has) = has
 
-further : (row : Form) (d : ℤ) (step : Step) (outer : Path) → (step ≡ def row d → ⊥) → Stands row d (step ∷ outer) → Stands row d outer
-further row d step outer other (zero, is) = absurd (other (same_Some step (def row d) is))
-further row d step outer other (suc k, is) = (k, is)
+beyond : (row : Form) (d : ℤ) (step : Step) (outer : Path) → (step ≡ def row d → ⊥) → Decides (is_named row d outer) (HasStep (def row d) outer) → Decides (is_named row d outer) (HasStep (def row d) (step ▸ outer))
+beyond row d step outer other rest = (λ t. inr (rest.0 t), λ has. rest.1 (further row d step outer other has))
 
-decides_named : (row : Form) (d : ℤ) (path : Path) → Decides (is_named row d path) (Stands row d path)
-decides_named row d [] = (λ e. absurd (cc), λ stands. absurd (cc (stands.1)))
-decides_named row d (def f e ∷ outer) = by_test (same_row row f && int_eq d e) (decides_same_def row f d e) (decides_named row d outer)
+decides_named : (row : Form) (d : ℤ) (path : Path) → Decides (is_named row d path) (HasStep (def row d) path)
+decides_named row d (root form) = (λ e. absurd (cc), λ has. absurd has)
+decides_named row d (def f e ▸ outer) = by_test (same_row row f && int_eq d e) (decides_same_def row f d e) (decides_named row d outer)
   where
-    by_test : (b : Bool) → Decides b (def f e ≡ def row d) → Decides (is_named row d outer) (Stands row d outer) → Decides (b || is_named row d outer) (Stands row d (def f e ∷ outer))
-    by_test true same rest = (λ t. (zero, ap Some (same.0 refl)), λ stands. refl)
-    by_test false same rest =
-        (λ t. let h = rest.0 t in (suc h.0, h.1), λ stands. rest.1 (further row d (def f e) outer (λ is. absurd (cc (same.1 is))) stands))
-decides_named row d (first f ∷ outer) =
-    let rest = decides_named row d outer in
-    (λ t. let h = rest.0 t in (suc h.0, h.1), λ stands. rest.1 (further row d (first f) outer (λ is. absurd (cc (is))) stands))
-decides_named row d (second f ∷ outer) =
-    let rest = decides_named row d outer in
-    (λ t. let h = rest.0 t in (suc h.0, h.1), λ stands. rest.1 (further row d (second f) outer (λ is. absurd (cc (is))) stands))
+    by_test : (b : Bool) → Decides b (def f e ≡ def row d) → Decides (is_named row d outer) (HasStep (def row d) outer) → Decides (b || is_named row d outer) (HasStep (def row d) (def f e ▸ outer))
+    by_test true same rest = (λ t. inl (same.0 refl), λ has. refl)
+    by_test false same rest = beyond row d (def f e) outer (λ is. absurd (cc (same.1 is))) rest
+decides_named row d (first f ▸ outer) = beyond row d (first f) outer (λ is. absurd (cc (is))) (decides_named row d outer)
+decides_named row d (second f ▸ outer) = beyond row d (second f) outer (λ is. absurd (cc (is))) (decides_named row d outer)
+decides_named row d (lemma f ▸ outer) = beyond row d (lemma f) outer (λ is. absurd (cc (is))) (decides_named row d outer)
 
 -- ---- defs
 
@@ -119,7 +117,7 @@ shaped_defs_are_fit range path row d =
         number = h.0.0.1;
         constant = h.0.1.0;
         coefficients = h.0.1.1;
-        new = λ k is. h.1 (k, is);
+        new = h.1;
       },
-      λ fit. all.1 ((((fit.declared, fit.some), fit.number), (fit.constant, fit.coefficients)), λ stands. fit.new stands.0 stands.1),
+      λ fit. all.1 ((((fit.declared, fit.some), fit.number), (fit.constant, fit.coefficients)), fit.new),
     )

@@ -9,7 +9,7 @@ use Rattle.lin_row.proofs.Values.{value-plus, value-denied}
 use Rattle.lin_row.proofs.Whole.{distribute_left, above_by}
 use Rattle.lin_proof.specs.Derivations.{are_declared}
 use Rattle.cert_path.specs.Axes.{axis_count}
-use Rattle.cert_path.specs.Paths.{def, first, second, Path, variables, with_value, values_at, values_along}
+use Rattle.cert_path.specs.Paths.{def, first, second, lemma, Path, root, ◌▸◌, form_of, variables, with_value, values_at, values_along}
 use Rattle.cert_path.specs.Facts.{row_of}
 
 -- ---- rows that name the first n variables alone
@@ -56,20 +56,22 @@ pub with_new : (v : ℕ → ℤ) (x : ℕ) (n : ℤ) → with_value v x n x ≡ 
 with_new v x n = let same : (x == x) ≡ true = grind (arith, nat_tests) in ap (λ b. cond b n (v x)) same
 
 -- the axes' variables are declared along each path
-pub axes_declared : (path : Path) → axis_count ≤ variables path
-axes_declared [] = omega arith
-axes_declared (def row d ∷ outer) = let more = axes_declared outer in omega arith
-axes_declared (first row ∷ outer) = axes_declared outer
-axes_declared (second row ∷ outer) = axes_declared outer
+pub axes_declared : (path : Path) → axis_count (form_of path) ≤ variables path
+axes_declared (root form) = omega arith
+axes_declared (def row d ▸ outer) = let more = axes_declared outer in omega arith
+axes_declared (first row ▸ outer) = axes_declared outer
+axes_declared (second row ▸ outer) = axes_declared outer
+axes_declared (lemma row ▸ outer) = axes_declared outer
 
 -- and they are the same all along it
-pub axes_along : (world : World) (path : Path) → Agree axis_count (values_along world path) (values_at world)
-axes_along world [] x less = refl
-axes_along world (def row d ∷ outer) x less =
+pub axes_along : (world : World) (path : Path) → Agree (axis_count (form_of path)) (values_along world path) (values_at (form_of path) world)
+axes_along world (root form) x less = refl
+axes_along world (def row d ▸ outer) x less =
     let above = axes_declared outer in
     with_old (values_along world outer) (variables outer) _ x (omega arith) ∙ axes_along world outer x less
-axes_along world (first row ∷ outer) x less = axes_along world outer x less
-axes_along world (second row ∷ outer) x less = axes_along world outer x less
+axes_along world (first row ▸ outer) x less = axes_along world outer x less
+axes_along world (second row ▸ outer) x less = axes_along world outer x less
+axes_along world (lemma row ▸ outer) x less = axes_along world outer x less
 
 -- ---- floors
 

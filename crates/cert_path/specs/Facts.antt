@@ -7,7 +7,7 @@ use Rattle.viz_base.specs.declared.worlds.Rect.{Rect}
 use Rattle.viz_base.specs.Worlds.{side_of}
 use Rattle.lin_row.specs.Form.{Form, plus, denied}
 use Rattle.cert_path.specs.Axes.{variable_of, axes}
-use Rattle.cert_path.specs.Paths.{Step, def, first, second, Path, variables}
+use Rattle.cert_path.specs.Paths.{Step, def, first, second, lemma, Path, root, ◌▸◌, variables}
 
 -- the row k + c*x
 abbrev pub row_of : ℤ → ℤ → ℕ → Form
@@ -20,18 +20,19 @@ side_facts axis side =
     ∷ row_of (pos side.most) (negsuc 0) (variable_of axis)
     ∷ []
 
--- those of each axis, in the order of their variables
-abbrev pub range_facts : Rect → List Form
-range_facts r = flat_map (λ axis. side_facts axis (side_of axis r)) axes
+-- those of each axis of the form, in the order of their variables
+abbrev pub range_facts : ℕ → Rect → List Form
+range_facts form r = flat_map (λ axis. side_facts axis (side_of axis r)) (axes form)
 
 -- what a step adds, x being the next variable: a def the rows f - d*x and d*x + d - 1 - f, a split its row on the first
--- side, and its denial -f - 1 on the second
+-- side, and its denial -f - 1 on the second, a lemma its row
 abbrev pub step_facts : ℕ → Step → List Form
 step_facts x (def f d) = plus f (negsuc 0) (row_of (pos 0) d x) ∷ plus (row_of (d -ℤ pos 1) d x) (negsuc 0) f ∷ []
 step_facts x (first f) = f ∷ []
 step_facts x (second f) = denied f ∷ []
+step_facts x (lemma f) = f ∷ []
 
 -- the facts of a path, numbered from 0 in this order: those of the range, then those of the steps from the root down
 abbrev pub facts : Rect → Path → List Form
-facts range [] = range_facts range
-facts range (step ∷ outer) = facts range outer ++ step_facts (variables outer) step
+facts range (root form) = range_facts form range
+facts range (step ▸ outer) = facts range outer ++ step_facts (variables outer) step

@@ -5,5 +5,6 @@ pub mod Nodes
 pub mod Rectangles
 pub mod Shapes
 pub mod Derived
+pub mod Once
 pub mod Examples
 pub mod Laws

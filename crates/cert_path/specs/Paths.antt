@@ -1,6 +1,6 @@
 -- Paths: the steps from the root of a certificate down to a node, what the variables are along them, and the worlds
 -- that lie on them.
-use Rattle.std.specs.Prelude.{ℕ, ◌+◌, ◌==◌, ℤ, pos, ◌≤ℤ◌, ◌<ℤ◌, Bool, List, [], ◌∷◌, if◌then◌else◌, IsTrue, ⊤}
+use Rattle.std.specs.Prelude.{◌≡◌, ◌⊎◌, ℕ, ◌+◌, ◌==◌, ℤ, pos, ◌≤ℤ◌, ◌<ℤ◌, Bool, if◌then◌else◌, IsTrue, ⊤}
 use Rattle.std.specs.Int.{int_div_euclid}
 use Rattle.viz_base.specs.declared.worlds.World.{World}
 use Rattle.lin_row.specs.Form.{Form, value}
@@ -15,27 +15,42 @@ pub data Step : Type 0 where
   first : Form → Step
   -- to the second child of a split: the row is below 0
   second : Form → Step
+  -- below a lemma: the row is at least 0, as was derived
+  lemma : Form → Step
 
--- the steps from the root down to a node, the last of them in front
-abbrev pub Path : Type 0
-Path = List Step
+infixr 5 ◌▸◌
+-- the steps from the root of a certificate, for a job of a form, down to a node, the last of them in front
+pub data Path : Type 0 where
+  root : ℕ → Path
+  ◌▸◌ : Step → Path → Path
 
--- ---- variables: the first stand for the axes; each def takes the next one
+-- the step is one of the path's
+abbrev pub HasStep : Step → Path → Type 0
+HasStep step (root form) = ⊥
+HasStep step (other ▸ outer) = (other ≡ step) ⊎ HasStep step outer
+
+-- the form of the job
+abbrev pub form_of : Path → ℕ
+form_of (root form) = form
+form_of (step ▸ outer) = form_of outer
+
+-- ---- variables: the first stand for the axes of the form; each def takes the next one
 
 -- how many variables are declared along a path
 abbrev pub variables : Path → ℕ
-variables [] = axis_count
-variables (def row d ∷ outer) = variables outer + 1
-variables (first row ∷ outer) = variables outer
-variables (second row ∷ outer) = variables outer
+variables (root form) = axis_count form
+variables (def row d ▸ outer) = variables outer + 1
+variables (first row ▸ outer) = variables outer
+variables (second row ▸ outer) = variables outer
+variables (lemma row ▸ outer) = variables outer
 
 -- the values v, but n for the variable x
 abbrev pub with_value : (ℕ → ℤ) → ℕ → ℤ → ℕ → ℤ
 with_value v x n y = if y == x then n else v y
 
 -- what the variables are where no floor is named; those that are not declared count 0
-abbrev pub values_at : World → ℕ → ℤ
-values_at world x = number_on (axis_of x) world
+abbrev pub values_at : ℕ → World → ℕ → ℤ
+values_at form world x = number_on (axis_of form x) world
 
 -- the values v, but for the variable x the row's value divided by d and rounded down
 abbrev pub with_floor : Form → ℤ → (ℕ → ℤ) → ℕ → ℕ → ℤ
@@ -43,10 +58,11 @@ with_floor row d v x = with_value v x (int_div_euclid (value row v) d)
 
 -- what the variables are along a path at a world
 abbrev pub values_along : World → Path → ℕ → ℤ
-values_along world [] = values_at world
-values_along world (def row d ∷ outer) = with_floor row d (values_along world outer) (variables outer)
-values_along world (first row ∷ outer) = values_along world outer
-values_along world (second row ∷ outer) = values_along world outer
+values_along world (root form) = values_at form world
+values_along world (def row d ▸ outer) = with_floor row d (values_along world outer) (variables outer)
+values_along world (first row ▸ outer) = values_along world outer
+values_along world (second row ▸ outer) = values_along world outer
+values_along world (lemma row ▸ outer) = values_along world outer
 
 -- ---- worlds
 
@@ -55,11 +71,12 @@ abbrev pub IsTaken : (ℕ → ℤ) → Step → Type 0
 IsTaken v (def row d) = ⊤
 IsTaken v (first row) = pos 0 ≤ℤ value row v
 IsTaken v (second row) = value row v <ℤ pos 0
+IsTaken v (lemma row) = ⊤
 
 -- the world lies on the path: each step is taken there, by what the variables are along the steps above it
 abbrev pub IsOn : Path → World → Type 0
-IsOn [] world = ⊤
-IsOn (step ∷ outer) world = IsTaken (values_along world outer) step × IsOn outer world
+IsOn (root form) world = ⊤
+IsOn (step ▸ outer) world = IsTaken (values_along world outer) step × IsOn outer world
 
 -- ---- declared rows
 
@@ -72,8 +89,9 @@ abbrev pub IsSound : Path → Step → Type 0
 IsSound outer (def row d) = IsTrue (is_declared outer row) × (pos 0 <ℤ d)
 IsSound outer (first row) = IsTrue (is_declared outer row)
 IsSound outer (second row) = IsTrue (is_declared outer row)
+IsSound outer (lemma row) = IsTrue (is_declared outer row)
 
 -- each step of the path stands so below those above it
 abbrev pub AreSound : Path → Type 0
-AreSound [] = ⊤
-AreSound (step ∷ outer) = IsSound outer step × AreSound outer
+AreSound (root form) = ⊤
+AreSound (step ▸ outer) = IsSound outer step × AreSound outer

@@ -1,16 +1,16 @@
--- The rectangle that the unit splits of a path leave of a range: those by a row k + x or k - x, x
--- standing for an axis.
-use Rattle.std.specs.Prelude.{ℕ, ◌*◌, ◌==◌, ℤ, pos, negsuc, neg_ℤ, ◌+ℤ◌, [], ◌∷◌, if◌then◌else◌}
+-- The rectangle that the unit splits of a path leave of a range: those by a row k + x or k - x, x standing for an axis
+-- of the job's form.
+use Rattle.std.specs.Prelude.{ℕ, ◌*◌, ℤ, pos, negsuc, neg_ℤ, ◌+ℤ◌, [], ◌∷◌, if◌then◌else◌}
 use Rattle.std.specs.Ordering.{int_eq}
-use Rattle.std.specs.List.{fold}
 use Rattle.std.specs.Int.{int_gap, int_max, int_min}
 use Rattle.viz_base.specs.declared.worlds.Axis.{Axis}
+use Rattle.viz_base.specs.declared.worlds.Axis.TheVariants.{Width, Size, Height}
 use Rattle.viz_base.specs.declared.worlds.Span.{Span}
 use Rattle.viz_base.specs.declared.worlds.Rect.{Rect}
 use Rattle.viz_base.specs.Worlds.{side_of}
 use Rattle.lin_row.specs.Form.{Form, Terms, denied}
-use Rattle.cert_path.specs.Axes.{variable_of, axes}
-use Rattle.cert_path.specs.Paths.{def, first, second, Path}
+use Rattle.cert_path.specs.Axes.{stands_for}
+use Rattle.cert_path.specs.Paths.{def, first, second, lemma, Path, root, ◌▸◌, form_of}
 
 -- the whole numbers from one to another, both included; none where the least is above the most
 pub record Side : Type 0 where
@@ -29,17 +29,17 @@ cut_side k c side =
     else side
 
 -- of the sides that of the axis that x stands for is cut
-abbrev pub cut_sides : ℤ → ℕ × ℤ → Sides → Sides
-cut_sides k t sides axis = if t.0 == variable_of axis then cut_side k t.1 (sides axis) else sides axis
+abbrev pub cut_sides : ℕ → ℤ → ℕ × ℤ → Sides → Sides
+cut_sides form k t sides axis = if stands_for form t.0 axis then cut_side k t.1 (sides axis) else sides axis
 
 -- what a row of one term leaves; another leaves all
-abbrev pub left_by_terms : ℤ → Terms → Sides → Sides
-left_by_terms k [] sides = sides
-left_by_terms k (t ∷ []) sides = cut_sides k t sides
-left_by_terms k (t ∷ u ∷ ts) sides = sides
+abbrev pub left_by_terms : ℕ → ℤ → Terms → Sides → Sides
+left_by_terms form k [] sides = sides
+left_by_terms form k (t ∷ []) sides = cut_sides form k t sides
+left_by_terms form k (t ∷ u ∷ ts) sides = sides
 
-abbrev pub left_by : Form → Sides → Sides
-left_by row = left_by_terms row.k row.terms
+abbrev pub left_by : ℕ → Form → Sides → Sides
+left_by form row = left_by_terms form row.k row.terms
 
 -- the whole numbers of a span
 abbrev pub side_from : Span → Side
@@ -50,10 +50,11 @@ whole range axis = side_from (side_of axis range)
 
 -- the range cut by the unit splits of a path; on a second side it is the row's denial that is to be at least 0
 abbrev pub rectangle : Rect → Path → Sides
-rectangle range [] = whole range
-rectangle range (def row d ∷ outer) = rectangle range outer
-rectangle range (first row ∷ outer) = left_by row (rectangle range outer)
-rectangle range (second row ∷ outer) = left_by (denied row) (rectangle range outer)
+rectangle range (root form) = whole range
+rectangle range (def row d ▸ outer) = rectangle range outer
+rectangle range (first row ▸ outer) = left_by (form_of outer) row (rectangle range outer)
+rectangle range (second row ▸ outer) = left_by (form_of outer) (denied row) (rectangle range outer)
+rectangle range (lemma row ▸ outer) = rectangle range outer
 
 -- how many numbers a side has
 abbrev pub count : Side → ℕ
@@ -61,4 +62,4 @@ count side = int_gap side.least (side.most +ℤ pos 1)
 
 -- how many worlds have a number of each
 abbrev pub world_count : Sides → ℕ
-world_count sides = fold (λ worlds axis. worlds * count (sides axis)) 1 axes
+world_count sides = count (sides Width) * count (sides Size) * count (sides Height)

@@ -1,12 +1,23 @@
 //! What the facts of a path say.
 
-ghost use Rattle.cert_path.specs.Laws.{AnswersAreRight, FactsHold, FactsSayAll, RefutedIsEmpty};
+ghost use Rattle.cert_path.specs.Laws.{AnswersAreRight, EntailedHolds, FactsHold, FactsSayAll, ReasonedIsEntailed, RefutedIsEmpty};
 
-/// At each world of the range on a path all its facts are at least 0, and whole numbers that make them so are what the
-/// variables are along the path at such a world; each row of the path names declared variables alone.
+/// At each world of the range on a path whose lemmas are entailed all its facts are at least 0, and whole numbers that
+/// make them so are what the variables are along the path at such a world; each row of the path names declared
+/// variables alone.
 pub fn facts_say_what_a_path_says()
     ensures hold { FactsHold }
     ensures all { FactsSayAll }
+{}
+
+/// The row of a lemma is at least 0 at each world of the range on its path, where the lemmas above it are entailed.
+pub fn a_lemma_holds_on_its_path()
+    ensures { EntailedHolds }
+{}
+
+/// Below nodes that have their reasons each lemma is entailed.
+pub fn lemmas_above_are_entailed()
+    ensures { ReasonedIsEntailed }
 {}
 
 /// No world of the range is on a path whose facts a derivation refutes.

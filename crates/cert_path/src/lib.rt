@@ -7,4 +7,4 @@ pub mod facts;
 pub mod nodes;
 pub mod shapes;
 
-pub use axes::{AXIS_COUNT, along, axis_of, variable_of};
+pub use axes::{along, axis_count, axis_of, variable_of};

@@ -29,7 +29,7 @@ agree_bound P (suc n) [] [] more le h = absurd (omega arith)
 agree_bound P (suc n) [] (c ∷ rest) more le h = absurd h
 agree_bound P (suc n) (c ∷ read) rest more le h = let below = agree_bound P n read rest more (omega arith) (h refl) in omega arith
 
-take_front : (read rest : List ℕ) → take (length read) (read ++ rest) ≡ read
+pub take_front : (read rest : List ℕ) → take (length read) (read ++ rest) ≡ read
 take_front [] rest = refl
 take_front (c ∷ read) rest = ap (λ t. c ∷ t) (take_front read rest)
 
@@ -57,7 +57,7 @@ stuck_at text read left whole h =
     let at : length text - length left ≡ length read = omega arith in
     record { within = omega arith; no_text = subst (λ n. IsNoText text n) (sym at) (subst (λ t. IsNoText t (length read)) (sym whole) h) }
 
-stuck_refused : (text rest : List ℕ) → IsRefused CertText text rest → IsStuck text rest
+pub stuck_refused : (text rest : List ℕ) → IsRefused CertText text rest → IsStuck text rest
 stuck_refused text rest h =
     stuck_at text h.read rest h.whole (record {
       no_text = λ cert t. leaves_self h.read rest (h.leaves cert (h.read ++ rest) t);

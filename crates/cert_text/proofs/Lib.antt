@@ -9,5 +9,12 @@ pub mod Language
 pub mod LoopLemmas
 pub mod Naturals
 pub mod NodeCounts
+pub mod NodeTexts
 pub mod Numerals
+pub mod PieceTexts
+pub mod ReadingLaws
+pub mod Readings
+pub mod Reasons
 pub mod Rows
+pub mod StreamNodes
+pub mod Streams

@@ -1,4 +1,5 @@
 pub mod Fault
 pub mod Nodes
+pub mod Pieces
 pub mod Texts
 pub mod steps

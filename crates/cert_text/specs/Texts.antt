@@ -1,7 +1,7 @@
 -- The text of a certificate:
 --
---     cert   := "vizlog-cert 1" LF "job " hex64 LF node
---     node   := "def " row " by " pos LF node | "split " row LF node node
+--     cert   := "vizlog-cert " ("1" | "2") LF "job " hex64 LF node
+--     node   := "def " row " by " pos LF node | "split " row LF node node | "lemma " row LF deriv node
 --             | "void" LF deriv | "grid" LF | "leaf" LF answer* "end" LF
 --     answer := ("yes " | "no ") row LF deriv
 --     deriv  := step* ("closed" LF | "case " row LF deriv deriv)
@@ -9,11 +9,13 @@
 --     row    := int (" " num ":" nz)*
 --
 -- hex64 is 64 lower case hex digits. int is a whole number of `i128` in decimal digits without leading zeros, nz one
--- other than 0, pos one above 0, and num a number from 0 to 2^32 - 1. A row's variables strictly ascend. A def or a
--- split stands at depth 0 to 511, the root having depth 0, and at most 64 cases enclose each other.
+-- other than 0, pos one above 0, and num a number from 0 to 2^32 - 1. A row's variables strictly ascend. A lemma stands
+-- in certificates of form 2 alone, which is the number in the first line. A def, a split or a lemma stands at depth 0 to
+-- 511, the root having depth 0, and at most 64 cases enclose each other.
 --
--- Each part has the text that a function below gives, and has it where the test beside that function is met.
-use Rattle.std.specs.Prelude.{◌≡◌, ℕ, ◌+◌, ◌-◌, ◌^◌, ◌==◌, nat_lt, nat_le, ℤ, pos, Bool, true, false, ◌&&◌, IsTrue, List, [], ◌∷◌, ◌++◌, length, codes, not}
+-- Each part has the text that a function below gives, and has it where the test beside that function is met. A piece is
+-- a certificate's head, or a node without the nodes below it: a certificate's text is the lines of its pieces.
+use Rattle.std.specs.Prelude.{◌≡◌, ℕ, ◌+◌, ◌-◌, ◌^◌, ◌==◌, nat_lt, nat_le, ℤ, pos, Bool, true, false, ◌&&◌, ◌||◌, IsTrue, List, [], ◌∷◌, ◌++◌, length, codes, not}
 use Rattle.std.specs.Ordering.{int_eq}
 use Rattle.std.specs.Int.Signed.{lt_z}
 use Rattle.std.specs.List.{flat_map, concat, list_all}
@@ -32,6 +34,8 @@ use Rattle.cert_text.specs.declared.certificate.Cert.{Cert}
 use Rattle.cert_text.specs.declared.certificate.CertNode.{CertNode}
 use Rattle.cert_text.specs.declared.certificate.CertNode.TheOpen.{CertNode-F}
 use Rattle.cert_text.specs.declared.certificate.CertNode.TheFolds.{fold-CertNode}
+use Rattle.cert_text.specs.declared.certificate.Piece.{Piece}
+use Rattle.cert_text.specs.declared.certificate.Piece.TheVariants.{Head, Def, Split, Lemma, Void, Grid, Leaf}
 use Rattle.cert_text.specs.steps.Write.{int_bytes, row_bytes}
 
 -- ---- numbers and rows
@@ -113,7 +117,7 @@ ending_has_text = fold-Ending Nested Nested Nested ending_nested branch_nested d
 abbrev pub branch_has_text : Branch → Nested
 branch_has_text = fold-Branch Nested Nested Nested ending_nested branch_nested derivation_nested
 
--- ---- nodes
+-- ---- answers
 
 abbrev pub answer_word : Bool → List ℕ
 answer_word true = codes "yes "
@@ -125,42 +129,74 @@ answer_text a = concat (answer_word a.yes ∷ row_bytes a.row ∷ codes "\n" ∷
 abbrev pub answer_has_text : Answer → Bool
 answer_has_text a = row_has_text a.row && derivation_has_text a.why 64
 
-abbrev pub node_step : CertNode-F (List ℕ) → List ℕ
-node_step (CertNode-F.Def row d below) =
-    concat (codes "def " ∷ row_bytes row ∷ codes " by " ∷ int_bytes d ∷ codes "\n" ∷ below ∷ [])
-node_step (CertNode-F.Split row first second) =
-    concat (codes "split " ∷ row_bytes row ∷ codes "\n" ∷ first ∷ second ∷ [])
-node_step (CertNode-F.Void why) = concat (codes "void\n" ∷ derivation_text why ∷ [])
-node_step CertNode-F.Grid = codes "grid\n"
-node_step (CertNode-F.Leaf answers) = concat (codes "leaf\n" ∷ flat_map answer_text answers ∷ codes "end\n" ∷ [])
+-- ---- pieces and nodes
 
-abbrev pub node_text : CertNode → List ℕ
-node_text = fold-CertNode (List ℕ) node_step
-
--- whether a node has a text, where so many defs and splits may stand one in another below it
-abbrev pub node_nested : CertNode-F Nested → Nested
-node_nested (CertNode-F.Def row d below) levels = nat_lt 0 levels && row_has_text row && is_above_zero d
-    && below (levels - 1)
-node_nested (CertNode-F.Split row first second) levels = nat_lt 0 levels && row_has_text row && first (levels - 1)
-    && second (levels - 1)
-node_nested (CertNode-F.Void why) levels = derivation_has_text why 64
-node_nested CertNode-F.Grid levels = true
-node_nested (CertNode-F.Leaf answers) levels = list_all answer_has_text answers
-
-abbrev pub node_has_text : CertNode → Nested
-node_has_text = fold-CertNode Nested node_nested
-
--- ---- certificates
-
-abbrev pub cert_text : Cert → List ℕ
-cert_text cert = concat (codes "vizlog-cert 1\njob " ∷ encode_lower cert.job ∷ codes "\n" ∷ node_text cert.root ∷ [])
+-- the lines of a piece
+abbrev pub piece_text : Piece → List ℕ
+piece_text (Head form job) =
+    concat (codes "vizlog-cert " ∷ int_bytes (pos form) ∷ codes "\njob " ∷ encode_lower job ∷ codes "\n" ∷ [])
+piece_text (Def row d) = concat (codes "def " ∷ row_bytes row ∷ codes " by " ∷ int_bytes d ∷ codes "\n" ∷ [])
+piece_text (Split row) = concat (codes "split " ∷ row_bytes row ∷ codes "\n" ∷ [])
+piece_text (Lemma row why) = concat (codes "lemma " ∷ row_bytes row ∷ codes "\n" ∷ derivation_text why ∷ [])
+piece_text (Void why) = concat (codes "void\n" ∷ derivation_text why ∷ [])
+piece_text Grid = codes "grid\n"
+piece_text (Leaf answers) = concat (codes "leaf\n" ∷ flat_map answer_text answers ∷ codes "end\n" ∷ [])
 
 -- 32 bytes
 abbrev pub job_has_text : List ℕ → Bool
 job_has_text job = length job == 32 && list_all (λ b. nat_lt b 256) job
 
+abbrev pub is_form : ℕ → Bool
+is_form form = form == 1 || form == 2
+
+abbrev pub head_has_text : ℕ → List ℕ → Bool
+head_has_text form job = is_form form && job_has_text job
+
+-- whether a piece has lines as a node's own, in a certificate of a form, where so many defs, splits and lemmas may
+-- stand one in another from it on
+abbrev pub piece_has_text : ℕ → ℕ → Piece → Bool
+piece_has_text form levels (Head _ job) = false
+piece_has_text form levels (Def row d) = nat_lt 0 levels && row_has_text row && is_above_zero d
+piece_has_text form levels (Split row) = nat_lt 0 levels && row_has_text row
+piece_has_text form levels (Lemma row why) =
+    nat_lt 0 levels && form == 2 && row_has_text row && derivation_has_text why 64
+piece_has_text form levels (Void why) = derivation_has_text why 64
+piece_has_text form levels Grid = true
+piece_has_text form levels (Leaf answers) = list_all answer_has_text answers
+
+-- the lines of a node: its own, and then those of the nodes below it
+abbrev pub node_step : CertNode-F (List ℕ) → List ℕ
+node_step (CertNode-F.Def row d below) = piece_text (Def row d) ++ below
+node_step (CertNode-F.Split row first second) = piece_text (Split row) ++ (first ++ second)
+node_step (CertNode-F.Lemma row why below) = piece_text (Lemma row why) ++ below
+node_step (CertNode-F.Void why) = piece_text (Void why)
+node_step CertNode-F.Grid = piece_text Grid
+node_step (CertNode-F.Leaf answers) = piece_text (Leaf answers)
+
+abbrev pub node_text : CertNode → List ℕ
+node_text = fold-CertNode (List ℕ) node_step
+
+-- whether a node has a text in a certificate of a form, where so many defs, splits and lemmas may stand one in another
+abbrev pub node_nested : ℕ → CertNode-F Nested → Nested
+node_nested form (CertNode-F.Def row d below) levels = piece_has_text form levels (Def row d) && below (levels - 1)
+node_nested form (CertNode-F.Split row first second) levels =
+    piece_has_text form levels (Split row) && first (levels - 1) && second (levels - 1)
+node_nested form (CertNode-F.Lemma row why below) levels =
+    piece_has_text form levels (Lemma row why) && below (levels - 1)
+node_nested form (CertNode-F.Void why) levels = piece_has_text form levels (Void why)
+node_nested form CertNode-F.Grid levels = piece_has_text form levels Grid
+node_nested form (CertNode-F.Leaf answers) levels = piece_has_text form levels (Leaf answers)
+
+abbrev pub node_has_text : ℕ → CertNode → Nested
+node_has_text form = fold-CertNode Nested (node_nested form)
+
+-- ---- certificates
+
+abbrev pub cert_text : Cert → List ℕ
+cert_text cert = piece_text (Head cert.form cert.job) ++ node_text cert.root
+
 abbrev pub cert_has_text : Cert → Bool
-cert_has_text cert = job_has_text cert.job && node_has_text cert.root 512
+cert_has_text cert = head_has_text cert.form cert.job && node_has_text cert.form cert.root 512
 
 abbrev pub CertText : Cert → List ℕ → Type 0
 CertText cert text = IsTrue (cert_has_text cert) × (text ≡ cert_text cert)

@@ -1,14 +1,11 @@
-ghost use Rattle.std.specs.Prelude.{◌≡◌, MatchResult, IfOk};
+ghost use Rattle.std.specs.Prelude.{◌≡◌, IfOk};
 ghost use Rattle.cert_text.specs.steps.Read.{Reads};
 ghost use Rattle.cert_text.specs.steps.Parts.{ends_behind, read_term, with_last, read_terms, read_row, read_part, read_one_part, read_parts, read_fact, read_sum, read_step, read_behind_c, read_steps, read_cases, read_derivation};
-ghost use Rattle.cert_text.specs.steps.Whole.{read_reason, read_answer, read_answers, read_flat, read_def, read_split, read_node, read_front, read_whole};
-ghost use Rattle.cert_text.specs.Fault.{IsFault};
-ghost use Rattle.cert_text.specs.Texts.{CertText};
+ghost use Rattle.cert_text.specs.steps.Whole.{read_reason, read_answer, read_answers};
 
-use crate::certificate::{Cert, CertFault, CertNode};
 use crate::cursor::{Cursor, Stop};
 use crate::numbers::{natural, signed};
-use crate::spelling::{MOST_CASES, MOST_LEVELS};
+use crate::spelling::MOST_CASES;
 use crate::turn::Turn;
 use lin_proof::{Answer, Branch, Derivation, Ending, Step};
 use lin_row::{Row, Terms};
@@ -19,44 +16,7 @@ use viz_base::{Boxed, List};
 const MOST: u128 = (1 << 32) - 1;
 
 /// The greatest multiplier or divisor.
-const MOST_TIMES: u128 = (1 << 127) - 1;
-
-/// The certificate whose text the bytes are.
-/// Faults: `Mem`, want of memory; `Grammar(at)`, exactly where no certificate spells the bytes, at
-/// being the length of their longest prefix that is a prefix of some certificate's text.
-pub fn read_cert(alloc: Global, bytes: &[u8]) -> Result<Cert, CertFault>
-    ensures { MatchResult result (λ cert. CertText cert bytes.now) (λ fault. IsFault fault bytes.now) }
-{
-    let mut cursor = Cursor { rest: bytes };
-    match read_whole(alloc, &mut cursor) {
-        Ok(cert) => Ok(cert),
-        Err(Stop::Mem) => Err(CertFault::Mem),
-        Err(Stop::Refused) => Err(CertFault::Grammar((bytes.len() - cursor.rest.len()) as u64)),
-    }
-}
-
-/// A certificate with nothing behind it.
-fn read_whole(alloc: Global, cursor: &mut Cursor) -> Result<Cert, Stop>
-    ensures { Reads result (read_whole cursor.old.rest.now) cursor.new.rest.now }
-{
-    let cert = read_front(alloc, cursor)?;
-    if cursor.rest.is_empty() {
-        Ok(cert)
-    } else {
-        Err(Stop::Refused)
-    }
-}
-
-/// A certificate, whatever is behind it.
-fn read_front(alloc: Global, cursor: &mut Cursor) -> Result<Cert, Stop>
-    ensures { Reads result (read_front cursor.old.rest.now) cursor.new.rest.now }
-{
-    cursor.word(b"vizlog-cert 1\njob ")?;
-    let job = cursor.digest()?;
-    cursor.word(b"\n")?;
-    let root = read_node(alloc, cursor, MOST_LEVELS)?.into_inner();
-    Ok(Cert { job, root })
-}
+pub const MOST_TIMES: u128 = (1 << 127) - 1;
 
 /// The bytes that may stand behind a variable's coefficient: a space or a line's end. No variable follows the greatest
 /// one, and a def's row ends in " by ".
@@ -123,7 +83,7 @@ fn read_terms(alloc: Global, cursor: &mut Cursor, is_def: bool) -> Result<Terms,
 }
 
 /// A row and what stands behind it: " by " in a def, else the line's end.
-fn read_row(alloc: Global, cursor: &mut Cursor, is_def: bool) -> Result<Row, Stop>
+pub fn read_row(alloc: Global, cursor: &mut Cursor, is_def: bool) -> Result<Row, Stop>
     ensures { Reads result (read_row is_def cursor.old.rest.now) cursor.new.rest.now }
 {
     let (k, end) = signed(cursor, ends_behind(0, is_def), 0)?;
@@ -233,7 +193,7 @@ fn read_steps(alloc: Global, cursor: &mut Cursor, cases: u8) -> Result<(List<Ste
 /// A derivation in which at most so many cases enclose each other.
 #[cycle(derivations)]
 #[tactic(auto, unfolding(crate::specs::steps::Parts::read_derivation))]
-fn read_derivation(alloc: Global, cursor: &mut Cursor, cases: u8) -> Result<Derivation, Stop>
+pub fn read_derivation(alloc: Global, cursor: &mut Cursor, cases: u8) -> Result<Derivation, Stop>
     ensures { Reads result (read_derivation cases cursor.old.rest.now) cursor.new.rest.now }
 {
     let (steps, is_closed) = read_steps(alloc, cursor, cases)?;
@@ -282,7 +242,8 @@ fn read_answer(alloc: Global, cursor: &mut Cursor) -> Result<Turn<Answer, ()>, S
     Ok(Turn::Last(()))
 }
 
-fn read_answers(alloc: Global, cursor: &mut Cursor) -> Result<List<Answer>, Stop>
+/// The answers at the cursor, up to the line `end`, which is taken too.
+pub fn read_answers(alloc: Global, cursor: &mut Cursor) -> Result<List<Answer>, Stop>
     ensures { Reads result (read_answers cursor.old.rest.now) cursor.new.rest.now }
 {
     let mut answers = List::new(alloc);
@@ -293,82 +254,4 @@ fn read_answers(alloc: Global, cursor: &mut Cursor) -> Result<List<Answer>, Stop
         }
     }
     Err(Stop::Refused)
-}
-
-/// A row in a box of its own, and what stands behind it.
-#[inline(never)]
-fn read_boxed_row(alloc: Global, cursor: &mut Cursor, is_def: bool) -> Result<Boxed<Row>, Stop>
-    ensures { Reads result (read_row is_def cursor.old.rest.now) cursor.new.rest.now }
-{
-    let row = read_row(alloc, cursor, is_def)?;
-    Ok(Boxed::new(alloc, row)?)
-}
-
-/// A void, a grid or a leaf.
-fn read_flat(alloc: Global, cursor: &mut Cursor) -> Result<CertNode, Stop>
-    ensures { Reads result (read_flat cursor.old.rest.now) cursor.new.rest.now }
-{
-    if cursor.begins(b'v') {
-        cursor.word(b"void\n")?;
-        let why = read_derivation(alloc, cursor, MOST_CASES)?;
-        return Ok(CertNode::Void(Boxed::new(alloc, why)?));
-    }
-    if cursor.begins(b'g') {
-        cursor.word(b"grid\n")?;
-        return Ok(CertNode::Grid);
-    }
-    cursor.word(b"leaf\n")?;
-    Ok(CertNode::Leaf(read_answers(alloc, cursor)?))
-}
-
-/// A void, a grid or a leaf in a box of its own.
-#[inline(never)]
-fn read_boxed_flat(alloc: Global, cursor: &mut Cursor) -> Result<Boxed<CertNode>, Stop>
-    ensures { Reads result (read_flat cursor.old.rest.now) cursor.new.rest.now }
-{
-    let node = read_flat(alloc, cursor)?;
-    Ok(Boxed::new(alloc, node)?)
-}
-
-// The walk over nodes goes some 500 levels deep. What needs much of the stack stands in calls that have returned
-// before it descends, none of them inlined, and what they give lies in boxes.
-
-/// What stands behind "def ", with at most so many levels below it.
-#[cycle(nodes)]
-fn read_def(alloc: Global, cursor: &mut Cursor, levels: u16) -> Result<Boxed<CertNode>, Stop>
-    ensures { Reads result (read_def (read_node levels) cursor.old.rest.now) cursor.new.rest.now }
-{
-    let row = read_boxed_row(alloc, cursor, true)?;
-    let (divisor, _) = natural(cursor, (b'\n', b'\n'), 1, MOST_TIMES)?;
-    let divisor = Boxed::new(alloc, divisor as i128)?;
-    let below = read_node(alloc, cursor, levels)?;
-    Ok(Boxed::new(alloc, CertNode::Def(row, divisor, below))?)
-}
-
-/// What stands behind "split ", with at most so many levels below it.
-#[cycle(nodes)]
-fn read_split(alloc: Global, cursor: &mut Cursor, levels: u16) -> Result<Boxed<CertNode>, Stop>
-    ensures { Reads result (read_split (read_node levels) cursor.old.rest.now) cursor.new.rest.now }
-{
-    let row = read_boxed_row(alloc, cursor, false)?;
-    let first = read_node(alloc, cursor, levels)?;
-    let second = read_node(alloc, cursor, levels)?;
-    Ok(Boxed::new(alloc, CertNode::Split(row, first, second))?)
-}
-
-/// A node below which at most `levels` defs and splits stand one in another.
-#[cycle(nodes)]
-#[tactic(auto, unfolding(crate::specs::steps::Whole::read_node))]
-fn read_node(alloc: Global, cursor: &mut Cursor, levels: u16) -> Result<Boxed<CertNode>, Stop>
-    ensures { Reads result (read_node levels cursor.old.rest.now) cursor.new.rest.now }
-{
-    if levels > 0 && cursor.begins(b'd') {
-        cursor.word(b"def ")?;
-        return read_def(alloc, cursor, levels - 1);
-    }
-    if levels > 0 && cursor.begins(b's') {
-        cursor.word(b"split ")?;
-        return read_split(alloc, cursor, levels - 1);
-    }
-    read_boxed_flat(alloc, cursor)
 }

@@ -1,20 +1,24 @@
 ghost use Rattle.std.specs.Prelude.{◌≡◌, ◌↔◌, ℕ, nat_lt, List, IsTrue};
 ghost use Rattle.std.specs.List.{list_all};
 ghost use Rattle.lin_row.specs.Number.{in_i128};
-ghost use Rattle.cert_text.specs.Texts.{CertText, answer_has_text, branch_has_text, cert_has_text, derivation_has_text, ending_has_text, is_num, job_has_text, node_has_text, part_has_text, row_has_text, step_has_text, terms_have_text};
+ghost use Rattle.cert_text.specs.Texts.{CertText, answer_has_text, branch_has_text, cert_has_text, derivation_has_text, ending_has_text, is_form, is_num, job_has_text, node_has_text, part_has_text, row_has_text, step_has_text, terms_have_text};
 
 use crate::certificate::{Cert, CertNode};
 use lin_proof::{Answer, Branch, Derivation, Ending, Step};
 use lin_row::Row;
 
-/// How many defs and splits may stand one in another.
+/// The form of a certificate that may have lemmas.
+pub const WITH_LEMMAS: u8 = 2;
+
+/// How many defs, splits and lemmas may stand one in another.
 pub const MOST_LEVELS: u16 = 512;
 
 /// How many cases may enclose each other.
 pub const MOST_CASES: u8 = 64;
 
-/// Whether a certificate has a text. One has none where defs and splits or cases stand too deep, where a sum has no
-/// part, or where a multiple or a divisor is not above 0.
+/// Whether a certificate has a text. One has none where its form is neither 1 nor 2 or is 1 and it has a lemma, where
+/// defs, splits and lemmas or cases stand too deep, where a sum has no part, or where a multiple or a divisor is not
+/// above 0.
 pub fn has_spelling(cert: &Cert) -> bool
     ensures { IsTrue result ↔ ((bytes : List ℕ) × CertText cert.now bytes) }
 {
@@ -24,7 +28,14 @@ pub fn has_spelling(cert: &Cert) -> bool
 fn is_spelled(cert: &Cert) -> bool
     ensures { result ≡ cert_has_text cert.now }
 {
-    is_job(cert.job.as_slice()) && is_node(&cert.root, MOST_LEVELS)
+    is_form(cert.form) && is_job(cert.job.as_slice()) && is_node(&cert.root, cert.form, MOST_LEVELS)
+}
+
+/// Whether certificates have this form.
+fn is_form(form: u8) -> bool
+    ensures { result ≡ is_form form }
+{
+    form == 1 || form == WITH_LEMMAS
 }
 
 /// Whether a digest has 32 bytes.
@@ -146,21 +157,30 @@ fn are_answers(answers: &[Answer]) -> bool
     answers.iter().all(|answer| is_answer(answer))
 }
 
-fn is_node(node: &CertNode, levels: u16) -> bool
-    ensures { result ≡ node_has_text node.now levels }
+/// Whether a node has a text in a certificate of this form, where at most `levels` defs, splits and lemmas may stand
+/// one in another.
+fn is_node(node: &CertNode, form: u8, levels: u16) -> bool
+    ensures { result ≡ node_has_text form node.now levels }
 {
     match node {
         CertNode::Def(row, divisor, below) => {
             levels > 0
                 && is_row(row.get())
                 && *divisor.get() > 0
-                && is_node(below.get(), levels - 1)
+                && is_node(below.get(), form, levels - 1)
         }
         CertNode::Split(row, first, second) => {
             levels > 0
                 && is_row(row.get())
-                && is_node(first.get(), levels - 1)
-                && is_node(second.get(), levels - 1)
+                && is_node(first.get(), form, levels - 1)
+                && is_node(second.get(), form, levels - 1)
+        }
+        CertNode::Lemma(row, why, below) => {
+            levels > 0
+                && form == WITH_LEMMAS
+                && is_row(row.get())
+                && is_derivation(why.get(), MOST_CASES)
+                && is_node(below.get(), form, levels - 1)
         }
         CertNode::Void(why) => is_derivation(why.get(), MOST_CASES),
         CertNode::Grid => true,

@@ -1,8 +1,9 @@
-ghost use Rattle.std.specs.Prelude.{◌≡◌, ◌++◌, ℕ, List, IfOk, OnOk, codes};
+ghost use Rattle.std.specs.Prelude.{◌≡◌, ◌++◌, ℕ, pos, List, IfOk, OnOk};
 ghost use Rattle.std.specs.List.{flat_map};
 ghost use Rattle.hex.specs.Hex.{encode_lower};
 ghost use Rattle.cert_text.specs.steps.Write.{int_bytes, term_bytes, row_bytes};
-ghost use Rattle.cert_text.specs.Texts.{CertText, answer_text, answer_word, branch_text, cert_text, derivation_text, ending_text, node_text, part_text, step_text};
+ghost use Rattle.cert_text.specs.declared.certificate.Piece.TheVariants.{Head, Def, Split, Lemma, Void, Leaf};
+ghost use Rattle.cert_text.specs.Texts.{CertText, answer_text, answer_word, branch_text, cert_text, derivation_text, ending_text, node_text, part_text, piece_text, step_text};
 
 use crate::certificate::{Cert, CertNode};
 use itoa::Buffer;
@@ -24,11 +25,26 @@ pub fn write_cert(alloc: Global, cert: &Cert) -> Result<Vec<u8>, Mem>
 fn push_cert(text: &mut Vec<u8>, cert: &Cert) -> Result<(), AllocError>
     ensures { OnOk result (text.new.items ≡ text.old.items ++ cert_text cert.now) }
 {
-    let digits = digits_of(&cert.job);
-    text.extend_from_slice(b"vizlog-cert 1\njob ")?;
+    push_head(text, cert.form, &cert.job)?;
+    push_node(text, &cert.root)
+}
+
+fn push_form(text: &mut Vec<u8>, form: u8) -> Result<(), AllocError>
+    ensures { OnOk result (text.new.items ≡ text.old.items ++ int_bytes (pos form)) }
+{
+    push_int(text, i128::from(form))
+}
+
+/// The first two lines.
+fn push_head(text: &mut Vec<u8>, form: u8, job: &[u8; 32]) -> Result<(), AllocError>
+    ensures { OnOk result (text.new.items ≡ text.old.items ++ piece_text (Head form job.now)) }
+{
+    let digits = digits_of(job);
+    text.extend_from_slice(b"vizlog-cert ")?;
+    push_form(text, form)?;
+    text.extend_from_slice(b"\njob ")?;
     text.extend_from_slice(&digits)?;
     text.extend_from_slice(b"\n")?;
-    push_node(text, &cert.root)?;
     Ok(())
 }
 
@@ -176,10 +192,9 @@ fn push_answers(text: &mut Vec<u8>, answers: &[Answer]) -> Result<(), AllocError
     Ok(())
 }
 
-/// A def, up to the node below it.
+/// A def's own line.
 fn push_def(text: &mut Vec<u8>, row: &Row, divisor: i128) -> Result<(), AllocError>
-    ensures { OnOk result (text.new.items
-        ≡ text.old.items ++ codes "def " ++ row_bytes row.now ++ codes " by " ++ int_bytes divisor ++ codes "\n") }
+    ensures { OnOk result (text.new.items ≡ text.old.items ++ piece_text (Def row.now divisor)) }
 {
     text.extend_from_slice(b"def ")?;
     push_row(text, row)?;
@@ -188,26 +203,34 @@ fn push_def(text: &mut Vec<u8>, row: &Row, divisor: i128) -> Result<(), AllocErr
     text.extend_from_slice(b"\n")
 }
 
-/// A split, up to the nodes below it.
+/// A split's own line.
 fn push_split(text: &mut Vec<u8>, row: &Row) -> Result<(), AllocError>
-    ensures { OnOk result
-        (text.new.items ≡ text.old.items ++ codes "split " ++ row_bytes row.now ++ codes "\n") }
+    ensures { OnOk result (text.new.items ≡ text.old.items ++ piece_text (Split row.now)) }
 {
     text.extend_from_slice(b"split ")?;
     push_row(text, row)?;
     text.extend_from_slice(b"\n")
 }
 
+/// A lemma's own lines.
+fn push_lemma(text: &mut Vec<u8>, row: &Row, why: &Derivation) -> Result<(), AllocError>
+    ensures { OnOk result (text.new.items ≡ text.old.items ++ piece_text (Lemma row.now why.now)) }
+{
+    text.extend_from_slice(b"lemma ")?;
+    push_row(text, row)?;
+    text.extend_from_slice(b"\n")?;
+    push_derivation(text, why)
+}
+
 fn push_void(text: &mut Vec<u8>, why: &Derivation) -> Result<(), AllocError>
-    ensures { OnOk result (text.new.items ≡ text.old.items ++ codes "void\n" ++ derivation_text why.now) }
+    ensures { OnOk result (text.new.items ≡ text.old.items ++ piece_text (Void why.now)) }
 {
     text.extend_from_slice(b"void\n")?;
     push_derivation(text, why)
 }
 
 fn push_leaf(text: &mut Vec<u8>, answers: &[Answer]) -> Result<(), AllocError>
-    ensures { OnOk result
-        (text.new.items ≡ text.old.items ++ codes "leaf\n" ++ flat_map answer_text answers.now ++ codes "end\n") }
+    ensures { OnOk result (text.new.items ≡ text.old.items ++ piece_text (Leaf answers.now)) }
 {
     text.extend_from_slice(b"leaf\n")?;
     push_answers(text, answers)?;
@@ -226,6 +249,10 @@ fn push_node(text: &mut Vec<u8>, node: &CertNode) -> Result<(), AllocError>
             push_split(text, row.get())?;
             push_node(text, first.get())?;
             push_node(text, second.get())
+        }
+        CertNode::Lemma(row, why, below) => {
+            push_lemma(text, row.get(), why.get())?;
+            push_node(text, below.get())
         }
         CertNode::Void(why) => push_void(text, why.get()),
         CertNode::Grid => text.extend_from_slice(b"grid\n"),

@@ -1,4 +1,4 @@
--- No values of the variables meet facts that a derivation refutes.
+-- No values of the variables meet facts that a derivation refutes, and all that meet facts meet what they entail.
 use Rattle.std.proofs.Common.{◌≡◌, ◌≢◌, ℕ, zero, suc, ◌+◌, ◌-◌, ◌<◌, ◌≤◌, ◌==◌, ℤ, pos, neg_ℤ, ◌-ℤ◌, ◌≤ℤ◌, Bool, true, false, cond, List, [], ◌∷◌, ◌++◌, length, Option, Some, None, Result, Ok, Err, slice_get, refl, sym, ap, subst, inl, inr, arith}
 use Rattle.std.specs.Option.{ok_or}
 use Rattle.std.specs.Result.{result_err}
@@ -18,8 +18,9 @@ use Rattle.lin_proof.specs.declared.derivation.Ending.TheViews.{roll-Ending, rol
 use Rattle.lin_proof.specs.declared.derivation.Ending.TheFolds.{map-Ending, ind-Derivation, fold-roll-Ending, fold-roll-Branch, fold-roll-Derivation}
 use Rattle.lin_row.specs.Form.{Form, Terms, terms_value, value, plus, denied, form_fits}
 use Rattle.lin_row.specs.Cut.{divides, cut}
-use Rattle.lin_proof.specs.Law.{Meets, Law}
+use Rattle.lin_proof.specs.Law.{Meets, Law, EntailmentLaw}
 use Rattle.lin_proof.specs.Derivations.{◌>>=◌, zero_form, add_part, checked_plus, sum_from, cut_of, step_form, run_steps, last_of, is_contradiction, Check, case_form, are_declared, ending_step, branch_step, derivation_step, check_ending, check_branch, check_derivation}
+use Rattle.lin_proof.specs.Entailments.{with_denied}
 use Rattle.lin_row.proofs.Values.{value-plus, value-cut, value-denied}
 use Rattle.lin_row.proofs.Whole.{times_above}
 
@@ -166,3 +167,9 @@ pub law : Law
 law facts variables d refutes v at_facts =
     let passed = no_fault (check_derivation facts variables d [] 0) refutes in
     all_sound v facts variables at_facts d [] 0 passed.0 (λ n f is. absurd (cc)) passed.1
+
+pub entailment_law : EntailmentLaw
+entailment_law facts variables f d entails v at_facts =
+    by_lt_z (value f v) (pos 0)
+    (λ below. absurd (law (with_denied facts f) variables d entails.1 v (Meets-push v facts (denied f) at_facts (omega (arith, ints, value-denied f v, below)))))
+    (λ above. omega (arith, ints, above))

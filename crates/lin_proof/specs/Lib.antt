@@ -1,3 +1,4 @@
 pub mod Derivations
+pub mod Entailments
 pub mod Law
 pub mod steps

@@ -4,6 +4,7 @@
 mod check;
 mod count;
 mod derivation;
+mod entail;
 mod facts;
 mod laws;
 mod steps;
@@ -11,5 +12,6 @@ mod steps;
 pub use check::{first_fault, first_fault_among, refutes};
 pub use count::line_count;
 pub use derivation::{Answer, Branch, Derivation, Ending, Step};
+pub use entail::{entails, first_fault_of_entailment};
 pub use facts::Facts;
-pub use laws::refutation_is_sound;
+pub use laws::{entailment_is_sound, refutation_is_sound};

@@ -1,5 +1,5 @@
 -- Which numbers of a division and of a comparison are in `i128`, and what they give.
-use Rattle.std.proofs.Common.{◌≡◌, ℕ, zero, suc, ◌+◌, ◌<◌, ℤ, pos, Bool, true, false, cond, not, ◌&&◌, ◌||◌, nat_lt, List, [], ◌∷◌, ◌++◌, length, Option, Some, None, refl, sym, ◌∙◌, ap, subst, arith, position}
+use Rattle.std.proofs.Common.{◌≡◌, ℕ, suc, ◌+◌, ℤ, pos, Bool, true, false, cond, not, ◌&&◌, ◌||◌, nat_lt, List, [], ◌∷◌, ◌++◌, length, Some, None, refl, sym, ◌∙◌, ap, subst, arith, position}
 use Rattle.std.specs.Prelude.{Result, Ok, Err}
 use Rattle.std.specs.List.{list_any, position_or_len}
 use Rattle.std.proofs.lemmas.List.Folds.{list_any-append}
@@ -99,26 +99,26 @@ module _ (p : Floor → Bool) where
       by_test true e = cc
       by_test false e = absurd (cc)
 
-module _ (f : Floor) (xs ys : List Floor) where
-  pub named_before : (n : ℕ) → position (same_floor f) xs ≡ Some n → list_any (same_floor f) xs ≡ true → IsGivenWithin (Ok (n + axis_count)) (floor_variable (xs ++ ys) f) (is_floor (xs ++ ys) f)
+module _ (form : ℕ) (f : Floor) (xs ys : List Floor) where
+  pub named_before : (n : ℕ) → position (same_floor f) xs ≡ Some n → list_any (same_floor f) xs ≡ true → IsGivenWithin (Ok (n + axis_count form)) (floor_variable form (xs ++ ys) f) (is_floor form (xs ++ ys) f)
   named_before n is some = (
-    ap (λ m. m + axis_count) (at_place (same_floor f) xs n is ∙ sym (among (same_floor f) xs ys some)),
-    λ i. any_first (same_floor f) xs ys some i || can_be (length (xs ++ ys) + axis_count) f,
+    ap (λ m. m + axis_count form) (at_place (same_floor f) xs n is ∙ sym (among (same_floor f) xs ys some)),
+    λ i. any_first (same_floor f) xs ys some i || can_be (length (xs ++ ys) + axis_count form) f,
   )
 
   pub named_behind : (n : ℕ) → list_any (same_floor f) xs ≡ false → position (same_floor f) ys ≡ Some n → list_any (same_floor f) ys ≡ true
-      → IsGivenWithin (Ok (length xs + n + axis_count)) (floor_variable (xs ++ ys) f) (is_floor (xs ++ ys) f)
+      → IsGivenWithin (Ok (length xs + n + axis_count form)) (floor_variable form (xs ++ ys) f) (is_floor form (xs ++ ys) f)
   named_behind n none is some = (
-    ap (λ m. m + axis_count) (ap (λ m. length xs + m) (at_place (same_floor f) ys n is) ∙ sym (behind (same_floor f) xs ys none)),
-    λ i. (any_later (same_floor f) xs ys none ∙ some) i || can_be (length (xs ++ ys) + axis_count) f,
+    ap (λ m. m + axis_count form) (ap (λ m. length xs + m) (at_place (same_floor f) ys n is) ∙ sym (behind (same_floor f) xs ys none)),
+    λ i. (any_later (same_floor f) xs ys none ∙ some) i || can_be (length (xs ++ ys) + axis_count form) f,
   )
 
   pub named_next : (r : Result ℕ Halt) → list_any (same_floor f) xs ≡ false → list_any (same_floor f) ys ≡ false
-      → IsGivenWithin r (length (xs ++ ys) + axis_count) (can_be (length (xs ++ ys) + axis_count) f) → IsGivenWithin r (floor_variable (xs ++ ys) f) (is_floor (xs ++ ys) f)
+      → IsGivenWithin r (length (xs ++ ys) + axis_count form) (can_be (length (xs ++ ys) + axis_count form) f) → IsGivenWithin r (floor_variable form (xs ++ ys) f) (is_floor form (xs ++ ys) f)
   named_next r first later h =
       let none : list_any (same_floor f) (xs ++ ys) ≡ false = any_later (same_floor f) xs ys first ∙ later in
-      let next = can_be (length (xs ++ ys) + axis_count) f in
-      given_same r _ _ _ _ (ap (λ m. m + axis_count) (sym (no_place (same_floor f) (xs ++ ys) none))) (λ i. sym none i || next) h
+      let next = can_be (length (xs ++ ys) + axis_count form) f in
+      given_same r _ _ _ _ (ap (λ m. m + axis_count form) (sym (no_place (same_floor f) (xs ++ ys) none))) (λ i. sym none i || next) h
 
 -- ---- a floor that can be the next
 
@@ -128,12 +128,12 @@ is_next x y f is declared fits =
 
 -- ---- a row that is divided
 
-module _ (named : List Floor) (d : ℤ) (row : Form) (rest : Form) (left : rest ≡ remainder d row) where
-  pub given_alone : (whole : Form) → whole ≡ quotient d row → rest.terms ≡ [] → IsGivenWithin (Ok whole) (divided named d row) (division_fits named d row)
+module _ (form : ℕ) (named : List Floor) (d : ℤ) (row : Form) (rest : Form) (left : rest ≡ remainder d row) where
+  pub given_alone : (whole : Form) → whole ≡ quotient d row → rest.terms ≡ [] → IsGivenWithin (Ok whole) (divided form named d row) (division_fits form named d row)
   given_alone whole is none =
       let no : has_variable (remainder d row) ≡ false = no_variable (remainder d row).terms (ap (λ (f : Form). f.terms) (sym left) ∙ none) in (
-        is ∙ (λ i. cond (sym no i) (with_rest named d row) (quotient d row)),
-        λ i. cond (no i) (is_floor named (rest_by d row) && form_fits (with_rest named d row)) true,
+        is ∙ (λ i. cond (sym no i) (with_rest form named d row) (quotient d row)),
+        λ i. cond (no i) (is_floor form named (rest_by d row) && form_fits (with_rest form named d row)) true,
       )
 
   module _ (some : has_variable rest ≡ true) where
@@ -143,27 +143,27 @@ module _ (named : List Floor) (d : ℤ) (row : Form) (rest : Form) (left : rest 
     floor_is : record { row = rest; by = d } ≡ rest_by d row
     floor_is = λ i. record { row = left i; by = d }
 
-    fits_with : is_floor named (rest_by d row) && form_fits (with_rest named d row) ≡ division_fits named d row
-    fits_with = λ i. cond (sym has i) (is_floor named (rest_by d row) && form_fits (with_rest named d row)) true
+    fits_with : is_floor form named (rest_by d row) && form_fits (with_rest form named d row) ≡ division_fits form named d row
+    fits_with = λ i. cond (sym has i) (is_floor form named (rest_by d row) && form_fits (with_rest form named d row)) true
 
     -- a halt of the floor
-    pub floor_halted : (halt : Halt) → IsGivenWithin (Err halt) (floor_variable named (record { row = rest; by = d })) (is_floor named (record { row = rest; by = d }))
-        → IsGivenWithin (Err halt) (divided named d row) (division_fits named d row)
+    pub floor_halted : (halt : Halt) → IsGivenWithin (Err halt) (floor_variable form named (record { row = rest; by = d })) (is_floor form named (record { row = rest; by = d }))
+        → IsGivenWithin (Err halt) (divided form named d row) (division_fits form named d row)
     floor_halted Mem h = tt
-    floor_halted Coeff h = sym fits_with ∙ (λ i. (ap (is_floor named) (sym floor_is) ∙ h) i && form_fits (with_rest named d row))
+    floor_halted Coeff h = sym fits_with ∙ (λ i. (ap (is_floor form named) (sym floor_is) ∙ h) i && form_fits (with_rest form named d row))
     floor_halted Open h = h
 
-    pub given_with : (whole : Form) (x : ℕ) → whole ≡ quotient d row → IsGivenWithin (Ok x) (floor_variable named (record { row = rest; by = d })) (is_floor named (record { row = rest; by = d }))
-        → (r : Result Form Halt) → IsGiven r (plus whole (pos 1) (row_of (pos 0) (pos 1) x)) → IsGivenWithin r (divided named d row) (division_fits named d row)
+    pub given_with : (whole : Form) (x : ℕ) → whole ≡ quotient d row → IsGivenWithin (Ok x) (floor_variable form named (record { row = rest; by = d })) (is_floor form named (record { row = rest; by = d }))
+        → (r : Result Form Halt) → IsGiven r (plus whole (pos 1) (row_of (pos 0) (pos 1) x)) → IsGivenWithin r (divided form named d row) (division_fits form named d row)
     given_with whole x is floor r h =
-        let variable : x ≡ floor_variable named (rest_by d row) = floor.0 ∙ ap (floor_variable named) floor_is in
-        let exact : plus whole (pos 1) (row_of (pos 0) (pos 1) x) ≡ with_rest named d row = λ i. plus (is i) (pos 1) (row_of (pos 0) (pos 1) (variable i)) in
-        let named_so : is_floor named (rest_by d row) ≡ true = ap (is_floor named) (sym floor_is) ∙ floor.1 in
+        let variable : x ≡ floor_variable form named (rest_by d row) = floor.0 ∙ ap (floor_variable form named) floor_is in
+        let exact : plus whole (pos 1) (row_of (pos 0) (pos 1) x) ≡ with_rest form named d row = λ i. plus (is i) (pos 1) (row_of (pos 0) (pos 1) (variable i)) in
+        let named_so : is_floor form named (rest_by d row) ≡ true = ap (is_floor form named) (sym floor_is) ∙ floor.1 in
         by_answer r (subst (IsGiven r) exact h)
-        (λ i. cond (sym has i) (with_rest named d row) (quotient d row)) ((λ i. sym named_so i && form_fits (with_rest named d row)) ∙ fits_with)
+        (λ i. cond (sym has i) (with_rest form named d row) (quotient d row)) ((λ i. sym named_so i && form_fits (with_rest form named d row)) ∙ fits_with)
       where
-        by_answer : (r : Result Form Halt) → IsGiven r (with_rest named d row) → with_rest named d row ≡ divided named d row → form_fits (with_rest named d row) ≡ division_fits named d row
-            → IsGivenWithin r (divided named d row) (division_fits named d row)
+        by_answer : (r : Result Form Halt) → IsGiven r (with_rest form named d row) → with_rest form named d row ≡ divided form named d row → form_fits (with_rest form named d row) ≡ division_fits form named d row
+            → IsGivenWithin r (divided form named d row) (division_fits form named d row)
         by_answer (Ok a) g same fits = (g.0 ∙ same, sym fits ∙ g.1)
         by_answer (Err Mem) g same fits = tt
         by_answer (Err Coeff) g same fits = sym fits ∙ g

@@ -56,32 +56,32 @@ met_any (suc n) test h = by_test (met_any n test) (h.at == suc n) refl
 -- ---- answers
 
 -- some answer is right below so many of the own floors
-pub record IsRightAt (facts : List Form) (along own : List Floor) (n : ℕ) (a : Answer) (answers : List Answer) : Type 0 where
+pub record IsRightAt (form : ℕ) (facts : List Form) (along own : List Floor) (n : ℕ) (a : Answer) (answers : List Answer) : Type 0 where
   pub at : ℕ
   pub least : n ≤ at
   pub most : at ≤ length own
-  pub right : fault_below facts along (take at own) a ≡ None
-  pub rest : are_right facts along own at answers ≡ true
+  pub right : fault_below form facts along (take at own) a ≡ None
+  pub rest : are_right form facts along own at answers ≡ true
 
 none_is : {A : Type 0} (o : Option A) → is_none o ≡ true → o ≡ None
 none_is None e = refl
 none_is (Some x) e = absurd (cc)
 
-pub first_right : (facts : List Form) (along own : List Floor) (n : ℕ) (a : Answer) (answers : List Answer) → are_right facts along own n (a ∷ answers) ≡ true → IsRightAt facts along own n a answers
+pub first_right : (form : ℕ) (facts : List Form) (along own : List Floor) (n : ℕ) (a : Answer) (answers : List Answer) → are_right form facts along own n (a ∷ answers) ≡ true → IsRightAt form facts along own n a answers
 unfolding are_right
-first_right facts along own n a answers e =
-    let h = any_met (length own) (λ m. nat_le n m && (is_none (fault_below facts along (take m own) a) && are_right facts along own m answers)) e in
-    let both = and_parts (nat_le n h.at) (is_none (fault_below facts along (take h.at own) a) && are_right facts along own h.at answers) h.met in
-    let later = and_parts (is_none (fault_below facts along (take h.at own) a)) (are_right facts along own h.at answers) both.1 in
-    record { at = h.at; least = grind (arith, nat_tests); most = h.most; right = none_is (fault_below facts along (take h.at own) a) later.0; rest = later.1 }
+first_right form facts along own n a answers e =
+    let h = any_met (length own) (λ m. nat_le n m && (is_none (fault_below form facts along (take m own) a) && are_right form facts along own m answers)) e in
+    let both = and_parts (nat_le n h.at) (is_none (fault_below form facts along (take h.at own) a) && are_right form facts along own h.at answers) h.met in
+    let later = and_parts (is_none (fault_below form facts along (take h.at own) a)) (are_right form facts along own h.at answers) both.1 in
+    record { at = h.at; least = grind (arith, nat_tests); most = h.most; right = none_is (fault_below form facts along (take h.at own) a) later.0; rest = later.1 }
 
-pub right_first : (facts : List Form) (along own : List Floor) (n : ℕ) (a : Answer) (answers : List Answer) → IsRightAt facts along own n a answers → are_right facts along own n (a ∷ answers) ≡ true
+pub right_first : (form : ℕ) (facts : List Form) (along own : List Floor) (n : ℕ) (a : Answer) (answers : List Answer) → IsRightAt form facts along own n a answers → are_right form facts along own n (a ∷ answers) ≡ true
 unfolding are_right
-right_first facts along own n a answers h =
+right_first form facts along own n a answers h =
     let least : nat_le n h.at ≡ true = let l = h.least in grind (arith, nat_tests) in
-    let right : is_none (fault_below facts along (take h.at own) a) ≡ true = ap is_none h.right in
+    let right : is_none (fault_below form facts along (take h.at own) a) ≡ true = ap is_none h.right in
     let rest = h.rest in
-    met_any (length own) (λ m. nat_le n m && (is_none (fault_below facts along (take m own) a) && are_right facts along own m answers))
+    met_any (length own) (λ m. nat_le n m && (is_none (fault_below form facts along (take m own) a) && are_right form facts along own m answers))
     (record { at = h.at; most = h.most; met = λ i. least i && (right i && rest i) })
 
 take_front : (own : List Floor) (f : Floor) (n : ℕ) → n ≤ length own → take n (own ++ f ∷ []) ≡ take n own
@@ -94,33 +94,33 @@ take_whole : (own : List Floor) → take (length own) own ≡ own
 take_whole [] = refl
 take_whole (g ∷ gs) = ap (λ fs. g ∷ fs) (take_whole gs)
 
-module _ (facts : List Form) (along own : List Floor) where
-  right_made : (f : Floor) (n : ℕ) (answers : List Answer) → are_right facts along own n answers ≡ true → are_right facts along (own ++ f ∷ []) n answers ≡ true
+module _ (form : ℕ) (facts : List Form) (along own : List Floor) where
+  right_made : (f : Floor) (n : ℕ) (answers : List Answer) → are_right form facts along own n answers ≡ true → are_right form facts along (own ++ f ∷ []) n answers ≡ true
   unfolding are_right
   right_made f n [] e = refl
   right_made f n (a ∷ answers) e =
-      let h = first_right facts along own n a answers e in
-      right_first facts along (own ++ f ∷ []) n a answers (record {
+      let h = first_right form facts along own n a answers e in
+      right_first form facts along (own ++ f ∷ []) n a answers (record {
         at = h.at;
         least = h.least;
         most = let m = h.most in omega (arith, length-append own (f ∷ []));
-        right = ap (λ fs. fault_below facts along fs a) (take_front own f h.at h.most) ∙ h.right;
+        right = ap (λ fs. fault_below form facts along fs a) (take_front own f h.at h.most) ∙ h.right;
         rest = right_made f h.at answers h.rest;
       })
 
-  right_took : (n : ℕ) (answers : List Answer) (a : Answer) → n ≤ length own → fault_below facts along own a ≡ None → are_right facts along own n answers ≡ true → are_right facts along own n (answers ++ a ∷ []) ≡ true
+  right_took : (n : ℕ) (answers : List Answer) (a : Answer) → n ≤ length own → fault_below form facts along own a ≡ None → are_right form facts along own n answers ≡ true → are_right form facts along own n (answers ++ a ∷ []) ≡ true
   unfolding are_right
   right_took n [] a less right e =
-      right_first facts along own n a [] (record {
+      right_first form facts along own n a [] (record {
         at = length own;
         least = less;
         most = omega arith;
-        right = ap (λ fs. fault_below facts along fs a) (take_whole own) ∙ right;
+        right = ap (λ fs. fault_below form facts along fs a) (take_whole own) ∙ right;
         rest = refl;
       })
   right_took n (b ∷ bs) a less right e =
-      let h = first_right facts along own n b bs e in
-      right_first facts along own n b (bs ++ a ∷ []) (record {
+      let h = first_right form facts along own n b bs e in
+      right_first form facts along own n b (bs ++ a ∷ []) (record {
         at = h.at;
         least = h.least;
         most = h.most;
@@ -128,57 +128,57 @@ module _ (facts : List Form) (along own : List Floor) where
         rest = right_took h.at bs a h.most right h.rest;
       })
 
-  wrong_made : (f : Floor) (line : ℕ) (a : Answer) → is_wrong facts along own line a ≡ true → is_wrong facts along (own ++ f ∷ []) line a ≡ true
+  wrong_made : (f : Floor) (line : ℕ) (a : Answer) → is_wrong form facts along own line a ≡ true → is_wrong form facts along (own ++ f ∷ []) line a ≡ true
   unfolding is_wrong
   wrong_made f line a e =
-      let h = any_met (length own) (λ m. option_map_or (λ wrong. wrong == line) (fault_below facts along (take m own) a) false) e in
-      met_any (length (own ++ f ∷ [])) (λ m. option_map_or (λ wrong. wrong == line) (fault_below facts along (take m (own ++ f ∷ [])) a) false) (record {
+      let h = any_met (length own) (λ m. option_map_or (λ wrong. wrong == line) (fault_below form facts along (take m own) a) false) e in
+      met_any (length (own ++ f ∷ [])) (λ m. option_map_or (λ wrong. wrong == line) (fault_below form facts along (take m (own ++ f ∷ [])) a) false) (record {
         at = h.at;
         most = let m = h.most in omega (arith, length-append own (f ∷ []));
-        met = ap (λ fs. option_map_or (λ wrong. wrong == line) (fault_below facts along fs a) false) (take_front own f h.at h.most) ∙ h.met;
+        met = ap (λ fs. option_map_or (λ wrong. wrong == line) (fault_below form facts along fs a) false) (take_front own f h.at h.most) ∙ h.met;
       })
 
-  wrong_now : (line : ℕ) (a : Answer) → fault_below facts along own a ≡ Some line → is_wrong facts along own line a ≡ true
+  wrong_now : (line : ℕ) (a : Answer) → fault_below form facts along own a ≡ Some line → is_wrong form facts along own line a ≡ true
   unfolding is_wrong
   wrong_now line a e =
       let same : (line == line) ≡ true = grind (arith, nat_tests) in
-      met_any (length own) (λ m. option_map_or (λ wrong. wrong == line) (fault_below facts along (take m own) a) false) (record {
+      met_any (length own) (λ m. option_map_or (λ wrong. wrong == line) (fault_below form facts along (take m own) a) false) (record {
         at = length own;
         most = omega arith;
-        met = ap (λ fs. option_map_or (λ wrong. wrong == line) (fault_below facts along fs a) false) (take_whole own)
+        met = ap (λ fs. option_map_or (λ wrong. wrong == line) (fault_below form facts along fs a) false) (take_whole own)
             ∙ ap (λ o. option_map_or (λ wrong. wrong == line) o false) e ∙ same;
       })
 
-  wrong_made_at : (f : Floor) (line : ℕ) (o : Option Answer) → option_map_or (is_wrong facts along own line) o false ≡ true → option_map_or (is_wrong facts along (own ++ f ∷ []) line) o false ≡ true
+  wrong_made_at : (f : Floor) (line : ℕ) (o : Option Answer) → option_map_or (is_wrong form facts along own line) o false ≡ true → option_map_or (is_wrong form facts along (own ++ f ∷ []) line) o false ≡ true
   wrong_made_at f line None e = e
   wrong_made_at f line (Some a) e = wrong_made f line a e
 
 -- ---- floors
 
-pub fit_by : (along own : List Floor) (f : Floor) → are_declared (length (along ++ own) + axis_count) f.row.terms ≡ true → has_variable f.row ≡ true → lt_z (pos 1) f.by ≡ true
-    → has_remainders f.by f.row ≡ true → list_any (same_floor f) along ≡ false → list_any (same_floor f) own ≡ false → is_fit (along ++ own) f ≡ true
-fit_by along own f declared some number rests before behind =
+pub fit_by : (form : ℕ) (along own : List Floor) (f : Floor) → are_declared (length (along ++ own) + axis_count form) f.row.terms ≡ true → has_variable f.row ≡ true → lt_z (pos 1) f.by ≡ true
+    → has_remainders f.by f.row ≡ true → list_any (same_floor f) along ≡ false → list_any (same_floor f) own ≡ false → is_fit form (along ++ own) f ≡ true
+fit_by form along own f declared some number rests before behind =
     let new = list_any-append (same_floor f) along own ∙ (λ i. before i || behind i) in
     λ i. declared i && some i && number i && rests i && not (new i)
 
-pub fit_push : (before own : List Floor) (f : Floor) → are_fit before own ≡ true → is_fit (before ++ own) f ≡ true → are_fit before (own ++ f ∷ []) ≡ true
+pub fit_push : (form : ℕ) (before own : List Floor) (f : Floor) → are_fit form before own ≡ true → is_fit form (before ++ own) f ≡ true → are_fit form before (own ++ f ∷ []) ≡ true
 unfolding are_fit
-fit_push before [] f e fit =
-    let here : is_fit before f ≡ true = subst (λ fs. is_fit fs f ≡ true) (nil before) fit in
+fit_push form before [] f e fit =
+    let here : is_fit form before f ≡ true = subst (λ fs. is_fit form fs f ≡ true) (nil before) fit in
     λ i. here i && true
   where
     nil : (fs : List Floor) → fs ++ [] ≡ fs
     nil [] = refl
     nil (g ∷ gs) = ap (λ hs. g ∷ hs) (nil gs)
-fit_push before (g ∷ gs) f e fit =
-    let both = and_parts (is_fit before g) (are_fit (before ++ g ∷ []) gs) e in
+fit_push form before (g ∷ gs) f e fit =
+    let both = and_parts (is_fit form before g) (are_fit form (before ++ g ∷ []) gs) e in
     let here = both.0 in
-    let later = fit_push (before ++ g ∷ []) gs f both.1 (subst (λ fs. is_fit fs f ≡ true) (sym (append_assoc before (g ∷ []) gs)) fit) in
+    let later = fit_push form (before ++ g ∷ []) gs f both.1 (subst (λ fs. is_fit form fs f ≡ true) (sym (append_assoc before (g ∷ []) gs)) fit) in
     λ i. here i && later i
 
-pub fit_none : (before : List Floor) → are_fit before [] ≡ true
+pub fit_none : (form : ℕ) (before : List Floor) → are_fit form before [] ≡ true
 unfolding are_fit
-fit_none before = refl
+fit_none form before = refl
 
 -- ---- what is accounted
 
@@ -195,54 +195,54 @@ taken_all [] (suc n) none = refl
 taken_all (x ∷ xs) zero none = absurd (cc)
 taken_all (x ∷ xs) (suc n) none = ap (λ ys. x ∷ ys) (taken_all xs n none)
 
-pub accounted_none : (facts : List Form) (along : List Floor) (tape : List Answer) → is_accounted facts along [] tape 0 None ≡ true
+pub accounted_none : (form : ℕ) (facts : List Form) (along : List Floor) (tape : List Answer) → is_accounted form facts along [] tape 0 None ≡ true
 unfolding is_accounted are_right
-accounted_none facts along tape = refl
+accounted_none form facts along tape = refl
 
-module _ (facts : List Form) (along own : List Floor) (tape : List Answer) (taken : ℕ) where
-  pub accounted_made : (f : Floor) (trouble : Option Trouble) → is_accounted facts along own tape taken trouble ≡ true → is_accounted facts along (own ++ f ∷ []) tape taken trouble ≡ true
+module _ (form : ℕ) (facts : List Form) (along own : List Floor) (tape : List Answer) (taken : ℕ) where
+  pub accounted_made : (f : Floor) (trouble : Option Trouble) → is_accounted form facts along own tape taken trouble ≡ true → is_accounted form facts along (own ++ f ∷ []) tape taken trouble ≡ true
   unfolding is_accounted
-  accounted_made f None e = right_made facts along own f 0 (take taken tape) e
+  accounted_made f None e = right_made form facts along own f 0 (take taken tape) e
   accounted_made f (Some (Line number line)) e =
-      let both = and_parts (are_right facts along own 0 (take number tape)) (option_map_or (is_wrong facts along own line) (slice_get tape number) false) e in
-      let before = right_made facts along own f 0 (take number tape) both.0 in
-      let wrong = wrong_made_at facts along own f line (slice_get tape number) both.1 in
+      let both = and_parts (are_right form facts along own 0 (take number tape)) (option_map_or (is_wrong form facts along own line) (slice_get tape number) false) e in
+      let before = right_made form facts along own f 0 (take number tape) both.0 in
+      let wrong = wrong_made_at form facts along own f line (slice_get tape number) both.1 in
       λ i. before i && wrong i
   accounted_made f (Some (Differs number ours theirs)) e =
-      let both = and_parts (are_right facts along own 0 (take number tape)) (option_map_or (is_to_another ours theirs) (slice_get tape number) false) e in
-      let before = right_made facts along own f 0 (take number tape) both.0 in
+      let both = and_parts (are_right form facts along own 0 (take number tape)) (option_map_or (is_to_another ours theirs) (slice_get tape number) false) e in
+      let before = right_made form facts along own f 0 (take number tape) both.0 in
       let other = both.1 in
       λ i. before i && other i
-  accounted_made f (Some Short) e = right_made facts along own f 0 tape e
+  accounted_made f (Some Short) e = right_made form facts along own f 0 tape e
 
-  pub accounted_took : (a : Answer) → slice_get tape taken ≡ Some a → fault_below facts along own a ≡ None → (trouble : Option Trouble) → is_accounted facts along own tape taken trouble ≡ true
-      → is_accounted facts along own tape (taken + 1) trouble ≡ true
+  pub accounted_took : (a : Answer) → slice_get tape taken ≡ Some a → fault_below form facts along own a ≡ None → (trouble : Option Trouble) → is_accounted form facts along own tape taken trouble ≡ true
+      → is_accounted form facts along own tape (taken + 1) trouble ≡ true
   unfolding is_accounted
   accounted_took a is right None e =
-      ap (are_right facts along own 0) (taken_more tape taken a is) ∙ right_took facts along own 0 (take taken tape) a (omega arith) right e
+      ap (are_right form facts along own 0) (taken_more tape taken a is) ∙ right_took form facts along own 0 (take taken tape) a (omega arith) right e
   accounted_took a is right (Some (Line number line)) e = e
   accounted_took a is right (Some (Differs number ours theirs)) e = e
   accounted_took a is right (Some Short) e = e
 
   -- of two troubles the first stays
-  accounted_first : (next : ℕ) (later : Trouble) → (is_accounted facts along own tape taken None ≡ true → is_accounted facts along own tape next (Some later) ≡ true)
-      → (trouble : Option Trouble) → is_accounted facts along own tape taken trouble ≡ true → is_accounted facts along own tape next (first_of trouble (Some later)) ≡ true
+  accounted_first : (next : ℕ) (later : Trouble) → (is_accounted form facts along own tape taken None ≡ true → is_accounted form facts along own tape next (Some later) ≡ true)
+      → (trouble : Option Trouble) → is_accounted form facts along own tape taken trouble ≡ true → is_accounted form facts along own tape next (first_of trouble (Some later)) ≡ true
   unfolding is_accounted
   accounted_first next later f None e = f e
   accounted_first next later f (Some (Line number line)) e = e
   accounted_first next later f (Some (Differs number ours theirs)) e = e
   accounted_first next later f (Some Short) e = e
 
-  short_now : slice_get tape taken ≡ None → is_accounted facts along own tape taken None ≡ true → is_accounted facts along own tape taken (Some Short) ≡ true
+  short_now : slice_get tape taken ≡ None → is_accounted form facts along own tape taken None ≡ true → is_accounted form facts along own tape taken (Some Short) ≡ true
   unfolding is_accounted
-  short_now none e = ap (are_right facts along own 0) (sym (taken_all tape taken none)) ∙ e
+  short_now none e = ap (are_right form facts along own 0) (sym (taken_all tape taken none)) ∙ e
 
-  pub accounted_short : (trouble : Option Trouble) → slice_get tape taken ≡ None → is_accounted facts along own tape taken trouble ≡ true
-      → is_accounted facts along own tape taken (first_of trouble (Some Short)) ≡ true
+  pub accounted_short : (trouble : Option Trouble) → slice_get tape taken ≡ None → is_accounted form facts along own tape taken trouble ≡ true
+      → is_accounted form facts along own tape taken (first_of trouble (Some Short)) ≡ true
   accounted_short trouble none e = accounted_first taken Short (short_now none) trouble e
 
   differs_now : (next : ℕ) (a : Answer) (ours : Form) → slice_get tape taken ≡ Some a → same_row ours a.row ≡ false
-      → is_accounted facts along own tape taken None ≡ true → is_accounted facts along own tape next (Some (Differs taken ours a.row)) ≡ true
+      → is_accounted form facts along own tape taken None ≡ true → is_accounted form facts along own tape next (Some (Differs taken ours a.row)) ≡ true
   unfolding is_accounted
   differs_now next a ours is other e =
       let same = (decides_same_row a.row a.row).1 refl in
@@ -250,18 +250,18 @@ module _ (facts : List Form) (along own : List Floor) (tape : List Answer) (take
       λ i. e i && here i
 
   pub accounted_differs : (next : ℕ) (a : Answer) (ours : Form) (trouble : Option Trouble) → slice_get tape taken ≡ Some a → same_row ours a.row ≡ false
-      → is_accounted facts along own tape taken trouble ≡ true → is_accounted facts along own tape next (first_of trouble (Some (Differs taken ours a.row))) ≡ true
+      → is_accounted form facts along own tape taken trouble ≡ true → is_accounted form facts along own tape next (first_of trouble (Some (Differs taken ours a.row))) ≡ true
   accounted_differs next a ours trouble is other e = accounted_first next (Differs taken ours a.row) (differs_now next a ours is other) trouble e
 
-  line_now : (next : ℕ) (a : Answer) (line : ℕ) → slice_get tape taken ≡ Some a → fault_below facts along own a ≡ Some line
-      → is_accounted facts along own tape taken None ≡ true → is_accounted facts along own tape next (Some (Line taken line)) ≡ true
+  line_now : (next : ℕ) (a : Answer) (line : ℕ) → slice_get tape taken ≡ Some a → fault_below form facts along own a ≡ Some line
+      → is_accounted form facts along own tape taken None ≡ true → is_accounted form facts along own tape next (Some (Line taken line)) ≡ true
   unfolding is_accounted
   line_now next a line is wrong e =
-      let here : option_map_or (is_wrong facts along own line) (slice_get tape taken) false ≡ true = ap (λ o. option_map_or (is_wrong facts along own line) o false) is ∙ wrong_now facts along own line a wrong in
+      let here : option_map_or (is_wrong form facts along own line) (slice_get tape taken) false ≡ true = ap (λ o. option_map_or (is_wrong form facts along own line) o false) is ∙ wrong_now form facts along own line a wrong in
       λ i. e i && here i
 
-  pub accounted_line : (next : ℕ) (a : Answer) (line : ℕ) (trouble : Option Trouble) → slice_get tape taken ≡ Some a → fault_below facts along own a ≡ Some line
-      → is_accounted facts along own tape taken trouble ≡ true → is_accounted facts along own tape next (first_of trouble (Some (Line taken line))) ≡ true
+  pub accounted_line : (next : ℕ) (a : Answer) (line : ℕ) (trouble : Option Trouble) → slice_get tape taken ≡ Some a → fault_below form facts along own a ≡ Some line
+      → is_accounted form facts along own tape taken trouble ≡ true → is_accounted form facts along own tape next (first_of trouble (Some (Line taken line))) ≡ true
   accounted_line next a line trouble is wrong e = accounted_first next (Line taken line) (line_now next a line is wrong) trouble e
 
 -- ---- facts of floors
@@ -273,21 +273,21 @@ facts_from-push x (g ∷ fs) f =
     ap (λ more. step_facts x (def g.row g.by) ++ more) (facts_from-push (x + 1) fs f ∙ ap (λ n. facts_from (x + 1) fs ++ step_facts n (def f.row f.by)) here)
     ∙ sym (append_assoc (step_facts x (def g.row g.by)) (facts_from (x + 1) fs) (step_facts (length (g ∷ fs) + x) (def f.row f.by)))
 
-pub made_push : (along own now : List Floor) (rows after : List Form) (f : Floor) (x : ℕ) → x ≡ length (along ++ own) + axis_count → now ≡ own ++ f ∷ []
-    → rows ≡ facts_from (length along + axis_count) own → after ≡ rows ++ step_facts x (def f.row f.by) → after ≡ facts_from (length along + axis_count) now
-made_push along own now rows after f x at floors old new =
-    let here : x ≡ length own + (length along + axis_count) = omega (arith, at, length-append along own) in
-    new ∙ (λ i. old i ++ step_facts (here i) (def f.row f.by)) ∙ sym (facts_from-push (length along + axis_count) own f) ∙ ap (facts_from (length along + axis_count)) (sym floors)
+pub made_push : (form : ℕ) (along own now : List Floor) (rows after : List Form) (f : Floor) (x : ℕ) → x ≡ length (along ++ own) + axis_count form → now ≡ own ++ f ∷ []
+    → rows ≡ facts_from (length along + axis_count form) own → after ≡ rows ++ step_facts x (def f.row f.by) → after ≡ facts_from (length along + axis_count form) now
+made_push form along own now rows after f x at floors old new =
+    let here : x ≡ length own + (length along + axis_count form) = omega (arith, at, length-append along own) in
+    new ∙ (λ i. old i ++ step_facts (here i) (def f.row f.by)) ∙ sym (facts_from-push (length along + axis_count form) own f) ∙ ap (facts_from (length along + axis_count form)) (sym floors)
 
 -- ---- the derivation of an answer to the row that was asked for
 
-pub fault_is : (facts rows : List Form) (along own : List Floor) (row other : Form) (a : Answer) (line : Option ℕ) → rows ≡ facts_from (length along + axis_count) own
-    → same_row row a.row ≡ true → other ≡ contrary a.yes row → line ≡ first_fault (facts ++ rows ++ other ∷ []) (length (along ++ own) + axis_count) a.why
-    → fault_below facts along own a ≡ line
-fault_is facts rows along own row other a line made same is found =
+pub fault_is : (form : ℕ) (facts rows : List Form) (along own : List Floor) (row other : Form) (a : Answer) (line : Option ℕ) → rows ≡ facts_from (length along + axis_count form) own
+    → same_row row a.row ≡ true → other ≡ contrary a.yes row → line ≡ first_fault (facts ++ rows ++ other ∷ []) (length (along ++ own) + axis_count form) a.why
+    → fault_below form facts along own a ≡ line
+fault_is form facts rows along own row other a line made same is found =
     let as_asked = (decides_same_row row a.row).0 same in
     let denial : contrary a.yes a.row ≡ other = ap (contrary a.yes) (sym as_asked) ∙ sym is in
-    (λ i. first_fault (facts ++ sym made i ++ denial i ∷ []) (length (along ++ own) + axis_count) a.why) ∙ sym found
+    (λ i. first_fault (facts ++ sym made i ++ denial i ∷ []) (length (along ++ own) + axis_count form) a.why) ∙ sym found
 
 -- ---- answers of a tape by number
 

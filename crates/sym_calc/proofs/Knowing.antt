@@ -1,26 +1,30 @@
 -- What is known stays known where a floor is named, and no world is lost.
-use Rattle.std.proofs.Common.{◌≡◌, ℕ, zero, suc, ◌+◌, ◌<◌, ◌≤◌, ◌==◌, ◌^◌, ℤ, pos, negsuc, ◌-ℤ◌, ◌≤ℤ◌, ◌<ℤ◌, Bool, true, false, cond, ◌&&◌, List, [], ◌∷◌, ◌++◌, length, Some, inl, inr, refl, sym, ◌∙◌, ap, subst, arith, length-append, IsTrue}
+use Rattle.std.proofs.Common.{◌≡◌, ℕ, zero, suc, ◌+◌, ◌<◌, ◌≤◌, ◌^◌, ℤ, pos, negsuc, ◌-ℤ◌, ◌≤ℤ◌, ◌<ℤ◌, Bool, true, false, ◌&&◌, List, [], ◌∷◌, ◌++◌, length, Some, inl, inr, refl, sym, ◌∙◌, ap, subst, arith, length-append, IsTrue}
 use Rattle.std.specs.Prelude.{◌⊎◌, slice_get}
 use Rattle.std.specs.Int.{int_div_euclid}
+use Rattle.std.specs.List.{list_all}
+use Rattle.std.specs.Ordering.{int_eq}
 use Rattle.std.specs.Int.RustNames.{int_le}
 use Rattle.std.proofs.Math.Bool.{and-true}
 use Rattle.std.proofs.lemmas.Int.{ints}
 use Rattle.std.proofs.lemmas.Bool.{and_parts}
-use Rattle.std.proofs.lemmas.Bool.Decides.{nat_tests}
 use Rattle.std.proofs.lemmas.List.Folds.{list_all-append}
 use Rattle.std.proofs.lemmas.Option.{same_Some}
 use Rattle.viz_base.specs.declared.worlds.World.{World}
+use Rattle.viz_base.specs.Worlds.{along}
 use Rattle.viz_calc.specs.World.{Reading}
 use Rattle.lin_row.specs.Form.{Form, value, plus}
 use Rattle.lin_proof.specs.Derivations.{are_declared}
-use Rattle.cert_path.specs.Axes.{axis_count}
+use Rattle.cert_path.specs.Axes.{axis_count, variable_of}
 use Rattle.cert_path.specs.Paths.{def, with_value, with_floor, values_at}
 use Rattle.cert_path.specs.Facts.{row_of, step_facts}
 use Rattle.cert_path.proofs.Values.{Agree, Local, declared_local, plus_local, row_local, more_local, with_old, with_new}
 use Rattle.cert_path.proofs.PathFacts.{AllMeet, floor_holds, floor_said}
+use Rattle.cert_path.proofs.Variables.{by_form}
 use Rattle.sym_calc.specs.declared.floors.Floor.{Floor}
+use Rattle.sym_calc.specs.declared.paths.Origin.{Origin}
 use Rattle.sym_calc.specs.Floors.{with_floors, values_by}
-use Rattle.sym_calc.specs.Knowledge.{values_of, are_met, AreKnown}
+use Rattle.sym_calc.specs.Knowledge.{has_height, has_numbers, are_met, is_open, AreKnown}
 
 -- ---- facts that are met
 
@@ -91,39 +95,39 @@ get_push (x ∷ xs) y z (suc n) e = more (get_push xs y z n e)
     more (inl found) = inl found
     more (inr last) = inr (ap suc last.0, last.1)
 
-pub known_floor : (facts : List Form) (named : List Floor) (f : Floor) → AreKnown facts named → FitsAt (length named + axis_count) f → length named + axis_count + 1 < 2 ^ 32
-    → AreKnown (facts ++ step_facts (length named + axis_count) (def f.row f.by)) (named ++ f ∷ [])
-known_floor facts named f known fits few = record {
+pub known_floor : (form : ℕ) (facts : List Form) (named : List Floor) (f : Floor) → AreKnown form facts named → FitsAt (length named + axis_count form) f → length named + axis_count form + 1 < 2 ^ 32
+    → AreKnown form (facts ++ step_facts (length named + axis_count form) (def f.row f.by)) (named ++ f ∷ [])
+known_floor form facts named f known fits few = record {
   few = omega (arith, length-append named (f ∷ []), few);
   declared = declared;
   floors = floors;
 }
   where
     x : ℕ
-    x = length named + axis_count
+    x = length named + axis_count form
 
     more : List Form
-    more = step_facts (length named + axis_count) (def f.row f.by)
+    more = step_facts (length named + axis_count form) (def f.row f.by)
 
-    declared : Declared (length (named ++ f ∷ []) + axis_count) (facts ++ step_facts (length named + axis_count) (def f.row f.by))
+    declared : Declared (length (named ++ f ∷ []) + axis_count form) (facts ++ step_facts (length named + axis_count form) (def f.row f.by))
     declared =
-        let here : length named + axis_count + 1 ≡ length (named ++ f ∷ []) + axis_count = omega (arith, length-append named (f ∷ [])) in
-        subst (λ n. Declared n (facts ++ step_facts (length named + axis_count) (def f.row f.by))) here
-        (declared_append (length named + axis_count + 1) facts (step_facts (length named + axis_count) (def f.row f.by))
-        (declared_more (length named + axis_count) (length named + axis_count + 1) (omega arith) facts known.declared)
-        (declared_floor (length named + axis_count) f.row f.by (local_row (length named + axis_count) f fits)))
+        let here : length named + axis_count form + 1 ≡ length (named ++ f ∷ []) + axis_count form = omega (arith, length-append named (f ∷ [])) in
+        subst (λ n. Declared n (facts ++ step_facts (length named + axis_count form) (def f.row f.by))) here
+        (declared_append (length named + axis_count form + 1) facts (step_facts (length named + axis_count form) (def f.row f.by))
+        (declared_more (length named + axis_count form) (length named + axis_count form + 1) (omega arith) facts known.declared)
+        (declared_floor (length named + axis_count form) f.row f.by (local_row (length named + axis_count form) f fits)))
 
-    by_place : (v : ℕ → ℤ) (n : ℕ) (g : Floor) → are_met facts v ≡ true → are_met (step_facts (length named + axis_count) (def f.row f.by)) v ≡ true
-        → (slice_get named n ≡ Some g) ⊎ ((n ≡ length named) × (f ≡ g)) → v (n + axis_count) ≡ int_div_euclid (value g.row v) g.by
+    by_place : (v : ℕ → ℤ) (n : ℕ) (g : Floor) → are_met facts v ≡ true → are_met (step_facts (length named + axis_count form) (def f.row f.by)) v ≡ true
+        → (slice_get named n ≡ Some g) ⊎ ((n ≡ length named) × (f ≡ g)) → v (n + axis_count form) ≡ int_div_euclid (value g.row v) g.by
     by_place v n g old new (inl found) = known.floors v old n g found
     by_place v n g old new (inr last) =
-        let said = floor_said f.row f.by (length named + axis_count) v v fits.1 refl (met_all v (step_facts (length named + axis_count) (def f.row f.by)) new) in
-        subst (λ (h : Floor). v (n + axis_count) ≡ int_div_euclid (value h.row v) h.by) last.1 (ap (λ m. v (m + axis_count)) last.0 ∙ said)
+        let said = floor_said f.row f.by (length named + axis_count form) v v fits.1 refl (met_all v (step_facts (length named + axis_count form) (def f.row f.by)) new) in
+        subst (λ (h : Floor). v (n + axis_count form) ≡ int_div_euclid (value h.row v) h.by) last.1 (ap (λ m. v (m + axis_count form)) last.0 ∙ said)
 
-    floors : (v : ℕ → ℤ) → IsTrue (are_met (facts ++ step_facts (length named + axis_count) (def f.row f.by)) v) → (n : ℕ) (g : Floor) → slice_get (named ++ f ∷ []) n ≡ Some g
-        → v (n + axis_count) ≡ int_div_euclid (value g.row v) g.by
+    floors : (v : ℕ → ℤ) → IsTrue (are_met (facts ++ step_facts (length named + axis_count form) (def f.row f.by)) v) → (n : ℕ) (g : Floor) → slice_get (named ++ f ∷ []) n ≡ Some g
+        → v (n + axis_count form) ≡ int_div_euclid (value g.row v) g.by
     floors v met n g is =
-        let both = and_parts (are_met facts v) (are_met (step_facts (length named + axis_count) (def f.row f.by)) v) (sym (are_met-append facts (step_facts (length named + axis_count) (def f.row f.by)) v) ∙ met) in
+        let both = and_parts (are_met facts v) (are_met (step_facts (length named + axis_count form) (def f.row f.by)) v) (sym (are_met-append facts (step_facts (length named + axis_count form) (def f.row f.by)) v) ∙ met) in
         by_place v n g both.0 both.1 (get_push named f g n is)
 
 -- ---- no world is lost
@@ -135,29 +139,29 @@ with_floors-push (g ∷ fs) f x v =
     let here : length fs + (x + 1) ≡ length (g ∷ fs) + x = omega arith in
     with_floors-push fs f (x + 1) next ∙ (λ i. with_floor f.row f.by (with_floors fs (x + 1) next) (here i))
 
-pub values_by-push : (fs : List Floor) (f : Floor) (world : World) → values_by (fs ++ f ∷ []) world ≡ with_floor f.row f.by (values_by fs world) (length fs + axis_count)
-values_by-push fs f world = with_floors-push fs f axis_count (values_at world)
+pub values_by-push : (form : ℕ) (fs : List Floor) (f : Floor) (world : World) → values_by form (fs ++ f ∷ []) world ≡ with_floor f.row f.by (values_by form fs world) (length fs + axis_count form)
+values_by-push form fs f world = with_floors-push fs f (axis_count form) (values_at form world)
 
 -- the facts of a floor are met where its variable is the floor, and the old facts where they were
-met_floor : (facts : List Form) (named : List Floor) (f : Floor) → AreKnown facts named → FitsAt (length named + axis_count) f → (v w : ℕ → ℤ)
-    → Agree (length named + axis_count) w v → w (length named + axis_count) ≡ int_div_euclid (value f.row v) f.by
-    → are_met (facts ++ step_facts (length named + axis_count) (def f.row f.by)) w ≡ are_met facts v
-met_floor facts named f known fits v w same is =
-    let x = length named + axis_count in
+met_floor : (form : ℕ) (facts : List Form) (named : List Floor) (f : Floor) → AreKnown form facts named → FitsAt (length named + axis_count form) f → (v w : ℕ → ℤ)
+    → Agree (length named + axis_count form) w v → w (length named + axis_count form) ≡ int_div_euclid (value f.row v) f.by
+    → are_met (facts ++ step_facts (length named + axis_count form) (def f.row f.by)) w ≡ are_met facts v
+met_floor form facts named f known fits v w same is =
+    let x = length named + axis_count form in
     let more = step_facts x (def f.row f.by) in
     let old = known.declared w v same in
     let row = local_row x f fits w v same in
     let new = all_met w more (floor_holds f.row f.by x v w fits.1 row is) in
     are_met-append facts more w ∙ (λ i. old i && new i) ∙ and-true (are_met facts v)
 
-pub kept_floor : (facts : List Form) (named : List Floor) (f : Floor) → AreKnown facts named → FitsAt (length named + axis_count) f → (world : World)
-    → are_met (facts ++ step_facts (length named + axis_count) (def f.row f.by)) (values_by (named ++ f ∷ []) world) ≡ are_met facts (values_by named world)
-kept_floor facts named f known fits world =
-    let x = length named + axis_count in
-    let v = values_by named world in
+pub kept_floor : (form : ℕ) (facts : List Form) (named : List Floor) (f : Floor) → AreKnown form facts named → FitsAt (length named + axis_count form) f → (world : World)
+    → are_met (facts ++ step_facts (length named + axis_count form) (def f.row f.by)) (values_by form (named ++ f ∷ []) world) ≡ are_met facts (values_by form named world)
+kept_floor form facts named f known fits world =
+    let x = length named + axis_count form in
+    let v = values_by form named world in
     let q = int_div_euclid (value f.row v) f.by in
-    ap (are_met (facts ++ step_facts x (def f.row f.by))) (values_by-push named f world)
-    ∙ met_floor facts named f known fits v (with_value v x q) (λ y less. with_old v x q y less) (with_new v x q)
+    ap (are_met (facts ++ step_facts x (def f.row f.by))) (values_by-push form named f world)
+    ∙ met_floor form facts named f known fits v (with_value v x q) (λ y less. with_old v x q y less) (with_new v x q)
 
 -- ---- readings
 
@@ -165,23 +169,32 @@ kept_floor facts named f known fits world =
 abbrev pub with_term : Reading → ℕ → ℤ → Reading
 with_term e x q = record { world = e.world; terms = with_value e.terms x q }
 
-values_with_term : (e : Reading) (x : ℕ) (q : ℤ) → axis_count ≤ x → (y : ℕ) → values_of (with_term e x q) y ≡ with_value (values_of e) x q y
-values_with_term e x q two y = by_test (y == 1) refl (y == 0) refl (y == x) refl
-  where
-    by_test : (one : Bool) → (y == 1) ≡ one → (none : Bool) → (y == 0) ≡ none → (here : Bool) → (y == x) ≡ here
-        → cond one (pos e.world.s) (cond none (pos e.world.w) (cond here q (e.terms y))) ≡ cond here q (cond one (pos e.world.s) (cond none (pos e.world.w) (e.terms y)))
-    by_test true a none b true c = absurd (grind (arith, nat_tests))
-    by_test true a none b false c = refl
-    by_test false a true b true c = absurd (grind (arith, nat_tests))
-    by_test false a true b false c = refl
-    by_test false a false b true c = refl
-    by_test false a false b false c = refl
+-- the variables of the axes have the numbers that they had
+numbers_kept : (x : ℕ) (v : ℕ → ℤ) (q : ℤ) (world : World) (form : ℕ) → axis_count form ≤ x → has_numbers form world (with_value v x q) ≡ has_numbers form world v
+numbers_kept x v q world = by_form
+    (λ some. length some ≤ x → list_all (λ axis. int_eq (with_value v x q (variable_of axis)) (pos (along axis world))) some ≡ list_all (λ axis. int_eq (v (variable_of axis)) (pos (along axis world))) some)
+    (λ less. let w = with_old v x q 0 (omega arith) in let s = with_old v x q 1 (omega arith) in
+    λ i. int_eq (w i) (pos world.w) && (int_eq (s i) (pos world.s) && true))
+    (λ less. let w = with_old v x q 0 (omega arith) in let s = with_old v x q 1 (omega arith) in let h = with_old v x q 2 (omega arith) in
+    λ i. int_eq (w i) (pos world.w) && (int_eq (s i) (pos world.s) && (int_eq (h i) (pos world.h) && true)))
 
-pub open_floor : (facts : List Form) (named : List Floor) (f : Floor) → AreKnown facts named → FitsAt (length named + axis_count) f → (e : Reading)
-    → are_met (facts ++ step_facts (length named + axis_count) (def f.row f.by)) (values_of (with_term e (length named + axis_count) (int_div_euclid (value f.row (values_of e)) f.by))) ≡ are_met facts (values_of e)
-open_floor facts named f known fits e =
-    let x = length named + axis_count in
-    let v = values_of e in
-    let q = int_div_euclid (value f.row v) f.by in
-    let is = values_with_term e x q (omega arith) in
-    met_floor facts named f known fits v (values_of (with_term e x q)) (λ y less. is y ∙ with_old v x q y less) (is x ∙ with_new v x q)
+-- an open reading meets the facts
+pub open_meets : (origin : Origin) (facts : List Form) (e : Reading) → is_open origin facts e ≡ true → are_met facts e.terms ≡ true
+open_meets origin facts e o = (and_parts (has_height origin e.world && has_numbers origin.form e.world e.terms) (are_met facts e.terms) o).1
+
+pub open_floor : (origin : Origin) (facts : List Form) (named : List Floor) (f : Floor) → AreKnown origin.form facts named → FitsAt (length named + axis_count origin.form) f → (e : Reading)
+    → is_open origin (facts ++ step_facts (length named + axis_count origin.form) (def f.row f.by)) (with_term e (length named + axis_count origin.form) (int_div_euclid (value f.row e.terms) f.by)) ≡ is_open origin facts e
+open_floor origin facts named f known fits e =
+    let x = length named + axis_count origin.form in
+    let q = int_div_euclid (value f.row e.terms) f.by in
+    let numbers = numbers_kept x e.terms q e.world origin.form (omega arith) in
+    let met = met_floor origin.form facts named f known fits e.terms (with_value e.terms x q) (λ y less. with_old e.terms x q y less) (with_new e.terms x q) in
+    λ i. (has_height origin e.world && numbers i) && met i
+
+-- facts more close readings alone
+pub opened_before : (origin : Origin) (facts more : List Form) (e : Reading) → is_open origin (facts ++ more) e ≡ true → is_open origin facts e ≡ true
+opened_before origin facts more e o =
+    let both = and_parts (has_height origin e.world && has_numbers origin.form e.world e.terms) (are_met (facts ++ more) e.terms) o in
+    let at = both.0 in
+    let met = (and_parts (are_met facts e.terms) (are_met more e.terms) (sym (are_met-append facts more e.terms) ∙ both.1)).0 in
+    λ i. at i && met i

@@ -38,14 +38,16 @@ number_same (gcons a b) (gcons c d) e =
     let y = number_same b d s.1 in
     λ i. gcons (x i) (y i)
 
-pub record AreSame (facts : List Form) (floors : List Floor) (tape : List Answer) (facts2 : List Form) (floors2 : List Floor) (tape2 : List Answer) : Type 0 where
+pub record AreSame (form : ℕ) (facts : List Form) (floors : List Floor) (tape : List Answer) (form2 : ℕ) (facts2 : List Form) (floors2 : List Floor) (tape2 : List Answer) : Type 0 where
+  pub form_is : form ≡ form2
   pub facts_are : facts ≡ facts2
   pub floors_are : floors ≡ floors2
   pub tape_is : tape ≡ tape2
 
-pub tag_same : (facts : List Form) (floors : List Floor) (tape : List Answer) (facts2 : List Form) (floors2 : List Floor) (tape2 : List Answer)
-    → tag facts floors tape ≡ tag facts2 floors2 tape2 → AreSame facts floors tape facts2 floors2 tape2
+pub tag_same : (form : ℕ) (facts : List Form) (floors : List Floor) (tape : List Answer) (form2 : ℕ) (facts2 : List Form) (floors2 : List Floor) (tape2 : List Answer)
+    → tag form facts floors tape ≡ tag form2 facts2 floors2 tape2 → AreSame form facts floors tape form2 facts2 floors2 tape2
 unfolding tag
-tag_same facts floors tape facts2 floors2 tape2 e =
-    let h = given_code.inj (facts, (floors, tape)) (facts2, (floors2, tape2)) (number_same _ _ e) in
-    record { facts_are = λ i. (h i).0; floors_are = λ i. (h i).1.0; tape_is = λ i. (h i).1.1 }
+tag_same form facts floors tape form2 facts2 floors2 tape2 e =
+    let both = pair_same form _ form2 _ e in
+    let h = given_code.inj (facts, (floors, tape)) (facts2, (floors2, tape2)) (number_same _ _ both.1) in
+    record { form_is = both.0; facts_are = λ i. (h i).0; floors_are = λ i. (h i).1.0; tape_is = λ i. (h i).1.1 }

@@ -20,12 +20,16 @@ facts_of s = s.path.now.facts ++ s.rows
 abbrev pub named_of : Sym → List Floor
 named_of s = s.path.now.floors ++ s.floors
 
+-- how many variables there are: those of the axes and of the floors
+abbrev pub variables_of : Sym → ℕ
+variables_of s = length (named_of s) + axis_count s.path.now.origin.form
+
 -- the number of its path and its tape
 abbrev pub tag_of : Sym → ℕ
-tag_of s = tag s.path.now.facts s.path.now.floors s.tape.now
+tag_of s = tag s.path.now.origin.form s.path.now.facts s.path.now.floors s.tape.now
 
 abbrev pub state_of : Sym → State
-state_of s = sym_state (tag_of s) (facts_of s) (named_of s) s.coeffs s.opens
+state_of s = sym_state s.path.now.origin (tag_of s) (facts_of s) (named_of s) s.coeffs s.opens
 
 -- nothing of its path, its tape, its own facts and floors and its trouble is another
 pub record KeepsRest (s t : Sym) : Type 0 where
@@ -38,11 +42,11 @@ pub record KeepsRest (s t : Sym) : Type 0 where
 
 -- why the next answer leaves a row open, if it does
 abbrev pub next_trouble : Sym → Form → Option Trouble
-next_trouble s row = trouble_at (facts_of s) (length (named_of s) + axis_count) s.tape.now s.taken row
+next_trouble s row = trouble_at (facts_of s) (variables_of s) s.tape.now s.taken row
 
 -- the same of this answer
 abbrev pub trouble_by_answer : Sym → Form → Answer → Option Trouble
-trouble_by_answer s row answer = trouble_of (facts_of s) (length (named_of s) + axis_count) s.taken row answer
+trouble_by_answer s row answer = trouble_of (facts_of s) (variables_of s) s.taken row answer
 
 -- whether the row that is at least 0 where an answer on a row is wrong has its numbers in `i128`
 abbrev pub contrary_fits : Form → Option Answer → Bool

@@ -3,7 +3,7 @@ use Rattle.std.specs.Prelude.{ℕ, ◌+◌, ℤ, pos, negsuc, ◌-ℤ◌, Bool, 
 use Rattle.std.specs.Ordering.{int_eq}
 use Rattle.viz_base.specs.declared.worlds.World.{World}
 use Rattle.cert_path.specs.Axes.{axis_count}
-use Rattle.cert_path.specs.Paths.{def, first, second, Path as Steps, with_floor, values_at}
+use Rattle.cert_path.specs.Paths.{def, first, second, lemma, Path as Steps, root, ◌▸◌, with_floor, values_at}
 use Rattle.lin_row.specs.Form.{plus, form_fits}
 use Rattle.cert_path.specs.Facts.{row_of}
 use Rattle.cert_path.specs.Shapes.{same_row}
@@ -24,12 +24,13 @@ with_floors [] x v = v
 with_floors (f ∷ fs) x v = with_floors fs (x + 1) (with_floor f.row f.by v x)
 
 -- what the variables are at a world: the numbers on the axes, and then the floors
-abbrev pub values_by : List Floor → World → ℕ → ℤ
-values_by floors world = with_floors floors axis_count (values_at world)
+abbrev pub values_by : ℕ → List Floor → World → ℕ → ℤ
+values_by form floors world = with_floors floors (axis_count form) (values_at form world)
 
 -- the floors that the defs of a path name, in the order of their variables
 abbrev pub floors_of : Steps → List Floor
-floors_of [] = []
-floors_of (def row d ∷ outer) = floors_of outer ++ record { row = row; by = d } ∷ []
-floors_of (first row ∷ outer) = floors_of outer
-floors_of (second row ∷ outer) = floors_of outer
+floors_of (root form) = []
+floors_of (def row d ▸ outer) = floors_of outer ++ record { row = row; by = d } ∷ []
+floors_of (first row ▸ outer) = floors_of outer
+floors_of (second row ▸ outer) = floors_of outer
+floors_of (lemma row ▸ outer) = floors_of outer

@@ -1,4 +1,4 @@
--- One number for the facts and floors of a path and for a tape of answers, and another for all others.
+-- One number for the form, the facts and the floors of a path and for a tape of answers, and another for all others.
 use Rattle.std.specs.Prelude.{ℕ, zero, suc, ◌+◌, List}
 use Rattle.std.specs.Coded.{Coded, coded_list, coded×}
 use base.Stored.{Gv, gnil, gnum, gcons}
@@ -24,5 +24,5 @@ abbrev pub given_code : Coded (List Form × (List Floor × List Answer))
 given_code = coded× (coded_list a_row.the_row.coded)
     (coded× (coded_list a_floor.the_row.coded) (coded_list an_answer.the_row.coded))
 
-unfoldable pub tag : List Form → List Floor → List Answer → ℕ
-tag facts floors tape = number_of (given_code.code (facts, (floors, tape)))
+unfoldable pub tag : ℕ → List Form → List Floor → List Answer → ℕ
+tag form facts floors tape = pair form (number_of (given_code.code (facts, (floors, tape))))

@@ -1,5 +1,5 @@
-//! Symbolic arithmetic: numbers that are linear forms over the width, the size and floors, compared by the answers of
-//! a certificate, each of which is proved by its derivation.
+//! Symbolic arithmetic: numbers that are linear forms over the width, the size, the height and floors, compared by the
+//! answers of a certificate, each of which is proved by its derivation.
 #![tactic(auto)]
 
 mod divisions;
@@ -17,6 +17,6 @@ pub use laws::{
     answers_are_refuted_below_their_path, kept_worlds_are_those_of_the_path, sound_paths_are_known,
     sym_keeps_its_worlds,
 };
-pub use paths::Path;
+pub use paths::{Origin, Path};
 pub use sym::Sym;
 pub use troubles::Trouble;

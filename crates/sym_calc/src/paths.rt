@@ -15,9 +15,20 @@ use lin_row::{Row, RowFault};
 use std::alloc::{AllocError, Global};
 use viz_base::{Axis, List, Rect, Span};
 
+/// Where a path begins: which numbers of a world have variables, and the one that may have none.
+#[derive(Clone, Copy)]
+pub struct Origin {
+    /// The job's form, which says which axes have variables.
+    pub form: u8,
+    /// The viewport's height in pixels, in form 1, where it is one number.
+    pub height: u32,
+}
+
 /// What holds on the way to a node of a certificate.
 #[derive(Drop)]
 pub struct Path {
+    /// Where it begins.
+    pub origin: Origin,
     /// Rows that are at least 0, numbered from 0.
     pub facts: List<Row>,
     /// The floors that are named. Their variables are numbered behind those of the axes.
@@ -25,16 +36,23 @@ pub struct Path {
 }
 
 impl Path {
-    /// The path to the root: the facts of the range.
-    pub fn new(alloc: Global, range: Rect) -> Result<Self, AllocError>
-        ensures facts { IfOk result (λ path. path.facts ≡ range_facts range) }
+    /// The path to the root of a certificate for a job of a form: the facts of the range, which has one height in
+    /// form 1.
+    pub fn new(alloc: Global, form: u8, range: Rect) -> Result<Self, AllocError>
+        ensures origin { IfOk result (λ path. path.origin ≡ record { form = form; height = range.hl }) }
+        ensures facts { IfOk result (λ path. path.facts ≡ range_facts form range) }
         ensures floors { IfOk result (λ path. path.floors ≡ []) }
-        ensures known { IfOk result (λ path. AreKnown path.facts path.floors) }
+        ensures known { IfOk result (λ path. AreKnown form path.facts path.floors) }
     {
         let mut facts = List::new(alloc);
         add_side(&mut facts, Axis::Width, range.side(Axis::Width))?;
         add_side(&mut facts, Axis::Size, range.side(Axis::Size))?;
+        if form == 2 {
+            add_side(&mut facts, Axis::Height, range.side(Axis::Height))?;
+        }
+        let height = range.hl;
         Ok(Path {
+            origin: Origin { form, height },
             facts,
             floors: Floors::new(alloc),
         })
@@ -45,7 +63,8 @@ impl Path {
     pub fn define(&mut self, floor: Floor, variable: u32) -> Result<(), RowFault>
         requires above { pos 0 <ℤ floor.by }
         requires new { list_any (same_floor floor) self.old.floors ≡ false }
-        requires next { variable ≡ length self.old.floors + axis_count }
+        requires next { variable ≡ length self.old.floors + axis_count self.old.origin.form }
+        ensures origin { self.new.origin ≡ self.old.origin }
         ensures facts { OnOk result (self.new.facts ≡ self.old.facts ++ step_facts variable (def floor.row floor.by)) }
         ensures floors { OnOk result (self.new.floors ≡ self.old.floors ++ floor ∷ []) }
         ensures same_facts { OnErr result (self.new.facts ≡ self.old.facts) }
@@ -57,6 +76,7 @@ impl Path {
 
     /// Goes to the first child of a split, where its row is at least 0. An `Err` leaves the path as it was.
     pub fn enter_first(&mut self, row: &Row) -> Result<(), AllocError>
+        ensures origin { self.new.origin ≡ self.old.origin }
         ensures facts { OnOk result (self.new.facts ≡ self.old.facts ++ row.now ∷ []) }
         ensures same { OnErr result (self.new.facts ≡ self.old.facts) }
         ensures floors { self.new.floors ≡ self.old.floors }
@@ -67,6 +87,7 @@ impl Path {
     /// Goes to the second child of a split, where its row is below 0. An `Err` leaves the path as it was.
     /// `Coeff` where a number of the row's denial is outside `i128`.
     pub fn enter_second(&mut self, row: &Row) -> Result<(), RowFault>
+        ensures origin { self.new.origin ≡ self.old.origin }
         ensures facts { OnOk result (self.new.facts ≡ self.old.facts ++ denied row.now ∷ []) }
         ensures same { OnErr result (self.new.facts ≡ self.old.facts) }
         ensures floors { self.new.floors ≡ self.old.floors }
@@ -77,8 +98,20 @@ impl Path {
         Ok(())
     }
 
+    /// Goes below a lemma, whose row is at least 0 on the whole path. An `Err` leaves the path as it was.
+    pub fn enter_lemma(&mut self, row: &Row) -> Result<(), AllocError>
+        ensures origin { self.new.origin ≡ self.old.origin }
+        ensures facts { OnOk result (self.new.facts ≡ self.old.facts ++ row.now ∷ []) }
+        ensures same { OnErr result (self.new.facts ≡ self.old.facts) }
+        ensures floors { self.new.floors ≡ self.old.floors }
+    {
+        let fact = row.clone()?;
+        self.facts.push(fact)
+    }
+
     /// Goes back to where there were so many facts and floors.
     pub fn leave(&mut self, facts: usize, floors: usize)
+        ensures origin { self.new.origin ≡ self.old.origin }
         ensures facts { self.new.facts ≡ take facts self.old.facts }
         ensures floors { self.new.floors ≡ take floors self.old.floors }
     {

@@ -15,17 +15,16 @@ ghost use Rattle.viz_calc.specs.World.{Reading};
 ghost use Rattle.sym_calc.specs.Floors.{same_floor};
 ghost use Rattle.sym_calc.specs.Divided.{can_be, divided, division_fits, floor_variable, is_floor, multiple};
 ghost use Rattle.sym_calc.specs.Given.{IsGiven, IsGivenWithin, IsTallied, IsWithin};
-ghost use Rattle.sym_calc.specs.Knowledge.{values_of};
-ghost use Rattle.sym_calc.specs.Knowledge.{AreKnown, contrary, sym_state};
+ghost use Rattle.sym_calc.specs.Knowledge.{AreKnown, contrary, height_row, sym_state};
 ghost use Rattle.sym_calc.specs.History.{are_fit, facts_from, is_accounted};
 ghost use Rattle.sym_calc.specs.Tags.{tag};
 
 use crate::divisions::{quotient, remainder};
 use crate::facts::add_floor;
 use crate::floors::{Floor, Floors, same_row};
-use crate::paths::Path;
+use crate::paths::{Origin, Path};
 use crate::troubles::Trouble;
-use cert_path::{AXIS_COUNT, variable_of};
+use cert_path::{axis_count, variable_of};
 use lin_proof::{Answer, Derivation, Facts, first_fault_among, line_count};
 use lin_row::{Row, RowFault};
 use std::alloc::{AllocError, Global};
@@ -44,11 +43,12 @@ pub struct Sym<'a> {
     trouble: Option<Trouble>,
     coeffs: u64,
     opens: u64,
-    ghost known: { AreKnown (path.now.facts ++ rows) (path.now.floors ++ floors) },
+    ghost known: { AreKnown path.now.origin.form (path.now.facts ++ rows) (path.now.floors ++ floors) },
     ghost told: { is_some trouble ≡ nat_lt 0 opens },
-    ghost made: { rows ≡ facts_from (length path.now.floors + axis_count) floors },
-    ghost fit: { IsTrue (are_fit path.now.floors floors) },
-    ghost accounted: { IsTrue (is_accounted path.now.facts path.now.floors floors tape.now taken trouble) },
+    ghost made: { rows ≡ facts_from (length path.now.floors + axis_count path.now.origin.form) floors },
+    ghost fit: { IsTrue (are_fit path.now.origin.form path.now.floors floors) },
+    ghost accounted: { IsTrue (is_accounted path.now.origin.form path.now.facts path.now.floors floors tape.now taken
+        trouble) },
 }
 
 /// A count that is one greater, or stands at its end.
@@ -63,15 +63,16 @@ impl<'a> Sym<'a> {
     ghost use Rattle.viz_calc.specs.State.{Grows, KeepsWorlds, Cause, IsDecided};
     ghost use Rattle.viz_calc.specs.declared.calc.Halt.TheVariants.{Open};
     ghost use Rattle.sym_calc.specs.Troubles.{first_of};
-    ghost use Rattle.sym_calc.specs.Calc.{facts_of, named_of, state_of, next_trouble, trouble_by_answer, contrary_fits, KeepsRest};
+    ghost use Rattle.sym_calc.specs.Calc.{facts_of, named_of, state_of, variables_of, next_trouble, trouble_by_answer, contrary_fits, KeepsRest};
 
     /// The calc of a path and of a tape of answers, none of which is taken yet. Takes no memory.
     pub fn new(path: &'a Path, tape: &'a [Answer]) -> Self
-        requires { AreKnown path.now.facts path.now.floors }
+        requires { AreKnown path.now.origin.form path.now.facts path.now.floors }
         ensures path { result.path.now ≡ path.now }
         ensures tape { result.tape.now ≡ tape.now }
-        ensures state { state_of result
-            ≡ sym_state (tag path.now.facts path.now.floors tape.now) path.now.facts path.now.floors 0 0 }
+        ensures state { let origin = path.now.origin in state_of result
+            ≡ sym_state origin (tag origin.form path.now.facts path.now.floors tape.now) path.now.facts
+            path.now.floors 0 0 }
         ensures taken { result.taken ≡ 0 }
         ensures trouble { result.trouble ≡ None }
     {
@@ -118,19 +119,20 @@ impl<'a> Sym<'a> {
         ensures grows { Grows (state_of self.old) (state_of self.new) }
         ensures worlds { KeepsWorlds (state_of self.old) (state_of self.new) }
         ensures value { IfOk result (λ x. (e : Reading) → IsTrue ((state_of self.new).is_open e)
-            → values_of e x ≡ int_div_euclid (value floor.row (values_of e)) floor.by) }
+            → e.terms x ≡ int_div_euclid (value floor.row e.terms) floor.by) }
         ensures cause { IfErr result (Cause (state_of self.old) (state_of self.new) ⊤) }
-        ensures exact { IsGivenWithin result (floor_variable (named_of self.old) floor)
-            (is_floor (named_of self.old) floor) }
+        ensures exact { let form = self.old.path.now.origin.form in
+            IsGivenWithin result (floor_variable form (named_of self.old) floor)
+            (is_floor form (named_of self.old) floor) }
         ensures decided { IsDecided result }
         ensures tallied { IsTallied result self.old.coeffs self.new.coeffs }
     {
         // The same floor is the same variable, also where a `def` above named it: then its facts are known already.
         if let Some(place) = self.path.floors.place_of(&floor) {
-            return Ok(place as u32 + AXIS_COUNT);
+            return Ok(place as u32 + self.axis_count());
         }
         if let Some(place) = self.floors.place_of(&floor) {
-            return Ok((self.path.floors.len() + place) as u32 + AXIS_COUNT);
+            return Ok((self.path.floors.len() + place) as u32 + self.axis_count());
         }
         self.name(floor)
     }
@@ -146,9 +148,9 @@ impl<'a> Sym<'a> {
         ensures grows { Grows (state_of self.old) (state_of self.new) }
         ensures worlds { KeepsWorlds (state_of self.old) (state_of self.new) }
         ensures value { IfOk result (λ x. (e : Reading) → IsTrue ((state_of self.new).is_open e)
-            → values_of e x ≡ int_div_euclid (value floor.row (values_of e)) floor.by) }
+            → e.terms x ≡ int_div_euclid (value floor.row e.terms) floor.by) }
         ensures cause { IfErr result (Cause (state_of self.old) (state_of self.new) ⊤) }
-        ensures exact { let next = length (named_of self.old) + axis_count in
+        ensures exact { let next = variables_of self.old in
             IsGivenWithin result next (can_be next floor) }
         ensures decided { IsDecided result }
         ensures tallied { IsTallied result self.old.coeffs self.new.coeffs }
@@ -172,11 +174,18 @@ impl<'a> Sym<'a> {
         }
     }
 
+    /// How many variables stand for axes.
+    fn axis_count(&self) -> u32
+        ensures { result ≡ axis_count self.now.path.now.origin.form }
+    {
+        axis_count(self.path.origin.form)
+    }
+
     /// How many variables there are.
     fn variables(&self) -> u32
-        ensures { result ≡ length (self.now.path.now.floors ++ self.now.floors) + axis_count }
+        ensures { result ≡ variables_of self.now }
     {
-        (self.path.floors.len() + self.floors.len()) as u32 + AXIS_COUNT
+        (self.path.floors.len() + self.floors.len()) as u32 + self.axis_count()
     }
 
     /// A row above 0, divided by a number and rounded down.
@@ -185,10 +194,11 @@ impl<'a> Sym<'a> {
         ensures grows { Grows (state_of self.old) (state_of self.new) }
         ensures worlds { KeepsWorlds (state_of self.old) (state_of self.new) }
         ensures value { IfOk result (λ r. (e : Reading) → IsTrue ((state_of self.new).is_open e)
-            → value r (values_of e) ≡ int_div_euclid (value row.now (values_of e)) by) }
+            → value r e.terms ≡ int_div_euclid (value row.now e.terms) by) }
         ensures cause { IfErr result (Cause (state_of self.old) (state_of self.new) ⊤) }
-        ensures exact { IsGivenWithin result (divided (named_of self.old) by row.now)
-            (division_fits (named_of self.old) by row.now) }
+        ensures exact { let form = self.old.path.now.origin.form in
+            IsGivenWithin result (divided form (named_of self.old) by row.now)
+            (division_fits form (named_of self.old) by row.now) }
         ensures decided { IsDecided result }
         ensures tallied { IsTallied result self.old.coeffs self.new.coeffs }
     {
@@ -208,7 +218,7 @@ impl<'a> Sym<'a> {
         requires { IsTrue (form_fits row) }
         ensures grows { Grows (state_of self.old) (state_of self.new) }
         ensures value { IfOk result (λ yes. (e : Reading) → IsTrue ((state_of self.new).is_open e)
-            → yes ≡ int_le (pos 0) (value row (values_of e))) }
+            → yes ≡ int_le (pos 0) (value row e.terms)) }
         ensures cause { IfErr result (Cause (state_of self.old) (state_of self.new) ⊤) }
         ensures within { IsWithin result (contrary_fits row (slice_get self.old.tape.now self.old.taken)) }
         ensures answer { IfOk result (λ yes. next_trouble self.old row ≡ None) }
@@ -231,7 +241,7 @@ impl<'a> Sym<'a> {
         requires fits { IsTrue (form_fits row) }
         ensures grows { Grows (state_of self.old) (state_of self.new) }
         ensures value { IfOk result (λ yes. (e : Reading) → IsTrue ((state_of self.new).is_open e)
-            → yes ≡ int_le (pos 0) (value row (values_of e))) }
+            → yes ≡ int_le (pos 0) (value row e.terms)) }
         ensures cause { IfErr result (Cause (state_of self.old) (state_of self.new) ⊤) }
         ensures within { IsWithin result (form_fits (contrary answer.now.yes row)) }
         ensures answer { IfOk result (λ yes. trouble_by_answer self.old row answer.now ≡ None) }
@@ -276,7 +286,7 @@ impl<'a> Sym<'a> {
     /// The first wrong line of a derivation from all facts and from one more, which is taken back.
     fn fault_of(&mut self, contrary: Row, why: &Derivation) -> Result<Option<u32>, Mem>
         ensures line { IfOk result (λ line.
-            line ≡ first_fault (facts_of self.old ++ contrary ∷ []) (length (named_of self.old) + axis_count) why.now) }
+            line ≡ first_fault (facts_of self.old ++ contrary ∷ []) (variables_of self.old) why.now) }
         ensures state { state_of self.new ≡ state_of self.old }
         ensures rest { KeepsRest self.old self.new }
         ensures tallied { self.new.coeffs ≡ self.old.coeffs }
@@ -294,8 +304,8 @@ impl<'a> Sym<'a> {
     /// Leaves a comparison open for this trouble, which is kept unless there was one before. So many answers are
     /// taken then.
     fn stuck(&mut self, trouble: Trouble, taken: usize) -> Halt
-        requires { IsTrue (is_accounted self.old.path.now.facts self.old.path.now.floors self.old.floors
-            self.old.tape.now taken (first_of self.old.trouble (Some trouble))) }
+        requires { IsTrue (is_accounted self.old.path.now.origin.form self.old.path.now.facts self.old.path.now.floors
+            self.old.floors self.old.tape.now taken (first_of self.old.trouble (Some trouble))) }
         ensures grows { Grows (state_of self.old) (state_of self.new) }
         ensures cause { Cause (state_of self.old) (state_of self.new) ⊤ result }
         ensures open { result ≡ Open }
@@ -331,6 +341,17 @@ impl<'a> Sym<'a> {
         ensures { result ≡ (state_of self.now).coeffs }
     {
         self.coeffs
+    }
+}
+
+/// The row of the viewport's height, in 1/64 px: 64 times its variable, or in form 1 the one number.
+fn height_row(alloc: Global, origin: Origin) -> Result<Row, AllocError>
+    ensures { IfOk result (λ row. row ≡ height_row origin) }
+{
+    if origin.form == 2 {
+        on_axis(alloc, Axis::Height)
+    } else {
+        Ok(Row::constant(alloc, 64 * i128::from(origin.height)))
     }
 }
 
@@ -436,6 +457,20 @@ impl<'a> Calc for Sym<'a> {
         Ok(on_axis(self.path.facts.allocator(), Axis::Width)?)
     }
 
+    fn height(&mut self) -> Result<Row, Halt>
+        ensures grows { Grows (state_of self.old) (state_of self.new) }
+        ensures worlds { KeepsWorlds (state_of self.old) (state_of self.new) }
+        ensures value { IfOk result (λ r. Stands (state_of self.new) (number_at r) (λ e. pos (64 * e.world.h))) }
+        ensures cause { IfErr result (Cause (state_of self.old) (state_of self.new)
+            (Fits (state_of self.new) (λ e. pos (64 * e.world.h) ∷ []))) }
+        ensures counted { IfErr result (IsCounted true (state_of self.old) (state_of self.new)) }
+        ensures decided { IsDecided result }
+        ensures free { IfErr result (λ halt. halt ≡ Halt.Mem) }
+        ensures tallied { IsTallied result self.old.coeffs self.new.coeffs }
+    {
+        Ok(height_row(self.path.facts.allocator(), self.path.origin)?)
+    }
+
     fn size(&mut self) -> Result<Row, Halt>
         ensures grows { Grows (state_of self.old) (state_of self.new) }
         ensures worlds { KeepsWorlds (state_of self.old) (state_of self.new) }
@@ -507,8 +542,8 @@ impl<'a> Calc for Sym<'a> {
         ensures counted { IfErr result (IsCounted true (state_of self.old) (state_of self.new)) }
         ensures decided { IsDecided result }
         ensures exact { let row = multiple num a.now in let floors = named_of self.old in
-            IsGivenWithin result (divided floors (pos den) row)
-            (form_fits row && division_fits floors (pos den) row) }
+            let form = self.old.path.now.origin.form in IsGivenWithin result (divided form floors (pos den) row)
+            (form_fits row && division_fits form floors (pos den) row) }
         ensures tallied { IsTallied result self.old.coeffs self.new.coeffs }
     {
         let zero = Row::constant(self.path.facts.allocator(), 0);
@@ -541,9 +576,9 @@ impl<'a> Calc for Sym<'a> {
     }
 
     ghost keeps = { λ s w t. inl (record {
-      reading = reading_by (named_of s) w;
+      reading = reading_by s.path.now.origin.form (named_of s) w;
       world = refl;
-      is_open = kept_is_open (facts_of s) (named_of s) w t;
+      is_open = kept_is_open s.path.now.origin (facts_of s) (named_of s) w t;
     }) };
 }
 

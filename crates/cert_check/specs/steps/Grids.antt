@@ -1,5 +1,5 @@
 -- The worlds of a grid, one after another.
-use Rattle.std.specs.Prelude.{◌≡◌, ℕ, ◌+◌, ◌-◌, ℤ, pos, ◌<ℤ◌, Bool, true, false, ◌&&◌, List, [], ◌∷◌, ◌++◌, Option, Some, None, is_some, if◌then◌else◌, map, slice_get, option_and_then}
+use Rattle.std.specs.Prelude.{◌≡◌, ℕ, ℤ, pos, ◌<ℤ◌, Bool, true, false, ◌&&◌, List, [], ◌∷◌, ◌++◌, Option, Some, None, is_none, if◌then◌else◌, map, slice_get, option_and_then}
 use Rattle.std.specs.Option.{option_map, option_map_or}
 use Rattle.std.specs.List.{list_all}
 use Rattle.std.specs.Int.{int_div_euclid}
@@ -14,10 +14,9 @@ use Rattle.cert_path.specs.Axes.{axes}
 use Rattle.cert_path.specs.Rectangles.{Sides, whole}
 use Rattle.cert_check.specs.Rectangles.{is_unit}
 use Rattle.cert_check.specs.Rectangles.{IsProper}
-use Rattle.cert_check.specs.Truths.{is_true_at}
-use Rattle.cert_check.specs.steps.Worlds.{seek, unless_true}
+use Rattle.cert_check.specs.steps.Worlds.{is_untrue}
 use Rattle.cert_check.specs.declared.descent.Above.{Above}
-use Rattle.cert_check.specs.declared.descent.Above.TheVariants.{Def, First, Second}
+use Rattle.cert_check.specs.declared.descent.Above.TheVariants.{Def, First, Second, Lemma}
 use Rattle.cert_check.specs.Numbers.{computed}
 
 -- ---- one world
@@ -30,55 +29,46 @@ abbrev pub is_above_zero : Above → Bool
 is_above_zero (Def row d) = lt_z (pos 0) d
 is_above_zero (First row) = true
 is_above_zero (Second row) = true
+is_above_zero (Lemma row) = true
 
 -- whether each def's number is above 0
 abbrev pub are_above_zero : List Above → Bool
 are_above_zero = list_all is_above_zero
 
 -- the values below one step more, and whether the world is still on the path
-abbrev pub pass : Above → List ℤ → Bool → Option (List ℤ × Bool)
-pass (Def row d) values on =
+abbrev pub pass : ℕ → Above → List ℤ → Bool → Option (List ℤ × Bool)
+pass form (Def row d) values on =
     option_map (λ v. (values ++ int_div_euclid v d ∷ [], on)) (computed row.now (value_in values))
-pass (First row) values on =
-    if is_unit row.now then Some (values, on)
+pass form (First row) values on =
+    if is_unit form row.now then Some (values, on)
     else option_map (λ v. (values, on && int_le (pos 0) v)) (computed row.now (value_in values))
-pass (Second row) values on =
-    if is_unit row.now then Some (values, on)
+pass form (Second row) values on =
+    if is_unit form row.now then Some (values, on)
     else option_map (λ v. (values, on && lt_z v (pos 0))) (computed row.now (value_in values))
+pass form (Lemma row) values on = Some (values, on)
 
-abbrev pub place_from : List Above → List ℤ → Bool → Option Bool
-place_from [] values on = Some on
-place_from (step ∷ steps) values on = option_and_then (λ p. place_from steps p.0 p.1) (pass step values on)
+abbrev pub place_from : ℕ → List Above → List ℤ → Bool → Option Bool
+place_from form [] values on = Some on
+place_from form (step ∷ steps) values on =
+    option_and_then (λ p. place_from form steps p.0 p.1) (pass form step values on)
 
-abbrev pub place_of : List Above → World → Option Bool
-place_of above world = place_from above (map (λ axis. pos (along axis world)) axes) true
+abbrev pub place_of : ℕ → List Above → World → Option Bool
+place_of form above world = place_from form above (map (λ axis. pos (along axis world)) (axes form)) true
 
--- ---- all worlds of a rectangle, by width and then by size
+-- ---- what is looked for among the worlds of a grid
 
--- the world, if a number is outside `i128` there
-abbrev pub outside_at : List Above → ℕ → ℕ → Option World
-outside_at above w s = unless_true (is_some (place_of above (record { w = w; s = s }))) (record { w = w; s = s })
+-- a number on the path is outside `i128` at a world
+abbrev pub is_outside : ℕ → List Above → World → Bool
+is_outside form above world = is_none (place_of form above world)
 
-abbrev pub outside_of_width : List Above → Rect → ℕ → Option World
-outside_of_width above r w = seek (outside_at above w) r.sl (r.sh + 1 - r.sl)
+-- a world is on the path, and the formula is false there
+abbrev pub is_untrue_if : Job → World → Option Bool → Bool
+is_untrue_if job world (Some true) = is_untrue job world
+is_untrue_if job world (Some false) = false
+is_untrue_if job world None = false
 
-abbrev pub first_outside : List Above → Rect → Option World
-first_outside above r = seek (outside_of_width above r) r.wl (r.wh + 1 - r.wl)
-
--- the world, if it is on the path and the formula is false there
-abbrev pub untrue_if : Job → World → Option Bool → Option World
-untrue_if job world (Some true) = unless_true (is_true_at job world) world
-untrue_if job world (Some false) = None
-untrue_if job world None = None
-
-abbrev pub untrue_at : Job → List Above → ℕ → ℕ → Option World
-untrue_at job above w s = untrue_if job (record { w = w; s = s }) (place_of above (record { w = w; s = s }))
-
-abbrev pub untrue_of_width : Job → List Above → Rect → ℕ → Option World
-untrue_of_width job above r w = seek (untrue_at job above w) r.sl (r.sh + 1 - r.sl)
-
-abbrev pub first_untrue : Job → List Above → Rect → Option World
-first_untrue job above r = seek (untrue_of_width job above r) r.wl (r.wh + 1 - r.wl)
+abbrev pub is_untrue_on : Job → List Above → World → Bool
+is_untrue_on job above world = is_untrue_if job world (place_of job.form above world)
 
 -- ---- what unit splits leave
 

@@ -13,5 +13,5 @@ pub returns-in-Ok-clause-value : goal.returns-in-Ok-clause-value
 returns-in-Ok-clause-value c =
     let job = c.args.job.now in
     IfOk-weaker c.truth.result _ _
-    (λ b h e o. h e o ∙ ap (λ (r : Rendering ℤ). truth (scene_of r e.world job.height) job.formula) (c.in-Ok.ensures.value e (c.truth.ensures.grows.closes e o)))
+    (λ b h e o. h e o ∙ ap (λ (r : Rendering ℤ). truth (scene_of r e.world) job.formula) (c.in-Ok.ensures.value e (c.truth.ensures.grows.closes e o)))
     c.truth.ensures.value

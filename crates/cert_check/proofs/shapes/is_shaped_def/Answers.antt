@@ -8,7 +8,7 @@ use Rattle.cert_path.specs.Paths.{variables}
 use Rattle.cert_path.specs.Shapes.{has_variable, has_remainders}
 use Rattle.sym_calc.specs.Floors.{same_floor}
 use Rattle.sym_calc.proofs.Refuted.{named_is}
-use Rattle.cert_check.specs.steps.Descent.{path_of}
+use Rattle.cert_check.specs.steps.Ways.{path_at}
 use Rattle.cert_check.proofs.shapes.is_shaped_def.Goals as goal
 
 none_not_some : {A : Type 0} (o : Option A) → is_none o ≡ not (is_some o)
@@ -17,7 +17,7 @@ none_not_some (Some x) = refl
 
 pub returns : goal.returns
 returns c =
-    let path = path_of c.args.descent.now.above in
+    let path = path_at c.args.descent.now in
     let fits : FitsSigned w128 c.args.by = c.ranges.by in
     let copied : c.in_ok-clone.field-0 ≡ c.args.row.now = search rules in
     let fit = simp to_z-of_z at c.has_fit_numbers.ensures in

@@ -8,6 +8,9 @@ decreases-check_node l = 3 * node_count l.node.now
 abbrev pub decreases-check_below : goal.decreases-check_below
 decreases-check_below l = 3 * node_count l.node.now + 1
 
+abbrev pub decreases-check_under : goal.decreases-check_under
+decreases-check_under l = 3 * node_count l.node.now + 1
+
 abbrev pub decreases-check_parts : goal.decreases-check_parts
 decreases-check_parts l = 3 * (node_count l.one.now + node_count l.other.now) + 2
 

@@ -3,20 +3,22 @@ use Rattle.viz_base.specs.declared.jobs.Job.{Job}
 use Rattle.viz_calc.specs.State.{State}
 use Rattle.cert_path.specs.Nodes.{by_answers, node_on}
 use Rattle.sym_calc.specs.declared.paths.Path.{Path}
-use Rattle.sym_calc.specs.Floors.{values_by}
-use Rattle.sym_calc.specs.Knowledge.{are_met}
+use Rattle.viz_base.specs.Jobs.{IsFormed}
+use Rattle.sym_calc.specs.declared.paths.Origin.{Origin}
+use Rattle.sym_calc.specs.Knowledge.{is_kept, AreKnown}
 use Rattle.cert_check.specs.declared.verdicts.Verdict.{Verdict}
-use Rattle.cert_check.specs.steps.Descent.{path_of}
+use Rattle.cert_check.specs.steps.Ways.{path_at}
 use Rattle.cert_check.specs.steps.Tells.{Judges}
 use Rattle.cert_check.specs.Leaves.{StandsOver, IsLeafVerdict}
-use Rattle.cert_check.proofs.Descents.{sound_is}
+use Rattle.cert_check.proofs.Descents.{sound_is, form_is}
 use Rattle.cert_check.proofs.Judging.{judged, known_along, leaf_rejected}
 use Rattle.cert_check.proofs.walk.check_answers.Goals as goal
 
 pub new-sym-requires : goal.new-sym-requires
 new-sym-requires c =
     let s = c.args.descent.now in
-    known_along s.job.now (path_of s.above) c.path.result.now.facts c.path.result.now.floors s.sound c.requires.few c.path.ensures.facts c.path.ensures.floors
+    subst (λ (o : Origin). AreKnown o.form c.path.result.now.facts c.path.result.now.floors) (sym c.path.ensures.origin)
+    (known_along s.job.now (path_at s) c.path.result.now.facts c.path.result.now.floors s.sound c.requires.few c.path.ensures.facts c.path.ensures.floors)
 
 pub check_new_leaf-requires : goal.check_new_leaf-requires
 check_new_leaf-requires c = ap (λ (t : State). t.coeffs) c.new-sym.ensures.state
@@ -24,15 +26,18 @@ check_new_leaf-requires c = ap (λ (t : State). t.coeffs) c.new-sym.ensures.stat
 pub returns-in-Accepted : goal.returns-in-Accepted
 returns-in-Accepted c =
     let s = c.args.descent.now in
-    let path = path_of s.above in
+    let path = path_at s in
     let n = c.args.number in
     let leaf = c.in_ok-check_new_leaf in
     let along : StandsOver s.job.now.range path c.new-sym.result = record {
+      formed = subst (λ form. IsFormed form s.job.now.range) (sym (form_is s.job.now.form s.above)) s.job.now.ok.formed;
       sound = sound_is path s.sound;
+      entailed = s.entailed;
+      origin_is = ap (λ (p : Path). p.origin) c.new-sym.ensures.path ∙ c.path.ensures.origin;
       facts_are = ap (λ (p : Path). p.facts) c.new-sym.ensures.path ∙ c.path.ensures.facts;
       floors_are = ap (λ (p : Path). p.floors) c.new-sym.ensures.path ∙ c.path.ensures.floors;
       kept = λ world. ap (λ (t : State). t.kept.worlds world) c.new-sym.ensures.state
-          ∙ (λ i. are_met (c.path.ensures.facts i) (values_by (c.path.ensures.floors i) world));
+          ∙ (λ i. is_kept (c.path.ensures.origin i) (c.path.ensures.facts i) (c.path.ensures.floors i) world);
     } in
     let over : StandsOver c.job.result.now.range path c.new-sym.result = subst (λ (j : Job). StandsOver j.range path c.new-sym.result) (sym c.job.ensures) along in
     let found = subst (λ (j : Job). IsLeafVerdict j n path c.new-sym.result.tape.now leaf.field-0) c.job.ensures (leaf.ensures.verdict path over) in
@@ -43,15 +48,18 @@ returns-in-Accepted c =
 pub returns : goal.returns
 returns c =
     let s = c.args.descent.now in
-    let path = path_of s.above in
+    let path = path_at s in
     let n = c.args.number in
     let leaf = c.in_ok-check_new_leaf in
     let along : StandsOver s.job.now.range path c.new-sym.result = record {
+      formed = subst (λ form. IsFormed form s.job.now.range) (sym (form_is s.job.now.form s.above)) s.job.now.ok.formed;
       sound = sound_is path s.sound;
+      entailed = s.entailed;
+      origin_is = ap (λ (p : Path). p.origin) c.new-sym.ensures.path ∙ c.path.ensures.origin;
       facts_are = ap (λ (p : Path). p.facts) c.new-sym.ensures.path ∙ c.path.ensures.facts;
       floors_are = ap (λ (p : Path). p.floors) c.new-sym.ensures.path ∙ c.path.ensures.floors;
       kept = λ world. ap (λ (t : State). t.kept.worlds world) c.new-sym.ensures.state
-          ∙ (λ i. are_met (c.path.ensures.facts i) (values_by (c.path.ensures.floors i) world));
+          ∙ (λ i. is_kept (c.path.ensures.origin i) (c.path.ensures.facts i) (c.path.ensures.floors i) world);
     } in
     let over : StandsOver c.job.result.now.range path c.new-sym.result = subst (λ (j : Job). StandsOver j.range path c.new-sym.result) (sym c.job.ensures) along in
     let found = subst (λ (j : Job). IsLeafVerdict j n path c.new-sym.result.tape.now leaf.field-0) c.job.ensures (leaf.ensures.verdict path over) in

@@ -6,4 +6,4 @@ use Rattle.sym_calc.proofs.laws.sym_keeps_its_worlds.Goals as goal
 pub returns : goal.returns
 returns c =
     let s = c.args.sym.now in
-    λ w t. record { reading = reading_by (named_of s) w; world = refl; is_open = kept_is_open (facts_of s) (named_of s) w t }
+    λ w t. record { reading = reading_by s.path.now.origin.form (named_of s) w; world = refl; is_open = kept_is_open s.path.now.origin (facts_of s) (named_of s) w t }

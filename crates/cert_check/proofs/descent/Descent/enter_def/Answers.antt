@@ -2,13 +2,18 @@ use Rattle.std.proofs.Common.{◌≡◌, ◌∙◌, ◌∷◌, ◌++◌, [], tru
 use Rattle.std.specs.Int.{w128}
 use Rattle.std.specs.List.{list_any}
 use Rattle.std.proofs.lemmas.Bool.{false≢true}
+use Rattle.cert_path.specs.Axes.{axis_count}
 use Rattle.cert_path.specs.Paths.{def, variables}
+use Rattle.sym_calc.specs.declared.paths.Origin.{Origin}
 use Rattle.cert_path.specs.Facts.{step_facts, facts}
+use Rattle.cert_path.specs.Derived.{AreEntailed}
+use Rattle.sym_calc.specs.Laws.{origin_of}
 use Rattle.sym_calc.specs.Floors.{same_floor, floors_of, floor_fits}
 use Rattle.sym_calc.proofs.Along.{variables_of}
 use Rattle.cert_check.specs.declared.descent.Above.TheVariants.{Def}
-use Rattle.cert_check.specs.steps.Descent.{path_of, are_sound}
-use Rattle.cert_check.proofs.Descents.{after_push, fit_here}
+use Rattle.cert_check.specs.steps.Ways.{path_at}
+use Rattle.cert_check.specs.steps.Descent.{are_sound}
+use Rattle.cert_check.proofs.Descents.{after_push, fit_here, form_is}
 use Rattle.cert_check.proofs.FitFloors.{floor_is_fit}
 use Rattle.cert_check.proofs.descent.Descent.enter_def.Goals as goal
 
@@ -17,30 +22,34 @@ define-requires-clause-new c =
     let s = c.args.self.now in
     let fits : FitsSigned w128 c.args.by = c.ranges.by in
     let copied : c.in_ok-clone.field-0 ≡ c.args.row.now = search rules in
-    let fit = fit_here s.job.now.range (path_of s.above) c.args.row.now c.args.by c.requires.shaped in
+    let fit = fit_here s.job.now.range (path_at s) c.args.row.now c.args.by c.requires.shaped in
     simp to_z-of_z ((λ i. list_any (same_floor (record { row = copied i; by = c.args.by })) (s.floors i)) ∙ fit.new)
 
 pub define-requires-clause-next : goal.define-requires-clause-next
 define-requires-clause-next c =
     let s = c.args.self.now in
-    let count = variables_of (path_of s.above) in
+    let count = variables_of (path_at s) in
     let floors = ap length s.floors in
-    omega (arith, count, floors)
+    let same = ap axis_count (form_is s.job.now.form s.above) in
+    let begun = ap (λ (o : Origin). axis_count o.form) s.origin in
+    omega (arith, count, floors, same, begun)
 
 pub invariant_of-self-in-Ok : goal.invariant_of-self-in-Ok
 invariant_of-self-in-Ok c =
     let s = c.args.self.now in
     let fits : FitsSigned w128 c.args.by = c.ranges.by in
     let copied : c.in_ok-clone.field-0 ≡ c.args.row.now = search rules in
-    let fit = fit_here s.job.now.range (path_of s.above) c.args.row.now c.args.by c.requires.shaped in
+    let fit = fit_here s.job.now.range (path_at s) c.args.row.now c.args.by c.requires.shaped in
     let pushed = simp to_z-of_z at c.in_ok-push.ensures.ok in
-    let path = after_push s.above c.push.new.self (Def c.args.row c.args.by) pushed in
+    let path = after_push s.job.now.form s.above c.push.new.self (Def c.args.row c.args.by) pushed in
     let declared = fit.declared in
     let test = fit.test in
     let sound = s.sound in
     let facts_more = simp to_z-of_z at c.in-Ok.ensures.facts in
     let floors_more = simp to_z-of_z at c.in-Ok.ensures.floors in
     record {
+      origin = c.define.ensures.origin ∙ s.origin ∙ ap (origin_of s.job.now.range) (sym path);
+      entailed = subst (AreEntailed s.job.now.range) (sym path) s.entailed;
       sound = subst (λ p. are_sound p ≡ true) (sym path) (λ i. declared i && test i && sound i);
       facts = facts_more ∙ (λ i. s.facts i ++ step_facts (c.variables-variable.ensures i) (def (copied i) c.args.by)) ∙ ap (facts s.job.now.range) (sym path);
       floors = floors_more ∙ (λ i. s.floors i ++ record { row = copied i; by = c.args.by } ∷ []) ∙ ap floors_of (sym path);
@@ -50,12 +59,12 @@ pub returns-in-Ok-clause-above : goal.returns-in-Ok-clause-above
 returns-in-Ok-clause-above c =
     let s = c.args.self.now in
     let fits : FitsSigned w128 c.args.by = c.ranges.by in
-    after_push s.above c.push.new.self (Def c.args.row c.args.by) (simp to_z-of_z at c.in_ok-push.ensures.ok)
+    after_push s.job.now.form s.above c.push.new.self (Def c.args.row c.args.by) (simp to_z-of_z at c.in_ok-push.ensures.ok)
 
 pub unreachable-requires : goal.unreachable-requires
 unreachable-requires c =
     let s = c.args.self.now in
-    let path = path_of s.above in
+    let path = path_at s in
     let by = c.args.by in
     let fits : FitsSigned w128 by = c.ranges.by in
     let copied : c.in_ok-clone.field-0 ≡ c.args.row.now = search rules in

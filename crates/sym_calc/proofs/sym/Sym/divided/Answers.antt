@@ -4,7 +4,6 @@ use Rattle.std.proofs.lemmas.Result.{IfOk-weaker, err_from_is_err_and}
 use Rattle.lin_row.specs.Form.{Form, value, plus}
 use Rattle.cert_path.specs.Facts.{row_of}
 use Rattle.cert_path.specs.Shapes.{has_remainders}
-use Rattle.sym_calc.specs.Knowledge.{values_of}
 use Rattle.sym_calc.specs.Calc.{named_of}
 use Rattle.sym_calc.proofs.States.{grows_then, counted_is}
 use Rattle.sym_calc.proofs.Fitting.{given_alone, floor_halted, given_with}
@@ -18,7 +17,7 @@ returns-then-is_empty-clause-value c =
     let whole = simp to_z-of_z at c.in_ok-whole.ensures in
     let rest = simp to_z-of_z at c.in_ok-rest.ensures in
     let none = c.if-is_empty.ensures.0 refl in
-    λ e met. alone_by c.args.by c.args.row.now c.in_ok-whole.whole c.in_ok-rest.rest (values_of e) c.requires whole rest
+    λ e met. alone_by c.args.by c.args.row.now c.in_ok-whole.whole c.in_ok-rest.rest e.terms c.requires whole rest
     (ap (λ (g : Form). g.terms) (sym c.rest.view_is) ∙ none)
 
 pub variable_of-requires-clause-some : goal.variable_of-requires-clause-some
@@ -51,8 +50,8 @@ returns-clause-value c =
     let x = c.in_ok-variable.variable in
     let exact = plus c.in_ok-whole.whole (pos 1) (row_of (pos 0) (pos 1) x) in
     IfOk-weaker c.counted.result (λ r. r ≡ exact) _
-    (λ r is e met. ap (λ g. value g (values_of e)) is
-    ∙ with_by c.args.by c.args.row.now c.in_ok-whole.whole c.in_ok-rest.rest x (values_of e) c.requires whole rest (floor e (c.counted.ensures.grows.closes e met)))
+    (λ r is e met. ap (λ g. value g e.terms) is
+    ∙ with_by c.args.by c.args.row.now c.in_ok-whole.whole c.in_ok-rest.rest x e.terms c.requires whole rest (floor e (c.counted.ensures.grows.closes e met)))
     (counted_is c.with_variable-sum.result exact c.counted.result c.with_variable-sum.ensures c.counted.ensures.row)
 
 pub returns-then-is_empty-clause-exact : goal.returns-then-is_empty-clause-exact
@@ -61,7 +60,7 @@ returns-then-is_empty-clause-exact c =
     let whole = simp to_z-of_z at c.in_ok-whole.ensures in
     let rest = simp to_z-of_z at c.in_ok-rest.ensures in
     let none = c.if-is_empty.ensures.0 refl in
-    given_alone (named_of c.args.self.now) c.args.by c.args.row.now c.in_ok-rest.rest rest c.in_ok-whole.whole whole (ap (λ (g : Form). g.terms) (sym c.rest.view_is) ∙ none)
+    given_alone c.args.self.now.path.now.origin.form (named_of c.args.self.now) c.args.by c.args.row.now c.in_ok-rest.rest rest c.in_ok-whole.whole whole (ap (λ (g : Form). g.terms) (sym c.rest.view_is) ∙ none)
 
 pub returns-in_err-variable-clause-exact : goal.returns-in_err-variable-clause-exact
 returns-in_err-variable-clause-exact c =
@@ -70,7 +69,7 @@ returns-in_err-variable-clause-exact c =
     let floor = simp to_z-of_z at c.in_err-variable.ensures.exact in
     let some : c.in_ok-rest.rest.terms ≢ [] = λ none. true≢false (sym (c.is_empty.ensures.1 (ap (λ (g : Form). g.terms) c.rest.view_is ∙ none)) ∙ c.if-is_empty.false) in
     let p = err_from_is_err_and c.from_residual-in_err-variable.result c.from_residual-in_err-variable.ensures.1 in
-    rw (p.1, p.2) (floor_halted (named_of c.args.self.now) c.args.by c.args.row.now c.in_ok-rest.rest rest (some_variable c.in_ok-rest.rest some) _ floor)
+    rw (p.1, p.2) (floor_halted c.args.self.now.path.now.origin.form (named_of c.args.self.now) c.args.by c.args.row.now c.in_ok-rest.rest rest (some_variable c.in_ok-rest.rest some) _ floor)
 
 pub returns-clause-exact : goal.returns-clause-exact
 returns-clause-exact c =
@@ -79,5 +78,5 @@ returns-clause-exact c =
     let rest = simp to_z-of_z at c.in_ok-rest.ensures in
     let floor = simp to_z-of_z at c.in_ok-variable.ensures.exact in
     let some : c.in_ok-rest.rest.terms ≢ [] = λ none. true≢false (sym (c.is_empty.ensures.1 (ap (λ (g : Form). g.terms) c.rest.view_is ∙ none)) ∙ c.if-is_empty.false) in
-    given_with (named_of c.args.self.now) c.args.by c.args.row.now c.in_ok-rest.rest rest (some_variable c.in_ok-rest.rest some) c.in_ok-whole.whole c.in_ok-variable.variable whole floor
+    given_with c.args.self.now.path.now.origin.form (named_of c.args.self.now) c.args.by c.args.row.now c.in_ok-rest.rest rest (some_variable c.in_ok-rest.rest some) c.in_ok-whole.whole c.in_ok-variable.variable whole floor
     c.counted.result (c.counted.ensures.exact _ c.with_variable-sum.ensures)

@@ -5,7 +5,6 @@ use Rattle.std.specs.Prelude.{pos, Bool, slice_get}
 use Rattle.std.proofs.lemmas.Result.{IfOk-weaker, err_from_is_err_and}
 use Rattle.lin_row.specs.Form.{Form, plus}
 use Rattle.lin_row.specs.Exact.{IsExact}
-use Rattle.sym_calc.specs.Knowledge.{values_of}
 use Rattle.sym_calc.specs.Calc.{contrary_fits}
 use Rattle.sym_calc.proofs.Fitting.{halted_within, within_same, constant_fits, variable_fits}
 use Rattle.sym_calc.proofs.Rests.{some_variable}
@@ -21,7 +20,7 @@ returns-then-is_empty-clause-value c =
     let none : d.terms ≡ _ = ap (λ (f : Form). f.terms) (sym c.difference.view_is) ∙ c.if-is_empty.ensures.0 refl in
     let number : c.difference.inside.k ≡ d.k = ap (λ (f : Form). f.k) c.difference.view_is in
     let fits : FitsSigned w128 c.difference.inside.k = search rules in
-    λ e met. simp to_z-of_z (ap (int_le (pos 0)) number ∙ constant_le c.args.a.now c.args.b.now d (values_of e) is none)
+    λ e met. simp to_z-of_z (ap (int_le (pos 0)) number ∙ constant_le c.args.a.now c.args.b.now d e.terms is none)
 
 pub returns-clause-grows : goal.returns-clause-grows
 returns-clause-grows c = grows_then _ _ _ c.in_ok-difference.ensures.grows c.answered.ensures.grows
@@ -31,7 +30,7 @@ returns-clause-value c =
     let exact = plus c.args.b.now (negsuc 0) c.args.a.now in
     let d = c.in_ok-difference.difference in
     let is : d ≡ exact = (subst (λ a. IsExact a exact) c.in_ok-difference.ensures.row c.add_scaled-difference.ensures).0 in
-    IfOk-weaker c.answered.result _ _ (λ r h e met. h e met ∙ row_le c.args.a.now c.args.b.now d (values_of e) is) c.answered.ensures.value
+    IfOk-weaker c.answered.result _ _ (λ r h e met. h e met ∙ row_le c.args.a.now c.args.b.now d e.terms is) c.answered.ensures.value
 
 pub returns-in_err-difference-clause-within : goal.returns-in_err-difference-clause-within
 returns-in_err-difference-clause-within c =

@@ -1,0 +1,26 @@
+use Rattle.std.proofs.Common.{◌≡◌, ◌∙◌, ◌∷◌, ◌++◌, [], true, ◌&&◌, sym, ap, subst}
+use Rattle.cert_path.specs.Facts.{facts}
+use Rattle.cert_path.specs.Derived.{AreEntailed}
+use Rattle.sym_calc.specs.Laws.{origin_of}
+use Rattle.sym_calc.specs.Floors.{floors_of}
+use Rattle.cert_check.specs.declared.descent.Above.TheVariants.{Lemma}
+use Rattle.cert_check.specs.steps.Descent.{are_sound}
+use Rattle.cert_check.proofs.Descents.{after_push}
+use Rattle.cert_check.proofs.descent.Descent.enter_lemma.Goals as goal
+
+pub invariant_of-self-in-Ok : goal.invariant_of-self-in-Ok
+invariant_of-self-in-Ok c =
+    let s = c.args.self.now in
+    let declared = c.requires.declared in
+    let path = after_push s.job.now.form s.above c.push.new.self (Lemma c.args.row) c.in_ok-push.ensures.ok in
+    let sound = s.sound in
+    record {
+      origin = c.enter_lemma.ensures.origin ∙ s.origin ∙ ap (origin_of s.job.now.range) (sym path);
+      entailed = subst (AreEntailed s.job.now.range) (sym path) (c.requires.entailed, s.entailed);
+      sound = subst (λ p. are_sound p ≡ true) (sym path) (λ i. declared i && sound i);
+      facts = c.in-Ok.ensures.facts ∙ (λ i. s.facts i ++ c.args.row.now ∷ []) ∙ ap (facts s.job.now.range) (sym path);
+      floors = c.enter_lemma.ensures.floors ∙ s.floors ∙ ap floors_of (sym path);
+    }
+
+pub returns-in-Ok-clause-above : goal.returns-in-Ok-clause-above
+returns-in-Ok-clause-above c = after_push c.args.self.now.job.now.form c.args.self.now.above c.push.new.self (Lemma c.args.row) c.in_ok-push.ensures.ok
