@@ -5,6 +5,7 @@ use Rattle.std.specs.Option.{option_and_then}
 use Rattle.viz_base.specs.declared.nodes.Attr.{Attr}
 use Rattle.viz_base.specs.declared.nodes.Body.{Body}
 use Rattle.viz_base.specs.declared.nodes.Node.{Node}
+use Rattle.viz_base.specs.declared.selectors.Pseudo.{Pseudo}
 use Rattle.viz_base.specs.declared.selectors.Spec.{Spec}
 use Rattle.viz_base.specs.declared.settings.Setting.{Setting}
 use Rattle.viz_base.specs.declared.settings.Value.{Value}
@@ -19,7 +20,7 @@ use Rattle.css_semantics.specs.declared.claims.Ruleset.{Ruleset}
 use Rattle.css_semantics.specs.declared.parts.Refusal.{Refusal}
 use Rattle.css_semantics.specs.declared.parts.Refusal.TheVariants as refusal
 use Rattle.css_semantics.specs.CascadeOrder.{Applied, applied, style_spec}
-use Rattle.css_semantics.specs.CascadeReading.{AppliesTo, AreApplied, AreRulesets, Each, IsClaimed, IsRuleset, IsSlice, IsStyled, Placed, Refused, all_applied, claim_of, claims_of, placed, rules_from, sheet_origin, source_of, style_of, unsupported_at}
+use Rattle.css_semantics.specs.CascadeReading.{AppliesTo, AreApplied, AreAppliedBeside, AreRulesets, Each, IsClaimed, IsRuleset, IsSlice, IsStyled, Placed, Refused, all_applied, claim_of, claims_of, placed, rules_from, sheet_origin, source_of, style_of, unsupported_at}
 use Rattle.css_semantics.specs.Sources.{IsValueAt, style_text}
 use Rattle.css_semantics.specs.Values.{setting}
 use Rattle.css_semantics.specs.Winners.{IsAllowed}
@@ -110,13 +111,14 @@ unsupported_read nodes texts of_origin.Default text at e = tt
 unsupported_read nodes texts (of_origin.Author sheet) text at e = (text, e)
 unsupported_read nodes texts (of_origin.Style node) text at e = tt
 
-rule_read : {origin : Origin} {text : List ℕ} {rule : Rule} {r : Result (List Ruleset) Refused} (nodes : List Node) (texts : List (List ℕ)) → origin_text nodes texts origin ≡ Some text → IsRuleset origin text rule r → Read nodes texts r
-rule_read nodes texts e (IsRuleset.read s g ranked claimed) = (all_stated nodes texts e claimed, tt)
+rule_read : {which : Option Pseudo} {origin : Origin} {text : List ℕ} {rule : Rule} {r : Result (List Ruleset) Refused} (nodes : List Node) (texts : List (List ℕ)) → origin_text nodes texts origin ≡ Some text → IsRuleset which origin text rule r → Read nodes texts r
+rule_read nodes texts e (IsRuleset.read s g some ranked claimed) = (all_stated nodes texts e claimed, tt)
+rule_read nodes texts e (IsRuleset.of_others s g none) = tt
 rule_read nodes texts e (IsRuleset.bad s b) = tt
-rule_read {origin} {text} {rule} nodes texts e (IsRuleset.not_supported {at = at} s u) = unsupported_read nodes texts origin text (rule.at + at) e
+rule_read {origin = origin} {text = text} {rule = rule} nodes texts e (IsRuleset.not_supported {at = at} s u) = unsupported_read nodes texts origin text (rule.at + at) e
 rule_read nodes texts e (IsRuleset.nothing_there n) = tt
 
-rules_read : {rules : List Placed} {r : Result (List Ruleset) Refused} (nodes : List Node) (texts : List (List ℕ)) → AllByRecursion (Stands nodes texts) rules → Each (λ p. IsRuleset p.origin p.text p.rule) rules r → Read nodes texts r
+rules_read : {which : Option Pseudo} {rules : List Placed} {r : Result (List Ruleset) Refused} (nodes : List Node) (texts : List (List ℕ)) → AllByRecursion (Stands nodes texts) rules → Each (λ p. IsRuleset which p.origin p.text p.rule) rules r → Read nodes texts r
 rules_read nodes texts h Each.nothing = tt
 rules_read nodes texts h (Each.joined {ys = ys} {zs = zs} g more) = all_append (IsStatedRuleset nodes texts) ys zs (rule_read nodes texts h.0 g) (rules_read nodes texts h.1 more)
 rules_read nodes texts h (Each.refused g) = rule_read nodes texts h.0 g
@@ -152,8 +154,8 @@ rules_stand nodes texts n (t ∷ rest) (s ∷ sheets) h =
     (placed_stand nodes texts (sheet_origin n) t s.rules (origin_stands nodes texts n ∙ rest_here n t rest texts h))
     (rules_stand nodes texts (suc n) rest sheets (rest_more n t rest texts h))
 
-pub rulesets_read : (nodes : List Node) (texts : List (List ℕ)) (sheets : List Sheet) (r : Result (List Ruleset) Refused) → AreRulesets texts sheets r → Read nodes texts r
-rulesets_read nodes texts sheets r h = rules_read nodes texts (rules_stand nodes texts 0 texts sheets (rest_whole texts)) h
+pub rulesets_read : (which : Option Pseudo) (nodes : List Node) (texts : List (List ℕ)) (sheets : List Sheet) (r : Result (List Ruleset) Refused) → AreRulesets which texts sheets r → Read nodes texts r
+rulesets_read which nodes texts sheets r h = rules_read nodes texts (rules_stand nodes texts 0 texts sheets (rest_whole texts)) h
 
 -- ---- what applies to a node
 
@@ -181,3 +183,7 @@ all_applied_stated {nodes} {n = n} texts node at is h (AreApplied.to_element {e 
     (each_all (IsStatedRuleset nodes texts) (λ a. IsStated nodes texts a.claim) (λ one s g k. applies_stated texts g k) h applies)
     (applied_stated nodes texts style_spec style (styled_stated nodes texts (λ text k. ap (option_and_then (λ (m : Node). style_text m.body)) at ∙ ap style_text is ∙ k) says))
 all_applied_stated texts node at is h AreApplied.to_text = tt
+
+pub all_beside_stated : {nodes : List Node} {rulesets : List Ruleset} {n : ℕ} {body : Body} {all : List Applied} (texts : List (List ℕ)) → AllByRecursion (IsStatedRuleset nodes texts) rulesets → AreAppliedBeside nodes rulesets n body all → AreStatedApplied nodes texts all
+all_beside_stated {nodes} texts h (AreAppliedBeside.to_element applies) = each_all (IsStatedRuleset nodes texts) (λ a. IsStated nodes texts a.claim) (λ one s g k. applies_stated texts g k) h applies
+all_beside_stated texts h AreAppliedBeside.to_text = tt

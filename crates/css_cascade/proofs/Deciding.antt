@@ -171,6 +171,7 @@ once prop.LetterSpacing f x = refl
 once prop.WordSpacing f x = refl
 once prop.TextTransform f x = refl
 once prop.ListStylePosition f x = refl
+once prop.Content f x = refl
 
 passed : (p q : Prop) (s : Spec) (b o : Option Applied) (cs : List Claim) → HasProp q o → is_prop q p ≡ false → winner_on p b (map (applied s) (claims_in o ++ cs)) ≡ winner_on p b (map (applied s) cs)
 passed p q s b None cs h f = refl

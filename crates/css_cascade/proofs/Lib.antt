@@ -16,3 +16,10 @@ pub mod Standing
 pub mod Repeating
 pub mod Lacking
 pub mod OneCascade
+pub mod Places
+pub mod Hiding
+pub mod Besides
+pub mod Judged
+pub mod Firsts
+pub mod PseudoOutcomes
+pub mod OnePseudoCascade

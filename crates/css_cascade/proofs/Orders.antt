@@ -69,7 +69,7 @@ one_among : (replaced : Bool) (outer : Standing) (p : Prop) (o : Option Applied)
 one_among replaced outer p None rest ps e h = passed h
 one_among replaced outer p (Some a) rest ps e h = either_among (is_refused replaced outer a.claim) p a.claim (settings_of replaced outer rest) ps e h
 
-each_among : (replaced : Bool) (outer : Standing) (all : List Applied) (ps : List Prop) → IsAmong (props (settings_of replaced outer (flat_map (λ p. winners_for p all) ps))) ps
+pub each_among : (replaced : Bool) (outer : Standing) (all : List Applied) (ps : List Prop) → IsAmong (props (settings_of replaced outer (flat_map (λ p. winners_for p all) ps))) ps
 each_among replaced outer all [] = none
 each_among replaced outer all (p ∷ ps) = one_among replaced outer p (winner_of p all) (flat_map (λ q. winners_for q all) ps) ps (winner_has p all) (each_among replaced outer all ps)
 

@@ -49,7 +49,7 @@ greatest_all : (nodes : List Node) (texts : List (List ℕ)) (all : List Applied
 greatest_all nodes texts [] h = tt
 greatest_all nodes texts (a ∷ all) h = (from_all (λ x. IsStated nodes texts x.claim) a all h.0 h.1, tt)
 
-each_winner : (nodes : List Node) (texts : List (List ℕ)) (all : List Applied) (ps : List Prop) → AreStatedApplied nodes texts all → AreStated nodes texts (flat_map (λ p. winners_for p all) ps)
+pub each_winner : (nodes : List Node) (texts : List (List ℕ)) (all : List Applied) (ps : List Prop) → AreStatedApplied nodes texts all → AreStated nodes texts (flat_map (λ p. winners_for p all) ps)
 each_winner nodes texts all [] h = tt
 each_winner nodes texts all (p ∷ ps) h =
     all_append (IsStated nodes texts) (winners_for p all) (flat_map (λ q. winners_for q all) ps)
@@ -66,7 +66,7 @@ setting_allowed : (nodes : List Node) (texts : List (List ℕ)) (b : Bool) (c : 
 setting_allowed nodes texts true c h = tt
 setting_allowed nodes texts false c h = value_allowed nodes texts c c.value refl h
 
-settings_allowed : (nodes : List Node) (texts : List (List ℕ)) (replaced : Bool) (outer : Standing) (cs : List Claim) → AreStated nodes texts cs → AllByRecursion IsAllowed (settings_of replaced outer cs)
+pub settings_allowed : (nodes : List Node) (texts : List (List ℕ)) (replaced : Bool) (outer : Standing) (cs : List Claim) → AreStated nodes texts cs → AllByRecursion IsAllowed (settings_of replaced outer cs)
 settings_allowed nodes texts replaced outer [] h = tt
 settings_allowed nodes texts replaced outer (c ∷ cs) h =
     all_append IsAllowed (settings_by replaced outer c) (settings_of replaced outer cs) (setting_allowed nodes texts (is_refused replaced outer c) c h.0) (settings_allowed nodes texts replaced outer cs h.1)
@@ -102,10 +102,10 @@ node_stated {nodes} {node = node} texts at h (comes_to {all = all} applies) = ju
 
 -- ---- all nodes
 
-abbrev IsOneNode : List Setting → Type 0
+abbrev pub IsOneNode : List Setting → Type 0
 IsOneNode settings = IsInOrder settings × AllByRecursion IsAllowed settings
 
-abbrev Ends : List Node → List (List ℕ) → Result (List (List Setting)) Fault → Type 0
+abbrev pub Ends : List Node → List (List ℕ) → Result (List (List Setting)) Fault → Type 0
 Ends nodes texts (Ok all) = (length all ≡ length nodes) × AllByRecursion IsOneNode all
 Ends nodes texts (Err fault) = IsPlaced nodes texts fault
 
@@ -123,19 +123,19 @@ goes_ends {nodes} texts good (Goes.goes_on {winners = winners} {node = node} {re
     (subst (λ n. IsRest n rest nodes) (sym longer) (rest_more (length winners) node rest nodes from))
     (omega arith)
 
-selector_placed : (nodes : List Node) (texts : List (List ℕ)) (sheet at : ℕ) → IsInRange texts (sheet, at) → Ends nodes texts (Err (selector_at sheet at))
+pub selector_placed : (nodes : List Node) (texts : List (List ℕ)) (sheet at : ℕ) → IsInRange texts (sheet, at) → Ends nodes texts (Err (selector_at sheet at))
 selector_placed nodes texts sheet at h = slice_get_within texts (suc sheet) h.0 h.1
 
 cascade_ends : (nodes : List Node) (texts : List (List ℕ)) (sheets : List Sheet) (answer : Result (List (List Setting)) Fault) → IsCascade nodes texts sheets answer → Ends nodes texts answer
-cascade_ends nodes texts sheets _ (IsCascade.refused_selector {sheet = sheet} {at = at} r) = selector_placed nodes texts sheet at (rulesets_read nodes texts sheets _ r)
+cascade_ends nodes texts sheets _ (IsCascade.refused_selector {sheet = sheet} {at = at} r) = selector_placed nodes texts sheet at (rulesets_read None nodes texts sheets _ r)
 cascade_ends nodes texts sheets answer (IsCascade.cascaded {rulesets = rulesets} r goes) =
-    goes_ends texts (rulesets_read nodes texts sheets (Ok rulesets) r) goes tt (rest_whole nodes) (let e : length nodes ≡ 0 + length nodes = omega arith in e)
+    goes_ends texts (rulesets_read None nodes texts sheets (Ok rulesets) r) goes tt (rest_whole nodes) (let e : length nodes ≡ 0 + length nodes = omega arith in e)
 
-orders_of : (all : List (List Setting)) → AllByRecursion IsOneNode all → AllByRecursion IsInOrder all
+pub orders_of : (all : List (List Setting)) → AllByRecursion IsOneNode all → AllByRecursion IsInOrder all
 orders_of [] h = tt
 orders_of (x ∷ all) h = (h.0.0, orders_of all h.1)
 
-values_of : (all : List (List Setting)) → AllByRecursion IsOneNode all → AllByRecursion (AllByRecursion IsAllowed) all
+pub values_of : (all : List (List Setting)) → AllByRecursion IsOneNode all → AllByRecursion (AllByRecursion IsAllowed) all
 values_of [] h = tt
 values_of (x ∷ all) h = (h.0.1, values_of all h.1)
 

@@ -1,6 +1,7 @@
 -- What a loop over items has joined, and what the rest gives behind it.
-use Rattle.std.proofs.Common.{◌≡◌, ℕ, ◌+◌, ◌<◌, ◌≤◌, List, [], ◌∷◌, ◌++◌, length, drop, get_or, map, Result, Ok, Err, refl, sym, ap, subst, append_assoc, add-one}
+use Rattle.std.proofs.Common.{◌≡◌, ℕ, ◌+◌, ◌<◌, ◌≤◌, List, [], ◌∷◌, ◌++◌, length, drop, get_or, map, Option, Result, Ok, Err, refl, sym, ap, subst, append_assoc, add-one}
 use Rattle.std.proofs.lemmas.List.{append-nil, drop_all}
+use Rattle.viz_base.specs.declared.selectors.Pseudo.{Pseudo}
 use Rattle.viz_base.specs.declared.sheets.Rule.{Rule}
 use Rattle.viz_base.specs.declared.sheets.Sheet.{Sheet}
 use Rattle.viz_base.proofs.ListLemmas.{drop_at}
@@ -40,50 +41,50 @@ reached_end {Gives = Gives} {xs = xs} {i = i} {items = items} h r = subst (λ al
 
 -- ---- what reads the rules of one sheet after another
 
-abbrev Rulesets : Placed → Result (List Ruleset) Refused → Type 0
-Rulesets p answer = IsRuleset p.origin p.text p.rule answer
+abbrev Rulesets : Option Pseudo → Placed → Result (List Ruleset) Refused → Type 0
+Rulesets which p answer = IsRuleset which p.origin p.text p.rule answer
 
-pub record ReachedSheets (texts : List (List ℕ)) (sheets : List Sheet) (at : ℕ) (items : List Ruleset) : Type 0 where
-  pub goes : (answer : Result (List Ruleset) Refused) → Each Rulesets (rules_from at (drop at texts) (drop at sheets)) answer → AreRulesets texts sheets (behind items answer)
+pub record ReachedSheets (which : Option Pseudo) (texts : List (List ℕ)) (sheets : List Sheet) (at : ℕ) (items : List Ruleset) : Type 0 where
+  pub goes : (answer : Result (List Ruleset) Refused) → Each (Rulesets which) (rules_from at (drop at texts) (drop at sheets)) answer → AreRulesets which texts sheets (behind items answer)
 
-pub sheets_start : (texts : List (List ℕ)) (sheets : List Sheet) → ReachedSheets texts sheets 0 []
-sheets_start texts sheets = record { goes = λ answer h. subst (AreRulesets texts sheets) (behind_nothing answer) h }
+pub sheets_start : (which : Option Pseudo) (texts : List (List ℕ)) (sheets : List Sheet) → ReachedSheets which texts sheets 0 []
+sheets_start which texts sheets = record { goes = λ answer h. subst (AreRulesets which texts sheets) (behind_nothing answer) h }
 
 -- the rules of one sheet before others
-before_others : (o : Origin) (t : List ℕ) (rules : List Rule) (rest : List Placed) (read : Result (List Ruleset) Refused) (ys : List Ruleset) (answer : Result (List Ruleset) Refused) → Each (IsRuleset o t) rules read → read ≡ Ok ys → Each Rulesets rest answer → Each Rulesets (map (placed o t) rules ++ rest) (behind ys answer)
-before_others o t [] rest _ ys answer nothing e h = let same : [] ≡ ys = cc in subst (λ zs. Each Rulesets rest (behind zs answer)) same (subst (Each Rulesets rest) (behind_nothing answer) h)
-before_others o t (r ∷ rs) rest _ ys answer (joined {ys = us} {zs = vs} g k) e h =
+before_others : (which : Option Pseudo) (o : Origin) (t : List ℕ) (rules : List Rule) (rest : List Placed) (read : Result (List Ruleset) Refused) (ys : List Ruleset) (answer : Result (List Ruleset) Refused) → Each (IsRuleset which o t) rules read → read ≡ Ok ys → Each (Rulesets which) rest answer → Each (Rulesets which) (map (placed o t) rules ++ rest) (behind ys answer)
+before_others which o t [] rest _ ys answer nothing e h = let same : [] ≡ ys = cc in subst (λ zs. Each (Rulesets which) rest (behind zs answer)) same (subst (Each (Rulesets which) rest) (behind_nothing answer) h)
+before_others which o t (r ∷ rs) rest _ ys answer (joined {ys = us} {zs = vs} g k) e h =
     let same : us ++ vs ≡ ys = cc in
-    subst (λ zs. Each Rulesets (placed o t r ∷ (map (placed o t) rs ++ rest)) (behind zs answer)) same
-    (subst (Each Rulesets (placed o t r ∷ (map (placed o t) rs ++ rest))) (behind_both us vs answer) (one_more us (behind vs answer) g (before_others o t rs rest (Ok vs) vs answer k refl h)))
-before_others o t (r ∷ rs) rest _ ys answer (refused g) e h = cc
-before_others o t (r ∷ rs) rest _ ys answer (refused_behind g k) e h = cc
+    subst (λ zs. Each (Rulesets which) (placed o t r ∷ (map (placed o t) rs ++ rest)) (behind zs answer)) same
+    (subst (Each (Rulesets which) (placed o t r ∷ (map (placed o t) rs ++ rest))) (behind_both us vs answer) (one_more us (behind vs answer) g (before_others which o t rs rest (Ok vs) vs answer k refl h)))
+before_others which o t (r ∷ rs) rest _ ys answer (refused g) e h = cc
+before_others which o t (r ∷ rs) rest _ ys answer (refused_behind g k) e h = cc
 
-refused_before : (o : Origin) (t : List ℕ) (rules : List Rule) (rest : List Placed) (read : Result (List Ruleset) Refused) (e : Refused) → Each (IsRuleset o t) rules read → read ≡ Err e → Each Rulesets (map (placed o t) rules ++ rest) (Err e)
-refused_before o t [] rest _ e nothing is = cc
-refused_before o t (r ∷ rs) rest _ e (joined g k) is = cc
-refused_before o t (r ∷ rs) rest _ e (refused {e = f} g) is = let same : f ≡ e = cc in subst (λ x. Each Rulesets (placed o t r ∷ (map (placed o t) rs ++ rest)) (Err x)) same (refused g)
-refused_before o t (r ∷ rs) rest _ e (refused_behind g k) is = refused_behind g (refused_before o t rs rest _ e k is)
+refused_before : (which : Option Pseudo) (o : Origin) (t : List ℕ) (rules : List Rule) (rest : List Placed) (read : Result (List Ruleset) Refused) (e : Refused) → Each (IsRuleset which o t) rules read → read ≡ Err e → Each (Rulesets which) (map (placed o t) rules ++ rest) (Err e)
+refused_before which o t [] rest _ e nothing is = cc
+refused_before which o t (r ∷ rs) rest _ e (joined g k) is = cc
+refused_before which o t (r ∷ rs) rest _ e (refused {e = f} g) is = let same : f ≡ e = cc in subst (λ x. Each (Rulesets which) (placed o t r ∷ (map (placed o t) rs ++ rest)) (Err x)) same (refused g)
+refused_before which o t (r ∷ rs) rest _ e (refused_behind g k) is = refused_behind g (refused_before which o t rs rest _ e k is)
 
 rules_at : (texts : List (List ℕ)) (sheets : List Sheet) (at : ℕ) (t : List ℕ) (s : Sheet) → at < length texts → t ≡ get_or texts at t → at < length sheets → s ≡ get_or sheets at s → rules_from at (drop at texts) (drop at sheets) ≡ map (placed (sheet_origin at) t) s.rules ++ rules_from (at + 1) (drop (at + 1) texts) (drop (at + 1) sheets)
 rules_at texts sheets at t s l e m f = rw (drop_at texts at t l e, drop_at sheets at s m f, add-one) refl
 
-pub sheets_more : (texts : List (List ℕ)) (sheets : List Sheet) (at : ℕ) (items : List Ruleset) (t : List ℕ) (s : Sheet) (ys : List Ruleset) → at < length texts → t ≡ get_or texts at t → at < length sheets → s ≡ get_or sheets at s → ReachedSheets texts sheets at items → Each (IsRuleset (sheet_origin at) t) s.rules (Ok ys) → ReachedSheets texts sheets (at + 1) (items ++ ys)
-sheets_more texts sheets at items t s ys l e m f r k = record {
-  goes = λ answer h. subst (AreRulesets texts sheets) (behind_both items ys answer)
-      (r.goes (behind ys answer) (subst (λ rules. Each Rulesets rules (behind ys answer)) (sym (rules_at texts sheets at t s l e m f)) (before_others (sheet_origin at) t s.rules _ (Ok ys) ys answer k refl h)));
+pub sheets_more : (which : Option Pseudo) (texts : List (List ℕ)) (sheets : List Sheet) (at : ℕ) (items : List Ruleset) (t : List ℕ) (s : Sheet) (ys : List Ruleset) → at < length texts → t ≡ get_or texts at t → at < length sheets → s ≡ get_or sheets at s → ReachedSheets which texts sheets at items → Each (IsRuleset which (sheet_origin at) t) s.rules (Ok ys) → ReachedSheets which texts sheets (at + 1) (items ++ ys)
+sheets_more which texts sheets at items t s ys l e m f r k = record {
+  goes = λ answer h. subst (AreRulesets which texts sheets) (behind_both items ys answer)
+      (r.goes (behind ys answer) (subst (λ rules. Each (Rulesets which) rules (behind ys answer)) (sym (rules_at texts sheets at t s l e m f)) (before_others which (sheet_origin at) t s.rules _ (Ok ys) ys answer k refl h)));
 }
 
-pub sheets_refusal : (texts : List (List ℕ)) (sheets : List Sheet) (at : ℕ) (items : List Ruleset) (t : List ℕ) (s : Sheet) (x : Refused) → at < length texts → t ≡ get_or texts at t → at < length sheets → s ≡ get_or sheets at s → ReachedSheets texts sheets at items → Each (IsRuleset (sheet_origin at) t) s.rules (Err x) → AreRulesets texts sheets (Err x)
-sheets_refusal texts sheets at items t s x l e m f r k =
-    r.goes (Err x) (subst (λ rules. Each Rulesets rules (Err x)) (sym (rules_at texts sheets at t s l e m f)) (refused_before (sheet_origin at) t s.rules _ (Err x) x k refl))
+pub sheets_refusal : (which : Option Pseudo) (texts : List (List ℕ)) (sheets : List Sheet) (at : ℕ) (items : List Ruleset) (t : List ℕ) (s : Sheet) (x : Refused) → at < length texts → t ≡ get_or texts at t → at < length sheets → s ≡ get_or sheets at s → ReachedSheets which texts sheets at items → Each (IsRuleset which (sheet_origin at) t) s.rules (Err x) → AreRulesets which texts sheets (Err x)
+sheets_refusal which texts sheets at items t s x l e m f r k =
+    r.goes (Err x) (subst (λ rules. Each (Rulesets which) rules (Err x)) (sym (rules_at texts sheets at t s l e m f)) (refused_before which (sheet_origin at) t s.rules _ (Err x) x k refl))
 
 no_rules : (at : ℕ) (texts : List (List ℕ)) (sheets : List Sheet) → sheets ≡ [] → rules_from at texts sheets ≡ []
 no_rules at [] sheets e = refl
 no_rules at (t ∷ texts) [] e = refl
 no_rules at (t ∷ texts) (s ∷ sheets) e = cc
 
-pub sheets_end : (texts : List (List ℕ)) (sheets : List Sheet) (at : ℕ) (items : List Ruleset) → length sheets ≤ at → ReachedSheets texts sheets at items → AreRulesets texts sheets (Ok items)
-sheets_end texts sheets at items h r =
-    subst (λ all. AreRulesets texts sheets (Ok all)) (append-nil items)
-    (r.goes (Ok []) (subst (λ rules. Each Rulesets rules (Ok [])) (sym (no_rules at (drop at texts) (drop at sheets) (drop_all at sheets h))) nothing))
+pub sheets_end : (which : Option Pseudo) (texts : List (List ℕ)) (sheets : List Sheet) (at : ℕ) (items : List Ruleset) → length sheets ≤ at → ReachedSheets which texts sheets at items → AreRulesets which texts sheets (Ok items)
+sheets_end which texts sheets at items h r =
+    subst (λ all. AreRulesets which texts sheets (Ok all)) (append-nil items)
+    (r.goes (Ok []) (subst (λ rules. Each (Rulesets which) rules (Ok [])) (sym (no_rules at (drop at texts) (drop at sheets) (drop_all at sheets h))) nothing))

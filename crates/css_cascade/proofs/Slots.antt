@@ -52,6 +52,7 @@ put_at prop.LetterSpacing a f = refl
 put_at prop.WordSpacing a f = refl
 put_at prop.TextTransform a f = refl
 put_at prop.ListStylePosition a f = refl
+put_at prop.Content a f = refl
 
 kept_map : (a : Applied) (f : Prop → Option Applied) → kept (map f properties) a ≡ map (λ p. winner_with p (f p) a) properties
 kept_map a f = put_at a.claim.prop a f

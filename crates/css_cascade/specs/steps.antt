@@ -1,4 +1,6 @@
 pub mod Seen
+pub mod Chosen
+pub mod Beside
 pub mod Trimming
 pub mod Buckets
 pub mod Present

@@ -48,7 +48,7 @@ pub fn applied<'a: 'b, 'b>(
     requires siblings { AreSiblings page.now.nodes siblings.now }
     requires trimmed { AllByRecursion IsTrimmed rulesets.now }
     requires buckets { AreBuckets page.now.nodes (map rules_of rulesets.now) buckets.now }
-    ensures len { IfOk result (λ best. length best.items ≡ 39) }
+    ensures len { IfOk result (λ best. length best.items ≡ 40) }
     ensures kept { IfOk result (λ best. AreKept page.now.nodes node rulesets.now style.now
         (map (option_map seen) best.items)) }
 {

@@ -122,7 +122,8 @@ fn cascade_nodes(
 
 /// What wins at each node of a page for each property, of the declarations of the sheets and of the style attributes
 /// (CSS 2.1, 6.4): for each node a list in the order of the table of properties, without what no declaration sets and
-/// without what is refused and refuses nothing. The first sheet is the default one, and those behind it the author's.
+/// without what is refused and refuses nothing, as `content` on an element. The first sheet is the default one, and
+/// those behind it the author's. Selectors with a pseudo-element are left out.
 ///
 /// `Selector` for the first selector in an author's sheet that is refused by name, at its place in the sheet; `Value`,
 /// where no selector is refused, for the first node that isn't hidden at which a refused value wins, and there for the
@@ -139,7 +140,7 @@ pub fn cascade(
     ensures lists { IfOk result (λ c. AreWinners page.now.nodes c.winners) }
     ensures places { IfErr result (λ fault. IfSome (refusal_of fault) (IsPlaced page.now.nodes texts.now)) }
 {
-    let rulesets = read_rulesets(alloc, texts, sheets)?;
+    let rulesets = read_rulesets(alloc, None, texts, sheets)?;
     let trimmed = trim(alloc, &rulesets)?;
     let buckets = buckets_of(alloc, page, &trimmed)?;
     // Without the table `+` and `:first-child` would walk back over texts at each node.

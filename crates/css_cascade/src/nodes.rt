@@ -79,7 +79,7 @@ fn is_refused(replaced: bool, outer: Standing, claim: &Claim) -> bool
 {
     match &claim.value {
         Some(value) => replaced && sets_limit(outer, claim.prop, value),
-        None => true,
+        None => claim.prop != Prop::Content,
     }
 }
 
@@ -106,7 +106,8 @@ fn hides(claim: &Claim) -> bool
     claim.prop == Prop::Display && matches!(claim.value, Some(Value::Word(0)))
 }
 
-fn has_hiding(winners: &[&Claim]) -> bool
+/// Whether `display: none` is among winners.
+pub fn has_hiding(winners: &[&Claim]) -> bool
     ensures { result ≡ list_any hides (map (λ c. c.now) winners.now) }
 {
     for winner in winners {
@@ -136,10 +137,24 @@ fn copied(alloc: Global, value: &Value) -> Result<Value, Mem>
         Value::Pct(n) => Value::Pct(*n),
         Value::Number(n) => Value::Number(*n),
         Value::Names(names) => Value::Names(names.clone()?),
+        Value::Chars(text) => Value::Chars(text.clone()?),
     })
 }
 
-/// What a winner sets, unless it is refused.
+/// What a winner sets, unless it is refused by name.
+pub fn set_by(alloc: Global, claim: &Claim) -> Result<Option<Setting>, Mem>
+    ensures { IfOk result (λ setting. option_to_list setting ≡ set_by claim.now.prop claim.now.value) }
+{
+    match &claim.value {
+        Some(value) => Ok(Some(Setting {
+            prop: claim.prop,
+            value: copied(alloc, value)?,
+        })),
+        None => Ok(None),
+    }
+}
+
+/// What a winner at a node sets, unless it is refused.
 fn setting_by(
     alloc: Global,
     replaced: bool,
@@ -151,13 +166,7 @@ fn setting_by(
     if is_refused(replaced, outer, claim) {
         return Ok(None);
     }
-    match &claim.value {
-        Some(value) => Ok(Some(Setting {
-            prop: claim.prop,
-            value: copied(alloc, value)?,
-        })),
-        None => Ok(None),
-    }
+    set_by(alloc, claim)
 }
 
 /// What the winners at a node set.

@@ -18,7 +18,7 @@ pub struct Applied<'a> {
 /// The place of a property in the table, in the order of which the properties are declared.
 fn place_of(prop: Prop) -> usize
     ensures place { result ≡ place_of prop }
-    ensures within { result < 39 }
+    ensures within { result < 40 }
 {
     // The variants stand in the order of the table.
     prop as usize
@@ -78,8 +78,8 @@ fn later_or<'a>(best: Option<Applied<'a>>, next: Applied<'a>) -> Applied<'a>
 
 /// Keeps the winner of each property, at its place in the table, behind one more setting.
 fn keep<'a>(best: &mut Vec<Option<Applied<'a>>>, next: Applied<'a>)
-    requires { length best.old.items ≡ 39 }
-    ensures len { length best.new.items ≡ 39 }
+    requires { length best.old.items ≡ 40 }
+    ensures len { length best.new.items ≡ 40 }
     ensures kept { map (option_map seen) best.new.items
         ≡ kept (map (option_map seen) best.old.items) (seen next.entry) }
 {
@@ -89,11 +89,11 @@ fn keep<'a>(best: &mut Vec<Option<Applied<'a>>>, next: Applied<'a>)
 
 /// No winner of any property.
 pub fn no_winners<'a>(alloc: Global) -> Result<Vec<Option<Applied<'a>>>, Mem>
-    ensures len { IfOk result (λ best. length best.items ≡ 39) }
+    ensures len { IfOk result (λ best. length best.items ≡ 40) }
     ensures none { IfOk result (λ best. map (option_map seen) best.items ≡ map (λ p. None) properties) }
 {
     let mut best = Vec::new(alloc);
-    for _slot in 0..39u32 {
+    for _slot in 0..40u32 {
         best.push(None)?;
     }
     Ok(best)
@@ -101,8 +101,8 @@ pub fn no_winners<'a>(alloc: Global) -> Result<Vec<Option<Applied<'a>>>, Mem>
 
 /// Keeps the winners behind what claims say, with this specificity.
 pub fn keep_claims<'a>(best: &mut Vec<Option<Applied<'a>>>, spec: Spec, claims: &'a [Claim])
-    requires { length best.old.items ≡ 39 }
-    ensures len { length best.new.items ≡ 39 }
+    requires { length best.old.items ≡ 40 }
+    ensures len { length best.new.items ≡ 40 }
     ensures kept { map (option_map seen) best.new.items
         ≡ kept_all (map (option_map seen) best.old.items) (map (applied spec) claims.now) }
 {
@@ -113,8 +113,8 @@ pub fn keep_claims<'a>(best: &mut Vec<Option<Applied<'a>>>, spec: Spec, claims: 
 
 /// The same for claims that stand elsewhere.
 pub fn keep_found<'a: 'b, 'b>(best: &mut Vec<Option<Applied<'b>>>, spec: Spec, claims: &[&'a Claim])
-    requires { length best.old.items ≡ 39 }
-    ensures len { length best.new.items ≡ 39 }
+    requires { length best.old.items ≡ 40 }
+    ensures len { length best.new.items ≡ 40 }
     ensures kept { map (option_map seen) best.new.items
         ≡ kept_all (map (option_map seen) best.old.items) (map (applied spec) (map (λ c. c.now) claims.now)) }
 {

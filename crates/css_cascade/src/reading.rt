@@ -6,11 +6,14 @@ ghost use Rattle.viz_base.specs.declared.settings.Setting.{Setting};
 ghost use Rattle.css_semantics.specs.declared.parts.Refusal.{Refusal};
 ghost use Rattle.css_semantics.specs.Shorthands.{Says};
 ghost use Rattle.css_semantics.specs.Specificity.{IsCountable};
-ghost use Rattle.css_semantics.specs.CascadeReading.{AreClaimed, AreRulesets, Each, IsClaimed, IsNoSlice, IsRanked, IsRuleset, IsSlice, claim_of, claims_of, sheet_origin, source_of, unsupported_at, weight_of};
-ghost use Rattle.css_select.specs.steps.Machine.{parts_of};
+ghost use Rattle.css_semantics.specs.CascadeReading.{AreClaimed, AreRulesets, Each, IsClaimed, IsNoSlice, IsRanked, IsRuleset, IsSlice, claim_of, claims_of, is_pseudo, sheet_origin, source_of, those_of, unsupported_at, weight_of};
+ghost use Rattle.css_semantics.specs.Spelled.{Spelled, spelled};
+ghost use Rattle.css_semantics.specs.SelectorGrammar.{IsGroupOf};
+ghost use Rattle.css_select.specs.Verdicts.{IsReadingOf};
 ghost use Rattle.css_select.specs.Refusals.{refusal_of as reason_of, unsupported_at as no_support_at};
-ghost use Rattle.viz_base.specs.Answers.{GivesOneOf};
+ghost use Rattle.viz_base.specs.Answers.{FailsWith, GivesOneOf};
 ghost use Rattle.css_cascade.specs.Faults.{BySelector, IsUnread, refusal_of};
+ghost use Rattle.css_cascade.specs.steps.Chosen.{IsRulesetOf};
 
 use crate::faults::CascadeFault;
 use crate::nodes::number;
@@ -18,7 +21,16 @@ use css_select::{SelFault, read_selector, specificity};
 use css_semantics::{Claim, Origin, Ranked, Ruleset, Weight};
 use css_value::{ValueFault, read_declaration};
 use std::alloc::{AllocError, Global};
-use viz_base::{Decl, List, Mem, Prop, Rule, Selector, Setting, Sheet, Source, Text, Value};
+use viz_base::{
+    Decl, List, Mem, Prop, Pseudo, Rule, Selector, Setting, Sheet, Source, Text, Value,
+};
+
+/// The text of a sheet, and where the sheet stands.
+#[derive(Clone, Copy)]
+struct SheetText<'a> {
+    origin: Origin,
+    text: &'a str,
+}
 
 /// A slice of a text, if it begins and ends at characters.
 pub fn slice(text: &str, at: u32, len: u32) -> Option<&str>
@@ -133,10 +145,56 @@ pub fn claims_in(
     Ok(List::from(claims))
 }
 
+/// Whether both are the same pseudo-element, or none.
+fn is_pseudo(which: Option<Pseudo>, pseudo: Option<Pseudo>) -> bool
+    ensures { result ≡ is_pseudo which pseudo }
+{
+    match (which, pseudo) {
+        (None, None) => true,
+        (Some(Pseudo::Before), Some(Pseudo::Before)) => true,
+        (Some(Pseudo::After), Some(Pseudo::After)) => true,
+        _ => false,
+    }
+}
+
+/// The selectors with a pseudo-element, or without one.
+fn those_of(
+    alloc: Global,
+    which: Option<Pseudo>,
+    selectors: List<Selector>,
+) -> Result<List<Selector>, Mem>
+    requires { AllByRecursion (λ s. IsCountable (spelled s)) selectors }
+    ensures those { IfOk result (λ those. map spelled those ≡ those_of which (map spelled selectors)) }
+    ensures countable { IfOk result (AllByRecursion (λ s. IsCountable (spelled s))) }
+{
+    let mut those = List::new(alloc);
+    for selector in selectors.into_vec() {
+        if is_pseudo(which, selector.pseudo) {
+            those.push(selector)?;
+        }
+    }
+    Ok(those)
+}
+
+/// The selectors of a group with a pseudo-element, or without one.
+fn read_those(
+    alloc: Global,
+    which: Option<Pseudo>,
+    selector: &str,
+) -> Result<List<Selector>, SelFault>
+    ensures those { IfOk result (λ those. (selectors : Seq Spelled) × IsGroupOf selector.now selectors
+        × (map spelled those ≡ those_of which selectors)) }
+    ensures unread { IfErr result (λ fault. FailsWith (reason_of fault) (IsReadingOf selector.now)) }
+    ensures countable { IfOk result (AllByRecursion (λ s. IsCountable (spelled s))) }
+{
+    let selectors = read_selector(alloc, selector)?;
+    Ok(those_of(alloc, which, selectors)?)
+}
+
 /// Selectors with their specificities.
 fn ranked(alloc: Global, selectors: List<Selector>) -> Result<List<Ranked>, Mem>
-    requires { AllByRecursion (λ s. IsCountable s.parts) selectors }
-    ensures { IfOk result (λ group. IsRanked group (map parts_of selectors)) }
+    requires { AllByRecursion (λ s. IsCountable (spelled s)) selectors }
+    ensures { IfOk result (λ group. IsRanked group (map spelled selectors)) }
 {
     let mut group = List::new(alloc);
     for selector in selectors.into_vec() {
@@ -175,15 +233,16 @@ fn unread(origin: Origin, rule: u32, fault: SelFault) -> Result<Option<Ruleset>,
     }
 }
 
-fn ruleset_of(
+/// The ruleset of these selectors of a rule.
+fn ruleset_by(
     alloc: Global,
     origin: Origin,
     text: &str,
     rule: &Rule,
     selectors: List<Selector>,
 ) -> Result<Ruleset, Mem>
-    requires { AllByRecursion (λ s. IsCountable s.parts) selectors }
-    ensures { IfOk result (λ read. IsRanked read.group (map parts_of selectors)
+    requires { AllByRecursion (λ s. IsCountable (spelled s)) selectors }
+    ensures { IfOk result (λ read. IsRanked read.group (map spelled selectors)
         × AreClaimed origin text.now rule.now.decls read.claims) }
 {
     Ok(Ruleset {
@@ -192,34 +251,54 @@ fn ruleset_of(
     })
 }
 
-/// The ruleset of a rule with this selector, if it can be read.
-fn ruleset_with(
+/// The ruleset of these selectors of a rule, if there is one.
+fn ruleset_of(
     alloc: Global,
     origin: Origin,
     text: &str,
+    rule: &Rule,
+    selectors: List<Selector>,
+) -> Result<Option<Ruleset>, Mem>
+    requires { AllByRecursion (λ s. IsCountable (spelled s)) selectors }
+    ensures { IfOk result (λ found. IsRulesetOf origin text.now rule.now (map spelled selectors) found) }
+{
+    // What such a rule declares is read for the cascade that it belongs to alone.
+    if selectors.is_empty() {
+        return Ok(None);
+    }
+    Ok(Some(ruleset_by(alloc, origin, text, rule, selectors)?))
+}
+
+/// The ruleset of a rule with this selector, if it can be read, and has such selectors.
+fn ruleset_with(
+    alloc: Global,
+    which: Option<Pseudo>,
+    sheet: SheetText<'_>,
     rule: &Rule,
     selector: &str,
 ) -> Result<Option<Ruleset>, CascadeFault>
-    requires { IsSlice text.now rule.now.at rule.now.len selector.now }
-    ensures { GivesOneOf option_to_list refusal_of result (BySelector (IsRuleset origin text.now rule.now)) }
+    requires { IsSlice sheet.text.now rule.now.at rule.now.len selector.now }
+    ensures { GivesOneOf option_to_list refusal_of result
+        (BySelector (IsRuleset which sheet.entry.origin sheet.entry.text.now rule.now)) }
 {
-    match read_selector(alloc, selector) {
-        Ok(selectors) => Ok(Some(ruleset_of(alloc, origin, text, rule, selectors)?)),
-        Err(fault) => unread(origin, rule.at, fault),
+    match read_those(alloc, which, selector) {
+        Ok(selectors) => Ok(ruleset_of(alloc, sheet.origin, sheet.text, rule, selectors)?),
+        Err(fault) => unread(sheet.origin, rule.at, fault),
     }
 }
 
-/// The ruleset of a rule, if its selector can be read.
+/// The ruleset of a rule, if its selector can be read, and has such selectors.
 fn ruleset_at(
     alloc: Global,
-    origin: Origin,
-    text: &str,
+    which: Option<Pseudo>,
+    sheet: SheetText<'_>,
     rule: &Rule,
 ) -> Result<Option<Ruleset>, CascadeFault>
-    ensures { GivesOneOf option_to_list refusal_of result (BySelector (IsRuleset origin text.now rule.now)) }
+    ensures { GivesOneOf option_to_list refusal_of result
+        (BySelector (IsRuleset which sheet.entry.origin sheet.entry.text.now rule.now)) }
 {
-    match slice(text, rule.at, rule.len) {
-        Some(selector) => ruleset_with(alloc, origin, text, rule, selector),
+    match slice(sheet.text, rule.at, rule.len) {
+        Some(selector) => ruleset_with(alloc, which, sheet, rule, selector),
         None => Ok(None),
     }
 }
@@ -233,19 +312,19 @@ fn push_found(rulesets: &mut Vec<Ruleset>, found: Option<Ruleset>) -> Result<(),
     Ok(())
 }
 
-/// The rulesets of a sheet.
+/// The rulesets of a sheet, by its selectors with a pseudo-element, or without one.
 fn rulesets_in(
     alloc: Global,
-    origin: Origin,
-    text: &str,
+    which: Option<Pseudo>,
+    sheet: SheetText<'_>,
     rules: &[Rule],
 ) -> Result<Vec<Ruleset>, CascadeFault>
     ensures { GivesOneOf (λ found. found.items) refusal_of result
-        (BySelector (Each (IsRuleset origin text.now) rules.now)) }
+        (BySelector (Each (IsRuleset which sheet.entry.origin sheet.entry.text.now) rules.now)) }
 {
     let mut rulesets = Vec::new(alloc);
     for rule in rules {
-        push_found(&mut rulesets, ruleset_at(alloc, origin, text, rule)?)?;
+        push_found(&mut rulesets, ruleset_at(alloc, which, sheet, rule)?)?;
     }
     Ok(rulesets)
 }
@@ -260,20 +339,26 @@ fn sheet_origin(at: usize) -> Result<Origin, Mem>
     }
 }
 
-/// The rulesets of sheets in order, the first of which is the default one.
+/// The rulesets of sheets in order, the first of which is the default one, by their selectors with a pseudo-element, or
+/// without one. For which media a rule is doesn't matter here.
 pub fn read_rulesets(
     alloc: Global,
+    which: Option<Pseudo>,
     texts: &[Text],
     sheets: &[Sheet],
 ) -> Result<Vec<Ruleset>, CascadeFault>
     requires { length texts.now ≡ length sheets.now }
-    ensures { GivesOneOf (λ found. found.items) refusal_of result (BySelector (AreRulesets texts.now sheets.now)) }
+    ensures { GivesOneOf (λ found. found.items) refusal_of result
+        (BySelector (AreRulesets which texts.now sheets.now)) }
 {
     let mut rulesets = Vec::new(alloc);
     for at in 0..sheets.len() {
         let origin = sheet_origin(at)?;
-        let rules = sheets[at].rules.as_slice();
-        rulesets.append(&mut rulesets_in(alloc, origin, texts[at].as_str(), rules)?)?;
+        let sheet = SheetText {
+            origin,
+            text: texts[at].as_str(),
+        };
+        rulesets.append(&mut rulesets_in(alloc, which, sheet, sheets[at].rules.as_slice())?)?;
     }
     Ok(rulesets)
 }

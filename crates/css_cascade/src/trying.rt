@@ -79,8 +79,8 @@ fn keep_rules<'a: 'b, 'b>(
     rulesets: &[Trimmed<'a>],
     found: Found,
 )
-    requires { length best.old.items ≡ 39 }
-    ensures len { length best.new.items ≡ 39 }
+    requires { length best.old.items ≡ 40 }
+    ensures len { length best.new.items ≡ 40 }
     ensures kept { map (option_map seen) best.new.items
         ≡ kept_all (map (option_map seen) best.old.items) (said rulesets.now found) }
 {
@@ -97,8 +97,8 @@ fn join<'a: 'b, 'b>(
     going: Option<Found>,
     next: Found,
 ) -> Found
-    requires { length best.old.items ≡ 39 }
-    ensures len { length best.new.items ≡ 39 }
+    requires { length best.old.items ≡ 40 }
+    ensures len { length best.new.items ≡ 40 }
     ensures goes { (behind : Seq Found) →
         Behind rulesets.now (map (option_map seen) best.new.items) (Some result) behind
         ≡ Behind rulesets.now (map (option_map seen) best.old.items) going (next ∷ behind) }
@@ -128,9 +128,9 @@ fn try_one<'a: 'b, 'b>(
     going: Option<Found>,
     candidate: &Candidate<'_>,
 ) -> Option<Found>
-    requires len { length best.old.items ≡ 39 }
+    requires len { length best.old.items ≡ 40 }
     requires siblings { AreSiblings page.now.nodes siblings.now }
-    ensures len { length best.new.items ≡ 39 }
+    ensures len { length best.new.items ≡ 40 }
     ensures tried { IsTried page.now.nodes node (numbered candidate.now)
         (Behind rulesets.now (map (option_map seen) best.old.items) going)
         (Behind rulesets.now (map (option_map seen) best.new.items) result) }
@@ -153,8 +153,8 @@ fn keep_last<'a: 'b, 'b>(
     rulesets: &[Trimmed<'a>],
     going: Option<Found>,
 )
-    requires { length best.old.items ≡ 39 }
-    ensures len { length best.new.items ≡ 39 }
+    requires { length best.old.items ≡ 40 }
+    ensures len { length best.new.items ≡ 40 }
     ensures kept { map (option_map seen) best.new.items
         ≡ Behind rulesets.now (map (option_map seen) best.old.items) going [] }
 {
@@ -173,11 +173,11 @@ pub fn try_all<'a: 'b, 'b>(
     candidates: &[Candidate<'_>],
     numbers: &[usize],
 )
-    requires len { length best.old.items ≡ 39 }
+    requires len { length best.old.items ≡ 40 }
     requires siblings { AreSiblings page.now.nodes siblings.now }
     requires rise { Rises 0 numbers.now }
     requires all { AreAll page.now.nodes node (map numbered candidates.now) numbers.now }
-    ensures len { length best.new.items ≡ 39 }
+    ensures len { length best.new.items ≡ 40 }
     ensures tried { AreTried page.now.nodes node rulesets.now (map numbered candidates.now)
         (map (option_map seen) best.old.items) (map (option_map seen) best.new.items) }
 {

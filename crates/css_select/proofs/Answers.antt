@@ -13,7 +13,7 @@ use Rattle.css_token.proofs.SequenceLemmas.{pieces_exist}
 use Rattle.css_semantics.specs.SelectorTerminals.{without_comments}
 use Rattle.css_select.specs.declared.faults.SelFault.{SelFault}
 use Rattle.css_select.specs.declared.faults.SelFault.TheVariants.{Mem, Bad, Unsupported}
-use Rattle.css_select.specs.steps.Machine.{parts_of}
+use Rattle.css_semantics.specs.Spelled.{spelled}
 use Rattle.css_select.specs.Refusals.{refusal_of, unsupported_at, bad_at}
 use Rattle.css_select.specs.Verdicts.{Verdict, IsReading, IsReadingOf, verdict_of}
 use Rattle.viz_base.specs.Answers.{Gives, GivesOneOf}
@@ -51,14 +51,14 @@ read_is : (text : List ℕ) (ts : List Token) (end : ℕ) (v : Verdict) → AreT
 read_is text ts end v h e is = of_told text v (ts, h, subst (λ n. IsReading n (without_comments ts) v) e (subst (IsReading end (without_comments ts)) is (reads_all end ts)))
 
 -- the answer for the tokens is one for the text
-pub answers : (text : List ℕ) (ts given : List Token) (end : ℕ) (result : Result (List Selector) SelFault) → AreTokens text ts → end ≡ length text → given ≡ ts → Gives (map parts_of) refusal_of result (verdict_of end given)
-    → GivesOneOf (map parts_of) refusal_of result (IsReadingOf text)
-answers text ts given end (Ok group) h e g s = read_is text ts end (Ok (map parts_of group)) h e (ap (verdict_of end) (sym g) ∙ s)
+pub answers : (text : List ℕ) (ts given : List Token) (end : ℕ) (result : Result (List Selector) SelFault) → AreTokens text ts → end ≡ length text → given ≡ ts → Gives (map spelled) refusal_of result (verdict_of end given)
+    → GivesOneOf (map spelled) refusal_of result (IsReadingOf text)
+answers text ts given end (Ok group) h e g s = read_is text ts end (Ok (map spelled group)) h e (ap (verdict_of end) (sym g) ∙ s)
 answers text ts given end (Err Mem) h e g s = tt
 answers text ts given end (Err (Bad place)) h e g s = read_is text ts end (Err (bad_at place)) h e (ap (verdict_of end) (sym g) ∙ s)
 answers text ts given end (Err (Unsupported place)) h e g s = read_is text ts end (Err (unsupported_at place)) h e (ap (verdict_of end) (sym g) ∙ s)
 
 -- the selectors of a group are countable
-pub countable : (text : List ℕ) (result : Result (List Selector) SelFault) → IsUtf8 text → length text < 2 ^ 32 → GivesOneOf (map parts_of) refusal_of result (IsReadingOf text) → IfOk result (All (λ (s : Selector). IsCountable s.parts))
+pub countable : (text : List ℕ) (result : Result (List Selector) SelFault) → IsUtf8 text → length text < 2 ^ 32 → GivesOneOf (map spelled) refusal_of result (IsReadingOf text) → IfOk result (All (λ (s : Selector). IsCountable (spelled s)))
 countable text (Ok group) u small h = are_countable text group u small h
 countable text (Err fault) u small h = tt

@@ -12,14 +12,16 @@ use Rattle.css_semantics.specs.declared.terminals.Terminal.{Terminal}
 use Rattle.css_semantics.specs.declared.terminals.Terminal.TheVariants as a
 use Rattle.css_semantics.specs.SelectorTerminals.{terminal, name_of, comparison, compared, is_value}
 use Rattle.css_semantics.specs.SheetsMarks.{text_of}
-use Rattle.css_semantics.specs.SelectorGrammar.{IsGap, IsTest, id, class, has, compares, pseudo_class, language, AreTests, no_test, one_more, IsHead, nothing, star, tag, IsBody, IsCompound, IsCombinator, descendant, child, adjacent, IsFront, at_start, further, IsLast, plain, with_element, IsSelectorText, selector, AreEarlier, none_earlier, one_later, IsGroup, selectors}
+use Rattle.css_semantics.specs.Spelled.{Spelled}
+use Rattle.viz_base.specs.declared.selectors.Pseudo.{Pseudo}
+use Rattle.css_semantics.specs.SelectorGrammar.{IsGap, IsTest, id, class, has, compares, pseudo_class, language, AreTests, no_test, one_more, IsHead, nothing, star, tag, IsBody, IsCompound, IsCombinator, descendant, child, adjacent, IsFront, at_start, further, IsLast, plain, generated, two_colons, with_refused, IsSelectorText, selector, AreEarlier, none_earlier, one_later, IsGroup, selectors}
 use Rattle.css_select.specs.declared.reading.Place.{Place}
-use Rattle.css_select.specs.declared.reading.Place.TheVariants.{Fresh, Compound as InCompound, Gap, Dot, Colon, Language, LanguageEnd, Element, Bracket, Name, Sign, Value}
-use Rattle.css_select.specs.steps.Machine.{State, initial, at, empty, ended, joined, may_end, or_first, refused as refused_at, tested, then_run, step, step_at, step_fresh, step_function, step_gap, step_name, step_pseudo, step_sign, step_test, step_value}
+use Rattle.css_select.specs.declared.reading.Place.TheVariants.{Fresh, Compound as InCompound, Gap, Dot, Colon, Colons, Language, LanguageEnd, Element, Bracket, Name, Sign, Value}
+use Rattle.css_select.specs.steps.Machine.{State, initial, at, empty, ended, joined, may_end, or_first, pseudo_at, refused as refused_at, tested, then_run, step, step_at, step_fresh, step_function, step_gap, step_generated, step_name, step_pseudo, step_sign, step_test, step_value}
 use Rattle.css_select.proofs.Following.{follow, follow_on}
 use Rattle.css_select.proofs.Held.{Part, first_of}
 
-abbrev pub st : Place → List (List Part) → List Part → Join → Compound → Option ℕ → State
+abbrev pub st : Place → List Spelled → List Part → Join → Compound → Option ℕ → State
 st place group parts join c first = record { place = place; group = group; parts = parts; join = join; compound = c; refused = first }
 
 -- the first refused selector behind more of them
@@ -62,7 +64,7 @@ starts_test _ = false
 record Enters (s : State) : Type 0 where
   enters : (t : Token) (sign : Terminal) → starts_test sign ≡ true → terminal t ≡ sign → step s t ≡ step_test (at s Fresh) t sign
 
-fresh_enters : (group : List (List Part)) (parts : List Part) (join : Join) (c : Compound) (first : Option ℕ) (t : Token) (sign : Terminal) → starts_test sign ≡ true → terminal t ≡ sign
+fresh_enters : (group : List Spelled) (parts : List Part) (join : Join) (c : Compound) (first : Option ℕ) (t : Token) (sign : Terminal) → starts_test sign ≡ true → terminal t ≡ sign
     → step (st Fresh group parts join c first) t ≡ step_test (st Fresh group parts join c first) t sign
 fresh_enters group parts join c first t a.Id e k = ap (step_at Fresh (st Fresh group parts join c first) t) k
 fresh_enters group parts join c first t a.Dot e k = ap (step_at Fresh (st Fresh group parts join c first) t) k
@@ -70,7 +72,7 @@ fresh_enters group parts join c first t a.LeftBracket e k = ap (step_at Fresh (s
 fresh_enters group parts join c first t a.Colon e k = ap (step_at Fresh (st Fresh group parts join c first) t) k
 fresh_enters group parts join c first t sign e k = absurd (cc)
 
-compound_enters : (group : List (List Part)) (parts : List Part) (join : Join) (c : Compound) (first : Option ℕ) (t : Token) (sign : Terminal) → starts_test sign ≡ true → terminal t ≡ sign
+compound_enters : (group : List Spelled) (parts : List Part) (join : Join) (c : Compound) (first : Option ℕ) (t : Token) (sign : Terminal) → starts_test sign ≡ true → terminal t ≡ sign
     → step (st InCompound group parts join c first) t ≡ step_test (st Fresh group parts join c first) t sign
 compound_enters group parts join c first t a.Id e k = ap (step_at InCompound (st Fresh group parts join c first) t) k
 compound_enters group parts join c first t a.Dot e k = ap (step_at InCompound (st Fresh group parts join c first) t) k
@@ -78,10 +80,10 @@ compound_enters group parts join c first t a.LeftBracket e k = ap (step_at InCom
 compound_enters group parts join c first t a.Colon e k = ap (step_at InCompound (st Fresh group parts join c first) t) k
 compound_enters group parts join c first t sign e k = absurd (cc)
 
-at_fresh : (group : List (List Part)) (parts : List Part) (join : Join) (c : Compound) (first : Option ℕ) → Enters (st Fresh group parts join c first)
+at_fresh : (group : List Spelled) (parts : List Part) (join : Join) (c : Compound) (first : Option ℕ) → Enters (st Fresh group parts join c first)
 at_fresh group parts join c first = record { enters = fresh_enters group parts join c first }
 
-at_compound : (group : List (List Part)) (parts : List Part) (join : Join) (c : Compound) (first : Option ℕ) → Enters (st InCompound group parts join c first)
+at_compound : (group : List Spelled) (parts : List Part) (join : Join) (c : Compound) (first : Option ℕ) → Enters (st InCompound group parts join c first)
 at_compound group parts join c first = record { enters = compound_enters group parts join c first }
 
 -- behind tests
@@ -191,9 +193,11 @@ body_begins h some = subst Begins (sym h.whole) (append_begins h.head h.tail (he
 compound_begins : {ts : List Token} {c : Compound} {others : List ℕ} → IsCompound ts c others → Begins ts
 compound_begins h = body_begins h.body h.some
 
-last_begins : {ts : List Token} {c : Compound} {others : List ℕ} → IsLast ts c others → Begins ts
+last_begins : {ts : List Token} {c : Compound} {pseudo : Option Pseudo} {others : List ℕ} → IsLast ts c pseudo others → Begins ts
 last_begins (plain h) = compound_begins h
-last_begins (with_element ts colon name h k m p) = begins_more ts (colon ∷ name ∷ []) (body_begins h) (record { first = colon; rest = name ∷ []; whole = refl; starts = ap starts_compound k })
+last_begins (generated ts colon name h k m p) = begins_more ts (colon ∷ name ∷ []) (body_begins h) (record { first = colon; rest = name ∷ []; whole = refl; starts = ap starts_compound k })
+last_begins (two_colons ts colon second name h k l m p) = begins_more ts (colon ∷ second ∷ name ∷ []) (body_begins h) (record { first = colon; rest = second ∷ name ∷ []; whole = refl; starts = ap starts_compound k })
+last_begins (with_refused ts colon name h k m p) = begins_more ts (colon ∷ name ∷ []) (body_begins h) (record { first = colon; rest = name ∷ []; whole = refl; starts = ap starts_compound k })
 
 -- ---- a simple selector
 
@@ -229,13 +233,13 @@ follow_tests : {ts : List Token} {tests : List Test} {others : List ℕ} → Are
 follow_tests no_test s h = tests_none s h
 follow_tests (one_more ts piece {tests = tests} {more = more} {refused = refused} {others = others} k t) s h = tests_more s ts piece tests more refused others (follow_tests k s h) t
 
-record BodyRead (group : List (List Part)) (parts : List Part) (join : Join) (first : Option ℕ) (ts : List Token) (c : Compound) (others : List ℕ) : Type 0 where
+record BodyRead (group : List Spelled) (parts : List Part) (join : Join) (first : Option ℕ) (ts : List Token) (c : Compound) (others : List ℕ) : Type 0 where
   place : Place
   is : (us : List Token) → follow (st Fresh group parts join empty first) (ts ++ us) ≡ follow (st place group parts join c (or_all first others)) us
   can_go : Enters (st place group parts join c (or_all first others))
   some : 0 < length ts → place ≡ InCompound
 
-body_by : {head : List Token} {name : Option (List ℕ)} → IsHead head name → (tail : List Token) (tests : List Test) (others : List ℕ) → AreTests tail tests others → (group : List (List Part)) (parts : List Part) (join : Join) (first : Option ℕ)
+body_by : {head : List Token} {name : Option (List ℕ)} → IsHead head name → (tail : List Token) (tests : List Test) (others : List ℕ) → AreTests tail tests others → (group : List Spelled) (parts : List Part) (join : Join) (first : Option ℕ)
     → BodyRead group parts join first (head ++ tail) (record { tag = name; tests = tests }) others
 body_by nothing tail tests others h group parts join first =
     let k = follow_tests h (st Fresh group parts join empty first) (at_fresh group parts join empty first) in
@@ -250,10 +254,10 @@ body_by (tag {t = t} e) tail tests others h group parts join first =
     let k = follow_tests h s (at_compound group parts join c first) in
     record { place = k.place; is = λ us. on (st Fresh group parts join empty first) t s (tail ++ us) (ap (step_at Fresh (st Fresh group parts join empty first) t) e) ∙ k.is us; can_go = k.can_go; some = λ _. k.keeps refl }
 
-follow_body : (ts : List Token) (c : Compound) (others : List ℕ) → IsBody ts c others → (group : List (List Part)) (parts : List Part) (join : Join) (first : Option ℕ) → BodyRead group parts join first ts c others
+follow_body : (ts : List Token) (c : Compound) (others : List ℕ) → IsBody ts c others → (group : List Spelled) (parts : List Part) (join : Join) (first : Option ℕ) → BodyRead group parts join first ts c others
 follow_body ts c others h group parts join first = subst (λ x. BodyRead group parts join first x c others) (sym h.whole) (body_by h.has_head h.tail c.tests others h.has_tests group parts join first)
 
-follow_compound : (ts : List Token) (c : Compound) (others : List ℕ) → IsCompound ts c others → (group : List (List Part)) (parts : List Part) (join : Join) (first : Option ℕ) (us : List Token)
+follow_compound : (ts : List Token) (c : Compound) (others : List ℕ) → IsCompound ts c others → (group : List Spelled) (parts : List Part) (join : Join) (first : Option ℕ) (us : List Token)
     → follow (st Fresh group parts join empty first) (ts ++ us) ≡ follow (st InCompound group parts join c (or_all first others)) us
 follow_compound ts c others h group parts join first us =
     let k = follow_body ts c others h.body group parts join first in
@@ -270,7 +274,7 @@ gap_fresh s t a.LeftBracket e = refl
 gap_fresh s t a.Colon e = refl
 gap_fresh s t sign e = absurd (cc)
 
-follow_gap : (group : List (List Part)) (parts : List Part) (join : Join) (c : Compound) (first : Option ℕ) (us : List Token) → Begins us
+follow_gap : (group : List Spelled) (parts : List Part) (join : Join) (c : Compound) (first : Option ℕ) (us : List Token) → Begins us
     → follow (st Gap group parts join c first) us ≡ follow (st Fresh group (parts ++ (join, c) ∷ []) Descendant empty first) us
 follow_gap group parts join c first us h =
     let next = st Fresh group (parts ++ (join, c) ∷ []) Descendant empty first in
@@ -282,7 +286,7 @@ follow_gap group parts join c first us h =
 follow_sign : (s next : State) (t : Token) (behind us : List Token) → step s t ≡ Ok next → ((u : Token) → terminal u ≡ a.Space → step next u ≡ Ok next) → IsGap behind → follow s ((t ∷ behind) ++ us) ≡ follow next us
 follow_sign s next t behind us e h g = on s t next (behind ++ us) e ∙ stays next h behind us g
 
-follow_spaced : (group : List (List Part)) (parts : List Part) (join : Join) (c : Compound) (first : Option ℕ) (before : List Token) → IsGap before → (next : State) (t : Token) (behind us : List Token)
+follow_spaced : (group : List Spelled) (parts : List Part) (join : Join) (c : Compound) (first : Option ℕ) (before : List Token) → IsGap before → (next : State) (t : Token) (behind us : List Token)
     → step (st InCompound group parts join c first) t ≡ Ok next → step (st Gap group parts join c first) t ≡ Ok next → ((u : Token) → terminal u ≡ a.Space → step next u ≡ Ok next) → IsGap behind
     → follow (st InCompound group parts join c first) ((before ++ t ∷ behind) ++ us) ≡ follow next us
 follow_spaced group parts join c first [] b next t behind us e f h g = follow_sign (st InCompound group parts join c first) next t behind us e h g
@@ -293,7 +297,7 @@ follow_spaced group parts join c first (u ∷ before) b next t behind us e f h g
     ∙ stays there (λ v k. ap (step_at Gap (st Fresh group parts join c first) v) k) before ((t ∷ behind) ++ us) b.1
     ∙ follow_sign there next t behind us f h g
 
-follow_combinator : {gap : List Token} {how : Join} → IsCombinator gap how → (group : List (List Part)) (parts : List Part) (join : Join) (c : Compound) (first : Option ℕ) (us : List Token) → Begins us
+follow_combinator : {gap : List Token} {how : Join} → IsCombinator gap how → (group : List Spelled) (parts : List Part) (join : Join) (c : Compound) (first : Option ℕ) (us : List Token) → Begins us
     → follow (st InCompound group parts join c first) (gap ++ us) ≡ follow (st Fresh group (parts ++ (join, c) ∷ []) how empty first) us
 follow_combinator (descendant {t = t} {more = more} k g) group parts join c first us h =
     let there = st Gap group parts join c first in
@@ -309,7 +313,7 @@ follow_combinator (adjacent t before behind b k g) group parts join c first us h
 
 -- ---- selectors
 
-follow_front : {front : List Token} {parts : List Part} {join : Join} {others : List ℕ} → IsFront front parts join others → (group : List (List Part)) (first : Option ℕ) (us : List Token) → Begins us
+follow_front : {front : List Token} {parts : List Part} {join : Join} {others : List ℕ} → IsFront front parts join others → (group : List Spelled) (first : Option ℕ) (us : List Token) → Begins us
     → follow (st Fresh group [] First empty first) (front ++ us) ≡ follow (st Fresh group parts join empty (or_all first others)) us
 follow_front at_start group first us h = refl
 follow_front (further ts piece gap {parts = parts} {join = join} {next = how} {c = c} {refused = refused} {others = others} f k j) group first us h =
@@ -320,16 +324,18 @@ follow_front (further ts piece gap {parts = parts} {join = join} {next = how} {c
     ∙ ap (λ x. follow (st Fresh group (parts ++ (join, c) ∷ []) how empty x) us) (or_append first refused others)
 
 -- a last simple selector and white space
-record LastRead (group : List (List Part)) (parts : List Part) (join : Join) (c : Compound) (first : Option ℕ) (others : List ℕ) (ts : List Token) : Type 0 where
+record LastRead (group : List Spelled) (parts : List Part) (join : Join) (c : Compound) (pseudo : Option Pseudo) (first : Option ℕ) (others : List ℕ) (ts : List Token) : Type 0 where
   place : Place
+  pseudo_is : pseudo_at place ≡ pseudo
   is : follow (st Fresh group parts join empty first) ts ≡ Ok (st place group parts join c (or_all first others))
   ends : may_end place ≡ true
-  comma : (t : Token) → terminal t ≡ a.Comma → step (st place group parts join c (or_all first others)) t ≡ Ok (ended (st place group parts join c (or_all first others)))
+  comma : (t : Token) → terminal t ≡ a.Comma → step (st place group parts join c (or_all first others)) t ≡ Ok (ended (st place group parts join c (or_all first others)) pseudo)
 
-gap_behind : (group : List (List Part)) (parts : List Part) (join : Join) (c : Compound) (first : Option ℕ) (others : List ℕ) (ts gap : List Token) → IsGap gap
-    → ((us : List Token) → follow (st Fresh group parts join empty first) (ts ++ us) ≡ follow (st InCompound group parts join c (or_all first others)) us) → LastRead group parts join c first others (ts ++ gap)
+gap_behind : (group : List Spelled) (parts : List Part) (join : Join) (c : Compound) (first : Option ℕ) (others : List ℕ) (ts gap : List Token) → IsGap gap
+    → ((us : List Token) → follow (st Fresh group parts join empty first) (ts ++ us) ≡ follow (st InCompound group parts join c (or_all first others)) us) → LastRead group parts join c None first others (ts ++ gap)
 gap_behind group parts join c first others ts [] g h = record {
   place = InCompound;
+  pseudo_is = refl;
   is = h [];
   ends = refl;
   comma = λ t k. ap (step_at InCompound (st Fresh group parts join c (or_all first others)) t) k;
@@ -338,41 +344,65 @@ gap_behind group parts join c first others ts (u ∷ gap) g h =
     let s = st Fresh group parts join c (or_all first others) in
     let there = st Gap group parts join c (or_all first others) in record {
       place = Gap;
+      pseudo_is = refl;
       is = h (u ∷ gap) ∙ on (st InCompound group parts join c (or_all first others)) u there gap (ap (step_at InCompound s u) g.0)
           ∙ ap (follow there) (sym (append-nil gap)) ∙ stays there (λ v k. ap (step_at Gap s v) k) gap [] g.1;
       ends = refl;
       comma = λ t k. ap (step_at Gap s t) k;
     }
 
-follow_last : {last : List Token} {c : Compound} {others : List ℕ} → IsLast last c others → (group : List (List Part)) (parts : List Part) (join : Join) (first : Option ℕ) (gap : List Token) → IsGap gap → LastRead group parts join c first others (last ++ gap)
-follow_last (plain {ts = ts} {c = c} {refused = others} h) group parts join first gap g = gap_behind group parts join c first others ts gap g (follow_compound ts c others h group parts join first)
-follow_last (with_element ts {c = c} {refused = others} colon name h k m p) group parts join first gap g =
-    let b = follow_body ts c others h group parts join first in
+-- behind a pseudo-element, from the place behind its name
+element_behind : (group : List Spelled) (parts : List Part) (join : Join) (c : Compound) (pseudo : Option Pseudo) (first : Option ℕ) (others : List ℕ) (ts gap : List Token) → IsGap gap
+    → follow (st Fresh group parts join empty first) (ts ++ gap) ≡ follow (st (Element pseudo) group parts join c (or_all first others)) gap → LastRead group parts join c pseudo first others (ts ++ gap)
+element_behind group parts join c pseudo first others ts gap g h =
     let s = st Fresh group parts join c (or_all first others) in
-    let there = st Element group parts join c (or_first (or_all first others) colon.at) in
-    let all : or_first (or_all first others) colon.at ≡ or_all first (others ++ colon.at ∷ []) = or_append first others (colon.at ∷ []) in
-    let read : follow (st Fresh group parts join empty first) ((ts ++ colon ∷ name ∷ []) ++ gap) ≡ Ok there =
-    ap (follow (st Fresh group parts join empty first)) (append_assoc ts (colon ∷ name ∷ []) gap) ∙ b.is (colon ∷ name ∷ gap)
-    ∙ on (st b.place group parts join c (or_all first others)) colon (at s (Colon colon.at)) (name ∷ gap) (b.can_go.enters colon a.Colon refl k)
-    ∙ on (at s (Colon colon.at)) name there gap (ap (step_at (Colon colon.at) s name) m ∙ ap (step_pseudo s colon.at name) p)
-    ∙ ap (follow there) (sym (append-nil gap)) ∙ stays there (λ v e. ap (step_at Element (st Fresh group parts join c (or_first (or_all first others) colon.at)) v) e) gap [] g in record {
-      place = Element;
-      is = read ∙ ap (λ x. Ok (st Element group parts join c x)) all;
+    let there = st (Element pseudo) group parts join c (or_all first others) in record {
+      place = Element pseudo;
+      pseudo_is = refl;
+      is = h ∙ ap (follow there) (sym (append-nil gap)) ∙ stays there (λ v e. ap (step_at (Element pseudo) s v) e) gap [] g;
       ends = refl;
-      comma = λ t e. ap (step_at Element (st Fresh group parts join c (or_all first (others ++ colon.at ∷ []))) t) e;
+      comma = λ t e. ap (step_at (Element pseudo) s t) e;
     }
 
-record SelectorRead (group : List (List Part)) (first : Option ℕ) (piece : List Token) (parts : List Part) (others : List ℕ) : Type 0 where
+follow_last : {last : List Token} {c : Compound} {pseudo : Option Pseudo} {others : List ℕ} → IsLast last c pseudo others → (group : List Spelled) (parts : List Part) (join : Join) (first : Option ℕ) (gap : List Token) → IsGap gap
+    → LastRead group parts join c pseudo first others (last ++ gap)
+follow_last (plain {ts = ts} {c = c} {refused = others} h) group parts join first gap g = gap_behind group parts join c first others ts gap g (follow_compound ts c others h group parts join first)
+follow_last (generated ts {c = c} {refused = others} {p = p} colon name h k m e) group parts join first gap g =
+    let b = follow_body ts c others h group parts join first in
+    let s = st Fresh group parts join c (or_all first others) in
+    element_behind group parts join c (Some p) first others (ts ++ colon ∷ name ∷ []) gap g
+    (ap (follow (st Fresh group parts join empty first)) (append_assoc ts (colon ∷ name ∷ []) gap) ∙ b.is (colon ∷ name ∷ gap)
+    ∙ on (st b.place group parts join c (or_all first others)) colon (at s (Colon colon.at)) (name ∷ gap) (b.can_go.enters colon a.Colon refl k)
+    ∙ on (at s (Colon colon.at)) name (at s (Element (Some p))) gap (ap (step_at (Colon colon.at) s name) m ∙ ap (step_pseudo s colon.at name) e))
+follow_last (two_colons ts {c = c} {refused = others} {p = p} colon second name h k l m e) group parts join first gap g =
+    let b = follow_body ts c others h group parts join first in
+    let s = st Fresh group parts join c (or_all first others) in
+    element_behind group parts join c (Some p) first others (ts ++ colon ∷ second ∷ name ∷ []) gap g
+    (ap (follow (st Fresh group parts join empty first)) (append_assoc ts (colon ∷ second ∷ name ∷ []) gap) ∙ b.is (colon ∷ second ∷ name ∷ gap)
+    ∙ on (st b.place group parts join c (or_all first others)) colon (at s (Colon colon.at)) (second ∷ name ∷ gap) (b.can_go.enters colon a.Colon refl k)
+    ∙ on (at s (Colon colon.at)) second (at s Colons) (name ∷ gap) (ap (step_at (Colon colon.at) s second) l)
+    ∙ on (at s Colons) name (at s (Element (Some p))) gap (ap (step_at Colons s name) m ∙ ap (step_generated s name) e))
+follow_last (with_refused ts {c = c} {refused = others} colon name h k m p) group parts join first gap g =
+    let b = follow_body ts c others h group parts join first in
+    let s = st Fresh group parts join c (or_all first others) in
+    let all : or_first (or_all first others) colon.at ≡ or_all first (others ++ colon.at ∷ []) = or_append first others (colon.at ∷ []) in
+    element_behind group parts join c None first (others ++ colon.at ∷ []) (ts ++ colon ∷ name ∷ []) gap g
+    (ap (follow (st Fresh group parts join empty first)) (append_assoc ts (colon ∷ name ∷ []) gap) ∙ b.is (colon ∷ name ∷ gap)
+    ∙ on (st b.place group parts join c (or_all first others)) colon (at s (Colon colon.at)) (name ∷ gap) (b.can_go.enters colon a.Colon refl k)
+    ∙ on (at s (Colon colon.at)) name (refused_at s colon.at (Element None)) gap (ap (step_at (Colon colon.at) s name) m ∙ ap (step_pseudo s colon.at name) p)
+    ∙ ap (λ x. follow (st (Element None) group parts join c x) gap) all)
+
+record SelectorRead (group : List Spelled) (first : Option ℕ) (piece : List Token) (one : Spelled) (others : List ℕ) : Type 0 where
   place : Place
   before : List Part
   join : Join
   c : Compound
-  whole : before ++ (join, c) ∷ [] ≡ parts
+  whole : (before ++ (join, c) ∷ [], pseudo_at place) ≡ one
   is : follow (st Fresh group [] First empty first) piece ≡ Ok (st place group before join c (or_all first others))
   ends : may_end place ≡ true
-  comma : (t : Token) → terminal t ≡ a.Comma → step (st place group before join c (or_all first others)) t ≡ Ok (ended (st place group before join c (or_all first others)))
+  comma : (t : Token) → terminal t ≡ a.Comma → step (st place group before join c (or_all first others)) t ≡ Ok (ended (st place group before join c (or_all first others)) (pseudo_at place))
 
-follow_selector : {piece : List Token} {parts : List Part} {others : List ℕ} → IsSelectorText piece parts others → (group : List (List Part)) (first : Option ℕ) → SelectorRead group first piece parts others
+follow_selector : {piece : List Token} {one : Spelled} {others : List ℕ} → IsSelectorText piece one others → (group : List Spelled) (first : Option ℕ) → SelectorRead group first piece one others
 follow_selector (selector before front last behind {parts = parts} {join = join} {c = c} {refused = refused} {others = others} b f l g) group first =
     let start = st Fresh group [] First empty first in
     let k = follow_last l group parts join (or_all first refused) behind g in
@@ -381,37 +411,38 @@ follow_selector (selector before front last behind {parts = parts} {join = join}
       before = parts;
       join = join;
       c = c;
-      whole = refl;
+      whole = ap (λ p. (parts ++ (join, c) ∷ [], p)) k.pseudo_is;
       is = stays start (λ t e. ap (step_at Fresh start t) e) before (front ++ (last ++ behind)) b
           ∙ follow_front f group first (last ++ behind) (begins_append last behind (last_begins l)) ∙ k.is ∙ ap (λ x. Ok (st k.place group parts join c x)) all;
       ends = k.ends;
-      comma = subst (λ x. (t : Token) → terminal t ≡ a.Comma → step (st k.place group parts join c x) t ≡ Ok (ended (st k.place group parts join c x))) all k.comma;
+      comma = λ t e. subst (λ x. step (st k.place group parts join c x) t ≡ Ok (ended (st k.place group parts join c x) (pseudo_at k.place))) all
+          (k.comma t e ∙ ap (λ p. Ok (ended (st k.place group parts join c (or_all (or_all first refused) others)) p)) (sym k.pseudo_is));
     }
 
 -- ---- groups
 
-follow_earlier : {ts : List Token} {group : List (List Part)} {others : List ℕ} → AreEarlier ts group others → follow initial ts ≡ Ok (st Fresh group [] First empty (or_all None others))
+follow_earlier : {ts : List Token} {group : List Spelled} {others : List ℕ} → AreEarlier ts group others → follow initial ts ≡ Ok (st Fresh group [] First empty (or_all None others))
 follow_earlier none_earlier = refl
-follow_earlier (one_later ts piece comma {group = group} {parts = parts} {refused = refused} {others = others} h k e) =
+follow_earlier (one_later ts piece comma {group = group} {one = one} {refused = refused} {others = others} h k e) =
     let first = or_all None refused in
     let m = follow_selector k group first in
     let there = st m.place group m.before m.join m.c (or_all first others) in
     follow_on initial (st Fresh group [] First empty first) ts (piece ++ comma ∷ []) (follow_earlier h)
     ∙ follow_on (st Fresh group [] First empty first) there piece (comma ∷ []) m.is
-    ∙ on there comma (ended there) [] (m.comma comma e)
+    ∙ on there comma (ended there (pseudo_at m.place)) [] (m.comma comma e)
     ∙ ap (λ x. Ok (st Fresh (group ++ x ∷ []) [] First empty (or_all first others))) m.whole
-    ∙ ap (λ x. Ok (st Fresh (group ++ parts ∷ []) [] First empty x)) (or_append None refused others)
+    ∙ ap (λ x. Ok (st Fresh (group ++ one ∷ []) [] First empty x)) (or_append None refused others)
 
 -- a group is read to where it may end
-pub record GroupRead (ts : List Token) (group : List (List Part)) (others : List ℕ) : Type 0 where
+pub record GroupRead (ts : List Token) (group : List Spelled) (others : List ℕ) : Type 0 where
   pub state : State
   pub is : follow initial ts ≡ Ok state
   pub ends : may_end state.place ≡ true
-  pub gives : (ended state).group ≡ group
+  pub gives : (ended state (pseudo_at state.place)).group ≡ group
   pub first : state.refused ≡ first_of others
 
-pub follow_group : {ts : List Token} {group : List (List Part)} {others : List ℕ} → IsGroup ts group others → GroupRead ts group others
-follow_group (selectors ts piece {group = group} {parts = parts} {refused = refused} {others = others} h k) =
+pub follow_group : {ts : List Token} {group : List Spelled} {others : List ℕ} → IsGroup ts group others → GroupRead ts group others
+follow_group (selectors ts piece {group = group} {one = one} {refused = refused} {others = others} h k) =
     let first = or_all None refused in
     let m = follow_selector k group first in record {
       state = st m.place group m.before m.join m.c (or_all first others);

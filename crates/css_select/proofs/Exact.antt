@@ -8,10 +8,11 @@ use Rattle.viz_base.proofs.Truths.{not_both}
 use Rattle.css_semantics.specs.Pieces.{Token}
 use Rattle.css_semantics.specs.SheetsReading.{start_of}
 use Rattle.css_semantics.specs.SelectorTerminals.{without_comments}
+use Rattle.css_semantics.specs.Spelled.{Spelled}
 use Rattle.css_semantics.specs.SelectorGrammar.{at_start, none_earlier, IsGroup, BeginsGroup, IsNoGroup}
 use Rattle.css_select.specs.declared.reading.Place.{Place}
 use Rattle.css_select.specs.declared.reading.Place.TheVariants.{Compound as InCompound, Gap, Element}
-use Rattle.css_select.specs.steps.Machine.{State, initial, ended, may_end, step, then_run}
+use Rattle.css_select.specs.steps.Machine.{State, initial, ended, may_end, pseudo_at, step, then_run}
 use Rattle.css_select.specs.Refusals.{Refusal, unsupported_at, bad_at}
 use Rattle.css_select.specs.Verdicts.{Verdict, judged, verdict, verdict_of, IsReading}
 use Rattle.css_select.proofs.Following.{follow, follow_on, run_follow, leads_on}
@@ -40,14 +41,18 @@ follow_reads : (s : State) (ts us : List Token) (next : State) → Reads s ts �
 follow_reads s ts [] next h e = subst (λ n. Reads n (ts ++ [])) (same_Ok e) (subst (Reads s) (sym (append-nil ts)) h)
 follow_reads s ts (t ∷ us) next h e = reads_by (step s t) s ts t us next refl h (λ m k f. follow_reads m (ts ++ t ∷ []) us next k f) e
 
-reads_final : (place : Place) (group : List (List Part)) (parts : List Part) (join : Join) (c : Compound) (first : Option ℕ) (ts : List Token) → ReadsAt place group parts join c first ts → may_end place ≡ true
-    → IsFinal group (parts ++ (join, c) ∷ []) first ts
-reads_final InCompound group parts join c first ts h e = subst (IsFinal group (parts ++ (join, c) ∷ []) first) (append-nil ts) (some_final ts [] h tt)
+-- behind the last simple selector
+abbrev done : State → State
+done s = ended s (pseudo_at s.place)
+
+reads_final : (place : Place) (group : List Spelled) (parts : List Part) (join : Join) (c : Compound) (first : Option ℕ) (ts : List Token) → ReadsAt place group parts join c first ts → may_end place ≡ true
+    → IsFinal group (parts ++ (join, c) ∷ [], pseudo_at place) first ts
+reads_final InCompound group parts join c first ts h e = subst (IsFinal group (parts ++ (join, c) ∷ [], None) first) (append-nil ts) (some_final ts [] h tt)
 reads_final Gap group parts join c first ts h e = spaced_final ts h
-reads_final Element group parts join c first ts h e = ended_final ts h
+reads_final (Element pseudo) group parts join c first ts h e = ended_final ts h
 reads_final place group parts join c first ts h e = absurd (cc)
 
-sound : (ts : List Token) (s : State) → follow initial ts ≡ Ok s → may_end s.place ≡ true → (all : List ℕ) × (s.refused ≡ first_of all) × IsGroup ts (ended s).group all
+sound : (ts : List Token) (s : State) → follow initial ts ≡ Ok s → may_end s.place ≡ true → (all : List ℕ) × (s.refused ≡ first_of all) × IsGroup ts (done s).group all
 sound ts s e m = final_group ts (reads_final s.place s.group s.parts s.join s.compound s.refused ts (follow_reads initial [] ts s initial_reads e) m)
 
 -- what is read begins a group
@@ -55,7 +60,7 @@ begins : (ts : List Token) (s : State) → follow initial ts ≡ Ok s → Begins
 begins ts s e =
     let l = leads_on s in
     let g = sound (ts ++ l.more) l.next (follow_on initial s ts l.more e ∙ l.follows) l.ends in
-    (l.more, (ended l.next).group, g.0, g.2)
+    (l.more, (done l.next).group, g.0, g.2)
 
 -- ---- where reading stops
 
@@ -146,11 +151,11 @@ first_some : (all : List ℕ) (x : ℕ) → first_of all ≡ Some x → (others 
 first_some [] x e = absurd (cc)
 first_some (y ∷ ys) x e = let same : y ≡ x = cc in (ys, ap (λ z. z ∷ ys) same)
 
-judged_reads : (end : ℕ) (ts : List Token) (s : State) (first : Option ℕ) → s.refused ≡ first → (all : List ℕ) → s.refused ≡ first_of all → IsGroup ts (ended s).group all → IsReading end ts (judged first (ended s))
-judged_reads end ts s None e all f g = subst (IsGroup ts (ended s).group) (first_none all (sym f ∙ e)) g
-judged_reads end ts s (Some x) e all f g = let k = first_some all x (sym f ∙ e) in ((ended s).group, k.0, subst (IsGroup ts (ended s).group) k.1 g)
+judged_reads : (end : ℕ) (ts : List Token) (s : State) (first : Option ℕ) → s.refused ≡ first → (all : List ℕ) → s.refused ≡ first_of all → IsGroup ts (done s).group all → IsReading end ts (judged first (done s))
+judged_reads end ts s None e all f g = subst (IsGroup ts (done s).group) (first_none all (sym f ∙ e)) g
+judged_reads end ts s (Some x) e all f g = let k = first_some all x (sym f ∙ e) in ((done s).group, k.0, subst (IsGroup ts (done s).group) k.1 g)
 
-finished_reads : (end : ℕ) (ts : List Token) (s : State) → follow initial ts ≡ Ok s → (yes : Bool) → may_end s.place ≡ yes → IsReading end ts (cond yes (judged s.refused (ended s)) (Err (bad_at end)))
+finished_reads : (end : ℕ) (ts : List Token) (s : State) → follow initial ts ≡ Ok s → (yes : Bool) → may_end s.place ≡ yes → IsReading end ts (cond yes (judged s.refused (done s)) (Err (bad_at end)))
 finished_reads end ts s e true m = let g = sound ts s e m in judged_reads end ts s s.refused refl g.0 g.1 g.2
 finished_reads end ts s e false m = ended_bad end ts s e m
 
@@ -164,14 +169,14 @@ reads_all end ts = subst (λ r. IsReading end (without_comments ts) (verdict end
 
 -- ---- nothing else
 
-judged_same : (first : Option ℕ) (s : State) (group : List (List Part)) → s.group ≡ group → judged first s ≡ judged first (record initial { group = group })
+judged_same : (first : Option ℕ) (s : State) (group : List Spelled) → s.group ≡ group → judged first s ≡ judged first (record initial { group = group })
 judged_same None s group e = ap Ok e
 judged_same (Some place) s group e = refl
 
-group_only : (end : ℕ) (ts : List Token) (group : List (List Part)) (all : List ℕ) → IsGroup ts group all → verdict end (follow initial ts) ≡ judged (first_of all) (record initial { group = group })
+group_only : (end : ℕ) (ts : List Token) (group : List Spelled) (all : List ℕ) → IsGroup ts group all → verdict end (follow initial ts) ≡ judged (first_of all) (record initial { group = group })
 group_only end ts group all g =
     let k = follow_group g in
-    ap (verdict end) k.is ∙ ap (λ b. cond b (judged k.state.refused (ended k.state)) (Err (bad_at end))) k.ends ∙ ap (λ r. judged r (ended k.state)) k.first ∙ judged_same (first_of all) (ended k.state) group k.gives
+    ap (verdict end) k.is ∙ ap (λ b. cond b (judged k.state.refused (done k.state)) (Err (bad_at end))) k.ends ∙ ap (λ r. judged r (done k.state)) k.first ∙ judged_same (first_of all) (done k.state) group k.gives
 
 same_rest : (p q r s : List Token) → p ++ q ≡ r ++ s → length p ≡ length r → q ≡ s
 same_rest [] q [] s e l = e
@@ -186,8 +191,8 @@ nothing_left [] end e = refl
 nothing_left (t ∷ rest) end e = absurd (omega (arith, e))
 
 bad_finished : (end : ℕ) (ts : List Token) (place : ℕ) → IsNoGroup ts end place → (s : State) → follow initial ts ≡ Ok s → (yes : Bool) → may_end s.place ≡ yes
-    → cond yes (judged s.refused (ended s)) (Err (bad_at end)) ≡ Err (bad_at place)
-bad_finished end ts place h s e true m = let g = sound ts s e m in absurd (h.no_group (ended s).group g.0 g.2)
+    → cond yes (judged s.refused (done s)) (Err (bad_at end)) ≡ Err (bad_at place)
+bad_finished end ts place h s e true m = let g = sound ts s e m in absurd (h.no_group (done s).group g.0 g.2)
 bad_finished end ts place h s e false m =
     let all = h.longest ts [] (sym (append-nil ts)) (begins ts s e) in
     let size = ap length h.whole ∙ length-append h.front h.rest in

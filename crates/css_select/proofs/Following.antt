@@ -9,11 +9,12 @@ use Rattle.viz_base.specs.declared.tokens.TokenKind.TheVariants as of_kind
 use Rattle.css_semantics.specs.SelectorTerminals.{is_comment, without_comments, name_of, pseudo, compared}
 use Rattle.css_semantics.specs.SheetsMarks.{text_of}
 use Rattle.css_select.specs.declared.reading.Place.{Place}
-use Rattle.css_select.specs.declared.reading.Place.TheVariants.{Fresh, Compound as InCompound, Gap, Dot, Colon, Language, LanguageEnd, Element, Bracket, Name, Sign, Value}
-use Rattle.css_semantics.specs.declared.terminals.Pseudo.TheVariants as of_pseudo
+use Rattle.css_select.specs.declared.reading.Place.TheVariants.{Fresh, Compound as InCompound, Gap, Dot, Colon, Colons, Language, LanguageEnd, Element, Bracket, Name, Sign, Value}
+use Rattle.css_semantics.specs.declared.terminals.ColonName.TheVariants as of_name
+use Rattle.viz_base.specs.declared.selectors.Pseudo.TheVariants.{Before}
 use Rattle.viz_base.specs.declared.selectors.Test.TheVariants as of_test
 use Rattle.css_select.specs.Refusals.{Refusal}
-use Rattle.css_select.specs.steps.Machine.{State, run, step, step_pseudo, at, tagged, tested, refused, then_run, may_end}
+use Rattle.css_select.specs.steps.Machine.{State, run, step, step_generated, step_pseudo, at, tagged, tested, refused, then_run, may_end}
 
 abbrev pub follow : State → List Token → Result State Refusal
 follow s [] = Ok s
@@ -57,9 +58,13 @@ pub record LeadsOn (s : State) : Type 0 where
   pub follows : follow s more ≡ Ok next
   pub ends : may_end next.place ≡ true
 
-link_is : pseudo (text_of (made of_kind.Ident (codes "link"))) ≡ Some (of_pseudo.Class of_test.Link)
+link_is : pseudo (text_of (made of_kind.Ident (codes "link"))) ≡ Some (of_name.Class of_test.Link)
 unfolding text_of chars encode
 link_is = refl
+
+before_is : pseudo (text_of (made of_kind.Ident (codes "before"))) ≡ Some (of_name.Generated Before)
+unfolding text_of chars encode
+before_is = refl
 
 leads_at : (place : Place) (s : State) → s.place ≡ place → LeadsOn s
 leads_at Fresh s e = record { more = made of_kind.Delim (codes "*") ∷ []; next = tagged s None; follows = rw e refl; ends = refl }
@@ -70,9 +75,13 @@ leads_at (Colon colon) s e =
     let link = made of_kind.Ident (codes "link") in
     let follows : follow s (link ∷ []) ≡ Ok (tested s of_test.Link) = rw e (ap (λ r. then_run r (λ next. follow next [])) (ap (step_pseudo (at s Fresh) colon link) link_is)) in
     record { more = link ∷ []; next = tested s of_test.Link; follows = follows; ends = refl }
+leads_at Colons s e =
+    let before = made of_kind.Ident (codes "before") in
+    let follows : follow s (before ∷ []) ≡ Ok (at s (Element (Some Before))) = rw e (ap (λ r. then_run r (λ next. follow next [])) (ap (step_generated (at s Fresh) before) before_is)) in
+    record { more = before ∷ []; next = at s (Element (Some Before)); follows = follows; ends = refl }
 leads_at (Language colon) s e = record { more = made of_kind.Ident (codes "a") ∷ made of_kind.RightParen (codes ")") ∷ []; next = refused s colon InCompound; follows = rw e refl; ends = refl }
 leads_at (LanguageEnd colon) s e = record { more = made of_kind.RightParen (codes ")") ∷ []; next = refused s colon InCompound; follows = rw e refl; ends = refl }
-leads_at Element s e = record { more = []; next = s; follows = refl; ends = rw e refl }
+leads_at (Element pseudo) s e = record { more = []; next = s; follows = refl; ends = rw e refl }
 leads_at Bracket s e = record { more = made of_kind.Ident (codes "a") ∷ made of_kind.RightBracket (codes "]") ∷ []; next = tested s (of_test.Has (name_of (made of_kind.Ident (codes "a")))); follows = rw e refl; ends = refl }
 leads_at (Name name) s e = record { more = made of_kind.RightBracket (codes "]") ∷ []; next = tested s (of_test.Has name); follows = rw e refl; ends = refl }
 leads_at (Sign name how) s e = record { more = made of_kind.Ident (codes "a") ∷ made of_kind.RightBracket (codes "]") ∷ []; next = tested s (compared how name (text_of (made of_kind.Ident (codes "a")))); follows = rw e refl; ends = refl }

@@ -10,9 +10,11 @@ use Rattle.css_semantics.specs.declared.terminals.Comparison.{Comparison}
 use Rattle.css_semantics.specs.Names.{same_name}
 use Rattle.css_semantics.specs.SelectorTerminals.{terminal, name_of, comparison, compared, is_value}
 use Rattle.css_semantics.specs.SheetsMarks.{text_of}
+use Rattle.css_semantics.specs.Spelled.{Spelled}
+use Rattle.viz_base.specs.declared.selectors.Pseudo.{Pseudo}
 use Rattle.css_semantics.specs.SelectorGrammar.{IsGap, IsTest, one_more, IsBody, IsFront, IsLast, AreEarlier}
 use Rattle.css_select.specs.declared.reading.Place.{Place}
-use Rattle.css_select.specs.declared.reading.Place.TheVariants.{Fresh, Compound as InCompound, Gap, Dot, Colon, Language, LanguageEnd, Element, Bracket, Name, Sign, Value}
+use Rattle.css_select.specs.declared.reading.Place.TheVariants.{Fresh, Compound as InCompound, Gap, Dot, Colon, Colons, Language, LanguageEnd, Element, Bracket, Name, Sign, Value}
 use Rattle.css_select.specs.steps.Machine.{State, empty, or_first}
 
 abbrev pub Part : Type 0
@@ -29,7 +31,7 @@ first_more (y ∷ ys) x = refl
 -- ---- before a simple selector
 
 -- earlier selectors, and what stands before a simple selector
-pub record IsBefore (group : List (List Part)) (parts : List Part) (join : Join) (refused : List ℕ) (ts : List Token) : Type 0 where
+pub record IsBefore (group : List Spelled) (parts : List Part) (join : Join) (refused : List ℕ) (ts : List Token) : Type 0 where
   pub earlier : List Token
   pub gap : List Token
   pub front : List Token
@@ -42,7 +44,7 @@ pub record IsBefore (group : List (List Part)) (parts : List Part) (join : Join)
   pub all : refused ≡ refused_earlier ++ refused_front
 
 -- and what is read of it
-pub record IsHeld (group : List (List Part)) (parts : List Part) (join : Join) (c : Compound) (first : Option ℕ) (ts : List Token) : Type 0 where
+pub record IsHeld (group : List Spelled) (parts : List Part) (join : Join) (c : Compound) (first : Option ℕ) (ts : List Token) : Type 0 where
   pub before : List Token
   pub body : List Token
   pub refused_before : List ℕ
@@ -53,19 +55,19 @@ pub record IsHeld (group : List (List Part)) (parts : List Part) (join : Join) (
   pub is_first : first ≡ first_of (refused_before ++ refused_body)
 
 -- at least a part of it
-pub record IsSome (group : List (List Part)) (parts : List Part) (join : Join) (c : Compound) (first : Option ℕ) (ts : List Token) : Type 0 where
+pub record IsSome (group : List Spelled) (parts : List Part) (join : Join) (c : Compound) (first : Option ℕ) (ts : List Token) : Type 0 where
   pub held : IsHeld group parts join c first ts
   pub some : 0 < length held.body
 
 -- nothing of it
-pub record IsFresh (group : List (List Part)) (parts : List Part) (join : Join) (c : Compound) (first : Option ℕ) (ts : List Token) : Type 0 where
+pub record IsFresh (group : List Spelled) (parts : List Part) (join : Join) (c : Compound) (first : Option ℕ) (ts : List Token) : Type 0 where
   pub refused : List ℕ
   pub is_before : IsBefore group parts join refused ts
   pub none : c ≡ empty
   pub is_first : first ≡ first_of refused
 
 -- it, and white space
-pub record IsSpaced (group : List (List Part)) (parts : List Part) (join : Join) (c : Compound) (first : Option ℕ) (ts : List Token) : Type 0 where
+pub record IsSpaced (group : List Spelled) (parts : List Part) (join : Join) (c : Compound) (first : Option ℕ) (ts : List Token) : Type 0 where
   pub front : List Token
   pub space : Token
   pub gap : List Token
@@ -75,7 +77,7 @@ pub record IsSpaced (group : List (List Part)) (parts : List Part) (join : Join)
   pub is_gap : IsGap gap
 
 -- a last simple selector with a pseudo-element, and white space
-pub record IsEnded (group : List (List Part)) (parts : List Part) (join : Join) (c : Compound) (first : Option ℕ) (ts : List Token) : Type 0 where
+pub record IsEnded (pseudo : Option Pseudo) (group : List Spelled) (parts : List Part) (join : Join) (c : Compound) (first : Option ℕ) (ts : List Token) : Type 0 where
   pub before : List Token
   pub last : List Token
   pub gap : List Token
@@ -83,12 +85,12 @@ pub record IsEnded (group : List (List Part)) (parts : List Part) (join : Join) 
   pub refused_last : List ℕ
   pub whole : ts ≡ before ++ (last ++ gap)
   pub is_before : IsBefore group parts join refused_before before
-  pub is_last : IsLast last c refused_last
+  pub is_last : IsLast last c pseudo refused_last
   pub is_gap : IsGap gap
   pub is_first : first ≡ first_of (refused_before ++ refused_last)
 
 -- what is held, and a piece that is not yet a test
-pub record IsOpen (Shape : List Token → Type 0) (group : List (List Part)) (parts : List Part) (join : Join) (c : Compound) (first : Option ℕ) (ts : List Token) : Type 0 where
+pub record IsOpen (Shape : List Token → Type 0) (group : List Spelled) (parts : List Part) (join : Join) (c : Compound) (first : Option ℕ) (ts : List Token) : Type 0 where
   pub front : List Token
   pub piece : List Token
   pub whole : ts ≡ front ++ piece
@@ -102,6 +104,9 @@ DotOnly piece = (dot : Token) × (piece ≡ dot ∷ []) × (terminal dot ≡ a.D
 
 abbrev pub ColonOnly : ℕ → List Token → Type 0
 ColonOnly place piece = (colon : Token) × (piece ≡ colon ∷ []) × (terminal colon ≡ a.Colon) × (colon.at ≡ place)
+
+abbrev pub ColonsOnly : List Token → Type 0
+ColonsOnly piece = (colon : Token) × (second : Token) × (piece ≡ colon ∷ second ∷ []) × (terminal colon ≡ a.Colon) × (terminal second ≡ a.Colon)
 
 pub record LanguageOpen (place : ℕ) (piece : List Token) : Type 0 where
   pub colon : Token
@@ -163,15 +168,16 @@ pub record ValueRead (test : Test) (piece : List Token) : Type 0 where
 
 -- ---- what tokens are at each place
 
-abbrev pub ReadsAt : Place → List (List Part) → List Part → Join → Compound → Option ℕ → List Token → Type 0
+abbrev pub ReadsAt : Place → List Spelled → List Part → Join → Compound → Option ℕ → List Token → Type 0
 ReadsAt Fresh = IsFresh
 ReadsAt InCompound = IsSome
 ReadsAt Gap = IsSpaced
 ReadsAt Dot = IsOpen DotOnly
 ReadsAt (Colon place) = IsOpen (ColonOnly place)
+ReadsAt Colons = IsOpen ColonsOnly
 ReadsAt (Language place) = IsOpen (LanguageOpen place)
 ReadsAt (LanguageEnd place) = IsOpen (LanguageClosing place)
-ReadsAt Element = IsEnded
+ReadsAt (Element pseudo) = IsEnded pseudo
 ReadsAt Bracket = IsOpen BracketOpen
 ReadsAt (Name name) = IsOpen (NameRead name)
 ReadsAt (Sign name how) = IsOpen (SignRead name how)
@@ -189,7 +195,7 @@ gap_more (u ∷ gap) t h e = (h.0, gap_more gap t h.1 e)
 -- ---- tests
 
 -- one more test
-pub held_test : (group : List (List Part)) (parts : List Part) (join : Join) (c : Compound) (first : Option ℕ) (ts piece : List Token) (tests : List Test) (refused : List ℕ)
+pub held_test : (group : List Spelled) (parts : List Part) (join : Join) (c : Compound) (first : Option ℕ) (ts piece : List Token) (tests : List Test) (refused : List ℕ)
     → IsHeld group parts join c first ts → IsTest piece tests refused → 0 < length piece → (others : Option ℕ)
     → ((xs : List ℕ) → first ≡ first_of xs → others ≡ first_of (xs ++ refused))
     → IsSome group parts join (record { tag = c.tag; tests = c.tests ++ tests }) others (ts ++ piece)

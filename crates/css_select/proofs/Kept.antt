@@ -8,19 +8,20 @@ use Rattle.viz_base.specs.declared.selectors.Test.TheVariants as of_test
 use Rattle.viz_base.proofs.Sameness.{same_Ok}
 use Rattle.css_semantics.specs.Pieces.{Token}
 use Rattle.css_semantics.specs.declared.terminals.Comparison.{Comparison}
-use Rattle.css_semantics.specs.declared.terminals.Pseudo.{Pseudo}
-use Rattle.css_semantics.specs.declared.terminals.Pseudo.TheVariants as of_pseudo
+use Rattle.css_semantics.specs.declared.terminals.ColonName.{ColonName}
+use Rattle.css_semantics.specs.declared.terminals.ColonName.TheVariants as of_name
+use Rattle.viz_base.specs.declared.selectors.Pseudo.{Pseudo}
 use Rattle.css_semantics.specs.declared.terminals.Terminal.{Terminal}
 use Rattle.css_semantics.specs.declared.terminals.Terminal.TheVariants as a
 use Rattle.css_semantics.specs.Names.{same_name}
 use Rattle.css_semantics.specs.SelectorTerminals.{terminal, name_of, pseudo, comparison, compared, is_value}
 use Rattle.css_semantics.specs.SheetsMarks.{text_of}
-use Rattle.css_semantics.specs.SelectorGrammar.{IsTest, id, class, has, compares, pseudo_class, language, star, tag, child, adjacent, with_element}
+use Rattle.css_semantics.specs.SelectorGrammar.{IsTest, id, class, has, compares, pseudo_class, language, star, tag, child, adjacent, generated, two_colons, with_refused}
 use Rattle.css_select.specs.declared.reading.Place.{Place}
-use Rattle.css_select.specs.declared.reading.Place.TheVariants.{Fresh, Compound as InCompound, Gap, Dot, Colon, Language, LanguageEnd, Element, Bracket, Name, Sign, Value}
+use Rattle.css_select.specs.declared.reading.Place.TheVariants.{Fresh, Compound as InCompound, Gap, Dot, Colon, Colons, Language, LanguageEnd, Element, Bracket, Name, Sign, Value}
 use Rattle.css_select.specs.Refusals.{Refusal, bad_at}
-use Rattle.css_select.specs.steps.Machine.{State, at, ended, joined, or_first, refused, tagged, tested, step, step_at, step_bracket, step_closing, step_colon, step_compound, step_dot, step_element, step_fresh, step_function, step_gap, step_language, step_language_end, step_name, step_operand, step_pseudo, step_sign, step_test, step_value}
-use Rattle.css_select.proofs.Held.{first_of, first_more, IsHeld, IsSome, IsFresh, IsSpaced, IsEnded, IsOpen, DotOnly, ColonOnly, LanguageOpen, LanguageClosing, BracketOpen, NameRead, SignRead, ValueRead, ReadsAt, Reads, gap_more, held_test}
+use Rattle.css_select.specs.steps.Machine.{State, at, ended, joined, or_first, refused, tagged, tested, step, step_at, step_bracket, step_closing, step_colon, step_colons, step_compound, step_dot, step_element, step_fresh, step_function, step_gap, step_generated, step_language, step_language_end, step_name, step_operand, step_pseudo, step_sign, step_test, step_value}
+use Rattle.css_select.proofs.Held.{first_of, first_more, IsHeld, IsSome, IsFresh, IsSpaced, IsEnded, IsOpen, DotOnly, ColonOnly, ColonsOnly, LanguageOpen, LanguageClosing, BracketOpen, NameRead, SignRead, ValueRead, ReadsAt, Reads, gap_more, held_test}
 use Rattle.css_select.proofs.Sound.{IsFinal, fresh_held, before_space, fresh_head, some_final, spaced_final, ended_final, final_comma, some_joined, spaced_joined, spaced_child, spaced_next}
 
 got : (x next : State) (us : List Token) → ◌≡◌ {A = Result State Refusal} (Ok x) (Ok next) → Reads x us → Reads next us
@@ -67,7 +68,7 @@ reads_compound s ts t a.Space next k h e = got (at s Gap) next (ts ++ t ∷ []) 
 reads_compound s ts t a.Greater n k h e = got (joined (at s Fresh) Child) n (ts ++ t ∷ []) e (some_joined ts (t ∷ []) Child h (child t [] [] tt k tt))
 reads_compound s ts t a.Plus n k h e = got (joined (at s Fresh) Next) n (ts ++ t ∷ []) e (some_joined ts (t ∷ []) Next h (adjacent t [] [] tt k tt))
 reads_compound s ts t a.Comma n k h e =
-    got (ended (at s Fresh)) n (ts ++ t ∷ []) e (final_comma ts t (subst (IsFinal s.group (s.parts ++ (s.join, s.compound) ∷ []) s.refused) (append-nil ts) (some_final ts [] h tt)) k)
+    got (ended (at s Fresh) None) n (ts ++ t ∷ []) e (final_comma ts t (subst (IsFinal s.group (s.parts ++ (s.join, s.compound) ∷ [], None) s.refused) (append-nil ts) (some_final ts [] h tt)) k)
 reads_compound s ts t sign next k h e = reads_test s ts t sign next k h.held e
 
 reads_gap : (s : State) (ts : List Token) (t : Token) (sign : Terminal) (next : State) → terminal t ≡ sign → IsSpaced s.group s.parts s.join s.compound s.refused ts → step_gap (at s Fresh) t sign ≡ Ok next → Reads next (ts ++ t ∷ [])
@@ -76,7 +77,7 @@ reads_gap s ts t a.Space next k h e =
     (record { front = h.front; space = h.space; gap = h.gap ++ t ∷ []; whole = ap (λ x. x ++ t ∷ []) h.whole ∙ append_assoc h.front (h.space ∷ h.gap) (t ∷ []); is_some = h.is_some; is_space = h.is_space; is_gap = gap_more h.gap t h.is_gap k })
 reads_gap s ts t a.Greater n k h e = got (joined (at s Fresh) Child) n (ts ++ t ∷ []) e (spaced_child ts t h k)
 reads_gap s ts t a.Plus n k h e = got (joined (at s Fresh) Next) n (ts ++ t ∷ []) e (spaced_next ts t h k)
-reads_gap s ts t a.Comma n k h e = got (ended (at s Fresh)) n (ts ++ t ∷ []) e (final_comma ts t (spaced_final ts h) k)
+reads_gap s ts t a.Comma n k h e = got (ended (at s Fresh) None) n (ts ++ t ∷ []) e (final_comma ts t (spaced_final ts h) k)
 reads_gap s ts t sign next k h e = reads_fresh (joined (at s Fresh) Descendant) ts t sign next k (spaced_joined ts h) e
 
 -- ---- in a test
@@ -87,17 +88,31 @@ reads_dot s ts t a.Ident next k h e =
     (open_test s ts t (of_test.Class (text_of t)) h (subst (λ x. IsTest (x ++ t ∷ []) (of_test.Class (text_of t) ∷ []) []) (sym h.shape.1) (class h.shape.2 k)))
 reads_dot s ts t sign next k h e = never t.at next e
 
-reads_pseudo : (s : State) (ts : List Token) (t : Token) (place : ℕ) (said : Option Pseudo) (next : State) → terminal t ≡ a.Ident → pseudo (text_of t) ≡ said → IsOpen (ColonOnly place) s.group s.parts s.join s.compound s.refused ts
-    → step_pseudo (at s Fresh) place t said ≡ Ok next → Reads next (ts ++ t ∷ [])
-reads_pseudo s ts t place None next k p h e = never t.at next e
-reads_pseudo s ts t place (Some (of_pseudo.Class test)) next k p h e =
-    got (tested (at s Fresh) test) next (ts ++ t ∷ []) e (open_test s ts t test h (subst (λ x. IsTest (x ++ t ∷ []) (test ∷ []) []) (sym h.shape.1) (pseudo_class h.shape.2 k p)))
-reads_pseudo s ts t place (Some of_pseudo.Element) next k p h e =
+-- a pseudo-element behind one colon
+reads_generated : (s : State) (ts : List Token) (t : Token) (place : ℕ) (p : Pseudo) → terminal t ≡ a.Ident → pseudo (text_of t) ≡ Some (of_name.Generated p) → IsOpen (ColonOnly place) s.group s.parts s.join s.compound s.refused ts
+    → Reads (at s (Element (Some p))) (ts ++ t ∷ [])
+reads_generated s ts t place p k e h =
+    let m = h.held in
+    let colon = h.shape.0 in record {
+      before = m.before;
+      last = m.body ++ colon ∷ t ∷ [];
+      gap = [];
+      refused_before = m.refused_before;
+      refused_last = m.refused_body;
+      whole = ap (λ x. x ++ t ∷ []) h.whole ∙ ap (λ x. (h.front ++ x) ++ t ∷ []) h.shape.1 ∙ ap (λ x. (x ++ colon ∷ []) ++ t ∷ []) m.whole ∙ simp (append_assoc, append-nil);
+      is_before = m.is_before;
+      is_last = generated m.body colon t m.is_body h.shape.2 k e;
+      is_gap = tt;
+      is_first = m.is_first;
+    }
+
+reads_refused : (s : State) (ts : List Token) (t : Token) (place : ℕ) → terminal t ≡ a.Ident → pseudo (text_of t) ≡ Some of_name.Refused → IsOpen (ColonOnly place) s.group s.parts s.join s.compound s.refused ts
+    → Reads (refused (at s Fresh) place (Element None)) (ts ++ t ∷ [])
+reads_refused s ts t place k p h =
     let m = h.held in
     let colon = h.shape.0 in
     let more : or_first s.refused place ≡ first_of (m.refused_before ++ (m.refused_body ++ colon.at ∷ [])) =
-    ap (λ r. or_first r place) m.is_first ∙ sym (first_more (m.refused_before ++ m.refused_body) place) ∙ ap first_of (append_assoc m.refused_before m.refused_body (place ∷ [])) ∙ ap (λ x. first_of (m.refused_before ++ (m.refused_body ++ x ∷ []))) (sym h.shape.3) in
-    got (refused (at s Fresh) place Element) next (ts ++ t ∷ []) e (record {
+    ap (λ r. or_first r place) m.is_first ∙ sym (first_more (m.refused_before ++ m.refused_body) place) ∙ ap first_of (append_assoc m.refused_before m.refused_body (place ∷ [])) ∙ ap (λ x. first_of (m.refused_before ++ (m.refused_body ++ x ∷ []))) (sym h.shape.3) in record {
       before = m.before;
       last = m.body ++ colon ∷ t ∷ [];
       gap = [];
@@ -105,10 +120,18 @@ reads_pseudo s ts t place (Some of_pseudo.Element) next k p h e =
       refused_last = m.refused_body ++ colon.at ∷ [];
       whole = ap (λ x. x ++ t ∷ []) h.whole ∙ ap (λ x. (h.front ++ x) ++ t ∷ []) h.shape.1 ∙ ap (λ x. (x ++ colon ∷ []) ++ t ∷ []) m.whole ∙ simp (append_assoc, append-nil);
       is_before = m.is_before;
-      is_last = with_element m.body colon t m.is_body h.shape.2 k p;
+      is_last = with_refused m.body colon t m.is_body h.shape.2 k p;
       is_gap = tt;
       is_first = more;
-    })
+    }
+
+reads_pseudo : (s : State) (ts : List Token) (t : Token) (place : ℕ) (said : Option ColonName) (next : State) → terminal t ≡ a.Ident → pseudo (text_of t) ≡ said → IsOpen (ColonOnly place) s.group s.parts s.join s.compound s.refused ts
+    → step_pseudo (at s Fresh) place t said ≡ Ok next → Reads next (ts ++ t ∷ [])
+reads_pseudo s ts t place None next k p h e = never t.at next e
+reads_pseudo s ts t place (Some (of_name.Class test)) next k p h e =
+    got (tested (at s Fresh) test) next (ts ++ t ∷ []) e (open_test s ts t test h (subst (λ x. IsTest (x ++ t ∷ []) (test ∷ []) []) (sym h.shape.1) (pseudo_class h.shape.2 k p)))
+reads_pseudo s ts t place (Some (of_name.Generated which)) next k p h e = got (at s (Element (Some which))) next (ts ++ t ∷ []) e (reads_generated s ts t place which k p h)
+reads_pseudo s ts t place (Some of_name.Refused) next k p h e = got (refused (at s Fresh) place (Element None)) next (ts ++ t ∷ []) e (reads_refused s ts t place k p h)
 
 reads_function : (s : State) (ts : List Token) (t : Token) (place : ℕ) (yes : Bool) (next : State) → terminal t ≡ a.Function → same_name (text_of t) (codes "lang") ≡ yes → IsOpen (ColonOnly place) s.group s.parts s.join s.compound s.refused ts
     → step_function (at s Fresh) place t yes ≡ Ok next → Reads next (ts ++ t ∷ [])
@@ -120,7 +143,34 @@ reads_function s ts t place false next k p h e = never t.at next e
 reads_colon : (s : State) (ts : List Token) (t : Token) (place : ℕ) (sign : Terminal) (next : State) → terminal t ≡ sign → IsOpen (ColonOnly place) s.group s.parts s.join s.compound s.refused ts → step_colon (at s Fresh) place t sign ≡ Ok next → Reads next (ts ++ t ∷ [])
 reads_colon s ts t place a.Ident next k h e = reads_pseudo s ts t place (pseudo (text_of t)) next k refl h e
 reads_colon s ts t place a.Function next k h e = reads_function s ts t place (same_name (text_of t) (codes "lang")) next k refl h e
+reads_colon s ts t place a.Colon next k h e =
+    got (at s Colons) next (ts ++ t ∷ []) e (open_more s ts t h (h.shape.0, t, ap (λ x. x ++ t ∷ []) h.shape.1, h.shape.2, k))
 reads_colon s ts t place sign next k h e = never t.at next e
+
+-- a pseudo-element behind two colons
+reads_second : (s : State) (ts : List Token) (t : Token) (said : Option ColonName) (next : State) → terminal t ≡ a.Ident → pseudo (text_of t) ≡ said → IsOpen ColonsOnly s.group s.parts s.join s.compound s.refused ts
+    → step_generated (at s Fresh) t said ≡ Ok next → Reads next (ts ++ t ∷ [])
+reads_second s ts t (Some (of_name.Generated which)) next k p h e =
+    let m = h.held in
+    let colon = h.shape.0 in
+    let second = h.shape.1 in
+    got (at s (Element (Some which))) next (ts ++ t ∷ []) e (record {
+      before = m.before;
+      last = m.body ++ colon ∷ second ∷ t ∷ [];
+      gap = [];
+      refused_before = m.refused_before;
+      refused_last = m.refused_body;
+      whole = ap (λ x. x ++ t ∷ []) h.whole ∙ ap (λ x. (h.front ++ x) ++ t ∷ []) h.shape.2 ∙ ap (λ x. (x ++ colon ∷ second ∷ []) ++ t ∷ []) m.whole ∙ simp (append_assoc, append-nil);
+      is_before = m.is_before;
+      is_last = two_colons m.body colon second t m.is_body h.shape.3 h.shape.4 k p;
+      is_gap = tt;
+      is_first = m.is_first;
+    })
+reads_second s ts t said next k p h e = never t.at next e
+
+reads_colons : (s : State) (ts : List Token) (t : Token) (sign : Terminal) (next : State) → terminal t ≡ sign → IsOpen ColonsOnly s.group s.parts s.join s.compound s.refused ts → step_colons (at s Fresh) t sign ≡ Ok next → Reads next (ts ++ t ∷ [])
+reads_colons s ts t a.Ident next k h e = reads_second s ts t (pseudo (text_of t)) next k refl h e
+reads_colons s ts t sign next k h e = never t.at next e
 
 reads_language : (s : State) (ts : List Token) (t : Token) (place : ℕ) (sign : Terminal) (next : State) → terminal t ≡ sign → IsOpen (LanguageOpen place) s.group s.parts s.join s.compound s.refused ts → step_language (at s Fresh) place t sign ≡ Ok next → Reads next (ts ++ t ∷ [])
 reads_language s ts t place a.Space next k h e =
@@ -150,9 +200,9 @@ reads_language_end s ts t place a.RightParen next k h e =
     (subst (λ x. IsSome s.group s.parts s.join (record { tag = s.compound.tag; tests = x }) (or_first s.refused place) (h.front ++ (h.piece ++ t ∷ []))) (append-nil s.compound.tests) held))
 reads_language_end s ts t place sign next k h e = never t.at next e
 
-reads_element : (s : State) (ts : List Token) (t : Token) (sign : Terminal) (next : State) → terminal t ≡ sign → IsEnded s.group s.parts s.join s.compound s.refused ts → step_element (at s Fresh) t sign ≡ Ok next → Reads next (ts ++ t ∷ [])
-reads_element s ts t a.Space next k h e =
-    got (at s Element) next (ts ++ t ∷ []) e (record {
+reads_element : (s : State) (pseudo : Option Pseudo) (ts : List Token) (t : Token) (sign : Terminal) (next : State) → terminal t ≡ sign → IsEnded pseudo s.group s.parts s.join s.compound s.refused ts → step_element (at s Fresh) pseudo t sign ≡ Ok next → Reads next (ts ++ t ∷ [])
+reads_element s pseudo ts t a.Space next k h e =
+    got (at s (Element pseudo)) next (ts ++ t ∷ []) e (record {
       before = h.before;
       last = h.last;
       gap = h.gap ++ t ∷ [];
@@ -164,8 +214,8 @@ reads_element s ts t a.Space next k h e =
       is_gap = gap_more h.gap t h.is_gap k;
       is_first = h.is_first;
     })
-reads_element s ts t a.Comma next k h e = got (ended (at s Fresh)) next (ts ++ t ∷ []) e (final_comma ts t (ended_final ts h) k)
-reads_element s ts t sign next k h e = never t.at next e
+reads_element s pseudo ts t a.Comma next k h e = got (ended (at s Fresh) pseudo) next (ts ++ t ∷ []) e (final_comma ts t (ended_final ts h) k)
+reads_element s pseudo ts t sign next k h e = never t.at next e
 
 reads_bracket : (s : State) (ts : List Token) (t : Token) (sign : Terminal) (next : State) → terminal t ≡ sign → IsOpen BracketOpen s.group s.parts s.join s.compound s.refused ts → step_bracket (at s Fresh) t sign ≡ Ok next → Reads next (ts ++ t ∷ [])
 reads_bracket s ts t a.Space next k h e =
@@ -239,9 +289,10 @@ reads_at InCompound s ts t next h e = reads_compound s ts t (terminal t) next re
 reads_at Gap s ts t next h e = reads_gap s ts t (terminal t) next refl h e
 reads_at Dot s ts t next h e = reads_dot s ts t (terminal t) next refl h e
 reads_at (Colon place) s ts t next h e = reads_colon s ts t place (terminal t) next refl h e
+reads_at Colons s ts t next h e = reads_colons s ts t (terminal t) next refl h e
 reads_at (Language place) s ts t next h e = reads_language s ts t place (terminal t) next refl h e
 reads_at (LanguageEnd place) s ts t next h e = reads_language_end s ts t place (terminal t) next refl h e
-reads_at Element s ts t next h e = reads_element s ts t (terminal t) next refl h e
+reads_at (Element pseudo) s ts t next h e = reads_element s pseudo ts t (terminal t) next refl h e
 reads_at Bracket s ts t next h e = reads_bracket s ts t (terminal t) next refl h e
 reads_at (Name name) s ts t next h e = reads_name s ts t name (terminal t) next refl h e
 reads_at (Sign name how) s ts t next h e = reads_value s ts t name how (terminal t) next refl h e

@@ -19,7 +19,7 @@ use Rattle.css_semantics.specs.SelectorGrammar.{IsGroupOf}
 use Rattle.css_semantics.specs.SelectorTerminals.{terminal_of, terminal_of_character, is_comment, without_comments}
 use Rattle.css_semantics.specs.Specificity.{IsCountable}
 use Rattle.css_semantics.proofs.PieceLemmas.{some_matches, pieces_join}
-use Rattle.css_select.specs.steps.Machine.{parts_of}
+use Rattle.css_semantics.specs.Spelled.{spelled}
 use Rattle.css_select.proofs.Sizes.{bytes, IsFull, AreFull, AreWithin, group_size}
 
 -- ---- a token has a byte, and an id two
@@ -94,13 +94,13 @@ text_bytes text ts u h = sym (joined_bytes ts) ∙ ap length (pieces_join ts 0 (
 
 -- ---- selectors of a text
 
-countable_by : (n : ℕ) (group : List Selector) → n < 2 ^ 32 → AreWithin n (map parts_of group) → AllByRecursion (λ (s : Selector). IsCountable s.parts) group
+countable_by : (n : ℕ) (group : List Selector) → n < 2 ^ 32 → AreWithin n (map spelled group) → AllByRecursion (λ (s : Selector). IsCountable (spelled s)) group
 countable_by n [] small h = tt
 countable_by n (s ∷ group) small h = (omega (arith, h.0, small), countable_by n group small h.1)
 
-pub are_countable : (text : List ℕ) (group : List Selector) → IsUtf8 text → length text < 2 ^ 32 → IsGroupOf text (map parts_of group) → All (λ (s : Selector). IsCountable s.parts) group
+pub are_countable : (text : List ℕ) (group : List Selector) → IsUtf8 text → length text < 2 ^ 32 → IsGroupOf text (map spelled group) → All (λ (s : Selector). IsCountable (spelled s)) group
 are_countable text group u small h =
     let ts = h.0 in
     let full = full_tokens ts 0 (chars text) h.1 in
     let within = group_size h.2 (without_full ts full) in
-    All-from_recursion (λ (s : Selector). IsCountable s.parts) group (countable_by (bytes (without_comments ts)) group (omega (arith, without_bytes ts, text_bytes text ts u h.1, small)) within)
+    All-from_recursion (λ (s : Selector). IsCountable (spelled s)) group (countable_by (bytes (without_comments ts)) group (omega (arith, without_bytes ts, text_bytes text ts u h.1, small)) within)

@@ -6,10 +6,12 @@ use Rattle.viz_base.specs.declared.selectors.Compound.{Compound}
 use Rattle.viz_base.specs.declared.selectors.Join.{Join}
 use Rattle.viz_base.specs.declared.selectors.Test.{Test}
 use Rattle.css_semantics.specs.Pieces.{Token}
-use Rattle.css_semantics.specs.SelectorGrammar.{IsTest, id, class, has, compares, pseudo_class, language, AreTests, no_test, one_more, IsHead, nothing, star, tag, IsBody, IsCompound, IsFront, at_start, further, IsLast, plain, with_element, IsSelectorText, selector, AreEarlier, none_earlier, one_later, IsGroup, selectors}
+use Rattle.css_semantics.specs.SelectorGrammar.{IsTest, id, class, has, compares, pseudo_class, language, AreTests, no_test, one_more, IsHead, nothing, star, tag, IsBody, IsCompound, IsFront, at_start, further, IsLast, plain, generated, two_colons, with_refused, IsSelectorText, selector, AreEarlier, none_earlier, one_later, IsGroup, selectors}
 use Rattle.css_semantics.specs.SelectorTerminals.{terminal}
 use Rattle.css_semantics.specs.declared.terminals.Terminal.TheVariants as a
-use Rattle.css_semantics.specs.Specificity.{size_of}
+use Rattle.css_semantics.specs.Specificity.{parts_size, pseudos, size_of}
+use Rattle.css_semantics.specs.Spelled.{Spelled}
+use Rattle.viz_base.specs.declared.selectors.Pseudo.{Pseudo}
 
 -- the bytes of tokens
 abbrev pub bytes : List Token → ℕ
@@ -89,10 +91,10 @@ body_size ts c others h full =
 compound_size : (ts : List Token) (c : Compound) (others : List ℕ) → IsCompound ts c others → AreFull ts → length c.tests + 1 ≤ bytes ts
 compound_size ts c others h full = (body_size ts c others h.body full).more h.some
 
-push_size : (parts : List (Join × Compound)) (p : Join × Compound) → size_of (parts ++ p ∷ []) ≡ size_of parts + (length p.1.tests + 1)
+push_size : (parts : List (Join × Compound)) (p : Join × Compound) → parts_size (parts ++ p ∷ []) ≡ parts_size parts + (length p.1.tests + 1)
 push_size parts p = omega (arith, length-append parts (p ∷ []), sum_by_push (λ (q : Join × Compound). length q.1.tests) parts p)
 
-front_size : {ts : List Token} {parts : List (Join × Compound)} {join : Join} {others : List ℕ} → IsFront ts parts join others → AreFull ts → size_of parts ≤ bytes ts
+front_size : {ts : List Token} {parts : List (Join × Compound)} {join : Join} {others : List ℕ} → IsFront ts parts join others → AreFull ts → parts_size parts ≤ bytes ts
 front_size at_start h = omega arith
 front_size (further ts piece gap {parts = parts} {join = join} {c = c} {others = others} f k j) h =
     let rest = full_back ts (piece ++ gap) h in
@@ -100,14 +102,22 @@ front_size (further ts piece gap {parts = parts} {join = join} {c = c} {others =
     let last = compound_size piece c others k (full_front piece gap rest) in
     omega (arith, push_size parts (join, c), bytes_append ts (piece ++ gap), bytes_append piece gap)
 
-last_size : {ts : List Token} {c : Compound} {others : List ℕ} → IsLast ts c others → AreFull ts → length c.tests + 1 ≤ bytes ts
-last_size (plain {ts = ts} {c = c} {refused = others} h) full = compound_size ts c others h full
-last_size (with_element ts {c = c} {refused = others} colon name h k m p) full =
+last_size : {ts : List Token} {c : Compound} {pseudo : Option Pseudo} {others : List ℕ} → IsLast ts c pseudo others → AreFull ts → length c.tests + 1 + pseudos pseudo ≤ bytes ts
+last_size (plain {ts = ts} {c = c} {refused = others} h) full = let size = compound_size ts c others h full in omega arith
+last_size (generated ts {c = c} {refused = others} colon name h k m p) full =
+    let front = (body_size ts c others h (full_front ts (colon ∷ name ∷ []) full)).within in
+    let back = two_tokens colon [] name [] (full_back ts (colon ∷ name ∷ []) full) in
+    omega (arith, bytes_append ts (colon ∷ name ∷ []))
+last_size (two_colons ts {c = c} {refused = others} colon second name h k l m p) full =
+    let front = (body_size ts c others h (full_front ts (colon ∷ second ∷ name ∷ []) full)).within in
+    let back = two_tokens colon (second ∷ []) name [] (full_back ts (colon ∷ second ∷ name ∷ []) full) in
+    omega (arith, bytes_append ts (colon ∷ second ∷ name ∷ []))
+last_size (with_refused ts {c = c} {refused = others} colon name h k m p) full =
     let front = (body_size ts c others h (full_front ts (colon ∷ name ∷ []) full)).within in
     let back = two_tokens colon [] name [] (full_back ts (colon ∷ name ∷ []) full) in
     omega (arith, bytes_append ts (colon ∷ name ∷ []))
 
-selector_size : {ts : List Token} {parts : List (Join × Compound)} {others : List ℕ} → IsSelectorText ts parts others → AreFull ts → size_of parts ≤ bytes ts
+selector_size : {ts : List Token} {one : Spelled} {others : List ℕ} → IsSelectorText ts one others → AreFull ts → size_of one ≤ bytes ts
 selector_size (selector before front last behind {parts = parts} {join = join} {c = c} b f l g) h =
     let some = full_back before (front ++ (last ++ behind)) h in
     let rest = full_back front (last ++ behind) some in
@@ -116,28 +126,28 @@ selector_size (selector before front last behind {parts = parts} {join = join} {
     omega (arith, push_size parts (join, c), bytes_append before (front ++ (last ++ behind)), bytes_append front (last ++ behind), bytes_append last behind)
 
 -- each selector of a group is within so many bytes
-abbrev pub AreWithin : ℕ → List (List (Join × Compound)) → Type 0
-AreWithin n = AllByRecursion (λ parts. size_of parts ≤ n)
+abbrev pub AreWithin : ℕ → List Spelled → Type 0
+AreWithin n = AllByRecursion (λ one. size_of one ≤ n)
 
-within_more : (m n : ℕ) (group : List (List (Join × Compound))) → m ≤ n → AreWithin m group → AreWithin n group
+within_more : (m n : ℕ) (group : List Spelled) → m ≤ n → AreWithin m group → AreWithin n group
 within_more m n [] le h = tt
-within_more m n (parts ∷ group) le h = (omega (arith, h.0), within_more m n group le h.1)
+within_more m n (one ∷ group) le h = (omega (arith, h.0), within_more m n group le h.1)
 
-within_push : (n : ℕ) (group : List (List (Join × Compound))) (parts : List (Join × Compound)) → AreWithin n group → size_of parts ≤ n → AreWithin n (group ++ parts ∷ [])
-within_push n [] parts h e = (e, tt)
-within_push n (one ∷ group) parts h e = (h.0, within_push n group parts h.1 e)
+within_push : (n : ℕ) (group : List Spelled) (last : Spelled) → AreWithin n group → size_of last ≤ n → AreWithin n (group ++ last ∷ [])
+within_push n [] last h e = (e, tt)
+within_push n (one ∷ group) last h e = (h.0, within_push n group last h.1 e)
 
-earlier_size : {ts : List Token} {group : List (List (Join × Compound))} {others : List ℕ} → AreEarlier ts group others → AreFull ts → AreWithin (bytes ts) group
+earlier_size : {ts : List Token} {group : List Spelled} {others : List ℕ} → AreEarlier ts group others → AreFull ts → AreWithin (bytes ts) group
 earlier_size none_earlier h = tt
-earlier_size (one_later ts piece comma {group = group} {parts = parts} e k c) h =
+earlier_size (one_later ts piece comma {group = group} {one = last} e k c) h =
     let n = bytes (ts ++ (piece ++ comma ∷ [])) in
     let rest = full_back ts (piece ++ comma ∷ []) h in
     let one = selector_size k (full_front piece (comma ∷ []) rest) in
-    within_push n group parts (within_more (bytes ts) n group (omega (arith, bytes_append ts (piece ++ comma ∷ []))) (earlier_size e (full_front ts (piece ++ comma ∷ []) h)))
+    within_push n group last (within_more (bytes ts) n group (omega (arith, bytes_append ts (piece ++ comma ∷ []))) (earlier_size e (full_front ts (piece ++ comma ∷ []) h)))
     (omega (arith, bytes_append ts (piece ++ comma ∷ []), bytes_append piece (comma ∷ [])))
 
-pub group_size : {ts : List Token} {group : List (List (Join × Compound))} {others : List ℕ} → IsGroup ts group others → AreFull ts → AreWithin (bytes ts) group
-group_size (selectors ts piece {group = group} {parts = parts} e k) h =
+pub group_size : {ts : List Token} {group : List Spelled} {others : List ℕ} → IsGroup ts group others → AreFull ts → AreWithin (bytes ts) group
+group_size (selectors ts piece {group = group} {one = last} e k) h =
     let n = bytes (ts ++ piece) in
     let one = selector_size k (full_back ts piece h) in
-    within_push n group parts (within_more (bytes ts) n group (omega (arith, bytes_append ts piece)) (earlier_size e (full_front ts piece h))) (omega (arith, bytes_append ts piece))
+    within_push n group last (within_more (bytes ts) n group (omega (arith, bytes_append ts piece)) (earlier_size e (full_front ts piece h))) (omega (arith, bytes_append ts piece))

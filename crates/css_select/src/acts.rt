@@ -1,12 +1,13 @@
 ghost use Rattle.std.specs.Prelude.{◌≡◌, ◌++◌, [], ◌∷◌, IfOk, false, map};
 ghost use Rattle.viz_base.specs.Selectors.{is_first};
 ghost use Rattle.viz_base.specs.declared.selectors.Join.TheVariants.{First};
-ghost use Rattle.css_select.specs.steps.Machine.{at, empty, ended, initial, joined, parts_of, refused, state_of, tagged, tested};
+ghost use Rattle.css_semantics.specs.Spelled.{spelled};
+ghost use Rattle.css_select.specs.steps.Machine.{at, empty, ended, initial, joined, refused, state_of, tagged, tested};
 
 use crate::reading::{Chain, Place, Reading};
 use std::alloc::Global;
 use std::mem::replace;
-use viz_base::{Compound, Join, List, Mem, Selector, Test, Text};
+use viz_base::{Compound, Join, List, Mem, Pseudo, Selector, Test, Text};
 
 fn empty(alloc: Global) -> Compound
     ensures { result ≡ empty }
@@ -40,22 +41,27 @@ impl Chain {
         Ok(Chain { parts, join })
     }
 
-    /// The selector that a last simple selector ends.
-    fn end(self, compound: Compound) -> Result<Selector, Mem>
-        ensures { IfOk result (λ s. s.parts ≡ self.parts ++ (self.join, compound) ∷ []) }
+    /// The selector that a last simple selector ends, with its pseudo-element.
+    fn end(self, compound: Compound, pseudo: Option<Pseudo>) -> Result<Selector, Mem>
+        ensures { IfOk result (λ s. spelled s ≡ (self.parts ++ (self.join, compound) ∷ [], pseudo)) }
     {
         let mut parts = self.parts;
         parts.push((self.join, compound))?;
-        Ok(Selector { parts })
+        Ok(Selector { parts, pseudo })
     }
 }
 
 /// A group with one more selector, which a last simple selector ends.
-fn with_end(group: List<Selector>, chain: Chain, compound: Compound) -> Result<List<Selector>, Mem>
-    ensures { IfOk result (λ all. map parts_of all
-        ≡ map parts_of group ++ (chain.parts ++ (chain.join, compound) ∷ []) ∷ []) }
+fn with_end(
+    group: List<Selector>,
+    chain: Chain,
+    compound: Compound,
+    pseudo: Option<Pseudo>,
+) -> Result<List<Selector>, Mem>
+    ensures { IfOk result (λ all. map spelled all
+        ≡ map spelled group ++ (chain.parts ++ (chain.join, compound) ∷ [], pseudo) ∷ []) }
 {
-    let selector = chain.end(compound)?;
+    let selector = chain.end(compound, pseudo)?;
     let mut group = group;
     group.push(selector)?;
     Ok(group)
@@ -142,9 +148,9 @@ impl Reading {
         })
     }
 
-    /// The group that a last simple selector ends.
-    pub fn end(self) -> Result<List<Selector>, Mem>
-        ensures { IfOk result (λ all. map parts_of all ≡ (ended (state_of self)).group) }
+    /// The group that a last simple selector ends, with its pseudo-element.
+    pub fn end(self, pseudo: Option<Pseudo>) -> Result<List<Selector>, Mem>
+        ensures { IfOk result (λ all. map spelled all ≡ (ended (state_of self) pseudo).group) }
     {
         let Reading {
             place,
@@ -154,15 +160,15 @@ impl Reading {
             ..
         } = self;
         drop(place);
-        with_end(group, chain, compound)
+        with_end(group, chain, compound, pseudo)
     }
 
-    /// Behind a selector.
-    pub fn ended(self, alloc: Global) -> Result<Self, Mem>
-        ensures { IfOk result (λ next. state_of next ≡ ended (state_of self)) }
+    /// Behind a selector, with its pseudo-element.
+    pub fn ended(self, alloc: Global, pseudo: Option<Pseudo>) -> Result<Self, Mem>
+        ensures { IfOk result (λ next. state_of next ≡ ended (state_of self) pseudo) }
     {
         let refused = self.refused;
-        let group = self.end()?;
+        let group = self.end(pseudo)?;
         Ok(Reading {
             place: Place::Fresh,
             group,

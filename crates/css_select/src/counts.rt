@@ -1,8 +1,9 @@
 ghost use Rattle.std.specs.Prelude.{◌≡◌, ◌+◌, ◌<◌, ◌≤◌, ◌^◌, length};
 ghost use Rattle.std.specs.List.{count_by};
-ghost use Rattle.css_semantics.specs.Specificity.{IsCountable, ids, is_id, is_other, others, spec_of, tags};
+ghost use Rattle.css_semantics.specs.Specificity.{IsCountable, ids, is_id, is_other, others, parts_size, pseudos, spec_of, tags};
+ghost use Rattle.css_semantics.specs.Spelled.{spelled};
 
-use viz_base::{Compound, Join, Selector, Spec, Test};
+use viz_base::{Compound, Join, Pseudo, Selector, Spec, Test};
 
 fn is_id(test: &Test) -> bool
     ensures { result ≡ is_id test.now }
@@ -40,7 +41,7 @@ fn others_among(tests: &[Test]) -> u32
 
 /// The number of ids in a selector.
 fn ids(parts: &[(Join, Compound)]) -> u32
-    requires { IsCountable parts.now }
+    requires { parts_size parts.now < 2 ^ 32 }
     ensures { result ≡ ids parts.now }
 {
     let mut count = 0;
@@ -52,7 +53,7 @@ fn ids(parts: &[(Join, Compound)]) -> u32
 
 /// The number of the other tests in a selector.
 fn others(parts: &[(Join, Compound)]) -> u32
-    requires { IsCountable parts.now }
+    requires { parts_size parts.now < 2 ^ 32 }
     ensures { result ≡ others parts.now }
 {
     let mut count = 0;
@@ -64,8 +65,9 @@ fn others(parts: &[(Join, Compound)]) -> u32
 
 /// The number of tags in a selector.
 fn tags(parts: &[(Join, Compound)]) -> u32
-    requires { IsCountable parts.now }
-    ensures { result ≡ tags parts.now }
+    requires { parts_size parts.now < 2 ^ 32 }
+    ensures is { result ≡ tags parts.now }
+    ensures within { result ≤ length parts.now }
 {
     let mut count = 0;
     for (_, compound) in parts {
@@ -76,16 +78,27 @@ fn tags(parts: &[(Join, Compound)]) -> u32
     count
 }
 
+/// A pseudo-element counts as a tag does.
+fn pseudos(pseudo: Option<Pseudo>) -> u32
+    ensures is { result ≡ pseudos pseudo }
+    ensures within { result ≤ 1 }
+{
+    match pseudo {
+        Some(_) => 1,
+        None => 0,
+    }
+}
+
 /// How specific a selector is (CSS 2.1, 6.4.3).
 pub fn specificity(selector: &Selector) -> Spec
-    requires { IsCountable selector.now.parts }
-    ensures { result ≡ spec_of selector.now.parts }
+    requires { IsCountable (spelled selector.now) }
+    ensures { result ≡ spec_of (spelled selector.now) }
 {
     let parts = selector.parts.as_slice();
     Spec {
         style: 0,
         ids: ids(parts),
         attrs: others(parts),
-        types: tags(parts),
+        types: tags(parts) + pseudos(selector.pseudo),
     }
 }

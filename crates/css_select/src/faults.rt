@@ -9,7 +9,7 @@ pub enum SelFault {
     /// The place of the first token that no group of selectors can have there, or the text's length.
     #[error("bad selector at {0}")]
     Bad(u32),
-    /// The place of the colon of the first `:lang()`, `:first-line`, `:first-letter`, `:before` or `:after`.
+    /// The place of the colon of the first `:lang()`, `:first-line` or `:first-letter`.
     #[error("unsupported selector at {0}")]
     Unsupported(u32),
 }

@@ -149,7 +149,8 @@ fn match_around(
 }
 
 /// Whether a selector matches a node of a page, which is an element then (CSS 2.1, chapter 5), in time linear in the
-/// depth of the page for each simple selector, and in its siblings where one looks at them.
+/// depth of the page for each simple selector, and in its siblings where one looks at them. Its pseudo-element isn't
+/// asked for: what stands before it matches the element that has one.
 pub fn matches(selector: &Selector, page: &Page, node: u32) -> bool
     ensures { IsTrue result ↔ Match selector.now.parts page.now.nodes node }
 {

@@ -4,10 +4,10 @@ ghost use Rattle.css_semantics.specs.Names.{same_name};
 ghost use Rattle.css_semantics.specs.SheetsMarks.{text_of};
 ghost use Rattle.css_semantics.specs.SelectorTerminals.{comparison, compared, is_value, name_of, pseudo};
 
-use css_semantics::{Comparison, Pseudo, Terminal, Token};
+use css_semantics::{ColonName, Comparison, Terminal, Token};
 use css_token::{same_name, unescape};
 use std::alloc::Global;
-use viz_base::{Mem, Test, Text};
+use viz_base::{Mem, Pseudo, Test, Text};
 
 /// The name of a type or an attribute, after escapes, in lower case.
 #[tactic(auto, unfolding(css_semantics::specs::SelectorTerminals::name_of, css_semantics::specs::SheetsMarks::text_of))]
@@ -29,28 +29,28 @@ fn is_never(text: &str) -> bool
         || same_name(text, "focus")
 }
 
-/// Whether it is a pseudo-element.
-fn is_element(text: &str) -> bool
-    ensures { result ≡ (same_name text.now (codes "first-line") || same_name text.now (codes "first-letter")
-        || same_name text.now (codes "before") || same_name text.now (codes "after")) }
+/// Whether it is a pseudo-element that is refused.
+fn is_refused(text: &str) -> bool
+    ensures { result ≡ (same_name text.now (codes "first-line") || same_name text.now (codes "first-letter")) }
 {
-    same_name(text, "first-line")
-        || same_name(text, "first-letter")
-        || same_name(text, "before")
-        || same_name(text, "after")
+    same_name(text, "first-line") || same_name(text, "first-letter")
 }
 
-fn pseudo_of(text: &str) -> Option<Pseudo>
+fn pseudo_of(text: &str) -> Option<ColonName>
     ensures { result ≡ pseudo text.now }
 {
     if same_name(text, "first-child") {
-        Some(Pseudo::Class(Test::FirstChild))
+        Some(ColonName::Class(Test::FirstChild))
     } else if same_name(text, "link") {
-        Some(Pseudo::Class(Test::Link))
+        Some(ColonName::Class(Test::Link))
     } else if is_never(text) {
-        Some(Pseudo::Class(Test::Never))
-    } else if is_element(text) {
-        Some(Pseudo::Element)
+        Some(ColonName::Class(Test::Never))
+    } else if same_name(text, "before") {
+        Some(ColonName::Generated(Pseudo::Before))
+    } else if same_name(text, "after") {
+        Some(ColonName::Generated(Pseudo::After))
+    } else if is_refused(text) {
+        Some(ColonName::Refused)
     } else {
         None
     }
@@ -58,7 +58,7 @@ fn pseudo_of(text: &str) -> Option<Pseudo>
 
 /// What an identifier behind a colon says.
 #[tactic(auto, unfolding(css_semantics::specs::SheetsMarks::text_of))]
-pub fn pseudo(alloc: Global, token: &Token<'_>) -> Result<Option<Pseudo>, Mem>
+pub fn pseudo(alloc: Global, token: &Token<'_>) -> Result<Option<ColonName>, Mem>
     ensures { IfOk result (λ said. said ≡ pseudo (text_of token.now)) }
 {
     let said = unescape(alloc, token)?;

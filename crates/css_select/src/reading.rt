@@ -1,7 +1,7 @@
 ghost use Rattle.css_select.specs.steps.Chains.{IsChain};
 
 use css_semantics::Comparison;
-use viz_base::{Compound, Join, List, Selector, Test, Text};
+use viz_base::{Compound, Join, List, Pseudo, Selector, Test, Text};
 
 /// Where in a group of selectors reading stands.
 #[derive(Drop)]
@@ -16,12 +16,14 @@ pub enum Place {
     Dot,
     /// Behind the `:` at a place of the text.
     Colon(u32),
+    /// Behind two colons.
+    Colons,
     /// Behind `:lang(`, its colon at a place.
     Language(u32),
     /// Behind the language in it.
     LanguageEnd(u32),
-    /// Behind a pseudo-element.
-    Element,
+    /// Behind a pseudo-element, which is none where it is refused.
+    Element(Option<Pseudo>),
     /// Behind `[`.
     Bracket,
     /// Behind an attribute's name.

@@ -7,15 +7,15 @@ ghost use Rattle.css_select.specs.declared.faults.SelFault.TheVariants.{Bad};
 ghost use Rattle.css_select.specs.Refusals.{bad_at, refusal_of};
 ghost use Rattle.css_select.specs.declared.reading.Place.TheVariants.{Colon, Name, Value};
 ghost use Rattle.viz_base.specs.declared.selectors.Test.TheVariants.{Class, Id};
-ghost use Rattle.css_select.specs.steps.Machine.{State, at, state_of, step, step_at, step_bracket, step_closing, step_colon, step_compound, step_dot, step_element, step_fresh, step_gap, step_language, step_language_end, step_name, step_function, step_pseudo, step_sign, step_test, step_value, tagged, tested};
+ghost use Rattle.css_select.specs.steps.Machine.{State, at, state_of, step, step_at, step_bracket, step_closing, step_colon, step_colons, step_compound, step_dot, step_element, step_fresh, step_gap, step_generated, step_language, step_language_end, step_name, step_function, step_pseudo, step_sign, step_test, step_value, tagged, tested};
 
 use crate::faults::SelFault;
 use crate::names::{compared, comparison, is_lang, is_value, name_of, pseudo, text_of};
 use crate::reading::{Place, Reading};
 use crate::terminals::terminal;
-use css_semantics::{Comparison, Pseudo, Terminal, Token};
+use css_semantics::{ColonName, Comparison, Terminal, Token};
 use std::alloc::Global;
-use viz_base::{Join, Mem, Test, Text};
+use viz_base::{Join, Mem, Pseudo, Test, Text};
 
 /// A place of the text. In a text of `2^32` bytes and more it may not fit, which counts as want of memory.
 pub fn place(at: usize) -> Result<u32, Mem>
@@ -155,7 +155,7 @@ fn step_compound(
         Terminal::Space => Ok(reading.at(Place::Gap)),
         Terminal::Greater => Ok(reading.joined(alloc, Join::Child)?),
         Terminal::Plus => Ok(reading.joined(alloc, Join::Next)?),
-        Terminal::Comma => Ok(reading.ended(alloc)?),
+        Terminal::Comma => Ok(reading.ended(alloc, None)?),
         sign => step_test(alloc, reading, token, sign),
     }
 }
@@ -172,7 +172,7 @@ fn step_gap(
         Terminal::Space => Ok(reading.at(Place::Gap)),
         Terminal::Greater => Ok(reading.joined(alloc, Join::Child)?),
         Terminal::Plus => Ok(reading.joined(alloc, Join::Next)?),
-        Terminal::Comma => Ok(reading.ended(alloc)?),
+        Terminal::Comma => Ok(reading.ended(alloc, None)?),
         sign => step_fresh(alloc, reading.joined(alloc, Join::Descendant)?, token, sign),
     }
 }
@@ -201,8 +201,9 @@ fn step_name_behind_colon(
         (step_pseudo (state_of reading) colon token.now (pseudo (text_of token.now))) }
 {
     match pseudo(alloc, token) {
-        Ok(Some(Pseudo::Class(test))) => with_test(reading, test),
-        Ok(Some(Pseudo::Element)) => Ok(reading.refused(colon, Place::Element)),
+        Ok(Some(ColonName::Class(test))) => with_test(reading, test),
+        Ok(Some(ColonName::Generated(pseudo))) => Ok(reading.at(Place::Element(Some(pseudo)))),
+        Ok(Some(ColonName::Refused)) => Ok(reading.refused(colon, Place::Element(None))),
         Ok(None) => Err(reading.given_up(bad(token))),
         Err(_) => Err(reading.given_up(SelFault::Mem)),
     }
@@ -236,6 +237,37 @@ fn step_colon(
     match sign {
         Terminal::Ident => step_name_behind_colon(alloc, reading, colon, token),
         Terminal::Function => step_function_behind_colon(alloc, reading, colon, token),
+        Terminal::Colon => Ok(reading.at(Place::Colons)),
+        _ => Err(reading.given_up(bad(token))),
+    }
+}
+
+fn step_name_behind_colons(
+    alloc: Global,
+    reading: Reading,
+    token: &Token<'_>,
+) -> Result<Reading, SelFault>
+    ensures { Gives state_of refusal_of result
+        (step_generated (state_of reading) token.now (pseudo (text_of token.now))) }
+{
+    match pseudo(alloc, token) {
+        Ok(Some(ColonName::Generated(pseudo))) => Ok(reading.at(Place::Element(Some(pseudo)))),
+        Ok(_) => Err(reading.given_up(bad(token))),
+        Err(_) => Err(reading.given_up(SelFault::Mem)),
+    }
+}
+
+fn step_colons(
+    alloc: Global,
+    reading: Reading,
+    token: &Token<'_>,
+    sign: Terminal,
+) -> Result<Reading, SelFault>
+    ensures { Gives state_of refusal_of result (step_colons (state_of reading) token.now sign) }
+{
+    match sign {
+        // Two colons are for generated content alone.
+        Terminal::Ident => step_name_behind_colons(alloc, reading, token),
         _ => Err(reading.given_up(bad(token))),
     }
 }
@@ -273,14 +305,15 @@ fn step_language_end(
 fn step_element(
     alloc: Global,
     reading: Reading,
+    pseudo: Option<Pseudo>,
     token: &Token<'_>,
     sign: Terminal,
 ) -> Result<Reading, SelFault>
-    ensures { Gives state_of refusal_of result (step_element (state_of reading) token.now sign) }
+    ensures { Gives state_of refusal_of result (step_element (state_of reading) pseudo token.now sign) }
 {
     match sign {
-        Terminal::Space => Ok(reading.at(Place::Element)),
-        Terminal::Comma => Ok(reading.ended(alloc)?),
+        Terminal::Space => Ok(reading.at(Place::Element(pseudo))),
+        Terminal::Comma => Ok(reading.ended(alloc, pseudo)?),
         _ => Err(reading.given_up(bad(token))),
     }
 }
@@ -391,9 +424,10 @@ pub fn step(alloc: Global, reading: Reading, token: &Token<'_>) -> Result<Readin
         Place::Gap => step_gap(alloc, rest, token, sign),
         Place::Dot => step_dot(alloc, rest, token, sign),
         Place::Colon(colon) => step_colon(alloc, rest, colon, token, sign),
+        Place::Colons => step_colons(alloc, rest, token, sign),
         Place::Language(colon) => step_language(rest, colon, token, sign),
         Place::LanguageEnd(colon) => step_language_end(rest, colon, token, sign),
-        Place::Element => step_element(alloc, rest, token, sign),
+        Place::Element(pseudo) => step_element(alloc, rest, pseudo, token, sign),
         Place::Bracket => step_bracket(alloc, rest, token, sign),
         Place::Name(name) => step_name(rest, name, token, sign),
         Place::Sign(name, how) => step_value(alloc, rest, name, how, token, sign),

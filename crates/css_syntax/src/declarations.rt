@@ -2,7 +2,8 @@ ghost use Rattle.std.specs.Prelude.{◌≡◌, [], None, Some, IfOk, MatchOption
 ghost use Rattle.std.specs.Option.{option_to_list};
 ghost use Rattle.css_semantics.specs.SheetsReading.{before_important, before_last, before_trimmed, decl_of, declared_at, goes_on, is_blank, is_closed};
 ghost use Rattle.css_semantics.specs.SheetsMarks.{ends_declaration};
-ghost use Rattle.css_semantics.specs.steps.Sheets.{after_declaration, at_head, behind, front, declaration, declaration_item, declarations, declared, is_value};
+ghost use Rattle.css_semantics.specs.steps.Sheets.{after_declaration, at_head, declaration, declaration_item, declarations, declared, is_value};
+ghost use Rattle.css_semantics.specs.steps.Stretches.{behind, front};
 
 use crate::slices::{Class, extent, is_all_gap, place, start_of, trim, trim_end, trim_start};
 use crate::stretches::{Stop, after_at_rule, split};
@@ -44,7 +45,7 @@ fn before_bang<'a>(tokens: &'a [Token<'a>]) -> Option<(&'a [Token<'a>], usize)>
 }
 
 /// Whether no bracket that is opened in the tokens is still open behind them.
-fn is_closed(alloc: Global, tokens: &[Token<'_>]) -> Result<bool, Mem>
+pub fn is_closed(alloc: Global, tokens: &[Token<'_>]) -> Result<bool, Mem>
     ensures { IfOk result (λ yes. yes ≡ is_closed tokens.now) }
 {
     let mut marks = Marks::new(alloc);

@@ -3,10 +3,12 @@
 
 mod declarations;
 mod media;
+mod pieces;
 mod rules;
 mod sheets;
 mod slices;
 mod statements;
 mod stretches;
 
+pub use rules::copied_media;
 pub use sheets::{SheetFault, read_declarations, read_sheet};

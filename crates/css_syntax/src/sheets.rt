@@ -21,7 +21,8 @@ pub enum SheetFault {
     /// The place of an `@import` that comes before each ruleset, `@media` and `@page`.
     #[error("import at {0}")]
     Import(u32),
-    /// The place of an `@media` with a parenthesis before its block.
+    /// The place of an `@media` that asks for what this profile has not: a parenthesis stands before its block, and an
+    /// entry of its media list is outside the grammar.
     #[error("media query at {0}")]
     MediaQuery(u32),
     /// More than 8,192 rules.
@@ -122,9 +123,10 @@ fn read_rules<'a>(alloc: Global, tokens: &'a [Token<'a>]) -> Result<Sheet, Sheet
     })
 }
 
-/// The style sheet that a text spells, with all error recovery (CSS 2.1, 4.1 and 4.2): the rulesets that apply to the
-/// medium `screen`, those of which the selector alone is at fault too, and their declarations, of which the property or
-/// the value alone may be at fault. Places and lengths are in bytes of the text, which is shorter than `2^32` bytes.
+/// The style sheet that a text spells, with all error recovery (CSS 2.1, 4.1 and 4.2): the rulesets, those of which the
+/// selector alone is at fault too, each with the media list that it stands under, and their declarations, of which the
+/// property or the value alone may be at fault. Places and lengths are in bytes of the text, which is shorter than
+/// `2^32` bytes.
 ///
 /// `Import` and `MediaQuery` for the first statement that is refused, at the place of its keyword; `TooManyRules` for
 /// more than 8,192 rules where none is refused; `Mem` for want of memory, as which a place or a length from `2^32` on

@@ -1,10 +1,11 @@
-ghost use Rattle.std.specs.Prelude.{◌≡◌, [], IfOk, if◌then◌else◌};
+ghost use Rattle.std.specs.Prelude.{◌≡◌, not, ◌&&◌, IfOk};
 ghost use Rattle.std.specs.List.{list_any};
 ghost use Rattle.std.specs.Option.{option_to_list};
 ghost use Rattle.css_semantics.specs.SheetsMarks.{ends_prelude, has_paren};
-ghost use Rattle.css_semantics.specs.steps.Sheets.{after_statement, at_head, at_rule, behind, front, holds, in_block, media_of, rules_in, statement_item};
+ghost use Rattle.css_semantics.specs.steps.Sheets.{after_statement, at_head, at_rule, in_block, media_of, statement_item};
+ghost use Rattle.css_semantics.specs.steps.Stretches.{behind, front};
 
-use crate::media::holds;
+use crate::media::{MediaList, media_list};
 use crate::rules::{block_rule, rules_in};
 use crate::slices::place;
 use crate::stretches::{Stop, after_at_rule, split};
@@ -12,7 +13,7 @@ use css_semantics::{Statement, Token};
 use css_token::is_word;
 use css_token::kinds::{has_paren, is_at_keyword, is_comment_mark, is_gap, is_left_brace};
 use std::alloc::Global;
-use viz_base::{List, Mem, Rule};
+use viz_base::Mem;
 
 /// What stands in the block that begins the tokens, or nothing.
 fn in_block<'a>(alloc: Global, tokens: &'a [Token<'a>]) -> Result<&'a [Token<'a>], Mem>
@@ -34,19 +35,11 @@ fn has_query(tokens: &[Token<'_>]) -> bool
     tokens.iter().any(|token| has_paren(token.kind))
 }
 
-/// The rules of a block where its media list has the medium, else none.
-fn held_rules<'a>(
-    alloc: Global,
-    list: &'a [Token<'a>],
-    block: &'a [Token<'a>],
-) -> Result<List<Rule>, Mem>
-    ensures { IfOk result (λ rules. rules ≡ (if holds list.now then rules_in block.now else [])) }
+/// Whether an `@media` asks for what this profile has not.
+fn is_beyond(prelude: &[Token<'_>], list: &MediaList) -> bool
+    ensures { result ≡ (list_any (λ t. has_paren t.kind) prelude.now && not list.now.is_known) }
 {
-    if holds(alloc, list)? {
-        rules_in(alloc, block)
-    } else {
-        Ok(List::new(alloc))
-    }
+    has_query(prelude) && !list.is_known
 }
 
 /// The `@media` at this place, with its prelude and its block.
@@ -58,11 +51,12 @@ fn media_of<'a>(
 ) -> Result<Statement, Mem>
     ensures { IfOk result (λ statement. statement ≡ media_of at prelude.now block.now) }
 {
-    if has_query(prelude) {
-        Ok(Statement::MediaQuery(place(at)?))
-    } else {
-        Ok(Statement::Media(held_rules(alloc, prelude, block)?))
+    let list = media_list(alloc, prelude)?;
+    if is_beyond(prelude, &list) {
+        return Ok(Statement::MediaQuery(place(at)?));
     }
+    let media = Some(list.entries);
+    Ok(Statement::Media(rules_in(alloc, &media, block)?))
 }
 
 /// The `@media` whose keyword, at this place, stands before the tokens.
@@ -113,6 +107,6 @@ pub fn statement_item<'a>(
         let behind = after_at_rule(alloc, after)?;
         return Ok((at_rule(alloc, first, after)?, behind));
     }
-    let (rule, rest) = block_rule(alloc, tokens)?;
+    let (rule, rest) = block_rule(alloc, &None, tokens)?;
     Ok((rule.map(Statement::Ruleset), rest))
 }

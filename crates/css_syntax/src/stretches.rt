@@ -1,6 +1,7 @@
 ghost use Rattle.std.specs.Prelude.{◌≡◌, ◌≤◌, [], drop, length, IfOk};
 ghost use Rattle.css_semantics.specs.SheetsReading.{stretch_len};
-ghost use Rattle.css_semantics.specs.steps.Sheets.{after_at_rule, after_block, after_prelude, behind, front};
+ghost use Rattle.css_semantics.specs.steps.Sheets.{after_at_rule, after_block, after_prelude};
+ghost use Rattle.css_semantics.specs.steps.Stretches.{behind, front};
 ghost use Rattle.css_syntax.specs.Classes.{stops};
 
 use css_semantics::Token;

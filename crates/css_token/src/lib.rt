@@ -2,6 +2,7 @@
 //! brackets that they open and close.
 #![tactic(auto)]
 
+pub mod amounts;
 mod closing;
 mod escapes;
 pub mod kinds;

@@ -108,6 +108,8 @@ part_mild p h (part.Quoted text) = refl
 part_mild p h part.Comma = refl
 part_mild p h part.Solidus = refl
 part_mild p h part.Colour = refl
+part_mild p h (part.Function matched) = refl
+part_mild p h part.Uri = refl
 part_mild p h part.Other = refl
 
 -- ---- four sides
@@ -387,6 +389,8 @@ behind_is (part.Em n ∷ ps) = tt
 behind_is (part.Ex n ∷ ps) = tt
 behind_is (part.Comma ∷ ps) = tt
 behind_is (part.Colour ∷ ps) = tt
+behind_is (part.Function matched ∷ ps) = tt
+behind_is (part.Uri ∷ ps) = tt
 behind_is (part.Other ∷ ps) = tt
 
 named_said : (s h : Value) (o : Option (List (List ℕ))) (settings : List Setting) → named_font s h o ≡ Ok settings → (names : List (List ℕ)) × (o ≡ Some names) × (font_settings s names h ≡ settings)
@@ -479,6 +483,8 @@ no_height_in (part.Em n ∷ ps) names e = refl
 no_height_in (part.Ex n ∷ ps) names e = refl
 no_height_in (part.Comma ∷ ps) names e = refl
 no_height_in (part.Colour ∷ ps) names e = refl
+no_height_in (part.Function matched ∷ ps) names e = refl
+no_height_in (part.Uri ∷ ps) names e = refl
 no_height_in (part.Other ∷ ps) names e = refl
 
 from_size : (size : Part) (behind family : List Part) (s h : Value) (names : List (List ℕ)) → part_value FontSize size ≡ Ok s → IsHeight behind h → font_names family ≡ Some names → font_from_size (size ∷ (behind ++ family)) ≡ Ok (font_settings s names h)

@@ -6,17 +6,13 @@ use Rattle.css_semantics.specs.Pieces.{Token}
 use Rattle.viz_base.specs.declared.tokens.TokenKind.{TokenKind}
 use Rattle.css_semantics.specs.SheetsMarks.{closing_mark}
 use Rattle.css_semantics.specs.SheetsReading.{is_none, stretch_len}
-use Rattle.css_semantics.specs.ValuesParts.{amount_in, after_opener, after_part, after_sign, bracket_len, counted, is_amount, is_sign, signed, unit_of}
-use Rattle.css_semantics.proofs.Gathering.{IsTail, HasTails, tail_all, tail_tail}
-use Rattle.css_semantics.proofs.Tails.{tail_if}
-
-sign_tail : (ts : List Token) → IsTail (after_sign ts) ts
-sign_tail [] = tail_all []
-sign_tail (t ∷ ts) = tail_if (is_amount t.kind) ts (t ∷ ts) (t ∷ ts) (λ _. tail_tail t ts (t ∷ ts) (tail_all (t ∷ ts))) (λ _. tail_all (t ∷ ts))
+use Rattle.css_semantics.specs.ValuesParts.{amount_in, after_opener, after_part, after_sign, bracket_len, counted, is_sign, signed, unit_of}
+use Rattle.css_semantics.proofs.Gathering.{IsTail, HasTails, tail_all}
+use Rattle.css_semantics.proofs.Tails.{tail_if, tail_sign}
 
 opener_tail : (o : Option TokenKind) (t : Token) (ts : List Token) → IsTail (after_opener o t ts) ts
 opener_tail (Some mark) t ts = (bracket_len mark ts, refl)
-opener_tail None t ts = tail_if (is_sign t) (after_sign ts) ts ts (λ _. sign_tail ts) (λ _. tail_all ts)
+opener_tail None t ts = tail_if (is_sign t) (after_sign ts) ts ts (λ _. tail_sign ts) (λ _. tail_all ts)
 
 -- what follows a part is an end of the tokens behind its first
 pub part_tails : HasTails after_part

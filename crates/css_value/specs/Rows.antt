@@ -14,6 +14,7 @@ filled p r = record {
   percentages = r.percentages;
   numbers = r.numbers;
   families = r.families;
+  strings = r.strings;
   initial = (row p).initial;
   inherits = (row p).inherits;
 }

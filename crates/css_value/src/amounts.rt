@@ -1,65 +1,13 @@
-ghost use Rattle.std.specs.Prelude.{◌≡◌, ◌≤◌, ◌*ℤ◌, ◌≤ℤ◌, ◌<ℤ◌, ◌^◌, pos, neg_ℤ, IfOk, IfSome};
+ghost use Rattle.std.specs.Prelude.{◌≡◌, ◌≤◌, ◌*ℤ◌, ◌≤ℤ◌, ◌<ℤ◌, ◌^◌, pos, neg_ℤ, IfOk};
 ghost use Rattle.std.specs.Int.{int_div_euclid};
-ghost use Rattle.std.specs.Option.{option_map};
-ghost use Rattle.std.specs.Str.{chars};
-ghost use Rattle.viz_base.specs.Decimals.{decimal_of};
 ghost use Rattle.viz_base.specs.Numbers.{floor_of};
-ghost use Rattle.css_semantics.specs.ValuesParts.{amount_in, amount_of, behind_numeral, counted, is_numeral, length_of, numeral_of, signed, unit_of};
+ghost use Rattle.css_semantics.specs.ValuesParts.{amount_in, amount_of, counted, length_of};
 
 use css_semantics::{Part, Token};
-use css_token::{same_name, split_char, unescape};
+use css_token::amounts::{signed_count, unit_of};
+use css_token::same_name;
 use std::alloc::Global;
-use viz_base::{Mem, Text, TokenKind, read_decimal};
-
-fn is_numeral_byte(byte: u8) -> bool
-    ensures { result ≡ is_numeral byte }
-{
-    byte.is_ascii_digit() || byte == b'.'
-}
-
-fn is_numeral(letter: char) -> bool
-    ensures { result ≡ is_numeral letter }
-{
-    matches!(letter, '0'..='9' | '.')
-}
-
-/// The digits and the point at the front.
-fn numeral_of(text: &[u8]) -> &[u8]
-    ensures { result.now ≡ numeral_of text.now }
-{
-    for at in 0..text.len() {
-        if !is_numeral_byte(text[at]) {
-            return &text[..at];
-        }
-    }
-    text
-}
-
-/// What follows the digits and the point.
-fn behind_numeral(text: &str) -> &str
-    ensures { chars result.now ≡ behind_numeral (chars text.now) }
-{
-    let mut rest = text;
-    while let Some((letter, after)) = split_char(rest) {
-        if !is_numeral(letter) {
-            return rest;
-        }
-        rest = after;
-    }
-    rest
-}
-
-/// The unit of an amount, after escapes.
-fn unit_of(alloc: Global, token: &Token<'_>) -> Result<Text, Mem>
-    ensures { IfOk result (λ unit. unit ≡ unit_of (chars token.now.text)) }
-{
-    let unit = Token {
-        kind: TokenKind::Ident,
-        at: token.at,
-        text: behind_numeral(token.text),
-    };
-    unescape(alloc, &unit)
-}
+use viz_base::{Mem, TokenKind};
 
 /// `n * times / parts`, rounded towards minus infinity.
 fn scaled(n: i64, times: i64, parts: i64) -> i64
@@ -99,16 +47,6 @@ fn length_of(n: i64, unit: &str) -> Part
     } else {
         Part::Other
     }
-}
-
-/// A count of millionths with its sign; none where it is past the bound.
-fn signed_count(negative: bool, token: &Token<'_>) -> Option<i64>
-    ensures value { result ≡ option_map (signed negative) (decimal_of (numeral_of token.now.text)) }
-    ensures low { IfSome result (λ n. neg_ℤ (pos (2 ^ 40)) ≤ℤ n) }
-    ensures high { IfSome result (λ n. n ≤ℤ pos (2 ^ 40)) }
-{
-    let n = read_decimal(numeral_of(token.text.as_bytes()))?;
-    if negative { Some(-n) } else { Some(n) }
 }
 
 /// An amount of so many millionths, by the kind of its token.

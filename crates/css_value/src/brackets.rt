@@ -43,9 +43,5 @@ pub fn function_part(alloc: Global, tokens: &[Token<'_>]) -> Result<Part, Mem>
     ensures { IfOk result (λ part. part ≡ function_part tokens.now) }
 {
     let len = bracket_len(alloc, TokenKind::Function, tokens)?;
-    if goes_on(alloc, &tokens[..len])? {
-        Ok(Part::Colour)
-    } else {
-        Ok(Part::Other)
-    }
+    Ok(Part::Function(goes_on(alloc, &tokens[..len])?))
 }

@@ -37,6 +37,7 @@ fn is_colour(part: &Part) -> bool
     match part {
         Part::Word(_) => !is_line_width(part) && !is_line_style(part),
         Part::Colour => true,
+        Part::Function(matched) => *matched,
         _ => false,
     }
 }

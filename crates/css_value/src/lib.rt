@@ -15,6 +15,7 @@ mod names;
 mod rows;
 mod sides;
 mod splitting;
+mod strings;
 mod values;
 
 pub use declarations::read_declaration;

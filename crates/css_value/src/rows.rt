@@ -25,6 +25,8 @@ pub struct TableRow {
     pub numbers: Takes,
     /// Whether its value is a list of names of font families.
     pub families: bool,
+    /// Whether its value may be a text: strings, one after another.
+    pub strings: bool,
 }
 
 const LINE_WIDTHS: &[&str] = &["thin", "medium", "thick"];
@@ -38,7 +40,7 @@ const SIZE_WORDS: &[&str] = &[
 ];
 
 /// The properties in the order of the table.
-const PROPERTIES: [Prop; 39] = [
+const PROPERTIES: [Prop; 40] = [
     Prop::Display,
     Prop::Position,
     Prop::Float,
@@ -78,6 +80,7 @@ const PROPERTIES: [Prop; 39] = [
     Prop::WordSpacing,
     Prop::TextTransform,
     Prop::ListStylePosition,
+    Prop::Content,
 ];
 
 /// A row of a property that takes nothing.
@@ -89,6 +92,7 @@ const EMPTY: TableRow = TableRow {
     percentages: Takes::Nothing,
     numbers: Takes::Nothing,
     families: false,
+    strings: false,
 };
 
 /// The row of a property in the table.
@@ -346,6 +350,18 @@ fn table(prop: Prop) -> &'static TableRow
             refused: &["inside"],
             ..EMPTY
         },
+        Prop::Content => &TableRow {
+            name: "content",
+            words: &["normal", "none"],
+            refused: &[
+                "open-quote",
+                "close-quote",
+                "no-open-quote",
+                "no-close-quote",
+            ],
+            strings: true,
+            ..EMPTY
+        },
     }
 }
 
@@ -359,6 +375,7 @@ pub fn row(prop: Prop) -> TableRow
     ensures percentages { result.percentages ≡ (row prop).percentages }
     ensures numbers { result.numbers ≡ (row prop).numbers }
     ensures families { result.families ≡ (row prop).families }
+    ensures strings { result.strings ≡ (row prop).strings }
 {
     *table(prop)
 }

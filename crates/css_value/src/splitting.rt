@@ -3,36 +3,16 @@ ghost use Rattle.std.specs.Option.{option_to_list};
 ghost use Rattle.css_semantics.specs.SheetsMarks.{text_of};
 ghost use Rattle.css_semantics.specs.SheetsReading.{gathered};
 ghost use Rattle.css_semantics.specs.steps.Sheets.{at_head};
-ghost use Rattle.css_semantics.specs.ValuesParts.{after_part, after_sign, delim_part, is_amount, is_minus, is_sign, part_item, part_of, parts, signed_part};
+ghost use Rattle.css_semantics.specs.ValuesParts.{after_part, delim_part, part_item, part_of, parts, signed_part};
 
 use crate::amounts::amount_of;
 use crate::brackets::{bracket_len, function_part};
 use css_semantics::{Part, Token};
+use css_token::amounts::{after_sign, is_amount, is_minus, is_sign};
 use css_token::kinds::{closing_mark, is_gap};
 use css_token::{is_character, unescape};
 use std::alloc::Global;
 use viz_base::{List, Mem, Text, TokenKind};
-
-fn is_amount(kind: TokenKind) -> bool
-    ensures { result ≡ is_amount kind }
-{
-    matches!(
-        kind,
-        TokenKind::Number | TokenKind::Percentage | TokenKind::Dimension
-    )
-}
-
-fn is_minus(token: &Token<'_>) -> bool
-    ensures { result ≡ is_minus token.now }
-{
-    is_character(token, b'-')
-}
-
-fn is_sign(token: &Token<'_>) -> bool
-    ensures { result ≡ is_sign token.now }
-{
-    is_character(token, b'+') || is_minus(token)
-}
 
 /// The part that begins with a sign.
 fn signed_part(alloc: Global, sign: &Token<'_>, after: &[Token<'_>]) -> Result<Part, Mem>
@@ -78,21 +58,10 @@ fn part_of(alloc: Global, token: &Token<'_>, after: &[Token<'_>]) -> Result<Part
         }
         TokenKind::Hash => Ok(Part::Colour),
         TokenKind::Function => function_part(alloc, after),
+        TokenKind::Uri => Ok(Part::Uri),
         TokenKind::Delim => delim_part(alloc, token, after),
         _ => Ok(Part::Other),
     }
-}
-
-/// What follows a sign, without the amount that belongs to it.
-fn after_sign<'a>(tokens: &'a [Token<'a>]) -> &'a [Token<'a>]
-    ensures { result.now ≡ after_sign tokens.now }
-{
-    if let Some((token, after)) = tokens.split_first() {
-        if is_amount(token.kind) {
-            return after;
-        }
-    }
-    tokens
 }
 
 /// What follows the part that begins with a token.

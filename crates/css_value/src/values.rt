@@ -7,6 +7,7 @@ use crate::families::families;
 use crate::fault::ValueFault;
 use crate::names::{is_among, place_among};
 use crate::rows::row;
+use crate::strings::text_or_one;
 use css_semantics::{Part, Refusal, Takes};
 use css_token::same_name;
 use std::alloc::Global;
@@ -96,9 +97,13 @@ pub fn part_value(prop: Prop, part: &Part) -> Result<Value, Refusal>
         Part::Px(n) => judged(prop, row(prop).lengths, *n, *n, Value::Px(*n)),
         Part::Em(n) => judged(prop, row(prop).lengths, *n, *n, Value::Em(*n)),
         Part::Ex(n) => judged(prop, row(prop).lengths, *n, half(*n), Value::Em(half(*n))),
-        Part::Quoted(_) | Part::Comma | Part::Solidus | Part::Colour | Part::Other => {
-            Err(Refusal::Ignored)
-        }
+        Part::Quoted(_)
+        | Part::Comma
+        | Part::Solidus
+        | Part::Colour
+        | Part::Function(_)
+        | Part::Uri
+        | Part::Other => Err(Refusal::Ignored),
     }
 }
 
@@ -122,7 +127,8 @@ pub fn is_inherit(parts: &[Part]) -> bool
     }
 }
 
-fn one_part(prop: Prop, parts: &[Part]) -> Result<Value, Refusal>
+/// The value of a property that takes one part; several are ignored (4.2).
+pub fn one_part(prop: Prop, parts: &[Part]) -> Result<Value, Refusal>
     ensures { result ≡ one_part prop parts.now }
 {
     match parts {
@@ -141,6 +147,8 @@ fn whole_value(alloc: Global, prop: Prop, parts: &[Part]) -> Result<Value, Value
             Some(names) => Ok(Value::Names(names)),
             None => Err(ValueFault::Ignored),
         }
+    } else if row(prop).strings {
+        text_or_one(alloc, prop, parts)
     } else {
         Ok(one_part(prop, parts)?)
     }

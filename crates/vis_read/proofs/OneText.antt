@@ -6,6 +6,7 @@ use Rattle.css_semantics.proofs.PieceLemmas.{same_fronts}
 use Rattle.css_select.specs.Refusals.{Refusal, unsupported_at, bad_at}
 use Rattle.css_select.specs.Verdicts.{Verdict}
 use Rattle.css_select.proofs.Answers.{one_reading_of}
+use Rattle.css_semantics.specs.SelectorGrammar.{IsGroupOf}
 use Rattle.viz_base.specs.declared.formulas.Formula.{Formula}
 use Rattle.viz_base.specs.declared.formulas.Set.TheVariants.{Nodes}
 use Rattle.viz_base.specs.declared.nodes.Node.{Node}
@@ -19,7 +20,7 @@ use Rattle.vis_read.specs.declared.pieces.Piece.{Piece}
 use Rattle.vis_read.specs.declared.pieces.Piece.TheVariants.{Word, Number, Pixels, Quoted, Sign, Mark}
 use Rattle.vis_read.specs.Pieces.{IsLongest, IsPiece}
 use Rattle.vis_read.specs.Texts.{IsAnswerOf}
-use Rattle.vis_read.specs.Tokens.{AreMatched, AreTokens, Group, IsSet, MatchesOne, Means, is_white}
+use Rattle.vis_read.specs.Tokens.{AreMatched, AreTokens, Group, IsSet, MatchesOne, Means, is_white, names_pseudo}
 use Rattle.vis_read.specs.steps.Verdicts.{verdict}
 use Rattle.vis_read.proofs.Munch.{kind_at, of_kind, white_none}
 use Rattle.vis_read.proofs.Exact.{IsReading, reading_is}
@@ -68,16 +69,28 @@ abbrev group_or : Group → Verdict → Group
 group_or g (Ok h) = h
 group_or g v = g
 
+one_group : (text : List ℕ) {g k : Group} → IsGroupOf text g → IsGroupOf text k → g ≡ k
+one_group text {g = g} {k = k} h i = ap (group_or g) (one_reading_of text (Ok g) (Ok k) h i)
+
+not_plain : (text : List ℕ) {g k : Group} → IsGroupOf text g → names_pseudo g ≡ false → IsGroupOf text k → names_pseudo k ≡ true → ⊥
+not_plain text h plain i named = false≢true (sym plain ∙ ap names_pseudo (one_group text h i) ∙ named)
+
 one_set : {nodes : List Node} {text : List ℕ} {l m : Lexeme} → IsSet nodes text l → IsSet nodes text m → l ≡ m
-one_set {nodes = nodes} {text = text} (IsSet.set g xs h are) (IsSet.set k ys i bre) =
-    let same : g ≡ k = ap (group_or g) (one_reading_of text (Ok g) (Ok k) h i) in
-    ap (λ found. a.Members (Nodes found)) (matched_same (subst (λ x. AreMatched nodes x (length nodes) xs) same are) bre refl)
-one_set {text = text} (IsSet.set g xs h are) (IsSet.bad at i) = absurd (group_not_refused (one_reading_of text (Ok g) (Err (bad_at at)) h i))
-one_set {text = text} (IsSet.set g xs h are) (IsSet.unsupported at i) = absurd (group_not_refused (one_reading_of text (Ok g) (Err (unsupported_at at)) h i))
-one_set {text = text} (IsSet.bad at h) (IsSet.set k ys i bre) = absurd (group_not_refused (one_reading_of text (Ok k) (Err (bad_at at)) i h))
-one_set {text = text} (IsSet.unsupported at h) (IsSet.set k ys i bre) = absurd (group_not_refused (one_reading_of text (Ok k) (Err (unsupported_at at)) i h))
+one_set {nodes = nodes} {text = text} (IsSet.set g xs h plain are) (IsSet.set k ys i other bre) =
+    ap (λ found. a.Members (Nodes found)) (matched_same (subst (λ x. AreMatched nodes x (length nodes) xs) (one_group text h i) are) bre refl)
+one_set {text = text} (IsSet.set g xs h plain are) (IsSet.of_pseudo k i named) = absurd (not_plain text h plain i named)
+one_set {text = text} (IsSet.set g xs h plain are) (IsSet.bad at i) = absurd (group_not_refused (one_reading_of text (Ok g) (Err (bad_at at)) h i))
+one_set {text = text} (IsSet.set g xs h plain are) (IsSet.unsupported at i) = absurd (group_not_refused (one_reading_of text (Ok g) (Err (unsupported_at at)) h i))
+one_set {text = text} (IsSet.of_pseudo g h named) (IsSet.set k ys i plain bre) = absurd (not_plain text i plain h named)
+one_set {text = text} (IsSet.bad at h) (IsSet.set k ys i plain bre) = absurd (group_not_refused (one_reading_of text (Ok k) (Err (bad_at at)) i h))
+one_set {text = text} (IsSet.unsupported at h) (IsSet.set k ys i plain bre) = absurd (group_not_refused (one_reading_of text (Ok k) (Err (unsupported_at at)) i h))
+one_set (IsSet.of_pseudo g h named) (IsSet.of_pseudo k i other) = refl
+one_set (IsSet.of_pseudo g h named) (IsSet.bad at i) = refl
+one_set (IsSet.of_pseudo g h named) (IsSet.unsupported at i) = refl
+one_set (IsSet.bad at h) (IsSet.of_pseudo k i named) = refl
 one_set (IsSet.bad at h) (IsSet.bad other i) = refl
 one_set (IsSet.bad at h) (IsSet.unsupported other i) = refl
+one_set (IsSet.unsupported at h) (IsSet.of_pseudo k i named) = refl
 one_set (IsSet.unsupported at h) (IsSet.bad other i) = refl
 one_set (IsSet.unsupported at h) (IsSet.unsupported other i) = refl
 

@@ -95,6 +95,7 @@ edge_within of_edge.One = omega arith
 edge_within (of_edge.Name _ _ _) = omega arith
 edge_within of_edge.ViewWidth = omega arith
 edge_within of_edge.ViewHeight = omega arith
+edge_within of_edge.ViewSize = omega arith
 
 part_most : (neg : Bool) (n : ℕ) (e : Edge) → n ≤ 65536 → summand_most (multiple neg n e) ≤ most_part
 part_most neg n e le =

@@ -99,7 +99,8 @@ small_mark c =
     (λ e7. rw (e0, e1, e2, e3, e4, e5, e6, e7) tt))))))))
 
 small_set : {nodes : List Node} {text : List ℕ} {lexeme : Lexeme} → IsSet nodes text lexeme → IsSmall lexeme
-small_set (IsSet.set group found is are) = tt
+small_set (IsSet.set group found is plain are) = tt
+small_set (IsSet.of_pseudo group is named) = tt
 small_set (IsSet.bad at h) = tt
 small_set (IsSet.unsupported at h) = tt
 

@@ -1,10 +1,10 @@
 -- The tokens of a formula's text: its pieces, of which white space stands between, with their meaning in the grammar.
-use Rattle.std.specs.Prelude.{◌≡◌, ℕ, ◌+◌, ◌==◌, Bool, true, false, ◌||◌, ◌⊎◌, List, [], ◌∷◌, ◌++◌, length, if◌then◌else◌}
+use Rattle.std.specs.Prelude.{◌≡◌, ℕ, ◌+◌, ◌==◌, Bool, true, false, ◌||◌, ◌⊎◌, List, [], ◌∷◌, ◌++◌, length, if◌then◌else◌, is_some}
+use Rattle.std.specs.List.{list_any}
 use Rattle.viz_base.specs.declared.nodes.Node.{Node}
 use Rattle.viz_base.specs.declared.formulas.Set.TheVariants.{Nodes}
-use Rattle.viz_base.specs.declared.selectors.Compound.{Compound}
-use Rattle.viz_base.specs.declared.selectors.Join.{Join}
 use Rattle.css_semantics.specs.Matching.{Match}
+use Rattle.css_semantics.specs.Spelled.{Spelled}
 use Rattle.css_semantics.specs.SelectorGrammar.{IsBadAt, IsGroupOf, IsUnsupportedAt}
 use Rattle.vis_read.specs.declared.lexemes.Lexeme.{Lexeme}
 use Rattle.vis_read.specs.declared.lexemes.Lexeme.TheVariants as a
@@ -18,12 +18,16 @@ use Rattle.vis_read.specs.Words.{word_lexeme}
 -- ---- sets of elements
 
 abbrev pub Group : Type 0
-Group = List (List (Join × Compound))
+Group = List Spelled
 
 -- one of the selectors matches the node (CSS 2.1, 5.2.1)
 abbrev pub MatchesOne : List Node → Group → ℕ → Type 0
 MatchesOne nodes [] n = ⊥
-MatchesOne nodes (parts ∷ group) n = Match parts nodes n ⊎ MatchesOne nodes group n
+MatchesOne nodes (one ∷ group) n = Match one.0 nodes n ⊎ MatchesOne nodes group n
+
+-- one of the selectors has a pseudo-element: what it matches is no node of the page
+abbrev pub names_pseudo : Group → Bool
+names_pseudo group = list_any (λ (one : Spelled). is_some one.1) group
 
 -- those of the nodes before a number that a group of selectors matches, in ascending order
 pub data AreMatched (nodes : List Node) (group : Group) : ℕ → List ℕ → Type 0 where
@@ -33,11 +37,12 @@ pub data AreMatched (nodes : List Node) (group : Group) : ℕ → List ℕ → T
   passed : (n : ℕ) (found : List ℕ) → AreMatched nodes group n found → (MatchesOne nodes group n → ⊥)
       → AreMatched nodes group (n + 1) found
 
--- What a string says: the nodes that the selectors in it match. It is no set where
--- it is no group of selectors, or one with a selector that is refused.
+-- What a string says: the nodes that the selectors in it match. It is no set where it is no
+-- group of selectors, or one with a pseudo-element or with a selector that is refused.
 pub data IsSet (nodes : List Node) (text : List ℕ) : Lexeme → Type 0 where
-  set : (group : Group) (found : List ℕ) → IsGroupOf text group → AreMatched nodes group (length nodes) found
-      → IsSet nodes text (a.Members (Nodes found))
+  set : (group : Group) (found : List ℕ) → IsGroupOf text group → names_pseudo group ≡ false
+      → AreMatched nodes group (length nodes) found → IsSet nodes text (a.Members (Nodes found))
+  of_pseudo : (group : Group) → IsGroupOf text group → names_pseudo group ≡ true → IsSet nodes text a.Unknown
   bad : (at : ℕ) → IsBadAt text at → IsSet nodes text a.Unknown
   unsupported : (at : ℕ) → IsUnsupportedAt text at → IsSet nodes text a.Unknown
 

@@ -1,40 +1,38 @@
 -- Reading a group of selectors token by token: what is read at each place, and what the next token does there.
 use Rattle.std.specs.Prelude.{ℕ, Bool, true, false, List, [], ◌∷◌, ◌++◌, map, Option, Some, None, Result, Ok, Err, if◌then◌else◌, codes}
-use Rattle.viz_base.specs.declared.groups.Selector.{Selector}
 use Rattle.viz_base.specs.declared.selectors.Compound.{Compound}
 use Rattle.viz_base.specs.declared.selectors.Join.{Join}
 use Rattle.viz_base.specs.declared.selectors.Join.TheVariants.{First, Descendant, Child, Next}
+use Rattle.viz_base.specs.declared.selectors.Pseudo.{Pseudo}
 use Rattle.viz_base.specs.declared.selectors.Test.{Test}
 use Rattle.viz_base.specs.declared.selectors.Test.TheVariants as of_test
 use Rattle.css_semantics.specs.Pieces.{Token}
 use Rattle.css_semantics.specs.declared.terminals.Comparison.{Comparison}
-use Rattle.css_semantics.specs.declared.terminals.Pseudo.{Pseudo}
-use Rattle.css_semantics.specs.declared.terminals.Pseudo.TheVariants as of_pseudo
+use Rattle.css_semantics.specs.declared.terminals.ColonName.{ColonName}
+use Rattle.css_semantics.specs.declared.terminals.ColonName.TheVariants as of_name
 use Rattle.css_semantics.specs.declared.terminals.Terminal.{Terminal}
 use Rattle.css_semantics.specs.declared.terminals.Terminal.TheVariants as a
 use Rattle.css_semantics.specs.Names.{same_name}
 use Rattle.css_semantics.specs.SelectorTerminals.{terminal, is_comment, name_of, pseudo, comparison, compared, is_value}
 use Rattle.css_semantics.specs.SheetsMarks.{text_of}
+use Rattle.css_semantics.specs.Spelled.{Spelled, spelled}
 use Rattle.css_select.specs.declared.reading.Place.{Place}
-use Rattle.css_select.specs.declared.reading.Place.TheVariants.{Fresh, Compound as InCompound, Gap, Dot, Colon, Language, LanguageEnd, Element, Bracket, Name, Sign, Value}
+use Rattle.css_select.specs.declared.reading.Place.TheVariants.{Fresh, Compound as InCompound, Gap, Dot, Colon, Colons, Language, LanguageEnd, Element, Bracket, Name, Sign, Value}
 use Rattle.css_select.specs.declared.reading.Reading.{Reading}
 use Rattle.css_select.specs.Refusals.{Refusal, bad_at}
 
 pub record State : Type 0 where
   pub place : Place
-  pub group : List (List (Join × Compound))
+  pub group : List Spelled
   pub parts : List (Join × Compound)
   pub join : Join
   pub compound : Compound
   pub refused : Option ℕ
 
-abbrev pub parts_of : Selector → List (Join × Compound)
-parts_of s = s.parts
-
 abbrev pub state_of : Reading → State
 state_of r = record {
   place = r.place;
-  group = map parts_of r.group;
+  group = map spelled r.group;
   parts = r.chain.parts;
   join = r.chain.join;
   compound = r.compound;
@@ -73,11 +71,11 @@ refused s colon place = record s { place = place; refused = or_first s.refused c
 abbrev pub joined : State → Join → State
 joined s join = record s { place = Fresh; parts = s.parts ++ (s.join, s.compound) ∷ []; join = join; compound = empty }
 
--- a selector
-abbrev pub ended : State → State
-ended s = record {
+-- a selector, with its pseudo-element
+abbrev pub ended : State → Option Pseudo → State
+ended s pseudo = record {
   place = Fresh;
-  group = s.group ++ (s.parts ++ (s.join, s.compound) ∷ []) ∷ [];
+  group = s.group ++ (s.parts ++ (s.join, s.compound) ∷ [], pseudo) ∷ [];
   parts = [];
   join = First;
   compound = empty;
@@ -103,24 +101,25 @@ abbrev pub step_compound : State → Token → Terminal → Result State Refusal
 step_compound s t a.Space = Ok (at s Gap)
 step_compound s t a.Greater = Ok (joined s Child)
 step_compound s t a.Plus = Ok (joined s Next)
-step_compound s t a.Comma = Ok (ended s)
+step_compound s t a.Comma = Ok (ended s None)
 step_compound s t sign = step_test s t sign
 
 abbrev pub step_gap : State → Token → Terminal → Result State Refusal
 step_gap s t a.Space = Ok (at s Gap)
 step_gap s t a.Greater = Ok (joined s Child)
 step_gap s t a.Plus = Ok (joined s Next)
-step_gap s t a.Comma = Ok (ended s)
+step_gap s t a.Comma = Ok (ended s None)
 step_gap s t sign = step_fresh (joined s Descendant) t sign
 
 abbrev pub step_dot : State → Token → Terminal → Result State Refusal
 step_dot s t a.Ident = Ok (tested s (of_test.Class (text_of t)))
 step_dot s t _ = Err (bad_at t.at)
 
-abbrev pub step_pseudo : State → ℕ → Token → Option Pseudo → Result State Refusal
+abbrev pub step_pseudo : State → ℕ → Token → Option ColonName → Result State Refusal
 step_pseudo s colon t None = Err (bad_at t.at)
-step_pseudo s colon t (Some (of_pseudo.Class test)) = Ok (tested s test)
-step_pseudo s colon t (Some of_pseudo.Element) = Ok (refused s colon Element)
+step_pseudo s colon t (Some (of_name.Class test)) = Ok (tested s test)
+step_pseudo s colon t (Some (of_name.Generated p)) = Ok (at s (Element (Some p)))
+step_pseudo s colon t (Some of_name.Refused) = Ok (refused s colon (Element None))
 
 abbrev pub step_function : State → ℕ → Token → Bool → Result State Refusal
 step_function s colon t true = Ok (at s (Language colon))
@@ -129,7 +128,16 @@ step_function s colon t false = Err (bad_at t.at)
 abbrev pub step_colon : State → ℕ → Token → Terminal → Result State Refusal
 step_colon s colon t a.Ident = step_pseudo s colon t (pseudo (text_of t))
 step_colon s colon t a.Function = step_function s colon t (same_name (text_of t) (codes "lang"))
+step_colon s colon t a.Colon = Ok (at s Colons)
 step_colon s colon t _ = Err (bad_at t.at)
+
+abbrev pub step_generated : State → Token → Option ColonName → Result State Refusal
+step_generated s t (Some (of_name.Generated p)) = Ok (at s (Element (Some p)))
+step_generated s t _ = Err (bad_at t.at)
+
+abbrev pub step_colons : State → Token → Terminal → Result State Refusal
+step_colons s t a.Ident = step_generated s t (pseudo (text_of t))
+step_colons s t _ = Err (bad_at t.at)
 
 abbrev pub step_language : State → ℕ → Token → Terminal → Result State Refusal
 step_language s colon t a.Space = Ok (at s (Language colon))
@@ -141,10 +149,10 @@ step_language_end s colon t a.Space = Ok (at s (LanguageEnd colon))
 step_language_end s colon t a.RightParen = Ok (refused s colon InCompound)
 step_language_end s colon t _ = Err (bad_at t.at)
 
-abbrev pub step_element : State → Token → Terminal → Result State Refusal
-step_element s t a.Space = Ok (at s Element)
-step_element s t a.Comma = Ok (ended s)
-step_element s t _ = Err (bad_at t.at)
+abbrev pub step_element : State → Option Pseudo → Token → Terminal → Result State Refusal
+step_element s pseudo t a.Space = Ok (at s (Element pseudo))
+step_element s pseudo t a.Comma = Ok (ended s pseudo)
+step_element s pseudo t _ = Err (bad_at t.at)
 
 abbrev pub step_bracket : State → Token → Terminal → Result State Refusal
 step_bracket s t a.Space = Ok (at s Bracket)
@@ -179,9 +187,10 @@ step_at InCompound s t sign = step_compound s t sign
 step_at Gap s t sign = step_gap s t sign
 step_at Dot s t sign = step_dot s t sign
 step_at (Colon colon) s t sign = step_colon s colon t sign
+step_at Colons s t sign = step_colons s t sign
 step_at (Language colon) s t sign = step_language s colon t sign
 step_at (LanguageEnd colon) s t sign = step_language_end s colon t sign
-step_at Element s t sign = step_element s t sign
+step_at (Element pseudo) s t sign = step_element s pseudo t sign
 step_at Bracket s t sign = step_bracket s t sign
 step_at (Name name) s t sign = step_name s name t sign
 step_at (Sign name how) s t sign = step_value s name how t sign
@@ -204,5 +213,10 @@ run s (t ∷ ts) = if is_comment t.kind then run s ts else then_run (step s t) (
 abbrev pub may_end : Place → Bool
 may_end InCompound = true
 may_end Gap = true
-may_end Element = true
+may_end (Element pseudo) = true
 may_end _ = false
+
+-- the pseudo-element that is read there
+abbrev pub pseudo_at : Place → Option Pseudo
+pseudo_at (Element pseudo) = pseudo
+pseudo_at _ = None

@@ -5,4 +5,4 @@ use Rattle.css_cascade.specs.steps.Seen.{kept_all, seen}
 use Rattle.css_cascade.proofs.order.keep_found.Given as goal
 
 abbrev pub invariant-loop-claim : goal.invariant-loop-claim
-invariant-loop-claim l = (length l.best.items ≡ 39) × (kept_all (map (option_map seen) l.best.items) (map (applied l.spec) (map (λ c. c.now) (drop l.claim-index l.claims))) ≡ kept_all (map (option_map seen) l.initial.best.items) (map (applied l.spec) (map (λ c. c.now) l.claims)))
+invariant-loop-claim l = (length l.best.items ≡ 40) × (kept_all (map (option_map seen) l.best.items) (map (applied l.spec) (map (λ c. c.now) (drop l.claim-index l.claims))) ≡ kept_all (map (option_map seen) l.initial.best.items) (map (applied l.spec) (map (λ c. c.now) l.claims)))

@@ -17,13 +17,13 @@ loop-number-preserved c =
     let reached = c.loop-number.invariant.1 in
     elim c.match-get.branch [
       | in-Some w ↦
-          subst (λ b. (length b.items ≡ 39) × ReachedTry c.args.page.now.nodes c.args.node c.args.rulesets.now (map numbered candidates) numbers (k + 1) (map (option_map seen) c.args.best.now.items) (map (option_map seen) b.items) c.match-get.going) (sym w.best-is) (
+          subst (λ b. (length b.items ≡ 40) × ReachedTry c.args.page.now.nodes c.args.node c.args.rulesets.now (map numbered candidates) numbers (k + 1) (map (option_map seen) c.args.best.now.items) (map (option_map seen) b.items) c.match-get.going) (sym w.best-is) (
             w.try_one-going.ensures.len,
             subst (ReachedTry _ _ _ _ _ _ _ _) (sym w.going-is)
                 (try_more _ _ _ _ _ _ _ _ _ _ _ x (numbered w.in-Some.candidate.now) at (slice_get-map numbered candidates x ∙ ap (option_map numbered) (slice_get_read candidates (length candidates) x w.in-Some.candidate.now refl w.in-Some.ensures.lookup.3.0 w.in-Some.ensures.lookup.1)) reached w.try_one-going.ensures.tried),
           )
       | in_default w ↦
-          subst (λ b. (length b.items ≡ 39) × ReachedTry c.args.page.now.nodes c.args.node c.args.rulesets.now (map numbered candidates) numbers (k + 1) (map (option_map seen) c.args.best.now.items) (map (option_map seen) b.items) c.match-get.going) (sym w.best-is) (
+          subst (λ b. (length b.items ≡ 40) × ReachedTry c.args.page.now.nodes c.args.node c.args.rulesets.now (map numbered candidates) numbers (k + 1) (map (option_map seen) c.args.best.now.items) (map (option_map seen) b.items) c.match-get.going) (sym w.best-is) (
             c.loop-number.invariant.0,
             subst (ReachedTry _ _ _ _ _ _ _ _) (sym w.going-is)
                 (try_past _ _ _ _ _ _ _ _ _ x at (slice_get-map numbered candidates x ∙ ap (option_map numbered) (slice_get_past candidates x w.in_default.ensures.lookup.3)) reached),

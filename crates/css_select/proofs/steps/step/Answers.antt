@@ -32,6 +32,9 @@ returns-in-Dot c = stepped c.args.reading.place of_place.Dot (at (state_of c.arg
 pub returns-in-Colon : goal.returns-in-Colon
 returns-in-Colon c = stepped c.args.reading.place (of_place.Colon c.in-Colon.colon) (at (state_of c.args.reading) of_place.Fresh) c.args.token.now c.terminal-sign.result c.step_colon.result c.in-Colon.is c.terminal-sign.ensures c.step_colon.ensures
 
+pub returns-in-Colons : goal.returns-in-Colons
+returns-in-Colons c = stepped c.args.reading.place of_place.Colons (at (state_of c.args.reading) of_place.Fresh) c.args.token.now c.terminal-sign.result c.step_colons.result c.in-Colons.is c.terminal-sign.ensures c.step_colons.ensures
+
 pub returns-in-Language : goal.returns-in-Language
 returns-in-Language c = stepped c.args.reading.place (of_place.Language c.in-Language.colon) (at (state_of c.args.reading) of_place.Fresh) c.args.token.now c.terminal-sign.result c.step_language.result c.in-Language.is c.terminal-sign.ensures c.step_language.ensures
 
@@ -39,7 +42,7 @@ pub returns-in-LanguageEnd : goal.returns-in-LanguageEnd
 returns-in-LanguageEnd c = stepped c.args.reading.place (of_place.LanguageEnd c.in-LanguageEnd.colon) (at (state_of c.args.reading) of_place.Fresh) c.args.token.now c.terminal-sign.result c.step_language_end.result c.in-LanguageEnd.is c.terminal-sign.ensures c.step_language_end.ensures
 
 pub returns-in-Element : goal.returns-in-Element
-returns-in-Element c = stepped c.args.reading.place of_place.Element (at (state_of c.args.reading) of_place.Fresh) c.args.token.now c.terminal-sign.result c.step_element.result c.in-Element.is c.terminal-sign.ensures c.step_element.ensures
+returns-in-Element c = stepped c.args.reading.place (of_place.Element c.in-Element.pseudo) (at (state_of c.args.reading) of_place.Fresh) c.args.token.now c.terminal-sign.result c.step_element.result c.in-Element.is c.terminal-sign.ensures c.step_element.ensures
 
 pub returns-in-Bracket : goal.returns-in-Bracket
 returns-in-Bracket c = stepped c.args.reading.place of_place.Bracket (at (state_of c.args.reading) of_place.Fresh) c.args.token.now c.terminal-sign.result c.step_bracket.result c.in-Bracket.is c.terminal-sign.ensures c.step_bracket.ensures

@@ -19,4 +19,4 @@ loop-at-preserved c =
       | in-Some+in_ok-push w ↦ pushed_some _ _ _ _ w.in-Some.is (w.rules-is ∙ (w.in_ok-push.ensures).ok)
       | in_default w ↦ pushed_none _ _ _ w.in_default.is w.rules-is
     ] in
-    gathered_more _ _ _ _ _ _ c.loop-at.invariant (turn_gathered after_rule rule_tails all c.loop-at.at _ (c.in_ok-rule.ensures).1 rule_item _ (c.in_ok-rule.ensures).0) more
+    gathered_more _ _ _ _ _ _ c.loop-at.invariant (turn_gathered after_rule rule_tails all c.loop-at.at _ (c.in_ok-rule.ensures).1 (rule_item c.args.media.now) _ (c.in_ok-rule.ensures).0) more

@@ -1,17 +1,17 @@
 use Rattle.std.proofs.Common.{◌+◌, ◌∙◌, map, subst, sym}
 use Rattle.std.proofs.lemmas.Bool.{false≢true}
-use Rattle.css_select.specs.steps.Machine.{parts_of}
+use Rattle.css_semantics.specs.Spelled.{spelled}
 use Rattle.vis_read.specs.Tokens.{AreMatched}
 use Rattle.vis_read.proofs.sets.matched.Goals as goal
 use Rattle.vis_read.proofs.sets.matched.Goals.{then-matches_one+in_ok-push, else-matches_one}
 
 pub loop-node-init : goal.loop-node-init
-loop-node-init c = subst (AreMatched c.args.page.now.nodes (map parts_of c.args.group.now) 0) (sym c.new-found.ensures) AreMatched.nothing
+loop-node-init c = subst (AreMatched c.args.page.now.nodes (map spelled c.args.group.now) 0) (sym c.new-found.ensures) AreMatched.nothing
 
 pub loop-node-preserved : goal.loop-node-preserved
 loop-node-preserved c =
     let nodes = c.args.page.now.nodes in
-    let group = map parts_of c.args.group.now in
+    let group = map spelled c.args.group.now in
     let n = c.loop-node.node in
     let found = c.loop-node.found in
     elim c.if-matches_one.branch [
