@@ -1,5 +1,5 @@
 -- What a job keeps of the boxes of its page.
-use Rattle.std.proofs.Common.{◌≡◌, ℕ, ◌≤◌, Bool, true, false, nat_lt, List, [], ◌∷◌, length, Option, Some, None, Ok, refl, subst, ltb-false}
+use Rattle.std.proofs.Common.{◌≡◌, ℕ, ◌+◌, ◌≤◌, Bool, true, false, nat_lt, List, [], ◌∷◌, length, Option, Some, None, Ok, refl, sym, ap, subst, arith, ltb-false}
 use Rattle.std.specs.Prelude.{sum_by}
 use Rattle.std.specs.Str.{chars}
 use Rattle.viz_base.specs.Pages.{IsPage}
@@ -13,6 +13,10 @@ use Rattle.layout_semantics.specs.Parts.{Part}
 use Rattle.layout_semantics.specs.Refusals.{BoxRefusal, blocks_in_inlines, first_refusal, page_refusal, right_to_left_letters}
 use Rattle.layout_laws.proofs.TextTotals.{letters_within}
 use Rattle.page_json.specs.Jobs.{characters}
+use Rattle.viz_base.specs.declared.sheets.Sheet.{Sheet}
+use Rattle.page_pseudo.specs.Growth.{Growth}
+use Rattle.page_build.specs.Jobs.{HasGrowth}
+use Rattle.page_build.proofs.GrownOrder.{grown-characters}
 use Rattle.page_boxes.specs.Trees.{TreeLists, page_tree, unless_refused}
 
 -- ---- trees within their limits
@@ -46,3 +50,11 @@ tree_within nodes styles fonts tree page e = by_refusal (page_refusal nodes styl
           few_characters = letters_within nodes styles page;
           reach = limits.1;
         })
+
+-- ---- generated content
+
+pub grown_within : {nodes : List Node} {texts : List (List ℕ)} {sheets : List Sheet} {g : Growth} → IsPage nodes → HasGrowth nodes texts sheets (Ok g) → characters g.0 ≤ characters nodes + 262144
+grown_within {g = g} page h =
+    let more = grown-characters h.page g.0 g.1 g.2 (subst IsPage (sym h.written) page) h.growth.0 h.growth.1 in
+    let same = ap characters h.written in
+    omega (arith, more, same)

@@ -1,7 +1,12 @@
+pub mod Numbers
+pub mod GrownOrder
 pub mod ReadSheets
 pub mod JobFacts
 pub mod Stages
 pub mod SameFields
 pub mod OneStyle
 pub mod ReadPages
+pub mod OneSheet
+pub mod OnePage
 pub mod OneJob
+pub mod ShownSheets

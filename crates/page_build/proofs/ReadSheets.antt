@@ -2,23 +2,22 @@
 use Rattle.std.proofs.Common.{◌≡◌, ℕ, suc, ◌+◌, ◌<◌, List, [], ◌∷◌, ◌++◌, length, take, drop, get_or, Ok, Err, refl, sym, ap, ◌∙◌, subst, arith, drop-cons}
 use Rattle.std.proofs.lemmas.List.{take_more, take-append-drop, length-take-le}
 use Rattle.viz_base.specs.declared.sheets.Sheet.{Sheet}
-use Rattle.css_semantics.specs.SheetsGrammar.{IsSheetOf}
 use Rattle.css_semantics.specs.SheetsReading.{Refusal}
 use Rattle.css_semantics.specs.DefaultSheet.{default_text}
-use Rattle.page_build.specs.Sheets.{AreRead, AreSheets, IsFirstRefused}
+use Rattle.page_build.specs.Sheets.{AreRead, AreSheets, IsFirstRefused, IsShown}
 
-behind : {texts : List (List ℕ)} {sheets : List Sheet} (text : List ℕ) (sheet : Sheet) → AreRead texts sheets → IsSheetOf text (Ok sheet.rules) → AreRead (texts ++ text ∷ []) (sheets ++ sheet ∷ [])
+behind : {texts : List (List ℕ)} {sheets : List Sheet} (text : List ℕ) (sheet : Sheet) → AreRead texts sheets → IsShown text (Ok sheet) → AreRead (texts ++ text ∷ []) (sheets ++ sheet ∷ [])
 behind text sheet AreRead.nothing is = AreRead.first is AreRead.nothing
 behind text sheet (AreRead.first one rest) is = AreRead.first one (behind text sheet rest is)
 
 pub read_more : (css : List (List ℕ)) (i : ℕ) (sheets : List Sheet) (text : List ℕ) (sheet : Sheet) → i < length css → text ≡ get_or css i text
-    → AreRead (take i css) sheets → IsSheetOf text (Ok sheet.rules) → AreRead (take (i + 1) css) (sheets ++ sheet ∷ [])
+    → AreRead (take i css) sheets → IsShown text (Ok sheet) → AreRead (take (i + 1) css) (sheets ++ sheet ∷ [])
 read_more css i sheets text sheet l e read is =
     let front : take (i + 1) css ≡ take i css ++ text ∷ [] = take_more css i text l ∙ ap (λ t. take i css ++ t ∷ []) (sym e) in
     subst (λ texts. AreRead texts (sheets ++ sheet ∷ [])) (sym front) (behind text sheet read is)
 
 pub first_refused : (css : List (List ℕ)) (i : ℕ) (sheets : List Sheet) (text : List ℕ) (why : Refusal) → i < length css → text ≡ get_or css i text
-    → AreRead (take i css) sheets → IsSheetOf text (Err why) → IsFirstRefused css i why
+    → AreRead (take i css) sheets → IsShown text (Err why) → IsFirstRefused css i why
 first_refused css i sheets text why l e read is = record {
   before = take i css;
   text = text;

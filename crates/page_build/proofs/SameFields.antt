@@ -86,10 +86,10 @@ same_tree a b e =
     let keeps = is_prop→PathP (λ i. IsBoxTree (e i).boxes (e i).styles (e i).fonts (e i).parents) (λ i. tree_prop (e i).boxes (e i).styles (e i).fonts (e i).parents) a.ok b.ok in
     λ i. record { boxes = (e i).boxes; styles = (e i).styles; fonts = (e i).fonts; parents = (e i).parents; ok = keeps i }
 
-job_prop : (range : Rect) (height : ℕ) (tree : BoxTree) (formula : Formula) → IsProp (IsJob range height tree.boxes tree.styles tree.fonts tree.parents formula)
-job_prop range height tree formula = hlevel props
+job_prop : (form : ℕ) (range : Rect) (tree : BoxTree) (formula : Formula) → IsProp (IsJob form range tree.boxes tree.styles tree.fonts tree.parents formula)
+job_prop form range tree formula = hlevel props
 
-pub same_job : (a b : Job) → a.digest ≡ b.digest → a.range ≡ b.range → a.height ≡ b.height → a.tree ≡ b.tree → a.formula ≡ b.formula → a ≡ b
-same_job a b digest range height tree formula =
-    let keeps = is_prop→PathP (λ i. IsJob (range i) (height i) (tree i).boxes (tree i).styles (tree i).fonts (tree i).parents (formula i)) (λ i. job_prop (range i) (height i) (tree i) (formula i)) a.ok b.ok in
-    λ i. record { digest = digest i; range = range i; height = height i; tree = tree i; formula = formula i; ok = keeps i }
+pub same_job : (a b : Job) → a.digest ≡ b.digest → a.form ≡ b.form → a.range ≡ b.range → a.tree ≡ b.tree → a.formula ≡ b.formula → a ≡ b
+same_job a b digest form range tree formula =
+    let keeps = is_prop→PathP (λ i. IsJob (form i) (range i) (tree i).boxes (tree i).styles (tree i).fonts (tree i).parents (formula i)) (λ i. job_prop (form i) (range i) (tree i) (formula i)) a.ok b.ok in
+    λ i. record { digest = digest i; form = form i; range = range i; tree = tree i; formula = formula i; ok = keeps i }

@@ -1,19 +1,22 @@
 -- What comes of one stage of a job is what comes of the job.
-use Rattle.std.proofs.Common.{◌≡◌, ◌≢◌, ℕ, List, ◌∷◌, Result, Ok, Err, refl, sym, ◌∙◌, subst}
+use Rattle.std.proofs.Common.{◌≡◌, ◌≢◌, ℕ, List, Result, Ok, Err, refl, sym, ◌∙◌, subst}
 use Rattle.std.specs.Prelude.{IfOk, MatchResult}
+use Rattle.std.specs.Result.{IsErr, IsErrAnd}
+use Rattle.std.proofs.lemmas.Bool.{false≢true}
 use Rattle.sha2.specs.Sha256.{sha256}
 use Rattle.viz_base.specs.Answers.{FailsWith}
 use Rattle.viz_base.specs.declared.jobs.Job.{Job}
 use Rattle.viz_base.specs.declared.nodes.Node.{Node}
-use Rattle.viz_base.specs.declared.settings.Cascaded.{Cascaded}
 use Rattle.viz_base.specs.declared.sheets.Sheet.{Sheet}
-use Rattle.css_semantics.specs.Cascade.{Fault, IsCascade}
-use Rattle.css_semantics.specs.DefaultSheet.{default_text}
 use Rattle.layout_semantics.specs.Refusals.{BoxRefusal}
 use Rattle.page_json.specs.declared.faults.JobFault.{JobFault}
 use Rattle.page_json.specs.declared.faults.JobFault.TheVariants as of_fault
 use Rattle.page_json.specs.Faults.{refusal_of}
 use Rattle.page_json.specs.Jobs.{Raw, raw_job}
+use Rattle.page_pseudo.specs.declared.fault.GrowFault.TheVariants as of_grow
+use Rattle.page_pseudo.specs.Grown.{Written}
+use Rattle.page_pseudo.specs.Growth.{IsGrowth, growth_of}
+use Rattle.page_pseudo.specs.declared.growing.Grown.{Grown}
 use Rattle.page_boxes.specs.declared.faults.BoxFault.{BoxFault}
 use Rattle.page_boxes.specs.declared.faults.BoxFault.TheVariants as of_box
 use Rattle.page_boxes.specs.Trees.{TreeLists, refusal_named}
@@ -21,33 +24,35 @@ use Rattle.vis_read.specs.declared.faults.FormulaFault.{FormulaFault}
 use Rattle.vis_read.specs.declared.faults.FormulaFault.TheVariants as of_text
 use Rattle.vis_read.specs.Texts.{IsAnswerOf, IsFault}
 use Rattle.page_build.specs.declared.faults.JobRefusal.{JobRefusal}
-use Rattle.page_build.specs.declared.faults.JobRefusal.TheVariants.{Mem}
-use Rattle.page_build.specs.Jobs.{AreRefused, HasCascade, IsBuiltOf, IsJobOf, IsRefusedAs, IsRefusedLater}
-use Rattle.page_build.specs.Refusals.{IsSheetRefusal, IsTold, of_boxes, of_box_fault, of_file, of_formula}
 use Rattle.page_build.specs.Sheets.{AreSheets}
+use Rattle.page_build.specs.declared.faults.JobRefusal.TheVariants.{Generated, Mem}
+use Rattle.page_build.specs.Jobs.{AreWinning, HasGrowth, IsBuiltOf, IsBuiltUnder, IsJobOf, IsRefusedAs, IsRefusedLater, IsRefusedPage, IsRefusedUnder}
+use Rattle.page_build.specs.Refusals.{IsSheetRefusal, of_boxes, of_box_fault, of_file, of_formula}
 
-pub sheet_refused : (nodes : List Node) (css : List (List ℕ)) (refusal : JobRefusal) → IsSheetRefusal css refusal → AreRefused nodes css refusal
-sheet_refused nodes css refusal h = subst (AreRefused nodes css) (sym h.3) (AreRefused.sheet h.2)
+-- what `?` gives for a refusal
+pub refused_by : {A : Type 0} (P : A → Type 0) (Q : JobRefusal → Type 0) (r : Result A JobRefusal) (x : JobRefusal) → IsErr r × IsErrAnd r (λ given. given ≡ x) → Q x → MatchResult r P Q
+refused_by P Q (Ok a) x h q = absurd (false≢true h.0)
+refused_by P Q (Err given) x h q = subst Q (sym h.1) q
 
--- what the winners at the nodes of a page come to with these texts and sheets
-abbrev pub AreToldWinners : List Node → List (List ℕ) → List Sheet → Result Cascaded JobRefusal → Type 0
-AreToldWinners nodes texts sheets r = MatchResult r (λ c. IsCascade nodes texts sheets (Ok c.winners))
-    (λ refusal. refusal ≢ Mem → (why : Fault) × IsCascade nodes texts sheets (Err why) × IsTold nodes texts why refusal)
+pub sheet_refused : (raw : Raw) (refusal : JobRefusal) → IsSheetRefusal raw.css refusal → IsRefusedLater raw refusal
+sheet_refused raw refusal h = subst (IsRefusedLater raw) (sym h.3) (IsRefusedLater.sheet h.2)
 
-abbrev pub AreWinnersOf : List Node → List (List ℕ) → Result Cascaded JobRefusal → Type 0
-AreWinnersOf nodes css r = MatchResult r (λ c. HasCascade nodes css (Ok c.winners)) (λ refusal. refusal ≢ Mem → AreRefused nodes css refusal)
+-- the page with the content that wins on it
+pub grown_from : (nodes : List Node) (texts : List (List ℕ)) (sheets : List Sheet) (w : Written) (r : Result Grown JobRefusal) → w.nodes ≡ nodes → AreWinning texts sheets w
+    → MatchResult r (λ g. IsGrowth w (Ok (growth_of g))) (λ refusal. refusal ≢ Mem → (node : ℕ) × IsGrowth w (Err node) × (refusal ≡ Generated node))
+    → MatchResult r (λ g. HasGrowth nodes texts sheets (Ok (growth_of g))) (λ refusal. refusal ≢ Mem → IsRefusedPage nodes texts sheets refusal)
+grown_from nodes texts sheets w (Ok g) same winning h = record { page = w; written = same; winning = winning; growth = h }
+grown_from nodes texts sheets w (Err refusal) same winning h = λ other.
+    (let found = h other in
+    let content : HasGrowth nodes texts sheets (Err found.0) = record { page = w; written = same; winning = winning; growth = found.1 } in
+    subst (IsRefusedPage nodes texts sheets) (sym found.2) (IsRefusedPage.content content))
 
-pub winners_of : (nodes : List Node) (css texts : List (List ℕ)) (sheets all : List Sheet) (r : Result Cascaded JobRefusal)
-    → texts ≡ default_text ∷ css → all ≡ sheets → AreSheets css sheets → AreToldWinners nodes texts all r → AreWinnersOf nodes css r
-winners_of nodes css texts sheets all r same_texts same_sheets read h =
-    of_parts r (subst (λ ts. AreToldWinners nodes ts sheets r) same_texts (subst (λ ss. AreToldWinners nodes texts ss r) same_sheets h))
-  where
-    of_parts : (r : Result Cascaded JobRefusal) → AreToldWinners nodes (default_text ∷ css) sheets r → AreWinnersOf nodes css r
-    of_parts (Ok c) given = record { sheets = sheets; read = read; cascaded = given }
-    of_parts (Err refusal) given = λ other.
-        (let told = given other in
-        let cascade : HasCascade nodes css (Err told.0) = record { sheets = sheets; read = read; cascaded = told.1 } in
-        AreRefused.cascade {why = told.0} {refusal = refusal} cascade told.2)
+-- a job under the sheets of its page
+pub built_from : (raw : Raw) (sheets : List Sheet) (r : Result Job JobRefusal) → AreSheets raw.css sheets
+    → MatchResult r (IsBuiltUnder raw sheets) (λ refusal. refusal ≢ Mem → IsRefusedUnder raw sheets refusal)
+    → MatchResult r (IsBuiltOf raw) (λ refusal. refusal ≢ Mem → IsRefusedLater raw refusal)
+built_from raw sheets (Ok job) read h = record { sheets = sheets; read = read; built = h }
+built_from raw sheets (Err refusal) read h = λ other. IsRefusedLater.later read (h other)
 
 pub boxes_refused : (answer : Result TreeLists BoxRefusal) (fault : BoxFault) → FailsWith (refusal_named fault) (λ given. answer ≡ given)
     → of_box_fault fault ≢ Mem → (why : BoxRefusal) × (answer ≡ Err why) × (of_box_fault fault ≡ of_boxes why)

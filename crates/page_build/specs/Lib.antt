@@ -1,4 +1,7 @@
+pub mod Media
 pub mod Sheets
 pub mod Refusals
+pub mod Renumbering
 pub mod Jobs
+pub mod Seen
 pub mod Laws

@@ -1,35 +1,63 @@
 //! The whole job.
-ghost use Rattle.std.specs.Prelude.{◌≡◌, ◌≢◌, Err, IfOk, MatchResult, Ok};
-ghost use Rattle.layout_laws.specs.Styled.{AreStylesOf};
-ghost use Rattle.layout_semantics.specs.Refusals.{BoxRefusal};
-ghost use Rattle.page_boxes.specs.Trees.{lists_of, page_tree};
+ghost use Rattle.std.specs.Prelude.{◌≡◌, ◌≢◌, IfOk, MatchResult, Ok};
+ghost use Rattle.css_semantics.specs.Winners.{AreWinners};
 ghost use Rattle.page_json.specs.Jobs.{IsWithinLimits, raw_of};
-ghost use Rattle.page_build.specs.Jobs.{IsBuiltOf, IsJobOf, IsRefusedAs, IsRefusedLater};
-ghost use Rattle.page_build.specs.Refusals.{of_boxes};
+ghost use Rattle.page_pseudo.specs.Growth.{growth_of};
+ghost use Rattle.page_build.specs.Jobs.{HasGrowth, IsBuiltOf, IsBuiltUnder, IsJobOf, IsRefusedAs, IsRefusedLater, IsRefusedPage, IsRefusedUnder, texts_of};
+ghost use Rattle.page_build.specs.Sheets.{AreSheets};
 
+use crate::content::grown_under;
 use crate::faults::JobRefusal;
 use crate::formulas::formula_of;
-use crate::styles::styles_of;
-use page_boxes::build_boxes;
+use crate::sheets::{all_sheets, all_texts};
+use crate::trees::tree_of;
 use page_json::read_job;
+use page_pseudo::Grown;
 use sha2::{Digest, Sha256};
 use std::alloc::Global;
-use viz_base::{BoxTree, Font, Job, List, Page, RawJob, Style};
+use viz_base::{Job, RawJob, Sheet};
 
-/// The box tree of a page with these styles.
-fn tree_of(
-    alloc: Global,
-    page: &Page,
-    styles: &List<Style>,
-    fonts: &List<Font>,
-) -> Result<BoxTree, JobRefusal>
-    requires { AreStylesOf page.now.nodes styles.now fonts.now }
-    ensures { MatchResult result (λ tree. page_tree page.now.nodes styles.now fonts.now ≡ Ok (lists_of tree))
+/// The page of what a file says, with its generated content, under these sheets.
+fn grown_of(alloc: Global, raw: &RawJob, sheets: &[Sheet]) -> Result<Grown, JobRefusal>
+    requires { AreSheets raw.now.css sheets.now }
+    ensures given { MatchResult result
+        (λ g. HasGrowth raw.now.page.nodes (texts_of (raw_of raw.now)) sheets.now (Ok (growth_of g)))
         (λ refusal. refusal ≢ JobRefusal.Mem
-        → (why : BoxRefusal) × (page_tree page.now.nodes styles.now fonts.now ≡ Err why)
-        × (refusal ≡ of_boxes why)) }
+        → IsRefusedPage raw.now.page.nodes (texts_of (raw_of raw.now)) sheets.now refusal) }
+    ensures lists { IfOk result (λ g. AreWinners g.page.nodes g.cascaded.winners) }
 {
-    Ok(build_boxes(alloc, page, styles, fonts)?)
+    let texts = all_texts(alloc, raw.css.as_slice())?;
+    grown_under(alloc, &raw.page, texts.as_slice(), sheets)
+}
+
+/// The job of what a file says, with this digest, under these sheets.
+fn job_under(
+    alloc: Global,
+    digest: [u8; 32],
+    raw: &RawJob,
+    sheets: &[Sheet],
+) -> Result<Job, JobRefusal>
+    requires within { IsWithinLimits (raw_of raw.now) }
+    requires sheets { AreSheets raw.now.css sheets.now }
+    ensures given { MatchResult result (IsBuiltUnder (raw_of raw.now) sheets.now)
+        (λ refusal. refusal ≢ JobRefusal.Mem → IsRefusedUnder (raw_of raw.now) sheets.now refusal) }
+    ensures digest { IfOk result (λ job. job.digest ≡ digest) }
+{
+    let grown = grown_of(alloc, raw, sheets)?;
+    let tree = tree_of(alloc, &grown, &raw.fonts)?;
+    let formula = formula_of(
+        alloc,
+        raw.formula.as_str(),
+        &raw.page,
+        grown.from.as_slice(),
+    )?;
+    Ok(Job {
+        digest,
+        form: raw.form,
+        range: raw.range,
+        tree,
+        formula,
+    })
 }
 
 /// The job of what a file says, with this digest.
@@ -39,25 +67,18 @@ fn job_of(alloc: Global, digest: [u8; 32], raw: &RawJob) -> Result<Job, JobRefus
         (λ refusal. refusal ≢ JobRefusal.Mem → IsRefusedLater (raw_of raw.now) refusal) }
     ensures digest { IfOk result (λ job. job.digest ≡ digest) }
 {
-    let styles = styles_of(alloc, &raw.page, raw.css.as_slice(), &raw.fonts)?;
-    let tree = tree_of(alloc, &raw.page, &styles, &raw.fonts)?;
-    let formula = formula_of(alloc, raw.formula.as_str(), &raw.page)?;
-    Ok(Job {
-        digest,
-        range: raw.range,
-        height: raw.height,
-        tree,
-        formula,
-    })
+    let sheets = all_sheets(alloc, raw.css.as_slice())?;
+    job_under(alloc, digest, raw, sheets.as_slice())
 }
 
-/// The job that the bytes of a job file spell: its page laid into boxes by its style sheets, behind the default one
-/// (CSS 2.1, chapters 4 to 6, 9.2), the worlds, and the assertion. Lengths are in units of 1/64 px. The digest is
-/// SHA-256 of the bytes.
+/// The job that the bytes of a job file spell: its page with its generated content, laid into boxes by its style
+/// sheets, behind the default one (CSS 2.1, chapters 4 to 6, 9.2, 12.1), the worlds, and the assertion. Lengths are in
+/// units of 1/64 px. The digest is SHA-256 of the bytes. The strings of the assertion are matched on the page as it is
+/// written.
 ///
 /// The refusal is that of the first of these that refuses: the file, its style sheets by number, the selectors, the
-/// values that win, the boxes, the assertion. `Mem` is for want of memory; no clause says when, nor which of these come
-/// before it.
+/// values that win at the nodes, at their `:before` and at their `:after`, the amount of generated content, the boxes,
+/// the assertion. `Mem` is for want of memory; no clause says when, nor which of these come before it.
 pub fn build_job(alloc: Global, bytes: &[u8]) -> Result<Job, JobRefusal>
     ensures { MatchResult result (IsJobOf bytes.now)
         (λ refusal. refusal ≢ JobRefusal.Mem → IsRefusedAs bytes.now refusal) }

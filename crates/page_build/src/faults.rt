@@ -1,12 +1,14 @@
 use page_boxes::BoxFault;
 use page_json::JobFault;
+use page_pseudo::GrowFault;
 use std::alloc::{AllocError, AllocFailed};
 use thiserror::Error;
 use vis_read::FormulaFault;
 use viz_base::{Mem, Part, Prop, Text, Which};
 
 /// Why bytes are refused as a job, in the order in which they are looked at. Sheets are those of the author, by their
-/// numbers from 0; places are in bytes of the sheet.
+/// numbers from 0; places are in bytes of the sheet. Nodes are numbered as they are written up to `Generated`, and from
+/// there on with the generated ones among them.
 #[derive(Debug, Drop, Error)]
 pub enum JobRefusal {
     #[error("out of memory")]
@@ -20,13 +22,14 @@ pub enum JobRefusal {
     /// The first count that is beyond its limit.
     #[error("{0:?} beyond the limit: {1}")]
     Limit(Which, u64),
-    /// Widths, sizes or the height are beyond their limits, or a first bound is above its second.
+    /// Widths, sizes or heights are beyond their limits, a first bound is above its second, or there are too many
+    /// worlds.
     #[error("range")]
     Range,
     /// An `@import` that is not dropped: the sheet, and the place.
     #[error("import in sheet {0} at {1}")]
     Import(u32, u32),
-    /// An `@media` with a parenthesis before its block: the sheet, and the place.
+    /// An `@media` with a query that is none: the sheet, and the place.
     #[error("media query in sheet {0} at {1}")]
     MediaQuery(u32, u32),
     /// A sheet with more than 8,192 rules.
@@ -39,6 +42,9 @@ pub enum JobRefusal {
     /// that are not printable as `?`.
     #[error("unsupported value at node {0}: {1:?}")]
     Value(u32, Prop, Text),
+    /// The first element at which there are more than 262,144 characters of generated content.
+    #[error("too much generated content at node {0}")]
+    Generated(u32),
     /// The node of a block-level box in normal flow that is directly in an inline box.
     #[error("block in an inline box at node {0}")]
     BlockInInline(u32),
@@ -109,6 +115,20 @@ impl From<JobFault> for JobRefusal {
             JobFault::Shape(part, place) => JobRefusal::Shape(part, place),
             JobFault::Limit(which, count) => JobRefusal::Limit(which, count),
             JobFault::Range => JobRefusal::Range,
+        }
+    }
+}
+
+impl From<GrowFault> for JobRefusal {
+    ghost use Rattle.std.specs.Prelude.{◌≡◌};
+    ghost use Rattle.page_build.specs.Refusals.{of_growth};
+
+    ghost from_gives = { λ fault refusal. refusal ≡ of_growth fault };
+
+    fn from(fault: GrowFault) -> Self {
+        match fault {
+            GrowFault::Mem => JobRefusal::Mem,
+            GrowFault::Generated(node) => JobRefusal::Generated(node),
         }
     }
 }

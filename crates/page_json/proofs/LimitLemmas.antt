@@ -1,34 +1,44 @@
 -- What a job keeps of its limits.
-use Rattle.std.proofs.Common.{◌≡◌, ◌≤◌, true, leb}
+use Rattle.std.proofs.Common.{◌≡◌, ℕ, ◌≤◌, true, leb}
 use Rattle.std.specs.Prelude.{◌&&◌}
 use Rattle.std.proofs.lemmas.Bool.{and_parts, leb-true}
-use Rattle.viz_base.specs.Jobs.{IsRange}
-use Rattle.page_json.specs.Jobs.{Parts, are_ends, in_range, raw}
+use Rattle.viz_base.specs.Jobs.{IsFormed, IsRange}
+use Rattle.viz_base.specs.Worlds.{world_count}
+use Rattle.page_json.specs.Jobs.{Parts, are_ends, are_ranges, in_range, rect_of}
+use Rattle.page_json.specs.Seen.{IsFormOf}
 
-pub record AreGood (p : Parts) : Type 0 where
-  pub range : IsRange (raw p).range
-  pub least : 1 ≤ p.height
-  pub most : p.height ≤ 16384
+record AreEnds (limit : ℕ) (ends : ℕ × ℕ) : Type 0 where
+  least : 1 ≤ ends.0
+  up : ends.0 ≤ ends.1
+  most : ends.1 ≤ limit
+
+ends-good : (most : ℕ) (ends : ℕ × ℕ) → are_ends most ends ≡ true → AreEnds most ends
+ends-good most ends e =
+    let a = and_parts (leb 1 ends.0) (leb ends.0 ends.1 && leb ends.1 most) e in
+    let b = and_parts (leb ends.0 ends.1) (leb ends.1 most) a.1 in
+    record { least = leb-true 1 ends.0 a.0; up = leb-true ends.0 ends.1 b.0; most = leb-true ends.1 most b.1 }
 
 -- what is in range
-pub in_range-good : (p : Parts) → in_range p ≡ true → AreGood p
+pub in_range-good : (p : Parts) → in_range p ≡ true → IsRange (rect_of p)
 in_range-good p e =
-    let a = and_parts (are_ends 16384 p.widths) (are_ends 256 p.sizes && (leb 1 p.height && leb p.height 16384)) e in
-    let b = and_parts (are_ends 256 p.sizes) (leb 1 p.height && leb p.height 16384) a.1 in
-    let c = and_parts (leb 1 p.height) (leb p.height 16384) b.1 in
-    let w = and_parts (leb 1 p.widths.0) (leb p.widths.0 p.widths.1 && leb p.widths.1 16384) a.0 in
-    let w2 = and_parts (leb p.widths.0 p.widths.1) (leb p.widths.1 16384) w.1 in
-    let s = and_parts (leb 1 p.sizes.0) (leb p.sizes.0 p.sizes.1 && leb p.sizes.1 256) b.0 in
-    let s2 = and_parts (leb p.sizes.0 p.sizes.1) (leb p.sizes.1 256) s.1 in
+    let all = and_parts (are_ranges p) (leb (world_count (rect_of p)) 4194304) e in
+    let a = and_parts (are_ends 16384 p.widths) (are_ends 256 p.sizes && are_ends 16384 p.heights) all.0 in
+    let b = and_parts (are_ends 256 p.sizes) (are_ends 16384 p.heights) a.1 in
+    let w = ends-good 16384 p.widths a.0 in
+    let s = ends-good 256 p.sizes b.0 in
+    let h = ends-good 16384 p.heights b.1 in
     record {
-      range = record {
-        width_least = leb-true 1 p.widths.0 w.0;
-        widths = leb-true p.widths.0 p.widths.1 w2.0;
-        width_most = leb-true p.widths.1 16384 w2.1;
-        size_least = leb-true 1 p.sizes.0 s.0;
-        sizes = leb-true p.sizes.0 p.sizes.1 s2.0;
-        size_most = leb-true p.sizes.1 256 s2.1;
-      };
-      least = leb-true 1 p.height c.0;
-      most = leb-true p.height 16384 c.1;
+      width_least = w.least;
+      widths = w.up;
+      width_most = w.most;
+      size_least = s.least;
+      sizes = s.up;
+      size_most = s.most;
+      height_least = h.least;
+      heights = h.up;
+      height_most = h.most;
+      worlds = leb-true (world_count (rect_of p)) 4194304 all.1;
     }
+
+pub formed-good : (p : Parts) → IsFormOf p.form p.heights → IsFormed p.form (rect_of p)
+formed-good p f = record { least = f.least; most = f.most; one_height = f.one_height }

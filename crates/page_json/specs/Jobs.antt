@@ -1,5 +1,5 @@
 -- What a job file says, or the first of its refusals.
-use Rattle.std.specs.Prelude.{ℕ, ◌+◌, ◌≤◌, ◌==◌, ◌&&◌, Bool, nat_le, List, [], ◌∷◌, length, map, sum_by, Option, Some, None, option_and_then, Result, Ok, Err, if◌then◌else◌, bytes_eq, codes}
+use Rattle.std.specs.Prelude.{ℕ, ◌+◌, ◌≤◌, ◌==◌, ◌&&◌, Bool, nat_le, List, [], ◌∷◌, length, map, sum_by, Option, Some, None, option_map, Result, Ok, Err, if◌then◌else◌, bytes_eq, codes}
 use Rattle.std.specs.Str.{chars, is_utf8}
 use Rattle.serde_json.specs.Data.{Data}
 use Rattle.serde_json.specs.Find.{get, as_str}
@@ -12,11 +12,12 @@ use Rattle.viz_base.specs.declared.raw_jobs.Part.TheVariants as part
 use Rattle.viz_base.specs.declared.raw_jobs.Which.TheVariants as which
 use Rattle.viz_base.specs.declared.raw_jobs.RawJob.{RawJob}
 use Rattle.viz_base.specs.declared.worlds.Rect.{Rect}
-use Rattle.viz_base.specs.Jobs.{IsRange}
+use Rattle.viz_base.specs.Jobs.{IsFormed, IsRange}
+use Rattle.viz_base.specs.Worlds.{world_count}
 use Rattle.viz_base.specs.Pages.{is_element, text_of}
 use Rattle.page_json.specs.declared.faults.JobFault.{JobFault}
 use Rattle.page_json.specs.declared.faults.JobFault.TheVariants.{NotJson, Range}
-use Rattle.page_json.specs.Values.{whole, pair_of, list_at, list_of, each_of, ◌of_member◌}
+use Rattle.page_json.specs.Values.{whole, whole_in, pair_of, list_at, list_of, each_of, ◌of_member◌}
 use Rattle.page_json.specs.Faults.{◌>>=◌, shaped, shaped_at, within}
 use Rattle.page_json.specs.Fonts.{Measures, measures_of, font_of}
 use Rattle.page_json.specs.Documents.{nodes_of, places_of, depth_of}
@@ -25,18 +26,27 @@ use Rattle.page_json.specs.Documents.{nodes_of, places_of, depth_of}
 
 -- all that the members say
 pub record Parts : Type 0 where
+  pub form : ℕ
   pub widths : ℕ × ℕ
   pub sizes : ℕ × ℕ
-  pub height : ℕ
+  pub heights : ℕ × ℕ
   pub fonts : List Measures
   pub css : List (List ℕ)
   pub depth : ℕ
   pub nodes : List Node
   pub formula : List ℕ
 
--- a value that says it is a job file of version 1
-abbrev pub version_one : ℕ → Option ℕ
-version_one n = if n == 1 then Some n else None
+-- which of the two forms of a job file a value says it is
+abbrev pub form_of : Data → Option ℕ
+form_of = whole_in 1 2 of_member codes "vizlog"
+
+-- one height of the viewport, as the ends of its range
+abbrev pub height_of : Data → Option (ℕ × ℕ)
+height_of d = option_map (λ height. (height, height)) ((whole of_member codes "height") d)
+
+-- the range of heights: in form 1 the member `height` is both ends, in form 2 the member `heights` has them
+abbrev pub heights_of : ℕ → Data → Option (ℕ × ℕ)
+heights_of form d = if form == 1 then height_of d else (pair_of of_member codes "heights") d
 
 abbrev pub fonts_in : List Data → Result (List Measures) ℕ
 fonts_in [] = Err 0
@@ -63,18 +73,19 @@ page_of (Some d) = map_page d (nodes_of d)
 -- what the members say, or the first of them that is missing, of another form or against a rule
 abbrev pub parts_of : Data → Result Parts JobFault
 parts_of d =
-    shaped part.Top (option_and_then version_one ((whole of_member codes "vizlog") d)) >>= λ version.
+    shaped part.Top (form_of d) >>= λ form.
     shaped part.Widths ((pair_of of_member codes "widths") d) >>= λ widths.
     shaped part.Sizes ((pair_of of_member codes "sizes") d) >>= λ sizes.
-    shaped part.Height ((whole of_member codes "height") d) >>= λ height.
+    shaped part.Height (heights_of form d) >>= λ heights.
     shaped_at part.Fonts (fonts_of ((list_of of_member codes "fonts") d)) >>= λ fonts.
     shaped_at part.Css (sheets_of (list_at (codes "css") d)) >>= λ css.
     shaped_at part.Page (page_of (get (codes "page") d)) >>= λ page.
     shaped part.Assert ((as_str of_member codes "assert") d) >>= λ formula.
     Ok (record {
+      form = form;
       widths = widths;
       sizes = sizes;
-      height = height;
+      heights = heights;
       fonts = fonts;
       css = css;
       depth = page.0;
@@ -124,15 +135,31 @@ limited p =
 abbrev pub are_ends : ℕ → ℕ × ℕ → Bool
 are_ends most ends = nat_le 1 ends.0 && (nat_le ends.0 ends.1 && nat_le ends.1 most)
 
+-- the worlds that the three ranges have
+abbrev pub rect_of : Parts → Rect
+rect_of p = record {
+  wl = p.widths.0;
+  wh = p.widths.1;
+  sl = p.sizes.0;
+  sh = p.sizes.1;
+  hl = p.heights.0;
+  hh = p.heights.1;
+}
+
+-- the three ranges are within their limits
+abbrev pub are_ranges : Parts → Bool
+are_ranges p = are_ends 16384 p.widths && (are_ends 256 p.sizes && are_ends 16384 p.heights)
+
+-- and there are not too many worlds
 abbrev pub in_range : Parts → Bool
-in_range p = are_ends 16384 p.widths && (are_ends 256 p.sizes && (nat_le 1 p.height && nat_le p.height 16384))
+in_range p = are_ranges p && nat_le (world_count (rect_of p)) 4194304
 
 -- ---- the job
 
 -- what a raw job holds
 pub record Raw : Type 0 where
+  pub form : ℕ
   pub range : Rect
-  pub height : ℕ
   pub fonts : List Measures
   pub css : List (List ℕ)
   pub nodes : List Node
@@ -140,8 +167,8 @@ pub record Raw : Type 0 where
 
 abbrev pub raw_of : RawJob → Raw
 raw_of job = record {
+  form = job.form;
   range = job.range;
-  height = job.height;
   fonts = map measures_of job.fonts;
   css = job.css;
   nodes = job.page.nodes;
@@ -150,8 +177,8 @@ raw_of job = record {
 
 abbrev pub raw : Parts → Raw
 raw p = record {
-  range = record { wl = p.widths.0; wh = p.widths.1; sl = p.sizes.0; sh = p.sizes.1 };
-  height = p.height;
+  form = p.form;
+  range = rect_of p;
   fonts = p.fonts;
   css = p.css;
   nodes = p.nodes;
@@ -181,9 +208,8 @@ raw_job bytes = judged (value_of bytes)
 
 -- the limits that those who use a job rely on, apart from what its page and fonts keep by themselves
 pub record IsWithinLimits (job : Raw) : Type 0 where
+  pub formed : IsFormed job.form job.range
   pub in_range : IsRange job.range
-  pub height_least : 1 ≤ job.height
-  pub height_most : job.height ≤ 16384
   pub has_font : 1 ≤ length job.fonts
   pub few_characters : characters job.nodes ≤ 262144
   pub short_formula : length job.formula ≤ 16384

@@ -1,5 +1,5 @@
 -- What definitions see of the code's parts of a job.
-use Rattle.std.specs.Prelude.{ℕ, ◌≤◌, List, length, map, Result, Ok, codes}
+use Rattle.std.specs.Prelude.{◌≡◌, ℕ, ◌≤◌, List, length, map, Result, Ok, codes}
 use Rattle.serde_json.specs.Data.{Data}
 use Rattle.serde_json.specs.Find.{get, as_str}
 use Rattle.serde_json.specs.View.{view}
@@ -29,9 +29,10 @@ page_parts page = (page.depth, page.nodes)
 
 abbrev pub parts_seen : Parts → jobs.Parts
 parts_seen p = record {
+  form = p.form;
   widths = p.widths;
   sizes = p.sizes;
-  height = p.height;
+  heights = p.heights;
   fonts = map measures_of p.fonts;
   css = p.css;
   depth = p.page.depth;
@@ -39,24 +40,32 @@ parts_seen p = record {
   formula = p.formula.now;
 }
 
+-- the form is 1 or 2, and form 1 has one height
+pub record IsFormOf (form : ℕ) (heights : ℕ × ℕ) : Type 0 where
+  pub least : 1 ≤ form
+  pub most : form ≤ 2
+  pub one_height : form ≡ 1 → heights.0 ≡ heights.1
+
 -- what the parts of a job keep beside the ranges
 pub record AreWithinLimits (p : Parts) : Type 0 where
+  pub formed : IsFormOf p.form p.heights
   pub page : IsPage p.page.nodes
   pub has_font : 1 ≤ length p.fonts
   pub few_characters : jobs.characters p.page.nodes ≤ 262144
   pub short_formula : length p.formula.now ≤ 16384
 
 -- `parts_of` once the numbers are read
-abbrev pub lists_of : ℕ × ℕ → ℕ × ℕ → ℕ → Data → Result jobs.Parts JobFault
-lists_of widths sizes height d =
+abbrev pub lists_of : ℕ → ℕ × ℕ → ℕ × ℕ → ℕ × ℕ → Data → Result jobs.Parts JobFault
+lists_of form widths sizes heights d =
     shaped_at part.Fonts (jobs.fonts_of ((list_of of_member codes "fonts") d)) >>= λ fonts.
     shaped_at part.Css (jobs.sheets_of (list_at (codes "css") d)) >>= λ css.
     shaped_at part.Page (jobs.page_of (get (codes "page") d)) >>= λ page.
     shaped part.Assert ((as_str of_member codes "assert") d) >>= λ formula.
     Ok (record {
+      form = form;
       widths = widths;
       sizes = sizes;
-      height = height;
+      heights = heights;
       fonts = fonts;
       css = css;
       depth = page.0;

@@ -16,7 +16,8 @@ pub enum JobFault {
     /// The first count that is beyond its limit.
     #[error("{0:?} beyond the limit: {1}")]
     Limit(Which, u64),
-    /// Widths, sizes or the height are beyond their limits, or a first bound is above its second.
+    /// Widths, sizes or heights are beyond their limits, a first bound is above its second, or there are too many
+    /// worlds.
     #[error("range")]
     Range,
 }

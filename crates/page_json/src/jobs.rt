@@ -1,5 +1,5 @@
 //! What the members of a job file say.
-ghost use Rattle.std.specs.Prelude.{◌≡◌, ◌≤◌, codes, length, map, IfOk};
+ghost use Rattle.std.specs.Prelude.{◌≡◌, ◌≤◌, codes, length, map, IfOk, IfSome};
 ghost use Rattle.serde_json.specs.Find.{as_str, get};
 ghost use Rattle.serde_json.specs.View.{view};
 ghost use Rattle.viz_base.specs.Answers.{Gives};
@@ -7,15 +7,15 @@ ghost use Rattle.page_json.specs.Values.{each_of, list_at, list_of, ◌of_member
 ghost use Rattle.page_json.specs.Faults.{refusal_of, shaped_at};
 ghost use Rattle.page_json.specs.Fonts.{font_of};
 ghost use Rattle.page_json.specs.Documents.{node_of};
-ghost use Rattle.page_json.specs.Jobs.{fonts_of, sheets_of, page_of, parts_of};
+ghost use Rattle.page_json.specs.Jobs.{fonts_of, form_of, height_of, heights_of, page_of, parts_of, sheets_of};
 ghost use Rattle.page_json.specs.Pages.{IsDocument};
-ghost use Rattle.page_json.specs.Seen.{seen, all_measures, lists_of, page_parts, parts_seen};
+ghost use Rattle.page_json.specs.Seen.{seen, all_measures, IsFormOf, lists_of, page_parts, parts_seen};
 
 use crate::JobFault;
 use crate::elements::body_of;
 use crate::fonts::font_of;
 use crate::places::{Place, depth_of, places_of};
-use crate::values::{list_at, list_of, number_of, pair_at, text_at, whole_at};
+use crate::values::{list_at, list_of, number_of, pair_at, text_at, whole_at, whole_in};
 use serde_json::Value;
 use std::alloc::{AllocError, Global};
 use viz_base::{Font, List, Node, Part, Text};
@@ -23,9 +23,11 @@ use viz_base::{Font, List, Node, Part, Text};
 /// All that the members say.
 #[derive(Drop)]
 pub(crate) struct Parts<'a> {
+    /// 1 where the viewport has one height, 2 where it has a range of heights.
+    pub form: u8,
     pub widths: (u64, u64),
     pub sizes: (u64, u64),
-    pub height: u64,
+    pub heights: (u64, u64),
     pub fonts: List<Font>,
     pub css: List<Text>,
     pub page: Nodes,
@@ -35,9 +37,10 @@ pub(crate) struct Parts<'a> {
 /// The members that are numbers.
 #[derive(Clone, Copy)]
 struct Numbers {
+    form: u8,
     widths: (u64, u64),
     sizes: (u64, u64),
-    height: u64,
+    heights: (u64, u64),
 }
 
 /// The nodes of a page, and how deep its elements nest.
@@ -152,10 +155,42 @@ fn page_of(alloc: Global, value: &Value) -> Result<Nodes, JobFault>
     }
 }
 
+/// Which of the two forms of a job file a value says it is.
+fn form_of(value: &Value) -> Option<u8>
+    ensures value { result ≡ form_of (view value.now) }
+    ensures bounds { IfSome result (λ form. (1 ≤ form) × (form ≤ 2)) }
+{
+    let form = whole_in(value, "vizlog", 1, 2)?;
+    Some(form as u8)
+}
+
+/// One height of the viewport, as the ends of its range.
+fn height_of(value: &Value) -> Option<(u64, u64)>
+    ensures value { result ≡ height_of (view value.now) }
+    ensures one { IfSome result (λ heights. heights.0 ≡ heights.1) }
+{
+    let height = whole_at(value, "height")?;
+    Some((height, height))
+}
+
+/// The range of heights that a value of this form says.
+fn heights_of(form: u8, value: &Value) -> Option<(u64, u64)>
+    ensures value { result ≡ heights_of form (view value.now) }
+    ensures one { IfSome result (λ heights. form ≡ 1 → heights.0 ≡ heights.1) }
+{
+    if form == 1 {
+        height_of(value)
+    } else {
+        pair_at(value, "heights")
+    }
+}
+
 /// The members with lists and the formula, beside those that are numbers.
 fn lists_of(alloc: Global, value: &Value, numbers: Numbers) -> Result<Parts<'_>, JobFault>
+    requires { IsFormOf numbers.form numbers.heights }
     ensures gives { Gives parts_seen refusal_of result
-        (lists_of numbers.widths numbers.sizes numbers.height (view value.now)) }
+        (lists_of numbers.form numbers.widths numbers.sizes numbers.heights (view value.now)) }
+    ensures formed { IfOk result (λ parts. IsFormOf parts.form parts.heights) }
     ensures document { IfOk result (λ parts. IsDocument parts.page.nodes) }
     ensures has_font { IfOk result (λ parts. 1 ≤ length parts.fonts) }
 {
@@ -166,9 +201,10 @@ fn lists_of(alloc: Global, value: &Value, numbers: Numbers) -> Result<Parts<'_>,
         return Err(JobFault::Shape(Part::Assert, 0));
     };
     Ok(Parts {
+        form: numbers.form,
         widths: numbers.widths,
         sizes: numbers.sizes,
-        height: numbers.height,
+        heights: numbers.heights,
         fonts,
         css,
         page,
@@ -179,25 +215,27 @@ fn lists_of(alloc: Global, value: &Value, numbers: Numbers) -> Result<Parts<'_>,
 /// What the members say, or the first that is missing, of another form or against a rule.
 pub(crate) fn parts_of(alloc: Global, value: &Value) -> Result<Parts<'_>, JobFault>
     ensures gives { Gives parts_seen refusal_of result (parts_of (view value.now)) }
+    ensures formed { IfOk result (λ parts. IsFormOf parts.form parts.heights) }
     ensures document { IfOk result (λ parts. IsDocument parts.page.nodes) }
     ensures has_font { IfOk result (λ parts. 1 ≤ length parts.fonts) }
 {
-    if whole_at(value, "vizlog") != Some(1) {
+    let Some(form) = form_of(value) else {
         return Err(JobFault::Shape(Part::Top, 0));
-    }
+    };
     let Some(widths) = pair_at(value, "widths") else {
         return Err(JobFault::Shape(Part::Widths, 0));
     };
     let Some(sizes) = pair_at(value, "sizes") else {
         return Err(JobFault::Shape(Part::Sizes, 0));
     };
-    let Some(height) = whole_at(value, "height") else {
+    let Some(heights) = heights_of(form, value) else {
         return Err(JobFault::Shape(Part::Height, 0));
     };
     let numbers = Numbers {
+        form,
         widths,
         sizes,
-        height,
+        heights,
     };
     lists_of(alloc, value, numbers)
 }

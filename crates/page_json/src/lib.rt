@@ -50,13 +50,15 @@ fn ranged(alloc: Global, parts: Parts<'_>) -> Result<RawJob, JobFault>
         return Err(JobFault::Range);
     }
     Ok(RawJob {
+        form: parts.form,
         range: Rect {
             wl: parts.widths.0 as u32,
             wh: parts.widths.1 as u32,
             sl: parts.sizes.0 as u32,
             sh: parts.sizes.1 as u32,
+            hl: parts.heights.0 as u32,
+            hh: parts.heights.1 as u32,
         },
-        height: parts.height as u32,
         fonts: parts.fonts,
         css: parts.css,
         page: Page {

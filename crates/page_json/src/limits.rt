@@ -1,11 +1,12 @@
 //! The limits of a job file.
-ghost use Rattle.std.specs.Prelude.{◌≡◌, ◌+◌, ◌≤◌, map, length, sum_by, IfOk, MatchResult, OnOk};
+ghost use Rattle.std.specs.Prelude.{◌≡◌, ◌+◌, ◌-◌, ◌≤◌, map, length, sum_by, IfOk, IsTrue, MatchResult, OnOk};
 ghost use Rattle.std.specs.Str.{chars};
 ghost use Rattle.viz_base.specs.Pages.{text_of};
 ghost use Rattle.viz_base.specs.Answers.{Gives};
+ghost use Rattle.viz_base.specs.Worlds.{world_count};
 ghost use Rattle.page_json.specs.Faults.{refusal_of, within};
 ghost use Rattle.page_json.specs.Fonts.{measures_of};
-ghost use Rattle.page_json.specs.Jobs.{advances, are_ends, characters, elements, in_range, limited, sheet_bytes, style_bytes, style_bytes_in};
+ghost use Rattle.page_json.specs.Jobs.{advances, are_ends, are_ranges, characters, elements, in_range, limited, rect_of, sheet_bytes, style_bytes, style_bytes_in};
 ghost use Rattle.page_json.specs.Seen.{lists_limited, parts_seen};
 
 use crate::JobFault;
@@ -145,12 +146,38 @@ fn are_ends(most: u64, ends: (u64, u64)) -> bool
     1 <= least && least <= last && last <= most
 }
 
-/// Whether widths, sizes and the height are within their limits.
+/// Whether widths, sizes and heights are each within their limits.
+fn are_ranges(parts: &Parts<'_>) -> bool
+    ensures { result ≡ are_ranges (parts_seen parts.now) }
+{
+    are_ends(16384, parts.widths) && are_ends(256, parts.sizes) && are_ends(16384, parts.heights)
+}
+
+/// How many numbers there are from one end to the other.
+fn count_of(most: u64, ends: (u64, u64)) -> u64
+    requires least { IsTrue (are_ends most ends) }
+    requires most { most ≤ 16384 }
+    ensures count { result ≡ ends.1 + 1 - ends.0 }
+    ensures most { result ≤ most }
+{
+    let (least, last) = ends;
+    last + 1 - least
+}
+
+/// How many worlds there are, where the three ranges are within their limits.
+fn world_count(parts: &Parts<'_>) -> u64
+    requires { IsTrue (are_ranges (parts_seen parts.now)) }
+    ensures { result ≡ world_count (rect_of (parts_seen parts.now)) }
+{
+    let widths = count_of(16384, parts.widths);
+    let sizes = count_of(256, parts.sizes);
+    let heights = count_of(16384, parts.heights);
+    widths * sizes * heights
+}
+
+/// Whether widths, sizes and heights are within their limits, and there are not too many worlds.
 pub(crate) fn in_range(parts: &Parts<'_>) -> bool
     ensures { result ≡ in_range (parts_seen parts.now) }
 {
-    are_ends(16384, parts.widths)
-        && are_ends(256, parts.sizes)
-        && 1 <= parts.height
-        && parts.height <= 16384
+    are_ranges(parts) && world_count(parts) <= 4_194_304
 }

@@ -27,6 +27,7 @@ own (of_value.Em n) w e = same_value (of_value.Em n) w e
 own (of_value.Pct n) w e = same_value (of_value.Pct n) w e
 own (of_value.Number n) w e = same_value (of_value.Number n) w e
 own (of_value.Names n) w e = same_value (of_value.Names n) w e
+own (of_value.Chars n) w e = same_value (of_value.Chars n) w e
 
 module _ (p : Prop) where
   first_may : (s : Setting) (ws : List Setting) (b : Bool) → is_prop s.prop p ≡ b → IsAllowed s → ((v : Value) → winner p ws ≡ Some v → MayWin (row p) v) → (v : Value) → option_map (λ (s : Setting). s.value) (cond b (Some s) (find (λ (s : Setting). is_prop s.prop p) ws)) ≡ Some v → MayWin (row p) v

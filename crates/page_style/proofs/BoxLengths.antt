@@ -55,6 +55,7 @@ module _ (P Q : Length → Type 0) (node : ℕ)
   says r (of_value.Pct n) m = pct r n m
   says r (of_value.Number n) m = px (pos 0)
   says r (of_value.Names n) m = px (pos 0)
+  says r (of_value.Chars n) m = px (pos 0)
 
   -- a row without keywords has no `auto`
   says_fixed : (r : Row) → length r.words ≡ 0 → (v : Value) → MayWin r v → Q (length_of node v)
@@ -65,6 +66,7 @@ module _ (P Q : Length → Type 0) (node : ℕ)
   says_fixed r e (of_value.Pct n) m = fixed (of_length.Pct n) refl (pct r n m)
   says_fixed r e (of_value.Number n) m = fixed (of_length.Px (pos 0)) refl (px (pos 0))
   says_fixed r e (of_value.Names n) m = fixed (of_length.Px (pos 0)) refl (px (pos 0))
+  says_fixed r e (of_value.Chars n) m = fixed (of_length.Px (pos 0)) refl (px (pos 0))
 
   says_maximum : (r : Row) (v : Value) → MayWin r v → OfMaximum Q (maximum_of node v)
   says_maximum r of_value.Inherit m l e = subst Q (some_length _ l e) (fixed (of_length.Px (pos 0)) refl (px (pos 0)))
@@ -74,6 +76,7 @@ module _ (P Q : Length → Type 0) (node : ℕ)
   says_maximum r (of_value.Pct n) m l e = subst Q (some_length _ l e) (fixed (of_length.Pct n) refl (pct r n m))
   says_maximum r (of_value.Number n) m l e = subst Q (some_length _ l e) (fixed (of_length.Px (pos 0)) refl (px (pos 0)))
   says_maximum r (of_value.Names n) m l e = subst Q (some_length _ l e) (fixed (of_length.Px (pos 0)) refl (px (pos 0)))
+  says_maximum r (of_value.Chars n) m l e = subst Q (some_length _ l e) (fixed (of_length.Px (pos 0)) refl (px (pos 0)))
 
   says_width : (r : Row) (v : Value) → MayWin r v → Q (width_of node v)
   says_width r of_value.Inherit m = fixed (of_length.Px (pos 0)) refl (px (pos 0))
@@ -86,6 +89,7 @@ module _ (P Q : Length → Type 0) (node : ℕ)
   says_width r (of_value.Pct n) m = fixed (of_length.Pct n) refl (pct r n m)
   says_width r (of_value.Number n) m = fixed (of_length.Px (pos 0)) refl (px (pos 0))
   says_width r (of_value.Names n) m = fixed (of_length.Px (pos 0)) refl (px (pos 0))
+  says_width r (of_value.Chars n) m = fixed (of_length.Px (pos 0)) refl (px (pos 0))
 
   by_drawn : (drawn : Bool) (l : Length) → Q l → Q (if_drawn drawn l)
   by_drawn true l q = q

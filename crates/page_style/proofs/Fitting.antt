@@ -109,6 +109,7 @@ module _ (T : ℕ → Bool) where
     line_says (of_value.Pct n) m = one
     line_says (of_value.Number n) m = refl
     line_says (of_value.Names n) m = refl
+    line_says (of_value.Chars n) m = refl
 
     valign_says : (v : Value) → MayWin (row VerticalAlign) v → ValignNamed (valign_of node v)
     valign_says of_value.Inherit m = refl
@@ -122,6 +123,7 @@ module _ (T : ℕ → Bool) where
     valign_says (of_value.Pct n) m = refl
     valign_says (of_value.Number n) m = refl
     valign_says (of_value.Names n) m = refl
+    valign_says (of_value.Chars n) m = refl
 
     of_element : (fonts : List Font) (ws : List Setting) (allowed : AllByRecursion IsAllowed ws) (drawn : Sides Bool) (parent : Option Style) (s : Style) → IsComputed fonts node ws drawn parent s → ((t : Style) → parent ≡ Some t → Names t) → Names s
     of_element fonts ws allowed drawn parent s c up = record {
@@ -152,6 +154,7 @@ module _ (fonts : List Font) (some : 0 < length fonts) where
   font_says (of_value.Pct n) m = some
   font_says (of_value.Number n) m = some
   font_says (of_value.Names names) m = first_below names
+  font_says (of_value.Chars names) m = some
 
 -- ---- node by node
 

@@ -106,6 +106,7 @@ size_says (of_value.Em n) m = and_from _ _ (nonnegative n m) refl
 size_says (of_value.Pct n) m = and_from _ _ (nonnegative n m.0) refl
 size_says (of_value.Number n) m = refl
 size_says (of_value.Names n) m = refl
+size_says (of_value.Chars n) m = refl
 
 abbrev GoodLine : LineHeight → Type 0
 GoodLine l = is_good_line l ≡ true
@@ -118,6 +119,7 @@ line_says node (of_value.Em n) m = and_from _ _ (nonnegative n m) refl
 line_says node (of_value.Pct n) m = and_from _ _ (nonnegative n m.0) refl
 line_says node (of_value.Number n) m = and_from _ _ (nonnegative n m) refl
 line_says node (of_value.Names n) m = refl
+line_says node (of_value.Chars n) m = refl
 
 abbrev GoodValign : Valign → Type 0
 GoodValign v = is_good_valign v ≡ true
@@ -134,6 +136,7 @@ valign_says node (of_value.Em n) m = refl
 valign_says node (of_value.Pct n) m = pct_bounded (row VerticalAlign) n m
 valign_says node (of_value.Number n) m = refl
 valign_says node (of_value.Names n) m = refl
+valign_says node (of_value.Chars n) m = refl
 
 -- ---- borders
 
@@ -151,6 +154,7 @@ width_says r node (of_value.Em n) none m = refl
 width_says r node (of_value.Pct n) none m = absurd (none n m)
 width_says r node (of_value.Number n) none m = refl
 width_says r node (of_value.Names n) none m = refl
+width_says r node (of_value.Chars n) none m = refl
 
 drawn_plain : (drawn : Bool) (l : Length) → Plain l → Plain (if_drawn drawn l)
 drawn_plain true l p = p

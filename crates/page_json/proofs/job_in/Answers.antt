@@ -3,6 +3,7 @@ use Rattle.page_json.proofs.job_in.Goals as goal
 
 pub ranged-requires : goal.ranged-requires
 ranged-requires c = record {
+  formed = c.in_ok-parts.ensures.formed;
   page = document-page c.in_ok-parts.parts.page.nodes c.in_ok-parts.ensures.document c.in_ok-limited.ensures.few_characters;
   has_font = c.in_ok-parts.ensures.has_font;
   few_characters = c.in_ok-limited.ensures.few_characters;

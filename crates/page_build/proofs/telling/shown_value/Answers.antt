@@ -1,4 +1,4 @@
-use Rattle.page_build.proofs.styles.shown_value.Goals as goal
+use Rattle.page_build.proofs.telling.shown_value.Goals as goal
 
 pub unreachable-requires : goal.unreachable-requires
 unreachable-requires c = (c.in-None.ensures).none c.requires.0 c.requires.1

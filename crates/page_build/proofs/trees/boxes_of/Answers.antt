@@ -4,7 +4,7 @@ use Rattle.page_boxes.specs.Trees.{page_tree}
 use Rattle.page_build.specs.declared.faults.JobRefusal.TheVariants.{Mem}
 use Rattle.page_build.specs.Refusals.{of_boxes, of_box_fault}
 use Rattle.page_build.proofs.Stages.{boxes_refused}
-use Rattle.page_build.proofs.building.tree_of.Goals as goal
+use Rattle.page_build.proofs.trees.boxes_of.Goals as goal
 
 pub returns-in_err-build_boxes : goal.returns-in_err-build_boxes
 returns-in_err-build_boxes c =
