@@ -52,6 +52,10 @@ impl Calc for Digesting {
         self.plain.size()
     }
 
+    fn height(&mut self) -> Result<i128, Halt> {
+        self.plain.height()
+    }
+
     fn copy(&mut self, a: &i128) -> Result<i128, Halt> {
         self.plain.copy(a)
     }

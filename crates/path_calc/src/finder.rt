@@ -6,7 +6,6 @@ use crate::pool::{Known, Pool, Signs};
 use crate::renumbering::{Numbering, answer_by};
 use crate::trail::{Found, Ranks};
 use crate::trouble::Trouble;
-use cert_path::AXIS_COUNT;
 use lin_proof::{Answer, Derivation};
 use lin_row::Row;
 use lin_search::{Search, refute};
@@ -91,6 +90,11 @@ impl<'a> Finder<'a> {
         self.footing.alloc()
     }
 
+    /// The height of the viewport in 1/64 px: that of its variable, or the one that there is.
+    pub fn height(&self) -> Result<Row, Mem> {
+        self.footing.height_row()
+    }
+
     /// How many floors there are behind those of the path. The variable of each has a number of 32 bits.
     fn floor_count(&self) -> u32 {
         u32::try_from(self.floors.len()).unwrap_or(u32::MAX)
@@ -131,7 +135,7 @@ impl<'a> Finder<'a> {
     {
         if let Some(place) = self.footing.path.floors.place_of(&floor) {
             self.ranks.use_named(place)?;
-            return numbered(place, AXIS_COUNT);
+            return numbered(place, self.footing.axis_count());
         }
         if let Some(place) = self.floors.place_of(&floor) {
             return numbered(place, self.footing.variables);
@@ -343,6 +347,7 @@ impl<'a> Finder<'a> {
             spots: self.ranks.spots.as_slice(),
             named: self.footing.named,
             path: self.footing.facts,
+            axes: self.footing.axis_count(),
             base: self.footing.variables,
             contrary: self.footing.facts.saturating_add(floors.saturating_mul(2)),
         }

@@ -1,9 +1,11 @@
 ghost use Rattle.std.specs.Prelude.{◌≡◌, ◌+◌, IfSome, length};
 ghost use Rattle.cert_path.specs.Axes.{axis_count};
 
-use cert_path::AXIS_COUNT;
+use cert_path::{axis_count, variable_of};
+use lin_row::Row;
 use std::alloc::Global;
 use sym_calc::Path;
+use viz_base::{Axis, Mem};
 
 /// The path on which a run stands, and how its facts and variables are numbered.
 #[derive(Clone, Copy)]
@@ -29,6 +31,21 @@ impl<'a> Footing<'a> {
         })
     }
 
+    /// How many axes its variables stand for.
+    pub fn axis_count(self) -> u32 {
+        axis_count(self.path.origin.form)
+    }
+
+    /// The viewport's height in 1/64 px.
+    pub fn height_row(self) -> Result<Row, Mem> {
+        let variable = variable_of(Axis::Height);
+        if variable < self.axis_count() {
+            return Ok(Row::of_term(self.alloc(), 0, variable, 64)?);
+        }
+        let units = i128::from(self.path.origin.height).saturating_mul(64);
+        Ok(Row::constant(self.alloc(), units))
+    }
+
     /// Where runs take memory.
     pub fn alloc(self) -> Global {
         self.path.facts.allocator()
@@ -37,7 +54,12 @@ impl<'a> Footing<'a> {
 
 /// How many variables a path has. None where numbers of 32 bits don't do for them.
 pub fn variable_count(path: &Path) -> Option<u32>
-    ensures { IfSome result (λ count. count ≡ length path.now.floors + axis_count) }
+    ensures { IfSome result (λ count. count ≡ length path.now.floors + axis_count path.now.origin.form) }
 {
-    u32::try_from(path.floors.len().saturating_add(AXIS_COUNT as usize)).ok()
+    u32::try_from(
+        path.floors
+            .len()
+            .saturating_add(axis_count(path.origin.form) as usize),
+    )
+    .ok()
 }

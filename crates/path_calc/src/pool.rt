@@ -1,8 +1,8 @@
 use crate::values::{floor_of, value_of};
-use cert_path::{along, variable_of};
+use cert_path::{along, axis_count, axis_of, variable_of};
 use lin_row::Row;
 use std::alloc::Global;
-use viz_base::{Axis, Mem, World};
+use viz_base::{Axis, Mem, Rect, World};
 
 /// A world of a path, with what the path's variables are there: the numbers on the axes, and the floors.
 #[derive(Drop)]
@@ -22,11 +22,14 @@ pub enum Signs {
     Both,
 }
 
-/// The widths of a path at one size, as far as is known: all from the least to the greatest, and no others.
+/// The widths of a path at one size and one height, as far as is known: all from the least to the greatest, and no
+/// others.
 #[derive(Clone, Copy)]
 pub struct Slice {
     /// The size.
     pub size: u32,
+    /// The height.
+    pub height: u32,
     /// The least width.
     pub least: u32,
     /// The greatest width.
@@ -38,29 +41,37 @@ pub struct Slice {
 pub struct Pool {
     /// The worlds.
     pub worlds: Vec<Known>,
-    /// The path size by size; none where it has too many sizes.
+    /// The path size by size, at some heights; none where it has too many sizes.
     pub slices: Vec<Slice>,
 }
 
 impl Known {
-    /// A world of the range, where no floor is named yet.
-    pub fn new(alloc: Global, world: World) -> Result<Self, Mem> {
+    /// A world of the range of a job of this form, where no floor is named yet.
+    pub fn new(alloc: Global, form: u8, world: World) -> Result<Self, Mem> {
         let mut values = Vec::new(alloc);
-        values.push(i128::from(along(Axis::Width, world)))?;
-        values.push(i128::from(along(Axis::Size, world)))?;
+        for variable in 0..axis_count(form) {
+            if let Some(axis) = axis_of(form, variable) {
+                values.push(i128::from(along(axis, world)))?;
+            }
+        }
         Ok(Known { values })
     }
 
-    /// The world.
-    pub fn world(&self) -> Option<World> {
-        let w = self.number_on(Axis::Width)?;
-        let s = self.number_on(Axis::Size)?;
-        Some(World { w, s })
+    /// The world, of the range of a job of this form.
+    pub fn world(&self, form: u8, range: Rect) -> Option<World> {
+        let w = self.number_on(form, range, Axis::Width)?;
+        let s = self.number_on(form, range, Axis::Size)?;
+        let h = self.number_on(form, range, Axis::Height)?;
+        Some(World { w, s, h })
     }
 
-    /// The world's number on an axis.
-    fn number_on(&self, axis: Axis) -> Option<u32> {
-        let number = *self.values.get(variable_of(axis) as usize)?;
+    /// The world's number on an axis. The range has but one where the form has no variable for it.
+    fn number_on(&self, form: u8, range: Rect, axis: Axis) -> Option<u32> {
+        let variable = variable_of(axis);
+        if variable >= axis_count(form) {
+            return Some(range.side(axis).least);
+        }
+        let number = *self.values.get(variable as usize)?;
         u32::try_from(number).ok()
     }
 
@@ -162,9 +173,9 @@ impl Pool {
         Ok(())
     }
 
-    /// The world that stands for all.
-    pub fn first_world(&self) -> Option<World> {
-        self.worlds.first()?.world()
+    /// The world that stands for all, of the range of a job of this form.
+    pub fn first_world(&self, form: u8, range: Rect) -> Option<World> {
+        self.worlds.first()?.world(form, range)
     }
 }
 

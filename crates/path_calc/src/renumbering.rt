@@ -1,6 +1,5 @@
 use crate::cones::plus;
 use crate::trail::{Found, Spot};
-use cert_path::AXIS_COUNT;
 use lin_proof::{Answer, Branch, Derivation, Ending, Step};
 use lin_row::{Row, RowFault};
 use std::alloc::Global;
@@ -18,6 +17,8 @@ pub struct Numbering<'a> {
     pub named: &'a [u32],
     /// How many facts the path has here.
     pub path: u32,
+    /// How many axes the first variables stand for.
+    pub axes: u32,
     /// The number of the first variable behind those of the path here.
     pub base: u32,
     /// The number of the contrary here.
@@ -59,7 +60,7 @@ impl Numbering<'_> {
         match self.spot(at) {
             Some(Spot::Named(place)) => u32::try_from(place)
                 .unwrap_or(u32::MAX)
-                .saturating_add(AXIS_COUNT),
+                .saturating_add(self.axes),
             Some(Spot::New(place)) => self.base.saturating_add(place),
             None => variable,
         }

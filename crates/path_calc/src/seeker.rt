@@ -132,6 +132,10 @@ impl<'a> Calc for Seeker<'a> {
         Ok(Row::of_term(self.finder.alloc(), 0, variable_of(Axis::Size), 64)?)
     }
 
+    fn height(&mut self) -> Result<Row, Halt> {
+        Ok(self.finder.height()?)
+    }
+
     fn copy(&mut self, a: &Row) -> Result<Row, Halt> {
         Ok(a.clone()?)
     }

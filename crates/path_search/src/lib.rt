@@ -2,6 +2,7 @@
 //! of the range as a whole. Nothing is claimed of it but that it returns.
 #![tactic(auto)]
 
+mod heights;
 mod rectangles;
 mod runs;
 mod sampling;

@@ -67,7 +67,7 @@ fn is_tree(place: &mut Place<'_>, part: Part) -> Result<bool, Stop>
 /// Whether a tree of a rectangle has too many leaves, by a sample.
 fn has_many_leaves(place: &Place<'_>, rect: Rect) -> Result<bool, Stop> {
     let leaves = leaves_for(place, rect);
-    let sample = Sample::new(place.alloc, place.job, rect, leaves)?;
+    let sample = Sample::new(place.alloc, place.job, place.seen(rect), leaves)?;
     match sample.untrue {
         Some(world) => Err(Stop::Untrue(world)),
         None => Ok(sample.has_more_than(leaves)),
@@ -127,12 +127,12 @@ fn in_halves(place: &mut Place<'_>, part: Part) -> Result<(), Stop>
     let Some(turns) = place.turns.checked_sub(1) else {
         return Err(Stop::GaveUp);
     };
-    if turns < most_turns(Budget::Tight, part.rect) / 4 {
+    if turns < most_turns(Budget::Tight, place.seen(part.rect)) / 4 {
         return Err(Stop::GaveUp);
     }
     let part = part.lower()?;
     place.turns = turns;
-    let row = halving(place.alloc, part.rect)?;
+    let row = halving(place, part.rect)?;
     halved(place, part, &row)
 }
 
@@ -151,7 +151,7 @@ fn halved(place: &mut Place<'_>, part: Part, row: &Row) -> Result<(), Stop>
 fn half(place: &mut Place<'_>, child: Child, part: Part, row: &Row) -> Result<(), Stop>
     ensures falls { place.new.turns ≤ place.old.turns }
 {
-    let Some(part) = below(row, child, part) else {
+    let Some(part) = below(place.job.form, row, child, part) else {
         return Err(Stop::GaveUp);
     };
     let (facts, floors) = (place.path.facts.len(), place.path.floors.len());

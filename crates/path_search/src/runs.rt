@@ -23,8 +23,8 @@ pub enum Outcome {
 
 /// Whether a job's formula is true of its page's rendering, over a calc.
 pub fn truth_over<C: Calc>(alloc: Global, job: &Job, calc: &mut C) -> Result<bool, Halt> {
-    let rendering = render(alloc, calc, &job.tree, job.height)?;
-    truth(calc, &job.formula, &rendering, job.height)
+    let rendering = render(alloc, calc, &job.tree)?;
+    truth(calc, &job.formula, &rendering)
 }
 
 /// What a run comes to that ended with this answer.

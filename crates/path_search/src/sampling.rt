@@ -52,12 +52,19 @@ impl Sample {
                 break;
             }
             let other = next(number);
+            // One height needs no number of its own.
+            let third = if rect.hl < rect.hh {
+                next(other)
+            } else {
+                other
+            };
             let world = World {
                 w: number_in(rect.wl, rect.wh, number),
                 s: number_in(rect.sl, rect.sh, other),
+                h: number_in(rect.hl, rect.hh, third),
             };
             sample.add(alloc, job, world)?;
-            number = next(other);
+            number = next(third);
         }
         Ok(sample)
     }

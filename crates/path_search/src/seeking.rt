@@ -1,9 +1,10 @@
 ghost use Rattle.std.specs.Prelude.{◌≡◌, ◌≤◌};
 
+use crate::heights::{flattened, is_flat, rests_on_height};
 use crate::rectangles::{Budget, budget_of, rectangle};
 use crate::runs::{Outcome, outcome_of, truth_over};
 use crate::slices::{ends_met, pools_under, slices_of};
-use crate::tiling::{Cut, cut_of_tiles};
+use crate::tiling::{Cut, cut_of_flat, cut_of_tiles};
 use cert_check::{Child, cut_of, holds_at, middle, part_of};
 use cert_path::{axis_of, variable_of};
 use cert_text::{Cert, CertNode};
@@ -83,6 +84,8 @@ pub struct Place<'a> {
     pub nodes: Vec<CertNode>,
     /// How many leaves trees are to have.
     pub budget: Budget,
+    /// Whether layouts answer alike at all heights, as far as is known: then one stands for all.
+    pub is_flat: bool,
     /// How many paths may still be taken for what is kept: a split takes one, and so does a grid or a leaf.
     pub turns: u64,
     /// How many paths may still be taken by trees that are given up.
@@ -92,7 +95,7 @@ pub struct Place<'a> {
 impl<'a> Place<'a> {
     /// The beginning of a search.
     fn new(alloc: Global, job: &'a Job, turns: u64) -> Result<Self, Mem> {
-        let path = Path::new(alloc, job.range)?;
+        let path = Path::new(alloc, job.form, job.range)?;
         Ok(Place {
             alloc,
             job,
@@ -101,10 +104,16 @@ impl<'a> Place<'a> {
             found: Vec::new(alloc),
             nodes: Vec::new(alloc),
             budget: budget_of(turns, job.range),
+            is_flat: is_flat(alloc, job)?,
             // So many grids and leaves have one split less above them.
             turns: turns.saturating_mul(2).saturating_sub(1),
             spare: turns.saturating_mul(4),
         })
+    }
+
+    /// What of a rectangle has to be looked at: one height, where that stands for all.
+    pub fn seen(&self, rect: Rect) -> Rect {
+        if self.is_flat { flattened(rect) } else { rect }
     }
 }
 
@@ -154,6 +163,7 @@ pub fn seek(alloc: Global, job: &Job, turns: u64) -> Result<Finding, Mem> {
 fn finding_of(job: &Job, sought: Result<(), Stop>, root: Option<CertNode>) -> Result<Finding, Mem> {
     match (sought, root) {
         (Ok(()), Some(root)) => Ok(Finding::Proof(Cert {
+            form: 1,
             job: job.digest,
             root,
         })),
@@ -187,27 +197,35 @@ fn put(nodes: &mut Vec<CertNode>, node: CertNode) -> Result<(), Stop> {
 /// The corners of a rectangle, the middles of its edges, and its own, each where the formula is true.
 pub fn first_pool(place: &Place<'_>, rect: Rect) -> Result<Pool, Stop> {
     // An end of the range is where a rule is most likely to break.
-    let widths = middle_and_ends(place.alloc, rect.wl, rect.wh)?;
-    let sizes = middle_and_ends(place.alloc, rect.sl, rect.sh)?;
+    let rect = place.seen(rect);
     let mut pool = Pool::new(place.alloc);
-    meet_all(place, &mut pool, widths.as_slice(), sizes.as_slice())?;
+    for w in middle_and_ends(place.alloc, rect.wl, rect.wh)? {
+        for s in middle_and_ends(place.alloc, rect.sl, rect.sh)? {
+            meet_heights(place, &mut pool, rect, w, s)?;
+        }
+    }
     pool.slices = slices_of(place.alloc, rect)?;
     Ok(pool)
 }
 
-/// Adds the worlds of these widths and sizes to the known ones, or stops at one where the formula is false.
-fn meet_all(place: &Place<'_>, pool: &mut Pool, widths: &[u32], sizes: &[u32]) -> Result<(), Stop> {
-    for w in widths {
-        for s in sizes {
-            let known = Known::new(place.alloc, World { w: *w, s: *s })?;
-            meet(place, pool, known)?;
-        }
+/// Adds the worlds of a width, a size and the ends and the middle of a rectangle's heights to the known ones, or stops
+/// at one where the formula is false.
+fn meet_heights(
+    place: &Place<'_>,
+    pool: &mut Pool,
+    rect: Rect,
+    w: u32,
+    s: u32,
+) -> Result<(), Stop> {
+    for h in middle_and_ends(place.alloc, rect.hl, rect.hh)? {
+        let known = Known::new(place.alloc, place.job.form, World { w, s, h })?;
+        meet(place, pool, known)?;
     }
     Ok(())
 }
 
 /// The middle of a range and its ends, each once.
-fn middle_and_ends(alloc: Global, least: u32, most: u32) -> Result<Vec<u32>, AllocError> {
+pub fn middle_and_ends(alloc: Global, least: u32, most: u32) -> Result<Vec<u32>, AllocError> {
     let mut found = Vec::new(alloc);
     for number in [middle(least, most), least, most] {
         if !found.contains(&number) {
@@ -219,7 +237,7 @@ fn middle_and_ends(alloc: Global, least: u32, most: u32) -> Result<Vec<u32>, All
 
 /// Adds a world to the known ones, or stops at it where the formula is false.
 fn meet(place: &Place<'_>, pool: &mut Pool, known: Known) -> Result<(), Stop> {
-    if let Some(world) = known.world() {
+    if let Some(world) = known.world(place.job.form, place.job.range) {
         try_world(place, world)?;
     }
     pool.worlds.push(known)?;
@@ -230,8 +248,9 @@ fn meet(place: &Place<'_>, pool: &mut Pool, known: Known) -> Result<(), Stop> {
 fn try_world(place: &Place<'_>, world: World) -> Result<(), Stop> {
     let range = place.job.range;
     let is_wide = range.wl <= world.w && world.w <= range.wh;
-    let is_high = range.sl <= world.s && world.s <= range.sh;
-    if is_wide && is_high && !holds_at(place.alloc, place.job, world)? {
+    let is_sized = range.sl <= world.s && world.s <= range.sh;
+    let is_high = range.hl <= world.h && world.h <= range.hh;
+    if is_wide && is_sized && is_high && !holds_at(place.alloc, place.job, world)? {
         return Err(Stop::Untrue(world));
     }
     Ok(())
@@ -241,7 +260,8 @@ fn try_world(place: &Place<'_>, world: World) -> Result<(), Stop> {
 pub fn count_of(rect: Rect) -> u64 {
     let widths = u64::from(rect.wh.saturating_sub(rect.wl)).saturating_add(1);
     let sizes = u64::from(rect.sh.saturating_sub(rect.sl)).saturating_add(1);
-    widths.saturating_mul(sizes)
+    let heights = u64::from(rect.hh.saturating_sub(rect.hl)).saturating_add(1);
+    widths.saturating_mul(sizes).saturating_mul(heights)
 }
 
 /// Finds the node of a path, of which worlds are known, within a rectangle.
@@ -260,7 +280,7 @@ pub fn explore(place: &mut Place<'_>, pool: &mut Pool, part: Part) -> Result<(),
     }
     match laid_out(place, pool)? {
         Outcome::True(answers) => put(&mut place.nodes, CertNode::Leaf(answers)),
-        Outcome::False => Err(untrue(pool)),
+        Outcome::False => Err(untrue(place, pool)),
         // Nothing is known of the part then; its halves are tried by themselves.
         Outcome::TooLarge => halve(place, pool, part),
         Outcome::Lost => Err(Stop::GaveUp),
@@ -285,8 +305,8 @@ fn laid_out(place: &mut Place<'_>, pool: &mut Pool) -> Result<Outcome, Mem>
 }
 
 /// The formula is false at each of these worlds.
-fn untrue(pool: &Pool) -> Stop {
-    match pool.first_world() {
+fn untrue(place: &Place<'_>, pool: &Pool) -> Stop {
+    match pool.first_world(place.job.form, place.job.range) {
         Some(world) => Stop::Untrue(world),
         None => Stop::GaveUp,
     }
@@ -323,6 +343,9 @@ fn open(place: &mut Place<'_>, pool: &mut Pool, part: Part, opening: Opening) ->
     ensures falls { place.new.turns ≤ place.old.turns }
 {
     let Opening { floors, row, point } = opening;
+    if place.is_flat && rests_on_height(&place.path, floors.as_slice(), &row)? {
+        place.is_flat = false;
+    }
     if let Some(known) = point {
         meet(place, pool, known)?;
     }
@@ -339,12 +362,11 @@ fn has_room(depth: u32, floors: &[Floor]) -> bool {
     (depth.saturating_sub(HALVINGS) as usize) > floors.len()
 }
 
-/// The same row where it is no row of the width or the size alone; else one with the coefficient 1 or -1 and the same
-/// signs.
-fn cut_once(alloc: Global, row: &Row) -> Result<Row, Stop> {
+/// The same row where it is no row of one axis alone; else one with the coefficient 1 or -1 and the same signs.
+fn cut_once(alloc: Global, form: u8, row: &Row) -> Result<Row, Stop> {
     // A row of one axis cuts the rectangle only with the coefficient 1 or -1, and its grids are smaller then.
     let unit = match row.terms.as_slice() {
-        [term] => match axis_of(term.0) {
+        [term] => match axis_of(form, term.0) {
             Some(axis) => unit_row(alloc, row.k, axis, term.1)?,
             None => None,
         },
@@ -383,14 +405,18 @@ fn unit_row(
 fn halve(place: &mut Place<'_>, pool: &mut Pool, part: Part) -> Result<(), Stop>
     ensures falls { place.new.turns ≤ place.old.turns }
 {
-    let row = halving(place.alloc, part.rect)?;
+    let row = halving(place, part.rect)?;
     split(place, pool, part, &row)
 }
 
 /// That a world is in the first of the two parts into which a rectangle is cut.
-pub fn halving(alloc: Global, rect: Rect) -> Result<Row, AllocError> {
-    let Cut { axis, last } = cut_of_tiles(rect);
-    Row::of_term(alloc, i128::from(last), variable_of(axis), -1)
+pub fn halving(place: &Place<'_>, rect: Rect) -> Result<Row, AllocError> {
+    let Cut { axis, last } = if place.is_flat {
+        cut_of_flat(rect)
+    } else {
+        cut_of_tiles(rect)
+    };
+    Row::of_term(place.alloc, i128::from(last), variable_of(axis), -1)
 }
 
 /// Finds the node of a path that is split by a row after floors are named.
@@ -426,7 +452,7 @@ fn below_floors(
         name(place, pool, floor)?;
         below.depth = below.depth.saturating_sub(1);
     }
-    let row = cut_once(place.alloc, row)?;
+    let row = cut_once(place.alloc, place.job.form, row)?;
     let found = split(place, pool, below, &row);
     leave(place, facts, named);
     found
@@ -513,7 +539,7 @@ fn branch(
     let known = place.found.len();
     enter(place, child, row)?;
     ends_met(place, pool)?;
-    let found = side(place, pool, below(row, child, part));
+    let found = side(place, pool, below(place.job.form, row, child, part));
     leave(place, facts, named);
     // Answers found on one side rest on its row; those from above the split hold on both.
     place.found.truncate(known);
@@ -549,8 +575,8 @@ fn split_by(alloc: Global, row: &Row, first: CertNode, second: CertNode) -> Resu
 }
 
 /// The worlds of a part that lie under a child of a split; only a unit split cuts it.
-pub fn below(row: &Row, child: Child, part: Part) -> Option<Part> {
-    let rect = match cut_of(row) {
+pub fn below(form: u8, row: &Row, child: Child, part: Part) -> Option<Part> {
+    let rect = match cut_of(form, row) {
         Some(cut) => part_of(cut, child, part.rect)?,
         None => part.rect,
     };

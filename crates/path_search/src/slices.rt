@@ -1,5 +1,5 @@
-//! The worlds of a path size by size: the ends of its widths show both signs of nearly each row that has both, since at
-//! one size a row of text is linear in the width.
+//! The worlds of a path size by size, at some heights: the ends of its widths show both signs of nearly each row that
+//! has both, since at one size and height a row of text is linear in the width.
 use crate::seeking::{Place, Stop, add_floors, meets_facts};
 use cert_check::middle;
 use lin_row::Row;
@@ -7,22 +7,50 @@ use path_calc::{Known, Pool, Slice, value_of};
 use std::alloc::{AllocError, Global};
 use viz_base::{Rect, World};
 
-/// How many sizes a path is followed at.
+/// How many sizes a path is followed at, and how many slices there are where it is at several heights.
 const MOST_SIZES: u32 = 64;
 
 /// The slices of a rectangle; none where it has too many sizes.
 pub fn slices_of(alloc: Global, rect: Rect) -> Result<Vec<Slice>, AllocError> {
     let mut slices = Vec::new(alloc);
-    if rect.sh.saturating_sub(rect.sl) < MOST_SIZES {
+    let sizes = rect.sh.saturating_sub(rect.sl).saturating_add(1);
+    if sizes <= MOST_SIZES {
+        let heights = heights_of(alloc, rect, MOST_SIZES / sizes.max(1))?;
         for size in rect.sl..rect.sh.saturating_add(1) {
-            slices.push(Slice {
-                size,
-                least: rect.wl,
-                most: rect.wh,
-            })?;
+            put_slices(&mut slices, rect, size, heights.as_slice())?;
         }
     }
     Ok(slices)
+}
+
+/// Heights of a rectangle, its ends among them, about as many as these and at most two where these are fewer.
+fn heights_of(alloc: Global, rect: Rect, most: u32) -> Result<Vec<u32>, AllocError> {
+    let mut heights = Vec::new(alloc);
+    let span = rect.hh.saturating_sub(rect.hl);
+    let steps = span.min(most.saturating_sub(1).max(1));
+    for step in 0..steps.saturating_add(1) {
+        let offset = u64::from(span).saturating_mul(u64::from(step)) / u64::from(steps.max(1));
+        heights.push(rect.hl.saturating_add(u32::try_from(offset).unwrap_or(0)))?;
+    }
+    Ok(heights)
+}
+
+/// Puts the slices of a size at some heights behind others.
+fn put_slices(
+    slices: &mut Vec<Slice>,
+    rect: Rect,
+    size: u32,
+    heights: &[u32],
+) -> Result<(), AllocError> {
+    for height in heights {
+        slices.push(Slice {
+            size,
+            height: *height,
+            least: rect.wl,
+            most: rect.wh,
+        })?;
+    }
+    Ok(())
 }
 
 /// The known worlds and the slices under the two children of a split by a row.
@@ -63,8 +91,8 @@ struct Parts {
 
 /// The parts of a slice at which a row is at least 0, and below 0, where its sign changes at most once along it.
 fn parts_of(place: &Place<'_>, slice: Slice, row: &Row) -> Result<Parts, Stop> {
-    let begins = is_met(place, row, slice.size, slice.least)?;
-    let ends = is_met(place, row, slice.size, slice.most)?;
+    let begins = is_met(place, row, slice, slice.least)?;
+    let ends = is_met(place, row, slice, slice.most)?;
     let (low, high) = if begins == ends {
         (slice, None)
     } else {
@@ -106,7 +134,7 @@ fn last_alike(place: &Place<'_>, slice: Slice, row: &Row, sign: bool) -> Result<
             break;
         }
         let center = middle(alike, other);
-        if is_met(place, row, slice.size, center)? == sign {
+        if is_met(place, row, slice, center)? == sign {
             alike = center;
         } else {
             other = center;
@@ -115,18 +143,23 @@ fn last_alike(place: &Place<'_>, slice: Slice, row: &Row, sign: bool) -> Result<
     Ok(alike)
 }
 
-/// Whether a row is at least 0 at a world of the path.
-fn is_met(place: &Place<'_>, row: &Row, s: u32, w: u32) -> Result<bool, Stop> {
-    let known = known_at(place, s, w)?;
+/// Whether a row is at least 0 at a width of a slice of the path.
+fn is_met(place: &Place<'_>, row: &Row, slice: Slice, w: u32) -> Result<bool, Stop> {
+    let known = known_at(place, slice, w)?;
     match value_of(row, known.values.as_slice()) {
         Some(value) => Ok(value >= 0),
         None => Err(Stop::GaveUp),
     }
 }
 
-/// A world with the values of the path's floors.
-fn known_at(place: &Place<'_>, s: u32, w: u32) -> Result<Known, Stop> {
-    let mut known = Known::new(place.alloc, World { w, s })?;
+/// The world of a width of a slice, with the values of the path's floors.
+fn known_at(place: &Place<'_>, slice: Slice, w: u32) -> Result<Known, Stop> {
+    let world = World {
+        w,
+        s: slice.size,
+        h: slice.height,
+    };
+    let mut known = Known::new(place.alloc, place.job.form, world)?;
     add_floors(&place.path, &mut known)?;
     Ok(known)
 }
@@ -135,17 +168,13 @@ fn known_at(place: &Place<'_>, s: u32, w: u32) -> Result<Known, Stop> {
 pub fn ends_met(place: &Place<'_>, pool: &mut Pool) -> Result<(), Stop> {
     let mut worlds = Vec::new(place.alloc);
     if let Some(slice) = pool.slices.get(pool.slices.len() / 2) {
-        add_world(
-            place,
-            &mut worlds,
-            slice.size,
-            middle(slice.least, slice.most),
-        )?;
+        let center = middle(slice.least, slice.most);
+        add_world(place, &mut worlds, *slice, center)?;
     }
     for slice in &pool.slices {
-        add_world(place, &mut worlds, slice.size, slice.least)?;
+        add_world(place, &mut worlds, *slice, slice.least)?;
         if slice.least < slice.most {
-            add_world(place, &mut worlds, slice.size, slice.most)?;
+            add_world(place, &mut worlds, *slice, slice.most)?;
         }
     }
     if !worlds.is_empty() {
@@ -154,9 +183,9 @@ pub fn ends_met(place: &Place<'_>, pool: &mut Pool) -> Result<(), Stop> {
     Ok(())
 }
 
-/// Adds a world to others where it is on the path.
-fn add_world(place: &Place<'_>, worlds: &mut Vec<Known>, s: u32, w: u32) -> Result<(), Stop> {
-    let known = known_at(place, s, w)?;
+/// Adds the world of a width of a slice to others where it is on the path.
+fn add_world(place: &Place<'_>, worlds: &mut Vec<Known>, slice: Slice, w: u32) -> Result<(), Stop> {
+    let known = known_at(place, slice, w)?;
     if meets_facts(&place.path, known.values.as_slice())? {
         worlds.push(known)?;
     }

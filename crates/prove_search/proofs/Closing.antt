@@ -1,15 +1,15 @@
 -- What is found of a rectangle, from what is found of its halves.
-use Rattle.std.proofs.Common.{◌≡◌, ℕ, zero, suc, ◌+◌, ◌-◌, ◌*◌, ◌<◌, ◌≤◌, pos, negsuc, neg_ℤ, ◌-ℤ◌, Bool, true, nat_lt, nat_le, ◌&&◌, List, [], ◌∷◌, length, max, Result, Ok, Err, refl, sym, ap, subst, ◌∙◌, arith, inl, inr, rules, codes, IsTrue, length-append}
+use Rattle.std.proofs.Common.{◌≡◌, ℕ, zero, suc, ◌+◌, ◌-◌, ◌*◌, ◌<◌, ◌≤◌, pos, negsuc, neg_ℤ, ◌-ℤ◌, Bool, true, nat_lt, nat_le, ◌&&◌, List, [], ◌∷◌, ◌++◌, length, max, Result, Ok, Err, refl, sym, ap, subst, ◌∙◌, arith, inl, inr, rules, codes, IsTrue, length-append}
 use Rattle.std.specs.Prelude.{◌⊎◌}
 use Rattle.std.specs.List.{AllByRecursion, concat}
 use Rattle.std.specs.Result.{IsErr, IsErrAnd}
 use Rattle.std.proofs.lemmas.Bool.{false≢true}
 use Rattle.std.proofs.lemmas.Bool.Decides.{nat_tests}
 use Rattle.std.proofs.lemmas.Int.{ints}
-use Rattle.viz_base.specs.Jobs.{IsRange}
+use Rattle.viz_base.specs.Jobs.{IsRange, IsFormed}
 use Rattle.viz_base.specs.declared.worlds.World.{World}
 use Rattle.viz_base.specs.declared.worlds.Axis.{Axis}
-use Rattle.viz_base.specs.declared.worlds.Axis.TheVariants.{Width, Size}
+use Rattle.viz_base.specs.declared.worlds.Axis.TheVariants.{Width, Size, Height}
 use Rattle.viz_base.specs.declared.worlds.Rect.{Rect}
 use Rattle.viz_base.specs.declared.jobs.Job.{Job}
 use Rattle.viz_base.proofs.ListLemmas.{all_append}
@@ -22,15 +22,18 @@ use Rattle.cert_text.specs.declared.certificate.CertNode.TheViews.{the_lemmas}
 use Rattle.cert_text.specs.declared.certificate.CertNode.TheFolds.{fold-roll-CertNode, fold_out-CertNode}
 use Rattle.cert_text.specs.Texts.{Nested, node_text, node_has_text}
 use Rattle.cert_text.specs.steps.Write.{row_bytes}
-use Rattle.cert_text.proofs.Certificates.{text_Grid, text_Split, nested_Grid, nested_Split}
-use Rattle.cert_path.specs.Paths.{first, second, Path, variables}
+use Rattle.cert_text.proofs.NodeTexts.{text_Grid, text_Split, nested_Grid, nested_Split}
+use Rattle.cert_path.specs.Axes.{axis_count, variable_of}
+use Rattle.cert_path.proofs.Variables.{two_axes, own_axis}
+use Rattle.cert_path.specs.Paths.{first, second, Path, ◌▸◌, form_of, variables}
 use Rattle.cert_path.specs.Rectangles.{rectangle, left_by}
 use Rattle.cert_path.specs.Nodes.{by_worlds, splits, node_on, nodes_from}
 use Rattle.cert_path.specs.Shapes.{is_shaped}
 use Rattle.cert_path.proofs.Sides.{rectangle_is_units}
 use Rattle.cert_path.proofs.Trees.{preorder}
 use Rattle.cert_path.proofs.Values.{axes_declared}
-use Rattle.cert_check.specs.Rectangles.{world_count, IsWithin, is_unit}
+use Rattle.viz_base.specs.Worlds.{side_of, span_count, world_count}
+use Rattle.cert_check.specs.Rectangles.{IsWithin, is_unit}
 use Rattle.cert_check.specs.Truths.{is_true_at}
 use Rattle.cert_check.specs.Truths.{IsTrueIn, IsFirstUntrueIn}
 use Rattle.cert_check.specs.Rectangles.{IsProper}
@@ -45,7 +48,7 @@ use Rattle.prove_search.specs.declared.plain.Stop.TheVariants.{Mem, Violated, Un
 use Rattle.cert_check.specs.Halves.{row_up_to, halves_of}
 use Rattle.prove_search.specs.Outcomes.{laid_out_count, IsViolation}
 use Rattle.prove_search.specs.steps.Finds.{HasLevels, LeadsTo, IsClosed, IsFinding}
-use Rattle.prove_search.proofs.Halving.{IsHalving, halves_are}
+use Rattle.prove_search.proofs.Halving.{IsOfForm, IsHalving, halves_are}
 use Rattle.prove_search.proofs.Texts.{in_width, row_spelled, row_short}
 
 -- ---- the folds at each form of node
@@ -59,7 +62,7 @@ count_Split row one other = search (rules, the_lemmas, fold-roll-CertNode, fold_
 -- ---- a grid
 
 grid_is_good : (job : Job) (r : Rect) → IsProper r → world_count r ≤ 64 → IsTrueIn job r
-    → (path : Path) → LeadsTo job.range path r → IsGood job (node_on path by_worlds)
+    → (path : Path) → LeadsTo job path r → IsGood job (node_on path by_worlds)
 grid_is_good job r proper small holds path way =
     let few : nat_le (world_count r) 64 ≡ true = grind (arith, nat_tests) in
     let inside = rectangle_is_units job.range path in
@@ -81,7 +84,9 @@ pub some_world : (r : Rect) → IsProper r → 1 ≤ world_count r
 some_world r proper =
     let widths = proper.widths in
     let sizes = proper.sizes in
-    worlds_above (r.wh + 1 - r.wl) (r.sh + 1 - r.sl) (omega arith) (omega arith)
+    let heights = proper.heights in
+    let some = worlds_above (span_count (side_of Width r)) (span_count (side_of Size r)) (omega arith) (omega arith) in
+    worlds_above (span_count (side_of Width r) * span_count (side_of Size r)) (span_count (side_of Height r)) some (omega arith)
 
 pub closes_grid : (job : Job) (r : Rect) (turns : ℕ) → IsProper r → world_count r ≤ 64 → 0 < turns → IsTrueIn job r
     → IsClosed job r turns (record { node = Grid; left = turns - 1 })
@@ -97,7 +102,7 @@ closes_grid job r turns proper small turn holds =
       turn = turn;
       few_grids = omega arith;
       few_turns = omega arith;
-      spelled = λ levels depth has fits. ap (λ (f : Nested). f depth) nested_Grid;
+      spelled = λ levels depth has fits. ap (λ (f : Nested). f depth) (nested_Grid 1);
       short = omega arith;
     }
 
@@ -116,7 +121,18 @@ within_in r part world w i =
     let f = i.width_most in
     let g = i.size_least in
     let h = i.size_most in
-    record { width_least = omega arith; width_most = omega arith; size_least = omega arith; size_most = omega arith }
+    let j = w.height_least in
+    let k = w.height_most in
+    let l = i.height_least in
+    let m = i.height_most in
+    record {
+      width_least = omega arith;
+      width_most = omega arith;
+      size_least = omega arith;
+      size_most = omega arith;
+      height_least = omega arith;
+      height_most = omega arith;
+    }
 
 pub within_within : (r part inner : Rect) → IsWithin r part → IsWithin part inner → IsWithin r inner
 within_within r part inner w i =
@@ -128,7 +144,18 @@ within_within r part inner w i =
     let f = i.width_most in
     let g = i.size_least in
     let h = i.size_most in
-    record { width_least = omega arith; width_most = omega arith; size_least = omega arith; size_most = omega arith }
+    let j = w.height_least in
+    let k = w.height_most in
+    let l = i.height_least in
+    let m = i.height_most in
+    record {
+      width_least = omega arith;
+      width_most = omega arith;
+      size_least = omega arith;
+      size_most = omega arith;
+      height_least = omega arith;
+      height_most = omega arith;
+    }
 
 -- fewer turns than a half needs
 too_few : (n a b turns rest : ℕ) → 64 < n → a + b ≡ n → 1 ≤ a → 1 ≤ b → 0 < turns → turns ≤ rest + 2 * a → (rest ≡ 0) ⊎ ((64 < b) × (rest < 2 * b - 1)) → turns < 2 * n - 1
@@ -167,19 +194,47 @@ stops_second job r h turns one half many turn closed (Undecided part) is =
 
 -- ---- a split
 
-unit_row : (axis : Axis) (m : ℕ) → IsTrue (is_unit (row_up_to axis m))
-unit_row Width m = refl
-unit_row Size m = refl
+has_width : (form : ℕ) → IsOfForm form Width
+has_width form = let two = two_axes form in grind (arith, nat_tests)
+
+has_size : (form : ℕ) → IsOfForm form Size
+has_size form = let two = two_axes form in grind (arith, nat_tests)
+
+-- the axis that is halved has a variable: of a job with one height it is not that of the heights
+pub halved_has : (job : Job) (r : Rect) (h : Halves) → IsFormed job.form job.range → IsWithin job.range r → IsHalving r h → IsOfForm job.form h.axis
+halved_has job r h formed within half = by_axis h.axis refl
+  where
+    is_two : (form : ℕ) → 1 ≤ form → form ≤ 2 → (form ≡ 1 → ⊥) → form ≡ 2
+    is_two zero low high other = absurd (omega arith)
+    is_two (suc zero) low high other = absurd (other refl)
+    is_two (suc (suc zero)) low high other = refl
+    is_two (suc (suc (suc n))) low high other = absurd (omega arith)
+
+    by_axis : (axis : Axis) → h.axis ≡ axis → IsOfForm job.form axis
+    by_axis Width is = has_width job.form
+    by_axis Size is = has_size job.form
+    by_axis Height is =
+        let low = half.low in
+        let high = half.high in
+        let a = within.height_least in
+        let b = within.height_most in
+        let lower : r.hl ≤ h.middle = rw is at low in
+        let higher : h.middle < r.hh = rw is at high in
+        let form = is_two job.form formed.least formed.most (λ one. let same = formed.one_height one in omega arith) in
+        rw form refl
+
+unit_row : (form : ℕ) (axis : Axis) (m : ℕ) → IsOfForm form axis → IsTrue (is_unit form (row_up_to axis m))
+unit_row form axis m has =
+    let low : variable_of axis < axis_count form = grind (arith, nat_tests) in
+    rw (own_axis axis form low) refl
 
 -- its variable is declared along each path
-split_shaped : (range : Rect) (path : Path) (axis : Axis) (m : ℕ) → is_shaped range path (splits (row_up_to axis m)) ≡ true
-split_shaped range path Width m =
-    let two : 2 ≤ variables path = axes_declared path in
-    let less : nat_lt 0 (variables path) ≡ true = grind (arith, nat_tests) in
-    rw less refl
-split_shaped range path Size m =
-    let two : 2 ≤ variables path = axes_declared path in
-    let less : nat_lt 1 (variables path) ≡ true = grind (arith, nat_tests) in
+split_shaped : (range : Rect) (path : Path) (axis : Axis) (m : ℕ) → IsOfForm (form_of path) axis
+    → is_shaped range path (splits (row_up_to axis m)) ≡ true
+split_shaped range path axis m has =
+    let all = axes_declared path in
+    let low : variable_of axis < axis_count (form_of path) = grind (arith, nat_tests) in
+    let less : nat_lt (variable_of axis) (variables path) ≡ true = grind (arith, nat_tests) in
     rw less refl
 
 denial_fits : (axis : Axis) (m : ℕ) → m ≤ 16384 → IsTrue (form_fits (denied (row_up_to axis m)))
@@ -189,19 +244,23 @@ denial_fits axis m high =
     rw fits refl
 
 abbrev IsGoodBelow : Job → Rect → CertNode → Type 0
-IsGoodBelow job r node = (path : Path) → LeadsTo job.range path r → AllByRecursion (IsGood job) (nodes_from node path)
+IsGoodBelow job r node = (path : Path) → LeadsTo job path r → AllByRecursion (IsGood job) (nodes_from node path)
 
-split_is_good : (job : Job) (r : Rect) (h : Halves) (one other : CertNode) → IsHalving r h → h.middle ≤ 16384
+split_is_good : (job : Job) (r : Rect) (h : Halves) (one other : CertNode) → IsHalving r h → h.middle ≤ 16384 → IsOfForm job.form h.axis
     → IsGoodBelow job h.first one → IsGoodBelow job h.second other → IsGoodBelow job r (Split (row_up_to h.axis h.middle) one other)
-split_is_good job r h one other half high good_one good_other path way =
+split_is_good job r h one other half high of_job good_one good_other path way =
     let row = row_up_to h.axis h.middle in
-    let unit = unit_row h.axis h.middle in
-    let first_path : Path = first row ∷ path in
-    let second_path : Path = second row ∷ path in
-    let firsts = good_one first_path (record { units = (unit, way.units); left = ap (left_by row) way.left ∙ half.first_left }) in
-    let seconds = good_other second_path (record { units = (unit, way.units); left = ap (left_by (denied row)) way.left ∙ half.second_left }) in
+    let form = form_of path in
+    let of_form : IsOfForm form h.axis = subst (λ n. IsOfForm n h.axis) (sym way.form) of_job in
+    let unit = unit_row form h.axis h.middle of_form in
+    let first_path : Path = first row ▸ path in
+    let second_path : Path = second row ▸ path in
+    let firsts = good_one first_path
+    (record { form = way.form; units = (unit, way.units); left = ap (left_by form row) way.left ∙ half.first_left form of_form }) in
+    let seconds = good_other second_path
+    (record { form = way.form; units = (unit, way.units); left = ap (left_by form (denied row)) way.left ∙ half.second_left form of_form }) in
     let here : IsGood job (node_on path (splits row)) = record {
-      shaped = split_shaped job.range path h.axis h.middle;
+      shaped = split_shaped job.range path h.axis h.middle of_form;
       decides = denial_fits h.axis h.middle high;
     } in
     subst (AllByRecursion (IsGood job)) (sym (preorder.split row one other path))
@@ -216,7 +275,7 @@ covered job r h half f g world i = by_half (half.covers world i)
 
 -- a part below which splits may stand as deep as it can be halved has a text
 abbrev HasText : Rect → CertNode → Type 0
-HasText r node = (levels depth : ℕ) → HasLevels levels r → levels ≤ depth → IsTrue (node_has_text node depth)
+HasText r node = (levels depth : ℕ) → HasLevels levels r → levels ≤ depth → IsTrue (node_has_text 1 node depth)
 
 spelled_by : (a b c d : Bool) → a ≡ true → b ≡ true → c ≡ true → d ≡ true → (a && b && c && d) ≡ true
 spelled_by a b c d e f g h = rw (e, f, g, h) refl
@@ -229,10 +288,10 @@ split_spelled r h one other half high f g levels depth has fits =
     let step = s.step in
     let deep : nat_lt 0 depth ≡ true = grind (arith, nat_tests) in
     let parts = spelled_by _ _ _ _ deep (row_spelled h.axis h.middle high) (f s.less (depth - 1) s.first_has (omega arith)) (g s.less (depth - 1) s.second_has (omega arith)) in
-    ap (λ (t : Nested). t depth) (nested_Split row one other) ∙ parts
+    ap (λ (t : Nested). t depth) (nested_Split 1 row one other) ∙ parts
 
 -- the text of a split: at most 17 bytes and those of its children
-split_size : (row one other : List ℕ) → length (concat (codes "split " ∷ row ∷ codes "\n" ∷ one ∷ other ∷ [])) ≡ 7 + (length row + (length one + length other))
+split_size : (row one other : List ℕ) → length (concat (codes "split " ∷ row ∷ codes "\n" ∷ []) ++ (one ++ other)) ≡ 7 + (length row + (length one + length other))
 split_size row one other = simp length-append (omega arith)
 
 short_split : (n a b i j k size : ℕ) → 64 < n → a + b ≡ n → n ≤ 3 * a → n ≤ 3 * b → k ≤ 10 → i + 17 ≤ max 22 a → j + 17 ≤ max 22 b → size ≡ 7 + (k + (i + j)) → size + 17 ≤ max 22 n
@@ -241,10 +300,10 @@ short_split n a b i j k size many sum third_a third_b row one other whole =
     let second_some : max 22 b ≡ b = omega arith in
     omega arith
 
-pub closes_split : (job : Job) (r : Rect) (h : Halves) (turns : ℕ) (one other : Closed) (node : CertNode) → IsHalving r h → 64 < world_count r → 0 < turns → h.middle ≤ 16384
+pub closes_split : (job : Job) (r : Rect) (h : Halves) (turns : ℕ) (one other : Closed) (node : CertNode) → IsHalving r h → 64 < world_count r → 0 < turns → h.middle ≤ 16384 → IsOfForm job.form h.axis
     → IsClosed job h.first (turns - 1) one → IsClosed job h.second one.left other → node ≡ Split (row_up_to h.axis h.middle) one.node other.node
     → IsClosed job r turns (record { node = node; left = other.left })
-closes_split job r h turns one other node half many turn high f g is =
+closes_split job r h turns one other node half many turn high of_job f g is =
     subst (λ n. IsClosed job r turns (record { node = n; left = other.left })) (sym is)
     (let row = row_up_to h.axis h.middle in
     let count = half.count in
@@ -255,7 +314,7 @@ closes_split job r h turns one other node half many turn high f g is =
     let few_of_one = f.few_grids in
     let few_of_other = g.few_grids in
     record {
-      good = split_is_good job r h one.node other.node half high f.good g.good;
+      good = split_is_good job r h one.node other.node half high of_job f.good g.good;
       holds = covered job r h half f.holds g.holds;
       one_grid = λ few. absurd (omega arith);
       turn = turn;
@@ -274,12 +333,12 @@ pub halving_of : (r : Rect) (h : Halves) → IsProper r → 64 < world_count r �
 halving_of r h proper many is = subst (IsHalving r) (sym is) (halves_are r proper many)
 
 pub middle_bound : (range r : Rect) (h : Halves) → IsRange range → IsWithin range r → IsHalving r h → h.middle ≤ 16384
-middle_bound range r h known w half =
-    let a = w.width_most in
-    let b = w.size_most in
-    let c = known.width_most in
-    let d = known.size_most in
-    half.bound (omega arith) (omega arith)
+middle_bound range r h known w half = by_axis h.axis half.high
+  where
+    by_axis : (axis : Axis) → h.middle < (side_of axis r).most → h.middle ≤ 16384
+    by_axis Width less = let a = w.width_most in let b = known.width_most in omega arith
+    by_axis Size less = let a = w.size_most in let b = known.size_most in omega arith
+    by_axis Height less = let a = w.height_most in let b = known.height_most in omega arith
 
 less : (a b n : ℕ) → a + b ≡ n → 1 ≤ b → a < n
 less a b n sum some = omega arith

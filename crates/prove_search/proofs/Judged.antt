@@ -1,25 +1,27 @@
 -- From the checker's verdict to what it proves of a job.
-use Rattle.std.specs.Prelude.{ℕ}
+use Rattle.std.proofs.Common.{ℕ, ◌^◌, arith}
 use Rattle.viz_base.specs.declared.worlds.World.{World}
 use Rattle.viz_base.specs.declared.jobs.Job.{Job}
 use Rattle.cert_text.specs.declared.certificate.Cert.{Cert}
 use Rattle.cert_path.specs.Paths.{Path}
-use Rattle.cert_path.specs.Nodes.{Decision, names, splits, is_empty, by_worlds, by_answers}
+use Rattle.cert_path.specs.Nodes.{Decision, names, splits, states, is_empty, by_worlds, by_answers}
 use Rattle.cert_check.specs.declared.verdicts.Verdict.TheVariants.{Rejected}
 use Rattle.cert_check.specs.declared.verdicts.Reject.TheVariants.{Untrue}
 use Rattle.cert_check.specs.Verdicts.{IsFault, Passes, IsVerdict}
 use Rattle.prove_search.specs.Outcomes.{IsProof, IsViolation}
+use Rattle.prove_search.proofs.Lemmas.{of_form_1}
 use Rattle.prove_search.specs.steps.Turns.{IsWithinBounds}
 
-pub passes_proves : (job : Job) (turns : ℕ) (cert : Cert) → IsWithinBounds job turns cert → Passes job cert → IsProof job turns cert
-passes_proves job turns cert bounds passes = record {
+pub passes_proves : (job : Job) (turns most : ℕ) (cert : Cert) → IsWithinBounds job turns most cert → Passes job cert → IsProof job turns most cert
+passes_proves job turns most cert bounds passes = record {
   right = passes.right;
   holds = passes.holds;
   few = bounds.few;
   text = bounds.text;
   spelled = bounds.spelled;
-  short = bounds.short;
+  short = omega (arith, bounds.short);
   one_grid = bounds.one_grid;
+  form = of_form_1 cert bounds.text bounds.spelled bounds.first_form;
 }
 
 -- only a grid is rejected so, and its world is one of the range
@@ -27,6 +29,7 @@ fault_violates : (job : Job) (path : Path) (decision : Decision) (n : ℕ) (worl
     → IsViolation job job.range world
 fault_violates job path (names row d) n world h = absurd h
 fault_violates job path (splits row) n world h = absurd h
+fault_violates job path (states row why) n world h = absurd h
 fault_violates job path (is_empty why) n world h = absurd h
 fault_violates job path by_worlds n world h = record { in_range = h.1.in_range; untrue = h.1.untrue }
 fault_violates job path (by_answers answers) n world h = absurd h

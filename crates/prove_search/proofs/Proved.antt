@@ -1,7 +1,7 @@
 -- The whole range.
-use Rattle.std.proofs.Common.{◌≡◌, ℕ, suc, ◌+◌, ◌-◌, ◌*◌, ◌<◌, ◌≤◌, Bool, true, nat_lt, ◌==◌, ◌&&◌, List, [], ◌∷◌, length, get_or, refl, arith, lit≤, length-append}
+use Rattle.std.proofs.Common.{◌≡◌, ℕ, suc, ◌<◌, ◌≤◌, true, nat_lt, ◌==◌, List, [], ◌∷◌, length, get_or, refl, arith, lit<, lit≤, length-append}
 use Rattle.std.specs.List.{list_all}
-use Rattle.std.proofs.Math.Nat.{mul-le-mul_left}
+use Rattle.std.proofs.lemmas.Fmt.{length-decimal-le}
 use Rattle.std.proofs.lemmas.Bool.{and_from, and_parts}
 use Rattle.std.proofs.lemmas.Bool.Decides.{nat_tests}
 use Rattle.hex.specs.Hex.{lower_digits, encode_lower}
@@ -10,28 +10,30 @@ use Rattle.viz_base.specs.Jobs.{IsRange}
 use Rattle.viz_base.specs.declared.worlds.Rect.{Rect}
 use Rattle.viz_base.specs.declared.jobs.Job.{Job}
 use Rattle.cert_text.specs.Texts.{job_has_text, cert_text}
-use Rattle.cert_check.specs.Rectangles.{world_count}
+use Rattle.cert_path.specs.Paths.{root}
 use Rattle.cert_check.proofs.Tellings.{is_right}
 use Rattle.prove_search.specs.declared.plain.Closed.{Closed}
-use Rattle.prove_search.specs.Outcomes.{IsProof}
+use Rattle.prove_search.specs.Outcomes.{IsProof, plain_most}
+use Rattle.prove_search.proofs.Lemmas.{of_form_1}
 use Rattle.prove_search.specs.steps.Finds.{HasLevels, IsClosed}
 
-range_levels : (range : Rect) → IsRange range → HasLevels 22 range
+range_levels : (range : Rect) → IsRange range → HasLevels 36 range
 range_levels range known =
-    let widths = known.width_most in
-    let sizes = known.size_most in
-    record { of_width = 14; of_size = 8; whole = refl; widths = omega arith; sizes = omega arith }
-
-few_worlds : (a b : ℕ) → a ≤ 16384 → b ≤ 256 → a * b ≤ 4194304
-few_worlds a b la lb = omega (arith, mul-le-mul_left a lb)
-
-range_count : (range : Rect) → IsRange range → world_count range ≤ 4194304
-range_count range known =
-    let widths = known.width_most in
-    let sizes = known.size_most in
     let width_least = known.width_least in
     let size_least = known.size_least in
-    few_worlds (range.wh + 1 - range.wl) (range.sh + 1 - range.sl) (omega arith) (omega arith)
+    let height_least = known.height_least in
+    let widths = known.width_most in
+    let sizes = known.size_most in
+    let heights = known.height_most in
+    record {
+      of_width = 14;
+      of_size = 8;
+      of_height = 14;
+      whole = refl;
+      widths = omega arith;
+      sizes = omega arith;
+      heights = omega arith;
+    }
 
 digest_short : (digest : List ℕ) → job_has_text digest ≡ true → length (encode_lower digest) ≤ 64
 digest_short digest is =
@@ -40,20 +42,22 @@ digest_short digest is =
     omega (arith, length-encode_with lower_digits digest)
 
 pub proves : (job : Job) (turns : ℕ) (closed : Closed) → IsRange job.range → job_has_text job.digest ≡ true → IsClosed job job.range turns closed
-    → IsProof job turns (record { job = job.digest; root = closed.node })
+    → IsProof job turns plain_most (record { form = 1; job = job.digest; root = closed.node })
 proves job turns closed known bytes h =
     let grids = h.few_grids in
     let digest = digest_short job.digest bytes in
     let node_short = h.short in
-    let few = range_count job.range known in
+    let few = known.worlds in
+    let form = length-decimal-le 1 1 (lit< tt) (lit< tt) (lit< tt) in
     record {
-      right = is_right job (record { job = job.digest; root = closed.node }) refl (h.good [] (record { units = tt; left = refl }));
+      right = is_right job (record { form = 1; job = job.digest; root = closed.node }) refl (h.good (root job.form) (record { form = refl; units = tt; left = refl }));
       holds = h.holds;
       few = omega arith;
-      text = cert_text (record { job = job.digest; root = closed.node });
-      spelled = (and_from _ _ bytes (h.spelled 22 512 (range_levels job.range known) (lit≤ tt)), refl);
+      text = cert_text (record { form = 1; job = job.digest; root = closed.node });
+      spelled = (and_from _ _ bytes (h.spelled 36 512 (range_levels job.range known) (lit≤ tt)), refl);
       short = simp length-append (omega arith);
       one_grid = h.one_grid;
+      form = of_form_1 (record { form = 1; job = job.digest; root = closed.node }) _ (and_from _ _ bytes (h.spelled 36 512 (range_levels job.range known) (lit≤ tt)), refl) refl;
     }
 
 -- ---- digests

@@ -4,7 +4,7 @@ use Rattle.std.specs.Fmt.{decimal}
 use Rattle.std.proofs.lemmas.Fmt.{length-decimal-le}
 use Rattle.std.proofs.lemmas.Bool.Decides.{Decides-ltb}
 use Rattle.viz_base.specs.declared.worlds.Axis.{Axis}
-use Rattle.viz_base.specs.declared.worlds.Axis.TheVariants.{Width, Size}
+use Rattle.viz_base.specs.declared.worlds.Axis.TheVariants.{Width, Size, Height}
 use Rattle.lin_row.specs.Number.{in_i128}
 use Rattle.cert_path.specs.Axes.{variable_of}
 use Rattle.cert_text.specs.Texts.{row_has_text}
@@ -21,10 +21,12 @@ in_width m high =
 pub row_spelled : (axis : Axis) (m : ℕ) → m ≤ 16384 → row_has_text (row_up_to axis m) ≡ true
 row_spelled Width m high = rw ((in_width m high).0) refl
 row_spelled Size m high = rw ((in_width m high).0) refl
+row_spelled Height m high = rw ((in_width m high).0) refl
 
 one_digit : (axis : Axis) → length (decimal (variable_of axis)) ≤ 1
 one_digit Width = length-decimal-le 1 0 (lit< tt) (lit< tt) (lit< tt)
 one_digit Size = length-decimal-le 1 1 (lit< tt) (lit< tt) (lit< tt)
+one_digit Height = length-decimal-le 1 2 (lit< tt) (lit< tt) (lit< tt)
 
 -- at most five digits, and five bytes for the term
 pub row_short : (axis : Axis) (m : ℕ) → m ≤ 16384 → length (row_bytes (row_up_to axis m)) ≤ 10

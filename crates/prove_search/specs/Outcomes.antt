@@ -1,5 +1,5 @@
 -- What the answers of a search mean.
-use Rattle.std.specs.Prelude.{◌≡◌, ◌⊎◌, ℕ, ◌+◌, ◌-◌, ◌*◌, ◌^◌, ◌<◌, ◌≤◌, false, List, length}
+use Rattle.std.specs.Prelude.{◌≡◌, ◌↔◌, ◌⊎◌, ℕ, ◌+◌, ◌-◌, ◌*◌, ◌^◌, ◌<◌, ◌≤◌, Bool, true, false, ◌||◌, IsTrue, List, length}
 use Rattle.viz_base.specs.declared.worlds.World.{World}
 use Rattle.viz_base.specs.declared.worlds.Rect.{Rect}
 use Rattle.viz_base.specs.declared.jobs.Job.{Job}
@@ -10,7 +10,8 @@ use Rattle.cert_text.specs.declared.certificate.CertNode.TheOpen.{CertNode-F}
 use Rattle.cert_text.specs.declared.certificate.CertNode.TheVariants.{Grid}
 use Rattle.cert_text.specs.declared.certificate.CertNode.TheFolds.{fold-CertNode}
 use Rattle.cert_text.specs.Texts.{CertText}
-use Rattle.cert_check.specs.Rectangles.{world_count, IsWithin}
+use Rattle.viz_base.specs.Worlds.{world_count}
+use Rattle.cert_check.specs.Rectangles.{IsWithin}
 use Rattle.cert_check.specs.Truths.{is_true_at, Holds}
 use Rattle.cert_check.specs.Right.{Right}
 use Rattle.cert_check.specs.Rectangles.{IsProper}
@@ -21,6 +22,7 @@ use Rattle.prove_search.specs.declared.outcome.Outcome.TheVariants.{Proved, Viol
 abbrev pub laid_out_step : CertNode-F ℕ → ℕ
 laid_out_step (CertNode-F.Def row d below) = below
 laid_out_step (CertNode-F.Split row first second) = first + second
+laid_out_step (CertNode-F.Lemma row why below) = below
 laid_out_step (CertNode-F.Void why) = 0
 laid_out_step CertNode-F.Grid = 1
 laid_out_step (CertNode-F.Leaf answers) = 1
@@ -28,16 +30,33 @@ laid_out_step (CertNode-F.Leaf answers) = 1
 abbrev pub laid_out_count : CertNode → ℕ
 laid_out_count = fold-CertNode ℕ laid_out_step
 
+-- whether a node has a lemma, itself or below it
+abbrev pub lemma_step : CertNode-F Bool → Bool
+lemma_step (CertNode-F.Def row d below) = below
+lemma_step (CertNode-F.Split row first second) = first || second
+lemma_step (CertNode-F.Lemma row why below) = true
+lemma_step (CertNode-F.Void why) = false
+lemma_step CertNode-F.Grid = false
+lemma_step (CertNode-F.Leaf answers) = false
+
+abbrev pub has_lemma : CertNode → Bool
+has_lemma = fold-CertNode Bool lemma_step
+
+-- how many bytes of text the certificates need at most that go through a range by halves and grids alone
+abbrev pub plain_most : ℕ
+plain_most = 5242880
+
 -- the certificate is right for the job, which holds; it has at most as many grids and leaves as there were turns, a text
--- of at most 64 MiB, and for a range of at most 64 worlds it is one grid
-pub record IsProof (job : Job) (turns : ℕ) (cert : Cert) : Type 0 where
+-- of at most `most` bytes, and for a range of at most 64 worlds it is one grid; it is of form 2 exactly where it has lemmas
+pub record IsProof (job : Job) (turns most : ℕ) (cert : Cert) : Type 0 where
   pub right : Right job cert
   pub holds : Holds job
   pub few : laid_out_count cert.root ≤ turns
   pub text : List ℕ
   pub spelled : CertText cert text
-  pub short : length text ≤ 2 ^ 26
+  pub short : length text ≤ most
   pub one_grid : world_count job.range ≤ 64 → cert.root ≡ Grid
+  pub form : (cert.form ≡ 2) ↔ IsTrue (has_lemma cert.root)
 
 -- a world of the rectangle at which the formula is false
 pub record IsViolation (job : Job) (r : Rect) (world : World) : Type 0 where
@@ -53,10 +72,10 @@ pub record IsUndecided (r : Rect) (turns : ℕ) (part : Rect) : Type 0 where
   pub whole : turns ≡ 0 → part ≡ r
 
 -- only with a turn a world is found at which the formula is false
-abbrev pub IsOutcome : Job → ℕ → Outcome → Type 0
-IsOutcome job turns (Proved cert) = IsProof job turns cert
-IsOutcome job turns (Violated world) = (0 < turns) × IsViolation job job.range world
-IsOutcome job turns (Undecided part) = IsUndecided job.range turns part
+abbrev pub IsOutcome : Job → (turns most : ℕ) → Outcome → Type 0
+IsOutcome job turns most (Proved cert) = IsProof job turns most cert
+IsOutcome job turns most (Violated world) = (0 < turns) × IsViolation job job.range world
+IsOutcome job turns most (Undecided part) = IsUndecided job.range turns part
 
 -- proved, and the fact holds, or violated, and it does not
 abbrev pub Decides : Outcome → Type 0 → Type 0

@@ -3,7 +3,7 @@ ghost use Rattle.std.specs.Prelude.{◌≡◌, ◌↔◌, ◌+◌, ◌≤◌, �
 ghost use Rattle.logic_semantics.specs.Ranges.{IsInRange};
 ghost use Rattle.cert_text.specs.declared.certificate.CertNode.TheVariants.{Grid};
 ghost use Rattle.cert_text.specs.Texts.{CertText};
-ghost use Rattle.cert_check.specs.Rectangles.{world_count};
+ghost use Rattle.viz_base.specs.Worlds.{world_count};
 ghost use Rattle.cert_check.specs.Truths.{Holds};
 ghost use Rattle.prove_search.specs.Outcomes.{IsViolation, IsOutcome, Decides};
 ghost use Rattle.prove_search.specs.steps.Turns.{AreLeft, IsWithinBounds};
@@ -17,7 +17,7 @@ use std::alloc::Global;
 use viz_base::{Job, Mem, Rect, World};
 
 /// The most bytes that a certificate's text may have: 64 MiB.
-const MOST_BYTES: usize = 1 << 26;
+pub const MOST_BYTES: u64 = 1 << 26;
 
 /// What is left of the turns where each grid and leaf of a node takes one; None where there are fewer turns.
 fn left_after(node: &CertNode, turns: u64) -> Option<u64>
@@ -25,6 +25,7 @@ fn left_after(node: &CertNode, turns: u64) -> Option<u64>
 {
     match node {
         CertNode::Def(_, _, below) => left_after(below.get(), turns),
+        CertNode::Lemma(_, _, below) => left_after(below.get(), turns),
         CertNode::Split(_, first, second) => {
             let left = left_after(first.get(), turns)?;
             left_after(second.get(), left)
@@ -34,13 +35,13 @@ fn left_after(node: &CertNode, turns: u64) -> Option<u64>
     }
 }
 
-/// Whether the text of a certificate that has one is at most 64 MiB.
-fn has_short_text(alloc: Global, cert: &Cert) -> Result<bool, Mem>
+/// Whether the text of a certificate that has one has at most so many bytes.
+fn has_short_text(alloc: Global, cert: &Cert, most: u64) -> Result<bool, Mem>
     requires { (text : List ℕ) × CertText cert.now text }
-    ensures { IfOk result (λ yes. IsTrue yes ↔ ((text : List ℕ) × CertText cert.now text × (length text ≤ 2 ^ 26))) }
+    ensures { IfOk result (λ yes. IsTrue yes ↔ ((text : List ℕ) × CertText cert.now text × (length text ≤ most))) }
 {
     let text = write_cert(alloc, cert)?;
-    Ok(text.len() <= MOST_BYTES)
+    Ok(text.len() as u64 <= most)
 }
 
 /// Whether a certificate is one grid, as it has to be for a range of at most 64 worlds, or the range has more.
@@ -50,27 +51,44 @@ fn is_grid_of_few(job: &Job, cert: &Cert) -> bool
     world_count(job.range) > MOST_WORLDS || matches!(cert.root, CertNode::Grid)
 }
 
-/// Whether a certificate is within bounds: it has a text of at most 64 MiB, and at most as many grids and leaves as
-/// turns, and is one grid for a range of at most 64 worlds. The only fault is want of memory.
-fn is_within_bounds(alloc: Global, job: &Job, cert: &Cert, turns: u64) -> Result<bool, Mem>
-    ensures { IfOk result (λ yes. IsTrue yes → IsWithinBounds job.now turns cert.now) }
+/// Whether a certificate is within bounds: it has a text of at most `most` bytes and 64 MiB, and at most as many grids
+/// and leaves as turns, is one grid for a range of at most 64 worlds, and is of form 1, so without lemmas. The only
+/// fault is want of memory.
+fn is_within_bounds(
+    alloc: Global,
+    job: &Job,
+    cert: &Cert,
+    turns: u64,
+    most: u64,
+) -> Result<bool, Mem>
+    ensures { IfOk result (λ yes. IsTrue yes → IsWithinBounds job.now turns most cert.now) }
 {
     if !has_spelling(cert) || left_after(&cert.root, turns).is_none() {
+        return Ok(false);
+    }
+    // The search states no lemmas yet.
+    if cert.form != 1 {
         return Ok(false);
     }
     if !is_grid_of_few(job, cert) {
         return Ok(false);
     }
-    has_short_text(alloc, cert)
+    has_short_text(alloc, cert, most.min(MOST_BYTES))
 }
 
 #[tactic(auto, using(crate::proofs::Judged::passes_proves, crate::proofs::Judged::untrue_violates))]
 /// What the checker's verdict on a certificate within bounds comes to: it proves the job, or the formula is false at
 /// the world of a grid that the checker names. None where it is wrong otherwise. The only fault is want of memory.
-fn judged(alloc: Global, job: &Job, cert: Cert, turns: u64) -> Result<Option<Outcome>, Mem>
+fn judged(
+    alloc: Global,
+    job: &Job,
+    cert: Cert,
+    turns: u64,
+    most: u64,
+) -> Result<Option<Outcome>, Mem>
     requires turn { 0 < turns }
-    requires bounds { IsWithinBounds job.now turns cert }
-    ensures outcome { IfOk result (λ kept. IfSome kept (IsOutcome job.now turns)) }
+    requires bounds { IsWithinBounds job.now turns most cert }
+    ensures outcome { IfOk result (λ kept. IfSome kept (IsOutcome job.now turns most)) }
     ensures decides { IfOk result (λ kept. IfSome kept (λ outcome. Decides outcome (Holds job.now))) }
 {
     match check(alloc, job, &cert)? {
@@ -84,7 +102,10 @@ fn judged(alloc: Global, job: &Job, cert: Cert, turns: u64) -> Result<Option<Out
 fn lies_in(rect: Rect, world: World) -> bool
     ensures { IsTrue result ↔ IsInRange rect world }
 {
-    rect.wl <= world.w && world.w <= rect.wh && rect.sl <= world.s && world.s <= rect.sh
+    let is_wide = rect.wl <= world.w && world.w <= rect.wh;
+    let is_sized = rect.sl <= world.s && world.s <= rect.sh;
+    let is_high = rect.hl <= world.h && world.h <= rect.hh;
+    is_wide && is_sized && is_high
 }
 
 /// Whether a job's formula is false at a world of its range. The only fault is want of memory.
@@ -98,7 +119,8 @@ pub fn is_violation(alloc: Global, job: &Job, world: World) -> Result<bool, Mem>
     Ok(!holds_at(alloc, job, world)?)
 }
 
-/// What stands of a finding, where there are turns: a certificate that proves the job within them, or a world of its
+/// What stands of a finding, where there are turns: a certificate that proves the job within them, of at most `most`
+/// bytes, or a world of its
 /// range at which its formula is false, which may be one of a certificate's grids. Nothing is taken on trust. The only
 /// fault is want of memory.
 pub fn confirmed(
@@ -106,8 +128,9 @@ pub fn confirmed(
     job: &Job,
     finding: Finding,
     turns: u64,
+    most: u64,
 ) -> Result<Option<Outcome>, Mem>
-    ensures outcome { IfOk result (λ kept. IfSome kept (IsOutcome job.now turns)) }
+    ensures outcome { IfOk result (λ kept. IfSome kept (IsOutcome job.now turns most)) }
     ensures decides { IfOk result (λ kept. IfSome kept (λ outcome. Decides outcome (Holds job.now))) }
 {
     if turns == 0 {
@@ -115,8 +138,8 @@ pub fn confirmed(
     }
     match finding {
         Finding::Proof(cert) => {
-            if is_within_bounds(alloc, job, &cert, turns)? {
-                judged(alloc, job, cert, turns)
+            if is_within_bounds(alloc, job, &cert, turns, most)? {
+                judged(alloc, job, cert, turns, most)
             } else {
                 Ok(None)
             }

@@ -6,5 +6,5 @@ mod gates;
 mod outcome;
 mod plain;
 
-pub use entry::prove;
+pub use entry::{prove, prove_within};
 pub use outcome::Outcome;

@@ -2,11 +2,12 @@ ghost use Rattle.std.specs.Prelude.{◌≡◌, ◌*◌, ◌+◌, ◌<◌, ◌≤
 ghost use Rattle.cert_text.specs.declared.certificate.CertNode.TheVariants.{Split};
 ghost use Rattle.cert_text.specs.Texts.{job_has_text};
 ghost use Rattle.cert_check.specs.Rectangles.{IsProper};
-ghost use Rattle.cert_check.specs.Rectangles.{world_count, IsWithin};
+ghost use Rattle.cert_check.specs.Rectangles.{IsWithin};
+ghost use Rattle.viz_base.specs.Worlds.{world_count};
 ghost use Rattle.cert_check.specs.Truths.{Holds};
 ghost use Rattle.prove_search.specs.steps.Finds.{IsFinding};
 ghost use Rattle.cert_check.specs.Halves.{row_up_to};
-ghost use Rattle.prove_search.specs.Outcomes.{IsOutcome, Decides};
+ghost use Rattle.prove_search.specs.Outcomes.{IsOutcome, Decides, plain_most};
 ghost use Rattle.prove_search.specs.declared.outcome.Outcome.TheVariants.{Undecided};
 
 use crate::outcome::Outcome;
@@ -105,24 +106,29 @@ fn decide(alloc: Global, job: &Job, rect: Rect, turns: u64) -> Result<Closed, St
     })
 }
 
-/// The certificate that names a job by its digest and decides its whole range by a node. A digest has a spelling.
+/// The certificate of form 1 that names a job by its digest and decides its whole range by a node. A digest has a
+/// spelling.
 fn certificate(digest: &[u8; 32], root: CertNode) -> Cert
-    ensures parts { result ≡ record { job = digest.now; root = root } }
+    ensures parts { result ≡ record { form = 1; job = digest.now; root = root } }
     ensures spelled { IsTrue (job_has_text digest.now) }
 {
     // This read tells that they are bytes.
     let _bytes = digest.as_slice();
-    Cert { job: *digest, root }
+    Cert {
+        form: 1,
+        job: *digest,
+        root,
+    }
 }
 
 /// Searches by halves and grids for a certificate of a job, or for a world of its range at which its formula is false.
 ///
 /// A turn takes one part of the range that is open yet, the whole range first. A part of at most 64 worlds
-/// is gone through, a greater one is halved on its longer side. With R worlds in the range,
+/// is gone through, a greater one is halved on a longest side. With R worlds in the range,
 /// `2 * R - 1` turns decide, and one does where R is at most 64. With none the whole range is open. Each world takes
 /// at most one layout of the page and one truth of the formula. The only fault is want of memory.
 pub fn prove_plainly(alloc: Global, job: &Job, turns: u64) -> Result<Outcome, Mem>
-    ensures outcome { IfOk result (IsOutcome job.now turns) }
+    ensures outcome { IfOk result (IsOutcome job.now turns plain_most) }
     ensures decides { IfOk result
         (λ outcome. 2 * world_count job.now.range ≤ turns + 1 → Decides outcome (Holds job.now)) }
     ensures unturned { turns ≡ 0 → IfOk result (λ outcome. outcome ≡ Undecided job.now.range) }

@@ -6,6 +6,7 @@ use Rattle.cert_path.specs.Axes.{axis_count}
 use Rattle.cert_path.specs.Nodes.{nodes_of}
 use Rattle.cert_check.specs.declared.verdicts.Verdict.TheVariants.{Accepted, Rejected}
 use Rattle.cert_check.proofs.Texts.{few}
+use Rattle.prove_search.proofs.Counts.{few_axes}
 use Rattle.prove_search.specs.Outcomes.{IsOutcome}
 use Rattle.prove_search.specs.declared.outcome.Outcome.{Outcome}
 use Rattle.prove_search.specs.declared.outcome.Outcome.TheVariants as found
@@ -20,15 +21,16 @@ use Rattle.viz_replies.specs.steps.Answers.{IsOutcomeReply, IsProveReply, IsTria
 -- ---- certificates that were read
 
 -- a certificate of at most 64 MiB has few nodes
-pub few_nodes : (bytes : List ℕ) (cert : Cert) → SpellsCert bytes cert → length (nodes_of cert) + axis_count < 2 ^ 32
-few_nodes bytes cert held =
-    let below = few cert bytes held.spelled in
+pub few_nodes : (form : ℕ) (bytes : List ℕ) (cert : Cert) → SpellsCert bytes cert → length (nodes_of form cert) + axis_count form < 2 ^ 32
+few_nodes form bytes cert held =
+    let below = few form cert bytes held.spelled in
     let short = held.short in
+    let axes = few_axes form in
     omega arith
 
 -- ---- searches
 
-of_outcome : (job : Job) (turns : ℕ) (outcome : Outcome) (answer : Answer) (output : List ℕ) → IsOutcome job turns outcome
+of_outcome : (job : Job) (turns : ℕ) (outcome : Outcome) (answer : Answer) (output : List ℕ) → IsOutcome job turns (2 ^ 26) outcome
     → IsOutcomeReply job outcome answer output → IsReplyAbout job (asks.Prove turns) answer output
 of_outcome job turns (found.Proved proof) answer output is reply = rw reply.0 (record { cert = proof; proof = is; text = reply.1 })
 of_outcome job turns (found.Violated world) answer output is reply = rw reply.0 (record { world = world; turn = is.0; violation = is.1; text = reply.1 })
@@ -54,7 +56,7 @@ refuses job bytes answer output reply = rw reply.0 (inl reply.1)
 
 -- ---- trials
 
-pub of_trial : (job : Job) (turns : ℕ) (outcome : Outcome) (answer : Answer) (output : List ℕ) → IsOutcome job turns outcome
+pub of_trial : (job : Job) (turns : ℕ) (outcome : Outcome) (answer : Answer) (output : List ℕ) → IsOutcome job turns (2 ^ 26) outcome
     → IsTrialReply job outcome answer output → IsTrialOf job turns answer output
 of_trial job turns (found.Proved proof) answer output is reply = rw reply.0 (record { cert = proof; proof = is; text = reply.1 })
 of_trial job turns (found.Violated world) answer output is reply = rw reply.0 (record { world = world; turn = is.0; violation = is.1; text = reply.1 })

@@ -1,5 +1,5 @@
 -- What the bytes of a job file are.
-use Rattle.std.specs.Prelude.{◌≡◌, ◌⊎◌, ℕ, ◌≤◌, ◌<◌, false, List, [], ◌∷◌, ◌++◌, length, codes}
+use Rattle.std.specs.Prelude.{◌≡◌, ◌⊎◌, ℕ, ◌≤◌, ◌<◌, List, [], ◌∷◌, ◌++◌, length, codes}
 use Rattle.viz_base.specs.declared.jobs.Job.{Job}
 use Rattle.viz_base.specs.declared.raw_jobs.Part.{Part}
 use Rattle.viz_base.specs.declared.raw_jobs.Part.TheVariants as part
@@ -8,7 +8,7 @@ use Rattle.viz_base.specs.declared.raw_jobs.Which.TheVariants as which
 use Rattle.viz_base.specs.declared.settings.Prop.{Prop}
 use Rattle.css_semantics.specs.Properties.{row}
 use Rattle.page_build.specs.declared.faults.JobRefusal.{JobRefusal}
-use Rattle.page_build.specs.declared.faults.JobRefusal.TheVariants.{Mem, NotJson, Shape, Limit, Range, Import, MediaQuery, TooManyRules, Selector, Value, BlockInInline, RightToLeft, TooManyBoxes, Reach, Bad, Unbound, TooDeep}
+use Rattle.page_build.specs.declared.faults.JobRefusal.TheVariants.{Mem, NotJson, Shape, Limit, Range, Import, MediaQuery, TooManyRules, Selector, Value, Generated, BlockInInline, RightToLeft, TooManyBoxes, Reach, Bad, Unbound, TooDeep}
 use Rattle.page_build.specs.Jobs.{IsJobOf, IsRefusedAs}
 use Rattle.viz_replies.specs.Lines.{spaced, numbered}
 
@@ -63,6 +63,7 @@ refusal_line (MediaQuery sheet place) = numbered (codes "job-refused media-query
 refusal_line (TooManyRules sheet) = numbered (codes "job-refused too-many-rules") (sheet ∷ [])
 refusal_line (Selector sheet place) = numbered (codes "job-refused unsupported-selector") (sheet ∷ place ∷ [])
 refusal_line (Value node prop value) = value_line node prop value
+refusal_line (Generated node) = numbered (codes "job-refused generated") (node ∷ [])
 refusal_line (BlockInInline node) = numbered (codes "job-refused block-in-inline") (node ∷ [])
 refusal_line (RightToLeft node letter) = numbered (codes "job-refused right-to-left") (node ∷ letter ∷ [])
 refusal_line TooManyBoxes = codes "job-refused too-many-boxes\n"

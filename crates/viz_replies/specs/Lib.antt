@@ -1,4 +1,5 @@
 pub mod Lines
+pub mod Screens
 pub mod Jobs
 pub mod Certificates
 pub mod Replies

@@ -1,10 +1,10 @@
 -- What is replied about a generated job, which no file holds.
-use Rattle.std.specs.Prelude.{◌≡◌, ◌⊎◌, ℕ, ◌<◌, List, [], ◌∷◌, ◌++◌, length, codes}
+use Rattle.std.specs.Prelude.{◌≡◌, ◌⊎◌, ℕ, ◌^◌, ◌<◌, List, [], ◌∷◌, ◌++◌, length, codes}
 use Rattle.viz_base.specs.declared.jobs.Job.{Job}
 use Rattle.viz_base.specs.declared.worlds.World.{World}
 use Rattle.viz_base.specs.declared.worlds.Rect.{Rect}
 use Rattle.cert_text.specs.declared.certificate.Cert.{Cert}
-use Rattle.cert_check.specs.Rectangles.{world_count}
+use Rattle.viz_base.specs.Worlds.{world_count}
 use Rattle.prove_search.specs.Outcomes.{IsProof, IsViolation, IsUndecided}
 use Rattle.page_gen.specs.Jobs.{job_text}
 use Rattle.viz_replies.specs.declared.reply.Answer.{Answer}
@@ -35,7 +35,7 @@ violated_end world = numbered (codes " violated") (world.w ∷ world.s ∷ [])
 -- a certificate proves the job within the turns
 pub record IsProvedTrial (job : Job) (turns : ℕ) (output : List ℕ) : Type 0 where
   pub cert : Cert
-  pub proof : IsProof job turns cert
+  pub proof : IsProof job turns (2 ^ 26) cert
   pub text : output ≡ trial_line job (codes " proved\n")
 
 -- a world of the range at which the job's formula is false, which at least one turn has found

@@ -1,11 +1,12 @@
 ghost use Rattle.std.specs.Prelude.{◌≡◌, ◌++◌, ◌∷◌, [], codes, OnOk, IfOk};
 ghost use Rattle.std.specs.List.{flat_map};
 ghost use Rattle.viz_replies.specs.Lines.{spaced, numbered};
+ghost use Rattle.viz_replies.specs.Screens.{spaced_part, spaced_side, spaced_world};
 
 use crate::reply::{Answer, Reply};
 use itoa::Buffer;
 use std::alloc::{AllocError, Global};
-use viz_base::Mem;
+use viz_base::{Axis, Mem, Rect, World};
 
 /// A word after a space.
 pub fn push_word(out: &mut Vec<u8>, word: &[u8]) -> Result<(), AllocError>
@@ -30,6 +31,39 @@ fn push_numbers(out: &mut Vec<u8>, numbers: &[u64]) -> Result<(), AllocError>
 {
     for number in numbers {
         push_number(out, *number)?;
+    }
+    Ok(())
+}
+
+/// The width, the default font size and, in form 2 of a job, the height of a world.
+pub fn push_world(out: &mut Vec<u8>, form: u8, world: World) -> Result<(), AllocError>
+    ensures { OnOk result (out.new.items ≡ out.old.items ++ spaced_world form world) }
+{
+    push_number(out, u64::from(world.w))?;
+    push_number(out, u64::from(world.s))?;
+    if form == 2 {
+        push_number(out, u64::from(world.h))?;
+    }
+    Ok(())
+}
+
+/// The ends of a side of a part.
+fn push_side(out: &mut Vec<u8>, part: Rect, axis: Axis) -> Result<(), AllocError>
+    ensures { OnOk result (out.new.items ≡ out.old.items ++ spaced_side part axis) }
+{
+    let side = part.side(axis);
+    push_number(out, u64::from(side.least))?;
+    push_number(out, u64::from(side.most))
+}
+
+/// The ends of a part's widths, of its default font sizes and, in form 2 of a job, of its heights.
+pub fn push_part(out: &mut Vec<u8>, form: u8, part: Rect) -> Result<(), AllocError>
+    ensures { OnOk result (out.new.items ≡ out.old.items ++ spaced_part form part) }
+{
+    push_side(out, part, Axis::Width)?;
+    push_side(out, part, Axis::Size)?;
+    if form == 2 {
+        push_side(out, part, Axis::Height)?;
     }
     Ok(())
 }

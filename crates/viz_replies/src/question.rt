@@ -1,22 +1,43 @@
-ghost use Rattle.std.specs.Prelude.{◌≡◌, ◌≤◌, ◌<◌, MatchOption};
+ghost use Rattle.std.specs.Prelude.{◌≡◌, ◌≤◌, ◌<◌, MatchOption, IfSome};
+ghost use Rattle.std.proofs.Props.{props};
 ghost use Rattle.page_gen.specs.Jobs.{sections_most};
 
 use page_gen::SECTIONS_MOST;
-use viz_base::{Text8, World};
+use viz_base::{Rect, Text8, World};
 
-/// A world of a width and a default font size at which pages can be laid out.
+/// A viewport and a default font size at which pages can be laid out, in pixels.
 #[derive(Clone, Copy)]
 pub struct Screen {
-    /// The width and the default font size.
-    pub world: World,
-    ghost narrow: { world.w ≤ 16384 },
-    ghost sized: { world.s ≤ 256 },
+    /// The viewport's width.
+    pub w: u32,
+    /// The default font size.
+    pub s: u32,
+    /// The viewport's height; None for the least of the job's range.
+    pub h: Option<u32>,
+    ghost narrow: { w ≤ 16384 },
+    ghost sized: { s ≤ 256 },
+    ghost low: { IfSome h (λ h. h ≤ 16384) } by { Prim.hlevel props },
+}
+
+impl Screen {
+    ghost use Rattle.viz_replies.specs.Screens.{world_in};
+
+    /// The world that it names for a job of a range.
+    pub fn world_in(self, range: Rect) -> World
+        ensures { result ≡ world_in self range }
+    {
+        World {
+            w: self.w,
+            s: self.s,
+            h: self.h.unwrap_or(range.hl),
+        }
+    }
 }
 
 /// What is asked about a job.
 #[derive(Drop)]
 pub enum Question {
-    /// The rendering of its page at a world.
+    /// The rendering of its page at a screen.
     Lay(Screen),
     /// A certificate that its assertion holds over its range, within so many turns.
     Prove(u64),

@@ -55,6 +55,7 @@ fn refusal_words(fault: &JobRefusal) -> &'static str
         JobRefusal::TooManyRules(_) => "job-refused too-many-rules",
         JobRefusal::Selector(..) => "job-refused unsupported-selector",
         JobRefusal::Value(..) => "job-refused unsupported-value",
+        JobRefusal::Generated(_) => "job-refused generated",
         JobRefusal::BlockInInline(_) => "job-refused block-in-inline",
         JobRefusal::RightToLeft(..) => "job-refused right-to-left",
         JobRefusal::TooManyBoxes => "job-refused too-many-boxes",
@@ -93,6 +94,7 @@ fn push_places(out: &mut Vec<u8>, fault: &JobRefusal) -> Result<(), AllocError>
         JobRefusal::Limit(_, count) => push_number(out, *count),
         JobRefusal::Shape(_, at)
         | JobRefusal::TooManyRules(at)
+        | JobRefusal::Generated(at)
         | JobRefusal::BlockInInline(at)
         | JobRefusal::Reach(at)
         | JobRefusal::Bad(at)

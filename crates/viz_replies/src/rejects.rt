@@ -2,15 +2,16 @@
 ghost use Rattle.std.specs.Prelude.{◌≡◌, ◌++◌, IfOk, OnOk};
 ghost use Rattle.viz_replies.specs.Lines.{spaced};
 ghost use Rattle.viz_replies.specs.Replies.{reject_line};
+ghost use Rattle.viz_replies.specs.Screens.{spaced_world};
 ghost use Rattle.viz_replies.specs.steps.Rejects.{reject_words, reject_places, rows_text};
 
-use crate::lines::push_number;
+use crate::lines::{push_number, push_world};
 use crate::reply::{Answer, Reply};
 use cert_check::Reject;
 use cert_text::push_row;
 use lin_row::Row;
 use std::alloc::{AllocError, Global};
-use viz_base::Mem;
+use viz_base::{Mem, World};
 
 /// The words with which the line begins.
 fn reject_words(reject: &Reject) -> &'static str
@@ -70,16 +71,24 @@ fn push_differing(
     push_rows(out, ours, theirs)
 }
 
+/// A node, and a world of its part.
+fn push_untrue(out: &mut Vec<u8>, form: u8, node: u32, world: World) -> Result<(), AllocError>
+    ensures { OnOk result (out.new.items ≡ out.old.items ++ (spaced node ++ spaced_world form world)) }
+{
+    push_number(out, u64::from(node))?;
+    push_world(out, form, world)
+}
+
 /// What stands behind the words: the node, and what is wrong at it.
-fn push_places(out: &mut Vec<u8>, reject: &Reject) -> Result<(), AllocError>
-    ensures { OnOk result (out.new.items ≡ out.old.items ++ reject_places reject.now) }
+fn push_places(out: &mut Vec<u8>, form: u8, reject: &Reject) -> Result<(), AllocError>
+    ensures { OnOk result (out.new.items ≡ out.old.items ++ reject_places form reject.now) }
 {
     match reject {
         Reject::OtherJob => Ok(()),
         Reject::Shape(node) | Reject::Unmet(node) | Reject::Short(node) | Reject::Coeff(node) =>
             push_number(out, u64::from(*node)),
         Reject::Line(node, answer, line) => push_three(out, *node, *answer, *line),
-        Reject::Untrue(node, world) => push_three(out, *node, world.w, world.s),
+        Reject::Untrue(node, world) => push_untrue(out, form, *node, *world),
         Reject::Differs(node, answer, ours, theirs) => {
             push_differing(out, *node, *answer, ours, theirs)
         }
@@ -87,21 +96,21 @@ fn push_places(out: &mut Vec<u8>, reject: &Reject) -> Result<(), AllocError>
     }
 }
 
-/// The line of a certificate that is wrong.
-fn push_reject(out: &mut Vec<u8>, reject: &Reject) -> Result<(), AllocError>
-    ensures { OnOk result (out.new.items ≡ out.old.items ++ reject_line reject.now) }
+/// The line of a certificate that is wrong for a job of this form.
+fn push_reject(out: &mut Vec<u8>, form: u8, reject: &Reject) -> Result<(), AllocError>
+    ensures { OnOk result (out.new.items ≡ out.old.items ++ reject_line form reject.now) }
 {
     out.extend_from_slice(reject_words(reject).as_bytes())?;
-    push_places(out, reject)?;
+    push_places(out, form, reject)?;
     out.extend_from_slice(b"\n")
 }
 
-/// The reply about a certificate that is wrong.
-pub fn rejection(alloc: Global, reject: &Reject) -> Result<Reply, Mem>
-    ensures { IfOk result (λ r. (r.answer ≡ Answer.CertRefused) × (r.output.items ≡ reject_line reject.now)) }
+/// The reply about a certificate that is wrong for a job of this form.
+pub fn rejection(alloc: Global, form: u8, reject: &Reject) -> Result<Reply, Mem>
+    ensures { IfOk result (λ r. (r.answer ≡ Answer.CertRefused) × (r.output.items ≡ reject_line form reject.now)) }
 {
     let mut output = Vec::new(alloc);
-    push_reject(&mut output, reject)?;
+    push_reject(&mut output, form, reject)?;
     Ok(Reply {
         answer: Answer::CertRefused,
         output,

@@ -1,16 +1,17 @@
-ghost use Rattle.std.specs.Prelude.{◌≡◌, ◌+◌, ◌≤◌, ◌<◌, ◌^◌, ℕ, List, length, IfOk};
+ghost use Rattle.std.specs.Prelude.{◌≡◌, ◌+◌, ◌++◌, ◌<◌, ◌^◌, ℕ, List, length, IfOk, OnOk};
 ghost use Rattle.cert_path.specs.Axes.{axis_count};
 ghost use Rattle.cert_path.specs.Nodes.{nodes_of};
 ghost use Rattle.cert_text.specs.Texts.{CertText};
 ghost use Rattle.cert_check.specs.Truths.{Holds};
 ghost use Rattle.viz_replies.specs.Headline.{IsRefuted};
 ghost use Rattle.viz_replies.specs.Replies.{IsReplyAbout, boxes_text, open_line};
+ghost use Rattle.viz_replies.specs.Screens.{world_in};
 ghost use Rattle.viz_replies.specs.steps.Answers.{IsVerdictReply, IsPrintable, IsOutcomeReply, IsProveReply, IsVerdictOn};
 ghost use Rattle.viz_replies.specs.declared.question.Question.{Question};
 
 use crate::certs::{CertRead, certificate_in};
-use crate::lines::numbered_line;
-use crate::question::Question;
+use crate::lines::push_part;
+use crate::question::{Question, Screen};
 use crate::rejects::rejection;
 use crate::reply::{Answer, Reply, line};
 use crate::violations::violation;
@@ -19,37 +20,41 @@ use cert_text::{Cert, write_cert};
 use lay_flow::render_at;
 use lay_print::print;
 use prove_search::{Outcome, prove};
-use std::alloc::Global;
-use viz_base::{Job, Mem, Rect, World};
+use std::alloc::{AllocError, Global};
+use viz_base::{Job, Mem, Rect};
 
 /// What `lay` replies for a job.
-fn laid(alloc: Global, job: &Job, world: World) -> Result<Reply, Mem>
-    requires narrow { world.w ≤ 16384 }
-    requires sized { world.s ≤ 256 }
-    ensures { IfOk result (λ r. (r.answer ≡ Answer.Done) × (r.output.items ≡ boxes_text job.now world)) }
+fn laid(alloc: Global, job: &Job, screen: Screen) -> Result<Reply, Mem>
+    ensures { IfOk result (λ r. (r.answer ≡ Answer.Done)
+        × (r.output.items ≡ boxes_text job.now (world_in screen job.now.range))) }
 {
-    let rendering = render_at(alloc, world, &job.tree, job.height)?;
+    let world = screen.world_in(job.range);
+    let rendering = render_at(alloc, world, &job.tree)?;
     Ok(Reply {
         answer: Answer::Done,
         output: print(alloc, &rendering)?,
     })
 }
 
-/// A part of the range that is open yet.
-fn left_open(alloc: Global, part: Rect) -> Result<Reply, Mem>
-    ensures { IfOk result (λ r. (r.answer ≡ Answer.Undecided) × (r.output.items ≡ open_line part)) }
+/// The line of a part that is open yet of the range of a job of this form.
+fn push_open(out: &mut Vec<u8>, form: u8, part: Rect) -> Result<(), AllocError>
+    ensures { OnOk result (out.new.items ≡ out.old.items ++ open_line form part) }
 {
-    numbered_line(
-        alloc,
-        Answer::Undecided,
-        b"undecided",
-        &[
-            u64::from(part.wl),
-            u64::from(part.wh),
-            u64::from(part.sl),
-            u64::from(part.sh),
-        ],
-    )
+    out.extend_from_slice(b"undecided")?;
+    push_part(out, form, part)?;
+    out.extend_from_slice(b"\n")
+}
+
+/// A part that is open yet of the range of a job of this form.
+fn left_open(alloc: Global, form: u8, part: Rect) -> Result<Reply, Mem>
+    ensures { IfOk result (λ r. (r.answer ≡ Answer.Undecided) × (r.output.items ≡ open_line form part)) }
+{
+    let mut output = Vec::new(alloc);
+    push_open(&mut output, form, part)?;
+    Ok(Reply {
+        answer: Answer::Undecided,
+        output,
+    })
 }
 
 /// A certificate's text.
@@ -71,7 +76,7 @@ fn outcome_reply(alloc: Global, job: &Job, outcome: &Outcome) -> Result<Reply, M
     match outcome {
         Outcome::Proved(cert) => certified(alloc, cert),
         Outcome::Violated(world) => violation(alloc, job, *world),
-        Outcome::Undecided(part) => left_open(alloc, *part),
+        Outcome::Undecided(part) => left_open(alloc, job.form, *part),
     }
 }
 
@@ -83,23 +88,23 @@ fn searched(alloc: Global, job: &Job, turns: u64) -> Result<Reply, Mem>
     outcome_reply(alloc, job, &outcome)
 }
 
-/// What is replied of a verdict.
-fn verdict_reply(alloc: Global, verdict: &Verdict) -> Result<Reply, Mem>
-    ensures { IfOk result (λ r. IsVerdictReply verdict.now r.answer r.output.items) }
+/// What is replied of a verdict on a certificate of a job of this form.
+fn verdict_reply(alloc: Global, form: u8, verdict: &Verdict) -> Result<Reply, Mem>
+    ensures { IfOk result (λ r. IsVerdictReply form verdict.now r.answer r.output.items) }
 {
     match verdict {
         Verdict::Accepted => line(alloc, Answer::Done, b"accepted\n"),
-        Verdict::Rejected(reject) => rejection(alloc, reject),
+        Verdict::Rejected(reject) => rejection(alloc, form, reject),
     }
 }
 
 /// What `check` replies for a certificate that was read.
 fn judged(alloc: Global, job: &Job, cert: &Cert) -> Result<Reply, Mem>
-    requires few { length (nodes_of cert.now) + axis_count < 2 ^ 32 }
+    requires few { length (nodes_of job.now.form cert.now) + axis_count job.now.form < 2 ^ 32 }
     ensures { IfOk result (λ r. IsVerdictOn job.now cert.now r.answer r.output.items) }
 {
     let verdict = check(alloc, job, cert)?;
-    verdict_reply(alloc, &verdict)
+    verdict_reply(alloc, job.form, &verdict)
 }
 
 /// What `check` replies for a job and the bytes of a certificate file.
@@ -117,7 +122,7 @@ fn reply_on_job(alloc: Global, job: &Job, question: &Question) -> Result<Reply, 
     ensures { IfOk result (λ r. IsReplyAbout job.now question.now r.answer r.output.items) }
 {
     match question {
-        Question::Lay(screen) => laid(alloc, job, screen.world),
+        Question::Lay(screen) => laid(alloc, job, *screen),
         Question::Prove(turns) => searched(alloc, job, *turns),
         Question::Check(cert) => checked(alloc, job, cert.as_slice()),
     }

@@ -5,7 +5,7 @@ ghost use Rattle.vis_truth.specs.Scenes.{IsBoundedRendering};
 ghost use Rattle.viz_replies.specs.Replies.{violation_text};
 ghost use Rattle.viz_replies.specs.steps.Violations.{blame_lines_of, violation_lines_of};
 
-use crate::lines::{push_blamed, push_line};
+use crate::lines::{push_blamed, push_world};
 use crate::reply::{Answer, Reply};
 use lay_flow::render_at;
 use lay_print::print;
@@ -27,7 +27,7 @@ fn push_blame(
     if u32::try_from(rendering.boxes.len()).is_err() {
         return Err(Mem);
     }
-    let blamed = blame(alloc, &job.formula, rendering, &world, job.height)?;
+    let blamed = blame(alloc, &job.formula, rendering, &world)?;
     Ok(push_blamed(out, blamed.as_slice())?)
 }
 
@@ -50,7 +50,9 @@ fn push_violation(
     requires bounded { IsBoundedRendering rendering.now }
     ensures { OnOk result (out.new.items ≡ out.old.items ++ violation_lines_of job.now world rendering.now) }
 {
-    push_line(out, b"violated", &[u64::from(world.w), u64::from(world.s)])?;
+    out.extend_from_slice(b"violated")?;
+    push_world(out, job.form, world)?;
+    out.extend_from_slice(b"\n")?;
     push_blame(alloc, out, job, world, rendering)?;
     push_boxes(alloc, out, rendering)
 }
@@ -78,9 +80,10 @@ fn violation_by(
 pub fn violation(alloc: Global, job: &Job, world: World) -> Result<Reply, Mem>
     requires narrow { world.w ≤ 16384 }
     requires sized { world.s ≤ 256 }
+    requires low { world.h ≤ 16384 }
     ensures { IfOk result (λ r. (r.answer ≡ Answer.Violated) × (r.output.items ≡ violation_text job.now world)) }
 {
-    let rendering = render_at(alloc, world, &job.tree, job.height)?;
+    let rendering = render_at(alloc, world, &job.tree)?;
     let reply = violation_by(alloc, job, world, &rendering);
     drop(rendering);
     reply

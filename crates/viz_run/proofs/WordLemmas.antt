@@ -18,7 +18,17 @@ parsed word n r small e p =
 
 -- ---- words that are there
 
--- the words of a list of four, and of three
+-- the words of a list of five, and of four
+pub words_5 : {X : Type 0} (f : X → List ℕ) (xs : List X) (a b c d e : X) → length xs ≡ 5 → a ≡ get_or xs 0 a → b ≡ get_or xs 1 b → c ≡ get_or xs 2 c → d ≡ get_or xs 3 d → e ≡ get_or xs 4 e
+    → map f xs ≡ f a ∷ f b ∷ f c ∷ f d ∷ f e ∷ []
+words_5 f [] a b c d e len p q r s t = absurd (omega arith)
+words_5 f (x ∷ []) a b c d e len p q r s t = absurd (omega arith)
+words_5 f (x ∷ y ∷ []) a b c d e len p q r s t = absurd (omega arith)
+words_5 f (x ∷ y ∷ z ∷ []) a b c d e len p q r s t = absurd (omega arith)
+words_5 f (x ∷ y ∷ z ∷ w ∷ []) a b c d e len p q r s t = absurd (omega arith)
+words_5 f (x ∷ y ∷ z ∷ w ∷ v ∷ []) a b c d e len p q r s t = cc
+words_5 f (x ∷ y ∷ z ∷ w ∷ v ∷ u ∷ rest) a b c d e len p q r s t = absurd (omega arith)
+
 pub words_4 : {X : Type 0} (f : X → List ℕ) (xs : List X) (a b c d : X) → length xs ≡ 4 → a ≡ get_or xs 0 a → b ≡ get_or xs 1 b → c ≡ get_or xs 2 c → d ≡ get_or xs 3 d → map f xs ≡ f a ∷ f b ∷ f c ∷ f d ∷ []
 words_4 f [] a b c d len p q r s = absurd (omega arith)
 words_4 f (x ∷ []) a b c d len p q r s = absurd (omega arith)

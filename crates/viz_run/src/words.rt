@@ -1,15 +1,15 @@
 ghost use Rattle.std.specs.Prelude.{◌≡◌, ◌≢◌, ℕ, [], ◌∷◌, ◌<◌, ◌≤◌, ◌^◌, MatchOption, Some, None, nat_le, ◌&&◌, if◌then◌else◌, map, length, decimal, codes, string_bytes};
-ghost use Rattle.viz_run.specs.Words.{Asks, AskNothing, IsWorld};
+ghost use Rattle.viz_run.specs.Words.{Asks, AskNothing};
+ghost use Rattle.viz_run.specs.steps.Screens.{AreNoScreen, AreScreen};
 ghost use Rattle.viz_replies.specs.declared.question.Sections.{Sections};
 
 use itoa::Buffer;
-use viz_base::World;
 use viz_replies::{Screen, Sections};
 
 /// What the words ask for, with the names of its files.
 #[derive(Clone, Copy)]
 pub enum Command<'a> {
-    /// The rendering of a job's page at a world.
+    /// The rendering of a job's page at a screen.
     Lay {
         job: &'a str,
         screen: Screen,
@@ -76,14 +76,24 @@ fn number_to(word: &str, most: u32) -> Option<u32>
     }
 }
 
-/// The world that two words name.
-fn world_of(width: &str, size: &str) -> Option<World>
-    ensures { MatchOption result ((v : _) → IsWorld v → width.now ≡ decimal v.w → size.now ≢ decimal v.s)
-        (λ v. IsWorld v × (width.now ≡ decimal v.w) × (size.now ≡ decimal v.s)) }
+/// The screen without a height that two words name.
+fn screen_of(width: &str, size: &str) -> Option<Screen>
+    ensures { MatchOption result (AreNoScreen (width.now ∷ size.now ∷ [])) (AreScreen (width.now ∷ size.now ∷ [])) }
 {
     let w = number_to(width, 16_384)?;
     let s = number_to(size, 256)?;
-    Some(World { w, s })
+    Some(Screen { w, s, h: None })
+}
+
+/// The screen that three words name.
+fn tall_screen_of(width: &str, size: &str, height: &str) -> Option<Screen>
+    ensures { MatchOption result (AreNoScreen (width.now ∷ size.now ∷ height.now ∷ []))
+        (AreScreen (width.now ∷ size.now ∷ height.now ∷ [])) }
+{
+    let w = number_to(width, 16_384)?;
+    let s = number_to(size, 256)?;
+    let h = number_to(height, 16_384)?;
+    Some(Screen { w, s, h: Some(h) })
 }
 
 /// How many sections of a generated job a word spells.
@@ -104,13 +114,41 @@ fn lay_of<'a>(job: &'a str, width: &str, size: &str) -> Option<Command<'a>>
     if job.is_empty() {
         return None;
     }
-    match world_of(width, size) {
-        Some(world) => Some(Command::Lay {
-            job,
-            screen: Screen { world },
-        }),
+    match screen_of(width, size) {
+        Some(screen) => Some(Command::Lay { job, screen }),
         None => None,
     }
+}
+
+/// What `lay JOB W S H` asks for.
+fn tall_lay_of<'a>(job: &'a str, width: &str, size: &str, height: &str) -> Option<Command<'a>>
+    ensures { MatchOption result (AskNothing (codes "lay" ∷ job.now ∷ width.now ∷ size.now ∷ height.now ∷ []))
+        (Asks (codes "lay" ∷ job.now ∷ width.now ∷ size.now ∷ height.now ∷ [])) }
+{
+    if job.is_empty() {
+        return None;
+    }
+    match tall_screen_of(width, size, height) {
+        Some(screen) => Some(Command::Lay { job, screen }),
+        None => None,
+    }
+}
+
+/// What five words ask for.
+fn tall_lay_or_none<'a>(
+    verb: &str,
+    job: &'a str,
+    width: &str,
+    size: &str,
+    height: &str,
+) -> Option<Command<'a>>
+    ensures { MatchOption result (AskNothing (verb.now ∷ job.now ∷ width.now ∷ size.now ∷ height.now ∷ []))
+        (Asks (verb.now ∷ job.now ∷ width.now ∷ size.now ∷ height.now ∷ [])) }
+{
+    if verb == "lay" {
+        return tall_lay_of(job, width, size, height);
+    }
+    None
 }
 
 /// What `trial SEED N TURNS` asks for.
@@ -204,6 +242,13 @@ pub fn command_of(words: &[String]) -> Option<Command<'_>>
     ensures { MatchOption result (AskNothing (map string_bytes words.now)) (Asks (map string_bytes words.now)) }
 {
     match words {
+        [verb, job, width, size, height] => tall_lay_or_none(
+            verb.as_str(),
+            job.as_str(),
+            width.as_str(),
+            size.as_str(),
+            height.as_str(),
+        ),
         [verb, second, third, fourth] => lay_or_trial_of(
             verb.as_str(),
             second.as_str(),

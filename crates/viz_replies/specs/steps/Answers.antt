@@ -1,5 +1,5 @@
 -- What the parts of a reply come to.
-use Rattle.std.specs.Prelude.{◌≡◌, ℕ, ◌≤◌, List, [], ◌∷◌, codes}
+use Rattle.std.specs.Prelude.{◌≡◌, ℕ, ◌^◌, ◌≤◌, List, [], ◌∷◌, codes}
 use Rattle.viz_base.specs.declared.jobs.Job.{Job}
 use Rattle.cert_text.specs.declared.certificate.Cert.{Cert}
 use Rattle.cert_text.specs.declared.certificate.CertFault.{CertFault}
@@ -38,26 +38,26 @@ abbrev pub IsCertRead : List ℕ → CertRead → Type 0
 IsCertRead bytes (of_cert.Read cert) = SpellsCert bytes cert
 IsCertRead bytes (of_cert.Refused reply) = (reply.answer ≡ ends.CertRefused) × IsNoCert bytes reply.output.items
 
--- what is replied of a verdict
-abbrev pub IsVerdictReply : Verdict → Answer → List ℕ → Type 0
-IsVerdictReply Accepted answer output = (answer ≡ ends.Done) × (output ≡ codes "accepted\n")
-IsVerdictReply (Rejected reject) answer output = (answer ≡ ends.CertRefused) × (output ≡ reject_line reject)
+-- what is replied of a verdict on a certificate of a job of this form
+abbrev pub IsVerdictReply : ℕ → Verdict → Answer → List ℕ → Type 0
+IsVerdictReply form Accepted answer output = (answer ≡ ends.Done) × (output ≡ codes "accepted\n")
+IsVerdictReply form (Rejected reject) answer output = (answer ≡ ends.CertRefused) × (output ≡ reject_line form reject)
 
 -- an outcome that has a text, or a world at which a page can be laid out
 abbrev pub IsPrintable : Outcome → Type 0
 IsPrintable (found.Proved cert) = (text : List ℕ) × CertText cert text
-IsPrintable (found.Violated world) = (world.w ≤ 16384) × (world.s ≤ 256)
+IsPrintable (found.Violated world) = (world.w ≤ 16384) × (world.s ≤ 256) × (world.h ≤ 16384)
 IsPrintable (found.Undecided part) = Unit {0}
 
 -- what is replied of a search
 abbrev pub IsOutcomeReply : Job → Outcome → Answer → List ℕ → Type 0
 IsOutcomeReply job (found.Proved cert) answer output = (answer ≡ ends.Done) × CertText cert output
 IsOutcomeReply job (found.Violated world) answer output = (answer ≡ ends.Violated) × (output ≡ violation_text job world)
-IsOutcomeReply job (found.Undecided part) answer output = (answer ≡ ends.Undecided) × (output ≡ open_line part)
+IsOutcomeReply job (found.Undecided part) answer output = (answer ≡ ends.Undecided) × (output ≡ open_line job.form part)
 
 -- what is replied of a search of a job
 abbrev pub IsProveReply : Job → ℕ → Answer → List ℕ → Type 0
-IsProveReply job turns answer output = (outcome : Outcome) × IsOutcome job turns outcome
+IsProveReply job turns answer output = (outcome : Outcome) × IsOutcome job turns (2 ^ 26) outcome
     × IsOutcomeReply job outcome answer output
 
 -- what is replied of a search on trial
@@ -72,4 +72,4 @@ IsTrialReply job (found.Undecided part) answer output = (answer ≡ ends.Undecid
 -- what is replied about a certificate that was read
 abbrev pub IsVerdictOn : Job → Cert → Answer → List ℕ → Type 0
 IsVerdictOn job cert answer output = (verdict : Verdict) × IsVerdict job cert verdict
-    × IsVerdictReply verdict answer output
+    × IsVerdictReply job.form verdict answer output

@@ -3,7 +3,7 @@ use Rattle.std.specs.Prelude.{ℕ, List, [], ◌++◌, codes}
 use Rattle.viz_base.specs.declared.settings.Prop.{Prop}
 use Rattle.css_semantics.specs.Properties.{row}
 use Rattle.page_build.specs.declared.faults.JobRefusal.{JobRefusal}
-use Rattle.page_build.specs.declared.faults.JobRefusal.TheVariants.{Mem, NotJson, Shape, Limit, Range, Import, MediaQuery, TooManyRules, Selector, Value, BlockInInline, RightToLeft, TooManyBoxes, Reach, Bad, Unbound, TooDeep}
+use Rattle.page_build.specs.declared.faults.JobRefusal.TheVariants.{Mem, NotJson, Shape, Limit, Range, Import, MediaQuery, TooManyRules, Selector, Value, Generated, BlockInInline, RightToLeft, TooManyBoxes, Reach, Bad, Unbound, TooDeep}
 use Rattle.viz_replies.specs.Lines.{spaced}
 use Rattle.viz_replies.specs.Jobs.{shape_words, limit_words}
 
@@ -18,6 +18,7 @@ refusal_words (MediaQuery sheet place) = codes "job-refused media-query"
 refusal_words (TooManyRules sheet) = codes "job-refused too-many-rules"
 refusal_words (Selector sheet place) = codes "job-refused unsupported-selector"
 refusal_words (Value node prop value) = codes "job-refused unsupported-value"
+refusal_words (Generated node) = codes "job-refused generated"
 refusal_words (BlockInInline node) = codes "job-refused block-in-inline"
 refusal_words (RightToLeft node letter) = codes "job-refused right-to-left"
 refusal_words TooManyBoxes = codes "job-refused too-many-boxes"
@@ -40,6 +41,7 @@ refusal_places (MediaQuery sheet place) = spaced sheet ++ spaced place
 refusal_places (TooManyRules sheet) = spaced sheet
 refusal_places (Selector sheet place) = spaced sheet ++ spaced place
 refusal_places (Value node prop value) = value_places node prop value
+refusal_places (Generated node) = spaced node
 refusal_places (BlockInInline node) = spaced node
 refusal_places (RightToLeft node letter) = spaced node ++ spaced letter
 refusal_places TooManyBoxes = []

@@ -5,6 +5,7 @@ use Rattle.cert_check.specs.declared.verdicts.Reject.{Reject}
 use Rattle.cert_check.specs.declared.verdicts.Reject.TheVariants.{OtherJob, Shape, Line, Untrue, Unmet, Differs, Short, Left, Coeff}
 use Rattle.lin_row.specs.Form.{Form}
 use Rattle.viz_replies.specs.Lines.{spaced}
+use Rattle.viz_replies.specs.Screens.{spaced_world}
 
 abbrev pub reject_words : Reject → List ℕ
 reject_words OtherJob = codes "rejected other-job"
@@ -20,13 +21,13 @@ reject_words (Coeff node) = codes "rejected coeff"
 abbrev pub rows_text : (ours theirs : Form) → List ℕ
 rows_text ours theirs = codes " " ++ (row_bytes ours ++ (codes " / " ++ row_bytes theirs))
 
-abbrev pub reject_places : Reject → List ℕ
-reject_places OtherJob = []
-reject_places (Shape node) = spaced node
-reject_places (Line node number line) = spaced node ++ (spaced number ++ spaced line)
-reject_places (Untrue node world) = spaced node ++ (spaced world.w ++ spaced world.s)
-reject_places (Unmet node) = spaced node
-reject_places (Differs node number ours theirs) = spaced node ++ (spaced number ++ rows_text ours theirs)
-reject_places (Short node) = spaced node
-reject_places (Left node count) = spaced node ++ spaced count
-reject_places (Coeff node) = spaced node
+abbrev pub reject_places : ℕ → Reject → List ℕ
+reject_places form OtherJob = []
+reject_places form (Shape node) = spaced node
+reject_places form (Line node number line) = spaced node ++ (spaced number ++ spaced line)
+reject_places form (Untrue node world) = spaced node ++ spaced_world form world
+reject_places form (Unmet node) = spaced node
+reject_places form (Differs node number ours theirs) = spaced node ++ (spaced number ++ rows_text ours theirs)
+reject_places form (Short node) = spaced node
+reject_places form (Left node count) = spaced node ++ spaced count
+reject_places form (Coeff node) = spaced node

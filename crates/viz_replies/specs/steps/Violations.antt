@@ -8,13 +8,14 @@ use Rattle.lay_print.specs.Print.{printed}
 use Rattle.logic_semantics.specs.Scenes.{scene_of}
 use Rattle.logic_semantics.specs.Blame.{blame}
 use Rattle.viz_replies.specs.Lines.{numbered}
+use Rattle.viz_replies.specs.Screens.{spaced_world}
 
 -- the lines of the boxes that the formula blames
 abbrev pub blame_lines_of : Job → World → Rendering ℤ → List ℕ
 blame_lines_of job world r =
-    flat_map (λ place. numbered (codes "blame") (place ∷ [])) (blame (scene_of r world job.height) job.formula)
+    flat_map (λ place. numbered (codes "blame") (place ∷ [])) (blame (scene_of r world) job.formula)
 
 -- a world, whom the formula blames there, and the rendering
 abbrev pub violation_lines_of : Job → World → Rendering ℤ → List ℕ
-violation_lines_of job world r = numbered (codes "violated") (world.w ∷ world.s ∷ [])
-    ++ (blame_lines_of job world r ++ printed r)
+violation_lines_of job world r = codes "violated"
+    ++ (spaced_world job.form world ++ (codes "\n" ++ (blame_lines_of job world r ++ printed r)))

@@ -1,5 +1,5 @@
 use Rattle.std.proofs.Common.{◌<◌, subst, arith}
-use Rattle.prove_search.proofs.Closing.{within_within, halving_of, middle_bound, first_fewer, second_fewer, passed_on, stops_first, stops_second, closes_split}
+use Rattle.prove_search.proofs.Closing.{within_within, halving_of, halved_has, middle_bound, first_fewer, second_fewer, passed_on, stops_first, stops_second, closes_split}
 use Rattle.prove_search.proofs.plain.+decide.Goals as goal
 
 pub decide-requires : goal.decide-requires
@@ -46,4 +46,4 @@ returns t c =
     let many = subst (λ n. 64 < n) c.world_count.ensures c.if-world_count-le-MOST_WORLDS.false in
     let half = halving_of r h c.requires.proper many c.halves_of-halves.ensures in
     closes_split job r h c.args.turns c.in_ok-first.first c.in_ok-second.second c.in_ok-node.node half many (omega arith)
-    (middle_bound job.range r h job.ok.in_range c.requires.within half) c.in_ok-first.ensures c.in_ok-second.ensures c.in_ok-node.ensures
+    (middle_bound job.range r h job.ok.in_range c.requires.within half) (halved_has job r h job.ok.formed c.requires.within half) c.in_ok-first.ensures c.in_ok-second.ensures c.in_ok-node.ensures

@@ -1,4 +1,4 @@
-use Rattle.cert_check.specs.Rectangles.{world_count}
+use Rattle.viz_base.specs.Worlds.{world_count}
 use Rattle.prove_search.proofs.plain.+decide.Given as goal
 
 abbrev pub decreases-decide : goal.decreases-decide

@@ -3,7 +3,7 @@ use Rattle.viz_replies.proofs.ReplyLemmas.{few_nodes, checks, refuses}
 use Rattle.viz_replies.proofs.replies.checked.Goals as goal
 
 pub judged-requires : goal.judged-requires
-judged-requires c = record { few = few_nodes c.args.bytes.now c.in-Read.cert (rw c.in-Read.is at c.in_ok-cert.ensures) }
+judged-requires c = record { few = few_nodes c.args.job.now.form c.args.bytes.now c.in-Read.cert (rw c.in-Read.is at c.in_ok-cert.ensures) }
 
 pub returns-in-Read : goal.returns-in-Read
 returns-in-Read c =
