@@ -1,7 +1,11 @@
 use viz_base::World;
 use viz_calc::{Halt, Latch, Plain, Steady};
 
-const WORLD: World = World { w: 800, s: 16 };
+const WORLD: World = World {
+    w: 800,
+    s: 16,
+    h: 600,
+};
 
 #[test]
 fn keeps_the_first_halt(rt: HostRuntime) {

@@ -63,6 +63,7 @@ fn cut_by(alloc: Global, divisor: i128) -> Result<Cert, AllocError> {
     let last = Ending::Closed;
     let why = Boxed::new(alloc, Derivation { steps, last })?;
     Ok(Cert {
+        form: 1,
         job: [0xab; 32],
         root: CertNode::Void(why),
     })

@@ -5,7 +5,11 @@ use std::test::Fail;
 use viz_base::{Band, Extent, Side, World};
 use viz_calc::{Calc, Halt, Plain};
 
-const WORLD: World = World { w: 1000, s: 16 };
+const WORLD: World = World {
+    w: 1000,
+    s: 16,
+    h: 600,
+};
 
 /// The numbers of one world, with a count of the comparisons that were asked.
 #[derive(Clone, Copy)]
@@ -39,6 +43,10 @@ impl Calc for Counting {
 
     fn size(&mut self) -> Result<i128, Halt> {
         self.plain.size()
+    }
+
+    fn height(&mut self) -> Result<i128, Halt> {
+        self.plain.height()
     }
 
     fn copy(&mut self, a: &i128) -> Result<i128, Halt> {

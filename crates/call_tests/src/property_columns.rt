@@ -3,8 +3,8 @@ use viz_base::Prop;
 
 #[test]
 fn columns(rt: HostRuntime) {
-    assert!(rt; properties().len() == 39);
-    assert!(rt; property_name(Prop::ListStylePosition) == "list-style-position");
+    assert!(rt; properties().len() == 40);
+    assert!(rt; property_name(Prop::Content) == "content");
     assert!(rt; keyword_at(Prop::Display, 3) == Some("inline-block"));
     assert!(rt; keyword_at(Prop::Display, 5).is_none());
     assert!(rt; initial_of(Prop::BorderLeftWidth) == Initial::Word(1));

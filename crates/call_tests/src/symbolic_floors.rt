@@ -11,6 +11,8 @@ const RANGE: Rect = Rect {
     wh: 400,
     sl: 16,
     sh: 16,
+    hl: 600,
+    hh: 600,
 };
 
 /// Answers that a third of the width is 6826 units at least, and 8533 at most. Facts 4 and 5 are those of its floor:
@@ -42,7 +44,7 @@ fn third(sym: &mut Sym<'_>) -> Result<(Row, bool), Halt> {
 
 #[test]
 fn a_third_of_the_width_is_a_floor(rt: HostRuntime) -> Result<(), Fail> {
-    let path = Path::new(rt.alloc(), RANGE)?;
+    let path = Path::new(rt.alloc(), 1, RANGE)?;
     let Ok(cert) = read_cert(rt.alloc(), TEXT.as_bytes()) else {
         return Err(Fail::new("no certificate"));
     };

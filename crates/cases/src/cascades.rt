@@ -1,12 +1,15 @@
+ghost use Rattle.std.specs.Prelude.{◌≡◌, length};
+
+use crate::chosen::met;
 use crate::values::setting;
 use case_scribe::{Fault, Scribe, job_of};
-use css_cascade::{CascadeFault, cascade, default_sheet};
+use css_cascade::{CascadeFault, cascade, cascade_pseudo, default_sheet};
 use css_syntax::read_sheet;
 use serde_json::Value;
-use viz_base::{Cascaded, List, Page, Prop, Setting, Sheet, Source, Text};
+use viz_base::{Cascaded, List, Page, Prop, Pseudo, Setting, Sheet, Source, Text};
 
 /// What wins at a node: node, property, value.
-fn tell_node(scribe: &mut Scribe, node: usize, settings: &[Setting]) {
+pub fn tell_node(scribe: &mut Scribe, node: usize, settings: &[Setting]) {
     for one in settings {
         scribe.open();
         scribe.number(node);
@@ -53,25 +56,54 @@ fn refusal(scribe: &mut Scribe, fault: &CascadeFault) {
     }
 }
 
-fn sheets(scribe: &mut Scribe, texts: &[Text]) -> List<Sheet> {
+/// The sheets of these texts, with the rules that are for the page's medium.
+pub fn sheets(scribe: &mut Scribe, texts: &[Text]) -> List<Sheet> {
     let mut sheets = List::new(scribe.alloc());
     for text in texts {
         let sheet = read_sheet(scribe.alloc(), text.as_str());
         if let Some(sheet) = scribe.kept(sheet) {
+            let sheet = met(scribe, sheet);
             scribe.put(&mut sheets, sheet);
         }
     }
     sheets
 }
 
-/// What wins on a page with these sheets, the default one first, or what refuses it.
-fn tell_cascaded(scribe: &mut Scribe, page: &Page, texts: &[Text], sheets: &[Sheet]) {
-    if sheets.len() != texts.len() {
-        return scribe.fail(Fault::NoCase);
+/// What wins at the nodes of a page, or at a pseudo-element of each.
+fn cascaded(
+    scribe: &Scribe,
+    page: &Page,
+    texts: &[Text],
+    sheets: &[Sheet],
+    which: Option<Pseudo>,
+) -> Result<Cascaded, CascadeFault>
+    requires { length texts.now ≡ length sheets.now }
+{
+    match which {
+        Some(which) => cascade_pseudo(scribe.alloc(), page, texts, sheets, which),
+        None => cascade(scribe.alloc(), page, texts, sheets),
     }
-    match cascade(scribe.alloc(), page, texts, sheets) {
-        Ok(cascaded) => tell(scribe, &cascaded),
-        Err(fault) => refusal(scribe, &fault),
+}
+
+/// What wins at the nodes of a page with these sheets, the default one first, or at a pseudo-element of each; nothing
+/// where that refuses the page, which is told.
+pub fn winners(
+    scribe: &mut Scribe,
+    page: &Page,
+    texts: &[Text],
+    sheets: &[Sheet],
+    which: Option<Pseudo>,
+) -> Option<Cascaded> {
+    if sheets.len() != texts.len() {
+        scribe.fail(Fault::NoCase);
+        return None;
+    }
+    match cascaded(scribe, page, texts, sheets, which) {
+        Ok(cascaded) => Some(cascaded),
+        Err(fault) => {
+            refusal(scribe, &fault);
+            None
+        }
     }
 }
 
@@ -84,7 +116,7 @@ fn put_text(scribe: &mut Scribe, texts: &mut List<Text>, text: &str) {
 }
 
 /// The texts of the sheets, the default one first.
-fn texts(scribe: &mut Scribe, authors: &[Value]) -> List<Text> {
+pub fn texts(scribe: &mut Scribe, authors: &[Value]) -> List<Text> {
     let mut texts = List::new(scribe.alloc());
     put_text(scribe, &mut texts, default_sheet());
     for author in authors {
@@ -94,17 +126,33 @@ fn texts(scribe: &mut Scribe, authors: &[Value]) -> List<Text> {
     texts
 }
 
-/// What wins at each node of a page with these sheets of an author.
-fn tell_page(scribe: &mut Scribe, page: &Page, authors: &[Value]) {
+/// What wins on a page with these sheets of an author.
+fn tell_page(scribe: &mut Scribe, page: &Page, authors: &[Value], which: Option<Pseudo>) {
     let texts = texts(scribe, authors);
     let sheets = sheets(scribe, texts.as_slice());
-    tell_cascaded(scribe, page, texts.as_slice(), sheets.as_slice());
+    if let Some(cascaded) = winners(scribe, page, texts.as_slice(), sheets.as_slice(), which) {
+        tell(scribe, &cascaded);
+    }
 }
 
-/// What wins at each node of the page of a case with its sheets of an author.
-pub fn answer(scribe: &mut Scribe, case: &Value) {
+/// What wins on the page of a case with its sheets of an author.
+fn tell_case(scribe: &mut Scribe, case: &Value, which: Option<Pseudo>) {
     if let Some(job) = job_of(scribe, case) {
         let authors = scribe.list_at(case, 2);
-        tell_page(scribe, &job.page, authors);
+        tell_page(scribe, &job.page, authors, which);
+    }
+}
+
+/// What wins at each node of the page of a case.
+pub fn answer(scribe: &mut Scribe, case: &Value) {
+    tell_case(scribe, case, None);
+}
+
+/// What wins at a pseudo-element of each node of the page of a case.
+pub fn answer_pseudo(scribe: &mut Scribe, case: &Value) {
+    match scribe.text_at(case, 3) {
+        "Before" => tell_case(scribe, case, Some(Pseudo::Before)),
+        "After" => tell_case(scribe, case, Some(Pseudo::After)),
+        _ => scribe.fail(Fault::NoCase),
     }
 }

@@ -80,6 +80,7 @@ fn edge_of(scribe: &mut Scribe, part: &Value) -> Edge {
         "One" => Edge::One,
         "ViewWidth" => Edge::ViewWidth,
         "ViewHeight" => Edge::ViewHeight,
+        "ViewSize" => Edge::ViewSize,
         "Name" => named_edge(scribe, value),
         _ => {
             scribe.fail(Fault::NoCase);

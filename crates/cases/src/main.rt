@@ -3,7 +3,9 @@
 #![tactic(auto)]
 
 mod cascades;
+mod chosen;
 mod formulas;
+mod growths;
 mod selectors;
 mod sheets;
 mod tokens;
@@ -22,9 +24,12 @@ fn decimal(scribe: &mut Scribe, case: &Value) {
     }
 }
 
-/// The answer to a case of a formula.
-fn answer_formula(scribe: &mut Scribe, name: &str, case: &Value) {
+/// The answer to a case of what wins on a page, or of a formula.
+fn answer_page(scribe: &mut Scribe, name: &str, case: &Value) {
     match name {
+        "cascade" => cascades::answer(scribe, case),
+        "cascade_pseudo" => cascades::answer_pseudo(scribe, case),
+        "grow" => growths::answer(scribe, case),
         "formulas" => formulas::answer(scribe, case),
         "truths" => truths::answer(scribe, case),
         _ => scribe.fail(Fault::NoCase),
@@ -44,8 +49,7 @@ impl Table for Texts {
             "selectors" => selectors::group(scribe, case),
             "matches" => selectors::matched(scribe, case),
             "values" => values::answer(scribe, case),
-            "cascade" => cascades::answer(scribe, case),
-            _ => answer_formula(scribe, name, case),
+            _ => answer_page(scribe, name, case),
         }
     }
 }

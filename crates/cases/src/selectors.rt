@@ -1,4 +1,5 @@
 ghost use Rattle.css_semantics.specs.Specificity.{IsCountable};
+ghost use Rattle.css_semantics.specs.Spelled.{spelled};
 
 use case_scribe::{Fault, Scribe, job_of};
 use css_select::{SelFault, matches, read_selector, specificity};
@@ -62,14 +63,18 @@ fn compounds(scribe: &mut Scribe, parts: &[(Join, Compound)]) {
     scribe.close();
 }
 
-/// A selector: its compounds, each with how it is joined, and its specificity.
+/// A selector: its compounds, each with how it is joined, its specificity, and its pseudo-element, or null.
 fn selector(scribe: &mut Scribe, selector: &Selector)
-    requires { IsCountable selector.now.parts }
+    requires { IsCountable (spelled selector.now) }
 {
     let spec = specificity(selector);
     scribe.open();
     compounds(scribe, selector.parts.as_slice());
     scribe.row(&[spec.style, spec.ids, spec.attrs, spec.types]);
+    match &selector.pseudo {
+        Some(pseudo) => scribe.name(pseudo),
+        None => scribe.null(),
+    }
     scribe.close();
 }
 

@@ -1,7 +1,35 @@
 use case_scribe::{Fault, Scribe};
 use css_syntax::{SheetFault, read_declarations, read_sheet};
 use serde_json::Value;
-use viz_base::{Decl, Rule};
+use viz_base::{Bound, Decl, Feature, MediaEntry, Rule};
+
+/// The feature of a width: whether it is the most, and its bound.
+pub fn tell_feature(scribe: &mut Scribe, feature: Feature) {
+    scribe.open();
+    scribe.truth(feature.most);
+    match feature.bound {
+        Bound::Px(units) => scribe.tagged("Px", &[units]),
+        Bound::Em(millionths) => scribe.tagged("Em", &[millionths]),
+    }
+    scribe.close();
+}
+
+/// Entries of a media list: whether each is negated, whether its medium is met, and its features.
+fn tell_media(scribe: &mut Scribe, entries: &[MediaEntry]) {
+    scribe.open();
+    for entry in entries {
+        scribe.open();
+        scribe.truth(entry.negated);
+        scribe.truth(entry.on);
+        scribe.open();
+        for feature in entry.features.as_slice() {
+            tell_feature(scribe, *feature);
+        }
+        scribe.close();
+        scribe.close();
+    }
+    scribe.close();
+}
 
 /// Declarations: name, the value's slice, and whether it is important.
 fn tell_decls(scribe: &mut Scribe, decls: &[Decl]) {
@@ -16,13 +44,17 @@ fn tell_decls(scribe: &mut Scribe, decls: &[Decl]) {
     scribe.close();
 }
 
-/// Rulesets: the selector's slice, and the declarations.
+/// Rulesets: the selector's slice, the declarations, and the media list that it stands under, or null.
 fn tell_rules(scribe: &mut Scribe, rules: &[Rule]) {
     scribe.open();
     for rule in rules {
         scribe.open();
         scribe.numbers(&[rule.at, rule.len]);
         tell_decls(scribe, rule.decls.as_slice());
+        match &rule.media {
+            Some(entries) => tell_media(scribe, entries.as_slice()),
+            None => scribe.null(),
+        }
         scribe.close();
     }
     scribe.close();

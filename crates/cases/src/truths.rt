@@ -40,14 +40,14 @@ fn rendering(scribe: &mut Scribe, values: &[Value]) -> Rendering<i128> {
     Rendering { boxes }
 }
 
-/// Whether the formula is true of the rendering, at a case's world and height of the viewport.
+/// Whether the formula is true of the rendering, at a case's world.
 fn judge(scribe: &mut Scribe, case: &Value, formula: &Formula, rendering: &Rendering<i128>) {
     let world = World {
         w: scribe.number_at(case, 3),
         s: scribe.number_at(case, 4),
+        h: scribe.number_at(case, 5),
     };
-    let height = scribe.number_at(case, 5);
-    match truth(&mut Plain::new(world), formula, rendering, height) {
+    match truth(&mut Plain::new(world), formula, rendering) {
         Ok(yes) => scribe.truth(yes),
         Err(halt) => scribe.fail(halt.into()),
     }

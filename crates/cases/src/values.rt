@@ -14,6 +14,14 @@ fn families(scribe: &mut Scribe, names: &[Text]) {
     scribe.close();
 }
 
+/// The text of generated content.
+fn characters(scribe: &mut Scribe, text: &Text) {
+    scribe.open();
+    scribe.word("Chars");
+    scribe.quoted(text.as_str());
+    scribe.close();
+}
+
 /// A value that is a number.
 fn numbered(scribe: &mut Scribe, kind: &str, number: i64) {
     scribe.tagged(kind, &[number]);
@@ -29,6 +37,7 @@ fn tell(scribe: &mut Scribe, value: &Value) {
         Value::Pct(millionths) => numbered(scribe, "Pct", *millionths),
         Value::Number(millionths) => numbered(scribe, "Number", *millionths),
         Value::Names(names) => families(scribe, names.as_slice()),
+        Value::Chars(text) => characters(scribe, text),
     }
 }
 

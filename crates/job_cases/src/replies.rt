@@ -2,7 +2,7 @@ use crate::members::{long_at, number_at, text_at};
 use case_scribe::Fault;
 use serde_json::Value;
 use std::alloc::{AllocError, Global};
-use viz_base::{List, World};
+use viz_base::List;
 use viz_replies::{
     Answer, Question, Reply, Screen, Sections, reply_to, reply_to_gen, reply_to_trial,
 };
@@ -32,20 +32,29 @@ fn reply(alloc: Global, case: &Value, question: &Question) -> Result<Reply, Faul
     Ok(reply_to(alloc, job.as_bytes(), question)?)
 }
 
-/// The world of a case, at which pages can be laid out.
-fn screen(case: &Value) -> Result<Screen, Fault> {
-    let world = World {
-        w: number_at(case, 2)?,
-        s: number_at(case, 3)?,
-    };
-    if world.w <= 16384 && world.s <= 256 {
-        Ok(Screen { world })
+/// The height of a case's screen, where one is told.
+fn height(case: &Value) -> Result<Option<u32>, Fault> {
+    match case.get(4) {
+        Some(_) => Ok(Some(number_at(case, 4)?)),
+        None => Ok(None),
+    }
+}
+
+/// A screen, if pages can be laid out there.
+fn screen_of(w: u32, s: u32, h: Option<u32>) -> Result<Screen, Fault> {
+    if w <= 16384 && s <= 256 && h.unwrap_or(0) <= 16384 {
+        Ok(Screen { w, s, h })
     } else {
         Err(Fault::NoCase)
     }
 }
 
-/// What is replied to `lay`, given the job and the world.
+/// The screen of a case, at which pages can be laid out.
+fn screen(case: &Value) -> Result<Screen, Fault> {
+    screen_of(number_at(case, 2)?, number_at(case, 3)?, height(case)?)
+}
+
+/// What is replied to `lay`, given the job and the screen.
 fn lay(alloc: Global, case: &Value) -> Result<Reply, Fault> {
     reply(alloc, case, &Question::Lay(screen(case)?))
 }

@@ -52,6 +52,7 @@ fn refusal(scribe: &mut Scribe, refusal: &JobRefusal) {
         JobRefusal::RightToLeft(node, letter) => {
             scribe.refused("RightToLeft", &[*node, u32::from(*letter)]);
         }
+        JobRefusal::Generated(node) => scribe.refused("Generated", &[*node]),
         JobRefusal::Reach(node) => scribe.refused("Reach", &[*node]),
         JobRefusal::Mem => scribe.fail(Fault::Mem),
         _ => scribe.fail(Fault::NoCase),

@@ -1,7 +1,13 @@
-use crate::rows::row;
+ghost use Rattle.std.specs.Prelude.{◌+◌, ◌<◌, ◌^◌, IsTrue, length};
+ghost use Rattle.lin_proof.specs.Derivations.{lines_of};
+
+use crate::rows::{row, row_at};
 use case_scribe::{Fault, Scribe};
-use lin_proof::{Branch, Derivation, Ending, Step, first_fault, line_count, refutes};
-use lin_row::Row;
+use lin_proof::{
+    Branch, Derivation, Ending, Step, entails, first_fault, first_fault_of_entailment, line_count,
+    refutes,
+};
+use lin_row::{Row, RowFault};
 use serde_json::Value;
 use viz_base::{Boxed, List};
 
@@ -89,22 +95,52 @@ fn facts(scribe: &mut Scribe, case: &Value) -> List<Row> {
     facts
 }
 
-/// What is said of a derivation over these facts and so many variables.
-fn judge(scribe: &mut Scribe, facts: &[Row], vars: u32, derivation: &Derivation) {
+/// The first wrong line, or null.
+fn tell_fault<E: Into<Fault> + Drop>(scribe: &mut Scribe, fault: Result<Option<u32>, E>) {
+    match scribe.kept(fault) {
+        Some(Some(line)) => scribe.number(line),
+        Some(None) | None => scribe.null(),
+    }
+}
+
+/// Whether there are so few facts and lines that they can be numbered; else no case.
+fn are_few(scribe: &mut Scribe, facts: &[Row], derivation: &Derivation) -> bool
+    ensures { IsTrue result → length facts.now + lines_of derivation.now < 2 ^ 32 }
+{
     let lines = line_count(derivation).unwrap_or(u32::MAX);
     if facts.len() > 65536 || lines > 65536 {
-        return scribe.fail(Fault::NoCase);
+        scribe.fail(Fault::NoCase);
+        return false;
+    }
+    true
+}
+
+/// What is said of a derivation over these facts and so many variables.
+fn judge(scribe: &mut Scribe, facts: &[Row], vars: u32, derivation: &Derivation) {
+    if !are_few(scribe, facts, derivation) {
+        return;
+    }
+    let yes = refutes(scribe.alloc(), facts, vars, derivation);
+    let fault = first_fault(scribe.alloc(), facts, vars, derivation);
+    scribe.open();
+    scribe.truth(yes == Ok(true));
+    tell_fault(scribe, fault);
+    scribe.close();
+}
+
+/// What is said of a row's derivation over these facts and so many variables.
+fn judge_row(scribe: &mut Scribe, facts: &[Row], vars: u32, derivation: &Derivation, row: &Row) {
+    if !are_few(scribe, facts, derivation) {
+        return;
+    }
+    let yes = entails(scribe.alloc(), facts, vars, row, derivation);
+    let fault = first_fault_of_entailment(scribe.alloc(), facts, vars, row, derivation);
+    if fault == Err(RowFault::Coeff) {
+        return scribe.word("Coeff");
     }
     scribe.open();
-    match refutes(scribe.alloc(), facts, vars, derivation) {
-        Ok(yes) => scribe.truth(yes),
-        Err(fault) => scribe.fail(fault.into()),
-    }
-    match first_fault(scribe.alloc(), facts, vars, derivation) {
-        Ok(Some(line)) => scribe.number(line),
-        Ok(None) => scribe.null(),
-        Err(fault) => scribe.fail(fault.into()),
-    }
+    scribe.truth(yes == Ok(true));
+    tell_fault(scribe, fault);
     scribe.close();
 }
 
@@ -114,6 +150,18 @@ pub fn judged(scribe: &mut Scribe, case: &Value) {
     let facts = facts(scribe, case);
     match derivation(scribe, case) {
         Some(derivation) => judge(scribe, facts.as_slice(), vars, &derivation),
+        None => scribe.fail(Fault::NoCase),
+    }
+}
+
+/// Whether the derivation of a case entails its row by its facts, and its first wrong line, or null; or that a number
+/// is outside 128 bits.
+pub fn entailed(scribe: &mut Scribe, case: &Value) {
+    let vars = scribe.number_at(case, 2);
+    let facts = facts(scribe, case);
+    let row = row_at(scribe, case, 4);
+    match derivation(scribe, case) {
+        Some(derivation) => judge_row(scribe, facts.as_slice(), vars, &derivation, &row),
         None => scribe.fail(Fault::NoCase),
     }
 }

@@ -8,7 +8,11 @@ use viz_calc::Plain;
 
 /// An arithmetic of one world; these cases name none of its lengths.
 fn calc() -> Plain {
-    Plain::new(World { w: 320, s: 16 })
+    Plain::new(World {
+        w: 320,
+        s: 16,
+        h: 600,
+    })
 }
 
 /// The side at a place of an array.

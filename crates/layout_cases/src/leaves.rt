@@ -9,7 +9,7 @@ use viz_base::{Job, Mem};
 
 /// The verdict on the answers of a root that is a leaf.
 fn verdict(alloc: Global, job: &Job, answers: &[Answer]) -> Result<Verdict, Mem> {
-    let path = Path::new(alloc, job.range)?;
+    let path = Path::new(alloc, job.form, job.range)?;
     let mut sym = Sym::new(&path, answers);
     check_leaf(alloc, job, 0, &mut sym)
 }

@@ -26,6 +26,7 @@ fn answer_row(scribe: &mut Scribe, name: &str, case: &Value) {
         "divides" => rows::divides(scribe, case),
         "cut" => rows::cut(scribe, case),
         "derivation" => derivations::judged(scribe, case),
+        "entails" => derivations::entailed(scribe, case),
         "leaf" => leaves::judged(scribe, case),
         _ => trees::answer(scribe, name, case),
     }

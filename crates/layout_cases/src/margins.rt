@@ -15,7 +15,11 @@ fn join(scribe: &mut Scribe, calc: &mut Plain, run: &mut Run<i128>, margins: &[V
 
 /// The greatest and the least of margins and 0, and what the margins collapse to.
 pub fn collapsed(scribe: &mut Scribe, case: &Value) {
-    let mut calc = Plain::new(World { w: 320, s: 16 });
+    let mut calc = Plain::new(World {
+        w: 320,
+        s: 16,
+        h: 600,
+    });
     let empty = Run::empty(&mut calc);
     if let Some(mut run) = scribe.kept(empty) {
         let margins = scribe.list_at(case, 1);

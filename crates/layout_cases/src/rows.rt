@@ -34,7 +34,7 @@ pub fn row(scribe: &mut Scribe, value: &Value) -> Row {
 }
 
 /// The row at a place of a case.
-fn row_at(scribe: &mut Scribe, case: &Value, place: usize) -> Row {
+pub fn row_at(scribe: &mut Scribe, case: &Value, place: usize) -> Row {
     let value = scribe.at(case, place);
     row(scribe, value)
 }

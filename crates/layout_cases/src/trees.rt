@@ -26,6 +26,7 @@ fn calls(scribe: &mut Scribe, name: &str, case: &Value, job: &Job) {
     let mut calc = Plain::new(World {
         w: scribe.number_at(case, 2),
         s: scribe.number_at(case, 3),
+        h: job.range.hl,
     });
     scribe.open();
     for value in scribe.list_at(case, 4) {

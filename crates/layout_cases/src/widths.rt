@@ -45,7 +45,7 @@ pub fn tell_widths(scribe: &mut Scribe, calc: &mut Plain, job: &Job, value: &Val
     let Some(preferred) = preferred_in(scribe, calc, &job.tree, value) else {
         return;
     };
-    let widths = widths(calc, &job.tree, b, &cb, job.height, &preferred);
+    let widths = widths(calc, &job.tree, b, &cb, &preferred);
     if let Some(widths) = scribe.kept(widths) {
         scribe.row(&[
             widths.margin_left,
