@@ -1,11 +1,17 @@
 """Reads job files and what the program prints of them: renderings, violations, open parts and certificates. Not proved."""
 import hashlib
 import json
+import math
 import re
 from dataclasses import dataclass, field
 
+import grown
+
 KINDS = ("block", "anon", "float", "atomic", "replaced", "inline", "text", "line")
 UNITS = 64
+# the first line of a certificate of form 1, and of form 2, which may have lemmas
+HEADS = ("vizlog-cert 1", "vizlog-cert 2")
+AXES = ("widths", "sizes", "heights")
 
 
 class NoAnswer(Exception):
@@ -24,12 +30,17 @@ class Node:
 
 @dataclass
 class Job:
+    """A job: its range, of widths and default font sizes, and of heights where it has one, else its one height. Its nodes are those of the
+    page with its generated content, `full`, and `written` has the numbers there of those that are written."""
     widths: tuple
     sizes: tuple
-    height: int
+    heights: tuple
+    has_heights: bool
     rule: str
     page: dict
     css: list
+    full: dict
+    written: list
     nodes: list
     digest: str
     fonts: list = field(default_factory=list)
@@ -39,8 +50,23 @@ class Job:
         """A text of the page as it is read: a character that stands for another one of other width is told as that."""
         return text.translate(self.letters)
 
+    def by_node(self, found, none):
+        """What is told of the nodes that are written, by the node's number on the page with its generated content."""
+        made = [none] * len(self.nodes)
+        for number, it in zip(self.written, found, strict=True):
+            made[number] = it
+        return made
+
+    def sides(self):
+        """The sides of the range: its widths, its sizes, and its heights where the job has a range of them."""
+        return (self.widths, self.sizes, self.heights)[:2 + self.has_heights]
+
     def worlds(self):
-        return (self.widths[1] - self.widths[0] + 1) * (self.sizes[1] - self.sizes[0] + 1)
+        return math.prod(high - low + 1 for low, high in self.sides())
+
+    def height_at(self, world):
+        """The viewport's height at a world, which has a number for each side."""
+        return world[2] if len(world) > 2 else self.heights[0]
 
 
 def name_of(element):
@@ -53,14 +79,15 @@ def name_of(element):
 
 def nodes_of(page, letters):
     """The nodes of a page in document order, elements and texts, the names of these as they are read."""
-    nodes, open_nodes = [], [page]
+    nodes, open_nodes = [], [(page, "")]
     while open_nodes:
-        node = open_nodes.pop()
+        node, around = open_nodes.pop()
         if isinstance(node, str):
             nodes.append(Node(f"“{' '.join(node.translate(letters).split())[:40]}”", None, node))
         else:
-            nodes.append(Node(name_of(node), node))
-            open_nodes.extend(reversed(node.get("children", [])))
+            name = around + node["tag"] if node["tag"] in grown.MADE else name_of(node)
+            nodes.append(Node(name, node))
+            open_nodes.extend((it, name) for it in reversed(node.get("children", [])))
     return nodes
 
 
@@ -68,11 +95,15 @@ def job_of(text):
     """A job file; the program itself judges it whole."""
     try:
         told = json.loads(text)
+        has_heights = told.get("vizlog", 1) == 2
         ends = [tuple(told[name]) for name in ("widths", "sizes")]
+        ends.append(tuple(told["heights"]) if has_heights else (int(told["height"]),) * 2)
         if not all(len(end) == 2 and all(isinstance(it, int) and it > 0 for it in end) and end[0] <= end[1] for end in ends):
             raise ValueError
         letters = str.maketrans(told.get("letters", {}))
-        return Job(*ends, int(told["height"]), str(told["assert"]), told["page"], list(told.get("css", [])), nodes_of(told["page"], letters),
+        css = list(told.get("css", []))
+        full, written = grown.grown(told["page"], css)
+        return Job(*ends, has_heights, str(told["assert"]), told["page"], css, full, written, nodes_of(full, letters),
                    hashlib.sha256(text.encode()).hexdigest(), list(told.get("fonts", [])), letters)
     except (ValueError, KeyError, TypeError, AttributeError, RecursionError):
         raise NoAnswer("the job file is no job") from None
@@ -114,26 +145,25 @@ class Rendering:
 
 @dataclass
 class Open:
-    """The part of the range that is open yet."""
-    widths: tuple
-    sizes: tuple
+    """The part of the range that is open yet, by its sides."""
+    sides: tuple
 
 
 # ---- certificates
 
 @dataclass
 class Region:
-    """A part of the range that a leaf, grid or void closes: a rectangle of worlds, both ends in, and the splits that cut it."""
+    """A part of the range that a leaf, grid or void closes: a rectangle of worlds, both ends of each side in, and the splits that cut it:
+    where a number and a multiple of each of a world's are at least 0 together."""
     kind: str
-    widths: tuple
-    sizes: tuple
+    sides: tuple
     cuts: list
     by_defs: bool
 
 
 @dataclass
 class Fork:
-    """A node of a certificate: the floor of a row by a number, a split by a row, or a region; with the places of the nodes below."""
+    """A node of a certificate: the floor of a row by a number, a split by a row, a lemma, or a region; with the places of the nodes below."""
     row: tuple | None = None
     by: int | None = None
     region: int | None = None
@@ -145,17 +175,21 @@ class Proof:
     regions: list
     splits: int
     defs: int
+    lemmas: int
     nodes: list
 
     def region_at(self, world):
         """The place of the region that has a world."""
         values, node = list(world), self.nodes[0]
         while node.region is None:
-            constant, terms = node.row
-            value = constant + sum(times * values[name] for name, times in terms.items())
-            if node.by:
-                values.append(value // node.by)
-            node = self.nodes[node.below[0 if node.by or value >= 0 else 1]]
+            side = 0
+            if node.row:
+                constant, terms = node.row
+                value = constant + sum(times * values[name] for name, times in terms.items())
+                if node.by:
+                    values.append(value // node.by)
+                side = 0 if node.by or value >= 0 else 1
+            node = self.nodes[node.below[side]]
         return node.region
 
 
@@ -164,25 +198,26 @@ def row_of(text):
     return int(head), {int(name): int(times) for name, times in (it.split(":") for it in terms)}
 
 
-def halves(row, widths, sizes, cuts, by_defs):
+def halves(row, sides, cuts, by_defs):
     """The two parts of a region that a split makes, as rectangles where one variable has the coefficient 1 or -1."""
     constant, terms = row
+    axes = range(len(sides))
     for side in (True, False):
-        if len(terms) == 1 and set(terms) <= {0, 1} and abs(next(iter(terms.values()))) == 1:
+        if len(terms) == 1 and set(terms) <= set(axes) and abs(next(iter(terms.values()))) == 1:
             name, times = next(iter(terms.items()))
-            low, high = (widths, sizes)[name]
+            low, high = sides[name]
             # side: constant + times * x >= 0, or at most -1
             if times == 1:
                 cut = (max(low, -constant), high) if side else (low, min(high, -constant - 1))
             else:
                 cut = (low, min(high, constant)) if side else (max(low, constant + 1), high)
-            yield (cut, sizes, cuts, by_defs) if name == 0 else (widths, cut, cuts, by_defs)
-        elif set(terms) <= {0, 1}:
+            yield (*sides[:name], cut, *sides[name + 1:]), cuts, by_defs
+        elif set(terms) <= set(axes):
             sign = 1 if side else -1
-            line = (sign * constant - (0 if side else 1), sign * terms.get(0, 0), sign * terms.get(1, 0))
-            yield widths, sizes, cuts + [line], by_defs
+            plane = (sign * constant - (0 if side else 1), *(sign * terms.get(axis, 0) for axis in axes))
+            yield sides, cuts + [plane], by_defs
         else:
-            yield widths, sizes, cuts, True
+            yield sides, cuts, True
 
 
 def past_derivation(lines, at):
@@ -201,10 +236,10 @@ def past_derivation(lines, at):
 
 def proof_of(lines, job):
     """The parts of the range that a certificate closes. Its derivations are passed over: vizlog check judges them."""
-    proof, at, waiting = Proof([], 0, 0, []), 2, [(Fork(), (job.widths, job.sizes, [], False))]
+    proof, at, waiting = Proof([], 0, 0, 0, []), 2, [(Fork(), (job.sides(), [], False))]
     try:
         while waiting:
-            above, (widths, sizes, cuts, by_defs) = waiting.pop()
+            above, (sides, cuts, by_defs) = waiting.pop()
             node = Fork()
             above.below.append(len(proof.nodes))
             proof.nodes.append(node)
@@ -213,11 +248,15 @@ def proof_of(lines, job):
                 proof.defs += 1
                 row, _, by = line[4:].rpartition(" by ")
                 node.row, node.by = row_of(row), int(by)
-                waiting.append((node, (widths, sizes, cuts, by_defs)))
+                waiting.append((node, (sides, cuts, by_defs)))
+            elif line.startswith("lemma ") and lines[0] == HEADS[1]:
+                proof.lemmas += 1
+                at = past_derivation(lines, at)
+                waiting.append((node, (sides, cuts, by_defs)))
             elif line.startswith("split "):
                 proof.splits += 1
                 node.row = row_of(line[6:])
-                waiting.extend((node, it) for it in reversed(list(halves(node.row, widths, sizes, cuts, by_defs))))
+                waiting.extend((node, it) for it in reversed(list(halves(node.row, sides, cuts, by_defs))))
             elif line in ("grid", "void", "leaf"):
                 if line == "void":
                     at = past_derivation(lines, at)
@@ -227,7 +266,7 @@ def proof_of(lines, job):
                     at = past_derivation(lines, at + 1)
                 at += line == "leaf"
                 node.region = len(proof.regions)
-                proof.regions.append(Region(line, widths, sizes, cuts, by_defs))
+                proof.regions.append(Region(line, sides, cuts, by_defs))
             else:
                 raise NoAnswer(f"line {at} of the certificate is no node: {line[:60]}")
     except (IndexError, ValueError):
@@ -244,18 +283,18 @@ def answer_of(text, job):
         lines.pop()
     if not lines:
         return Rendering([])
-    if lines[0] == "vizlog-cert 1" and len(lines) > 1 and re.fullmatch("job [0-9a-f]{64}", lines[1]):
+    if lines[0] in HEADS and len(lines) > 1 and re.fullmatch("job [0-9a-f]{64}", lines[1]):
         if lines[1][4:] != job.digest:
             raise NoAnswer("the certificate is for another job")
         return proof_of(lines, job)
-    found = re.fullmatch(r"undecided (\d+) (\d+) (\d+) (\d+)", lines[0], re.A)
-    if found and len(lines) == 1:
-        ends = [int(it) for it in found.groups()]
-        return Open(tuple(ends[:2]), tuple(ends[2:]))
-    found = re.fullmatch(r"violated (\d+) (\d+)", lines[0], re.A)
-    if found:
+    axes = len(job.sides())
+    if len(lines) == 1 and re.fullmatch(rf"undecided(?: \d+){{{2 * axes}}}", lines[0], re.A):
+        ends = [int(it) for it in lines[0].split(" ")[1:]]
+        return Open(tuple((ends[at], ends[at + 1]) for at in range(0, len(ends), 2)))
+    if re.fullmatch(rf"violated(?: \d+){{{axes}}}", lines[0], re.A):
+        world = tuple(int(it) for it in lines[0].split(" ")[1:])
         blamed = [int(it[6:]) for it in lines if re.fullmatch(r"blame \d+", it, re.A)]
-        answer = Rendering([box_of(it) for it in lines[1 + len(blamed):]], (int(found[1]), int(found[2])), blamed, True)
+        answer = Rendering([box_of(it) for it in lines[1 + len(blamed):]], world, blamed, True)
     elif lines[0].split(" ")[0] in KINDS:
         answer = Rendering([box_of(it) for it in lines])
     else:

@@ -4,12 +4,15 @@
     tools/cases.py FOLDER
 
 FOLDER has files of JSON Lines, each named after a call: decimals, tokens, sheets, declarations, selectors, matches, values, cascade,
-formulas and truths; in jobs/ and certs/ jobs and certificates with what the program replies; refusals.jsonl, jobs that are refused;
-grammar.jsonl, texts with the place up to which some certificate's text begins so, or null where they are a certificate's; and runs15.jsonl,
-whole runs over files and an output in memory, of which chosen loads and writes fail: texts by name, then runs, whose files are so many bytes
-of these texts. Long cases come behind these, the cases of layout that tools/layout_cases.py reads, those of tools/limit_cases.py and the
-documents of tools/worked_pages.py. What is called goes to a crate's stdin and what it must give to its stdout, a line of JSON each: what is
-replied to whole jobs (lay, check, prove, gen and trial) and whole runs (run) to crates/job_cases, what is of layout, rows and derivations to
+formulas and truths; in jobs/ and certs/ jobs and certificates with what the program replies, in jobs16/ both for jobs with a range of
+heights, in certs17/ certificates with lemmas, and in jobs19/ both for pages with generated content; refusals.jsonl and refusals16.jsonl,
+jobs that are refused; grammar.jsonl and grammar17.jsonl, texts with the place up to which some certificate's text begins so, or null where
+they are a certificate's; runs15.jsonl and runs17.jsonl, whole runs over files and an output in memory, of which chosen loads and writes
+fail: texts by name, then runs, whose files are so many bytes of these texts; and media.jsonl and pseudo.jsonl, of media lists and of
+generated content, whose lines have a `call`. later17.jsonl and later.jsonl have what has become of lines of these files. Long cases come
+behind these, the cases of layout that tools/layout_cases.py reads, those of tools/limit_cases.py and the documents of
+tools/worked_pages.py. What is called goes to a crate's stdin and what it must give to its stdout, a line of JSON each: what is replied to
+whole jobs (lay, check, prove, gen and trial) and whole runs (run) to crates/job_cases, what is of layout, rows and derivations to
 crates/layout_cases, all else to crates/cases. A page goes as a job that has it; a formula as steps, each part before what it is a part of.
 """
 import hashlib
@@ -24,10 +27,26 @@ import limit_cases  # noqa: E402
 import worked_pages  # noqa: E402
 
 TOP = pathlib.Path(__file__).resolve().parent.parent
+LATER = ("later17.jsonl", "later.jsonl")
+# members of a case that tell what is called, and not what it must give
+GIVEN = ("pieces", "w", "s", "text", "name", "value", "page", "css")
 
 
 def compact(value):
     return json.dumps(value, ensure_ascii=False, separators=(",", ":"))
+
+
+def lines(folder, name):
+    """The cases of a file, those of lines that have changed as they are by now."""
+    def read(file):
+        return [json.loads(line) for line in (folder / file).read_text(encoding="utf-8").split("\n") if line]
+    found = read(name)
+    for later in LATER:
+        for change in read(later):
+            if change["file"] == name:
+                given = {member: found[change["line"]][member] for member in GIVEN if member in found[change["line"]]}
+                found[change["line"]] = {**given, **change["now"]}
+    return found
 
 
 # ---- pages
@@ -193,7 +212,7 @@ def tokens(case):
 
 
 def sheets(case):
-    return [case["text"]], fault(case) if "fault" in case else [rule["selector"] + [rule["decls"]] for rule in case["sheet"]]
+    return [case["text"]], fault(case) if "fault" in case else [rule["selector"] + [rule["decls"], rule.get("media")] for rule in case["sheet"]]
 
 
 def declarations(case):
@@ -203,8 +222,9 @@ def declarations(case):
 def selectors(case):
     if "fault" in case:
         return [case["text"]], fault(case)
-    group = [[[[join, one["tag"], one["tests"]] for join, one in selector], spec] for selector, spec in zip(case["group"], case["spec"])]
-    return [case["text"]], group
+    pseudo = case.get("pseudo") or [None] * len(case["group"])
+    parts = [[[join, one["tag"], one["tests"]] for join, one in selector] for selector in case["group"]]
+    return [case["text"]], [list(one) for one in zip(parts, case["spec"], pseudo)]
 
 
 def matches(case):
@@ -226,6 +246,80 @@ def cascade(case):
     if "fault" in case:
         return given, fault(case)
     return given, [[node, prop, without_keyword(value)] for node, prop, value in case["winners"]]
+
+
+def read_sheet(case):
+    return "sheets", *sheets(case)
+
+
+def features(case):
+    return "features", [case["css"]], fault(case) if "fault" in case else case["features"]
+
+
+def signs(case):
+    return "signs", [case["features"], case["worlds"]], case["signs"]
+
+
+def parts(case):
+    return "parts", [case["features"], case["widths"], case["sizes"]], fault(case) if "fault" in case else case["parts"]
+
+
+def chosen(case):
+    return "chosen", [case["css"], case["features"], case["signs"]], case["chosen"]
+
+
+def guard(case):
+    page = job_of({"tag": "html"})
+    return "guard", [page, case["features"], case["signs"], steps_of(case["formula"]), case["height"], case["worlds"]], case["truth"]
+
+
+def read_selector(case):
+    return "selectors", *selectors(case)
+
+
+def read_declaration(case):
+    return "values", *values(case)
+
+
+def one_cascade(case):
+    return "cascade", *cascade(case)
+
+
+def cascade_pseudo(case):
+    (page, css), answer = cascade(case)
+    return "cascade_pseudo", [page, css, case["which"]], answer
+
+
+def grow(case):
+    given = [job_of(case["page"]), case["css"]]
+    if "fault" in case:
+        return "grow", given, fault(case)
+    return "grow", given, [case["nodes"], [[node, prop, without_keyword(value)] for node, prop, value in case["winners"]]]
+
+
+def grown_boxes(case):
+    given, answer = layout_cases.boxes({**case, "fonts": ["Square"]})
+    return "boxes", given, answer
+
+
+# what is called of media lists and width queries, and of generated content
+MEDIA = {"read_sheet": read_sheet, "features": features, "signs": signs, "parts": parts, "chosen": chosen, "guard": guard}
+PSEUDO = {"read_selector": read_selector, "read_declaration": read_declaration, "cascade": one_cascade, "cascade_pseudo": cascade_pseudo,
+          "grow": grow, "boxes": grown_boxes}
+
+
+# what is called of width queries alone: no crate has it
+UNANSWERED = ("features", "signs", "parts", "chosen", "guard")
+WIDTH_QUERY = re.compile(r"@media[^{;]*\(")
+
+
+def later_calls(folder):
+    """What is called of media lists and of generated content, but on pages that ask for a width, which every job is refused for."""
+    for name, table in (("media.jsonl", MEDIA), ("pseudo.jsonl", PSEUDO)):
+        for case in lines(folder, name):
+            if case["call"] not in UNANSWERED and not WIDTH_QUERY.search("\n".join(case.get("css", ()))):
+                call, arguments, answer = table[case["call"]](case)
+                yield [call, *arguments], answer
 
 
 def steps_in(formula):
@@ -262,41 +356,72 @@ def replies(path):
             yield words.split(), [ANSWERS[status], output]
 
 
+def asked(path, job, words, reply):
+    """What is asked of a job by words of a file of outputs, and what is replied. A certificate that is found is free: it is checked."""
+    verb, *given = words
+    if verb == "check":
+        return ["check", job, path.with_name(f"{path.stem}-{given[0]}.cert").read_text(encoding="utf-8")], reply
+    if verb == "prove":
+        return ["prove", job, int(given[0])], limit_cases.ACCEPTED if reply[0] == "Done" else reply
+    return ["lay", job, *map(int, given)], reply
+
+
+def of_job(path):
+    """What is asked of the job in a file."""
+    job = path.read_text(encoding="utf-8")
+    for words, reply in replies(path.with_suffix(".out")):
+        yield asked(path, job, words, reply)
+
+
+def in_folders(folder, names):
+    """Jobs with what is asked of them, and certificates of files more.jsonl."""
+    for name in names:
+        for path in sorted((folder / name).glob("*.json")):
+            yield from of_job(path)
+        if (folder / name / "more.jsonl").exists():
+            for case in lines(folder, f"{name}/more.jsonl"):
+                job = (folder / name / f"{case['job']}.json").read_text(encoding="utf-8")
+                yield ["check", job, case["text"]], [ANSWERS[str(case["status"])], case["line"] + "\n"]
+
+
 def jobs(folder):
     """Jobs laid out at two or three worlds each, and some that are refused."""
-    for path in sorted((folder / "jobs").glob("*.json")):
-        text = path.read_text(encoding="utf-8")
-        for (_, width, size), reply in replies(path.with_suffix(".out")):
-            yield ["lay", text, int(width), int(size)], reply
+    return in_folders(folder, ("jobs",))
 
 
 def refusals(folder):
     """Jobs that are refused, but those of over 100,000 characters and those that are no text."""
-    for line in (folder / "refusals.jsonl").read_text(encoding="utf-8").split("\n"):
-        case = json.loads(line) if line else {"pieces": []}
+    for case in lines(folder, "refusals.jsonl") + lines(folder, "refusals16.jsonl"):
         size = sum(len(piece) * times for _, piece, times in case["pieces"])
         if "line" in case and size < 100000 and all(kind == "text" for kind, _, _ in case["pieces"]):
             text = "".join(piece * times for _, piece, times in case["pieces"])
-            yield ["lay", text, case["w"], case["s"]], ["JobRefused", case["line"] + "\n"]
+            height = [] if case.get("h") is None else [case["h"]]
+            yield ["lay", text, case["w"], case["s"], *height], ["JobRefused", case["line"] + "\n"]
 
 
 def certificates(folder):
-    """Each certificate with its job and what is replied: those of files of their own, and those of more.jsonl."""
-    for path in sorted((folder / "certs").glob("*.json")):
-        job = path.read_text(encoding="utf-8")
-        for (_, number), reply in replies(path.with_suffix(".out")):
-            yield ["check", job, (folder / f"certs/{path.stem}-{number}.cert").read_text(encoding="utf-8")], reply
-    for line in filter(None, (folder / "certs/more.jsonl").read_text(encoding="utf-8").split("\n")):
-        case = json.loads(line)
-        job = (folder / f"certs/{case['job']}.json").read_text(encoding="utf-8")
-        yield ["check", job, case["text"]], [ANSWERS[str(case["status"])], case["line"] + "\n"]
+    """Each certificate with its job and what is replied, jobs with a range of heights with all that is asked of them among them."""
+    return in_folders(folder, ("certs", "jobs16", "certs17"))
+
+
+def generated(folder):
+    """What is asked of jobs with generated content, but of those that ask for a width. Which false world is found may be free."""
+    for path in sorted((folder / "jobs19").glob("*.json")):
+        if not WIDTH_QUERY.search(path.read_text(encoding="utf-8")):
+            yield from ((called, reply) for called, reply in of_job(path) if called[0] != "prove" or reply[1])
+
+
+def proofs(folder):
+    """Searches of jobs with a range of heights whose answer is forced: they hold, or are false at one world."""
+    for case in lines(folder, "jobs16/prove.jsonl"):
+        if case["status"] == 0:
+            yield ["prove", (folder / f"jobs16/{case['job']}.json").read_text(encoding="utf-8"), int(case["turns"])], limit_cases.ACCEPTED
 
 
 def grammar(folder):
     """Texts of certificates, all for some other job, and texts that are no certificate's."""
     job = (folder / "jobs/0001.json").read_text(encoding="utf-8")
-    for line in filter(None, (folder / "grammar.jsonl").read_text(encoding="utf-8").split("\n")):
-        case = json.loads(line)
+    for case in lines(folder, "grammar.jsonl") + lines(folder, "grammar17.jsonl"):
         yield ["check", job, case["text"]], ["CertRefused", "rejected " + ("other-job" if case["at"] is None else f"grammar {case['at']}") + "\n"]
 
 
@@ -312,14 +437,14 @@ def run(words, files, status, written, fails=(), sink=None):
 
 def runs(folder):
     """Runs over files and outputs that are whole, that are cut at each byte, or of which chosen loads and writes fail."""
-    texts = {}
-    for line in filter(None, (folder / "runs15.jsonl").read_text(encoding="utf-8").split("\n")):
-        case = json.loads(line)
-        if "base" in case:
-            texts[case["base"]] = case["text"].encode()
-        else:
-            files = {name: texts[base][:size].decode() for name, (base, size) in case["files"].items()}
-            yield run(case["words"], files, case["status"], case["written"], case["fails"], case["sink"])
+    for name in ("runs15.jsonl", "runs17.jsonl"):
+        texts = {}
+        for case in lines(folder, name):
+            if "base" in case:
+                texts[case["base"]] = case["text"].encode()
+            else:
+                files = {name: texts[base][:size].decode() for name, (base, size) in case["files"].items()}
+                yield run(case["words"], files, case["status"], case["written"], case["fails"], case["sink"])
 
 
 def stopped_search():
@@ -335,10 +460,10 @@ def long_cases():
     """What is called and what it must give, past the places and counts at which a narrow number would end."""
     yield ["tokens", "a" * 70000], [["Ident", 0, 70000, "a" * 70000]]
     rules = 8192
-    yield ["sheets", "p{}" * rules], [[3 * at, 1, []] for at in range(rules)]
+    yield ["sheets", "p{}" * rules], [[3 * at, 1, [], None] for at in range(rules)]
     yield ["sheets", "p{}" * (rules + 1)], "TooManyRules"
     yield ["declarations", "/*" + "x" * 70000 + "*/a:b"], [["a", 70006, 1, False]]
-    yield ["selectors", "p" + ".a" * 300], [[[["First", "p", [["Class", "a"]] * 300]], [0, 0, 300, 1]]]
+    yield ["selectors", "p" + ".a" * 300], [[[["First", "p", [["Class", "a"]] * 300]], [0, 0, 300, 1], None]]
     yield ["selectors", "a" * 70000 + "&"], "Bad 70000"
     paragraph = {"tag": "p", "attrs": {"class": "a"}}
     page = job_of({"tag": "html", "children": [{"tag": "body", "children": [paragraph] * 1000}]})
@@ -361,7 +486,7 @@ TABLES = {
     "job_cases": ("lay", "check", "prove", "gen", "trial", "run"),
     "layout_cases": (
         "boxes", "used", "fonts", "words", "widths", "preferred", "lines", "lead", "float_at", "floats", "band", "bottom", "collapsed",
-        "add_scaled", "negate", "divides", "cut", "derivation", "leaf",
+        "add_scaled", "negate", "divides", "cut", "derivation", "entails", "leaf",
     ),
 }
 
@@ -369,13 +494,13 @@ TABLES = {
 def calls(folder):
     """What is called of one part of the program, and what it must give."""
     for call in CALLS:
-        for line in filter(None, (folder / f"{call.__name__}.jsonl").read_text(encoding="utf-8").split("\n")):
-            arguments, answer = call(json.loads(line))
+        for case in lines(folder, f"{call.__name__}.jsonl"):
+            arguments, answer = call(case)
             yield [call.__name__] + arguments, answer
 
 
 def all_cases(folder):
-    for part in (calls, jobs, refusals, certificates, grammar):
+    for part in (calls, later_calls, jobs, refusals, certificates, generated, proofs, grammar):
         yield from part(folder)
     yield from long_cases()
     for module in (layout_cases, limit_cases):

@@ -9,7 +9,7 @@ from dataclasses import dataclass
 SPACE = " \t\r\n\f"
 ESCAPE = r"\\[0-9a-fA-F]{1,6}[ \t\r\n\f]?|\\[^\r\n\f0-9a-fA-F]"
 NAME = rf"-?(?:[_a-zA-Z\u00a0-\U0010ffff]|{ESCAPE})(?:[-_a-zA-Z0-9\u00a0-\U0010ffff]|{ESCAPE})*"
-TOKEN = re.compile(rf"""(?P<comment>/\*.*?\*/)|(?P<space>[ \t\r\n\f]+)|(?P<mark>[>+,*])|\#(?P<id>{NAME})|\.(?P<kind>{NAME})|:(?P<pseudo>{NAME})
+TOKEN = re.compile(rf"""(?P<comment>/\*.*?\*/)|(?P<space>[ \t\r\n\f]+)|(?P<mark>[>+,*])|\#(?P<id>{NAME})|\.(?P<kind>{NAME})|(?P<colons>::?)(?:/\*.*?\*/)*(?P<pseudo>{NAME})
     |\[\s*(?P<attr>{NAME})\s*(?:(?P<sign>[~|]?=)\s*(?:(?P<word>{NAME})|"(?P<double>[^"]*)"|'(?P<single>[^']*)')\s*)?\]|(?P<type>{NAME})""",
                    re.X | re.S)
 NOTHING = ("visited", "hover", "active", "focus")
@@ -21,9 +21,12 @@ class BadSelector(Exception):
 
 @dataclass
 class Step:
-    """A simple selector and how the one before it stands to it: descendant (a space), child (>), or sibling (+)."""
+    """A simple selector, how the one before it stands to it: descendant (a space), child (>), or sibling (+), what it counts for (ids,
+    attributes with classes, types), and the pseudo-element at its end."""
     sign: str
     tests: list
+    counts: tuple = (0, 0, 0)
+    made: str | None = None
 
 
 @dataclass
@@ -41,7 +44,9 @@ class Place:
 def unescaped(text):
     def char(found):
         code = found[1]
-        return chr(int(code, 16)) if code and int(code, 16) < 0x110000 else found[0][1:]
+        if not code:
+            return found[0][1:]
+        return chr(int(code, 16)) if 0 < int(code, 16) < 0x110000 and not 0xd800 <= int(code, 16) < 0xe000 else "\ufffd"
     return re.sub(r"\\(?:([0-9a-fA-F]{1,6})[ \t\r\n\f]?|.)", char, text, flags=re.S)
 
 
@@ -90,8 +95,25 @@ def test_of(found):
     return lambda place: place.element["tag"].lower() == tag
 
 
-def group_of(text):
-    """A group of selectors, each a list of steps from the left to the right."""
+def counted(step, found):
+    """What a simple selector counts for with one more part."""
+    at = 0 if found["id"] else 2 if found["type"] or made_of(found) else 1
+    return step.counts if found["mark"] else tuple(count + (place == at) for place, count in enumerate(step.counts))
+
+
+def weight(steps):
+    """A selector's specificity: its ids, its attributes with classes and pseudo-classes, its types with pseudo-elements."""
+    return tuple(map(sum, zip(*(it.counts for it in steps))))
+
+
+def made_of(found):
+    """The pseudo-element with generated content that a token is."""
+    name = found["pseudo"] and unescaped(found["pseudo"]).lower()
+    return name if name in ("before", "after") else None
+
+
+def group_of(text, is_of_sheet=False):
+    """A group of selectors, each a list of steps from the left to the right. Only in a sheet may one end with a pseudo-element."""
     group, steps, sign, at, spaced = [], [], None, 0, False
     text = text.strip(SPACE)
     while at < len(text):
@@ -117,7 +139,13 @@ def group_of(text):
             elif found["mark"] or found["type"]:
                 raise BadSelector("a type behind another part of its selector")
             sign, spaced = None, False
-            steps[-1].tests.append((lambda place: True) if found["mark"] else test_of(found))
+            if any(it.made for it in steps) or (found["colons"] == "::" and not made_of(found)) or (made_of(found) and not is_of_sheet):
+                raise BadSelector("a pseudo-element that can't stand there")
+            steps[-1].counts = counted(steps[-1], found)
+            if made_of(found):
+                steps[-1].made = made_of(found)
+            else:
+                steps[-1].tests.append((lambda place: True) if found["mark"] else test_of(found))
     if not steps or sign:
         raise BadSelector("a selector is missing")
     return group + [steps]

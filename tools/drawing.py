@@ -38,6 +38,10 @@ class Panel:
     words: dict = field(default_factory=dict)
     images: list = field(default_factory=list)
 
+    def high(self):
+        """The viewport's height in px."""
+        return self.job.height_at(self.world)
+
 
 @dataclass
 class Window:
@@ -72,7 +76,7 @@ def whole(panels):
 def window_of(panels, is_whole):
     """What is drawn: a long page is cut to what lies about its marked boxes."""
     left, top, right, bottom = whole(panels)
-    high = panels[0].job.height * answers.UNITS
+    high = panels[0].high() * answers.UNITS
     most = round(1.6 * high)
     if bottom - top > most and not is_whole:
         edges = [it.at if it.axis == 0 else end for panel in panels for it in panel.measures for end in (it.begin, it.end)]
@@ -203,7 +207,7 @@ def measures(panel, window, wide):
 # ---- the whole drawing
 
 def svg(panel, window):
-    width, height = panel.world[0] * answers.UNITS, panel.job.height * answers.UNITS
+    width, height = panel.world[0] * answers.UNITS, panel.high() * answers.UNITS
     own = Window(window.left, window.top, max(width, *(it.border[2] for it in panel.boxes), 0) if panel.boxes else width,
                  min(window.bottom, max([it.border[3] for it in panel.boxes] + [0])), window.scale)
     size = (window.x(own.right) + 18, window.y(own.bottom) + 14)
@@ -224,7 +228,7 @@ def svg(panel, window):
     fold = window.y(height)
     if height < own.bottom and height > window.top:
         shapes.append(f'<path d="M{screen[0]:.1f} {fold:.1f}h{screen[2]:.1f}" stroke="#555" stroke-dasharray="8 5"><title>the lower edge of '
-                      f"the screen, {panel.job.height} px, before anyone scrolls</title></path>")
+                      f"the screen, {panel.high()} px, before anyone scrolls</title></path>")
     sides = "".join(f"M{window.x(it):.1f} {window.y(own.top):.1f}V{window.y(own.bottom):.1f}" for it in (0, width))
     shapes.append(f'<path d="{sides}" stroke="#555" stroke-width="1.5" stroke-dasharray="8 5"/>')
     return (f'<svg xmlns="http://www.w3.org/2000/svg" width="{size[0]:.0f}" height="{size[1]:.0f}" font-family="system-ui,sans-serif">'
@@ -258,4 +262,4 @@ def key(panels, window):
         shown += f'<span><i style="background:{BLAME};opacity:.55"></i>breaks the rule</span>'
     return (f"<p class=key>{shown}</p>"
             f"<p class=small>Drawn {size}; rulers in px. Dashed upright lines: the sides of the screen; dashed across: its lower edge, "
-            f"{panels[0].job.height} px.{cut} Point at a box for its name and edges.</p>")
+            f"{panels[0].high()} px.{cut} Point at a box for its name and edges.</p>")

@@ -7,15 +7,16 @@ import answers
 
 SIDES = ("left", "top", "right", "bottom")
 KINDS = ("block", "float", "atomic", "replaced", "inline")
-# parts of the range at which a job is compared: of its widths, and of its sizes
-PLACES = ((11 / 25, 1 / 3), (0, 0), (1 / 40, 1 / 3), (1 / 5, 2 / 3), (1, 1))
+# parts of the range at which a job is compared: of its widths, of its sizes, and of its heights
+PLACES = ((11 / 25, 1 / 3, 3 / 5), (0, 0, 0), (1 / 40, 1 / 3, 1), (1 / 5, 2 / 3, 1 / 5), (1, 1, 1))
 
 
-def worlds(widths, sizes):
-    """Five worlds of a range, fewer where they fall together: (1024, 16), (320, 12), (360, 16), (640, 20) and (1920, 24) of the usual one."""
+def worlds(*sides):
+    """Five worlds of a range by its sides, fewer where they fall together: (1024, 16), (320, 12), (360, 16), (640, 20) and (1920, 24) of the
+    usual one."""
     found = []
-    for across, up in PLACES:
-        world = tuple(low + round((high - low) * part) for (low, high), part in ((widths, across), (sizes, up)))
+    for parts in PLACES:
+        world = tuple(low + round((high - low) * part) for (low, high), part in zip(sides, parts))
         if world not in found:
             found.append(world)
     return found
@@ -108,7 +109,7 @@ def parents(page):
 
 def explained(job, causes):
     """For each node what is most likely to make it differ: what is known of it, of what is around it, or of what is in it."""
-    above = parents(job.page)
+    above = parents(job.full)
     own = [list(it) for it in causes]
     inside = [None] * len(own)
     for number in range(len(own) - 1, -1, -1):
@@ -130,10 +131,14 @@ def told_after(differ):
         last = it.cause if it.cause != "nothing known" else last
 
 
+def world_words(world):
+    return " and ".join(f"{it} px" for it in world[:2]) + "".join(f" at {it} px high" for it in world[2:])
+
+
 def lines(found, over):
     """What was found at the worlds, in lines."""
     worst = max(found, key=lambda it: (len(it.differ) > 0, max((one.most() for one in it.differ), default=0), it.greatest))
-    at = ", ".join(f"{it.world[0]} px and {it.world[1]} px" for it in found)
+    at = ", ".join(world_words(it.world) for it in found)
     differing = {one.node for it in found for one in it.differ}
     compared = max(it.boxes for it in found)
     if not differing:
@@ -148,7 +153,7 @@ def lines(found, over):
     told = ", ".join(f"{cause} ({len(nodes)})" for cause, nodes in sorted(causes.items(), key=lambda it: -len(it[1]))[:5])
     across = max((abs(one.apart[at]) for it in found for one in it.differ if one.apart for at in (0, 2)), default=0)
     made = [f"The browser lays {len(differing)} of {compared} boxes elsewhere, by up to {most:.1f} px (across by {across:.1f} px), at "
-            f"{worst.world[0]} px and {worst.world[1]} px; most for: {told}"]
+            f"{world_words(worst.world)}; most for: {told}"]
     if lost:
         made.append(f"  {lost} boxes are here alone or in the browser alone")
     for it in found:
@@ -157,20 +162,20 @@ def lines(found, over):
         if first:
             apart = f", first node {first.node} {first.name}" + (": " + ", ".join(
                 f"{side} by {by:+.1f}" for side, by in zip(SIDES, first.apart) if abs(by) > over) if first.apart else ": a box on one side alone")
-        made.append(f"  {it.world[0]}:{it.world[1]}: {len(it.differ)} of {it.boxes}, the greatest difference is {it.greatest:.2f} px{apart}")
+        made.append(f"  {':'.join(map(str, it.world))}: {len(it.differ)} of {it.boxes}, the greatest difference is {it.greatest:.2f} px{apart}")
     return made
 
 
 def tried(program, name, text, exported, over=1):
     """Compares a job with its page at the worlds at which the page was looked at."""
     job = answers.job_of(text)
-    real = [it["real"] for it in exported["nodes"]]
-    causes = [it["causes"] for it in exported["nodes"]]
-    if len(real) != len(job.nodes):
+    if len(exported["nodes"]) != len(job.written):
         raise answers.NoAnswer("the job has other nodes than the page")
+    real = job.by_node([it["real"] for it in exported["nodes"]], False)
+    causes = job.by_node([it["causes"] for it in exported["nodes"]], [])
     found = []
     for world, theirs in zip(exported["worlds"], exported["rectangles"]):
-        one = compare(job, laid_out(program, name, world, job), theirs, real, causes, over)
+        one = compare(job, laid_out(program, name, world, job), job.by_node(theirs, None), real, causes, over)
         one.world = tuple(world)
         found.append(one)
     return found

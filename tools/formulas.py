@@ -244,14 +244,14 @@ class Scene:
             elif name in KINDS:
                 found = [at for at, box in enumerate(self.boxes) if box.kind == name]
             else:
-                nodes = css_match.nodes_met(self.job.page, name[1:-1])
+                nodes = {self.job.written[it] for it in css_match.nodes_met(self.job.page, name[1:-1])}
                 found = [at for at, box in enumerate(self.boxes) if box.node in nodes and box.kind not in ("anon", "text", "line")]
             self.sets[name] = list(found)
         return self.sets[name]
 
     def value(self, edge, names):
         if edge.name == "view":
-            return answers.UNITS * (self.world[0] if edge.side == "width" else self.job.height)
+            return answers.UNITS * (self.world[0] if edge.side == "width" else self.job.height_at(self.world))
         return getattr(self.boxes[names[edge.name]], edge.ring)[SIDES.index(edge.side)]
 
     def sum(self, term, names):

@@ -60,7 +60,7 @@ def judged(job, answer, elsewhere):
 
 def words_of(job, name, answer, page, path):
     """Lays the page out in the browser at the size of a violation, and says whether it shows it; None where that can't be told."""
-    words = [str(TOP / "tools/against_chromium"), str(name), "--page", page, "--worlds", f"{answer.world[0]}:{answer.world[1]}", "--over", "1",
+    words = [str(TOP / "tools/against_chromium"), str(name), "--page", page, "--worlds", ":".join(map(str, answer.world)), "--over", "1",
              "--program", path]
     run = subprocess.run(words, stdin=subprocess.DEVNULL, capture_output=True, text=True)
     lines = run.stdout.splitlines()

@@ -3,7 +3,7 @@
 The folder has files of JSON Lines: functions.jsonl, whose lines have a `call` (float_at, band, bottom, collapsed; used, fonts, widths,
 preferred and lead, which have a box tree, its height and a world; and others, which are left out), boxes.jsonl, whose lines have a page,
 style sheets, the names of fonts and a box tree or a fault, rows.jsonl, whose lines have a call too (add_scaled, negate, divides, cut), and
-derivations.jsonl; and trees.jsonl, whose lines have a box tree and its renderings at some worlds. A row goes as its constant and its terms, numbers of more than 64 bits as texts; a derivation as a list of parts, each its
+derivations.jsonl and entails.jsonl; and trees.jsonl, whose lines have a box tree and its renderings at some worlds. A row goes as its constant and its terms, numbers of more than 64 bits as texts; a derivation as a list of parts, each its
 steps and its end, which is null or a row: its two cases are the two latest parts that are not part of another. A box tree goes as a job
 whose page has it, and before what is called on it a line says so; trees that no document has are left out, and told with their number.
 A rendering goes as what is printed of it.
@@ -146,6 +146,11 @@ def derivation(case):
     return [[row(fact) for fact in case["facts"]], case["vars"], parts_of(case["derivation"].split("\n"))], [case["refutes"], case["first_fault"]]
 
 
+def entails(case):
+    answer = case.get("fault") or [case["entails"], case["first_fault"]]
+    return [[row(fact) for fact in case["facts"]], case["vars"], parts_of(case["derivation"].split("\n")), row(case["row"])], answer
+
+
 CALLS = {call.__name__: call for call in (float_at, band, bottom, collapsed, add_scaled, negate, divides, cut)}
 
 
@@ -154,9 +159,9 @@ def lines(folder, name):
 
 
 def cases(folder):
-    for name in ("functions", "rows", "derivations", "boxes"):
+    for name in ("functions", "rows", "derivations", "entails", "boxes"):
         for case in lines(folder, name):
-            call = CALLS.get(case["call"]) if "call" in case else {"derivations": derivation, "boxes": boxes}[name]
+            call = CALLS.get(case["call"]) if "call" in case else {"derivations": derivation, "entails": entails, "boxes": boxes}[name]
             if call is not None:
                 arguments, answer = call(case)
                 yield [call.__name__] + arguments, answer

@@ -150,8 +150,8 @@ def of_tree(value):
     return f"(ok : TreeKeeps page) → {value}"
 
 
-def world(case):
-    return f"(record {{ w = {case['w']}; s = {case['s']} }})"
+def world(case, height=None):
+    return f"(record {{ w = {case['w']}; s = {case['s']}; h = {case['height'] if height is None else height} }})"
 
 
 def law(term, value):
@@ -176,7 +176,7 @@ TERMS = ("margin_left", "border_left", "padding_left", "content", "padding_right
 
 def width_laws(case):
     for at, around, values in case["cases"]:
-        yield law(f"widths (tree page ok) {world(case)} {case['height']} {at} {number(around)}", record(dict(zip(TERMS, map(number, values)))))
+        yield law(f"widths (tree page ok) {world(case)} {at} {number(around)}", record(dict(zip(TERMS, map(number, values)))))
 
 
 def preferred_laws(case):
@@ -238,7 +238,7 @@ def lead_laws(case):
 
 
 def resolve_laws(case):
-    page = f"(tree page ok) {world(case)} {case['height']}"
+    page = f"(tree page ok) {world(case)}"
     edge = f"(λ more. {number(case['e'])} +ℤ collapsed ({numbers(case['run'])} ++ more))"
     cleared = "None" if case["cleared"] is None else f"(Some ({case['cleared']}, {number(case['edge'])}))"
     yield law(f"resolve (tree page ok) {world(case)} (waiting_size {page} (flow {page})) {edge} ({band(case['cb'])}) {floats(case['floats'])} {perhaps(case['least'], number)} {case['b']} none_passed",
@@ -252,7 +252,7 @@ def placed(given):
 
 def render_laws(case):
     for at in case["worlds"]:
-        yield law(f"page_rendering (tree page ok) {world(at)} {case['height']}", record({"boxes": sequence(map(placed, at["boxes"]))}))
+        yield law(f"page_rendering (tree page ok) {world(at, case['height'])}", record({"boxes": sequence(map(placed, at["boxes"]))}))
 # ---- box trees of pages
 
 

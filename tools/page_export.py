@@ -1,7 +1,9 @@
 """Drives the browser from a page to its job: the scripts of tools/page, run one after the other at several worlds. Not proved."""
+import itertools
 import json
 import pathlib
 
+import answers
 import fidelity
 
 FOLDER = pathlib.Path(__file__).resolve().parent / "page"
@@ -27,14 +29,25 @@ def call(browser, *words):
     return found
 
 
+def options_of(job):
+    """What is asked for so that a page's job has the range of another."""
+    told = {name: list(side) for name, side in zip(answers.AXES, job.sides())}
+    return {**told, "height": job.heights[0], "assert": job.rule}
+
+
+def sides_of(options):
+    """The sides of the range that is asked for: widths, sizes, and heights where there are any."""
+    return [options[name] for name in answers.AXES if options.get(name)]
+
+
 def stand(browser, world, height):
-    """Makes the browser's viewport and default font size those of a world."""
-    browser.screen(world[0], height)
+    """Makes the browser's viewport and default font size those of a world, with its own height where it has one."""
+    browser.screen(world[0], world[2] if len(world) > 2 else height)
     browser.call("Page.setFontSizes", fontSizes={"standard": world[1], "fixed": max(1, round(world[1] * 13 / 16))})
 
 
-def corners(widths, sizes):
-    return sorted({(width, size) for width in widths for size in sizes})
+def corners(options):
+    return sorted(set(itertools.product(*sides_of(options))))
 
 
 def selectors(browser, url, options):
@@ -48,8 +61,8 @@ def selectors(browser, url, options):
 
 def export(browser, options, at=None):
     """The job of the page that was begun, with what is told of it and where the browser lays its boxes, at five worlds or those that are told."""
-    at = at or fidelity.worlds(options["widths"], options["sizes"])
-    for world in corners(options["widths"], options["sizes"]):
+    at = at or fidelity.worlds(*sides_of(options))
+    for world in corners(options):
         stand(browser, world, options["height"])
         call(browser, "glance")
     for world in at:

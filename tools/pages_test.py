@@ -12,6 +12,8 @@ import tempfile
 import answers
 import chromium
 import fidelity
+import formulas
+import grown
 import metric_font
 import page_export
 import rule_text
@@ -63,9 +65,9 @@ def certificates():
     job = answers.job_of(text_of("column.json"))
     head = f"vizlog-cert 1\njob {job.digest}\n"
     proof = answers.answer_of(head + "\n".join(CERT) + "\n", job)
-    yield "parts", [(it.kind, it.widths, it.sizes, it.by_defs) for it in proof.regions], [
-        ("grid", (1120, 1920), (12, 24), False), ("leaf", (320, 1119), (12, 24), False), ("void", (320, 1119), (18, 24), False),
-        ("grid", (320, 1119), (12, 17), True), ("grid", (320, 1119), (12, 17), True)]
+    yield "parts", [(it.kind, it.sides, it.by_defs) for it in proof.regions], [
+        ("grid", ((1120, 1920), (12, 24)), False), ("leaf", ((320, 1119), (12, 24)), False), ("void", ((320, 1119), (18, 24)), False),
+        ("grid", ((320, 1119), (12, 17)), True), ("grid", ((320, 1119), (12, 17)), True)]
     yield "splits and floors", (proof.splits, proof.defs), (4, 1)
     yield "regions of worlds", [proof.region_at(it) for it in ((1120, 24), (50, 12), (500, 18), (1119, 12))], [0, 1, 2, 3]
     for end in range(1, len(CERT)):
@@ -76,6 +78,33 @@ def certificates():
     area = sum(abs(sum(a[0] * b[1] - b[0] * a[1] for a, b in zip(points, points[1:] + points[:1]))) / 2
                for points in map(picture.corners, slanted.regions))
     yield "the map covers the range", round(area), job.worlds()
+
+
+def heights():
+    """Jobs with a range of heights, their violations, open parts and certificates, which may have lemmas."""
+    told = {**json.loads(text_of("narrow-screens.json")), "vizlog": 2, "heights": [400, 403]}
+    job = answers.job_of(json.dumps(told))
+    yield "the range", (job.sides(), job.worlds()), (((320, 400), (16, 16), (400, 403)), 324)
+    yield "an open part", answers.answer_of("undecided 320 400 16 16 400 401\n", job).sides, ((320, 400), (16, 16), (400, 401))
+    yield "a part of one height", refused("undecided 320 400 16 16\n", job) is None, False
+    printed = text_of("narrow-screens-prove.run").partition("\n--\n")[2].replace("violated 400 16", "violated 400 16 402")
+    answer = answers.answer_of(printed, job)
+    yield "a violation", (answer.world, job.height_at(answer.world)), ((400, 16, 402), 402)
+    yield "its picture", "400 px wide and 402 px high" in script("picture").page_of(job, answer, "test"), True
+    picture = script("picture")
+    tried = {(320, 16, 402): True, (400, 16, 402): False, (400, 16, 400): True}
+    yield "sizes that were tried", picture.tried_words(job, answer, picture.Beside(tried=tried))[0], (
+        "<h2>Broken at 1 of 2 sizes that were tried at a viewport 402 px high</h2>")
+    lines = ["vizlog-cert 2", f"job {job.digest}", "lemma 0 0:1", "fact 0", "closed", "split 401 2:-1", "grid", "split 722 0:-1 2:-1", "grid", "grid"]
+    proof = answers.answer_of("\n".join(lines) + "\n", job)
+    yield "parts", [it.sides[2] for it in proof.regions], [(400, 401), (402, 403), (402, 403)]
+    yield "lemmas", proof.lemmas, 1
+    yield "regions of worlds", [proof.region_at(it) for it in ((320, 16, 401), (320, 16, 402), (320, 16, 403), (400, 16, 403))], [0, 1, 2, 2]
+    yield "heights of the maps", script("picture").range_map.heights_of(job, proof.regions), [400, 401, 403]
+    yield "a lemma in form 1", refused("\n".join(lines).replace("cert 2", "cert 1"), job) is None, False
+    yield "the map", "At a viewport 403 px high" in script("picture").page_of(job, proof, "test"), True
+    yield "worlds", fidelity.worlds((320, 1920), (12, 24), (400, 900)), [
+        (1024, 16, 700), (320, 12, 400), (360, 16, 900), (640, 20, 500), (1920, 24, 900)]
 
 
 def fonts():
@@ -121,12 +150,44 @@ def comparing():
     yield "worlds", fidelity.worlds((320, 1920), (12, 24)), [(1024, 16), (320, 12), (360, 16), (640, 20), (1920, 24)]
 
 
+def placed(page, css):
+    """The nodes of a page with its generated content: each with its parent and its number as it is written, or what it is."""
+    full, written = grown.grown(page, css)
+    numbers = {place: number for number, place in enumerate(written)}
+    found, waiting = [], [(full, None)]
+    while waiting:
+        node, parent = waiting.pop()
+        number = numbers.get(len(found))
+        told = [] if number is not None else [None, node] if isinstance(node, str) else [node["tag"]]
+        if not isinstance(node, str):
+            waiting.extend((it, len(found)) for it in reversed(node["children"]))
+        found.append([parent, number, *told])
+    return found
+
+
+def generated():
+    """Generated content is found where the outside cases have it."""
+    asked, answered = ((TOP / "crates/cases" / it).read_text(encoding="utf-8").split("\n") for it in ("stdin", "stdout"))
+    for line, answer in zip(asked, answered, strict=True):
+        # the others are refused
+        if line.startswith('["grow"') and answer.startswith("["):
+            _, job, css = json.loads(line)
+            yield str(css), placed(json.loads(job)["page"], css), json.loads(answer)[0]
+    job = answers.job_of(text_of("pages/nav.json"))
+    yield "names", [node.name for node in job.nodes if node.element and node.element["tag"] in grown.MADE], ["ul:after"]
+    yield "numbers", [at for at in range(len(job.nodes)) if at not in job.written], [21]
+    scene = formulas.Scene(job, [answers.Box("block", it, *[(0, 0, 1, 1)] * 4) for it in range(len(job.nodes))], (320, 16))
+    yield "a set", [scene.members(it) for it in ('"main"', '"ul *"')], [[23], [6, 7, 9, 10, 12, 13, 15, 16, 18, 19]]
+
+
 # pages with what is said of them in the profile's own words; at one size no box lies elsewhere
 SAYINGS = {
     "preformatted": ("white-space: pre as", "white-space: pre-line as", "white-space: pre-wrap as"),
     "breaks": ("a line may break within a word",),
     "media": ("@media with a condition, as the browser answers it on this machine, is `all`", "is `not all`"),
-    "generated": (":after as an element", ":before as an element", "display by the browser's computed value"),
+    "generated": ("display: table of generated content without text, which the profile refuses, as block", "content by the text that it comes to",
+                  "no generated content where the browser makes none"),
+    "generated-breaks": (":before as an element", "a line may break within a word"),
     "position": ("position by the browser's computed value",),
     "blocks": ("an inline box that holds blocks",),
     "values": ("padding-top by the browser's computed value", "width by the browser's computed value"),
@@ -236,7 +297,7 @@ def in_a_browser(tests):
 
 def failures():
     """A line for each test that fails. Where no browser is, or VIZLOG_NO_BROWSER is set, none is asked."""
-    for tests in (renderings, certificates, fonts, rules, comparing):
+    for tests in (renderings, certificates, heights, fonts, rules, comparing, generated):
         yield from failed(tests.__name__, tests())
     if chromium.found() and not os.environ.get("VIZLOG_NO_BROWSER"):
         for tests in (browser, sayings, replaced):

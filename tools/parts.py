@@ -1,8 +1,8 @@
 """Cuts a job's range into parts, and puts the parts' certificates together into one for the whole range. Not proved: `check` judges it.
 
-The halves that the range is cut into become splits above the parts' own nodes. A part's job has four facts of its own, the ends of its
-widths and sizes. Below the splits the same four rows are other facts: an end at which no split cut is that of the whole range, any other
-is the fact of the split that made it. All facts behind these four stand so many numbers later as there are splits above.
+The halves that the range is cut into become splits above the parts' own nodes. A part's job has two facts of its own for each side, its
+ends. Below the splits the same rows are other facts: an end at which no split cut is that of the whole range, any other is the fact of the
+split that made it. All facts behind these stand so many numbers later as there are splits above.
 """
 import hashlib
 from dataclasses import dataclass, field
@@ -10,7 +10,7 @@ from dataclasses import dataclass, field
 import answers
 from program import Part
 
-HEAD = "vizlog-cert 1"
+HEAD = answers.HEADS[0]
 MOST = 64 << 20
 
 
@@ -22,6 +22,7 @@ class NotJoined(Exception):
 class Cut:
     """A part, whole or cut into two by a row that is at least 0 in the second."""
     part: Part
+    axis: int | None = None
     halves: list = field(default_factory=list)
 
     def leaves(self):
@@ -34,9 +35,10 @@ def cut_into(part, many):
     leaves = [top]
     while len(leaves) < many:
         greatest = max(leaves, key=lambda it: it.part.worlds())
-        halves = greatest.part.halves()
-        if halves is None:
+        found = greatest.part.halves()
+        if found is None:
             break
+        greatest.axis, *halves = found
         greatest.halves = [Cut(it) for it in halves]
         leaves.remove(greatest)
         leaves += greatest.halves
@@ -56,21 +58,20 @@ def renumbered(lines, ends, later):
     for line in lines:
         if line.startswith("fact "):
             number = int(line[5:])
-            line = f"fact {ends[number] if number < 4 else number + later}"
+            line = f"fact {ends[number] if number < len(ends) else number + later}"
         yield line
 
 
-def joined(cut, body, ends=(0, 1, 2, 3), later=0):
-    """The lines of a cut's nodes: `ends` are the facts of its four ends, `later` how many splits stand above."""
+def joined(cut, body, ends=None, later=0):
+    """The lines of a cut's nodes: `ends` are the facts of the ends of its sides, `later` how many splits stand above."""
+    ends = tuple(range(2 * len(cut.part.sides))) if ends is None else ends
     if not cut.halves:
         yield from renumbered(body(cut.part), ends, later)
         return
-    lower, upper = (it.part for it in cut.halves)
-    axis = 0 if lower.widths != upper.widths else 1
-    begin = (upper.widths, upper.sizes)[axis][0]
-    yield f"split {-begin} {axis}:1"
-    made = 4 + later
-    for half, place in ((cut.halves[1], 2 * axis), (cut.halves[0], 2 * axis + 1)):
+    axis, (lower, upper) = cut.axis, cut.halves
+    yield f"split {-upper.part.sides[axis][0]} {axis}:1"
+    made = len(ends) + later
+    for half, place in ((upper, 2 * axis), (lower, 2 * axis + 1)):
         yield from joined(half, body, (*ends[:place], made, *ends[place + 1:]), later + 1)
 
 
@@ -91,6 +92,6 @@ def violation(text):
     """The world of a violation, or None."""
     try:
         words = text.split("\n", 1)[0].split(" ")
-        return (int(words[1]), int(words[2])) if words[0] == "violated" else None
-    except (IndexError, ValueError):
+        return tuple(map(int, words[1:])) if words[0] == "violated" else None
+    except ValueError:
         raise answers.NoAnswer(f"no answer: {text[:60]}") from None

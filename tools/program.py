@@ -1,5 +1,6 @@
 """Runs the program, also on parts of a job's range and on the contrary of its assertion, and tells how long that takes. Not proved."""
 import json
+import math
 import os
 import pathlib
 import resource
@@ -25,40 +26,45 @@ class ProgramFault(Exception):
 
 @dataclass
 class Part:
-    """A rectangle of worlds, both ends of both sides in."""
-    widths: tuple
-    sizes: tuple
+    """A rectangle of worlds by its sides, both ends of each in: widths, sizes, and heights where the job has a range of them."""
+    sides: tuple
 
     def worlds(self):
-        return (self.widths[1] - self.widths[0] + 1) * (self.sizes[1] - self.sizes[0] + 1)
+        return math.prod(high - low + 1 for low, high in self.sides)
 
     def turns(self):
         """With these a search always decides."""
         return 2 * self.worlds() - 1
 
     def name(self):
-        return f"{self.widths[0]}-{self.widths[1]}x{self.sizes[0]}-{self.sizes[1]}"
+        return "x".join(f"{low}-{high}" for low, high in self.sides)
 
     def has(self, world):
-        return self.widths[0] <= world[0] <= self.widths[1] and self.sizes[0] <= world[1] <= self.sizes[1]
+        return all(low <= it <= high for it, (low, high) in zip(world, self.sides))
+
+    def with_side(self, axis, side):
+        return Part((*self.sides[:axis], side, *self.sides[axis + 1:]))
 
     def halves(self):
-        """Two parts, by the longer side; None of one world."""
-        (wl, wh), (sl, sh) = self.widths, self.sizes
+        """The axis that is halved, a longest side's, and two parts; None of one world."""
         if self.worlds() == 1:
             return None
-        if wh - wl >= sh - sl:
-            middle = (wl + wh + 1) // 2
-            return Part((wl, middle - 1), self.sizes), Part((middle, wh), self.sizes)
-        middle = (sl + sh + 1) // 2
-        return Part(self.widths, (sl, middle - 1)), Part(self.widths, (middle, sh))
+        axis = max(range(len(self.sides)), key=lambda it: (self.sides[it][1] - self.sides[it][0], -it))
+        low, high = self.sides[axis]
+        middle = (low + high + 1) // 2
+        return axis, self.with_side(axis, (low, middle - 1)), self.with_side(axis, (middle, high))
+
+
+def range_of(told):
+    """The range of a job file as it was read."""
+    return Part(tuple(tuple(told[name]) for name in answers.AXES[:2 + (told["vizlog"] == 2)]))
 
 
 def part_of(told):
     """The text of the job file that asks the same of a part of the range."""
     def text(part, rule=None):
-        return json.dumps({**told, "widths": list(part.widths), "sizes": list(part.sizes), "assert": rule or told["assert"]},
-                          ensure_ascii=False)
+        sides = {name: list(side) for name, side in zip(answers.AXES, part.sides)}
+        return json.dumps({**told, **sides, "assert": rule or told["assert"]}, ensure_ascii=False)
     return text
 
 
@@ -125,7 +131,7 @@ class Asker:
 
 def world_of(reply):
     """The world of a violation."""
-    return tuple(int(it) for it in reply.text.split("\n", 1)[0].split(" ")[1:3])
+    return tuple(int(it) for it in reply.text.split("\n", 1)[0].split(" ")[1:])
 
 
 def along(world, axis, sign, limit):
@@ -139,8 +145,7 @@ def along(world, axis, sign, limit):
 
 
 def part_along(world, axis, one, other):
-    ends = (min(one, other), max(one, other))
-    return Part(ends, (world[1],) * 2) if axis == 0 else Part((world[0],) * 2, ends)
+    return Part(tuple((it, it) for it in world)).with_side(axis, (min(one, other), max(one, other)))
 
 
 @dataclass
@@ -155,7 +160,7 @@ class Way:
 
 def way(asker, world, axis, sign):
     """Goes from a violation to the nearest world in one direction at which the assertion is true; the program proves each step."""
-    limit = asker.told[("widths", "sizes")[axis]][sign > 0]
+    limit = asker.told[answers.AXES[axis]][sign > 0]
     last = world[axis]
     for near, far in along(world, axis, sign, limit):
         found = asker.world_that_holds(part_along(world, axis, near, far))
@@ -176,8 +181,8 @@ def way(asker, world, axis, sign):
 
 
 def ways(asker, world):
-    """The four directions from a violation: narrower and wider, smaller and larger text."""
-    return [way(asker, world, axis, sign) for axis in (0, 1) for sign in (-1, 1)]
+    """The directions from a violation: narrower and wider, smaller and larger text, and less and more high where there are heights."""
+    return [way(asker, world, axis, sign) for axis in range(len(world)) for sign in (-1, 1)]
 
 
 def steps(ends, many):
@@ -186,15 +191,16 @@ def steps(ends, many):
     return sorted({ends[0] + round((ends[1] - ends[0]) * at / max(many - 1, 1)) for at in range(many)})
 
 
-def tried(asker, across=12, up=5):
-    """Worlds spread over the range, each with whether the assertion is true there, as the program judges it."""
+def tried(asker, there, across=12, up=5):
+    """Worlds spread over the range, at the height of one that is told, each with whether the assertion is true there, as the program judges it."""
     found = {}
     for size in steps(asker.told["sizes"], up):
         for width in steps(asker.told["widths"], across):
-            reply = asker.ask(Part((width, width), (size, size)))
+            world = (width, size, *there[2:])
+            reply = asker.ask(Part(tuple((it, it) for it in world)))
             if reply is None:
                 return found
-            found[width, size] = reply.status == PROVED
+            found[world] = reply.status == PROVED
     return found
 
 
@@ -202,7 +208,7 @@ def rendering(name, world, job, program=PROGRAM):
     """The rendering of a job file at a world."""
     reply = reply_of(["lay", name, *world], program)
     if reply.status != 0:
-        raise ProgramFault(f"lay {name} {world[0]} {world[1]}: {reply.text.strip() or f'status {reply.status}'}")
+        raise ProgramFault(f"lay {name} {' '.join(map(str, world))}: {reply.text.strip() or f'status {reply.status}'}")
     answer = answers.answer_of(reply.text, job)
     answer.world = tuple(world)
     return answer

@@ -1,4 +1,7 @@
-"""Draws the range of a job as a map: the parts that a certificate closes, and the sizes that were tried. Not proved."""
+"""Draws the range of a job as a map: the parts that a certificate closes, and the sizes that were tried. Not proved.
+
+A map is of one height: where a job has a range of heights and the parts differ along them, there is one at the least, a middle and the greatest.
+"""
 import answers
 import drawing
 from drawing import told
@@ -6,6 +9,20 @@ from drawing import told
 WIDE = 1100
 REGIONS = {"grid": ("#8fb8e8", "each size laid out"), "leaf": ("#9fd8a8", "by one derivation"), "void": ("#d3d3d3", "no size"),
            "open": ("#f6b26b", "not decided yet")}
+
+
+def heights_of(job, regions):
+    """The heights at which maps are drawn: one where all parts have all heights, None for a job of one height."""
+    if not job.has_heights:
+        return [None]
+    low, high = job.heights
+    if all(it.sides[2] == job.heights and not it.by_defs and not any(cut[3] for cut in it.cuts) for it in regions):
+        return [low]
+    return sorted({low, (low + high) // 2, high})
+
+
+def at_height(world, height):
+    return world if height is None else (*world, height)
 
 
 def cut(points, line):
@@ -22,28 +39,28 @@ def cut(points, line):
     return kept
 
 
-def corners(region):
-    """A region as a polygon about its worlds, each a square of side 1 about its point."""
-    (wl, wh), (sl, sh) = region.widths, region.sizes
+def corners(region, height=None):
+    """A region at a height as a polygon about its worlds, each a square of side 1 about its point."""
+    (wl, wh), (sl, sh), *high = region.sides
     points = [(wl - .5, sl - .5), (wh + .5, sl - .5), (wh + .5, sh + .5), (wl - .5, sh + .5)]
-    if wl > wh or sl > sh:
+    if wl > wh or sl > sh or any(not low <= height <= most for low, most in high):
         return []
-    for constant, a, b in region.cuts:
+    for constant, a, b, *c in region.cuts:
         # half a unit further than the last world that belongs to it
-        points = cut(points, (constant + .5, a, b))
+        points = cut(points, (constant + .5 + sum(it * height for it in c), a, b))
         if not points:
             return []
     return points
 
 
-def runs(job, answer):
-    """For each size the regions from left to right: the place of each, its first width and the one after its last; a width a column."""
+def runs(job, answer, height=None):
+    """At a height for each size the regions from left to right: the place of each, its first width and the one after its last; a width a column."""
     (wl, wh), (sl, sh) = job.widths, job.sizes
     step = -(-(wh - wl + 1) // WIDE) if (wh - wl + 1) * (sh - sl + 1) > 100000 else 1
     for size in range(sl, sh + 1):
         row = []
         for width in range(wl, wh + 1, step):
-            region = answer.region_at((width, size))
+            region = answer.region_at(at_height((width, size), height))
             if row and row[-1][0] == region:
                 row[-1][2] = min(width + step, wh + 1)
             else:
@@ -56,10 +73,10 @@ def borders(row, other):
     return [(max(a, c), min(b, d)) for one, a, b in row for two, c, d in other if one != two and max(a, c) < min(b, d)]
 
 
-def shapes_by_runs(job, answer, edge):
+def shapes_by_runs(job, answer, edge, height):
     """The regions as they lie, world by world: for those that splits by floors part, which are no polygons."""
     shapes, lines, before = [], [], []
-    for size, row in runs(job, answer):
+    for size, row in runs(job, answer, height):
         (_, top), (_, bottom) = edge((0, size + 1)), edge((0, size))
         for place, left, right in row:
             region = answer.regions[place]
@@ -73,21 +90,21 @@ def shapes_by_runs(job, answer, edge):
     return shapes + [f'<path d="{"".join(lines)}" fill="none" stroke="#33475b" stroke-width=".6"/>']
 
 
-def shapes_by_corners(regions, edge):
+def shapes_by_corners(regions, edge, height):
     shapes = []
     for region in regions:
-        points = corners(region)
+        points = corners(region, height)
         if not points:
             continue
         path = " ".join(f"{x:.2f},{y:.2f}" for x, y in (edge((x + .5, y + .5)) for x, y in points))
-        words = f"{region.kind}: widths {region.widths[0]} to {region.widths[1]}, sizes {region.sizes[0]} to {region.sizes[1]}"
+        words = f"{region.kind}: " + ", ".join(f"{name} {low} to {high}" for name, (low, high) in zip(answers.AXES, region.sides))
         words += ", cut further by slanted splits" if region.cuts else ""
         shapes.append(f'<polygon points="{path}" fill="{REGIONS[region.kind][0]}" fill-opacity=".9" stroke="#33475b" '
                       f'stroke-width="{.4 if len(regions) > 300 else .8}"><title>{told(words)}</title></polygon>')
     return shapes
 
 
-def map_svg(job, answer, regions):
+def map_svg(job, answer, regions, height=None):
     (wl, wh), (sl, sh) = job.widths, job.sizes
     across, up = WIDE / (wh - wl + 1), min(560 / (sh - sl + 1), 48)
     high = up * (sh - sl + 1)
@@ -99,7 +116,7 @@ def map_svg(job, answer, regions):
     def spot(point):
         return edge((point[0] + .5, point[1] + .5))
     by_defs = any(region.by_defs for region in regions)
-    shapes = shapes_by_runs(job, answer, edge) if by_defs else shapes_by_corners(regions, edge)
+    shapes = shapes_by_runs(job, answer, edge, height) if by_defs else shapes_by_corners(regions, edge, height)
     marks = []
     for at in range(6):
         width = wl + round((wh - wl) * at / 5)
@@ -119,7 +136,7 @@ def map_svg(job, answer, regions):
 def tried_svg(job, tried, here):
     """The sizes that were tried, those at which the rule is broken in red, the one that is shown with a ring."""
     (wl, wh), (sl, sh) = job.widths, job.sizes
-    wide, high = 560, 30 + 26 * len({size for _, size in tried})
+    wide, high = 560, 30 + 26 * len({it[1] for it in tried})
 
     def spot(world):
         x = 60 + (wide - 80) * (world[0] - wl) / max(wh - wl, 1)

@@ -115,7 +115,7 @@ class Told:
 
     def edge(self, box, ring, side):
         if box is None:
-            return answers.UNITS * (self.scene.world[0] if side == "width" else self.job.height)
+            return answers.UNITS * (self.scene.world[0] if side == "width" else self.job.height_at(self.scene.world))
         return getattr(self.boxes[box], ring)[formulas.SIDES.index(side)]
 
     def middle(self, box, axis):

@@ -2,6 +2,7 @@
 import hashlib
 import importlib.machinery
 import importlib.util
+import itertools
 import json
 import pathlib
 import subprocess
@@ -113,17 +114,27 @@ def words():
 
 def cuts():
     """The parts cover the range once, and the facts of their ends are those of the splits above."""
-    whole = program.Part((320, 323), (12, 14))
+    whole = program.Part(((320, 323), (12, 14)))
     cut = parts.cut_into(whole, 5)
-    worlds = sorted((w, s) for it in cut.leaves() for w in range(it.part.widths[0], it.part.widths[1] + 1)
-                    for s in range(it.part.sizes[0], it.part.sizes[1] + 1))
-    yield "worlds", worlds, [(w, s) for w in range(320, 324) for s in range(12, 15)]
+    yield "worlds", worlds_of(cut), [(w, s) for w in range(320, 324) for s in range(12, 15)]
     yield "one part for each world at most", len(parts.cut_into(whole, 99).leaves()), 12
     body = ["leaf", "yes 0 0:1", *(f"fact {it}" for it in range(5)), "closed", "end"]
-    lines = list(parts.joined(parts.cut_into(program.Part((320, 327), (12, 13)), 3), lambda part: body))
+    lines = list(parts.joined(parts.cut_into(program.Part(((320, 327), (12, 13))), 3), lambda part: body))
     yield "splits", [it for it in lines if it.startswith("split")], ["split -324 0:1", "split -322 0:1"]
     # wider than 323 px; 322 and 323 px; 320 and 321 px
     yield "facts", [int(it[5:]) for it in lines if it.startswith("fact")], [4, 1, 2, 3, 5, 5, 4, 2, 3, 6, 0, 5, 2, 3, 6]
+    tall = program.Part(((320, 321), (12, 13), (400, 407)))
+    cut = parts.cut_into(tall, 3)
+    yield "worlds of heights", worlds_of(cut), [(w, s, h) for w in (320, 321) for s in (12, 13) for h in range(400, 408)]
+    body = ["leaf", "yes 0 0:1", *(f"fact {it}" for it in range(7)), "closed", "end"]
+    lines = list(parts.joined(cut, lambda part: body))
+    yield "splits of heights", [it for it in lines if it.startswith("split")], ["split -404 2:1", "split -402 2:1"]
+    yield "facts of heights", [int(it[5:]) for it in lines if it.startswith("fact")], [
+        0, 1, 2, 3, 6, 5, 7, 0, 1, 2, 3, 7, 6, 8, 0, 1, 2, 3, 4, 7, 8]
+
+
+def worlds_of(cut):
+    return sorted(world for it in cut.leaves() for world in itertools.product(*(range(low, high + 1) for low, high in it.part.sides)))
 
 
 def joined():
@@ -131,7 +142,7 @@ def joined():
     for name, many in (("pages/cards.json", 5), ("pages/nav.json", 3), ("rules/lines-meets.json", 4)):
         file = TOP / "examples" / name
         told = json.loads(file.read_bytes())
-        cut = parts.cut_into(program.Part(tuple(told["widths"]), tuple(told["sizes"])), many)
+        cut = parts.cut_into(program.range_of(told), many)
         with tempfile.TemporaryDirectory() as folder:
             def answer_of(part):
                 made = pathlib.Path(folder, "part.json")

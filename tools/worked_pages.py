@@ -94,11 +94,15 @@ def image_box(node, parent, width, height):
     return {**box("Replaced")(node, parent), "size": [width, height]}
 
 
-def page(kids, boxes, styles):
+def styled_page(html, kids, boxes, styles):
     root = {**BOX, "kind": "Block", "node": 0, "parent": None, "kids": [1], "context": True, "block_level": True}
     every = [root, NAMES["block_box"](1, 0, kids), *boxes]
-    return {"boxes": every, "styles": [{**BLOCK, "size": ["Default", 1, 1]}, BLOCK, *styles], "fonts": [SQUARE],
+    return {"boxes": every, "styles": [{**html, "size": ["Default", 1, 1]}, BLOCK, *styles], "fonts": [SQUARE],
             "parents": [it["parent"] for it in every]}
+
+
+def page(kids, boxes, styles):
+    return styled_page(BLOCK, kids, boxes, styles)
 
 
 def parent_size(number, parts):
@@ -111,7 +115,7 @@ SQUARE = {"name": "Square", "upem": 1000, "ascent": 800, "descent": 200, "other"
 NAMES = {
     "nothing": ["Px", 0], "block_style": BLOCK, "square": SQUARE, "true": True, "false": False, "None": None, "Some": lambda it: it, "pos": lambda it: it,
     "px": lambda n: ["Px", 64 * n], "percent": lambda n: ["Pct", 10**6 * n], "sides": lambda *four: list(four), "letters": lambda n: "a" * n,
-    "codes": lambda text: text, "page": page, "text_box": text_box, "image_box": image_box, "block_box": box("Block", block_level=True),
+    "codes": lambda text: text, "page": page, "styled_page": styled_page, "text_box": text_box, "image_box": image_box, "block_box": box("Block", block_level=True),
     "context_box": box("Block", context=True, block_level=True), "floated_box": box("Float", context=True, block_level=True),
     "inline_box": box("Inline"), "inline_block_box": box("Atomic", context=True), "of_length.Auto": "Auto", "of_length.Px": lambda n: ["Px", n],
     "of_length.Pct": lambda n: ["Pct", n], "of_length.Em": lambda k, node: ["Em", k, node], "of_size.Parent": parent_size,

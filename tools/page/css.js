@@ -66,7 +66,7 @@ function declarations(text) {
     const [, name, value] = /^([^:]*):([^]*)$/.exec(bare(text.slice(at, end))) || [];
     if (name !== undefined) {
       const plain = value.replace(/!\s*important\s*$/i, "");
-      found.push({name: name.trim().toLowerCase(), value: plain.trim().toLowerCase(), important: plain !== value});
+      found.push({name: name.trim().toLowerCase(), value: plain.trim().toLowerCase(), raw: plain.trim(), important: plain !== value});
     }
     at = end + 1;
   }
@@ -78,11 +78,14 @@ const STRING = `(?:"(?:\\\\[^]|[^"\\\\])*"|'(?:\\\\[^]|[^'\\\\])*')`;
 const TEST = `(?:[.#]${NAME}|\\[\\s*${NAME}\\s*(?:[~|]?=\\s*(?:${NAME}|${STRING})\\s*)?\\]` +
   `|:(?:first-child|link|visited|hover|active|focus)(?![-\\w(]))`;
 const LANG = `:lang\\(\\s*${NAME}\\s*\\)`;
-const ENDING = ":(?:first-line|first-letter|before|after)(?![-\\w(])";
+const ENDING = ":(?:first-line|first-letter)(?![-\\w(])";
+const PSEUDO = /::?(before|after)$/i;
 const compound = test => `(?:(?:\\*|${NAME})${test}*|${test}+)`;
 const chain = test => `${compound(test)}(?:(?:\\s*[>+]\\s*|\\s+)${compound(test)})*`;
 const READ = new RegExp(`^${chain(TEST)}$`, "i");
 const WIDER = new RegExp(`^(?:${chain(`(?:${TEST}|${LANG})`)})?(?:${ENDING})?$`, "i");
+/** A selector without its pseudo-element: what meets the element that has the generated content. */
+const bearerOf = part => PSEUDO.test(part) ? part.replace(PSEUDO, "").replace(/([>+\s])$/, "$1*") || "*" : part;
 
 /** The parts of a group of selectors. */
 function parts(group) {
@@ -95,12 +98,13 @@ function parts(group) {
   return found;
 }
 
-/** How a group of selectors is read: "read", "dropped", or the pseudo-class or pseudo-element that refuses the page. */
+/** How a group of selectors is read: "read", "dropped", or the pseudo-class or pseudo-element that refuses the page. A pseudo-element with
+ * generated content is read. */
 function selectorKind(group) {
   const each = parts(group);
-  if (each.every(it => READ.test(it))) return "read";
-  if (!each.every(it => it && WIDER.test(it))) return "dropped";
-  return each.map(it => new RegExp(`${LANG}|${ENDING}`, "i").exec(it)).find(it => it)[0].toLowerCase().replace(/\(.*/, "()");
+  if (each.every(it => READ.test(bearerOf(it)))) return "read";
+  if (!each.every(it => it && WIDER.test(bearerOf(it)))) return "dropped";
+  return each.map(it => new RegExp(`${LANG}|${ENDING}`, "i").exec(bearerOf(it))).find(it => it)[0].toLowerCase().replace(/\(.*/, "()");
 }
 
 // ---- declarations: what the profile's table of properties takes
@@ -147,6 +151,7 @@ const TABLE = {
   "word-spacing": [`normal|${ZERO}${UNITS}?`, ANY],
   "text-transform": ["none", "capitalize|uppercase|lowercase"],
   "list-style-position": ["outside", "inside"],
+  content: [`normal|none|${STRING}(?:\\s*${STRING})*`, "[^]*(?:\\(|(?:^|\\s)(?:no-)?(?:open|close)-quote(?:\\s|$))[^]*"],
 };
 for (const side of SIDES) {
   TABLE[`margin-${side}`] = [`auto|${SHIFT}`];

@@ -20,9 +20,11 @@ function short(text, most = 60) {
 }
 
 function called(node) {
-  const attrs = node.attrs || {};
+  const of = MADE[node.made] ? node.from : null;
+  const attrs = of ? {id: of.id, class: of.getAttribute("class")} : node.attrs || {};
   const classes = (attrs.class || "").trim().split(/\s+/).filter(it => it);
-  return `node ${node.number} ${node.tag}${attrs.id ? "#" + attrs.id.trim() : ""}${classes.map(it => "." + it).join("")}`;
+  const name = `${of ? of.localName : node.tag}${attrs.id ? "#" + attrs.id.trim() : ""}${classes.map(it => "." + it).join("")}`;
+  return `node ${node.number} ${name}${of ? ":" + node.made : ""}`;
 }
 
 const line = row => `  ${row.what}: ${row.count}, first ${row.example}`;

@@ -1,25 +1,43 @@
 // ---- the job
 
-/** The job as text: a member or an element a line. */
-function written(job, root) {
+/** What is said of generated content beyond the sheets, as a sheet; each element that has such content gets the number of its rules. */
+function sheetOfMade(tree) {
+  const rules = [];
+  const visit = node => {
+    const made = (node.children || []).filter(it => MADE[it.made] && it.pins.size)
+      .map(it => `:${it.made}{${[...it.pins].map(([name, value]) => `${name}:${value} !important`).join(";")}}`);
+    const said = [...made, ...(node.unmade || []).map(it => `:${it}{content:none !important}`)].join("\n");
+    if (said && !rules.includes(said)) rules.push(said);
+    if (said) node.attrs = {...node.attrs, [MADE_AT]: String(rules.indexOf(said))};
+    for (const child of node.children || []) visit(child);
+  };
+  visit(tree.root);
+  return rules.flatMap((said, at) => said.split("\n").map(it => `[${MADE_AT}="${at}"]${it}`)).join("\n");
+}
+const MADE_AT = "vizlog-made";
+
+/** The job as text: a member or an element a line. Generated content that stays as it is isn't written. */
+function written(job, {root, kept}) {
   const lines = [];
   const element = (node, indent, after) => {
+    const children = (node.children || []).filter(it => !kept || !MADE[it.made]);
     const head = {tag: node.tag};
     const pins = [...node.pins].map(([name, value]) => `${name}:${value} !important`).join(";");
     const style = [node.style, pins].filter(it => it).join(node.style && !/;\s*$/.test(node.style) ? ";" : "");
     if (Object.keys(node.attrs).length || style) head.attrs = style ? {...node.attrs, style} : node.attrs;
     if (node.size) head.size = node.size;
     const text = JSON.stringify(head).slice(0, -1);
-    if (!node.children || !node.children.length) { lines.push(`${indent}${text}}${after}`); return; }
+    if (!children.length) { lines.push(`${indent}${text}}${after}`); return; }
     lines.push(`${indent}${text},"children":[`);
-    node.children.forEach((child, at) => {
-      const comma = at + 1 < node.children.length ? "," : "";
+    children.forEach((child, at) => {
+      const comma = at + 1 < children.length ? "," : "";
       if (child.chars !== undefined) lines.push(`${indent} ${JSON.stringify(child.chars)}${comma}`);
       else element(child, indent + " ", comma);
     });
     lines.push(`${indent}]}${after}`);
   };
-  lines.push(`{"vizlog":1,"widths":${JSON.stringify(job.widths)},"sizes":${JSON.stringify(job.sizes)},"height":${job.height},`);
+  const [form, high] = job.heights ? [2, `"heights":${JSON.stringify(job.heights)}`] : [1, `"height":${job.height}`];
+  lines.push(`{"vizlog":${form},"widths":${JSON.stringify(job.widths)},"sizes":${JSON.stringify(job.sizes)},${high},`);
   lines.push(`"fonts":[`, job.fonts.map(it => JSON.stringify(it)).join(",\n") + "],");
   lines.push(`"css":[`, job.css.map(it => JSON.stringify(it)).join(",\n") + "],", `"page":`);
   element(root, "", ",");
@@ -165,8 +183,11 @@ class Exporter {
     for (const node of tree.nodes) for (const it of this.sizesOf(node)) this.fonts.sizes.add(it);
     if (options.kerning) sayKerning(tree, this, findings);
     sayBreaks(tree, this, options, findings);
-    this.css = this.css.map((text, at) => sheetSaid(text, at, this.media, options, findings)).filter(it => it.trim());
     tree.finish();
+    tree.keep(findings);
+    tree.finish();
+    const generated = tree.kept || !options.generated ? "kept" : "elements";
+    this.css = this.css.map((text, at) => sheetSaid(text, at, this.media, options, generated, findings)).filter(it => it.trim());
     if (tree.nodes.some(it => it.tag === BREAK_TAG)) this.css.push(`${BREAK_TAG}{display:inline-block}`);
     const measure = sizer(this.blank, findings);
     for (const node of tree.nodes) {
@@ -238,7 +259,25 @@ class Exporter {
     return node.wanted[at] = node.wanted[at] || (node.made ? wantedOfMade : wanted)(node, node.samples[at], this);
   }
   told(node, name, value) {
-    this.findings.add("said", `${name} by the browser's computed value`, `${called(node)} (${value})`);
+    const table = MADE[node.made] && name === "display" && value === "block" && this.styleOf(node).display === "table";
+    const what = table ? "display: table of generated content without text, which the profile refuses, as block"
+      : `${name} by the browser's computed value`;
+    this.findings.add("said", what, `${called(node)} (${value})`);
+  }
+  /** Says the text of generated content, and that there is none, where the sheets' own rules come to something else. */
+  sayContent() {
+    const selectors = this.css.flatMap(selectorsOf).filter(it => PSEUDO.test(it) && READ.test(bearerOf(it)));
+    for (const node of this.tree.written) {
+      const made = which => this.tree.kept && this.copy && !this.hidden(node) && this.copy.makes(node, which, selectors);
+      node.unmade = (node.unmade || []).filter(made);
+      if (node.unmade.length) this.findings.add("said", "no generated content where the browser makes none", called(node));
+    }
+    for (const node of this.tree.kept ? this.tree.made : []) {
+      const text = node.children.map(it => it.chars).join("");
+      if (text === (this.copy ? this.copy.contentOf(node) : node.content)) continue;
+      node.pins.set("content", quotedText(text));
+      this.findings.add("said", "content by the text that it comes to", `${called(node)} (${short(text, 30)})`);
+    }
   }
   unsaid(node, name) {
     const found = this.worlds.map((_, at) => this.wantedAt(node, at)[name]);
@@ -253,6 +292,9 @@ class Exporter {
   /** The job's text, the lines to tell, the counts, and where the browser lays the boxes. */
   finish() {
     const {tree, options, findings} = this;
+    this.sayContent();
+    const made = tree.kept ? sheetOfMade(tree) : "";
+    if (made) this.css.push(made);
     judgeNodes(this);
     this.css.forEach((text, at) => judgeSheet(text, at, findings));
     const cuts = turns(this.css, this.media, options.widths);
@@ -265,12 +307,12 @@ class Exporter {
     const counts = {elements: tree.elements, characters: tree.characters, sheets: this.css.length, fonts: fonts.map(it => it.name)};
     // what the letters of the page's own texts are, for those who show them: the program passes this member over
     const letters = Object.fromEntries([...this.fonts.kerned].map(([code, {letter}]) => [String.fromCodePoint(code), letter]));
-    const {widths, sizes, height, assert} = options;
-    const job = written({letters, widths, sizes, height, fonts, css: this.css, assert}, tree.root);
+    const {widths, sizes, height, heights, assert} = options;
+    const job = written({letters, widths, sizes, height, heights, fonts, css: this.css, assert}, tree);
     const round = it => it && it.map(one => Math.round(one * 1000) / 1000);
     return {job, lines: report(findings), refused: findings.of("refused"), counts,
-      rectangles: this.rectangles.map(boxes => tree.nodes.map(it => round(boxes.get(it)) || null)),
-      nodes: tree.nodes.map(it => ({real: Boolean(it.of), causes: [...it.causes || []]})), said: findings.of("said"),
+      rectangles: this.rectangles.map(boxes => tree.written.map(it => round(boxes.get(it)) || null)),
+      nodes: tree.written.map(it => ({real: Boolean(it.of), causes: tree.causesAt(it)})), said: findings.of("said"),
       otherwise: findings.of("otherwise")};
   }
 

@@ -67,7 +67,7 @@ function judgeLimits(exporter, fonts) {
   const {tree, css, findings, options} = exporter;
   const bytes = text => new TextEncoder().encode(text).length;
   const pins = node => [...node.pins].map(([name, value]) => `${name}:${value} !important;`).join("");
-  const styles = tree.nodes.filter(it => it.tag).map(it => (it.style || "") + pins(it));
+  const styles = tree.written.filter(it => it.tag).map(it => (it.style || "") + pins(it));
   const total = css.concat(styles).reduce((sum, it) => sum + bytes(it), 0);
   const advances = fonts.reduce((sum, it) => sum + it.advances.length, 0);
   for (const [what, count, most] of [["elements", tree.elements, 4096], ["elements in one another", tree.depth, 60],

@@ -129,25 +129,27 @@ class Media {
 
 // ---- sheets in the profile's words
 
-const PSEUDO = /::?(before|after)\s*$/i;
 const MADE = {before: "vizlog-before", after: "vizlog-after"};
 
-/** A group of selectors in the profile's words: generated content as elements of its own; parts that the profile can't read are left out,
- * null where none is left. */
-function groupSaid(group, generated) {
-  const found = [];
-  for (const part of parts(group)) {
-    const [, which] = PSEUDO.exec(part) || [];
-    const bearer = which ? part.replace(PSEUDO, "").replace(/([>+\s])$/, "$1*") || "*" : part;
-    if (!READ.test(bearer)) continue;
-    if (!which) found.push(part);
-    else if (generated) found.push(`${bearer} > ${MADE[which.toLowerCase()]}`);
-  }
-  return found.length ? found.join(", ") : null;
+/** A selector of generated content as one of the element that stands for it, any other as it is. */
+function partOfMade(part) {
+  const [, which] = PSEUDO.exec(part) || [];
+  return which ? `${bearerOf(part)} > ${MADE[which.toLowerCase()]}` : part;
 }
 
+/** A group of selectors in the profile's words: those of generated content as they are ("kept"), or as selectors of elements ("elements");
+ * parts that the profile can't read are left out, null where none is left. */
+function groupSaid(group, generated) {
+  const found = parts(group).filter(it => READ.test(bearerOf(it)));
+  return found.length ? found.map(generated === "elements" ? partOfMade : it => it).join(", ") : null;
+}
+
+/** A group of selectors for a page in which elements stand for the generated content, that no other selector meets. */
+const groupOfCopy = group => parts(group).map(it => PSEUDO.test(it) ? partOfMade(it)
+  : `${it}:where(:not(${Object.values(MADE).join(",")}))`).join(", ");
+
 /** A sheet's text as the job has it. */
-function sheetSaid(text, number, media, options, findings) {
+function sheetSaid(text, number, media, options, generated, findings) {
   let made = "", at = 0;
   const put = (statement, by) => {
     made += text.slice(at, statement.at) + by;
@@ -164,12 +166,13 @@ function sheetSaid(text, number, media, options, findings) {
         const what = said.includes("(") ? "shorter" : `\`${said}\``;
         findings.add("said", `@media with a condition, as the browser answers it on this machine, is ${what}`, where);
       }
-      put(statement, `@media ${said}{${said === "not all" ? "" : sheetSaid(block, number, media, options, findings)}}`);
+      put(statement, `@media ${said}{${said === "not all" ? "" : sheetSaid(block, number, media, options, generated, findings)}}`);
     }
     if (head[0] === "@" || block === null) continue;
     const kind = selectorKind(head);
-    if (kind === "read" || !parts(head).every(it => BROWSER.reads(it))) continue;
-    const group = groupSaid(head, options.generated);
+    const stays = generated === "kept" || !parts(head).some(it => PSEUDO.test(it));
+    if (kind === "read" && stays || !parts(head).every(it => BROWSER.reads(it))) continue;
+    const group = groupSaid(head, generated);
     if (group === null && kind === "dropped") continue;
     put(statement, group === null ? "" : `${group}{${block}}`);
   }
@@ -241,13 +244,20 @@ const sized = value => value === "larger" ? "1.2em" : value === "smaller" ? "cal
 const FONT = new RegExp("^(?:(?:normal|italic|oblique|small-caps|bold|bolder|lighter|[1-9]00)\\s+){0,3}"
   + `(${FONTSIZE})(?:\\s*/\\s*(${LINE}))?\\s+(${FAMILY})$`);
 
+/** The property that has the content of an element which stands for generated content. */
+const CONTENT = "--vizlog-content";
+
 /** Declarations as a browser has to read them to compute what the profile does. */
 function declarationsRead(text) {
   const found = [];
-  for (const {name, value, important, ...rest} of declarations(text)) {
+  for (const {name, value, raw, important, ...rest} of declarations(text)) {
     const kind = declarationKind({name, value, ...rest});
     if (!/^(?:taken|refused)$/.test(kind)) continue;
     const end = important ? " !important" : "";
+    if (name === "content") {
+      found.push(`${CONTENT}:${kind === "taken" && value !== "inherit" ? raw : "none"}${end}`);
+      continue;
+    }
     const halved = value.replace(/(\d*\.?\d+)ex\b/g, (_, it) => `${it / 2}em`);
     const font = name === "font" && FONT.exec(halved);
     if (name === "font" && !font) continue;
@@ -261,13 +271,13 @@ function declarationsRead(text) {
   return found.join(";");
 }
 
-/** A sheet as a browser has to read it. */
-function sheetRead(text) {
+/** A sheet as a browser has to read it; with `kept` elements stand for the generated content that the sheet has. */
+function sheetRead(text, kept) {
   const made = [];
   for (const {head, block} of statements(text)) {
     if (block === null) continue;
-    if (/^@media\b/i.test(head)) made.push(`${head}{${sheetRead(block)}}`);
-    else if (head[0] !== "@" && selectorKind(head) === "read") made.push(`${head}{${declarationsRead(block)}}`);
+    if (/^@media\b/i.test(head)) made.push(`${head}{${sheetRead(block, kept)}}`);
+    else if (head[0] !== "@" && selectorKind(head) === "read") made.push(`${kept ? groupOfCopy(head) : head}{${declarationsRead(block)}}`);
   }
   return made.join("\n");
 }

@@ -11,11 +11,14 @@ const MEASURED = {input: ["size"], select: ["size"], canvas: ["width", "height"]
 
 /** The string that generated content comes to, or null where it is no string. */
 function contentText(content) {
-  const pieces = content.match(/"(?:\\[^]|[^"\\])*"|[^\s"]+/g) || [];
-  if (!pieces.every(it => it[0] === '"')) return null;
-  return pieces.map(it => it.slice(1, -1).replace(/\\([0-9a-f]{1,6})\s?|\\([^])/gi, (_, code, mark) =>
-    code ? String.fromCodePoint(parseInt(code, 16)) : mark)).join("");
+  const pieces = content.match(/"(?:\\[^]|[^"\\])*"|'(?:\\[^]|[^'\\])*'|[^\s"']+/g) || [];
+  if (!pieces.length || !pieces.every(it => /["']/.test(it[0]))) return null;
+  return pieces.map(it => it.slice(1, -1).replace(/\\([0-9a-f]{1,6})\s?|\\(?:\r\n|[\n\r\f])|\\([^])/gi, (_, code, mark) =>
+    code ? String.fromCodePoint(parseInt(code, 16) || 0xfffd) : mark || "")).join("");
 }
+
+/** A string as a sheet has it. */
+const quotedText = text => `"${text.replace(/["\\\x00-\x1f\x7f]/g, it => `\\${it.codePointAt(0).toString(16)} `)}"`;
 
 /** The nodes of the page: an element has `tag`, `of` (the browser's; none for one that is made), `children`; a text has `chars`. */
 class Tree {
@@ -69,12 +72,15 @@ class Tree {
     return found;
   }
 
-  /** Generated content as elements of its own, which rules for it meet by their tag. */
+  /** Generated content as elements of its own. */
   generate(node) {
     if (!this.options.generated) return;
     for (const [which, tag] of Object.entries(MADE)) {
       const style = this.computed(node.of, `::${which}`);
-      if (/^(?:none|normal)$/.test(style.content) || style.display === "none") continue;
+      if (/^(?:none|normal)$/.test(style.content) || style.display === "none") {
+        (node.unmade = node.unmade || []).push(which);
+        continue;
+      }
       const text = contentText(style.content);
       if (text === null) {
         this.findings.add("refused", `:${which} with ${short(style.content, 30)}`, `<${node.tag}>`, {node});
@@ -83,9 +89,8 @@ class Tree {
       const edges = SIDES.some(it => parseFloat(style[`margin-${it}`]) || parseFloat(style[`padding-${it}`])
         || (parseFloat(style[`border-${it}-width`]) && !/^(?:none|hidden)$/.test(style[`border-${it}-style`])));
       if (!text && style.display === "inline" && !edges && style.float === "none" && !/^(?:absolute|fixed)$/.test(style.position)) continue;
-      const made = {tag, made: which, from: node.of, attrs: {}, pins: new Map(), display: style.display, children: []};
+      const made = {tag, made: which, content: text, from: node.of, attrs: {}, pins: new Map(), display: style.display, children: []};
       if (text) made.children.push({chars: text, parent: node.of, pseudo: `::${which}`});
-      this.findings.add("said", `:${which} as an element <${tag}>`, `in <${node.tag}>: ${short(style.content, 30)}`);
       if (which === "before") node.children.unshift(made);
       else node.children.push(made);
     }
@@ -99,18 +104,38 @@ class Tree {
     for (const child of [...node.children || []]) this.walk(visit, child, node);
   }
 
-  /** Numbers the nodes, and counts. */
+  /** The generated content. */
+  get made() { return this.nodes.filter(it => MADE[it.made]); }
+
+  /** Generated content stays as it is where each piece is a text or none, and else is said as elements, which rules meet by their tag. */
+  keep(findings) {
+    const alone = it => it.children.length === 0 || it.children.length === 1 && it.children[0].chars !== undefined;
+    this.kept = this.options.generated && this.made.every(alone);
+    for (const it of this.kept ? [] : this.made) {
+      findings.add("said", `:${it.made} as an element <${it.tag}>`, `in <${it.from.localName}>: ${short(it.content, 30)}`);
+    }
+  }
+
+  /** What is known to be laid out otherwise at a node that is written, its generated content with it. */
+  causesAt(node) {
+    const made = this.kept ? (node.children || []).filter(it => MADE[it.made]) : [];
+    return [node, ...made].flatMap(it => [...it.causes || []]);
+  }
+
+  /** Numbers the nodes, and counts. Generated content that stays as it is has the number of its element, since it isn't written. */
   finish() {
-    Object.assign(this, {nodes: [], elements: 0, depth: 0, characters: 0});
-    const visit = (node, depth) => {
-      node.number = this.nodes.length;
+    Object.assign(this, {nodes: [], written: [], elements: 0, depth: 0, characters: 0});
+    const visit = (node, depth, bearer) => {
+      const inside = bearer !== null || this.kept && MADE[node.made] !== undefined;
+      node.number = inside ? bearer : this.written.length;
       this.nodes.push(node);
-      if (node.chars !== undefined) { this.characters += [...node.chars].length; return; }
-      this.elements += 1;
-      this.depth = Math.max(this.depth, depth);
-      for (const child of node.children || []) visit(child, depth + 1);
+      if (!inside) this.written.push(node);
+      if (node.chars !== undefined) { this.characters += inside ? 0 : [...node.chars].length; return; }
+      this.elements += inside ? 0 : 1;
+      this.depth = Math.max(this.depth, inside ? 0 : depth);
+      for (const child of node.children || []) visit(child, depth + 1, inside || this.kept && MADE[child.made] ? node.number : null);
     };
-    visit(this.root, 1);
+    visit(this.root, 1, null);
   }
 }
 

@@ -179,17 +179,19 @@ class Copy {
     this.frame = new Blank(page);
     const copy = this.frame.page;
     const sheet = text => copy.head.appendChild(Object.assign(copy.createElement("style"), {textContent: text}));
-    sheet("@layer none, profile; @layer none{*{all:unset}}");
+    sheet(`@property ${CONTENT}{syntax:"*";inherits:false} @layer none, profile; @layer none{*{all:unset}}`);
     sheet(`@layer profile{${DEFAULTS}}`);
     this.world = sheet("");
-    for (const text of texts) sheet(sheetRead(text));
+    for (const text of texts) sheet(sheetRead(text, tree.kept));
     copy.body.remove();
     const element = (node, into) => {
       for (const [name, value] of Object.entries(node.attrs)) if (name !== "src") into.setAttribute(name, value);
       if (node.style) into.style.cssText = declarationsRead(node.style);
       this.bearers.set(node, into);
       if (node.tag !== "br") {
-        for (const child of node.children || []) {
+        // what stands for generated content is last, so that no other selector sees it
+        const isMade = it => Number(tree.kept && MADE[it.made] !== undefined);
+        for (const child of [...node.children || []].sort((a, b) => isMade(a) - isMade(b))) {
           if (child.chars === undefined) element(child, into.appendChild(copy.createElement(child.tag)));
         }
       }
@@ -198,6 +200,22 @@ class Copy {
   }
 
   end() { this.frame.end(); }
+
+  styleOf(of) { return this.frame.frame.contentWindow.getComputedStyle(of); }
+
+  /** The text that the job's own rules make of generated content, or null. */
+  contentOf(node) { return contentText(this.styleOf(this.bearers.get(node)).getPropertyValue(CONTENT)); }
+
+  /** Whether the job's own rules, of which these are the selectors, make generated content of an element that has none. */
+  makes(node, which, selectors) {
+    const bearer = this.bearers.get(node);
+    if (!bearer || !selectors.some(it => PSEUDO.exec(it)[1].toLowerCase() === which && bearer.matches(bearerOf(it)))) return false;
+    const made = bearer.appendChild(this.frame.page.createElement(MADE[which]));
+    const style = this.styleOf(made);
+    const found = style.display !== "none" && contentText(style.getPropertyValue(CONTENT)) !== null;
+    made.remove();
+    return found;
+  }
 
   /** Says at each element, at the present world, what the copy computes otherwise than the page; in rounds, since children inherit. */
   settle(at) {
