@@ -97,7 +97,7 @@ numbers_from path (step ∷ above) e =
 
     here_by : (a : Above) → are_sound (step_of a ▸ path) ≡ true → is_above_zero a ≡ true
     here_by (Def row d) s =
-        (and_parts (is_declared path row.now) (lt_z (pos 0) d) (and_parts (is_declared path row.now && lt_z (pos 0) d) (are_sound path) s).0).1
+        (and_parts (is_declared path row) (lt_z (pos 0) d) (and_parts (is_declared path row && lt_z (pos 0) d) (are_sound path) s).0).1
     here_by (First row) s = refl
     here_by (Second row) s = refl
     here_by (Lemma row) s = refl

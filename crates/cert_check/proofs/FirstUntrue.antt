@@ -1,5 +1,5 @@
 -- The first world of a rectangle at which the formula is false.
-use Rattle.std.proofs.Common.{◌≡◌, Bool, true, false, not, Option, Some, None, Ok, Err, refl, sym}
+use Rattle.std.proofs.Common.{◌≡◌, Option, Some, None, Ok, Err, sym}
 use Rattle.std.proofs.lemmas.Bool.{not-false, not-true}
 use Rattle.viz_base.specs.declared.memory.Mem.{Mem}
 use Rattle.std.specs.Prelude.{IfOk, Result}

@@ -14,3 +14,6 @@ pub mod Judging
 pub mod Tellings
 pub mod FitFloors
 pub mod PlainUnits
+mod ByPieces
+mod Findings
+mod Turns

@@ -158,9 +158,9 @@ stays_outside world path [] e = e
 stays_outside world path (a ∷ above) e = stays_outside world (step_of a ▸ path) above (by_step a)
   where
     by_step : (a : Above) → are_computed (step_of a ▸ path) world ≡ false
-    by_step (Def row d) = (λ i. e i && is_some (computed row.now (values_along world path)))
-    by_step (First row) = (λ i. e i && (is_unit (form_of path) row.now || is_some (computed row.now (values_along world path))))
-    by_step (Second row) = (λ i. e i && (is_unit (form_of path) row.now || is_some (computed row.now (values_along world path))))
+    by_step (Def row d) = (λ i. e i && is_some (computed row (values_along world path)))
+    by_step (First row) = (λ i. e i && (is_unit (form_of path) row || is_some (computed row (values_along world path))))
+    by_step (Second row) = (λ i. e i && (is_unit (form_of path) row || is_some (computed row (values_along world path))))
     by_step (Lemma row) = e
 
 end_says : (world : World) (path : Path) (ns : List ℤ) (on : Bool) → IsSoFar world path ns on → Says world path (Some on)
@@ -190,81 +190,81 @@ one_false true b P e f g = g e
 one_false false b P e f g = f refl
 
 passes : (world : World) (path : Path) (ns : List ℤ) (on : Bool) → IsSoFar world path ns on → (a : Above) → Passes world path a (pass (form_of path) a ns on)
-passes world path ns on h (Def row d) = by_number (computed row.now (value_in ns)) refl
+passes world path ns on h (Def row d) = by_number (computed row (value_in ns)) refl
   where
-    along : computed row.now (value_in ns) ≡ computed row.now (values_along world path)
-    along = as_along world path ns row.now h.values
+    along : computed row (value_in ns) ≡ computed row (values_along world path)
+    along = as_along world path ns row h.values
 
-    by_number : (o : Option ℤ) → computed row.now (value_in ns) ≡ o → Passes world path (Def row d) (option_map (λ v. (ns ++ int_div_euclid v d ∷ [], on)) o)
+    by_number : (o : Option ℤ) → computed row (value_in ns) ≡ o → Passes world path (Def row d) (option_map (λ v. (ns ++ int_div_euclid v d ∷ [], on)) o)
     by_number None e = let past = h.computed in let none = ap is_some (sym along ∙ e) in λ i. past i && none i
     by_number (Some z) e =
         let past = h.computed in
         let some = ap is_some (sym along ∙ e) in
-        let z_is : z ≡ value row.now (value_in (numbers_at world path)) = computed_is row.now (value_in ns) z e ∙ ap (λ (l : List ℤ). value row.now (value_in l)) h.values in
+        let z_is : z ≡ value row (value_in (numbers_at world path)) = computed_is row (value_in ns) z e ∙ ap (λ (l : List ℤ). value row (value_in l)) h.values in
         record {
-          values = (λ i. h.values i ++ int_div_euclid (z_is i) d ∷ []) ∙ sym (numbers-def world row.now d path);
+          values = (λ i. h.values i ++ int_div_euclid (z_is i) d ∷ []) ∙ sym (numbers-def world row d path);
           computed = λ i. past i && some i;
           on = h.on;
           off = h.off;
         }
-passes world path ns on h (First row) = by_unit (is_unit (form_of path) row.now) refl
+passes world path ns on h (First row) = by_unit (is_unit (form_of path) row) refl
   where
-    along : computed row.now (value_in ns) ≡ computed row.now (values_along world path)
-    along = as_along world path ns row.now h.values
+    along : computed row (value_in ns) ≡ computed row (values_along world path)
+    along = as_along world path ns row h.values
 
-    by_number : is_unit (form_of path) row.now ≡ false → (o : Option ℤ) → computed row.now (value_in ns) ≡ o → Passes world path (First row) (option_map (λ v. (ns, on && int_le (pos 0) v)) o)
+    by_number : is_unit (form_of path) row ≡ false → (o : Option ℤ) → computed row (value_in ns) ≡ o → Passes world path (First row) (option_map (λ v. (ns, on && int_le (pos 0) v)) o)
     by_number u None e = let past = h.computed in let none = ap is_some (sym along ∙ e) in λ i. past i && (u i || none i)
     by_number u (Some z) e =
         let past = h.computed in
         let some = ap is_some (sym along ∙ e) in
-        let z_is : z ≡ value row.now (values_along world path) = computed_is row.now (values_along world path) z (sym along ∙ e) in
+        let z_is : z ≡ value row (values_along world path) = computed_is row (values_along world path) z (sym along ∙ e) in
         record {
-          values = h.values ∙ sym (numbers-first world row.now path);
+          values = h.values ∙ sym (numbers-first world row path);
           computed = λ i. past i && (u i || some i);
           on = λ t. let b = and_parts on (int_le (pos 0) z) t in (λ _. subst (λ y. pos 0 ≤ℤ y) z_is (to_le z b.1), h.on b.0);
           off = λ f b. one_false on (int_le (pos 0) z) ⊥ f (λ o. h.off o b.1) (λ l. not_le z l (subst (λ y. pos 0 ≤ℤ y) (sym z_is) (b.0 u)));
         }
 
-    by_unit : (b : Bool) → is_unit (form_of path) row.now ≡ b → Passes world path (First row) (cond b (Some (ns, on)) (option_map (λ v. (ns, on && int_le (pos 0) v)) (computed row.now (value_in ns))))
+    by_unit : (b : Bool) → is_unit (form_of path) row ≡ b → Passes world path (First row) (cond b (Some (ns, on)) (option_map (λ v. (ns, on && int_le (pos 0) v)) (computed row (value_in ns))))
     by_unit true u =
         let past = h.computed in
         record {
-          values = h.values ∙ sym (numbers-first world row.now path);
-          computed = λ i. past i && (u i || is_some (computed row.now (values_along world path)));
+          values = h.values ∙ sym (numbers-first world row path);
+          computed = λ i. past i && (u i || is_some (computed row (values_along world path)));
           on = λ t. (λ f. absurd (cc), h.on t);
           off = λ f b. h.off f b.1;
         }
-    by_unit false u = by_number u (computed row.now (value_in ns)) refl
-passes world path ns on h (Second row) = by_unit (is_unit (form_of path) row.now) refl
+    by_unit false u = by_number u (computed row (value_in ns)) refl
+passes world path ns on h (Second row) = by_unit (is_unit (form_of path) row) refl
   where
-    along : computed row.now (value_in ns) ≡ computed row.now (values_along world path)
-    along = as_along world path ns row.now h.values
+    along : computed row (value_in ns) ≡ computed row (values_along world path)
+    along = as_along world path ns row h.values
 
-    by_number : is_unit (form_of path) row.now ≡ false → (o : Option ℤ) → computed row.now (value_in ns) ≡ o → Passes world path (Second row) (option_map (λ v. (ns, on && lt_z v (pos 0))) o)
+    by_number : is_unit (form_of path) row ≡ false → (o : Option ℤ) → computed row (value_in ns) ≡ o → Passes world path (Second row) (option_map (λ v. (ns, on && lt_z v (pos 0))) o)
     by_number u None e = let past = h.computed in let none = ap is_some (sym along ∙ e) in λ i. past i && (u i || none i)
     by_number u (Some z) e =
         let past = h.computed in
         let some = ap is_some (sym along ∙ e) in
-        let z_is : z ≡ value row.now (values_along world path) = computed_is row.now (values_along world path) z (sym along ∙ e) in
+        let z_is : z ≡ value row (values_along world path) = computed_is row (values_along world path) z (sym along ∙ e) in
         record {
-          values = h.values ∙ sym (numbers-second world row.now path);
+          values = h.values ∙ sym (numbers-second world row path);
           computed = λ i. past i && (u i || some i);
           on = λ t. let b = and_parts on (lt_z z (pos 0)) t in (λ _. subst (λ y. y <ℤ pos 0) z_is (is_lt z b.1), h.on b.0);
           off = λ f b. one_false on (lt_z z (pos 0)) ⊥ f (λ o. h.off o b.1) (λ l. not_lt z l (subst (λ y. y <ℤ pos 0) (sym z_is) (b.0 u)));
         }
 
-    by_unit : (b : Bool) → is_unit (form_of path) row.now ≡ b → Passes world path (Second row) (cond b (Some (ns, on)) (option_map (λ v. (ns, on && lt_z v (pos 0))) (computed row.now (value_in ns))))
+    by_unit : (b : Bool) → is_unit (form_of path) row ≡ b → Passes world path (Second row) (cond b (Some (ns, on)) (option_map (λ v. (ns, on && lt_z v (pos 0))) (computed row (value_in ns))))
     by_unit true u =
         let past = h.computed in
         record {
-          values = h.values ∙ sym (numbers-second world row.now path);
-          computed = λ i. past i && (u i || is_some (computed row.now (values_along world path)));
+          values = h.values ∙ sym (numbers-second world row path);
+          computed = λ i. past i && (u i || is_some (computed row (values_along world path)));
           on = λ t. (λ f. absurd (cc), h.on t);
           off = λ f b. h.off f b.1;
         }
-    by_unit false u = by_number u (computed row.now (value_in ns)) refl
+    by_unit false u = by_number u (computed row (value_in ns)) refl
 passes world path ns on h (Lemma row) = record {
-  values = h.values ∙ sym (numbers-lemma world row.now path);
+  values = h.values ∙ sym (numbers-lemma world row path);
   computed = h.computed;
   on = h.on;
   off = h.off;

@@ -5,5 +5,6 @@ pub mod Numbers
 pub mod Leaves
 pub mod Right
 pub mod Verdicts
+pub mod Bytes
 pub mod Laws
 pub mod steps

@@ -1,5 +1,6 @@
 pub mod Descent
 pub mod Grids
+pub mod Stream
 pub mod Tells
 pub mod Worlds
 pub mod Ways

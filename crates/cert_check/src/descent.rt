@@ -16,16 +16,16 @@ use sym_calc::{Floor, Path};
 use viz_base::{Job, List, Mem};
 
 /// A def, a split or a lemma above a node, and in which part of a split the node lies.
-#[derive(Clone, Copy)]
-pub enum Above<'a> {
+#[derive(Drop)]
+pub enum Above {
     /// A def of a row and a number.
-    Def(&'a Row, i128),
+    Def(Row, i128),
     /// A split by a row, the node being in the first part.
-    First(&'a Row),
+    First(Row),
     /// A split by a row, the node being in the second part.
-    Second(&'a Row),
+    Second(Row),
     /// A lemma of a row.
-    Lemma(&'a Row),
+    Lemma(Row),
 }
 
 /// The way from the root of a certificate down to a node, which goes down and back up: the defs, splits and lemmas in
@@ -34,7 +34,7 @@ pub enum Above<'a> {
 pub struct Descent<'a> {
     job: &'a Job,
     path: Path,
-    above: List<Above<'a>>,
+    above: List<Above>,
     ghost origin: { path.origin ≡ origin_of job.now.range (path_of job.now.form above) },
     ghost entailed: { AreEntailed job.now.range (path_of job.now.form above) } by { entailed_above job.now above },
     ghost sound: { IsTrue (are_sound (path_of job.now.form above)) },
@@ -82,7 +82,7 @@ impl<'a> Descent<'a> {
     }
 
     /// The defs, splits and lemmas above, from the root down.
-    pub fn above(&self) -> &[Above<'a>]
+    pub fn above(&self) -> &[Above]
         ensures { result.now ≡ self.now.above }
     {
         self.above.as_slice()
@@ -98,7 +98,7 @@ impl<'a> Descent<'a> {
 
     /// Goes below a well shaped def.
     #[inline(never)]
-    pub fn enter_def(&mut self, row: &'a Row, by: i128) -> Result<(), Mem>
+    pub fn enter_def(&mut self, row: &Row, by: i128) -> Result<(), Mem>
         requires shaped { IsTrue (is_shaped self.old.job.now.range (path_at self.old) (names row.now by)) }
         requires room { variables (path_at self.old) < 2 ^ 32 }
         ensures job { OnOk result (self.new.job.now ≡ self.old.job.now) }
@@ -110,7 +110,7 @@ impl<'a> Descent<'a> {
             by,
         };
         let count = self.above.len();
-        self.above.push(Above::Def(row, by))?;
+        self.above.push(Above::Def(row.clone()?, by))?;
         match self.path.define(floor, variable) {
             Ok(()) => Ok(()),
             Err(RowFault::Mem) => {
@@ -127,13 +127,13 @@ impl<'a> Descent<'a> {
 
     /// Goes to the first part of a split by a row of declared variables.
     #[inline(never)]
-    pub fn enter_first(&mut self, row: &'a Row) -> Result<(), AllocError>
+    pub fn enter_first(&mut self, row: &Row) -> Result<(), AllocError>
         requires { IsTrue (is_declared (path_at self.old) row.now) }
         ensures job { OnOk result (self.new.job.now ≡ self.old.job.now) }
         ensures above { OnOk result (path_at self.new ≡ first row.now ▸ path_at self.old) }
     {
         let count = self.above.len();
-        self.above.push(Above::First(row))?;
+        self.above.push(Above::First(row.clone()?))?;
         match self.path.enter_first(row) {
             Ok(()) => Ok(()),
             Err(fault) => {
@@ -145,14 +145,14 @@ impl<'a> Descent<'a> {
 
     /// Goes to the second part of a split by a row of declared variables, whose denial is in `i128`.
     #[inline(never)]
-    pub fn enter_second(&mut self, row: &'a Row) -> Result<(), Mem>
+    pub fn enter_second(&mut self, row: &Row) -> Result<(), Mem>
         requires declared { IsTrue (is_declared (path_at self.old) row.now) }
         requires fits { IsTrue (form_fits (denied row.now)) }
         ensures job { OnOk result (self.new.job.now ≡ self.old.job.now) }
         ensures above { OnOk result (path_at self.new ≡ second row.now ▸ path_at self.old) }
     {
         let count = self.above.len();
-        self.above.push(Above::Second(row))?;
+        self.above.push(Above::Second(row.clone()?))?;
         match self.path.enter_second(row) {
             Ok(()) => Ok(()),
             Err(RowFault::Mem) => {
@@ -165,14 +165,14 @@ impl<'a> Descent<'a> {
 
     /// Goes below a lemma, whose row some derivation entails here.
     #[inline(never)]
-    pub fn enter_lemma(&mut self, row: &'a Row) -> Result<(), AllocError>
+    pub fn enter_lemma(&mut self, row: &Row) -> Result<(), AllocError>
         requires declared { IsTrue (is_declared (path_at self.old) row.now) }
         requires entailed { IsEntailed self.old.job.now.range (path_at self.old) row.now }
         ensures job { OnOk result (self.new.job.now ≡ self.old.job.now) }
         ensures above { OnOk result (path_at self.new ≡ lemma row.now ▸ path_at self.old) }
     {
         let count = self.above.len();
-        self.above.push(Above::Lemma(row))?;
+        self.above.push(Above::Lemma(row.clone()?))?;
         match self.path.enter_lemma(row) {
             Ok(()) => Ok(()),
             Err(fault) => {

@@ -1,6 +1,7 @@
 //! Checks a certificate against its job. What is accepted holds, whoever made the certificate.
 #![tactic(auto)]
 
+mod bytes;
 mod cuts;
 mod descent;
 mod entry;
@@ -12,9 +13,11 @@ mod numbers;
 mod path_worlds;
 mod shapes;
 mod verdicts;
+mod visits;
 mod walk;
 mod worlds;
 
+pub use bytes::{BytesVerdict, Front, check_bytes, check_front};
 pub use cuts::{Child, Cut, Opens, cut_of, part_of, world_count};
 pub use entry::check;
 pub use halves::{Halves, halves_of, longest_axis, middle};

@@ -54,17 +54,17 @@ fn computed(row: &Row, values: &List<i128>) -> Option<i128>
 
 /// Whether a world is still on the path below one def, split or lemma more. A def adds its floor to the values of the
 /// variables; a unit split and a lemma are passed over. None where a number is outside `i128`.
-fn pass(form: u8, values: &mut List<i128>, step: Above<'_>, on: bool) -> Result<Option<bool>, Mem>
-    requires { IsTrue (is_above_zero step) }
+fn pass(form: u8, values: &mut List<i128>, step: &Above, on: bool) -> Result<Option<bool>, Mem>
+    requires { IsTrue (is_above_zero step.now) }
     ensures { IfOk result (λ passed.
-        option_map (λ still. (values.new, still)) passed ≡ pass form step.entry values.old on) }
+        option_map (λ still. (values.new, still)) passed ≡ pass form step.now values.old on) }
 {
     match step {
         Above::Def(row, by) => {
             let Some(value) = computed(row, values) else {
                 return Ok(None);
             };
-            values.push(value.div_euclid(by))?;
+            values.push(value.div_euclid(*by))?;
             Ok(Some(on))
         }
         Above::First(row) | Above::Second(row) if cut_of(form, row).is_some() => Ok(Some(on)),
@@ -89,19 +89,14 @@ fn numbers_of(alloc: Global, form: u8, world: World) -> Result<List<i128>, Mem>
 
 /// Whether a world that the unit splits of a path leave is on the path. None where a number of its defs or of its
 /// other splits is outside `i128` there.
-pub fn place_of(
-    alloc: Global,
-    form: u8,
-    above: &[Above<'_>],
-    world: World,
-) -> Result<Option<bool>, Mem>
+pub fn place_of(alloc: Global, form: u8, above: &[Above], world: World) -> Result<Option<bool>, Mem>
     requires { IsTrue (are_above_zero above.now) }
     ensures { IfOk result (λ place. place ≡ place_of form above.now world) }
 {
     let mut values = numbers_of(alloc, form, world)?;
     let mut on = true;
     for step in above {
-        match pass(form, &mut values, *step, on)? {
+        match pass(form, &mut values, step, on)? {
             Some(still) => on = still,
             None => return Ok(None),
         }

@@ -15,7 +15,7 @@ use viz_base::{Job, Mem, Rect, World};
 struct Outside<'a> {
     alloc: Global,
     job: &'a Job,
-    above: &'a [Above<'a>],
+    above: &'a [Above],
     ghost above_zero: { IsTrue (are_above_zero above.now) },
 }
 
@@ -38,7 +38,7 @@ impl Look for Outside<'_> {
 struct UntrueOn<'a> {
     alloc: Global,
     job: &'a Job,
-    above: &'a [Above<'a>],
+    above: &'a [Above],
     ghost above_zero: { IsTrue (are_above_zero above.now) },
 }
 
@@ -61,7 +61,7 @@ impl Look for UntrueOn<'_> {
 pub fn first_outside(
     alloc: Global,
     job: &Job,
-    above: &[Above<'_>],
+    above: &[Above],
     rect: Rect,
 ) -> Result<Option<World>, Mem>
     requires above { IsTrue (are_above_zero above.now) }
@@ -75,7 +75,7 @@ pub fn first_outside(
 pub fn first_untrue(
     alloc: Global,
     job: &Job,
-    above: &[Above<'_>],
+    above: &[Above],
     rect: Rect,
 ) -> Result<Option<World>, Mem>
     requires above { IsTrue (are_above_zero above.now) }

@@ -61,7 +61,7 @@ impl From<AllocError> for Stop {
 }
 
 /// The part of a part that lies under a child of a split, which only a unit split cuts.
-fn child_part(form: u8, row: &Row, child: Child, part: Option<Rect>) -> Option<Rect>
+pub fn child_part(form: u8, row: &Row, child: Child, part: Option<Rect>) -> Option<Rect>
     ensures { result ≡ option_and_then (cut_at (cut_of form row.now) child) part }
 {
     match cut_of(form, row) {
@@ -85,7 +85,7 @@ fn rejected(alloc: Global, reject: Reject) -> Result<(), Stop>
 #[tactic(auto, using(crate::proofs::Judging::judged_mem))]
 /// Whether a def is well shaped.
 #[inline(never)]
-fn check_def(
+pub fn check_def(
     alloc: Global,
     descent: &Descent<'_>,
     number: u32,
@@ -105,7 +105,7 @@ fn check_def(
 #[tactic(auto, using(crate::proofs::Judging::judged_mem))]
 /// Whether a split is well shaped, and its denial in `i128`.
 #[inline(never)]
-fn check_split(alloc: Global, descent: &Descent<'_>, number: u32, row: &Row) -> Result<(), Stop>
+pub fn check_split(alloc: Global, descent: &Descent<'_>, number: u32, row: &Row) -> Result<(), Stop>
     requires { variables (path_at descent.now) < 2 ^ 32 }
     ensures { Judges descent.now.job.now (node_on (path_at descent.now) (splits row.now)) number result }
 {
@@ -123,7 +123,7 @@ fn check_split(alloc: Global, descent: &Descent<'_>, number: u32, row: &Row) -> 
 #[tactic(auto, using(crate::proofs::Judging::judged_mem))]
 /// Whether a lemma is well shaped, its denial in `i128`, and its row entailed by the facts of its path.
 #[inline(never)]
-fn check_lemma(
+pub fn check_lemma(
     alloc: Global,
     descent: &Descent<'_>,
     number: u32,
@@ -153,7 +153,7 @@ fn check_lemma(
 #[tactic(auto, using(crate::proofs::Judging::judged_mem))]
 /// Whether a void's derivation refutes the facts of its path.
 #[inline(never)]
-fn check_void(
+pub fn check_void(
     alloc: Global,
     descent: &Descent<'_>,
     number: u32,
@@ -178,7 +178,7 @@ fn check_void(
 #[tactic(auto, using(crate::proofs::Judging::judged_mem))]
 /// Goes through the worlds of a grid: those of its part that are on its path.
 #[inline(never)]
-fn check_grid(
+pub fn check_grid(
     alloc: Global,
     descent: &Descent<'_>,
     number: u32,
@@ -208,7 +208,7 @@ fn check_grid(
 #[tactic(auto, using(crate::proofs::Judging::judged_mem))]
 /// Lays out a leaf's page by its answers.
 #[inline(never)]
-fn check_answers(
+pub fn check_answers(
     alloc: Global,
     descent: &Descent<'_>,
     number: u32,

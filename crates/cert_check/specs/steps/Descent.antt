@@ -9,10 +9,10 @@ use Rattle.cert_check.specs.declared.descent.Above.{Above}
 use Rattle.cert_check.specs.declared.descent.Above.TheVariants.{Def, First, Second, Lemma}
 
 abbrev pub step_of : Above → Step
-step_of (Def row d) = def row.now d
-step_of (First row) = first row.now
-step_of (Second row) = second row.now
-step_of (Lemma row) = lemma row.now
+step_of (Def row d) = def row d
+step_of (First row) = first row
+step_of (Second row) = second row
+step_of (Lemma row) = lemma row
 
 -- the path that goes on with these steps
 abbrev pub path_from : Path → List Above → Path

@@ -38,13 +38,13 @@ are_above_zero = list_all is_above_zero
 -- the values below one step more, and whether the world is still on the path
 abbrev pub pass : ℕ → Above → List ℤ → Bool → Option (List ℤ × Bool)
 pass form (Def row d) values on =
-    option_map (λ v. (values ++ int_div_euclid v d ∷ [], on)) (computed row.now (value_in values))
+    option_map (λ v. (values ++ int_div_euclid v d ∷ [], on)) (computed row (value_in values))
 pass form (First row) values on =
-    if is_unit form row.now then Some (values, on)
-    else option_map (λ v. (values, on && int_le (pos 0) v)) (computed row.now (value_in values))
+    if is_unit form row then Some (values, on)
+    else option_map (λ v. (values, on && int_le (pos 0) v)) (computed row (value_in values))
 pass form (Second row) values on =
-    if is_unit form row.now then Some (values, on)
-    else option_map (λ v. (values, on && lt_z v (pos 0))) (computed row.now (value_in values))
+    if is_unit form row then Some (values, on)
+    else option_map (λ v. (values, on && lt_z v (pos 0))) (computed row (value_in values))
 pass form (Lemma row) values on = Some (values, on)
 
 abbrev pub place_from : ℕ → List Above → List ℤ → Bool → Option Bool

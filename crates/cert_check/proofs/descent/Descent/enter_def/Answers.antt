@@ -40,8 +40,10 @@ invariant_of-self-in-Ok c =
     let fits : FitsSigned w128 c.args.by = c.ranges.by in
     let copied : c.in_ok-clone.field-0 ≡ c.args.row.now = search rules in
     let fit = fit_here s.job.now.range (path_at s) c.args.row.now c.args.by c.requires.shaped in
-    let pushed = simp to_z-of_z at c.in_ok-push.ensures.ok in
-    let path = after_push s.job.now.form s.above c.push.new.self (Def c.args.row c.args.by) pushed in
+    let again : c.in_ok-clone-2.field-0 ≡ c.args.row.now = search rules in
+    let added = simp to_z-of_z at c.in_ok-push.ensures.ok in
+    let pushed = added ∙ (λ i. s.above ++ Def (again i) c.args.by ∷ []) in
+    let path = after_push s.job.now.form s.above c.push.new.self (Def c.args.row.now c.args.by) pushed in
     let declared = fit.declared in
     let test = fit.test in
     let sound = s.sound in
@@ -59,7 +61,9 @@ pub returns-in-Ok-clause-above : goal.returns-in-Ok-clause-above
 returns-in-Ok-clause-above c =
     let s = c.args.self.now in
     let fits : FitsSigned w128 c.args.by = c.ranges.by in
-    after_push s.job.now.form s.above c.push.new.self (Def c.args.row c.args.by) (simp to_z-of_z at c.in_ok-push.ensures.ok)
+    let again : c.in_ok-clone-2.field-0 ≡ c.args.row.now = search rules in
+    let added = simp to_z-of_z at c.in_ok-push.ensures.ok in
+    after_push s.job.now.form s.above c.push.new.self (Def c.args.row.now c.args.by) (added ∙ (λ i. s.above ++ Def (again i) c.args.by ∷ []))
 
 pub unreachable-requires : goal.unreachable-requires
 unreachable-requires c =

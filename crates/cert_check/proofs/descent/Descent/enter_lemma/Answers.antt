@@ -1,4 +1,4 @@
-use Rattle.std.proofs.Common.{◌≡◌, ◌∙◌, ◌∷◌, ◌++◌, [], true, ◌&&◌, sym, ap, subst}
+use Rattle.std.proofs.Common.{◌≡◌, ◌∙◌, ◌∷◌, ◌++◌, [], true, ◌&&◌, rules, sym, ap, subst}
 use Rattle.cert_path.specs.Facts.{facts}
 use Rattle.cert_path.specs.Derived.{AreEntailed}
 use Rattle.sym_calc.specs.Laws.{origin_of}
@@ -12,7 +12,9 @@ pub invariant_of-self-in-Ok : goal.invariant_of-self-in-Ok
 invariant_of-self-in-Ok c =
     let s = c.args.self.now in
     let declared = c.requires.declared in
-    let path = after_push s.job.now.form s.above c.push.new.self (Lemma c.args.row) c.in_ok-push.ensures.ok in
+    let copied : c.in_ok-clone.field-0 ≡ c.args.row.now = search rules in
+    let pushed = c.in_ok-push.ensures.ok ∙ (λ i. s.above ++ Lemma (copied i) ∷ []) in
+    let path = after_push s.job.now.form s.above c.push.new.self (Lemma c.args.row.now) pushed in
     let sound = s.sound in
     record {
       origin = c.enter_lemma.ensures.origin ∙ s.origin ∙ ap (origin_of s.job.now.range) (sym path);
@@ -23,4 +25,7 @@ invariant_of-self-in-Ok c =
     }
 
 pub returns-in-Ok-clause-above : goal.returns-in-Ok-clause-above
-returns-in-Ok-clause-above c = after_push c.args.self.now.job.now.form c.args.self.now.above c.push.new.self (Lemma c.args.row) c.in_ok-push.ensures.ok
+returns-in-Ok-clause-above c =
+    let s = c.args.self.now in
+    let copied : c.in_ok-clone.field-0 ≡ c.args.row.now = search rules in
+    after_push s.job.now.form s.above c.push.new.self (Lemma c.args.row.now) (c.in_ok-push.ensures.ok ∙ (λ i. s.above ++ Lemma (copied i) ∷ []))
