@@ -12,12 +12,16 @@ use Rattle.layout_semantics.specs.BoxTrees.{page_boxes, page_parts, tree_parents
 use Rattle.layout_semantics.specs.Parts.{Part}
 use Rattle.layout_semantics.specs.Refusals.{BoxRefusal, blocks_in_inlines, first_refusal, page_refusal, right_to_left_letters}
 use Rattle.layout_laws.proofs.TextTotals.{letters_within}
-use Rattle.page_json.specs.Jobs.{characters}
+use Rattle.page_json.specs.Jobs.{characters, raw_of}
 use Rattle.viz_base.specs.declared.sheets.Sheet.{Sheet}
 use Rattle.page_pseudo.specs.Growth.{Growth}
 use Rattle.page_build.specs.Jobs.{HasGrowth}
 use Rattle.page_build.proofs.GrownOrder.{grown-characters}
-use Rattle.page_boxes.specs.Trees.{TreeLists, page_tree, unless_refused}
+use Rattle.page_boxes.specs.Trees.{TreeLists, lists_of, page_tree, unless_refused}
+use Rattle.page_pseudo.proofs.GrownPages.{grown_page}
+use Rattle.page_build.specs.Seen.{IsLaid}
+use Rattle.page_build.specs.declared.building.Laid.{Laid}
+use Rattle.page_build.specs.declared.files.JobFile.{JobFile}
 
 -- ---- trees within their limits
 
@@ -58,3 +62,23 @@ grown_within {g = g} page h =
     let more = grown-characters h.page g.0 g.1 g.2 (subst IsPage (sym h.written) page) h.growth.0 h.growth.1 in
     let same = ap characters h.written in
     omega (arith, more, same)
+
+-- a page with its generated content is a page
+pub grown_page_of : {nodes : List Node} {texts : List (List ℕ)} {sheets : List Sheet} {g : Growth} → IsPage nodes → HasGrowth nodes texts sheets (Ok g) → IsPage g.0
+grown_page_of page h =
+    let grown = h.growth.0 in
+    subst IsPage (sym grown.nodes_are) (grown_page h.page (subst IsPage (sym h.written) page) grown.all grown.grow h.growth.1)
+
+-- the tree of a page that is within its limits, with its generated content
+pub job_within : (file : JobFile) (laid : Laid) → (sheets : List Sheet) × IsLaid (raw_of file.raw) sheets laid → IsWithin 524288 (lists_of laid.tree)
+job_within file laid h =
+    let tree = h.1.boxes.tree in
+    let page = grown_page_of file.raw.page.ok h.1.boxes.growth in
+    let within = tree_within h.1.grown.0 tree.styles h.1.boxes.fonts (lists_of laid.tree) page tree.boxes in
+    let more = grown_within file.raw.page.ok h.1.boxes.growth in
+    let few = file.within.few_characters in
+    record {
+      few_boxes = within.few_boxes;
+      few_characters = omega (arith, within.few_characters, more, few);
+      reach = within.reach;
+    }

@@ -3,10 +3,11 @@ pub mod GrownOrder
 pub mod ReadSheets
 pub mod JobFacts
 pub mod Stages
+pub mod PartStages
 pub mod SameFields
 pub mod OneStyle
 pub mod ReadPages
 pub mod OneSheet
 pub mod OnePage
+pub mod OneTree
 pub mod OneJob
-pub mod ShownSheets

@@ -1,4 +1,3 @@
-pub mod Media
 pub mod Sheets
 pub mod Refusals
 pub mod Renumbering

@@ -9,6 +9,8 @@ use Rattle.css_semantics.specs.Sources.{IsValueAt}
 use Rattle.layout_semantics.specs.Refusals.{BoxRefusal}
 use Rattle.page_json.specs.declared.faults.JobFault.{JobFault}
 use Rattle.page_json.specs.declared.faults.JobFault.TheVariants as of_fault
+use Rattle.page_media.specs.declared.faults.MediaFault.{MediaFault}
+use Rattle.page_media.specs.declared.faults.MediaFault.TheVariants as of_queries
 use Rattle.page_pseudo.specs.declared.fault.GrowFault.{GrowFault}
 use Rattle.page_pseudo.specs.declared.fault.GrowFault.TheVariants as of_grow
 use Rattle.page_boxes.specs.declared.faults.BoxFault.{BoxFault}
@@ -17,7 +19,7 @@ use Rattle.vis_read.specs.declared.faults.FormulaFault.{FormulaFault}
 use Rattle.vis_read.specs.declared.faults.FormulaFault.TheVariants as of_text
 use Rattle.page_build.specs.Sheets.{IsFirstRefused}
 use Rattle.page_build.specs.declared.faults.JobRefusal.{JobRefusal}
-use Rattle.page_build.specs.declared.faults.JobRefusal.TheVariants.{Mem, NotJson, Shape, Limit, Range, Import, MediaQuery, TooManyRules, Selector, Value, Generated, BlockInInline, RightToLeft, TooManyBoxes, Reach, Bad, Unbound, TooDeep}
+use Rattle.page_build.specs.declared.faults.JobRefusal.TheVariants.{Mem, NotJson, Shape, Limit, Range, Import, MediaQuery, TooManyRules, TooManyQueries, TooManyParts, Selector, Value, Generated, BlockInInline, RightToLeft, TooManyBoxes, Reach, Bad, Unbound, TooDeep}
 
 -- of its file
 abbrev pub of_file : JobFault → JobRefusal
@@ -37,6 +39,12 @@ of_sheet number too_many = TooManyRules number
 abbrev pub IsSheetRefusal : List (List ℕ) → JobRefusal → Type 0
 IsSheetRefusal css refusal = (number : ℕ) × (why : Refusal) × IsFirstRefused css number why
     × (refusal ≡ of_sheet number why)
+
+-- of its width queries
+abbrev pub of_media : MediaFault → JobRefusal
+of_media of_queries.Mem = Mem
+of_media (of_queries.TooManyQueries number place) = TooManyQueries number place
+of_media (of_queries.TooManyParts count) = TooManyParts count
 
 -- of its generated content
 abbrev pub of_growth : GrowFault → JobRefusal

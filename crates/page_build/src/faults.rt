@@ -1,5 +1,6 @@
 use page_boxes::BoxFault;
 use page_json::JobFault;
+use page_media::MediaFault;
 use page_pseudo::GrowFault;
 use std::alloc::{AllocError, AllocFailed};
 use thiserror::Error;
@@ -35,6 +36,12 @@ pub enum JobRefusal {
     /// A sheet with more than 8,192 rules.
     #[error("too many rules in sheet {0}")]
     TooManyRules(u32),
+    /// More than 16 features that width queries ask for: the sheet, and the place of the rule with the seventeenth.
+    #[error("too many width queries in sheet {0} at {1}")]
+    TooManyQueries(u32, u32),
+    /// More than 12 parts of the range in which other features are met: how many.
+    #[error("too many parts: {0}")]
+    TooManyParts(u32),
     /// A selector that is refused by name: the sheet, and the place.
     #[error("unsupported selector in sheet {0} at {1}")]
     Selector(u32, u32),
@@ -115,6 +122,21 @@ impl From<JobFault> for JobRefusal {
             JobFault::Shape(part, place) => JobRefusal::Shape(part, place),
             JobFault::Limit(which, count) => JobRefusal::Limit(which, count),
             JobFault::Range => JobRefusal::Range,
+        }
+    }
+}
+
+impl From<MediaFault> for JobRefusal {
+    ghost use Rattle.std.specs.Prelude.{◌≡◌};
+    ghost use Rattle.page_build.specs.Refusals.{of_media};
+
+    ghost from_gives = { λ fault refusal. refusal ≡ of_media fault };
+
+    fn from(fault: MediaFault) -> Self {
+        match fault {
+            MediaFault::Mem => JobRefusal::Mem,
+            MediaFault::TooManyQueries { sheet, at } => JobRefusal::TooManyQueries(sheet, at),
+            MediaFault::TooManyParts(count) => JobRefusal::TooManyParts(count),
         }
     }
 }

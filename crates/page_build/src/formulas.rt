@@ -13,7 +13,7 @@ use vis_read::read_formula;
 use viz_base::{Formula, Page};
 
 /// The formula that the text of an assertion spells, of a page.
-fn written(alloc: Global, text: &str, page: &Page) -> Result<Formula, JobRefusal>
+pub(crate) fn written(alloc: Global, text: &str, page: &Page) -> Result<Formula, JobRefusal>
     requires { length text.now ≤ 16384 }
     ensures given { MatchResult result (IsFormulaText page.now.nodes text.now)
         (λ refusal. refusal ≢ JobRefusal.Mem

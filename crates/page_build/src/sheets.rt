@@ -1,36 +1,19 @@
 //! The style sheets of a job.
-ghost use Rattle.std.specs.Prelude.{◌≡◌, ◌≢◌, ◌≤◌, ◌^◌, ◌∷◌, ℕ, None, Some, IfErr, IfOk, MatchResult, Ok, Err};
+ghost use Rattle.std.specs.Prelude.{◌≡◌, ◌≢◌, ◌≤◌, ◌^◌, ◌∷◌, IfErr, IfOk, MatchResult, Ok, Err};
 ghost use Rattle.css_semantics.specs.DefaultSheet.{default_text};
 ghost use Rattle.css_semantics.specs.SheetsGrammar.{IsSheetOf};
 ghost use Rattle.css_semantics.specs.SheetsReading.{Refusal};
 ghost use Rattle.page_build.specs.Refusals.{IsSheetRefusal, of_sheet};
-ghost use Rattle.page_build.specs.Media.{asking_place, met_rules};
-ghost use Rattle.page_build.specs.Sheets.{AreRead, AreSheets, IsShown};
+ghost use Rattle.page_build.specs.Sheets.{AreRead, AreSheets};
 
 use crate::faults::JobRefusal;
-use crate::media::{asking_place, met_rules};
 use css_cascade::default_sheet;
 use css_syntax::{SheetFault, read_sheet};
 use std::alloc::{AllocError, Global};
 use viz_base::{List, Sheet, Text};
 
-/// The rules of the author's sheet of this number that are met.
-fn shown_sheet(alloc: Global, number: u32, sheet: Sheet) -> Result<Sheet, JobRefusal>
-    ensures { MatchResult result
-        (λ shown. (asking_place sheet.rules ≡ None) × (shown ≡ record { rules = met_rules sheet.rules }))
-        (λ refusal. refusal ≢ JobRefusal.Mem
-        → (place : ℕ) × (asking_place sheet.rules ≡ Some place) × (refusal ≡ JobRefusal.MediaQuery number place)) }
-{
-    match asking_place(sheet.rules.as_slice()) {
-        Some(at) => Err(JobRefusal::MediaQuery(number, at)),
-        None => Ok(Sheet {
-            rules: met_rules(alloc, sheet.rules)?,
-        }),
-    }
-}
-
-/// The author's sheet of this number, with all its rules.
-fn whole_sheet(alloc: Global, number: u32, text: &str) -> Result<Sheet, JobRefusal>
+/// The author's sheet of this number.
+fn author_sheet(alloc: Global, number: u32, text: &str) -> Result<Sheet, JobRefusal>
     ensures { MatchResult result (λ sheet. IsSheetOf text.now (Ok sheet.rules))
         (λ refusal. refusal ≢ JobRefusal.Mem
         → (why : Refusal) × IsSheetOf text.now (Err why) × (refusal ≡ of_sheet number why)) }
@@ -41,18 +24,6 @@ fn whole_sheet(alloc: Global, number: u32, text: &str) -> Result<Sheet, JobRefus
         Err(SheetFault::Import(at)) => Err(JobRefusal::Import(number, at)),
         Err(SheetFault::MediaQuery(at)) => Err(JobRefusal::MediaQuery(number, at)),
         Err(SheetFault::TooManyRules) => Err(JobRefusal::TooManyRules(number)),
-    }
-}
-
-/// The author's sheet of this number.
-fn author_sheet(alloc: Global, number: u32, text: &str) -> Result<Sheet, JobRefusal>
-    ensures { MatchResult result (λ sheet. IsShown text.now (Ok sheet))
-        (λ refusal. refusal ≢ JobRefusal.Mem
-        → (why : Refusal) × IsShown text.now (Err why) × (refusal ≡ of_sheet number why)) }
-{
-    match whole_sheet(alloc, number, text) {
-        Ok(sheet) => shown_sheet(alloc, number, sheet),
-        Err(refusal) => Err(refusal),
     }
 }
 

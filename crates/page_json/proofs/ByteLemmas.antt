@@ -10,7 +10,7 @@ use Rattle.viz_base.specs.declared.raw_jobs.RawJob.{RawJob}
 use Rattle.page_json.specs.Faults.{refusal_of}
 use Rattle.page_json.specs.declared.faults.JobFault.{JobFault}
 use Rattle.page_json.specs.declared.faults.JobFault.TheVariants.{NotJson}
-use Rattle.page_json.specs.Jobs.{job_in, judged, raw_of, value_of}
+use Rattle.page_json.specs.Jobs.{Raw, raw_of, value_of}
 
 pub value_some : (bs : List ℕ) (d : Data) → IsUtf8 bs → read bs ≡ Some d → value_of bs ≡ Some d
 unfolding value_of
@@ -29,5 +29,7 @@ value_is None d e = cc
 value_is (Some e) d is = cc
 
 -- what a call says of the value that bytes have, it says of the bytes
-pub judged_as : (answer : Result RawJob JobFault) (o : Option Data) (d : Data) → ok_or o NotJson ≡ Ok d → Gives raw_of refusal_of answer (job_in d) → Gives raw_of refusal_of answer (judged o)
-judged_as answer o d e given = subst (λ (x : Option Data). Gives raw_of refusal_of answer (judged x)) (sym (value_is o d e)) given
+pub judged_as : (answer : Result RawJob JobFault) (of_bytes : Option Data → Result Raw JobFault) (of_value : Data → Result Raw JobFault) (o : Option Data) (d : Data) → ok_or o NotJson ≡ Ok d
+    → ((one : Data) → of_bytes (Some one) ≡ of_value one) → Gives raw_of refusal_of answer (of_value d) → Gives raw_of refusal_of answer (of_bytes o)
+judged_as answer of_bytes of_value o d e is given =
+    subst (λ (x : Option Data). Gives raw_of refusal_of answer (of_bytes x)) (sym (value_is o d e)) (subst (Gives raw_of refusal_of answer) (sym (is d)) given)

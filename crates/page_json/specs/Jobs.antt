@@ -70,9 +70,10 @@ page_of (Some d) = map_page d (nodes_of d)
     map_page root (Err place) = Err place
     map_page root (Ok nodes) = Ok (depth_of (places_of root), nodes)
 
--- what the members say, or the first of them that is missing, of another form or against a rule
-abbrev pub parts_of : Data → Result Parts JobFault
-parts_of d =
+-- what the members say, this being the text of the assertion if there is one, or the first of them that is missing, of
+-- another form or against a rule
+abbrev pub parts_under : Option (List ℕ) → Data → Result Parts JobFault
+parts_under assertion d =
     shaped part.Top (form_of d) >>= λ form.
     shaped part.Widths ((pair_of of_member codes "widths") d) >>= λ widths.
     shaped part.Sizes ((pair_of of_member codes "sizes") d) >>= λ sizes.
@@ -80,7 +81,7 @@ parts_of d =
     shaped_at part.Fonts (fonts_of ((list_of of_member codes "fonts") d)) >>= λ fonts.
     shaped_at part.Css (sheets_of (list_at (codes "css") d)) >>= λ css.
     shaped_at part.Page (page_of (get (codes "page") d)) >>= λ page.
-    shaped part.Assert ((as_str of_member codes "assert") d) >>= λ formula.
+    shaped part.Assert assertion >>= λ formula.
     Ok (record {
       form = form;
       widths = widths;
@@ -92,6 +93,13 @@ parts_of d =
       nodes = page.1;
       formula = formula;
     })
+
+-- the text of the member `assert`
+abbrev pub assertion_of : Data → Option (List ℕ)
+assertion_of = as_str of_member codes "assert"
+
+abbrev pub parts_of : Data → Result Parts JobFault
+parts_of d = parts_under (assertion_of d) d
 
 -- ---- limits
 
@@ -188,9 +196,13 @@ raw p = record {
 abbrev pub ranged : Parts → Result Raw JobFault
 ranged p = if in_range p then Ok (raw p) else Err Range
 
+-- what a value says as a job file, this being the text of its assertion if there is one
+abbrev pub job_under : Option (List ℕ) → Data → Result Raw JobFault
+job_under assertion d = parts_under assertion d >>= λ p. limited p >>= λ _. ranged p
+
 -- what a value says as a job file
 abbrev pub job_in : Data → Result Raw JobFault
-job_in d = parts_of d >>= λ p. limited p >>= λ _. ranged p
+job_in d = job_under (assertion_of d) d
 
 -- the JSON value of bytes
 unfoldable pub value_of : List ℕ → Option Data
@@ -203,6 +215,14 @@ judged (Some d) = job_in d
 -- what bytes say as a job file, or the first of their refusals
 abbrev pub raw_job : List ℕ → Result Raw JobFault
 raw_job bytes = judged (value_of bytes)
+
+abbrev pub judged_with : List ℕ → Option Data → Result Raw JobFault
+judged_with assertion None = Err NotJson
+judged_with assertion (Some d) = job_under (Some assertion) d
+
+-- what bytes say as a job file whose member `assert` is this text, whatever it is there, or the first of their refusals
+abbrev pub raw_job_with : List ℕ → List ℕ → Result Raw JobFault
+raw_job_with assertion bytes = judged_with assertion (value_of bytes)
 
 -- ---- what every job keeps
 

@@ -1,7 +1,7 @@
 -- What definitions see of the code's parts of a job.
-use Rattle.std.specs.Prelude.{◌≡◌, ℕ, ◌≤◌, List, length, map, Result, Ok, codes}
+use Rattle.std.specs.Prelude.{◌≡◌, ℕ, ◌≤◌, List, length, map, Option, Result, Ok, codes}
 use Rattle.serde_json.specs.Data.{Data}
-use Rattle.serde_json.specs.Find.{get, as_str}
+use Rattle.serde_json.specs.Find.{get}
 use Rattle.serde_json.specs.View.{view}
 use Rattle.page_json.specs.declared.places.Place.{Place}
 use Rattle.page_json.specs.declared.jobs.Nodes.{Nodes}
@@ -54,13 +54,13 @@ pub record AreWithinLimits (p : Parts) : Type 0 where
   pub few_characters : jobs.characters p.page.nodes ≤ 262144
   pub short_formula : length p.formula.now ≤ 16384
 
--- `parts_of` once the numbers are read
-abbrev pub lists_of : ℕ → ℕ × ℕ → ℕ × ℕ → ℕ × ℕ → Data → Result jobs.Parts JobFault
-lists_of form widths sizes heights d =
+-- `parts_under` once the numbers are read
+abbrev pub lists_under : Option (List ℕ) → ℕ → ℕ × ℕ → ℕ × ℕ → ℕ × ℕ → Data → Result jobs.Parts JobFault
+lists_under assertion form widths sizes heights d =
     shaped_at part.Fonts (jobs.fonts_of ((list_of of_member codes "fonts") d)) >>= λ fonts.
     shaped_at part.Css (jobs.sheets_of (list_at (codes "css") d)) >>= λ css.
     shaped_at part.Page (jobs.page_of (get (codes "page") d)) >>= λ page.
-    shaped part.Assert ((as_str of_member codes "assert") d) >>= λ formula.
+    shaped part.Assert assertion >>= λ formula.
     Ok (record {
       form = form;
       widths = widths;

@@ -1,4 +1,5 @@
 //! What the members of a job file say.
+ghost use Rattle.std.specs.Option.{option_copied};
 ghost use Rattle.std.specs.Prelude.{◌≡◌, ◌≤◌, codes, length, map, IfOk, IfSome};
 ghost use Rattle.serde_json.specs.Find.{as_str, get};
 ghost use Rattle.serde_json.specs.View.{view};
@@ -7,15 +8,15 @@ ghost use Rattle.page_json.specs.Values.{each_of, list_at, list_of, ◌of_member
 ghost use Rattle.page_json.specs.Faults.{refusal_of, shaped_at};
 ghost use Rattle.page_json.specs.Fonts.{font_of};
 ghost use Rattle.page_json.specs.Documents.{node_of};
-ghost use Rattle.page_json.specs.Jobs.{fonts_of, form_of, height_of, heights_of, page_of, parts_of, sheets_of};
+ghost use Rattle.page_json.specs.Jobs.{fonts_of, form_of, height_of, heights_of, page_of, parts_under, sheets_of};
 ghost use Rattle.page_json.specs.Pages.{IsDocument};
-ghost use Rattle.page_json.specs.Seen.{seen, all_measures, IsFormOf, lists_of, page_parts, parts_seen};
+ghost use Rattle.page_json.specs.Seen.{seen, all_measures, IsFormOf, lists_under, page_parts, parts_seen};
 
 use crate::JobFault;
 use crate::elements::body_of;
 use crate::fonts::font_of;
 use crate::places::{Place, depth_of, places_of};
-use crate::values::{list_at, list_of, number_of, pair_at, text_at, whole_at, whole_in};
+use crate::values::{list_at, list_of, number_of, pair_at, whole_at, whole_in};
 use serde_json::Value;
 use std::alloc::{AllocError, Global};
 use viz_base::{Font, List, Node, Part, Text};
@@ -185,11 +186,16 @@ fn heights_of(form: u8, value: &Value) -> Option<(u64, u64)>
     }
 }
 
-/// The members with lists and the formula, beside those that are numbers.
-fn lists_of(alloc: Global, value: &Value, numbers: Numbers) -> Result<Parts<'_>, JobFault>
+/// The members with lists and the formula, which is this one, beside those that are numbers.
+fn lists_under<'a>(
+    alloc: Global,
+    value: &Value,
+    numbers: Numbers,
+    assertion: Option<&'a str>,
+) -> Result<Parts<'a>, JobFault>
     requires { IsFormOf numbers.form numbers.heights }
-    ensures gives { Gives parts_seen refusal_of result
-        (lists_of numbers.form numbers.widths numbers.sizes numbers.heights (view value.now)) }
+    ensures gives { Gives parts_seen refusal_of result (lists_under (option_copied assertion.entry) numbers.form
+        numbers.widths numbers.sizes numbers.heights (view value.now)) }
     ensures formed { IfOk result (λ parts. IsFormOf parts.form parts.heights) }
     ensures document { IfOk result (λ parts. IsDocument parts.page.nodes) }
     ensures has_font { IfOk result (λ parts. 1 ≤ length parts.fonts) }
@@ -197,7 +203,7 @@ fn lists_of(alloc: Global, value: &Value, numbers: Numbers) -> Result<Parts<'_>,
     let fonts = fonts_of(alloc, value)?;
     let css = sheets_of(alloc, value)?;
     let page = page_of(alloc, value)?;
-    let Some(formula) = text_at(value, "assert") else {
+    let Some(formula) = assertion else {
         return Err(JobFault::Shape(Part::Assert, 0));
     };
     Ok(Parts {
@@ -212,9 +218,14 @@ fn lists_of(alloc: Global, value: &Value, numbers: Numbers) -> Result<Parts<'_>,
     })
 }
 
-/// What the members say, or the first that is missing, of another form or against a rule.
-pub(crate) fn parts_of(alloc: Global, value: &Value) -> Result<Parts<'_>, JobFault>
-    ensures gives { Gives parts_seen refusal_of result (parts_of (view value.now)) }
+/// What the members say, this being the text of the assertion if there is one, or the first that is missing, of another
+/// form or against a rule.
+pub(crate) fn parts_under<'a>(
+    alloc: Global,
+    value: &Value,
+    assertion: Option<&'a str>,
+) -> Result<Parts<'a>, JobFault>
+    ensures gives { Gives parts_seen refusal_of result (parts_under (option_copied assertion.entry) (view value.now)) }
     ensures formed { IfOk result (λ parts. IsFormOf parts.form parts.heights) }
     ensures document { IfOk result (λ parts. IsDocument parts.page.nodes) }
     ensures has_font { IfOk result (λ parts. 1 ≤ length parts.fonts) }
@@ -237,5 +248,5 @@ pub(crate) fn parts_of(alloc: Global, value: &Value) -> Result<Parts<'_>, JobFau
         sizes,
         heights,
     };
-    lists_of(alloc, value, numbers)
+    lists_under(alloc, value, numbers, assertion)
 }

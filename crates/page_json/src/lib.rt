@@ -1,12 +1,12 @@
 //! Job files: what their members say, within the limits of the profile.
 #![tactic(auto)]
 
-ghost use Rattle.std.specs.Option.{ok_or};
+ghost use Rattle.std.specs.Option.{ok_or, option_copied};
 ghost use Rattle.std.specs.Prelude.{IfOk};
 ghost use Rattle.serde_json.specs.View.{view};
 ghost use Rattle.viz_base.specs.Answers.{Gives};
 ghost use Rattle.page_json.specs.Faults.{refusal_of};
-ghost use Rattle.page_json.specs.Jobs.{IsWithinLimits, job_in, ranged, raw_job, raw_of, value_of};
+ghost use Rattle.page_json.specs.Jobs.{IsWithinLimits, job_under, ranged, raw_job, raw_job_with, raw_of, value_of};
 ghost use Rattle.page_json.specs.Seen.{AreWithinLimits, parts_seen};
 
 mod elements;
@@ -17,8 +17,9 @@ mod limits;
 mod places;
 mod values;
 
-use crate::jobs::{Parts, parts_of};
+use crate::jobs::{Parts, parts_under};
 use crate::limits::{in_range, limited};
+use crate::values::text_at;
 pub use faults::JobFault;
 use serde_json::Value;
 use std::alloc::Global;
@@ -68,12 +69,12 @@ fn ranged(alloc: Global, parts: Parts<'_>) -> Result<RawJob, JobFault>
     })
 }
 
-/// What a value says as a job file.
-fn job_in(alloc: Global, value: &Value) -> Result<RawJob, JobFault>
-    ensures gives { Gives raw_of refusal_of result (job_in (view value.now)) }
+/// What a value says as a job file, this being the text of its assertion if there is one.
+fn job_under(alloc: Global, value: &Value, assertion: Option<&str>) -> Result<RawJob, JobFault>
+    ensures gives { Gives raw_of refusal_of result (job_under (option_copied assertion.entry) (view value.now)) }
     ensures limits { IfOk result (λ job. IsWithinLimits (raw_of job)) }
 {
-    let parts = parts_of(alloc, value)?;
+    let parts = parts_under(alloc, value, assertion)?;
     limited(&parts)?;
     ranged(alloc, parts)
 }
@@ -86,5 +87,15 @@ pub fn read_job(alloc: Global, bytes: &[u8]) -> Result<RawJob, JobFault>
     ensures limits { IfOk result (λ job. IsWithinLimits (raw_of job)) }
 {
     let value = value_of(alloc, bytes)?;
-    job_in(alloc, &value)
+    job_under(alloc, &value, text_at(&value, "assert"))
+}
+
+/// What the bytes of a job file say whose member `assert` is the text `assertion`, whether it is there or not, and
+/// whatever it is. Faults are those of `read_job`; it has none of a `Shape` of `assert`.
+pub fn read_job_with(alloc: Global, bytes: &[u8], assertion: &str) -> Result<RawJob, JobFault>
+    ensures gives { Gives raw_of refusal_of result (raw_job_with assertion.now bytes.now) }
+    ensures limits { IfOk result (λ job. IsWithinLimits (raw_of job)) }
+{
+    let value = value_of(alloc, bytes)?;
+    job_under(alloc, &value, Some(assertion))
 }

@@ -1,8 +1,0 @@
-use Rattle.page_build.proofs.OneJob.{one_answer}
-use Rattle.page_build.proofs.OnePage.{Laws}
-use Rattle.page_build.proofs.laws.one_job.Goals as goal
-
-pub returns : goal.returns
-returns c =
-    let laws : Laws = record { cascade = c.one_cascade.ensures; pseudo = c.one_pseudo_cascade.ensures; growth = c.one_growth.ensures; formula = c.one_answer.ensures.answer } in
-    one_answer laws
