@@ -16,6 +16,9 @@ use viz_base::{List, Mem};
 /// How many cases and pairs of rows are tried for one answer.
 pub const LIMIT: u64 = 4096;
 
+/// How many floors a path names at most where a split rests on fewer.
+const MOST_NAMED: usize = 64;
+
 /// A comparison that was answered.
 #[derive(Clone, Copy)]
 struct Asked {
@@ -28,7 +31,7 @@ struct Asked {
 /// A row whose sign is left open on a path.
 #[derive(Drop)]
 pub struct Opening {
-    /// The floors on which it rests and that the path doesn't name yet, in order.
+    /// Floors that the path doesn't name yet, those on which the row rests among them, in order.
     pub floors: Vec<Floor>,
     /// The row, over the variables of the path and then these floors.
     pub row: Row,
@@ -311,12 +314,34 @@ impl<'a> Finder<'a> {
         Ok(())
     }
 
-    /// A row with the floors on which it rests, over the variables of the path and then these floors.
+    /// A row with the floors on which it rests and others, over the variables of the path and then these floors.
     fn opening(&self, row: &Row, cone: &[u32], point: Option<Known>) -> Result<Opening, Trouble> {
         let variables = self.footing.variables;
-        let floors = renumbered_floors(self.alloc(), &self.floors, variables, cone)?;
-        let row = renumbered(self.alloc(), row, variables, cone)?;
+        let places = self.to_name(cone)?;
+        let floors = renumbered_floors(self.alloc(), &self.floors, variables, places.as_slice())?;
+        let row = renumbered(self.alloc(), row, variables, places.as_slice())?;
         Ok(Opening { floors, row, point })
+    }
+
+    /// The places of the floors that the path is to name for a row with this cone: all, or the cone where these would
+    /// be many.
+    fn to_name(&self, cone: &[u32]) -> Result<Vec<u32>, Mem> {
+        let mut places = Vec::new(self.alloc());
+        let count = self
+            .footing
+            .path
+            .floors
+            .len()
+            .saturating_add(self.floors.len());
+        // What the leaves below derive alike can be a lemma only where it rests on no floor of their own.
+        if count <= MOST_NAMED {
+            for place in 0..self.floor_count() {
+                places.push(place)?;
+            }
+        } else {
+            places.extend_from_slice(cone)?;
+        }
+        Ok(places)
     }
 
     /// The answers in the order in which they were asked for.

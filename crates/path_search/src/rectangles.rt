@@ -80,18 +80,24 @@ fn leaves_for(place: &Place<'_>, rect: Rect) -> u64 {
     leaves.min(most_leaves(place.budget, rect))
 }
 
-/// With more leaves than grids, grids are the shorter proof by turns. By time and length they are it sooner: a leaf
-/// takes as long as the layouts of 100 to 200 worlds.
+/// With more leaves than grids, grids are the shorter proof by turns. By time they are it sooner: a leaf takes as long
+/// to find and to check as the layouts of 60 to 200 worlds.
 fn most_leaves(budget: Budget, rect: Rect) -> u64 {
     match budget {
-        Budget::Ample => count_of(rect) / 192,
+        Budget::Ample => count_of(rect) / 160,
         Budget::Tight => grid_count(rect),
     }
 }
 
 /// The paths that a tree of a rectangle may take: so many leaves take twice as many, less one.
 fn most_turns(budget: Budget, rect: Rect) -> u64 {
-    let paths = most_leaves(budget, rect).saturating_mul(2);
+    let leaves = most_leaves(budget, rect);
+    // What a tree took that is given up is lost, so one may end that has as many leaves as a sample may tell of it.
+    let more = match budget {
+        Budget::Ample => leaves / 4,
+        Budget::Tight => 0,
+    };
+    let paths = leaves.saturating_add(more).saturating_mul(2);
     paths.saturating_sub(1).max(1)
 }
 

@@ -9,7 +9,6 @@ use Rattle.cert_check.specs.declared.verdicts.Verdict.TheVariants.{Rejected}
 use Rattle.cert_check.specs.declared.verdicts.Reject.TheVariants.{Untrue}
 use Rattle.cert_check.specs.Verdicts.{IsFault, Passes, IsVerdict}
 use Rattle.prove_search.specs.Outcomes.{IsProof, IsViolation}
-use Rattle.prove_search.proofs.Lemmas.{of_form_1}
 use Rattle.prove_search.specs.steps.Turns.{IsWithinBounds}
 
 pub passes_proves : (job : Job) (turns most : ℕ) (cert : Cert) → IsWithinBounds job turns most cert → Passes job cert → IsProof job turns most cert
@@ -21,7 +20,7 @@ passes_proves job turns most cert bounds passes = record {
   spelled = bounds.spelled;
   short = omega (arith, bounds.short);
   one_grid = bounds.one_grid;
-  form = of_form_1 cert bounds.text bounds.spelled bounds.first_form;
+  form = bounds.form;
 }
 
 -- only a grid is rejected so, and its world is one of the range

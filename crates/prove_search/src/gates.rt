@@ -5,12 +5,13 @@ ghost use Rattle.cert_text.specs.declared.certificate.CertNode.TheVariants.{Grid
 ghost use Rattle.cert_text.specs.Texts.{CertText};
 ghost use Rattle.viz_base.specs.Worlds.{world_count};
 ghost use Rattle.cert_check.specs.Truths.{Holds};
-ghost use Rattle.prove_search.specs.Outcomes.{IsViolation, IsOutcome, Decides};
+ghost use Rattle.prove_search.specs.Outcomes.{IsViolation, IsOutcome, Decides, has_lemma};
 ghost use Rattle.prove_search.specs.steps.Turns.{AreLeft, IsWithinBounds};
 
 use crate::outcome::Outcome;
 use crate::plain::MOST_WORLDS;
 use cert_check::{Reject, Verdict, check, holds_at, world_count};
+use cert_lemmas::with_lemmas;
 use cert_text::{Cert, CertNode, has_spelling, write_cert};
 use path_search::Finding;
 use std::alloc::Global;
@@ -35,6 +36,25 @@ fn left_after(node: &CertNode, turns: u64) -> Option<u64>
     }
 }
 
+/// Whether a node has a lemma, itself or below it.
+fn has_lemma(node: &CertNode) -> bool
+    ensures { result ≡ has_lemma node.now }
+{
+    match node {
+        CertNode::Def(_, _, below) => has_lemma(below.get()),
+        CertNode::Split(_, first, second) => has_lemma(first.get()) || has_lemma(second.get()),
+        CertNode::Lemma(_, _, _) => true,
+        CertNode::Void(_) | CertNode::Grid | CertNode::Leaf(_) => false,
+    }
+}
+
+/// Whether a certificate is of form 2 where it has lemmas, and of another form where it has none.
+fn is_of_its_form(cert: &Cert) -> bool
+    ensures { IsTrue result → (cert.now.form ≡ 2) ↔ IsTrue (has_lemma cert.now.root) }
+{
+    (cert.form == 2) == has_lemma(&cert.root)
+}
+
 /// Whether the text of a certificate that has one has at most so many bytes.
 fn has_short_text(alloc: Global, cert: &Cert, most: u64) -> Result<bool, Mem>
     requires { (text : List ℕ) × CertText cert.now text }
@@ -52,8 +72,8 @@ fn is_grid_of_few(job: &Job, cert: &Cert) -> bool
 }
 
 /// Whether a certificate is within bounds: it has a text of at most `most` bytes and 64 MiB, and at most as many grids
-/// and leaves as turns, is one grid for a range of at most 64 worlds, and is of form 1, so without lemmas. The only
-/// fault is want of memory.
+/// and leaves as turns, is one grid for a range of at most 64 worlds, and is of form 2 exactly where it has lemmas. The
+/// only fault is want of memory.
 fn is_within_bounds(
     alloc: Global,
     job: &Job,
@@ -66,11 +86,7 @@ fn is_within_bounds(
     if !has_spelling(cert) || left_after(&cert.root, turns).is_none() {
         return Ok(false);
     }
-    // The search states no lemmas yet.
-    if cert.form != 1 {
-        return Ok(false);
-    }
-    if !is_grid_of_few(job, cert) {
+    if !is_of_its_form(cert) || !is_grid_of_few(job, cert) {
         return Ok(false);
     }
     has_short_text(alloc, cert, most.min(MOST_BYTES))
@@ -96,6 +112,47 @@ fn judged(
         Verdict::Rejected(Reject::Untrue(_, world)) => Ok(Some(Outcome::Violated(world))),
         Verdict::Rejected(_) => Ok(None),
     }
+}
+
+/// What stands of a certificate, where there are turns. The only fault is want of memory.
+fn gated(
+    alloc: Global,
+    job: &Job,
+    cert: Cert,
+    turns: u64,
+    most: u64,
+) -> Result<Option<Outcome>, Mem>
+    requires { 0 < turns }
+    ensures outcome { IfOk result (λ kept. IfSome kept (IsOutcome job.now turns most)) }
+    ensures decides { IfOk result (λ kept. IfSome kept (λ outcome. Decides outcome (Holds job.now))) }
+{
+    if is_within_bounds(alloc, job, &cert, turns, most)? {
+        judged(alloc, job, cert, turns, most)
+    } else {
+        Ok(None)
+    }
+}
+
+/// What stands of a certificate with lemmas where these make it shorter, or else of it as it is, where there are turns.
+/// The only fault is want of memory.
+fn proved(
+    alloc: Global,
+    job: &Job,
+    cert: Cert,
+    turns: u64,
+    most: u64,
+) -> Result<Option<Outcome>, Mem>
+    requires { 0 < turns }
+    ensures outcome { IfOk result (λ kept. IfSome kept (IsOutcome job.now turns most)) }
+    ensures decides { IfOk result (λ kept. IfSome kept (λ outcome. Decides outcome (Holds job.now))) }
+{
+    if let Some(shorter) = with_lemmas(alloc, job.form, &cert)? {
+        let kept = gated(alloc, job, shorter, turns, most)?;
+        if kept.is_some() {
+            return Ok(kept);
+        }
+    }
+    gated(alloc, job, cert, turns, most)
 }
 
 /// Whether a world lies in a rectangle.
@@ -137,13 +194,7 @@ pub fn confirmed(
         return Ok(None);
     }
     match finding {
-        Finding::Proof(cert) => {
-            if is_within_bounds(alloc, job, &cert, turns, most)? {
-                judged(alloc, job, cert, turns, most)
-            } else {
-                Ok(None)
-            }
-        }
+        Finding::Proof(cert) => proved(alloc, job, cert, turns, most),
         Finding::World(world) => {
             if is_violation(alloc, job, world)? {
                 Ok(Some(Outcome::Violated(world)))
