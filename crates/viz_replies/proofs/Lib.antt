@@ -1,3 +1,6 @@
 pub mod LineLemmas
+pub mod RawRanges
+pub mod PartLemmas
+pub mod SearchLemmas
 pub mod ReplyLemmas
 pub mod HeadlineLemmas

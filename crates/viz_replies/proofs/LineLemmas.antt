@@ -2,7 +2,7 @@
 use Rattle.std.proofs.Common.{◌≡◌, ◌≢◌, ◌∙◌, ℕ, List, ◌++◌, codes, refl, ap, append_assoc, rules}
 use Rattle.css_semantics.specs.Properties.{row}
 use Rattle.page_build.specs.declared.faults.JobRefusal.{JobRefusal}
-use Rattle.page_build.specs.declared.faults.JobRefusal.TheVariants.{Mem, NotJson, Shape, Limit, Range, Import, MediaQuery, TooManyRules, Selector, Value, Generated, BlockInInline, RightToLeft, TooManyBoxes, Reach, Bad, Unbound, TooDeep}
+use Rattle.page_build.specs.declared.faults.JobRefusal.TheVariants.{Mem, NotJson, Shape, Limit, Range, Import, MediaQuery, TooManyRules, TooManyQueries, TooManyParts, Selector, Value, Generated, BlockInInline, RightToLeft, TooManyBoxes, Reach, Bad, Unbound, TooDeep}
 use Rattle.viz_replies.specs.Lines.{spaced}
 use Rattle.viz_replies.specs.Jobs.{refusal_line}
 use Rattle.viz_replies.specs.steps.Refusals.{refusal_words, refusal_places}
@@ -21,6 +21,8 @@ refusal_parts Range other = refl
 refusal_parts (Import sheet place) other = search rules
 refusal_parts (MediaQuery sheet place) other = search rules
 refusal_parts (TooManyRules sheet) other = search rules
+refusal_parts (TooManyQueries sheet place) other = search rules
+refusal_parts (TooManyParts count) other = search rules
 refusal_parts (Selector sheet place) other = search rules
 refusal_parts (Value node prop value) other = ap (λ x. codes "job-refused unsupported-value" ++ x) (value_parts (spaced node) (row prop).name value)
 refusal_parts (Generated node) other = search rules

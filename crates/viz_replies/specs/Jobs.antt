@@ -8,18 +8,23 @@ use Rattle.viz_base.specs.declared.raw_jobs.Which.TheVariants as which
 use Rattle.viz_base.specs.declared.settings.Prop.{Prop}
 use Rattle.css_semantics.specs.Properties.{row}
 use Rattle.page_build.specs.declared.faults.JobRefusal.{JobRefusal}
-use Rattle.page_build.specs.declared.faults.JobRefusal.TheVariants.{Mem, NotJson, Shape, Limit, Range, Import, MediaQuery, TooManyRules, Selector, Value, Generated, BlockInInline, RightToLeft, TooManyBoxes, Reach, Bad, Unbound, TooDeep}
-use Rattle.page_build.specs.Jobs.{IsJobOf, IsRefusedAs}
+use Rattle.page_build.specs.declared.faults.JobRefusal.TheVariants.{Mem, NotJson, Shape, Limit, Range, Import, MediaQuery, TooManyRules, TooManyQueries, TooManyParts, Selector, Value, Generated, BlockInInline, RightToLeft, TooManyBoxes, Reach, Bad, Unbound, TooDeep}
+use Rattle.page_build.specs.Jobs.{AreJobsOf, AreRefusedAs, IsJobAt, IsRefusedAt}
 use Rattle.viz_replies.specs.Lines.{spaced, numbered}
 
 -- a job file has at most 16 MiB
 abbrev pub job_most : ℕ
 job_most = 16777216
 
--- the bytes spell the job
-pub record SpellsJob (bytes : List ℕ) (job : Job) : Type 0 where
+-- the bytes spell these jobs, one for each part of their range
+pub record SpellJobs (bytes : List ℕ) (jobs : List Job) : Type 0 where
   pub short : length bytes ≤ job_most
-  pub read : IsJobOf bytes job
+  pub read : AreJobsOf bytes jobs
+
+-- the bytes spell this job at a viewport's width and a default font size, in pixels
+pub record SpellsJobAt (bytes : List ℕ) (w s : ℕ) (job : Job) : Type 0 where
+  pub short : length bytes ≤ job_most
+  pub read : IsJobAt bytes w s job
 
 -- ---- lines
 
@@ -61,6 +66,8 @@ refusal_line Range = codes "job-refused range\n"
 refusal_line (Import sheet place) = numbered (codes "job-refused import") (sheet ∷ place ∷ [])
 refusal_line (MediaQuery sheet place) = numbered (codes "job-refused media-query") (sheet ∷ place ∷ [])
 refusal_line (TooManyRules sheet) = numbered (codes "job-refused too-many-rules") (sheet ∷ [])
+refusal_line (TooManyQueries sheet place) = numbered (codes "job-refused too-many-queries") (sheet ∷ place ∷ [])
+refusal_line (TooManyParts count) = numbered (codes "job-refused too-many-parts") (count ∷ [])
 refusal_line (Selector sheet place) = numbered (codes "job-refused unsupported-selector") (sheet ∷ place ∷ [])
 refusal_line (Value node prop value) = value_line node prop value
 refusal_line (Generated node) = numbered (codes "job-refused generated") (node ∷ [])
@@ -79,13 +86,24 @@ pub record IsTooLong (bytes output : List ℕ) : Type 0 where
   pub long : job_most < length bytes
   pub line : output ≡ long_line
 
--- the bytes are refused with this line
-pub record IsRefused (bytes output : List ℕ) : Type 0 where
+-- the bytes are refused with this line, for all parts of their range
+pub record AreRefused (bytes output : List ℕ) : Type 0 where
   pub short : length bytes ≤ job_most
   pub refusal : JobRefusal
-  pub refused : IsRefusedAs bytes refusal
+  pub refused : AreRefusedAs bytes refusal
   pub line : output ≡ refusal_line refusal
 
--- the bytes spell no job, for the reason that the line gives
-abbrev pub IsNoJob : List ℕ → List ℕ → Type 0
-IsNoJob bytes output = IsTooLong bytes output ⊎ IsRefused bytes output
+-- the bytes are refused with this line, at a viewport's width and a default font size
+pub record IsRefused (bytes : List ℕ) (w s : ℕ) (output : List ℕ) : Type 0 where
+  pub short : length bytes ≤ job_most
+  pub refusal : JobRefusal
+  pub refused : IsRefusedAt bytes w s refusal
+  pub line : output ≡ refusal_line refusal
+
+-- the bytes spell no jobs, for the reason that the line gives
+abbrev pub AreNoJobs : List ℕ → List ℕ → Type 0
+AreNoJobs bytes output = IsTooLong bytes output ⊎ AreRefused bytes output
+
+-- the bytes spell no job there, for the reason that the line gives
+abbrev pub IsNoJobAt : List ℕ → ℕ → ℕ → List ℕ → Type 0
+IsNoJobAt bytes w s output = IsTooLong bytes output ⊎ IsRefused bytes w s output

@@ -1,6 +1,8 @@
 pub mod Lines
 pub mod Screens
 pub mod Jobs
+pub mod Truths
+pub mod Laws
 pub mod Certificates
 pub mod Replies
 pub mod Trials

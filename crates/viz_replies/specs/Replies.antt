@@ -1,6 +1,6 @@
 -- What is replied to a question about a job, given the bytes of its file:
 -- an answer, and the whole output that goes with it.
-use Rattle.std.specs.Prelude.{◌≡◌, ◌⊎◌, ℕ, ◌^◌, ◌<◌, List, [], ◌∷◌, ◌++◌, codes}
+use Rattle.std.specs.Prelude.{◌≡◌, ◌⊎◌, ℕ, ◌/◌, ◌<◌, ◌≤◌, nat_lt, List, [], ◌∷◌, ◌++◌, length, slice_get, Some, codes, if◌then◌else◌}
 use Rattle.std.specs.List.{flat_map}
 use Rattle.viz_base.specs.declared.jobs.Job.{Job}
 use Rattle.viz_base.specs.declared.worlds.World.{World}
@@ -13,19 +13,21 @@ use Rattle.cert_text.specs.Texts.{CertText}
 use Rattle.cert_text.specs.steps.Write.{row_bytes}
 use Rattle.cert_check.specs.declared.verdicts.Reject.{Reject}
 use Rattle.cert_check.specs.declared.verdicts.Reject.TheVariants.{OtherJob, Shape, Line, Untrue, Unmet, Differs, Short, Left, Coeff}
-use Rattle.cert_check.specs.Truths.{rendering_of, Holds}
-use Rattle.cert_check.specs.Right.{AreGood, Right}
-use Rattle.cert_check.specs.Verdicts.{IsCause}
+use Rattle.cert_check.specs.Truths.{rendering_of}
+use Rattle.cert_file.specs.declared.verdict.FileVerdict.TheVariants.{Accepted, Rejected}
+use Rattle.cert_file.specs.Files.{IsFileVerdict}
 use Rattle.prove_search.specs.Outcomes.{IsProof, IsViolation, IsUndecided}
 use Rattle.viz_replies.specs.declared.reply.Answer.{Answer}
 use Rattle.viz_replies.specs.declared.reply.Answer.TheVariants as ends
 use Rattle.viz_replies.specs.declared.question.Question.{Question}
+use Rattle.viz_replies.specs.declared.question.Screen.{Screen}
 use Rattle.viz_replies.specs.declared.question.Question.TheVariants as asks
 use Rattle.lin_row.specs.Form.{Form}
 use Rattle.viz_replies.specs.Lines.{numbered, spaced}
 use Rattle.viz_replies.specs.Screens.{world_in, spaced_world, spaced_part}
-use Rattle.viz_replies.specs.Jobs.{SpellsJob, IsNoJob}
-use Rattle.viz_replies.specs.Certificates.{SpellsCert, IsNoCert}
+use Rattle.viz_replies.specs.Jobs.{SpellJobs, SpellsJobAt, AreNoJobs, IsNoJobAt}
+use Rattle.viz_replies.specs.Certificates.{cert_most, IsNoCert}
+use Rattle.viz_replies.specs.Truths.{IsFalseThere}
 
 -- ---- what is printed
 
@@ -51,89 +53,145 @@ open_line form part = codes "undecided" ++ (spaced_part form part ++ codes "\n")
 -- the rows of an answer that is to another difference: the one that is asked for, and the answer's own
 abbrev pub differs_line : (node number : ℕ) (ours theirs : Form) → List ℕ
 differs_line node number ours theirs =
-    codes "rejected differs"
+    codes "differs"
     ++ (spaced node ++ (spaced number
     ++ (codes " " ++ (row_bytes ours ++ (codes " / " ++ (row_bytes theirs ++ codes "\n"))))))
 
 -- the world of a grid at which the formula is false
 abbrev pub untrue_line : (form node : ℕ) → World → List ℕ
-untrue_line form node world = codes "rejected untrue" ++ (spaced node ++ (spaced_world form world ++ codes "\n"))
+untrue_line form node world = codes "untrue" ++ (spaced node ++ (spaced_world form world ++ codes "\n"))
 
--- the line for a certificate that is wrong for a job of this form
-abbrev pub reject_line : ℕ → Reject → List ℕ
-reject_line form OtherJob = codes "rejected other-job\n"
-reject_line form (Shape node) = numbered (codes "rejected shape") (node ∷ [])
-reject_line form (Line node number line) = numbered (codes "rejected line") (node ∷ number ∷ line ∷ [])
-reject_line form (Untrue node world) = untrue_line form node world
-reject_line form (Unmet node) = numbered (codes "rejected unmet") (node ∷ [])
-reject_line form (Differs node number ours theirs) = differs_line node number ours theirs
-reject_line form (Short node) = numbered (codes "rejected short") (node ∷ [])
-reject_line form (Left node count) = numbered (codes "rejected left") (node ∷ count ∷ [])
-reject_line form (Coeff node) = numbered (codes "rejected coeff") (node ∷ [])
+-- why a certificate is wrong for a job of this form
+abbrev pub reject_reason : ℕ → Reject → List ℕ
+reject_reason form OtherJob = codes "other-job\n"
+reject_reason form (Shape node) = numbered (codes "shape") (node ∷ [])
+reject_reason form (Line node number line) = numbered (codes "line") (node ∷ number ∷ line ∷ [])
+reject_reason form (Untrue node world) = untrue_line form node world
+reject_reason form (Unmet node) = numbered (codes "unmet") (node ∷ [])
+reject_reason form (Differs node number ours theirs) = differs_line node number ours theirs
+reject_reason form (Short node) = numbered (codes "short") (node ∷ [])
+reject_reason form (Left node count) = numbered (codes "left") (node ∷ count ∷ [])
+reject_reason form (Coeff node) = numbered (codes "coeff") (node ∷ [])
+
+-- the part whose certificate is wrong, where there are several
+abbrev pub part_words : (parts part : ℕ) → List ℕ
+part_words parts part = if nat_lt 1 parts then codes "part" ++ (spaced part ++ codes " ") else []
+
+-- the line for a certificate that is wrong for the job, of this form, of one of so many parts
+abbrev pub reject_line : (form parts part : ℕ) → Reject → List ℕ
+reject_line form parts part reject = codes "rejected " ++ (part_words parts part ++ reject_reason form reject)
+
+-- ---- lay
+
+-- the rendering at a screen of the job that the bytes spell there
+pub record IsLaidOut (bytes : List ℕ) (screen : Screen) (output : List ℕ) : Type 0 where
+  pub job : Job
+  pub spelled : SpellsJobAt bytes screen.w screen.s job
+  pub text : output ≡ boxes_text job (world_in screen job.range)
 
 -- ---- prove
 
--- the text of a certificate that proves the job within the turns
-pub record IsProved (job : Job) (turns : ℕ) (output : List ℕ) : Type 0 where
-  pub cert : Cert
-  pub proof : IsProof job turns (2 ^ 26) cert
-  pub text : CertText cert output
+-- how many bytes the certificate of each of so many parts has at most
+abbrev pub part_most : ℕ → ℕ
+part_most parts = cert_most / parts
 
--- a world of the range at which the job's formula is false, which at least one turn has found
-pub record IsViolated (job : Job) (turns : ℕ) (output : List ℕ) : Type 0 where
-  pub world : World
-  pub turn : 0 < turns
-  pub violation : IsViolation job job.range world
-  pub text : output ≡ violation_text job world
+-- the texts of certificates that prove each of these jobs within the turns
+pub data AreProofs (turns most : ℕ) : List Job → List ℕ → Type 0 where
+  nothing : AreProofs turns most [] []
+  first : {job : Job} {jobs : List Job} {cert : Cert} {text rest : List ℕ} → IsProof job turns most cert
+      → CertText cert text → AreProofs turns most jobs rest → AreProofs turns most (job ∷ jobs) (text ++ rest)
 
--- a part of the range that the turns left open
-pub record IsLeftOpen (job : Job) (turns : ℕ) (output : List ℕ) : Type 0 where
+-- the first of these jobs that isn't proved: those before it are, by certificates of these texts
+pub record IsFirstOpen (turns most : ℕ) (jobs : List Job) (job : Job) : Type 0 where
+  pub before : List Job
+  pub behind : List Job
+  pub whole : jobs ≡ before ++ job ∷ behind
+  pub texts : List ℕ
+  pub proofs : AreProofs turns most before texts
+
+-- a part of the range that the turns left open for a job
+pub record IsLeftOpen (turns : ℕ) (jobs : List Job) (output : List ℕ) : Type 0 where
+  pub job : Job
+  pub first : IsFirstOpen turns (part_most (length jobs)) jobs job
   pub part : Rect
   pub undecided : IsUndecided job.range turns part
   pub text : output ≡ open_line job.form part
 
--- ---- check
+-- what a search of the jobs of all parts comes to, unless it finds a world
+abbrev pub IsSearched : ℕ → List Job → Answer → List ℕ → Type 0
+IsSearched turns jobs ends.Done output = AreProofs turns (part_most (length jobs)) jobs output
+IsSearched turns jobs ends.Undecided output = IsLeftOpen turns jobs output
+IsSearched turns jobs answer output = ⊥
 
--- the bytes spell a certificate that is right for the job, which holds, and each of its nodes is good
-pub record IsAccepted (job : Job) (bytes output : List ℕ) : Type 0 where
-  pub cert : Cert
-  pub spelled : SpellsCert bytes cert
-  pub right : Right job cert
-  pub holds : Holds job
-  pub good : AreGood job cert
+-- a world of the range at which the formula of the first part that isn't proved is false, which at least one turn has
+-- found
+pub record IsFound (turns : ℕ) (jobs : List Job) (world : World) : Type 0 where
+  pub job : Job
+  pub first : IsFirstOpen turns (part_most (length jobs)) jobs job
+  pub turn : 0 < turns
+  pub violation : IsViolation job job.range world
+
+-- the bytes spell jobs, such a world is found, and the assertion as it is written is false there: whom it blames there,
+-- and the boxes there
+pub record IsViolated (bytes : List ℕ) (turns : ℕ) (output : List ℕ) : Type 0 where
+  pub jobs : List Job
+  pub spelled : SpellJobs bytes jobs
+  pub world : World
+  pub found : IsFound turns jobs world
+  pub there : IsFalseThere bytes world
+  pub text : output ≡ violation_text there.job world
+
+-- ---- check, about the jobs of all parts
+
+-- the bytes spell as many certificates, which are right for the jobs
+pub record IsAccepted (jobs : List Job) (bytes output : List ℕ) : Type 0 where
+  pub short : length bytes ≤ cert_most
+  pub accepted : IsFileVerdict jobs bytes Accepted
   pub text : output ≡ codes "accepted\n"
 
--- the bytes spell a certificate that is wrong for the job
-pub record IsWrong (job : Job) (bytes output : List ℕ) : Type 0 where
-  pub cert : Cert
-  pub spelled : SpellsCert bytes cert
+-- they spell as many, of which this is the first that is wrong
+pub record IsWrong (jobs : List Job) (bytes output : List ℕ) : Type 0 where
+  pub short : length bytes ≤ cert_most
+  pub part : ℕ
+  pub job : Job
+  pub job_is : slice_get jobs part ≡ Some job
   pub reject : Reject
-  pub cause : IsCause job cert reject
-  pub text : output ≡ reject_line job.form reject
+  pub rejected : IsFileVerdict jobs bytes (Rejected part reject)
+  pub text : output ≡ reject_line job.form (length jobs) part reject
+
+abbrev pub IsChecked : List Job → List ℕ → Answer → List ℕ → Type 0
+IsChecked jobs bytes ends.Done output = IsAccepted jobs bytes output
+IsChecked jobs bytes ends.CertRefused output = IsNoCert (length jobs) bytes output ⊎ IsWrong jobs bytes output
+IsChecked jobs bytes answer output = ⊥
 
 -- ---- replies
 
--- an answer with its whole output, in reply to a question about the job
-abbrev pub IsReplyAbout : Job → Question → Answer → List ℕ → Type 0
-IsReplyAbout job (asks.Lay screen) ends.Done output = output ≡ boxes_text job (world_in screen job.range)
-IsReplyAbout job (asks.Prove turns) ends.Done output = IsProved job turns output
-IsReplyAbout job (asks.Prove turns) ends.Violated output = IsViolated job turns output
-IsReplyAbout job (asks.Prove turns) ends.Undecided output = IsLeftOpen job turns output
-IsReplyAbout job (asks.Check cert) ends.Done output = IsAccepted job cert output
-IsReplyAbout job (asks.Check cert) ends.CertRefused output = IsNoCert cert output ⊎ IsWrong job cert output
-IsReplyAbout job question answer output = ⊥
+-- the bytes spell jobs, and this is what is replied about them
+pub record IsReplyOnJobs (bytes : List ℕ) (replied : List Job → Type 0) : Type 0 where
+  pub jobs : List Job
+  pub spelled : SpellJobs bytes jobs
+  pub reply : replied jobs
 
--- the bytes spell a job, and this is the reply about it
-pub record IsReplyOnJob (bytes : List ℕ) (question : Question) (answer : Answer) (output : List ℕ) : Type 0 where
-  pub job : Job
-  pub spelled : SpellsJob bytes job
-  pub reply : IsReplyAbout job question answer output
+-- what is replied to a question about what the bytes of a job file spell
+abbrev pub IsReplyAbout : List ℕ → Question → Answer → List ℕ → Type 0
+IsReplyAbout bytes (asks.Lay screen) ends.Done output = IsLaidOut bytes screen output
+IsReplyAbout bytes (asks.Lay screen) answer output = ⊥
+IsReplyAbout bytes (asks.Prove turns) ends.Violated output = IsViolated bytes turns output
+IsReplyAbout bytes (asks.Prove turns) answer output = IsReplyOnJobs bytes (λ jobs. IsSearched turns jobs answer output)
+IsReplyAbout bytes (asks.Check cert) answer output = IsReplyOnJobs bytes (λ jobs. IsChecked jobs cert answer output)
 
--- the bytes spell no job, whatever is asked
-pub record IsRefusal (bytes : List ℕ) (answer : Answer) (output : List ℕ) : Type 0 where
+-- the bytes spell no job at the screen, or no jobs
+abbrev pub SpellNothing : List ℕ → Question → List ℕ → Type 0
+SpellNothing bytes (asks.Lay screen) output = IsNoJobAt bytes screen.w screen.s output
+SpellNothing bytes (asks.Prove turns) output = AreNoJobs bytes output
+SpellNothing bytes (asks.Check cert) output = AreNoJobs bytes output
+
+-- the reply where the bytes spell nothing, for this reason
+pub record IsRefusal (reason : List ℕ → Type 0) (answer : Answer) (output : List ℕ) : Type 0 where
   pub refused : answer ≡ ends.JobRefused
-  pub reason : IsNoJob bytes output
+  pub why : reason output
 
--- the reply about the job that the bytes spell, or their refusal
+-- an answer with its whole output, in reply to a question about the bytes of a job file
 abbrev pub IsReply : List ℕ → Question → Answer → List ℕ → Type 0
-IsReply bytes question answer output = IsReplyOnJob bytes question answer output ⊎ IsRefusal bytes answer output
+IsReply bytes question answer output =
+    IsReplyAbout bytes question answer output ⊎ IsRefusal (SpellNothing bytes question) answer output

@@ -1,17 +1,16 @@
 -- What is replied about a generated job, which no file holds.
-use Rattle.std.specs.Prelude.{◌≡◌, ◌⊎◌, ℕ, ◌^◌, ◌<◌, List, [], ◌∷◌, ◌++◌, length, codes}
+use Rattle.std.specs.Prelude.{◌≡◌, ◌⊎◌, ℕ, List, [], ◌∷◌, ◌++◌, length, codes}
 use Rattle.viz_base.specs.declared.jobs.Job.{Job}
 use Rattle.viz_base.specs.declared.worlds.World.{World}
 use Rattle.viz_base.specs.declared.worlds.Rect.{Rect}
-use Rattle.cert_text.specs.declared.certificate.Cert.{Cert}
 use Rattle.viz_base.specs.Worlds.{world_count}
-use Rattle.prove_search.specs.Outcomes.{IsProof, IsViolation, IsUndecided}
+use Rattle.prove_search.specs.Outcomes.{IsUndecided}
 use Rattle.page_gen.specs.Jobs.{job_text}
 use Rattle.viz_replies.specs.declared.reply.Answer.{Answer}
 use Rattle.viz_replies.specs.declared.reply.Answer.TheVariants as ends
 use Rattle.viz_replies.specs.Lines.{numbered, spaced}
-use Rattle.viz_replies.specs.Jobs.{SpellsJob}
-use Rattle.viz_replies.specs.Replies.{IsRefusal}
+use Rattle.viz_replies.specs.Jobs.{SpellJobs, AreNoJobs}
+use Rattle.viz_replies.specs.Replies.{AreProofs, IsRefusal, IsFirstOpen, IsFound, part_most}
 
 -- ---- gen
 
@@ -32,41 +31,44 @@ trial_line job end =
 abbrev pub violated_end : World → List ℕ
 violated_end world = numbered (codes " violated") (world.w ∷ world.s ∷ [])
 
--- a certificate proves the job within the turns
-pub record IsProvedTrial (job : Job) (turns : ℕ) (output : List ℕ) : Type 0 where
-  pub cert : Cert
-  pub proof : IsProof job turns (2 ^ 26) cert
+-- what is replied of a search of the jobs of all parts, of which this is the first: all are proved
+pub record IsProvedTrial (turns : ℕ) (job : Job) (jobs : List Job) (output : List ℕ) : Type 0 where
+  pub texts : List ℕ
+  pub proofs : AreProofs turns (part_most (length jobs)) jobs texts
   pub text : output ≡ trial_line job (codes " proved\n")
 
--- a world of the range at which the job's formula is false, which at least one turn has found
-pub record IsViolatedTrial (job : Job) (turns : ℕ) (output : List ℕ) : Type 0 where
+-- a world of the range at which a part's formula is false
+pub record IsViolatedTrial (turns : ℕ) (job : Job) (jobs : List Job) (output : List ℕ) : Type 0 where
   pub world : World
-  pub turn : 0 < turns
-  pub violation : IsViolation job job.range world
+  pub found : IsFound turns jobs world
   pub text : output ≡ trial_line job (violated_end world)
 
--- the turns left a part of the range open
-pub record IsOpenTrial (job : Job) (turns : ℕ) (output : List ℕ) : Type 0 where
+-- the turns left a rectangle of a part open
+pub record IsOpenTrial (turns : ℕ) (job : Job) (jobs : List Job) (output : List ℕ) : Type 0 where
+  pub left : Job
+  pub first : IsFirstOpen turns (part_most (length jobs)) jobs left
   pub part : Rect
-  pub undecided : IsUndecided job.range turns part
+  pub undecided : IsUndecided left.range turns part
   pub text : output ≡ trial_line job (codes " undecided\n")
 
--- what is replied of the job's trial
-abbrev pub IsTrialOf : Job → ℕ → Answer → List ℕ → Type 0
-IsTrialOf job turns ends.Done output = IsProvedTrial job turns output
-IsTrialOf job turns ends.Violated output = IsViolatedTrial job turns output
-IsTrialOf job turns ends.Undecided output = IsOpenTrial job turns output
-IsTrialOf job turns answer output = ⊥
+-- what is replied of such a search
+abbrev pub IsTrialOf : ℕ → Job → List Job → Answer → List ℕ → Type 0
+IsTrialOf turns job jobs ends.Done output = IsProvedTrial turns job jobs output
+IsTrialOf turns job jobs ends.Violated output = IsViolatedTrial turns job jobs output
+IsTrialOf turns job jobs ends.Undecided output = IsOpenTrial turns job jobs output
+IsTrialOf turns job jobs answer output = ⊥
 
--- the bytes spell a job, and this is the reply of its trial
-pub record IsTrialOnJob (bytes : List ℕ) (turns : ℕ) (answer : Answer) (output : List ℕ) : Type 0 where
+-- the bytes spell jobs, and this is the reply of their trial
+pub record IsTrialOnJobs (bytes : List ℕ) (turns : ℕ) (answer : Answer) (output : List ℕ) : Type 0 where
   pub job : Job
-  pub spelled : SpellsJob bytes job
-  pub trial : IsTrialOf job turns answer output
+  pub more : List Job
+  pub spelled : SpellJobs bytes (job ∷ more)
+  pub trial : IsTrialOf turns job (job ∷ more) answer output
 
--- the reply of the trial of the job that the bytes spell, or their refusal
+-- the reply of the trial of the jobs that the bytes spell, or their refusal
 abbrev pub IsTrialOn : List ℕ → ℕ → Answer → List ℕ → Type 0
-IsTrialOn bytes turns answer output = IsTrialOnJob bytes turns answer output ⊎ IsRefusal bytes answer output
+IsTrialOn bytes turns answer output = IsTrialOnJobs bytes turns answer output
+    ⊎ IsRefusal (AreNoJobs bytes) answer output
 
 -- the reply of the trial of the generated job
 abbrev pub IsTrial : (seed sections turns : ℕ) → Answer → List ℕ → Type 0

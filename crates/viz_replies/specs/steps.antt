@@ -1,3 +1,4 @@
+pub mod Searches
 pub mod Answers
 pub mod Refusals
 pub mod Rejects

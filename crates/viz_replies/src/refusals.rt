@@ -53,6 +53,8 @@ fn refusal_words(fault: &JobRefusal) -> &'static str
         JobRefusal::Import(..) => "job-refused import",
         JobRefusal::MediaQuery(..) => "job-refused media-query",
         JobRefusal::TooManyRules(_) => "job-refused too-many-rules",
+        JobRefusal::TooManyQueries(..) => "job-refused too-many-queries",
+        JobRefusal::TooManyParts(_) => "job-refused too-many-parts",
         JobRefusal::Selector(..) => "job-refused unsupported-selector",
         JobRefusal::Value(..) => "job-refused unsupported-value",
         JobRefusal::Generated(_) => "job-refused generated",
@@ -94,6 +96,7 @@ fn push_places(out: &mut Vec<u8>, fault: &JobRefusal) -> Result<(), AllocError>
         JobRefusal::Limit(_, count) => push_number(out, *count),
         JobRefusal::Shape(_, at)
         | JobRefusal::TooManyRules(at)
+        | JobRefusal::TooManyParts(at)
         | JobRefusal::Generated(at)
         | JobRefusal::BlockInInline(at)
         | JobRefusal::Reach(at)
@@ -102,6 +105,7 @@ fn push_places(out: &mut Vec<u8>, fault: &JobRefusal) -> Result<(), AllocError>
         | JobRefusal::TooDeep(at) => push_number(out, u64::from(*at)),
         JobRefusal::Import(number, at)
         | JobRefusal::MediaQuery(number, at)
+        | JobRefusal::TooManyQueries(number, at)
         | JobRefusal::Selector(number, at) => push_pair(out, *number, *at),
         JobRefusal::RightToLeft(node, letter) => push_pair(out, *node, u32::from(*letter)),
         JobRefusal::Value(node, prop, value) => push_value(out, *node, *prop, value.as_str()),

@@ -1,7 +1,7 @@
 //! The lines of certificates that are rejected.
 ghost use Rattle.std.specs.Prelude.{◌≡◌, ◌++◌, IfOk, OnOk};
 ghost use Rattle.viz_replies.specs.Lines.{spaced};
-ghost use Rattle.viz_replies.specs.Replies.{reject_line};
+ghost use Rattle.viz_replies.specs.Replies.{part_words, reject_line, reject_reason};
 ghost use Rattle.viz_replies.specs.Screens.{spaced_world};
 ghost use Rattle.viz_replies.specs.steps.Rejects.{reject_words, reject_places, rows_text};
 
@@ -13,20 +13,20 @@ use lin_row::Row;
 use std::alloc::{AllocError, Global};
 use viz_base::{Mem, World};
 
-/// The words with which the line begins.
+/// The word for what is wrong.
 fn reject_words(reject: &Reject) -> &'static str
     ensures { result.now ≡ reject_words reject.now }
 {
     match reject {
-        Reject::OtherJob => "rejected other-job",
-        Reject::Shape(_) => "rejected shape",
-        Reject::Line(..) => "rejected line",
-        Reject::Untrue(..) => "rejected untrue",
-        Reject::Unmet(_) => "rejected unmet",
-        Reject::Differs(..) => "rejected differs",
-        Reject::Short(_) => "rejected short",
-        Reject::Left(..) => "rejected left",
-        Reject::Coeff(_) => "rejected coeff",
+        Reject::OtherJob => "other-job",
+        Reject::Shape(_) => "shape",
+        Reject::Line(..) => "line",
+        Reject::Untrue(..) => "untrue",
+        Reject::Unmet(_) => "unmet",
+        Reject::Differs(..) => "differs",
+        Reject::Short(_) => "short",
+        Reject::Left(..) => "left",
+        Reject::Coeff(_) => "coeff",
     }
 }
 
@@ -96,21 +96,54 @@ fn push_places(out: &mut Vec<u8>, form: u8, reject: &Reject) -> Result<(), Alloc
     }
 }
 
-/// The line of a certificate that is wrong for a job of this form.
-fn push_reject(out: &mut Vec<u8>, form: u8, reject: &Reject) -> Result<(), AllocError>
-    ensures { OnOk result (out.new.items ≡ out.old.items ++ reject_line form reject.now) }
+/// Why a certificate is wrong for a job of this form.
+fn push_reason(out: &mut Vec<u8>, form: u8, reject: &Reject) -> Result<(), AllocError>
+    ensures { OnOk result (out.new.items ≡ out.old.items ++ reject_reason form reject.now) }
 {
     out.extend_from_slice(reject_words(reject).as_bytes())?;
     push_places(out, form, reject)?;
     out.extend_from_slice(b"\n")
 }
 
-/// The reply about a certificate that is wrong for a job of this form.
-pub fn rejection(alloc: Global, form: u8, reject: &Reject) -> Result<Reply, Mem>
-    ensures { IfOk result (λ r. (r.answer ≡ Answer.CertRefused) × (r.output.items ≡ reject_line form reject.now)) }
+/// The part whose certificate is wrong, where there are several.
+fn push_part_words(out: &mut Vec<u8>, parts: usize, part: u32) -> Result<(), AllocError>
+    ensures { OnOk result (out.new.items ≡ out.old.items ++ part_words parts part) }
+{
+    if parts > 1 {
+        out.extend_from_slice(b"part")?;
+        push_number(out, u64::from(part))?;
+        out.extend_from_slice(b" ")?;
+    }
+    Ok(())
+}
+
+/// Where the certificate of a part is wrong: which of so many parts, the form of its job, and why.
+#[derive(Clone, Copy)]
+pub struct Wrong<'a> {
+    pub form: u8,
+    pub parts: usize,
+    pub part: u32,
+    pub reject: &'a Reject,
+}
+
+/// The line of a certificate that is wrong.
+fn push_reject(out: &mut Vec<u8>, wrong: Wrong<'_>) -> Result<(), AllocError>
+    ensures { OnOk result (out.new.items ≡ out.old.items
+        ++ reject_line wrong.entry.form wrong.entry.parts wrong.entry.part wrong.entry.reject.now) }
+{
+    out.extend_from_slice(b"rejected ")?;
+    push_part_words(out, wrong.parts, wrong.part)?;
+    push_reason(out, wrong.form, wrong.reject)
+}
+
+/// The reply about a certificate that is wrong.
+pub fn rejection(alloc: Global, wrong: Wrong<'_>) -> Result<Reply, Mem>
+    ensures { IfOk result (λ r. (r.answer ≡ Answer.CertRefused)
+        × (r.output.items ≡ reject_line wrong.entry.form wrong.entry.parts wrong.entry.part
+        wrong.entry.reject.now)) }
 {
     let mut output = Vec::new(alloc);
-    push_reject(&mut output, form, reject)?;
+    push_reject(&mut output, wrong)?;
     Ok(Reply {
         answer: Answer::CertRefused,
         output,

@@ -1,30 +1,26 @@
-ghost use Rattle.std.specs.Prelude.{◌≡◌, ◌+◌, ◌++◌, ◌<◌, ◌^◌, ℕ, List, length, IfOk, OnOk};
-ghost use Rattle.cert_path.specs.Axes.{axis_count};
-ghost use Rattle.cert_path.specs.Nodes.{nodes_of};
-ghost use Rattle.cert_text.specs.Texts.{CertText};
-ghost use Rattle.cert_check.specs.Truths.{Holds};
-ghost use Rattle.viz_replies.specs.Headline.{IsRefuted};
-ghost use Rattle.viz_replies.specs.Replies.{IsReplyAbout, boxes_text, open_line};
+//! What is replied to a question, given the bytes of a job file.
+ghost use Rattle.std.specs.Prelude.{◌≡◌, ◌++◌, IfOk, OnOk};
+ghost use Rattle.viz_replies.specs.Replies.{IsReply, boxes_text, open_line};
 ghost use Rattle.viz_replies.specs.Screens.{world_in};
-ghost use Rattle.viz_replies.specs.steps.Answers.{IsVerdictReply, IsPrintable, IsOutcomeReply, IsProveReply, IsVerdictOn};
-ghost use Rattle.viz_replies.specs.declared.question.Question.{Question};
+ghost use Rattle.viz_replies.specs.Truths.{IsFalseThere};
+ghost use Rattle.viz_replies.specs.steps.Answers.{AreSpelled, CanBeTold, IsSearchReply, IsToldOf};
 
-use crate::certs::{CertRead, certificate_in};
+use crate::checks::checked;
+use crate::jobs::{JobRead, JobsRead, read_job, read_jobs};
+use crate::laws::parts_hold;
 use crate::lines::push_part;
 use crate::question::{Question, Screen};
-use crate::rejects::rejection;
-use crate::reply::{Answer, Reply, line};
+use crate::reply::{Answer, Reply};
+use crate::searches::{Found, search};
 use crate::violations::violation;
-use cert_check::{Verdict, check};
-use cert_text::{Cert, write_cert};
 use lay_flow::render_at;
 use lay_print::print;
-use prove_search::{Outcome, prove};
+use page_build::one_answer;
 use std::alloc::{AllocError, Global};
-use viz_base::{Job, Mem, Rect};
+use viz_base::{Job, List, Mem, Rect, World};
 
-/// What `lay` replies for a job.
-fn laid(alloc: Global, job: &Job, screen: Screen) -> Result<Reply, Mem>
+/// The boxes of a job's page at a screen.
+fn boxes(alloc: Global, job: &Job, screen: Screen) -> Result<Reply, Mem>
     ensures { IfOk result (λ r. (r.answer ≡ Answer.Done)
         × (r.output.items ≡ boxes_text job.now (world_in screen job.now.range))) }
 {
@@ -34,6 +30,20 @@ fn laid(alloc: Global, job: &Job, screen: Screen) -> Result<Reply, Mem>
         answer: Answer::Done,
         output: print(alloc, &rendering)?,
     })
+}
+
+/// What `lay` replies.
+fn laid(alloc: Global, bytes: &[u8], screen: Screen) -> Result<Reply, Mem>
+    ensures { IfOk result (λ r. IsReply bytes.now (Question.Lay screen) r.answer r.output.items) }
+{
+    match read_job(alloc, bytes, screen.w, screen.s)? {
+        JobRead::Read(job) => {
+            let reply = boxes(alloc, &job, screen);
+            drop(job);
+            reply
+        }
+        JobRead::Refused(reply) => Ok(reply),
+    }
 }
 
 /// The line of a part that is open yet of the range of a job of this form.
@@ -57,90 +67,80 @@ fn left_open(alloc: Global, form: u8, part: Rect) -> Result<Reply, Mem>
     })
 }
 
-/// A certificate's text.
-fn certified(alloc: Global, cert: &Cert) -> Result<Reply, Mem>
-    requires { (text : List ℕ) × CertText cert.now text }
-    ensures { IfOk result (λ r. (r.answer ≡ Answer.Done) × CertText cert.now r.output.items) }
+/// A world at which the formula of a part is false, and so the assertion as it is written.
+fn violated(alloc: Global, bytes: &[u8], world: World) -> Result<Reply, Mem>
+    requires { IsFalseThere bytes.now world }
+    ensures { IfOk result (λ r. IsToldOf bytes.now world r.answer r.output.items) }
 {
-    Ok(Reply {
-        answer: Answer::Done,
-        output: write_cert(alloc, cert)?,
-    })
-}
-
-/// What is replied of a search.
-fn outcome_reply(alloc: Global, job: &Job, outcome: &Outcome) -> Result<Reply, Mem>
-    requires printable { IsPrintable outcome.now }
-    ensures { IfOk result (λ r. IsOutcomeReply job.now outcome.now r.answer r.output.items) }
-{
-    match outcome {
-        Outcome::Proved(cert) => certified(alloc, cert),
-        Outcome::Violated(world) => violation(alloc, job, *world),
-        Outcome::Undecided(part) => left_open(alloc, job.form, *part),
+    one_answer();
+    match read_job(alloc, bytes, world.w, world.s)? {
+        JobRead::Read(job) => {
+            let reply = violation(alloc, &job, world);
+            drop(job);
+            reply
+        }
+        // The bytes spell a job there, so they are not refused.
+        JobRead::Refused(_) => unreachable!(),
     }
 }
 
-/// What `prove` replies for a job.
-fn searched(alloc: Global, job: &Job, turns: u64) -> Result<Reply, Mem>
-    ensures { IfOk result (λ r. IsProveReply job.now turns r.answer r.output.items) }
+/// What is replied of a search of the jobs that the bytes spell.
+fn search_reply(alloc: Global, bytes: &[u8], search: Found) -> Result<Reply, Mem>
+    requires { CanBeTold bytes.now search }
+    ensures { IfOk result (λ r. IsSearchReply bytes.now search r.answer r.output.items) }
 {
-    let outcome = prove(alloc, job, turns)?;
-    outcome_reply(alloc, job, &outcome)
-}
-
-/// What is replied of a verdict on a certificate of a job of this form.
-fn verdict_reply(alloc: Global, form: u8, verdict: &Verdict) -> Result<Reply, Mem>
-    ensures { IfOk result (λ r. IsVerdictReply form verdict.now r.answer r.output.items) }
-{
-    match verdict {
-        Verdict::Accepted => line(alloc, Answer::Done, b"accepted\n"),
-        Verdict::Rejected(reject) => rejection(alloc, form, reject),
+    match search {
+        Found::Proved(texts) => Ok(Reply {
+            answer: Answer::Done,
+            output: texts,
+        }),
+        Found::Violated(world) => violated(alloc, bytes, world),
+        Found::Undecided(form, part) => left_open(alloc, form, part),
     }
 }
 
-/// What `check` replies for a certificate that was read.
-fn judged(alloc: Global, job: &Job, cert: &Cert) -> Result<Reply, Mem>
-    requires few { length (nodes_of job.now.form cert.now) + axis_count job.now.form < 2 ^ 32 }
-    ensures { IfOk result (λ r. IsVerdictOn job.now cert.now r.answer r.output.items) }
+/// What is replied of a search of these jobs, which the bytes spell.
+fn searched(alloc: Global, bytes: &[u8], jobs: List<Job>, turns: u64) -> Result<Reply, Mem>
+    requires { AreSpelled bytes.now jobs }
+    ensures { IfOk result (λ r. IsReply bytes.now (Question.Prove turns) r.answer r.output.items) }
 {
-    let verdict = check(alloc, job, cert)?;
-    verdict_reply(alloc, job.form, &verdict)
+    parts_hold();
+    let found = search(alloc, jobs.as_slice(), turns);
+    drop(jobs);
+    search_reply(alloc, bytes, found?)
 }
 
-/// What `check` replies for a job and the bytes of a certificate file.
-fn checked(alloc: Global, job: &Job, bytes: &[u8]) -> Result<Reply, Mem>
-    ensures { IfOk result (λ r. IsReplyAbout job.now (Question.Check bytes.now) r.answer r.output.items) }
+/// What `prove` replies.
+fn proved(alloc: Global, bytes: &[u8], turns: u64) -> Result<Reply, Mem>
+    ensures { IfOk result (λ r. IsReply bytes.now (Question.Prove turns) r.answer r.output.items) }
 {
-    match certificate_in(alloc, bytes)? {
-        CertRead::Read(cert) => judged(alloc, job, &cert),
-        CertRead::Refused(reply) => Ok(reply),
+    match read_jobs(alloc, bytes)? {
+        JobsRead::Read(jobs) => searched(alloc, bytes, jobs, turns),
+        JobsRead::Refused(reply) => Ok(reply),
     }
 }
 
-/// What is replied to a question about a job, with its exact output alone.
-fn reply_on_job(alloc: Global, job: &Job, question: &Question) -> Result<Reply, Mem>
-    ensures { IfOk result (λ r. IsReplyAbout job.now question.now r.answer r.output.items) }
+/// What `check` replies.
+fn judged(alloc: Global, bytes: &[u8], cert: &[u8]) -> Result<Reply, Mem>
+    ensures { IfOk result (λ r. IsReply bytes.now (Question.Check cert.now) r.answer r.output.items) }
+{
+    match read_jobs(alloc, bytes)? {
+        JobsRead::Read(jobs) => {
+            let reply = checked(alloc, jobs.as_slice(), cert);
+            drop(jobs);
+            reply
+        }
+        JobsRead::Refused(reply) => Ok(reply),
+    }
+}
+
+/// What is replied to a question, with its exact output alone.
+pub fn reply_on_bytes(alloc: Global, bytes: &[u8], question: &Question) -> Result<Reply, Mem>
+    ensures { IfOk result (λ r. IsReply bytes.now question.now r.answer r.output.items) }
 {
     match question {
-        Question::Lay(screen) => laid(alloc, job, *screen),
-        Question::Prove(turns) => searched(alloc, job, *turns),
-        Question::Check(cert) => checked(alloc, job, cert.as_slice()),
+        Question::Lay(screen) => laid(alloc, bytes, *screen),
+        Question::Prove(turns) => proved(alloc, bytes, *turns),
+        Question::Check(cert) => judged(alloc, bytes, cert.as_slice()),
     }
-}
-
-/// What is replied to a question about a job.
-pub fn reply_about(alloc: Global, job: &Job, question: &Question) -> Result<Reply, Mem>
-    // Where a certificate is accepted, the job's assertion is true of the CSS 2.1 rendering at every world of its
-    // range.
-    ensures accepted { IfOk result (λ r. (cert : _) → question.now ≡ Question.Check cert → r.answer ≡ Answer.Done
-        → Holds job.now) }
-    // So it is where it is said to be proved,
-    ensures proved { IfOk result (λ r. (turns : _) → question.now ≡ Question.Prove turns → r.answer ≡ Answer.Done
-        → Holds job.now) }
-    // and where it is said to be violated, it is false at the world of the range that is printed, with the boxes there.
-    ensures violated { IfOk result (λ r. r.answer ≡ Answer.Violated → IsRefuted job.now r.output.items) }
-    // The answer and the output are those of the reply.
-    ensures outcome { IfOk result (λ r. IsReplyAbout job.now question.now r.answer r.output.items) }
-{
-    reply_on_job(alloc, job, question)
 }

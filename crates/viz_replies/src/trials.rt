@@ -1,18 +1,20 @@
 //! Replies about generated jobs, which no file holds.
-ghost use Rattle.std.specs.Prelude.{◌≡◌, ◌++◌, IfOk};
+ghost use Rattle.std.specs.Prelude.{◌≡◌, ◌∷◌, ◌<◌, ◌≤◌, List, length, IfOk};
 ghost use Rattle.page_gen.specs.Jobs.{job_text};
 ghost use Rattle.viz_replies.specs.Lines.{numbered};
 ghost use Rattle.viz_replies.specs.Trials.{IsGenerated, IsTrial, IsTrialOf, IsTrialOn, trial_line};
-ghost use Rattle.viz_replies.specs.Headline.{IsTrueEverywhere, IsFalseWhereNamed};
+ghost use Rattle.viz_replies.specs.Headline.{IsFalseWhereNamed};
+ghost use Rattle.viz_replies.specs.Truths.{IsTrueEverywhere};
 ghost use Rattle.viz_replies.specs.steps.Answers.{IsTrialReply};
 
-use crate::jobs::{JobRead, read_job};
+use crate::jobs::{JobsRead, read_jobs};
+use crate::laws::parts_hold;
 use crate::lines::{push_line, push_number};
 use crate::question::Sections;
 use crate::reply::{Answer, Reply};
+use crate::searches::{Found, search};
 use cert_check::world_count;
 use page_gen::{GenFault, generate};
-use prove_search::{Outcome, prove};
 use std::alloc::Global;
 use viz_base::{Job, Mem};
 
@@ -57,41 +59,44 @@ fn trial(
     Ok(Reply { answer, output })
 }
 
-/// What is replied of a search on trial.
-fn outcome_of_trial(alloc: Global, job: &Job, outcome: &Outcome) -> Result<Reply, Mem>
-    ensures { IfOk result (λ r. IsTrialReply job.now outcome.now r.answer r.output.items) }
+/// What is replied of a search on trial, this being the first part's job.
+fn search_of_trial(alloc: Global, job: &Job, found: &Found) -> Result<Reply, Mem>
+    ensures { IfOk result (λ r. IsTrialReply job.now found.now r.answer r.output.items) }
 {
-    match outcome {
-        Outcome::Proved(_) => trial(alloc, Answer::Done, job, b" proved", &[]),
-        Outcome::Violated(world) => {
+    match found {
+        Found::Proved(_) => trial(alloc, Answer::Done, job, b" proved", &[]),
+        Found::Violated(world) => {
             let numbers = [u64::from(world.w), u64::from(world.s)];
             trial(alloc, Answer::Violated, job, b" violated", &numbers)
         }
-        Outcome::Undecided(_) => trial(alloc, Answer::Undecided, job, b" undecided", &[]),
+        Found::Undecided(..) => trial(alloc, Answer::Undecided, job, b" undecided", &[]),
     }
 }
 
-/// What is replied of a job's trial.
-fn tried(alloc: Global, job: &Job, turns: u64) -> Result<Reply, Mem>
-    ensures { IfOk result (λ r. IsTrialOf job.now turns r.answer r.output.items) }
+/// What is replied of the trial of the jobs of all parts.
+fn tried(alloc: Global, jobs: &[Job], turns: u64) -> Result<Reply, Mem>
+    requires some { 0 < length jobs.now }
+    requires few { length jobs.now ≤ 12 }
+    ensures { IfOk result (λ r. (job : Job) × (more : List Job) × (jobs.now ≡ job ∷ more)
+        × IsTrialOf turns job jobs.now r.answer r.output.items) }
 {
-    let outcome = prove(alloc, job, turns)?;
-    let reply = outcome_of_trial(alloc, job, &outcome);
-    drop(outcome);
+    let found = search(alloc, jobs, turns)?;
+    let reply = search_of_trial(alloc, &jobs[0], &found);
+    drop(found);
     reply
 }
 
-/// What is replied of the trial of the job that these bytes spell.
+/// What is replied of the trial of the jobs that these bytes spell.
 fn tried_on_bytes(alloc: Global, bytes: &[u8], turns: u64) -> Result<Reply, Mem>
     ensures { IfOk result (λ r. IsTrialOn bytes.now turns r.answer r.output.items) }
 {
-    match read_job(alloc, bytes)? {
-        JobRead::Read(job) => {
-            let reply = tried(alloc, &job, turns);
-            drop(job);
+    match read_jobs(alloc, bytes)? {
+        JobsRead::Read(jobs) => {
+            let reply = tried(alloc, jobs.as_slice(), turns);
+            drop(jobs);
             reply
         }
-        JobRead::Refused(reply) => Ok(reply),
+        JobsRead::Refused(reply) => Ok(reply),
     }
 }
 
@@ -118,5 +123,6 @@ pub fn reply_to_trial(
     // The answer and the output are those of the reply.
     ensures outcome { IfOk result (λ r. IsTrial seed sections.count turns r.answer r.output.items) }
 {
+    parts_hold();
     reply_of_trial(alloc, seed, sections, turns)
 }

@@ -3,10 +3,12 @@ use Rattle.std.proofs.Common.{◌≡◌, inl, inr, ℕ, List, Option, Bool, ◌�
 use Rattle.viz_replies.specs.declared.reply.Answer.{Answer}
 use Rattle.viz_replies.specs.declared.reply.Answer.TheVariants as gives
 use Rattle.viz_replies.specs.declared.question.Question.TheVariants as question
-use Rattle.viz_replies.specs.Headline.{IsTrueEverywhere}
+use Rattle.viz_replies.specs.Jobs.{AreNoJobs}
+use Rattle.viz_replies.specs.Laws.{OneJobThere, PartsAreTrueThere, PartsHold}
+use Rattle.viz_replies.specs.Truths.{IsTrueEverywhere}
 use Rattle.viz_replies.specs.Replies.{IsRefusal}
 use Rattle.viz_outside.specs.Sink.{grown}
-use Rattle.viz_replies.proofs.HeadlineLemmas.{accepts, proves_true, violates, trial_proves, trial_violates}
+use Rattle.viz_replies.proofs.HeadlineLemmas.{accepted_everywhere, proves_true, violates, trial_proves, trial_violates}
 use Rattle.page_gen.specs.Jobs.{job_text}
 use Rattle.viz_run.specs.declared.status.Status.{Status}
 use Rattle.viz_run.specs.declared.status.Status.TheVariants as ends
@@ -74,34 +76,33 @@ cert_word sure words (asks_for.Trial seed sections turns) asks is = tt
 
 -- ---- replies
 
-accepted_on : {F : Type 0} (shelf : Shelved F) (between : F) (cert bytes output : List ℕ)
-    → ((shelf.new ≡ between) × IsRefusal bytes gives.Done output) ⊎ IsCheckOfFile shelf between cert bytes gives.Done output
+accepted_on : PartsHold → {F : Type 0} (shelf : Shelved F) (between : F) (cert bytes output : List ℕ)
+    → ((shelf.new ≡ between) × IsRefusal (AreNoJobs bytes) gives.Done output) ⊎ IsCheckOfFile shelf between cert bytes gives.Done output
     → IsTrueEverywhere bytes
-accepted_on shelf between cert bytes output (inl (same, refusal)) = absurd (let other = refusal.refused in cc)
-accepted_on shelf between cert bytes output (inr found) =
-    accepts bytes found.cert_bytes (question.Check found.cert_bytes) gives.Done output (inl found.reply) refl refl
+accepted_on law shelf between cert bytes output (inl (same, refusal)) = absurd (let other = refusal.refused in cc)
+accepted_on law shelf between cert bytes output (inr found) = accepted_everywhere law bytes found.cert_bytes output found.reply
 
-checks_reply : {F : Type 0} (shelf : Shelved F) (c : Command) (words : List (List ℕ)) (output : List ℕ) → Asks words c → letter c ≡ 99
+checks_reply : PartsHold → {F : Type 0} (shelf : Shelved F) (c : Command) (words : List (List ℕ)) (output : List ℕ) → Asks words c → letter c ≡ 99
     → IsReplied shelf c gives.Done output → IsTrueOfFile shelf (word_at words 1)
-checks_reply shelf (asks_for.Lay job screen) words output asks verb reply = absurd (omega arith)
-checks_reply shelf (asks_for.Prove job turns) words output asks verb reply = absurd (omega arith)
-checks_reply shelf (asks_for.Check job cert) words output asks verb reply =
+checks_reply law shelf (asks_for.Lay job screen) words output asks verb reply = absurd (omega arith)
+checks_reply law shelf (asks_for.Prove job turns) words output asks verb reply = absurd (omega arith)
+checks_reply law shelf (asks_for.Check job cert) words output asks verb reply =
     let name = ap (λ ws. word_at ws 1) asks.words_are in
-    let holds = accepted_on shelf reply.between cert.now reply.bytes output reply.reply in
+    let holds = accepted_on law shelf reply.between cert.now reply.bytes output reply.reply in
     rw name (record { bytes = reply.bytes; between = reply.between; given = reply.given; holds = holds })
-checks_reply shelf (asks_for.Gen seed sections) words output asks verb reply = absurd (omega arith)
-checks_reply shelf (asks_for.Trial seed sections turns) words output asks verb reply = absurd (omega arith)
+checks_reply law shelf (asks_for.Gen seed sections) words output asks verb reply = absurd (omega arith)
+checks_reply law shelf (asks_for.Trial seed sections turns) words output asks verb reply = absurd (omega arith)
 
-proves_reply : {F : Type 0} (shelf : Shelved F) (c : Command) (words : List (List ℕ)) (output : List ℕ) → Asks words c → letter c ≡ 112
+proves_reply : PartsHold → {F : Type 0} (shelf : Shelved F) (c : Command) (words : List (List ℕ)) (output : List ℕ) → Asks words c → letter c ≡ 112
     → IsReplied shelf c gives.Done output → IsTrueOfFile shelf (word_at words 1)
-proves_reply shelf (asks_for.Lay job screen) words output asks verb reply = absurd (omega arith)
-proves_reply shelf (asks_for.Prove job turns) words output asks verb reply =
+proves_reply law shelf (asks_for.Lay job screen) words output asks verb reply = absurd (omega arith)
+proves_reply law shelf (asks_for.Prove job turns) words output asks verb reply =
     let name = ap (λ ws. word_at ws 1) asks.words_are in
-    let holds = proves_true reply.bytes turns (question.Prove turns) gives.Done output reply.reply refl refl in
+    let holds = proves_true law reply.bytes turns (question.Prove turns) gives.Done output reply.reply refl refl in
     rw name (record { bytes = reply.bytes; between = shelf.new; given = reply.given; holds = holds })
-proves_reply shelf (asks_for.Check job cert) words output asks verb reply = absurd (omega arith)
-proves_reply shelf (asks_for.Gen seed sections) words output asks verb reply = absurd (omega arith)
-proves_reply shelf (asks_for.Trial seed sections turns) words output asks verb reply = absurd (omega arith)
+proves_reply law shelf (asks_for.Check job cert) words output asks verb reply = absurd (omega arith)
+proves_reply law shelf (asks_for.Gen seed sections) words output asks verb reply = absurd (omega arith)
+proves_reply law shelf (asks_for.Trial seed sections turns) words output asks verb reply = absurd (omega arith)
 
 violates_reply : {F : Type 0} (shelf : Shelved F) (c : Command) (words : List (List ℕ)) (old new : Option (List ℕ)) (output : List ℕ) → Asks words c
     → letter c ≡ 112 → IsReplied shelf c gives.Violated output → new ≡ grown old output → IsFalseOfFile shelf (word_at words 1) old new
@@ -114,33 +115,33 @@ violates_reply shelf (asks_for.Check job cert) words old new output asks verb re
 violates_reply shelf (asks_for.Gen seed sections) words old new output asks verb reply written = absurd (omega arith)
 violates_reply shelf (asks_for.Trial seed sections turns) words old new output asks verb reply written = absurd (omega arith)
 
-tries_reply : {F : Type 0} (shelf : Shelved F) (c : Command) (words : List (List ℕ)) (output : List ℕ) → Asks words c → letter c ≡ 116
+tries_reply : PartsHold → {F : Type 0} (shelf : Shelved F) (c : Command) (words : List (List ℕ)) (output : List ℕ) → Asks words c → letter c ≡ 116
     → IsReplied shelf c gives.Done output → IsTrueOfGenerated words
-tries_reply shelf (asks_for.Lay job screen) words output asks verb reply = absurd (omega arith)
-tries_reply shelf (asks_for.Prove job turns) words output asks verb reply = absurd (omega arith)
-tries_reply shelf (asks_for.Check job cert) words output asks verb reply = absurd (omega arith)
-tries_reply shelf (asks_for.Gen seed sections) words output asks verb reply = absurd (omega arith)
-tries_reply shelf (asks_for.Trial seed sections turns) words output asks verb reply = record {
+tries_reply law shelf (asks_for.Lay job screen) words output asks verb reply = absurd (omega arith)
+tries_reply law shelf (asks_for.Prove job turns) words output asks verb reply = absurd (omega arith)
+tries_reply law shelf (asks_for.Check job cert) words output asks verb reply = absurd (omega arith)
+tries_reply law shelf (asks_for.Gen seed sections) words output asks verb reply = absurd (omega arith)
+tries_reply law shelf (asks_for.Trial seed sections turns) words output asks verb reply = record {
   seed = seed;
   seed_is = ap (λ ws. word_at ws 1) asks.words_are;
   sections = sections.count;
   sections_are = ap (λ ws. word_at ws 2) asks.words_are;
-  holds = trial_proves (job_text seed sections.count) turns gives.Done output reply refl;
+  holds = trial_proves law (job_text seed sections.count) turns gives.Done output reply refl;
 }
 
-fails_reply : {F : Type 0} (shelf : Shelved F) (c : Command) (words : List (List ℕ)) (old new : Option (List ℕ)) (output : List ℕ) → Asks words c
+fails_reply : PartsAreTrueThere → OneJobThere → {F : Type 0} (shelf : Shelved F) (c : Command) (words : List (List ℕ)) (old new : Option (List ℕ)) (output : List ℕ) → Asks words c
     → letter c ≡ 116 → IsReplied shelf c gives.Violated output → new ≡ grown old output → IsFalseOfGenerated words old new
-fails_reply shelf (asks_for.Lay job screen) words old new output asks verb reply written = absurd (omega arith)
-fails_reply shelf (asks_for.Prove job turns) words old new output asks verb reply written = absurd (omega arith)
-fails_reply shelf (asks_for.Check job cert) words old new output asks verb reply written = absurd (omega arith)
-fails_reply shelf (asks_for.Gen seed sections) words old new output asks verb reply written = absurd (omega arith)
-fails_reply shelf (asks_for.Trial seed sections turns) words old new output asks verb reply written = record {
+fails_reply parts one shelf (asks_for.Lay job screen) words old new output asks verb reply written = absurd (omega arith)
+fails_reply parts one shelf (asks_for.Prove job turns) words old new output asks verb reply written = absurd (omega arith)
+fails_reply parts one shelf (asks_for.Check job cert) words old new output asks verb reply written = absurd (omega arith)
+fails_reply parts one shelf (asks_for.Gen seed sections) words old new output asks verb reply written = absurd (omega arith)
+fails_reply parts one shelf (asks_for.Trial seed sections turns) words old new output asks verb reply written = record {
   seed = seed;
   seed_is = ap (λ ws. word_at ws 1) asks.words_are;
   sections = sections.count;
   sections_are = ap (λ ws. word_at ws 2) asks.words_are;
   output = output;
-  untrue = trial_violates (job_text seed sections.count) turns gives.Violated output reply refl;
+  untrue = trial_violates parts one (job_text seed sections.count) turns gives.Violated output reply refl;
   written = written;
 }
 
@@ -173,17 +174,17 @@ answered shelf words sink result wanted (inr (c, asks, obeyed)) is =
     let found = replied shelf c sink result wanted obeyed is in
     record { c = c; asks = asks; output = found.0; reply = found.1; written = found.2 }
 
-pub run_accepts : {F S : Type 0} (shelf : Shelved F) (words : List (List ℕ)) (sink : Sunk S) (result : Status) → IsOutcome shelf words sink result
+pub run_accepts : PartsHold → {F S : Type 0} (shelf : Shelved F) (words : List (List ℕ)) (sink : Sunk S) (result : Status) → IsOutcome shelf words sink result
     → result ≡ ends.Replied gives.Done → word_at words 0 ≡ codes "check" → IsTrueOfFile shelf (word_at words 1)
-run_accepts shelf words sink result outcome is verb =
+run_accepts law shelf words sink result outcome is verb =
     let found = answered shelf words sink result gives.Done outcome is in
-    checks_reply shelf found.c words found.output found.asks (same_letter words found.c (codes "check") found.asks verb) found.reply
+    checks_reply law shelf found.c words found.output found.asks (same_letter words found.c (codes "check") found.asks verb) found.reply
 
-pub run_proves : {F S : Type 0} (shelf : Shelved F) (words : List (List ℕ)) (sink : Sunk S) (result : Status) → IsOutcome shelf words sink result
+pub run_proves : PartsHold → {F S : Type 0} (shelf : Shelved F) (words : List (List ℕ)) (sink : Sunk S) (result : Status) → IsOutcome shelf words sink result
     → result ≡ ends.Replied gives.Done → word_at words 0 ≡ codes "prove" → IsTrueOfFile shelf (word_at words 1)
-run_proves shelf words sink result outcome is verb =
+run_proves law shelf words sink result outcome is verb =
     let found = answered shelf words sink result gives.Done outcome is in
-    proves_reply shelf found.c words found.output found.asks (same_letter words found.c (codes "prove") found.asks verb) found.reply
+    proves_reply law shelf found.c words found.output found.asks (same_letter words found.c (codes "prove") found.asks verb) found.reply
 
 pub run_violates : {F S : Type 0} (shelf : Shelved F) (words : List (List ℕ)) (sink : Sunk S) (result : Status) → IsOutcome shelf words sink result
     → result ≡ ends.Replied gives.Violated → word_at words 0 ≡ codes "prove"
@@ -192,15 +193,15 @@ run_violates shelf words sink result outcome is verb =
     let found = answered shelf words sink result gives.Violated outcome is in
     violates_reply shelf found.c words _ _ found.output found.asks (same_letter words found.c (codes "prove") found.asks verb) found.reply found.written.whole
 
-pub run_tries : {F S : Type 0} (shelf : Shelved F) (words : List (List ℕ)) (sink : Sunk S) (result : Status) → IsOutcome shelf words sink result
+pub run_tries : PartsHold → {F S : Type 0} (shelf : Shelved F) (words : List (List ℕ)) (sink : Sunk S) (result : Status) → IsOutcome shelf words sink result
     → result ≡ ends.Replied gives.Done → word_at words 0 ≡ codes "trial" → IsTrueOfGenerated words
-run_tries shelf words sink result outcome is verb =
+run_tries law shelf words sink result outcome is verb =
     let found = answered shelf words sink result gives.Done outcome is in
-    tries_reply shelf found.c words found.output found.asks (same_letter words found.c (codes "trial") found.asks verb) found.reply
+    tries_reply law shelf found.c words found.output found.asks (same_letter words found.c (codes "trial") found.asks verb) found.reply
 
-pub run_fails : {F S : Type 0} (shelf : Shelved F) (words : List (List ℕ)) (sink : Sunk S) (result : Status) → IsOutcome shelf words sink result
+pub run_fails : PartsAreTrueThere → OneJobThere → {F S : Type 0} (shelf : Shelved F) (words : List (List ℕ)) (sink : Sunk S) (result : Status) → IsOutcome shelf words sink result
     → result ≡ ends.Replied gives.Violated → word_at words 0 ≡ codes "trial"
     → IsFalseOfGenerated words (sink.written sink.old) (sink.written sink.new)
-run_fails shelf words sink result outcome is verb =
+run_fails parts one shelf words sink result outcome is verb =
     let found = answered shelf words sink result gives.Violated outcome is in
-    fails_reply shelf found.c words _ _ found.output found.asks (same_letter words found.c (codes "trial") found.asks verb) found.reply found.written.whole
+    fails_reply parts one shelf found.c words _ _ found.output found.asks (same_letter words found.c (codes "trial") found.asks verb) found.reply found.written.whole

@@ -11,10 +11,12 @@ use Rattle.viz_outside.proofs.FaultLemmas.{rose_within}
 use Rattle.viz_base.specs.declared.jobs.Job.{Job}
 use Rattle.viz_replies.specs.declared.reply.Answer.{Answer}
 use Rattle.viz_replies.specs.declared.reply.Reply.{Reply}
+use Rattle.viz_replies.specs.declared.question.Question.{Question}
 use Rattle.viz_replies.specs.declared.question.Question.TheVariants as asks
-use Rattle.viz_replies.specs.declared.jobs.JobRead.TheVariants as of_job
+use Rattle.viz_replies.specs.declared.jobs.JobsRead.TheVariants as of_jobs
 use Rattle.viz_replies.specs.Certificates.{cert_most}
-use Rattle.viz_replies.specs.Replies.{IsReplyAbout}
+use Rattle.viz_replies.specs.Jobs.{IsTooLong}
+use Rattle.viz_replies.specs.Replies.{IsChecked, SpellNothing}
 use Rattle.viz_run.specs.Files.{Files, Shelved, MayHold, IsGiven, LoadsBoth}
 use Rattle.viz_run.specs.Run.{IsCheckOfFiles}
 use Rattle.viz_run.specs.steps.Loads.{IsJobFile}
@@ -96,24 +98,30 @@ rose_later a b c first last rose = rose_within a b c c first last rose (omega ar
 abbrev until : {F : Type 0} → Shelved F → F → Shelved F
 until shelf between = record { files = shelf.files; loads = shelf.loads; old = shelf.old; new = between }
 
-pub checked_about : {F : Type 0} (shelf : Shelved F) (name cert : List ℕ) (between : F) (job : Job) (answer : Answer) (output : List ℕ)
-    → IsJobFile (until shelf between) name (of_job.Read job)
-    → (bytes : List ℕ) × IsGiven shelf cert cert_most between shelf.new bytes × IsReplyAbout job (asks.Check bytes) answer output
+pub checked_about : {F : Type 0} (shelf : Shelved F) (name cert : List ℕ) (between : F) (jobs : List Job) (answer : Answer) (output : List ℕ)
+    → IsJobFile (until shelf between) name (of_jobs.Read jobs)
+    → (bytes : List ℕ) × IsGiven shelf cert cert_most between shelf.new bytes × IsChecked jobs bytes answer output
     → IsCheckOfFiles shelf name cert answer output
-checked_about shelf name cert between job answer output file (bytes, given, reply) = record {
+checked_about shelf name cert between jobs answer output file (bytes, given, reply) = record {
   bytes = file.bytes;
   between = between;
   given = file.given;
-  reply = inr (record { cert_bytes = bytes; given = given; reply = record { job = job; spelled = file.reads; reply = reply } });
+  reply = inr (record { cert_bytes = bytes; given = given; reply = record { jobs = jobs; spelled = file.reads.spelled; reply = reply } });
 }
 
-pub check_refused : {F : Type 0} (shelf : Shelved F) (name cert : List ℕ) (reply : Reply) → IsJobFile shelf name (of_job.Refused reply)
+pub check_refused : {F : Type 0} (shelf : Shelved F) (name cert : List ℕ) (reply : Reply) → IsJobFile shelf name (of_jobs.Refused reply)
     → IsCheckOfFiles shelf name cert reply.answer reply.output.items
 check_refused shelf name cert reply file = record { bytes = file.bytes; between = shelf.new; given = file.given; reply = inl (refl, file.reads) }
 
-pub loads_both : {F : Type 0} (shelf : Shelved F) (name cert : List ℕ) (between : F) (job : Job) (answer : Result Loaded ShelfFault)
-    → IsJobFile (until shelf between) name (of_job.Read job) → shelf.loads between cert cert_most answer shelf.new → LoadsBoth shelf name cert answer
-loads_both shelf name cert between job answer file loaded = record {
-  first = record { bytes = file.bytes; between = between; given = file.given; job = job; spelled = file.reads };
+pub loads_both : {F : Type 0} (shelf : Shelved F) (name cert : List ℕ) (between : F) (jobs : List Job) (answer : Result Loaded ShelfFault)
+    → IsJobFile (until shelf between) name (of_jobs.Read jobs) → shelf.loads between cert cert_most answer shelf.new → LoadsBoth shelf name cert answer
+loads_both shelf name cert between jobs answer file loaded = record {
+  first = record { bytes = file.bytes; between = between; given = file.given; jobs = jobs; spelled = file.reads.spelled };
   second = loaded;
 }
+
+-- bytes that are too many spell nothing that is asked for
+pub long_spells_nothing : (bytes : List ℕ) (question : Question) (output : List ℕ) → IsTooLong bytes output → SpellNothing bytes question output
+long_spells_nothing bytes (asks.Lay screen) output long = inl long
+long_spells_nothing bytes (asks.Prove turns) output long = inl long
+long_spells_nothing bytes (asks.Check cert) output long = inl long

@@ -4,7 +4,7 @@ use Rattle.viz_outside.specs.declared.shelf.Loaded.{Loaded}
 use Rattle.viz_outside.specs.declared.shelf.ShelfFault.{ShelfFault}
 use Rattle.viz_outside.specs.Shelf.{loaded_of}
 use Rattle.viz_base.specs.declared.jobs.Job.{Job}
-use Rattle.viz_replies.specs.Jobs.{SpellsJob, job_most}
+use Rattle.viz_replies.specs.Jobs.{SpellJobs, job_most}
 use Rattle.viz_replies.specs.Certificates.{cert_most}
 
 -- what a shelf tells of its files, if it tells them
@@ -33,13 +33,13 @@ MayHold (Some held) name bytes = held name ≡ Some bytes
 abbrev pub IsGiven : {F : Type 0} → Shelved F → List ℕ → ℕ → F → F → List ℕ → Type 0
 IsGiven shelf name cap from to bytes = MayHold shelf.files name bytes × shelf.loads from name cap (Ok (loaded_of cap bytes)) to
 
--- the first load was of the file of the name, and gave bytes that spell a job
-pub record HoldsJob {F : Type 0} (shelf : Shelved F) (name : List ℕ) : Type 0 where
+-- the first load was of the file of the name, and gave bytes that spell jobs
+pub record HoldsJobs {F : Type 0} (shelf : Shelved F) (name : List ℕ) : Type 0 where
   pub bytes : List ℕ
   pub between : F
   pub given : IsGiven shelf name job_most shelf.old between bytes
-  pub job : Job
-  pub spelled : SpellsJob bytes job
+  pub jobs : List Job
+  pub spelled : SpellJobs bytes jobs
 
 -- ---- which files were loaded, whatever came of it
 
@@ -47,8 +47,8 @@ pub record HoldsJob {F : Type 0} (shelf : Shelved F) (name : List ℕ) : Type 0 
 abbrev pub LoadsJob : {F : Type 0} → Shelved F → List ℕ → Result Loaded ShelfFault → Type 0
 LoadsJob shelf job answer = shelf.loads shelf.old job job_most answer shelf.new
 
--- the first load was of the job file, and gave bytes that spell a job; the second, and last, was of the certificate file
+-- the first load was of the job file, and gave bytes that spell jobs; the second, and last, was of the certificate file
 -- of this name, and answered so
 pub record LoadsBoth {F : Type 0} (shelf : Shelved F) (job cert : List ℕ) (answer : Result Loaded ShelfFault) : Type 0 where
-  pub first : HoldsJob shelf job
+  pub first : HoldsJobs shelf job
   pub second : shelf.loads first.between cert cert_most answer shelf.new

@@ -2,21 +2,23 @@
 use Rattle.std.specs.Prelude.{◌≡◌, ℕ, List, Option, decimal}
 use Rattle.viz_outside.specs.Sink.{grown}
 use Rattle.page_gen.specs.Jobs.{job_text}
-use Rattle.viz_replies.specs.Headline.{IsTrueEverywhere, IsFalseWherePrinted, IsFalseWhereNamed}
+use Rattle.viz_replies.specs.Headline.{IsFalseWherePrinted, IsFalseWhereNamed}
+use Rattle.viz_replies.specs.Truths.{IsTrueEverywhere}
 use Rattle.viz_replies.specs.Jobs.{job_most}
 use Rattle.viz_run.specs.Files.{Shelved, IsGiven}
 use Rattle.viz_run.specs.Words.{word_at}
 
--- the first load was of the file of the name, and the assertion of the job that
--- it gave is true at every world of its range
+-- the first load was of the file of the name, and the assertion of the job file
+-- that it gave is true, as it is written, at every world of the range
 pub record IsTrueOfFile {F : Type 0} (shelf : Shelved F) (name : List ℕ) : Type 0 where
   pub bytes : List ℕ
   pub between : F
   pub given : IsGiven shelf name job_most shelf.old between bytes
   pub holds : IsTrueEverywhere bytes
 
--- the only load was of the file of the name, and the assertion of the job that it
--- gave is false at a world of its range, which was written with the boxes there
+-- the only load was of the file of the name, and the assertion of the job file that
+-- it gave is false, as it is written, at a world of the range, which was written with
+-- the boxes there
 pub record IsFalseOfFile {F : Type 0} (shelf : Shelved F) (name : List ℕ) (old new : Option (List ℕ)) : Type 0 where
   pub bytes : List ℕ
   pub given : IsGiven shelf name job_most shelf.old shelf.new bytes

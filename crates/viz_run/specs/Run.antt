@@ -9,9 +9,9 @@ use Rattle.viz_replies.specs.declared.reply.Answer.{Answer}
 use Rattle.viz_replies.specs.declared.reply.Answer.TheVariants as gives
 use Rattle.viz_replies.specs.declared.question.Question.{Question}
 use Rattle.viz_replies.specs.declared.question.Question.TheVariants as asks
-use Rattle.viz_replies.specs.Jobs.{job_most}
+use Rattle.viz_replies.specs.Jobs.{AreNoJobs, job_most}
 use Rattle.viz_replies.specs.Certificates.{cert_most}
-use Rattle.viz_replies.specs.Replies.{IsReply, IsReplyOnJob, IsRefusal}
+use Rattle.viz_replies.specs.Replies.{IsChecked, IsReply, IsReplyOnJobs, IsRefusal}
 use Rattle.viz_replies.specs.Trials.{IsGenerated, IsTrial}
 use Rattle.viz_run.specs.declared.status.File.{File}
 use Rattle.viz_run.specs.declared.status.File.TheVariants as of_the
@@ -44,21 +44,21 @@ pub record IsReplyOfFile {F : Type 0} (shelf : Shelved F) (name : List ℕ) (que
   pub reply : IsReply bytes question answer output
 
 -- from here on the only load was of the certificate file of this name, and this is the reply to
--- `check` about the bytes of a job file, which spell a job, and the bytes that it gave
+-- `check` about the bytes of a job file, which spell jobs, and the bytes that it gave
 pub record IsCheckOfFile {F : Type 0} (shelf : Shelved F) (here : F) (cert bytes : List ℕ) (answer : Answer)
     (output : List ℕ) : Type 0 where
   pub cert_bytes : List ℕ
   pub given : IsGiven shelf cert cert_most here shelf.new cert_bytes
-  pub reply : IsReplyOnJob bytes (asks.Check cert_bytes) answer output
+  pub reply : IsReplyOnJobs bytes (λ jobs. IsChecked jobs cert_bytes answer output)
 
 -- the reply to `check` about the files of these names: the job file is loaded, and, where its bytes
--- spell a job, the certificate file behind it
+-- spell jobs, the certificate file behind it
 pub record IsCheckOfFiles {F : Type 0} (shelf : Shelved F) (job cert : List ℕ) (answer : Answer) (output : List ℕ)
     : Type 0 where
   pub bytes : List ℕ
   pub between : F
   pub given : IsGiven shelf job job_most shelf.old between bytes
-  pub reply : ((shelf.new ≡ between) × IsRefusal bytes answer output)
+  pub reply : ((shelf.new ≡ between) × IsRefusal (AreNoJobs bytes) answer output)
       ⊎ IsCheckOfFile shelf between cert bytes answer output
 
 -- the reply to a command
@@ -70,7 +70,7 @@ IsReplied shelf (asks_for.Gen seed sections) answer output = IsGenerated seed se
 IsReplied shelf (asks_for.Trial seed sections turns) answer output = IsTrial seed sections.count turns answer output
 
 -- the load that failed: that of the job file, the only one, or that of a certificate file, behind the job file, which
--- spells a job; about a generated job no file is loaded
+-- spells jobs; about a generated job no file is loaded
 abbrev pub IsUnread : {F : Type 0} → Shelved F → Command → File → Type 0
 IsUnread shelf (asks_for.Lay job screen) of_the.Job = LoadsJob shelf job.now (Err Failed)
 IsUnread shelf (asks_for.Prove job turns) of_the.Job = LoadsJob shelf job.now (Err Failed)
@@ -79,7 +79,7 @@ IsUnread shelf (asks_for.Check job cert) of_the.Certificate = LoadsBoth shelf jo
 IsUnread shelf c file = ⊥
 
 -- the loads before memory was wanted, and in the last of them: the job file's alone, or for `check` the certificate
--- file's behind the job file's, which spells a job; none about a generated job
+-- file's behind the job file's, which spells jobs; none about a generated job
 abbrev pub IsLoaded : {F : Type 0} → Shelved F → Command → Type 0
 IsLoaded shelf (asks_for.Lay job screen) = (answer : Result Loaded ShelfFault) × LoadsJob shelf job.now answer
 IsLoaded shelf (asks_for.Prove job turns) = (answer : Result Loaded ShelfFault) × LoadsJob shelf job.now answer

@@ -1,6 +1,6 @@
-ghost use Rattle.std.specs.Prelude.{◌≡◌, ◌⊎◌, ◌≤◌, ℕ, List, Result, Err, IfOk, IsErrOf, IsTrue};
+ghost use Rattle.std.specs.Prelude.{◌≡◌, ◌⊎◌, ◌≤◌, ℕ, List, length, Result, Err, IfOk, IsErrOf, IsTrue};
 ghost use Rattle.viz_base.specs.Numbers.{Rose};
-ghost use Rattle.viz_replies.specs.Replies.{IsReplyAbout};
+ghost use Rattle.viz_replies.specs.Replies.{IsChecked};
 ghost use Rattle.viz_outside.specs.declared.shelf.Loaded.{Loaded};
 ghost use Rattle.viz_outside.specs.declared.shelf.ShelfFault.{ShelfFault};
 ghost use Rattle.viz_outside.specs.declared.shelf.ShelfFault.TheVariants.{Failed};
@@ -15,12 +15,12 @@ use std::alloc::Global;
 use viz_base::{Job, Mem};
 use viz_outside::{Loaded, Shelf, ShelfFault};
 use viz_replies::{
-    Answer, CERT_MOST, JOB_MOST, JobRead, Question, Reply, long_certificate, long_job, read_job,
-    reply_about, reply_to, reply_to_gen, reply_to_trial,
+    Answer, CERT_MOST, JOB_MOST, JobsRead, Question, Reply, checked, long_certificate, long_job,
+    read_jobs, reply_to, reply_to_gen, reply_to_trial,
 };
 
 /// What the job file of this name comes to.
-fn load_job<F: Shelf>(alloc: Global, name: &str, shelf: &mut F) -> Result<JobRead, ShelfFault>
+fn load_jobs<F: Shelf>(alloc: Global, name: &str, shelf: &mut F) -> Result<JobsRead, ShelfFault>
     ensures file { IfOk result (IsJobFile (shelved F.files F.loads shelf.old shelf.new) name.now) }
     ensures files { F.files shelf.new ≡ F.files shelf.old }
     ensures unread { IsErrOf result ShelfFault.Failed
@@ -34,22 +34,23 @@ fn load_job<F: Shelf>(alloc: Global, name: &str, shelf: &mut F) -> Result<JobRea
     ensures stays_sure { (other : List ℕ) → IsTrue (F.sure shelf.old other) → IsTrue (F.sure shelf.new other) }
 {
     match shelf.load(name, JOB_MOST) {
-        Ok(Loaded::Whole(bytes)) => Ok(read_job(alloc, bytes.as_slice())?),
-        Ok(Loaded::Longer) => Ok(JobRead::Refused(long_job(alloc)?)),
+        Ok(Loaded::Whole(bytes)) => Ok(read_jobs(alloc, bytes.as_slice())?),
+        Ok(Loaded::Longer) => Ok(JobsRead::Refused(long_job(alloc)?)),
         Err(fault) => Err(fault),
     }
 }
 
-/// The reply to `check` about a job, with the certificate file of this name.
+/// The reply to `check` about the jobs of all parts, with the certificate file of this name.
 fn reply_by_file<F: Shelf>(
     alloc: Global,
-    job: &Job,
+    jobs: &[Job],
     name: &str,
     shelf: &mut F,
 ) -> Result<Reply, ShelfFault>
+    requires { length jobs.now ≤ 12 }
     ensures reply { IfOk result (λ r. (bytes : _)
         × IsGiven (shelved F.files F.loads shelf.old shelf.new) name.now cert_most shelf.old shelf.new bytes
-        × IsReplyAbout job.now (Question.Check bytes) r.answer r.output.items) }
+        × IsChecked jobs.now bytes r.answer r.output.items) }
     ensures unread { IsErrOf result ShelfFault.Failed → F.loads shelf.old name.now cert_most (Err Failed) shelf.new }
     ensures wanting { IsErrOf result ShelfFault.Mem → (answer : Result Loaded ShelfFault)
         × F.loads shelf.old name.now cert_most answer shelf.new }
@@ -58,7 +59,7 @@ fn reply_by_file<F: Shelf>(
     ensures counts { F.faults shelf.old ≤ F.faults shelf.new }
 {
     match shelf.load(name, CERT_MOST) {
-        Ok(Loaded::Whole(bytes)) => Ok(reply_about(alloc, job, &Question::Check(bytes))?),
+        Ok(Loaded::Whole(bytes)) => Ok(checked(alloc, jobs, bytes.as_slice())?),
         Ok(Loaded::Longer) => Ok(long_certificate(alloc)?),
         Err(fault) => Err(fault),
     }
@@ -110,7 +111,7 @@ fn reply_of_file<F: Shelf>(
     }
 }
 
-/// The reply to `check` about the files of these names. With a job file that spells no job, no other file is loaded.
+/// The reply to `check` about the files of these names. With a job file that spells no jobs, no other file is loaded.
 fn check_of_files<F: Shelf>(
     alloc: Global,
     job: &str,
@@ -133,17 +134,17 @@ fn check_of_files<F: Shelf>(
     ensures unlooked { IsTrue (F.sure shelf.old job.now) → IfOk result (λ r.
         r.answer ≡ Answer.JobRefused → F.faults shelf.new ≡ F.faults shelf.old) }
 {
-    match load_job(alloc, job, shelf) {
-        Ok(JobRead::Read(job)) => {
-            let reply = reply_by_file(alloc, &job, cert, shelf);
-            drop(job);
+    match load_jobs(alloc, job, shelf) {
+        Ok(JobsRead::Read(jobs)) => {
+            let reply = reply_by_file(alloc, jobs.as_slice(), cert, shelf);
+            drop(jobs);
             match reply {
                 Ok(reply) => Ok(reply),
                 Err(ShelfFault::Failed) => Err(NoReply::Unread(File::Certificate)),
                 Err(ShelfFault::Mem) => Err(NoReply::Mem),
             }
         }
-        Ok(JobRead::Refused(refusal)) => Ok(refusal),
+        Ok(JobsRead::Refused(refusal)) => Ok(refusal),
         Err(ShelfFault::Failed) => Err(NoReply::Unread(File::Job)),
         Err(ShelfFault::Mem) => Err(NoReply::Mem),
     }

@@ -12,7 +12,7 @@ use crate::status::Status;
 use crate::words::{Command, command_of};
 use std::alloc::Global;
 use viz_outside::{Shelf, Sink, write_all};
-use viz_replies::Answer;
+use viz_replies::{Answer, parts_hold};
 
 /// Writes the whole output, if the sink doesn't fail.
 fn deliver<K: Sink>(sink: &mut K, status: Status, output: &[u8]) -> Status
@@ -75,7 +75,8 @@ pub fn run<F: Shelf, K: Sink>(
     shelf: &mut F,
     sink: &mut K,
 ) -> Status
-    // Where `check` accepts, the job's assertion is true of the CSS 2.1 rendering at every world of its range.
+    // Where `check` accepts, the assertion of the job file is true, as it is written, of the CSS 2.1 rendering at every
+    // world of the range, the rendering being by the rules that are met there (Media Queries 3).
     ensures accepted { result ≡ Status.Replied Answer.Done → word_at (map string_bytes words.now) 0 ≡ codes "check"
         → IsTrueOfFile (shelved F.files F.loads shelf.old shelf.new) (word_at (map string_bytes words.now) 1) }
     // So it is where `prove` says that it is proved,
@@ -108,5 +109,6 @@ pub fn run<F: Shelf, K: Sink>(
     ensures unlooked { IsTrue (F.sure shelf.old (word_at (map string_bytes words.now) 1))
         → result ≡ Status.Replied Answer.JobRefused → F.faults shelf.new ≡ F.faults shelf.old }
 {
+    parts_hold();
     answer(alloc, words, shelf, sink)
 }

@@ -3,7 +3,7 @@ use Rattle.std.specs.Prelude.{ℕ, List, [], ◌++◌, codes}
 use Rattle.viz_base.specs.declared.settings.Prop.{Prop}
 use Rattle.css_semantics.specs.Properties.{row}
 use Rattle.page_build.specs.declared.faults.JobRefusal.{JobRefusal}
-use Rattle.page_build.specs.declared.faults.JobRefusal.TheVariants.{Mem, NotJson, Shape, Limit, Range, Import, MediaQuery, TooManyRules, Selector, Value, Generated, BlockInInline, RightToLeft, TooManyBoxes, Reach, Bad, Unbound, TooDeep}
+use Rattle.page_build.specs.declared.faults.JobRefusal.TheVariants.{Mem, NotJson, Shape, Limit, Range, Import, MediaQuery, TooManyRules, TooManyQueries, TooManyParts, Selector, Value, Generated, BlockInInline, RightToLeft, TooManyBoxes, Reach, Bad, Unbound, TooDeep}
 use Rattle.viz_replies.specs.Lines.{spaced}
 use Rattle.viz_replies.specs.Jobs.{shape_words, limit_words}
 
@@ -16,6 +16,8 @@ refusal_words Range = codes "job-refused range"
 refusal_words (Import sheet place) = codes "job-refused import"
 refusal_words (MediaQuery sheet place) = codes "job-refused media-query"
 refusal_words (TooManyRules sheet) = codes "job-refused too-many-rules"
+refusal_words (TooManyQueries sheet place) = codes "job-refused too-many-queries"
+refusal_words (TooManyParts count) = codes "job-refused too-many-parts"
 refusal_words (Selector sheet place) = codes "job-refused unsupported-selector"
 refusal_words (Value node prop value) = codes "job-refused unsupported-value"
 refusal_words (Generated node) = codes "job-refused generated"
@@ -39,6 +41,8 @@ refusal_places Range = []
 refusal_places (Import sheet place) = spaced sheet ++ spaced place
 refusal_places (MediaQuery sheet place) = spaced sheet ++ spaced place
 refusal_places (TooManyRules sheet) = spaced sheet
+refusal_places (TooManyQueries sheet place) = spaced sheet ++ spaced place
+refusal_places (TooManyParts count) = spaced count
 refusal_places (Selector sheet place) = spaced sheet ++ spaced place
 refusal_places (Value node prop value) = value_places node prop value
 refusal_places (Generated node) = spaced node

@@ -8,15 +8,15 @@ use Rattle.viz_replies.specs.Lines.{spaced}
 use Rattle.viz_replies.specs.Screens.{spaced_world}
 
 abbrev pub reject_words : Reject → List ℕ
-reject_words OtherJob = codes "rejected other-job"
-reject_words (Shape node) = codes "rejected shape"
-reject_words (Line node number line) = codes "rejected line"
-reject_words (Untrue node world) = codes "rejected untrue"
-reject_words (Unmet node) = codes "rejected unmet"
-reject_words (Differs node number ours theirs) = codes "rejected differs"
-reject_words (Short node) = codes "rejected short"
-reject_words (Left node count) = codes "rejected left"
-reject_words (Coeff node) = codes "rejected coeff"
+reject_words OtherJob = codes "other-job"
+reject_words (Shape node) = codes "shape"
+reject_words (Line node number line) = codes "line"
+reject_words (Untrue node world) = codes "untrue"
+reject_words (Unmet node) = codes "unmet"
+reject_words (Differs node number ours theirs) = codes "differs"
+reject_words (Short node) = codes "short"
+reject_words (Left node count) = codes "left"
+reject_words (Coeff node) = codes "coeff"
 
 abbrev pub rows_text : (ours theirs : Form) → List ℕ
 rows_text ours theirs = codes " " ++ (row_bytes ours ++ (codes " / " ++ row_bytes theirs))

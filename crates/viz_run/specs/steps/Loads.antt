@@ -1,17 +1,17 @@
 -- What the loads of a run come to.
 use Rattle.std.specs.Prelude.{ℕ, List, Bool, IsTrue}
-use Rattle.viz_replies.specs.declared.jobs.JobRead.{JobRead}
+use Rattle.viz_replies.specs.declared.jobs.JobsRead.{JobsRead}
 use Rattle.viz_replies.specs.Jobs.{job_most}
-use Rattle.viz_replies.specs.steps.Answers.{IsJobRead}
+use Rattle.viz_replies.specs.steps.Answers.{AreJobsRead}
 use Rattle.viz_run.specs.declared.words.Command.{Command}
 use Rattle.viz_run.specs.declared.words.Command.TheVariants as asks_for
 use Rattle.viz_run.specs.Files.{Shelved, IsGiven}
 
--- the only load was of the file of the name, and gave this job, or bytes that spell none, with the reply about them
-pub record IsJobFile {F : Type 0} (shelf : Shelved F) (name : List ℕ) (read : JobRead) : Type 0 where
+-- the only load was of the file of the name, and gave these jobs, or bytes that spell none, with the reply about them
+pub record IsJobFile {F : Type 0} (shelf : Shelved F) (name : List ℕ) (read : JobsRead) : Type 0 where
   pub bytes : List ℕ
   pub given : IsGiven shelf name job_most shelf.old shelf.new bytes
-  pub reads : IsJobRead bytes read
+  pub reads : AreJobsRead bytes read
 
 -- the job file of a command is sure to load, where it names one
 abbrev pub IsSureJob : (List ℕ → Bool) → Command → Type 0

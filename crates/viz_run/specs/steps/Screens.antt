@@ -1,5 +1,5 @@
 -- The words that name a screen.
-use Rattle.std.specs.Prelude.{◌≡◌, ◌≢◌, ℕ, List, ◌∷◌, decimal}
+use Rattle.std.specs.Prelude.{◌≡◌, ℕ, List, ◌∷◌, decimal}
 use Rattle.viz_replies.specs.declared.question.Screen.{Screen}
 use Rattle.viz_run.specs.Words.{IsScreen, height_words}
 

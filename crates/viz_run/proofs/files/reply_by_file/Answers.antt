@@ -3,13 +3,13 @@ use Rattle.viz_outside.specs.declared.shelf.ShelfFault.TheVariants.{Failed}
 use Rattle.viz_run.proofs.RunLemmas.{given_whole, given_longer}
 use Rattle.viz_run.proofs.files.reply_by_file.Goals as goal
 
-pub returns-in_ok-reply_about-in-Ok-Whole-clause-reply : goal.returns-in_ok-reply_about-in-Ok-Whole-clause-reply
-returns-in_ok-reply_about-in-Ok-Whole-clause-reply g c =
+pub returns-in_ok-checked-in-Ok-Whole-clause-reply : goal.returns-in_ok-checked-in-Ok-Whole-clause-reply
+returns-in_ok-checked-in-Ok-Whole-clause-reply g c =
     let told = rw c.in-Ok-Whole.field-0-is at c.in-Ok-Whole.ensures.told in
     let few = rw c.in-Ok-Whole.field-0-is at c.in-Ok-Whole.ensures.capped in
     let loaded = rw c.in-Ok-Whole.field-0-is at c.in-Ok-Whole.ensures.loaded in
     let given = given_whole (g.F.Shelf.files c.args.shelf.now) g.F.Shelf.loads c.args.name.now 67108864 _ _ c.in-Ok-Whole.bytes told few loaded in
-    (c.in-Ok-Whole.bytes, given, c.in_ok-reply_about-in-Ok-Whole.ensures.outcome)
+    (c.in-Ok-Whole.bytes, given, rw c.as_slice.ensures at c.in_ok-checked-in-Ok-Whole.ensures)
 
 pub returns-in_ok-long_certificate-in-Ok-Longer-clause-reply : goal.returns-in_ok-long_certificate-in-Ok-Longer-clause-reply
 returns-in_ok-long_certificate-in-Ok-Longer-clause-reply g c =
@@ -24,8 +24,8 @@ returns-in-Err-clause-unread g c = λ is.
     let same : c.in-Err.fault ≡ Failed = cc in
     subst (λ fault. g.F.Shelf.loads c.args.shelf.now c.args.name.now 67108864 (Err fault) c.load.new.self) same c.in-Err.ensures.loaded
 
-pub returns-in_err-reply_about-in-Ok-Whole-clause-wanting : goal.returns-in_err-reply_about-in-Ok-Whole-clause-wanting
-returns-in_err-reply_about-in-Ok-Whole-clause-wanting g c = λ _. (_, c.in-Ok-Whole.ensures.loaded)
+pub returns-in_err-checked-in-Ok-Whole-clause-wanting : goal.returns-in_err-checked-in-Ok-Whole-clause-wanting
+returns-in_err-checked-in-Ok-Whole-clause-wanting g c = λ _. (_, c.in-Ok-Whole.ensures.loaded)
 
 pub returns-in_err-long_certificate-in-Ok-Longer-clause-wanting : goal.returns-in_err-long_certificate-in-Ok-Longer-clause-wanting
 returns-in_err-long_certificate-in-Ok-Longer-clause-wanting g c = λ _. (_, c.in-Ok-Longer.ensures.loaded)

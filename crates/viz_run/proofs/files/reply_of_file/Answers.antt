@@ -1,6 +1,6 @@
-use Rattle.std.proofs.Common.{inl, inr, rules}
+use Rattle.std.proofs.Common.{inr, rules}
 use Rattle.viz_base.specs.Numbers.{Rose}
-use Rattle.viz_run.proofs.RunLemmas.{given_whole, given_longer}
+use Rattle.viz_run.proofs.RunLemmas.{given_whole, given_longer, long_spells_nothing}
 use Rattle.viz_run.proofs.files.reply_of_file.Goals as goal
 
 pub returns-in_ok-reply_to-in-Ok-Whole-clause-reply : goal.returns-in_ok-reply_to-in-Ok-Whole-clause-reply
@@ -20,7 +20,7 @@ returns-in_ok-long_job-in-Ok-Longer-clause-reply g c =
     let loaded = rw c.in-Ok-Longer.field-0-is at c.in-Ok-Longer.ensures.loaded in
     let found = given_longer (g.F.Shelf.files c.args.shelf.now) g.F.Shelf.loads c.args.name.now 16777216 _ _ told loaded in
     let reply = c.in_ok-long_job-in-Ok-Longer.ensures in
-    record { bytes = found.0; given = found.1; reply = inr (record { refused = reply.0; reason = inl (record { long = found.2; line = reply.1 }) }) }
+    record { bytes = found.0; given = found.1; reply = inr (record { refused = reply.0; why = long_spells_nothing found.0 c.args.question.now _ (record { long = found.2; line = reply.1 }) }) }
 
 pub returns-in_err-reply_to-in-Ok-Whole-clause-wanting : goal.returns-in_err-reply_to-in-Ok-Whole-clause-wanting
 returns-in_err-reply_to-in-Ok-Whole-clause-wanting g c = λ _. (_, c.in-Ok-Whole.ensures.loaded)

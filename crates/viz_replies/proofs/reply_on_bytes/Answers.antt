@@ -1,8 +1,0 @@
-use Rattle.std.proofs.Common.{inl}
-use Rattle.std.proofs.lemmas.Result.{IfOk-weaker}
-use Rattle.viz_replies.proofs.reply_on_bytes.Goals as goal
-
-pub returns-in-Read : goal.returns-in-Read
-returns-in-Read c =
-    let read = rw c.in-Read.is at c.in_ok-job.ensures in
-    IfOk-weaker c.reply_about-reply.result _ _ (λ r h. inl (record { job = c.in-Read.job; spelled = read; reply = h })) c.reply_about-reply.ensures.outcome
