@@ -5,15 +5,16 @@
 
 FOLDER has files of JSON Lines, each named after a call: decimals, tokens, sheets, declarations, selectors, matches, values, cascade,
 formulas and truths; in jobs/ and certs/ jobs and certificates with what the program replies, in jobs16/ both for jobs with a range of
-heights, in certs17/ certificates with lemmas, and in jobs19/ both for pages with generated content; refusals.jsonl and refusals16.jsonl,
-jobs that are refused; grammar.jsonl and grammar17.jsonl, texts with the place up to which some certificate's text begins so, or null where
-they are a certificate's; runs15.jsonl and runs17.jsonl, whole runs over files and an output in memory, of which chosen loads and writes
-fail: texts by name, then runs, whose files are so many bytes of these texts; and media.jsonl and pseudo.jsonl, of media lists and of
-generated content, whose lines have a `call`. later17.jsonl and later.jsonl have what has become of lines of these files. Long cases come
-behind these, the cases of layout that tools/layout_cases.py reads, those of tools/limit_cases.py and the documents of
-tools/worked_pages.py. What is called goes to a crate's stdin and what it must give to its stdout, a line of JSON each: what is replied to
-whole jobs (lay, check, prove, gen and trial) and whole runs (run) to crates/job_cases, what is of layout, rows and derivations to
-crates/layout_cases, all else to crates/cases. A page goes as a job that has it; a formula as steps, each part before what it is a part of.
+heights, in certs17/ certificates with lemmas, and in jobs18/ and jobs19/ both for pages with width queries and with generated content, a
+file of certificates having one for each part; refusals.jsonl and refusals16.jsonl, jobs that are refused; grammar.jsonl and
+grammar17.jsonl, texts with the place up to which some certificate's text begins so, or null where they are a certificate's; runs15.jsonl
+and runs17.jsonl, whole runs over files and an output in memory, of which chosen loads and writes fail: texts by name, then runs, whose
+files are so many bytes of these texts; and media.jsonl and pseudo.jsonl, of media lists and width queries and of generated content, whose
+lines have a `call`. later17.jsonl and later.jsonl have what has become of lines of these files. Long cases come behind these, the cases of
+layout that tools/layout_cases.py reads, those of tools/limit_cases.py and the documents of tools/worked_pages.py. What is called goes to a
+crate's stdin and what it must give to its stdout, a line of JSON each: what is replied to whole jobs (lay, check, prove, finding, gen and
+trial) and whole runs (run) to crates/job_cases, what is of layout, rows and derivations to crates/layout_cases, all else to crates/cases. A
+page goes as a job that has it; a formula as steps, each part before what it is a part of.
 """
 import hashlib
 import json
@@ -308,18 +309,12 @@ PSEUDO = {"read_selector": read_selector, "read_declaration": read_declaration, 
           "grow": grow, "boxes": grown_boxes}
 
 
-# what is called of width queries alone: no crate has it
-UNANSWERED = ("features", "signs", "parts", "chosen", "guard")
-WIDTH_QUERY = re.compile(r"@media[^{;]*\(")
-
-
 def later_calls(folder):
-    """What is called of media lists and of generated content, but on pages that ask for a width, which every job is refused for."""
+    """What is called of media lists and width queries, and of generated content."""
     for name, table in (("media.jsonl", MEDIA), ("pseudo.jsonl", PSEUDO)):
         for case in lines(folder, name):
-            if case["call"] not in UNANSWERED and not WIDTH_QUERY.search("\n".join(case.get("css", ()))):
-                call, arguments, answer = table[case["call"]](case)
-                yield [call, *arguments], answer
+            call, arguments, answer = table[case["call"]](case)
+            yield [call, *arguments], answer
 
 
 def steps_in(formula):
@@ -357,13 +352,16 @@ def replies(path):
 
 
 def asked(path, job, words, reply):
-    """What is asked of a job by words of a file of outputs, and what is replied. A certificate that is found is free: it is checked."""
+    """What is asked of a job by words of a file of outputs, and what is replied. A certificate that is found is free: it is checked. A world
+    that is found may be free: the kind of the reply is not."""
     verb, *given = words
     if verb == "check":
         return ["check", job, path.with_name(f"{path.stem}-{given[0]}.cert").read_text(encoding="utf-8")], reply
-    if verb == "prove":
-        return ["prove", job, int(given[0])], limit_cases.ACCEPTED if reply[0] == "Done" else reply
-    return ["lay", job, *map(int, given)], reply
+    if verb != "prove":
+        return ["lay", job, *map(int, given)], reply
+    if given[1:] == ["free"] and reply[0] == "Violated":
+        return ["finding", job, int(given[0])], reply[:1]
+    return ["prove", job, int(given[0])], limit_cases.ACCEPTED if reply[0] == "Done" else reply
 
 
 def of_job(path):
@@ -404,11 +402,21 @@ def certificates(folder):
     return in_folders(folder, ("certs", "jobs16", "certs17"))
 
 
-def generated(folder):
-    """What is asked of jobs with generated content, but of those that ask for a width. Which false world is found may be free."""
-    for path in sorted((folder / "jobs19").glob("*.json")):
-        if not WIDTH_QUERY.search(path.read_text(encoding="utf-8")):
-            yield from ((called, reply) for called, reply in of_job(path) if called[0] != "prove" or reply[1])
+def parted(folder):
+    """What is asked of jobs with width queries, and of jobs with generated content."""
+    return in_folders(folder, ("jobs18", "jobs19"))
+
+
+def cut_files(folder):
+    """Files of right certificates, cut at each line and one at each byte, and with more behind. What is cut begins the file, so its length is
+    the place."""
+    for path in sorted((folder / "jobs18").glob("*.json")):
+        for (call, job, *given), reply in of_job(path):
+            if call == "check" and reply == limit_cases.ACCEPTED:
+                text = given[0]
+                ends = [at for at in range(len(text)) if path.stem == "0003" or text[at] == "\n"]
+                for part in [text[:at] for at in ends] + [text + more for more in ("\n", "v", text)]:
+                    yield ["check", job, part], ["CertRefused", f"rejected grammar {min(len(part), len(text))}\n"]
 
 
 def proofs(folder):
@@ -483,7 +491,7 @@ def long_cases():
 CALLS = [decimals, tokens, sheets, declarations, selectors, matches, values, cascade, formulas, truths]
 # the tables but that of `cases`: what is replied to a whole job, and what is of layout, rows and derivations
 TABLES = {
-    "job_cases": ("lay", "check", "prove", "gen", "trial", "run"),
+    "job_cases": ("lay", "check", "prove", "finding", "gen", "trial", "run"),
     "layout_cases": (
         "boxes", "used", "fonts", "words", "widths", "preferred", "lines", "lead", "float_at", "floats", "band", "bottom", "collapsed",
         "add_scaled", "negate", "divides", "cut", "derivation", "entails", "leaf",
@@ -500,7 +508,7 @@ def calls(folder):
 
 
 def all_cases(folder):
-    for part in (calls, later_calls, jobs, refusals, certificates, generated, proofs, grammar):
+    for part in (calls, later_calls, jobs, refusals, certificates, parted, cut_files, proofs, grammar):
         yield from part(folder)
     yield from long_cases()
     for module in (layout_cases, limit_cases):

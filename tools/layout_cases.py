@@ -63,14 +63,14 @@ ON_TREES = {call.__name__: call for call in (used, fonts, widths, preferred, lea
 def on_tree(case):
     """A line that has the tree told, and those of what is called on it."""
     text = job_of(case)
-    yield ["boxes", text], told_tree(case["tree"]["boxes"], case["tree"]["styles"])
+    yield ["boxes", text, 320, 16], told_tree(case["tree"]["boxes"], case["tree"]["styles"])
     for name, arguments, answer in ON_TREES[case["call"]](case):
         yield [name, text, case["w"], case["s"], arguments], answer
 
 
 def boxes(case):
     text = job(case["page"], [square(name) for name in case["fonts"]], case["css"])
-    return [text], case["fault"] if "fault" in case else told_tree(case["boxes"], case["styles"])
+    return [text, 320, 16], case["fault"] if "fault" in case else told_tree(case["boxes"], case["styles"])
 
 
 # ---- renderings of box trees
@@ -91,7 +91,7 @@ def printed(placed):
 def renderings(case):
     """A line that has the tree told, and those that lay it out at its worlds."""
     text = job_of({**case, "w": 320, "s": 16})
-    yield ["boxes", text], told_tree(case["tree"]["boxes"], case["tree"]["styles"])
+    yield ["boxes", text, 320, 16], told_tree(case["tree"]["boxes"], case["tree"]["styles"])
     for world in case["worlds"]:
         yield ["lay", text, world["w"], world["s"]], ["Done", "".join(map(printed, world["boxes"]))]
 

@@ -148,6 +148,39 @@ def bounds(asked, html):
         yield asked(job(html, *ONE).replace(compact([square("Square")]), compact([font])), answer)
 
 
+# ---- width queries
+
+def media(widths):
+    return "".join(f"@media (min-width:{width}px){{p{{}}}}" for width in widths)
+
+
+def queries():
+    """As many features and parts as there may be, and one more. A part is refused before the assertion; where the part is not, that is."""
+    def asked(widths, css, assertion="true"):
+        return job(block(), widths, [16, 16], assertion, css=["", css])
+
+    def laid(text, width):
+        return ["lay", text, width, 16], ["Done", column_text(0, width)]
+    for count, answer in ((11, ACCEPTED), (12, refused("too-many-parts 13"))):
+        text = asked([320, 320 + count], media(range(321, 321 + count)))
+        yield ["prove", text, 2 * count + 1], answer
+        yield ["check", text, ""], refused("too-many-parts 13") if count == 12 else ["CertRefused", "rejected grammar 0\n"]
+        yield laid(text, 320)
+    few, seventeenth = media(range(1, 17)), "@media (min-width:17px){"
+    many = refused(f"too-many-queries 1 {len(few + seventeenth)}")
+    for css in (few, few + media(range(1, 17)), few + "@media print and (min-width:17px){p{}}", few + seventeenth + "}"):
+        yield laid(asked([320, 320], css), 320)
+    yield ["lay", asked([320, 320], few + media([17])), 320, 16], many
+    yield ["prove", asked([320, 320], few + media([17]), ""), 0], many
+    css = "@media (min-width:330px){p:first-line{}}"
+    other = refused(f"unsupported-selector 1 {css.index(':first')}")
+    yield laid(asked([320, 340], css), 329)
+    yield ["lay", asked([320, 340], css), 330, 16], other
+    yield ["prove", asked([320, 340], css, ""), 0], other
+    yield ["prove", asked([320, 329], css), 19], ACCEPTED
+    yield ["prove", asked([320, 329], css, ""), 0], refused("formula-bad 0")
+
+
 # ---- lengths
 
 DECIMALS = (("0", 0), ("007", 7000000), ("1.5", 1500000), (".0000019", 1), ("1099511.627776", 2**40), ("1099511.627777", None), ("1.", None),
@@ -351,6 +384,7 @@ def generated(folder):
 def cases(folder):
     yield from layouts()
     yield from reads()
+    yield from queries()
     yield from lengths()
     yield from lines()
     yield from certificates()

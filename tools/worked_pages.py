@@ -141,4 +141,4 @@ def pages():
 def cases():
     """The document of each, and its boxes and styles."""
     for tree in pages().values():
-        yield ["boxes", job(page_of(tree), [font_of(font) for font in tree["fonts"]])], told_tree(tree["boxes"], tree["styles"])
+        yield ["boxes", job(page_of(tree), [font_of(font) for font in tree["fonts"]]), 320, 16], told_tree(tree["boxes"], tree["styles"])

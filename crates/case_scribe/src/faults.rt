@@ -2,6 +2,7 @@ use cert_text::CertFault;
 use css_syntax::SheetFault;
 use lin_row::RowFault;
 use page_build::JobRefusal;
+use page_media::MediaFault;
 use std::alloc::AllocError;
 use std::io;
 use thiserror::Error;
@@ -59,6 +60,15 @@ impl From<JobRefusal> for Fault {
     fn from(refusal: JobRefusal) -> Self {
         match refusal {
             JobRefusal::Mem => Fault::Mem,
+            _ => Fault::NoCase,
+        }
+    }
+}
+
+impl From<MediaFault> for Fault {
+    fn from(fault: MediaFault) -> Self {
+        match fault {
+            MediaFault::Mem => Fault::Mem,
             _ => Fault::NoCase,
         }
     }

@@ -8,6 +8,6 @@ mod scribes;
 mod tables;
 
 pub use faults::Fault;
-pub use pages::{built, count_of, job_of};
+pub use pages::{built, built_at, count_of, job_of};
 pub use scribes::Scribe;
 pub use tables::{Table, answered};

@@ -116,6 +116,17 @@ impl Scribe {
         }
     }
 
+    /// Whether something is so.
+    pub fn flag(&mut self, value: &Value) -> bool {
+        self.found(value.as_bool(), false)
+    }
+
+    /// Whether something is so, by what stands at a place of an array.
+    pub fn flag_at(&mut self, value: &Value, place: usize) -> bool {
+        let member = self.at(value, place);
+        self.flag(member)
+    }
+
     /// A whole number.
     pub fn integer(&mut self, value: &Value) -> i64 {
         self.found(value.as_i64(), 0)

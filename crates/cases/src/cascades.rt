@@ -1,12 +1,12 @@
 ghost use Rattle.std.specs.Prelude.{◌≡◌, length};
 
-use crate::chosen::met;
+use crate::queries::met;
 use crate::values::setting;
 use case_scribe::{Fault, Scribe, job_of};
 use css_cascade::{CascadeFault, cascade, cascade_pseudo, default_sheet};
 use css_syntax::read_sheet;
 use serde_json::Value;
-use viz_base::{Cascaded, List, Page, Prop, Pseudo, Setting, Sheet, Source, Text};
+use viz_base::{Cascaded, List, Page, Prop, Pseudo, RawJob, Setting, Sheet, Source, Text};
 
 /// What wins at a node: node, property, value.
 pub fn tell_node(scribe: &mut Scribe, node: usize, settings: &[Setting]) {
@@ -56,13 +56,12 @@ fn refusal(scribe: &mut Scribe, fault: &CascadeFault) {
     }
 }
 
-/// The sheets of these texts, with the rules that are for the page's medium.
+/// The sheets of these texts.
 pub fn sheets(scribe: &mut Scribe, texts: &[Text]) -> List<Sheet> {
     let mut sheets = List::new(scribe.alloc());
     for text in texts {
         let sheet = read_sheet(scribe.alloc(), text.as_str());
         if let Some(sheet) = scribe.kept(sheet) {
-            let sheet = met(scribe, sheet);
             scribe.put(&mut sheets, sheet);
         }
     }
@@ -126,11 +125,14 @@ pub fn texts(scribe: &mut Scribe, authors: &[Value]) -> List<Text> {
     texts
 }
 
-/// What wins on a page with these sheets of an author.
-fn tell_page(scribe: &mut Scribe, page: &Page, authors: &[Value], which: Option<Pseudo>) {
+/// What wins on the page of a job with these sheets of an author, by the rules that are met where its range begins.
+fn tell_page(scribe: &mut Scribe, job: &RawJob, authors: &[Value], which: Option<Pseudo>) {
     let texts = texts(scribe, authors);
     let sheets = sheets(scribe, texts.as_slice());
-    if let Some(cascaded) = winners(scribe, page, texts.as_slice(), sheets.as_slice(), which) {
+    let Some(met) = met(scribe, sheets.as_slice(), &job.range) else {
+        return;
+    };
+    if let Some(cascaded) = winners(scribe, &job.page, texts.as_slice(), met.as_slice(), which) {
         tell(scribe, &cascaded);
     }
 }
@@ -139,7 +141,7 @@ fn tell_page(scribe: &mut Scribe, page: &Page, authors: &[Value], which: Option<
 fn tell_case(scribe: &mut Scribe, case: &Value, which: Option<Pseudo>) {
     if let Some(job) = job_of(scribe, case) {
         let authors = scribe.list_at(case, 2);
-        tell_page(scribe, &job.page, authors, which);
+        tell_page(scribe, &job, authors, which);
     }
 }
 

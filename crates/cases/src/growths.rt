@@ -1,9 +1,10 @@
 //! The page with its generated content.
 use crate::cascades::{sheets, tell_node, texts, winners};
+use crate::queries::met;
 use case_scribe::{Fault, Scribe, job_of};
 use page_pseudo::{GrowFault, Grown, grow};
 use serde_json::Value;
-use viz_base::{Body, Cascaded, Node, Page, Pseudo, Setting, Sheet, Text};
+use viz_base::{Body, Cascaded, Node, Page, Pseudo, RawJob, Setting, Sheet, Text};
 
 /// A generated node: its tag, or null and its text.
 fn tell_made(scribe: &mut Scribe, body: &Body) {
@@ -108,12 +109,22 @@ fn tell_growth(
     }
 }
 
-/// The page with its generated content, by these sheets of an author.
-fn tell_page(scribe: &mut Scribe, page: &Page, authors: &[Value]) {
+/// The page of a job with its generated content, by the rules of these sheets of an author that are met where its range
+/// begins.
+fn tell_page(scribe: &mut Scribe, job: &RawJob, authors: &[Value]) {
     let texts = texts(scribe, authors);
     let sheets = sheets(scribe, texts.as_slice());
-    if let Some(winning) = all_winners(scribe, page, texts.as_slice(), sheets.as_slice()) {
-        tell_growth(scribe, page, &winning.own, &winning.before, &winning.after);
+    let Some(met) = met(scribe, sheets.as_slice(), &job.range) else {
+        return;
+    };
+    if let Some(winning) = all_winners(scribe, &job.page, texts.as_slice(), met.as_slice()) {
+        tell_growth(
+            scribe,
+            &job.page,
+            &winning.own,
+            &winning.before,
+            &winning.after,
+        );
     }
 }
 
@@ -121,6 +132,6 @@ fn tell_page(scribe: &mut Scribe, page: &Page, authors: &[Value]) {
 pub fn answer(scribe: &mut Scribe, case: &Value) {
     if let Some(job) = job_of(scribe, case) {
         let authors = scribe.list_at(case, 2);
-        tell_page(scribe, &job.page, authors);
+        tell_page(scribe, &job, authors);
     }
 }

@@ -3,9 +3,9 @@
 #![tactic(auto)]
 
 mod cascades;
-mod chosen;
 mod formulas;
 mod growths;
+mod queries;
 mod selectors;
 mod sheets;
 mod tokens;
@@ -36,6 +36,18 @@ fn answer_page(scribe: &mut Scribe, name: &str, case: &Value) {
     }
 }
 
+/// The answer to a case of width queries, or of a page.
+fn answer_query(scribe: &mut Scribe, name: &str, case: &Value) {
+    match name {
+        "features" => queries::tell_asked(scribe, case),
+        "signs" => queries::tell_met(scribe, case),
+        "parts" => queries::tell_split(scribe, case),
+        "chosen" => queries::tell_chosen(scribe, case),
+        "guard" => queries::tell_guarded(scribe, case),
+        _ => answer_page(scribe, name, case),
+    }
+}
+
 /// The cases of texts: numbers, style sheets and what stands in them, formulas.
 struct Texts;
 
@@ -49,7 +61,7 @@ impl Table for Texts {
             "selectors" => selectors::group(scribe, case),
             "matches" => selectors::matched(scribe, case),
             "values" => values::answer(scribe, case),
-            _ => answer_page(scribe, name, case),
+            _ => answer_query(scribe, name, case),
         }
     }
 }

@@ -40,6 +40,19 @@ fn rendering(scribe: &mut Scribe, values: &[Value]) -> Rendering<i128> {
     Rendering { boxes }
 }
 
+/// Whether the formula is true of the rendering at a world.
+pub fn tell_truth(
+    scribe: &mut Scribe,
+    world: World,
+    formula: &Formula,
+    rendering: &Rendering<i128>,
+) {
+    match truth(&mut Plain::new(world), formula, rendering) {
+        Ok(yes) => scribe.truth(yes),
+        Err(halt) => scribe.fail(halt.into()),
+    }
+}
+
 /// Whether the formula is true of the rendering, at a case's world.
 fn judge(scribe: &mut Scribe, case: &Value, formula: &Formula, rendering: &Rendering<i128>) {
     let world = World {
@@ -47,10 +60,7 @@ fn judge(scribe: &mut Scribe, case: &Value, formula: &Formula, rendering: &Rende
         s: scribe.number_at(case, 4),
         h: scribe.number_at(case, 5),
     };
-    match truth(&mut Plain::new(world), formula, rendering) {
-        Ok(yes) => scribe.truth(yes),
-        Err(halt) => scribe.fail(halt.into()),
-    }
+    tell_truth(scribe, world, formula, rendering);
 }
 
 /// Whether the formula of a case is true of its rendering.

@@ -15,6 +15,7 @@ fn answer(alloc: Global, line: &str) -> Result<String, Fault> {
     let case = Value::from_str(alloc, line)?;
     match members::text_at(&case, 0)? {
         "run" => runs::answer(alloc, &case),
+        "finding" => replies::finding(alloc, &case),
         _ => replies::answer(alloc, &case),
     }
 }

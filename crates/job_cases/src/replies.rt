@@ -20,6 +20,11 @@ fn told(alloc: Global, reply: &Reply) -> Result<String, Fault> {
     }
 }
 
+/// A kind of reply.
+fn kind(alloc: Global, answer: Answer) -> Result<String, Fault> {
+    Ok(format!(in alloc; "[\"{answer:?}\"]")?)
+}
+
 /// A kind of reply and an output.
 fn line(alloc: Global, answer: Answer, output: &str) -> Result<String, Fault> {
     let output = in_quotes(alloc, output)?;
@@ -78,10 +83,21 @@ fn checked(alloc: Global, case: &Value, found: Reply) -> Result<Reply, Fault> {
     }
 }
 
+/// What is replied to `prove`, given the job and the turns.
+fn prove(alloc: Global, case: &Value) -> Result<Reply, Fault> {
+    reply(alloc, case, &Question::Prove(long_at(case, 2)?))
+}
+
 /// What is replied to `prove`, given the job and the turns; of a certificate what is replied to `check`, given it.
 fn search(alloc: Global, case: &Value) -> Result<Reply, Fault> {
-    let found = reply(alloc, case, &Question::Prove(long_at(case, 2)?))?;
+    let found = prove(alloc, case)?;
     checked(alloc, case, found)
+}
+
+/// The kind of what is replied to `prove`, given the job and the turns.
+pub fn finding(alloc: Global, case: &Value) -> Result<String, Fault> {
+    let found = prove(alloc, case)?;
+    kind(alloc, found.answer)
 }
 
 /// What is replied to `gen`, given the seed and the sections.

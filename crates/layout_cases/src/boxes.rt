@@ -1,6 +1,6 @@
 use crate::styles::style;
 use case_scribe::{Fault, Scribe};
-use page_build::{JobRefusal, build_job};
+use page_build::{JobRefusal, build_at};
 use serde_json::Value;
 use viz_base::{BoxNode, BoxTree};
 
@@ -59,10 +59,12 @@ fn refusal(scribe: &mut Scribe, refusal: &JobRefusal) {
     }
 }
 
-/// The box tree of a job, or what refuses it.
+/// The box tree of a job at a viewport's width and a default font size in pixels, or what refuses it.
 pub fn answer(scribe: &mut Scribe, case: &Value) {
     let text = scribe.text_at(case, 1);
-    match build_job(scribe.alloc(), text.as_bytes()) {
+    let w = scribe.number_at(case, 2);
+    let s = scribe.number_at(case, 3);
+    match build_at(scribe.alloc(), text.as_bytes(), w, s) {
         Ok(job) => tell(scribe, &job.tree),
         Err(fault) => refusal(scribe, &fault),
     }

@@ -2,7 +2,7 @@ use crate::leads::tell_lead;
 use crate::lengths::{tell_fonts, tell_used, tell_word};
 use crate::lines::tell_lines;
 use crate::widths::{tell_preferred, tell_widths};
-use case_scribe::{Fault, Scribe, built};
+use case_scribe::{Fault, Scribe, built_at};
 use serde_json::Value;
 use viz_base::{Job, World};
 use viz_calc::Plain;
@@ -21,23 +21,23 @@ fn call(scribe: &mut Scribe, name: &str, calc: &mut Plain, job: &Job, value: &Va
     }
 }
 
-/// What the calls of a case on the box tree of a job give, at the world of the case.
-fn calls(scribe: &mut Scribe, name: &str, case: &Value, job: &Job) {
-    let mut calc = Plain::new(World {
-        w: scribe.number_at(case, 2),
-        s: scribe.number_at(case, 3),
-        h: job.range.hl,
-    });
+/// What the calls of a case on the box tree of a job give.
+fn calls(scribe: &mut Scribe, name: &str, calc: &mut Plain, job: &Job, values: &[Value]) {
     scribe.open();
-    for value in scribe.list_at(case, 4) {
-        call(scribe, name, &mut calc, job, value);
+    for value in values {
+        call(scribe, name, calc, job, value);
     }
     scribe.close();
 }
 
 /// What the calls of a case give: a job whose page has the box tree, the world, and a list of what to call it with.
 pub fn answer(scribe: &mut Scribe, name: &str, case: &Value) {
-    if let Some(job) = built(scribe, case) {
-        calls(scribe, name, case, &job);
+    let w = scribe.number_at(case, 2);
+    let s = scribe.number_at(case, 3);
+    let values = scribe.list_at(case, 4);
+    if let Some(job) = built_at(scribe, case, w, s) {
+        let h = job.range.hl;
+        let mut calc = Plain::new(World { w, s, h });
+        calls(scribe, name, &mut calc, &job, values);
     }
 }
