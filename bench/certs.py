@@ -2,9 +2,8 @@
 """Measures `vizlog check` on large certificates: processor time and peak memory, and the stack that deep ones take.
 
 - what `prove` writes for the generated job of seed 7 with 200 sections: leaves with more than 10,000 answers;
-- 2,097,151 splits, 21 levels of them, each side of a split being cut again: below 320 bytes of memory for a split,
-  its row (176) and the grid or split below it counted;
-- 64 MiB of one leaf, its answers being more than the page asks for;
+- 64 MiB of splits, whose rows are most of the text; of grids, as many as there can be; and of answers in 64 leaves, more than the page asks
+  for: a peak memory of at most 2.5 times the file; beside that the same answers in one leaf, which is held whole;
 - 63 MiB of lines `fact 0` in a void: what a byte of the text, a step and the row that it gives take of the peak memory, each by itself, and
   how often as much as the line they take, at most 36 times together;
 - splits at depth 0 to 511: how many KiB of stack they take, at most 1,024 of the 8,192 KiB that a process has where nothing
@@ -12,7 +11,9 @@
 
 Run it at the top: bench/certs.py [PROGRAM]
 """
+import collections
 import hashlib
+import itertools
 import json
 import os
 import pathlib
@@ -23,6 +24,8 @@ import tempfile
 TOP = pathlib.Path(__file__).resolve().parent.parent
 SEED, SECTIONS, TURNS = 7, 200, 64
 MOST = 64 * 1024 * 1024
+# how often as much memory as the file has a check may take
+TIMES = 2.5
 SQUARE = {"name": "Square", "upem": 1000, "ascent": 800, "descent": 200, "default": 500}
 STACK = 8192
 
@@ -45,12 +48,26 @@ def head(text):
     return f"vizlog-cert 1\njob {hashlib.sha256(text.encode()).hexdigest()}\n"
 
 
-def halves(levels):
-    """A tree of splits whose grids have no worlds but for one path: `split 0 0:1` cuts off what is below 0."""
-    node = "grid\n"
-    for _ in range(levels):
-        node = "split 0 0:1\n" + node + node
-    return node
+def tree(count, line):
+    """So many splits of one row, as flat as they can be, in pieces: of a row as `0 0:1`, which is at least 0 at each world, all grids but one
+    have no worlds."""
+    made = {0: "grid\n"}
+
+    def whole(number):
+        if number not in made:
+            first = (number - 1) // 2
+            made[number] = line + whole(first) + whole(number - 1 - first)
+        return made[number]
+
+    def pieces(number):
+        if number < 4096:
+            yield whole(number)
+            return
+        first = (number - 1) // 2
+        yield line
+        yield from pieces(first)
+        yield from pieces(number - 1 - first)
+    return pieces(count)
 
 
 def deep(splits):
@@ -64,16 +81,21 @@ class Bench:
     def __init__(self, program, folder):
         self.program, self.job, self.cert, self.said = program, *(os.path.join(folder, name) for name in ("job.json", "job.cert", "said"))
 
-    def given(self, text, cert=None):
-        for name, given in ((self.job, text), (self.cert, cert)):
-            if given is not None:
-                with open(name, "w", encoding="utf-8", newline="") as out:
-                    out.write(given)
+    def given(self, text, *pieces):
+        """Writes a job and a certificate for it, that in pieces: the peak memory of a run is no less than what this process has when it starts
+        it."""
+        for name, given in ((self.job, (text,)), (self.cert, itertools.chain((head(text),), *pieces))):
+            with open(name, "w", encoding="utf-8", newline="") as out:
+                out.writelines(given)
 
     def check(self, stack=None):
         with open(self.said, "wb") as out:
             status, took, memory = run([self.program, "check", self.job, self.cert], out, stack)
         return status, pathlib.Path(self.said).read_text(encoding="utf-8").strip(), took, memory
+
+    def held(self, what, wanted):
+        """Checks the certificate, tells the figures, and fails where it takes more memory than it may."""
+        assert self.tell(what, wanted) * 1024 * 1024 <= TIMES * os.path.getsize(self.cert), f"too much memory for {what}"
 
     def tell(self, what, wanted):
         """Checks the certificate, tells the figures, and gives the memory in MiB."""
@@ -91,45 +113,38 @@ def proved(bench):
         status, took, memory = run([bench.program, "prove", bench.job, str(TURNS)], out)
     assert status == 0, "prove did not decide"
     with open(bench.cert, encoding="utf-8") as cert:
-        lines = [line.split(" ")[0].rstrip("\n") for line in cert]
-    answers, leaves = sum(it in ("yes", "no") for it in lines), lines.count("leaf")
+        found = collections.Counter(line.split(" ")[0].rstrip("\n") for line in cert)
+    answers, leaves = found["yes"] + found["no"], found["leaf"]
     assert answers >= 10000
     print(f"prove of gen {SEED} {SECTIONS} with {TURNS} turns: {took:.2f} s, {memory:.0f} MiB of memory")
     bench.tell(f"{leaves} leaves with {answers} answers", "accepted")
 
 
 def splits(bench):
+    nodes(bench, "split 1000000000000000 0:1\n", "splits")
+
+
+def grids(bench):
+    nodes(bench, "split 0 0:1\n", "grids")
+
+
+def nodes(bench, line, what):
     text = job([1, 64])
-    levels = 21
-    count = 2 ** levels - 1
-    body = halves(levels)
-    if len(head(text)) + len(body) > MOST:
-        raise AssertionError("past 64 MiB")
-    bench.given(text, head(text) + body)
-    base = bench_base(bench, text)
-    bench.given(text, head(text) + body)
-    memory = bench.tell(f"{count} splits, {count + 1} grids", "accepted")
-    each = (memory - base) * 1024 * 1024 / count
-    file = len(body) / count
-    print(f"memory for a split with its row and a grid: {each:.0f} bytes, of the file's text {file:.0f} of them")
-    assert each < 320, "too much memory for a split"
-
-
-def bench_base(bench, text):
-    """The memory of a check of the least certificate, in MiB."""
-    bench.given(text, head(text) + "grid\n")
-    return bench.check()[3]
+    count = (MOST - len(head(text)) - 5) // (len(line) + 5)
+    bench.given(text, tree(count, line))
+    bench.held(f"{count} splits and as many grids, the text mostly {what}", "accepted")
 
 
 def answers(bench):
     text = job([1, 64])
     answer = "yes 0 0:64\nfact 4\nfact 0\nsum 1:0 64:1\nclosed\n"
-    count = (MOST - len(head(text)) - 9) // len(answer)
-    bench.given(text, head(text) + "leaf\n" + answer * count + "end\n")
-    base = bench.check()[3]
-    memory = bench.tell(f"a leaf with {count} answers", "rejected")
-    print(f"memory for an answer of three steps: {memory * 1024 * 1024 / count:.0f} bytes, of the file's text {len(answer)} of them")
-    assert base <= memory * 1.1 + 1
+    for leaves in (1, 64):
+        # each leaf but the last is that of one width
+        front = [f"split {-width} 0:1\n" for width in range(64, 65 - leaves, -1)]
+        count = (MOST - len(head(text)) - sum(map(len, front)) - 9 * leaves) // len(answer) // leaves
+        leaf = ["leaf\n", *[answer * 4096] * (count // 4096), answer * (count % 4096), "end\n"]
+        bench.given(text, *((it, *leaf) for it in front), leaf)
+        (bench.held if leaves > 1 else bench.tell)(f"{leaves} leaves with {count} answers each", "rejected")
 
 
 def prices(bench):
@@ -138,6 +153,7 @@ def prices(bench):
     text, line, parts = job([1, 64]), "fact 0\n", 144
     part = line * 65536
     count = parts * 65536
+    bench.given(text)
     taken = []
     for first, wanted in (("?", "rejected grammar 0"), (head("another job"), "rejected other-job"), (head(text), f"rejected line 0 0 {count}")):
         with open(bench.cert, "w", encoding="utf-8", newline="") as out:
@@ -154,7 +170,7 @@ def prices(bench):
 
 def stack(bench):
     text = job([1, 560])
-    bench.given(text, head(text) + deep(512))
+    bench.given(text, [deep(512)])
     low, high = 64, STACK
     assert bench.check(high)[:2] == (0, "accepted"), f"not accepted in {high} KiB of stack"
     while high - low > 16:
@@ -170,7 +186,7 @@ def main():
         sys.exit(f"{program} is not there: run tools/prove, or name a program")
     with tempfile.TemporaryDirectory() as folder:
         bench = Bench(os.path.abspath(program), folder)
-        for measure in (proved, splits, answers, prices, stack):
+        for measure in (proved, splits, grids, answers, prices, stack):
             measure(bench)
 
 

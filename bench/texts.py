@@ -139,4 +139,5 @@ def main():
     assert not open_pages, f"no certificate of {', '.join(open_pages)}"
 
 
-main()
+if __name__ == "__main__":
+    main()

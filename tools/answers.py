@@ -1,4 +1,5 @@
 """Reads job files and what the program prints of them: renderings, violations, open parts and certificates. Not proved."""
+import dataclasses
 import hashlib
 import json
 import math
@@ -6,6 +7,7 @@ import re
 from dataclasses import dataclass, field
 
 import grown
+import media
 
 KINDS = ("block", "anon", "float", "atomic", "replaced", "inline", "text", "line")
 UNITS = 64
@@ -30,8 +32,10 @@ class Node:
 
 @dataclass
 class Job:
-    """A job: its range, of widths and default font sizes, and of heights where it has one, else its one height. Its nodes are those of the
-    page with its generated content, `full`, and `written` has the numbers there of those that are written."""
+    """A job: its range, of widths and default font sizes, and of heights where it has one, else its one height. What its rules ask of the
+    width parts the range: each of `parts` says which of the `features` are met, with the first world at which just these are. Its nodes are
+    those of the page with its generated content, `full`, at a world of one part, and `written` has the numbers there of those that are
+    written."""
     widths: tuple
     sizes: tuple
     heights: tuple
@@ -45,6 +49,19 @@ class Job:
     digest: str
     fonts: list = field(default_factory=list)
     letters: dict = field(default_factory=dict)
+    features: list = field(default_factory=list)
+    parts: dict = field(default_factory=dict)
+
+    def part_at(self, world):
+        """The number of the part that has a world of the range."""
+        return list(self.parts).index(media.signs(self.features, *world[:2]))
+
+    def at(self, world):
+        """The same job with the nodes that the page has at a world, by the rules that are met there."""
+        if not self.features:
+            return self
+        full, written = grown.grown(self.page, self.css, world)
+        return dataclasses.replace(self, full=full, written=written, nodes=nodes_of(full, self.letters))
 
     def shown(self, text):
         """A text of the page as it is read: a character that stands for another one of other width is told as that."""
@@ -102,9 +119,11 @@ def job_of(text):
             raise ValueError
         letters = str.maketrans(told.get("letters", {}))
         css = list(told.get("css", []))
-        full, written = grown.grown(told["page"], css)
+        full, written = grown.grown(told["page"], css, (ends[0][0], ends[1][0]))
+        features = grown.features(css)
         return Job(*ends, has_heights, str(told["assert"]), told["page"], css, full, written, nodes_of(full, letters),
-                   hashlib.sha256(text.encode()).hexdigest(), list(told.get("fonts", [])), letters)
+                   hashlib.sha256(text.encode()).hexdigest(), list(told.get("fonts", [])), letters, features,
+                   media.parts(features, *ends[:2]))
     except (ValueError, KeyError, TypeError, AttributeError, RecursionError):
         raise NoAnswer("the job file is no job") from None
 
@@ -154,11 +173,12 @@ class Open:
 @dataclass
 class Region:
     """A part of the range that a leaf, grid or void closes: a rectangle of worlds, both ends of each side in, and the splits that cut it:
-    where a number and a multiple of each of a world's are at least 0 together."""
+    where a number and a multiple of each of a world's are at least 0 together. It is ragged where splits by floors cut it too, or where the
+    certificate goes by width queries for some worlds alone."""
     kind: str
     sides: tuple
     cuts: list
-    by_defs: bool
+    is_ragged: bool
 
 
 @dataclass
@@ -172,15 +192,18 @@ class Fork:
 
 @dataclass
 class Proof:
-    regions: list
-    splits: int
-    defs: int
-    lemmas: int
-    nodes: list
+    """What the certificates of a job's parts say, one behind another: their regions and nodes, and the place of each one's first node."""
+    job: Job
+    regions: list = field(default_factory=list)
+    splits: int = 0
+    defs: int = 0
+    lemmas: int = 0
+    nodes: list = field(default_factory=list)
+    first: list = field(default_factory=list)
 
     def region_at(self, world):
-        """The place of the region that has a world."""
-        values, node = list(world), self.nodes[0]
+        """The place of the region that has a world, in the certificate of the world's part."""
+        values, node = list(world), self.nodes[self.first[self.job.part_at(world)]]
         while node.region is None:
             side = 0
             if node.row:
@@ -198,7 +221,7 @@ def row_of(text):
     return int(head), {int(name): int(times) for name, times in (it.split(":") for it in terms)}
 
 
-def halves(row, sides, cuts, by_defs):
+def halves(row, sides, cuts, is_ragged):
     """The two parts of a region that a split makes, as rectangles where one variable has the coefficient 1 or -1."""
     constant, terms = row
     axes = range(len(sides))
@@ -211,11 +234,11 @@ def halves(row, sides, cuts, by_defs):
                 cut = (max(low, -constant), high) if side else (low, min(high, -constant - 1))
             else:
                 cut = (low, min(high, constant)) if side else (max(low, constant + 1), high)
-            yield (*sides[:name], cut, *sides[name + 1:]), cuts, by_defs
+            yield (*sides[:name], cut, *sides[name + 1:]), cuts, is_ragged
         elif set(terms) <= set(axes):
             sign = 1 if side else -1
             plane = (sign * constant - (0 if side else 1), *(sign * terms.get(axis, 0) for axis in axes))
-            yield sides, cuts + [plane], by_defs
+            yield sides, cuts + [plane], is_ragged
         else:
             yield sides, cuts, True
 
@@ -234,12 +257,32 @@ def past_derivation(lines, at):
     return at
 
 
+def is_head(lines, at):
+    """Whether a certificate begins at a line."""
+    return lines[at:at + 1] and lines[at] in HEADS and re.fullmatch("job [0-9a-f]{64}", "".join(lines[at + 1:at + 2]))
+
+
 def proof_of(lines, job):
-    """The parts of the range that a certificate closes. Its derivations are passed over: vizlog check judges them."""
-    proof, at, waiting = Proof([], 0, 0, 0, []), 2, [(Fork(), (job.sides(), [], False))]
+    """What the certificates of a file close, one for each part of the job."""
+    proof, at = Proof(job), 0
+    while at < len(lines):
+        if not is_head(lines, at):
+            raise NoAnswer(f"line {at + 1} of the certificate is behind its end")
+        if lines[at + 1][4:] != job.digest:
+            raise NoAnswer("the certificate is for another job")
+        at = past_certificate(lines, at, proof)
+    if len(proof.first) != len(job.parts):
+        raise NoAnswer(f"there are {len(proof.first)} certificates, and the job has {len(job.parts)} parts")
+    return proof
+
+
+def past_certificate(lines, head, proof):
+    """The line after a certificate, whose regions are added. Its derivations are passed over: vizlog check judges them."""
+    at, waiting = head + 2, [(Fork(), (proof.job.sides(), [], len(proof.job.parts) > 1))]
+    proof.first.append(len(proof.nodes))
     try:
         while waiting:
-            above, (sides, cuts, by_defs) = waiting.pop()
+            above, (sides, cuts, is_ragged) = waiting.pop()
             node = Fork()
             above.below.append(len(proof.nodes))
             proof.nodes.append(node)
@@ -248,15 +291,15 @@ def proof_of(lines, job):
                 proof.defs += 1
                 row, _, by = line[4:].rpartition(" by ")
                 node.row, node.by = row_of(row), int(by)
-                waiting.append((node, (sides, cuts, by_defs)))
-            elif line.startswith("lemma ") and lines[0] == HEADS[1]:
+                waiting.append((node, (sides, cuts, is_ragged)))
+            elif line.startswith("lemma ") and lines[head] == HEADS[1]:
                 proof.lemmas += 1
                 at = past_derivation(lines, at)
-                waiting.append((node, (sides, cuts, by_defs)))
+                waiting.append((node, (sides, cuts, is_ragged)))
             elif line.startswith("split "):
                 proof.splits += 1
                 node.row = row_of(line[6:])
-                waiting.extend((node, it) for it in reversed(list(halves(node.row, sides, cuts, by_defs))))
+                waiting.extend((node, it) for it in reversed(list(halves(node.row, sides, cuts, is_ragged))))
             elif line in ("grid", "void", "leaf"):
                 if line == "void":
                     at = past_derivation(lines, at)
@@ -266,26 +309,22 @@ def proof_of(lines, job):
                     at = past_derivation(lines, at + 1)
                 at += line == "leaf"
                 node.region = len(proof.regions)
-                proof.regions.append(Region(line, sides, cuts, by_defs))
+                proof.regions.append(Region(line, sides, cuts, is_ragged))
             else:
                 raise NoAnswer(f"line {at} of the certificate is no node: {line[:60]}")
     except (IndexError, ValueError):
         raise NoAnswer(f"line {at + 1} of the certificate is cut off or has no such row") from None
-    if at != len(lines):
-        raise NoAnswer(f"line {at + 1} of the certificate is behind its end")
-    return proof
+    return at
 
 
-def answer_of(text, job):
-    """A rendering, a violation, a part that is open, or a certificate; all else has no picture."""
+def answer_of(text, job, world=None):
+    """A rendering, which is at a world where one is told, a violation, a part that is open, or certificates; all else has no picture."""
     lines = text.split("\n")
     if lines and lines[-1] == "":
         lines.pop()
     if not lines:
         return Rendering([])
-    if lines[0] in HEADS and len(lines) > 1 and re.fullmatch("job [0-9a-f]{64}", lines[1]):
-        if lines[1][4:] != job.digest:
-            raise NoAnswer("the certificate is for another job")
+    if is_head(lines, 0):
         return proof_of(lines, job)
     axes = len(job.sides())
     if len(lines) == 1 and re.fullmatch(rf"undecided(?: \d+){{{2 * axes}}}", lines[0], re.A):
@@ -296,9 +335,10 @@ def answer_of(text, job):
         blamed = [int(it[6:]) for it in lines if re.fullmatch(r"blame \d+", it, re.A)]
         answer = Rendering([box_of(it) for it in lines[1 + len(blamed):]], world, blamed, True)
     elif lines[0].split(" ")[0] in KINDS:
-        answer = Rendering([box_of(it) for it in lines])
+        answer = Rendering([box_of(it) for it in lines], world)
     else:
         raise NoAnswer(f"no picture for the answer: {lines[0][:80]}")
-    if any(box.node >= len(job.nodes) for box in answer.boxes) or any(it >= len(answer.boxes) for it in answer.blamed):
+    nodes = (job.at(answer.world) if answer.world else job).nodes
+    if any(box.node >= len(nodes) for box in answer.boxes) or any(it >= len(answer.boxes) for it in answer.blamed):
         raise NoAnswer("the answer is not of this job: it names a node or box that isn't there")
     return answer

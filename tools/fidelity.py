@@ -38,7 +38,7 @@ def laid_out(program, name, world, job):
         raise NoLayout(f"{program} can't be run: {fault.strerror}", None) from None
     if run.returncode != 0:
         raise NoLayout(run.stdout.strip() or f"{program} lay {name}: status {run.returncode}", run.returncode)
-    return edges(answers.answer_of(run.stdout, job))
+    return edges(answers.answer_of(run.stdout, job, world))
 
 
 def edges(answer):
@@ -138,7 +138,8 @@ def world_words(world):
 def lines(found, over):
     """What was found at the worlds, in lines."""
     worst = max(found, key=lambda it: (len(it.differ) > 0, max((one.most() for one in it.differ), default=0), it.greatest))
-    at = ", ".join(world_words(it.world) for it in found)
+    at = ", ".join(world_words(it.world) for it in found[:len(PLACES)])
+    at += f" and {len(found) - len(PLACES)} more, where what @media asks for turns" if len(found) > len(PLACES) else ""
     differing = {one.node for it in found for one in it.differ}
     compared = max(it.boxes for it in found)
     if not differing:
@@ -168,13 +169,14 @@ def lines(found, over):
 
 def tried(program, name, text, exported, over=1):
     """Compares a job with its page at the worlds at which the page was looked at."""
-    job = answers.job_of(text)
-    if len(exported["nodes"]) != len(job.written):
+    whole = answers.job_of(text)
+    if len(exported["nodes"]) != len(whole.written):
         raise answers.NoAnswer("the job has other nodes than the page")
-    real = job.by_node([it["real"] for it in exported["nodes"]], False)
-    causes = job.by_node([it["causes"] for it in exported["nodes"]], [])
     found = []
     for world, theirs in zip(exported["worlds"], exported["rectangles"]):
+        job = whole.at(world)
+        real = job.by_node([it["real"] for it in exported["nodes"]], False)
+        causes = job.by_node([it["causes"] for it in exported["nodes"]], [])
         one = compare(job, laid_out(program, name, world, job), job.by_node(theirs, None), real, causes, over)
         one.world = tuple(world)
         found.append(one)

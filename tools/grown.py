@@ -1,18 +1,19 @@
 """A job's page with its generated content as nodes, as the program counts them (docs/PROFILE.md). Not proved: what is shown of an answer uses it.
 
-Which strings win as `content` at an element's `:before` and `:after` is found by the job's sheets, whose rules for the screen count. Of a
-page that the profile refuses for its generated content there is no layout, and so nothing to count.
+Which strings win as `content` at an element's `:before` and `:after` is found by the rules of the job's sheets that are met at a viewport's
+width and a default font size. Of a page that the profile refuses for its generated content there is no layout, and so nothing to count.
 """
 import re
 
 import css_match
+import media
 
 COMMENT = r"/\*.*?(?:\*/|\Z)"
-STRING = r"\"(?:\\.|[^\"\\\n\r\f])*\"?|'(?:\\.|[^'\\\n\r\f])*'?"
 # a token's beginning decides which brackets it opens or closes
-TOKEN = re.compile(rf"{COMMENT}|{STRING}|\burl\(\s*(?:{STRING}|(?:\\.|[^\"'()\\])*)\s*\)|<!--|-->|\\.|[^\"'\\/<(){{}}\[\];u-]+|.", re.I | re.S)
+ADDRESS = rf"\burl\(\s*(?:{media.STRING}|(?:\\.|[^\"'()\\])*)\s*\)"
+TOKEN = re.compile(rf"{COMMENT}|{media.STRING}|{ADDRESS}|<!--|-->|\\.|[^\"'\\/<(){{}}\[\];u-]+|.", re.I | re.S)
+AT_RULE = re.compile(rf"@({css_match.NAME})")
 CLOSING = {"(": ")", "[": "]", "{": "}"}
-SCREEN = ("all", "screen")
 
 
 def tokens(text):
@@ -56,8 +57,8 @@ def statements(found):
         if not found[at].strip() or found[at].startswith("/*") or found[at] in ("<!--", "-->"):
             at += 1
             continue
-        is_rule = bare(found[at:]).lstrip().startswith("@")
-        end = seek(found, at, "{;" if is_rule else "{")
+        # a few tokens hold the keyword
+        end = seek(found, at, "{;" if AT_RULE.match(bare(found[at:at + 9]).lstrip()) else "{")
         head, block = found[at:end], None
         if end < len(found) and found[end] == "{":
             close = seek(found, end + 1, "}")
@@ -66,25 +67,23 @@ def statements(found):
         at = end + 1
 
 
-def is_for_screen(prelude):
-    """Whether a list of media without features is met."""
-    def met(entry):
-        said = re.fullmatch(r"\s*(?:(only|not)\s+)?([-\w]+)\s*", css_match.unescaped(entry), re.I)
-        return bool(said) and (said[2].lower() in SCREEN) != (str(said[1]).lower() == "not")
-    return not prelude.strip() or any(met(it) for it in prelude.split(","))
-
-
-def rules(found, is_inside=False):
-    """The rules for the screen, each as its selector's text and its block's tokens."""
+def rules(found, under=None):
+    """The rules of a sheet, each as its selector's text, its block's tokens and the media list that it stands under; None where it stands
+    under none."""
     for head, block in statements(found):
         text = bare(head).strip()
-        if not text.startswith("@"):
-            if block is not None:
-                yield "".join(head), block
-        elif block is not None and not is_inside:
-            name = re.match(r"@((?:[-\w]|\\.)*)", text, re.S)
-            if css_match.unescaped(name[1]).lower() == "media" and is_for_screen(text[name.end():]):
-                yield from rules(block, True)
+        name = AT_RULE.match(text)
+        if block is None:
+            continue
+        if not name:
+            yield "".join(head), block, under
+        elif under is None and css_match.unescaped(name[1]).lower() == "media":
+            yield from rules(block, media.entries_of(text[name.end():]))
+
+
+def features(css):
+    """What the rules of sheets ask of the viewport's width, each once, by its first place."""
+    return media.features_of(under for text in css for _, _, under in rules(tokens(text)))
 
 
 # ---- content
@@ -129,12 +128,14 @@ def contents(block):
             yield is_important, text
 
 
-def winners(page, css):
-    """The texts that win at the elements' `:before` and `:after`, by which of the two and the element's number on the page as it is written."""
+def winners(page, css, world):
+    """The texts that win at the elements' `:before` and `:after` at a world, by which of the two and the element's number on the page as it is
+    written."""
     found, places = {}, css_match.places_of(page)
     for sheet, text in enumerate(css):
-        for at, (selector, block) in enumerate(rules(tokens(text))):
-            given = list(contents(block)) if re.search(r"before|after|\\", selector, re.I) else []
+        for at, (selector, block, under) in enumerate(rules(tokens(text))):
+            is_of_made = re.search(r"before|after|\\", selector, re.I) and media.is_met(under, *world[:2])
+            given = list(contents(block)) if is_of_made else []
             if not given:
                 continue
             try:
@@ -154,10 +155,10 @@ def winners(page, css):
     return {key: said for key, (_, said) in found.items() if said is not None}
 
 
-def grown(page, css):
-    """The page with its generated content, as elements with the tags `:before` and `:after`; and the numbers on it of the nodes that are
-    written, in their order."""
-    said = winners(page, css)
+def grown(page, css, world):
+    """The page with its generated content at a world, as elements with the tags `:before` and `:after`; and the numbers on it of the nodes that
+    are written, in their order."""
+    said = winners(page, css, world)
     count, numbers = 0, []
 
     def made(which, node):

@@ -7,7 +7,7 @@ import answers
 import fidelity
 
 FOLDER = pathlib.Path(__file__).resolve().parent / "page"
-PARTS = ("findings", "css", "sheets", "tree", "texts", "fonts", "values", "judge", "job")
+PARTS = ("findings", "css", "media", "sheets", "tree", "texts", "fonts", "values", "judge", "job")
 SAYINGS = ("preformatted", "breaks", "media", "generated", "position", "blocks", "values", "faces", "spacing", "cases", "kerning")
 
 
@@ -19,7 +19,8 @@ def script():
     """The scripts as one text, for a browser's console too: it names `jobFromPage`."""
     texts = [(FOLDER / f"{name}.js").read_text(encoding="utf-8") for name in PARTS]
     return ('// Makes a job file for vizlog of the page in which it runs. Not proved.\nvar jobFromPage = (() => {\n"use strict";\n\n'
-            + "\n".join(texts) + "\nreturn Object.assign(shown, {step, statements, declarations, declarationKind, selectorKind});\n})();\n")
+            + "\n".join(texts)
+            + "\nreturn Object.assign(shown, {step, statements, declarations, declarationKind, selectorKind, Media, bothMet});\n})();\n")
 
 
 def call(browser, *words):
@@ -60,11 +61,13 @@ def selectors(browser, url, options):
 
 
 def export(browser, options, at=None):
-    """The job of the page that was begun, with what is told of it and where the browser lays its boxes, at five worlds or those that are told."""
-    at = at or fidelity.worlds(*sides_of(options))
+    """The job of the page that was begun, with what is told of it and where the browser lays its boxes, at the worlds that are told, or at five
+    and at some at both ends of each step between two widths that its sheets ask for."""
     for world in corners(options):
         stand(browser, world, options["height"])
         call(browser, "glance")
+    steps = call(browser, "ends", at or fidelity.worlds(*sides_of(options)))
+    at = at or [tuple(it) for it in steps]
     for world in at:
         stand(browser, world, options["height"])
         call(browser, "look", world)

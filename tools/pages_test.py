@@ -14,9 +14,11 @@ import chromium
 import fidelity
 import formulas
 import grown
+import media
 import metric_font
 import page_export
 import rule_text
+from program import Way
 
 TOP = pathlib.Path(__file__).resolve().parent.parent
 CERT = ["split -1120 0:1", "grid", "split 30 0:-1 1:2", "leaf", "yes 3 0:1", "fact 1", "sum 2:0 1:1", "closed", "no -3", "case 1 0:1",
@@ -51,6 +53,10 @@ def renderings():
     yield "edges", answer.boxes[2].content, (0, 640, 25600, 1920)
     page = script("picture").page_of(job, answer, "test")
     yield "a picture", [it in page for it in ("400 px wide", "25536", "Blamed: box 0", "div")], [True] * 4
+    alone = script("picture").drawing_of(job, answer, False)
+    yield "a drawing alone", (alone.startswith("<svg xmlns"), ">1 px</text>" in alone), (True, True)
+    beside = script("picture").Beside(ways=[Way(0, -1, 400, 399, True), Way(0, 1, 400, 401, True), Way(1, 1, 16, 17, True)])
+    yield "the nearest of two", script("picture").nearest(beside, (400, 16)), (399, 16)
     yield "no boxes", answers.answer_of("", job).boxes, []
     for text, fault in (("job-refused not-yet\n", "no picture for the answer: job-refused not-yet"),
                         ("block 0 m 0 0\n", "no box: block 0 m 0 0"),
@@ -65,7 +71,7 @@ def certificates():
     job = answers.job_of(text_of("column.json"))
     head = f"vizlog-cert 1\njob {job.digest}\n"
     proof = answers.answer_of(head + "\n".join(CERT) + "\n", job)
-    yield "parts", [(it.kind, it.sides, it.by_defs) for it in proof.regions], [
+    yield "parts", [(it.kind, it.sides, it.is_ragged) for it in proof.regions], [
         ("grid", ((1120, 1920), (12, 24)), False), ("leaf", ((320, 1119), (12, 24)), False), ("void", ((320, 1119), (18, 24)), False),
         ("grid", ((320, 1119), (12, 17)), True), ("grid", ((320, 1119), (12, 17)), True)]
     yield "splits and floors", (proof.splits, proof.defs), (4, 1)
@@ -152,7 +158,7 @@ def comparing():
 
 def placed(page, css):
     """The nodes of a page with its generated content: each with its parent and its number as it is written, or what it is."""
-    full, written = grown.grown(page, css)
+    full, written = grown.grown(page, css, (320, 16))
     numbers = {place: number for number, place in enumerate(written)}
     found, waiting = [], [(full, None)]
     while waiting:
@@ -165,14 +171,19 @@ def placed(page, css):
     return found
 
 
-def generated():
-    """Generated content is found where the outside cases have it."""
+def outside_cases(*calls):
+    """The outside cases of some calls that are not refused: the call, what is given, and the answer."""
     asked, answered = ((TOP / "crates/cases" / it).read_text(encoding="utf-8").split("\n") for it in ("stdin", "stdout"))
     for line, answer in zip(asked, answered, strict=True):
-        # the others are refused
-        if line.startswith('["grow"') and answer.startswith("["):
-            _, job, css = json.loads(line)
-            yield str(css), placed(json.loads(job)["page"], css), json.loads(answer)[0]
+        if line.startswith(tuple(f'["{it}"' for it in calls)) and answer.startswith("["):
+            call, *given = json.loads(line)
+            yield call, given, json.loads(answer)
+
+
+def generated():
+    """Generated content is found where the outside cases have it."""
+    for _, (job, css), answer in outside_cases("grow"):
+        yield str(css), placed(json.loads(job)["page"], css), answer[0]
     job = answers.job_of(text_of("pages/nav.json"))
     yield "names", [node.name for node in job.nodes if node.element and node.element["tag"] in grown.MADE], ["ul:after"]
     yield "numbers", [at for at in range(len(job.nodes)) if at not in job.written], [21]
@@ -180,11 +191,54 @@ def generated():
     yield "a set", [scene.members(it) for it in ('"main"', '"ul *"')], [[23], [6, 7, 9, 10, 12, 13, 15, 16, 18, 19]]
 
 
+def told_feature(it):
+    return [it.most, ["Em" if it.em else "Px", it.bound]]
+
+
+def feature(told):
+    return media.Feature(told[0], told[1][0] == "Em", told[1][1])
+
+
+def told_list(entries):
+    return None if entries is None else [[it.negated, it.on, [told_feature(one) for one in it.features]] for it in entries]
+
+
+def queries():
+    """Media lists are read, and ranges parted, as the outside cases have it; answers of a job with width queries go by its parts."""
+    for call, given, answer in outside_cases("sheets", "features", "signs", "parts"):
+        if call == "sheets":
+            found, wanted = [told_list(it[2]) for it in grown.rules(grown.tokens(given[0]))], [it[-1] for it in answer]
+        elif call == "features":
+            found, wanted = [told_feature(it) for it in grown.features(given[0])], answer
+        elif call == "signs":
+            found, wanted = [list(media.signs([feature(it) for it in given[0]], *world)) for world in given[1]], answer
+        else:
+            found, wanted = [list(it) for it in media.parts([feature(it) for it in given[0]], *given[1:])], answer
+        if found != wanted or len(str(given)) < 60:
+            yield f"{call} {str(given)[:80]}", found, wanted
+    told = json.loads(text_of("narrow-screens.json"))
+    css = ["div:before{content:'a'}@media (min-width:360px){div:before{content:none}}@media (max-width:20em){p{}}"]
+    text = json.dumps({**told, "css": css, "widths": [320, 400], "sizes": [16, 17]})
+    job = answers.job_of(text)
+    yield "parts", job.parts, {(False, True): (320, 16), (False, False): (321, 16), (True, False): (360, 16)}
+    yield "nodes of the parts", [len(job.at(it).nodes) - len(job.written) for it in ((340, 17), (359, 16), (360, 16))], [6, 6, 0]
+    head = f"vizlog-cert 1\njob {job.digest}\n"
+    bodies = ["grid\n", "split -341 0:1\ngrid\ngrid\n", "split -17 1:1\ngrid\ngrid\n"]
+    proof = answers.answer_of("".join(head + it for it in bodies), job)
+    yield "regions of worlds", [proof.region_at(it) for it in ((320, 16), (340, 17), (340, 16), (341, 16), (400, 16), (400, 17))], [0, 0, 2, 1, 4, 3]
+    yield "a certificate too few", refused(head + head.join(bodies[:2]), job), "there are 2 certificates, and the job has 3 parts"
+    yield "one for another job", refused(head + bodies[0] + head.replace(job.digest, "0" * 64) + bodies[1], job), "the certificate is for another job"
+    yield "the map", "3 certificates, one for each part" in script("picture").page_of(job, proof, "test"), True
+
+
 # pages with what is said of them in the profile's own words; at one size no box lies elsewhere
 SAYINGS = {
     "preformatted": ("white-space: pre as", "white-space: pre-line as", "white-space: pre-wrap as"),
     "breaks": ("a line may break within a word",),
     "media": ("@media with a condition, as the browser answers it on this machine, is `all`", "is `not all`"),
+    "widths": ("the widths of @media in the profile's words: 4", "an @media in an @media, as one under both conditions", "is shorter: 2",
+               "each proved by a certificate of its own: 11",
+               "margin-right by the browser's computed value: 3, first node 10 div.row (0px, then 17px)"),
     "generated": ("display: table of generated content without text, which the profile refuses, as block", "content by the text that it comes to",
                   "no generated content where the browser makes none"),
     "generated-breaks": (":before as an element", "a line may break within a word"),
@@ -228,12 +282,75 @@ def sayings():
                 yield f"{name} tells", it if it in told else told, it
             yield f"{name} is refused", found["refused"], []
             yield f"{name} lies elsewhere", elsewhere(found, folder), []
+        job = answers.job_of(exported(browser, (TOP / "examples/sayings/widths.html").as_uri())["job"])
+        made = [[it.name for it in job.at((width, 16)).nodes if it.name.endswith(":before")] for width in (320, 599, 600, 1920)]
+        yield "generated content at some widths", made, [[], [], ["ul.menu.row:before"], ["ul.menu.row:before"]]
         found = exported(browser, (TOP / "examples/sayings/spacing.html").as_uri(), textSpacing=True)
         yield "text spacing", ("0.12" in found["job"], elsewhere(found, folder)), (True, [])
         page = pathlib.Path(folder, "page.html")
         page.write_text('<!DOCTYPE html><link rel="stylesheet" href="none.css"><p>A page.</p>', encoding="utf-8")
         told = "\n".join(exported(browser, page.as_uri())["lines"])
         yield "a missing sheet", "isn't there, so that the browser shows the page without it" in told, True
+
+
+# media lists and what they come to, None where they stay: the screen has colours, a landscape turns and no width is left out
+LISTS = (
+    ("screen and (min-width: 600px)", None), ("ONLY screen and (max-width:37.5em) , not all and (min-width: 0)", None), ("print", None),
+    ("(min-width: 600px) and (color), print", "(min-width: 600px)"), ("(monochrome), (min-width: 600px)", "(min-width: 600px)"),
+    ("(color) and (min-resolution: 1dppx)", "all"), ("(monochrome)", "not all"), ("not all and (monochrome)", "all"),
+    ("not screen and (color) and (min-width: 600px)", "not all and (min-width: 600px)"), ("not print and (monochrome)", "all"),
+    ("print and (orientation: landscape), (min-width: 1em)", "(min-width: 1em)"), ("(min-width: 600px), screen", "all"),
+    ("(orientation: landscape) and (min-width: 600px)", None), ("(orientation: landscape) and (monochrome), (max-width: 9px)", "(max-width: 9px)"),
+    ("(min-width: 48rem)", "(min-width: 48em)"), ("(min-width: 6in)", "(min-width: 576px)"), ("(width >= 600px)", "(min-width: 600px)"),
+    ("(400px <= width < 700.5px)", "(min-width: 400px) and (max-width: 700px)"), ("(width > 600px)", "(min-width: 601px)"),
+    ("(600px > width)", "(max-width: 599px)"), ("(width < 40em)", "(max-width: 39.999999em)"), ("(width > 40em)", None),
+    ("not (min-width: 600px)", "not all and (min-width: 600px)"), ("(min-width: 600px) or (monochrome)", "(min-width: 600px)"),
+    ("((min-width: 600px) and (max-width: 900px))", "(min-width: 600px) and (max-width: 900px)"),
+    ("(min-width: calc(1px + 1em))", None), ("(width: 600px)", "(min-width: 600px) and (max-width: 600px)"),
+    ("and, (min-width: 1px)", "(min-width: 1px)"))
+BOTH = ((("(min-width: 1px)", "screen and (max-width: 9px)"), "(min-width: 1px) and (max-width: 9px)"), (("all", "not all and (min-width: 1px)"),
+        "not all and (min-width: 1px)"), (("(min-width: 1px), print", "(min-width: 2px), (max-width: 1px)"),
+        "(min-width: 1px) and (min-width: 2px), (min-width: 1px) and (max-width: 1px)"), (("not all", "(min-width: 1px)"), "not all"),
+        (("(min-width: 1px)", "not all and (min-width: 2px)"), None))
+
+
+def steps(*widths):
+    return "".join(f"@media (min-width:{it}px){{p{{margin:0}}}}" for it in widths)
+
+
+# sheets, the greatest width of the range from 320 px on, and what is told
+REFUSED = (
+    ("@media (orientation: landscape){p{margin:0}}", 1920, "@media with (orientation: landscape): 1, first sheet 0"),
+    ("@media (min-width:400px){@media not all and (max-width:500px){p{margin:0}}}", 1920, "an @media in an @media is dropped: 1"),
+    ("@media (max-width:599.99px), (max-width:399.98px){p{margin:0}}", 1920,
+     "a width of @media that the browser meets elsewhere: 1, first (max-width:599.99px) at 600 px"),
+    (steps(*range(400, 1700, 100)), 1920, "more than 12 parts of the range by what @media asks for: 14, first (min-width:400px)"),
+    (steps(*range(400, 1700, 100)), 1920, "ranges of widths with at most 12 parts, for a job each: 2, first 320:1499 1500:1920"),
+    (steps(*range(400, 2100, 100)), 2400, "more than 16 widths that @media asks for: 17"),
+    (steps(*range(140, 340, 10)), 1920, "widths of @media at which nothing turns within the range are left out: 19, first sheet 0"))
+
+
+def lists():
+    """Media lists in the profile's words, and what widths are refused for."""
+    with tempfile.TemporaryDirectory() as folder, chromium.Chromium() as browser:
+        page = pathlib.Path(folder, "page.html")
+        page.write_text("<!DOCTYPE html><p>A page.</p>", encoding="utf-8")
+        browser.open(page.as_uri())
+        browser.run(page_export.script())
+        options = {"widths": [320, 1920], "sizes": [16, 16]}
+        turned = "for (const it of ['(orientation: landscape)', '(width > 40em)']) media.answers.get(it).add(false);"
+        asked = ("all => { const media = new jobFromPage.Media(%s); for (const it of all) media.find(`@media ${it}{}`); media.ask(); %s "
+                 "return all.map(it => media.said(it)); }" % (json.dumps(options), turned))
+        browser.screen(1920, 800)
+        found = browser.run(f"({asked})({json.dumps([it for it, _ in LISTS])})")
+        for (text, wanted), said in zip(LISTS, found):
+            yield text, said, wanted or text
+        for pair, wanted in BOTH:
+            yield " and ".join(pair), browser.run(f"jobFromPage.bothMet({json.dumps(pair[0])}, {json.dumps(pair[1])})"), wanted
+        for css, most, told in REFUSED:
+            page.write_text(f"<!DOCTYPE html><style>{css}</style><p>A page.</p>", encoding="utf-8")
+            lines = "\n".join(exported(browser, page.as_uri(), widths=[320, most])["lines"])
+            yield css[:60], told if told in lines else lines, told
 
 
 def run_tool(words):
@@ -297,10 +414,10 @@ def in_a_browser(tests):
 
 def failures():
     """A line for each test that fails. Where no browser is, or VIZLOG_NO_BROWSER is set, none is asked."""
-    for tests in (renderings, certificates, heights, fonts, rules, comparing, generated):
+    for tests in (renderings, certificates, heights, fonts, rules, comparing, generated, queries):
         yield from failed(tests.__name__, tests())
     if chromium.found() and not os.environ.get("VIZLOG_NO_BROWSER"):
-        for tests in (browser, sayings, replaced):
+        for tests in (browser, lists, sayings, replaced):
             yield from failed(tests.__name__, in_a_browser(tests))
 
 

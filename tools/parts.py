@@ -2,7 +2,8 @@
 
 The halves that the range is cut into become splits above the parts' own nodes. A part's job has two facts of its own for each side, its
 ends. Below the splits the same rows are other facts: an end at which no split cut is that of the whole range, any other is the fact of the
-split that made it. All facts behind these stand so many numbers later as there are splits above.
+split that made it. All facts behind these stand so many numbers later as there are splits above. Of a page with width queries, whose answers
+have a certificate for each part of the range that these make, the certificates stay what they are.
 """
 import hashlib
 from dataclasses import dataclass, field
@@ -10,7 +11,6 @@ from dataclasses import dataclass, field
 import answers
 from program import Part
 
-HEAD = answers.HEADS[0]
 MOST = 64 << 20
 
 
@@ -48,8 +48,10 @@ def cut_into(part, many):
 def body_of(text, digest):
     """The lines of a certificate for the job of this digest, without its head."""
     lines = text.split("\n")
-    if lines[:2] != [HEAD, f"job {digest}"]:
+    if lines[0] not in answers.HEADS or lines[1:2] != [f"job {digest}"]:
         raise NotJoined("an answer is no certificate for its part's job")
+    if any(line in answers.HEADS for line in lines[2:]):
+        raise NotJoined("an answer is several certificates, of parts by width queries, and no one certificate is made of those")
     return lines[2:-1] if lines[-1] == "" else lines[2:]
 
 
@@ -80,12 +82,14 @@ def certificate(job_bytes, cut, answer_of):
     def body(part):
         job, answer = answer_of(part)
         return body_of(answer.decode("utf-8"), hashlib.sha256(job).hexdigest())
-    lines = [HEAD, f"job {hashlib.sha256(job_bytes).hexdigest()}", *joined(cut, body)]
+    nodes = list(joined(cut, body))
+    head = answers.HEADS[any(line.startswith("lemma ") for line in nodes)]
+    lines = [head, f"job {hashlib.sha256(job_bytes).hexdigest()}", *nodes]
     return ("\n".join(lines) + "\n").encode()
 
 
 def is_certificate(text):
-    return text.startswith(HEAD + "\n")
+    return text.startswith(tuple(head + "\n" for head in answers.HEADS))
 
 
 def violation(text):

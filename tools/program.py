@@ -209,6 +209,4 @@ def rendering(name, world, job, program=PROGRAM):
     reply = reply_of(["lay", name, *world], program)
     if reply.status != 0:
         raise ProgramFault(f"lay {name} {' '.join(map(str, world))}: {reply.text.strip() or f'status {reply.status}'}")
-    answer = answers.answer_of(reply.text, job)
-    answer.world = tuple(world)
-    return answer
+    return answers.answer_of(reply.text, job, tuple(world))

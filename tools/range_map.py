@@ -16,7 +16,7 @@ def heights_of(job, regions):
     if not job.has_heights:
         return [None]
     low, high = job.heights
-    if all(it.sides[2] == job.heights and not it.by_defs and not any(cut[3] for cut in it.cuts) for it in regions):
+    if all(it.sides[2] == job.heights and not it.is_ragged and not any(cut[3] for cut in it.cuts) for it in regions):
         return [low]
     return sorted({low, (low + high) // 2, high})
 
@@ -115,8 +115,8 @@ def map_svg(job, answer, regions, height=None):
 
     def spot(point):
         return edge((point[0] + .5, point[1] + .5))
-    by_defs = any(region.by_defs for region in regions)
-    shapes = shapes_by_runs(job, answer, edge, height) if by_defs else shapes_by_corners(regions, edge, height)
+    is_ragged = any(region.is_ragged for region in regions)
+    shapes = shapes_by_runs(job, answer, edge, height) if is_ragged else shapes_by_corners(regions, edge, height)
     marks = []
     for at in range(6):
         width = wl + round((wh - wl) * at / 5)

@@ -1,20 +1,43 @@
 // ---- the job
 
-/** What is said of generated content beyond the sheets, as a sheet; each element that has such content gets the number of its rules. */
-function sheetOfMade(tree) {
-  const rules = [];
+/** Declarations that beat the page's own. */
+const important = pins => [...pins].map(([name, value]) => `${name}:${value} !important`).join(";");
+
+const single = pins => [...pins].filter(([, value]) => !(value instanceof BySteps));
+
+/** The rules for a selector that say values by steps: those of the narrowest step, and those that turn at each later one. */
+function rulesBySteps(selector, pins) {
+  const turned = [...pins].filter(([, value]) => value instanceof BySteps);
+  return [...new Set(turned.map(([, value]) => value.steps))].flatMap(steps => Array.from({length: steps.count}, (_, step) => {
+    const here = turned.filter(([, value]) => value.steps === steps && value.turns.includes(step));
+    const rule = `${selector}{${important(here.map(([name, value]) => [name, value.values[step]]))}}`;
+    return !here.length ? "" : step ? `@media ${steps.from(step)}{${rule}}` : rule;
+  })).filter(it => it);
+}
+
+/** What is said beyond the sheets, as a sheet: of generated content, and by steps of the width. Each element of which it says something gets the
+ * number of its rules. */
+function sheetOfPins(tree) {
+  const groups = new Map();
+  const put = (node, name, rules) => {
+    if (!rules.length) return;
+    const known = groups.get(name) || groups.set(name, []).get(name);
+    const said = rules.join("\n");
+    if (!known.includes(said)) known.push(said);
+    node.attrs = {...node.attrs, [name]: String(known.indexOf(said))};
+  };
   const visit = node => {
-    const made = (node.children || []).filter(it => MADE[it.made] && it.pins.size)
-      .map(it => `:${it.made}{${[...it.pins].map(([name, value]) => `${name}:${value} !important`).join(";")}}`);
-    const said = [...made, ...(node.unmade || []).map(it => `:${it}{content:none !important}`)].join("\n");
-    if (said && !rules.includes(said)) rules.push(said);
-    if (said) node.attrs = {...node.attrs, [MADE_AT]: String(rules.indexOf(said))};
+    const made = (node.children || []).filter(it => tree.kept && MADE[it.made]);
+    put(node, MADE_AT, [...made.filter(it => single(it.pins).length).map(it => `&:${it.made}{${important(single(it.pins))}}`),
+      ...made.flatMap(it => rulesBySteps(`&:${it.made}`, it.pins)),
+      ...(tree.kept && node.unmade || []).map(it => `&:${it}{content:none !important}`)]);
+    if (node.tag && !(tree.kept && MADE[node.made])) put(node, TURNED_AT, rulesBySteps("&", node.pins));
     for (const child of node.children || []) visit(child);
   };
   visit(tree.root);
-  return rules.flatMap((said, at) => said.split("\n").map(it => `[${MADE_AT}="${at}"]${it}`)).join("\n");
+  return [...groups].flatMap(([name, known]) => known.map((said, at) => said.replace(/^(@media [^{]*\{)?&/gm, `$1[${name}="${at}"]`))).join("\n");
 }
-const MADE_AT = "vizlog-made";
+const MADE_AT = "vizlog-made", TURNED_AT = "vizlog-turned";
 
 /** The job as text: a member or an element a line. Generated content that stays as it is isn't written. */
 function written(job, {root, kept}) {
@@ -22,7 +45,7 @@ function written(job, {root, kept}) {
   const element = (node, indent, after) => {
     const children = (node.children || []).filter(it => !kept || !MADE[it.made]);
     const head = {tag: node.tag};
-    const pins = [...node.pins].map(([name, value]) => `${name}:${value} !important`).join(";");
+    const pins = important(single(node.pins));
     const style = [node.style, pins].filter(it => it).join(node.style && !/;\s*$/.test(node.style) ? ";" : "");
     if (Object.keys(node.attrs).length || style) head.attrs = style ? {...node.attrs, style} : node.attrs;
     if (node.size) head.size = node.size;
@@ -57,7 +80,8 @@ class Exporter {
   constructor(page, options) {
     const said = Object.fromEntries(SAYINGS.map(it => [it, !(options.without || []).includes(it)]));
     Object.assign(this, {page, options: {widths: [320, 1920], sizes: [12, 24], height: 800, assert: "true", texts: {}, ...options, ...said},
-      findings: new Findings(), media: new Media(), worlds: [], rectangles: []});
+      findings: new Findings(), worlds: [], rectangles: []});
+    this.media = new Media(this.options);
   }
 
   async begin() {
@@ -79,12 +103,7 @@ class Exporter {
     names.delete("style");
     const gaps = selectors.some(it => /\+|:first-child/i.test(it));
     this.tree = new Tree(page.documentElement, names, gaps, options, findings);
-    this.tree.walk(node => {
-      if (node.chars !== undefined) return;
-      const style = getComputedStyle(node.of || node.from, node.made && `::${node.made}`);
-      node.out = style.float !== "none" || /^(?:absolute|fixed)$/.test(style.position);
-      node.boxed = node.tag === "wbr" && options.breaks && !/nowrap|^pre$/.test(style.whiteSpace);
-    });
+    this.tree.walk(node => this.place(node));
     this.quirks = quirksOf(page);
     if (this.quirks) {
       const what = this.quirks === "whole" ? "without `<!DOCTYPE html>` browsers lay out otherwise than CSS has it"
@@ -102,23 +121,46 @@ class Exporter {
   /** The selectors of the assertion. */
   quoted() { return (this.options.assert.match(/"[^"]*"/g) || []).map(it => it.slice(1, -1)); }
 
+  /** Takes down how an element stands in the lines around it, at the present world. */
+  place(node) {
+    if (node.chars !== undefined) return;
+    const style = getComputedStyle(node.of || node.from, node.made && `::${node.made}`);
+    node.out = style.float !== "none" || /^(?:absolute|fixed)$/.test(style.position);
+    node.boxed = node.tag === "wbr" && this.options.breaks && !/nowrap|^pre$/.test(style.whiteSpace);
+  }
+
   /** Asks the conditions of @media at the present world. */
   glance() { this.media.ask(); }
 
+  /** The worlds at which the page is to be looked at: those that are told, and some at both ends of each step. */
+  ends(told) {
+    this.widths = widthsOf(this.css, this.media);
+    const more = laddersOf(this.widths, this.options).flatMap(it => it.worlds(told[0]));
+    return [...new Map([...told, ...more].map(it => [it.join(), it])).values()];
+  }
+
   /** Takes down what the browser computes and where it lays each box, at the present world. */
   look(world) {
-    this.worlds.push(world);
+    const at = this.worlds.push(world) - 1;
     this.media.ask();
+    for (const it of this.widths || []) {
+      const met = (world[0] >= firstAbove(it, world[1])) !== it.most;
+      const what = "a width of @media that the browser meets elsewhere";
+      if (matchMedia(it.text).matches !== met) this.findings.add("otherwise", what, `${it.text} at ${world[0]} px`);
+    }
     const boxes = new Map();
     this.tree.walk(node => {
       if (node.chars !== undefined) return;
+      node.samples = node.samples || [];
       if (node.of) {
+        this.tree.show(node, it => this.place(it));
         if (node.of.getClientRects().length) {
           const box = node.of.getBoundingClientRect();
           boxes.set(node, [box.left + scrollX, box.top + scrollY, box.right + scrollX, box.bottom + scrollY]);
         }
-        (node.samples = node.samples || []).push(valuesOf(node.of));
-      } else if (node.from) (node.samples = node.samples || []).push(valuesOfMade(node.from, `::${node.made}`));
+        node.samples[at] = valuesOf(node.of);
+        if (shownDisplay(node.of) === "none") node.samples[at].display = "none";
+      } else if (node.from) node.samples[at] = isMade(node) ? valuesOfMade(node.from, `::${node.made}`) : null;
     });
     this.rectangles.push(boxes);
     this.wraps();
@@ -158,10 +200,10 @@ class Exporter {
     if (this.quirks !== "whole" || !this.options.values) return;
     const body = this.tree.root.children.find(it => it.tag === "body");
     let node = body;
-    while (node && ["padding-top", "border-top-width"].every(it => zero(node.samples[0][it]))) {
+    while (node && ["padding-top", "border-top-width"].every(it => zero(this.first(node)[it]))) {
       node = (node.children || []).find(it => it.chars !== undefined ? it.chars.trim() : !this.hidden(it) && !it.out);
       if (!node || node.chars !== undefined || !blockLevel(node) || !node.of) return;
-      const margin = node.samples[0]["margin-top"];
+      const margin = this.first(node)["margin-top"];
       const [around, own] = [body, node].map(it => this.rectangles[0].get(it));
       if (margin > 0 && around && own && Math.abs(around[1] - own[1]) < 0.02 && around[1] < margin - 0.02) {
         node.headless = true;
@@ -177,7 +219,7 @@ class Exporter {
     this.fonts = new FontSet(page, initial, options, findings);
     this.normal = new Normal(this.blank, findings);
     new Texts(tree, this.fonts.fonts, options, findings).say();
-    sayBlocks(tree, options, findings);
+    sayBlocks(tree, this, options, findings);
     tree.finish();
     this.sayHead();
     for (const node of tree.nodes) for (const it of this.sizesOf(node)) this.fonts.sizes.add(it);
@@ -187,7 +229,10 @@ class Exporter {
     tree.keep(findings);
     tree.finish();
     const generated = tree.kept || !options.generated ? "kept" : "elements";
-    this.css = this.css.map((text, at) => sheetSaid(text, at, this.media, options, generated, findings)).filter(it => it.trim());
+    this.media.short = options.media && widthsOf(this.css, this.media).length > MOST_WIDTHS;
+    const words = new SheetWords(this.media, options, generated, findings);
+    this.css = this.css.map((text, at) => words.sheet(text, `sheet ${at}`)).filter(it => it.trim());
+    this.ladders = laddersOf(widthsOf(this.css, this.media), options);
     if (tree.nodes.some(it => it.tag === BREAK_TAG)) this.css.push(`${BREAK_TAG}{display:inline-block}`);
     const measure = sizer(this.blank, findings);
     for (const node of tree.nodes) {
@@ -198,18 +243,30 @@ class Exporter {
     if (options.values) this.copy = new Copy(page, tree, this.css, this);
   }
 
+  /** Whether a node has no box at any world. */
   hidden(node) { return node.display === "none" || LEFT_OUT.has(node.tag) || !node.samples; }
+  /** The worlds, by number, at which a node has a box; all at which something is computed for it where it has none at any. */
+  shownAt(node) {
+    const all = this.worlds.map((_, at) => at).filter(at => !node.samples || node.samples[at]);
+    if (!node.samples) return all;
+    const shown = all.filter(at => node.samples[at].display !== "none");
+    return shown.length ? shown : all;
+  }
+  /** What the browser computes at the first of these worlds. */
+  first(node) { return node.samples[this.shownAt(node)[0]]; }
+  samplesOf(node) { return this.shownAt(node).map(at => node.samples[at]); }
 
   settle(at) { if (this.copy) this.copy.settle(at); }
 
   // what the copy asks
 
   styleOf(node) { return getComputedStyle(node.of || node.from, node.made && `::${node.made}`); }
-  fontOf(node) { return node.font = node.font || this.fonts.of(this.styleOf(node), node.samples, node, () => this.normalOf(node)); }
-  sizesOf(node) { return (node.samples || []).map(it => it["font-size"]); }
-  sizesAround(node) {
+  fontOf(node) { return node.font = node.font || this.fonts.of(this.styleOf(node), this.samplesOf(node), node, () => this.normalOf(node)); }
+  /** The font sizes of a node at some worlds. */
+  sizesOf(node, at = this.shownAt(node)) { return node.samples ? at.map(it => node.samples[it] ? node.samples[it]["font-size"] : NaN) : []; }
+  sizesAround(node, at) {
     const parent = this.parents.get(node);
-    return parent ? this.sizesOf(parent) : this.worlds.map(it => it[1]);
+    return parent ? this.sizesOf(parent, at) : at.map(it => this.worlds[it][1]);
   }
   get parents() {
     if (!this.known) {
@@ -220,10 +277,10 @@ class Exporter {
   }
   normalOf(node) {
     if (node.normal === undefined) {
-      const sizes = this.sizesOf(node);
+      const shown = this.shownAt(node), sizes = this.sizesOf(node, shown);
       const [least, most] = this.options.sizes;
-      const ratio = sizes[0] / this.worlds[0][1];
-      const goes = sizes.every((it, at) => Math.abs(it - ratio * this.worlds[at][1]) < 0.01);
+      const ratio = sizes[0] / this.worlds[shown[0]][1];
+      const goes = sizes.every((it, at) => Math.abs(it - ratio * this.worlds[shown[at]][1]) < 0.01);
       const step = Math.max(1, Math.ceil((most - least) / 32));
       const all = goes ? Array.from({length: Math.floor((most - least) / step) + 1}, (_, at) => ratio * (least + at * step)) : sizes;
       const found = this.normal.of(this.styleOf(node), [...new Set(all.map(it => +it.toFixed(3)))]);
@@ -248,13 +305,14 @@ class Exporter {
     if (node.lines === undefined) {
       const stands = it => !this.hidden(it) && (it.tag === "br" || /^inline/.test(it.display));
       const inline = it => it.chars !== undefined ? it.chars.trim() !== "" : stands(it);
-      const normal = it => it.tag && !this.hidden(it) && it.samples[0]["line-height"] === "normal";
+      const normal = it => it.tag && !this.hidden(it) && this.first(it)["line-height"] === "normal";
       node.lines = normal(node) && (node.children || []).some(it => inline(it) || normal(it) && this.hasLines(it));
     }
     return node.lines;
   }
   wantedAt(node, at) {
     if (node.made === "box" || node.boxed) return EMPTY_BOX;
+    if (!node.samples[at]) return {display: "none"};
     node.wanted = node.wanted || [];
     return node.wanted[at] = node.wanted[at] || (node.made ? wantedOfMade : wanted)(node, node.samples[at], this);
   }
@@ -269,18 +327,23 @@ class Exporter {
     const selectors = this.css.flatMap(selectorsOf).filter(it => PSEUDO.test(it) && READ.test(bearerOf(it)));
     for (const node of this.tree.written) {
       const made = which => this.tree.kept && this.copy && !this.hidden(node) && this.copy.makes(node, which, selectors);
-      node.unmade = (node.unmade || []).filter(made);
+      node.unmade = [...node.unmade || []].filter(made);
       if (node.unmade.length) this.findings.add("said", "no generated content where the browser makes none", called(node));
     }
     for (const node of this.tree.kept ? this.tree.made : []) {
+      if (this.copy) this.copy.stand(this.shownAt(node)[0]);
       const text = node.children.map(it => it.chars).join("");
       if (text === (this.copy ? this.copy.contentOf(node) : node.content)) continue;
-      node.pins.set("content", quotedText(text));
+      const all = this.worlds.map((_, at) => at);
+      const said = at => at.every(it => node.samples[it]) ? quotedText(text) : at.some(it => node.samples[it]) ? null : "none";
+      const value = bySteps(this.ladders, this.worlds, all, said);
+      if (value === null) this.findings.add("otherwise", "generated content at some widths alone", called(node), {node});
+      else node.pins.set("content", value);
       this.findings.add("said", "content by the text that it comes to", `${called(node)} (${short(text, 30)})`);
     }
   }
   unsaid(node, name) {
-    const found = this.worlds.map((_, at) => this.wantedAt(node, at)[name]);
+    const found = this.shownAt(node).map(at => this.wantedAt(node, at)[name]);
     const value = found[0];
     if (REFUSED[name] && REFUSED[name].test(value)) return;
     const length = found.every(it => typeof it === "number");
@@ -293,16 +356,12 @@ class Exporter {
   finish() {
     const {tree, options, findings} = this;
     this.sayContent();
-    const made = tree.kept ? sheetOfMade(tree) : "";
+    const made = sheetOfPins(tree);
     if (made) this.css.push(made);
     judgeNodes(this);
     this.css.forEach((text, at) => judgeSheet(text, at, findings));
-    const cuts = turns(this.css, this.media, options.widths);
-    if (cuts.length) {
-      const what = "in each of these ranges of widths no condition of @media turns, so that a job for it has none";
-      findings.add("told", what, cuts.join(" "), {count: cuts.length});
-    }
     const fonts = this.fonts.all(tree);
+    judgeWidths(widthsOf(this.css, this.media), options, findings);
     judgeLimits(this, fonts);
     const counts = {elements: tree.elements, characters: tree.characters, sheets: this.css.length, fonts: fonts.map(it => it.name)};
     // what the letters of the page's own texts are, for those who show them: the program passes this member over

@@ -17,7 +17,7 @@ function rulesOf(sheet) {
 
 /** The text under a list of media: null where the screen isn't meant, a block where the list asks for more than a medium. */
 function underMedia(text, media) {
-  if (!media || media.split(",").some(it => /^(?:all|screen)$/i.test(it.trim()))) return text;
+  if (forScreen(media)) return text;
   return media.includes("(") ? `@media ${media}{${text}}` : null;
 }
 
@@ -75,58 +75,6 @@ async function sheetsOf(page, known, findings) {
   return texts;
 }
 
-// ---- conditions of @media
-
-const listed = text => {
-  const found = [];
-  for (let at = 0; at <= text.length;) {
-    const end = seek(text, at, ",");
-    found.push(text.slice(at, end).trim());
-    at = end + 1;
-  }
-  return found;
-};
-/** A condition whose answer turns at most once from the narrowest to the widest viewport, and from the least to the greatest text. */
-const TURNS_ONCE = /^\(\s*(?:(?:min|max)-[-\w]+\s*:|orientation\s*:|[-\w]*width\s*[<>]=?|[^<>]*[<>]=?\s*[-\w]*width\s*\)$)/i;
-const ABOUT_WIDTH = /width|aspect-ratio|orientation|inline-size/i;
-
-/** The conditions of sheets, each with the browser's answers at the worlds where it was asked. */
-class Media {
-  constructor() { this.answers = new Map(); }
-  /** Finds the conditions of a sheet's text. */
-  find(text) {
-    for (const {head, block} of statements(text)) {
-      if (!/^@media\b/i.test(head)) continue;
-      for (const atom of head.match(/\([^()]*\)/g) || []) if (!this.answers.has(atom)) this.answers.set(atom, new Set());
-      if (block !== null) this.find(block);
-    }
-  }
-  ask() { for (const [atom, found] of this.answers) found.add(matchMedia(atom).matches); }
-  /** The answer of a condition at every world, or null where it isn't one. */
-  answer(atom) {
-    const found = this.answers.get(atom);
-    return found && found.size === 1 && (!ABOUT_WIDTH.test(atom) || TURNS_ONCE.test(atom)) ? [...found][0] : null;
-  }
-  /** What one entry of a list of media comes to at every world, or null. */
-  entry(text) {
-    const atoms = text.match(/\([^()]*\)/g) || [];
-    if (atoms.every(it => this.answer(it) !== null)) return matchMedia(text).matches;
-    const [, not, medium] = /^(?:(not)\s+|only\s+)?([a-z]+)?/i.exec(text);
-    if (!not && medium && !/^(?:all|screen|not)$/i.test(medium)) return false;
-    return !not && !/\b(?:or|not)\b/i.test(text) && atoms.some(it => this.answer(it) === false) ? false : null;
-  }
-  /** A list of media in the profile's words: `all`, `not all`, or what of it goes with the width. */
-  said(text) {
-    const open = [];
-    for (const it of listed(text)) {
-      const answer = it.includes("(") ? this.entry(it) : /^(?:all|screen)$/i.test(it) ? true : false;
-      if (answer === true) return "all";
-      if (answer === null) open.push(it);
-    }
-    return open.join(", ") || "not all";
-  }
-}
-
 // ---- sheets in the profile's words
 
 const MADE = {before: "vizlog-before", after: "vizlog-after"};
@@ -148,57 +96,68 @@ function groupSaid(group, generated) {
 const groupOfCopy = group => parts(group).map(it => PSEUDO.test(it) ? partOfMade(it)
   : `${it}:where(:not(${Object.values(MADE).join(",")}))`).join(", ");
 
-/** A sheet's text as the job has it. */
-function sheetSaid(text, number, media, options, generated, findings) {
-  let made = "", at = 0;
-  const put = (statement, by) => {
-    made += text.slice(at, statement.at) + by;
-    at = statement.end;
-  };
-  for (const statement of statements(text)) {
-    const {head, block} = statement;
-    const where = `sheet ${number}: ${short(head)}`;
-    if (/^@import\b/i.test(head)) put(statement, "");
-    if (/^@media\b/i.test(head) && block !== null) {
-      const list = bare(head.slice(6));
-      const said = options.media && list.includes("(") ? media.said(list) : list;
-      if (said !== list) {
-        const what = said.includes("(") ? "shorter" : `\`${said}\``;
-        findings.add("said", `@media with a condition, as the browser answers it on this machine, is ${what}`, where);
-      }
-      put(statement, `@media ${said}{${said === "not all" ? "" : sheetSaid(block, number, media, options, generated, findings)}}`);
-    }
-    if (head[0] === "@" || block === null) continue;
-    const kind = selectorKind(head);
-    const stays = generated === "kept" || !parts(head).some(it => PSEUDO.test(it));
-    if (kind === "read" && stays || !parts(head).every(it => BROWSER.reads(it))) continue;
-    const group = groupSaid(head, generated);
-    if (group === null && kind === "dropped") continue;
-    put(statement, group === null ? "" : `${group}{${block}}`);
-  }
-  return made + text.slice(at);
-}
+/** Says a page's sheets: `media` answers their conditions, `generated` tells how generated content is said. */
+class SheetWords {
+  constructor(media, options, generated, findings) { Object.assign(this, {media, options, generated, findings}); }
 
-/** The widths at which the answers of conditions turn that are refused, where all are told in px. */
-function turns(texts, media, widths) {
-  const found = new Set();
-  const walk = text => {
-    for (const {head, block} of statements(text)) {
-      if (!/^@media\b/i.test(head) || !head.includes("(")) continue;
-      for (const atom of head.match(/\([^()]*\)/g) || []) {
-        if (media.answer(atom) !== null) continue;
-        const [, which, px] = /^\(\s*(min|max)-width\s*:\s*([\d.]+)px\s*\)$/i.exec(atom) || [];
-        if (!which) return false;
-        found.add(which.toLowerCase() === "min" ? Math.ceil(+px) : Math.floor(+px) + 1);
+  /** A sheet's text as the job has it. */
+  sheet(text, where) {
+    let made = "", at = 0;
+    const put = (statement, by) => {
+      made += text.slice(at, statement.at) + by;
+      at = statement.end;
+    };
+    // what stays the same keeps its spaces too
+    const same = ({head, block}, by) => by === `@media ${bare(head.slice(6))}{${block}}`;
+    for (const statement of statements(text)) {
+      const {head, block} = statement;
+      if (/^@import\b/i.test(head)) put(statement, "");
+      if (/^@media\b/i.test(head) && block !== null) {
+        const by = this.under(this.list(head, where), block, where);
+        if (!same(statement, by)) put(statement, by);
       }
-      if (block !== null && walk(block) === false) return false;
+      if (head[0] === "@" || block === null) continue;
+      const kind = selectorKind(head);
+      const stays = this.generated === "kept" || !parts(head).some(it => PSEUDO.test(it));
+      if (kind === "read" && stays || !parts(head).every(it => BROWSER.reads(it))) continue;
+      const group = groupSaid(head, this.generated);
+      if (group === null && kind === "dropped") continue;
+      put(statement, group === null ? "" : `${group}{${block}}`);
     }
-    return true;
-  };
-  if (!texts.every(walk)) return [];
-  const inner = [...found].filter(it => it > widths[0] && it <= widths[1]).sort((a, b) => a - b);
-  const begins = [widths[0], ...inner];
-  return inner.length ? begins.map((it, at) => `${it}:${(begins[at + 1] || widths[1] + 1) - 1}`) : [];
+    return made + text.slice(at);
+  }
+
+  /** The list of an @media in the profile's words. */
+  list(head, where) {
+    const list = bare(head.slice(6));
+    const said = this.options.media ? this.media.said(list) : list;
+    if (said === list) return list;
+    const asked = (list.match(/\([^()]*\)/g) || []).some(it => !widthsSaid(it));
+    const what = said.includes("(") ? "shorter" : `\`${said}\``;
+    this.findings.add("said", asked ? `@media with a condition, as the browser answers it on this machine, is ${what}`
+      : this.media.short ? "widths of @media at which nothing turns within the range are left out"
+        : "the widths of @media in the profile's words", `${where}: ${short(head)}`);
+    return said;
+  }
+
+  /** A block under a list; one in a block stands behind what is before it there, under both lists. */
+  under(list, block, where) {
+    let made = "", at = 0;
+    const put = text => { if (text.trim()) made += `@media ${list}{${this.sheet(text, where)}}`; };
+    for (const it of this.options.media ? statements(block) : []) {
+      if (!/^@media\b/i.test(it.head) || it.block === null) continue;
+      const both = bothMet(list, this.list(it.head, where));
+      const what = both === null ? "an @media in an @media is dropped" : "an @media in an @media, as one under both conditions";
+      this.findings.add(both === null ? "otherwise" : "said", what, `${where}: ${short(it.head)}`);
+      if (both === null) continue;
+      put(block.slice(at, it.at));
+      made += this.under(both, it.block, where);
+      at = it.end;
+    }
+    if (!at && list === "not all") return "@media not all{}";
+    put(block.slice(at));
+    return made || `@media ${list}{}`;
+  }
 }
 
 /** What the browser says of a text of CSS and of the page. */
@@ -215,21 +174,22 @@ const BROWSER = {
 function judgeSheet(text, number, findings) {
   let rules = 0;
   const where = head => `sheet ${number}: ${short(head)}`;
-  const block = (list, inMedia) => {
+  const outside = media => listed(media).map(entryOf).flatMap(it => it && it.plain ? it.features : ["another form"]).find(it => !widthOf(it));
+  const block = (list, inMedia, met = true) => {
     for (const {head, block: body} of list) {
       if (head[0] === "@") {
         const [word] = /^@[-\w]*/.exec(head);
         const media = bare(head.slice(word.length));
         if (/^@import$/i.test(word) && !rules) findings.add("refused", "@import", where(head));
         if (!/^@media$/i.test(word) || inMedia) continue;
-        if (media.includes("(")) findings.add("refused", "@media with a condition on the width", where(head));
-        else if (body !== null && underMedia("", media) !== null) block(statements(body), true);
+        if (media.includes("(") && outside(media)) findings.add("refused", `@media with ${short(outside(media), 40)}`, where(head));
+        else if (body !== null) block(statements(body), true, mayBeMet(media));
         continue;
       }
       if (body === null) continue;
       rules += 1;
       const kind = selectorKind(head);
-      if (kind !== "read" && kind !== "dropped") findings.add("refused", `selector ${kind}`, where(head));
+      if (met && kind !== "read" && kind !== "dropped") findings.add("refused", `selector ${kind}`, where(head));
     }
   };
   block(statements(text), false);

@@ -176,7 +176,7 @@ function sayKerning(tree, exporter, findings) {
   for (const node of tree.nodes) for (const it of node.chars || "") set.inUse.add(it.codePointAt(0));
   const known = new Map();
   const edges = ["left", "right"].flatMap(it => [`padding-${it}`, `margin-${it}`, `border-${it}-width`]);
-  const edged = node => flowsInline(node) && node.samples && edges.some(it => !zero(node.samples[0][it]));
+  const edged = node => flowsInline(node) && node.samples && edges.some(it => !zero(exporter.first(node)[it]));
   for (const {chars, texts} of runsOf(tree)) {
     const letters = [];
     for (const it of texts) {
@@ -282,11 +282,11 @@ const blockLevel = node => node.tag && !outOfFlow(node) && (node.asBlock || BLOC
 const inlineContent = node => node.chars !== undefined ? /[^ \t\r\n]/.test(node.chars) : !outOfFlow(node) && !blockLevel(node);
 
 /** An inline box without edges that holds blocks is laid out as a block would be, where no line goes on at its ends. */
-function sayBlocks(tree, options, findings) {
+function sayBlocks(tree, exporter, options, findings) {
   const visit = (node, parent) => {
     for (const child of node.children || []) if (child.tag) visit(child, node);
     if (!parent || !flowsInline(node) || !(node.children || []).some(blockLevel)) return;
-    const first = node.samples && node.samples[0];
+    const first = node.samples && exporter.first(node);
     const bare = first && SIDES.every(it => ["margin-", "padding-", "border-"].every(edge => {
       const value = first[edge === "border-" ? `border-${it}-width` : edge + it];
       return value === 0 || value === "0%" || value === "auto";

@@ -20,6 +20,18 @@ function contentText(content) {
 /** A string as a sheet has it. */
 const quotedText = text => `"${text.replace(/["\\\x00-\x1f\x7f]/g, it => `\\${it.codePointAt(0).toString(16)} `)}"`;
 
+/** The display of an element, none also of what lies in one without a box: what a closed `details` or another element holds back. */
+function shownDisplay(of) {
+  const {display} = of.ownerDocument.defaultView.getComputedStyle(of);
+  return display !== "none" && display !== "contents" && of.checkVisibility && !of.checkVisibility() ? "none" : display;
+}
+
+/** Whether generated content is there at the present world. */
+function isMade(node) {
+  const style = getComputedStyle(node.from, `::${node.made}`);
+  return !MADE[node.made] || !/^(?:none|normal)$/.test(style.content) && style.display !== "none" && shownDisplay(node.from) !== "none";
+}
+
 /** The nodes of the page: an element has `tag`, `of` (the browser's; none for one that is made), `children`; a text has `chars`. */
 class Tree {
   /** Reads the elements below a root: with the attributes `names`, that selectors ask for, and with `gaps`, those that never have a box. */
@@ -40,16 +52,11 @@ class Tree {
     }
     const style = (of.getAttribute("style") || "").trim();
     if (style) node.style = style;
-    node.display = this.computed(of).display;
-    // what a closed `details` or another element holds back has no box
-    if (node.display !== "none" && node.display !== "contents" && of.checkVisibility && !of.checkVisibility()) node.display = "none";
+    node.display = "none";
     if (LEFT_OUT.has(tag)) return node;
-    if (REPLACED.has(tag)) {
-      node.replaced = node.display !== "none";
-    } else if (tag !== "br") {
-      node.children = this.children(of);
-      if (node.display !== "none") this.generate(node);
-    }
+    if (REPLACED.has(tag)) node.replaced = false;
+    else if (tag !== "br") node.children = this.children(of);
+    this.show(node);
     if (of.shadowRoot) this.findings.add("otherwise", "what an element holds in its shadow tree is not read", `<${tag}>`, {node});
     return node;
   }
@@ -72,16 +79,36 @@ class Tree {
     return found;
   }
 
-  /** Generated content as elements of its own. */
-  generate(node) {
-    if (!this.options.generated) return;
+  /** Takes an element that was hidden until now, and its generated content that was not there, at the present world. */
+  show(node, place = () => {}) {
+    const display = shownDisplay(node.of);
+    if (LEFT_OUT.has(node.tag) || display === "none") return;
+    if (node.display === "none") {
+      node.display = display;
+      if (REPLACED.has(node.tag)) node.replaced = true;
+      place(node);
+    }
+    if (node.children && this.options.generated) this.generate(node, place);
+  }
+
+  /** Generated content as elements of its own; `unmade` has what is not there at any world yet. */
+  generate(node, place) {
+    node.unmade = node.unmade || new Set();
     for (const [which, tag] of Object.entries(MADE)) {
+      const known = node.children.find(it => it.made === which);
       const style = this.computed(node.of, `::${which}`);
       if (/^(?:none|normal)$/.test(style.content) || style.display === "none") {
-        (node.unmade = node.unmade || []).push(which);
+        if (!known) node.unmade.add(which);
         continue;
       }
+      node.unmade.delete(which);
       const text = contentText(style.content);
+      if (known) {
+        if (text !== known.content) {
+          this.findings.add("otherwise", `:${which} with another text at other widths`, `<${node.tag}>: ${short(style.content, 30)}`, {node});
+        }
+        continue;
+      }
       if (text === null) {
         this.findings.add("refused", `:${which} with ${short(style.content, 30)}`, `<${node.tag}>`, {node});
         continue;
@@ -93,6 +120,7 @@ class Tree {
       if (text) made.children.push({chars: text, parent: node.of, pseudo: `::${which}`});
       if (which === "before") node.children.unshift(made);
       else node.children.push(made);
+      place(made);
     }
   }
 

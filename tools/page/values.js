@@ -116,7 +116,7 @@ function wanted(node, values, set) {
   for (const name of ["width", "height", "min-width", "min-height", "max-width", "max-height"]) found[name] = contentSize(values, name);
   const natural = it => it.inner.every((size, at) => Math.abs(size - node.size[at]) < 0.04);
   const plain = found.width === "auto" && found.height === "auto";
-  if (node.replaced && values.inner && !(plain && node.samples.every(natural))) {
+  if (node.replaced && values.inner && !(plain && set.samplesOf(node).every(natural))) {
     ["width", "height"].forEach((name, at) => { if (found[name] === "auto") found[name] = values.inner[at]; });
   }
   for (const it of SIDES) for (const name of [`margin-${it}`, `padding-${it}`, `border-${it}-width`]) found[name] = values[name];
@@ -175,7 +175,7 @@ const REFUSED = {position: /^(?:relative|absolute|fixed)$/, display: /^(?:inline
 /** A copy of the job as the profile reads it, which is made to compute what the page computes. */
 class Copy {
   constructor(page, tree, texts, set) {
-    Object.assign(this, {tree, set, bearers: new Map()});
+    Object.assign(this, {tree, set, bearers: new Map(), numbers: 0});
     this.frame = new Blank(page);
     const copy = this.frame.page;
     const sheet = text => copy.head.appendChild(Object.assign(copy.createElement("style"), {textContent: text}));
@@ -183,6 +183,7 @@ class Copy {
     sheet(`@layer profile{${DEFAULTS}}`);
     this.world = sheet("");
     for (const text of texts) sheet(sheetRead(text, tree.kept));
+    this.turned = sheet("");
     copy.body.remove();
     const element = (node, into) => {
       for (const [name, value] of Object.entries(node.attrs)) if (name !== "src") into.setAttribute(name, value);
@@ -200,6 +201,12 @@ class Copy {
   }
 
   end() { this.frame.end(); }
+
+  /** Makes the copy's viewport as wide as at a world. */
+  stand(at) {
+    this.frame.frame.style.setProperty("width", `${this.set.worlds[at][0]}px`, "important");
+    this.world.textContent = `html{--vizlog-size:${this.set.worlds[at][1]}px}`;
+  }
 
   styleOf(of) { return this.frame.frame.contentWindow.getComputedStyle(of); }
 
@@ -219,7 +226,7 @@ class Copy {
 
   /** Says at each element, at the present world, what the copy computes otherwise than the page; in rounds, since children inherit. */
   settle(at) {
-    this.world.textContent = `html{--vizlog-size:${this.set.worlds[at][1]}px}`;
+    this.stand(at);
     for (let round = 0; round < 64; round++) {
       const changes = [];
       const visit = (node, above) => {
@@ -229,16 +236,25 @@ class Copy {
         for (const name of differ) {
           if (!(INHERITED.has(name) && above.has(name)) && !this.waits(name, differ, above)) changes.push([node, name]);
         }
-        if (this.hidden(node)) return;
+        if (this.hiddenAt(node, at)) return;
         const passed = new Set([...differ, ...node.unsaid || []]);
         for (const child of node.children || []) if (child.tag) visit(child, passed);
       };
       visit(this.tree.root, new Set());
       if (!changes.filter(([node, name]) => this.say(node, name)).length) return;
+      this.turn();
     }
   }
 
-  hidden(node) { return node.display === "none"; }
+  comes(node) { return this.tree.kept && MADE[node.made] !== undefined; }
+  hiddenAt(node, at) { return node.display === "none" || this.set.wantedAt(node, at).display === "none"; }
+
+  /** Puts what is said by steps into the copy. */
+  turn() {
+    const found = [...this.bearers].filter(([, bearer]) => bearer.hasAttribute(TURNED_AT));
+    this.turned.textContent = found.flatMap(([node, bearer]) =>
+      rulesBySteps(`[${TURNED_AT}="${bearer.getAttribute(TURNED_AT)}"]`, node.pins)).join("\n");
+  }
 
   /** Lengths in em wait until the font has its size. */
   waits(name, differ, above) {
@@ -247,7 +263,8 @@ class Copy {
   }
 
   differences(node, mine, at) {
-    if (this.hidden(node)) return new Set(mine.display === "none" ? [] : ["display"]);
+    // generated content that stays as it is comes and goes by the sheets' own rules
+    if (this.hiddenAt(node, at)) return new Set(mine.display === "none" || this.comes(node) ? [] : ["display"]);
     const theirs = this.set.wantedAt(node, at);
     const found = new Set();
     for (const [name, value] of Object.entries(theirs)) {
@@ -265,40 +282,50 @@ class Copy {
   /** Says a value at an element; false where it can't be said. */
   say(node, name) {
     if (node.pins.has(name) && name !== "display") return this.cannot(node, name);
-    let value;
-    if (this.hidden(node)) value = "none";
-    else {
-      const found = this.set.worlds.map((_, at) => this.set.wantedAt(node, at)[name]);
-      const around = name === "font-size" ? this.set.sizesAround(node) : this.set.sizesOf(node);
-      value = name === "font-family" ? JSON.stringify(found[0]) : fitted(found, around);
-      if (value === null && name === "font-size") value = this.rounded(node, found, around);
-      if (value !== null && REFUSED[name] && REFUSED[name].test(value)) return this.cannot(node, name);
-      if (name === "display" && /^(?:contents)$/.test(value)) return this.cannot(node, name, value);
-    }
-    if (value === null || node.pins.get(name) === value) return this.cannot(node, name);
+    const value = this.valueOf(node, name);
+    const each = value instanceof BySteps ? value.values : [value];
+    if (each.includes(null) || each.some(it => REFUSED[name] && REFUSED[name].test(it)) || String(node.pins.get(name)) === String(value)
+        || name === "display" && each.includes("contents")) return this.cannot(node, name);
     this.put(node, name, value);
     return true;
   }
 
+  /** A value in the profile's words: one for all worlds, or one for each step of the width; null where there is none. */
+  valueOf(node, name) {
+    if (node.display === "none") return "none";
+    const {worlds, ladders} = this.set;
+    const shown = name === "display" && !this.comes(node) ? worlds.map((_, at) => at) : this.set.shownAt(node);
+    const found = bySteps(ladders, worlds, shown, at => this.fitted(node, name, at));
+    return found === null && name === "font-size" ? this.rounded(node, shown) : found;
+  }
+
+  /** A value in the profile's words for some worlds. */
+  fitted(node, name, at) {
+    const found = at.map(it => this.set.wantedAt(node, it)[name]);
+    if (name === "font-family") return JSON.stringify(found[0]);
+    return fitted(found, name === "font-size" ? this.set.sizesAround(node, at) : this.set.sizesOf(node, at));
+  }
+
   put(node, name, value) {
     node.pins.set(name, value);
-    const style = this.bearers.get(node).style;
-    style.setProperty(name, name === "font-family" ? `vizlog-none,${value}` : value, "important");
     if (/^border-.*-width$/.test(name)) {
-      const kind = name.replace("width", "style");
-      node.pins.set(kind, value === "0px" ? "none" : "solid");
-      style.setProperty(kind, node.pins.get(kind), "important");
+      const kind = it => it === "0px" ? "none" : "solid";
+      node.pins.set(name.replace("width", "style"), value instanceof BySteps ? value.map(kind) : kind(value));
     }
-    this.set.told(node, name, value);
+    const bearer = this.bearers.get(node);
+    if (value instanceof BySteps) bearer.setAttribute(TURNED_AT, bearer.getAttribute(TURNED_AT) ?? String(this.numbers++));
+    for (const [one, it] of single(node.pins)) bearer.style.setProperty(one, one === "font-family" ? `vizlog-none,${it}` : it, "important");
+    this.set.told(node, name, String(value));
   }
 
   /** A font size that the browser rounds to whole px (those of the generic family monospace): as it is in the middle of the range. */
-  rounded(node, found, around) {
-    const ratios = found.map((it, at) => it / around[at]).sort((a, b) => a - b);
+  rounded(node, at) {
+    const found = at.map(it => this.set.wantedAt(node, it)["font-size"]), around = this.set.sizesAround(node, at);
+    const ratios = found.map((it, place) => it / around[place]).sort((a, b) => a - b);
     const middle = ratios[ratios.length >> 1];
-    const most = Math.max(...found.map((it, at) => Math.abs(it - middle * around[at])));
+    const most = Math.max(...found.map((it, place) => Math.abs(it - middle * around[place])));
     if (most > 0.6) return null;
-    (node.unsaid = node.unsaid || new Set()).add(name);
+    (node.unsaid = node.unsaid || new Set()).add("font-size");
     const off = `${called(node)}, up to ${most.toFixed(2)} px`;
     this.set.findings.add("otherwise", "a font size that the browser rounds to whole px", off, {node});
     return `${+middle.toFixed(6)}em`;
