@@ -494,7 +494,7 @@ TABLES = {
     "job_cases": ("lay", "check", "prove", "finding", "gen", "trial", "run"),
     "layout_cases": (
         "boxes", "used", "fonts", "words", "widths", "preferred", "lines", "lead", "float_at", "floats", "band", "bottom", "collapsed",
-        "add_scaled", "negate", "divides", "cut", "derivation", "entails", "leaf",
+        "add_scaled", "negate", "divides", "cut", "derivation", "entails", "leaf", "pieces",
     ),
 }
 

@@ -3,10 +3,11 @@
 The folder has files of JSON Lines: functions.jsonl, whose lines have a `call` (float_at, band, bottom, collapsed; used, fonts, widths,
 preferred and lead, which have a box tree, its height and a world; and others, which are left out), boxes.jsonl, whose lines have a page,
 style sheets, the names of fonts and a box tree or a fault, rows.jsonl, whose lines have a call too (add_scaled, negate, divides, cut), and
-derivations.jsonl and entails.jsonl; and trees.jsonl, whose lines have a box tree and its renderings at some worlds. A row goes as its constant and its terms, numbers of more than 64 bits as texts; a derivation as a list of parts, each its
-steps and its end, which is null or a row: its two cases are the two latest parts that are not part of another. A box tree goes as a job
-whose page has it, and before what is called on it a line says so; trees that no document has are left out, and told with their number.
-A rendering goes as what is printed of it.
+derivations.jsonl and entails.jsonl; pieces.jsonl and pieces17.jsonl, of texts that are read as certificates piece by piece; and
+trees.jsonl, whose lines have a box tree and its renderings at some worlds. A row goes as its constant and its terms, numbers of more than
+64 bits as texts; a derivation as a list of parts, each its steps and its end, which is null or a row: its two cases are the two latest
+parts that are not part of another. A box tree goes as a job whose page has it, and before what is called on it a line says so; trees that
+no document has are left out, and told with their number. A rendering goes as what is printed of it.
 """
 import json
 import sys
@@ -151,6 +152,13 @@ def entails(case):
     return [[row(fact) for fact in case["facts"]], case["vars"], parts_of(case["derivation"].split("\n")), row(case["row"])], answer
 
 
+def pieces(case):
+    """The pieces of a text, each with the bytes taken, and where this ends: behind a certificate, or where no certificate's text goes on."""
+    told = [[f"Head {piece[1]}" if piece[0] == "Head" else piece[0], taken] for piece, taken in case["pieces"]]
+    taken = told[-1][1] if told else 0
+    return [case["text"]], [*told, ["End", taken] if "rest" in case else ["Grammar", int(case["fault"].split()[1])]]
+
+
 CALLS = {call.__name__: call for call in (float_at, band, bottom, collapsed, add_scaled, negate, divides, cut)}
 
 
@@ -159,9 +167,10 @@ def lines(folder, name):
 
 
 def cases(folder):
-    for name in ("functions", "rows", "derivations", "entails", "boxes"):
+    of_file = {"derivations": derivation, "entails": entails, "boxes": boxes, "pieces": pieces, "pieces17": pieces}
+    for name in ("functions", "rows", *of_file):
         for case in lines(folder, name):
-            call = CALLS.get(case["call"]) if "call" in case else {"derivations": derivation, "entails": entails, "boxes": boxes}[name]
+            call = CALLS.get(case["call"]) if "call" in case else of_file[name]
             if call is not None:
                 arguments, answer = call(case)
                 yield [call.__name__] + arguments, answer

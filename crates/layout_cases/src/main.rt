@@ -10,6 +10,7 @@ mod leaves;
 mod lengths;
 mod lines;
 mod margins;
+mod pieces;
 mod rows;
 mod styles;
 mod trees;
@@ -28,6 +29,7 @@ fn answer_row(scribe: &mut Scribe, name: &str, case: &Value) {
         "derivation" => derivations::judged(scribe, case),
         "entails" => derivations::entailed(scribe, case),
         "leaf" => leaves::judged(scribe, case),
+        "pieces" => pieces::told(scribe, case),
         _ => trees::answer(scribe, name, case),
     }
 }
