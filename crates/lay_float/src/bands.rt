@@ -1,7 +1,7 @@
 ghost use Rattle.std.specs.Prelude.{◌≡◌, ⊤, None, IsTrue, is_some, ◌||◌};
 ghost use Rattle.std.specs.List.{list_any};
 ghost use Rattle.viz_calc.specs.World.{Reading};
-ghost use Rattle.viz_calc.specs.Run.{Goes, Blames};
+ghost use Rattle.viz_calc.specs.Run.{Goes, Blames, Lays};
 ghost use Rattle.viz_calc.specs.Renderings.{band_at};
 ghost use Rattle.lay_float.specs.Readings.{box_at, boxes_at};
 ghost use Rattle.lay_float.specs.steps.Bands.{meets_between, narrowed, room_beside, room_from, is_relevant_side, lower, lowest_from};
@@ -27,10 +27,8 @@ pub fn meets_between<S: Steady>(
     end: &S::Num,
     f: &PlacedFloat<S::Num>,
 ) -> bool
-    ensures goes { Goes (S.run calc.old) (S.run calc.new) }
-    ensures value { (e : Reading) → IsTrue ((S.run calc.new).is_open e) → result
-        ≡ meets_between (S.at y.now e) (S.at end.now e) (box_at S.at f.now e) }
-    ensures cause { Blames (S.run calc.old) (S.run calc.new) ⊤ }
+    ensures { Lays S.run calc.old calc.new (λ e. result)
+        (λ e. meets_between (S.at y.now e) (S.at end.now e) (box_at S.at f.now e)) (λ e. ⊤) }
 {
     !calc.le(&f.outer.bottom, y)
         && !calc.le(end, &f.outer.top)
@@ -44,10 +42,8 @@ fn narrowed<'a, S: Steady>(
     edge: &'a S::Num,
     room: Room<'a, S::Num>,
 ) -> Room<'a, S::Num>
-    ensures goes { Goes (S.run calc.old) (S.run calc.new) }
-    ensures value { (e : Reading) → IsTrue ((S.run calc.new).is_open e) → room_at S.at result e
-        ≡ narrowed side (S.at edge.now e) (room_at S.at room.entry e) }
-    ensures cause { Blames (S.run calc.old) (S.run calc.new) ⊤ }
+    ensures { Lays S.run calc.old calc.new (room_at S.at result)
+        (λ e. narrowed side (S.at edge.now e) (room_at S.at room.entry e)) (λ e. ⊤) }
 {
     let Room { left, right } = room;
     match side {
@@ -71,11 +67,9 @@ fn room_beside<'a, S: Steady>(
     room: Room<'a, S::Num>,
     f: &'a PlacedFloat<S::Num>,
 ) -> Room<'a, S::Num>
-    ensures goes { Goes (S.run calc.old) (S.run calc.new) }
-    ensures value { (e : Reading) → IsTrue ((S.run calc.new).is_open e)
-        → room_at S.at result e ≡ room_beside (S.at y.now e)
-        (S.at end.now e) (room_at S.at room.entry e) (box_at S.at f.now e) }
-    ensures cause { Blames (S.run calc.old) (S.run calc.new) ⊤ }
+    ensures { Lays S.run calc.old calc.new (room_at S.at result)
+        (λ e. room_beside (S.at y.now e) (S.at end.now e) (room_at S.at room.entry e) (box_at S.at f.now e))
+        (λ e. ⊤) }
 {
     if meets_between(calc, y, end, f) {
         narrowed(calc, f.side, facing(f), room)
@@ -92,11 +86,9 @@ pub fn room_between<'a, S: Steady>(
     y: &S::Num,
     end: &S::Num,
 ) -> Room<'a, S::Num>
-    ensures goes { Goes (S.run calc.old) (S.run calc.new) }
-    ensures value { (e : Reading) → IsTrue ((S.run calc.new).is_open e)
-        → room_at S.at result e ≡ room_from (S.at y.now e) (S.at end.now e) (boxes_at S.at floats.now e)
-        (band_at S.at cb.now e) }
-    ensures cause { Blames (S.run calc.old) (S.run calc.new) ⊤ }
+    ensures { Lays S.run calc.old calc.new (room_at S.at result)
+        (λ e. room_from (S.at y.now e) (S.at end.now e) (boxes_at S.at floats.now e) (band_at S.at cb.now e))
+        (λ e. ⊤) }
 {
     let mut room = Room {
         left: &cb.left,
@@ -115,10 +107,8 @@ pub fn any_between<S: Steady>(
     y: &S::Num,
     end: &S::Num,
 ) -> bool
-    ensures goes { Goes (S.run calc.old) (S.run calc.new) }
-    ensures value { (e : Reading) → IsTrue ((S.run calc.new).is_open e)
-        → result ≡ list_any (meets_between (S.at y.now e) (S.at end.now e)) (boxes_at S.at floats.now e) }
-    ensures cause { Blames (S.run calc.old) (S.run calc.new) ⊤ }
+    ensures { Lays S.run calc.old calc.new (λ e. result)
+        (λ e. list_any (meets_between (S.at y.now e) (S.at end.now e)) (boxes_at S.at floats.now e)) (λ e. ⊤) }
 {
     for f in floats {
         if meets_between(calc, y, end, f) {

@@ -2,7 +2,7 @@
 //! brought together. From bottom to bottom a place is looked for only among few, where that asks the least.
 ghost use Rattle.std.specs.Prelude.{◌≡◌, ◌≤◌, ⊤, IsTrue, length};
 ghost use Rattle.viz_calc.specs.World.{Reading};
-ghost use Rattle.viz_calc.specs.Run.{Goes, Blames};
+ghost use Rattle.viz_calc.specs.Run.{Goes, Blames, Lays};
 ghost use Rattle.viz_calc.specs.Renderings.{band_at};
 ghost use Rattle.lay_float.specs.Readings.{box_at, boxes_at};
 ghost use Rattle.lay_float.specs.steps.Lent.{place_at, bracket_at, FitsAnywhere, KeepsBrackets};
@@ -35,10 +35,8 @@ pub struct Bracket<'a, N> {
 
 /// Whether a bottom is not between the two tops, so that nothing is to be learnt there.
 fn is_settled<S: Steady>(calc: &mut S, bracket: &Bracket<'_, S::Num>, bottom: &S::Num) -> bool
-    ensures goes { Goes (S.run calc.old) (S.run calc.new) }
-    ensures value { (e : Reading) → IsTrue ((S.run calc.new).is_open e) → result
-        ≡ is_settled (bracket_at S.at bracket.now e) (S.at bottom.now e) }
-    ensures cause { Blames (S.run calc.old) (S.run calc.new) ⊤ }
+    ensures { Lays S.run calc.old calc.new (λ e. result)
+        (λ e. is_settled (bracket_at S.at bracket.now e) (S.at bottom.now e)) (λ e. ⊤) }
 {
     if calc.le(bottom, bracket.taken) {
         return true;

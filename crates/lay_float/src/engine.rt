@@ -3,7 +3,8 @@ ghost use Rattle.std.specs.Prelude.{◌≡◌, ◌+ℤ◌, ◌∷◌, [], ◌++�
 ghost use Rattle.std.specs.List.{list_any};
 ghost use Rattle.std.specs.Option.{option_to_list};
 ghost use Rattle.viz_calc.specs.World.{Reading};
-ghost use Rattle.viz_calc.specs.Run.{Stands, Goes, Blames, BlamesButMem, Fits};
+ghost use Rattle.viz_calc.specs.State.{AllSmall};
+ghost use Rattle.viz_calc.specs.Run.{Goes, Blames, BlamesButMem, Lays, LaysButMem};
 ghost use Rattle.viz_calc.specs.Renderings.{spot_at, band_at as stretch_at};
 ghost use Rattle.layout_semantics.specs.Extremes.{greatest_from};
 ghost use Rattle.layout_semantics.specs.Floats.{placed_float, highest_top, float_at, float_top, meets, band_at, is_relevant, lowest_bottom};
@@ -28,10 +29,8 @@ fn highest_top<'a, S: Steady>(
     floats: &'a [PlacedFloat<S::Num>],
     top: &'a S::Num,
 ) -> &'a S::Num
-    ensures goes { Goes (S.run calc.old) (S.run calc.new) }
-    ensures value { Stands (S.run calc.new) (S.at result.now) (λ e. highest_top (boxes_at S.at floats.now e)
-        (S.at top.now e)) }
-    ensures cause { Blames (S.run calc.old) (S.run calc.new) ⊤ }
+    ensures { Lays S.run calc.old calc.new (S.at result.now)
+        (λ e. highest_top (boxes_at S.at floats.now e) (S.at top.now e)) (λ e. ⊤) }
 {
     let mut best = top;
     for f in floats {
@@ -47,12 +46,10 @@ fn spot_on<S: Steady>(
     width: &S::Num,
     place: &Place<'_, S::Num>,
 ) -> Spot<S::Num>
-    ensures goes { Goes (S.run calc.old) (S.run calc.new) }
-    ensures value { (e : Reading) → IsTrue ((S.run calc.new).is_open e) → spot_at S.at result e
-        ≡ spot_on side (S.at width.now e) (place_at S.at place.now e) }
-    ensures cause { Blames (S.run calc.old) (S.run calc.new)
-        (Fits (S.run calc.old) (λ e. (spot_on side (S.at width.now e) (place_at S.at place.now e)).x
-        ∷ S.at place.now.top.now e ∷ [])) }
+    ensures { Lays S.run calc.old calc.new (spot_at S.at result)
+        (λ e. spot_on side (S.at width.now e) (place_at S.at place.now e))
+        (λ e. AllSmall
+        ((spot_on side (S.at width.now e) (place_at S.at place.now e)).x ∷ S.at place.now.top.now e ∷ [])) }
 {
     let x = match side {
         Side::Left => calc.copy(place.edge),
@@ -72,13 +69,11 @@ pub fn float_at<S: Steady>(
     cb: &Band<S::Num>,
     top: &S::Num,
 ) -> Spot<S::Num>
-    ensures goes { Goes (S.run calc.old) (S.run calc.new) }
-    ensures value { (e : Reading) → IsTrue ((S.run calc.new).is_open e)
-        → spot_at S.at result e ≡ float_at (boxes_at S.at floats.now e) side (extent_at S.at size.now e)
-        (stretch_at S.at cb.now e) (S.at top.now e) }
-    ensures cause { Blames (S.run calc.old) (S.run calc.new) ((e : Reading) → IsTrue ((S.run calc.old).is_open e)
-        → AreHalf (boxes_at S.at floats.now e) (S.at size.now.width e ∷ S.at cb.now.left e ∷ S.at cb.now.right e
-        ∷ S.at top.now e ∷ [])) }
+    ensures { Lays S.run calc.old calc.new (spot_at S.at result)
+        (λ e. float_at (boxes_at S.at floats.now e) side (extent_at S.at size.now e) (stretch_at S.at cb.now e)
+        (S.at top.now e))
+        (λ e. AreHalf (boxes_at S.at floats.now e)
+        (S.at size.now.width e ∷ S.at cb.now.left e ∷ S.at cb.now.right e ∷ S.at top.now e ∷ [])) }
 {
     let high = highest_top(calc, floats, top);
     // Tops only go down: what ends above the first top that is tried meets none of them.
@@ -94,12 +89,11 @@ fn outer_box<S: Steady>(
     size: &Extent<S::Num>,
     spot: &Spot<S::Num>,
 ) -> PlacedFloat<S::Num>
-    ensures goes { Goes (S.run calc.old) (S.run calc.new) }
-    ensures value { (e : Reading) → IsTrue ((S.run calc.new).is_open e)
-        → box_at S.at result e ≡ placed_float side (extent_at S.at size.now e) (spot_at S.at spot.now e) }
-    ensures cause { Blames (S.run calc.old) (S.run calc.new) (Fits (S.run calc.old) (λ e.
-        S.at spot.now.x e ∷ S.at spot.now.y e ∷ (S.at spot.now.x e +ℤ S.at size.now.width e) ∷
-        (S.at spot.now.y e +ℤ S.at size.now.height e) ∷ [])) }
+    ensures { Lays S.run calc.old calc.new (box_at S.at result)
+        (λ e. placed_float side (extent_at S.at size.now e) (spot_at S.at spot.now e))
+        (λ e. AllSmall
+        (S.at spot.now.x e ∷ S.at spot.now.y e ∷ (S.at spot.now.x e +ℤ S.at size.now.width e)
+        ∷ (S.at spot.now.y e +ℤ S.at size.now.height e) ∷ [])) }
 {
     let left = calc.copy(&spot.x);
     let top = calc.copy(&spot.y);
@@ -177,13 +171,10 @@ pub fn band<S: Steady>(
     y: &S::Num,
     h: &S::Num,
 ) -> Band<S::Num>
-    ensures goes { Goes (S.run calc.old) (S.run calc.new) }
-    ensures value { (e : Reading) → IsTrue ((S.run calc.new).is_open e)
-        → stretch_at S.at result e ≡ band_at (boxes_at S.at floats.now e) (stretch_at S.at cb.now e) (S.at y.now e)
-        (S.at h.now e) }
-    ensures cause { Blames (S.run calc.old) (S.run calc.new) ((e : Reading) → IsTrue ((S.run calc.old).is_open e)
-        → AreHalf (boxes_at S.at floats.now e) (S.at cb.now.left e ∷ S.at cb.now.right e ∷ S.at y.now e ∷ S.at h.now e
-        ∷ [])) }
+    ensures { Lays S.run calc.old calc.new (stretch_at S.at result)
+        (λ e. band_at (boxes_at S.at floats.now e) (stretch_at S.at cb.now e) (S.at y.now e) (S.at h.now e))
+        (λ e. AreHalf (boxes_at S.at floats.now e)
+        (S.at cb.now.left e ∷ S.at cb.now.right e ∷ S.at y.now e ∷ S.at h.now e ∷ [])) }
 {
     let end = calc.add(y, h);
     let room = room_between(calc, floats, cb, y, &end);
@@ -200,11 +191,9 @@ pub fn meets_any<S: Steady>(
     y: &S::Num,
     h: &S::Num,
 ) -> bool
-    ensures goes { Goes (S.run calc.old) (S.run calc.new) }
-    ensures value { (e : Reading) → IsTrue ((S.run calc.new).is_open e)
-        → result ≡ list_any (meets (S.at y.now e) (S.at h.now e)) (boxes_at S.at floats.now e) }
-    ensures cause { Blames (S.run calc.old) (S.run calc.new)
-        (Fits (S.run calc.old) (λ e. (S.at y.now e +ℤ S.at h.now e) ∷ [])) }
+    ensures { Lays S.run calc.old calc.new (λ e. result)
+        (λ e. list_any (meets (S.at y.now e) (S.at h.now e)) (boxes_at S.at floats.now e))
+        (λ e. AllSmall ((S.at y.now e +ℤ S.at h.now e) ∷ [])) }
 {
     let end = calc.add(y, h);
     any_between(calc, floats, y, &end)
@@ -237,10 +226,9 @@ fn lowest_or<'a, S: Steady>(
     clear: Clear,
     y: &'a S::Num,
 ) -> &'a S::Num
-    ensures goes { Goes (S.run calc.old) (S.run calc.new) }
-    ensures value { Stands (S.run calc.new) (S.at result.now) (λ e. greatest_from (S.at y.now e)
-        (option_to_list (lowest_bottom clear (boxes_at S.at floats.now e)))) }
-    ensures cause { Blames (S.run calc.old) (S.run calc.new) ⊤ }
+    ensures { Lays S.run calc.old calc.new (S.at result.now)
+        (λ e. greatest_from (S.at y.now e) (option_to_list (lowest_bottom clear (boxes_at S.at floats.now e))))
+        (λ e. ⊤) }
 {
     match crate::bands::lowest_bottom(calc, floats, clear) {
         Some(below) => larger(calc, below, y),
@@ -257,11 +245,9 @@ pub fn float_top<S: Steady>(
     least: Option<&S::Num>,
     y: &S::Num,
 ) -> S::Num
-    ensures goes { Goes (S.run calc.old) (S.run calc.new) }
-    ensures value { Stands (S.run calc.new) (S.at result) (λ e. float_top clear (boxes_at S.at floats.now e)
-        (lent_at S.at least.entry e) (S.at y.now e)) }
-    ensures cause { Blames (S.run calc.old) (S.run calc.new) ((e : Reading) → IsTrue ((S.run calc.old).is_open e)
-        → AreHalf (boxes_at S.at floats.now e) (S.at y.now e ∷ option_to_list (lent_at S.at least.entry e))) }
+    ensures { Lays S.run calc.old calc.new (S.at result)
+        (λ e. float_top clear (boxes_at S.at floats.now e) (lent_at S.at least.entry e) (S.at y.now e))
+        (λ e. AreHalf (boxes_at S.at floats.now e) (S.at y.now e ∷ option_to_list (lent_at S.at least.entry e))) }
 {
     // Lines and blocks ask here alike, so that `clear` on a float means one thing.
     let lowest = lowest_or(calc, floats, clear, y);
@@ -276,10 +262,10 @@ pub fn float_top<S: Steady>(
 
 /// The same float again.
 fn copy_float<S: Steady>(calc: &mut S, f: &PlacedFloat<S::Num>) -> PlacedFloat<S::Num>
-    ensures goes { Goes (S.run calc.old) (S.run calc.new) }
-    ensures value { (e : Reading) → IsTrue ((S.run calc.new).is_open e) → box_at S.at result e ≡ box_at S.at f.now e }
-    ensures cause { Blames (S.run calc.old) (S.run calc.new) (Fits (S.run calc.old) (λ e.
-        S.at f.now.outer.left e ∷ S.at f.now.outer.top e ∷ S.at f.now.outer.right e ∷ S.at f.now.outer.bottom e ∷ [])) }
+    ensures { Lays S.run calc.old calc.new (box_at S.at result) (box_at S.at f.now)
+        (λ e. AllSmall
+        (S.at f.now.outer.left e ∷ S.at f.now.outer.top e ∷ S.at f.now.outer.right e ∷ S.at f.now.outer.bottom e
+        ∷ [])) }
 {
     let left = calc.copy(&f.outer.left);
     let top = calc.copy(&f.outer.top);
@@ -302,11 +288,8 @@ pub fn copy<S: Steady>(
     calc: &mut S,
     floats: &[PlacedFloat<S::Num>],
 ) -> Floats<S::Num>
-    ensures goes { Goes (S.run calc.old) (S.run calc.new) }
-    ensures value { (e : Reading) → IsTrue ((S.run calc.new).is_open e) → floats_at S.at result e
-        ≡ boxes_at S.at floats.now e }
-    ensures cause { BlamesButMem (S.run calc.old) (S.run calc.new) ((e : Reading)
-        → IsTrue ((S.run calc.old).is_open e) → AreHalf (boxes_at S.at floats.now e) []) }
+    ensures { LaysButMem S.run calc.old calc.new (floats_at S.at result) (boxes_at S.at floats.now)
+        (λ e. AreHalf (boxes_at S.at floats.now e) []) }
 {
     let mut out = Floats::new(alloc);
     for f in floats {

@@ -1,7 +1,7 @@
 ghost use Rattle.std.specs.Prelude.{◌≡◌, ⊤, IsTrue, true, is_some};
 ghost use Rattle.std.specs.Int.{int_max, int_min};
 ghost use Rattle.viz_calc.specs.World.{Reading};
-ghost use Rattle.viz_calc.specs.Run.{Stands, Goes, Blames};
+ghost use Rattle.viz_calc.specs.Run.{Goes, Blames, Lays};
 ghost use Rattle.lay_float.specs.steps.Lent.{lent_at};
 ghost use Rattle.lay_float.specs.steps.Shelves.{innermost, tighter};
 
@@ -10,18 +10,14 @@ use viz_calc::Steady;
 
 /// The greater of two numbers.
 pub fn larger<'a, S: Steady>(calc: &mut S, a: &'a S::Num, b: &'a S::Num) -> &'a S::Num
-    ensures goes { Goes (S.run calc.old) (S.run calc.new) }
-    ensures value { Stands (S.run calc.new) (S.at result.now) (λ e. int_max (S.at a.now e) (S.at b.now e)) }
-    ensures cause { Blames (S.run calc.old) (S.run calc.new) ⊤ }
+    ensures { Lays S.run calc.old calc.new (S.at result.now) (λ e. int_max (S.at a.now e) (S.at b.now e)) (λ e. ⊤) }
 {
     if calc.le(a, b) { b } else { a }
 }
 
 /// The lesser of two numbers.
 pub fn smaller<'a, S: Steady>(calc: &mut S, a: &'a S::Num, b: &'a S::Num) -> &'a S::Num
-    ensures goes { Goes (S.run calc.old) (S.run calc.new) }
-    ensures value { Stands (S.run calc.new) (S.at result.now) (λ e. int_min (S.at a.now e) (S.at b.now e)) }
-    ensures cause { Blames (S.run calc.old) (S.run calc.new) ⊤ }
+    ensures { Lays S.run calc.old calc.new (S.at result.now) (λ e. int_min (S.at a.now e) (S.at b.now e)) (λ e. ⊤) }
 {
     if calc.le(a, b) { a } else { b }
 }
@@ -33,9 +29,8 @@ pub fn innermost<'a, S: Steady>(
     a: &'a S::Num,
     b: &'a S::Num,
 ) -> &'a S::Num
-    ensures goes { Goes (S.run calc.old) (S.run calc.new) }
-    ensures value { Stands (S.run calc.new) (S.at result.now) (λ e. innermost side (S.at a.now e) (S.at b.now e)) }
-    ensures cause { Blames (S.run calc.old) (S.run calc.new) ⊤ }
+    ensures { Lays S.run calc.old calc.new (S.at result.now) (λ e. innermost side (S.at a.now e) (S.at b.now e))
+        (λ e. ⊤) }
 {
     match side {
         Side::Left => larger(calc, a, b),

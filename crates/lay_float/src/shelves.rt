@@ -1,6 +1,7 @@
 ghost use Rattle.std.specs.Prelude.{◌≡◌, ⊤, ◌∷◌, [], None, IsTrue, length};
 ghost use Rattle.viz_calc.specs.World.{Reading};
-ghost use Rattle.viz_calc.specs.Run.{Stands, Goes, Blames, Fits};
+ghost use Rattle.viz_calc.specs.State.{AllSmall};
+ghost use Rattle.viz_calc.specs.Run.{Goes, Blames, Lays};
 ghost use Rattle.viz_calc.specs.Renderings.{band_at};
 ghost use Rattle.lay_float.specs.Readings.{box_at, boxes_at};
 ghost use Rattle.lay_float.specs.steps.Lent.{lent_at, shelf_at, place_at, FitsAnywhere};
@@ -78,10 +79,8 @@ fn set_beside<'a, S: Steady>(
     shelf: Shelf<'a, S::Num>,
     f: &'a PlacedFloat<S::Num>,
 ) -> Shelf<'a, S::Num>
-    ensures goes { Goes (S.run calc.old) (S.run calc.new) }
-    ensures value { (e : Reading) → IsTrue ((S.run calc.new).is_open e) → shelf_at S.at result e
-        ≡ set_beside side (shelf_at S.at shelf.entry e) (box_at S.at f.now e) }
-    ensures cause { Blames (S.run calc.old) (S.run calc.new) ⊤ }
+    ensures { Lays S.run calc.old calc.new (shelf_at S.at result)
+        (λ e. set_beside side (shelf_at S.at shelf.entry e) (box_at S.at f.now e)) (λ e. ⊤) }
 {
     let inner = facing(f);
     let Shelf {
@@ -117,10 +116,8 @@ fn with_float<'a, S: Steady>(
     shelf: Shelf<'a, S::Num>,
     f: &'a PlacedFloat<S::Num>,
 ) -> Shelf<'a, S::Num>
-    ensures goes { Goes (S.run calc.old) (S.run calc.new) }
-    ensures value { (e : Reading) → IsTrue ((S.run calc.new).is_open e) → shelf_at S.at result e
-        ≡ with_float side (S.at y.now e) (shelf_at S.at shelf.entry e) (box_at S.at f.now e) }
-    ensures cause { Blames (S.run calc.old) (S.run calc.new) ⊤ }
+    ensures { Lays S.run calc.old calc.new (shelf_at S.at result)
+        (λ e. with_float side (S.at y.now e) (shelf_at S.at shelf.entry e) (box_at S.at f.now e)) (λ e. ⊤) }
 {
     // The bottom alone is asked: no top is below the height that is tried.
     if calc.le(&f.outer.bottom, y) {
@@ -138,11 +135,8 @@ fn shelf_on<'a, S: Steady>(
     cb: &'a Band<S::Num>,
     y: &S::Num,
 ) -> Shelf<'a, S::Num>
-    ensures goes { Goes (S.run calc.old) (S.run calc.new) }
-    ensures value { (e : Reading) → IsTrue ((S.run calc.new).is_open e)
-        → shelf_at S.at result e ≡ shelf_on (boxes_at S.at floats.now e) side (band_at S.at cb.now e)
-        (S.at y.now e) }
-    ensures cause { Blames (S.run calc.old) (S.run calc.new) ⊤ }
+    ensures { Lays S.run calc.old calc.new (shelf_at S.at result)
+        (λ e. shelf_on (boxes_at S.at floats.now e) side (band_at S.at cb.now e) (S.at y.now e)) (λ e. ⊤) }
 {
     let mut shelf = Shelf {
         edge: side_edge(cb, side),
@@ -163,10 +157,8 @@ fn limit_of<'a, S: Steady>(
     limit: Option<&'a S::Num>,
     is_bounded: bool,
 ) -> Option<&'a S::Num>
-    ensures goes { Goes (S.run calc.old) (S.run calc.new) }
-    ensures value { (e : Reading) → IsTrue ((S.run calc.new).is_open e)
-        → lent_at S.at result e ≡ limit_of side (band_at S.at cb.now e) is_bounded (lent_at S.at limit.entry e) }
-    ensures cause { Blames (S.run calc.old) (S.run calc.new) ⊤ }
+    ensures { Lays S.run calc.old calc.new (lent_at S.at result)
+        (λ e. limit_of side (band_at S.at cb.now e) is_bounded (lent_at S.at limit.entry e)) (λ e. ⊤) }
 {
     // Rule 7 binds only a float with another of its side before it: a wide one alone may stick out.
     if is_bounded {
@@ -179,10 +171,8 @@ fn limit_of<'a, S: Steady>(
 
 /// The other edge of a float that stands at an edge.
 fn far_edge<S: Steady>(calc: &mut S, side: Side, edge: &S::Num, width: &S::Num) -> S::Num
-    ensures goes { Goes (S.run calc.old) (S.run calc.new) }
-    ensures value { Stands (S.run calc.new) (S.at result) (λ e. far_edge side (S.at edge.now e) (S.at width.now e)) }
-    ensures cause { Blames (S.run calc.old) (S.run calc.new)
-        (Fits (S.run calc.old) (λ e. far_edge side (S.at edge.now e) (S.at width.now e) ∷ [])) }
+    ensures { Lays S.run calc.old calc.new (S.at result) (λ e. far_edge side (S.at edge.now e) (S.at width.now e))
+        (λ e. AllSmall (far_edge side (S.at edge.now e) (S.at width.now e) ∷ [])) }
 {
     match side {
         Side::Left => calc.add(edge, width),
@@ -192,10 +182,8 @@ fn far_edge<S: Steady>(calc: &mut S, side: Side, edge: &S::Num, width: &S::Num) 
 
 /// Whether an edge does not pass a limit.
 fn reaches_to<S: Steady>(calc: &mut S, side: Side, edge: &S::Num, limit: &S::Num) -> bool
-    ensures goes { Goes (S.run calc.old) (S.run calc.new) }
-    ensures value { (e : Reading) → IsTrue ((S.run calc.new).is_open e) → result
-        ≡ reaches_to side (S.at edge.now e) (S.at limit.now e) }
-    ensures cause { Blames (S.run calc.old) (S.run calc.new) ⊤ }
+    ensures { Lays S.run calc.old calc.new (λ e. result) (λ e. reaches_to side (S.at edge.now e) (S.at limit.now e))
+        (λ e. ⊤) }
 {
     match side {
         Side::Left => calc.le(edge, limit),
@@ -211,11 +199,9 @@ fn stays_within<S: Steady>(
     edge: &S::Num,
     limit: Option<&S::Num>,
 ) -> bool
-    ensures goes { Goes (S.run calc.old) (S.run calc.new) }
-    ensures value { (e : Reading) → IsTrue ((S.run calc.new).is_open e)
-        → result ≡ stays_within side (far_edge side (S.at edge.now e) (S.at width.now e)) (lent_at S.at limit.entry e) }
-    ensures cause { Blames (S.run calc.old) (S.run calc.new)
-        (Fits (S.run calc.old) (λ e. far_edge side (S.at edge.now e) (S.at width.now e) ∷ [])) }
+    ensures { Lays S.run calc.old calc.new (λ e. result)
+        (λ e. stays_within side (far_edge side (S.at edge.now e) (S.at width.now e)) (lent_at S.at limit.entry e))
+        (λ e. AllSmall (far_edge side (S.at edge.now e) (S.at width.now e) ∷ [])) }
 {
     match limit {
         None => true,
@@ -235,11 +221,9 @@ fn is_free<'a, S: Steady>(
     cb: &'a Band<S::Num>,
     shelf: &Shelf<'a, S::Num>,
 ) -> bool
-    ensures goes { Goes (S.run calc.old) (S.run calc.new) }
-    ensures value { (e : Reading) → IsTrue ((S.run calc.new).is_open e)
-        → result ≡ is_free side (S.at width.now e) (band_at S.at cb.now e) (shelf_at S.at shelf.now e) }
-    ensures cause { Blames (S.run calc.old) (S.run calc.new)
-        (Fits (S.run calc.old) (λ e. far_edge side (S.at shelf.now.edge.now e) (S.at width.now e) ∷ [])) }
+    ensures { Lays S.run calc.old calc.new (λ e. result)
+        (λ e. is_free side (S.at width.now e) (band_at S.at cb.now e) (shelf_at S.at shelf.now e))
+        (λ e. AllSmall (far_edge side (S.at shelf.now.edge.now e) (S.at width.now e) ∷ [])) }
 {
     let limit = limit_of(calc, side, cb, shelf.limit, shelf.is_bounded);
     stays_within(calc, side, width, shelf.edge, limit)
@@ -253,10 +237,8 @@ fn sooner<'a, S: Steady>(
     best: Option<&'a S::Num>,
     f: &'a PlacedFloat<S::Num>,
 ) -> Option<&'a S::Num>
-    ensures goes { Goes (S.run calc.old) (S.run calc.new) }
-    ensures value { (e : Reading) → IsTrue ((S.run calc.new).is_open e) → lent_at S.at result e
-        ≡ sooner (S.at y.now e) (lent_at S.at best.entry e) (box_at S.at f.now e) }
-    ensures cause { Blames (S.run calc.old) (S.run calc.new) ⊤ }
+    ensures { Lays S.run calc.old calc.new (lent_at S.at result)
+        (λ e. sooner (S.at y.now e) (lent_at S.at best.entry e) (box_at S.at f.now e)) (λ e. ⊤) }
 {
     if calc.le(&f.outer.bottom, y) {
         best
@@ -271,10 +253,8 @@ pub fn soonest<'a, S: Steady>(
     floats: &'a [PlacedFloat<S::Num>],
     y: &S::Num,
 ) -> Option<&'a S::Num>
-    ensures goes { Goes (S.run calc.old) (S.run calc.new) }
-    ensures value { (e : Reading) → IsTrue ((S.run calc.new).is_open e) → lent_at S.at result e
-        ≡ soonest (S.at y.now e) (boxes_at S.at floats.now e) None }
-    ensures cause { Blames (S.run calc.old) (S.run calc.new) ⊤ }
+    ensures { Lays S.run calc.old calc.new (lent_at S.at result)
+        (λ e. soonest (S.at y.now e) (boxes_at S.at floats.now e) None) (λ e. ⊤) }
 {
     let mut best = None;
     for f in floats {
@@ -289,10 +269,8 @@ fn next_top<'a, S: Steady>(
     floats: &'a [PlacedFloat<S::Num>],
     y: &'a S::Num,
 ) -> &'a S::Num
-    ensures goes { Goes (S.run calc.old) (S.run calc.new) }
-    ensures value { Stands (S.run calc.new) (S.at result.now) (λ e. next_top (boxes_at S.at floats.now e)
-        (S.at y.now e)) }
-    ensures cause { Blames (S.run calc.old) (S.run calc.new) ⊤ }
+    ensures { Lays S.run calc.old calc.new (S.at result.now)
+        (λ e. next_top (boxes_at S.at floats.now e) (S.at y.now e)) (λ e. ⊤) }
 {
     match soonest(calc, floats, y) {
         Some(next) => next,
@@ -332,11 +310,8 @@ pub fn farthest<'a, S: Steady>(
     cb: &'a Band<S::Num>,
     y: &'a S::Num,
 ) -> Place<'a, S::Num>
-    ensures goes { Goes (S.run calc.old) (S.run calc.new) }
-    ensures value { (e : Reading) → IsTrue ((S.run calc.new).is_open e)
-        → place_at S.at result e ≡ place_on (boxes_at S.at floats.now e) side (band_at S.at cb.now e)
-        (S.at y.now e) }
-    ensures cause { Blames (S.run calc.old) (S.run calc.new) ⊤ }
+    ensures { Lays S.run calc.old calc.new (place_at S.at result)
+        (λ e. place_on (boxes_at S.at floats.now e) side (band_at S.at cb.now e) (S.at y.now e)) (λ e. ⊤) }
 {
     let shelf = shelf_on(calc, floats, side, cb, y);
     Place {
@@ -351,10 +326,8 @@ pub fn open_from<'a, S: Steady>(
     floats: &'a [PlacedFloat<S::Num>],
     y: &S::Num,
 ) -> &'a [PlacedFloat<S::Num>]
-    ensures goes { Goes (S.run calc.old) (S.run calc.new) }
-    ensures value { (e : Reading) → IsTrue ((S.run calc.new).is_open e) → boxes_at S.at result.now e
-        ≡ open_from (S.at y.now e) (boxes_at S.at floats.now e) }
-    ensures cause { Blames (S.run calc.old) (S.run calc.new) ⊤ }
+    ensures { Lays S.run calc.old calc.new (boxes_at S.at result.now)
+        (λ e. open_from (S.at y.now e) (boxes_at S.at floats.now e)) (λ e. ⊤) }
 {
     let mut rest = floats;
     while let Some((first, others)) = rest.split_first() {

@@ -1,7 +1,7 @@
 //! Boxes in coordinates of their own: floats, atomic boxes and the root (CSS 2.1, 9.4.1, 9.5).
 ghost use Rattle.std.specs.Prelude.{◌≡◌, ◌<◌, length, IsTrue};
 ghost use Rattle.viz_calc.specs.World.{Reading};
-ghost use Rattle.viz_calc.specs.Run.{Stands, Goes, Blames, BlamesButMem};
+ghost use Rattle.viz_calc.specs.Run.{Stands, Goes, BlamesButMem, Lays, LaysButMem};
 ghost use Rattle.viz_calc.specs.Renderings.{placed_at};
 ghost use Rattle.layout_semantics.specs.FlowBoxes.{room_to};
 ghost use Rattle.layout_semantics.specs.Horizontal.{widths as widths_of};
@@ -132,11 +132,8 @@ fn corner_shape<S: Steady>(
 
 /// The size of a box's outer box.
 fn outer_extent<S: Steady>(calc: &mut S, placed: &Placed<S::Num>) -> Extent<S::Num>
-    ensures goes { Goes (S.run calc.old) (S.run calc.new) }
-    ensures value { (e : Reading) → IsTrue ((S.run calc.new).is_open e)
-        → extent_at S.at result e ≡ extent_of (placed_at S.at placed.now e) }
-    ensures cause { Blames (S.run calc.old) (S.run calc.new) ((e : Reading) → IsTrue ((S.run calc.old).is_open e)
-        → IsQuadIn near (placed_at S.at placed.now e).margin) }
+    ensures { Lays S.run calc.old calc.new (extent_at S.at result) (λ e. extent_of (placed_at S.at placed.now e))
+        (λ e. IsQuadIn near (placed_at S.at placed.now e).margin) }
 {
     let width = calc.sub(&placed.margin.right, &placed.margin.left);
     let height = calc.sub(&placed.margin.bottom, &placed.margin.top);
@@ -153,12 +150,9 @@ fn replaced_alone<S: Steady>(
     room: &S::Num,
     shape: &Shape<S::Num>,
 ) -> Alone<S::Num>
-    ensures goes { Goes (S.run calc.old) (S.run calc.new) }
-    ensures value { (e : Reading) → IsTrue ((S.run calc.new).is_open e) → alone_at S.at result e
-        ≡ replaced_alone_of page.now.tree.now e.world b (S.at room.now e)
-        (frame_at S.at shape.now e) }
-    ensures cause { BlamesButMem (S.run calc.old) (S.run calc.new) ((e : Reading) → IsTrue ((S.run calc.old).is_open e)
-        → IsReplacedFit page.now.tree.now e.world b (S.at room.now e)
+    ensures { LaysButMem S.run calc.old calc.new (alone_at S.at result)
+        (λ e. replaced_alone_of page.now.tree.now e.world b (S.at room.now e) (frame_at S.at shape.now e))
+        (λ e. IsReplacedFit page.now.tree.now e.world b (S.at room.now e)
         × IsFrameLow (frame_at S.at shape.now e)) }
 {
     let placed = replaced_box(calc, page, b, room, shape);

@@ -1,7 +1,6 @@
 //! Floats and atomic boxes, from coordinates of their own to their places (CSS 2.1, 9.5).
-ghost use Rattle.std.specs.Prelude.{◌≡◌, ◌++◌, IsTrue};
-ghost use Rattle.viz_calc.specs.World.{Reading};
-ghost use Rattle.viz_calc.specs.Run.{Goes, Blames, BlamesButMem};
+ghost use Rattle.std.specs.Prelude.{◌++◌};
+ghost use Rattle.viz_calc.specs.Run.{Lays, LaysButMem};
 ghost use Rattle.viz_calc.specs.Renderings.{placed_at, quad_at, spot_at};
 ghost use Rattle.layout_semantics.specs.Rectangles.{shifted, shifted_box, shifted_quad};
 ghost use Rattle.lay_frame.specs.Readings.{boxes_at};
@@ -20,11 +19,8 @@ use viz_calc::Steady;
 
 /// A size again.
 fn copy_extent<S: Steady>(calc: &mut S, size: &Extent<S::Num>) -> Extent<S::Num>
-    ensures goes { Goes (S.run calc.old) (S.run calc.new) }
-    ensures value { (e : Reading) → IsTrue ((S.run calc.new).is_open e)
-        → extent_at S.at result e ≡ extent_at S.at size.now e }
-    ensures cause { Blames (S.run calc.old) (S.run calc.new) ((e : Reading) → IsTrue ((S.run calc.old).is_open e)
-        → IsExtentIn reach (extent_at S.at size.now e)) }
+    ensures { Lays S.run calc.old calc.new (extent_at S.at result) (extent_at S.at size.now)
+        (λ e. IsExtentIn reach (extent_at S.at size.now e)) }
 {
     let width = calc.copy(&size.width);
     let height = calc.copy(&size.height);
@@ -34,11 +30,8 @@ fn copy_extent<S: Steady>(calc: &mut S, size: &Extent<S::Num>) -> Extent<S::Num>
 #[tactic(auto, unfolding(crate::specs::Readings::apart_at))]
 /// The outer size of a float or an atomic box.
 pub fn size_of<S: Steady>(calc: &mut S, apart: &[Option<Alone<S::Num>>], at: u32) -> Extent<S::Num>
-    ensures goes { Goes (S.run calc.old) (S.run calc.new) }
-    ensures value { (e : Reading) → IsTrue ((S.run calc.new).is_open e)
-        → extent_at S.at result e ≡ (apart_at S.at apart.now e at).size }
-    ensures cause { Blames (S.run calc.old) (S.run calc.new) ((e : Reading) → IsTrue ((S.run calc.old).is_open e)
-        → IsExtentIn reach (apart_at S.at apart.now e at).size) }
+    ensures { Lays S.run calc.old calc.new (extent_at S.at result) (λ e. (apart_at S.at apart.now e at).size)
+        (λ e. IsExtentIn reach (apart_at S.at apart.now e at).size) }
 {
     match apart.get(at as usize) {
         Some(Some(alone)) => copy_extent(calc, &alone.size),
@@ -52,11 +45,9 @@ pub fn size_of<S: Steady>(calc: &mut S, apart: &[Option<Alone<S::Num>>], at: u32
 
 /// A rectangle moved by a spot.
 fn shift_quad<S: Steady>(calc: &mut S, by: &Spot<S::Num>, quad: &Quad<S::Num>) -> Quad<S::Num>
-    ensures goes { Goes (S.run calc.old) (S.run calc.new) }
-    ensures value { (e : Reading) → IsTrue ((S.run calc.new).is_open e)
-        → quad_at S.at result e ≡ shifted_quad (spot_at S.at by.now e) (quad_at S.at quad.now e) }
-    ensures cause { Blames (S.run calc.old) (S.run calc.new) ((e : Reading) → IsTrue ((S.run calc.old).is_open e)
-        → IsSpotNear (spot_at S.at by.now e) × IsQuadIn reach (quad_at S.at quad.now e)) }
+    ensures { Lays S.run calc.old calc.new (quad_at S.at result)
+        (λ e. shifted_quad (spot_at S.at by.now e) (quad_at S.at quad.now e))
+        (λ e. IsSpotNear (spot_at S.at by.now e) × IsQuadIn reach (quad_at S.at quad.now e)) }
 {
     let left = calc.add(&quad.left, &by.x);
     let top = calc.add(&quad.top, &by.y);
@@ -72,11 +63,9 @@ fn shift_quad<S: Steady>(calc: &mut S, by: &Spot<S::Num>, quad: &Quad<S::Num>) -
 
 /// A box moved by a spot.
 fn shift_box<S: Steady>(calc: &mut S, by: &Spot<S::Num>, placed: &Placed<S::Num>) -> Placed<S::Num>
-    ensures goes { Goes (S.run calc.old) (S.run calc.new) }
-    ensures value { (e : Reading) → IsTrue ((S.run calc.new).is_open e)
-        → placed_at S.at result e ≡ shifted_box (spot_at S.at by.now e) (placed_at S.at placed.now e) }
-    ensures cause { Blames (S.run calc.old) (S.run calc.new) ((e : Reading) → IsTrue ((S.run calc.old).is_open e)
-        → IsSpotNear (spot_at S.at by.now e) × IsPlacedIn reach (placed_at S.at placed.now e)) }
+    ensures { Lays S.run calc.old calc.new (placed_at S.at result)
+        (λ e. shifted_box (spot_at S.at by.now e) (placed_at S.at placed.now e))
+        (λ e. IsSpotNear (spot_at S.at by.now e) × IsPlacedIn reach (placed_at S.at placed.now e)) }
 {
     let margin = shift_quad(calc, by, &placed.margin);
     let border = shift_quad(calc, by, &placed.border);
@@ -100,11 +89,9 @@ fn add_each<S: Steady>(
     boxes: &[Placed<S::Num>],
     out: &mut Vec<Placed<S::Num>>,
 )
-    ensures goes { Goes (S.run calc.old) (S.run calc.new) }
-    ensures value { (e : Reading) → IsTrue ((S.run calc.new).is_open e) → boxes_at S.at out.new.items e
-        ≡ boxes_at S.at out.old.items e ++ shifted (spot_at S.at by.now e) (boxes_at S.at boxes.now e) }
-    ensures cause { BlamesButMem (S.run calc.old) (S.run calc.new) ((e : Reading) → IsTrue ((S.run calc.old).is_open e)
-        → IsSpotNear (spot_at S.at by.now e) × AllByRecursion (IsPlacedIn reach) (boxes_at S.at boxes.now e)) }
+    ensures { LaysButMem S.run calc.old calc.new (boxes_at S.at out.new.items)
+        (λ e. boxes_at S.at out.old.items e ++ shifted (spot_at S.at by.now e) (boxes_at S.at boxes.now e))
+        (λ e. IsSpotNear (spot_at S.at by.now e) × AllByRecursion (IsPlacedIn reach) (boxes_at S.at boxes.now e)) }
 {
     for placed in boxes {
         // Moved once for each float or inline-block around it; nothing is laid out again.
@@ -122,11 +109,10 @@ pub fn add_apart<S: Steady>(
     by: &Spot<S::Num>,
     out: &mut Vec<Placed<S::Num>>,
 )
-    ensures goes { Goes (S.run calc.old) (S.run calc.new) }
-    ensures value { (e : Reading) → IsTrue ((S.run calc.new).is_open e) → boxes_at S.at out.new.items e
-        ≡ boxes_at S.at out.old.items e ++ shifted (spot_at S.at by.now e) (apart_at S.at apart.now e at).boxes }
-    ensures cause { BlamesButMem (S.run calc.old) (S.run calc.new) ((e : Reading) → IsTrue ((S.run calc.old).is_open e)
-        → IsSpotNear (spot_at S.at by.now e) × IsAloneLow (apart_at S.at apart.now e at)) }
+    ensures { LaysButMem S.run calc.old calc.new (boxes_at S.at out.new.items)
+        (λ e. boxes_at S.at out.old.items e
+        ++ shifted (spot_at S.at by.now e) (apart_at S.at apart.now e at).boxes)
+        (λ e. IsSpotNear (spot_at S.at by.now e) × IsAloneLow (apart_at S.at apart.now e at)) }
 {
     if let Some(Some(alone)) = apart.get(at as usize) {
         add_each(calc, by, alone.boxes.as_slice(), out);

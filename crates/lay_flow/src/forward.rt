@@ -1,9 +1,10 @@
 //! The margins that adjoin the top of a box that comes next, up to the first box that is cleared (CSS 2.1, 8.3.1,
 //! 9.5.2).
-ghost use Rattle.std.specs.Prelude.{◌≡◌, ◌<◌, ◌++◌, ◌∷◌, [], ⊤, ℕ, ℤ, length, slice_index_or, int_lt, false, IsTrue};
+ghost use Rattle.std.specs.Prelude.{◌≡◌, ◌<◌, ◌++◌, ◌∷◌, [], ⊤, ℕ, ℤ, length, slice_index_or, int_lt, false};
 ghost use Rattle.std.specs.Option.{option_map_or};
 ghost use Rattle.viz_calc.specs.World.{Reading};
-ghost use Rattle.viz_calc.specs.Run.{Stands, Goes, Fits, Blames, BlamesButMem};
+ghost use Rattle.viz_calc.specs.State.{AllSmall};
+ghost use Rattle.viz_calc.specs.Run.{Lays, LaysButMem};
 ghost use Rattle.viz_calc.specs.Renderings.{band_at};
 ghost use Rattle.layout_semantics.specs.Floats.{floating};
 ghost use Rattle.layout_semantics.specs.FlowBoxes.{clear_of, flow_children};
@@ -55,11 +56,9 @@ pub struct Way<'a, N> {
 
 /// The border edge at which a run ends.
 fn edge<S: Steady>(calc: &mut S, base: &Base<S::Num>, run: &Run<S::Num>) -> S::Num
-    ensures goes { Goes (S.run calc.old) (S.run calc.new) }
-    ensures value { Stands (S.run calc.new) (S.at result)
-        (λ e. edge_at (base_at S.at base.now e) (run_at S.at run.now e)) }
-    ensures cause { Blames (S.run calc.old) (S.run calc.new) ((e : Reading) → IsTrue ((S.run calc.old).is_open e)
-        → IsBaseLow (base_at S.at base.now e) × IsRunLow (run_at S.at run.now e)) }
+    ensures { Lays S.run calc.old calc.new (S.at result)
+        (λ e. edge_at (base_at S.at base.now e) (run_at S.at run.now e))
+        (λ e. IsBaseLow (base_at S.at base.now e) × IsRunLow (run_at S.at run.now e)) }
 {
     match base {
         Base::Hangs(edge) => {
@@ -95,11 +94,9 @@ fn hypothetical_edge<S: Steady>(
     run: &Run<S::Num>,
 ) -> S::Num
     requires { b < length way.now.page.now.tree.now.boxes }
-    ensures goes { Goes (S.run calc.old) (S.run calc.new) }
-    ensures value { Stands (S.run calc.new) (S.at result) (λ e. hypothetical_of (ground_at S.at way.now e)
-        (band_at S.at cb.now e) b (run_at S.at run.now e)) }
-    ensures cause { BlamesButMem (S.run calc.old) (S.run calc.new) ((e : Reading) → IsTrue ((S.run calc.old).is_open e)
-        → IsBaseLow (base_at S.at way.now.base.now e) × IsRunLow (run_at S.at run.now e)
+    ensures { LaysButMem S.run calc.old calc.new (S.at result)
+        (λ e. hypothetical_of (ground_at S.at way.now e) (band_at S.at cb.now e) b (run_at S.at run.now e))
+        (λ e. IsBaseLow (base_at S.at way.now.base.now e) × IsRunLow (run_at S.at run.now e)
         × IsLeadLow way.now.page.now.tree.now e.world (band_at S.at cb.now e) b) }
 {
     // The run goes on from here whatever is decided, so the margins of this question are joined to a copy.
@@ -140,12 +137,11 @@ fn try_first<S: Steady>(
     float: &Waiting<S::Num>,
     y: &S::Num,
 ) -> Trial<S::Num>
-    ensures goes { Goes (S.run calc.old) (S.run calc.new) }
-    ensures value { (e : Reading) → IsTrue ((S.run calc.new).is_open e) → trial_at S.at result e
-        ≡ first_trial (ground_at S.at way.now e) (waiting_one S.at float.now e) (S.at y.now e) }
-    ensures cause { BlamesButMem (S.run calc.old) (S.run calc.new) ((e : Reading) → IsTrue ((S.run calc.old).is_open e)
-        → WaitingFits (size_in (apart_at S.at way.now.page.now.apart.now e)) (floats_in S.at way.now.floats.now e)
-        (option_at S.at way.now.least.now e) (S.at y.now e) (waiting_one S.at float.now e ∷ [])) }
+    ensures { LaysButMem S.run calc.old calc.new (trial_at S.at result)
+        (λ e. first_trial (ground_at S.at way.now e) (waiting_one S.at float.now e) (S.at y.now e))
+        (λ e. WaitingFits (size_in (apart_at S.at way.now.page.now.apart.now e))
+        (floats_in S.at way.now.floats.now e) (option_at S.at way.now.least.now e) (S.at y.now e)
+        (waiting_one S.at float.now e ∷ [])) }
 {
     let size = size_of(calc, way.page.apart, float.at);
     let next = coming(way.page.tree, float, &size);
@@ -161,11 +157,9 @@ fn try_next<S: Steady>(
     float: &Waiting<S::Num>,
     before: Trial<S::Num>,
 ) -> Trial<S::Num>
-    ensures goes { Goes (S.run calc.old) (S.run calc.new) }
-    ensures value { (e : Reading) → IsTrue ((S.run calc.new).is_open e) → trial_at S.at result e
-        ≡ next_trial (ground_at S.at way.now e) (waiting_one S.at float.now e) (trial_at S.at before e) }
-    ensures cause { BlamesButMem (S.run calc.old) (S.run calc.new) ((e : Reading) → IsTrue ((S.run calc.old).is_open e)
-        → TrialFits (ground_at S.at way.now e) (trial_at S.at before e) (waiting_one S.at float.now e ∷ [])) }
+    ensures { LaysButMem S.run calc.old calc.new (trial_at S.at result)
+        (λ e. next_trial (ground_at S.at way.now e) (waiting_one S.at float.now e) (trial_at S.at before e))
+        (λ e. TrialFits (ground_at S.at way.now e) (trial_at S.at before e) (waiting_one S.at float.now e ∷ [])) }
 {
     let size = size_of(calc, way.page.apart, float.at);
     let next = coming(way.page.tree, float, &size);
@@ -180,11 +174,9 @@ fn try_others<S: Steady>(
     waiting: &[Waiting<S::Num>],
     before: Trial<S::Num>,
 ) -> Trial<S::Num>
-    ensures goes { Goes (S.run calc.old) (S.run calc.new) }
-    ensures value { (e : Reading) → IsTrue ((S.run calc.new).is_open e) → trial_at S.at result e
-        ≡ other_trials (ground_at S.at way.now e) (waiting_all S.at waiting.now e) (trial_at S.at before e) }
-    ensures cause { BlamesButMem (S.run calc.old) (S.run calc.new) ((e : Reading) → IsTrue ((S.run calc.old).is_open e)
-        → TrialFits (ground_at S.at way.now e) (trial_at S.at before e) (waiting_all S.at waiting.now e)) }
+    ensures { LaysButMem S.run calc.old calc.new (trial_at S.at result)
+        (λ e. other_trials (ground_at S.at way.now e) (waiting_all S.at waiting.now e) (trial_at S.at before e))
+        (λ e. TrialFits (ground_at S.at way.now e) (trial_at S.at before e) (waiting_all S.at waiting.now e)) }
 {
     let mut trial = before;
     for float in waiting {
@@ -203,12 +195,11 @@ fn bottom_to_clear<S: Steady>(
     waiting: &[Waiting<S::Num>],
     y: &S::Num,
 ) -> Option<S::Num>
-    ensures goes { Goes (S.run calc.old) (S.run calc.new) }
-    ensures value { (e : Reading) → IsTrue ((S.run calc.new).is_open e) → option_at S.at result e
-        ≡ bottom_of (ground_at S.at way.now e) b (waiting_all S.at waiting.now e) (S.at y.now e) }
-    ensures cause { BlamesButMem (S.run calc.old) (S.run calc.new) ((e : Reading) → IsTrue ((S.run calc.old).is_open e)
-        → WaitingFits (size_in (apart_at S.at way.now.page.now.apart.now e)) (floats_in S.at way.now.floats.now e)
-        (option_at S.at way.now.least.now e) (S.at y.now e) (waiting_all S.at waiting.now e)) }
+    ensures { LaysButMem S.run calc.old calc.new (option_at S.at result)
+        (λ e. bottom_of (ground_at S.at way.now e) b (waiting_all S.at waiting.now e) (S.at y.now e))
+        (λ e. WaitingFits (size_in (apart_at S.at way.now.page.now.apart.now e))
+        (floats_in S.at way.now.floats.now e) (option_at S.at way.now.least.now e) (S.at y.now e)
+        (waiting_all S.at waiting.now e)) }
 {
     let clear = clear_in_flow(way.page.tree, b);
     match waiting.split_first() {
@@ -224,10 +215,8 @@ fn bottom_to_clear<S: Steady>(
 
 /// Whether a border edge is above such a bottom.
 fn is_above<S: Steady>(calc: &mut S, y: &S::Num, bottom: &Option<S::Num>) -> bool
-    ensures goes { Goes (S.run calc.old) (S.run calc.new) }
-    ensures value { (e : Reading) → IsTrue ((S.run calc.new).is_open e)
-        → result ≡ option_map_or (int_lt (S.at y.now e)) (option_at S.at bottom.now e) false }
-    ensures cause { Blames (S.run calc.old) (S.run calc.new) ⊤ }
+    ensures { Lays S.run calc.old calc.new (λ e. result)
+        (λ e. option_map_or (int_lt (S.at y.now e)) (option_at S.at bottom.now e) false) (λ e. ⊤) }
 {
     match bottom {
         Some(bottom) => !calc.le(bottom, y),
@@ -245,12 +234,10 @@ fn is_to_clear<S: Steady>(
     going: &Going<S::Num>,
 ) -> bool
     requires { b < length way.now.page.now.tree.now.boxes }
-    ensures goes { Goes (S.run calc.old) (S.run calc.new) }
-    ensures value { (e : Reading) → IsTrue ((S.run calc.new).is_open e) → result
-        ≡ to_clear_of (ground_at S.at way.now e) (band_at S.at cb.now e) b (run_at S.at going.now.run e)
-        (waiting_all S.at going.now.waiting e) }
-    ensures cause { BlamesButMem (S.run calc.old) (S.run calc.new) ((e : Reading) → IsTrue ((S.run calc.old).is_open e)
-        → DecisionFitsAt S.at way.now e (band_at S.at cb.now e) b (run_at S.at going.now.run e)
+    ensures { LaysButMem S.run calc.old calc.new (λ e. result)
+        (λ e. to_clear_of (ground_at S.at way.now e) (band_at S.at cb.now e) b (run_at S.at going.now.run e)
+        (waiting_all S.at going.now.waiting e))
+        (λ e. DecisionFitsAt S.at way.now e (band_at S.at cb.now e) b (run_at S.at going.now.run e)
         (waiting_all S.at going.now.waiting e)) }
 {
     let y = hypothetical_edge(alloc, calc, way, cb, b, &going.run);
@@ -266,13 +253,13 @@ fn clear_edge<S: Steady>(
     b: u32,
     going: &Going<S::Num>,
 ) -> S::Num
-    ensures goes { Goes (S.run calc.old) (S.run calc.new) }
-    ensures value { Stands (S.run calc.new) (S.at result) (λ e. clear_edge_of (ground_at S.at way.now e) b
-        (run_at S.at going.now.run e) (waiting_all S.at going.now.waiting e)) }
-    ensures cause { BlamesButMem (S.run calc.old) (S.run calc.new) ((e : Reading) → IsTrue ((S.run calc.old).is_open e)
-        → IsGroundLow (base_at S.at way.now.base.now e) (floats_in S.at way.now.floats.now e)
-        (option_at S.at way.now.least.now e) × IsGoingLow (size_in (apart_at S.at way.now.page.now.apart.now e))
-        (run_at S.at going.now.run e) (waiting_all S.at going.now.waiting e)) }
+    ensures { LaysButMem S.run calc.old calc.new (S.at result)
+        (λ e. clear_edge_of (ground_at S.at way.now e) b (run_at S.at going.now.run e)
+        (waiting_all S.at going.now.waiting e))
+        (λ e. IsGroundLow (base_at S.at way.now.base.now e) (floats_in S.at way.now.floats.now e)
+        (option_at S.at way.now.least.now e)
+        × IsGoingLow (size_in (apart_at S.at way.now.page.now.apart.now e)) (run_at S.at going.now.run e)
+        (waiting_all S.at going.now.waiting e)) }
 {
     let y = edge(calc, way.base, &going.run);
     match bottom_to_clear(alloc, calc, way, b, going.waiting.as_slice(), &y) {
@@ -291,12 +278,10 @@ fn decided<S: Steady>(
     going: &Going<S::Num>,
 ) -> Option<S::Num>
     requires { b < length way.now.page.now.tree.now.boxes }
-    ensures goes { Goes (S.run calc.old) (S.run calc.new) }
-    ensures value { (e : Reading) → IsTrue ((S.run calc.new).is_open e) → option_at S.at result e
-        ≡ decided_of (ground_at S.at way.now e) (band_at S.at cb.now e) b (run_at S.at going.now.run e)
-        (waiting_all S.at going.now.waiting e) }
-    ensures cause { BlamesButMem (S.run calc.old) (S.run calc.new) ((e : Reading) → IsTrue ((S.run calc.old).is_open e)
-        → DecisionFitsAt S.at way.now e (band_at S.at cb.now e) b (run_at S.at going.now.run e)
+    ensures { LaysButMem S.run calc.old calc.new (option_at S.at result)
+        (λ e. decided_of (ground_at S.at way.now e) (band_at S.at cb.now e) b (run_at S.at going.now.run e)
+        (waiting_all S.at going.now.waiting e))
+        (λ e. DecisionFitsAt S.at way.now e (band_at S.at cb.now e) b (run_at S.at going.now.run e)
         (waiting_all S.at going.now.waiting e)) }
 {
     // With no float there is nothing to clear, and no edge to compare: a certificate needs no answer here.
@@ -312,11 +297,9 @@ fn decided<S: Steady>(
 
 /// Lets a float wait.
 fn wait<S: Steady>(calc: &mut S, cb: &Band<S::Num>, at: u32, waiting: &mut List<Waiting<S::Num>>)
-    ensures goes { Goes (S.run calc.old) (S.run calc.new) }
-    ensures value { (e : Reading) → IsTrue ((S.run calc.new).is_open e) → waiting_all S.at waiting.new e
-        ≡ waiting_all S.at waiting.old e ++ record { at = at; cb = band_at S.at cb.now e } ∷ [] }
-    ensures cause { BlamesButMem (S.run calc.old) (S.run calc.new) (Fits (S.run calc.old)
-        (λ e. edges (band_at S.at cb.now e))) }
+    ensures { LaysButMem S.run calc.old calc.new (waiting_all S.at waiting.new)
+        (λ e. waiting_all S.at waiting.old e ++ record { at = at; cb = band_at S.at cb.now e } ∷ [])
+        (λ e. AllSmall (edges (band_at S.at cb.now e))) }
 {
     let cb = copy_band(calc, cb);
     match waiting.push(Waiting { at, cb }) {
@@ -337,12 +320,10 @@ pub fn forward<S: Steady>(
     going: &mut Going<S::Num>,
 ) -> End<S::Num>
     requires { b < length way.now.page.now.tree.now.boxes }
-    ensures goes { Goes (S.run calc.old) (S.run calc.new) }
-    ensures value { (e : Reading) → IsTrue ((S.run calc.new).is_open e) → found_at S.at going.new result e
-        ≡ way_at S.at way.now e (band_at S.at cb.now e) b (run_at S.at going.old.run e)
-        (waiting_all S.at going.old.waiting e) }
-    ensures cause { BlamesButMem (S.run calc.old) (S.run calc.new) ((e : Reading) → IsTrue ((S.run calc.old).is_open e)
-        → WayFitsAt S.at way.now e (band_at S.at cb.now e) b (run_at S.at going.old.run e)
+    ensures { LaysButMem S.run calc.old calc.new (found_at S.at going.new result)
+        (λ e. way_at S.at way.now e (band_at S.at cb.now e) b (run_at S.at going.old.run e)
+        (waiting_all S.at going.old.waiting e))
+        (λ e. WayFitsAt S.at way.now e (band_at S.at cb.now e) b (run_at S.at going.old.run e)
         (waiting_all S.at going.old.waiting e)) }
 {
     // Each box with `clear` is decided where it is met, on the way forward.
@@ -365,12 +346,10 @@ fn inner<S: Steady>(
     going: &mut Going<S::Num>,
 ) -> End<S::Num>
     requires { b < length way.now.page.now.tree.now.boxes }
-    ensures goes { Goes (S.run calc.old) (S.run calc.new) }
-    ensures value { (e : Reading) → IsTrue ((S.run calc.new).is_open e) → found_at S.at going.new result e
-        ≡ inner_at S.at way.now e (band_at S.at cb.now e) b (run_at S.at going.old.run e)
-        (waiting_all S.at going.old.waiting e) }
-    ensures cause { BlamesButMem (S.run calc.old) (S.run calc.new) ((e : Reading) → IsTrue ((S.run calc.old).is_open e)
-        → WayFitsAt S.at way.now e (band_at S.at cb.now e) b (run_at S.at going.old.run e)
+    ensures { LaysButMem S.run calc.old calc.new (found_at S.at going.new result)
+        (λ e. inner_at S.at way.now e (band_at S.at cb.now e) b (run_at S.at going.old.run e)
+        (waiting_all S.at going.old.waiting e))
+        (λ e. WayFitsAt S.at way.now e (band_at S.at cb.now e) b (run_at S.at going.old.run e)
         (waiting_all S.at going.old.waiting e)) }
 {
     join_top(calc, way.page.tree, cb, b, &mut going.run);
@@ -410,12 +389,10 @@ fn content<S: Steady>(
     going: &mut Going<S::Num>,
 ) -> End<S::Num>
     requires { b < length way.now.page.now.tree.now.boxes }
-    ensures goes { Goes (S.run calc.old) (S.run calc.new) }
-    ensures value { (e : Reading) → IsTrue ((S.run calc.new).is_open e) → found_at S.at going.new result e
-        ≡ kids_at_reading S.at way.now e (band_at S.at band.now e) (flow_children way.now.page.now.tree.now b)
-        (run_at S.at going.old.run e) (waiting_all S.at going.old.waiting e) }
-    ensures cause { BlamesButMem (S.run calc.old) (S.run calc.new) ((e : Reading) → IsTrue ((S.run calc.old).is_open e)
-        → KidsFitAt S.at way.now e (band_at S.at band.now e) (flow_children way.now.page.now.tree.now b)
+    ensures { LaysButMem S.run calc.old calc.new (found_at S.at going.new result)
+        (λ e. kids_at_reading S.at way.now e (band_at S.at band.now e) (flow_children way.now.page.now.tree.now b)
+        (run_at S.at going.old.run e) (waiting_all S.at going.old.waiting e))
+        (λ e. KidsFitAt S.at way.now e (band_at S.at band.now e) (flow_children way.now.page.now.tree.now b)
         (run_at S.at going.old.run e) (waiting_all S.at going.old.waiting e)) }
 {
     let tree = way.page.tree;
@@ -446,12 +423,10 @@ fn kids<S: Steady>(
     requires within { b < length way.now.page.now.tree.now.boxes }
     requires behind { (i : ℕ) → i < length boxes.now
         → (b < slice_index_or boxes.now i 0) × (slice_index_or boxes.now i 0 < length way.now.page.now.tree.now.boxes) }
-    ensures goes { Goes (S.run calc.old) (S.run calc.new) }
-    ensures value { (e : Reading) → IsTrue ((S.run calc.new).is_open e) → found_at S.at going.new result e
-        ≡ kids_at_reading S.at way.now e (band_at S.at band.now e) boxes.now
-        (run_at S.at going.old.run e) (waiting_all S.at going.old.waiting e) }
-    ensures cause { BlamesButMem (S.run calc.old) (S.run calc.new) ((e : Reading) → IsTrue ((S.run calc.old).is_open e)
-        → KidsFitAt S.at way.now e (band_at S.at band.now e) boxes.now (run_at S.at going.old.run e)
+    ensures { LaysButMem S.run calc.old calc.new (found_at S.at going.new result)
+        (λ e. kids_at_reading S.at way.now e (band_at S.at band.now e) boxes.now (run_at S.at going.old.run e)
+        (waiting_all S.at going.old.waiting e))
+        (λ e. KidsFitAt S.at way.now e (band_at S.at band.now e) boxes.now (run_at S.at going.old.run e)
         (waiting_all S.at going.old.waiting e)) }
 {
     for place in boxes {
@@ -474,12 +449,10 @@ fn kid<S: Steady>(
     going: &mut Going<S::Num>,
 ) -> End<S::Num>
     requires { k < length way.now.page.now.tree.now.boxes }
-    ensures goes { Goes (S.run calc.old) (S.run calc.new) }
-    ensures value { (e : Reading) → IsTrue ((S.run calc.new).is_open e) → found_at S.at going.new result e
-        ≡ kid_at S.at way.now e (band_at S.at band.now e) k (run_at S.at going.old.run e)
-        (waiting_all S.at going.old.waiting e) }
-    ensures cause { BlamesButMem (S.run calc.old) (S.run calc.new) ((e : Reading) → IsTrue ((S.run calc.old).is_open e)
-        → KidFitsAt S.at way.now e (band_at S.at band.now e) k (run_at S.at going.old.run e)
+    ensures { LaysButMem S.run calc.old calc.new (found_at S.at going.new result)
+        (λ e. kid_at S.at way.now e (band_at S.at band.now e) k (run_at S.at going.old.run e)
+        (waiting_all S.at going.old.waiting e))
+        (λ e. KidFitsAt S.at way.now e (band_at S.at band.now e) k (run_at S.at going.old.run e)
         (waiting_all S.at going.old.waiting e)) }
 {
     if floats_at(way.page.tree, k) {

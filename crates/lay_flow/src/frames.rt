@@ -1,7 +1,7 @@
 //! Boxes before and after their content (CSS 2.1, 8.1, 10.3, 10.6).
 ghost use Rattle.std.specs.Prelude.{◌≡◌, ◌<◌, length, IsTrue};
 ghost use Rattle.viz_calc.specs.World.{Reading};
-ghost use Rattle.viz_calc.specs.Run.{Goes, Blames, BlamesButMem};
+ghost use Rattle.viz_calc.specs.Run.{Goes, BlamesButMem, Lays};
 ghost use Rattle.viz_calc.specs.Renderings.{placed_at, band_at};
 ghost use Rattle.layout_semantics.specs.FlowBoxes.{across as across_of};
 ghost use Rattle.layout_semantics.specs.Horizontal.{widths as widths_of};
@@ -97,11 +97,9 @@ pub fn replaced_box<S: Steady>(
     room: &S::Num,
     shape: &Shape<S::Num>,
 ) -> Placed<S::Num>
-    ensures goes { Goes (S.run calc.old) (S.run calc.new) }
-    ensures value { (e : Reading) → IsTrue ((S.run calc.new).is_open e) → placed_at S.at result e
-        ≡ replaced_of page.now.tree.now e.world b (S.at room.now e) (frame_at S.at shape.now e) }
-    ensures cause { Blames (S.run calc.old) (S.run calc.new) ((e : Reading) → IsTrue ((S.run calc.old).is_open e)
-        → IsReplacedFit page.now.tree.now e.world b (S.at room.now e)
+    ensures { Lays S.run calc.old calc.new (placed_at S.at result)
+        (λ e. replaced_of page.now.tree.now e.world b (S.at room.now e) (frame_at S.at shape.now e))
+        (λ e. IsReplacedFit page.now.tree.now e.world b (S.at room.now e)
         × IsFrameLow (frame_at S.at shape.now e)) }
 {
     let height = replaced_height(calc, page, b, room);
@@ -117,12 +115,10 @@ pub fn context_box<S: Steady>(
     shape: &Shape<S::Num>,
     end: &Context<S::Num>,
 ) -> Placed<S::Num>
-    ensures goes { Goes (S.run calc.old) (S.run calc.new) }
-    ensures value { (e : Reading) → IsTrue ((S.run calc.new).is_open e) → placed_at S.at result e
-        ≡ root_of page.now.tree.now e.world b (frame_at S.at shape.now e) (context_at S.at end.now e) }
-    ensures cause { Blames (S.run calc.old) (S.run calc.new) ((e : Reading) → IsTrue ((S.run calc.old).is_open e)
-        → IsHeightFit page.now.tree.now e.world b × (IsFrameLow (frame_at S.at shape.now e)
-        × IsContextLow (context_at S.at end.now e))) }
+    ensures { Lays S.run calc.old calc.new (placed_at S.at result)
+        (λ e. root_of page.now.tree.now e.world b (frame_at S.at shape.now e) (context_at S.at end.now e))
+        (λ e. IsHeightFit page.now.tree.now e.world b
+        × (IsFrameLow (frame_at S.at shape.now e) × IsContextLow (context_at S.at end.now e))) }
 {
     let height = match known_height(calc, page, b) {
         Some(height) => height,
@@ -144,12 +140,10 @@ pub fn block_box<S: Steady>(
     shape: &Shape<S::Num>,
     end: &Context<S::Num>,
 ) -> Placed<S::Num>
-    ensures goes { Goes (S.run calc.old) (S.run calc.new) }
-    ensures value { (e : Reading) → IsTrue ((S.run calc.new).is_open e) → placed_at S.at result e
-        ≡ block_of page.now.tree.now e.world b (frame_at S.at shape.now e) (context_at S.at end.now e) }
-    ensures cause { Blames (S.run calc.old) (S.run calc.new) ((e : Reading) → IsTrue ((S.run calc.old).is_open e)
-        → IsHeightFit page.now.tree.now e.world b × (IsFrameLow (frame_at S.at shape.now e)
-        × IsContextLow (context_at S.at end.now e))) }
+    ensures { Lays S.run calc.old calc.new (placed_at S.at result)
+        (λ e. block_of page.now.tree.now e.world b (frame_at S.at shape.now e) (context_at S.at end.now e))
+        (λ e. IsHeightFit page.now.tree.now e.world b
+        × (IsFrameLow (frame_at S.at shape.now e) × IsContextLow (context_at S.at end.now e))) }
 {
     let height = match known_height(calc, page, b) {
         Some(height) => height,

@@ -1,7 +1,5 @@
 //! Heights of boxes (CSS 2.1, 10.5 to 10.7).
-ghost use Rattle.std.specs.Prelude.{◌≡◌, IsTrue};
-ghost use Rattle.viz_calc.specs.World.{Reading};
-ghost use Rattle.viz_calc.specs.Run.{Stands, Goes, Blames};
+ghost use Rattle.viz_calc.specs.Run.{Lays};
 ghost use Rattle.layout_semantics.specs.DefiniteHeights.{definite_height as definite_of, given_height, held_height};
 ghost use Rattle.layout_semantics.specs.DefiniteHeights.{height_around as height_in};
 ghost use Rattle.layout_semantics.specs.Replaced.{replaced_size};
@@ -37,11 +35,9 @@ fn height_of<S: Steady>(
     b: u32,
     length: &Length,
 ) -> Option<S::Num>
-    ensures goes { Goes (S.run calc.old) (S.run calc.new) }
-    ensures value { (e : Reading) → IsTrue ((S.run calc.new).is_open e) → option_at S.at result e
-        ≡ height_in page.now.tree.now e.world (definite_of page.now.tree.now e.world b) length.now }
-    ensures cause { Blames (S.run calc.old) (S.run calc.new) ((e : Reading) → IsTrue ((S.run calc.old).is_open e)
-        → OwnFits page.now.tree.now e.world b length.now) }
+    ensures { Lays S.run calc.old calc.new (option_at S.at result)
+        (λ e. height_in page.now.tree.now e.world (definite_of page.now.tree.now e.world b) length.now)
+        (λ e. OwnFits page.now.tree.now e.world b length.now) }
 {
     match length {
         Length::Pct(part) => {
@@ -58,22 +54,17 @@ fn height_of<S: Steady>(
 
 /// The height that a box's own property gives, where that is definite.
 pub fn known_height<S: Steady>(calc: &mut S, page: &Page<'_, S::Num>, b: u32) -> Option<S::Num>
-    ensures goes { Goes (S.run calc.old) (S.run calc.new) }
-    ensures value { (e : Reading) → IsTrue ((S.run calc.new).is_open e) → option_at S.at result e
-        ≡ given_height page.now.tree.now e.world b }
-    ensures cause { Blames (S.run calc.old) (S.run calc.new) ((e : Reading) → IsTrue ((S.run calc.old).is_open e)
-        → IsHeightFit page.now.tree.now e.world b) }
+    ensures { Lays S.run calc.old calc.new (option_at S.at result) (λ e. given_height page.now.tree.now e.world b)
+        (λ e. IsHeightFit page.now.tree.now e.world b) }
 {
     height_of(calc, page, b, &own_height(page.tree, b))
 }
 
 /// A height of a box after its maximum and its minimum (CSS 2.1, 10.7).
 pub fn held<S: Steady>(calc: &mut S, page: &Page<'_, S::Num>, b: u32, height: S::Num) -> S::Num
-    ensures goes { Goes (S.run calc.old) (S.run calc.new) }
-    ensures value { Stands (S.run calc.new) (S.at result)
-        (λ e. held_height page.now.tree.now e.world b (S.at height e)) }
-    ensures cause { Blames (S.run calc.old) (S.run calc.new) ((e : Reading) → IsTrue ((S.run calc.old).is_open e)
-        → IsHeightFit page.now.tree.now e.world b) }
+    ensures { Lays S.run calc.old calc.new (S.at result)
+        (λ e. held_height page.now.tree.now e.world b (S.at height e))
+        (λ e. IsHeightFit page.now.tree.now e.world b) }
 {
     let most = match most_height(page.tree, b) {
         Some(most) => height_of(calc, page, b, &most),
@@ -93,11 +84,9 @@ pub fn replaced_height<S: Steady>(
     b: u32,
     room: &S::Num,
 ) -> S::Num
-    ensures goes { Goes (S.run calc.old) (S.run calc.new) }
-    ensures value { Stands (S.run calc.new) (S.at result)
-        (λ e. (replaced_size page.now.tree.now e.world b (S.at room.now e)).height) }
-    ensures cause { Blames (S.run calc.old) (S.run calc.new) ((e : Reading) → IsTrue ((S.run calc.old).is_open e)
-        → IsReplacedFit page.now.tree.now e.world b (S.at room.now e)) }
+    ensures { Lays S.run calc.old calc.new (S.at result)
+        (λ e. (replaced_size page.now.tree.now e.world b (S.at room.now e)).height)
+        (λ e. IsReplacedFit page.now.tree.now e.world b (S.at room.now e)) }
 {
     let height = match known_height(calc, page, b) {
         Some(height) => height,
@@ -112,10 +101,8 @@ pub fn replaced_height<S: Steady>(
 
 /// Where a child with no margin stands.
 pub fn next_edge<S: Steady>(calc: &mut S, standing: &Standing<S::Num>) -> S::Num
-    ensures goes { Goes (S.run calc.old) (S.run calc.new) }
-    ensures value { Stands (S.run calc.new) (S.at result) (λ e. edge_of (standing_at S.at standing.now e)) }
-    ensures cause { Blames (S.run calc.old) (S.run calc.new) ((e : Reading) → IsTrue ((S.run calc.old).is_open e)
-        → IsStandingLow (standing_at S.at standing.now e)) }
+    ensures { Lays S.run calc.old calc.new (S.at result) (λ e. edge_of (standing_at S.at standing.now e))
+        (λ e. IsStandingLow (standing_at S.at standing.now e)) }
 {
     match standing {
         Standing::AtTop { y, cleared: _ } => calc.copy(y),
@@ -132,11 +119,9 @@ pub fn next_edge<S: Steady>(calc: &mut S, standing: &Standing<S::Num>) -> S::Num
 
 /// How far the lowest of some floats reaches below `top`; at least 0.
 fn lowest<S: Steady>(calc: &mut S, top: &S::Num, floats: &[PlacedFloat<S::Num>]) -> S::Num
-    ensures goes { Goes (S.run calc.old) (S.run calc.new) }
-    ensures value { Stands (S.run calc.new) (S.at result)
-        (λ e. lowest_of (S.at top.now e) (floats_in S.at floats.now e)) }
-    ensures cause { Blames (S.run calc.old) (S.run calc.new) ((e : Reading) → IsTrue ((S.run calc.old).is_open e)
-        → IsNear (S.at top.now e) × AllByRecursion (IsFloatIn reach) (floats_in S.at floats.now e)) }
+    ensures { Lays S.run calc.old calc.new (S.at result)
+        (λ e. lowest_of (S.at top.now e) (floats_in S.at floats.now e))
+        (λ e. IsNear (S.at top.now e) × AllByRecursion (IsFloatIn reach) (floats_in S.at floats.now e)) }
 {
     // At least 0: a context's height is never negative, where a block's that starts none may be (10.6.3, 10.6.7).
     let mut best = zero(calc);
@@ -151,11 +136,8 @@ fn lowest<S: Steady>(calc: &mut S, top: &S::Num, floats: &[PlacedFloat<S::Num>])
 #[tactic(auto, unfolding(crate::specs::steps::Flow::tall_of))]
 /// The auto height of a box that starts a context: down to its last child, line or float (CSS 2.1, 10.6.7).
 pub fn context_height<S: Steady>(calc: &mut S, top: &S::Num, end: &Context<S::Num>) -> S::Num
-    ensures goes { Goes (S.run calc.old) (S.run calc.new) }
-    ensures value { Stands (S.run calc.new) (S.at result)
-        (λ e. tall_of (S.at top.now e) (context_at S.at end.now e)) }
-    ensures cause { Blames (S.run calc.old) (S.run calc.new) ((e : Reading) → IsTrue ((S.run calc.old).is_open e)
-        → IsNear (S.at top.now e) × IsContextLow (context_at S.at end.now e)) }
+    ensures { Lays S.run calc.old calc.new (S.at result) (λ e. tall_of (S.at top.now e) (context_at S.at end.now e))
+        (λ e. IsNear (S.at top.now e) × IsContextLow (context_at S.at end.now e)) }
 {
     let best = lowest(calc, top, end.floats.placed.as_slice());
     let edge = next_edge(calc, &end.standing);
@@ -170,11 +152,9 @@ pub fn block_height<S: Steady>(
     top: &S::Num,
     end: &Standing<S::Num>,
 ) -> S::Num
-    ensures goes { Goes (S.run calc.old) (S.run calc.new) }
-    ensures value { Stands (S.run calc.new) (S.at result)
-        (λ e. tall_block joins (S.at top.now e) (standing_at S.at end.now e)) }
-    ensures cause { Blames (S.run calc.old) (S.run calc.new) ((e : Reading) → IsTrue ((S.run calc.old).is_open e)
-        → IsNear (S.at top.now e) × IsStandingLow (standing_at S.at end.now e)) }
+    ensures { Lays S.run calc.old calc.new (S.at result)
+        (λ e. tall_block joins (S.at top.now e) (standing_at S.at end.now e))
+        (λ e. IsNear (S.at top.now e) × IsStandingLow (standing_at S.at end.now e)) }
 {
     match end {
         Standing::AtTop { .. } => zero(calc),
@@ -193,11 +173,8 @@ pub fn block_height<S: Steady>(
 
 /// The margins of its last child that a block's own bottom margin joins.
 pub fn joined_run<S: Steady>(calc: &mut S, joins: bool, end: &Standing<S::Num>) -> Run<S::Num>
-    ensures goes { Goes (S.run calc.old) (S.run calc.new) }
-    ensures value { (e : Reading) → IsTrue ((S.run calc.new).is_open e)
-        → run_at S.at result e ≡ joined_of joins (standing_at S.at end.now e) }
-    ensures cause { Blames (S.run calc.old) (S.run calc.new) ((e : Reading) → IsTrue ((S.run calc.old).is_open e)
-        → IsStandingLow (standing_at S.at end.now e)) }
+    ensures { Lays S.run calc.old calc.new (run_at S.at result) (λ e. joined_of joins (standing_at S.at end.now e))
+        (λ e. IsStandingLow (standing_at S.at end.now e)) }
 {
     match end {
         Standing::Below {

@@ -3,7 +3,7 @@ ghost use Rattle.std.specs.Prelude.{◌≡◌, ◌<◌, ◌++◌, false, fold, l
 ghost use Rattle.std.specs.List.{flat_map, AllByRecursion};
 ghost use Rattle.viz_base.specs.declared.styles.Style.{Style as StyleOf};
 ghost use Rattle.viz_calc.specs.World.{Reading};
-ghost use Rattle.viz_calc.specs.Run.{Stands, Goes, Blames, BlamesButMem};
+ghost use Rattle.viz_calc.specs.Run.{Goes, BlamesButMem, Lays, LaysButMem};
 ghost use Rattle.viz_calc.specs.Renderings.{band_at};
 ghost use Rattle.layout_semantics.specs.Flow.{raised as raised_of};
 ghost use Rattle.layout_semantics.specs.InlineContent.{inner_boxes as inner_of_box, inner_items};
@@ -74,11 +74,9 @@ fn clips(tree: &BoxTree, b: u32) -> bool
 #[tactic(auto, unfolding(crate::specs::steps::Flow::inner_of, crate::specs::Readings::apart_at))]
 /// What a float or an atomic box takes on a line.
 fn inner_of<S: Steady>(calc: &mut S, page: &Page<'_, S::Num>, at: u32) -> Inner<S::Num>
-    ensures goes { Goes (S.run calc.old) (S.run calc.new) }
-    ensures value { (e : Reading) → IsTrue ((S.run calc.new).is_open e) → inner_at S.at result e
-        ≡ inner_of_step page.now.tree.now e.world (apart_at S.at page.now.apart.now e) at }
-    ensures cause { Blames (S.run calc.old) (S.run calc.new) ((e : Reading) → IsTrue ((S.run calc.old).is_open e)
-        → IsAloneLow (apart_at S.at page.now.apart.now e at)) }
+    ensures { Lays S.run calc.old calc.new (inner_at S.at result)
+        (λ e. inner_of_step page.now.tree.now e.world (apart_at S.at page.now.apart.now e) at)
+        (λ e. IsAloneLow (apart_at S.at page.now.apart.now e at)) }
 {
     match page.apart.get(at as usize) {
         Some(Some(alone)) => {
@@ -130,12 +128,9 @@ fn fill<S: Steady>(
     boxes: &[u32],
     table: &mut Vec<Option<Inner<S::Num>>>,
 )
-    ensures goes { Goes (S.run calc.old) (S.run calc.new) }
-    ensures value { (e : Reading) → IsTrue ((S.run calc.new).is_open e) → table_at S.at table.new.items e
-        ≡ filled_table page.now.tree.now e.world (apart_at S.at page.now.apart.now e)
-        (table_at S.at table.old.items e) boxes.now }
-    ensures cause { Blames (S.run calc.old) (S.run calc.new) ((e : Reading) → IsTrue ((S.run calc.old).is_open e)
-        → AreApartLow (apart_at S.at page.now.apart.now e)) }
+    ensures { Lays S.run calc.old calc.new (table_at S.at table.new.items)
+        (λ e. filled_table page.now.tree.now e.world (apart_at S.at page.now.apart.now e)
+        (table_at S.at table.old.items e) boxes.now) (λ e. AreApartLow (apart_at S.at page.now.apart.now e)) }
 {
     for at in boxes {
         let inner = inner_of(calc, page, *at);
@@ -176,11 +171,9 @@ fn inner_table<S: Steady>(
     b: u32,
 ) -> Vec<Option<Inner<S::Num>>>
     requires { b < length page.now.tree.now.boxes }
-    ensures goes { Goes (S.run calc.old) (S.run calc.new) }
-    ensures value { (e : Reading) → IsTrue ((S.run calc.new).is_open e) → table_at S.at result.items e
-        ≡ table_of page.now.tree.now e.world (apart_at S.at page.now.apart.now e) b }
-    ensures cause { BlamesButMem (S.run calc.old) (S.run calc.new) ((e : Reading) → IsTrue ((S.run calc.old).is_open e)
-        → AreApartLow (apart_at S.at page.now.apart.now e)) }
+    ensures { LaysButMem S.run calc.old calc.new (table_at S.at result.items)
+        (λ e. table_of page.now.tree.now e.world (apart_at S.at page.now.apart.now e) b)
+        (λ e. AreApartLow (apart_at S.at page.now.apart.now e)) }
 {
     match empty_table(alloc, page.tree, b) {
         Ok((boxes, mut table)) => {
@@ -200,11 +193,9 @@ fn raised_with<S: Steady>(
     least: Option<S::Num>,
     entry: &Entry<S::Num>,
 ) -> Option<S::Num>
-    ensures goes { Goes (S.run calc.old) (S.run calc.new) }
-    ensures value { (e : Reading) → IsTrue ((S.run calc.new).is_open e) → option_at S.at result e
-        ≡ fold raised_of (option_at S.at least e) (line_tops (entry_at S.at entry.now e)) }
-    ensures cause { Blames (S.run calc.old) (S.run calc.new) ((e : Reading) → IsTrue ((S.run calc.old).is_open e)
-        → AreLevelsLow (option_at S.at least e) × IsEntryLow (entry_at S.at entry.now e)) }
+    ensures { Lays S.run calc.old calc.new (option_at S.at result)
+        (λ e. fold raised_of (option_at S.at least e) (line_tops (entry_at S.at entry.now e)))
+        (λ e. AreLevelsLow (option_at S.at least e) × IsEntryLow (entry_at S.at entry.now e)) }
 {
     match entry {
         Entry::Here(placed) if matches!(placed.kind, Kind::Line) => {
@@ -221,11 +212,9 @@ fn raised_by<S: Steady>(
     least: Option<S::Num>,
     entries: &[Entry<S::Num>],
 ) -> Option<S::Num>
-    ensures goes { Goes (S.run calc.old) (S.run calc.new) }
-    ensures value { (e : Reading) → IsTrue ((S.run calc.new).is_open e) → option_at S.at result e
-        ≡ fold raised_of (option_at S.at least e) (flat_map line_tops (entries_at S.at entries.now e)) }
-    ensures cause { Blames (S.run calc.old) (S.run calc.new) ((e : Reading) → IsTrue ((S.run calc.old).is_open e)
-        → AreLevelsLow (option_at S.at least e) × AllByRecursion IsEntryLow (entries_at S.at entries.now e)) }
+    ensures { Lays S.run calc.old calc.new (option_at S.at result)
+        (λ e. fold raised_of (option_at S.at least e) (flat_map line_tops (entries_at S.at entries.now e)))
+        (λ e. AreLevelsLow (option_at S.at least e) × AllByRecursion IsEntryLow (entries_at S.at entries.now e)) }
 {
     let mut best = least;
     for entry in entries {
@@ -242,12 +231,10 @@ fn add_entry<S: Steady>(
     entry: Entry<S::Num>,
     out: &mut Vec<Placed<S::Num>>,
 )
-    ensures goes { Goes (S.run calc.old) (S.run calc.new) }
-    ensures value { (e : Reading) → IsTrue ((S.run calc.new).is_open e) → boxes_at S.at out.new.items e
-        ≡ boxes_at S.at out.old.items e ++ entry_of page.now.tree.now e.world (apart_at S.at page.now.apart.now e)
-        (entry_at S.at entry e) }
-    ensures cause { BlamesButMem (S.run calc.old) (S.run calc.new) ((e : Reading) → IsTrue ((S.run calc.old).is_open e)
-        → AreApartLow (apart_at S.at page.now.apart.now e) × IsEntryLow (entry_at S.at entry e)) }
+    ensures { LaysButMem S.run calc.old calc.new (boxes_at S.at out.new.items)
+        (λ e. boxes_at S.at out.old.items e
+        ++ entry_of page.now.tree.now e.world (apart_at S.at page.now.apart.now e) (entry_at S.at entry e))
+        (λ e. AreApartLow (apart_at S.at page.now.apart.now e) × IsEntryLow (entry_at S.at entry e)) }
 {
     match entry {
         Entry::Here(placed) => append(calc, out, placed),
@@ -262,12 +249,11 @@ fn add_entries<S: Steady>(
     entries: Vec<Entry<S::Num>>,
     out: &mut Vec<Placed<S::Num>>,
 )
-    ensures goes { Goes (S.run calc.old) (S.run calc.new) }
-    ensures value { (e : Reading) → IsTrue ((S.run calc.new).is_open e) → boxes_at S.at out.new.items e
-        ≡ boxes_at S.at out.old.items e ++ flat_map (entry_of page.now.tree.now e.world
-        (apart_at S.at page.now.apart.now e)) (entries_at S.at entries.items e) }
-    ensures cause { BlamesButMem (S.run calc.old) (S.run calc.new) ((e : Reading) → IsTrue ((S.run calc.old).is_open e)
-        → AreApartLow (apart_at S.at page.now.apart.now e)
+    ensures { LaysButMem S.run calc.old calc.new (boxes_at S.at out.new.items)
+        (λ e. boxes_at S.at out.old.items e
+        ++ flat_map (entry_of page.now.tree.now e.world (apart_at S.at page.now.apart.now e))
+        (entries_at S.at entries.items e))
+        (λ e. AreApartLow (apart_at S.at page.now.apart.now e)
         × AllByRecursion IsEntryLow (entries_at S.at entries.items e)) }
 {
     for entry in entries {
@@ -277,11 +263,9 @@ fn add_entries<S: Steady>(
 
 /// The highest top that floats on lines from `top` on may have.
 fn least_top<S: Steady>(calc: &mut S, least: &Option<S::Num>, top: &S::Num) -> S::Num
-    ensures goes { Goes (S.run calc.old) (S.run calc.new) }
-    ensures value { Stands (S.run calc.new) (S.at result)
-        (λ e. unwrap_or (option_at S.at least.now e) (S.at top.now e)) }
-    ensures cause { Blames (S.run calc.old) (S.run calc.new) ((e : Reading) → IsTrue ((S.run calc.old).is_open e)
-        → AreLevelsLow (option_at S.at least.now e) × IsNear (S.at top.now e)) }
+    ensures { Lays S.run calc.old calc.new (S.at result)
+        (λ e. unwrap_or (option_at S.at least.now e) (S.at top.now e))
+        (λ e. AreLevelsLow (option_at S.at least.now e) × IsNear (S.at top.now e)) }
 {
     match least {
         Some(least) => calc.copy(least),

@@ -2,7 +2,7 @@
 ghost use Rattle.std.specs.Prelude.{◌≡◌, ◌<◌, ℤ, ◌-ℤ◌, false, length, IsTrue};
 ghost use Rattle.std.specs.Int.{int_max, int_min};
 ghost use Rattle.viz_calc.specs.World.{Reading};
-ghost use Rattle.viz_calc.specs.Run.{Stands, Goes, Blames, BlamesButMem};
+ghost use Rattle.viz_calc.specs.Run.{Goes, Blames, Lays, LaysButMem};
 ghost use Rattle.viz_calc.specs.Renderings.{band_at};
 ghost use Rattle.layout_semantics.specs.Flow.{raised as raised_of};
 ghost use Rattle.lay_frame.specs.Readings.{frame_at};
@@ -52,12 +52,10 @@ fn go<S: Steady>(
     run: Run<S::Num>,
 ) -> Gone<S::Num>
     requires { b < length page.now.tree.now.boxes }
-    ensures goes { Goes (S.run calc.old) (S.run calc.new) }
-    ensures value { (e : Reading) → IsTrue ((S.run calc.new).is_open e) → found_at S.at result.going result.end e
-        ≡ forward_of page.now.tree.now e.world (apart_at S.at page.now.apart.now e) (base_at S.at base.now e)
-        (passed_by past) (band_at S.at cb.now e) (context_at S.at context.now e) b (run_at S.at run e) }
-    ensures cause { BlamesButMem (S.run calc.old) (S.run calc.new) ((e : Reading) → IsTrue ((S.run calc.old).is_open e)
-        → ForwardFits page.now.tree.now e.world (apart_at S.at page.now.apart.now e) (band_at S.at cb.now e)
+    ensures { LaysButMem S.run calc.old calc.new (found_at S.at result.going result.end)
+        (λ e. forward_of page.now.tree.now e.world (apart_at S.at page.now.apart.now e) (base_at S.at base.now e)
+        (passed_by past) (band_at S.at cb.now e) (context_at S.at context.now e) b (run_at S.at run e))
+        (λ e. ForwardFits page.now.tree.now e.world (apart_at S.at page.now.apart.now e) (band_at S.at cb.now e)
         (context_at S.at context.now e) b (base_at S.at base.now e) (passed_by past) (run_at S.at run e)) }
 {
     let mut going = Going {
@@ -90,11 +88,8 @@ fn copy_cleared<S: Steady>(
     calc: &mut S,
     cleared: &Option<Cleared<S::Num>>,
 ) -> Option<Cleared<S::Num>>
-    ensures goes { Goes (S.run calc.old) (S.run calc.new) }
-    ensures value { (e : Reading) → IsTrue ((S.run calc.new).is_open e)
-        → cleared_at S.at result e ≡ cleared_at S.at cleared.now e }
-    ensures cause { Blames (S.run calc.old) (S.run calc.new) ((e : Reading) → IsTrue ((S.run calc.old).is_open e)
-        → IsClearedLow (cleared_at S.at cleared.now e)) }
+    ensures { Lays S.run calc.old calc.new (cleared_at S.at result) (cleared_at S.at cleared.now)
+        (λ e. IsClearedLow (cleared_at S.at cleared.now e)) }
 {
     match cleared {
         Some(cleared) => {
@@ -122,12 +117,10 @@ fn reached_from<S: Steady>(
     own: Run<S::Num>,
 ) -> Met<S::Num>
     requires { b < length page.now.tree.now.boxes }
-    ensures goes { Goes (S.run calc.old) (S.run calc.new) }
-    ensures value { (e : Reading) → IsTrue ((S.run calc.new).is_open e) → met_at S.at result e
-        ≡ from_of page.now.tree.now e.world (apart_at S.at page.now.apart.now e) (band_at S.at cb.now e)
-        (context_at S.at context.now e) b (S.at y e) (cleared_at S.at cleared e) (run_at S.at own e) }
-    ensures cause { BlamesButMem (S.run calc.old) (S.run calc.new) ((e : Reading) → IsTrue ((S.run calc.old).is_open e)
-        → FromFits page.now.tree.now e.world (apart_at S.at page.now.apart.now e) (band_at S.at cb.now e)
+    ensures { LaysButMem S.run calc.old calc.new (met_at S.at result)
+        (λ e. from_of page.now.tree.now e.world (apart_at S.at page.now.apart.now e) (band_at S.at cb.now e)
+        (context_at S.at context.now e) b (S.at y e) (cleared_at S.at cleared e) (run_at S.at own e))
+        (λ e. FromFits page.now.tree.now e.world (apart_at S.at page.now.apart.now e) (band_at S.at cb.now e)
         (context_at S.at context.now e) b (cleared_at S.at cleared e)) }
 {
     match cleared {
@@ -179,12 +172,10 @@ pub fn reach<S: Steady>(
     b: u32,
 ) -> Met<S::Num>
     requires { b < length page.now.tree.now.boxes }
-    ensures goes { Goes (S.run calc.old) (S.run calc.new) }
-    ensures value { (e : Reading) → IsTrue ((S.run calc.new).is_open e) → met_at S.at result e
-        ≡ reached_of page.now.tree.now e.world (apart_at S.at page.now.apart.now e) (band_at S.at cb.now e)
-        (context_at S.at context.now e) b }
-    ensures cause { BlamesButMem (S.run calc.old) (S.run calc.new) ((e : Reading) → IsTrue ((S.run calc.old).is_open e)
-        → ReachFits page.now.tree.now e.world (apart_at S.at page.now.apart.now e) (band_at S.at cb.now e)
+    ensures { LaysButMem S.run calc.old calc.new (met_at S.at result)
+        (λ e. reached_of page.now.tree.now e.world (apart_at S.at page.now.apart.now e) (band_at S.at cb.now e)
+        (context_at S.at context.now e) b)
+        (λ e. ReachFits page.now.tree.now e.world (apart_at S.at page.now.apart.now e) (band_at S.at cb.now e)
         (context_at S.at context.now e) b) }
 {
     match &context.standing {
@@ -223,11 +214,8 @@ pub fn reach<S: Steady>(
 
 /// Where boxes stand below an edge after which no margin has come.
 pub fn below<S: Steady>(calc: &mut S, edge: &S::Num) -> Standing<S::Num>
-    ensures goes { Goes (S.run calc.old) (S.run calc.new) }
-    ensures value { (e : Reading) → IsTrue ((S.run calc.new).is_open e)
-        → standing_at S.at result e ≡ below_of (S.at edge.now e) no_run false }
-    ensures cause { Blames (S.run calc.old) (S.run calc.new) ((e : Reading) → IsTrue ((S.run calc.old).is_open e)
-        → IsNear (S.at edge.now e)) }
+    ensures { Lays S.run calc.old calc.new (standing_at S.at result) (λ e. below_of (S.at edge.now e) no_run false)
+        (λ e. IsNear (S.at edge.now e)) }
 {
     let edge = calc.copy(edge);
     let run = empty(calc);
@@ -240,11 +228,8 @@ pub fn below<S: Steady>(calc: &mut S, edge: &S::Num) -> Standing<S::Num>
 
 /// Where boxes stand again.
 pub fn copy_standing<S: Steady>(calc: &mut S, standing: &Standing<S::Num>) -> Standing<S::Num>
-    ensures goes { Goes (S.run calc.old) (S.run calc.new) }
-    ensures value { (e : Reading) → IsTrue ((S.run calc.new).is_open e)
-        → standing_at S.at result e ≡ standing_at S.at standing.now e }
-    ensures cause { Blames (S.run calc.old) (S.run calc.new) ((e : Reading) → IsTrue ((S.run calc.old).is_open e)
-        → IsStandingLow (standing_at S.at standing.now e)) }
+    ensures { Lays S.run calc.old calc.new (standing_at S.at result) (standing_at S.at standing.now)
+        (λ e. IsStandingLow (standing_at S.at standing.now e)) }
 {
     match standing {
         Standing::AtTop { y, cleared } => {
@@ -273,11 +258,9 @@ pub fn standing_in<S: Steady>(
     cleared: Option<Cleared<S::Num>>,
     shape: &Shape<S::Num>,
 ) -> Standing<S::Num>
-    ensures goes { Goes (S.run calc.old) (S.run calc.new) }
-    ensures value { (e : Reading) → IsTrue ((S.run calc.new).is_open e) → standing_at S.at result e
-        ≡ standing_in tree.now b (cleared_at S.at cleared e) (frame_at S.at shape.now e) }
-    ensures cause { Blames (S.run calc.old) (S.run calc.new) ((e : Reading) → IsTrue ((S.run calc.old).is_open e)
-        → IsFrameLow (frame_at S.at shape.now e)) }
+    ensures { Lays S.run calc.old calc.new (standing_at S.at result)
+        (λ e. standing_in tree.now b (cleared_at S.at cleared e) (frame_at S.at shape.now e))
+        (λ e. IsFrameLow (frame_at S.at shape.now e)) }
 {
     if is_open_above(tree, b) {
         let y = calc.copy(&shape.corner.y);
@@ -290,11 +273,8 @@ pub fn standing_in<S: Steady>(
 
 /// The greatest top so far, with one more.
 pub fn raised<S: Steady>(calc: &mut S, least: &Option<S::Num>, y: S::Num) -> Option<S::Num>
-    ensures goes { Goes (S.run calc.old) (S.run calc.new) }
-    ensures value { (e : Reading) → IsTrue ((S.run calc.new).is_open e)
-        → option_at S.at result e ≡ raised_of (option_at S.at least.now e) (S.at y e) }
-    ensures cause { Blames (S.run calc.old) (S.run calc.new) ((e : Reading) → IsTrue ((S.run calc.old).is_open e)
-        → AreLevelsLow (option_at S.at least.now e)) }
+    ensures { Lays S.run calc.old calc.new (option_at S.at result)
+        (λ e. raised_of (option_at S.at least.now e) (S.at y e)) (λ e. AreLevelsLow (option_at S.at least.now e)) }
 {
     match least {
         Some(least) => {
@@ -307,10 +287,8 @@ pub fn raised<S: Steady>(calc: &mut S, least: &Option<S::Num>, y: S::Num) -> Opt
 
 /// The greater one of two.
 fn greater_of<S: Steady>(calc: &mut S, y: S::Num, least: &S::Num) -> S::Num
-    ensures goes { Goes (S.run calc.old) (S.run calc.new) }
-    ensures value { Stands (S.run calc.new) (S.at result) (λ e. int_max (S.at y e) (S.at least.now e)) }
-    ensures cause { Blames (S.run calc.old) (S.run calc.new) ((e : Reading) → IsTrue ((S.run calc.old).is_open e)
-        → IsLevelLow (S.at least.now e)) }
+    ensures { Lays S.run calc.old calc.new (S.at result) (λ e. int_max (S.at y e) (S.at least.now e))
+        (λ e. IsLevelLow (S.at least.now e)) }
 {
     let least = calc.copy(least);
     greater(calc, y, least)
@@ -318,11 +296,9 @@ fn greater_of<S: Steady>(calc: &mut S, y: S::Num, least: &S::Num) -> S::Num
 
 /// The outer top of a box.
 fn outer_top<S: Steady>(calc: &mut S, shape: &Shape<S::Num>) -> S::Num
-    ensures goes { Goes (S.run calc.old) (S.run calc.new) }
-    ensures value { Stands (S.run calc.new) (S.at result) (λ e. int_min (S.at shape.now.corner.y e)
-        (S.at shape.now.corner.y e -ℤ S.at shape.now.v.margin_top e)) }
-    ensures cause { Blames (S.run calc.old) (S.run calc.new) ((e : Reading) → IsTrue ((S.run calc.old).is_open e)
-        → IsFrameLow (frame_at S.at shape.now e)) }
+    ensures { Lays S.run calc.old calc.new (S.at result)
+        (λ e. int_min (S.at shape.now.corner.y e) (S.at shape.now.corner.y e -ℤ S.at shape.now.v.margin_top e))
+        (λ e. IsFrameLow (frame_at S.at shape.now e)) }
 {
     let top = calc.copy(&shape.corner.y);
     let outer = calc.sub(&shape.corner.y, &shape.v.margin_top);
@@ -367,12 +343,10 @@ pub fn standing_after<S: Steady>(
     met: Met<S::Num>,
     laid: Laid<S::Num>,
 ) -> Standing<S::Num>
-    ensures goes { Goes (S.run calc.old) (S.run calc.new) }
-    ensures value { (e : Reading) → IsTrue ((S.run calc.new).is_open e) → standing_at S.at result e
-        ≡ after_of tree.now e.world (band_at S.at cb.now e) (standing_at S.at before e) b (met_at S.at met e)
-        (ending_at S.at laid e) }
-    ensures cause { Blames (S.run calc.old) (S.run calc.new) ((e : Reading) → IsTrue ((S.run calc.old).is_open e)
-        → IsBandLow (band_at S.at cb.now e)
+    ensures { Lays S.run calc.old calc.new (standing_at S.at result)
+        (λ e. after_of tree.now e.world (band_at S.at cb.now e) (standing_at S.at before e) b (met_at S.at met e)
+        (ending_at S.at laid e))
+        (λ e. IsBandLow (band_at S.at cb.now e)
         × (VerticalsFit tree.now e.world b (across_of (band_at S.at cb.now e))
         × (IsLevelLow (S.at met.reached.top e) × IsRunLow (run_at S.at met.own e)))) }
 {

@@ -2,7 +2,7 @@
 ghost use Rattle.std.specs.Prelude.{◌≡◌, ◌<◌, ◌++◌, ℕ, ℤ, Bool, length, slice_index_or, IsTrue};
 ghost use Rattle.std.specs.Option.{option_or};
 ghost use Rattle.viz_calc.specs.World.{Reading};
-ghost use Rattle.viz_calc.specs.Run.{Goes, Blames, BlamesButMem};
+ghost use Rattle.viz_calc.specs.Run.{Goes, BlamesButMem, Lays};
 ghost use Rattle.viz_calc.specs.Renderings.{band_at};
 ghost use Rattle.lay_frame.specs.Readings.{frame_at, boxes_at};
 ghost use Rattle.lay_float.specs.Readings.{option_at};
@@ -38,11 +38,8 @@ use viz_calc::Steady;
 
 /// A context where nothing stands yet.
 pub fn fresh<S: Steady>(alloc: Global, calc: &mut S, top: &S::Num) -> Context<S::Num>
-    ensures goes { Goes (S.run calc.old) (S.run calc.new) }
-    ensures value { (e : Reading) → IsTrue ((S.run calc.new).is_open e)
-        → context_at S.at result e ≡ fresh_of (S.at top.now e) }
-    ensures cause { Blames (S.run calc.old) (S.run calc.new) ((e : Reading) → IsTrue ((S.run calc.old).is_open e)
-        → IsNear (S.at top.now e)) }
+    ensures { Lays S.run calc.old calc.new (context_at S.at result) (λ e. fresh_of (S.at top.now e))
+        (λ e. IsNear (S.at top.now e)) }
 {
     let standing = below(calc, top);
     Context {
@@ -96,11 +93,9 @@ fn float<S: Steady>(
 
 /// The margins that end a box: those of its last child that its own bottom margin joins, and that.
 fn closing<S: Steady>(calc: &mut S, run: Run<S::Num>, shape: &Shape<S::Num>) -> Run<S::Num>
-    ensures goes { Goes (S.run calc.old) (S.run calc.new) }
-    ensures value { (e : Reading) → IsTrue ((S.run calc.new).is_open e) → run_at S.at result e
-        ≡ with_margin (run_at S.at run e) (S.at shape.now.v.margin_bottom e) }
-    ensures cause { Blames (S.run calc.old) (S.run calc.new) ((e : Reading) → IsTrue ((S.run calc.old).is_open e)
-        → IsFrameLow (frame_at S.at shape.now e)) }
+    ensures { Lays S.run calc.old calc.new (run_at S.at result)
+        (λ e. with_margin (run_at S.at run e) (S.at shape.now.v.margin_bottom e))
+        (λ e. IsFrameLow (frame_at S.at shape.now e)) }
 {
     let mut run = run;
     join(calc, &mut run, &shape.v.margin_bottom);
@@ -165,11 +160,9 @@ fn leave<S: Steady>(
     own: Context<S::Num>,
     context: &mut Context<S::Num>,
 )
-    ensures goes { Goes (S.run calc.old) (S.run calc.new) }
-    ensures value { (e : Reading) → IsTrue ((S.run calc.new).is_open e) → context_at S.at context.new e
-        ≡ left (context_at S.at context.old e) (frame_at S.at shape.now e) (context_at S.at own e) }
-    ensures cause { Blames (S.run calc.old) (S.run calc.new) ((e : Reading) → IsTrue ((S.run calc.old).is_open e)
-        → AreLevelsLow (option_at S.at context.old.least e) × IsFrameLow (frame_at S.at shape.now e)) }
+    ensures { Lays S.run calc.old calc.new (context_at S.at context.new)
+        (λ e. left (context_at S.at context.old e) (frame_at S.at shape.now e) (context_at S.at own e))
+        (λ e. AreLevelsLow (option_at S.at context.old.least e) × IsFrameLow (frame_at S.at shape.now e)) }
 {
     let Context {
         standing,

@@ -1,7 +1,6 @@
 //! Boxes before their height is known (CSS 2.1, 8.1, 8.3 to 8.5).
-ghost use Rattle.std.specs.Prelude.{◌≡◌, IsTrue};
-ghost use Rattle.viz_calc.specs.World.{Reading};
-ghost use Rattle.viz_calc.specs.Run.{Stands, Goes, Fits, Blames};
+ghost use Rattle.viz_calc.specs.State.{AllSmall};
+ghost use Rattle.viz_calc.specs.Run.{Lays};
 ghost use Rattle.layout_semantics.specs.Rectangles.{content_top as top_of_content};
 ghost use Rattle.layout_semantics.specs.Verticals.{verticals as verticals_of};
 ghost use Rattle.lay_width.specs.Fitting.{VerticalsFit};
@@ -35,12 +34,9 @@ pub struct Shape<N> {
 #[tactic(auto, unfolding(layout_semantics::specs::Verticals::verticals))]
 /// The used margins, borders and paddings above and below the content of a box in so wide a containing block.
 pub fn verticals<S: Steady>(calc: &mut S, tree: &BoxTree, b: u32, room: &S::Num) -> Edges<S::Num>
-    ensures goes { Goes (S.run calc.old) (S.run calc.new) }
-    ensures value { (e : Reading) → IsTrue ((S.run calc.new).is_open e)
-        → verticals_at S.at result e ≡ verticals_of tree.now e.world b (S.at room.now e) }
-    ensures cause { Blames (S.run calc.old) (S.run calc.new)
-        ((e : Reading) → IsTrue ((S.run calc.old).is_open e)
-        → VerticalsFit tree.now e.world b (S.at room.now e)) }
+    ensures { Lays S.run calc.old calc.new (verticals_at S.at result)
+        (λ e. verticals_of tree.now e.world b (S.at room.now e))
+        (λ e. VerticalsFit tree.now e.world b (S.at room.now e)) }
 {
     let margin = margins(tree, b);
     let border = borders(tree, b);
@@ -63,10 +59,8 @@ pub fn verticals<S: Steady>(calc: &mut S, tree: &BoxTree, b: u32, room: &S::Num)
 
 /// The top of a box's content.
 pub fn content_top<S: Steady>(calc: &mut S, shape: &Shape<S::Num>) -> S::Num
-    ensures goes { Goes (S.run calc.old) (S.run calc.new) }
-    ensures value { Stands (S.run calc.new) (S.at result) (λ e. top_of_content (frame_at S.at shape.now e)) }
-    ensures cause { Blames (S.run calc.old) (S.run calc.new)
-        (Fits (S.run calc.old) (λ e. top_way (frame_at S.at shape.now e))) }
+    ensures { Lays S.run calc.old calc.new (S.at result) (λ e. top_of_content (frame_at S.at shape.now e))
+        (λ e. AllSmall (top_way (frame_at S.at shape.now e))) }
 {
     let edge = calc.add(&shape.corner.y, &shape.v.border_top);
     calc.add(&edge, &shape.v.padding_top)

@@ -2,7 +2,7 @@
 ghost use Rattle.std.specs.Prelude.{◌≡◌, ◌++◌, ◌∷◌, [], pos, length, IsTrue, ⊤};
 ghost use Rattle.std.proofs.Math.ListN.{set};
 ghost use Rattle.viz_calc.specs.World.{Reading};
-ghost use Rattle.viz_calc.specs.Run.{Goes, BlamesButMem};
+ghost use Rattle.viz_calc.specs.Run.{Goes, BlamesButMem, LaysButMem};
 ghost use Rattle.viz_calc.specs.Renderings.{placed_at};
 ghost use Rattle.layout_semantics.specs.Rectangles.{placed_box};
 ghost use Rattle.lay_frame.specs.Fitting.{KeptFits};
@@ -17,10 +17,8 @@ use viz_calc::Steady;
 #[tactic(auto, using(crate::proofs::Slots::slots), unfolding(crate::specs::Readings::boxes_at))]
 /// Adds a box to those before.
 pub fn append<S: Steady>(calc: &mut S, out: &mut Vec<Placed<S::Num>>, placed: Placed<S::Num>)
-    ensures goes { Goes (S.run calc.old) (S.run calc.new) }
-    ensures value { (e : Reading) → IsTrue ((S.run calc.new).is_open e) → boxes_at S.at out.new.items e
-        ≡ boxes_at S.at out.old.items e ++ placed_at S.at placed e ∷ [] }
-    ensures cause { BlamesButMem (S.run calc.old) (S.run calc.new) ⊤ }
+    ensures { LaysButMem S.run calc.old calc.new (boxes_at S.at out.new.items)
+        (λ e. boxes_at S.at out.old.items e ++ placed_at S.at placed e ∷ []) (λ e. ⊤) }
 {
     match out.push(placed) {
         Ok(()) => {}

@@ -1,7 +1,7 @@
 //! Boxes at their places, with their four rectangles (CSS 2.1, 8.1).
-ghost use Rattle.std.specs.Prelude.{◌≡◌, IsTrue};
-ghost use Rattle.viz_calc.specs.World.{Reading};
-ghost use Rattle.viz_calc.specs.Run.{Stands, Goes, Fits, Blames};
+ghost use Rattle.std.specs.Prelude.{◌≡◌};
+ghost use Rattle.viz_calc.specs.State.{AllSmall};
+ghost use Rattle.viz_calc.specs.Run.{Lays};
 ghost use Rattle.viz_calc.specs.Renderings.{quad_at, placed_at};
 ghost use Rattle.layout_semantics.specs.Blocks.{node_of};
 ghost use Rattle.layout_semantics.specs.Rectangles.{placed_box, border_width as width_of, border_height as height_of};
@@ -17,12 +17,11 @@ use viz_calc::Steady;
 
 /// A rectangle without a strip along its edges.
 fn inset<S: Steady>(calc: &mut S, q: &Quad<S::Num>, by: &Quad<S::Num>) -> Quad<S::Num>
-    ensures goes { Goes (S.run calc.old) (S.run calc.new) }
-    ensures value { (e : Reading) → IsTrue ((S.run calc.new).is_open e) → quad_at S.at result e
-        ≡ inset_by (quad_at S.at q.now e) (S.at by.now.left e) (S.at by.now.top e) (S.at by.now.right e)
-        (S.at by.now.bottom e) }
-    ensures cause { Blames (S.run calc.old) (S.run calc.new)
-        (Fits (S.run calc.old) (λ e. quad_way
+    ensures { Lays S.run calc.old calc.new (quad_at S.at result)
+        (λ e. inset_by (quad_at S.at q.now e) (S.at by.now.left e) (S.at by.now.top e) (S.at by.now.right e)
+        (S.at by.now.bottom e))
+        (λ e. AllSmall
+        (quad_way
         (inset_by (quad_at S.at q.now e) (S.at by.now.left e) (S.at by.now.top e) (S.at by.now.right e)
         (S.at by.now.bottom e)))) }
 {
@@ -40,12 +39,11 @@ fn inset<S: Steady>(calc: &mut S, q: &Quad<S::Num>, by: &Quad<S::Num>) -> Quad<S
 
 /// With one around it.
 fn outset<S: Steady>(calc: &mut S, q: &Quad<S::Num>, by: &Quad<S::Num>) -> Quad<S::Num>
-    ensures goes { Goes (S.run calc.old) (S.run calc.new) }
-    ensures value { (e : Reading) → IsTrue ((S.run calc.new).is_open e) → quad_at S.at result e
-        ≡ outset_by (quad_at S.at q.now e) (S.at by.now.left e) (S.at by.now.top e) (S.at by.now.right e)
-        (S.at by.now.bottom e) }
-    ensures cause { Blames (S.run calc.old) (S.run calc.new)
-        (Fits (S.run calc.old) (λ e. quad_way
+    ensures { Lays S.run calc.old calc.new (quad_at S.at result)
+        (λ e. outset_by (quad_at S.at q.now e) (S.at by.now.left e) (S.at by.now.top e) (S.at by.now.right e)
+        (S.at by.now.bottom e))
+        (λ e. AllSmall
+        (quad_way
         (outset_by (quad_at S.at q.now e) (S.at by.now.left e) (S.at by.now.top e) (S.at by.now.right e)
         (S.at by.now.bottom e)))) }
 {
@@ -63,10 +61,8 @@ fn outset<S: Steady>(calc: &mut S, q: &Quad<S::Num>, by: &Quad<S::Num>) -> Quad<
 
 /// The width of a border box.
 fn border_width<S: Steady>(calc: &mut S, x: &Widths<S::Num>) -> S::Num
-    ensures goes { Goes (S.run calc.old) (S.run calc.new) }
-    ensures value { Stands (S.run calc.new) (S.at result) (λ e. width_of (widths_at S.at x.now e)) }
-    ensures cause { Blames (S.run calc.old) (S.run calc.new)
-        (Fits (S.run calc.old) (λ e. width_way (widths_at S.at x.now e))) }
+    ensures { Lays S.run calc.old calc.new (S.at result) (λ e. width_of (widths_at S.at x.now e))
+        (λ e. AllSmall (width_way (widths_at S.at x.now e))) }
 {
     let sum = calc.add(&x.border_left, &x.padding_left);
     let sum = calc.add(&sum, &x.content);
@@ -76,11 +72,9 @@ fn border_width<S: Steady>(calc: &mut S, x: &Widths<S::Num>) -> S::Num
 
 /// The height of a border box.
 fn border_height<S: Steady>(calc: &mut S, v: &Edges<S::Num>, content: &S::Num) -> S::Num
-    ensures goes { Goes (S.run calc.old) (S.run calc.new) }
-    ensures value { Stands (S.run calc.new) (S.at result)
-        (λ e. height_of (verticals_at S.at v.now e) (S.at content.now e)) }
-    ensures cause { Blames (S.run calc.old) (S.run calc.new)
-        (Fits (S.run calc.old) (λ e. tall_way (verticals_at S.at v.now e) (S.at content.now e))) }
+    ensures { Lays S.run calc.old calc.new (S.at result)
+        (λ e. height_of (verticals_at S.at v.now e) (S.at content.now e))
+        (λ e. AllSmall (tall_way (verticals_at S.at v.now e) (S.at content.now e))) }
 {
     let sum = calc.add(&v.border_top, &v.padding_top);
     let sum = calc.add(&sum, content);
@@ -97,12 +91,9 @@ fn around<S: Steady>(
     v: &Edges<S::Num>,
     border: Quad<S::Num>,
 ) -> Placed<S::Num>
-    ensures goes { Goes (S.run calc.old) (S.run calc.new) }
-    ensures value { (e : Reading) → IsTrue ((S.run calc.new).is_open e) → placed_at S.at result e
-        ≡ around_box kind node (widths_at S.at x.now e) (verticals_at S.at v.now e) (quad_at S.at border e) }
-    ensures cause { Blames (S.run calc.old) (S.run calc.new)
-        ((e : Reading) → IsTrue ((S.run calc.old).is_open e)
-        → AroundFits (widths_at S.at x.now e) (verticals_at S.at v.now e) (quad_at S.at border e)) }
+    ensures { Lays S.run calc.old calc.new (placed_at S.at result)
+        (λ e. around_box kind node (widths_at S.at x.now e) (verticals_at S.at v.now e) (quad_at S.at border e))
+        (λ e. AroundFits (widths_at S.at x.now e) (verticals_at S.at v.now e) (quad_at S.at border e)) }
 {
     let margins = Quad {
         left: calc.copy(&x.margin_left),
@@ -147,12 +138,9 @@ fn node_at(tree: &BoxTree, b: u32) -> u32
 
 /// The border box of a box with its content so high.
 fn border<S: Steady>(calc: &mut S, shape: &Shape<S::Num>, content: &S::Num) -> Quad<S::Num>
-    ensures goes { Goes (S.run calc.old) (S.run calc.new) }
-    ensures value { (e : Reading) → IsTrue ((S.run calc.new).is_open e)
-        → quad_at S.at result e ≡ border_of (frame_at S.at shape.now e) (S.at content.now e) }
-    ensures cause { Blames (S.run calc.old) (S.run calc.new)
-        ((e : Reading) → IsTrue ((S.run calc.old).is_open e)
-        → BorderFits (frame_at S.at shape.now e) (S.at content.now e)) }
+    ensures { Lays S.run calc.old calc.new (quad_at S.at result)
+        (λ e. border_of (frame_at S.at shape.now e) (S.at content.now e))
+        (λ e. BorderFits (frame_at S.at shape.now e) (S.at content.now e)) }
 {
     let left = calc.copy(&shape.corner.x);
     let top = calc.copy(&shape.corner.y);
@@ -176,12 +164,9 @@ pub fn place<S: Steady>(
     shape: &Shape<S::Num>,
     content: &S::Num,
 ) -> Placed<S::Num>
-    ensures goes { Goes (S.run calc.old) (S.run calc.new) }
-    ensures value { (e : Reading) → IsTrue ((S.run calc.new).is_open e) → placed_at S.at result e
-        ≡ placed_box tree.now b (frame_at S.at shape.now e) (S.at content.now e) }
-    ensures cause { Blames (S.run calc.old) (S.run calc.new)
-        ((e : Reading) → IsTrue ((S.run calc.old).is_open e)
-        → PlaceFits (frame_at S.at shape.now e) (S.at content.now e)) }
+    ensures { Lays S.run calc.old calc.new (placed_at S.at result)
+        (λ e. placed_box tree.now b (frame_at S.at shape.now e) (S.at content.now e))
+        (λ e. PlaceFits (frame_at S.at shape.now e) (S.at content.now e)) }
 {
     let border = border(calc, shape, content);
     around(

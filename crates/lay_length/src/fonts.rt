@@ -5,7 +5,8 @@ ghost use Rattle.std.specs.Str.{chars};
 ghost use Rattle.viz_base.specs.Styles.{is_good_size, is_good_line};
 ghost use Rattle.viz_base.specs.declared.lengths.Size.TheVariants as of_size;
 ghost use Rattle.viz_base.specs.declared.styles.Style.{Style as StyleOf};
-ghost use Rattle.viz_calc.specs.Run.{Stands, Goes, Fits, Blames};
+ghost use Rattle.viz_calc.specs.State.{AllSmall};
+ghost use Rattle.viz_calc.specs.Run.{Lays};
 ghost use Rattle.viz_base.specs.FontSizes.{fraction, default_size, parent_in};
 ghost use Rattle.layout_semantics.specs.Fonts.{font_size as font_size_of, line_height as line_height_of};
 ghost use Rattle.layout_semantics.specs.Fonts.{ascent as ascent_of, descent as descent_of, text_width as text_width_of};
@@ -40,10 +41,8 @@ fn parent_at(tree: &BoxTree, node: u32) -> Option<u32>
 /// A part of the default font size.
 fn default_part<S: Steady>(calc: &mut S, num: i64, den: u64) -> S::Num
     requires { 1 ≤ den }
-    ensures goes { Goes (S.run calc.old) (S.run calc.new) }
-    ensures value { Stands (S.run calc.new) (S.at result) (λ e. fraction num den (default_size e.world.s)) }
-    ensures cause { Blames (S.run calc.old) (S.run calc.new)
-        (Fits (S.run calc.old) (λ e. default_size e.world.s ∷ fraction num den (default_size e.world.s) ∷ [])) }
+    ensures { Lays S.run calc.old calc.new (S.at result) (λ e. fraction num den (default_size e.world.s))
+        (λ e. AllSmall (default_size e.world.s ∷ fraction num den (default_size e.world.s) ∷ [])) }
 {
     let size = calc.size();
     calc.scale_floor(&size, num, den)
@@ -53,10 +52,8 @@ fn default_part<S: Steady>(calc: &mut S, num: i64, den: u64) -> S::Num
 ///
 /// It goes up to the nearest node whose size needs no parent's.
 pub fn font_size<S: Steady>(calc: &mut S, tree: &BoxTree, node: u32) -> S::Num
-    ensures goes { Goes (S.run calc.old) (S.run calc.new) }
-    ensures value { Stands (S.run calc.new) (S.at result) (λ e. font_size_of tree.now e.world node) }
-    ensures cause { Blames (S.run calc.old) (S.run calc.new) (Fits (S.run calc.old)
-        (λ e. size_way tree.now e.world node)) }
+    ensures { Lays S.run calc.old calc.new (S.at result) (λ e. font_size_of tree.now e.world node)
+        (λ e. AllSmall (size_way tree.now e.world node)) }
 {
     match (size_at(tree, node), parent_at(tree, node)) {
         (Size::Px(units), _) => pixels(calc, units),
@@ -74,11 +71,9 @@ pub fn font_size<S: Steady>(calc: &mut S, tree: &BoxTree, node: u32) -> S::Num
 /// A part of a node's font size.
 pub fn size_part<S: Steady>(calc: &mut S, tree: &BoxTree, node: u32, num: i64, den: u64) -> S::Num
     requires { 1 ≤ den }
-    ensures goes { Goes (S.run calc.old) (S.run calc.new) }
-    ensures value { Stands (S.run calc.new) (S.at result) (λ e. fraction num den (font_size_of tree.now e.world node)) }
-    ensures cause { Blames (S.run calc.old) (S.run calc.new)
-        (Fits (S.run calc.old) (λ e. part_way tree.now e.world node (fraction num den
-        (font_size_of tree.now e.world node)))) }
+    ensures { Lays S.run calc.old calc.new (S.at result)
+        (λ e. fraction num den (font_size_of tree.now e.world node))
+        (λ e. AllSmall (part_way tree.now e.world node (fraction num den (font_size_of tree.now e.world node)))) }
 {
     let size = font_size(calc, tree, node);
     calc.scale_floor(&size, num, den)
@@ -97,10 +92,8 @@ fn line_at(tree: &BoxTree, node: u32) -> Option<LineHeight>
 
 /// The line height of a node, in 1/64 px (CSS 2.1, 10.8.1).
 pub fn line_height<S: Steady>(calc: &mut S, tree: &BoxTree, node: u32) -> S::Num
-    ensures goes { Goes (S.run calc.old) (S.run calc.new) }
-    ensures value { Stands (S.run calc.new) (S.at result) (λ e. line_height_of tree.now e.world node) }
-    ensures cause { Blames (S.run calc.old) (S.run calc.new) (Fits (S.run calc.old)
-        (λ e. line_way tree.now e.world node)) }
+    ensures { Lays S.run calc.old calc.new (S.at result) (λ e. line_height_of tree.now e.world node)
+        (λ e. AllSmall (line_way tree.now e.world node)) }
 {
     match line_at(tree, node) {
         Some(LineHeight::Own { num, den }) => size_part(calc, tree, node, num, den),
@@ -123,22 +116,18 @@ fn font_at(tree: &BoxTree, node: u32) -> Option<&Font>
 
 /// So many units of a font's em square, at a node's font size.
 fn measure<S: Steady>(calc: &mut S, tree: &BoxTree, node: u32, font: &Font, units: i64) -> S::Num
-    ensures goes { Goes (S.run calc.old) (S.run calc.new) }
-    ensures value { Stands (S.run calc.new) (S.at result)
-        (λ e. fraction units font.now.upem (font_size_of tree.now e.world node)) }
-    ensures cause { Blames (S.run calc.old) (S.run calc.new)
-        (Fits (S.run calc.old) (λ e. part_way tree.now e.world node (fraction units font.now.upem
-        (font_size_of tree.now e.world node)))) }
+    ensures { Lays S.run calc.old calc.new (S.at result)
+        (λ e. fraction units font.now.upem (font_size_of tree.now e.world node))
+        (λ e. AllSmall
+        (part_way tree.now e.world node (fraction units font.now.upem (font_size_of tree.now e.world node)))) }
 {
     size_part(calc, tree, node, units, u64::from(font.upem))
 }
 
 /// The ascent of a node's font, in 1/64 px (CSS 2.1, 10.8.1).
 pub fn ascent<S: Steady>(calc: &mut S, tree: &BoxTree, node: u32) -> S::Num
-    ensures goes { Goes (S.run calc.old) (S.run calc.new) }
-    ensures value { Stands (S.run calc.new) (S.at result) (λ e. ascent_of tree.now e.world node) }
-    ensures cause { Blames (S.run calc.old) (S.run calc.new)
-        (Fits (S.run calc.old) (λ e. part_way tree.now e.world node (ascent_of tree.now e.world node))) }
+    ensures { Lays S.run calc.old calc.new (S.at result) (λ e. ascent_of tree.now e.world node)
+        (λ e. AllSmall (part_way tree.now e.world node (ascent_of tree.now e.world node))) }
 {
     match font_at(tree, node) {
         Some(font) => measure(calc, tree, node, font, i64::from(font.ascent)),
@@ -148,10 +137,8 @@ pub fn ascent<S: Steady>(calc: &mut S, tree: &BoxTree, node: u32) -> S::Num
 
 /// The descent of a node's font, in 1/64 px (CSS 2.1, 10.8.1).
 pub fn descent<S: Steady>(calc: &mut S, tree: &BoxTree, node: u32) -> S::Num
-    ensures goes { Goes (S.run calc.old) (S.run calc.new) }
-    ensures value { Stands (S.run calc.new) (S.at result) (λ e. descent_of tree.now e.world node) }
-    ensures cause { Blames (S.run calc.old) (S.run calc.new)
-        (Fits (S.run calc.old) (λ e. part_way tree.now e.world node (descent_of tree.now e.world node))) }
+    ensures { Lays S.run calc.old calc.new (S.at result) (λ e. descent_of tree.now e.world node)
+        (λ e. AllSmall (part_way tree.now e.world node (descent_of tree.now e.world node))) }
 {
     match font_at(tree, node) {
         Some(font) => measure(calc, tree, node, font, i64::from(font.descent)),
@@ -162,11 +149,8 @@ pub fn descent<S: Steady>(calc: &mut S, tree: &BoxTree, node: u32) -> S::Num
 /// The width of a text as one word, in 1/64 px: the sum of its advances, and then the fraction.
 pub fn text_width<S: Steady>(calc: &mut S, tree: &BoxTree, node: u32, text: &str) -> S::Num
     requires { length (chars text.now) ≤ 262144 }
-    ensures goes { Goes (S.run calc.old) (S.run calc.new) }
-    ensures value { Stands (S.run calc.new) (S.at result) (λ e. text_width_of tree.now e.world node (chars text.now)) }
-    ensures cause { Blames (S.run calc.old) (S.run calc.new)
-        (Fits (S.run calc.old) (λ e. part_way tree.now e.world node (text_width_of tree.now e.world node
-        (chars text.now)))) }
+    ensures { Lays S.run calc.old calc.new (S.at result) (λ e. text_width_of tree.now e.world node (chars text.now))
+        (λ e. AllSmall (part_way tree.now e.world node (text_width_of tree.now e.world node (chars text.now)))) }
 {
     match font_at(tree, node) {
         Some(font) => measure(calc, tree, node, font, advances_of(font, text) as i64),

@@ -3,7 +3,7 @@ ghost use Rattle.std.specs.Prelude.{◌≡◌, ◌+ℤ◌, ◌++◌, ◌∷◌, 
 ghost use Rattle.std.specs.Int.{int_max};
 ghost use Rattle.viz_calc.specs.World.{Reading};
 ghost use Rattle.viz_calc.specs.Renderings.{band_at};
-ghost use Rattle.viz_calc.specs.Run.{Stands, Goes, Fits, Blames, BlamesButMem};
+ghost use Rattle.viz_calc.specs.Run.{Stands, Goes, Blames, BlamesButMem, LaysButMem};
 ghost use Rattle.viz_calc.specs.State.{AllSmall};
 ghost use Rattle.layout_semantics.specs.Floats.{FloatBox};
 ghost use Rattle.layout_semantics.specs.LineHeights.{height_of_extent};
@@ -124,12 +124,11 @@ fn add_box<S: Steady>(
     bottom: &S::Num,
     entries: &mut List<Entry<S::Num>>,
 )
-    ensures goes { Goes (S.run calc.old) (S.run calc.new) }
-    ensures value { (e : Reading) → IsTrue ((S.run calc.new).is_open e) → entries_at S.at entries.new e
-        ≡ entries_at S.at entries.old e ++ box_in (context_at S.at container.now e) (band_at S.at room.now e)
-        (S.at top.now e) (S.at bottom.now e) ∷ [] }
-    ensures cause { BlamesButMem (S.run calc.old) (S.run calc.new) (Fits (S.run calc.old) (λ e.
-        S.at room.now.left e ∷ S.at top.now e ∷ S.at room.now.right e ∷ S.at bottom.now e ∷ [])) }
+    ensures { LaysButMem S.run calc.old calc.new (entries_at S.at entries.new)
+        (λ e. entries_at S.at entries.old e
+        ++ box_in (context_at S.at container.now e) (band_at S.at room.now e) (S.at top.now e) (S.at bottom.now e)
+        ∷ [])
+        (λ e. AllSmall (S.at room.now.left e ∷ S.at top.now e ∷ S.at room.now.right e ∷ S.at bottom.now e ∷ [])) }
 {
     let entry = line_box(calc, container, room, top, bottom);
     add_entry(calc, entries, entry);

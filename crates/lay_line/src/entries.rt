@@ -3,7 +3,8 @@ ghost use Rattle.std.specs.Prelude.{◌≡◌, ℤ, ◌++◌, ◌∷◌, [], Non
 ghost use Rattle.viz_base.specs.declared.layouts.Entry.TheVariants as of_entry;
 ghost use Rattle.std.specs.Option.{option_map_or};
 ghost use Rattle.viz_calc.specs.World.{Reading};
-ghost use Rattle.viz_calc.specs.Run.{Goes, Fits, Blames, BlamesButMem};
+ghost use Rattle.viz_calc.specs.State.{AllSmall};
+ghost use Rattle.viz_calc.specs.Run.{Goes, Lays, LaysButMem};
 ghost use Rattle.viz_calc.specs.Renderings.{spot_at};
 ghost use Rattle.layout_semantics.specs.Fragments.{is_text_of as is_text_at, float_entries, spots_after};
 ghost use Rattle.lay_line.specs.Contexts.{context_at};
@@ -24,10 +25,8 @@ use viz_calc::Steady;
 
 /// An entry more.
 pub fn add_entry<S: Steady>(calc: &mut S, entries: &mut List<Entry<S::Num>>, entry: Entry<S::Num>)
-    ensures goes { Goes (S.run calc.old) (S.run calc.new) }
-    ensures value { (e : Reading) → IsTrue ((S.run calc.new).is_open e) → entries_at S.at entries.new e
-        ≡ entries_at S.at entries.old e ++ entry_at S.at entry e ∷ [] }
-    ensures cause { BlamesButMem (S.run calc.old) (S.run calc.new) ⊤ }
+    ensures { LaysButMem S.run calc.old calc.new (entries_at S.at entries.new)
+        (λ e. entries_at S.at entries.old e ++ entry_at S.at entry e ∷ []) (λ e. ⊤) }
 {
     if entries.push(entry).is_err() {
         calc.stop();
@@ -64,14 +63,14 @@ fn add_text<S: Steady>(
     here: &Here<'_, '_, S::Num>,
     entries: &mut List<Entry<S::Num>>,
 )
-    ensures goes { Goes (S.run calc.old) (S.run calc.new) }
-    ensures value { (e : Reading) → IsTrue ((S.run calc.new).is_open e) → entries_at S.at entries.new e
-        ≡ entries_at S.at entries.old e ++ piece_in (context_at S.at container.now e) (set_line_at S.at line.now e) at
+    ensures { LaysButMem S.run calc.old calc.new (entries_at S.at entries.new)
+        (λ e. entries_at S.at entries.old e
+        ++ piece_in (context_at S.at container.now e) (set_line_at S.at line.now e) at
         (before_at S.at here.now.before e) (place_at S.at here.now.place.now e)
-        (places_at S.at here.now.after.now e) }
-    ensures cause { BlamesButMem (S.run calc.old) (S.run calc.new) ((e : Reading) → IsTrue ((S.run calc.old).is_open e)
-        → BoxFits (context_at S.at container.now e) at × (OnLine (S.at line.now.baseline e
-        ∷ S.at here.now.place.now.left e ∷ S.at here.now.place.now.right e ∷ [])
+        (places_at S.at here.now.after.now e))
+        (λ e. BoxFits (context_at S.at container.now e) at
+        × (OnLine
+        (S.at line.now.baseline e ∷ S.at here.now.place.now.left e ∷ S.at here.now.place.now.right e ∷ [])
         × PlacesOnLine (places_at S.at here.now.after.now e))) }
 {
     if goes_on(at, here.before) {
@@ -84,11 +83,8 @@ fn add_text<S: Steady>(
 
 /// A spot again.
 fn copy_spot<S: Steady>(calc: &mut S, spot: &Spot<S::Num>) -> Spot<S::Num>
-    ensures goes { Goes (S.run calc.old) (S.run calc.new) }
-    ensures value { (e : Reading) → IsTrue ((S.run calc.new).is_open e) → spot_at S.at result e
-        ≡ spot_at S.at spot.now e }
-    ensures cause { Blames (S.run calc.old) (S.run calc.new)
-        (Fits (S.run calc.old) (λ e. S.at spot.now.x e ∷ S.at spot.now.y e ∷ [])) }
+    ensures { Lays S.run calc.old calc.new (spot_at S.at result) (spot_at S.at spot.now)
+        (λ e. AllSmall (S.at spot.now.x e ∷ S.at spot.now.y e ∷ [])) }
 {
     let x = calc.copy(&spot.x);
     let y = calc.copy(&spot.y);
@@ -102,11 +98,9 @@ fn add_float<S: Steady>(
     spot: &Spot<S::Num>,
     entries: &mut List<Entry<S::Num>>,
 )
-    ensures goes { Goes (S.run calc.old) (S.run calc.new) }
-    ensures value { (e : Reading) → IsTrue ((S.run calc.new).is_open e) → entries_at S.at entries.new e
-        ≡ entries_at S.at entries.old e ++ of_entry.Goes at (spot_at S.at spot.now e) ∷ [] }
-    ensures cause { BlamesButMem (S.run calc.old) (S.run calc.new)
-        (Fits (S.run calc.old) (λ e. S.at spot.now.x e ∷ S.at spot.now.y e ∷ [])) }
+    ensures { LaysButMem S.run calc.old calc.new (entries_at S.at entries.new)
+        (λ e. entries_at S.at entries.old e ++ of_entry.Goes at (spot_at S.at spot.now e) ∷ [])
+        (λ e. AllSmall (S.at spot.now.x e ∷ S.at spot.now.y e ∷ [])) }
 {
     let spot = copy_spot(calc, spot);
     add_entry(calc, entries, Entry::Goes(at, spot));
@@ -118,11 +112,9 @@ fn add_first<S: Steady>(
     spots: &[(u32, Spot<S::Num>)],
     entries: &mut List<Entry<S::Num>>,
 )
-    ensures goes { Goes (S.run calc.old) (S.run calc.new) }
-    ensures value { (e : Reading) → IsTrue ((S.run calc.new).is_open e) → entries_at S.at entries.new e
-        ≡ entries_at S.at entries.old e ++ float_entries (take 1 (spots_at S.at spots.now e)) }
-    ensures cause { BlamesButMem (S.run calc.old) (S.run calc.new) ((e : Reading) → IsTrue ((S.run calc.old).is_open e)
-        → SpotsOnLine (spots_at S.at spots.now e)) }
+    ensures { LaysButMem S.run calc.old calc.new (entries_at S.at entries.new)
+        (λ e. entries_at S.at entries.old e ++ float_entries (take 1 (spots_at S.at spots.now e)))
+        (λ e. SpotsOnLine (spots_at S.at spots.now e)) }
 {
     if let Some((first, _)) = spots.split_first() {
         add_float(calc, first.0, &first.1, entries);
@@ -135,11 +127,9 @@ pub fn add_floats<S: Steady>(
     spots: &[(u32, Spot<S::Num>)],
     entries: &mut List<Entry<S::Num>>,
 )
-    ensures goes { Goes (S.run calc.old) (S.run calc.new) }
-    ensures value { (e : Reading) → IsTrue ((S.run calc.new).is_open e) → entries_at S.at entries.new e
-        ≡ entries_at S.at entries.old e ++ float_entries (spots_at S.at spots.now e) }
-    ensures cause { BlamesButMem (S.run calc.old) (S.run calc.new) ((e : Reading) → IsTrue ((S.run calc.old).is_open e)
-        → SpotsOnLine (spots_at S.at spots.now e)) }
+    ensures { LaysButMem S.run calc.old calc.new (entries_at S.at entries.new)
+        (λ e. entries_at S.at entries.old e ++ float_entries (spots_at S.at spots.now e))
+        (λ e. SpotsOnLine (spots_at S.at spots.now e)) }
 {
     for spot in spots {
         add_float(calc, spot.0, &spot.1, entries);
@@ -155,13 +145,12 @@ fn add_start<S: Steady>(
     here: &Here<'_, '_, S::Num>,
     entries: &mut List<Entry<S::Num>>,
 )
-    ensures goes { Goes (S.run calc.old) (S.run calc.new) }
-    ensures value { (e : Reading) → IsTrue ((S.run calc.new).is_open e) → entries_at S.at entries.new e
-        ≡ entries_at S.at entries.old e ++ from_in (context_at S.at container.now e) (set_line_at S.at line.now e) at
-        true (S.at here.now.place.now.right e) (places_at S.at here.now.after.now e) ∷ [] }
-    ensures cause { BlamesButMem (S.run calc.old) (S.run calc.new) ((e : Reading) → IsTrue ((S.run calc.old).is_open e)
-        → BoxFits (context_at S.at container.now e) at × (OnLine (S.at line.now.baseline e
-        ∷ S.at here.now.place.now.right e ∷ S.at line.now.right e ∷ [])
+    ensures { LaysButMem S.run calc.old calc.new (entries_at S.at entries.new)
+        (λ e. entries_at S.at entries.old e
+        ++ from_in (context_at S.at container.now e) (set_line_at S.at line.now e) at true
+        (S.at here.now.place.now.right e) (places_at S.at here.now.after.now e) ∷ [])
+        (λ e. BoxFits (context_at S.at container.now e) at
+        × (OnLine (S.at line.now.baseline e ∷ S.at here.now.place.now.right e ∷ S.at line.now.right e ∷ [])
         × PlacesOnLine (places_at S.at here.now.after.now e))) }
 {
     let span = Span {
@@ -182,12 +171,11 @@ fn add_atomic<S: Steady>(
     left: &S::Num,
     entries: &mut List<Entry<S::Num>>,
 )
-    ensures goes { Goes (S.run calc.old) (S.run calc.new) }
-    ensures value { (e : Reading) → IsTrue ((S.run calc.new).is_open e) → entries_at S.at entries.new e
-        ≡ entries_at S.at entries.old e ++ atomic_in (context_at S.at container.now e) (set_line_at S.at line.now e) at
-        (S.at left.now e) ∷ [] }
-    ensures cause { BlamesButMem (S.run calc.old) (S.run calc.new) ((e : Reading) → IsTrue ((S.run calc.old).is_open e)
-        → BoxFits (context_at S.at container.now e) at × OnLine (S.at line.now.baseline e ∷ S.at left.now e ∷ [])) }
+    ensures { LaysButMem S.run calc.old calc.new (entries_at S.at entries.new)
+        (λ e. entries_at S.at entries.old e
+        ++ atomic_in (context_at S.at container.now e) (set_line_at S.at line.now e) at (S.at left.now e) ∷ [])
+        (λ e. BoxFits (context_at S.at container.now e) at
+        × OnLine (S.at line.now.baseline e ∷ S.at left.now e ∷ [])) }
 {
     let entry = atomic_entry(calc, container, line, at, left);
     add_entry(calc, entries, entry);
@@ -202,15 +190,16 @@ fn add_item<S: Steady>(
     here: &Here<'_, '_, S::Num>,
     entries: &mut List<Entry<S::Num>>,
 )
-    ensures goes { Goes (S.run calc.old) (S.run calc.new) }
-    ensures value { (e : Reading) → IsTrue ((S.run calc.new).is_open e) → entries_at S.at entries.new e
-        ≡ entries_at S.at entries.old e ++ item_in (context_at S.at container.now e) (set_line_at S.at line.now e)
+    ensures { LaysButMem S.run calc.old calc.new (entries_at S.at entries.new)
+        (λ e. entries_at S.at entries.old e
+        ++ item_in (context_at S.at container.now e) (set_line_at S.at line.now e)
         (before_at S.at here.now.before e) (place_at S.at here.now.place.now e)
-        (places_at S.at here.now.after.now e) (spots_at S.at here.now.spots.now e) }
-    ensures cause { BlamesButMem (S.run calc.old) (S.run calc.new) ((e : Reading) → IsTrue ((S.run calc.old).is_open e)
-        → BoxesFit (context_at S.at container.now e) × (OnLine (S.at line.now.baseline e ∷ S.at line.now.right e ∷ [])
+        (places_at S.at here.now.after.now e) (spots_at S.at here.now.spots.now e))
+        (λ e. BoxesFit (context_at S.at container.now e)
+        × (OnLine (S.at line.now.baseline e ∷ S.at line.now.right e ∷ [])
         × (OnLine (S.at here.now.place.now.left e ∷ S.at here.now.place.now.right e ∷ [])
-        × (PlacesOnLine (places_at S.at here.now.after.now e) × SpotsOnLine (spots_at S.at here.now.spots.now e))))) }
+        × (PlacesOnLine (places_at S.at here.now.after.now e)
+        × SpotsOnLine (spots_at S.at here.now.spots.now e))))) }
 {
     match &here.place.item {
         Item::Start(at) => add_start(calc, container, line, *at, here, entries),
@@ -243,12 +232,11 @@ fn add_items<'p, 'a: 'p, S: Steady>(
     line: &SetLine<'p, 'a, S::Num>,
     entries: &mut List<Entry<S::Num>>,
 )
-    ensures goes { Goes (S.run calc.old) (S.run calc.new) }
-    ensures value { (e : Reading) → IsTrue ((S.run calc.new).is_open e) → entries_at S.at entries.new e
-        ≡ entries_at S.at entries.old e ++ items_in (context_at S.at container.now e) (set_line_at S.at line.now e)
-        None (places_at S.at line.now.places.now e) (spots_at S.at line.now.spots.now e) }
-    ensures cause { BlamesButMem (S.run calc.old) (S.run calc.new) ((e : Reading) → IsTrue ((S.run calc.old).is_open e)
-        → BoxesFit (context_at S.at container.now e) × SetFits (set_line_at S.at line.now e)) }
+    ensures { LaysButMem S.run calc.old calc.new (entries_at S.at entries.new)
+        (λ e. entries_at S.at entries.old e
+        ++ items_in (context_at S.at container.now e) (set_line_at S.at line.now e) None
+        (places_at S.at line.now.places.now e) (spots_at S.at line.now.spots.now e))
+        (λ e. BoxesFit (context_at S.at container.now e) × SetFits (set_line_at S.at line.now e)) }
 {
     let mut before = None;
     let mut spots = line.spots;
@@ -276,12 +264,10 @@ fn add_opened<'p, 'a: 'p, S: Steady>(
     opened: &[u32],
     entries: &mut List<Entry<S::Num>>,
 )
-    ensures goes { Goes (S.run calc.old) (S.run calc.new) }
-    ensures value { (e : Reading) → IsTrue ((S.run calc.new).is_open e) → entries_at S.at entries.new e
-        ≡ entries_at S.at entries.old e ++ opened_in (context_at S.at container.now e) (set_line_at S.at line.now e)
-        opened.now }
-    ensures cause { BlamesButMem (S.run calc.old) (S.run calc.new) ((e : Reading) → IsTrue ((S.run calc.old).is_open e)
-        → BoxesFit (context_at S.at container.now e) × SetFits (set_line_at S.at line.now e)) }
+    ensures { LaysButMem S.run calc.old calc.new (entries_at S.at entries.new)
+        (λ e. entries_at S.at entries.old e
+        ++ opened_in (context_at S.at container.now e) (set_line_at S.at line.now e) opened.now)
+        (λ e. BoxesFit (context_at S.at container.now e) × SetFits (set_line_at S.at line.now e)) }
 {
     for at in opened {
         let span = Span {
@@ -303,12 +289,10 @@ pub fn add_line_entries<'p, 'a: 'p, S: Steady>(
     opened: &[u32],
     entries: &mut List<Entry<S::Num>>,
 )
-    ensures goes { Goes (S.run calc.old) (S.run calc.new) }
-    ensures value { (e : Reading) → IsTrue ((S.run calc.new).is_open e) → entries_at S.at entries.new e
-        ≡ entries_at S.at entries.old e ++ entries_in (context_at S.at container.now e) (set_line_at S.at line.now e)
-        opened.now }
-    ensures cause { BlamesButMem (S.run calc.old) (S.run calc.new) ((e : Reading) → IsTrue ((S.run calc.old).is_open e)
-        → BoxesFit (context_at S.at container.now e) × SetFits (set_line_at S.at line.now e)) }
+    ensures { LaysButMem S.run calc.old calc.new (entries_at S.at entries.new)
+        (λ e. entries_at S.at entries.old e
+        ++ entries_in (context_at S.at container.now e) (set_line_at S.at line.now e) opened.now)
+        (λ e. BoxesFit (context_at S.at container.now e) × SetFits (set_line_at S.at line.now e)) }
 {
     add_opened(calc, container, line, opened, entries);
     add_items(calc, container, line, entries);

@@ -1,7 +1,7 @@
 //! How far a line reaches above and below its baseline (CSS 2.1, 10.8).
 ghost use Rattle.std.specs.Prelude.{◌≡◌, ⊤, IsTrue, ◌∷◌, []};
-ghost use Rattle.viz_calc.specs.World.{Reading};
-ghost use Rattle.viz_calc.specs.Run.{Stands, Goes, Fits, Blames};
+ghost use Rattle.viz_calc.specs.State.{AllSmall};
+ghost use Rattle.viz_calc.specs.Run.{Lays};
 ghost use Rattle.layout_semantics.specs.LineHeights.{height_of_extent};
 ghost use Rattle.lay_line.specs.Readings.{line_extent_at};
 ghost use Rattle.lay_line.specs.steps.Filling.{with_extent as extent_with};
@@ -22,10 +22,8 @@ pub fn with_extent<S: Steady>(
     extent: LineExtent<S::Num>,
     more: LineExtent<S::Num>,
 ) -> LineExtent<S::Num>
-    ensures goes { Goes (S.run calc.old) (S.run calc.new) }
-    ensures value { (e : Reading) → IsTrue ((S.run calc.new).is_open e) → line_extent_at S.at result e
-        ≡ extent_with (line_extent_at S.at extent e) (line_extent_at S.at more e) }
-    ensures cause { Blames (S.run calc.old) (S.run calc.new) ⊤ }
+    ensures { Lays S.run calc.old calc.new (line_extent_at S.at result)
+        (λ e. extent_with (line_extent_at S.at extent e) (line_extent_at S.at more e)) (λ e. ⊤) }
 {
     let above = greater(calc, more.above, extent.above);
     let below = greater(calc, more.below, extent.below);
@@ -34,11 +32,8 @@ pub fn with_extent<S: Steady>(
 
 /// From its top to its bottom.
 pub fn height<S: Steady>(calc: &mut S, extent: &LineExtent<S::Num>) -> S::Num
-    ensures goes { Goes (S.run calc.old) (S.run calc.new) }
-    ensures value { Stands (S.run calc.new) (S.at result)
-        (λ e. height_of_extent (line_extent_at S.at extent.now e)) }
-    ensures cause { Blames (S.run calc.old) (S.run calc.new) (Fits (S.run calc.old)
-        (λ e. height_of_extent (line_extent_at S.at extent.now e) ∷ [])) }
+    ensures { Lays S.run calc.old calc.new (S.at result) (λ e. height_of_extent (line_extent_at S.at extent.now e))
+        (λ e. AllSmall (height_of_extent (line_extent_at S.at extent.now e) ∷ [])) }
 {
     calc.add(&extent.above, &extent.below)
 }

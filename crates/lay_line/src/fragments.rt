@@ -4,7 +4,7 @@ ghost use Rattle.std.specs.Option.{option_map_or};
 ghost use Rattle.viz_base.specs.declared.layouts.Entry.TheVariants as of_entry;
 ghost use Rattle.viz_calc.specs.Renderings.{quad_at, placed_at};
 ghost use Rattle.viz_calc.specs.World.{Reading};
-ghost use Rattle.viz_calc.specs.Run.{Stands, Goes, Blames};
+ghost use Rattle.viz_calc.specs.Run.{Goes, Lays};
 ghost use Rattle.layout_semantics.specs.Blocks.{node_of, parent_of, plain_box as plain_of};
 ghost use Rattle.layout_semantics.specs.Fragments.{is_end_of as ends_box, is_text_of as is_text_at, text_right as right_of, grown as grown_by};
 ghost use Rattle.layout_semantics.specs.Lengths.{used as used_length};
@@ -99,12 +99,13 @@ fn text_area<S: Steady>(
     left: &S::Num,
     right: &S::Num,
 ) -> Quad<S::Num>
-    ensures goes { Goes (S.run calc.old) (S.run calc.new) }
-    ensures value { (e : Reading) → IsTrue ((S.run calc.new).is_open e) → quad_at S.at result e
-        ≡ area_in (context_at S.at container.now e) node (S.at baseline.now e) (S.at left.now e) (S.at right.now e) }
-    ensures cause { Blames (S.run calc.old) (S.run calc.new) ((e : Reading) → IsTrue ((S.run calc.old).is_open e)
-        → FontFits container.now.tree.now e.world node × QuadFits (area_in (context_at S.at container.now e) node
-        (S.at baseline.now e) (S.at left.now e) (S.at right.now e))) }
+    ensures { Lays S.run calc.old calc.new (quad_at S.at result)
+        (λ e. area_in (context_at S.at container.now e) node (S.at baseline.now e) (S.at left.now e)
+        (S.at right.now e))
+        (λ e. FontFits container.now.tree.now e.world node
+        × QuadFits
+        (area_in (context_at S.at container.now e) node (S.at baseline.now e) (S.at left.now e)
+        (S.at right.now e))) }
 {
     let above = ascent(calc, container.tree, node);
     let below = descent(calc, container.tree, node);
@@ -122,12 +123,10 @@ fn text_area<S: Steady>(
 
 /// How far a text box is raised: as the box that it is in.
 fn text_shift<S: Steady>(calc: &mut S, container: &Container<'_, S::Num>, at: u32) -> S::Num
-    ensures goes { Goes (S.run calc.old) (S.run calc.new) }
-    ensures value { Stands (S.run calc.new) (S.at result)
+    ensures { Lays S.run calc.old calc.new (S.at result)
         (λ e. option_map_or (inline_raised (context_at S.at container.now e))
-        (parent_of container.now.tree.now.boxes at) (pos 0)) }
-    ensures cause { Blames (S.run calc.old) (S.run calc.new) ((e : Reading) → IsTrue ((S.run calc.old).is_open e)
-        → TextShiftFits (context_at S.at container.now e) at) }
+        (parent_of container.now.tree.now.boxes at) (pos 0))
+        (λ e. TextShiftFits (context_at S.at container.now e) at) }
 {
     match parent_at(container.tree, at) {
         Some(parent) => inline_shift(calc, container, parent),
@@ -137,11 +136,8 @@ fn text_shift<S: Steady>(calc: &mut S, container: &Container<'_, S::Num>, at: u3
 
 /// A rectangle again.
 fn copy_quad<S: Steady>(calc: &mut S, quad: &Quad<S::Num>) -> Quad<S::Num>
-    ensures goes { Goes (S.run calc.old) (S.run calc.new) }
-    ensures value { (e : Reading) → IsTrue ((S.run calc.new).is_open e) → quad_at S.at result e
-        ≡ quad_at S.at quad.now e }
-    ensures cause { Blames (S.run calc.old) (S.run calc.new) ((e : Reading) → IsTrue ((S.run calc.old).is_open e)
-        → QuadFits (quad_at S.at quad.now e)) }
+    ensures { Lays S.run calc.old calc.new (quad_at S.at result) (quad_at S.at quad.now)
+        (λ e. QuadFits (quad_at S.at quad.now e)) }
 {
     let left = calc.copy(&quad.left);
     let top = calc.copy(&quad.top);
@@ -162,11 +158,8 @@ pub fn plain_box<S: Steady>(
     node: u32,
     content: Quad<S::Num>,
 ) -> Placed<S::Num>
-    ensures goes { Goes (S.run calc.old) (S.run calc.new) }
-    ensures value { (e : Reading) → IsTrue ((S.run calc.new).is_open e) → placed_at S.at result e
-        ≡ plain_of kind node (quad_at S.at content e) }
-    ensures cause { Blames (S.run calc.old) (S.run calc.new) ((e : Reading) → IsTrue ((S.run calc.old).is_open e)
-        → QuadFits (quad_at S.at content e)) }
+    ensures { Lays S.run calc.old calc.new (placed_at S.at result)
+        (λ e. plain_of kind node (quad_at S.at content e)) (λ e. QuadFits (quad_at S.at content e)) }
 {
     let margin = copy_quad(calc, &content);
     let border = copy_quad(calc, &content);
@@ -191,13 +184,11 @@ pub fn text_fragment<S: Steady>(
     left: &S::Num,
     right: &S::Num,
 ) -> Entry<S::Num>
-    ensures goes { Goes (S.run calc.old) (S.run calc.new) }
-    ensures value { (e : Reading) → IsTrue ((S.run calc.new).is_open e) → entry_at S.at result e
-        ≡ text_in (context_at S.at container.now e) (set_line_at S.at line.now e) at (S.at left.now e)
-        (S.at right.now e) }
-    ensures cause { Blames (S.run calc.old) (S.run calc.new) ((e : Reading) → IsTrue ((S.run calc.old).is_open e)
-        → BoxFits (context_at S.at container.now e) at × OnLine (S.at line.now.baseline e ∷ S.at left.now e
-        ∷ S.at right.now e ∷ [])) }
+    ensures { Lays S.run calc.old calc.new (entry_at S.at result)
+        (λ e. text_in (context_at S.at container.now e) (set_line_at S.at line.now e) at (S.at left.now e)
+        (S.at right.now e))
+        (λ e. BoxFits (context_at S.at container.now e) at
+        × OnLine (S.at line.now.baseline e ∷ S.at left.now e ∷ S.at right.now e ∷ [])) }
 {
     let up = text_shift(calc, container, at);
     let baseline = calc.sub(&line.baseline, &up);
@@ -208,11 +199,9 @@ pub fn text_fragment<S: Steady>(
 
 /// A rectangle with edges around it.
 fn grown<S: Steady>(calc: &mut S, quad: &Quad<S::Num>, edges: &Quad<S::Num>) -> Quad<S::Num>
-    ensures goes { Goes (S.run calc.old) (S.run calc.new) }
-    ensures value { (e : Reading) → IsTrue ((S.run calc.new).is_open e) → quad_at S.at result e
-        ≡ grown_by (quad_at S.at quad.now e) (quad_at S.at edges.now e) }
-    ensures cause { Blames (S.run calc.old) (S.run calc.new) ((e : Reading) → IsTrue ((S.run calc.old).is_open e)
-        → QuadFits (grown_by (quad_at S.at quad.now e) (quad_at S.at edges.now e))) }
+    ensures { Lays S.run calc.old calc.new (quad_at S.at result)
+        (λ e. grown_by (quad_at S.at quad.now e) (quad_at S.at edges.now e))
+        (λ e. QuadFits (grown_by (quad_at S.at quad.now e) (quad_at S.at edges.now e))) }
 {
     let left = calc.sub(&quad.left, &edges.left);
     let top = calc.sub(&quad.top, &edges.top);
@@ -234,11 +223,9 @@ fn edge_if<S: Steady>(
     length: &Length,
     room: &S::Num,
 ) -> S::Num
-    ensures goes { Goes (S.run calc.old) (S.run calc.new) }
-    ensures value { Stands (S.run calc.new) (S.at result) (λ e. cond there
-        (used_length container.now.tree.now e.world length.now (S.at room.now e)) (pos 0)) }
-    ensures cause { Blames (S.run calc.old) (S.run calc.new) ((e : Reading) → IsTrue ((S.run calc.old).is_open e)
-        → UsedFits container.now.tree.now e.world length.now (S.at room.now e) × AllSmall (pos 0 ∷ [])) }
+    ensures { Lays S.run calc.old calc.new (S.at result)
+        (λ e. cond there (used_length container.now.tree.now e.world length.now (S.at room.now e)) (pos 0))
+        (λ e. UsedFits container.now.tree.now e.world length.now (S.at room.now e) × AllSmall (pos 0 ∷ [])) }
 {
     if there {
         used(calc, container.tree, length, room)
@@ -256,11 +243,9 @@ fn fragment_edges<S: Steady>(
     ends: bool,
     sides: &Sides<Length>,
 ) -> Quad<S::Num>
-    ensures goes { Goes (S.run calc.old) (S.run calc.new) }
-    ensures value { (e : Reading) → IsTrue ((S.run calc.new).is_open e) → quad_at S.at result e
-        ≡ edges_in (context_at S.at container.now e) starts ends sides.now }
-    ensures cause { Blames (S.run calc.old) (S.run calc.new) ((e : Reading) → IsTrue ((S.run calc.old).is_open e)
-        → EdgesFit (context_at S.at container.now e) sides.now) }
+    ensures { Lays S.run calc.old calc.new (quad_at S.at result)
+        (λ e. edges_in (context_at S.at container.now e) starts ends sides.now)
+        (λ e. EdgesFit (context_at S.at container.now e) sides.now) }
 {
     let room = band_width(calc, container.cb);
     let left = edge_if(calc, container, starts, &sides.left, &room);
@@ -284,12 +269,12 @@ fn ring<S: Steady>(
     sides: &Sides<Length>,
     quad: &Quad<S::Num>,
 ) -> Quad<S::Num>
-    ensures goes { Goes (S.run calc.old) (S.run calc.new) }
-    ensures value { (e : Reading) → IsTrue ((S.run calc.new).is_open e) → quad_at S.at result e
-        ≡ grown_by (quad_at S.at quad.now e) (edges_in (context_at S.at container.now e) starts ends sides.now) }
-    ensures cause { Blames (S.run calc.old) (S.run calc.new) ((e : Reading) → IsTrue ((S.run calc.old).is_open e)
-        → EdgesFit (context_at S.at container.now e) sides.now × QuadFits (grown_by (quad_at S.at quad.now e)
-        (edges_in (context_at S.at container.now e) starts ends sides.now))) }
+    ensures { Lays S.run calc.old calc.new (quad_at S.at result)
+        (λ e. grown_by (quad_at S.at quad.now e)
+        (edges_in (context_at S.at container.now e) starts ends sides.now))
+        (λ e. EdgesFit (context_at S.at container.now e) sides.now
+        × QuadFits
+        (grown_by (quad_at S.at quad.now e) (edges_in (context_at S.at container.now e) starts ends sides.now))) }
 {
     let edges = fragment_edges(calc, container, starts, ends, sides);
     grown(calc, quad, &edges)
@@ -305,12 +290,10 @@ fn around<S: Steady>(
     ends: bool,
     content: Quad<S::Num>,
 ) -> Placed<S::Num>
-    ensures goes { Goes (S.run calc.old) (S.run calc.new) }
-    ensures value { (e : Reading) → IsTrue ((S.run calc.new).is_open e) → placed_at S.at result e
-        ≡ around_in (context_at S.at container.now e) at starts ends (quad_at S.at content e) }
-    ensures cause { Blames (S.run calc.old) (S.run calc.new) ((e : Reading) → IsTrue ((S.run calc.old).is_open e)
-        → AroundFits (context_at S.at container.now e) at (around_in (context_at S.at container.now e) at starts ends
-        (quad_at S.at content e))) }
+    ensures { Lays S.run calc.old calc.new (placed_at S.at result)
+        (λ e. around_in (context_at S.at container.now e) at starts ends (quad_at S.at content e))
+        (λ e. AroundFits (context_at S.at container.now e) at
+        (around_in (context_at S.at container.now e) at starts ends (quad_at S.at content e))) }
 {
     let node = node_at(container.tree, at);
     let padding = ring(
@@ -369,15 +352,14 @@ fn fragment_to<S: Steady>(
     ends: bool,
     right: &S::Num,
 ) -> Entry<S::Num>
-    ensures goes { Goes (S.run calc.old) (S.run calc.new) }
-    ensures value { (e : Reading) → IsTrue ((S.run calc.new).is_open e) → entry_at S.at result e
-        ≡ of_entry.Here (around_in (context_at S.at container.now e) at span.now.starts ends
+    ensures { Lays S.run calc.old calc.new (entry_at S.at result)
+        (λ e. of_entry.Here
+        (around_in (context_at S.at container.now e) at span.now.starts ends
         (area_in (context_at S.at container.now e) (node_of container.now.tree.now at)
-        (S.at line.now.baseline e -ℤ inline_raised (context_at S.at container.now e) at) (S.at span.now.left.now e)
-        (S.at right.now e))) }
-    ensures cause { Blames (S.run calc.old) (S.run calc.new) ((e : Reading) → IsTrue ((S.run calc.old).is_open e)
-        → BoxFits (context_at S.at container.now e) at × OnLine (S.at line.now.baseline e ∷ S.at span.now.left.now e
-        ∷ S.at right.now e ∷ [])) }
+        (S.at line.now.baseline e -ℤ inline_raised (context_at S.at container.now e) at)
+        (S.at span.now.left.now e) (S.at right.now e))))
+        (λ e. BoxFits (context_at S.at container.now e) at
+        × OnLine (S.at line.now.baseline e ∷ S.at span.now.left.now e ∷ S.at right.now e ∷ [])) }
 {
     let up = inline_shift(calc, container, at);
     let baseline = calc.sub(&line.baseline, &up);
@@ -396,13 +378,12 @@ pub fn inline_fragment<S: Steady>(
     at: u32,
     span: &Span<'_, '_, '_, S::Num>,
 ) -> Entry<S::Num>
-    ensures goes { Goes (S.run calc.old) (S.run calc.new) }
-    ensures value { (e : Reading) → IsTrue ((S.run calc.new).is_open e) → entry_at S.at result e
-        ≡ from_in (context_at S.at container.now e) (set_line_at S.at line.now e) at span.now.starts
-        (S.at span.now.left.now e) (places_at S.at span.now.after.now e) }
-    ensures cause { Blames (S.run calc.old) (S.run calc.new) ((e : Reading) → IsTrue ((S.run calc.old).is_open e)
-        → BoxFits (context_at S.at container.now e) at × (OnLine (S.at line.now.baseline e ∷ S.at span.now.left.now e
-        ∷ S.at line.now.right e ∷ []) × PlacesOnLine (places_at S.at span.now.after.now e))) }
+    ensures { Lays S.run calc.old calc.new (entry_at S.at result)
+        (λ e. from_in (context_at S.at container.now e) (set_line_at S.at line.now e) at span.now.starts
+        (S.at span.now.left.now e) (places_at S.at span.now.after.now e))
+        (λ e. BoxFits (context_at S.at container.now e) at
+        × (OnLine (S.at line.now.baseline e ∷ S.at span.now.left.now e ∷ S.at line.now.right e ∷ [])
+        × PlacesOnLine (places_at S.at span.now.after.now e))) }
 {
     match find_end(at, span.after) {
         Some(last) => fragment_to(calc, container, line, at, span, true, &last.left),
@@ -419,11 +400,10 @@ pub fn atomic_entry<S: Steady>(
     at: u32,
     left: &S::Num,
 ) -> Entry<S::Num>
-    ensures goes { Goes (S.run calc.old) (S.run calc.new) }
-    ensures value { (e : Reading) → IsTrue ((S.run calc.new).is_open e) → entry_at S.at result e
-        ≡ atomic_in (context_at S.at container.now e) (set_line_at S.at line.now e) at (S.at left.now e) }
-    ensures cause { Blames (S.run calc.old) (S.run calc.new) ((e : Reading) → IsTrue ((S.run calc.old).is_open e)
-        → BoxFits (context_at S.at container.now e) at × OnLine (S.at line.now.baseline e ∷ S.at left.now e ∷ [])) }
+    ensures { Lays S.run calc.old calc.new (entry_at S.at result)
+        (λ e. atomic_in (context_at S.at container.now e) (set_line_at S.at line.now e) at (S.at left.now e))
+        (λ e. BoxFits (context_at S.at container.now e) at
+        × OnLine (S.at line.now.baseline e ∷ S.at left.now e ∷ [])) }
 {
     let extent = box_extent(calc, container, at);
     let up = shift(calc, container, at, &extent);

@@ -1,7 +1,7 @@
 //! What a line holds of its content, item by item.
 ghost use Rattle.std.specs.Prelude.{◌≡◌, IsTrue, pos, ◌∷◌, []};
-ghost use Rattle.viz_calc.specs.World.{Reading};
-ghost use Rattle.viz_calc.specs.Run.{Goes, Fits, Blames};
+ghost use Rattle.viz_calc.specs.State.{AllSmall};
+ghost use Rattle.viz_calc.specs.Run.{Lays};
 ghost use Rattle.lay_line.specs.Items.{item_of};
 ghost use Rattle.lay_line.specs.Readings.{held_at, pieces_at};
 ghost use Rattle.lay_line.specs.steps.Held.{nothing_held, with_solid as solid_on, with_space as space_on, with_other as other_on, with_item as item_on};
@@ -32,9 +32,7 @@ pub struct Held<N> {
 
 /// Nothing.
 pub fn nothing<S: Steady>(calc: &mut S) -> Held<S::Num>
-    ensures goes { Goes (S.run calc.old) (S.run calc.new) }
-    ensures value { (e : Reading) → IsTrue ((S.run calc.new).is_open e) → held_at S.at result e ≡ nothing_held }
-    ensures cause { Blames (S.run calc.old) (S.run calc.new) (Fits (S.run calc.old) (λ e. pos 0 ∷ [])) }
+    ensures { Lays S.run calc.old calc.new (held_at S.at result) (λ e. nothing_held) (λ e. AllSmall (pos 0 ∷ [])) }
 {
     let width = calc.lit(0);
     let spaces = calc.lit(0);
@@ -47,11 +45,9 @@ pub fn nothing<S: Steady>(calc: &mut S) -> Held<S::Num>
 
 /// With a word or an atomic box more.
 fn with_solid<S: Steady>(calc: &mut S, held: Held<S::Num>, width: &S::Num) -> Held<S::Num>
-    ensures goes { Goes (S.run calc.old) (S.run calc.new) }
-    ensures value { (e : Reading) → IsTrue ((S.run calc.new).is_open e)
-        → held_at S.at result e ≡ solid_on (S.at width.now e) (held_at S.at held e) }
-    ensures cause { Blames (S.run calc.old) (S.run calc.new)
-        (Fits (S.run calc.old) (λ e. solid_way (S.at width.now e) (held_at S.at held e))) }
+    ensures { Lays S.run calc.old calc.new (held_at S.at result)
+        (λ e. solid_on (S.at width.now e) (held_at S.at held e))
+        (λ e. AllSmall (solid_way (S.at width.now e) (held_at S.at held e))) }
 {
     let before = calc.add(&held.width, &held.spaces);
     let width = calc.add(&before, width);
@@ -65,11 +61,9 @@ fn with_solid<S: Steady>(calc: &mut S, held: Held<S::Num>, width: &S::Num) -> He
 
 /// With a space more.
 fn with_space<S: Steady>(calc: &mut S, held: Held<S::Num>, width: &S::Num) -> Held<S::Num>
-    ensures goes { Goes (S.run calc.old) (S.run calc.new) }
-    ensures value { (e : Reading) → IsTrue ((S.run calc.new).is_open e)
-        → held_at S.at result e ≡ space_on (S.at width.now e) (held_at S.at held e) }
-    ensures cause { Blames (S.run calc.old) (S.run calc.new)
-        (Fits (S.run calc.old) (λ e. space_way (S.at width.now e) (held_at S.at held e))) }
+    ensures { Lays S.run calc.old calc.new (held_at S.at result)
+        (λ e. space_on (S.at width.now e) (held_at S.at held e))
+        (λ e. AllSmall (space_way (S.at width.now e) (held_at S.at held e))) }
 {
     let spaces = if held.begun {
         calc.add(&held.spaces, width)
@@ -85,11 +79,9 @@ fn with_space<S: Steady>(calc: &mut S, held: Held<S::Num>, width: &S::Num) -> He
 
 /// With the start or the end of an inline box more, or with what has no width.
 fn with_other<S: Steady>(calc: &mut S, held: Held<S::Num>, width: &S::Num) -> Held<S::Num>
-    ensures goes { Goes (S.run calc.old) (S.run calc.new) }
-    ensures value { (e : Reading) → IsTrue ((S.run calc.new).is_open e)
-        → held_at S.at result e ≡ other_on (S.at width.now e) (held_at S.at held e) }
-    ensures cause { Blames (S.run calc.old) (S.run calc.new)
-        (Fits (S.run calc.old) (λ e. other_way (S.at width.now e) (held_at S.at held e))) }
+    ensures { Lays S.run calc.old calc.new (held_at S.at result)
+        (λ e. other_on (S.at width.now e) (held_at S.at held e))
+        (λ e. AllSmall (other_way (S.at width.now e) (held_at S.at held e))) }
 {
     let width = calc.add(&held.width, width);
     Held {
@@ -106,11 +98,9 @@ pub fn with_item<S: Steady>(
     item: &Item,
     width: &S::Num,
 ) -> Held<S::Num>
-    ensures goes { Goes (S.run calc.old) (S.run calc.new) }
-    ensures value { (e : Reading) → IsTrue ((S.run calc.new).is_open e) → held_at S.at result e
-        ≡ item_on (λ i. S.at width.now e) (held_at S.at held e) (item_of item.now) }
-    ensures cause { Blames (S.run calc.old) (S.run calc.new)
-        (Fits (S.run calc.old) (λ e. item_way (S.at width.now e) (held_at S.at held e) (item_of item.now))) }
+    ensures { Lays S.run calc.old calc.new (held_at S.at result)
+        (λ e. item_on (λ i. S.at width.now e) (held_at S.at held e) (item_of item.now))
+        (λ e. AllSmall (item_way (S.at width.now e) (held_at S.at held e) (item_of item.now))) }
 {
     match item {
         Item::Word(..) | Item::Atomic(_) => with_solid(calc, held, width),
@@ -125,11 +115,9 @@ pub fn with_pieces<S: Steady>(
     start: Held<S::Num>,
     pieces: &[Piece<S::Num>],
 ) -> Held<S::Num>
-    ensures goes { Goes (S.run calc.old) (S.run calc.new) }
-    ensures value { (e : Reading) → IsTrue ((S.run calc.new).is_open e) → held_at S.at result e
-        ≡ held_with (held_at S.at start e) (pieces_at S.at pieces.now e) }
-    ensures cause { Blames (S.run calc.old) (S.run calc.new) ((e : Reading) → IsTrue ((S.run calc.old).is_open e)
-        → HoldFits (held_at S.at start e) (pieces_at S.at pieces.now e)) }
+    ensures { Lays S.run calc.old calc.new (held_at S.at result)
+        (λ e. held_with (held_at S.at start e) (pieces_at S.at pieces.now e))
+        (λ e. HoldFits (held_at S.at start e) (pieces_at S.at pieces.now e)) }
 {
     let mut held = start;
     for piece in pieces {

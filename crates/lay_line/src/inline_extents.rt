@@ -1,8 +1,7 @@
 //! How far inline boxes reach above and below a baseline (CSS 2.1, 10.8.1).
 ghost use Rattle.std.specs.Prelude.{◌≡◌, ◌+ℤ◌, ◌-ℤ◌, IsTrue, ◌∷◌, []};
 ghost use Rattle.viz_base.specs.Numbers.{floor_of};
-ghost use Rattle.viz_calc.specs.World.{Reading};
-ghost use Rattle.viz_calc.specs.Run.{Stands, Goes, Fits, Blames};
+ghost use Rattle.viz_calc.specs.Run.{Fits, Lays};
 ghost use Rattle.layout_semantics.specs.LineHeights.{half_leading as half_leading_of, inline_extent as inline_extent_of};
 ghost use Rattle.layout_semantics.specs.Fonts.{line_height as line_height_of, ascent as ascent_of, descent as descent_of};
 ghost use Rattle.lay_line.specs.Readings.{line_extent_at};
@@ -16,11 +15,10 @@ use viz_calc::Steady;
 
 /// What the line height has over ascent and descent.
 fn leading<S: Steady>(calc: &mut S, tree: &BoxTree, node: u32) -> S::Num
-    ensures goes { Goes (S.run calc.old) (S.run calc.new) }
-    ensures value { Stands (S.run calc.new) (S.at result) (λ e. line_height_of tree.now e.world node
-        -ℤ (ascent_of tree.now e.world node +ℤ descent_of tree.now e.world node)) }
-    ensures cause { Blames (S.run calc.old) (S.run calc.new) ((e : Reading) → IsTrue ((S.run calc.old).is_open e)
-        → LeadingFits tree.now e.world node) }
+    ensures { Lays S.run calc.old calc.new (S.at result)
+        (λ e. line_height_of tree.now e.world node -ℤ
+        (ascent_of tree.now e.world node +ℤ descent_of tree.now e.world node))
+        (λ e. LeadingFits tree.now e.world node) }
 {
     let whole = line_height(calc, tree, node);
     let above = ascent(calc, tree, node);
@@ -31,20 +29,16 @@ fn leading<S: Steady>(calc: &mut S, tree: &BoxTree, node: u32) -> S::Num
 
 /// The half of a number, rounded down.
 pub fn half<S: Steady>(calc: &mut S, whole: &S::Num) -> S::Num
-    ensures goes { Goes (S.run calc.old) (S.run calc.new) }
-    ensures value { Stands (S.run calc.new) (S.at result) (λ e. floor_of (S.at whole.now e) 2) }
-    ensures cause { Blames (S.run calc.old) (S.run calc.new)
-        (Fits (S.run calc.old) (λ e. floor_of (S.at whole.now e) 2 ∷ [])) }
+    ensures { Lays S.run calc.old calc.new (S.at result) (λ e. floor_of (S.at whole.now e) 2)
+        (λ e. AllSmall (floor_of (S.at whole.now e) 2 ∷ [])) }
 {
     calc.scale_floor(whole, 1, 2)
 }
 
 /// Half the leading, rounded down.
 fn half_leading<S: Steady>(calc: &mut S, tree: &BoxTree, node: u32) -> S::Num
-    ensures goes { Goes (S.run calc.old) (S.run calc.new) }
-    ensures value { Stands (S.run calc.new) (S.at result) (λ e. half_leading_of tree.now e.world node) }
-    ensures cause { Blames (S.run calc.old) (S.run calc.new) ((e : Reading) → IsTrue ((S.run calc.old).is_open e)
-        → LeadingFits tree.now e.world node × AllSmall (half_leading_of tree.now e.world node ∷ [])) }
+    ensures { Lays S.run calc.old calc.new (S.at result) (λ e. half_leading_of tree.now e.world node)
+        (λ e. LeadingFits tree.now e.world node × AllSmall (half_leading_of tree.now e.world node ∷ [])) }
 {
     let leading = leading(calc, tree, node);
     half(calc, &leading)
@@ -53,11 +47,8 @@ fn half_leading<S: Steady>(calc: &mut S, tree: &BoxTree, node: u32) -> S::Num
 #[tactic(auto, unfolding(crate::specs::Fits::InlineFits))]
 /// An inline box of a node: its line height, half the leading being above its ascent.
 pub fn inline_extent<S: Steady>(calc: &mut S, tree: &BoxTree, node: u32) -> LineExtent<S::Num>
-    ensures goes { Goes (S.run calc.old) (S.run calc.new) }
-    ensures value { (e : Reading) → IsTrue ((S.run calc.new).is_open e)
-        → line_extent_at S.at result e ≡ inline_extent_of tree.now e.world node }
-    ensures cause { Blames (S.run calc.old) (S.run calc.new) ((e : Reading) → IsTrue ((S.run calc.old).is_open e)
-        → InlineFits tree.now e.world node) }
+    ensures { Lays S.run calc.old calc.new (line_extent_at S.at result)
+        (λ e. inline_extent_of tree.now e.world node) (λ e. InlineFits tree.now e.world node) }
 {
     let ascent = ascent(calc, tree, node);
     let half = half_leading(calc, tree, node);

@@ -1,8 +1,8 @@
 //! Where the content of a line begins, and what the line adds (CSS 2.1, 9.4.2, 9.5, 16.2).
 ghost use Rattle.std.specs.Prelude.{◌≡◌, ◌-ℤ◌, pos, ◌++◌, ◌∷◌, [], IsTrue};
 ghost use Rattle.std.specs.Int.{int_max};
-ghost use Rattle.viz_calc.specs.World.{Reading};
-ghost use Rattle.viz_calc.specs.Run.{Stands, Goes, Fits, Blames, BlamesButMem};
+ghost use Rattle.viz_calc.specs.State.{AllSmall};
+ghost use Rattle.viz_calc.specs.Run.{Lays, LaysButMem};
 ghost use Rattle.viz_calc.specs.Renderings.{band_at};
 ghost use Rattle.layout_semantics.specs.LineFilling.{band_width as width_of};
 ghost use Rattle.layout_semantics.specs.Lines.{aligned};
@@ -33,11 +33,9 @@ use viz_calc::Steady;
 
 /// How far the free room of a line reaches: none where its content is as wide as what the floats leave.
 fn spare<S: Steady>(calc: &mut S, room: &Band<S::Num>, held: &S::Num) -> S::Num
-    ensures goes { Goes (S.run calc.old) (S.run calc.new) }
-    ensures value { Stands (S.run calc.new) (S.at result)
-        (λ e. int_max (pos 0) (width_of (band_at S.at room.now e) -ℤ S.at held.now e)) }
-    ensures cause { Blames (S.run calc.old) (S.run calc.new) ((e : Reading) → IsTrue ((S.run calc.old).is_open e)
-        → OnLine (S.at room.now.left e ∷ S.at room.now.right e ∷ S.at held.now e ∷ [])) }
+    ensures { Lays S.run calc.old calc.new (S.at result)
+        (λ e. int_max (pos 0) (width_of (band_at S.at room.now e) -ℤ S.at held.now e))
+        (λ e. OnLine (S.at room.now.left e ∷ S.at room.now.right e ∷ S.at held.now e ∷ [])) }
 {
     let across = band_width(calc, room);
     if calc.le(held, &across) {
@@ -49,11 +47,9 @@ fn spare<S: Steady>(calc: &mut S, room: &Band<S::Num>, held: &S::Num) -> S::Num
 
 /// How far content is moved to the right.
 fn moved<S: Steady>(calc: &mut S, align: Align, room: &Band<S::Num>, held: &S::Num) -> S::Num
-    ensures goes { Goes (S.run calc.old) (S.run calc.new) }
-    ensures value { Stands (S.run calc.new) (S.at result)
-        (λ e. aligned align (width_of (band_at S.at room.now e) -ℤ S.at held.now e)) }
-    ensures cause { Blames (S.run calc.old) (S.run calc.new) ((e : Reading) → IsTrue ((S.run calc.old).is_open e)
-        → OnLine (S.at room.now.left e ∷ S.at room.now.right e ∷ S.at held.now e ∷ [])) }
+    ensures { Lays S.run calc.old calc.new (S.at result)
+        (λ e. aligned align (width_of (band_at S.at room.now e) -ℤ S.at held.now e))
+        (λ e. OnLine (S.at room.now.left e ∷ S.at room.now.right e ∷ S.at held.now e ∷ [])) }
 {
     match align {
         Align::Left => zero(calc),
@@ -73,11 +69,9 @@ pub fn content_left<S: Steady>(
     room: &Band<S::Num>,
     held: &S::Num,
 ) -> S::Num
-    ensures goes { Goes (S.run calc.old) (S.run calc.new) }
-    ensures value { Stands (S.run calc.new) (S.at result) (λ e. left_in (context_at S.at container.now e)
-        (band_at S.at room.now e) (S.at held.now e)) }
-    ensures cause { Blames (S.run calc.old) (S.run calc.new) ((e : Reading) → IsTrue ((S.run calc.old).is_open e)
-        → OnLine (S.at room.now.left e ∷ S.at room.now.right e ∷ S.at held.now e ∷ [])) }
+    ensures { Lays S.run calc.old calc.new (S.at result)
+        (λ e. left_in (context_at S.at container.now e) (band_at S.at room.now e) (S.at held.now e))
+        (λ e. OnLine (S.at room.now.left e ∷ S.at room.now.right e ∷ S.at held.now e ∷ [])) }
 {
     let align = align_at(container.tree, container.at);
     let by = moved(calc, align, room, held);
@@ -93,11 +87,10 @@ pub fn line_box<S: Steady>(
     top: &S::Num,
     bottom: &S::Num,
 ) -> Entry<S::Num>
-    ensures goes { Goes (S.run calc.old) (S.run calc.new) }
-    ensures value { (e : Reading) → IsTrue ((S.run calc.new).is_open e) → entry_at S.at result e
-        ≡ box_in (context_at S.at container.now e) (band_at S.at room.now e) (S.at top.now e) (S.at bottom.now e) }
-    ensures cause { Blames (S.run calc.old) (S.run calc.new) (Fits (S.run calc.old) (λ e. S.at room.now.left e
-        ∷ S.at top.now e ∷ S.at room.now.right e ∷ S.at bottom.now e ∷ [])) }
+    ensures { Lays S.run calc.old calc.new (entry_at S.at result)
+        (λ e. box_in (context_at S.at container.now e) (band_at S.at room.now e) (S.at top.now e)
+        (S.at bottom.now e))
+        (λ e. AllSmall (S.at room.now.left e ∷ S.at top.now e ∷ S.at room.now.right e ∷ S.at bottom.now e ∷ [])) }
 {
     let left = calc.copy(&room.left);
     let top = calc.copy(top);
@@ -136,11 +129,9 @@ fn places<'a, S: Steady>(
     x: &S::Num,
     pieces: &[Piece<'a, S::Num>],
 ) -> Vec<ItemPlace<'a, S::Num>>
-    ensures goes { Goes (S.run calc.old) (S.run calc.new) }
-    ensures value { (e : Reading) → IsTrue ((S.run calc.new).is_open e) → places_at S.at result.items e
-        ≡ places_of (S.at x.now e) (pieces_at S.at pieces.now e) }
-    ensures cause { BlamesButMem (S.run calc.old) (S.run calc.new) ((e : Reading) → IsTrue ((S.run calc.old).is_open e)
-        → StandFits (S.at x.now e) (pieces_at S.at pieces.now e)) }
+    ensures { LaysButMem S.run calc.old calc.new (places_at S.at result.items)
+        (λ e. places_of (S.at x.now e) (pieces_at S.at pieces.now e))
+        (λ e. StandFits (S.at x.now e) (pieces_at S.at pieces.now e)) }
 {
     let from = calc.copy(x);
     stand(alloc, calc, from, solid_len(pieces), pieces)
@@ -168,13 +159,12 @@ pub fn add_content<S: Steady>(
     opened: &[u32],
     entries: &mut List<Entry<S::Num>>,
 )
-    ensures goes { Goes (S.run calc.old) (S.run calc.new) }
-    ensures value { (e : Reading) → IsTrue ((S.run calc.new).is_open e) → entries_at S.at entries.new e
-        ≡ entries_at S.at entries.old e ++ entries_in (context_at S.at container.now e)
-        (set_by S.at content pieces.now e) opened.now }
-    ensures cause { BlamesButMem (S.run calc.old) (S.run calc.new) ((e : Reading) → IsTrue ((S.run calc.old).is_open e)
-        → BoxesFit (context_at S.at container.now e) × ContentFits (S.at content.baseline e) (S.at content.left e)
-        (S.at content.width e) (spots_at S.at content.spots.items e) (pieces_at S.at pieces.now e)) }
+    ensures { LaysButMem S.run calc.old calc.new (entries_at S.at entries.new)
+        (λ e. entries_at S.at entries.old e
+        ++ entries_in (context_at S.at container.now e) (set_by S.at content pieces.now e) opened.now)
+        (λ e. BoxesFit (context_at S.at container.now e)
+        × ContentFits (S.at content.baseline e) (S.at content.left e) (S.at content.width e)
+        (spots_at S.at content.spots.items e) (pieces_at S.at pieces.now e)) }
 {
     let right = calc.add(&content.left, &content.width);
     let set = places(alloc, calc, &content.left, pieces);
@@ -197,11 +187,10 @@ pub fn place_waiting<S: Steady>(
     bottom: &S::Num,
     met: Met<S::Num>,
 ) -> Met<S::Num>
-    ensures goes { Goes (S.run calc.old) (S.run calc.new) }
-    ensures value { (e : Reading) → IsTrue ((S.run calc.new).is_open e) → met_at S.at result e
-        ≡ late_in (context_at S.at container.now e) (S.at least.now e) (S.at bottom.now e) (met_at S.at met e) }
-    ensures cause { BlamesButMem (S.run calc.old) (S.run calc.new) ((e : Reading) → IsTrue ((S.run calc.old).is_open e)
-        → PlacesFit (context_at S.at container.now e) (floats_at S.at met.floats e) (S.at least.now e)
+    ensures { LaysButMem S.run calc.old calc.new (met_at S.at result)
+        (λ e. late_in (context_at S.at container.now e) (S.at least.now e) (S.at bottom.now e)
+        (met_at S.at met e))
+        (λ e. PlacesFit (context_at S.at container.now e) (floats_at S.at met.floats e) (S.at least.now e)
         (S.at bottom.now e) met.waiting.items) }
 {
     let Met {

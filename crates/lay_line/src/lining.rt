@@ -2,7 +2,7 @@
 ghost use Rattle.std.specs.Prelude.{◌≡◌, ◌<◌, ◌++◌, None, length, IsTrue, ⊤};
 ghost use Rattle.std.specs.List.{AllByRecursion};
 ghost use Rattle.viz_calc.specs.World.{Reading};
-ghost use Rattle.viz_calc.specs.Run.{Goes, BlamesButMem};
+ghost use Rattle.viz_calc.specs.Run.{Goes, BlamesButMem, LaysButMem};
 ghost use Rattle.layout_semantics.specs.InlineContent.{content as content_of};
 ghost use Rattle.layout_semantics.specs.Lines.{lines_in};
 ghost use Rattle.layout_semantics.specs.Stretches.{may_part};
@@ -177,10 +177,8 @@ fn items_in<'t, S: Steady>(alloc: Global, calc: &mut S, tree: &'t BoxTree, at: u
 
 /// Where stretches end.
 fn marks_in<S: Steady>(alloc: Global, calc: &mut S, tree: &BoxTree, items: &[Item]) -> Vec<bool>
-    ensures goes { Goes (S.run calc.old) (S.run calc.new) }
-    ensures value { (e : Reading) → IsTrue ((S.run calc.new).is_open e) → result.items
-        ≡ marks_of (may_part tree.now) None None (items_of items.now) }
-    ensures cause { BlamesButMem (S.run calc.old) (S.run calc.new) ⊤ }
+    ensures { LaysButMem S.run calc.old calc.new (λ e. result.items)
+        (λ e. marks_of (may_part tree.now) None None (items_of items.now)) (λ e. ⊤) }
 {
     match marks(alloc, tree, Parting::Lines, items) {
         Ok(marks) => marks,
@@ -210,11 +208,11 @@ pub fn lines<S: Steady>(
     floats: Floats<S::Num>,
 ) -> Laid<S::Num>
     requires { container.now.at < length container.now.tree.now.boxes }
-    ensures goes { Goes (S.run calc.old) (S.run calc.new) }
-    ensures value { (e : Reading) → IsTrue ((S.run calc.new).is_open e) → laid_at S.at result e
-        ≡ lines_in (context_at S.at container.now e) (S.at y.now e) (S.at least.now e) (floats_at S.at floats e) }
-    ensures cause { BlamesButMem (S.run calc.old) (S.run calc.new) ((e : Reading) → IsTrue ((S.run calc.old).is_open e)
-        → LinesFit (context_at S.at container.now e) (S.at y.now e) (S.at least.now e) (floats_at S.at floats e)) }
+    ensures { LaysButMem S.run calc.old calc.new (laid_at S.at result)
+        (λ e. lines_in (context_at S.at container.now e) (S.at y.now e) (S.at least.now e)
+        (floats_at S.at floats e))
+        (λ e. LinesFit (context_at S.at container.now e) (S.at y.now e) (S.at least.now e)
+        (floats_at S.at floats e)) }
 {
     let items = items_in(alloc, calc, container.tree, container.at);
     let pieces = measure(alloc, calc, container, items.as_slice());

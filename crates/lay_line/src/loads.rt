@@ -1,8 +1,7 @@
 //! How much a line holds, stretch by stretch (CSS 2.1, 9.4.2).
 ghost use Rattle.std.specs.Prelude.{◌≡◌, ◌≤◌, not, ◌==◌, pos, length, filter, IsTrue, IfOk, ⊤, ◌∷◌, []};
 ghost use Rattle.std.specs.List.{list_any};
-ghost use Rattle.viz_calc.specs.World.{Reading};
-ghost use Rattle.viz_calc.specs.Run.{Stands, Goes, Fits, Blames, BlamesButMem};
+ghost use Rattle.viz_calc.specs.Run.{Lays, LaysButMem};
 ghost use Rattle.layout_semantics.specs.LineHeights.{height_of_extent};
 ghost use Rattle.layout_semantics.specs.Lines.{opened_after};
 ghost use Rattle.layout_semantics.specs.Stretches.{is_forced as is_forced_of};
@@ -39,11 +38,9 @@ fn with_reach<S: Steady>(
     extent: LineExtent<S::Num>,
     at: u32,
 ) -> LineExtent<S::Num>
-    ensures goes { Goes (S.run calc.old) (S.run calc.new) }
-    ensures value { (e : Reading) → IsTrue ((S.run calc.new).is_open e) → line_extent_at S.at result e
-        ≡ reach_with (context_at S.at container.now e) (line_extent_at S.at extent e) at }
-    ensures cause { Blames (S.run calc.old) (S.run calc.new) ((e : Reading) → IsTrue ((S.run calc.old).is_open e)
-        → ReachFits (context_at S.at container.now e) at) }
+    ensures { Lays S.run calc.old calc.new (line_extent_at S.at result)
+        (λ e. reach_with (context_at S.at container.now e) (line_extent_at S.at extent e) at)
+        (λ e. ReachFits (context_at S.at container.now e) at) }
 {
     let more = reach(calc, container, at);
     with_extent(calc, extent, more)
@@ -66,12 +63,9 @@ fn with_item<S: Steady>(
     extent: LineExtent<S::Num>,
     item: &Item,
 ) -> LineExtent<S::Num>
-    ensures goes { Goes (S.run calc.old) (S.run calc.new) }
-    ensures value { (e : Reading) → IsTrue ((S.run calc.new).is_open e) → line_extent_at S.at result e
-        ≡ with_reach_of (context_at S.at container.now e) (line_extent_at S.at extent e)
-        (extending (item_of item.now)) }
-    ensures cause { Blames (S.run calc.old) (S.run calc.new) ((e : Reading) → IsTrue ((S.run calc.old).is_open e)
-        → BoxesReach (context_at S.at container.now e)) }
+    ensures { Lays S.run calc.old calc.new (line_extent_at S.at result)
+        (λ e. with_reach_of (context_at S.at container.now e) (line_extent_at S.at extent e)
+        (extending (item_of item.now))) (λ e. BoxesReach (context_at S.at container.now e)) }
 {
     match extending_box(item) {
         Some(at) => with_reach(calc, container, extent, at),
@@ -86,11 +80,9 @@ fn extended<S: Steady>(
     start: LineExtent<S::Num>,
     pieces: &[Piece<S::Num>],
 ) -> LineExtent<S::Num>
-    ensures goes { Goes (S.run calc.old) (S.run calc.new) }
-    ensures value { (e : Reading) → IsTrue ((S.run calc.new).is_open e) → line_extent_at S.at result e
-        ≡ reaching (context_at S.at container.now e) (line_extent_at S.at start e) (bare_of pieces.now) }
-    ensures cause { Blames (S.run calc.old) (S.run calc.new) ((e : Reading) → IsTrue ((S.run calc.old).is_open e)
-        → BoxesReach (context_at S.at container.now e)) }
+    ensures { Lays S.run calc.old calc.new (line_extent_at S.at result)
+        (λ e. reaching (context_at S.at container.now e) (line_extent_at S.at start e) (bare_of pieces.now))
+        (λ e. BoxesReach (context_at S.at container.now e)) }
 {
     let mut extent = start;
     for piece in pieces {
@@ -106,11 +98,9 @@ pub fn extent_at_start<S: Steady>(
     start: LineExtent<S::Num>,
     opened: &[u32],
 ) -> LineExtent<S::Num>
-    ensures goes { Goes (S.run calc.old) (S.run calc.new) }
-    ensures value { (e : Reading) → IsTrue ((S.run calc.new).is_open e) → line_extent_at S.at result e
-        ≡ reaching_boxes (context_at S.at container.now e) (line_extent_at S.at start e) opened.now }
-    ensures cause { Blames (S.run calc.old) (S.run calc.new) ((e : Reading) → IsTrue ((S.run calc.old).is_open e)
-        → BoxesReach (context_at S.at container.now e)) }
+    ensures { Lays S.run calc.old calc.new (line_extent_at S.at result)
+        (λ e. reaching_boxes (context_at S.at container.now e) (line_extent_at S.at start e) opened.now)
+        (λ e. BoxesReach (context_at S.at container.now e)) }
 {
     let mut extent = start;
     for at in opened {
@@ -126,14 +116,14 @@ pub fn tallest<S: Steady>(
     container: &Container<'_, S::Num>,
     pieces: &[Piece<S::Num>],
 ) -> S::Num
-    ensures goes { Goes (S.run calc.old) (S.run calc.new) }
-    ensures value { Stands (S.run calc.new) (S.at result)
-        (λ e. tallest_by (context_at S.at container.now e) (bare_of pieces.now)) }
-    ensures cause { Blames (S.run calc.old) (S.run calc.new) ((e : Reading) → IsTrue ((S.run calc.old).is_open e)
-        → InlineFits container.now.tree.now e.world (node_of container.now.tree.now container.now.at)
-        × (BoxesReach (context_at S.at container.now e) × AllSmall (height_of_extent
-        (reaching (context_at S.at container.now e) (strut_in (context_at S.at container.now e)) (bare_of pieces.now))
-        ∷ pos 1 ∷ []))) }
+    ensures { Lays S.run calc.old calc.new (S.at result)
+        (λ e. tallest_by (context_at S.at container.now e) (bare_of pieces.now))
+        (λ e. InlineFits container.now.tree.now e.world (node_of container.now.tree.now container.now.at)
+        × (BoxesReach (context_at S.at container.now e)
+        × AllSmall
+        (height_of_extent
+        (reaching (context_at S.at container.now e) (strut_in (context_at S.at container.now e))
+        (bare_of pieces.now)) ∷ pos 1 ∷ []))) }
 {
     let start = strut(calc, container);
     let extent = extended(calc, container, start, pieces);
@@ -144,9 +134,7 @@ pub fn tallest<S: Steady>(
 
 /// The number 1, in 1/64 px.
 fn unit<S: Steady>(calc: &mut S) -> S::Num
-    ensures goes { Goes (S.run calc.old) (S.run calc.new) }
-    ensures value { Stands (S.run calc.new) (S.at result) (λ e. pos 1) }
-    ensures cause { Blames (S.run calc.old) (S.run calc.new) (Fits (S.run calc.old) (λ e. pos 1 ∷ [])) }
+    ensures { Lays S.run calc.old calc.new (S.at result) (λ e. pos 1) (λ e. AllSmall (pos 1 ∷ [])) }
 {
     calc.lit(1)
 }
@@ -201,10 +189,8 @@ fn opened_behind<S: Steady>(
     opened: Vec<u32>,
     pieces: &[Piece<S::Num>],
 ) -> Vec<u32>
-    ensures goes { Goes (S.run calc.old) (S.run calc.new) }
-    ensures value { (e : Reading) → IsTrue ((S.run calc.new).is_open e)
-        → result.items ≡ opened_by opened.items (bare_of pieces.now) }
-    ensures cause { BlamesButMem (S.run calc.old) (S.run calc.new) ⊤ }
+    ensures { LaysButMem S.run calc.old calc.new (λ e. result.items)
+        (λ e. opened_by opened.items (bare_of pieces.now)) (λ e. ⊤) }
 {
     match opened_past(alloc, opened, pieces) {
         Ok(opened) => opened,
@@ -291,13 +277,11 @@ pub fn with_stretch<S: Steady>(
     load: Load<S::Num>,
     taken: Taken<'_, '_, S::Num>,
 ) -> Load<S::Num>
-    ensures goes { Goes (S.run calc.old) (S.run calc.new) }
-    ensures value { (e : Reading) → IsTrue ((S.run calc.new).is_open e) → load_at S.at result e
-        ≡ loaded (context_at S.at container.now e) (slot_at S.at slot.now e) (load_at S.at load e)
-        (bare_of taken.entry.part.now) taken.entry.floats.now (held_at S.at taken.entry.held e) }
-    ensures cause { BlamesButMem (S.run calc.old) (S.run calc.new) ((e : Reading) → IsTrue ((S.run calc.old).is_open e)
-        → (PlacesFit (context_at S.at container.now e) (floats_at S.at load.met.floats e) (S.at slot.now.least e)
-        (S.at slot.now.top e) taken.entry.floats.now × IsHalf (S.at slot.now.tall e))
+    ensures { LaysButMem S.run calc.old calc.new (load_at S.at result)
+        (λ e. loaded (context_at S.at container.now e) (slot_at S.at slot.now e) (load_at S.at load e)
+        (bare_of taken.entry.part.now) taken.entry.floats.now (held_at S.at taken.entry.held e))
+        (λ e. (PlacesFit (context_at S.at container.now e) (floats_at S.at load.met.floats e)
+        (S.at slot.now.least e) (S.at slot.now.top e) taken.entry.floats.now × IsHalf (S.at slot.now.tall e))
         × BoxesReach (context_at S.at container.now e)) }
 {
     let mut met = load.met;
@@ -323,11 +307,8 @@ pub fn with_stretch<S: Steady>(
 
 /// The same as is held.
 fn copy_held<S: Steady>(calc: &mut S, held: &Held<S::Num>) -> Held<S::Num>
-    ensures goes { Goes (S.run calc.old) (S.run calc.new) }
-    ensures value { (e : Reading) → IsTrue ((S.run calc.new).is_open e)
-        → held_at S.at result e ≡ held_at S.at held.now e }
-    ensures cause { Blames (S.run calc.old) (S.run calc.new)
-        (Fits (S.run calc.old) (λ e. S.at held.now.width e ∷ S.at held.now.spaces e ∷ [])) }
+    ensures { Lays S.run calc.old calc.new (held_at S.at result) (held_at S.at held.now)
+        (λ e. AllSmall (S.at held.now.width e ∷ S.at held.now.spaces e ∷ [])) }
 {
     let width = calc.copy(&held.width);
     let spaces = calc.copy(&held.spaces);
@@ -347,13 +328,11 @@ fn takes_more<S: Steady>(
     load: &Load<S::Num>,
     held: &Held<S::Num>,
 ) -> bool
-    ensures goes { Goes (S.run calc.old) (S.run calc.new) }
-    ensures value { (e : Reading) → IsTrue ((S.run calc.new).is_open e) → result
-        ≡ takes_in (context_at S.at container.now e) (slot_at S.at slot.now e) (load_at S.at load.now e)
-        (held_at S.at held.now e) }
-    ensures cause { Blames (S.run calc.old) (S.run calc.new) ((e : Reading) → IsTrue ((S.run calc.old).is_open e)
-        → RoomFits (context_at S.at container.now e) (floats_at S.at load.now.met.floats e) (S.at slot.now.top e)
-        (S.at slot.now.tall e)) }
+    ensures { Lays S.run calc.old calc.new (λ e. result)
+        (λ e. takes_in (context_at S.at container.now e) (slot_at S.at slot.now e) (load_at S.at load.now e)
+        (held_at S.at held.now e))
+        (λ e. RoomFits (context_at S.at container.now e) (floats_at S.at load.now.met.floats e)
+        (S.at slot.now.top e) (S.at slot.now.tall e)) }
 {
     // A forced break ends the line whatever room is left, so nothing is compared behind it.
     !load.is_ended
@@ -383,12 +362,10 @@ pub fn fill<'p, 'a, S: Steady>(
     start: Load<S::Num>,
     stretches: Stretches<'p, 'a, S::Num>,
 ) -> Loaded<'p, 'a, S::Num>
-    ensures goes { Goes (S.run calc.old) (S.run calc.new) }
-    ensures value { (e : Reading) → IsTrue ((S.run calc.new).is_open e) → loaded_at S.at result e
-        ≡ loading (context_at S.at container.now e) (slot_at S.at slot.now e) (load_at S.at start e)
-        (parts_at S.at stretches.entry e) }
-    ensures cause { BlamesButMem (S.run calc.old) (S.run calc.new) ((e : Reading) → IsTrue ((S.run calc.old).is_open e)
-        → FillFits (context_at S.at container.now e) (slot_at S.at slot.now e) (load_at S.at start e)
+    ensures { LaysButMem S.run calc.old calc.new (loaded_at S.at result)
+        (λ e. loading (context_at S.at container.now e) (slot_at S.at slot.now e) (load_at S.at start e)
+        (parts_at S.at stretches.entry e))
+        (λ e. FillFits (context_at S.at container.now e) (slot_at S.at slot.now e) (load_at S.at start e)
         (pieces_at S.at stretches.entry.pieces.now e)) }
 {
     let mut load = start;

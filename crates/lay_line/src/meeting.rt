@@ -2,7 +2,8 @@
 ghost use Rattle.std.specs.Prelude.{◌≡◌, ◌++◌, ◌∷◌, [], IsTrue, IfOk, ⊤};
 ghost use Rattle.std.specs.Ordering.{int_eq};
 ghost use Rattle.viz_calc.specs.World.{Reading};
-ghost use Rattle.viz_calc.specs.Run.{Goes, Fits, Blames, BlamesButMem};
+ghost use Rattle.viz_calc.specs.State.{AllSmall};
+ghost use Rattle.viz_calc.specs.Run.{Goes, BlamesButMem, Lays, LaysButMem};
 ghost use Rattle.viz_calc.specs.Renderings.{spot_at};
 ghost use Rattle.layout_semantics.specs.InlineContent.{float_boxes};
 ghost use Rattle.layout_semantics.specs.LineFilling.{fits as fits_in};
@@ -52,11 +53,10 @@ pub struct Slot<N> {
 
 /// The outer size of a float.
 fn float_size<S: Steady>(calc: &mut S, container: &Container<'_, S::Num>, at: u32) -> Extent<S::Num>
-    ensures goes { Goes (S.run calc.old) (S.run calc.new) }
-    ensures value { (e : Reading) → IsTrue ((S.run calc.new).is_open e) → extent_at S.at result e
-        ≡ size_in (context_at S.at container.now e) at }
-    ensures cause { Blames (S.run calc.old) (S.run calc.new)
-        (Fits (S.run calc.old) (λ e. (size_in (context_at S.at container.now e) at).width
+    ensures { Lays S.run calc.old calc.new (extent_at S.at result)
+        (λ e. size_in (context_at S.at container.now e) at)
+        (λ e. AllSmall
+        ((size_in (context_at S.at container.now e) at).width
         ∷ (size_in (context_at S.at container.now e) at).height ∷ [])) }
 {
     match inner_of(container, at) {
@@ -112,10 +112,8 @@ fn add_spot<S: Steady>(
     at: u32,
     spot: Spot<S::Num>,
 )
-    ensures goes { Goes (S.run calc.old) (S.run calc.new) }
-    ensures value { (e : Reading) → IsTrue ((S.run calc.new).is_open e) → spots_at S.at spots.new.items e
-        ≡ spots_at S.at spots.old.items e ++ (at, spot_at S.at spot e) ∷ [] }
-    ensures cause { BlamesButMem (S.run calc.old) (S.run calc.new) ⊤ }
+    ensures { LaysButMem S.run calc.old calc.new (spots_at S.at spots.new.items)
+        (λ e. spots_at S.at spots.old.items e ++ (at, spot_at S.at spot e) ∷ []) (λ e. ⊤) }
 {
     if spots.push((at, spot)).is_err() {
         calc.stop();
@@ -124,10 +122,8 @@ fn add_spot<S: Steady>(
 
 /// A float more that waits.
 fn add_waiting<S: Steady>(calc: &mut S, waiting: &mut Vec<u32>, at: u32)
-    ensures goes { Goes (S.run calc.old) (S.run calc.new) }
-    ensures value { (e : Reading) → IsTrue ((S.run calc.new).is_open e)
-        → waiting.new.items ≡ waiting.old.items ++ at ∷ [] }
-    ensures cause { BlamesButMem (S.run calc.old) (S.run calc.new) ⊤ }
+    ensures { LaysButMem S.run calc.old calc.new (λ e. waiting.new.items) (λ e. waiting.old.items ++ at ∷ [])
+        (λ e. ⊤) }
 {
     if waiting.push(at).is_err() {
         calc.stop();
@@ -144,11 +140,10 @@ fn place_next<S: Steady>(
     met: &mut Met<S::Num>,
     at: u32,
 )
-    ensures goes { Goes (S.run calc.old) (S.run calc.new) }
-    ensures value { (e : Reading) → IsTrue ((S.run calc.new).is_open e) → met_at S.at met.new e
-        ≡ placed_next (context_at S.at container.now e) (S.at least.now e) (S.at y.now e) (met_at S.at met.old e) at }
-    ensures cause { BlamesButMem (S.run calc.old) (S.run calc.new) ((e : Reading) → IsTrue ((S.run calc.old).is_open e)
-        → PlacesFit (context_at S.at container.now e) (floats_at S.at met.old.floats e) (S.at least.now e)
+    ensures { LaysButMem S.run calc.old calc.new (met_at S.at met.new)
+        (λ e. placed_next (context_at S.at container.now e) (S.at least.now e) (S.at y.now e)
+        (met_at S.at met.old e) at)
+        (λ e. PlacesFit (context_at S.at container.now e) (floats_at S.at met.old.floats e) (S.at least.now e)
         (S.at y.now e) (at ∷ [])) }
 {
     let spot = place_of_line(calc, container, &mut met.floats, at, least, y);
@@ -164,12 +159,10 @@ pub fn place_each<S: Steady>(
     met: &mut Met<S::Num>,
     boxes: &[u32],
 )
-    ensures goes { Goes (S.run calc.old) (S.run calc.new) }
-    ensures value { (e : Reading) → IsTrue ((S.run calc.new).is_open e) → met_at S.at met.new e
-        ≡ placed_all (context_at S.at container.now e) (S.at least.now e) (S.at y.now e) (met_at S.at met.old e)
-        boxes.now }
-    ensures cause { BlamesButMem (S.run calc.old) (S.run calc.new) ((e : Reading) → IsTrue ((S.run calc.old).is_open e)
-        → PlacesFit (context_at S.at container.now e) (floats_at S.at met.old.floats e) (S.at least.now e)
+    ensures { LaysButMem S.run calc.old calc.new (met_at S.at met.new)
+        (λ e. placed_all (context_at S.at container.now e) (S.at least.now e) (S.at y.now e)
+        (met_at S.at met.old e) boxes.now)
+        (λ e. PlacesFit (context_at S.at container.now e) (floats_at S.at met.old.floats e) (S.at least.now e)
         (S.at y.now e) boxes.now) }
 {
     for at in boxes {
@@ -187,11 +180,12 @@ pub fn fits<S: Steady>(
     tall: &S::Num,
     width: &S::Num,
 ) -> bool
-    ensures goes { Goes (S.run calc.old) (S.run calc.new) }
-    ensures value { (e : Reading) → IsTrue ((S.run calc.new).is_open e) → result ≡ fits_in (S.at width.now e)
-        (room_in (context_at S.at container.now e) (boxes_at S.at floats.now e) (S.at top.now e) (S.at tall.now e)) }
-    ensures cause { Blames (S.run calc.old) (S.run calc.new) ((e : Reading) → IsTrue ((S.run calc.old).is_open e)
-        → RoomFits (context_at S.at container.now e) (boxes_at S.at floats.now e) (S.at top.now e) (S.at tall.now e)) }
+    ensures { Lays S.run calc.old calc.new (λ e. result)
+        (λ e. fits_in (S.at width.now e)
+        (room_in (context_at S.at container.now e) (boxes_at S.at floats.now e) (S.at top.now e)
+        (S.at tall.now e)))
+        (λ e. RoomFits (context_at S.at container.now e) (boxes_at S.at floats.now e) (S.at top.now e)
+        (S.at tall.now e)) }
 {
     let room = band(calc, floats, container.cb, top, tall);
     let across = band_width(calc, &room);
@@ -200,10 +194,7 @@ pub fn fits<S: Steady>(
 
 /// Whether two numbers are the same.
 fn same<S: Steady>(calc: &mut S, a: &S::Num, b: &S::Num) -> bool
-    ensures goes { Goes (S.run calc.old) (S.run calc.new) }
-    ensures value { (e : Reading) → IsTrue ((S.run calc.new).is_open e)
-        → result ≡ int_eq (S.at a.now e) (S.at b.now e) }
-    ensures cause { Blames (S.run calc.old) (S.run calc.new) ⊤ }
+    ensures { Lays S.run calc.old calc.new (λ e. result) (λ e. int_eq (S.at a.now e) (S.at b.now e)) (λ e. ⊤) }
 {
     // A calc has one comparison; equality is two of them.
     calc.le(a, b) && calc.le(b, a)
@@ -218,12 +209,10 @@ fn leaves_room<S: Steady>(
     floats: &[PlacedFloat<S::Num>],
     y: &S::Num,
 ) -> bool
-    ensures goes { Goes (S.run calc.old) (S.run calc.new) }
-    ensures value { (e : Reading) → IsTrue ((S.run calc.new).is_open e) → result
-        ≡ leaves (context_at S.at container.now e) (slot_at S.at slot.now e) (S.at held.now e)
-        (boxes_at S.at floats.now e) (S.at y.now e) }
-    ensures cause { Blames (S.run calc.old) (S.run calc.new) ((e : Reading) → IsTrue ((S.run calc.old).is_open e)
-        → RoomFits (context_at S.at container.now e) (boxes_at S.at floats.now e) (S.at slot.now.top e)
+    ensures { Lays S.run calc.old calc.new (λ e. result)
+        (λ e. leaves (context_at S.at container.now e) (slot_at S.at slot.now e) (S.at held.now e)
+        (boxes_at S.at floats.now e) (S.at y.now e))
+        (λ e. RoomFits (context_at S.at container.now e) (boxes_at S.at floats.now e) (S.at slot.now.top e)
         (S.at slot.now.tall e)) }
 {
     same(calc, y, &slot.top) && fits(calc, container, floats, &slot.top, &slot.tall, held)
@@ -239,13 +228,11 @@ fn meet<S: Steady>(
     met: &mut Met<S::Num>,
     at: u32,
 )
-    ensures goes { Goes (S.run calc.old) (S.run calc.new) }
-    ensures value { (e : Reading) → IsTrue ((S.run calc.new).is_open e) → met_at S.at met.new e
-        ≡ met_next (context_at S.at container.now e) (slot_at S.at slot.now e) (S.at held.now e)
-        (met_at S.at met.old e) at }
-    ensures cause { BlamesButMem (S.run calc.old) (S.run calc.new) ((e : Reading) → IsTrue ((S.run calc.old).is_open e)
-        → PlacesFit (context_at S.at container.now e) (floats_at S.at met.old.floats e) (S.at slot.now.least e)
-        (S.at slot.now.top e) (at ∷ []) × IsHalf (S.at slot.now.tall e)) }
+    ensures { LaysButMem S.run calc.old calc.new (met_at S.at met.new)
+        (λ e. met_next (context_at S.at container.now e) (slot_at S.at slot.now e) (S.at held.now e)
+        (met_at S.at met.old e) at)
+        (λ e. PlacesFit (context_at S.at container.now e) (floats_at S.at met.old.floats e)
+        (S.at slot.now.least e) (S.at slot.now.top e) (at ∷ []) × IsHalf (S.at slot.now.tall e)) }
 {
     // Rule 5 of 9.5.1: none stands above one that came before it.
     if !met.waiting.is_empty() {
@@ -279,13 +266,11 @@ pub fn meet_each<S: Steady>(
     met: &mut Met<S::Num>,
     boxes: &[u32],
 )
-    ensures goes { Goes (S.run calc.old) (S.run calc.new) }
-    ensures value { (e : Reading) → IsTrue ((S.run calc.new).is_open e) → met_at S.at met.new e
-        ≡ met_all (context_at S.at container.now e) (slot_at S.at slot.now e) (S.at held.now e)
-        (met_at S.at met.old e) boxes.now }
-    ensures cause { BlamesButMem (S.run calc.old) (S.run calc.new) ((e : Reading) → IsTrue ((S.run calc.old).is_open e)
-        → PlacesFit (context_at S.at container.now e) (floats_at S.at met.old.floats e) (S.at slot.now.least e)
-        (S.at slot.now.top e) boxes.now × IsHalf (S.at slot.now.tall e)) }
+    ensures { LaysButMem S.run calc.old calc.new (met_at S.at met.new)
+        (λ e. met_all (context_at S.at container.now e) (slot_at S.at slot.now e) (S.at held.now e)
+        (met_at S.at met.old e) boxes.now)
+        (λ e. PlacesFit (context_at S.at container.now e) (floats_at S.at met.old.floats e)
+        (S.at slot.now.least e) (S.at slot.now.top e) boxes.now × IsHalf (S.at slot.now.tall e)) }
 {
     for at in boxes {
         meet(calc, container, slot, held, met, *at);
@@ -317,10 +302,8 @@ fn collect_floats<N>(alloc: Global, pieces: &[Piece<N>]) -> Result<Vec<u32>, All
 
 /// The floats of pieces, in order.
 pub fn floats_of<S: Steady>(alloc: Global, calc: &mut S, pieces: &[Piece<S::Num>]) -> Vec<u32>
-    ensures goes { Goes (S.run calc.old) (S.run calc.new) }
-    ensures value { (e : Reading) → IsTrue ((S.run calc.new).is_open e)
-        → result.items ≡ float_boxes (bare_of pieces.now) }
-    ensures cause { BlamesButMem (S.run calc.old) (S.run calc.new) ⊤ }
+    ensures { LaysButMem S.run calc.old calc.new (λ e. result.items) (λ e. float_boxes (bare_of pieces.now))
+        (λ e. ⊤) }
 {
     match collect_floats(alloc, pieces) {
         Ok(floats) => floats,

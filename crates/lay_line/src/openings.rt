@@ -1,7 +1,6 @@
 //! The beginning of a line: the floats before it, and its first stretch (CSS 2.1, 9.4.2, 9.5).
 ghost use Rattle.std.specs.Prelude.{◌≡◌, IsTrue, ⊤};
-ghost use Rattle.viz_calc.specs.World.{Reading};
-ghost use Rattle.viz_calc.specs.Run.{Goes, BlamesButMem};
+ghost use Rattle.viz_calc.specs.Run.{LaysButMem};
 ghost use Rattle.layout_semantics.specs.InlineContent.{float_boxes};
 ghost use Rattle.lay_float.specs.Readings.{floats_at};
 ghost use Rattle.lay_line.specs.Contexts.{context_at};
@@ -37,9 +36,7 @@ pub struct Opening<'p, 'a, N> {
 
 /// Boxes again.
 fn copy_boxes<S: Steady>(alloc: Global, calc: &mut S, boxes: &[u32]) -> Vec<u32>
-    ensures goes { Goes (S.run calc.old) (S.run calc.new) }
-    ensures value { (e : Reading) → IsTrue ((S.run calc.new).is_open e) → result.items ≡ boxes.now }
-    ensures cause { BlamesButMem (S.run calc.old) (S.run calc.new) ⊤ }
+    ensures { LaysButMem S.run calc.old calc.new (λ e. result.items) (λ e. boxes.now) (λ e. ⊤) }
 {
     match Vec::from_slice(alloc, boxes) {
         Ok(boxes) => boxes,
@@ -60,12 +57,10 @@ pub fn meet_before<S: Steady>(
     floats: Floats<S::Num>,
     first: &[Piece<S::Num>],
 ) -> Met<S::Num>
-    ensures goes { Goes (S.run calc.old) (S.run calc.new) }
-    ensures value { (e : Reading) → IsTrue ((S.run calc.new).is_open e) → met_at S.at result e
-        ≡ met_before (context_at S.at container.now e) (begun_at S.at begun.now (floats_at S.at floats e) e)
-        (pieces_at S.at first.now e) }
-    ensures cause { BlamesButMem (S.run calc.old) (S.run calc.new) ((e : Reading) → IsTrue ((S.run calc.old).is_open e)
-        → PlacesFit (context_at S.at container.now e) (floats_at S.at floats e) (S.at begun.now.least e)
+    ensures { LaysButMem S.run calc.old calc.new (met_at S.at result)
+        (λ e. met_before (context_at S.at container.now e) (begun_at S.at begun.now (floats_at S.at floats e) e)
+        (pieces_at S.at first.now e))
+        (λ e. PlacesFit (context_at S.at container.now e) (floats_at S.at floats e) (S.at begun.now.least e)
         (S.at begun.now.y e) (float_boxes (bare (pieces_at S.at first.now e)))) }
 {
     let (before, _) = first.split_at(ahead(container.tree, first));
@@ -94,13 +89,12 @@ pub fn first_load<S: Steady>(
     slot: &Slot<S::Num>,
     opening: Opening<'_, '_, S::Num>,
 ) -> Load<S::Num>
-    ensures goes { Goes (S.run calc.old) (S.run calc.new) }
-    ensures value { (e : Reading) → IsTrue ((S.run calc.new).is_open e) → load_at S.at result e
-        ≡ first_load (context_at S.at container.now e) (slot_at S.at slot.now e) (met_at S.at opening.entry.met e)
-        opening.entry.opened.now (pieces_at S.at opening.entry.first.now e) (held_at S.at opening.entry.held e) }
-    ensures cause { BlamesButMem (S.run calc.old) (S.run calc.new) ((e : Reading) → IsTrue ((S.run calc.old).is_open e)
-        → FirstFits (context_at S.at container.now e) (slot_at S.at slot.now e) (met_at S.at opening.entry.met e)
-        (pieces_at S.at opening.entry.first.now e)) }
+    ensures { LaysButMem S.run calc.old calc.new (load_at S.at result)
+        (λ e. first_load (context_at S.at container.now e) (slot_at S.at slot.now e)
+        (met_at S.at opening.entry.met e) opening.entry.opened.now (pieces_at S.at opening.entry.first.now e)
+        (held_at S.at opening.entry.held e))
+        (λ e. FirstFits (context_at S.at container.now e) (slot_at S.at slot.now e)
+        (met_at S.at opening.entry.met e) (pieces_at S.at opening.entry.first.now e)) }
 {
     let strut = strut(calc, container);
     let extent = extent_at_start(calc, container, strut, opening.opened);

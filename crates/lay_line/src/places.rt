@@ -1,7 +1,7 @@
 //! Where the items of a line stand (CSS 2.1, 9.4.2, 16.6.1).
 ghost use Rattle.std.specs.Prelude.{◌≡◌, ◌+ℤ◌, ◌||◌, ◌++◌, ◌∷◌, [], IsTrue, ⊤};
-ghost use Rattle.viz_calc.specs.World.{Reading};
-ghost use Rattle.viz_calc.specs.Run.{Goes, Fits, Blames, BlamesButMem};
+ghost use Rattle.viz_calc.specs.State.{AllSmall};
+ghost use Rattle.viz_calc.specs.Run.{Lays, LaysButMem};
 ghost use Rattle.lay_line.specs.Items.{item_of};
 ghost use Rattle.lay_line.specs.Readings.{piece_at, pieces_at, place_at, places_at, row_at};
 ghost use Rattle.lay_line.specs.steps.Measured.{placed_at, row_with as row_by, row_after as row_next, rows, first_row};
@@ -51,11 +51,9 @@ fn placed<'a, S: Steady>(
     x: &S::Num,
     piece: &Piece<'a, S::Num>,
 ) -> ItemPlace<'a, S::Num>
-    ensures goes { Goes (S.run calc.old) (S.run calc.new) }
-    ensures value { (e : Reading) → IsTrue ((S.run calc.new).is_open e)
-        → place_at S.at result e ≡ placed_at (S.at x.now e) (piece_at S.at piece.now e) }
-    ensures cause { Blames (S.run calc.old) (S.run calc.new)
-        (Fits (S.run calc.old) (λ e. S.at x.now e ∷ (S.at x.now e +ℤ S.at piece.now.width e) ∷ [])) }
+    ensures { Lays S.run calc.old calc.new (place_at S.at result)
+        (λ e. placed_at (S.at x.now e) (piece_at S.at piece.now e))
+        (λ e. AllSmall (S.at x.now e ∷ (S.at x.now e +ℤ S.at piece.now.width e) ∷ [])) }
 {
     let left = calc.copy(x);
     let right = calc.add(x, &piece.width);
@@ -72,10 +70,8 @@ fn keep<'a, S: Steady>(
     places: &mut Vec<ItemPlace<'a, S::Num>>,
     place: ItemPlace<'a, S::Num>,
 )
-    ensures goes { Goes (S.run calc.old) (S.run calc.new) }
-    ensures value { (e : Reading) → IsTrue ((S.run calc.new).is_open e) → places_at S.at places.new.items e
-        ≡ places_at S.at places.old.items e ++ place_at S.at place.entry e ∷ [] }
-    ensures cause { BlamesButMem (S.run calc.old) (S.run calc.new) ⊤ }
+    ensures { LaysButMem S.run calc.old calc.new (places_at S.at places.new.items)
+        (λ e. places_at S.at places.old.items e ++ place_at S.at place.entry e ∷ []) (λ e. ⊤) }
 {
     if places.push(place).is_err() {
         calc.stop();
@@ -108,11 +104,9 @@ fn row_with<'a, S: Steady>(
     row: Row<'a, S::Num>,
     piece: &Piece<'a, S::Num>,
 ) -> Row<'a, S::Num>
-    ensures goes { Goes (S.run calc.old) (S.run calc.new) }
-    ensures value { (e : Reading) → IsTrue ((S.run calc.new).is_open e) → row_at S.at result e
-        ≡ row_by (row_at S.at row.entry e) (piece_at S.at piece.now e) }
-    ensures cause { BlamesButMem (S.run calc.old) (S.run calc.new)
-        (Fits (S.run calc.old) (λ e. S.at row.entry.x e ∷ (S.at row.entry.x e +ℤ S.at piece.now.width e) ∷ [])) }
+    ensures { LaysButMem S.run calc.old calc.new (row_at S.at result)
+        (λ e. row_by (row_at S.at row.entry e) (piece_at S.at piece.now e))
+        (λ e. AllSmall (S.at row.entry.x e ∷ (S.at row.entry.x e +ℤ S.at piece.now.width e) ∷ [])) }
 {
     let place = placed(calc, &row.x, piece);
     let right = calc.copy(&place.right);
@@ -132,11 +126,9 @@ fn row_after<'a, S: Steady>(
     row: Row<'a, S::Num>,
     piece: &Piece<'a, S::Num>,
 ) -> Row<'a, S::Num>
-    ensures goes { Goes (S.run calc.old) (S.run calc.new) }
-    ensures value { (e : Reading) → IsTrue ((S.run calc.new).is_open e) → row_at S.at result e
-        ≡ row_next (row_at S.at row.entry e) (piece_at S.at piece.now e) }
-    ensures cause { BlamesButMem (S.run calc.old) (S.run calc.new)
-        (Fits (S.run calc.old) (λ e. S.at row.entry.x e ∷ (S.at row.entry.x e +ℤ S.at piece.now.width e) ∷ [])) }
+    ensures { LaysButMem S.run calc.old calc.new (row_at S.at result)
+        (λ e. row_next (row_at S.at row.entry e) (piece_at S.at piece.now e))
+        (λ e. AllSmall (S.at row.entry.x e ∷ (S.at row.entry.x e +ℤ S.at piece.now.width e) ∷ [])) }
 {
     let left = fewer(row.left);
     let more = is_some_left(left);
@@ -154,11 +146,9 @@ fn row_of<'a, S: Steady>(
     start: Row<'a, S::Num>,
     pieces: &[Piece<'a, S::Num>],
 ) -> Row<'a, S::Num>
-    ensures goes { Goes (S.run calc.old) (S.run calc.new) }
-    ensures value { (e : Reading) → IsTrue ((S.run calc.new).is_open e) → row_at S.at result e
-        ≡ rows (row_at S.at start.entry e) (pieces_at S.at pieces.now e) }
-    ensures cause { BlamesButMem (S.run calc.old) (S.run calc.new) ((e : Reading) → IsTrue ((S.run calc.old).is_open e)
-        → StandFits (S.at start.entry.x e) (pieces_at S.at pieces.now e)) }
+    ensures { LaysButMem S.run calc.old calc.new (row_at S.at result)
+        (λ e. rows (row_at S.at start.entry e) (pieces_at S.at pieces.now e))
+        (λ e. StandFits (S.at start.entry.x e) (pieces_at S.at pieces.now e)) }
 {
     let mut row = start;
     for piece in pieces {
@@ -175,11 +165,9 @@ pub fn stand<'a, S: Steady>(
     left: usize,
     pieces: &[Piece<'a, S::Num>],
 ) -> Vec<ItemPlace<'a, S::Num>>
-    ensures goes { Goes (S.run calc.old) (S.run calc.new) }
-    ensures value { (e : Reading) → IsTrue ((S.run calc.new).is_open e) → places_at S.at result.items e
-        ≡ (rows (first_row (S.at x e) left) (pieces_at S.at pieces.now e)).places }
-    ensures cause { BlamesButMem (S.run calc.old) (S.run calc.new) ((e : Reading) → IsTrue ((S.run calc.old).is_open e)
-        → StandFits (S.at x e) (pieces_at S.at pieces.now e)) }
+    ensures { LaysButMem S.run calc.old calc.new (places_at S.at result.items)
+        (λ e. (rows (first_row (S.at x e) left) (pieces_at S.at pieces.now e)).places)
+        (λ e. StandFits (S.at x e) (pieces_at S.at pieces.now e)) }
 {
     let start = Row {
         x,

@@ -2,8 +2,7 @@
 ghost use Rattle.std.specs.Prelude.{◌≡◌, ◌+ℤ◌, ◌-ℤ◌, neg_ℤ, IsTrue, ◌∷◌, [], pos};
 ghost use Rattle.viz_base.specs.Numbers.{floor_of};
 ghost use Rattle.viz_base.specs.declared.lengths.Valign.TheVariants as of_valign;
-ghost use Rattle.viz_calc.specs.World.{Reading};
-ghost use Rattle.viz_calc.specs.Run.{Stands, Goes, Fits, Blames};
+ghost use Rattle.viz_calc.specs.Run.{Fits, Lays};
 ghost use Rattle.layout_semantics.specs.Blocks.{node_of};
 ghost use Rattle.layout_semantics.specs.Fonts.{font_size};
 ghost use Rattle.layout_semantics.specs.Lengths.{own};
@@ -28,11 +27,8 @@ use viz_calc::Steady;
 
 /// A fifth of a node's font size, rounded down, below the baseline.
 fn lowered<S: Steady>(calc: &mut S, tree: &BoxTree, node: u32) -> S::Num
-    ensures goes { Goes (S.run calc.old) (S.run calc.new) }
-    ensures value { Stands (S.run calc.new) (S.at result)
-        (λ e. neg_ℤ (floor_of (font_size tree.now e.world node) 5)) }
-    ensures cause { Blames (S.run calc.old) (S.run calc.new) ((e : Reading) → IsTrue ((S.run calc.old).is_open e)
-        → AllSmall (part_way tree.now e.world node (fraction (pos 1) 5 (font_size tree.now e.world node)))
+    ensures { Lays S.run calc.old calc.new (S.at result) (λ e. neg_ℤ (floor_of (font_size tree.now e.world node) 5))
+        (λ e. AllSmall (part_way tree.now e.world node (fraction (pos 1) 5 (font_size tree.now e.world node)))
         × AllSmall (pos 0 ∷ neg_ℤ (floor_of (font_size tree.now e.world node) 5) ∷ [])) }
 {
     let part = size_part(calc, tree, node, 1, 5);
@@ -47,11 +43,10 @@ fn centred<S: Steady>(
     node: u32,
     extent: &LineExtent<S::Num>,
 ) -> S::Num
-    ensures goes { Goes (S.run calc.old) (S.run calc.new) }
-    ensures value { Stands (S.run calc.new) (S.at result) (λ e. (floor_of (font_size tree.now e.world node) 4
-        +ℤ floor_of (height_of_extent (line_extent_at S.at extent.now e)) 2) -ℤ S.at extent.now.above e) }
-    ensures cause { Blames (S.run calc.old) (S.run calc.new) ((e : Reading) → IsTrue ((S.run calc.old).is_open e)
-        → CentredFits tree.now e.world node (line_extent_at S.at extent.now e)) }
+    ensures { Lays S.run calc.old calc.new (S.at result)
+        (λ e. (floor_of (font_size tree.now e.world node) 4
+        +ℤ floor_of (height_of_extent (line_extent_at S.at extent.now e)) 2) -ℤ S.at extent.now.above e)
+        (λ e. CentredFits tree.now e.world node (line_extent_at S.at extent.now e)) }
 {
     let part = size_part(calc, tree, node, 1, 4);
     let whole = height(calc, extent);
@@ -70,11 +65,11 @@ fn raise<S: Steady>(
     extent: &LineExtent<S::Num>,
     valign: &Valign,
 ) -> S::Num
-    ensures goes { Goes (S.run calc.old) (S.run calc.new) }
-    ensures value { Stands (S.run calc.new) (S.at result) (λ e. raise_in (context_at S.at container.now e) node parent
-        (line_extent_at S.at extent.now e) valign.now) }
-    ensures cause { Blames (S.run calc.old) (S.run calc.new) ((e : Reading) → IsTrue ((S.run calc.old).is_open e)
-        → RaiseFits (context_at S.at container.now e) node parent (line_extent_at S.at extent.now e) valign.now) }
+    ensures { Lays S.run calc.old calc.new (S.at result)
+        (λ e. raise_in (context_at S.at container.now e) node parent (line_extent_at S.at extent.now e)
+        valign.now)
+        (λ e. RaiseFits (context_at S.at container.now e) node parent (line_extent_at S.at extent.now e)
+        valign.now) }
 {
     match valign {
         Valign::Baseline => zero(calc),
@@ -96,11 +91,9 @@ fn shift_to<S: Steady>(
     at: u32,
     extent: &LineExtent<S::Num>,
 ) -> S::Num
-    ensures goes { Goes (S.run calc.old) (S.run calc.new) }
-    ensures value { Stands (S.run calc.new) (S.at result) (λ e. shifted_to levels (context_at S.at container.now e) at
-        (line_extent_at S.at extent.now e)) }
-    ensures cause { Blames (S.run calc.old) (S.run calc.new) ((e : Reading) → IsTrue ((S.run calc.old).is_open e)
-        → ShiftFits_to levels (context_at S.at container.now e) at (line_extent_at S.at extent.now e)) }
+    ensures { Lays S.run calc.old calc.new (S.at result)
+        (λ e. shifted_to levels (context_at S.at container.now e) at (line_extent_at S.at extent.now e))
+        (λ e. ShiftFits_to levels (context_at S.at container.now e) at (line_extent_at S.at extent.now e)) }
 {
     if levels == 0 {
         return zero(calc);
@@ -130,11 +123,9 @@ pub fn shift<S: Steady>(
     at: u32,
     extent: &LineExtent<S::Num>,
 ) -> S::Num
-    ensures goes { Goes (S.run calc.old) (S.run calc.new) }
-    ensures value { Stands (S.run calc.new) (S.at result) (λ e. raised (context_at S.at container.now e) at
-        (line_extent_at S.at extent.now e)) }
-    ensures cause { Blames (S.run calc.old) (S.run calc.new) ((e : Reading) → IsTrue ((S.run calc.old).is_open e)
-        → ShiftFits (context_at S.at container.now e) at (line_extent_at S.at extent.now e)) }
+    ensures { Lays S.run calc.old calc.new (S.at result)
+        (λ e. raised (context_at S.at container.now e) at (line_extent_at S.at extent.now e))
+        (λ e. ShiftFits (context_at S.at container.now e) at (line_extent_at S.at extent.now e)) }
 {
     shift_to(calc, container, u64::from(at) + 1, at, extent)
 }
@@ -142,10 +133,8 @@ pub fn shift<S: Steady>(
 #[tactic(auto, unfolding(crate::specs::Contexts::context_at, crate::specs::steps::Words::inline_raised, crate::specs::Fits::InlineShiftFits))]
 /// The same of an inline box.
 pub fn inline_shift<S: Steady>(calc: &mut S, container: &Container<'_, S::Num>, at: u32) -> S::Num
-    ensures goes { Goes (S.run calc.old) (S.run calc.new) }
-    ensures value { Stands (S.run calc.new) (S.at result) (λ e. inline_raised (context_at S.at container.now e) at) }
-    ensures cause { Blames (S.run calc.old) (S.run calc.new) ((e : Reading) → IsTrue ((S.run calc.old).is_open e)
-        → InlineShiftFits (context_at S.at container.now e) at) }
+    ensures { Lays S.run calc.old calc.new (S.at result) (λ e. inline_raised (context_at S.at container.now e) at)
+        (λ e. InlineShiftFits (context_at S.at container.now e) at) }
 {
     let extent = inline_extent(calc, container.tree, node_at(container.tree, at));
     shift(calc, container, at, &extent)
@@ -157,11 +146,8 @@ pub fn box_extent<S: Steady>(
     container: &Container<'_, S::Num>,
     at: u32,
 ) -> LineExtent<S::Num>
-    ensures goes { Goes (S.run calc.old) (S.run calc.new) }
-    ensures value { (e : Reading) → IsTrue ((S.run calc.new).is_open e) → line_extent_at S.at result e
-        ≡ own_reach (context_at S.at container.now e) at }
-    ensures cause { Blames (S.run calc.old) (S.run calc.new) ((e : Reading) → IsTrue ((S.run calc.old).is_open e)
-        → OwnFits (context_at S.at container.now e) at) }
+    ensures { Lays S.run calc.old calc.new (line_extent_at S.at result)
+        (λ e. own_reach (context_at S.at container.now e) at) (λ e. OwnFits (context_at S.at container.now e) at) }
 {
     match inner_of(container, at) {
         Some(inner) => {
@@ -180,11 +166,8 @@ pub fn reach<S: Steady>(
     container: &Container<'_, S::Num>,
     at: u32,
 ) -> LineExtent<S::Num>
-    ensures goes { Goes (S.run calc.old) (S.run calc.new) }
-    ensures value { (e : Reading) → IsTrue ((S.run calc.new).is_open e) → line_extent_at S.at result e
-        ≡ reach_in (context_at S.at container.now e) at }
-    ensures cause { Blames (S.run calc.old) (S.run calc.new) ((e : Reading) → IsTrue ((S.run calc.old).is_open e)
-        → ReachFits (context_at S.at container.now e) at) }
+    ensures { Lays S.run calc.old calc.new (line_extent_at S.at result)
+        (λ e. reach_in (context_at S.at container.now e) at) (λ e. ReachFits (context_at S.at container.now e) at) }
 {
     let extent = box_extent(calc, container, at);
     let up = shift(calc, container, at, &extent);
@@ -196,11 +179,9 @@ pub fn reach<S: Steady>(
 #[tactic(auto, unfolding(crate::specs::Contexts::context_at, crate::specs::steps::Words::strut_in))]
 /// The strut: an empty inline box of the block container.
 pub fn strut<S: Steady>(calc: &mut S, container: &Container<'_, S::Num>) -> LineExtent<S::Num>
-    ensures goes { Goes (S.run calc.old) (S.run calc.new) }
-    ensures value { (e : Reading) → IsTrue ((S.run calc.new).is_open e) → line_extent_at S.at result e
-        ≡ strut_in (context_at S.at container.now e) }
-    ensures cause { Blames (S.run calc.old) (S.run calc.new) ((e : Reading) → IsTrue ((S.run calc.old).is_open e)
-        → InlineFits container.now.tree.now e.world (node_of container.now.tree.now container.now.at)) }
+    ensures { Lays S.run calc.old calc.new (line_extent_at S.at result)
+        (λ e. strut_in (context_at S.at container.now e))
+        (λ e. InlineFits container.now.tree.now e.world (node_of container.now.tree.now container.now.at)) }
 {
     inline_extent(calc, container.tree, node_at(container.tree, container.at))
 }

@@ -1,8 +1,8 @@
 //! What items take of a line (CSS 2.1, 9.4.2).
 ghost use Rattle.std.specs.Prelude.{◌≡◌, ◌++◌, ◌∷◌, [], IsTrue, ⊤};
 ghost use Rattle.std.specs.List.{AllByRecursion};
-ghost use Rattle.viz_calc.specs.World.{Reading};
-ghost use Rattle.viz_calc.specs.Run.{Stands, Goes, Fits, Blames, BlamesButMem};
+ghost use Rattle.viz_calc.specs.State.{AllSmall};
+ghost use Rattle.viz_calc.specs.Run.{Fits, Lays, LaysButMem};
 ghost use Rattle.viz_calc.specs.Renderings.{band_at};
 ghost use Rattle.layout_semantics.specs.Blocks.{node_of};
 ghost use Rattle.layout_semantics.specs.Fonts.{text_width as text_width_of};
@@ -30,10 +30,8 @@ use viz_calc::Steady;
 
 /// From edge to edge.
 pub fn band_width<S: Steady>(calc: &mut S, band: &Band<S::Num>) -> S::Num
-    ensures goes { Goes (S.run calc.old) (S.run calc.new) }
-    ensures value { Stands (S.run calc.new) (S.at result) (λ e. width_of (band_at S.at band.now e)) }
-    ensures cause { Blames (S.run calc.old) (S.run calc.new)
-        (Fits (S.run calc.old) (λ e. width_of (band_at S.at band.now e) ∷ [])) }
+    ensures { Lays S.run calc.old calc.new (S.at result) (λ e. width_of (band_at S.at band.now e))
+        (λ e. AllSmall (width_of (band_at S.at band.now e) ∷ [])) }
 {
     calc.sub(&band.right, &band.left)
 }
@@ -47,11 +45,9 @@ fn edges_width<S: Steady>(
     border: &Length,
     padding: &Length,
 ) -> S::Num
-    ensures goes { Goes (S.run calc.old) (S.run calc.new) }
-    ensures value { Stands (S.run calc.new) (S.at result) (λ e. used_edges (context_at S.at container.now e)
-        (margin.now ∷ border.now ∷ padding.now ∷ [])) }
-    ensures cause { Blames (S.run calc.old) (S.run calc.new) ((e : Reading) → IsTrue ((S.run calc.old).is_open e)
-        → SideFits container.now.tree.now e.world (width_of (band_at S.at container.now.cb.now e)) margin.now
+    ensures { Lays S.run calc.old calc.new (S.at result)
+        (λ e. used_edges (context_at S.at container.now e) (margin.now ∷ border.now ∷ padding.now ∷ []))
+        (λ e. SideFits container.now.tree.now e.world (width_of (band_at S.at container.now.cb.now e)) margin.now
         border.now padding.now) }
 {
     let room = band_width(calc, container.cb);
@@ -67,11 +63,9 @@ fn edges_width<S: Steady>(
 #[tactic(auto, unfolding(crate::specs::Contexts::context_at, crate::specs::steps::Words::width_in, crate::specs::Fits::WidthFits))]
 /// What the start of an inline box takes.
 fn start_width<S: Steady>(calc: &mut S, container: &Container<'_, S::Num>, at: u32) -> S::Num
-    ensures goes { Goes (S.run calc.old) (S.run calc.new) }
-    ensures value { Stands (S.run calc.new) (S.at result)
-        (λ e. width_in (context_at S.at container.now e) (start at)) }
-    ensures cause { Blames (S.run calc.old) (S.run calc.new) ((e : Reading) → IsTrue ((S.run calc.old).is_open e)
-        → WidthFits (context_at S.at container.now e) (start at)) }
+    ensures { Lays S.run calc.old calc.new (S.at result)
+        (λ e. width_in (context_at S.at container.now e) (start at))
+        (λ e. WidthFits (context_at S.at container.now e) (start at)) }
 {
     let margin = margins(container.tree, at);
     let border = borders(container.tree, at);
@@ -82,11 +76,9 @@ fn start_width<S: Steady>(calc: &mut S, container: &Container<'_, S::Num>, at: u
 #[tactic(auto, unfolding(crate::specs::Contexts::context_at, crate::specs::steps::Words::width_in, crate::specs::Fits::WidthFits))]
 /// What its end takes.
 fn end_width<S: Steady>(calc: &mut S, container: &Container<'_, S::Num>, at: u32) -> S::Num
-    ensures goes { Goes (S.run calc.old) (S.run calc.new) }
-    ensures value { Stands (S.run calc.new) (S.at result)
-        (λ e. width_in (context_at S.at container.now e) (finish at)) }
-    ensures cause { Blames (S.run calc.old) (S.run calc.new) ((e : Reading) → IsTrue ((S.run calc.old).is_open e)
-        → WidthFits (context_at S.at container.now e) (finish at)) }
+    ensures { Lays S.run calc.old calc.new (S.at result)
+        (λ e. width_in (context_at S.at container.now e) (finish at))
+        (λ e. WidthFits (context_at S.at container.now e) (finish at)) }
 {
     let margin = margins(container.tree, at);
     let border = borders(container.tree, at);
@@ -102,11 +94,9 @@ fn end_width<S: Steady>(calc: &mut S, container: &Container<'_, S::Num>, at: u32
 
 /// What an atomic box takes.
 fn atomic_width<S: Steady>(calc: &mut S, container: &Container<'_, S::Num>, at: u32) -> S::Num
-    ensures goes { Goes (S.run calc.old) (S.run calc.new) }
-    ensures value { Stands (S.run calc.new) (S.at result)
-        (λ e. width_in (context_at S.at container.now e) (atomic at)) }
-    ensures cause { Blames (S.run calc.old) (S.run calc.new) ((e : Reading) → IsTrue ((S.run calc.old).is_open e)
-        → WidthFits (context_at S.at container.now e) (atomic at)) }
+    ensures { Lays S.run calc.old calc.new (S.at result)
+        (λ e. width_in (context_at S.at container.now e) (atomic at))
+        (λ e. WidthFits (context_at S.at container.now e) (atomic at)) }
 {
     match inner_of(container, at) {
         Some(inner) => calc.copy(&inner.width),
@@ -116,11 +106,11 @@ fn atomic_width<S: Steady>(calc: &mut S, container: &Container<'_, S::Num>, at: 
 
 /// What a space of a box takes.
 fn space_width<S: Steady>(calc: &mut S, tree: &BoxTree, at: u32) -> S::Num
-    ensures goes { Goes (S.run calc.old) (S.run calc.new) }
-    ensures value { Stands (S.run calc.new) (S.at result)
-        (λ e. text_width_of tree.now e.world (node_of tree.now at) (32 ∷ [])) }
-    ensures cause { Blames (S.run calc.old) (S.run calc.new) (Fits (S.run calc.old) (λ e. part_way tree.now e.world
-        (node_of tree.now at) (text_width_of tree.now e.world (node_of tree.now at) (32 ∷ [])))) }
+    ensures { Lays S.run calc.old calc.new (S.at result)
+        (λ e. text_width_of tree.now e.world (node_of tree.now at) (32 ∷ []))
+        (λ e. AllSmall
+        (part_way tree.now e.world (node_of tree.now at)
+        (text_width_of tree.now e.world (node_of tree.now at) (32 ∷ [])))) }
 {
     text_width(calc, tree, node_at(tree, at), " ")
 }
@@ -129,11 +119,9 @@ fn space_width<S: Steady>(calc: &mut S, tree: &BoxTree, at: u32) -> S::Num
 /// What an item takes of a line.
 fn item_width<S: Steady>(calc: &mut S, container: &Container<'_, S::Num>, item: &Item) -> S::Num
     requires { IsShort (item_of item.now) }
-    ensures goes { Goes (S.run calc.old) (S.run calc.new) }
-    ensures value { Stands (S.run calc.new) (S.at result)
-        (λ e. width_in (context_at S.at container.now e) (item_of item.now)) }
-    ensures cause { Blames (S.run calc.old) (S.run calc.new) ((e : Reading) → IsTrue ((S.run calc.old).is_open e)
-        → WidthFits (context_at S.at container.now e) (item_of item.now)) }
+    ensures { Lays S.run calc.old calc.new (S.at result)
+        (λ e. width_in (context_at S.at container.now e) (item_of item.now))
+        (λ e. WidthFits (context_at S.at container.now e) (item_of item.now)) }
 {
     match item {
         Item::Word(at, text) => text_width(
@@ -156,10 +144,8 @@ fn add_piece<'a, S: Steady>(
     pieces: &mut Vec<Piece<'a, S::Num>>,
     piece: Piece<'a, S::Num>,
 )
-    ensures goes { Goes (S.run calc.old) (S.run calc.new) }
-    ensures value { (e : Reading) → IsTrue ((S.run calc.new).is_open e) → pieces_at S.at pieces.new.items e
-        ≡ pieces_at S.at pieces.old.items e ++ piece_at S.at piece.entry e ∷ [] }
-    ensures cause { BlamesButMem (S.run calc.old) (S.run calc.new) ⊤ }
+    ensures { LaysButMem S.run calc.old calc.new (pieces_at S.at pieces.new.items)
+        (λ e. pieces_at S.at pieces.old.items e ++ piece_at S.at piece.entry e ∷ []) (λ e. ⊤) }
 {
     if pieces.push(piece).is_err() {
         calc.stop();
@@ -174,11 +160,9 @@ pub fn measure<'a, S: Steady>(
     items: &[Item<'a>],
 ) -> Vec<Piece<'a, S::Num>>
     requires { AllByRecursion IsShort (items_of items.now) }
-    ensures goes { Goes (S.run calc.old) (S.run calc.new) }
-    ensures value { (e : Reading) → IsTrue ((S.run calc.new).is_open e) → pieces_at S.at result.items e
-        ≡ measured (width_in (context_at S.at container.now e)) (items_of items.now) }
-    ensures cause { BlamesButMem (S.run calc.old) (S.run calc.new) ((e : Reading) → IsTrue ((S.run calc.old).is_open e)
-        → AllByRecursion (WidthFits (context_at S.at container.now e)) (items_of items.now)) }
+    ensures { LaysButMem S.run calc.old calc.new (pieces_at S.at result.items)
+        (λ e. measured (width_in (context_at S.at container.now e)) (items_of items.now))
+        (λ e. AllByRecursion (WidthFits (context_at S.at container.now e)) (items_of items.now)) }
 {
     let mut pieces = Vec::new(alloc);
     for item in items {

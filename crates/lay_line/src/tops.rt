@@ -1,7 +1,6 @@
 //! The top of a line (CSS 2.1, 9.5).
 ghost use Rattle.std.specs.Prelude.{◌≡◌, None, fold, IsTrue, ⊤, ◌∷◌, []};
-ghost use Rattle.viz_calc.specs.World.{Reading};
-ghost use Rattle.viz_calc.specs.Run.{Stands, Goes, Blames};
+ghost use Rattle.viz_calc.specs.Run.{Lays};
 ghost use Rattle.lay_float.specs.Readings.{box_at, boxes_at, option_at};
 ghost use Rattle.lay_line.specs.Contexts.{context_at};
 ghost use Rattle.lay_line.specs.steps.Meeting.{stands_at as stands_in, top_in};
@@ -32,9 +31,8 @@ pub struct Wanted<'w, 'a, N> {
 
 /// The lower of the best number so far and one more.
 fn lower<S: Steady>(calc: &mut S, best: Option<S::Num>, more: S::Num) -> S::Num
-    ensures goes { Goes (S.run calc.old) (S.run calc.new) }
-    ensures value { Stands (S.run calc.new) (S.at result) (λ e. lower_of (option_at S.at best e) (S.at more e)) }
-    ensures cause { Blames (S.run calc.old) (S.run calc.new) ⊤ }
+    ensures { Lays S.run calc.old calc.new (S.at result) (λ e. lower_of (option_at S.at best e) (S.at more e))
+        (λ e. ⊤) }
 {
     match best {
         Some(best) => lesser(calc, more, best),
@@ -45,13 +43,11 @@ fn lower<S: Steady>(calc: &mut S, best: Option<S::Num>, more: S::Num) -> S::Num
 #[tactic(auto, unfolding(crate::specs::Contexts::context_at, crate::specs::steps::Meeting::stands_at))]
 /// Whether the line may stand there: beside no float, or where its first stretch fits.
 fn stands_at<S: Steady>(calc: &mut S, wanted: &Wanted<'_, '_, S::Num>, top: &S::Num) -> bool
-    ensures goes { Goes (S.run calc.old) (S.run calc.new) }
-    ensures value { (e : Reading) → IsTrue ((S.run calc.new).is_open e) → result
-        ≡ stands_in (context_at S.at wanted.now.container.now e) (boxes_at S.at wanted.now.floats.now e)
-        (S.at wanted.now.tall.now e) (S.at wanted.now.width.now e) (S.at top.now e) }
-    ensures cause { Blames (S.run calc.old) (S.run calc.new) ((e : Reading) → IsTrue ((S.run calc.old).is_open e)
-        → RoomFits (context_at S.at wanted.now.container.now e) (boxes_at S.at wanted.now.floats.now e) (S.at top.now e)
-        (S.at wanted.now.tall.now e)) }
+    ensures { Lays S.run calc.old calc.new (λ e. result)
+        (λ e. stands_in (context_at S.at wanted.now.container.now e) (boxes_at S.at wanted.now.floats.now e)
+        (S.at wanted.now.tall.now e) (S.at wanted.now.width.now e) (S.at top.now e))
+        (λ e. RoomFits (context_at S.at wanted.now.container.now e) (boxes_at S.at wanted.now.floats.now e)
+        (S.at top.now e) (S.at wanted.now.tall.now e)) }
 {
     !meets_any(calc, wanted.floats, top, wanted.tall)
         || fits(
@@ -71,13 +67,12 @@ fn with_bottom<S: Steady>(
     best: Option<S::Num>,
     f: &PlacedFloat<S::Num>,
 ) -> Option<S::Num>
-    ensures goes { Goes (S.run calc.old) (S.run calc.new) }
-    ensures value { (e : Reading) → IsTrue ((S.run calc.new).is_open e) → option_at S.at result e
-        ≡ with_float (stands_in (context_at S.at wanted.now.container.now e) (boxes_at S.at wanted.now.floats.now e)
-        (S.at wanted.now.tall.now e) (S.at wanted.now.width.now e)) (S.at wanted.now.y.now e) (option_at S.at best e)
-        (box_at S.at f.now e) }
-    ensures cause { Blames (S.run calc.old) (S.run calc.new) ((e : Reading) → IsTrue ((S.run calc.old).is_open e)
-        → RoomFits (context_at S.at wanted.now.container.now e) (boxes_at S.at wanted.now.floats.now e)
+    ensures { Lays S.run calc.old calc.new (option_at S.at result)
+        (λ e. with_float
+        (stands_in (context_at S.at wanted.now.container.now e) (boxes_at S.at wanted.now.floats.now e)
+        (S.at wanted.now.tall.now e) (S.at wanted.now.width.now e)) (S.at wanted.now.y.now e)
+        (option_at S.at best e) (box_at S.at f.now e))
+        (λ e. RoomFits (context_at S.at wanted.now.container.now e) (boxes_at S.at wanted.now.floats.now e)
         (S.at f.now.outer.bottom e) (S.at wanted.now.tall.now e) × AllSmall (S.at f.now.outer.bottom e ∷ [])) }
 {
     if calc.le(&f.outer.bottom, wanted.y) {
@@ -92,13 +87,13 @@ fn with_bottom<S: Steady>(
 
 /// The highest place below y, at the bottom of a float.
 fn highest_below<S: Steady>(calc: &mut S, wanted: &Wanted<'_, '_, S::Num>) -> Option<S::Num>
-    ensures goes { Goes (S.run calc.old) (S.run calc.new) }
-    ensures value { (e : Reading) → IsTrue ((S.run calc.new).is_open e) → option_at S.at result e
-        ≡ fold (with_float (stands_in (context_at S.at wanted.now.container.now e)
-        (boxes_at S.at wanted.now.floats.now e) (S.at wanted.now.tall.now e) (S.at wanted.now.width.now e))
-        (S.at wanted.now.y.now e)) None (boxes_at S.at wanted.now.floats.now e) }
-    ensures cause { Blames (S.run calc.old) (S.run calc.new) ((e : Reading) → IsTrue ((S.run calc.old).is_open e)
-        → RoomFits (context_at S.at wanted.now.container.now e) (boxes_at S.at wanted.now.floats.now e)
+    ensures { Lays S.run calc.old calc.new (option_at S.at result)
+        (λ e. fold
+        (with_float
+        (stands_in (context_at S.at wanted.now.container.now e) (boxes_at S.at wanted.now.floats.now e)
+        (S.at wanted.now.tall.now e) (S.at wanted.now.width.now e)) (S.at wanted.now.y.now e)) None
+        (boxes_at S.at wanted.now.floats.now e))
+        (λ e. RoomFits (context_at S.at wanted.now.container.now e) (boxes_at S.at wanted.now.floats.now e)
         (S.at wanted.now.y.now e) (S.at wanted.now.tall.now e)) }
 {
     let mut best = None;
@@ -111,12 +106,10 @@ fn highest_below<S: Steady>(calc: &mut S, wanted: &Wanted<'_, '_, S::Num>) -> Op
 #[tactic(auto, unfolding(crate::specs::steps::Meeting::top_in))]
 /// The highest place from y on where the line's first stretch fits, or no float is met.
 pub fn line_top<S: Steady>(calc: &mut S, wanted: &Wanted<'_, '_, S::Num>) -> S::Num
-    ensures goes { Goes (S.run calc.old) (S.run calc.new) }
-    ensures value { Stands (S.run calc.new) (S.at result) (λ e. top_in (context_at S.at wanted.now.container.now e)
-        (boxes_at S.at wanted.now.floats.now e) (S.at wanted.now.y.now e) (S.at wanted.now.tall.now e)
-        (S.at wanted.now.width.now e)) }
-    ensures cause { Blames (S.run calc.old) (S.run calc.new) ((e : Reading) → IsTrue ((S.run calc.old).is_open e)
-        → RoomFits (context_at S.at wanted.now.container.now e) (boxes_at S.at wanted.now.floats.now e)
+    ensures { Lays S.run calc.old calc.new (S.at result)
+        (λ e. top_in (context_at S.at wanted.now.container.now e) (boxes_at S.at wanted.now.floats.now e)
+        (S.at wanted.now.y.now e) (S.at wanted.now.tall.now e) (S.at wanted.now.width.now e))
+        (λ e. RoomFits (context_at S.at wanted.now.container.now e) (boxes_at S.at wanted.now.floats.now e)
         (S.at wanted.now.y.now e) (S.at wanted.now.tall.now e)) }
 {
     if stands_at(calc, wanted, wanted.y) {

@@ -2,7 +2,8 @@
 ghost use Rattle.std.specs.Prelude.{◌≡◌, ℤ, pos, List, [], ◌∷◌, IsTrue};
 ghost use Rattle.std.specs.Int.{int_max, int_min};
 ghost use Rattle.viz_calc.specs.World.{Reading};
-ghost use Rattle.viz_calc.specs.Run.{Stands, Goes, Fits, Blames};
+ghost use Rattle.viz_calc.specs.State.{AllSmall};
+ghost use Rattle.viz_calc.specs.Run.{Stands, Goes, Fits, Blames, Lays};
 ghost use Rattle.layout_semantics.specs.Margins.{collapsed};
 ghost use Rattle.lay_margin.specs.Runs.{run_at, no_run, IsRunOf, with_margin, collapse, joined_way, value_way};
 
@@ -11,19 +12,15 @@ use viz_calc::Steady;
 
 /// The number 0.
 fn zero<S: Steady>(calc: &mut S) -> S::Num
-    ensures goes { Goes (S.run calc.old) (S.run calc.new) }
-    ensures value { Stands (S.run calc.new) (S.at result) (λ e. pos 0) }
-    ensures cause { Blames (S.run calc.old) (S.run calc.new) (Fits (S.run calc.old) (λ e. pos 0 ∷ [])) }
+    ensures { Lays S.run calc.old calc.new (S.at result) (λ e. pos 0) (λ e. AllSmall (pos 0 ∷ [])) }
 {
     calc.lit(0)
 }
 
 /// The greater of two numbers.
 fn greater<S: Steady>(calc: &mut S, a: &S::Num, b: &S::Num) -> S::Num
-    ensures goes { Goes (S.run calc.old) (S.run calc.new) }
-    ensures value { Stands (S.run calc.new) (S.at result) (λ e. int_max (S.at a.now e) (S.at b.now e)) }
-    ensures cause { Blames (S.run calc.old) (S.run calc.new) (Fits (S.run calc.old)
-        (λ e. int_max (S.at a.now e) (S.at b.now e) ∷ [])) }
+    ensures { Lays S.run calc.old calc.new (S.at result) (λ e. int_max (S.at a.now e) (S.at b.now e))
+        (λ e. AllSmall (int_max (S.at a.now e) (S.at b.now e) ∷ [])) }
 {
     if calc.le(b, a) {
         calc.copy(a)
@@ -34,10 +31,8 @@ fn greater<S: Steady>(calc: &mut S, a: &S::Num, b: &S::Num) -> S::Num
 
 /// The lesser of two numbers.
 fn lesser<S: Steady>(calc: &mut S, a: &S::Num, b: &S::Num) -> S::Num
-    ensures goes { Goes (S.run calc.old) (S.run calc.new) }
-    ensures value { Stands (S.run calc.new) (S.at result) (λ e. int_min (S.at a.now e) (S.at b.now e)) }
-    ensures cause { Blames (S.run calc.old) (S.run calc.new) (Fits (S.run calc.old)
-        (λ e. int_min (S.at a.now e) (S.at b.now e) ∷ [])) }
+    ensures { Lays S.run calc.old calc.new (S.at result) (λ e. int_min (S.at a.now e) (S.at b.now e))
+        (λ e. AllSmall (int_min (S.at a.now e) (S.at b.now e) ∷ [])) }
 {
     if calc.le(a, b) {
         calc.copy(a)

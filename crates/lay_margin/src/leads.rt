@@ -3,7 +3,7 @@ ghost use Rattle.std.specs.Prelude.{◌≡◌, ◌<◌, ◌++◌, ◌∷◌, [],
 ghost use Rattle.std.specs.Int.{int_max, int_min};
 ghost use Rattle.viz_calc.specs.World.{Reading};
 ghost use Rattle.viz_calc.specs.State.{AllSmall};
-ghost use Rattle.viz_calc.specs.Run.{Stands, Goes, Fits, Blames, BlamesButMem};
+ghost use Rattle.viz_calc.specs.Run.{Goes, Fits, Blames, BlamesButMem, Lays, LaysButMem};
 ghost use Rattle.viz_calc.specs.Renderings.{band_at};
 ghost use Rattle.layout_semantics.specs.Lengths.{used as used_length, margins as margins_of};
 ghost use Rattle.layout_semantics.specs.InlineContent.{is_floated_at};
@@ -36,11 +36,8 @@ pub struct Ended<N> {
 
 /// A band again.
 pub fn copy_band<S: Steady>(calc: &mut S, band: &Band<S::Num>) -> Band<S::Num>
-    ensures goes { Goes (S.run calc.old) (S.run calc.new) }
-    ensures value { (e : Reading) → IsTrue ((S.run calc.new).is_open e) → band_at S.at result e
-        ≡ band_at S.at band.now e }
-    ensures cause { Blames (S.run calc.old) (S.run calc.new) (Fits (S.run calc.old)
-        (λ e. edges (band_at S.at band.now e))) }
+    ensures { Lays S.run calc.old calc.new (band_at S.at result) (band_at S.at band.now)
+        (λ e. AllSmall (edges (band_at S.at band.now e))) }
 {
     let left = calc.copy(&band.left);
     let right = calc.copy(&band.right);
@@ -62,9 +59,8 @@ fn end_at<S: Steady>(calc: &mut S, end: LeadEnd, cb: &Band<S::Num>) -> Ended<S::
 
 /// Raises a number to a margin.
 fn raise<S: Steady>(calc: &mut S, pos: &mut S::Num, margin: &S::Num)
-    ensures goes { Goes (S.run calc.old) (S.run calc.new) }
-    ensures value { Stands (S.run calc.new) (S.at pos.new) (λ e. int_max (S.at pos.old e) (S.at margin.now e)) }
-    ensures cause { Blames (S.run calc.old) (S.run calc.new) (Fits (S.run calc.old) (λ e. S.at margin.now e ∷ [])) }
+    ensures { Lays S.run calc.old calc.new (S.at pos.new) (λ e. int_max (S.at pos.old e) (S.at margin.now e))
+        (λ e. AllSmall (S.at margin.now e ∷ [])) }
 {
     if calc.le(pos, margin) {
         *pos = calc.copy(margin);
@@ -73,9 +69,8 @@ fn raise<S: Steady>(calc: &mut S, pos: &mut S::Num, margin: &S::Num)
 
 /// Lowers a number to a margin.
 fn lower<S: Steady>(calc: &mut S, neg: &mut S::Num, margin: &S::Num)
-    ensures goes { Goes (S.run calc.old) (S.run calc.new) }
-    ensures value { Stands (S.run calc.new) (S.at neg.new) (λ e. int_min (S.at neg.old e) (S.at margin.now e)) }
-    ensures cause { Blames (S.run calc.old) (S.run calc.new) (Fits (S.run calc.old) (λ e. S.at margin.now e ∷ [])) }
+    ensures { Lays S.run calc.old calc.new (S.at neg.new) (λ e. int_min (S.at neg.old e) (S.at margin.now e))
+        (λ e. AllSmall (S.at margin.now e ∷ [])) }
 {
     if calc.le(margin, neg) {
         *neg = calc.copy(margin);
@@ -84,10 +79,8 @@ fn lower<S: Steady>(calc: &mut S, neg: &mut S::Num, margin: &S::Num)
 
 /// Joins a margin to a run.
 pub fn join<S: Steady>(calc: &mut S, run: &mut Run<S::Num>, margin: &S::Num)
-    ensures goes { Goes (S.run calc.old) (S.run calc.new) }
-    ensures value { (e : Reading) → IsTrue ((S.run calc.new).is_open e)
-        → run_at S.at run.new e ≡ with_margin (run_at S.at run.old e) (S.at margin.now e) }
-    ensures cause { Blames (S.run calc.old) (S.run calc.new) (Fits (S.run calc.old) (λ e. S.at margin.now e ∷ [])) }
+    ensures { Lays S.run calc.old calc.new (run_at S.at run.new)
+        (λ e. with_margin (run_at S.at run.old e) (S.at margin.now e)) (λ e. AllSmall (S.at margin.now e ∷ [])) }
 {
     raise(calc, &mut run.pos, margin);
     lower(calc, &mut run.neg, margin);
@@ -95,11 +88,9 @@ pub fn join<S: Steady>(calc: &mut S, run: &mut Run<S::Num>, margin: &S::Num)
 
 /// Lets a float wait.
 fn wait<S: Steady>(calc: &mut S, cb: &Band<S::Num>, at: u32, waiting: &mut List<Waiting<S::Num>>)
-    ensures goes { Goes (S.run calc.old) (S.run calc.new) }
-    ensures value { (e : Reading) → IsTrue ((S.run calc.new).is_open e) → floats_at S.at waiting.new e
-        ≡ floats_at S.at waiting.old e ++ record { at = at; cb = band_at S.at cb.now e } ∷ [] }
-    ensures cause { BlamesButMem (S.run calc.old) (S.run calc.new) (Fits (S.run calc.old)
-        (λ e. edges (band_at S.at cb.now e))) }
+    ensures { LaysButMem S.run calc.old calc.new (floats_at S.at waiting.new)
+        (λ e. floats_at S.at waiting.old e ++ record { at = at; cb = band_at S.at cb.now e } ∷ [])
+        (λ e. AllSmall (edges (band_at S.at cb.now e))) }
 {
     let cb = copy_band(calc, cb);
     match waiting.push(Waiting { at, cb }) {
@@ -110,10 +101,8 @@ fn wait<S: Steady>(calc: &mut S, cb: &Band<S::Num>, at: u32, waiting: &mut List<
 
 /// The width of a containing block.
 pub fn across<S: Steady>(calc: &mut S, cb: &Band<S::Num>) -> S::Num
-    ensures goes { Goes (S.run calc.old) (S.run calc.new) }
-    ensures value { Stands (S.run calc.new) (S.at result) (λ e. width_of (band_at S.at cb.now e)) }
-    ensures cause { Blames (S.run calc.old) (S.run calc.new) (Fits (S.run calc.old)
-        (λ e. width_of (band_at S.at cb.now e) ∷ [])) }
+    ensures { Lays S.run calc.old calc.new (S.at result) (λ e. width_of (band_at S.at cb.now e))
+        (λ e. AllSmall (width_of (band_at S.at cb.now e) ∷ [])) }
 {
     calc.sub(&cb.right, &cb.left)
 }
@@ -124,11 +113,9 @@ pub fn content_between<S: Steady>(
     left: &S::Num,
     terms: &Widths<S::Num>,
 ) -> Band<S::Num>
-    ensures goes { Goes (S.run calc.old) (S.run calc.new) }
-    ensures value { (e : Reading) → IsTrue ((S.run calc.new).is_open e) → band_at S.at result e
-        ≡ content_from (S.at left.now e) (widths_at S.at terms.now e) }
-    ensures cause { Blames (S.run calc.old) (S.run calc.new) (Fits (S.run calc.old)
-        (λ e. content_way (S.at left.now e) (widths_at S.at terms.now e))) }
+    ensures { Lays S.run calc.old calc.new (band_at S.at result)
+        (λ e. content_from (S.at left.now e) (widths_at S.at terms.now e))
+        (λ e. AllSmall (content_way (S.at left.now e) (widths_at S.at terms.now e))) }
 {
     let edge = calc.add(left, &terms.margin_left);
     let edge = calc.add(&edge, &terms.border_left);
@@ -145,11 +132,9 @@ pub fn band_inside<S: Steady>(
     cb: &Band<S::Num>,
     b: u32,
 ) -> Band<S::Num>
-    ensures goes { Goes (S.run calc.old) (S.run calc.new) }
-    ensures value { (e : Reading) → IsTrue ((S.run calc.new).is_open e) → band_at S.at result e
-        ≡ inner_band tree.now e.world (band_at S.at cb.now e) b }
-    ensures cause { Blames (S.run calc.old) (S.run calc.new) ((e : Reading) → IsTrue ((S.run calc.old).is_open e)
-        → InsideFits tree.now e.world (band_at S.at cb.now e) b) }
+    ensures { Lays S.run calc.old calc.new (band_at S.at result)
+        (λ e. inner_band tree.now e.world (band_at S.at cb.now e) b)
+        (λ e. InsideFits tree.now e.world (band_at S.at cb.now e) b) }
 {
     let room = across(calc, cb);
     let terms = block(calc, tree, b, &room);
@@ -158,11 +143,9 @@ pub fn band_inside<S: Steady>(
 
 /// The used value of a margin in a containing block.
 fn margin_in<S: Steady>(calc: &mut S, tree: &BoxTree, cb: &Band<S::Num>, length: &Length) -> S::Num
-    ensures goes { Goes (S.run calc.old) (S.run calc.new) }
-    ensures value { Stands (S.run calc.new) (S.at result)
-        (λ e. used_length tree.now e.world length.now (width_of (band_at S.at cb.now e))) }
-    ensures cause { Blames (S.run calc.old) (S.run calc.new) ((e : Reading) → IsTrue ((S.run calc.old).is_open e)
-        → MarginFits tree.now e.world length.now (band_at S.at cb.now e)) }
+    ensures { Lays S.run calc.old calc.new (S.at result)
+        (λ e. used_length tree.now e.world length.now (width_of (band_at S.at cb.now e)))
+        (λ e. MarginFits tree.now e.world length.now (band_at S.at cb.now e)) }
 {
     let room = across(calc, cb);
     used(calc, tree, length, &room)
@@ -177,11 +160,9 @@ pub fn join_top<S: Steady>(
     b: u32,
     run: &mut Run<S::Num>,
 )
-    ensures goes { Goes (S.run calc.old) (S.run calc.new) }
-    ensures value { (e : Reading) → IsTrue ((S.run calc.new).is_open e) → run_at S.at run.new e
-        ≡ with_margin (run_at S.at run.old e) (margin_above tree.now e.world (band_at S.at cb.now e) b) }
-    ensures cause { Blames (S.run calc.old) (S.run calc.new) ((e : Reading) → IsTrue ((S.run calc.old).is_open e)
-        → MarginFits tree.now e.world (margins_of tree.now b).top (band_at S.at cb.now e)) }
+    ensures { Lays S.run calc.old calc.new (run_at S.at run.new)
+        (λ e. with_margin (run_at S.at run.old e) (margin_above tree.now e.world (band_at S.at cb.now e) b))
+        (λ e. MarginFits tree.now e.world (margins_of tree.now b).top (band_at S.at cb.now e)) }
 {
     let margin = margin_in(calc, tree, cb, &margins(tree, b).top);
     join(calc, run, &margin);
@@ -196,11 +177,9 @@ pub fn join_bottom<S: Steady>(
     b: u32,
     run: &mut Run<S::Num>,
 )
-    ensures goes { Goes (S.run calc.old) (S.run calc.new) }
-    ensures value { (e : Reading) → IsTrue ((S.run calc.new).is_open e) → run_at S.at run.new e
-        ≡ with_margin (run_at S.at run.old e) (margin_below tree.now e.world (band_at S.at cb.now e) b) }
-    ensures cause { Blames (S.run calc.old) (S.run calc.new) ((e : Reading) → IsTrue ((S.run calc.old).is_open e)
-        → MarginFits tree.now e.world (margins_of tree.now b).bottom (band_at S.at cb.now e)) }
+    ensures { Lays S.run calc.old calc.new (run_at S.at run.new)
+        (λ e. with_margin (run_at S.at run.old e) (margin_below tree.now e.world (band_at S.at cb.now e) b))
+        (λ e. MarginFits tree.now e.world (margins_of tree.now b).bottom (band_at S.at cb.now e)) }
 {
     let margin = margin_in(calc, tree, cb, &margins(tree, b).bottom);
     join(calc, run, &margin);
@@ -238,12 +217,9 @@ pub fn lead<S: Steady>(
     waiting: &mut List<Waiting<S::Num>>,
 ) -> Ended<S::Num>
     requires { b < length tree.now.boxes }
-    ensures goes { Goes (S.run calc.old) (S.run calc.new) }
-    ensures value { (e : Reading) → IsTrue ((S.run calc.new).is_open e) → going_at S.at run.new waiting.new result e
-        ≡ lead_of tree.now e.world (passed_by past) (band_at S.at cb.now e) b (run_at S.at run.old e)
-        (floats_at S.at waiting.old e) }
-    ensures cause { BlamesButMem (S.run calc.old) (S.run calc.new) ((e : Reading) → IsTrue ((S.run calc.old).is_open e)
-        → LeadFits tree.now e.world (band_at S.at cb.now e) b) }
+    ensures { LaysButMem S.run calc.old calc.new (going_at S.at run.new waiting.new result)
+        (λ e. lead_of tree.now e.world (passed_by past) (band_at S.at cb.now e) b (run_at S.at run.old e)
+        (floats_at S.at waiting.old e)) (λ e. LeadFits tree.now e.world (band_at S.at cb.now e) b) }
 {
     if stops_at(tree, past, b) {
         return end_at(calc, LeadEnd::Cleared(b), cb);
@@ -264,12 +240,9 @@ fn inner<S: Steady>(
     waiting: &mut List<Waiting<S::Num>>,
 ) -> Ended<S::Num>
     requires { b < length tree.now.boxes }
-    ensures goes { Goes (S.run calc.old) (S.run calc.new) }
-    ensures value { (e : Reading) → IsTrue ((S.run calc.new).is_open e) → going_at S.at run.new waiting.new result e
-        ≡ inner_of tree.now e.world (passed_by past) (band_at S.at cb.now e) b (run_at S.at run.old e)
-        (floats_at S.at waiting.old e) }
-    ensures cause { BlamesButMem (S.run calc.old) (S.run calc.new) ((e : Reading) → IsTrue ((S.run calc.old).is_open e)
-        → LeadFits tree.now e.world (band_at S.at cb.now e) b) }
+    ensures { LaysButMem S.run calc.old calc.new (going_at S.at run.new waiting.new result)
+        (λ e. inner_of tree.now e.world (passed_by past) (band_at S.at cb.now e) b (run_at S.at run.old e)
+        (floats_at S.at waiting.old e)) (λ e. LeadFits tree.now e.world (band_at S.at cb.now e) b) }
 {
     join_top(calc, tree, cb, b, run);
     if !enters(tree, b) {
@@ -289,11 +262,9 @@ fn close<S: Steady>(
     inside: Ended<S::Num>,
 ) -> Ended<S::Num>
     requires { b < length tree.now.boxes }
-    ensures goes { Goes (S.run calc.old) (S.run calc.new) }
-    ensures value { (e : Reading) → IsTrue ((S.run calc.new).is_open e) → ended_at S.at result e
-        ≡ closed_end tree.now b (band_at S.at cb.now e) (ended_at S.at inside e) }
-    ensures cause { Blames (S.run calc.old) (S.run calc.new) (Fits (S.run calc.old)
-        (λ e. edges (band_at S.at cb.now e))) }
+    ensures { Lays S.run calc.old calc.new (ended_at S.at result)
+        (λ e. closed_end tree.now b (band_at S.at cb.now e) (ended_at S.at inside e))
+        (λ e. AllSmall (edges (band_at S.at cb.now e))) }
 {
     match inside.end {
         LeadEnd::Through => {
@@ -320,12 +291,10 @@ fn content<S: Steady>(
     waiting: &mut List<Waiting<S::Num>>,
 ) -> Ended<S::Num>
     requires { b < length tree.now.boxes }
-    ensures goes { Goes (S.run calc.old) (S.run calc.new) }
-    ensures value { (e : Reading) → IsTrue ((S.run calc.new).is_open e) → going_at S.at run.new waiting.new result e
-        ≡ content_of tree.now e.world (passed_by past) (band_at S.at band.now e) (flow_children tree.now b)
-        (run_at S.at run.old e) (floats_at S.at waiting.old e) }
-    ensures cause { BlamesButMem (S.run calc.old) (S.run calc.new) ((e : Reading) → IsTrue ((S.run calc.old).is_open e)
-        → KidsFit tree.now e.world (band_at S.at band.now e) (flow_children tree.now b)) }
+    ensures { LaysButMem S.run calc.old calc.new (going_at S.at run.new waiting.new result)
+        (λ e. content_of tree.now e.world (passed_by past) (band_at S.at band.now e) (flow_children tree.now b)
+        (run_at S.at run.old e) (floats_at S.at waiting.old e))
+        (λ e. KidsFit tree.now e.world (band_at S.at band.now e) (flow_children tree.now b)) }
 {
     if !holds_inline(tree, b) {
         return kids(
@@ -376,12 +345,10 @@ fn kids<S: Steady>(
     requires within { b < length tree.now.boxes }
     requires behind { (i : ℕ) → i < length boxes.now
         → (b < slice_index_or boxes.now i 0) × (slice_index_or boxes.now i 0 < length tree.now.boxes) }
-    ensures goes { Goes (S.run calc.old) (S.run calc.new) }
-    ensures value { (e : Reading) → IsTrue ((S.run calc.new).is_open e) → going_at S.at run.new waiting.new result e
-        ≡ content_of tree.now e.world (passed_by past) (band_at S.at band.now e) boxes.now
-        (run_at S.at run.old e) (floats_at S.at waiting.old e) }
-    ensures cause { BlamesButMem (S.run calc.old) (S.run calc.new) ((e : Reading) → IsTrue ((S.run calc.old).is_open e)
-        → KidsFit tree.now e.world (band_at S.at band.now e) boxes.now) }
+    ensures { LaysButMem S.run calc.old calc.new (going_at S.at run.new waiting.new result)
+        (λ e. content_of tree.now e.world (passed_by past) (band_at S.at band.now e) boxes.now
+        (run_at S.at run.old e) (floats_at S.at waiting.old e))
+        (λ e. KidsFit tree.now e.world (band_at S.at band.now e) boxes.now) }
 {
     for place in boxes {
         let end = kid(alloc, calc, tree, *place, band, past, run, waiting);
@@ -405,13 +372,11 @@ fn kid<S: Steady>(
     waiting: &mut List<Waiting<S::Num>>,
 ) -> Ended<S::Num>
     requires { k < length tree.now.boxes }
-    ensures goes { Goes (S.run calc.old) (S.run calc.new) }
-    ensures value { (e : Reading) → IsTrue ((S.run calc.new).is_open e) → going_at S.at run.new waiting.new result e
-        ≡ kid_going tree.now e.world (passed_by past)
+    ensures { LaysButMem S.run calc.old calc.new (going_at S.at run.new waiting.new result)
+        (λ e. kid_going tree.now e.world (passed_by past)
         (lead_of tree.now e.world (passed_by past) (band_at S.at band.now e)) (band_at S.at band.now e) k
-        (run_at S.at run.old e) (floats_at S.at waiting.old e) }
-    ensures cause { BlamesButMem (S.run calc.old) (S.run calc.new) ((e : Reading) → IsTrue ((S.run calc.old).is_open e)
-        → AllSmall (edges (band_at S.at band.now e))
+        (run_at S.at run.old e) (floats_at S.at waiting.old e))
+        (λ e. AllSmall (edges (band_at S.at band.now e))
         × (is_floated_at tree.now k ≡ false → LeadFits tree.now e.world (band_at S.at band.now e) k)) }
 {
     if floats_at(tree, k) {
@@ -437,11 +402,8 @@ pub struct Joined<N> {
 
 /// A run again.
 pub fn copy_run<S: Steady>(calc: &mut S, run: &Run<S::Num>) -> Run<S::Num>
-    ensures goes { Goes (S.run calc.old) (S.run calc.new) }
-    ensures value { (e : Reading) → IsTrue ((S.run calc.new).is_open e)
-        → run_at S.at result e ≡ run_at S.at run.now e }
-    ensures cause { Blames (S.run calc.old) (S.run calc.new) (Fits (S.run calc.old)
-        (λ e. ends (run_at S.at run.now e))) }
+    ensures { Lays S.run calc.old calc.new (run_at S.at result) (run_at S.at run.now)
+        (λ e. AllSmall (ends (run_at S.at run.now e))) }
 {
     let pos = calc.copy(&run.pos);
     let neg = calc.copy(&run.neg);

@@ -1,7 +1,8 @@
 //! The preferred widths of a block container of blocks, child by child (CSS 2.1, 10.3.5).
-ghost use Rattle.std.specs.Prelude.{◌≡◌, ℤ, IsTrue, [], ◌∷◌, ⊤};
+ghost use Rattle.std.specs.Prelude.{◌≡◌, ℤ, [], ◌∷◌, ⊤};
 ghost use Rattle.viz_calc.specs.World.{Reading};
-ghost use Rattle.viz_calc.specs.Run.{Stands, Goes, Fits, Blames};
+ghost use Rattle.viz_calc.specs.State.{AllSmall};
+ghost use Rattle.viz_calc.specs.Run.{Lays};
 ghost use Rattle.lay_width.specs.Readings.{preferred_at, option_at};
 ghost use Rattle.lay_preferred.specs.Readings.{column_at};
 ghost use Rattle.lay_preferred.specs.steps.Columns.{no_children as none_of, beside as beside_of, with_in_flow as in_flow_of, with_float as float_of, with_child as child_of, whole as whole_of};
@@ -36,11 +37,8 @@ pub fn no_children<N>() -> Column<N>
 
 /// The greatest width of floats that follow one another up to this one.
 fn beside<S: Steady>(calc: &mut S, floats: Option<S::Num>, width: S::Num) -> S::Num
-    ensures goes { Goes (S.run calc.old) (S.run calc.new) }
-    ensures value { Stands (S.run calc.new) (S.at result)
-        (λ e. beside_of (option_at S.at floats e) (S.at width e)) }
-    ensures cause { Blames (S.run calc.old) (S.run calc.new)
-        (Fits (S.run calc.old) (λ e. beside_of (option_at S.at floats e) (S.at width e) ∷ [])) }
+    ensures { Lays S.run calc.old calc.new (S.at result) (λ e. beside_of (option_at S.at floats e) (S.at width e))
+        (λ e. AllSmall (beside_of (option_at S.at floats e) (S.at width e) ∷ [])) }
 {
     match floats {
         Some(floats) => {
@@ -59,10 +57,8 @@ fn with_in_flow<S: Steady>(
     column: Column<S::Num>,
     child: Preferred<S::Num>,
 ) -> Column<S::Num>
-    ensures goes { Goes (S.run calc.old) (S.run calc.new) }
-    ensures value { (e : Reading) → IsTrue ((S.run calc.new).is_open e) → column_at S.at result e
-        ≡ in_flow_of (column_at S.at column e) (preferred_at S.at child e) }
-    ensures cause { Blames (S.run calc.old) (S.run calc.new) ⊤ }
+    ensures { Lays S.run calc.old calc.new (column_at S.at result)
+        (λ e. in_flow_of (column_at S.at column e) (preferred_at S.at child e)) (λ e. ⊤) }
 {
     let least = larger(calc, column.least, child.least);
     let most = larger(calc, column.most, child.most);
@@ -80,11 +76,9 @@ fn with_float<S: Steady>(
     column: Column<S::Num>,
     child: Preferred<S::Num>,
 ) -> Column<S::Num>
-    ensures goes { Goes (S.run calc.old) (S.run calc.new) }
-    ensures value { (e : Reading) → IsTrue ((S.run calc.new).is_open e) → column_at S.at result e
-        ≡ float_of (column_at S.at column e) (preferred_at S.at child e) }
-    ensures cause { Blames (S.run calc.old) (S.run calc.new)
-        (Fits (S.run calc.old) (λ e. beside_of (option_at S.at column.floats e) (S.at child.most e) ∷ [])) }
+    ensures { Lays S.run calc.old calc.new (column_at S.at result)
+        (λ e. float_of (column_at S.at column e) (preferred_at S.at child e))
+        (λ e. AllSmall (beside_of (option_at S.at column.floats e) (S.at child.most e) ∷ [])) }
 {
     let least = larger(calc, column.least, child.least);
     let floats = beside(calc, column.floats, child.most);
@@ -104,11 +98,9 @@ pub fn with_child<S: Steady>(
     floats: bool,
     child: Preferred<S::Num>,
 ) -> Column<S::Num>
-    ensures goes { Goes (S.run calc.old) (S.run calc.new) }
-    ensures value { (e : Reading) → IsTrue ((S.run calc.new).is_open e) → column_at S.at result e
-        ≡ child_of (column_at S.at column e) floats (preferred_at S.at child e) }
-    ensures cause { Blames (S.run calc.old) (S.run calc.new)
-        (Fits (S.run calc.old) (λ e. beside_of (option_at S.at column.floats e) (S.at child.most e) ∷ [])) }
+    ensures { Lays S.run calc.old calc.new (column_at S.at result)
+        (λ e. child_of (column_at S.at column e) floats (preferred_at S.at child e))
+        (λ e. AllSmall (beside_of (option_at S.at column.floats e) (S.at child.most e) ∷ [])) }
 {
     if floats {
         with_float(calc, column, child)
@@ -119,10 +111,8 @@ pub fn with_child<S: Steady>(
 
 /// The preferred widths of the whole.
 pub fn whole<S: Steady>(calc: &mut S, column: Column<S::Num>) -> Preferred<S::Num>
-    ensures goes { Goes (S.run calc.old) (S.run calc.new) }
-    ensures value { (e : Reading) → IsTrue ((S.run calc.new).is_open e) → preferred_at S.at result e
-        ≡ whole_of (column_at S.at column e) }
-    ensures cause { Blames (S.run calc.old) (S.run calc.new) ⊤ }
+    ensures { Lays S.run calc.old calc.new (preferred_at S.at result) (λ e. whole_of (column_at S.at column e))
+        (λ e. ⊤) }
 {
     let least = or_zero(calc, column.least);
     let most = or_zero(calc, column.most);

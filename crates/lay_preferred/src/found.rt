@@ -1,7 +1,7 @@
 //! The preferred widths that were found of boxes.
-ghost use Rattle.std.specs.Prelude.{◌≡◌, IsTrue, IfSome, Some, None, [], ◌∷◌, ⊤, slice_get, slice_set};
-ghost use Rattle.viz_calc.specs.World.{Reading};
-ghost use Rattle.viz_calc.specs.Run.{Goes, Fits, Blames, BlamesButMem};
+ghost use Rattle.std.specs.Prelude.{◌≡◌, IfSome, Some, None, [], ◌∷◌, ⊤, slice_get, slice_set};
+ghost use Rattle.viz_calc.specs.State.{AllSmall};
+ghost use Rattle.viz_calc.specs.Run.{Goes, BlamesButMem, Lays};
 ghost use Rattle.lay_width.specs.Readings.{preferred_at};
 ghost use Rattle.lay_preferred.specs.Readings.{AreFound};
 
@@ -20,11 +20,8 @@ pub struct Found<N> {
 
 /// Both again.
 pub fn copy_of<S: Steady>(calc: &mut S, widths: &Preferred<S::Num>) -> Preferred<S::Num>
-    ensures goes { Goes (S.run calc.old) (S.run calc.new) }
-    ensures value { (e : Reading) → IsTrue ((S.run calc.new).is_open e) → preferred_at S.at result e
-        ≡ preferred_at S.at widths.now e }
-    ensures cause { Blames (S.run calc.old) (S.run calc.new)
-        (Fits (S.run calc.old) (λ e. S.at widths.now.least e ∷ S.at widths.now.most e ∷ [])) }
+    ensures { Lays S.run calc.old calc.new (preferred_at S.at result) (preferred_at S.at widths.now)
+        (λ e. AllSmall (S.at widths.now.least e ∷ S.at widths.now.most e ∷ [])) }
 {
     let least = calc.copy(&widths.least);
     let most = calc.copy(&widths.most);

@@ -1,7 +1,7 @@
 //! The preferred widths of inline content, from its items (CSS 2.1, 9.4.2, 10.3.5).
-ghost use Rattle.std.specs.Prelude.{◌≡◌, ◌++◌, ◌∷◌, [], IsTrue, None, ⊤};
-ghost use Rattle.viz_calc.specs.World.{Reading};
-ghost use Rattle.viz_calc.specs.Run.{Stands, Goes, Fits, Blames, BlamesButMem};
+ghost use Rattle.std.specs.Prelude.{◌≡◌, ◌++◌, ◌∷◌, [], None, ⊤};
+ghost use Rattle.viz_calc.specs.State.{AllSmall};
+ghost use Rattle.viz_calc.specs.Run.{Lays, LaysButMem};
 ghost use Rattle.layout_semantics.specs.Blocks.{node_of};
 ghost use Rattle.layout_semantics.specs.Fonts.{text_width as text_width_of};
 ghost use Rattle.layout_semantics.specs.InlineContent.{holds_inline as holds_lines};
@@ -35,11 +35,8 @@ use viz_calc::Steady;
 
 /// A width that is both.
 pub fn both<S: Steady>(calc: &mut S, width: S::Num) -> Preferred<S::Num>
-    ensures goes { Goes (S.run calc.old) (S.run calc.new) }
-    ensures value { (e : Reading) → IsTrue ((S.run calc.new).is_open e) → preferred_at S.at result e
-        ≡ both_of (S.at width e) }
-    ensures cause { Blames (S.run calc.old) (S.run calc.new)
-        (Fits (S.run calc.old) (λ e. S.at width e ∷ [])) }
+    ensures { Lays S.run calc.old calc.new (preferred_at S.at result) (λ e. both_of (S.at width e))
+        (λ e. AllSmall (S.at width e ∷ [])) }
 {
     let most = calc.copy(&width);
     Preferred { least: width, most }
@@ -88,10 +85,8 @@ pub fn add_piece<'a, S: Steady>(
     pieces: &mut Vec<Piece<'a, Preferred<S::Num>>>,
     piece: Piece<'a, Preferred<S::Num>>,
 )
-    ensures goes { Goes (S.run calc.old) (S.run calc.new) }
-    ensures value { (e : Reading) → IsTrue ((S.run calc.new).is_open e) → sizes_at S.at pieces.new.items e
-        ≡ sizes_at S.at pieces.old.items e ++ size_at S.at piece.entry e ∷ [] }
-    ensures cause { BlamesButMem (S.run calc.old) (S.run calc.new) ⊤ }
+    ensures { LaysButMem S.run calc.old calc.new (sizes_at S.at pieces.new.items)
+        (λ e. sizes_at S.at pieces.old.items e ++ size_at S.at piece.entry e ∷ []) (λ e. ⊤) }
 {
     if pieces.push(piece).is_err() {
         calc.stop();
@@ -100,11 +95,10 @@ pub fn add_piece<'a, S: Steady>(
 
 /// The preferred minimum width of inline content in these stretches: the widest of them, or float.
 fn least_of<S: Steady>(calc: &mut S, pieces: &[Piece<Preferred<S::Num>>], marks: &[bool]) -> S::Num
-    ensures goes { Goes (S.run calc.old) (S.run calc.new) }
-    ensures value { Stands (S.run calc.new) (S.at result) (λ e. of_or_zero (float_of (widest least_width None
-        (parts_at S.at pieces.now marks.now e)) (sizes_at S.at pieces.now e))) }
-    ensures cause { Blames (S.run calc.old) (S.run calc.new)
-        ((e : Reading) → IsTrue ((S.run calc.old).is_open e) → IsHalf (leasts (sizes_at S.at pieces.now e))) }
+    ensures { Lays S.run calc.old calc.new (S.at result)
+        (λ e. of_or_zero
+        (float_of (widest least_width None (parts_at S.at pieces.now marks.now e)) (sizes_at S.at pieces.now e)))
+        (λ e. IsHalf (leasts (sizes_at S.at pieces.now e))) }
 {
     let widest = widest_stretch(calc, Stretches { pieces, marks });
     let widest = widest_float(calc, widest, pieces);
@@ -113,11 +107,9 @@ fn least_of<S: Steady>(calc: &mut S, pieces: &[Piece<Preferred<S::Num>>], marks:
 
 /// The preferred width of inline content in these pieces: the widest of them, with the floats in it.
 fn most_of<S: Steady>(calc: &mut S, pieces: &[Piece<Preferred<S::Num>>], marks: &[bool]) -> S::Num
-    ensures goes { Goes (S.run calc.old) (S.run calc.new) }
-    ensures value { Stands (S.run calc.new) (S.at result) (λ e. of_or_zero (widest most_width None
-        (parts_at S.at pieces.now marks.now e))) }
-    ensures cause { Blames (S.run calc.old) (S.run calc.new)
-        ((e : Reading) → IsTrue ((S.run calc.old).is_open e) → IsHalf (mosts (sizes_at S.at pieces.now e))) }
+    ensures { Lays S.run calc.old calc.new (S.at result)
+        (λ e. of_or_zero (widest most_width None (parts_at S.at pieces.now marks.now e)))
+        (λ e. IsHalf (mosts (sizes_at S.at pieces.now e))) }
 {
     let widest = widest_piece(calc, Stretches { pieces, marks });
     or_zero(calc, widest)
@@ -131,12 +123,12 @@ fn least_inline<S: Steady>(
     items: &[Item],
     pieces: &[Piece<Preferred<S::Num>>],
 ) -> S::Num
-    ensures goes { Goes (S.run calc.old) (S.run calc.new) }
-    ensures value { Stands (S.run calc.new) (S.at result) (λ e. of_or_zero (float_of (widest least_width None
+    ensures { LaysButMem S.run calc.old calc.new (S.at result)
+        (λ e. of_or_zero
+        (float_of
+        (widest least_width None
         (parts_at S.at pieces.now (marks_of (may_part tree.now) None None (items_of items.now)) e))
-        (sizes_at S.at pieces.now e))) }
-    ensures cause { BlamesButMem (S.run calc.old) (S.run calc.new)
-        ((e : Reading) → IsTrue ((S.run calc.old).is_open e) → IsHalf (leasts (sizes_at S.at pieces.now e))) }
+        (sizes_at S.at pieces.now e))) (λ e. IsHalf (leasts (sizes_at S.at pieces.now e))) }
 {
     match marks(alloc, tree, Parting::Lines, items) {
         Ok(marks) => least_of(calc, pieces, marks.as_slice()),
@@ -155,11 +147,10 @@ fn most_inline<S: Steady>(
     items: &[Item],
     pieces: &[Piece<Preferred<S::Num>>],
 ) -> S::Num
-    ensures goes { Goes (S.run calc.old) (S.run calc.new) }
-    ensures value { Stands (S.run calc.new) (S.at result) (λ e. of_or_zero (widest most_width None
-        (parts_at S.at pieces.now (marks_of never None None (items_of items.now)) e))) }
-    ensures cause { BlamesButMem (S.run calc.old) (S.run calc.new)
-        ((e : Reading) → IsTrue ((S.run calc.old).is_open e) → IsHalf (mosts (sizes_at S.at pieces.now e))) }
+    ensures { LaysButMem S.run calc.old calc.new (S.at result)
+        (λ e. of_or_zero
+        (widest most_width None (parts_at S.at pieces.now (marks_of never None None (items_of items.now)) e)))
+        (λ e. IsHalf (mosts (sizes_at S.at pieces.now e))) }
 {
     match marks(alloc, tree, Parting::Never, items) {
         Ok(marks) => most_of(calc, pieces, marks.as_slice()),
@@ -178,12 +169,9 @@ pub fn inline_widths<S: Steady>(
     items: &[Item],
     pieces: &[Piece<Preferred<S::Num>>],
 ) -> Preferred<S::Num>
-    ensures goes { Goes (S.run calc.old) (S.run calc.new) }
-    ensures value { (e : Reading) → IsTrue ((S.run calc.new).is_open e) → preferred_at S.at result e
-        ≡ inline_of tree.now (items_of items.now) (sizes_at S.at pieces.now e) }
-    ensures cause { BlamesButMem (S.run calc.old) (S.run calc.new)
-        ((e : Reading) → IsTrue ((S.run calc.old).is_open e) → IsHalf (leasts (sizes_at S.at pieces.now e))
-        × IsHalf (mosts (sizes_at S.at pieces.now e))) }
+    ensures { LaysButMem S.run calc.old calc.new (preferred_at S.at result)
+        (λ e. inline_of tree.now (items_of items.now) (sizes_at S.at pieces.now e))
+        (λ e. IsHalf (leasts (sizes_at S.at pieces.now e)) × IsHalf (mosts (sizes_at S.at pieces.now e))) }
 {
     let least = least_inline(alloc, calc, tree, items, pieces);
     let most = most_inline(alloc, calc, tree, items, pieces);
@@ -192,11 +180,9 @@ pub fn inline_widths<S: Steady>(
 
 /// What a space of a box takes.
 fn space_width<S: Steady>(calc: &mut S, tree: &BoxTree, at: u32) -> S::Num
-    ensures goes { Goes (S.run calc.old) (S.run calc.new) }
-    ensures value { Stands (S.run calc.new) (S.at result)
-        (λ e. text_width_of tree.now e.world (node_of tree.now at) (32 ∷ [])) }
-    ensures cause { Blames (S.run calc.old) (S.run calc.new)
-        ((e : Reading) → IsTrue ((S.run calc.old).is_open e) → TextFits tree.now e.world at (32 ∷ [])) }
+    ensures { Lays S.run calc.old calc.new (S.at result)
+        (λ e. text_width_of tree.now e.world (node_of tree.now at) (32 ∷ []))
+        (λ e. TextFits tree.now e.world at (32 ∷ [])) }
 {
     text_width(calc, tree, node_at(tree, at), " ")
 }
@@ -205,10 +191,8 @@ fn space_width<S: Steady>(calc: &mut S, tree: &BoxTree, at: u32) -> S::Num
 /// What an item takes that is no box.
 pub fn item_width<S: Steady>(calc: &mut S, tree: &BoxTree, item: &Item) -> S::Num
     requires { IsShort (item_of item.now) }
-    ensures goes { Goes (S.run calc.old) (S.run calc.new) }
-    ensures value { Stands (S.run calc.new) (S.at result) (λ e. width_of tree.now e.world (item_of item.now)) }
-    ensures cause { Blames (S.run calc.old) (S.run calc.new)
-        ((e : Reading) → IsTrue ((S.run calc.old).is_open e) → ItemFits tree.now e.world (item_of item.now)) }
+    ensures { Lays S.run calc.old calc.new (S.at result) (λ e. width_of tree.now e.world (item_of item.now))
+        (λ e. ItemFits tree.now e.world (item_of item.now)) }
 {
     match item {
         Item::Word(at, text) => text_width(calc, tree, node_at(tree, *at), text),

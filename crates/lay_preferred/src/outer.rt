@@ -1,10 +1,9 @@
 //! What a box takes in the preferred widths of its container (CSS 2.1, 10.3.5): our own reading of percentages there.
-ghost use Rattle.std.specs.Prelude.{◌≡◌, ℤ, ◌+ℤ◌, IsTrue, None, pos, [], ◌∷◌};
+ghost use Rattle.std.specs.Prelude.{◌≡◌, ℤ, ◌+ℤ◌, None, pos, [], ◌∷◌};
 ghost use Rattle.viz_base.specs.declared.lengths.Length.TheVariants as of_length;
 ghost use Rattle.viz_base.specs.declared.styles.Style.{Style as StyleOf};
-ghost use Rattle.viz_calc.specs.World.{Reading};
 ghost use Rattle.viz_calc.specs.State.{AllSmall};
-ghost use Rattle.viz_calc.specs.Run.{Stands, Goes, Blames};
+ghost use Rattle.viz_calc.specs.Run.{Lays};
 ghost use Rattle.layout_semantics.specs.Lengths.{own, maximum};
 ghost use Rattle.layout_semantics.specs.Lengths.{used_if_absolute as if_absolute};
 ghost use Rattle.layout_semantics.specs.Replaced.{intrinsic as intrinsic_of};
@@ -27,10 +26,8 @@ use viz_calc::Steady;
 #[tactic(auto, unfolding(crate::specs::steps::Outer::edge))]
 /// A length in units of 1/64 px; `auto` and a percentage count 0.
 fn absolute_part<S: Steady>(calc: &mut S, tree: &BoxTree, length: &Length) -> S::Num
-    ensures goes { Goes (S.run calc.old) (S.run calc.new) }
-    ensures value { Stands (S.run calc.new) (S.at result) (λ e. edge tree.now e.world length.now) }
-    ensures cause { Blames (S.run calc.old) (S.run calc.new)
-        ((e : Reading) → IsTrue ((S.run calc.old).is_open e) → UsedFits tree.now e.world length.now (pos 0)) }
+    ensures { Lays S.run calc.old calc.new (S.at result) (λ e. edge tree.now e.world length.now)
+        (λ e. UsedFits tree.now e.world length.now (pos 0)) }
 {
     match used_if_absolute(calc, tree, length) {
         Some(length) => length,
@@ -40,11 +37,8 @@ fn absolute_part<S: Steady>(calc: &mut S, tree: &BoxTree, length: &Length) -> S:
 
 /// A length in front of others.
 fn before<S: Steady>(calc: &mut S, tree: &BoxTree, length: &Length, rest: &S::Num) -> S::Num
-    ensures goes { Goes (S.run calc.old) (S.run calc.new) }
-    ensures value { Stands (S.run calc.new) (S.at result)
-        (λ e. edge tree.now e.world length.now +ℤ S.at rest.now e) }
-    ensures cause { Blames (S.run calc.old) (S.run calc.new)
-        ((e : Reading) → IsTrue ((S.run calc.old).is_open e) → UsedFits tree.now e.world length.now (pos 0)
+    ensures { Lays S.run calc.old calc.new (S.at result) (λ e. edge tree.now e.world length.now +ℤ S.at rest.now e)
+        (λ e. UsedFits tree.now e.world length.now (pos 0)
         × AllSmall ((edge tree.now e.world length.now +ℤ S.at rest.now e) ∷ [])) }
 {
     let first = absolute_part(calc, tree, length);
@@ -60,13 +54,10 @@ fn side_before<S: Steady>(
     padding: &Length,
     rest: &S::Num,
 ) -> S::Num
-    ensures goes { Goes (S.run calc.old) (S.run calc.new) }
-    ensures value { Stands (S.run calc.new) (S.at result) (λ e. edge tree.now e.world margin.now
-        +ℤ (edge tree.now e.world border.now +ℤ (edge tree.now e.world padding.now +ℤ S.at rest.now e))) }
-    ensures cause { Blames (S.run calc.old) (S.run calc.new)
-        ((e : Reading) → IsTrue ((S.run calc.old).is_open e)
-        → SideFits tree.now e.world margin.now border.now padding.now
-        (S.at rest.now e)) }
+    ensures { Lays S.run calc.old calc.new (S.at result)
+        (λ e. edge tree.now e.world margin.now
+        +ℤ (edge tree.now e.world border.now +ℤ (edge tree.now e.world padding.now +ℤ S.at rest.now e)))
+        (λ e. SideFits tree.now e.world margin.now border.now padding.now (S.at rest.now e)) }
 {
     let rest = before(calc, tree, padding, rest);
     let rest = before(calc, tree, border, &rest);
@@ -76,10 +67,8 @@ fn side_before<S: Steady>(
 #[tactic(auto, unfolding(crate::specs::steps::Outer::start_of, crate::specs::steps::Outer::edge))]
 /// What the start of an inline box takes.
 pub fn start_width<S: Steady>(calc: &mut S, tree: &BoxTree, at: u32) -> S::Num
-    ensures goes { Goes (S.run calc.old) (S.run calc.new) }
-    ensures value { Stands (S.run calc.new) (S.at result) (λ e. start_of tree.now e.world at) }
-    ensures cause { Blames (S.run calc.old) (S.run calc.new)
-        ((e : Reading) → IsTrue ((S.run calc.old).is_open e) → StartFits tree.now e.world at (pos 0)) }
+    ensures { Lays S.run calc.old calc.new (S.at result) (λ e. start_of tree.now e.world at)
+        (λ e. StartFits tree.now e.world at (pos 0)) }
 {
     let margin = margins(tree, at);
     let border = borders(tree, at);
@@ -91,10 +80,8 @@ pub fn start_width<S: Steady>(calc: &mut S, tree: &BoxTree, at: u32) -> S::Num
 #[tactic(auto, unfolding(crate::specs::steps::Outer::end_of, crate::specs::steps::Outer::edge))]
 /// What its end takes.
 pub fn end_width<S: Steady>(calc: &mut S, tree: &BoxTree, at: u32) -> S::Num
-    ensures goes { Goes (S.run calc.old) (S.run calc.new) }
-    ensures value { Stands (S.run calc.new) (S.at result) (λ e. end_of tree.now e.world at) }
-    ensures cause { Blames (S.run calc.old) (S.run calc.new)
-        ((e : Reading) → IsTrue ((S.run calc.old).is_open e) → EndFits tree.now e.world at) }
+    ensures { Lays S.run calc.old calc.new (S.at result) (λ e. end_of tree.now e.world at)
+        (λ e. EndFits tree.now e.world at) }
 {
     let margin = margins(tree, at);
     let border = borders(tree, at);
@@ -113,10 +100,8 @@ pub fn end_width<S: Steady>(calc: &mut S, tree: &BoxTree, at: u32) -> S::Num
 #[tactic(auto, unfolding(crate::specs::steps::Outer::edges_of, crate::specs::steps::Outer::end_of, crate::specs::steps::Outer::edge))]
 /// The horizontal edges of a box.
 fn edges<S: Steady>(calc: &mut S, tree: &BoxTree, at: u32) -> S::Num
-    ensures goes { Goes (S.run calc.old) (S.run calc.new) }
-    ensures value { Stands (S.run calc.new) (S.at result) (λ e. edges_of tree.now e.world at) }
-    ensures cause { Blames (S.run calc.old) (S.run calc.new)
-        ((e : Reading) → IsTrue ((S.run calc.old).is_open e) → EdgesFit tree.now e.world at) }
+    ensures { Lays S.run calc.old calc.new (S.at result) (λ e. edges_of tree.now e.world at)
+        (λ e. EdgesFit tree.now e.world at) }
 {
     let margin = margins(tree, at);
     let border = borders(tree, at);
@@ -134,12 +119,9 @@ fn edges<S: Steady>(calc: &mut S, tree: &BoxTree, at: u32) -> S::Num
 
 /// The maximum width of a box, where it has one that is no percentage.
 fn most_width<S: Steady>(calc: &mut S, tree: &BoxTree, at: u32) -> Option<S::Num>
-    ensures goes { Goes (S.run calc.old) (S.run calc.new) }
-    ensures value { (e : Reading) → IsTrue ((S.run calc.new).is_open e) → option_at S.at result e
-        ≡ maximum (if_absolute tree.now e.world) (own tree.now at (λ (s : StyleOf). s.max_width) None) }
-    ensures cause { Blames (S.run calc.old) (S.run calc.new)
-        ((e : Reading) → IsTrue ((S.run calc.old).is_open e) → MostFits tree.now e.world
-        (own tree.now at (λ (s : StyleOf). s.max_width) None) (pos 0)) }
+    ensures { Lays S.run calc.old calc.new (option_at S.at result)
+        (λ e. maximum (if_absolute tree.now e.world) (own tree.now at (λ (s : StyleOf). s.max_width) None))
+        (λ e. MostFits tree.now e.world (own tree.now at (λ (s : StyleOf). s.max_width) None) (pos 0)) }
 {
     match own_most(tree, at) {
         Some(most) => used_if_absolute(calc, tree, &most),
@@ -150,10 +132,8 @@ fn most_width<S: Steady>(calc: &mut S, tree: &BoxTree, at: u32) -> Option<S::Num
 #[tactic(auto, unfolding(crate::specs::steps::Outer::held_of, crate::specs::steps::Outer::edge))]
 /// A width between the minimum and the maximum of a box; a percentage counts 0 as a minimum, and as a maximum none.
 fn held<S: Steady>(calc: &mut S, tree: &BoxTree, at: u32, width: S::Num) -> S::Num
-    ensures goes { Goes (S.run calc.old) (S.run calc.new) }
-    ensures value { Stands (S.run calc.new) (S.at result) (λ e. held_of tree.now e.world at (S.at width e)) }
-    ensures cause { Blames (S.run calc.old) (S.run calc.new)
-        ((e : Reading) → IsTrue ((S.run calc.old).is_open e) → HoldFits tree.now e.world at (pos 0)) }
+    ensures { Lays S.run calc.old calc.new (S.at result) (λ e. held_of tree.now e.world at (S.at width e))
+        (λ e. HoldFits tree.now e.world at (pos 0)) }
 {
     let most = most_width(calc, tree, at);
     let least = absolute_part(calc, tree, &own_least(tree, at));
@@ -163,10 +143,8 @@ fn held<S: Steady>(calc: &mut S, tree: &BoxTree, at: u32, width: S::Num) -> S::N
 #[tactic(auto, unfolding(crate::specs::steps::Outer::with_edges))]
 /// So wide a box, held, with its edges.
 fn with_edges<S: Steady>(calc: &mut S, tree: &BoxTree, at: u32, width: S::Num) -> S::Num
-    ensures goes { Goes (S.run calc.old) (S.run calc.new) }
-    ensures value { Stands (S.run calc.new) (S.at result) (λ e. edged tree.now e.world at (S.at width e)) }
-    ensures cause { Blames (S.run calc.old) (S.run calc.new)
-        ((e : Reading) → IsTrue ((S.run calc.old).is_open e) → AroundFits tree.now e.world at (S.at width e)) }
+    ensures { Lays S.run calc.old calc.new (S.at result) (λ e. edged tree.now e.world at (S.at width e))
+        (λ e. AroundFits tree.now e.world at (S.at width e)) }
 {
     let held = held(calc, tree, at, width);
     let edges = edges(calc, tree, at);
@@ -185,11 +163,8 @@ pub fn is_given(tree: &BoxTree, at: u32) -> bool
 #[tactic(auto, unfolding(crate::specs::steps::Outer::given))]
 /// The outer widths of a box whose width is what its `width` says.
 pub fn given<S: Steady>(calc: &mut S, tree: &BoxTree, at: u32) -> Preferred<S::Num>
-    ensures goes { Goes (S.run calc.old) (S.run calc.new) }
-    ensures value { (e : Reading) → IsTrue ((S.run calc.new).is_open e) → preferred_at S.at result e
-        ≡ given_of tree.now e.world at }
-    ensures cause { Blames (S.run calc.old) (S.run calc.new)
-        ((e : Reading) → IsTrue ((S.run calc.old).is_open e) → GivenFits tree.now e.world at) }
+    ensures { Lays S.run calc.old calc.new (preferred_at S.at result) (λ e. given_of tree.now e.world at)
+        (λ e. GivenFits tree.now e.world at) }
 {
     let width = absolute_part(calc, tree, &own_width(tree, at));
     let least = with_edges(calc, tree, at, width);
@@ -205,11 +180,9 @@ pub fn around<S: Steady>(
     at: u32,
     inside: Preferred<S::Num>,
 ) -> Preferred<S::Num>
-    ensures goes { Goes (S.run calc.old) (S.run calc.new) }
-    ensures value { (e : Reading) → IsTrue ((S.run calc.new).is_open e) → preferred_at S.at result e
-        ≡ around_of tree.now e.world at (preferred_at S.at inside e) }
-    ensures cause { Blames (S.run calc.old) (S.run calc.new)
-        ((e : Reading) → IsTrue ((S.run calc.old).is_open e) → AroundFits tree.now e.world at (S.at inside.least e)
+    ensures { Lays S.run calc.old calc.new (preferred_at S.at result)
+        (λ e. around_of tree.now e.world at (preferred_at S.at inside e))
+        (λ e. AroundFits tree.now e.world at (S.at inside.least e)
         × AroundFits tree.now e.world at (S.at inside.most e)) }
 {
     let least = with_edges(calc, tree, at, inside.least);
@@ -219,11 +192,10 @@ pub fn around<S: Steady>(
 
 /// The width of a replaced box that its height gives it, or its intrinsic one; a percentage height gives none.
 fn by_height<S: Steady>(calc: &mut S, tree: &BoxTree, at: u32) -> S::Num
-    ensures goes { Goes (S.run calc.old) (S.run calc.new) }
-    ensures value { Stands (S.run calc.new) (S.at result) (λ e. tentative_of (intrinsic_of tree.now at) None
-        (if_absolute tree.now e.world (own tree.now at (λ (s : StyleOf). s.height) of_length.Auto))) }
-    ensures cause { Blames (S.run calc.old) (S.run calc.new)
-        ((e : Reading) → IsTrue ((S.run calc.old).is_open e) → ByHeightFits tree.now e.world at) }
+    ensures { Lays S.run calc.old calc.new (S.at result)
+        (λ e. tentative_of (intrinsic_of tree.now at) None
+        (if_absolute tree.now e.world (own tree.now at (λ (s : StyleOf). s.height) of_length.Auto)))
+        (λ e. ByHeightFits tree.now e.world at) }
 {
     let size = intrinsic(tree, at);
     match used_if_absolute(calc, tree, &own_height(tree, at)) {
@@ -234,13 +206,11 @@ fn by_height<S: Steady>(calc: &mut S, tree: &BoxTree, at: u32) -> S::Num
 
 /// The width of a replaced box before it is held.
 fn tentative<S: Steady>(calc: &mut S, tree: &BoxTree, at: u32) -> S::Num
-    ensures goes { Goes (S.run calc.old) (S.run calc.new) }
-    ensures value { Stands (S.run calc.new) (S.at result) (λ e. tentative_of (intrinsic_of tree.now at)
+    ensures { Lays S.run calc.old calc.new (S.at result)
+        (λ e. tentative_of (intrinsic_of tree.now at)
         (if_absolute tree.now e.world (own tree.now at (λ (s : StyleOf). s.width) of_length.Auto))
-        (if_absolute tree.now e.world (own tree.now at (λ (s : StyleOf). s.height) of_length.Auto))) }
-    ensures cause { Blames (S.run calc.old) (S.run calc.new)
-        ((e : Reading) → IsTrue ((S.run calc.old).is_open e) → UsedFits tree.now e.world (width_of tree.now at) (pos 0)
-        × ByHeightFits tree.now e.world at) }
+        (if_absolute tree.now e.world (own tree.now at (λ (s : StyleOf). s.height) of_length.Auto)))
+        (λ e. UsedFits tree.now e.world (width_of tree.now at) (pos 0) × ByHeightFits tree.now e.world at) }
 {
     match used_if_absolute(calc, tree, &own_width(tree, at)) {
         Some(width) => width,
@@ -251,11 +221,8 @@ fn tentative<S: Steady>(calc: &mut S, tree: &BoxTree, at: u32) -> S::Num
 #[tactic(auto, unfolding(crate::specs::steps::Outer::replaced, crate::specs::steps::Outer::held_of))]
 /// The preferred widths of a replaced box (CSS 2.1, 10.3.2).
 pub fn replaced<S: Steady>(calc: &mut S, tree: &BoxTree, at: u32) -> Preferred<S::Num>
-    ensures goes { Goes (S.run calc.old) (S.run calc.new) }
-    ensures value { (e : Reading) → IsTrue ((S.run calc.new).is_open e) → preferred_at S.at result e
-        ≡ replaced_of tree.now e.world at }
-    ensures cause { Blames (S.run calc.old) (S.run calc.new)
-        ((e : Reading) → IsTrue ((S.run calc.old).is_open e) → ReplacedFits tree.now e.world at) }
+    ensures { Lays S.run calc.old calc.new (preferred_at S.at result) (λ e. replaced_of tree.now e.world at)
+        (λ e. ReplacedFits tree.now e.world at) }
 {
     let width = tentative(calc, tree, at);
     let least = held(calc, tree, at, width);

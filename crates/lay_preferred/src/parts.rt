@@ -1,7 +1,7 @@
 //! The preferred widths of inline content, part by part (CSS 2.1, 9.4.2, 10.3.5).
-ghost use Rattle.std.specs.Prelude.{◌≡◌, ◌+◌, unsigned_abs, IsTrue, None, [], ◌∷◌};
-ghost use Rattle.viz_calc.specs.World.{Reading};
-ghost use Rattle.viz_calc.specs.Run.{Stands, Goes, Fits, Blames};
+ghost use Rattle.std.specs.Prelude.{◌+◌, unsigned_abs, None, [], ◌∷◌};
+ghost use Rattle.viz_calc.specs.State.{AllSmall};
+ghost use Rattle.viz_calc.specs.Run.{Lays};
 ghost use Rattle.lay_width.specs.Readings.{option_at};
 ghost use Rattle.lay_line.specs.Items.{item_of};
 ghost use Rattle.lay_line.specs.Readings.{held_at};
@@ -24,12 +24,9 @@ fn least_after<S: Steady>(
     held: Held<S::Num>,
     piece: &Piece<Preferred<S::Num>>,
 ) -> Held<S::Num>
-    ensures goes { Goes (S.run calc.old) (S.run calc.new) }
-    ensures value { (e : Reading) → IsTrue ((S.run calc.new).is_open e) → held_at S.at result e
-        ≡ held_after (size_at S.at piece.now e).widths.least (held_at S.at held e) (item_of piece.now.item) }
-    ensures cause { Blames (S.run calc.old) (S.run calc.new)
-        (Fits (S.run calc.old) (λ e.
-        after_way (S.at piece.now.width.least e) (held_at S.at held e) (item_of piece.now.item))) }
+    ensures { Lays S.run calc.old calc.new (held_at S.at result)
+        (λ e. held_after (size_at S.at piece.now e).widths.least (held_at S.at held e) (item_of piece.now.item))
+        (λ e. AllSmall (after_way (S.at piece.now.width.least e) (held_at S.at held e) (item_of piece.now.item))) }
 {
     match piece.item {
         Item::Float(_) => held,
@@ -43,12 +40,9 @@ fn most_after<S: Steady>(
     held: Held<S::Num>,
     piece: &Piece<Preferred<S::Num>>,
 ) -> Held<S::Num>
-    ensures goes { Goes (S.run calc.old) (S.run calc.new) }
-    ensures value { (e : Reading) → IsTrue ((S.run calc.new).is_open e) → held_at S.at result e
-        ≡ held_after (size_at S.at piece.now e).widths.most (held_at S.at held e) (item_of piece.now.item) }
-    ensures cause { Blames (S.run calc.old) (S.run calc.new)
-        (Fits (S.run calc.old) (λ e.
-        after_way (S.at piece.now.width.most e) (held_at S.at held e) (item_of piece.now.item))) }
+    ensures { Lays S.run calc.old calc.new (held_at S.at result)
+        (λ e. held_after (size_at S.at piece.now e).widths.most (held_at S.at held e) (item_of piece.now.item))
+        (λ e. AllSmall (after_way (S.at piece.now.width.most e) (held_at S.at held e) (item_of piece.now.item))) }
 {
     match piece.item {
         Item::Float(_) => held,
@@ -62,12 +56,9 @@ fn least_held<S: Steady>(
     start: Held<S::Num>,
     part: &[Piece<Preferred<S::Num>>],
 ) -> Held<S::Num>
-    ensures goes { Goes (S.run calc.old) (S.run calc.new) }
-    ensures value { (e : Reading) → IsTrue ((S.run calc.new).is_open e) → held_at S.at result e
-        ≡ held_least (held_at S.at start e) (sizes_at S.at part.now e) }
-    ensures cause { Blames (S.run calc.old) (S.run calc.new)
-        ((e : Reading) → IsTrue ((S.run calc.old).is_open e)
-        → IsHalf (held_size (held_at S.at start e) + leasts (sizes_at S.at part.now e))) }
+    ensures { Lays S.run calc.old calc.new (held_at S.at result)
+        (λ e. held_least (held_at S.at start e) (sizes_at S.at part.now e))
+        (λ e. IsHalf (held_size (held_at S.at start e) + leasts (sizes_at S.at part.now e))) }
 {
     let mut held = start;
     for piece in part {
@@ -82,12 +73,9 @@ fn most_held<S: Steady>(
     start: Held<S::Num>,
     part: &[Piece<Preferred<S::Num>>],
 ) -> Held<S::Num>
-    ensures goes { Goes (S.run calc.old) (S.run calc.new) }
-    ensures value { (e : Reading) → IsTrue ((S.run calc.new).is_open e) → held_at S.at result e
-        ≡ held_most (held_at S.at start e) (sizes_at S.at part.now e) }
-    ensures cause { Blames (S.run calc.old) (S.run calc.new)
-        ((e : Reading) → IsTrue ((S.run calc.old).is_open e)
-        → IsHalf (held_size (held_at S.at start e) + mosts (sizes_at S.at part.now e))) }
+    ensures { Lays S.run calc.old calc.new (held_at S.at result)
+        (λ e. held_most (held_at S.at start e) (sizes_at S.at part.now e))
+        (λ e. IsHalf (held_size (held_at S.at start e) + mosts (sizes_at S.at part.now e))) }
 {
     let mut held = start;
     for piece in part {
@@ -99,10 +87,8 @@ fn most_held<S: Steady>(
 #[tactic(auto, unfolding(crate::specs::steps::Parts::least_width))]
 /// The width of a stretch without the spaces at its ends.
 fn least_width<S: Steady>(calc: &mut S, part: &[Piece<Preferred<S::Num>>]) -> S::Num
-    ensures goes { Goes (S.run calc.old) (S.run calc.new) }
-    ensures value { Stands (S.run calc.new) (S.at result) (λ e. least_of (sizes_at S.at part.now e)) }
-    ensures cause { Blames (S.run calc.old) (S.run calc.new)
-        ((e : Reading) → IsTrue ((S.run calc.old).is_open e) → IsHalf (leasts (sizes_at S.at part.now e))) }
+    ensures { Lays S.run calc.old calc.new (S.at result) (λ e. least_of (sizes_at S.at part.now e))
+        (λ e. IsHalf (leasts (sizes_at S.at part.now e))) }
 {
     let start = nothing(calc);
     let held = least_held(calc, start, part);
@@ -111,12 +97,9 @@ fn least_width<S: Steady>(calc: &mut S, part: &[Piece<Preferred<S::Num>>]) -> S:
 
 /// With the preferred width of a float more.
 fn with_float<S: Steady>(calc: &mut S, sum: S::Num, piece: &Piece<Preferred<S::Num>>) -> S::Num
-    ensures goes { Goes (S.run calc.old) (S.run calc.new) }
-    ensures value { Stands (S.run calc.new) (S.at result)
-        (λ e. sum_after (S.at sum e) (size_at S.at piece.now e) (item_of piece.now.item)) }
-    ensures cause { Blames (S.run calc.old) (S.run calc.new)
-        (Fits (S.run calc.old) (λ e.
-        sum_after (S.at sum e) (size_at S.at piece.now e) (item_of piece.now.item) ∷ [])) }
+    ensures { Lays S.run calc.old calc.new (S.at result)
+        (λ e. sum_after (S.at sum e) (size_at S.at piece.now e) (item_of piece.now.item))
+        (λ e. AllSmall (sum_after (S.at sum e) (size_at S.at piece.now e) (item_of piece.now.item) ∷ [])) }
 {
     match piece.item {
         Item::Float(_) => calc.add(&sum, &piece.width.most),
@@ -126,12 +109,9 @@ fn with_float<S: Steady>(calc: &mut S, sum: S::Num, piece: &Piece<Preferred<S::N
 
 /// The preferred widths of the floats of a piece, and what is before them, together.
 fn floats_width<S: Steady>(calc: &mut S, start: S::Num, part: &[Piece<Preferred<S::Num>>]) -> S::Num
-    ensures goes { Goes (S.run calc.old) (S.run calc.new) }
-    ensures value { Stands (S.run calc.new) (S.at result)
-        (λ e. floats_from (S.at start e) (sizes_at S.at part.now e)) }
-    ensures cause { Blames (S.run calc.old) (S.run calc.new)
-        ((e : Reading) → IsTrue ((S.run calc.old).is_open e)
-        → IsHalf (unsigned_abs (S.at start e) + mosts (sizes_at S.at part.now e))) }
+    ensures { Lays S.run calc.old calc.new (S.at result)
+        (λ e. floats_from (S.at start e) (sizes_at S.at part.now e))
+        (λ e. IsHalf (unsigned_abs (S.at start e) + mosts (sizes_at S.at part.now e))) }
 {
     let mut sum = start;
     for piece in part {
@@ -143,10 +123,8 @@ fn floats_width<S: Steady>(calc: &mut S, start: S::Num, part: &[Piece<Preferred<
 #[tactic(auto, unfolding(crate::specs::steps::Parts::most_width))]
 /// The width of a piece between forced breaks, without the spaces at its ends, and with the floats in it.
 fn most_width<S: Steady>(calc: &mut S, part: &[Piece<Preferred<S::Num>>]) -> S::Num
-    ensures goes { Goes (S.run calc.old) (S.run calc.new) }
-    ensures value { Stands (S.run calc.new) (S.at result) (λ e. most_of (sizes_at S.at part.now e)) }
-    ensures cause { Blames (S.run calc.old) (S.run calc.new)
-        ((e : Reading) → IsTrue ((S.run calc.old).is_open e) → IsHalf (mosts (sizes_at S.at part.now e))) }
+    ensures { Lays S.run calc.old calc.new (S.at result) (λ e. most_of (sizes_at S.at part.now e))
+        (λ e. IsHalf (mosts (sizes_at S.at part.now e))) }
 {
     let start = nothing(calc);
     let held = most_held(calc, start, part);
@@ -161,11 +139,9 @@ fn past_float<S: Steady>(
     best: Option<S::Num>,
     piece: &Piece<Preferred<S::Num>>,
 ) -> Option<S::Num>
-    ensures goes { Goes (S.run calc.old) (S.run calc.new) }
-    ensures value { (e : Reading) → IsTrue ((S.run calc.new).is_open e) → option_at S.at result e
-        ≡ float_past (option_at S.at best e) (size_at S.at piece.now e).widths.least (item_of piece.now.item) }
-    ensures cause { Blames (S.run calc.old) (S.run calc.new)
-        (Fits (S.run calc.old) (λ e. S.at piece.now.width.least e ∷ [])) }
+    ensures { Lays S.run calc.old calc.new (option_at S.at result)
+        (λ e. float_past (option_at S.at best e) (size_at S.at piece.now e).widths.least (item_of piece.now.item))
+        (λ e. AllSmall (S.at piece.now.width.least e ∷ [])) }
 {
     match piece.item {
         Item::Float(_) => {
@@ -182,11 +158,9 @@ pub fn widest_float<S: Steady>(
     start: Option<S::Num>,
     pieces: &[Piece<Preferred<S::Num>>],
 ) -> Option<S::Num>
-    ensures goes { Goes (S.run calc.old) (S.run calc.new) }
-    ensures value { (e : Reading) → IsTrue ((S.run calc.new).is_open e) → option_at S.at result e
-        ≡ float_of (option_at S.at start e) (sizes_at S.at pieces.now e) }
-    ensures cause { Blames (S.run calc.old) (S.run calc.new)
-        ((e : Reading) → IsTrue ((S.run calc.old).is_open e) → IsHalf (leasts (sizes_at S.at pieces.now e))) }
+    ensures { Lays S.run calc.old calc.new (option_at S.at result)
+        (λ e. float_of (option_at S.at start e) (sizes_at S.at pieces.now e))
+        (λ e. IsHalf (leasts (sizes_at S.at pieces.now e))) }
 {
     let mut best = start;
     for piece in pieces {
@@ -200,12 +174,9 @@ pub fn widest_stretch<S: Steady>(
     calc: &mut S,
     stretches: Stretches<'_, '_, Preferred<S::Num>>,
 ) -> Option<S::Num>
-    ensures goes { Goes (S.run calc.old) (S.run calc.new) }
-    ensures value { (e : Reading) → IsTrue ((S.run calc.new).is_open e) → option_at S.at result e
-        ≡ widest least_of None (parts_at S.at stretches.entry.pieces.now stretches.entry.marks.now e) }
-    ensures cause { Blames (S.run calc.old) (S.run calc.new)
-        ((e : Reading) → IsTrue ((S.run calc.old).is_open e)
-        → IsHalf (leasts (sizes_at S.at stretches.entry.pieces.now e))) }
+    ensures { Lays S.run calc.old calc.new (option_at S.at result)
+        (λ e. widest least_of None (parts_at S.at stretches.entry.pieces.now stretches.entry.marks.now e))
+        (λ e. IsHalf (leasts (sizes_at S.at stretches.entry.pieces.now e))) }
 {
     let mut rest = stretches;
     let mut best = None;
@@ -222,12 +193,9 @@ pub fn widest_piece<S: Steady>(
     calc: &mut S,
     pieces: Stretches<'_, '_, Preferred<S::Num>>,
 ) -> Option<S::Num>
-    ensures goes { Goes (S.run calc.old) (S.run calc.new) }
-    ensures value { (e : Reading) → IsTrue ((S.run calc.new).is_open e) → option_at S.at result e
-        ≡ widest most_of None (parts_at S.at pieces.entry.pieces.now pieces.entry.marks.now e) }
-    ensures cause { Blames (S.run calc.old) (S.run calc.new)
-        ((e : Reading) → IsTrue ((S.run calc.old).is_open e)
-        → IsHalf (mosts (sizes_at S.at pieces.entry.pieces.now e))) }
+    ensures { Lays S.run calc.old calc.new (option_at S.at result)
+        (λ e. widest most_of None (parts_at S.at pieces.entry.pieces.now pieces.entry.marks.now e))
+        (λ e. IsHalf (mosts (sizes_at S.at pieces.entry.pieces.now e))) }
 {
     let mut rest = pieces;
     let mut best = None;

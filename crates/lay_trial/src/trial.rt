@@ -1,8 +1,8 @@
 //! Floats that are tried, one after another, where they might stand, in units of 1/64 px (CSS 2.1, 9.5.1).
-ghost use Rattle.std.specs.Prelude.{◌≡◌, ◌+ℤ◌, ◌∷◌, [], ◌++◌, ⊤, IsTrue, int_lt};
+ghost use Rattle.std.specs.Prelude.{◌+ℤ◌, ◌∷◌, [], ◌++◌, ⊤, int_lt};
 ghost use Rattle.std.specs.Option.{option_to_list};
-ghost use Rattle.viz_calc.specs.World.{Reading};
-ghost use Rattle.viz_calc.specs.Run.{Goes, Blames, BlamesButMem, Fits};
+ghost use Rattle.viz_calc.specs.State.{AllSmall};
+ghost use Rattle.viz_calc.specs.Run.{Lays, LaysButMem};
 ghost use Rattle.viz_calc.specs.Renderings.{spot_at};
 ghost use Rattle.layout_semantics.specs.Floats.{placed_float, float_spot, with_float_at};
 ghost use Rattle.lay_float.specs.Limits.{AreHalf};
@@ -41,10 +41,10 @@ pub struct Coming<'a, N> {
 
 /// The same float again.
 fn again<S: Steady>(calc: &mut S, f: &PlacedFloat<S::Num>) -> PlacedFloat<S::Num>
-    ensures goes { Goes (S.run calc.old) (S.run calc.new) }
-    ensures value { (e : Reading) → IsTrue ((S.run calc.new).is_open e) → box_at S.at result e ≡ box_at S.at f.now e }
-    ensures cause { Blames (S.run calc.old) (S.run calc.new) (Fits (S.run calc.old) (λ e.
-        S.at f.now.outer.left e ∷ S.at f.now.outer.top e ∷ S.at f.now.outer.right e ∷ S.at f.now.outer.bottom e ∷ [])) }
+    ensures { Lays S.run calc.old calc.new (box_at S.at result) (box_at S.at f.now)
+        (λ e. AllSmall
+        (S.at f.now.outer.left e ∷ S.at f.now.outer.top e ∷ S.at f.now.outer.right e ∷ S.at f.now.outer.bottom e
+        ∷ [])) }
 {
     let left = calc.copy(&f.outer.left);
     let top = calc.copy(&f.outer.top);
@@ -63,10 +63,8 @@ fn again<S: Steady>(calc: &mut S, f: &PlacedFloat<S::Num>) -> PlacedFloat<S::Num
 
 /// Puts a float behind others.
 fn put<S: Steady>(calc: &mut S, floats: &mut Floats<S::Num>, placed: PlacedFloat<S::Num>)
-    ensures goes { Goes (S.run calc.old) (S.run calc.new) }
-    ensures value { (e : Reading) → IsTrue ((S.run calc.new).is_open e) → floats.new.placed
-        ≡ floats.old.placed ++ placed ∷ [] }
-    ensures cause { BlamesButMem (S.run calc.old) (S.run calc.new) ⊤ }
+    ensures { LaysButMem S.run calc.old calc.new (λ e. floats.new.placed) (λ e. floats.old.placed ++ placed ∷ [])
+        (λ e. ⊤) }
 {
     match floats.placed.push(placed) {
         Ok(()) => {}
@@ -76,21 +74,19 @@ fn put<S: Steady>(calc: &mut S, floats: &mut Floats<S::Num>, placed: PlacedFloat
 
 /// Whether a float ends below a level.
 fn reaches<S: Steady>(calc: &mut S, f: &PlacedFloat<S::Num>, level: &S::Num) -> bool
-    ensures goes { Goes (S.run calc.old) (S.run calc.new) }
-    ensures value { (e : Reading) → IsTrue ((S.run calc.new).is_open e) → result
-        ≡ int_lt (S.at level.now e) (box_at S.at f.now e).box.bottom }
-    ensures cause { Blames (S.run calc.old) (S.run calc.new) ⊤ }
+    ensures { Lays S.run calc.old calc.new (λ e. result)
+        (λ e. int_lt (S.at level.now e) (box_at S.at f.now e).box.bottom) (λ e. ⊤) }
 {
     !calc.le(&f.outer.bottom, level)
 }
 
 /// Puts a float behind others, if it ends below a level.
 fn keep<S: Steady>(calc: &mut S, f: &PlacedFloat<S::Num>, level: &S::Num, out: &mut Floats<S::Num>)
-    ensures goes { Goes (S.run calc.old) (S.run calc.new) }
-    ensures value { (e : Reading) → IsTrue ((S.run calc.new).is_open e) → floats_at S.at out.new e
-        ≡ floats_at S.at out.old e ++ reaching (S.at level.now e) (box_at S.at f.now e ∷ []) }
-    ensures cause { BlamesButMem (S.run calc.old) (S.run calc.new) (Fits (S.run calc.old) (λ e.
-        S.at f.now.outer.left e ∷ S.at f.now.outer.top e ∷ S.at f.now.outer.right e ∷ S.at f.now.outer.bottom e ∷ [])) }
+    ensures { LaysButMem S.run calc.old calc.new (floats_at S.at out.new)
+        (λ e. floats_at S.at out.old e ++ reaching (S.at level.now e) (box_at S.at f.now e ∷ []))
+        (λ e. AllSmall
+        (S.at f.now.outer.left e ∷ S.at f.now.outer.top e ∷ S.at f.now.outer.right e ∷ S.at f.now.outer.bottom e
+        ∷ [])) }
 {
     if reaches(calc, f, level) {
         let copied = again(calc, f);
@@ -105,11 +101,9 @@ fn still_open<S: Steady>(
     floats: &[PlacedFloat<S::Num>],
     level: &S::Num,
 ) -> Floats<S::Num>
-    ensures goes { Goes (S.run calc.old) (S.run calc.new) }
-    ensures value { (e : Reading) → IsTrue ((S.run calc.new).is_open e) → floats_at S.at result e
-        ≡ reaching (S.at level.now e) (boxes_at S.at floats.now e) }
-    ensures cause { BlamesButMem (S.run calc.old) (S.run calc.new) ((e : Reading)
-        → IsTrue ((S.run calc.old).is_open e) → AreHalf (boxes_at S.at floats.now e) []) }
+    ensures { LaysButMem S.run calc.old calc.new (floats_at S.at result)
+        (λ e. reaching (S.at level.now e) (boxes_at S.at floats.now e))
+        (λ e. AreHalf (boxes_at S.at floats.now e) []) }
 {
     let mut out = Floats::new(alloc);
     for f in floats {
@@ -126,13 +120,12 @@ fn spot_among<S: Steady>(
     least: Option<&S::Num>,
     y: &S::Num,
 ) -> Spot<S::Num>
-    ensures goes { Goes (S.run calc.old) (S.run calc.new) }
-    ensures value { (e : Reading) → IsTrue ((S.run calc.new).is_open e) → spot_at S.at result e
-        ≡ float_spot (coming_at S.at f.now e) (boxes_at S.at floats.now e) (lent_at S.at least.entry e)
-        (S.at y.now e) }
-    ensures cause { BlamesButMem (S.run calc.old) (S.run calc.new) ((e : Reading) → IsTrue ((S.run calc.old).is_open e)
-        → AreHalf (boxes_at S.at floats.now e) (S.at f.now.size.now.width e ∷ S.at f.now.cb.now.left e
-        ∷ S.at f.now.cb.now.right e ∷ S.at y.now e ∷ option_to_list (lent_at S.at least.entry e))) }
+    ensures { LaysButMem S.run calc.old calc.new (spot_at S.at result)
+        (λ e. float_spot (coming_at S.at f.now e) (boxes_at S.at floats.now e) (lent_at S.at least.entry e)
+        (S.at y.now e))
+        (λ e. AreHalf (boxes_at S.at floats.now e)
+        (S.at f.now.size.now.width e ∷ S.at f.now.cb.now.left e ∷ S.at f.now.cb.now.right e ∷ S.at y.now e
+        ∷ option_to_list (lent_at S.at least.entry e))) }
 {
     let top = float_top(calc, floats, f.clear, least, y);
     float_at(calc, floats, f.side, f.size, f.cb, &top)
@@ -144,12 +137,11 @@ fn outer_box<S: Steady>(
     f: &Coming<'_, S::Num>,
     spot: &Spot<S::Num>,
 ) -> PlacedFloat<S::Num>
-    ensures goes { Goes (S.run calc.old) (S.run calc.new) }
-    ensures value { (e : Reading) → IsTrue ((S.run calc.new).is_open e) → box_at S.at result e
-        ≡ placed_float f.now.side (extent_at S.at f.now.size.now e) (spot_at S.at spot.now e) }
-    ensures cause { Blames (S.run calc.old) (S.run calc.new) (Fits (S.run calc.old) (λ e.
-        S.at spot.now.x e ∷ S.at spot.now.y e ∷ (S.at spot.now.x e +ℤ S.at f.now.size.now.width e) ∷
-        (S.at spot.now.y e +ℤ S.at f.now.size.now.height e) ∷ [])) }
+    ensures { Lays S.run calc.old calc.new (box_at S.at result)
+        (λ e. placed_float f.now.side (extent_at S.at f.now.size.now e) (spot_at S.at spot.now e))
+        (λ e. AllSmall
+        (S.at spot.now.x e ∷ S.at spot.now.y e ∷ (S.at spot.now.x e +ℤ S.at f.now.size.now.width e)
+        ∷ (S.at spot.now.y e +ℤ S.at f.now.size.now.height e) ∷ [])) }
 {
     let left = calc.copy(&spot.x);
     let top = calc.copy(&spot.y);
@@ -173,12 +165,11 @@ fn add<S: Steady>(
     spot: &Spot<S::Num>,
     floats: &mut Floats<S::Num>,
 )
-    ensures goes { Goes (S.run calc.old) (S.run calc.new) }
-    ensures value { (e : Reading) → IsTrue ((S.run calc.new).is_open e) → floats_at S.at floats.new e
-        ≡ with_float_at (coming_at S.at f.now e) (floats_at S.at floats.old e) (spot_at S.at spot.now e) }
-    ensures cause { BlamesButMem (S.run calc.old) (S.run calc.new) (Fits (S.run calc.old) (λ e.
-        S.at spot.now.x e ∷ S.at spot.now.y e ∷ (S.at spot.now.x e +ℤ S.at f.now.size.now.width e) ∷
-        (S.at spot.now.y e +ℤ S.at f.now.size.now.height e) ∷ [])) }
+    ensures { LaysButMem S.run calc.old calc.new (floats_at S.at floats.new)
+        (λ e. with_float_at (coming_at S.at f.now e) (floats_at S.at floats.old e) (spot_at S.at spot.now e))
+        (λ e. AllSmall
+        (S.at spot.now.x e ∷ S.at spot.now.y e ∷ (S.at spot.now.x e +ℤ S.at f.now.size.now.width e)
+        ∷ (S.at spot.now.y e +ℤ S.at f.now.size.now.height e) ∷ [])) }
 {
     let placed = outer_box(calc, f, spot);
     put(calc, floats, placed);
@@ -193,14 +184,12 @@ fn try_one<S: Steady>(
     all: Floats<S::Num>,
     near: Floats<S::Num>,
 ) -> Trial<S::Num>
-    ensures goes { Goes (S.run calc.old) (S.run calc.new) }
-    ensures value { (e : Reading) → IsTrue ((S.run calc.new).is_open e) → trial_at S.at result e
-        ≡ tried (coming_at S.at f.now e) (floats_at S.at all e) (floats_at S.at near e)
-        (lent_at S.at least.entry e) (S.at y.now e) }
-    ensures cause { BlamesButMem (S.run calc.old) (S.run calc.new) ((e : Reading) → IsTrue ((S.run calc.old).is_open e)
-        → AreHalf (floats_at S.at near e) (S.at f.now.size.now.width e ∷ S.at f.now.size.now.height e
-        ∷ S.at f.now.cb.now.left e ∷ S.at f.now.cb.now.right e ∷ S.at y.now e
-        ∷ option_to_list (lent_at S.at least.entry e))) }
+    ensures { LaysButMem S.run calc.old calc.new (trial_at S.at result)
+        (λ e. tried (coming_at S.at f.now e) (floats_at S.at all e) (floats_at S.at near e)
+        (lent_at S.at least.entry e) (S.at y.now e))
+        (λ e. AreHalf (floats_at S.at near e)
+        (S.at f.now.size.now.width e ∷ S.at f.now.size.now.height e ∷ S.at f.now.cb.now.left e
+        ∷ S.at f.now.cb.now.right e ∷ S.at y.now e ∷ option_to_list (lent_at S.at least.entry e))) }
 {
     let mut all = all;
     let mut near = near;
@@ -223,14 +212,12 @@ pub fn begin<S: Steady>(
     least: Option<&S::Num>,
     y: &S::Num,
 ) -> Trial<S::Num>
-    ensures goes { Goes (S.run calc.old) (S.run calc.new) }
-    ensures value { (e : Reading) → IsTrue ((S.run calc.new).is_open e) → trial_at S.at result e
-        ≡ first_tried (coming_at S.at f.now e) (boxes_at S.at floats.now e) (lent_at S.at least.entry e)
-        (S.at y.now e) }
-    ensures cause { BlamesButMem (S.run calc.old) (S.run calc.new) ((e : Reading) → IsTrue ((S.run calc.old).is_open e)
-        → AreHalf (boxes_at S.at floats.now e) (S.at f.now.size.now.width e ∷ S.at f.now.size.now.height e
-        ∷ S.at f.now.cb.now.left e ∷ S.at f.now.cb.now.right e ∷ S.at y.now e
-        ∷ option_to_list (lent_at S.at least.entry e))) }
+    ensures { LaysButMem S.run calc.old calc.new (trial_at S.at result)
+        (λ e. first_tried (coming_at S.at f.now e) (boxes_at S.at floats.now e) (lent_at S.at least.entry e)
+        (S.at y.now e))
+        (λ e. AreHalf (boxes_at S.at floats.now e)
+        (S.at f.now.size.now.width e ∷ S.at f.now.size.now.height e ∷ S.at f.now.cb.now.left e
+        ∷ S.at f.now.cb.now.right e ∷ S.at y.now e ∷ option_to_list (lent_at S.at least.entry e))) }
 {
     let all = copy(alloc, calc, floats);
     let near = copy(alloc, calc, floats);
@@ -245,13 +232,11 @@ pub fn go_on<S: Steady>(
     least: Option<&S::Num>,
     before: Trial<S::Num>,
 ) -> Trial<S::Num>
-    ensures goes { Goes (S.run calc.old) (S.run calc.new) }
-    ensures value { (e : Reading) → IsTrue ((S.run calc.new).is_open e) → trial_at S.at result e
-        ≡ next_tried (coming_at S.at f.now e) (lent_at S.at least.entry e) (trial_at S.at before e) }
-    ensures cause { BlamesButMem (S.run calc.old) (S.run calc.new) ((e : Reading) → IsTrue ((S.run calc.old).is_open e)
-        → AreHalf (floats_at S.at before.near e) (S.at f.now.size.now.width e ∷ S.at f.now.size.now.height e
-        ∷ S.at f.now.cb.now.left e ∷ S.at f.now.cb.now.right e ∷ S.at before.level e
-        ∷ option_to_list (lent_at S.at least.entry e))) }
+    ensures { LaysButMem S.run calc.old calc.new (trial_at S.at result)
+        (λ e. next_tried (coming_at S.at f.now e) (lent_at S.at least.entry e) (trial_at S.at before e))
+        (λ e. AreHalf (floats_at S.at before.near e)
+        (S.at f.now.size.now.width e ∷ S.at f.now.size.now.height e ∷ S.at f.now.cb.now.left e
+        ∷ S.at f.now.cb.now.right e ∷ S.at before.level e ∷ option_to_list (lent_at S.at least.entry e))) }
 {
     let Trial { all, near, level } = before;
     let near = still_open(alloc, calc, near.placed.as_slice(), &level);

@@ -3,7 +3,8 @@ ghost use Rattle.std.specs.Prelude.{◌≡◌, IsTrue};
 ghost use Rattle.viz_base.specs.declared.lengths.Length.TheVariants as of_length;
 ghost use Rattle.viz_base.specs.declared.styles.Style.{Style as StyleOf};
 ghost use Rattle.viz_calc.specs.World.{Reading};
-ghost use Rattle.viz_calc.specs.Run.{Stands, Goes, Fits, Blames};
+ghost use Rattle.viz_calc.specs.State.{AllSmall};
+ghost use Rattle.viz_calc.specs.Run.{Goes, Blames, Lays};
 ghost use Rattle.layout_semantics.specs.Lengths.{own};
 ghost use Rattle.layout_semantics.specs.Lengths.{margins as margins_at};
 ghost use Rattle.layout_semantics.specs.Horizontal.{terms_around, fixed_terms, block_terms, shrunk_terms, held_terms, placing_of};
@@ -34,13 +35,10 @@ fn fixed_block<S: Steady>(
     edges: Widths<S::Num>,
     width: S::Num,
 ) -> Widths<S::Num>
-    ensures goes { Goes (S.run calc.old) (S.run calc.new) }
-    ensures value { (e : Reading) → IsTrue ((S.run calc.new).is_open e)
-        → widths_at S.at result e ≡ fixed_around (is_automatic (margins_at tree.now b).left) (is_automatic
-        (margins_at tree.now b).right)
-        (around_of (widths_at S.at edges e) (S.at width e)) (S.at cb.now e) }
-    ensures cause { Blames (S.run calc.old) (S.run calc.new) ((e : Reading) → IsTrue ((S.run calc.old).is_open e)
-        → FixedBlockFits tree.now b (widths_at S.at edges e) (S.at cb.now e) (S.at width e)) }
+    ensures { Lays S.run calc.old calc.new (widths_at S.at result)
+        (λ e. fixed_around (is_automatic (margins_at tree.now b).left)
+        (is_automatic (margins_at tree.now b).right) (around_of (widths_at S.at edges e) (S.at width e))
+        (S.at cb.now e)) (λ e. FixedBlockFits tree.now b (widths_at S.at edges e) (S.at cb.now e) (S.at width e)) }
 {
     let margin = margins(tree, b);
     let terms = around(edges, width);
@@ -62,12 +60,9 @@ fn filling_block<S: Steady>(
     cb: &S::Num,
     edges: Widths<S::Num>,
 ) -> Widths<S::Num>
-    ensures goes { Goes (S.run calc.old) (S.run calc.new) }
-    ensures value { (e : Reading) → IsTrue ((S.run calc.new).is_open e)
-        → widths_at S.at result e ≡ filled_block tree.now e.world b (S.at cb.now e) (widths_at S.at edges e) }
-    ensures cause { Blames (S.run calc.old) (S.run calc.new)
-        ((e : Reading) → IsTrue ((S.run calc.old).is_open e)
-        → FillingFits tree.now e.world b (S.at cb.now e) (widths_at S.at edges e)) }
+    ensures { Lays S.run calc.old calc.new (widths_at S.at result)
+        (λ e. filled_block tree.now e.world b (S.at cb.now e) (widths_at S.at edges e))
+        (λ e. FillingFits tree.now e.world b (S.at cb.now e) (widths_at S.at edges e)) }
 {
     let width = room(calc, &edges, cb);
     match again(calc, tree, b, cb, &width) {
@@ -87,13 +82,11 @@ fn given_block<S: Steady>(
     cb: &S::Num,
     edges: Widths<S::Num>,
 ) -> Widths<S::Num>
-    ensures goes { Goes (S.run calc.old) (S.run calc.new) }
-    ensures value { (e : Reading) → IsTrue ((S.run calc.new).is_open e)
-        → widths_at S.at result e ≡ given_block tree.now e.world b (S.at cb.now e) (own tree.now b
-        (λ (s : StyleOf). s.width) of_length.Auto) (widths_at S.at edges e) }
-    ensures cause { Blames (S.run calc.old) (S.run calc.new) ((e : Reading) → IsTrue ((S.run calc.old).is_open e)
-        → GivenBlockFits tree.now e.world b (S.at cb.now e) (own tree.now b
-        (λ (s : StyleOf). s.width) of_length.Auto) (widths_at S.at edges e)) }
+    ensures { Lays S.run calc.old calc.new (widths_at S.at result)
+        (λ e. given_block tree.now e.world b (S.at cb.now e)
+        (own tree.now b (λ (s : StyleOf). s.width) of_length.Auto) (widths_at S.at edges e))
+        (λ e. GivenBlockFits tree.now e.world b (S.at cb.now e)
+        (own tree.now b (λ (s : StyleOf). s.width) of_length.Auto) (widths_at S.at edges e)) }
 {
     let width = used(calc, tree, &own_width(tree, b), cb);
     let width = held(calc, tree, b, cb, width);
@@ -102,12 +95,9 @@ fn given_block<S: Steady>(
 
 /// The terms of a block in normal flow (CSS 2.1, 10.3.3, 10.4).
 pub fn block<S: Steady>(calc: &mut S, tree: &BoxTree, b: u32, cb: &S::Num) -> Widths<S::Num>
-    ensures goes { Goes (S.run calc.old) (S.run calc.new) }
-    ensures value { (e : Reading) → IsTrue ((S.run calc.new).is_open e)
-        → widths_at S.at result e ≡ held_terms tree.now e.world b (S.at cb.now e) (block_terms tree.now e.world b
-        (S.at cb.now e)) }
-    ensures cause { Blames (S.run calc.old) (S.run calc.new)
-        ((e : Reading) → IsTrue ((S.run calc.old).is_open e) → BlockFits tree.now e.world b (S.at cb.now e)) }
+    ensures { Lays S.run calc.old calc.new (widths_at S.at result)
+        (λ e. held_terms tree.now e.world b (S.at cb.now e) (block_terms tree.now e.world b (S.at cb.now e)))
+        (λ e. BlockFits tree.now e.world b (S.at cb.now e)) }
 {
     let edges = edges(calc, tree, b, cb);
     if is_auto(&own_width(tree, b)) {
@@ -120,11 +110,9 @@ pub fn block<S: Steady>(calc: &mut S, tree: &BoxTree, b: u32, cb: &S::Num) -> Wi
 /// The width that fits: what is left, but no less than the preferred minimum and no more than the preferred width
 /// (CSS 2.1, 10.3.5). It first asks whether all of the preferred width is left.
 fn shrink_to_fit<S: Steady>(calc: &mut S, preferred: &Preferred<S::Num>, room: S::Num) -> S::Num
-    ensures goes { Goes (S.run calc.old) (S.run calc.new) }
-    ensures value { Stands (S.run calc.new) (S.at result)
-        (λ e. fit_of (preferred_at S.at preferred.now e) (S.at room e)) }
-    ensures cause { Blames (S.run calc.old) (S.run calc.new) (Fits (S.run calc.old)
-        (λ e. fit_way (preferred_at S.at preferred.now e))) }
+    ensures { Lays S.run calc.old calc.new (S.at result)
+        (λ e. fit_of (preferred_at S.at preferred.now e) (S.at room e))
+        (λ e. AllSmall (fit_way (preferred_at S.at preferred.now e))) }
 {
     let most = calc.copy(&preferred.most);
     if calc.le(&most, &room) {
@@ -146,15 +134,11 @@ fn shrunk_width<S: Steady>(
     preferred: &Preferred<S::Num>,
     edges: &Widths<S::Num>,
 ) -> S::Num
-    ensures goes { Goes (S.run calc.old) (S.run calc.new) }
-    ensures value { (e : Reading) → IsTrue ((S.run calc.new).is_open e) → S.at result e
-        ≡ fitted_by tree.now e.world (own tree.now b
-        (λ (s : StyleOf). s.width) of_length.Auto) (S.at cb.now e) (preferred_at S.at preferred.now e)
-        (widths_at S.at edges.now e) }
-    ensures cause { Blames (S.run calc.old) (S.run calc.new) ((e : Reading) → IsTrue ((S.run calc.old).is_open e)
-        → FittedFits tree.now e.world (own tree.now b
-        (λ (s : StyleOf). s.width) of_length.Auto) (S.at cb.now e) (preferred_at S.at preferred.now e)
-        (widths_at S.at edges.now e)) }
+    ensures { Lays S.run calc.old calc.new (S.at result)
+        (λ e. fitted_by tree.now e.world (own tree.now b (λ (s : StyleOf). s.width) of_length.Auto)
+        (S.at cb.now e) (preferred_at S.at preferred.now e) (widths_at S.at edges.now e))
+        (λ e. FittedFits tree.now e.world (own tree.now b (λ (s : StyleOf). s.width) of_length.Auto)
+        (S.at cb.now e) (preferred_at S.at preferred.now e) (widths_at S.at edges.now e)) }
 {
     match own_width(tree, b) {
         Length::Auto => {
@@ -198,14 +182,11 @@ fn replaced_between<S: Steady>(
     cb: &S::Num,
     edges: Widths<S::Num>,
 ) -> Widths<S::Num>
-    ensures goes { Goes (S.run calc.old) (S.run calc.new) }
-    ensures value { (e : Reading) → IsTrue ((S.run calc.new).is_open e) → widths_at S.at result e
-        ≡ fixed_around (is_automatic (margins_at tree.now b).left) (is_automatic (margins_at tree.now b).right)
+    ensures { Lays S.run calc.old calc.new (widths_at S.at result)
+        (λ e. fixed_around (is_automatic (margins_at tree.now b).left)
+        (is_automatic (margins_at tree.now b).right)
         (around_of (widths_at S.at edges e) (replaced_size tree.now e.world b (S.at cb.now e)).width)
-        (S.at cb.now e) }
-    ensures cause { Blames (S.run calc.old) (S.run calc.new)
-        ((e : Reading) → IsTrue ((S.run calc.old).is_open e)
-        → ReplacedBetweenFits tree.now e.world b (S.at cb.now e) (widths_at S.at edges e)) }
+        (S.at cb.now e)) (λ e. ReplacedBetweenFits tree.now e.world b (S.at cb.now e) (widths_at S.at edges e)) }
 {
     let width = replaced::width(calc, tree, b, cb);
     fixed_block(calc, tree, b, cb, edges, width)
@@ -218,13 +199,10 @@ pub fn replaced_block<S: Steady>(
     b: u32,
     cb: &S::Num,
 ) -> Widths<S::Num>
-    ensures goes { Goes (S.run calc.old) (S.run calc.new) }
-    ensures value { (e : Reading) → IsTrue ((S.run calc.new).is_open e) → widths_at S.at result e
-        ≡ fixed_terms tree.now e.world b (S.at cb.now e) (replaced_size tree.now e.world b
-        (S.at cb.now e)).width }
-    ensures cause { Blames (S.run calc.old) (S.run calc.new)
-        ((e : Reading) → IsTrue ((S.run calc.old).is_open e)
-        → ReplacedBlockFits tree.now e.world b (S.at cb.now e)) }
+    ensures { Lays S.run calc.old calc.new (widths_at S.at result)
+        (λ e. fixed_terms tree.now e.world b (S.at cb.now e)
+        (replaced_size tree.now e.world b (S.at cb.now e)).width)
+        (λ e. ReplacedBlockFits tree.now e.world b (S.at cb.now e)) }
 {
     let edges = edges(calc, tree, b, cb);
     replaced_between(calc, tree, b, cb, edges)
@@ -237,12 +215,10 @@ pub fn replaced_shrunk<S: Steady>(
     b: u32,
     cb: &S::Num,
 ) -> Widths<S::Num>
-    ensures goes { Goes (S.run calc.old) (S.run calc.new) }
-    ensures value { (e : Reading) → IsTrue ((S.run calc.new).is_open e) → widths_at S.at result e
-        ≡ terms_around tree.now e.world b (S.at cb.now e) (replaced_size tree.now e.world b
-        (S.at cb.now e)).width }
-    ensures cause { Blames (S.run calc.old) (S.run calc.new) ((e : Reading) → IsTrue ((S.run calc.old).is_open e)
-        → EdgesFit tree.now e.world b (S.at cb.now e) × ReplacedFits tree.now e.world b (S.at cb.now e)) }
+    ensures { Lays S.run calc.old calc.new (widths_at S.at result)
+        (λ e. terms_around tree.now e.world b (S.at cb.now e)
+        (replaced_size tree.now e.world b (S.at cb.now e)).width)
+        (λ e. EdgesFit tree.now e.world b (S.at cb.now e) × ReplacedFits tree.now e.world b (S.at cb.now e)) }
 {
     let edges = edges(calc, tree, b, cb);
     let width = replaced::width(calc, tree, b, cb);

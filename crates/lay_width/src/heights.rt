@@ -1,9 +1,8 @@
 //! Heights that are known before layout (CSS 2.1, 10.5).
-ghost use Rattle.std.specs.Prelude.{◌≡◌, pos, IsTrue, None, unwrap_or, [], ◌∷◌};
+ghost use Rattle.std.specs.Prelude.{◌≡◌, pos, None, unwrap_or, [], ◌∷◌};
 ghost use Rattle.viz_base.specs.declared.styles.Style.{Style as StyleOf};
-ghost use Rattle.viz_calc.specs.World.{Reading};
 ghost use Rattle.viz_calc.specs.State.{AllSmall};
-ghost use Rattle.viz_calc.specs.Run.{Stands, Goes, Blames};
+ghost use Rattle.viz_calc.specs.Run.{Lays};
 ghost use Rattle.layout_semantics.specs.Lengths.{own, maximum};
 ghost use Rattle.layout_semantics.specs.DefiniteHeights.{is_passed_over, container_to, definite_height_to};
 ghost use Rattle.layout_semantics.specs.DefiniteHeights.{height_around as height_in, own_height_around as own_height_in, least_height as least_of};
@@ -48,12 +47,9 @@ pub fn height_around<S: Steady>(
     around: &Option<S::Num>,
     length: &Length,
 ) -> Option<S::Num>
-    ensures goes { Goes (S.run calc.old) (S.run calc.new) }
-    ensures value { (e : Reading) → IsTrue ((S.run calc.new).is_open e)
-        → option_at S.at result e ≡ height_in tree.now e.world (option_at S.at around.now e) length.now }
-    ensures cause { Blames (S.run calc.old) (S.run calc.new)
-        ((e : Reading) → IsTrue ((S.run calc.old).is_open e)
-        → HeightFits tree.now e.world (option_at S.at around.now e) length.now) }
+    ensures { Lays S.run calc.old calc.new (option_at S.at result)
+        (λ e. height_in tree.now e.world (option_at S.at around.now e) length.now)
+        (λ e. HeightFits tree.now e.world (option_at S.at around.now e) length.now) }
 {
     match (length, around) {
         (Length::Auto, _) => None,
@@ -71,13 +67,11 @@ pub fn most_around<S: Steady>(
     around: &Option<S::Num>,
     b: u32,
 ) -> Option<S::Num>
-    ensures goes { Goes (S.run calc.old) (S.run calc.new) }
-    ensures value { (e : Reading) → IsTrue ((S.run calc.new).is_open e) → option_at S.at result e
-        ≡ maximum (height_in tree.now e.world (option_at S.at around.now e)) (own tree.now b
-        (λ (s : StyleOf). s.max_height) None) }
-    ensures cause { Blames (S.run calc.old) (S.run calc.new) ((e : Reading) → IsTrue ((S.run calc.old).is_open e)
-        → MostHeightFits tree.now e.world (option_at S.at around.now e) (own tree.now b
-        (λ (s : StyleOf). s.max_height) None)) }
+    ensures { Lays S.run calc.old calc.new (option_at S.at result)
+        (λ e. maximum (height_in tree.now e.world (option_at S.at around.now e))
+        (own tree.now b (λ (s : StyleOf). s.max_height) None))
+        (λ e. MostHeightFits tree.now e.world (option_at S.at around.now e)
+        (own tree.now b (λ (s : StyleOf). s.max_height) None)) }
 {
     match most_height(tree, b) {
         Some(most) => height_around(calc, tree, around, &most),
@@ -92,11 +86,10 @@ pub fn least_around<S: Steady>(
     around: &Option<S::Num>,
     b: u32,
 ) -> S::Num
-    ensures goes { Goes (S.run calc.old) (S.run calc.new) }
-    ensures value { Stands (S.run calc.new) (S.at result)
-        (λ e. unwrap_or (height_in tree.now e.world (option_at S.at around.now e) (least_of tree.now b)) (pos 0)) }
-    ensures cause { Blames (S.run calc.old) (S.run calc.new) ((e : Reading) → IsTrue ((S.run calc.old).is_open e)
-        → HeightFits tree.now e.world (option_at S.at around.now e) (least_of tree.now b) × AllSmall (pos 0 ∷ [])) }
+    ensures { Lays S.run calc.old calc.new (S.at result)
+        (λ e. unwrap_or (height_in tree.now e.world (option_at S.at around.now e) (least_of tree.now b)) (pos 0))
+        (λ e. HeightFits tree.now e.world (option_at S.at around.now e) (least_of tree.now b)
+        × AllSmall (pos 0 ∷ [])) }
 {
     match height_around(calc, tree, around, &least_height(tree, b)) {
         Some(least) => least,
@@ -111,12 +104,9 @@ pub fn own_height_around<S: Steady>(
     around: &Option<S::Num>,
     b: u32,
 ) -> Option<S::Num>
-    ensures goes { Goes (S.run calc.old) (S.run calc.new) }
-    ensures value { (e : Reading) → IsTrue ((S.run calc.new).is_open e)
-        → option_at S.at result e ≡ own_height_in tree.now e.world (option_at S.at around.now e) b }
-    ensures cause { Blames (S.run calc.old) (S.run calc.new)
-        ((e : Reading) → IsTrue ((S.run calc.old).is_open e)
-        → OwnHeightFits tree.now e.world (option_at S.at around.now e) b) }
+    ensures { Lays S.run calc.old calc.new (option_at S.at result)
+        (λ e. own_height_in tree.now e.world (option_at S.at around.now e) b)
+        (λ e. OwnHeightFits tree.now e.world (option_at S.at around.now e) b) }
 {
     match height_around(calc, tree, around, &own_height(tree, b)) {
         Some(height) => {
@@ -135,11 +125,8 @@ pub fn definite_height<S: Steady>(
     levels: u64,
     b: u32,
 ) -> Option<S::Num>
-    ensures goes { Goes (S.run calc.old) (S.run calc.new) }
-    ensures value { (e : Reading) → IsTrue ((S.run calc.new).is_open e)
-        → option_at S.at result e ≡ definite_height_to levels tree.now e.world b }
-    ensures cause { Blames (S.run calc.old) (S.run calc.new)
-        ((e : Reading) → IsTrue ((S.run calc.old).is_open e) → DefiniteFits_to levels tree.now e.world b) }
+    ensures { Lays S.run calc.old calc.new (option_at S.at result)
+        (λ e. definite_height_to levels tree.now e.world b) (λ e. DefiniteFits_to levels tree.now e.world b) }
 {
     if levels == 0 {
         return None;
@@ -155,11 +142,8 @@ pub fn definite_height<S: Steady>(
 
 /// The height that a box's own property gives, where that is definite.
 pub fn given_height<S: Steady>(calc: &mut S, tree: &BoxTree, b: u32) -> Option<S::Num>
-    ensures goes { Goes (S.run calc.old) (S.run calc.new) }
-    ensures value { (e : Reading) → IsTrue ((S.run calc.new).is_open e)
-        → option_at S.at result e ≡ given_height_of tree.now e.world b }
-    ensures cause { Blames (S.run calc.old) (S.run calc.new)
-        ((e : Reading) → IsTrue ((S.run calc.old).is_open e) → GivenFits tree.now e.world b) }
+    ensures { Lays S.run calc.old calc.new (option_at S.at result) (λ e. given_height_of tree.now e.world b)
+        (λ e. GivenFits tree.now e.world b) }
 {
     let around = definite_height(calc, tree, u64::from(b) + 1, b);
     height_around(calc, tree, &around, &own_height(tree, b))

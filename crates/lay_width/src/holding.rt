@@ -1,8 +1,7 @@
 //! Minimum and maximum widths (CSS 2.1, 10.4).
-ghost use Rattle.std.specs.Prelude.{◌≡◌, pos, IsTrue, None, unwrap_or, ⊤};
+ghost use Rattle.std.specs.Prelude.{pos, None, unwrap_or, ⊤};
 ghost use Rattle.viz_base.specs.declared.styles.Style.{Style as StyleOf};
-ghost use Rattle.viz_calc.specs.World.{Reading};
-ghost use Rattle.viz_calc.specs.Run.{Stands, Goes, Blames};
+ghost use Rattle.viz_calc.specs.Run.{Lays};
 ghost use Rattle.layout_semantics.specs.Lengths.{own};
 ghost use Rattle.layout_semantics.specs.Lengths.{used_unless_auto as unless_auto, used_if_absolute as if_absolute};
 ghost use Rattle.layout_laws.specs.Terms.{own_minimum};
@@ -24,11 +23,9 @@ pub fn used_unless_auto<S: Steady>(
     length: &Length,
     cb: &S::Num,
 ) -> Option<S::Num>
-    ensures goes { Goes (S.run calc.old) (S.run calc.new) }
-    ensures value { (e : Reading) → IsTrue ((S.run calc.new).is_open e)
-        → option_at S.at result e ≡ unless_auto tree.now e.world length.now (S.at cb.now e) }
-    ensures cause { Blames (S.run calc.old) (S.run calc.new)
-        ((e : Reading) → IsTrue ((S.run calc.old).is_open e) → UsedFits tree.now e.world length.now (S.at cb.now e)) }
+    ensures { Lays S.run calc.old calc.new (option_at S.at result)
+        (λ e. unless_auto tree.now e.world length.now (S.at cb.now e))
+        (λ e. UsedFits tree.now e.world length.now (S.at cb.now e)) }
 {
     match length {
         Length::Auto => None,
@@ -38,11 +35,8 @@ pub fn used_unless_auto<S: Steady>(
 
 /// A length, unless it is `auto` or a percentage.
 pub fn used_if_absolute<S: Steady>(calc: &mut S, tree: &BoxTree, length: &Length) -> Option<S::Num>
-    ensures goes { Goes (S.run calc.old) (S.run calc.new) }
-    ensures value { (e : Reading) → IsTrue ((S.run calc.new).is_open e)
-        → option_at S.at result e ≡ if_absolute tree.now e.world length.now }
-    ensures cause { Blames (S.run calc.old) (S.run calc.new)
-        ((e : Reading) → IsTrue ((S.run calc.old).is_open e) → UsedFits tree.now e.world length.now (pos 0)) }
+    ensures { Lays S.run calc.old calc.new (option_at S.at result) (λ e. if_absolute tree.now e.world length.now)
+        (λ e. UsedFits tree.now e.world length.now (pos 0)) }
 {
     match length {
         Length::Px(units) => Some(pixels(calc, *units)),
@@ -53,11 +47,9 @@ pub fn used_if_absolute<S: Steady>(calc: &mut S, tree: &BoxTree, length: &Length
 
 /// The maximum width of a box, where it has one; percentages are of `cb`.
 pub fn own_maximum<S: Steady>(calc: &mut S, tree: &BoxTree, b: u32, cb: &S::Num) -> Option<S::Num>
-    ensures goes { Goes (S.run calc.old) (S.run calc.new) }
-    ensures value { (e : Reading) → IsTrue ((S.run calc.new).is_open e)
-        → option_at S.at result e ≡ maximum_of tree.now e.world b (S.at cb.now e) }
-    ensures cause { Blames (S.run calc.old) (S.run calc.new) ((e : Reading) → IsTrue ((S.run calc.old).is_open e)
-        → MostFits tree.now e.world (own tree.now b (λ (s : StyleOf). s.max_width) None) (S.at cb.now e)) }
+    ensures { Lays S.run calc.old calc.new (option_at S.at result)
+        (λ e. maximum_of tree.now e.world b (S.at cb.now e))
+        (λ e. MostFits tree.now e.world (own tree.now b (λ (s : StyleOf). s.max_width) None) (S.at cb.now e)) }
 {
     match own_most(tree, b) {
         Some(most) => used_unless_auto(calc, tree, &most, cb),
@@ -67,10 +59,8 @@ pub fn own_maximum<S: Steady>(calc: &mut S, tree: &BoxTree, b: u32, cb: &S::Num)
 
 /// The maximum, where the width is more.
 pub fn above<S: Steady>(calc: &mut S, most: Option<S::Num>, width: &S::Num) -> Option<S::Num>
-    ensures goes { Goes (S.run calc.old) (S.run calc.new) }
-    ensures value { (e : Reading) → IsTrue ((S.run calc.new).is_open e)
-        → option_at S.at result e ≡ above_of (option_at S.at most e) (S.at width.now e) }
-    ensures cause { Blames (S.run calc.old) (S.run calc.new) ⊤ }
+    ensures { Lays S.run calc.old calc.new (option_at S.at result)
+        (λ e. above_of (option_at S.at most e) (S.at width.now e)) (λ e. ⊤) }
 {
     match most {
         Some(most) => {
@@ -91,10 +81,8 @@ pub fn below<S: Steady>(
     width: &S::Num,
     most: Option<S::Num>,
 ) -> Option<S::Num>
-    ensures goes { Goes (S.run calc.old) (S.run calc.new) }
-    ensures value { (e : Reading) → IsTrue ((S.run calc.new).is_open e)
-        → option_at S.at result e ≡ below_of (S.at least e) (S.at width.now e) (option_at S.at most e) }
-    ensures cause { Blames (S.run calc.old) (S.run calc.new) ⊤ }
+    ensures { Lays S.run calc.old calc.new (option_at S.at result)
+        (λ e. below_of (S.at least e) (S.at width.now e) (option_at S.at most e)) (λ e. ⊤) }
 {
     match most {
         Some(most) => {
@@ -123,12 +111,10 @@ pub fn again<S: Steady>(
     cb: &S::Num,
     width: &S::Num,
 ) -> Option<S::Num>
-    ensures goes { Goes (S.run calc.old) (S.run calc.new) }
-    ensures value { (e : Reading) → IsTrue ((S.run calc.new).is_open e) → option_at S.at result e
-        ≡ again_of (maximum_of tree.now e.world b (S.at cb.now e)) (own_minimum tree.now e.world b (S.at cb.now e))
-        (S.at width.now e) }
-    ensures cause { Blames (S.run calc.old) (S.run calc.new)
-        ((e : Reading) → IsTrue ((S.run calc.old).is_open e) → HoldFits tree.now e.world b (S.at cb.now e)) }
+    ensures { Lays S.run calc.old calc.new (option_at S.at result)
+        (λ e. again_of (maximum_of tree.now e.world b (S.at cb.now e))
+        (own_minimum tree.now e.world b (S.at cb.now e)) (S.at width.now e))
+        (λ e. HoldFits tree.now e.world b (S.at cb.now e)) }
 {
     let most = own_maximum(calc, tree, b, cb);
     let most = above(calc, most, width);
@@ -138,12 +124,10 @@ pub fn again<S: Steady>(
 
 /// A width after the maximum and the minimum of a box.
 pub fn held<S: Steady>(calc: &mut S, tree: &BoxTree, b: u32, cb: &S::Num, width: S::Num) -> S::Num
-    ensures goes { Goes (S.run calc.old) (S.run calc.new) }
-    ensures value { Stands (S.run calc.new) (S.at result) (λ e. unwrap_or
+    ensures { Lays S.run calc.old calc.new (S.at result)
+        (λ e. unwrap_or
         (again_of (maximum_of tree.now e.world b (S.at cb.now e)) (own_minimum tree.now e.world b (S.at cb.now e))
-        (S.at width e)) (S.at width e)) }
-    ensures cause { Blames (S.run calc.old) (S.run calc.new)
-        ((e : Reading) → IsTrue ((S.run calc.old).is_open e) → HoldFits tree.now e.world b (S.at cb.now e)) }
+        (S.at width e)) (S.at width e)) (λ e. HoldFits tree.now e.world b (S.at cb.now e)) }
 {
     match again(calc, tree, b, cb, &width) {
         Some(other) => other,

@@ -2,7 +2,7 @@
 ghost use Rattle.std.specs.Prelude.{⊤};
 ghost use Rattle.std.specs.Int.{int_max, int_min};
 ghost use Rattle.std.specs.Option.{option_map_or};
-ghost use Rattle.viz_calc.specs.Run.{Stands, Goes, Blames};
+ghost use Rattle.viz_calc.specs.Run.{Lays};
 ghost use Rattle.layout_semantics.specs.Lengths.{held};
 ghost use Rattle.lay_width.specs.Readings.{option_at};
 
@@ -10,28 +10,22 @@ use viz_calc::Steady;
 
 /// The lesser of two numbers.
 pub fn lesser<S: Steady>(calc: &mut S, a: S::Num, b: S::Num) -> S::Num
-    ensures goes { Goes (S.run calc.old) (S.run calc.new) }
-    ensures value { Stands (S.run calc.new) (S.at result) (λ e. int_min (S.at a e) (S.at b e)) }
-    ensures cause { Blames (S.run calc.old) (S.run calc.new) ⊤ }
+    ensures { Lays S.run calc.old calc.new (S.at result) (λ e. int_min (S.at a e) (S.at b e)) (λ e. ⊤) }
 {
     if calc.le(&a, &b) { a } else { b }
 }
 
 /// The greater of two numbers.
 pub fn greater<S: Steady>(calc: &mut S, a: S::Num, b: S::Num) -> S::Num
-    ensures goes { Goes (S.run calc.old) (S.run calc.new) }
-    ensures value { Stands (S.run calc.new) (S.at result) (λ e. int_max (S.at a e) (S.at b e)) }
-    ensures cause { Blames (S.run calc.old) (S.run calc.new) ⊤ }
+    ensures { Lays S.run calc.old calc.new (S.at result) (λ e. int_max (S.at a e) (S.at b e)) (λ e. ⊤) }
 {
     if calc.le(&b, &a) { a } else { b }
 }
 
 /// A length that is above its maximum becomes that.
 pub fn no_more<S: Steady>(calc: &mut S, most: Option<S::Num>, length: S::Num) -> S::Num
-    ensures goes { Goes (S.run calc.old) (S.run calc.new) }
-    ensures value { Stands (S.run calc.new) (S.at result)
-        (λ e. option_map_or (int_min (S.at length e)) (option_at S.at most e) (S.at length e)) }
-    ensures cause { Blames (S.run calc.old) (S.run calc.new) ⊤ }
+    ensures { Lays S.run calc.old calc.new (S.at result)
+        (λ e. option_map_or (int_min (S.at length e)) (option_at S.at most e) (S.at length e)) (λ e. ⊤) }
 {
     match most {
         Some(most) => lesser(calc, length, most),
@@ -41,10 +35,8 @@ pub fn no_more<S: Steady>(calc: &mut S, most: Option<S::Num>, length: S::Num) ->
 
 /// A length after its maximum and then its minimum (CSS 2.1, 10.4, 10.7).
 pub fn hold<S: Steady>(calc: &mut S, most: Option<S::Num>, least: S::Num, length: S::Num) -> S::Num
-    ensures goes { Goes (S.run calc.old) (S.run calc.new) }
-    ensures value { Stands (S.run calc.new) (S.at result)
-        (λ e. held (option_at S.at most e) (S.at least e) (S.at length e)) }
-    ensures cause { Blames (S.run calc.old) (S.run calc.new) ⊤ }
+    ensures { Lays S.run calc.old calc.new (S.at result)
+        (λ e. held (option_at S.at most e) (S.at least e) (S.at length e)) (λ e. ⊤) }
 {
     let length = no_more(calc, most, length);
     greater(calc, length, least)

@@ -1,10 +1,9 @@
 //! The seven horizontal terms of a box (CSS 2.1, 10.3.3).
-ghost use Rattle.std.specs.Prelude.{◌≡◌, pos, ◌-ℤ◌, int_le, true, IsTrue, [], ◌∷◌};
+ghost use Rattle.std.specs.Prelude.{◌≡◌, pos, ◌-ℤ◌, int_le, true, [], ◌∷◌};
 ghost use Rattle.std.specs.Int.{int_max};
 ghost use Rattle.viz_base.specs.Numbers.{floor_of};
-ghost use Rattle.viz_calc.specs.World.{Reading};
 ghost use Rattle.viz_calc.specs.State.{AllSmall};
-ghost use Rattle.viz_calc.specs.Run.{Stands, Goes, Fits, Blames};
+ghost use Rattle.viz_calc.specs.Run.{Lays};
 ghost use Rattle.layout_semantics.specs.Horizontal.{terms_around, sum_of};
 ghost use Rattle.layout_semantics.specs.Horizontal.{left_margin as left_margin_of};
 ghost use Rattle.lay_width.specs.Readings.{widths_at};
@@ -19,11 +18,9 @@ use viz_calc::Steady;
 /// The edges of a box around no content, automatic margins being 0; percentages are of `cb`, the width of
 /// the containing block (CSS 2.1, 8.3, 8.4).
 pub fn edges<S: Steady>(calc: &mut S, tree: &BoxTree, b: u32, cb: &S::Num) -> Widths<S::Num>
-    ensures goes { Goes (S.run calc.old) (S.run calc.new) }
-    ensures value { (e : Reading) → IsTrue ((S.run calc.new).is_open e)
-        → widths_at S.at result e ≡ terms_around tree.now e.world b (S.at cb.now e) (pos 0) }
-    ensures cause { Blames (S.run calc.old) (S.run calc.new)
-        ((e : Reading) → IsTrue ((S.run calc.old).is_open e) → EdgesFit tree.now e.world b (S.at cb.now e)) }
+    ensures { Lays S.run calc.old calc.new (widths_at S.at result)
+        (λ e. terms_around tree.now e.world b (S.at cb.now e) (pos 0))
+        (λ e. EdgesFit tree.now e.world b (S.at cb.now e)) }
 {
     let margin = margins(tree, b);
     let border = borders(tree, b);
@@ -55,10 +52,8 @@ pub fn around<N: Drop>(edges: Widths<N>, content: N) -> Widths<N>
 
 /// The sum of the seven terms.
 pub fn sum<S: Steady>(calc: &mut S, terms: &Widths<S::Num>) -> S::Num
-    ensures goes { Goes (S.run calc.old) (S.run calc.new) }
-    ensures value { Stands (S.run calc.new) (S.at result) (λ e. sum_of (widths_at S.at terms.now e)) }
-    ensures cause { Blames (S.run calc.old) (S.run calc.new) (Fits (S.run calc.old)
-        (λ e. sum_way (widths_at S.at terms.now e))) }
+    ensures { Lays S.run calc.old calc.new (S.at result) (λ e. sum_of (widths_at S.at terms.now e))
+        (λ e. AllSmall (sum_way (widths_at S.at terms.now e))) }
 {
     let right = calc.add(&terms.border_right, &terms.margin_right);
     let right = calc.add(&terms.padding_right, &right);
@@ -70,10 +65,8 @@ pub fn sum<S: Steady>(calc: &mut S, terms: &Widths<S::Num>) -> S::Num
 
 /// The greater of 0 and what `cb` leaves of a sum.
 fn left_over<S: Steady>(calc: &mut S, cb: &S::Num, sum: &S::Num) -> S::Num
-    ensures goes { Goes (S.run calc.old) (S.run calc.new) }
-    ensures value { Stands (S.run calc.new) (S.at result) (λ e. int_max (pos 0) (S.at cb.now e -ℤ S.at sum.now e)) }
-    ensures cause { Blames (S.run calc.old) (S.run calc.new) (Fits (S.run calc.old)
-        (λ e. pos 0 ∷ (S.at cb.now e -ℤ S.at sum.now e) ∷ [])) }
+    ensures { Lays S.run calc.old calc.new (S.at result) (λ e. int_max (pos 0) (S.at cb.now e -ℤ S.at sum.now e))
+        (λ e. AllSmall (pos 0 ∷ (S.at cb.now e -ℤ S.at sum.now e) ∷ [])) }
 {
     let none = zero(calc);
     let rest = calc.sub(cb, sum);
@@ -82,12 +75,10 @@ fn left_over<S: Steady>(calc: &mut S, cb: &S::Num, sum: &S::Num) -> S::Num
 
 /// What a containing block of width `cb` leaves between edges, and no less than 0.
 pub fn room<S: Steady>(calc: &mut S, edges: &Widths<S::Num>, cb: &S::Num) -> S::Num
-    ensures goes { Goes (S.run calc.old) (S.run calc.new) }
-    ensures value { Stands (S.run calc.new) (S.at result)
-        (λ e. room_between (widths_at S.at edges.now e) (S.at cb.now e)) }
-    ensures cause { Blames (S.run calc.old) (S.run calc.new) ((e : Reading) → IsTrue ((S.run calc.old).is_open e)
-        → AllSmall (sum_way (widths_at S.at edges.now e)) × AllSmall (room_way (widths_at S.at edges.now e)
-        (S.at cb.now e))) }
+    ensures { Lays S.run calc.old calc.new (S.at result)
+        (λ e. room_between (widths_at S.at edges.now e) (S.at cb.now e))
+        (λ e. AllSmall (sum_way (widths_at S.at edges.now e))
+        × AllSmall (room_way (widths_at S.at edges.now e) (S.at cb.now e))) }
 {
     let sum = sum(calc, edges);
     left_over(calc, cb, &sum)
@@ -95,10 +86,8 @@ pub fn room<S: Steady>(calc: &mut S, edges: &Widths<S::Num>, cb: &S::Num) -> S::
 
 /// The half of a number, rounded down.
 fn half<S: Steady>(calc: &mut S, whole: &S::Num) -> S::Num
-    ensures goes { Goes (S.run calc.old) (S.run calc.new) }
-    ensures value { Stands (S.run calc.new) (S.at result) (λ e. floor_of (S.at whole.now e) 2) }
-    ensures cause { Blames (S.run calc.old) (S.run calc.new) (Fits (S.run calc.old)
-        (λ e. floor_of (S.at whole.now e) 2 ∷ [])) }
+    ensures { Lays S.run calc.old calc.new (S.at result) (λ e. floor_of (S.at whole.now e) 2)
+        (λ e. AllSmall (floor_of (S.at whole.now e) 2 ∷ [])) }
 {
     calc.scale_floor(whole, 1, 2)
 }
@@ -106,12 +95,9 @@ fn half<S: Steady>(calc: &mut S, whole: &S::Num) -> S::Num
 /// The part of what is left over that an automatic left margin takes: half where the right one is automatic too,
 /// else all.
 fn share<S: Steady>(calc: &mut S, right_auto: bool, cb: &S::Num, sum: &S::Num) -> S::Num
-    ensures goes { Goes (S.run calc.old) (S.run calc.new) }
-    ensures value { Stands (S.run calc.new) (S.at result)
-        (λ e. left_margin_of true right_auto true (S.at cb.now e -ℤ S.at sum.now e) (pos 0)) }
-    ensures cause { Blames (S.run calc.old) (S.run calc.new)
-        (Fits (S.run calc.old) (λ e. (S.at cb.now e -ℤ S.at sum.now e) ∷ floor_of
-        (S.at cb.now e -ℤ S.at sum.now e) 2 ∷ [])) }
+    ensures { Lays S.run calc.old calc.new (S.at result)
+        (λ e. left_margin_of true right_auto true (S.at cb.now e -ℤ S.at sum.now e) (pos 0))
+        (λ e. AllSmall ((S.at cb.now e -ℤ S.at sum.now e) ∷ floor_of (S.at cb.now e -ℤ S.at sum.now e) 2 ∷ [])) }
 {
     let rest = calc.sub(cb, sum);
     if right_auto { half(calc, &rest) } else { rest }
@@ -127,12 +113,10 @@ fn left_margin<S: Steady>(
     cb: &S::Num,
     given: &S::Num,
 ) -> S::Num
-    ensures goes { Goes (S.run calc.old) (S.run calc.new) }
-    ensures value { Stands (S.run calc.new) (S.at result)
+    ensures { Lays S.run calc.old calc.new (S.at result)
         (λ e. left_margin_of left_auto right_auto (int_le (S.at sum.now e) (S.at cb.now e))
-        (S.at cb.now e -ℤ S.at sum.now e) (S.at given.now e)) }
-    ensures cause { Blames (S.run calc.old) (S.run calc.new) (Fits (S.run calc.old)
-        (λ e. left_way (S.at sum.now e) (S.at cb.now e) (S.at given.now e))) }
+        (S.at cb.now e -ℤ S.at sum.now e) (S.at given.now e))
+        (λ e. AllSmall (left_way (S.at sum.now e) (S.at cb.now e) (S.at given.now e))) }
 {
     if !left_auto {
         return calc.copy(given);
@@ -152,12 +136,9 @@ fn with_left<S: Steady>(
     sum: &S::Num,
     left: S::Num,
 ) -> Widths<S::Num>
-    ensures goes { Goes (S.run calc.old) (S.run calc.new) }
-    ensures value { (e : Reading) → IsTrue ((S.run calc.new).is_open e)
-        → widths_at S.at result e ≡ with_left (widths_at S.at terms e) (S.at cb.now e) (S.at sum.now e) (S.at left e) }
-    ensures cause { Blames (S.run calc.old) (S.run calc.new)
-        (Fits (S.run calc.old) (λ e. right_way (widths_at S.at terms e) (S.at cb.now e) (S.at sum.now e)
-        (S.at left e))) }
+    ensures { Lays S.run calc.old calc.new (widths_at S.at result)
+        (λ e. with_left (widths_at S.at terms e) (S.at cb.now e) (S.at sum.now e) (S.at left e))
+        (λ e. AllSmall (right_way (widths_at S.at terms e) (S.at cb.now e) (S.at sum.now e) (S.at left e))) }
 {
     let inside = calc.sub(sum, &terms.margin_left);
     let inside = calc.sub(&inside, &terms.margin_right);
@@ -178,11 +159,9 @@ pub fn fixed<S: Steady>(
     terms: Widths<S::Num>,
     cb: &S::Num,
 ) -> Widths<S::Num>
-    ensures goes { Goes (S.run calc.old) (S.run calc.new) }
-    ensures value { (e : Reading) → IsTrue ((S.run calc.new).is_open e)
-        → widths_at S.at result e ≡ fixed_around left_auto right_auto (widths_at S.at terms e) (S.at cb.now e) }
-    ensures cause { Blames (S.run calc.old) (S.run calc.new) ((e : Reading) → IsTrue ((S.run calc.old).is_open e)
-        → FixedFits left_auto right_auto (widths_at S.at terms e) (S.at cb.now e)) }
+    ensures { Lays S.run calc.old calc.new (widths_at S.at result)
+        (λ e. fixed_around left_auto right_auto (widths_at S.at terms e) (S.at cb.now e))
+        (λ e. FixedFits left_auto right_auto (widths_at S.at terms e) (S.at cb.now e)) }
 {
     let sum = sum(calc, &terms);
     let left = left_margin(calc, left_auto, right_auto, &sum, cb, &terms.margin_left);

@@ -46,6 +46,23 @@ pub record BlamesButMem (old new : Run) (fits : Type 0) : Type 0 where
   pub coeff : fits → new.halt ≡ Some Coeff → (old.halt ≡ Some Coeff) ⊎ Rose old.coeffs new.coeffs
   pub opens : new.halt ≡ Some Open → (old.halt ≡ Some Open) ⊎ Rose old.opens new.opens
 
+-- what a function of the engine keeps to: the run goes on; at each reading that stays open what is given
+-- is what is meant; and a halt has one of the causes that there are where all this fits
+abbrev pub Lays : {C T : Type 0} → (C → Run) → C → C → (Reading → T) → (Reading → T) → (Reading → Type 0) → Type 0
+Lays run old new given meant fits = record {
+  goes : Goes (run old) (run new);
+  value : (e : Reading) → IsTrue ((run new).is_open e) → given e ≡ meant e;
+  cause : Blames (run old) (run new) ((e : Reading) → IsTrue ((run old).is_open e) → fits e);
+}
+
+-- the same, where memory may run out at any time
+abbrev pub LaysButMem : {C T : Type 0} → (C → Run) → C → C → (Reading → T) → (Reading → T) → (Reading → Type 0) → Type 0
+LaysButMem run old new given meant fits = record {
+  goes : Goes (run old) (run new);
+  value : (e : Reading) → IsTrue ((run new).is_open e) → given e ≡ meant e;
+  cause : BlamesButMem (run old) (run new) ((e : Reading) → IsTrue ((run old).is_open e) → fits e);
+}
+
 -- what holds unless there was a halt
 abbrev pub unless : Option Halt → Bool → Bool
 unless None b = b

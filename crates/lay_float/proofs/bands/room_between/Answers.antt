@@ -1,5 +1,6 @@
 use Rattle.std.proofs.Common.{◌∙◌, arith}
 use Rattle.std.specs.Prelude.{⊤}
+use Rattle.viz_calc.proofs.Blamed.{Blames-given}
 use Rattle.viz_calc.proofs.Runs.{Goes-then, Blames-then}
 use Rattle.lay_float.specs.Readings.{box_at, boxes_at}
 use Rattle.lay_float.specs.steps.Bands.{room_from}
@@ -18,12 +19,16 @@ loop-f-preserved g c =
           (room_at at c.loop-f.room e) (room_at at c.room_beside-room.result e) c.loop-f-test.true c.f-item.is
           (room-step (at c.args.y.now e) (at c.args.end.now e) (box_at at c.f-item.result e) _ _ _ (c.room_beside-room.ensures.value e o))
           ∙ c.loop-f.invariant.value e (c.room_beside-room.ensures.goes.closes e o);
-      cause = Blames-then (run c.args.calc.now) (run c.loop-f.calc) (run c.room_beside-room.new.calc) ⊤ ⊤ c.loop-f.invariant.goes c.room_beside-room.ensures.goes c.loop-f.invariant.cause (λ t. t) c.room_beside-room.ensures.cause;
+      cause = Blames-then (run c.args.calc.now) (run c.loop-f.calc) (run c.room_beside-room.new.calc) _ ⊤ c.loop-f.invariant.goes c.room_beside-room.ensures.goes c.loop-f.invariant.cause (λ t e o. tt) c.room_beside-room.ensures.cause;
     }
 
-pub returns-clause-value : goal.returns-clause-value
-returns-clause-value g c = λ e o.
-    let at = g.S.Steady.at in
-    room-end (at c.args.y.now e) (at c.args.end.now e) (room_at at c.loop-f.room e)
-    ∙ ends (λ fs s. room_from (at c.args.y.now e) (at c.args.end.now e) (boxes_at at fs e) s) c.args.floats.now c.loop-f.f-index (room_at at c.loop-f.room e) (omega arith)
-    ∙ c.loop-f.invariant.value e o
+pub returns : goal.returns
+returns g c = record {
+  goes = c.loop-f.invariant.goes;
+  value = λ e o.
+      let at = g.S.Steady.at in
+      room-end (at c.args.y.now e) (at c.args.end.now e) (room_at at c.loop-f.room e)
+      ∙ ends (λ fs s. room_from (at c.args.y.now e) (at c.args.end.now e) (boxes_at at fs e) s) c.args.floats.now c.loop-f.f-index (room_at at c.loop-f.room e) (omega arith)
+      ∙ c.loop-f.invariant.value e o;
+  cause = Blames-given _ _ _ _ (λ f. tt) c.loop-f.invariant.cause;
+}

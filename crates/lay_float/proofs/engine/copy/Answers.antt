@@ -1,4 +1,5 @@
 use Rattle.std.proofs.Common.{◌∙◌, sym, arith}
+use Rattle.std.proofs.lemmas.Grind.{common_steps}
 use Rattle.std.specs.Prelude.{⊤}
 use Rattle.viz_calc.proofs.Runs.{Goes-then, BlamesButMem-then}
 use Rattle.layout_laws.proofs.Members.{to_map}
@@ -28,7 +29,11 @@ loop-f-preserved g c =
           BlamesButMem-then (run c.args.calc.now) (run c.copy_float-copied.new.calc) (run c.append.new.calc) ⊤ _ goes c.append.ensures.goes first (λ _. tt) c.append.ensures.cause;
     }
 
-pub returns-clause-value : goal.returns-clause-value
-returns-clause-value g c = λ e o.
-    let at = g.S.Steady.at in
-    all-copied (λ f. box_at at f e) c.loop-f.out.placed c.args.floats.now c.loop-f.f-index (omega arith) ∙ c.loop-f.invariant.value e o
+pub returns : goal.returns
+returns g c = record {
+  goes = grind (arith, common_steps);
+  value = λ e o.
+      let at = g.S.Steady.at in
+      all-copied (λ f. box_at at f e) c.loop-f.out.placed c.args.floats.now c.loop-f.f-index (omega arith) ∙ c.loop-f.invariant.value e o;
+  cause = grind (arith, common_steps);
+}

@@ -1,5 +1,6 @@
 use Rattle.std.proofs.Common.{◌+◌, ◌∙◌, arith, map, drop}
 use Rattle.std.specs.Prelude.{⊤}
+use Rattle.viz_calc.proofs.Blamed.{Blames-given}
 use Rattle.viz_calc.proofs.Runs.{Goes-then, Blames-then}
 use Rattle.layout_semantics.specs.Floats.{FloatBox, highest_top}
 use Rattle.lay_float.specs.Readings.{boxes_at}
@@ -17,11 +18,15 @@ loop-f-preserved g c =
           (at c.loop-f.best.now e) (at c.larger-best.result.now e) c.loop-f-test.true c.f-item.is
           (greatest-step (at c.f-item.result.outer.top e) (map (λ (f : FloatBox). f.box.top) (boxes_at at (drop (c.loop-f.f-index + 1) c.args.floats.now) e)) (at c.loop-f.best.now e) (at c.larger-best.result.now e) (c.larger-best.ensures.value e o))
           ∙ c.loop-f.invariant.value e (c.larger-best.ensures.goes.closes e o);
-      cause = Blames-then (run c.args.calc.now) (run c.loop-f.calc) (run c.larger-best.new.calc) ⊤ ⊤ c.loop-f.invariant.goes c.larger-best.ensures.goes c.loop-f.invariant.cause (λ t. t) c.larger-best.ensures.cause;
+      cause = Blames-then (run c.args.calc.now) (run c.loop-f.calc) (run c.larger-best.new.calc) _ ⊤ c.loop-f.invariant.goes c.larger-best.ensures.goes c.loop-f.invariant.cause (λ t e o. tt) c.larger-best.ensures.cause;
     }
 
-pub returns-clause-value : goal.returns-clause-value
-returns-clause-value g c = λ e o.
-    let at = g.S.Steady.at in
-    ends (λ fs s. highest_top (boxes_at at fs e) s) c.args.floats.now c.loop-f.f-index (at c.loop-f.best.now e) (omega arith)
-    ∙ c.loop-f.invariant.value e o
+pub returns : goal.returns
+returns g c = record {
+  goes = c.loop-f.invariant.goes;
+  value = λ e o.
+      let at = g.S.Steady.at in
+      ends (λ fs s. highest_top (boxes_at at fs e) s) c.args.floats.now c.loop-f.f-index (at c.loop-f.best.now e) (omega arith)
+      ∙ c.loop-f.invariant.value e o;
+  cause = Blames-given _ _ _ _ (λ f. tt) c.loop-f.invariant.cause;
+}

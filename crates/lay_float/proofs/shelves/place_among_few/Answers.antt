@@ -1,5 +1,4 @@
 use Rattle.std.proofs.Common.{◌-◌, ◌+◌, length, ap, sym, ◌∙◌, arith}
-use Rattle.std.specs.Prelude.{⊤}
 use Rattle.viz_calc.proofs.Runs.{Goes-then, Blames-then}
 use Rattle.viz_calc.specs.Renderings.{band_at}
 use Rattle.lay_float.specs.Readings.{boxes_at}
@@ -33,8 +32,8 @@ loop-passed-preserved g c =
           let here = FitsAnywhere (run c.loop-passed.calc) at c.args.floats.now c.args.side c.args.cb.now c.args.width.now in
           let first = Blames-then (run c.args.calc.now) (run c.loop-passed.calc) (run c.stand.new.calc) here whole c.loop-passed.invariant.goes c.stand.ensures.goes c.loop-passed.invariant.cause
           (λ f e o. f e (c.loop-passed.invariant.goes.closes e o)) c.stand.ensures.cause in
-          Blames-then (run c.args.calc.now) (run c.stand.new.calc) (run c.next_top-y.new.calc) ⊤ whole (Goes-then _ _ _ c.loop-passed.invariant.goes c.stand.ensures.goes) c.next_top-y.ensures.goes first
-          (λ _. tt) c.next_top-y.ensures.cause;
+          Blames-then (run c.args.calc.now) (run c.stand.new.calc) (run c.next_top-y.new.calc) _ whole (Goes-then _ _ _ c.loop-passed.invariant.goes c.stand.ensures.goes) c.next_top-y.ensures.goes first
+          (λ f e o. tt) c.next_top-y.ensures.cause;
     }
 
 pub returns-clause-value : goal.returns-clause-value

@@ -1,5 +1,6 @@
 use Rattle.std.proofs.Common.{◌∙◌, arith}
 use Rattle.std.specs.Prelude.{⊤}
+use Rattle.viz_calc.proofs.Blamed.{Blames-given}
 use Rattle.viz_calc.proofs.Runs.{Goes-then, Blames-then}
 use Rattle.lay_float.specs.Readings.{box_at, boxes_at}
 use Rattle.lay_float.specs.steps.Lent.{lent_at}
@@ -18,12 +19,16 @@ loop-f-preserved g c =
           (lent_at at c.loop-f.best e) (lent_at at c.sooner-best.result e) c.loop-f-test.true c.f-item.is
           (soonest-step (at c.args.y.now e) (box_at at c.f-item.result e) _ _ _ (c.sooner-best.ensures.value e o))
           ∙ c.loop-f.invariant.value e (c.sooner-best.ensures.goes.closes e o);
-      cause = Blames-then (run c.args.calc.now) (run c.loop-f.calc) (run c.sooner-best.new.calc) ⊤ ⊤ c.loop-f.invariant.goes c.sooner-best.ensures.goes c.loop-f.invariant.cause (λ t. t) c.sooner-best.ensures.cause;
+      cause = Blames-then (run c.args.calc.now) (run c.loop-f.calc) (run c.sooner-best.new.calc) _ ⊤ c.loop-f.invariant.goes c.sooner-best.ensures.goes c.loop-f.invariant.cause (λ t e o. tt) c.sooner-best.ensures.cause;
     }
 
-pub returns-clause-value : goal.returns-clause-value
-returns-clause-value g c = λ e o.
-    let at = g.S.Steady.at in
-    soonest-end (at c.args.y.now e) (lent_at at c.loop-f.best e)
-    ∙ ends (λ fs s. soonest (at c.args.y.now e) (boxes_at at fs e) s) c.args.floats.now c.loop-f.f-index (lent_at at c.loop-f.best e) (omega arith)
-    ∙ c.loop-f.invariant.value e o
+pub returns : goal.returns
+returns g c = record {
+  goes = c.loop-f.invariant.goes;
+  value = λ e o.
+      let at = g.S.Steady.at in
+      soonest-end (at c.args.y.now e) (lent_at at c.loop-f.best e)
+      ∙ ends (λ fs s. soonest (at c.args.y.now e) (boxes_at at fs e) s) c.args.floats.now c.loop-f.f-index (lent_at at c.loop-f.best e) (omega arith)
+      ∙ c.loop-f.invariant.value e o;
+  cause = Blames-given _ _ _ _ (λ f. tt) c.loop-f.invariant.cause;
+}

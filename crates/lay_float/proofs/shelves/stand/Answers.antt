@@ -24,7 +24,7 @@ returns-then-is_free-clause-cause g c =
     let run = g.S.Steady.run in
     let on = c.shelf_on-shelf.ensures in
     Blames-then (run c.args.calc.now) (run c.shelf_on-shelf.new.calc) (run c.is_free.new.calc) _ (FitsAnywhere (run c.args.calc.now) at c.args.floats.now c.args.side c.args.cb.now c.args.width.now)
-    on.goes c.is_free.ensures.goes (Blames-given _ _ _ _ (λ f. tt) on.cause)
+    on.goes c.is_free.ensures.goes (Blames-given _ _ _ _ (λ f e o. tt) on.cause)
     (λ f e o. (
       subst (λ (s : Shelf). IsSmall (far_edge c.args.side s.edge (at c.args.width.now e))) (sym (on.value e o)) (f e (on.goes.closes e o) (at c.args.y.now e)),
       tt,
@@ -46,7 +46,7 @@ returns-else-is_free-clause-cause g c =
     let run = g.S.Steady.run in
     let on = c.shelf_on-shelf.ensures in
     Blames-then (run c.args.calc.now) (run c.shelf_on-shelf.new.calc) (run c.is_free.new.calc) _ (FitsAnywhere (run c.args.calc.now) at c.args.floats.now c.args.side c.args.cb.now c.args.width.now)
-    on.goes c.is_free.ensures.goes (Blames-given _ _ _ _ (λ f. tt) on.cause)
+    on.goes c.is_free.ensures.goes (Blames-given _ _ _ _ (λ f e o. tt) on.cause)
     (λ f e o. (
       subst (λ (s : Shelf). IsSmall (far_edge c.args.side s.edge (at c.args.width.now e))) (sym (on.value e o)) (f e (on.goes.closes e o) (at c.args.y.now e)),
       tt,

@@ -1,4 +1,5 @@
-use Rattle.std.proofs.Common.{◌^◌}
+use Rattle.std.proofs.Common.{◌^◌, arith}
+use Rattle.std.proofs.lemmas.Grind.{common_steps}
 use Rattle.viz_calc.specs.World.{Reading}
 use Rattle.viz_calc.specs.Renderings.{quad_at}
 use Rattle.lay_line.proofs.Chains.{start, next}
@@ -7,13 +8,18 @@ use Rattle.lay_flow.specs.Fits.{near}
 use Rattle.lay_flow.proofs.Sizes.{near-difference, quad-size}
 use Rattle.lay_flow.proofs.alone.outer_extent.Goals as goal
 
-pub returns-clause-cause : goal.returns-clause-cause
-returns-clause-cause g c =
+pub returns : goal.returns
+returns g c =
     let at = g.S.Steady.at in
     let q = c.args.placed.now.margin in
     let one = start {asks = λ (e : Reading). IsQuadIn near (quad_at at q e)} c.sub-width.ensures.goes c.sub-width.ensures.cause (λ f e o.
     let s = quad-size (2 ^ 95) (quad_at at q e) (f e o) in
     near-difference (at q.right e) (at q.left e) s.right s.left) in
-    (next one c.sub-height.ensures.goes c.sub-height.ensures.cause (λ f e o.
+    let chain = next one c.sub-height.ensures.goes c.sub-height.ensures.cause (λ f e o.
     let s = quad-size (2 ^ 95) (quad_at at q e) (f e o) in
-    near-difference (at q.bottom e) (at q.top e) s.bottom s.top)).cause
+    near-difference (at q.bottom e) (at q.top e) s.bottom s.top) in
+    record {
+      goes = chain.goes;
+      value = grind (arith, common_steps);
+      cause = chain.cause;
+    }

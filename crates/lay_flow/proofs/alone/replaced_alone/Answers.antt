@@ -1,4 +1,5 @@
 use Rattle.std.proofs.Common.{◌^◌, ℤ, sym, subst, arith}
+use Rattle.std.proofs.lemmas.Grind.{common_steps}
 use Rattle.viz_base.specs.declared.renderings.Placed.{Placed}
 use Rattle.viz_calc.specs.World.{Reading}
 use Rattle.layout_semantics.specs.Replaced.{replaced_size}
@@ -10,11 +11,13 @@ use Rattle.lay_flow.specs.Fits.{IsReplacedFit, near}
 use Rattle.lay_flow.specs.steps.Flow.{replaced_of}
 use Rattle.lay_flow.proofs.Framed.{margin-near}
 use Rattle.lay_flow.proofs.Sizes.{wider}
+use Rattle.lay_frame.proofs.Slots.{no_boxes}
+use Rattle.lay_flow.specs.steps.Flow.{replaced_alone}
 use Rattle.lay_flow.proofs.alone.replaced_alone.Goals as goal
 
-pub returns-clause-cause : goal.returns-clause-cause
-unfolding replaced_of
-returns-clause-cause g c =
+pub returns : goal.returns
+unfolding replaced_of replaced_alone
+returns g c =
     let at = g.S.Steady.at in
     let tree = c.args.page.now.tree.now in
     let b = c.args.b in
@@ -27,4 +30,9 @@ returns-clause-cause g c =
     let two = next_but_mem one size.goes (but_mem size.cause) (λ f e o.
     let a = f e o in
     subst (λ (p : Placed ℤ). IsQuadIn near p.margin) (sym (placed.value e o)) (margin-near (frame e) (tall e) a.1 (wider (2 ^ 90) (2 ^ 94) (tall e) a.0.tall (omega arith)) tree b)) in
-    (next_but_mem two c.append.ensures.goes c.append.ensures.cause (λ f. tt)).cause
+    let chain = next_but_mem two c.append.ensures.goes c.append.ensures.cause (λ f e o. tt) in
+    record {
+      goes = chain.goes;
+      value = grind (arith, common_steps, no_boxes);
+      cause = chain.cause;
+    }

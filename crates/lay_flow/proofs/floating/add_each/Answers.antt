@@ -50,5 +50,5 @@ loop-placed-preserved g c =
           one-moved at e (spot_at at c.args.by.now e) c.loop-placed.out.items c.append.new.out.items c.args.boxes.now c.loop-placed.placed-index c.placed-item.result c.shift_box-moved.result
           c.loop-placed-test.true c.placed-item.is (added.value e o) (moved.value e o1)
           ∙ c.loop-placed.invariant.value e (moved.goes.closes e o1);
-      cause = (next_but_mem one added.goes added.cause (λ f. tt)).cause;
+      cause = (next_but_mem one added.goes added.cause (λ f e o. tt)).cause;
     }

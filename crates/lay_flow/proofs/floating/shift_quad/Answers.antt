@@ -1,3 +1,5 @@
+use Rattle.std.proofs.Common.{arith}
+use Rattle.std.proofs.lemmas.Grind.{common_steps}
 use Rattle.viz_calc.specs.World.{Reading}
 use Rattle.viz_calc.specs.Renderings.{quad_at, spot_at}
 use Rattle.lay_line.proofs.Chains.{start, next}
@@ -7,8 +9,8 @@ use Rattle.lay_flow.specs.Fits.{IsSpotNear}
 use Rattle.lay_flow.proofs.Spots.{quad-moved}
 use Rattle.lay_flow.proofs.floating.shift_quad.Goals as goal
 
-pub returns-clause-cause : goal.returns-clause-cause
-returns-clause-cause g c =
+pub returns : goal.returns
+returns g c =
     let at = g.S.Steady.at in
     let by = (λ (e : Reading). spot_at at c.args.by.now e) in
     let quad = (λ (e : Reading). quad_at at c.args.quad.now e) in
@@ -17,4 +19,9 @@ returns-clause-cause g c =
     let one = start {asks = asks} c.add-left.ensures.goes c.add-left.ensures.cause (λ f e o. ((moved e (f e o)).0, tt)) in
     let two = next one c.add-top.ensures.goes c.add-top.ensures.cause (λ f e o. ((moved e (f e o)).1.0, tt)) in
     let three = next two c.add-right.ensures.goes c.add-right.ensures.cause (λ f e o. ((moved e (f e o)).1.1.0, tt)) in
-    (next three c.add-bottom.ensures.goes c.add-bottom.ensures.cause (λ f e o. (moved e (f e o)).1.1.1)).cause
+    let chain = next three c.add-bottom.ensures.goes c.add-bottom.ensures.cause (λ f e o. (moved e (f e o)).1.1.1) in
+    record {
+      goes = chain.goes;
+      value = grind (arith, common_steps);
+      cause = chain.cause;
+    }

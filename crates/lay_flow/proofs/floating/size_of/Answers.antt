@@ -1,4 +1,4 @@
-use Rattle.std.proofs.Common.{◌≡◌, subst, arith}
+use Rattle.std.proofs.Common.{◌≡◌, subst, sym, ◌∙◌, arith}
 use Rattle.std.proofs.lemmas.Grind.{common_steps}
 use Rattle.viz_calc.specs.World.{Reading}
 use Rattle.lay_float.specs.Readings.{extent_at}
@@ -10,25 +10,32 @@ use Rattle.lay_flow.proofs.Sizes.{zero-fits}
 use Rattle.lay_flow.proofs.floating.size_of.Goals.{in_default-via-in-Some+in_default, in_default-via-in_default}
 use Rattle.lay_flow.proofs.floating.size_of.Goals as goal
 
-pub returns-in-Some-Some-clause-cause : goal.returns-in-Some-Some-clause-cause
+pub returns-in-Some-Some : goal.returns-in-Some-Some
 unfolding apart_at
-returns-in-Some-Some-clause-cause g c =
+returns-in-Some-Some g c =
     let at = g.S.Steady.at in
     let alone = c.in-Some-Some.alone in
-    (start {asks = λ (e : Reading). IsExtentIn reach (apart_at at c.args.apart.now e c.args.at).size} c.copy_extent.ensures.goes c.copy_extent.ensures.cause (λ f e o.
-    let same : (apart_at at c.args.apart.now e c.args.at).size ≡ extent_at at alone.size e = grind (arith, common_steps) in
-    subst (IsExtentIn reach) same (f e o))).cause
+    let same : (e : Reading) → (apart_at at c.args.apart.now e c.args.at).size ≡ extent_at at alone.size e = λ e. grind (arith, common_steps) in
+    let copied = c.copy_extent.ensures in
+    let chain = start {asks = λ (e : Reading). IsExtentIn reach (apart_at at c.args.apart.now e c.args.at).size} copied.goes copied.cause (λ f e o. subst (IsExtentIn reach) (same e) (f e o)) in
+    record {
+      goes = chain.goes;
+      value = λ e o. copied.value e o ∙ sym (same e);
+      cause = chain.cause;
+    }
 
-pub returns-in_default-clause-value : goal.returns-in_default-clause-value
+pub returns-in_default : goal.returns-in_default
 unfolding apart_at
-returns-in_default-clause-value g c = λ e o.
-    elim c.in_default.branch [
-      | in_default-via-in-Some+in_default w ↦ grind (arith, common_steps)
-      | in_default-via-in_default w ↦ grind (arith, common_steps)
-    ]
-
-pub returns-in_default-clause-cause : goal.returns-in_default-clause-cause
-returns-in_default-clause-cause g c =
+returns-in_default g c =
     let at = g.S.Steady.at in
     let one = start {asks = λ (e : Reading). IsExtentIn reach (apart_at at c.args.apart.now e c.args.at).size} c.zero-width.ensures.goes c.zero-width.ensures.cause (λ f e o. zero-fits) in
-    (next one c.zero-height.ensures.goes c.zero-height.ensures.cause (λ f e o. zero-fits)).cause
+    let chain = next one c.zero-height.ensures.goes c.zero-height.ensures.cause (λ f e o. zero-fits) in
+    record {
+      goes = chain.goes;
+      value = λ e o.
+          elim c.in_default.branch [
+            | in_default-via-in-Some+in_default w ↦ grind (arith, common_steps)
+            | in_default-via-in_default w ↦ grind (arith, common_steps)
+          ];
+      cause = chain.cause;
+    }

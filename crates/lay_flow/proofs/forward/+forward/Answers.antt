@@ -21,69 +21,76 @@ use Rattle.lay_flow.proofs.WaysLow.{kids-on, way-decides, way-above, way-below, 
 use Rattle.lay_flow.proofs.forward.+forward.Goals.{forward-else-stops_at-via-else-stops_at, forward-else-stops_at-via-then-stops_at+in-None-1}
 use Rattle.lay_flow.proofs.forward.+forward.Goals as goal
 
-pub forward-returns-clause-value : goal.forward-returns-clause-value
-forward-returns-clause-value g t c = λ e o.
+pub forward-returns : goal.forward-returns
+forward-returns g t c =
     let at = g.S.Steady.at in
-    let is = one-step at c.args.way.now e (band_at at c.args.cb.now e) c.args.b (run_at at c.args.going.now.run e) (floats_at at c.args.going.now.waiting e) c.requires in
-    grind (arith, common_steps)
+    let way = c.args.way.now in
+    let cb = (λ (e : Reading). band_at at c.args.cb.now e) in
+    let run = (λ (e : Reading). run_at at c.args.going.now.run e) in
+    let waiting = (λ (e : Reading). floats_at at c.args.going.now.waiting e) in
+    let chain = start_but_mem {asks = λ (e : Reading). WayFitsAt at way e (cb e) c.args.b (run e) (waiting e)} c.decided.ensures.goes c.decided.ensures.cause
+    (λ f e o. way-decides (ground_at at way e) (way_at at way e) (cb e) c.args.b (run e) (waiting e) (f e o)) in
+    record {
+      goes = chain.goes;
+      value = λ e o.
+          let is = one-step at c.args.way.now e (band_at at c.args.cb.now e) c.args.b (run_at at c.args.going.now.run e) (floats_at at c.args.going.now.waiting e) c.requires in
+          grind (arith, common_steps);
+      cause = chain.cause;
+    }
 
-pub forward-returns-2-clause-value : goal.forward-returns-2-clause-value
-forward-returns-2-clause-value g t c = λ e o.
-    let at = g.S.Steady.at in
-    let is = one-step at c.args.way.now e (band_at at c.args.cb.now e) c.args.b (run_at at c.args.going.now.run e) (floats_at at c.args.going.now.waiting e) c.requires in
-    elim c.else-stops_at.branch [
-      | forward-else-stops_at-via-else-stops_at w ↦ grind (arith, common_steps)
-      | forward-else-stops_at-via-then-stops_at+in-None-1 w ↦ grind (arith, common_steps)
-    ]
+pub forward-returns-2 : goal.forward-returns-2
+forward-returns-2 g t c = record {
+  goes = grind (arith, common_steps);
+  value = λ e o.
+      let at = g.S.Steady.at in
+      let is = one-step at c.args.way.now e (band_at at c.args.cb.now e) c.args.b (run_at at c.args.going.now.run e) (floats_at at c.args.going.now.waiting e) c.requires in
+      elim c.else-stops_at.branch [
+        | forward-else-stops_at-via-else-stops_at w ↦ grind (arith, common_steps)
+        | forward-else-stops_at-via-then-stops_at+in-None-1 w ↦ grind (arith, common_steps)
+      ];
+  cause = elim c.else-stops_at.branch [
+    | forward-else-stops_at-via-else-stops_at w ↦
+        let at = g.S.Steady.at in
+        let run = g.S.Steady.run in
+        let same : c.else-stops_at.calc ≡ c.args.calc.now = grind arith in
+        subst (λ k. BlamesButMem (run k) (run c.inner.new.calc)
+        ((e : Reading) → IsTrue ((run k).is_open e) → WayFitsAt at c.args.way.now e (band_at at c.args.cb.now e) c.args.b (run_at at c.args.going.now.run e) (floats_at at c.args.going.now.waiting e)))
+        same c.inner.ensures.cause
+    | forward-else-stops_at-via-then-stops_at+in-None-1 w ↦
+        let at = g.S.Steady.at in
+        let way = c.args.way.now in
+        let cb = (λ (e : Reading). band_at at c.args.cb.now e) in
+        let run = (λ (e : Reading). run_at at c.args.going.now.run e) in
+        let waiting = (λ (e : Reading). floats_at at c.args.going.now.waiting e) in
+        let one = start_but_mem {asks = λ (e : Reading). WayFitsAt at way e (cb e) c.args.b (run e) (waiting e)} w.decided.ensures.goes w.decided.ensures.cause
+        (λ f e o. way-decides (ground_at at way e) (way_at at way e) (cb e) c.args.b (run e) (waiting e) (f e o)) in
+        let same : c.else-stops_at.calc ≡ w.decided.new.calc = grind arith in
+        let last = subst (λ k. Goes (g.S.Steady.run k) (g.S.Steady.run c.inner.new.calc)) same c.inner.ensures.goes in
+        let cause = subst (λ k. BlamesButMem (g.S.Steady.run k) (g.S.Steady.run c.inner.new.calc)
+        ((e : Reading) → IsTrue ((g.S.Steady.run k).is_open e) → WayFitsAt at way e (cb e) c.args.b (run e) (waiting e))) same c.inner.ensures.cause in
+        (next_but_mem one last cause (λ f. f)).cause
+  ];
+}
 
 -- ---- causes
 
-pub forward-returns-clause-cause : goal.forward-returns-clause-cause
-forward-returns-clause-cause g t c =
+pub inner-returns-then-not-enters : goal.inner-returns-then-not-enters
+inner-returns-then-not-enters g t c =
     let at = g.S.Steady.at in
     let way = c.args.way.now in
     let cb = (λ (e : Reading). band_at at c.args.cb.now e) in
     let run = (λ (e : Reading). run_at at c.args.going.now.run e) in
     let waiting = (λ (e : Reading). floats_at at c.args.going.now.waiting e) in
-    (start_but_mem {asks = λ (e : Reading). WayFitsAt at way e (cb e) c.args.b (run e) (waiting e)} c.decided.ensures.goes c.decided.ensures.cause
-    (λ f e o. way-decides (ground_at at way e) (way_at at way e) (cb e) c.args.b (run e) (waiting e) (f e o))).cause
+    let chain = start_but_mem {asks = λ (e : Reading). WayFitsAt at way e (cb e) c.args.b (run e) (waiting e)} c.join_top.ensures.goes (but_mem c.join_top.ensures.cause)
+    (λ f e o. way-above (ground_at at way e) (way_at at way e) (cb e) c.args.b (run e) (waiting e) (f e o)) in
+    record {
+      goes = chain.goes;
+      value = grind (arith, common_steps);
+      cause = chain.cause;
+    }
 
-pub forward-returns-2-clause-cause : goal.forward-returns-2-clause-cause
-forward-returns-2-clause-cause g t c = elim c.else-stops_at.branch [
-  | forward-else-stops_at-via-else-stops_at w ↦
-      let at = g.S.Steady.at in
-      let run = g.S.Steady.run in
-      let same : c.else-stops_at.calc ≡ c.args.calc.now = grind arith in
-      subst (λ k. BlamesButMem (run k) (run c.inner.new.calc)
-      ((e : Reading) → IsTrue ((run k).is_open e) → WayFitsAt at c.args.way.now e (band_at at c.args.cb.now e) c.args.b (run_at at c.args.going.now.run e) (floats_at at c.args.going.now.waiting e)))
-      same c.inner.ensures.cause
-  | forward-else-stops_at-via-then-stops_at+in-None-1 w ↦
-      let at = g.S.Steady.at in
-      let way = c.args.way.now in
-      let cb = (λ (e : Reading). band_at at c.args.cb.now e) in
-      let run = (λ (e : Reading). run_at at c.args.going.now.run e) in
-      let waiting = (λ (e : Reading). floats_at at c.args.going.now.waiting e) in
-      let one = start_but_mem {asks = λ (e : Reading). WayFitsAt at way e (cb e) c.args.b (run e) (waiting e)} w.decided.ensures.goes w.decided.ensures.cause
-      (λ f e o. way-decides (ground_at at way e) (way_at at way e) (cb e) c.args.b (run e) (waiting e) (f e o)) in
-      let same : c.else-stops_at.calc ≡ w.decided.new.calc = grind arith in
-      let last = subst (λ k. Goes (g.S.Steady.run k) (g.S.Steady.run c.inner.new.calc)) same c.inner.ensures.goes in
-      let cause = subst (λ k. BlamesButMem (g.S.Steady.run k) (g.S.Steady.run c.inner.new.calc)
-      ((e : Reading) → IsTrue ((g.S.Steady.run k).is_open e) → WayFitsAt at way e (cb e) c.args.b (run e) (waiting e))) same c.inner.ensures.cause in
-      (next_but_mem one last cause (λ f. f)).cause
-]
-
-pub inner-returns-then-not-enters-clause-cause : goal.inner-returns-then-not-enters-clause-cause
-inner-returns-then-not-enters-clause-cause g t c =
-    let at = g.S.Steady.at in
-    let way = c.args.way.now in
-    let cb = (λ (e : Reading). band_at at c.args.cb.now e) in
-    let run = (λ (e : Reading). run_at at c.args.going.now.run e) in
-    let waiting = (λ (e : Reading). floats_at at c.args.going.now.waiting e) in
-    (start_but_mem {asks = λ (e : Reading). WayFitsAt at way e (cb e) c.args.b (run e) (waiting e)} c.join_top.ensures.goes (but_mem c.join_top.ensures.cause)
-    (λ f e o. way-above (ground_at at way e) (way_at at way e) (cb e) c.args.b (run e) (waiting e) (f e o))).cause
-
-pub inner-returns-clause-cause : goal.inner-returns-clause-cause
-inner-returns-clause-cause g t c =
+pub inner-returns : goal.inner-returns
+inner-returns g t c =
     let at = g.S.Steady.at in
     let way = c.args.way.now in
     let tree = way.page.now.tree.now in
@@ -98,22 +105,32 @@ inner-returns-clause-cause g t c =
     (λ f e o. way-above (ground_at at way e) (way_at at way e) (cb e) b (run e) (waiting e) (f e o)) in
     let two = next_but_mem one band.goes (but_mem band.cause)
     (λ f e o. way-band (ground_at at way e) (way_at at way e) (cb e) b (run e) (waiting e) (f e o) goes_in) in
-    (next_but_mem two c.content-end.ensures.goes c.content-end.ensures.cause (λ f e o.
+    let chain = next_but_mem two c.content-end.ensures.goes c.content-end.ensures.cause (λ f e o.
     subst (λ x. KidsFitAt at way e x (flow_children tree b) (run_at at c.join_top.new.run e) (waiting e)) (sym (band.value e o))
     (subst (λ r. KidsFitAt at way e (inner_band tree e.world (cb e) b) (flow_children tree b) r (waiting e)) (sym (top.value e (band.goes.closes e o)))
-    (way-inside (ground_at at way e) (way_at at way e) (cb e) b (run e) (waiting e) (f e o) goes_in)))).cause
+    (way-inside (ground_at at way e) (way_at at way e) (cb e) b (run e) (waiting e) (f e o) goes_in))) in
+    record {
+      goes = chain.goes;
+      value = grind (arith, common_steps);
+      cause = chain.cause;
+    }
 
-pub content-returns-then-not-holds_inline-clause-cause : goal.content-returns-then-not-holds_inline-clause-cause
-content-returns-then-not-holds_inline-clause-cause g t c =
+pub content-returns-then-not-holds_inline : goal.content-returns-then-not-holds_inline
+content-returns-then-not-holds_inline g t c =
     let at = g.S.Steady.at in
     let way = c.args.way.now in
     let tree = way.page.now.tree.now in
     let no_lines : holds_inline tree c.args.b ≡ false = grind arith in
-    (start_but_mem {asks = λ (e : Reading). KidsFitAt at way e (band_at at c.args.band.now e) (flow_children tree c.args.b) (run_at at c.args.going.now.run e) (floats_at at c.args.going.now.waiting e)} c.kids.ensures.goes c.kids.ensures.cause
-    (λ f e o. subst (λ ks. KidsFitAt at way e (band_at at c.args.band.now e) ks (run_at at c.args.going.now.run e) (floats_at at c.args.going.now.waiting e)) (flow-kids tree c.args.b no_lines ∙ sym c.kids_at.ensures.value) (f e o))).cause
+    let chain = start_but_mem {asks = λ (e : Reading). KidsFitAt at way e (band_at at c.args.band.now e) (flow_children tree c.args.b) (run_at at c.args.going.now.run e) (floats_at at c.args.going.now.waiting e)} c.kids.ensures.goes c.kids.ensures.cause
+    (λ f e o. subst (λ ks. KidsFitAt at way e (band_at at c.args.band.now e) ks (run_at at c.args.going.now.run e) (floats_at at c.args.going.now.waiting e)) (flow-kids tree c.args.b no_lines ∙ sym c.kids_at.ensures.value) (f e o)) in
+    record {
+      goes = chain.goes;
+      value = grind (arith, common_steps);
+      cause = chain.cause;
+    }
 
-pub kid-returns-then-matches-clause-cause : goal.kid-returns-then-matches-clause-cause
-kid-returns-then-matches-clause-cause g t c =
+pub kid-returns-then-matches : goal.kid-returns-then-matches
+kid-returns-then-matches g t c =
     let at = g.S.Steady.at in
     let way = c.args.way.now in
     let tree = way.page.now.tree.now in
@@ -123,24 +140,34 @@ kid-returns-then-matches-clause-cause g t c =
     let waiting = (λ (e : Reading). floats_at at c.args.going.now.waiting e) in
     let in_flow : is_floated_at tree k ≡ false = grind arith in
     let one = start_but_mem {asks = λ (e : Reading). KidFitsAt at way e (band e) k (run e) (waiting e)} c.forward-end.ensures.goes c.forward-end.ensures.cause (λ f e o. (f e o).way in_flow) in
-    (next_but_mem one c.join_bottom.ensures.goes (but_mem c.join_bottom.ensures.cause)
-    (λ f e o. way-below (ground_at at way e) (way_at at way e) (band e) k (run e) (waiting e) ((f e o).way in_flow))).cause
+    let chain = next_but_mem one c.join_bottom.ensures.goes (but_mem c.join_bottom.ensures.cause)
+    (λ f e o. way-below (ground_at at way e) (way_at at way e) (band e) k (run e) (waiting e) ((f e o).way in_flow)) in
+    record {
+      goes = chain.goes;
+      value = grind (arith, common_steps);
+      cause = chain.cause;
+    }
 
-pub kids-returns-then-not-matches-clause-cause : goal.kids-returns-then-not-matches-clause-cause
-kids-returns-then-not-matches-clause-cause g t c =
-    let at = g.S.Steady.at in
-    let way = c.args.way.now in
-    let all = c.args.boxes.now in
-    let k = c.loop-place.place-index in
-    let is = drop_more all k 0 c.loop-place-test.true in
-    let inv = c.loop-place.invariant in
-    let band = (λ (e : Reading). band_at at c.args.band.now e) in
-    let run = (λ (e : Reading). run_at at c.loop-place.going.run e) in
-    let waiting = (λ (e : Reading). floats_at at c.loop-place.going.waiting e) in
-    BlamesButMem-then _ _ _ _ _ inv.goes c.kid-end.ensures.goes inv.cause
-    (λ f e o. kids-first (ground_at at way e) (way_at at way e) (band e) (get_or all k 0) (drop (k + 1) all) (run e) (waiting e)
-    (subst (λ ks. KidsFitAt at way e (band e) ks (run e) (waiting e)) is (inv.fits e o (f e (inv.goes.closes e o)))))
-    c.kid-end.ensures.cause
+pub kids-returns-then-not-matches : goal.kids-returns-then-not-matches
+unfolding kid_of
+kids-returns-then-not-matches g t c = record {
+  goes = grind (arith, common_steps);
+  value = grind (arith, common_steps);
+  cause =
+      let at = g.S.Steady.at in
+      let way = c.args.way.now in
+      let all = c.args.boxes.now in
+      let k = c.loop-place.place-index in
+      let is = drop_more all k 0 c.loop-place-test.true in
+      let inv = c.loop-place.invariant in
+      let band = (λ (e : Reading). band_at at c.args.band.now e) in
+      let run = (λ (e : Reading). run_at at c.loop-place.going.run e) in
+      let waiting = (λ (e : Reading). floats_at at c.loop-place.going.waiting e) in
+      BlamesButMem-then _ _ _ _ _ inv.goes c.kid-end.ensures.goes inv.cause
+      (λ f e o. kids-first (ground_at at way e) (way_at at way e) (band e) (get_or all k 0) (drop (k + 1) all) (run e) (waiting e)
+      (subst (λ ks. KidsFitAt at way e (band e) ks (run e) (waiting e)) is (inv.fits e o (f e (inv.goes.closes e o)))))
+      c.kid-end.ensures.cause;
+}
 
 pub kids-loop-place-preserved : goal.kids-loop-place-preserved
 unfolding kid_of

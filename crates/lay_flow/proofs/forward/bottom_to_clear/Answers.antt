@@ -20,8 +20,9 @@ use Rattle.lay_flow.proofs.TriesLow.{first-fits, one-fits}
 use Rattle.lay_flow.proofs.WaitingLow.{before-half, after-half}
 use Rattle.lay_flow.proofs.forward.bottom_to_clear.Goals as goal
 
-pub returns-in-None-clause-cause : goal.returns-in-None-clause-cause
-returns-in-None-clause-cause g c =
+pub returns-in-None : goal.returns-in-None
+unfolding bottom_to_clear
+returns-in-None g c =
     let at = g.S.Steady.at in
     let way = c.args.way.now in
     let size = (λ (e : Reading). size_in (apart_at at way.page.now.apart.now e)) in
@@ -30,39 +31,20 @@ returns-in-None-clause-cause g c =
     let y = (λ (e : Reading). at c.args.y.now e) in
     let waiting = (λ (e : Reading). waiting_at at c.args.waiting.now e) in
     let asks = (λ (e : Reading). WaitingFits (size e) (floats e) (least e) (y e) (waiting e)) in
-    (start_but_mem {asks = asks} c.bottom.ensures.goes (but_mem c.bottom.ensures.cause)
-    (λ f e o. before-half way.page.now.tree.now (size e) (least e) (y e) (floats e) (waiting e) (f e o))).cause
+    let chain = start_but_mem {asks = asks} c.bottom.ensures.goes (but_mem c.bottom.ensures.cause)
+    (λ f e o. before-half way.page.now.tree.now (size e) (least e) (y e) (floats e) (waiting e) (f e o)) in
+    record {
+      goes = chain.goes;
+      value = λ e o.
+          let none : c.args.waiting.now ≡ [] = nil_from_length c.args.waiting.now (let h = c.in-None.ensures.cases in omega arith) in
+          subst (λ ws. option_at at c.bottom.result e ≡ bottom_to_clear (ground_at at way e) c.args.b (waiting_at at ws e) (at c.args.y.now e)) (sym none)
+          (c.bottom.ensures.value e o ∙ ap (λ k. lowest_bottom k (boxes_at at way.floats.now e)) c.clear_in_flow-clear.ensures);
+      cause = chain.cause;
+    }
 
-pub returns-in-None-clause-value : goal.returns-in-None-clause-value
+pub returns-in-Some : goal.returns-in-Some
 unfolding bottom_to_clear
-returns-in-None-clause-value g c = λ e o.
-    let at = g.S.Steady.at in
-    let way = c.args.way.now in
-    let none : c.args.waiting.now ≡ [] = nil_from_length c.args.waiting.now (let h = c.in-None.ensures.cases in omega arith) in
-    subst (λ ws. option_at at c.bottom.result e ≡ bottom_to_clear (ground_at at way e) c.args.b (waiting_at at ws e) (at c.args.y.now e)) (sym none)
-    (c.bottom.ensures.value e o ∙ ap (λ k. lowest_bottom k (boxes_at at way.floats.now e)) c.clear_in_flow-clear.ensures)
-
-pub returns-in-Some-clause-value : goal.returns-in-Some-clause-value
-unfolding bottom_to_clear
-returns-in-Some-clause-value g c = λ e o.
-    let at = g.S.Steady.at in
-    let way = c.args.way.now in
-    let tree = way.page.now.tree.now in
-    let ground = ground_at at way e in
-    let list : c.args.waiting.now ≡ c.in-Some.first.now ∷ c.in-Some.others.now = let h = c.in-Some.ensures.cases in grind arith in
-    let first = waiting_in at c.in-Some.first.now e in
-    let others = waiting_at at c.in-Some.others.now e in
-    let y = at c.args.y.now e in
-    let o1 = c.bottom-in-Some.ensures.goes.closes e o in
-    c.bottom-in-Some.ensures.value e o
-    ∙ ap (λ l. lowest_bottom c.clear_in_flow-clear.result (boxes_at at l e)) c.as_slice.ensures
-    ∙ ap (λ (t : Tried). lowest_bottom c.clear_in_flow-clear.result t.all) (c.try_others-trial.ensures.value e o1 ∙ ap (other_trials ground others) (c.try_first-trial.ensures.value e (c.try_others-trial.ensures.goes.closes e o1)))
-    ∙ ap (lowest_bottom c.clear_in_flow-clear.result) (tried-same tree ground.size ground.least y first others ground.floats)
-    ∙ ap (λ k. lowest_bottom k (with_waiting tree ground.size (first ∷ others) ground.floats ground.least y)) c.clear_in_flow-clear.ensures
-    ∙ ap (λ ws. lowest_bottom (clear_of tree c.args.b) (with_waiting tree ground.size (waiting_at at ws e) ground.floats ground.least y)) (sym list)
-
-pub returns-in-Some-clause-cause : goal.returns-in-Some-clause-cause
-returns-in-Some-clause-cause g c =
+returns-in-Some g c =
     let at = g.S.Steady.at in
     let way = c.args.way.now in
     let tree = way.page.now.tree.now in
@@ -78,8 +60,25 @@ returns-in-Some-clause-cause g c =
     let one = start_but_mem {asks = asks} begun.goes begun.cause (λ f e o. one-fits (ground e) (ground e).floats (y e) (first e) (others e) (here e (f e o))) in
     let two = next_but_mem one tried.goes tried.cause (λ f e o.
     subst (λ (t : Tried). TrialFits (ground e) t (others e)) (sym (begun.value e o)) (first-fits (ground e) (first e) (y e) (others e) (here e (f e o)))) in
-    (next_but_mem two c.bottom-in-Some.ensures.goes (but_mem c.bottom-in-Some.ensures.cause) (λ f e o.
+    let chain = next_but_mem two c.bottom-in-Some.ensures.goes (but_mem c.bottom-in-Some.ensures.cause) (λ f e o.
     subst (λ l. AreHalf (boxes_at at l e) []) (sym c.as_slice.ensures)
     (subst (λ (t : Tried). AreHalf t.all []) (sym (tried.value e o ∙ ap (other_trials (ground e) (others e)) (begun.value e (tried.goes.closes e o))))
     (subst (λ fs. AreHalf fs []) (sym (tried-same tree (ground e).size (ground e).least (y e) (first e) (others e) (ground e).floats))
-    (after-half tree (ground e).size (ground e).least (y e) (ground e).floats (first e ∷ others e) (here e (f e o))))))).cause
+    (after-half tree (ground e).size (ground e).least (y e) (ground e).floats (first e ∷ others e) (here e (f e o)))))) in
+    record {
+      goes = chain.goes;
+      value = λ e o.
+          let ground = ground_at at way e in
+          let list : c.args.waiting.now ≡ c.in-Some.first.now ∷ c.in-Some.others.now = let h = c.in-Some.ensures.cases in grind arith in
+          let first = waiting_in at c.in-Some.first.now e in
+          let others = waiting_at at c.in-Some.others.now e in
+          let y = at c.args.y.now e in
+          let o1 = c.bottom-in-Some.ensures.goes.closes e o in
+          c.bottom-in-Some.ensures.value e o
+          ∙ ap (λ l. lowest_bottom c.clear_in_flow-clear.result (boxes_at at l e)) c.as_slice.ensures
+          ∙ ap (λ (t : Tried). lowest_bottom c.clear_in_flow-clear.result t.all) (c.try_others-trial.ensures.value e o1 ∙ ap (other_trials ground others) (c.try_first-trial.ensures.value e (c.try_others-trial.ensures.goes.closes e o1)))
+          ∙ ap (lowest_bottom c.clear_in_flow-clear.result) (tried-same tree ground.size ground.least y first others ground.floats)
+          ∙ ap (λ k. lowest_bottom k (with_waiting tree ground.size (first ∷ others) ground.floats ground.least y)) c.clear_in_flow-clear.ensures
+          ∙ ap (λ ws. lowest_bottom (clear_of tree c.args.b) (with_waiting tree ground.size (waiting_at at ws e) ground.floats ground.least y)) (sym list);
+      cause = chain.cause;
+    }

@@ -1,4 +1,5 @@
-use Rattle.std.proofs.Common.{sym, subst}
+use Rattle.std.proofs.Common.{sym, subst, arith}
+use Rattle.std.proofs.lemmas.Grind.{common_steps}
 use Rattle.viz_calc.specs.World.{Reading}
 use Rattle.lay_float.specs.Readings.{boxes_at, option_at}
 use Rattle.lay_line.proofs.Chains.{but_mem, start_but_mem, next_but_mem}
@@ -10,8 +11,8 @@ use Rattle.lay_flow.specs.WayFits.{WaitingFits, IsGroundLow, IsGoingLow}
 use Rattle.lay_flow.proofs.WaitingLow.{edge-waits}
 use Rattle.lay_flow.proofs.forward.clear_edge.Goals as goal
 
-pub returns-in-Some-clause-cause : goal.returns-in-Some-clause-cause
-returns-in-Some-clause-cause g c =
+pub returns-in-Some : goal.returns-in-Some
+returns-in-Some g c =
     let at = g.S.Steady.at in
     let way = c.args.way.now in
     let going = c.args.going.now in
@@ -25,13 +26,18 @@ returns-in-Some-clause-cause g c =
     let edge = c.edge-y.ensures in
     let lowest = c.bottom_to_clear.ensures in
     let one = start_but_mem {asks = asks} edge.goes (but_mem edge.cause) (λ f e o. ((f e o).0.edge, (f e o).1.margins)) in
-    (next_but_mem one lowest.goes lowest.cause (λ f e o.
+    let chain = next_but_mem one lowest.goes lowest.cause (λ f e o.
     subst (λ ws. WaitingFits (size e) (floats e) (least e) (at c.edge-y.result e) (waiting_at at ws e)) (sym c.as_slice.ensures)
     (subst (λ y. WaitingFits (size e) (floats e) (least e) y (waiting e)) (sym (edge.value e o))
-    (edge-waits way.page.now.tree.now e.world (size e) (base e) (floats e) (least e) (run e) (waiting e) (f e o).0 (f e o).1)))).cause
+    (edge-waits way.page.now.tree.now e.world (size e) (base e) (floats e) (least e) (run e) (waiting e) (f e o).0 (f e o).1))) in
+    record {
+      goes = chain.goes;
+      value = grind (arith, common_steps);
+      cause = chain.cause;
+    }
 
-pub returns-in-None-clause-cause : goal.returns-in-None-clause-cause
-returns-in-None-clause-cause g c =
+pub returns-in-None : goal.returns-in-None
+returns-in-None g c =
     let at = g.S.Steady.at in
     let way = c.args.way.now in
     let going = c.args.going.now in
@@ -45,7 +51,12 @@ returns-in-None-clause-cause g c =
     let edge = c.edge-y.ensures in
     let lowest = c.bottom_to_clear.ensures in
     let one = start_but_mem {asks = asks} edge.goes (but_mem edge.cause) (λ f e o. ((f e o).0.edge, (f e o).1.margins)) in
-    (next_but_mem one lowest.goes lowest.cause (λ f e o.
+    let chain = next_but_mem one lowest.goes lowest.cause (λ f e o.
     subst (λ ws. WaitingFits (size e) (floats e) (least e) (at c.edge-y.result e) (waiting_at at ws e)) (sym c.as_slice.ensures)
     (subst (λ y. WaitingFits (size e) (floats e) (least e) y (waiting e)) (sym (edge.value e o))
-    (edge-waits way.page.now.tree.now e.world (size e) (base e) (floats e) (least e) (run e) (waiting e) (f e o).0 (f e o).1)))).cause
+    (edge-waits way.page.now.tree.now e.world (size e) (base e) (floats e) (least e) (run e) (waiting e) (f e o).0 (f e o).1))) in
+    record {
+      goes = chain.goes;
+      value = grind (arith, common_steps);
+      cause = chain.cause;
+    }

@@ -1,4 +1,5 @@
 use Rattle.std.proofs.Common.{◌≡◌, ℕ, ℤ, true, List, [], ◌∷◌, length, None, ap, refl, sym, ◌∙◌, arith}
+use Rattle.std.proofs.lemmas.Grind.{common_steps}
 use Rattle.std.specs.Prelude.{◌==◌}
 use Rattle.viz_base.specs.declared.layouts.Band.{Band}
 use Rattle.viz_base.specs.declared.layouts.Waiting.{Waiting}
@@ -21,11 +22,15 @@ none-decided : (g : Ground) (cb : Band ℤ) (b : ℕ) (run : Run ℤ) (ws : List
 unfolding bottom_to_clear
 none-decided g cb b run ws e f = rw (e, f) refl
 
-pub returns-then-is_empty-2-clause-value : goal.returns-then-is_empty-2-clause-value
-returns-then-is_empty-2-clause-value g c = λ e o.
-    let at = g.S.Steady.at in
-    let way = c.args.way.now in
-    let no_floats = no-items way.floats.now (sym c.if-is_empty.true ∙ c.is_empty.ensures) in
-    let none_wait : c.args.going.now.waiting ≡ [] = grind arith in
-    none-decided (ground_at at way e) (band_at at c.args.cb.now e) c.args.b (run_at at c.args.going.now.run e) (floats_at at c.args.going.now.waiting e)
-    (ap (λ fs. boxes_at at fs e) no_floats) (ap (λ ws. floats_at at ws e) none_wait)
+pub returns-then-is_empty-2 : goal.returns-then-is_empty-2
+returns-then-is_empty-2 g c = record {
+  goes = grind (arith, common_steps);
+  value = λ e o.
+      let at = g.S.Steady.at in
+      let way = c.args.way.now in
+      let no_floats = no-items way.floats.now (sym c.if-is_empty.true ∙ c.is_empty.ensures) in
+      let none_wait : c.args.going.now.waiting ≡ [] = grind arith in
+      none-decided (ground_at at way e) (band_at at c.args.cb.now e) c.args.b (run_at at c.args.going.now.run e) (floats_at at c.args.going.now.waiting e)
+      (ap (λ fs. boxes_at at fs e) no_floats) (ap (λ ws. floats_at at ws e) none_wait);
+  cause = grind (arith, common_steps);
+}

@@ -1,4 +1,5 @@
-use Rattle.std.proofs.Common.{sym, subst}
+use Rattle.std.proofs.Common.{sym, subst, arith}
+use Rattle.std.proofs.lemmas.Grind.{common_steps}
 use Rattle.viz_calc.specs.World.{Reading}
 use Rattle.viz_calc.specs.Renderings.{band_at}
 use Rattle.lay_float.specs.Readings.{boxes_at, option_at}
@@ -12,8 +13,8 @@ use Rattle.lay_flow.specs.Ways.{DecisionFitsAt}
 use Rattle.lay_flow.proofs.WaitingLow.{hypothetical-waits}
 use Rattle.lay_flow.proofs.forward.is_to_clear.Goals as goal
 
-pub returns-clause-cause : goal.returns-clause-cause
-returns-clause-cause g c =
+pub returns : goal.returns
+returns g c =
     let at = g.S.Steady.at in
     let way = c.args.way.now in
     let tree = way.page.now.tree.now in
@@ -33,4 +34,9 @@ returns-clause-cause g c =
     subst (λ ws. WaitingFits (size e) (floats e) (least e) (at c.hypothetical_edge-y.result e) (waiting_at at ws e)) (sym c.as_slice.ensures)
     (subst (λ y. WaitingFits (size e) (floats e) (least e) y (waiting e)) (sym (edge.value e o))
     (hypothetical-waits tree e.world (size e) (base e) (floats e) (least e) (run e) (waiting e) (cb e) c.args.b (f e o)))) in
-    (next_but_mem two c.is_above.ensures.goes (but_mem c.is_above.ensures.cause) (λ f. tt)).cause
+    let chain = next_but_mem two c.is_above.ensures.goes (but_mem c.is_above.ensures.cause) (λ f e o. tt) in
+    record {
+      goes = chain.goes;
+      value = grind (arith, common_steps);
+      cause = chain.cause;
+    }

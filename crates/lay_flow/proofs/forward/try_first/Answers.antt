@@ -17,25 +17,9 @@ use Rattle.lay_flow.proofs.Spots.{lent-is, half-lent}
 use Rattle.lay_flow.proofs.WaitingLow.{first-size, first-half}
 use Rattle.lay_flow.proofs.forward.try_first.Goals as goal
 
-pub returns-clause-value : goal.returns-clause-value
+pub returns : goal.returns
 unfolding size_in
-returns-clause-value g c = λ e o.
-    let at = g.S.Steady.at in
-    let way = c.args.way.now in
-    let tree = way.page.now.tree.now in
-    let float = c.args.float.now in
-    let floats = boxes_at at way.floats.now e in
-    let cb = band_at at float.cb e in
-    let own = extent_at at c.size_of-size.result e in
-    let y = at c.args.y.now e in
-    c.begin.ensures.value e o
-    ∙ ap (λ l. first_tried (coming_at at c.coming-next.result e) floats l y) (lent-is at e c.as_ref.result way.least.now c.as_ref.ensures.value)
-    ∙ ap (λ k. first_tried k floats (option_at at way.least.now e) y) (c.coming-next.ensures at e)
-    ∙ ap (λ s. first_tried (floating tree float.at s cb) floats (option_at at way.least.now e) y) (c.size_of-size.ensures.value e (c.begin.ensures.goes.closes e o))
-
-pub returns-clause-cause : goal.returns-clause-cause
-unfolding size_in
-returns-clause-cause g c =
+returns g c =
     let at = g.S.Steady.at in
     let way = c.args.way.now in
     let tree = way.page.now.tree.now in
@@ -49,8 +33,21 @@ returns-clause-cause g c =
     let asks = (λ (e : Reading). WaitingFits (sizes e) (floats e) (least e) (y e) (one e ∷ [])) in
     let size = c.size_of-size.ensures in
     let first = start_but_mem {asks = asks} size.goes (but_mem size.cause) (λ f e o. first-size tree (sizes e) (least e) (y e) (floats e) (one e) [] (f e o)) in
-    (next_but_mem first c.begin.ensures.goes c.begin.ensures.cause (λ f e o.
+    let chain = next_but_mem first c.begin.ensures.goes c.begin.ensures.cause (λ f e o.
     half-lent at e c.as_ref.result way.least.now c.as_ref.ensures.value (floats e) _ _ (y e)
     (subst (λ (k : Floating). AreHalf (floats e) (k.size.width ∷ k.size.height ∷ k.cb.left ∷ k.cb.right ∷ levels_of (least e) (y e))) (sym (c.coming-next.ensures at e))
     (subst (λ (s : Extent ℤ). AreHalf (floats e) (s.width ∷ s.height ∷ at float.cb.left e ∷ at float.cb.right e ∷ levels_of (least e) (y e))) (sym (size.value e o))
-    (first-half tree (sizes e) (least e) (y e) (floats e) (one e) [] (f e o)))))).cause
+    (first-half tree (sizes e) (least e) (y e) (floats e) (one e) [] (f e o))))) in
+    record {
+      goes = chain.goes;
+      value = λ e o.
+          let floats = boxes_at at way.floats.now e in
+          let cb = band_at at float.cb e in
+          let own = extent_at at c.size_of-size.result e in
+          let y = at c.args.y.now e in
+          c.begin.ensures.value e o
+          ∙ ap (λ l. first_tried (coming_at at c.coming-next.result e) floats l y) (lent-is at e c.as_ref.result way.least.now c.as_ref.ensures.value)
+          ∙ ap (λ k. first_tried k floats (option_at at way.least.now e) y) (c.coming-next.ensures at e)
+          ∙ ap (λ s. first_tried (floating tree float.at s cb) floats (option_at at way.least.now e) y) (c.size_of-size.ensures.value e (c.begin.ensures.goes.closes e o));
+      cause = chain.cause;
+    }

@@ -1,4 +1,5 @@
 use Rattle.std.proofs.Common.{◌^◌, IsTrue, ap, sym, subst, ◌∙◌, arith}
+use Rattle.std.proofs.lemmas.Grind.{common_steps}
 use Rattle.viz_calc.specs.World.{Reading}
 use Rattle.layout_semantics.specs.DefiniteHeights.{held_height}
 use Rattle.lay_frame.specs.Readings.{frame_at}
@@ -10,10 +11,12 @@ use Rattle.lay_flow.specs.Fits.{IsHeightFit, IsNear}
 use Rattle.lay_flow.specs.Readings.{context_at}
 use Rattle.lay_flow.proofs.Framed.{top-fits, top-near, top-small, known-tall, content-tall, block-small, place-fits}
 use Rattle.lay_flow.proofs.frames.block_box.Goals.{in-Some, in-None}
+use Rattle.lay_flow.specs.steps.Flow.{block_of}
 use Rattle.lay_flow.proofs.frames.block_box.Goals as goal
 
-pub returns-clause-cause : goal.returns-clause-cause
-returns-clause-cause g c =
+pub returns : goal.returns
+unfolding block_of
+returns g c =
     let at = g.S.Steady.at in
     let run = g.S.Steady.run in
     let tree = c.args.page.now.tree.now in
@@ -42,7 +45,12 @@ returns-clause-cause g c =
           (subst (IsSmall (2 ^ 94)) (sym (w.block_height-height.ensures.value e o3)) (block-small (2 ^ 92) (2 ^ 94) w.joins_last_child.result (at w.content_top-top.result e) (end e).standing top a.1.1.standing (omega arith))))
     ] in
     let three = next two c.held-height.ensures.goes c.held-height.ensures.cause (λ f e o. (f e o).0) in
-    (next three c.place.ensures.goes c.place.ensures.cause (λ f e o.
+    let chain = next three c.place.ensures.goes c.place.ensures.cause (λ f e o.
     let a = f e o in
     let h = subst (IsSmall (2 ^ 94)) (sym (c.held-height.ensures.value e o)) (tall e (c.held-height.ensures.goes.closes e o) a) in
-    place-fits (frame e) (at c.held-height.result e) a.1.0 h)).cause
+    place-fits (frame e) (at c.held-height.result e) a.1.0 h) in
+    record {
+      goes = chain.goes;
+      value = grind (arith, common_steps);
+      cause = chain.cause;
+    }

@@ -1,4 +1,5 @@
-use Rattle.std.proofs.Common.{sym, subst}
+use Rattle.std.proofs.Common.{sym, subst, arith}
+use Rattle.std.proofs.lemmas.Grind.{common_steps}
 use Rattle.std.specs.List.{AllByRecursion}
 use Rattle.viz_calc.specs.World.{Reading}
 use Rattle.lay_float.specs.Readings.{boxes_at}
@@ -9,10 +10,12 @@ use Rattle.lay_flow.specs.Fits.{IsNear}
 use Rattle.lay_flow.specs.Readings.{context_at}
 use Rattle.lay_flow.proofs.Framed.{next-edge-near}
 use Rattle.lay_flow.proofs.Sizes.{near-difference}
+use Rattle.lay_flow.specs.steps.Flow.{tall_of}
 use Rattle.lay_flow.proofs.heights.context_height.Goals as goal
 
-pub returns-clause-cause : goal.returns-clause-cause
-returns-clause-cause g c =
+pub returns : goal.returns
+unfolding tall_of
+returns g c =
     let at = g.S.Steady.at in
     let top = c.args.top.now in
     let end = (λ (e : Reading). context_at at c.args.end.now e) in
@@ -24,4 +27,9 @@ returns-clause-cause g c =
     let two = next one edge.goes edge.cause (λ f e o. (f e o).1.standing) in
     let three = next two height.goes height.cause (λ f e o.
     near-difference (at c.next_edge-edge.result e) (at top e) (subst IsNear (sym (edge.value e o)) (next-edge-near (end e).standing (f e o).1.standing)) (f e o).0) in
-    (next three c.greater.ensures.goes c.greater.ensures.cause (λ f. tt)).cause
+    let chain = next three c.greater.ensures.goes c.greater.ensures.cause (λ f e o. tt) in
+    record {
+      goes = chain.goes;
+      value = grind (arith, common_steps);
+      cause = chain.cause;
+    }

@@ -1,4 +1,5 @@
-use Rattle.std.proofs.Common.{sym, subst, ◌∙◌}
+use Rattle.std.proofs.Common.{sym, subst, ◌∙◌, arith}
+use Rattle.std.proofs.lemmas.Grind.{common_steps}
 use Rattle.viz_calc.specs.World.{Reading}
 use Rattle.layout_semantics.specs.DefiniteHeights.{definite_height}
 use Rattle.lay_width.specs.Fitting.{HeightFits, MostHeightFits}
@@ -9,8 +10,8 @@ use Rattle.lay_flow.proofs.Sizes.{zero-fits}
 use Rattle.lay_flow.proofs.heights.held.Goals.{in-Some, in-None, in-Some-height_of, in-None-height_of}
 use Rattle.lay_flow.proofs.heights.held.Goals as goal
 
-pub returns-clause-cause : goal.returns-clause-cause
-returns-clause-cause g c =
+pub returns : goal.returns
+returns g c =
     let run = g.S.Steady.run in
     let tree = c.args.page.now.tree.now in
     let b = c.args.b in
@@ -29,4 +30,9 @@ returns-clause-cause g c =
       | in-Some-height_of w ↦ rw w.calc-is two
       | in-None-height_of w ↦ rw w.calc-is (next two w.zero-least.ensures.goes w.zero-least.ensures.cause (λ f e o. zero-fits))
     ] in
-    (next three c.hold.ensures.goes c.hold.ensures.cause (λ f. tt)).cause
+    let chain = next three c.hold.ensures.goes c.hold.ensures.cause (λ f e o. tt) in
+    record {
+      goes = chain.goes;
+      value = grind (arith, common_steps);
+      cause = chain.cause;
+    }

@@ -58,16 +58,14 @@ loop-done-preserved g c =
           ∙ one-lower at e (at c.args.top.now e) c.args.floats.now (n - 1 - c.loop-done.done) (n - c.loop-done.done) (n - (c.loop-done.done + 1)) c.index-floats-count.result (at c.loop-done.best e)
           (omega (arith, c.loop-done-test.true)) (omega (arith, c.loop-done-test.true)) (omega (arith, c.loop-done-test.true))
           (c.loop-done.invariant.value e (height.goes.closes e o1));
-      cause = (next one best.goes best.cause (λ f. tt)).cause;
+      cause = (next one best.goes best.cause (λ f e o. tt)).cause;
     }
 
-pub returns-clause-goes : goal.returns-clause-goes
-returns-clause-goes g c = c.loop-done.invariant.goes
-
-pub returns-clause-value : goal.returns-clause-value
-returns-clause-value g c = λ e o.
-    let none : length c.args.floats.now - c.loop-done.done ≡ 0 = omega (arith, c.loop-done-test.false) in
-    c.loop-done.invariant.value e o ∙ ap (λ i. lowest_of (g.S.Steady.at c.args.top.now e) (boxes_at g.S.Steady.at (drop i c.args.floats.now) e)) none
-
-pub returns-clause-cause : goal.returns-clause-cause
-returns-clause-cause g c = c.loop-done.invariant.cause
+pub returns : goal.returns
+returns g c = record {
+  goes = c.loop-done.invariant.goes;
+  value = λ e o.
+      let none : length c.args.floats.now - c.loop-done.done ≡ 0 = omega (arith, c.loop-done-test.false) in
+      c.loop-done.invariant.value e o ∙ ap (λ i. lowest_of (g.S.Steady.at c.args.top.now e) (boxes_at g.S.Steady.at (drop i c.args.floats.now) e)) none;
+  cause = c.loop-done.invariant.cause;
+}

@@ -1,4 +1,5 @@
-use Rattle.std.proofs.Common.{ℕ, ◌∷◌, [], sym, subst}
+use Rattle.std.proofs.Common.{ℕ, ◌∷◌, [], sym, subst, arith}
+use Rattle.std.proofs.lemmas.Grind.{common_steps}
 use Rattle.viz_calc.specs.State.{AllSmall}
 use Rattle.viz_calc.specs.World.{Reading}
 use Rattle.layout_semantics.specs.Replaced.{by_ratio, replaced_size}
@@ -7,8 +8,8 @@ use Rattle.lay_flow.specs.Fits.{IsReplacedFit}
 use Rattle.lay_flow.proofs.heights.replaced_height.Goals.{in-Some, in-None}
 use Rattle.lay_flow.proofs.heights.replaced_height.Goals as goal
 
-pub returns-clause-cause : goal.returns-clause-cause
-returns-clause-cause g c =
+pub returns : goal.returns
+returns g c =
     let at = g.S.Steady.at in
     let run = g.S.Steady.run in
     let tree = c.args.page.now.tree.now in
@@ -23,4 +24,9 @@ returns-clause-cause g c =
           subst (λ z. AllSmall (by_ratio z w.intrinsic-size.result.0 w.intrinsic-size.result.1 ∷ [])) (sym (w.width-width.ensures.value e o))
           (subst (λ (s : ℕ × ℕ). AllSmall (by_ratio (replaced_size tree e.world b (room e)).width s.0 s.1 ∷ [])) (sym w.intrinsic-size.ensures) (f e o).ratio)))
     ] in
-    (next two c.held.ensures.goes c.held.ensures.cause (λ f e o. (f e o).own)).cause
+    let chain = next two c.held.ensures.goes c.held.ensures.cause (λ f e o. (f e o).own) in
+    record {
+      goes = chain.goes;
+      value = grind (arith, common_steps);
+      cause = chain.cause;
+    }

@@ -44,8 +44,12 @@ loop-entry-preserved g c =
       left = λ e a. (left e a).1;
     }
 
-pub returns-clause-value : goal.returns-clause-value
-returns-clause-value g c = λ e o.
-    let at = g.S.Steady.at in
-    none-added at e (entry_of c.args.page.now.tree.now e.world (apart_at at c.args.page.now.apart.now e)) c.loop-entry.entry-iterator.rest.items (boxes_at at c.loop-entry.out.items e) (nil_from_length c.loop-entry.entry-iterator.rest.items (grind arith))
-    ∙ c.loop-entry.invariant.value e o
+pub returns : goal.returns
+returns g c = record {
+  goes = c.loop-entry.invariant.goes;
+  value = λ e o.
+      let at = g.S.Steady.at in
+      none-added at e (entry_of c.args.page.now.tree.now e.world (apart_at at c.args.page.now.apart.now e)) c.loop-entry.entry-iterator.rest.items (boxes_at at c.loop-entry.out.items e) (nil_from_length c.loop-entry.entry-iterator.rest.items (grind arith))
+      ∙ c.loop-entry.invariant.value e o;
+  cause = c.loop-entry.invariant.cause;
+}

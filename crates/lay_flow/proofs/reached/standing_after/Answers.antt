@@ -1,4 +1,5 @@
-use Rattle.std.proofs.Common.{sym, subst}
+use Rattle.std.proofs.Common.{sym, subst, arith}
+use Rattle.std.proofs.lemmas.Grind.{common_steps}
 use Rattle.viz_calc.specs.World.{Reading}
 use Rattle.viz_calc.specs.Renderings.{band_at}
 use Rattle.layout_semantics.specs.FlowBoxes.{across}
@@ -8,10 +9,12 @@ use Rattle.lay_margin.specs.Runs.{run_at}
 use Rattle.lay_flow.specs.Low.{IsBandLow, IsLevelLow, IsRunLow}
 use Rattle.lay_flow.specs.Fits.{IsNear}
 use Rattle.lay_flow.proofs.Sizes.{aside-near, level-near, near-difference, ends-fit, run-near, value-fits}
+use Rattle.lay_flow.specs.steps.Flow.{standing_after}
 use Rattle.lay_flow.proofs.reached.standing_after.Goals as goal
 
-pub returns-then-reached-clause-cause : goal.returns-then-reached-clause-cause
-returns-then-reached-clause-cause g c =
+pub returns-then-reached : goal.returns-then-reached
+unfolding standing_after
+returns-then-reached g c =
     let at = g.S.Steady.at in
     let tree = c.args.tree.now in
     let cb = c.args.cb.now in
@@ -27,6 +30,11 @@ returns-then-reached-clause-cause g c =
     let a = f e o in
     (near-difference (at cb.right e) (at cb.left e) (aside-near (at cb.right e) a.0.right) (aside-near (at cb.left e) a.0.left), a.1.0.1.1.1.1.1)) in
     let three = next two margin.goes margin.cause (λ f e o. value-fits (own e) (f e o).1.1.1) in
-    (next three edge.goes edge.cause (λ f e o.
+    let chain = next three edge.goes edge.cause (λ f e o.
     let a = f e o in
-    near-difference (at met.reached.top e) (at c.value-margin.result e) (level-near (at met.reached.top e) a.1.1.0) (subst IsNear (sym (margin.exact e o)) (run-near (own e) a.1.1.1)))).cause
+    near-difference (at met.reached.top e) (at c.value-margin.result e) (level-near (at met.reached.top e) a.1.1.0) (subst IsNear (sym (margin.exact e o)) (run-near (own e) a.1.1.1))) in
+    record {
+      goes = chain.goes;
+      value = grind (arith, common_steps);
+      cause = chain.cause;
+    }

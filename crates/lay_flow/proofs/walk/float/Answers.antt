@@ -72,7 +72,7 @@ returns-clause-cause g c =
     let one = start_but_mem {asks = asks} size.goes (but_mem size.cause) (λ f e o. (f e o).1.1.1.size) in
     let two = next_but_mem one edge.goes (but_mem edge.cause) (λ f e o. (f e o).0.standing) in
     let three = next_but_mem two from.goes (but_mem from.cause) (λ f e o. near-fits (at top e) (f e o).1.1.0) in
-    let four = next_but_mem three y.goes (but_mem y.cause) (λ f. tt) in
+    let four = next_but_mem three y.goes (but_mem y.cause) (λ f e o. tt) in
     let sized = (λ (e : Reading) (o : IsTrue ((g.S.Steady.run c.greater-y.new.calc).is_open e)) (a : asks e).
     subst (IsExtentIn reach) (sym (size.value e (edge.goes.closes e (from.goes.closes e (y.goes.closes e o))))) a.1.1.1.size) in
     let comes = (λ (e : Reading) (o : IsTrue ((g.S.Steady.run c.greater-y.new.calc).is_open e)) (a : asks e).

@@ -39,6 +39,6 @@ returns-clause-cause g c =
     let a = f e o in
     let tall = wider (2 ^ 90) (2 ^ 94) (height e) a.0.tall (omega arith) in
     subst (λ (p : Placed ℤ). AllSmall (p.border.bottom ∷ [])) (sym (placed.value e o)) (fit (2 ^ 94 + 2 ^ 93 + 2 ^ 90) (border_of (frame e) (height e)).bottom (border-small (frame e) (height e) a.1.1 tall).bottom (omega arith))) in
-    let six = next_but_mem five c.append.ensures.goes c.append.ensures.cause (λ f. tt) in
+    let six = next_but_mem five c.append.ensures.goes c.append.ensures.cause (λ f e o. tt) in
     let seven = next_but_mem six run.goes (but_mem run.cause) (λ f e o. zero-fits) in
     (next_but_mem seven c.closing-margins.ensures.goes (but_mem c.closing-margins.ensures.cause) (λ f e o. (f e o).1.1)).cause

@@ -20,4 +20,4 @@ returns-clause-cause g c =
     let by1 = Blames-but-mem r0 r1 _ All (λ f e o. (f e o).0) flat.cause in
     let by2 = BlamesButMem-then r0 r1 r2 _ All flat.goes placed.goes by1
     (λ f e o. subst (λ (z : ℤ). PlaceFits (frame e) z) (sym (flat.value e o)) (f e (flat.goes.closes e o)).1) (Blames-but-mem r1 r2 _ _ (λ f. f) placed.cause) in
-    BlamesButMem-then r0 r2 (run c.append.new.calc) _ All (Goes-then r0 r1 r2 flat.goes placed.goes) c.append.ensures.goes by2 (λ f. tt) c.append.ensures.cause
+    BlamesButMem-then r0 r2 (run c.append.new.calc) _ All (Goes-then r0 r1 r2 flat.goes placed.goes) c.append.ensures.goes by2 (λ f e o. tt) c.append.ensures.cause

@@ -69,7 +69,7 @@ returns-clause-cause g c =
     let floats = c.floats_of-boxes.ensures in
     let placed = c.place_each.ensures in
     let cut = (λ (e : Reading). ap (λ l. boxes_at at l e) c.truncate.ensures ∙ sym (take-map (λ f. box_at at f e) n c.args.line.load.met.floats.placed)) in
-    let first = start_but_mem {asks = λ (e : Reading). EndFits (ctx e) (start e) (slot e) (load e) (items e)} floats.goes floats.cause (λ f. tt) in
+    let first = start_but_mem {asks = λ (e : Reading). EndFits (ctx e) (start e) (slot e) (load e) (items e)} floats.goes floats.cause (λ f e o. tt) in
     let second = next_but_mem first placed.goes placed.cause (λ f e o.
     let boxes = c.as_slice.ensures.value ∙ (floats.value e o ∙ ap float_boxes (sym (bare-same at e c.args.line.pieces.now))) in
     subst (λ l. PlacesFit (ctx e) l (least e) (y e) c.as_slice.result.now) (sym (cut e)) (subst (λ l. PlacesFit (ctx e) (take n (load e).met.floats) (least e) (y e) l) (sym boxes) (f e o).empty)) in

@@ -16,7 +16,7 @@ loop-at-preserved g c =
     let piece = next_but_mem so_far c.inline_fragment-entry.ensures.goes (but_mem c.inline_fragment-entry.ensures.cause) (λ f e o.
     let n = (f e o).1.numbers in
     ((f e o).0 _, ((n.0, (n.1.0, (n.1.1.0, tt))), (f e o).1.places))) in
-    let then = next_but_mem piece c.add_entry.ensures.goes c.add_entry.ensures.cause (λ f. tt) in
+    let then = next_but_mem piece c.add_entry.ensures.goes c.add_entry.ensures.cause (λ f e o. tt) in
     record {
       goes = then.goes;
       value = λ e o. grind (arith, common_steps);

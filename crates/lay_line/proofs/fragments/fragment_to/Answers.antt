@@ -1,4 +1,5 @@
-use Rattle.std.proofs.Common.{IsTrue, ◌-ℤ◌, ◌∷◌, [], ap, sym, subst, ◌∙◌, ◌^◌}
+use Rattle.std.proofs.Common.{IsTrue, ◌-ℤ◌, ◌∷◌, [], ap, sym, subst, ◌∙◌, ◌^◌, arith}
+use Rattle.std.proofs.lemmas.Grind.{common_steps}
 use Rattle.viz_calc.specs.World.{Reading}
 use Rattle.viz_base.specs.declared.renderings.Quad.{Quad}
 use Rattle.std.specs.Prelude.{ℤ}
@@ -11,40 +12,45 @@ use Rattle.lay_line.specs.steps.Words.{inline_raised}
 use Rattle.lay_line.proofs.Chains.{start, next}
 use Rattle.lay_line.proofs.OnLines.{inline_base, area_fits, area_within, around_fits, base_small}
 use Rattle.lay_line.proofs.Placing.{Within}
+use Rattle.viz_calc.proofs.Runs.{Goes-then}
 use Rattle.lay_line.proofs.fragments.fragment_to.Goals as goal
 
-pub returns-clause-cause : goal.returns-clause-cause
+pub returns : goal.returns
 unfolding context_at
-returns-clause-cause g c =
-    let at = g.S.Steady.at in
-    let run = g.S.Steady.run in
-    let tree = c.args.container.now.tree.now in
-    let b = c.args.at in
-    let starts = c.args.span.now.starts in
-    let ends = c.args.ends in
-    let ctx = (λ (e : Reading). context_at at c.args.container.now e) in
-    let base = (λ (e : Reading). at c.args.line.now.baseline e) in
-    let left = (λ (e : Reading). at c.args.span.now.left.now e) in
-    let right = (λ (e : Reading). at c.args.right.now e) in
-    let node = c.node_at-node.ensures in
-    let up = c.inline_shift-up.ensures in
-    let sub = c.sub-baseline.ensures in
-    let area = c.text_area-area.ensures in
-    let asks = (λ (e : Reading). BoxFits (ctx e) b × OnLine (base e ∷ left e ∷ right e ∷ [])) in
-    let first = start {asks = asks} up.goes up.cause (λ f e o. (f e o).0.inline_raise) in
-    let raised = (λ (e : Reading) (o : IsTrue ((run c.inline_shift-up.new.calc).is_open e)). ap (λ x. base e -ℤ x) (up.value e o)) in
-    let second = next first sub.goes sub.cause (λ f e o. (base_small (subst (Within (2 ^ 99)) (sym (raised e o)) (inline_base (ctx e) b (f e o).0 (base e) (f e o).1.0)), tt)) in
-    let is = (λ (e : Reading) (o : IsTrue ((run c.sub-baseline.new.self).is_open e)). sub.value e o ∙ raised e (sub.goes.closes e o)) in
-    let third = next second area.goes area.cause (λ f e o.
-    subst (λ n. FontFits tree e.world n × QuadFits (area_in (ctx e) n (at c.sub-baseline.result e) (left e) (right e))) (sym node) (
-      (f e o).0.font,
-      subst (λ x. QuadFits (area_in (ctx e) (node_of tree b) x (left e) (right e))) (sym (is e o))
-          (area_fits (ctx e) b (f e o).0 (base e -ℤ inline_raised (ctx e) b) (left e) (right e) (inline_base (ctx e) b (f e o).0 (base e) (f e o).1.0) (f e o).1.1),
-    )) in
-    (next third c.around.ensures.goes c.around.ensures.cause (λ f e o.
-    let o1 = area.goes.closes e o in
-    subst (λ (q : Quad ℤ). AroundFits (ctx e) b (around_in (ctx e) b starts ends q)) (sym (area.value e o))
-    (subst (λ n. AroundFits (ctx e) b (around_in (ctx e) b starts ends (area_in (ctx e) n (at c.sub-baseline.result e) (left e) (right e)))) (sym node)
-    (subst (λ x. AroundFits (ctx e) b (around_in (ctx e) b starts ends (area_in (ctx e) (node_of tree b) x (left e) (right e)))) (sym (is e o1))
-    (around_fits (ctx e) b (f e o).0 starts ends (area_in (ctx e) (node_of tree b) (base e -ℤ inline_raised (ctx e) b) (left e) (right e))
-    (area_within (ctx e) b (f e o).0 (base e -ℤ inline_raised (ctx e) b) (left e) (right e) (inline_base (ctx e) b (f e o).0 (base e) (f e o).1.0) (f e o).1.1)))))).cause
+returns g c = record {
+  goes = Goes-then _ _ _ (Goes-then _ _ _ (Goes-then _ _ _ c.inline_shift-up.ensures.goes c.sub-baseline.ensures.goes) c.text_area-area.ensures.goes) c.around.ensures.goes;
+  value = grind (arith, common_steps);
+  cause =
+      let at = g.S.Steady.at in
+      let run = g.S.Steady.run in
+      let tree = c.args.container.now.tree.now in
+      let b = c.args.at in
+      let starts = c.args.span.now.starts in
+      let ends = c.args.ends in
+      let ctx = (λ (e : Reading). context_at at c.args.container.now e) in
+      let base = (λ (e : Reading). at c.args.line.now.baseline e) in
+      let left = (λ (e : Reading). at c.args.span.now.left.now e) in
+      let right = (λ (e : Reading). at c.args.right.now e) in
+      let node = c.node_at-node.ensures in
+      let up = c.inline_shift-up.ensures in
+      let sub = c.sub-baseline.ensures in
+      let area = c.text_area-area.ensures in
+      let asks = (λ (e : Reading). BoxFits (ctx e) b × OnLine (base e ∷ left e ∷ right e ∷ [])) in
+      let first = start {asks = asks} up.goes up.cause (λ f e o. (f e o).0.inline_raise) in
+      let raised = (λ (e : Reading) (o : IsTrue ((run c.inline_shift-up.new.calc).is_open e)). ap (λ x. base e -ℤ x) (up.value e o)) in
+      let second = next first sub.goes sub.cause (λ f e o. (base_small (subst (Within (2 ^ 99)) (sym (raised e o)) (inline_base (ctx e) b (f e o).0 (base e) (f e o).1.0)), tt)) in
+      let is = (λ (e : Reading) (o : IsTrue ((run c.sub-baseline.new.self).is_open e)). sub.value e o ∙ raised e (sub.goes.closes e o)) in
+      let third = next second area.goes area.cause (λ f e o.
+      subst (λ n. FontFits tree e.world n × QuadFits (area_in (ctx e) n (at c.sub-baseline.result e) (left e) (right e))) (sym node) (
+        (f e o).0.font,
+        subst (λ x. QuadFits (area_in (ctx e) (node_of tree b) x (left e) (right e))) (sym (is e o))
+            (area_fits (ctx e) b (f e o).0 (base e -ℤ inline_raised (ctx e) b) (left e) (right e) (inline_base (ctx e) b (f e o).0 (base e) (f e o).1.0) (f e o).1.1),
+      )) in
+      (next third c.around.ensures.goes c.around.ensures.cause (λ f e o.
+      let o1 = area.goes.closes e o in
+      subst (λ (q : Quad ℤ). AroundFits (ctx e) b (around_in (ctx e) b starts ends q)) (sym (area.value e o))
+      (subst (λ n. AroundFits (ctx e) b (around_in (ctx e) b starts ends (area_in (ctx e) n (at c.sub-baseline.result e) (left e) (right e)))) (sym node)
+      (subst (λ x. AroundFits (ctx e) b (around_in (ctx e) b starts ends (area_in (ctx e) (node_of tree b) x (left e) (right e)))) (sym (is e o1))
+      (around_fits (ctx e) b (f e o).0 starts ends (area_in (ctx e) (node_of tree b) (base e -ℤ inline_raised (ctx e) b) (left e) (right e))
+      (area_within (ctx e) b (f e o).0 (base e -ℤ inline_raised (ctx e) b) (left e) (right e) (inline_base (ctx e) b (f e o).0 (base e) (f e o).1.0) (f e o).1.1)))))).cause;
+}

@@ -1,5 +1,5 @@
 use Rattle.std.proofs.Common.{◌++◌, [], IsTrue, arith, ap, sym, subst, ◌∙◌}
-use Rattle.std.specs.Prelude.{ℕ, List, ⊤}
+use Rattle.std.specs.Prelude.{ℕ, List}
 use Rattle.viz_calc.specs.World.{Reading}
 use Rattle.viz_calc.proofs.Runs.{Goes-then, BlamesButMem-then}
 use Rattle.layout_semantics.specs.InlineContent.{float_boxes}
@@ -14,17 +14,53 @@ use Rattle.lay_line.proofs.Filling.{first_holds, first_places, rest_fits, held_s
 use Rattle.lay_line.proofs.LoadSteps.{bare-same, parts-same, takes-next, takes-none, none-left}
 use Rattle.lay_line.proofs.loads.fill.Goals as goal
 
-pub returns-then-not-takes_more-clause-value : goal.returns-then-not-takes_more-clause-value
-returns-then-not-takes_more-clause-value g c = λ e o.
-    let at = g.S.Steady.at in
-    let cut = c.in-Some.cut in
-    let o1 = c.takes_more.ensures.goes.closes e o in
-    let o2 = c.with_pieces-held.ensures.goes.closes e o1 in
-    let o3 = c.copy_held-before.ensures.goes.closes e o2 in
-    let held = c.with_pieces-held.ensures.value e o1 ∙ ap (λ h. held_with h (pieces_at at cut.first.now e)) (c.copy_held-before.ensures.value e o2) in
-    takes-none (context_at at c.args.container.now e) (slot_at at c.args.slot.now e) (load_at at c.loop-cut.load e) (pieces_at at cut.first.now e) (parts_at at cut.rest e) (parts_at at c.loop-cut.rest e)
-    (held_at at c.with_pieces-held.result e) (parts-same at e c.loop-cut.rest _ c.in-Some.ensures.0.parts) held (c.if-not-takes_more.ensures.value e o)
-    ∙ c.loop-cut.invariant.value e o3
+pub returns-then-not-takes_more : goal.returns-then-not-takes_more
+returns-then-not-takes_more g c = record {
+  goes =
+      Goes-then _ _ _ (Goes-then _ _ _ (Goes-then _ _ _ c.loop-cut.invariant.goes c.copy_held-before.ensures.goes) c.with_pieces-held.ensures.goes) c.takes_more.ensures.goes;
+  value = λ e o.
+      let at = g.S.Steady.at in
+      let cut = c.in-Some.cut in
+      let o1 = c.takes_more.ensures.goes.closes e o in
+      let o2 = c.with_pieces-held.ensures.goes.closes e o1 in
+      let o3 = c.copy_held-before.ensures.goes.closes e o2 in
+      let held = c.with_pieces-held.ensures.value e o1 ∙ ap (λ h. held_with h (pieces_at at cut.first.now e)) (c.copy_held-before.ensures.value e o2) in
+      takes-none (context_at at c.args.container.now e) (slot_at at c.args.slot.now e) (load_at at c.loop-cut.load e) (pieces_at at cut.first.now e) (parts_at at cut.rest e) (parts_at at c.loop-cut.rest e)
+      (held_at at c.with_pieces-held.result e) (parts-same at e c.loop-cut.rest _ c.in-Some.ensures.0.parts) held (c.if-not-takes_more.ensures.value e o)
+      ∙ c.loop-cut.invariant.value e o3;
+  cause =
+      let at = g.S.Steady.at in
+      let run = g.S.Steady.run in
+      let cut = c.in-Some.cut in
+      let g1 = Goes-then _ _ _ c.loop-cut.invariant.goes c.copy_held-before.ensures.goes in
+      let g2 = Goes-then _ _ _ g1 c.with_pieces-held.ensures.goes in
+      let start = run c.args.calc.now in
+      let ctx = (λ (e : Reading). context_at at c.args.container.now e) in
+      let slot = (λ (e : Reading). slot_at at c.args.slot.now e) in
+      let load = (λ (e : Reading). load_at at c.loop-cut.load e) in
+      let first = (λ (e : Reading). pieces_at at cut.first.now e) in
+      let rest = (λ (e : Reading). pieces_at at cut.rest.pieces.now e) in
+      let copied = c.copy_held-before.ensures in
+      let holds = c.with_pieces-held.ensures in
+      let takes = c.takes_more.ensures in
+      let more = (e : Reading) → IsTrue (start.is_open e) → FillFits (ctx e) (slot e) (load_at at c.args.start e) (pieces_at at c.args.stretches.pieces.now e) in
+      let ready = (λ (e : Reading) (o : IsTrue ((run c.loop-cut.calc).is_open e)) (f : FillFits (ctx e) (slot e) (load_at at c.args.start e) (pieces_at at c.args.stretches.pieces.now e)).
+      subst (λ (l : List Measured). FillFits (ctx e) (slot e) (load e) l) (pieces_joined at e c.loop-cut.rest.pieces.now cut.first.now cut.rest.pieces.now c.in-Some.ensures.0.joined) (c.loop-cut.invariant.fits e o f)) in
+      let p1 = BlamesButMem-then start (run c.loop-cut.calc) (run c.copy_held-before.new.calc) _ more c.loop-cut.invariant.goes copied.goes c.loop-cut.invariant.cause
+      (λ f e o. held_small (ctx e) (slot e) (load e) (first e ++ rest e) (ready e o (f e (c.loop-cut.invariant.goes.closes e o))))
+      (record { coeff = copied.cause.coeff; opens = copied.cause.opens }) in
+      let p2 = BlamesButMem-then start (run c.copy_held-before.new.calc) (run c.with_pieces-held.new.calc) _ more g1 holds.goes p1
+      (λ f e o.
+      let o1 = copied.goes.closes e o in
+      subst (λ (h : Held). HoldFits h (first e)) (sym (copied.value e o)) (first_holds (ctx e) (slot e) (load e) (first e) (rest e) (ready e o1 (f e (c.loop-cut.invariant.goes.closes e o1)))))
+      (record { coeff = holds.cause.coeff; opens = holds.cause.opens }) in
+      let p3 = BlamesButMem-then start (run c.with_pieces-held.new.calc) (run c.takes_more.new.calc) _ more g2 takes.goes p2
+      (λ f e o.
+      let o1 = copied.goes.closes e (holds.goes.closes e o) in
+      fill_room (ctx e) (slot e) (load e) (first e ++ rest e) (ready e o1 (f e (c.loop-cut.invariant.goes.closes e o1))))
+      (record { coeff = takes.cause.coeff; opens = takes.cause.opens }) in
+      p3;
+}
 
 pub loop-cut-preserved : goal.loop-cut-preserved
 loop-cut-preserved g c =
@@ -60,7 +96,7 @@ loop-cut-preserved g c =
     let o1 = copied.goes.closes e (holds.goes.closes e o) in
     fill_room (ctx e) (slot e) (load e) (first e ++ rest e) (ready e o1 (f e (c.loop-cut.invariant.goes.closes e o1))))
     (record { coeff = takes.cause.coeff; opens = takes.cause.opens }) in
-    let p4 = BlamesButMem-then start (run c.takes_more.new.calc) (run c.floats_of-floats.new.calc) ⊤ more g3 c.floats_of-floats.ensures.goes p3 (λ f. tt) c.floats_of-floats.ensures.cause in
+    let p4 = BlamesButMem-then start (run c.takes_more.new.calc) (run c.floats_of-floats.new.calc) _ more g3 c.floats_of-floats.ensures.goes p3 (λ f e o. tt) c.floats_of-floats.ensures.cause in
     let held_is = (λ (e : Reading) (o : IsTrue ((run c.with_pieces-held.new.calc).is_open e)). holds.value e o ∙ ap (λ h. held_with h (first e)) (copied.value e (holds.goes.closes e o))) in
     record {
       fits = λ e o f.
@@ -96,46 +132,12 @@ loop-cut-preserved g c =
           ∙ c.loop-cut.invariant.value e o5;
     }
 
-pub returns-clause-value : goal.returns-clause-value
-returns-clause-value g c = λ e o.
-    let at = g.S.Steady.at in
-    none-left (context_at at c.args.container.now e) (slot_at at c.args.slot.now e) (load_at at c.loop-cut.load e) (parts_at at c.loop-cut.rest e) (parts-same at e c.loop-cut.rest [] (grind arith))
-    ∙ c.loop-cut.invariant.value e o
-
-pub returns-then-not-takes_more-clause-cause : goal.returns-then-not-takes_more-clause-cause
-returns-then-not-takes_more-clause-cause g c =
-    let at = g.S.Steady.at in
-    let run = g.S.Steady.run in
-    let cut = c.in-Some.cut in
-    let g1 = Goes-then _ _ _ c.loop-cut.invariant.goes c.copy_held-before.ensures.goes in
-    let g2 = Goes-then _ _ _ g1 c.with_pieces-held.ensures.goes in
-    let start = run c.args.calc.now in
-    let ctx = (λ (e : Reading). context_at at c.args.container.now e) in
-    let slot = (λ (e : Reading). slot_at at c.args.slot.now e) in
-    let load = (λ (e : Reading). load_at at c.loop-cut.load e) in
-    let first = (λ (e : Reading). pieces_at at cut.first.now e) in
-    let rest = (λ (e : Reading). pieces_at at cut.rest.pieces.now e) in
-    let copied = c.copy_held-before.ensures in
-    let holds = c.with_pieces-held.ensures in
-    let takes = c.takes_more.ensures in
-    let more = (e : Reading) → IsTrue (start.is_open e) → FillFits (ctx e) (slot e) (load_at at c.args.start e) (pieces_at at c.args.stretches.pieces.now e) in
-    let ready = (λ (e : Reading) (o : IsTrue ((run c.loop-cut.calc).is_open e)) (f : FillFits (ctx e) (slot e) (load_at at c.args.start e) (pieces_at at c.args.stretches.pieces.now e)).
-    subst (λ (l : List Measured). FillFits (ctx e) (slot e) (load e) l) (pieces_joined at e c.loop-cut.rest.pieces.now cut.first.now cut.rest.pieces.now c.in-Some.ensures.0.joined) (c.loop-cut.invariant.fits e o f)) in
-    let p1 = BlamesButMem-then start (run c.loop-cut.calc) (run c.copy_held-before.new.calc) _ more c.loop-cut.invariant.goes copied.goes c.loop-cut.invariant.cause
-    (λ f e o. held_small (ctx e) (slot e) (load e) (first e ++ rest e) (ready e o (f e (c.loop-cut.invariant.goes.closes e o))))
-    (record { coeff = copied.cause.coeff; opens = copied.cause.opens }) in
-    let p2 = BlamesButMem-then start (run c.copy_held-before.new.calc) (run c.with_pieces-held.new.calc) _ more g1 holds.goes p1
-    (λ f e o.
-    let o1 = copied.goes.closes e o in
-    subst (λ (h : Held). HoldFits h (first e)) (sym (copied.value e o)) (first_holds (ctx e) (slot e) (load e) (first e) (rest e) (ready e o1 (f e (c.loop-cut.invariant.goes.closes e o1)))))
-    (record { coeff = holds.cause.coeff; opens = holds.cause.opens }) in
-    let p3 = BlamesButMem-then start (run c.with_pieces-held.new.calc) (run c.takes_more.new.calc) _ more g2 takes.goes p2
-    (λ f e o.
-    let o1 = copied.goes.closes e (holds.goes.closes e o) in
-    fill_room (ctx e) (slot e) (load e) (first e ++ rest e) (ready e o1 (f e (c.loop-cut.invariant.goes.closes e o1))))
-    (record { coeff = takes.cause.coeff; opens = takes.cause.opens }) in
-    p3
-
-pub returns-then-not-takes_more-clause-goes : goal.returns-then-not-takes_more-clause-goes
-returns-then-not-takes_more-clause-goes g c =
-    Goes-then _ _ _ (Goes-then _ _ _ (Goes-then _ _ _ c.loop-cut.invariant.goes c.copy_held-before.ensures.goes) c.with_pieces-held.ensures.goes) c.takes_more.ensures.goes
+pub returns : goal.returns
+returns g c = record {
+  goes = c.loop-cut.invariant.goes;
+  value = λ e o.
+      let at = g.S.Steady.at in
+      none-left (context_at at c.args.container.now e) (slot_at at c.args.slot.now e) (load_at at c.loop-cut.load e) (parts_at at c.loop-cut.rest e) (parts-same at e c.loop-cut.rest [] (grind arith))
+      ∙ c.loop-cut.invariant.value e o;
+  cause = c.loop-cut.invariant.cause;
+}

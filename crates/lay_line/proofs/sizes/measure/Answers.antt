@@ -1,6 +1,5 @@
 use Rattle.std.proofs.Common.{arith}
 use Rattle.std.proofs.lemmas.Grind.{common_steps}
-use Rattle.std.specs.Prelude.{⊤}
 use Rattle.viz_calc.proofs.Runs.{Goes-then, BlamesButMem-then}
 use Rattle.lay_line.specs.Contexts.{context_at}
 use Rattle.lay_line.specs.Fits.{WidthFits}
@@ -26,5 +25,5 @@ loop-item-preserved g c =
       value = λ e o. grind (arith, common_steps);
       short = all-later IsShort item_of all k c.loop-item.invariant.short;
       fits = λ e f. all-later (WidthFits (context_at at c.args.container.now e)) item_of all k (c.loop-item.invariant.fits e f);
-      cause = BlamesButMem-then (run c.args.calc.now) (run c.item_width-width.new.calc) (run c.add_piece.new.calc) ⊤ _ goes c.add_piece.ensures.goes first (λ f. tt) c.add_piece.ensures.cause;
+      cause = BlamesButMem-then (run c.args.calc.now) (run c.item_width-width.new.calc) (run c.add_piece.new.calc) _ _ goes c.add_piece.ensures.goes first (λ f e o. tt) c.add_piece.ensures.cause;
     }

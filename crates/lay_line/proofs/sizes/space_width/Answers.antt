@@ -12,14 +12,15 @@ pub text_width-requires : goal.text_width-requires
 unfolding chars
 text_width-requires g c = let one : length (chars (32 ∷ [])) ≡ 1 = refl in omega (arith, one)
 
-pub returns-clause-value : goal.returns-clause-value
+pub returns : goal.returns
 unfolding chars
-returns-clause-value g c = λ e o. c.text_width.ensures.value e o ∙ ap (λ n. text_width c.args.tree.now e.world n (32 ∷ [])) c.node_at.ensures
-
-pub returns-clause-cause : goal.returns-clause-cause
-unfolding chars
-returns-clause-cause g c =
+returns g c =
     let tree = c.args.tree.now in
     let asks = (λ (e : Reading). AllSmall (part_way tree e.world (node_of tree c.args.at) (text_width tree e.world (node_of tree c.args.at) (32 ∷ [])))) in
-    (start {asks = asks} c.text_width.ensures.goes c.text_width.ensures.cause
-    (λ f e o. subst (λ n. AllSmall (part_way tree e.world n (text_width tree e.world n (32 ∷ [])))) (sym c.node_at.ensures) (f e o))).cause
+    let chain = (start {asks = asks} c.text_width.ensures.goes c.text_width.ensures.cause
+    (λ f e o. subst (λ n. AllSmall (part_way tree e.world n (text_width tree e.world n (32 ∷ [])))) (sym c.node_at.ensures) (f e o))) in
+    record {
+      goes = chain.goes;
+      value = λ e o. c.text_width.ensures.value e o ∙ ap (λ n. text_width c.args.tree.now e.world n (32 ∷ [])) c.node_at.ensures;
+      cause = chain.cause;
+    }

@@ -137,7 +137,7 @@ measure-loop-item-preserved g t c =
           ))
           one.cause in
           BlamesButMem-then (run c.args.calc.now) (run c.item_widths-width.new.calc) (run c.add_piece.new.calc) _ _
-          (Goes-then (run c.args.calc.now) (run c.loop-item.calc) (run c.item_widths-width.new.calc) before.goes one.goes) add.goes first (λ _. tt) add.cause;
+          (Goes-then (run c.args.calc.now) (run c.loop-item.calc) (run c.item_widths-width.new.calc) before.goes one.goes) add.goes first (λ f e o. tt) add.cause;
     }
 
 pub of_blocks-loop-kid-preserved : goal.of_blocks-loop-kid-preserved

@@ -1,4 +1,5 @@
 use Rattle.std.proofs.Common.{◌≡◌, ℕ, [], ◌∷◌, length, refl, sym, subst, ap, ◌∙◌, arith}
+use Rattle.std.proofs.lemmas.Grind.{common_steps}
 use Rattle.std.specs.Str.{chars}
 use Rattle.viz_calc.specs.State.{AllSmall}
 use Rattle.layout_semantics.specs.Fonts.{text_width}
@@ -9,16 +10,16 @@ pub text_width-requires : goal.text_width-requires
 unfolding chars
 text_width-requires g c = let one : length (chars (32 ∷ [])) ≡ 1 = refl in omega (arith, one)
 
-pub returns-clause-value : goal.returns-clause-value
+pub returns : goal.returns
 unfolding chars
-returns-clause-value g c = λ e o. c.text_width.ensures.value e o ∙ ap (λ n. text_width c.args.tree.now e.world n (32 ∷ [])) c.node_at.ensures
-
-pub returns-clause-cause : goal.returns-clause-cause
-unfolding chars
-returns-clause-cause g c =
-    let why = c.text_width.ensures.cause in
-    record {
-      mem = why.mem;
-      coeff = λ f. why.coeff (λ e o. subst (λ (n : ℕ). AllSmall (part_way c.args.tree.now e.world n (text_width c.args.tree.now e.world n (32 ∷ [])))) (sym c.node_at.ensures) (f e o));
-      opens = why.opens;
-    }
+returns g c = record {
+  goes = grind (arith, common_steps);
+  value = λ e o. c.text_width.ensures.value e o ∙ ap (λ n. text_width c.args.tree.now e.world n (32 ∷ [])) c.node_at.ensures;
+  cause =
+      let why = c.text_width.ensures.cause in
+      record {
+        mem = why.mem;
+        coeff = λ f. why.coeff (λ e o. subst (λ (n : ℕ). AllSmall (part_way c.args.tree.now e.world n (text_width c.args.tree.now e.world n (32 ∷ [])))) (sym c.node_at.ensures) (f e o));
+        opens = why.opens;
+      };
+}

@@ -38,5 +38,5 @@ loop-cut-preserved g c =
       cause = Blames-then r0 r2 r3 _ _ to_width more.goes
           (Blames-then r0 r1 r2 _ _ before.goes width.goes before.cause
           (λ f e o. let half = f e (before.goes.closes e o) in let so_far = before.room e in let all = joined e in omega (arith, half, so_far, all)) width.cause)
-          (λ f. tt) more.cause;
+          (λ f e o. tt) more.cause;
     }

@@ -1,5 +1,5 @@
 use Rattle.std.specs.Prelude.{int_lt}
-use Rattle.std.proofs.Common.{◌≡◌, ◌+◌, ℤ, Bool, true, false, filter, List, [], ◌∷◌, ◌++◌, drop, refl, ap, sym, arith, ◌∙◌}
+use Rattle.std.proofs.Common.{◌≡◌, ◌+◌, ℤ, Bool, true, false, filter, List, [], ◌∷◌, ◌++◌, drop, refl, ap, sym, arith, ◌∙◌, rules}
 use Rattle.std.proofs.lemmas.List.{drop_more, at_drop_all, append_assoc, append-nil}
 use Rattle.viz_calc.proofs.Runs.{Goes-then, BlamesButMem-then}
 use Rattle.layout_semantics.specs.Floats.{FloatBox}
@@ -44,11 +44,15 @@ loop-f-preserved g c =
           kept.cause;
     }
 
-pub returns-clause-value : goal.returns-clause-value
-returns-clause-value g c = λ e o.
-    let at = g.S.Steady.at in
-    let all = c.args.floats.now in
-    let out = floats_at at c.loop-f.out e in
-    sym (append-nil out)
-    ∙ sym (at_drop_all (λ l. out ++ reaching (at c.args.level.now e) (boxes_at at l e)) all c.loop-f.f-index (omega arith))
-    ∙ c.loop-f.invariant.value e o
+pub returns : goal.returns
+returns g c = record {
+  goes = search rules;
+  value = λ e o.
+      let at = g.S.Steady.at in
+      let all = c.args.floats.now in
+      let out = floats_at at c.loop-f.out e in
+      sym (append-nil out)
+      ∙ sym (at_drop_all (λ l. out ++ reaching (at c.args.level.now e) (boxes_at at l e)) all c.loop-f.f-index (omega arith))
+      ∙ c.loop-f.invariant.value e o;
+  cause = search rules;
+}

@@ -54,9 +54,10 @@ pub holds-returns-in-Cmp-clause-cause : goal.holds-returns-in-Cmp-clause-cause
 holds-returns-in-Cmp-clause-cause g t c =
     Blames-given _ _ _ _
     (λ (tame : IsTame (g.S.Steady.run c.args.calc.now).is_open g.S.Steady.at c.args.r.now c.args.f.now).
-    let small = small-Cmp c.in-Cmp.left c.in-Cmp.right c.in-Cmp.sign (subst (λ f. has_small_terms f ≡ true) c.in-Cmp.is tame.small) in (
-      λ e o. term-small g.S.Steady.at c.args.r.now e (places_of c.args.names.now) c.in-Cmp.left (tame.bounded e o) small.0,
-      λ e o. term-small g.S.Steady.at c.args.r.now e (places_of c.args.names.now) c.in-Cmp.right (tame.bounded e o) small.1,
+    let small = small-Cmp c.in-Cmp.left c.in-Cmp.right c.in-Cmp.sign (subst (λ f. has_small_terms f ≡ true) c.in-Cmp.is tame.small) in
+    λ e o. (
+      term-small g.S.Steady.at c.args.r.now e (places_of c.args.names.now) c.in-Cmp.left (tame.bounded e o) small.0,
+      term-small g.S.Steady.at c.args.r.now e (places_of c.args.names.now) c.in-Cmp.right (tame.bounded e o) small.1,
     ))
     c.comparison.ensures.cause
 
