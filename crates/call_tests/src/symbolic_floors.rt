@@ -32,10 +32,15 @@ fn answers(cert: &Cert) -> &[Answer] {
     }
 }
 
+/// A third of the width of the viewport.
+fn third_of_the_width(sym: &mut Sym<'_>) -> Result<Row, Halt> {
+    let width = sym.width()?;
+    sym.scale_floor(&width, 1, 3)
+}
+
 /// A third of the width of the viewport, and whether it lies between these bounds.
 fn third(sym: &mut Sym<'_>) -> Result<(Row, bool), Halt> {
-    let width = sym.width()?;
-    let third = sym.scale_floor(&width, 1, 3)?;
+    let third = third_of_the_width(sym)?;
     let low = sym.lit(6826)?;
     let high = sym.lit(8533)?;
     let is_between = sym.le(&low, &third)? && sym.le(&third, &high)?;
@@ -54,5 +59,31 @@ fn a_third_of_the_width_is_a_floor(rt: HostRuntime) -> Result<(), Fail> {
     };
     assert!(rt; third.k == 0 && third.terms.as_slice() == [(0, 21), (2, 1)].as_slice());
     assert!(rt; is_between && sym.left() == 0);
+    Ok(())
+}
+
+/// Whether a third of the width lies between these bounds, where that is answered or told.
+fn is_told_between(sym: &mut Sym<'_>, low: i128, high: i128) -> Result<bool, Halt> {
+    let third = third_of_the_width(sym)?;
+    let low = sym.lit(low)?;
+    let high = sym.lit(high)?;
+    Ok(sym.at_most(&low, &third)? && sym.at_most(&third, &high)?)
+}
+
+#[test]
+fn what_a_leaf_was_told_is_not_asked_again(rt: HostRuntime) -> Result<(), Fail> {
+    let path = Path::new(rt.alloc(), 1, RANGE)?;
+    let Ok(cert) = read_cert(rt.alloc(), TEXT.as_bytes()) else {
+        return Err(Fail::new("no certificate"));
+    };
+    let mut sym = Sym::new(&path, answers(&cert));
+    let asked = is_told_between(&mut sym, 6826, 8533) == Ok(true);
+    let again = is_told_between(&mut sym, 6826, 8533) == Ok(true);
+    let farther = is_told_between(&mut sym, -1, 9000) == Ok(true);
+    assert!(rt; asked && again && farther && sym.left() == 0);
+    // A nearer bound is asked, and what one leaf was told counts for nothing in another.
+    assert!(rt; is_told_between(&mut sym, 6827, 8533) == Err(Halt::Open));
+    let mut other = Sym::new(&path, &[]);
+    assert!(rt; is_told_between(&mut other, 6826, 8533) == Err(Halt::Open));
     Ok(())
 }

@@ -10,7 +10,7 @@ use lin_proof::{Answer, Derivation};
 use lin_row::Row;
 use lin_search::{Search, refute};
 use std::alloc::Global;
-use sym_calc::{Floor, Floors, add_floor, quotient, remainder};
+use sym_calc::{Alike, Floor, Floors, Told, add_floor, quotient, remainder};
 use viz_base::{List, Mem};
 
 /// How many cases and pairs of rows are tried for one answer.
@@ -54,6 +54,8 @@ pub struct Finder<'a> {
     found: &'a mut Vec<Found>,
     ranks: Ranks,
     tape: Vec<Asked>,
+    /// What the answers on the tape tell, as it is told to whoever reads them.
+    told: Told,
     open: Option<Opening>,
     /// The row that was left open last, where the run looks for one behind it that is as good.
     ahead: Option<Row>,
@@ -83,6 +85,7 @@ impl<'a> Finder<'a> {
             found,
             ranks,
             tape: Vec::new(alloc),
+            told: Told::new(alloc),
             open: None,
             ahead: None,
         })
@@ -177,6 +180,30 @@ impl<'a> Finder<'a> {
             row: difference,
             by: 1,
         })
+    }
+
+    /// The same, but what was told before is not written once more.
+    pub fn is_told_at_most(&mut self, row: &Row, most: &Row) -> Result<bool, Trouble> {
+        let row = most.add_scaled(-1, row)?;
+        if row.terms.is_empty() {
+            return Ok(0 <= row.k);
+        }
+        let question = Alike { row };
+        match self.told.answer_to(&question) {
+            Some(yes) => Ok(yes),
+            None => self.asked(question),
+        }
+    }
+
+    /// Whether a row with variables is at least 0, and it is learned where the answer is written.
+    fn asked(&mut self, question: Alike) -> Result<bool, Trouble> {
+        let row = question.row.clone()?;
+        let written = self.tape.len();
+        let yes = self.answer(Floor { row, by: 1 })?;
+        if written < self.tape.len() {
+            self.told.learn(question, yes)?;
+        }
+        Ok(yes)
     }
 
     /// Whether a row with variables, divided by 1, is at least 0.

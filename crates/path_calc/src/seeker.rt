@@ -160,6 +160,11 @@ impl<'a> Calc for Seeker<'a> {
         self.answered(yes)
     }
 
+    fn at_most(&mut self, a: &Row, b: &Row) -> Result<bool, Halt> {
+        let yes = self.finder.is_told_at_most(a, b);
+        self.answered(yes)
+    }
+
     ghost keeps = { λ s w t. absurd (false≢true t) };
 }
 

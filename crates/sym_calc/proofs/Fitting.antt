@@ -1,6 +1,6 @@
 -- Which numbers of a division and of a comparison are in `i128`, and what they give.
 use Rattle.std.proofs.Common.{◌≡◌, ℕ, suc, ◌+◌, ℤ, pos, Bool, true, false, cond, not, ◌&&◌, ◌||◌, nat_lt, List, [], ◌∷◌, ◌++◌, length, Some, None, refl, sym, ◌∙◌, ap, subst, arith, position}
-use Rattle.std.specs.Prelude.{Result, Ok, Err}
+use Rattle.std.specs.Prelude.{Result, Ok, Err, Option, is_some, is_none}
 use Rattle.std.specs.List.{list_any, position_or_len}
 use Rattle.std.proofs.lemmas.List.Folds.{list_any-append}
 use Rattle.viz_calc.specs.declared.calc.Halt.{Halt}
@@ -49,6 +49,37 @@ constant_fits row rest none fits = λ i. fits i && (not (no_variable row.terms n
 
 pub variable_fits : (row : Form) (rest : Bool) → has_variable row ≡ true → form_fits row ≡ true → rest ≡ (form_fits row && (not (has_variable row) || rest))
 variable_fits row rest some fits = λ i. sym fits i && (not (sym some i) || rest)
+
+-- ---- what is asked
+
+module _ {A : Type 0} (t : Option A) (row : Form) where
+  asks_none : row.terms ≡ [] → (has_variable row && is_none t) ≡ false
+  asks_none none = ap (λ b. b && is_none t) (no_variable row.terms none)
+
+  asks_some : has_variable row ≡ true → (has_variable row && is_none t) ≡ is_none t
+  asks_some some = ap (λ b. b && is_none t) some
+
+  -- a row without variables asks nothing
+  pub constant_asks : {B : Type 0} → row.terms ≡ [] → (x y : B) → y ≡ cond (has_variable row && is_none t) x y
+  constant_asks none x y = ap (λ b. cond b x y) (sym (asks_none none))
+
+  pub constant_fits_too : (rest : Bool) → row.terms ≡ [] → form_fits row ≡ true → (form_fits row && (not (has_variable row && is_none t) || rest)) ≡ true
+  constant_fits_too rest none fits = λ i. fits i && (not (asks_none none i) || rest)
+
+  -- another asks where it is not told
+  pub variable_asks : {B : Type 0} → has_variable row ≡ true → (x y : B) → cond (is_some t) y x ≡ cond (has_variable row && is_none t) x y
+  variable_asks some x y = by_told t ∙ ap (λ b. cond b x y) (sym (asks_some some))
+    where
+      by_told : (o : Option A) → cond (is_some o) y x ≡ cond (is_none o) x y
+      by_told None = refl
+      by_told (Some a) = refl
+
+  pub variable_fits_too : (rest : Bool) → has_variable row ≡ true → form_fits row ≡ true → (is_some t || rest) ≡ (form_fits row && (not (has_variable row && is_none t) || rest))
+  variable_fits_too rest some fits = by_told t ∙ (λ i. sym fits i && (not (sym (asks_some some) i) || rest))
+    where
+      by_told : (o : Option A) → (is_some o || rest) ≡ (not (is_none o) || rest)
+      by_told None = refl
+      by_told (Some a) = refl
 
 -- ---- the variable of a floor
 

@@ -8,4 +8,5 @@ pub mod Histories
 pub mod Rests
 pub mod States
 pub mod Tagged
+pub mod Telling
 pub mod Refuted

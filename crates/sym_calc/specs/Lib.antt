@@ -9,4 +9,5 @@ pub mod Knowledge
 pub mod Laws
 pub mod Same
 pub mod Tags
+pub mod Told
 pub mod Troubles

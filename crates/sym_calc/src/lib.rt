@@ -8,6 +8,7 @@ mod floors;
 mod laws;
 mod paths;
 mod sym;
+mod told;
 mod troubles;
 
 pub use divisions::{quotient, remainder};
@@ -19,4 +20,5 @@ pub use laws::{
 };
 pub use paths::{Origin, Path};
 pub use sym::Sym;
+pub use told::{Alike, Bounds, Told};
 pub use troubles::Trouble;

@@ -18,11 +18,13 @@ ghost use Rattle.sym_calc.specs.Given.{IsGiven, IsGivenWithin, IsTallied, IsWith
 ghost use Rattle.sym_calc.specs.Knowledge.{AreKnown, contrary, height_row, sym_state};
 ghost use Rattle.sym_calc.specs.History.{are_fit, facts_from, is_accounted};
 ghost use Rattle.sym_calc.specs.Tags.{tag};
+ghost use Rattle.sym_calc.specs.Told.{IsTrueWhereOpen};
 
 use crate::divisions::{quotient, remainder};
 use crate::facts::add_floor;
 use crate::floors::{Floor, Floors, same_row};
 use crate::paths::{Origin, Path};
+use crate::told::{Alike, Told};
 use crate::troubles::Trouble;
 use cert_path::{axis_count, variable_of};
 use lin_proof::{Answer, Derivation, Facts, first_fault_among, line_count};
@@ -40,11 +42,13 @@ pub struct Sym<'a> {
     taken: usize,
     rows: List<Row>,
     floors: Floors,
+    told: Told,
     trouble: Option<Trouble>,
     coeffs: u64,
     opens: u64,
     ghost known: { AreKnown path.now.origin.form (path.now.facts ++ rows) (path.now.floors ++ floors) },
-    ghost told: { is_some trouble ≡ nat_lt 0 opens },
+    ghost noted: { is_some trouble ≡ nat_lt 0 opens },
+    ghost meant: { IsTrueWhereOpen path.now.origin (path.now.facts ++ rows) told },
     ghost made: { rows ≡ facts_from (length path.now.floors + axis_count path.now.origin.form) floors },
     ghost fit: { IsTrue (are_fit path.now.origin.form path.now.floors floors) },
     ghost accounted: { IsTrue (is_accounted path.now.origin.form path.now.facts path.now.floors floors tape.now taken
@@ -64,6 +68,8 @@ impl<'a> Sym<'a> {
     ghost use Rattle.viz_calc.specs.declared.calc.Halt.TheVariants.{Open};
     ghost use Rattle.sym_calc.specs.Troubles.{first_of};
     ghost use Rattle.sym_calc.specs.Calc.{facts_of, named_of, state_of, variables_of, next_trouble, trouble_by_answer, contrary_fits, KeepsRest};
+    ghost use Rattle.std.specs.Prelude.{◌⊎◌, if◌then◌else◌, ◌||◌};
+    ghost use Rattle.sym_calc.specs.Told.{learned, tells};
 
     /// The calc of a path and of a tape of answers, none of which is taken yet. Takes no memory.
     pub fn new(path: &'a Path, tape: &'a [Answer]) -> Self
@@ -74,6 +80,8 @@ impl<'a> Sym<'a> {
             ≡ sym_state origin (tag origin.form path.now.facts path.now.floors tape.now) path.now.facts
             path.now.floors 0 0 }
         ensures taken { result.taken ≡ 0 }
+        ensures least { result.told.least ≡ [] }
+        ensures most { result.told.most ≡ [] }
         ensures trouble { result.trouble ≡ None }
     {
         let alloc = path.facts.allocator();
@@ -83,6 +91,7 @@ impl<'a> Sym<'a> {
             taken: 0,
             rows: List::new(alloc),
             floors: Floors::new(alloc),
+            told: Told::new(alloc),
             trouble: None,
             coeffs: 0,
             opens: 0,
@@ -223,6 +232,7 @@ impl<'a> Sym<'a> {
         ensures within { IsWithin result (contrary_fits row (slice_get self.old.tape.now self.old.taken)) }
         ensures answer { IfOk result (λ yes. next_trouble self.old row ≡ None) }
         ensures taken { OnOk result (self.new.taken ≡ self.old.taken + 1) }
+        ensures told { self.new.told ≡ self.old.told }
         ensures opened { result ≡ Err Open → is_some (next_trouble self.old row) ≡ true }
         ensures trouble { result ≡ Err Open → self.new.trouble ≡ first_of self.old.trouble (next_trouble self.old row) }
         ensures tallied { IsTallied result self.old.coeffs self.new.coeffs }
@@ -232,6 +242,54 @@ impl<'a> Sym<'a> {
             Some(answer) => self.answered_by(answer, row),
             None => Err(self.stuck(Trouble::Short, self.taken)),
         }
+    }
+
+    /// Whether a row with variables is at least 0: as was told, or else by the next answer of the tape.
+    fn recalled(&mut self, question: Alike) -> Result<bool, Halt>
+        requires { IsTrue (form_fits question.row) }
+        ensures grows { Grows (state_of self.old) (state_of self.new) }
+        ensures value { IfOk result (λ yes. (e : Reading) → IsTrue ((state_of self.new).is_open e)
+            → yes ≡ int_le (pos 0) (value question.row e.terms)) }
+        ensures cause { IfErr result (Cause (state_of self.old) (state_of self.new) ⊤) }
+        ensures within { IsWithin result (is_some (tells self.old.told question)
+            || contrary_fits question.row (slice_get self.old.tape.now self.old.taken)) }
+        ensures answer { IfOk result (λ yes. (tells self.old.told question ≡ Some yes)
+            ⊎ (next_trouble self.old question.row ≡ None)) }
+        ensures taken { let told = is_some (tells self.old.told question) in
+            OnOk result (self.new.taken ≡ (if told then self.old.taken else self.old.taken + 1)) }
+        ensures told { let told = is_some (tells self.old.told question) in IfOk result (λ yes. self.new.told
+            ≡ (if told then self.old.told else learned self.old.told question yes)) }
+        ensures opened { result ≡ Err Open → is_some (next_trouble self.old question.row) ≡ true }
+        ensures trouble { result ≡ Err Open
+            → self.new.trouble ≡ first_of self.old.trouble (next_trouble self.old question.row) }
+        ensures tallied { IsTallied result self.old.coeffs self.new.coeffs }
+    {
+        match self.told.answer_to(&question) {
+            Some(yes) => Ok(yes),
+            None => self.asked(question),
+        }
+    }
+
+    /// Whether a row with variables is at least 0, by the next answer of the tape, which is learned.
+    fn asked(&mut self, question: Alike) -> Result<bool, Halt>
+        requires { IsTrue (form_fits question.row) }
+        ensures grows { Grows (state_of self.old) (state_of self.new) }
+        ensures value { IfOk result (λ yes. (e : Reading) → IsTrue ((state_of self.new).is_open e)
+            → yes ≡ int_le (pos 0) (value question.row e.terms)) }
+        ensures cause { IfErr result (Cause (state_of self.old) (state_of self.new) ⊤) }
+        ensures within { IsWithin result (contrary_fits question.row (slice_get self.old.tape.now self.old.taken)) }
+        ensures answer { IfOk result (λ yes. next_trouble self.old question.row ≡ None) }
+        ensures taken { OnOk result (self.new.taken ≡ self.old.taken + 1) }
+        ensures told { IfOk result (λ yes. self.new.told ≡ learned self.old.told question yes) }
+        ensures opened { result ≡ Err Open → is_some (next_trouble self.old question.row) ≡ true }
+        ensures trouble { result ≡ Err Open
+            → self.new.trouble ≡ first_of self.old.trouble (next_trouble self.old question.row) }
+        ensures tallied { IsTallied result self.old.coeffs self.new.coeffs }
+    {
+        let row = question.row.clone()?;
+        let yes = self.answered(row)?;
+        self.told.learn(question, yes)?;
+        Ok(yes)
     }
 
     /// The same by this answer, which is the next one.
@@ -246,6 +304,7 @@ impl<'a> Sym<'a> {
         ensures within { IsWithin result (form_fits (contrary answer.now.yes row)) }
         ensures answer { IfOk result (λ yes. trouble_by_answer self.old row answer.now ≡ None) }
         ensures taken { OnOk result (self.new.taken ≡ self.old.taken + 1) }
+        ensures told { self.new.told ≡ self.old.told }
         ensures opened { result ≡ Err Open → is_some (trouble_by_answer self.old row answer.now) ≡ true }
         ensures trouble { result ≡ Err Open
             → self.new.trouble ≡ first_of self.old.trouble (trouble_by_answer self.old row answer.now) }
@@ -310,6 +369,7 @@ impl<'a> Sym<'a> {
         ensures cause { Cause (state_of self.old) (state_of self.new) ⊤ result }
         ensures open { result ≡ Open }
         ensures trouble { self.new.trouble ≡ first_of self.old.trouble (Some trouble) }
+        ensures told { self.new.told ≡ self.old.told }
         ensures tallied { self.new.coeffs ≡ self.old.coeffs }
     {
         // The first trouble is the verdict; what comes behind it is the layout of blanks.
@@ -414,7 +474,8 @@ impl<'a> Calc for Sym<'a> {
     ghost use Rattle.viz_calc.specs.declared.calc.Halt.TheVariants.{Open};
     ghost use Rattle.sym_calc.specs.Knowledge.{number_at};
     ghost use Rattle.sym_calc.specs.Troubles.{first_of};
-    ghost use Rattle.sym_calc.specs.Calc.{facts_of, named_of, state_of, next_trouble, comparison_fits};
+    ghost use Rattle.sym_calc.specs.Calc.{facts_of, named_of, state_of, next_trouble, comparison_fits, question_fits, taken_after, told_after};
+    ghost use Rattle.sym_calc.specs.Told.{tells};
     ghost use Rattle.sym_calc.specs.Kept.{reading_by, kept_is_open};
 
     type Num = Row;
@@ -573,6 +634,31 @@ impl<'a> Calc for Sym<'a> {
             return Ok(0 <= difference.k);
         }
         self.answered(difference)
+    }
+
+    fn at_most(&mut self, a: &Row, b: &Row) -> Result<bool, Halt>
+        ensures grows { Grows (state_of self.old) (state_of self.new) }
+        ensures value { IfOk result (λ r. (e : Reading) → IsTrue ((state_of self.new).is_open e)
+            → r ≡ int_le (number_at a.now e) (number_at b.now e)) }
+        ensures cause { IfErr result (Cause (state_of self.old) (state_of self.new) ⊤) }
+        ensures within { IsWithin result (question_fits self.old (plus b.now (negsuc 0) a.now)) }
+        ensures answer { let row = plus b.now (negsuc 0) a.now in IfOk result (λ r. (row.terms ≡ [])
+            ⊎ ((tells self.old.told (record { row = row }) ≡ Some r) ⊎ (next_trouble self.old row ≡ None))) }
+        ensures taken { OnOk result (self.new.taken ≡ taken_after self.old (plus b.now (negsuc 0) a.now)) }
+        ensures told { let row = plus b.now (negsuc 0) a.now in
+            IfOk result (λ r. self.new.told ≡ told_after self.old row r) }
+        ensures opened { let row = plus b.now (negsuc 0) a.now in
+            result ≡ Err Open → is_some (next_trouble self.old row) ≡ true }
+        ensures trouble { let row = plus b.now (negsuc 0) a.now in
+            result ≡ Err Open → self.new.trouble ≡ first_of self.old.trouble (next_trouble self.old row) }
+        ensures tallied { IsTallied result self.old.coeffs self.new.coeffs }
+    {
+        let difference = b.add_scaled(-1, a);
+        let difference = self.counted(difference)?;
+        if difference.terms.is_empty() {
+            return Ok(0 <= difference.k);
+        }
+        self.recalled(Alike { row: difference })
     }
 
     ghost keeps = { λ s w t. inl (record {

@@ -58,8 +58,8 @@ impl From<Mem> for Halt {
 /// Arithmetic on the numbers of a layout, in 1/64 px, exact at each reading that is open.
 ///
 /// Readings are closed by comparisons and new floor terms, and never opened again. Each call but
-/// `le` leaves each open world open. The worlds that it keeps stay open, also over `le`, until it
-/// counts a fault.
+/// `le` and `at_most` leaves each open world open. The worlds that it keeps stay open, also over
+/// these, until it counts a fault.
 pub trait Calc {
     type Num: Drop;
 
@@ -163,6 +163,16 @@ pub trait Calc {
         ensures value { IfOk result (λ r. (e : Reading) → IsTrue ((state self.new).is_open e)
             → r ≡ int_le (at a.now e) (at b.now e)) }
         ensures cause { IfErr result (Cause (state self.old) (state self.new) ⊤) };
+
+    /// The same as `le`, but what earlier answers tell is not asked again.
+    fn at_most(&mut self, a: &Self::Num, b: &Self::Num) -> Result<bool, Halt>
+        ensures grows { Grows (state self.old) (state self.new) }
+        ensures value { IfOk result (λ r. (e : Reading) → IsTrue ((state self.new).is_open e)
+            → r ≡ int_le (at a.now e) (at b.now e)) }
+        ensures cause { IfErr result (Cause (state self.old) (state self.new) ⊤) }
+    {
+        self.le(a, b)
+    }
 
     /// At any time each world that it keeps is open, unless it counted a fault since it keeps them.
     ghost keeps: { (c : Self) → AreOpen (state c).kept (state c) };

@@ -131,7 +131,7 @@ impl<'a, C: Calc> Steady for Latch<'a, C> {
         if self.halt.is_some() {
             return false;
         }
-        match self.calc.le(a, b) {
+        match self.calc.at_most(a, b) {
             Ok(answer) => answer,
             Err(halt) => {
                 self.halt = Some(halt);

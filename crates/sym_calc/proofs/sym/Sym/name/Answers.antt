@@ -22,7 +22,8 @@ invariant_of-self-in-Ok c =
     c.requires.some c.requires.number c.requires.remainders c.requires.new_on_the_path c.requires.new in
     let floors = c.in-Ok.ensures.floors in
     record {
-      told = s.told;
+      noted = s.noted;
+      meant = λ e met. s.meant e ((named_grows s.path.now.origin s.path.now.facts s.rows c.add_floor.new.rows s.path.now.floors s.floors c.add_floor.new.floors c.args.floor c.variables-variable.result named (tag_of s) s.coeffs s.opens).closes e met);
       known = named_known s.path.now.origin s.path.now.facts s.rows c.add_floor.new.rows s.path.now.floors s.floors c.add_floor.new.floors c.args.floor c.variables-variable.result named;
       made = made_push s.path.now.origin.form s.path.now.floors s.floors c.add_floor.new.floors s.rows c.add_floor.new.rows c.args.floor c.variables-variable.result c.variables-variable.ensures floors s.made c.in-Ok.ensures.rows;
       fit = subst (λ fs. are_fit s.path.now.origin.form s.path.now.floors fs ≡ true) (sym floors) (fit_push s.path.now.origin.form s.path.now.floors s.floors c.args.floor s.fit fit);
